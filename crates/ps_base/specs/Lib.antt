@@ -1,1 +1,3 @@
 pub mod List
+pub mod Node
+pub mod Value

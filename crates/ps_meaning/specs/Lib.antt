@@ -1,0 +1,5 @@
+pub mod Operators
+pub mod Event
+pub mod Eval
+pub mod Run
+pub mod Answers
