@@ -1,5 +1,5 @@
 -- The typed tree of a clause as contracts see it, without the places in memory of the code's tree.
-use Rattle.std.specs.Prelude.{ℕ, ℤ, List, Bool, Option}
+use Rattle.std.specs.Prelude.{ℕ, ℤ, List, [], ◌∷◌, Bool, Option}
 use Rattle.ps_base.specs.declared.ty.Ty.{Ty}
 use Rattle.ps_base.specs.declared.line.Line.{Line}
 use Rattle.ps_base.specs.declared.place.Place.{Place}
@@ -59,3 +59,8 @@ abbrev mutual
   pub nodes_of : {m : _} → Row_of-Tree m → Nodes
   nodes_of end_of-Tree = none
   nodes_of (more_of-Tree t rest) = more (node_of t) (nodes_of rest)
+
+-- the trees of a list
+abbrev pub nodes_in : List Tree → Nodes
+nodes_in [] = none
+nodes_in (t ∷ ts) = more (node_of t) (nodes_in ts)

@@ -13,9 +13,9 @@ use Rattle.ps_base.specs.Node as node
 use Rattle.ps_meaning.specs.Operators.{Answer, Gives, Traps, neg_of, arith_of, relation_of}
 use Rattle.ps_meaning.specs.Event.{End, Trapped, OutOfTurns, Event, Out, Turn}
 
--- the number in each local; a bool is 0 or 1
+-- the value in each local
 abbrev pub Frame : Type 0
-Frame = ℕ → ℤ
+Frame = ℕ → Value
 
 -- what a run has done so far, oldest first, and the turns that it may still take
 pub record State : Type 0 where
@@ -34,7 +34,7 @@ abbrev pub number_of : Bool → ℤ
 number_of true = pos 1
 number_of false = pos 0
 
--- a value as the number that a local keeps
+-- a value as the number that stands for it: a bool is 0 or 1
 abbrev pub word_of : Value → ℤ
 word_of (Num z) = z
 word_of (Flag b) = number_of b
@@ -45,16 +45,18 @@ abbrev pub is_one : ℤ → Bool
 is_one (pos (suc n)) = true
 is_one z = false
 
--- the value that a local of this type keeps as this number
-abbrev pub value_of : Ty → ℤ → Value
-value_of ty.Int z = Num z
-value_of ty.Bool z = Flag (is_one z)
-value_of ty.Str z = Nothing
-value_of ty.Pntr z = Nothing
-value_of ty.Void z = Nothing
-
 abbrev pub flag_of : Value → Bool
 flag_of v = is_one (word_of v)
+
+abbrev pub flag_text : Bool → List ℕ
+flag_text true = codes "true"
+flag_text false = codes "false"
+
+abbrev pub text_in : Value → List ℕ
+text_in (value.Text bytes) = bytes
+text_in (Num z) = []
+text_in (Flag b) = []
+text_in Nothing = []
 
 -- Each part of a meaning is a function from the frame and the state that it finds.
 unfoldable pub give : Value → Meaning
@@ -79,14 +81,17 @@ answer line (Traps trap) = stop (Trapped trap line)
 unfoldable pub emit : List ℕ → Meaning
 emit bytes frame state = Value_is Nothing frame (record state { events = state.events ++ Out bytes ∷ [] })
 
--- writes a value; what has no bytes makes no event
-unfoldable pub written : Value → Meaning
-written (Num z) = emit (signed_decimal z)
-written (Flag true) = emit (codes "true")
-written (Flag false) = emit (codes "false")
-written (value.Text []) = give Nothing
-written (value.Text (byte ∷ bytes)) = emit (byte ∷ bytes)
-written Nothing = give Nothing
+unfoldable pub emit_some : List ℕ → Meaning
+emit_some [] = give Nothing
+emit_some (byte ∷ bytes) = emit (byte ∷ bytes)
+
+-- writes a value of this type; what has no bytes makes no event
+unfoldable pub written : Ty → Value → Meaning
+written ty.Int v = emit (signed_decimal (word_of v))
+written ty.Bool v = emit (flag_text (flag_of v))
+written ty.Str v = emit_some (text_in v)
+written ty.Pntr v = give Nothing
+written ty.Void v = give Nothing
 
 unfoldable pub turn_of : ℕ → Meaning
 turn_of zero = stop OutOfTurns
@@ -99,14 +104,14 @@ take_turn frame state = turn_of state.turns frame state
 unfoldable pub slot_of : Place → ℕ
 slot_of (Plain slot) = slot
 
-unfoldable pub get : Place → Ty → Meaning
-get place ty frame state = Value_is (value_of ty (frame (slot_of place))) frame state
+unfoldable pub get : Place → Meaning
+get place frame state = Value_is (frame (slot_of place)) frame state
 
-abbrev pub with_local : Frame → ℕ → ℤ → Frame
-with_local frame slot word = λ s. if nat_eq s slot then word else frame s
+abbrev pub with_local : {A : Type 0} → (ℕ → A) → ℕ → A → ℕ → A
+with_local frame slot v s = if nat_eq s slot then v else frame s
 
 unfoldable pub set : Place → Value → Meaning
-set place v frame state = Value_is Nothing (with_local frame (slot_of place) (word_of v)) state
+set place v frame state = Value_is Nothing (with_local frame (slot_of place) v) state
 
 unfoldable pub choose : Bool → Meaning → Meaning → Meaning
 choose true a b = a
@@ -125,7 +130,7 @@ unfoldable mutual
   eval n (node.Int z) = give (Num z)
   eval n (node.Flag b) = give (Flag b)
   eval n (node.Text bytes) = give (value.Text bytes)
-  eval n (node.Name place ty) = get place ty
+  eval n (node.Name place ty) = get place
   eval n (node.SetName place ty e) = eval n e >>= λ v. set place v
   eval n (node.Let place ty e) = eval n e >>= λ v. set place v
   eval n node.Empty = give Nothing
@@ -133,14 +138,14 @@ unfoldable mutual
   eval n (node.IfDo c a) = eval n c >>= λ v. choose (flag_of v) (eval n a) (give Nothing)
   eval n (node.IfElse c a b) = eval n c >>= λ v. choose (flag_of v) (eval n a) (eval n b)
   eval n (node.While c a) = while_turns n (eval n c) (eval n a)
-  eval n (node.And a b) = eval n a >>= λ v. choose (flag_of v) (eval n b) (give (Flag false))
-  eval n (node.Or a b) = eval n a >>= λ v. choose (flag_of v) (give (Flag true)) (eval n b)
+  eval n (node.And a b) = eval n a >>= λ v. choose (flag_of v) (eval n b) (give v)
+  eval n (node.Or a b) = eval n a >>= λ v. choose (flag_of v) (give v) (eval n b)
   eval n (node.Not e) = eval n e >>= λ v. give (Flag (not (flag_of v)))
   eval n (node.Neg e line) = eval n e >>= λ v. answer line (neg_of (word_of v))
   eval n (node.Plus e) = eval n e
   eval n (node.Arith op a b line) = eval n a >>= λ v. eval n b >>= λ w. answer line (arith_of op (word_of v) (word_of w))
   eval n (node.Compare op ty a b) = eval n a >>= λ v. eval n b >>= λ w. give (Flag (relation_of op (word_of v) (word_of w)))
-  eval n (node.Write e w wide ty line) = eval n e >>= λ v. written v
+  eval n (node.Write e w wide ty line) = eval n e >>= λ v. written ty v
 
   -- a sequence has the value of its last clause
   pub eval_all : ℕ → Value → Nodes → Meaning

@@ -1,11 +1,12 @@
 -- The events of a run of a program, and its end.
 use Rattle.std.specs.Prelude.{ℕ, pos, List, [], ◌∷◌, ◌++◌}
+use Rattle.ps_base.specs.Value.{Num}
 use Rattle.ps_base.specs.Node.{Node}
 use Rattle.ps_meaning.specs.Event.{End, Done, Event, Finish}
 use Rattle.ps_meaning.specs.Eval.{Outcome, Value_is, Ends, Frame, State, eval}
 
 unfoldable pub fresh_frame : Frame
-fresh_frame slot = pos 0
+fresh_frame slot = Num (pos 0)
 
 unfoldable pub fresh_state : ℕ → State
 fresh_state turns = record { events = []; turns = turns }

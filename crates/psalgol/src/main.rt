@@ -1,0 +1,7 @@
+//! The program `psalgol`.
+#![tactic(auto)]
+
+mod generate;
+mod instruction;
+
+fn main() {}
