@@ -1,6 +1,6 @@
 -- What the rest of a text begins with: blanks, a token or a fault. The longest token is taken.
-use Rattle.std.specs.Prelude.{ℕ, ◌+◌, Bool, nat_le, nat_eq, List, [], ◌∷◌, length, Option, Some, None, find, if◌then◌else◌}
-use Rattle.std.specs.List.{position, starts_with, take_while}
+use Rattle.std.specs.Prelude.{ℕ, ◌+◌, ◌==◌, ◌&&◌, nat_le, List, [], ◌∷◌, length, Option, Some, None, option_map, find, if◌then◌else◌}
+use Rattle.std.specs.List.{position, take_while}
 use Rattle.std.specs.Char.{is_ascii_digit}
 use Rattle.std.specs.Str.{bytes_eq}
 use Rattle.ps_base.specs.declared.line.Line.{Line}
@@ -10,7 +10,7 @@ use Rattle.ps_scan.specs.declared.class.Inner.{Inner}
 use Rattle.ps_scan.specs.declared.class.Inner.TheVariants.{Plain, Apostrophe}
 use Rattle.ps_scan.specs.declared.fault.ScanFault.{ScanFault}
 use Rattle.ps_scan.specs.declared.fault.ScanFault.TheVariants.{BadByte, OpenString, IntTooLarge, BadEscape, NameTooLong, StringTooLong}
-use Rattle.ps_scan.specs.declared.mark.TheConstants.{SCANNED}
+use Rattle.ps_scan.specs.declared.mark.TheConstants.{DOUBLES, SINGLES}
 use Rattle.ps_scan.specs.declared.piece.Piece.{Piece}
 use Rattle.ps_scan.specs.declared.piece.Piece.TheVariants.{End, Fault}
 use Rattle.ps_scan.specs.declared.token.TokenKind.{TokenKind}
@@ -83,12 +83,28 @@ string line StaysOpen = Fault (OpenString line)
 string line (HasBadByte byte) = Fault (BadByte line byte)
 string line (HasBadEscape byte) = Fault (BadEscape line byte)
 
--- the first row of the marks that fits: a mark stands before those that it begins with
-unfoldable pub mark_or_fault : Line → ℕ → List ℕ → Piece
-mark_or_fault line byte rest =
-    elim (find (λ row. starts_with nat_eq rest row.0.now) SCANNED) [
-      | Some row ↦ Piece.Token (Mark row.1) (length row.0.now)
+-- the places of the mark of two bytes, and of the mark of one byte
+abbrev pub double_mark : ℕ → ℕ → Option ℕ
+double_mark first second = option_map (λ row. row.2) (find (λ row. row.0 == first && row.1 == second) DOUBLES)
+
+abbrev pub single_mark : ℕ → Option ℕ
+single_mark byte = option_map (λ row. row.1) (find (λ row. row.0 == byte) SINGLES)
+
+-- the mark that a byte is by itself; other bytes begin no token
+unfoldable pub mark_or_fault : Line → ℕ → Piece
+mark_or_fault line byte =
+    elim (single_mark byte) [
+      | Some place ↦ Piece.Token (Mark place) 1
       | None ↦ Fault (BadByte line byte)
+    ]
+
+-- the longest mark with which the bytes begin
+unfoldable pub mark : Line → ℕ → List ℕ → Piece
+mark line byte [] = mark_or_fault line byte
+mark line byte (second ∷ rest) =
+    elim (double_mark byte second) [
+      | Some place ↦ Piece.Token (Mark place) 2
+      | None ↦ mark_or_fault line byte
     ]
 
 -- what the rest of a text begins with, where it stands on this line
@@ -101,5 +117,5 @@ first_piece line (byte ∷ rest) =
       | Letter ↦ word_or_name line (take_while is_name_byte (byte ∷ rest))
       | Digit ↦ int line (take_while is_ascii_digit (byte ∷ rest))
       | Class.Quote ↦ string line (quoted rest)
-      | Class.Other ↦ mark_or_fault line byte (byte ∷ rest)
+      | Class.Other ↦ mark line byte rest
     ]

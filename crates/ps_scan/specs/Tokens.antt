@@ -1,11 +1,10 @@
 -- The tokens of a text, and its first fault.
-use Rattle.std.specs.Prelude.{◌≡◌, ◌≢◌, ℕ, ◌+◌, ◌-◌, ◌<◌, ◌≤◌, IsTrue, Contains, List, [], ◌∷◌, length, drop, slice_range, slice_get, slice_index, Option, Some, None}
+use Rattle.std.specs.Prelude.{◌≡◌, ◌≢◌, ℕ, ◌+◌, ◌-◌, ◌<◌, ◌≤◌, IsTrue, List, [], ◌∷◌, length, drop, slice_range, slice_get, slice_index, Option, Some, None}
 use Rattle.std.specs.List.{position, AllPass}
 use Rattle.std.specs.Str.{bytes_eq}
 use Rattle.std.specs.Char.{is_ascii_digit, is_ascii_alphabetic}
 use Rattle.ps_base.specs.declared.line.Line.{Line}
 use Rattle.ps_scan.specs.declared.fault.ScanFault.{ScanFault}
-use Rattle.ps_scan.specs.declared.mark.TheConstants.{SCANNED}
 use Rattle.ps_scan.specs.declared.piece.Piece.{Piece}
 use Rattle.ps_scan.specs.declared.piece.Piece.TheVariants.{End, Blank, Newline, Fault}
 use Rattle.ps_scan.specs.declared.token.Token.{Token}
@@ -13,7 +12,7 @@ use Rattle.ps_scan.specs.declared.token.TokenKind.{TokenKind}
 use Rattle.ps_scan.specs.declared.token.TokenKind.TheVariants.{Name, Int, Text, Word, Mark}
 use Rattle.ps_scan.specs.declared.word.TheConstants.{SPELLINGS}
 use Rattle.ps_scan.specs.Class.{is_name_byte, decimal}
-use Rattle.ps_scan.specs.Piece.{Closes, quoted, bytes_of, first_piece}
+use Rattle.ps_scan.specs.Piece.{Closes, quoted, bytes_of, double_mark, single_mark, first_piece}
 
 -- the line of this number
 abbrev pub line_of : ℕ → Line
@@ -81,13 +80,20 @@ pub record IsString (slice : List ℕ) : Type 0 where
   pub closes : quoted (drop 1 slice) ≡ Closes (bytes_of (quoted (drop 1 slice))) (length slice - 1)
   pub fits : length (bytes_of (quoted (drop 1 slice))) ≤ 65535
 
+-- the place of the mark that these bytes are
+abbrev pub mark_of : List ℕ → Option ℕ
+mark_of [] = None
+mark_of (byte ∷ []) = single_mark byte
+mark_of (first ∷ second ∷ []) = double_mark first second
+mark_of (first ∷ second ∷ third ∷ rest) = None
+
 -- these bytes are spelled as a token of this kind
 abbrev pub IsSpelled : TokenKind → List ℕ → Type 0
 IsSpelled Name slice = IsName slice
 IsSpelled Int slice = IsInt slice
 IsSpelled Text slice = IsString slice
 IsSpelled (Word place) slice = position (λ word. bytes_eq word.now slice) SPELLINGS ≡ Some place
-IsSpelled (Mark place) slice = Contains SCANNED (record {now = slice}, place)
+IsSpelled (Mark place) slice = mark_of slice ≡ Some place
 
 -- a token of the text: a slice of it that is spelled as its kind is
 pub record IsToken (text : List ℕ) (token : Token) : Type 0 where

@@ -14,3 +14,6 @@ pub mod word;
 pub use fault::ScanFault;
 pub use scanner::{fault_is_unique, scan, tokens_are_unique, tokens_exclude_fault};
 pub use token::{Token, TokenKind};
+
+#[cfg(test)]
+mod tests;

@@ -1,5 +1,8 @@
-//! The marks, each with its place in the row
-//! `( ) [ ] { } , ; : :: := = ~ ~= < <= > >= + - ++ * -> @ ? |`.
+ghost use Rattle.std.specs.Prelude.{◌≡◌};
+ghost use Rattle.ps_scan.specs.Piece.{double_mark, single_mark};
+
+// The marks, each with its place in the row
+// `( ) [ ] { } , ; : :: := = ~ ~= < <= > >= + - ++ * -> @ ? |`.
 
 /// `(`
 pub const OPEN_ROUND: u8 = 0;
@@ -54,20 +57,39 @@ pub const END: u8 = 24;
 /// `|`
 pub const BAR: u8 = 25;
 
-/// A mark's bytes beside its place.
-pub type Mark = (&'static [u8], u8);
+/// The marks of two bytes that are scanned, each beside its place. They are tried first, since the
+/// longest token is taken.
+pub const DOUBLES: [(u8, u8, u8); 1] = [(b':', b'=', BECOMES)];
 
-/// The marks that are scanned. A longer mark stands before the marks that it begins with, so the
-/// first that fits is the longest.
-pub const SCANNED: [(&[u8], u8); 10] = [
-    (b":=", BECOMES),
-    (b"(", OPEN_ROUND),
-    (b")", CLOSE_ROUND),
-    (b",", COMMA),
-    (b";", SEMICOLON),
-    (b"=", EQUALS),
-    (b"+", PLUS),
-    (b"-", MINUS),
-    (b"*", TIMES),
-    (b"?", END),
+/// The marks of one byte that are scanned, each beside its place.
+pub const SINGLES: [(u8, u8); 9] = [
+    (b'(', OPEN_ROUND),
+    (b')', CLOSE_ROUND),
+    (b',', COMMA),
+    (b';', SEMICOLON),
+    (b'=', EQUALS),
+    (b'+', PLUS),
+    (b'-', MINUS),
+    (b'*', TIMES),
+    (b'?', END),
 ];
+
+/// The place of a mark of these two bytes.
+pub fn double_mark(first: u8, second: u8) -> Option<u8>
+    ensures { result ≡ double_mark first second }
+{
+    match DOUBLES.iter().find(|row| row.0 == first && row.1 == second) {
+        Some(row) => Some(row.2),
+        None => None,
+    }
+}
+
+/// The place of a mark of this one byte.
+pub fn single_mark(byte: u8) -> Option<u8>
+    ensures { result ≡ single_mark byte }
+{
+    match SINGLES.iter().find(|row| row.0 == byte) {
+        Some(row) => Some(row.1),
+        None => None,
+    }
+}

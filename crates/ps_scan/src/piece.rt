@@ -1,13 +1,13 @@
-ghost use Rattle.std.specs.Prelude.{◌≡◌, ◌≤◌, length, drop, nat_eq, find};
+ghost use Rattle.std.specs.Prelude.{◌≡◌, ◌≤◌, length, drop, ◌<◌, IfSome};
 ghost use Rattle.std.specs.Str.{bytes_eq};
-ghost use Rattle.std.specs.List.{position, take_while, starts_with, AllPass};
+ghost use Rattle.std.specs.List.{position, take_while, AllPass, prefix_len};
 ghost use Rattle.std.specs.Char.{is_ascii_digit};
 ghost use Rattle.ps_scan.specs.Class.{is_name_byte};
-ghost use Rattle.ps_scan.specs.Piece.{word_or_name, int, mark_or_fault, first_piece};
+ghost use Rattle.ps_scan.specs.Piece.{word_or_name, int, mark_or_fault, mark, first_piece};
 
 use crate::class::{Class, class_of, is_name_byte};
 use crate::fault::ScanFault;
-use crate::mark::SCANNED;
+use crate::mark::{double_mark, single_mark};
 use crate::number::{LARGEST_INT, decimal_of};
 use crate::quoted::string_piece;
 use crate::token::TokenKind;
@@ -47,23 +47,35 @@ fn first_piece(rest: &[u8], line: Line) -> Piece
         Class::Letter => word_or_name(name_run(rest), line),
         Class::Digit => int(digit_run(rest), line),
         Class::Quote => string_piece(rest.split_at(1).1, line),
-        Class::Other => mark_or_fault(rest, byte, line),
+        Class::Other => mark(byte, rest.split_at(1).1, line),
     }
 }
 
 fn name_run<'a>(rest: &'a [u8]) -> &'a [u8]
     ensures { result.now ≡ take_while is_name_byte rest.now }
 {
-    let length = rest.iter().take_while(|byte| is_name_byte(**byte)).count();
-    rest.split_at(length).0
+    rest.split_at(name_length(rest)).0
+}
+
+fn name_length(rest: &[u8]) -> usize
+    ensures length { result ≡ prefix_len is_name_byte rest.now }
+    ensures within { result ≤ length rest.now }
+{
+    rest.iter().take_while(|byte| is_name_byte(**byte)).count()
 }
 
 fn digit_run<'a>(rest: &'a [u8]) -> &'a [u8]
     ensures digits { AllPass is_ascii_digit result.now }
     ensures run { result.now ≡ take_while is_ascii_digit rest.now }
 {
-    let length = rest.iter().take_while(|byte| byte.is_ascii_digit()).count();
-    rest.split_at(length).0
+    rest.split_at(digits_length(rest)).0
+}
+
+fn digits_length(rest: &[u8]) -> usize
+    ensures length { result ≡ prefix_len is_ascii_digit rest.now }
+    ensures within { result ≤ length rest.now }
+{
+    rest.iter().take_while(|byte| byte.is_ascii_digit()).count()
 }
 
 #[tactic(auto, unfolding(crate::specs::Piece::word_or_name))]
@@ -83,8 +95,14 @@ fn word_or_name(run: &[u8], line: Line) -> Piece
 fn word_place(run: &[u8]) -> Option<u8>
     ensures { result ≡ position (λ word. bytes_eq word.now run.now) SPELLINGS }
 {
-    let place = SPELLINGS.iter().position(|word| *word == run)?;
-    Some(place as u8)
+    word_index(run).map(|place| place as u8)
+}
+
+fn word_index(run: &[u8]) -> Option<usize>
+    ensures place { result ≡ position (λ word. bytes_eq word.now run.now) SPELLINGS }
+    ensures small { IfSome result (λ place. place < 36) }
+{
+    SPELLINGS.iter().position(|&word| word == run)
 }
 
 #[tactic(auto, unfolding(crate::specs::Piece::int))]
@@ -100,20 +118,24 @@ fn int(digits: &[u8], line: Line) -> Piece
 }
 
 #[tactic(auto, unfolding(crate::specs::Piece::mark_or_fault))]
-fn mark_or_fault(rest: &[u8], byte: u8, line: Line) -> Piece
-    ensures { result ≡ mark_or_fault line byte rest.now }
+fn mark_or_fault(byte: u8, line: Line) -> Piece
+    ensures { result ≡ mark_or_fault line byte }
 {
-    match fitting_mark(rest) {
-        Some((spelling, place)) => Piece::Token {
-            what: TokenKind::Mark(place),
-            length: spelling.len() as u32,
-        },
+    match single_mark(byte) {
+        Some(place) => Piece::Token { what: TokenKind::Mark(place), length: 1 },
         None => Piece::Fault(ScanFault::BadByte { line, byte }),
     }
 }
 
-fn fitting_mark(rest: &[u8]) -> Option<(&'static [u8], u8)>
-    ensures { result ≡ find (λ row. starts_with nat_eq rest.now row.0.now) SCANNED }
+#[tactic(auto, unfolding(crate::specs::Piece::mark))]
+fn mark(byte: u8, rest: &[u8], line: Line) -> Piece
+    ensures { result ≡ mark line byte rest.now }
 {
-    SCANNED.iter().find(|row| rest.starts_with(row.0)).copied()
+    let Some(&second) = rest.first() else {
+        return mark_or_fault(byte, line);
+    };
+    match double_mark(byte, second) {
+        Some(place) => Piece::Token { what: TokenKind::Mark(place), length: 2 },
+        None => mark_or_fault(byte, line),
+    }
 }

@@ -76,14 +76,13 @@ pub fn string_piece(rest: &[u8], line: Line) -> Piece
 }
 
 #[tactic(auto, unfolding(crate::specs::Piece::string))]
-fn closed_string(spelled: u32, length: u32, line: Line) -> Piece
-    requires { 1 ≤ length }
-    ensures { (bytes : List ℕ) → length bytes ≡ spelled → result ≡ string line (Closes bytes (length - 1)) }
+fn closed_string(spelled: u32, taken: u32, line: Line) -> Piece
+    ensures { (bytes : List ℕ) (n : ℕ) → length bytes ≡ spelled → 1 + n ≡ taken → result ≡ string line (Closes bytes n) }
 {
     if spelled > LONGEST_STRING {
         return Piece::Fault(ScanFault::StringTooLong { line, length: spelled });
     }
-    Piece::Token { what: TokenKind::Text, length }
+    Piece::Token { what: TokenKind::Text, length: taken }
 }
 
 /// The bytes that a closed string spells, from the bytes behind its opening quote.
