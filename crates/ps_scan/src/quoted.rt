@@ -42,7 +42,7 @@ fn next_inside(rest: &[u8]) -> Inside
 
 #[tactic(auto, unfolding(crate::specs::Piece::quoted, crate::specs::Piece::behind_apostrophe))]
 fn behind_apostrophe(rest: &[u8]) -> Inside
-    ensures meaning { behind_apostrophe rest.now ≡ goes_on result (39 ∷ rest.now) }
+    ensures meaning { (byte : ℕ) → behind_apostrophe rest.now ≡ goes_on result (byte ∷ rest.now) }
     ensures within { IsWithin result (length rest.now + 1) }
 {
     let Some(&byte) = rest.first() else {
