@@ -62,13 +62,15 @@ unfoldable mutual
         | None ↦ HasBadEscape byte
       ]
 
--- a run of letters, digits and dots: a reserved word, or a name of at most 64 bytes
-unfoldable pub word_or_name : Line → List ℕ → Piece
-word_or_name line run =
-    elim (position (λ word. bytes_eq word.now run) SPELLINGS) [
-      | Some place ↦ Piece.Token (Word place) (length run)
-      | None ↦ if nat_le (length run) 64 then Piece.Token Name (length run) else Fault (NameTooLong line (length run))
-    ]
+-- the place of the reserved word that a run of letters, digits and dots is
+abbrev pub word_place : List ℕ → Option ℕ
+word_place run = position (λ word. bytes_eq word.now run) SPELLINGS
+
+-- such a run is the reserved word of this place, or a name of at most 64 bytes
+unfoldable pub word_or_name : Line → List ℕ → Option ℕ → Piece
+word_or_name line run (Some place) = Piece.Token (Word place) (length run)
+word_or_name line run None =
+    if nat_le (length run) 64 then Piece.Token Name (length run) else Fault (NameTooLong line (length run))
 
 -- a run of digits
 unfoldable pub int : Line → List ℕ → Piece
@@ -83,39 +85,36 @@ string line StaysOpen = Fault (OpenString line)
 string line (HasBadByte byte) = Fault (BadByte line byte)
 string line (HasBadEscape byte) = Fault (BadEscape line byte)
 
--- the places of the mark of two bytes, and of the mark of one byte
+-- the place of the mark that two bytes are, of the one that two bytes here are, and of the one that
+-- one byte is
 abbrev pub double_mark : ℕ → ℕ → Option ℕ
 double_mark first second = option_map (λ row. row.2) (find (λ row. row.0 == first && row.1 == second) DOUBLES)
+
+abbrev pub double_mark_here : ℕ → List ℕ → Option ℕ
+double_mark_here first [] = None
+double_mark_here first (second ∷ rest) = double_mark first second
 
 abbrev pub single_mark : ℕ → Option ℕ
 single_mark byte = option_map (λ row. row.1) (find (λ row. row.0 == byte) SINGLES)
 
--- the mark that a byte is by itself; other bytes begin no token
-unfoldable pub mark_or_fault : Line → ℕ → Piece
-mark_or_fault line byte =
-    elim (single_mark byte) [
-      | Some place ↦ Piece.Token (Mark place) 1
-      | None ↦ Fault (BadByte line byte)
-    ]
+-- the mark of two bytes if there is one, else that of one byte; other bytes begin no token
+unfoldable pub mark : Line → ℕ → Option ℕ → Option ℕ → Piece
+mark line byte (Some place) single = Piece.Token (Mark place) 2
+mark line byte None (Some place) = Piece.Token (Mark place) 1
+mark line byte None None = Fault (BadByte line byte)
 
--- the longest mark with which the bytes begin
-unfoldable pub mark : Line → ℕ → List ℕ → Piece
-mark line byte [] = mark_or_fault line byte
-mark line byte (second ∷ rest) =
-    elim (double_mark byte second) [
-      | Some place ↦ Piece.Token (Mark place) 2
-      | None ↦ mark_or_fault line byte
-    ]
+-- what begins with this byte of this class, where the rest stands behind it
+unfoldable pub piece_of : Class → Line → ℕ → List ℕ → Piece
+piece_of Class.Blank line byte rest = Piece.Blank
+piece_of Class.Newline line byte rest = Piece.Newline
+piece_of Letter line byte rest =
+    let run = take_while is_name_byte (byte ∷ rest) in
+    word_or_name line run (word_place run)
+piece_of Digit line byte rest = int line (take_while is_ascii_digit (byte ∷ rest))
+piece_of Class.Quote line byte rest = string line (quoted rest)
+piece_of Class.Other line byte rest = mark line byte (double_mark_here byte rest) (single_mark byte)
 
 -- what the rest of a text begins with, where it stands on this line
 unfoldable pub first_piece : Line → List ℕ → Piece
 first_piece line [] = End
-first_piece line (byte ∷ rest) =
-    elim (class_of byte) [
-      | Class.Blank ↦ Piece.Blank
-      | Class.Newline ↦ Piece.Newline
-      | Letter ↦ word_or_name line (take_while is_name_byte (byte ∷ rest))
-      | Digit ↦ int line (take_while is_ascii_digit (byte ∷ rest))
-      | Class.Quote ↦ string line (quoted rest)
-      | Class.Other ↦ mark line byte rest
-    ]
+first_piece line (byte ∷ rest) = piece_of (class_of byte) line byte rest

@@ -1,7 +1,6 @@
 -- The tokens of a text, and its first fault.
 use Rattle.std.specs.Prelude.{◌≡◌, ◌≢◌, ℕ, ◌+◌, ◌-◌, ◌<◌, ◌≤◌, IsTrue, List, [], ◌∷◌, length, drop, slice_range, slice_get, slice_index, Option, Some, None}
-use Rattle.std.specs.List.{position, AllPass}
-use Rattle.std.specs.Str.{bytes_eq}
+use Rattle.std.specs.List.{AllPass}
 use Rattle.std.specs.Char.{is_ascii_digit, is_ascii_alphabetic}
 use Rattle.ps_base.specs.declared.line.Line.{Line}
 use Rattle.ps_scan.specs.declared.fault.ScanFault.{ScanFault}
@@ -10,9 +9,8 @@ use Rattle.ps_scan.specs.declared.piece.Piece.TheVariants.{End, Blank, Newline, 
 use Rattle.ps_scan.specs.declared.token.Token.{Token}
 use Rattle.ps_scan.specs.declared.token.TokenKind.{TokenKind}
 use Rattle.ps_scan.specs.declared.token.TokenKind.TheVariants.{Name, Int, Text, Word, Mark}
-use Rattle.ps_scan.specs.declared.word.TheConstants.{SPELLINGS}
 use Rattle.ps_scan.specs.Class.{is_name_byte, decimal}
-use Rattle.ps_scan.specs.Piece.{Closes, quoted, bytes_of, double_mark, single_mark, first_piece}
+use Rattle.ps_scan.specs.Piece.{Closes, quoted, bytes_of, word_place, double_mark, single_mark, first_piece}
 
 -- the line of this number
 abbrev pub line_of : ℕ → Line
@@ -66,7 +64,7 @@ pub record IsName (slice : List ℕ) : Type 0 where
   pub begins : IsTrue (is_ascii_alphabetic (slice_index slice 0))
   pub goes_on : AllPass is_name_byte slice
   pub size : (1 ≤ length slice) × (length slice ≤ 64)
-  pub free : position (λ word. bytes_eq word.now slice) SPELLINGS ≡ None
+  pub free : word_place slice ≡ None
 
 -- one or more digits, whose value is at most 2147483647
 pub record IsInt (slice : List ℕ) : Type 0 where
@@ -92,7 +90,7 @@ abbrev pub IsSpelled : TokenKind → List ℕ → Type 0
 IsSpelled Name slice = IsName slice
 IsSpelled Int slice = IsInt slice
 IsSpelled Text slice = IsString slice
-IsSpelled (Word place) slice = position (λ word. bytes_eq word.now slice) SPELLINGS ≡ Some place
+IsSpelled (Word place) slice = word_place slice ≡ Some place
 IsSpelled (Mark place) slice = mark_of slice ≡ Some place
 
 -- a token of the text: a slice of it that is spelled as its kind is

@@ -1,9 +1,8 @@
 ghost use Rattle.std.specs.Prelude.{◌≡◌, ◌≤◌, length, drop, ◌<◌, IfSome};
-ghost use Rattle.std.specs.Str.{bytes_eq};
-ghost use Rattle.std.specs.List.{position, take_while, AllPass, prefix_len};
+ghost use Rattle.std.specs.List.{take_while, AllPass, prefix_len};
 ghost use Rattle.std.specs.Char.{is_ascii_digit};
 ghost use Rattle.ps_scan.specs.Class.{is_name_byte};
-ghost use Rattle.ps_scan.specs.Piece.{word_or_name, int, mark_or_fault, mark, first_piece};
+ghost use Rattle.ps_scan.specs.Piece.{word_place, word_or_name, int, double_mark_here, single_mark, mark, first_piece};
 
 use crate::class::{Class, class_of, is_name_byte};
 use crate::fault::ScanFault;
@@ -33,7 +32,7 @@ pub fn piece_at(text: &[u8], at: usize, line: Line) -> Piece
     first_piece(text.split_at(at).1, line)
 }
 
-#[tactic(auto, unfolding(crate::specs::Piece::first_piece))]
+#[tactic(auto, unfolding(crate::specs::Piece::first_piece, crate::specs::Piece::piece_of))]
 fn first_piece(rest: &[u8], line: Line) -> Piece
     requires { length rest.now ≤ 1048576 }
     ensures { result ≡ first_piece line rest.now }
@@ -81,7 +80,7 @@ fn digits_length(rest: &[u8]) -> usize
 #[tactic(auto, unfolding(crate::specs::Piece::word_or_name))]
 fn word_or_name(run: &[u8], line: Line) -> Piece
     requires { length run.now ≤ 1048576 }
-    ensures { result ≡ word_or_name line run.now }
+    ensures { result ≡ word_or_name line run.now (word_place run.now) }
 {
     let length = run.len() as u32;
     let what = match word_place(run) {
@@ -93,13 +92,13 @@ fn word_or_name(run: &[u8], line: Line) -> Piece
 }
 
 fn word_place(run: &[u8]) -> Option<u8>
-    ensures { result ≡ position (λ word. bytes_eq word.now run.now) SPELLINGS }
+    ensures { result ≡ word_place run.now }
 {
     word_index(run).map(|place| place as u8)
 }
 
 fn word_index(run: &[u8]) -> Option<usize>
-    ensures place { result ≡ position (λ word. bytes_eq word.now run.now) SPELLINGS }
+    ensures place { result ≡ word_place run.now }
     ensures small { IfSome result (λ place. place < 36) }
 {
     SPELLINGS.iter().position(|&word| word == run)
@@ -117,25 +116,23 @@ fn int(digits: &[u8], line: Line) -> Piece
     Piece::Token { what: TokenKind::Int, length: digits.len() as u32 }
 }
 
-#[tactic(auto, unfolding(crate::specs::Piece::mark_or_fault))]
-fn mark_or_fault(byte: u8, line: Line) -> Piece
-    ensures { result ≡ mark_or_fault line byte }
-{
-    match single_mark(byte) {
-        Some(place) => Piece::Token { what: TokenKind::Mark(place), length: 1 },
-        None => Piece::Fault(ScanFault::BadByte { line, byte }),
-    }
-}
-
 #[tactic(auto, unfolding(crate::specs::Piece::mark))]
 fn mark(byte: u8, rest: &[u8], line: Line) -> Piece
-    ensures { result ≡ mark line byte rest.now }
+    ensures { result ≡ mark line byte (double_mark_here byte rest.now) (single_mark byte) }
 {
-    let Some(&second) = rest.first() else {
-        return mark_or_fault(byte, line);
+    let (place, length) = if let Some(place) = double_mark_here(byte, rest) {
+        (place, 2)
+    } else if let Some(place) = single_mark(byte) {
+        (place, 1)
+    } else {
+        return Piece::Fault(ScanFault::BadByte { line, byte });
     };
-    match double_mark(byte, second) {
-        Some(place) => Piece::Token { what: TokenKind::Mark(place), length: 2 },
-        None => mark_or_fault(byte, line),
-    }
+    Piece::Token { what: TokenKind::Mark(place), length }
+}
+
+fn double_mark_here(first: u8, rest: &[u8]) -> Option<u8>
+    ensures { result ≡ double_mark_here first rest.now }
+{
+    let second = *rest.first()?;
+    double_mark(first, second)
 }
