@@ -1,3 +1,4 @@
 mod Examples
+mod Laws
 mod Runs
 mod Strings
