@@ -1,3 +1,4 @@
+mod Closing
 mod Examples
 mod Laws
 mod Runs
