@@ -2,4 +2,5 @@ mod Closing
 mod Examples
 mod Laws
 mod Runs
+mod Spelling
 mod Strings
