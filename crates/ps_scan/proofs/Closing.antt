@@ -1,5 +1,5 @@
 -- A string that closes does so within the text, and what stands behind it doesn't matter.
-use Rattle.std.proofs.Common.{◌≡◌, ℕ, zero, suc, ◌+◌, ◌-◌, ◌≤◌, ◌<◌, List, [], ◌∷◌, length, take, Option, Some, None, sym, ◌∙◌, ap, refl, arith, subst}
+use Rattle.std.proofs.Common.{◌≡◌, ℕ, suc, ◌+◌, ◌≤◌, List, [], ◌∷◌, length, take, Option, Some, None, sym, ◌∙◌, ap, refl, arith, subst}
 use Rattle.ps_scan.specs.declared.class.Inner.{Inner}
 use Rattle.ps_scan.specs.declared.class.Inner.TheVariants.{Plain, Apostrophe}
 use Rattle.ps_scan.specs.Class.{inner_of, escaped}

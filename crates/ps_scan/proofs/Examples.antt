@@ -1,12 +1,9 @@
 -- The definitions on small texts.
 use Rattle.std.proofs.Common.{◌≡◌, ℕ, List, [], ◌∷◌, ◌++◌, refl, codes}
-use Rattle.ps_scan.specs.declared.fault.ScanFault.{ScanFault}
-use Rattle.ps_scan.specs.declared.fault.ScanFault.TheVariants.{BadByte, OpenString, IntTooLarge, BadEscape, NameTooLong, StringTooLong}
-use Rattle.ps_scan.specs.declared.token.Token.{Token}
-use Rattle.ps_scan.specs.declared.token.TokenKind.TheVariants.{Name, Int, Text, Word, Mark}
+use Rattle.ps_scan.specs.declared.token.TokenKind.TheVariants.{Int, Text, Word, Mark}
 use Rattle.ps_scan.specs.Class.{class_of, is_name_byte, inner_of, escaped}
 use Rattle.ps_scan.specs.Piece.{bytes_of, spells, quoted, behind_apostrophe, word_or_name, int, string, mark, piece_of, first_piece}
-use Rattle.ps_scan.specs.Tokens.{line_of, token_at, Scans, Stops, HasTokens, HasFault, spelled, int_value}
+use Rattle.ps_scan.specs.Tokens.{token_at, Scans, HasTokens, spelled}
 
 -- `write 1 + 2, "'n" ?`
 write_sum : List ℕ

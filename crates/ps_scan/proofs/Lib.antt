@@ -2,5 +2,6 @@ mod Closing
 mod Examples
 mod Laws
 mod Runs
+mod Scanning
 mod Spelling
 mod Strings

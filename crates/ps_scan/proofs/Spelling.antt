@@ -1,5 +1,5 @@
 -- Each piece that is a token is spelled as one.
-use Rattle.std.proofs.Common.{◌≡◌, ℕ, zero, suc, ◌+◌, ◌-◌, ◌≤◌, ◌<◌, Bool, true, false, IsTrue, cond, List, [], ◌∷◌, length, take, drop, Option, Some, None, sym, ◌∙◌, ap, refl, arith, subst, nat_le, length-take-le, get_or, get_or-take, slice_index}
+use Rattle.std.proofs.Common.{◌≡◌, ℕ, suc, ◌+◌, ◌-◌, ◌≤◌, ◌<◌, Bool, true, false, IsTrue, cond, List, [], ◌∷◌, length, take, Option, Some, None, sym, ◌∙◌, ap, refl, arith, subst, nat_le, length-take-le, get_or, get_or-take, slice_index}
 use Rattle.std.specs.List.{take_while, prefix_len, AllPass}
 use Rattle.std.specs.Char.{is_ascii_digit, is_ascii_alphabetic}
 use Rattle.std.proofs.lemmas.Bool.{leb-true}
@@ -12,12 +12,11 @@ use Rattle.ps_scan.specs.declared.class.Class.TheVariants.{Letter, Digit}
 use Rattle.ps_scan.specs.declared.piece.Piece.{Piece}
 use Rattle.ps_scan.specs.declared.piece.Piece.TheVariants.{End, Fault}
 use Rattle.ps_scan.specs.declared.token.TokenKind.{TokenKind}
-use Rattle.ps_scan.specs.declared.token.TokenKind.TheVariants.{Name, Int, Text, Word, Mark}
 use Rattle.ps_scan.specs.Class.{class_of, is_name_byte, decimal}
-use Rattle.ps_scan.specs.Piece.{Quoted, Closes, StaysOpen, HasBadByte, HasBadEscape, quoted, bytes_of, word_place, word_or_name, int, string, double_mark, double_mark_here, single_mark, mark, piece_of, first_piece}
+use Rattle.ps_scan.specs.Piece.{Quoted, Closes, StaysOpen, HasBadByte, HasBadEscape, quoted, bytes_of, word_place, word_or_name, int, string, double_mark_here, single_mark, mark, piece_of, first_piece}
 use Rattle.ps_scan.specs.Tokens.{IsName, IsInt, IsString, IsSpelled}
 use Rattle.ps_scan.proofs.Runs.{run_passes}
-use Rattle.ps_scan.proofs.Closing.{take_behind, ClosesWithin, closes_within}
+use Rattle.ps_scan.proofs.Closing.{take_behind, closes_within}
 
 -- so many bytes at the front of the rest are spelled as a token of this kind
 pub record Fits (what : TokenKind) (rest : List ℕ) (n : ℕ) : Type 0 where

@@ -2,7 +2,7 @@
 use Rattle.std.specs.Prelude.{ℕ, ◌+◌, ◌-◌, ◌*◌, ◌==◌, Bool, ◌||◌, List, Option, Some, None, fold, nat_le, ◌&&◌, if◌then◌else◌}
 use Rattle.std.specs.Char.{is_ascii_alphabetic, is_ascii_alphanumeric, is_ascii_digit}
 use Rattle.ps_scan.specs.declared.class.Class.{Class}
-use Rattle.ps_scan.specs.declared.class.Class.TheVariants.{Blank, Newline, Letter, Digit, Quote, Other}
+use Rattle.ps_scan.specs.declared.class.Class.TheVariants.{Blank, Letter, Digit}
 use Rattle.ps_scan.specs.declared.class.Inner.{Inner}
 use Rattle.ps_scan.specs.declared.class.Inner.TheVariants.{Plain, Apostrophe}
 

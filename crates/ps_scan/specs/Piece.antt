@@ -8,12 +8,10 @@ use Rattle.ps_scan.specs.declared.class.Class.{Class}
 use Rattle.ps_scan.specs.declared.class.Class.TheVariants.{Letter, Digit}
 use Rattle.ps_scan.specs.declared.class.Inner.{Inner}
 use Rattle.ps_scan.specs.declared.class.Inner.TheVariants.{Plain, Apostrophe}
-use Rattle.ps_scan.specs.declared.fault.ScanFault.{ScanFault}
 use Rattle.ps_scan.specs.declared.fault.ScanFault.TheVariants.{BadByte, OpenString, IntTooLarge, BadEscape, NameTooLong, StringTooLong}
 use Rattle.ps_scan.specs.declared.mark.TheConstants.{DOUBLES, SINGLES}
 use Rattle.ps_scan.specs.declared.piece.Piece.{Piece}
 use Rattle.ps_scan.specs.declared.piece.Piece.TheVariants.{End, Fault}
-use Rattle.ps_scan.specs.declared.token.TokenKind.{TokenKind}
 use Rattle.ps_scan.specs.declared.token.TokenKind.TheVariants.{Name, Int, Text, Word, Mark}
 use Rattle.ps_scan.specs.declared.word.TheConstants.{SPELLINGS}
 use Rattle.ps_scan.specs.Class.{class_of, is_name_byte, inner_of, escaped, decimal}

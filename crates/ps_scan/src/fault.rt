@@ -1,5 +1,8 @@
 ghost use Rattle.std.specs.Prelude.{◌≡◌};
 ghost use Rattle.ps_scan.specs.Fault.{number_of, line_of_fault};
+ghost use Rattle.ps_scan.specs.declared.fault.ScanFault.TheVariants.{Memory};
+
+use std::alloc::AllocFailed;
 
 use ps_base::line::Line;
 
@@ -52,5 +55,13 @@ impl ScanFault {
             | ScanFault::StringTooLong { line, .. } => Some(line),
             ScanFault::Memory => None,
         }
+    }
+}
+
+impl<T: Drop> From<AllocFailed<T>> for ScanFault {
+    ghost from_gives = { λ _ fault. fault ≡ Memory };
+
+    fn from(_failed: AllocFailed<T>) -> ScanFault {
+        ScanFault::Memory
     }
 }

@@ -32,7 +32,7 @@ pub fn scan(alloc: Global, text: &[u8]) -> Result<Vec<Token>, ScanFault>
             }
             Piece::Token { what, length } => {
                 let token = token_at(what, line, at as u32, length);
-                tokens.push(token).map_err(|_| ScanFault::Memory)?;
+                tokens.push(token)?;
                 at = token.to as usize;
             }
             Piece::Fault(fault) => return Err(fault),

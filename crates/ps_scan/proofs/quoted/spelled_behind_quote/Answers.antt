@@ -1,5 +1,5 @@
-use Rattle.std.proofs.Common.{length, ap, sym, subst, length-drop, arith}
-use Rattle.ps_scan.proofs.Strings.{SoFar, none_yet, one_more, all_spelled}
+use Rattle.std.proofs.Common.{length, ap, length-drop, arith}
+use Rattle.ps_scan.proofs.Strings.{none_yet, one_more, all_spelled}
 use Rattle.ps_scan.proofs.quoted.spelled_behind_quote.Goals as goal
 
 pub loop-byte-init : goal.loop-byte-init
