@@ -118,6 +118,7 @@ escaped_ends None byte rest kind ends = subst (EndsBehind (byte ∷ rest)) (sym 
 
 mutual
   unfolding EndsWithin EndsBehind quoted behind_apostrophe
+
   quoted_ends : (rest : List ℕ) → EndsWithin rest (quoted rest)
   quoted_ends [] = tt
   quoted_ends (byte ∷ rest) = byte_ends (inner_of byte) byte rest refl (quoted_ends rest) (behind_ends rest)

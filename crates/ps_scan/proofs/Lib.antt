@@ -1,7 +1,7 @@
 mod Closing
 mod Examples
-mod Laws
+pub mod Laws
 mod Runs
-mod Scanning
+pub mod Scanning
 mod Spelling
 mod Strings

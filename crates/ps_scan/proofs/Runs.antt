@@ -10,4 +10,3 @@ run_passes p xs run same = λ k d below.
     let size : length run ≡ prefix_len p xs = ap length same ∙ length-prefix_len p xs in
     let inside : k < prefix_len p xs = omega arith in
     ap (λ l. p (get_or l k d)) same ∙ ap p (get_or-take (prefix_len p xs) xs k d inside) ∙ prefix_len_passes p xs k d inside
-

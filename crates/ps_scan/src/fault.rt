@@ -2,9 +2,8 @@ ghost use Rattle.std.specs.Prelude.{◌≡◌};
 ghost use Rattle.ps_scan.specs.Fault.{number_of, line_of_fault};
 ghost use Rattle.ps_scan.specs.declared.fault.ScanFault.TheVariants.{Memory};
 
-use std::alloc::AllocFailed;
-
 use ps_base::line::Line;
+use std::alloc::AllocFailed;
 
 /// Why a text has no tokens. Of several faults in a text the first is answered; each has the line
 /// on which it stands, and a string that stays open the line of its opening.

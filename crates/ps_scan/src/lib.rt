@@ -13,7 +13,7 @@ pub mod word;
 
 pub use fault::ScanFault;
 pub use scanner::{fault_is_unique, scan, tokens_are_unique, tokens_exclude_fault};
-pub use token::{Token, TokenKind};
+pub use token::{Token, TokenKind, int_of, name_of, spell};
 
 #[cfg(test)]
 mod tests;

@@ -113,7 +113,10 @@ fn int(digits: &[u8], line: Line) -> Piece
     if decimal_of(digits) > LARGEST_INT {
         return Piece::Fault(ScanFault::IntTooLarge { line });
     }
-    Piece::Token { what: TokenKind::Int, length: digits.len() as u32 }
+    Piece::Token {
+        what: TokenKind::Int,
+        length: digits.len() as u32,
+    }
 }
 
 #[tactic(auto, unfolding(crate::specs::Piece::mark))]
@@ -127,7 +130,10 @@ fn mark(byte: u8, rest: &[u8], line: Line) -> Piece
     } else {
         return Piece::Fault(ScanFault::BadByte { line, byte });
     };
-    Piece::Token { what: TokenKind::Mark(place), length }
+    Piece::Token {
+        what: TokenKind::Mark(place),
+        length,
+    }
 }
 
 fn double_mark_here(first: u8, rest: &[u8]) -> Option<u8>

@@ -2,13 +2,12 @@ ghost use Rattle.std.specs.Prelude.{◌≡◌, ◌+◌, ◌-◌, ◌≤◌, ℕ,
 ghost use Rattle.ps_scan.specs.Piece.{quoted, behind_apostrophe, string, bytes_of, Closes};
 ghost use Rattle.ps_scan.specs.Inside.{goes_on, IsWithin};
 
-use std::alloc::{AllocError, Global};
-
 use crate::class::{Inner, escaped, inner_of};
 use crate::fault::ScanFault;
 use crate::piece::Piece;
 use crate::token::TokenKind;
 use ps_base::line::Line;
+use std::alloc::{AllocError, Global};
 
 /// The most bytes that a string may spell.
 const LONGEST_STRING: u32 = 65535;
@@ -80,9 +79,15 @@ fn closed_string(spelled: u32, taken: u32, line: Line) -> Piece
     ensures { (bytes : List ℕ) (n : ℕ) → length bytes ≡ spelled → 1 + n ≡ taken → result ≡ string line (Closes bytes n) }
 {
     if spelled > LONGEST_STRING {
-        return Piece::Fault(ScanFault::StringTooLong { line, length: spelled });
+        return Piece::Fault(ScanFault::StringTooLong {
+            line,
+            length: spelled,
+        });
     }
-    Piece::Token { what: TokenKind::Text, length: taken }
+    Piece::Token {
+        what: TokenKind::Text,
+        length: taken,
+    }
 }
 
 /// The bytes that a closed string spells, from the bytes behind its opening quote.

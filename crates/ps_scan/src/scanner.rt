@@ -3,12 +3,11 @@ ghost use Rattle.ps_scan.specs.declared.fault.ScanFault.{ScanFault};
 ghost use Rattle.ps_scan.specs.declared.token.Token.{Token};
 ghost use Rattle.ps_scan.specs.Tokens.{HasTokens, HasFault, token_at, IsToken, IsInOrder};
 
-use std::alloc::Global;
-
 use crate::fault::ScanFault;
 use crate::piece::{Piece, piece_at};
 use crate::token::{Token, TokenKind};
 use ps_base::line::Line;
+use std::alloc::Global;
 
 /// The tokens of a text of at most 1,048,576 bytes, in order, or the first fault in it. `Memory`
 /// is answered where there is none for the tokens, 16 bytes each.
@@ -45,23 +44,25 @@ fn token_at(what: TokenKind, line: Line, from: u32, length: u32) -> Token
     requires { from + length < 2 ^ 32 }
     ensures { result ≡ token_at what line.0 from length }
 {
-    Token { what, line, from, to: from + length }
+    Token {
+        what,
+        line,
+        from,
+        to: from + length,
+    }
 }
 
 /// A text has at most one list of tokens.
 pub fn tokens_are_unique()
     ensures { (text : List ℕ) (tokens others : List Token) → HasTokens text tokens → HasTokens text others → tokens ≡ others }
-{
-}
+{}
 
 /// A text has at most one first fault.
 pub fn fault_is_unique()
     ensures { (text : List ℕ) (fault other : ScanFault) → HasFault text fault → HasFault text other → fault ≡ other }
-{
-}
+{}
 
 /// A text that has tokens has no fault.
 pub fn tokens_exclude_fault()
     ensures { (text : List ℕ) (tokens : List Token) (fault : ScanFault) → HasTokens text tokens → HasFault text fault → ⊥ }
-{
-}
+{}

@@ -1,11 +1,10 @@
 ghost use Rattle.std.specs.Prelude.{◌≡◌, pos, IfOk};
 ghost use Rattle.ps_scan.specs.Tokens.{IsToken, slice_of, int_value, spelled};
 
-use std::alloc::{AllocError, Global};
-
 use crate::number::decimal_of;
 use crate::quoted::spelled_behind_quote;
 use ps_base::line::Line;
+use std::alloc::{AllocError, Global};
 
 /// What a token is. A word has its place in `word::SPELLINGS`, a mark its place in the row of
 /// marks, as the constants of `word` and `mark` name them.
