@@ -12,7 +12,10 @@ pub mod token;
 pub mod word;
 
 pub use fault::ScanFault;
-pub use scanner::{fault_is_unique, scan, tokens_are_unique, tokens_exclude_fault};
+pub use piece::LONGEST_TEXT;
+pub use scanner::{
+    fault_is_unique, scan, tokens_are_slices, tokens_are_unique, tokens_exclude_fault,
+};
 pub use token::{Token, TokenKind, int_of, name_of, spell};
 
 #[cfg(test)]

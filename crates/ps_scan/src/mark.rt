@@ -1,8 +1,8 @@
+//! The marks, each with its place in the row
+//! `( ) [ ] { } , ; : :: := = ~ ~= < <= > >= + - ++ * -> @ ? |`.
+
 ghost use Rattle.std.specs.Prelude.{◌≡◌};
 ghost use Rattle.ps_scan.specs.Piece.{double_mark, single_mark};
-
-// The marks, each with its place in the row
-// `( ) [ ] { } , ; : :: := = ~ ~= < <= > >= + - ++ * -> @ ? |`.
 
 /// `(`
 pub const OPEN_ROUND: u8 = 0;

@@ -13,6 +13,12 @@ use crate::token::TokenKind;
 use crate::word::SPELLINGS;
 use ps_base::line::Line;
 
+/// The most bytes that a text may have.
+pub const LONGEST_TEXT: usize = 1_048_576;
+
+/// The most bytes that a name may have.
+const LONGEST_NAME: u32 = 64;
+
 /// What the rest of a text begins with.
 #[derive(Clone, Copy)]
 pub enum Piece {
@@ -25,7 +31,7 @@ pub enum Piece {
 
 /// What the text begins with from the place on, which is on the line.
 pub fn piece_at(text: &[u8], at: usize, line: Line) -> Piece
-    requires size { length text.now ≤ 1048576 }
+    requires size { length text.now ≤ LONGEST_TEXT }
     requires place { at ≤ length text.now }
     ensures { result ≡ first_piece line (drop at text.now) }
 {
@@ -34,7 +40,7 @@ pub fn piece_at(text: &[u8], at: usize, line: Line) -> Piece
 
 #[tactic(auto, unfolding(crate::specs::Piece::first_piece, crate::specs::Piece::piece_of))]
 fn first_piece(rest: &[u8], line: Line) -> Piece
-    requires { length rest.now ≤ 1048576 }
+    requires { length rest.now ≤ LONGEST_TEXT }
     ensures { result ≡ first_piece line rest.now }
 {
     let Some(&byte) = rest.first() else {
@@ -79,13 +85,13 @@ fn digits_length(rest: &[u8]) -> usize
 
 #[tactic(auto, unfolding(crate::specs::Piece::word_or_name))]
 fn word_or_name(run: &[u8], line: Line) -> Piece
-    requires { length run.now ≤ 1048576 }
+    requires { length run.now ≤ LONGEST_TEXT }
     ensures { result ≡ word_or_name line run.now (word_place run.now) }
 {
     let length = run.len() as u32;
     let what = match word_place(run) {
         Some(place) => TokenKind::Word(place),
-        None if length <= 64 => TokenKind::Name,
+        None if length <= LONGEST_NAME => TokenKind::Name,
         None => return Piece::Fault(ScanFault::NameTooLong { line, length }),
     };
     Piece::Token { what, length }
@@ -106,7 +112,7 @@ fn word_index(run: &[u8]) -> Option<usize>
 
 #[tactic(auto, unfolding(crate::specs::Piece::int))]
 fn int(digits: &[u8], line: Line) -> Piece
-    requires size { length digits.now ≤ 1048576 }
+    requires size { length digits.now ≤ LONGEST_TEXT }
     requires digits { AllPass is_ascii_digit digits.now }
     ensures { result ≡ int line digits.now }
 {

@@ -4,7 +4,7 @@ ghost use Rattle.ps_scan.specs.Inside.{goes_on, IsWithin};
 
 use crate::class::{Inner, escaped, inner_of};
 use crate::fault::ScanFault;
-use crate::piece::Piece;
+use crate::piece::{LONGEST_TEXT, Piece};
 use crate::token::TokenKind;
 use ps_base::line::Line;
 use std::alloc::{AllocError, Global};
@@ -55,7 +55,7 @@ fn behind_apostrophe(rest: &[u8]) -> Inside
 
 /// The piece of a text that a string is, from the bytes behind its opening quote.
 pub fn string_piece(rest: &[u8], line: Line) -> Piece
-    requires { length rest.now ≤ 1048576 }
+    requires { length rest.now ≤ LONGEST_TEXT }
     ensures { result ≡ string line (quoted rest.now) }
 {
     let mut at = 0;

@@ -4,7 +4,7 @@ ghost use Rattle.ps_scan.specs.declared.token.Token.{Token};
 ghost use Rattle.ps_scan.specs.Tokens.{HasTokens, HasFault, token_at, IsToken, IsInOrder};
 
 use crate::fault::ScanFault;
-use crate::piece::{Piece, piece_at};
+use crate::piece::{LONGEST_TEXT, Piece, piece_at};
 use crate::token::{Token, TokenKind};
 use ps_base::line::Line;
 use std::alloc::Global;
@@ -12,7 +12,7 @@ use std::alloc::Global;
 /// The tokens of a text of at most 1,048,576 bytes, in order, or the first fault in it. `Memory`
 /// is answered where there is none for the tokens, 16 bytes each.
 pub fn scan(alloc: Global, text: &[u8]) -> Result<Vec<Token>, ScanFault>
-    requires { length text.now ≤ 1048576 }
+    requires { length text.now ≤ LONGEST_TEXT }
     ensures tokens { IfOk result (λ tokens. HasTokens text.now tokens.items) }
     ensures slices { IfOk result (λ tokens. All (IsToken text.now) tokens.items) }
     ensures in_order { IfOk result (λ tokens. IsInOrder 0 tokens.items) }
@@ -51,6 +51,14 @@ fn token_at(what: TokenKind, line: Line, from: u32, length: u32) -> Token
         to: from + length,
     }
 }
+
+/// Each token that a text has is a slice of it, spelled as its kind is, and begins at or after the
+/// end of the one before.
+pub fn tokens_are_slices(text: &[u8], tokens: &[Token])
+    requires { HasTokens text.now tokens.now }
+    ensures slices { All (IsToken text.now) tokens.now }
+    ensures in_order { IsInOrder 0 tokens.now }
+{}
 
 /// A text has at most one list of tokens.
 pub fn tokens_are_unique()
