@@ -3,5 +3,7 @@
 
 mod generate;
 mod instruction;
+mod machine;
+mod run_end;
 
 fn main() {}
