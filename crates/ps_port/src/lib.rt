@@ -1,0 +1,11 @@
+//! The outside of the system: the host, which takes what a program tells, and the shelf, which gives
+//! texts by name. Each is a trait, so that everything above is proved over any host and any shelf;
+//! `MemoryHost` and `MemoryShelf` are whole in memory, `FileHost` and `DirShelf` are the edge to the
+//! real system.
+#![tactic(auto)]
+
+pub mod host;
+pub mod shelf;
+
+pub use host::{Host, HostFailed};
+pub use shelf::{LONGEST_TEXT, Shelf, ShelfFault};
