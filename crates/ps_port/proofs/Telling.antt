@@ -55,8 +55,8 @@ tells_none clock told host = record {
 }
 
 -- a front of the first part is a front of the whole
-pub front_of_more : {H : Type 0} {clock : H → ℕ} {told : H → ℕ → List ℕ → Type 0} {a b : H} (xs ys : List ℕ) → TellsFront clock told a b xs → TellsFront clock told a b (xs ++ ys)
-front_of_more {H} {clock} {told} {a} {b} xs ys is = record {
+pub front_of_more : {H : Type 0} {clock : H → ℕ} {told : H → ℕ → List ℕ → Type 0} {a b : H} {xs : List ℕ} (ys : List ℕ) → TellsFront clock told a b xs → TellsFront clock told a b (xs ++ ys)
+front_of_more {H} {clock} {told} {a} {b} {xs} ys is = record {
   later = is.later;
   kept = is.kept;
   no_other = is.no_other;
@@ -64,8 +64,8 @@ front_of_more {H} {clock} {told} {a} {b} xs ys is = record {
 }
 
 -- all of the first part, and then a front of the second
-pub tells_then_front : {H : Type 0} {clock : H → ℕ} {told : H → ℕ → List ℕ → Type 0} {a b c : H} (xs ys : List ℕ) → Tells clock told a b xs → TellsFront clock told b c ys → TellsFront clock told a c (xs ++ ys)
-tells_then_front {H} {clock} {told} {a} {b} {c} xs ys first next = record {
+pub tells_then_front : {H : Type 0} {clock : H → ℕ} {told : H → ℕ → List ℕ → Type 0} {a b c : H} {xs ys : List ℕ} → Tells clock told a b xs → TellsFront clock told b c ys → TellsFront clock told a c (xs ++ ys)
+tells_then_front {H} {clock} {told} {a} {b} {c} {xs} {ys} first next = record {
   later = let one = first.front.later in let two = next.later in omega arith;
   kept = λ m bytes past is. next.kept m bytes (let one = first.front.later in omega arith) (first.front.kept m bytes past is);
   no_other = λ m bytes past is. first.front.no_other m bytes past (next.no_other m bytes (let one = first.front.later in omega arith) is);
@@ -76,9 +76,9 @@ tells_then_front {H} {clock} {told} {a} {b} {c} xs ys first next = record {
 }
 
 -- all of the first part, and then all of the second
-pub tells_then : {H : Type 0} {clock : H → ℕ} {told : H → ℕ → List ℕ → Type 0} {a b c : H} (xs ys : List ℕ) → Tells clock told a b xs → Tells clock told b c ys → Tells clock told a c (xs ++ ys)
-tells_then {H} {clock} {told} {a} {b} {c} xs ys first next = record {
-  front = tells_then_front xs ys first next.front;
+pub tells_then : {H : Type 0} {clock : H → ℕ} {told : H → ℕ → List ℕ → Type 0} {a b c : H} {xs ys : List ℕ} → Tells clock told a b xs → Tells clock told b c ys → Tells clock told a c (xs ++ ys)
+tells_then {H} {clock} {told} {a} {b} {c} {xs} {ys} first next = record {
+  front = tells_then_front first next.front;
   all = λ bytes is. adds_then (told a (clock a)) (told b (clock b)) xs ys bytes first.all (next.all bytes is);
 }
 
@@ -86,25 +86,26 @@ tells_then {H} {clock} {told} {a} {b} {c} xs ys first next = record {
 pub so_far_none : {H : Type 0} (clock : H → ℕ) (told : H → ℕ → List ℕ → Type 0) (host : H) (whole : List ℕ) → SoFar clock told host host whole whole
 so_far_none clock told host whole = record { done = []; whole_is = refl; tells = tells_none clock told host }
 
--- These bytes, the next of the rest, were told too.
-pub so_far_more : {H : Type 0} {clock : H → ℕ} {told : H → ℕ → List ℕ → Type 0} {a b c : H} {whole : List ℕ} (bytes rest : List ℕ) → SoFar clock told a b whole (bytes ++ rest) → Tells clock told b c bytes → SoFar clock told a c whole rest
-so_far_more bytes rest so next = record {
+-- These bytes, the next of the rest, were told too, and this is left.
+pub so_far_more : {H : Type 0} {clock : H → ℕ} {told : H → ℕ → List ℕ → Type 0} {a b c : H} {whole rest bytes left : List ℕ} → SoFar clock told a b whole rest → Tells clock told b c bytes → rest ≡ bytes ++ left → SoFar clock told a c whole left
+so_far_more {whole = whole} {rest = rest} {bytes = bytes} {left = left} so next split = record {
   done = so.done ++ bytes;
-  whole_is = so.whole_is ∙ sym (append_assoc so.done bytes rest);
-  tells = tells_then so.done bytes so.tells next;
+  whole_is = so.whole_is ∙ ap (λ (xs : List ℕ). so.done ++ xs) split ∙ sym (append_assoc so.done bytes left);
+  tells = tells_then so.tells next;
 }
 
 -- A call that was to tell the next of the rest told a front of it: then a front of the whole was told.
-pub so_far_cut : {H : Type 0} {clock : H → ℕ} {told : H → ℕ → List ℕ → Type 0} {a b c : H} {whole : List ℕ} (bytes rest : List ℕ) → SoFar clock told a b whole (bytes ++ rest) → TellsFront clock told b c bytes → TellsFront clock told a c whole
-so_far_cut {H} {clock} {told} {a} {b} {c} {whole} bytes rest so next =
-    subst (λ (xs : List ℕ). TellsFront clock told a c xs) (sym so.whole_is) (tells_then_front so.done (bytes ++ rest) so.tells (front_of_more bytes rest next))
+pub so_far_cut : {H : Type 0} {clock : H → ℕ} {told : H → ℕ → List ℕ → Type 0} {a b c : H} {whole rest bytes : List ℕ} (left : List ℕ) → SoFar clock told a b whole rest → TellsFront clock told b c bytes → rest ≡ bytes ++ left → TellsFront clock told a c whole
+so_far_cut {H} {clock} {told} {a} {b} {c} {whole} {rest} {bytes} left so next split =
+    subst (λ (xs : List ℕ). TellsFront clock told a c xs) (sym (so.whole_is ∙ ap (λ (xs : List ℕ). so.done ++ xs) split))
+    (tells_then_front so.tells (front_of_more left next))
 
 -- At any time a front of the whole has been told.
 pub so_far_front : {H : Type 0} {clock : H → ℕ} {told : H → ℕ → List ℕ → Type 0} {a b : H} {whole rest : List ℕ} → SoFar clock told a b whole rest → TellsFront clock told a b whole
 so_far_front {H} {clock} {told} {a} {b} {whole} {rest} so =
-    subst (λ (xs : List ℕ). TellsFront clock told a b xs) (sym so.whole_is) (front_of_more so.done rest so.tells.front)
+    subst (λ (xs : List ℕ). TellsFront clock told a b xs) (sym so.whole_is) (front_of_more rest so.tells.front)
 
 -- Where no rest is left, the whole was told.
-pub so_far_all : {H : Type 0} {clock : H → ℕ} {told : H → ℕ → List ℕ → Type 0} {a b : H} {whole : List ℕ} → SoFar clock told a b whole [] → Tells clock told a b whole
-so_far_all {H} {clock} {told} {a} {b} {whole} so =
-    subst (λ (xs : List ℕ). Tells clock told a b xs) (sym (so.whole_is ∙ append-nil so.done)) so.tells
+pub so_far_all : {H : Type 0} {clock : H → ℕ} {told : H → ℕ → List ℕ → Type 0} {a b : H} {whole rest : List ℕ} → SoFar clock told a b whole rest → rest ≡ [] → Tells clock told a b whole
+so_far_all {H} {clock} {told} {a} {b} {whole} {rest} so empty =
+    subst (λ (xs : List ℕ). Tells clock told a b xs) (sym (so.whole_is ∙ ap (λ (xs : List ℕ). so.done ++ xs) empty ∙ append-nil so.done)) so.tells
