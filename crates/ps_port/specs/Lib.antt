@@ -1,2 +1,4 @@
 pub mod Told
 pub mod Texts
+pub mod Memory
+pub mod MemoryView

@@ -5,7 +5,9 @@
 #![tactic(auto)]
 
 pub mod host;
+pub mod memory_host;
 pub mod shelf;
 
 pub use host::{Host, HostFailed};
+pub use memory_host::MemoryHost;
 pub use shelf::{LONGEST_TEXT, Shelf, ShelfFault};

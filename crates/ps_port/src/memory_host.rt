@@ -1,0 +1,112 @@
+ghost use Rattle.std.specs.Prelude.{◌≡◌, ◌≤◌, ◌++◌, [], ◌∷◌, ◌||◌, not, length, take, if◌then◌else◌, OnOk, OnErr, IfOk, is_err};
+ghost use Rattle.ps_port.specs.Told.{TellsFront, Tells, Rose};
+ghost use Rattle.ps_port.specs.Memory.{Memory, is_to_fail, share, has_room, put_fails, told_count, next_count, clock_of, HadTold, after_call};
+
+use crate::{Host, HostFailed};
+use std::alloc::{AllocError, Global};
+use std::marker::Model;
+
+/// The bytes of the room that the record of a call takes beside those that the call told.
+const RECORD_BYTES: u64 = 64;
+
+/// A call that is kept: its number, counted from 0, and how many bytes it told.
+#[derive(Clone, Copy)]
+pub struct Call {
+    number: u64,
+    told: usize,
+}
+
+/// A host in memory, for trials: it keeps what was told, and its calls fail where it was told so. It
+/// takes all its memory when it is made.
+#[derive(Drop)]
+pub struct MemoryHost {
+    contents: Vec<u8>,
+    failing: Vec<u64>,
+    calls: u64,
+    room: u64,
+    told: Vec<u8>,
+    records: Vec<Call>,
+    clock: u64,
+    faults: u64,
+}
+
+impl Model for MemoryHost {
+    ghost use Rattle.std.specs.Prelude.{◌≤◌, ◌/◌, vec_capacity};
+    ghost use Rattle.ps_port.specs.Memory.{Memory, IsKept};
+
+    ghost Value = { Memory };
+
+    ghost use Rattle.ps_port.specs.MemoryView.{memory_of, IsKeptIn};
+
+    ghost view = { memory_of };
+
+    ghost invariant = { IsKeptIn };
+}
+
+impl MemoryHost {
+    /// A host with these contents. A call fails where its number, counted from 0, is one of `failing` or
+    /// at least `calls`, or where its record passes what is left of the room, which is a number of bytes:
+    /// 64 for a call, and those that it tells.
+    pub fn new(
+        alloc: Global,
+        bytes: &[u8],
+        failing: &[u64],
+        calls: u64,
+        room: u64,
+    ) -> Result<MemoryHost, AllocError>
+        ensures { IfOk result (λ host. host ≡ record { contents = bytes.now; failing = failing.now; calls = calls; room = room; told = []; records = []; clock = 0; faults = 0 }) }
+    {
+        Ok(MemoryHost {
+            contents: Vec::from_slice(alloc, bytes)?,
+            failing: Vec::from_slice(alloc, failing)?,
+            calls,
+            room,
+            told: Vec::with_capacity(alloc, room as usize)?,
+            records: Vec::with_capacity(alloc, (room / RECORD_BYTES) as usize)?,
+            clock: 0,
+            faults: 0,
+        })
+    }
+
+    /// The bytes that it was made with.
+    pub fn contents(&self) -> &[u8]
+        ensures { result.now ≡ self.now.contents }
+    {
+        &self.contents
+    }
+
+    /// All the bytes told.
+    pub fn told_bytes(&self) -> &[u8]
+        ensures { result.now ≡ self.now.told }
+    {
+        &self.told
+    }
+
+    /// The number of calls.
+    pub fn clock(&self) -> u64
+        ensures { result ≡ self.now.clock }
+    {
+        self.clock
+    }
+
+    fn is_to_fail(&self) -> bool
+        ensures { result ≡ is_to_fail self.now }
+    {
+        self.calls <= self.clock || self.failing.contains(&self.clock)
+    }
+
+    fn has_room(&self, count: usize) -> bool
+        ensures { result ≡ has_room self.now count }
+    {
+        let taken = RECORD_BYTES * self.records.len() as u64 + self.told.len() as u64;
+        let left = self.room - taken;
+        left >= RECORD_BYTES && left - RECORD_BYTES >= count as u64 && self.clock < u64::MAX
+    }
+}
+
+// Of so many bytes all, or the first half.
+fn share_of(fails: bool, count: usize) -> usize
+    ensures { result ≡ (if fails then count / 2 else count) }
+{
+    if fails { count / 2 } else { count }
+}
