@@ -75,3 +75,10 @@ after_call host kept bytes failed = record host {
 pub record IsKept (host : Memory) : Type 0 where
   pub all_told : (moment : ℕ) → host.clock ≤ moment → told_before moment host.records ≡ length host.told
   pub in_room : taken host ≤ host.room
+
+-- what a call leaves as it was
+pub record Same (old new : Memory) : Type 0 where
+  pub contents : new.contents ≡ old.contents
+  pub failing : new.failing ≡ old.failing
+  pub calls : new.calls ≡ old.calls
+  pub room : new.room ≡ old.room

@@ -1,6 +1,6 @@
-ghost use Rattle.std.specs.Prelude.{◌≡◌, ◌≤◌, ◌++◌, [], ◌∷◌, ◌||◌, not, length, take, if◌then◌else◌, OnOk, OnErr, IfOk, is_err};
+ghost use Rattle.std.specs.Prelude.{◌≡◌, ◌≤◌, ◌/◌, ◌++◌, [], ◌∷◌, true, false, length, take, if◌then◌else◌, OnOk, OnErr, IfOk, is_err, is_ok};
 ghost use Rattle.ps_port.specs.Told.{TellsFront, Tells, Rose};
-ghost use Rattle.ps_port.specs.Memory.{Memory, is_to_fail, share, has_room, put_fails, told_count, next_count, clock_of, HadTold, after_call};
+ghost use Rattle.ps_port.specs.Memory.{Memory, is_to_fail, share, has_room, put_fails, told_count, next_count, clock_of, HadTold, after_call, Same};
 
 use crate::{Host, HostFailed};
 use std::alloc::{AllocError, Global};
@@ -102,6 +102,78 @@ impl MemoryHost {
         let left = self.room - taken;
         left >= RECORD_BYTES && left - RECORD_BYTES >= count as u64 && self.clock < u64::MAX
     }
+
+    // Keeps the record of the next call, which tells these bytes.
+    fn keep(&mut self, bytes: &[u8], failed: bool)
+        requires { has_room self.old (length bytes.now) ≡ true }
+        ensures after { self.new ≡ after_call self.old true bytes.now failed }
+        ensures tells { Tells clock_of HadTold self.old self.new bytes.now }
+        ensures counts { self.old.faults ≤ self.new.faults }
+    {
+        let call = Call {
+            number: self.clock,
+            told: bytes.len(),
+        };
+        match self.told.extend_from_slice(bytes) {
+            Ok(()) => {}
+            Err(_) => unreachable!(),
+        }
+        match self.records.push(call) {
+            Ok(()) => {}
+            Err(_) => unreachable!(),
+        }
+        self.clock = self.clock.saturating_add(1);
+        self.faults = count_if(failed, self.faults);
+    }
+
+    // The next call tells nothing and fails, since there is no room for its record.
+    fn refuse(&mut self)
+        ensures after { self.new ≡ after_call self.old false [] true }
+        ensures tells { Tells clock_of HadTold self.old self.new [] }
+        ensures counts { self.old.faults ≤ self.new.faults }
+    {
+        self.clock = self.clock.saturating_add(1);
+        self.faults = self.faults.saturating_add(1);
+    }
+}
+
+impl Host for MemoryHost {
+    ghost clock = { clock_of };
+
+    ghost told = { HadTold };
+
+    ghost output_faults = { λ host. host.faults };
+
+    /// Where it is to fail, it tells the first half of the bytes, rounded down; where there is no room
+    /// for its record, none.
+    fn put(&mut self, from: &[u8]) -> Result<(), HostFailed>
+        ensures cut { TellsFront clock_of HadTold self.old self.new from.now }
+        ensures all { OnOk result (Tells clock_of HadTold self.old self.new from.now) }
+        ensures moves { Rose self.old.clock self.new.clock }
+        ensures counts { self.old.faults ≤ self.new.faults }
+        ensures cause { OnErr result (Rose self.old.faults self.new.faults) }
+        ensures fails { is_err result ≡ put_fails self.old (length from.now) }
+        ensures told { self.new.told ≡ self.old.told ++ take (told_count self.old (length from.now)) from.now }
+        ensures clock { self.new.clock ≡ next_count self.old.clock }
+        ensures faults { self.new.faults ≡ (if is_err result then next_count self.old.faults else self.old.faults) }
+        ensures same { Same self.old self.new }
+    {
+        let fails = self.is_to_fail();
+        let (front, _) = from.split_at(share_of(fails, from.len()));
+        if !self.has_room(front.len()) {
+            self.refuse();
+            return Err(HostFailed);
+        }
+        self.keep(front, fails);
+        if fails { Err(HostFailed) } else { Ok(()) }
+    }
+}
+
+// One more, where it is to be counted.
+fn count_if(counts: bool, count: u64) -> u64
+    ensures { result ≡ (if counts then next_count count else count) }
+{
+    if counts { count.saturating_add(1) } else { count }
 }
 
 // Of so many bytes all, or the first half.
