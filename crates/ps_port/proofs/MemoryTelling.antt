@@ -5,8 +5,8 @@ use Rattle.std.proofs.lemmas.Bool.Decides.{nat_tests}
 use Rattle.std.proofs.lemmas.List.{append-nil, take-append-le, take_all}
 use Rattle.std.proofs.lemmas.List.Sums.{fold_push, sum_by-cons}
 use Rattle.ps_port.specs.declared.memory_host.Call.{Call}
-use Rattle.ps_port.specs.Memory.{Memory, next_count, has_room, taken, told_before, told_at, clock_of, HadTold, after_call, IsKept}
-use Rattle.ps_port.specs.Told.{IsFront, Adds, AddsFront, TellsFront, Tells}
+use Rattle.ps_port.specs.Memory.{Memory, has_room, taken, told_before, told_at, clock_of, HadTold, after_call, IsKept}
+use Rattle.ps_port.specs.Told.{next_count, IsFront, Adds, AddsFront, TellsFront, Tells}
 
 -- what one call told before a moment
 abbrev part : ℕ → Call → ℕ

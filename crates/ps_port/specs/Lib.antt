@@ -2,3 +2,4 @@ pub mod Told
 pub mod Texts
 pub mod Memory
 pub mod MemoryView
+pub mod MemoryTexts

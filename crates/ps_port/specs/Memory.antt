@@ -2,6 +2,7 @@
 use Rattle.std.specs.Prelude.{◌≡◌, ℕ, ◌+◌, ◌-◌, ◌*◌, ◌/◌, ◌^◌, ◌≤◌, Bool, ◌||◌, ◌&&◌, ◌==◌, nat_le, nat_lt, not, if◌then◌else◌, min, List, [], ◌∷◌, ◌++◌, length, take, sum_by}
 use Rattle.std.specs.List.{list_any}
 use Rattle.ps_port.specs.declared.memory_host.Call.{Call}
+use Rattle.ps_port.specs.Told.{next_count}
 
 -- what a host in memory keeps
 pub record Memory : Type 0 where
@@ -18,10 +19,6 @@ pub record Memory : Type 0 where
   -- the number of calls, and of those that failed
   pub clock : ℕ
   pub faults : ℕ
-
--- the next value of a counter, which stands still at its last
-abbrev pub next_count : ℕ → ℕ
-next_count count = min (count + 1) (2 ^ 64 - 1)
 
 -- the next call is to fail: its number is one of those listed, or at least `calls`
 abbrev pub is_to_fail : Memory → Bool

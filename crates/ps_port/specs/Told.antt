@@ -1,5 +1,5 @@
 -- What a host told during a call, moment by moment.
-use Rattle.std.specs.Prelude.{◌≡◌, ◌⊎◌, ℕ, ◌^◌, ◌-◌, ◌<◌, ◌≤◌, List, ◌++◌}
+use Rattle.std.specs.Prelude.{◌≡◌, ◌⊎◌, ℕ, ◌^◌, ◌+◌, ◌-◌, min, ◌<◌, ◌≤◌, List, ◌++◌}
 
 -- these bytes are the first of the whole
 pub record IsFront (front whole : List ℕ) : Type 0 where
@@ -43,3 +43,7 @@ pub record SoFar {H : Type 0} (clock : H → ℕ) (told : H → ℕ → List ℕ
 -- a counter rose: it is greater, or it stands at the last value of a counter
 abbrev pub Rose : ℕ → ℕ → Type 0
 Rose before after = (before < after) ⊎ (after ≡ 2 ^ 64 - 1)
+
+-- the next value of a counter, which stands still at its last
+abbrev pub next_count : ℕ → ℕ
+next_count count = min (count + 1) (2 ^ 64 - 1)

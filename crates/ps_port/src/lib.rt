@@ -6,8 +6,10 @@
 
 pub mod host;
 pub mod memory_host;
+pub mod memory_shelf;
 pub mod shelf;
 
 pub use host::{Host, HostFailed};
 pub use memory_host::MemoryHost;
+pub use memory_shelf::MemoryShelf;
 pub use shelf::{LONGEST_TEXT, Shelf, ShelfFault};

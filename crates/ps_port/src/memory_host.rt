@@ -1,6 +1,6 @@
 ghost use Rattle.std.specs.Prelude.{◌≡◌, ◌≤◌, ◌/◌, ◌++◌, [], ◌∷◌, true, false, length, take, if◌then◌else◌, OnOk, OnErr, IfOk, is_err, is_ok};
-ghost use Rattle.ps_port.specs.Told.{TellsFront, Tells, Rose};
-ghost use Rattle.ps_port.specs.Memory.{Memory, is_to_fail, share, has_room, put_fails, told_count, next_count, clock_of, HadTold, after_call, Same};
+ghost use Rattle.ps_port.specs.Told.{TellsFront, Tells, Rose, next_count};
+ghost use Rattle.ps_port.specs.Memory.{Memory, is_to_fail, share, has_room, put_fails, told_count, clock_of, HadTold, after_call, Same};
 
 use crate::{Host, HostFailed};
 use std::alloc::{AllocError, Global};

@@ -1,7 +1,9 @@
 ghost use Rattle.std.specs.Prelude.{◌≡◌, ℕ, ◌≤◌, ◌↔◌, List, [], OnOk, OnErr, IfErr, IsErrOf, vec_len};
-ghost use Rattle.ps_port.specs.declared.shelf.ShelfFault.TheVariants.{Failed};
+ghost use Rattle.ps_port.specs.declared.shelf.ShelfFault.TheVariants.{Failed, Memory};
 ghost use Rattle.ps_port.specs.Told.{Rose};
 ghost use Rattle.ps_port.specs.Texts.{IsTextOf, TooLongFor};
+
+use std::alloc::AllocError;
 
 /// The most bytes of a text that a shelf gives.
 pub const LONGEST_TEXT: u64 = 1_048_576;
@@ -15,6 +17,14 @@ pub enum ShelfFault {
     TooLong { length: u64 },
     /// There was no memory for the text.
     Memory,
+}
+
+impl From<AllocError> for ShelfFault {
+    ghost from_gives = { λ _ fault. fault ≡ Memory };
+
+    fn from(_: AllocError) -> Self {
+        ShelfFault::Memory
+    }
 }
 
 /// Texts by name.
