@@ -22,7 +22,7 @@ is_lacking shelf name = is_none (text_of shelf name)
 
 -- the new shelf has this text under this name, and under each other name what the old one had
 abbrev pub Puts : MemoryShelf → MemoryShelf → List ℕ → List ℕ → Type 0
-Puts old new name bytes = (q : List ℕ) → text_of new q ≡ (if bytes_eq q name then Some bytes else text_of old q)
+Puts old new name bytes = (q : List ℕ) → text_of new q ≡ (if bytes_eq name q then Some bytes else text_of old q)
 
 abbrev pub SameTexts : MemoryShelf → MemoryShelf → Type 0
 SameTexts old new = (q : List ℕ) → text_of new q ≡ text_of old q
