@@ -4,11 +4,15 @@
 //! real system.
 #![tactic(auto)]
 
+pub mod dir_shelf;
+pub mod file_host;
 pub mod host;
 pub mod memory_host;
 pub mod memory_shelf;
 pub mod shelf;
 
+pub use dir_shelf::DirShelf;
+pub use file_host::FileHost;
 pub use host::{Host, HostFailed};
 pub use memory_host::MemoryHost;
 pub use memory_shelf::MemoryShelf;
