@@ -1,12 +1,11 @@
 -- What a call of a host in memory tells.
-use Rattle.std.proofs.Common.{◌≡◌, ℕ, ◌+◌, ◌-◌, ◌*◌, ◌^◌, ◌<◌, ◌≤◌, ◌⊎◌, ⊎_elim, inl, inr, Bool, true, false, nat_lt, List, [], ◌∷◌, ◌++◌, length, take, refl, sym, ◌∙◌, ap, subst, arith, length-append, sum_by, if◌then◌else◌}
-use Rattle.std.proofs.lemmas.Grind.{common_steps}
+use Rattle.std.proofs.Common.{◌≡◌, ℕ, ◌+◌, ◌<◌, ◌≤◌, ◌⊎◌, inl, inr, Bool, true, nat_lt, List, [], ◌∷◌, ◌++◌, length, take, refl, sym, ◌∙◌, ap, arith, length-append, if◌then◌else◌}
 use Rattle.std.proofs.lemmas.Bool.Decides.{nat_tests}
 use Rattle.std.proofs.lemmas.List.{append-nil, take-append-le, take_all}
 use Rattle.std.proofs.lemmas.List.Sums.{fold_push, sum_by-cons}
 use Rattle.ps_port.specs.declared.memory_host.Call.{Call}
-use Rattle.ps_port.specs.Memory.{Memory, has_room, taken, told_before, told_at, clock_of, HadTold, after_call, IsKept}
-use Rattle.ps_port.specs.Told.{next_count, IsFront, Adds, AddsFront, TellsFront, Tells}
+use Rattle.ps_port.specs.Memory.{Memory, has_room, told_before, told_at, clock_of, HadTold, after_call, IsKept}
+use Rattle.ps_port.specs.Told.{next_count, AddsFront, Tells}
 
 -- what one call told before a moment
 abbrev part : ℕ → Call → ℕ
@@ -39,16 +38,16 @@ all_now host is = take_all _ host.told (let all = is.all_told host.clock (omega 
 past_stays : (host : Memory) (bytes : List ℕ) (failed : Bool) (moment : ℕ) → IsKept host → moment ≤ host.clock → told_at (after_call host true bytes failed) moment ≡ told_at host moment
 past_stays host bytes failed moment is le =
     let count : told_before moment (host.records ++ record { number = host.clock; told = length bytes } ∷ []) ≡ told_before moment host.records =
-      omega (arith, before_push moment host.records (record { number = host.clock; told = length bytes }), part_past moment host.clock (length bytes) le) in
+    omega (arith, before_push moment host.records (record { number = host.clock; told = length bytes }), part_past moment host.clock (length bytes) le) in
     let within : told_before moment host.records ≤ length host.told =
-      omega (arith, before_grows moment host.clock host.records le, is.all_told host.clock (omega arith)) in
+    omega (arith, before_grows moment host.clock host.records le, is.all_told host.clock (omega arith)) in
     ap (λ (n : ℕ). take n (host.told ++ bytes)) count ∙ take-append-le _ host.told bytes within
 
 -- behind a call its bytes had been told too
 then_all : (host : Memory) (bytes : List ℕ) (failed : Bool) (moment : ℕ) → IsKept host → host.clock < moment → told_at (after_call host true bytes failed) moment ≡ host.told ++ bytes
 then_all host bytes failed moment is lt =
     take_all _ (host.told ++ bytes)
-      (omega (arith, before_push moment host.records (record { number = host.clock; told = length bytes }), part_now moment host.clock (length bytes) lt, is.all_told moment (omega arith), length-append host.told bytes))
+    (omega (arith, before_push moment host.records (record { number = host.clock; told = length bytes }), part_now moment host.clock (length bytes) lt, is.all_told moment (omega arith), length-append host.told bytes))
 
 -- the bytes told at a moment of the call
 each_moment : (host : Memory) (bytes : List ℕ) (failed : Bool) (moment : ℕ) (told : List ℕ) → IsKept host → HadTold (after_call host true bytes failed) moment told → (moment ≤ host.clock) ⊎ (host.clock < moment) → host.clock ≤ moment → AddsFront (HadTold host host.clock) bytes told

@@ -1,5 +1,5 @@
 -- How the fields of a `MemoryHost` are seen.
-use Rattle.std.specs.Prelude.{ℕ, ◌/◌, ◌≤◌, vec_capacity}
+use Rattle.std.specs.Prelude.{◌/◌, ◌≤◌, vec_capacity}
 use Rattle.ps_port.specs.Memory.{Memory, IsKept}
 use Rattle.ps_port.specs.declared.memory_host.MemoryHost.TheInside.{Inside}
 

@@ -90,7 +90,7 @@ fn read_file<R: Files>(
 
 // What a file gives, to its end. The bytes are kept while they are no more than a text may have; all
 // of them are counted.
-fn read_text<F: Read>(
+pub(crate) fn read_text<F: Read>(
     file: &mut F,
     buffer: &mut [u8],
     into: &mut Vec<u8>,
@@ -105,7 +105,11 @@ fn read_text<F: Read>(
             return Err(ShelfFault::Failed);
         };
         if count == 0 {
-            return if length <= LONGEST_TEXT { Ok(()) } else { Err(ShelfFault::TooLong { length }) };
+            return if length <= LONGEST_TEXT {
+                Ok(())
+            } else {
+                Err(ShelfFault::TooLong { length })
+            };
         }
         length += count as u64;
         if length > MOST_COUNTED {

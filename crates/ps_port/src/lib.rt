@@ -17,3 +17,6 @@ pub use host::{Host, HostFailed};
 pub use memory_host::MemoryHost;
 pub use memory_shelf::MemoryShelf;
 pub use shelf::{LONGEST_TEXT, Shelf, ShelfFault};
+
+#[cfg(test)]
+mod tests;

@@ -173,7 +173,11 @@ impl Host for MemoryHost {
 fn count_if(counts: bool, count: u64) -> u64
     ensures { result ≡ (if counts then next_count count else count) }
 {
-    if counts { count.saturating_add(1) } else { count }
+    if counts {
+        count.saturating_add(1)
+    } else {
+        count
+    }
 }
 
 // Of so many bytes all, or the first half.

@@ -1,4 +1,4 @@
-use Rattle.std.proofs.Common.{◌≡◌, List, ℕ, ◌++◌, take, drop, ap, subst, sym, ◌∙◌}
+use Rattle.std.proofs.Common.{◌≡◌, List, ℕ, ◌++◌, subst}
 use Rattle.std.proofs.lemmas.List.{take-append-drop}
 use Rattle.ps_port.specs.Told.{TellsFront}
 use Rattle.ps_port.specs.Memory.{clock_of, HadTold}

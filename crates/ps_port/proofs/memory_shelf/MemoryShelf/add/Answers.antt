@@ -15,6 +15,6 @@ chosen false text old = refl
 pub returns-clause-ok : goal.returns-clause-ok
 returns-clause-ok c = λ q.
     ap (λ (found : Option (Vec ℕ Global)). option_map (λ t. t.items) found) (btree_map_updates_text (string_bytes c.in_ok-key.key) c.args.self.now.texts c.insert.new.self (Some c.in_ok-text.text) c.in_ok-insert.ensures.updates q)
-      ∙ chosen (bytes_eq (string_bytes c.in_ok-key.key) q) c.in_ok-text.text _
-      ∙ ap (λ (name : List ℕ). if bytes_eq name q then Some c.in_ok-text.text.items else text_of c.args.self.now q) c.in_ok-key.ensures.ok
-      ∙ ap (λ (bytes : List ℕ). if bytes_eq c.args.name.now q then Some bytes else text_of c.args.self.now q) c.in_ok-text.ensures.items
+    ∙ chosen (bytes_eq (string_bytes c.in_ok-key.key) q) c.in_ok-text.text _
+    ∙ ap (λ (name : List ℕ). if bytes_eq name q then Some c.in_ok-text.text.items else text_of c.args.self.now q) c.in_ok-key.ensures.ok
+    ∙ ap (λ (bytes : List ℕ). if bytes_eq c.args.name.now q then Some bytes else text_of c.args.self.now q) c.in_ok-text.ensures.items

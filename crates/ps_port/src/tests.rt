@@ -1,0 +1,256 @@
+ghost use Rattle.std.specs.Prelude.{◌≤◌, IfOk};
+
+use crate::dir_shelf::read_text;
+use crate::file_host::write_whole;
+use crate::{
+    DirShelf, FileHost, Host, HostFailed, LONGEST_TEXT, MemoryHost, MemoryShelf, Shelf, ShelfFault,
+};
+use std::cell::Cell;
+use std::fmt::Display;
+use std::io::{self, ErrorKind, Read};
+use std::test::Fail;
+use std::{env, fs};
+
+// What a call of a made-up system does.
+#[derive(Clone, Copy)]
+enum Step {
+    Moves(usize),
+    Interrupted,
+    Fails,
+}
+
+// An output and a file whose calls do one step each, and fail behind the last.
+#[derive(Drop)]
+struct Script<'a> {
+    steps: &'a [Step],
+    calls: Cell<usize>,
+    moved: Cell<usize>,
+}
+
+impl<'a> Script<'a> {
+    fn new(steps: &'a [Step]) -> Self {
+        Script {
+            steps,
+            calls: Cell::new(0),
+            moved: Cell::new(0),
+        }
+    }
+
+    fn call(&self, most: usize) -> io::Result<usize>
+        ensures { IfOk result (λ count. count ≤ most) }
+    {
+        let call = self.calls.get();
+        self.calls.set(call.saturating_add(1));
+        match self.steps.get(call) {
+            Some(Step::Moves(count)) => {
+                let count = *count.min(&most);
+                self.moved.set(self.moved.get().saturating_add(count));
+                Ok(count)
+            }
+            Some(Step::Interrupted) => Err(io::Error::from(ErrorKind::Interrupted)),
+            _ => Err(io::Error::from(ErrorKind::Other)),
+        }
+    }
+}
+
+impl Print for Script<'_> {
+    fn print<D: Display + Drop>(&self, _value: D) -> io::Result<()> {
+        Err(io::Error::from(ErrorKind::Unsupported))
+    }
+
+    fn println<D: Display + Drop>(&self, _value: D) -> io::Result<()> {
+        Err(io::Error::from(ErrorKind::Unsupported))
+    }
+
+    fn write_all(&self, _bytes: &[u8]) -> io::Result<()> {
+        Err(io::Error::from(ErrorKind::Unsupported))
+    }
+
+    fn write_some(&self, bytes: &[u8]) -> io::Result<usize> {
+        self.call(bytes.len())
+    }
+}
+
+impl Read for Script<'_> {
+    fn read(&mut self, buf: &mut [u8]) -> io::Result<usize> {
+        self.call(buf.len())
+    }
+}
+
+// A file of so many bytes.
+#[derive(Drop)]
+struct Zeros(u64);
+
+impl Read for Zeros {
+    fn read(&mut self, buf: &mut [u8]) -> io::Result<usize> {
+        let count = self.0.min(buf.len() as u64);
+        self.0 -= count;
+        Ok(count as usize)
+    }
+}
+
+#[test]
+fn calls_of_a_memory_host(rt: HostRuntime) -> Result<(), Fail> {
+    let alloc = rt.alloc();
+    // Call 1 is listed, and 4 is the first of those that fail from a number on.
+    let mut host = MemoryHost::new(alloc, b"disk", &[1, 9], 4, 4096)?;
+    assert_eq!(rt; host.put(b"first "), Ok(()));
+    assert_eq!(rt; host.put(b"hello"), Err(HostFailed));
+    assert_eq!(rt; host.told_bytes(), b"first he".as_slice());
+    assert_eq!(rt; host.put(b""), Ok(()));
+    assert_eq!(rt; host.put(b"r"), Ok(()));
+    assert_eq!(rt; host.put(b"x"), Err(HostFailed));
+    assert_eq!(rt; host.told_bytes(), b"first her".as_slice());
+    assert_eq!(rt; host.clock(), 5);
+    assert_eq!(rt; host.contents(), b"disk".as_slice());
+    Ok(())
+}
+
+#[test]
+fn the_room_of_a_memory_host(rt: HostRuntime) -> Result<(), Fail> {
+    let alloc = rt.alloc();
+    // A call of 5 bytes and one of 1 byte fill the room; one of 2 bytes between them has none.
+    let mut host = MemoryHost::new(alloc, b"", &[], 100, 69 + 65)?;
+    assert_eq!(rt; host.put(b"hello"), Ok(()));
+    assert_eq!(rt; host.put(b"ab"), Err(HostFailed));
+    assert_eq!(rt; host.told_bytes(), b"hello".as_slice());
+    assert_eq!(rt; host.put(b"c"), Ok(()));
+    assert_eq!(rt; host.put(b""), Err(HostFailed));
+    assert_eq!(rt; host.told_bytes(), b"helloc".as_slice());
+    assert_eq!(rt; host.clock(), 4);
+    assert!(rt; MemoryHost::new(alloc, b"", &[], 100, u64::MAX).is_err());
+    Ok(())
+}
+
+#[test]
+fn texts_of_a_memory_shelf(rt: HostRuntime) -> Result<(), Fail> {
+    let alloc = rt.alloc();
+    let mut shelf = MemoryShelf::new(alloc);
+    let longest = vec![in alloc; b'x'; 1_048_576]?;
+    let longer = vec![in alloc; b'x'; 1_048_577]?;
+    shelf.add("a.ps", b"write 1")?;
+    shelf.add("", b"no name")?;
+    shelf.add("long", longest.as_slice())?;
+    shelf.add("longer", longer.as_slice())?;
+    shelf.add("a.ps", b"write 2")?;
+    let mut text = b"before".to_vec(alloc)?;
+    assert_eq!(rt; shelf.text("a.ps", &mut text), Ok(()));
+    assert_eq!(rt; text.as_slice(), b"write 2".as_slice());
+    assert_eq!(rt; shelf.text("", &mut text), Ok(()));
+    assert_eq!(rt; text.as_slice(), b"no name".as_slice());
+    assert_eq!(rt; shelf.text("b.ps", &mut text), Err(ShelfFault::Failed));
+    assert_eq!(rt; text.len(), 0);
+    assert_eq!(rt; shelf.text("long", &mut text), Ok(()));
+    assert_eq!(rt; text.len(), 1_048_576);
+    assert_eq!(rt;
+        shelf.text("longer", &mut text),
+        Err(ShelfFault::TooLong { length: 1_048_577 })
+    );
+    assert_eq!(rt; text.len(), 0);
+    Ok(())
+}
+
+#[test]
+fn writes_of_a_file_host(rt: HostRuntime) -> Result<(), Fail> {
+    let mut host = FileHost::new(rt.alloc(), &rt, "v.vol", false)?;
+    assert_eq!(rt; host.put(b"told\n"), Ok(()));
+    assert_eq!(rt; host.put(b""), Ok(()));
+    // What the calls do, whether all of five bytes were written, and how many the output took.
+    let rows: [(&[Step], bool, usize); 6] = [
+        (&[Step::Moves(5)], true, 5),
+        (&[Step::Moves(2), Step::Moves(1), Step::Moves(9)], true, 5),
+        (
+            &[
+                Step::Interrupted,
+                Step::Moves(4),
+                Step::Interrupted,
+                Step::Moves(1),
+            ],
+            true,
+            5,
+        ),
+        (&[Step::Moves(2), Step::Moves(0), Step::Moves(3)], false, 2),
+        (&[Step::Moves(2), Step::Fails, Step::Moves(3)], false, 2),
+        (&[Step::Fails], false, 0),
+    ];
+    for (steps, whole, taken) in rows {
+        let output = Script::new(steps);
+        assert_eq!(rt; write_whole(&output, b"hello"), whole);
+        assert_eq!(rt; output.moved.get(), taken);
+    }
+    Ok(())
+}
+
+#[test]
+fn reads_of_a_dir_shelf(rt: HostRuntime) -> Result<(), Fail> {
+    let alloc = rt.alloc();
+    let mut text = b"before".to_vec(alloc)?;
+    // What the reads do, and the answer with the length of the text.
+    let rows: [(&[Step], Result<(), ShelfFault>, usize); 4] = [
+        (&[Step::Moves(0)], Ok(()), 0),
+        (
+            &[
+                Step::Moves(3),
+                Step::Interrupted,
+                Step::Moves(4),
+                Step::Moves(0),
+            ],
+            Ok(()),
+            7,
+        ),
+        (&[Step::Moves(3), Step::Fails], Err(ShelfFault::Failed), 3),
+        (&[Step::Fails], Err(ShelfFault::Failed), 0),
+    ];
+    let mut buffer = [0u8; 16];
+    for (steps, answer, length) in rows {
+        text.clear();
+        let mut file = Script::new(steps);
+        assert_eq!(rt; read_text(&mut file, &mut buffer, &mut text), answer);
+        assert_eq!(rt; text.len(), length);
+    }
+    // The most bytes that are counted, and one more.
+    let counted = Err(ShelfFault::TooLong {
+        length: 4_294_967_296,
+    });
+    let mut large = vec![in alloc; 0; 1_048_576]?;
+    for (length, answer) in [
+        (4_294_967_296, counted),
+        (4_294_967_297, Err(ShelfFault::Failed)),
+    ] {
+        text.clear();
+        assert_eq!(rt;
+            read_text(&mut Zeros(length), &mut large, &mut text),
+            answer
+        );
+    }
+    let folder = env::temp_dir(&rt)?.into_string();
+    let folder = format!(in alloc; "{folder}/ps_port_reads_of_a_dir_shelf")?;
+    let _ = fs::remove_dir_all(&rt, folder.as_str());
+    fs::create_dir(&rt, folder.as_str())?;
+    let mut shelf = DirShelf::new(alloc, &rt)?;
+    assert_eq!(rt;
+        shelf.text(folder.as_str(), &mut text),
+        Err(ShelfFault::Failed)
+    );
+    assert_eq!(rt; text.len(), 0);
+    let path = format!(in alloc; "{folder}/a.ps")?;
+    assert_eq!(rt;
+        shelf.text(path.as_str(), &mut text),
+        Err(ShelfFault::Failed)
+    );
+    let too_long = Err(ShelfFault::TooLong { length: 1_048_577 });
+    let rows = [
+        (0, Ok(())),
+        (100_000, Ok(())),
+        (1_048_576, Ok(())),
+        (1_048_577, too_long),
+    ];
+    for (length, answer) in rows {
+        let bytes = vec![in alloc; b'x'; length]?;
+        fs::write(&rt, path.as_str(), bytes.as_slice())?;
+        assert_eq!(rt; shelf.text(path.as_str(), &mut text), answer);
+        assert_eq!(rt; text.len(), if answer.is_ok() { length } else { 0 });
+    }
+    fs::remove_dir_all(&rt, folder.as_str())?;
+    Ok(())
+}
