@@ -1,4 +1,4 @@
-ghost use Rattle.std.specs.Prelude.{◌≡◌, ℕ, ◌<◌, ◌≤◌, length, IfSome, IfOk};
+ghost use Rattle.std.specs.Prelude.{◌≡◌, ℕ, ◌<◌, ◌≤◌, length, string_bytes, IfSome, IfOk};
 
 use crate::{Host, HostFailed};
 use std::alloc::{AllocError, Global};
@@ -20,7 +20,10 @@ impl<R: Files + Print + Clone + Drop> FileHost<R> {
     /// A host over the file of this path, which isn't opened yet. Where it isn't there it is to be made
     /// if `create` says so.
     pub fn new(alloc: Global, rt: &R, path: &str, create: bool) -> Result<FileHost<R>, AllocError>
-        ensures { IfOk result (λ host. host.output_faults ≡ 0) }
+        ensures path { IfOk result (λ host. string_bytes host.path ≡ path.now) }
+        ensures create { IfOk result (λ host. host.create ≡ create) }
+        ensures clock { IfOk result (λ host. host.clock ≡ 0) }
+        ensures faults { IfOk result (λ host. host.output_faults ≡ 0) }
     {
         Ok(FileHost {
             rt: rt.clone()?,

@@ -155,6 +155,11 @@ fn writes_of_a_file_host(rt: HostRuntime) -> Result<(), Fail> {
     let mut host = FileHost::new(rt.alloc(), &rt, "v.vol", false)?;
     assert_eq!(rt; host.put(b"told\n"), Ok(()));
     assert_eq!(rt; host.put(b""), Ok(()));
+    Ok(())
+}
+
+#[test]
+fn writes_in_pieces(rt: HostRuntime) {
     // What the calls do, whether all of five bytes were written, and how many the output took.
     let rows: [(&[Step], bool, usize); 6] = [
         (&[Step::Moves(5)], true, 5),
@@ -178,14 +183,13 @@ fn writes_of_a_file_host(rt: HostRuntime) -> Result<(), Fail> {
         assert_eq!(rt; write_whole(&output, b"hello"), whole);
         assert_eq!(rt; output.moved.get(), taken);
     }
-    Ok(())
 }
 
 #[test]
-fn reads_of_a_dir_shelf(rt: HostRuntime) -> Result<(), Fail> {
-    let alloc = rt.alloc();
-    let mut text = b"before".to_vec(alloc)?;
-    // What the reads do, and the answer with the length of the text.
+fn reads_in_pieces(rt: HostRuntime) -> Result<(), Fail> {
+    let mut text = b"before".to_vec(rt.alloc())?;
+    let mut buffer = [0u8; 16];
+    // What the reads do, and the answer with the length of what was kept.
     let rows: [(&[Step], Result<(), ShelfFault>, usize); 4] = [
         (&[Step::Moves(0)], Ok(()), 0),
         (
@@ -201,55 +205,73 @@ fn reads_of_a_dir_shelf(rt: HostRuntime) -> Result<(), Fail> {
         (&[Step::Moves(3), Step::Fails], Err(ShelfFault::Failed), 3),
         (&[Step::Fails], Err(ShelfFault::Failed), 0),
     ];
-    let mut buffer = [0u8; 16];
     for (steps, answer, length) in rows {
         text.clear();
         let mut file = Script::new(steps);
         assert_eq!(rt; read_text(&mut file, &mut buffer, &mut text), answer);
         assert_eq!(rt; text.len(), length);
     }
-    // The most bytes that are counted, and one more.
-    let counted = Err(ShelfFault::TooLong {
-        length: 4_294_967_296,
-    });
-    let mut large = vec![in alloc; 0; 1_048_576]?;
-    for (length, answer) in [
-        (4_294_967_296, counted),
+    Ok(())
+}
+
+#[test]
+fn reads_of_the_longest_files(rt: HostRuntime) -> Result<(), Fail> {
+    let mut text = Vec::new(rt.alloc());
+    let mut buffer = vec![in rt.alloc(); 0; 1_048_576]?;
+    let too_long = |length| Err(ShelfFault::TooLong { length });
+    let rows = [
+        (1_048_576, Ok(())),
+        (1_048_577, too_long(1_048_577)),
+        (4_294_967_296, too_long(4_294_967_296)),
         (4_294_967_297, Err(ShelfFault::Failed)),
-    ] {
+    ];
+    for (length, answer) in rows {
         text.clear();
         assert_eq!(rt;
-            read_text(&mut Zeros(length), &mut large, &mut text),
+            read_text(&mut Zeros(length), &mut buffer, &mut text),
             answer
         );
     }
+    Ok(())
+}
+
+// The answer for a file of so many bytes, and the length of the text that it gave.
+fn read_back(
+    rt: &HostRuntime,
+    shelf: &mut DirShelf<HostRuntime>,
+    path: &str,
+    length: usize,
+) -> Result<(Result<(), ShelfFault>, usize), Fail> {
+    let bytes = vec![in rt.alloc(); b'x'; length]?;
+    fs::write(rt, path, bytes.as_slice())?;
+    let mut text = b"before".to_vec(rt.alloc())?;
+    let answer = shelf.text(path, &mut text);
+    Ok((answer, text.len()))
+}
+
+#[test]
+fn files_of_a_dir_shelf(rt: HostRuntime) -> Result<(), Fail> {
+    let alloc = rt.alloc();
     let folder = env::temp_dir(&rt)?.into_string();
-    let folder = format!(in alloc; "{folder}/ps_port_reads_of_a_dir_shelf")?;
+    let folder = format!(in alloc; "{folder}/ps_port_files_of_a_dir_shelf")?;
+    let path = format!(in alloc; "{folder}/a.ps")?;
     let _ = fs::remove_dir_all(&rt, folder.as_str());
     fs::create_dir(&rt, folder.as_str())?;
     let mut shelf = DirShelf::new(alloc, &rt)?;
-    assert_eq!(rt;
-        shelf.text(folder.as_str(), &mut text),
-        Err(ShelfFault::Failed)
-    );
-    assert_eq!(rt; text.len(), 0);
-    let path = format!(in alloc; "{folder}/a.ps")?;
-    assert_eq!(rt;
-        shelf.text(path.as_str(), &mut text),
-        Err(ShelfFault::Failed)
-    );
+    let mut text = b"before".to_vec(alloc)?;
+    for name in [folder.as_str(), path.as_str()] {
+        assert_eq!(rt; shelf.text(name, &mut text), Err(ShelfFault::Failed));
+        assert_eq!(rt; text.len(), 0);
+    }
     let too_long = Err(ShelfFault::TooLong { length: 1_048_577 });
     let rows = [
-        (0, Ok(())),
-        (100_000, Ok(())),
-        (1_048_576, Ok(())),
-        (1_048_577, too_long),
+        (0, (Ok(()), 0)),
+        (100_000, (Ok(()), 100_000)),
+        (1_048_576, (Ok(()), 1_048_576)),
+        (1_048_577, (too_long, 0)),
     ];
     for (length, answer) in rows {
-        let bytes = vec![in alloc; b'x'; length]?;
-        fs::write(&rt, path.as_str(), bytes.as_slice())?;
-        assert_eq!(rt; shelf.text(path.as_str(), &mut text), answer);
-        assert_eq!(rt; text.len(), if answer.is_ok() { length } else { 0 });
+        assert_eq!(rt; read_back(&rt, &mut shelf, path.as_str(), length)?, answer);
     }
     fs::remove_dir_all(&rt, folder.as_str())?;
     Ok(())
