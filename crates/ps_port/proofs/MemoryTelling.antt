@@ -34,6 +34,9 @@ part_now moment number told lt = grind (arith, nat_tests)
 all_now : (host : Memory) → IsKept host → told_at host host.clock ≡ host.told
 all_now host is = take_all _ host.told (let all = is.all_told host.clock (omega arith) in omega arith)
 
+pub told_now : (host : Memory) (told : List ℕ) → IsKept host → told ≡ host.told → HadTold host host.clock told
+told_now host told is all = all ∙ sym (all_now host is)
+
 -- a call leaves what had been told at the moments of the past
 past_stays : (host : Memory) (bytes : List ℕ) (failed : Bool) (moment : ℕ) → IsKept host → moment ≤ host.clock → told_at (after_call host true bytes failed) moment ≡ told_at host moment
 past_stays host bytes failed moment is le =

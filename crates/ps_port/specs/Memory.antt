@@ -2,7 +2,7 @@
 use Rattle.std.specs.Prelude.{◌≡◌, ℕ, ◌+◌, ◌-◌, ◌*◌, ◌/◌, ◌^◌, ◌≤◌, Bool, ◌||◌, ◌&&◌, ◌==◌, nat_le, nat_lt, not, if◌then◌else◌, List, [], ◌∷◌, ◌++◌, length, take, sum_by}
 use Rattle.std.specs.List.{list_any}
 use Rattle.ps_port.specs.declared.memory_host.Call.{Call}
-use Rattle.ps_port.specs.Told.{next_count}
+use Rattle.ps_port.specs.Told.{next_count, counted}
 
 -- what a host in memory keeps
 pub record Memory : Type 0 where
@@ -19,6 +19,19 @@ pub record Memory : Type 0 where
   -- the number of calls, and of those that failed
   pub clock : ℕ
   pub faults : ℕ
+
+-- a host that is made with these, and has had no call
+abbrev pub fresh : List ℕ → List ℕ → ℕ → ℕ → Memory
+fresh contents failing calls room = record {
+  contents = contents;
+  failing = failing;
+  calls = calls;
+  room = room;
+  told = [];
+  records = [];
+  clock = 0;
+  faults = 0;
+}
 
 -- the next call is to fail: its number is one of those listed, or at least `calls`
 abbrev pub is_to_fail : Memory → Bool
@@ -65,7 +78,7 @@ after_call host kept bytes failed = record host {
   told = if kept then host.told ++ bytes else host.told;
   records = if kept then host.records ++ record { number = host.clock; told = length bytes } ∷ [] else host.records;
   clock = next_count host.clock;
-  faults = if failed then next_count host.faults else host.faults;
+  faults = counted failed host.faults;
 }
 
 -- the calls before any moment that has not come yet told all the bytes told, and their records take no more than the room

@@ -1,5 +1,5 @@
 -- What a host told during a call, moment by moment.
-use Rattle.std.specs.Prelude.{◌≡◌, ◌⊎◌, ℕ, ◌^◌, ◌+◌, ◌-◌, min, ◌<◌, ◌≤◌, List, ◌++◌}
+use Rattle.std.specs.Prelude.{◌≡◌, ◌⊎◌, ℕ, Bool, if◌then◌else◌, ◌^◌, ◌+◌, ◌-◌, min, ◌<◌, ◌≤◌, List, ◌++◌}
 
 -- these bytes are the first of the whole
 pub record IsFront (front whole : List ℕ) : Type 0 where
@@ -47,3 +47,7 @@ Rose before after = (before < after) ⊎ (after ≡ 2 ^ 64 - 1)
 -- the next value of a counter, which stands still at its last
 abbrev pub next_count : ℕ → ℕ
 next_count count = min (count + 1) (2 ^ 64 - 1)
+
+-- a counter behind something that it counts where the test holds
+abbrev pub counted : Bool → ℕ → ℕ
+counted counts count = if counts then next_count count else count

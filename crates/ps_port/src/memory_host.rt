@@ -1,6 +1,6 @@
-ghost use Rattle.std.specs.Prelude.{◌≡◌, ◌≤◌, ◌/◌, ◌++◌, [], ◌∷◌, true, false, length, take, if◌then◌else◌, OnOk, OnErr, IfOk, is_err, is_ok};
-ghost use Rattle.ps_port.specs.Told.{TellsFront, Tells, Rose, next_count};
-ghost use Rattle.ps_port.specs.Memory.{Memory, is_to_fail, share, has_room, put_fails, told_count, clock_of, HadTold, after_call, Same};
+ghost use Rattle.std.specs.Prelude.{◌≡◌, ◌≤◌, ◌/◌, ◌++◌, [], ◌∷◌, true, false, length, take, if◌then◌else◌, OnOk, OnErr, IfOk, is_err};
+ghost use Rattle.ps_port.specs.Told.{TellsFront, Tells, Rose, next_count, counted};
+ghost use Rattle.ps_port.specs.Memory.{fresh, is_to_fail, has_room, put_fails, told_count, clock_of, HadTold, after_call, Same};
 
 use crate::{Host, HostFailed};
 use std::alloc::{AllocError, Global};
@@ -54,7 +54,7 @@ impl MemoryHost {
         calls: u64,
         room: u64,
     ) -> Result<MemoryHost, AllocError>
-        ensures { IfOk result (λ host. host ≡ record { contents = bytes.now; failing = failing.now; calls = calls; room = room; told = []; records = []; clock = 0; faults = 0 }) }
+        ensures { IfOk result (λ host. host ≡ fresh bytes.now failing.now calls room) }
     {
         Ok(MemoryHost {
             contents: Vec::from_slice(alloc, bytes)?,
@@ -75,9 +75,11 @@ impl MemoryHost {
         &self.contents
     }
 
-    /// All the bytes told.
+    /// All the bytes told: those that had been told at the present moment.
+    #[tactic(auto, using(crate::proofs::MemoryTelling::told_now))]
     pub fn told_bytes(&self) -> &[u8]
-        ensures { result.now ≡ self.now.told }
+        ensures told { result.now ≡ self.now.told }
+        ensures moment { HadTold self.now self.now.clock result.now }
     {
         &self.told
     }
@@ -155,7 +157,7 @@ impl Host for MemoryHost {
         ensures fails { is_err result ≡ put_fails self.old (length from.now) }
         ensures told { self.new.told ≡ self.old.told ++ take (told_count self.old (length from.now)) from.now }
         ensures clock { self.new.clock ≡ next_count self.old.clock }
-        ensures faults { self.new.faults ≡ (if is_err result then next_count self.old.faults else self.old.faults) }
+        ensures faults { self.new.faults ≡ counted (is_err result) self.old.faults }
         ensures same { Same self.old self.new }
     {
         let fails = self.is_to_fail();
@@ -171,7 +173,7 @@ impl Host for MemoryHost {
 
 // One more, where it is to be counted.
 fn count_if(counts: bool, count: u64) -> u64
-    ensures { result ≡ (if counts then next_count count else count) }
+    ensures { result ≡ counted counts count }
 {
     if counts {
         count.saturating_add(1)

@@ -1,6 +1,6 @@
-ghost use Rattle.std.specs.Prelude.{◌≡◌, ℕ, ◌≤◌, ◌↔◌, List, [], None, if◌then◌else◌, OnOk, OnErr, IfErr, IsErrOf, vec_len};
+ghost use Rattle.std.specs.Prelude.{◌≡◌, ℕ, ◌≤◌, ◌↔◌, List, [], None, OnOk, OnErr, IfErr, IsErrOf, vec_len};
 ghost use Rattle.ps_port.specs.declared.shelf.ShelfFault.TheVariants.{Failed};
-ghost use Rattle.ps_port.specs.Told.{Rose, next_count};
+ghost use Rattle.ps_port.specs.Told.{Rose, counted};
 ghost use Rattle.ps_port.specs.Texts.{IsTextOf, TooLongFor};
 
 use crate::shelf::LONGEST_TEXT;
@@ -65,7 +65,7 @@ impl Shelf for MemoryShelf {
         ensures holds_on { (q t : List ℕ) → HoldsText self.new q t ↔ HoldsText self.old q t }
         ensures lacks_on { (q : List ℕ) → LacksText self.new q ↔ LacksText self.old q }
         ensures held { IsErrOf result Failed → LacksText self.old name.now }
-        ensures counted { self.new.faults ≡ (if is_lacking self.old name.now then next_count self.old.faults else self.old.faults) }
+        ensures counted { self.new.faults ≡ counted (is_lacking self.old name.now) self.old.faults }
     {
         into.clear();
         let Some(text) = self.texts.get(name) else {
