@@ -16,7 +16,7 @@ pub struct Call {
     told: usize,
 }
 
-/// A host in memory, for trials: it keeps what was told, and its calls fail where it was told so. It
+/// A host in memory, for tests: it keeps what was told, and its calls fail where it was told to. It
 /// takes all its memory when it is made.
 #[derive(Drop)]
 pub struct MemoryHost {

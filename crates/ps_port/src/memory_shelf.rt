@@ -8,7 +8,7 @@ use crate::{Shelf, ShelfFault};
 use std::alloc::{AllocError, Global};
 use std::collections::BTreeMap;
 
-/// A shelf in memory, for trials: the texts that were added to it.
+/// A shelf in memory, for tests: the texts that were added to it.
 #[derive(Drop)]
 pub struct MemoryShelf {
     alloc: Global,

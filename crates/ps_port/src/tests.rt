@@ -8,6 +8,7 @@ use crate::{
 use std::cell::Cell;
 use std::fmt::Display;
 use std::io::{self, ErrorKind, Read};
+use std::process::Abort;
 use std::test::Fail;
 use std::{env, fs};
 
@@ -89,36 +90,45 @@ impl Read for Zeros {
     }
 }
 
+// What is put, the answer, and all the bytes told then.
+type Put<'a> = (&'a [u8], Result<(), HostFailed>, &'a [u8]);
+
+fn assert_puts(rt: &impl Abort, host: &mut MemoryHost, rows: &[Put<'_>]) {
+    for (from, answer, told) in rows {
+        assert_eq!(rt; host.put(from), *answer);
+        assert_eq!(rt; host.told_bytes(), *told);
+    }
+    assert_eq!(rt; host.clock(), rows.len() as u64);
+}
+
 #[test]
 fn calls_of_a_memory_host(rt: HostRuntime) -> Result<(), Fail> {
-    let alloc = rt.alloc();
     // Call 1 is listed, and 4 is the first of those that fail from a number on.
-    let mut host = MemoryHost::new(alloc, b"disk", &[1, 9], 4, 4096)?;
-    assert_eq!(rt; host.put(b"first "), Ok(()));
-    assert_eq!(rt; host.put(b"hello"), Err(HostFailed));
-    assert_eq!(rt; host.told_bytes(), b"first he".as_slice());
-    assert_eq!(rt; host.put(b""), Ok(()));
-    assert_eq!(rt; host.put(b"r"), Ok(()));
-    assert_eq!(rt; host.put(b"x"), Err(HostFailed));
-    assert_eq!(rt; host.told_bytes(), b"first her".as_slice());
-    assert_eq!(rt; host.clock(), 5);
+    let mut host = MemoryHost::new(rt.alloc(), b"disk", &[1, 9], 4, 4096)?;
+    let rows: [Put<'_>; 5] = [
+        (b"first ", Ok(()), b"first "),
+        (b"hello", Err(HostFailed), b"first he"),
+        (b"", Ok(()), b"first he"),
+        (b"r", Ok(()), b"first her"),
+        (b"x", Err(HostFailed), b"first her"),
+    ];
+    assert_puts(&rt, &mut host, &rows);
     assert_eq!(rt; host.contents(), b"disk".as_slice());
     Ok(())
 }
 
 #[test]
 fn the_room_of_a_memory_host(rt: HostRuntime) -> Result<(), Fail> {
-    let alloc = rt.alloc();
     // A call of 5 bytes and one of 1 byte fill the room; one of 2 bytes between them has none.
-    let mut host = MemoryHost::new(alloc, b"", &[], 100, 69 + 65)?;
-    assert_eq!(rt; host.put(b"hello"), Ok(()));
-    assert_eq!(rt; host.put(b"ab"), Err(HostFailed));
-    assert_eq!(rt; host.told_bytes(), b"hello".as_slice());
-    assert_eq!(rt; host.put(b"c"), Ok(()));
-    assert_eq!(rt; host.put(b""), Err(HostFailed));
-    assert_eq!(rt; host.told_bytes(), b"helloc".as_slice());
-    assert_eq!(rt; host.clock(), 4);
-    assert!(rt; MemoryHost::new(alloc, b"", &[], 100, u64::MAX).is_err());
+    let mut host = MemoryHost::new(rt.alloc(), b"", &[], 100, 69 + 65)?;
+    let rows: [Put<'_>; 4] = [
+        (b"hello", Ok(()), b"hello"),
+        (b"ab", Err(HostFailed), b"hello"),
+        (b"c", Ok(()), b"helloc"),
+        (b"", Err(HostFailed), b"helloc"),
+    ];
+    assert_puts(&rt, &mut host, &rows);
+    assert!(rt; MemoryHost::new(rt.alloc(), b"", &[], 100, u64::MAX).is_err());
     Ok(())
 }
 
@@ -128,25 +138,29 @@ fn texts_of_a_memory_shelf(rt: HostRuntime) -> Result<(), Fail> {
     let mut shelf = MemoryShelf::new(alloc);
     let longest = vec![in alloc; b'x'; 1_048_576]?;
     let longer = vec![in alloc; b'x'; 1_048_577]?;
-    shelf.add("a.ps", b"write 1")?;
-    shelf.add("", b"no name")?;
-    shelf.add("long", longest.as_slice())?;
-    shelf.add("longer", longer.as_slice())?;
-    shelf.add("a.ps", b"write 2")?;
+    let texts: [(&str, &[u8]); 5] = [
+        ("a.ps", b"write 1"),
+        ("", b"no name"),
+        ("long", longest.as_slice()),
+        ("longer", longer.as_slice()),
+        ("a.ps", b"write 2"),
+    ];
+    for (name, bytes) in texts {
+        shelf.add(name, bytes)?;
+    }
     let mut text = b"before".to_vec(alloc)?;
-    assert_eq!(rt; shelf.text("a.ps", &mut text), Ok(()));
-    assert_eq!(rt; text.as_slice(), b"write 2".as_slice());
-    assert_eq!(rt; shelf.text("", &mut text), Ok(()));
-    assert_eq!(rt; text.as_slice(), b"no name".as_slice());
-    assert_eq!(rt; shelf.text("b.ps", &mut text), Err(ShelfFault::Failed));
-    assert_eq!(rt; text.len(), 0);
-    assert_eq!(rt; shelf.text("long", &mut text), Ok(()));
-    assert_eq!(rt; text.len(), 1_048_576);
-    assert_eq!(rt;
-        shelf.text("longer", &mut text),
-        Err(ShelfFault::TooLong { length: 1_048_577 })
-    );
-    assert_eq!(rt; text.len(), 0);
+    let too_long = Err(ShelfFault::TooLong { length: 1_048_577 });
+    let rows: [(&str, Result<(), ShelfFault>, &[u8]); 5] = [
+        ("a.ps", Ok(()), b"write 2"),
+        ("b.ps", Err(ShelfFault::Failed), b""),
+        ("", Ok(()), b"no name"),
+        ("longer", too_long, b""),
+        ("long", Ok(()), longest.as_slice()),
+    ];
+    for (name, answer, bytes) in rows {
+        assert_eq!(rt; shelf.text(name, &mut text), answer);
+        assert_eq!(rt; text.as_slice(), bytes);
+    }
     Ok(())
 }
 
