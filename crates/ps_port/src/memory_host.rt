@@ -1,4 +1,4 @@
-ghost use Rattle.std.specs.Prelude.{◌≡◌, ◌≤◌, ◌/◌, ◌++◌, [], ◌∷◌, true, false, length, take, if◌then◌else◌, OnOk, OnErr, IfOk, is_err};
+ghost use Rattle.std.specs.Prelude.{◌≡◌, ◌≤◌, ◌/◌, ◌++◌, [], true, false, length, take, if◌then◌else◌, OnOk, OnErr, IfOk, is_err};
 ghost use Rattle.ps_port.specs.Told.{TellsFront, Tells, Rose, next_count, counted};
 ghost use Rattle.ps_port.specs.Memory.{fresh, is_to_fail, has_room, put_fails, told_count, clock_of, HadTold, after_call, Same};
 
@@ -31,8 +31,7 @@ pub struct MemoryHost {
 }
 
 impl Model for MemoryHost {
-    ghost use Rattle.std.specs.Prelude.{◌≤◌, ◌/◌, vec_capacity};
-    ghost use Rattle.ps_port.specs.Memory.{Memory, IsKept};
+    ghost use Rattle.ps_port.specs.Memory.{Memory};
 
     ghost Value = { Memory };
 

@@ -2,9 +2,7 @@ ghost use Rattle.std.specs.Prelude.{◌≤◌, IfOk};
 
 use crate::dir_shelf::read_text;
 use crate::file_host::write_whole;
-use crate::{
-    DirShelf, FileHost, Host, HostFailed, LONGEST_TEXT, MemoryHost, MemoryShelf, Shelf, ShelfFault,
-};
+use crate::{DirShelf, FileHost, Host, HostFailed, MemoryHost, MemoryShelf, Shelf, ShelfFault};
 use std::cell::Cell;
 use std::fmt::Display;
 use std::io::{self, ErrorKind, Read};
