@@ -55,7 +55,7 @@ impl<R: Files + Print + Clone + Drop> Host for FileHost<R> {
 }
 
 // Writes all the bytes, in as many pieces as it takes. It answers whether all of them were taken.
-pub(crate) fn write_whole<R: Print>(rt: &R, bytes: &[u8]) -> bool {
+fn write_whole<R: Print>(rt: &R, bytes: &[u8]) -> bool {
     let mut rest = bytes;
     while !rest.is_empty() {
         match write_piece(rt, rest) {

@@ -1,12 +1,14 @@
 ghost use Rattle.std.specs.Prelude.{◌≤◌, IfOk};
 
 use crate::dir_shelf::read_text;
-use crate::file_host::write_whole;
 use crate::{DirShelf, FileHost, Host, HostFailed, MemoryHost, MemoryShelf, Shelf, ShelfFault};
+use std::alloc::Allocator;
 use std::cell::Cell;
 use std::fmt::Display;
+use std::fs::{File, Metadata, OpenOptions};
 use std::io::{self, ErrorKind, Read};
 use std::process::Abort;
+use std::rt::Files;
 use std::test::Fail;
 use std::{env, fs};
 
@@ -18,23 +20,20 @@ enum Step {
     Fails,
 }
 
-// An output and a file whose calls do one step each, and fail behind the last.
-#[derive(Drop)]
+// A system whose calls do one step each, and fail behind the last. It counts the calls, and the bytes
+// that were moved.
+#[derive(Clone, Copy)]
 struct Script<'a> {
     steps: &'a [Step],
-    calls: Cell<usize>,
-    moved: Cell<usize>,
+    calls: &'a Cell<usize>,
+    moved: &'a Cell<usize>,
 }
 
-impl<'a> Script<'a> {
-    fn new(steps: &'a [Step]) -> Self {
-        Script {
-            steps,
-            calls: Cell::new(0),
-            moved: Cell::new(0),
-        }
-    }
+fn unsupported<T>() -> io::Result<T> {
+    Err(io::Error::from(ErrorKind::Unsupported))
+}
 
+impl Script<'_> {
     fn call(&self, most: usize) -> io::Result<usize>
         ensures { IfOk result (λ count. count ≤ most) }
     {
@@ -54,19 +53,66 @@ impl<'a> Script<'a> {
 
 impl Print for Script<'_> {
     fn print<D: Display + Drop>(&self, _value: D) -> io::Result<()> {
-        Err(io::Error::from(ErrorKind::Unsupported))
+        unsupported()
     }
 
     fn println<D: Display + Drop>(&self, _value: D) -> io::Result<()> {
-        Err(io::Error::from(ErrorKind::Unsupported))
+        unsupported()
     }
 
     fn write_all(&self, _bytes: &[u8]) -> io::Result<()> {
-        Err(io::Error::from(ErrorKind::Unsupported))
+        unsupported()
     }
 
     fn write_some(&self, bytes: &[u8]) -> io::Result<usize> {
         self.call(bytes.len())
+    }
+}
+
+// It has no files.
+impl Files for Script<'_> {
+    type File = File;
+
+    type Dir = File;
+
+    fn open_file(&self, _how: &OpenOptions, _path: &str) -> io::Result<File> {
+        unsupported()
+    }
+
+    fn open_dir(&self, _path: &str) -> io::Result<File> {
+        unsupported()
+    }
+
+    fn metadata(&self, _path: &str) -> io::Result<Metadata> {
+        unsupported()
+    }
+
+    fn symlink_metadata(&self, _path: &str) -> io::Result<Metadata> {
+        unsupported()
+    }
+
+    fn copy(&self, _from: &str, _to: &str) -> io::Result<u64> {
+        unsupported()
+    }
+
+    fn rename(&self, _from: &str, _to: &str) -> io::Result<()> {
+        unsupported()
+    }
+
+    fn remove_file(&self, _path: &str) -> io::Result<()> {
+        unsupported()
+    }
+
+    fn create_dir(&self, _path: &str) -> io::Result<()> {
+        unsupported()
+    }
+
+    fn remove_dir(&self, _path: &str) -> io::Result<()> {
+        unsupported()
+    }
+
+    fn remove_dir_all<B: Allocator>(&self, _alloc: B, _path: &str) -> io::Result<()> {
+        unsupported()
     }
 }
 
@@ -164,18 +210,11 @@ fn texts_of_a_memory_shelf(rt: HostRuntime) -> Result<(), Fail> {
 
 #[test]
 fn writes_of_a_file_host(rt: HostRuntime) -> Result<(), Fail> {
-    let mut host = FileHost::new(rt.alloc(), &rt, "v.vol", false)?;
-    assert_eq!(rt; host.put(b"told\n"), Ok(()));
-    assert_eq!(rt; host.put(b""), Ok(()));
-    Ok(())
-}
-
-#[test]
-fn writes_in_pieces(rt: HostRuntime) {
-    // What the calls do, whether all of five bytes were written, and how many the output took.
-    let rows: [(&[Step], bool, usize); 6] = [
-        (&[Step::Moves(5)], true, 5),
-        (&[Step::Moves(2), Step::Moves(1), Step::Moves(9)], true, 5),
+    let alloc = rt.alloc();
+    // What the calls do, the answer to a put of five bytes, and how many of them the output took.
+    let rows: [(&[Step], Result<(), HostFailed>, usize); 6] = [
+        (&[Step::Moves(5)], Ok(()), 5),
+        (&[Step::Moves(2), Step::Moves(1), Step::Moves(9)], Ok(()), 5),
         (
             &[
                 Step::Interrupted,
@@ -183,18 +222,35 @@ fn writes_in_pieces(rt: HostRuntime) {
                 Step::Interrupted,
                 Step::Moves(1),
             ],
-            true,
+            Ok(()),
             5,
         ),
-        (&[Step::Moves(2), Step::Moves(0), Step::Moves(3)], false, 2),
-        (&[Step::Moves(2), Step::Fails, Step::Moves(3)], false, 2),
-        (&[Step::Fails], false, 0),
+        (
+            &[Step::Moves(2), Step::Moves(0), Step::Moves(3)],
+            Err(HostFailed),
+            2,
+        ),
+        (
+            &[Step::Moves(2), Step::Fails, Step::Moves(3)],
+            Err(HostFailed),
+            2,
+        ),
+        (&[Step::Fails], Err(HostFailed), 0),
     ];
-    for (steps, whole, taken) in rows {
-        let output = Script::new(steps);
-        assert_eq!(rt; write_whole(&output, b"hello"), whole);
-        assert_eq!(rt; output.moved.get(), taken);
+    for (steps, answer, taken) in rows {
+        let (calls, moved) = (Cell::new(0), Cell::new(0));
+        let system = Script {
+            steps,
+            calls: &calls,
+            moved: &moved,
+        };
+        let mut host = FileHost::new(alloc, &system, "v.vol", false)?;
+        assert_eq!(rt; host.put(b"hello"), answer);
+        assert_eq!(rt; moved.get(), taken);
     }
+    let mut host = FileHost::new(alloc, &rt, "v.vol", false)?;
+    assert_eq!(rt; host.put(b"told\n"), Ok(()));
+    Ok(())
 }
 
 #[test]
@@ -219,7 +275,12 @@ fn reads_in_pieces(rt: HostRuntime) -> Result<(), Fail> {
     ];
     for (steps, answer, length) in rows {
         text.clear();
-        let mut file = Script::new(steps);
+        let (calls, moved) = (Cell::new(0), Cell::new(0));
+        let mut file = Script {
+            steps,
+            calls: &calls,
+            moved: &moved,
+        };
         assert_eq!(rt; read_text(&mut file, &mut buffer, &mut text), answer);
         assert_eq!(rt; text.len(), length);
     }
