@@ -1,5 +1,5 @@
 -- The tokens of a text, and its first fault.
-use Rattle.std.specs.Prelude.{◌≡◌, ℕ, ◌+◌, ◌-◌, ◌<◌, ◌≤◌, IsTrue, List, [], ◌∷◌, length, drop, slice_range, slice_get, slice_index, Option, Some, None}
+use Rattle.std.specs.Prelude.{◌≡◌, ℕ, ◌+◌, ◌-◌, ◌<◌, ◌≤◌, ◌==◌, IsTrue, List, [], ◌∷◌, length, take, drop, count_by, slice_range, slice_get, slice_index, Option, Some, None}
 use Rattle.std.specs.List.{AllPass}
 use Rattle.std.specs.Char.{is_ascii_digit, is_ascii_alphabetic}
 use Rattle.ps_base.specs.declared.line.Line.{Line}
@@ -85,6 +85,14 @@ mark_of (byte ∷ []) = single_mark byte
 mark_of (first ∷ second ∷ []) = double_mark first second
 mark_of (first ∷ second ∷ third ∷ rest) = None
 
+-- how many newlines these bytes have
+unfoldable pub newlines : List ℕ → ℕ
+newlines bytes = count_by (λ byte. byte == 10) bytes
+
+-- the number of the line of this place: one more than the newlines before it
+abbrev pub line_number : List ℕ → ℕ → ℕ
+line_number text at = 1 + newlines (take at text)
+
 -- these bytes are spelled as a token of this kind
 abbrev pub IsSpelled : TokenKind → List ℕ → Type 0
 IsSpelled Name slice = IsName slice
@@ -93,10 +101,11 @@ IsSpelled Text slice = IsString slice
 IsSpelled (Word place) slice = word_place slice ≡ Some place
 IsSpelled (Mark place) slice = mark_of slice ≡ Some place
 
--- a token of the text: a slice of it that is spelled as its kind is
+-- a token of the text: a slice of it that is spelled as its kind is, with the line where it stands
 pub record IsToken (text : List ℕ) (token : Token) : Type 0 where
   pub nonempty : token.from < token.to
   pub within : token.to ≤ length text
+  pub line : token.line ≡ line_of (line_number text token.from)
   pub spelling : IsSpelled token.what (slice_of text token)
 
 -- from this place on, each token begins at or after the end of the one before
