@@ -1,5 +1,6 @@
 mod Closing
 mod Examples
+mod FaultLines
 pub mod Laws
 mod Lines
 mod Runs

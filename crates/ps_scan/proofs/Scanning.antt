@@ -31,15 +31,15 @@ is_token text at line what n here on_line =
     }
 
 -- the line behind each piece
-line_behind_blank : (text : List ℕ) (at line : ℕ) → piece_at text at line ≡ Blank → line ≡ line_number text at → line ≡ line_number text (at + 1)
+pub line_behind_blank : (text : List ℕ) (at line : ℕ) → piece_at text at line ≡ Blank → line ≡ line_number text at → line ≡ line_number text (at + 1)
 line_behind_blank text at line here on_line =
     omega (arith, on_line, line_number-add text at 1, blank_fits (line_of line) (drop at text) here)
 
-line_behind_newline : (text : List ℕ) (at line : ℕ) → piece_at text at line ≡ Newline → line ≡ line_number text at → line + 1 ≡ line_number text (at + 1)
+pub line_behind_newline : (text : List ℕ) (at line : ℕ) → piece_at text at line ≡ Newline → line ≡ line_number text at → line + 1 ≡ line_number text (at + 1)
 line_behind_newline text at line here on_line =
     omega (arith, on_line, line_number-add text at 1, newline_fits (line_of line) (drop at text) here)
 
-line_behind_token : (text : List ℕ) (at line : ℕ) (what : TokenKind) (n : ℕ) → piece_at text at line ≡ Piece.Token what n → line ≡ line_number text at → line ≡ line_number text (at + n)
+pub line_behind_token : (text : List ℕ) (at line : ℕ) (what : TokenKind) (n : ℕ) → piece_at text at line ≡ Piece.Token what n → line ≡ line_number text at → line ≡ line_number text (at + n)
 line_behind_token text at line what n here on_line =
     let fits = token_fits (line_of line) (drop at text) what n here in
     omega (arith, on_line, line_number-add text at n, fits.one_line)
@@ -50,7 +50,7 @@ unfolding first_piece
 ends_empty line [] = inl refl
 ends_empty line (byte ∷ rest) = inr (omega arith)
 
-begins_within : (text : List ℕ) (at line : ℕ) → (piece_at text at line ≡ End → ⊥) → at < length text
+pub begins_within : (text : List ℕ) (at line : ℕ) → (piece_at text at line ≡ End → ⊥) → at < length text
 begins_within text at line other =
     ⊎_elim (λ end. absurd (other end)) (λ some. omega (arith, length-drop at text)) (ends_empty line (drop at text))
 

@@ -10,6 +10,7 @@ use Rattle.ps_scan.specs.declared.token.Token.{Token}
 use Rattle.ps_scan.specs.declared.token.TokenKind.{TokenKind}
 use Rattle.ps_scan.specs.declared.token.TokenKind.TheVariants.{Name, Int, Text, Word, Mark}
 use Rattle.ps_scan.specs.Class.{is_name_byte, decimal}
+use Rattle.ps_scan.specs.Fault.{line_of_fault}
 use Rattle.ps_scan.specs.Piece.{Closes, quoted, bytes_of, word_place, double_mark, single_mark, first_piece}
 
 -- the line of this number
@@ -112,3 +113,9 @@ pub record IsToken (text : List ℕ) (token : Token) : Type 0 where
 abbrev pub IsInOrder : ℕ → List Token → Type 0
 IsInOrder at [] = Unit {0}
 IsInOrder at (token ∷ tokens) = (at ≤ token.from) × IsInOrder token.to tokens
+
+-- the fault stands at this place: it is what the text begins with there, on the line of the place
+pub record StandsAt (text : List ℕ) (fault : ScanFault) (place : ℕ) : Type 0 where
+  pub within : place < length text
+  pub here : piece_at text place (line_number text place) ≡ Fault fault
+  pub line : line_of_fault fault ≡ Some (line_of (line_number text place))
