@@ -1,15 +1,12 @@
 -- A string that closes does so within the text, and what stands behind it doesn't matter.
-use Rattle.std.proofs.Common.{◌≡◌, ℕ, suc, ◌+◌, ◌≤◌, List, [], ◌∷◌, length, take, Option, Some, None, sym, ◌∙◌, ap, refl, arith, subst}
+use Rattle.std.proofs.Common.{◌≡◌, ℕ, ◌+◌, ◌≤◌, ◌==◌, false, List, [], ◌∷◌, length, take, Option, Some, None, sym, ◌∙◌, ap, refl, arith, subst}
 use Rattle.ps_scan.specs.declared.class.Inner.{Inner}
 use Rattle.ps_scan.specs.declared.class.Inner.TheVariants.{Plain, Apostrophe}
+use Rattle.std.proofs.lemmas.Bool.Decides.{nat_tests}
 use Rattle.ps_scan.specs.Class.{inner_of, escaped}
 use Rattle.ps_scan.specs.Piece.{Quoted, Closes, StaysOpen, HasBadByte, HasBadEscape, spells, quoted, behind_apostrophe}
-
-pub take_behind : (n byte : ℕ) (rest : List ℕ) → take (1 + n) (byte ∷ rest) ≡ byte ∷ take n rest
-take_behind n byte rest = rw one_more refl
-  where
-    one_more : 1 + n ≡ suc n
-    one_more = omega arith
+use Rattle.ps_scan.specs.Tokens.{newlines}
+use Rattle.ps_scan.proofs.Lines.{take_behind, no_newline_more, no_newline_first}
 
 -- what the first byte of a string makes of the rest
 quoted_plain : (byte : ℕ) (rest : List ℕ) → inner_of byte ≡ Plain → quoted (byte ∷ rest) ≡ spells byte 1 (quoted rest)
@@ -40,10 +37,28 @@ escape_none : (byte : ℕ) (rest : List ℕ) → escaped byte ≡ None → behin
 unfolding behind_apostrophe
 escape_none byte rest kind = rw (kind, behind_apostrophe)
 
+-- a byte that goes on or closes a string is no newline
+plain_other : (byte : ℕ) → inner_of byte ≡ Plain → (byte == 10) ≡ false
+unfolding inner_of
+plain_other byte kind = grind (arith, nat_tests)
+
+apostrophe_other : (byte : ℕ) → inner_of byte ≡ Apostrophe → (byte == 10) ≡ false
+unfolding inner_of
+apostrophe_other byte kind = grind (arith, nat_tests)
+
+quote_other : (byte : ℕ) → inner_of byte ≡ Inner.Quote → (byte == 10) ≡ false
+unfolding inner_of
+quote_other byte kind = grind (arith, nat_tests)
+
+escaped_other : (byte spelled : ℕ) → escaped byte ≡ Some spelled → (byte == 10) ≡ false
+unfolding escaped
+escaped_other byte spelled kind = grind (arith, nat_tests)
+
 -- if these bytes close a string, they do so within themselves, and by that part alone
 pub record ClosesWithin (rest bytes : List ℕ) (n : ℕ) : Type 0 where
   pub nonempty : 1 ≤ n
   pub within : n ≤ length rest
+  pub one_line : newlines (take n rest) ≡ 0
   pub alone : quoted (take n rest) ≡ Closes bytes n
 
 EndsWithin : List ℕ → Quoted → Type 0
@@ -55,7 +70,7 @@ EndsWithin rest (HasBadEscape byte) = Unit {0}
 -- the same behind an apostrophe, which is counted
 record ClosesBehind (rest bytes : List ℕ) (n : ℕ) : Type 0 where
   within : n ≤ 1 + length rest
-  alone : (m : ℕ) × (n ≡ 1 + m) × (behind_apostrophe (take m rest) ≡ Closes bytes n)
+  alone : (m : ℕ) × (n ≡ 1 + m) × (behind_apostrophe (take m rest) ≡ Closes bytes n) × (newlines (take m rest) ≡ 0)
 
 EndsBehind : List ℕ → Quoted → Type 0
 EndsBehind rest (Closes bytes n) = ClosesBehind rest bytes n
@@ -68,6 +83,7 @@ unfolding EndsWithin spells
 plain_ends byte rest kind (Closes bytes n) ends = record {
   nonempty = omega arith;
   within = omega (arith, ends.within);
+  one_line = no_newline_more byte n rest (plain_other byte kind) ends.one_line;
   alone = ap quoted (take_behind n byte rest) ∙ quoted_plain byte (take n rest) kind ∙ ap (spells byte 1) ends.alone;
 }
 plain_ends byte rest kind StaysOpen ends = tt
@@ -78,7 +94,7 @@ escape_ends : (byte spelled : ℕ) (rest : List ℕ) → escaped byte ≡ Some s
 unfolding EndsWithin EndsBehind spells
 escape_ends byte spelled rest kind (Closes bytes n) ends = record {
   within = omega (arith, ends.within);
-  alone = (1 + n, omega arith, ap behind_apostrophe (take_behind n byte rest) ∙ escape_some byte spelled (take n rest) kind ∙ ap (spells spelled 2) ends.alone);
+  alone = (1 + n, omega arith, ap behind_apostrophe (take_behind n byte rest) ∙ escape_some byte spelled (take n rest) kind ∙ ap (spells spelled 2) ends.alone, no_newline_more byte n rest (escaped_other byte spelled kind) ends.one_line);
 }
 escape_ends byte spelled rest kind StaysOpen ends = tt
 escape_ends byte spelled rest kind (HasBadByte bad) ends = tt
@@ -89,6 +105,7 @@ unfolding EndsWithin EndsBehind
 apostrophe_ends byte rest kind (Closes bytes n) ends = record {
   nonempty = omega (arith, ends.alone.1);
   within = omega (arith, ends.within);
+  one_line = ap (λ k. newlines (take k (byte ∷ rest))) ends.alone.1 ∙ no_newline_more byte ends.alone.0 rest (apostrophe_other byte kind) ends.alone.3;
   alone = ap (λ k. quoted (take k (byte ∷ rest))) ends.alone.1 ∙ ap quoted (take_behind ends.alone.0 byte rest) ∙ quoted_apostrophe byte (take ends.alone.0 rest) kind ∙ ends.alone.2;
 }
 apostrophe_ends byte rest kind StaysOpen ends = tt
@@ -105,6 +122,7 @@ byte_ends Inner.Quote byte rest kind ends behind =
     subst (EndsWithin (byte ∷ rest)) (sym (quoted_quote byte rest kind)) (record {
       nonempty = omega arith;
       within = omega arith;
+      one_line = no_newline_first byte rest (quote_other byte kind);
       alone = quoted_quote byte (take 0 rest) kind;
     })
 byte_ends Inner.Newline byte rest kind ends behind = subst (EndsWithin (byte ∷ rest)) (sym (quoted_newline byte rest kind)) tt

@@ -1,9 +1,10 @@
 -- The definitions on small texts.
-use Rattle.std.proofs.Common.{◌≡◌, ℕ, List, [], ◌∷◌, ◌++◌, refl, codes, replicate}
+use Rattle.std.proofs.Common.{◌≡◌, ℕ, List, [], ◌∷◌, ◌++◌, refl, codes, replicate, map, Some, None}
+use Rattle.std.specs.List.{range_with_len}
 use Rattle.ps_scan.specs.declared.fault.ScanFault.TheVariants.{BadByte, OpenString, IntTooLarge, BadEscape, NameTooLong, StringTooLong}
 use Rattle.ps_scan.specs.declared.token.TokenKind.TheVariants.{Name, Int, Text, Word, Mark}
 use Rattle.ps_scan.specs.Class.{class_of, is_name_byte, inner_of, escaped}
-use Rattle.ps_scan.specs.Piece.{bytes_of, spells, quoted, behind_apostrophe, word_or_name, int, string, mark, piece_of, first_piece}
+use Rattle.ps_scan.specs.Piece.{word_place, single_mark, double_mark, bytes_of, spells, quoted, behind_apostrophe, word_or_name, int, string, mark, piece_of, first_piece}
 use Rattle.ps_scan.specs.Tokens.{line_of, token_at, Scans, Stops, HasTokens, HasFault, int_value, spelled}
 
 -- `write 1 + 2, "'n" ?`
@@ -82,3 +83,17 @@ name_too_long = Stops.at_fault refl
 string_too_long : HasFault (34 ∷ (replicate 65536 97 ++ 34 ∷ [])) (StringTooLong (line_of 1) 65536)
 unfolding class_of is_name_byte inner_of escaped spells quoted behind_apostrophe word_or_name int string mark piece_of first_piece
 string_too_long = Stops.at_fault refl
+
+-- the places of the reserved words, from 0
+word_places : map word_place (codes "abort" ∷ codes "and" ∷ codes "begin" ∷ codes "bool" ∷ codes "by" ∷ codes "case" ∷ codes "default" ∷ codes "div" ∷ codes "do" ∷ codes "else" ∷ codes "end" ∷ codes "false" ∷ codes "for" ∷ codes "if" ∷ codes "int" ∷ codes "is" ∷ codes "isnt" ∷ codes "let" ∷ codes "lwb" ∷ codes "nil" ∷ codes "of" ∷ codes "or" ∷ codes "pntr" ∷ codes "proc" ∷ codes "procedure" ∷ codes "rem" ∷ codes "repeat" ∷ codes "string" ∷ codes "structure" ∷ codes "then" ∷ codes "to" ∷ codes "true" ∷ codes "upb" ∷ codes "vector" ∷ codes "while" ∷ codes "write" ∷ []) ≡ map Some (range_with_len 0 36)
+word_places = refl
+
+no_word : word_place (codes "lets") ≡ None
+no_word = refl
+
+-- the places of the marks that are scanned, ( ) , ; = + - * ? and :=
+single_places : map single_mark (codes "(),;=+-*?") ≡ map Some (0 ∷ 1 ∷ 6 ∷ 7 ∷ 11 ∷ 18 ∷ 19 ∷ 21 ∷ 24 ∷ [])
+single_places = refl
+
+double_place : double_mark 58 61 ≡ Some 10
+double_place = refl

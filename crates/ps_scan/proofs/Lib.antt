@@ -1,6 +1,8 @@
 mod Closing
 mod Examples
+mod FaultLines
 pub mod Laws
+mod Lines
 mod Runs
 pub mod Scanning
 mod Spelling

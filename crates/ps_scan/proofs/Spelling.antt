@@ -1,5 +1,5 @@
 -- Each piece that is a token is spelled as one.
-use Rattle.std.proofs.Common.{◌≡◌, ℕ, suc, ◌+◌, ◌-◌, ◌≤◌, ◌<◌, Bool, true, false, IsTrue, cond, List, [], ◌∷◌, length, take, Option, Some, None, sym, ◌∙◌, ap, refl, arith, subst, nat_le, length-take-le, get_or, get_or-take, slice_index}
+use Rattle.std.proofs.Common.{◌≡◌, ℕ, suc, ◌+◌, ◌==◌, ◌-◌, ◌≤◌, ◌<◌, Bool, true, false, IsTrue, cond, List, [], ◌∷◌, length, take, Option, Some, None, sym, ◌∙◌, ap, refl, arith, subst, nat_le, length-take-le, get_or, get_or-take, slice_index}
 use Rattle.std.specs.List.{take_while, prefix_len, AllPass}
 use Rattle.std.specs.Char.{is_ascii_digit, is_ascii_alphabetic}
 use Rattle.std.proofs.lemmas.Bool.{leb-true}
@@ -13,22 +13,24 @@ use Rattle.ps_scan.specs.declared.piece.Piece.{Piece}
 use Rattle.ps_scan.specs.declared.piece.Piece.TheVariants.{End, Fault}
 use Rattle.ps_scan.specs.declared.token.TokenKind.{TokenKind}
 use Rattle.ps_scan.specs.Class.{class_of, is_name_byte, decimal}
-use Rattle.ps_scan.specs.Piece.{Quoted, Closes, StaysOpen, HasBadByte, HasBadEscape, quoted, bytes_of, word_place, word_or_name, int, string, double_mark_here, single_mark, mark, piece_of, first_piece}
-use Rattle.ps_scan.specs.Tokens.{IsName, IsInt, IsString, IsSpelled}
+use Rattle.ps_scan.specs.Piece.{Quoted, Closes, StaysOpen, HasBadByte, HasBadEscape, quoted, bytes_of, word_place, word_or_name, int, string, double_mark, double_mark_here, single_mark, mark, piece_of, first_piece}
+use Rattle.ps_scan.specs.Tokens.{newlines, IsName, IsInt, IsString, IsSpelled}
 use Rattle.ps_scan.proofs.Runs.{run_passes}
-use Rattle.ps_scan.proofs.Closing.{take_behind, closes_within}
+use Rattle.ps_scan.proofs.Lines.{take_behind, no_newline_more, no_newline_first, newline_first, no_newline_in_name, no_newline_in_digits}
+use Rattle.ps_scan.proofs.Closing.{closes_within}
 
 -- so many bytes at the front of the rest are spelled as a token of this kind
 pub record Fits (what : TokenKind) (rest : List ℕ) (n : ℕ) : Type 0 where
   pub nonempty : 1 ≤ n
   pub within : n ≤ length rest
+  pub one_line : newlines (take n rest) ≡ 0
   pub spelling : IsSpelled what (take n rest)
 
--- a piece is spelled as a token if it is one
+-- a piece is spelled as a token if it is one; a newline is one byte, and nothing else has one
 FitsPiece : List ℕ → Piece → Type 0
 FitsPiece rest End = Unit {0}
-FitsPiece rest Piece.Blank = Unit {0}
-FitsPiece rest Piece.Newline = Unit {0}
+FitsPiece rest Piece.Blank = newlines (take 1 rest) ≡ 0
+FitsPiece rest Piece.Newline = newlines (take 1 rest) ≡ 1
 FitsPiece rest (Piece.Token what n) = Fits what rest n
 FitsPiece rest (Fault fault) = Unit {0}
 
@@ -67,6 +69,25 @@ quote_is : (byte : ℕ) → class_of byte ≡ Class.Quote → byte ≡ 34
 unfolding class_of
 quote_is byte kind = grind (arith, nat_tests)
 
+quote_other : (byte : ℕ) → byte ≡ 34 → (byte == 10) ≡ false
+quote_other byte kind = grind (arith, nat_tests)
+
+blank_other : (byte : ℕ) → class_of byte ≡ Class.Blank → (byte == 10) ≡ false
+unfolding class_of
+blank_other byte kind = grind (arith, nat_tests)
+
+newline_is : (byte : ℕ) → class_of byte ≡ Class.Newline → (byte == 10) ≡ true
+unfolding class_of
+newline_is byte kind = grind (arith, nat_tests)
+
+other_other : (byte : ℕ) → class_of byte ≡ Class.Other → (byte == 10) ≡ false
+unfolding class_of
+other_other byte kind = grind (arith, nat_tests)
+
+-- no mark ends with a newline
+double_other : (first second place : ℕ) → double_mark first second ≡ Some place → (second == 10) ≡ false
+double_other first second place is_mark = grind (arith, nat_tests)
+
 -- a choice between two pieces
 choice : (rest : List ℕ) (test : Bool) (yes_ no_ : Piece) → (test ≡ true → FitsPiece rest yes_) → FitsPiece rest no_ → FitsPiece rest (cond test yes_ no_)
 choice rest true yes_ no_ fits other = fits refl
@@ -86,6 +107,7 @@ module _ (line : Line) (byte : ℕ) (rest : List ℕ) where
   word_fits run (Some place) is_run first found = record {
     nonempty = is_run.nonempty;
     within = is_run.within;
+    one_line = ap newlines is_run.front ∙ no_newline_in_name run is_run.passes;
     spelling = ap word_place is_run.front ∙ found;
   }
   word_fits run None is_run first found =
@@ -93,6 +115,7 @@ module _ (line : Line) (byte : ℕ) (rest : List ℕ) where
       (λ short. record {
         nonempty = is_run.nonempty;
         within = is_run.within;
+        one_line = ap newlines is_run.front ∙ no_newline_in_name run is_run.passes;
         spelling = subst IsName (sym is_run.front) (record {
           begins = subst (λ b. IsTrue (is_ascii_alphabetic b)) (sym (run_begins run is_run)) first;
           goes_on = is_run.passes;
@@ -109,6 +132,7 @@ module _ (line : Line) (byte : ℕ) (rest : List ℕ) where
       (λ small. record {
         nonempty = is_run.nonempty;
         within = is_run.within;
+        one_line = ap newlines is_run.front ∙ no_newline_in_digits digits is_run.passes;
         spelling = subst IsInt (sym is_run.front) (record {
           size = is_run.nonempty;
           digits = is_run.passes;
@@ -125,6 +149,7 @@ module _ (line : Line) (byte : ℕ) (rest : List ℕ) where
       (λ short. record {
         nonempty = omega arith;
         within = omega (arith, ends.within);
+        one_line = no_newline_more byte n rest (quote_other byte first) ends.one_line;
         spelling = subst IsString (sym (take_behind n byte rest)) (record {
           begins = ap Some first;
           closes = ends.alone ∙ ap (λ all. Closes all n) (sym (ap bytes_of ends.alone)) ∙ ap (Closes (bytes_of (quoted (take n rest)))) (slice_size n ends.within);
@@ -136,35 +161,45 @@ module _ (line : Line) (byte : ℕ) (rest : List ℕ) where
   string_fits (HasBadByte bad) first closes = tt
   string_fits (HasBadEscape bad) first closes = tt
 
-mark_fits : (line : Line) (byte : ℕ) (rest : List ℕ) (double single : Option ℕ) → double_mark_here byte rest ≡ double → single_mark byte ≡ single → FitsPiece (byte ∷ rest) (mark line byte double single)
+mark_fits : (line : Line) (byte : ℕ) (rest : List ℕ) (double single : Option ℕ) → (byte == 10) ≡ false → double_mark_here byte rest ≡ double → single_mark byte ≡ single → FitsPiece (byte ∷ rest) (mark line byte double single)
 unfolding FitsPiece mark
-mark_fits line byte [] (Some place) single two one = absurd (cc)
-mark_fits line byte (second ∷ rest) (Some place) single two one = record {
+mark_fits line byte [] (Some place) single other two one = absurd (cc)
+mark_fits line byte (second ∷ rest) (Some place) single other two one = record {
   nonempty = omega arith;
   within = omega arith;
+  one_line = no_newline_more byte 1 (second ∷ rest) other (no_newline_first second rest (double_other byte second place two));
   spelling = two;
 }
-mark_fits line byte rest None (Some place) two one = record {
+mark_fits line byte rest None (Some place) other two one = record {
   nonempty = omega arith;
   within = omega arith;
+  one_line = no_newline_first byte rest other;
   spelling = one;
 }
-mark_fits line byte rest None None two one = tt
+mark_fits line byte rest None None other two one = tt
 
 class_fits : (line : Line) (class : Class) (byte : ℕ) (rest : List ℕ) → class_of byte ≡ class → FitsPiece (byte ∷ rest) (piece_of class line byte rest)
 unfolding FitsPiece piece_of
-class_fits line Class.Blank byte rest kind = tt
-class_fits line Class.Newline byte rest kind = tt
+class_fits line Class.Blank byte rest kind = no_newline_first byte rest (blank_other byte kind)
+class_fits line Class.Newline byte rest kind = newline_first byte rest (newline_is byte kind)
 class_fits line Letter byte rest kind =
     word_fits line byte rest _ _ (run_front is_name_byte byte rest (letter_goes_on byte kind)) (letter_passes byte kind) refl
 class_fits line Digit byte rest kind = int_fits line byte rest _ (run_front is_ascii_digit byte rest (digit_passes byte kind))
 class_fits line Class.Quote byte rest kind = string_fits line byte rest (quoted rest) (quote_is byte kind) refl
-class_fits line Class.Other byte rest kind = mark_fits line byte rest _ _ refl refl
+class_fits line Class.Other byte rest kind = mark_fits line byte rest _ _ (other_other byte kind) refl refl
 
 piece_fits : (line : Line) (rest : List ℕ) → FitsPiece rest (first_piece line rest)
 unfolding FitsPiece first_piece
 piece_fits line [] = tt
 piece_fits line (byte ∷ rest) = class_fits line (class_of byte) byte rest refl
+
+pub blank_fits : (line : Line) (rest : List ℕ) → first_piece line rest ≡ Piece.Blank → newlines (take 1 rest) ≡ 0
+unfolding FitsPiece
+blank_fits line rest here = subst (FitsPiece rest) here (piece_fits line rest)
+
+pub newline_fits : (line : Line) (rest : List ℕ) → first_piece line rest ≡ Piece.Newline → newlines (take 1 rest) ≡ 1
+unfolding FitsPiece
+newline_fits line rest here = subst (FitsPiece rest) here (piece_fits line rest)
 
 -- a piece that is a token is spelled as one
 pub token_fits : (line : Line) (rest : List ℕ) (what : TokenKind) (n : ℕ) → first_piece line rest ≡ Piece.Token what n → Fits what rest n

@@ -1,5 +1,5 @@
 -- The tokens of a text, and its first fault.
-use Rattle.std.specs.Prelude.{◌≡◌, ℕ, ◌+◌, ◌-◌, ◌<◌, ◌≤◌, IsTrue, List, [], ◌∷◌, length, drop, slice_range, slice_get, slice_index, Option, Some, None}
+use Rattle.std.specs.Prelude.{◌≡◌, ℕ, ◌+◌, ◌-◌, ◌<◌, ◌≤◌, ◌==◌, IsTrue, List, [], ◌∷◌, length, take, drop, count_by, slice_range, slice_get, slice_index, Option, Some, None}
 use Rattle.std.specs.List.{AllPass}
 use Rattle.std.specs.Char.{is_ascii_digit, is_ascii_alphabetic}
 use Rattle.ps_base.specs.declared.line.Line.{Line}
@@ -10,6 +10,7 @@ use Rattle.ps_scan.specs.declared.token.Token.{Token}
 use Rattle.ps_scan.specs.declared.token.TokenKind.{TokenKind}
 use Rattle.ps_scan.specs.declared.token.TokenKind.TheVariants.{Name, Int, Text, Word, Mark}
 use Rattle.ps_scan.specs.Class.{is_name_byte, decimal}
+use Rattle.ps_scan.specs.Fault.{line_of_fault}
 use Rattle.ps_scan.specs.Piece.{Closes, quoted, bytes_of, word_place, double_mark, single_mark, first_piece}
 
 -- the line of this number
@@ -85,6 +86,14 @@ mark_of (byte ∷ []) = single_mark byte
 mark_of (first ∷ second ∷ []) = double_mark first second
 mark_of (first ∷ second ∷ third ∷ rest) = None
 
+-- how many newlines these bytes have
+unfoldable pub newlines : List ℕ → ℕ
+newlines bytes = count_by (λ byte. byte == 10) bytes
+
+-- the number of the line of this place: one more than the newlines before it
+abbrev pub line_number : List ℕ → ℕ → ℕ
+line_number text at = 1 + newlines (take at text)
+
 -- these bytes are spelled as a token of this kind
 abbrev pub IsSpelled : TokenKind → List ℕ → Type 0
 IsSpelled Name slice = IsName slice
@@ -93,13 +102,20 @@ IsSpelled Text slice = IsString slice
 IsSpelled (Word place) slice = word_place slice ≡ Some place
 IsSpelled (Mark place) slice = mark_of slice ≡ Some place
 
--- a token of the text: a slice of it that is spelled as its kind is
+-- a token of the text: a slice of it that is spelled as its kind is, with the line where it stands
 pub record IsToken (text : List ℕ) (token : Token) : Type 0 where
   pub nonempty : token.from < token.to
   pub within : token.to ≤ length text
+  pub line : token.line ≡ line_of (line_number text token.from)
   pub spelling : IsSpelled token.what (slice_of text token)
 
 -- from this place on, each token begins at or after the end of the one before
 abbrev pub IsInOrder : ℕ → List Token → Type 0
 IsInOrder at [] = Unit {0}
 IsInOrder at (token ∷ tokens) = (at ≤ token.from) × IsInOrder token.to tokens
+
+-- the fault stands at this place: it is what the text begins with there, on the line of the place
+pub record StandsAt (text : List ℕ) (fault : ScanFault) (place : ℕ) : Type 0 where
+  pub within : place < length text
+  pub here : piece_at text place (line_number text place) ≡ Fault fault
+  pub line : line_of_fault fault ≡ Some (line_of (line_number text place))

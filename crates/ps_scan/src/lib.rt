@@ -14,7 +14,8 @@ pub mod word;
 pub use fault::ScanFault;
 pub use piece::LONGEST_TEXT;
 pub use scanner::{
-    fault_is_unique, scan, tokens_are_slices, tokens_are_unique, tokens_exclude_fault,
+    fault_is_unique, fault_stands_on_its_line, scan, tokens_are_slices, tokens_are_unique,
+    tokens_exclude_fault,
 };
 pub use token::{Token, TokenKind, int_of, name_of, spell};
 

@@ -1,7 +1,7 @@
 ghost use Rattle.std.specs.Prelude.{◌≡◌, ◌≢◌, ◌+◌, ◌^◌, ◌<◌, ◌≤◌, length, All, IfOk, IfErr, List, ℕ};
 ghost use Rattle.ps_scan.specs.declared.fault.ScanFault.{ScanFault};
 ghost use Rattle.ps_scan.specs.declared.token.Token.{Token};
-ghost use Rattle.ps_scan.specs.Tokens.{HasTokens, HasFault, token_at, IsToken, IsInOrder};
+ghost use Rattle.ps_scan.specs.Tokens.{HasTokens, HasFault, token_at, IsToken, IsInOrder, StandsAt};
 
 use crate::fault::ScanFault;
 use crate::piece::{LONGEST_TEXT, Piece, piece_at};
@@ -68,6 +68,11 @@ pub fn tokens_are_unique()
 /// A text has at most one first fault.
 pub fn fault_is_unique()
     ensures { (text : List ℕ) (fault other : ScanFault) → HasFault text fault → HasFault text other → fault ≡ other }
+{}
+
+/// A fault stands at a place of the text, and has the line of that place.
+pub fn fault_stands_on_its_line()
+    ensures { (text : List ℕ) (fault : ScanFault) → HasFault text fault → (place : ℕ) × StandsAt text fault place }
 {}
 
 /// A text that has tokens has no fault.

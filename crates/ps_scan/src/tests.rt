@@ -1,4 +1,4 @@
-use crate::{ScanFault, Token, TokenKind, int_of, mark, name_of, scan, spell, word};
+use crate::{LONGEST_TEXT, ScanFault, Token, TokenKind, int_of, mark, name_of, scan, spell, word};
 use ps_base::line::Line;
 use std::test::Fail;
 
@@ -57,6 +57,7 @@ fn texts_have_their_tokens(rt: HostRuntime) -> Result<(), Fail> {
         ),
     ];
     for (text, tokens) in rows {
+        assert!(rt; text.len() <= LONGEST_TEXT);
         let found = scan(rt.alloc(), text).map_err(|_| "fault")?;
         assert_eq!(rt; found.as_slice(), tokens);
     }
@@ -105,6 +106,7 @@ fn words_have_their_places(rt: HostRuntime) -> Result<(), Fail> {
     ];
     let mut place = 0u8;
     for (spelling, constant) in rows {
+        assert!(rt; spelling.len() <= LONGEST_TEXT);
         let tokens = scan(rt.alloc(), spelling).map_err(|_| "fault")?;
         assert_eq!(rt; constant, place);
         assert_eq!(rt; tokens.len(), 1);
