@@ -6,7 +6,7 @@ use Rattle.ps_base.specs.declared.operator.Relation.{Relation}
 use Rattle.ps_parse.specs.declared.rough.Named.{Named}
 use Rattle.ps_parse.specs.declared.rough.Rough.{Rough}
 use Rattle.ps_parse.specs.declared.rough.RoughForm.{RoughForm}
-use Rattle.ps_parse.specs.declared.rough.RoughForm.TheBlock.{Row_of-Rough, end_of-Rough, more_of-Rough, Row_of-RoughItem, end_of-RoughItem, more_of-RoughItem, the_data-2 as RoughItemData, struct-RoughItem, Held-RoughItem-w, None', Some'}
+use Rattle.ps_parse.specs.declared.rough.RoughForm.TheBlock.{Row_of-Rough, end_of-Rough, more_of-Rough}
 use Rattle.ps_parse.specs.declared.rough.RoughForm.TheVariants as code
 
 -- a name that is declared, with the line of its token
@@ -25,7 +25,7 @@ mutual
     IfDo : (c a : Phrase) → Form
     IfElse : (c a b : Phrase) → Form
     While : (c a : Phrase) → Form
-    Write : (items : WriteItems) → Form
+    Write : (items : Phrases) → Form
     Assign : (x e : Phrase) → Form
     Or : (a b : Phrase) → Form
     And : (a b : Phrase) → Form
@@ -43,15 +43,6 @@ mutual
     none : Phrases
     more : (first : Phrase) (rest : Phrases) → Phrases
 
-  pub data WriteItems : Type 0 where
-    no_items : WriteItems
-    item : (e : Phrase) (w : Width) (line : Line) (rest : WriteItems) → WriteItems
-
-  -- the width of an item of a `write`
-  pub data Width : Type 0 where
-    no_width : Width
-    width : (w : Phrase) → Width
-
 abbrev pub named : Named → NameAt
 named n = record { name = n.name; line = n.line }
 
@@ -62,7 +53,7 @@ abbrev mutual
   form_of (code.IfDo' p c c_line q a a_line) = IfDo (at (form_of c) c_line) (at (form_of a) a_line)
   form_of (code.IfElse' p c c_line q a a_line r b b_line) = IfElse (at (form_of c) c_line) (at (form_of a) a_line) (at (form_of b) b_line)
   form_of (code.While' p c c_line q a a_line) = While (at (form_of c) c_line) (at (form_of a) a_line)
-  form_of (code.Write' shape items) = Write (items_of items)
+  form_of (code.Write' shape items) = Write (phrases_of items)
   form_of (code.Assign' p x x_line q e e_line) = Assign (at (form_of x) x_line) (at (form_of e) e_line)
   form_of (code.Or' p a a_line q b b_line) = Or (at (form_of a) a_line) (at (form_of b) b_line)
   form_of (code.And' p a a_line q b b_line) = And (at (form_of a) a_line) (at (form_of b) b_line)
@@ -79,17 +70,6 @@ abbrev mutual
   pub phrases_of : {m : _} → Row_of-Rough m → Phrases
   phrases_of end_of-Rough = none
   phrases_of (more_of-Rough form line rest) = more (at (form_of form) line) (phrases_of rest)
-
-  pub items_of : {m : _} → Row_of-RoughItem m → WriteItems
-  items_of end_of-RoughItem = no_items
-  items_of (more_of-RoughItem first rest) = put_item first (items_of rest)
-
-  pub put_item : RoughItemData → WriteItems → WriteItems
-  put_item (struct-RoughItem p e e_line w line) rest = item (at (form_of e) e_line) (width_of w) line rest
-
-  pub width_of : Held-RoughItem-w → Width
-  width_of None' = no_width
-  width_of (Some' p w w_line) = width (at (form_of w) w_line)
 
 abbrev pub phrase_of : Rough → Phrase
 phrase_of rough = at (form_of rough.form) rough.line

@@ -76,16 +76,6 @@ pub enum RoughForm {
     Flag(bool),
 }
 
-/// One item of a `write`, with its width where one stands, and the line of its `:` or else of its
-/// clause.
-#[cycle(rough)]
-#[derive(Drop)]
-pub struct RoughItem {
-    pub e: Box<Rough>,
-    pub w: Option<Box<Rough>>,
-    pub line: Line,
-}
-
 /// A name that is declared, with the line of its token.
 #[derive(Drop)]
 pub struct Named {
