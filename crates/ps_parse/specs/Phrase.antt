@@ -1,5 +1,5 @@
 -- A clause as the grammar reads it, as contracts see it, without the places in memory of the code's tree.
-use Rattle.std.specs.Prelude.{ℕ, ℤ, List, [], ◌∷◌, Bool}
+use Rattle.std.specs.Prelude.{ℕ, ℤ, List, Bool}
 use Rattle.ps_base.specs.declared.line.Line.{Line}
 use Rattle.ps_base.specs.declared.operator.Operator.{Operator}
 use Rattle.ps_base.specs.declared.operator.Relation.{Relation}

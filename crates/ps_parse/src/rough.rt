@@ -37,7 +37,7 @@ pub enum RoughForm {
         a: Box<Rough>,
     },
     Write {
-        items: List<RoughItem>,
+        items: List<Rough>,
     },
     Assign {
         x: Box<Rough>,
