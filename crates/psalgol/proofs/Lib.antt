@@ -1,4 +1,8 @@
+pub mod Pieces
+pub mod Progress
+pub mod Running
 pub mod Simulation
 pub mod Steps
 pub mod Weights
+pub mod Between
 pub mod Generated

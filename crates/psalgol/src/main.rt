@@ -4,6 +4,8 @@
 mod generate;
 mod instruction;
 mod machine;
+mod run;
 mod run_end;
+mod tell;
 
 fn main() {}
