@@ -1,0 +1,3 @@
+pub mod WordLaws
+mod SpellingLaws
+pub mod AreaLaws
