@@ -1,3 +1,4 @@
 pub mod WordLaws
-mod SpellingLaws
 pub mod AreaLaws
+mod SpellingLaws
+mod SeenLaws

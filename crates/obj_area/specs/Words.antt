@@ -28,13 +28,17 @@ words_of bytes = words_in (length bytes / 8) bytes
 abbrev pub AreWhole : List ℕ → Type 0
 AreWhole bytes = length bytes ≡ 8 * (length bytes / 8)
 
+-- each of these is below the limit
+abbrev pub AreBelow : ℕ → List ℕ → Type 0
+AreBelow limit items = (k : ℕ) → slice_index items k < limit
+
 -- each of these is a word
 abbrev pub AreWords : List ℕ → Type 0
-AreWords words = (k : ℕ) → slice_index words k < 2 ^ 64
+AreWords words = AreBelow (2 ^ 64) words
 
 -- each of these is a byte
 abbrev pub AreBytes : List ℕ → Type 0
-AreBytes bytes = (k : ℕ) → slice_index bytes k < 256
+AreBytes bytes = AreBelow 256 bytes
 
 -- a list after others were written over it from a place on; its length stays
 abbrev pub overwritten : {X : Type 0} → List X → ℕ → List X → List X

@@ -4,3 +4,5 @@
 
 pub mod area;
 mod spelling;
+#[cfg(test)]
+mod tests;

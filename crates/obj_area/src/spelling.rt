@@ -53,8 +53,7 @@ pub fn write(bytes: &mut [u8], index: usize, from: &[u64])
 fn are_spelled(bytes: &[u8])
     requires { AreWhole bytes.now }
     ensures { bytes_of (words_of bytes.now) ≡ bytes.now }
-{
-}
+{}
 
 /// The first `len` bytes of the words from `index` on.
 pub fn bytes_from(bytes: &[u8], index: usize, len: usize) -> &[u8]

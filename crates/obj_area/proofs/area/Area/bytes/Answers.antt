@@ -1,5 +1,5 @@
 use Rattle.std.proofs.Common.{arith}
-use Rattle.obj_area.proofs.AreaLaws.{given_out-lies}
+use Rattle.obj_area.proofs.SeenLaws.{given_out-lies}
 use Rattle.obj_area.proofs.area.Area.bytes.Goals as goal
 
 pub bytes_from-requires-clause-within : goal.bytes_from-requires-clause-within

@@ -1,5 +1,5 @@
 use Rattle.std.proofs.Common.{arith, refl, ◌∙◌, List, ℕ}
-use Rattle.obj_area.proofs.AreaLaws.{given_out-lies, seen-overwritten, bytes_at-seen}
+use Rattle.obj_area.proofs.SeenLaws.{given_out-lies, seen-overwritten, bytes_at-seen}
 use Rattle.obj_area.proofs.area.Area.bytes_mut.Goals as goal
 
 pub bytes_from_mut-requires-clause-within : goal.bytes_from_mut-requires-clause-within
@@ -8,8 +8,10 @@ bytes_from_mut-requires-clause-within c =
 
 pub returns : goal.returns
 returns c =
-    let written = λ (w : List ℕ). seen-overwritten _ w _ _ _ c.args.at c.self.inside.bytes.ok.0 c.self.view_is c.bytes_from_mut.ensures.spelled in
-    ((refl, written), record {
-      writes_back = tt;
-      value = c.bytes_from_mut.ensures.value ∙ bytes_at-seen _ _ _ c.args.at c.args.len c.self.view_is c.bytes_from_mut.ensures.spelled;
-    })
+    let written = λ (w : List ℕ). seen-overwritten _ w _ _ _ c.args.at c.self.inside.bytes.ok.0 c.self.view_is c.bytes_from_mut.ensures.spelled in (
+      (refl, written),
+      record {
+        writes_back = tt;
+        value = c.bytes_from_mut.ensures.value ∙ bytes_at-seen _ _ _ c.args.at c.args.len c.self.view_is c.bytes_from_mut.ensures.spelled;
+      },
+    )

@@ -1,6 +1,6 @@
 use Rattle.std.proofs.Common.{arith, ap, refl, ◌+◌, ◌*◌}
 use Rattle.obj_area.specs.Area.{AreaView}
-use Rattle.obj_area.proofs.AreaLaws.{length-seen, seen-zeros}
+use Rattle.obj_area.proofs.SeenLaws.{length-seen, seen-zeros}
 use Rattle.obj_area.proofs.area.Area.make.Goals as goal
 
 pub unreachable-requires : goal.unreachable-requires

@@ -1,5 +1,5 @@
 use Rattle.std.proofs.Common.{arith}
-use Rattle.obj_area.proofs.AreaLaws.{given_out-lies}
+use Rattle.obj_area.proofs.SeenLaws.{given_out-lies}
 use Rattle.obj_area.proofs.area.Area.read_words.Goals as goal
 
 pub read-requires : goal.read-requires

@@ -1,5 +1,5 @@
 use Rattle.std.proofs.Common.{arith}
-use Rattle.obj_area.proofs.AreaLaws.{length-seen}
+use Rattle.obj_area.proofs.SeenLaws.{length-seen}
 use Rattle.obj_area.proofs.area.Area.size.Goals as goal
 
 pub returns-clause-within : goal.returns-clause-within

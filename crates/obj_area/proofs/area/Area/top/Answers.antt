@@ -1,6 +1,6 @@
 use Rattle.std.proofs.Common.{arith}
 use Rattle.obj_area.proofs.WordLaws.{length-words_of}
-use Rattle.obj_area.proofs.AreaLaws.{seen-is_area}
+use Rattle.obj_area.proofs.SeenLaws.{seen-is_area}
 use Rattle.obj_area.proofs.area.Area.top.Goals as goal
 
 pub overflow_cast-result : goal.overflow_cast-result

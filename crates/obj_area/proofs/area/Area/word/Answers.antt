@@ -1,5 +1,5 @@
 use Rattle.std.proofs.Common.{arith}
-use Rattle.obj_area.proofs.AreaLaws.{given_out-lies}
+use Rattle.obj_area.proofs.SeenLaws.{given_out-lies}
 use Rattle.obj_area.proofs.area.Area.word.Goals as goal
 
 pub word-requires : goal.word-requires
