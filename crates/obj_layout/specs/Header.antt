@@ -9,6 +9,15 @@ use Rattle.obj_layout.specs.declared.header.LayoutFault.TheVariants.{UnknownKind
 abbrev pub object_length : Header → ℕ
 object_length header = 4 + header.refs + header.nums
 
+-- the fields of a header are of their size
+pub record HasFitFields (header : Header) : Type 0 where
+  pub flags : header.flags < 2 ^ 8
+  pub refs : header.refs < 2 ^ 32
+  pub nums : header.nums < 2 ^ 32
+  pub bytes : header.bytes < 2 ^ 32
+  pub pid : header.pid < 2 ^ 64
+  pub chain : header.chain < 2 ^ 64
+
 -- the bytes of an object lie in its number words, and it has at most 2 ^ 31 words
 pub record HasFitLengths (header : Header) : Type 0 where
   pub bytes : header.bytes ≤ 8 * header.nums
@@ -25,11 +34,15 @@ length_fault refs nums bytes =
     if nat_lt (8 * nums) bytes then Some (BadLength bytes (8 * nums)) else
     if nat_lt (2 ^ 31) (4 + refs + nums) then Some (BadLength (4 + refs + nums) (2 ^ 31)) else None
 
--- why four words spell no header: the first reason in this order
+-- what is wrong with the parts of a header: the first fault in this order
+abbrev pub fault_of : ℕ → ℕ → ℕ → ℕ → ℕ → Option LayoutFault
+fault_of number spare refs nums bytes =
+    if is_none (kind_numbered number) then Some (UnknownKind number) else
+    if nat_lt 0 spare then Some (BadBits spare) else length_fault refs nums bytes
+
+-- why four words spell no header
 abbrev pub header_fault : List ℕ → Option LayoutFault
 header_fault words =
     let first = slice_index words 0 in
     let third = slice_index words 2 in
-    if is_none (kind_numbered (first % 2 ^ 8)) then Some (UnknownKind (first % 2 ^ 8)) else
-    if nat_lt 0 (first / 2 ^ 16 % 2 ^ 16) then Some (BadBits (first / 2 ^ 16 % 2 ^ 16)) else
-    length_fault (first / 2 ^ 32) (third % 2 ^ 32) (third / 2 ^ 32)
+    fault_of (first % 2 ^ 8) (first / 2 ^ 16 % 2 ^ 16) (first / 2 ^ 32) (third % 2 ^ 32) (third / 2 ^ 32)

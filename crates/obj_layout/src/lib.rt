@@ -5,3 +5,5 @@
 pub mod header;
 pub mod kind;
 pub mod reference;
+#[cfg(test)]
+mod tests;

@@ -1,0 +1,3 @@
+pub mod ReferenceLaws
+pub mod HeaderLaws
+pub mod ObjectLaws
