@@ -1,8 +1,7 @@
 -- A space is cut into objects in at most one way.
-use Rattle.std.proofs.Common.{◌≡◌, ℕ, ◌+◌, ◌-◌, ◌*◌, ◌/◌, ◌%◌, ◌^◌, ◌<◌, ◌≤◌, List, [], ◌∷◌, ◌++◌, length, take, drop, refl, sym, ap, ◌∙◌, subst, arith, rules, length-append, append_assoc, inl, inr}
+use Rattle.std.proofs.Common.{◌≡◌, ℕ, ◌+◌, ◌-◌, ◌≤◌, List, [], ◌∷◌, ◌++◌, length, take, drop, refl, sym, ap, ◌∙◌, subst, arith, length-append, append_assoc, inl, inr}
 use Rattle.std.proofs.lemmas.List.{take-append-le, take-append-drop, take_at, drop_at}
 use Rattle.std.proofs.Math.Seq.{drop-append-add}
-use Rattle.obj_layout.specs.declared.header.Header.{Header}
 use Rattle.obj_layout.specs.Header.{header_words, object_length}
 use Rattle.obj_layout.specs.Objects.{IsObject, Placed, Cuts, IsAmong, Lies}
 use Rattle.obj_layout.proofs.HeaderLaws.{header_words-injective}

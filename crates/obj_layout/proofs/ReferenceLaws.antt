@@ -1,5 +1,5 @@
 -- Each reference has one spelling.
-use Rattle.std.proofs.Common.{◌≡◌, ℕ, ◌+◌, ◌-◌, ◌^◌, ◌<◌, ◌≤◌, Option, Some, None, refl, sym, ap, ◌∙◌, arith, rules, eqb, ltb, cond, Bool, true, false}
+use Rattle.std.proofs.Common.{◌≡◌, ℕ, ◌^◌, ◌<◌, Some, refl, arith}
 use Rattle.std.proofs.lemmas.Grind.{common_steps}
 use Rattle.obj_layout.specs.declared.reference.Reference.{Reference}
 use Rattle.obj_layout.specs.declared.reference.Reference.TheVariants.{Nil, Pid, Local}

@@ -1,5 +1,5 @@
 -- The four words at the start of an object.
-use Rattle.std.specs.Prelude.{ℕ, ◌+◌, ◌*◌, ◌/◌, ◌%◌, ◌^◌, ◌<◌, ◌≤◌, List, [], ◌∷◌, Option, Some, None, ◌==◌, nat_lt, is_none, if◌then◌else◌, slice_index}
+use Rattle.std.specs.Prelude.{ℕ, ◌+◌, ◌*◌, ◌/◌, ◌%◌, ◌^◌, ◌<◌, ◌≤◌, List, [], ◌∷◌, Option, Some, None, nat_lt, is_none, if◌then◌else◌, slice_index}
 use Rattle.obj_layout.specs.Kind.{kind_number, kind_numbered}
 use Rattle.obj_layout.specs.declared.header.Header.{Header}
 use Rattle.obj_layout.specs.declared.header.LayoutFault.{LayoutFault}
