@@ -88,7 +88,8 @@ impl Area {
 
     pub fn set_word(&mut self, at: u32, value: u64)
         requires { IsGivenOut self.old at 1 }
-        ensures { self.new ≡ with_word self.old at value }
+        ensures written { self.new ≡ with_word self.old at value }
+        ensures top { top_of self.new ≡ top_of self.old }
     {
         spelling::set_word(&mut self.bytes, at as usize - 1, value);
     }
@@ -104,7 +105,8 @@ impl Area {
     /// Writes `from` over the words from `at` on.
     pub fn write_words(&mut self, at: u32, from: &[u64])
         requires { IsGivenOut self.old at (length from.now) }
-        ensures { self.new ≡ with_words self.old at from.now }
+        ensures written { self.new ≡ with_words self.old at from.now }
+        ensures top { top_of self.new ≡ top_of self.old }
     {
         spelling::write(&mut self.bytes, at as usize - 1, from);
     }
@@ -112,7 +114,8 @@ impl Area {
     /// The first `len` bytes of the words from `at` on, low byte first.
     pub fn bytes(&self, at: u32, len: u32) -> &[u8]
         requires { IsGivenOut self.now at (words_for len) }
-        ensures { result.now ≡ bytes_at self.now at len }
+        ensures value { result.now ≡ bytes_at self.now at len }
+        ensures len { length result.now ≡ len }
     {
         spelling::bytes_from(&self.bytes, at as usize - 1, len as usize)
     }
@@ -122,6 +125,7 @@ impl Area {
         requires { IsGivenOut self.old at (words_for len) }
         ensures* writes_back { sem 𝓛 (LendsBytes self.entry at result) }
         ensures value { result.now ≡ bytes_at self.old at len }
+        ensures len { length result.now ≡ len }
     {
         spelling::bytes_from_mut(&mut self.bytes, at as usize - 1, len as usize)
     }

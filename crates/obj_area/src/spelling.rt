@@ -59,7 +59,8 @@ fn are_spelled(bytes: &[u8])
 pub fn bytes_from(bytes: &[u8], index: usize, len: usize) -> &[u8]
     requires whole { AreWhole bytes.now }
     requires within { 8 * index + len ≤ length bytes.now }
-    ensures { result.now ≡ take len (drop (8 * index) (bytes_of (words_of bytes.now))) }
+    ensures value { result.now ≡ take len (drop (8 * index) (bytes_of (words_of bytes.now))) }
+    ensures len { length result.now ≡ len }
 {
     let start = 8 * index;
     &bytes[start..start + len]
@@ -71,6 +72,7 @@ pub fn bytes_from_mut<A: Allocator>(bytes: &mut Vec<u8, A>, index: usize, len: u
     requires within { 8 * index + len ≤ length bytes.old.items }
     ensures* writes_back { sem 𝓛 (vec_follows_range u8 A.row A.Allocator bytes.entry (8 * index) result) }
     ensures value { result.now ≡ take len (drop (8 * index) bytes.old.items) }
+    ensures len { length result.now ≡ len }
     ensures spelled { bytes_of (words_of bytes.old.items) ≡ bytes.old.items }
 {
     are_spelled(bytes);

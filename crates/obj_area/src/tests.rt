@@ -40,6 +40,7 @@ fn spells_words_low_byte_first(rt: HostRuntime) -> Result<(), Fail> {
     assert_eq!(rt; area.bytes(2, 3), [1, 2, 3].as_slice());
     let bytes = area.bytes_mut(2, 9);
     bytes.copy_from_slice(&[8, 7, 6, 5, 4, 3, 2, 1, 9]);
+    assert_eq!(rt; area.top(), 4);
     assert_eq!(rt; area.word(2), 0x0102_0304_0506_0708);
     assert_eq!(rt; area.word(3), 9);
     area.write_words(1, &[WORD, 1]);

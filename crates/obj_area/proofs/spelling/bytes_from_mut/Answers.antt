@@ -8,6 +8,7 @@ returns g c =
       record {
         writes_back = tt;
         value = c.slice_mut.ensures.value ∙ ap (λ (n : ℕ). take n (drop (8 * c.args.index) c.args.bytes.now.items)) count;
+        len = c.slice_mut.ensures.len ∙ count;
         spelled = rw c.deref.ensures.value at c.are_spelled.ensures;
       },
     )

@@ -13,5 +13,6 @@ returns c =
       record {
         writes_back = tt;
         value = c.bytes_from_mut.ensures.value ∙ bytes_at-seen _ _ _ c.args.at c.args.len c.self.view_is c.bytes_from_mut.ensures.spelled;
+        len = c.bytes_from_mut.ensures.len;
       },
     )
