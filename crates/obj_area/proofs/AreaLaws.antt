@@ -1,11 +1,11 @@
 -- Laws of areas, for the layers above: what a read finds after words were given out or written.
-use Rattle.std.proofs.Common.{◌≡◌, ◌≢◌, ℕ, zero, suc, ◌+◌, ◌-◌, ◌*◌, ◌/◌, ◌^◌, ◌<◌, ◌≤◌, List, [], ◌∷◌, ◌++◌, length, take, drop, set, get_or, slice_index, replicate, refl, sym, ap, ◌∙◌, subst, arith, append_assoc, length-append, length-drop}
+use Rattle.std.proofs.Common.{◌≡◌, ◌≢◌, ℕ, zero, suc, ◌+◌, ◌-◌, ◌*◌, ◌^◌, ◌<◌, ◌≤◌, List, [], ◌∷◌, ◌++◌, length, take, drop, set, slice_index, replicate, refl, sym, ap, ◌∙◌, subst, arith, append_assoc, length-append, length-drop}
 use Rattle.std.proofs.Math.Seq.{take-set-lt, take-append-add}
 use Rattle.std.proofs.lemmas.List.{drop-drop, take-take, take-append-drop, take_at, drop_at, take_all, take-append-le, drop-append-le, length-take-le, length-replicate, get_or-take, get_or-drop, get_or_append_left, get_or-set_same, get_or-set_other, length-set, take-set-le, drop-set-lt, drop-set-add, drop-take}
-use Rattle.std.specs.Int.{byte_at, bytes_low_first}
-use Rattle.obj_area.specs.Words.{word_bytes, bytes_of, words_of, AreWhole, AreWords, AreBytes, AreBelow, overwritten}
+use Rattle.std.specs.Int.{bytes_low_first}
+use Rattle.obj_area.specs.Words.{word_bytes, bytes_of, words_of, AreWords, AreBytes, AreBelow, overwritten}
 use Rattle.obj_area.specs.Area.{AreaView, IsArea, IsGivenOut, fresh_area, top_of, words_for, word_at, words_at, bytes_at, with_zeros, with_word, with_words, with_bytes}
-use Rattle.obj_area.proofs.WordLaws.{AreWords-words_of, bytes_of-nil, bytes_of-cons, length-bytes_of, length-words_of, words_of-bytes_of, bytes_of-words_of, bytes_of-append, overwritten-inside, words_of-append, words_of-take, words_of-drop}
+use Rattle.obj_area.proofs.WordLaws.{AreWords-words_of, bytes_of-nil, bytes_of-cons, length-bytes_of, length-words_of, words_of-bytes_of, bytes_of-words_of, bytes_of-append, overwritten-inside, words_of-take, words_of-drop}
 
 -- Words of a range.
 

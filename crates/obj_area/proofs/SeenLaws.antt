@@ -1,9 +1,9 @@
 -- What the bytes of an area say of the words that its callers see.
-use Rattle.std.proofs.Common.{◌≡◌, ℕ, suc, ◌+◌, ◌-◌, ◌*◌, ◌/◌, ◌^◌, ◌<◌, ◌≤◌, List, [], ◌∷◌, ◌++◌, length, take, drop, set, slice_index, replicate, refl, sym, ap, ◌∙◌, subst, arith, append_assoc, length-append, length-drop}
+use Rattle.std.proofs.Common.{◌≡◌, ℕ, ◌+◌, ◌-◌, ◌*◌, ◌/◌, ◌^◌, ◌≤◌, List, ◌++◌, length, take, drop, replicate, sym, ap, ◌∙◌, subst, arith}
 use Rattle.std.proofs.lemmas.List.{take_all}
 use Rattle.obj_area.specs.Words.{bytes_of, words_of, AreWhole, AreWords, overwritten}
-use Rattle.obj_area.specs.Area.{AreaView, IsArea, IsGivenOut, seen_as, fresh_area, top_of, bytes_at, with_zeros, with_bytes}
-use Rattle.obj_area.proofs.WordLaws.{length-words_of, words_of-nil, words_of-zeros}
+use Rattle.obj_area.specs.Area.{AreaView, IsArea, IsGivenOut, seen_as, bytes_at, with_zeros, with_bytes}
+use Rattle.obj_area.proofs.WordLaws.{length-words_of, words_of-zeros}
 
 -- an area's words are as many as its bytes spell
 pub length-seen : (bytes : List ℕ) (size : ℕ) (area : AreaView) → seen_as bytes size ≡ area → length area.words ≡ length bytes / 8

@@ -1,10 +1,10 @@
 -- What the reads and writes of words in bytes come to, in the form that `byteorder` and a range of a slice give.
-use Rattle.std.proofs.Common.{◌≡◌, ℕ, suc, ◌+◌, ◌-◌, ◌*◌, ◌/◌, ◌^◌, ◌<◌, ◌≤◌, List, [], ◌∷◌, ◌++◌, length, take, drop, set, slice_index, refl, sym, ap, ◌∙◌, arith, append_assoc, length-append, length-drop}
-use Rattle.std.proofs.lemmas.List.{drop-drop, length-take-le, append-nil, same_lists, ext_get_or, take_all, drop_all, drop-take, get_or-take, get_or-drop}
+use Rattle.std.proofs.Common.{◌≡◌, ℕ, ◌+◌, ◌-◌, ◌*◌, ◌^◌, ◌<◌, ◌≤◌, List, [], ◌++◌, length, take, drop, set, slice_index, sym, ap, ◌∙◌, arith, length-drop}
+use Rattle.std.proofs.lemmas.List.{drop-drop, length-take-le, append-nil, ext_get_or, take_all, drop_all, drop-take, get_or-take, get_or-drop}
 use Rattle.std.specs.List.{flat_map}
 use Rattle.byteorder.specs.Endian.{little_bytes, little_number, IsRead}
 use Rattle.byteorder.specs.Numbers.{little_from-take}
-use Rattle.obj_area.specs.Words.{first_word, word_bytes, bytes_of, words_of, words_in, AreWords, overwritten}
+use Rattle.obj_area.specs.Words.{first_word, word_bytes, bytes_of, words_of, AreWords, overwritten}
 use Rattle.obj_area.proofs.WordLaws.{length-words_of, length-bytes_of, slice_index-words_of, words_of-set, words_of-overwritten, overwritten-inside}
 
 -- the rest of a list, as a range to its end has it

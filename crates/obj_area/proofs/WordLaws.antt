@@ -1,13 +1,10 @@
 -- Laws of words and of the bytes that spell them.
-use Rattle.std.proofs.Common.{◌≡◌, ℕ, zero, suc, ◌+◌, ◌-◌, ◌*◌, ◌/◌, ◌%◌, ◌^◌, ◌<◌, ◌≤◌, List, [], ◌∷◌, ◌++◌, length, take, drop, get_or, set, slice_index, replicate, refl, sym, ap, ◌∙◌, subst, arith, rules, append_assoc, length-append, length-drop, add-one}
-use Rattle.std.proofs.lemmas.List.{drop-drop, take_at, drop_at, take-append-le, drop-append-le, length-take-le, take-append-drop, drop-take, length-replicate, take-replicate, drop-replicate, get_or-take, get_or-drop, set_split, append-nil, nil_from_length, replicate-append-replicate}
+use Rattle.std.proofs.Common.{◌≡◌, ℕ, zero, suc, ◌+◌, ◌*◌, ◌/◌, ◌^◌, ◌<◌, ◌≤◌, List, [], ◌∷◌, ◌++◌, length, take, drop, set, slice_index, replicate, refl, sym, ap, ◌∙◌, arith, append_assoc, length-append, length-drop}
+use Rattle.std.proofs.lemmas.List.{drop-drop, take_at, drop_at, drop-append-le, length-take-le, take-append-drop, length-replicate, get_or-drop, set_split, append-nil, nil_from_length, replicate-append-replicate}
 use Rattle.std.proofs.lemmas.List.Concat.{flat_map-append}
-use Rattle.std.proofs.lemmas.Grind.{common_steps}
 use Rattle.std.proofs.lemmas.Nat.{le_bytes_8}
-use Rattle.std.specs.Int.{w64, from_le_bytes, to_le_bytes}
-use Rattle.std.specs.List.{flat_map}
-use Rattle.byteorder.specs.Endian.{little_bytes, little_number, little_from}
-use Rattle.byteorder.specs.Numbers.{little_from-append, little_from-take, little_from-lt, little_number-reads_back, length-bytes_low_first}
+use Rattle.byteorder.specs.Endian.{little_number}
+use Rattle.byteorder.specs.Numbers.{little_from-append, little_from-lt, little_number-reads_back, length-bytes_low_first}
 use Rattle.obj_area.specs.Words.{first_word, word_bytes, bytes_of, words_in, words_of, AreWhole, AreWords, AreBytes, overwritten}
 
 -- a word reads no byte past its eight

@@ -1,6 +1,5 @@
 -- What an area is to its callers: the words that it has given out, and its size.
-use Rattle.std.specs.Prelude.{ℕ, ◌+◌, ◌-◌, ◌*◌, ◌/◌, ◌≤◌, ◌^◌, List, [], ◌++◌, length, take, drop, replicate, slice_index, slice_set, slice_range}
-use Rattle.std.specs.Borrow.{Lends, MutBor, Fml, Array, u8}
+use Rattle.std.specs.Prelude.{ℕ, ◌+◌, ◌-◌, ◌*◌, ◌/◌, ◌≤◌, ◌^◌, List, [], ◌++◌, length, take, drop, replicate, slice_index, slice_set}
 use Rattle.obj_area.specs.Words.{bytes_of, words_of, AreWords, overwritten}
 
 -- the words that are given out, of which the first has index 1, and the index that no word reaches

@@ -7,7 +7,8 @@ use crate::spelling;
 use std::alloc::{AllocError, Global};
 use std::marker::Model;
 
-/// One allocation, whose words are given out in order and forgotten all at once.
+/// One allocation, whose words are given out in order and forgotten all at once. A word is named by
+/// its index, from 1; no word has index 0, so that 0 can stand for none.
 #[derive(Drop)]
 pub struct Area {
     // The words that are given out, low byte first, the one with index 1 at the start.
@@ -39,7 +40,8 @@ impl Area {
         Ok(Area { bytes, room: words })
     }
 
-    /// Gives out `words` words, all 0, and answers the index of the first. Takes no memory.
+    /// Gives out `words` words, all 0, and answers the index of the first. Takes no memory. None where
+    /// fewer are left, and then the area stays.
     pub fn make(&mut self, words: u32) -> Option<u32>
         ensures place { SomeIff result (top_of self.old + words ≤ self.old.size) (top_of self.old) }
         ensures made { MatchOption result (self.new ≡ self.old) (λ _. self.new ≡ with_zeros self.old words) }
@@ -55,7 +57,7 @@ impl Area {
         }
     }
 
-    /// Takes all words back.
+    /// Takes all words back, in no time that depends on their number.
     pub fn reset(&mut self)
         ensures { self.new ≡ fresh_area self.old.size }
     {
@@ -79,6 +81,8 @@ impl Area {
         self.room + 1
     }
 
+    /// The word at index `at`.
+    #[inline]
     pub fn word(&self, at: u32) -> u64
         requires { IsGivenOut self.now at 1 }
         ensures { result ≡ word_at self.now at }
@@ -86,6 +90,8 @@ impl Area {
         spelling::word(&self.bytes, at as usize - 1)
     }
 
+    /// Writes `value` over the word at index `at`.
+    #[inline]
     pub fn set_word(&mut self, at: u32, value: u64)
         requires { IsGivenOut self.old at 1 }
         ensures written { self.new ≡ with_word self.old at value }
@@ -120,7 +126,8 @@ impl Area {
         spelling::bytes_from(&self.bytes, at as usize - 1, len as usize)
     }
 
-    /// The same bytes, to be written. The other bytes of the area stay.
+    /// The same bytes, to be written. All other bytes of the area stay, also those behind them in their
+    /// last word.
     pub fn bytes_mut(&mut self, at: u32, len: u32) -> &mut [u8]
         requires { IsGivenOut self.old at (words_for len) }
         ensures* writes_back { sem 𝓛 (LendsBytes self.entry at result) }

@@ -16,6 +16,7 @@ pub fn count(bytes: &[u8]) -> usize
 }
 
 /// The word at `index`.
+#[inline]
 pub fn word(bytes: &[u8], index: usize) -> u64
     requires { 8 * index + 8 ≤ length bytes.now }
     ensures { result ≡ slice_index (words_of bytes.now) index }
@@ -24,6 +25,7 @@ pub fn word(bytes: &[u8], index: usize) -> u64
 }
 
 /// Writes `value` over the word at `index`.
+#[inline]
 pub fn set_word(bytes: &mut [u8], index: usize, value: u64)
     requires { 8 * index + 8 ≤ length bytes.old }
     ensures { words_of bytes.new ≡ slice_set (words_of bytes.old) index value }

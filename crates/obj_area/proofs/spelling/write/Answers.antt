@@ -1,4 +1,4 @@
-use Rattle.std.proofs.Common.{refl, arith}
+use Rattle.std.proofs.Common.{arith}
 use Rattle.obj_area.proofs.SpellingLaws.{words_written}
 use Rattle.obj_area.proofs.spelling.write.Goals as goal
 

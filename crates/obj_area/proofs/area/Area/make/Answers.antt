@@ -1,4 +1,4 @@
-use Rattle.std.proofs.Common.{arith, ap, refl, ◌+◌, ◌*◌}
+use Rattle.std.proofs.Common.{arith, ap}
 use Rattle.obj_area.specs.Area.{AreaView}
 use Rattle.obj_area.proofs.SeenLaws.{length-seen, seen-zeros}
 use Rattle.obj_area.proofs.area.Area.make.Goals as goal

@@ -1,4 +1,4 @@
-use Rattle.std.proofs.Common.{ap, ◌∙◌, refl}
+use Rattle.std.proofs.Common.{refl}
 use Rattle.obj_area.proofs.WordLaws.{words_of-nil}
 use Rattle.obj_area.proofs.area.Area.reset.Goals as goal
 
