@@ -1,3 +1,4 @@
 pub mod ReferenceLaws
 pub mod HeaderLaws
 pub mod ObjectLaws
+pub mod ContentLaws
