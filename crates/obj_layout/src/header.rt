@@ -37,6 +37,7 @@ const GREATEST_OBJECT: u64 = 1 << 31;
 /// Reads a header.
 pub fn read_header(words: &[u64; 4]) -> Result<Header, LayoutFault>
     ensures read { IfOk result (λ header. header_words header ≡ words.now) }
+    ensures lengths { IfOk result HasFitLengths }
     ensures refused { MatchResult result (λ _. header_fault words.now ≡ None) (λ fault. header_fault words.now ≡ Some fault) }
 {
     let number = (words[0] & 0xff) as u8;
