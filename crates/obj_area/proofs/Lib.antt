@@ -1,0 +1,4 @@
+pub mod WordLaws
+pub mod AreaLaws
+mod SpellingLaws
+mod SeenLaws

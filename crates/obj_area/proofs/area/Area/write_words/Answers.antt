@@ -1,0 +1,6 @@
+use Rattle.std.proofs.Common.{arith}
+use Rattle.obj_area.proofs.SeenLaws.{given_out-lies}
+use Rattle.obj_area.proofs.area.Area.write_words.Goals as goal
+
+pub write-requires : goal.write-requires
+write-requires c = omega (arith, given_out-lies _ _ _ _ _ c.self.view_is c.requires)

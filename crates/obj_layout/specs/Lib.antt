@@ -1,0 +1,4 @@
+pub mod Kind
+pub mod Reference
+pub mod Header
+pub mod Objects
