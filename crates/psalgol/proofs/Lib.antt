@@ -6,3 +6,4 @@ pub mod Steps
 pub mod Weights
 pub mod Between
 pub mod Generated
+pub mod WordLemmas

@@ -1,6 +1,9 @@
+pub mod Answering
 pub mod Code
 pub mod Emission
 pub mod Machine
 pub mod Ready
+pub mod Reports
 pub mod Stepping
 pub mod Telling
+pub mod Words

@@ -3,9 +3,12 @@
 
 mod generate;
 mod instruction;
+mod load;
 mod machine;
+mod report;
 mod run;
 mod run_end;
 mod tell;
+mod words;
 
 fn main() {}
