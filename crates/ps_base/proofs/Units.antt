@@ -18,4 +18,4 @@ unfolding constant_view
 constant_view-Unit box =
     ap (λ constants. literal (unit box.value.code constants box.value.frame)) (row_view-items (hidden-the_row-Constant-0 box.value.constants.vec) ∙ ap constants_view (items_hidden-the_row-Constant-0 box.value.constants.vec))
 
-pub ruleset unit_views = constant_view-Unit
+pub ruleset unit_views = (constant_view-Unit)
