@@ -1,0 +1,119 @@
+ghost use Rattle.std.specs.Prelude.{◌≡◌, ◌<◌, ◌≤◌, ◌+◌, [], ◌∷◌, ◌++◌, drop, length, IfSome, MatchOption};
+ghost use Rattle.ps_base.specs.Instr.{word, words, spelling, width_of};
+
+use crate::table::instructions;
+use byteorder::{ByteOrder, LittleEndian};
+use ps_base::instr::Instr;
+use ps_base::line::Line;
+
+macro_rules! value {
+    (word $number:expr) => {
+        $number
+    };
+    (int $number:expr) => {
+        $number.cast_signed()
+    };
+    (line $number:expr) => {
+        Line($number)
+    };
+}
+
+macro_rules! take {
+    ($rest:ident, $variant:ident) => {
+        Some((Instr::$variant, 1))
+    };
+    ($rest:ident, $variant:ident, $a:ident $ka:ident) => {
+        match one_word($rest) {
+            Some(a) => Some((Instr::$variant { $a: value!($ka a) }, 5)),
+            None => None,
+        }
+    };
+    ($rest:ident, $variant:ident, $a:ident $ka:ident, $b:ident $kb:ident) => {
+        match two_words($rest) {
+            Some((a, b)) => Some((Instr::$variant { $a: value!($ka a), $b: value!($kb b) }, 9)),
+            None => None,
+        }
+    };
+    ($rest:ident, $variant:ident, $a:ident $ka:ident, $b:ident $kb:ident, $c:ident $kc:ident) => {
+        match three_words($rest) {
+            Some((a, b, c)) => Some((Instr::$variant { $a: value!($ka a), $b: value!($kb b), $c: value!($kc c) }, 13)),
+            None => None,
+        }
+    };
+    ($rest:ident, $variant:ident, $a:ident $ka:ident, $b:ident $kb:ident, $c:ident $kc:ident, $d:ident $kd:ident) => {
+        match four_words($rest) {
+            Some((a, b, c, d)) => Some((Instr::$variant { $a: value!($ka a), $b: value!($kb b), $c: value!($kc c), $d: value!($kd d) }, 17)),
+            None => None,
+        }
+    };
+}
+
+macro_rules! take_each {
+    (($number:ident $rest:ident) $($code:literal $name:literal $variant:ident { $($field:ident: $kind:ident),* })*) => {
+        match $number {
+            $($code => take!($rest, $variant $(, $field $kind)*),)*
+            _ => None,
+        }
+    };
+}
+
+/// The instruction whose spelling stands at the front of the bytes, and how many bytes it has.
+pub fn decode(bytes: &[u8]) -> Option<(Instr, usize)>
+    ensures found { IfSome result (λ x. bytes.now ≡ spelling x.0 ++ drop x.1 bytes.now) }
+    ensures width { IfSome result (λ x. x.1 ≡ width_of x.0) }
+{
+    match bytes.split_first() {
+        Some((code, rest)) => take_row(*code, rest),
+        None => None,
+    }
+}
+
+fn take_row(code: u8, rest: &[u8]) -> Option<(Instr, usize)>
+    ensures found { IfSome result (λ x. code ∷ rest.now ≡ spelling x.0 ++ drop x.1 (code ∷ rest.now)) }
+    ensures width { IfSome result (λ x. x.1 ≡ width_of x.0) }
+{
+    instructions!(take_each code rest)
+}
+
+fn one_word(bytes: &[u8]) -> Option<u32>
+    ensures { MatchOption result (length bytes.now < 4) (λ a. bytes.now ≡ word a ++ drop 4 bytes.now) }
+{
+    if bytes.len() < 4 {
+        return None;
+    }
+    Some(word_at(bytes, 0))
+}
+
+fn two_words(bytes: &[u8]) -> Option<(u32, u32)>
+    ensures { MatchOption result (length bytes.now < 8) (λ x. bytes.now ≡ (word x.0 ++ word x.1) ++ drop 8 bytes.now) }
+{
+    if bytes.len() < 8 {
+        return None;
+    }
+    Some((word_at(bytes, 0), word_at(bytes, 4)))
+}
+
+fn three_words(bytes: &[u8]) -> Option<(u32, u32, u32)>
+    ensures { MatchOption result (length bytes.now < 12) (λ x. bytes.now ≡ (word x.0 ++ (word x.1 ++ word x.2)) ++ drop 12 bytes.now) }
+{
+    if bytes.len() < 12 {
+        return None;
+    }
+    Some((word_at(bytes, 0), word_at(bytes, 4), word_at(bytes, 8)))
+}
+
+fn four_words(bytes: &[u8]) -> Option<(u32, u32, u32, u32)>
+    ensures { MatchOption result (length bytes.now < 16) (λ x. bytes.now ≡ (word x.0 ++ (word x.1 ++ (word x.2 ++ word x.3))) ++ drop 16 bytes.now) }
+{
+    if bytes.len() < 16 {
+        return None;
+    }
+    Some((word_at(bytes, 0), word_at(bytes, 4), word_at(bytes, 8), word_at(bytes, 12)))
+}
+
+fn word_at(bytes: &[u8], at: usize) -> u32
+    requires { at + 4 ≤ length bytes.now }
+    ensures { drop at bytes.now ≡ word result ++ drop (at + 4) bytes.now }
+{
+    LittleEndian::read_u32(&bytes[at..at + 4])
+}

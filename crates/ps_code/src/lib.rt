@@ -1,0 +1,6 @@
+//! The instructions as bytes: each has one spelling, and no spelling is the front of another.
+#![tactic(auto)]
+
+pub mod decode;
+pub mod encode;
+mod table;
