@@ -1,5 +1,7 @@
-ghost use Rattle.std.specs.Prelude.{◌≡◌, ◌<◌, ◌≤◌, ◌+◌, [], ◌∷◌, ◌++◌, drop, length, IfSome, MatchOption};
-ghost use Rattle.ps_base.specs.Instr.{word, words, spelling, width_of};
+ghost use Rattle.std.specs.Prelude.{◌≡◌, ℕ, ◌<◌, ◌≤◌, ◌+◌, ◌*◌, List, [], ◌∷◌, ◌++◌, drop, length, Some, IfSome, IfNone, MatchOption};
+ghost use Rattle.ps_base.specs.declared.instr.Instr.{Instr};
+ghost use Rattle.ps_base.specs.Instr.{word, spelling, width_of, IsInstr};
+ghost use Rattle.ps_code.specs.Codes.{IsCode, operand_count};
 
 use crate::table::instructions;
 use byteorder::{ByteOrder, LittleEndian};
@@ -51,16 +53,20 @@ macro_rules! take {
 macro_rules! take_each {
     (($number:ident $rest:ident) $($code:literal $name:literal $variant:ident { $($field:ident: $kind:ident),* })*) => {
         match $number {
+            0 | 78..=255 => None,
             $($code => take!($rest, $variant $(, $field $kind)*),)*
-            _ => None,
         }
     };
 }
 
 /// The instruction whose spelling stands at the front of the bytes, and how many bytes it has.
+/// `None` where no spelling stands there.
 pub fn decode(bytes: &[u8]) -> Option<(Instr, usize)>
     ensures found { IfSome result (λ x. bytes.now ≡ spelling x.0 ++ drop x.1 bytes.now) }
     ensures width { IfSome result (λ x. x.1 ≡ width_of x.0) }
+    ensures within { IfSome result (λ x. x.1 ≤ length bytes.now) }
+    // Whatever follows the spelling of an instruction, that instruction is answered.
+    ensures only { (i : Instr) (rest : List ℕ) → IsInstr i → bytes.now ≡ spelling i ++ rest → result ≡ Some (i, width_of i) }
 {
     match bytes.split_first() {
         Some((code, rest)) => take_row(*code, rest),
@@ -71,6 +77,8 @@ pub fn decode(bytes: &[u8]) -> Option<(Instr, usize)>
 fn take_row(code: u8, rest: &[u8]) -> Option<(Instr, usize)>
     ensures found { IfSome result (λ x. code ∷ rest.now ≡ spelling x.0 ++ drop x.1 (code ∷ rest.now)) }
     ensures width { IfSome result (λ x. x.1 ≡ width_of x.0) }
+    ensures fits { IfSome result (λ x. IsInstr x.0) }
+    ensures none { IfNone result (IsCode code → length rest.now < 4 * operand_count code) }
 {
     instructions!(take_each code rest)
 }
