@@ -61,6 +61,7 @@ macro_rules! take_each {
 
 /// The instruction whose spelling stands at the front of the bytes, and how many bytes it has.
 /// `None` where no spelling stands there.
+#[inline(always)]
 pub fn decode(bytes: &[u8]) -> Option<(Instr, usize)>
     ensures found { IfSome result (λ x. bytes.now ≡ spelling x.0 ++ drop x.1 bytes.now) }
     ensures width { IfSome result (λ x. x.1 ≡ width_of x.0) }
@@ -74,6 +75,7 @@ pub fn decode(bytes: &[u8]) -> Option<(Instr, usize)>
     }
 }
 
+#[inline(always)]
 fn take_row(code: u8, rest: &[u8]) -> Option<(Instr, usize)>
     ensures found { IfSome result (λ x. code ∷ rest.now ≡ spelling x.0 ++ drop x.1 (code ∷ rest.now)) }
     ensures width { IfSome result (λ x. x.1 ≡ width_of x.0) }

@@ -4,4 +4,4 @@
 pub mod decode;
 pub mod encode;
 pub mod laws;
-mod table;
+pub mod table;
