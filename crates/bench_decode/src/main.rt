@@ -4,14 +4,14 @@
 use anyhow::{Context, Result};
 use ps_base::instr::Instr;
 use ps_code::decode::decode;
-use ps_code::table::INSTRUCTIONS;
+use ps_code::table::rows;
 use std::alloc::{AllocError, Global};
 use std::env;
 
 // Every instruction in turn, so many in all.
 fn code_of(alloc: Global, count: usize) -> Result<Vec<u8>, AllocError> {
     let mut code = Vec::new(alloc);
-    for row in INSTRUCTIONS.iter().cycle().take(count) {
+    for row in rows().iter().cycle().take(count) {
         code.push(row.code)?;
         for _ in 0..row.operands {
             code.extend_from_slice(&[7, 0, 0, 0])?;

@@ -1,15 +1,13 @@
 -- An instruction from its code and its operands, and so what two spellings of one front are.
-use Rattle.std.proofs.Common.{◌≡◌, ℕ, zero, suc, ◌+◌, ◌*◌, ◌^◌, ◌<◌, ◌≤◌, List, [], ◌∷◌, ◌++◌, length, take, drop, get_or, refl, sym, ap, ◌∙◌, arith, lit≤, append_assoc, length-append, ◌-◌}
+use Rattle.std.proofs.Common.{◌≡◌, ℕ, ◌^◌, ◌<◌, List, [], ◌∷◌, ◌++◌, length, take, drop, get_or, refl, sym, ap, ◌∙◌, arith, lit≤, append_assoc, ◌-◌}
 use Rattle.std.specs.Prelude.{slice_index}
 use Rattle.std.specs.List.{AllByRecursion}
-use Rattle.std.specs.Int.{w32, to_le_bytes, from_le_bytes, cast_signed, cast_unsigned}
+use Rattle.std.specs.Int.{w32, to_le_bytes, from_le_bytes, cast_signed}
 use Rattle.std.proofs.lemmas.Nat.{from_le_bytes-to_le_bytes_4}
 use Rattle.std.proofs.lemmas.Int.{to_z-of_z, ints}
-use Rattle.ps_base.specs.declared.line.Line.{Line}
 use Rattle.ps_base.specs.declared.instr.Instr.{Instr}
 use Rattle.ps_base.specs.declared.instr.Instr.TheVariants.{Int, True, False, Text, Nil, GetM, GetP, SetM, SetP, KeptM, KeptP, KeepM, KeepP, Scope, Leave, Jump, JumpFalse, Again, And, Or, Not, Neg, Add, Sub, Mul, Div, Rem, EqM, NeM, LtM, LeM, GtM, GeM, EqP, NeP, EqT, NeT, LtT, LeT, GtT, GeT, Join, Part, Is, Make, FieldM, FieldP, SetFieldM, SetFieldP, FillM, FillP, ListM, ListP, ElemM, ElemP, SetElemM, SetElemP, Lwb, Upb, Closure, Call, Return, Lib, WriteI, WriteB, WriteT, Abort, ForStart, ForNext, ScanT, ScanI, ScanMore, DupM, DupP, DropM, DropP, JumpTrue}
-use Rattle.ps_base.specs.Instr.{word, words, parts_of, spelling, width_of, IsInstr}
-use Rattle.ps_base.proofs.Spellings.{length-words}
+use Rattle.ps_base.specs.Instr.{word, words, parts_of, spelling, IsInstr}
 use Rattle.ps_code.specs.Codes.{IsCode, operand_count}
 
 -- for each code from 1 on
@@ -31,6 +29,8 @@ counted instr = refl
 pub coded : (instr : Instr) → IsCode (parts_of instr).code
 coded (Int v) = (lit≤ tt, lit≤ tt)
 coded instr = (lit≤ tt, lit≤ tt)
+
+pub ruleset coding = (counted, coded)
 
 small_operands : (instr : Instr) → IsInstr instr → AllByRecursion (λ n. n < 2 ^ 32) (parts_of instr).operands
 small_operands (Int v) fits = (omega (arith, ints), tt)

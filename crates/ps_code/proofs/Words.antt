@@ -1,10 +1,9 @@
 -- Words written one after the other into a buffer, and read from bytes.
-use Rattle.std.proofs.Common.{◌≡◌, ℕ, zero, suc, ◌+◌, ◌*◌, ◌<◌, ◌≤◌, ◌^◌, List, [], ◌∷◌, ◌++◌, length, take, drop, get_or, refl, sym, ap, ◌∙◌, arith, append_assoc, length-append}
+use Rattle.std.proofs.Common.{◌≡◌, ℕ, zero, suc, ◌+◌, ◌<◌, ◌≤◌, List, [], ◌∷◌, ◌++◌, length, take, drop, get_or, sym, ap, ◌∙◌, arith, append_assoc, length-append}
 use Rattle.std.proofs.lemmas.List.{take_at, take-append-drop, drop-drop, length-drop, length-take, length-take-le, drop_all, append-nil}
 use Rattle.std.proofs.lemmas.Slice.{drop-append-drop}
 use Rattle.std.proofs.lemmas.Nat.{le_bytes_4}
 use borrow.Rule.Slice.PartMut.{put_mid, mid_of}
-use Rattle.std.specs.Int.{w32, from_le_bytes}
 use Rattle.byteorder.specs.Endian.{little_number, little_bytes}
 use Rattle.ps_base.specs.Instr.{word}
 use Rattle.ps_base.proofs.Spellings.{length-word}

@@ -118,7 +118,12 @@ fn four_words(bytes: &[u8]) -> Option<(u32, u32, u32, u32)>
     if bytes.len() < 16 {
         return None;
     }
-    Some((word_at(bytes, 0), word_at(bytes, 4), word_at(bytes, 8), word_at(bytes, 12)))
+    Some((
+        word_at(bytes, 0),
+        word_at(bytes, 4),
+        word_at(bytes, 8),
+        word_at(bytes, 12),
+    ))
 }
 
 fn word_at(bytes: &[u8], at: usize) -> u32

@@ -1,5 +1,5 @@
 ghost use Rattle.std.specs.Prelude.{◌≡◌, ◌≤◌, ◌+◌, [], ◌∷◌, ◌++◌, take, drop};
-ghost use Rattle.ps_base.specs.Instr.{word, spelling, width_of};
+ghost use Rattle.ps_base.specs.Instr.{word, spelling, width_of, IsInstr};
 
 use crate::table::instructions;
 use byteorder::{ByteOrder, LittleEndian};
@@ -48,6 +48,8 @@ macro_rules! put_each {
 pub fn encode(instr: Instr, into: &mut [u8; 17]) -> usize
     ensures written { into.new ≡ spelling instr ++ drop result into.old }
     ensures width { result ≡ width_of instr }
+    // What a value of the type can hold.
+    ensures fits { IsInstr instr }
 {
     instructions!(put_each instr into)
 }

@@ -5,3 +5,5 @@ pub mod decode;
 pub mod encode;
 pub mod laws;
 pub mod table;
+#[cfg(test)]
+mod tests;

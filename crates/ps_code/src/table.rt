@@ -1,3 +1,8 @@
+ghost use Rattle.std.specs.Prelude.{◌≡◌, map, drop, IsTrue};
+ghost use Rattle.std.specs.List.{range_with_len};
+ghost use Rattle.ps_cases.specs.Table.{codes, is_table};
+ghost use Rattle.ps_code.specs.Codes.{operand_counts};
+
 use ps_cases::row::Row;
 
 /// The instructions, as `docs/formats.md` lists them: for each its code, its name, its variant and
@@ -92,7 +97,7 @@ macro_rules! one {
     };
 }
 
-macro_rules! rows {
+macro_rules! each_row {
     (() $($code:literal $name:literal $variant:ident { $($field:ident: $kind:ident),* })*) => {
         [$(Row { code: $code, operands: 0 $(+ one!($field))*, name: $name }),*]
     };
@@ -100,5 +105,13 @@ macro_rules! rows {
 
 pub(crate) use instructions;
 
-/// A row for each instruction, in the order of the codes from 1 on.
-pub const INSTRUCTIONS: [Row; 77] = instructions!(rows);
+const ROWS: [Row; 77] = instructions!(each_row);
+
+/// A row for each instruction, in the order of the codes.
+pub fn rows() -> &'static [Row]
+    ensures table { IsTrue (is_table result.now) }
+    ensures codes { codes result.now ≡ range_with_len 1 77 }
+    ensures operands { map (λ row. row.operands) result.now ≡ drop 1 operand_counts }
+{
+    &ROWS
+}

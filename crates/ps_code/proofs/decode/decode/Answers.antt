@@ -1,4 +1,4 @@
-use Rattle.std.proofs.Common.{◌≡◌, ◌∷◌, sym, ◌∙◌}
+use Rattle.std.proofs.Common.{◌∷◌, sym, ◌∙◌}
 use Rattle.ps_code.proofs.Fronts.{front_within, front_is}
 use Rattle.ps_code.proofs.decode.decode.Goals as goal
 
