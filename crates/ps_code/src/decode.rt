@@ -8,6 +8,7 @@ use byteorder::{ByteOrder, LittleEndian};
 use ps_base::instr::Instr;
 use ps_base::line::Line;
 
+// The value of a field of a kind, from the number that its word spells.
 macro_rules! value {
     (word $number:expr) => {
         $number
@@ -20,38 +21,60 @@ macro_rules! value {
     };
 }
 
+// An instruction of a row with so many fields, and its length.
 macro_rules! take {
     ($rest:ident, $variant:ident) => {
         Some((Instr::$variant, 1))
     };
     ($rest:ident, $variant:ident, $a:ident $ka:ident) => {
         match one_word($rest) {
-            Some(a) => Some((Instr::$variant { $a: value!($ka a) }, 5)),
+            Some(a) => {
+                let instr = Instr::$variant { $a: value!($ka a) };
+                Some((instr, 5))
+            }
             None => None,
         }
     };
     ($rest:ident, $variant:ident, $a:ident $ka:ident, $b:ident $kb:ident) => {
         match two_words($rest) {
-            Some((a, b)) => Some((Instr::$variant { $a: value!($ka a), $b: value!($kb b) }, 9)),
+            Some((a, b)) => {
+                let instr = Instr::$variant { $a: value!($ka a), $b: value!($kb b) };
+                Some((instr, 9))
+            }
             None => None,
         }
     };
     ($rest:ident, $variant:ident, $a:ident $ka:ident, $b:ident $kb:ident, $c:ident $kc:ident) => {
         match three_words($rest) {
-            Some((a, b, c)) => Some((Instr::$variant { $a: value!($ka a), $b: value!($kb b), $c: value!($kc c) }, 13)),
+            Some((a, b, c)) => {
+                let instr = Instr::$variant { $a: value!($ka a), $b: value!($kb b), $c: value!($kc c) };
+                Some((instr, 13))
+            }
             None => None,
         }
     };
-    ($rest:ident, $variant:ident, $a:ident $ka:ident, $b:ident $kb:ident, $c:ident $kc:ident, $d:ident $kd:ident) => {
+    (
+        $rest:ident, $variant:ident,
+        $a:ident $ka:ident, $b:ident $kb:ident, $c:ident $kc:ident, $d:ident $kd:ident
+    ) => {
         match four_words($rest) {
-            Some((a, b, c, d)) => Some((Instr::$variant { $a: value!($ka a), $b: value!($kb b), $c: value!($kc c), $d: value!($kd d) }, 17)),
+            Some((a, b, c, d)) => {
+                let instr = Instr::$variant {
+                    $a: value!($ka a), $b: value!($kb b), $c: value!($kc c), $d: value!($kd d)
+                };
+                Some((instr, 17))
+            }
             None => None,
         }
     };
 }
 
+// The arm of each row.
 macro_rules! take_each {
-    (($number:ident $rest:ident) $($code:literal $name:literal $variant:ident { $($field:ident: $kind:ident),* })*) => {
+    (
+        ($number:ident $rest:ident)
+        $($code:literal $name:literal $variant:ident { $($field:ident: $kind:ident),* })*
+    ) => {
         match $number {
             0 | 78..=255 => None,
             $($code => take!($rest, $variant $(, $field $kind)*),)*
@@ -67,7 +90,8 @@ pub fn decode(bytes: &[u8]) -> Option<(Instr, usize)>
     ensures width { IfSome result (λ x. x.1 ≡ width_of x.0) }
     ensures within { IfSome result (λ x. x.1 ≤ length bytes.now) }
     // Whatever follows the spelling of an instruction, that instruction is answered.
-    ensures only { (i : Instr) (rest : List ℕ) → IsInstr i → bytes.now ≡ spelling i ++ rest → result ≡ Some (i, width_of i) }
+    ensures only { (i : Instr) (rest : List ℕ) → IsInstr i → bytes.now ≡ spelling i ++ rest →
+        result ≡ Some (i, width_of i) }
 {
     match bytes.split_first() {
         Some((code, rest)) => take_row(*code, rest),
@@ -95,7 +119,8 @@ fn one_word(bytes: &[u8]) -> Option<u32>
 }
 
 fn two_words(bytes: &[u8]) -> Option<(u32, u32)>
-    ensures { MatchOption result (length bytes.now < 8) (λ x. bytes.now ≡ (word x.0 ++ word x.1) ++ drop 8 bytes.now) }
+    ensures { MatchOption result (length bytes.now < 8)
+        (λ x. bytes.now ≡ (word x.0 ++ word x.1) ++ drop 8 bytes.now) }
 {
     if bytes.len() < 8 {
         return None;
@@ -104,7 +129,8 @@ fn two_words(bytes: &[u8]) -> Option<(u32, u32)>
 }
 
 fn three_words(bytes: &[u8]) -> Option<(u32, u32, u32)>
-    ensures { MatchOption result (length bytes.now < 12) (λ x. bytes.now ≡ (word x.0 ++ (word x.1 ++ word x.2)) ++ drop 12 bytes.now) }
+    ensures { MatchOption result (length bytes.now < 12)
+        (λ x. bytes.now ≡ (word x.0 ++ (word x.1 ++ word x.2)) ++ drop 12 bytes.now) }
 {
     if bytes.len() < 12 {
         return None;
@@ -113,7 +139,8 @@ fn three_words(bytes: &[u8]) -> Option<(u32, u32, u32)>
 }
 
 fn four_words(bytes: &[u8]) -> Option<(u32, u32, u32, u32)>
-    ensures { MatchOption result (length bytes.now < 16) (λ x. bytes.now ≡ (word x.0 ++ (word x.1 ++ (word x.2 ++ word x.3))) ++ drop 16 bytes.now) }
+    ensures { MatchOption result (length bytes.now < 16)
+        (λ x. bytes.now ≡ (word x.0 ++ (word x.1 ++ (word x.2 ++ word x.3))) ++ drop 16 bytes.now) }
 {
     if bytes.len() < 16 {
         return None;

@@ -5,6 +5,7 @@ use crate::table::instructions;
 use byteorder::{ByteOrder, LittleEndian};
 use ps_base::instr::Instr;
 
+// The number that the word of a field of a kind spells.
 macro_rules! number {
     (word $field:ident) => {
         $field
@@ -17,6 +18,7 @@ macro_rules! number {
     };
 }
 
+// Writes a code and so many words.
 macro_rules! put {
     ($into:ident, $code:literal) => {
         put_none($code, $into)
@@ -35,8 +37,12 @@ macro_rules! put {
     };
 }
 
+// The arm of each row.
 macro_rules! put_each {
-    (($instr:ident $into:ident) $($code:literal $name:literal $variant:ident { $($field:ident: $kind:ident),* })*) => {
+    (
+        ($instr:ident $into:ident)
+        $($code:literal $name:literal $variant:ident { $($field:ident: $kind:ident),* })*
+    ) => {
         match $instr {
             $(Instr::$variant { $($field),* } => put!($into, $code $(, number!($kind $field))*),)*
         }

@@ -10,7 +10,8 @@ use ps_base::instr::Instr;
 /// No spelling is the front of another's, and no two instructions have the same one.
 #[tactic(auto, using(crate::proofs::Makers::one_front))]
 pub fn no_spelling_begins_another()
-    ensures { (i j : Instr) (a b : List ℕ) → IsInstr i → IsInstr j → spelling i ++ a ≡ spelling j ++ b → (i ≡ j) × (a ≡ b) }
+    ensures { (i j : Instr) (a b : List ℕ) → IsInstr i → IsInstr j → spelling i ++ a ≡ spelling j ++ b →
+        (i ≡ j) × (a ≡ b) }
 {}
 
 /// Each instruction has a code from 1 to 77, and all instructions with a code have as many operands.

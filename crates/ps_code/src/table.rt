@@ -98,20 +98,24 @@ macro_rules! one {
 }
 
 macro_rules! each_row {
-    (() $($code:literal $name:literal $variant:ident { $($field:ident: $kind:ident),* })*) => {
+    (
+        ()
+        $($code:literal $name:literal $variant:ident { $($field:ident: $kind:ident),* })*
+    ) => {
         [$(Row { code: $code, operands: 0 $(+ one!($field))*, name: $name }),*]
     };
 }
 
 pub(crate) use instructions;
 
-const ROWS: [Row; 77] = instructions!(each_row);
+/// A row for each instruction, in the order of the codes from 1 on.
+pub const INSTRUCTIONS: [Row; 77] = instructions!(each_row);
 
-/// A row for each instruction, in the order of the codes.
-pub fn rows() -> &'static [Row]
+/// The table of the instructions.
+pub fn rows() -> &'static [Row; 77]
     ensures table { IsTrue (is_table result.now) }
     ensures codes { codes result.now ≡ range_with_len 1 77 }
     ensures operands { map (λ row. row.operands) result.now ≡ drop 1 operand_counts }
 {
-    &ROWS
+    &INSTRUCTIONS
 }
