@@ -1,7 +1,7 @@
-ghost use Rattle.std.specs.Prelude.{◌≡◌, ℕ, ◌<◌, ◌≤◌, ◌+◌, ◌*◌, List, [], ◌∷◌, ◌++◌, drop, length, Some, IfSome, IfNone, MatchOption};
+ghost use Rattle.std.specs.Prelude.{◌≡◌, ℕ, ◌<◌, ◌≤◌, ◌+◌, List, [], ◌∷◌, ◌++◌, drop, length, Some, IfSome, MatchOption};
 ghost use Rattle.ps_base.specs.declared.instr.Instr.{Instr};
 ghost use Rattle.ps_base.specs.Instr.{word, spelling, width_of, IsInstr};
-ghost use Rattle.ps_code.specs.Codes.{IsCode, operand_count};
+ghost use Rattle.ps_code.specs.Codes.{IsShort, IsFront};
 
 use crate::table::instructions;
 use byteorder::{ByteOrder, LittleEndian};
@@ -101,10 +101,7 @@ pub fn decode(bytes: &[u8]) -> Option<(Instr, usize)>
 
 #[inline(always)]
 fn take_row(code: u8, rest: &[u8]) -> Option<(Instr, usize)>
-    ensures found { IfSome result (λ x. code ∷ rest.now ≡ spelling x.0 ++ drop x.1 (code ∷ rest.now)) }
-    ensures width { IfSome result (λ x. x.1 ≡ width_of x.0) }
-    ensures fits { IfSome result (λ x. IsInstr x.0) }
-    ensures none { IfNone result (IsCode code → length rest.now < 4 * operand_count code) }
+    ensures { MatchOption result (IsShort code rest.now) (λ x. IsFront code rest.now x) }
 {
     instructions!(take_each code rest)
 }
