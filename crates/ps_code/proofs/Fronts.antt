@@ -1,5 +1,5 @@
 -- What stands at the front of the bytes that were read.
-use Rattle.std.proofs.Common.{◌≡◌, ℕ, ◌+◌, ◌*◌, ◌<◌, ◌≤◌, List, ◌∷◌, ◌++◌, length, drop, Option, Some, None, IfSome, MatchOption, refl, sym, ap, subst, ◌∙◌, arith, length-append}
+use Rattle.std.proofs.Common.{◌≡◌, ℕ, ◌≤◌, List, ◌∷◌, ◌++◌, length, drop, Option, Some, None, IfSome, MatchOption, sym, ap, subst, ◌∙◌, arith, length-append}
 use Rattle.ps_base.specs.declared.instr.Instr.{Instr}
 use Rattle.ps_base.specs.Instr.{words, parts_of, spelling, width_of, IsInstr}
 use Rattle.ps_base.proofs.Spellings.{length-words, length-spelling}
