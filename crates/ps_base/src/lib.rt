@@ -1,4 +1,5 @@
-//! The values that the layers share: lines, traps, and what is compiled to what.
+//! The types that the layers share: lines, traps, types, the typed tree of a program, and the
+//! instructions and units of its code.
 #![tactic(auto)]
 
 pub mod bytes;
@@ -6,4 +7,8 @@ pub mod code_unit;
 pub mod instr;
 pub mod line;
 pub mod list;
+pub mod operator;
+pub mod place;
 pub mod trap;
+pub mod tree;
+pub mod ty;

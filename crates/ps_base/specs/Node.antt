@@ -1,0 +1,66 @@
+-- The typed tree of a clause as contracts see it, without the places in memory of the code's tree.
+use Rattle.std.specs.Prelude.{ℕ, ℤ, List, [], ◌∷◌, Bool, Option}
+use Rattle.ps_base.specs.declared.ty.Ty.{Ty}
+use Rattle.ps_base.specs.declared.line.Line.{Line}
+use Rattle.ps_base.specs.declared.place.Place.{Place}
+use Rattle.ps_base.specs.declared.operator.Operator.{Operator}
+use Rattle.ps_base.specs.declared.operator.Relation.{Relation}
+use Rattle.ps_base.specs.declared.tree.Tree.{Tree, Row_of-Tree, end_of-Tree, more_of-Tree}
+use Rattle.ps_base.specs.declared.tree.Tree.TheVariants as code
+
+mutual
+  pub data Node : Type 0 where
+    Int : (value : ℤ) → Node
+    Flag : (value : Bool) → Node
+    Text : (bytes : List ℕ) → Node
+    Name : (place : Place) (ty : Ty) → Node
+    SetName : (place : Place) (ty : Ty) (e : Node) → Node
+    Let : (place : Place) (ty : Ty) (e : Node) → Node
+    Empty : Node
+    Block : (scope : Option (List ℕ)) (items : Nodes) → Node
+    IfDo : (c a : Node) → Node
+    IfElse : (c a b : Node) → Node
+    While : (c a : Node) → Node
+    And : (a b : Node) → Node
+    Or : (a b : Node) → Node
+    Not : (e : Node) → Node
+    Neg : (e : Node) (line : Line) → Node
+    Plus : (e : Node) → Node
+    Arith : (op : Operator) (a b : Node) (line : Line) → Node
+    Compare : (op : Relation) (ty : Ty) (a b : Node) → Node
+    Write : (e w : Node) (wide : Bool) (ty : Ty) (line : Line) → Node
+
+  pub data Nodes : Type 0 where
+    none : Nodes
+    more : Node → Nodes → Nodes
+
+abbrev mutual
+  pub node_of : Tree → Node
+  node_of (code.Int v) = Int v
+  node_of (code.Flag b) = Flag b
+  node_of (code.Text bytes) = Text bytes
+  node_of (code.Name place ty) = Name place ty
+  node_of (code.SetName' place ty p e) = SetName place ty (node_of e)
+  node_of (code.Let' place ty p e) = Let place ty (node_of e)
+  node_of code.Empty = Empty
+  node_of (code.Block' scope shape items) = Block scope (nodes_of items)
+  node_of (code.IfDo' p c q a) = IfDo (node_of c) (node_of a)
+  node_of (code.IfElse' p c q a r b) = IfElse (node_of c) (node_of a) (node_of b)
+  node_of (code.While' p c q a) = While (node_of c) (node_of a)
+  node_of (code.And' p a q b) = And (node_of a) (node_of b)
+  node_of (code.Or' p a q b) = Or (node_of a) (node_of b)
+  node_of (code.Not' p e) = Not (node_of e)
+  node_of (code.Neg' p e line) = Neg (node_of e) line
+  node_of (code.Plus' p e) = Plus (node_of e)
+  node_of (code.Arith' op p a q b line) = Arith op (node_of a) (node_of b) line
+  node_of (code.Compare' op ty p a q b) = Compare op ty (node_of a) (node_of b)
+  node_of (code.Write' p e q w wide ty line) = Write (node_of e) (node_of w) wide ty line
+
+  pub nodes_of : {m : _} → Row_of-Tree m → Nodes
+  nodes_of end_of-Tree = none
+  nodes_of (more_of-Tree t rest) = more (node_of t) (nodes_of rest)
+
+-- the trees of a list
+abbrev pub nodes_in : List Tree → Nodes
+nodes_in [] = none
+nodes_in (t ∷ ts) = more (node_of t) (nodes_in ts)

@@ -1,0 +1,4 @@
+//! What programs mean: the operators, and in `specs/` the events and the end of a run.
+#![tactic(auto)]
+
+pub mod operators;

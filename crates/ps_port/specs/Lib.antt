@@ -1,0 +1,5 @@
+pub mod Told
+pub mod Texts
+pub mod Memory
+pub mod MemoryView
+pub mod MemoryTexts

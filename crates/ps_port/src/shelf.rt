@@ -1,0 +1,53 @@
+ghost use Rattle.std.specs.Prelude.{◌≡◌, ℕ, ◌≤◌, ◌↔◌, List, [], OnOk, OnErr, IfErr, IsErrOf, vec_len};
+ghost use Rattle.ps_port.specs.declared.shelf.ShelfFault.TheVariants.{Failed, Memory};
+ghost use Rattle.ps_port.specs.Told.{Rose};
+ghost use Rattle.ps_port.specs.Texts.{IsTextOf, TooLongFor};
+
+use std::alloc::AllocError;
+
+/// The most bytes of a text that a shelf gives.
+pub const LONGEST_TEXT: u64 = 1_048_576;
+
+/// Why a shelf gave no text.
+#[derive(Clone, Copy, Debug, PartialEq, Eq)]
+pub enum ShelfFault {
+    /// There is no text of this name, or it couldn't be read: the shelf's `faults` rose.
+    Failed,
+    /// The text has this many bytes, more than `LONGEST_TEXT`.
+    TooLong { length: u64 },
+    /// There was no memory for the text.
+    Memory,
+}
+
+impl From<AllocError> for ShelfFault {
+    ghost from_gives = { λ _ fault. fault ≡ Memory };
+
+    fn from(_: AllocError) -> Self {
+        ShelfFault::Memory
+    }
+}
+
+/// Texts by name.
+pub trait Shelf {
+    /// Under this name the shelf has this text. A shelf that tells nothing has no such text.
+    ghost holds: { Self → List ℕ → List ℕ → Type 0 };
+
+    /// The shelf has no text of this name. A shelf that tells nothing says so of no name.
+    ghost lacks: { Self → List ℕ → Type 0 };
+
+    /// How often a text couldn't be had. It stands still at 2^64 - 1.
+    ghost faults: { Self → ℕ };
+
+    /// Empties `into` and fills it with the text of this name, of at most `LONGEST_TEXT` bytes. After a
+    /// refusal `into` is empty. The shelf's texts stay as they are.
+    fn text(&mut self, name: &str, into: &mut Vec<u8>) -> Result<(), ShelfFault>
+        ensures given { OnOk result (IsTextOf (holds self.old name.now) into.new.items) }
+        ensures short { OnOk result (vec_len into.new ≤ LONGEST_TEXT) }
+        ensures long { IfErr result (λ fault. TooLongFor LONGEST_TEXT (holds self.old name.now) fault) }
+        ensures lacking { lacks self.old name.now → IsErrOf result Failed }
+        ensures cause { IsErrOf result Failed → Rose (faults self.old) (faults self.new) }
+        ensures counts { faults self.old ≤ faults self.new }
+        ensures emptied { OnErr result (into.new.items ≡ []) }
+        ensures holds_on { (q t : List ℕ) → holds self.new q t ↔ holds self.old q t }
+        ensures lacks_on { (q : List ℕ) → lacks self.new q ↔ lacks self.old q };
+}

@@ -1,0 +1,9 @@
+mod Closing
+mod Examples
+mod FaultLines
+pub mod Laws
+mod Lines
+mod Runs
+pub mod Scanning
+mod Spelling
+mod Strings

@@ -1,0 +1,5 @@
+pub mod Class
+pub mod Fault
+pub mod Inside
+pub mod Piece
+pub mod Tokens

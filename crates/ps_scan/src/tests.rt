@@ -1,0 +1,203 @@
+use crate::{LONGEST_TEXT, ScanFault, Token, TokenKind, int_of, mark, name_of, scan, spell, word};
+use ps_base::line::Line;
+use std::test::Fail;
+
+fn token(what: TokenKind, line: u32, from: u32, to: u32) -> Token {
+    Token {
+        what,
+        line: Line(line),
+        from,
+        to,
+    }
+}
+
+#[test]
+fn texts_have_their_tokens(rt: HostRuntime) -> Result<(), Fail> {
+    let rows: [(&[u8], &[Token]); 4] = [
+        (b"", &[]),
+        (
+            b"write 1 + 2, \"'n\" ?",
+            &[
+                token(TokenKind::Word(word::WRITE), 1, 0, 5),
+                token(TokenKind::Int, 1, 6, 7),
+                token(TokenKind::Mark(mark::PLUS), 1, 8, 9),
+                token(TokenKind::Int, 1, 10, 11),
+                token(TokenKind::Mark(mark::COMMA), 1, 11, 12),
+                token(TokenKind::Text, 1, 13, 17),
+                token(TokenKind::Mark(mark::END), 1, 18, 19),
+            ],
+        ),
+        (
+            b"let a := (6);\r\n\ta.b=-c*d",
+            &[
+                token(TokenKind::Word(word::LET), 1, 0, 3),
+                token(TokenKind::Name, 1, 4, 5),
+                token(TokenKind::Mark(mark::BECOMES), 1, 6, 8),
+                token(TokenKind::Mark(mark::OPEN_ROUND), 1, 9, 10),
+                token(TokenKind::Int, 1, 10, 11),
+                token(TokenKind::Mark(mark::CLOSE_ROUND), 1, 11, 12),
+                token(TokenKind::Mark(mark::SEMICOLON), 1, 12, 13),
+                token(TokenKind::Name, 2, 16, 19),
+                token(TokenKind::Mark(mark::EQUALS), 2, 19, 20),
+                token(TokenKind::Mark(mark::MINUS), 2, 20, 21),
+                token(TokenKind::Name, 2, 21, 22),
+                token(TokenKind::Mark(mark::TIMES), 2, 22, 23),
+                token(TokenKind::Name, 2, 23, 24),
+            ],
+        ),
+        (
+            b"12ab lets ++",
+            &[
+                token(TokenKind::Int, 1, 0, 2),
+                token(TokenKind::Name, 1, 2, 4),
+                token(TokenKind::Name, 1, 5, 9),
+                token(TokenKind::Mark(mark::PLUS), 1, 10, 11),
+                token(TokenKind::Mark(mark::PLUS), 1, 11, 12),
+            ],
+        ),
+    ];
+    for (text, tokens) in rows {
+        assert!(rt; text.len() <= LONGEST_TEXT);
+        let found = scan(rt.alloc(), text).map_err(|_| "fault")?;
+        assert_eq!(rt; found.as_slice(), tokens);
+    }
+    Ok(())
+}
+
+#[test]
+fn words_have_their_places(rt: HostRuntime) -> Result<(), Fail> {
+    let rows: [(&[u8], u8); 36] = [
+        (b"abort", word::ABORT),
+        (b"and", word::AND),
+        (b"begin", word::BEGIN),
+        (b"bool", word::BOOL),
+        (b"by", word::BY),
+        (b"case", word::CASE),
+        (b"default", word::DEFAULT),
+        (b"div", word::DIV),
+        (b"do", word::DO),
+        (b"else", word::ELSE),
+        (b"end", word::END),
+        (b"false", word::FALSE),
+        (b"for", word::FOR),
+        (b"if", word::IF),
+        (b"int", word::INT),
+        (b"is", word::IS),
+        (b"isnt", word::ISNT),
+        (b"let", word::LET),
+        (b"lwb", word::LWB),
+        (b"nil", word::NIL),
+        (b"of", word::OF),
+        (b"or", word::OR),
+        (b"pntr", word::PNTR),
+        (b"proc", word::PROC),
+        (b"procedure", word::PROCEDURE),
+        (b"rem", word::REM),
+        (b"repeat", word::REPEAT),
+        (b"string", word::STRING),
+        (b"structure", word::STRUCTURE),
+        (b"then", word::THEN),
+        (b"to", word::TO),
+        (b"true", word::TRUE),
+        (b"upb", word::UPB),
+        (b"vector", word::VECTOR),
+        (b"while", word::WHILE),
+        (b"write", word::WRITE),
+    ];
+    let mut place = 0u8;
+    for (spelling, constant) in rows {
+        assert!(rt; spelling.len() <= LONGEST_TEXT);
+        let tokens = scan(rt.alloc(), spelling).map_err(|_| "fault")?;
+        assert_eq!(rt; constant, place);
+        assert_eq!(rt; tokens.len(), 1);
+        assert_eq!(rt; tokens[0].what, TokenKind::Word(place));
+        place = place.wrapping_add(1);
+    }
+    Ok(())
+}
+
+#[test]
+fn first_fault_is_answered(rt: HostRuntime) -> Result<(), Fail> {
+    let line = Line(1);
+    let rows: [(&[u8], ScanFault, u8); 12] = [
+        (
+            b"\n1 !",
+            ScanFault::BadByte {
+                line: Line(2),
+                byte: b'!',
+            },
+            1,
+        ),
+        (b":", ScanFault::BadByte { line, byte: b':' }, 1),
+        (b"\"\t", ScanFault::BadByte { line, byte: b'\t' }, 1),
+        (b"\"\x7f'x", ScanFault::BadByte { line, byte: 127 }, 1),
+        (b"\"ab\n\"", ScanFault::OpenString { line }, 2),
+        (b"\"ab'", ScanFault::OpenString { line }, 2),
+        (
+            b"2147483647 2147483648 !",
+            ScanFault::IntTooLarge { line },
+            3,
+        ),
+        (b"99999999999999999999", ScanFault::IntTooLarge { line }, 3),
+        (
+            b"\n\n\"'\n",
+            ScanFault::BadEscape {
+                line: Line(3),
+                byte: b'\n',
+            },
+            4,
+        ),
+        (b"\"'x\x7f", ScanFault::BadEscape { line, byte: b'x' }, 4),
+        (
+            b"a234567890123456789012345678901234567890123456789012345678901234 \
+a2345678901234567890123456789012345678901234567890123456789012345",
+            ScanFault::NameTooLong { line, length: 65 },
+            5,
+        ),
+        (b"1 2 $ \"", ScanFault::BadByte { line, byte: b'$' }, 1),
+    ];
+    for (text, fault, number) in rows {
+        let Err(found) = scan(rt.alloc(), text) else {
+            return Err("no fault")?;
+        };
+        assert_eq!(rt; found, fault);
+        assert_eq!(rt; found.number(), Some(number));
+    }
+    Ok(())
+}
+
+#[test]
+fn longest_string_is_read(rt: HostRuntime) -> Result<(), Fail> {
+    let mut text = vec![in rt.alloc(); b'a'; 65536]?;
+    text.push(b'"').map_err(|_| "memory")?;
+    text.insert(0, b'"').map_err(|_| "memory")?;
+    let line = Line(1);
+    assert_eq!(rt;
+        scan(rt.alloc(), text.as_slice()).err(),
+        Some(ScanFault::StringTooLong {
+            line,
+            length: 65536
+        })
+    );
+    text.remove(1);
+    let tokens = scan(rt.alloc(), text.as_slice()).map_err(|_| "fault")?;
+    assert_eq!(rt;
+        tokens.as_slice(),
+        [token(TokenKind::Text, 1, 0, 65537)].as_slice()
+    );
+    Ok(())
+}
+
+#[test]
+fn tokens_are_read(rt: HostRuntime) -> Result<(), Fail> {
+    let text = b"a.b 007 \"x'n't'''\"y\"";
+    let tokens = scan(rt.alloc(), text).map_err(|_| "fault")?;
+    assert_eq!(rt; tokens.len(), 3);
+    assert_eq!(rt; name_of(text, tokens[0]), b"a.b".as_slice());
+    assert_eq!(rt; tokens[1].what, TokenKind::Int);
+    assert_eq!(rt; int_of(text, tokens[1]), 7);
+    assert_eq!(rt; tokens[2].what, TokenKind::Text);
+    let spelled = spell(rt.alloc(), text, tokens[2])?;
+    assert_eq!(rt; spelled.as_slice(), b"x\n\t'\"y".as_slice());
+    Ok(())
+}

@@ -1,0 +1,4 @@
+pub mod Simulation
+pub mod Steps
+pub mod Weights
+pub mod Generated

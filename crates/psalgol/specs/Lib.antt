@@ -1,0 +1,4 @@
+pub mod Code
+pub mod Emission
+pub mod Machine
+pub mod Stepping
