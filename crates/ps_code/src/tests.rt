@@ -1,10 +1,14 @@
 use crate::decode::decode;
 use crate::encode::encode;
 use crate::table::rows;
+use ps_base::bytes::Bytes;
+use ps_base::code_unit::{CodeUnit, Constant, Frame};
 use ps_base::instr::Instr;
 use ps_base::line::Line;
+use ps_base::list::List;
 use ps_cases::find::{find_code, find_name};
 use std::process::Abort;
+use std::test::Fail;
 
 fn spells(rt: &impl Abort, instr: Instr, bytes: &[u8]) {
     let mut buffer = [0xee; 17];
@@ -111,4 +115,30 @@ fn names(rt: HostRuntime) {
     assert_eq!(rt; find_name(rows(), b"jump.never"), None);
     assert_eq!(rt; find_code(rows(), 48), Some(47));
     assert_eq!(rt; find_code(rows(), 0), None);
+}
+
+#[test]
+fn a_literal(rt: HostRuntime) -> Result<(), Fail> {
+    let frame = Frame {
+        nums: 2,
+        refs: 1,
+        num_params: 1,
+        ref_params: 0,
+    };
+    let unit = CodeUnit {
+        code: Bytes::new(vec![in rt.alloc(); 2, 62, 1, 0, 0, 0]?),
+        constants: List::new(vec![in rt.alloc();
+            Constant::Text(Bytes::new(Vec::new(rt.alloc()))),
+        ]?),
+        frame,
+    };
+    match Constant::of_unit(rt.alloc(), unit)? {
+        Constant::Unit(unit) => {
+            assert_eq!(rt; unit.code.as_slice(), [2, 62, 1, 0, 0, 0].as_slice());
+            assert_eq!(rt; unit.constants.len(), 1);
+            assert_eq!(rt; unit.frame, frame);
+        }
+        Constant::Text(_) => assert!(rt; false),
+    }
+    Ok(())
 }
