@@ -1,3 +1,5 @@
 pub mod List
+pub mod Instr
+pub mod CodeUnit
 pub mod Node
 pub mod Value

@@ -1,5 +1,9 @@
+ghost use Rattle.std.specs.Prelude.{◌≡◌, IfOk};
+ghost use Rattle.ps_base.specs.CodeUnit.{constant_view, literal, unit_view};
+
 use crate::bytes::Bytes;
 use crate::list::List;
+use std::alloc::{AllocError, Global};
 
 /// The code of one procedure body, or of a program: the spelled instructions one after the other,
 /// the constants that they name by number from 0, and the locals that they use.
@@ -27,4 +31,14 @@ pub struct Frame {
     pub refs: u16,
     pub num_params: u16,
     pub ref_params: u16,
+}
+
+impl Constant {
+    /// The constant of a procedure literal.
+    #[tactic(auto, using(crate::proofs::Units::unit_views))]
+    pub fn of_unit(alloc: Global, unit: CodeUnit) -> Result<Constant, AllocError>
+        ensures { IfOk result (λ c. constant_view c ≡ literal (unit_view unit)) }
+    {
+        Ok(Constant::Unit(Box::new(alloc, unit)?))
+    }
 }
