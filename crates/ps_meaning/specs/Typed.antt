@@ -1,5 +1,5 @@
 -- Which trees are well typed, and of which type each clause is.
-use Rattle.std.specs.Prelude.{ℕ, ◌<◌, Bool, true, false, List, None}
+use Rattle.std.specs.Prelude.{ℕ, ◌<◌, Bool, false, List, None}
 use Rattle.ps_base.specs.declared.ty.Ty.{Ty}
 use Rattle.ps_base.specs.declared.ty.Ty.TheVariants.{Int, Bool as Flag, Str, Void}
 use Rattle.ps_base.specs.declared.place.Place.TheVariants.{Plain}
