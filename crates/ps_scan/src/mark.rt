@@ -59,15 +59,25 @@ pub const BAR: u8 = 25;
 
 /// The marks of two bytes that are scanned, each beside its place. They are tried first, since the
 /// longest token is taken.
-pub const DOUBLES: [(u8, u8, u8); 1] = [(b':', b'=', BECOMES)];
+pub const DOUBLES: [(u8, u8, u8); 4] = [
+    (b':', b'=', BECOMES),
+    (b'~', b'=', NOT_EQUALS),
+    (b'<', b'=', LESS_OR_EQUAL),
+    (b'>', b'=', GREATER_OR_EQUAL),
+];
 
 /// The marks of one byte that are scanned, each beside its place.
-pub const SINGLES: [(u8, u8); 9] = [
+pub const SINGLES: [(u8, u8); 14] = [
     (b'(', OPEN_ROUND),
     (b')', CLOSE_ROUND),
+    (b'{', OPEN_CURLY),
+    (b'}', CLOSE_CURLY),
     (b',', COMMA),
     (b';', SEMICOLON),
     (b'=', EQUALS),
+    (b'~', TILDE),
+    (b'<', LESS),
+    (b'>', GREATER),
     (b'+', PLUS),
     (b'-', MINUS),
     (b'*', TIMES),
