@@ -1,1 +1,9 @@
+pub mod Fault
+pub mod Grammar
+pub mod Kinds
+pub mod Parsing
 pub mod Phrase
+pub mod PhraseLists
+pub mod Program
+pub mod Reading
+pub mod Symbols

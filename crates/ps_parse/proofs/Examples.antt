@@ -1,0 +1,76 @@
+-- The tables on the words and the marks, written out in their order, and the newline rule on examples.
+use Rattle.std.proofs.Common.{◌≡◌, ℕ, List, [], ◌∷◌, map, Bool, true, false, refl}
+use Rattle.std.specs.List.{range_with_len}
+use Rattle.ps_scan.specs.declared.token.Token.{Token}
+use Rattle.ps_scan.specs.declared.token.TokenKind.{TokenKind}
+use Rattle.ps_scan.specs.declared.token.TokenKind.TheVariants.{Name, Int, Word, Mark}
+use Rattle.ps_scan.specs.Tokens.{token_at}
+use Rattle.ps_parse.specs.declared.kind.Kind.{Kind}
+use Rattle.ps_parse.specs.declared.kind.Kind.TheVariants.{Stray}
+use Rattle.ps_parse.specs.declared.kind.Kind.TheVariants as kind
+use Rattle.ps_parse.specs.declared.symbol.Symbol.{Symbol}
+use Rattle.ps_parse.specs.Kinds.{kind_of, can_end, can_continue}
+use Rattle.ps_parse.specs.Symbols.{symbols, symbols_behind}
+
+abbrev words : List TokenKind
+words = map (λ place. Word place) (range_with_len 0 36)
+
+-- ( ) [ ] { } , ; : :: := = ~ ~= < <= > >= + - ++ * -> @ ? |
+abbrev marks : List TokenKind
+marks = map (λ place. Mark place) (range_with_len 0 26)
+
+-- abort to do
+words_read : map kind_of words ≡
+    Stray ∷ kind.And ∷ kind.Begin ∷ Stray ∷ Stray ∷ Stray ∷ Stray ∷ kind.Div ∷ kind.Do
+    ∷ kind.Else ∷ kind.End ∷ kind.False ∷ Stray ∷ kind.If ∷ Stray ∷ Stray ∷ Stray ∷ kind.Let
+    ∷ Stray ∷ Stray ∷ Stray ∷ kind.Or ∷ Stray ∷ Stray ∷ Stray ∷ kind.Rem ∷ Stray
+    ∷ Stray ∷ Stray ∷ kind.Then ∷ Stray ∷ kind.True ∷ Stray ∷ Stray ∷ kind.While ∷ kind.Write ∷ []
+words_read = refl
+
+marks_read : map kind_of marks ≡
+    kind.OpenRound ∷ kind.CloseRound ∷ Stray ∷ Stray ∷ kind.OpenCurly ∷ kind.CloseCurly ∷ kind.Comma ∷ kind.Semicolon
+    ∷ Stray ∷ Stray ∷ kind.Becomes ∷ kind.Equals ∷ kind.Tilde ∷ kind.NotEquals ∷ kind.Less ∷ kind.LessEqual
+    ∷ kind.Greater ∷ kind.GreaterEqual ∷ kind.Plus ∷ kind.Minus ∷ Stray ∷ kind.Times ∷ Stray ∷ Stray ∷ kind.Question ∷ Stray ∷ []
+marks_read = refl
+
+-- abort, end, false, nil and true
+words_that_end : map can_end words ≡
+    true ∷ false ∷ false ∷ false ∷ false ∷ false ∷ false ∷ false ∷ false
+    ∷ false ∷ true ∷ true ∷ false ∷ false ∷ false ∷ false ∷ false ∷ false
+    ∷ false ∷ true ∷ false ∷ false ∷ false ∷ false ∷ false ∷ false ∷ false
+    ∷ false ∷ false ∷ false ∷ false ∷ true ∷ false ∷ false ∷ false ∷ false ∷ []
+words_that_end = refl
+
+-- the closing brackets
+marks_that_end : map can_end marks ≡
+    false ∷ true ∷ false ∷ true ∷ false ∷ true ∷ false ∷ false
+    ∷ false ∷ false ∷ false ∷ false ∷ false ∷ false ∷ false ∷ false
+    ∷ false ∷ false ∷ false ∷ false ∷ false ∷ false ∷ false ∷ false ∷ false ∷ false ∷ []
+marks_that_end = refl
+
+-- and, by, div, do, else, end, is, isnt, of, or, rem, then and to
+words_that_continue : map can_continue words ≡
+    false ∷ true ∷ false ∷ false ∷ true ∷ false ∷ false ∷ true ∷ true
+    ∷ true ∷ true ∷ false ∷ false ∷ false ∷ false ∷ true ∷ true ∷ false
+    ∷ false ∷ false ∷ true ∷ true ∷ false ∷ false ∷ false ∷ true ∷ false
+    ∷ false ∷ false ∷ true ∷ true ∷ false ∷ false ∷ false ∷ false ∷ false ∷ []
+words_that_continue = refl
+
+-- all but ( { ~ and @
+marks_that_continue : map can_continue marks ≡
+    false ∷ true ∷ true ∷ true ∷ false ∷ true ∷ true ∷ true
+    ∷ true ∷ true ∷ true ∷ true ∷ false ∷ true ∷ true ∷ true
+    ∷ true ∷ true ∷ true ∷ true ∷ true ∷ true ∷ true ∷ false ∷ true ∷ true ∷ []
+marks_that_continue = refl
+
+abbrev kinds_of : List Token → List Kind
+kinds_of tokens = map (λ symbol. symbol.kind) (symbols tokens)
+
+-- a bracket on a new line begins a clause, and a minus there goes on with one
+bracket_begins : kinds_of (token_at Name 0 1 1 ∷ token_at (Mark 0) 2 2 1 ∷ []) ≡ kind.Name ∷ kind.Semicolon ∷ kind.OpenRound ∷ []
+unfolding symbols_behind
+bracket_begins = refl
+
+minus_continues : kinds_of (token_at Name 0 1 1 ∷ token_at (Mark 19) 2 2 1 ∷ token_at Int 3 2 1 ∷ []) ≡ kind.Name ∷ kind.Minus ∷ kind.Int ∷ []
+unfolding symbols_behind
+minus_continues = refl

@@ -1,0 +1,78 @@
+-- The tokens among the symbols of a text.
+use Rattle.std.proofs.Common.{◌≡◌, ℕ, ◌+◌, ◌≤◌, List, [], ◌∷◌, length, ◌==◌, Bool, true, false, cond, Option, Some, None, find, option_map, unwrap_or, refl, sym, ap, ◌∙◌, arith}
+use Rattle.std.specs.List.{All}
+use Rattle.std.proofs.lemmas.List.Elements.{All-nil, All-cons, All-head, All-tail, All-append}
+use Rattle.ps_scan.specs.declared.token.Token.{Token}
+use Rattle.ps_scan.specs.declared.token.TokenKind.{TokenKind}
+use Rattle.ps_scan.specs.declared.token.TokenKind.TheVariants as scanned
+use Rattle.ps_scan.specs.Tokens.{IsToken, IsInOrder}
+use Rattle.ps_parse.specs.declared.kind.Kind.{Kind}
+use Rattle.ps_parse.specs.declared.kind.Kind.TheVariants as kind
+use Rattle.ps_parse.specs.declared.kind.TheConstants.{WORDS, MARKS}
+use Rattle.ps_parse.specs.Kinds.{kind_of}
+use Rattle.ps_parse.specs.Symbols.{breaks, semicolon_behind, symbol, between, symbols_behind}
+use Rattle.ps_parse.specs.Parsing.{IsSound}
+
+-- there are no more tokens than bytes
+pub tokens_fit : (text : List ℕ) (at : ℕ) (tokens : List Token) → All (IsToken text) tokens → IsInOrder at tokens → at ≤ length text → at + length tokens ≤ length text
+tokens_fit text at [] all in_order within = omega arith
+tokens_fit text at (token ∷ tokens) all in_order within =
+    let head = All-head (IsToken text) token tokens all in
+    omega (arith, head.nonempty, head.within, in_order.0, tokens_fit text token.to tokens (All-tail (IsToken text) token tokens all) in_order.1 head.within)
+
+-- no word and no mark is a name, an int or a string
+abbrev leaf : Kind → Bool
+leaf kind.Name = true
+leaf kind.Int = true
+leaf kind.Text = true
+leaf _ = false
+
+abbrev leafless : {A : Type 0} → (A → Kind) → List A → Bool
+leafless f [] = true
+leafless f (row ∷ rows) = cond (leaf (f row)) false (leafless f rows)
+
+not_here : {A : Type 0} (f : A → Kind) (p : A → Bool) (row : A) (rows : List A) → (leafless f rows ≡ true → leaf (unwrap_or (option_map f (find p rows)) kind.Stray) ≡ false) → (here : Bool) → leaf (f row) ≡ here → cond here false (leafless f rows) ≡ true → leaf (unwrap_or (option_map f (cond (p row) (Some row) (find p rows))) kind.Stray) ≡ false
+not_here f p row rows behind true is none = absurd (cc)
+not_here f p row rows behind false is none = elim (p row) as (λ here. leaf (unwrap_or (option_map f (cond here (Some row) (find p rows))) kind.Stray) ≡ false) [ true ↦ is | false ↦ behind none ]
+
+not_found : {A : Type 0} (f : A → Kind) (p : A → Bool) (rows : List A) → leafless f rows ≡ true → leaf (unwrap_or (option_map f (find p rows)) kind.Stray) ≡ false
+not_found f p [] none = refl
+not_found f p (row ∷ rows) none = not_here f p row rows (not_found f p rows) (leaf (f row)) refl none
+
+not_word : (place : ℕ) → leaf (kind_of (scanned.Word place)) ≡ false
+not_word place = not_found (λ row. row.1) (λ row. row.0 == place) WORDS refl
+
+not_mark : (place : ℕ) → leaf (kind_of (scanned.Mark place)) ≡ false
+not_mark place = not_found (λ row. row.1) (λ row. row.0 == place) MARKS refl
+
+is_int : (what : TokenKind) → kind_of what ≡ kind.Int → what ≡ scanned.Int
+is_int scanned.Name is = absurd (cc)
+is_int scanned.Int is = refl
+is_int scanned.Text is = absurd (cc)
+is_int (scanned.Word place) is = let l = sym (not_word place) ∙ ap leaf is in absurd (cc)
+is_int (scanned.Mark place) is = let l = sym (not_mark place) ∙ ap leaf is in absurd (cc)
+
+is_text : (what : TokenKind) → kind_of what ≡ kind.Text → what ≡ scanned.Text
+is_text scanned.Name is = absurd (cc)
+is_text scanned.Int is = absurd (cc)
+is_text scanned.Text is = refl
+is_text (scanned.Word place) is = let l = sym (not_word place) ∙ ap leaf is in absurd (cc)
+is_text (scanned.Mark place) is = let l = sym (not_mark place) ∙ ap leaf is in absurd (cc)
+
+sound_token : (text : List ℕ) (number : ℕ) (token : Token) → IsToken text token → IsSound text (symbol number token)
+sound_token text number token is = record { name = λ _. is; int = λ kind. (is, is_int token.what kind); string = λ kind. (is, is_text token.what kind) }
+
+sound_semicolon : (text : List ℕ) (number : ℕ) (token : Token) → IsSound text (symbol number (semicolon_behind token))
+sound_semicolon text number token = record { name = λ kind. absurd (cc); int = λ kind. absurd (cc); string = λ kind. absurd (cc) }
+
+sound_between : (text : List ℕ) (last : Option Token) (number : ℕ) (token : Token) → All (IsSound text) (between last number token)
+sound_between text None number token = All-nil (IsSound text)
+sound_between text (Some last) number token = elim (breaks last token) as (λ here. All (IsSound text) (cond here (symbol number (semicolon_behind last) ∷ []) [])) [ true ↦ All-cons (IsSound text) (symbol number (semicolon_behind last)) [] (sound_semicolon text number last) (All-nil (IsSound text)) | false ↦ All-nil (IsSound text) ]
+
+-- each name, int and string among the symbols is a token
+pub all_sound : (text : List ℕ) (last : Option Token) (number : ℕ) (tokens : List Token) → All (IsToken text) tokens → All (IsSound text) (symbols_behind last number tokens)
+unfolding symbols_behind
+all_sound text last number [] all = All-nil (IsSound text)
+all_sound text last number (token ∷ tokens) all =
+    All-append (IsSound text) (between last number token) (symbol number token ∷ symbols_behind (Some token) (number + 1) tokens) (sound_between text last number token)
+    (All-cons (IsSound text) (symbol number token) (symbols_behind (Some token) (number + 1) tokens) (sound_token text number token (All-head (IsToken text) token tokens all)) (all_sound text (Some token) (number + 1) tokens (All-tail (IsToken text) token tokens all)))

@@ -1,0 +1,31 @@
+-- A text is read in one way.
+use Rattle.std.proofs.Common.{◌≡◌, ℕ, List, Option, Some, refl, sym, subst, ap}
+use Rattle.ps_scan.specs.declared.token.Token.{Token}
+use Rattle.ps_parse.specs.declared.symbol.Symbol.{Symbol}
+use Rattle.ps_parse.specs.Phrase.{Phrase}
+use Rattle.ps_parse.specs.Grammar.{Rule}
+use Rattle.ps_parse.specs.Reading.{Reads, gives, takes, goes, opens, joins}
+use Rattle.ps_parse.specs.Program.{ReadsAs}
+
+pub some_same : {A : Type 0} {o : Option A} {a b : A} → o ≡ Some a → o ≡ Some b → a ≡ b
+some_same is was = cc
+
+module _ {text : List ℕ} {symbols : List Symbol} where
+  pub reads_as : {nesting from to : ℕ} {rule other : Rule} {tree : Phrase} → rule ≡ other → Reads text symbols nesting rule from tree to → Reads text symbols nesting other from tree to
+  reads_as {nesting} {from} {to} {rule} {other} {tree} same = subst (λ (r : Rule). Reads text symbols nesting r from tree to) same
+
+  pub reads_from : {nesting from other to : ℕ} {rule : Rule} {tree : Phrase} → from ≡ other → Reads text symbols nesting rule from tree to → Reads text symbols nesting rule other tree to
+  reads_from {nesting} {from} {other} {to} {rule} {tree} same = subst (λ (p : ℕ). Reads text symbols nesting rule p tree to) same
+
+  -- two readings of a rule from one place give one tree and end at one place
+  pub unique : {nesting : ℕ} {rule : Rule} {from : ℕ} {tree : Phrase} {to : ℕ} → Reads text symbols nesting rule from tree to → {other : ℕ} {tree' : Phrase} {to' : ℕ} → Reads text symbols other rule from tree' to' → (tree ≡ tree') × (to ≡ to')
+  unique gives gives = (refl, refl)
+  unique (takes {next = next} here is more) (takes here' is' more') = unique more (reads_as (ap next (some_same here' here)) more')
+  unique (goes is more) (goes is' more') = unique more (reads_as (some_same is' is) more')
+  unique (opens is more) (opens is' more') = unique more (reads_as (some_same is' is) more')
+  unique (joins {next = next} first more) (joins first' more') =
+      let same = unique first first' in
+      unique more (reads_as (ap next (sym same.0)) (reads_from (sym same.1) more'))
+
+pub one_tree : (text : List ℕ) (tokens : List Token) (tree other : Phrase) → ReadsAs text tokens tree → ReadsAs text tokens other → tree ≡ other
+one_tree text tokens tree other reads reads' = (unique reads.program.1 reads'.program.1).0

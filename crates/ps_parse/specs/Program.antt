@@ -1,0 +1,59 @@
+-- What a text reads as, and where its first fault stands.
+use Rattle.std.specs.Prelude.{◌≡◌, ℕ, ◌+◌, ◌-◌, ◌<◌, ◌≤◌, List, ◌++◌, length, take, Option, Some, None, slice_get}
+use Rattle.ps_base.specs.declared.line.Line.{Line}
+use Rattle.ps_scan.specs.declared.token.Token.{Token}
+use Rattle.ps_scan.specs.Tokens.{line_of, line_number}
+use Rattle.ps_parse.specs.declared.fault.ParseFault.{ParseFault}
+use Rattle.ps_parse.specs.declared.fault.ParseFault.TheVariants.{Unexpected, TooNested}
+use Rattle.ps_parse.specs.declared.symbol.Symbol.{Symbol}
+use Rattle.ps_parse.specs.Phrase.{Phrase}
+use Rattle.ps_parse.specs.Grammar.{Program, Go}
+use Rattle.ps_parse.specs.Reading.{Reads, Opens}
+use Rattle.ps_parse.specs.Symbols.{symbols}
+
+-- the symbols are those of a program with this tree, with at most so many clauses inside one another
+abbrev pub IsProgram : List ℕ → ℕ → List Symbol → Phrase → Type 0
+IsProgram text nesting all tree = (end : ℕ) × Reads text all nesting (Go Program) 0 tree end
+
+-- the text has these tokens and this tree, with at most 100 clauses inside one another
+pub record ReadsAs (text : List ℕ) (tokens : List Token) (tree : Phrase) : Type 0 where
+  pub program : IsProgram text 100 (symbols tokens) tree
+
+-- the symbols and some further ones make a program, however deep its clauses stand inside one another
+abbrev pub BeginsProgram : List ℕ → List Symbol → Type 0
+BeginsProgram text front = (more : List Symbol) × ((nesting : ℕ) × ((tree : Phrase) × IsProgram text nesting (front ++ more) tree))
+
+-- the symbol at this place opens the 101st clause of those inside one another, and no symbol before it does
+pub record IsTooDeep (text : List ℕ) (all : List Symbol) (place : ℕ) : Type 0 where
+  pub opens : Opens text all 101 (Go Program) 0 place
+  pub first : (earlier : ℕ) → earlier < place → Opens text all 101 (Go Program) 0 earlier → ⊥
+
+-- the symbols before this place begin a program, and those up to it begin none: nothing behind it
+-- matters. At the end of the text those before it are no program themselves. No earlier symbol is
+-- too deep.
+pub record IsUnexpected (text : List ℕ) (all : List Symbol) (place : ℕ) : Type 0 where
+  pub within : place ≤ length all
+  pub before : BeginsProgram text (take place all)
+  pub here : place < length all → BeginsProgram text (take (place + 1) all) → ⊥
+  pub at_end : place ≡ length all → (nesting : ℕ) (tree : Phrase) → IsProgram text nesting all tree → ⊥
+  pub first : (earlier : ℕ) → earlier < place → Opens text all 101 (Go Program) 0 earlier → ⊥
+
+-- each symbol up to this place is expected, and the one at it is too deep
+pub record IsTooNested (text : List ℕ) (all : List Symbol) (place : ℕ) : Type 0 where
+  pub too_deep : IsTooDeep text all place
+  pub expected : BeginsProgram text (take (place + 1) all)
+
+-- the line of the end of a text: that of its last byte, where a newline belongs to the line that it
+-- ends, and 1 for the empty text
+abbrev pub end_line : List ℕ → Line
+end_line text = line_of (line_number text (length text - 1))
+
+-- the fault of a symbol that is unexpected, or of the end of a text of so many tokens
+abbrev pub unexpected : List ℕ → ℕ → Option Symbol → ParseFault
+unexpected text count (Some symbol) = Unexpected symbol.token.line symbol.number
+unexpected text count None = Unexpected (end_line text) count
+
+-- the text with these tokens has no tree because of this fault
+pub data IsParseFault (text : List ℕ) (tokens : List Token) : ParseFault → Type 0 where
+  unexpected_at : (place : ℕ) → IsUnexpected text (symbols tokens) place → IsParseFault text tokens (unexpected text (length tokens) (slice_get (symbols tokens) place))
+  too_nested_at : (place : ℕ) (symbol : Symbol) → slice_get (symbols tokens) place ≡ Some symbol → IsTooNested text (symbols tokens) place → IsParseFault text tokens (TooNested symbol.token.line)

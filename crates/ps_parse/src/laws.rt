@@ -1,0 +1,23 @@
+//! What is so of every text, whatever the parser does.
+
+ghost use Rattle.std.specs.Prelude.{◌≡◌, ℕ, List};
+ghost use Rattle.ps_scan.specs.declared.token.Token.{Token};
+ghost use Rattle.ps_parse.specs.declared.fault.ParseFault.{ParseFault};
+ghost use Rattle.ps_parse.specs.Phrase.{Phrase};
+ghost use Rattle.ps_parse.specs.Program.{ReadsAs, IsParseFault};
+
+/// A text with these tokens has at most one tree.
+pub fn tree_is_unique()
+    ensures { (text : List ℕ) (tokens : List Token) (tree other : Phrase) → ReadsAs text tokens tree → ReadsAs text tokens other → tree ≡ other }
+{}
+
+/// A text with these tokens has at most one first fault.
+#[tactic(auto, using(crate::proofs::Faults::one_fault))]
+pub fn fault_is_unique()
+    ensures { (text : List ℕ) (tokens : List Token) (fault other : ParseFault) → IsParseFault text tokens fault → IsParseFault text tokens other → fault ≡ other }
+{}
+
+/// A text with a tree has no fault.
+pub fn tree_excludes_fault()
+    ensures { (text : List ℕ) (tokens : List Token) (tree : Phrase) (fault : ParseFault) → ReadsAs text tokens tree → IsParseFault text tokens fault → ⊥ }
+{}
