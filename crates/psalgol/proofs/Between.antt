@@ -1,13 +1,13 @@
 -- What is known of a run between two steps.
-use Rattle.std.proofs.Common.{◌≡◌, ℕ, ◌<◌, ◌≤◌, List, [], ◌∷◌, ◌++◌, length, refl, sym, ap, ◌∙◌, subst, arith}
+use Rattle.std.proofs.Common.{◌≡◌, ℕ, ◌≤◌, List, [], ◌∷◌, ◌++◌, refl, sym, ap, ◌∙◌, subst, arith}
 use Rattle.std.proofs.lemmas.List.{append-nil}
 use Rattle.ps_base.specs.Node.{Node}
-use Rattle.ps_port.specs.Told.{TellsFront, Tells, Rose}
+use Rattle.ps_port.specs.Told.{TellsFront, Tells}
 use Rattle.ps_port.proofs.Telling.{tells_none, tells_then, tells_then_front, front_of_more}
 use Rattle.ps_meaning.specs.Event.{End, Done, Event, Finish, outputs, report_of}
 use Rattle.ps_meaning.specs.Run.{run_events, run_end}
 use Rattle.psalgol.specs.declared.machine.Machine.{Machine}
-use Rattle.psalgol.specs.Machine.{Config, Step, Goes, Stops, step_at, step, Runs}
+use Rattle.psalgol.specs.Machine.{Config, Goes, Stops, step_at, step, Runs}
 use Rattle.psalgol.specs.Stepping.{unit_of, config_of, CanGo, HasRoom}
 use Rattle.psalgol.specs.Ready.{IsReady}
 use Rattle.psalgol.proofs.Running.{ready_runs, follow, last_step, can_run, front_of_run, outputs-append, end_is}

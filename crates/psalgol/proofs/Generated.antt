@@ -1,5 +1,5 @@
 -- The steps of the generator.
-use Rattle.std.proofs.Common.{◌≡◌, ℕ, zero, suc, ◌+◌, ◌<◌, ◌≤◌, get_or, drop, drop-cons, List, [], ◌∷◌, ◌++◌, length, reverse, refl, sym, ap, ◌∙◌, subst, append_assoc, length-append, arith}
+use Rattle.std.proofs.Common.{◌≡◌, ℕ, zero, suc, ◌+◌, ◌<◌, ◌≤◌, get_or, drop, drop-cons, List, [], ◌∷◌, ◌++◌, length, reverse, refl, sym, ap, ◌∙◌, append_assoc, length-append, arith}
 use Rattle.std.specs.Prelude.{slice_set, Result, Ok, Err, OnOk}
 use Rattle.std.proofs.Math.Seq.{set-append_seam}
 use Rattle.std.proofs.lemmas.List.{reverse-append, length-reverse}
@@ -8,7 +8,7 @@ use Rattle.ps_base.specs.Node as node
 use Rattle.psalgol.specs.declared.instruction.Instruction.{Instruction}
 use Rattle.psalgol.specs.declared.instruction.Instruction.TheVariants.{Again, Jump}
 use Rattle.psalgol.specs.Code.{size, size_all, code_of, code_of_all}
-use Rattle.psalgol.specs.Emission.{Puts, Emits, EmitsWith, EmitsBefore, EmitsAll}
+use Rattle.psalgol.specs.Emission.{Emits, EmitsWith, EmitsBefore, EmitsAll}
 use Rattle.ps_base.specs.declared.tree.Tree.{Tree}
 use Rattle.psalgol.proofs.Weights.{weight, weight_all}
 use Rattle.psalgol.proofs.Simulation.{length_code, length_code_all}

@@ -1,5 +1,5 @@
 -- Each step lowers a number, so that a run ends: the turns that are left, and then the place.
-use Rattle.std.proofs.Common.{◌≡◌, ℕ, zero, suc, ◌+◌, ◌*◌, ◌<◌, ◌≤◌, ℤ, Bool, true, false, List, [], ◌∷◌, length, Option, Some, None, refl, sym, subst, arith}
+use Rattle.std.proofs.Common.{◌≡◌, ℕ, zero, suc, ◌+◌, ◌*◌, ◌<◌, ◌≤◌, ℤ, Bool, true, false, List, [], ◌∷◌, length, Option, Some, None, refl, subst, arith}
 use Rattle.std.specs.Prelude.{nat_lt, nat_le, slice_get, if◌then◌else◌}
 use Rattle.std.proofs.lemmas.Bool.{leb-true}
 use Rattle.ps_base.specs.declared.line.Line.{Line}
@@ -8,7 +8,7 @@ use Rattle.ps_meaning.specs.Eval.{is_one}
 use Rattle.ps_meaning.specs.Event.{Event}
 use Rattle.psalgol.specs.declared.instruction.Instruction.{Instruction}
 use Rattle.psalgol.specs.declared.instruction.Instruction.TheVariants.{Push, Get, Set, Jump, JumpFalse, Again, And, Or, Not, Neg, Arith, Compare, WriteInt, WriteFlag, WriteText}
-use Rattle.psalgol.specs.Machine.{Config, Step, Goes, Stops, Stuck, Loaded, go_on, push, forward, answered, back, act, act_at, step_at, step}
+use Rattle.psalgol.specs.Machine.{Config, Step, Goes, Stops, Stuck, Loaded, push, forward, answered, back, act, act_at, step_at, step}
 
 -- how far a run is from its end at most
 abbrev pub left : ℕ → Config → ℕ

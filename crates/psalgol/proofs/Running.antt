@@ -1,16 +1,14 @@
 -- A run of the machine in code: what is known between two steps.
-use Rattle.std.proofs.Common.{◌≡◌, ℕ, ◌≤◌, ℤ, pos, List, [], ◌∷◌, ◌++◌, length, reverse, refl, sym, ap, ◌∙◌, subst, append_assoc, arith}
-use Rattle.std.proofs.lemmas.List.{append-nil, reverse-append, length-reverse}
+use Rattle.std.proofs.Common.{◌≡◌, ℕ, ◌≤◌, ℤ, List, [], ◌∷◌, ◌++◌, length, reverse, refl, sym, ap, ◌∙◌, subst, append_assoc, arith}
+use Rattle.std.proofs.lemmas.List.{reverse-append, length-reverse}
 use Rattle.ps_base.specs.Node.{Node}
-use Rattle.ps_port.specs.Told.{TellsFront, Tells}
-use Rattle.ps_port.proofs.Telling.{tells_none, tells_then, tells_then_front, front_of_more}
-use Rattle.ps_meaning.specs.Event.{End, Done, Event, Finish, outputs, output_of, report_of}
+use Rattle.ps_meaning.specs.Event.{End, Done, Event, Finish, outputs, output_of}
 use Rattle.ps_meaning.specs.Eval.{Outcome, Value_is, Ends}
 use Rattle.ps_meaning.specs.Run.{run_events, run_end, outcome_of, all_events, end_reached, fresh_frame}
 use Rattle.psalgol.specs.declared.machine.Machine.{Machine}
 use Rattle.psalgol.specs.Code.{code_of, size}
-use Rattle.psalgol.specs.Machine.{Config, Step, Goes, Stops, Stuck, Loaded, step, Runs, goes, stops}
-use Rattle.psalgol.specs.Stepping.{unit_of, config_of, word_in, CanGo, HasRoom}
+use Rattle.psalgol.specs.Machine.{Config, Step, Goes, Stops, Loaded, step, Runs, goes, stops}
+use Rattle.psalgol.specs.Stepping.{unit_of, config_of, word_in, CanGo}
 use Rattle.psalgol.specs.Ready.{IsReady}
 use Rattle.psalgol.proofs.Simulation.{config, words, program_runs, length_code}
 

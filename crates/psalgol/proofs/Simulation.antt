@@ -1,5 +1,5 @@
 -- The machine does with the code of a tree what the tree means.
-use Rattle.std.proofs.Common.{◌≡◌, ℕ, zero, suc, ◌+◌, ◌<◌, ◌≤◌, ℤ, pos, Bool, true, false, List, [], ◌∷◌, ◌++◌, length, Option, Some, None, refl, sym, ap, ◌∙◌, subst, append_assoc, length-append, le_trans, arith}
+use Rattle.std.proofs.Common.{◌≡◌, ℕ, zero, suc, ◌+◌, ◌<◌, ◌≤◌, ℤ, Bool, true, false, List, [], ◌∷◌, ◌++◌, length, Option, Some, refl, sym, ap, ◌∙◌, subst, append_assoc, length-append, arith}
 use Rattle.std.specs.Prelude.{nat_lt, nat_le, nat_eq, not, reverse, slice_get, if◌then◌else◌}
 use Rattle.std.proofs.lemmas.List.{append-nil, reverse-append, length-reverse}
 use Rattle.std.proofs.lemmas.Bool.{lt-ltb, le-leb}
@@ -14,15 +14,15 @@ use Rattle.ps_base.specs.Value.{Value, Num, Flag, Text, Nothing}
 use Rattle.ps_base.specs.Node.{Node, Nodes, none, more}
 use Rattle.ps_base.specs.Node as node
 use Rattle.ps_meaning.specs.Operators.{Answer, Gives, Traps, neg_of, arith_of, relation_of}
-use Rattle.ps_meaning.specs.Event.{End, Done, Trapped, OutOfTurns, Event, Out, Turn, Finish}
-use Rattle.ps_meaning.specs.Eval.{Frame, State, Outcome, Value_is, Ends, Meaning, number_of, word_of, is_one, flag_of, flag_text, text_in, give, stop, after, ◌>>=◌, answer, emit, emit_some, written, turn_of, take_turn, slot_of, get, with_local, set, choose, while_turns, eval, eval_all}
+use Rattle.ps_meaning.specs.Event.{OutOfTurns, Event, Out, Turn, Finish}
+use Rattle.ps_meaning.specs.Eval.{Frame, State, Outcome, Value_is, Ends, Meaning, number_of, word_of, is_one, flag_of, flag_text, give, stop, after, ◌>>=◌, answer, emit, emit_some, written, turn_of, take_turn, slot_of, get, with_local, set, choose, while_turns, eval, eval_all}
 use Rattle.ps_meaning.specs.Run.{fresh_frame, fresh_state, outcome_of, all_events, run_events}
 use Rattle.ps_meaning.specs.Typed.{IsWord, int_word, flag_word, IsTyped, AreTyped, no_more, one_more}
 use Rattle.ps_meaning.specs.Typed as typed
 use Rattle.psalgol.specs.declared.instruction.Instruction.{Instruction}
 use Rattle.psalgol.specs.declared.instruction.Instruction.TheVariants.{Push, Get, Set, Jump, JumpFalse, Again, And, Or, Not, Neg, Arith, Compare, WriteInt, WriteFlag, WriteText}
-use Rattle.psalgol.specs.Code.{size, size_all, code_of, code_of_all, bytes_in}
-use Rattle.psalgol.specs.Machine.{Config, Step, Goes, Stops, Stuck, Loaded, some_out, answered, back, forward, act, act_at, step, Runs, goes, stops}
+use Rattle.psalgol.specs.Code.{size, size_all, code_of, code_of_all}
+use Rattle.psalgol.specs.Machine.{Config, Goes, Stops, Stuck, Loaded, answered, back, act, act_at, step, Runs, goes, stops}
 
 -- the words that a value of a type leaves on the stack
 abbrev pub left_by : Ty → Value → List ℤ

@@ -1,6 +1,6 @@
 -- The instructions of a clause, in the order in which they run. The number is how many instructions come behind
 -- them: a place in the code is the number of instructions from it to the end.
-use Rattle.std.specs.Prelude.{ℕ, ◌+◌, List, [], ◌∷◌, ◌++◌, pos}
+use Rattle.std.specs.Prelude.{ℕ, ◌+◌, List, [], ◌∷◌, ◌++◌}
 use Rattle.ps_base.specs.declared.ty.Ty.{Ty}
 use Rattle.ps_base.specs.declared.ty.Ty.TheVariants as ty
 use Rattle.ps_base.specs.declared.place.Place.{Place}

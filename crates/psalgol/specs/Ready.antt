@@ -1,11 +1,11 @@
 -- When a machine is at the start of a program.
-use Rattle.std.specs.Prelude.{◌≡◌, ℕ, ℤ, pos, List, [], length, reverse}
+use Rattle.std.specs.Prelude.{◌≡◌, ℕ, pos, [], length, reverse}
 use Rattle.ps_base.specs.Node.{Node}
 use Rattle.ps_base.specs.declared.ty.Ty.TheVariants.{Void}
 use Rattle.ps_meaning.specs.Typed.{IsTyped}
 use Rattle.psalgol.specs.declared.machine.Machine.{Machine}
 use Rattle.psalgol.specs.Code.{code_of}
-use Rattle.psalgol.specs.Stepping.{word_in, HasRoom}
+use Rattle.psalgol.specs.Stepping.{word_in}
 
 -- the machine has the code of this typed program before it, an empty stack, and 0 in each local
 pub record IsReady (m : Machine) (program : Node) : Type 0 where

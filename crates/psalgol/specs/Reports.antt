@@ -1,5 +1,5 @@
 -- The report lines of what ends a command before its first event.
-use Rattle.std.specs.Prelude.{ℕ, List, [], ◌++◌, codes, decimal}
+use Rattle.std.specs.Prelude.{ℕ, List, ◌++◌, codes, decimal}
 use Rattle.ps_base.specs.declared.line.Line.{Line}
 
 abbrev pub usage_line : List ℕ

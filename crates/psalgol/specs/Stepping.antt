@@ -1,7 +1,7 @@
 -- The machine in code, as the machine of the definition, and what a step in code answers.
-use Rattle.std.specs.Prelude.{◌≡◌, ℕ, ◌≤◌, ℤ, pos, List, [], ◌∷◌, length, reverse, slice_index_or, vec_capacity}
+use Rattle.std.specs.Prelude.{◌≡◌, ℕ, ◌≤◌, ℤ, pos, List, [], length, reverse, slice_index_or, vec_capacity}
 use Rattle.std.specs.Fmt.{signed_decimal}
-use Rattle.ps_meaning.specs.Event.{End, Done, Trapped, OutOfTurns, Event, Out, outputs}
+use Rattle.ps_meaning.specs.Event.{End, Done, Trapped, OutOfTurns, Event, outputs}
 use Rattle.ps_meaning.specs.Eval.{flag_text}
 use Rattle.psalgol.specs.declared.instruction.Instruction.{Instruction}
 use Rattle.psalgol.specs.declared.run_end.RunEnd.{RunEnd}
@@ -12,7 +12,7 @@ use Rattle.psalgol.specs.declared.machine.Item.TheVariants as item
 use Rattle.psalgol.specs.declared.machine.Stepped.{Stepped}
 use Rattle.psalgol.specs.declared.machine.Stepped.TheVariants.{Quiet, Writes}
 use Rattle.psalgol.specs.declared.machine.Stepped.TheVariants as stepped
-use Rattle.psalgol.specs.Machine.{Config, Step, Goes, Stops, Stuck, Loaded, act, step}
+use Rattle.psalgol.specs.Machine.{Config, Step, Goes, Stops, Stuck, Loaded, act}
 
 -- the words of the locals; a slot past them has none
 abbrev pub word_in : List ℤ → ℕ → ℤ

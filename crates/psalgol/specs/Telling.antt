@@ -1,15 +1,10 @@
 -- What a call tells by a host, or how far it came where the output failed.
 use Rattle.std.specs.Borrow.{Bor}
-use Rattle.std.specs.Prelude.{◌≡◌, ℕ, ◌≤◌, List, [], ◌∷◌, ◌++◌, Option, Some, None, Result, Ok, Err}
-use Rattle.ps_base.specs.Node.{Node}
-use Rattle.ps_base.specs.declared.ty.Ty.TheVariants.{Void}
+use Rattle.std.specs.Prelude.{◌≡◌, ℕ, List, [], ◌∷◌, ◌++◌, Option, Some, None, Result, Ok, Err}
 use Rattle.ps_port.specs.declared.host.HostFailed.{HostFailed}
 use Rattle.ps_port.specs.Told.{TellsFront, Tells, Rose}
 use Rattle.ps_meaning.specs.Event.{Event, outputs}
-use Rattle.ps_meaning.specs.Typed.{IsTyped}
 use Rattle.psalgol.specs.declared.run_end.RunEnd.{RunEnd}
-use Rattle.psalgol.specs.declared.machine.Machine.{Machine}
-use Rattle.psalgol.specs.Code.{code_of}
 use Rattle.psalgol.specs.Machine.{Config, Step, Goes, Stops}
 use Rattle.psalgol.specs.Stepping.{end_of}
 

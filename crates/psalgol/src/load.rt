@@ -24,5 +24,11 @@ pub fn load<'a>(
 {
     let stack = Vec::with_capacity(alloc, code.len())?;
     let locals = vec![in alloc; 0; slots as usize]?;
-    Ok(Machine { code, place: code.len(), stack, locals, turns })
+    Ok(Machine {
+        code,
+        place: code.len(),
+        stack,
+        locals,
+        turns,
+    })
 }

@@ -42,7 +42,11 @@ pub fn too_long<H: Host>(host: &mut H, file: &str, length: u64) -> u8
 {
     let mut buffer = Buffer::new();
     let count = buffer.format(length).as_bytes();
-    answer(host, &[file.as_bytes(), b": ", count, b" bytes, at most 1048576\n"], 13)
+    answer(
+        host,
+        &[file.as_bytes(), b": ", count, b" bytes, at most 1048576\n"],
+        13,
+    )
 }
 
 /// Tells the first fault of a text: its stage, its number and its line; and answers 2.
@@ -55,7 +59,11 @@ pub fn fault<H: Host>(host: &mut H, file: &str, stage: &[u8], number: u8, line: 
     let number = of_number.format(number).as_bytes();
     let line = of_line.format(line.0).as_bytes();
     let name = file.as_bytes();
-    answer(host, &[name, b": ", stage, b" ", number, b" at line ", line, b"\n"], 2)
+    answer(
+        host,
+        &[name, b": ", stage, b" ", number, b" at line ", line, b"\n"],
+        2,
+    )
 }
 
 // Tells pieces one after the other, and answers the status.

@@ -24,7 +24,12 @@ pub fn read_words<'a>(words: &'a [String]) -> Option<RunWords<'a>>
 {
     match words {
         [command, volume, file] => {
-            run_words(command.as_str(), volume.as_str(), file.as_str(), Some(DEFAULT_TURNS))
+            run_words(
+                command.as_str(),
+                volume.as_str(),
+                file.as_str(),
+                Some(DEFAULT_TURNS),
+            )
         }
         [command, volume, option, digits, file] => {
             if option.as_str() != "--turns" {
@@ -50,7 +55,10 @@ fn run_words<'a>(
     ensures { RunIs (run_of command.now volume.now file.now turns) result }
 {
     if command == "run" && is_plain_word(volume) && is_plain_word(file) {
-        Some(RunWords { turns: turns?, file })
+        Some(RunWords {
+            turns: turns?,
+            file,
+        })
     } else {
         None
     }
@@ -72,7 +80,11 @@ fn read_turns(digits: &[u8]) -> Option<u64>
         return None;
     }
     let turns = value_of(digits);
-    if turns <= MOST_TURNS { Some(turns) } else { None }
+    if turns <= MOST_TURNS {
+        Some(turns)
+    } else {
+        None
+    }
 }
 
 // The number that decimal digits write, or one more than `MOST_TURNS` where it is larger.

@@ -1,13 +1,13 @@
-use Rattle.std.proofs.Common.{◌≡◌, rules, ℕ, suc, get_or, ◌∙◌, ◌+◌, ◌-◌, ◌<◌, ◌≤◌, ◌++◌, ◌∷◌, [], ap, sym, refl, arith, length, drop, OnOk, subst}
+use Rattle.std.proofs.Common.{◌≡◌, rules, suc, get_or, ◌∙◌, ◌+◌, ◌-◌, ◌<◌, ◌≤◌, ap, sym, arith, length, drop, subst}
 use Rattle.ps_base.specs.Node.{Node, Nodes, more, node_of, nodes_in}
 use Rattle.ps_base.specs.Node as node
 use Rattle.ps_base.proofs.NodeLemmas.{node_of-Block}
-use Rattle.psalgol.specs.declared.instruction.Instruction.TheVariants.{Again, Jump, JumpFalse, And, Or, Not, Neg, Arith, Compare}
+use Rattle.psalgol.specs.declared.instruction.Instruction.TheVariants.{Again, Jump, JumpFalse, And, Or, Arith, Compare}
 use Rattle.psalgol.specs.Code.{code_of, size}
-use Rattle.psalgol.specs.Emission.{EmitsWith, EmitsBefore, Emits}
+use Rattle.psalgol.specs.Emission.{EmitsWith, EmitsBefore}
 use Rattle.psalgol.proofs.Weights.{weight, weight_all}
 use Rattle.std.specs.Prelude.{slice_set}
-use Rattle.psalgol.proofs.Generated.{Leads, LeadsAll, weight_at, nodes_from, leads_with, leads_operand, leads_clause, leads_choices, leads_item, length_emitted, loop_emitted, leads_sequence, on_ok}
+use Rattle.psalgol.proofs.Generated.{LeadsAll, weight_at, nodes_from, leads_operand, leads_clause, leads_choices, leads_item, length_emitted, loop_emitted, leads_sequence, on_ok}
 use Rattle.psalgol.proofs.generate.+emit.Goals as goal
 
 pub emit-loop-rest-preserved-in-IfDo : goal.emit-loop-rest-preserved-in-IfDo

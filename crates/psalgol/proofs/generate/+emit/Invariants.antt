@@ -1,5 +1,5 @@
 -- The loops of the generator: what is left of a clause makes the code that the clause makes.
-use Rattle.std.proofs.Common.{◌≡◌, ◌≤◌, ◌+◌, ◌*◌, length, drop, ℕ}
+use Rattle.std.proofs.Common.{◌≤◌, ◌+◌, ◌*◌, length, drop}
 use Rattle.ps_base.specs.Node.{node_of, nodes_in}
 use Rattle.psalgol.proofs.Weights.{weight, weight_all}
 use Rattle.psalgol.proofs.Generated.{Leads, LeadsAll}

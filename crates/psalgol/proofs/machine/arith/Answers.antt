@@ -1,4 +1,4 @@
-use Rattle.std.proofs.Common.{◌≡◌, ◌∙◌, ◌++◌, ◌∷◌, [], ap, subst, rules}
+use Rattle.std.proofs.Common.{◌≡◌, subst, rules}
 use Rattle.ps_meaning.specs.Answers.{answer_of}
 use Rattle.ps_meaning.specs.Operators.{arith_of}
 use Rattle.psalgol.specs.Stepping.{unit_of, config_of, word_in, StepIs}

@@ -1,10 +1,10 @@
-use Rattle.std.proofs.Common.{◌≡◌, ◌≤◌, sym, ◌∙◌, ap, subst, arith, rules, Some, None, Ok, Err, inl, inr}
+use Rattle.std.proofs.Common.{◌∙◌, ap, subst, Ok}
 use Rattle.psalgol.specs.Stepping.{unit_of, config_of, end_of}
 use Rattle.psalgol.specs.Machine.{step as step_of}
 use Rattle.ps_port.proofs.Telling.{tells_then, tells_then_front}
 use Rattle.ps_meaning.specs.Event.{report_of}
 use Rattle.psalgol.specs.Telling.{Advances, TellsOrFails}
-use Rattle.psalgol.proofs.Pieces.{failed, rose_later, at_err}
+use Rattle.psalgol.proofs.Pieces.{failed, rose_later}
 use Rattle.psalgol.proofs.Between.{between_none, between_more, between_goes, between_cut, between_told, between_report_cut, between_end, done_stops, between_all}
 use Rattle.psalgol.proofs.run.run.Goals as goal
 

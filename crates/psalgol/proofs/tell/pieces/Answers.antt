@@ -1,5 +1,4 @@
-use Rattle.std.proofs.Common.{◌≤◌, rules, arith, ◌<◌, length, get_or}
-use Rattle.ps_port.specs.Told.{Tells, TellsFront, Rose}
+use Rattle.std.proofs.Common.{arith}
 use Rattle.psalgol.proofs.Pieces.{told_more, told_cut, failed, rose_later, at_err, at_ok}
 use Rattle.psalgol.proofs.tell.pieces.Goals as goal
 

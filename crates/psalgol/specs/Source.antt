@@ -1,0 +1,59 @@
+-- Which text is a program, and where the first fault of one that isn't stands.
+use Rattle.std.specs.Prelude.{◌≡◌, ◌≢◌, ℕ, List, [], Some, None, Option, codes}
+use Rattle.ps_base.specs.declared.line.Line.{Line}
+use Rattle.ps_base.specs.Node.{Node}
+use Rattle.ps_scan.specs.declared.token.Token.{Token}
+use Rattle.ps_scan.specs.declared.fault.ScanFault.{ScanFault}
+use Rattle.ps_scan.specs.declared.fault.ScanFault.TheVariants as scan_fault
+use Rattle.ps_scan.specs.Tokens.{HasTokens, HasFault}
+use Rattle.ps_scan.specs.Fault as scanning
+use Rattle.ps_parse.specs.declared.fault.ParseFault.{ParseFault}
+use Rattle.ps_parse.specs.declared.fault.ParseFault.TheVariants as parse_fault
+use Rattle.ps_parse.specs.Phrase.{Phrase}
+use Rattle.ps_parse.specs.Program.{ReadsAs, IsParseFault}
+use Rattle.ps_parse.specs.Fault as parsing
+use Rattle.psalgol.specs.declared.check_fault.CheckFault.{CheckFault}
+use Rattle.psalgol.specs.declared.check_fault.CheckFault.TheVariants as check_fault
+use Rattle.psalgol.specs.Checking.{check_program, Typed, Fails}
+use Rattle.psalgol.specs.CheckFaults as checking
+use Rattle.psalgol.specs.declared.source_fault.SourceFault.{SourceFault}
+use Rattle.psalgol.specs.declared.source_fault.SourceFault.TheVariants as source
+
+-- the text has these tokens, they read as a tree, and it is typed: this program, with so many locals
+pub record IsProgram (text : List ℕ) (program : Node) (slots : ℕ) : Type 0 where
+  pub tokens : List Token
+  pub phrase : Phrase
+  pub scanned : HasTokens text tokens
+  pub read : ReadsAs text tokens phrase
+  pub typed : check_program phrase ≡ Typed program slots
+
+-- the first stage at which the text is refused, with the number and the line of the first fault
+pub data IsSourceFault (text : List ℕ) : List ℕ → ℕ → Line → Type 0 where
+  in_scan : {fault : ScanFault} {number : ℕ} {line : Line} → HasFault text fault → scanning.number_of fault ≡ Some number → scanning.line_of_fault fault ≡ Some line → IsSourceFault text (codes "scan") number line
+  in_parse : {tokens : List Token} {fault : ParseFault} {number : ℕ} {line : Line} → HasTokens text tokens → IsParseFault text tokens fault → parsing.number_of fault ≡ Some number → parsing.line_of_fault fault ≡ Some line → IsSourceFault text (codes "parse") number line
+  in_check : {tokens : List Token} {phrase : Phrase} {fault : CheckFault} {number : ℕ} {line : Line} → HasTokens text tokens → ReadsAs text tokens phrase → check_program phrase ≡ Fails fault → checking.number_of fault ≡ Some number → checking.line_of_fault fault ≡ Some line → IsSourceFault text (codes "check") number line
+
+-- what an answer of the compiler says of the text; want of memory says nothing
+abbrev pub Refuses : List ℕ → SourceFault → Type 0
+Refuses text (source.Scan fault) = fault ≢ scan_fault.Memory → HasFault text fault
+Refuses text (source.Parse fault) = fault ≢ parse_fault.Memory → (tokens : List Token) × HasTokens text tokens × IsParseFault text tokens fault
+Refuses text (source.Check fault) = fault ≢ check_fault.Memory → (tokens : List Token) × ((phrase : Phrase) × HasTokens text tokens × ReadsAs text tokens phrase × (check_program phrase ≡ Fails fault))
+Refuses text source.Memory = Unit {0}
+
+abbrev pub stage_of : SourceFault → List ℕ
+stage_of (source.Scan fault) = codes "scan"
+stage_of (source.Parse fault) = codes "parse"
+stage_of (source.Check fault) = codes "check"
+stage_of source.Memory = []
+
+abbrev pub number_of : SourceFault → Option ℕ
+number_of (source.Scan fault) = scanning.number_of fault
+number_of (source.Parse fault) = parsing.number_of fault
+number_of (source.Check fault) = checking.number_of fault
+number_of source.Memory = None
+
+abbrev pub line_of_fault : SourceFault → Option Line
+line_of_fault (source.Scan fault) = scanning.line_of_fault fault
+line_of_fault (source.Parse fault) = parsing.line_of_fault fault
+line_of_fault (source.Check fault) = checking.line_of_fault fault
+line_of_fault source.Memory = None

@@ -1,0 +1,18 @@
+use ps_base::bytes::Bytes;
+use ps_base::ty::Ty;
+
+/// A name that a program declares, and what it names.
+#[derive(Drop)]
+pub struct Declaration {
+    pub name: Bytes,
+    pub local: Local,
+}
+
+/// What a name stands for: a variable or a constant of this type, which is kept in the slot of this
+/// number.
+#[derive(Clone, Copy)]
+pub struct Local {
+    pub slot: u32,
+    pub ty: Ty,
+    pub variable: bool,
+}

@@ -1,0 +1,68 @@
+ghost use Rattle.std.specs.Prelude.{◌≡◌, ◌≤◌, List, ℕ, length, reverse};
+ghost use Rattle.ps_base.specs.Node.{Node};
+ghost use Rattle.ps_base.specs.declared.ty.Ty.TheVariants.{Void};
+ghost use Rattle.ps_meaning.specs.Event.{status_of};
+ghost use Rattle.ps_meaning.specs.Typed.{IsTyped};
+ghost use Rattle.psalgol.specs.Code.{code_of};
+ghost use Rattle.psalgol.specs.Source.{Refuses};
+ghost use Rattle.psalgol.specs.Stepping.{end_of};
+ghost use Rattle.psalgol.specs.TextDue.{TextWhy, ProgramWhy, run_in};
+
+use crate::compile::{Compiled, compile};
+use crate::load::load;
+use crate::report;
+use crate::run::run;
+use crate::run_end::RunEnd;
+use crate::source_fault::SourceFault;
+use crate::words::RunWords;
+use ps_port::host::Host;
+use std::alloc::Global;
+
+/// Runs a text, or tells its first fault, and answers the status.
+pub fn run_text<H: Host>(alloc: Global, words: &RunWords, text: &[u8], host: &mut H) -> u8
+    requires { length text.now ≤ 1048576 }
+    ensures why { TextWhy H.clock H.told H.output_faults host.old host.new (run_in words.now) text.now result }
+    ensures counts { H.output_faults host.old ≤ H.output_faults host.new }
+{
+    match compile(alloc, text) {
+        Ok(compiled) => run_program(alloc, words.turns, &compiled, host),
+        Err(fault) => refuse(words.file, &fault, host),
+    }
+}
+
+fn refuse<H: Host>(file: &str, fault: &SourceFault, host: &mut H) -> u8
+    ensures why { (turns : ℕ) (text : List ℕ) → Refuses text fault.now → TextWhy H.clock H.told H.output_faults host.old host.new (record { turns = turns; file = file.now }) text result }
+    ensures counts { H.output_faults host.old ≤ H.output_faults host.new }
+{
+    match (fault.number(), fault.line()) {
+        (Some(number), Some(line)) => report::fault(host, file, fault.stage(), number, line),
+        _ => report::no_memory(host),
+    }
+}
+
+fn run_program<H: Host>(alloc: Global, turns: u64, compiled: &Compiled, host: &mut H) -> u8
+    requires { (program : Node) × IsTyped compiled.now.slots program Void × (compiled.now.code.items ≡ reverse (code_of program 0)) }
+    ensures why { (program : Node) → IsTyped compiled.now.slots program Void → compiled.now.code.items ≡ reverse (code_of program 0) → ProgramWhy H.clock H.told H.output_faults host.old host.new turns program result }
+    ensures counts { H.output_faults host.old ≤ H.output_faults host.new }
+{
+    match load(alloc, &compiled.code, compiled.slots, turns) {
+        Err(_) => report::no_memory(host),
+        Ok(machine) => {
+            let mut machine = machine;
+            match run(&mut machine, host) {
+                Ok(end) => status(end),
+                Err(_) => report::OUTPUT_FAULT,
+            }
+        }
+    }
+}
+
+fn status(end: RunEnd) -> u8
+    ensures { result ≡ status_of (end_of end) }
+{
+    match end {
+        RunEnd::Done => 0,
+        RunEnd::Trapped { .. } => 3,
+        RunEnd::OutOfTurns => 4,
+    }
+}
