@@ -1,5 +1,5 @@
 -- The tables on the words and the marks, written out in their order, and the newline rule on examples.
-use Rattle.std.proofs.Common.{◌≡◌, ℕ, List, [], ◌∷◌, map, Bool, true, false, refl}
+use Rattle.std.proofs.Common.{◌≡◌, List, [], ◌∷◌, map, true, false, refl}
 use Rattle.std.specs.List.{range_with_len}
 use Rattle.ps_scan.specs.declared.token.Token.{Token}
 use Rattle.ps_scan.specs.declared.token.TokenKind.{TokenKind}
@@ -8,7 +8,6 @@ use Rattle.ps_scan.specs.Tokens.{token_at}
 use Rattle.ps_parse.specs.declared.kind.Kind.{Kind}
 use Rattle.ps_parse.specs.declared.kind.Kind.TheVariants.{Stray}
 use Rattle.ps_parse.specs.declared.kind.Kind.TheVariants as kind
-use Rattle.ps_parse.specs.declared.symbol.Symbol.{Symbol}
 use Rattle.ps_parse.specs.Kinds.{kind_of, can_end, can_continue}
 use Rattle.ps_parse.specs.Symbols.{symbols, symbols_behind}
 

@@ -3,11 +3,12 @@ use ps_base::bytes::Bytes;
 use ps_base::line::Line;
 use ps_base::operator::{Operator, Relation};
 use ps_scan::{LONGEST_TEXT, scan};
+use std::alloc::Global;
 use std::fmt::Write;
 use std::test::Fail;
 
 /// Writes the tree as `form@line` and its parts in brackets, down to the depth.
-#[cycle(showing)]
+#[cycle(show)]
 fn show(out: &mut String, clause: &Rough, depth: u32) -> Result<(), Fail> {
     if depth == 0 {
         return Ok(());
@@ -102,7 +103,7 @@ fn show_name(out: &mut String, name: &Bytes) -> Result<(), Fail> {
     Ok(())
 }
 
-#[cycle(showing)]
+#[cycle(show)]
 fn show_one(out: &mut String, e: &Rough, depth: u32) -> Result<(), Fail> {
     out.push_str("(")?;
     show(out, e, depth)?;
@@ -110,13 +111,13 @@ fn show_one(out: &mut String, e: &Rough, depth: u32) -> Result<(), Fail> {
     Ok(())
 }
 
-#[cycle(showing)]
+#[cycle(show)]
 fn show_two(out: &mut String, a: &Rough, b: &Rough, depth: u32) -> Result<(), Fail> {
     show_one(out, a, depth)?;
     show_one(out, b, depth)
 }
 
-#[cycle(showing)]
+#[cycle(show)]
 fn show_all(out: &mut String, items: &[Rough], depth: u32) -> Result<(), Fail> {
     for item in items {
         show_one(out, item, depth)?;
@@ -203,6 +204,97 @@ fn texts_have_their_trees(rt: HostRuntime) -> Result<(), Fail> {
             Err(_) => out.push_str("?")?,
         }
         assert_eq!(rt; out.as_str(), tree);
+    }
+    Ok(())
+}
+
+#[test]
+fn first_fault_is_answered(rt: HostRuntime) -> Result<(), Fail> {
+    let rows: [(&[u8], u32, u32); 27] = [
+        (b"1 1", 1, 1),
+        (b"(1\n\n", 2, 2),
+        (b"(1\n2)", 1, 2),
+        (b"(1\nof)", 2, 2),
+        (b"(1\nnil)", 1, 2),
+        (b"a\nof b", 2, 1),
+        (b"1 ? 2", 1, 2),
+        (b"1 ?\n?", 2, 2),
+        (b"write (\"a\")", 1, 2),
+        (b"write \"a\" + 1", 1, 2),
+        (b"a := \"a\"", 1, 2),
+        (b"let x 1", 1, 2),
+        (b"let 1", 1, 1),
+        (b"let x = let y = 1", 1, 3),
+        (b"if a b", 1, 2),
+        (b"if a then b\n", 1, 4),
+        (b"if a then b\nelse\n\n", 3, 5),
+        (b"while a do", 1, 3),
+        (b"{ 1", 1, 2),
+        (b"}", 1, 0),
+        (b"begin 1 }", 1, 2),
+        (b"~ ~ a", 1, 1),
+        (b"1 = 2 = 3", 1, 3),
+        (b"- - 1", 1, 1),
+        (b"a,b", 1, 1),
+        (b"write", 1, 1),
+        (b"1 + )", 1, 2),
+    ];
+    for (text, line, token) in rows {
+        assert!(rt; text.len() <= LONGEST_TEXT);
+        let tokens = scan(rt.alloc(), text).map_err(|_| "fault")?;
+        let fault = parse(rt.alloc(), text, &tokens).err().ok_or("a tree")?;
+        let line = Line(line);
+        assert_eq!(rt; fault, ParseFault::Unexpected { line, token });
+        assert_eq!(rt; fault.number(), Some(1));
+        assert_eq!(rt; fault.line(), Some(line));
+    }
+    Ok(())
+}
+
+/// So many copies of the front, the middle, and as many of the back.
+fn nested(
+    alloc: Global,
+    count: usize,
+    front: &[u8],
+    middle: &[u8],
+    back: &[u8],
+) -> Result<Vec<u8>, Fail> {
+    let mut text = Vec::new(alloc);
+    for _ in 0..count {
+        text.extend_from_slice(front)?;
+    }
+    text.extend_from_slice(middle)?;
+    for _ in 0..count {
+        text.extend_from_slice(back)?;
+    }
+    Ok(text)
+}
+
+#[test]
+fn nesting_has_a_limit(rt: HostRuntime) -> Result<(), Fail> {
+    let too_nested = |line: u32| Some(ParseFault::TooNested { line: Line(line) });
+    let second = Some(ParseFault::Unexpected {
+        line: Line(1),
+        token: 1,
+    });
+    let rows: [(usize, &[u8], &[u8], &[u8], Option<ParseFault>); 11] = [
+        (99, b"(\n", b"1", b")", None),
+        (100, b"(\n", b"1", b")", too_nested(101)),
+        (100, b"{", b"", b"}", None),
+        (101, b"begin\n", b"", b" end", too_nested(101)),
+        (101, b"if a do ", b"1", b"", too_nested(1)),
+        (101, b"a :=", b" 1", b"", too_nested(1)),
+        (1_048_576, b"{", b"", b"", too_nested(1)),
+        (1_048_576, b"~", b"", b"", second),
+        (1_048_576, b"-", b"", b"", second),
+        (1_048_576, b"\n", b"", b"", None),
+        (116_508, b"", b"true", b" or true ", None),
+    ];
+    for (count, front, middle, back, fault) in rows {
+        let text = nested(rt.alloc(), count, front, middle, back)?;
+        assert!(rt; text.len() <= LONGEST_TEXT);
+        let tokens = scan(rt.alloc(), &text).map_err(|_| "fault")?;
+        assert_eq!(rt; parse(rt.alloc(), &text, &tokens).err(), fault);
     }
     Ok(())
 }
