@@ -3,3 +3,4 @@ pub mod Instr
 pub mod CodeUnit
 pub mod Node
 pub mod Value
+pub mod TyView

@@ -1,6 +1,6 @@
 -- The typed tree of a clause as contracts see it, without the places in memory of the code's tree.
 use Rattle.std.specs.Prelude.{ℕ, ℤ, List, [], ◌∷◌, Bool, Option}
-use Rattle.ps_base.specs.declared.ty.Ty.{Ty}
+use Rattle.ps_base.specs.declared.basic_type.BasicType.{BasicType}
 use Rattle.ps_base.specs.declared.line.Line.{Line}
 use Rattle.ps_base.specs.declared.place.Place.{Place}
 use Rattle.ps_base.specs.declared.operator.Operator.{Operator}
@@ -13,9 +13,9 @@ mutual
     Int : (value : ℤ) → Node
     Flag : (value : Bool) → Node
     Text : (bytes : List ℕ) → Node
-    Name : (place : Place) (ty : Ty) → Node
-    SetName : (place : Place) (ty : Ty) (e : Node) → Node
-    Let : (place : Place) (ty : Ty) (e : Node) → Node
+    Name : (place : Place) (ty : BasicType) → Node
+    SetName : (place : Place) (ty : BasicType) (e : Node) → Node
+    Let : (place : Place) (ty : BasicType) (e : Node) → Node
     Empty : Node
     Block : (scope : Option (List ℕ)) (items : Nodes) → Node
     IfDo : (c a : Node) → Node
@@ -27,8 +27,8 @@ mutual
     Neg : (e : Node) (line : Line) → Node
     Plus : (e : Node) → Node
     Arith : (op : Operator) (a b : Node) (line : Line) → Node
-    Compare : (op : Relation) (ty : Ty) (a b : Node) → Node
-    Write : (e w : Node) (wide : Bool) (ty : Ty) (line : Line) → Node
+    Compare : (op : Relation) (ty : BasicType) (a b : Node) → Node
+    Write : (e w : Node) (wide : Bool) (ty : BasicType) (line : Line) → Node
 
   pub data Nodes : Type 0 where
     none : Nodes

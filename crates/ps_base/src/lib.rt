@@ -2,6 +2,7 @@
 //! instructions and units of its code.
 #![tactic(auto)]
 
+pub mod basic_type;
 pub mod bytes;
 pub mod code_unit;
 pub mod instr;

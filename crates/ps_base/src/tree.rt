@@ -1,9 +1,9 @@
+use crate::basic_type::BasicType;
 use crate::bytes::Bytes;
 use crate::line::Line;
 use crate::list::List;
 use crate::operator::{Operator, Relation};
 use crate::place::Place;
-use crate::ty::Ty;
 
 /// A typed clause in which each name is resolved to its place (`docs/meaning.md`).
 pub enum Tree {
@@ -12,18 +12,18 @@ pub enum Tree {
     Text(Bytes),
     Name {
         place: Place,
-        ty: Ty,
+        ty: BasicType,
     },
     /// Assigns to a variable.
     SetName {
         place: Place,
-        ty: Ty,
+        ty: BasicType,
         e: Box<Tree>,
     },
     /// Gives a declared name its initial value.
     Let {
         place: Place,
-        ty: Ty,
+        ty: BasicType,
         e: Box<Tree>,
     },
     /// Nothing at all.
@@ -68,7 +68,7 @@ pub enum Tree {
     },
     Compare {
         op: Relation,
-        ty: Ty,
+        ty: BasicType,
         a: Box<Tree>,
         b: Box<Tree>,
     },
@@ -77,7 +77,7 @@ pub enum Tree {
         e: Box<Tree>,
         w: Box<Tree>,
         wide: bool,
-        ty: Ty,
+        ty: BasicType,
         line: Line,
     },
 }

@@ -4,7 +4,7 @@ use Rattle.std.specs.Prelude.{codes, negsuc}
 use Rattle.std.specs.Fmt.{signed_decimal}
 use Rattle.ps_base.specs.declared.line.Line.{Line}
 use Rattle.ps_base.specs.declared.trap.Trap.TheVariants.{Overflow, ZeroDivisor}
-use Rattle.ps_base.specs.declared.ty.Ty.TheVariants as ty
+use Rattle.ps_base.specs.declared.basic_type.BasicType.TheVariants as ty
 use Rattle.ps_base.specs.declared.place.Place.TheVariants.{Plain}
 use Rattle.ps_base.specs.declared.operator.Operator.TheVariants.{Add, Mul, Div, Rem, Sub}
 use Rattle.ps_base.specs.declared.operator.Relation.TheVariants.{Greater}

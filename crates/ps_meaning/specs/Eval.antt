@@ -2,8 +2,8 @@
 use Rattle.std.specs.Prelude.{ℕ, zero, suc, ℤ, pos, Bool, true, false, List, [], ◌∷◌, ◌++◌, codes, nat_eq, if◌then◌else◌, not}
 use Rattle.std.specs.Fmt.{signed_decimal}
 use Rattle.ps_base.specs.declared.line.Line.{Line}
-use Rattle.ps_base.specs.declared.ty.Ty.{Ty}
-use Rattle.ps_base.specs.declared.ty.Ty.TheVariants as ty
+use Rattle.ps_base.specs.declared.basic_type.BasicType.{BasicType}
+use Rattle.ps_base.specs.declared.basic_type.BasicType.TheVariants as ty
 use Rattle.ps_base.specs.declared.place.Place.{Place}
 use Rattle.ps_base.specs.declared.place.Place.TheVariants.{Plain}
 use Rattle.ps_base.specs.Value.{Value, Num, Flag, Nothing}
@@ -86,7 +86,7 @@ emit_some [] = give Nothing
 emit_some (byte ∷ bytes) = emit (byte ∷ bytes)
 
 -- writes a value of this type; what has no bytes makes no event
-unfoldable pub written : Ty → Value → Meaning
+unfoldable pub written : BasicType → Value → Meaning
 written ty.Int v = emit (signed_decimal (word_of v))
 written ty.Bool v = emit (flag_text (flag_of v))
 written ty.Str v = emit_some (text_in v)

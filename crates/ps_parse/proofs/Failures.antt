@@ -8,7 +8,7 @@ use Rattle.ps_parse.specs.Phrase.{Phrase}
 use Rattle.ps_parse.specs.Grammar.{Part, Rule, Take, Go, Clause, Then, clause, row}
 use Rattle.ps_parse.specs.Program.{unexpected}
 use Rattle.ps_parse.specs.Reading.{kind_at, Reads, gives, takes, goes, opens, joins, Opens}
-use Rattle.ps_parse.specs.Parsing.{IsNotAt, Stops}
+use Rattle.ps_parse.specs.Stopping.{IsNotAt, Stops}
 use Rattle.ps_parse.proofs.Unique.{unique, reads_as, reads_from, some_same}
 
 -- with room for so many clauses inside one another, the reading of the rule from one place on fails

@@ -12,7 +12,7 @@ use Rattle.ps_parse.specs.Phrase.{Phrase}
 use Rattle.ps_parse.specs.Grammar.{Rule, Go, Program}
 use Rattle.ps_parse.specs.Program.{BeginsProgram, ReadsAs, IsTooDeep, IsUnexpected, IsTooNested, IsParseFault, unexpected_at, too_nested_at, unexpected}
 use Rattle.ps_parse.specs.Reading.{Reads, takes, goes, opens, joins, Opens}
-use Rattle.ps_parse.specs.Parsing.{Stops}
+use Rattle.ps_parse.specs.Stopping.{Stops}
 use Rattle.ps_parse.specs.Symbols.{symbols as read_as}
 use Rattle.ps_parse.proofs.Unique.{unique, some_same, reads_as, reads_from}
 use Rattle.ps_parse.proofs.Failures.{Fails, IsFaultAt, fails_of, unread, no_deeper, opens_as, opens_from}

@@ -6,7 +6,7 @@ use Rattle.ps_parse.specs.Phrase.{Phrase}
 use Rattle.ps_parse.specs.Grammar.{Part, Rule, Go, Program, clause, row}
 use Rattle.ps_parse.specs.Program.{BeginsProgram, unexpected}
 use Rattle.ps_parse.specs.Reading.{kind_at, kind_of_next, Reads, gives, takes, goes, opens, joins}
-use Rattle.ps_parse.specs.Parsing.{Stops}
+use Rattle.ps_parse.specs.Stopping.{Stops}
 use Rattle.ps_parse.specs.declared.fault.ParseFault.{ParseFault}
 use Rattle.ps_parse.specs.declared.fault.ParseFault.TheVariants.{TooNested, Memory}
 use Rattle.ps_parse.proofs.Unique.{some_same}

@@ -15,7 +15,7 @@ use Rattle.ps_parse.specs.Phrase.{Phrase, Phrases, NameAt, none, more, at, phras
 use Rattle.ps_parse.specs.Phrase as form
 use Rattle.ps_parse.specs.Grammar.{Part, Rule, Give, Go, Clause, clause, row, ending, ended, Ended, items, more_items, more_written, assignment, more_chain, comparison, Ending, Items, MoreItems, MoreWritten, Assignment, MoreChain, Comparison, Binding, and_then}
 use Rattle.ps_parse.specs.Reading.{kind_at, kind_of_next, Reads}
-use Rattle.ps_parse.specs.Parsing.{Stops, Leads}
+use Rattle.ps_parse.specs.Stopping.{Stops, Leads}
 use Rattle.ps_parse.specs.Program.{unexpected}
 use Rattle.ps_parse.specs.PhraseLists.{phrases_in}
 use Rattle.ps_parse.proofs.PhraseLemmas.{phrases_in-append}

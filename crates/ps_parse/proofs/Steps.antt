@@ -6,7 +6,7 @@ use Rattle.ps_parse.specs.declared.symbol.Symbol.{Symbol}
 use Rattle.ps_parse.specs.Phrase.{Phrase}
 use Rattle.ps_parse.specs.Grammar.{Part, Rule, Give, Take, Go, Then, row}
 use Rattle.ps_parse.specs.Reading.{kind_at, Reads}
-use Rattle.ps_parse.specs.Parsing.{Stops, Leads}
+use Rattle.ps_parse.specs.Stopping.{Stops, Leads}
 
 module _ {text : List ℕ} {symbols : List Symbol} where
   pub gives_at : {nesting from to : ℕ} {tree given : Phrase} → tree ≡ given → to ≡ from → Reads text symbols nesting (Give given) from tree to

@@ -11,7 +11,7 @@ use Rattle.ps_parse.specs.declared.kind.Kind.TheVariants as kind
 use Rattle.ps_parse.specs.declared.kind.TheConstants.{WORDS, MARKS}
 use Rattle.ps_parse.specs.Kinds.{kind_of}
 use Rattle.ps_parse.specs.Symbols.{breaks, semicolon_behind, symbol, between, symbols_behind}
-use Rattle.ps_parse.specs.Parsing.{IsSound}
+use Rattle.ps_parse.specs.Soundness.{IsSound}
 
 -- there are no more tokens than bytes
 pub tokens_fit : (text : List ℕ) (at : ℕ) (tokens : List Token) → All (IsToken text) tokens → IsInOrder at tokens → at ≤ length text → at + length tokens ≤ length text

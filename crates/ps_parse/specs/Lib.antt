@@ -6,4 +6,6 @@ pub mod Phrase
 pub mod PhraseLists
 pub mod Program
 pub mod Reading
+pub mod Soundness
+pub mod Stopping
 pub mod Symbols

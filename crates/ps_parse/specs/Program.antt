@@ -7,23 +7,23 @@ use Rattle.ps_parse.specs.declared.fault.ParseFault.{ParseFault}
 use Rattle.ps_parse.specs.declared.fault.ParseFault.TheVariants.{Unexpected, TooNested}
 use Rattle.ps_parse.specs.declared.symbol.Symbol.{Symbol}
 use Rattle.ps_parse.specs.Phrase.{Phrase}
-use Rattle.ps_parse.specs.Grammar.{Program, Go}
+use Rattle.ps_parse.specs.Grammar.{a_clause, Program, Go}
 use Rattle.ps_parse.specs.Reading.{Reads, Opens}
 use Rattle.ps_parse.specs.Symbols.{symbols}
 
--- the symbols are those of a program with this tree, with at most so many clauses inside one another
+-- the symbols are those of a program with this tree, with at most so many clauses and types inside one another
 abbrev pub IsProgram : List ℕ → ℕ → List Symbol → Phrase → Type 0
-IsProgram text nesting all tree = (end : ℕ) × Reads text all nesting (Go Program) 0 tree end
+IsProgram text nesting all tree = (end : ℕ) × Reads text all nesting (Go Program) 0 (a_clause tree) end
 
--- the text has these tokens and this tree, with at most 100 clauses inside one another
+-- the text has these tokens and this tree, with at most 100 clauses and types inside one another
 pub record ReadsAs (text : List ℕ) (tokens : List Token) (tree : Phrase) : Type 0 where
   pub program : IsProgram text 100 (symbols tokens) tree
 
--- the symbols and some further ones make a program, however deep its clauses stand inside one another
+-- the symbols and some further ones make a program, however deep they stand inside one another
 abbrev pub BeginsProgram : List ℕ → List Symbol → Type 0
 BeginsProgram text front = (more : List Symbol) × ((nesting : ℕ) × ((tree : Phrase) × IsProgram text nesting (front ++ more) tree))
 
--- the symbol at this place opens the 101st clause of those inside one another, and no symbol before it does
+-- the symbol at this place opens the 101st clause or type of those inside one another, and no symbol before it does
 pub record IsTooDeep (text : List ℕ) (all : List Symbol) (place : ℕ) : Type 0 where
   pub opens : Opens text all 101 (Go Program) 0 place
   pub first : (earlier : ℕ) → earlier < place → Opens text all 101 (Go Program) 0 earlier → ⊥

@@ -12,7 +12,7 @@ mod symbol;
 pub use fault::ParseFault;
 pub use laws::{fault_is_unique, tree_excludes_fault, tree_is_unique};
 pub use parser::parse;
-pub use rough::{Named, Rough, RoughForm};
+pub use rough::{Group, Named, Rough, RoughArm, RoughForm, RoughItem};
 
 #[cfg(test)]
 mod tests;

@@ -1,0 +1,10 @@
+/// The types of the clauses that run so far; `Void` is the type of a clause without a value
+/// (`docs/language.md`).
+#[derive(Clone, Copy, PartialEq, Eq, Debug, Drop)]
+pub enum BasicType {
+    Int,
+    Bool,
+    Str,
+    Pntr,
+    Void,
+}
