@@ -388,9 +388,9 @@ relative kind.Tilde = Take kind.Tilde (λ mark. clause_of (Go Compared) (λ e. g
 relative _ = Go Compared
 
 abbrev pub comparison : List ℕ → Phrase → Kind → Option Relating → Rule
-comparison text left kind (Some (Compares op)) = Take kind (λ mark. clause_of (Go (Chain Sum)) (λ right. give (form.Compare op left right) (line_at mark)))
-comparison text left kind (Some (IsOf negated)) = Take kind (λ mark. Take kind.Name (λ name. give (form.Is left (name_at text name) negated) (line_at mark)))
-comparison text left kind None = Give (a_clause left)
+comparison text left sign (Some (Compares op)) = Take sign (λ mark. clause_of (Go (Chain Sum)) (λ right. give (form.Compare op left right) (line_at mark)))
+comparison text left sign (Some (IsOf negated)) = Take sign (λ mark. Take kind.Name (λ name. give (form.Is left (name_at text name) negated) (line_at mark)))
+comparison text left sign None = Give (a_clause left)
 
 -- factor = [ "+" | "-" ] app
 abbrev pub factor : Kind → Rule
@@ -442,7 +442,7 @@ abbrev pub block : Kind → Kind → Rule
 block first last = Take first (λ mark. clause_of (Go (Items (line_at mark) none)) (λ all. skip last (Give (a_clause all))))
 
 abbrev pub bound_of : Kind → Bool → Rule
-bound_of kind upper = Take kind (λ word. skip kind.OpenRound (with_clause (λ e. skip kind.CloseRound (give (form.Bound upper e) (line_at word)))))
+bound_of first upper = Take first (λ word. skip kind.OpenRound (with_clause (λ e. skip kind.CloseRound (give (form.Bound upper e) (line_at word)))))
 
 abbrev pub elements : Rule
 elements = Take kind.At (λ mark. with_clause (λ l. skip kind.Of (with_type (λ t. skip kind.OpenSquare (with_clause (λ first. Go (MoreElements (line_at mark) l t (more first none))))))))
