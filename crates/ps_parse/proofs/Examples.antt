@@ -6,7 +6,6 @@ use Rattle.ps_scan.specs.declared.token.TokenKind.{TokenKind}
 use Rattle.ps_scan.specs.declared.token.TokenKind.TheVariants.{Name, Int, Word, Mark}
 use Rattle.ps_scan.specs.Tokens.{token_at}
 use Rattle.ps_parse.specs.declared.kind.Kind.{Kind}
-use Rattle.ps_parse.specs.declared.kind.Kind.TheVariants.{Stray}
 use Rattle.ps_parse.specs.declared.kind.Kind.TheVariants as kind
 use Rattle.ps_parse.specs.Kinds.{kind_of, can_end, can_continue}
 use Rattle.ps_parse.specs.Symbols.{symbols, symbols_behind}
@@ -18,18 +17,18 @@ words = map (λ place. Word place) (range_with_len 0 36)
 abbrev marks : List TokenKind
 marks = map (λ place. Mark place) (range_with_len 0 26)
 
--- abort to do
+-- abort to write
 words_read : map kind_of words ≡
-    Stray ∷ kind.And ∷ kind.Begin ∷ Stray ∷ Stray ∷ Stray ∷ Stray ∷ kind.Div ∷ kind.Do
-    ∷ kind.Else ∷ kind.End ∷ kind.False ∷ Stray ∷ kind.If ∷ Stray ∷ Stray ∷ Stray ∷ kind.Let
-    ∷ Stray ∷ Stray ∷ Stray ∷ kind.Or ∷ Stray ∷ Stray ∷ Stray ∷ kind.Rem ∷ Stray
-    ∷ Stray ∷ Stray ∷ kind.Then ∷ Stray ∷ kind.True ∷ Stray ∷ Stray ∷ kind.While ∷ kind.Write ∷ []
+    kind.Abort ∷ kind.And ∷ kind.Begin ∷ kind.BoolType ∷ kind.By ∷ kind.Case ∷ kind.Default ∷ kind.Div ∷ kind.Do
+    ∷ kind.Else ∷ kind.End ∷ kind.False ∷ kind.For ∷ kind.If ∷ kind.IntType ∷ kind.Is ∷ kind.Isnt ∷ kind.Let
+    ∷ kind.Lwb ∷ kind.Nil ∷ kind.Of ∷ kind.Or ∷ kind.PntrType ∷ kind.Proc ∷ kind.Procedure ∷ kind.Rem ∷ kind.Repeat
+    ∷ kind.StringType ∷ kind.Structure ∷ kind.Then ∷ kind.To ∷ kind.True ∷ kind.Upb ∷ kind.Vector ∷ kind.While ∷ kind.Write ∷ []
 words_read = refl
 
 marks_read : map kind_of marks ≡
-    kind.OpenRound ∷ kind.CloseRound ∷ Stray ∷ Stray ∷ kind.OpenCurly ∷ kind.CloseCurly ∷ kind.Comma ∷ kind.Semicolon
-    ∷ Stray ∷ Stray ∷ kind.Becomes ∷ kind.Equals ∷ kind.Tilde ∷ kind.NotEquals ∷ kind.Less ∷ kind.LessEqual
-    ∷ kind.Greater ∷ kind.GreaterEqual ∷ kind.Plus ∷ kind.Minus ∷ Stray ∷ kind.Times ∷ Stray ∷ Stray ∷ kind.Question ∷ Stray ∷ []
+    kind.OpenRound ∷ kind.CloseRound ∷ kind.OpenSquare ∷ kind.CloseSquare ∷ kind.OpenCurly ∷ kind.CloseCurly ∷ kind.Comma ∷ kind.Semicolon
+    ∷ kind.Colon ∷ kind.DoubleColon ∷ kind.Becomes ∷ kind.Equals ∷ kind.Tilde ∷ kind.NotEquals ∷ kind.Less ∷ kind.LessEqual
+    ∷ kind.Greater ∷ kind.GreaterEqual ∷ kind.Plus ∷ kind.Minus ∷ kind.Concatenate ∷ kind.Times ∷ kind.Arrow ∷ kind.At ∷ kind.Question ∷ kind.Bar ∷ []
 marks_read = refl
 
 -- abort, end, false, nil and true

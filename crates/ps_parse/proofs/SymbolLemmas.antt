@@ -1,5 +1,5 @@
 -- The tokens among the symbols of a text.
-use Rattle.std.proofs.Common.{◌≡◌, ℕ, ◌+◌, ◌≤◌, List, [], ◌∷◌, length, ◌==◌, Bool, true, false, cond, Option, Some, None, find, option_map, unwrap_or, refl, sym, ap, ◌∙◌, arith}
+use Rattle.std.proofs.Common.{◌≡◌, ℕ, zero, suc, ◌+◌, ◌≤◌, List, [], ◌∷◌, length, Bool, true, false, cond, Option, Some, None, slice_get, unwrap_or, refl, sym, ap, ◌∙◌, arith}
 use Rattle.std.specs.List.{All}
 use Rattle.std.proofs.lemmas.List.Elements.{All-nil, All-cons, All-head, All-tail, All-append}
 use Rattle.ps_scan.specs.declared.token.Token.{Token}
@@ -27,23 +27,24 @@ leaf kind.Int = true
 leaf kind.Text = true
 leaf _ = false
 
-abbrev leafless : {A : Type 0} → (A → Kind) → List A → Bool
-leafless f [] = true
-leafless f (row ∷ rows) = cond (leaf (f row)) false (leafless f rows)
+abbrev leafless : List Kind → Bool
+leafless [] = true
+leafless (first ∷ kinds) = cond (leaf first) false (leafless kinds)
 
-not_here : {A : Type 0} (f : A → Kind) (p : A → Bool) (row : A) (rows : List A) → (leafless f rows ≡ true → leaf (unwrap_or (option_map f (find p rows)) kind.Stray) ≡ false) → (here : Bool) → leaf (f row) ≡ here → cond here false (leafless f rows) ≡ true → leaf (unwrap_or (option_map f (cond (p row) (Some row) (find p rows))) kind.Stray) ≡ false
-not_here f p row rows behind true is none = absurd (cc)
-not_here f p row rows behind false is none = elim (p row) as (λ here. leaf (unwrap_or (option_map f (cond here (Some row) (find p rows))) kind.Stray) ≡ false) [ true ↦ is | false ↦ behind none ]
+both : (here rest : Bool) → cond here false rest ≡ true → (here ≡ false) × (rest ≡ true)
+both true rest is = absurd (cc)
+both false rest is = (refl, is)
 
-not_found : {A : Type 0} (f : A → Kind) (p : A → Bool) (rows : List A) → leafless f rows ≡ true → leaf (unwrap_or (option_map f (find p rows)) kind.Stray) ≡ false
-not_found f p [] none = refl
-not_found f p (row ∷ rows) none = not_here f p row rows (not_found f p rows) (leaf (f row)) refl none
+not_in : (kinds : List Kind) (place : ℕ) → leafless kinds ≡ true → leaf (unwrap_or (slice_get kinds place) kind.Stray) ≡ false
+not_in [] place none = refl
+not_in (first ∷ kinds) zero none = (both (leaf first) (leafless kinds) none).0
+not_in (first ∷ kinds) (suc place) none = not_in kinds place (both (leaf first) (leafless kinds) none).1
 
 not_word : (place : ℕ) → leaf (kind_of (scanned.Word place)) ≡ false
-not_word place = not_found (λ row. row.1) (λ row. row.0 == place) WORDS refl
+not_word place = not_in WORDS place refl
 
 not_mark : (place : ℕ) → leaf (kind_of (scanned.Mark place)) ≡ false
-not_mark place = not_found (λ row. row.1) (λ row. row.0 == place) MARKS refl
+not_mark place = not_in MARKS place refl
 
 is_int : (what : TokenKind) → kind_of what ≡ kind.Int → what ≡ scanned.Int
 is_int scanned.Name is = absurd (cc)

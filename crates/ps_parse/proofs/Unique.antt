@@ -3,7 +3,7 @@ use Rattle.std.proofs.Common.{◌≡◌, ℕ, List, Option, Some, refl, sym, sub
 use Rattle.ps_scan.specs.declared.token.Token.{Token}
 use Rattle.ps_parse.specs.declared.symbol.Symbol.{Symbol}
 use Rattle.ps_parse.specs.Phrase.{Phrase}
-use Rattle.ps_parse.specs.Grammar.{Rule}
+use Rattle.ps_parse.specs.Grammar.{Made, the_clause, Rule}
 use Rattle.ps_parse.specs.Reading.{Reads, gives, takes, goes, opens, joins}
 use Rattle.ps_parse.specs.Program.{ReadsAs}
 
@@ -11,14 +11,14 @@ pub some_same : {A : Type 0} {o : Option A} {a b : A} → o ≡ Some a → o ≡
 some_same is was = cc
 
 module _ {text : List ℕ} {symbols : List Symbol} where
-  pub reads_as : {nesting from to : ℕ} {rule other : Rule} {tree : Phrase} → rule ≡ other → Reads text symbols nesting rule from tree to → Reads text symbols nesting other from tree to
-  reads_as {nesting} {from} {to} {rule} {other} {tree} same = subst (λ (r : Rule). Reads text symbols nesting r from tree to) same
+  pub reads_as : {nesting from to : ℕ} {rule other : Rule} {made : Made} → rule ≡ other → Reads text symbols nesting rule from made to → Reads text symbols nesting other from made to
+  reads_as {nesting} {from} {to} {rule} {other} {made} same = subst (λ (r : Rule). Reads text symbols nesting r from made to) same
 
-  pub reads_from : {nesting from other to : ℕ} {rule : Rule} {tree : Phrase} → from ≡ other → Reads text symbols nesting rule from tree to → Reads text symbols nesting rule other tree to
-  reads_from {nesting} {from} {other} {to} {rule} {tree} same = subst (λ (p : ℕ). Reads text symbols nesting rule p tree to) same
+  pub reads_from : {nesting from other to : ℕ} {rule : Rule} {made : Made} → from ≡ other → Reads text symbols nesting rule from made to → Reads text symbols nesting rule other made to
+  reads_from {nesting} {from} {other} {to} {rule} {made} same = subst (λ (p : ℕ). Reads text symbols nesting rule p made to) same
 
-  -- two readings of a rule from one place give one tree and end at one place
-  pub unique : {nesting : ℕ} {rule : Rule} {from : ℕ} {tree : Phrase} {to : ℕ} → Reads text symbols nesting rule from tree to → {other : ℕ} {tree' : Phrase} {to' : ℕ} → Reads text symbols other rule from tree' to' → (tree ≡ tree') × (to ≡ to')
+  -- two readings of a rule from one place give one made and end at one place
+  pub unique : {nesting : ℕ} {rule : Rule} {from : ℕ} {made : Made} {to : ℕ} → Reads text symbols nesting rule from made to → {other : ℕ} {made' : Made} {to' : ℕ} → Reads text symbols other rule from made' to' → (made ≡ made') × (to ≡ to')
   unique gives gives = (refl, refl)
   unique (takes {next = next} here is more) (takes here' is' more') = unique more (reads_as (ap next (some_same here' here)) more')
   unique (goes is more) (goes is' more') = unique more (reads_as (some_same is' is) more')
@@ -28,4 +28,4 @@ module _ {text : List ℕ} {symbols : List Symbol} where
       unique more (reads_as (ap next (sym same.0)) (reads_from (sym same.1) more'))
 
 pub one_tree : (text : List ℕ) (tokens : List Token) (tree other : Phrase) → ReadsAs text tokens tree → ReadsAs text tokens other → tree ≡ other
-one_tree text tokens tree other reads reads' = (unique reads.program.1 reads'.program.1).0
+one_tree text tokens tree other reads reads' = ap the_clause (unique reads.program.1 reads'.program.1).0
