@@ -2,268 +2,359 @@
 use Rattle.std.proofs.Common.{◌≡◌, ℕ, suc, ◌+◌, ◌<◌, ◌≤◌, inl, inr, List, [], ◌∷◌, ◌++◌, Bool, true, false, Option, Some, None, length, take, option_map, slice_get, refl, sym, subst, ap, ◌∙◌, arith}
 use Rattle.std.proofs.Math.Nat.{eq-or-lt_of_le}
 use Rattle.std.proofs.lemmas.List.{length-take-le}
+use Rattle.ps_base.specs.TyView.{TyView}
 use Rattle.ps_base.specs.declared.line.Line.{Line}
-use Rattle.ps_base.specs.declared.operator.Relation.{Relation}
 use Rattle.ps_scan.specs.Tokens.{line_of}
 use Rattle.ps_scan.specs.declared.token.TokenKind.TheVariants as scanned
 use Rattle.ps_parse.specs.declared.kind.Kind.{Kind}
 use Rattle.ps_parse.specs.declared.kind.Kind.TheVariants as kind
-use Rattle.ps_parse.specs.declared.kind.Kind.TheVariants.{Int, Do, Else, EndOfText}
+use Rattle.ps_parse.specs.declared.kind.Kind.TheVariants.{Int, EndOfText}
 use Rattle.ps_parse.specs.declared.kind.Level.{Level}
 use Rattle.ps_parse.specs.declared.kind.Level.TheVariants.{Disjunction, Conjunction, Sum, Product}
 use Rattle.ps_parse.specs.declared.kind.Opening.{Opening}
 use Rattle.ps_parse.specs.declared.kind.Opening.TheVariants as opening
 use Rattle.ps_parse.specs.declared.kind.Operation.{Operation}
+use Rattle.ps_parse.specs.declared.kind.Relating.{Relating}
+use Rattle.ps_parse.specs.declared.kind.Relating.TheVariants.{Compares, IsOf}
+use Rattle.ps_parse.specs.declared.kind.TypeStart.{TypeStart}
+use Rattle.ps_parse.specs.declared.kind.TypeStart.TheVariants as typed
 use Rattle.ps_parse.specs.declared.symbol.Symbol.{Symbol}
-use Rattle.ps_parse.specs.Kinds.{operation_of, relation_of, begins_item, opening_of}
-use Rattle.ps_parse.specs.Phrase.{Phrase, Phrases}
-use Rattle.ps_parse.specs.Grammar.{Part, Rule, Give, Take, Go, Clause, Then, Program, Ending, Ended, Items, MoreItems, Item, Binding, Choice, Written, MoreWritten, Assignment, Chain, MoreChain, Relative, Compared, Comparison, Factor, Primary, clause, row, items, more_chain, comparison, opened}
+use Rattle.ps_parse.specs.Kinds.{operation_of, relating_of, begins_item, begins_type, opening_of, type_start_of}
+use Rattle.ps_parse.specs.Phrase.{GroupAt, Phrase, Phrases}
+use Rattle.ps_parse.specs.Grammar.{Made, a_clause, the_clause, Part, Nested, a_clause_inside, a_type_inside, Rule, Give, Take, Go, Open, Then, Clause, Program, Ending, Ended, Items, MoreItems, Item, Binding, Literal, Parameters, Groups, MoreGroups, NextGroup, Result, ParameterTypes, MoreTypes, Choice, Until, Test, Between, Step, Body, Cases, Labels, Written, Width, MoreWritten, Assignment, Chain, MoreChain, Relative, Compared, Comparison, Factor, Application, Applied, Arguments, SecondArgument, MoreArguments, Primary, MoreElements, inside, row, ending, ended, items, parameters, parameter_types, more_chain, comparison, opened, typed_as}
 use Rattle.ps_parse.specs.Program.{BeginsProgram}
 use Rattle.ps_parse.specs.Reading.{kind_at, kind_of_next, Reads, gives, takes, goes, opens, joins}
+use Rattle.ps_parse.proofs.Unique.{some_same, reads_as}
 use Rattle.ps_parse.proofs.Failures.{Fails}
-use Rattle.ps_parse.proofs.Prefixes.{forward, reads_alike, row_alike, clause_alike, slice_get-take-append}
-use Rattle.ps_parse.proofs.Closings.{Closer, do_closes, else_closes, round_closes, curly_closes, word_closes, is_end, first_of, Spells, Closes, Readable, spells_first, split, join_readable, closes_reads, word_of, Fits, part_closes, clause_closes, end_is_closer}
+use Rattle.ps_parse.proofs.Prefixes.{forward, reads_alike, row_alike, inside_alike, slice_get-take-append}
+use Rattle.ps_parse.proofs.Closings.{Closer, do_closes, else_closes, of_closes, to_closes, while_closes, colon_closes, double_closes, semicolon_closes, round_closes, square_closes, ItemsCloser, curly_behind, word_behind, IsRound, is_end, is_round, first_of, Spells, Closes, Readable, split, join_readable, closes_reads, an_int, a_body, a_test, a_default, a_width, a_literal, a_bracket, a_square, an_int_type, a_name, word_inside, FitsInside, word_of, Fits, part_closes, nested_closes, closes_items, closes_item}
 
 -- a rule of the grammar, the word that closes it, and the kind in front of which it does
 pub data Sound : Kind → Rule → List Kind → Type 0 where
-  give : {follow : Kind} {tree : Phrase} → Sound follow (Give tree) []
+  give : {follow : Kind} {made : Made} → Sound follow (Give made) []
   take_one : {follow kind : Kind} {next : Symbol → Rule} {word : List Kind} → ((symbol : Symbol) → Sound follow (next symbol) word) → Sound follow (Take kind next) (kind ∷ word)
   go : {follow : Kind} {part : Part} → Fits part follow → Sound follow (Go part) (word_of part)
-  begin : {follow : Kind} → Closer follow → Sound follow Clause (Int ∷ [])
-  join : {follow : Kind} {first : Rule} {next : Phrase → Rule} → (one two : List Kind) → Sound (first_of two follow) first one → ((tree : Phrase) → Sound follow (next tree) two) → Sound follow (Then first next) (one ++ two)
+  begin : {follow : Kind} {nested : Nested} → FitsInside nested follow → Sound follow (Open nested) (word_inside nested)
+  join : {follow : Kind} {first : Rule} {next : Made → Rule} → (one two : List Kind) → Sound (first_of two follow) first one → ((made : Made) → Sound follow (next made) two) → Sound follow (Then first next) (one ++ two)
 
 pub sound_closes : {text : List ℕ} {follow : Kind} {rule : Rule} {word : List Kind} → Sound follow rule word → Closes text follow rule word
 sound_closes give = Closes.given
 sound_closes (take_one more) = Closes.taken λ symbol. sound_closes (more symbol)
 sound_closes (go {part = part} fits) = part_closes part fits
-sound_closes (begin closer) = clause_closes closer
-sound_closes (join one two first more) = Closes.joined one two (sound_closes first) λ tree. sound_closes (more tree)
+sound_closes (begin {nested = nested} fits) = nested_closes nested fits
+sound_closes (join one two first more) = Closes.joined one two (sound_closes first) λ made. sound_closes (more made)
 
--- a rule that stands in a row of a part is closed too, and by something if the part is
-abbrev RowIsSound : Kind → Part → Option Rule → Type 0
-RowIsSound follow part None = Unit {0}
-RowIsSound follow part (Some rule) = (word : List Kind) × Sound follow rule word × (word ≡ [] → word_of part ≡ [])
-
-abbrev ClauseIsSound : Kind → Option Rule → Type 0
-ClauseIsSound follow None = Unit {0}
-ClauseIsSound follow (Some rule) = (word : List Kind) × Sound follow rule word × (word ≡ [] → ⊥)
-
-something : {kind : Kind} {word : List Kind} → kind ∷ word ≡ [] → ⊥
-something is = absurd (cc)
+-- a rule that stands in a row of a part, of a clause or of a type is closed too
+abbrev RowIsSound : Kind → Option Rule → Type 0
+RowIsSound follow None = Unit {0}
+RowIsSound follow (Some rule) = (word : List Kind) × Sound follow rule word
 
 module _ {follow : Kind} where
-  opening_sound : (how : Opening) → Closer follow → ClauseIsSound follow (Some (opened how))
-  opening_sound opening.Condition closer = (_, (take_one λ word. join (Int ∷ []) (Do ∷ Int ∷ []) (begin do_closes) λ c. go closer), something)
-  opening_sound opening.Repetition closer = (_, (take_one λ word. join (Int ∷ []) (Do ∷ Int ∷ []) (begin do_closes) λ c. take_one λ mark. join (Int ∷ []) [] (begin closer) λ a. give), something)
-  opening_sound opening.Writing closer = (_, (take_one λ word. join (Int ∷ []) [] (go closer) λ first. go closer), something)
-  opening_sound opening.Expression closer = (_, join (Int ∷ []) [] (go closer) (λ left. go closer), something)
+  -- a clause at the end of a rule
+  last_clause : {next : Made → Rule} → Closer follow → ((made : Made) → Sound follow (next made) []) → Sound follow (Then Clause next) an_int
+  last_clause closer more = join an_int [] (begin closer) more
 
-  openings_sound : (how : Option Opening) → Closer follow → ClauseIsSound follow (option_map opened how)
-  openings_sound None closer = tt
-  openings_sound (Some how) closer = opening_sound how closer
+  opening_sound : (text : List ℕ) (how : Opening) → Closer follow → RowIsSound follow (Some (opened text how))
+  opening_sound text opening.Condition closer = (_, take_one λ word. join an_int a_body (begin do_closes) λ c. go closer)
+  opening_sound text opening.Repetition closer = (_, take_one λ word. join an_int a_body (begin do_closes) λ c. take_one λ mark. last_clause closer λ a. give)
+  opening_sound text opening.Repeating closer = (_, take_one λ word. join an_int a_test (begin while_closes) λ a. go closer)
+  opening_sound text opening.Counting closer = (_, take_one λ word. take_one λ name. take_one λ mark. join an_int (kind.To ∷ Int ∷ a_body) (begin to_closes) λ a. take_one λ to. join an_int a_body (begin do_closes) λ b. go closer)
+  opening_sound text opening.Choosing closer = (_, take_one λ word. join an_int (kind.Of ∷ a_default) (begin of_closes) λ e. take_one λ last. go closer)
+  opening_sound text opening.Writing closer = (_, take_one λ word. join (an_int ++ a_width) [] (go closer) λ first. go closer)
+  opening_sound text opening.Aborting closer = (_, take_one λ word. give)
+  opening_sound text opening.Procedure closer = (_, take_one λ word. go closer)
+  opening_sound text opening.Filling closer = (_, take_one λ word. join an_int (kind.DoubleColon ∷ Int ∷ kind.Of ∷ an_int) (begin double_closes) λ l. take_one λ mark. join an_int (kind.Of ∷ an_int) (begin of_closes) λ u. take_one λ last. last_clause closer λ e. give)
+  opening_sound text opening.Expression closer = (_, join an_int [] (go closer) λ left. go closer)
 
-  pub clause_sound : (found : Kind) {rule : Rule} → Closer follow → clause found ≡ Some rule → ClauseIsSound follow (Some rule)
-  clause_sound found closer is = subst (λ (o : Option Rule). ClauseIsSound follow o) is (openings_sound (opening_of found) closer)
+  openings_sound : (text : List ℕ) (how : Option Opening) → Closer follow → RowIsSound follow (option_map (opened text) how)
+  openings_sound text None closer = tt
+  openings_sound text (Some how) closer = opening_sound text how closer
 
-  items_sound : (line : Line) (before : Phrases) (stands : Bool) → Closer follow → RowIsSound follow (Items line before) (Some (items line before stands))
-  items_sound line before true closer = (_, join (Int ∷ []) [] (go closer) (λ item. go closer), λ e. refl)
-  items_sound line before false closer = (_, go closer, λ e. refl)
+  items_sound : (line : Line) (before : Phrases) (stands : Bool) → ItemsCloser follow → RowIsSound follow (Some (items line before stands))
+  items_sound line before true closer = (_, join an_int [] (go (closes_item closer)) λ one. go closer)
+  items_sound line before false closer = (_, go closer)
 
-  chain_sound : (level : Level) (left : Phrase) (found : Kind) (operation : Option Operation) → Closer follow → RowIsSound follow (MoreChain level left) (Some (more_chain level left found operation))
-  chain_sound level left found None closer = (_, give, λ e. refl)
-  chain_sound Disjunction left found (Some operation) closer = (_, (take_one λ mark. join (Int ∷ []) [] (go closer) λ right. go closer), λ e. refl)
-  chain_sound Conjunction left found (Some operation) closer = (_, (take_one λ mark. join (Int ∷ []) [] (go closer) λ right. go closer), λ e. refl)
-  chain_sound Sum left found (Some operation) closer = (_, (take_one λ mark. join (Int ∷ []) [] (go closer) λ right. go closer), λ e. refl)
-  chain_sound Product left found (Some operation) closer = (_, (take_one λ mark. join (Int ∷ []) [] (go closer) λ right. go closer), λ e. refl)
+  parameters_sound : (stands : Bool) → IsRound follow → RowIsSound follow (Some (parameters stands))
+  parameters_sound true closer = (_, go closer)
+  parameters_sound false closer = (_, give)
 
-  comparison_sound : (left : Phrase) (found : Kind) (relation : Option Relation) → Closer follow → RowIsSound follow (Comparison left) (Some (comparison left found relation))
-  comparison_sound left found None closer = (_, give, λ e. refl)
-  comparison_sound left found (Some op) closer = (_, (take_one λ mark. join (Int ∷ []) [] (go closer) λ right. give), λ e. refl)
+  parameter_types_sound : (stands : Bool) → IsRound follow → RowIsSound follow (Some (parameter_types stands))
+  parameter_types_sound true closer = (_, join an_int_type [] (begin tt) λ t. go closer)
+  parameter_types_sound false closer = (_, give)
 
-rows_sound : (follow : Kind) (text : List ℕ) (part : Part) (found : Kind) → Fits part follow → RowIsSound follow part (row text part found)
-rows_sound follow text Program found fits = (_, join [] [] (go (end_is_closer fits)) (λ all. go fits), λ e. refl)
-rows_sound follow text (Ending all) kind.Question fits = (_, (take_one λ mark. go fits), λ e. refl)
-rows_sound follow text (Ending all) kind.EndOfText fits = (_, give, λ e. refl)
+  chain_sound : (level : Level) (left : Phrase) (found : Kind) (operation : Option Operation) → Closer follow → RowIsSound follow (Some (more_chain level left found operation))
+  chain_sound level left found None closer = (_, give)
+  chain_sound Disjunction left found (Some operation) closer = (_, take_one λ mark. join an_int [] (go closer) λ right. go closer)
+  chain_sound Conjunction left found (Some operation) closer = (_, take_one λ mark. join an_int [] (go closer) λ right. go closer)
+  chain_sound Sum left found (Some operation) closer = (_, take_one λ mark. join an_int [] (go closer) λ right. go closer)
+  chain_sound Product left found (Some operation) closer = (_, take_one λ mark. join an_int [] (go closer) λ right. go closer)
+
+  comparison_sound : (text : List ℕ) (left : Phrase) (found : Kind) (relating : Option Relating) → Closer follow → RowIsSound follow (Some (comparison text left found relating))
+  comparison_sound text left found None closer = (_, give)
+  comparison_sound text left found (Some (Compares op)) closer = (_, take_one λ mark. join an_int [] (go closer) λ right. give)
+  comparison_sound text left found (Some (IsOf negated)) closer = (_, take_one λ mark. take_one λ name. give)
+
+module _ (follow : Kind) where
+  typed_sound : (start : TypeStart) → RowIsSound follow (Some (typed_as start))
+  typed_sound typed.Int = (_, take_one λ word. give)
+  typed_sound typed.Bool = (_, take_one λ word. give)
+  typed_sound typed.Str = (_, take_one λ word. give)
+  typed_sound typed.Pntr = (_, take_one λ word. give)
+  typed_sound typed.Vector = (_, take_one λ mark. join an_int_type [] (begin tt) λ element. give)
+  typed_sound typed.Proc = (_, take_one λ word. take_one λ mark. join [] a_bracket (go is_round) λ params. join [] a_bracket (go is_round) λ gives. take_one λ last. give)
+
+  types_sound : (start : Option TypeStart) → RowIsSound follow (option_map typed_as start)
+  types_sound None = tt
+  types_sound (Some start) = typed_sound start
+
+  insides_sound : (text : List ℕ) (nested : Nested) (found : Kind) → FitsInside nested follow → RowIsSound follow (inside text nested found)
+  insides_sound text a_clause_inside found fits = openings_sound text (opening_of found) fits
+  insides_sound text a_type_inside found fits = types_sound (type_start_of found)
+
+  pub inside_sound : (text : List ℕ) (nested : Nested) (found : Kind) {rule : Rule} → FitsInside nested follow → inside text nested found ≡ Some rule → RowIsSound follow (Some rule)
+  inside_sound text nested found fits is = subst (λ (o : Option Rule). RowIsSound follow o) is (insides_sound text nested found fits)
+
+rows_sound : (follow : Kind) (text : List ℕ) (part : Part) (found : Kind) → Fits part follow → RowIsSound follow (row text part found)
+rows_sound follow text Program found fits = (_, join [] [] (go (closes_items fits)) λ all. go fits)
+rows_sound follow text (Ending all) kind.Question fits = (_, take_one λ mark. go fits)
+rows_sound follow text (Ending all) kind.EndOfText fits = (_, give)
 rows_sound follow text (Ending all) _ fits = tt
-rows_sound follow text (Ended all) kind.EndOfText fits = (_, give, λ e. refl)
+rows_sound follow text (Ended all) kind.EndOfText fits = (_, give)
 rows_sound follow text (Ended all) _ fits = tt
 rows_sound follow text (Items line before) found fits = items_sound line before (begins_item found) fits
-rows_sound follow text (MoreItems line before) kind.Semicolon fits = (_, (take_one λ mark. go fits), λ e. refl)
-rows_sound follow text (MoreItems line before) _ fits = (_, give, λ e. refl)
-rows_sound follow text Item kind.Let fits = (_, (take_one λ word. take_one λ name. go fits), λ e. absurd (something e))
-rows_sound follow text Item _ fits = (_, begin fits, λ e. absurd (something e))
-rows_sound follow text (Binding line name) kind.Equals fits = (_, (take_one λ mark. join (Int ∷ []) [] (begin fits) λ e. give), λ e. absurd (something e))
-rows_sound follow text (Binding line name) kind.Becomes fits = (_, (take_one λ mark. join (Int ∷ []) [] (begin fits) λ e. give), λ e. absurd (something e))
+rows_sound follow text (MoreItems line before) kind.Semicolon fits = (_, take_one λ mark. go fits)
+rows_sound follow text (MoreItems line before) _ fits = (_, give)
+rows_sound follow text Item kind.Let fits = (_, take_one λ word. take_one λ name. go fits)
+rows_sound follow text Item kind.Structure fits = (_, take_one λ word. take_one λ name. take_one λ mark. join [] a_bracket (go is_round) λ fields. take_one λ last. give)
+rows_sound follow text Item kind.Procedure fits = (_, take_one λ word. take_one λ name. join a_literal [] (go fits) λ e. give)
+rows_sound follow text Item _ fits = (_, begin fits)
+rows_sound follow text (Binding line name) kind.Equals fits = (_, take_one λ mark. last_clause fits λ e. give)
+rows_sound follow text (Binding line name) kind.Becomes fits = (_, take_one λ mark. last_clause fits λ e. give)
 rows_sound follow text (Binding line name) _ fits = tt
-rows_sound follow text (Choice line c) kind.Do fits = (_, (take_one λ mark. join (Int ∷ []) [] (begin fits) λ a. give), λ e. absurd (something e))
-rows_sound follow text (Choice line c) kind.Then fits = (_, (take_one λ mark. join (Int ∷ []) (Else ∷ Int ∷ []) (begin else_closes) λ a. take_one λ word. join (Int ∷ []) [] (begin fits) λ b. give), λ e. absurd (something e))
+rows_sound follow text (Literal line) found fits = (_, take_one λ mark. join [] (kind.CloseRound ∷ kind.Semicolon ∷ an_int) (go is_round) λ params. join [] (kind.CloseRound ∷ kind.Semicolon ∷ an_int) (go is_round) λ gives. take_one λ bracket. take_one λ last. last_clause fits λ s. give)
+rows_sound follow text Parameters found fits = parameters_sound (begins_type found) fits
+rows_sound follow text (Groups before) found fits = (_, join an_int_type a_name (begin tt) λ t. take_one λ name. go fits)
+rows_sound follow text (MoreGroups of_last before) kind.Comma fits = (_, take_one λ mark. go fits)
+rows_sound follow text (MoreGroups of_last before) kind.Semicolon fits = (_, take_one λ mark. go fits)
+rows_sound follow text (MoreGroups of_last before) _ fits = (_, give)
+rows_sound follow text (NextGroup of_last before) kind.Name fits = (_, take_one λ name. go fits)
+rows_sound follow text (NextGroup of_last before) _ fits = (_, go fits)
+rows_sound follow text Result kind.Arrow fits = (_, take_one λ mark. begin tt)
+rows_sound follow text Result _ fits = (_, give)
+rows_sound follow text ParameterTypes found fits = parameter_types_sound (begins_type found) fits
+rows_sound follow text (MoreTypes before) kind.Comma fits = (_, take_one λ mark. join an_int_type [] (begin tt) λ t. go fits)
+rows_sound follow text (MoreTypes before) _ fits = (_, give)
+rows_sound follow text (Choice line c) kind.Do fits = (_, take_one λ mark. last_clause fits λ a. give)
+rows_sound follow text (Choice line c) kind.Then fits = (_, take_one λ mark. join an_int (kind.Else ∷ an_int) (begin else_closes) λ a. take_one λ word. last_clause fits λ b. give)
 rows_sound follow text (Choice line c) _ fits = tt
-rows_sound follow text Written kind.Text fits = (_, (take_one λ string. give), λ e. absurd (something e))
-rows_sound follow text Written _ fits = (_, begin fits, λ e. absurd (something e))
-rows_sound follow text (MoreWritten line before) kind.Comma fits = (_, (take_one λ mark. join (Int ∷ []) [] (go fits) λ item. go fits), λ e. refl)
-rows_sound follow text (MoreWritten line before) _ fits = (_, give, λ e. refl)
-rows_sound follow text (Assignment left) kind.Becomes fits = (_, (take_one λ mark. join (Int ∷ []) [] (begin fits) λ e. give), λ e. refl)
-rows_sound follow text (Assignment left) _ fits = (_, give, λ e. refl)
-rows_sound follow text (Chain Disjunction) found fits = (_, join (Int ∷ []) [] (go fits) (λ left. go fits), λ e. absurd (something e))
-rows_sound follow text (Chain Conjunction) found fits = (_, join (Int ∷ []) [] (go fits) (λ left. go fits), λ e. absurd (something e))
-rows_sound follow text (Chain Sum) found fits = (_, join (Int ∷ []) [] (go fits) (λ left. go fits), λ e. absurd (something e))
-rows_sound follow text (Chain Product) found fits = (_, join (Int ∷ []) [] (go fits) (λ left. go fits), λ e. absurd (something e))
+rows_sound follow text (Until line a) kind.Semicolon fits = (_, take_one λ mark. go fits)
+rows_sound follow text (Until line a) _ fits = (_, go fits)
+rows_sound follow text (Test line a) found fits = (_, take_one λ word. join an_int a_body (begin do_closes) λ c. go fits)
+rows_sound follow text (Between line a c) kind.Do fits = (_, take_one λ mark. last_clause fits λ b. give)
+rows_sound follow text (Between line a c) _ fits = (_, give)
+rows_sound follow text (Step line name a b) kind.By fits = (_, take_one λ mark. join an_int a_body (begin do_closes) λ c. go fits)
+rows_sound follow text (Step line name a b) _ fits = (_, go fits)
+rows_sound follow text (Body line name a b c) found fits = (_, take_one λ mark. last_clause fits λ s. give)
+rows_sound follow text (Cases line e before) kind.Default fits = (_, take_one λ word. take_one λ mark. last_clause fits λ d. give)
+rows_sound follow text (Cases line e before) _ fits = (_, join an_int (kind.Colon ∷ Int ∷ kind.Semicolon ∷ a_default) (begin colon_closes) λ label. go fits)
+rows_sound follow text (Labels line e before all) kind.Comma fits = (_, take_one λ mark. join an_int (kind.Colon ∷ Int ∷ kind.Semicolon ∷ a_default) (begin colon_closes) λ label. go fits)
+rows_sound follow text (Labels line e before all) _ fits = (_, take_one λ mark. join an_int (kind.Semicolon ∷ a_default) (begin semicolon_closes) λ a. take_one λ last. go fits)
+rows_sound follow text Written found fits = (_, join an_int a_width (begin colon_closes) λ e. go fits)
+rows_sound follow text (Width e) kind.Colon fits = (_, take_one λ mark. last_clause fits λ w. give)
+rows_sound follow text (Width e) _ fits = (_, give)
+rows_sound follow text (MoreWritten line before) kind.Comma fits = (_, take_one λ mark. join (an_int ++ a_width) [] (go fits) λ one. go fits)
+rows_sound follow text (MoreWritten line before) _ fits = (_, give)
+rows_sound follow text (Assignment left) kind.Becomes fits = (_, take_one λ mark. last_clause fits λ e. give)
+rows_sound follow text (Assignment left) _ fits = (_, give)
+rows_sound follow text (Chain Disjunction) found fits = (_, join an_int [] (go fits) λ left. go fits)
+rows_sound follow text (Chain Conjunction) found fits = (_, join an_int [] (go fits) λ left. go fits)
+rows_sound follow text (Chain Sum) found fits = (_, join an_int [] (go fits) λ left. go fits)
+rows_sound follow text (Chain Product) found fits = (_, join an_int [] (go fits) λ left. go fits)
 rows_sound follow text (MoreChain level left) found fits = chain_sound level left found (operation_of level found) fits
-rows_sound follow text Relative kind.Tilde fits = (_, (take_one λ mark. join (Int ∷ []) [] (go fits) λ e. give), λ e. absurd (something e))
-rows_sound follow text Relative _ fits = (_, go fits, λ e. absurd (something e))
-rows_sound follow text Compared found fits = (_, join (Int ∷ []) [] (go fits) (λ left. go fits), λ e. absurd (something e))
-rows_sound follow text (Comparison left) found fits = comparison_sound left found (relation_of found) fits
-rows_sound follow text Factor kind.Plus fits = (_, (take_one λ mark. join (Int ∷ []) [] (go fits) λ e. give), λ e. absurd (something e))
-rows_sound follow text Factor kind.Minus fits = (_, (take_one λ mark. join (Int ∷ []) [] (go fits) λ e. give), λ e. absurd (something e))
-rows_sound follow text Factor _ fits = (_, go fits, λ e. absurd (something e))
-rows_sound follow text Primary kind.Name fits = (_, (take_one λ name. give), λ e. absurd (something e))
-rows_sound follow text Primary kind.Int fits = (_, (take_one λ int. give), λ e. absurd (something e))
-rows_sound follow text Primary kind.True fits = (_, (take_one λ word. give), λ e. absurd (something e))
-rows_sound follow text Primary kind.False fits = (_, (take_one λ word. give), λ e. absurd (something e))
-rows_sound follow text Primary kind.OpenRound fits = (_, (take_one λ mark. join (Int ∷ []) (kind.CloseRound ∷ []) (begin round_closes) λ e. take_one λ last. give), λ e. absurd (something e))
-rows_sound follow text Primary kind.Begin fits = (_, (take_one λ mark. join [] (kind.End ∷ []) (go word_closes) λ all. take_one λ last. give), λ e. absurd (something e))
-rows_sound follow text Primary kind.OpenCurly fits = (_, (take_one λ mark. join [] (kind.CloseCurly ∷ []) (go curly_closes) λ all. take_one λ last. give), λ e. absurd (something e))
+rows_sound follow text Relative kind.Tilde fits = (_, take_one λ mark. join an_int [] (go fits) λ e. give)
+rows_sound follow text Relative _ fits = (_, go fits)
+rows_sound follow text Compared found fits = (_, join an_int [] (go fits) λ left. go fits)
+rows_sound follow text (Comparison left) found fits = comparison_sound text left found (relating_of found) fits
+rows_sound follow text Factor kind.Plus fits = (_, take_one λ mark. join an_int [] (go fits) λ e. give)
+rows_sound follow text Factor kind.Minus fits = (_, take_one λ mark. join an_int [] (go fits) λ e. give)
+rows_sound follow text Factor _ fits = (_, go fits)
+rows_sound follow text Application found fits = (_, join an_int [] (go fits) λ f. go fits)
+rows_sound follow text (Applied f) kind.OpenRound fits = (_, take_one λ mark. join a_bracket [] (go fits) λ made. go fits)
+rows_sound follow text (Applied f) _ fits = (_, give)
+rows_sound follow text (Arguments line f) kind.CloseRound fits = (_, take_one λ mark. give)
+rows_sound follow text (Arguments line f) _ fits = (_, join an_int a_bracket (begin round_closes) λ first. go fits)
+rows_sound follow text (SecondArgument line f first) kind.Bar fits = (_, take_one λ mark. join an_int a_bracket (begin round_closes) λ n. take_one λ last. give)
+rows_sound follow text (SecondArgument line f first) _ fits = (_, go fits)
+rows_sound follow text (MoreArguments line f before) kind.Comma fits = (_, take_one λ mark. join an_int a_bracket (begin round_closes) λ one. go fits)
+rows_sound follow text (MoreArguments line f before) _ fits = (_, take_one λ mark. give)
+rows_sound follow text Primary kind.Name fits = (_, take_one λ name. give)
+rows_sound follow text Primary kind.Int fits = (_, take_one λ int. give)
+rows_sound follow text Primary kind.Text fits = (_, take_one λ string. give)
+rows_sound follow text Primary kind.True fits = (_, take_one λ word. give)
+rows_sound follow text Primary kind.False fits = (_, take_one λ word. give)
+rows_sound follow text Primary kind.Nil fits = (_, take_one λ word. give)
+rows_sound follow text Primary kind.OpenRound fits = (_, take_one λ mark. join an_int a_bracket (begin round_closes) λ e. take_one λ last. give)
+rows_sound follow text Primary kind.Begin fits = (_, take_one λ mark. join [] (kind.End ∷ []) (go word_behind) λ all. take_one λ last. give)
+rows_sound follow text Primary kind.OpenCurly fits = (_, take_one λ mark. join [] (kind.CloseCurly ∷ []) (go curly_behind) λ all. take_one λ last. give)
+rows_sound follow text Primary kind.Lwb fits = (_, take_one λ word. take_one λ mark. join an_int a_bracket (begin round_closes) λ e. take_one λ last. give)
+rows_sound follow text Primary kind.Upb fits = (_, take_one λ word. take_one λ mark. join an_int a_bracket (begin round_closes) λ e. take_one λ last. give)
+rows_sound follow text Primary kind.At fits = (_, take_one λ mark. join an_int (kind.Of ∷ kind.IntType ∷ kind.OpenSquare ∷ Int ∷ a_square) (begin of_closes) λ l. take_one λ word. join an_int_type (kind.OpenSquare ∷ Int ∷ a_square) (begin tt) λ t. take_one λ bracket. join an_int a_square (begin square_closes) λ first. go fits)
 rows_sound follow text Primary _ fits = tt
+rows_sound follow text (MoreElements line l t before) kind.Comma fits = (_, take_one λ mark. join an_int a_square (begin square_closes) λ one. go fits)
+rows_sound follow text (MoreElements line l t before) _ fits = (_, take_one λ mark. give)
 
-pub row_sound : (follow : Kind) (text : List ℕ) (part : Part) (found : Kind) {rule : Rule} → Fits part follow → row text part found ≡ Some rule → RowIsSound follow part (Some rule)
-row_sound follow text part found fits is = subst (λ (o : Option Rule). RowIsSound follow part o) is (rows_sound follow text part found fits)
+pub row_sound : (follow : Kind) (text : List ℕ) (part : Part) (found : Kind) {rule : Rule} → Fits part follow → row text part found ≡ Some rule → RowIsSound follow (Some rule)
+row_sound follow text part found fits is = subst (λ (o : Option Rule). RowIsSound follow o) is (rows_sound follow text part found fits)
 
 -- the reading of a rule from one place on comes to the other, where something is still to be read
 pub data Reaches (text : List ℕ) (symbols : List Symbol) : Rule → ℕ → ℕ → Type 0 where
   arrived : {rule : Rule} {from : ℕ} → Reaches text symbols rule from from
   behind_token : {from place : ℕ} {kind : Kind} {next : Symbol → Rule} {symbol : Symbol} → slice_get symbols from ≡ Some symbol → symbol.kind ≡ kind → Reaches text symbols (next symbol) (from + 1) place → Reaches text symbols (Take kind next) from place
-  in_part : {from place : ℕ} {part : Part} {rule : Rule} → row text part (kind_at symbols from) ≡ Some rule → Reaches text symbols rule from place → Reaches text symbols (Go part) from place
-  in_clause : {from place : ℕ} {rule : Rule} → clause (kind_at symbols from) ≡ Some rule → Reaches text symbols rule from place → Reaches text symbols Clause from place
-  in_first : {from place : ℕ} {first : Rule} {next : Phrase → Rule} → Reaches text symbols first from place → Reaches text symbols (Then first next) from place
-  in_next : {nesting from middle place : ℕ} {first : Rule} {next : Phrase → Rule} {one : Phrase} → Reads text symbols nesting first from one middle → Reaches text symbols (next one) middle place → Reaches text symbols (Then first next) from place
+  in_part : {from place : ℕ} {part : Part} {rule : Rule} → from < place → row text part (kind_at symbols from) ≡ Some rule → Reaches text symbols rule from place → Reaches text symbols (Go part) from place
+  in_nested : {from place : ℕ} {nested : Nested} {rule : Rule} → from < place → inside text nested (kind_at symbols from) ≡ Some rule → Reaches text symbols rule from place → Reaches text symbols (Open nested) from place
+  in_first : {from place : ℕ} {first : Rule} {next : Made → Rule} → Reaches text symbols first from place → Reaches text symbols (Then first next) from place
+  in_next : {nesting from middle place : ℕ} {first : Rule} {next : Made → Rule} {one : Made} → Reads text symbols nesting first from one middle → middle < place → Reaches text symbols (next one) middle place → Reaches text symbols (Then first next) from place
 
 -- the symbols agree before this place
 abbrev AgreeBefore : List Symbol → List Symbol → ℕ → Type 0
 AgreeBefore symbols other place = (i : ℕ) → i < place → slice_get symbols i ≡ slice_get other i
-
-spells_nothing : (symbols : List Symbol) (word : List Kind) (from to : ℕ) (follow : Kind) → word ≡ [] → from ≡ to → kind_at symbols to ≡ follow → Spells symbols from word to follow
-spells_nothing symbols word from to follow empty same is =
-    subst (λ (w : List Kind). Spells symbols from w to follow) (sym empty) (subst (λ (p : ℕ). Spells symbols p [] to follow) (sym same) (Spells.no_more is))
-
-nothing_twice : (one two : List Kind) → one ≡ [] → two ≡ [] → one ++ two ≡ []
-nothing_twice one two first second = ap (λ (w : List Kind). w ++ two) first ∙ second
-
-module _ {text : List ℕ} {symbols : List Symbol} where
-  reaches_forward : {rule : Rule} {from place : ℕ} → Reaches text symbols rule from place → from ≤ place
-  reaches_forward Reaches.arrived = omega arith
-  reaches_forward (Reaches.behind_token here is more) = let h = reaches_forward more in omega (arith, h)
-  reaches_forward (Reaches.in_part is more) = reaches_forward more
-  reaches_forward (Reaches.in_clause is more) = reaches_forward more
-  reaches_forward (Reaches.in_first more) = reaches_forward more
-  reaches_forward (Reaches.in_next first more) = let h = forward first in let k = reaches_forward more in omega (arith, h, k)
-
-  -- a rule that reads no symbol is closed by no word
-  closed_by_nothing : {nesting : ℕ} {rule : Rule} {from : ℕ} {tree : Phrase} {to : ℕ} → Reads text symbols nesting rule from tree to → from ≡ to → {follow : Kind} {word : List Kind} → Sound follow rule word → word ≡ []
-  closed_by_nothing gives same give = refl
-  closed_by_nothing (takes here is more) same (take_one sound) = let h = forward more in absurd (omega (arith, h, same))
-  closed_by_nothing (goes {from = from} {part = part} is more) same {follow} (go fits) =
-      let s = row_sound follow text part (kind_at symbols from) fits is in
-      s.2 (closed_by_nothing more same s.1)
-  closed_by_nothing (opens {from = from} is more) same (begin closer) =
-      let s = clause_sound (kind_at symbols from) closer is in
-      absurd (s.2 (closed_by_nothing more same s.1))
-  closed_by_nothing (joins {one = tree} first more) same (join one two sound sound') =
-      let h = forward first in
-      let k = forward more in
-      nothing_twice one two (closed_by_nothing first (omega (arith, h, k, same)) sound) (closed_by_nothing more (omega (arith, h, k, same)) (sound' tree))
-
-  module _ (other : List Symbol) where
-    -- what has been read is read too in front of a token that closes it
-    refollow : {nesting : ℕ} {rule : Rule} {from : ℕ} {tree : Phrase} {to : ℕ} → Reads text symbols nesting rule from tree to → {follow : Kind} {word : List Kind} → Sound follow rule word → AgreeBefore symbols other to → kind_at other to ≡ follow → Readable text other rule from to
-    refollow gives sound same is = (0, _, gives)
-    refollow (takes {from = from} {symbol = symbol} here as_asked more) (take_one sound) same is =
-        let h = forward more in
-        let r = refollow more (sound symbol) same is in
-        (r.0, r.1, takes (sym (same from (omega (arith, h))) ∙ here) as_asked r.2)
-    refollow (goes {from = from} {to = to} {part = part} row_is more) {follow} (go fits) same is =
-        let s = row_sound follow text part (kind_at symbols from) fits row_is in
-        elim (eq-or-lt_of_le (forward more)) [ inl e ↦ closes_reads (part_closes part fits) (spells_nothing other (word_of part) from to follow (s.2 (closed_by_nothing more e s.1)) e is) | inr lt ↦ let r = refollow more s.1 same is in (r.0, r.1, goes (row_alike text symbols other part from (same from lt) row_is) r.2) ]
-    refollow (opens {from = from} {to = to} clause_is more) (begin closer) same is =
-        let s = clause_sound (kind_at symbols from) closer clause_is in
-        elim (eq-or-lt_of_le (forward more)) [ inl e ↦ absurd (s.2 (closed_by_nothing more e s.1)) | inr lt ↦ let r = refollow more s.1 same is in (suc r.0, r.1, opens (clause_alike symbols other from (same from lt) clause_is) r.2) ]
-    refollow (joins {middle = middle} {to = to} {next = next} {one = tree} first more) {follow} (join one two sound sound') same is =
-        elim (eq-or-lt_of_le (forward more)) [ inl e ↦ let empty = closed_by_nothing more e (sound' tree) in let r = refollow first sound (λ i before. same i (omega (arith, e, before))) (ap (λ (p : ℕ). kind_at other p) e ∙ is ∙ ap (λ (w : List Kind). first_of w follow) (sym empty)) in join_readable {next = next} r (closes_reads (sound_closes (sound' r.1)) (spells_nothing other two middle to follow empty e is)) | inr lt ↦ let r = refollow more (sound' tree) same is in join_readable {next = next} (_, tree, reads_alike first λ i before. same i (omega (arith, lt, before))) r ]
 
 -- whatever agrees with the symbols before a place, and spells the word there in front of the kind, is
 -- read by the rule
 abbrev Completes : List ℕ → List Symbol → Kind → Rule → ℕ → ℕ → List Kind → Type 0
 Completes text symbols follow rule from place word = (other : List Symbol) (to : ℕ) → AgreeBefore symbols other place → Spells other place word to follow → Readable text other rule from to
 
-afresh : (text : List ℕ) (symbols : List Symbol) (follow : Kind) (rule : Rule) (from place : ℕ) (word : List Kind) → from ≡ place → Sound follow rule word → Completes text symbols follow rule from place word
-afresh text symbols follow rule from place word same sound other to agree spelled = closes_reads (sound_closes sound) (subst (λ (p : ℕ). Spells other p word to follow) (sym same) spelled)
-
 module _ {text : List ℕ} {symbols : List Symbol} where
+  reaches_forward : {rule : Rule} {from place : ℕ} → Reaches text symbols rule from place → from ≤ place
+  reaches_forward Reaches.arrived = omega arith
+  reaches_forward (Reaches.behind_token found is more) = let h = reaches_forward more in omega (arith, h)
+  reaches_forward (Reaches.in_part before is more) = reaches_forward more
+  reaches_forward (Reaches.in_nested before is more) = reaches_forward more
+  reaches_forward (Reaches.in_first more) = reaches_forward more
+  reaches_forward (Reaches.in_next first before more) = let h = forward first in let k = reaches_forward more in omega (arith, h, k)
+
+  arrived_at : {rule : Rule} {from place : ℕ} → from ≡ place → Reaches text symbols rule from place
+  arrived_at {rule} {from} same = subst (λ (p : ℕ). Reaches text symbols rule from p) same Reaches.arrived
+
+  -- a part, a clause or a type of which nothing has been read is still to be read
+  part_reaches : {from place : ℕ} {part : Part} {rule : Rule} → row text part (kind_at symbols from) ≡ Some rule → Reaches text symbols rule from place → Reaches text symbols (Go part) from place
+  part_reaches is more = elim (eq-or-lt_of_le (reaches_forward more)) [ inl same ↦ arrived_at same | inr before ↦ Reaches.in_part before is more ]
+
+  nested_reaches : {from place : ℕ} {nested : Nested} {rule : Rule} → inside text nested (kind_at symbols from) ≡ Some rule → Reaches text symbols rule from place → Reaches text symbols (Open nested) from place
+  nested_reaches is more = elim (eq-or-lt_of_le (reaches_forward more)) [ inl same ↦ arrived_at same | inr before ↦ Reaches.in_nested before is more ]
+
+  reaches_to : {rule : Rule} {from middle place : ℕ} → middle ≡ place → Reaches text symbols rule from middle → Reaches text symbols rule from place
+  reaches_to {rule} {from} same = subst (λ (p : ℕ). Reaches text symbols rule from p) same
+
+  -- where the second of two things has not been begun, the first may go on
+  next_reaches : {nesting from middle place : ℕ} {first : Rule} {next : Made → Rule} {one : Made} → Reads text symbols nesting first from one middle → Reaches text symbols first from middle → Reaches text symbols (next one) middle place → Reaches text symbols (Then first next) from place
+  next_reaches first its_end more = elim (eq-or-lt_of_le (reaches_forward more)) [ inl same ↦ Reaches.in_first (reaches_to same its_end) | inr before ↦ Reaches.in_next first before more ]
+
+  -- a reading comes to its end
+  read_reaches : {nesting from to : ℕ} {rule : Rule} {made : Made} → Reads text symbols nesting rule from made to → Reaches text symbols rule from to
+  read_reaches gives = Reaches.arrived
+  read_reaches (takes found is more) = Reaches.behind_token found is (read_reaches more)
+  read_reaches (goes is more) = part_reaches is (read_reaches more)
+  read_reaches (opens is more) = nested_reaches is (read_reaches more)
+  read_reaches (joins first more) = next_reaches first (read_reaches first) (read_reaches more)
+
   -- where a reading has come to a place, a word completes it
   pub completed : {rule : Rule} {from place : ℕ} → Reaches text symbols rule from place → {follow : Kind} {word : List Kind} → Sound follow rule word → (end : List Kind) × Completes text symbols follow rule from place end
-  completed (Reaches.arrived {rule = rule} {from = from}) {follow} {word} sound = (word, afresh text symbols follow rule from from word refl sound)
+  completed Reaches.arrived {word = word} sound = (word, λ other to agree spelled. closes_reads (sound_closes sound) spelled)
   completed (Reaches.behind_token {from = from} {symbol = symbol} found is more) (take_one sound) =
       let h = reaches_forward more in
       let c = completed more (sound symbol) in
       (c.0, λ other to agree spelled. let r = c.1 other to agree spelled in (r.0, r.1, takes (sym (agree from (omega (arith, h))) ∙ found) is r.2))
-  completed (Reaches.in_part {from = from} {place = place} {part = part} row_is more) {follow} (go fits) =
+  completed (Reaches.in_part {from = from} {part = part} before row_is more) {follow} (go fits) =
       let s = row_sound follow text part (kind_at symbols from) fits row_is in
       let c = completed more s.1 in
-      elim (eq-or-lt_of_le (reaches_forward more)) [ inl e ↦ (word_of part, afresh text symbols follow (Go part) from place (word_of part) e (go fits)) | inr lt ↦ (c.0, λ other to agree spelled. let r = c.1 other to agree spelled in (r.0, r.1, goes (row_alike text symbols other part from (agree from lt) row_is) r.2)) ]
-  completed (Reaches.in_clause {from = from} {place = place} clause_is more) {follow} (begin closer) =
-      let s = clause_sound (kind_at symbols from) closer clause_is in
+      (c.0, λ other to agree spelled. let r = c.1 other to agree spelled in (r.0, r.1, goes (row_alike text symbols other part from (agree from before) row_is) r.2))
+  completed (Reaches.in_nested {from = from} {nested = nested} before inside_is more) {follow} (begin fits) =
+      let s = inside_sound follow text nested (kind_at symbols from) fits inside_is in
       let c = completed more s.1 in
-      elim (eq-or-lt_of_le (reaches_forward more)) [ inl e ↦ (Int ∷ [], afresh text symbols follow Clause from place (Int ∷ []) e (begin closer)) | inr lt ↦ (c.0, λ other to agree spelled. let r = c.1 other to agree spelled in (suc r.0, r.1, opens (clause_alike symbols other from (agree from lt) clause_is) r.2)) ]
-  completed (Reaches.in_first {from = from} {place = place} {next = next} more) {follow} (join one two sound sound') =
+      (c.0, λ other to agree spelled. let r = c.1 other to agree spelled in (suc r.0, r.1, opens (inside_alike text symbols other nested from (agree from before) inside_is) r.2))
+  completed (Reaches.in_first {next = next} more) (join one two sound sound') =
       let c = completed more sound in
       (c.0 ++ two, λ other to agree spelled. let s = split c.0 two spelled in let r = c.1 other s.0 agree s.1 in join_readable {next = next} r (closes_reads (sound_closes (sound' r.1)) s.2))
-  completed (Reaches.in_next {middle = middle} {place = place} {next = next} {one = tree} first more) {follow} (join one two sound sound') =
-      let c = completed more (sound' tree) in
-      elim (eq-or-lt_of_le (reaches_forward more)) [ inl e ↦ (two, λ other to agree spelled. let r = refollow other first sound (λ i before. agree i (omega (arith, e, before))) (ap (λ (p : ℕ). kind_at other p) e ∙ spells_first spelled) in join_readable {next = next} r (closes_reads (sound_closes (sound' r.1)) (subst (λ (p : ℕ). Spells other p two to follow) (sym e) spelled))) | inr lt ↦ (c.0, λ other to agree spelled. let r = c.1 other to agree spelled in join_readable {next = next} (_, tree, reads_alike first λ i before. agree i (omega (arith, lt, before))) r) ]
+  completed (Reaches.in_next {next = next} {one = one} first before more) (join word two sound sound') =
+      let c = completed more (sound' one) in
+      (c.0, λ other to agree spelled. let r = c.1 other to agree spelled in join_readable {next = next} (_, one, reads_alike first λ i less. agree i (omega (arith, before, less))) r)
 
 -- symbols of these kinds
-abbrev made : List Kind → List Symbol
-made [] = []
-made (kind ∷ word) = record { kind = kind; number = 0; token = record { what = scanned.Int; line = line_of 1; from = 0; to = 0 } } ∷ made word
+abbrev of_kinds : List Kind → List Symbol
+of_kinds [] = []
+of_kinds (kind ∷ word) = record { kind = kind; number = 0; token = record { what = scanned.Int; line = line_of 1; from = 0; to = 0 } } ∷ of_kinds word
 
 one_further : (symbol : Symbol) {symbols : List Symbol} {from to : ℕ} {word : List Kind} {follow : Kind} → Spells symbols from word to follow → Spells (symbol ∷ symbols) (suc from) word (suc to) follow
 one_further symbol (Spells.no_more is) = Spells.no_more is
 one_further symbol (Spells.one_more found is on more) = Spells.one_more found is (omega (arith, on)) (one_further symbol more)
 
-made_spells : (word : List Kind) → (end : ℕ) × Spells (made word) 0 word end EndOfText
-made_spells [] = (0, Spells.no_more refl)
-made_spells (kind ∷ word) = let s = made_spells word in (suc s.0, Spells.one_more refl refl (omega arith) (one_further _ s.1))
+kinds_spell : (word : List Kind) → (end : ℕ) × Spells (of_kinds word) 0 word end EndOfText
+kinds_spell [] = (0, Spells.no_more refl)
+kinds_spell (kind ∷ word) = let s = kinds_spell word in (suc s.0, Spells.one_more refl refl (omega arith) (one_further _ s.1))
 
-spells_behind : (front : List Symbol) (word : List Kind) → (end : ℕ) × Spells (front ++ made word) (length front) word end EndOfText
-spells_behind [] word = made_spells word
+spells_behind : (front : List Symbol) (word : List Kind) → (end : ℕ) × Spells (front ++ of_kinds word) (length front) word end EndOfText
+spells_behind [] word = kinds_spell word
 spells_behind (symbol ∷ front) word = let s = spells_behind front word in (suc s.0, one_further symbol s.1)
+
+-- what is read as a program is a clause
+abbrev IsClause : Made → Type 0
+IsClause made = (tree : Phrase) × (made ≡ a_clause tree)
+
+ended_rule : (all : Phrase) (found : Kind) {rule : Rule} → ended all found ≡ Some rule → rule ≡ Give (a_clause all)
+ended_rule all kind.EndOfText is = some_same is refl
+ended_rule all _ is = absurd (cc)
+
+module _ {text : List ℕ} {symbols : List Symbol} where
+  given_made : {nesting from to : ℕ} {one made : Made} → Reads text symbols nesting (Give one) from made to → made ≡ one
+  given_made gives = refl
+
+  ended_made : {nesting from to : ℕ} (all : Phrase) {made : Made} → Reads text symbols nesting (Go (Ended all)) from made to → IsClause made
+  ended_made all (goes {from = from} is more) = (all, given_made (reads_as (ended_rule all (kind_at symbols from) is) more))
+
+  question_made : {nesting from to : ℕ} (all : Phrase) {made : Made} → Reads text symbols nesting (Take kind.Question (λ mark. Go (Ended all))) from made to → IsClause made
+  question_made all (takes found is more) = ended_made all more
+
+  ending_made : {nesting from to : ℕ} (all : Phrase) (found : Kind) {rule : Rule} {made : Made} → ending all found ≡ Some rule → Reads text symbols nesting rule from made to → IsClause made
+  ending_made all kind.Question is more = question_made all (reads_as (some_same is refl) more)
+  ending_made all kind.EndOfText is more = (all, given_made (reads_as (some_same is refl) more))
+  ending_made all _ is more = absurd (cc)
+
+  both_made : {nesting from to : ℕ} {first : Rule} {made : Made} → Reads text symbols nesting (Then first (λ all. Go (Ending (the_clause all)))) from made to → IsClause made
+  both_made (joins {one = one} first (goes {from = from} is more)) = ending_made (the_clause one) (kind_at symbols from) is more
+
+  program_made : {nesting from to : ℕ} {made : Made} → Reads text symbols nesting (Go Program) from made to → IsClause made
+  program_made (goes is more) = both_made (reads_as (some_same is refl) more)
 
 -- the symbols before a place to which the reading of the program comes begin a program
 pub begins_program : (text : List ℕ) (symbols : List Symbol) (place : ℕ) → place ≤ length symbols → Reaches text symbols (Go Program) 0 place → BeginsProgram text (take place symbols)
-begins_program text symbols place inside reaches =
+begins_program text symbols place within reaches =
     let c = completed reaches {follow = EndOfText} {word = []} (go is_end) in
+    let all : List Symbol = take place symbols ++ of_kinds c.0 in
     let s = spells_behind (take place symbols) c.0 in
-    let r = c.1 (take place symbols ++ made c.0) s.0 (λ i before. slice_get-take-append symbols (made c.0) place i before inside) (subst (λ (p : ℕ). Spells (take place symbols ++ made c.0) p c.0 s.0 EndOfText) (length-take-le place symbols inside) s.1) in
-    (made c.0, (r.0, (r.1, (s.0, r.2))))
+    let r = c.1 all s.0 (λ i before. slice_get-take-append symbols (of_kinds c.0) place i before within) (subst (λ (p : ℕ). Spells all p c.0 s.0 EndOfText) (length-take-le place symbols within) s.1) in
+    let made = program_made r.2 in
+    (of_kinds c.0, (r.0, (made.0, (s.0, subst (λ (m : Made). Reads text all r.0 (Go Program) 0 m s.0) made.1 r.2))))
 
 module _ {text : List ℕ} {symbols : List Symbol} where
   -- a reading that fails comes to the place where it fails
   pub reaches : {deep : Bool} {room : ℕ} {rule : Rule} {from place : ℕ} → Fails text symbols deep room rule from place → Reaches text symbols rule from place
   reaches (Fails.wrong_token wrong) = Reaches.arrived
   reaches (Fails.no_part none) = Reaches.arrived
-  reaches (Fails.no_clause none) = Reaches.arrived
+  reaches (Fails.nothing_inside none) = Reaches.arrived
   reaches (Fails.no_room found is) = Reaches.arrived
   reaches (Fails.behind_token found is more) = Reaches.behind_token found is (reaches more)
-  reaches (Fails.in_part is more) = Reaches.in_part is (reaches more)
-  reaches (Fails.in_clause is more) = Reaches.in_clause is (reaches more)
+  reaches (Fails.in_part is more) = part_reaches is (reaches more)
+  reaches (Fails.in_nested is more) = nested_reaches is (reaches more)
   reaches (Fails.in_first more) = Reaches.in_first (reaches more)
-  reaches (Fails.in_next first more) = Reaches.in_next first (reaches more)
+  reaches (Fails.in_next first more) = next_reaches first (read_reaches first) (reaches more)
 
-  -- a clause that begins with a symbol reads it
-  expression_reaches : {from to : ℕ} → Reaches text symbols (Go Relative) from to → Reaches text symbols (opened opening.Expression) from to
-  expression_reaches more = Reaches.in_first (Reaches.in_part refl (Reaches.in_first (Reaches.in_part refl (Reaches.in_first more))))
+  -- a clause that is an expression is read from its first token on
+  expression_reaches : {from to : ℕ} → Reaches text symbols (Go Relative) from to → Reaches text symbols (opened text opening.Expression) from to
+  expression_reaches more = Reaches.in_first (part_reaches refl (Reaches.in_first (part_reaches refl (Reaches.in_first more))))
 
   compared_reaches : {from to : ℕ} → Reaches text symbols (Go Factor) from to → Reaches text symbols (Go Compared) from to
-  compared_reaches more = Reaches.in_part refl (Reaches.in_first (Reaches.in_part refl (Reaches.in_first (Reaches.in_part refl (Reaches.in_first more)))))
+  compared_reaches more = part_reaches refl (Reaches.in_first (part_reaches refl (Reaches.in_first (part_reaches refl (Reaches.in_first more)))))
 
 module _ (text : List ℕ) (symbols : List Symbol) (from : ℕ) (symbol : Symbol) (found : slice_get symbols from ≡ Some symbol) where
   row_here : (part : Part) (kind : Kind) {rule : Option Rule} → symbol.kind ≡ kind → row text part kind ≡ rule → row text part (kind_at symbols from) ≡ rule
@@ -272,41 +363,66 @@ module _ (text : List ℕ) (symbols : List Symbol) (from : ℕ) (symbol : Symbol
   takes_here : (kind : Kind) {next : Symbol → Rule} → symbol.kind ≡ kind → Reaches text symbols (Take kind next) from (from + 1)
   takes_here kind is = Reaches.behind_token found is Reaches.arrived
 
-  factor_reaches : (kind : Kind) {next : Symbol → Rule} → symbol.kind ≡ kind → row text Relative kind ≡ Some (Go Compared) → row text Factor kind ≡ Some (Take kind next) → Reaches text symbols (opened opening.Expression) from (from + 1)
-  factor_reaches kind is relative factor = expression_reaches (Reaches.in_part (row_here Relative kind is relative) (compared_reaches (Reaches.in_part (row_here Factor kind is factor) (takes_here kind is))))
+  factor_reaches : (kind : Kind) {next : Symbol → Rule} → symbol.kind ≡ kind → row text Relative kind ≡ Some (Go Compared) → row text Factor kind ≡ Some (Take kind next) → Reaches text symbols (opened text opening.Expression) from (from + 1)
+  factor_reaches kind is relative factor = expression_reaches (part_reaches (row_here Relative kind is relative) (compared_reaches (part_reaches (row_here Factor kind is factor) (takes_here kind is))))
 
-  primary_reaches : (kind : Kind) {next : Symbol → Rule} → symbol.kind ≡ kind → row text Relative kind ≡ Some (Go Compared) → row text Factor kind ≡ Some (Go Primary) → row text Primary kind ≡ Some (Take kind next) → Reaches text symbols (opened opening.Expression) from (from + 1)
-  primary_reaches kind is relative factor primary = expression_reaches (Reaches.in_part (row_here Relative kind is relative) (compared_reaches (Reaches.in_part (row_here Factor kind is factor) (Reaches.in_part (row_here Primary kind is primary) (takes_here kind is)))))
+  primary_reaches : (kind : Kind) {next : Symbol → Rule} → symbol.kind ≡ kind → row text Relative kind ≡ Some (Go Compared) → row text Factor kind ≡ Some (Go Application) → row text Primary kind ≡ Some (Take kind next) → Reaches text symbols (opened text opening.Expression) from (from + 1)
+  primary_reaches kind is relative factor primary = expression_reaches (part_reaches (row_here Relative kind is relative) (compared_reaches (part_reaches (row_here Factor kind is factor) (part_reaches refl (Reaches.in_first (part_reaches (row_here Primary kind is primary) (takes_here kind is)))))))
 
   abbrev Passes : Option Rule → Type 0
   Passes None = Unit {0}
   Passes (Some rule) = Reaches text symbols rule from (from + 1)
 
-  passes : (kind : Kind) → symbol.kind ≡ kind → Passes (clause kind)
-  passes kind.If is = takes_here kind.If is
-  passes kind.While is = takes_here kind.While is
-  passes kind.Write is = takes_here kind.Write is
-  passes kind.Name is = primary_reaches kind.Name is refl refl refl
-  passes kind.Int is = primary_reaches kind.Int is refl refl refl
-  passes kind.True is = primary_reaches kind.True is refl refl refl
-  passes kind.False is = primary_reaches kind.False is refl refl refl
-  passes kind.Begin is = primary_reaches kind.Begin is refl refl refl
-  passes kind.OpenRound is = primary_reaches kind.OpenRound is refl refl refl
-  passes kind.OpenCurly is = primary_reaches kind.OpenCurly is refl refl refl
-  passes kind.Plus is = factor_reaches kind.Plus is refl refl
-  passes kind.Minus is = factor_reaches kind.Minus is refl refl
-  passes kind.Tilde is = expression_reaches (Reaches.in_part (row_here Relative kind.Tilde is refl) (takes_here kind.Tilde is))
-  passes _ is = tt
+  clause_passes : (kind : Kind) → symbol.kind ≡ kind → Passes (inside text a_clause_inside kind)
+  clause_passes kind.If is = takes_here kind.If is
+  clause_passes kind.While is = takes_here kind.While is
+  clause_passes kind.Repeat is = takes_here kind.Repeat is
+  clause_passes kind.For is = takes_here kind.For is
+  clause_passes kind.Case is = takes_here kind.Case is
+  clause_passes kind.Write is = takes_here kind.Write is
+  clause_passes kind.Abort is = takes_here kind.Abort is
+  clause_passes kind.Proc is = takes_here kind.Proc is
+  clause_passes kind.Vector is = takes_here kind.Vector is
+  clause_passes kind.Name is = primary_reaches kind.Name is refl refl refl
+  clause_passes kind.Int is = primary_reaches kind.Int is refl refl refl
+  clause_passes kind.Text is = primary_reaches kind.Text is refl refl refl
+  clause_passes kind.True is = primary_reaches kind.True is refl refl refl
+  clause_passes kind.False is = primary_reaches kind.False is refl refl refl
+  clause_passes kind.Nil is = primary_reaches kind.Nil is refl refl refl
+  clause_passes kind.Begin is = primary_reaches kind.Begin is refl refl refl
+  clause_passes kind.OpenRound is = primary_reaches kind.OpenRound is refl refl refl
+  clause_passes kind.OpenCurly is = primary_reaches kind.OpenCurly is refl refl refl
+  clause_passes kind.Lwb is = primary_reaches kind.Lwb is refl refl refl
+  clause_passes kind.Upb is = primary_reaches kind.Upb is refl refl refl
+  clause_passes kind.At is = primary_reaches kind.At is refl refl refl
+  clause_passes kind.Plus is = factor_reaches kind.Plus is refl refl
+  clause_passes kind.Minus is = factor_reaches kind.Minus is refl refl
+  clause_passes kind.Tilde is = expression_reaches (part_reaches (row_here Relative kind.Tilde is refl) (takes_here kind.Tilde is))
+  clause_passes _ is = tt
 
-  clause_passes : {rule : Rule} → clause symbol.kind ≡ Some rule → Reaches text symbols rule from (from + 1)
-  clause_passes is = subst (λ (o : Option Rule). Passes o) is (passes symbol.kind refl)
+  type_passes : (kind : Kind) → symbol.kind ≡ kind → Passes (inside text a_type_inside kind)
+  type_passes kind.IntType is = takes_here kind.IntType is
+  type_passes kind.BoolType is = takes_here kind.BoolType is
+  type_passes kind.StringType is = takes_here kind.StringType is
+  type_passes kind.PntrType is = takes_here kind.PntrType is
+  type_passes kind.Times is = takes_here kind.Times is
+  type_passes kind.Proc is = takes_here kind.Proc is
+  type_passes _ is = tt
+
+  nested_passes : (nested : Nested) → Passes (inside text nested symbol.kind)
+  nested_passes a_clause_inside = clause_passes symbol.kind refl
+  nested_passes a_type_inside = type_passes symbol.kind refl
+
+  -- a clause and a type that begins with a symbol reads it
+  inside_passes : (nested : Nested) {rule : Rule} → inside text nested symbol.kind ≡ Some rule → Reaches text symbols rule from (from + 1)
+  inside_passes nested is = subst (λ (o : Option Rule). Passes o) is (nested_passes nested)
 
 module _ {text : List ℕ} {symbols : List Symbol} where
-  -- a reading that fails for want of room comes behind the token that opens the clause
+  -- a reading that fails for want of room comes behind the token that opens the clause or the type
   pub reaches_behind : {room : ℕ} {rule : Rule} {from place : ℕ} → Fails text symbols true room rule from place → Reaches text symbols rule from (place + 1)
-  reaches_behind (Fails.no_room {from = from} {symbol = symbol} found is) = Reaches.in_clause (ap (λ (o : Option Symbol). clause (kind_of_next o)) found ∙ is) (clause_passes text symbols from symbol found is)
+  reaches_behind (Fails.no_room {from = from} {nested = nested} {symbol = symbol} found is) = nested_reaches (ap (λ (o : Option Symbol). inside text nested (kind_of_next o)) found ∙ is) (inside_passes text symbols from symbol found nested is)
   reaches_behind (Fails.behind_token found is more) = Reaches.behind_token found is (reaches_behind more)
-  reaches_behind (Fails.in_part is more) = Reaches.in_part is (reaches_behind more)
-  reaches_behind (Fails.in_clause is more) = Reaches.in_clause is (reaches_behind more)
+  reaches_behind (Fails.in_part is more) = part_reaches is (reaches_behind more)
+  reaches_behind (Fails.in_nested is more) = nested_reaches is (reaches_behind more)
   reaches_behind (Fails.in_first more) = Reaches.in_first (reaches_behind more)
-  reaches_behind (Fails.in_next first more) = Reaches.in_next first (reaches_behind more)
+  reaches_behind (Fails.in_next first more) = next_reaches first (read_reaches first) (reaches_behind more)

@@ -9,7 +9,7 @@ use Rattle.ps_parse.specs.declared.fault.ParseFault.{ParseFault}
 use Rattle.ps_parse.specs.declared.fault.ParseFault.TheVariants.{TooNested, Memory}
 use Rattle.ps_parse.specs.declared.symbol.Symbol.{Symbol}
 use Rattle.ps_parse.specs.Phrase.{Phrase}
-use Rattle.ps_parse.specs.Grammar.{Rule, Go, Program}
+use Rattle.ps_parse.specs.Grammar.{Made, a_clause, Rule, Go, Program}
 use Rattle.ps_parse.specs.Program.{BeginsProgram, ReadsAs, IsTooDeep, IsUnexpected, IsTooNested, IsParseFault, unexpected_at, too_nested_at, unexpected}
 use Rattle.ps_parse.specs.Reading.{Reads, takes, goes, opens, joins, Opens}
 use Rattle.ps_parse.specs.Stopping.{Stops}
@@ -24,7 +24,7 @@ module _ {text : List ℕ} {symbols : List Symbol} where
   opens_forward (Opens.here inside) = omega arith
   opens_forward (Opens.behind_token found is more) = let h = opens_forward more in omega (arith, h)
   opens_forward (Opens.in_part is more) = opens_forward more
-  opens_forward (Opens.in_clause is more) = opens_forward more
+  opens_forward (Opens.in_nested is more) = opens_forward more
   opens_forward (Opens.in_first more) = opens_forward more
   opens_forward (Opens.in_next first more) = let h = forward first in let k = opens_forward more in omega (arith, h, k)
 
@@ -35,28 +35,28 @@ module _ {text : List ℕ} {symbols : List Symbol} where
   not_zeroth (Opens.in_next first more) = not_zeroth more
 
   -- what is read in spite of a failure goes behind its place
-  fails_before : {deep : Bool} {room : ℕ} {rule : Rule} {from place : ℕ} → Fails text symbols deep room rule from place → {nesting : ℕ} {tree : Phrase} {to : ℕ} → Reads text symbols nesting rule from tree to → place ≤ to
+  fails_before : {deep : Bool} {room : ℕ} {rule : Rule} {from place : ℕ} → Fails text symbols deep room rule from place → {nesting : ℕ} {made : Made} {to : ℕ} → Reads text symbols nesting rule from made to → place ≤ to
   fails_before (Fails.wrong_token wrong) read = forward read
   fails_before (Fails.no_part none) read = forward read
-  fails_before (Fails.no_clause none) read = forward read
+  fails_before (Fails.nothing_inside none) read = forward read
   fails_before (Fails.no_room found is) read = forward read
   fails_before (Fails.behind_token {next = next} found is more) (takes found' is' more') = fails_before more (reads_as (ap next (some_same found' found)) more')
   fails_before (Fails.in_part is more) (goes is' more') = fails_before more (reads_as (some_same is' is) more')
-  fails_before (Fails.in_clause is more) (opens is' more') = fails_before more (reads_as (some_same is' is) more')
+  fails_before (Fails.in_nested is more) (opens is' more') = fails_before more (reads_as (some_same is' is) more')
   fails_before (Fails.in_first more) (joins first' more') = let h = fails_before more first' in let k = forward more' in omega (arith, h, k)
   fails_before (Fails.in_next {next = next} first more) (joins first' more') =
       let same = unique first first' in
       fails_before more (reads_as (ap next (sym same.0)) (reads_from (sym same.1) more'))
 
-  -- before the place of a failure no clause is opened for which there is no room
+  -- before the place of a failure no clause and no type is opened for which there is no room
   pub none_too_deep : {deep : Bool} {room : ℕ} {rule : Rule} {from place : ℕ} → Fails text symbols deep room rule from place → {earlier : ℕ} → Opens text symbols (suc room) rule from earlier → earlier < place → ⊥
   none_too_deep (Fails.wrong_token wrong) (Opens.behind_token {symbol = symbol} found is more) before = wrong symbol found is
   none_too_deep (Fails.no_part none) (Opens.in_part is more) before = absurd (cc)
-  none_too_deep (Fails.no_clause none) way before = let h = opens_forward way in absurd (omega (arith, h, before))
+  none_too_deep (Fails.nothing_inside none) way before = let h = opens_forward way in absurd (omega (arith, h, before))
   none_too_deep (Fails.no_room found is) way before = let h = opens_forward way in absurd (omega (arith, h, before))
   none_too_deep (Fails.behind_token {next = next} found is more) (Opens.behind_token found' is' more') before = none_too_deep more (opens_as (ap next (some_same found' found)) more') before
   none_too_deep (Fails.in_part is more) (Opens.in_part is' more') before = none_too_deep more (opens_as (some_same is' is) more') before
-  none_too_deep (Fails.in_clause is more) (Opens.in_clause is' more') before = none_too_deep more (opens_as (some_same is' is) more') before
+  none_too_deep (Fails.in_nested is more) (Opens.in_nested is' more') before = none_too_deep more (opens_as (some_same is' is) more') before
   none_too_deep (Fails.in_first more) (Opens.in_first more') before = none_too_deep more more' before
   none_too_deep (Fails.in_first more) (Opens.in_next first' more') before =
       let h = fails_before more first' in
@@ -67,12 +67,12 @@ module _ {text : List ℕ} {symbols : List Symbol} where
       let same = unique first first' in
       none_too_deep more (opens_as (ap next (sym same.0)) (opens_from (sym same.1) more')) before
 
-  -- a failure for want of room is at a clause that is too deep
+  -- a failure for want of room is at a clause or a type that is too deep
   pub too_deep_there : {room : ℕ} {rule : Rule} {from place : ℕ} → Fails text symbols true room rule from place → Opens text symbols (suc room) rule from place
   too_deep_there (Fails.no_room {from = from} {symbol = symbol} found is) = Opens.here (slice_get_within symbols from symbol found)
   too_deep_there (Fails.behind_token found is more) = Opens.behind_token found is (too_deep_there more)
   too_deep_there (Fails.in_part is more) = Opens.in_part is (too_deep_there more)
-  too_deep_there (Fails.in_clause is more) = Opens.in_clause is (too_deep_there more)
+  too_deep_there (Fails.in_nested is more) = Opens.in_nested is (too_deep_there more)
   too_deep_there (Fails.in_first more) = Opens.in_first (too_deep_there more)
   too_deep_there (Fails.in_next first more) = Opens.in_next first (too_deep_there more)
 
@@ -99,7 +99,7 @@ fault_of_stop text tokens fault stops other =
 -- a text with a tree has no fault
 pub no_fault_of_tree : (text : List ℕ) (tokens : List Token) (tree : Phrase) (fault : ParseFault) → ReadsAs text tokens tree → IsParseFault text tokens fault → ⊥
 no_fault_of_tree text tokens tree fault reads (unexpected_at place is) =
-    elim (eq-or-lt_of_le is.within) [ inl last ↦ is.at_end last 100 tree reads.program | inr before ↦ is.here before (drop (place + 1) (read_as tokens), (100, (tree, (reads.program.0, subst (λ (all : List Symbol). Reads text all 100 (Go Program) 0 tree reads.program.0) (sym (take-append-drop (place + 1) (read_as tokens))) reads.program.1)))) ]
+    elim (eq-or-lt_of_le is.within) [ inl last ↦ is.at_end last 100 tree reads.program | inr before ↦ is.here before (drop (place + 1) (read_as tokens), (100, (tree, (reads.program.0, subst (λ (all : List Symbol). Reads text all 100 (Go Program) 0 (a_clause tree) reads.program.0) (sym (take-append-drop (place + 1) (read_as tokens))) reads.program.1)))) ]
 no_fault_of_tree text tokens tree fault reads (too_nested_at place symbol found is) = no_deeper reads.program.1 is.too_deep.opens
 
 -- a front of what begins a program begins one
@@ -107,7 +107,7 @@ begins_less : (text : List ℕ) (symbols : List Symbol) (shorter longer : ℕ) �
 begins_less text symbols shorter longer less begins =
     let front = take-take shorter longer symbols less in
     let all : take longer symbols ++ begins.0 ≡ take shorter symbols ++ (drop shorter (take longer symbols) ++ begins.0) = ap (λ (s : List Symbol). s ++ begins.0) (sym (take-append-drop shorter (take longer symbols))) ∙ append_assoc (take shorter (take longer symbols)) (drop shorter (take longer symbols)) begins.0 ∙ ap (λ (s : List Symbol). s ++ (drop shorter (take longer symbols) ++ begins.0)) front in
-    (drop shorter (take longer symbols) ++ begins.0, (begins.1.0, (begins.1.1.0, (begins.1.1.1.0, subst (λ (s : List Symbol). Reads text s begins.1.0 (Go Program) 0 begins.1.1.0 begins.1.1.1.0) all begins.1.1.1.1))))
+    (drop shorter (take longer symbols) ++ begins.0, (begins.1.0, (begins.1.1.0, (begins.1.1.1.0, subst (λ (s : List Symbol). Reads text s begins.1.0 (Go Program) 0 (a_clause begins.1.1.0) begins.1.1.1.0) all begins.1.1.1.1))))
 
 not_before : (text : List ℕ) (symbols : List Symbol) (place other : ℕ) → IsUnexpected text symbols place → IsUnexpected text symbols other → place < other → ⊥
 not_before text symbols place other is was before =
