@@ -2,7 +2,6 @@
 use Rattle.std.proofs.Common.{◌≡◌, ℕ, suc, ◌+◌, ◌<◌, ◌≤◌, inl, inr, List, [], ◌∷◌, ◌++◌, Bool, true, false, Option, Some, None, length, take, option_map, slice_get, refl, sym, subst, ap, ◌∙◌, arith}
 use Rattle.std.proofs.Math.Nat.{eq-or-lt_of_le}
 use Rattle.std.proofs.lemmas.List.{length-take-le}
-use Rattle.ps_base.specs.TyView.{TyView}
 use Rattle.ps_base.specs.declared.line.Line.{Line}
 use Rattle.ps_scan.specs.Tokens.{line_of}
 use Rattle.ps_scan.specs.declared.token.TokenKind.TheVariants as scanned
@@ -20,7 +19,7 @@ use Rattle.ps_parse.specs.declared.kind.TypeStart.{TypeStart}
 use Rattle.ps_parse.specs.declared.kind.TypeStart.TheVariants as typed
 use Rattle.ps_parse.specs.declared.symbol.Symbol.{Symbol}
 use Rattle.ps_parse.specs.Kinds.{operation_of, relating_of, begins_item, begins_type, opening_of, type_start_of}
-use Rattle.ps_parse.specs.Phrase.{GroupAt, Phrase, Phrases}
+use Rattle.ps_parse.specs.Phrase.{Phrase, Phrases}
 use Rattle.ps_parse.specs.Grammar.{Made, a_clause, the_clause, Part, Nested, a_clause_inside, a_type_inside, Rule, Give, Take, Go, Open, Then, Clause, Program, Ending, Ended, Items, MoreItems, Item, Binding, Literal, Parameters, Groups, MoreGroups, NextGroup, Result, ParameterTypes, MoreTypes, Choice, Until, Test, Between, Step, Body, Cases, Labels, Written, Width, MoreWritten, Assignment, Chain, MoreChain, Relative, Compared, Comparison, Factor, Application, Applied, Arguments, SecondArgument, MoreArguments, Primary, MoreElements, inside, row, ending, ended, items, parameters, parameter_types, more_chain, comparison, opened, typed_as}
 use Rattle.ps_parse.specs.Program.{BeginsProgram}
 use Rattle.ps_parse.specs.Reading.{kind_at, kind_of_next, Reads, gives, takes, goes, opens, joins}
@@ -206,7 +205,8 @@ rows_sound follow text (MoreElements line l t before) _ fits = (_, take_one λ m
 pub row_sound : (follow : Kind) (text : List ℕ) (part : Part) (found : Kind) {rule : Rule} → Fits part follow → row text part found ≡ Some rule → RowIsSound follow (Some rule)
 row_sound follow text part found fits is = subst (λ (o : Option Rule). RowIsSound follow o) is (rows_sound follow text part found fits)
 
--- the reading of a rule from one place on comes to the other, where something is still to be read
+-- the reading of a rule from one place on comes to the other. A part of which nothing has been read
+-- there is not chosen yet, since other symbols may stand behind that place.
 pub data Reaches (text : List ℕ) (symbols : List Symbol) : Rule → ℕ → ℕ → Type 0 where
   arrived : {rule : Rule} {from : ℕ} → Reaches text symbols rule from from
   behind_token : {from place : ℕ} {kind : Kind} {next : Symbol → Rule} {symbol : Symbol} → slice_get symbols from ≡ Some symbol → symbol.kind ≡ kind → Reaches text symbols (next symbol) (from + 1) place → Reaches text symbols (Take kind next) from place
