@@ -1,0 +1,4 @@
+pub mod Layout
+pub mod Lexemes
+pub mod Lines
+pub mod Reprint
