@@ -1,5 +1,5 @@
 -- Trees and what they are printed as.
-use Rattle.std.proofs.Common.{◌≡◌, ℕ, pos, List, [], ◌∷◌, Bool, true, false, refl}
+use Rattle.std.proofs.Common.{◌≡◌, ℕ, List, [], ◌∷◌, true, false, refl}
 use Rattle.std.specs.Prelude.{codes}
 use Rattle.ps_base.specs.TyView as ty
 use Rattle.ps_base.specs.declared.operator.Operator.TheVariants as arith
@@ -19,11 +19,8 @@ name bytes = record { name = bytes; line = line_of 1 }
 abbrev n : List ℕ → Phrase
 n bytes = p (form.Name bytes)
 
-abbrev int : ℕ → Phrase
-int value = p (form.Int (pos value))
-
 -- a procedure with a block, and a sum that needs brackets
-procedure_printed : printed (p (form.Sequence (more (p (form.Let (name (codes "f")) false (p (form.Proc (record { ty = ty.Int; name = name (codes "a") } ∷ []) ty.Int (p (form.Sequence (more (p (form.Arith arith.Mul (p (form.Arith arith.Add (n (codes "a")) (int 1))) (int 2))) none))))))) none))) ≡ codes "procedure f(int a -> int); {\n  (a + 1) * 2;\n};\n"
+procedure_printed : printed (p (form.Sequence (more (p (form.Let (name (codes "f")) false (p (form.Proc (record { ty = ty.Int; name = name (codes "a") } ∷ []) ty.Int (p (form.Sequence (more (p (form.Arith arith.Mul (p (form.Arith arith.Add (n (codes "a")) (n (codes "b")))) (n (codes "c")))) none))))))) none))) ≡ codes "procedure f(int a -> int); {\n  (a + b) * c;\n};\n"
 unfolding text_of
 procedure_printed = refl
 

@@ -106,49 +106,55 @@ groups_lexemes (group ∷ groups) = group_lexemes nothing group ++ more_groups_l
 abbrev pub heading_lexemes : List GroupAt → TyView → List Lexeme
 heading_lexemes params gives = in_brackets nothing (groups_lexemes params ++ behind_arrow gives (type_lexemes blank gives)) ++ semicolon ∷ []
 
--- how tight a form binds; a form that binds looser than its place asks for stands in brackets
-abbrev pub disjunction : ℕ
-disjunction = 1
+-- how tight a form binds, loosest first; a form that binds looser than its place asks for stands in
+-- brackets
+pub data Tightness : Type 0 where
+  loosest : Tightness
+  disjunction : Tightness
+  conjunction : Tightness
+  negation : Tightness
+  comparison : Tightness
+  sum : Tightness
+  product : Tightness
+  signed : Tightness
+  application : Tightness
+  primary : Tightness
 
-abbrev pub conjunction : ℕ
-conjunction = 2
+abbrev pub number_of : Tightness → ℕ
+number_of loosest = 0
+number_of disjunction = 1
+number_of conjunction = 2
+number_of negation = 3
+number_of comparison = 4
+number_of sum = 5
+number_of product = 6
+number_of signed = 7
+number_of application = 8
+number_of primary = 9
 
-abbrev pub negation : ℕ
-negation = 3
+-- the left operand of an operator on ints binds as tight as the operator, the right one tighter
+abbrev pub left_of : Operator → Tightness
+left_of arith.Add = sum
+left_of arith.Sub = sum
+left_of arith.Mul = product
+left_of arith.Div = product
+left_of arith.Rem = product
 
-abbrev pub comparison : ℕ
-comparison = 4
+abbrev pub right_of : Operator → Tightness
+right_of arith.Add = product
+right_of arith.Sub = product
+right_of arith.Mul = signed
+right_of arith.Div = signed
+right_of arith.Rem = signed
 
-abbrev pub sum : ℕ
-sum = 5
-
-abbrev pub product : ℕ
-product = 6
-
-abbrev pub signed : ℕ
-signed = 7
-
-abbrev pub application : ℕ
-application = 8
-
-abbrev pub primary : ℕ
-primary = 9
-
-abbrev pub tightness_of_operator : Operator → ℕ
-tightness_of_operator arith.Add = sum
-tightness_of_operator arith.Sub = sum
-tightness_of_operator arith.Mul = product
-tightness_of_operator arith.Div = product
-tightness_of_operator arith.Rem = product
-
-abbrev pub tightness : Form → ℕ
+abbrev pub tightness : Form → Tightness
 tightness (form.Or a b) = disjunction
 tightness (form.And a b) = conjunction
 tightness (form.Not e) = negation
 tightness (form.Compare op a b) = comparison
 tightness (form.Is e class negated) = comparison
 tightness (form.Join a b) = sum
-tightness (form.Arith op a b) = tightness_of_operator op
+tightness (form.Arith op a b) = left_of op
 tightness (form.Plus e) = signed
 tightness (form.Neg e) = signed
 tightness (form.Apply f args) = application
@@ -161,7 +167,10 @@ tightness (form.Flag value) = primary
 tightness form.Nil = primary
 tightness (form.Bound upper e) = primary
 tightness (form.Elems l t items) = primary
-tightness _ = 0
+tightness _ = loosest
+
+abbrev pub is_looser : Form → Tightness → Bool
+is_looser f needed = nat_lt (number_of (tightness f)) (number_of needed)
 
 -- what stands behind a clause, where it could be read as part of it: `do` behind a `repeat` that has
 -- none, `,` behind a `write`, and `:` behind one whose last item has no width
@@ -250,7 +259,7 @@ abbrev mutual
   form_lexemes n behind gap (form.Compare op a b) = operand_lexemes n sum gap a ++ sign_of_relation op ∷ operand_lexemes n sum blank b
   form_lexemes n behind gap (form.Is e class negated) = operand_lexemes n sum gap e ++ is_word negated ∷ name_lexeme blank class.name ∷ []
   form_lexemes n behind gap (form.Join a b) = operand_lexemes n sum gap a ++ the_mark blank mark.CONCATENATE (codes "++") ∷ operand_lexemes n product blank b
-  form_lexemes n behind gap (form.Arith op a b) = operand_lexemes n (tightness_of_operator op) gap a ++ sign_of_operator op ∷ operand_lexemes n (tightness_of_operator op + 1) blank b
+  form_lexemes n behind gap (form.Arith op a b) = operand_lexemes n (left_of op) gap a ++ sign_of_operator op ∷ operand_lexemes n (right_of op) blank b
   form_lexemes n behind gap (form.Plus e) = the_mark gap mark.PLUS (codes "+") ∷ operand_lexemes n application nothing e
   form_lexemes n behind gap (form.Neg e) = the_mark gap mark.MINUS (codes "-") ∷ operand_lexemes n application nothing e
   form_lexemes n behind gap (form.Apply f args) = operand_lexemes n application gap f ++ in_brackets nothing (clauses_lexemes n nothing other args)
@@ -269,9 +278,9 @@ abbrev mutual
       if is_taken behind f then in_brackets gap (form_lexemes n other nothing f) else form_lexemes n behind gap f
 
   -- an operand that has to bind so tight
-  pub operand_lexemes : ℕ → ℕ → Gap → Phrase → List Lexeme
+  pub operand_lexemes : ℕ → Tightness → Gap → Phrase → List Lexeme
   operand_lexemes n needed gap (at f line) =
-      if nat_lt (tightness f) needed then in_brackets gap (form_lexemes n other nothing f) else form_lexemes n other gap f
+      if is_looser f needed then in_brackets gap (form_lexemes n other nothing f) else form_lexemes n other gap f
 
   pub block_lexemes : ℕ → Gap → Phrases → List Lexeme
   block_lexemes n gap none = the_mark gap mark.OPEN_CURLY (codes "{") ∷ the_mark nothing mark.CLOSE_CURLY (codes "}") ∷ []
@@ -311,6 +320,11 @@ abbrev mutual
   pub item_lexemes : ℕ → Behind → WriteItem → List Lexeme
   item_lexemes n behind (item e absent line) = clause_lexemes n behind blank e
   item_lexemes n behind (item e (present w) line) = clause_lexemes n before_colon blank e ++ colon ∷ clause_lexemes n behind blank w
+
+-- whether a `let` of this is written with `procedure`
+abbrev pub is_procedure : Bool → Phrase → Bool
+is_procedure false (at (form.Proc params gives s) line) = true
+is_procedure _ _ = false
 
 -- the items of a program, each on a line of its own
 abbrev pub program_lexemes : Phrases → List Lexeme
