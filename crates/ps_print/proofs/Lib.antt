@@ -1,2 +1,5 @@
 pub mod Examples
 pub mod Canonical
+pub mod Standing
+pub mod Climb
+pub mod Fronts
