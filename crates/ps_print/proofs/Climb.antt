@@ -207,7 +207,7 @@ module _ {text : List ℕ} {symbols : List Symbol} where
     lift_signed : Rereads text symbols room (Go Application) from p to → Leads text symbols room signed from p to
     lift_signed r = record { again = r.again; lead = give_back (goes (ap Some (factor_plain (kind_at symbols from) (starts_application r.read))) r.read); same = r.same }
 
-    close_signed : Leads text symbols room signed from p to → Rereads text symbols room (Go Factor) from p to
+    pub close_signed : Leads text symbols room signed from p to → Rereads text symbols room (Go Factor) from p to
     close_signed l = record { again = l.again; read = l.lead _ _ gives; same = l.same }
 
     lift_product : Rereads text symbols room (Go Factor) from p to → Leads text symbols room product from p to

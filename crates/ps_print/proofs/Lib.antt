@@ -3,3 +3,8 @@ pub mod Canonical
 pub mod Standing
 pub mod Climb
 pub mod Fronts
+pub mod Heads
+pub mod TypesRead
+pub mod Appending
+pub mod Begins
+pub mod Rereading
