@@ -16,7 +16,7 @@ use Rattle.ps_parse.specs.Reading.{kind_at, Reads, gives, takes, goes, opens, jo
 use Rattle.ps_print.specs.Lexemes.{Gap, Lexeme}
 use Rattle.ps_print.specs.Layout.{Tightness, number_of, Behind, before_do, in_brackets, close_round, loosest, disjunction, primary}
 use Rattle.ps_print.specs.Layout as layout
-use Rattle.ps_print.specs.Lines.{bare}
+use Rattle.ps_print.specs.Bare.{bare}
 use Rattle.ps_print.proofs.Standing.{Stands, cut}
 use Rattle.ps_print.proofs.Heads.{Head, head, ended}
 use Rattle.ps_print.proofs.Climb.{Rereads, Leads, Above, expression_opens, starts_disjunction, give_back, lead_at, close_disjunction}

@@ -15,7 +15,7 @@ use Rattle.ps_parse.specs.Grammar.{Made, a_clause, Part, Rule, Give, Take, Go, T
 use Rattle.ps_parse.specs.Reading.{kind_at, Reads, gives, takes, goes, opens, joins}
 use Rattle.ps_print.specs.Layout.{Tightness, number_of, loosest, disjunction, conjunction, negation, sum, product, signed, application, primary}
 use Rattle.ps_print.specs.Layout as tight
-use Rattle.ps_print.specs.Lines.{bare}
+use Rattle.ps_print.specs.Bare.{bare}
 
 -- what is read for a form that binds so tight, and what is left when the form has been read
 abbrev pub rule_at : Tightness → Rule

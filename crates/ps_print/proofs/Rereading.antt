@@ -30,7 +30,7 @@ use Rattle.ps_parse.specs.Reading.{kind_at, Reads, gives, takes, goes, opens, jo
 use Rattle.ps_print.specs.Lexemes.{IsSpellable, Gap, nothing, blank, newline, Lexeme}
 use Rattle.ps_print.specs.Layout.{lexeme, the_word, the_mark, name_lexeme, open_round, close_round, comma, semicolon, colon, do_word, in_brackets, spelled_string, type_lexemes, groups_lexemes, heading_lexemes, behind_arrow, becomes, is_word, flag_word, bound_word, sign_of_relation, sign_of_operator, Tightness, number_of, tightness, left_of, right_of, is_looser, is_procedure, disjunction, conjunction, negation, sum, product, signed, application, primary, Behind, other, before_do, before_comma, before_colon, is_taken, ends_open, behind_clause, behind_item, form_lexemes, clause_lexemes, operand_lexemes, block_lexemes, lines_lexemes, clauses_lexemes, more_clauses_lexemes, arms_lexemes, arm_lexemes, items_lexemes, more_items_lexemes, item_lexemes}
 use Rattle.ps_print.specs.Layout as layout
-use Rattle.ps_print.specs.Lines.{bare, bare_form, bare_all, bare_name, bare_groups, bare_maybe, bare_arm, bare_arms, bare_item, bare_items}
+use Rattle.ps_print.specs.Bare.{bare, bare_form, bare_all, bare_name, bare_groups, bare_maybe, bare_arm, bare_arms, bare_item, bare_items}
 use Rattle.ps_print.proofs.Appending.{append, append_none, append_one, append_arms, append_no_arms, append_arm, append_items, append_no_items, append_item}
 use Rattle.ps_print.proofs.Begins.{Begins, By, clause_of_begins, begins_at, bracketed_reads, lead_primary, lead_of_primary, by_lead, opens_clause, starts_clause, arguments_begin, cases_begin, item_is_clause, clause_begins_item, nothing_between}
 use Rattle.ps_print.proofs.Canonical.{IsForm, IsClause, IsOperand, AreClauses, AreArms, AreItems, IsWritten, AreItemsOf, IsItem, AreGroups, IsResult}

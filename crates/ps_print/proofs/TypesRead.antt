@@ -15,7 +15,7 @@ use Rattle.ps_parse.specs.Grammar.{Made, a_type, all_types, all_groups, Rule, Gi
 use Rattle.ps_parse.specs.Reading.{kind_at, Reads, gives, takes, goes, opens, joins}
 use Rattle.ps_print.specs.Lexemes.{Gap, nothing, blank, Lexeme}
 use Rattle.ps_print.specs.Layout.{the_mark, name_lexeme, type_lexemes, types_lexemes, more_types_lexemes, behind_arrow, group_lexemes, groups_lexemes, more_groups_lexemes, in_brackets, close_round}
-use Rattle.ps_print.specs.Lines.{bare_name, bare_group, bare_groups}
+use Rattle.ps_print.specs.Bare.{bare_name, bare_group, bare_groups}
 use Rattle.ps_print.proofs.Canonical.{IsType, AreTypes, IsResult, AreGroups}
 use Rattle.ps_print.proofs.Canonical as is
 use Rattle.ps_print.proofs.Standing.{Stands, cut, first_kind}

@@ -1,4 +1,4 @@
 pub mod Layout
 pub mod Lexemes
-pub mod Lines
+pub mod Bare
 pub mod Reprint
