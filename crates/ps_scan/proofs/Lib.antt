@@ -3,6 +3,7 @@ mod Examples
 mod FaultLines
 pub mod Laws
 mod Lines
+mod Named
 mod Runs
 pub mod Scanning
 mod Spelling
