@@ -1,7 +1,6 @@
 -- A canonical tree, as it is laid out, is read as it was but for lines, with nothing deeper inside it.
 use Rattle.std.proofs.Common.{◌≡◌, ◌≢◌, ℕ, suc, ◌+◌, pos, List, [], ◌∷◌, ◌++◌, Bool, true, false, Some, None, refl, sym, subst, ap, ◌∙◌}
-use Rattle.std.specs.Prelude.{◌≤◌, if◌then◌else◌, codes, decimal, drop, option_map}
-use Rattle.std.specs.List.{AllPass}
+use Rattle.std.specs.Prelude.{if◌then◌else◌, codes, drop, option_map}
 use Rattle.ps_base.specs.TyView.{TyView}
 use Rattle.ps_base.specs.declared.line.Line.{Line}
 use Rattle.ps_base.specs.declared.operator.Operator.{Operator}
@@ -27,10 +26,13 @@ use Rattle.ps_parse.specs.Phrase as form
 use Rattle.ps_parse.specs.Grammar as grammar
 use Rattle.ps_parse.specs.Grammar.{Made, a_clause, an_item, Part, Rule, Give, Take, Go, Open, Then, Clause, a_clause_inside, Items, MoreItems, Item, Literal, Until, Cases, Labels, Width, Written, MoreWritten, Chain, MoreChain, Application, Applied, MoreArguments, MoreElements, Primary, inside, row, and_then, and_arm, and_item, skip, with_clause, clause_of, give, line_in, joined}
 use Rattle.ps_parse.specs.Reading.{kind_at, Reads, gives, takes, goes, opens, joins}
-use Rattle.ps_print.specs.Lexemes.{IsSpellable, Gap, nothing, blank, newline, Lexeme}
-use Rattle.ps_print.specs.Layout.{lexeme, the_word, the_mark, name_lexeme, open_round, close_round, comma, semicolon, colon, do_word, in_brackets, spelled_string, type_lexemes, groups_lexemes, heading_lexemes, behind_arrow, becomes, is_word, flag_word, bound_word, sign_of_relation, sign_of_operator, Tightness, number_of, tightness, left_of, right_of, is_looser, is_procedure, disjunction, conjunction, negation, sum, product, signed, application, primary, Behind, other, before_do, before_comma, before_colon, is_taken, ends_open, behind_clause, behind_item, form_lexemes, clause_lexemes, operand_lexemes, block_lexemes, lines_lexemes, clauses_lexemes, more_clauses_lexemes, arms_lexemes, arm_lexemes, items_lexemes, more_items_lexemes, item_lexemes}
+use Rattle.ps_print.specs.Lexemes.{Gap, nothing, blank, newline, Lexeme}
+use Rattle.ps_print.specs.Layout.{lexeme, the_word, the_mark, name_lexeme, open_round, close_round, comma, semicolon, colon, do_word, in_brackets, type_lexemes, groups_lexemes, heading_lexemes, behind_arrow, becomes, is_word, flag_word, bound_word, sign_of_relation, sign_of_operator, Tightness, number_of, tightness, left_of, right_of, is_looser, is_procedure, disjunction, conjunction, negation, sum, product, signed, application, primary, Behind, other, before_do, before_comma, before_colon, is_taken, ends_open, behind_clause, behind_item, form_lexemes, clause_lexemes, operand_lexemes, block_lexemes, lines_lexemes, clauses_lexemes, more_clauses_lexemes, arms_lexemes, arm_lexemes, items_lexemes, more_items_lexemes, item_lexemes}
 use Rattle.ps_print.specs.Layout as layout
 use Rattle.ps_print.specs.Bare.{bare, bare_form, bare_all, bare_name, bare_groups, bare_maybe, bare_arm, bare_arms, bare_item, bare_items}
+use Rattle.ps_print.specs.Spellings.{can_be_spelled}
+use Rattle.ps_print.proofs.Glued.{all_passes}
+use Rattle.ps_print.proofs.Spelt.{int_is_spelled, string_is_spelled}
 use Rattle.ps_print.proofs.Appending.{append, append_none, append_one, append_arms, append_no_arms, append_arm, append_items, append_no_items, append_item}
 use Rattle.ps_print.proofs.Begins.{Begins, By, clause_of_begins, begins_at, bracketed_reads, lead_primary, lead_of_primary, by_lead, opens_clause, starts_clause, arguments_begin, cases_begin, item_is_clause, clause_begins_item, nothing_between}
 use Rattle.ps_print.proofs.Canonical.{IsForm, IsClause, IsOperand, AreClauses, AreArms, AreItems, IsWritten, AreItemsOf, IsItem, AreGroups, IsResult}
@@ -236,11 +238,7 @@ sequence_ends : (line : Line) (all : Phrases) (k : Kind) → begins_item k ≡ f
 sequence_ends line all kind.Semicolon no_item other_kind = absurd (other_kind refl)
 sequence_ends line all _ no_item other_kind = refl
 
-pub record Digits : Type 0 where
-  pub ints : (value : ℕ) → value ≤ 2147483647 → class.decimal (decimal value) ≡ value
-  pub strings : (bytes : List ℕ) → AllPass IsSpellable bytes → bytes_of (quoted (drop 1 (spelled_string bytes))) ≡ bytes
-
-module _ {text : List ℕ} {symbols : List Symbol} (digits : Digits) where
+module _ {text : List ℕ} {symbols : List Symbol} where
   list_end : (last : Behind) {closing : Kind} (n : ℕ) (rest : Phrases) (from to : ℕ) → Stands text symbols from (more_clauses_lexemes n last rest) to → kind_at symbols to ≡ closing → ListEnd closing (kind_at symbols from)
   list_end last n none from to Stands.no_more close = by_close close
   list_end last n (more first rest) from to st close = by_comma (head st).kind
@@ -574,11 +572,11 @@ module _ {text : List ℕ} {symbols : List Symbol} (digits : Digits) where
 
     form_reads (is.int {value = value} small) n gap line from to st = λ above.
         let h = head st in
-        record { again = at (form.Int (pos (int_value text h.symbol.token))) h.symbol.token.line; lead = give_back (goes (ap (λ (k : Kind). row text Primary k) h.kind) (takes h.here h.is (gives_at (ended h.more)))); same = alike1 (λ (v : ℕ). F (form.Int (pos v))) (ap (λ (bytes : List ℕ). class.decimal bytes) h.spelled ∙ digits.ints value small) }
+        record { again = at (form.Int (pos (int_value text h.symbol.token))) h.symbol.token.line; lead = give_back (goes (ap (λ (k : Kind). row text Primary k) h.kind) (takes h.here h.is (gives_at (ended h.more)))); same = alike1 (λ (v : ℕ). F (form.Int (pos v))) (ap (λ (bytes : List ℕ). class.decimal bytes) h.spelled ∙ (int_is_spelled value small).value_is) }
 
     form_reads (is.text {bytes = bytes} spellable short) n gap line from to st = λ above.
         let h = head st in
-        record { again = at (form.Text (spelled text h.symbol.token)) h.symbol.token.line; lead = give_back (goes (ap (λ (k : Kind). row text Primary k) h.kind) (takes h.here h.is (gives_at (ended h.more)))); same = alike1 (λ (bytes : List ℕ). F (form.Text bytes)) (ap (λ (slice : List ℕ). bytes_of (quoted (drop 1 slice))) h.spelled ∙ digits.strings bytes spellable) }
+        record { again = at (form.Text (spelled text h.symbol.token)) h.symbol.token.line; lead = give_back (goes (ap (λ (k : Kind). row text Primary k) h.kind) (takes h.here h.is (gives_at (ended h.more)))); same = alike1 (λ (bytes : List ℕ). F (form.Text bytes)) (ap (λ (slice : List ℕ). bytes_of (quoted (drop 1 slice))) h.spelled ∙ (string_is_spelled bytes (all_passes can_be_spelled bytes spellable) short).bytes_are) }
 
     form_reads (is.flag {value = true}) n gap line from to st = λ above.
         let h = head st in
