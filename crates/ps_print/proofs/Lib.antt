@@ -16,3 +16,4 @@ pub mod Spelt
 pub mod Standing
 pub mod Texts
 pub mod TypesRead
+pub mod Pieced
