@@ -3,3 +3,4 @@ pub mod Canonical
 pub mod Standing
 pub mod Climb
 pub mod Fronts
+pub mod Weakening
