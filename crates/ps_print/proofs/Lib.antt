@@ -4,3 +4,4 @@ pub mod Standing
 pub mod Climb
 pub mod Fronts
 pub mod Weakening
+pub mod Making
