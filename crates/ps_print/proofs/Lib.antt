@@ -5,3 +5,5 @@ pub mod Climb
 pub mod Fronts
 pub mod Weakening
 pub mod Making
+pub mod Leaves
+pub mod Given

@@ -165,3 +165,18 @@ pub one_more_arm : {room : ℕ} {before : Arms} {labels : Phrases} {a : Phrase} 
 one_more_arm some AreArms.none_of_them (AreClauses.more_clauses first rest) a = AreArms.and_arms (AreClauses.more_clauses first rest) a AreArms.none_of_them
 one_more_arm some AreArms.none_of_them AreClauses.no_clauses a = absurd (cc)
 one_more_arm some (AreArms.and_arms first b rest) labels a = AreArms.and_arms first b (one_more_arm some rest labels a)
+
+pub written_clause : {room : ℕ} {behind : Behind} {before : WriteItems} {line : Line} → has_item before ≡ true → is_taken behind (form.Write before) ≡ false → AreItems room behind before → IsClause (suc room) behind (at (form.Write before) line)
+written_clause some is (AreItems.and_items first rest) = IsClause.plain is (IsForm.write is (AreItems.and_items first rest))
+written_clause some is AreItems.nothing_more = absurd (cc)
+
+pub elements_operand : {room : ℕ} {l : Phrase} {t : TyView} {before : Phrases} {line : Line} → has_clause before ≡ true → IsClause room other l → IsType room t → AreClauses room other before → IsOperand room primary (at (form.Elems l t before) line)
+elements_operand some l t (AreClauses.more_clauses first rest) = IsOperand.tight refl (IsForm.elems l t (AreClauses.more_clauses first rest))
+elements_operand some l t AreClauses.no_clauses = absurd (cc)
+
+-- the items of a block, or of a program
+pub data IsSequence (room : ℕ) (line : Line) : Phrase → Type 0 where
+  sequence : {items : Phrases} → AreItemsOf room items → IsSequence room line (at (form.Sequence items) line)
+
+pub block_operand : {room : ℕ} {line : Line} {p : Phrase} → IsSequence room line p → IsOperand room primary p
+block_operand (sequence items) = IsOperand.tight refl (IsForm.sequence items)
