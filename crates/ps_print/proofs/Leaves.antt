@@ -1,6 +1,6 @@
 -- The names, the ints and the strings among the symbols of a text are spelled so that they can be
 -- printed.
-use Rattle.std.proofs.Common.{◌≡◌, ℕ, zero, suc, ◌+◌, ◌≤◌, ◌==◌, ◌||◌, ◌&&◌, nat_le, List, [], ◌∷◌, length, Bool, true, false, cond, Option, Some, None, slice_get, unwrap_or, refl, sym, ap, ◌∙◌, subst, arith}
+use Rattle.std.proofs.Common.{◌≡◌, ℕ, zero, suc, ◌+◌, ◌≤◌, List, [], ◌∷◌, length, Bool, true, false, cond, Option, Some, None, slice_get, unwrap_or, refl, sym, ap, ◌∙◌, subst, arith}
 use Rattle.std.specs.List.{All, AllPass}
 use Rattle.std.proofs.lemmas.Bool.Decides.{nat_tests}
 use Rattle.std.proofs.lemmas.List.Elements.{All-nil, All-cons, All-head, All-tail, All-append, All-get_or}
@@ -12,7 +12,7 @@ use Rattle.ps_scan.specs.declared.token.TokenKind.{TokenKind}
 use Rattle.ps_scan.specs.declared.token.TokenKind.TheVariants as scanned
 use Rattle.ps_scan.specs.Class.{inner_of, escaped}
 use Rattle.ps_scan.specs.Piece.{Quoted, Closes, StaysOpen, HasBadByte, HasBadEscape, spells, bytes_of, quoted, behind_apostrophe}
-use Rattle.ps_scan.specs.Tokens.{HasTokens, IsToken, IsSpelled, IsName, IsInt, IsString, slice_of, int_value, spelled}
+use Rattle.ps_scan.specs.Tokens.{HasTokens, IsToken, IsSpelled, IsName, slice_of, int_value, spelled}
 use Rattle.ps_scan.proofs.Scanning.{all_tokens}
 use Rattle.ps_parse.specs.declared.kind.Kind.{Kind}
 use Rattle.ps_parse.specs.declared.kind.Kind.TheVariants as kind
@@ -27,9 +27,9 @@ plain_spells : (byte : ℕ) → inner_of byte ≡ Plain → IsSpellable byte ≡
 unfolding inner_of
 plain_spells byte kind = grind (arith, nat_tests)
 
-escape_spells : (byte spelled_ : ℕ) → escaped byte ≡ Some spelled_ → IsSpellable spelled_ ≡ true
+escape_spells : (byte meant : ℕ) → escaped byte ≡ Some meant → IsSpellable meant ≡ true
 unfolding escaped
-escape_spells byte spelled_ kind = grind (arith, nat_tests)
+escape_spells byte meant kind = grind (arith, nat_tests)
 
 abbrev AllSpell : List ℕ → Type 0
 AllSpell bytes = AllPass IsSpellable bytes
@@ -65,9 +65,9 @@ quoted_other : (byte : ℕ) (rest : List ℕ) → inner_of byte ≡ Inner.Other 
 unfolding quoted bytes_of
 quoted_other byte rest kind = rw (kind, quoted)
 
-behind_some : (byte spelled_ : ℕ) (rest : List ℕ) → escaped byte ≡ Some spelled_ → behind_apostrophe (byte ∷ rest) ≡ spells spelled_ 2 (quoted rest)
+behind_some : (byte meant : ℕ) (rest : List ℕ) → escaped byte ≡ Some meant → behind_apostrophe (byte ∷ rest) ≡ spells meant 2 (quoted rest)
 unfolding behind_apostrophe
-behind_some byte spelled_ rest kind = rw (kind, behind_apostrophe)
+behind_some byte meant rest kind = rw (kind, behind_apostrophe)
 
 behind_none : (byte : ℕ) (rest : List ℕ) → escaped byte ≡ None → bytes_of (behind_apostrophe (byte ∷ rest)) ≡ []
 unfolding behind_apostrophe bytes_of
@@ -84,7 +84,7 @@ byte_spells Inner.Newline byte rest kind all behind = bytes_none (quoted (byte �
 byte_spells Inner.Other byte rest kind all behind = bytes_none (quoted (byte ∷ rest)) (quoted_other byte rest kind)
 
 behind_spells : (kind : Option ℕ) (byte : ℕ) (rest : List ℕ) → escaped byte ≡ kind → AllSpell (bytes_of (quoted rest)) → AllSpell (bytes_of (behind_apostrophe (byte ∷ rest)))
-behind_spells (Some spelled_) byte rest kind all = subst (λ q. AllSpell (bytes_of q)) (sym (behind_some byte spelled_ rest kind)) (more_spell spelled_ 2 (quoted rest) (escape_spells byte spelled_ kind) all)
+behind_spells (Some meant) byte rest kind all = subst (λ q. AllSpell (bytes_of q)) (sym (behind_some byte meant rest kind)) (more_spell meant 2 (quoted rest) (escape_spells byte meant kind) all)
 behind_spells None byte rest kind all = bytes_none (behind_apostrophe (byte ∷ rest)) (behind_none byte rest kind)
 
 mutual

@@ -1,16 +1,15 @@
 -- What canonical parts make as the grammar puts them together.
-use Rattle.std.proofs.Common.{◌≡◌, ◌≢◌, ℕ, suc, ◌≤◌, List, [], ◌∷◌, ◌++◌, Bool, true, false, nat_lt, refl, sym, ap, ◌∙◌, subst, arith}
+use Rattle.std.proofs.Common.{◌≡◌, ℕ, suc, ◌≤◌, List, [], ◌∷◌, ◌++◌, Bool, true, false, nat_lt, refl, ◌∙◌, arith}
 use Rattle.std.proofs.lemmas.Bool.Decides.{nat_tests}
 use Rattle.ps_base.specs.TyView.{TyView, TyViews}
-use Rattle.ps_base.specs.TyView as ty
 use Rattle.ps_base.specs.declared.line.Line.{Line}
 use Rattle.ps_scan.specs.Tokens.{IsName}
 use Rattle.ps_parse.specs.Phrase.{NameAt, GroupAt, Phrase, at, Form, Phrases, none, more, MaybePhrase, absent, present, Arms, no_arms, more_arms, arm, WriteItem, item, WriteItems, no_items, more_items}
 use Rattle.ps_parse.specs.Phrase as form
 use Rattle.ps_parse.specs.Grammar.{and_then, and_arm, and_item, and_type}
-use Rattle.ps_print.specs.Layout.{Behind, other, before_do, before_comma, before_colon, is_taken, ends_open, behind_clause, behind_item, is_procedure, Tightness, number_of, tightness, is_looser, disjunction, primary}
+use Rattle.ps_print.specs.Layout.{Behind, other, before_do, before_comma, before_colon, is_taken, ends_open, is_procedure, Tightness, number_of, tightness, is_looser, disjunction, primary}
 use Rattle.ps_print.proofs.Canonical.{IsType, AreTypes, IsResult, AreGroups, IsClause, IsOperand, IsForm, AreClauses, AreArms, AreItems, IsWritten, AreItemsOf, IsItem}
-use Rattle.ps_print.proofs.Weakening.{grow_type, grow_result, grow_groups, grow_clause, grow_operand, grow_form, rebehind}
+use Rattle.ps_print.proofs.Weakening.{grow_result, grow_groups, grow_clause, grow_form, unbracketed, rebehind}
 
 -- the forms that might take what stands behind them
 abbrev pub can_take : Form → Bool
@@ -46,41 +45,37 @@ bracket {needed = needed} (IsClause.plain {f = f} taken form) = loosened (is_loo
 bracket (IsClause.kept taken form) = absurd (cc)
 
 -- an expression takes nothing, and is the same whatever stands behind it
-bare : {room : ℕ} {f : Form} (behind : Behind) → IsForm room other f → is_looser f disjunction ≡ false → IsForm room behind f
-bare behind (IsForm.or a b) is = IsForm.or a b
-bare behind (IsForm.and a b) is = IsForm.and a b
-bare behind (IsForm.not e) is = IsForm.not e
-bare behind (IsForm.compare a b) is = IsForm.compare a b
-bare behind (IsForm.is e class) is = IsForm.is e class
-bare behind (IsForm.join a b) is = IsForm.join a b
-bare behind (IsForm.arith a b) is = IsForm.arith a b
-bare behind (IsForm.plus e) is = IsForm.plus e
-bare behind (IsForm.neg e) is = IsForm.neg e
-bare behind (IsForm.apply f args) is = IsForm.apply f args
-bare behind (IsForm.part s i n) is = IsForm.part s i n
-bare behind (IsForm.sequence items) is = IsForm.sequence items
-bare behind (IsForm.name bytes) is = IsForm.name bytes
-bare behind (IsForm.int fits) is = IsForm.int fits
-bare behind (IsForm.text spellable fits) is = IsForm.text spellable fits
-bare behind IsForm.flag is = IsForm.flag
-bare behind IsForm.nil is = IsForm.nil
-bare behind (IsForm.bound e) is = IsForm.bound e
-bare behind (IsForm.elems l t items) is = IsForm.elems l t items
-bare behind _ is = absurd (cc)
+before_any : {room : ℕ} {f : Form} (behind : Behind) → IsForm room other f → is_looser f disjunction ≡ false → IsForm room behind f
+before_any behind (IsForm.or a b) is = IsForm.or a b
+before_any behind (IsForm.and a b) is = IsForm.and a b
+before_any behind (IsForm.not e) is = IsForm.not e
+before_any behind (IsForm.compare a b) is = IsForm.compare a b
+before_any behind (IsForm.is e class) is = IsForm.is e class
+before_any behind (IsForm.join a b) is = IsForm.join a b
+before_any behind (IsForm.arith a b) is = IsForm.arith a b
+before_any behind (IsForm.plus e) is = IsForm.plus e
+before_any behind (IsForm.neg e) is = IsForm.neg e
+before_any behind (IsForm.apply f args) is = IsForm.apply f args
+before_any behind (IsForm.part s i n) is = IsForm.part s i n
+before_any behind (IsForm.sequence items) is = IsForm.sequence items
+before_any behind (IsForm.name bytes) is = IsForm.name bytes
+before_any behind (IsForm.int fits) is = IsForm.int fits
+before_any behind (IsForm.text spellable fits) is = IsForm.text spellable fits
+before_any behind IsForm.flag is = IsForm.flag
+before_any behind IsForm.nil is = IsForm.nil
+before_any behind (IsForm.bound e) is = IsForm.bound e
+before_any behind (IsForm.elems l t items) is = IsForm.elems l t items
+before_any behind _ is = absurd (cc)
 
 takes_nothing : (f : Form) → is_looser f disjunction ≡ false → can_take f ≡ false
 takes_nothing (form.Repeat a c absent) is = absurd (cc)
 takes_nothing (form.Write items) is = absurd (cc)
 takes_nothing _ is = refl
 
-unbracketed : {room : ℕ} {behind : Behind} {f : Form} {line : Line} (taken : Bool) → is_taken behind f ≡ taken → IsForm room other f → IsClause (suc (suc room)) behind (at f line)
-unbracketed true is form = IsClause.kept is form
-unbracketed {behind = behind} false is form = IsClause.plain is (rebehind behind form is)
-
 -- an expression is a clause, without the brackets that it may stand in
 pub expression_clause : {room : ℕ} {p : Phrase} (behind : Behind) → IsOperand room disjunction p → IsClause (suc room) behind p
-expression_clause behind (IsOperand.tight {f = f} is form) = whole (takes_nothing f is) (bare behind form is)
-expression_clause behind (IsOperand.loose {f = f} is form) = unbracketed (is_taken behind f) refl form
+expression_clause behind (IsOperand.tight {f = f} is form) = whole (takes_nothing f is) (before_any behind form is)
+expression_clause behind (IsOperand.loose {f = f} is form) = unbracketed (is_taken behind f) refl form (λ is. rebehind behind form is)
 
 -- a procedure, in front of what stands behind it
 pub data IsProcedure (room : ℕ) (behind : Behind) : Phrase → Type 0 where

@@ -1,11 +1,11 @@
 -- What is canonical with some room is canonical with more; and what stood in brackets is canonical
 -- without them, whatever stands behind it then.
-use Rattle.std.proofs.Common.{◌≡◌, ◌≢◌, ℕ, suc, List, Bool, true, false, refl, sym, ap, subst}
+use Rattle.std.proofs.Common.{◌≡◌, ◌≢◌, ℕ, suc, List, Bool, true, false, refl}
 use Rattle.ps_base.specs.TyView.{TyView, TyViews}
 use Rattle.ps_base.specs.declared.line.Line.{Line}
 use Rattle.ps_parse.specs.Phrase.{GroupAt, Phrase, at, Form, Phrases, none, more, absent, present, Arms, WriteItem, item, WriteItems, no_items, more_items}
 use Rattle.ps_parse.specs.Phrase as form
-use Rattle.ps_print.specs.Layout.{Behind, other, before_do, before_comma, before_colon, is_taken, behind_clause, behind_item, Tightness, is_looser, disjunction}
+use Rattle.ps_print.specs.Layout.{Behind, other, before_do, before_comma, before_colon, is_taken, Tightness}
 use Rattle.ps_print.proofs.Canonical.{IsType, AreTypes, IsResult, AreGroups, IsClause, IsOperand, IsForm, AreClauses, AreArms, AreItems, IsWritten, AreItemsOf, IsItem}
 
 mutual
@@ -98,9 +98,10 @@ mutual
   grow_item (IsItem.a_procedure name params gives s) = IsItem.a_procedure name (grow_groups params) (grow_result gives) (grow_clause s)
   grow_item (IsItem.a_structure name fields) = IsItem.a_structure name (grow_groups fields)
 
-front_of : {room : ℕ} {behind : Behind} {f : Form} {line : Line} (taken : Bool) → is_taken behind f ≡ taken → IsForm room other f → (is_taken behind f ≡ false → IsForm (suc room) behind f) → IsClause (suc (suc room)) behind (at f line)
-front_of true is bracketed bare = IsClause.kept is bracketed
-front_of false is bracketed bare = IsClause.plain is (bare is)
+-- what stood in brackets stands in its own where it would take what stands behind it
+pub unbracketed : {room : ℕ} {behind : Behind} {f : Form} {line : Line} (taken : Bool) → is_taken behind f ≡ taken → IsForm room other f → (is_taken behind f ≡ false → IsForm (suc room) behind f) → IsClause (suc (suc room)) behind (at f line)
+unbracketed true is bracketed bare = IsClause.kept is bracketed
+unbracketed false is bracketed bare = IsClause.plain is (bare is)
 
 not_do : (behind : Behind) (a c : Phrase) → is_taken behind (form.Repeat a c absent) ≡ false → behind ≢ before_do
 not_do other a c is = λ same. cc
@@ -144,9 +145,9 @@ mutual
   rebehind behind (IsForm.bound e) is = IsForm.bound (grow_clause e)
   rebehind behind (IsForm.elems l t items) is = IsForm.elems (grow_clause l) (grow_type t) (grow_clauses items)
 
-  -- the last clause of such a form gets brackets of its own where it would take what stands behind it
+  -- the last clause of such a form may get brackets of its own
   pub rebehind_clause : {room : ℕ} {p : Phrase} (behind : Behind) → IsClause room other p → IsClause (suc room) behind p
-  rebehind_clause behind (IsClause.plain {f = f} taken bracketed) = front_of (is_taken behind f) refl bracketed (λ is. rebehind behind bracketed is)
+  rebehind_clause behind (IsClause.plain {f = f} taken bracketed) = unbracketed (is_taken behind f) refl bracketed (λ is. rebehind behind bracketed is)
   rebehind_clause behind (IsClause.kept taken bracketed) = absurd (cc)
 
   rebehind_items : {room : ℕ} {items : WriteItems} (behind : Behind) → AreItems room other items → AreItems (suc room) behind items
