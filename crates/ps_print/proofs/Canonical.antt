@@ -10,7 +10,7 @@ use Rattle.ps_base.specs.declared.operator.Relation.{Relation}
 use Rattle.ps_scan.specs.Tokens.{IsName}
 use Rattle.ps_parse.specs.Phrase.{NameAt, GroupAt, Phrase, at, Form, Phrases, none, more, absent, present, Arm, Arms, no_arms, more_arms, arm, WriteItem, item, WriteItems, no_items, more_items}
 use Rattle.ps_parse.specs.Phrase as form
-use Rattle.ps_print.specs.Lexemes.{IsSpellable}
+use Rattle.ps_print.specs.Spellings.{can_be_spelled}
 use Rattle.ps_print.specs.Layout.{Behind, other, before_do, before_comma, before_colon, is_taken, behind_clause, behind_item, is_procedure, Tightness, is_looser, left_of, right_of, disjunction, conjunction, negation, comparison, sum, product, application}
 
 -- with room for so many types inside one another
@@ -74,7 +74,7 @@ mutual
     sequence : {room : ℕ} {behind : Behind} {items : Phrases} → AreItemsOf room items → IsForm room behind (form.Sequence items)
     name : {room : ℕ} {behind : Behind} {bytes : List ℕ} → IsName bytes → IsForm room behind (form.Name bytes)
     int : {room value : ℕ} {behind : Behind} → value ≤ 2147483647 → IsForm room behind (form.Int (pos value))
-    text : {room : ℕ} {behind : Behind} {bytes : List ℕ} → AllPass IsSpellable bytes → length bytes ≤ 65535 → IsForm room behind (form.Text bytes)
+    text : {room : ℕ} {behind : Behind} {bytes : List ℕ} → AllPass can_be_spelled bytes → length bytes ≤ 65535 → IsForm room behind (form.Text bytes)
     flag : {room : ℕ} {behind : Behind} {value : Bool} → IsForm room behind (form.Flag value)
     nil : {room : ℕ} {behind : Behind} → IsForm room behind form.Nil
     bound : {room : ℕ} {behind : Behind} {upper : Bool} {e : Phrase} → IsClause room other e → IsForm room behind (form.Bound upper e)

@@ -15,7 +15,7 @@ use Rattle.ps_parse.specs.Grammar.{Made, a_clause, Part, Rule, Give, Take, Go, T
 use Rattle.ps_parse.specs.Reading.{kind_at, Reads, gives, takes, goes, opens, joins}
 use Rattle.ps_print.specs.Layout.{Tightness, number_of, loosest, disjunction, conjunction, negation, sum, product, signed, application, primary}
 use Rattle.ps_print.specs.Layout as tight
-use Rattle.ps_print.specs.Lines.{bare}
+use Rattle.ps_print.specs.Bare.{bare}
 
 -- what is read for a form that binds so tight, and what is left when the form has been read
 abbrev pub rule_at : Tightness → Rule
@@ -207,7 +207,7 @@ module _ {text : List ℕ} {symbols : List Symbol} where
     lift_signed : Rereads text symbols room (Go Application) from p to → Leads text symbols room signed from p to
     lift_signed r = record { again = r.again; lead = give_back (goes (ap Some (factor_plain (kind_at symbols from) (starts_application r.read))) r.read); same = r.same }
 
-    close_signed : Leads text symbols room signed from p to → Rereads text symbols room (Go Factor) from p to
+    pub close_signed : Leads text symbols room signed from p to → Rereads text symbols room (Go Factor) from p to
     close_signed l = record { again = l.again; read = l.lead _ _ gives; same = l.same }
 
     lift_product : Rereads text symbols room (Go Factor) from p to → Leads text symbols room product from p to

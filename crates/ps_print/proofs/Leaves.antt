@@ -20,26 +20,26 @@ use Rattle.ps_parse.specs.declared.kind.TheConstants.{WORDS, MARKS}
 use Rattle.ps_parse.specs.declared.symbol.Symbol.{Symbol}
 use Rattle.ps_parse.specs.Kinds.{kind_of}
 use Rattle.ps_parse.specs.Symbols.{breaks, semicolon_behind, symbol, symbols, between, symbols_behind}
-use Rattle.ps_print.specs.Lexemes.{IsSpellable}
+use Rattle.ps_print.specs.Spellings.{can_be_spelled}
 
 -- a byte that a string spells can be spelled
-plain_spells : (byte : ℕ) → inner_of byte ≡ Plain → IsSpellable byte ≡ true
+plain_spells : (byte : ℕ) → inner_of byte ≡ Plain → can_be_spelled byte ≡ true
 unfolding inner_of
 plain_spells byte kind = grind (arith, nat_tests)
 
-escape_spells : (byte meant : ℕ) → escaped byte ≡ Some meant → IsSpellable meant ≡ true
+escape_spells : (byte meant : ℕ) → escaped byte ≡ Some meant → can_be_spelled meant ≡ true
 unfolding escaped
 escape_spells byte meant kind = grind (arith, nat_tests)
 
 abbrev AllSpell : List ℕ → Type 0
-AllSpell bytes = AllPass IsSpellable bytes
+AllSpell bytes = AllPass can_be_spelled bytes
 
 none_spell : AllSpell []
-none_spell = All-nil (λ byte. IsSpellable byte ≡ true)
+none_spell = All-nil (λ byte. can_be_spelled byte ≡ true)
 
-more_spell : (byte taken : ℕ) (q : Quoted) → IsSpellable byte ≡ true → AllSpell (bytes_of q) → AllSpell (bytes_of (spells byte taken q))
+more_spell : (byte taken : ℕ) (q : Quoted) → can_be_spelled byte ≡ true → AllSpell (bytes_of q) → AllSpell (bytes_of (spells byte taken q))
 unfolding bytes_of spells
-more_spell byte taken (Closes bytes n) is all = All-cons (λ b. IsSpellable b ≡ true) byte bytes is all
+more_spell byte taken (Closes bytes n) is all = All-cons (λ b. can_be_spelled b ≡ true) byte bytes is all
 more_spell byte taken StaysOpen is all = none_spell
 more_spell byte taken (HasBadByte bad) is all = none_spell
 more_spell byte taken (HasBadEscape bad) is all = none_spell
@@ -125,7 +125,7 @@ no_leaf k none other is_leaf same = let l = sym none ∙ ap leaf same ∙ is_lea
 pub record IsLeaf (text : List ℕ) (symbol : Symbol) : Type 0 where
   pub name : symbol.kind ≡ kind.Name → IsName (slice_of text symbol.token)
   pub int : symbol.kind ≡ kind.Int → int_value text symbol.token ≤ 2147483647
-  pub string : symbol.kind ≡ kind.Text → AllPass IsSpellable (spelled text symbol.token) × (length (spelled text symbol.token) ≤ 65535)
+  pub string : symbol.kind ≡ kind.Text → AllPass can_be_spelled (spelled text symbol.token) × (length (spelled text symbol.token) ≤ 65535)
 
 leaf_of : (text : List ℕ) (number : ℕ) (token : Token) (what : TokenKind) → IsSpelled what (slice_of text token) → IsLeaf text (record { kind = kind_of what; number = number; token = token })
 leaf_of text number token scanned.Name spelling = record { name = λ k. spelling; int = λ k. absurd (cc); string = λ k. absurd (cc) }

@@ -1,6 +1,6 @@
 -- How a tree is laid out as a text that a person can read: blocks in braces, each item on a line of
 -- its own with a `;` behind it, one blank round operators, and brackets where the grammar needs them.
-use Rattle.std.specs.Prelude.{ℕ, ◌+◌, nat_abs, List, [], ◌∷◌, ◌++◌, Bool, true, false, nat_lt, ◌==◌, decimal, codes, if◌then◌else◌}
+use Rattle.std.specs.Prelude.{ℕ, ◌+◌, nat_abs, List, [], ◌∷◌, ◌++◌, Bool, true, false, nat_lt, codes, if◌then◌else◌}
 use Rattle.ps_base.specs.TyView.{TyView, TyViews}
 use Rattle.ps_base.specs.TyView as ty
 use Rattle.ps_base.specs.declared.operator.Operator.{Operator}
@@ -14,7 +14,8 @@ use Rattle.ps_scan.specs.declared.word.TheConstants as word
 use Rattle.ps_scan.specs.declared.mark.TheConstants as mark
 use Rattle.ps_parse.specs.Phrase.{NameAt, GroupAt, Phrase, at, Form, Phrases, none, more, MaybePhrase, absent, present, Arm, Arms, no_arms, more_arms, arm, WriteItem, item, WriteItems, no_items, more_items}
 use Rattle.ps_parse.specs.Phrase as form
-use Rattle.ps_print.specs.Lexemes.{Gap, nothing, blank, newline, Lexeme, text_of}
+use Rattle.ps_print.specs.Lexemes.{Gap, nothing, blank, newline, Lexeme, printed as printed_as}
+use Rattle.ps_print.specs.Spellings.{int_text, string_text}
 
 abbrev pub lexeme : Gap → TokenKind → List ℕ → Lexeme
 lexeme gap what spelling = record { gap = gap; what = what; spelling = spelling }
@@ -50,21 +51,6 @@ do_word = the_word blank word.DO (codes "do")
 -- the lexemes in round brackets
 abbrev pub in_brackets : Gap → List Lexeme → List Lexeme
 in_brackets gap inner = open_round gap ∷ (inner ++ close_round ∷ [])
-
--- a byte of a string as it is spelled
-abbrev pub spelled_byte : ℕ → List ℕ
-spelled_byte byte =
-    if byte == 10 then codes "'n" else
-    if byte == 9 then codes "'t" else
-    if byte == 39 then codes "''" else
-    if byte == 34 then codes "'\"" else byte ∷ []
-
-unfoldable pub spelled_bytes : List ℕ → List ℕ
-spelled_bytes [] = []
-spelled_bytes (byte ∷ bytes) = spelled_byte byte ++ spelled_bytes bytes
-
-abbrev pub spelled_string : List ℕ → List ℕ
-spelled_string bytes = 34 ∷ (spelled_bytes bytes ++ 34 ∷ [])
 
 -- the type of a result behind its arrow; a procedure without a result has none
 abbrev pub behind_arrow : TyView → List Lexeme → List Lexeme
@@ -265,8 +251,8 @@ abbrev mutual
   form_lexemes n behind gap (form.Apply f args) = operand_lexemes n application gap f ++ in_brackets nothing (clauses_lexemes n nothing other args)
   form_lexemes n behind gap (form.Part s i m) = operand_lexemes n application gap s ++ in_brackets nothing (clause_lexemes n other nothing i ++ the_mark nothing mark.BAR (codes "|") ∷ clause_lexemes n other nothing m)
   form_lexemes n behind gap (form.Name name) = name_lexeme gap name ∷ []
-  form_lexemes n behind gap (form.Int value) = lexeme gap scanned.Int (decimal (nat_abs value)) ∷ []
-  form_lexemes n behind gap (form.Text bytes) = lexeme gap scanned.Text (spelled_string bytes) ∷ []
+  form_lexemes n behind gap (form.Int value) = lexeme gap scanned.Int (int_text (nat_abs value)) ∷ []
+  form_lexemes n behind gap (form.Text bytes) = lexeme gap scanned.Text (string_text bytes) ∷ []
   form_lexemes n behind gap (form.Flag value) = flag_word gap value ∷ []
   form_lexemes n behind gap form.Nil = the_word gap word.NIL (codes "nil") ∷ []
   form_lexemes n behind gap (form.Bound upper e) = bound_word gap upper ∷ in_brackets nothing (clause_lexemes n other nothing e)
@@ -336,11 +322,6 @@ abbrev pub layout : Phrase → List Lexeme
 layout (at (form.Sequence items) line) = program_lexemes items
 layout (at f line) = form_lexemes 0 other nothing f
 
--- the last line of a text ends with a newline
-abbrev pub with_newline : List ℕ → List ℕ
-with_newline [] = []
-with_newline (byte ∷ bytes) = byte ∷ (bytes ++ 10 ∷ [])
-
 -- the text that a tree is printed as
 abbrev pub printed : Phrase → List ℕ
-printed tree = with_newline (text_of (layout tree))
+printed tree = printed_as (layout tree)

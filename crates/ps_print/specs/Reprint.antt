@@ -6,7 +6,7 @@ use Rattle.ps_parse.specs.Phrase.{Phrase}
 use Rattle.ps_parse.specs.Program.{IsProgram}
 use Rattle.ps_parse.specs.Symbols.{symbols}
 use Rattle.ps_print.specs.Layout.{printed}
-use Rattle.ps_print.specs.Lines.{bare}
+use Rattle.ps_print.specs.Bare.{bare}
 
 -- the text is that of a program with a tree that is this one but for lines, with at most so many
 -- clauses and types inside one another

@@ -1,2 +1,4 @@
-//! The printer: a text that is read as a tree again.
+//! What prints a program: the lexemes of a text, and that they are scanned as they were meant.
 #![tactic(auto)]
+
+pub mod laws;
