@@ -4,11 +4,15 @@ pub mod Canonical
 pub mod Climb
 pub mod Examples
 pub mod Fronts
+pub mod Given
 pub mod Glued
 pub mod Heads
 pub mod Layouts
+pub mod Leaves
+pub mod Making
 pub mod Marks
 pub mod Parts
+pub mod Pieced
 pub mod Pieces
 pub mod Read
 pub mod Rereading
@@ -16,4 +20,4 @@ pub mod Spelt
 pub mod Standing
 pub mod Texts
 pub mod TypesRead
-pub mod Pieced
+pub mod Weakening
