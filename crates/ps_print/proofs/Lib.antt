@@ -14,6 +14,7 @@ pub mod Marks
 pub mod Parts
 pub mod Pieced
 pub mod Pieces
+pub mod Printable
 pub mod Read
 pub mod Rereading
 pub mod Spelt

@@ -73,18 +73,18 @@ good_nothing = record { printable = printable_none; lines = refl }
 pub follows_nothing : Follows []
 follows_nothing = record { free = λ l ends is. refl; over = λ l ends. refl }
 
-good_cons : (l : Lexeme) (ls : List Lexeme) → IsSpelled l.what l.spelling → first_passes (may_follow l) ls ≡ true → first_passes (goes_on l) ls ≡ true → Good ls → Good (l ∷ ls)
+pub good_cons : (l : Lexeme) (ls : List Lexeme) → IsSpelled l.what l.spelling → first_passes (may_follow l) ls ≡ true → first_passes (goes_on l) ls ≡ true → Good ls → Good (l ∷ ls)
 good_cons l ls is free over rest = record { printable = printable_cons l ls is free rest.printable; lines = neighbours_cons goes_on l ls over rest.lines }
 
 under_newline : (first second : TokenKind) → can_end first ≡ false → not (can_end first && not (can_continue second)) ≡ true
 under_newline first second is = ap (λ (b : Bool). not (b && not (can_continue second))) is
 
-admitted_free : {width : Width} {gap : Gap} (l : Lexeme) (ls : List Lexeme) → Admits l width gap → Begins width gap ls → first_passes (may_follow l) ls ≡ true
+pub admitted_free : {width : Width} {gap : Gap} (l : Lexeme) (ls : List Lexeme) → Admits l width gap → Begins width gap ls → first_passes (may_follow l) ls ≡ true
 admitted_free l ls next (apart {l = second} is) = ap (λ (g : Gap). may_follow_glued g l.what second.spelling) is
 admitted_free l ls (under no_end) (below {l = second} is) = ap (λ (g : Gap). may_follow_glued g l.what second.spelling) is
 admitted_free l ls (close admits) (glued {l = second} is spelled starts) = ap (λ (g : Gap). may_follow_glued g l.what second.spelling) is ∙ admits second.what second.spelling spelled starts
 
-admitted_over : {width : Width} {gap : Gap} (l : Lexeme) (ls : List Lexeme) → Admits l width gap → Begins width gap ls → first_passes (goes_on l) ls ≡ true
+pub admitted_over : {width : Width} {gap : Gap} (l : Lexeme) (ls : List Lexeme) → Admits l width gap → Begins width gap ls → first_passes (goes_on l) ls ≡ true
 admitted_over l ls next (apart {l = second} is) = ap (λ (g : Gap). goes_on_over g l.what second.what) is
 admitted_over l ls (under no_end) (below {l = second} is) = ap (λ (g : Gap). goes_on_over g l.what second.what) is ∙ under_newline l.what second.what no_end
 admitted_over l ls (close admits) (glued {l = second} is spelled starts) = ap (λ (g : Gap). goes_on_over g l.what second.what) is
@@ -110,7 +110,7 @@ pub record Glues (l : Lexeme) : Type 0 where
   pub free : (what : TokenKind) (spelling : List ℕ) → Ends what → first_passes (ends_before what) l.spelling ≡ true
   pub spelled : IsSpelled l.what l.spelling
 
-glued_follows : (l : Lexeme) (ls : List Lexeme) → Glues l → Follows (l ∷ ls)
+pub glued_follows : (l : Lexeme) (ls : List Lexeme) → Glues l → Follows (l ∷ ls)
 glued_follows l ls glues = record { free = λ x ends is. ap (λ (g : Gap). may_follow_glued g x.what l.spelling) glues.gap ∙ glues.free x.what x.spelling ends; over = λ x ends. ap (λ (g : Gap). goes_on_over g x.what l.what) glues.gap }
 
 blank_follows : (l : Lexeme) (ls : List Lexeme) → l.gap ≡ blank → Follows (l ∷ ls)
@@ -238,3 +238,16 @@ begins_wider (below is) = below is
 
 pub piece_wider : {gap : Gap} {ls : List Lexeme} → Piece narrow gap ls → Piece any gap ls
 piece_wider piece = record { good = piece.good; begins = λ tail. begins_wider (piece.begins tail) }
+
+pub piece_as : {width : Width} {gap : Gap} {ls other : List Lexeme} → ls ≡ other → Piece width gap ls → Piece width gap other
+piece_as {width} {gap} same = subst (λ (ls : List Lexeme). Piece width gap ls) same
+
+pub rest_as : {ls other : List Lexeme} → ls ≡ other → Rest ls → Rest other
+rest_as same = subst (λ (ls : List Lexeme). Rest ls) same
+
+-- behind a gap anything may begin a part
+pub piece_apart : {inner : Width} {after : Gap} {ls : List Lexeme} (l : Lexeme) → IsSpelled l.what l.spelling → l.gap ≡ blank → Admits l inner after → Piece inner after ls → Piece any blank (l ∷ ls)
+piece_apart {ls = ls} l spelled is admits piece = record { good = λ tail good follows. good_cons l (ls ++ tail) spelled (admitted_free l (ls ++ tail) admits (piece.begins tail)) (admitted_over l (ls ++ tail) admits (piece.begins tail)) (piece.good tail good follows); begins = λ tail. apart is }
+
+pub piece_below : {n : ℕ} {ls : List Lexeme} (l : Lexeme) → IsSpelled l.what l.spelling → Ends l.what → l.gap ≡ newline n → Rest ls → Piece any (newline n) (l ∷ ls)
+piece_below {ls = ls} l spelled ends is rest = record { good = λ tail good follows. let f = rest.follows tail follows in good_cons l (ls ++ tail) spelled (f.free l ends spelled) (f.over l ends) (rest.good tail good follows); begins = λ tail. below is }
