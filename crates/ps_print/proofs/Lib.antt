@@ -15,6 +15,7 @@ pub mod Parts
 pub mod Pieced
 pub mod Pieces
 pub mod Printable
+pub mod PrintedBack
 pub mod Read
 pub mod Rereading
 pub mod Spelt

@@ -666,7 +666,7 @@ module _ {text : List ℕ} {symbols : List Symbol} where
         let r = items_read others first closed' line (and_item before i.again) n c.0 to c.2 front in
         record { all = r.all; lead = λ made end deeper. goes (ap (λ (k : Kind). Some (grammar.more_written line before k)) h.kind) (takes h.here h.is (joins i.read (r.lead made end deeper))); same = r.same ∙ append_item before i.again (bare_items rest) ∙ ap (λ (x : WriteItem). append_items (bare_items before) (more_items x (bare_items rest))) i.same }
 
-    sequence_item : {room : ℕ} {p : Phrase} → IsItem room p → (n : ℕ) (gap : Gap) (from to : ℕ) → Stands text symbols from (clause_lexemes n other gap p) to → kind_at symbols to ≡ kind.Semicolon → ItemRead text symbols room from p to
+    pub sequence_item : {room : ℕ} {p : Phrase} → IsItem room p → (n : ℕ) (gap : Gap) (from to : ℕ) → Stands text symbols from (clause_lexemes n other gap p) to → kind_at symbols to ≡ kind.Semicolon → ItemRead text symbols room from p to
     sequence_item (is.a_clause c) n gap from to st close =
         let c' = clause_reads c n gap from to st (of_other (ap closes close)) in
         let starts = starts_clause c'.read in

@@ -4,9 +4,11 @@ ghost use Rattle.std.specs.Prelude.{◌≡◌, ℕ, ◌≤◌, true, not, IsTrue
 ghost use Rattle.std.specs.List.{list_all};
 ghost use Rattle.ps_scan.specs.declared.token.Token.{Token};
 ghost use Rattle.ps_scan.specs.Tokens.{HasTokens, IsSpelled, slice_of};
+ghost use Rattle.ps_parse.specs.Phrase.{Phrase};
 ghost use Rattle.ps_parse.specs.Symbols.{symbol, symbols};
 ghost use Rattle.ps_print.specs.Lexemes.{Lexeme, IsPrintable, printed, tokens_of, token_behind, AreSpelledBy, is_mark, first_passes, last_passes, may_follow, neighbours_pass};
 ghost use Rattle.ps_print.specs.Lines.{goes_on, one_for_one};
+ghost use Rattle.ps_print.specs.Reprint.{PrintsBack};
 ghost use Rattle.ps_print.specs.Spellings.{SpellsInt, int_text, SpellsString, string_text, can_be_spelled};
 
 /// Lexemes that are spelled as they should be, none glued to one that it would change, print a text
@@ -53,4 +55,10 @@ pub fn digits_spell_int()
 /// Each string of at most 65,535 newlines, tabs and bytes from 32 to 126 is spelled with escapes.
 pub fn escapes_spell_string()
     ensures { (bytes : List ℕ) → list_all can_be_spelled bytes ≡ true → length bytes ≤ 65535 → SpellsString bytes (string_text bytes) }
+{}
+
+/// Whatever text has a tree, what the tree is printed as is read as that tree but for lines, and in
+/// it no clause and no type stands deeper inside others.
+pub fn prints_are_read_back()
+    ensures { (tree : Phrase) → PrintsBack tree }
 {}
