@@ -9,31 +9,31 @@ use Rattle.ps_scan.specs.Tokens.{newlines}
 use Rattle.ps_scan.proofs.Lines.{take_behind, no_newline_more, no_newline_first}
 
 -- what the first byte of a string makes of the rest
-quoted_plain : (byte : ℕ) (rest : List ℕ) → inner_of byte ≡ Plain → quoted (byte ∷ rest) ≡ spells byte 1 (quoted rest)
+pub quoted_plain : (byte : ℕ) (rest : List ℕ) → inner_of byte ≡ Plain → quoted (byte ∷ rest) ≡ spells byte 1 (quoted rest)
 unfolding quoted
 quoted_plain byte rest kind = rw (kind, quoted)
 
-quoted_apostrophe : (byte : ℕ) (rest : List ℕ) → inner_of byte ≡ Apostrophe → quoted (byte ∷ rest) ≡ behind_apostrophe rest
+pub quoted_apostrophe : (byte : ℕ) (rest : List ℕ) → inner_of byte ≡ Apostrophe → quoted (byte ∷ rest) ≡ behind_apostrophe rest
 unfolding quoted
 quoted_apostrophe byte rest kind = rw (kind, quoted)
 
-quoted_quote : (byte : ℕ) (rest : List ℕ) → inner_of byte ≡ Inner.Quote → quoted (byte ∷ rest) ≡ Closes [] 1
+pub quoted_quote : (byte : ℕ) (rest : List ℕ) → inner_of byte ≡ Inner.Quote → quoted (byte ∷ rest) ≡ Closes [] 1
 unfolding quoted
 quoted_quote byte rest kind = rw (kind, quoted)
 
-quoted_newline : (byte : ℕ) (rest : List ℕ) → inner_of byte ≡ Inner.Newline → quoted (byte ∷ rest) ≡ StaysOpen
+pub quoted_newline : (byte : ℕ) (rest : List ℕ) → inner_of byte ≡ Inner.Newline → quoted (byte ∷ rest) ≡ StaysOpen
 unfolding quoted
 quoted_newline byte rest kind = rw (kind, quoted)
 
-quoted_other : (byte : ℕ) (rest : List ℕ) → inner_of byte ≡ Inner.Other → quoted (byte ∷ rest) ≡ HasBadByte byte
+pub quoted_other : (byte : ℕ) (rest : List ℕ) → inner_of byte ≡ Inner.Other → quoted (byte ∷ rest) ≡ HasBadByte byte
 unfolding quoted
 quoted_other byte rest kind = rw (kind, quoted)
 
-escape_some : (byte spelled : ℕ) (rest : List ℕ) → escaped byte ≡ Some spelled → behind_apostrophe (byte ∷ rest) ≡ spells spelled 2 (quoted rest)
+pub escape_some : (byte spelled : ℕ) (rest : List ℕ) → escaped byte ≡ Some spelled → behind_apostrophe (byte ∷ rest) ≡ spells spelled 2 (quoted rest)
 unfolding behind_apostrophe
 escape_some byte spelled rest kind = rw (kind, behind_apostrophe)
 
-escape_none : (byte : ℕ) (rest : List ℕ) → escaped byte ≡ None → behind_apostrophe (byte ∷ rest) ≡ HasBadEscape byte
+pub escape_none : (byte : ℕ) (rest : List ℕ) → escaped byte ≡ None → behind_apostrophe (byte ∷ rest) ≡ HasBadEscape byte
 unfolding behind_apostrophe
 escape_none byte rest kind = rw (kind, behind_apostrophe)
 

@@ -4,7 +4,8 @@ use Rattle.std.specs.List.{range_with_len}
 use Rattle.ps_scan.specs.declared.fault.ScanFault.TheVariants.{BadByte, OpenString, IntTooLarge, BadEscape, NameTooLong, StringTooLong}
 use Rattle.ps_scan.specs.declared.token.TokenKind.TheVariants.{Name, Int, Text, Word, Mark}
 use Rattle.ps_scan.specs.Class.{class_of, is_name_byte, inner_of, escaped}
-use Rattle.ps_scan.specs.Piece.{word_place, single_mark, double_mark, bytes_of, spells, quoted, behind_apostrophe, word_or_name, int, string, mark, piece_of, first_piece}
+use Rattle.ps_scan.specs.Names.{word_place, mark_place}
+use Rattle.ps_scan.specs.Piece.{bytes_of, spells, quoted, behind_apostrophe, word_or_name, int, string, mark, piece_of, first_piece}
 use Rattle.ps_scan.specs.Tokens.{line_of, token_at, Scans, Stops, HasTokens, HasFault, int_value, spelled}
 
 -- `write 1 + 2, "'n" ?`
@@ -36,14 +37,20 @@ second_line_value : int_value (codes "12ab" ++ (10 ∷ codes "42")) (token_at In
 second_line_value = refl
 
 -- a byte that begins no token, on the second line
-bad_byte : HasFault (10 ∷ codes "1 !") (BadByte (line_of 2) 33)
+bad_byte : HasFault (10 ∷ codes "1 $") (BadByte (line_of 2) 36)
 unfolding class_of is_name_byte inner_of escaped spells quoted behind_apostrophe word_or_name int string mark piece_of first_piece
 bad_byte = Stops.past_newline refl (Stops.past_token refl (Stops.past_blank refl (Stops.at_fault refl)))
 
--- a colon without `=` behind it
-bad_colon : HasFault (codes ":") (BadByte (line_of 1) 58)
+-- the longest mark is taken, three times
+colons : HasTokens (codes ":::=") (token_at (Mark 9) 1 0 2 ∷ token_at (Mark 10) 1 2 2 ∷ [])
 unfolding class_of is_name_byte inner_of escaped spells quoted behind_apostrophe word_or_name int string mark piece_of first_piece
-bad_colon = Stops.at_fault refl
+colons = Scans.past_token refl (Scans.past_token refl (Scans.at_end refl))
+
+-- a comment goes up to the next newline, whatever bytes it has; two that end a text
+comments : HasTokens (codes "1!" ++ (200 ∷ 0 ∷ 34 ∷ 10 ∷ codes "2 !!")) (token_at Int 1 0 1 ∷ token_at Int 2 6 1 ∷ [])
+unfolding class_of is_name_byte inner_of escaped spells quoted behind_apostrophe word_or_name int string mark piece_of first_piece
+comments =
+    Scans.past_token refl (Scans.past_comment refl (Scans.past_newline refl (Scans.past_token refl (Scans.past_blank refl (Scans.past_comment refl (Scans.at_end refl))))))
 
 -- a string that a newline cuts off
 open_string : HasFault (34 ∷ (codes "ab" ++ 10 ∷ [])) (OpenString (line_of 1))
@@ -84,16 +91,15 @@ string_too_long : HasFault (34 ∷ (replicate 65536 97 ++ 34 ∷ [])) (StringToo
 unfolding class_of is_name_byte inner_of escaped spells quoted behind_apostrophe word_or_name int string mark piece_of first_piece
 string_too_long = Stops.at_fault refl
 
--- the places of the reserved words, from 0
-word_places : map word_place (codes "abort" ∷ codes "and" ∷ codes "begin" ∷ codes "bool" ∷ codes "by" ∷ codes "case" ∷ codes "default" ∷ codes "div" ∷ codes "do" ∷ codes "else" ∷ codes "end" ∷ codes "false" ∷ codes "for" ∷ codes "if" ∷ codes "int" ∷ codes "is" ∷ codes "isnt" ∷ codes "let" ∷ codes "lwb" ∷ codes "nil" ∷ codes "of" ∷ codes "or" ∷ codes "pntr" ∷ codes "proc" ∷ codes "procedure" ∷ codes "rem" ∷ codes "repeat" ∷ codes "string" ∷ codes "structure" ∷ codes "then" ∷ codes "to" ∷ codes "true" ∷ codes "upb" ∷ codes "vector" ∷ codes "while" ∷ codes "write" ∷ []) ≡ map Some (range_with_len 0 36)
-word_places = refl
+-- the names of the reserved words and the marks, by their places
+word_names : map word_place (codes "abort" ∷ codes "and" ∷ codes "begin" ∷ codes "bool" ∷ codes "by" ∷ codes "case" ∷ codes "default" ∷ codes "div" ∷ codes "do" ∷ codes "else" ∷ codes "end" ∷ codes "false" ∷ codes "for" ∷ codes "if" ∷ codes "int" ∷ codes "is" ∷ codes "isnt" ∷ codes "let" ∷ codes "lwb" ∷ codes "nil" ∷ codes "of" ∷ codes "or" ∷ codes "pntr" ∷ codes "proc" ∷ codes "procedure" ∷ codes "rem" ∷ codes "repeat" ∷ codes "string" ∷ codes "structure" ∷ codes "then" ∷ codes "to" ∷ codes "true" ∷ codes "upb" ∷ codes "vector" ∷ codes "while" ∷ codes "write" ∷ []) ≡ map Some (range_with_len 0 36)
+word_names = refl
 
 no_word : word_place (codes "lets") ≡ None
 no_word = refl
 
--- the places of the marks that are scanned, ( ) , ; = + - * ? and :=
-single_places : map single_mark (codes "(),;=+-*?") ≡ map Some (0 ∷ 1 ∷ 6 ∷ 7 ∷ 11 ∷ 18 ∷ 19 ∷ 21 ∷ 24 ∷ [])
-single_places = refl
+mark_names : map mark_place (codes "(" ∷ codes ")" ∷ codes "[" ∷ codes "]" ∷ codes "{" ∷ codes "}" ∷ codes "," ∷ codes ";" ∷ codes ":" ∷ codes "::" ∷ codes ":=" ∷ codes "=" ∷ codes "~" ∷ codes "~=" ∷ codes "<" ∷ codes "<=" ∷ codes ">" ∷ codes ">=" ∷ codes "+" ∷ codes "-" ∷ codes "++" ∷ codes "*" ∷ codes "->" ∷ codes "@" ∷ codes "?" ∷ codes "|" ∷ []) ≡ map Some (range_with_len 0 26)
+mark_names = refl
 
-double_place : double_mark 58 61 ≡ Some 10
-double_place = refl
+no_mark : mark_place (codes "-+") ≡ None
+no_mark = refl

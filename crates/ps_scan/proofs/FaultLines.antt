@@ -5,19 +5,20 @@ use Rattle.ps_scan.specs.declared.class.Class.{Class}
 use Rattle.ps_scan.specs.declared.class.Class.TheVariants.{Letter, Digit}
 use Rattle.ps_scan.specs.declared.fault.ScanFault.{ScanFault}
 use Rattle.ps_scan.specs.declared.piece.Piece.{Piece}
-use Rattle.ps_scan.specs.declared.piece.Piece.TheVariants.{End, Blank, Newline, Fault}
+use Rattle.ps_scan.specs.declared.piece.Piece.TheVariants.{End, Blank, Newline, Comment, Fault}
 use Rattle.ps_scan.specs.Class.{class_of, decimal}
 use Rattle.ps_scan.specs.Fault.{line_of_fault}
 use Rattle.ps_scan.specs.Piece.{Quoted, Closes, StaysOpen, HasBadByte, HasBadEscape, word_or_name, int, string, mark, piece_of, first_piece}
 use Rattle.ps_scan.specs.Tokens.{line_of, piece_at, Stops, HasFault, line_number, StandsAt}
 use Rattle.ps_scan.proofs.Lines.{line_number-start}
-use Rattle.ps_scan.proofs.Scanning.{begins_within, line_behind_blank, line_behind_newline, line_behind_token}
+use Rattle.ps_scan.proofs.Scanning.{begins_within, line_behind_blank, line_behind_newline, line_behind_comment, line_behind_token}
 
 -- a piece that is a fault has this line
 HasLine : Line → Piece → Type 0
 HasLine line End = Unit {0}
 HasLine line Blank = Unit {0}
 HasLine line Newline = Unit {0}
+HasLine line (Comment n) = Unit {0}
 HasLine line (Piece.Token what n) = Unit {0}
 HasLine line (Fault fault) = line_of_fault fault ≡ Some line
 
@@ -51,6 +52,7 @@ class_line : (line : Line) (class : Class) (byte : ℕ) (rest : List ℕ) → Ha
 unfolding HasLine piece_of
 class_line line Class.Blank byte rest = tt
 class_line line Class.Newline byte rest = tt
+class_line line Class.Comment byte rest = tt
 class_line line Letter byte rest = word_line line _ _
 class_line line Digit byte rest = int_line line _
 class_line line Class.Quote byte rest = string_line line _
@@ -74,6 +76,7 @@ stands_from {text} (Stops.at_fault {at = at} {fault = fault} here) on_line =
     (at, stands_here text at fault (subst (λ l. piece_at text at l ≡ Fault fault) on_line here))
 stands_from {text} (Stops.past_blank {at = at} {line = line} here more) on_line = stands_from more (line_behind_blank text at line here on_line)
 stands_from {text} (Stops.past_newline {at = at} {line = line} here more) on_line = stands_from more (line_behind_newline text at line here on_line)
+stands_from {text} (Stops.past_comment {at = at} {line = line} {length = length} here more) on_line = stands_from more (line_behind_comment text at line length here on_line)
 stands_from {text} (Stops.past_token {at = at} {line = line} {length = length} {what = what} here more) on_line =
     stands_from more (line_behind_token text at line what length here on_line)
 

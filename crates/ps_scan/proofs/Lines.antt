@@ -1,5 +1,5 @@
 -- How the newlines of a text are counted.
-use Rattle.std.proofs.Common.{◌≡◌, ℕ, suc, ◌+◌, ◌==◌, Bool, true, false, cond, List, [], ◌∷◌, ◌++◌, take, drop, ap, ◌∙◌, refl, arith, zero-add}
+use Rattle.std.proofs.Common.{◌≡◌, ℕ, suc, ◌+◌, ◌==◌, Bool, true, false, not, cond, List, [], ◌∷◌, ◌++◌, take, drop, ap, sym, ◌∙◌, refl, arith, zero-add}
 use Rattle.std.specs.List.{AllPass}
 use Rattle.std.specs.Char.{is_ascii_digit}
 use Rattle.std.proofs.Math.Seq.{take-add}
@@ -53,6 +53,16 @@ name_byte_other byte passes = grind (arith, nat_tests)
 
 digit_other : (byte : ℕ) → is_ascii_digit byte ≡ true → (byte == 10) ≡ false
 digit_other byte passes = grind (arith, nat_tests)
+
+not_true : (test : Bool) → not test ≡ true → test ≡ false
+not_true true passes = sym passes
+not_true false passes = refl
+
+not_newline : (byte : ℕ) → not (byte == 10) ≡ true → (byte == 10) ≡ false
+not_newline byte passes = not_true (byte == 10) passes
+
+pub no_newline_in_comment : (run : List ℕ) → AllPass (λ byte. not (byte == 10)) run → newlines run ≡ 0
+no_newline_in_comment run = no_newline_passing (λ byte. not (byte == 10)) not_newline run
 
 pub no_newline_in_name : (run : List ℕ) → AllPass is_name_byte run → newlines run ≡ 0
 no_newline_in_name run = no_newline_passing is_name_byte name_byte_other run

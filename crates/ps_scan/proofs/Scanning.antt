@@ -4,13 +4,13 @@ use Rattle.std.specs.List.{All}
 use Rattle.std.proofs.lemmas.List.Elements.{All-nil, All-cons}
 use Rattle.ps_scan.specs.declared.fault.ScanFault.{ScanFault}
 use Rattle.ps_scan.specs.declared.piece.Piece.{Piece}
-use Rattle.ps_scan.specs.declared.piece.Piece.TheVariants.{End, Blank, Newline, Fault}
+use Rattle.ps_scan.specs.declared.piece.Piece.TheVariants.{End, Blank, Newline, Comment, Fault}
 use Rattle.ps_scan.specs.declared.token.Token.{Token}
 use Rattle.ps_scan.specs.declared.token.TokenKind.{TokenKind}
 use Rattle.ps_scan.specs.Piece.{first_piece}
 use Rattle.ps_scan.specs.Tokens.{line_of, token_at, piece_at, Scans, Stops, HasTokens, HasFault, line_number, IsSpelled, IsToken, IsInOrder}
 use Rattle.ps_scan.proofs.Lines.{line_number-add, line_number-start}
-use Rattle.ps_scan.proofs.Spelling.{token_fits, blank_fits, newline_fits}
+use Rattle.ps_scan.proofs.Spelling.{token_fits, blank_fits, newline_fits, comment_fits}
 
 -- a piece that is a token is one within the text
 pub piece_within : (text : List ℕ) (at line : ℕ) (what : TokenKind) (n : ℕ) → piece_at text at line ≡ Piece.Token what n → (1 ≤ n) × (at + n ≤ length text)
@@ -39,6 +39,10 @@ pub line_behind_newline : (text : List ℕ) (at line : ℕ) → piece_at text at
 line_behind_newline text at line here on_line =
     omega (arith, on_line, line_number-add text at 1, newline_fits (line_of line) (drop at text) here)
 
+pub line_behind_comment : (text : List ℕ) (at line n : ℕ) → piece_at text at line ≡ Comment n → line ≡ line_number text at → line ≡ line_number text (at + n)
+line_behind_comment text at line n here on_line =
+    omega (arith, on_line, line_number-add text at n, (comment_fits (line_of line) (drop at text) n here).one_line)
+
 pub line_behind_token : (text : List ℕ) (at line : ℕ) (what : TokenKind) (n : ℕ) → piece_at text at line ≡ Piece.Token what n → line ≡ line_number text at → line ≡ line_number text (at + n)
 line_behind_token text at line what n here on_line =
     let fits = token_fits (line_of line) (drop at text) what n here in
@@ -60,11 +64,17 @@ blank_within text at line here = begins_within text at line (λ end. cc)
 pub newline_within : (text : List ℕ) (at line : ℕ) → piece_at text at line ≡ Newline → at < length text
 newline_within text at line here = begins_within text at line (λ end. cc)
 
+pub comment_within : (text : List ℕ) (at line n : ℕ) → piece_at text at line ≡ Comment n → (1 ≤ n) × (at + n ≤ length text)
+comment_within text at line n here =
+    let fits = comment_fits (line_of line) (drop at text) n here in
+    (fits.nonempty, omega (arith, fits.nonempty, fits.within, length-drop at text))
+
 -- each token of a text is one, and each begins where the one before has ended
 tokens_from : {text : List ℕ} {at line : ℕ} {tokens : List Token} → Scans text at line tokens → line ≡ line_number text at → All (IsToken text) tokens
 tokens_from {text} (Scans.at_end here) on_line = All-nil (IsToken text)
 tokens_from {text} (Scans.past_blank {at = at} {line = line} here more) on_line = tokens_from more (line_behind_blank text at line here on_line)
 tokens_from {text} (Scans.past_newline {at = at} {line = line} here more) on_line = tokens_from more (line_behind_newline text at line here on_line)
+tokens_from {text} (Scans.past_comment {at = at} {line = line} {length = length} here more) on_line = tokens_from more (line_behind_comment text at line length here on_line)
 tokens_from {text} (Scans.past_token {at = at} {line = line} {length = length} {what = what} {tokens = tokens} here more) on_line =
     All-cons (IsToken text) (token_at what line at length) tokens (is_token text at line what length here on_line) (tokens_from more (line_behind_token text at line what length here on_line))
 
@@ -79,6 +89,7 @@ pub all_in_order : {text : List ℕ} {at line : ℕ} {tokens : List Token} → S
 all_in_order (Scans.at_end here) = tt
 all_in_order (Scans.past_blank {at = at} {tokens = tokens} here more) = earlier tokens (at + 1) at (omega arith) (all_in_order more)
 all_in_order (Scans.past_newline {at = at} {tokens = tokens} here more) = earlier tokens (at + 1) at (omega arith) (all_in_order more)
+all_in_order (Scans.past_comment {at = at} {length = length} {tokens = tokens} here more) = earlier tokens (at + length) at (omega arith) (all_in_order more)
 all_in_order (Scans.past_token here more) = (omega arith, all_in_order more)
 
 -- up to this place, which is on this line, these are the tokens: as the text goes on from here it
@@ -101,6 +112,12 @@ module _ (text : List ℕ) (at line : ℕ) (tokens : List Token) (before : Scann
   newline_scanned here = record {
     scans = λ more scans. before.scans more (Scans.past_newline here scans);
     stops = λ fault stops. before.stops fault (Stops.past_newline here stops);
+  }
+
+  pub comment_scanned : (n : ℕ) → piece_at text at line ≡ Comment n → ScannedTo text (at + n) line tokens
+  comment_scanned n here = record {
+    scans = λ more scans. before.scans more (Scans.past_comment here scans);
+    stops = λ fault stops. before.stops fault (Stops.past_comment here stops);
   }
 
   pub token_scanned : (what : TokenKind) (n : ℕ) → piece_at text at line ≡ Piece.Token what n → ScannedTo text (at + n) line (tokens ++ token_at what line at n ∷ [])

@@ -1,5 +1,5 @@
 -- Each piece that is a token is spelled as one.
-use Rattle.std.proofs.Common.{◌≡◌, ℕ, suc, ◌+◌, ◌==◌, ◌-◌, ◌≤◌, ◌<◌, Bool, true, false, IsTrue, cond, List, [], ◌∷◌, length, take, Option, Some, None, sym, ◌∙◌, ap, refl, arith, subst, nat_le, length-take-le, get_or, get_or-take, slice_index}
+use Rattle.std.proofs.Common.{◌≡◌, ℕ, suc, ◌+◌, ◌==◌, not, ◌-◌, ◌≤◌, ◌<◌, Bool, true, false, IsTrue, cond, List, [], ◌∷◌, length, take, Option, Some, None, sym, ◌∙◌, ap, refl, arith, subst, nat_le, length-take-le, get_or, get_or-take, slice_index}
 use Rattle.std.specs.List.{take_while, prefix_len, AllPass}
 use Rattle.std.specs.Char.{is_ascii_digit, is_ascii_alphabetic}
 use Rattle.std.proofs.lemmas.Bool.{leb-true}
@@ -13,10 +13,12 @@ use Rattle.ps_scan.specs.declared.piece.Piece.{Piece}
 use Rattle.ps_scan.specs.declared.piece.Piece.TheVariants.{End, Fault}
 use Rattle.ps_scan.specs.declared.token.TokenKind.{TokenKind}
 use Rattle.ps_scan.specs.Class.{class_of, is_name_byte, decimal}
-use Rattle.ps_scan.specs.Piece.{Quoted, Closes, StaysOpen, HasBadByte, HasBadEscape, quoted, bytes_of, word_place, word_or_name, int, string, double_mark, double_mark_here, single_mark, mark, piece_of, first_piece}
+use Rattle.ps_scan.specs.Names.{word_place}
+use Rattle.ps_scan.specs.Piece.{Quoted, Closes, StaysOpen, HasBadByte, HasBadEscape, quoted, bytes_of, comment, word_or_name, int, string, double_mark_here, single_mark, mark, piece_of, first_piece}
 use Rattle.ps_scan.specs.Tokens.{newlines, IsName, IsInt, IsString, IsSpelled}
+use Rattle.ps_scan.proofs.Named.{second_other}
 use Rattle.ps_scan.proofs.Runs.{run_passes}
-use Rattle.ps_scan.proofs.Lines.{take_behind, no_newline_more, no_newline_first, newline_first, no_newline_in_name, no_newline_in_digits}
+use Rattle.ps_scan.proofs.Lines.{take_behind, no_newline_more, no_newline_first, newline_first, no_newline_in_name, no_newline_in_digits, no_newline_in_comment}
 use Rattle.ps_scan.proofs.Closing.{closes_within}
 
 -- so many bytes at the front of the rest are spelled as a token of this kind
@@ -26,11 +28,18 @@ pub record Fits (what : TokenKind) (rest : List ℕ) (n : ℕ) : Type 0 where
   pub one_line : newlines (take n rest) ≡ 0
   pub spelling : IsSpelled what (take n rest)
 
+-- so many bytes at the front of the rest, at least one and on one line
+pub record IsOnLine (rest : List ℕ) (n : ℕ) : Type 0 where
+  pub nonempty : 1 ≤ n
+  pub within : n ≤ length rest
+  pub one_line : newlines (take n rest) ≡ 0
+
 -- a piece is spelled as a token if it is one; a newline is one byte, and nothing else has one
 FitsPiece : List ℕ → Piece → Type 0
 FitsPiece rest End = Unit {0}
 FitsPiece rest Piece.Blank = newlines (take 1 rest) ≡ 0
 FitsPiece rest Piece.Newline = newlines (take 1 rest) ≡ 1
+FitsPiece rest (Piece.Comment n) = IsOnLine rest n
 FitsPiece rest (Piece.Token what n) = Fits what rest n
 FitsPiece rest (Fault fault) = Unit {0}
 
@@ -80,13 +89,13 @@ newline_is : (byte : ℕ) → class_of byte ≡ Class.Newline → (byte == 10) �
 unfolding class_of
 newline_is byte kind = grind (arith, nat_tests)
 
+comment_goes_on : (byte : ℕ) → class_of byte ≡ Class.Comment → not (byte == 10) ≡ true
+unfolding class_of
+comment_goes_on byte kind = grind (arith, nat_tests)
+
 other_other : (byte : ℕ) → class_of byte ≡ Class.Other → (byte == 10) ≡ false
 unfolding class_of
 other_other byte kind = grind (arith, nat_tests)
-
--- no mark ends with a newline
-double_other : (first second place : ℕ) → double_mark first second ≡ Some place → (second == 10) ≡ false
-double_other first second place is_mark = grind (arith, nat_tests)
 
 -- a choice between two pieces
 choice : (rest : List ℕ) (test : Bool) (yes_ no_ : Piece) → (test ≡ true → FitsPiece rest yes_) → FitsPiece rest no_ → FitsPiece rest (cond test yes_ no_)
@@ -167,7 +176,7 @@ mark_fits line byte [] (Some place) single other two one = absurd (cc)
 mark_fits line byte (second ∷ rest) (Some place) single other two one = record {
   nonempty = omega arith;
   within = omega arith;
-  one_line = no_newline_more byte 1 (second ∷ rest) other (no_newline_first second rest (double_other byte second place two));
+  one_line = no_newline_more byte 1 (second ∷ rest) other (no_newline_first second rest (second_other byte second place two));
   spelling = two;
 }
 mark_fits line byte rest None (Some place) other two one = record {
@@ -178,10 +187,18 @@ mark_fits line byte rest None (Some place) other two one = record {
 }
 mark_fits line byte rest None None other two one = tt
 
+comment_run : (byte : ℕ) (rest : List ℕ) → IsRun (λ b. not (b == 10)) (byte ∷ rest) (comment (byte ∷ rest)) → IsOnLine (byte ∷ rest) (length (comment (byte ∷ rest)))
+comment_run byte rest is_run = record {
+  nonempty = is_run.nonempty;
+  within = is_run.within;
+  one_line = ap newlines is_run.front ∙ no_newline_in_comment _ is_run.passes;
+}
+
 class_fits : (line : Line) (class : Class) (byte : ℕ) (rest : List ℕ) → class_of byte ≡ class → FitsPiece (byte ∷ rest) (piece_of class line byte rest)
 unfolding FitsPiece piece_of
 class_fits line Class.Blank byte rest kind = no_newline_first byte rest (blank_other byte kind)
 class_fits line Class.Newline byte rest kind = newline_first byte rest (newline_is byte kind)
+class_fits line Class.Comment byte rest kind = comment_run byte rest (run_front (λ b. not (b == 10)) byte rest (comment_goes_on byte kind))
 class_fits line Letter byte rest kind =
     word_fits line byte rest _ _ (run_front is_name_byte byte rest (letter_goes_on byte kind)) (letter_passes byte kind) refl
 class_fits line Digit byte rest kind = int_fits line byte rest _ (run_front is_ascii_digit byte rest (digit_passes byte kind))
@@ -200,6 +217,10 @@ blank_fits line rest here = subst (FitsPiece rest) here (piece_fits line rest)
 pub newline_fits : (line : Line) (rest : List ℕ) → first_piece line rest ≡ Piece.Newline → newlines (take 1 rest) ≡ 1
 unfolding FitsPiece
 newline_fits line rest here = subst (FitsPiece rest) here (piece_fits line rest)
+
+pub comment_fits : (line : Line) (rest : List ℕ) (n : ℕ) → first_piece line rest ≡ Piece.Comment n → IsOnLine rest n
+unfolding FitsPiece
+comment_fits line rest n here = subst (FitsPiece rest) here (piece_fits line rest)
 
 -- a piece that is a token is spelled as one
 pub token_fits : (line : Line) (rest : List ℕ) (what : TokenKind) (n : ℕ) → first_piece line rest ≡ Piece.Token what n → Fits what rest n

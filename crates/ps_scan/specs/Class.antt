@@ -2,19 +2,20 @@
 use Rattle.std.specs.Prelude.{ℕ, ◌+◌, ◌-◌, ◌*◌, ◌==◌, Bool, ◌||◌, List, Option, Some, None, fold, nat_le, ◌&&◌, if◌then◌else◌}
 use Rattle.std.specs.Char.{is_ascii_alphabetic, is_ascii_alphanumeric, is_ascii_digit}
 use Rattle.ps_scan.specs.declared.class.Class.{Class}
-use Rattle.ps_scan.specs.declared.class.Class.TheVariants.{Blank, Letter, Digit}
+use Rattle.ps_scan.specs.declared.class.Class.TheVariants.{Blank, Comment, Letter, Digit}
 use Rattle.ps_scan.specs.declared.class.Inner.{Inner}
 use Rattle.ps_scan.specs.declared.class.Inner.TheVariants.{Plain, Apostrophe}
 
--- a newline is 10; the other blanks are space, tab and carriage return; a quote is 34
+-- a newline is 10; the other blanks are space, tab and carriage return; `!` is 33, a quote is 34
 unfoldable pub class_of : ℕ → Class
 class_of byte =
     if byte == 10 then Class.Newline
     else (if byte == 32 || byte == 9 || byte == 13 then Blank
+    else (if byte == 33 then Comment
     else (if is_ascii_alphabetic byte then Letter
     else (if is_ascii_digit byte then Digit
     else (if byte == 34 then Class.Quote
-    else Class.Other))))
+    else Class.Other)))))
 
 -- a letter, a digit or a dot
 unfoldable pub is_name_byte : ℕ → Bool

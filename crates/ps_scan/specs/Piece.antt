@@ -1,20 +1,19 @@
--- What the rest of a text begins with: blanks, a token or a fault. The longest token is taken.
-use Rattle.std.specs.Prelude.{ℕ, ◌+◌, ◌==◌, ◌&&◌, nat_le, List, [], ◌∷◌, length, Option, Some, None, option_map, find, if◌then◌else◌}
-use Rattle.std.specs.List.{position, take_while}
+-- What the rest of a text begins with: a blank, a comment, a token or a fault. The longest token is
+-- taken.
+use Rattle.std.specs.Prelude.{ℕ, ◌+◌, ◌==◌, not, nat_le, List, [], ◌∷◌, length, Option, Some, None, if◌then◌else◌}
+use Rattle.std.specs.List.{take_while}
 use Rattle.std.specs.Char.{is_ascii_digit}
-use Rattle.std.specs.Str.{bytes_eq}
 use Rattle.ps_base.specs.declared.line.Line.{Line}
 use Rattle.ps_scan.specs.declared.class.Class.{Class}
 use Rattle.ps_scan.specs.declared.class.Class.TheVariants.{Letter, Digit}
 use Rattle.ps_scan.specs.declared.class.Inner.{Inner}
 use Rattle.ps_scan.specs.declared.class.Inner.TheVariants.{Plain, Apostrophe}
 use Rattle.ps_scan.specs.declared.fault.ScanFault.TheVariants.{BadByte, OpenString, IntTooLarge, BadEscape, NameTooLong, StringTooLong}
-use Rattle.ps_scan.specs.declared.mark.TheConstants.{DOUBLES, SINGLES}
 use Rattle.ps_scan.specs.declared.piece.Piece.{Piece}
 use Rattle.ps_scan.specs.declared.piece.Piece.TheVariants.{End, Fault}
 use Rattle.ps_scan.specs.declared.token.TokenKind.TheVariants.{Name, Int, Text, Word, Mark}
-use Rattle.ps_scan.specs.declared.word.TheConstants.{SPELLINGS}
 use Rattle.ps_scan.specs.Class.{class_of, is_name_byte, inner_of, escaped, decimal}
+use Rattle.ps_scan.specs.Names.{word_place, mark_place}
 
 -- how a string goes on behind its opening quote: it closes, with the bytes that it spells and the
 -- number of bytes up to and with the closing quote; or it stays open; or a byte in it is bad
@@ -60,11 +59,11 @@ unfoldable mutual
         | None ↦ HasBadEscape byte
       ]
 
--- the place of the reserved word that a run of letters, digits and dots is
-abbrev pub word_place : List ℕ → Option ℕ
-word_place run = position (λ word. bytes_eq word.now run) SPELLINGS
+-- a comment begins with `!` and has all bytes before the next newline
+abbrev pub comment : List ℕ → List ℕ
+comment bytes = take_while (λ byte. not (byte == 10)) bytes
 
--- such a run is the reserved word of this place, or a name of at most 64 bytes
+-- a run of letters, digits and dots is the reserved word of this place, or a name of at most 64 bytes
 unfoldable pub word_or_name : Line → List ℕ → Option ℕ → Piece
 word_or_name line run (Some place) = Piece.Token (Word place) (length run)
 word_or_name line run None =
@@ -83,17 +82,17 @@ string line StaysOpen = Fault (OpenString line)
 string line (HasBadByte byte) = Fault (BadByte line byte)
 string line (HasBadEscape byte) = Fault (BadEscape line byte)
 
--- the place of the mark that two bytes are, of the one that two bytes here are, and of the one that
--- one byte is
+-- the place of the mark that one byte is, of the one that two bytes are, and of the one that two bytes
+-- here are
+abbrev pub single_mark : ℕ → Option ℕ
+single_mark byte = mark_place (byte ∷ [])
+
 abbrev pub double_mark : ℕ → ℕ → Option ℕ
-double_mark first second = option_map (λ row. row.2) (find (λ row. row.0 == first && row.1 == second) DOUBLES)
+double_mark first second = mark_place (first ∷ second ∷ [])
 
 abbrev pub double_mark_here : ℕ → List ℕ → Option ℕ
 double_mark_here first [] = None
 double_mark_here first (second ∷ rest) = double_mark first second
-
-abbrev pub single_mark : ℕ → Option ℕ
-single_mark byte = option_map (λ row. row.1) (find (λ row. row.0 == byte) SINGLES)
 
 -- the mark of two bytes if there is one, else that of one byte; other bytes begin no token
 unfoldable pub mark : Line → ℕ → Option ℕ → Option ℕ → Piece
@@ -105,6 +104,7 @@ mark line byte None None = Fault (BadByte line byte)
 unfoldable pub piece_of : Class → Line → ℕ → List ℕ → Piece
 piece_of Class.Blank line byte rest = Piece.Blank
 piece_of Class.Newline line byte rest = Piece.Newline
+piece_of Class.Comment line byte rest = Piece.Comment (length (comment (byte ∷ rest)))
 piece_of Letter line byte rest =
     let run = take_while is_name_byte (byte ∷ rest) in
     word_or_name line run (word_place run)

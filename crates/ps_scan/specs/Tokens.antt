@@ -1,17 +1,18 @@
 -- The tokens of a text, and its first fault.
-use Rattle.std.specs.Prelude.{◌≡◌, ℕ, ◌+◌, ◌-◌, ◌<◌, ◌≤◌, ◌==◌, IsTrue, List, [], ◌∷◌, length, take, drop, count_by, slice_range, slice_get, slice_index, Option, Some, None}
+use Rattle.std.specs.Prelude.{◌≡◌, ℕ, ◌+◌, ◌-◌, ◌<◌, ◌≤◌, ◌==◌, IsTrue, List, [], ◌∷◌, length, take, drop, count_by, slice_range, slice_get, slice_index, Some, None}
 use Rattle.std.specs.List.{AllPass}
 use Rattle.std.specs.Char.{is_ascii_digit, is_ascii_alphabetic}
 use Rattle.ps_base.specs.declared.line.Line.{Line}
 use Rattle.ps_scan.specs.declared.fault.ScanFault.{ScanFault}
 use Rattle.ps_scan.specs.declared.piece.Piece.{Piece}
-use Rattle.ps_scan.specs.declared.piece.Piece.TheVariants.{End, Blank, Newline, Fault}
+use Rattle.ps_scan.specs.declared.piece.Piece.TheVariants.{End, Blank, Newline, Comment, Fault}
 use Rattle.ps_scan.specs.declared.token.Token.{Token}
 use Rattle.ps_scan.specs.declared.token.TokenKind.{TokenKind}
 use Rattle.ps_scan.specs.declared.token.TokenKind.TheVariants.{Name, Int, Text, Word, Mark}
 use Rattle.ps_scan.specs.Class.{is_name_byte, decimal}
 use Rattle.ps_scan.specs.Fault.{line_of_fault}
-use Rattle.ps_scan.specs.Piece.{Closes, quoted, bytes_of, word_place, double_mark, single_mark, first_piece}
+use Rattle.ps_scan.specs.Names.{word_place, mark_place}
+use Rattle.ps_scan.specs.Piece.{Closes, quoted, bytes_of, first_piece}
 
 -- the line of this number
 abbrev pub line_of : ℕ → Line
@@ -30,6 +31,7 @@ pub data Scans (text : List ℕ) : ℕ → ℕ → List Token → Type 0 where
   at_end : {at line : ℕ} → piece_at text at line ≡ End → Scans text at line []
   past_blank : {at line : ℕ} {tokens : List Token} → piece_at text at line ≡ Blank → Scans text (at + 1) line tokens → Scans text at line tokens
   past_newline : {at line : ℕ} {tokens : List Token} → piece_at text at line ≡ Newline → Scans text (at + 1) (line + 1) tokens → Scans text at line tokens
+  past_comment : {at line length : ℕ} {tokens : List Token} → piece_at text at line ≡ Comment length → Scans text (at + length) line tokens → Scans text at line tokens
   past_token : {at line length : ℕ} {what : TokenKind} {tokens : List Token} → piece_at text at line ≡ Piece.Token what length → Scans text (at + length) line tokens → Scans text at line (token_at what line at length ∷ tokens)
 
 -- from this place on, which is on this line, this is the first fault
@@ -37,9 +39,10 @@ pub data Stops (text : List ℕ) : ℕ → ℕ → ScanFault → Type 0 where
   at_fault : {at line : ℕ} {fault : ScanFault} → piece_at text at line ≡ Fault fault → Stops text at line fault
   past_blank : {at line : ℕ} {fault : ScanFault} → piece_at text at line ≡ Blank → Stops text (at + 1) line fault → Stops text at line fault
   past_newline : {at line : ℕ} {fault : ScanFault} → piece_at text at line ≡ Newline → Stops text (at + 1) (line + 1) fault → Stops text at line fault
+  past_comment : {at line length : ℕ} {fault : ScanFault} → piece_at text at line ≡ Comment length → Stops text (at + length) line fault → Stops text at line fault
   past_token : {at line length : ℕ} {what : TokenKind} {fault : ScanFault} → piece_at text at line ≡ Piece.Token what length → Stops text (at + length) line fault → Stops text at line fault
 
-pub ruleset scanning = (Scans.at_end, Scans.past_blank, Scans.past_newline, Scans.past_token, Stops.at_fault, Stops.past_blank, Stops.past_newline, Stops.past_token)
+pub ruleset scanning = (Scans.at_end, Scans.past_blank, Scans.past_newline, Scans.past_comment, Scans.past_token, Stops.at_fault, Stops.past_blank, Stops.past_newline, Stops.past_comment, Stops.past_token)
 
 -- the tokens of a whole text, and its first fault: a text begins at place 0, on line 1
 abbrev pub HasTokens : List ℕ → List Token → Type 0
@@ -79,13 +82,6 @@ pub record IsString (slice : List ℕ) : Type 0 where
   pub closes : quoted (drop 1 slice) ≡ Closes (bytes_of (quoted (drop 1 slice))) (length slice - 1)
   pub fits : length (bytes_of (quoted (drop 1 slice))) ≤ 65535
 
--- the place of the mark that these bytes are
-abbrev pub mark_of : List ℕ → Option ℕ
-mark_of [] = None
-mark_of (byte ∷ []) = single_mark byte
-mark_of (first ∷ second ∷ []) = double_mark first second
-mark_of (first ∷ second ∷ third ∷ rest) = None
-
 -- how many newlines these bytes have
 unfoldable pub newlines : List ℕ → ℕ
 newlines bytes = count_by (λ byte. byte == 10) bytes
@@ -100,7 +96,7 @@ IsSpelled Name slice = IsName slice
 IsSpelled Int slice = IsInt slice
 IsSpelled Text slice = IsString slice
 IsSpelled (Word place) slice = word_place slice ≡ Some place
-IsSpelled (Mark place) slice = mark_of slice ≡ Some place
+IsSpelled (Mark place) slice = mark_place slice ≡ Some place
 
 -- a token of the text: a slice of it that is spelled as its kind is, with the line where it stands
 pub record IsToken (text : List ℕ) (token : Token) : Type 0 where

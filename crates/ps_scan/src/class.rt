@@ -6,6 +6,7 @@ ghost use Rattle.ps_scan.specs.Class.{class_of, is_name_byte, inner_of, escaped}
 pub enum Class {
     Blank,
     Newline,
+    Comment,
     Letter,
     Digit,
     Quote,
@@ -29,6 +30,7 @@ pub fn class_of(byte: u8) -> Class
     match byte {
         b'\n' => Class::Newline,
         b' ' | b'\t' | b'\r' => Class::Blank,
+        b'!' => Class::Comment,
         b'A'..=b'Z' | b'a'..=b'z' => Class::Letter,
         b'0'..=b'9' => Class::Digit,
         b'"' => Class::Quote,

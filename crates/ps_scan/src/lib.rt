@@ -7,6 +7,7 @@ pub mod mark;
 mod number;
 mod piece;
 mod quoted;
+mod rows;
 mod scanner;
 pub mod token;
 pub mod word;

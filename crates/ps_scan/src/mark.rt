@@ -1,8 +1,14 @@
-//! The marks, each with its place in the row
-//! `( ) [ ] { } , ; : :: := = ~ ~= < <= > >= + - ++ * -> @ ? |`.
+//! The marks `( ) [ ] { } , ; : :: := = ~ ~= < <= > >= + - ++ * -> @ ? |`. The constants name their
+//! places, and `MARKS` is their table.
 
-ghost use Rattle.std.specs.Prelude.{◌≡◌};
-ghost use Rattle.ps_scan.specs.Piece.{double_mark, single_mark};
+ghost use Rattle.std.specs.Prelude.{◌≡◌, ℕ, ◌<◌, List, Some, IfSome, IsTrue, slice_get};
+ghost use Rattle.std.specs.List.{range_with_len};
+ghost use Rattle.ps_cases.specs.Table.{codes, names, is_table};
+ghost use Rattle.ps_scan.specs.Names.{marks, mark_place};
+
+use crate::rows::{each_name, each_row};
+use ps_cases::find::find_name;
+use ps_cases::row::Row;
 
 /// `(`
 pub const OPEN_ROUND: u8 = 0;
@@ -57,49 +63,68 @@ pub const END: u8 = 24;
 /// `|`
 pub const BAR: u8 = 25;
 
-/// The marks of two bytes that are scanned, each beside its place. They are tried first, since the
-/// longest token is taken.
-pub const DOUBLES: [(u8, u8, u8); 4] = [
-    (b':', b'=', BECOMES),
-    (b'~', b'=', NOT_EQUALS),
-    (b'<', b'=', LESS_OR_EQUAL),
-    (b'>', b'=', GREATER_OR_EQUAL),
-];
-
-/// The marks of one byte that are scanned, each beside its place.
-pub const SINGLES: [(u8, u8); 14] = [
-    (b'(', OPEN_ROUND),
-    (b')', CLOSE_ROUND),
-    (b'{', OPEN_CURLY),
-    (b'}', CLOSE_CURLY),
-    (b',', COMMA),
-    (b';', SEMICOLON),
-    (b'=', EQUALS),
-    (b'~', TILDE),
-    (b'<', LESS),
-    (b'>', GREATER),
-    (b'+', PLUS),
-    (b'-', MINUS),
-    (b'*', TIMES),
-    (b'?', END),
-];
-
-/// The place of a mark of these two bytes.
-pub fn double_mark(first: u8, second: u8) -> Option<u8>
-    ensures { result ≡ double_mark first second }
-{
-    match DOUBLES.iter().find(|row| row.0 == first && row.1 == second) {
-        Some(row) => Some(row.2),
-        None => None,
-    }
+// The marks in their order, each by its constant and its spelling. What writes the rows out is
+// named first, and is handed the rest.
+macro_rules! all_marks {
+    ($write:ident $($given:ident)*) => {
+        $write! { ($($given)*)
+            OPEN_ROUND "("
+            CLOSE_ROUND ")"
+            OPEN_SQUARE "["
+            CLOSE_SQUARE "]"
+            OPEN_CURLY "{"
+            CLOSE_CURLY "}"
+            COMMA ","
+            SEMICOLON ";"
+            COLON ":"
+            DOUBLE_COLON "::"
+            BECOMES ":="
+            EQUALS "="
+            TILDE "~"
+            NOT_EQUALS "~="
+            LESS "<"
+            LESS_OR_EQUAL "<="
+            GREATER ">"
+            GREATER_OR_EQUAL ">="
+            PLUS "+"
+            MINUS "-"
+            CONCATENATE "++"
+            TIMES "*"
+            ARROW "->"
+            AT "@"
+            END "?"
+            BAR "|"
+        }
+    };
 }
 
-/// The place of a mark of this one byte.
-pub fn single_mark(byte: u8) -> Option<u8>
-    ensures { result ≡ single_mark byte }
+/// The marks in their order. The code of a mark is its place, from 0 on.
+pub const MARKS: [Row; 26] = all_marks!(each_row);
+
+/// Their names, each at its place.
+pub const SPELLINGS: [&str; 26] = all_marks!(each_name);
+
+/// The table of the marks.
+pub fn marks() -> &'static [Row; 26]
+    ensures table { IsTrue (is_table result.now) }
+    ensures names { names result.now ≡ marks }
+    ensures places { codes result.now ≡ range_with_len 0 26 }
+    ensures found { (name : List ℕ) (place : ℕ) → mark_place name ≡ Some place → slice_get (names result.now) place ≡ Some name }
+    ensures only { (name : List ℕ) (place : ℕ) → slice_get (names result.now) place ≡ Some name → mark_place name ≡ Some place }
 {
-    match SINGLES.iter().find(|row| row.0 == byte) {
-        Some(row) => Some(row.1),
-        None => None,
-    }
+    &MARKS
+}
+
+/// The place of the mark that is spelled so.
+pub fn mark_place(name: &[u8]) -> Option<u8>
+    ensures { result ≡ mark_place name.now }
+{
+    mark_index(name).map(|place| place as u8)
+}
+
+fn mark_index(name: &[u8]) -> Option<usize>
+    ensures place { result ≡ mark_place name.now }
+    ensures small { IfSome result (λ place. place < 26) }
+{
+    find_name(marks(), name)
 }

@@ -1,16 +1,18 @@
-ghost use Rattle.std.specs.Prelude.{◌≡◌, ◌≤◌, length, drop, ◌<◌, IfSome};
+ghost use Rattle.std.specs.Prelude.{◌≡◌, ◌≤◌, ◌==◌, length, drop, not};
 ghost use Rattle.std.specs.List.{take_while, AllPass, prefix_len};
 ghost use Rattle.std.specs.Char.{is_ascii_digit};
 ghost use Rattle.ps_scan.specs.Class.{is_name_byte};
-ghost use Rattle.ps_scan.specs.Piece.{word_place, word_or_name, int, double_mark_here, single_mark, mark, first_piece};
+ghost use Rattle.ps_scan.specs.declared.piece.Piece.TheVariants.{Comment};
+ghost use Rattle.ps_scan.specs.Names.{word_place};
+ghost use Rattle.ps_scan.specs.Piece.{comment, word_or_name, int, double_mark_here, single_mark, mark, first_piece};
 
 use crate::class::{Class, class_of, is_name_byte};
 use crate::fault::ScanFault;
-use crate::mark::{double_mark, single_mark};
+use crate::mark::mark_place;
 use crate::number::{LARGEST_INT, decimal_of};
 use crate::quoted::string_piece;
 use crate::token::TokenKind;
-use crate::word::SPELLINGS;
+use crate::word::word_place;
 use ps_base::line::Line;
 
 /// The most bytes that a text may have.
@@ -25,6 +27,7 @@ pub enum Piece {
     End,
     Blank,
     Newline,
+    Comment { length: u32 },
     Token { what: TokenKind, length: u32 },
     Fault(ScanFault),
 }
@@ -49,11 +52,28 @@ fn first_piece(rest: &[u8], line: Line) -> Piece
     match class_of(byte) {
         Class::Blank => Piece::Blank,
         Class::Newline => Piece::Newline,
+        Class::Comment => comment(rest),
         Class::Letter => word_or_name(name_run(rest), line),
         Class::Digit => int(digit_run(rest), line),
         Class::Quote => string_piece(rest.split_at(1).1, line),
         Class::Other => mark(byte, rest.split_at(1).1, line),
     }
+}
+
+fn comment(rest: &[u8]) -> Piece
+    requires { length rest.now ≤ LONGEST_TEXT }
+    ensures { result ≡ Comment (length (comment rest.now)) }
+{
+    Piece::Comment {
+        length: comment_length(rest) as u32,
+    }
+}
+
+fn comment_length(rest: &[u8]) -> usize
+    ensures length { result ≡ length (comment rest.now) }
+    ensures within { result ≤ length rest.now }
+{
+    rest.iter().take_while(|byte| **byte != b'\n').count()
 }
 
 fn name_run<'a>(rest: &'a [u8]) -> &'a [u8]
@@ -97,19 +117,6 @@ fn word_or_name(run: &[u8], line: Line) -> Piece
     Piece::Token { what, length }
 }
 
-fn word_place(run: &[u8]) -> Option<u8>
-    ensures { result ≡ word_place run.now }
-{
-    word_index(run).map(|place| place as u8)
-}
-
-fn word_index(run: &[u8]) -> Option<usize>
-    ensures place { result ≡ word_place run.now }
-    ensures small { IfSome result (λ place. place < 36) }
-{
-    SPELLINGS.iter().position(|&word| word == run)
-}
-
 #[tactic(auto, unfolding(crate::specs::Piece::int))]
 fn int(digits: &[u8], line: Line) -> Piece
     requires size { length digits.now ≤ LONGEST_TEXT }
@@ -146,5 +153,11 @@ fn double_mark_here(first: u8, rest: &[u8]) -> Option<u8>
     ensures { result ≡ double_mark_here first rest.now }
 {
     let second = *rest.first()?;
-    double_mark(first, second)
+    mark_place(&[first, second])
+}
+
+fn single_mark(byte: u8) -> Option<u8>
+    ensures { result ≡ single_mark byte }
+{
+    mark_place(&[byte])
 }

@@ -29,6 +29,7 @@ pub fn scan(alloc: Global, text: &[u8]) -> Result<Vec<Token>, ScanFault>
                 at += 1;
                 line = Line(line.0 + 1);
             }
+            Piece::Comment { length } => at += length as usize,
             Piece::Token { what, length } => {
                 let token = token_at(what, line, at as u32, length);
                 tokens.push(token)?;

@@ -13,8 +13,15 @@ fn token(what: TokenKind, line: u32, from: u32, to: u32) -> Token {
 
 #[test]
 fn texts_have_their_tokens(rt: HostRuntime) -> Result<(), Fail> {
-    let rows: [(&[u8], &[Token]); 4] = [
+    let rows: [(&[u8], &[Token]); 5] = [
         (b"", &[]),
+        (
+            b"1a",
+            &[
+                token(TokenKind::Int, 1, 0, 1),
+                token(TokenKind::Name, 1, 1, 2),
+            ],
+        ),
         (
             b"write 1 + 2, \"'n\" ?",
             &[
@@ -46,13 +53,13 @@ fn texts_have_their_tokens(rt: HostRuntime) -> Result<(), Fail> {
             ],
         ),
         (
-            b"12ab lets ++",
+            b"12ab lets + +",
             &[
                 token(TokenKind::Int, 1, 0, 2),
                 token(TokenKind::Name, 1, 2, 4),
                 token(TokenKind::Name, 1, 5, 9),
                 token(TokenKind::Mark(mark::PLUS), 1, 10, 11),
-                token(TokenKind::Mark(mark::PLUS), 1, 11, 12),
+                token(TokenKind::Mark(mark::PLUS), 1, 12, 13),
             ],
         ),
     ];
@@ -60,6 +67,77 @@ fn texts_have_their_tokens(rt: HostRuntime) -> Result<(), Fail> {
         assert!(rt; text.len() <= LONGEST_TEXT);
         let found = scan(rt.alloc(), text).map_err(|_| "fault")?;
         assert_eq!(rt; found.as_slice(), tokens);
+    }
+    Ok(())
+}
+
+#[test]
+fn comments_end_before_a_newline(rt: HostRuntime) -> Result<(), Fail> {
+    let one = token(TokenKind::Int, 1, 0, 1);
+    let rows: [(&[u8], &[Token]); 5] = [
+        (
+            b"! \xc8\nwrite 1",
+            &[
+                token(TokenKind::Word(word::WRITE), 2, 4, 9),
+                token(TokenKind::Int, 2, 10, 11),
+            ],
+        ),
+        (b"1!", &[one]),
+        (b"1!!\x00\x7f\"'\r\t", &[one]),
+        (
+            b"1!\n!\n\n;",
+            &[one, token(TokenKind::Mark(mark::SEMICOLON), 4, 6, 7)],
+        ),
+        (b"\"!\"", &[token(TokenKind::Text, 1, 0, 3)]),
+    ];
+    for (text, tokens) in rows {
+        assert!(rt; text.len() <= LONGEST_TEXT);
+        let found = scan(rt.alloc(), text).map_err(|_| "fault")?;
+        assert_eq!(rt; found.as_slice(), tokens);
+    }
+    Ok(())
+}
+
+#[test]
+fn longest_mark_is_taken(rt: HostRuntime) -> Result<(), Fail> {
+    let rows: [(&[u8], &[u8]); 13] = [
+        (
+            b"(){}",
+            &[
+                mark::OPEN_ROUND,
+                mark::CLOSE_ROUND,
+                mark::OPEN_CURLY,
+                mark::CLOSE_CURLY,
+            ],
+        ),
+        (b"[]", &[mark::OPEN_SQUARE, mark::CLOSE_SQUARE]),
+        (b",;", &[mark::COMMA, mark::SEMICOLON]),
+        (b":", &[mark::COLON]),
+        (b"::", &[mark::DOUBLE_COLON]),
+        (b":=", &[mark::BECOMES]),
+        (b":::=", &[mark::DOUBLE_COLON, mark::BECOMES]),
+        (b"+++", &[mark::CONCATENATE, mark::PLUS]),
+        (b"->-", &[mark::ARROW, mark::MINUS]),
+        (b"-->", &[mark::MINUS, mark::ARROW]),
+        (b"@|*?", &[mark::AT, mark::BAR, mark::TIMES, mark::END]),
+        (b"=~~=", &[mark::EQUALS, mark::TILDE, mark::NOT_EQUALS]),
+        (
+            b"<<=>>=",
+            &[
+                mark::LESS,
+                mark::LESS_OR_EQUAL,
+                mark::GREATER,
+                mark::GREATER_OR_EQUAL,
+            ],
+        ),
+    ];
+    for (text, marks) in rows {
+        assert!(rt; text.len() <= LONGEST_TEXT);
+        let found = scan(rt.alloc(), text).map_err(|_| "fault")?;
+        assert_eq!(rt; found.len(), marks.len());
+        for (token, place) in found.iter().zip(marks) {
+            assert_eq!(rt; token.what, TokenKind::Mark(*place));
+        }
     }
     Ok(())
 }
@@ -121,20 +199,20 @@ fn first_fault_is_answered(rt: HostRuntime) -> Result<(), Fail> {
     let line = Line(1);
     let rows: [(&[u8], ScanFault, u8); 12] = [
         (
-            b"\n1 !",
+            b"! $\n1 $",
             ScanFault::BadByte {
                 line: Line(2),
-                byte: b'!',
+                byte: b'$',
             },
             1,
         ),
-        (b":", ScanFault::BadByte { line, byte: b':' }, 1),
+        (b"\xc8", ScanFault::BadByte { line, byte: 200 }, 1),
         (b"\"\t", ScanFault::BadByte { line, byte: b'\t' }, 1),
         (b"\"\x7f'x", ScanFault::BadByte { line, byte: 127 }, 1),
         (b"\"ab\n\"", ScanFault::OpenString { line }, 2),
         (b"\"ab'", ScanFault::OpenString { line }, 2),
         (
-            b"2147483647 2147483648 !",
+            b"2147483647 2147483648 $",
             ScanFault::IntTooLarge { line },
             3,
         ),

@@ -6,8 +6,8 @@ use crate::quoted::spelled_behind_quote;
 use ps_base::line::Line;
 use std::alloc::{AllocError, Global};
 
-/// What a token is. A word has its place in `word::SPELLINGS`, a mark its place in the row of
-/// marks, as the constants of `word` and `mark` name them.
+/// What a token is. A word has its place in `word::WORDS`, a mark its place in `mark::MARKS`, as the
+/// constants of `word` and `mark` name them.
 #[derive(Clone, Copy, PartialEq, Eq, Debug)]
 pub enum TokenKind {
     Name,

@@ -1,4 +1,13 @@
-//! The reserved words, each with its place in `SPELLINGS`.
+//! The reserved words. The constants name their places, and `WORDS` is their table.
+
+ghost use Rattle.std.specs.Prelude.{◌≡◌, ℕ, ◌<◌, List, Some, IfSome, IsTrue, slice_get};
+ghost use Rattle.std.specs.List.{range_with_len};
+ghost use Rattle.ps_cases.specs.Table.{codes, names, is_table};
+ghost use Rattle.ps_scan.specs.Names.{reserved_words, word_place};
+
+use crate::rows::{each_name, each_row};
+use ps_cases::find::find_name;
+use ps_cases::row::Row;
 
 pub const ABORT: u8 = 0;
 
@@ -72,42 +81,78 @@ pub const WHILE: u8 = 34;
 
 pub const WRITE: u8 = 35;
 
-/// The reserved words in their order: the place of a word is its index here.
-pub const SPELLINGS: [&[u8]; 36] = [
-    b"abort",
-    b"and",
-    b"begin",
-    b"bool",
-    b"by",
-    b"case",
-    b"default",
-    b"div",
-    b"do",
-    b"else",
-    b"end",
-    b"false",
-    b"for",
-    b"if",
-    b"int",
-    b"is",
-    b"isnt",
-    b"let",
-    b"lwb",
-    b"nil",
-    b"of",
-    b"or",
-    b"pntr",
-    b"proc",
-    b"procedure",
-    b"rem",
-    b"repeat",
-    b"string",
-    b"structure",
-    b"then",
-    b"to",
-    b"true",
-    b"upb",
-    b"vector",
-    b"while",
-    b"write",
-];
+// The reserved words in their order, each by its constant and its spelling. What writes the rows
+// out is named first, and is handed the rest.
+macro_rules! reserved_words {
+    ($write:ident $($given:ident)*) => {
+        $write! { ($($given)*)
+            ABORT "abort"
+            AND "and"
+            BEGIN "begin"
+            BOOL "bool"
+            BY "by"
+            CASE "case"
+            DEFAULT "default"
+            DIV "div"
+            DO "do"
+            ELSE "else"
+            END "end"
+            FALSE "false"
+            FOR "for"
+            IF "if"
+            INT "int"
+            IS "is"
+            ISNT "isnt"
+            LET "let"
+            LWB "lwb"
+            NIL "nil"
+            OF "of"
+            OR "or"
+            PNTR "pntr"
+            PROC "proc"
+            PROCEDURE "procedure"
+            REM "rem"
+            REPEAT "repeat"
+            STRING "string"
+            STRUCTURE "structure"
+            THEN "then"
+            TO "to"
+            TRUE "true"
+            UPB "upb"
+            VECTOR "vector"
+            WHILE "while"
+            WRITE "write"
+        }
+    };
+}
+
+/// The reserved words in their order. The code of a word is its place, from 0 on.
+pub const WORDS: [Row; 36] = reserved_words!(each_row);
+
+/// Their names, each at its place.
+pub const SPELLINGS: [&str; 36] = reserved_words!(each_name);
+
+/// The table of the reserved words.
+pub fn words() -> &'static [Row; 36]
+    ensures table { IsTrue (is_table result.now) }
+    ensures names { names result.now ≡ reserved_words }
+    ensures places { codes result.now ≡ range_with_len 0 36 }
+    ensures found { (name : List ℕ) (place : ℕ) → word_place name ≡ Some place → slice_get (names result.now) place ≡ Some name }
+    ensures only { (name : List ℕ) (place : ℕ) → slice_get (names result.now) place ≡ Some name → word_place name ≡ Some place }
+{
+    &WORDS
+}
+
+/// The place of the reserved word that is spelled so.
+pub fn word_place(name: &[u8]) -> Option<u8>
+    ensures { result ≡ word_place name.now }
+{
+    word_index(name).map(|place| place as u8)
+}
+
+fn word_index(name: &[u8]) -> Option<usize>
+    ensures place { result ≡ word_place name.now }
+    ensures small { IfSome result (λ place. place < 36) }
+{
+    find_name(words(), name)
+}

@@ -1,9 +1,9 @@
 use Rattle.std.proofs.Common.{◌≡◌, ◌+◌, ◌≤◌, ◌<◌, length, sym, ap, arith}
 use Rattle.ps_scan.specs.declared.token.Token.{Token}
 use Rattle.ps_scan.specs.Tokens.{HasTokens}
-use Rattle.ps_scan.proofs.Scanning.{blank_scanned, newline_scanned, token_scanned, end_scanned, fault_scanned, blank_within, newline_within, piece_within, all_tokens, all_in_order}
+use Rattle.ps_scan.proofs.Scanning.{blank_scanned, newline_scanned, comment_scanned, token_scanned, end_scanned, fault_scanned, blank_within, newline_within, comment_within, piece_within, all_tokens, all_in_order}
 use Rattle.ps_scan.proofs.scanner.scan.Goals as goal
-use Rattle.ps_scan.proofs.scanner.scan.Goals.{In-End, In-Blank, In-Newline, In-Token}
+use Rattle.ps_scan.proofs.scanner.scan.Goals.{In-End, In-Blank, In-Newline, In-Comment, In-Token}
 
 scanned : (c : In-End) → HasTokens c.args.text.now c.loop-tokens.tokens.items
 scanned c = end_scanned c.args.text.now c.loop-tokens.at c.loop-tokens.line.0 c.loop-tokens.tokens.items c.loop-tokens.invariant.scanned (sym c.in-End.ensures)
@@ -22,6 +22,9 @@ at_blank c = blank_within c.args.text.now c.loop-tokens.at c.loop-tokens.line.0 
 
 at_newline : (c : In-Newline) → c.loop-tokens.at < length c.args.text.now
 at_newline c = newline_within c.args.text.now c.loop-tokens.at c.loop-tokens.line.0 (sym c.in-Newline.ensures)
+
+at_comment : (c : In-Comment) → (1 ≤ c.in-Comment.length) × (c.loop-tokens.at + c.in-Comment.length ≤ length c.args.text.now)
+at_comment c = comment_within c.args.text.now c.loop-tokens.at c.loop-tokens.line.0 c.in-Comment.length (sym c.in-Comment.ensures)
 
 at_token : (c : In-Token) → (1 ≤ c.in-Token.length) × (c.loop-tokens.at + c.in-Token.length ≤ length c.args.text.now)
 at_token c = piece_within c.args.text.now c.loop-tokens.at c.loop-tokens.line.0 c.in-Token.what c.in-Token.length (sym c.in-Token.ensures)
@@ -46,6 +49,20 @@ loop-tokens-preserved-in-Newline c =
     let inside = at_newline (goal.at.loop-tokens-preserved-in-Newline c).In-Newline in
     record {
       scanned = newline_scanned c.args.text.now c.loop-tokens.at c.loop-tokens.line.0 c.loop-tokens.tokens.items c.loop-tokens.invariant.scanned (sym c.in-Newline.ensures);
+      within = omega arith;
+      lines = omega arith;
+    }
+
+pub loop-tokens-smaller-in-Comment : goal.loop-tokens-smaller-in-Comment
+loop-tokens-smaller-in-Comment c =
+    let inside = at_comment (goal.at.loop-tokens-smaller-in-Comment c).In-Comment in
+    omega arith
+
+pub loop-tokens-preserved-in-Comment : goal.loop-tokens-preserved-in-Comment
+loop-tokens-preserved-in-Comment c =
+    let inside = at_comment (goal.at.loop-tokens-preserved-in-Comment c).In-Comment in
+    record {
+      scanned = comment_scanned c.args.text.now c.loop-tokens.at c.loop-tokens.line.0 c.loop-tokens.tokens.items c.loop-tokens.invariant.scanned c.in-Comment.length (sym c.in-Comment.ensures);
       within = omega arith;
       lines = omega arith;
     }

@@ -1,0 +1,6 @@
+pub mod Bare
+pub mod Layout
+pub mod Lexemes
+pub mod Lines
+pub mod Reprint
+pub mod Spellings
