@@ -1,0 +1,6 @@
+pub mod Code
+pub mod Emission
+pub mod Machine
+pub mod Ready
+pub mod Stepping
+pub mod Telling
