@@ -5,6 +5,7 @@
 
 pub mod generate;
 mod instruction;
+mod laws;
 pub mod load;
 mod machine;
 pub mod run;
@@ -12,5 +13,6 @@ mod run_end;
 pub mod tell;
 
 pub use instruction::Instruction;
+pub use laws::{each_way_ends, rest_of_the_run};
 pub use machine::Machine;
 pub use run_end::RunEnd;
