@@ -2,14 +2,14 @@
 use Rattle.std.proofs.Common.{◌≡◌, ℕ, ◌≤◌, List, length, Some, None, refl, sym, ap, ◌∙◌}
 use Rattle.ps_base.specs.Node.{Node}
 use Rattle.ps_base.specs.declared.line.Line.{Line}
-use Rattle.ps_scan.specs.Fault as scanning
-use Rattle.ps_parse.specs.Fault as parsing
 use Rattle.ps_port.specs.Texts.{IsTextOf, TooLongFor}
 use Rattle.ps_port.specs.declared.shelf.ShelfFault.{ShelfFault}
 use Rattle.ps_port.specs.declared.shelf.ShelfFault.TheVariants.{Failed, TooLong, Memory}
+use Rattle.ps_scan.specs.Fault as scanning
+use Rattle.ps_parse.specs.Fault as parsing
 use Rattle.ps_meaning.specs.Event.{outputs, status_of}
 use Rattle.ps_meaning.specs.Run.{run_events, run_end}
-use Rattle.psalgol.specs.CheckFaults as checking
+use Rattle.ps_types.specs.CheckFaults as checking
 use Rattle.psalgol.specs.declared.source_fault.SourceFault.{SourceFault}
 use Rattle.psalgol.specs.declared.source_fault.SourceFault.TheVariants as source
 use Rattle.psalgol.specs.Words.{RunOf, command_of}

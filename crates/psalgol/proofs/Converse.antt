@@ -10,8 +10,8 @@ use Rattle.ps_parse.proofs.Unique.{one_tree}
 use Rattle.ps_parse.proofs.Faults.{no_fault_of_tree}
 use Rattle.ps_meaning.specs.Event.{outputs, status_of}
 use Rattle.ps_meaning.specs.Run.{run_events, run_end}
-use Rattle.psalgol.specs.declared.check_fault.CheckFault.{CheckFault}
-use Rattle.psalgol.specs.Checking.{Verdict, check_program, Typed, Fails}
+use Rattle.ps_types.specs.declared.check_fault.CheckFault.{CheckFault}
+use Rattle.ps_types.specs.Checking.{Verdict, check_program, Typed, Fails}
 use Rattle.psalgol.specs.Words.{RunOf, command_of}
 use Rattle.psalgol.specs.Source.{IsProgram, IsSourceFault, in_scan, in_parse, in_check}
 use Rattle.psalgol.specs.Command.{Due}

@@ -1,16 +1,3 @@
-pub mod Between
 pub mod Causes
-pub mod CheckedNames
-pub mod CheckedPhrases
-pub mod CheckedRows
-pub mod CheckedSteps
-pub mod CheckedTyped
 pub mod Converse
-pub mod Generated
-pub mod Pieces
-pub mod Progress
-pub mod Running
-pub mod Simulation
-pub mod Steps
-pub mod Weights
 pub mod WordLemmas

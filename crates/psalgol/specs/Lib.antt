@@ -1,17 +1,6 @@
 pub mod Answering
-pub mod CheckFaults
-pub mod Checking
-pub mod Checks
-pub mod Code
 pub mod Command
-pub mod Emission
-pub mod Machine
-pub mod Names
-pub mod PhraseWeights
-pub mod Ready
 pub mod Reports
 pub mod Source
-pub mod Stepping
-pub mod Telling
 pub mod TextDue
 pub mod Words

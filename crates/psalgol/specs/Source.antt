@@ -12,10 +12,10 @@ use Rattle.ps_parse.specs.declared.fault.ParseFault.TheVariants as parse_fault
 use Rattle.ps_parse.specs.Phrase.{Phrase}
 use Rattle.ps_parse.specs.Program.{ReadsAs, IsParseFault}
 use Rattle.ps_parse.specs.Fault as parsing
-use Rattle.psalgol.specs.declared.check_fault.CheckFault.{CheckFault}
-use Rattle.psalgol.specs.declared.check_fault.CheckFault.TheVariants as check_fault
-use Rattle.psalgol.specs.Checking.{check_program, Typed, Fails}
-use Rattle.psalgol.specs.CheckFaults as checking
+use Rattle.ps_types.specs.declared.check_fault.CheckFault.{CheckFault}
+use Rattle.ps_types.specs.declared.check_fault.CheckFault.TheVariants as check_fault
+use Rattle.ps_types.specs.Checking.{check_program, Typed, Fails}
+use Rattle.ps_types.specs.CheckFaults as checking
 use Rattle.psalgol.specs.declared.source_fault.SourceFault.{SourceFault}
 use Rattle.psalgol.specs.declared.source_fault.SourceFault.TheVariants as source
 

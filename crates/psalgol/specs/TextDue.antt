@@ -2,14 +2,14 @@
 use Rattle.std.specs.Prelude.{ℕ, List}
 use Rattle.ps_base.specs.Node.{Node}
 use Rattle.ps_base.specs.declared.line.Line.{Line}
+use Rattle.ps_port.specs.declared.shelf.ShelfFault.{ShelfFault}
+use Rattle.ps_port.specs.declared.shelf.ShelfFault.TheVariants.{Failed, TooLong, Memory}
 use Rattle.ps_meaning.specs.Event.{outputs, status_of}
 use Rattle.ps_meaning.specs.Run.{run_events, run_end}
 use Rattle.psalgol.specs.Words.{RunOf}
 use Rattle.psalgol.specs.Reports.{memory_line, fault_line, unreadable_line, too_long_line}
 use Rattle.psalgol.specs.Source.{IsProgram, IsSourceFault}
 use Rattle.psalgol.specs.Answering.{Answers}
-use Rattle.ps_port.specs.declared.shelf.ShelfFault.{ShelfFault}
-use Rattle.ps_port.specs.declared.shelf.ShelfFault.TheVariants.{Failed, TooLong, Memory}
 use Rattle.psalgol.specs.declared.words.RunWords.{RunWords}
 
 -- the run that the words in code stand for

@@ -1,14 +1,14 @@
 ghost use Rattle.std.specs.Prelude.{◌≡◌, ◌≤◌, length, reverse, IfOk, IfErr};
 ghost use Rattle.ps_base.specs.Node.{Node};
-ghost use Rattle.psalgol.specs.Code.{code_of};
+ghost use Rattle.ps_machine.specs.Code.{code_of};
 ghost use Rattle.psalgol.specs.Source.{IsProgram, Refuses};
 
-use crate::check::check;
-use crate::generate::generate;
-use crate::instruction::Instruction;
 use crate::source_fault::SourceFault;
+use ps_machine::Instruction;
+use ps_machine::generate::generate;
 use ps_parse::parse;
 use ps_scan::{LONGEST_TEXT, scan};
+use ps_types::check::check;
 use std::alloc::Global;
 
 /// A program that can be loaded: its code, and how many locals it has.

@@ -3,18 +3,18 @@ ghost use Rattle.ps_base.specs.Node.{Node};
 ghost use Rattle.ps_base.specs.declared.ty.Ty.TheVariants.{Void};
 ghost use Rattle.ps_meaning.specs.Event.{status_of};
 ghost use Rattle.ps_meaning.specs.Typed.{IsTyped};
-ghost use Rattle.psalgol.specs.Code.{code_of};
+ghost use Rattle.ps_machine.specs.Code.{code_of};
+ghost use Rattle.ps_machine.specs.Stepping.{end_of};
 ghost use Rattle.psalgol.specs.Source.{Refuses};
-ghost use Rattle.psalgol.specs.Stepping.{end_of};
 ghost use Rattle.psalgol.specs.TextDue.{TextWhy, ProgramWhy, run_in};
 
 use crate::compile::{Compiled, compile};
-use crate::load::load;
 use crate::report;
-use crate::run::run;
-use crate::run_end::RunEnd;
 use crate::source_fault::SourceFault;
 use crate::words::RunWords;
+use ps_machine::RunEnd;
+use ps_machine::load::load;
+use ps_machine::run::run;
 use ps_port::host::Host;
 use std::alloc::Global;
 

@@ -3,25 +3,12 @@
 //! `command` is the whole of it; `docs/architecture.md` tells the way of a program through the modules.
 #![tactic(auto)]
 
-mod check;
-mod check_fault;
-mod clause;
 mod command;
 mod compile;
-mod declaration;
 mod execute;
-mod generate;
-mod instruction;
 mod laws;
-mod link;
-mod load;
-mod machine;
 mod report;
-mod run;
-mod run_end;
-mod scope;
 mod source_fault;
-mod tell;
 #[cfg(test)]
 mod tests;
 mod words;

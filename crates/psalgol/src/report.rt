@@ -1,11 +1,11 @@
 ghost use Rattle.std.specs.Prelude.{◌≡◌, ◌≤◌};
+ghost use Rattle.ps_machine.specs.Telling.{joined};
 ghost use Rattle.psalgol.specs.Answering.{Answers};
 ghost use Rattle.psalgol.specs.Reports.{usage_line, memory_line, unreadable_line, too_long_line, fault_line};
-ghost use Rattle.psalgol.specs.Telling.{joined};
 
-use crate::tell;
 use itoa::Buffer;
 use ps_base::line::Line;
+use ps_machine::tell;
 use ps_port::host::Host;
 
 /// The status where the output failed.

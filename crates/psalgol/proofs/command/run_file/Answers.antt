@@ -1,6 +1,6 @@
 use Rattle.std.proofs.Common.{◌≡◌, ◌∙◌, ◌≤◌, Err, ap, subst, rules, length}
-use Rattle.psalgol.specs.TextDue.{run_in, TextWhy}
 use Rattle.ps_port.specs.Told.{Rose}
+use Rattle.psalgol.specs.TextDue.{run_in, TextWhy}
 use Rattle.psalgol.proofs.Causes.{why_text, why_unread}
 use Rattle.psalgol.proofs.command.run_file.Goals as goal
 

@@ -1,8 +1,8 @@
 use Rattle.std.proofs.Common.{◌∙◌, ap, subst}
 use Rattle.ps_meaning.specs.Event.{status_of, outputs}
 use Rattle.ps_meaning.specs.Run.{run_events}
+use Rattle.ps_machine.specs.Telling.{TellsOrFails}
 use Rattle.psalgol.specs.Answering.{Answers, whole, cut}
-use Rattle.psalgol.specs.Telling.{TellsOrFails}
 use Rattle.psalgol.specs.TextDue.{ProgramWhy}
 use Rattle.psalgol.proofs.Causes.{program_no_memory, program_ran}
 use Rattle.psalgol.proofs.execute.run_program.Goals as goal

@@ -1,5 +1,5 @@
+use Rattle.ps_types.proofs.CheckedTyped.{program_typed}
 use Rattle.psalgol.specs.TextDue.{run_in}
-use Rattle.psalgol.proofs.CheckedTyped.{program_typed}
 use Rattle.psalgol.proofs.Causes.{text_ran}
 use Rattle.psalgol.proofs.execute.run_text.Goals as goal
 

@@ -1,0 +1,9 @@
+pub mod Between
+pub mod Generated
+pub mod Paths
+pub mod Pieces
+pub mod Progress
+pub mod Running
+pub mod Simulation
+pub mod Steps
+pub mod Weights

@@ -1,0 +1,5 @@
+pub mod CheckedNames
+pub mod CheckedPhrases
+pub mod CheckedRows
+pub mod CheckedSteps
+pub mod CheckedTyped

@@ -1,0 +1,5 @@
+pub mod CheckFaults
+pub mod Checking
+pub mod Checks
+pub mod Names
+pub mod PhraseWeights
