@@ -7,8 +7,8 @@ use Rattle.std.proofs.lemmas.Option.{slice_get_within, slice_get-get_or}
 use Rattle.std.proofs.Math.Seq.{get_or-append_seam}
 use Rattle.std.specs.Fmt.{signed_decimal}
 use Rattle.ps_base.specs.declared.line.Line.{Line}
-use Rattle.ps_base.specs.declared.ty.Ty.{Ty}
-use Rattle.ps_base.specs.declared.ty.Ty.TheVariants as ty
+use Rattle.ps_base.specs.declared.basic_type.BasicType.{BasicType}
+use Rattle.ps_base.specs.declared.basic_type.BasicType.TheVariants as ty
 use Rattle.ps_base.specs.declared.place.Place.TheVariants.{Plain}
 use Rattle.ps_base.specs.Value.{Value, Num, Flag, Text, Nothing}
 use Rattle.ps_base.specs.Node.{Node, Nodes, none, more}
@@ -25,14 +25,14 @@ use Rattle.ps_machine.specs.Code.{size, size_all, code_of, code_of_all}
 use Rattle.ps_machine.specs.Machine.{Config, Goes, Stops, Stuck, Loaded, answered, back, act, act_at, step, Runs, goes, stops}
 
 -- the words that a value of a type leaves on the stack
-abbrev pub left_by : Ty → Value → List ℤ
+abbrev pub left_by : BasicType → Value → List ℤ
 left_by ty.Int v = word_of v ∷ []
 left_by ty.Bool v = word_of v ∷ []
 left_by ty.Str v = []
 left_by ty.Pntr v = []
 left_by ty.Void v = []
 
-left_word : {t : Ty} → IsWord t → (v : Value) → left_by t v ≡ word_of v ∷ []
+left_word : {t : BasicType} → IsWord t → (v : Value) → left_by t v ≡ word_of v ∷ []
 left_word int_word v = refl
 left_word flag_word v = refl
 
@@ -108,12 +108,12 @@ mutual
 
 module _ (u : Loaded) (total : List Event) where
   -- where the run stands behind a clause of this type that came to this
-  abbrev pub Reaches : ℕ → List ℤ → Ty → Outcome → Type 0
+  abbrev pub Reaches : ℕ → List ℤ → BasicType → Outcome → Type 0
   Reaches k stack ty (Value_is v f s) = Runs u total (config k (left_by ty v ++ stack) (words f) s.turns) s.events
   Reaches k stack ty (Ends e s) = total ≡ s.events ++ Finish e ∷ []
 
   -- From p to k the code does what is meant, with these words on the stack before it, and takes them.
-  pub record Does (n : ℕ) (before : List ℤ) (m : Meaning) (ty : Ty) (need p k : ℕ) : Type 0 where
+  pub record Does (n : ℕ) (before : List ℤ) (m : Meaning) (ty : BasicType) (need p k : ℕ) : Type 0 where
     pub by : (stack : List ℤ) (f : Frame) (s : State) → length stack + need ≤ u.room → s.turns ≤ n → Reaches k stack ty (m f s) → Runs u total (config p (before ++ stack) (words f) s.turns) s.events
     pub falls : (f : Frame) (s : State) → Falls s.turns (m f s)
 
@@ -125,18 +125,18 @@ module _ (u : Loaded) (total : List Event) where
   quiet : {c next : Config} {so_far : List Event} → step u c ≡ Goes [] next → Runs u total next so_far → Runs u total c so_far
   quiet {c} {next} {so_far} h r = goes h (subst (λ (es : List Event). Runs u total next es) (sym (append-nil so_far)) r)
 
-  moved : (n : ℕ) (before : List ℤ) (m : Meaning) (ty : Ty) (need need' p p' k k' : ℕ) → need ≤ need' → p ≡ p' → k ≡ k' → Does n before m ty need p k → Does n before m ty need' p' k'
+  moved : (n : ℕ) (before : List ℤ) (m : Meaning) (ty : BasicType) (need need' p p' k k' : ℕ) → need ≤ need' → p ≡ p' → k ≡ k' → Does n before m ty need p k → Does n before m ty need' p' k'
   moved n before m ty need need' p p' k k' le ep ek d =
       let d' : Does n before m ty need p' k' = subst (λ (q : ℕ). Does n before m ty need q k') ep (subst (λ (q : ℕ). Does n before m ty need p q) ek d) in
       record { by = λ stack f s room turns reach. d'.by stack f s (omega arith) turns reach; falls = d'.falls }
 
-  reach_then : (n need q k : ℕ) (stack : List ℤ) (tya ty : Ty) (b : Value → Meaning) → ((v : Value) → Does n (left_by tya v) (b v) ty need q k) → length stack + need ≤ u.room → (o : Outcome) → Falls n o → Reaches k stack ty (after o b) → Reaches q stack tya o
+  reach_then : (n need q k : ℕ) (stack : List ℤ) (tya ty : BasicType) (b : Value → Meaning) → ((v : Value) → Does n (left_by tya v) (b v) ty need q k) → length stack + need ≤ u.room → (o : Outcome) → Falls n o → Reaches k stack ty (after o b) → Reaches q stack tya o
   unfolding after
   reach_then n need q k stack tya ty b db room (Value_is v f s) turns reach = (db v).by stack f s room turns reach
   reach_then n need q k stack tya ty b db room (Ends e s) turns reach = reach
 
   -- one part, and then another that takes its value
-  does_then : (n : ℕ) (before : List ℤ) (a : Meaning) (b : Value → Meaning) (tya ty : Ty) (need p q k : ℕ) → Does n before a tya need p q → ((v : Value) → Does n (left_by tya v) (b v) ty need q k) → Does n before (a >>= b) ty need p k
+  does_then : (n : ℕ) (before : List ℤ) (a : Meaning) (b : Value → Meaning) (tya ty : BasicType) (need p q k : ℕ) → Does n before a tya need p q → ((v : Value) → Does n (left_by tya v) (b v) ty need q k) → Does n before (a >>= b) ty need p k
   unfolding ◌>>=◌
   does_then n before a b tya ty need p q k da db = record {
     by = λ stack f s room turns reach. da.by stack f s room turns (reach_then n need q k stack tya ty b db room (a f s) (falls_le s.turns n (a f s) turns (da.falls f s)) reach);
@@ -149,7 +149,7 @@ module _ (u : Loaded) (total : List Event) where
   does_nothing n need k = record { by = λ stack f s room turns reach. reach; falls = λ f s. omega arith }
 
   -- an instruction that pushes the value of a clause
-  does_push : (n k : ℕ) (of_type : Ty) (v : Value) (i : Instruction) (z : ℤ) → left_by of_type v ≡ z ∷ [] → ((stack : List ℤ) (locals : ℕ → ℤ) (turns : ℕ) → length stack + 1 ≤ u.room → act u i k stack locals turns ≡ Goes [] (config k (z ∷ stack) locals turns)) → slice_get u.code k ≡ Some i → Does n [] (give v) of_type 1 (suc k) k
+  does_push : (n k : ℕ) (of_type : BasicType) (v : Value) (i : Instruction) (z : ℤ) → left_by of_type v ≡ z ∷ [] → ((stack : List ℤ) (locals : ℕ → ℤ) (turns : ℕ) → length stack + 1 ≤ u.room → act u i k stack locals turns ≡ Goes [] (config k (z ∷ stack) locals turns)) → slice_get u.code k ≡ Some i → Does n [] (give v) of_type 1 (suc k) k
   unfolding give
   does_push n k of_type v i z left acts at = record {
     by = λ stack f s room turns reach.
@@ -161,7 +161,7 @@ module _ (u : Loaded) (total : List Event) where
   push_goes : (k : ℕ) (z : ℤ) (stack : List ℤ) (locals : ℕ → ℤ) (turns : ℕ) → length stack + 1 ≤ u.room → (if nat_lt (length stack) u.room then Goes [] (config k (z ∷ stack) locals turns) else Stuck) ≡ Goes [] (config k (z ∷ stack) locals turns)
   push_goes k z stack locals turns room = if_lt (length stack) u.room _ _ (omega arith)
 
-  does_get : (n k slot : ℕ) (of_type : Ty) → IsWord of_type → slot < u.locals → slice_get u.code k ≡ Some (Get slot) → Does n [] (get (Plain slot)) of_type 1 (suc k) k
+  does_get : (n k slot : ℕ) (of_type : BasicType) → IsWord of_type → slot < u.locals → slice_get u.code k ≡ Some (Get slot) → Does n [] (get (Plain slot)) of_type 1 (suc k) k
   unfolding get slot_of
   does_get n k slot of_type word below at = record {
     by = λ stack f s room turns reach.
@@ -192,7 +192,7 @@ module _ (u : Loaded) (total : List Event) where
   }
 
   -- an instruction that takes words and gives one
-  does_give : (n k : ℕ) (before : List ℤ) (v : Value) (z : ℤ) (of_type : Ty) (i : Instruction) → left_by of_type v ≡ z ∷ [] → ((stack : List ℤ) (locals : ℕ → ℤ) (turns : ℕ) → act u i k (before ++ stack) locals turns ≡ Goes [] (config k (z ∷ stack) locals turns)) → slice_get u.code k ≡ Some i → Does n before (give v) of_type 0 (suc k) k
+  does_give : (n k : ℕ) (before : List ℤ) (v : Value) (z : ℤ) (of_type : BasicType) (i : Instruction) → left_by of_type v ≡ z ∷ [] → ((stack : List ℤ) (locals : ℕ → ℤ) (turns : ℕ) → act u i k (before ++ stack) locals turns ≡ Goes [] (config k (z ∷ stack) locals turns)) → slice_get u.code k ≡ Some i → Does n before (give v) of_type 0 (suc k) k
   unfolding give
   does_give n k before v z of_type i left acts at = record {
     by = λ stack f s room turns reach.
@@ -221,24 +221,24 @@ module _ (u : Loaded) (total : List Event) where
   }
 
   -- with fewer turns left
-  fewer : (m n : ℕ) (before : List ℤ) (a : Meaning) (of_type : Ty) (need p k : ℕ) → m ≤ n → Does n before a of_type need p k → Does m before a of_type need p k
+  fewer : (m n : ℕ) (before : List ℤ) (a : Meaning) (of_type : BasicType) (need p k : ℕ) → m ≤ n → Does n before a of_type need p k → Does m before a of_type need p k
   fewer m n before a of_type need p k le d = record { by = λ stack f s room turns reach. d.by stack f s room (omega arith) reach; falls = d.falls }
 
-  reach_under : (n need k r : ℕ) (x : ℤ) (stack : List ℤ) (tyb of_type : Ty) (op : Value → Meaning) → ((w : Value) → Does n (left_by tyb w ++ x ∷ []) (op w) of_type need k r) → length stack + need ≤ u.room → (o : Outcome) → Falls n o → Reaches r stack of_type (after o op) → Reaches k (x ∷ stack) tyb o
+  reach_under : (n need k r : ℕ) (x : ℤ) (stack : List ℤ) (tyb of_type : BasicType) (op : Value → Meaning) → ((w : Value) → Does n (left_by tyb w ++ x ∷ []) (op w) of_type need k r) → length stack + need ≤ u.room → (o : Outcome) → Falls n o → Reaches r stack of_type (after o op) → Reaches k (x ∷ stack) tyb o
   unfolding after
   reach_under n need k r x stack tyb of_type op dop room (Value_is w f s) turns reach =
       subst (λ (zs : List ℤ). Runs u total (config k zs (words f) s.turns) s.events) (append_assoc (left_by tyb w) (x ∷ []) stack) ((dop w).by stack f s room turns reach)
   reach_under n need k r x stack tyb of_type op dop room (Ends e s) turns reach = reach
 
   -- the second operand, over the word of the first, and then the operator
-  does_second : (n : ℕ) (x : ℤ) (b : Meaning) (op : Value → Meaning) (tyb of_type : Ty) (need q k r : ℕ) → Does n [] b tyb need q k → ((w : Value) → Does n (left_by tyb w ++ x ∷ []) (op w) of_type 0 k r) → Does n (x ∷ []) (b >>= op) of_type (need + 1) q r
+  does_second : (n : ℕ) (x : ℤ) (b : Meaning) (op : Value → Meaning) (tyb of_type : BasicType) (need q k r : ℕ) → Does n [] b tyb need q k → ((w : Value) → Does n (left_by tyb w ++ x ∷ []) (op w) of_type 0 k r) → Does n (x ∷ []) (b >>= op) of_type (need + 1) q r
   unfolding ◌>>=◌
   does_second n x b op tyb of_type need q k r db dop = record {
     by = λ stack f s room turns reach. db.by (x ∷ stack) f s (omega arith) turns (reach_under n 0 k r x stack tyb of_type op dop (omega arith) (b f s) (falls_le s.turns n (b f s) turns (db.falls f s)) reach);
     falls = λ f s. falls_after s.turns (b f s) op (db.falls f s) (λ w f' s'. (dop w).falls f' s');
   }
 
-  does_jump_false : (n need q k to : ℕ) (v : Value) (a b : Meaning) (of_type : Ty) → Does n [] a of_type need q k → Does n [] b of_type need to k → to ≤ q → slice_get u.code q ≡ Some (JumpFalse to) → (c : Bool) → is_one (word_of v) ≡ c → Does n (word_of v ∷ []) (choose c a b) of_type need (suc q) k
+  does_jump_false : (n need q k to : ℕ) (v : Value) (a b : Meaning) (of_type : BasicType) → Does n [] a of_type need q k → Does n [] b of_type need to k → to ≤ q → slice_get u.code q ≡ Some (JumpFalse to) → (c : Bool) → is_one (word_of v) ≡ c → Does n (word_of v ∷ []) (choose c a b) of_type need (suc q) k
   unfolding choose
   does_jump_false n need q k to v a b of_type da db le at true is = record {
     by = λ stack f s room turns reach. quiet (step_is q (JumpFalse to) (word_of v ∷ stack) (words f) s.turns at ∙ if_true (is_one (word_of v)) _ _ is) (da.by stack f s room turns reach);
@@ -271,19 +271,19 @@ module _ (u : Loaded) (total : List Event) where
     falls = db.falls;
   }
 
-  reach_jump : (q k : ℕ) (stack : List ℤ) (of_type : Ty) → k ≤ q → slice_get u.code q ≡ Some (Jump k) → (o : Outcome) → Reaches k stack of_type o → Reaches (suc q) stack of_type o
+  reach_jump : (q k : ℕ) (stack : List ℤ) (of_type : BasicType) → k ≤ q → slice_get u.code q ≡ Some (Jump k) → (o : Outcome) → Reaches k stack of_type o → Reaches (suc q) stack of_type o
   reach_jump q k stack of_type le at (Value_is v f s) reach = quiet (step_is q (Jump k) (left_by of_type v ++ stack) (words f) s.turns at ∙ if_le k q _ _ le) reach
   reach_jump q k stack of_type le at (Ends e s) reach = reach
 
   -- a clause, and then a jump
-  does_jump : (n : ℕ) (before : List ℤ) (a : Meaning) (of_type : Ty) (need p q k : ℕ) → Does n before a of_type need p (suc q) → k ≤ q → slice_get u.code q ≡ Some (Jump k) → Does n before a of_type need p k
+  does_jump : (n : ℕ) (before : List ℤ) (a : Meaning) (of_type : BasicType) (need p q k : ℕ) → Does n before a of_type need p (suc q) → k ≤ q → slice_get u.code q ≡ Some (Jump k) → Does n before a of_type need p k
   does_jump n before a of_type need p q k da le at = record {
     by = λ stack f s room turns reach. da.by stack f s room turns (reach_jump q k stack of_type le at (a f s) reach);
     falls = da.falls;
   }
 
   -- a jump, and then a clause
-  jump_does : (n : ℕ) (a : Meaning) (of_type : Ty) (need q to k : ℕ) → Does n [] a of_type need to k → to ≤ q → slice_get u.code q ≡ Some (Jump to) → Does n [] a of_type need (suc q) k
+  jump_does : (n : ℕ) (a : Meaning) (of_type : BasicType) (need q to k : ℕ) → Does n [] a of_type need to k → to ≤ q → slice_get u.code q ≡ Some (Jump to) → Does n [] a of_type need (suc q) k
   jump_does n a of_type need q to k da le at = record {
     by = λ stack f s room turns reach. quiet (step_is q (Jump to) stack (words f) s.turns at ∙ if_le to q _ _ le) (da.by stack f s room turns reach);
     falls = da.falls;
@@ -363,23 +363,23 @@ module _ (u : Loaded) (total : List Event) where
       (subst (λ (n : ℕ). slice_get u.code n ≡ Some x) at h.0, front j k xs ys e h.1)
 
   -- the words that a clause of an int or a bool left
-  taken : {of_type : Ty} → IsWord of_type → (n : ℕ) (v : Value) (m : Meaning) (t : Ty) (need p k : ℕ) → Does n (word_of v ∷ []) m t need p k → Does n (left_by of_type v) m t need p k
+  taken : {of_type : BasicType} → IsWord of_type → (n : ℕ) (v : Value) (m : Meaning) (t : BasicType) (need p k : ℕ) → Does n (word_of v ∷ []) m t need p k → Does n (left_by of_type v) m t need p k
   taken int_word n v m t need p k d = d
   taken flag_word n v m t need p k d = d
 
-  taken_second : {of_type : Ty} → IsWord of_type → (n : ℕ) (v : Value) (zs : List ℤ) (m : Meaning) (t : Ty) (need p k : ℕ) → Does n (word_of v ∷ zs) m t need p k → Does n (left_by of_type v ++ zs) m t need p k
+  taken_second : {of_type : BasicType} → IsWord of_type → (n : ℕ) (v : Value) (zs : List ℤ) (m : Meaning) (t : BasicType) (need p k : ℕ) → Does n (word_of v ∷ zs) m t need p k → Does n (left_by of_type v ++ zs) m t need p k
   taken_second int_word n v zs m t need p k d = d
   taken_second flag_word n v zs m t need p k d = d
 
   -- an operand, and an instruction that takes it
-  does_with : {of_type : Ty} → IsWord of_type → (n k size : ℕ) (a : Meaning) (b : Value → Meaning) (t : Ty) → Does n [] a of_type size (k + 1 + size) (k + 1) → ((v : Value) → Does n (word_of v ∷ []) (b v) t 0 (suc k) k) → Does n [] (a >>= b) t (size + 1) (k + (size + 1)) k
+  does_with : {of_type : BasicType} → IsWord of_type → (n k size : ℕ) (a : Meaning) (b : Value → Meaning) (t : BasicType) → Does n [] a of_type size (k + 1 + size) (k + 1) → ((v : Value) → Does n (word_of v ∷ []) (b v) t 0 (suc k) k) → Does n [] (a >>= b) t (size + 1) (k + (size + 1)) k
   does_with {of_type} word n k size a b t da db =
       does_then n [] a b of_type t (size + 1) (k + (size + 1)) (suc k) k
       (moved n [] a of_type size (size + 1) (k + 1 + size) (k + (size + 1)) (k + 1) (suc k) (omega arith) (omega arith) (omega arith) da)
       (λ v. taken word n v (b v) t (size + 1) (suc k) k (moved n (word_of v ∷ []) (b v) t 0 (size + 1) (suc k) (suc k) k k (omega arith) refl refl (db v)))
 
   -- two operands, and an instruction that takes them
-  does_with_two : {of_type : Ty} → IsWord of_type → (n k size_a size_b : ℕ) (a b : Meaning) (op : Value → Value → Meaning) (t : Ty) → Does n [] a of_type size_a (k + 1 + size_b + size_a) (k + 1 + size_b) → Does n [] b of_type size_b (k + 1 + size_b) (k + 1) → ((v w : Value) → Does n (word_of w ∷ word_of v ∷ []) (op v w) t 0 (suc k) k) → Does n [] (a >>= λ v. b >>= λ w. op v w) t (size_a + (size_b + 1)) (k + (size_a + (size_b + 1))) k
+  does_with_two : {of_type : BasicType} → IsWord of_type → (n k size_a size_b : ℕ) (a b : Meaning) (op : Value → Value → Meaning) (t : BasicType) → Does n [] a of_type size_a (k + 1 + size_b + size_a) (k + 1 + size_b) → Does n [] b of_type size_b (k + 1 + size_b) (k + 1) → ((v w : Value) → Does n (word_of w ∷ word_of v ∷ []) (op v w) t 0 (suc k) k) → Does n [] (a >>= λ v. b >>= λ w. op v w) t (size_a + (size_b + 1)) (k + (size_a + (size_b + 1))) k
   does_with_two {of_type} word n k size_a size_b a b op t da db dop =
       let second : (v : Value) → Does n (word_of v ∷ []) (b >>= λ w. op v w) t (size_b + 1) (k + 1 + size_b) k
       = λ v. does_second n (word_of v) b (λ w. op v w) of_type t size_b (k + 1 + size_b) (suc k) k
@@ -390,14 +390,14 @@ module _ (u : Loaded) (total : List Event) where
       (λ v. taken word n v _ t (size_a + (size_b + 1)) (k + 1 + size_b) k (moved n (word_of v ∷ []) _ t (size_b + 1) (size_a + (size_b + 1)) (k + 1 + size_b) (k + 1 + size_b) k k (omega arith) refl refl (second v)))
 
   -- the places as sums
-  after_all : (n k : ℕ) (m : Meaning) (of_type : Ty) (need : ℕ) → Does n [] m of_type need (suc k) k → Does n [] m of_type need (k + 1) k
+  after_all : (n k : ℕ) (m : Meaning) (of_type : BasicType) (need : ℕ) → Does n [] m of_type need (suc k) k → Does n [] m of_type need (k + 1) k
   after_all n k m of_type need d = moved n [] m of_type need need (suc k) (k + 1) k k (omega arith) (omega arith) refl d
 
-  in_place : (n k : ℕ) (m : Meaning) (of_type : Ty) → Does n [] m of_type 0 k k → Does n [] m of_type 0 (k + 0) k
+  in_place : (n k : ℕ) (m : Meaning) (of_type : BasicType) → Does n [] m of_type 0 k k → Does n [] m of_type 0 (k + 0) k
   in_place n k m of_type d = moved n [] m of_type 0 0 k (k + 0) k k (omega arith) (omega arith) refl d
 
   -- a value that is put into a local
-  stored : (n k slot : ℕ) (of_type : Ty) (e : Node) → slot < u.locals → IsWord of_type → Does n [] (eval n e) of_type (size e) (k + 1 + size e) (k + 1) → slice_get u.code k ≡ Some (Set slot) → Does n [] (eval n e >>= λ v. set (Plain slot) v) ty.Void (size e + 1) (k + (size e + 1)) k
+  stored : (n k slot : ℕ) (of_type : BasicType) (e : Node) → slot < u.locals → IsWord of_type → Does n [] (eval n e) of_type (size e) (k + 1 + size e) (k + 1) → slice_get u.code k ≡ Some (Set slot) → Does n [] (eval n e >>= λ v. set (Plain slot) v) ty.Void (size e + 1) (k + (size e + 1)) k
   stored n k slot of_type e below word d at = does_with word n k (size e) (eval n e) (λ v. set (Plain slot) v) ty.Void d (λ v. does_set n k slot v below at)
 
   does_if : (n k sc sa : ℕ) (c a : Meaning) → Does n [] c ty.Bool sc (k + sa + 1 + sc) (k + sa + 1) → Does n [] a ty.Void sa (k + sa) k → slice_get u.code (k + sa) ≡ Some (JumpFalse k) → Does n [] (c >>= λ v. choose (flag_of v) a (give Nothing)) ty.Void (sc + (1 + sa)) (k + (sc + (1 + sa))) k
@@ -407,7 +407,7 @@ module _ (u : Loaded) (total : List Event) where
       (λ v. moved n (word_of v ∷ []) _ ty.Void sa (sc + (1 + sa)) (suc (k + sa)) (suc (k + sa)) k k (omega arith) refl refl
       (does_jump_false n sa (k + sa) k k v a (give Nothing) ty.Void da (does_nothing n sa k) (omega arith) at (flag_of v) refl))
 
-  does_if_else : (n k sc sa sb : ℕ) (of_type : Ty) (c a b : Meaning) → Does n [] c ty.Bool sc (k + sb + 1 + sa + 1 + sc) (k + sb + 1 + sa + 1) → Does n [] a of_type sa (k + sb + 1 + sa) (k + sb + 1) → Does n [] b of_type sb (k + sb) k → slice_get u.code (k + sb + 1 + sa) ≡ Some (JumpFalse (k + sb)) → slice_get u.code (k + sb) ≡ Some (Jump k) → Does n [] (c >>= λ v. choose (flag_of v) a b) of_type (sc + (1 + (sa + (1 + sb)))) (k + (sc + (1 + (sa + (1 + sb))))) k
+  does_if_else : (n k sc sa sb : ℕ) (of_type : BasicType) (c a b : Meaning) → Does n [] c ty.Bool sc (k + sb + 1 + sa + 1 + sc) (k + sb + 1 + sa + 1) → Does n [] a of_type sa (k + sb + 1 + sa) (k + sb + 1) → Does n [] b of_type sb (k + sb) k → slice_get u.code (k + sb + 1 + sa) ≡ Some (JumpFalse (k + sb)) → slice_get u.code (k + sb) ≡ Some (Jump k) → Does n [] (c >>= λ v. choose (flag_of v) a b) of_type (sc + (1 + (sa + (1 + sb)))) (k + (sc + (1 + (sa + (1 + sb))))) k
   does_if_else n k sc sa sb of_type c a b dc da db at_test at_jump =
       let need = sc + (1 + (sa + (1 + sb))) in
       let first = does_jump n [] a of_type sa (k + sb + 1 + sa) (k + sb) k (moved n [] a of_type sa sa (k + sb + 1 + sa) (k + sb + 1 + sa) (k + sb + 1) (suc (k + sb)) (omega arith) refl (omega arith) da) (omega arith) at_jump in
@@ -463,14 +463,14 @@ module _ (u : Loaded) (total : List Event) where
   does_write_text n k bytes at = moved n [] (emit_some bytes) ty.Void 0 1 (suc k) (k + 1) k k (omega arith) (omega arith) refl (does_emit_some n k bytes at)
 
   -- nothing more: the value of the clause before is left
-  does_left : (n k : ℕ) (of_type : Ty) (v : Value) → Does n (left_by of_type v) (give v) of_type 0 (k + 0) k
+  does_left : (n k : ℕ) (of_type : BasicType) (v : Value) → Does n (left_by of_type v) (give v) of_type 0 (k + 0) k
   unfolding give
   does_left n k of_type v = moved n (left_by of_type v) (give v) of_type 0 0 k (k + 0) k k (omega arith) (omega arith) refl (record { by = λ stack f s room turns reach. reach; falls = λ f s. omega arith })
 
   mutual
     unfolding eval
 
-    does : (n k : ℕ) {t : Node} {of_type : Ty} → IsTyped u.locals t of_type → Ahead k (code_of t k) → Does n [] (eval n t) of_type (size t) (k + size t) k
+    does : (n k : ℕ) {t : Node} {of_type : BasicType} → IsTyped u.locals t of_type → Ahead k (code_of t k) → Does n [] (eval n t) of_type (size t) (k + size t) k
     does n k (typed.int {z = z}) h = after_all n k (give (Num z)) ty.Int 1 (does_push n k ty.Int (Num z) (Push z) z refl (λ stack locals turns room. push_goes k z stack locals turns room) (here k k (Push z) [] (omega arith) h))
     does n k (typed.flag {b = b}) h = after_all n k (give (Flag b)) ty.Bool 1 (does_push n k ty.Bool (Flag b) (Push (number_of b)) (number_of b) refl (λ stack locals turns room. push_goes k (number_of b) stack locals turns room) (here k k (Push (number_of b)) [] (omega arith) h))
     does n k (typed.name {slot = slot} {ty = of_type} below word) h = after_all n k (get (Plain slot)) of_type 1 (does_get n k slot of_type word below (here k k (Get slot) [] (omega arith) h))
@@ -545,7 +545,7 @@ module _ (u : Loaded) (total : List Event) where
         does_with flag_word n k (size e) (eval n e) (λ v. written ty.Bool v) ty.Void (does n (k + 1) te (before_last k (code_of e (k + 1)) WriteFlag h)) (λ v. does_write_flag n k v (last k (code_of e (k + 1)) WriteFlag h))
     does n k (typed.write_text {bytes = bytes} {line = line}) h = does_write_text n k bytes (here k k (WriteText bytes) [] (omega arith) h)
 
-    does_all : (n k : ℕ) {first of_type : Ty} {ts : Nodes} (v : Value) → AreTyped u.locals first ts of_type → Ahead k (code_of_all ts k) → Does n (left_by first v) (eval_all n v ts) of_type (size_all ts) (k + size_all ts) k
+    does_all : (n k : ℕ) {first of_type : BasicType} {ts : Nodes} (v : Value) → AreTyped u.locals first ts of_type → Ahead k (code_of_all ts k) → Does n (left_by first v) (eval_all n v ts) of_type (size_all ts) (k + size_all ts) k
     does_all n k {first = first} v no_more h = does_left n k first v
     does_all n k v (one_more {t = t} {ts = ts} {of_first = of_first} {ty = of_type} head tail) h =
         let need = size t + size_all ts in

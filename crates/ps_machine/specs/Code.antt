@@ -1,8 +1,8 @@
 -- The instructions of a clause, in the order in which they run. The number is how many instructions come behind
 -- them: a place in the code is the number of instructions from it to the end.
 use Rattle.std.specs.Prelude.{ℕ, ◌+◌, List, [], ◌∷◌, ◌++◌}
-use Rattle.ps_base.specs.declared.ty.Ty.{Ty}
-use Rattle.ps_base.specs.declared.ty.Ty.TheVariants as ty
+use Rattle.ps_base.specs.declared.basic_type.BasicType.{BasicType}
+use Rattle.ps_base.specs.declared.basic_type.BasicType.TheVariants as ty
 use Rattle.ps_base.specs.declared.place.Place.{Place}
 use Rattle.ps_base.specs.declared.place.Place.TheVariants.{Plain}
 use Rattle.ps_base.specs.Node.{Node, Nodes, none, more}
@@ -19,14 +19,14 @@ bytes_in (node.Text bytes) = bytes
 bytes_in t = []
 
 -- the code that writes a value of this type, from the code that gives it, or from its bytes
-abbrev pub written_by : Ty → List Instruction → List ℕ → List Instruction
+abbrev pub written_by : BasicType → List Instruction → List ℕ → List Instruction
 written_by ty.Int code bytes = code ++ WriteInt ∷ []
 written_by ty.Bool code bytes = code ++ WriteFlag ∷ []
 written_by ty.Str code bytes = WriteText bytes ∷ []
 written_by ty.Pntr code bytes = []
 written_by ty.Void code bytes = []
 
-abbrev pub size_written : Ty → ℕ → ℕ
+abbrev pub size_written : BasicType → ℕ → ℕ
 size_written ty.Int n = n + 1
 size_written ty.Bool n = n + 1
 size_written ty.Str n = 1

@@ -1,6 +1,6 @@
 -- What the generator puts behind the code that is there, from the last instruction of a clause to its first.
 use Rattle.std.specs.Prelude.{◌≡◌, ℕ, ◌+◌, List, [], ◌∷◌, ◌++◌, length, reverse}
-use Rattle.ps_base.specs.declared.ty.Ty.{Ty}
+use Rattle.ps_base.specs.declared.basic_type.BasicType.{BasicType}
 use Rattle.ps_base.specs.Node.{Node, Nodes}
 use Rattle.ps_machine.specs.declared.instruction.Instruction.{Instruction}
 use Rattle.ps_machine.specs.Code.{code_of, code_of_all, written_by, bytes_in}
@@ -23,5 +23,5 @@ EmitsBefore old t first new = Puts old (λ k. first ∷ code_of t k) new
 abbrev pub EmitsAll : List Instruction → Nodes → List Instruction → Type 0
 EmitsAll old ts new = Puts old (code_of_all ts) new
 
-abbrev pub EmitsWritten : List Instruction → Ty → Node → List Instruction → Type 0
+abbrev pub EmitsWritten : List Instruction → BasicType → Node → List Instruction → Type 0
 EmitsWritten old of_type e new = Puts old (λ k. written_by of_type (code_of e (k + 1)) (bytes_in e)) new

@@ -1,7 +1,7 @@
 -- When a machine is at the start of a program.
 use Rattle.std.specs.Prelude.{◌≡◌, ℕ, pos, [], length, reverse}
 use Rattle.ps_base.specs.Node.{Node}
-use Rattle.ps_base.specs.declared.ty.Ty.TheVariants.{Void}
+use Rattle.ps_base.specs.declared.basic_type.BasicType.TheVariants.{Void}
 use Rattle.ps_meaning.specs.Typed.{IsTyped}
 use Rattle.ps_machine.specs.declared.machine.Machine.{Machine}
 use Rattle.ps_machine.specs.Code.{code_of}

@@ -9,7 +9,7 @@ use crate::instruction::Instruction;
 use ps_base::bytes::Bytes;
 use ps_base::place::Place;
 use ps_base::tree::Tree;
-use ps_base::ty::Ty;
+use ps_base::basic_type::BasicType;
 use std::alloc::{AllocError, Global};
 
 /// The code of a program, from its last instruction to its first. The error is want of memory; what was
@@ -188,16 +188,16 @@ fn emit_write(
     alloc: Global,
     code: &mut Vec<Instruction>,
     e: &Tree,
-    ty: Ty,
+    ty: BasicType,
 ) -> Result<(), AllocError>
     ensures { OnOk result (EmitsWritten code.old.items ty (node_of e.now) code.new.items) }
 {
     match ty {
-        Ty::Int => emit_with(alloc, code, e, Instruction::WriteInt),
-        Ty::Bool => emit_with(alloc, code, e, Instruction::WriteFlag),
-        Ty::Str => emit_text(alloc, code, e),
-        Ty::Pntr => Ok(()),
-        Ty::Void => Ok(()),
+        BasicType::Int => emit_with(alloc, code, e, Instruction::WriteInt),
+        BasicType::Bool => emit_with(alloc, code, e, Instruction::WriteFlag),
+        BasicType::Str => emit_text(alloc, code, e),
+        BasicType::Pntr => Ok(()),
+        BasicType::Void => Ok(()),
     }
 }
 

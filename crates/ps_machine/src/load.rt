@@ -1,6 +1,6 @@
 ghost use Rattle.std.specs.Prelude.{◌≡◌, length, reverse, IfOk};
 ghost use Rattle.ps_base.specs.Node.{Node};
-ghost use Rattle.ps_base.specs.declared.ty.Ty.TheVariants.{Void};
+ghost use Rattle.ps_base.specs.declared.basic_type.BasicType.TheVariants.{Void};
 ghost use Rattle.ps_meaning.specs.Typed.{IsTyped};
 ghost use Rattle.ps_machine.specs.Code.{code_of};
 ghost use Rattle.ps_machine.specs.Ready.{IsReady};

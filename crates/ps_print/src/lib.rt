@@ -1,4 +1,4 @@
-//! What prints a program: the lexemes of a text, and that they are scanned as they were meant.
+//! Printed texts: the lexemes of a text, and that they are scanned and read as they were meant.
 #![tactic(auto)]
 
 pub mod laws;

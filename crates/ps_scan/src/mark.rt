@@ -101,7 +101,7 @@ macro_rules! all_marks {
 /// The marks in their order. The code of a mark is its place, from 0 on.
 pub const MARKS: [Row; 26] = all_marks!(each_row);
 
-/// Their names, each at its place.
+/// Their names, each at its place, as the definitions have them.
 pub const SPELLINGS: [&str; 26] = all_marks!(each_name);
 
 /// The table of the marks.

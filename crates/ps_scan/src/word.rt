@@ -129,7 +129,7 @@ macro_rules! reserved_words {
 /// The reserved words in their order. The code of a word is its place, from 0 on.
 pub const WORDS: [Row; 36] = reserved_words!(each_row);
 
-/// Their names, each at its place.
+/// Their names, each at its place, as the definitions have them.
 pub const SPELLINGS: [&str; 36] = reserved_words!(each_name);
 
 /// The table of the reserved words.

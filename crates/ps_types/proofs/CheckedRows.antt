@@ -2,7 +2,7 @@
 use Rattle.std.proofs.Common.{◌≡◌, ℕ, List, refl, pos, true, false, None}
 use Rattle.std.specs.Prelude.{codes}
 use Rattle.ps_base.specs.declared.line.Line.{Line}
-use Rattle.ps_base.specs.declared.ty.Ty.TheVariants.{Int, Bool as Flag, Str, Void}
+use Rattle.ps_base.specs.declared.basic_type.BasicType.TheVariants.{Int, Bool as Flag, Str, Void}
 use Rattle.ps_base.specs.declared.place.Place.TheVariants.{Plain}
 use Rattle.ps_base.specs.declared.operator.Operator.TheVariants.{Add}
 use Rattle.ps_base.specs.declared.operator.Relation.TheVariants.{Less, Equal}

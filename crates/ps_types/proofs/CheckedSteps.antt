@@ -3,8 +3,8 @@ use Rattle.std.proofs.Common.{◌≡◌, ◌≢◌, ℕ, Bool, true, false, List
 use Rattle.std.specs.Prelude.{Result, Ok, Err, None, if◌then◌else◌, MatchResult, IfErr, IsErrAnd}
 use Rattle.std.proofs.lemmas.Result.{err_from_is_err_and}
 use Rattle.ps_base.specs.declared.line.Line.{Line}
-use Rattle.ps_base.specs.declared.ty.Ty.{Ty}
-use Rattle.ps_base.specs.declared.ty.Ty.TheVariants.{Int, Bool as Flag, Str, Pntr, Void}
+use Rattle.ps_base.specs.declared.basic_type.BasicType.{BasicType}
+use Rattle.ps_base.specs.declared.basic_type.BasicType.TheVariants.{Int, Bool as Flag, Str, Pntr, Void}
 use Rattle.ps_base.specs.declared.tree.Tree.{Tree}
 use Rattle.ps_base.specs.Node.{Node, Nodes, none, more, node_of, nodes_in}
 use Rattle.ps_base.specs.Node as node
@@ -22,33 +22,33 @@ use Rattle.ps_types.specs.Checks.{IsFault, IsClause, IsOfType, IsMade, linked, c
 use Rattle.ps_types.specs.declared.link.Joint.{Joint}
 
 -- what follows from what an outcome gives
-pub given : {A B : Type 0} (o : Outcome A) (tree : A) (ty : Ty) (names : Names) (next : A → Ty → Names → Outcome B) → o ≡ Gives tree ty names → (o >>= next) ≡ next tree ty names
+pub given : {A B : Type 0} (o : Outcome A) (tree : A) (ty : BasicType) (names : Names) (next : A → BasicType → Names → Outcome B) → o ≡ Gives tree ty names → (o >>= next) ≡ next tree ty names
 unfolding ◌>>=◌
 given o tree ty names next is = ap (λ o. o >>= next) is
 
-pub refused : {A B : Type 0} (o : Outcome A) (fault : CheckFault) (next : A → Ty → Names → Outcome B) → o ≡ Refuses fault → (o >>= next) ≡ Refuses fault
+pub refused : {A B : Type 0} (o : Outcome A) (fault : CheckFault) (next : A → BasicType → Names → Outcome B) → o ≡ Refuses fault → (o >>= next) ≡ Refuses fault
 unfolding ◌>>=◌
 refused o fault next is = ap (λ o. o >>= next) is
 
 -- the fault of what comes first is the fault of all
-pub fails_first : {A B : Type 0} (o : Outcome A) (fault : CheckFault) (next : A → Ty → Names → Outcome B) → IsFault o fault → IsFault (o >>= next) fault
+pub fails_first : {A B : Type 0} (o : Outcome A) (fault : CheckFault) (next : A → BasicType → Names → Outcome B) → IsFault o fault → IsFault (o >>= next) fault
 fails_first o fault next h = record { is = λ other. refused o fault next (h.is other) }
 
-pub fails_next : {A B : Type 0} (o : Outcome A) (tree : A) (ty : Ty) (names : Names) (next : A → Ty → Names → Outcome B) (fault : CheckFault) → o ≡ Gives tree ty names → IsFault (next tree ty names) fault → IsFault (o >>= next) fault
+pub fails_next : {A B : Type 0} (o : Outcome A) (tree : A) (ty : BasicType) (names : Names) (next : A → BasicType → Names → Outcome B) (fault : CheckFault) → o ≡ Gives tree ty names → IsFault (next tree ty names) fault → IsFault (o >>= next) fault
 fails_next o tree ty names next fault is h = record { is = λ other. given o tree ty names next is ∙ h.is other }
 
 -- a clause that passes the test of its type, and one that doesn't
-pub passed : (test : Ty → Bool) (wanted : Ty) (line : Line) (o : Outcome Node) (tree : Node) (ty : Ty) (names : Names) → o ≡ Gives tree ty names → test ty ≡ true → passes test wanted line o ≡ Gives tree ty names
+pub passed : (test : BasicType → Bool) (wanted : BasicType) (line : Line) (o : Outcome Node) (tree : Node) (ty : BasicType) (names : Names) → o ≡ Gives tree ty names → test ty ≡ true → passes test wanted line o ≡ Gives tree ty names
 unfolding passes
 passed test wanted line o tree ty names is h = ap (passes test wanted line) is ∙ ap (λ b. if b then Gives tree ty names else Refuses (Mismatch line ty wanted)) h
 
-pub not_passed : (test : Ty → Bool) (wanted : Ty) (line : Line) (o : Outcome Node) (tree : Node) (ty : Ty) (names : Names) (fault : CheckFault) → o ≡ Gives tree ty names → test ty ≡ false → fault ≡ Mismatch line ty wanted → IsFault (passes test wanted line o) fault
+pub not_passed : (test : BasicType → Bool) (wanted : BasicType) (line : Line) (o : Outcome Node) (tree : Node) (ty : BasicType) (names : Names) (fault : CheckFault) → o ≡ Gives tree ty names → test ty ≡ false → fault ≡ Mismatch line ty wanted → IsFault (passes test wanted line o) fault
 unfolding passes
 not_passed test wanted line o tree ty names fault is h same = record {
   is = λ other. ap (passes test wanted line) is ∙ ap (λ b. if b then Gives tree ty names else Refuses (Mismatch line ty wanted)) h ∙ ap Refuses (sym same);
 }
 
-pub fails_test : (test : Ty → Bool) (wanted : Ty) (line : Line) (o : Outcome Node) (fault : CheckFault) → IsFault o fault → IsFault (passes test wanted line o) fault
+pub fails_test : (test : BasicType → Bool) (wanted : BasicType) (line : Line) (o : Outcome Node) (fault : CheckFault) → IsFault o fault → IsFault (passes test wanted line o) fault
 unfolding passes
 fails_test test wanted line o fault h = record { is = λ other. ap (passes test wanted line) (h.is other) }
 
@@ -59,18 +59,18 @@ no_memory o fault is = record { is = λ other. absurd (other is) }
 pub is_fault : {A : Type 0} (o : Outcome A) (fault : CheckFault) → o ≡ Refuses fault → IsFault o fault
 is_fault o fault h = record { is = λ other. h }
 
-pub is_same_refl : (ty : Ty) → is_same ty ty ≡ true
+pub is_same_refl : (ty : BasicType) → is_same ty ty ≡ true
 is_same_refl Int = refl
 is_same_refl Flag = refl
 is_same_refl Str = refl
 is_same_refl Pntr = refl
 is_same_refl Void = refl
 
-pub is_same_along : (a b : Ty) → a ≡ b → is_same a b ≡ true
+pub is_same_along : (a b : BasicType) → a ≡ b → is_same a b ≡ true
 is_same_along a b e = ap (λ c. is_same a c) (sym e) ∙ is_same_refl a
 
 -- a tree that is made is what the clause gives
-pub made : (o : Outcome Node) (tree : Node) (ty : Ty) (names : Names) (result : Result Clause CheckFault) → o ≡ Gives tree ty names → IsMade tree ty result → IsClause o result names
+pub made : (o : Outcome Node) (tree : Node) (ty : BasicType) (names : Names) (result : Result Clause CheckFault) → o ≡ Gives tree ty names → IsMade tree ty result → IsClause o result names
 made o tree ty names (Ok clause) is m = is ∙ ap (λ t. Gives t ty names) (sym m.0) ∙ ap (λ k. Gives (node_of clause.tree) k names) (sym m.1)
 made o tree ty names (Err fault) is m = no_memory o fault m
 
@@ -136,7 +136,7 @@ exits r P fault o is h =
     MatchResult-from_err' : {T : Type 0} {A : Type 0} (r : Result T CheckFault) (P : T → Type 0) (o : Outcome A) (y : CheckFault) → r ≡ Err y → IsFault o y → MatchResult r P (IsFault o)
     MatchResult-from_err' r P o y is h = subst (λ (r : Result _ CheckFault). MatchResult r P (IsFault o)) (sym is) h
 
-pub made_tree : (o : Outcome Node) (tree : Node) (ty : Ty) (names : Names) (result : Result Tree CheckFault) → o ≡ Gives tree ty names → MatchResult result (λ t. node_of t ≡ tree) (λ fault. fault ≡ Memory) → IsOfType ty o result names
+pub made_tree : (o : Outcome Node) (tree : Node) (ty : BasicType) (names : Names) (result : Result Tree CheckFault) → o ≡ Gives tree ty names → MatchResult result (λ t. node_of t ≡ tree) (λ fault. fault ≡ Memory) → IsOfType ty o result names
 made_tree o tree ty names (Ok t) is m = is ∙ ap (λ t. Gives t ty names) (sym m)
 made_tree o tree ty names (Err fault) is m = no_memory o fault m
 
@@ -166,7 +166,7 @@ unfolding ◌>>=◌
 after_push done t (Gives trees ty names) = ap (λ (ts : Nodes). Gives ts ty names) (sym (nodes-push done t trees))
 after_push done t (Refuses fault) = refl
 
-pub after_last : (done : List Tree) (ty : Ty) (names : Names) → after_trees done (Gives none ty names) ≡ Gives (nodes_in done) ty names
+pub after_last : (done : List Tree) (ty : BasicType) (names : Names) → after_trees done (Gives none ty names) ≡ Gives (nodes_in done) ty names
 unfolding ◌>>=◌
 after_last done ty names = ap (λ (ts : Nodes). Gives ts ty names) (nodes-none done)
 
@@ -175,7 +175,7 @@ pub leads : (o other : Outcome Node) (result : Result Clause CheckFault) (names 
 leads o other result names is h = subst (λ (o : Outcome Node). IsClause o result names) (sym is) h
 
 -- a tree of the wanted type, or the fault that it is of another
-pub of_type : (clause : Clause) (wanted : Ty) (line : Line) (o : Outcome Node) (names : Names) (result : Result Tree CheckFault)
+pub of_type : (clause : Clause) (wanted : BasicType) (line : Line) (o : Outcome Node) (names : Names) (result : Result Tree CheckFault)
     → o ≡ Gives (node_of clause.tree) clause.ty names
     → MatchResult result (λ tree. (clause.ty ≡ wanted) × (tree ≡ clause.tree)) (λ fault. (is_same clause.ty wanted ≡ false) × (fault ≡ Mismatch line clause.ty wanted))
     → IsOfType wanted (wants wanted line o) result names
@@ -192,16 +192,16 @@ pub one_weight : (first links : List Link) (last : Link) → first ≡ [] → li
 one_weight first links last empty is = ap weight_links (is ∙ ap (λ (ls : List Link). ls ++ last ∷ []) empty) ∙ omega arith
 
 -- an item of a sequence, behind one that has no value, and behind one that has
-pub all_step : (names : Names) (line : Line) (before : Ty) (item : Phrase) (rest : Phrases) → before ≡ Void → check_all names line before (form.more item rest) ≡ (check names item >>= λ tree ty names. check_all names (line_of item) ty rest >>= λ trees ty names. Gives (more tree trees) ty names)
+pub all_step : (names : Names) (line : Line) (before : BasicType) (item : Phrase) (rest : Phrases) → before ≡ Void → check_all names line before (form.more item rest) ≡ (check names item >>= λ tree ty names. check_all names (line_of item) ty rest >>= λ trees ty names. Gives (more tree trees) ty names)
 all_step names line before item rest void =
     ap (λ b. if b then (check names item >>= λ tree ty names. check_all names (line_of item) ty rest >>= λ trees ty names. Gives (more tree trees) ty names) else Refuses (Mismatch line before Void)) (is_same_along before Void void)
 
-pub all_stops : (names : Names) (line : Line) (before : Ty) (item : Phrase) (rest : Phrases) (fault : CheckFault) → is_same before Void ≡ false → fault ≡ Mismatch line before Void → IsFault (check_all names line before (form.more item rest)) fault
+pub all_stops : (names : Names) (line : Line) (before : BasicType) (item : Phrase) (rest : Phrases) (fault : CheckFault) → is_same before Void ≡ false → fault ≡ Mismatch line before Void → IsFault (check_all names line before (form.more item rest)) fault
 all_stops names line before item rest fault value is =
     is_fault _ fault (ap (λ b. if b then (check names item >>= λ tree ty names. check_all names (line_of item) ty rest >>= λ trees ty names. Gives (more tree trees) ty names) else Refuses (Mismatch line before Void)) value ∙ ap Refuses (sym is))
 
 -- the fault of what is left is that of the whole
-pub fails_after : {B : Type 0} (done : List Tree) (o all whole : Outcome Nodes) (next : Nodes → Ty → Names → Outcome B) (fault : CheckFault) → after_trees done o ≡ all → all ≡ whole → IsFault o fault → IsFault (whole >>= next) fault
+pub fails_after : {B : Type 0} (done : List Tree) (o all whole : Outcome Nodes) (next : Nodes → BasicType → Names → Outcome B) (fault : CheckFault) → after_trees done o ≡ all → all ≡ whole → IsFault o fault → IsFault (whole >>= next) fault
 fails_after done o all whole next fault is same h = fails_first whole fault next (subst (λ (o : Outcome Nodes). IsFault o fault) (is ∙ same) (fails_first o fault _ h))
 
 -- one item more
@@ -210,7 +210,7 @@ after_item done done' t o left all is step before =
     ap (λ (ts : List Tree). after_trees ts o) is ∙ sym (after_push done t o) ∙ ap (after_trees done) (sym step) ∙ before
 
 -- what all items give
-pub after_all : (done : List Tree) (ty : Ty) (names : Names) (left all : Outcome Nodes) → left ≡ Gives none ty names → after_trees done left ≡ all → all ≡ Gives (nodes_in done) ty names
+pub after_all : (done : List Tree) (ty : BasicType) (names : Names) (left all : Outcome Nodes) → left ≡ Gives none ty names → after_trees done left ≡ all → all ≡ Gives (nodes_in done) ty names
 after_all done ty names left all is before = sym before ∙ ap (after_trees done) is ∙ after_last done ty names
 
 pub exits_with : {T : Type 0} (r : Result T CheckFault) (Q : CheckFault → Type 0) (fault : CheckFault) → IsErrAnd r (λ y. y ≡ fault) → Q fault → IfErr r Q
@@ -228,14 +228,14 @@ unfolding check_program verdict_of
 program_fails p fault h other = ap verdict_of (h.is other)
 
 -- a sequence with its trees, and a write with those of its items
-pub block_given : (o : Outcome Nodes) (trees : Nodes) (ty : Ty) (start last after : Names) (tree : Node) → o ≡ Gives trees ty last → tree ≡ node.Block None trees → after ≡ behind start last → (o >>= λ trees ty last. Gives (node.Block None trees) ty (behind start last)) ≡ Gives tree ty after
+pub block_given : (o : Outcome Nodes) (trees : Nodes) (ty : BasicType) (start last after : Names) (tree : Node) → o ≡ Gives trees ty last → tree ≡ node.Block None trees → after ≡ behind start last → (o >>= λ trees ty last. Gives (node.Block None trees) ty (behind start last)) ≡ Gives tree ty after
 block_given o trees ty start last after tree is tree_is after_is =
     let whole : (o >>= λ trees ty last. Gives (node.Block None trees) ty (behind start last)) ≡ Gives (node.Block None trees) ty (behind start last) = given o trees ty last _ is in
     let named : Gives (node.Block None trees) ty (behind start last) ≡ Gives tree ty (behind start last) = ap (λ t. Gives t ty (behind start last)) (sym tree_is) in
     let left : Gives tree ty (behind start last) ≡ Gives tree ty after = ap (λ (n : Names). Gives tree ty n) (sym after_is) in
     whole ∙ named ∙ left
 
-pub together_given : (o : Outcome Nodes) (trees : Nodes) (ty : Ty) (last : Names) (tree : Node) → o ≡ Gives trees ty last → tree ≡ together trees → (o >>= λ trees ty names. Gives (together trees) Void names) ≡ Gives tree Void last
+pub together_given : (o : Outcome Nodes) (trees : Nodes) (ty : BasicType) (last : Names) (tree : Node) → o ≡ Gives trees ty last → tree ≡ together trees → (o >>= λ trees ty names. Gives (together trees) Void names) ≡ Gives tree Void last
 together_given o trees ty last tree is tree_is =
     let whole : (o >>= λ trees ty names. Gives (together trees) Void names) ≡ Gives (together trees) Void last = given o trees ty last _ is in
     let named : Gives (together trees) Void last ≡ Gives tree Void last = ap (λ t. Gives t Void last) (sym tree_is) in

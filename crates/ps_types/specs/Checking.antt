@@ -1,8 +1,8 @@
 -- The typing rules: the typed tree of a program, or its first fault in the order of the text.
 use Rattle.std.specs.Prelude.{ℕ, Bool, true, false, Option, Some, None, if◌then◌else◌}
 use Rattle.ps_base.specs.declared.line.Line.{Line}
-use Rattle.ps_base.specs.declared.ty.Ty.{Ty}
-use Rattle.ps_base.specs.declared.ty.Ty.TheVariants.{Int, Bool as Flag, Str, Pntr, Void}
+use Rattle.ps_base.specs.declared.basic_type.BasicType.{BasicType}
+use Rattle.ps_base.specs.declared.basic_type.BasicType.TheVariants.{Int, Bool as Flag, Str, Pntr, Void}
 use Rattle.ps_base.specs.declared.place.Place.TheVariants.{Plain}
 use Rattle.ps_base.specs.declared.operator.Relation.{Relation}
 use Rattle.ps_base.specs.declared.operator.Relation.TheVariants.{Equal, NotEqual}
@@ -18,19 +18,19 @@ use Rattle.ps_types.specs.Names.{Names, no_names, meant, is_declared, declare, i
 -- What the check of a clause gives: its typed tree, its type and the names behind it; or the first fault.
 -- Of several clauses it gives their trees.
 pub data Outcome (A : Type 0) : Type 0 where
-  Gives : (tree : A) (ty : Ty) (names : Names) → Outcome A
+  Gives : (tree : A) (ty : BasicType) (names : Names) → Outcome A
   Refuses : (fault : CheckFault) → Outcome A
 
 -- the first, and then what follows from what it gives
 infixr 10 ◌>>=◌
-unfoldable pub ◌>>=◌ : {A B : Type 0} → Outcome A → (A → Ty → Names → Outcome B) → Outcome B
+unfoldable pub ◌>>=◌ : {A B : Type 0} → Outcome A → (A → BasicType → Names → Outcome B) → Outcome B
 ◌>>=◌ (Gives tree ty names) next = next tree ty names
 ◌>>=◌ (Refuses fault) next = Refuses fault
 
 abbrev pub line_of : Phrase → Line
 line_of (at form line) = line
 
-abbrev pub is_same : Ty → Ty → Bool
+abbrev pub is_same : BasicType → BasicType → Bool
 is_same Int Int = true
 is_same Flag Flag = true
 is_same Str Str = true
@@ -39,24 +39,24 @@ is_same Void Void = true
 is_same a b = false
 
 -- an int or a bool
-abbrev pub is_word : Ty → Bool
+abbrev pub is_word : BasicType → Bool
 is_word Int = true
 is_word Flag = true
 is_word ty = false
 
 -- what a relation compares: equality ints or bools, the others ints
-abbrev pub is_comparable : Relation → Ty → Bool
+abbrev pub is_comparable : Relation → BasicType → Bool
 is_comparable Equal ty = is_word ty
 is_comparable NotEqual ty = is_word ty
 is_comparable op ty = is_same ty Int
 
 -- a clause on this line that is to pass a test of its type; where it doesn't, this type was wanted
-unfoldable pub passes : (Ty → Bool) → Ty → Line → Outcome Node → Outcome Node
+unfoldable pub passes : (BasicType → Bool) → BasicType → Line → Outcome Node → Outcome Node
 passes test wanted line (Gives tree found names) = if test found then Gives tree found names else Refuses (Mismatch line found wanted)
 passes test wanted line (Refuses fault) = Refuses fault
 
 -- a clause that is to have this type
-abbrev pub wants : Ty → Line → Outcome Node → Outcome Node
+abbrev pub wants : BasicType → Line → Outcome Node → Outcome Node
 wants wanted line clause = passes (λ found. is_same found wanted) wanted line clause
 
 -- a name where it is used
@@ -65,7 +65,7 @@ named line (Some local) names = Gives (node.Name (Plain local.slot) local.ty) lo
 named line None names = Refuses (Unknown line)
 
 -- a name that gets an initial value, and is in scope from here on
-abbrev pub introduced : NameAt → Bool → Node → Ty → Names → Outcome Node
+abbrev pub introduced : NameAt → Bool → Node → BasicType → Names → Outcome Node
 introduced name variable e ty names =
     if is_declared names name.name then Refuses (Twice name.line)
     else Gives (node.Let (Plain names.next) ty e) Void (declare names name.name ty variable)
@@ -80,17 +80,17 @@ target names (at (form.Name name) line) = variable_in (meant names name)
 target names (at other line) = None
 
 -- an assignment, on this line, of what was found on that line
-abbrev pub assigned : Line → Line → Option Local → Node → Ty → Names → Outcome Node
+abbrev pub assigned : Line → Line → Option Local → Node → BasicType → Names → Outcome Node
 assigned line e_line (Some local) e found names =
     if is_same found local.ty then Gives (node.SetName (Plain local.slot) local.ty e) Void names else Refuses (Mismatch e_line found local.ty)
 assigned line e_line None e found names = Refuses (NotAssignable line)
 
 -- Whether an item can be written: an int, a bool, or a string that stands in the text.
-abbrev pub is_writable : Ty → Node → Bool
+abbrev pub is_writable : BasicType → Node → Bool
 is_writable Str (node.Text bytes) = true
 is_writable ty tree = is_word ty
 
-abbrev pub written : Line → Node → Ty → Names → Outcome Node
+abbrev pub written : Line → Node → BasicType → Names → Outcome Node
 written line tree found names =
     if is_writable found tree then Gives (node.Write tree node.Empty false found line) Void names else Refuses (Mismatch line found Int)
 
@@ -147,7 +147,7 @@ abbrev mutual
   check_form names line (form.Flag value) = Gives (node.Flag value) Flag names
 
   -- The items of a sequence, behind an item on this line of this type: each but the last is void.
-  pub check_all : Names → Line → Ty → Phrases → Outcome Nodes
+  pub check_all : Names → Line → BasicType → Phrases → Outcome Nodes
   check_all names line before none = Gives node.none before names
   check_all names line before (more item rest) =
       if is_same before Void

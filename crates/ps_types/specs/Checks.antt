@@ -1,8 +1,8 @@
 -- What the functions of the checker answer.
 use Rattle.std.specs.Prelude.{◌≡◌, ◌≢◌, List, [], ◌∷◌, Result, MatchResult}
 use Rattle.ps_base.specs.declared.line.Line.{Line}
-use Rattle.ps_base.specs.declared.ty.Ty.{Ty}
-use Rattle.ps_base.specs.declared.ty.Ty.TheVariants.{Int, Bool as Flag, Void}
+use Rattle.ps_base.specs.declared.basic_type.BasicType.{BasicType}
+use Rattle.ps_base.specs.declared.basic_type.BasicType.TheVariants.{Int, Bool as Flag, Void}
 use Rattle.ps_base.specs.declared.tree.Tree.{Tree}
 use Rattle.ps_base.specs.Node.{Node, Nodes, node_of, nodes_in}
 use Rattle.ps_base.specs.Node as node
@@ -33,14 +33,14 @@ abbrev pub IsClause : Outcome Node → Result Clause CheckFault → Names → Ty
 IsClause outcome result names = MatchResult result (λ clause. outcome ≡ Gives (node_of clause.tree) clause.ty names) (IsFault outcome)
 
 -- the tree of a clause whose type is known
-abbrev pub IsOfType : Ty → Outcome Node → Result Tree CheckFault → Names → Type 0
+abbrev pub IsOfType : BasicType → Outcome Node → Result Tree CheckFault → Names → Type 0
 IsOfType ty outcome result names = MatchResult result (λ tree. outcome ≡ Gives (node_of tree) ty names) (IsFault outcome)
 
 -- a clause with this tree and this type is made, or there is no memory for it
-abbrev pub IsMade : Node → Ty → Result Clause CheckFault → Type 0
+abbrev pub IsMade : Node → BasicType → Result Clause CheckFault → Type 0
 IsMade tree ty result = MatchResult result (λ clause. (node_of clause.tree ≡ tree) × (clause.ty ≡ ty)) (λ fault. fault ≡ Memory)
 
-abbrev pub prefix_ty : Prefix → Ty
+abbrev pub prefix_ty : Prefix → BasicType
 prefix_ty prefix.Not = Flag
 prefix_ty prefix.Plus = Int
 prefix_ty (prefix.Neg line) = Int
@@ -64,7 +64,7 @@ check_guarded kind names c a =
     wants Flag (line_of c) (check names c) >>= λ c ty names.
     wants Void (line_of a) (check names a) >>= λ a ty names. Gives (guard_node kind c a) Void names
 
-abbrev pub joint_ty : Joint → Ty
+abbrev pub joint_ty : Joint → BasicType
 joint_ty joint.Or = Flag
 joint_ty joint.And = Flag
 joint_ty (joint.Arith op line) = Int

@@ -1,7 +1,7 @@
 -- The names that are in scope at a place of a program.
 use Rattle.std.specs.Prelude.{ℕ, ◌+◌, Bool, Option, Some, None, List, [], ◌∷◌, ◌++◌, nat_eq, is_some, if◌then◌else◌}
 use lib.Pointwise.{pointwise}
-use Rattle.ps_base.specs.declared.ty.Ty.{Ty}
+use Rattle.ps_base.specs.declared.basic_type.BasicType.{BasicType}
 use Rattle.ps_types.specs.declared.declaration.Declaration.{Declaration}
 use Rattle.ps_types.specs.declared.declaration.Local.{Local}
 
@@ -29,7 +29,7 @@ abbrev pub is_declared : Names → List ℕ → Bool
 is_declared names name = is_some (lookup names.here name)
 
 -- one name more, in the next slot
-abbrev pub declare : Names → List ℕ → Ty → Bool → Names
+abbrev pub declare : Names → List ℕ → BasicType → Bool → Names
 declare names name ty variable = record {
   here = record { name = name; local = record { slot = names.next; ty = ty; variable = variable } } ∷ names.here;
   around = names.around;

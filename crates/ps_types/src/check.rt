@@ -19,7 +19,7 @@ use ps_base::line::Line;
 use ps_base::operator::Relation;
 use ps_base::place::Place;
 use ps_base::tree::Tree;
-use ps_base::ty::Ty;
+use ps_base::basic_type::BasicType;
 use ps_parse::rough::{Named, Rough, RoughForm};
 use std::alloc::Global;
 
@@ -34,12 +34,12 @@ pub struct Checked {
 /// the order of the text, or `Memory` (`docs/language.md`); what was made until then is let go.
 pub fn check(alloc: Global, rough: &Rough) -> Result<Checked, CheckFault>
     ensures ok { IfOk result (λ checked. check_program (phrase_of rough.now) ≡ Typed (node_of checked.tree) checked.slots) }
-    ensures typed { IfOk result (λ checked. IsTyped checked.slots (node_of checked.tree) Ty.Void) }
+    ensures typed { IfOk result (λ checked. IsTyped checked.slots (node_of checked.tree) BasicType.Void) }
     ensures fault { IfErr result (λ fault. fault ≢ CheckFault.Memory → check_program (phrase_of rough.now) ≡ Fails fault) }
 {
     let mut scope = Scope::new(alloc);
     let whole = check_clause(alloc, &mut scope, rough)?;
-    let tree = of_type(whole, end_line(rough), Ty::Void)?;
+    let tree = of_type(whole, end_line(rough), BasicType::Void)?;
     Ok(Checked {
         tree,
         slots: scope.free(),
@@ -80,11 +80,11 @@ fn check_clause(alloc: Global, scope: &mut Scope, rough: &Rough) -> Result<Claus
         RoughForm::Text(bytes) => clause::text(alloc, bytes.as_slice()),
         RoughForm::Int(z) => Ok(Clause {
             tree: Tree::Int(*z),
-            ty: Ty::Int,
+            ty: BasicType::Int,
         }),
         RoughForm::Flag(b) => Ok(Clause {
             tree: Tree::Flag(*b),
-            ty: Ty::Bool,
+            ty: BasicType::Bool,
         }),
     }
 }
@@ -95,7 +95,7 @@ fn check_operand(
     alloc: Global,
     scope: &mut Scope,
     rough: &Rough,
-    wanted: Ty,
+    wanted: BasicType,
 ) -> Result<Tree, CheckFault>
     ensures { IsOfType wanted (wants wanted rough.now.line (check_of scope.old (phrase_of rough.now))) result scope.new }
 {
@@ -126,8 +126,8 @@ fn check_guarded(
 ) -> Result<Clause, CheckFault>
     ensures { IsClause (guarded_of guard scope.old (phrase_of c.now) (phrase_of a.now)) result scope.new }
 {
-    let c = check_operand(alloc, scope, c, Ty::Bool)?;
-    let a = check_operand(alloc, scope, a, Ty::Void)?;
+    let c = check_operand(alloc, scope, c, BasicType::Bool)?;
+    let a = check_operand(alloc, scope, a, BasicType::Void)?;
     clause::guarded(alloc, guard, c, a)
 }
 
@@ -141,7 +141,7 @@ fn check_if_else(
 ) -> Result<Clause, CheckFault>
     ensures { IsClause (check_unlined scope.old (form.IfElse (phrase_of c.now) (phrase_of a.now) (phrase_of b.now))) result scope.new }
 {
-    let c = check_operand(alloc, scope, c, Ty::Bool)?;
+    let c = check_operand(alloc, scope, c, BasicType::Bool)?;
     let a = check_clause(alloc, scope, a)?;
     let b = check_operand(alloc, scope, b, a.ty)?;
     clause::if_else(alloc, c, a, b)
@@ -159,7 +159,7 @@ fn check_compare(
 {
     let left = check_clause(alloc, scope, a)?;
     let fits = is_comparable(op, left.ty);
-    let left = tested(left, fits, a.line, Ty::Int)?;
+    let left = tested(left, fits, a.line, BasicType::Int)?;
     let right = check_operand(alloc, scope, b, left.ty)?;
     clause::compared(alloc, op, left, right)
 }
@@ -176,7 +176,7 @@ fn check_let(
 {
     let initial = check_clause(alloc, scope, e)?;
     let fits = is_word(initial.ty);
-    let initial = tested(initial, fits, e.line, Ty::Bool)?;
+    let initial = tested(initial, fits, e.line, BasicType::Bool)?;
     introduce(alloc, scope, name, variable, initial)
 }
 
@@ -243,7 +243,7 @@ fn check_sequence(
 {
     let block = scope.enter();
     let mut trees = Vec::new(alloc);
-    let mut before = Ty::Void;
+    let mut before = BasicType::Void;
     let mut line = line;
     for item in items {
         no_value(before, line)?;
@@ -271,7 +271,7 @@ fn check_write(alloc: Global, scope: &mut Scope, items: &[Rough]) -> Result<Clau
     }
     Ok(Clause {
         tree: clause::one_or_block(trees),
-        ty: Ty::Void,
+        ty: BasicType::Void,
     })
 }
 
@@ -302,7 +302,7 @@ fn gather<'a>(links: &mut Vec<Link<'a>>, left: &'a Rough) -> Result<&'a Rough, C
 }
 
 // A clause that passed a test of its type, or the fault that it has another than the one wanted.
-fn tested(clause: Clause, passes: bool, line: Line, wanted: Ty) -> Result<Clause, CheckFault>
+fn tested(clause: Clause, passes: bool, line: Line, wanted: BasicType) -> Result<Clause, CheckFault>
     ensures { MatchResult result (λ tested. (passes ≡ true) × (tested ≡ clause)) (λ fault. (passes ≡ false) × (fault ≡ CheckFault.Mismatch line clause.ty wanted)) }
 {
     if passes {
@@ -316,7 +316,7 @@ fn tested(clause: Clause, passes: bool, line: Line, wanted: Ty) -> Result<Clause
 }
 
 // The tree of a clause that is to have this type.
-fn of_type(clause: Clause, line: Line, wanted: Ty) -> Result<Tree, CheckFault>
+fn of_type(clause: Clause, line: Line, wanted: BasicType) -> Result<Tree, CheckFault>
     ensures { MatchResult result (λ tree. (clause.ty ≡ wanted) × (tree ≡ clause.tree)) (λ fault. (is_same_of clause.ty wanted ≡ false) × (fault ≡ CheckFault.Mismatch line clause.ty wanted)) }
 {
     let fits = is_same(clause.ty, wanted);
@@ -325,21 +325,21 @@ fn of_type(clause: Clause, line: Line, wanted: Ty) -> Result<Tree, CheckFault>
 }
 
 // A clause before others in a sequence has no value.
-fn no_value(ty: Ty, line: Line) -> Result<(), CheckFault>
-    ensures { MatchResult result (λ _. ty ≡ Ty.Void) (λ fault. (is_same_of ty Ty.Void ≡ false) × (fault ≡ CheckFault.Mismatch line ty Ty.Void)) }
+fn no_value(ty: BasicType, line: Line) -> Result<(), CheckFault>
+    ensures { MatchResult result (λ _. ty ≡ BasicType.Void) (λ fault. (is_same_of ty BasicType.Void ≡ false) × (fault ≡ CheckFault.Mismatch line ty BasicType.Void)) }
 {
-    if is_same(ty, Ty::Void) {
+    if is_same(ty, BasicType::Void) {
         return Ok(());
     }
     Err(CheckFault::Mismatch {
         line,
         found: ty,
-        wanted: Ty::Void,
+        wanted: BasicType::Void,
     })
 }
 
 // Whether two types are the same.
-fn is_same(a: Ty, b: Ty) -> bool
+fn is_same(a: BasicType, b: BasicType) -> bool
     ensures same { result ≡ is_same_of a b }
     ensures equal { result ≡ true → a ≡ b }
 {
@@ -347,29 +347,29 @@ fn is_same(a: Ty, b: Ty) -> bool
 }
 
 // Whether values of a type are kept in a local: ints and bools.
-fn is_word(ty: Ty) -> bool
+fn is_word(ty: BasicType) -> bool
     ensures { result ≡ is_word_of ty }
 {
-    matches!(ty, Ty::Int | Ty::Bool)
+    matches!(ty, BasicType::Int | BasicType::Bool)
 }
 
 // Whether a relation compares values of a type.
-fn is_comparable(op: Relation, ty: Ty) -> bool
+fn is_comparable(op: Relation, ty: BasicType) -> bool
     ensures { result ≡ is_comparable_of op ty }
 {
     match op {
         Relation::Equal | Relation::NotEqual => is_word(ty),
         Relation::Less | Relation::LessEqual | Relation::Greater | Relation::GreaterEqual =>
-            is_same(ty, Ty::Int),
+            is_same(ty, BasicType::Int),
     }
 }
 
 // Whether an item can be written: an int, a bool, or a string that stands in the text.
-fn is_writable(ty: Ty, tree: &Tree) -> bool
+fn is_writable(ty: BasicType, tree: &Tree) -> bool
     ensures { result ≡ is_writable_of ty (node_of tree.now) }
 {
     match ty {
-        Ty::Str => matches!(tree, Tree::Text(_)),
+        BasicType::Str => matches!(tree, Tree::Text(_)),
         _ => is_word(ty),
     }
 }
@@ -446,10 +446,10 @@ fn assign(
 
 // The write of one item.
 fn write_item(alloc: Global, line: Line, item: Clause) -> Result<Tree, CheckFault>
-    ensures { (names : Names) → IsOfType Ty.Void (written line (node_of item.tree) item.ty names) result names }
+    ensures { (names : Names) → IsOfType BasicType.Void (written line (node_of item.tree) item.ty names) result names }
 {
     let fits = is_writable(item.ty, &item.tree);
-    let item = tested(item, fits, line, Ty::Int)?;
+    let item = tested(item, fits, line, BasicType::Int)?;
     clause::write_item(alloc, line, item)
 }
 

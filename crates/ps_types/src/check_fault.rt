@@ -3,7 +3,7 @@ ghost use Rattle.ps_types.specs.CheckFaults.{number_of, line_of_fault};
 ghost use Rattle.ps_types.specs.declared.check_fault.CheckFault.TheVariants.{Memory};
 
 use ps_base::line::Line;
-use ps_base::ty::Ty;
+use ps_base::basic_type::BasicType;
 use std::alloc::{AllocError, AllocFailed};
 
 /// Why a program isn't well typed. Of several faults the first in the order of the text is answered
@@ -15,7 +15,7 @@ pub enum CheckFault {
     /// A name is declared a second time in its block.
     Twice { line: Line },
     /// A clause has another type than the one wanted; where several would do, the first of them.
-    Mismatch { line: Line, found: Ty, wanted: Ty },
+    Mismatch { line: Line, found: BasicType, wanted: BasicType },
     /// What stands before `:=` is no variable.
     NotAssignable { line: Line },
     /// There was no memory for the tree, or no number left for a further name.

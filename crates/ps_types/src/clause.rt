@@ -12,14 +12,14 @@ use ps_base::list::List;
 use ps_base::operator::Relation;
 use ps_base::place::Place;
 use ps_base::tree::Tree;
-use ps_base::ty::Ty;
+use ps_base::basic_type::BasicType;
 use std::alloc::Global;
 
 /// A clause that was checked: its typed tree, and its type.
 #[derive(Drop)]
 pub struct Clause {
     pub tree: Tree,
-    pub ty: Ty,
+    pub ty: BasicType,
 }
 
 /// An operator with one operand.
@@ -32,13 +32,13 @@ pub enum Prefix {
 
 impl Prefix {
     /// The type of the operand, and of what the operator gives.
-    pub fn ty(self) -> Ty
+    pub fn ty(self) -> BasicType
         ensures { result ≡ prefix_ty self }
     {
         match self {
-            Prefix::Not => Ty::Bool,
-            Prefix::Plus => Ty::Int,
-            Prefix::Neg(_) => Ty::Int,
+            Prefix::Not => BasicType::Bool,
+            Prefix::Plus => BasicType::Int,
+            Prefix::Neg(_) => BasicType::Int,
         }
     }
 }
@@ -60,22 +60,22 @@ pub fn prefixed(alloc: Global, prefix: Prefix, e: Tree) -> Result<Clause, CheckF
     Ok(match prefix {
         Prefix::Not => Clause {
             tree: Tree::Not(e),
-            ty: Ty::Bool,
+            ty: BasicType::Bool,
         },
         Prefix::Plus => Clause {
             tree: Tree::Plus(e),
-            ty: Ty::Int,
+            ty: BasicType::Int,
         },
         Prefix::Neg(line) => Clause {
             tree: Tree::Neg { e, line },
-            ty: Ty::Int,
+            ty: BasicType::Int,
         },
     })
 }
 
 /// A choice without `else`, or a loop.
 pub fn guarded(alloc: Global, guard: Guard, c: Tree, a: Tree) -> Result<Clause, CheckFault>
-    ensures { IsMade (guard_node guard (node_of c) (node_of a)) Ty.Void result }
+    ensures { IsMade (guard_node guard (node_of c) (node_of a)) BasicType.Void result }
 {
     let c = Box::new(alloc, c)?;
     let a = Box::new(alloc, a)?;
@@ -83,7 +83,7 @@ pub fn guarded(alloc: Global, guard: Guard, c: Tree, a: Tree) -> Result<Clause, 
         Guard::IfDo => Tree::IfDo { c, a },
         Guard::While => Tree::While { c, a },
     };
-    Ok(Clause { tree, ty: Ty::Void })
+    Ok(Clause { tree, ty: BasicType::Void })
 }
 
 /// A choice between two clauses of one type.
@@ -109,35 +109,35 @@ pub fn joined(alloc: Global, joint: Joint, a: Tree, b: Tree) -> Result<Clause, C
     Ok(match joint {
         Joint::Or => Clause {
             tree: Tree::Or { a, b },
-            ty: Ty::Bool,
+            ty: BasicType::Bool,
         },
         Joint::And => Clause {
             tree: Tree::And { a, b },
-            ty: Ty::Bool,
+            ty: BasicType::Bool,
         },
         Joint::Arith(op, line) => Clause {
             tree: Tree::Arith { op, a, b, line },
-            ty: Ty::Int,
+            ty: BasicType::Int,
         },
     })
 }
 
 /// A comparison of two operands of one type.
 pub fn compared(alloc: Global, op: Relation, a: Clause, b: Tree) -> Result<Clause, CheckFault>
-    ensures { IsMade (node.Compare op a.ty (node_of a.tree) (node_of b)) Ty.Bool result }
+    ensures { IsMade (node.Compare op a.ty (node_of a.tree) (node_of b)) BasicType.Bool result }
 {
     let Clause { tree, ty } = a;
     let a = Box::new(alloc, tree)?;
     let b = Box::new(alloc, b)?;
     Ok(Clause {
         tree: Tree::Compare { op, ty, a, b },
-        ty: Ty::Bool,
+        ty: BasicType::Bool,
     })
 }
 
 /// The clause that gives a declared name its initial value.
 pub fn let_name(alloc: Global, slot: u32, e: Clause) -> Result<Clause, CheckFault>
-    ensures { IsMade (node.Let (Place.Plain slot) e.ty (node_of e.tree)) Ty.Void result }
+    ensures { IsMade (node.Let (Place.Plain slot) e.ty (node_of e.tree)) BasicType.Void result }
 {
     let Clause { tree, ty } = e;
     let e = Box::new(alloc, tree)?;
@@ -147,13 +147,13 @@ pub fn let_name(alloc: Global, slot: u32, e: Clause) -> Result<Clause, CheckFaul
             ty,
             e,
         },
-        ty: Ty::Void,
+        ty: BasicType::Void,
     })
 }
 
 /// The assignment to a variable.
-pub fn set_name(alloc: Global, slot: u32, ty: Ty, e: Tree) -> Result<Clause, CheckFault>
-    ensures { IsMade (node.SetName (Place.Plain slot) ty (node_of e)) Ty.Void result }
+pub fn set_name(alloc: Global, slot: u32, ty: BasicType, e: Tree) -> Result<Clause, CheckFault>
+    ensures { IsMade (node.SetName (Place.Plain slot) ty (node_of e)) BasicType.Void result }
 {
     let e = Box::new(alloc, e)?;
     Ok(Clause {
@@ -162,18 +162,18 @@ pub fn set_name(alloc: Global, slot: u32, ty: Ty, e: Tree) -> Result<Clause, Che
             ty,
             e,
         },
-        ty: Ty::Void,
+        ty: BasicType::Void,
     })
 }
 
 /// A string that stands in the text.
 pub fn text(alloc: Global, bytes: &[u8]) -> Result<Clause, CheckFault>
-    ensures { IsMade (node.Text bytes.now) Ty.Str result }
+    ensures { IsMade (node.Text bytes.now) BasicType.Str result }
 {
     let bytes = Bytes::new(Vec::from_slice(alloc, bytes)?);
     Ok(Clause {
         tree: Tree::Text(bytes),
-        ty: Ty::Str,
+        ty: BasicType::Str,
     })
 }
 

@@ -1,5 +1,5 @@
 use ps_base::bytes::Bytes;
-use ps_base::ty::Ty;
+use ps_base::basic_type::BasicType;
 
 /// A name that a program declares, and what it names.
 #[derive(Drop)]
@@ -13,6 +13,6 @@ pub struct Declaration {
 #[derive(Clone, Copy)]
 pub struct Local {
     pub slot: u32,
-    pub ty: Ty,
+    pub ty: BasicType,
     pub variable: bool,
 }

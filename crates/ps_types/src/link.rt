@@ -3,7 +3,7 @@ ghost use Rattle.ps_types.specs.Checks.{joint_ty};
 
 use ps_base::line::Line;
 use ps_base::operator::Operator;
-use ps_base::ty::Ty;
+use ps_base::basic_type::BasicType;
 use ps_parse::rough::Rough;
 
 /// What joins two operands of a chain.
@@ -16,12 +16,12 @@ pub enum Joint {
 
 impl Joint {
     /// The type of both operands, and of what the operator gives.
-    pub fn ty(self) -> Ty
+    pub fn ty(self) -> BasicType
         ensures { result ≡ joint_ty self }
     {
         match self {
-            Joint::Or | Joint::And => Ty::Bool,
-            Joint::Arith(_, _) => Ty::Int,
+            Joint::Or | Joint::And => BasicType::Bool,
+            Joint::Arith(_, _) => BasicType::Int,
         }
     }
 }

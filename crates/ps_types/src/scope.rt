@@ -4,7 +4,7 @@ ghost use Rattle.ps_types.specs.Names.{lookup};
 use crate::check_fault::CheckFault;
 use crate::declaration::{Declaration, Local};
 use ps_base::bytes::Bytes;
-use ps_base::ty::Ty;
+use ps_base::basic_type::BasicType;
 use std::alloc::Global;
 use std::marker::Model;
 
@@ -73,7 +73,7 @@ impl Scope {
         &mut self,
         alloc: Global,
         name: &[u8],
-        ty: Ty,
+        ty: BasicType,
         variable: bool,
     ) -> Result<u32, CheckFault>
         ensures { MatchResult result (λ slot. (slot ≡ self.old.next) × (self.new ≡ declare self.old name.now ty variable)) (λ fault. fault ≡ Memory) }

@@ -2,7 +2,7 @@ use Rattle.std.proofs.Common.{◌≡◌, rules, suc, ◌∙◌, ◌+◌, ◌≤�
 use Rattle.std.specs.Prelude.{Ok, Err}
 use Rattle.std.proofs.lemmas.List.{drop_all}
 use Rattle.ps_base.specs.Node.{node_of, nodes_in}
-use Rattle.ps_base.specs.declared.ty.Ty.TheVariants.{Int, Void}
+use Rattle.ps_base.specs.declared.basic_type.BasicType.TheVariants.{Int, Void}
 use Rattle.ps_parse.specs.declared.rough.Rough.{Rough}
 use Rattle.ps_parse.specs.Phrase.{named, phrase_of, form_of}
 use Rattle.ps_parse.specs.Phrase as form

@@ -2,7 +2,7 @@ use Rattle.std.proofs.Common.{◌∙◌, ap, sym}
 use Rattle.std.specs.Prelude.{if◌then◌else◌}
 use Rattle.ps_base.specs.Node.{node_of, SetName}
 use Rattle.ps_base.specs.declared.place.Place.TheVariants.{Plain}
-use Rattle.ps_base.specs.declared.ty.Ty.TheVariants.{Void}
+use Rattle.ps_base.specs.declared.basic_type.BasicType.TheVariants.{Void}
 use Rattle.ps_types.specs.declared.check_fault.CheckFault.TheVariants.{Mismatch}
 use Rattle.ps_types.specs.Checking.{Gives, Refuses, assigned}
 use Rattle.ps_types.proofs.CheckedSteps.{is_fault, made, exits, is_same_along}

@@ -2,7 +2,7 @@ use Rattle.std.proofs.Common.{◌≡◌, ◌∙◌, ap, sym, subst}
 use Rattle.std.specs.Prelude.{Ok, Err}
 use Rattle.ps_base.specs.Node.{node_of}
 use Rattle.ps_base.specs.declared.line.Line.{Line}
-use Rattle.ps_base.specs.declared.ty.Ty.TheVariants.{Void}
+use Rattle.ps_base.specs.declared.basic_type.BasicType.TheVariants.{Void}
 use Rattle.ps_parse.specs.Phrase.{phrase_of}
 use Rattle.ps_types.specs.Names.{Names, no_names}
 use Rattle.ps_types.specs.Checking.{Gives, Typed, check, wants}

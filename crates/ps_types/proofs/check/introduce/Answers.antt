@@ -3,7 +3,7 @@ use Rattle.std.specs.Prelude.{if◌then◌else◌}
 use Rattle.ps_base.specs.Node.{Node, node_of}
 use Rattle.ps_base.specs.Node as node
 use Rattle.ps_base.specs.declared.place.Place.TheVariants.{Plain}
-use Rattle.ps_base.specs.declared.ty.Ty.TheVariants.{Void}
+use Rattle.ps_base.specs.declared.basic_type.BasicType.TheVariants.{Void}
 use Rattle.ps_types.specs.declared.check_fault.CheckFault.TheVariants.{Twice}
 use Rattle.ps_types.specs.Names.{Names, is_declared, declare}
 use Rattle.ps_types.specs.Checking.{Gives, Refuses}

@@ -2,7 +2,7 @@ use Rattle.std.proofs.Common.{◌∙◌, false, ap, sym}
 use Rattle.std.specs.Prelude.{if◌then◌else◌}
 use Rattle.ps_base.specs.Node.{node_of}
 use Rattle.ps_base.specs.Node as node
-use Rattle.ps_base.specs.declared.ty.Ty.TheVariants.{Int, Void}
+use Rattle.ps_base.specs.declared.basic_type.BasicType.TheVariants.{Int, Void}
 use Rattle.ps_types.specs.declared.clause.Clause.{Clause}
 use Rattle.ps_types.specs.declared.check_fault.CheckFault.TheVariants.{Mismatch}
 use Rattle.ps_types.specs.Checking.{Gives, Refuses}
