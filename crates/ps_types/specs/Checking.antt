@@ -8,11 +8,12 @@ use Rattle.ps_base.specs.declared.operator.Relation.{Relation}
 use Rattle.ps_base.specs.declared.operator.Relation.TheVariants.{Equal, NotEqual}
 use Rattle.ps_base.specs.Node.{Node, Nodes}
 use Rattle.ps_base.specs.Node as node
-use Rattle.ps_parse.specs.Phrase.{NameAt, Phrase, at, Form, Phrases, none, more}
+use Rattle.ps_parse.specs.Phrase.{NameAt, Phrase, at, Form, Phrases, none, more, absent, present, WriteItem, item, WriteItems, no_items, more_items}
 use Rattle.ps_parse.specs.Phrase as form
 use Rattle.ps_types.specs.declared.declaration.Local.{Local}
 use Rattle.ps_types.specs.declared.check_fault.CheckFault.{CheckFault}
-use Rattle.ps_types.specs.declared.check_fault.CheckFault.TheVariants.{Unknown, Twice, Mismatch, NotAssignable}
+use Rattle.ps_types.specs.declared.check_fault.CheckFault.TheVariants.{Unknown, Twice, Mismatch, NotAssignable, NotBuilt}
+use Rattle.ps_types.specs.Built.{first_unbuilt}
 use Rattle.ps_types.specs.Names.{Names, no_names, meant, is_declared, declare, inside, behind}
 
 -- What the check of a clause gives: its typed tree, its type and the names behind it; or the first fault.
@@ -145,6 +146,7 @@ abbrev mutual
   check_form names line (form.Int value) = Gives (node.Int value) Int names
   check_form names line (form.Text bytes) = Gives (node.Text bytes) Str names
   check_form names line (form.Flag value) = Gives (node.Flag value) Flag names
+  check_form names line _ = Refuses (NotBuilt line)
 
   -- The items of a sequence, behind an item on this line of this type: each but the last is void.
   pub check_all : Names → Line → BasicType → Phrases → Outcome Nodes
@@ -155,12 +157,15 @@ abbrev mutual
       else Refuses (Mismatch line before Void)
 
   -- the items of a `write`
-  pub check_written : Names → Phrases → Outcome Nodes
-  check_written names none = Gives node.none Void names
-  check_written names (more item rest) =
-      check names item >>= λ tree ty names.
-      written (line_of item) tree ty names >>= λ tree ty names.
+  pub check_written : Names → WriteItems → Outcome Nodes
+  check_written names no_items = Gives node.none Void names
+  check_written names (more_items first rest) =
+      check_item names first >>= λ tree ty names.
       check_written names rest >>= λ trees ty names. Gives (node.more tree trees) ty names
+
+  pub check_item : Names → WriteItem → Outcome Node
+  check_item names (item e absent line) = check names e >>= λ tree ty names. written line tree ty names
+  check_item names (item e (present w) line) = Refuses (NotBuilt line)
 
 -- the line of the last item, or this one where there is none
 abbrev pub last_line : Line → Phrases → Line
@@ -181,5 +186,10 @@ unfoldable pub verdict_of : Outcome Node → Verdict
 verdict_of (Gives tree ty names) = Typed tree names.next
 verdict_of (Refuses fault) = Fails fault
 
+-- A form that isn't built yet is refused before all other rules, the first one in the text.
+unfoldable pub check_built : Option Line → Phrase → Verdict
+check_built (Some line) program = Fails (NotBuilt line)
+check_built None program = verdict_of (wants Void (end_line program) (check no_names program))
+
 unfoldable pub check_program : Phrase → Verdict
-check_program program = verdict_of (wants Void (end_line program) (check no_names program))
+check_program program = check_built (first_unbuilt program) program

@@ -1,3 +1,4 @@
+pub mod Built
 pub mod CheckFaults
 pub mod Checking
 pub mod Checks

@@ -1,6 +1,6 @@
--- How many clauses a clause consists of: the measure of what goes over clauses.
+-- How many clauses the check goes into in a clause: the measure of what goes over clauses.
 use Rattle.std.specs.Prelude.{ℕ, ◌+◌, List, [], ◌∷◌}
-use Rattle.ps_parse.specs.Phrase.{Phrase, at, Form, Phrases, none, more, phrase_of}
+use Rattle.ps_parse.specs.Phrase.{Phrase, at, Form, Phrases, none, more, WriteItem, item, WriteItems, no_items, more_items, phrase_of}
 use Rattle.ps_parse.specs.Phrase as form
 use Rattle.ps_types.specs.declared.link.Link.{Link}
 
@@ -14,23 +14,31 @@ abbrev mutual
   weight_form (form.IfDo c a) = weight c + weight a
   weight_form (form.IfElse c a b) = weight c + weight a + weight b
   weight_form (form.While c a) = weight c + weight a
-  weight_form (form.Write items) = weight_all items
+  weight_form (form.Write items) = weight_written items
   weight_form (form.Assign x e) = weight x + weight e
   weight_form (form.Or a b) = weight a + weight b
   weight_form (form.And a b) = weight a + weight b
   weight_form (form.Not e) = weight e
   weight_form (form.Compare op a b) = weight a + weight b
+  weight_form (form.Is e class negated) = weight e
+  weight_form (form.Join a b) = weight a + weight b
   weight_form (form.Arith op a b) = weight a + weight b
   weight_form (form.Plus e) = weight e
   weight_form (form.Neg e) = weight e
-  weight_form (form.Name name) = 0
-  weight_form (form.Int value) = 0
-  weight_form (form.Text bytes) = 0
-  weight_form (form.Flag value) = 0
+  weight_form (form.Apply f args) = weight f
+  weight_form (form.Part s i n) = weight s
+  weight_form _ = 0
 
   pub weight_all : Phrases → ℕ
   weight_all none = 0
   weight_all (more first rest) = weight first + weight_all rest
+
+  pub weight_written : WriteItems → ℕ
+  weight_written no_items = 0
+  weight_written (more_items first rest) = weight_item first + weight_written rest
+
+  pub weight_item : WriteItem → ℕ
+  weight_item (item e w line) = weight e
 
 -- the right operands of the links of a chain
 abbrev pub weight_links : List Link → ℕ

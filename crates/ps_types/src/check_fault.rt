@@ -18,12 +18,14 @@ pub enum CheckFault {
     Mismatch { line: Line, found: BasicType, wanted: BasicType },
     /// What stands before `:=` is no variable.
     NotAssignable { line: Line },
+    /// A form that the grammar reads and that isn't built yet. It is the fault before all others.
+    NotBuilt { line: Line },
     /// There was no memory for the tree, or no number left for a further name.
     Memory,
 }
 
 impl CheckFault {
-    /// The fault's number, from 1 to 4 in the order of the variants; want of memory has none.
+    /// The fault's number: 1 to 4 and 8 in the order of the variants; want of memory has none.
     pub fn number(&self) -> Option<u8>
         ensures { result ≡ number_of self.now }
     {
@@ -32,6 +34,7 @@ impl CheckFault {
             CheckFault::Twice { .. } => Some(2),
             CheckFault::Mismatch { .. } => Some(3),
             CheckFault::NotAssignable { .. } => Some(4),
+            CheckFault::NotBuilt { .. } => Some(8),
             CheckFault::Memory => None,
         }
     }
@@ -44,7 +47,8 @@ impl CheckFault {
             CheckFault::Unknown { line }
             | CheckFault::Twice { line }
             | CheckFault::Mismatch { line, .. }
-            | CheckFault::NotAssignable { line } => Some(line),
+            | CheckFault::NotAssignable { line }
+            | CheckFault::NotBuilt { line } => Some(line),
             CheckFault::Memory => None,
         }
     }
