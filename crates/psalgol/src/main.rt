@@ -1,6 +1,6 @@
 //! The program `psalgol`: a run of a PS-algol text, from its words to its status.
 //!
-//! `command` is the whole of it; `docs/architecture.md` tells the way of a program through the modules.
+//! `command` is the whole of it; `docs/architecture.md` tells the way of a program through the crates.
 #![tactic(auto)]
 
 mod command;
