@@ -7,6 +7,8 @@ mod command;
 mod compile;
 mod execute;
 mod laws;
+#[cfg(test)]
+mod memory_tests;
 mod report;
 mod source_fault;
 #[cfg(test)]
