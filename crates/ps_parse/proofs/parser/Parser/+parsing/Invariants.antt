@@ -1,6 +1,7 @@
-use Rattle.std.proofs.Common.{ℕ, ◌≤◌, ◌+◌, ◌-◌, ◌*◌, length}
+use Rattle.std.proofs.Common.{ℕ, ◌≡◌, ◌≤◌, ◌+◌, ◌-◌, ◌*◌, length}
 use Rattle.ps_base.specs.TyView.{ty_view}
 use Rattle.ps_base.specs.declared.line.Line.{Line}
+use Rattle.ps_base.specs.declared.ty.Ty.{Ty}
 use Rattle.ps_parse.specs.declared.kind.Level.{Level}
 use Rattle.ps_parse.specs.declared.kind.Level.TheVariants.{Disjunction, Conjunction, Sum, Product}
 use Rattle.ps_parse.specs.declared.parser.Parser.{Parser}
@@ -172,6 +173,12 @@ pub record Goes (parser : Parser) (room : ℕ) (rule : Rule) (from : ℕ) (rest 
   pub on : GoesOn parser room rule from rest at
   pub forward : from ≤ at
 
+-- the same, and the loop keeps a type
+pub record GoesKeeping (parser : Parser) (room : ℕ) (rule : Rule) (from : ℕ) (rest : Rule) (at : ℕ) (first now : Ty) : Type 0 where
+  pub on : GoesOn parser room rule from rest at
+  pub forward : from ≤ at
+  pub kept : now ≡ first
+
 -- the same, whatever stands before an arm
 pub record GoesInArm (parser : Parser) (room from : ℕ) (rest : Line → Phrase → Arms → Rule) (at : ℕ) : Type 0 where
   pub on : (line : Line) (e : Phrase) (before : Arms) → GoesOn parser room (an_arm line e before) from (rest line e before) at
@@ -214,7 +221,7 @@ abbrev pub decreases-more_arguments-loop-at : goal.decreases-more_arguments-loop
 decreases-more_arguments-loop-at l = length l.self.symbols.now - l.at
 
 abbrev pub invariant-more_elements-loop-at : goal.invariant-more_elements-loop-at
-invariant-more_elements-loop-at l = Goes l.self l.room (Go (MoreElements l.line (phrase_of l.l) (ty_view l.ty) (more (phrase_of l.fn.first) none))) l.fn.at (Go (MoreElements l.line (phrase_of l.l) (ty_view l.ty) (phrases_in l.items.items))) l.at
+invariant-more_elements-loop-at l = GoesKeeping l.self l.room (Go (MoreElements l.line (phrase_of l.l) (ty_view l.fn.ty) (more (phrase_of l.fn.first) none))) l.fn.at (Go (MoreElements l.line (phrase_of l.l) (ty_view l.fn.ty) (phrases_in l.items.items))) l.at l.fn.ty l.ty
 
 abbrev pub decreases-more_elements-loop-at : goal.decreases-more_elements-loop-at
 decreases-more_elements-loop-at l = length l.self.symbols.now - l.at

@@ -18,7 +18,7 @@ pub parameter_types-returns-clause-read : goal.parameter_types-returns-clause-re
 parameter_types-returns-clause-read t c = (types_stand {count = c.args.self.now.tokens} c.kind_at.ensures false (sym c.if-begins_type.false ∙ c.begins_type.ensures)).reads _ _ (gives_at (ap (λ types. all_types (ty_views types)) c.new.ensures.items) refl)
 
 pub types-returns-in_err-ty-clause-fault : goal.types-returns-in_err-ty-clause-fault
-types-returns-in_err-ty-clause-fault t c = 
+types-returns-in_err-ty-clause-fault t c =
     let p = err_from_is_err_and c.from_residual-in_err-ty.result c.from_residual-in_err-ty.ensures.1 in
     rw (p.1, p.2) ((leads_on {count = c.args.self.now.tokens} c.loop-at.invariant.on (leads_on {count = c.args.self.now.tokens} (goes_as c.kind_at.ensures c.in-Comma.is refl) (leads_take c.in_ok-take.ensures.taken c.in_ok-take.ensures.kind c.in_ok-take.ensures.place))).stops _ (Stops.in_first c.in_err-ty.ensures.fault))
 
@@ -29,27 +29,27 @@ pub types-returns : goal.types-returns
 types-returns t c = record { read = (leads_on {count = c.args.self.now.tokens} c.loop-at.invariant.on (goes_by c.kind_at.ensures (ap Some (types_other _ _ c.in_default.not-Comma)))).reads _ _ Reads.gives; fault = tt; forward = c.loop-at.invariant.forward }
 
 pub procedure_type-returns-in_err-take-clause-fault : goal.procedure_type-returns-in_err-take-clause-fault
-procedure_type-returns-in_err-take-clause-fault t c = 
+procedure_type-returns-in_err-take-clause-fault t c =
     let p = err_from_is_err_and c.from_residual.result c.from_residual.ensures.1 in
     rw (p.1, p.2) (Stops.wrong_token c.in_err-take.ensures.other c.in_err-take.ensures.fault)
 
 pub procedure_type-returns-in_err-take-2-clause-fault : goal.procedure_type-returns-in_err-take-2-clause-fault
-procedure_type-returns-in_err-take-2-clause-fault t c = 
+procedure_type-returns-in_err-take-2-clause-fault t c =
     let p = err_from_is_err_and c.from_residual-in_err-take-2.result c.from_residual-in_err-take-2.ensures.1 in
     rw (p.1, p.2) ((leads_take c.in_ok-take.ensures.taken c.in_ok-take.ensures.kind c.in_ok-take.ensures.place).stops _ (Stops.wrong_token c.in_err-take-2.ensures.other c.in_err-take-2.ensures.fault))
 
 pub procedure_type-returns-in_err-parameters-clause-fault : goal.procedure_type-returns-in_err-parameters-clause-fault
-procedure_type-returns-in_err-parameters-clause-fault t c = 
+procedure_type-returns-in_err-parameters-clause-fault t c =
     let p = err_from_is_err_and c.from_residual-in_err-parameters.result c.from_residual-in_err-parameters.ensures.1 in
     rw (p.1, p.2) ((leads_on {count = c.args.self.now.tokens} (leads_take c.in_ok-take.ensures.taken c.in_ok-take.ensures.kind c.in_ok-take.ensures.place) (leads_take c.in_ok-take-2.ensures.taken c.in_ok-take-2.ensures.kind c.in_ok-take-2.ensures.place)).stops _ (Stops.in_first c.in_err-parameters.ensures.fault))
 
 pub procedure_type-returns-in_err-gives-clause-fault : goal.procedure_type-returns-in_err-gives-clause-fault
-procedure_type-returns-in_err-gives-clause-fault t c = 
+procedure_type-returns-in_err-gives-clause-fault t c =
     let p = err_from_is_err_and c.from_residual-in_err-gives.result c.from_residual-in_err-gives.ensures.1 in
     rw (p.1, p.2) ((leads_on {count = c.args.self.now.tokens} (leads_take c.in_ok-take.ensures.taken c.in_ok-take.ensures.kind c.in_ok-take.ensures.place) (leads_on {count = c.args.self.now.tokens} (leads_take c.in_ok-take-2.ensures.taken c.in_ok-take-2.ensures.kind c.in_ok-take-2.ensures.place) (leads_first c.in_ok-parameters.ensures.read))).stops _ (Stops.in_first c.in_err-gives.ensures.fault))
 
 pub procedure_type-returns-in_err-take-3-clause-fault : goal.procedure_type-returns-in_err-take-3-clause-fault
-procedure_type-returns-in_err-take-3-clause-fault t c = 
+procedure_type-returns-in_err-take-3-clause-fault t c =
     let p = err_from_is_err_and c.from_residual-in_err-take-3.result c.from_residual-in_err-take-3.ensures.1 in
     rw (p.1, p.2) ((leads_on {count = c.args.self.now.tokens} (leads_take c.in_ok-take.ensures.taken c.in_ok-take.ensures.kind c.in_ok-take.ensures.place) (leads_on {count = c.args.self.now.tokens} (leads_take c.in_ok-take-2.ensures.taken c.in_ok-take-2.ensures.kind c.in_ok-take-2.ensures.place) (leads_on {count = c.args.self.now.tokens} (leads_first c.in_ok-parameters.ensures.read) (leads_first c.in_ok-gives.ensures.read)))).stops _ (Stops.wrong_token c.in_err-take-3.ensures.other c.in_err-take-3.ensures.fault))
 
@@ -57,7 +57,7 @@ pub procedure_type-returns-clause-read : goal.procedure_type-returns-clause-read
 procedure_type-returns-clause-read t c = tail_type {count = c.args.self.now.tokens} c.procedure_type.result c.procedure_type.ensures.made (leads_on {count = c.args.self.now.tokens} (leads_take c.in_ok-take.ensures.taken c.in_ok-take.ensures.kind c.in_ok-take.ensures.place) (leads_on {count = c.args.self.now.tokens} (leads_take c.in_ok-take-2.ensures.taken c.in_ok-take-2.ensures.kind c.in_ok-take-2.ensures.place) (leads_on {count = c.args.self.now.tokens} (leads_first c.in_ok-parameters.ensures.read) (leads_on {count = c.args.self.now.tokens} (leads_first c.in_ok-gives.ensures.read) (leads_take c.in_ok-take-3.ensures.taken c.in_ok-take-3.ensures.kind c.in_ok-take-3.ensures.place)))))
 
 pub result_type-returns-in_err-take-in-Arrow-clause-fault : goal.result_type-returns-in_err-take-in-Arrow-clause-fault
-result_type-returns-in_err-take-in-Arrow-clause-fault t c = 
+result_type-returns-in_err-take-in-Arrow-clause-fault t c =
     let p = err_from_is_err_and c.from_residual.result c.from_residual.ensures.1 in
     rw (p.1, p.2) ((goes_as c.kind_at.ensures c.in-Arrow.is refl).stops _ (Stops.wrong_token c.in_err-take-in-Arrow.ensures.other c.in_err-take-in-Arrow.ensures.fault))
 
@@ -71,12 +71,12 @@ pub result_type-returns-in_default-clause-read : goal.result_type-returns-in_def
 result_type-returns-in_default-clause-read t c = (goes_by {count = c.args.self.now.tokens} c.kind_at.ensures (ap Some (result_other _ c.in_default.not-Arrow))).reads _ _ Reads.gives
 
 pub vector_type-returns-in_err-take-clause-fault : goal.vector_type-returns-in_err-take-clause-fault
-vector_type-returns-in_err-take-clause-fault t c = 
+vector_type-returns-in_err-take-clause-fault t c =
     let p = err_from_is_err_and c.from_residual.result c.from_residual.ensures.1 in
     rw (p.1, p.2) (Stops.wrong_token c.in_err-take.ensures.other c.in_err-take.ensures.fault)
 
 pub vector_type-returns-in_err-element-clause-fault : goal.vector_type-returns-in_err-element-clause-fault
-vector_type-returns-in_err-element-clause-fault t c = 
+vector_type-returns-in_err-element-clause-fault t c =
     let p = err_from_is_err_and c.from_residual-in_err-element.result c.from_residual-in_err-element.ensures.1 in
     rw (p.1, p.2) ((leads_take c.in_ok-take.ensures.taken c.in_ok-take.ensures.kind c.in_ok-take.ensures.place).stops _ (Stops.in_first c.in_err-element.ensures.fault))
 

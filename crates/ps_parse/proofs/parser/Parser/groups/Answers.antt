@@ -11,7 +11,7 @@ use Rattle.ps_parse.proofs.Rows.{groups_begin, groups_again}
 use Rattle.ps_parse.proofs.parser.Parser.groups.Goals as goal
 
 pub returns-in_err-ty-clause-fault : goal.returns-in_err-ty-clause-fault
-returns-in_err-ty-clause-fault c = 
+returns-in_err-ty-clause-fault c =
     let p = err_from_is_err_and c.from_residual.result c.from_residual.ensures.1 in
     rw (p.1, p.2) ((leads_go refl).stops _ (Stops.in_first c.in_err-ty.ensures.fault))
 
@@ -19,12 +19,12 @@ pub loop-groups-init : goal.loop-groups-init
 loop-groups-init c = record { on = (leads_on {count = c.args.self.now.tokens} (leads_go refl) (leads_on {count = c.args.self.now.tokens} (leads_first c.in_ok-ty.ensures.read) (groups_begin (λ all. named_group c.args.self.now.text.now all (ty_view c.in_ok-ty.ty)) c.new-groups.ensures.items))); forward = omega (arith, c.ty.ensures.forward) }
 
 pub returns-in_err-group-clause-fault : goal.returns-in_err-group-clause-fault
-returns-in_err-group-clause-fault c = 
+returns-in_err-group-clause-fault c =
     let p = err_from_is_err_and c.from_residual-in_err-group.result c.from_residual-in_err-group.ensures.1 in
     rw (p.1, p.2) (c.loop-groups.invariant.on.stops _ (c.in_err-group.ensures.fault _))
 
 pub returns-in_err-next-clause-fault : goal.returns-in_err-next-clause-fault
-returns-in_err-next-clause-fault c = 
+returns-in_err-next-clause-fault c =
     let p = err_from_is_err_and c.from_residual-in_err-next.result c.from_residual-in_err-next.ensures.1 in
     rw (p.1, p.2) ((leads_on {count = c.args.self.now.tokens} c.loop-groups.invariant.on (c.in_ok-group.ensures.goes (groups_in c.loop-groups.groups.items))).stops _ (c.in_err-next.ensures.fault _))
 

@@ -8,12 +8,12 @@ use Rattle.ps_parse.proofs.Rows.{tail_clause, leads_named}
 use Rattle.ps_parse.proofs.parser.Parser.is_of.Goals as goal
 
 pub returns-in_err-mark-clause-fault : goal.returns-in_err-mark-clause-fault
-returns-in_err-mark-clause-fault c = 
+returns-in_err-mark-clause-fault c =
     let p = err_from_is_err_and c.from_residual.result c.from_residual.ensures.1 in
     rw (p.1, p.2) (Stops.wrong_token c.in_err-mark.ensures.other c.in_err-mark.ensures.fault)
 
 pub returns-in_err-class-clause-fault : goal.returns-in_err-class-clause-fault
-returns-in_err-class-clause-fault c = 
+returns-in_err-class-clause-fault c =
     let p = err_from_is_err_and c.from_residual-in_err-class.result c.from_residual-in_err-class.ensures.1 in
     rw (p.1, p.2) ((leads_take c.in_ok-mark.ensures.taken c.in_ok-mark.ensures.kind c.in_ok-mark.ensures.place).stops _ (Stops.wrong_token c.in_err-class.ensures.other c.in_err-class.ensures.fault))
 
