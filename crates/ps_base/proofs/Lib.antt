@@ -1,3 +1,4 @@
 pub mod Units
 pub mod Spellings
 pub mod NodeLemmas
+pub mod TyLemmas

@@ -1,120 +1,277 @@
 -- How the parser's calls follow the rows of the grammar.
-use Rattle.std.proofs.Common.{◌≡◌, ℕ, List, [], ◌∷◌, ◌++◌, Bool, Option, Some, None, Result, Ok, Err, IfOk, IfErr, IsSome, slice_get, refl, sym, subst, ap, ◌∙◌}
+use Rattle.std.proofs.Common.{◌≡◌, ℕ, suc, List, [], ◌∷◌, ◌++◌, Bool, true, false, Option, Some, None, option_map, Result, Ok, Err, IfOk, IfErr, IsSome, slice_get, refl, sym, subst, ap, ◌∙◌}
+use Rattle.ps_base.specs.TyView.{TyView, TyViews, ty_view, ty_views}
+use Rattle.ps_base.specs.TyView as ty
 use Rattle.ps_base.specs.declared.line.Line.{Line}
-use Rattle.ps_base.specs.declared.operator.Relation.{Relation}
+use Rattle.ps_base.specs.declared.ty.Ty.{Ty}
 use Rattle.ps_parse.specs.declared.fault.ParseFault.{ParseFault}
-use Rattle.ps_parse.specs.declared.fault.ParseFault.TheVariants.{TooNested}
+use Rattle.ps_parse.specs.declared.fault.ParseFault.TheVariants.{TooNested, Memory}
 use Rattle.ps_parse.specs.declared.kind.Kind.{Kind}
 use Rattle.ps_parse.specs.declared.kind.Kind.TheVariants as kind
 use Rattle.ps_parse.specs.declared.kind.Level.{Level}
 use Rattle.ps_parse.specs.declared.kind.Operation.{Operation}
+use Rattle.ps_parse.specs.declared.kind.Opening.{Opening}
+use Rattle.ps_parse.specs.declared.kind.Relating.{Relating}
+use Rattle.ps_parse.specs.declared.kind.TypeStart.{TypeStart}
+use Rattle.ps_parse.specs.declared.rough.Group.{Group}
 use Rattle.ps_parse.specs.declared.rough.Rough.{Rough}
+use Rattle.ps_parse.specs.declared.rough.RoughArm.{RoughArm}
+use Rattle.ps_parse.specs.declared.rough.RoughItem.{RoughItem}
 use Rattle.ps_parse.specs.declared.symbol.Symbol.{Symbol}
-use Rattle.ps_parse.specs.Kinds.{operation_of, relation_of, begins_item}
-use Rattle.ps_parse.specs.Phrase.{Phrase, Phrases, NameAt, none, more, at, phrase_of}
+use Rattle.ps_parse.specs.Kinds.{operation_of, relating_of, begins_item, begins_type, opening_of, type_start_of}
+use Rattle.ps_parse.specs.Phrase.{Phrase, Phrases, none, more, MaybePhrase, absent, Arms, no_arms, Arm, WriteItem, WriteItems, no_items, more_items, item, GroupAt, NameAt, at, phrase_of, item_of, arm_of, group_of, groups_in}
 use Rattle.ps_parse.specs.Phrase as form
-use Rattle.ps_parse.specs.Grammar.{Part, Rule, Give, Go, Clause, clause, row, ending, ended, Ended, items, more_items, more_written, assignment, more_chain, comparison, Ending, Items, MoreItems, MoreWritten, Assignment, MoreChain, Comparison, Binding, and_then}
+use Rattle.ps_parse.specs.PhraseLists.{phrases_in, arms_in, items_in}
+use Rattle.ps_parse.specs.Grammar.{Application, Body, Cases, Clause, Compared, Comparison, Give, Go, Groups, Items, Made, MoreArguments, MoreChain, Nested, NextGroup, Open, ParameterTypes, Parameters, Part, Rule, SecondArgument, Test, Type_, a_clause, a_clause_inside, a_type, a_type_inside, all_groups, all_types, an_item, and_arm, and_item, and_then, and_type, applied, arguments, assignment, between, binding, cases, choice, comparison, ended, ending, factor, give, inside, items, items_end, labels, line_in, more_arguments, more_chain, more_elements, more_groups, more_types, more_written, named_group, next_group, one_item, opened, parameter_types, parameters, relative, result, row, second_argument, skip, step, typed_as, until, width, with_clause}
 use Rattle.ps_parse.specs.Reading.{kind_at, kind_of_next, Reads}
+use Rattle.ps_parse.specs.Parsing.{an_arm, behind_labels}
 use Rattle.ps_parse.specs.Stopping.{Stops, Leads}
 use Rattle.ps_parse.specs.Program.{unexpected}
-use Rattle.ps_parse.specs.PhraseLists.{phrases_in}
-use Rattle.ps_parse.proofs.PhraseLemmas.{phrases_in-append}
-use Rattle.ps_parse.proofs.Steps.{gives_at, leads_go, leads_nowhere}
+use Rattle.ps_parse.proofs.PhraseLemmas.{phrases_in-append, arms_in-append, items_in-append, ty_views-append, groups_in-append}
+use Rattle.ps_parse.proofs.Steps.{gives_at, leads_go, leads_first, leads_on, leads_same}
 
--- where the kind that a rule asks for isn't there
-more_items_other : (line : Line) (before : Phrases) (k : Kind) → (k ≡ kind.Semicolon → ⊥) → more_items line before k ≡ Give (at (form.Sequence before) line)
-more_items_other line before kind.Semicolon other = absurd (other refl)
-more_items_other line before _ other = refl
+-- where the kinds that a part asks for aren't there
 
-more_written_other : (line : Line) (before : Phrases) (k : Kind) → (k ≡ kind.Comma → ⊥) → more_written line before k ≡ Give (at (form.Write before) line)
-more_written_other line before kind.Comma other = absurd (other refl)
-more_written_other line before _ other = refl
+pub ending_other : (all : Phrase) (k : Kind) → (k ≡ kind.Question → ⊥) → (k ≡ kind.EndOfText → ⊥) → ending all k ≡ None
+ending_other all kind.Question not_Question not_EndOfText = absurd (not_Question refl)
+ending_other all kind.EndOfText not_Question not_EndOfText = absurd (not_EndOfText refl)
+ending_other all _ not_Question not_EndOfText = refl
 
-assignment_other : (left : Phrase) (k : Kind) → (k ≡ kind.Becomes → ⊥) → assignment left k ≡ Give left
-assignment_other left kind.Becomes other = absurd (other refl)
-assignment_other left _ other = refl
+pub ended_other : (all : Phrase) (k : Kind) → (k ≡ kind.EndOfText → ⊥) → ended all k ≡ None
+ended_other all kind.EndOfText not_EndOfText = absurd (not_EndOfText refl)
+ended_other all _ not_EndOfText = refl
 
-ending_other : (all : Phrase) (k : Kind) → (k ≡ kind.Question → ⊥) → (k ≡ kind.EndOfText → ⊥) → ending all k ≡ None
-ending_other all kind.Question other end = absurd (other refl)
-ending_other all kind.EndOfText other end = absurd (end refl)
-ending_other all _ other end = refl
+pub items_other : (line : Line) (before : Phrases) (k : Kind) → (k ≡ kind.Semicolon → ⊥) → items_end line before k ≡ give (form.Sequence before) line
+items_other line before kind.Semicolon not_Semicolon = absurd (not_Semicolon refl)
+items_other line before _ not_Semicolon = refl
 
-ended_other : (all : Phrase) (k : Kind) → (k ≡ kind.EndOfText → ⊥) → ended all k ≡ None
-ended_other all kind.EndOfText end = absurd (end refl)
-ended_other all _ end = refl
+pub item_other : (text : List ℕ) (k : Kind) → (k ≡ kind.Let → ⊥) → (k ≡ kind.Structure → ⊥) → (k ≡ kind.Procedure → ⊥) → one_item text k ≡ Clause
+item_other text kind.Let not_Let not_Structure not_Procedure = absurd (not_Let refl)
+item_other text kind.Structure not_Let not_Structure not_Procedure = absurd (not_Structure refl)
+item_other text kind.Procedure not_Let not_Structure not_Procedure = absurd (not_Procedure refl)
+item_other text _ not_Let not_Structure not_Procedure = refl
+
+pub binding_other : (line : Line) (name : NameAt) (k : Kind) → (k ≡ kind.Equals → ⊥) → (k ≡ kind.Becomes → ⊥) → binding line name k ≡ None
+binding_other line name kind.Equals not_Equals not_Becomes = absurd (not_Equals refl)
+binding_other line name kind.Becomes not_Equals not_Becomes = absurd (not_Becomes refl)
+binding_other line name _ not_Equals not_Becomes = refl
+
+pub groups_other : (of_last : TyView) (before : List GroupAt) (k : Kind) → (k ≡ kind.Comma → ⊥) → (k ≡ kind.Semicolon → ⊥) → more_groups of_last before k ≡ Give (all_groups before)
+groups_other of_last before kind.Comma not_Comma not_Semicolon = absurd (not_Comma refl)
+groups_other of_last before kind.Semicolon not_Comma not_Semicolon = absurd (not_Semicolon refl)
+groups_other of_last before _ not_Comma not_Semicolon = refl
+
+pub next_group_other : (text : List ℕ) (of_last : TyView) (before : List GroupAt) (k : Kind) → (k ≡ kind.Name → ⊥) → next_group text of_last before k ≡ Go (Groups before)
+next_group_other text of_last before kind.Name not_Name = absurd (not_Name refl)
+next_group_other text of_last before _ not_Name = refl
+
+pub result_other : (k : Kind) → (k ≡ kind.Arrow → ⊥) → result k ≡ Give (a_type ty.Void)
+result_other kind.Arrow not_Arrow = absurd (not_Arrow refl)
+result_other _ not_Arrow = refl
+
+pub types_other : (before : TyViews) (k : Kind) → (k ≡ kind.Comma → ⊥) → more_types before k ≡ Give (all_types before)
+types_other before kind.Comma not_Comma = absurd (not_Comma refl)
+types_other before _ not_Comma = refl
+
+pub choice_other : (line : Line) (c : Phrase) (k : Kind) → (k ≡ kind.Do → ⊥) → (k ≡ kind.Then → ⊥) → choice line c k ≡ None
+choice_other line c kind.Do not_Do not_Then = absurd (not_Do refl)
+choice_other line c kind.Then not_Do not_Then = absurd (not_Then refl)
+choice_other line c _ not_Do not_Then = refl
+
+pub until_other : (line : Line) (a : Phrase) (k : Kind) → (k ≡ kind.Semicolon → ⊥) → until line a k ≡ Go (Test line a)
+until_other line a kind.Semicolon not_Semicolon = absurd (not_Semicolon refl)
+until_other line a _ not_Semicolon = refl
+
+pub between_other : (line : Line) (a : Phrase) (c : Phrase) (k : Kind) → (k ≡ kind.Do → ⊥) → between line a c k ≡ give (form.Repeat a c absent) line
+between_other line a c kind.Do not_Do = absurd (not_Do refl)
+between_other line a c _ not_Do = refl
+
+pub step_other : (line : Line) (name : NameAt) (a : Phrase) (b : Phrase) (k : Kind) → (k ≡ kind.By → ⊥) → step line name a b k ≡ Go (Body line name a b absent)
+step_other line name a b kind.By not_By = absurd (not_By refl)
+step_other line name a b _ not_By = refl
+
+pub cases_other : (line : Line) (e : Phrase) (before : Arms) (k : Kind) → (k ≡ kind.Default → ⊥) → cases line e before k ≡ an_arm line e before
+cases_other line e before kind.Default not_Default = absurd (not_Default refl)
+cases_other line e before _ not_Default = refl
+
+pub labels_other : (line : Line) (e : Phrase) (before : Arms) (all : Phrases) (k : Kind) → (k ≡ kind.Comma → ⊥) → labels line e before all k ≡ behind_labels line e before all
+labels_other line e before all kind.Comma not_Comma = absurd (not_Comma refl)
+labels_other line e before all _ not_Comma = refl
+
+pub width_other : (e : Phrase) (k : Kind) → (k ≡ kind.Colon → ⊥) → width e k ≡ Give (an_item (item e absent (line_in e)))
+width_other e kind.Colon not_Colon = absurd (not_Colon refl)
+width_other e _ not_Colon = refl
+
+pub written_other : (line : Line) (before : WriteItems) (k : Kind) → (k ≡ kind.Comma → ⊥) → more_written line before k ≡ give (form.Write before) line
+written_other line before kind.Comma not_Comma = absurd (not_Comma refl)
+written_other line before _ not_Comma = refl
+
+pub assignment_other : (left : Phrase) (k : Kind) → (k ≡ kind.Becomes → ⊥) → assignment left k ≡ Give (a_clause left)
+assignment_other left kind.Becomes not_Becomes = absurd (not_Becomes refl)
+assignment_other left _ not_Becomes = refl
+
+pub relative_other : (k : Kind) → (k ≡ kind.Tilde → ⊥) → relative k ≡ Go Compared
+relative_other kind.Tilde not_Tilde = absurd (not_Tilde refl)
+relative_other _ not_Tilde = refl
+
+pub factor_other : (k : Kind) → (k ≡ kind.Plus → ⊥) → (k ≡ kind.Minus → ⊥) → factor k ≡ Go Application
+factor_other kind.Plus not_Plus not_Minus = absurd (not_Plus refl)
+factor_other kind.Minus not_Plus not_Minus = absurd (not_Minus refl)
+factor_other _ not_Plus not_Minus = refl
+
+pub applied_other : (f : Phrase) (k : Kind) → (k ≡ kind.OpenRound → ⊥) → applied f k ≡ Give (a_clause f)
+applied_other f kind.OpenRound not_OpenRound = absurd (not_OpenRound refl)
+applied_other f _ not_OpenRound = refl
+
+pub arguments_other : (line : Line) (f : Phrase) (k : Kind) → (k ≡ kind.CloseRound → ⊥) → arguments line f k ≡ with_clause (λ first. Go (SecondArgument line f first))
+arguments_other line f kind.CloseRound not_CloseRound = absurd (not_CloseRound refl)
+arguments_other line f _ not_CloseRound = refl
+
+pub second_argument_other : (line : Line) (f : Phrase) (first : Phrase) (k : Kind) → (k ≡ kind.Bar → ⊥) → second_argument line f first k ≡ Go (MoreArguments line f (more first none))
+second_argument_other line f first kind.Bar not_Bar = absurd (not_Bar refl)
+second_argument_other line f first _ not_Bar = refl
+
+pub more_arguments_other : (line : Line) (f : Phrase) (before : Phrases) (k : Kind) → (k ≡ kind.Comma → ⊥) → more_arguments line f before k ≡ skip kind.CloseRound (give (form.Apply f before) line)
+more_arguments_other line f before kind.Comma not_Comma = absurd (not_Comma refl)
+more_arguments_other line f before _ not_Comma = refl
+
+pub more_elements_other : (line : Line) (l : Phrase) (of_each : TyView) (before : Phrases) (k : Kind) → (k ≡ kind.Comma → ⊥) → more_elements line l of_each before k ≡ skip kind.CloseSquare (give (form.Elems l of_each before) line)
+more_elements_other line l of_each before kind.Comma not_Comma = absurd (not_Comma refl)
+more_elements_other line l of_each before _ not_Comma = refl
 
 some_of : (o : Option Rule) → IsSome o → (rule : Rule) × (o ≡ Some rule)
 some_of (Some rule) is = (rule, refl)
 some_of None is = absurd (cc)
 
-pub too_deep : (text : List ℕ) (count : ℕ) (symbols : List Symbol) (from : ℕ) (symbol : Symbol) → Some symbol ≡ slice_get symbols from → IsSome (clause (kind_at symbols from)) → Stops text count symbols 0 Clause from (TooNested symbol.token.line)
-too_deep text count symbols from symbol here stands =
-    let found = some_of (clause (kind_at symbols from)) stands in
-    Stops.no_room (sym here) (ap (λ (o : Option Symbol). clause (kind_of_next o)) here ∙ found.1) refl
+nothing_at_end : (text : List ℕ) (nested : Nested) → IsSome (inside text nested kind.EndOfText) → ⊥
+nothing_at_end text a_clause_inside is = cc
+nothing_at_end text a_type_inside is = cc
+
+pub too_deep : (text : List ℕ) (count : ℕ) (symbols : List Symbol) (from : ℕ) (nested : Nested) (symbol : Symbol) → Some symbol ≡ slice_get symbols from → IsSome (inside text nested (kind_at symbols from)) → Stops text count symbols 0 (Open nested) from (TooNested symbol.token.line)
+too_deep text count symbols from nested symbol here stands =
+    let found = some_of (inside text nested (kind_at symbols from)) stands in
+    Stops.no_room (sym here) (ap (λ (o : Option Symbol). inside text nested (kind_of_next o)) here ∙ found.1) refl
+
+pub none_too_deep : (text : List ℕ) (count : ℕ) (symbols : List Symbol) (from : ℕ) (nested : Nested) (fault : ParseFault) → None ≡ slice_get symbols from → IsSome (inside text nested (kind_at symbols from)) → Stops text count symbols 0 (Open nested) from fault
+none_too_deep text count symbols from nested fault here stands =
+    absurd (nothing_at_end text nested (subst (λ (o : Option Symbol). IsSome (inside text nested (kind_of_next o))) (sym here) stands))
+
+-- a clause or a type is opened, and leaves less room
+module _ (text : List ℕ) (count : ℕ) (symbols : List Symbol) where
+  pub opens_reads : {A : Type 0} (view : A → Made) (result : Result A ParseFault) (room less from to : ℕ) (nested : Nested) (rule : Rule) → IfOk result (λ made. Reads text symbols less rule from (view made) to) → room ≡ suc less → inside text nested (kind_at symbols from) ≡ Some rule → IfOk result (λ made. Reads text symbols room (Open nested) from (view made) to)
+  opens_reads view (Ok made) room less from to nested rule read room_is is = subst (λ (r : ℕ). Reads text symbols r (Open nested) from (view made) to) (sym room_is) (Reads.opens is read)
+  opens_reads view (Err fault) room less from to nested rule read room_is is = read
+
+  pub opens_stops : {A : Type 0} (result : Result A ParseFault) (room less from : ℕ) (nested : Nested) (rule : Rule) → IfErr result (λ fault. Stops text count symbols less rule from fault) → room ≡ suc less → inside text nested (kind_at symbols from) ≡ Some rule → IfErr result (λ fault. Stops text count symbols room (Open nested) from fault)
+  opens_stops (Ok made) room less from nested rule stop room_is is = stop
+  opens_stops (Err fault) room less from nested rule stop room_is is = subst (λ (r : ℕ). Stops text count symbols r (Open nested) from fault) (sym room_is) (Stops.in_nested is stop)
+
+  pub type_opens : (from : ℕ) {found : Kind} {start : Option TypeStart} {s : TypeStart} → found ≡ kind_at symbols from → start ≡ type_start_of found → start ≡ Some s → inside text a_type_inside (kind_at symbols from) ≡ Some (typed_as s)
+  type_opens from here is some = ap (λ (k : Kind). option_map typed_as (type_start_of k)) (sym here) ∙ ap (λ (o : Option TypeStart). option_map typed_as o) (sym is ∙ some)
+
+  pub clause_opens : (from : ℕ) {found : Kind} {opening : Option Opening} {o : Opening} → found ≡ kind_at symbols from → opening ≡ opening_of found → opening ≡ Some o → inside text a_clause_inside (kind_at symbols from) ≡ Some (opened text o)
+  clause_opens from here is some = ap (λ (k : Kind). option_map (opened text) (opening_of k)) (sym here) ∙ ap (λ (o : Option Opening). option_map (opened text) o) (sym is ∙ some)
+
+-- what holds behind all groups, and behind all arms, before
+module _ (text : List ℕ) (count : ℕ) (symbols : List Symbol) (room from : ℕ) where
+  pub tail_group : (result : Result Ty ParseFault) (to : ℕ) (of_last : TyView) → IfOk result (λ made. Reads text symbols room Type_ from (a_type (ty_view made)) to) → ((before : List GroupAt) → Leads text count symbols room (Go (NextGroup of_last before)) from (Go (Groups before)) from) → IfOk result (λ made. (before : List GroupAt) → Leads text count symbols room (Go (NextGroup of_last before)) from (named_group text before (ty_view made)) to)
+  tail_group (Ok made) to of_last read lead = λ before. leads_on (lead before) (leads_on (leads_go refl) (leads_first read))
+  tail_group (Err fault) to of_last read lead = read
+
+  pub tail_group_stops : (result : Result Ty ParseFault) (of_last : TyView) → IfErr result (λ fault. Stops text count symbols room Type_ from fault) → ((before : List GroupAt) → Leads text count symbols room (Go (NextGroup of_last before)) from (Go (Groups before)) from) → IfErr result (λ fault. (before : List GroupAt) → Stops text count symbols room (Go (NextGroup of_last before)) from fault)
+  tail_group_stops (Ok made) of_last stop lead = stop
+  tail_group_stops (Err fault) of_last stop lead = λ before. (lead before).stops fault (Stops.in_part refl (Stops.in_first stop))
+
+  pub tail_arm : (result : Result RoughArm ParseFault) (to : ℕ) (given : Arm) → IfOk result (λ made. arm_of made ≡ given) → ((line : Line) (e : Phrase) (before : Arms) → Leads text count symbols room (an_arm line e before) from (Go (Cases line e (and_arm before given))) to) → IfOk result (λ made. (line : Line) (e : Phrase) (before : Arms) → Leads text count symbols room (an_arm line e before) from (Go (Cases line e (and_arm before (arm_of made)))) to)
+  tail_arm (Ok made) to given is lead = λ line e before. leads_on (lead line e before) (leads_same (ap (λ (a : Arm). Go (Cases line e (and_arm before a))) (sym is)))
+  tail_arm (Err fault) to given is lead = is
+
+  pub tail_arm_memory : (result : Result RoughArm ParseFault) → IfErr result (λ fault. fault ≡ Memory) → IfErr result (λ fault. (line : Line) (e : Phrase) (before : Arms) → Stops text count symbols room (an_arm line e before) from fault)
+  tail_arm_memory (Ok made) stop = stop
+  tail_arm_memory (Err fault) stop = λ line e before. Stops.out_of_memory stop
 
 module _ {text : List ℕ} {count : ℕ} {symbols : List Symbol} where
   -- a part begins with a token of a kind that has been found there
   pub goes_as : {room from : ℕ} {part : Part} {found kind : Kind} {rule : Rule} → found ≡ kind_at symbols from → found ≡ kind → row text part kind ≡ Some rule → Leads text count symbols room (Go part) from rule from
   goes_as {room} {from} {part} {found} {kind} here is row_is = leads_go (ap (λ (k : Kind). row text part k) (sym here ∙ is) ∙ row_is)
 
-  pub items_end : {room from : ℕ} {line : Line} {before : Phrases} {found : Kind} → found ≡ kind_at symbols from → (found ≡ kind.Semicolon → ⊥) → Leads text count symbols room (Go (MoreItems line before)) from (Give (at (form.Sequence before) line)) from
-  items_end {line = line} {before = before} {found = found} here other = leads_go (ap (λ (k : Kind). Some (more_items line before k)) (sym here) ∙ ap Some (more_items_other line before found other))
+  -- a part is this rule by the kind that has been found there
+  pub goes_by : {room from : ℕ} {part : Part} {found : Kind} {rule : Rule} → found ≡ kind_at symbols from → row text part found ≡ Some rule → Leads text count symbols room (Go part) from rule from
+  goes_by {room} {from} {part} {found} here is = leads_go (ap (λ (k : Kind). row text part k) (sym here) ∙ is)
 
-  pub writing_ends : {room from : ℕ} {line : Line} {before : Phrases} {found : Kind} → found ≡ kind_at symbols from → (found ≡ kind.Comma → ⊥) → Leads text count symbols room (Go (MoreWritten line before)) from (Give (at (form.Write before) line)) from
-  writing_ends {line = line} {before = before} {found = found} here other = leads_go (ap (λ (k : Kind). Some (more_written line before k)) (sym here) ∙ ap Some (more_written_other line before found other))
-
-  pub nothing_assigned : {room from : ℕ} {left : Phrase} {found : Kind} → found ≡ kind_at symbols from → (found ≡ kind.Becomes → ⊥) → Leads text count symbols room (Go (Assignment left)) from (Give left) from
-  nothing_assigned {left = left} {found = found} here other = leads_go (ap (λ (k : Kind). Some (assignment left k)) (sym here) ∙ ap Some (assignment_other left found other))
-
-  pub ending_stops : {room from : ℕ} {all : Phrase} {found : Kind} {fault : ParseFault} → found ≡ kind_at symbols from → (found ≡ kind.Question → ⊥) → (found ≡ kind.EndOfText → ⊥) → fault ≡ unexpected text count (slice_get symbols from) → Stops text count symbols room (Go (Ending all)) from fault
-  ending_stops {all = all} {found = found} here other end is = Stops.no_part (ap (λ (k : Kind). ending all k) (sym here) ∙ ending_other all found other end) is
-
-  pub ended_stops : {room from : ℕ} {all : Phrase} {found : Kind} {fault : ParseFault} → found ≡ kind_at symbols from → (found ≡ kind.EndOfText → ⊥) → fault ≡ unexpected text count (slice_get symbols from) → Stops text count symbols room (Go (Ended all)) from fault
-  ended_stops {all = all} {found = found} here end is = Stops.no_part (ap (λ (k : Kind). ended all k) (sym here) ∙ ended_other all found end) is
+  pub stops_by : {room from : ℕ} {part : Part} {found : Kind} {fault : ParseFault} → found ≡ kind_at symbols from → row text part found ≡ None → fault ≡ unexpected text count (slice_get symbols from) → Stops text count symbols room (Go part) from fault
+  stops_by {room} {from} {part} {found} here is fault_is = Stops.no_part (ap (λ (k : Kind). row text part k) (sym here) ∙ is) fault_is
 
   pub item_stands : {room from : ℕ} {line : Line} {before : Phrases} {found : Kind} → found ≡ kind_at symbols from → (stands : Bool) → stands ≡ begins_item found → Leads text count symbols room (Go (Items line before)) from (items line before stands) from
-  item_stands {line = line} {before = before} {found = found} here stands is = leads_go (ap (λ (k : Kind). Some (items line before (begins_item k))) (sym here) ∙ ap (λ (b : Bool). Some (items line before b)) (sym is))
+  item_stands {line = line} {before = before} {found = found} here stands is = goes_by here (ap (λ (b : Bool). Some (items line before b)) (sym is))
 
-  pub chain_ends : {room from : ℕ} {level : Level} {left : Phrase} {found : Kind} {operation : Option Operation} → found ≡ kind_at symbols from → operation ≡ operation_of level found → operation ≡ None → Leads text count symbols room (Go (MoreChain level left)) from (Give left) from
-  chain_ends {level = level} {left = left} {found = found} here is ends = leads_go (ap (λ (k : Kind). Some (more_chain level left k (operation_of level k))) (sym here) ∙ ap (λ (o : Option Operation). Some (more_chain level left found o)) (sym is ∙ ends))
+  pub types_stand : {room from : ℕ} {found : Kind} → found ≡ kind_at symbols from → (stand : Bool) → stand ≡ begins_type found → Leads text count symbols room (Go ParameterTypes) from (parameter_types stand) from
+  types_stand {found = found} here stand is = goes_by here (ap (λ (b : Bool). Some (parameter_types b)) (sym is))
 
-  pub chain_goes : {room from : ℕ} {level : Level} {left : Phrase} {found : Kind} {operation : Option Operation} {op : Operation} → found ≡ kind_at symbols from → operation ≡ operation_of level found → operation ≡ Some op → Leads text count symbols room (Go (MoreChain level left)) from (more_chain level left found (Some op)) from
-  chain_goes {level = level} {left = left} {found = found} here is some = leads_go (ap (λ (k : Kind). Some (more_chain level left k (operation_of level k))) (sym here) ∙ ap (λ (o : Option Operation). Some (more_chain level left found o)) (sym is ∙ some))
+  pub parameters_stand : {room from : ℕ} {found : Kind} → found ≡ kind_at symbols from → (stand : Bool) → stand ≡ begins_type found → Leads text count symbols room (Go Parameters) from (parameters stand) from
+  parameters_stand {found = found} here stand is = goes_by here (ap (λ (b : Bool). Some (parameters b)) (sym is))
 
-  pub nothing_compared : {room from : ℕ} {left : Phrase} {found : Kind} {relation : Option Relation} → found ≡ kind_at symbols from → relation ≡ relation_of found → relation ≡ None → Leads text count symbols room (Go (Comparison left)) from (Give left) from
-  nothing_compared {left = left} {found = found} here is ends = leads_go (ap (λ (k : Kind). Some (comparison left k (relation_of k))) (sym here) ∙ ap (λ (r : Option Relation). Some (comparison left found r)) (sym is ∙ ends))
+  pub chain_goes : {room from : ℕ} {level : Level} {left : Phrase} {found : Kind} {operation op : Option Operation} → found ≡ kind_at symbols from → operation ≡ operation_of level found → operation ≡ op → Leads text count symbols room (Go (MoreChain level left)) from (more_chain level left found op) from
+  chain_goes {level = level} {left = left} {found = found} here is some = goes_by here (ap (λ (o : Option Operation). Some (more_chain level left found o)) (sym is ∙ some))
 
-  pub something_compared : {room from : ℕ} {left : Phrase} {found : Kind} {relation : Option Relation} {op : Relation} → found ≡ kind_at symbols from → relation ≡ relation_of found → relation ≡ Some op → Leads text count symbols room (Go (Comparison left)) from (comparison left found (Some op)) from
-  something_compared {left = left} {found = found} here is some = leads_go (ap (λ (k : Kind). Some (comparison left k (relation_of k))) (sym here) ∙ ap (λ (r : Option Relation). Some (comparison left found r)) (sym is ∙ some))
+  pub compared_as : {room from : ℕ} {left : Phrase} {found : Kind} {relating r : Option Relating} → found ≡ kind_at symbols from → relating ≡ relating_of found → relating ≡ r → Leads text count symbols room (Go (Comparison left)) from (comparison text left found r) from
+  compared_as {left = left} {found = found} here is some = goes_by here (ap (λ (r : Option Relating). Some (comparison text left found r)) (sym is ∙ some))
 
   -- a call at the end gives what the whole gives
-  pub tail_made : (result : Result Rough ParseFault) {room from to : ℕ} {rule : Rule} {tree : Phrase} → IfOk result (λ made. phrase_of made ≡ tree) → Leads text count symbols room rule from (Give tree) to → IfOk result (λ made. Reads text symbols room rule from (phrase_of made) to)
-  tail_made (Ok made) is lead = lead.reads (phrase_of made) _ (gives_at is refl)
-  tail_made (Err fault) is lead = is
+  pub tail_clause : (result : Result Rough ParseFault) {room from to : ℕ} {rule : Rule} {tree : Phrase} → IfOk result (λ made. phrase_of made ≡ tree) → Leads text count symbols room rule from (Give (a_clause tree)) to → IfOk result (λ made. Reads text symbols room rule from (a_clause (phrase_of made)) to)
+  tail_clause (Ok made) is lead = lead.reads _ _ (gives_at (ap a_clause is) refl)
+  tail_clause (Err fault) is lead = is
 
-  pub tail_reads : (result : Result Rough ParseFault) (to : ℕ) {room from at : ℕ} {rule rest : Rule} → IfOk result (λ made. Reads text symbols room rest at (phrase_of made) to) → Leads text count symbols room rule from rest at → IfOk result (λ made. Reads text symbols room rule from (phrase_of made) to)
-  tail_reads (Ok made) to read lead = lead.reads (phrase_of made) _ read
-  tail_reads (Err fault) to read lead = read
+  pub tail_type : (result : Result Ty ParseFault) {room from to : ℕ} {rule : Rule} {given : TyView} → IfOk result (λ made. ty_view made ≡ given) → Leads text count symbols room rule from (Give (a_type given)) to → IfOk result (λ made. Reads text symbols room rule from (a_type (ty_view made)) to)
+  tail_type (Ok made) is lead = lead.reads _ _ (gives_at (ap a_type is) refl)
+  tail_type (Err fault) is lead = is
 
-  pub tail_stops : (result : Result Rough ParseFault) {room from at : ℕ} {rule rest : Rule} → IfErr result (λ fault. Stops text count symbols room rest at fault) → Leads text count symbols room rule from rest at → IfErr result (λ fault. Stops text count symbols room rule from fault)
+  pub tail_item : (result : Result RoughItem ParseFault) {room from to : ℕ} {rule : Rule} {given : WriteItem} → IfOk result (λ made. item_of made ≡ given) → Leads text count symbols room rule from (Give (an_item given)) to → IfOk result (λ made. Reads text symbols room rule from (an_item (item_of made)) to)
+  tail_item (Ok made) is lead = lead.reads _ _ (gives_at (ap an_item is) refl)
+  tail_item (Err fault) is lead = is
+
+  pub tail_reads : {A : Type 0} (view : A → Made) (result : Result A ParseFault) (to : ℕ) {room from at : ℕ} {rule rest : Rule} → IfOk result (λ made. Reads text symbols room rest at (view made) to) → Leads text count symbols room rule from rest at → IfOk result (λ made. Reads text symbols room rule from (view made) to)
+  tail_reads view (Ok made) to read lead = lead.reads _ _ read
+  tail_reads view (Err fault) to read lead = read
+
+  pub tail_stops : {A : Type 0} (result : Result A ParseFault) {room from at : ℕ} {rule rest : Rule} → IfErr result (λ fault. Stops text count symbols room rest at fault) → Leads text count symbols room rule from rest at → IfErr result (λ fault. Stops text count symbols room rule from fault)
   tail_stops (Ok made) stop lead = stop
   tail_stops (Err fault) stop lead = lead.stops fault stop
 
+  -- a name that is declared is the one that stands there
+  pub leads_named : {room from : ℕ} (next : NameAt → Rule) {name other : NameAt} → other ≡ name → Leads text count symbols room (next name) from (next other) from
+  leads_named next is = leads_same (ap next (sym is))
+
   -- a loop goes on with what it has made
-  pub chain_again : {room from to : ℕ} {rule : Rule} {level : Level} {left tree : Phrase} → Leads text count symbols room rule from (Go (MoreChain level tree)) to → left ≡ tree → Leads text count symbols room rule from (Go (MoreChain level left)) to
-  chain_again {room} {from} {to} {rule} {level} lead is = subst (λ (t : Phrase). Leads text count symbols room rule from (Go (MoreChain level t)) to) (sym is) lead
+  pub phrases_begin : {room from : ℕ} (next : Phrases → Rule) {made : List Rough} → made ≡ [] → Leads text count symbols room (next none) from (next (phrases_in made)) from
+  phrases_begin next is = leads_same (ap (λ (made : List Rough). next (phrases_in made)) (sym is))
 
-  pub leads_named : {room from : ℕ} {line : Line} {name other : NameAt} → other ≡ name → Leads text count symbols room (Go (Binding line name)) from (Go (Binding line other)) from
-  leads_named {room} {from} {line} {name} is = subst (λ (n : NameAt). Leads text count symbols room (Go (Binding line name)) from (Go (Binding line n)) from) (sym is) leads_nowhere
+  pub phrases_again : {room from : ℕ} (next : Phrases → Rule) (before : List Rough) (last : Rough) {made : List Rough} → made ≡ before ++ last ∷ [] → Leads text count symbols room (next (and_then (phrases_in before) (phrase_of last))) from (next (phrases_in made)) from
+  phrases_again next before last is = leads_same (ap next (sym (ap phrases_in is ∙ phrases_in-append before last)))
 
-  pub items_begin : {room from : ℕ} {line : Line} {items : List Rough} → items ≡ [] → Leads text count symbols room (Go (Items line none)) from (Go (Items line (phrases_in items))) from
-  items_begin {room} {from} {line} is = subst (λ (made : List Rough). Leads text count symbols room (Go (Items line none)) from (Go (Items line (phrases_in made))) from) (sym is) leads_nowhere
+  pub phrases_first : {room from : ℕ} (next : Phrases → Rule) (before : List Rough) (last : Rough) {made : List Rough} → before ≡ [] → made ≡ before ++ last ∷ [] → Leads text count symbols room (next (more (phrase_of last) none)) from (next (phrases_in made)) from
+  phrases_first next before last empty is = leads_same (ap (λ (all : List Rough). next (and_then (phrases_in all) (phrase_of last))) (sym empty) ∙ ap next (sym (ap phrases_in is ∙ phrases_in-append before last)))
 
-  pub items_again : (before : List Rough) (item : Rough) {room from to : ℕ} {rule : Rule} {line : Line} {items : List Rough} → Leads text count symbols room rule from (Go (MoreItems line (and_then (phrases_in before) (phrase_of item)))) to → items ≡ before ++ item ∷ [] → Leads text count symbols room rule from (Go (MoreItems line (phrases_in items))) to
-  items_again before item {room} {from} {to} {rule} {line} lead is = subst (λ (all : Phrases). Leads text count symbols room rule from (Go (MoreItems line all)) to) (sym (ap phrases_in is ∙ phrases_in-append before item)) lead
+  pub arms_begin : {room from : ℕ} (next : Arms → Rule) {made : List RoughArm} → made ≡ [] → Leads text count symbols room (next no_arms) from (next (arms_in made)) from
+  arms_begin next is = leads_same (ap (λ (made : List RoughArm). next (arms_in made)) (sym is))
 
-  pub written_again : (before : List Rough) (item : Rough) {room from to : ℕ} {rule : Rule} {line : Line} {items : List Rough} → Leads text count symbols room rule from (Go (MoreWritten line (and_then (phrases_in before) (phrase_of item)))) to → items ≡ before ++ item ∷ [] → Leads text count symbols room rule from (Go (MoreWritten line (phrases_in items))) to
-  written_again before item {room} {from} {to} {rule} {line} lead is = subst (λ (all : Phrases). Leads text count symbols room rule from (Go (MoreWritten line all)) to) (sym (ap phrases_in is ∙ phrases_in-append before item)) lead
+  pub arms_again : {room from : ℕ} (next : Arms → Rule) (before : List RoughArm) (last : RoughArm) {made : List RoughArm} → made ≡ before ++ last ∷ [] → Leads text count symbols room (next (and_arm (arms_in before) (arm_of last))) from (next (arms_in made)) from
+  arms_again next before last is = leads_same (ap next (sym (ap arms_in is ∙ arms_in-append before last)))
 
-  pub written_first : (before : List Rough) (item : Rough) {room from to : ℕ} {rule : Rule} {line : Line} {items : List Rough} → Leads text count symbols room rule from (Go (MoreWritten line (more (phrase_of item) none))) to → before ≡ [] → items ≡ before ++ item ∷ [] → Leads text count symbols room rule from (Go (MoreWritten line (phrases_in items))) to
-  written_first before item {room} {from} {to} {rule} {line} lead empty is = subst (λ (all : Phrases). Leads text count symbols room rule from (Go (MoreWritten line all)) to) (sym (ap phrases_in is ∙ phrases_in-append before item ∙ ap (λ (made : List Rough). and_then (phrases_in made) (phrase_of item)) empty)) lead
+  pub written_again : {room from : ℕ} (next : WriteItems → Rule) (before : List RoughItem) (last : RoughItem) {made : List RoughItem} → made ≡ before ++ last ∷ [] → Leads text count symbols room (next (and_item (items_in before) (item_of last))) from (next (items_in made)) from
+  written_again next before last is = leads_same (ap next (sym (ap items_in is ∙ items_in-append before last)))
+
+  pub written_first : {room from : ℕ} (next : WriteItems → Rule) (before : List RoughItem) (last : RoughItem) {made : List RoughItem} → before ≡ [] → made ≡ before ++ last ∷ [] → Leads text count symbols room (next (more_items (item_of last) no_items)) from (next (items_in made)) from
+  written_first next before last empty is = leads_same (ap (λ (all : List RoughItem). next (and_item (items_in all) (item_of last))) (sym empty) ∙ ap next (sym (ap items_in is ∙ items_in-append before last)))
+
+  pub types_again : {room from : ℕ} (next : TyViews → Rule) (before : List Ty) (last : Ty) {made : List Ty} → made ≡ before ++ last ∷ [] → Leads text count symbols room (next (and_type (ty_views before) (ty_view last))) from (next (ty_views made)) from
+  types_again next before last is = leads_same (ap next (sym (ap ty_views is ∙ ty_views-append before last)))
+
+  pub types_first : {room from : ℕ} (next : TyViews → Rule) (before : List Ty) (last : Ty) {made : List Ty} → before ≡ [] → made ≡ before ++ last ∷ [] → Leads text count symbols room (next (ty.more (ty_view last) ty.none)) from (next (ty_views made)) from
+  types_first next before last empty is = leads_same (ap (λ (all : List Ty). next (and_type (ty_views all) (ty_view last))) (sym empty) ∙ ap next (sym (ap ty_views is ∙ ty_views-append before last)))
+
+  pub groups_begin : {room from : ℕ} (next : List GroupAt → Rule) {made : List Group} → made ≡ [] → Leads text count symbols room (next []) from (next (groups_in made)) from
+  groups_begin next is = leads_same (ap (λ (made : List Group). next (groups_in made)) (sym is))
+
+  pub groups_again : {room from : ℕ} (next : List GroupAt → Rule) (before : List Group) (last : Group) {made : List Group} → made ≡ before ++ last ∷ [] → Leads text count symbols room (next (groups_in before ++ group_of last ∷ [])) from (next (groups_in made)) from
+  groups_again next before last is = leads_same (ap next (sym (ap groups_in is ∙ groups_in-append before last)))

@@ -1,12 +1,16 @@
 -- What the parser's private contracts say.
-use Rattle.std.specs.Prelude.{ℕ, ◌≤◌, length}
+use Rattle.std.specs.Prelude.{ℕ, ◌≤◌, List, Option, Some, None, length}
 use Rattle.std.specs.List.{All}
+use Rattle.ps_base.specs.TyView.{ty_view}
+use Rattle.ps_base.specs.declared.line.Line.{Line}
+use Rattle.ps_base.specs.declared.ty.Ty.{Ty}
 use Rattle.ps_scan.specs.declared.piece.TheConstants.{LONGEST_TEXT}
 use Rattle.ps_parse.specs.declared.fault.ParseFault.{ParseFault}
 use Rattle.ps_parse.specs.declared.parser.Parser.{Parser}
 use Rattle.ps_parse.specs.declared.rough.Rough.{Rough}
-use Rattle.ps_parse.specs.Phrase.{phrase_of}
-use Rattle.ps_parse.specs.Grammar.{Made, a_clause, Rule}
+use Rattle.ps_parse.specs.declared.kind.Kind.TheVariants as kind
+use Rattle.ps_parse.specs.Phrase.{Phrase, Phrases, none, more, GroupAt, Arms, arm, phrase_of}
+use Rattle.ps_parse.specs.Grammar.{Made, a_clause, all_groups, Cases, Labels, Rule, Give, Go, and_arm, named_group, skip, with_clause}
 use Rattle.ps_parse.specs.Reading.{Reads}
 use Rattle.ps_parse.specs.Soundness.{IsSound}
 use Rattle.ps_parse.specs.Stopping.{Stops, Leads}
@@ -27,3 +31,15 @@ Halts parser room rule from fault = Stops parser.text.now parser.tokens parser.s
 
 abbrev pub GoesOn : Parser → ℕ → Rule → ℕ → Rule → ℕ → Type 0
 GoesOn parser room rule from rest at = Leads parser.text.now parser.tokens parser.symbols.now room rule from rest at
+
+-- what is to be read where the type of a further group has been read, or where there is none
+abbrev pub after_group : List ℕ → List GroupAt → Option Ty → Rule
+after_group text before (Some ty) = named_group text before (ty_view ty)
+after_group text before None = Give (all_groups before)
+
+-- an arm behind those before it, and the further ones; and what is left of it behind its labels
+abbrev pub an_arm : Line → Phrase → Arms → Rule
+an_arm line e before = with_clause (λ label. Go (Labels line e before (more label none)))
+
+abbrev pub behind_labels : Line → Phrase → Arms → Phrases → Rule
+behind_labels line e before labels = skip kind.Colon (with_clause (λ a. skip kind.Semicolon (Go (Cases line e (and_arm before (arm labels a))))))

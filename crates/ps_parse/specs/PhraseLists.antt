@@ -1,9 +1,9 @@
--- The phrases of a list of clauses, of arms and of items.
-use Rattle.std.specs.Prelude.{List, [], ◌∷◌}
+-- The phrases of a list of clauses, of arms and of items, and of a clause that may be left out.
+use Rattle.std.specs.Prelude.{List, [], ◌∷◌, Option, Some, None}
 use Rattle.ps_parse.specs.declared.rough.Rough.{Rough}
 use Rattle.ps_parse.specs.declared.rough.RoughArm.{RoughArm}
 use Rattle.ps_parse.specs.declared.rough.RoughItem.{RoughItem}
-use Rattle.ps_parse.specs.Phrase.{Phrases, none, more, Arms, no_arms, more_arms, WriteItems, no_items, more_items, phrase_of, arm_of, item_of}
+use Rattle.ps_parse.specs.Phrase.{Phrase, MaybePhrase, absent, present, Phrases, none, more, Arms, no_arms, more_arms, WriteItems, no_items, more_items, phrase_of, arm_of, item_of}
 
 abbrev pub phrases_in : List Rough → Phrases
 phrases_in [] = none
@@ -16,3 +16,7 @@ arms_in (first ∷ rest) = more_arms (arm_of first) (arms_in rest)
 abbrev pub items_in : List RoughItem → WriteItems
 items_in [] = no_items
 items_in (first ∷ rest) = more_items (item_of first) (items_in rest)
+
+abbrev pub maybe_in : Option Rough → MaybePhrase
+maybe_in (Some clause) = present (phrase_of clause)
+maybe_in None = absent

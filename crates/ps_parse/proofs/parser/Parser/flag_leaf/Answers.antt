@@ -1,5 +1,6 @@
 use Rattle.std.proofs.Common.{refl}
 use Rattle.ps_parse.proofs.Steps.{gives_at, takes_at}
+use Rattle.ps_parse.proofs.Rows.{}
 use Rattle.ps_parse.proofs.parser.Parser.flag_leaf.Goals as goal
 
 pub returns-clause-read : goal.returns-clause-read

@@ -1,0 +1,23 @@
+use Rattle.std.proofs.Common.{ℕ, List, Some, slice_get, sym, subst, ◌≡◌, ◌∙◌}
+use denote.Enum.Bare.{differs_false}
+use Rattle.std.specs.List.{All}
+use Rattle.ps_parse.specs.contracts.kind.Kind.{the_type}
+use Rattle.std.proofs.lemmas.Option.{slice_get_within, get_or_from_slice_get}
+use Rattle.std.proofs.lemmas.List.Elements.{All-get_or}
+use Rattle.ps_parse.specs.declared.symbol.Symbol.{Symbol}
+use Rattle.ps_parse.specs.Soundness.{IsSound}
+use Rattle.ps_parse.proofs.parser.Parser.take.Goals as goal
+
+-- what is so of each symbol is so of the one at a place
+at_place : (P : Symbol → Type 0) (symbols : List Symbol) (place : ℕ) (symbol : Symbol) → All P symbols → slice_get symbols place ≡ Some symbol → P symbol
+at_place P symbols place symbol all here =
+    subst P (get_or_from_slice_get symbols place symbol symbol here) (All-get_or P symbols place symbol (slice_get_within symbols place symbol here) all)
+
+pub returns-clause-kind : goal.returns-clause-kind
+returns-clause-kind c = differs_false the_type tt c.in-Some.symbol.kind c.args.kind (sym c.ne.ensures ∙ c.if-ne.false)
+
+pub returns-clause-sound : goal.returns-clause-sound
+returns-clause-sound c = at_place (IsSound c.args.self.now.text.now) _ _ c.in-Some.symbol c.requires.sound.symbols (sym c.symbol_at.ensures ∙ c.in-Some.is)
+
+pub returns-clause-within : goal.returns-clause-within
+returns-clause-within c = slice_get_within c.args.self.now.symbols.now c.args.at.now c.in-Some.symbol (sym c.symbol_at.ensures ∙ c.in-Some.is)
