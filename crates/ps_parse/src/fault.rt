@@ -11,7 +11,7 @@ pub enum ParseFault {
     /// The tokens up to this one begin no program, and those before it do. `token` is its number,
     /// from 0 on; at the end of the text it is how many tokens there are.
     Unexpected { line: Line, token: u32 },
-    /// A token opens the 101st clause inside one another.
+    /// A token opens the 101st clause or type of those inside one another.
     TooNested { line: Line },
     /// There was no memory for the tree.
     Memory,

@@ -1,7 +1,8 @@
 use Rattle.std.proofs.Common.{arith, List, None, length, subst, sym, ◌∙◌}
 use Rattle.std.specs.List.{All}
 use Rattle.ps_parse.specs.declared.symbol.Symbol.{Symbol}
-use Rattle.ps_parse.specs.Parsing.{IsSound, Stops}
+use Rattle.ps_parse.specs.Soundness.{IsSound}
+use Rattle.ps_parse.specs.Stopping.{Stops}
 use Rattle.std.specs.Prelude.{Result, Ok, Err, IfErr, ◌≢◌}
 use Rattle.ps_parse.specs.declared.fault.ParseFault.{ParseFault}
 use Rattle.ps_parse.specs.declared.fault.ParseFault.TheVariants.{Memory}

@@ -3,13 +3,31 @@ use Rattle.std.proofs.Common.{◌+◌, ◌*◌}
 use Rattle.ps_parse.proofs.tests.+show.Given as goal
 
 abbrev pub decreases-show : goal.decreases-show
-decreases-show l = 3 * l.depth
+decreases-show l = 10 * l.depth
+
+abbrev pub decreases-show_form : goal.decreases-show_form
+decreases-show_form l = 10 * l.depth + 8
+
+abbrev pub decreases-show_parts : goal.decreases-show_parts
+decreases-show_parts l = 10 * l.depth + 7
+
+abbrev pub decreases-show_pair : goal.decreases-show_pair
+decreases-show_pair l = 10 * l.depth + 6
 
 abbrev pub decreases-show_one : goal.decreases-show_one
-decreases-show_one l = 3 * l.depth + 1
+decreases-show_one l = 10 * l.depth + 1
 
 abbrev pub decreases-show_two : goal.decreases-show_two
-decreases-show_two l = 3 * l.depth + 2
+decreases-show_two l = 10 * l.depth + 2
+
+abbrev pub decreases-show_maybe : goal.decreases-show_maybe
+decreases-show_maybe l = 10 * l.depth + 2
 
 abbrev pub decreases-show_all : goal.decreases-show_all
-decreases-show_all l = 3 * l.depth + 2
+decreases-show_all l = 10 * l.depth + 2
+
+abbrev pub decreases-show_arms : goal.decreases-show_arms
+decreases-show_arms l = 10 * l.depth + 3
+
+abbrev pub decreases-show_items : goal.decreases-show_items
+decreases-show_items l = 10 * l.depth + 3
