@@ -39,6 +39,11 @@ unfolding out-RoughItem denote.Hole.Carrier.out
 is_not_wide (struct-RoughItem p e e_line None' line) is = refl
 is_not_wide (struct-RoughItem p e e_line (Some' q form w_line) line) is = absurd (none_is_some _ (sym is))
 
+pub item_without_width : (r : RoughItem) (e : Rough) → e ≡ (out-RoughItem r).e.value → (out-RoughItem r).w ≡ None → item_of r ≡ item (phrase_of e) absent (out-RoughItem r).line
+item_without_width r e is narrow =
+    let colon = (out-RoughItem r).line in
+    item_parts r ∙ ap (λ (e : Rough). item (phrase_of e) (width_of r) colon) (sym is) ∙ ap (λ (w : MaybePhrase). item (phrase_of e) w colon) (is_not_wide r narrow)
+
 -- an item that isn't a string
 pub not_text : (r : RoughForm) (line : Line) (w : MaybePhrase) (colon : Line) → ((bytes : _) → r ≡ code.Text bytes → ⊥) → unbuilt_item (item (at (form_of r) line) w colon) ≡ or_else (unbuilt_in line (form_of r)) (width_line w colon)
 not_text (code.Text bytes) line w colon other = absurd (other bytes refl)
