@@ -6,10 +6,10 @@ ghost use Rattle.ps_machine.specs.Code.{code_of, size, slot_at, bytes_in};
 ghost use Rattle.ps_machine.specs.Emission.{Emits, EmitsWith, EmitsBefore, EmitsAll, EmitsWritten};
 
 use crate::instruction::Instruction;
+use ps_base::basic_type::BasicType;
 use ps_base::bytes::Bytes;
 use ps_base::place::Place;
 use ps_base::tree::Tree;
-use ps_base::basic_type::BasicType;
 use std::alloc::{AllocError, Global};
 
 /// The code of a program, from its last instruction to its first. The error is want of memory; what was

@@ -1,6 +1,6 @@
 -- How outcomes follow from one another, and what the functions of the checker answer of them.
 use Rattle.std.proofs.Common.{◌≡◌, ◌≢◌, ℕ, Bool, true, false, List, [], ◌∷◌, ◌++◌, suc, ◌+◌, ◌≤◌, length, length-append, arith, refl, sym, ap, ◌∙◌, subst}
-use Rattle.std.specs.Prelude.{Result, Ok, Err, None, if◌then◌else◌, MatchResult, IfErr, IsErrAnd}
+use Rattle.std.specs.Prelude.{Result, Ok, Err, Option, Some, None, if◌then◌else◌, MatchResult, IfErr, IsErrAnd}
 use Rattle.std.proofs.lemmas.Result.{err_from_is_err_and}
 use Rattle.ps_base.specs.declared.line.Line.{Line}
 use Rattle.ps_base.specs.declared.basic_type.BasicType.{BasicType}
@@ -12,11 +12,12 @@ use Rattle.ps_parse.specs.Phrase.{Phrase, Phrases, phrase_of}
 use Rattle.ps_parse.specs.Phrase as form
 use Rattle.ps_parse.specs.declared.rough.Rough.{Rough}
 use Rattle.ps_types.specs.declared.check_fault.CheckFault.{CheckFault}
-use Rattle.ps_types.specs.declared.check_fault.CheckFault.TheVariants.{Memory, Mismatch}
+use Rattle.ps_types.specs.declared.check_fault.CheckFault.TheVariants.{Memory, Mismatch, NotBuilt}
 use Rattle.ps_types.specs.declared.clause.Clause.{Clause}
 use Rattle.ps_types.specs.declared.link.Link.{Link}
 use Rattle.ps_types.specs.Names.{Names, no_names, behind}
-use Rattle.ps_types.specs.Checking.{Outcome, Gives, Refuses, ◌>>=◌, passes, wants, is_same, check, check_all, line_of, together, end_line, check_program, verdict_of, Typed, Fails}
+use Rattle.ps_types.specs.Checking.{Outcome, Gives, Refuses, ◌>>=◌, passes, wants, is_same, check, check_all, line_of, together, end_line, check_built, check_program, verdict_of, Typed, Fails}
+use Rattle.ps_types.specs.Built.{first_unbuilt}
 use Rattle.ps_types.specs.PhraseWeights.{weight, weight_links}
 use Rattle.ps_types.specs.Checks.{IsFault, IsClause, IsOfType, IsMade, linked, check_link, check_links}
 use Rattle.ps_types.specs.declared.link.Joint.{Joint}
@@ -219,13 +220,17 @@ exits_with r Q fault is h =
     subst (λ (r : Result _ CheckFault). IfErr r Q) (sym p.1) (subst Q (sym p.2) h)
 
 -- what the check of a program comes to
-pub program_gives : (p : Phrase) (tree : Node) (names : Names) → wants Void (end_line p) (check no_names p) ≡ Gives tree Void names → check_program p ≡ Typed tree names.next
-unfolding check_program verdict_of
-program_gives p tree names is = ap verdict_of is
+pub program_gives : (p : Phrase) (tree : Node) (names : Names) → first_unbuilt p ≡ None → wants Void (end_line p) (check no_names p) ≡ Gives tree Void names → check_program p ≡ Typed tree names.next
+unfolding check_program check_built verdict_of
+program_gives p tree names built is = ap (λ (o : Option Line). check_built o p) built ∙ ap verdict_of is
 
-pub program_fails : (p : Phrase) (fault : CheckFault) → IsFault (wants Void (end_line p) (check no_names p)) fault → fault ≢ Memory → check_program p ≡ Fails fault
-unfolding check_program verdict_of
-program_fails p fault h other = ap verdict_of (h.is other)
+pub program_fails : (p : Phrase) (fault : CheckFault) → first_unbuilt p ≡ None → IsFault (wants Void (end_line p) (check no_names p)) fault → fault ≢ Memory → check_program p ≡ Fails fault
+unfolding check_program check_built verdict_of
+program_fails p fault built h other = ap (λ (o : Option Line). check_built o p) built ∙ ap verdict_of (h.is other)
+
+pub program_unbuilt : (p : Phrase) (line : Line) → first_unbuilt p ≡ Some line → check_program p ≡ Fails (NotBuilt line)
+unfolding check_program check_built
+program_unbuilt p line is = ap (λ (o : Option Line). check_built o p) is
 
 -- a sequence with its trees, and a write with those of its items
 pub block_given : (o : Outcome Nodes) (trees : Nodes) (ty : BasicType) (start last after : Names) (tree : Node) → o ≡ Gives trees ty last → tree ≡ node.Block None trees → after ≡ behind start last → (o >>= λ trees ty last. Gives (node.Block None trees) ty (behind start last)) ≡ Gives tree ty after

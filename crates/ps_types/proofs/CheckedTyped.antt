@@ -9,13 +9,14 @@ use Rattle.ps_base.specs.declared.operator.Relation.{Relation}
 use Rattle.ps_base.specs.declared.operator.Relation.TheVariants.{Equal, NotEqual}
 use Rattle.ps_base.specs.Node.{Node, Nodes}
 use Rattle.ps_base.specs.Node as node
-use Rattle.ps_parse.specs.Phrase.{NameAt, Phrase, at, Form, Phrases, none, more}
+use Rattle.ps_parse.specs.Phrase.{NameAt, Phrase, at, Form, Phrases, none, more, absent, present, WriteItem, item, WriteItems, no_items, more_items}
 use Rattle.ps_parse.specs.Phrase as form
 use Rattle.ps_meaning.specs.Typed.{IsWord, IsTyped, AreTyped}
 use Rattle.ps_meaning.specs.Typed as typed
 use Rattle.ps_types.specs.declared.declaration.Local.{Local}
 use Rattle.ps_types.specs.Names.{Names, no_names, is_declared, meant, inside, declare}
-use Rattle.ps_types.specs.Checking.{Outcome, Gives, Refuses, ◌>>=◌, passes, check, check_form, check_all, check_written, is_same, is_word, is_comparable, is_writable, named, introduced, assigned, written, target, variable_in, together, line_of, check_program, verdict_of, Typed, end_line}
+use Rattle.ps_types.specs.Checking.{Outcome, Gives, Refuses, ◌>>=◌, passes, check, check_form, check_all, check_written, check_item, is_same, is_word, is_comparable, is_writable, named, introduced, assigned, written, target, variable_in, together, line_of, check_built, check_program, verdict_of, Verdict, Typed, end_line}
+use Rattle.ps_types.specs.Built.{first_unbuilt}
 
 -- a choice, by its test
 by_test : {A : Type 0} (P : A → Type 0) (b : Bool) (x y : A) → (b ≡ true → P x) → (b ≡ false → P y) → P (if b then x else y)
@@ -305,21 +306,25 @@ mutual
   sound_form names line (form.Int value) = gives IsClause names _ _ (λ ok. inr typed.int)
   sound_form names line (form.Text bytes) = gives IsClause names _ _ (λ ok. inl refl)
   sound_form names line (form.Flag value) = gives IsClause names _ _ (λ ok. inr typed.flag)
+  sound_form names line other = refuses
 
   sound_all : (names : Names) (line : Line) (before : BasicType) (items : Phrases) → Sound (AreClauses before) names (check_all names line before items)
   sound_all names line before none = gives (AreClauses before) names _ _ (λ ok. inr typed.no_more)
-  sound_all names line before (more item rest) =
+  sound_all names line before (more clause rest) =
       by_test (Sound (AreClauses before) names) (is_same before Void) _ _
-      (λ void. next _ _ (sound names item) (λ t ty n f.
-      next _ _ (sound_all n (line_of item) ty rest) (λ ts ty' n' f'. gives_2 (AreClauses before) _ _ f f' (λ less t ts. one_more before ty ty' void less t ts))))
+      (λ void. next _ _ (sound names clause) (λ t ty n f.
+      next _ _ (sound_all n (line_of clause) ty rest) (λ ts ty' n' f'. gives_2 (AreClauses before) _ _ f f' (λ less t ts. one_more before ty ty' void less t ts))))
       (λ value. refuses)
 
-  sound_written_all : (names : Names) (items : Phrases) → Sound AreVoid names (check_written names items)
-  sound_written_all names none = gives AreVoid names _ _ (λ ok. tt)
-  sound_written_all names (more item rest) =
-      next _ _ (sound names item) (λ t ty n f.
-      next _ _ (sound_written (line_of item) t ty names n f) (λ t' ty' n' f'.
-      next _ _ (sound_written_all n' rest) (λ ts ty'' n'' f''. gives_2 AreVoid _ _ f' f'' (λ less t ts. (weaken less t, ts)))))
+  sound_written_all : (names : Names) (items : WriteItems) → Sound AreVoid names (check_written names items)
+  sound_written_all names no_items = gives AreVoid names _ _ (λ ok. tt)
+  sound_written_all names (more_items first rest) =
+      next _ _ (sound_item names first) (λ t ty n f.
+      next _ _ (sound_written_all n rest) (λ ts ty' n' f'. gives_2 AreVoid _ _ f f' (λ less t ts. (weaken less t, ts))))
+
+  sound_item : (names : Names) (i : WriteItem) → Sound IsVoid names (check_item names i)
+  sound_item names (item e absent line) = next _ _ (sound names e) (λ t ty n f. sound_written line t ty names n f)
+  sound_item names (item e (present w) line) = refuses
 
 -- the names of the blocks around
 pub keeps_around : (names : Names) (p : Phrase) (tree : Node) (ty : BasicType) (after : Names) → check names p ≡ Gives tree ty after → after.around ≡ names.around
@@ -332,8 +337,8 @@ scope_none name local is = cc
 
 -- a program that is given is well typed
 pub program_typed : (p : Phrase) (tree : Node) (slots : ℕ) → check_program p ≡ Typed tree slots → IsTyped slots tree Void
-unfolding check_program verdict_of
-program_typed p tree slots is = from_verdict (passes (λ found. is_same found Void) Void (end_line p) (check no_names p)) tree slots (tests _ Void (end_line p) _ (sound no_names p)) is
+unfolding check_program check_built verdict_of
+program_typed p tree slots is = from_built (first_unbuilt p) p tree slots is
   where
     from_verdict : (o : Outcome Node) (tree : Node) (slots : ℕ) → Sound (IsTested (λ found. is_same found Void)) no_names o → verdict_of o ≡ Typed tree slots → IsTyped slots tree Void
     from_verdict (Gives t ty names) tree slots h is =
@@ -343,3 +348,7 @@ program_typed p tree slots is = from_verdict (passes (λ found. is_same found Vo
         let e' : names.next ≡ slots = cc in
         subst (λ n. IsTyped n tree Void) e' (subst (λ u. IsTyped names.next u Void) e t')
     from_verdict (Refuses fault) tree slots h is = cc
+
+    from_built : (o : Option Line) (p : Phrase) (tree : Node) (slots : ℕ) → check_built o p ≡ Typed tree slots → IsTyped slots tree Void
+    from_built (Some line) p tree slots is = cc
+    from_built None p tree slots is = from_verdict (passes (λ found. is_same found Void) Void (end_line p) (check no_names p)) tree slots (tests _ Void (end_line p) _ (sound no_names p)) is

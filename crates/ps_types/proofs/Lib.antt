@@ -1,3 +1,4 @@
+pub mod CheckedBuilt
 pub mod CheckedNames
 pub mod CheckedPhrases
 pub mod CheckedRows

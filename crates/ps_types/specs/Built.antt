@@ -1,13 +1,18 @@
 -- The forms that the grammar reads and that don't run yet, and the first of them in the text.
 use Rattle.std.specs.Prelude.{Option, Some, None}
 use Rattle.ps_base.specs.declared.line.Line.{Line}
-use Rattle.ps_parse.specs.Phrase.{Phrase, at, Form, Phrases, none, more, absent, present, WriteItem, item, WriteItems, no_items, more_items}
+use Rattle.ps_parse.specs.Phrase.{Phrase, at, Form, Phrases, none, more, MaybePhrase, absent, present, WriteItem, item, WriteItems, no_items, more_items}
 use Rattle.ps_parse.specs.Phrase as form
 
 -- the first of two, in this order
 abbrev pub or_else : Option Line → Option Line → Option Line
 or_else (Some line) behind = Some line
 or_else None behind = behind
+
+-- the line of a width
+abbrev pub width_line : MaybePhrase → Line → Option Line
+width_line (present w) colon = Some colon
+width_line absent line = None
 
 -- The line of the first form that isn't built. A form stands where the token stands that gives it its
 -- line: an operator behind its left operand, a keyword before its parts. A string is built where it is
@@ -49,7 +54,5 @@ abbrev mutual
   unbuilt_written (more_items first rest) = or_else (unbuilt_item first) (unbuilt_written rest)
 
   pub unbuilt_item : WriteItem → Option Line
-  unbuilt_item (item (at (form.Text bytes) line) absent line') = None
-  unbuilt_item (item (at (form.Text bytes) line) (present w) colon) = Some colon
-  unbuilt_item (item e absent line) = first_unbuilt e
-  unbuilt_item (item e (present w) colon) = or_else (first_unbuilt e) (Some colon)
+  unbuilt_item (item (at (form.Text bytes) line) w colon) = width_line w colon
+  unbuilt_item (item e w colon) = or_else (first_unbuilt e) (width_line w colon)

@@ -151,9 +151,9 @@ abbrev mutual
   -- The items of a sequence, behind an item on this line of this type: each but the last is void.
   pub check_all : Names → Line → BasicType → Phrases → Outcome Nodes
   check_all names line before none = Gives node.none before names
-  check_all names line before (more item rest) =
+  check_all names line before (more clause rest) =
       if is_same before Void
-      then (check names item >>= λ tree ty names. check_all names (line_of item) ty rest >>= λ trees ty names. Gives (node.more tree trees) ty names)
+      then (check names clause >>= λ tree ty names. check_all names (line_of clause) ty rest >>= λ trees ty names. Gives (node.more tree trees) ty names)
       else Refuses (Mismatch line before Void)
 
   -- the items of a `write`
@@ -170,7 +170,7 @@ abbrev mutual
 -- the line of the last item, or this one where there is none
 abbrev pub last_line : Line → Phrases → Line
 last_line line none = line
-last_line line (more item rest) = last_line (line_of item) rest
+last_line line (more clause rest) = last_line (line_of clause) rest
 
 -- the line of a program's last clause
 abbrev pub end_line : Phrase → Line

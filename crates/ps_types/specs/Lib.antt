@@ -3,4 +3,5 @@ pub mod CheckFaults
 pub mod Checking
 pub mod Checks
 pub mod Names
+pub mod Parts
 pub mod PhraseWeights

@@ -1,26 +1,27 @@
 ghost use Rattle.std.specs.Prelude.{◌≡◌, ◌≢◌, ℕ, true, false, ◌+◌, ◌≤◌, ◌∷◌, [], MatchResult, IfOk, IfErr};
 ghost use Rattle.ps_base.specs.Node.{Node, node_of, nodes_in};
 ghost use Rattle.ps_base.specs.Node as node;
-ghost use Rattle.ps_parse.specs.Phrase.{phrase_of, named as name_at};
+ghost use Rattle.ps_parse.specs.Phrase.{phrase_of, item_of, named as name_at};
 ghost use Rattle.ps_parse.specs.Phrase as form;
-ghost use Rattle.ps_parse.specs.PhraseLists.{phrases_in};
+ghost use Rattle.ps_parse.specs.PhraseLists.{phrases_in, items_in};
 ghost use Rattle.ps_meaning.specs.Typed.{IsTyped};
 ghost use Rattle.ps_types.specs.Names.{Names, inside, meant};
-ghost use Rattle.ps_types.specs.Checking.{Gives, Typed, Fails, check as check_of, check_form, check_all, check_written, check_program, wants, is_same as is_same_of, is_word as is_word_of, is_comparable as is_comparable_of, is_writable as is_writable_of, variable_in as variable_in_of, introduced, assigned, written, target as target_of, end_line as end_line_of, named};
+ghost use Rattle.ps_types.specs.Checking.{Gives, Typed, Fails, check as check_of, check_form, check_all, check_written, check_item as item_checked, check_program, wants, is_same as is_same_of, is_word as is_word_of, is_comparable as is_comparable_of, is_writable as is_writable_of, variable_in as variable_in_of, introduced, assigned, written, target as target_of, end_line as end_line_of, named};
 ghost use Rattle.ps_types.specs.Checks.{IsClause, IsOfType, IsFault, check_prefixed as prefixed_of, check_guarded as guarded_of, check_link as link_of, check_links as links_of, check_unlined};
 ghost use Rattle.ps_types.specs.PhraseWeights.{weight, weight_links};
 
+use crate::built::first_unbuilt;
 use crate::check_fault::CheckFault;
 use crate::clause::{self, Clause, Guard, Prefix};
 use crate::declaration::Local;
 use crate::link::{Joint, Link};
 use crate::scope::Scope;
+use ps_base::basic_type::BasicType;
 use ps_base::line::Line;
 use ps_base::operator::Relation;
 use ps_base::place::Place;
 use ps_base::tree::Tree;
-use ps_base::basic_type::BasicType;
-use ps_parse::rough::{Named, Rough, RoughForm};
+use ps_parse::rough::{Named, Rough, RoughForm, RoughItem};
 use std::alloc::Global;
 
 /// A well-typed program: its tree, and how many slots its names take.
@@ -37,6 +38,9 @@ pub fn check(alloc: Global, rough: &Rough) -> Result<Checked, CheckFault>
     ensures typed { IfOk result (λ checked. IsTyped checked.slots (node_of checked.tree) BasicType.Void) }
     ensures fault { IfErr result (λ fault. fault ≢ CheckFault.Memory → check_program (phrase_of rough.now) ≡ Fails fault) }
 {
+    if let Some(line) = first_unbuilt(rough) {
+        return Err(CheckFault::NotBuilt { line });
+    }
     let mut scope = Scope::new(alloc);
     let whole = check_clause(alloc, &mut scope, rough)?;
     let tree = of_type(whole, end_line(rough), BasicType::Void)?;
@@ -86,6 +90,20 @@ fn check_clause(alloc: Global, scope: &mut Scope, rough: &Rough) -> Result<Claus
             tree: Tree::Flag(*b),
             ty: BasicType::Bool,
         }),
+        RoughForm::Structure { .. }
+        | RoughForm::Repeat { .. }
+        | RoughForm::For { .. }
+        | RoughForm::Case { .. }
+        | RoughForm::Abort
+        | RoughForm::Proc { .. }
+        | RoughForm::Vector { .. }
+        | RoughForm::Is { .. }
+        | RoughForm::Join { .. }
+        | RoughForm::Apply { .. }
+        | RoughForm::Part { .. }
+        | RoughForm::Nil
+        | RoughForm::Bound { .. }
+        | RoughForm::Elems { .. } => Err(CheckFault::NotBuilt { line: rough.line }),
     }
 }
 
@@ -260,19 +278,32 @@ fn check_sequence(
 }
 
 #[cycle(clause)]
-fn check_write(alloc: Global, scope: &mut Scope, items: &[Rough]) -> Result<Clause, CheckFault>
-    ensures { IsClause (check_unlined scope.old (form.Write (phrases_in items.now))) result scope.new }
+fn check_write(alloc: Global, scope: &mut Scope, items: &[RoughItem]) -> Result<Clause, CheckFault>
+    ensures { IsClause (check_unlined scope.old (form.Write (items_in items.now))) result scope.new }
 {
     let mut trees = Vec::new(alloc);
     for item in items {
-        let written = check_clause(alloc, scope, item)?;
-        let tree = write_item(alloc, item.line, written)?;
+        let tree = check_item(alloc, scope, item)?;
         trees.push(tree)?;
     }
     Ok(Clause {
         tree: clause::one_or_block(trees),
         ty: BasicType::Void,
     })
+}
+
+// An item of a write.
+#[cycle(clause)]
+fn check_item(alloc: Global, scope: &mut Scope, item: &RoughItem) -> Result<Tree, CheckFault>
+    ensures { IsOfType BasicType.Void (item_checked scope.old (item_of item.now)) result scope.new }
+{
+    match &item.w {
+        Some(_) => Err(CheckFault::NotBuilt { line: item.line }),
+        None => {
+            let written = check_clause(alloc, scope, &item.e)?;
+            write_item(alloc, item.line, written)
+        }
+    }
 }
 
 // Goes down the left operands of a chain, and keeps the links on the way.

@@ -2,8 +2,8 @@ ghost use Rattle.std.specs.Prelude.{◌≡◌};
 ghost use Rattle.ps_types.specs.CheckFaults.{number_of, line_of_fault};
 ghost use Rattle.ps_types.specs.declared.check_fault.CheckFault.TheVariants.{Memory};
 
-use ps_base::line::Line;
 use ps_base::basic_type::BasicType;
+use ps_base::line::Line;
 use std::alloc::{AllocError, AllocFailed};
 
 /// Why a program isn't well typed. Of several faults the first in the order of the text is answered
@@ -11,15 +11,27 @@ use std::alloc::{AllocError, AllocFailed};
 #[derive(Clone, Copy, PartialEq, Eq, Debug)]
 pub enum CheckFault {
     /// A name isn't declared, or no more in scope.
-    Unknown { line: Line },
+    Unknown {
+        line: Line,
+    },
     /// A name is declared a second time in its block.
-    Twice { line: Line },
+    Twice {
+        line: Line,
+    },
     /// A clause has another type than the one wanted; where several would do, the first of them.
-    Mismatch { line: Line, found: BasicType, wanted: BasicType },
+    Mismatch {
+        line: Line,
+        found: BasicType,
+        wanted: BasicType,
+    },
     /// What stands before `:=` is no variable.
-    NotAssignable { line: Line },
+    NotAssignable {
+        line: Line,
+    },
     /// A form that the grammar reads and that isn't built yet. It is the fault before all others.
-    NotBuilt { line: Line },
+    NotBuilt {
+        line: Line,
+    },
     /// There was no memory for the tree, or no number left for a further name.
     Memory,
 }

@@ -6,13 +6,13 @@ ghost use Rattle.ps_types.specs.Checks.{IsMade, joint_node, joint_ty, prefix_nod
 
 use crate::check_fault::CheckFault;
 use crate::link::Joint;
+use ps_base::basic_type::BasicType;
 use ps_base::bytes::Bytes;
 use ps_base::line::Line;
 use ps_base::list::List;
 use ps_base::operator::Relation;
 use ps_base::place::Place;
 use ps_base::tree::Tree;
-use ps_base::basic_type::BasicType;
 use std::alloc::Global;
 
 /// A clause that was checked: its typed tree, and its type.
@@ -83,7 +83,10 @@ pub fn guarded(alloc: Global, guard: Guard, c: Tree, a: Tree) -> Result<Clause, 
         Guard::IfDo => Tree::IfDo { c, a },
         Guard::While => Tree::While { c, a },
     };
-    Ok(Clause { tree, ty: BasicType::Void })
+    Ok(Clause {
+        tree,
+        ty: BasicType::Void,
+    })
 }
 
 /// A choice between two clauses of one type.

@@ -1,5 +1,5 @@
-use ps_base::bytes::Bytes;
 use ps_base::basic_type::BasicType;
+use ps_base::bytes::Bytes;
 
 /// A name that a program declares, and what it names.
 #[derive(Drop)]

@@ -4,6 +4,7 @@
 //! it in.
 #![tactic(auto)]
 
+mod built;
 pub mod check;
 pub mod check_fault;
 mod clause;

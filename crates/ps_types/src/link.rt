@@ -1,9 +1,9 @@
 ghost use Rattle.std.specs.Prelude.{◌≡◌};
 ghost use Rattle.ps_types.specs.Checks.{joint_ty};
 
+use ps_base::basic_type::BasicType;
 use ps_base::line::Line;
 use ps_base::operator::Operator;
-use ps_base::basic_type::BasicType;
 use ps_parse::rough::Rough;
 
 /// What joins two operands of a chain.

@@ -3,8 +3,8 @@ ghost use Rattle.ps_types.specs.Names.{lookup};
 
 use crate::check_fault::CheckFault;
 use crate::declaration::{Declaration, Local};
-use ps_base::bytes::Bytes;
 use ps_base::basic_type::BasicType;
+use ps_base::bytes::Bytes;
 use std::alloc::Global;
 use std::marker::Model;
 

@@ -68,6 +68,13 @@ fn texts_are_told(rt: HostRuntime) -> Result<(), Fail> {
         run_row("write 1 div 0", "trap 2 at line 1\n", 3),
         run_row("write 1, 2147483647 * 2", "1trap 1 at line 1\n", 3),
         run_row("write 5\n-3, \"'n\"", "2\n", 0),
+        Row {
+            words: &["run", "v.vol"],
+            text: b"! \xc8\nwrite 1",
+            told: b"1",
+            status: 0,
+        },
+        run_row("write (\"a\"), 1", "a1", 0),
         run_row("write (-7) div 2, \" \", (-7) rem 2, \"'n\"", "-3 -1\n", 0),
         run_row(
             "write \"abc\", 1 < 2, 1 = 2 and 1 div 0 = 0",
@@ -114,7 +121,7 @@ fn texts_are_told(rt: HostRuntime) -> Result<(), Fail> {
 fn first_faults_are_told(rt: HostRuntime) -> Result<(), Fail> {
     let long_name = [b'a'; 65];
     let deep = [b'{'; 101];
-    let rows: [(&[u8], &[u8]); 11] = [
+    let rows: [(&[u8], &[u8]); 16] = [
         (b"\xc8", b"x.ps: scan 1 at line 1\n"),
         (b"write \"a", b"x.ps: scan 2 at line 1\n"),
         (b"write\n2147483648", b"x.ps: scan 3 at line 2\n"),
@@ -126,6 +133,11 @@ fn first_faults_are_told(rt: HostRuntime) -> Result<(), Fail> {
         (b"let a = 1\nlet a = 2", b"x.ps: check 2 at line 2\n"),
         (b"write 1\n(2)", b"x.ps: check 3 at line 2\n"),
         (b"let a = 1; a := 2", b"x.ps: check 4 at line 1\n"),
+        (b"for i = 1 to 2 do {}", b"x.ps: check 8 at line 1\n"),
+        (b"write 1 : 2", b"x.ps: check 8 at line 1\n"),
+        (b"let a = \"a\"", b"x.ps: check 8 at line 1\n"),
+        (b"write a\n++ b", b"x.ps: check 8 at line 2\n"),
+        (b"a\nwrite nil", b"x.ps: check 8 at line 2\n"),
     ];
     for (text, told) in rows {
         let words = words_of(rt.alloc(), &["run", "v.vol"], "x.ps")?;

@@ -4,17 +4,19 @@ use Rattle.std.proofs.lemmas.List.{drop_all}
 use Rattle.ps_base.specs.Node.{node_of, nodes_in}
 use Rattle.ps_base.specs.declared.basic_type.BasicType.TheVariants.{Int, Void}
 use Rattle.ps_parse.specs.declared.rough.Rough.{Rough}
-use Rattle.ps_parse.specs.Phrase.{named, phrase_of, form_of}
+use Rattle.ps_parse.specs.declared.rough.RoughItem.{out-RoughItem}
+use Rattle.ps_parse.specs.Phrase.{named, phrase_of, form_of, item_of}
 use Rattle.ps_parse.specs.Phrase as form
-use Rattle.ps_parse.specs.PhraseLists.{phrases_in}
+use Rattle.ps_parse.specs.PhraseLists.{phrases_in, items_in}
 use Rattle.ps_types.specs.declared.clause.Clause.{Clause}
 use Rattle.ps_types.specs.declared.link.Joint.TheVariants.{Or, And, Arith}
 use Rattle.ps_types.specs.Names.{Names, inside}
-use Rattle.ps_types.specs.Checking.{Gives, check, check_form, check_all, check_written, wants, passes, is_word, is_comparable, introduced, assigned}
-use Rattle.ps_types.specs.Checks.{IsFault, check_link, check_links, joint_ty, prefix_ty}
-use Rattle.ps_types.specs.PhraseWeights.{weight, weight_all, weight_form, weight_links}
-use Rattle.ps_types.proofs.CheckedPhrases.{form_of-Sequence, form_of-Write, phrases_from, weight_at}
+use Rattle.ps_types.specs.Checking.{Gives, check, check_form, check_all, check_written, check_item, written, wants, passes, is_word, is_comparable, introduced, assigned}
+use Rattle.ps_types.specs.Checks.{IsFault, IsOfType, check_link, check_links, joint_ty, prefix_ty}
+use Rattle.ps_types.specs.PhraseWeights.{weight, weight_all, weight_written, weight_item, weight_form, weight_links}
+use Rattle.ps_types.proofs.CheckedPhrases.{form_of-Sequence, form_of-Write, phrases_from, items_from, weight_at, item_weight_at}
 use Rattle.ps_types.proofs.CheckedSteps.{given, fails_first, fails_next, fails_test, passed, not_passed, made, leads, exits, of_type, one_link, one_weight, fails_links, check_links-push, weight_links-push, linked_by, all_step, all_stops, fails_after, after_item, after_all, after_first, after_trees, block_given, together_given}
+use Rattle.ps_types.proofs.CheckedBuilt.{item_without_width}
 use Rattle.ps_types.proofs.CheckedTyped.{keeps_around}
 use Rattle.ps_types.proofs.check.+clause.Goals as goal
 
@@ -205,13 +207,13 @@ check_clause-check_sequence-requires t c =
 
 pub check_clause-returns-in-Write : goal.check_clause-returns-in-Write
 check_clause-returns-in-Write t c =
-    let is : form_of c.args.rough.now.form ≡ form.Write (phrases_in c.as_slice-in-Write.result.now) = ap form_of c.in-Write.is ∙ form_of-Write c.in-Write.items ∙ ap (λ items. form.Write (phrases_in items)) (sym c.as_slice-in-Write.ensures) in
+    let is : form_of c.args.rough.now.form ≡ form.Write (items_in c.as_slice-in-Write.result.now) = ap form_of c.in-Write.is ∙ form_of-Write c.in-Write.items ∙ ap (λ items. form.Write (items_in items)) (sym c.as_slice-in-Write.ensures) in
     leads _ _ _ _ (ap (check_form c.args.scope.now c.args.rough.now.line) is) c.check_write.ensures
 
 pub check_clause-check_write-requires : goal.check_clause-check_write-requires
 check_clause-check_write-requires t c =
-    let is : form_of c.args.rough.now.form ≡ form.Write (phrases_in c.as_slice-in-Write.result.now) = ap form_of c.in-Write.is ∙ form_of-Write c.in-Write.items ∙ ap (λ items. form.Write (phrases_in items)) (sym c.as_slice-in-Write.ensures) in
-    let light : weight (phrase_of c.args.rough.now) ≡ weight_all (phrases_in c.as_slice-in-Write.result.now) + 1 = ap (λ f. weight_form f + 1) is in
+    let is : form_of c.args.rough.now.form ≡ form.Write (items_in c.as_slice-in-Write.result.now) = ap form_of c.in-Write.is ∙ form_of-Write c.in-Write.items ∙ ap (λ items. form.Write (items_in items)) (sym c.as_slice-in-Write.ensures) in
+    let light : weight (phrase_of c.args.rough.now) ≡ weight_written (items_in c.as_slice-in-Write.result.now) + 1 = ap (λ f. weight_form f + 1) is in
     search (rules, light)
 
 pub check_clause-returns-in-Or : goal.check_clause-returns-in-Or
@@ -319,30 +321,18 @@ check_sequence-returns t c =
 
 pub check_write-loop-item-init : goal.check_write-loop-item-init
 check_write-loop-item-init t c =
-    let o = check_written c.args.scope.now (phrases_in c.args.items.now) in
+    let o = check_written c.args.scope.now (items_in c.args.items.now) in
     ap (λ ts. after_trees ts o) c.new-trees.ensures.items ∙ after_first o
 
-pub check_write-check_clause-requires : goal.check_write-check_clause-requires
-check_write-check_clause-requires t c =
+pub check_write-check_item-requires : goal.check_write-check_item-requires
+check_write-check_item-requires t c =
     let items = c.args.items.now in
     let i = c.loop-item.item-index in
     let item = c.item-item.result in
     let below : i < length items = search rules in
-    let light : weight (phrase_of (get_or items i item)) ≤ weight_all (phrases_in items) = weight_at items i item below in
-    let light' : weight (phrase_of item) ≤ weight_all (phrases_in items) = subst (λ r. weight (phrase_of r) ≤ weight_all (phrases_in items)) (sym c.item-item.is) light in
+    let light : weight_item (item_of (get_or items i item)) ≤ weight_written (items_in items) = item_weight_at items i item below in
+    let light' : weight_item (item_of item) ≤ weight_written (items_in items) = subst (λ r. weight_item (item_of r) ≤ weight_written (items_in items)) (sym c.item-item.is) light in
     search (rules, light')
-
-pub check_write-returns-in_err-written : goal.check_write-returns-in_err-written
-check_write-returns-in_err-written t c =
-    let items = c.args.items.now in
-    let i = c.loop-item.item-index in
-    let item = c.item-item.result in
-    let below : i < length items = search rules in
-    let cut : phrases_in (drop i items) ≡ form.more (phrase_of item) (phrases_in (drop (i + 1) items)) =
-    phrases_from items i item below ∙ ap (λ r. form.more (phrase_of r) (phrases_in (drop (suc i) items))) (sym c.item-item.is) ∙ ap (λ n. form.more (phrase_of item) (phrases_in (drop n items))) (let up : suc i ≡ i + 1 = omega arith in up) in
-    let left = check_written c.loop-item.scope in
-    exits c.from_residual.result _ c.in_err-written.field-0.0 _ c.from_residual.ensures.1
-    (fails_after c.loop-item.trees.items (left (phrases_in (drop i items))) _ _ _ _ c.loop-item.invariant refl (subst (λ ps. IsFault (left ps) c.in_err-written.field-0.0) (sym cut) (fails_first _ _ _ c.in_err-written.ensures)))
 
 pub check_write-returns-in_err-tree : goal.check_write-returns-in_err-tree
 check_write-returns-in_err-tree t c =
@@ -350,11 +340,11 @@ check_write-returns-in_err-tree t c =
     let i = c.loop-item.item-index in
     let item = c.item-item.result in
     let below : i < length items = search rules in
-    let cut : phrases_in (drop i items) ≡ form.more (phrase_of item) (phrases_in (drop (i + 1) items)) =
-    phrases_from items i item below ∙ ap (λ r. form.more (phrase_of r) (phrases_in (drop (suc i) items))) (sym c.item-item.is) ∙ ap (λ n. form.more (phrase_of item) (phrases_in (drop n items))) (let up : suc i ≡ i + 1 = omega arith in up) in
+    let cut : items_in (drop i items) ≡ form.more_items (item_of item) (items_in (drop (i + 1) items)) =
+    items_from items i item below ∙ ap (λ r. form.more_items (item_of r) (items_in (drop (suc i) items))) (sym c.item-item.is) ∙ ap (λ n. form.more_items (item_of item) (items_in (drop n items))) (let up : suc i ≡ i + 1 = omega arith in up) in
     let left = check_written c.loop-item.scope in
-    exits c.from_residual-in_err-tree.result _ c.in_err-tree.field-0.0 _ c.from_residual-in_err-tree.ensures.1
-    (fails_after c.loop-item.trees.items (left (phrases_in (drop i items))) _ _ _ _ c.loop-item.invariant refl (subst (λ ps. IsFault (left ps) c.in_err-tree.field-0.0) (sym cut) (fails_next _ _ _ _ _ _ c.in_ok-written.ensures (fails_first _ _ _ (c.in_err-tree.ensures c.check_clause.new.scope)))))
+    exits c.from_residual.result _ c.in_err-tree.field-0.0 _ c.from_residual.ensures.1
+    (fails_after c.loop-item.trees.items (left (items_in (drop i items))) _ _ _ _ c.loop-item.invariant refl (subst (λ ps. IsFault (left ps) c.in_err-tree.field-0.0) (sym cut) (fails_first _ _ _ c.in_err-tree.ensures)))
 
 pub check_write-loop-item-preserved : goal.check_write-loop-item-preserved
 check_write-loop-item-preserved t c =
@@ -362,16 +352,78 @@ check_write-loop-item-preserved t c =
     let i = c.loop-item.item-index in
     let item = c.item-item.result in
     let below : i < length items = search rules in
-    let cut : phrases_in (drop i items) ≡ form.more (phrase_of item) (phrases_in (drop (i + 1) items)) =
-    phrases_from items i item below ∙ ap (λ r. form.more (phrase_of r) (phrases_in (drop (suc i) items))) (sym c.item-item.is) ∙ ap (λ n. form.more (phrase_of item) (phrases_in (drop n items))) (let up : suc i ≡ i + 1 = omega arith in up) in
+    let cut : items_in (drop i items) ≡ form.more_items (item_of item) (items_in (drop (i + 1) items)) =
+    items_from items i item below ∙ ap (λ r. form.more_items (item_of r) (items_in (drop (suc i) items))) (sym c.item-item.is) ∙ ap (λ n. form.more_items (item_of item) (items_in (drop n items))) (let up : suc i ≡ i + 1 = omega arith in up) in
     let left = check_written c.loop-item.scope in
-    after_item c.loop-item.trees.items _ c.in_ok-tree.tree _ (left (phrases_in (drop i items))) _ c.in_ok-push.ensures.items (ap left cut ∙ given _ _ _ _ _ c.in_ok-written.ensures ∙ given _ _ _ _ _ (c.in_ok-tree.ensures c.check_clause.new.scope)) c.loop-item.invariant
+    after_item c.loop-item.trees.items _ c.in_ok-tree.tree _ (left (items_in (drop i items))) _ c.in_ok-push.ensures.items (ap left cut ∙ given _ _ _ _ _ c.in_ok-tree.ensures) c.loop-item.invariant
 
 pub check_write-returns : goal.check_write-returns
 check_write-returns t c =
     let items = c.args.items.now in
     let past : length items ≤ c.loop-item.item-index = search rules in
-    let empty : phrases_in (drop c.loop-item.item-index items) ≡ form.none = ap phrases_in (drop_all c.loop-item.item-index items past) in
+    let empty : items_in (drop c.loop-item.item-index items) ≡ form.no_items = ap items_in (drop_all c.loop-item.item-index items past) in
     let left = check_written c.loop-item.scope in
-    let whole : check_written c.args.scope.now (phrases_in items) ≡ Gives (nodes_in c.loop-item.trees.items) Void c.loop-item.scope = after_all c.loop-item.trees.items Void c.loop-item.scope (left (phrases_in (drop c.loop-item.item-index items))) _ (ap left empty) c.loop-item.invariant in
+    let whole : check_written c.args.scope.now (items_in items) ≡ Gives (nodes_in c.loop-item.trees.items) Void c.loop-item.scope = after_all c.loop-item.trees.items Void c.loop-item.scope (left (items_in (drop c.loop-item.item-index items))) _ (ap left empty) c.loop-item.invariant in
     together_given _ _ Void c.loop-item.scope (node_of c.one_or_block.result) whole c.one_or_block.ensures
+
+pub check_clause-returns-in-IfElse : goal.check_clause-returns-in-IfElse
+check_clause-returns-in-IfElse t c =
+    let v = c.deref-in-IfElse.result.now in
+    let w = c.deref-in-IfElse-2.result.now in
+    let x = c.deref-in-IfElse-3.result.now in
+    let is : form_of c.args.rough.now.form ≡ form.IfElse (phrase_of v) (phrase_of w) (phrase_of x) =
+    ap form_of c.in-IfElse.is
+    ∙ ap (λ (r : Rough). form.IfElse (phrase_of r) (phrase_of c.in-IfElse.a.value) (phrase_of c.in-IfElse.b.value)) (sym c.deref-in-IfElse.ensures)
+    ∙ ap (λ (r : Rough). form.IfElse (phrase_of v) (phrase_of r) (phrase_of c.in-IfElse.b.value)) (sym c.deref-in-IfElse-2.ensures)
+    ∙ ap (λ (r : Rough). form.IfElse (phrase_of v) (phrase_of w) (phrase_of r)) (sym c.deref-in-IfElse-3.ensures) in
+    leads _ _ _ _ (ap (check_form c.args.scope.now c.args.rough.now.line) is) c.check_if_else.ensures
+
+pub check_clause-returns-in-Assign : goal.check_clause-returns-in-Assign
+check_clause-returns-in-Assign t c =
+    let v = c.deref-in-Assign.result.now in
+    let is : form_of c.args.rough.now.form ≡ form.Assign (phrase_of v) (phrase_of c.deref-in-Assign-2.result.now) =
+    ap form_of c.in-Assign.is
+    ∙ ap (λ (r : Rough). form.Assign (phrase_of r) (phrase_of c.in-Assign.e.value)) (sym c.deref-in-Assign.ensures)
+    ∙ ap (λ (r : Rough). form.Assign (phrase_of v) (phrase_of r)) (sym c.deref-in-Assign-2.ensures) in
+    leads _ _ _ _ (ap (check_form c.args.scope.now c.args.rough.now.line) is) c.check_assign.ensures
+
+pub check_clause-returns-in-Compare : goal.check_clause-returns-in-Compare
+check_clause-returns-in-Compare t c =
+    let v = c.deref-in-Compare.result.now in
+    let is : form_of c.args.rough.now.form ≡ form.Compare c.in-Compare.op (phrase_of v) (phrase_of c.deref-in-Compare-2.result.now) =
+    ap form_of c.in-Compare.is
+    ∙ ap (λ (r : Rough). form.Compare c.in-Compare.op (phrase_of r) (phrase_of c.in-Compare.b.value)) (sym c.deref-in-Compare.ensures)
+    ∙ ap (λ (r : Rough). form.Compare c.in-Compare.op (phrase_of v) (phrase_of r)) (sym c.deref-in-Compare-2.ensures) in
+    leads _ _ _ _ (ap (check_form c.args.scope.now c.args.rough.now.line) is) c.check_compare.ensures
+
+pub check_clause-returns-in-Not : goal.check_clause-returns-in-Not
+check_clause-returns-in-Not t c =
+    let is : form_of c.args.rough.now.form ≡ form.Not (phrase_of c.deref-in-Not.result.now) = ap form_of c.in-Not.is ∙ ap (λ (r : Rough). form.Not (phrase_of r)) (sym c.deref-in-Not.ensures) in
+    leads _ _ _ _ (ap (check_form c.args.scope.now c.args.rough.now.line) is) c.check_prefixed.ensures
+
+pub check_clause-returns-in-Plus : goal.check_clause-returns-in-Plus
+check_clause-returns-in-Plus t c =
+    let is : form_of c.args.rough.now.form ≡ form.Plus (phrase_of c.deref-in-Plus.result.now) = ap form_of c.in-Plus.is ∙ ap (λ (r : Rough). form.Plus (phrase_of r)) (sym c.deref-in-Plus.ensures) in
+    leads _ _ _ _ (ap (check_form c.args.scope.now c.args.rough.now.line) is) c.check_prefixed-in-Plus.ensures
+
+pub check_clause-returns-in-Neg : goal.check_clause-returns-in-Neg
+check_clause-returns-in-Neg t c =
+    let is : form_of c.args.rough.now.form ≡ form.Neg (phrase_of c.deref-in-Neg.result.now) = ap form_of c.in-Neg.is ∙ ap (λ (r : Rough). form.Neg (phrase_of r)) (sym c.deref-in-Neg.ensures) in
+    leads _ _ _ _ (ap (check_form c.args.scope.now c.args.rough.now.line) is) c.check_prefixed-in-Neg.ensures
+
+pub check_item-returns-in_err-written-in-None : goal.check_item-returns-in_err-written-in-None
+check_item-returns-in_err-written-in-None t c =
+    let fault = c.in_err-written-in-None.field-0.0 in
+    let parts = item_without_width c.args.item.now c.deref.result.now c.deref.ensures c.in-None.is in
+    exits c.from_residual.result _ fault _ c.from_residual.ensures.1
+    (subst (λ i. IsFault (check_item c.args.scope.now i) fault) (sym parts) (fails_first _ _ _ c.in_err-written-in-None.ensures))
+
+pub check_item-returns-in_ok-written-in-None : goal.check_item-returns-in_ok-written-in-None
+check_item-returns-in_ok-written-in-None t c =
+    let r = c.args.item.now in
+    let e = c.deref.result.now in
+    let clause = c.in_ok-written-in-None.written in
+    let names = c.check_clause.new.scope in
+    let parts = item_without_width r e c.deref.ensures c.in-None.is in
+    let step : check_item c.args.scope.now (form.item (phrase_of e) form.absent (out-RoughItem r).line) ≡ written (out-RoughItem r).line (node_of clause.tree) clause.ty names = given _ _ _ _ _ c.in_ok-written-in-None.ensures in
+    subst (λ o. IsOfType Void o c.write_item.result names) (sym (ap (check_item c.args.scope.now) parts ∙ step)) (c.write_item.ensures names)

@@ -1,11 +1,11 @@
 -- The measures of the checker, and the loops over items and links.
 use Rattle.std.proofs.Common.{◌≡◌, ◌≤◌, ◌+◌, ◌*◌, drop, length}
 use Rattle.ps_base.specs.Node.{node_of}
-use Rattle.ps_parse.specs.Phrase.{phrase_of}
-use Rattle.ps_parse.specs.PhraseLists.{phrases_in}
+use Rattle.ps_parse.specs.Phrase.{phrase_of, item_of}
+use Rattle.ps_parse.specs.PhraseLists.{phrases_in, items_in}
 use Rattle.ps_types.specs.Checking.{Gives, check_all, check_written}
 use Rattle.ps_types.specs.Checks.{check_links}
-use Rattle.ps_types.specs.PhraseWeights.{weight, weight_all, weight_links}
+use Rattle.ps_types.specs.PhraseWeights.{weight, weight_all, weight_written, weight_item, weight_links}
 use Rattle.ps_types.proofs.CheckedSteps.{after_trees}
 use Rattle.ps_types.proofs.check.+clause.Given as goal
 
@@ -43,7 +43,10 @@ abbrev pub decreases-check_sequence : goal.decreases-check_sequence
 decreases-check_sequence l = 4 * weight_all (phrases_in l.items.now) + 2
 
 abbrev pub decreases-check_write : goal.decreases-check_write
-decreases-check_write l = 4 * weight_all (phrases_in l.items.now) + 2
+decreases-check_write l = 4 * weight_written (items_in l.items.now) + 2
+
+abbrev pub decreases-check_item : goal.decreases-check_item
+decreases-check_item l = 4 * weight_item (item_of l.item.now) + 1
 
 -- the links that are left, behind the part of the chain that is checked, make the chain
 abbrev pub invariant-check_chain-loop-link : goal.invariant-check_chain-loop-link
@@ -63,4 +66,4 @@ invariant-check_sequence-loop-item l = record {
 }
 
 abbrev pub invariant-check_write-loop-item : goal.invariant-check_write-loop-item
-invariant-check_write-loop-item l = after_trees l.trees.items (check_written l.scope (phrases_in (drop l.item-index l.items))) ≡ check_written l.initial.scope (phrases_in l.items)
+invariant-check_write-loop-item l = after_trees l.trees.items (check_written l.scope (items_in (drop l.item-index l.items))) ≡ check_written l.initial.scope (items_in l.items)
