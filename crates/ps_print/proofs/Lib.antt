@@ -10,10 +10,12 @@ pub mod Layouts
 pub mod Marks
 pub mod Parts
 pub mod Pieces
+pub mod Printing
 pub mod Read
 pub mod Rereading
 pub mod Spelt
 pub mod Standing
 pub mod Texts
 pub mod TypesRead
+pub mod Views
 pub mod Pieced
