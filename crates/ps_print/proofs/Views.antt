@@ -1,5 +1,5 @@
 -- The views of what holds lists, over the lists of their items.
-use Rattle.std.proofs.Common.{◌≡◌, Bool, true, false, not, List, [], ◌∷◌, ◌++◌, refl, sym, ap, ◌∙◌}
+use Rattle.std.proofs.Common.{◌≡◌, Bool, true, false, not, List, [], ◌∷◌, ◌++◌, ◌==◌, length, refl, sym, ap, ◌∙◌, rules, tests}
 use Rattle.std.specs.Option.{is_some}
 use Rattle.std.specs.declared.boxed.Box.{Box}
 use Rattle.std.specs.declared.alloc.Global.{Global}
@@ -9,6 +9,7 @@ use Rattle.ps_base.specs.declared.ty.Ty.{Ty, Row_of-Ty, end_of-Ty, more_of-Ty, i
 use Rattle.ps_base.specs.declared.ty.Ty.TheVariants as ty_code
 use Rattle.ps_base.specs.TyView.{TyView, TyViews, ty_view, ty_views_of, ty_views}
 use Rattle.ps_base.specs.TyView as ty
+use Rattle.ps_base.specs.declared.line.Line.{Line}
 use Rattle.ps_parse.specs.declared.rough.Rough.{Rough}
 use Rattle.ps_parse.specs.declared.rough.RoughArm.{RoughArm, out-RoughArm}
 use Rattle.ps_parse.specs.declared.rough.RoughItem.{RoughItem, out-RoughItem}
@@ -19,6 +20,7 @@ use Rattle.ps_parse.specs.Phrase.{Phrase, Phrases, more, at, form_of, phrases_of
 use Rattle.ps_parse.specs.Phrase as form
 use Rattle.ps_parse.specs.PhraseLists.{phrases_in, arms_in, items_in}
 use Rattle.ps_print.specs.Layout.{loosest, tightness, ends_open}
+use Rattle.ps_print.specs.Waiting.{is_empty_program}
 use mathlib.Core.Former.{Count}
 
 tys : (n : _) (row : Row_of-Ty n) → ty_views_of row ≡ ty_views (items-the_row-Ty n row)
@@ -132,3 +134,7 @@ binds_loosest code.Nil n0 n1 n2 n3 n4 n5 n6 n7 n8 n9 n10 n11 n12 n13 n14 n15 is_
 binds_loosest (code.Bound' _ _ _ _) n0 n1 n2 n3 n4 n5 n6 n7 n8 n9 n10 n11 n12 n13 n14 n15 n16 is_not n18 = absurd (is_not _ _ refl)
 binds_loosest (code.Elems' p l line ty shape items) n0 n1 n2 n3 n4 n5 n6 n7 n8 n9 n10 n11 n12 n13 n14 n15 n16 n17 is_not = absurd (is_not _ _ _ (sym (roll-out-RoughForm (code.Elems' p l line ty shape items)) ∙ ap roll-RoughForm (code.outs-Elems' p l line ty shape items) ∙ code.rolls-Elems _ _ _))
 binds_loosest _ n0 n1 n2 n3 n4 n5 n6 n7 n8 n9 n10 n11 n12 n13 n14 n15 n16 n17 n18 = refl
+
+pub is_empty : (items : List Rough) (line : Line) → (length items == 0) ≡ is_empty_program (at (form.Sequence (phrases_in items)) line)
+is_empty [] line = refl
+is_empty (first ∷ rest) line = search (rules, tests)

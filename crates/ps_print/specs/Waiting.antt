@@ -1,5 +1,5 @@
 -- What is still to be printed, as lexemes, and how much it is.
-use Rattle.std.specs.Prelude.{◌≡◌, ℕ, ◌+◌, ◌<◌, nat_abs, Bool, true, false, codes, List, [], ◌∷◌, ◌++◌, reverse, slice_get}
+use Rattle.std.specs.Prelude.{◌≡◌, ℕ, ◌+◌, ◌<◌, Bool, true, false, codes, List, [], ◌∷◌, ◌++◌, reverse, slice_get}
 use Rattle.std.specs.Option.{unwrap_or}
 use Rattle.ps_base.specs.TyView.{ty_view, ty_views}
 use Rattle.ps_scan.specs.Names.{reserved_words, marks}
@@ -57,7 +57,7 @@ abbrev pub piece_lexemes : Piece → List Lexeme
 piece_lexemes (piece.Word gap place) = the_word (gap_of gap) place (name_at reserved_words place) ∷ []
 piece_lexemes (piece.Mark gap place) = the_mark (gap_of gap) place (name_at marks place) ∷ []
 piece_lexemes (piece.Name gap name) = name_lexeme (gap_of gap) name.now ∷ []
-piece_lexemes (piece.Int gap value) = lexeme (gap_of gap) scanned.Int (int_text (nat_abs value)) ∷ []
+piece_lexemes (piece.Int gap value) = lexeme (gap_of gap) scanned.Int (int_text value) ∷ []
 piece_lexemes (piece.Text gap bytes) = lexeme (gap_of gap) scanned.Text (string_text bytes.now) ∷ []
 piece_lexemes (piece.Form spot form) = spot_lexemes spot (form_of form.now)
 piece_lexemes (piece.Clause spot clause) = clause_lexemes spot.indent (behind_of spot.behind) (gap_of spot.gap) (phrase_of clause.now)

@@ -71,7 +71,7 @@ pub fn put_form<'a>(
         RoughForm::Apply { f, args } => put_apply(pending, spot, f, args.as_slice()),
         RoughForm::Part { s, i, n } => put_part(pending, spot, s, i, n),
         RoughForm::Name(name) => pending.put(&[Piece::Name(spot.gap, name.as_slice())]),
-        RoughForm::Int(value) => pending.put(&[Piece::Int(spot.gap, *value)]),
+        RoughForm::Int(value) => pending.put(&[Piece::Int(spot.gap, value.unsigned_abs())]),
         RoughForm::Text(bytes) => pending.put(&[Piece::Text(spot.gap, bytes.as_slice())]),
         RoughForm::Flag(value) => put_flag(pending, spot, *value),
         RoughForm::Nil => pending.put(&[Piece::Word(spot.gap, word::NIL)]),

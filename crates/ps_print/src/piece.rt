@@ -88,7 +88,8 @@ pub enum Piece<'a> {
     /// A mark, by its place in `mark::SPELLINGS`.
     Mark(Gap, u8),
     Name(Gap, &'a [u8]),
-    Int(Gap, i32),
+    /// An int by its magnitude.
+    Int(Gap, u32),
     Text(Gap, &'a [u8]),
     /// A form without brackets round it.
     Form(Spot, &'a RoughForm),

@@ -1,4 +1,4 @@
-ghost use Rattle.std.specs.Prelude.{◌≡◌, nat_abs, ◌∷◌, ◌++◌, [], map, flat_map, replicate, OnOk};
+ghost use Rattle.std.specs.Prelude.{◌≡◌, ◌∷◌, ◌++◌, [], map, flat_map, replicate, OnOk};
 ghost use Rattle.ps_scan.specs.Names.{reserved_words, marks};
 ghost use Rattle.ps_print.specs.Lexemes.{gap_bytes};
 ghost use Rattle.ps_print.specs.Spellings.{int_text, string_text, escaped_byte};
@@ -48,12 +48,12 @@ fn name_in<'a>(names: &[&'a str], place: u8) -> &'a [u8]
     }
 }
 
-/// Writes an int in decimal digits; what sign it has is not written.
-pub fn write_int(text: &mut Vec<u8>, gap: Gap, value: i32) -> Result<(), AllocError>
-    ensures { OnOk result (text.new.items ≡ text.old.items ++ (gap_bytes (gap_of gap) ++ int_text (nat_abs value))) }
+/// Writes an int in decimal digits.
+pub fn write_int(text: &mut Vec<u8>, gap: Gap, value: u32) -> Result<(), AllocError>
+    ensures { OnOk result (text.new.items ≡ text.old.items ++ (gap_bytes (gap_of gap) ++ int_text value)) }
 {
     let mut buffer = Buffer::new();
-    write_spelling(text, gap, buffer.format(value.unsigned_abs()).as_bytes())
+    write_spelling(text, gap, buffer.format(value).as_bytes())
 }
 
 /// Writes a string between quotes, with escapes where it has to.
