@@ -16,10 +16,12 @@ pub mod Pieced
 pub mod Pieces
 pub mod Printable
 pub mod PrintedBack
+pub mod Printing
 pub mod Read
 pub mod Rereading
 pub mod Spelt
 pub mod Standing
 pub mod Texts
 pub mod TypesRead
+pub mod Views
 pub mod Weakening

@@ -55,7 +55,7 @@ first_token front lexeme back =
 pub token_between : (front : List Lexeme) (lexeme : Lexeme) (back : List Lexeme) → (tokens : List Token) × (tokens_of 0 1 (front ++ lexeme ∷ back) ≡ tokens_of 0 1 front ++ token_behind front lexeme ∷ tokens)
 token_between front lexeme back = (_, tokens_append 0 1 front (lexeme ∷ back) ∙ ap (λ ts. tokens_of 0 1 front ++ ts) (first_token front lexeme back))
 
-printed_is : (front : List Lexeme) (lexeme : Lexeme) (back : List Lexeme) → printed (front ++ lexeme ∷ back) ≡ text_of (front ++ lexeme ∷ back) ++ 10 ∷ []
+pub printed_is : (front : List Lexeme) (lexeme : Lexeme) (back : List Lexeme) → printed (front ++ lexeme ∷ back) ≡ text_of (front ++ lexeme ∷ back) ++ 10 ∷ []
 printed_is [] lexeme back = refl
 printed_is (first ∷ front) lexeme back = refl
 

@@ -4,3 +4,5 @@ pub mod Lexemes
 pub mod Lines
 pub mod Reprint
 pub mod Spellings
+pub mod Waiting
+pub mod Weights

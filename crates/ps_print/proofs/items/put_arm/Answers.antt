@@ -1,0 +1,14 @@
+use Rattle.std.proofs.Common.{◌≡◌, ◌∙◌, ap, sym, rules}
+use Rattle.ps_parse.specs.Phrase.{arm, arm_of, phrase_of}
+use Rattle.ps_parse.specs.PhraseLists.{phrases_in}
+use Rattle.ps_parse.specs.declared.rough.RoughArm.{out-RoughArm}
+use Rattle.ps_print.proofs.Views.{arm_of-parts}
+use Rattle.ps_print.proofs.items.put_arm.Goals as goal
+
+pub returns : goal.returns
+returns c =
+    let is : arm_of c.args.arm.now ≡ arm (phrases_in c.as_slice.result.now) (phrase_of c.deref.result.now) =
+    arm_of-parts c.args.arm.now
+    ∙ ap (λ labels. arm (phrases_in labels) (phrase_of (out-RoughArm c.args.arm.now).a.value)) (sym c.as_slice.ensures)
+    ∙ ap (λ a. arm (phrases_in c.as_slice.result.now) (phrase_of a)) (sym c.deref.ensures) in
+    search (rules, is)

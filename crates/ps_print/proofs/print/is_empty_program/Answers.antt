@@ -1,0 +1,13 @@
+use Rattle.std.proofs.Common.{◌≡◌, ◌∙◌, ap, sym, refl, rules}
+use Rattle.ps_parse.specs.Phrase.{Phrase, Sequence, at, form_of}
+use Rattle.ps_parse.specs.PhraseLists.{phrases_in}
+use Rattle.ps_print.specs.Waiting.{is_empty_program}
+use Rattle.ps_print.proofs.Views.{form_of-Sequence, is_empty}
+use Rattle.ps_print.proofs.print.is_empty_program.Goals as goal
+
+pub returns-in-Sequence : goal.returns-in-Sequence
+returns-in-Sequence c =
+    let line = c.args.tree.now.line in
+    let is : form_of c.args.tree.now.form ≡ Sequence (phrases_in c.as_slice.result.now) =
+    ap form_of c.in-Sequence.is ∙ form_of-Sequence c.in-Sequence.items ∙ ap (λ items. Sequence (phrases_in items)) (sym c.as_slice.ensures) in
+    c.is_empty.ensures ∙ is_empty c.as_slice.result.now line ∙ ap (λ f. is_empty_program (at f line)) (sym is)

@@ -1,0 +1,12 @@
+use Rattle.std.proofs.Common.{◌≡◌, ◌∙◌, ap, sym, refl, rules}
+use Rattle.ps_parse.specs.Phrase.{Sequence, form_of}
+use Rattle.ps_parse.specs.PhraseLists.{phrases_in}
+use Rattle.ps_print.proofs.Views.{form_of-Sequence}
+use Rattle.ps_print.proofs.print.put_tree.Goals as goal
+
+pub returns-in-Sequence : goal.returns-in-Sequence
+returns-in-Sequence c =
+    let is : form_of c.args.tree.now.form ≡ Sequence (phrases_in c.as_slice.result.now) =
+    ap form_of c.in-Sequence.is ∙ form_of-Sequence c.in-Sequence.items ∙ ap (λ items. Sequence (phrases_in items)) (sym c.as_slice.ensures) in
+    let put = c.put_program.ensures refl in
+    search (rules, is, put)

@@ -1,0 +1,168 @@
+ghost use Rattle.std.specs.Prelude.{◌+◌, OnOk};
+ghost use Rattle.ps_base.specs.TyView.{ty_view, ty_views};
+ghost use Rattle.ps_base.specs.TyView as ty;
+ghost use Rattle.ps_parse.specs.Phrase.{group_of, groups_in};
+ghost use Rattle.ps_print.specs.Lexemes.{nothing, blank};
+ghost use Rattle.ps_print.specs.Layout.{behind_arrow, type_lexemes, types_lexemes, more_types_lexemes, groups_lexemes, more_groups_lexemes, group_lexemes, heading_lexemes};
+ghost use Rattle.ps_print.specs.Weights.{weight_ty, weight_tys, weight_groups, weight_group, weight_heading};
+ghost use Rattle.ps_print.specs.Waiting.{waiting, gap_of, Adds};
+
+use crate::pending::Pending;
+use crate::piece::{Gap, Piece};
+use ps_base::ty::Ty;
+use ps_parse::rough::Group;
+use ps_scan::{mark, word};
+use std::alloc::AllocError;
+
+pub(crate) fn put_type<'a>(
+    pending: &mut Pending<'a>,
+    gap: Gap,
+    ty: &'a Ty,
+) -> Result<(), AllocError>
+    ensures { OnOk result (Adds (waiting pending.old) (type_lexemes (gap_of gap) (ty_view ty.now)) (weight_ty (ty_view ty.now)) (waiting pending.new)) }
+{
+    match ty {
+        Ty::Int => pending.put(&[Piece::Word(gap, word::INT)]),
+        Ty::Bool => pending.put(&[Piece::Word(gap, word::BOOL)]),
+        Ty::Str => pending.put(&[Piece::Word(gap, word::STRING)]),
+        Ty::Pntr => pending.put(&[Piece::Word(gap, word::PNTR)]),
+        Ty::Void => Ok(()),
+        Ty::Vector(element) => put_vector_type(pending, gap, element),
+        Ty::Proc(parameters, gives) => put_proc_type(pending, gap, parameters.as_slice(), gives),
+    }
+}
+
+fn put_vector_type<'a>(
+    pending: &mut Pending<'a>,
+    gap: Gap,
+    element: &'a Ty,
+) -> Result<(), AllocError>
+    ensures { OnOk result (Adds (waiting pending.old) (type_lexemes (gap_of gap) (ty.Vector (ty_view element.now))) (weight_ty (ty_view element.now) + 2) (waiting pending.new)) }
+{
+    pending.put(&[
+        Piece::Mark(gap, mark::TIMES),
+        Piece::Type(Gap::Nothing, element),
+    ])
+}
+
+fn put_proc_type<'a>(
+    pending: &mut Pending<'a>,
+    gap: Gap,
+    parameters: &'a [Ty],
+    gives: &'a Ty,
+) -> Result<(), AllocError>
+    ensures { OnOk result (Adds (waiting pending.old) (type_lexemes (gap_of gap) (ty.Proc (ty_views parameters.now) (ty_view gives.now))) (weight_tys (ty_views parameters.now) + weight_ty (ty_view gives.now) + 8) (waiting pending.new)) }
+{
+    pending.put(&[
+        Piece::Word(gap, word::PROC),
+        Piece::Mark(Gap::Nothing, mark::OPEN_ROUND),
+        Piece::Types(parameters),
+        Piece::Gives(gives),
+        Piece::Mark(Gap::Nothing, mark::CLOSE_ROUND),
+    ])
+}
+
+pub(crate) fn put_types<'a>(
+    pending: &mut Pending<'a>,
+    tys: &'a [Ty],
+) -> Result<(), AllocError>
+    ensures { OnOk result (Adds (waiting pending.old) (types_lexemes nothing (ty_views tys.now)) (weight_tys (ty_views tys.now)) (waiting pending.new)) }
+{
+    match tys.split_first() {
+        None => Ok(()),
+        Some((first, rest)) => {
+            pending.put(&[Piece::Type(Gap::Nothing, first), Piece::MoreTypes(rest)])
+        }
+    }
+}
+
+pub(crate) fn put_more_types<'a>(
+    pending: &mut Pending<'a>,
+    tys: &'a [Ty],
+) -> Result<(), AllocError>
+    ensures { OnOk result (Adds (waiting pending.old) (more_types_lexemes (ty_views tys.now)) (weight_tys (ty_views tys.now)) (waiting pending.new)) }
+{
+    match tys.split_first() {
+        None => Ok(()),
+        Some((first, rest)) => pending.put(&[
+            Piece::Mark(Gap::Nothing, mark::COMMA),
+            Piece::Type(Gap::Blank, first),
+            Piece::MoreTypes(rest),
+        ]),
+    }
+}
+
+// The type of a result behind its arrow; a procedure without a result has none.
+pub(crate) fn put_gives<'a>(
+    pending: &mut Pending<'a>,
+    ty: &'a Ty,
+) -> Result<(), AllocError>
+    ensures { OnOk result (Adds (waiting pending.old) (behind_arrow (ty_view ty.now) (type_lexemes blank (ty_view ty.now))) (weight_ty (ty_view ty.now) + 2) (waiting pending.new)) }
+{
+    match ty {
+        Ty::Void => Ok(()),
+        _ => pending.put(&[
+            Piece::Mark(Gap::Blank, mark::ARROW),
+            Piece::Type(Gap::Blank, ty),
+        ]),
+    }
+}
+
+pub(crate) fn put_groups<'a>(
+    pending: &mut Pending<'a>,
+    groups: &'a [Group],
+) -> Result<(), AllocError>
+    ensures { OnOk result (Adds (waiting pending.old) (groups_lexemes (groups_in groups.now)) (weight_groups (groups_in groups.now)) (waiting pending.new)) }
+{
+    match groups.split_first() {
+        None => Ok(()),
+        Some((first, rest)) => {
+            pending.put(&[Piece::Group(Gap::Nothing, first), Piece::MoreGroups(rest)])
+        }
+    }
+}
+
+pub(crate) fn put_more_groups<'a>(
+    pending: &mut Pending<'a>,
+    groups: &'a [Group],
+) -> Result<(), AllocError>
+    ensures { OnOk result (Adds (waiting pending.old) (more_groups_lexemes (groups_in groups.now)) (weight_groups (groups_in groups.now)) (waiting pending.new)) }
+{
+    match groups.split_first() {
+        None => Ok(()),
+        Some((first, rest)) => pending.put(&[
+            Piece::Mark(Gap::Nothing, mark::SEMICOLON),
+            Piece::Group(Gap::Blank, first),
+            Piece::MoreGroups(rest),
+        ]),
+    }
+}
+
+pub(crate) fn put_group<'a>(
+    pending: &mut Pending<'a>,
+    gap: Gap,
+    group: &'a Group,
+) -> Result<(), AllocError>
+    ensures { OnOk result (Adds (waiting pending.old) (group_lexemes (gap_of gap) (group_of group.now)) (weight_group (group_of group.now)) (waiting pending.new)) }
+{
+    pending.put(&[
+        Piece::Type(gap, &group.ty),
+        Piece::Name(Gap::Blank, group.name.name.as_slice()),
+    ])
+}
+
+pub(crate) fn put_heading<'a>(
+    pending: &mut Pending<'a>,
+    params: &'a [Group],
+    gives: &'a Ty,
+) -> Result<(), AllocError>
+    ensures { OnOk result (Adds (waiting pending.old) (heading_lexemes (groups_in params.now) (ty_view gives.now)) (weight_heading (groups_in params.now) (ty_view gives.now)) (waiting pending.new)) }
+{
+    pending.put(&[
+        Piece::Mark(Gap::Nothing, mark::OPEN_ROUND),
+        Piece::Groups(params),
+        Piece::Gives(gives),
+        Piece::Mark(Gap::Nothing, mark::CLOSE_ROUND),
+        Piece::Mark(Gap::Nothing, mark::SEMICOLON),
+    ])
+}
