@@ -1,4 +1,4 @@
-//! Printed texts: the lexemes of a text, and that they are scanned and read as they were meant.
+//! The printer: the text that a tree is printed as, and that it is read as the tree again.
 #![tactic(auto)]
 
 mod blocks;
@@ -14,3 +14,6 @@ pub mod print;
 mod statements;
 mod types;
 mod writer;
+
+#[cfg(test)]
+mod tests;
