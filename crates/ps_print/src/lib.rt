@@ -12,5 +12,7 @@ mod pending;
 mod piece;
 pub mod print;
 mod statements;
+#[cfg(test)]
+mod tests;
 mod types;
 mod writer;
