@@ -1,4 +1,4 @@
-//! What prints a program: the lexemes of a text, and that they are scanned as they were meant.
+//! What prints a program: a tree as a text, and what is so of every printed text.
 #![tactic(auto)]
 
 mod blocks;
