@@ -37,7 +37,6 @@ adds {old} {new} {lexemes} {weight} pieces is all light = record {
   lighter = omega (arith, ap weight_of is, weight_append pieces old, light);
 }
 
-
 -- what is put where a call comes to an end
 pub puts : {A E : Type 0} {lexemes : List Lexeme} {weight : ℕ} (old new pieces : List Piece) (result : Result A E) → OnOk result (new ≡ pieces ++ old) → joined pieces ≡ lexemes → weight_of pieces < weight → OnOk result (Adds old lexemes weight new)
 puts old new pieces (Ok x) is all light = adds pieces is all light

@@ -106,5 +106,9 @@ pub(crate) fn put_proc<'a>(
 fn becomes(variable: bool) -> u8
     ensures { piece_lexemes (Piece.Mark Gap.Blank result) ≡ becomes_of variable ∷ [] }
 {
-    if variable { mark::BECOMES } else { mark::EQUALS }
+    if variable {
+        mark::BECOMES
+    } else {
+        mark::EQUALS
+    }
 }

@@ -5,8 +5,8 @@ ghost use Rattle.ps_print.specs.Waiting.{waiting, AddsForm};
 use crate::blocks::put_block;
 use crate::declarations::{put_let, put_proc, put_structure};
 use crate::operators::{
-    put_and, put_apply, put_arith, put_bound, put_compare, put_elems, put_flag, put_is, put_join, put_neg,
-    put_not, put_or, put_part, put_plus, put_vector,
+    put_and, put_apply, put_arith, put_bound, put_compare, put_elems, put_flag, put_is, put_join,
+    put_neg, put_not, put_or, put_part, put_plus, put_vector,
 };
 use crate::pending::Pending;
 use crate::piece::{Piece, Spot};

@@ -185,3 +185,19 @@ fn programs_are_printed_and_read_back(rt: HostRuntime) -> Result<(), Fail> {
     }
     Ok(())
 }
+
+// No stack is as deep as a chain can be long.
+#[test]
+fn long_chains_are_printed(rt: HostRuntime) -> Result<(), Fail> {
+    let mut sum = Vec::from_slice(rt.alloc(), b"7")?;
+    let mut calls = Vec::from_slice(rt.alloc(), b"f")?;
+    for _ in 0..100_000 {
+        sum.extend_from_slice(b"-7")?;
+        calls.extend_from_slice(b"(7)")?;
+    }
+    assert!(rt; sum.len() <= LONGEST_TEXT);
+    assert_eq!(rt; printed(rt.alloc(), &sum)?.len(), 400_003);
+    assert!(rt; calls.len() <= LONGEST_TEXT);
+    assert_eq!(rt; printed(rt.alloc(), &calls)?.len(), 300_003);
+    Ok(())
+}

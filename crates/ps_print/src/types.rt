@@ -62,10 +62,7 @@ fn put_proc_type<'a>(
     ])
 }
 
-pub(crate) fn put_types<'a>(
-    pending: &mut Pending<'a>,
-    tys: &'a [Ty],
-) -> Result<(), AllocError>
+pub(crate) fn put_types<'a>(pending: &mut Pending<'a>, tys: &'a [Ty]) -> Result<(), AllocError>
     ensures { OnOk result (Adds (waiting pending.old) (types_lexemes nothing (ty_views tys.now)) (weight_tys (ty_views tys.now)) (waiting pending.new)) }
 {
     match tys.split_first() {
@@ -76,10 +73,7 @@ pub(crate) fn put_types<'a>(
     }
 }
 
-pub(crate) fn put_more_types<'a>(
-    pending: &mut Pending<'a>,
-    tys: &'a [Ty],
-) -> Result<(), AllocError>
+pub(crate) fn put_more_types<'a>(pending: &mut Pending<'a>, tys: &'a [Ty]) -> Result<(), AllocError>
     ensures { OnOk result (Adds (waiting pending.old) (more_types_lexemes (ty_views tys.now)) (weight_tys (ty_views tys.now)) (waiting pending.new)) }
 {
     match tys.split_first() {
@@ -93,10 +87,7 @@ pub(crate) fn put_more_types<'a>(
 }
 
 // The type of a result behind its arrow; a procedure without a result has none.
-pub(crate) fn put_gives<'a>(
-    pending: &mut Pending<'a>,
-    ty: &'a Ty,
-) -> Result<(), AllocError>
+pub(crate) fn put_gives<'a>(pending: &mut Pending<'a>, ty: &'a Ty) -> Result<(), AllocError>
     ensures { OnOk result (Adds (waiting pending.old) (behind_arrow (ty_view ty.now) (type_lexemes blank (ty_view ty.now))) (weight_ty (ty_view ty.now) + 2) (waiting pending.new)) }
 {
     match ty {

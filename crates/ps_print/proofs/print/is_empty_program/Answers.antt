@@ -1,5 +1,5 @@
-use Rattle.std.proofs.Common.{◌≡◌, ◌∙◌, ap, sym, refl, rules}
-use Rattle.ps_parse.specs.Phrase.{Phrase, Sequence, at, form_of}
+use Rattle.std.proofs.Common.{◌≡◌, ◌∙◌, ap, sym}
+use Rattle.ps_parse.specs.Phrase.{Sequence, at, form_of}
 use Rattle.ps_parse.specs.PhraseLists.{phrases_in}
 use Rattle.ps_print.specs.Waiting.{is_empty_program}
 use Rattle.ps_print.proofs.Views.{form_of-Sequence, is_empty}

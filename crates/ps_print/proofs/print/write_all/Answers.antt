@@ -1,4 +1,3 @@
-use Rattle.std.proofs.Common.{◌≡◌}
 use Rattle.ps_print.specs.Waiting.{waiting}
 use Rattle.ps_print.proofs.Printing.{all_printed}
 use Rattle.ps_print.proofs.print.write_all.Goals as goal
