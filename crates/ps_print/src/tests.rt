@@ -191,13 +191,13 @@ fn programs_are_printed_and_read_back(rt: HostRuntime) -> Result<(), Fail> {
 fn long_chains_are_printed(rt: HostRuntime) -> Result<(), Fail> {
     let mut sum = Vec::from_slice(rt.alloc(), b"7")?;
     let mut calls = Vec::from_slice(rt.alloc(), b"f")?;
-    for _ in 0..100_000 {
+    for _ in 0..20_000 {
         sum.extend_from_slice(b"-7")?;
         calls.extend_from_slice(b"(7)")?;
     }
     assert!(rt; sum.len() <= LONGEST_TEXT);
-    assert_eq!(rt; printed(rt.alloc(), &sum)?.len(), 400_003);
+    assert_eq!(rt; printed(rt.alloc(), &sum)?.len(), 80_003);
     assert!(rt; calls.len() <= LONGEST_TEXT);
-    assert_eq!(rt; printed(rt.alloc(), &calls)?.len(), 300_003);
+    assert_eq!(rt; printed(rt.alloc(), &calls)?.len(), 60_003);
     Ok(())
 }
