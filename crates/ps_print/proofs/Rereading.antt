@@ -299,7 +299,6 @@ module _ {text : List ℕ} {symbols : List Symbol} where
         let c' = clause_reads cc' n blank (from + 1) s.0 s.1 (of_do d.kind) in
         let a' = clause_reads aa n blank (s.0 + 1) to d.more front in
         record { rule = grammar.condition; begins = ap (λ (k : Kind). inside text a_clause_inside k) h.kind; again = at (form.IfDo c'.again a'.again) h.symbol.token.line; read = takes h.here h.is (joins c'.read (goes (ap (λ (k : Kind). grammar.choice h.symbol.token.line c'.again k) d.kind) (takes d.here d.is (joins a'.read gives)))); same = alike2 (λ (x y : Phrase). F (form.IfDo x y)) c'.same a'.same }
-
     form_reads (is.if_else {behind = behind} {c = c} {a = a} {b = b} cc' aa bb) n gap line from to st = λ front.
         let h = head st in
         let s = cut (clause_lexemes n other blank c) (the_word blank word.THEN (codes "then") ∷ (clause_lexemes n other blank a ++ the_word blank word.ELSE (codes "else") ∷ clause_lexemes n behind blank b)) h.more in
@@ -310,7 +309,6 @@ module _ {text : List ℕ} {symbols : List Symbol} where
         let a' = clause_reads aa n blank (s.0 + 1) t.0 t.1 (of_other (ap closes e.kind)) in
         let b' = clause_reads bb n blank (t.0 + 1) to e.more front in
         record { rule = grammar.condition; begins = ap (λ (k : Kind). inside text a_clause_inside k) h.kind; again = at (form.IfElse c'.again a'.again b'.again) h.symbol.token.line; read = takes h.here h.is (joins c'.read (goes (ap (λ (k : Kind). grammar.choice h.symbol.token.line c'.again k) d.kind) (takes d.here d.is (joins a'.read (takes e.here e.is (joins b'.read gives)))))); same = alike3 (λ (x y z : Phrase). F (form.IfElse x y z)) c'.same a'.same b'.same }
-
     form_reads (is.while_do {behind = behind} {c = c} {a = a} cc' aa) n gap line from to st = λ front.
         let h = head st in
         let s = cut (clause_lexemes n before_do blank c) (do_word ∷ clause_lexemes n behind blank a) h.more in
@@ -318,7 +316,6 @@ module _ {text : List ℕ} {symbols : List Symbol} where
         let c' = clause_reads cc' n blank (from + 1) s.0 s.1 (of_do d.kind) in
         let a' = clause_reads aa n blank (s.0 + 1) to d.more front in
         record { rule = grammar.loop; begins = ap (λ (k : Kind). inside text a_clause_inside k) h.kind; again = at (form.While c'.again a'.again) h.symbol.token.line; read = takes h.here h.is (joins c'.read (takes d.here d.is (joins a'.read gives))); same = alike2 (λ (x y : Phrase). F (form.While x y)) c'.same a'.same }
-
     form_reads (is.repeat_while {behind = behind} {a = a} {c = c} not_do aa cc') n gap line from to st = λ front.
         let h = head st in
         let s = cut (clause_lexemes n other blank a) (the_word blank word.WHILE (codes "while") ∷ clause_lexemes n behind blank c) h.more in
@@ -326,7 +323,6 @@ module _ {text : List ℕ} {symbols : List Symbol} where
         let a' = clause_reads aa n blank (from + 1) s.0 s.1 (of_other (ap closes d.kind)) in
         let c' = clause_reads cc' n blank (s.0 + 1) to d.more front in
         record { rule = grammar.repeating; begins = ap (λ (k : Kind). inside text a_clause_inside k) h.kind; again = at (form.Repeat a'.again c'.again absent) h.symbol.token.line; read = takes h.here h.is (joins a'.read (goes (ap (λ (k : Kind). Some (grammar.until h.symbol.token.line a'.again k)) d.kind) (goes refl (takes d.here d.is (joins c'.read (goes (ap (λ (r : Rule). Some r) (nothing_between h.symbol.token.line a'.again c'.again not_do front)) (gives))))))); same = alike2 (λ (x y : Phrase). F (form.Repeat x y absent)) a'.same c'.same }
-
     form_reads (is.repeat_do {behind = behind} {a = a} {c = c} {b = b} aa cc' bb) n gap line from to st = λ front.
         let h = head st in
         let s = cut (clause_lexemes n other blank a) (the_word blank word.WHILE (codes "while") ∷ (clause_lexemes n before_do blank c ++ do_word ∷ clause_lexemes n behind blank b)) h.more in
@@ -337,7 +333,6 @@ module _ {text : List ℕ} {symbols : List Symbol} where
         let c' = clause_reads cc' n blank (s.0 + 1) t.0 t.1 (of_do e.kind) in
         let b' = clause_reads bb n blank (t.0 + 1) to e.more front in
         record { rule = grammar.repeating; begins = ap (λ (k : Kind). inside text a_clause_inside k) h.kind; again = at (form.Repeat a'.again c'.again (present b'.again)) h.symbol.token.line; read = takes h.here h.is (joins a'.read (goes (ap (λ (k : Kind). Some (grammar.until h.symbol.token.line a'.again k)) d.kind) (goes refl (takes d.here d.is (joins c'.read (goes (ap (λ (k : Kind). Some (grammar.between h.symbol.token.line a'.again c'.again k)) e.kind) (takes e.here e.is (joins b'.read gives)))))))); same = alike3 (λ (x y z : Phrase). F (form.Repeat x y (present z))) a'.same c'.same b'.same }
-
     form_reads (is.for_to {behind = behind} {name = name} {a = a} {b = b} {s = s} of_name aa bb ss) n gap line from to st = λ front.
         let h = head st in
         let m = head h.more in
@@ -350,7 +345,6 @@ module _ {text : List ℕ} {symbols : List Symbol} where
         let b' = clause_reads bb n blank (u.0 + 1) v.0 v.1 (of_do e.kind) in
         let s' = clause_reads ss n blank (v.0 + 1) to e.more front in
         record { rule = grammar.counting text; begins = ap (λ (k : Kind). inside text a_clause_inside k) h.kind; again = at (form.For (grammar.name_at text m.symbol) a'.again b'.again absent s'.again) h.symbol.token.line; read = takes h.here h.is (takes m.here m.is (takes q.here q.is (joins a'.read (takes d.here d.is (joins b'.read (goes (ap (λ (k : Kind). Some (grammar.step h.symbol.token.line (grammar.name_at text m.symbol) a'.again b'.again k)) e.kind) (goes refl (takes e.here e.is (joins s'.read gives))))))))); same = alike4 (λ (bytes : List ℕ) (x y z : Phrase). F (form.For (bare_named bytes) x y absent z)) m.spelled a'.same b'.same s'.same }
-
     form_reads (is.for_by {behind = behind} {name = name} {a = a} {b = b} {c = c} {s = s} of_name aa bb cc' ss) n gap line from to st = λ front.
         let h = head st in
         let m = head h.more in
@@ -366,7 +360,6 @@ module _ {text : List ℕ} {symbols : List Symbol} where
         let c' = clause_reads cc' n blank (v.0 + 1) w.0 w.1 (of_do e.kind) in
         let s' = clause_reads ss n blank (w.0 + 1) to e.more front in
         record { rule = grammar.counting text; begins = ap (λ (k : Kind). inside text a_clause_inside k) h.kind; again = at (form.For (grammar.name_at text m.symbol) a'.again b'.again (present c'.again) s'.again) h.symbol.token.line; read = takes h.here h.is (takes m.here m.is (takes q.here q.is (joins a'.read (takes d.here d.is (joins b'.read (goes (ap (λ (k : Kind). Some (grammar.step h.symbol.token.line (grammar.name_at text m.symbol) a'.again b'.again k)) y.kind) (takes y.here y.is (joins c'.read (goes refl (takes e.here e.is (joins s'.read gives))))))))))); same = alike5 (λ (bytes : List ℕ) (x y z w : Phrase). F (form.For (bare_named bytes) x y (present z) w)) m.spelled a'.same b'.same c'.same s'.same }
-
     form_reads (is.case_of {behind = behind} {e = e} {d = d} {arms = arms} ee are dd) n gap line from to st = λ front.
         let h = head st in
         let u = cut (clause_lexemes n other blank e) (the_word blank word.OF (codes "of") ∷ (arms_lexemes (n + 2) arms ++ the_word (newline (n + 2)) word.DEFAULT (codes "default") ∷ colon ∷ clause_lexemes (n + 2) behind blank d)) h.more in
@@ -378,23 +371,19 @@ module _ {text : List ℕ} {symbols : List Symbol} where
         let r = arms_read are h.symbol.token.line e'.again no_arms (n + 2) (u.0 + 1) v.0 v.1 in
         let d' = clause_reads dd (n + 2) blank (v.0 + 1 + 1) to l.more front in
         record { rule = grammar.choosing; begins = ap (λ (k : Kind). inside text a_clause_inside k) h.kind; again = at (form.Case e'.again r.all d'.again) h.symbol.token.line; read = takes h.here h.is (joins e'.read (takes o.here o.is (r.lead _ _ (goes (ap (λ (k : Kind). Some (grammar.cases h.symbol.token.line e'.again r.all k)) f.kind) (takes f.here f.is (takes l.here l.is (joins d'.read gives))))))); same = alike3 (λ (x : Phrase) (all : Arms) (y : Phrase). F (form.Case x all y)) e'.same r.same d'.same }
-
     form_reads (is.write {behind = behind} {first = first} {rest = rest} closed (is.and_items one others)) n gap line from to st = λ front.
         let h = head st in
         let u = cut (item_lexemes n (behind_item behind rest) first) (more_items_lexemes n behind rest) h.more in
         let i = item_reads one n (from + 1) u.0 u.1 (item_front behind n rest u.0 to u.2 front) (open_item behind first rest closed) in
         let r = items_read others first closed h.symbol.token.line (more_items i.again no_items) n u.0 to u.2 front in
         record { rule = grammar.writing; begins = ap (λ (k : Kind). inside text a_clause_inside k) h.kind; again = at (form.Write r.all) h.symbol.token.line; read = takes h.here h.is (joins i.read (r.lead _ _ (goes (ap (λ (rule : Rule). Some rule) (nothing_more_written h.symbol.token.line r.all (not_before_comma behind (more_items first rest) closed) front)) gives))); same = alike1 (λ (all : WriteItems). F (form.Write all)) (r.same ∙ ap (λ (one : WriteItem). more_items one (bare_items rest)) i.same) }
-
     form_reads (is.abort) n gap line from to st = λ front.
         let h = head st in
         record { rule = grammar.aborting; begins = ap (λ (k : Kind). inside text a_clause_inside k) h.kind; again = at (form.Abort) h.symbol.token.line; read = takes h.here h.is (gives_at (ended h.more)); same = refl }
-
     form_reads (is.proc {behind = behind} {params = params} {gives = g} {s = s} pp gg ss) n gap line from to st = λ front.
         let h = head st in
         let r = literal_reads n pp gg (λ start end st close. clause_reads ss n blank start end st close) h.symbol.token.line line (from + 1) to h.more front in
         record { rule = grammar.procedure; begins = ap (λ (k : Kind). inside text a_clause_inside k) h.kind; again = r.again; read = takes h.here h.is (r.read); same = r.same }
-
     form_reads (is.vector {behind = behind} {l = l} {u = u} {e = e} ll uu ee) n gap line from to st = λ front.
         let h = head st in
         let s = cut (clause_lexemes n other blank l) (the_mark nothing mark.DOUBLE_COLON (codes "::") ∷ (clause_lexemes n other nothing u ++ the_word blank word.OF (codes "of") ∷ clause_lexemes n behind blank e)) h.more in
@@ -405,14 +394,12 @@ module _ {text : List ℕ} {symbols : List Symbol} where
         let u' = clause_reads uu n nothing (s.0 + 1) t.0 t.1 (of_other (ap closes o.kind)) in
         let e' = clause_reads ee n blank (t.0 + 1) to o.more front in
         record { rule = grammar.filling; begins = ap (λ (k : Kind). inside text a_clause_inside k) h.kind; again = at (form.Vector l'.again u'.again e'.again) h.symbol.token.line; read = takes h.here h.is (joins l'.read (takes d.here d.is (joins u'.read (takes o.here o.is (joins e'.read gives))))); same = alike3 (λ (x y z : Phrase). F (form.Vector x y z)) l'.same u'.same e'.same }
-
     form_reads (is.assign {behind = behind} {x = x} {e = e} xx ee) n gap line from to st = λ front.
         let s = cut (operand_lexemes n disjunction gap x) (becomes true ∷ clause_lexemes n behind blank e) st in
         let b = head s.2 in
         let x' = close_disjunction (ap (λ (k : Kind). operation_of Disjunction k) b.kind) (operand_reads xx n gap from s.0 s.1 (above_as b.kind (above_disjunction refl (above_conjunction (above_negation (above_comparison refl refl (above_sum refl (above_product (above_signed refl))))))))) in
         let e' = clause_reads ee n blank (s.0 + 1) to b.more front in
         record { rule = grammar.expression; begins = ap (λ (o : _). option_map (grammar.opened text) o) (expression_opens (kind_at symbols from) (starts_disjunction x'.read)); again = at (form.Assign x'.again e'.again) b.symbol.token.line; read = joins x'.read (goes (ap (λ (k : Kind). Some (grammar.assignment x'.again k)) b.kind) (takes b.here b.is (joins e'.read gives))); same = alike2 (λ (x y : Phrase). F (form.Assign x y)) x'.same e'.same }
-
     form_reads (is.or {a = a} {b = b} aa bb) n gap line from to st = λ given.
         let closed = (of_disjunction given).0 in
         let above = (of_disjunction given).1 in
@@ -421,7 +408,6 @@ module _ {text : List ℕ} {symbols : List Symbol} where
         let a' = operand_reads aa n gap from s.0 s.1 (above_as o.kind (above_disjunction refl (above_conjunction (above_negation (above_comparison refl refl (above_sum refl (above_product (above_signed refl)))))))) in
         let b' = close_conjunction closed (operand_reads bb n blank (s.0 + 1) to o.more above) in
         record { again = at (form.Or a'.again b'.again) o.symbol.token.line; lead = λ made end deeper. a'.lead made end (goes (ap (λ (k : Kind). Some (grammar.more_chain Disjunction a'.again k (operation_of Disjunction k))) o.kind) (takes o.here o.is (joins b'.read deeper))); same = alike2 (λ (x y : Phrase). F (form.Or x y)) a'.same b'.same }
-
     form_reads (is.and {a = a} {b = b} aa bb) n gap line from to st = λ given.
         let above = of_conjunction given in
         let s = cut (operand_lexemes n conjunction gap a) (the_word blank word.AND (codes "and") ∷ operand_lexemes n negation blank b) st in
@@ -429,13 +415,11 @@ module _ {text : List ℕ} {symbols : List Symbol} where
         let a' = operand_reads aa n gap from s.0 s.1 (above_as o.kind (above_conjunction (above_negation (above_comparison refl refl (above_sum refl (above_product (above_signed refl))))))) in
         let b' = climb.close_negation (operand_reads bb n blank (s.0 + 1) to o.more above) in
         record { again = at (form.And a'.again b'.again) o.symbol.token.line; lead = λ made end deeper. a'.lead made end (goes (ap (λ (k : Kind). Some (grammar.more_chain Conjunction a'.again k (operation_of Conjunction k))) o.kind) (takes o.here o.is (joins b'.read deeper))); same = alike2 (λ (x y : Phrase). F (form.And x y)) a'.same b'.same }
-
     form_reads (is.not {e = e} ee) n gap line from to st = λ given.
         let above = of_negation given in
         let h = head st in
         let e' = close_comparison (operand_reads ee n nothing (from + 1) to h.more above) in
         record { again = at (form.Not e'.again) h.symbol.token.line; lead = give_back (goes (ap (λ (k : Kind). Some (grammar.relative k)) h.kind) (takes h.here h.is (joins e'.read gives))); same = alike1 (λ (x : Phrase). F (form.Not x)) e'.same }
-
     form_reads (is.compare {op = op} {a = a} {b = b} aa bb) n gap line from to st = λ given.
         let closed = (of_comparison given).0 in
         let above = (of_comparison given).1 in
@@ -444,7 +428,6 @@ module _ {text : List ℕ} {symbols : List Symbol} where
         let a' = close_sum (ap (λ (k : Kind). operation_of Sum k) o.kind ∙ no_sum_there op) (operand_reads aa n gap from s.0 s.1 (above_as o.kind (above_relation op))) in
         let b' = close_sum closed (operand_reads bb n blank (s.0 + 1) to o.more above) in
         record { again = at (form.Compare op a'.again b'.again) o.symbol.token.line; lead = give_back (goes refl (joins a'.read (goes (ap (λ (k : Kind). Some (grammar.comparison text a'.again k (relating_of k))) o.kind ∙ ap (λ (r : _). Some (grammar.comparison text a'.again (relation_kind op) r)) (relates op)) (takes o.here o.is (joins b'.read gives))))); same = alike2 (λ (x y : Phrase). F (form.Compare op x y)) a'.same b'.same }
-
     form_reads (is.is {e = e} {class = class} {negated = negated} ee of_name) n gap line from to st = λ given.
         let closed = (of_comparison given).0 in
         let above = (of_comparison given).1 in
@@ -453,7 +436,6 @@ module _ {text : List ℕ} {symbols : List Symbol} where
         let m = head o.more in
         let e' = close_sum (ap (λ (k : Kind). operation_of Sum k) o.kind ∙ no_sum_in_class negated) (operand_reads ee n gap from s.0 s.1 (above_as o.kind (above_class negated))) in
         record { again = at (form.Is e'.again (grammar.name_at text m.symbol) negated) o.symbol.token.line; lead = give_back (goes refl (joins e'.read (goes (ap (λ (k : Kind). Some (grammar.comparison text e'.again k (relating_of k))) o.kind ∙ ap (λ (r : _). Some (grammar.comparison text e'.again (class_kind negated) r)) (asks_class negated)) (takes o.here o.is (takes m.here m.is (gives_at (ended m.more))))))); same = alike2 (λ (x : Phrase) (bytes : List ℕ). F (form.Is x (bare_named bytes) negated)) e'.same m.spelled }
-
     form_reads (is.join {a = a} {b = b} aa bb) n gap line from to st = λ given.
         let closed = (of_sum given).0 in
         let above = (of_sum given).1 in
@@ -462,7 +444,6 @@ module _ {text : List ℕ} {symbols : List Symbol} where
         let a' = operand_reads aa n gap from s.0 s.1 (above_as o.kind (above_sum refl (above_product (above_signed refl)))) in
         let b' = close_product closed (operand_reads bb n blank (s.0 + 1) to o.more above) in
         record { again = at (form.Join a'.again b'.again) o.symbol.token.line; lead = sum_goes (operation.Join) refl a' o b'; same = alike2 (λ (x y : Phrase). F (form.Join x y)) a'.same b'.same }
-
     form_reads (is.arith {op = arith.Add} {a = a} {b = b} aa bb) n gap line from to st = λ given.
         let closed = (of_sum given).0 in
         let above = (of_sum given).1 in
@@ -471,7 +452,6 @@ module _ {text : List ℕ} {symbols : List Symbol} where
         let a' = operand_reads aa n gap from s.0 s.1 (above_as o.kind (above_sum refl (above_product (above_signed refl)))) in
         let b' = close_product closed (operand_reads bb n blank (s.0 + 1) to o.more above) in
         record { again = at (form.Arith arith.Add a'.again b'.again) o.symbol.token.line; lead = sum_goes (operation.Arith arith.Add) refl a' o b'; same = alike2 (λ (x y : Phrase). F (form.Arith arith.Add x y)) a'.same b'.same }
-
     form_reads (is.arith {op = arith.Sub} {a = a} {b = b} aa bb) n gap line from to st = λ given.
         let closed = (of_sum given).0 in
         let above = (of_sum given).1 in
@@ -480,7 +460,6 @@ module _ {text : List ℕ} {symbols : List Symbol} where
         let a' = operand_reads aa n gap from s.0 s.1 (above_as o.kind (above_sum refl (above_product (above_signed refl)))) in
         let b' = close_product closed (operand_reads bb n blank (s.0 + 1) to o.more above) in
         record { again = at (form.Arith arith.Sub a'.again b'.again) o.symbol.token.line; lead = sum_goes (operation.Arith arith.Sub) refl a' o b'; same = alike2 (λ (x y : Phrase). F (form.Arith arith.Sub x y)) a'.same b'.same }
-
     form_reads (is.arith {op = arith.Mul} {a = a} {b = b} aa bb) n gap line from to st = λ given.
         let above = of_product given in
         let s = cut (operand_lexemes n product gap a) (the_mark blank mark.TIMES (codes "*") ∷ operand_lexemes n signed blank b) st in
@@ -488,7 +467,6 @@ module _ {text : List ℕ} {symbols : List Symbol} where
         let a' = operand_reads aa n gap from s.0 s.1 (above_as o.kind (above_product (above_signed refl))) in
         let b' = climb.close_signed (operand_reads bb n blank (s.0 + 1) to o.more above) in
         record { again = at (form.Arith arith.Mul a'.again b'.again) o.symbol.token.line; lead = product_goes (operation.Arith arith.Mul) refl a' o b'; same = alike2 (λ (x y : Phrase). F (form.Arith arith.Mul x y)) a'.same b'.same }
-
     form_reads (is.arith {op = arith.Div} {a = a} {b = b} aa bb) n gap line from to st = λ given.
         let above = of_product given in
         let s = cut (operand_lexemes n product gap a) (the_word blank word.DIV (codes "div") ∷ operand_lexemes n signed blank b) st in
@@ -496,7 +474,6 @@ module _ {text : List ℕ} {symbols : List Symbol} where
         let a' = operand_reads aa n gap from s.0 s.1 (above_as o.kind (above_product (above_signed refl))) in
         let b' = climb.close_signed (operand_reads bb n blank (s.0 + 1) to o.more above) in
         record { again = at (form.Arith arith.Div a'.again b'.again) o.symbol.token.line; lead = product_goes (operation.Arith arith.Div) refl a' o b'; same = alike2 (λ (x y : Phrase). F (form.Arith arith.Div x y)) a'.same b'.same }
-
     form_reads (is.arith {op = arith.Rem} {a = a} {b = b} aa bb) n gap line from to st = λ given.
         let above = of_product given in
         let s = cut (operand_lexemes n product gap a) (the_word blank word.REM (codes "rem") ∷ operand_lexemes n signed blank b) st in
@@ -504,26 +481,22 @@ module _ {text : List ℕ} {symbols : List Symbol} where
         let a' = operand_reads aa n gap from s.0 s.1 (above_as o.kind (above_product (above_signed refl))) in
         let b' = climb.close_signed (operand_reads bb n blank (s.0 + 1) to o.more above) in
         record { again = at (form.Arith arith.Rem a'.again b'.again) o.symbol.token.line; lead = product_goes (operation.Arith arith.Rem) refl a' o b'; same = alike2 (λ (x y : Phrase). F (form.Arith arith.Rem x y)) a'.same b'.same }
-
     form_reads (is.plus {e = e} ee) n gap line from to st = λ given.
         let closed = of_signed given in
         let h = head st in
         let e' = close_application closed (operand_reads ee n nothing (from + 1) to h.more above_application) in
         record { again = at (form.Plus e'.again) h.symbol.token.line; lead = give_back (goes (ap (λ (k : Kind). Some (grammar.factor k)) h.kind) (takes h.here h.is (joins e'.read gives))); same = alike1 (λ (x : Phrase). F (form.Plus x)) e'.same }
-
     form_reads (is.neg {e = e} ee) n gap line from to st = λ given.
         let closed = of_signed given in
         let h = head st in
         let e' = close_application closed (operand_reads ee n nothing (from + 1) to h.more above_application) in
         record { again = at (form.Neg e'.again) h.symbol.token.line; lead = give_back (goes (ap (λ (k : Kind). Some (grammar.factor k)) h.kind) (takes h.here h.is (joins e'.read gives))); same = alike1 (λ (x : Phrase). F (form.Neg x)) e'.same }
-
     form_reads (is.apply {f = f} {args = none} ff are) n gap line from to st = λ above.
         let s = cut (operand_lexemes n application gap f) (in_brackets nothing []) st in
         let b = head s.2 in
         let e = head b.more in
         let f' = operand_reads ff n gap from s.0 s.1 above_application in
         record { again = at (form.Apply f'.again none) b.symbol.token.line; lead = λ made end deeper. f'.lead made end (goes (ap (λ (k : Kind). Some (grammar.applied f'.again k)) b.kind) (takes b.here b.is (joins (goes (ap (λ (k : Kind). Some (grammar.arguments b.symbol.token.line f'.again k)) e.kind) (takes e.here e.is (gives_at (ended e.more)))) deeper))); same = alike1 (λ (x : Phrase). F (form.Apply x none)) f'.same }
-
     form_reads (is.apply {f = f} {args = more first rest} ff (is.more_clauses one others)) n gap line from to st = λ above.
         let s = cut (operand_lexemes n application gap f) (in_brackets nothing (clauses_lexemes n nothing other (more first rest))) st in
         let b = head s.2 in
@@ -535,7 +508,6 @@ module _ {text : List ℕ} {symbols : List Symbol} where
         let l = b.symbol.token.line in
         let r = listed others (λ (before : Phrases). MoreArguments l f'.again before) (λ before. refl) (more a'.again none) n u.0 t.0 u.2 (of_other (ap closes e.kind)) in
         record { again = at (form.Apply f'.again r.all) l; lead = λ made end deeper. f'.lead made end (goes (ap (λ (k : Kind). Some (grammar.applied f'.again k)) b.kind) (takes b.here b.is (joins (goes (ap (λ (rule : Rule). Some rule) (arguments_begin l f'.again (kind_at symbols (s.0 + 1)) (starts_clause a'.read))) (joins a'.read (goes (ap (λ (rule : Rule). Some rule) (second_plain l f'.again a'.again (list_end other n rest u.0 t.0 u.2 e.kind))) (r.lead _ _ (goes (ap (λ (k : Kind). Some (grammar.more_arguments l f'.again r.all k)) e.kind) (takes e.here e.is (gives_at (ended e.more)))))))) deeper))); same = alike2 (λ (x : Phrase) (all : Phrases). F (form.Apply x all)) f'.same (r.same ∙ ap (λ (p : Phrase). more p (bare_all rest)) a'.same) }
-
     form_reads (is.part {s = s} {i = i} {n = m} ss ii mm) n gap line from to st = λ above.
         let c = cut (operand_lexemes n application gap s) (in_brackets nothing (clause_lexemes n other nothing i ++ the_mark nothing mark.BAR (codes "|") ∷ clause_lexemes n other nothing m)) st in
         let b = head c.2 in
@@ -548,13 +520,11 @@ module _ {text : List ℕ} {symbols : List Symbol} where
         let m' = clause_reads mm n nothing (u.0 + 1) t.0 v.more (of_other (ap closes e.kind)) in
         let l = b.symbol.token.line in
         record { again = at (form.Part s'.again i'.again m'.again) l; lead = λ made end deeper. s'.lead made end (goes (ap (λ (k : Kind). Some (grammar.applied s'.again k)) b.kind) (takes b.here b.is (joins (goes (ap (λ (rule : Rule). Some rule) (arguments_begin l s'.again (kind_at symbols (c.0 + 1)) (starts_clause i'.read))) (joins i'.read (goes (ap (λ (k : Kind). Some (grammar.second_argument l s'.again i'.again k)) v.kind) (takes v.here v.is (joins m'.read (takes e.here e.is (gives_at (ended e.more)))))))) deeper))); same = alike3 (λ (x y z : Phrase). F (form.Part x y z)) s'.same i'.same m'.same }
-
     form_reads (is.sequence {items = none} are) n gap line from to st = λ above.
         let h = head st in
         let e = head h.more in
         let l = h.symbol.token.line in
         record { again = at (form.Sequence none) l; lead = give_back (goes (ap (λ (k : Kind). row text Primary k) h.kind) (takes h.here h.is (joins (goes (ap (λ (k : Kind). Some (grammar.items l none (begins_item k))) e.kind) (goes (ap (λ (k : Kind). Some (grammar.items_end l none k)) e.kind) gives)) (takes e.here e.is (gives_at (ended e.more)))))); same = refl }
-
     form_reads (is.sequence {items = more first rest} (is.one_more one others)) n gap line from to st = λ above.
         let h = head st in
         let s = cut (clause_lexemes (n + 2) other (newline (n + 2)) first) (semicolon ∷ (lines_lexemes (n + 2) rest ++ the_mark (newline n) mark.CLOSE_CURLY (codes "}") ∷ [])) h.more in
@@ -565,19 +535,15 @@ module _ {text : List ℕ} {symbols : List Symbol} where
         let i = sequence_item one (n + 2) (newline (n + 2)) (from + 1) s.0 s.1 d.kind in
         let r = sequence_reads others l (more i.again none) (n + 2) (s.0 + 1) t.0 t.1 (ap begins_item e.kind) (λ same. absurd (let k = e.kind in cc)) in
         record { again = at (form.Sequence r.all) l; lead = give_back (goes (ap (λ (k : Kind). row text Primary k) h.kind) (takes h.here h.is (joins (goes (ap (λ (b : Bool). Some (grammar.items l none b)) i.begins) (joins i.read (goes (ap (λ (k : Kind). Some (grammar.items_end l (more i.again none) k)) d.kind) (takes d.here d.is r.read)))) (takes e.here e.is (gives_at (ended e.more)))))); same = alike1 (λ (all : Phrases). F (form.Sequence all)) (r.same ∙ ap (λ (p : Phrase). more p (bare_all rest)) i.same) }
-
     form_reads (is.name of_name) n gap line from to st = λ above.
         let h = head st in
         record { again = at (form.Name (slice_of text h.symbol.token)) h.symbol.token.line; lead = give_back (goes (ap (λ (k : Kind). row text Primary k) h.kind) (takes h.here h.is (gives_at (ended h.more)))); same = alike1 (λ (bytes : List ℕ). F (form.Name bytes)) h.spelled }
-
     form_reads (is.int {value = value} small) n gap line from to st = λ above.
         let h = head st in
         record { again = at (form.Int (pos (int_value text h.symbol.token))) h.symbol.token.line; lead = give_back (goes (ap (λ (k : Kind). row text Primary k) h.kind) (takes h.here h.is (gives_at (ended h.more)))); same = alike1 (λ (v : ℕ). F (form.Int (pos v))) (ap (λ (bytes : List ℕ). class.decimal bytes) h.spelled ∙ (int_is_spelled value small).value_is) }
-
     form_reads (is.text {bytes = bytes} spellable short) n gap line from to st = λ above.
         let h = head st in
         record { again = at (form.Text (spelled text h.symbol.token)) h.symbol.token.line; lead = give_back (goes (ap (λ (k : Kind). row text Primary k) h.kind) (takes h.here h.is (gives_at (ended h.more)))); same = alike1 (λ (bytes : List ℕ). F (form.Text bytes)) (ap (λ (slice : List ℕ). bytes_of (quoted (drop 1 slice))) h.spelled ∙ (string_is_spelled bytes (all_passes can_be_spelled bytes spellable) short).bytes_are) }
-
     form_reads (is.flag {value = true}) n gap line from to st = λ above.
         let h = head st in
         record { again = at (form.Flag true) h.symbol.token.line; lead = give_back (goes (ap (λ (k : Kind). row text Primary k) h.kind) (takes h.here h.is (gives_at (ended h.more)))); same = refl }
@@ -587,7 +553,6 @@ module _ {text : List ℕ} {symbols : List Symbol} where
     form_reads is.nil n gap line from to st = λ above.
         let h = head st in
         record { again = at form.Nil h.symbol.token.line; lead = give_back (goes (ap (λ (k : Kind). row text Primary k) h.kind) (takes h.here h.is (gives_at (ended h.more)))); same = refl }
-
     form_reads (is.bound {upper = false} {e = e} ee) n gap line from to st = λ above.
         let h = head st in
         let b = head h.more in
@@ -595,7 +560,6 @@ module _ {text : List ℕ} {symbols : List Symbol} where
         let d = head c.2 in
         let e' = clause_reads ee n nothing (from + 1 + 1) c.0 c.1 (of_other (ap closes d.kind)) in
         record { again = at (form.Bound false e'.again) h.symbol.token.line; lead = give_back (goes (ap (λ (k : Kind). row text Primary k) h.kind) (takes h.here h.is (takes b.here b.is (joins e'.read (takes d.here d.is (gives_at (ended d.more))))))); same = alike1 (λ (x : Phrase). F (form.Bound false x)) e'.same }
-
     form_reads (is.bound {upper = true} {e = e} ee) n gap line from to st = λ above.
         let h = head st in
         let b = head h.more in
@@ -603,7 +567,6 @@ module _ {text : List ℕ} {symbols : List Symbol} where
         let d = head c.2 in
         let e' = clause_reads ee n nothing (from + 1 + 1) c.0 c.1 (of_other (ap closes d.kind)) in
         record { again = at (form.Bound true e'.again) h.symbol.token.line; lead = give_back (goes (ap (λ (k : Kind). row text Primary k) h.kind) (takes h.here h.is (takes b.here b.is (joins e'.read (takes d.here d.is (gives_at (ended d.more))))))); same = alike1 (λ (x : Phrase). F (form.Bound true x)) e'.same }
-
     form_reads (is.elems {l = l} {first = first} {t = t} {rest = rest} ll tt' (is.more_clauses one others)) n gap line from to st = λ above.
         let h = head st in
         let c = cut (clause_lexemes n other nothing l) (the_word blank word.OF (codes "of") ∷ (type_lexemes blank t ++ the_mark blank mark.OPEN_SQUARE (codes "[") ∷ (clauses_lexemes n nothing other (more first rest) ++ the_mark nothing mark.CLOSE_SQUARE (codes "]") ∷ []))) h.more in

@@ -12,8 +12,7 @@ mod pending;
 mod piece;
 pub mod print;
 mod statements;
-mod types;
-mod writer;
-
 #[cfg(test)]
 mod tests;
+mod types;
+mod writer;

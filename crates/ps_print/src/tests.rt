@@ -8,34 +8,16 @@ use std::test::Fail;
 
 // Programs, those of the language's documents among them, and what each is printed as.
 const PRINTED: [(&[u8], &[u8]); 39] = [
-    (
-        b"write 1 + 2, \"'n\" ?",
-        b"write 1 + 2, \"'n\";\n",
-    ),
-    (
-        b"",
-        b"",
-    ),
-    (
-        b"write 2147483647 + 1",
-        b"write 2147483647 + 1;\n",
-    ),
+    (b"write 1 + 2, \"'n\" ?", b"write 1 + 2, \"'n\";\n"),
+    (b"", b""),
+    (b"write 2147483647 + 1", b"write 2147483647 + 1;\n"),
     (
         b"let v = vector 1::3 of 0\nv(4) := 1",
         b"let v = vector 1::3 of 0;\nv(4) := 1;\n",
     ),
-    (
-        b"while true do {}",
-        b"while true do {};\n",
-    ),
-    (
-        b"for i = 1 to 5 do {}",
-        b"for i = 1 to 5 do {};\n",
-    ),
-    (
-        b"write \"a\" + 1",
-        b"write \"a\" + 1;\n",
-    ),
+    (b"while true do {}", b"while true do {};\n"),
+    (b"for i = 1 to 5 do {}", b"for i = 1 to 5 do {};\n"),
+    (b"write \"a\" + 1", b"write \"a\" + 1;\n"),
     (
         b"structure person(string name; int age; pntr home)\nstructure address(int number; string town)\nlet d = create.database(\"people\", \"pw\")\ns.enter(\"al\", d, person(\"al\", 41, address(76, \"St Andrews\")))\nlet e = commit()\nif e = nil do write \"saved'n\"\n",
         b"structure person(string name; int age; pntr home);\nstructure address(int number; string town);\nlet d = create.database(\"people\", \"pw\");\ns.enter(\"al\", d, person(\"al\", 41, address(76, \"St Andrews\")));\nlet e = commit();\nif e = nil do write \"saved'n\";\n",
@@ -116,10 +98,7 @@ const PRINTED: [(&[u8], &[u8]); 39] = [
         b"write \"abcde\"(2|3), \"abc\" < \"abd\"",
         b"write \"abcde\"(2|3), \"abc\" < \"abd\";\n",
     ),
-    (
-        b"write \"abc\"(3|2)",
-        b"write \"abc\"(3|2);\n",
-    ),
+    (b"write \"abc\"(3|2)", b"write \"abc\"(3|2);\n"),
     (
         b"while (repeat a while b) do c",
         b"while (repeat a while b) do c;\n",

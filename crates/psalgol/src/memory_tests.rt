@@ -41,16 +41,31 @@ fn refused_in_declarations(rt: HostRuntime) {
 
 #[test]
 fn refused_in_choices(rt: HostRuntime) {
-    let text = "let n := 2\nwhile n > 0 do { if n = 1 do write n; n := n - 1 }\nwrite if n = 0 or false then 7 else 8";
+    let text =
+        "let n := 2\nwhile n > 0 do { if n = 1 do write n; n := n - 1 }\nwrite if n = 0 or false then 7 else 8";
     assert!(rt; own_answer_or_five(rt.alloc(), text, "17", 0));
 }
 
 #[test]
 fn refused_before_a_trap(rt: HostRuntime) {
-    assert!(rt; own_answer_or_five(rt.alloc(), "write 1, 2147483647 * 2", "1trap 1 at line 1\n", 3));
+    assert!(rt;
+        own_answer_or_five(
+            rt.alloc(),
+            "write 1, 2147483647 * 2",
+            "1trap 1 at line 1\n",
+            3
+        )
+    );
 }
 
 #[test]
 fn refused_before_a_fault(rt: HostRuntime) {
-    assert!(rt; own_answer_or_five(rt.alloc(), "let a = 1\na := 2", "x.ps: check 4 at line 2\n", 2));
+    assert!(rt;
+        own_answer_or_five(
+            rt.alloc(),
+            "let a = 1\na := 2",
+            "x.ps: check 4 at line 2\n",
+            2
+        )
+    );
 }
