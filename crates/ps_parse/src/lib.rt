@@ -13,6 +13,3 @@ pub use fault::ParseFault;
 pub use laws::{fault_is_unique, tree_excludes_fault, tree_is_unique};
 pub use parser::parse;
 pub use rough::{Group, Named, Rough, RoughArm, RoughForm, RoughItem};
-
-#[cfg(test)]
-mod tests;

@@ -12,7 +12,5 @@ mod pending;
 mod piece;
 pub mod print;
 mod statements;
-#[cfg(test)]
-mod tests;
 mod types;
 mod writer;

@@ -1,7 +1,9 @@
+//! Programs and what each is printed as.
+
 ghost use Rattle.std.specs.Prelude.{◌≤◌, length};
 
-use crate::print::print;
 use ps_parse::parse;
+use ps_print::print::print;
 use ps_scan::{LONGEST_TEXT, scan};
 use std::alloc::Global;
 use std::test::Fail;

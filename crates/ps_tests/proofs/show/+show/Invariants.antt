@@ -1,6 +1,6 @@
 -- The depth that is left.
 use Rattle.std.proofs.Common.{◌+◌, ◌*◌}
-use Rattle.ps_parse.proofs.tests.+show.Given as goal
+use Rattle.ps_tests.proofs.show.+show.Given as goal
 
 abbrev pub decreases-show : goal.decreases-show
 decreases-show l = 10 * l.depth
