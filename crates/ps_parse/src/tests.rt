@@ -1,11 +1,13 @@
 ghost use Rattle.std.specs.Prelude.{◌≤◌, length};
 
-use crate::{Group, Named, ParseFault, Rough, RoughArm, RoughForm, RoughItem, parse};
+use crate::parse;
 use ps_base::bytes::Bytes;
 use ps_base::line::Line;
 use ps_base::operator::{Operator, Relation};
 use ps_base::ty::Ty;
 use ps_scan::{LONGEST_TEXT, scan};
+use ps_tree::fault::ParseFault;
+use ps_tree::rough::{Group, Named, Rough, RoughArm, RoughForm, RoughItem};
 use std::alloc::Global;
 use std::fmt::Write;
 use std::test::Fail;

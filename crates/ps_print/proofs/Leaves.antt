@@ -14,12 +14,12 @@ use Rattle.ps_scan.specs.Class.{inner_of, escaped}
 use Rattle.ps_scan.specs.Piece.{Quoted, Closes, StaysOpen, HasBadByte, HasBadEscape, spells, bytes_of, quoted, behind_apostrophe}
 use Rattle.ps_scan.specs.Tokens.{HasTokens, IsToken, IsSpelled, IsName, slice_of, int_value, spelled}
 use Rattle.ps_scan.proofs.Scanning.{all_tokens}
-use Rattle.ps_parse.specs.declared.kind.Kind.{Kind}
-use Rattle.ps_parse.specs.declared.kind.Kind.TheVariants as kind
-use Rattle.ps_parse.specs.declared.kind.TheConstants.{WORDS, MARKS}
-use Rattle.ps_parse.specs.declared.symbol.Symbol.{Symbol}
-use Rattle.ps_parse.specs.Kinds.{kind_of}
-use Rattle.ps_parse.specs.Symbols.{breaks, semicolon_behind, symbol, symbols, between, symbols_behind}
+use Rattle.ps_symbols.specs.declared.kind.Kind.{Kind}
+use Rattle.ps_symbols.specs.declared.kind.Kind.TheVariants as kind
+use Rattle.ps_symbols.specs.declared.kind.TheConstants.{WORDS, MARKS}
+use Rattle.ps_symbols.specs.declared.symbol.Symbol.{Symbol}
+use Rattle.ps_symbols.specs.Kinds.{kind_of}
+use Rattle.ps_symbols.specs.Symbols.{breaks, semicolon_behind, symbol, symbols, between, symbols_behind}
 use Rattle.ps_print.specs.Spellings.{can_be_spelled}
 
 -- a byte that a string spells can be spelled

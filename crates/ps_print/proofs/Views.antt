@@ -10,15 +10,15 @@ use Rattle.ps_base.specs.declared.ty.Ty.TheVariants as ty_code
 use Rattle.ps_base.specs.TyView.{TyView, TyViews, ty_view, ty_views_of, ty_views}
 use Rattle.ps_base.specs.TyView as ty
 use Rattle.ps_base.specs.declared.line.Line.{Line}
-use Rattle.ps_parse.specs.declared.rough.Rough.{Rough}
-use Rattle.ps_parse.specs.declared.rough.RoughArm.{RoughArm, out-RoughArm}
-use Rattle.ps_parse.specs.declared.rough.RoughItem.{RoughItem, out-RoughItem}
-use Rattle.ps_parse.specs.declared.rough.RoughForm.{RoughForm, roll-RoughForm, roll-out-RoughForm}
-use Rattle.ps_parse.specs.declared.rough.RoughForm.TheBlock.{struct-RoughArm, struct-RoughItem, None', Some', Row_of-Rough, end_of-Rough, more_of-Rough, items-the_row-Rough, items_hidden-the_row-Rough-0, items_shown-the_row-Rough-0, Row_of-RoughArm, end_of-RoughArm, more_of-RoughArm, items-the_row-RoughArm, items_hidden-the_row-RoughArm-1, Row_of-RoughItem, end_of-RoughItem, more_of-RoughItem, items-the_row-RoughItem, items_hidden-the_row-RoughItem-2}
-use Rattle.ps_parse.specs.declared.rough.RoughForm.TheVariants as code
-use Rattle.ps_parse.specs.Phrase.{Phrase, Phrases, more, at, form_of, phrases_of, phrase_of, Arm, arm, Arms, more_arms, arm_of, arms_of, WriteItem, WriteItems, more_items, item_of, items_written}
-use Rattle.ps_parse.specs.Phrase as form
-use Rattle.ps_parse.specs.PhraseLists.{phrases_in, arms_in, items_in}
+use Rattle.ps_tree.specs.declared.rough.Rough.{Rough}
+use Rattle.ps_tree.specs.declared.rough.RoughArm.{RoughArm, out-RoughArm}
+use Rattle.ps_tree.specs.declared.rough.RoughItem.{RoughItem, out-RoughItem}
+use Rattle.ps_tree.specs.declared.rough.RoughForm.{RoughForm, roll-RoughForm, roll-out-RoughForm}
+use Rattle.ps_tree.specs.declared.rough.RoughForm.TheBlock.{struct-RoughArm, struct-RoughItem, None', Some', Row_of-Rough, end_of-Rough, more_of-Rough, items-the_row-Rough, items_hidden-the_row-Rough-0, items_shown-the_row-Rough-0, Row_of-RoughArm, end_of-RoughArm, more_of-RoughArm, items-the_row-RoughArm, items_hidden-the_row-RoughArm-1, Row_of-RoughItem, end_of-RoughItem, more_of-RoughItem, items-the_row-RoughItem, items_hidden-the_row-RoughItem-2}
+use Rattle.ps_tree.specs.declared.rough.RoughForm.TheVariants as code
+use Rattle.ps_tree.specs.Phrase.{Phrase, Phrases, more, at, form_of, phrases_of, phrase_of, Arm, arm, Arms, more_arms, arm_of, arms_of, WriteItem, WriteItems, more_items, item_of, items_written}
+use Rattle.ps_tree.specs.Phrase as form
+use Rattle.ps_tree.specs.PhraseLists.{phrases_in, arms_in, items_in}
 use Rattle.ps_print.specs.Layout.{loosest, tightness, ends_open}
 use Rattle.ps_print.specs.Waiting.{is_empty_program}
 use mathlib.Core.Former.{Count}

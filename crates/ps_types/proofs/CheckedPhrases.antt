@@ -3,13 +3,13 @@ use Rattle.std.proofs.Common.{◌≡◌, ◌≤◌, ◌<◌, ◌-◌, ℕ, zero,
 use Rattle.ps_base.specs.List.{items_of}
 use Rattle.ps_base.specs.declared.list.List.{List as ListOf}
 use Rattle.ps_base.specs.declared.line.Line.{Line}
-use Rattle.ps_parse.specs.declared.rough.Rough.{Rough}
-use Rattle.ps_parse.specs.declared.rough.RoughItem.{RoughItem}
-use Rattle.ps_parse.specs.declared.rough.RoughForm.{RoughForm}
-use Rattle.ps_parse.specs.declared.rough.RoughForm.TheBlock.{Row_of-Rough, end_of-Rough, more_of-Rough, items-the_row-Rough, items_hidden-the_row-Rough-0, Row_of-RoughItem, end_of-RoughItem, more_of-RoughItem, items-the_row-RoughItem, items_hidden-the_row-RoughItem-2}
-use Rattle.ps_parse.specs.declared.rough.RoughForm.TheVariants as code
-use Rattle.ps_parse.specs.Phrase.{Phrases, more, WriteItems, more_items, at, Sequence, Write, form_of, phrases_of, phrase_of, items_written, item_of}
-use Rattle.ps_parse.specs.PhraseLists.{phrases_in, items_in}
+use Rattle.ps_tree.specs.declared.rough.Rough.{Rough}
+use Rattle.ps_tree.specs.declared.rough.RoughItem.{RoughItem}
+use Rattle.ps_tree.specs.declared.rough.RoughForm.{RoughForm}
+use Rattle.ps_tree.specs.declared.rough.RoughForm.TheBlock.{Row_of-Rough, end_of-Rough, more_of-Rough, items-the_row-Rough, items_hidden-the_row-Rough-0, Row_of-RoughItem, end_of-RoughItem, more_of-RoughItem, items-the_row-RoughItem, items_hidden-the_row-RoughItem-2}
+use Rattle.ps_tree.specs.declared.rough.RoughForm.TheVariants as code
+use Rattle.ps_tree.specs.Phrase.{Phrases, more, WriteItems, more_items, at, Sequence, Write, form_of, phrases_of, phrase_of, items_written, item_of}
+use Rattle.ps_tree.specs.PhraseLists.{phrases_in, items_in}
 use Rattle.ps_types.specs.Checking.{last_line}
 use Rattle.ps_types.specs.PhraseWeights.{weight, weight_all, weight_item, weight_written}
 use mathlib.Core.Former.{Count}

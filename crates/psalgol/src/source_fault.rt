@@ -2,7 +2,7 @@ ghost use Rattle.std.specs.Prelude.{◌≡◌};
 ghost use Rattle.psalgol.specs.Source.{stage_of, number_of, line_of_fault};
 
 use ps_base::line::Line;
-use ps_parse::ParseFault;
+use ps_tree::fault::ParseFault;
 use ps_scan::ScanFault;
 use ps_types::CheckFault;
 

@@ -1,7 +1,7 @@
 use Rattle.std.proofs.Common.{◌≡◌, ◌∙◌, ◌+◌, ap, sym, arith}
-use Rattle.ps_parse.specs.Phrase.{form_of}
-use Rattle.ps_parse.specs.Phrase as form
-use Rattle.ps_parse.specs.PhraseLists.{phrases_in, items_in}
+use Rattle.ps_tree.specs.Phrase.{form_of}
+use Rattle.ps_tree.specs.Phrase as form
+use Rattle.ps_tree.specs.PhraseLists.{phrases_in, items_in}
 use Rattle.ps_types.specs.Built.{unbuilt_in}
 use Rattle.ps_types.specs.PhraseWeights.{weight_form, weight_all, weight_written}
 use Rattle.ps_types.proofs.CheckedPhrases.{form_of-Sequence, form_of-Write}

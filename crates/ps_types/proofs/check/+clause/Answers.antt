@@ -3,11 +3,11 @@ use Rattle.std.specs.Prelude.{Ok, Err}
 use Rattle.std.proofs.lemmas.List.{drop_all}
 use Rattle.ps_base.specs.Node.{node_of, nodes_in}
 use Rattle.ps_base.specs.declared.basic_type.BasicType.TheVariants.{Int, Void}
-use Rattle.ps_parse.specs.declared.rough.Rough.{Rough}
-use Rattle.ps_parse.specs.declared.rough.RoughItem.{out-RoughItem}
-use Rattle.ps_parse.specs.Phrase.{named, phrase_of, form_of, item_of}
-use Rattle.ps_parse.specs.Phrase as form
-use Rattle.ps_parse.specs.PhraseLists.{phrases_in, items_in}
+use Rattle.ps_tree.specs.declared.rough.Rough.{Rough}
+use Rattle.ps_tree.specs.declared.rough.RoughItem.{out-RoughItem}
+use Rattle.ps_tree.specs.Phrase.{named, phrase_of, form_of, item_of}
+use Rattle.ps_tree.specs.Phrase as form
+use Rattle.ps_tree.specs.PhraseLists.{phrases_in, items_in}
 use Rattle.ps_types.specs.declared.clause.Clause.{Clause}
 use Rattle.ps_types.specs.declared.link.Joint.TheVariants.{Or, And, Arith}
 use Rattle.ps_types.specs.Names.{Names, inside}

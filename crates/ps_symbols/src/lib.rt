@@ -1,0 +1,5 @@
+//! Symbols: the tokens of a text as the grammar reads them, and what each kind of them stands for.
+#![tactic(auto)]
+
+pub mod kind;
+pub mod symbol;
