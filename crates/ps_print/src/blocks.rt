@@ -8,8 +8,8 @@ ghost use Rattle.ps_print.specs.Waiting.{waiting, gap_of, behind_of, Adds, AddsF
 
 use crate::pending::Pending;
 use crate::piece::{Behind, Gap, Piece, Spot, deeper};
-use ps_tree::rough::Rough;
 use ps_scan::mark;
+use ps_tree::rough::Rough;
 use std::alloc::AllocError;
 
 /// The items of a program, which stand without braces.

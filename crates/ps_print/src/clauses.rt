@@ -9,8 +9,8 @@ ghost use Rattle.ps_print.specs.Waiting.{waiting, gap_of, behind_of, tightness_o
 use crate::operators::left_of;
 use crate::pending::Pending;
 use crate::piece::{Behind, Gap, Piece, Spot, Tightness};
-use ps_tree::rough::{Rough, RoughForm, RoughItem};
 use ps_scan::mark;
+use ps_tree::rough::{Rough, RoughForm, RoughItem};
 use std::alloc::AllocError;
 
 /// A clause; what would take what stands behind it stands in brackets.

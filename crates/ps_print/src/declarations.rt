@@ -10,8 +10,8 @@ ghost use Rattle.ps_print.specs.Waiting.{waiting, Adds, AddsForm, let_lexemes, p
 use crate::pending::Pending;
 use crate::piece::{Gap, Piece, Spot};
 use ps_base::ty::Ty;
-use ps_tree::rough::{Group, Named, Rough, RoughForm};
 use ps_scan::{mark, word};
+use ps_tree::rough::{Group, Named, Rough, RoughForm};
 use std::alloc::AllocError;
 
 pub(crate) fn put_let<'a>(

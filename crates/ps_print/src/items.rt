@@ -9,8 +9,8 @@ ghost use Rattle.ps_print.specs.Waiting.{waiting, gap_of, behind_of, Adds};
 
 use crate::pending::Pending;
 use crate::piece::{Behind, Gap, Piece, Spot};
-use ps_tree::rough::{Rough, RoughArm, RoughItem};
 use ps_scan::mark;
+use ps_tree::rough::{Rough, RoughArm, RoughItem};
 use std::alloc::AllocError;
 
 // The arms of a `case`, each on a line of its own.

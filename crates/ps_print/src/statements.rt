@@ -6,8 +6,8 @@ ghost use Rattle.ps_print.specs.Waiting.{waiting, AddsForm};
 
 use crate::pending::Pending;
 use crate::piece::{Behind, Gap, Piece, Spot, Tightness, deeper};
-use ps_tree::rough::{Named, Rough, RoughArm, RoughItem};
 use ps_scan::{mark, word};
+use ps_tree::rough::{Named, Rough, RoughArm, RoughItem};
 use std::alloc::AllocError;
 
 pub(crate) fn put_if_do<'a>(

@@ -10,8 +10,8 @@ ghost use Rattle.ps_print.specs.Waiting.{waiting, gap_of, Adds};
 use crate::pending::Pending;
 use crate::piece::{Gap, Piece};
 use ps_base::ty::Ty;
-use ps_tree::rough::Group;
 use ps_scan::{mark, word};
+use ps_tree::rough::Group;
 use std::alloc::AllocError;
 
 pub(crate) fn put_type<'a>(

@@ -21,7 +21,8 @@ use Rattle.ps_symbols.specs.declared.kind.Start.{Start}
 use Rattle.ps_symbols.specs.declared.kind.Start.TheVariants as start
 use Rattle.ps_symbols.specs.declared.kind.TypeStart.{TypeStart}
 use Rattle.ps_symbols.specs.declared.kind.TypeStart.TheVariants as typed
-use Rattle.ps_symbols.specs.declared.kind.TheConstants.{WORDS, MARKS, ENDING_WORDS, ENDING_MARKS, CONTINUING_WORDS, CONTINUING_MARKS}
+use Rattle.ps_symbols.specs.declared.kind.TheConstants.{WORDS, MARKS}
+use Rattle.ps_symbols.specs.declared.newline.TheConstants.{ENDING_WORDS, ENDING_MARKS, CONTINUING_WORDS, CONTINUING_MARKS}
 
 -- the kind of a token: a word's and a mark's stands in its place
 abbrev pub kind_of : TokenKind → Kind

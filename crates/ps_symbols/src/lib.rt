@@ -2,4 +2,5 @@
 #![tactic(auto)]
 
 pub mod kind;
+pub mod newline;
 pub mod symbol;

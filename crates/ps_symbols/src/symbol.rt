@@ -1,7 +1,8 @@
 ghost use Rattle.std.specs.Prelude.{◌≡◌, ◌^◌, ◌<◌, ◌++◌, ◌∷◌, [], length, IfOk, OnOk};
 ghost use Rattle.ps_symbols.specs.Symbols.{breaks, between, semicolon_behind, symbol, symbols};
 
-use crate::kind::{Kind, can_continue, can_end, kind_of};
+use crate::kind::{Kind, kind_of};
+use crate::newline::{can_continue, can_end};
 use ps_scan::{Token, TokenKind, mark};
 use std::alloc::{AllocError, Global};
 

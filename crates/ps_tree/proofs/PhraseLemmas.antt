@@ -20,7 +20,7 @@ use Rattle.ps_tree.specs.PhraseLists.{phrases_in, arms_in, items_in, maybe_in}
 use Rattle.ps_tree.specs.Composing.{and_then, and_arm, and_item, and_type}
 use mathlib.Core.Former.{Count}
 
-rows : (n : _) (row : Row_of-Rough n) → phrases_of row ≡ phrases_in (items-the_row-Rough n row)
+pub rows : (n : _) (row : Row_of-Rough n) → phrases_of row ≡ phrases_in (items-the_row-Rough n row)
 rows n end_of-Rough = refl
 rows n (more_of-Rough f line rest) = ap (λ (ps : Phrases). more (at (form_of f) line) ps) (rows _ rest)
 

@@ -1,4 +1,4 @@
-ghost use Rattle.std.specs.Prelude.{◌≡◌, IfOk, IfErr, Some, option_map};
+ghost use Rattle.std.specs.Prelude.{◌≡◌, IfOk, IfErr};
 ghost use Rattle.ps_base.specs.TyView.{ty_view, ty_views};
 ghost use Rattle.ps_base.specs.TyView as view;
 ghost use Rattle.ps_tree.specs.declared.fault.ParseFault.TheVariants.{Memory};
@@ -7,6 +7,7 @@ ghost use Rattle.ps_tree.specs.Phrase as form;
 ghost use Rattle.ps_tree.specs.PhraseLists.{phrases_in, arms_in, items_in, maybe_in};
 ghost use Rattle.ps_tree.specs.Composing.{joined};
 
+use crate::boxes::{boxed, boxed_if_any};
 use crate::fault::ParseFault;
 use crate::rough::{Group, Named, Rough, RoughArm, RoughForm, RoughItem};
 use ps_base::line::Line;
@@ -15,36 +16,6 @@ use ps_base::operator::Relation;
 use ps_base::ty::{self, Ty};
 use ps_symbols::kind::Operation;
 use std::alloc::Global;
-
-fn boxed<T: Drop>(alloc: Global, one: T) -> Result<Box<T>, ParseFault>
-    ensures made { IfOk result (λ made. made.value ≡ one) }
-    ensures fault { IfErr result (λ fault. fault ≡ Memory) }
-{
-    match Box::new(alloc, one) {
-        Ok(made) => Ok(made),
-        Err(_) => Err(ParseFault::Memory),
-    }
-}
-
-fn boxed_if_any(alloc: Global, clause: Option<Rough>) -> Result<Option<Box<Rough>>, ParseFault>
-    ensures made { IfOk result (λ made. option_map (λ b. b.value) made ≡ clause) }
-    ensures fault { IfErr result (λ fault. fault ≡ Memory) }
-{
-    match clause {
-        Some(clause) => some_boxed(alloc, clause),
-        None => Ok(None),
-    }
-}
-
-fn some_boxed(alloc: Global, clause: Rough) -> Result<Option<Box<Rough>>, ParseFault>
-    ensures made { IfOk result (λ made. option_map (λ b. b.value) made ≡ Some clause) }
-    ensures fault { IfErr result (λ fault. fault ≡ Memory) }
-{
-    match Box::new(alloc, clause) {
-        Ok(made) => Ok(Some(made)),
-        Err(_) => Err(ParseFault::Memory),
-    }
-}
 
 /// The type of vectors of these elements.
 pub fn vector_type(alloc: Global, element: Ty) -> Result<Ty, ParseFault>

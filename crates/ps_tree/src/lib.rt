@@ -2,6 +2,7 @@
 //! has none.
 #![tactic(auto)]
 
+mod boxes;
 pub mod build;
 pub mod fault;
 pub mod rough;
