@@ -2,17 +2,17 @@
 use Rattle.std.proofs.Common.{◌≡◌, ℕ, suc, ◌+◌, List, [], ◌∷◌, ◌++◌, Bool, false, Option, Some, None, slice_get, refl, ap, ◌∙◌, arith}
 use Rattle.ps_base.specs.TyView.{TyView, TyViews}
 use Rattle.ps_base.specs.declared.line.Line.{Line}
-use Rattle.ps_parse.specs.declared.kind.Kind.{Kind}
-use Rattle.ps_parse.specs.declared.kind.Kind.TheVariants as kind
-use Rattle.ps_parse.specs.declared.kind.Kind.TheVariants.{Int, Do}
-use Rattle.ps_parse.specs.declared.kind.Level.{Level}
-use Rattle.ps_parse.specs.declared.kind.Level.TheVariants.{Disjunction, Conjunction, Sum, Product}
-use Rattle.ps_parse.specs.declared.kind.Operation.{Operation}
-use Rattle.ps_parse.specs.declared.kind.Relating.{Relating}
-use Rattle.ps_parse.specs.declared.symbol.Symbol.{Symbol}
-use Rattle.ps_parse.specs.Kinds.{operation_of, relating_of, begins_item}
-use Rattle.ps_parse.specs.Phrase.{GroupAt, Phrase, Phrases, Arms, WriteItems}
-use Rattle.ps_parse.specs.Phrase as form
+use Rattle.ps_symbols.specs.declared.kind.Kind.{Kind}
+use Rattle.ps_symbols.specs.declared.kind.Kind.TheVariants as kind
+use Rattle.ps_symbols.specs.declared.kind.Kind.TheVariants.{Int, Do}
+use Rattle.ps_symbols.specs.declared.kind.Level.{Level}
+use Rattle.ps_symbols.specs.declared.kind.Level.TheVariants.{Disjunction, Conjunction, Sum, Product}
+use Rattle.ps_symbols.specs.declared.kind.Operation.{Operation}
+use Rattle.ps_symbols.specs.declared.kind.Relating.{Relating}
+use Rattle.ps_symbols.specs.declared.symbol.Symbol.{Symbol}
+use Rattle.ps_symbols.specs.Kinds.{operation_of, relating_of, begins_item}
+use Rattle.ps_tree.specs.Phrase.{GroupAt, Phrase, Phrases, Arms, WriteItems}
+use Rattle.ps_tree.specs.Phrase as form
 use Rattle.ps_parse.specs.Grammar.{Made, a_clause, Part, Nested, a_clause_inside, a_type_inside, Rule, Give, Take, Go, Open, Then, Clause, Type_, Program, Ending, Ended, Items, MoreItems, Item, Binding, Literal, Parameters, Groups, MoreGroups, NextGroup, Result, ParameterTypes, MoreTypes, Choice, Until, Test, Between, Step, Body, Cases, Labels, Written, Width, MoreWritten, Assignment, Chain, MoreChain, Relative, Compared, Comparison, Factor, Application, Applied, Arguments, SecondArgument, MoreArguments, Primary, MoreElements, give, inside, row, items, items_end, more_written, assignment, more_chain, comparison, applied}
 use Rattle.ps_parse.specs.Reading.{kind_at, kind_of_next, Reads, gives, takes, goes, opens, joins}
 use Rattle.ps_parse.proofs.Unique.{reads_from}

@@ -5,21 +5,21 @@ use Rattle.std.proofs.lemmas.List.{length-take-le}
 use Rattle.ps_base.specs.declared.line.Line.{Line}
 use Rattle.ps_scan.specs.Tokens.{line_of}
 use Rattle.ps_scan.specs.declared.token.TokenKind.TheVariants as scanned
-use Rattle.ps_parse.specs.declared.kind.Kind.{Kind}
-use Rattle.ps_parse.specs.declared.kind.Kind.TheVariants as kind
-use Rattle.ps_parse.specs.declared.kind.Kind.TheVariants.{Int, EndOfText}
-use Rattle.ps_parse.specs.declared.kind.Level.{Level}
-use Rattle.ps_parse.specs.declared.kind.Level.TheVariants.{Disjunction, Conjunction, Sum, Product}
-use Rattle.ps_parse.specs.declared.kind.Opening.{Opening}
-use Rattle.ps_parse.specs.declared.kind.Opening.TheVariants as opening
-use Rattle.ps_parse.specs.declared.kind.Operation.{Operation}
-use Rattle.ps_parse.specs.declared.kind.Relating.{Relating}
-use Rattle.ps_parse.specs.declared.kind.Relating.TheVariants.{Compares, IsOf}
-use Rattle.ps_parse.specs.declared.kind.TypeStart.{TypeStart}
-use Rattle.ps_parse.specs.declared.kind.TypeStart.TheVariants as typed
-use Rattle.ps_parse.specs.declared.symbol.Symbol.{Symbol}
-use Rattle.ps_parse.specs.Kinds.{operation_of, relating_of, begins_item, begins_type, opening_of, type_start_of}
-use Rattle.ps_parse.specs.Phrase.{Phrase, Phrases}
+use Rattle.ps_symbols.specs.declared.kind.Kind.{Kind}
+use Rattle.ps_symbols.specs.declared.kind.Kind.TheVariants as kind
+use Rattle.ps_symbols.specs.declared.kind.Kind.TheVariants.{Int, EndOfText}
+use Rattle.ps_symbols.specs.declared.kind.Level.{Level}
+use Rattle.ps_symbols.specs.declared.kind.Level.TheVariants.{Disjunction, Conjunction, Sum, Product}
+use Rattle.ps_symbols.specs.declared.kind.Opening.{Opening}
+use Rattle.ps_symbols.specs.declared.kind.Opening.TheVariants as opening
+use Rattle.ps_symbols.specs.declared.kind.Operation.{Operation}
+use Rattle.ps_symbols.specs.declared.kind.Relating.{Relating}
+use Rattle.ps_symbols.specs.declared.kind.Relating.TheVariants.{Compares, IsOf}
+use Rattle.ps_symbols.specs.declared.kind.TypeStart.{TypeStart}
+use Rattle.ps_symbols.specs.declared.kind.TypeStart.TheVariants as typed
+use Rattle.ps_symbols.specs.declared.symbol.Symbol.{Symbol}
+use Rattle.ps_symbols.specs.Kinds.{operation_of, relating_of, begins_item, begins_type, opening_of, type_start_of}
+use Rattle.ps_tree.specs.Phrase.{Phrase, Phrases}
 use Rattle.ps_parse.specs.Grammar.{Made, a_clause, the_clause, Part, Nested, a_clause_inside, a_type_inside, Rule, Give, Take, Go, Open, Then, Clause, Program, Ending, Ended, Items, MoreItems, Item, Binding, Literal, Parameters, Groups, MoreGroups, NextGroup, Result, ParameterTypes, MoreTypes, Choice, Until, Test, Between, Step, Body, Cases, Labels, Written, Width, MoreWritten, Assignment, Chain, MoreChain, Relative, Compared, Comparison, Factor, Application, Applied, Arguments, SecondArgument, MoreArguments, Primary, MoreElements, inside, row, ending, ended, items, parameters, parameter_types, more_chain, comparison, opened, typed_as}
 use Rattle.ps_parse.specs.Program.{BeginsProgram}
 use Rattle.ps_parse.specs.Reading.{kind_at, kind_of_next, Reads, gives, takes, goes, opens, joins}

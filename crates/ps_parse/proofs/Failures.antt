@@ -1,9 +1,9 @@
 -- Where a reading fails: the fault of `Stops` with the place of its symbol.
 use Rattle.std.proofs.Common.{◌≡◌, ◌≢◌, ℕ, suc, ◌+◌, List, Bool, true, false, Some, None, slice_get, sym, subst, ap}
-use Rattle.ps_parse.specs.declared.fault.ParseFault.{ParseFault}
-use Rattle.ps_parse.specs.declared.fault.ParseFault.TheVariants.{TooNested, Memory}
-use Rattle.ps_parse.specs.declared.kind.Kind.{Kind}
-use Rattle.ps_parse.specs.declared.symbol.Symbol.{Symbol}
+use Rattle.ps_tree.specs.declared.fault.ParseFault.{ParseFault}
+use Rattle.ps_tree.specs.declared.fault.ParseFault.TheVariants.{TooNested, Memory}
+use Rattle.ps_symbols.specs.declared.kind.Kind.{Kind}
+use Rattle.ps_symbols.specs.declared.symbol.Symbol.{Symbol}
 use Rattle.ps_parse.specs.Grammar.{Made, Part, Nested, Rule, Take, Go, Open, Then, inside, row}
 use Rattle.ps_parse.specs.Program.{unexpected}
 use Rattle.ps_parse.specs.Reading.{kind_at, Reads, gives, takes, goes, opens, joins, Opens}

@@ -5,15 +5,15 @@ use Rattle.std.proofs.lemmas.List.{take-append-drop, take-take, append_assoc}
 use Rattle.std.proofs.lemmas.Bool.{cases_order}
 use Rattle.std.proofs.Math.Nat.{eq-or-lt_of_le}
 use Rattle.ps_scan.specs.declared.token.Token.{Token}
-use Rattle.ps_parse.specs.declared.fault.ParseFault.{ParseFault}
-use Rattle.ps_parse.specs.declared.fault.ParseFault.TheVariants.{TooNested, Memory}
-use Rattle.ps_parse.specs.declared.symbol.Symbol.{Symbol}
-use Rattle.ps_parse.specs.Phrase.{Phrase}
+use Rattle.ps_tree.specs.declared.fault.ParseFault.{ParseFault}
+use Rattle.ps_tree.specs.declared.fault.ParseFault.TheVariants.{TooNested, Memory}
+use Rattle.ps_symbols.specs.declared.symbol.Symbol.{Symbol}
+use Rattle.ps_tree.specs.Phrase.{Phrase}
 use Rattle.ps_parse.specs.Grammar.{Made, a_clause, Rule, Go, Program}
 use Rattle.ps_parse.specs.Program.{BeginsProgram, ReadsAs, IsTooDeep, IsUnexpected, IsTooNested, IsParseFault, unexpected_at, too_nested_at, unexpected}
 use Rattle.ps_parse.specs.Reading.{Reads, takes, goes, opens, joins, Opens}
 use Rattle.ps_parse.specs.Stopping.{Stops}
-use Rattle.ps_parse.specs.Symbols.{symbols as read_as}
+use Rattle.ps_symbols.specs.Symbols.{symbols as read_as}
 use Rattle.ps_parse.proofs.Unique.{unique, some_same, reads_as, reads_from}
 use Rattle.ps_parse.proofs.Failures.{Fails, IsFaultAt, fails_of, unread, no_deeper, opens_as, opens_from}
 use Rattle.ps_parse.proofs.Prefixes.{forward, fails_within, no_continuation}

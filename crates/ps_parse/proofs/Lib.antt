@@ -1,11 +1,8 @@
 pub mod Closings
 pub mod Completions
-pub mod Examples
 pub mod Failures
 pub mod Faults
-pub mod PhraseLemmas
 pub mod Prefixes
 pub mod Rows
 pub mod Steps
-pub mod SymbolLemmas
 pub mod Unique

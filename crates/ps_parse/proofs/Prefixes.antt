@@ -1,13 +1,13 @@
 -- A reading looks at no symbol behind the one at its end, and a failure at none behind its place.
 use Rattle.std.proofs.Common.{◌≡◌, ◌≢◌, ℕ, zero, suc, ◌+◌, ◌<◌, ◌≤◌, List, [], ◌∷◌, ◌++◌, Bool, false, Option, length, take, slice_get, refl, sym, ap, ◌∙◌, arith}
 use Rattle.std.proofs.lemmas.Option.{slice_get_within}
-use Rattle.ps_parse.specs.declared.symbol.Symbol.{Symbol}
+use Rattle.ps_symbols.specs.declared.symbol.Symbol.{Symbol}
 use Rattle.ps_parse.specs.Grammar.{Made, Part, Nested, Rule, Go, Program, inside, row}
 use Rattle.ps_parse.specs.Program.{BeginsProgram, unexpected}
 use Rattle.ps_parse.specs.Reading.{kind_at, kind_of_next, Reads, gives, takes, goes, opens, joins}
 use Rattle.ps_parse.specs.Stopping.{Stops}
-use Rattle.ps_parse.specs.declared.fault.ParseFault.{ParseFault}
-use Rattle.ps_parse.specs.declared.fault.ParseFault.TheVariants.{TooNested, Memory}
+use Rattle.ps_tree.specs.declared.fault.ParseFault.{ParseFault}
+use Rattle.ps_tree.specs.declared.fault.ParseFault.TheVariants.{TooNested, Memory}
 use Rattle.ps_parse.proofs.Unique.{some_same}
 use Rattle.ps_parse.proofs.Failures.{Fails, IsFaultAt, fails_of, unread}
 

@@ -4,30 +4,31 @@ use Rattle.ps_base.specs.TyView.{TyView, TyViews, ty_view, ty_views}
 use Rattle.ps_base.specs.TyView as ty
 use Rattle.ps_base.specs.declared.line.Line.{Line}
 use Rattle.ps_base.specs.declared.ty.Ty.{Ty}
-use Rattle.ps_parse.specs.declared.fault.ParseFault.{ParseFault}
-use Rattle.ps_parse.specs.declared.fault.ParseFault.TheVariants.{TooNested, Memory}
-use Rattle.ps_parse.specs.declared.kind.Kind.{Kind}
-use Rattle.ps_parse.specs.declared.kind.Kind.TheVariants as kind
-use Rattle.ps_parse.specs.declared.kind.Level.{Level}
-use Rattle.ps_parse.specs.declared.kind.Operation.{Operation}
-use Rattle.ps_parse.specs.declared.kind.Opening.{Opening}
-use Rattle.ps_parse.specs.declared.kind.Relating.{Relating}
-use Rattle.ps_parse.specs.declared.kind.TypeStart.{TypeStart}
-use Rattle.ps_parse.specs.declared.rough.Group.{Group}
-use Rattle.ps_parse.specs.declared.rough.Rough.{Rough}
-use Rattle.ps_parse.specs.declared.rough.RoughArm.{RoughArm}
-use Rattle.ps_parse.specs.declared.rough.RoughItem.{RoughItem}
-use Rattle.ps_parse.specs.declared.symbol.Symbol.{Symbol}
-use Rattle.ps_parse.specs.Kinds.{operation_of, relating_of, begins_item, begins_type, opening_of, type_start_of}
-use Rattle.ps_parse.specs.Phrase.{Phrase, Phrases, none, more, MaybePhrase, absent, Arms, no_arms, Arm, WriteItem, WriteItems, no_items, more_items, item, GroupAt, NameAt, at, phrase_of, item_of, arm_of, group_of, groups_in}
-use Rattle.ps_parse.specs.Phrase as form
-use Rattle.ps_parse.specs.PhraseLists.{phrases_in, arms_in, items_in}
-use Rattle.ps_parse.specs.Grammar.{Application, Body, Cases, Clause, Compared, Comparison, Give, Go, Groups, Items, Made, MoreArguments, MoreChain, Nested, NextGroup, Open, ParameterTypes, Parameters, Part, Rule, SecondArgument, Test, Type_, a_clause, a_clause_inside, a_type, a_type_inside, all_groups, all_types, an_item, and_arm, and_item, and_then, and_type, applied, arguments, assignment, between, binding, cases, choice, comparison, ended, ending, factor, give, inside, items, items_end, labels, line_in, more_arguments, more_chain, more_elements, more_groups, more_types, more_written, named_group, next_group, one_item, opened, parameter_types, parameters, relative, result, row, second_argument, skip, step, typed_as, until, width, with_clause}
+use Rattle.ps_tree.specs.declared.fault.ParseFault.{ParseFault}
+use Rattle.ps_tree.specs.declared.fault.ParseFault.TheVariants.{TooNested, Memory}
+use Rattle.ps_symbols.specs.declared.kind.Kind.{Kind}
+use Rattle.ps_symbols.specs.declared.kind.Kind.TheVariants as kind
+use Rattle.ps_symbols.specs.declared.kind.Level.{Level}
+use Rattle.ps_symbols.specs.declared.kind.Operation.{Operation}
+use Rattle.ps_symbols.specs.declared.kind.Opening.{Opening}
+use Rattle.ps_symbols.specs.declared.kind.Relating.{Relating}
+use Rattle.ps_symbols.specs.declared.kind.TypeStart.{TypeStart}
+use Rattle.ps_tree.specs.declared.rough.Group.{Group}
+use Rattle.ps_tree.specs.declared.rough.Rough.{Rough}
+use Rattle.ps_tree.specs.declared.rough.RoughArm.{RoughArm}
+use Rattle.ps_tree.specs.declared.rough.RoughItem.{RoughItem}
+use Rattle.ps_symbols.specs.declared.symbol.Symbol.{Symbol}
+use Rattle.ps_symbols.specs.Kinds.{operation_of, relating_of, begins_item, begins_type, opening_of, type_start_of}
+use Rattle.ps_tree.specs.Phrase.{Phrase, Phrases, none, more, MaybePhrase, absent, Arms, no_arms, Arm, WriteItem, WriteItems, no_items, more_items, item, GroupAt, NameAt, at, phrase_of, item_of, arm_of, group_of, groups_in}
+use Rattle.ps_tree.specs.Phrase as form
+use Rattle.ps_tree.specs.PhraseLists.{phrases_in, arms_in, items_in}
+use Rattle.ps_tree.specs.Composing.{and_arm, and_item, and_then, and_type}
+use Rattle.ps_parse.specs.Grammar.{Application, Body, Cases, Clause, Compared, Comparison, Give, Go, Groups, Items, Made, MoreArguments, MoreChain, Nested, NextGroup, Open, ParameterTypes, Parameters, Part, Rule, SecondArgument, Test, Type_, a_clause, a_clause_inside, a_type, a_type_inside, all_groups, all_types, an_item, applied, arguments, assignment, between, binding, cases, choice, comparison, ended, ending, factor, give, inside, items, items_end, labels, line_in, more_arguments, more_chain, more_elements, more_groups, more_types, more_written, named_group, next_group, one_item, opened, parameter_types, parameters, relative, result, row, second_argument, skip, step, typed_as, until, width, with_clause}
 use Rattle.ps_parse.specs.Reading.{kind_at, kind_of_next, Reads}
 use Rattle.ps_parse.specs.Parsing.{an_arm, behind_labels}
 use Rattle.ps_parse.specs.Stopping.{Stops, Leads}
 use Rattle.ps_parse.specs.Program.{unexpected}
-use Rattle.ps_parse.proofs.PhraseLemmas.{phrases_in-append, arms_in-append, items_in-append, ty_views-append, groups_in-append}
+use Rattle.ps_tree.proofs.PhraseLemmas.{phrases_in-append, arms_in-append, items_in-append, ty_views-append, groups_in-append}
 use Rattle.ps_parse.proofs.Steps.{gives_at, leads_go, leads_first, leads_on, leads_same}
 
 -- where the kinds that a part asks for aren't there

@@ -1,8 +1,8 @@
 -- The steps of a reading, in the form that the parser's proofs use: places and trees by equations.
 use Rattle.std.proofs.Common.{◌≡◌, ℕ, ◌+◌, List, Some, slice_get, sym, subst}
-use Rattle.ps_parse.specs.declared.fault.ParseFault.{ParseFault}
-use Rattle.ps_parse.specs.declared.kind.Kind.{Kind}
-use Rattle.ps_parse.specs.declared.symbol.Symbol.{Symbol}
+use Rattle.ps_tree.specs.declared.fault.ParseFault.{ParseFault}
+use Rattle.ps_symbols.specs.declared.kind.Kind.{Kind}
+use Rattle.ps_symbols.specs.declared.symbol.Symbol.{Symbol}
 use Rattle.ps_parse.specs.Grammar.{Made, Part, Rule, Give, Take, Go, Then, row}
 use Rattle.ps_parse.specs.Reading.{kind_at, Reads}
 use Rattle.ps_parse.specs.Stopping.{Stops, Leads}

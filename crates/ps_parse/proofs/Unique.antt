@@ -1,8 +1,8 @@
 -- A text is read in one way.
 use Rattle.std.proofs.Common.{◌≡◌, ℕ, List, Option, Some, refl, sym, subst, ap}
 use Rattle.ps_scan.specs.declared.token.Token.{Token}
-use Rattle.ps_parse.specs.declared.symbol.Symbol.{Symbol}
-use Rattle.ps_parse.specs.Phrase.{Phrase}
+use Rattle.ps_symbols.specs.declared.symbol.Symbol.{Symbol}
+use Rattle.ps_tree.specs.Phrase.{Phrase}
 use Rattle.ps_parse.specs.Grammar.{Made, the_clause, Rule}
 use Rattle.ps_parse.specs.Reading.{Reads, gives, takes, goes, opens, joins}
 use Rattle.ps_parse.specs.Program.{ReadsAs}

@@ -5,24 +5,24 @@ use Rattle.ps_base.specs.TyView.{TyView, TyViews}
 use Rattle.ps_base.specs.TyView as ty
 use Rattle.ps_base.specs.declared.line.Line.{Line}
 use Rattle.ps_scan.specs.Tokens.{slice_of, int_value, spelled, line_of}
-use Rattle.ps_parse.specs.declared.kind.Kind.{Kind}
-use Rattle.ps_parse.specs.declared.kind.Kind.TheVariants as kind
-use Rattle.ps_parse.specs.declared.kind.Level.{Level}
-use Rattle.ps_parse.specs.declared.kind.Level.TheVariants.{Disjunction, Conjunction, Sum, Product}
-use Rattle.ps_parse.specs.declared.kind.Operation.{Operation}
-use Rattle.ps_parse.specs.declared.kind.Operation.TheVariants as operation
-use Rattle.ps_parse.specs.declared.kind.Opening.{Opening}
-use Rattle.ps_parse.specs.declared.kind.Opening.TheVariants as opening
-use Rattle.ps_parse.specs.declared.kind.Relating.{Relating}
-use Rattle.ps_parse.specs.declared.kind.Relating.TheVariants.{Compares, IsOf}
-use Rattle.ps_parse.specs.declared.kind.Start.{Start}
-use Rattle.ps_parse.specs.declared.kind.Start.TheVariants as start
-use Rattle.ps_parse.specs.declared.kind.TypeStart.{TypeStart}
-use Rattle.ps_parse.specs.declared.kind.TypeStart.TheVariants as typed
-use Rattle.ps_parse.specs.declared.symbol.Symbol.{Symbol}
-use Rattle.ps_parse.specs.Kinds.{operation_of, relating_of, begins_item, begins_type, opening_of, start_of, type_start_of}
-use Rattle.ps_parse.specs.Phrase.{NameAt, GroupAt, Phrase, at, Phrases, none, more, MaybePhrase, absent, present, Arms, no_arms, more_arms, arm, WriteItem, item, WriteItems, no_items, more_items}
-use Rattle.ps_parse.specs.Phrase as form
+use Rattle.ps_symbols.specs.declared.kind.Kind.{Kind}
+use Rattle.ps_symbols.specs.declared.kind.Kind.TheVariants as kind
+use Rattle.ps_symbols.specs.declared.kind.Level.{Level}
+use Rattle.ps_symbols.specs.declared.kind.Level.TheVariants.{Disjunction, Conjunction, Sum, Product}
+use Rattle.ps_symbols.specs.declared.kind.Operation.{Operation}
+use Rattle.ps_symbols.specs.declared.kind.Opening.{Opening}
+use Rattle.ps_symbols.specs.declared.kind.Opening.TheVariants as opening
+use Rattle.ps_symbols.specs.declared.kind.Relating.{Relating}
+use Rattle.ps_symbols.specs.declared.kind.Relating.TheVariants.{Compares, IsOf}
+use Rattle.ps_symbols.specs.declared.kind.Start.{Start}
+use Rattle.ps_symbols.specs.declared.kind.Start.TheVariants as start
+use Rattle.ps_symbols.specs.declared.kind.TypeStart.{TypeStart}
+use Rattle.ps_symbols.specs.declared.kind.TypeStart.TheVariants as typed
+use Rattle.ps_symbols.specs.declared.symbol.Symbol.{Symbol}
+use Rattle.ps_symbols.specs.Kinds.{operation_of, relating_of, begins_item, begins_type, opening_of, start_of, type_start_of}
+use Rattle.ps_tree.specs.Phrase.{NameAt, GroupAt, Phrase, at, Phrases, none, more, MaybePhrase, absent, present, Arms, no_arms, arm, WriteItem, item, WriteItems, no_items, more_items}
+use Rattle.ps_tree.specs.Phrase as form
+use Rattle.ps_tree.specs.Composing.{and_then, and_arm, and_item, and_type, joined}
 
 -- what a part is read as: a clause, a type, the types or the groups between round brackets, or an
 -- item of a `write`
@@ -133,23 +133,6 @@ with_type next = type_of Type_ next
 -- the clause is there: its form and its line
 abbrev pub give : form.Form → Line → Rule
 give f line = Give (a_clause (at f line))
-
--- one more
-abbrev pub and_then : Phrases → Phrase → Phrases
-and_then none last = more last none
-and_then (more first rest) last = more first (and_then rest last)
-
-abbrev pub and_arm : Arms → form.Arm → Arms
-and_arm no_arms last = more_arms last no_arms
-and_arm (more_arms first rest) last = more_arms first (and_arm rest last)
-
-abbrev pub and_item : WriteItems → WriteItem → WriteItems
-and_item no_items last = more_items last no_items
-and_item (more_items first rest) last = more_items first (and_item rest last)
-
-abbrev pub and_type : TyViews → TyView → TyViews
-and_type ty.none last = ty.more last ty.none
-and_type (ty.more first rest) last = ty.more first (and_type rest last)
 
 abbrev pub line_at : Symbol → Line
 line_at symbol = symbol.token.line
@@ -371,12 +354,6 @@ operand Disjunction = Chain Conjunction
 operand Conjunction = Relative
 operand Sum = Chain Product
 operand Product = Factor
-
-abbrev pub joined : Operation → Phrase → Phrase → Line → Phrase
-joined operation.Or a b line = at (form.Or a b) line
-joined operation.And a b line = at (form.And a b) line
-joined operation.Join a b line = at (form.Join a b) line
-joined (operation.Arith op) a b line = at (form.Arith op a b) line
 
 abbrev pub more_chain : Level → Phrase → Kind → Option Operation → Rule
 more_chain level left kind (Some operation) = Take kind (λ mark. clause_of (Go (operand level)) (λ right. Go (MoreChain level (joined operation left right (line_at mark)))))

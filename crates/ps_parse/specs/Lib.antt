@@ -1,11 +1,5 @@
-pub mod Fault
 pub mod Grammar
-pub mod Kinds
 pub mod Parsing
-pub mod Phrase
-pub mod PhraseLists
 pub mod Program
 pub mod Reading
-pub mod Soundness
 pub mod Stopping
-pub mod Symbols

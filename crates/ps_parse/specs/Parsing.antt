@@ -5,14 +5,15 @@ use Rattle.ps_base.specs.TyView.{ty_view}
 use Rattle.ps_base.specs.declared.line.Line.{Line}
 use Rattle.ps_base.specs.declared.ty.Ty.{Ty}
 use Rattle.ps_scan.specs.declared.piece.TheConstants.{LONGEST_TEXT}
-use Rattle.ps_parse.specs.declared.fault.ParseFault.{ParseFault}
+use Rattle.ps_tree.specs.declared.fault.ParseFault.{ParseFault}
 use Rattle.ps_parse.specs.declared.parser.Parser.{Parser}
-use Rattle.ps_parse.specs.declared.rough.Rough.{Rough}
-use Rattle.ps_parse.specs.declared.kind.Kind.TheVariants as kind
-use Rattle.ps_parse.specs.Phrase.{Phrase, Phrases, none, more, GroupAt, Arms, arm, phrase_of}
-use Rattle.ps_parse.specs.Grammar.{Made, a_clause, all_groups, Cases, Labels, Rule, Give, Go, and_arm, named_group, skip, with_clause}
+use Rattle.ps_tree.specs.declared.rough.Rough.{Rough}
+use Rattle.ps_symbols.specs.declared.kind.Kind.TheVariants as kind
+use Rattle.ps_tree.specs.Phrase.{Phrase, Phrases, none, more, GroupAt, Arms, arm, phrase_of}
+use Rattle.ps_tree.specs.Composing.{and_arm}
+use Rattle.ps_parse.specs.Grammar.{Made, a_clause, all_groups, Cases, Labels, Rule, Give, Go, named_group, skip, with_clause}
 use Rattle.ps_parse.specs.Reading.{Reads}
-use Rattle.ps_parse.specs.Soundness.{IsSound}
+use Rattle.ps_symbols.specs.Soundness.{IsSound}
 use Rattle.ps_parse.specs.Stopping.{Stops, Leads}
 
 pub record AreSound (parser : Parser) : Type 0 where

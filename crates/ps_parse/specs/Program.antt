@@ -3,13 +3,13 @@ use Rattle.std.specs.Prelude.{◌≡◌, ℕ, ◌+◌, ◌-◌, ◌<◌, ◌≤�
 use Rattle.ps_base.specs.declared.line.Line.{Line}
 use Rattle.ps_scan.specs.declared.token.Token.{Token}
 use Rattle.ps_scan.specs.Tokens.{line_of, line_number}
-use Rattle.ps_parse.specs.declared.fault.ParseFault.{ParseFault}
-use Rattle.ps_parse.specs.declared.fault.ParseFault.TheVariants.{Unexpected, TooNested}
-use Rattle.ps_parse.specs.declared.symbol.Symbol.{Symbol}
-use Rattle.ps_parse.specs.Phrase.{Phrase}
+use Rattle.ps_tree.specs.declared.fault.ParseFault.{ParseFault}
+use Rattle.ps_tree.specs.declared.fault.ParseFault.TheVariants.{Unexpected, TooNested}
+use Rattle.ps_symbols.specs.declared.symbol.Symbol.{Symbol}
+use Rattle.ps_tree.specs.Phrase.{Phrase}
 use Rattle.ps_parse.specs.Grammar.{a_clause, Program, Go}
 use Rattle.ps_parse.specs.Reading.{Reads, Opens}
-use Rattle.ps_parse.specs.Symbols.{symbols}
+use Rattle.ps_symbols.specs.Symbols.{symbols}
 
 -- the symbols are those of a program with this tree, with at most so many clauses and types inside one another
 abbrev pub IsProgram : List ℕ → ℕ → List Symbol → Phrase → Type 0

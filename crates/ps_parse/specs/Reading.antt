@@ -1,8 +1,8 @@
 -- How a text is read by the grammar, and how deep its clauses and types stand inside one another.
 use Rattle.std.specs.Prelude.{◌≡◌, ℕ, suc, ◌+◌, ◌<◌, List, length, Option, Some, None, slice_get}
-use Rattle.ps_parse.specs.declared.kind.Kind.{Kind}
-use Rattle.ps_parse.specs.declared.kind.Kind.TheVariants.{EndOfText}
-use Rattle.ps_parse.specs.declared.symbol.Symbol.{Symbol}
+use Rattle.ps_symbols.specs.declared.kind.Kind.{Kind}
+use Rattle.ps_symbols.specs.declared.kind.Kind.TheVariants.{EndOfText}
+use Rattle.ps_symbols.specs.declared.symbol.Symbol.{Symbol}
 use Rattle.ps_parse.specs.Grammar.{Made, Part, Nested, Rule, Give, Take, Go, Open, Then, inside, row}
 
 abbrev pub kind_of_next : Option Symbol → Kind

@@ -1,9 +1,9 @@
 -- The fault at which the reading of a rule stops, and how one reading goes on as another.
 use Rattle.std.specs.Prelude.{◌≡◌, ◌≢◌, ℕ, suc, ◌+◌, List, Some, None, slice_get}
-use Rattle.ps_parse.specs.declared.fault.ParseFault.{ParseFault}
-use Rattle.ps_parse.specs.declared.fault.ParseFault.TheVariants.{TooNested, Memory}
-use Rattle.ps_parse.specs.declared.kind.Kind.{Kind}
-use Rattle.ps_parse.specs.declared.symbol.Symbol.{Symbol}
+use Rattle.ps_tree.specs.declared.fault.ParseFault.{ParseFault}
+use Rattle.ps_tree.specs.declared.fault.ParseFault.TheVariants.{TooNested, Memory}
+use Rattle.ps_symbols.specs.declared.kind.Kind.{Kind}
+use Rattle.ps_symbols.specs.declared.symbol.Symbol.{Symbol}
 use Rattle.ps_parse.specs.Grammar.{Made, Part, Nested, Rule, Take, Go, Open, Then, inside, row}
 use Rattle.ps_parse.specs.Reading.{kind_at, Reads}
 use Rattle.ps_parse.specs.Program.{unexpected}

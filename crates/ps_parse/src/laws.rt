@@ -2,8 +2,8 @@
 
 ghost use Rattle.std.specs.Prelude.{◌≡◌, ℕ, List};
 ghost use Rattle.ps_scan.specs.declared.token.Token.{Token};
-ghost use Rattle.ps_parse.specs.declared.fault.ParseFault.{ParseFault};
-ghost use Rattle.ps_parse.specs.Phrase.{Phrase};
+ghost use Rattle.ps_tree.specs.declared.fault.ParseFault.{ParseFault};
+ghost use Rattle.ps_tree.specs.Phrase.{Phrase};
 ghost use Rattle.ps_parse.specs.Program.{ReadsAs, IsParseFault};
 
 /// A text with these tokens has at most one tree.

@@ -2,15 +2,15 @@
 use Rattle.std.proofs.Common.{◌≡◌, ◌≢◌, ℕ, suc, ◌+◌, List, [], ◌∷◌, ◌++◌, Bool, true, false, Option, Some, None, is_some, option_map, nat_lt, refl, sym, subst, ap, ◌∙◌}
 use Rattle.std.specs.Prelude.{if◌then◌else◌}
 use Rattle.ps_base.specs.declared.line.Line.{Line}
-use Rattle.ps_parse.specs.declared.kind.Kind.{Kind}
-use Rattle.ps_parse.specs.declared.kind.Kind.TheVariants as kind
-use Rattle.ps_parse.specs.declared.kind.Level.TheVariants.{Disjunction}
-use Rattle.ps_parse.specs.declared.kind.Opening.{Opening}
-use Rattle.ps_parse.specs.declared.kind.Opening.TheVariants as opening
-use Rattle.ps_parse.specs.declared.symbol.Symbol.{Symbol}
-use Rattle.ps_parse.specs.Kinds.{opening_of, begins_item}
-use Rattle.ps_parse.specs.Phrase.{NameAt, Phrase, at, Form, Phrases, none, more, absent, Arms}
-use Rattle.ps_parse.specs.Phrase as form
+use Rattle.ps_symbols.specs.declared.kind.Kind.{Kind}
+use Rattle.ps_symbols.specs.declared.kind.Kind.TheVariants as kind
+use Rattle.ps_symbols.specs.declared.kind.Level.TheVariants.{Disjunction}
+use Rattle.ps_symbols.specs.declared.kind.Opening.{Opening}
+use Rattle.ps_symbols.specs.declared.kind.Opening.TheVariants as opening
+use Rattle.ps_symbols.specs.declared.symbol.Symbol.{Symbol}
+use Rattle.ps_symbols.specs.Kinds.{opening_of, begins_item}
+use Rattle.ps_tree.specs.Phrase.{NameAt, Phrase, at, Form, Phrases, none, more, absent, Arms}
+use Rattle.ps_tree.specs.Phrase as form
 use Rattle.ps_parse.specs.Grammar.{Made, a_clause, Part, Rule, Give, Go, Open, Then, Clause, a_clause_inside, Chain, Primary, SecondArgument, MoreArguments, Labels, inside, row, opened, expression, arguments, cases, one_item, between, with_clause, give}
 use Rattle.ps_parse.specs.Reading.{kind_at, Reads, gives, takes, goes, opens, joins}
 use Rattle.ps_print.specs.Lexemes.{Gap, Lexeme}

@@ -8,8 +8,8 @@ use Rattle.ps_base.specs.declared.line.Line.{Line}
 use Rattle.ps_base.specs.declared.operator.Operator.{Operator}
 use Rattle.ps_base.specs.declared.operator.Relation.{Relation}
 use Rattle.ps_scan.specs.Tokens.{IsName}
-use Rattle.ps_parse.specs.Phrase.{NameAt, GroupAt, Phrase, at, Form, Phrases, none, more, absent, present, Arm, Arms, no_arms, more_arms, arm, WriteItem, item, WriteItems, no_items, more_items}
-use Rattle.ps_parse.specs.Phrase as form
+use Rattle.ps_tree.specs.Phrase.{NameAt, GroupAt, Phrase, at, Form, Phrases, none, more, absent, present, Arm, Arms, no_arms, more_arms, arm, WriteItem, item, WriteItems, no_items, more_items}
+use Rattle.ps_tree.specs.Phrase as form
 use Rattle.ps_print.specs.Spellings.{can_be_spelled}
 use Rattle.ps_print.specs.Layout.{Behind, other, before_do, before_comma, before_colon, is_taken, behind_clause, behind_item, is_procedure, Tightness, is_looser, left_of, right_of, disjunction, conjunction, negation, comparison, sum, product, application}
 

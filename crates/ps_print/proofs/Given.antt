@@ -4,25 +4,26 @@ use Rattle.ps_base.specs.TyView.{TyView}
 use Rattle.ps_base.specs.declared.line.Line.{Line}
 use Rattle.ps_scan.specs.declared.token.Token.{Token}
 use Rattle.ps_scan.specs.Tokens.{line_of, HasTokens, IsName}
-use Rattle.ps_parse.specs.declared.kind.Kind.{Kind}
-use Rattle.ps_parse.specs.declared.kind.Kind.TheVariants as kind
-use Rattle.ps_parse.specs.declared.kind.Level.{Level}
-use Rattle.ps_parse.specs.declared.kind.Level.TheVariants.{Disjunction, Conjunction, Sum, Product}
-use Rattle.ps_parse.specs.declared.kind.Opening.{Opening}
-use Rattle.ps_parse.specs.declared.kind.Opening.TheVariants as opening
-use Rattle.ps_parse.specs.declared.kind.Relating.{Relating}
-use Rattle.ps_parse.specs.declared.kind.Relating.TheVariants.{Compares, IsOf}
-use Rattle.ps_parse.specs.declared.kind.TypeStart.{TypeStart}
-use Rattle.ps_parse.specs.declared.kind.TypeStart.TheVariants as typed
-use Rattle.ps_parse.specs.declared.symbol.Symbol.{Symbol}
-use Rattle.ps_parse.specs.Kinds.{operation_of, relating_of, begins_item, begins_type, opening_of, type_start_of}
-use Rattle.ps_parse.specs.Phrase.{NameAt, GroupAt, Phrase, at, Phrases, none, more, MaybePhrase, absent, present, Arms, WriteItems, no_items, more_items}
-use Rattle.ps_parse.specs.Phrase as form
+use Rattle.ps_symbols.specs.declared.kind.Kind.{Kind}
+use Rattle.ps_symbols.specs.declared.kind.Kind.TheVariants as kind
+use Rattle.ps_symbols.specs.declared.kind.Level.{Level}
+use Rattle.ps_symbols.specs.declared.kind.Level.TheVariants.{Disjunction, Conjunction, Sum, Product}
+use Rattle.ps_symbols.specs.declared.kind.Opening.{Opening}
+use Rattle.ps_symbols.specs.declared.kind.Opening.TheVariants as opening
+use Rattle.ps_symbols.specs.declared.kind.Relating.{Relating}
+use Rattle.ps_symbols.specs.declared.kind.Relating.TheVariants.{Compares, IsOf}
+use Rattle.ps_symbols.specs.declared.kind.TypeStart.{TypeStart}
+use Rattle.ps_symbols.specs.declared.kind.TypeStart.TheVariants as typed
+use Rattle.ps_symbols.specs.declared.symbol.Symbol.{Symbol}
+use Rattle.ps_symbols.specs.Kinds.{operation_of, relating_of, begins_item, begins_type, opening_of, type_start_of}
+use Rattle.ps_tree.specs.Phrase.{NameAt, GroupAt, Phrase, at, Phrases, none, more, MaybePhrase, absent, present, Arms, WriteItems, no_items, more_items}
+use Rattle.ps_tree.specs.Phrase as form
 use Rattle.ps_parse.specs.Grammar
-use Rattle.ps_parse.specs.Grammar.{Made, a_clause, Part, Program, Ending, Ended, Items, MoreItems, Item, Binding, Literal, Parameters, Groups, MoreGroups, NextGroup, Result, ParameterTypes, MoreTypes, Choice, Until, Test, Between, Step, Body, Cases, Labels, Written, Width, MoreWritten, Assignment, Chain, MoreChain, Relative, Compared, Comparison, Factor, Application, Applied, Arguments, SecondArgument, MoreArguments, Primary, MoreElements, Rule, Give, Take, Go, Then, Clause, Type_, a_clause_inside, a_type_inside, the_clause, the_type, the_types, the_groups, the_item, and_then, inside, row, opened, typed_as}
+use Rattle.ps_tree.specs.Composing.{and_then}
+use Rattle.ps_parse.specs.Grammar.{Made, a_clause, Part, Program, Ending, Ended, Items, MoreItems, Item, Binding, Literal, Parameters, Groups, MoreGroups, NextGroup, Result, ParameterTypes, MoreTypes, Choice, Until, Test, Between, Step, Body, Cases, Labels, Written, Width, MoreWritten, Assignment, Chain, MoreChain, Relative, Compared, Comparison, Factor, Application, Applied, Arguments, SecondArgument, MoreArguments, Primary, MoreElements, Rule, Give, Take, Go, Then, Clause, Type_, a_clause_inside, a_type_inside, the_clause, the_type, the_types, the_groups, the_item, inside, row, opened, typed_as}
 use Rattle.ps_parse.specs.Reading.{kind_at, kind_of_next, Reads, gives, takes, goes, opens, joins}
 use Rattle.ps_parse.specs.Program.{IsProgram}
-use Rattle.ps_parse.specs.Symbols.{symbols as symbols_of}
+use Rattle.ps_symbols.specs.Symbols.{symbols as symbols_of}
 use Rattle.ps_print.specs.Layout.{Behind, other, before_do, before_comma, before_colon, is_taken, ends_open, Tightness, disjunction, conjunction, negation, sum, product, signed, application, primary}
 use Rattle.ps_print.specs.Layout as tight
 use Rattle.ps_print.proofs.Canonical.{IsType, AreTypes, IsResult, AreGroups, IsClause, IsOperand, IsForm, AreClauses, AreArms, AreItems, IsWritten, AreItemsOf, IsItem}

@@ -1,8 +1,8 @@
 -- The first of the lexemes that stand somewhere.
 use Rattle.std.proofs.Common.{◌≡◌, ℕ, ◌+◌, List, [], ◌∷◌, Some, slice_get, refl}
 use Rattle.ps_scan.specs.Tokens.{slice_of}
-use Rattle.ps_parse.specs.declared.symbol.Symbol.{Symbol}
-use Rattle.ps_parse.specs.Kinds.{kind_of}
+use Rattle.ps_symbols.specs.declared.symbol.Symbol.{Symbol}
+use Rattle.ps_symbols.specs.Kinds.{kind_of}
 use Rattle.ps_parse.specs.Reading.{kind_at}
 use Rattle.ps_print.specs.Lexemes.{Lexeme}
 use Rattle.ps_print.proofs.Standing.{Stands, first_kind}

@@ -5,8 +5,8 @@ use Rattle.ps_base.specs.TyView as ty
 use Rattle.ps_base.specs.declared.operator.Operator.TheVariants as arith
 use Rattle.ps_base.specs.declared.line.Line.{Line}
 use Rattle.ps_scan.specs.Tokens.{line_of}
-use Rattle.ps_parse.specs.Phrase.{NameAt, GroupAt, Phrase, at, Form, Phrases, none, more, absent, present, no_arms, more_arms, arm, item, no_items, more_items}
-use Rattle.ps_parse.specs.Phrase as form
+use Rattle.ps_tree.specs.Phrase.{NameAt, GroupAt, Phrase, at, Form, Phrases, none, more, absent, present, no_arms, more_arms, arm, item, no_items, more_items}
+use Rattle.ps_tree.specs.Phrase as form
 use Rattle.ps_print.specs.Lexemes.{text_of}
 use Rattle.ps_print.specs.Layout.{printed}
 

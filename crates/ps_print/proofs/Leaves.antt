@@ -1,9 +1,9 @@
 -- The names, the ints and the strings among the symbols of a text are spelled so that they can be
 -- printed.
-use Rattle.std.proofs.Common.{◌≡◌, ℕ, zero, suc, ◌+◌, ◌≤◌, List, [], ◌∷◌, length, Bool, true, false, cond, Option, Some, None, slice_get, unwrap_or, refl, sym, ap, ◌∙◌, subst, arith}
+use Rattle.std.proofs.Common.{◌≡◌, ℕ, ◌≤◌, List, [], ◌∷◌, length, true, false, Option, Some, None, slice_get, refl, sym, ap, ◌∙◌, subst, arith}
 use Rattle.std.specs.List.{All, AllPass}
 use Rattle.std.proofs.lemmas.Bool.Decides.{nat_tests}
-use Rattle.std.proofs.lemmas.List.Elements.{All-nil, All-cons, All-head, All-tail, All-append, All-get_or}
+use Rattle.std.proofs.lemmas.List.Elements.{All-nil, All-cons, All-get_or}
 use Rattle.std.proofs.lemmas.Option.{slice_get_within, get_or_from_slice_get}
 use Rattle.ps_scan.specs.declared.class.Inner.{Inner}
 use Rattle.ps_scan.specs.declared.class.Inner.TheVariants.{Plain, Apostrophe}
@@ -14,12 +14,12 @@ use Rattle.ps_scan.specs.Class.{inner_of, escaped}
 use Rattle.ps_scan.specs.Piece.{Quoted, Closes, StaysOpen, HasBadByte, HasBadEscape, spells, bytes_of, quoted, behind_apostrophe}
 use Rattle.ps_scan.specs.Tokens.{HasTokens, IsToken, IsSpelled, IsName, slice_of, int_value, spelled}
 use Rattle.ps_scan.proofs.Scanning.{all_tokens}
-use Rattle.ps_parse.specs.declared.kind.Kind.{Kind}
-use Rattle.ps_parse.specs.declared.kind.Kind.TheVariants as kind
-use Rattle.ps_parse.specs.declared.kind.TheConstants.{WORDS, MARKS}
-use Rattle.ps_parse.specs.declared.symbol.Symbol.{Symbol}
-use Rattle.ps_parse.specs.Kinds.{kind_of}
-use Rattle.ps_parse.specs.Symbols.{breaks, semicolon_behind, symbol, symbols, between, symbols_behind}
+use Rattle.ps_symbols.specs.declared.kind.Kind.{Kind}
+use Rattle.ps_symbols.specs.declared.kind.Kind.TheVariants as kind
+use Rattle.ps_symbols.specs.declared.symbol.Symbol.{Symbol}
+use Rattle.ps_symbols.specs.Kinds.{kind_of}
+use Rattle.ps_symbols.specs.Symbols.{semicolon_behind, symbol, symbols}
+use Rattle.ps_symbols.proofs.SymbolLemmas.{leaf, not_word, not_mark, all_symbols}
 use Rattle.ps_print.specs.Spellings.{can_be_spelled}
 
 -- a byte that a string spells can be spelled
@@ -98,26 +98,6 @@ mutual
   apostrophe_spells [] = none_spell
   apostrophe_spells (byte ∷ rest) = behind_spells (escaped byte) byte rest refl (quoted_spells rest)
 
--- no word and no mark is a name, an int or a string
-abbrev leaf : Kind → Bool
-leaf kind.Name = true
-leaf kind.Int = true
-leaf kind.Text = true
-leaf _ = false
-
-abbrev leafless : List Kind → Bool
-leafless [] = true
-leafless (first ∷ kinds) = cond (leaf first) false (leafless kinds)
-
-both : (here rest : Bool) → cond here false rest ≡ true → (here ≡ false) × (rest ≡ true)
-both true rest is = absurd (cc)
-both false rest is = (refl, is)
-
-not_in : (kinds : List Kind) (place : ℕ) → leafless kinds ≡ true → leaf (unwrap_or (slice_get kinds place) kind.Stray) ≡ false
-not_in [] place none = refl
-not_in (first ∷ kinds) zero none = (both (leaf first) (leafless kinds) none).0
-not_in (first ∷ kinds) (suc place) none = not_in kinds place (both (leaf first) (leafless kinds) none).1
-
 no_leaf : (k : Kind) → leaf k ≡ false → (other : Kind) → leaf other ≡ true → k ≡ other → ⊥
 no_leaf k none other is_leaf same = let l = sym none ∙ ap leaf same ∙ is_leaf in cc
 
@@ -132,10 +112,10 @@ leaf_of text number token scanned.Name spelling = record { name = λ k. spelling
 leaf_of text number token scanned.Int spelling = record { name = λ k. absurd (cc); int = λ k. spelling.fits; string = λ k. absurd (cc) }
 leaf_of text number token scanned.Text spelling = record { name = λ k. absurd (cc); int = λ k. absurd (cc); string = λ k. (quoted_spells _, spelling.fits) }
 leaf_of text number token (scanned.Word place) spelling =
-    let none = no_leaf (kind_of (scanned.Word place)) (not_in WORDS place refl) in
+    let none = no_leaf (kind_of (scanned.Word place)) (not_word place) in
     record { name = λ k. absurd (none kind.Name refl k); int = λ k. absurd (none kind.Int refl k); string = λ k. absurd (none kind.Text refl k) }
 leaf_of text number token (scanned.Mark place) spelling =
-    let none = no_leaf (kind_of (scanned.Mark place)) (not_in MARKS place refl) in
+    let none = no_leaf (kind_of (scanned.Mark place)) (not_mark place) in
     record { name = λ k. absurd (none kind.Name refl k); int = λ k. absurd (none kind.Int refl k); string = λ k. absurd (none kind.Text refl k) }
 
 leaf_token : (text : List ℕ) (number : ℕ) (token : Token) → IsToken text token → IsLeaf text (symbol number token)
@@ -144,17 +124,6 @@ leaf_token text number token is = leaf_of text number token token.what is.spelli
 leaf_semicolon : (text : List ℕ) (number : ℕ) (token : Token) → IsLeaf text (symbol number (semicolon_behind token))
 leaf_semicolon text number token = record { name = λ k. absurd (cc); int = λ k. absurd (cc); string = λ k. absurd (cc) }
 
-leaf_between : (text : List ℕ) (last : Option Token) (number : ℕ) (token : Token) → All (IsLeaf text) (between last number token)
-leaf_between text None number token = All-nil (IsLeaf text)
-leaf_between text (Some last) number token = elim (breaks last token) as (λ here. All (IsLeaf text) (cond here (symbol number (semicolon_behind last) ∷ []) [])) [ true ↦ All-cons (IsLeaf text) (symbol number (semicolon_behind last)) [] (leaf_semicolon text number last) (All-nil (IsLeaf text)) | false ↦ All-nil (IsLeaf text) ]
-
-all_leaves : (text : List ℕ) (last : Option Token) (number : ℕ) (tokens : List Token) → All (IsToken text) tokens → All (IsLeaf text) (symbols_behind last number tokens)
-unfolding symbols_behind
-all_leaves text last number [] all = All-nil (IsLeaf text)
-all_leaves text last number (token ∷ tokens) all =
-    All-append (IsLeaf text) (between last number token) (symbol number token ∷ symbols_behind (Some token) (number + 1) tokens) (leaf_between text last number token)
-    (All-cons (IsLeaf text) (symbol number token) (symbols_behind (Some token) (number + 1) tokens) (leaf_token text number token (All-head (IsToken text) token tokens all)) (all_leaves text (Some token) (number + 1) tokens (All-tail (IsToken text) token tokens all)))
-
 -- each symbol of a text is
 abbrev pub AreLeaves : List ℕ → List Symbol → Type 0
 AreLeaves text symbols = (place : ℕ) (symbol : Symbol) → slice_get symbols place ≡ Some symbol → IsLeaf text symbol
@@ -162,4 +131,4 @@ AreLeaves text symbols = (place : ℕ) (symbol : Symbol) → slice_get symbols p
 pub leaves : {text : List ℕ} {tokens : List Token} → HasTokens text tokens → AreLeaves text (symbols tokens)
 leaves {text} {tokens} scans = λ place symbol here.
     subst (IsLeaf text) (get_or_from_slice_get (symbols tokens) place symbol symbol here)
-    (All-get_or (IsLeaf text) (symbols tokens) place symbol (slice_get_within (symbols tokens) place symbol here) (all_leaves text None 0 tokens (all_tokens scans)))
+    (All-get_or (IsLeaf text) (symbols tokens) place symbol (slice_get_within (symbols tokens) place symbol here) (all_symbols text (IsLeaf text) (leaf_token text) (leaf_semicolon text) None 0 tokens (all_tokens scans)))

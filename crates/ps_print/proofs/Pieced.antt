@@ -7,7 +7,7 @@ use Rattle.ps_scan.specs.declared.token.TokenKind.{TokenKind}
 use Rattle.ps_scan.specs.declared.token.TokenKind.TheVariants.{Name, Int, Text, Word, Mark}
 use Rattle.ps_scan.specs.Names.{mark_place}
 use Rattle.ps_scan.specs.Tokens.{IsSpelled}
-use Rattle.ps_parse.specs.Kinds.{can_end, can_continue}
+use Rattle.ps_symbols.specs.Kinds.{can_end, can_continue}
 use Rattle.ps_print.specs.Lexemes.{Gap, nothing, blank, newline, Lexeme, IsPrintable, is_mark, first_passes, may_follow, may_follow_glued, ends_before, neighbours_pass, mark_name}
 use Rattle.ps_print.specs.Lines.{goes_on, goes_on_over}
 use Rattle.ps_print.proofs.Marks.{mark_glued, token_glued}

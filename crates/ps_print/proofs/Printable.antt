@@ -12,8 +12,8 @@ use Rattle.ps_scan.specs.declared.mark.TheConstants as mark
 use Rattle.ps_scan.specs.declared.word.TheConstants as word
 use Rattle.ps_scan.specs.declared.token.TokenKind.TheVariants as scanned
 use Rattle.ps_scan.specs.Tokens.{IsSpelled, IsName}
-use Rattle.ps_parse.specs.Phrase.{NameAt, GroupAt, Phrase, at, Form, Phrases, none, more, absent, present, Arm, Arms, no_arms, more_arms, arm, WriteItem, item, WriteItems, no_items, more_items}
-use Rattle.ps_parse.specs.Phrase as form
+use Rattle.ps_tree.specs.Phrase.{NameAt, GroupAt, Phrase, at, Form, Phrases, none, more, absent, present, Arm, Arms, no_arms, more_arms, arm, WriteItem, item, WriteItems, no_items, more_items}
+use Rattle.ps_tree.specs.Phrase as form
 use Rattle.ps_print.specs.Lexemes.{Gap, nothing, blank, newline, Lexeme, first_passes, may_follow}
 use Rattle.ps_print.specs.Lines.{goes_on}
 use Rattle.ps_print.specs.Layout.{lexeme, the_word, the_mark, name_lexeme, open_round, close_round, comma, semicolon, colon, do_word, in_brackets, type_lexemes, types_lexemes, more_types_lexemes, group_lexemes, groups_lexemes, more_groups_lexemes, heading_lexemes, behind_arrow, becomes, is_word, flag_word, bound_word, sign_of_relation, Tightness, number_of, tightness, loosest, disjunction, conjunction, negation, sum, product, signed, application, primary, is_procedure, Behind, other, before_do, before_comma, before_colon, is_taken, behind_clause, behind_item, form_lexemes, clause_lexemes, operand_lexemes, block_lexemes, lines_lexemes, clauses_lexemes, more_clauses_lexemes, arms_lexemes, arm_lexemes, items_lexemes, more_items_lexemes, item_lexemes, program_lexemes}

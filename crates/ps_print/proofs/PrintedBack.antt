@@ -3,17 +3,17 @@ use Rattle.std.proofs.Common.{◌≡◌, ℕ, zero, suc, ◌+◌, ◌≤◌, Lis
 use Rattle.std.proofs.lemmas.Option.{slice_get_past}
 use Rattle.ps_scan.specs.declared.token.Token.{Token}
 use Rattle.ps_scan.specs.Tokens.{HasTokens, line_of}
-use Rattle.ps_parse.specs.declared.kind.Kind.{Kind}
-use Rattle.ps_parse.specs.declared.kind.Kind.TheVariants as kind
-use Rattle.ps_parse.specs.declared.symbol.Symbol.{Symbol}
-use Rattle.ps_parse.specs.Kinds.{kind_of, begins_item}
-use Rattle.ps_parse.specs.Phrase.{Phrase, Phrases, none, more, at}
-use Rattle.ps_parse.specs.Phrase as form
+use Rattle.ps_symbols.specs.declared.kind.Kind.{Kind}
+use Rattle.ps_symbols.specs.declared.kind.Kind.TheVariants as kind
+use Rattle.ps_symbols.specs.declared.symbol.Symbol.{Symbol}
+use Rattle.ps_symbols.specs.Kinds.{kind_of, begins_item}
+use Rattle.ps_tree.specs.Phrase.{Phrase, Phrases, none, more, at}
+use Rattle.ps_tree.specs.Phrase as form
 use Rattle.ps_parse.specs.Grammar as grammar
 use Rattle.ps_parse.specs.Grammar.{a_clause, Go, Program}
 use Rattle.ps_parse.specs.Program.{IsProgram}
 use Rattle.ps_parse.specs.Reading.{kind_at, kind_of_next, Reads, gives, takes, goes, joins}
-use Rattle.ps_parse.specs.Symbols.{symbol, symbols}
+use Rattle.ps_symbols.specs.Symbols.{symbol, symbols}
 use Rattle.ps_print.specs.Bare.{bare, bare_all}
 use Rattle.ps_print.specs.Layout.{semicolon, other, clause_lexemes, lines_lexemes, program_lexemes, printed}
 use Rattle.ps_print.specs.Lexemes.{nothing, Lexeme, tokens_of, AreSpelledBy}

@@ -3,10 +3,10 @@ use Rattle.std.proofs.Common.{◌≡◌, ℕ, Bool, true, false, ◌+◌, ◌<�
 use Rattle.std.specs.Prelude.{Result, Ok, Err, OnOk}
 use Rattle.ps_print.specs.declared.piece.Piece.{Piece}
 use Rattle.ps_base.specs.declared.line.Line.{Line}
-use Rattle.ps_parse.specs.declared.rough.RoughForm.{RoughForm}
-use Rattle.ps_parse.specs.declared.rough.RoughForm.TheVariants as code
-use Rattle.ps_parse.specs.Phrase.{NameAt, Phrase, at, Form, Let, form_of}
-use Rattle.ps_parse.specs.Phrase as form
+use Rattle.ps_tree.specs.declared.rough.RoughForm.{RoughForm}
+use Rattle.ps_tree.specs.declared.rough.RoughForm.TheVariants as code
+use Rattle.ps_tree.specs.Phrase.{NameAt, Phrase, at, Form, Let, form_of}
+use Rattle.ps_tree.specs.Phrase as form
 use Rattle.ps_print.specs.Lexemes.{Lexeme, nothing, blank, gap_bytes, text_of}
 use Rattle.ps_print.specs.Layout.{other, disjunction, conjunction, negation, sum, product, application, left_of, right_of, semicolon, becomes, is_word, sign_of_relation, sign_of_operator, clause_lexemes, operand_lexemes, lines_lexemes, is_procedure, layout, printed}
 use Rattle.ps_print.specs.Weights.{weight}

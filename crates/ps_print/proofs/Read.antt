@@ -5,9 +5,9 @@ use Rattle.std.proofs.lemmas.Bool.Decides.{nat_tests}
 use Rattle.ps_scan.specs.declared.token.Token.{Token}
 use Rattle.ps_scan.specs.declared.token.TokenKind.{TokenKind}
 use Rattle.ps_scan.specs.Tokens.{token_at}
-use Rattle.ps_parse.specs.Kinds.{can_end, can_continue}
-use Rattle.ps_parse.specs.declared.symbol.Symbol.{Symbol}
-use Rattle.ps_parse.specs.Symbols.{breaks, semicolon_behind, symbol, symbols_behind, symbols}
+use Rattle.ps_symbols.specs.Kinds.{can_end, can_continue}
+use Rattle.ps_symbols.specs.declared.symbol.Symbol.{Symbol}
+use Rattle.ps_symbols.specs.Symbols.{breaks, semicolon_behind, symbol, symbols_behind, symbols}
 use Rattle.ps_print.specs.Lexemes.{Gap, nothing, blank, newline, Lexeme, gap_bytes, gap_lines, tokens_of, first_passes, neighbours_pass, token_behind}
 use Rattle.ps_print.specs.Lines.{goes_on_over, goes_on, one_for_one}
 use Rattle.ps_print.proofs.Glued.{both}

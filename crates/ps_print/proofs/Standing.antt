@@ -1,8 +1,8 @@
 -- Lexemes as they stand among the symbols of a text.
 use Rattle.std.proofs.Common.{◌≡◌, ℕ, ◌+◌, List, [], ◌∷◌, ◌++◌, Some, slice_get, ap, ◌∙◌}
 use Rattle.ps_scan.specs.Tokens.{slice_of}
-use Rattle.ps_parse.specs.declared.symbol.Symbol.{Symbol}
-use Rattle.ps_parse.specs.Kinds.{kind_of}
+use Rattle.ps_symbols.specs.declared.symbol.Symbol.{Symbol}
+use Rattle.ps_symbols.specs.Kinds.{kind_of}
 use Rattle.ps_parse.specs.Reading.{kind_at, kind_of_next}
 use Rattle.ps_print.specs.Lexemes.{Lexeme}
 

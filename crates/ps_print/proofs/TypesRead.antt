@@ -6,12 +6,13 @@ use Rattle.ps_base.specs.TyView.{TyView, TyViews}
 use Rattle.ps_base.specs.TyView as ty
 use Rattle.ps_scan.specs.Tokens.{slice_of, line_of}
 use Rattle.ps_scan.specs.declared.mark.TheConstants as mark
-use Rattle.ps_parse.specs.declared.kind.Kind.{Kind}
-use Rattle.ps_parse.specs.declared.kind.Kind.TheVariants as kind
-use Rattle.ps_parse.specs.declared.symbol.Symbol.{Symbol}
-use Rattle.ps_parse.specs.Kinds.{begins_type, type_start_of}
-use Rattle.ps_parse.specs.Phrase.{NameAt, GroupAt}
-use Rattle.ps_parse.specs.Grammar.{Made, a_type, all_types, all_groups, Rule, Give, Go, Open, Type_, a_type_inside, typed_as, Parameters, Groups, MoreGroups, NextGroup, Result, ParameterTypes, MoreTypes, inside, row, and_type, name_at, parameters, parameter_types, more_types, more_groups, result}
+use Rattle.ps_symbols.specs.declared.kind.Kind.{Kind}
+use Rattle.ps_symbols.specs.declared.kind.Kind.TheVariants as kind
+use Rattle.ps_symbols.specs.declared.symbol.Symbol.{Symbol}
+use Rattle.ps_symbols.specs.Kinds.{begins_type, type_start_of}
+use Rattle.ps_tree.specs.Phrase.{NameAt, GroupAt}
+use Rattle.ps_tree.specs.Composing.{and_type}
+use Rattle.ps_parse.specs.Grammar.{Made, a_type, all_types, all_groups, Rule, Give, Go, Open, Type_, a_type_inside, typed_as, Parameters, Groups, MoreGroups, NextGroup, Result, ParameterTypes, MoreTypes, inside, row, name_at, parameters, parameter_types, more_types, more_groups, result}
 use Rattle.ps_parse.specs.Reading.{kind_at, Reads, gives, takes, goes, opens, joins}
 use Rattle.ps_print.specs.Lexemes.{Gap, nothing, blank, Lexeme}
 use Rattle.ps_print.specs.Layout.{the_mark, name_lexeme, type_lexemes, types_lexemes, more_types_lexemes, behind_arrow, group_lexemes, groups_lexemes, more_groups_lexemes, in_brackets, close_round}

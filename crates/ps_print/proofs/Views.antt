@@ -1,91 +1,20 @@
--- The views of what holds lists, over the lists of their items.
+-- What the views of arms, of items of a `write` and of clauses say of them.
 use Rattle.std.proofs.Common.{◌≡◌, Bool, true, false, not, List, [], ◌∷◌, ◌++◌, ◌==◌, length, refl, sym, ap, ◌∙◌, rules, tests}
 use Rattle.std.specs.Option.{is_some}
-use Rattle.std.specs.declared.boxed.Box.{Box}
-use Rattle.std.specs.declared.alloc.Global.{Global}
 use Rattle.ps_base.specs.List.{items_of}
-use Rattle.ps_base.specs.declared.list.List.{List as ListOf}
-use Rattle.ps_base.specs.declared.ty.Ty.{Ty, Row_of-Ty, end_of-Ty, more_of-Ty, items-the_row-Ty, items_hidden-the_row-Ty-0}
-use Rattle.ps_base.specs.declared.ty.Ty.TheVariants as ty_code
-use Rattle.ps_base.specs.TyView.{TyView, TyViews, ty_view, ty_views_of, ty_views}
-use Rattle.ps_base.specs.TyView as ty
 use Rattle.ps_base.specs.declared.line.Line.{Line}
-use Rattle.ps_parse.specs.declared.rough.Rough.{Rough}
-use Rattle.ps_parse.specs.declared.rough.RoughArm.{RoughArm, out-RoughArm}
-use Rattle.ps_parse.specs.declared.rough.RoughItem.{RoughItem, out-RoughItem}
-use Rattle.ps_parse.specs.declared.rough.RoughForm.{RoughForm, roll-RoughForm, roll-out-RoughForm}
-use Rattle.ps_parse.specs.declared.rough.RoughForm.TheBlock.{struct-RoughArm, struct-RoughItem, None', Some', Row_of-Rough, end_of-Rough, more_of-Rough, items-the_row-Rough, items_hidden-the_row-Rough-0, items_shown-the_row-Rough-0, Row_of-RoughArm, end_of-RoughArm, more_of-RoughArm, items-the_row-RoughArm, items_hidden-the_row-RoughArm-1, Row_of-RoughItem, end_of-RoughItem, more_of-RoughItem, items-the_row-RoughItem, items_hidden-the_row-RoughItem-2}
-use Rattle.ps_parse.specs.declared.rough.RoughForm.TheVariants as code
-use Rattle.ps_parse.specs.Phrase.{Phrase, Phrases, more, at, form_of, phrases_of, phrase_of, Arm, arm, Arms, more_arms, arm_of, arms_of, WriteItem, WriteItems, more_items, item_of, items_written}
-use Rattle.ps_parse.specs.Phrase as form
-use Rattle.ps_parse.specs.PhraseLists.{phrases_in, arms_in, items_in}
+use Rattle.ps_tree.specs.declared.rough.Rough.{Rough}
+use Rattle.ps_tree.specs.declared.rough.RoughArm.{RoughArm, out-RoughArm}
+use Rattle.ps_tree.specs.declared.rough.RoughItem.{RoughItem, out-RoughItem}
+use Rattle.ps_tree.specs.declared.rough.RoughForm.{RoughForm, roll-RoughForm, roll-out-RoughForm}
+use Rattle.ps_tree.specs.declared.rough.RoughForm.TheBlock.{struct-RoughArm, struct-RoughItem, None', Some', items_shown-the_row-Rough-0}
+use Rattle.ps_tree.specs.declared.rough.RoughForm.TheVariants as code
+use Rattle.ps_tree.specs.Phrase.{at, form_of, phrase_of, arm, arm_of, WriteItem, WriteItems, more_items, item_of}
+use Rattle.ps_tree.specs.Phrase as form
+use Rattle.ps_tree.specs.PhraseLists.{phrases_in, items_in}
+use Rattle.ps_tree.proofs.PhraseLemmas.{rows}
 use Rattle.ps_print.specs.Layout.{loosest, tightness, ends_open}
 use Rattle.ps_print.specs.Waiting.{is_empty_program}
-use mathlib.Core.Former.{Count}
-
-tys : (n : _) (row : Row_of-Ty n) → ty_views_of row ≡ ty_views (items-the_row-Ty n row)
-tys n end_of-Ty = refl
-tys n (more_of-Ty t rest) = ap (λ (ts : TyViews). ty.more (ty_view t) ts) (tys _ rest)
-
-rows : (n : _) (row : Row_of-Rough n) → phrases_of row ≡ phrases_in (items-the_row-Rough n row)
-rows n end_of-Rough = refl
-rows n (more_of-Rough f line rest) = ap (λ (ps : Phrases). more (at (form_of f) line) ps) (rows _ rest)
-
-arms : (n : _) (row : Row_of-RoughArm n) → arms_of row ≡ arms_in (items-the_row-RoughArm n row)
-arms n end_of-RoughArm = refl
-arms n (more_of-RoughArm first rest) = ap (λ (others : Arms). more_arms (arm_of first) others) (arms _ rest)
-
-items : (n : _) (row : Row_of-RoughItem n) → items_written row ≡ items_in (items-the_row-RoughItem n row)
-items n end_of-RoughItem = refl
-items n (more_of-RoughItem first rest) = ap (λ (others : WriteItems). more_items (item_of first) others) (items _ rest)
-
-abbrev ty_row : Ty → (n : Count) × Row_of-Ty n
-ty_row (ty_code.Proc' _ row p gives) = (_, row)
-ty_row _ = (_, end_of-Ty)
-
-abbrev row_of : RoughForm → (n : Count) × Row_of-Rough n
-row_of (code.Sequence' _ row) = (_, row)
-row_of (code.Apply' _ _ _ _ row) = (_, row)
-row_of (code.Elems' _ _ _ _ _ row) = (_, row)
-row_of _ = (_, end_of-Rough)
-
-abbrev arm_row : RoughForm → (n : Count) × Row_of-RoughArm n
-arm_row (code.Case' _ _ _ _ row _ _ _) = (_, row)
-arm_row _ = (_, end_of-RoughArm)
-
-abbrev item_row : RoughForm → (n : Count) × Row_of-RoughItem n
-item_row (code.Write' _ row) = (_, row)
-item_row _ = (_, end_of-RoughItem)
-
-pub view_of-Proc : (parameters : ListOf Ty) (gives : Box Ty Global) → ty_view (ty_code.Proc parameters gives) ≡ ty.Proc (ty_views (items_of parameters)) (ty_view gives.value)
-view_of-Proc parameters gives =
-    let row = ty_row (ty_code.Proc parameters gives) in
-    ap (λ (ts : TyViews). ty.Proc ts (ty_view gives.value)) (tys row.0 row.1 ∙ ap ty_views (items_hidden-the_row-Ty-0 parameters.vec))
-
-pub form_of-Sequence : (list : ListOf Rough) → form_of (code.Sequence list) ≡ form.Sequence (phrases_in (items_of list))
-form_of-Sequence list =
-    let row = row_of (code.Sequence list) in
-    ap (λ (ps : Phrases). form.Sequence ps) (rows row.0 row.1 ∙ ap phrases_in (items_hidden-the_row-Rough-0 list.vec))
-
-pub form_of-Apply : (f : Box Rough Global) (args : ListOf Rough) → form_of (code.Apply f args) ≡ form.Apply (phrase_of f.value) (phrases_in (items_of args))
-form_of-Apply f args =
-    let row = row_of (code.Apply f args) in
-    ap (λ (ps : Phrases). form.Apply (phrase_of f.value) ps) (rows row.0 row.1 ∙ ap phrases_in (items_hidden-the_row-Rough-0 args.vec))
-
-pub form_of-Elems : (l : Box Rough Global) (t : Box Ty Global) (list : ListOf Rough) → form_of (code.Elems l t list) ≡ form.Elems (phrase_of l.value) (ty_view t.value) (phrases_in (items_of list))
-form_of-Elems l t list =
-    let row = row_of (code.Elems l t list) in
-    ap (λ (ps : Phrases). form.Elems (phrase_of l.value) (ty_view t.value) ps) (rows row.0 row.1 ∙ ap phrases_in (items_hidden-the_row-Rough-0 list.vec))
-
-pub form_of-Case : (e : Box Rough Global) (list : ListOf RoughArm) (d : Box Rough Global) → form_of (code.Case e list d) ≡ form.Case (phrase_of e.value) (arms_in (items_of list)) (phrase_of d.value)
-form_of-Case e list d =
-    let row = arm_row (code.Case e list d) in
-    ap (λ (all : Arms). form.Case (phrase_of e.value) all (phrase_of d.value)) (arms row.0 row.1 ∙ ap arms_in (items_hidden-the_row-RoughArm-1 list.vec))
-
-pub form_of-Write : (list : ListOf RoughItem) → form_of (code.Write list) ≡ form.Write (items_in (items_of list))
-form_of-Write list =
-    let row = item_row (code.Write list) in
-    ap (λ (all : WriteItems). form.Write all) (items row.0 row.1 ∙ ap items_in (items_hidden-the_row-RoughItem-2 list.vec))
 
 pub arm_of-parts : (a : RoughArm) → arm_of a ≡ arm (phrases_in (items_of (out-RoughArm a).labels)) (phrase_of (out-RoughArm a).a.value)
 unfolding out-RoughArm denote.Hole.Carrier.out

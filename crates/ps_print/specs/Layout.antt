@@ -12,8 +12,8 @@ use Rattle.ps_scan.specs.declared.token.TokenKind.TheVariants.{Word, Mark}
 use Rattle.ps_scan.specs.declared.token.TokenKind.TheVariants as scanned
 use Rattle.ps_scan.specs.declared.word.TheConstants as word
 use Rattle.ps_scan.specs.declared.mark.TheConstants as mark
-use Rattle.ps_parse.specs.Phrase.{NameAt, GroupAt, Phrase, at, Form, Phrases, none, more, MaybePhrase, absent, present, Arm, Arms, no_arms, more_arms, arm, WriteItem, item, WriteItems, no_items, more_items}
-use Rattle.ps_parse.specs.Phrase as form
+use Rattle.ps_tree.specs.Phrase.{NameAt, GroupAt, Phrase, at, Form, Phrases, none, more, MaybePhrase, absent, present, Arm, Arms, no_arms, more_arms, arm, WriteItem, item, WriteItems, no_items, more_items}
+use Rattle.ps_tree.specs.Phrase as form
 use Rattle.ps_print.specs.Lexemes.{Gap, nothing, blank, newline, Lexeme, printed as printed_as}
 use Rattle.ps_print.specs.Spellings.{int_text, string_text}
 

@@ -2,9 +2,9 @@
 use Rattle.std.specs.Prelude.{ℕ, ◌+◌, Bool, true, not, ◌&&◌, List, [], ◌∷◌}
 use Rattle.ps_scan.specs.declared.token.Token.{Token}
 use Rattle.ps_scan.specs.declared.token.TokenKind.{TokenKind}
-use Rattle.ps_parse.specs.declared.symbol.Symbol.{Symbol}
-use Rattle.ps_parse.specs.Kinds.{can_end, can_continue}
-use Rattle.ps_parse.specs.Symbols.{symbol}
+use Rattle.ps_symbols.specs.declared.symbol.Symbol.{Symbol}
+use Rattle.ps_symbols.specs.Kinds.{can_end, can_continue}
+use Rattle.ps_symbols.specs.Symbols.{symbol}
 use Rattle.ps_print.specs.Lexemes.{Gap, nothing, blank, newline, Lexeme}
 
 -- no `;` is read between these two: no newline stands between them, or the first can't end a clause,

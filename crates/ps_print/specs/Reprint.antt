@@ -2,9 +2,9 @@
 use Rattle.std.specs.Prelude.{◌≡◌, ℕ, List}
 use Rattle.ps_scan.specs.declared.token.Token.{Token}
 use Rattle.ps_scan.specs.Tokens.{HasTokens}
-use Rattle.ps_parse.specs.Phrase.{Phrase}
+use Rattle.ps_tree.specs.Phrase.{Phrase}
 use Rattle.ps_parse.specs.Program.{IsProgram}
-use Rattle.ps_parse.specs.Symbols.{symbols}
+use Rattle.ps_symbols.specs.Symbols.{symbols}
 use Rattle.ps_print.specs.Layout.{printed}
 use Rattle.ps_print.specs.Bare.{bare}
 

@@ -5,8 +5,8 @@ use Rattle.ps_base.specs.TyView.{ty_view, ty_views}
 use Rattle.ps_scan.specs.Names.{reserved_words, marks}
 use Rattle.ps_scan.specs.declared.word.TheConstants as word
 use Rattle.ps_scan.specs.declared.token.TokenKind.TheVariants as scanned
-use Rattle.ps_parse.specs.Phrase.{NameAt, Phrase, at, Form, Sequence, none, form_of, phrase_of, arm_of, item_of, group_of, groups_in}
-use Rattle.ps_parse.specs.PhraseLists.{phrases_in, arms_in, items_in}
+use Rattle.ps_tree.specs.Phrase.{NameAt, Phrase, at, Form, Sequence, none, form_of, phrase_of, arm_of, item_of, group_of, groups_in}
+use Rattle.ps_tree.specs.PhraseLists.{phrases_in, arms_in, items_in}
 use Rattle.ps_print.specs.Lexemes.{Gap, nothing, blank, newline, Lexeme, text_of}
 use Rattle.ps_print.specs.Layout.{Behind, other, before_do, before_comma, before_colon, Tightness, loosest, disjunction, conjunction, negation, comparison, sum, product, signed, application, primary, lexeme, the_word, the_mark, name_lexeme, becomes, form_lexemes, clause_lexemes, operand_lexemes, lines_lexemes, clauses_lexemes, more_clauses_lexemes, arms_lexemes, arm_lexemes, items_lexemes, more_items_lexemes, item_lexemes, type_lexemes, types_lexemes, more_types_lexemes, behind_arrow, groups_lexemes, more_groups_lexemes, group_lexemes, heading_lexemes}
 use Rattle.ps_print.specs.Spellings.{int_text, string_text}

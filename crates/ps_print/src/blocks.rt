@@ -1,15 +1,15 @@
 ghost use Rattle.std.specs.Prelude.{◌≡◌, OnOk};
-ghost use Rattle.ps_parse.specs.Phrase.{phrase_of};
-ghost use Rattle.ps_parse.specs.Phrase as form;
-ghost use Rattle.ps_parse.specs.PhraseLists.{phrases_in};
+ghost use Rattle.ps_tree.specs.Phrase.{phrase_of};
+ghost use Rattle.ps_tree.specs.Phrase as form;
+ghost use Rattle.ps_tree.specs.PhraseLists.{phrases_in};
 ghost use Rattle.ps_print.specs.Layout.{behind_clause, program_lexemes, lines_lexemes, clauses_lexemes, more_clauses_lexemes};
 ghost use Rattle.ps_print.specs.Weights.{weight_all};
 ghost use Rattle.ps_print.specs.Waiting.{waiting, gap_of, behind_of, Adds, AddsForm};
 
 use crate::pending::Pending;
 use crate::piece::{Behind, Gap, Piece, Spot, deeper};
-use ps_parse::rough::Rough;
 use ps_scan::mark;
+use ps_tree::rough::Rough;
 use std::alloc::AllocError;
 
 /// The items of a program, which stand without braces.

@@ -1,6 +1,6 @@
 ghost use Rattle.std.specs.Prelude.{◌≡◌, ◌+◌, true, OnOk};
-ghost use Rattle.ps_parse.specs.Phrase.{form_of, phrase_of};
-ghost use Rattle.ps_parse.specs.PhraseLists.{items_in};
+ghost use Rattle.ps_tree.specs.Phrase.{form_of, phrase_of};
+ghost use Rattle.ps_tree.specs.PhraseLists.{items_in};
 ghost use Rattle.ps_print.specs.Lexemes.{nothing};
 ghost use Rattle.ps_print.specs.Layout.{other, before_do, before_comma, before_colon, clause_lexemes, operand_lexemes, form_lexemes, in_brackets, number_of, tightness as tightness_in, is_looser, is_taken, ends_open};
 ghost use Rattle.ps_print.specs.Weights.{weight, weight_form};
@@ -9,8 +9,8 @@ ghost use Rattle.ps_print.specs.Waiting.{waiting, gap_of, behind_of, tightness_o
 use crate::operators::left_of;
 use crate::pending::Pending;
 use crate::piece::{Behind, Gap, Piece, Spot, Tightness};
-use ps_parse::rough::{Rough, RoughForm, RoughItem};
 use ps_scan::mark;
+use ps_tree::rough::{Rough, RoughForm, RoughItem};
 use std::alloc::AllocError;
 
 /// A clause; what would take what stands behind it stands in brackets.

@@ -1,8 +1,8 @@
 ghost use Rattle.std.specs.Prelude.{◌≡◌, false, ◌+◌, ◌∷◌, [], OnOk};
 ghost use Rattle.ps_base.specs.TyView.{ty_view};
 ghost use Rattle.ps_base.specs.declared.line.Line.{Line};
-ghost use Rattle.ps_parse.specs.Phrase.{phrase_of, groups_in, named as name_at};
-ghost use Rattle.ps_parse.specs.Phrase as form;
+ghost use Rattle.ps_tree.specs.Phrase.{phrase_of, groups_in, named as name_at};
+ghost use Rattle.ps_tree.specs.Phrase as form;
 ghost use Rattle.ps_print.specs.Layout.{becomes as becomes_of};
 ghost use Rattle.ps_print.specs.Weights.{weight};
 ghost use Rattle.ps_print.specs.Waiting.{waiting, Adds, AddsForm, let_lexemes, piece_lexemes};
@@ -10,8 +10,8 @@ ghost use Rattle.ps_print.specs.Waiting.{waiting, Adds, AddsForm, let_lexemes, p
 use crate::pending::Pending;
 use crate::piece::{Gap, Piece, Spot};
 use ps_base::ty::Ty;
-use ps_parse::rough::{Group, Named, Rough, RoughForm};
 use ps_scan::{mark, word};
+use ps_tree::rough::{Group, Named, Rough, RoughForm};
 use std::alloc::AllocError;
 
 pub(crate) fn put_let<'a>(

@@ -1,5 +1,5 @@
 ghost use Rattle.std.specs.Prelude.{OnOk};
-ghost use Rattle.ps_parse.specs.Phrase.{form_of};
+ghost use Rattle.ps_tree.specs.Phrase.{form_of};
 ghost use Rattle.ps_print.specs.Waiting.{waiting, AddsForm};
 
 use crate::blocks::put_block;
@@ -14,8 +14,8 @@ use crate::statements::{
     put_assign, put_case, put_for, put_for_by, put_if_do, put_if_else, put_repeat, put_repeat_do,
     put_while, put_write,
 };
-use ps_parse::rough::RoughForm;
 use ps_scan::word;
+use ps_tree::rough::RoughForm;
 use std::alloc::AllocError;
 
 /// Puts the pieces of a form, which stands at this spot without brackets round it.

@@ -1,7 +1,7 @@
 ghost use Rattle.std.specs.Prelude.{◌≡◌, ◌+◌, ◌∷◌, ◌++◌, OnOk};
-ghost use Rattle.ps_parse.specs.Phrase.{phrase_of, arm_of, item_of};
-ghost use Rattle.ps_parse.specs.Phrase as phrase;
-ghost use Rattle.ps_parse.specs.PhraseLists.{phrases_in, arms_in, items_in};
+ghost use Rattle.ps_tree.specs.Phrase.{phrase_of, arm_of, item_of};
+ghost use Rattle.ps_tree.specs.Phrase as phrase;
+ghost use Rattle.ps_tree.specs.PhraseLists.{phrases_in, arms_in, items_in};
 ghost use Rattle.ps_print.specs.Lexemes.{blank};
 ghost use Rattle.ps_print.specs.Layout.{before_colon, colon, behind_item, clause_lexemes, arms_lexemes, arm_lexemes, items_lexemes, more_items_lexemes, item_lexemes};
 ghost use Rattle.ps_print.specs.Weights.{weight, weight_arms, weight_arm, weight_items, weight_item};
@@ -9,8 +9,8 @@ ghost use Rattle.ps_print.specs.Waiting.{waiting, gap_of, behind_of, Adds};
 
 use crate::pending::Pending;
 use crate::piece::{Behind, Gap, Piece, Spot};
-use ps_parse::rough::{Rough, RoughArm, RoughItem};
 use ps_scan::mark;
+use ps_tree::rough::{Rough, RoughArm, RoughItem};
 use std::alloc::AllocError;
 
 // The arms of a `case`, each on a line of its own.

@@ -4,8 +4,8 @@ ghost use Rattle.std.specs.Prelude.{◌≡◌, ℕ, ◌≤◌, true, not, IsTrue
 ghost use Rattle.std.specs.List.{list_all};
 ghost use Rattle.ps_scan.specs.declared.token.Token.{Token};
 ghost use Rattle.ps_scan.specs.Tokens.{HasTokens, IsSpelled, slice_of};
-ghost use Rattle.ps_parse.specs.Phrase.{Phrase};
-ghost use Rattle.ps_parse.specs.Symbols.{symbol, symbols};
+ghost use Rattle.ps_tree.specs.Phrase.{Phrase};
+ghost use Rattle.ps_symbols.specs.Symbols.{symbol, symbols};
 ghost use Rattle.ps_print.specs.Lexemes.{Lexeme, IsPrintable, printed, tokens_of, token_behind, AreSpelledBy, is_mark, first_passes, last_passes, may_follow, neighbours_pass};
 ghost use Rattle.ps_print.specs.Lines.{goes_on, one_for_one};
 ghost use Rattle.ps_print.specs.Reprint.{PrintsBack};

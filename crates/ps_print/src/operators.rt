@@ -1,8 +1,8 @@
 ghost use Rattle.std.specs.Prelude.{◌≡◌, ◌∷◌, [], OnOk};
 ghost use Rattle.ps_base.specs.TyView.{ty_view};
-ghost use Rattle.ps_parse.specs.Phrase.{phrase_of, named as name_at};
-ghost use Rattle.ps_parse.specs.Phrase as form;
-ghost use Rattle.ps_parse.specs.PhraseLists.{phrases_in};
+ghost use Rattle.ps_tree.specs.Phrase.{phrase_of, named as name_at};
+ghost use Rattle.ps_tree.specs.Phrase as form;
+ghost use Rattle.ps_tree.specs.PhraseLists.{phrases_in};
 ghost use Rattle.ps_print.specs.Layout.{left_of as left_tightness, right_of as right_tightness, sign_of_operator, sign_of_relation, is_word as word_of_is, bound_word as word_of_bound, flag_word as word_of_flag};
 ghost use Rattle.ps_print.specs.Waiting.{waiting, AddsForm, tightness_of, gap_of, piece_lexemes, piece_weight};
 ghost use Rattle.ps_print.specs.declared.piece.Gap.{Gap as GapOf};
@@ -11,8 +11,8 @@ use crate::pending::Pending;
 use crate::piece::{Behind, Gap, Piece, Spot, Tightness};
 use ps_base::operator::{Operator, Relation};
 use ps_base::ty::Ty;
-use ps_parse::rough::{Named, Rough};
 use ps_scan::{mark, word};
+use ps_tree::rough::{Named, Rough};
 use std::alloc::AllocError;
 
 pub(crate) fn put_or<'a>(

@@ -1,7 +1,7 @@
 ghost use Rattle.std.specs.Prelude.{◌≡◌, ◌+◌, IfOk};
 
 use ps_base::ty::Ty;
-use ps_parse::rough::{Group, Rough, RoughArm, RoughForm, RoughItem};
+use ps_tree::rough::{Group, Rough, RoughArm, RoughForm, RoughItem};
 use std::alloc::AllocError;
 
 /// What stands before a word, a mark or another lexeme: nothing, one blank, or a newline and so many

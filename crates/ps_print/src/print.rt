@@ -1,5 +1,5 @@
 ghost use Rattle.std.specs.Prelude.{◌≡◌, ◌<◌, ◌∷◌, [], ◌++◌, IfOk, OnOk};
-ghost use Rattle.ps_parse.specs.Phrase.{phrase_of};
+ghost use Rattle.ps_tree.specs.Phrase.{phrase_of};
 ghost use Rattle.ps_print.specs.Lexemes.{text_of};
 ghost use Rattle.ps_print.specs.Layout.{layout, printed};
 ghost use Rattle.ps_print.specs.Weights.{weight};
@@ -16,7 +16,7 @@ use crate::types::{
     put_types,
 };
 use crate::writer::{write_end, write_int, write_mark, write_spelling, write_string, write_word};
-use ps_parse::rough::{Rough, RoughForm};
+use ps_tree::rough::{Rough, RoughForm};
 use std::alloc::{AllocError, Global};
 
 /// Prints a tree as a text that is read as that tree again: blocks in braces, each item on a line of

@@ -1,13 +1,13 @@
 ghost use Rattle.std.specs.Prelude.{OnOk};
-ghost use Rattle.ps_parse.specs.Phrase.{phrase_of, named as name_at};
-ghost use Rattle.ps_parse.specs.Phrase as form;
-ghost use Rattle.ps_parse.specs.PhraseLists.{arms_in, items_in};
+ghost use Rattle.ps_tree.specs.Phrase.{phrase_of, named as name_at};
+ghost use Rattle.ps_tree.specs.Phrase as form;
+ghost use Rattle.ps_tree.specs.PhraseLists.{arms_in, items_in};
 ghost use Rattle.ps_print.specs.Waiting.{waiting, AddsForm};
 
 use crate::pending::Pending;
 use crate::piece::{Behind, Gap, Piece, Spot, Tightness, deeper};
-use ps_parse::rough::{Named, Rough, RoughArm, RoughItem};
 use ps_scan::{mark, word};
+use ps_tree::rough::{Named, Rough, RoughArm, RoughItem};
 use std::alloc::AllocError;
 
 pub(crate) fn put_if_do<'a>(

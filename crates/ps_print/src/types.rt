@@ -1,7 +1,7 @@
 ghost use Rattle.std.specs.Prelude.{◌+◌, OnOk};
 ghost use Rattle.ps_base.specs.TyView.{ty_view, ty_views};
 ghost use Rattle.ps_base.specs.TyView as ty;
-ghost use Rattle.ps_parse.specs.Phrase.{group_of, groups_in};
+ghost use Rattle.ps_tree.specs.Phrase.{group_of, groups_in};
 ghost use Rattle.ps_print.specs.Lexemes.{nothing, blank};
 ghost use Rattle.ps_print.specs.Layout.{behind_arrow, type_lexemes, types_lexemes, more_types_lexemes, groups_lexemes, more_groups_lexemes, group_lexemes, heading_lexemes};
 ghost use Rattle.ps_print.specs.Weights.{weight_ty, weight_tys, weight_groups, weight_group, weight_heading};
@@ -10,8 +10,8 @@ ghost use Rattle.ps_print.specs.Waiting.{waiting, gap_of, Adds};
 use crate::pending::Pending;
 use crate::piece::{Gap, Piece};
 use ps_base::ty::Ty;
-use ps_parse::rough::Group;
 use ps_scan::{mark, word};
+use ps_tree::rough::Group;
 use std::alloc::AllocError;
 
 pub(crate) fn put_type<'a>(

@@ -1,8 +1,9 @@
 //! Texts and the first fault of each.
 
 use ps_base::line::Line;
-use ps_parse::{ParseFault, parse};
+use ps_parse::parse;
 use ps_scan::{LONGEST_TEXT, scan};
+use ps_tree::fault::ParseFault;
 use std::alloc::Global;
 use std::test::Fail;
 

@@ -2,13 +2,13 @@
 use Rattle.std.proofs.Common.{◌≡◌, Box, Global, refl, sym, ap, ◌∙◌, subst}
 use Rattle.std.specs.Prelude.{Option, Some, None}
 use Rattle.ps_base.specs.declared.line.Line.{Line}
-use Rattle.ps_parse.specs.declared.rough.Rough.{Rough}
-use Rattle.ps_parse.specs.declared.rough.RoughItem.{RoughItem, out-RoughItem}
-use Rattle.ps_parse.specs.declared.rough.RoughForm.{RoughForm}
-use Rattle.ps_parse.specs.declared.rough.RoughForm.TheBlock.{struct-RoughItem, None', Some'}
-use Rattle.ps_parse.specs.declared.rough.RoughForm.TheVariants as code
-use Rattle.ps_parse.specs.Phrase.{MaybePhrase, present, absent, at, item, form_of, phrase_of, maybe_of, item_of}
-use Rattle.ps_parse.specs.Phrase as form
+use Rattle.ps_tree.specs.declared.rough.Rough.{Rough}
+use Rattle.ps_tree.specs.declared.rough.RoughItem.{RoughItem, out-RoughItem}
+use Rattle.ps_tree.specs.declared.rough.RoughForm.{RoughForm}
+use Rattle.ps_tree.specs.declared.rough.RoughForm.TheBlock.{struct-RoughItem, None', Some'}
+use Rattle.ps_tree.specs.declared.rough.RoughForm.TheVariants as code
+use Rattle.ps_tree.specs.Phrase.{MaybePhrase, present, absent, at, item, form_of, phrase_of, maybe_of, item_of}
+use Rattle.ps_tree.specs.Phrase as form
 use Rattle.ps_types.specs.Built.{or_else, first_unbuilt, unbuilt_in, unbuilt_item, width_line}
 
 pub first_of_three : (a b c : Option Line) → or_else (or_else a b) c ≡ or_else a (or_else b c)

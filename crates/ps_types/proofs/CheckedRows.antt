@@ -8,8 +8,8 @@ use Rattle.ps_base.specs.declared.operator.Operator.TheVariants.{Add}
 use Rattle.ps_base.specs.declared.operator.Relation.TheVariants.{Less, Equal}
 use Rattle.ps_base.specs.Node.{Node, Nodes}
 use Rattle.ps_base.specs.Node as node
-use Rattle.ps_parse.specs.Phrase.{Phrase, at, Phrases, none, more, absent, present, item, no_items, more_items}
-use Rattle.ps_parse.specs.Phrase as form
+use Rattle.ps_tree.specs.Phrase.{Phrase, at, Phrases, none, more, absent, present, item, no_items, more_items}
+use Rattle.ps_tree.specs.Phrase as form
 use Rattle.ps_types.specs.declared.check_fault.CheckFault.TheVariants.{Unknown, Twice, Mismatch, NotAssignable, NotBuilt}
 use Rattle.ps_types.specs.Checking.{check_program, check_built, verdict_of, Typed, Fails, passes, ◌>>=◌}
 

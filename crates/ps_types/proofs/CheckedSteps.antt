@@ -8,9 +8,9 @@ use Rattle.ps_base.specs.declared.basic_type.BasicType.TheVariants.{Int, Bool as
 use Rattle.ps_base.specs.declared.tree.Tree.{Tree}
 use Rattle.ps_base.specs.Node.{Node, Nodes, none, more, node_of, nodes_in}
 use Rattle.ps_base.specs.Node as node
-use Rattle.ps_parse.specs.Phrase.{Phrase, Phrases, phrase_of}
-use Rattle.ps_parse.specs.Phrase as form
-use Rattle.ps_parse.specs.declared.rough.Rough.{Rough}
+use Rattle.ps_tree.specs.Phrase.{Phrase, Phrases, phrase_of}
+use Rattle.ps_tree.specs.Phrase as form
+use Rattle.ps_tree.specs.declared.rough.Rough.{Rough}
 use Rattle.ps_types.specs.declared.check_fault.CheckFault.{CheckFault}
 use Rattle.ps_types.specs.declared.check_fault.CheckFault.TheVariants.{Memory, Mismatch, NotBuilt}
 use Rattle.ps_types.specs.declared.clause.Clause.{Clause}

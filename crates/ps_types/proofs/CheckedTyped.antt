@@ -9,8 +9,8 @@ use Rattle.ps_base.specs.declared.operator.Relation.{Relation}
 use Rattle.ps_base.specs.declared.operator.Relation.TheVariants.{Equal, NotEqual}
 use Rattle.ps_base.specs.Node.{Node, Nodes}
 use Rattle.ps_base.specs.Node as node
-use Rattle.ps_parse.specs.Phrase.{NameAt, Phrase, at, Form, Phrases, none, more, absent, present, WriteItem, item, WriteItems, no_items, more_items}
-use Rattle.ps_parse.specs.Phrase as form
+use Rattle.ps_tree.specs.Phrase.{NameAt, Phrase, at, Form, Phrases, none, more, absent, present, WriteItem, item, WriteItems, no_items, more_items}
+use Rattle.ps_tree.specs.Phrase as form
 use Rattle.ps_meaning.specs.Typed.{IsWord, IsTyped, AreTyped}
 use Rattle.ps_meaning.specs.Typed as typed
 use Rattle.ps_types.specs.declared.declaration.Local.{Local}

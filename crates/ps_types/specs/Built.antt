@@ -1,8 +1,8 @@
 -- The forms that the grammar reads and that don't run yet, and the first of them in the text.
 use Rattle.std.specs.Prelude.{Option, Some, None}
 use Rattle.ps_base.specs.declared.line.Line.{Line}
-use Rattle.ps_parse.specs.Phrase.{Phrase, at, Form, Phrases, none, more, MaybePhrase, absent, present, WriteItem, item, WriteItems, no_items, more_items}
-use Rattle.ps_parse.specs.Phrase as form
+use Rattle.ps_tree.specs.Phrase.{Phrase, at, Form, Phrases, none, more, MaybePhrase, absent, present, WriteItem, item, WriteItems, no_items, more_items}
+use Rattle.ps_tree.specs.Phrase as form
 
 -- the first of two, in this order
 abbrev pub or_else : Option Line → Option Line → Option Line

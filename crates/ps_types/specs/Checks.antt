@@ -6,7 +6,7 @@ use Rattle.ps_base.specs.declared.basic_type.BasicType.TheVariants.{Int, Bool as
 use Rattle.ps_base.specs.declared.tree.Tree.{Tree}
 use Rattle.ps_base.specs.Node.{Node, Nodes, node_of, nodes_in}
 use Rattle.ps_base.specs.Node as node
-use Rattle.ps_parse.specs.Phrase.{Phrase, Form, phrase_of}
+use Rattle.ps_tree.specs.Phrase.{Phrase, Form, phrase_of}
 use Rattle.ps_types.specs.declared.check_fault.CheckFault.{CheckFault}
 use Rattle.ps_types.specs.declared.check_fault.CheckFault.TheVariants.{Memory}
 use Rattle.ps_types.specs.declared.clause.Clause.{Clause}

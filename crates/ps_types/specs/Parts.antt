@@ -1,8 +1,8 @@
 -- What the search for a form that isn't built goes into in a clause, and what it finds there.
 use Rattle.std.specs.Prelude.{ℕ, ◌+◌, Option, Some, None}
 use Rattle.ps_base.specs.declared.line.Line.{Line}
-use Rattle.ps_parse.specs.Phrase.{phrase_of}
-use Rattle.ps_parse.specs.PhraseLists.{phrases_in, items_in}
+use Rattle.ps_tree.specs.Phrase.{phrase_of}
+use Rattle.ps_tree.specs.PhraseLists.{phrases_in, items_in}
 use Rattle.ps_types.specs.declared.built.Parts.{Parts}
 use Rattle.ps_types.specs.declared.built.Parts.TheVariants.{Nothing, Itself, Before, One, Two, Three, Clauses, Items}
 use Rattle.ps_types.specs.Built.{or_else, first_unbuilt, unbuilt_among, unbuilt_written}

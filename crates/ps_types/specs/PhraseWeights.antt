@@ -1,7 +1,7 @@
 -- How many clauses the check goes into in a clause: the measure of what goes over clauses.
 use Rattle.std.specs.Prelude.{ℕ, ◌+◌, List, [], ◌∷◌}
-use Rattle.ps_parse.specs.Phrase.{Phrase, at, Form, Phrases, none, more, WriteItem, item, WriteItems, no_items, more_items, phrase_of}
-use Rattle.ps_parse.specs.Phrase as form
+use Rattle.ps_tree.specs.Phrase.{Phrase, at, Form, Phrases, none, more, WriteItem, item, WriteItems, no_items, more_items, phrase_of}
+use Rattle.ps_tree.specs.Phrase as form
 use Rattle.ps_types.specs.declared.link.Link.{Link}
 
 abbrev mutual

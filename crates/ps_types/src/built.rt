@@ -1,12 +1,12 @@
 ghost use Rattle.std.specs.Prelude.{◌≡◌, ◌+◌, ◌≤◌};
-ghost use Rattle.ps_parse.specs.Phrase.{phrase_of, item_of};
-ghost use Rattle.ps_parse.specs.PhraseLists.{phrases_in, items_in};
+ghost use Rattle.ps_tree.specs.Phrase.{phrase_of, item_of};
+ghost use Rattle.ps_tree.specs.PhraseLists.{phrases_in, items_in};
 ghost use Rattle.ps_types.specs.Built.{first_unbuilt as first_unbuilt_of, unbuilt_among, unbuilt_written, unbuilt_item as unbuilt_item_of, or_else as or_else_of};
 ghost use Rattle.ps_types.specs.Parts.{unbuilt_parts, weight_parts};
 ghost use Rattle.ps_types.specs.PhraseWeights.{weight};
 
 use ps_base::line::Line;
-use ps_parse::rough::{Rough, RoughForm, RoughItem};
+use ps_tree::rough::{Rough, RoughForm, RoughItem};
 
 /// The line of the first form in the text of a clause that isn't built yet (`docs/language.md`).
 // Recursion is as deep as clauses stand inside one another; what stands first in a form is gone into by

@@ -1,9 +1,9 @@
 ghost use Rattle.std.specs.Prelude.{◌≡◌, ◌≢◌, ℕ, true, false, ◌+◌, ◌≤◌, ◌∷◌, [], MatchResult, IfOk, IfErr};
 ghost use Rattle.ps_base.specs.Node.{Node, node_of, nodes_in};
 ghost use Rattle.ps_base.specs.Node as node;
-ghost use Rattle.ps_parse.specs.Phrase.{phrase_of, item_of, named as name_at};
-ghost use Rattle.ps_parse.specs.Phrase as form;
-ghost use Rattle.ps_parse.specs.PhraseLists.{phrases_in, items_in};
+ghost use Rattle.ps_tree.specs.Phrase.{phrase_of, item_of, named as name_at};
+ghost use Rattle.ps_tree.specs.Phrase as form;
+ghost use Rattle.ps_tree.specs.PhraseLists.{phrases_in, items_in};
 ghost use Rattle.ps_meaning.specs.Typed.{IsTyped};
 ghost use Rattle.ps_types.specs.Names.{Names, inside, meant};
 ghost use Rattle.ps_types.specs.Checking.{Gives, Typed, Fails, check as check_of, check_form, check_all, check_written, check_item as item_checked, check_program, wants, is_same as is_same_of, is_word as is_word_of, is_comparable as is_comparable_of, is_writable as is_writable_of, variable_in as variable_in_of, introduced, assigned, written, target as target_of, end_line as end_line_of, named};
@@ -21,7 +21,7 @@ use ps_base::line::Line;
 use ps_base::operator::Relation;
 use ps_base::place::Place;
 use ps_base::tree::Tree;
-use ps_parse::rough::{Named, Rough, RoughForm, RoughItem};
+use ps_tree::rough::{Named, Rough, RoughForm, RoughItem};
 use std::alloc::Global;
 
 /// A well-typed program: its tree, and how many slots its names take.

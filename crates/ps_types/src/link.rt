@@ -4,7 +4,7 @@ ghost use Rattle.ps_types.specs.Checks.{joint_ty};
 use ps_base::basic_type::BasicType;
 use ps_base::line::Line;
 use ps_base::operator::Operator;
-use ps_parse::rough::Rough;
+use ps_tree::rough::Rough;
 
 /// What joins two operands of a chain.
 #[derive(Clone, Copy)]

@@ -6,7 +6,7 @@ use Rattle.ps_port.specs.Texts.{IsTextOf, TooLongFor}
 use Rattle.ps_port.specs.declared.shelf.ShelfFault.{ShelfFault}
 use Rattle.ps_port.specs.declared.shelf.ShelfFault.TheVariants.{Failed, TooLong, Memory}
 use Rattle.ps_scan.specs.Fault as scanning
-use Rattle.ps_parse.specs.Fault as parsing
+use Rattle.ps_tree.specs.Fault as parsing
 use Rattle.ps_meaning.specs.Event.{outputs, status_of}
 use Rattle.ps_meaning.specs.Run.{run_events, run_end}
 use Rattle.ps_types.specs.CheckFaults as checking

@@ -4,7 +4,7 @@ use Rattle.ps_base.specs.Node.{Node}
 use Rattle.ps_base.specs.declared.line.Line.{Line}
 use Rattle.ps_scan.specs.declared.token.Token.{Token}
 use Rattle.ps_scan.proofs.Laws.{same_tokens, never_both}
-use Rattle.ps_parse.specs.Phrase.{Phrase}
+use Rattle.ps_tree.specs.Phrase.{Phrase}
 use Rattle.ps_parse.specs.Program.{ReadsAs}
 use Rattle.ps_parse.proofs.Unique.{one_tree}
 use Rattle.ps_parse.proofs.Faults.{no_fault_of_tree}

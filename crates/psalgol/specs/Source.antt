@@ -7,11 +7,11 @@ use Rattle.ps_scan.specs.declared.fault.ScanFault.{ScanFault}
 use Rattle.ps_scan.specs.declared.fault.ScanFault.TheVariants as scan_fault
 use Rattle.ps_scan.specs.Tokens.{HasTokens, HasFault}
 use Rattle.ps_scan.specs.Fault as scanning
-use Rattle.ps_parse.specs.declared.fault.ParseFault.{ParseFault}
-use Rattle.ps_parse.specs.declared.fault.ParseFault.TheVariants as parse_fault
-use Rattle.ps_parse.specs.Phrase.{Phrase}
+use Rattle.ps_tree.specs.declared.fault.ParseFault.{ParseFault}
+use Rattle.ps_tree.specs.declared.fault.ParseFault.TheVariants as parse_fault
+use Rattle.ps_tree.specs.Phrase.{Phrase}
 use Rattle.ps_parse.specs.Program.{ReadsAs, IsParseFault}
-use Rattle.ps_parse.specs.Fault as parsing
+use Rattle.ps_tree.specs.Fault as parsing
 use Rattle.ps_types.specs.declared.check_fault.CheckFault.{CheckFault}
 use Rattle.ps_types.specs.declared.check_fault.CheckFault.TheVariants as check_fault
 use Rattle.ps_types.specs.Checking.{check_program, Typed, Fails}

@@ -2,8 +2,8 @@ ghost use Rattle.std.specs.Prelude.{◌≡◌};
 ghost use Rattle.psalgol.specs.Source.{stage_of, number_of, line_of_fault};
 
 use ps_base::line::Line;
-use ps_parse::ParseFault;
 use ps_scan::ScanFault;
+use ps_tree::fault::ParseFault;
 use ps_types::CheckFault;
 
 /// Why a text is no program, by the stage that found it. Want of memory may come in any stage.

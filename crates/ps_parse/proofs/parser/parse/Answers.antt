@@ -1,16 +1,16 @@
 use Rattle.std.proofs.Common.{arith, List, None, length, subst, sym, ◌∙◌}
 use Rattle.std.specs.List.{All}
-use Rattle.ps_parse.specs.declared.symbol.Symbol.{Symbol}
-use Rattle.ps_parse.specs.Soundness.{IsSound}
+use Rattle.ps_symbols.specs.declared.symbol.Symbol.{Symbol}
+use Rattle.ps_symbols.specs.Soundness.{IsSound}
 use Rattle.ps_parse.specs.Stopping.{Stops}
 use Rattle.std.specs.Prelude.{Result, Ok, Err, IfErr, ◌≢◌}
-use Rattle.ps_parse.specs.declared.fault.ParseFault.{ParseFault}
-use Rattle.ps_parse.specs.declared.fault.ParseFault.TheVariants.{Memory}
-use Rattle.ps_parse.specs.declared.rough.Rough.{Rough}
+use Rattle.ps_tree.specs.declared.fault.ParseFault.{ParseFault}
+use Rattle.ps_tree.specs.declared.fault.ParseFault.TheVariants.{Memory}
+use Rattle.ps_tree.specs.declared.rough.Rough.{Rough}
 use Rattle.ps_parse.specs.Program.{IsParseFault}
 use Rattle.ps_parse.specs.Grammar.{Go, Program}
 use Rattle.ps_parse.proofs.Faults.{fault_of_stop}
-use Rattle.ps_parse.proofs.SymbolLemmas.{tokens_fit, all_sound}
+use Rattle.ps_symbols.proofs.SymbolLemmas.{tokens_fit, all_sound}
 use Rattle.ps_parse.proofs.parser.parse.Goals as goal
 
 pub symbols-requires : goal.symbols-requires

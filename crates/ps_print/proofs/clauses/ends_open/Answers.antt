@@ -1,5 +1,5 @@
 use Rattle.std.proofs.Common.{◌∙◌, ap, sym}
-use Rattle.ps_parse.specs.PhraseLists.{items_in}
+use Rattle.ps_tree.specs.PhraseLists.{items_in}
 use Rattle.ps_print.specs.Layout.{ends_open}
 use Rattle.ps_print.proofs.Views.{ends_open_with, other_flag}
 use Rattle.ps_print.proofs.clauses.ends_open.Goals as goal

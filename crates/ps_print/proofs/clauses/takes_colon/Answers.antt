@@ -1,8 +1,8 @@
 use Rattle.std.proofs.Common.{◌≡◌, ◌∙◌, ap, sym}
-use Rattle.ps_parse.specs.Phrase.{Form, Write, form_of}
-use Rattle.ps_parse.specs.PhraseLists.{items_in}
+use Rattle.ps_tree.specs.Phrase.{Form, Write, form_of}
+use Rattle.ps_tree.specs.PhraseLists.{items_in}
 use Rattle.ps_print.specs.Layout.{is_taken, before_colon}
-use Rattle.ps_print.proofs.Views.{form_of-Write}
+use Rattle.ps_tree.proofs.PhraseLemmas.{form_of-Write}
 use Rattle.ps_print.proofs.clauses.takes_colon.Goals as goal
 
 pub returns-in-Write : goal.returns-in-Write

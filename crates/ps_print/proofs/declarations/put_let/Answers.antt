@@ -1,7 +1,7 @@
 use Rattle.std.proofs.Common.{◌≡◌, ◌∙◌, ap, sym, subst, false}
 use Rattle.std.specs.Prelude.{OnOk}
 use Rattle.ps_base.specs.TyView.{ty_view}
-use Rattle.ps_parse.specs.Phrase.{Form, at, Let, Proc, phrase_of, form_of, named, groups_in}
+use Rattle.ps_tree.specs.Phrase.{Form, at, Let, Proc, phrase_of, form_of, named, groups_in}
 use Rattle.ps_print.specs.Layout.{is_procedure}
 use Rattle.ps_print.specs.Waiting.{waiting, AddsForm}
 use Rattle.ps_print.proofs.Printing.{is_no_procedure, puts_let}

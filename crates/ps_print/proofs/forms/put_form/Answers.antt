@@ -1,9 +1,9 @@
 use Rattle.std.proofs.Common.{◌≡◌, ◌∙◌, ap, sym, rules}
 use Rattle.ps_base.specs.List.{items_of}
 use Rattle.ps_base.specs.TyView.{ty_view}
-use Rattle.ps_parse.specs.Phrase.{Sequence, Case, Write, Apply, Elems, form_of, phrase_of}
-use Rattle.ps_parse.specs.PhraseLists.{phrases_in, arms_in, items_in}
-use Rattle.ps_print.proofs.Views.{form_of-Sequence, form_of-Case, form_of-Write, form_of-Apply, form_of-Elems}
+use Rattle.ps_tree.specs.Phrase.{Sequence, Case, Write, Apply, Elems, form_of, phrase_of}
+use Rattle.ps_tree.specs.PhraseLists.{phrases_in, arms_in, items_in}
+use Rattle.ps_tree.proofs.PhraseLemmas.{form_of-Sequence, form_of-Case, form_of-Write, form_of-Apply, form_of-Elems}
 use Rattle.ps_print.proofs.forms.put_form.Goals as goal
 
 pub returns-in-Sequence : goal.returns-in-Sequence

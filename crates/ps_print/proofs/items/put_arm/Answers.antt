@@ -1,7 +1,7 @@
 use Rattle.std.proofs.Common.{◌≡◌, ◌∙◌, ap, sym, rules}
-use Rattle.ps_parse.specs.Phrase.{arm, arm_of, phrase_of}
-use Rattle.ps_parse.specs.PhraseLists.{phrases_in}
-use Rattle.ps_parse.specs.declared.rough.RoughArm.{out-RoughArm}
+use Rattle.ps_tree.specs.Phrase.{arm, arm_of, phrase_of}
+use Rattle.ps_tree.specs.PhraseLists.{phrases_in}
+use Rattle.ps_tree.specs.declared.rough.RoughArm.{out-RoughArm}
 use Rattle.ps_print.proofs.Views.{arm_of-parts}
 use Rattle.ps_print.proofs.items.put_arm.Goals as goal
 

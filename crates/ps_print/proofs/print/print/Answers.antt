@@ -1,5 +1,5 @@
 use Rattle.std.proofs.Common.{◌∙◌, ◌++◌, ap, sym}
-use Rattle.ps_parse.specs.Phrase.{phrase_of}
+use Rattle.ps_tree.specs.Phrase.{phrase_of}
 use Rattle.ps_print.specs.Waiting.{waiting, lexemes_of}
 use Rattle.ps_print.specs.Lexemes.{text_of}
 use Rattle.ps_print.specs.Weights.{weight}

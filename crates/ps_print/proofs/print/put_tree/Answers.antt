@@ -1,7 +1,7 @@
 use Rattle.std.proofs.Common.{◌≡◌, ◌∙◌, ap, sym, refl, rules}
-use Rattle.ps_parse.specs.Phrase.{Sequence, form_of}
-use Rattle.ps_parse.specs.PhraseLists.{phrases_in}
-use Rattle.ps_print.proofs.Views.{form_of-Sequence}
+use Rattle.ps_tree.specs.Phrase.{Sequence, form_of}
+use Rattle.ps_tree.specs.PhraseLists.{phrases_in}
+use Rattle.ps_tree.proofs.PhraseLemmas.{form_of-Sequence}
 use Rattle.ps_print.proofs.print.put_tree.Goals as goal
 
 pub returns-in-Sequence : goal.returns-in-Sequence

@@ -1,10 +1,10 @@
 use Rattle.std.proofs.Common.{rules, ◌≡◌, ℕ, ◌+◌, ◌<◌, ◌≤◌, ◌∙◌, ap, sym, subst, arith, length, get_or}
 use Rattle.std.specs.Prelude.{Option}
 use Rattle.ps_base.specs.declared.line.Line.{Line}
-use Rattle.ps_parse.specs.declared.rough.Rough.{Rough}
-use Rattle.ps_parse.specs.declared.rough.RoughItem.{out-RoughItem}
-use Rattle.ps_parse.specs.Phrase.{phrase_of, item_of}
-use Rattle.ps_parse.specs.PhraseLists.{phrases_in, items_in}
+use Rattle.ps_tree.specs.declared.rough.Rough.{Rough}
+use Rattle.ps_tree.specs.declared.rough.RoughItem.{out-RoughItem}
+use Rattle.ps_tree.specs.Phrase.{phrase_of, item_of}
+use Rattle.ps_tree.specs.PhraseLists.{phrases_in, items_in}
 use Rattle.ps_types.specs.Built.{first_unbuilt, or_else, unbuilt_item, width_line}
 use Rattle.ps_types.specs.PhraseWeights.{weight, weight_all, weight_item, weight_written}
 use Rattle.ps_types.proofs.CheckedPhrases.{weight_at, item_weight_at}

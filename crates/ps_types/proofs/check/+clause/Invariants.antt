@@ -1,8 +1,8 @@
 -- The measures of the checker, and the loops over items and links.
 use Rattle.std.proofs.Common.{◌≡◌, ◌≤◌, ◌+◌, ◌*◌, drop, length}
 use Rattle.ps_base.specs.Node.{node_of}
-use Rattle.ps_parse.specs.Phrase.{phrase_of, item_of}
-use Rattle.ps_parse.specs.PhraseLists.{phrases_in, items_in}
+use Rattle.ps_tree.specs.Phrase.{phrase_of, item_of}
+use Rattle.ps_tree.specs.PhraseLists.{phrases_in, items_in}
 use Rattle.ps_types.specs.Checking.{Gives, check_all, check_written}
 use Rattle.ps_types.specs.Checks.{check_links}
 use Rattle.ps_types.specs.PhraseWeights.{weight, weight_all, weight_written, weight_item, weight_links}

@@ -3,7 +3,7 @@ use Rattle.std.specs.Prelude.{Ok, Err, None}
 use Rattle.ps_base.specs.Node.{node_of}
 use Rattle.ps_base.specs.declared.line.Line.{Line}
 use Rattle.ps_base.specs.declared.basic_type.BasicType.TheVariants.{Void}
-use Rattle.ps_parse.specs.Phrase.{phrase_of}
+use Rattle.ps_tree.specs.Phrase.{phrase_of}
 use Rattle.ps_types.specs.Names.{Names, no_names}
 use Rattle.ps_types.specs.Checking.{Gives, Typed, check, wants}
 use Rattle.ps_types.specs.Checks.{IsFault}

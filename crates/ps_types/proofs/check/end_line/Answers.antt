@@ -1,9 +1,10 @@
 use Rattle.std.proofs.Common.{◌≡◌, ◌∙◌, ap, sym}
-use Rattle.ps_parse.specs.Phrase.{at, form_of, Sequence}
-use Rattle.ps_parse.specs.declared.rough.Rough.{Rough}
-use Rattle.ps_parse.specs.PhraseLists.{phrases_in}
+use Rattle.ps_tree.specs.Phrase.{at, form_of, Sequence}
+use Rattle.ps_tree.specs.declared.rough.Rough.{Rough}
+use Rattle.ps_tree.specs.PhraseLists.{phrases_in}
 use Rattle.ps_types.specs.Checking.{end_line}
-use Rattle.ps_types.proofs.CheckedPhrases.{form_of-Sequence, last_is, last_of_none}
+use Rattle.ps_tree.proofs.PhraseLemmas.{form_of-Sequence}
+use Rattle.ps_types.proofs.CheckedPhrases.{last_is, last_of_none}
 use Rattle.ps_types.proofs.check.end_line.Goals as goal
 
 pub returns-in-empty : goal.returns-in-empty

@@ -1,7 +1,7 @@
 use Rattle.std.proofs.Common.{◌≡◌, ◌∙◌, ◌+◌, ap, sym}
-use Rattle.ps_parse.specs.declared.rough.Rough.{Rough}
-use Rattle.ps_parse.specs.Phrase.{phrase_of, form_of}
-use Rattle.ps_parse.specs.Phrase as form
+use Rattle.ps_tree.specs.declared.rough.Rough.{Rough}
+use Rattle.ps_tree.specs.Phrase.{phrase_of, form_of}
+use Rattle.ps_tree.specs.Phrase as form
 use Rattle.ps_types.specs.declared.link.Joint.TheVariants.{Or, And, Arith}
 use Rattle.ps_types.specs.Checking.{check_form}
 use Rattle.ps_types.specs.PhraseWeights.{weight_form}

@@ -1,6 +1,6 @@
 -- The links that are kept, behind the clause that is left, make the chain.
 use Rattle.std.proofs.Common.{◌≡◌, ◌≤◌, ◌+◌}
-use Rattle.ps_parse.specs.Phrase.{phrase_of}
+use Rattle.ps_tree.specs.Phrase.{phrase_of}
 use Rattle.ps_types.specs.Names.{Names}
 use Rattle.ps_types.specs.Checking.{check}
 use Rattle.ps_types.specs.Checks.{check_links}

@@ -2,10 +2,10 @@ use Rattle.std.proofs.Common.{true, false, Some, refl, sym, ap, ◌∙◌, arith
 use Rattle.std.proofs.lemmas.Result.{err_from_is_err_and}
 use Rattle.ps_base.specs.TyView.{ty_view}
 use Rattle.ps_base.specs.declared.ty.Ty.{Ty}
-use Rattle.ps_parse.specs.declared.kind.Kind.TheVariants as kind
-use Rattle.ps_parse.specs.Phrase.{Phrase, phrase_of, item_of}
-use Rattle.ps_parse.specs.Phrase as form
-use Rattle.ps_parse.specs.PhraseLists.{phrases_in}
+use Rattle.ps_symbols.specs.declared.kind.Kind.TheVariants as kind
+use Rattle.ps_tree.specs.Phrase.{Phrase, phrase_of, item_of}
+use Rattle.ps_tree.specs.Phrase as form
+use Rattle.ps_tree.specs.PhraseLists.{phrases_in}
 use Rattle.ps_parse.specs.Grammar.{a_clause, an_item, Go, Binding, Literal, Step, Labels, Cases, MoreArguments, MoreElements, MoreWritten, MoreItems, MoreChain, Items, a_clause_inside, opened, skip, give, clause_of, with_clause, line_at}
 use Rattle.ps_parse.specs.Reading.{Reads}
 use Rattle.ps_parse.specs.Stopping.{Stops}

@@ -2,11 +2,11 @@ use Rattle.std.proofs.Common.{ℕ, ◌≡◌, ◌≤◌, ◌+◌, ◌-◌, ◌*�
 use Rattle.ps_base.specs.TyView.{ty_view}
 use Rattle.ps_base.specs.declared.line.Line.{Line}
 use Rattle.ps_base.specs.declared.ty.Ty.{Ty}
-use Rattle.ps_parse.specs.declared.kind.Level.{Level}
-use Rattle.ps_parse.specs.declared.kind.Level.TheVariants.{Disjunction, Conjunction, Sum, Product}
+use Rattle.ps_symbols.specs.declared.kind.Level.{Level}
+use Rattle.ps_symbols.specs.declared.kind.Level.TheVariants.{Disjunction, Conjunction, Sum, Product}
 use Rattle.ps_parse.specs.declared.parser.Parser.{Parser}
-use Rattle.ps_parse.specs.Phrase.{Phrase, Arms, none, no_arms, more, phrase_of}
-use Rattle.ps_parse.specs.PhraseLists.{phrases_in, arms_in, items_in}
+use Rattle.ps_tree.specs.Phrase.{Phrase, Arms, none, no_arms, more, phrase_of}
+use Rattle.ps_tree.specs.PhraseLists.{phrases_in, arms_in, items_in}
 use Rattle.ps_parse.specs.Grammar.{Rule, Go, Application, Applied, Items, Cases, Chain, Labels, MoreArguments, MoreChain, MoreElements, MoreWritten, writing, line_at}
 use Rattle.ps_parse.specs.Parsing.{GoesOn, an_arm}
 use Rattle.ps_parse.proofs.parser.Parser.+parsing.Given as goal

@@ -1,7 +1,7 @@
 use Rattle.std.proofs.Common.{[], ◌∷◌, ◌++◌, refl, ap, arith}
 use Rattle.std.proofs.lemmas.Result.{err_from_is_err_and}
 use Rattle.ps_base.specs.TyView.{ty_view}
-use Rattle.ps_parse.specs.Phrase.{group_of, groups_in}
+use Rattle.ps_tree.specs.Phrase.{group_of, groups_in}
 use Rattle.ps_parse.specs.Grammar.{all_groups, named_group, Give}
 use Rattle.ps_parse.specs.Parsing.{after_group}
 use Rattle.ps_parse.specs.Reading.{Reads}

@@ -1,7 +1,7 @@
 use Rattle.std.proofs.Common.{ℕ, [], ◌≤◌, ◌-◌, length}
 use Rattle.ps_base.specs.TyView.{ty_view}
 use Rattle.ps_parse.specs.declared.parser.Parser.{Parser}
-use Rattle.ps_parse.specs.Phrase.{groups_in}
+use Rattle.ps_tree.specs.Phrase.{groups_in}
 use Rattle.ps_parse.specs.Grammar.{Rule, Go, Groups, named_group}
 use Rattle.ps_parse.specs.Parsing.{GoesOn}
 use Rattle.ps_parse.proofs.parser.Parser.groups.Given as goal

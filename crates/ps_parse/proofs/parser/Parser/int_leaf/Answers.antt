@@ -1,7 +1,7 @@
 use Rattle.std.proofs.Common.{refl, ap, ◌∙◌, rules, w32}
 use Rattle.std.proofs.lemmas.Int.{to_z-of_z, ints}
-use Rattle.ps_parse.specs.Phrase.{at}
-use Rattle.ps_parse.specs.Phrase as form
+use Rattle.ps_tree.specs.Phrase.{at}
+use Rattle.ps_tree.specs.Phrase as form
 use Rattle.ps_parse.specs.Grammar.{a_clause}
 use Rattle.ps_parse.proofs.Steps.{gives_at, takes_at}
 use Rattle.ps_parse.proofs.parser.Parser.int_leaf.Goals as goal

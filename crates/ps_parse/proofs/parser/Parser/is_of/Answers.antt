@@ -1,6 +1,6 @@
 use Rattle.std.proofs.lemmas.Result.{err_from_is_err_and}
-use Rattle.ps_parse.specs.Phrase.{phrase_of}
-use Rattle.ps_parse.specs.Phrase as form
+use Rattle.ps_tree.specs.Phrase.{phrase_of}
+use Rattle.ps_tree.specs.Phrase as form
 use Rattle.ps_parse.specs.Grammar.{give, line_at}
 use Rattle.ps_parse.specs.Stopping.{Stops}
 use Rattle.ps_parse.proofs.Steps.{leads_on, leads_take}

@@ -1,6 +1,6 @@
 use Rattle.std.proofs.Common.{refl, ap, ◌∙◌}
-use Rattle.ps_parse.specs.Phrase.{at}
-use Rattle.ps_parse.specs.Phrase as form
+use Rattle.ps_tree.specs.Phrase.{at}
+use Rattle.ps_tree.specs.Phrase as form
 use Rattle.ps_parse.specs.Grammar.{a_clause}
 use Rattle.ps_parse.proofs.Steps.{gives_at, takes_at}
 use Rattle.ps_parse.proofs.Rows.{}

@@ -1,5 +1,5 @@
 use Rattle.std.proofs.Common.{false, refl, sym, ap, ◌∙◌}
-use Rattle.ps_parse.specs.Phrase.{groups_in}
+use Rattle.ps_tree.specs.Phrase.{groups_in}
 use Rattle.ps_parse.specs.Grammar.{all_groups}
 use Rattle.ps_parse.proofs.Steps.{gives_at}
 use Rattle.ps_parse.proofs.Rows.{parameters_stand}

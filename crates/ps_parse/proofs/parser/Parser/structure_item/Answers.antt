@@ -1,6 +1,6 @@
 use Rattle.std.proofs.lemmas.Result.{err_from_is_err_and}
-use Rattle.ps_parse.specs.declared.kind.Kind.TheVariants as kind
-use Rattle.ps_parse.specs.Phrase as form
+use Rattle.ps_symbols.specs.declared.kind.Kind.TheVariants as kind
+use Rattle.ps_tree.specs.Phrase as form
 use Rattle.ps_parse.specs.Grammar.{Go, Then, Parameters, skip, give, the_groups, line_at}
 use Rattle.ps_parse.specs.Stopping.{Stops}
 use Rattle.ps_parse.proofs.Steps.{leads_on, leads_take, leads_first}

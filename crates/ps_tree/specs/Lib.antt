@@ -1,0 +1,4 @@
+pub mod Composing
+pub mod Fault
+pub mod Phrase
+pub mod PhraseLists
