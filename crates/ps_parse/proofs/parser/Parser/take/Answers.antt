@@ -1,7 +1,7 @@
 use Rattle.std.proofs.Common.{ℕ, List, Some, slice_get, sym, subst, ◌≡◌, ◌∙◌}
 use denote.Enum.Bare.{differs_false}
 use Rattle.std.specs.List.{All}
-use Rattle.ps_parse.specs.contracts.kind.Kind.{the_type}
+use Rattle.ps_symbols.specs.contracts.kind.Kind.{the_type}
 use Rattle.std.proofs.lemmas.Option.{slice_get_within, get_or_from_slice_get}
 use Rattle.std.proofs.lemmas.List.Elements.{All-get_or}
 use Rattle.ps_symbols.specs.declared.symbol.Symbol.{Symbol}
