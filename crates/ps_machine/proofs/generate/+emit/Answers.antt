@@ -2,12 +2,11 @@ use Rattle.std.proofs.Common.{◌≡◌, rules, suc, get_or, ◌∙◌, ◌+◌,
 use Rattle.std.specs.Prelude.{slice_set, OnOk}
 use Rattle.ps_base.specs.Node.{Node, Nodes, more, node_of, node_of_form, nodes_in}
 use Rattle.ps_base.specs.Node as node
-use Rattle.ps_base.proofs.NodeLemmas.{node_of_form-Block}
 use Rattle.ps_machine.specs.declared.instruction.Instruction.TheVariants.{Again, Jump, JumpFalse, And, Or, Arith, Compare}
 use Rattle.ps_machine.specs.Code.{code_of, size}
 use Rattle.ps_machine.specs.Emission.{Emits, EmitsWith, EmitsBefore}
 use Rattle.ps_machine.proofs.Weights.{weight, weight_all}
-use Rattle.ps_machine.proofs.Generated.{LeadsAll, weight_at, nodes_from, leads_operand, leads_clause, leads_choices, leads_item, length_emitted, loop_emitted, leads_sequence, on_ok}
+use Rattle.ps_machine.proofs.Generated.{LeadsAll, weight_at, nodes_from, leads_operand, leads_clause, leads_choices, leads_item, length_emitted, loop_emitted, leads_sequence, block_is, on_ok}
 use Rattle.ps_machine.proofs.generate.+emit.Goals as goal
 
 pub emit-loop-rest-preserved-in-IfDo : goal.emit-loop-rest-preserved-in-IfDo
@@ -94,12 +93,13 @@ emit_all-emit-requires t c =
 
 pub emit-emit_all-requires : goal.emit-emit_all-requires
 emit-emit_all-requires t c =
-    let is : node_of_form c.loop-rest.rest.now ≡ node.Block c.in-Block.scope (nodes_in c.as_slice.result.now) = ap node_of_form c.in-Block.is ∙ node_of_form-Block c.in-Block.scope c.in-Block.items ∙ ap (λ ts. node.Block c.in-Block.scope (nodes_in ts)) (sym c.as_slice.ensures) in
-    let light : weight (node_of_form c.loop-rest.rest.now) ≡ weight_all (nodes_in c.as_slice.result.now) + 1 = ap weight is in
+    let light : weight (node_of_form c.loop-rest.rest.now) ≡ weight_all (nodes_in c.as_slice.result.now) + 1 =
+    ap weight (block_is c.in-Block.scope c.in-Block.items c.in-Block.is c.as_slice.ensures) in
     search (rules, light)
 
 pub emit-returns-in-Block : goal.emit-returns-in-Block
 emit-returns-in-Block t c =
-    let is : node_of_form c.loop-rest.rest.now ≡ node.Block c.in-Block.scope (nodes_in c.as_slice.result.now) = ap node_of_form c.in-Block.is ∙ node_of_form-Block c.in-Block.scope c.in-Block.items ∙ ap (λ ts. node.Block c.in-Block.scope (nodes_in ts)) (sym c.as_slice.ensures) in
+    let is = block_is c.in-Block.scope c.in-Block.items c.in-Block.is c.as_slice.ensures in
+    let led = leads_sequence _ _ _ _ _ (nodes_in c.as_slice.result.now) c.loop-rest.invariant.0 (λ k. ap (λ v. code_of v k) is) in
     subst (λ v. OnOk c.emit_all.result (Emits c.args.code.now.items (node_of_form v) c.emit_all.new.code.items)) c.deref-rest.ensures
-    (on_ok c.emit_all.result _ _ (leads_sequence _ _ _ _ _ (nodes_in c.as_slice.result.now) c.loop-rest.invariant.0 (λ k. ap (λ v. code_of v k) is)) c.emit_all.ensures)
+    (on_ok c.emit_all.result _ _ led c.emit_all.ensures)
