@@ -1,6 +1,10 @@
 -- The view of a sequence, over the list of its items.
-use Rattle.std.proofs.Common.{◌≡◌, ℕ, List, Option, refl, ap, ◌∙◌}
+use Rattle.std.proofs.Common.{◌≡◌, Option, refl, ap, ◌∙◌}
+use Rattle.std.specs.Prelude.{option_map}
+use Rattle.std.specs.declared.boxed.Box.{Box}
+use Rattle.std.specs.declared.alloc.Global.{Global}
 use Rattle.ps_base.specs.List.{items_of}
+use Rattle.ps_base.specs.declared.bytes.Bytes.{Bytes}
 use Rattle.ps_base.specs.declared.list.List.{List as ListOf}
 use Rattle.ps_base.specs.declared.tree.Tree.{Tree}
 use Rattle.ps_base.specs.declared.tree.TreeForm.{TreeForm, Row_of-Tree, end_of-Tree, more_of-Tree, items-the_row-Tree, items_hidden-the_row-Tree-0}
@@ -16,7 +20,7 @@ abbrev row_of : TreeForm → (n : Count) × Row_of-Tree n
 row_of (code.Block' scope _ row) = (_, row)
 row_of _ = (_, end_of-Tree)
 
-pub node_of_form-Block : (scope : Option (List ℕ)) (items : ListOf Tree) → node_of_form (code.Block scope items) ≡ Block scope (nodes_in (items_of items))
+pub node_of_form-Block : (scope : Option (Box Bytes Global)) (items : ListOf Tree) → node_of_form (code.Block scope items) ≡ Block (option_map (λ bytes. bytes.value) scope) (nodes_in (items_of items))
 node_of_form-Block scope items =
     let row = row_of (code.Block scope items) in
-    ap (λ (ts : Nodes). Block scope ts) (rows row.0 row.1 ∙ ap nodes_in (items_hidden-the_row-Tree-0 items.vec))
+    ap (λ (ts : Nodes). Block (option_map (λ bytes. bytes.value) scope) ts) (rows row.0 row.1 ∙ ap nodes_in (items_hidden-the_row-Tree-0 items.vec))

@@ -1,5 +1,5 @@
 -- The typed tree of a clause as contracts see it, without the places in memory of the code's tree.
-use Rattle.std.specs.Prelude.{ℕ, ℤ, List, [], ◌∷◌, Bool, Option}
+use Rattle.std.specs.Prelude.{ℕ, ℤ, List, [], ◌∷◌, Bool, Option, option_map}
 use Rattle.ps_base.specs.declared.basic_type.BasicType.{BasicType}
 use Rattle.ps_base.specs.declared.line.Line.{Line}
 use Rattle.ps_base.specs.declared.place.Place.{Place}
@@ -44,7 +44,7 @@ abbrev mutual
   node_of_form (code.SetName' place ty p e) = SetName place ty (node_of_form e)
   node_of_form (code.Let' place ty p e) = Let place ty (node_of_form e)
   node_of_form code.Empty = Empty
-  node_of_form (code.Block' scope shape items) = Block scope (nodes_of items)
+  node_of_form (code.Block' scope shape items) = Block (option_map (λ bytes. bytes.value) scope) (nodes_of items)
   node_of_form (code.IfDo' p c q a) = IfDo (node_of_form c) (node_of_form a)
   node_of_form (code.IfElse' p c q a r b) = IfElse (node_of_form c) (node_of_form a) (node_of_form b)
   node_of_form (code.While' p c q a) = While (node_of_form c) (node_of_form a)

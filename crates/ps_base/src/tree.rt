@@ -15,7 +15,8 @@ pub struct Tree {
     pub form: Box<TreeForm>,
 }
 
-/// What a typed clause is made of.
+/// What a typed clause is made of. A tree has one for each operator and each operand of a text, and all
+/// are as large as the largest: so none has more than 48 bytes.
 #[cycle(tree)]
 pub enum TreeForm {
     Int(i32),
@@ -41,7 +42,7 @@ pub enum TreeForm {
     Empty,
     /// A sequence, with the text of its scope where a procedure keeps names of it.
     Block {
-        scope: Option<Bytes>,
+        scope: Option<Box<Bytes>>,
         items: List<Tree>,
     },
     IfDo {
