@@ -1,4 +1,5 @@
 pub mod Told
+pub mod Telling
 pub mod Texts
 pub mod Memory
 pub mod MemoryView
