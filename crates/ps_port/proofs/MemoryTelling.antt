@@ -4,7 +4,8 @@ use Rattle.std.proofs.lemmas.Bool.Decides.{nat_tests}
 use Rattle.std.proofs.lemmas.List.{append-nil, take-append-le, take_all}
 use Rattle.std.proofs.lemmas.List.Sums.{fold_push, sum_by-cons}
 use Rattle.ps_port.specs.declared.memory_host.Call.{Call}
-use Rattle.ps_port.specs.Memory.{Memory, has_room, told_before, told_at, clock_of, HadTold, after_kept, IsKept}
+use Rattle.ps_port.specs.Memory.{Memory, has_room, told_before, told_at, clock_of, HadTold, after_kept}
+use Rattle.ps_port.specs.inside.Kept.{IsKept}
 use Rattle.ps_port.specs.Told.{next_count, AddsFront, Tells}
 
 -- what one call told before a moment

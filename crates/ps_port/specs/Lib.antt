@@ -4,3 +4,4 @@ pub mod Texts
 pub mod Memory
 pub mod MemoryView
 pub mod MemoryTexts
+pub mod inside

@@ -85,8 +85,3 @@ after_refused host = record host { clock = next_count host.clock; faults = next_
 abbrev pub after_put : Memory → List ℕ → Memory
 after_put host bytes =
     if has_room host (share host (length bytes)) then after_kept host (take (share host (length bytes)) bytes) (is_to_fail host) else after_refused host
-
--- the calls before any moment that has not come yet told all the bytes told, and their records take no more than the room
-pub record IsKept (host : Memory) : Type 0 where
-  pub all_told : (moment : ℕ) → host.clock ≤ moment → told_before moment host.records ≡ length host.told
-  pub in_room : taken host ≤ host.room

@@ -35,7 +35,8 @@ impl Model for MemoryHost {
 
     ghost Value = { Memory };
 
-    ghost use Rattle.ps_port.specs.MemoryView.{memory_of, IsKeptIn};
+    ghost use Rattle.ps_port.specs.MemoryView.{memory_of};
+    ghost use Rattle.ps_port.specs.inside.Kept.{IsKeptIn};
 
     ghost view = { memory_of };
 
