@@ -1,7 +1,6 @@
 pub mod Between
 pub mod Generated
 pub mod Paths
-pub mod Pieces
 pub mod Progress
 pub mod Running
 pub mod Simulation
