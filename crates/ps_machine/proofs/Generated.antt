@@ -1,11 +1,20 @@
 -- The steps of the generator.
 use Rattle.std.proofs.Common.{◌≡◌, ℕ, zero, suc, ◌+◌, ◌<◌, ◌≤◌, get_or, drop, drop-cons, List, [], ◌∷◌, ◌++◌, length, reverse, refl, sym, ap, ◌∙◌, append_assoc, length-append, arith}
-use Rattle.std.specs.Prelude.{slice_set, Result, Ok, Err, OnOk}
+use Rattle.std.specs.Prelude.{slice_set, Option, Result, Ok, Err, OnOk}
+use Rattle.std.specs.Option.{option_map}
+use Rattle.std.specs.declared.alloc.Global.{Global}
+use Rattle.std.specs.declared.boxed.Box.{Box}
 use Rattle.std.proofs.Math.Seq.{set-append_seam}
 use Rattle.std.proofs.lemmas.List.{reverse-append, length-reverse}
-use Rattle.ps_base.specs.Node.{Node, Nodes, none, more, node_of, nodes_in}
+use Rattle.ps_base.specs.List.{items_of}
+use Rattle.ps_base.specs.Node.{Node, Nodes, none, more, node_of, node_of_form, nodes_in}
 use Rattle.ps_base.specs.Node as node
+use Rattle.ps_base.specs.declared.bytes.Bytes.{Bytes}
+use Rattle.ps_base.specs.declared.list.List.{List as ListOf}
 use Rattle.ps_base.specs.declared.tree.Tree.{Tree}
+use Rattle.ps_base.specs.declared.tree.TreeForm.{TreeForm}
+use Rattle.ps_base.specs.declared.tree.TreeForm.TheVariants as tree
+use Rattle.ps_base.proofs.NodeLemmas.{node_of_form-Block}
 use Rattle.ps_machine.specs.declared.instruction.Instruction.{Instruction}
 use Rattle.ps_machine.specs.declared.instruction.Instruction.TheVariants.{Again, Jump}
 use Rattle.ps_machine.specs.Code.{size, size_all, code_of, code_of_all}
@@ -120,6 +129,13 @@ nodes_from ts i d below = ap nodes_in (drop-cons ts i d below)
 -- a sequence is all that was left
 pub leads_sequence : (first now new : List Instruction) (whole rest : Node) (ts : Nodes) → Leads first whole now rest → ((k : ℕ) → code_of rest k ≡ code_of_all ts k) → EmitsAll now ts new → Emits first whole new
 leads_sequence first now new whole rest ts before code is = is ∙ ap (λ (xs : List Instruction). now ++ reverse xs) (sym (code (length now))) ∙ before.same
+
+-- what a sequence is, over the items of its list
+pub block_is : {form : TreeForm} (scope : Option (Box Bytes Global)) (items : ListOf Tree) {slice : List Tree} → form ≡ tree.Block scope items → slice ≡ items_of items
+    → node_of_form form ≡ node.Block (option_map (λ bytes. bytes.value) scope) (nodes_in slice)
+block_is scope items is same =
+    ap node_of_form is ∙ node_of_form-Block scope items
+    ∙ ap (λ (ts : List Tree). node.Block (option_map (λ bytes. bytes.value) scope) (nodes_in ts)) (sym same)
 
 pub on_ok : {A E : Type 0} (r : Result A E) (P Q : Type 0) → (P → Q) → OnOk r P → OnOk r Q
 on_ok (Ok x) P Q f h = f h

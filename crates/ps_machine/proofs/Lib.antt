@@ -1,3 +1,4 @@
+mod Dispatch
 pub mod Between
 pub mod Generated
 pub mod Paths

@@ -76,7 +76,7 @@ fn unbuilt_item(item: &RoughItem) -> Option<Line>
         Some(_) => Some(item.line),
         None => None,
     };
-    match &item.e.form {
+    match &*item.e.form {
         RoughForm::Text(_) => width,
         _ => or_else(first_unbuilt(&item.e), width),
     }
@@ -105,7 +105,7 @@ fn parts_of(rough: &Rough) -> Parts
     ensures first { unbuilt_parts rough.now.line result ≡ first_unbuilt_of (phrase_of rough.now) }
     ensures lighter { weight_parts result + 1 ≤ weight (phrase_of rough.now) }
 {
-    match &rough.form {
+    match &*rough.form {
         RoughForm::Sequence { items } => Parts::Clauses(items.as_slice()),
         RoughForm::Write { items } => Parts::Items(items.as_slice()),
         RoughForm::Let { e, .. } => Parts::One(e),
