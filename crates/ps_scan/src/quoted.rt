@@ -1,6 +1,6 @@
 ghost use Rattle.std.specs.Prelude.{◌≡◌, ◌+◌, ◌-◌, ◌≤◌, ℕ, List, ◌∷◌, length, IfOk};
 ghost use Rattle.ps_scan.specs.Piece.{quoted, behind_apostrophe, string, bytes_of, Closes};
-ghost use Rattle.ps_scan.specs.Inside.{goes_on, IsWithin};
+ghost use Rattle.ps_scan.specs.inside.Strings.{goes_on, IsWithin};
 
 use crate::class::{Inner, escaped, inner_of};
 use crate::fault::ScanFault;
