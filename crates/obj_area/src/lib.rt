@@ -4,5 +4,3 @@
 
 pub mod area;
 mod spelling;
-#[cfg(test)]
-mod tests;

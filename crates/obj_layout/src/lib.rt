@@ -5,5 +5,3 @@
 pub mod header;
 pub mod kind;
 pub mod reference;
-#[cfg(test)]
-mod tests;

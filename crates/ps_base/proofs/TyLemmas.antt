@@ -6,7 +6,7 @@ use Rattle.ps_base.specs.declared.list.List.{List as ListOf}
 use Rattle.ps_base.specs.declared.ty.Ty.{Ty}
 use Rattle.ps_base.specs.declared.ty.Ty.TheBlock.{Row_of-Ty, end_of-Ty, more_of-Ty, items-the_row-Ty, items_hidden-the_row-Ty-0}
 use Rattle.ps_base.specs.declared.ty.Ty.TheVariants as code
-use Rattle.ps_base.specs.TyView.{TyView, TyViews, more, ty_view, ty_views_of, ty_views}
+use Rattle.ps_base.specs.TyView.{TyView, TyViews, more, and_type, ty_view, ty_views_of, ty_views}
 use Rattle.ps_base.specs.TyView as view
 use mathlib.Core.Former.{Count}
 
@@ -24,11 +24,7 @@ ty_view-Proc parameters gives =
     ap (λ (ts : TyViews). view.Proc ts (ty_view gives.value)) (rows row.0 row.1 ∙ ap ty_views (items_hidden-the_row-Ty-0 parameters.vec))
 
 -- one type more
-abbrev pub and_view : TyViews → TyView → TyViews
-and_view view.none last = more last view.none
-and_view (more first rest) last = more first (and_view rest last)
-
-pub ty_views-append : (types : List Ty) (last : Ty) → ty_views (types ++ last ∷ []) ≡ and_view (ty_views types) (ty_view last)
+pub ty_views-append : (types : List Ty) (last : Ty) → ty_views (types ++ last ∷ []) ≡ and_type (ty_views types) (ty_view last)
 ty_views-append [] last = refl
 ty_views-append (first ∷ types) last = ap (λ (ts : TyViews). more (ty_view first) ts) (ty_views-append types last)
 
@@ -37,6 +33,6 @@ pub copied_one : (types : List Ty) (place : ℕ) (d : Ty) (before : List Ty) (ma
 copied_one types place d before made inside same is copy =
     ap ty_views is
     ∙ ty_views-append before made
-    ∙ ap (λ ts. and_view ts (ty_view made)) same
-    ∙ ap (λ t. and_view (ty_views (take place types)) t) copy
+    ∙ ap (λ ts. and_type ts (ty_view made)) same
+    ∙ ap (λ t. and_type (ty_views (take place types)) t) copy
     ∙ sym (ap ty_views (take_more types place d inside) ∙ ty_views-append (take place types) (slice_index_or types place d))

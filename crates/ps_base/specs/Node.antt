@@ -5,8 +5,9 @@ use Rattle.ps_base.specs.declared.line.Line.{Line}
 use Rattle.ps_base.specs.declared.place.Place.{Place}
 use Rattle.ps_base.specs.declared.operator.Operator.{Operator}
 use Rattle.ps_base.specs.declared.operator.Relation.{Relation}
-use Rattle.ps_base.specs.declared.tree.Tree.{Tree, Row_of-Tree, end_of-Tree, more_of-Tree}
-use Rattle.ps_base.specs.declared.tree.Tree.TheVariants as code
+use Rattle.ps_base.specs.declared.tree.Tree.{Tree}
+use Rattle.ps_base.specs.declared.tree.TreeForm.{TreeForm, Row_of-Tree, end_of-Tree, more_of-Tree}
+use Rattle.ps_base.specs.declared.tree.TreeForm.TheVariants as code
 
 mutual
   pub data Node : Type 0 where
@@ -35,30 +36,33 @@ mutual
     more : Node → Nodes → Nodes
 
 abbrev mutual
-  pub node_of : Tree → Node
-  node_of (code.Int v) = Int v
-  node_of (code.Flag b) = Flag b
-  node_of (code.Text bytes) = Text bytes
-  node_of (code.Name place ty) = Name place ty
-  node_of (code.SetName' place ty p e) = SetName place ty (node_of e)
-  node_of (code.Let' place ty p e) = Let place ty (node_of e)
-  node_of code.Empty = Empty
-  node_of (code.Block' scope shape items) = Block scope (nodes_of items)
-  node_of (code.IfDo' p c q a) = IfDo (node_of c) (node_of a)
-  node_of (code.IfElse' p c q a r b) = IfElse (node_of c) (node_of a) (node_of b)
-  node_of (code.While' p c q a) = While (node_of c) (node_of a)
-  node_of (code.And' p a q b) = And (node_of a) (node_of b)
-  node_of (code.Or' p a q b) = Or (node_of a) (node_of b)
-  node_of (code.Not' p e) = Not (node_of e)
-  node_of (code.Neg' p e line) = Neg (node_of e) line
-  node_of (code.Plus' p e) = Plus (node_of e)
-  node_of (code.Arith' op p a q b line) = Arith op (node_of a) (node_of b) line
-  node_of (code.Compare' op ty p a q b) = Compare op ty (node_of a) (node_of b)
-  node_of (code.Write' p e q w wide ty line) = Write (node_of e) (node_of w) wide ty line
+  pub node_of_form : TreeForm → Node
+  node_of_form (code.Int v) = Int v
+  node_of_form (code.Flag b) = Flag b
+  node_of_form (code.Text bytes) = Text bytes
+  node_of_form (code.Name place ty) = Name place ty
+  node_of_form (code.SetName' place ty p e) = SetName place ty (node_of_form e)
+  node_of_form (code.Let' place ty p e) = Let place ty (node_of_form e)
+  node_of_form code.Empty = Empty
+  node_of_form (code.Block' scope shape items) = Block scope (nodes_of items)
+  node_of_form (code.IfDo' p c q a) = IfDo (node_of_form c) (node_of_form a)
+  node_of_form (code.IfElse' p c q a r b) = IfElse (node_of_form c) (node_of_form a) (node_of_form b)
+  node_of_form (code.While' p c q a) = While (node_of_form c) (node_of_form a)
+  node_of_form (code.And' p a q b) = And (node_of_form a) (node_of_form b)
+  node_of_form (code.Or' p a q b) = Or (node_of_form a) (node_of_form b)
+  node_of_form (code.Not' p e) = Not (node_of_form e)
+  node_of_form (code.Neg' p e line) = Neg (node_of_form e) line
+  node_of_form (code.Plus' p e) = Plus (node_of_form e)
+  node_of_form (code.Arith' op p a q b line) = Arith op (node_of_form a) (node_of_form b) line
+  node_of_form (code.Compare' op ty p a q b) = Compare op ty (node_of_form a) (node_of_form b)
+  node_of_form (code.Write' p e q w wide ty line) = Write (node_of_form e) (node_of_form w) wide ty line
 
   pub nodes_of : {m : _} → Row_of-Tree m → Nodes
   nodes_of end_of-Tree = none
-  nodes_of (more_of-Tree t rest) = more (node_of t) (nodes_of rest)
+  nodes_of (more_of-Tree p form rest) = more (node_of_form form) (nodes_of rest)
+
+abbrev pub node_of : Tree → Node
+node_of tree = node_of_form tree.form.value
 
 -- the trees of a list
 abbrev pub nodes_in : List Tree → Nodes

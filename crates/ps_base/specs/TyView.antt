@@ -31,6 +31,11 @@ abbrev mutual
   ty_views_of end_of-Ty = none
   ty_views_of (more_of-Ty ty rest) = more (ty_view ty) (ty_views_of rest)
 
+-- the types and one more at their end
+abbrev pub and_type : TyViews → TyView → TyViews
+and_type none last = more last none
+and_type (more first rest) last = more first (and_type rest last)
+
 -- the types of a list
 abbrev pub ty_views : List Ty → TyViews
 ty_views [] = none

@@ -6,7 +6,7 @@ use crate::line::Line;
 /// a scope and a name or field in it, `t` a byte offset in the code, `n` a number of items, `w`
 /// whether a width was pushed and `k` a kind. `M` in a name is the number stack, `P` the reference
 /// stack, `T` text and `I` int.
-#[derive(Clone, Copy, PartialEq, Eq, Debug)]
+#[derive(Clone, Copy)]
 pub enum Instr {
     Int { v: i32 },
     True,

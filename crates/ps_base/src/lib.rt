@@ -13,3 +13,6 @@ pub mod place;
 pub mod trap;
 pub mod tree;
 pub mod ty;
+
+/// The most bytes that a text of a program may have.
+pub const LONGEST_TEXT: usize = 1_048_576;

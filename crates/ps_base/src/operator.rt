@@ -1,5 +1,5 @@
 /// An operator on two ints that gives an int.
-#[derive(Clone, Copy, PartialEq, Eq, Debug)]
+#[derive(Clone, Copy)]
 pub enum Operator {
     Add,
     Sub,
@@ -9,7 +9,7 @@ pub enum Operator {
 }
 
 /// A comparison, which gives a bool.
-#[derive(Clone, Copy, PartialEq, Eq, Debug)]
+#[derive(Clone, Copy)]
 pub enum Relation {
     Equal,
     NotEqual,

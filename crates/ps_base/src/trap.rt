@@ -1,5 +1,5 @@
 /// Why a program ended before its last clause, as `docs/language.md` lists the traps.
-#[derive(Clone, Copy, PartialEq, Eq, Debug, Drop)]
+#[derive(Clone, Copy)]
 pub enum Trap {
     Overflow = 1,
     ZeroDivisor = 2,

@@ -1,12 +1,23 @@
+ghost use Rattle.std.specs.Prelude.{◌≡◌, IfOk};
+ghost use Rattle.ps_base.specs.Node.{node_of_form, node_of};
+
 use crate::basic_type::BasicType;
 use crate::bytes::Bytes;
 use crate::line::Line;
 use crate::list::List;
 use crate::operator::{Operator, Relation};
 use crate::place::Place;
+use std::alloc::{AllocError, Global};
 
 /// A typed clause in which each name is resolved to its place (`docs/meaning.md`).
-pub enum Tree {
+#[cycle(tree)]
+pub struct Tree {
+    pub form: Box<TreeForm>,
+}
+
+/// What a typed clause is made of.
+#[cycle(tree)]
+pub enum TreeForm {
     Int(i32),
     Flag(bool),
     Text(Bytes),
@@ -18,13 +29,13 @@ pub enum Tree {
     SetName {
         place: Place,
         ty: BasicType,
-        e: Box<Tree>,
+        e: Tree,
     },
     /// Gives a declared name its initial value.
     Let {
         place: Place,
         ty: BasicType,
-        e: Box<Tree>,
+        e: Tree,
     },
     /// Nothing at all.
     Empty,
@@ -34,97 +45,125 @@ pub enum Tree {
         items: List<Tree>,
     },
     IfDo {
-        c: Box<Tree>,
-        a: Box<Tree>,
+        c: Tree,
+        a: Tree,
     },
     IfElse {
-        c: Box<Tree>,
-        a: Box<Tree>,
-        b: Box<Tree>,
+        c: Tree,
+        a: Tree,
+        b: Tree,
     },
     While {
-        c: Box<Tree>,
-        a: Box<Tree>,
+        c: Tree,
+        a: Tree,
     },
     And {
-        a: Box<Tree>,
-        b: Box<Tree>,
+        a: Tree,
+        b: Tree,
     },
     Or {
-        a: Box<Tree>,
-        b: Box<Tree>,
+        a: Tree,
+        b: Tree,
     },
-    Not(Box<Tree>),
+    Not(Tree),
     Neg {
-        e: Box<Tree>,
+        e: Tree,
         line: Line,
     },
-    Plus(Box<Tree>),
+    Plus(Tree),
     Arith {
         op: Operator,
-        a: Box<Tree>,
-        b: Box<Tree>,
+        a: Tree,
+        b: Tree,
         line: Line,
     },
     Compare {
         op: Relation,
         ty: BasicType,
-        a: Box<Tree>,
-        b: Box<Tree>,
+        a: Tree,
+        b: Tree,
     },
     /// Writes one item; `w` is its width, `Empty` where not `wide`.
     Write {
-        e: Box<Tree>,
-        w: Box<Tree>,
+        e: Tree,
+        w: Tree,
         wide: bool,
         ty: BasicType,
         line: Line,
     },
 }
 
+impl Tree {
+    /// The clause of this form, in a box of its own.
+    pub fn new(alloc: Global, form: TreeForm) -> Result<Tree, AllocError>
+        ensures { IfOk result (λ made. node_of made ≡ node_of_form form) }
+    {
+        Ok(Tree {
+            form: Box::new(alloc, form)?,
+        })
+    }
+
+    /// What the clause is made of, out of its box.
+    pub fn into_form(self) -> TreeForm
+        ensures { result ≡ self.form.value }
+    {
+        let Tree { form } = self;
+        Box::into_inner(form)
+    }
+}
+
+/// Lets go of a tree.
+impl Drop for Tree {
+    #[cycle(tree)]
+    fn drop(self) {
+        let Tree { form: _ } = self;
+    }
+}
+
 /// Lets go of a tree. A chain of one operator is as long as its text, so the left operands are
 /// let go one after the other and not inside one another.
-impl Drop for Tree {
+impl Drop for TreeForm {
+    #[cycle(tree)]
     fn drop(mut self) {
         loop {
             match self {
-                Tree::Arith {
+                TreeForm::Arith {
                     op: _,
                     a,
                     b: _,
                     line: _,
-                } => self = Box::into_inner(a),
-                Tree::And { a, b: _ } => self = Box::into_inner(a),
-                Tree::Or { a, b: _ } => self = Box::into_inner(a),
-                Tree::Int(_) => return,
-                Tree::Flag(_) => return,
-                Tree::Text(_) => return,
-                Tree::Name { place: _, ty: _ } => return,
-                Tree::SetName {
+                } => self = a.into_form(),
+                TreeForm::And { a, b: _ } => self = a.into_form(),
+                TreeForm::Or { a, b: _ } => self = a.into_form(),
+                TreeForm::Int(_) => return,
+                TreeForm::Flag(_) => return,
+                TreeForm::Text(_) => return,
+                TreeForm::Name { place: _, ty: _ } => return,
+                TreeForm::SetName {
                     place: _,
                     ty: _,
                     e: _,
                 } => return,
-                Tree::Let {
+                TreeForm::Let {
                     place: _,
                     ty: _,
                     e: _,
                 } => return,
-                Tree::Empty => return,
-                Tree::Block { scope: _, items: _ } => return,
-                Tree::IfDo { c: _, a: _ } => return,
-                Tree::IfElse { c: _, a: _, b: _ } => return,
-                Tree::While { c: _, a: _ } => return,
-                Tree::Not(_) => return,
-                Tree::Neg { e: _, line: _ } => return,
-                Tree::Plus(_) => return,
-                Tree::Compare {
+                TreeForm::Empty => return,
+                TreeForm::Block { scope: _, items: _ } => return,
+                TreeForm::IfDo { c: _, a: _ } => return,
+                TreeForm::IfElse { c: _, a: _, b: _ } => return,
+                TreeForm::While { c: _, a: _ } => return,
+                TreeForm::Not(_) => return,
+                TreeForm::Neg { e: _, line: _ } => return,
+                TreeForm::Plus(_) => return,
+                TreeForm::Compare {
                     op: _,
                     ty: _,
                     a: _,
                     b: _,
                 } => return,
-                Tree::Write {
+                TreeForm::Write {
                     e: _,
                     w: _,
                     wide: _,

@@ -3,5 +3,3 @@
 
 pub mod find;
 pub mod row;
-#[cfg(test)]
-mod tests;

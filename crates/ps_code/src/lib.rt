@@ -5,5 +5,3 @@ pub mod decode;
 pub mod encode;
 pub mod laws;
 pub mod table;
-#[cfg(test)]
-mod tests;

@@ -9,7 +9,7 @@ use crate::instruction::Instruction;
 use ps_base::basic_type::BasicType;
 use ps_base::bytes::Bytes;
 use ps_base::place::Place;
-use ps_base::tree::Tree;
+use ps_base::tree::{Tree, TreeForm};
 use std::alloc::{AllocError, Global};
 
 /// The code of a program, from its last instruction to its first. The error is want of memory; what was
@@ -28,67 +28,67 @@ pub fn generate(alloc: Global, tree: &Tree) -> Result<Vec<Instruction>, AllocErr
 fn emit(alloc: Global, code: &mut Vec<Instruction>, tree: &Tree) -> Result<(), AllocError>
     ensures { OnOk result (Emits code.old.items (node_of tree.now) code.new.items) }
 {
-    let mut rest = tree;
+    let mut rest: &TreeForm = &tree.form;
     loop {
         match rest {
-            Tree::SetName { place, ty: _, e } => {
+            TreeForm::SetName { place, ty: _, e } => {
                 put(code, Instruction::Set(slot_of(*place)))?;
-                rest = e;
+                rest = &e.form;
             }
-            Tree::Let { place, ty: _, e } => {
+            TreeForm::Let { place, ty: _, e } => {
                 put(code, Instruction::Set(slot_of(*place)))?;
-                rest = e;
+                rest = &e.form;
             }
-            Tree::IfDo { c, a } => {
+            TreeForm::IfDo { c, a } => {
                 emit_jump_over(alloc, code, a)?;
-                rest = c;
+                rest = &c.form;
             }
-            Tree::IfElse { c, a, b } => {
+            TreeForm::IfElse { c, a, b } => {
                 let other = emit_other(alloc, code, b)?;
                 emit_before(alloc, code, a, Instruction::JumpFalse(other))?;
-                rest = c;
+                rest = &c.form;
             }
-            Tree::And { a, b } => {
+            TreeForm::And { a, b } => {
                 let end = code.len();
                 emit_before(alloc, code, b, Instruction::And(end))?;
-                rest = a;
+                rest = &a.form;
             }
-            Tree::Or { a, b } => {
+            TreeForm::Or { a, b } => {
                 let end = code.len();
                 emit_before(alloc, code, b, Instruction::Or(end))?;
-                rest = a;
+                rest = &a.form;
             }
-            Tree::Not(e) => {
+            TreeForm::Not(e) => {
                 put(code, Instruction::Not)?;
-                rest = e;
+                rest = &e.form;
             }
-            Tree::Neg { e, line } => {
+            TreeForm::Neg { e, line } => {
                 put(code, Instruction::Neg(*line))?;
-                rest = e;
+                rest = &e.form;
             }
-            Tree::Plus(e) => rest = e,
-            Tree::Arith { op, a, b, line } => {
+            TreeForm::Plus(e) => rest = &e.form,
+            TreeForm::Arith { op, a, b, line } => {
                 emit_with(alloc, code, b, Instruction::Arith(*op, *line))?;
-                rest = a;
+                rest = &a.form;
             }
-            Tree::Compare { op, ty: _, a, b } => {
+            TreeForm::Compare { op, ty: _, a, b } => {
                 emit_with(alloc, code, b, Instruction::Compare(*op))?;
-                rest = a;
+                rest = &a.form;
             }
-            Tree::While { c, a } => return emit_while(alloc, code, c, a),
-            Tree::Int(z) => return put(code, Instruction::Push(*z)),
-            Tree::Flag(b) => return put(code, push_flag(*b)),
-            Tree::Name { place, ty: _ } => return put(code, Instruction::Get(slot_of(*place))),
-            Tree::Block { scope: _, items } => return emit_all(alloc, code, items.as_slice()),
-            Tree::Write {
+            TreeForm::While { c, a } => return emit_while(alloc, code, c, a),
+            TreeForm::Int(z) => return put(code, Instruction::Push(*z)),
+            TreeForm::Flag(b) => return put(code, push_flag(*b)),
+            TreeForm::Name { place, ty: _ } => return put(code, Instruction::Get(slot_of(*place))),
+            TreeForm::Block { scope: _, items } => return emit_all(alloc, code, items.as_slice()),
+            TreeForm::Write {
                 e,
                 w: _,
                 wide: _,
                 ty,
                 line: _,
             } => return emit_write(alloc, code, e, *ty),
-            Tree::Text(_) => return Ok(()),
-            Tree::Empty => return Ok(()),
+            TreeForm::Text(_) => return Ok(()),
+            TreeForm::Empty => return Ok(()),
         }
     }
 }
@@ -204,8 +204,8 @@ fn emit_write(
 fn emit_text(alloc: Global, code: &mut Vec<Instruction>, e: &Tree) -> Result<(), AllocError>
     ensures { OnOk result (code.new.items ≡ code.old.items ++ Instruction.WriteText (bytes_in (node_of e.now)) ∷ []) }
 {
-    match e {
-        Tree::Text(bytes) => {
+    match &*e.form {
+        TreeForm::Text(bytes) => {
             let copy = Vec::from_slice(alloc, bytes.as_slice())?;
             put(code, Instruction::WriteText(Bytes::new(copy)))
         }

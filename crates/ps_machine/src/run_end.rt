@@ -2,7 +2,7 @@ use ps_base::line::Line;
 use ps_base::trap::Trap;
 
 /// How a program ended, as `docs/language.md` lists the ends.
-#[derive(Clone, Copy, PartialEq, Eq, Debug, Drop)]
+#[derive(Clone, Copy)]
 pub enum RunEnd {
     Done,
     Trapped { trap: Trap, line: Line },

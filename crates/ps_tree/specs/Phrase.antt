@@ -1,5 +1,5 @@
 -- A clause as the grammar reads it, as contracts see it, without the places in memory of the code's tree.
-use Rattle.std.specs.Prelude.{ℕ, ℤ, List, [], ◌∷◌, map, Bool, Option, Some, None}
+use Rattle.std.specs.Prelude.{ℕ, ℤ, List, [], ◌∷◌, ◌++◌, map, Bool}
 use Rattle.ps_base.specs.List.{items_of}
 use Rattle.ps_base.specs.TyView.{TyView, ty_view}
 use Rattle.ps_base.specs.declared.line.Line.{Line}
@@ -11,7 +11,7 @@ use Rattle.ps_tree.specs.declared.rough.Rough.{Rough}
 use Rattle.ps_tree.specs.declared.rough.RoughArm.{RoughArm}
 use Rattle.ps_tree.specs.declared.rough.RoughItem.{RoughItem}
 use Rattle.ps_tree.specs.declared.rough.RoughForm.{RoughForm}
-use Rattle.ps_tree.specs.declared.rough.RoughForm.TheBlock.{struct-RoughArm, struct-RoughItem, Row_of-Rough, end_of-Rough, more_of-Rough, Row_of-RoughArm, end_of-RoughArm, more_of-RoughArm, Row_of-RoughItem, end_of-RoughItem, more_of-RoughItem, Held-RoughForm-Repeat-2, None', Some'}
+use Rattle.ps_tree.specs.declared.rough.RoughForm.TheBlock.{struct-RoughArm, struct-RoughItem, struct-RoughRange, Row_of-Rough, end_of-Rough, more_of-Rough, Row_of-RoughArm, end_of-RoughArm, more_of-RoughArm, Row_of-RoughItem, end_of-RoughItem, more_of-RoughItem, Held-RoughForm-Repeat-2, RoughForm-Repeat-2-None', RoughForm-Repeat-2-Some', Held-RoughItem-w, RoughItem-w-None', RoughItem-w-Some'}
 use Rattle.ps_tree.specs.declared.rough.RoughForm.TheVariants as code
 
 -- a name that is declared, with the line of its token
@@ -91,11 +91,19 @@ mutual
 abbrev pub named : Named → NameAt
 named n = record { name = n.name; line = n.line }
 
-abbrev pub group_of : Group → GroupAt
-group_of group = record { ty = ty_view group.ty; name = named group.name }
+-- names that are declared of one type, each with its type
+abbrev pub of_type : TyView → Named → GroupAt
+of_type ty name = record { ty = ty; name = named name }
+
+abbrev pub names_in : TyView → List Named → List GroupAt
+names_in ty names = map (of_type ty) names
+
+abbrev pub group_of : Group → List GroupAt
+group_of group = of_type (ty_view group.ty) group.first ∷ names_in (ty_view group.ty) (items_of group.more)
 
 abbrev pub groups_in : List Group → List GroupAt
-groups_in groups = map group_of groups
+groups_in [] = []
+groups_in (group ∷ rest) = group_of group ++ groups_in rest
 
 abbrev mutual
   pub form_of : RoughForm → Form
@@ -105,9 +113,9 @@ abbrev mutual
   form_of (code.IfDo' p c c_line q a a_line) = IfDo (at (form_of c) c_line) (at (form_of a) a_line)
   form_of (code.IfElse' p c c_line q a a_line r b b_line) = IfElse (at (form_of c) c_line) (at (form_of a) a_line) (at (form_of b) b_line)
   form_of (code.While' p c c_line q a a_line) = While (at (form_of c) c_line) (at (form_of a) a_line)
-  form_of (code.Repeat' p a a_line q c c_line b) = Repeat (at (form_of a) a_line) (at (form_of c) c_line) (maybe_of b)
-  form_of (code.For' name p a a_line q b b_line c r s s_line) = For (named name.value) (at (form_of a) a_line) (at (form_of b) b_line) (maybe_of c) (at (form_of s) s_line)
-  form_of (code.Case' p e e_line shape arms q d d_line) = Case (at (form_of e) e_line) (arms_of arms) (at (form_of d) d_line)
+  form_of (code.Repeat' p a a_line q c c_line b) = Repeat (at (form_of a) a_line) (at (form_of c) c_line) (maybe_boxed b)
+  form_of (code.For' name o (struct-RoughRange p a a_line q b b_line c) r s s_line) = For (named name.value) (at (form_of a) a_line) (at (form_of b) b_line) (maybe_of c) (at (form_of s) s_line)
+  form_of (code.Case' p e e_line o shape arms q d d_line) = Case (at (form_of e) e_line) (arms_of arms) (at (form_of d) d_line)
   form_of (code.Write' shape items) = Write (items_written items)
   form_of code.Abort = Abort
   form_of (code.Proc' params gives p s s_line) = Proc (groups_in (items_of params)) (ty_view gives.value) (at (form_of s) s_line)
@@ -134,11 +142,15 @@ abbrev mutual
 
   pub phrases_of : {m : _} → Row_of-Rough m → Phrases
   phrases_of end_of-Rough = none
-  phrases_of (more_of-Rough form line rest) = more (at (form_of form) line) (phrases_of rest)
+  phrases_of (more_of-Rough p form line rest) = more (at (form_of form) line) (phrases_of rest)
 
-  pub maybe_of : Held-RoughForm-Repeat-2 → MaybePhrase
-  maybe_of None' = absent
-  maybe_of (Some' p form line) = present (at (form_of form) line)
+  pub maybe_of : Held-RoughItem-w → MaybePhrase
+  maybe_of RoughItem-w-None' = absent
+  maybe_of (RoughItem-w-Some' p form line) = present (at (form_of form) line)
+
+  pub maybe_boxed : Held-RoughForm-Repeat-2 → MaybePhrase
+  maybe_boxed RoughForm-Repeat-2-None' = absent
+  maybe_boxed (RoughForm-Repeat-2-Some' o p form line) = present (at (form_of form) line)
 
   pub arms_of : {m : _} → Row_of-RoughArm m → Arms
   arms_of end_of-RoughArm = no_arms
@@ -155,4 +167,4 @@ abbrev mutual
   item_of (struct-RoughItem p e e_line w line) = item (at (form_of e) e_line) (maybe_of w) line
 
 abbrev pub phrase_of : Rough → Phrase
-phrase_of rough = at (form_of rough.form) rough.line
+phrase_of rough = at (form_of rough.form.value) rough.line

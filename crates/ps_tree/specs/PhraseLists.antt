@@ -3,7 +3,7 @@ use Rattle.std.specs.Prelude.{List, [], ◌∷◌, Option, Some, None}
 use Rattle.ps_tree.specs.declared.rough.Rough.{Rough}
 use Rattle.ps_tree.specs.declared.rough.RoughArm.{RoughArm}
 use Rattle.ps_tree.specs.declared.rough.RoughItem.{RoughItem}
-use Rattle.ps_tree.specs.Phrase.{Phrase, MaybePhrase, absent, present, Phrases, none, more, Arms, no_arms, more_arms, WriteItems, no_items, more_items, phrase_of, arm_of, item_of}
+use Rattle.ps_tree.specs.Phrase.{MaybePhrase, absent, present, Phrases, none, more, Arms, no_arms, more_arms, WriteItems, no_items, more_items, phrase_of, arm_of, item_of}
 
 abbrev pub phrases_in : List Rough → Phrases
 phrases_in [] = none

@@ -1,15 +1,15 @@
-ghost use Rattle.std.specs.Prelude.{◌≡◌, IfOk, IfErr};
+ghost use Rattle.std.specs.Prelude.{◌≡◌, ◌∷◌, IfOk, IfErr};
 ghost use Rattle.ps_base.specs.TyView.{ty_view, ty_views};
 ghost use Rattle.ps_base.specs.TyView as view;
 ghost use Rattle.ps_tree.specs.declared.fault.ParseFault.TheVariants.{Memory};
-ghost use Rattle.ps_tree.specs.Phrase.{phrase_of, named, groups_in, arm_of, item_of, at, arm, item};
+ghost use Rattle.ps_tree.specs.Phrase.{phrase_of, form_of, named, of_type, names_in, group_of, groups_in, arm_of, item_of, at, arm, item};
 ghost use Rattle.ps_tree.specs.Phrase as form;
 ghost use Rattle.ps_tree.specs.PhraseLists.{phrases_in, arms_in, items_in, maybe_in};
 ghost use Rattle.ps_tree.specs.Composing.{joined};
 
 use crate::boxes::{boxed, boxed_if_any};
 use crate::fault::ParseFault;
-use crate::rough::{Group, Named, Rough, RoughArm, RoughForm, RoughItem};
+use crate::rough::{Group, Named, Rough, RoughArm, RoughForm, RoughItem, RoughRange};
 use ps_base::line::Line;
 use ps_base::list::List;
 use ps_base::operator::Relation;
@@ -51,9 +51,8 @@ pub fn let_of(
     ensures fault { IfErr result (λ fault. fault ≡ Memory) }
 {
     let name = boxed(alloc, name)?;
-    let e = boxed(alloc, e)?;
     let form = RoughForm::Let { name, variable, e };
-    Ok(Rough { form, line })
+    form_at(alloc, form, line)
 }
 
 /// A class of structures that is declared, with its fields.
@@ -69,7 +68,7 @@ pub fn structure_of(
     let name = boxed(alloc, name)?;
     let fields = List::new(fields);
     let form = RoughForm::Structure { name, fields };
-    Ok(Rough { form, line })
+    form_at(alloc, form, line)
 }
 
 /// A clause that is done where a condition holds.
@@ -77,10 +76,8 @@ pub fn if_do(alloc: Global, c: Rough, a: Rough, line: Line) -> Result<Rough, Par
     ensures made { IfOk result (λ made. phrase_of made ≡ at (form.IfDo (phrase_of c) (phrase_of a)) line) }
     ensures fault { IfErr result (λ fault. fault ≡ Memory) }
 {
-    let c = boxed(alloc, c)?;
-    let a = boxed(alloc, a)?;
     let form = RoughForm::IfDo { c, a };
-    Ok(Rough { form, line })
+    form_at(alloc, form, line)
 }
 
 /// The choice between two clauses by a condition.
@@ -88,11 +85,8 @@ pub fn if_else(alloc: Global, c: Rough, a: Rough, b: Rough, line: Line) -> Resul
     ensures made { IfOk result (λ made. phrase_of made ≡ at (form.IfElse (phrase_of c) (phrase_of a) (phrase_of b)) line) }
     ensures fault { IfErr result (λ fault. fault ≡ Memory) }
 {
-    let c = boxed(alloc, c)?;
-    let a = boxed(alloc, a)?;
-    let b = boxed(alloc, b)?;
     let form = RoughForm::IfElse { c, a, b };
-    Ok(Rough { form, line })
+    form_at(alloc, form, line)
 }
 
 /// A loop with its test before each turn.
@@ -100,10 +94,8 @@ pub fn while_of(alloc: Global, c: Rough, a: Rough, line: Line) -> Result<Rough, 
     ensures made { IfOk result (λ made. phrase_of made ≡ at (form.While (phrase_of c) (phrase_of a)) line) }
     ensures fault { IfErr result (λ fault. fault ≡ Memory) }
 {
-    let c = boxed(alloc, c)?;
-    let a = boxed(alloc, a)?;
     let form = RoughForm::While { c, a };
-    Ok(Rough { form, line })
+    form_at(alloc, form, line)
 }
 
 /// A loop with its test behind each turn, and a clause between the turns, if there is one.
@@ -117,11 +109,9 @@ pub fn repeat_of(
     ensures made { IfOk result (λ made. phrase_of made ≡ at (form.Repeat (phrase_of a) (phrase_of c) (maybe_in b)) line) }
     ensures fault { IfErr result (λ fault. fault ≡ Memory) }
 {
-    let a = boxed(alloc, a)?;
-    let c = boxed(alloc, c)?;
     let b = boxed_if_any(alloc, b)?;
     let form = RoughForm::Repeat { a, c, b };
-    Ok(Rough { form, line })
+    form_at(alloc, form, line)
 }
 
 /// A loop over the values from one to another, by a step, if there is one.
@@ -138,12 +128,9 @@ pub fn for_of(
     ensures fault { IfErr result (λ fault. fault ≡ Memory) }
 {
     let name = boxed(alloc, name)?;
-    let a = boxed(alloc, a)?;
-    let b = boxed(alloc, b)?;
-    let c = boxed_if_any(alloc, c)?;
-    let s = boxed(alloc, s)?;
-    let form = RoughForm::For { name, a, b, c, s };
-    Ok(Rough { form, line })
+    let range = boxed(alloc, RoughRange { a, b, c })?;
+    let form = RoughForm::For { name, range, s };
+    form_at(alloc, form, line)
 }
 
 /// The choice of an arm by a value.
@@ -157,36 +144,32 @@ pub fn case_of(
     ensures made { IfOk result (λ made. phrase_of made ≡ at (form.Case (phrase_of e) (arms_in arms.items) (phrase_of d)) line) }
     ensures fault { IfErr result (λ fault. fault ≡ Memory) }
 {
-    let e = boxed(alloc, e)?;
-    let arms = List::new(arms);
-    let d = boxed(alloc, d)?;
+    let arms = boxed(alloc, List::new(arms))?;
     let form = RoughForm::Case { e, arms, d };
-    Ok(Rough { form, line })
+    form_at(alloc, form, line)
 }
 
-/// An arm of a `case`.
-pub fn arm_of(alloc: Global, labels: Vec<Rough>, a: Rough) -> Result<RoughArm, ParseFault>
-    ensures made { IfOk result (λ made. arm_of made ≡ arm (phrases_in labels.items) (phrase_of a)) }
-    ensures fault { IfErr result (λ fault. fault ≡ Memory) }
+/// An arm of a `case`. Takes no memory.
+pub fn arm_of(labels: Vec<Rough>, a: Rough) -> RoughArm
+    ensures { arm_of result ≡ arm (phrases_in labels.items) (phrase_of a) }
 {
     let labels = List::new(labels);
-    let a = boxed(alloc, a)?;
-    Ok(RoughArm { labels, a })
+    RoughArm { labels, a }
 }
 
-/// An item of a `write`.
-pub fn item_of(
-    alloc: Global,
-    e: Rough,
-    w: Option<Rough>,
-    line: Line,
-) -> Result<RoughItem, ParseFault>
-    ensures made { IfOk result (λ made. item_of made ≡ item (phrase_of e) (maybe_in w) line) }
-    ensures fault { IfErr result (λ fault. fault ≡ Memory) }
+/// An item of a `write`. Takes no memory.
+pub fn item_of(e: Rough, w: Option<Rough>, line: Line) -> RoughItem
+    ensures { item_of result ≡ item (phrase_of e) (maybe_in w) line }
 {
-    let e = boxed(alloc, e)?;
-    let w = boxed_if_any(alloc, w)?;
-    Ok(RoughItem { e, w, line })
+    RoughItem { e, w, line }
+}
+
+/// Names that are declared of one type. Takes no memory.
+pub fn group_of(ty: Ty, first: Named, more: Vec<Named>) -> Group
+    ensures { group_of result ≡ of_type (ty_view ty) first ∷ names_in (ty_view ty) more.items }
+{
+    let more = List::new(more);
+    Group { ty, first, more }
 }
 
 /// A procedure.
@@ -202,9 +185,8 @@ pub fn proc_of(
 {
     let params = List::new(params);
     let gives = boxed(alloc, gives)?;
-    let s = boxed(alloc, s)?;
     let form = RoughForm::Proc { params, gives, s };
-    Ok(Rough { form, line })
+    form_at(alloc, form, line)
 }
 
 /// A vector that is filled with one value.
@@ -218,11 +200,8 @@ pub fn vector_of(
     ensures made { IfOk result (λ made. phrase_of made ≡ at (form.Vector (phrase_of l) (phrase_of u) (phrase_of e)) line) }
     ensures fault { IfErr result (λ fault. fault ≡ Memory) }
 {
-    let l = boxed(alloc, l)?;
-    let u = boxed(alloc, u)?;
-    let e = boxed(alloc, e)?;
     let form = RoughForm::Vector { l, u, e };
-    Ok(Rough { form, line })
+    form_at(alloc, form, line)
 }
 
 /// An assignment.
@@ -230,10 +209,8 @@ pub fn assign(alloc: Global, x: Rough, e: Rough, line: Line) -> Result<Rough, Pa
     ensures made { IfOk result (λ made. phrase_of made ≡ at (form.Assign (phrase_of x) (phrase_of e)) line) }
     ensures fault { IfErr result (λ fault. fault ≡ Memory) }
 {
-    let x = boxed(alloc, x)?;
-    let e = boxed(alloc, e)?;
     let form = RoughForm::Assign { x, e };
-    Ok(Rough { form, line })
+    form_at(alloc, form, line)
 }
 
 /// The clause of an operator that groups to the left.
@@ -247,15 +224,13 @@ pub fn join(
     ensures made { IfOk result (λ made. phrase_of made ≡ joined operation (phrase_of a) (phrase_of b) line) }
     ensures fault { IfErr result (λ fault. fault ≡ Memory) }
 {
-    let a = boxed(alloc, a)?;
-    let b = boxed(alloc, b)?;
     let form = match operation {
         Operation::Or => RoughForm::Or { a, b },
         Operation::And => RoughForm::And { a, b },
         Operation::Join => RoughForm::Join { a, b },
         Operation::Arith(op) => RoughForm::Arith { op, a, b },
     };
-    Ok(Rough { form, line })
+    form_at(alloc, form, line)
 }
 
 /// A comparison.
@@ -269,10 +244,8 @@ pub fn compare(
     ensures made { IfOk result (λ made. phrase_of made ≡ at (form.Compare op (phrase_of a) (phrase_of b)) line) }
     ensures fault { IfErr result (λ fault. fault ≡ Memory) }
 {
-    let a = boxed(alloc, a)?;
-    let b = boxed(alloc, b)?;
     let form = RoughForm::Compare { op, a, b };
-    Ok(Rough { form, line })
+    form_at(alloc, form, line)
 }
 
 /// Whether a value is an object of a class.
@@ -286,10 +259,9 @@ pub fn is_of(
     ensures made { IfOk result (λ made. phrase_of made ≡ at (form.Is (phrase_of e) (named class) negated) line) }
     ensures fault { IfErr result (λ fault. fault ≡ Memory) }
 {
-    let e = boxed(alloc, e)?;
     let class = boxed(alloc, class)?;
     let form = RoughForm::Is { e, class, negated };
-    Ok(Rough { form, line })
+    form_at(alloc, form, line)
 }
 
 /// A clause that is denied.
@@ -297,9 +269,8 @@ pub fn not(alloc: Global, e: Rough, line: Line) -> Result<Rough, ParseFault>
     ensures made { IfOk result (λ made. phrase_of made ≡ at (form.Not (phrase_of e)) line) }
     ensures fault { IfErr result (λ fault. fault ≡ Memory) }
 {
-    let e = boxed(alloc, e)?;
     let form = RoughForm::Not { e };
-    Ok(Rough { form, line })
+    form_at(alloc, form, line)
 }
 
 /// A clause behind a `+`.
@@ -307,9 +278,8 @@ pub fn plus(alloc: Global, e: Rough, line: Line) -> Result<Rough, ParseFault>
     ensures made { IfOk result (λ made. phrase_of made ≡ at (form.Plus (phrase_of e)) line) }
     ensures fault { IfErr result (λ fault. fault ≡ Memory) }
 {
-    let e = boxed(alloc, e)?;
     let form = RoughForm::Plus { e };
-    Ok(Rough { form, line })
+    form_at(alloc, form, line)
 }
 
 /// A clause behind a `-`.
@@ -317,9 +287,8 @@ pub fn negation(alloc: Global, e: Rough, line: Line) -> Result<Rough, ParseFault
     ensures made { IfOk result (λ made. phrase_of made ≡ at (form.Neg (phrase_of e)) line) }
     ensures fault { IfErr result (λ fault. fault ≡ Memory) }
 {
-    let e = boxed(alloc, e)?;
     let form = RoughForm::Neg { e };
-    Ok(Rough { form, line })
+    form_at(alloc, form, line)
 }
 
 /// A clause with arguments in round brackets behind it.
@@ -327,10 +296,9 @@ pub fn apply(alloc: Global, f: Rough, args: Vec<Rough>, line: Line) -> Result<Ro
     ensures made { IfOk result (λ made. phrase_of made ≡ at (form.Apply (phrase_of f) (phrases_in args.items)) line) }
     ensures fault { IfErr result (λ fault. fault ≡ Memory) }
 {
-    let f = boxed(alloc, f)?;
     let args = List::new(args);
     let form = RoughForm::Apply { f, args };
-    Ok(Rough { form, line })
+    form_at(alloc, form, line)
 }
 
 /// A part of a string.
@@ -338,11 +306,8 @@ pub fn part_of(alloc: Global, s: Rough, i: Rough, n: Rough, line: Line) -> Resul
     ensures made { IfOk result (λ made. phrase_of made ≡ at (form.Part (phrase_of s) (phrase_of i) (phrase_of n)) line) }
     ensures fault { IfErr result (λ fault. fault ≡ Memory) }
 {
-    let s = boxed(alloc, s)?;
-    let i = boxed(alloc, i)?;
-    let n = boxed(alloc, n)?;
     let form = RoughForm::Part { s, i, n };
-    Ok(Rough { form, line })
+    form_at(alloc, form, line)
 }
 
 /// A bound of a vector.
@@ -350,9 +315,8 @@ pub fn bound_of(alloc: Global, upper: bool, e: Rough, line: Line) -> Result<Roug
     ensures made { IfOk result (λ made. phrase_of made ≡ at (form.Bound upper (phrase_of e)) line) }
     ensures fault { IfErr result (λ fault. fault ≡ Memory) }
 {
-    let e = boxed(alloc, e)?;
     let form = RoughForm::Bound { upper, e };
-    Ok(Rough { form, line })
+    form_at(alloc, form, line)
 }
 
 /// A vector with these elements.
@@ -366,38 +330,49 @@ pub fn elems(
     ensures made { IfOk result (λ made. phrase_of made ≡ at (form.Elems (phrase_of l) (ty_view ty) (phrases_in items.items)) line) }
     ensures fault { IfErr result (λ fault. fault ≡ Memory) }
 {
-    let l = boxed(alloc, l)?;
     let ty = boxed(alloc, ty)?;
     let items = List::new(items);
     let form = RoughForm::Elems { l, ty, items };
-    Ok(Rough { form, line })
+    form_at(alloc, form, line)
 }
 
 /// A sequence of clauses.
-pub fn sequence(items: Vec<Rough>, line: Line) -> Rough
-    ensures { phrase_of result ≡ at (form.Sequence (phrases_in items.items)) line }
+pub fn sequence(alloc: Global, items: Vec<Rough>, line: Line) -> Result<Rough, ParseFault>
+    ensures made { IfOk result (λ made. phrase_of made ≡ at (form.Sequence (phrases_in items.items)) line) }
+    ensures fault { IfErr result (λ fault. fault ≡ Memory) }
 {
     let form = RoughForm::Sequence {
         items: List::new(items),
     };
-    Rough { form, line }
+    form_at(alloc, form, line)
 }
 
 /// A `write`.
-pub fn write_of(items: Vec<RoughItem>, line: Line) -> Rough
-    ensures { phrase_of result ≡ at (form.Write (items_in items.items)) line }
+pub fn write_of(alloc: Global, items: Vec<RoughItem>, line: Line) -> Result<Rough, ParseFault>
+    ensures made { IfOk result (λ made. phrase_of made ≡ at (form.Write (items_in items.items)) line) }
+    ensures fault { IfErr result (λ fault. fault ≡ Memory) }
 {
     let form = RoughForm::Write {
         items: List::new(items),
     };
-    Rough { form, line }
+    form_at(alloc, form, line)
 }
 
 /// A name that is used.
-pub fn name_of(name: Named) -> Rough
-    ensures { phrase_of result ≡ at (form.Name (named name).name) (named name).line }
+pub fn name_of(alloc: Global, name: Named) -> Result<Rough, ParseFault>
+    ensures made { IfOk result (λ made. phrase_of made ≡ at (form.Name (named name).name) (named name).line) }
+    ensures fault { IfErr result (λ fault. fault ≡ Memory) }
 {
     let Named { name, line } = name;
     let form = RoughForm::Name(name);
-    Rough { form, line }
+    form_at(alloc, form, line)
+}
+
+/// A form on its line.
+pub fn form_at(alloc: Global, form: RoughForm, line: Line) -> Result<Rough, ParseFault>
+    ensures made { IfOk result (λ made. phrase_of made ≡ at (form_of form) line) }
+    ensures fault { IfErr result (λ fault. fault ≡ Memory) }
+{
+    let form = boxed(alloc, form)?;
+    Ok(Rough { form, line })
 }

@@ -9,13 +9,13 @@ use ps_base::ty::Ty;
 #[cycle(rough)]
 #[derive(Drop)]
 pub struct Rough {
-    pub form: RoughForm,
+    pub form: Box<RoughForm>,
     pub line: Line,
 }
 
 /// The forms of a clause. There is none for brackets round a clause, nor for an empty item.
-/// Names and types stand in boxes of their own, since a tree has a node for each operator and each
-/// operand of a text, and a node is as large as the largest form.
+/// A tree has a node for each operator and each operand of a text, and a node is as large as the
+/// largest form: so none has more than 48 bytes, and what is rare stands in a box of its own.
 #[cycle(rough)]
 pub enum RoughForm {
     Sequence {
@@ -24,44 +24,42 @@ pub enum RoughForm {
     Let {
         name: Box<Named>,
         variable: bool,
-        e: Box<Rough>,
+        e: Rough,
     },
     Structure {
         name: Box<Named>,
         fields: List<Group>,
     },
     IfDo {
-        c: Box<Rough>,
-        a: Box<Rough>,
+        c: Rough,
+        a: Rough,
     },
     IfElse {
-        c: Box<Rough>,
-        a: Box<Rough>,
-        b: Box<Rough>,
+        c: Rough,
+        a: Rough,
+        b: Rough,
     },
     While {
-        c: Box<Rough>,
-        a: Box<Rough>,
+        c: Rough,
+        a: Rough,
     },
     /// `a` until `c` is false; `b` between the turns.
     Repeat {
-        a: Box<Rough>,
-        c: Box<Rough>,
+        a: Rough,
+        c: Rough,
         b: Option<Box<Rough>>,
     },
-    /// `s` for the name from `a` to `b`, by `c` where a step is given.
+    /// `s` for the name over the range.
     For {
         name: Box<Named>,
-        a: Box<Rough>,
-        b: Box<Rough>,
-        c: Option<Box<Rough>>,
-        s: Box<Rough>,
+        range: Box<RoughRange>,
+        s: Rough,
     },
     /// The clause of the first arm with a label equal to `e`, else `d`.
     Case {
-        e: Box<Rough>,
-        arms: List<RoughArm>,
-        d: Box<Rough>,
+        e: Rough,
+        arms: Box<List<RoughArm>>,
+        d: Rough,
     },
     Write {
         items: List<RoughItem>,
@@ -70,65 +68,65 @@ pub enum RoughForm {
     Proc {
         params: List<Group>,
         gives: Box<Ty>,
-        s: Box<Rough>,
+        s: Rough,
     },
     /// A vector with bounds `l` and `u`, filled with `e`.
     Vector {
-        l: Box<Rough>,
-        u: Box<Rough>,
-        e: Box<Rough>,
+        l: Rough,
+        u: Rough,
+        e: Rough,
     },
     Assign {
-        x: Box<Rough>,
-        e: Box<Rough>,
+        x: Rough,
+        e: Rough,
     },
     Or {
-        a: Box<Rough>,
-        b: Box<Rough>,
+        a: Rough,
+        b: Rough,
     },
     And {
-        a: Box<Rough>,
-        b: Box<Rough>,
+        a: Rough,
+        b: Rough,
     },
     Not {
-        e: Box<Rough>,
+        e: Rough,
     },
     Compare {
         op: Relation,
-        a: Box<Rough>,
-        b: Box<Rough>,
+        a: Rough,
+        b: Rough,
     },
     /// Whether `e` is an object of the class, or isn't.
     Is {
-        e: Box<Rough>,
+        e: Rough,
         class: Box<Named>,
         negated: bool,
     },
     Join {
-        a: Box<Rough>,
-        b: Box<Rough>,
+        a: Rough,
+        b: Rough,
     },
     Arith {
         op: Operator,
-        a: Box<Rough>,
-        b: Box<Rough>,
+        a: Rough,
+        b: Rough,
     },
     Plus {
-        e: Box<Rough>,
+        e: Rough,
     },
     Neg {
-        e: Box<Rough>,
+        e: Rough,
     },
     /// `f` with arguments in round brackets: a call, an element, a field or a new structure.
     Apply {
-        f: Box<Rough>,
+        f: Rough,
         args: List<Rough>,
     },
     /// The part of the string `s` from place `i`, `n` bytes long.
     Part {
-        s: Box<Rough>,
-        i: Box<Rough>,
-        n: Box<Rough>,
+        s: Rough,
+        i: Rough,
+        n: Rough,
     },
     Name(Bytes),
     Int(i32),
@@ -138,14 +136,23 @@ pub enum RoughForm {
     /// The lower or the upper bound of the vector `e`.
     Bound {
         upper: bool,
-        e: Box<Rough>,
+        e: Rough,
     },
     /// A vector with lower bound `l` and these elements of the type.
     Elems {
-        l: Box<Rough>,
+        l: Rough,
         ty: Box<Ty>,
         items: List<Rough>,
     },
+}
+
+/// The values that a `for` goes over: from `a` to `b`, by `c` where a step is given.
+#[cycle(rough)]
+#[derive(Drop)]
+pub struct RoughRange {
+    pub a: Rough,
+    pub b: Rough,
+    pub c: Option<Rough>,
 }
 
 /// An arm of a `case`: the labels that it is for, and its clause.
@@ -153,7 +160,7 @@ pub enum RoughForm {
 #[derive(Drop)]
 pub struct RoughArm {
     pub labels: List<Rough>,
-    pub a: Box<Rough>,
+    pub a: Rough,
 }
 
 /// An item of a `write`, and how wide it is written, where that is said; the line is that of the
@@ -161,8 +168,8 @@ pub struct RoughArm {
 #[cycle(rough)]
 #[derive(Drop)]
 pub struct RoughItem {
-    pub e: Box<Rough>,
-    pub w: Option<Box<Rough>>,
+    pub e: Rough,
+    pub w: Option<Rough>,
     pub line: Line,
 }
 
@@ -173,11 +180,13 @@ pub struct Named {
     pub line: Line,
 }
 
-/// A parameter of a procedure or a field of a structure.
+/// The parameters of a procedure or the fields of a structure that share a type that is written
+/// once: the first of them, and those behind it.
 #[derive(Drop)]
 pub struct Group {
     pub ty: Ty,
-    pub name: Named,
+    pub first: Named,
+    pub more: List<Named>,
 }
 
 /// Lets go of a clause. A chain of operators or of applications is as long as its text, so the left
@@ -188,28 +197,28 @@ impl Drop for RoughForm {
         loop {
             match self {
                 RoughForm::Or { a, b: _ } => {
-                    let Rough { form, line: _ } = Box::into_inner(a);
-                    self = form;
+                    let Rough { form, line: _ } = a;
+                    self = Box::into_inner(form);
                 }
                 RoughForm::And { a, b: _ } => {
-                    let Rough { form, line: _ } = Box::into_inner(a);
-                    self = form;
+                    let Rough { form, line: _ } = a;
+                    self = Box::into_inner(form);
                 }
                 RoughForm::Join { a, b: _ } => {
-                    let Rough { form, line: _ } = Box::into_inner(a);
-                    self = form;
+                    let Rough { form, line: _ } = a;
+                    self = Box::into_inner(form);
                 }
                 RoughForm::Arith { op: _, a, b: _ } => {
-                    let Rough { form, line: _ } = Box::into_inner(a);
-                    self = form;
+                    let Rough { form, line: _ } = a;
+                    self = Box::into_inner(form);
                 }
                 RoughForm::Apply { f, args: _ } => {
-                    let Rough { form, line: _ } = Box::into_inner(f);
-                    self = form;
+                    let Rough { form, line: _ } = f;
+                    self = Box::into_inner(form);
                 }
                 RoughForm::Part { s, i: _, n: _ } => {
-                    let Rough { form, line: _ } = Box::into_inner(s);
-                    self = form;
+                    let Rough { form, line: _ } = s;
+                    self = Box::into_inner(form);
                 }
                 RoughForm::Sequence { items: _ } => return,
                 RoughForm::Let {
@@ -224,9 +233,7 @@ impl Drop for RoughForm {
                 RoughForm::Repeat { a: _, c: _, b: _ } => return,
                 RoughForm::For {
                     name: _,
-                    a: _,
-                    b: _,
-                    c: _,
+                    range: _,
                     s: _,
                 } => return,
                 RoughForm::Case {

@@ -2,7 +2,6 @@ use Rattle.std.proofs.Common.{◌≡◌, ap, ◌∙◌, sym, Result, Ok, Err, If
 use Rattle.std.proofs.lemmas.List.{take_all}
 use Rattle.std.specs.declared.alloc.AllocError.{AllocError}
 use Rattle.ps_base.specs.declared.ty.Ty.{Ty}
-use Rattle.ps_base.specs.declared.ty.Ty.TheVariants as code
 use Rattle.ps_base.specs.TyView.{TyView, ty_view, ty_views}
 use Rattle.ps_base.specs.List.{items_of}
 use Rattle.ps_base.specs.TyView as view

@@ -1,65 +1,65 @@
 use Rattle.std.proofs.Common.{◌≡◌, rules, suc, get_or, ◌∙◌, ◌+◌, ◌-◌, ◌<◌, ◌≤◌, ap, sym, arith, length, drop, subst}
-use Rattle.std.specs.Prelude.{slice_set}
-use Rattle.ps_base.specs.Node.{Node, Nodes, more, node_of, nodes_in}
+use Rattle.std.specs.Prelude.{slice_set, OnOk}
+use Rattle.ps_base.specs.Node.{Node, Nodes, more, node_of, node_of_form, nodes_in}
 use Rattle.ps_base.specs.Node as node
-use Rattle.ps_base.proofs.NodeLemmas.{node_of-Block}
+use Rattle.ps_base.proofs.NodeLemmas.{node_of_form-Block}
 use Rattle.ps_machine.specs.declared.instruction.Instruction.TheVariants.{Again, Jump, JumpFalse, And, Or, Arith, Compare}
 use Rattle.ps_machine.specs.Code.{code_of, size}
-use Rattle.ps_machine.specs.Emission.{EmitsWith, EmitsBefore}
+use Rattle.ps_machine.specs.Emission.{Emits, EmitsWith, EmitsBefore}
 use Rattle.ps_machine.proofs.Weights.{weight, weight_all}
 use Rattle.ps_machine.proofs.Generated.{LeadsAll, weight_at, nodes_from, leads_operand, leads_clause, leads_choices, leads_item, length_emitted, loop_emitted, leads_sequence, on_ok}
 use Rattle.ps_machine.proofs.generate.+emit.Goals as goal
 
 pub emit-loop-rest-preserved-in-IfDo : goal.emit-loop-rest-preserved-in-IfDo
 emit-loop-rest-preserved-in-IfDo t c =
-    let is : node_of c.loop-rest.rest.now ≡ node.IfDo (node_of c.deref-rest-in-IfDo.result.now) (node_of c.in-IfDo.a.value) = ap node_of c.in-IfDo.is ∙ ap (λ v. node.IfDo (node_of v) (node_of c.in-IfDo.a.value)) (sym c.deref-rest-in-IfDo.ensures) in
-    let put : EmitsBefore c.loop-rest.code.items (node_of c.in-IfDo.a.value) (JumpFalse (length c.loop-rest.code.items)) c.emit_jump_over.new.code.items = subst (λ v. EmitsBefore c.loop-rest.code.items (node_of v) (JumpFalse (length c.loop-rest.code.items)) c.emit_jump_over.new.code.items) c.deref.ensures c.in_ok-emit_jump_over-in-IfDo.ensures in
-    (leads_clause _ _ _ _ _ _ (node_of c.in-IfDo.a.value) (JumpFalse (length c.loop-rest.code.items)) c.loop-rest.invariant.0 put (ap (λ n. code_of n (length c.loop-rest.code.items)) is), omega (arith, ap weight is))
+    let is : node_of_form c.loop-rest.rest.now ≡ node.IfDo (node_of_form c.deref-rest-in-IfDo.result.now) (node_of c.in-IfDo.a) = ap node_of_form c.in-IfDo.is ∙ ap (λ v. node.IfDo (node_of_form v) (node_of c.in-IfDo.a)) (sym c.deref-rest-in-IfDo.ensures) in
+    let put : EmitsBefore c.loop-rest.code.items (node_of c.in-IfDo.a) (JumpFalse (length c.loop-rest.code.items)) c.emit_jump_over.new.code.items = c.in_ok-emit_jump_over-in-IfDo.ensures in
+    (leads_clause _ _ _ _ _ _ (node_of c.in-IfDo.a) (JumpFalse (length c.loop-rest.code.items)) c.loop-rest.invariant.0 put (ap (λ n. code_of n (length c.loop-rest.code.items)) is), omega (arith, ap weight is))
 
 pub emit-loop-rest-preserved-in-IfElse : goal.emit-loop-rest-preserved-in-IfElse
 emit-loop-rest-preserved-in-IfElse t c =
-    let is : node_of c.loop-rest.rest.now ≡ node.IfElse (node_of c.deref-rest-in-IfElse.result.now) (node_of c.in-IfElse.a.value) (node_of c.in-IfElse.b.value) = ap node_of c.in-IfElse.is ∙ ap (λ v. node.IfElse (node_of v) (node_of c.in-IfElse.a.value) (node_of c.in-IfElse.b.value)) (sym c.deref-rest-in-IfElse.ensures) in
+    let is : node_of_form c.loop-rest.rest.now ≡ node.IfElse (node_of_form c.deref-rest-in-IfElse.result.now) (node_of c.in-IfElse.a) (node_of c.in-IfElse.b) = ap node_of_form c.in-IfElse.is ∙ ap (λ v. node.IfElse (node_of_form v) (node_of c.in-IfElse.a) (node_of c.in-IfElse.b)) (sym c.deref-rest-in-IfElse.ensures) in
     let jump = Jump (length c.loop-rest.code.items) in
-    let a = node_of c.in-IfElse.a.value in
-    let b = node_of c.in-IfElse.b.value in
-    let first : EmitsBefore c.loop-rest.code.items b jump c.emit_other.new.code.items = subst (λ v. EmitsBefore c.loop-rest.code.items (node_of v) jump c.emit_other.new.code.items) c.deref-in-IfElse.ensures c.in_ok-other-in-IfElse.ensures.code in
-    let at : c.in_ok-other-in-IfElse.other ≡ (length c.loop-rest.code.items) + size b = c.in_ok-other-in-IfElse.ensures.place ∙ ap (λ v. (length c.loop-rest.code.items) + size (node_of v)) c.deref-in-IfElse.ensures in
+    let a = node_of c.in-IfElse.a in
+    let b = node_of c.in-IfElse.b in
+    let first : EmitsBefore c.loop-rest.code.items b jump c.emit_other.new.code.items = c.in_ok-other-in-IfElse.ensures.code in
+    let at : c.in_ok-other-in-IfElse.other ≡ (length c.loop-rest.code.items) + size b = c.in_ok-other-in-IfElse.ensures.place in
     let second : EmitsBefore c.emit_other.new.code.items a (JumpFalse ((length c.loop-rest.code.items) + size b)) c.emit_before.new.code.items =
     subst (λ n. EmitsBefore c.emit_other.new.code.items a (JumpFalse n) c.emit_before.new.code.items) at
-    (subst (λ v. EmitsBefore c.emit_other.new.code.items (node_of v) (JumpFalse c.in_ok-other-in-IfElse.other) c.emit_before.new.code.items) c.deref-in-IfElse-2.ensures c.in_ok-emit_before-in-IfElse.ensures) in
+    c.in_ok-emit_before-in-IfElse.ensures in
     (leads_choices _ _ c.emit_other.new.code.items _ _ _ _ a b (JumpFalse ((length c.loop-rest.code.items) + size b)) jump c.loop-rest.invariant.0 first second (ap (λ n. code_of n (length c.loop-rest.code.items)) is), omega (arith, ap weight is))
 
 pub emit-loop-rest-preserved-in-And : goal.emit-loop-rest-preserved-in-And
 emit-loop-rest-preserved-in-And t c =
-    let is : node_of c.loop-rest.rest.now ≡ node.And (node_of c.deref-rest-in-And.result.now) (node_of c.in-And.b.value) = ap node_of c.in-And.is ∙ ap (λ v. node.And (node_of v) (node_of c.in-And.b.value)) (sym c.deref-rest-in-And.ensures) in
+    let is : node_of_form c.loop-rest.rest.now ≡ node.And (node_of_form c.deref-rest-in-And.result.now) (node_of c.in-And.b) = ap node_of_form c.in-And.is ∙ ap (λ v. node.And (node_of_form v) (node_of c.in-And.b)) (sym c.deref-rest-in-And.ensures) in
     let old = c.loop-rest.code.items in
     let at : c.len-end.result ≡ (length c.loop-rest.code.items) = search rules in
-    let put : EmitsBefore old (node_of c.in-And.b.value) (And (length c.loop-rest.code.items)) c.emit_before-in-And.new.code.items =
-    subst (λ n. EmitsBefore old (node_of c.in-And.b.value) (And n) c.emit_before-in-And.new.code.items) at
-    (subst (λ v. EmitsBefore old (node_of v) (And c.len-end.result) c.emit_before-in-And.new.code.items) c.deref-in-And.ensures c.in_ok-emit_before-in-And.ensures) in
-    (leads_clause _ _ _ _ _ _ (node_of c.in-And.b.value) (And (length c.loop-rest.code.items)) c.loop-rest.invariant.0 put (ap (λ n. code_of n (length c.loop-rest.code.items)) is), omega (arith, ap weight is))
+    let put : EmitsBefore old (node_of c.in-And.b) (And (length c.loop-rest.code.items)) c.emit_before-in-And.new.code.items =
+    subst (λ n. EmitsBefore old (node_of c.in-And.b) (And n) c.emit_before-in-And.new.code.items) at
+    c.in_ok-emit_before-in-And.ensures in
+    (leads_clause _ _ _ _ _ _ (node_of c.in-And.b) (And (length c.loop-rest.code.items)) c.loop-rest.invariant.0 put (ap (λ n. code_of n (length c.loop-rest.code.items)) is), omega (arith, ap weight is))
 
 pub emit-loop-rest-preserved-in-Or : goal.emit-loop-rest-preserved-in-Or
 emit-loop-rest-preserved-in-Or t c =
-    let is : node_of c.loop-rest.rest.now ≡ node.Or (node_of c.deref-rest-in-Or.result.now) (node_of c.in-Or.b.value) = ap node_of c.in-Or.is ∙ ap (λ v. node.Or (node_of v) (node_of c.in-Or.b.value)) (sym c.deref-rest-in-Or.ensures) in
+    let is : node_of_form c.loop-rest.rest.now ≡ node.Or (node_of_form c.deref-rest-in-Or.result.now) (node_of c.in-Or.b) = ap node_of_form c.in-Or.is ∙ ap (λ v. node.Or (node_of_form v) (node_of c.in-Or.b)) (sym c.deref-rest-in-Or.ensures) in
     let old = c.loop-rest.code.items in
     let at : c.len-end-in-Or.result ≡ (length c.loop-rest.code.items) = search rules in
-    let put : EmitsBefore old (node_of c.in-Or.b.value) (Or (length c.loop-rest.code.items)) c.emit_before-in-Or.new.code.items =
-    subst (λ n. EmitsBefore old (node_of c.in-Or.b.value) (Or n) c.emit_before-in-Or.new.code.items) at
-    (subst (λ v. EmitsBefore old (node_of v) (Or c.len-end-in-Or.result) c.emit_before-in-Or.new.code.items) c.deref-in-Or.ensures c.in_ok-emit_before-in-Or.ensures) in
-    (leads_clause _ _ _ _ _ _ (node_of c.in-Or.b.value) (Or (length c.loop-rest.code.items)) c.loop-rest.invariant.0 put (ap (λ n. code_of n (length c.loop-rest.code.items)) is), omega (arith, ap weight is))
+    let put : EmitsBefore old (node_of c.in-Or.b) (Or (length c.loop-rest.code.items)) c.emit_before-in-Or.new.code.items =
+    subst (λ n. EmitsBefore old (node_of c.in-Or.b) (Or n) c.emit_before-in-Or.new.code.items) at
+    c.in_ok-emit_before-in-Or.ensures in
+    (leads_clause _ _ _ _ _ _ (node_of c.in-Or.b) (Or (length c.loop-rest.code.items)) c.loop-rest.invariant.0 put (ap (λ n. code_of n (length c.loop-rest.code.items)) is), omega (arith, ap weight is))
 
 pub emit-loop-rest-preserved-in-Arith : goal.emit-loop-rest-preserved-in-Arith
 emit-loop-rest-preserved-in-Arith t c =
-    let is : node_of c.loop-rest.rest.now ≡ node.Arith c.in-Arith.op (node_of c.deref-rest-in-Arith.result.now) (node_of c.in-Arith.b.value) c.in-Arith.line = ap node_of c.in-Arith.is ∙ ap (λ v. node.Arith c.in-Arith.op (node_of v) (node_of c.in-Arith.b.value) c.in-Arith.line) (sym c.deref-rest-in-Arith.ensures) in
-    let put : EmitsWith c.loop-rest.code.items (node_of c.in-Arith.b.value) (Arith c.in-Arith.op c.in-Arith.line) c.emit_with.new.code.items = subst (λ v. EmitsWith c.loop-rest.code.items (node_of v) (Arith c.in-Arith.op c.in-Arith.line) c.emit_with.new.code.items) c.deref-in-Arith.ensures c.in_ok-emit_with-in-Arith.ensures in
-    (leads_operand _ _ _ _ _ _ (node_of c.in-Arith.b.value) (Arith c.in-Arith.op c.in-Arith.line) c.loop-rest.invariant.0 put (λ k. ap (λ n. code_of n k) is), omega (arith, ap weight is))
+    let is : node_of_form c.loop-rest.rest.now ≡ node.Arith c.in-Arith.op (node_of_form c.deref-rest-in-Arith.result.now) (node_of c.in-Arith.b) c.in-Arith.line = ap node_of_form c.in-Arith.is ∙ ap (λ v. node.Arith c.in-Arith.op (node_of_form v) (node_of c.in-Arith.b) c.in-Arith.line) (sym c.deref-rest-in-Arith.ensures) in
+    let put : EmitsWith c.loop-rest.code.items (node_of c.in-Arith.b) (Arith c.in-Arith.op c.in-Arith.line) c.emit_with.new.code.items = c.in_ok-emit_with-in-Arith.ensures in
+    (leads_operand _ _ _ _ _ _ (node_of c.in-Arith.b) (Arith c.in-Arith.op c.in-Arith.line) c.loop-rest.invariant.0 put (λ k. ap (λ n. code_of n k) is), omega (arith, ap weight is))
 
 pub emit-loop-rest-preserved : goal.emit-loop-rest-preserved
 emit-loop-rest-preserved t c =
-    let is : node_of c.loop-rest.rest.now ≡ node.Compare c.in-Compare.op c.in-Compare.ty (node_of c.deref-rest-in-Compare.result.now) (node_of c.in-Compare.b.value) = ap node_of c.in-Compare.is ∙ ap (λ v. node.Compare c.in-Compare.op c.in-Compare.ty (node_of v) (node_of c.in-Compare.b.value)) (sym c.deref-rest-in-Compare.ensures) in
-    let put : EmitsWith c.loop-rest.code.items (node_of c.in-Compare.b.value) (Compare c.in-Compare.op) c.emit_with-in-Compare.new.code.items = subst (λ v. EmitsWith c.loop-rest.code.items (node_of v) (Compare c.in-Compare.op) c.emit_with-in-Compare.new.code.items) c.deref-in-Compare.ensures c.in_ok-emit_with-in-Compare.ensures in
-    (leads_operand _ _ _ _ _ _ (node_of c.in-Compare.b.value) (Compare c.in-Compare.op) c.loop-rest.invariant.0 put (λ k. ap (λ n. code_of n k) is), omega (arith, ap weight is))
+    let is : node_of_form c.loop-rest.rest.now ≡ node.Compare c.in-Compare.op c.in-Compare.ty (node_of_form c.deref-rest-in-Compare.result.now) (node_of c.in-Compare.b) = ap node_of_form c.in-Compare.is ∙ ap (λ v. node.Compare c.in-Compare.op c.in-Compare.ty (node_of_form v) (node_of c.in-Compare.b)) (sym c.deref-rest-in-Compare.ensures) in
+    let put : EmitsWith c.loop-rest.code.items (node_of c.in-Compare.b) (Compare c.in-Compare.op) c.emit_with-in-Compare.new.code.items = c.in_ok-emit_with-in-Compare.ensures in
+    (leads_operand _ _ _ _ _ _ (node_of c.in-Compare.b) (Compare c.in-Compare.op) c.loop-rest.invariant.0 put (λ k. ap (λ n. code_of n k) is), omega (arith, ap weight is))
 
 pub emit_other-returns-clause-place : goal.emit_other-returns-clause-place
 emit_other-returns-clause-place t c =
@@ -94,11 +94,12 @@ emit_all-emit-requires t c =
 
 pub emit-emit_all-requires : goal.emit-emit_all-requires
 emit-emit_all-requires t c =
-    let is : node_of c.loop-rest.rest.now ≡ node.Block c.in-Block.scope (nodes_in c.as_slice.result.now) = ap node_of c.in-Block.is ∙ node_of-Block c.in-Block.scope c.in-Block.items ∙ ap (λ ts. node.Block c.in-Block.scope (nodes_in ts)) (sym c.as_slice.ensures) in
-    let light : weight (node_of c.loop-rest.rest.now) ≡ weight_all (nodes_in c.as_slice.result.now) + 1 = ap weight is in
+    let is : node_of_form c.loop-rest.rest.now ≡ node.Block c.in-Block.scope (nodes_in c.as_slice.result.now) = ap node_of_form c.in-Block.is ∙ node_of_form-Block c.in-Block.scope c.in-Block.items ∙ ap (λ ts. node.Block c.in-Block.scope (nodes_in ts)) (sym c.as_slice.ensures) in
+    let light : weight (node_of_form c.loop-rest.rest.now) ≡ weight_all (nodes_in c.as_slice.result.now) + 1 = ap weight is in
     search (rules, light)
 
 pub emit-returns-in-Block : goal.emit-returns-in-Block
 emit-returns-in-Block t c =
-    let is : node_of c.loop-rest.rest.now ≡ node.Block c.in-Block.scope (nodes_in c.as_slice.result.now) = ap node_of c.in-Block.is ∙ node_of-Block c.in-Block.scope c.in-Block.items ∙ ap (λ ts. node.Block c.in-Block.scope (nodes_in ts)) (sym c.as_slice.ensures) in
-    on_ok c.emit_all.result _ _ (leads_sequence _ _ _ _ _ (nodes_in c.as_slice.result.now) c.loop-rest.invariant.0 (λ k. ap (λ v. code_of v k) is)) c.emit_all.ensures
+    let is : node_of_form c.loop-rest.rest.now ≡ node.Block c.in-Block.scope (nodes_in c.as_slice.result.now) = ap node_of_form c.in-Block.is ∙ node_of_form-Block c.in-Block.scope c.in-Block.items ∙ ap (λ ts. node.Block c.in-Block.scope (nodes_in ts)) (sym c.as_slice.ensures) in
+    subst (λ v. OnOk c.emit_all.result (Emits c.args.code.now.items (node_of_form v) c.emit_all.new.code.items)) c.deref-rest.ensures
+    (on_ok c.emit_all.result _ _ (leads_sequence _ _ _ _ _ (nodes_in c.as_slice.result.now) c.loop-rest.invariant.0 (λ k. ap (λ v. code_of v k) is)) c.emit_all.ensures)

@@ -1,15 +1,17 @@
 -- The loops of the generator: what is left of a clause makes the code that the clause makes.
 use Rattle.std.proofs.Common.{◌≤◌, ◌+◌, ◌*◌, length, drop}
-use Rattle.ps_base.specs.Node.{node_of, nodes_in}
+use Rattle.ps_base.specs.Node.{node_of, node_of_form, nodes_in}
 use Rattle.ps_machine.proofs.Weights.{weight, weight_all}
 use Rattle.ps_machine.proofs.Generated.{Leads, LeadsAll}
 use Rattle.ps_machine.proofs.generate.+emit.Given as goal
 
 abbrev pub invariant-emit-loop-rest : goal.invariant-emit-loop-rest
-invariant-emit-loop-rest l = Leads l.initial.code.items (node_of l.initial.rest) l.code.items (node_of l.rest) × (weight (node_of l.rest) ≤ weight (node_of l.initial.rest))
+invariant-emit-loop-rest l =
+    Leads l.initial.code.items (node_of_form l.initial.rest) l.code.items (node_of_form l.rest)
+    × (weight (node_of_form l.rest) ≤ weight (node_of_form l.initial.rest))
 
 abbrev pub decreases-emit-loop-rest : goal.decreases-emit-loop-rest
-decreases-emit-loop-rest l = weight (node_of l.rest)
+decreases-emit-loop-rest l = weight (node_of_form l.rest)
 
 abbrev pub invariant-emit_all-loop-i : goal.invariant-emit_all-loop-i
 invariant-emit_all-loop-i l = LeadsAll l.initial.code.items (nodes_in l.items) l.code.items (nodes_in (drop l.i l.items)) × (l.i ≤ length l.items)

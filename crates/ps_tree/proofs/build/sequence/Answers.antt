@@ -1,10 +1,12 @@
-use Rattle.std.proofs.Common.{ap, ◌∙◌}
-use Rattle.ps_tree.specs.Phrase.{Form, at}
+use Rattle.std.proofs.Common.{◌≡◌, ap, ◌∙◌, subst}
+use Rattle.std.specs.Prelude.{IfOk}
+use Rattle.ps_tree.specs.declared.rough.Rough.{Rough}
+use Rattle.ps_tree.specs.Phrase.{Form, at, arm, phrase_of}
 use Rattle.ps_tree.specs.Phrase as form
 use Rattle.ps_tree.specs.PhraseLists.{phrases_in}
 use Rattle.ps_tree.proofs.PhraseLemmas.{form_of-Sequence}
 use Rattle.ps_tree.proofs.build.sequence.Goals as goal
 
-pub returns : goal.returns
-returns c =
-    ap (λ (f : Form). at f c.args.line) (form_of-Sequence c.new.result ∙ ap (λ items. form.Sequence (phrases_in items)) c.new.ensures)
+pub returns-clause-made : goal.returns-clause-made
+returns-clause-made c =
+    subst (λ (f : Form). IfOk c.form_at.result (λ (made : Rough). phrase_of made ≡ at f c.args.line)) (form_of-Sequence c.new.result ∙ ap (λ items. form.Sequence (phrases_in items)) c.new.ensures) c.form_at.ensures.made

@@ -1,7 +1,8 @@
 //! Headers and references of the layout's own examples, word by word.
-use crate::header::{Header, LayoutFault, read_header, write_header};
-use crate::kind::Kind;
-use crate::reference::{Reference, reference_of, word_of};
+
+use obj_layout::header::{Header, LayoutFault, read_header, write_header};
+use obj_layout::kind::Kind;
+use obj_layout::reference::{Reference, reference_of, word_of};
 
 const KINDS: [Kind; 9] = [
     Kind::Text,

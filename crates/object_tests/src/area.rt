@@ -1,5 +1,6 @@
 //! That an area can be made, and what its calls answer at the edges of a small one.
-use crate::area::Area;
+
+use obj_area::area::Area;
 use std::test::Fail;
 
 const WORD: u64 = 0x0807_0605_0403_0201;

@@ -1,0 +1,36 @@
+//! Trees of programs that are let go.
+
+use ps_base::line::Line;
+use ps_base::operator::Operator;
+use ps_base::tree::{Tree, TreeForm};
+use std::alloc::Global;
+use std::test::Fail;
+
+// A chain of so many operators over its first operand.
+fn chain(alloc: Global, length: u32) -> Result<Tree, Fail> {
+    let mut tree = Tree::new(alloc, TreeForm::Int(1))?;
+    for place in 0..length {
+        let b = Tree::new(alloc, TreeForm::Int(2))?;
+        let form = match place % 3 {
+            0 => TreeForm::And { a: tree, b },
+            1 => TreeForm::Or { a: tree, b },
+            _ => TreeForm::Arith {
+                op: Operator::Add,
+                a: tree,
+                b,
+                line: Line(1),
+            },
+        };
+        tree = Tree::new(alloc, form)?;
+    }
+    Ok(tree)
+}
+
+// A tree as deep as its text is long is let go by a loop: no stack is deep enough for it.
+#[test]
+fn long_chains_are_let_go(rt: HostRuntime) -> Result<(), Fail> {
+    let tree = chain(rt.alloc(), 500_000)?;
+    assert!(rt; matches!(tree.into_form(), TreeForm::Or { .. }));
+    let _dropped = chain(rt.alloc(), 500_000)?;
+    Ok(())
+}

@@ -1,0 +1,5 @@
+//! Tests of the instructions as bytes.
+#![tactic(auto)]
+
+#[cfg(test)]
+mod instructions;
