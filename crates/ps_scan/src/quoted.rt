@@ -4,8 +4,9 @@ ghost use Rattle.ps_scan.specs.inside.Strings.{goes_on, IsWithin};
 
 use crate::class::{Inner, escaped, inner_of};
 use crate::fault::ScanFault;
-use crate::piece::{LONGEST_TEXT, Piece};
+use crate::piece::Piece;
 use crate::token::TokenKind;
+use ps_base::LONGEST_TEXT;
 use ps_base::line::Line;
 use std::alloc::{AllocError, Global};
 
