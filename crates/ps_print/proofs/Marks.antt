@@ -5,7 +5,7 @@ use Rattle.std.specs.List.{list_all, list_any}
 use Rattle.std.specs.Char.{is_ascii_digit, is_ascii_alphabetic}
 use Rattle.std.proofs.lemmas.Bool.Decides.{nat_tests}
 use Rattle.std.proofs.lemmas.List.Elements.{All-head}
-use Rattle.ps_scan.specs.declared.mark.TheConstants.{OPEN_ROUND, CLOSE_ROUND, OPEN_SQUARE, CLOSE_SQUARE, OPEN_CURLY, CLOSE_CURLY, COMMA, SEMICOLON, COLON, DOUBLE_COLON, BECOMES, EQUALS, TILDE, NOT_EQUALS, LESS, LESS_OR_EQUAL, GREATER, GREATER_OR_EQUAL, PLUS, MINUS, CONCATENATE, TIMES, ARROW, AT, END, BAR}
+use Rattle.ps_scan.specs.declared.mark.TheConstants.{OPEN_ROUND, CLOSE_ROUND, OPEN_SQUARE, CLOSE_SQUARE, OPEN_CURLY, CLOSE_CURLY, COMMA, SEMICOLON, COLON, DOUBLE_COLON, BECOMES, EQUALS, TILDE, NOT_EQUALS, LESS, LESS_OR_EQUAL, GREATER, GREATER_OR_EQUAL, PLUS, MINUS, CONCATENATE, TIMES, ARROW, AT, QUESTION, BAR}
 use Rattle.ps_scan.specs.declared.token.TokenKind.{TokenKind}
 use Rattle.ps_scan.specs.declared.token.TokenKind.TheVariants.{Name, Int, Text, Word, Mark}
 use Rattle.ps_scan.specs.Class.{is_name_byte}
@@ -17,7 +17,7 @@ use Rattle.ps_print.proofs.Glued.{both, not_false}
 use Rattle.ps_print.proofs.Pieces.{word_begins, mark_name_is, spelled_nonempty}
 
 -- behind these marks each byte may stand
-pub lone_marks : (byte : ℕ) → list_all (λ place. ends_before (Mark place) byte) (OPEN_ROUND ∷ CLOSE_ROUND ∷ OPEN_SQUARE ∷ CLOSE_SQUARE ∷ OPEN_CURLY ∷ CLOSE_CURLY ∷ COMMA ∷ SEMICOLON ∷ DOUBLE_COLON ∷ BECOMES ∷ EQUALS ∷ NOT_EQUALS ∷ LESS_OR_EQUAL ∷ GREATER_OR_EQUAL ∷ CONCATENATE ∷ TIMES ∷ ARROW ∷ AT ∷ END ∷ BAR ∷ []) ≡ true
+pub lone_marks : (byte : ℕ) → list_all (λ place. ends_before (Mark place) byte) (OPEN_ROUND ∷ CLOSE_ROUND ∷ OPEN_SQUARE ∷ CLOSE_SQUARE ∷ OPEN_CURLY ∷ CLOSE_CURLY ∷ COMMA ∷ SEMICOLON ∷ DOUBLE_COLON ∷ BECOMES ∷ EQUALS ∷ NOT_EQUALS ∷ LESS_OR_EQUAL ∷ GREATER_OR_EQUAL ∷ CONCATENATE ∷ TIMES ∷ ARROW ∷ AT ∷ QUESTION ∷ BAR ∷ []) ≡ true
 lone_marks byte = refl
 
 -- and behind the others each but the second byte of a mark that begins so

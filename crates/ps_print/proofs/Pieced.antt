@@ -7,7 +7,8 @@ use Rattle.ps_scan.specs.declared.token.TokenKind.{TokenKind}
 use Rattle.ps_scan.specs.declared.token.TokenKind.TheVariants.{Name, Int, Text, Word, Mark}
 use Rattle.ps_scan.specs.Names.{mark_place}
 use Rattle.ps_scan.specs.Tokens.{IsSpelled}
-use Rattle.ps_symbols.specs.Kinds.{can_end, can_continue}
+use Rattle.ps_symbols.specs.Kinds.{kind_of}
+use Rattle.ps_symbols.specs.Newline.{can_end, can_continue}
 use Rattle.ps_print.specs.Lexemes.{Gap, nothing, blank, newline, Lexeme, IsPrintable, is_mark, first_passes, may_follow, may_follow_glued, ends_before, neighbours_pass, mark_name}
 use Rattle.ps_print.specs.Lines.{goes_on, goes_on_over}
 use Rattle.ps_print.proofs.Marks.{mark_glued, token_glued}
@@ -49,7 +50,7 @@ pub data Begins : Width → Gap → List Lexeme → Type 0 where
 -- a lexeme may stand before what begins so
 pub data Admits (l : Lexeme) : Width → Gap → Type 0 where
   next : {width : Width} → Admits l width blank
-  under : {width : Width} {n : ℕ} → can_end l.what ≡ false → Admits l width (newline n)
+  under : {width : Width} {n : ℕ} → can_end (kind_of l.what) ≡ false → Admits l width (newline n)
   close : {width : Width} → ((what : TokenKind) (spelling : List ℕ) → IsSpelled what spelling → Starts width what → first_passes (ends_before l.what) spelling ≡ true) → Admits l width nothing
 
 -- what may stand behind an end
@@ -76,8 +77,8 @@ follows_nothing = record { free = λ l ends is. refl; over = λ l ends. refl }
 pub good_cons : (l : Lexeme) (ls : List Lexeme) → IsSpelled l.what l.spelling → first_passes (may_follow l) ls ≡ true → first_passes (goes_on l) ls ≡ true → Good ls → Good (l ∷ ls)
 good_cons l ls is free over rest = record { printable = printable_cons l ls is free rest.printable; lines = neighbours_cons goes_on l ls over rest.lines }
 
-under_newline : (first second : TokenKind) → can_end first ≡ false → not (can_end first && not (can_continue second)) ≡ true
-under_newline first second is = ap (λ (b : Bool). not (b && not (can_continue second))) is
+under_newline : (first second : TokenKind) → can_end (kind_of first) ≡ false → not (can_end (kind_of first) && not (can_continue (kind_of second))) ≡ true
+under_newline first second is = ap (λ (b : Bool). not (b && not (can_continue (kind_of second)))) is
 
 pub admitted_free : {width : Width} {gap : Gap} (l : Lexeme) (ls : List Lexeme) → Admits l width gap → Begins width gap ls → first_passes (may_follow l) ls ≡ true
 admitted_free l ls next (apart {l = second} is) = ap (λ (g : Gap). may_follow_glued g l.what second.spelling) is

@@ -5,7 +5,8 @@ use Rattle.std.proofs.lemmas.Bool.Decides.{nat_tests}
 use Rattle.ps_scan.specs.declared.token.Token.{Token}
 use Rattle.ps_scan.specs.declared.token.TokenKind.{TokenKind}
 use Rattle.ps_scan.specs.Tokens.{token_at}
-use Rattle.ps_symbols.specs.Kinds.{can_end, can_continue}
+use Rattle.ps_symbols.specs.Kinds.{kind_of}
+use Rattle.ps_symbols.specs.Newline.{can_end, can_continue}
 use Rattle.ps_symbols.specs.declared.symbol.Symbol.{Symbol}
 use Rattle.ps_symbols.specs.Symbols.{breaks, semicolon_behind, symbol, symbols_behind, symbols}
 use Rattle.ps_print.specs.Lexemes.{Gap, nothing, blank, newline, Lexeme, gap_bytes, gap_lines, tokens_of, first_passes, neighbours_pass, token_behind}
@@ -22,10 +23,10 @@ not_break true false ok = absurd (cc)
 not_break false more ok = refl
 
 -- no break where the tokens go on over the gap
-unbroken : (gap : Gap) (first : TokenKind) (second : TokenKind) (here line : ℕ) → here ≡ line → goes_on_over gap first second ≡ true → (nat_lt here (line + gap_lines gap) && can_end first && not (can_continue second)) ≡ false
-unbroken nothing first second here line same ok = ap (λ t. t && can_end first && not (can_continue second)) (same_line here line same)
-unbroken blank first second here line same ok = ap (λ t. t && can_end first && not (can_continue second)) (same_line here line same)
-unbroken (newline indent) first second here line same ok = either (nat_lt here (line + 1)) (can_end first) (can_continue second) ok
+unbroken : (gap : Gap) (first : TokenKind) (second : TokenKind) (here line : ℕ) → here ≡ line → goes_on_over gap first second ≡ true → (nat_lt here (line + gap_lines gap) && can_end (kind_of first) && not (can_continue (kind_of second))) ≡ false
+unbroken nothing first second here line same ok = ap (λ t. t && can_end (kind_of first) && not (can_continue (kind_of second))) (same_line here line same)
+unbroken blank first second here line same ok = ap (λ t. t && can_end (kind_of first) && not (can_continue (kind_of second))) (same_line here line same)
+unbroken (newline indent) first second here line same ok = either (nat_lt here (line + 1)) (can_end (kind_of first)) (can_continue (kind_of second)) ok
   where
     either : (less ends more : Bool) → not (ends && not more) ≡ true → (less && ends && not more) ≡ false
     either true ends more fine = not_break ends more fine

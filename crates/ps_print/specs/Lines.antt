@@ -3,7 +3,8 @@ use Rattle.std.specs.Prelude.{ℕ, ◌+◌, Bool, true, not, ◌&&◌, List, [],
 use Rattle.ps_scan.specs.declared.token.Token.{Token}
 use Rattle.ps_scan.specs.declared.token.TokenKind.{TokenKind}
 use Rattle.ps_symbols.specs.declared.symbol.Symbol.{Symbol}
-use Rattle.ps_symbols.specs.Kinds.{can_end, can_continue}
+use Rattle.ps_symbols.specs.Kinds.{kind_of}
+use Rattle.ps_symbols.specs.Newline.{can_end, can_continue}
 use Rattle.ps_symbols.specs.Symbols.{symbol}
 use Rattle.ps_print.specs.Lexemes.{Gap, nothing, blank, newline, Lexeme}
 
@@ -12,7 +13,7 @@ use Rattle.ps_print.specs.Lexemes.{Gap, nothing, blank, newline, Lexeme}
 abbrev pub goes_on_over : Gap → TokenKind → TokenKind → Bool
 goes_on_over nothing first second = true
 goes_on_over blank first second = true
-goes_on_over (newline indent) first second = not (can_end first && not (can_continue second))
+goes_on_over (newline indent) first second = not (can_end (kind_of first) && not (can_continue (kind_of second)))
 
 abbrev pub goes_on : Lexeme → Lexeme → Bool
 goes_on first second = goes_on_over second.gap first.what second.what
