@@ -1,7 +1,6 @@
 pub mod Code
-pub mod Emission
 pub mod Machine
 pub mod Path
 pub mod Ready
 pub mod Stepping
-pub mod Telling
+pub mod inside
