@@ -9,7 +9,7 @@ use Rattle.ps_meaning.specs.Run.{run_events, run_end}
 use Rattle.ps_machine.specs.declared.machine.Machine.{Machine}
 use Rattle.ps_machine.specs.Machine.{Config, Goes, Halts, step_at, step, Runs}
 use Rattle.ps_machine.specs.Stepping.{unit_of, config_of, HasRoom}
-use Rattle.ps_machine.specs.inside.Stepped.{CanGo}
+use Rattle.ps_machine.specs.Stepped.{CanGo}
 use Rattle.ps_machine.specs.Ready.{IsReady}
 use Rattle.ps_machine.proofs.Running.{ready_runs, follow, last_step, can_run, front_of_run, outputs-append, end_is}
 

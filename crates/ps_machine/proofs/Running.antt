@@ -9,7 +9,7 @@ use Rattle.ps_machine.specs.declared.machine.Machine.{Machine}
 use Rattle.ps_machine.specs.Code.{code_of, size}
 use Rattle.ps_machine.specs.Machine.{Config, Step, Goes, Halts, Loaded, step, Runs, goes, stops}
 use Rattle.ps_machine.specs.Stepping.{unit_of, config_of, word_in}
-use Rattle.ps_machine.specs.inside.Stepped.{CanGo}
+use Rattle.ps_machine.specs.Stepped.{CanGo}
 use Rattle.ps_machine.specs.Ready.{IsReady}
 use Rattle.ps_machine.proofs.Simulation.{config, words, program_runs, length_code}
 

@@ -1,3 +1,3 @@
+pub mod Acts
 pub mod Emission
-pub mod Stepped
 pub mod Telling

@@ -3,7 +3,8 @@ ghost use Rattle.ps_meaning.specs.Answers.{answer_of};
 ghost use Rattle.ps_meaning.specs.Eval.{with_local};
 ghost use Rattle.ps_machine.specs.Machine.{step as step_of, back, answered as answered_of};
 ghost use Rattle.ps_machine.specs.Stepping.{unit_of, config_of, word_in, HasRoom};
-ghost use Rattle.ps_machine.specs.inside.Stepped.{acts, CanGo, StepIs};
+ghost use Rattle.ps_machine.specs.Stepped.{CanGo, StepIs};
+ghost use Rattle.ps_machine.specs.inside.Acts.{acts};
 
 use crate::instruction::Instruction;
 use crate::run_end::RunEnd;

@@ -5,7 +5,7 @@ ghost use Rattle.ps_meaning.specs.Event.{Event, outputs};
 ghost use Rattle.ps_meaning.specs.Run.{run_events, run_end};
 ghost use Rattle.ps_machine.specs.Machine.{step as step_of};
 ghost use Rattle.ps_machine.specs.Stepping.{unit_of, config_of, end_of, HasRoom};
-ghost use Rattle.ps_machine.specs.inside.Stepped.{CanGo};
+ghost use Rattle.ps_machine.specs.Stepped.{CanGo};
 ghost use Rattle.ps_machine.specs.Ready.{IsReady};
 ghost use Rattle.ps_machine.specs.inside.Telling.{Advances};
 

@@ -1,22 +1,17 @@
 -- What a step in code answers of the step of the definition.
-use Rattle.std.specs.Prelude.{◌≡◌, ℕ, List, [], reverse}
+use Rattle.std.specs.Prelude.{◌≡◌, ℕ, List, []}
 use Rattle.std.specs.Fmt.{signed_decimal}
 use Rattle.ps_meaning.specs.Event.{Event, outputs}
 use Rattle.ps_meaning.specs.Eval.{flag_text}
-use Rattle.ps_machine.specs.declared.instruction.Instruction.{Instruction}
-use Rattle.ps_machine.specs.declared.machine.Machine.{Machine}
 use Rattle.ps_machine.specs.declared.machine.Item.{Item}
 use Rattle.ps_machine.specs.declared.machine.Item.TheVariants as item
 use Rattle.ps_machine.specs.declared.machine.Stepped.{Stepped}
 use Rattle.ps_machine.specs.declared.machine.Stepped.TheVariants.{Quiet, Writes}
 use Rattle.ps_machine.specs.declared.machine.Stepped.TheVariants as stepped
-use Rattle.ps_machine.specs.Machine.{Config, Step, Goes, Halts, Stuck, act}
-use Rattle.ps_machine.specs.Stepping.{unit_of, word_in, end_of}
+use Rattle.ps_machine.specs.Machine.{Config, Step, Goes, Halts, Stuck}
+use Rattle.ps_machine.specs.Stepping.{end_of}
 
--- what an instruction does, where the place is behind it already
-abbrev pub acts : Machine → Instruction → Step
-acts m i = act (unit_of m) i m.place (reverse m.stack.items) (word_in m.locals.items) m.turns
-
+-- the step isn't stuck
 abbrev pub CanGo : Step → Type 0
 CanGo (Goes events next) = Unit {0}
 CanGo (Halts e) = Unit {0}
