@@ -7,8 +7,9 @@ use Rattle.ps_port.proofs.Telling.{all_none, all_then, fails_then, fails_more}
 use Rattle.ps_meaning.specs.Event.{End, Done, Event, Finish, outputs, report_of}
 use Rattle.ps_meaning.specs.Run.{run_events, run_end}
 use Rattle.ps_machine.specs.declared.machine.Machine.{Machine}
-use Rattle.ps_machine.specs.Machine.{Config, Goes, Stops, step_at, step, Runs}
-use Rattle.ps_machine.specs.Stepping.{unit_of, config_of, CanGo, HasRoom}
+use Rattle.ps_machine.specs.Machine.{Config, Goes, Halts, step_at, step, Runs}
+use Rattle.ps_machine.specs.Stepping.{unit_of, config_of, HasRoom}
+use Rattle.ps_machine.specs.Stepped.{CanGo}
 use Rattle.ps_machine.specs.Ready.{IsReady}
 use Rattle.ps_machine.proofs.Running.{ready_runs, follow, last_step, can_run, front_of_run, outputs-append, end_is}
 
@@ -53,29 +54,29 @@ module _ {H : Type 0} (clock : H → ℕ) (told : H → ℕ → List ℕ → Typ
       subst (λ (bs : List ℕ). FailsBehind clock told faults host next_host bs) (sym whole) (fails_more clock told faults (outputs rest.0) (fails_then clock told faults r.2 cut))
 
   -- what is told in the end: all so far, and the report
-  end_told : (m now : Machine) (host now_host : H) (e : End) (t : Node) (b : IsBetween m host now now_host) (ready : IsReady m t) → step (unit_of now) (config_of now) ≡ Stops e → outputs (run_events m.turns t) ≡ outputs (b.run t ready).0 ++ report_of e
+  end_told : (m now : Machine) (host now_host : H) (e : End) (t : Node) (b : IsBetween m host now now_host) (ready : IsReady m t) → step (unit_of now) (config_of now) ≡ Halts e → outputs (run_events m.turns t) ≡ outputs (b.run t ready).0 ++ report_of e
   end_told m now host now_host e t b ready is =
       let r = b.run t ready in
-      let is' : step (unit_of m) (config_of now) ≡ Stops e = ap (λ (u : _). step u (config_of now)) (sym b.same) ∙ is in
+      let is' : step (unit_of m) (config_of now) ≡ Halts e = ap (λ (u : _). step u (config_of now)) (sym b.same) ∙ is in
       let all = last_step (unit_of m) (run_events m.turns t) (config_of now) r.0 e r.1 is' in
       ap outputs all ∙ outputs-append r.0 (Finish e ∷ []) ∙ ap (λ (bs : List ℕ). outputs r.0 ++ bs) (append-nil (report_of e))
 
-  pub between_told : (m now : Machine) (host now_host last_host : H) (e : End) (t : Node) → IsBetween m host now now_host → IsReady m t → step (unit_of now) (config_of now) ≡ Stops e → TellsAll clock told faults now_host last_host (report_of e) → TellsAll clock told faults host last_host (outputs (run_events m.turns t))
+  pub between_told : (m now : Machine) (host now_host last_host : H) (e : End) (t : Node) → IsBetween m host now now_host → IsReady m t → step (unit_of now) (config_of now) ≡ Halts e → TellsAll clock told faults now_host last_host (report_of e) → TellsAll clock told faults host last_host (outputs (run_events m.turns t))
   between_told m now host now_host last_host e t b ready is tells =
       subst (λ (bs : List ℕ). TellsAll clock told faults host last_host bs) (sym (end_told m now host now_host e t b ready is)) (all_then clock told faults (b.run t ready).2 tells)
 
-  pub between_report_cut : (m now : Machine) (host now_host last_host : H) (e : End) (t : Node) → IsBetween m host now now_host → IsReady m t → step (unit_of now) (config_of now) ≡ Stops e → FailsBehind clock told faults now_host last_host (report_of e) → FailsBehind clock told faults host last_host (outputs (run_events m.turns t))
+  pub between_report_cut : (m now : Machine) (host now_host last_host : H) (e : End) (t : Node) → IsBetween m host now now_host → IsReady m t → step (unit_of now) (config_of now) ≡ Halts e → FailsBehind clock told faults now_host last_host (report_of e) → FailsBehind clock told faults host last_host (outputs (run_events m.turns t))
   between_report_cut m now host now_host last_host e t b ready is cut =
       subst (λ (bs : List ℕ). FailsBehind clock told faults host last_host bs) (sym (end_told m now host now_host e t b ready is)) (fails_then clock told faults (b.run t ready).2 cut)
 
-  pub between_end : (m now : Machine) (host now_host : H) (e : End) (t : Node) → IsBetween m host now now_host → IsReady m t → step (unit_of now) (config_of now) ≡ Stops e → e ≡ run_end m.turns t
+  pub between_end : (m now : Machine) (host now_host : H) (e : End) (t : Node) → IsBetween m host now now_host → IsReady m t → step (unit_of now) (config_of now) ≡ Halts e → e ≡ run_end m.turns t
   between_end m now host now_host e t b ready is =
       let r = b.run t ready in
-      let is' : step (unit_of m) (config_of now) ≡ Stops e = ap (λ (u : _). step u (config_of now)) (sym b.same) ∙ is in
+      let is' : step (unit_of m) (config_of now) ≡ Halts e = ap (λ (u : _). step u (config_of now)) (sym b.same) ∙ is in
       end_is m.turns t r.0 e (last_step (unit_of m) (run_events m.turns t) (config_of now) r.0 e r.1 is')
 
   -- at place 0 the run is done
-  pub done_stops : (now : Machine) → now.place ≤ 0 → step (unit_of now) (config_of now) ≡ Stops Done
+  pub done_stops : (now : Machine) → now.place ≤ 0 → step (unit_of now) (config_of now) ≡ Halts Done
   done_stops now at_end = let e : now.place ≡ 0 = omega arith in ap (λ (p : ℕ). step_at (unit_of now) p (config_of now).stack (config_of now).locals now.turns) e
 
   pub between_all : (m now : Machine) (host now_host : H) (t : Node) → IsBetween m host now now_host → IsReady m t → now.place ≤ 0 → TellsAll clock told faults host now_host (outputs (run_events m.turns t))

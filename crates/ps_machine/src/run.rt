@@ -4,9 +4,10 @@ ghost use Rattle.ps_port.specs.Telling.{TellsOrFails};
 ghost use Rattle.ps_meaning.specs.Event.{Event, outputs};
 ghost use Rattle.ps_meaning.specs.Run.{run_events, run_end};
 ghost use Rattle.ps_machine.specs.Machine.{step as step_of};
-ghost use Rattle.ps_machine.specs.Stepping.{unit_of, config_of, end_of, HasRoom, CanGo};
+ghost use Rattle.ps_machine.specs.Stepping.{unit_of, config_of, end_of, HasRoom};
+ghost use Rattle.ps_machine.specs.Stepped.{CanGo};
 ghost use Rattle.ps_machine.specs.Ready.{IsReady};
-ghost use Rattle.ps_machine.specs.Telling.{Advances};
+ghost use Rattle.ps_machine.specs.inside.Telling.{Advances};
 
 use crate::machine::{Machine, Stepped, step};
 use crate::run_end::RunEnd;
@@ -25,7 +26,7 @@ fn advance<H: Host>(m: &mut Machine, host: &mut H) -> Result<Option<RunEnd>, Hos
 {
     match step(m) {
         Stepped::Quiet => Ok(None),
-        Stepped::Stops(end) => Ok(Some(end)),
+        Stepped::Halts(end) => Ok(Some(end)),
         Stepped::Writes(item) => {
             tell::item(host, &item)?;
             Ok(None)

@@ -1,7 +1,8 @@
 ghost use Rattle.std.specs.Prelude.{◌≡◌};
 ghost use Rattle.ps_port.specs.Telling.{TellsOrFails};
 ghost use Rattle.ps_meaning.specs.Event.{report_of, Trapped, OutOfTurns, trap_number as number_of};
-ghost use Rattle.ps_machine.specs.Stepping.{text_of, end_of};
+ghost use Rattle.ps_machine.specs.Stepping.{end_of};
+ghost use Rattle.ps_machine.specs.Stepped.{text_of};
 
 use crate::machine::Item;
 use crate::run_end::RunEnd;

@@ -18,8 +18,8 @@ use Rattle.ps_types.specs.declared.link.Link.{Link}
 use Rattle.ps_types.specs.Names.{Names, no_names, behind}
 use Rattle.ps_types.specs.Checking.{Outcome, Gives, Refuses, ◌>>=◌, passes, wants, is_same, check, check_all, line_of, together, end_line, check_built, check_program, verdict_of, Typed, Fails}
 use Rattle.ps_types.specs.Built.{first_unbuilt}
-use Rattle.ps_types.specs.PhraseWeights.{weight, weight_links}
-use Rattle.ps_types.specs.Checks.{IsFault, IsClause, IsOfType, IsMade, linked, check_link, check_links}
+use Rattle.ps_types.specs.inside.PhraseWeights.{weight, weight_links}
+use Rattle.ps_types.specs.inside.Checks.{IsFault, IsClause, IsOfType, IsMade, linked, check_link, check_links}
 use Rattle.ps_types.specs.declared.link.Joint.{Joint}
 
 -- what follows from what an outcome gives

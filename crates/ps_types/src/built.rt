@@ -2,8 +2,8 @@ ghost use Rattle.std.specs.Prelude.{◌≡◌, ◌+◌, ◌≤◌};
 ghost use Rattle.ps_tree.specs.Phrase.{phrase_of, item_of};
 ghost use Rattle.ps_tree.specs.PhraseLists.{phrases_in, items_in};
 ghost use Rattle.ps_types.specs.Built.{first_unbuilt as first_unbuilt_of, unbuilt_among, unbuilt_written, unbuilt_item as unbuilt_item_of, or_else as or_else_of};
-ghost use Rattle.ps_types.specs.Parts.{unbuilt_parts, weight_parts};
-ghost use Rattle.ps_types.specs.PhraseWeights.{weight};
+ghost use Rattle.ps_types.specs.inside.Parts.{unbuilt_parts, weight_parts};
+ghost use Rattle.ps_types.specs.inside.PhraseWeights.{weight};
 
 use ps_base::line::Line;
 use ps_tree::rough::{Rough, RoughForm, RoughItem};

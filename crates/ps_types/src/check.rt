@@ -7,8 +7,8 @@ ghost use Rattle.ps_tree.specs.PhraseLists.{phrases_in, items_in};
 ghost use Rattle.ps_meaning.specs.Typed.{IsTyped};
 ghost use Rattle.ps_types.specs.Names.{Names, inside, meant};
 ghost use Rattle.ps_types.specs.Checking.{Gives, Typed, Fails, check as check_of, check_form, check_all, check_written, check_item as item_checked, check_program, wants, is_same as is_same_of, is_word as is_word_of, is_comparable as is_comparable_of, is_writable as is_writable_of, variable_in as variable_in_of, introduced, assigned, written, target as target_of, end_line as end_line_of, named};
-ghost use Rattle.ps_types.specs.Checks.{IsClause, IsOfType, IsFault, check_prefixed as prefixed_of, check_guarded as guarded_of, check_link as link_of, check_links as links_of, check_unlined};
-ghost use Rattle.ps_types.specs.PhraseWeights.{weight, weight_links};
+ghost use Rattle.ps_types.specs.inside.Checks.{IsClause, IsOfType, IsFault, check_prefixed as prefixed_of, check_guarded as guarded_of, check_link as link_of, check_links as links_of, check_unlined};
+ghost use Rattle.ps_types.specs.inside.PhraseWeights.{weight, weight_links};
 
 use crate::built::first_unbuilt;
 use crate::check_fault::CheckFault;

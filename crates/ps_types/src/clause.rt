@@ -2,7 +2,7 @@ ghost use Rattle.std.specs.Prelude.{◌≡◌, false, None, MatchResult};
 ghost use Rattle.ps_base.specs.Node.{node_of, node_of_form, nodes_in};
 ghost use Rattle.ps_base.specs.Node as node;
 ghost use Rattle.ps_types.specs.Checking.{together};
-ghost use Rattle.ps_types.specs.Checks.{IsMade, joint_node, joint_ty, prefix_node, prefix_ty, guard_node};
+ghost use Rattle.ps_types.specs.inside.Checks.{IsMade, joint_node, joint_ty, prefix_node, prefix_ty, guard_node};
 
 use crate::check_fault::CheckFault;
 use crate::link::Joint;

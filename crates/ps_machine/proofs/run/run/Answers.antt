@@ -4,7 +4,7 @@ use Rattle.ps_port.proofs.Telling.{failed, all_then, fails_then}
 use Rattle.ps_meaning.specs.Event.{report_of}
 use Rattle.ps_machine.specs.Stepping.{unit_of, config_of, end_of}
 use Rattle.ps_machine.specs.Machine.{step as step_of}
-use Rattle.ps_machine.specs.Telling.{Advances}
+use Rattle.ps_machine.specs.inside.Telling.{Advances}
 use Rattle.ps_machine.proofs.Between.{between_none, between_more, between_goes, between_cut, between_told, between_report_cut, between_end, done_stops, between_all}
 use Rattle.ps_machine.proofs.run.run.Goals as goal
 

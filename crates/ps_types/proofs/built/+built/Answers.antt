@@ -6,7 +6,7 @@ use Rattle.ps_tree.specs.declared.rough.RoughItem.{out-RoughItem}
 use Rattle.ps_tree.specs.Phrase.{phrase_of, item_of}
 use Rattle.ps_tree.specs.PhraseLists.{phrases_in, items_in}
 use Rattle.ps_types.specs.Built.{first_unbuilt, or_else, unbuilt_item, width_line}
-use Rattle.ps_types.specs.PhraseWeights.{weight, weight_all, weight_item, weight_written}
+use Rattle.ps_types.specs.inside.PhraseWeights.{weight, weight_all, weight_item, weight_written}
 use Rattle.ps_types.proofs.CheckedPhrases.{weight_at, item_weight_at}
 use Rattle.ps_types.proofs.CheckedBuilt.{first_of_three, width_of, is_wide, is_not_wide, item_found}
 use Rattle.ps_types.proofs.built.+built.Goals.{unbuilt_item-in-Some, unbuilt_item-in-None}

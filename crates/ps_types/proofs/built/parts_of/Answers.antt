@@ -3,7 +3,7 @@ use Rattle.ps_tree.specs.Phrase.{form_of}
 use Rattle.ps_tree.specs.Phrase as form
 use Rattle.ps_tree.specs.PhraseLists.{phrases_in, items_in}
 use Rattle.ps_types.specs.Built.{unbuilt_in}
-use Rattle.ps_types.specs.PhraseWeights.{weight_form, weight_all, weight_written}
+use Rattle.ps_types.specs.inside.PhraseWeights.{weight_form, weight_all, weight_written}
 use Rattle.ps_tree.proofs.PhraseLemmas.{form_of-Sequence, form_of-Write}
 use Rattle.ps_types.proofs.built.parts_of.Goals as goal
 

@@ -11,8 +11,8 @@ use Rattle.ps_types.specs.declared.clause.Clause.{Clause}
 use Rattle.ps_types.specs.declared.link.Joint.TheVariants.{Or, And, Arith}
 use Rattle.ps_types.specs.Names.{Names, inside}
 use Rattle.ps_types.specs.Checking.{Gives, check, check_form, check_all, check_written, check_item, written, wants, passes, is_word, is_comparable, introduced, assigned}
-use Rattle.ps_types.specs.Checks.{IsFault, IsOfType, check_link, check_links, joint_ty, prefix_ty}
-use Rattle.ps_types.specs.PhraseWeights.{weight, weight_all, weight_written, weight_item, weight_form, weight_links}
+use Rattle.ps_types.specs.inside.Checks.{IsFault, IsOfType, check_link, check_links, joint_ty, prefix_ty}
+use Rattle.ps_types.specs.inside.PhraseWeights.{weight, weight_all, weight_written, weight_item, weight_form, weight_links}
 use Rattle.ps_tree.proofs.PhraseLemmas.{form_of-Sequence, form_of-Write}
 use Rattle.ps_types.proofs.CheckedPhrases.{phrases_from, items_from, weight_at, item_weight_at}
 use Rattle.ps_types.proofs.CheckedSteps.{given, fails_first, fails_next, fails_test, passed, not_passed, made, leads, exits, of_type, one_link, one_weight, fails_links, check_links-push, weight_links-push, linked_by, all_step, all_stops, fails_after, after_item, after_all, after_first, after_trees, block_given}

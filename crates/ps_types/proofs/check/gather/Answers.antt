@@ -2,7 +2,7 @@ use Rattle.std.proofs.Common.{◌∙◌, ◌+◌, ap, sym}
 use Rattle.ps_tree.specs.Phrase.{form_of}
 use Rattle.ps_types.specs.declared.link.Joint.TheVariants.{Or, And, Arith}
 use Rattle.ps_types.specs.Checking.{check_form}
-use Rattle.ps_types.specs.PhraseWeights.{weight_form}
+use Rattle.ps_types.specs.inside.PhraseWeights.{weight_form}
 use Rattle.ps_types.proofs.CheckedSteps.{gathered, gathered_weight}
 use Rattle.ps_types.proofs.check.gather.Goals as goal
 

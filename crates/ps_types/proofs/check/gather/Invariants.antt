@@ -3,8 +3,8 @@ use Rattle.std.proofs.Common.{◌≡◌, ◌≤◌, ◌+◌}
 use Rattle.ps_tree.specs.Phrase.{phrase_of}
 use Rattle.ps_types.specs.Names.{Names}
 use Rattle.ps_types.specs.Checking.{check}
-use Rattle.ps_types.specs.Checks.{check_links}
-use Rattle.ps_types.specs.PhraseWeights.{weight, weight_links}
+use Rattle.ps_types.specs.inside.Checks.{check_links}
+use Rattle.ps_types.specs.inside.PhraseWeights.{weight, weight_links}
 use Rattle.ps_types.proofs.check.gather.Given as goal
 
 abbrev pub invariant-loop-a : goal.invariant-loop-a

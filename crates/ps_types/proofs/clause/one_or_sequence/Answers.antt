@@ -1,6 +1,6 @@
 use Rattle.std.proofs.Common.{◌≢◌, length, rules, subst}
 use Rattle.ps_base.specs.declared.basic_type.BasicType.TheVariants.{Void}
-use Rattle.ps_types.specs.Checks.{IsMade}
+use Rattle.ps_types.specs.inside.Checks.{IsMade}
 use Rattle.ps_types.proofs.CheckedSteps.{together_several}
 use Rattle.ps_types.proofs.clause.one_or_sequence.Goals as goal
 

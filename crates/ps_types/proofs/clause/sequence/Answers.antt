@@ -2,7 +2,7 @@ use Rattle.std.proofs.Common.{◌∙◌, ap, subst, None}
 use Rattle.ps_base.specs.Node.{nodes_in}
 use Rattle.ps_base.specs.Node as node
 use Rattle.ps_base.proofs.NodeLemmas.{node_of_form-Block}
-use Rattle.ps_types.specs.Checks.{IsMade}
+use Rattle.ps_types.specs.inside.Checks.{IsMade}
 use Rattle.ps_types.proofs.clause.sequence.Goals as goal
 
 pub returns : goal.returns

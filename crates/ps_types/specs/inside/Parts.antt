@@ -6,7 +6,7 @@ use Rattle.ps_tree.specs.PhraseLists.{phrases_in, items_in}
 use Rattle.ps_types.specs.declared.built.Parts.{Parts}
 use Rattle.ps_types.specs.declared.built.Parts.TheVariants.{Nothing, Itself, Before, One, Two, Three, Clauses, Items}
 use Rattle.ps_types.specs.Built.{or_else, first_unbuilt, unbuilt_among, unbuilt_written}
-use Rattle.ps_types.specs.PhraseWeights.{weight, weight_all, weight_written}
+use Rattle.ps_types.specs.inside.PhraseWeights.{weight, weight_all, weight_written}
 
 -- the line of the first form that isn't built, of a clause on this line with these parts
 abbrev pub unbuilt_parts : Line → Parts → Option Line
