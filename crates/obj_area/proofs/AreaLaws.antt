@@ -3,8 +3,8 @@ use Rattle.std.proofs.Common.{◌≡◌, ◌≢◌, ℕ, zero, suc, ◌+◌, ◌
 use Rattle.std.proofs.Math.Seq.{take-set-lt, take-append-add}
 use Rattle.std.proofs.lemmas.List.{drop-drop, take-take, take-append-drop, take_at, drop_at, take_all, take-append-le, drop-append-le, length-take-le, length-replicate, get_or-take, get_or-drop, get_or_append_left, get_or-set_same, get_or-set_other, length-set, take-set-le, drop-set-lt, drop-set-add, drop-take}
 use Rattle.std.specs.Int.{bytes_low_first}
-use Rattle.obj_area.specs.Words.{word_bytes, bytes_of, words_of, AreWords, AreBytes, AreBelow, overwritten}
-use Rattle.obj_area.specs.Area.{AreaView, IsArea, IsGivenOut, fresh_area, top_of, words_for, word_at, words_at, bytes_at, with_zeros, with_word, with_words, with_bytes}
+use Rattle.obj_area.specs.Words.{AreBytes, word_bytes, bytes_of, words_of, AreWords, AreBelow, overwritten}
+use Rattle.obj_area.specs.Area.{AreaView, IsArea, IsGivenOut, fresh_area, top_of, words_spanned, word_at, words_at, bytes_at, with_zeros, with_word, with_words, with_bytes}
 use Rattle.obj_area.proofs.WordLaws.{AreWords-words_of, bytes_of-nil, bytes_of-cons, length-bytes_of, length-words_of, words_of-bytes_of, bytes_of-words_of, bytes_of-append, overwritten-inside, words_of-take, words_of-drop}
 
 -- Words of a range.
@@ -250,11 +250,11 @@ IsArea-with_bytes area at bytes h fit =
     }
 
 -- bytes that lie in words which are given out lie in the bytes of all words
-bytes-inside : (area : AreaView) (at count : ℕ) → IsGivenOut area at (words_for count) → 8 * (at - 1) + count ≤ length (bytes_of area.words)
+bytes-inside : (area : AreaView) (at count : ℕ) → IsGivenOut area at (words_spanned count) → 8 * (at - 1) + count ≤ length (bytes_of area.words)
 bytes-inside area at count given =
     omega (arith, length-bytes_of area.words, given.placed, given.below)
 
-pub bytes_at-with_bytes : (area : AreaView) (at : ℕ) (bytes : List ℕ) → AreBytes bytes → IsGivenOut area at (words_for (length bytes)) → bytes_at (with_bytes area at bytes) at (length bytes) ≡ bytes
+pub bytes_at-with_bytes : (area : AreaView) (at : ℕ) (bytes : List ℕ) → AreBytes bytes → IsGivenOut area at (words_spanned (length bytes)) → bytes_at (with_bytes area at bytes) at (length bytes) ≡ bytes
 bytes_at-with_bytes area at bytes fit given =
     ap (λ (b : List ℕ). take (length bytes) (drop (8 * (at - 1)) b)) (bytes_of-with_bytes area at bytes fit)
     ∙ overwritten-there (bytes_of area.words) (8 * (at - 1)) bytes (bytes-inside area at (length bytes) given)
@@ -277,11 +277,11 @@ words_at-kept area at bytes other count fits given kept =
     ∙ sym (part-words_of old (other - 1) count inside)
     ∙ ap (λ (ws : List ℕ). take count (drop (other - 1) ws)) (words_of-bytes_of area.words fits)
 
-pub words_at-with_bytes_before : (area : AreaView) (at : ℕ) (bytes : List ℕ) (other count : ℕ) → AreWords area.words → IsGivenOut area at (words_for (length bytes)) → IsGivenOut area other count → other + count ≤ at → words_at (with_bytes area at bytes) other count ≡ words_at area other count
+pub words_at-with_bytes_before : (area : AreaView) (at : ℕ) (bytes : List ℕ) (other count : ℕ) → AreWords area.words → IsGivenOut area at (words_spanned (length bytes)) → IsGivenOut area other count → other + count ≤ at → words_at (with_bytes area at bytes) other count ≡ words_at area other count
 words_at-with_bytes_before area at bytes other count fits given there below =
     words_at-kept area at bytes other count fits there (overwritten-before (bytes_of area.words) (8 * (at - 1)) bytes (8 * (other - 1)) (8 * count) (bytes-inside area at (length bytes) given) (omega (arith, there.placed)))
 
-pub words_at-with_bytes_after : (area : AreaView) (at : ℕ) (bytes : List ℕ) (other count : ℕ) → AreWords area.words → IsGivenOut area at (words_for (length bytes)) → IsGivenOut area other count → at + words_for (length bytes) ≤ other → words_at (with_bytes area at bytes) other count ≡ words_at area other count
+pub words_at-with_bytes_after : (area : AreaView) (at : ℕ) (bytes : List ℕ) (other count : ℕ) → AreWords area.words → IsGivenOut area at (words_spanned (length bytes)) → IsGivenOut area other count → at + words_spanned (length bytes) ≤ other → words_at (with_bytes area at bytes) other count ≡ words_at area other count
 words_at-with_bytes_after area at bytes other count fits given there above =
     words_at-kept area at bytes other count fits there (ap (take (8 * count)) (overwritten-after (bytes_of area.words) (8 * (at - 1)) bytes (8 * (other - 1)) (bytes-inside area at (length bytes) given) (omega (arith, given.placed))))
 

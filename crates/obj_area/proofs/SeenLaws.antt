@@ -1,7 +1,8 @@
 -- What the bytes of an area say of the words that its callers see.
 use Rattle.std.proofs.Common.{◌≡◌, ℕ, ◌+◌, ◌-◌, ◌*◌, ◌/◌, ◌^◌, ◌≤◌, List, ◌++◌, length, take, drop, replicate, sym, ap, ◌∙◌, subst, arith}
 use Rattle.std.proofs.lemmas.List.{take_all}
-use Rattle.obj_area.specs.Words.{bytes_of, words_of, AreWhole, AreWords, overwritten}
+use Rattle.obj_area.specs.Words.{bytes_of, words_of, AreWords, overwritten}
+use Rattle.obj_area.specs.inside.Bytes.{AreWhole}
 use Rattle.obj_area.specs.Area.{AreaView, IsArea, IsGivenOut, seen_as, bytes_at, with_zeros, with_bytes}
 use Rattle.obj_area.proofs.WordLaws.{length-words_of, words_of-zeros}
 

@@ -5,7 +5,8 @@ use Rattle.std.proofs.lemmas.List.Concat.{flat_map-append}
 use Rattle.std.proofs.lemmas.Nat.{le_bytes_8}
 use Rattle.byteorder.specs.Endian.{little_number}
 use Rattle.byteorder.specs.Numbers.{little_from-append, little_from-lt, little_number-reads_back, length-bytes_low_first}
-use Rattle.obj_area.specs.Words.{first_word, word_bytes, bytes_of, words_in, words_of, AreWhole, AreWords, AreBytes, overwritten}
+use Rattle.obj_area.specs.Words.{AreBytes, first_word, word_bytes, bytes_of, words_in, words_of, AreWords, overwritten}
+use Rattle.obj_area.specs.inside.Bytes.{AreWhole}
 
 -- a word reads no byte past its eight
 pub first_word-append : (xs ys : List ℕ) → 8 ≤ length xs → first_word (xs ++ ys) ≡ first_word xs

@@ -26,9 +26,9 @@ pub record IsGivenOut (area : AreaView) (at count : ℕ) : Type 0 where
   pub placed : 1 ≤ at
   pub below : at + count ≤ top_of area
 
--- how many words hold so many bytes
-abbrev pub words_for : ℕ → ℕ
-words_for bytes = (bytes + 7) / 8
+-- how many words so many bytes lie in, from the start of one on
+abbrev pub words_spanned : ℕ → ℕ
+words_spanned bytes = (bytes + 7) / 8
 
 -- an area with nothing given out
 abbrev pub fresh_area : ℕ → AreaView

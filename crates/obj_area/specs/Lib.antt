@@ -1,3 +1,4 @@
 pub mod Words
 pub mod Area
 pub mod Lending
+pub mod inside

@@ -1,5 +1,5 @@
 -- Words of 64 bits and the bytes that spell them: eight bytes a word, low byte first.
-use Rattle.std.specs.Prelude.{ℕ, zero, suc, ◌≡◌, ◌<◌, ◌*◌, ◌/◌, ◌^◌, List, [], ◌∷◌, ◌++◌, length, drop, take, slice_index}
+use Rattle.std.specs.Prelude.{ℕ, zero, suc, ◌<◌, ◌/◌, ◌^◌, List, [], ◌∷◌, ◌++◌, length, drop, take, slice_index}
 use Rattle.std.specs.List.{flat_map}
 use Rattle.byteorder.specs.Endian.{little_bytes, little_number}
 
@@ -23,10 +23,6 @@ words_in (suc n) bytes = first_word bytes ∷ words_in n (drop 8 bytes)
 -- the words that bytes spell; what is less than a word at the end spells none
 unfoldable pub words_of : List ℕ → List ℕ
 words_of bytes = words_in (length bytes / 8) bytes
-
--- these bytes spell whole words
-abbrev pub AreWhole : List ℕ → Type 0
-AreWhole bytes = length bytes ≡ 8 * (length bytes / 8)
 
 -- each of these is below the limit
 abbrev pub AreBelow : ℕ → List ℕ → Type 0

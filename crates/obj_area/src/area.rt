@@ -1,7 +1,7 @@
 ghost use Rattle.std.specs.Prelude.{◌≡◌, ◌+◌, ◌-◌, ◌*◌, ◌≤◌, ◌^◌, IfOk, SomeIff, MatchOption, length};
 ghost use Rattle.std.specs.Borrow.{sem};
 ghost use Rattle.obj_area.specs.Lending.{LendsBytes};
-ghost use Rattle.obj_area.specs.Area.{IsArea, IsGivenOut, fresh_area, top_of, word_at, words_at, bytes_at, words_for, with_zeros, with_word, with_words};
+ghost use Rattle.obj_area.specs.Area.{IsArea, IsGivenOut, fresh_area, top_of, word_at, words_at, bytes_at, words_spanned, with_zeros, with_word, with_words};
 
 use crate::spelling;
 use std::alloc::{AllocError, Global};
@@ -119,7 +119,7 @@ impl Area {
 
     /// The first `len` bytes of the words from `at` on, low byte first.
     pub fn bytes(&self, at: u32, len: u32) -> &[u8]
-        requires { IsGivenOut self.now at (words_for len) }
+        requires { IsGivenOut self.now at (words_spanned len) }
         ensures value { result.now ≡ bytes_at self.now at len }
         ensures len { length result.now ≡ len }
     {
@@ -129,7 +129,7 @@ impl Area {
     /// The same bytes, to be written. All other bytes of the area stay, also those behind them in their
     /// last word.
     pub fn bytes_mut(&mut self, at: u32, len: u32) -> &mut [u8]
-        requires { IsGivenOut self.old at (words_for len) }
+        requires { IsGivenOut self.old at (words_spanned len) }
         ensures* writes_back { sem 𝓛 (LendsBytes self.entry at result) }
         ensures value { result.now ≡ bytes_at self.old at len }
         ensures len { length result.now ≡ len }

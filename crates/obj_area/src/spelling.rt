@@ -2,7 +2,8 @@
 ghost use Rattle.std.specs.Prelude.{◌≡◌, ◌+◌, ◌*◌, ◌≤◌, length, take, drop, slice_index, slice_set};
 ghost use Rattle.std.specs.Borrow.{sem, u8};
 ghost use Rattle.std.specs.Vec.{vec_follows_range};
-ghost use Rattle.obj_area.specs.Words.{AreWhole, AreWords, bytes_of, words_of, overwritten};
+ghost use Rattle.obj_area.specs.Words.{AreWords, bytes_of, words_of, overwritten};
+ghost use Rattle.obj_area.specs.inside.Bytes.{AreWhole};
 
 use byteorder::{ByteOrder, LittleEndian};
 use std::alloc::Allocator;

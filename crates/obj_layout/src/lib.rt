@@ -4,4 +4,7 @@
 
 pub mod header;
 pub mod kind;
+mod laws;
 pub mod reference;
+
+pub use laws::{header_has_one_contents, header_has_one_spelling, words_are_cut_once};

@@ -3,7 +3,8 @@ use Rattle.std.proofs.Common.{◌≡◌, ℕ, ◌≤◌, List, ◌∷◌, ◌++�
 use Rattle.ps_base.specs.declared.instr.Instr.{Instr}
 use Rattle.ps_base.specs.Instr.{words, parts_of, spelling, width_of, IsInstr}
 use Rattle.ps_base.proofs.Spellings.{length-words, length-spelling}
-use Rattle.ps_code.specs.Codes.{IsCode, operand_count, IsShort, IsFront}
+use Rattle.ps_code.specs.Codes.{IsCode, operand_count}
+use Rattle.ps_code.specs.inside.Fronts.{IsShort, IsFront}
 use Rattle.ps_code.proofs.Makers.{counted, coded, one_front}
 
 -- what a row answers at a code and the bytes behind it

@@ -1,7 +1,7 @@
 ghost use Rattle.std.specs.Prelude.{◌≡◌, ℕ, ◌<◌, ◌≤◌, ◌+◌, List, [], ◌∷◌, ◌++◌, drop, length, Some, IfSome, MatchOption};
 ghost use Rattle.ps_base.specs.declared.instr.Instr.{Instr};
 ghost use Rattle.ps_base.specs.Instr.{word, spelling, width_of, IsInstr};
-ghost use Rattle.ps_code.specs.Codes.{IsShort, IsFront};
+ghost use Rattle.ps_code.specs.inside.Fronts.{IsShort, IsFront};
 
 use crate::table::instructions;
 use byteorder::{ByteOrder, LittleEndian};

@@ -7,7 +7,8 @@ use Rattle.ps_machine.specs.declared.instruction.Instruction.{Instruction}
 use Rattle.ps_machine.specs.declared.machine.Machine.{Machine}
 use Rattle.ps_machine.specs.declared.machine.Stepped.{Stepped}
 use Rattle.ps_machine.specs.Machine.{Step, Loaded, act, act_at, step_at, step}
-use Rattle.ps_machine.specs.Stepping.{CanGo, StepIs, unit_of, config_of, word_in}
+use Rattle.ps_machine.specs.Stepping.{unit_of, config_of, word_in}
+use Rattle.ps_machine.specs.Stepped.{CanGo, StepIs}
 
 found_acts : (u : Loaded) (found : Option Instruction) (next : ℕ) (i : Instruction) (stack : List ℤ) (locals : ℕ → ℤ) (turns : ℕ)
     → CanGo (act_at u found next stack locals turns) → ((x : Instruction) → found ≡ Some x → x ≡ i)

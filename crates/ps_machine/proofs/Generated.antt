@@ -18,24 +18,24 @@ use Rattle.ps_base.proofs.NodeLemmas.{node_of_form-Block}
 use Rattle.ps_machine.specs.declared.instruction.Instruction.{Instruction}
 use Rattle.ps_machine.specs.declared.instruction.Instruction.TheVariants.{Again, Jump}
 use Rattle.ps_machine.specs.Code.{size, size_all, code_of, code_of_all}
-use Rattle.ps_machine.specs.Emission.{Emits, EmitsWith, EmitsBefore, EmitsAll}
+use Rattle.ps_machine.specs.inside.Emission.{Emits, EmitsWith, EmitsBefore, EmitsAll}
 use Rattle.ps_machine.proofs.Weights.{weight, weight_all}
 use Rattle.ps_machine.proofs.Simulation.{length_code, length_code_all}
 
 -- From some code and a tree to more code and what is left of the tree: in the end the code is the same.
-pub record Leads (first : List Instruction) (whole : Node) (now : List Instruction) (rest : Node) : Type 0 where
+pub record EmitsUpTo (first : List Instruction) (whole : Node) (now : List Instruction) (rest : Node) : Type 0 where
   pub same : now ++ reverse (code_of rest (length now)) ≡ first ++ reverse (code_of whole (length first))
 
 -- The items from some place on have their code; in the end all have it.
-pub record LeadsAll (first : List Instruction) (all : Nodes) (now : List Instruction) (done : Nodes) : Type 0 where
+pub record EmitsItemsUpTo (first : List Instruction) (all : Nodes) (now : List Instruction) (done : Nodes) : Type 0 where
   pub same : now ≡ first ++ reverse (code_of_all done (length first))
 
-pub leads_none : (code : List Instruction) (t : Node) → Leads code t code t
-leads_none code t = record { same = refl }
+pub emits_none : (code : List Instruction) (t : Node) → EmitsUpTo code t code t
+emits_none code t = record { same = refl }
 
 -- some code more, which comes behind what is left
-pub leads_on : (first now now' : List Instruction) (whole rest next : Node) (ys : List Instruction) (k : ℕ) → Leads first whole now rest → now' ≡ now ++ reverse ys → length now + length ys ≡ k → code_of rest (length now) ≡ code_of next k ++ ys → Leads first whole now' next
-leads_on first now now' whole rest next ys k before is at code = record {
+pub emits_on : (first now now' : List Instruction) (whole rest next : Node) (ys : List Instruction) (k : ℕ) → EmitsUpTo first whole now rest → now' ≡ now ++ reverse ys → length now + length ys ≡ k → code_of rest (length now) ≡ code_of next k ++ ys → EmitsUpTo first whole now' next
+emits_on first now now' whole rest next ys k before is at code = record {
   same =
       let place : length now' ≡ k = ap length is ∙ omega (arith, length-append now (reverse ys), length-reverse ys) in
       ap (λ (xs : List Instruction). xs ++ reverse (code_of next (length now'))) is
@@ -47,23 +47,23 @@ leads_on first now now' whole rest next ys k before is at code = record {
 }
 
 -- one instruction more
-pub leads_with : (first now now' : List Instruction) (whole rest next : Node) (i : Instruction) → Leads first whole now rest → now' ≡ now ++ i ∷ [] → ((k : ℕ) → code_of rest k ≡ code_of next (k + 1) ++ i ∷ []) → Leads first whole now' next
-leads_with first now now' whole rest next i before is code =
-    leads_on first now now' whole rest next (i ∷ []) (length now + 1) before is (omega arith) (code (length now))
+pub emits_with : (first now now' : List Instruction) (whole rest next : Node) (i : Instruction) → EmitsUpTo first whole now rest → now' ≡ now ++ i ∷ [] → ((k : ℕ) → code_of rest k ≡ code_of next (k + 1) ++ i ∷ []) → EmitsUpTo first whole now' next
+emits_with first now now' whole rest next i before is code =
+    emits_on first now now' whole rest next (i ∷ []) (length now + 1) before is (omega arith) (code (length now))
 
 -- an operand and its instruction more
-pub leads_operand : (first now now' : List Instruction) (whole rest next b : Node) (i : Instruction) → Leads first whole now rest → EmitsWith now b i now' → ((k : ℕ) → code_of rest k ≡ code_of next (k + 1 + size b) ++ (code_of b (k + 1) ++ i ∷ [])) → Leads first whole now' next
-leads_operand first now now' whole rest next b i before is code =
-    leads_on first now now' whole rest next (code_of b (length now + 1) ++ i ∷ []) (length now + 1 + size b) before is (omega (arith, length-append (code_of b (length now + 1)) (i ∷ []), length_code b (length now + 1))) (code (length now))
+pub emits_operand : (first now now' : List Instruction) (whole rest next b : Node) (i : Instruction) → EmitsUpTo first whole now rest → EmitsWith now b i now' → ((k : ℕ) → code_of rest k ≡ code_of next (k + 1 + size b) ++ (code_of b (k + 1) ++ i ∷ [])) → EmitsUpTo first whole now' next
+emits_operand first now now' whole rest next b i before is code =
+    emits_on first now now' whole rest next (code_of b (length now + 1) ++ i ∷ []) (length now + 1 + size b) before is (omega (arith, length-append (code_of b (length now + 1)) (i ∷ []), length_code b (length now + 1))) (code (length now))
 
 -- an instruction and the clause behind it more
-pub leads_clause : (first now now' : List Instruction) (whole rest next b : Node) (i : Instruction) → Leads first whole now rest → EmitsBefore now b i now' → (code_of rest (length now) ≡ code_of next (length now + size b + 1) ++ i ∷ code_of b (length now)) → Leads first whole now' next
-leads_clause first now now' whole rest next b i before is code =
-    leads_on first now now' whole rest next (i ∷ code_of b (length now)) (length now + size b + 1) before is (omega (arith, length_code b (length now))) code
+pub emits_clause : (first now now' : List Instruction) (whole rest next b : Node) (i : Instruction) → EmitsUpTo first whole now rest → EmitsBefore now b i now' → (code_of rest (length now) ≡ code_of next (length now + size b + 1) ++ i ∷ code_of b (length now)) → EmitsUpTo first whole now' next
+emits_clause first now now' whole rest next b i before is code =
+    emits_on first now now' whole rest next (i ∷ code_of b (length now)) (length now + size b + 1) before is (omega (arith, length_code b (length now))) code
 
 -- both choices more
-pub leads_choices : (first now mid now' : List Instruction) (whole rest next a b : Node) (i j : Instruction) → Leads first whole now rest → EmitsBefore now b j mid → EmitsBefore mid a i now' → (code_of rest (length now) ≡ code_of next (length now + size b + 1 + size a + 1) ++ i ∷ (code_of a (length now + size b + 1) ++ j ∷ code_of b (length now))) → Leads first whole now' next
-leads_choices first now mid now' whole rest next a b i j before is_mid is_now code =
+pub emits_choices : (first now mid now' : List Instruction) (whole rest next a b : Node) (i j : Instruction) → EmitsUpTo first whole now rest → EmitsBefore now b j mid → EmitsBefore mid a i now' → (code_of rest (length now) ≡ code_of next (length now + size b + 1 + size a + 1) ++ i ∷ (code_of a (length now + size b + 1) ++ j ∷ code_of b (length now))) → EmitsUpTo first whole now' next
+emits_choices first now mid now' whole rest next a b i j before is_mid is_now code =
     let k = length now in
     let ys = i ∷ (code_of a (k + size b + 1) ++ j ∷ code_of b k) in
     let at_mid : length mid ≡ k + size b + 1 = ap length is_mid ∙ omega (arith, length-append now (reverse (j ∷ code_of b k)), length-reverse (j ∷ code_of b k), length_code b k) in
@@ -72,11 +72,11 @@ leads_choices first now mid now' whole rest next a b i j before is_mid is_now co
     ∙ ap (λ (xs : List Instruction). xs ++ reverse (i ∷ code_of a (k + size b + 1))) is_mid
     ∙ append_assoc now (reverse (j ∷ code_of b k)) (reverse (i ∷ code_of a (k + size b + 1)))
     ∙ ap (λ (xs : List Instruction). now ++ xs) (sym (reverse-append (i ∷ code_of a (k + size b + 1)) (j ∷ code_of b k))) in
-    leads_on first now now' whole rest next ys (k + size b + 1 + size a + 1) before is (omega (arith, length-append (code_of a (k + size b + 1)) (j ∷ code_of b k), length_code a (k + size b + 1), length_code b k)) code
+    emits_on first now now' whole rest next ys (k + size b + 1 + size a + 1) before is (omega (arith, length-append (code_of a (k + size b + 1)) (j ∷ code_of b k), length_code a (k + size b + 1), length_code b k)) code
 
 -- one item more, the one before those that are done
-pub leads_item : (first now now' : List Instruction) (all done : Nodes) (t : Node) → LeadsAll first all now done → Emits now t now' → LeadsAll first all now' (more t done)
-leads_item first now now' all done t before is = record {
+pub emits_item : (first now now' : List Instruction) (all done : Nodes) (t : Node) → EmitsItemsUpTo first all now done → Emits now t now' → EmitsItemsUpTo first all now' (more t done)
+emits_item first now now' all done t before is = record {
   same =
       let k = length first in
       let place : length now ≡ k + size_all done = ap length before.same ∙ omega (arith, length-append first (reverse (code_of_all done k)), length-reverse (code_of_all done k), length_code_all done k) in
@@ -127,8 +127,8 @@ pub nodes_from : (ts : List Tree) (i : ℕ) (d : Tree) → i < length ts → nod
 nodes_from ts i d below = ap nodes_in (drop-cons ts i d below)
 
 -- a sequence is all that was left
-pub leads_sequence : (first now new : List Instruction) (whole rest : Node) (ts : Nodes) → Leads first whole now rest → ((k : ℕ) → code_of rest k ≡ code_of_all ts k) → EmitsAll now ts new → Emits first whole new
-leads_sequence first now new whole rest ts before code is = is ∙ ap (λ (xs : List Instruction). now ++ reverse xs) (sym (code (length now))) ∙ before.same
+pub emits_sequence : (first now new : List Instruction) (whole rest : Node) (ts : Nodes) → EmitsUpTo first whole now rest → ((k : ℕ) → code_of rest k ≡ code_of_all ts k) → EmitsAll now ts new → Emits first whole new
+emits_sequence first now new whole rest ts before code is = is ∙ ap (λ (xs : List Instruction). now ++ reverse xs) (sym (code (length now))) ∙ before.same
 
 -- what a sequence is, over the items of its list
 pub block_is : {form : TreeForm} (scope : Option (Box Bytes Global)) (items : ListOf Tree) {slice : List Tree} → form ≡ tree.Block scope items → slice ≡ items_of items

@@ -2,7 +2,6 @@ mod Dispatch
 pub mod Between
 pub mod Generated
 pub mod Paths
-pub mod Pieces
 pub mod Progress
 pub mod Running
 pub mod Simulation

@@ -8,7 +8,7 @@ use Rattle.ps_meaning.specs.Eval.{is_one}
 use Rattle.ps_meaning.specs.Event.{Event}
 use Rattle.ps_machine.specs.declared.instruction.Instruction.{Instruction}
 use Rattle.ps_machine.specs.declared.instruction.Instruction.TheVariants.{Push, Get, Set, Jump, JumpFalse, Again, And, Or, Not, Neg, Arith, Compare, WriteInt, WriteFlag, WriteText}
-use Rattle.ps_machine.specs.Machine.{Config, Step, Goes, Stops, Stuck, Loaded, push, forward, answered, back, act, act_at, step_at, step}
+use Rattle.ps_machine.specs.Machine.{Config, Step, Goes, Halts, Stuck, Loaded, push, forward, answered, back, act, act_at, step_at, step}
 
 -- how far a run is from its end at most
 abbrev pub left : ℕ → Config → ℕ
@@ -17,7 +17,7 @@ left size c = c.turns * suc size + c.place
 -- a step that goes on comes below a bound
 abbrev Lower : ℕ → ℕ → Step → Type 0
 Lower size bound (Goes events next) = left size next < bound
-Lower size bound (Stops e) = Unit {0}
+Lower size bound (Halts e) = Unit {0}
 Lower size bound Stuck = Unit {0}
 
 lower_if : (size bound : ℕ) (b : Bool) (x y : Step) → (b ≡ true → Lower size bound x) → (b ≡ false → Lower size bound y) → Lower size bound (if b then x else y)

@@ -7,8 +7,9 @@ use Rattle.ps_meaning.specs.Eval.{Outcome, Value_is, Ends}
 use Rattle.ps_meaning.specs.Run.{run_events, run_end, outcome_of, all_events, end_reached, fresh_frame}
 use Rattle.ps_machine.specs.declared.machine.Machine.{Machine}
 use Rattle.ps_machine.specs.Code.{code_of, size}
-use Rattle.ps_machine.specs.Machine.{Config, Step, Goes, Stops, Loaded, step, Runs, goes, stops}
-use Rattle.ps_machine.specs.Stepping.{unit_of, config_of, word_in, CanGo}
+use Rattle.ps_machine.specs.Machine.{Config, Step, Goes, Halts, Loaded, step, Runs, goes, stops}
+use Rattle.ps_machine.specs.Stepping.{unit_of, config_of, word_in}
+use Rattle.ps_machine.specs.Stepped.{CanGo}
 use Rattle.ps_machine.specs.Ready.{IsReady}
 use Rattle.ps_machine.proofs.Simulation.{config, words, program_runs, length_code}
 
@@ -20,11 +21,11 @@ same_goes s events events' next next' P e e' p =
 
 pub follow : (u : Loaded) (total : List Event) (c next : Config) (so_far events : List Event) → Runs u total c so_far → step u c ≡ Goes events next → Runs u total next (so_far ++ events)
 follow u total c next so_far events (goes {next = next'} {events = events'} h r) e = same_goes (step u c) events' events next' next (λ es n. Runs u total n (so_far ++ es)) h e r
-follow u total c next so_far events (stops {e = e'} h is) e = absurd (let both : Stops e' ≡ Goes events next = sym h ∙ e in cc)
+follow u total c next so_far events (stops {e = e'} h is) e = absurd (let both : Halts e' ≡ Goes events next = sym h ∙ e in cc)
 
-pub last_step : (u : Loaded) (total : List Event) (c : Config) (so_far : List Event) (e : End) → Runs u total c so_far → step u c ≡ Stops e → total ≡ so_far ++ Finish e ∷ []
-last_step u total c so_far e (goes {next = next'} {events = events'} h r) is = absurd (let both : Goes events' next' ≡ Stops e = sym h ∙ is in cc)
-last_step u total c so_far e (stops {e = e'} h at) is = let same : e' ≡ e = (let both : Stops e' ≡ Stops e = sym h ∙ is in cc) in at ∙ ap (λ (x : End). so_far ++ Finish x ∷ []) same
+pub last_step : (u : Loaded) (total : List Event) (c : Config) (so_far : List Event) (e : End) → Runs u total c so_far → step u c ≡ Halts e → total ≡ so_far ++ Finish e ∷ []
+last_step u total c so_far e (goes {next = next'} {events = events'} h r) is = absurd (let both : Goes events' next' ≡ Halts e = sym h ∙ is in cc)
+last_step u total c so_far e (stops {e = e'} h at) is = let same : e' ≡ e = (let both : Halts e' ≡ Halts e = sym h ∙ is in cc) in at ∙ ap (λ (x : End). so_far ++ Finish x ∷ []) same
 
 pub can_run : (u : Loaded) (total : List Event) (c : Config) (so_far : List Event) → Runs u total c so_far → CanGo (step u c)
 can_run u total c so_far (goes h r) = subst CanGo (sym h) tt

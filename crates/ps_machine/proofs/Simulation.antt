@@ -15,14 +15,14 @@ use Rattle.ps_base.specs.Node.{Node, Nodes, none, more}
 use Rattle.ps_base.specs.Node as node
 use Rattle.ps_meaning.specs.Operators.{Answer, Gives, Traps, neg_of, arith_of, relation_of}
 use Rattle.ps_meaning.specs.Event.{OutOfTurns, Event, Out, Turn, Finish}
-use Rattle.ps_meaning.specs.Eval.{Frame, State, Outcome, Value_is, Ends, Meaning, number_of, word_of, is_one, flag_of, flag_text, give, stop, after, ◌>>=◌, answer, emit, emit_some, written, turn_of, take_turn, slot_of, get, with_local, set, choose, while_turns, eval, eval_all}
+use Rattle.ps_meaning.specs.Eval.{Frame, State, Outcome, Value_is, Ends, Meaning, number_of, word_of, is_one, flag_of, flag_text, give, stop, after, ◌>>=◌, answer, emit, emit_some, written, turn_of, take_turn, get, with_local, set, choose, while_turns, eval, eval_all}
 use Rattle.ps_meaning.specs.Run.{fresh_frame, fresh_state, outcome_of, all_events, run_events}
 use Rattle.ps_meaning.specs.Typed.{IsWord, int_word, flag_word, IsTyped, AreTyped, no_more, one_more}
 use Rattle.ps_meaning.specs.Typed as typed
 use Rattle.ps_machine.specs.declared.instruction.Instruction.{Instruction}
 use Rattle.ps_machine.specs.declared.instruction.Instruction.TheVariants.{Push, Get, Set, Jump, JumpFalse, Again, And, Or, Not, Neg, Arith, Compare, WriteInt, WriteFlag, WriteText}
 use Rattle.ps_machine.specs.Code.{size, size_all, code_of, code_of_all}
-use Rattle.ps_machine.specs.Machine.{Config, Goes, Stops, Stuck, Loaded, answered, back, act, act_at, step, Runs, goes, stops}
+use Rattle.ps_machine.specs.Machine.{Config, Goes, Halts, Stuck, Loaded, answered, back, act, act_at, step, Runs, goes, stops}
 
 -- the words that a value of a type leaves on the stack
 abbrev pub left_by : BasicType → Value → List ℤ
@@ -162,7 +162,7 @@ module _ (u : Loaded) (total : List Event) where
   push_goes k z stack locals turns room = if_lt (length stack) u.room _ _ (omega arith)
 
   does_get : (n k slot : ℕ) (of_type : BasicType) → IsWord of_type → slot < u.locals → slice_get u.code k ≡ Some (Get slot) → Does n [] (get (Plain slot)) of_type 1 (suc k) k
-  unfolding get slot_of
+  unfolding get
   does_get n k slot of_type word below at = record {
     by = λ stack f s room turns reach.
         let r : Runs u total (config k (words f slot ∷ stack) (words f) s.turns) s.events = subst (λ (zs : List ℤ). Runs u total (config k (zs ++ stack) (words f) s.turns) s.events) (left_word word (f slot)) reach in
@@ -171,7 +171,7 @@ module _ (u : Loaded) (total : List Event) where
   }
 
   does_set : (n k slot : ℕ) (v : Value) → slot < u.locals → slice_get u.code k ≡ Some (Set slot) → Does n (word_of v ∷ []) (set (Plain slot) v) ty.Void 0 (suc k) k
-  unfolding set slot_of
+  unfolding set
   does_set n k slot v below at = record {
     by = λ stack f s room turns reach.
         let r : Runs u total (config k stack (with_local (words f) slot (word_of v)) s.turns) s.events = subst (λ (l : ℕ → ℤ). Runs u total (config k stack l s.turns) s.events) (words_set f slot v) reach in
@@ -289,7 +289,7 @@ module _ (u : Loaded) (total : List Event) where
     falls = da.falls;
   }
 
-  no_turn_left : (k to : ℕ) (z : ℤ) (stack : List ℤ) (locals : ℕ → ℤ) (turns : ℕ) → turns ≤ 0 → slice_get u.code k ≡ Some (Again to) → is_one z ≡ true → step u (config (suc k) (z ∷ stack) locals turns) ≡ Stops OutOfTurns
+  no_turn_left : (k to : ℕ) (z : ℤ) (stack : List ℤ) (locals : ℕ → ℤ) (turns : ℕ) → turns ≤ 0 → slice_get u.code k ≡ Some (Again to) → is_one z ≡ true → step u (config (suc k) (z ∷ stack) locals turns) ≡ Halts OutOfTurns
   no_turn_left k to z stack locals turns nothing at is =
       let e : turns ≡ 0 = omega arith in
       step_is k (Again to) (z ∷ stack) locals turns at ∙ if_true (is_one z) _ _ is ∙ ap (λ (t : ℕ). back u to stack locals t) e

@@ -8,7 +8,7 @@ use Rattle.ps_meaning.specs.Event.{Event, Turn, outputs}
 use Rattle.ps_meaning.specs.Operators.{Answer, arith_of}
 use Rattle.ps_machine.specs.declared.instruction.Instruction.TheVariants.{Arith}
 use Rattle.ps_machine.specs.Machine.{Config, Step, Goes, Stuck, Loaded, act, back, push, answered}
-use Rattle.ps_machine.specs.Stepping.{CanGo}
+use Rattle.ps_machine.specs.Stepped.{CanGo}
 
 abbrev pub at : ℕ → List ℤ → (ℕ → ℤ) → ℕ → Config
 at place stack locals turns = record { place = place; stack = stack; locals = locals; turns = turns }

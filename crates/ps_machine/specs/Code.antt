@@ -3,16 +3,11 @@
 use Rattle.std.specs.Prelude.{ℕ, ◌+◌, List, [], ◌∷◌, ◌++◌}
 use Rattle.ps_base.specs.declared.basic_type.BasicType.{BasicType}
 use Rattle.ps_base.specs.declared.basic_type.BasicType.TheVariants as ty
-use Rattle.ps_base.specs.declared.place.Place.{Place}
-use Rattle.ps_base.specs.declared.place.Place.TheVariants.{Plain}
 use Rattle.ps_base.specs.Node.{Node, Nodes, none, more}
 use Rattle.ps_base.specs.Node as node
-use Rattle.ps_meaning.specs.Eval.{number_of}
+use Rattle.ps_meaning.specs.Eval.{number_of, slot_of}
 use Rattle.ps_machine.specs.declared.instruction.Instruction.{Instruction}
 use Rattle.ps_machine.specs.declared.instruction.Instruction.TheVariants.{Push, Get, Set, Jump, JumpFalse, Again, And, Or, Not, Neg, Arith, Compare, WriteInt, WriteFlag, WriteText}
-
-abbrev pub slot_at : Place → ℕ
-slot_at (Plain slot) = slot
 
 abbrev pub bytes_in : Node → List ℕ
 bytes_in (node.Text bytes) = bytes
@@ -65,9 +60,9 @@ abbrev mutual
   code_of (node.Int z) k = Push z ∷ []
   code_of (node.Flag b) k = Push (number_of b) ∷ []
   code_of (node.Text bytes) k = []
-  code_of (node.Name place ty) k = Get (slot_at place) ∷ []
-  code_of (node.SetName place ty e) k = code_of e (k + 1) ++ Set (slot_at place) ∷ []
-  code_of (node.Let place ty e) k = code_of e (k + 1) ++ Set (slot_at place) ∷ []
+  code_of (node.Name place ty) k = Get (slot_of place) ∷ []
+  code_of (node.SetName place ty e) k = code_of e (k + 1) ++ Set (slot_of place) ∷ []
+  code_of (node.Let place ty e) k = code_of e (k + 1) ++ Set (slot_of place) ∷ []
   code_of node.Empty k = []
   code_of (node.Block scope items) k = code_of_all items k
   code_of (node.IfDo c a) k = code_of c (k + size a + 1) ++ JumpFalse k ∷ code_of a k

@@ -1,7 +1,7 @@
 pub mod Code
-pub mod Emission
 pub mod Machine
 pub mod Path
 pub mod Ready
+pub mod Stepped
 pub mod Stepping
-pub mod Telling
+pub mod inside

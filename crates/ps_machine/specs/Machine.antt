@@ -17,7 +17,7 @@ pub record Config : Type 0 where
 
 pub data Step : Type 0 where
   Goes : (events : List Event) (next : Config) → Step
-  Stops : (end_of_run : End) → Step
+  Halts : (end_of_run : End) → Step
   -- no code of a tree comes here
   Stuck : Step
 
@@ -47,10 +47,10 @@ module _ (u : Loaded) where
 
   abbrev pub answered : Answer → Line → ℕ → List ℤ → (ℕ → ℤ) → ℕ → Step
   answered (Gives z) line place stack locals turns = go_on [] place (z ∷ stack) locals turns
-  answered (Traps trap) line place stack locals turns = Stops (Trapped trap line)
+  answered (Traps trap) line place stack locals turns = Halts (Trapped trap line)
 
   abbrev pub back : ℕ → List ℤ → (ℕ → ℤ) → ℕ → Step
-  back to stack locals zero = Stops OutOfTurns
+  back to stack locals zero = Halts OutOfTurns
   back to stack locals (suc left) =
       if nat_le to (length u.code) then go_on (Turn ∷ []) to stack locals left else Stuck
 
@@ -95,7 +95,7 @@ module _ (u : Loaded) where
   act_at (Some instruction) next stack locals turns = act instruction next stack locals turns
 
   abbrev pub step_at : ℕ → List ℤ → (ℕ → ℤ) → ℕ → Step
-  step_at zero stack locals turns = Stops Done
+  step_at zero stack locals turns = Halts Done
   step_at (suc next) stack locals turns = act_at (slice_get u.code next) next stack locals turns
 
   abbrev pub step : Config → Step
@@ -104,4 +104,4 @@ module _ (u : Loaded) where
   -- A run that has had these events so far has all of these in the end.
   pub data Runs (total : List Event) : Config → List Event → Type 0 where
     goes : {c next : Config} {so_far events : List Event} → step c ≡ Goes events next → Runs total next (so_far ++ events) → Runs total c so_far
-    stops : {c : Config} {so_far : List Event} {e : End} → step c ≡ Stops e → total ≡ so_far ++ Finish e ∷ [] → Runs total c so_far
+    stops : {c : Config} {so_far : List Event} {e : End} → step c ≡ Halts e → total ≡ so_far ++ Finish e ∷ [] → Runs total c so_far

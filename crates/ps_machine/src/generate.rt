@@ -1,9 +1,9 @@
 ghost use Rattle.std.specs.Prelude.{◌≡◌, ◌+◌, [], ◌∷◌, ◌++◌, length, reverse, OnOk, IfOk};
 ghost use Rattle.ps_base.specs.Node.{node_of, nodes_in};
 ghost use Rattle.ps_base.specs.Node.{While};
-ghost use Rattle.ps_meaning.specs.Eval.{number_of};
-ghost use Rattle.ps_machine.specs.Code.{code_of, size, slot_at, bytes_in};
-ghost use Rattle.ps_machine.specs.Emission.{Emits, EmitsWith, EmitsBefore, EmitsAll, EmitsWritten};
+ghost use Rattle.ps_meaning.specs.Eval.{number_of, slot_of as slot_meant};
+ghost use Rattle.ps_machine.specs.Code.{code_of, size, bytes_in};
+ghost use Rattle.ps_machine.specs.inside.Emission.{Emits, EmitsWith, EmitsBefore, EmitsAll, EmitsWritten};
 
 use crate::instruction::Instruction;
 use ps_base::basic_type::BasicType;
@@ -214,7 +214,7 @@ fn emit_text(alloc: Global, code: &mut Vec<Instruction>, e: &Tree) -> Result<(),
 }
 
 fn slot_of(place: Place) -> u32
-    ensures { result ≡ slot_at place }
+    ensures { result ≡ slot_meant place }
 {
     let Place::Plain { slot } = place;
     slot

@@ -10,7 +10,7 @@ pub mod load;
 mod machine;
 pub mod run;
 mod run_end;
-pub mod tell;
+mod tell;
 
 pub use instruction::Instruction;
 pub use laws::{each_way_ends, rest_of_the_run};

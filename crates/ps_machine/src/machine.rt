@@ -2,7 +2,9 @@ ghost use Rattle.std.specs.Prelude.{◌≡◌, ◌+◌, ◌<◌, ◌≤◌, [], 
 ghost use Rattle.ps_meaning.specs.Answers.{answer_of};
 ghost use Rattle.ps_meaning.specs.Eval.{with_local};
 ghost use Rattle.ps_machine.specs.Machine.{step as step_of, back, answered as answered_of};
-ghost use Rattle.ps_machine.specs.Stepping.{unit_of, config_of, word_in, HasRoom, acts, CanGo, StepIs};
+ghost use Rattle.ps_machine.specs.Stepping.{unit_of, config_of, word_in, HasRoom};
+ghost use Rattle.ps_machine.specs.Stepped.{CanGo, StepIs};
+ghost use Rattle.ps_machine.specs.inside.Acts.{acts};
 
 use crate::instruction::Instruction;
 use crate::run_end::RunEnd;
@@ -16,7 +18,7 @@ use ps_meaning::operators;
 pub enum Stepped<'a> {
     Quiet,
     Writes(Item<'a>),
-    Stops(RunEnd),
+    Halts(RunEnd),
 }
 
 /// What a write instruction writes.
@@ -267,7 +269,7 @@ fn go_back<'a>(m: &mut Machine<'a>, to: usize) -> Stepped<'a>
     ensures same { unit_of m.new ≡ unit_of m.old }
 {
     if m.turns == 0 {
-        return Stepped::Stops(RunEnd::OutOfTurns);
+        return Stepped::Halts(RunEnd::OutOfTurns);
     }
     m.turns -= 1;
     m.place = to;
@@ -288,7 +290,7 @@ fn answered<'a>(m: &mut Machine<'a>, answer: Result<i32, Trap>, line: Line) -> S
             put(&mut m.stack, value);
             Stepped::Quiet
         }
-        Err(trap) => Stepped::Stops(RunEnd::Trapped { trap, line }),
+        Err(trap) => Stepped::Halts(RunEnd::Trapped { trap, line }),
     }
 }
 

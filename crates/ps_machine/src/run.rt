@@ -1,11 +1,13 @@
 ghost use Rattle.std.specs.Prelude.{◌≡◌, ◌≤◌, ◌<◌, List, ℕ, IfOk, OnErr};
 ghost use Rattle.ps_base.specs.Node.{Node};
+ghost use Rattle.ps_port.specs.Telling.{TellsOrFails};
 ghost use Rattle.ps_meaning.specs.Event.{Event, outputs};
 ghost use Rattle.ps_meaning.specs.Run.{run_events, run_end};
 ghost use Rattle.ps_machine.specs.Machine.{step as step_of};
-ghost use Rattle.ps_machine.specs.Stepping.{unit_of, config_of, end_of, HasRoom, CanGo};
+ghost use Rattle.ps_machine.specs.Stepping.{unit_of, config_of, end_of, HasRoom};
+ghost use Rattle.ps_machine.specs.Stepped.{CanGo};
 ghost use Rattle.ps_machine.specs.Ready.{IsReady};
-ghost use Rattle.ps_machine.specs.Telling.{Advances, TellsOrFails};
+ghost use Rattle.ps_machine.specs.inside.Telling.{Advances};
 
 use crate::machine::{Machine, Stepped, step};
 use crate::run_end::RunEnd;
@@ -19,13 +21,12 @@ fn advance<H: Host>(m: &mut Machine, host: &mut H) -> Result<Option<RunEnd>, Hos
     requires goes { CanGo (step_of (unit_of m.old) (config_of m.old)) }
     requires more { 0 < m.old.place }
     ensures step { Advances H.clock H.told H.output_faults host.old host.new (step_of (unit_of m.old) (config_of m.old)) (config_of m.new) result }
-    ensures counts { H.output_faults host.old ≤ H.output_faults host.new }
     ensures room { HasRoom m.new }
     ensures same { unit_of m.new ≡ unit_of m.old }
 {
     match step(m) {
         Stepped::Quiet => Ok(None),
-        Stepped::Stops(end) => Ok(Some(end)),
+        Stepped::Halts(end) => Ok(Some(end)),
         Stepped::Writes(item) => {
             tell::item(host, &item)?;
             Ok(None)
@@ -40,7 +41,6 @@ pub fn run<H: Host>(m: &mut Machine, host: &mut H) -> Result<RunEnd, HostFailed>
     requires ready { (program : Node) × IsReady m.old program }
     ensures tells { (program : Node) → IsReady m.old program → TellsOrFails H.clock H.told H.output_faults host.old host.new (outputs (run_events m.old.turns program)) result }
     ensures ended { (program : Node) → IsReady m.old program → IfOk result (λ e. end_of e ≡ run_end m.old.turns program) }
-    ensures counts { H.output_faults host.old ≤ H.output_faults host.new }
 {
     while m.place > 0 {
         if let Some(end) = advance(m, host)? {

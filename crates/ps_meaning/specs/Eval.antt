@@ -101,7 +101,7 @@ turn_of (suc left) = λ frame state. Value_is Nothing frame (record { events = s
 unfoldable pub take_turn : Meaning
 take_turn frame state = turn_of state.turns frame state
 
-unfoldable pub slot_of : Place → ℕ
+abbrev pub slot_of : Place → ℕ
 slot_of (Plain slot) = slot
 
 unfoldable pub get : Place → Meaning

@@ -13,7 +13,7 @@ use Rattle.ps_tree.specs.Phrase.{Phrase, Phrases, none, more, GroupAt, Arms, arm
 use Rattle.ps_tree.specs.Composing.{and_arm}
 use Rattle.ps_parse.specs.Grammar.{Made, a_clause, all_groups, Cases, Labels, Rule, Give, Go, named_group, skip, with_clause}
 use Rattle.ps_parse.specs.Reading.{Reads}
-use Rattle.ps_symbols.specs.Soundness.{IsSound}
+use Rattle.ps_symbols.specs.inside.Soundness.{IsSound}
 use Rattle.ps_parse.specs.Stopping.{Stops, Leads}
 
 pub record AreSound (parser : Parser) : Type 0 where

@@ -4,7 +4,7 @@ ghost use Rattle.ps_tree.specs.Phrase.{phrase_of, named};
 ghost use Rattle.ps_parse.specs.Grammar.{Nested, Go, inside, Program, Open, name_at};
 ghost use Rattle.ps_parse.specs.Reading.{kind_at};
 ghost use Rattle.ps_parse.specs.Parsing.{AreSound, Parses, Halts};
-ghost use Rattle.ps_symbols.specs.Soundness.{IsSound};
+ghost use Rattle.ps_symbols.specs.inside.Soundness.{IsSound};
 ghost use Rattle.ps_parse.specs.Stopping.{IsNotAt};
 ghost use Rattle.ps_parse.specs.Program.{ReadsAs, IsParseFault, unexpected, end_line};
 

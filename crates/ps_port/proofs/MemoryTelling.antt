@@ -4,7 +4,8 @@ use Rattle.std.proofs.lemmas.Bool.Decides.{nat_tests}
 use Rattle.std.proofs.lemmas.List.{append-nil, take-append-le, take_all}
 use Rattle.std.proofs.lemmas.List.Sums.{fold_push, sum_by-cons}
 use Rattle.ps_port.specs.declared.memory_host.Call.{Call}
-use Rattle.ps_port.specs.Memory.{Memory, has_room, told_before, told_at, clock_of, HadTold, after_call, IsKept}
+use Rattle.ps_port.specs.Memory.{Memory, has_room, told_before, told_at, clock_of, HadTold, after_kept}
+use Rattle.ps_port.specs.inside.Kept.{IsKept}
 use Rattle.ps_port.specs.Told.{next_count, AddsFront, Tells}
 
 -- what one call told before a moment
@@ -38,7 +39,7 @@ pub told_now : (host : Memory) (told : List ℕ) → IsKept host → told ≡ ho
 told_now host told is all = all ∙ sym (all_now host is)
 
 -- a call leaves what had been told at the moments of the past
-past_stays : (host : Memory) (bytes : List ℕ) (failed : Bool) (moment : ℕ) → IsKept host → moment ≤ host.clock → told_at (after_call host true bytes failed) moment ≡ told_at host moment
+past_stays : (host : Memory) (bytes : List ℕ) (failed : Bool) (moment : ℕ) → IsKept host → moment ≤ host.clock → told_at (after_kept host bytes failed) moment ≡ told_at host moment
 past_stays host bytes failed moment is le =
     let count : told_before moment (host.records ++ record { number = host.clock; told = length bytes } ∷ []) ≡ told_before moment host.records =
     omega (arith, before_push moment host.records (record { number = host.clock; told = length bytes }), part_past moment host.clock (length bytes) le) in
@@ -47,13 +48,13 @@ past_stays host bytes failed moment is le =
     ap (λ (n : ℕ). take n (host.told ++ bytes)) count ∙ take-append-le _ host.told bytes within
 
 -- behind a call its bytes had been told too
-then_all : (host : Memory) (bytes : List ℕ) (failed : Bool) (moment : ℕ) → IsKept host → host.clock < moment → told_at (after_call host true bytes failed) moment ≡ host.told ++ bytes
+then_all : (host : Memory) (bytes : List ℕ) (failed : Bool) (moment : ℕ) → IsKept host → host.clock < moment → told_at (after_kept host bytes failed) moment ≡ host.told ++ bytes
 then_all host bytes failed moment is lt =
     take_all _ (host.told ++ bytes)
     (omega (arith, before_push moment host.records (record { number = host.clock; told = length bytes }), part_now moment host.clock (length bytes) lt, is.all_told moment (omega arith), length-append host.told bytes))
 
 -- the bytes told at a moment of the call
-each_moment : (host : Memory) (bytes : List ℕ) (failed : Bool) (moment : ℕ) (told : List ℕ) → IsKept host → HadTold (after_call host true bytes failed) moment told → (moment ≤ host.clock) ⊎ (host.clock < moment) → host.clock ≤ moment → AddsFront (HadTold host host.clock) bytes told
+each_moment : (host : Memory) (bytes : List ℕ) (failed : Bool) (moment : ℕ) (told : List ℕ) → IsKept host → HadTold (after_kept host bytes failed) moment told → (moment ≤ host.clock) ⊎ (host.clock < moment) → host.clock ≤ moment → AddsFront (HadTold host host.clock) bytes told
 each_moment host bytes failed moment told is at (inl past) from = record {
   front = [];
   is_front = record { rest = bytes; whole_is = refl };
@@ -66,7 +67,7 @@ each_moment host bytes failed moment told is at (inr now) from = record {
 }
 
 -- A call whose record is kept tells its bytes.
-pub tells_after : (host : Memory) (bytes : List ℕ) (failed : Bool) → IsKept host → has_room host (length bytes) ≡ true → Tells clock_of HadTold host (after_call host true bytes failed) bytes
+pub tells_after : (host : Memory) (bytes : List ℕ) (failed : Bool) → IsKept host → has_room host (length bytes) ≡ true → Tells clock_of HadTold host (after_kept host bytes failed) bytes
 tells_after host bytes failed is room = record {
   front = record {
     later = omega (arith, counted host (length bytes) room);

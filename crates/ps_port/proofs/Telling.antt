@@ -1,7 +1,10 @@
 -- How what is told in parts is told as a whole.
-use Rattle.std.proofs.Common.{◌≡◌, ℕ, ◌≤◌, ◌⊎◌, List, [], ◌++◌, refl, sym, ◌∙◌, ap, subst, append_assoc, arith, ⊎_elim}
+use Rattle.std.proofs.Common.{Bor, zero, suc, ◌+◌, ◌<◌, ◌≡◌, ℕ, ◌≤◌, ◌⊎◌, List, [], ◌∷◌, ◌++◌, length, drop, get_or, refl, sym, ◌∙◌, ap, subst, append_assoc, arith, ⊎_elim}
+use Rattle.std.specs.Prelude.{Result, Ok, Err, IsErr, OnOk, OnErr}
 use Rattle.std.proofs.lemmas.List.{append-nil}
-use Rattle.ps_port.specs.Told.{IsFront, Adds, AddsFront, TellsFront, Tells, SoFar}
+use Rattle.ps_port.specs.declared.host.HostFailed.{HostFailed}
+use Rattle.ps_port.specs.Told.{IsFront, Adds, AddsFront, TellsFront, Tells, Rose}
+use Rattle.ps_port.specs.Telling.{joined, TellsAll, FailsBehind, TellsOrFails}
 
 either : (m n : ℕ) → (m ≤ n) ⊎ (n ≤ m)
 either m n = grind arith
@@ -82,30 +85,71 @@ tells_then {H} {clock} {told} {a} {b} {c} {xs} {ys} first next = record {
   all = λ bytes is. adds_then (told a (clock a)) (told b (clock b)) xs ys bytes first.all (next.all bytes is);
 }
 
--- Nothing of the whole has been told yet.
-pub so_far_none : {H : Type 0} (clock : H → ℕ) (told : H → ℕ → List ℕ → Type 0) (host : H) (whole : List ℕ) → SoFar clock told host host whole whole
-so_far_none clock told host whole = record { done = []; whole_is = refl; tells = tells_none clock told host }
+module _ {H : Type 0} (clock : H → ℕ) (told : H → ℕ → List ℕ → Type 0) (faults : H → ℕ) where
+  pub all_none : (host : H) → TellsAll clock told faults host host []
+  all_none host = record { tells = tells_none clock told host; calm = refl }
 
--- These bytes, the next of the rest, were told too, and this is left.
-pub so_far_more : {H : Type 0} {clock : H → ℕ} {told : H → ℕ → List ℕ → Type 0} {a b c : H} {whole rest bytes left : List ℕ} → SoFar clock told a b whole rest → Tells clock told b c bytes → rest ≡ bytes ++ left → SoFar clock told a c whole left
-so_far_more {whole = whole} {rest = rest} {bytes = bytes} {left = left} so next split = record {
-  done = so.done ++ bytes;
-  whole_is = so.whole_is ∙ ap (λ (xs : List ℕ). so.done ++ xs) split ∙ sym (append_assoc so.done bytes left);
-  tells = tells_then so.tells next;
-}
+  pub all_then : {a b c : H} {xs ys : List ℕ} → TellsAll clock told faults a b xs → TellsAll clock told faults b c ys → TellsAll clock told faults a c (xs ++ ys)
+  all_then first next = record { tells = tells_then first.tells next.tells; calm = next.calm ∙ first.calm }
 
--- A call that was to tell the next of the rest told a front of it: then a front of the whole was told.
-pub so_far_cut : {H : Type 0} {clock : H → ℕ} {told : H → ℕ → List ℕ → Type 0} {a b c : H} {whole rest bytes : List ℕ} (left : List ℕ) → SoFar clock told a b whole rest → TellsFront clock told b c bytes → rest ≡ bytes ++ left → TellsFront clock told a c whole
-so_far_cut {H} {clock} {told} {a} {b} {c} {whole} {rest} {bytes} left so next split =
-    subst (λ (xs : List ℕ). TellsFront clock told a c xs) (sym (so.whole_is ∙ ap (λ (xs : List ℕ). so.done ++ xs) split))
-    (tells_then_front so.tells (front_of_more left next))
+  -- all of the first part was told, and the output failed in the second
+  pub fails_then : {a b c : H} {xs ys : List ℕ} → TellsAll clock told faults a b xs → FailsBehind clock told faults b c ys → FailsBehind clock told faults a c (xs ++ ys)
+  fails_then {c = c} first next = record {
+    front = tells_then_front first.tells next.front;
+    counts = subst (λ (n : ℕ). n ≤ faults c) first.calm next.counts;
+    rose = subst (λ (n : ℕ). Rose n (faults c)) first.calm next.rose;
+  }
 
--- At any time a front of the whole has been told.
-pub so_far_front : {H : Type 0} {clock : H → ℕ} {told : H → ℕ → List ℕ → Type 0} {a b : H} {whole rest : List ℕ} → SoFar clock told a b whole rest → TellsFront clock told a b whole
-so_far_front {H} {clock} {told} {a} {b} {whole} {rest} so =
-    subst (λ (xs : List ℕ). TellsFront clock told a b xs) (sym so.whole_is) (front_of_more rest so.tells.front)
+  -- the output failed in the first part of a whole
+  pub fails_more : {a b : H} {xs : List ℕ} (ys : List ℕ) → FailsBehind clock told faults a b xs → FailsBehind clock told faults a b (xs ++ ys)
+  fails_more ys is = record { front = front_of_more ys is.front; counts = is.counts; rose = is.rose }
 
--- Where no rest is left, the whole was told.
-pub so_far_all : {H : Type 0} {clock : H → ℕ} {told : H → ℕ → List ℕ → Type 0} {a b : H} {whole rest : List ℕ} → SoFar clock told a b whole rest → rest ≡ [] → Tells clock told a b whole
-so_far_all {H} {clock} {told} {a} {b} {whole} {rest} so empty =
-    subst (λ (xs : List ℕ). Tells clock told a b xs) (sym (so.whole_is ∙ ap (λ (xs : List ℕ). so.done ++ xs) empty ∙ append-nil so.done)) so.tells
+  -- what a call of `put` comes to
+  pub put_tells : (old new : H) (bytes : List ℕ) (r : Result Unit HostFailed) → TellsFront clock told old new bytes → OnOk r (Tells clock told old new bytes) → faults old ≤ faults new → OnOk r (faults new ≡ faults old) → OnErr r (Rose (faults old) (faults new)) → TellsOrFails clock told faults old new bytes r
+  put_tells old new bytes (Ok x) cut all counts calm cause = record { tells = all; calm = calm }
+  put_tells old new bytes (Err e) cut all counts calm cause = record { front = cut; counts = counts; rose = cause }
+
+  -- a failure that is handed on
+  pub failed : {A : Type 0} (old new : H) (whole : List ℕ) (r : Result A HostFailed) → IsErr r → FailsBehind clock told faults old new whole → TellsOrFails clock told faults old new whole r
+  failed old new whole (Ok x) is fails = absurd (cc)
+  failed old new whole (Err e) is fails = fails
+
+  -- Some of the whole has been told since the first host, and the rest is still to be told: what stays true
+  -- over any run of calls that tell the whole in parts.
+  pub record SoFar (first now : H) (whole rest : List ℕ) : Type 0 where
+    pub done : List ℕ
+    pub whole_is : whole ≡ done ++ rest
+    pub tells : TellsAll clock told faults first now done
+
+  pub so_far_none : (host : H) (whole : List ℕ) → SoFar host host whole whole
+  so_far_none host whole = record { done = []; whole_is = refl; tells = all_none host }
+
+  -- These bytes, the next of the rest, were told too, and this is left.
+  pub so_far_more : {a b c : H} {whole rest bytes left : List ℕ} → SoFar a b whole rest → TellsAll clock told faults b c bytes → rest ≡ bytes ++ left → SoFar a c whole left
+  so_far_more {bytes = bytes} {left = left} so next split = record {
+    done = so.done ++ bytes;
+    whole_is = so.whole_is ∙ ap (λ (xs : List ℕ). so.done ++ xs) split ∙ sym (append_assoc so.done bytes left);
+    tells = all_then so.tells next;
+  }
+
+  -- The output failed in the next of the rest: then it failed in the whole.
+  pub so_far_fails : {a b c : H} {whole rest bytes : List ℕ} (left : List ℕ) → SoFar a b whole rest → FailsBehind clock told faults b c bytes → rest ≡ bytes ++ left → FailsBehind clock told faults a c whole
+  so_far_fails {a} {b} {c} left so next split =
+      subst (λ (xs : List ℕ). FailsBehind clock told faults a c xs) (sym (so.whole_is ∙ ap (λ (xs : List ℕ). so.done ++ xs) split))
+      (fails_then so.tells (fails_more left next))
+
+  -- Where no rest is left, the whole was told.
+  pub so_far_all : {a b : H} {whole rest : List ℕ} → SoFar a b whole rest → rest ≡ [] → TellsAll clock told faults a b whole
+  so_far_all {a} {b} so empty =
+      subst (λ (xs : List ℕ). TellsAll clock told faults a b xs) (sym (so.whole_is ∙ ap (λ (xs : List ℕ). so.done ++ xs) empty ∙ append-nil so.done)) so.tells
+
+joined-drop : (parts : List (Bor (List ℕ))) (i : ℕ) (d : Bor (List ℕ)) → i < length parts → joined (drop i parts) ≡ (get_or parts i d).now ++ joined (drop (suc i) parts)
+joined-drop [] i d below = absurd (omega arith)
+joined-drop (part ∷ parts) zero d below = refl
+joined-drop (part ∷ parts) (suc i) d below = joined-drop parts i d (omega arith)
+
+-- of the pieces from one on: that piece, and those behind it
+pub joined-next : (parts : List (Bor (List ℕ))) (i : ℕ) (d : Bor (List ℕ)) → i < length parts → joined (drop i parts) ≡ (get_or parts i d).now ++ joined (drop (i + 1) parts)
+joined-next parts i d below =
+    let next : suc i ≡ i + 1 = omega arith in
+    joined-drop parts i d below ∙ ap (λ (n : ℕ). (get_or parts i d).now ++ joined (drop n parts)) next

@@ -53,10 +53,6 @@ has_room host count = nat_le (taken host + 64 + count) host.room && nat_lt host.
 abbrev pub put_fails : Memory → ℕ → Bool
 put_fails host count = is_to_fail host || not (has_room host (share host count))
 
--- how many of so many bytes the next call tells
-abbrev pub told_count : Memory → ℕ → ℕ
-told_count host count = if has_room host (share host count) then share host count else 0
-
 -- how many bytes the calls before a moment told
 abbrev pub told_before : ℕ → List Call → ℕ
 told_before moment calls = sum_by (λ call. if nat_lt call.number moment then call.told else 0) calls
@@ -72,23 +68,20 @@ clock_of host = host.clock
 abbrev pub HadTold : Memory → ℕ → List ℕ → Type 0
 HadTold host moment bytes = bytes ≡ told_at host moment
 
--- the host after a call that told these bytes, where there was room for its record; then it is kept
-abbrev pub after_call : Memory → Bool → List ℕ → Bool → Memory
-after_call host kept bytes failed = record host {
-  told = if kept then host.told ++ bytes else host.told;
-  records = if kept then host.records ++ record { number = host.clock; told = length bytes } ∷ [] else host.records;
+-- the host after a call that told these bytes, and whose record was kept
+abbrev pub after_kept : Memory → List ℕ → Bool → Memory
+after_kept host bytes failed = record host {
+  told = host.told ++ bytes;
+  records = host.records ++ record { number = host.clock; told = length bytes } ∷ [];
   clock = next_count host.clock;
   faults = counted failed host.faults;
 }
 
--- the calls before any moment that has not come yet told all the bytes told, and their records take no more than the room
-pub record IsKept (host : Memory) : Type 0 where
-  pub all_told : (moment : ℕ) → host.clock ≤ moment → told_before moment host.records ≡ length host.told
-  pub in_room : taken host ≤ host.room
+-- the host after a call whose record had no room: it told nothing, and failed
+abbrev pub after_refused : Memory → Memory
+after_refused host = record host { clock = next_count host.clock; faults = next_count host.faults }
 
--- what a call leaves as it was
-pub record Same (old new : Memory) : Type 0 where
-  pub contents : new.contents ≡ old.contents
-  pub failing : new.failing ≡ old.failing
-  pub calls : new.calls ≡ old.calls
-  pub room : new.room ≡ old.room
+-- the host after a call of these bytes
+abbrev pub after_put : Memory → List ℕ → Memory
+after_put host bytes =
+    if has_room host (share host (length bytes)) then after_kept host (take (share host (length bytes)) bytes) (is_to_fail host) else after_refused host

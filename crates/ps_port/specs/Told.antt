@@ -33,13 +33,6 @@ pub record Tells {H : Type 0} (clock : H → ℕ) (told : H → ℕ → List ℕ
   pub front : TellsFront clock told old new whole
   pub all : (bytes : List ℕ) → told new (clock new) bytes → Adds (told old (clock old)) whole bytes
 
--- Some of the whole has been told since the first host, and the rest is still to be told: what stays true
--- over any run of calls that tell the whole in parts.
-pub record SoFar {H : Type 0} (clock : H → ℕ) (told : H → ℕ → List ℕ → Type 0) (first now : H) (whole rest : List ℕ) : Type 0 where
-  pub done : List ℕ
-  pub whole_is : whole ≡ done ++ rest
-  pub tells : Tells clock told first now done
-
 -- a counter rose: it is greater, or it stands at the last value of a counter
 abbrev pub Rose : ℕ → ℕ → Type 0
 Rose before after = (before < after) ⊎ (after ≡ 2 ^ 64 - 1)

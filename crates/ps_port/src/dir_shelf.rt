@@ -3,8 +3,8 @@ ghost use Rattle.ps_port.specs.declared.shelf.ShelfFault.TheVariants.{Failed};
 ghost use Rattle.ps_port.specs.Told.{next_count};
 ghost use Rattle.ps_port.specs.Texts.{TooLongFor};
 
-use crate::shelf::LONGEST_TEXT;
 use crate::{Shelf, ShelfFault};
+use ps_base::LONGEST_TEXT;
 use std::alloc::{AllocError, Global};
 use std::fs;
 use std::io::{ErrorKind, Read};
@@ -27,7 +27,7 @@ pub struct DirShelf<R> {
 
 impl<R: Files + Clone + Drop> DirShelf<R> {
     /// A shelf over the files that the system has.
-    pub fn new(alloc: Global, rt: &R) -> Result<DirShelf<R>, AllocError>
+    pub fn new(rt: &R, alloc: Global) -> Result<DirShelf<R>, AllocError>
         ensures { IfOk result (λ shelf. shelf.faults ≡ 0) }
     {
         Ok(DirShelf {
@@ -88,9 +88,9 @@ fn read_file<R: Files>(
     }
 }
 
-// What a file gives, to its end. The bytes are kept while they are no more than a text may have; all
-// of them are counted.
-pub(crate) fn read_text<F: Read>(
+/// What a file gives, to its end. The bytes are kept while they are no more than a text may have; all
+/// of them are counted.
+pub fn read_text<F: Read>(
     file: &mut F,
     buffer: &mut [u8],
     into: &mut Vec<u8>,
@@ -105,7 +105,7 @@ pub(crate) fn read_text<F: Read>(
             return Err(ShelfFault::Failed);
         };
         if count == 0 {
-            return if length <= LONGEST_TEXT {
+            return if length <= LONGEST_TEXT as u64 {
                 Ok(())
             } else {
                 Err(ShelfFault::TooLong { length })
@@ -115,7 +115,7 @@ pub(crate) fn read_text<F: Read>(
         if length > MOST_COUNTED {
             return Err(ShelfFault::Failed);
         }
-        if length <= LONGEST_TEXT {
+        if length <= LONGEST_TEXT as u64 {
             keep(into, &buffer[..count])?;
         }
     }
@@ -129,8 +129,11 @@ fn keep(into: &mut Vec<u8>, bytes: &[u8]) -> Result<(), AllocError>
 {
     let wanted = into.len() + bytes.len();
     if wanted > into.capacity() {
-        let most = LONGEST_TEXT as usize;
-        let capacity = into.capacity().saturating_mul(2).max(wanted).min(most);
+        let capacity = into
+            .capacity()
+            .saturating_mul(2)
+            .max(wanted)
+            .min(LONGEST_TEXT);
         into.reserve_exact(capacity - into.len())?;
     }
     into.extend_from_slice(bytes)

@@ -19,7 +19,7 @@ pub struct FileHost<R> {
 impl<R: Files + Print + Clone + Drop> FileHost<R> {
     /// A host over the file of this path, which isn't opened yet. Where it isn't there it is to be made
     /// if `create` says so.
-    pub fn new(alloc: Global, rt: &R, path: &str, create: bool) -> Result<FileHost<R>, AllocError>
+    pub fn new(rt: &R, alloc: Global, path: &str, create: bool) -> Result<FileHost<R>, AllocError>
         ensures path { IfOk result (λ host. string_bytes host.path ≡ path.now) }
         ensures create { IfOk result (λ host. host.create ≡ create) }
         ensures clock { IfOk result (λ host. host.clock ≡ 0) }

@@ -1,4 +1,4 @@
-ghost use Rattle.std.specs.Prelude.{ℕ, ◌≤◌, List, OnOk, OnErr};
+ghost use Rattle.std.specs.Prelude.{◌≡◌, ℕ, ◌≤◌, List, OnOk, OnErr};
 ghost use Rattle.ps_port.specs.Told.{TellsFront, Tells, Rose};
 
 /// A call of a host failed. Why is counted by the host: a failed `put` raises its `output_faults`.
@@ -18,11 +18,13 @@ pub trait Host {
     /// How often the output failed. It stands still at 2^64 - 1.
     ghost output_faults: { Self → ℕ };
 
-    /// Tells the bytes, all of them where it answers Ok. After a refusal a front of them was told.
+    /// Tells the bytes, all of them where it answers Ok, and then no fault is counted. After a refusal a
+    /// front of them was told.
     fn put(&mut self, from: &[u8]) -> Result<(), HostFailed>
         ensures cut { TellsFront clock told self.old self.new from.now }
         ensures all { OnOk result (Tells clock told self.old self.new from.now) }
         ensures moves { Rose (clock self.old) (clock self.new) }
         ensures counts { output_faults self.old ≤ output_faults self.new }
+        ensures calm { OnOk result (output_faults self.new ≡ output_faults self.old) }
         ensures cause { OnErr result (Rose (output_faults self.old) (output_faults self.new)) };
 }

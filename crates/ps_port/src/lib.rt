@@ -10,13 +10,11 @@ pub mod host;
 pub mod memory_host;
 pub mod memory_shelf;
 pub mod shelf;
+pub mod tell;
 
 pub use dir_shelf::DirShelf;
 pub use file_host::FileHost;
 pub use host::{Host, HostFailed};
 pub use memory_host::MemoryHost;
 pub use memory_shelf::MemoryShelf;
-pub use shelf::{LONGEST_TEXT, Shelf, ShelfFault};
-
-#[cfg(test)]
-mod tests;
+pub use shelf::{Shelf, ShelfFault};

@@ -1,6 +1,6 @@
 ghost use Rattle.std.specs.Prelude.{◌≡◌, ◌≤◌, ◌/◌, ◌++◌, [], true, false, length, take, if◌then◌else◌, OnOk, OnErr, IfOk, is_err};
-ghost use Rattle.ps_port.specs.Told.{TellsFront, Tells, Rose, next_count, counted};
-ghost use Rattle.ps_port.specs.Memory.{fresh, is_to_fail, has_room, put_fails, told_count, clock_of, HadTold, after_call, Same};
+ghost use Rattle.ps_port.specs.Told.{TellsFront, Tells, Rose, counted};
+ghost use Rattle.ps_port.specs.Memory.{fresh, is_to_fail, has_room, put_fails, clock_of, HadTold, after_kept, after_refused, after_put};
 
 use crate::{Host, HostFailed};
 use std::alloc::{AllocError, Global};
@@ -35,7 +35,8 @@ impl Model for MemoryHost {
 
     ghost Value = { Memory };
 
-    ghost use Rattle.ps_port.specs.MemoryView.{memory_of, IsKeptIn};
+    ghost use Rattle.ps_port.specs.MemoryView.{memory_of};
+    ghost use Rattle.ps_port.specs.inside.Kept.{IsKeptIn};
 
     ghost view = { memory_of };
 
@@ -107,7 +108,7 @@ impl MemoryHost {
     // Keeps the record of the next call, which tells these bytes.
     fn keep(&mut self, bytes: &[u8], failed: bool)
         requires { has_room self.old (length bytes.now) ≡ true }
-        ensures after { self.new ≡ after_call self.old true bytes.now failed }
+        ensures after { self.new ≡ after_kept self.old bytes.now failed }
         ensures tells { Tells clock_of HadTold self.old self.new bytes.now }
         ensures counts { self.old.faults ≤ self.new.faults }
     {
@@ -129,7 +130,7 @@ impl MemoryHost {
 
     // The next call tells nothing and fails, since there is no room for its record.
     fn refuse(&mut self)
-        ensures after { self.new ≡ after_call self.old false [] true }
+        ensures after { self.new ≡ after_refused self.old }
         ensures tells { Tells clock_of HadTold self.old self.new [] }
         ensures counts { self.old.faults ≤ self.new.faults }
     {
@@ -152,12 +153,10 @@ impl Host for MemoryHost {
         ensures all { OnOk result (Tells clock_of HadTold self.old self.new from.now) }
         ensures moves { Rose self.old.clock self.new.clock }
         ensures counts { self.old.faults ≤ self.new.faults }
+        ensures calm { OnOk result (self.new.faults ≡ self.old.faults) }
         ensures cause { OnErr result (Rose self.old.faults self.new.faults) }
         ensures fails { is_err result ≡ put_fails self.old (length from.now) }
-        ensures told { self.new.told ≡ self.old.told ++ take (told_count self.old (length from.now)) from.now }
-        ensures clock { self.new.clock ≡ next_count self.old.clock }
-        ensures faults { self.new.faults ≡ counted (is_err result) self.old.faults }
-        ensures same { Same self.old self.new }
+        ensures after { self.new ≡ after_put self.old from.now }
     {
         let fails = self.is_to_fail();
         let (front, _) = from.split_at(share_of(fails, from.len()));

@@ -3,8 +3,8 @@ ghost use Rattle.ps_port.specs.declared.shelf.ShelfFault.TheVariants.{Failed};
 ghost use Rattle.ps_port.specs.Told.{Rose, counted};
 ghost use Rattle.ps_port.specs.Texts.{IsTextOf, TooLongFor};
 
-use crate::shelf::LONGEST_TEXT;
 use crate::{Shelf, ShelfFault};
+use ps_base::LONGEST_TEXT;
 use std::alloc::{AllocError, Global};
 use std::collections::BTreeMap;
 
@@ -72,8 +72,8 @@ impl Shelf for MemoryShelf {
             self.faults = self.faults.saturating_add(1);
             return Err(ShelfFault::Failed);
         };
-        let length = text.len() as u64;
-        if length > LONGEST_TEXT {
+        if text.len() > LONGEST_TEXT {
+            let length = text.len() as u64;
             return Err(ShelfFault::TooLong { length });
         }
         into.extend_from_slice(text)?;

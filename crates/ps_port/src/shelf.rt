@@ -3,10 +3,8 @@ ghost use Rattle.ps_port.specs.declared.shelf.ShelfFault.TheVariants.{Failed, Me
 ghost use Rattle.ps_port.specs.Told.{Rose};
 ghost use Rattle.ps_port.specs.Texts.{IsTextOf, TooLongFor};
 
+use ps_base::LONGEST_TEXT;
 use std::alloc::AllocError;
-
-/// The most bytes of a text that a shelf gives.
-pub const LONGEST_TEXT: u64 = 1_048_576;
 
 /// Why a shelf gave no text.
 #[derive(Clone, Copy, Debug, PartialEq, Eq)]

@@ -4,15 +4,15 @@ use Rattle.std.specs.Prelude.{Result, Ok, Err, OnOk}
 use Rattle.ps_print.specs.declared.piece.Piece.{Piece}
 use Rattle.ps_base.specs.declared.line.Line.{Line}
 use Rattle.ps_tree.specs.declared.rough.RoughForm.{RoughForm}
+use Rattle.ps_tree.specs.declared.rough.RoughForm.TheBlock.{struct-RoughRange}
 use Rattle.ps_tree.specs.declared.rough.RoughForm.TheVariants as code
 use Rattle.ps_tree.specs.Phrase.{NameAt, Phrase, at, Form, Let, form_of}
 use Rattle.ps_tree.specs.Phrase as form
-use Rattle.ps_print.specs.Lexemes.{Lexeme, nothing, blank, gap_bytes, text_of}
-use Rattle.ps_print.specs.Layout.{other, disjunction, conjunction, negation, sum, product, application, left_of, right_of, semicolon, becomes, is_word, sign_of_relation, sign_of_operator, clause_lexemes, operand_lexemes, lines_lexemes, is_procedure, layout, printed}
-use Rattle.ps_print.specs.Weights.{weight}
+use Rattle.ps_print.specs.Lexemes.{Lexeme, nothing, blank, gap_bytes, text_of, printed as printed_as}
+use Rattle.ps_print.specs.Layout.{other, disjunction, conjunction, negation, sum, product, application, left_of, right_of, semicolon, becomes, is_word, sign_of_relation, sign_of_operator, clause_lexemes, operand_lexemes, lines_lexemes, layout, printed}
+use Rattle.ps_print.specs.inside.Weights.{weight}
 use Rattle.ps_print.specs.declared.piece.Spot.{Spot}
-use Rattle.ps_print.specs.Waiting.{piece_lexemes, piece_weight, spot_lexemes, let_lexemes, lexemes_of, weight_of, is_empty_program, Adds, AddsForm, Prints}
-use Rattle.ps_print.proofs.Parts.{printed_is}
+use Rattle.ps_print.specs.inside.Waiting.{piece_lexemes, piece_weight, spot_lexemes, let_lexemes, lexemes_of, weight_of, is_procedure, is_empty_program, Adds, AddsForm, Prints}
 
 -- the lexemes of some pieces, with none behind the last
 abbrev pub joined : List Piece → List Lexeme
@@ -54,6 +54,7 @@ puts_let spot name variable e old new (Err x) plain put = put
 
 pub is_no_procedure : (f : RoughForm) (line : Line) → ((params : _) (gives : _) (s : _) → f ≡ code.Proc params gives s → ⊥) → is_procedure false (at (form_of f) line) ≡ false
 is_no_procedure (code.Proc' params gives p s s_line) line is_not = absurd (is_not params gives _ refl)
+is_no_procedure (code.For' name o (struct-RoughRange p a a_line q b b_line c) r s s_line) line is_not = refl
 is_no_procedure _ line is_not = refl
 
 -- a lexeme is written where it stood first
@@ -73,6 +74,11 @@ prints_lexeme text text' piece old lexeme (Err e) is one written = written
 pub all_printed : (text text' : List ℕ) (pieces : List Piece) → pieces ≡ [] → text' ++ text_of (lexemes_of pieces) ≡ text → text' ≡ text
 unfolding text_of
 all_printed text text' pieces none same = sym (append-nil text') ∙ ap (λ ps. text' ++ text_of (lexemes_of ps)) (sym none) ∙ same
+
+-- a text of some lexemes has a newline at the end
+pub printed_is : (front : List Lexeme) (lexeme : Lexeme) (back : List Lexeme) → printed_as (front ++ lexeme ∷ back) ≡ text_of (front ++ lexeme ∷ back) ++ 10 ∷ []
+printed_is [] lexeme back = refl
+printed_is (first ∷ front) lexeme back = refl
 
 -- a tree that isn't empty has a lexeme, so its text has a newline at the end
 pub printed_some : (tree : Phrase) → is_empty_program tree ≡ false → printed tree ≡ text_of (layout tree) ++ 10 ∷ []

@@ -1,6 +1,7 @@
 -- How a tree is laid out as a text that a person can read: blocks in braces, each item on a line of
 -- its own with a `;` behind it, one blank round operators, and brackets where the grammar needs them.
-use Rattle.std.specs.Prelude.{ℕ, ◌+◌, nat_abs, List, [], ◌∷◌, ◌++◌, Bool, true, false, nat_lt, codes, if◌then◌else◌}
+use Rattle.std.specs.Prelude.{ℕ, ◌+◌, nat_abs, List, [], ◌∷◌, ◌++◌, Bool, true, false, nat_lt, slice_get, if◌then◌else◌}
+use Rattle.std.specs.Option.{unwrap_or}
 use Rattle.ps_base.specs.TyView.{TyView, TyViews}
 use Rattle.ps_base.specs.TyView as ty
 use Rattle.ps_base.specs.declared.operator.Operator.{Operator}
@@ -10,6 +11,7 @@ use Rattle.ps_base.specs.declared.operator.Relation.TheVariants as order
 use Rattle.ps_scan.specs.declared.token.TokenKind.{TokenKind}
 use Rattle.ps_scan.specs.declared.token.TokenKind.TheVariants.{Word, Mark}
 use Rattle.ps_scan.specs.declared.token.TokenKind.TheVariants as scanned
+use Rattle.ps_scan.specs.Names.{reserved_words, marks}
 use Rattle.ps_scan.specs.declared.word.TheConstants as word
 use Rattle.ps_scan.specs.declared.mark.TheConstants as mark
 use Rattle.ps_tree.specs.Phrase.{NameAt, GroupAt, Phrase, at, Form, Phrases, none, more, MaybePhrase, absent, present, Arm, Arms, no_arms, more_arms, arm, WriteItem, item, WriteItems, no_items, more_items}
@@ -20,33 +22,38 @@ use Rattle.ps_print.specs.Spellings.{int_text, string_text}
 abbrev pub lexeme : Gap → TokenKind → List ℕ → Lexeme
 lexeme gap what spelling = record { gap = gap; what = what; spelling = spelling }
 
-abbrev pub the_word : Gap → ℕ → List ℕ → Lexeme
-the_word gap place spelling = lexeme gap (Word place) spelling
+-- the bytes of the name at this place of a table
+abbrev pub name_at : List (List ℕ) → ℕ → List ℕ
+name_at names place = unwrap_or (slice_get names place) []
 
-abbrev pub the_mark : Gap → ℕ → List ℕ → Lexeme
-the_mark gap place spelling = lexeme gap (Mark place) spelling
+-- the reserved word of this place, and the mark of this place
+abbrev pub the_word : Gap → ℕ → Lexeme
+the_word gap place = lexeme gap (Word place) (name_at reserved_words place)
+
+abbrev pub the_mark : Gap → ℕ → Lexeme
+the_mark gap place = lexeme gap (Mark place) (name_at marks place)
 
 abbrev pub name_lexeme : Gap → List ℕ → Lexeme
 name_lexeme gap name = lexeme gap scanned.Name name
 
 -- brackets, commas and semicolons stand without a blank behind what they follow
 abbrev pub open_round : Gap → Lexeme
-open_round gap = the_mark gap mark.OPEN_ROUND (codes "(")
+open_round gap = the_mark gap mark.OPEN_ROUND
 
 abbrev pub close_round : Lexeme
-close_round = the_mark nothing mark.CLOSE_ROUND (codes ")")
+close_round = the_mark nothing mark.CLOSE_ROUND
 
 abbrev pub comma : Lexeme
-comma = the_mark nothing mark.COMMA (codes ",")
+comma = the_mark nothing mark.COMMA
 
 abbrev pub semicolon : Lexeme
-semicolon = the_mark nothing mark.SEMICOLON (codes ";")
+semicolon = the_mark nothing mark.SEMICOLON
 
 abbrev pub colon : Lexeme
-colon = the_mark blank mark.COLON (codes ":")
+colon = the_mark blank mark.COLON
 
 abbrev pub do_word : Lexeme
-do_word = the_word blank word.DO (codes "do")
+do_word = the_word blank word.DO
 
 -- the lexemes in round brackets
 abbrev pub in_brackets : Gap → List Lexeme → List Lexeme
@@ -55,18 +62,19 @@ in_brackets gap inner = open_round gap ∷ (inner ++ close_round ∷ [])
 -- the type of a result behind its arrow; a procedure without a result has none
 abbrev pub behind_arrow : TyView → List Lexeme → List Lexeme
 behind_arrow ty.Void shown = []
-behind_arrow _ shown = the_mark blank mark.ARROW (codes "->") ∷ shown
+behind_arrow _ shown = the_mark blank mark.ARROW ∷ shown
 
 -- types
 abbrev mutual
   pub type_lexemes : Gap → TyView → List Lexeme
-  type_lexemes gap ty.Int = the_word gap word.INT (codes "int") ∷ []
-  type_lexemes gap ty.Bool = the_word gap word.BOOL (codes "bool") ∷ []
-  type_lexemes gap ty.Str = the_word gap word.STRING (codes "string") ∷ []
-  type_lexemes gap ty.Pntr = the_word gap word.PNTR (codes "pntr") ∷ []
+  type_lexemes gap ty.Int = the_word gap word.INT ∷ []
+  type_lexemes gap ty.Bool = the_word gap word.BOOL ∷ []
+  type_lexemes gap ty.Str = the_word gap word.STRING ∷ []
+  type_lexemes gap ty.Pntr = the_word gap word.PNTR ∷ []
   type_lexemes gap ty.Void = []
-  type_lexemes gap (ty.Vector element) = the_mark gap mark.TIMES (codes "*") ∷ type_lexemes nothing element
-  type_lexemes gap (ty.Proc parameters gives) = the_word gap word.PROC (codes "proc") ∷ in_brackets nothing (types_lexemes nothing parameters ++ behind_arrow gives (type_lexemes blank gives))
+  type_lexemes gap (ty.Vector element) = the_mark gap mark.TIMES ∷ type_lexemes nothing element
+  type_lexemes gap (ty.Proc parameters gives) =
+      the_word gap word.PROC ∷ in_brackets nothing (types_lexemes nothing parameters ++ behind_arrow gives (type_lexemes blank gives))
 
   pub types_lexemes : Gap → TyViews → List Lexeme
   types_lexemes gap ty.none = []
@@ -188,75 +196,95 @@ behind_item last no_items = last
 behind_item last (more_items first rest) = before_comma
 
 abbrev pub sign_of_operator : Operator → Lexeme
-sign_of_operator arith.Add = the_mark blank mark.PLUS (codes "+")
-sign_of_operator arith.Sub = the_mark blank mark.MINUS (codes "-")
-sign_of_operator arith.Mul = the_mark blank mark.TIMES (codes "*")
-sign_of_operator arith.Div = the_word blank word.DIV (codes "div")
-sign_of_operator arith.Rem = the_word blank word.REM (codes "rem")
+sign_of_operator arith.Add = the_mark blank mark.PLUS
+sign_of_operator arith.Sub = the_mark blank mark.MINUS
+sign_of_operator arith.Mul = the_mark blank mark.TIMES
+sign_of_operator arith.Div = the_word blank word.DIV
+sign_of_operator arith.Rem = the_word blank word.REM
 
 abbrev pub sign_of_relation : Relation → Lexeme
-sign_of_relation order.Equal = the_mark blank mark.EQUALS (codes "=")
-sign_of_relation order.NotEqual = the_mark blank mark.NOT_EQUALS (codes "~=")
-sign_of_relation order.Less = the_mark blank mark.LESS (codes "<")
-sign_of_relation order.LessEqual = the_mark blank mark.LESS_OR_EQUAL (codes "<=")
-sign_of_relation order.Greater = the_mark blank mark.GREATER (codes ">")
-sign_of_relation order.GreaterEqual = the_mark blank mark.GREATER_OR_EQUAL (codes ">=")
+sign_of_relation order.Equal = the_mark blank mark.EQUALS
+sign_of_relation order.NotEqual = the_mark blank mark.NOT_EQUALS
+sign_of_relation order.Less = the_mark blank mark.LESS
+sign_of_relation order.LessEqual = the_mark blank mark.LESS_OR_EQUAL
+sign_of_relation order.Greater = the_mark blank mark.GREATER
+sign_of_relation order.GreaterEqual = the_mark blank mark.GREATER_OR_EQUAL
 
 abbrev pub is_word : Bool → Lexeme
-is_word false = the_word blank word.IS (codes "is")
-is_word true = the_word blank word.ISNT (codes "isnt")
+is_word false = the_word blank word.IS
+is_word true = the_word blank word.ISNT
 
 abbrev pub flag_word : Gap → Bool → Lexeme
-flag_word gap true = the_word gap word.TRUE (codes "true")
-flag_word gap false = the_word gap word.FALSE (codes "false")
+flag_word gap true = the_word gap word.TRUE
+flag_word gap false = the_word gap word.FALSE
 
 abbrev pub bound_word : Gap → Bool → Lexeme
-bound_word gap false = the_word gap word.LWB (codes "lwb")
-bound_word gap true = the_word gap word.UPB (codes "upb")
+bound_word gap false = the_word gap word.LWB
+bound_word gap true = the_word gap word.UPB
 
 abbrev pub becomes : Bool → Lexeme
-becomes false = the_mark blank mark.EQUALS (codes "=")
-becomes true = the_mark blank mark.BECOMES (codes ":=")
+becomes false = the_mark blank mark.EQUALS
+becomes true = the_mark blank mark.BECOMES
 
 abbrev mutual
   -- a form at this indentation, in front of what stands behind it, where the gap stands before it;
   -- `procedure` stands for a `let` of a procedure
   pub form_lexemes : ℕ → Behind → Gap → Form → List Lexeme
   form_lexemes n behind gap (form.Sequence items) = block_lexemes n gap items
-  form_lexemes n behind gap (form.Let name false (at (form.Proc params gives s) line)) = the_word gap word.PROCEDURE (codes "procedure") ∷ name_lexeme blank name.name ∷ (heading_lexemes params gives ++ clause_lexemes n behind blank s)
-  form_lexemes n behind gap (form.Let name variable e) = the_word gap word.LET (codes "let") ∷ name_lexeme blank name.name ∷ becomes variable ∷ clause_lexemes n behind blank e
-  form_lexemes n behind gap (form.Structure name fields) = the_word gap word.STRUCTURE (codes "structure") ∷ name_lexeme blank name.name ∷ in_brackets nothing (groups_lexemes fields)
-  form_lexemes n behind gap (form.IfDo c a) = the_word gap word.IF (codes "if") ∷ (clause_lexemes n before_do blank c ++ do_word ∷ clause_lexemes n behind blank a)
-  form_lexemes n behind gap (form.IfElse c a b) = the_word gap word.IF (codes "if") ∷ (clause_lexemes n other blank c ++ the_word blank word.THEN (codes "then") ∷ (clause_lexemes n other blank a ++ the_word blank word.ELSE (codes "else") ∷ clause_lexemes n behind blank b))
-  form_lexemes n behind gap (form.While c a) = the_word gap word.WHILE (codes "while") ∷ (clause_lexemes n before_do blank c ++ do_word ∷ clause_lexemes n behind blank a)
-  form_lexemes n behind gap (form.Repeat a c absent) = the_word gap word.REPEAT (codes "repeat") ∷ (clause_lexemes n other blank a ++ the_word blank word.WHILE (codes "while") ∷ clause_lexemes n behind blank c)
-  form_lexemes n behind gap (form.Repeat a c (present b)) = the_word gap word.REPEAT (codes "repeat") ∷ (clause_lexemes n other blank a ++ the_word blank word.WHILE (codes "while") ∷ (clause_lexemes n before_do blank c ++ do_word ∷ clause_lexemes n behind blank b))
-  form_lexemes n behind gap (form.For name a b absent s) = the_word gap word.FOR (codes "for") ∷ name_lexeme blank name.name ∷ the_mark blank mark.EQUALS (codes "=") ∷ (clause_lexemes n other blank a ++ the_word blank word.TO (codes "to") ∷ (clause_lexemes n before_do blank b ++ do_word ∷ clause_lexemes n behind blank s))
-  form_lexemes n behind gap (form.For name a b (present c) s) = the_word gap word.FOR (codes "for") ∷ name_lexeme blank name.name ∷ the_mark blank mark.EQUALS (codes "=") ∷ (clause_lexemes n other blank a ++ the_word blank word.TO (codes "to") ∷ (clause_lexemes n other blank b ++ the_word blank word.BY (codes "by") ∷ (clause_lexemes n before_do blank c ++ do_word ∷ clause_lexemes n behind blank s)))
-  form_lexemes n behind gap (form.Case e arms d) = the_word gap word.CASE (codes "case") ∷ (clause_lexemes n other blank e ++ the_word blank word.OF (codes "of") ∷ (arms_lexemes (n + 2) arms ++ the_word (newline (n + 2)) word.DEFAULT (codes "default") ∷ colon ∷ clause_lexemes (n + 2) behind blank d))
-  form_lexemes n behind gap (form.Write items) = the_word gap word.WRITE (codes "write") ∷ items_lexemes n behind items
-  form_lexemes n behind gap form.Abort = the_word gap word.ABORT (codes "abort") ∷ []
-  form_lexemes n behind gap (form.Proc params gives s) = the_word gap word.PROC (codes "proc") ∷ (heading_lexemes params gives ++ clause_lexemes n behind blank s)
-  form_lexemes n behind gap (form.Vector l u e) = the_word gap word.VECTOR (codes "vector") ∷ (clause_lexemes n other blank l ++ the_mark nothing mark.DOUBLE_COLON (codes "::") ∷ (clause_lexemes n other nothing u ++ the_word blank word.OF (codes "of") ∷ clause_lexemes n behind blank e))
+  form_lexemes n behind gap (form.Let name false (at (form.Proc params gives s) line)) =
+      the_word gap word.PROCEDURE ∷ name_lexeme blank name.name ∷ (heading_lexemes params gives ++ clause_lexemes n behind blank s)
+  form_lexemes n behind gap (form.Let name variable e) =
+      the_word gap word.LET ∷ name_lexeme blank name.name ∷ becomes variable ∷ clause_lexemes n behind blank e
+  form_lexemes n behind gap (form.Structure name fields) =
+      the_word gap word.STRUCTURE ∷ name_lexeme blank name.name ∷ in_brackets nothing (groups_lexemes fields)
+  form_lexemes n behind gap (form.IfDo c a) = the_word gap word.IF ∷ (clause_lexemes n before_do blank c ++ do_word ∷ clause_lexemes n behind blank a)
+  form_lexemes n behind gap (form.IfElse c a b) =
+      the_word gap word.IF ∷ (clause_lexemes n other blank c ++ the_word blank word.THEN ∷ (clause_lexemes n other blank a ++ the_word blank word.ELSE
+      ∷ clause_lexemes n behind blank b))
+  form_lexemes n behind gap (form.While c a) = the_word gap word.WHILE ∷ (clause_lexemes n before_do blank c ++ do_word ∷ clause_lexemes n behind blank a)
+  form_lexemes n behind gap (form.Repeat a c absent) =
+      the_word gap word.REPEAT ∷ (clause_lexemes n other blank a ++ the_word blank word.WHILE ∷ clause_lexemes n behind blank c)
+  form_lexemes n behind gap (form.Repeat a c (present b)) =
+      the_word gap word.REPEAT ∷ (clause_lexemes n other blank a ++ the_word blank word.WHILE ∷ (clause_lexemes n before_do blank c ++ do_word
+      ∷ clause_lexemes n behind blank b))
+  form_lexemes n behind gap (form.For name a b absent s) =
+      the_word gap word.FOR ∷ name_lexeme blank name.name ∷ the_mark blank mark.EQUALS ∷ (clause_lexemes n other blank a ++ the_word blank word.TO
+      ∷ (clause_lexemes n before_do blank b ++ do_word ∷ clause_lexemes n behind blank s))
+  form_lexemes n behind gap (form.For name a b (present c) s) =
+      the_word gap word.FOR ∷ name_lexeme blank name.name ∷ the_mark blank mark.EQUALS ∷ (clause_lexemes n other blank a ++ the_word blank word.TO
+      ∷ (clause_lexemes n other blank b ++ the_word blank word.BY ∷ (clause_lexemes n before_do blank c ++ do_word ∷ clause_lexemes n behind blank s)))
+  form_lexemes n behind gap (form.Case e arms d) =
+      the_word gap word.CASE ∷ (clause_lexemes n other blank e ++ the_word blank word.OF ∷ (arms_lexemes (n + 2) arms
+      ++ the_word (newline (n + 2)) word.DEFAULT ∷ colon ∷ clause_lexemes (n + 2) behind blank d))
+  form_lexemes n behind gap (form.Write items) = the_word gap word.WRITE ∷ items_lexemes n behind items
+  form_lexemes n behind gap form.Abort = the_word gap word.ABORT ∷ []
+  form_lexemes n behind gap (form.Proc params gives s) = the_word gap word.PROC ∷ (heading_lexemes params gives ++ clause_lexemes n behind blank s)
+  form_lexemes n behind gap (form.Vector l u e) =
+      the_word gap word.VECTOR ∷ (clause_lexemes n other blank l ++ the_mark nothing mark.DOUBLE_COLON ∷ (clause_lexemes n other nothing u
+      ++ the_word blank word.OF ∷ clause_lexemes n behind blank e))
   form_lexemes n behind gap (form.Assign x e) = operand_lexemes n disjunction gap x ++ becomes true ∷ clause_lexemes n behind blank e
-  form_lexemes n behind gap (form.Or a b) = operand_lexemes n disjunction gap a ++ the_word blank word.OR (codes "or") ∷ operand_lexemes n conjunction blank b
-  form_lexemes n behind gap (form.And a b) = operand_lexemes n conjunction gap a ++ the_word blank word.AND (codes "and") ∷ operand_lexemes n negation blank b
-  form_lexemes n behind gap (form.Not e) = the_mark gap mark.TILDE (codes "~") ∷ operand_lexemes n comparison nothing e
+  form_lexemes n behind gap (form.Or a b) = operand_lexemes n disjunction gap a ++ the_word blank word.OR ∷ operand_lexemes n conjunction blank b
+  form_lexemes n behind gap (form.And a b) = operand_lexemes n conjunction gap a ++ the_word blank word.AND ∷ operand_lexemes n negation blank b
+  form_lexemes n behind gap (form.Not e) = the_mark gap mark.TILDE ∷ operand_lexemes n comparison nothing e
   form_lexemes n behind gap (form.Compare op a b) = operand_lexemes n sum gap a ++ sign_of_relation op ∷ operand_lexemes n sum blank b
   form_lexemes n behind gap (form.Is e class negated) = operand_lexemes n sum gap e ++ is_word negated ∷ name_lexeme blank class.name ∷ []
-  form_lexemes n behind gap (form.Join a b) = operand_lexemes n sum gap a ++ the_mark blank mark.CONCATENATE (codes "++") ∷ operand_lexemes n product blank b
+  form_lexemes n behind gap (form.Join a b) = operand_lexemes n sum gap a ++ the_mark blank mark.CONCATENATE ∷ operand_lexemes n product blank b
   form_lexemes n behind gap (form.Arith op a b) = operand_lexemes n (left_of op) gap a ++ sign_of_operator op ∷ operand_lexemes n (right_of op) blank b
-  form_lexemes n behind gap (form.Plus e) = the_mark gap mark.PLUS (codes "+") ∷ operand_lexemes n application nothing e
-  form_lexemes n behind gap (form.Neg e) = the_mark gap mark.MINUS (codes "-") ∷ operand_lexemes n application nothing e
+  form_lexemes n behind gap (form.Plus e) = the_mark gap mark.PLUS ∷ operand_lexemes n application nothing e
+  form_lexemes n behind gap (form.Neg e) = the_mark gap mark.MINUS ∷ operand_lexemes n application nothing e
   form_lexemes n behind gap (form.Apply f args) = operand_lexemes n application gap f ++ in_brackets nothing (clauses_lexemes n nothing other args)
-  form_lexemes n behind gap (form.Part s i m) = operand_lexemes n application gap s ++ in_brackets nothing (clause_lexemes n other nothing i ++ the_mark nothing mark.BAR (codes "|") ∷ clause_lexemes n other nothing m)
+  form_lexemes n behind gap (form.Part s i m) =
+      operand_lexemes n application gap s ++ in_brackets nothing (clause_lexemes n other nothing i ++ the_mark nothing mark.BAR
+      ∷ clause_lexemes n other nothing m)
   form_lexemes n behind gap (form.Name name) = name_lexeme gap name ∷ []
   form_lexemes n behind gap (form.Int value) = lexeme gap scanned.Int (int_text (nat_abs value)) ∷ []
   form_lexemes n behind gap (form.Text bytes) = lexeme gap scanned.Text (string_text bytes) ∷ []
   form_lexemes n behind gap (form.Flag value) = flag_word gap value ∷ []
-  form_lexemes n behind gap form.Nil = the_word gap word.NIL (codes "nil") ∷ []
+  form_lexemes n behind gap form.Nil = the_word gap word.NIL ∷ []
   form_lexemes n behind gap (form.Bound upper e) = bound_word gap upper ∷ in_brackets nothing (clause_lexemes n other nothing e)
-  form_lexemes n behind gap (form.Elems l t items) = the_mark gap mark.AT (codes "@") ∷ (clause_lexemes n other nothing l ++ the_word blank word.OF (codes "of") ∷ (type_lexemes blank t ++ the_mark blank mark.OPEN_SQUARE (codes "[") ∷ (clauses_lexemes n nothing other items ++ the_mark nothing mark.CLOSE_SQUARE (codes "]") ∷ [])))
+  form_lexemes n behind gap (form.Elems l t items) =
+      the_mark gap mark.AT ∷ (clause_lexemes n other nothing l ++ the_word blank word.OF ∷ (type_lexemes blank t ++ the_mark blank mark.OPEN_SQUARE
+      ∷ (clauses_lexemes n nothing other items ++ the_mark nothing mark.CLOSE_SQUARE ∷ [])))
 
   -- a clause; what would take what stands behind it stands in brackets
   pub clause_lexemes : ℕ → Behind → Gap → Phrase → List Lexeme
@@ -269,8 +297,10 @@ abbrev mutual
       if is_looser f needed then in_brackets gap (form_lexemes n other nothing f) else form_lexemes n other gap f
 
   pub block_lexemes : ℕ → Gap → Phrases → List Lexeme
-  block_lexemes n gap none = the_mark gap mark.OPEN_CURLY (codes "{") ∷ the_mark nothing mark.CLOSE_CURLY (codes "}") ∷ []
-  block_lexemes n gap (more first rest) = the_mark gap mark.OPEN_CURLY (codes "{") ∷ (clause_lexemes (n + 2) other (newline (n + 2)) first ++ semicolon ∷ (lines_lexemes (n + 2) rest ++ the_mark (newline n) mark.CLOSE_CURLY (codes "}") ∷ []))
+  block_lexemes n gap none = the_mark gap mark.OPEN_CURLY ∷ the_mark nothing mark.CLOSE_CURLY ∷ []
+  block_lexemes n gap (more first rest) =
+      the_mark gap mark.OPEN_CURLY ∷ (clause_lexemes (n + 2) other (newline (n + 2)) first ++ semicolon ∷ (lines_lexemes (n + 2) rest
+      ++ the_mark (newline n) mark.CLOSE_CURLY ∷ []))
 
   -- the items behind the first of a block, each on a line of its own with a `;` behind it
   pub lines_lexemes : ℕ → Phrases → List Lexeme
@@ -306,11 +336,6 @@ abbrev mutual
   pub item_lexemes : ℕ → Behind → WriteItem → List Lexeme
   item_lexemes n behind (item e absent line) = clause_lexemes n behind blank e
   item_lexemes n behind (item e (present w) line) = clause_lexemes n before_colon blank e ++ colon ∷ clause_lexemes n behind blank w
-
--- whether a `let` of this is written with `procedure`
-abbrev pub is_procedure : Bool → Phrase → Bool
-is_procedure false (at (form.Proc params gives s) line) = true
-is_procedure _ _ = false
 
 -- the items of a program, each on a line of its own
 abbrev pub program_lexemes : Phrases → List Lexeme

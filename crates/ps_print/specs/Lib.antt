@@ -1,8 +1,4 @@
-pub mod Bare
 pub mod Layout
 pub mod Lexemes
-pub mod Lines
-pub mod Reprint
 pub mod Spellings
-pub mod Waiting
-pub mod Weights
+pub mod inside

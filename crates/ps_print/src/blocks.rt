@@ -3,8 +3,8 @@ ghost use Rattle.ps_tree.specs.Phrase.{phrase_of};
 ghost use Rattle.ps_tree.specs.Phrase as form;
 ghost use Rattle.ps_tree.specs.PhraseLists.{phrases_in};
 ghost use Rattle.ps_print.specs.Layout.{behind_clause, program_lexemes, lines_lexemes, clauses_lexemes, more_clauses_lexemes};
-ghost use Rattle.ps_print.specs.Weights.{weight_all};
-ghost use Rattle.ps_print.specs.Waiting.{waiting, gap_of, behind_of, Adds, AddsForm};
+ghost use Rattle.ps_print.specs.inside.Weights.{weight_all};
+ghost use Rattle.ps_print.specs.inside.Waiting.{waiting, gap_of, behind_of, Adds, AddsForm};
 
 use crate::pending::Pending;
 use crate::piece::{Behind, Gap, Piece, Spot, deeper};

@@ -3,8 +3,8 @@ ghost use Rattle.ps_tree.specs.Phrase.{form_of, phrase_of};
 ghost use Rattle.ps_tree.specs.PhraseLists.{items_in};
 ghost use Rattle.ps_print.specs.Lexemes.{nothing};
 ghost use Rattle.ps_print.specs.Layout.{other, before_do, before_comma, before_colon, clause_lexemes, operand_lexemes, form_lexemes, in_brackets, number_of, tightness as tightness_in, is_looser, is_taken, ends_open};
-ghost use Rattle.ps_print.specs.Weights.{weight, weight_form};
-ghost use Rattle.ps_print.specs.Waiting.{waiting, gap_of, behind_of, tightness_of, Adds};
+ghost use Rattle.ps_print.specs.inside.Weights.{weight, weight_form};
+ghost use Rattle.ps_print.specs.inside.Waiting.{waiting, gap_of, behind_of, tightness_of, Adds};
 
 use crate::operators::left_of;
 use crate::pending::Pending;

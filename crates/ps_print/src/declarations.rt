@@ -4,8 +4,8 @@ ghost use Rattle.ps_base.specs.declared.line.Line.{Line};
 ghost use Rattle.ps_tree.specs.Phrase.{phrase_of, groups_in, named as name_at};
 ghost use Rattle.ps_tree.specs.Phrase as form;
 ghost use Rattle.ps_print.specs.Layout.{becomes as becomes_of};
-ghost use Rattle.ps_print.specs.Weights.{weight};
-ghost use Rattle.ps_print.specs.Waiting.{waiting, Adds, AddsForm, let_lexemes, piece_lexemes};
+ghost use Rattle.ps_print.specs.inside.Weights.{weight};
+ghost use Rattle.ps_print.specs.inside.Waiting.{waiting, Adds, AddsForm, let_lexemes, piece_lexemes};
 
 use crate::pending::Pending;
 use crate::piece::{Gap, Piece, Spot};
@@ -26,7 +26,7 @@ pub(crate) fn put_let<'a>(
     if variable {
         return put_plain_let(pending, spot, name, variable, e);
     }
-    match &e.form {
+    match &*e.form {
         RoughForm::Proc { params, gives, s } => {
             put_procedure(pending, spot, name, params.as_slice(), gives, s)
         }

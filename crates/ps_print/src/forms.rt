@@ -1,6 +1,6 @@
 ghost use Rattle.std.specs.Prelude.{OnOk};
 ghost use Rattle.ps_tree.specs.Phrase.{form_of};
-ghost use Rattle.ps_print.specs.Waiting.{waiting, AddsForm};
+ghost use Rattle.ps_print.specs.inside.Waiting.{waiting, AddsForm};
 
 use crate::blocks::put_block;
 use crate::declarations::{put_let, put_proc, put_structure};
@@ -11,8 +11,7 @@ use crate::operators::{
 use crate::pending::Pending;
 use crate::piece::{Piece, Spot};
 use crate::statements::{
-    put_assign, put_case, put_for, put_for_by, put_if_do, put_if_else, put_repeat, put_repeat_do,
-    put_while, put_write,
+    put_assign, put_case, put_for, put_if_do, put_if_else, put_repeat, put_while, put_write,
 };
 use ps_scan::word;
 use ps_tree::rough::RoughForm;
@@ -35,22 +34,8 @@ pub fn put_form<'a>(
         RoughForm::IfDo { c, a } => put_if_do(pending, spot, c, a),
         RoughForm::IfElse { c, a, b } => put_if_else(pending, spot, c, a, b),
         RoughForm::While { c, a } => put_while(pending, spot, c, a),
-        RoughForm::Repeat { a, c, b: None } => put_repeat(pending, spot, a, c),
-        RoughForm::Repeat { a, c, b: Some(b) } => put_repeat_do(pending, spot, a, c, b),
-        RoughForm::For {
-            name,
-            a,
-            b,
-            c: None,
-            s,
-        } => put_for(pending, spot, name, a, b, s),
-        RoughForm::For {
-            name,
-            a,
-            b,
-            c: Some(c),
-            s,
-        } => put_for_by(pending, spot, name, a, b, c, s),
+        RoughForm::Repeat { a, c, b } => put_repeat(pending, spot, a, c, b),
+        RoughForm::For { name, range, s } => put_for(pending, spot, name, range, s),
         RoughForm::Case { e, arms, d } => put_case(pending, spot, e, arms.as_slice(), d),
         RoughForm::Write { items } => put_write(pending, spot, items.as_slice()),
         RoughForm::Abort => pending.put(&[Piece::Word(spot.gap, word::ABORT)]),

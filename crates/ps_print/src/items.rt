@@ -4,8 +4,8 @@ ghost use Rattle.ps_tree.specs.Phrase as phrase;
 ghost use Rattle.ps_tree.specs.PhraseLists.{phrases_in, arms_in, items_in};
 ghost use Rattle.ps_print.specs.Lexemes.{blank};
 ghost use Rattle.ps_print.specs.Layout.{before_colon, colon, behind_item, clause_lexemes, arms_lexemes, arm_lexemes, items_lexemes, more_items_lexemes, item_lexemes};
-ghost use Rattle.ps_print.specs.Weights.{weight, weight_arms, weight_arm, weight_items, weight_item};
-ghost use Rattle.ps_print.specs.Waiting.{waiting, gap_of, behind_of, Adds};
+ghost use Rattle.ps_print.specs.inside.Weights.{weight, weight_arms, weight_arm, weight_items, weight_item};
+ghost use Rattle.ps_print.specs.inside.Waiting.{waiting, gap_of, behind_of, Adds};
 
 use crate::pending::Pending;
 use crate::piece::{Behind, Gap, Piece, Spot};

@@ -1,4 +1,4 @@
-//! The printer: the text that a tree is printed as, and that it is read as the tree again.
+//! The printer: the text that a tree is printed as.
 #![tactic(auto)]
 
 mod blocks;
@@ -6,7 +6,6 @@ mod clauses;
 mod declarations;
 mod forms;
 mod items;
-pub mod laws;
 mod operators;
 mod pending;
 mod piece;

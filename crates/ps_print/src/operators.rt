@@ -4,7 +4,7 @@ ghost use Rattle.ps_tree.specs.Phrase.{phrase_of, named as name_at};
 ghost use Rattle.ps_tree.specs.Phrase as form;
 ghost use Rattle.ps_tree.specs.PhraseLists.{phrases_in};
 ghost use Rattle.ps_print.specs.Layout.{left_of as left_tightness, right_of as right_tightness, sign_of_operator, sign_of_relation, is_word as word_of_is, bound_word as word_of_bound, flag_word as word_of_flag};
-ghost use Rattle.ps_print.specs.Waiting.{waiting, AddsForm, tightness_of, gap_of, piece_lexemes, piece_weight};
+ghost use Rattle.ps_print.specs.inside.Waiting.{waiting, AddsForm, tightness_of, gap_of, piece_lexemes, piece_weight};
 ghost use Rattle.ps_print.specs.declared.piece.Gap.{Gap as GapOf};
 
 use crate::pending::Pending;

@@ -1,7 +1,7 @@
 ghost use Rattle.std.specs.Prelude.{◌≡◌, ◌+◌, IfOk};
 
 use ps_base::ty::Ty;
-use ps_tree::rough::{Group, Rough, RoughArm, RoughForm, RoughItem};
+use ps_tree::rough::{Group, Named, Rough, RoughArm, RoughForm, RoughItem};
 use std::alloc::AllocError;
 
 /// What stands before a word, a mark or another lexeme: nothing, one blank, or a newline and so many
@@ -120,9 +120,11 @@ pub enum Piece<'a> {
     Gives(&'a Ty),
     /// The parameters of a procedure, or the fields of a structure.
     Groups(&'a [Group]),
-    /// Groups behind others, each behind a semicolon.
-    MoreGroups(&'a [Group]),
-    Group(Gap, &'a Group),
+    /// Names that share this type with one before them, and groups behind them, each behind a
+    /// semicolon.
+    MoreGroups(&'a Ty, &'a [Named], &'a [Group]),
+    /// A parameter or a field, with its type.
+    Named(Gap, &'a Ty, &'a Named),
     /// A procedure from its bracket to its body: its parameters, and the type of its result.
     Heading(&'a [Group], &'a Ty),
 }

@@ -2,8 +2,8 @@ ghost use Rattle.std.specs.Prelude.{◌≡◌, ◌<◌, ◌∷◌, [], ◌++◌,
 ghost use Rattle.ps_tree.specs.Phrase.{phrase_of};
 ghost use Rattle.ps_print.specs.Lexemes.{text_of};
 ghost use Rattle.ps_print.specs.Layout.{layout, printed};
-ghost use Rattle.ps_print.specs.Weights.{weight};
-ghost use Rattle.ps_print.specs.Waiting.{waiting, lexemes_of, is_empty_program, Adds, Prints};
+ghost use Rattle.ps_print.specs.inside.Weights.{weight};
+ghost use Rattle.ps_print.specs.inside.Waiting.{waiting, lexemes_of, is_empty_program, Adds, Prints};
 
 use crate::blocks::{put_clauses, put_lines, put_more_clauses, put_program};
 use crate::clauses::{put_clause, put_operand};
@@ -12,7 +12,7 @@ use crate::items::{put_arm, put_arms, put_item, put_items, put_more_items};
 use crate::pending::Pending;
 use crate::piece::{Behind, Gap, Piece, Spot};
 use crate::types::{
-    put_gives, put_group, put_groups, put_heading, put_more_groups, put_more_types, put_type,
+    put_gives, put_groups, put_heading, put_more_groups, put_more_types, put_named, put_type,
     put_types,
 };
 use crate::writer::{write_end, write_int, write_mark, write_spelling, write_string, write_word};
@@ -40,7 +40,7 @@ pub fn print(alloc: Global, tree: &Rough) -> Result<Vec<u8>, AllocError>
 fn is_empty_program(tree: &Rough) -> bool
     ensures { result ≡ is_empty_program (phrase_of tree.now) }
 {
-    match &tree.form {
+    match &*tree.form {
         RoughForm::Sequence { items } => items.as_slice().is_empty(),
         _ => false,
     }
@@ -55,7 +55,7 @@ fn put_tree<'a>(pending: &mut Pending<'a>, tree: &'a Rough) -> Result<(), AllocE
         behind: Behind::Other,
         gap: Gap::Nothing,
     };
-    match &tree.form {
+    match &*tree.form {
         RoughForm::Sequence { items } => put_program(pending, spot, items.as_slice()),
         _ => pending.put(&[Piece::Form(spot, &tree.form)]),
     }
@@ -104,8 +104,8 @@ fn step<'a>(
         Piece::MoreTypes(tys) => put_more_types(pending, tys),
         Piece::Gives(ty) => put_gives(pending, ty),
         Piece::Groups(groups) => put_groups(pending, groups),
-        Piece::MoreGroups(groups) => put_more_groups(pending, groups),
-        Piece::Group(gap, group) => put_group(pending, gap, group),
+        Piece::MoreGroups(ty, names, groups) => put_more_groups(pending, ty, names, groups),
+        Piece::Named(gap, ty, name) => put_named(pending, gap, ty, name),
         Piece::Heading(params, gives) => put_heading(pending, params, gives),
     }
 }

@@ -1,13 +1,14 @@
-ghost use Rattle.std.specs.Prelude.{OnOk};
+ghost use Rattle.std.specs.Prelude.{OnOk, option_map};
 ghost use Rattle.ps_tree.specs.Phrase.{phrase_of, named as name_at};
 ghost use Rattle.ps_tree.specs.Phrase as form;
-ghost use Rattle.ps_tree.specs.PhraseLists.{arms_in, items_in};
-ghost use Rattle.ps_print.specs.Waiting.{waiting, AddsForm};
+ghost use Rattle.ps_tree.specs.PhraseLists.{arms_in, items_in, maybe_in};
+ghost use Rattle.ps_tree.specs.declared.rough.RoughRange.{out-RoughRange};
+ghost use Rattle.ps_print.specs.inside.Waiting.{waiting, AddsForm};
 
 use crate::pending::Pending;
 use crate::piece::{Behind, Gap, Piece, Spot, Tightness, deeper};
 use ps_scan::{mark, word};
-use ps_tree::rough::{Named, Rough, RoughArm, RoughItem};
+use ps_tree::rough::{Named, Rough, RoughArm, RoughItem, RoughRange};
 use std::alloc::AllocError;
 
 pub(crate) fn put_if_do<'a>(
@@ -66,6 +67,21 @@ pub(crate) fn put_repeat<'a>(
     spot: Spot,
     a: &'a Rough,
     c: &'a Rough,
+    b: &'a Option<Box<Rough>>,
+) -> Result<(), AllocError>
+    ensures { OnOk result (AddsForm (waiting pending.old) spot (form.Repeat (phrase_of a.now) (phrase_of c.now) (maybe_in (option_map (λ clause. clause.value) b.now))) (waiting pending.new)) }
+{
+    match b {
+        None => put_repeat_while(pending, spot, a, c),
+        Some(b) => put_repeat_do(pending, spot, a, c, b),
+    }
+}
+
+fn put_repeat_while<'a>(
+    pending: &mut Pending<'a>,
+    spot: Spot,
+    a: &'a Rough,
+    c: &'a Rough,
 ) -> Result<(), AllocError>
     ensures { OnOk result (AddsForm (waiting pending.old) spot (form.Repeat (phrase_of a.now) (phrase_of c.now) form.absent) (waiting pending.new)) }
 {
@@ -77,7 +93,7 @@ pub(crate) fn put_repeat<'a>(
     ])
 }
 
-pub(crate) fn put_repeat_do<'a>(
+fn put_repeat_do<'a>(
     pending: &mut Pending<'a>,
     spot: Spot,
     a: &'a Rough,
@@ -100,6 +116,21 @@ pub(crate) fn put_for<'a>(
     pending: &mut Pending<'a>,
     spot: Spot,
     name: &'a Named,
+    range: &'a RoughRange,
+    s: &'a Rough,
+) -> Result<(), AllocError>
+    ensures { OnOk result (AddsForm (waiting pending.old) spot (form.For (name_at name.now) (phrase_of (out-RoughRange range.now).a) (phrase_of (out-RoughRange range.now).b) (maybe_in (out-RoughRange range.now).c) (phrase_of s.now)) (waiting pending.new)) }
+{
+    match &range.c {
+        None => put_for_to(pending, spot, name, &range.a, &range.b, s),
+        Some(c) => put_for_by(pending, spot, name, &range.a, &range.b, c, s),
+    }
+}
+
+fn put_for_to<'a>(
+    pending: &mut Pending<'a>,
+    spot: Spot,
+    name: &'a Named,
     a: &'a Rough,
     b: &'a Rough,
     s: &'a Rough,
@@ -118,7 +149,7 @@ pub(crate) fn put_for<'a>(
     ])
 }
 
-pub(crate) fn put_for_by<'a>(
+fn put_for_by<'a>(
     pending: &mut Pending<'a>,
     spot: Spot,
     name: &'a Named,

@@ -1,17 +1,17 @@
-ghost use Rattle.std.specs.Prelude.{◌+◌, OnOk};
+ghost use Rattle.std.specs.Prelude.{◌+◌, ◌++◌, OnOk};
 ghost use Rattle.ps_base.specs.TyView.{ty_view, ty_views};
 ghost use Rattle.ps_base.specs.TyView as ty;
-ghost use Rattle.ps_tree.specs.Phrase.{group_of, groups_in};
+ghost use Rattle.ps_tree.specs.Phrase.{of_type, names_in, groups_in};
 ghost use Rattle.ps_print.specs.Lexemes.{nothing, blank};
 ghost use Rattle.ps_print.specs.Layout.{behind_arrow, type_lexemes, types_lexemes, more_types_lexemes, groups_lexemes, more_groups_lexemes, group_lexemes, heading_lexemes};
-ghost use Rattle.ps_print.specs.Weights.{weight_ty, weight_tys, weight_groups, weight_group, weight_heading};
-ghost use Rattle.ps_print.specs.Waiting.{waiting, gap_of, Adds};
+ghost use Rattle.ps_print.specs.inside.Weights.{weight_ty, weight_tys, weight_groups, weight_group, weight_heading};
+ghost use Rattle.ps_print.specs.inside.Waiting.{waiting, gap_of, Adds};
 
 use crate::pending::Pending;
 use crate::piece::{Gap, Piece};
 use ps_base::ty::Ty;
 use ps_scan::{mark, word};
-use ps_tree::rough::Group;
+use ps_tree::rough::{Group, Named};
 use std::alloc::AllocError;
 
 pub(crate) fn put_type<'a>(
@@ -107,38 +107,57 @@ pub(crate) fn put_groups<'a>(
 {
     match groups.split_first() {
         None => Ok(()),
-        Some((first, rest)) => {
-            pending.put(&[Piece::Group(Gap::Nothing, first), Piece::MoreGroups(rest)])
-        }
+        Some((first, rest)) => pending.put(&[
+            Piece::Named(Gap::Nothing, &first.ty, &first.first),
+            Piece::MoreGroups(&first.ty, first.more.as_slice(), rest),
+        ]),
     }
 }
 
+// The names that share the type of the one before them, each with the type, and then the groups.
 pub(crate) fn put_more_groups<'a>(
     pending: &mut Pending<'a>,
+    ty: &'a Ty,
+    names: &'a [Named],
     groups: &'a [Group],
 ) -> Result<(), AllocError>
+    ensures { OnOk result (Adds (waiting pending.old) (more_groups_lexemes (names_in (ty_view ty.now) names.now ++ groups_in groups.now)) (weight_groups (names_in (ty_view ty.now) names.now ++ groups_in groups.now)) (waiting pending.new)) }
+{
+    match names.split_first() {
+        None => put_next_group(pending, groups),
+        Some((first, rest)) => pending.put(&[
+            Piece::Mark(Gap::Nothing, mark::SEMICOLON),
+            Piece::Named(Gap::Blank, ty, first),
+            Piece::MoreGroups(ty, rest, groups),
+        ]),
+    }
+}
+
+fn put_next_group<'a>(pending: &mut Pending<'a>, groups: &'a [Group]) -> Result<(), AllocError>
     ensures { OnOk result (Adds (waiting pending.old) (more_groups_lexemes (groups_in groups.now)) (weight_groups (groups_in groups.now)) (waiting pending.new)) }
 {
     match groups.split_first() {
         None => Ok(()),
         Some((first, rest)) => pending.put(&[
             Piece::Mark(Gap::Nothing, mark::SEMICOLON),
-            Piece::Group(Gap::Blank, first),
-            Piece::MoreGroups(rest),
+            Piece::Named(Gap::Blank, &first.ty, &first.first),
+            Piece::MoreGroups(&first.ty, first.more.as_slice(), rest),
         ]),
     }
 }
 
-pub(crate) fn put_group<'a>(
+// A parameter or a field, with its type.
+pub(crate) fn put_named<'a>(
     pending: &mut Pending<'a>,
     gap: Gap,
-    group: &'a Group,
+    ty: &'a Ty,
+    name: &'a Named,
 ) -> Result<(), AllocError>
-    ensures { OnOk result (Adds (waiting pending.old) (group_lexemes (gap_of gap) (group_of group.now)) (weight_group (group_of group.now)) (waiting pending.new)) }
+    ensures { OnOk result (Adds (waiting pending.old) (group_lexemes (gap_of gap) (of_type (ty_view ty.now) name.now)) (weight_group (of_type (ty_view ty.now) name.now)) (waiting pending.new)) }
 {
     pending.put(&[
-        Piece::Type(gap, &group.ty),
-        Piece::Name(Gap::Blank, group.name.name.as_slice()),
+        Piece::Type(gap, ty),
+        Piece::Name(Gap::Blank, name.name.as_slice()),
     ])
 }
 

@@ -2,7 +2,8 @@ ghost use Rattle.std.specs.Prelude.{◌≡◌, ◌∷◌, ◌++◌, [], map, fla
 ghost use Rattle.ps_scan.specs.Names.{reserved_words, marks};
 ghost use Rattle.ps_print.specs.Lexemes.{gap_bytes};
 ghost use Rattle.ps_print.specs.Spellings.{int_text, string_text, escaped_byte};
-ghost use Rattle.ps_print.specs.Waiting.{gap_of, name_at};
+ghost use Rattle.ps_print.specs.Layout.{name_at};
+ghost use Rattle.ps_print.specs.inside.Waiting.{gap_of};
 
 use crate::piece::Gap;
 use itoa::Buffer;

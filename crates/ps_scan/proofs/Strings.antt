@@ -6,7 +6,7 @@ use Rattle.ps_scan.specs.declared.piece.Piece.{Piece}
 use Rattle.ps_scan.specs.declared.quoted.Inside.{Inside}
 use Rattle.ps_scan.specs.declared.quoted.Inside.TheVariants.{Spelled, Closed, Open, BadByte, BadEscape}
 use Rattle.ps_scan.specs.Piece.{Quoted, Closes, StaysOpen, HasBadByte, HasBadEscape, spells, quoted, string, bytes_of}
-use Rattle.ps_scan.specs.Inside.{goes_on}
+use Rattle.ps_scan.specs.inside.Strings.{goes_on}
 
 -- these bytes stand before those that a string goes on to spell, spelled by so many bytes
 unfoldable pub prepend : List ℕ → ℕ → Quoted → Quoted

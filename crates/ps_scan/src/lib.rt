@@ -13,7 +13,7 @@ pub mod token;
 pub mod word;
 
 pub use fault::ScanFault;
-pub use piece::LONGEST_TEXT;
+pub use ps_base::LONGEST_TEXT;
 pub use scanner::{
     fault_is_unique, fault_stands_on_its_line, scan, tokens_are_slices, tokens_are_unique,
     tokens_exclude_fault,

@@ -59,7 +59,7 @@ pub const ARROW: u8 = 22;
 /// `@`
 pub const AT: u8 = 23;
 /// `?`
-pub const END: u8 = 24;
+pub const QUESTION: u8 = 24;
 /// `|`
 pub const BAR: u8 = 25;
 
@@ -92,7 +92,7 @@ macro_rules! all_marks {
             TIMES "*"
             ARROW "->"
             AT "@"
-            END "?"
+            QUESTION "?"
             BAR "|"
         }
     };

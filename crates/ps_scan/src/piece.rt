@@ -13,10 +13,8 @@ use crate::number::{LARGEST_INT, decimal_of};
 use crate::quoted::string_piece;
 use crate::token::TokenKind;
 use crate::word::word_place;
+use ps_base::LONGEST_TEXT;
 use ps_base::line::Line;
-
-/// The most bytes that a text may have.
-pub const LONGEST_TEXT: usize = 1_048_576;
 
 /// The most bytes that a name may have.
 const LONGEST_NAME: u32 = 64;

@@ -1,11 +1,12 @@
 ghost use Rattle.std.specs.Prelude.{◌≡◌, ◌+◌, ◌-◌, ◌≤◌, ℕ, List, ◌∷◌, length, IfOk};
 ghost use Rattle.ps_scan.specs.Piece.{quoted, behind_apostrophe, string, bytes_of, Closes};
-ghost use Rattle.ps_scan.specs.Inside.{goes_on, IsWithin};
+ghost use Rattle.ps_scan.specs.inside.Strings.{goes_on, IsWithin};
 
 use crate::class::{Inner, escaped, inner_of};
 use crate::fault::ScanFault;
-use crate::piece::{LONGEST_TEXT, Piece};
+use crate::piece::Piece;
 use crate::token::TokenKind;
+use ps_base::LONGEST_TEXT;
 use ps_base::line::Line;
 use std::alloc::{AllocError, Global};
 

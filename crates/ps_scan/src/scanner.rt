@@ -4,8 +4,9 @@ ghost use Rattle.ps_scan.specs.declared.token.Token.{Token};
 ghost use Rattle.ps_scan.specs.Tokens.{HasTokens, HasFault, token_at, IsToken, IsInOrder, StandsAt};
 
 use crate::fault::ScanFault;
-use crate::piece::{LONGEST_TEXT, Piece, piece_at};
+use crate::piece::{Piece, piece_at};
 use crate::token::{Token, TokenKind};
+use ps_base::LONGEST_TEXT;
 use ps_base::line::Line;
 use std::alloc::Global;
 

@@ -31,7 +31,7 @@ fn texts_have_their_tokens(rt: HostRuntime) -> Result<(), Fail> {
                 token(TokenKind::Int, 1, 10, 11),
                 token(TokenKind::Mark(mark::COMMA), 1, 11, 12),
                 token(TokenKind::Text, 1, 13, 17),
-                token(TokenKind::Mark(mark::END), 1, 18, 19),
+                token(TokenKind::Mark(mark::QUESTION), 1, 18, 19),
             ],
         ),
         (
@@ -119,7 +119,7 @@ fn longest_mark_is_taken(rt: HostRuntime) -> Result<(), Fail> {
         (b"+++", &[mark::CONCATENATE, mark::PLUS]),
         (b"->-", &[mark::ARROW, mark::MINUS]),
         (b"-->", &[mark::MINUS, mark::ARROW]),
-        (b"@|*?", &[mark::AT, mark::BAR, mark::TIMES, mark::END]),
+        (b"@|*?", &[mark::AT, mark::BAR, mark::TIMES, mark::QUESTION]),
         (b"=~~=", &[mark::EQUALS, mark::TILDE, mark::NOT_EQUALS]),
         (
             b"<<=>>=",

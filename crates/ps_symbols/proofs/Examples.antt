@@ -7,7 +7,8 @@ use Rattle.ps_scan.specs.declared.token.TokenKind.TheVariants.{Name, Int, Word, 
 use Rattle.ps_scan.specs.Tokens.{token_at}
 use Rattle.ps_symbols.specs.declared.kind.Kind.{Kind}
 use Rattle.ps_symbols.specs.declared.kind.Kind.TheVariants as kind
-use Rattle.ps_symbols.specs.Kinds.{kind_of, can_end, can_continue}
+use Rattle.ps_symbols.specs.Kinds.{kind_of}
+use Rattle.ps_symbols.specs.Newline.{can_end, can_continue}
 use Rattle.ps_symbols.specs.Symbols.{symbols, symbols_behind}
 
 abbrev words : List TokenKind
@@ -32,7 +33,7 @@ marks_read : map kind_of marks ≡
 marks_read = refl
 
 -- abort, end, false, nil and true
-words_that_end : map can_end words ≡
+words_that_end : map (λ what. can_end (kind_of what)) words ≡
     true ∷ false ∷ false ∷ false ∷ false ∷ false ∷ false ∷ false ∷ false
     ∷ false ∷ true ∷ true ∷ false ∷ false ∷ false ∷ false ∷ false ∷ false
     ∷ false ∷ true ∷ false ∷ false ∷ false ∷ false ∷ false ∷ false ∷ false
@@ -40,14 +41,14 @@ words_that_end : map can_end words ≡
 words_that_end = refl
 
 -- the closing brackets
-marks_that_end : map can_end marks ≡
+marks_that_end : map (λ what. can_end (kind_of what)) marks ≡
     false ∷ true ∷ false ∷ true ∷ false ∷ true ∷ false ∷ false
     ∷ false ∷ false ∷ false ∷ false ∷ false ∷ false ∷ false ∷ false
     ∷ false ∷ false ∷ false ∷ false ∷ false ∷ false ∷ false ∷ false ∷ false ∷ false ∷ []
 marks_that_end = refl
 
 -- and, by, div, do, else, end, is, isnt, of, or, rem, then and to
-words_that_continue : map can_continue words ≡
+words_that_continue : map (λ what. can_continue (kind_of what)) words ≡
     false ∷ true ∷ false ∷ false ∷ true ∷ false ∷ false ∷ true ∷ true
     ∷ true ∷ true ∷ false ∷ false ∷ false ∷ false ∷ true ∷ true ∷ false
     ∷ false ∷ false ∷ true ∷ true ∷ false ∷ false ∷ false ∷ true ∷ false
@@ -55,7 +56,7 @@ words_that_continue : map can_continue words ≡
 words_that_continue = refl
 
 -- all but ( { ~ and @
-marks_that_continue : map can_continue marks ≡
+marks_that_continue : map (λ what. can_continue (kind_of what)) marks ≡
     false ∷ true ∷ true ∷ true ∷ false ∷ true ∷ true ∷ true
     ∷ true ∷ true ∷ true ∷ true ∷ false ∷ true ∷ true ∷ true
     ∷ true ∷ true ∷ true ∷ true ∷ true ∷ true ∷ true ∷ false ∷ true ∷ true ∷ []

@@ -12,7 +12,7 @@ use Rattle.ps_symbols.specs.declared.kind.TheConstants.{WORDS, MARKS}
 use Rattle.ps_symbols.specs.declared.symbol.Symbol.{Symbol}
 use Rattle.ps_symbols.specs.Kinds.{kind_of}
 use Rattle.ps_symbols.specs.Symbols.{breaks, semicolon_behind, symbol, between, symbols_behind}
-use Rattle.ps_symbols.specs.Soundness.{IsSound}
+use Rattle.ps_symbols.specs.inside.Soundness.{IsSound}
 
 -- there are no more tokens than bytes
 pub tokens_fit : (text : List ℕ) (at : ℕ) (tokens : List Token) → All (IsToken text) tokens → IsInOrder at tokens → at ≤ length text → at + length tokens ≤ length text

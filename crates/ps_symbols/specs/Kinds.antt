@@ -1,6 +1,5 @@
 -- What a token is to the grammar.
-use Rattle.std.specs.Prelude.{ℕ, ◌==◌, Bool, true, false, Option, Some, None, slice_get, unwrap_or, is_some}
-use Rattle.std.specs.List.{list_any}
+use Rattle.std.specs.Prelude.{Bool, true, false, Option, Some, None, slice_get, unwrap_or, is_some}
 use Rattle.ps_base.specs.declared.operator.Operator.TheVariants.{Add, Sub, Mul}
 use Rattle.ps_base.specs.declared.operator.Operator.TheVariants as arith
 use Rattle.ps_base.specs.declared.operator.Relation.TheVariants as order
@@ -22,7 +21,6 @@ use Rattle.ps_symbols.specs.declared.kind.Start.TheVariants as start
 use Rattle.ps_symbols.specs.declared.kind.TypeStart.{TypeStart}
 use Rattle.ps_symbols.specs.declared.kind.TypeStart.TheVariants as typed
 use Rattle.ps_symbols.specs.declared.kind.TheConstants.{WORDS, MARKS}
-use Rattle.ps_symbols.specs.declared.newline.TheConstants.{ENDING_WORDS, ENDING_MARKS, CONTINUING_WORDS, CONTINUING_MARKS}
 
 -- the kind of a token: a word's and a mark's stands in its place
 abbrev pub kind_of : TokenKind → Kind
@@ -31,21 +29,6 @@ kind_of scanned.Int = kind.Int
 kind_of scanned.Text = kind.Text
 kind_of (Word place) = unwrap_or (slice_get WORDS place) kind.Stray
 kind_of (Mark place) = unwrap_or (slice_get MARKS place) kind.Stray
-
--- the newline rule's two sets of tokens
-abbrev pub can_end : TokenKind → Bool
-can_end scanned.Name = true
-can_end scanned.Int = true
-can_end scanned.Text = true
-can_end (Word place) = list_any (λ ending. ending == place) ENDING_WORDS
-can_end (Mark place) = list_any (λ ending. ending == place) ENDING_MARKS
-
-abbrev pub can_continue : TokenKind → Bool
-can_continue scanned.Name = false
-can_continue scanned.Int = false
-can_continue scanned.Text = false
-can_continue (Word place) = list_any (λ going_on. going_on == place) CONTINUING_WORDS
-can_continue (Mark place) = list_any (λ going_on. going_on == place) CONTINUING_MARKS
 
 -- the operators of each level
 abbrev pub operation_of : Level → Kind → Option Operation

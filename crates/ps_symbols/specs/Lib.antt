@@ -1,3 +1,4 @@
 pub mod Kinds
-pub mod Soundness
+pub mod Newline
 pub mod Symbols
+pub mod inside

@@ -4,12 +4,13 @@ use Rattle.ps_scan.specs.declared.token.Token.{Token}
 use Rattle.ps_scan.specs.declared.token.TokenKind.TheVariants.{Mark}
 use Rattle.ps_scan.specs.declared.mark.TheConstants.{SEMICOLON}
 use Rattle.ps_symbols.specs.declared.symbol.Symbol.{Symbol}
-use Rattle.ps_symbols.specs.Kinds.{kind_of, can_end, can_continue}
+use Rattle.ps_symbols.specs.Kinds.{kind_of}
+use Rattle.ps_symbols.specs.Newline.{can_end, can_continue}
 
 -- a `;` is read between two neighbouring tokens: a newline stands between them, the first can end
 -- a clause, and the second can't continue one
 abbrev pub breaks : Token → Token → Bool
-breaks first second = nat_lt first.line.0 second.line.0 && can_end first.what && not (can_continue second.what)
+breaks first second = nat_lt first.line.0 second.line.0 && can_end (kind_of first.what) && not (can_continue (kind_of second.what))
 
 -- the `;` behind a token, on its line
 abbrev pub semicolon_behind : Token → Token

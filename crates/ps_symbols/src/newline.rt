@@ -1,81 +1,36 @@
 //! Which tokens can end a clause and which can continue one, for the newline rule.
 
 ghost use Rattle.std.specs.Prelude.{◌≡◌};
-ghost use Rattle.ps_symbols.specs.Kinds.{can_end, can_continue};
+ghost use Rattle.ps_symbols.specs.Newline.{can_end, can_continue};
 
-use ps_scan::{TokenKind, mark, word};
+use crate::kind::Kind;
 
-/// The words that can end a clause, by their places.
-pub const ENDING_WORDS: [u8; 5] = [word::TRUE, word::FALSE, word::NIL, word::ABORT, word::END];
-
-/// The marks that can end a clause, by their places.
-pub const ENDING_MARKS: [u8; 3] = [mark::CLOSE_ROUND, mark::CLOSE_SQUARE, mark::CLOSE_CURLY];
-
-/// The words that can continue a clause, by their places.
-pub const CONTINUING_WORDS: [u8; 13] = [
-    word::AND,
-    word::OR,
-    word::DIV,
-    word::REM,
-    word::IS,
-    word::ISNT,
-    word::THEN,
-    word::ELSE,
-    word::DO,
-    word::OF,
-    word::TO,
-    word::BY,
-    word::END,
-];
-
-/// The marks that can continue a clause, by their places.
-pub const CONTINUING_MARKS: [u8; 22] = [
-    mark::CLOSE_ROUND,
-    mark::CLOSE_SQUARE,
-    mark::CLOSE_CURLY,
-    mark::OPEN_SQUARE,
-    mark::COMMA,
-    mark::SEMICOLON,
-    mark::COLON,
-    mark::DOUBLE_COLON,
-    mark::BECOMES,
-    mark::EQUALS,
-    mark::NOT_EQUALS,
-    mark::LESS,
-    mark::LESS_OR_EQUAL,
-    mark::GREATER,
-    mark::GREATER_OR_EQUAL,
-    mark::PLUS,
-    mark::MINUS,
-    mark::CONCATENATE,
-    mark::TIMES,
-    mark::ARROW,
-    mark::END,
-    mark::BAR,
-];
-
-/// Whether a token can end a clause, for the newline rule of `docs/language.md`.
-pub fn can_end(what: TokenKind) -> bool
-    ensures { result ≡ can_end what }
+/// Whether a token of the kind can end a clause, for the newline rule of `docs/language.md`.
+pub fn can_end(kind: Kind) -> bool
+    ensures { result ≡ can_end kind }
 {
-    match what {
-        TokenKind::Name => true,
-        TokenKind::Int => true,
-        TokenKind::Text => true,
-        TokenKind::Word(place) => ENDING_WORDS.contains(&place),
-        TokenKind::Mark(place) => ENDING_MARKS.contains(&place),
+    match kind {
+        Kind::Name | Kind::Int | Kind::Text => true,
+        Kind::True | Kind::False | Kind::Nil | Kind::Abort => true,
+        Kind::CloseRound | Kind::CloseSquare | Kind::CloseCurly | Kind::End => true,
+        _ => false,
     }
 }
 
-/// Whether a token can continue a clause, for the newline rule of `docs/language.md`.
-pub fn can_continue(what: TokenKind) -> bool
-    ensures { result ≡ can_continue what }
+/// Whether a token of the kind can continue a clause, for the newline rule of `docs/language.md`.
+pub fn can_continue(kind: Kind) -> bool
+    ensures { result ≡ can_continue kind }
 {
-    match what {
-        TokenKind::Name => false,
-        TokenKind::Int => false,
-        TokenKind::Text => false,
-        TokenKind::Word(place) => CONTINUING_WORDS.contains(&place),
-        TokenKind::Mark(place) => CONTINUING_MARKS.contains(&place),
+    match kind {
+        Kind::CloseRound | Kind::CloseSquare | Kind::CloseCurly | Kind::OpenSquare => true,
+        Kind::Comma | Kind::Semicolon | Kind::Colon | Kind::DoubleColon => true,
+        Kind::Becomes | Kind::Equals | Kind::NotEquals => true,
+        Kind::Less | Kind::LessEqual | Kind::Greater | Kind::GreaterEqual => true,
+        Kind::Plus | Kind::Minus | Kind::Concatenate | Kind::Times => true,
+        Kind::Arrow | Kind::Question | Kind::Bar => true,
+        Kind::And | Kind::Or | Kind::Div | Kind::Rem | Kind::Is | Kind::Isnt => true,
+        Kind::Then | Kind::Else | Kind::Do | Kind::Of | Kind::To | Kind::By => true,
+        Kind::End => true,
+        _ => false,
     }
 }

@@ -55,7 +55,9 @@ fn push_read(
 fn breaks(first: Token, second: Token) -> bool
     ensures { result ≡ breaks first second }
 {
-    first.line.0 < second.line.0 && can_end(first.what) && !can_continue(second.what)
+    first.line.0 < second.line.0
+        && can_end(kind_of(first.what))
+        && !can_continue(kind_of(second.what))
 }
 
 fn semicolon_behind(token: Token) -> Token

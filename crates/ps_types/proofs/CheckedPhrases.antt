@@ -6,7 +6,7 @@ use Rattle.ps_tree.specs.declared.rough.RoughItem.{RoughItem}
 use Rattle.ps_tree.specs.Phrase.{more, more_items, phrase_of, item_of}
 use Rattle.ps_tree.specs.PhraseLists.{phrases_in, items_in}
 use Rattle.ps_types.specs.Checking.{last_line}
-use Rattle.ps_types.specs.PhraseWeights.{weight, weight_all, weight_item, weight_written}
+use Rattle.ps_types.specs.inside.PhraseWeights.{weight, weight_all, weight_item, weight_written}
 
 -- the items from one place on
 pub phrases_from : (items : List Rough) (i : ℕ) (d : Rough) → i < length items → phrases_in (drop i items) ≡ more (phrase_of (get_or items i d)) (phrases_in (drop (suc i) items))

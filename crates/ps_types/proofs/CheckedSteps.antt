@@ -18,8 +18,8 @@ use Rattle.ps_types.specs.declared.link.Link.{Link}
 use Rattle.ps_types.specs.Names.{Names, no_names, behind}
 use Rattle.ps_types.specs.Checking.{Outcome, Gives, Refuses, ◌>>=◌, passes, wants, is_same, check, check_all, line_of, together, end_line, check_built, check_program, verdict_of, Typed, Fails}
 use Rattle.ps_types.specs.Built.{first_unbuilt}
-use Rattle.ps_types.specs.PhraseWeights.{weight, weight_links}
-use Rattle.ps_types.specs.Checks.{IsFault, IsClause, IsOfType, IsMade, linked, check_link, check_links}
+use Rattle.ps_types.specs.inside.PhraseWeights.{weight, weight_links}
+use Rattle.ps_types.specs.inside.Checks.{IsFault, IsClause, IsOfType, IsMade, linked, check_link, check_links}
 use Rattle.ps_types.specs.declared.link.Joint.{Joint}
 
 -- what follows from what an outcome gives
@@ -232,16 +232,8 @@ pub program_unbuilt : (p : Phrase) (line : Line) → first_unbuilt p ≡ Some li
 unfolding check_program check_built
 program_unbuilt p line is = ap (λ (o : Option Line). check_built o p) is
 
--- a sequence with its trees, and a write with those of its items
-pub block_given : (o : Outcome Nodes) (trees : Nodes) (ty : BasicType) (start last after : Names) (tree : Node) → o ≡ Gives trees ty last → tree ≡ node.Block None trees → after ≡ behind start last → (o >>= λ trees ty last. Gives (node.Block None trees) ty (behind start last)) ≡ Gives tree ty after
-block_given o trees ty start last after tree is tree_is after_is =
-    let whole : (o >>= λ trees ty last. Gives (node.Block None trees) ty (behind start last)) ≡ Gives (node.Block None trees) ty (behind start last) = given o trees ty last _ is in
-    let named : Gives (node.Block None trees) ty (behind start last) ≡ Gives tree ty (behind start last) = ap (λ t. Gives t ty (behind start last)) (sym tree_is) in
-    let left : Gives tree ty (behind start last) ≡ Gives tree ty after = ap (λ (n : Names). Gives tree ty n) (sym after_is) in
-    whole ∙ named ∙ left
-
-pub together_given : (o : Outcome Nodes) (trees : Nodes) (ty : BasicType) (last : Names) (tree : Node) → o ≡ Gives trees ty last → tree ≡ together trees → (o >>= λ trees ty names. Gives (together trees) Void names) ≡ Gives tree Void last
-together_given o trees ty last tree is tree_is =
-    let whole : (o >>= λ trees ty names. Gives (together trees) Void names) ≡ Gives (together trees) Void last = given o trees ty last _ is in
-    let named : Gives (together trees) Void last ≡ Gives tree Void last = ap (λ t. Gives t Void last) (sym tree_is) in
-    whole ∙ named
+-- a sequence with its trees
+pub block_given : (o : Outcome Nodes) (trees : Nodes) (ty : BasicType) (start last after : Names) → o ≡ Gives trees ty last → after ≡ behind start last
+    → (o >>= λ trees ty last. Gives (node.Block None trees) ty (behind start last)) ≡ Gives (node.Block None trees) ty after
+block_given o trees ty start last after is after_is =
+    given o trees ty last _ is ∙ ap (λ (n : Names). Gives (node.Block None trees) ty n) (sym after_is)

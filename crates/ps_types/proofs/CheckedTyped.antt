@@ -15,7 +15,7 @@ use Rattle.ps_meaning.specs.Typed.{IsWord, IsTyped, AreTyped}
 use Rattle.ps_meaning.specs.Typed as typed
 use Rattle.ps_types.specs.declared.declaration.Local.{Local}
 use Rattle.ps_types.specs.Names.{Names, no_names, is_declared, meant, inside, declare}
-use Rattle.ps_types.specs.Checking.{Outcome, Gives, Refuses, ◌>>=◌, passes, check, check_form, check_all, check_written, check_item, is_same, is_word, is_comparable, is_writable, named, introduced, assigned, written, target, variable_in, together, line_of, check_built, check_program, verdict_of, Verdict, Typed, end_line}
+use Rattle.ps_types.specs.Checking.{Outcome, Gives, Refuses, ◌>>=◌, passes, check, check_form, check_all, check_written, check_item, is_same, is_word, is_comparable, is_writable, named, introduced, assigned, written, target, variable_in, together, line_of, check_built, check_program, verdict_of, Typed, end_line}
 use Rattle.ps_types.specs.Built.{first_unbuilt}
 
 -- a choice, by its test

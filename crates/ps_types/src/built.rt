@@ -2,8 +2,8 @@ ghost use Rattle.std.specs.Prelude.{◌≡◌, ◌+◌, ◌≤◌};
 ghost use Rattle.ps_tree.specs.Phrase.{phrase_of, item_of};
 ghost use Rattle.ps_tree.specs.PhraseLists.{phrases_in, items_in};
 ghost use Rattle.ps_types.specs.Built.{first_unbuilt as first_unbuilt_of, unbuilt_among, unbuilt_written, unbuilt_item as unbuilt_item_of, or_else as or_else_of};
-ghost use Rattle.ps_types.specs.Parts.{unbuilt_parts, weight_parts};
-ghost use Rattle.ps_types.specs.PhraseWeights.{weight};
+ghost use Rattle.ps_types.specs.inside.Parts.{unbuilt_parts, weight_parts};
+ghost use Rattle.ps_types.specs.inside.PhraseWeights.{weight};
 
 use ps_base::line::Line;
 use ps_tree::rough::{Rough, RoughForm, RoughItem};
@@ -76,7 +76,7 @@ fn unbuilt_item(item: &RoughItem) -> Option<Line>
         Some(_) => Some(item.line),
         None => None,
     };
-    match &item.e.form {
+    match &*item.e.form {
         RoughForm::Text(_) => width,
         _ => or_else(first_unbuilt(&item.e), width),
     }
@@ -105,7 +105,7 @@ fn parts_of(rough: &Rough) -> Parts
     ensures first { unbuilt_parts rough.now.line result ≡ first_unbuilt_of (phrase_of rough.now) }
     ensures lighter { weight_parts result + 1 ≤ weight (phrase_of rough.now) }
 {
-    match &rough.form {
+    match &*rough.form {
         RoughForm::Sequence { items } => Parts::Clauses(items.as_slice()),
         RoughForm::Write { items } => Parts::Items(items.as_slice()),
         RoughForm::Let { e, .. } => Parts::One(e),

@@ -7,8 +7,8 @@ ghost use Rattle.ps_tree.specs.PhraseLists.{phrases_in, items_in};
 ghost use Rattle.ps_meaning.specs.Typed.{IsTyped};
 ghost use Rattle.ps_types.specs.Names.{Names, inside, meant};
 ghost use Rattle.ps_types.specs.Checking.{Gives, Typed, Fails, check as check_of, check_form, check_all, check_written, check_item as item_checked, check_program, wants, is_same as is_same_of, is_word as is_word_of, is_comparable as is_comparable_of, is_writable as is_writable_of, variable_in as variable_in_of, introduced, assigned, written, target as target_of, end_line as end_line_of, named};
-ghost use Rattle.ps_types.specs.Checks.{IsClause, IsOfType, IsFault, check_prefixed as prefixed_of, check_guarded as guarded_of, check_link as link_of, check_links as links_of, check_unlined};
-ghost use Rattle.ps_types.specs.PhraseWeights.{weight, weight_links};
+ghost use Rattle.ps_types.specs.inside.Checks.{IsClause, IsOfType, IsFault, check_prefixed as prefixed_of, check_guarded as guarded_of, check_link as link_of, check_links as links_of, check_unlined};
+ghost use Rattle.ps_types.specs.inside.PhraseWeights.{weight, weight_links};
 
 use crate::built::first_unbuilt;
 use crate::check_fault::CheckFault;
@@ -20,7 +20,7 @@ use ps_base::basic_type::BasicType;
 use ps_base::line::Line;
 use ps_base::operator::Relation;
 use ps_base::place::Place;
-use ps_base::tree::Tree;
+use ps_base::tree::{Tree, TreeForm};
 use ps_tree::rough::{Named, Rough, RoughForm, RoughItem};
 use std::alloc::Global;
 
@@ -56,7 +56,7 @@ pub fn check(alloc: Global, rough: &Rough) -> Result<Checked, CheckFault>
 fn check_clause(alloc: Global, scope: &mut Scope, rough: &Rough) -> Result<Clause, CheckFault>
     ensures { IsClause (check_of scope.old (phrase_of rough.now)) result scope.new }
 {
-    match &rough.form {
+    match &*rough.form {
         RoughForm::Sequence { items } => {
             check_sequence(alloc, scope, rough.line, items.as_slice())
         }
@@ -80,16 +80,10 @@ fn check_clause(alloc: Global, scope: &mut Scope, rough: &Rough) -> Result<Claus
         RoughForm::Not { e } => check_prefixed(alloc, scope, Prefix::Not, e),
         RoughForm::Plus { e } => check_prefixed(alloc, scope, Prefix::Plus, e),
         RoughForm::Neg { e } => check_prefixed(alloc, scope, Prefix::Neg(rough.line), e),
-        RoughForm::Name(name) => check_name(scope, rough.line, name.as_slice()),
+        RoughForm::Name(name) => check_name(alloc, scope, rough.line, name.as_slice()),
         RoughForm::Text(bytes) => clause::text(alloc, bytes.as_slice()),
-        RoughForm::Int(z) => Ok(Clause {
-            tree: Tree::Int(*z),
-            ty: BasicType::Int,
-        }),
-        RoughForm::Flag(b) => Ok(Clause {
-            tree: Tree::Flag(*b),
-            ty: BasicType::Bool,
-        }),
+        RoughForm::Int(z) => Clause::new(alloc, TreeForm::Int(*z), BasicType::Int),
+        RoughForm::Flag(b) => Clause::new(alloc, TreeForm::Flag(*b), BasicType::Bool),
         RoughForm::Structure { .. }
         | RoughForm::Repeat { .. }
         | RoughForm::For { .. }
@@ -271,10 +265,7 @@ fn check_sequence(
         line = item.line;
     }
     scope.leave(block);
-    Ok(Clause {
-        tree: clause::block(trees),
-        ty: before,
-    })
+    clause::sequence(alloc, trees, before)
 }
 
 #[cycle(clause)]
@@ -286,10 +277,7 @@ fn check_write(alloc: Global, scope: &mut Scope, items: &[RoughItem]) -> Result<
         let tree = check_item(alloc, scope, item)?;
         trees.push(tree)?;
     }
-    Ok(Clause {
-        tree: clause::one_or_block(trees),
-        ty: BasicType::Void,
-    })
+    clause::one_or_sequence(alloc, trees)
 }
 
 // An item of a write.
@@ -314,7 +302,7 @@ fn gather<'a>(links: &mut Vec<Link<'a>>, left: &'a Rough) -> Result<&'a Rough, C
 {
     let mut rest = left;
     loop {
-        match &rest.form {
+        match &*rest.form {
             RoughForm::Or { a, b } => {
                 links.push(Link::new(Joint::Or, a, b))?;
                 rest = a;
@@ -400,23 +388,20 @@ fn is_writable(ty: BasicType, tree: &Tree) -> bool
     ensures { result ≡ is_writable_of ty (node_of tree.now) }
 {
     match ty {
-        BasicType::Str => matches!(tree, Tree::Text(_)),
+        BasicType::Str => matches!(*tree.form, TreeForm::Text(_)),
         _ => is_word(ty),
     }
 }
 
 // A name where it is used.
-fn check_name(scope: &Scope, line: Line, name: &[u8]) -> Result<Clause, CheckFault>
+fn check_name(alloc: Global, scope: &Scope, line: Line, name: &[u8]) -> Result<Clause, CheckFault>
     ensures { IsClause (named line (meant scope.now name.now) scope.now) result scope.now }
 {
     match scope.find(name) {
-        Some(Local { slot, ty, .. }) => Ok(Clause {
-            tree: Tree::Name {
-                place: Place::Plain { slot },
-                ty,
-            },
-            ty,
-        }),
+        Some(Local { slot, ty, .. }) => {
+            let place = Place::Plain { slot };
+            Clause::new(alloc, TreeForm::Name { place, ty }, ty)
+        }
         None => Err(CheckFault::Unknown { line }),
     }
 }
@@ -442,7 +427,7 @@ fn introduce(
 fn target(scope: &Scope, x: &Rough) -> Option<Local>
     ensures { result ≡ target_of scope.now (phrase_of x.now) }
 {
-    match &x.form {
+    match &*x.form {
         RoughForm::Name(name) => variable_in(scope.find(name.as_slice())),
         _ => None,
     }
@@ -488,7 +473,7 @@ fn write_item(alloc: Global, line: Line, item: Clause) -> Result<Tree, CheckFaul
 fn end_line(program: &Rough) -> Line
     ensures { result ≡ end_line_of (phrase_of program.now) }
 {
-    match &program.form {
+    match &*program.form {
         RoughForm::Sequence { items } => match items.as_slice() {
             [.., last] => last.line,
             [] => program.line,

@@ -1,8 +1,8 @@
 ghost use Rattle.std.specs.Prelude.{◌≡◌, false, None, MatchResult};
-ghost use Rattle.ps_base.specs.Node.{node_of, nodes_in};
+ghost use Rattle.ps_base.specs.Node.{node_of, node_of_form, nodes_in};
 ghost use Rattle.ps_base.specs.Node as node;
 ghost use Rattle.ps_types.specs.Checking.{together};
-ghost use Rattle.ps_types.specs.Checks.{IsMade, joint_node, joint_ty, prefix_node, prefix_ty, guard_node};
+ghost use Rattle.ps_types.specs.inside.Checks.{IsMade, joint_node, joint_ty, prefix_node, prefix_ty, guard_node};
 
 use crate::check_fault::CheckFault;
 use crate::link::Joint;
@@ -12,7 +12,7 @@ use ps_base::line::Line;
 use ps_base::list::List;
 use ps_base::operator::Relation;
 use ps_base::place::Place;
-use ps_base::tree::Tree;
+use ps_base::tree::{Tree, TreeForm};
 use std::alloc::Global;
 
 /// A clause that was checked: its typed tree, and its type.
@@ -20,6 +20,16 @@ use std::alloc::Global;
 pub struct Clause {
     pub tree: Tree,
     pub ty: BasicType,
+}
+
+impl Clause {
+    /// The clause of this form and this type. The only fault is `Memory`.
+    pub fn new(alloc: Global, form: TreeForm, ty: BasicType) -> Result<Clause, CheckFault>
+        ensures { IsMade (node_of_form form) ty result }
+    {
+        let tree = Tree::new(alloc, form)?;
+        Ok(Clause { tree, ty })
+    }
 }
 
 /// An operator with one operand.
@@ -56,37 +66,21 @@ pub enum Guard {
 pub fn prefixed(alloc: Global, prefix: Prefix, e: Tree) -> Result<Clause, CheckFault>
     ensures { IsMade (prefix_node prefix (node_of e)) (prefix_ty prefix) result }
 {
-    let e = Box::new(alloc, e)?;
-    Ok(match prefix {
-        Prefix::Not => Clause {
-            tree: Tree::Not(e),
-            ty: BasicType::Bool,
-        },
-        Prefix::Plus => Clause {
-            tree: Tree::Plus(e),
-            ty: BasicType::Int,
-        },
-        Prefix::Neg(line) => Clause {
-            tree: Tree::Neg { e, line },
-            ty: BasicType::Int,
-        },
-    })
+    match prefix {
+        Prefix::Not => Clause::new(alloc, TreeForm::Not(e), BasicType::Bool),
+        Prefix::Plus => Clause::new(alloc, TreeForm::Plus(e), BasicType::Int),
+        Prefix::Neg(line) => Clause::new(alloc, TreeForm::Neg { e, line }, BasicType::Int),
+    }
 }
 
 /// A choice without `else`, or a loop.
 pub fn guarded(alloc: Global, guard: Guard, c: Tree, a: Tree) -> Result<Clause, CheckFault>
     ensures { IsMade (guard_node guard (node_of c) (node_of a)) BasicType.Void result }
 {
-    let c = Box::new(alloc, c)?;
-    let a = Box::new(alloc, a)?;
-    let tree = match guard {
-        Guard::IfDo => Tree::IfDo { c, a },
-        Guard::While => Tree::While { c, a },
-    };
-    Ok(Clause {
-        tree,
-        ty: BasicType::Void,
-    })
+    match guard {
+        Guard::IfDo => Clause::new(alloc, TreeForm::IfDo { c, a }, BasicType::Void),
+        Guard::While => Clause::new(alloc, TreeForm::While { c, a }, BasicType::Void),
+    }
 }
 
 /// A choice between two clauses of one type.
@@ -94,35 +88,20 @@ pub fn if_else(alloc: Global, c: Tree, a: Clause, b: Tree) -> Result<Clause, Che
     ensures { IsMade (node.IfElse (node_of c) (node_of a.tree) (node_of b)) a.ty result }
 {
     let Clause { tree, ty } = a;
-    let c = Box::new(alloc, c)?;
-    let a = Box::new(alloc, tree)?;
-    let b = Box::new(alloc, b)?;
-    Ok(Clause {
-        tree: Tree::IfElse { c, a, b },
-        ty,
-    })
+    Clause::new(alloc, TreeForm::IfElse { c, a: tree, b }, ty)
 }
 
 /// The clause of an operator with two operands.
 pub fn joined(alloc: Global, joint: Joint, a: Tree, b: Tree) -> Result<Clause, CheckFault>
     ensures { IsMade (joint_node joint (node_of a) (node_of b)) (joint_ty joint) result }
 {
-    let a = Box::new(alloc, a)?;
-    let b = Box::new(alloc, b)?;
-    Ok(match joint {
-        Joint::Or => Clause {
-            tree: Tree::Or { a, b },
-            ty: BasicType::Bool,
-        },
-        Joint::And => Clause {
-            tree: Tree::And { a, b },
-            ty: BasicType::Bool,
-        },
-        Joint::Arith(op, line) => Clause {
-            tree: Tree::Arith { op, a, b, line },
-            ty: BasicType::Int,
-        },
-    })
+    match joint {
+        Joint::Or => Clause::new(alloc, TreeForm::Or { a, b }, BasicType::Bool),
+        Joint::And => Clause::new(alloc, TreeForm::And { a, b }, BasicType::Bool),
+        Joint::Arith(op, line) => {
+            Clause::new(alloc, TreeForm::Arith { op, a, b, line }, BasicType::Int)
+        }
+    }
 }
 
 /// A comparison of two operands of one type.
@@ -130,12 +109,8 @@ pub fn compared(alloc: Global, op: Relation, a: Clause, b: Tree) -> Result<Claus
     ensures { IsMade (node.Compare op a.ty (node_of a.tree) (node_of b)) BasicType.Bool result }
 {
     let Clause { tree, ty } = a;
-    let a = Box::new(alloc, tree)?;
-    let b = Box::new(alloc, b)?;
-    Ok(Clause {
-        tree: Tree::Compare { op, ty, a, b },
-        ty: BasicType::Bool,
-    })
+    let form = TreeForm::Compare { op, ty, a: tree, b };
+    Clause::new(alloc, form, BasicType::Bool)
 }
 
 /// The clause that gives a declared name its initial value.
@@ -143,30 +118,16 @@ pub fn let_name(alloc: Global, slot: u32, e: Clause) -> Result<Clause, CheckFaul
     ensures { IsMade (node.Let (Place.Plain slot) e.ty (node_of e.tree)) BasicType.Void result }
 {
     let Clause { tree, ty } = e;
-    let e = Box::new(alloc, tree)?;
-    Ok(Clause {
-        tree: Tree::Let {
-            place: Place::Plain { slot },
-            ty,
-            e,
-        },
-        ty: BasicType::Void,
-    })
+    let place = Place::Plain { slot };
+    Clause::new(alloc, TreeForm::Let { place, ty, e: tree }, BasicType::Void)
 }
 
 /// The assignment to a variable.
 pub fn set_name(alloc: Global, slot: u32, ty: BasicType, e: Tree) -> Result<Clause, CheckFault>
     ensures { IsMade (node.SetName (Place.Plain slot) ty (node_of e)) BasicType.Void result }
 {
-    let e = Box::new(alloc, e)?;
-    Ok(Clause {
-        tree: Tree::SetName {
-            place: Place::Plain { slot },
-            ty,
-            e,
-        },
-        ty: BasicType::Void,
-    })
+    let place = Place::Plain { slot };
+    Clause::new(alloc, TreeForm::SetName { place, ty, e }, BasicType::Void)
 }
 
 /// A string that stands in the text.
@@ -174,10 +135,7 @@ pub fn text(alloc: Global, bytes: &[u8]) -> Result<Clause, CheckFault>
     ensures { IsMade (node.Text bytes.now) BasicType.Str result }
 {
     let bytes = Bytes::new(Vec::from_slice(alloc, bytes)?);
-    Ok(Clause {
-        tree: Tree::Text(bytes),
-        ty: BasicType::Str,
-    })
+    Clause::new(alloc, TreeForm::Text(bytes), BasicType::Str)
 }
 
 /// The write of one item.
@@ -185,36 +143,37 @@ pub fn write_item(alloc: Global, line: Line, item: Clause) -> Result<Tree, Check
     ensures { MatchResult result (λ tree. node_of tree ≡ node.Write (node_of item.tree) node.Empty false item.ty line) (λ fault. fault ≡ CheckFault.Memory) }
 {
     let Clause { tree, ty } = item;
-    let e = Box::new(alloc, tree)?;
-    let w = Box::new(alloc, Tree::Empty)?;
-    Ok(Tree::Write {
-        e,
+    let w = Tree::new(alloc, TreeForm::Empty)?;
+    let form = TreeForm::Write {
+        e: tree,
         w,
         wide: false,
         ty,
         line,
-    })
+    };
+    Ok(Tree::new(alloc, form)?)
 }
 
-/// A sequence that keeps no names.
-pub fn block(items: Vec<Tree>) -> Tree
-    ensures { node_of result ≡ node.Block None (nodes_in items.items) }
+/// A sequence that keeps no names, whose value has this type.
+pub fn sequence(alloc: Global, items: Vec<Tree>, ty: BasicType) -> Result<Clause, CheckFault>
+    ensures { IsMade (node.Block None (nodes_in items.items)) ty result }
 {
-    Tree::Block {
-        scope: None,
-        items: List::new(items),
-    }
+    let items = List::new(items);
+    Clause::new(alloc, TreeForm::Block { scope: None, items }, ty)
 }
 
-/// One tree by itself, or several as a sequence.
-pub fn one_or_block(mut items: Vec<Tree>) -> Tree
-    ensures { node_of result ≡ together (nodes_in items.items) }
+/// One write by itself, or several as a sequence.
+pub fn one_or_sequence(alloc: Global, mut items: Vec<Tree>) -> Result<Clause, CheckFault>
+    ensures { IsMade (together (nodes_in items.items)) BasicType.Void result }
 {
     if items.len() != 1 {
-        return block(items);
+        return sequence(alloc, items, BasicType::Void);
     }
     match items.pop() {
-        Some(only) => only,
-        None => Tree::Empty,
+        Some(tree) => Ok(Clause {
+            tree,
+            ty: BasicType::Void,
+        }),
+        None => unreachable!(),
     }
 }

@@ -1,5 +1,5 @@
 ghost use Rattle.std.specs.Prelude.{◌≡◌};
-ghost use Rattle.ps_types.specs.Checks.{joint_ty};
+ghost use Rattle.ps_types.specs.inside.Checks.{joint_ty};
 
 use ps_base::basic_type::BasicType;
 use ps_base::line::Line;

@@ -1,21 +1,9 @@
-//! The program `psalgol`: a run of a PS-algol text, from its words to its status.
+//! The program `psalgol`: the words of a process in, its status out.
 //!
-//! `command` is the whole of it; `docs/architecture.md` tells the way of a program through the crates.
+//! `ps_command` is the whole of it; `docs/architecture.md` tells the way of a program through the crates.
 #![tactic(auto)]
 
-mod command;
-mod compile;
-mod execute;
-mod laws;
-#[cfg(test)]
-mod memory_tests;
-mod report;
-mod source_fault;
-#[cfg(test)]
-mod tests;
-mod words;
-
-use crate::command::psalgol;
+use ps_command::psalgol;
 use ps_port::{DirShelf, FileHost};
 use std::alloc::AllocError;
 use std::env;
@@ -43,8 +31,8 @@ fn status(rt: &HostRuntime) -> u8 {
 
 fn run_words(rt: &HostRuntime, words: &[String]) -> Result<u8, AllocError> {
     let volume = words.get(1).map_or("", |word| word.as_str());
-    let host = FileHost::new(rt.alloc(), rt, volume, false)?;
-    let mut shelf = DirShelf::new(rt.alloc(), rt)?;
+    let host = FileHost::new(rt, rt.alloc(), volume, false)?;
+    let mut shelf = DirShelf::new(rt, rt.alloc())?;
     let (status, _) = psalgol(rt.alloc(), words, host, &mut shelf);
     Ok(status)
 }

@@ -4,16 +4,16 @@ use Rattle.ps_base.specs.Node.{Node, Nodes, more, node_of, node_of_form, nodes_i
 use Rattle.ps_base.specs.Node as node
 use Rattle.ps_machine.specs.declared.instruction.Instruction.TheVariants.{Again, Jump, JumpFalse, And, Or, Arith, Compare}
 use Rattle.ps_machine.specs.Code.{code_of, size}
-use Rattle.ps_machine.specs.Emission.{Emits, EmitsWith, EmitsBefore}
+use Rattle.ps_machine.specs.inside.Emission.{Emits, EmitsWith, EmitsBefore}
 use Rattle.ps_machine.proofs.Weights.{weight, weight_all}
-use Rattle.ps_machine.proofs.Generated.{LeadsAll, weight_at, nodes_from, leads_operand, leads_clause, leads_choices, leads_item, length_emitted, loop_emitted, leads_sequence, block_is, on_ok}
+use Rattle.ps_machine.proofs.Generated.{EmitsItemsUpTo, weight_at, nodes_from, emits_operand, emits_clause, emits_choices, emits_item, length_emitted, loop_emitted, emits_sequence, block_is, on_ok}
 use Rattle.ps_machine.proofs.generate.+emit.Goals as goal
 
 pub emit-loop-rest-preserved-in-IfDo : goal.emit-loop-rest-preserved-in-IfDo
 emit-loop-rest-preserved-in-IfDo t c =
     let is : node_of_form c.loop-rest.rest.now ≡ node.IfDo (node_of_form c.deref-rest-in-IfDo.result.now) (node_of c.in-IfDo.a) = ap node_of_form c.in-IfDo.is ∙ ap (λ v. node.IfDo (node_of_form v) (node_of c.in-IfDo.a)) (sym c.deref-rest-in-IfDo.ensures) in
     let put : EmitsBefore c.loop-rest.code.items (node_of c.in-IfDo.a) (JumpFalse (length c.loop-rest.code.items)) c.emit_jump_over.new.code.items = c.in_ok-emit_jump_over-in-IfDo.ensures in
-    (leads_clause _ _ _ _ _ _ (node_of c.in-IfDo.a) (JumpFalse (length c.loop-rest.code.items)) c.loop-rest.invariant.0 put (ap (λ n. code_of n (length c.loop-rest.code.items)) is), omega (arith, ap weight is))
+    (emits_clause _ _ _ _ _ _ (node_of c.in-IfDo.a) (JumpFalse (length c.loop-rest.code.items)) c.loop-rest.invariant.0 put (ap (λ n. code_of n (length c.loop-rest.code.items)) is), omega (arith, ap weight is))
 
 pub emit-loop-rest-preserved-in-IfElse : goal.emit-loop-rest-preserved-in-IfElse
 emit-loop-rest-preserved-in-IfElse t c =
@@ -26,7 +26,7 @@ emit-loop-rest-preserved-in-IfElse t c =
     let second : EmitsBefore c.emit_other.new.code.items a (JumpFalse ((length c.loop-rest.code.items) + size b)) c.emit_before.new.code.items =
     subst (λ n. EmitsBefore c.emit_other.new.code.items a (JumpFalse n) c.emit_before.new.code.items) at
     c.in_ok-emit_before-in-IfElse.ensures in
-    (leads_choices _ _ c.emit_other.new.code.items _ _ _ _ a b (JumpFalse ((length c.loop-rest.code.items) + size b)) jump c.loop-rest.invariant.0 first second (ap (λ n. code_of n (length c.loop-rest.code.items)) is), omega (arith, ap weight is))
+    (emits_choices _ _ c.emit_other.new.code.items _ _ _ _ a b (JumpFalse ((length c.loop-rest.code.items) + size b)) jump c.loop-rest.invariant.0 first second (ap (λ n. code_of n (length c.loop-rest.code.items)) is), omega (arith, ap weight is))
 
 pub emit-loop-rest-preserved-in-And : goal.emit-loop-rest-preserved-in-And
 emit-loop-rest-preserved-in-And t c =
@@ -36,7 +36,7 @@ emit-loop-rest-preserved-in-And t c =
     let put : EmitsBefore old (node_of c.in-And.b) (And (length c.loop-rest.code.items)) c.emit_before-in-And.new.code.items =
     subst (λ n. EmitsBefore old (node_of c.in-And.b) (And n) c.emit_before-in-And.new.code.items) at
     c.in_ok-emit_before-in-And.ensures in
-    (leads_clause _ _ _ _ _ _ (node_of c.in-And.b) (And (length c.loop-rest.code.items)) c.loop-rest.invariant.0 put (ap (λ n. code_of n (length c.loop-rest.code.items)) is), omega (arith, ap weight is))
+    (emits_clause _ _ _ _ _ _ (node_of c.in-And.b) (And (length c.loop-rest.code.items)) c.loop-rest.invariant.0 put (ap (λ n. code_of n (length c.loop-rest.code.items)) is), omega (arith, ap weight is))
 
 pub emit-loop-rest-preserved-in-Or : goal.emit-loop-rest-preserved-in-Or
 emit-loop-rest-preserved-in-Or t c =
@@ -46,19 +46,19 @@ emit-loop-rest-preserved-in-Or t c =
     let put : EmitsBefore old (node_of c.in-Or.b) (Or (length c.loop-rest.code.items)) c.emit_before-in-Or.new.code.items =
     subst (λ n. EmitsBefore old (node_of c.in-Or.b) (Or n) c.emit_before-in-Or.new.code.items) at
     c.in_ok-emit_before-in-Or.ensures in
-    (leads_clause _ _ _ _ _ _ (node_of c.in-Or.b) (Or (length c.loop-rest.code.items)) c.loop-rest.invariant.0 put (ap (λ n. code_of n (length c.loop-rest.code.items)) is), omega (arith, ap weight is))
+    (emits_clause _ _ _ _ _ _ (node_of c.in-Or.b) (Or (length c.loop-rest.code.items)) c.loop-rest.invariant.0 put (ap (λ n. code_of n (length c.loop-rest.code.items)) is), omega (arith, ap weight is))
 
 pub emit-loop-rest-preserved-in-Arith : goal.emit-loop-rest-preserved-in-Arith
 emit-loop-rest-preserved-in-Arith t c =
     let is : node_of_form c.loop-rest.rest.now ≡ node.Arith c.in-Arith.op (node_of_form c.deref-rest-in-Arith.result.now) (node_of c.in-Arith.b) c.in-Arith.line = ap node_of_form c.in-Arith.is ∙ ap (λ v. node.Arith c.in-Arith.op (node_of_form v) (node_of c.in-Arith.b) c.in-Arith.line) (sym c.deref-rest-in-Arith.ensures) in
     let put : EmitsWith c.loop-rest.code.items (node_of c.in-Arith.b) (Arith c.in-Arith.op c.in-Arith.line) c.emit_with.new.code.items = c.in_ok-emit_with-in-Arith.ensures in
-    (leads_operand _ _ _ _ _ _ (node_of c.in-Arith.b) (Arith c.in-Arith.op c.in-Arith.line) c.loop-rest.invariant.0 put (λ k. ap (λ n. code_of n k) is), omega (arith, ap weight is))
+    (emits_operand _ _ _ _ _ _ (node_of c.in-Arith.b) (Arith c.in-Arith.op c.in-Arith.line) c.loop-rest.invariant.0 put (λ k. ap (λ n. code_of n k) is), omega (arith, ap weight is))
 
 pub emit-loop-rest-preserved : goal.emit-loop-rest-preserved
 emit-loop-rest-preserved t c =
     let is : node_of_form c.loop-rest.rest.now ≡ node.Compare c.in-Compare.op c.in-Compare.ty (node_of_form c.deref-rest-in-Compare.result.now) (node_of c.in-Compare.b) = ap node_of_form c.in-Compare.is ∙ ap (λ v. node.Compare c.in-Compare.op c.in-Compare.ty (node_of_form v) (node_of c.in-Compare.b)) (sym c.deref-rest-in-Compare.ensures) in
     let put : EmitsWith c.loop-rest.code.items (node_of c.in-Compare.b) (Compare c.in-Compare.op) c.emit_with-in-Compare.new.code.items = c.in_ok-emit_with-in-Compare.ensures in
-    (leads_operand _ _ _ _ _ _ (node_of c.in-Compare.b) (Compare c.in-Compare.op) c.loop-rest.invariant.0 put (λ k. ap (λ n. code_of n k) is), omega (arith, ap weight is))
+    (emits_operand _ _ _ _ _ _ (node_of c.in-Compare.b) (Compare c.in-Compare.op) c.loop-rest.invariant.0 put (λ k. ap (λ n. code_of n k) is), omega (arith, ap weight is))
 
 pub emit_other-returns-clause-place : goal.emit_other-returns-clause-place
 emit_other-returns-clause-place t c =
@@ -81,7 +81,7 @@ emit_all-loop-i-preserved t c =
     let up : suc (c.loop-i.i - 1) ≡ c.loop-i.i = omega arith in
     let cut : nodes_in (drop (c.loop-i.i - 1) items) ≡ more (node_of c.index-items-i.result) (nodes_in (drop c.loop-i.i items)) =
     nodes_from items (c.loop-i.i - 1) c.index-items-i.result one ∙ ap (λ v. more (node_of v) (nodes_in (drop (suc (c.loop-i.i - 1)) items))) (sym c.index-items-i.is) ∙ ap (λ n. more (node_of c.index-items-i.result) (nodes_in (drop n items))) up in
-    (subst (λ ts. LeadsAll c.args.code.now.items (nodes_in items) c.emit.new.code.items ts) (sym cut) (leads_item _ _ _ _ _ _ c.loop-i.invariant.0 c.in_ok-emit.ensures), omega arith)
+    (subst (λ ts. EmitsItemsUpTo c.args.code.now.items (nodes_in items) c.emit.new.code.items ts) (sym cut) (emits_item _ _ _ _ _ _ c.loop-i.invariant.0 c.in_ok-emit.ensures), omega arith)
 
 pub emit_all-emit-requires : goal.emit_all-emit-requires
 emit_all-emit-requires t c =
@@ -100,6 +100,6 @@ emit-emit_all-requires t c =
 pub emit-returns-in-Block : goal.emit-returns-in-Block
 emit-returns-in-Block t c =
     let is = block_is c.in-Block.scope c.in-Block.items c.in-Block.is c.as_slice.ensures in
-    let led = leads_sequence _ _ _ _ _ (nodes_in c.as_slice.result.now) c.loop-rest.invariant.0 (λ k. ap (λ v. code_of v k) is) in
+    let led = emits_sequence _ _ _ _ _ (nodes_in c.as_slice.result.now) c.loop-rest.invariant.0 (λ k. ap (λ v. code_of v k) is) in
     subst (λ v. OnOk c.emit_all.result (Emits c.args.code.now.items (node_of_form v) c.emit_all.new.code.items)) c.deref-rest.ensures
     (on_ok c.emit_all.result _ _ led c.emit_all.ensures)

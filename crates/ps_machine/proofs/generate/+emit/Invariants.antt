@@ -2,19 +2,19 @@
 use Rattle.std.proofs.Common.{◌≤◌, ◌+◌, ◌*◌, length, drop}
 use Rattle.ps_base.specs.Node.{node_of, node_of_form, nodes_in}
 use Rattle.ps_machine.proofs.Weights.{weight, weight_all}
-use Rattle.ps_machine.proofs.Generated.{Leads, LeadsAll}
+use Rattle.ps_machine.proofs.Generated.{EmitsUpTo, EmitsItemsUpTo}
 use Rattle.ps_machine.proofs.generate.+emit.Given as goal
 
 abbrev pub invariant-emit-loop-rest : goal.invariant-emit-loop-rest
 invariant-emit-loop-rest l =
-    Leads l.initial.code.items (node_of_form l.initial.rest) l.code.items (node_of_form l.rest)
+    EmitsUpTo l.initial.code.items (node_of_form l.initial.rest) l.code.items (node_of_form l.rest)
     × (weight (node_of_form l.rest) ≤ weight (node_of_form l.initial.rest))
 
 abbrev pub decreases-emit-loop-rest : goal.decreases-emit-loop-rest
 decreases-emit-loop-rest l = weight (node_of_form l.rest)
 
 abbrev pub invariant-emit_all-loop-i : goal.invariant-emit_all-loop-i
-invariant-emit_all-loop-i l = LeadsAll l.initial.code.items (nodes_in l.items) l.code.items (nodes_in (drop l.i l.items)) × (l.i ≤ length l.items)
+invariant-emit_all-loop-i l = EmitsItemsUpTo l.initial.code.items (nodes_in l.items) l.code.items (nodes_in (drop l.i l.items)) × (l.i ≤ length l.items)
 
 abbrev pub decreases-emit_all-loop-i : goal.decreases-emit_all-loop-i
 decreases-emit_all-loop-i l = l.i

@@ -1,7 +1,8 @@
 use Rattle.std.proofs.Common.{◌≡◌, subst, rules}
 use Rattle.ps_meaning.specs.Answers.{answer_of}
 use Rattle.ps_meaning.specs.Operators.{arith_of}
-use Rattle.ps_machine.specs.Stepping.{unit_of, config_of, word_in, StepIs}
+use Rattle.ps_machine.specs.Stepping.{unit_of, config_of, word_in}
+use Rattle.ps_machine.specs.Stepped.{StepIs}
 use Rattle.ps_machine.proofs.Steps.{arith_is}
 use Rattle.ps_machine.proofs.machine.arith.Goals as goal
 

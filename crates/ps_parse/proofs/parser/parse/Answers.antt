@@ -1,7 +1,7 @@
 use Rattle.std.proofs.Common.{arith, List, None, length, subst, sym, ◌∙◌}
 use Rattle.std.specs.List.{All}
 use Rattle.ps_symbols.specs.declared.symbol.Symbol.{Symbol}
-use Rattle.ps_symbols.specs.Soundness.{IsSound}
+use Rattle.ps_symbols.specs.inside.Soundness.{IsSound}
 use Rattle.ps_parse.specs.Stopping.{Stops}
 use Rattle.std.specs.Prelude.{Result, Ok, Err, IfErr, ◌≢◌}
 use Rattle.ps_tree.specs.declared.fault.ParseFault.{ParseFault}

@@ -7,8 +7,7 @@ use Rattle.ps_print.proofs.items.put_arm.Goals as goal
 
 pub returns : goal.returns
 returns c =
-    let is : arm_of c.args.arm.now ≡ arm (phrases_in c.as_slice.result.now) (phrase_of c.deref.result.now) =
+    let is : arm_of c.args.arm.now ≡ arm (phrases_in c.as_slice.result.now) (phrase_of (out-RoughArm c.args.arm.now).a) =
     arm_of-parts c.args.arm.now
-    ∙ ap (λ labels. arm (phrases_in labels) (phrase_of (out-RoughArm c.args.arm.now).a.value)) (sym c.as_slice.ensures)
-    ∙ ap (λ a. arm (phrases_in c.as_slice.result.now) (phrase_of a)) (sym c.deref.ensures) in
+    ∙ ap (λ labels. arm (phrases_in labels) (phrase_of (out-RoughArm c.args.arm.now).a)) (sym c.as_slice.ensures) in
     search (rules, is)

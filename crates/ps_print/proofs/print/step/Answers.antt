@@ -1,22 +1,21 @@
 use Rattle.std.proofs.Common.{ap}
-use Rattle.ps_scan.specs.Names.{reserved_words, marks}
 use Rattle.ps_scan.specs.declared.token.TokenKind.TheVariants.{Int, Text}
 use Rattle.ps_print.specs.Layout.{lexeme, the_word, the_mark, name_lexeme}
 use Rattle.ps_print.specs.Spellings.{int_text, string_text}
-use Rattle.ps_print.specs.Waiting.{gap_of, name_at, waiting, piece_lexemes, piece_weight}
+use Rattle.ps_print.specs.inside.Waiting.{gap_of, waiting, piece_lexemes, piece_weight}
 use Rattle.ps_print.proofs.Printing.{prints_lexeme}
 use Rattle.ps_print.proofs.print.step.Goals as goal
 
 pub returns-in-Word : goal.returns-in-Word
 returns-in-Word c =
     prints_lexeme c.args.text.now.items c.write_word.new.text.items c.args.piece (waiting c.args.pending.now)
-    (the_word (gap_of c.in-Word.gap) c.in-Word.place (name_at reserved_words c.in-Word.place)) c.write_word.result
+    (the_word (gap_of c.in-Word.gap) c.in-Word.place) c.write_word.result
     (ap piece_lexemes c.in-Word.is) (ap piece_weight c.in-Word.is) c.write_word.ensures
 
 pub returns-in-Mark : goal.returns-in-Mark
 returns-in-Mark c =
     prints_lexeme c.args.text.now.items c.write_mark.new.text.items c.args.piece (waiting c.args.pending.now)
-    (the_mark (gap_of c.in-Mark.gap) c.in-Mark.place (name_at marks c.in-Mark.place)) c.write_mark.result
+    (the_mark (gap_of c.in-Mark.gap) c.in-Mark.place) c.write_mark.result
     (ap piece_lexemes c.in-Mark.is) (ap piece_weight c.in-Mark.is) c.write_mark.ensures
 
 pub returns-in-Name : goal.returns-in-Name

@@ -1,4 +1,4 @@
-use Rattle.std.proofs.Common.{rules, ◌≡◌, ℕ, ◌+◌, ◌<◌, ◌≤◌, ◌∙◌, ap, sym, subst, arith, length, get_or}
+use Rattle.std.proofs.Common.{rules, ◌≡◌, ◌<◌, ◌≤◌, ◌∙◌, ap, sym, subst, arith, length, get_or}
 use Rattle.std.specs.Prelude.{Option}
 use Rattle.ps_base.specs.declared.line.Line.{Line}
 use Rattle.ps_tree.specs.declared.rough.Rough.{Rough}
@@ -6,7 +6,7 @@ use Rattle.ps_tree.specs.declared.rough.RoughItem.{out-RoughItem}
 use Rattle.ps_tree.specs.Phrase.{phrase_of, item_of}
 use Rattle.ps_tree.specs.PhraseLists.{phrases_in, items_in}
 use Rattle.ps_types.specs.Built.{first_unbuilt, or_else, unbuilt_item, width_line}
-use Rattle.ps_types.specs.PhraseWeights.{weight, weight_all, weight_item, weight_written}
+use Rattle.ps_types.specs.inside.PhraseWeights.{weight, weight_all, weight_item, weight_written}
 use Rattle.ps_types.proofs.CheckedPhrases.{weight_at, item_weight_at}
 use Rattle.ps_types.proofs.CheckedBuilt.{first_of_three, width_of, is_wide, is_not_wide, item_found}
 use Rattle.ps_types.proofs.built.+built.Goals.{unbuilt_item-in-Some, unbuilt_item-in-None}
@@ -66,13 +66,11 @@ first_unbuilt-loop-behind-preserved t c =
 pub unbuilt_item-returns-in_default : goal.unbuilt_item-returns-in_default
 unbuilt_item-returns-in_default t c =
     let r = c.args.item.now in
-    let e = c.deref-in_default.result.now in
     let colon = (out-RoughItem r).line in
     let finds : (c.match-item.width ≡ width_line (width_of r) colon) → c.or_else.result ≡ unbuilt_item (item_of r) =
     λ wide. c.or_else.ensures
     ∙ ap (λ (o : Option Line). or_else o c.match-item.width) c.first_unbuilt.ensures
-    ∙ item_found r e c.match-item.width c.deref-in_default.ensures wide
-    (λ bytes is. c.in_default.not-Text bytes (ap (λ (e : Rough). e.form) (c.deref.ensures ∙ sym c.deref-in_default.ensures) ∙ is)) in
+    ∙ item_found r c.match-item.width wide (λ bytes is. c.in_default.not-Text bytes (c.deref.ensures ∙ is)) in
     elim c.match-item.branch [
       | unbuilt_item-in-Some w ↦ finds (w.width-is ∙ sym (ap (λ v. width_line v colon) (is_wide r w.in-Some.field-0 w.in-Some.is)))
       | unbuilt_item-in-None w ↦ finds (w.width-is ∙ sym (ap (λ v. width_line v colon) (is_not_wide r w.in-None.is)))

@@ -1,9 +1,9 @@
 -- The measures of the search for a form that isn't built, and what its loops have seen.
-use Rattle.std.proofs.Common.{◌≡◌, ℕ, ◌+◌, ◌*◌, ◌≤◌, drop}
+use Rattle.std.proofs.Common.{◌≡◌, ◌+◌, ◌*◌, ◌≤◌, drop}
 use Rattle.ps_tree.specs.Phrase.{phrase_of, item_of}
 use Rattle.ps_tree.specs.PhraseLists.{phrases_in, items_in}
 use Rattle.ps_types.specs.Built.{first_unbuilt, unbuilt_among, unbuilt_written, or_else}
-use Rattle.ps_types.specs.PhraseWeights.{weight, weight_all, weight_written, weight_item}
+use Rattle.ps_types.specs.inside.PhraseWeights.{weight, weight_all, weight_written, weight_item}
 use Rattle.ps_types.proofs.built.+built.Given as goal
 
 abbrev pub decreases-first_unbuilt : goal.decreases-first_unbuilt

@@ -3,7 +3,6 @@ use Rattle.std.specs.Prelude.{Ok, Err}
 use Rattle.std.proofs.lemmas.List.{drop_all}
 use Rattle.ps_base.specs.Node.{node_of, nodes_in}
 use Rattle.ps_base.specs.declared.basic_type.BasicType.TheVariants.{Int, Void}
-use Rattle.ps_tree.specs.declared.rough.Rough.{Rough}
 use Rattle.ps_tree.specs.declared.rough.RoughItem.{out-RoughItem}
 use Rattle.ps_tree.specs.Phrase.{named, phrase_of, form_of, item_of}
 use Rattle.ps_tree.specs.Phrase as form
@@ -12,11 +11,11 @@ use Rattle.ps_types.specs.declared.clause.Clause.{Clause}
 use Rattle.ps_types.specs.declared.link.Joint.TheVariants.{Or, And, Arith}
 use Rattle.ps_types.specs.Names.{Names, inside}
 use Rattle.ps_types.specs.Checking.{Gives, check, check_form, check_all, check_written, check_item, written, wants, passes, is_word, is_comparable, introduced, assigned}
-use Rattle.ps_types.specs.Checks.{IsFault, IsOfType, check_link, check_links, joint_ty, prefix_ty}
-use Rattle.ps_types.specs.PhraseWeights.{weight, weight_all, weight_written, weight_item, weight_form, weight_links}
+use Rattle.ps_types.specs.inside.Checks.{IsFault, IsOfType, check_link, check_links, joint_ty, prefix_ty}
+use Rattle.ps_types.specs.inside.PhraseWeights.{weight, weight_all, weight_written, weight_item, weight_form, weight_links}
 use Rattle.ps_tree.proofs.PhraseLemmas.{form_of-Sequence, form_of-Write}
 use Rattle.ps_types.proofs.CheckedPhrases.{phrases_from, items_from, weight_at, item_weight_at}
-use Rattle.ps_types.proofs.CheckedSteps.{given, fails_first, fails_next, fails_test, passed, not_passed, made, leads, exits, of_type, one_link, one_weight, fails_links, check_links-push, weight_links-push, linked_by, all_step, all_stops, fails_after, after_item, after_all, after_first, after_trees, block_given, together_given}
+use Rattle.ps_types.proofs.CheckedSteps.{given, fails_first, fails_next, fails_test, passed, not_passed, made, leads, exits, of_type, one_link, one_weight, fails_links, check_links-push, weight_links-push, linked_by, all_step, all_stops, fails_after, after_item, after_all, after_first, after_trees, block_given}
 use Rattle.ps_types.proofs.CheckedBuilt.{item_without_width}
 use Rattle.ps_types.proofs.CheckedTyped.{keeps_around}
 use Rattle.ps_types.proofs.check.+clause.Goals as goal
@@ -185,64 +184,27 @@ check_chain-check_link-requires t c =
     let light : weight (phrase_of c.in-Some.link.right.now) ≤ weight (phrase_of c.args.left.now) + weight (phrase_of c.args.last.right.now) = omega (arith, less, one, c.loop-link.invariant.lighter, c.in_ok-innermost.ensures.lighter) in
     search (rules, light)
 
-pub check_clause-returns-in-IfDo : goal.check_clause-returns-in-IfDo
-check_clause-returns-in-IfDo t c =
-    let is : form_of c.args.rough.now.form ≡ form.IfDo (phrase_of c.deref-in-IfDo.result.now) (phrase_of c.deref-in-IfDo-2.result.now) = ap form_of c.in-IfDo.is ∙ ap (λ v. form.IfDo (phrase_of v) (phrase_of c.in-IfDo.a.value)) (sym c.deref-in-IfDo.ensures) ∙ ap (λ v. form.IfDo (phrase_of c.deref-in-IfDo.result.now) (phrase_of v)) (sym c.deref-in-IfDo-2.ensures) in
-    leads _ _ _ _ (ap (check_form c.args.scope.now c.args.rough.now.line) is) c.check_guarded.ensures
-
-pub check_clause-returns-in-While : goal.check_clause-returns-in-While
-check_clause-returns-in-While t c =
-    let is : form_of c.args.rough.now.form ≡ form.While (phrase_of c.deref-in-While.result.now) (phrase_of c.deref-in-While-2.result.now) = ap form_of c.in-While.is ∙ ap (λ v. form.While (phrase_of v) (phrase_of c.in-While.a.value)) (sym c.deref-in-While.ensures) ∙ ap (λ v. form.While (phrase_of c.deref-in-While.result.now) (phrase_of v)) (sym c.deref-in-While-2.ensures) in
-    leads _ _ _ _ (ap (check_form c.args.scope.now c.args.rough.now.line) is) c.check_guarded-in-While.ensures
-
 pub check_clause-returns-in-Sequence : goal.check_clause-returns-in-Sequence
 check_clause-returns-in-Sequence t c =
-    let is : form_of c.args.rough.now.form ≡ form.Sequence (phrases_in c.as_slice.result.now) = ap form_of c.in-Sequence.is ∙ form_of-Sequence c.in-Sequence.items ∙ ap (λ items. form.Sequence (phrases_in items)) (sym c.as_slice.ensures) in
+    let is : form_of c.args.rough.now.form.value ≡ form.Sequence (phrases_in c.as_slice.result.now) = ap form_of (sym c.deref.ensures ∙ c.in-Sequence.is) ∙ form_of-Sequence c.in-Sequence.items ∙ ap (λ items. form.Sequence (phrases_in items)) (sym c.as_slice.ensures) in
     leads _ _ _ _ (ap (check_form c.args.scope.now c.args.rough.now.line) is) c.check_sequence.ensures
 
 pub check_clause-check_sequence-requires : goal.check_clause-check_sequence-requires
 check_clause-check_sequence-requires t c =
-    let is : form_of c.args.rough.now.form ≡ form.Sequence (phrases_in c.as_slice.result.now) = ap form_of c.in-Sequence.is ∙ form_of-Sequence c.in-Sequence.items ∙ ap (λ items. form.Sequence (phrases_in items)) (sym c.as_slice.ensures) in
+    let is : form_of c.args.rough.now.form.value ≡ form.Sequence (phrases_in c.as_slice.result.now) = ap form_of (sym c.deref.ensures ∙ c.in-Sequence.is) ∙ form_of-Sequence c.in-Sequence.items ∙ ap (λ items. form.Sequence (phrases_in items)) (sym c.as_slice.ensures) in
     let light : weight (phrase_of c.args.rough.now) ≡ weight_all (phrases_in c.as_slice.result.now) + 1 = ap (λ f. weight_form f + 1) is in
     search (rules, light)
 
 pub check_clause-returns-in-Write : goal.check_clause-returns-in-Write
 check_clause-returns-in-Write t c =
-    let is : form_of c.args.rough.now.form ≡ form.Write (items_in c.as_slice-in-Write.result.now) = ap form_of c.in-Write.is ∙ form_of-Write c.in-Write.items ∙ ap (λ items. form.Write (items_in items)) (sym c.as_slice-in-Write.ensures) in
+    let is : form_of c.args.rough.now.form.value ≡ form.Write (items_in c.as_slice-in-Write.result.now) = ap form_of (sym c.deref.ensures ∙ c.in-Write.is) ∙ form_of-Write c.in-Write.items ∙ ap (λ items. form.Write (items_in items)) (sym c.as_slice-in-Write.ensures) in
     leads _ _ _ _ (ap (check_form c.args.scope.now c.args.rough.now.line) is) c.check_write.ensures
 
 pub check_clause-check_write-requires : goal.check_clause-check_write-requires
 check_clause-check_write-requires t c =
-    let is : form_of c.args.rough.now.form ≡ form.Write (items_in c.as_slice-in-Write.result.now) = ap form_of c.in-Write.is ∙ form_of-Write c.in-Write.items ∙ ap (λ items. form.Write (items_in items)) (sym c.as_slice-in-Write.ensures) in
+    let is : form_of c.args.rough.now.form.value ≡ form.Write (items_in c.as_slice-in-Write.result.now) = ap form_of (sym c.deref.ensures ∙ c.in-Write.is) ∙ form_of-Write c.in-Write.items ∙ ap (λ items. form.Write (items_in items)) (sym c.as_slice-in-Write.ensures) in
     let light : weight (phrase_of c.args.rough.now) ≡ weight_written (items_in c.as_slice-in-Write.result.now) + 1 = ap (λ f. weight_form f + 1) is in
     search (rules, light)
-
-pub check_clause-returns-in-Or : goal.check_clause-returns-in-Or
-check_clause-returns-in-Or t c =
-    let names = c.args.scope.now in
-    let a = c.deref-in-Or.result.now in
-    let b = c.deref-in-Or-3.result.now in
-    let is : form_of c.args.rough.now.form ≡ form.Or (phrase_of a) (phrase_of b) = ap form_of c.in-Or.is ∙ ap (λ v. form.Or (phrase_of v) (phrase_of c.in-Or.b.value)) (sym c.deref-in-Or.ensures) ∙ ap (λ v. form.Or (phrase_of a) (phrase_of v)) (sym c.deref-in-Or-3.ensures) in
-    let line : c.new.result.left_line ≡ a.line = c.new.ensures.left_line ∙ ap (λ (r : Rough). r.line) (c.deref-in-Or-2.ensures ∙ sym c.deref-in-Or.ensures) in
-    leads _ _ _ _ (ap (check_form names c.args.rough.now.line) is ∙ sym (linked_by c.new.result Or a.line b (check names (phrase_of a)) c.new.ensures.joint line c.new.ensures.right)) c.check_chain.ensures
-
-pub check_clause-returns-in-And : goal.check_clause-returns-in-And
-check_clause-returns-in-And t c =
-    let names = c.args.scope.now in
-    let a = c.deref-in-And.result.now in
-    let b = c.deref-in-And-3.result.now in
-    let is : form_of c.args.rough.now.form ≡ form.And (phrase_of a) (phrase_of b) = ap form_of c.in-And.is ∙ ap (λ v. form.And (phrase_of v) (phrase_of c.in-And.b.value)) (sym c.deref-in-And.ensures) ∙ ap (λ v. form.And (phrase_of a) (phrase_of v)) (sym c.deref-in-And-3.ensures) in
-    let line : c.new-in-And.result.left_line ≡ a.line = c.new-in-And.ensures.left_line ∙ ap (λ (r : Rough). r.line) (c.deref-in-And-2.ensures ∙ sym c.deref-in-And.ensures) in
-    leads _ _ _ _ (ap (check_form names c.args.rough.now.line) is ∙ sym (linked_by c.new-in-And.result And a.line b (check names (phrase_of a)) c.new-in-And.ensures.joint line c.new-in-And.ensures.right)) c.check_chain-in-And.ensures
-
-pub check_clause-returns-in-Arith : goal.check_clause-returns-in-Arith
-check_clause-returns-in-Arith t c =
-    let names = c.args.scope.now in
-    let a = c.deref-in-Arith.result.now in
-    let b = c.deref-in-Arith-3.result.now in
-    let is : form_of c.args.rough.now.form ≡ form.Arith c.in-Arith.op (phrase_of a) (phrase_of b) = ap form_of c.in-Arith.is ∙ ap (λ v. form.Arith c.in-Arith.op (phrase_of v) (phrase_of c.in-Arith.b.value)) (sym c.deref-in-Arith.ensures) ∙ ap (λ v. form.Arith c.in-Arith.op (phrase_of a) (phrase_of v)) (sym c.deref-in-Arith-3.ensures) in
-    let line : c.new-in-Arith.result.left_line ≡ a.line = c.new-in-Arith.ensures.left_line ∙ ap (λ (r : Rough). r.line) (c.deref-in-Arith-2.ensures ∙ sym c.deref-in-Arith.ensures) in
-    leads _ _ _ _ (ap (check_form names c.args.rough.now.line) is ∙ sym (linked_by c.new-in-Arith.result (Arith c.in-Arith.op c.args.rough.now.line) a.line b (check names (phrase_of a)) c.new-in-Arith.ensures.joint line c.new-in-Arith.ensures.right)) c.check_chain-in-Arith.ensures
 
 pub check_sequence-loop-item-init : goal.check_sequence-loop-item-init
 check_sequence-loop-item-init t c =
@@ -318,7 +280,7 @@ check_sequence-returns t c =
     let left = check_all c.loop-item.scope c.loop-item.line c.loop-item.before in
     let before = c.loop-item.before in
     let whole : check_all (inside c.args.scope.now) c.args.line Void (phrases_in items) ≡ Gives (nodes_in c.loop-item.trees.items) before c.loop-item.scope = sym entered ∙ after_all c.loop-item.trees.items before c.loop-item.scope (left (phrases_in (drop c.loop-item.item-index items))) _ (ap left empty) c.loop-item.invariant.all in
-    block_given _ _ before c.args.scope.now c.loop-item.scope c.leave.new.self (node_of c.block.result) whole c.block.ensures (c.leave.ensures c.args.scope.now around c.enter-block.ensures.block)
+    made _ _ _ _ c.sequence.result (block_given _ _ before c.args.scope.now c.loop-item.scope c.leave.new.self whole (c.leave.ensures c.args.scope.now around c.enter-block.ensures.block)) c.sequence.ensures
 
 pub check_write-loop-item-init : goal.check_write-loop-item-init
 check_write-loop-item-init t c =
@@ -365,66 +327,58 @@ check_write-returns t c =
     let empty : items_in (drop c.loop-item.item-index items) ≡ form.no_items = ap items_in (drop_all c.loop-item.item-index items past) in
     let left = check_written c.loop-item.scope in
     let whole : check_written c.args.scope.now (items_in items) ≡ Gives (nodes_in c.loop-item.trees.items) Void c.loop-item.scope = after_all c.loop-item.trees.items Void c.loop-item.scope (left (items_in (drop c.loop-item.item-index items))) _ (ap left empty) c.loop-item.invariant in
-    together_given _ _ Void c.loop-item.scope (node_of c.one_or_block.result) whole c.one_or_block.ensures
-
-pub check_clause-returns-in-IfElse : goal.check_clause-returns-in-IfElse
-check_clause-returns-in-IfElse t c =
-    let v = c.deref-in-IfElse.result.now in
-    let w = c.deref-in-IfElse-2.result.now in
-    let x = c.deref-in-IfElse-3.result.now in
-    let is : form_of c.args.rough.now.form ≡ form.IfElse (phrase_of v) (phrase_of w) (phrase_of x) =
-    ap form_of c.in-IfElse.is
-    ∙ ap (λ (r : Rough). form.IfElse (phrase_of r) (phrase_of c.in-IfElse.a.value) (phrase_of c.in-IfElse.b.value)) (sym c.deref-in-IfElse.ensures)
-    ∙ ap (λ (r : Rough). form.IfElse (phrase_of v) (phrase_of r) (phrase_of c.in-IfElse.b.value)) (sym c.deref-in-IfElse-2.ensures)
-    ∙ ap (λ (r : Rough). form.IfElse (phrase_of v) (phrase_of w) (phrase_of r)) (sym c.deref-in-IfElse-3.ensures) in
-    leads _ _ _ _ (ap (check_form c.args.scope.now c.args.rough.now.line) is) c.check_if_else.ensures
-
-pub check_clause-returns-in-Assign : goal.check_clause-returns-in-Assign
-check_clause-returns-in-Assign t c =
-    let v = c.deref-in-Assign.result.now in
-    let is : form_of c.args.rough.now.form ≡ form.Assign (phrase_of v) (phrase_of c.deref-in-Assign-2.result.now) =
-    ap form_of c.in-Assign.is
-    ∙ ap (λ (r : Rough). form.Assign (phrase_of r) (phrase_of c.in-Assign.e.value)) (sym c.deref-in-Assign.ensures)
-    ∙ ap (λ (r : Rough). form.Assign (phrase_of v) (phrase_of r)) (sym c.deref-in-Assign-2.ensures) in
-    leads _ _ _ _ (ap (check_form c.args.scope.now c.args.rough.now.line) is) c.check_assign.ensures
-
-pub check_clause-returns-in-Compare : goal.check_clause-returns-in-Compare
-check_clause-returns-in-Compare t c =
-    let v = c.deref-in-Compare.result.now in
-    let is : form_of c.args.rough.now.form ≡ form.Compare c.in-Compare.op (phrase_of v) (phrase_of c.deref-in-Compare-2.result.now) =
-    ap form_of c.in-Compare.is
-    ∙ ap (λ (r : Rough). form.Compare c.in-Compare.op (phrase_of r) (phrase_of c.in-Compare.b.value)) (sym c.deref-in-Compare.ensures)
-    ∙ ap (λ (r : Rough). form.Compare c.in-Compare.op (phrase_of v) (phrase_of r)) (sym c.deref-in-Compare-2.ensures) in
-    leads _ _ _ _ (ap (check_form c.args.scope.now c.args.rough.now.line) is) c.check_compare.ensures
-
-pub check_clause-returns-in-Not : goal.check_clause-returns-in-Not
-check_clause-returns-in-Not t c =
-    let is : form_of c.args.rough.now.form ≡ form.Not (phrase_of c.deref-in-Not.result.now) = ap form_of c.in-Not.is ∙ ap (λ (r : Rough). form.Not (phrase_of r)) (sym c.deref-in-Not.ensures) in
-    leads _ _ _ _ (ap (check_form c.args.scope.now c.args.rough.now.line) is) c.check_prefixed.ensures
-
-pub check_clause-returns-in-Plus : goal.check_clause-returns-in-Plus
-check_clause-returns-in-Plus t c =
-    let is : form_of c.args.rough.now.form ≡ form.Plus (phrase_of c.deref-in-Plus.result.now) = ap form_of c.in-Plus.is ∙ ap (λ (r : Rough). form.Plus (phrase_of r)) (sym c.deref-in-Plus.ensures) in
-    leads _ _ _ _ (ap (check_form c.args.scope.now c.args.rough.now.line) is) c.check_prefixed-in-Plus.ensures
-
-pub check_clause-returns-in-Neg : goal.check_clause-returns-in-Neg
-check_clause-returns-in-Neg t c =
-    let is : form_of c.args.rough.now.form ≡ form.Neg (phrase_of c.deref-in-Neg.result.now) = ap form_of c.in-Neg.is ∙ ap (λ (r : Rough). form.Neg (phrase_of r)) (sym c.deref-in-Neg.ensures) in
-    leads _ _ _ _ (ap (check_form c.args.scope.now c.args.rough.now.line) is) c.check_prefixed-in-Neg.ensures
+    made _ _ _ _ c.one_or_sequence.result (given _ _ _ _ _ whole) c.one_or_sequence.ensures
 
 pub check_item-returns-in_err-written-in-None : goal.check_item-returns-in_err-written-in-None
 check_item-returns-in_err-written-in-None t c =
     let fault = c.in_err-written-in-None.field-0.0 in
-    let parts = item_without_width c.args.item.now c.deref.result.now c.deref.ensures c.in-None.is in
     exits c.from_residual.result _ fault _ c.from_residual.ensures.1
-    (subst (λ i. IsFault (check_item c.args.scope.now i) fault) (sym parts) (fails_first _ _ _ c.in_err-written-in-None.ensures))
+    (subst (λ i. IsFault (check_item c.args.scope.now i) fault) (sym (item_without_width c.args.item.now c.in-None.is)) (fails_first _ _ _ c.in_err-written-in-None.ensures))
 
 pub check_item-returns-in_ok-written-in-None : goal.check_item-returns-in_ok-written-in-None
 check_item-returns-in_ok-written-in-None t c =
     let r = c.args.item.now in
-    let e = c.deref.result.now in
     let clause = c.in_ok-written-in-None.written in
     let names = c.check_clause.new.scope in
-    let parts = item_without_width r e c.deref.ensures c.in-None.is in
-    let step : check_item c.args.scope.now (form.item (phrase_of e) form.absent (out-RoughItem r).line) ≡ written (out-RoughItem r).line (node_of clause.tree) clause.ty names = given _ _ _ _ _ c.in_ok-written-in-None.ensures in
+    let parts = item_without_width r c.in-None.is in
+    let step : check_item c.args.scope.now (form.item (phrase_of (out-RoughItem r).e) form.absent (out-RoughItem r).line) ≡ written (out-RoughItem r).line (node_of clause.tree) clause.ty names =
+    given _ _ _ _ _ c.in_ok-written-in-None.ensures in
     subst (λ o. IsOfType Void o c.write_item.result names) (sym (ap (check_item c.args.scope.now) parts ∙ step)) (c.write_item.ensures names)
+
+pub check_clause-returns-in-IfDo : goal.check_clause-returns-in-IfDo
+check_clause-returns-in-IfDo t c =
+    leads _ _ _ _ (ap (λ f. check_form c.args.scope.now c.args.rough.now.line (form_of f)) (sym c.deref.ensures ∙ c.in-IfDo.is)) c.check_guarded.ensures
+
+pub check_clause-returns-in-IfElse : goal.check_clause-returns-in-IfElse
+check_clause-returns-in-IfElse t c =
+    leads _ _ _ _ (ap (λ f. check_form c.args.scope.now c.args.rough.now.line (form_of f)) (sym c.deref.ensures ∙ c.in-IfElse.is)) c.check_if_else.ensures
+
+pub check_clause-returns-in-While : goal.check_clause-returns-in-While
+check_clause-returns-in-While t c =
+    leads _ _ _ _ (ap (λ f. check_form c.args.scope.now c.args.rough.now.line (form_of f)) (sym c.deref.ensures ∙ c.in-While.is)) c.check_guarded-in-While.ensures
+
+pub check_clause-returns-in-Assign : goal.check_clause-returns-in-Assign
+check_clause-returns-in-Assign t c =
+    leads _ _ _ _ (ap (λ f. check_form c.args.scope.now c.args.rough.now.line (form_of f)) (sym c.deref.ensures ∙ c.in-Assign.is)) c.check_assign.ensures
+
+pub check_clause-returns-in-Compare : goal.check_clause-returns-in-Compare
+check_clause-returns-in-Compare t c =
+    leads _ _ _ _ (ap (λ f. check_form c.args.scope.now c.args.rough.now.line (form_of f)) (sym c.deref.ensures ∙ c.in-Compare.is)) c.check_compare.ensures
+
+pub check_clause-returns-in-Or : goal.check_clause-returns-in-Or
+check_clause-returns-in-Or t c =
+    let names = c.args.scope.now in
+    let link = linked_by c.new.result Or c.in-Or.a.line c.in-Or.b (check names (phrase_of c.in-Or.a)) c.new.ensures.joint c.new.ensures.left_line c.new.ensures.right in
+    leads _ _ _ _ (ap (λ f. check_form names c.args.rough.now.line (form_of f)) (sym c.deref.ensures ∙ c.in-Or.is) ∙ sym link) c.check_chain.ensures
+
+pub check_clause-returns-in-And : goal.check_clause-returns-in-And
+check_clause-returns-in-And t c =
+    let names = c.args.scope.now in
+    let link = linked_by c.new-in-And.result And c.in-And.a.line c.in-And.b (check names (phrase_of c.in-And.a)) c.new-in-And.ensures.joint c.new-in-And.ensures.left_line c.new-in-And.ensures.right in
+    leads _ _ _ _ (ap (λ f. check_form names c.args.rough.now.line (form_of f)) (sym c.deref.ensures ∙ c.in-And.is) ∙ sym link) c.check_chain-in-And.ensures
+
+pub check_clause-returns-in-Arith : goal.check_clause-returns-in-Arith
+check_clause-returns-in-Arith t c =
+    let names = c.args.scope.now in
+    let link = linked_by c.new-in-Arith.result (Arith c.in-Arith.op c.args.rough.now.line) c.in-Arith.a.line c.in-Arith.b (check names (phrase_of c.in-Arith.a)) c.new-in-Arith.ensures.joint c.new-in-Arith.ensures.left_line c.new-in-Arith.ensures.right in
+    leads _ _ _ _ (ap (λ f. check_form names c.args.rough.now.line (form_of f)) (sym c.deref.ensures ∙ c.in-Arith.is) ∙ sym link) c.check_chain-in-Arith.ensures

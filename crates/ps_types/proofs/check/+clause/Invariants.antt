@@ -4,8 +4,8 @@ use Rattle.ps_base.specs.Node.{node_of}
 use Rattle.ps_tree.specs.Phrase.{phrase_of, item_of}
 use Rattle.ps_tree.specs.PhraseLists.{phrases_in, items_in}
 use Rattle.ps_types.specs.Checking.{Gives, check_all, check_written}
-use Rattle.ps_types.specs.Checks.{check_links}
-use Rattle.ps_types.specs.PhraseWeights.{weight, weight_all, weight_written, weight_item, weight_links}
+use Rattle.ps_types.specs.inside.Checks.{check_links}
+use Rattle.ps_types.specs.inside.PhraseWeights.{weight, weight_all, weight_written, weight_item, weight_links}
 use Rattle.ps_types.proofs.CheckedSteps.{after_trees}
 use Rattle.ps_types.proofs.check.+clause.Given as goal
 

@@ -6,7 +6,7 @@ use Rattle.ps_base.specs.declared.basic_type.BasicType.TheVariants.{Void}
 use Rattle.ps_tree.specs.Phrase.{phrase_of}
 use Rattle.ps_types.specs.Names.{Names, no_names}
 use Rattle.ps_types.specs.Checking.{Gives, Typed, check, wants}
-use Rattle.ps_types.specs.Checks.{IsFault}
+use Rattle.ps_types.specs.inside.Checks.{IsFault}
 use Rattle.ps_types.specs.Built.{first_unbuilt}
 use Rattle.ps_types.proofs.CheckedSteps.{exits_with, fails_test, of_type, program_gives, program_fails, program_unbuilt}
 use Rattle.ps_types.proofs.CheckedTyped.{program_typed}

@@ -5,7 +5,7 @@ use Rattle.ps_symbols.specs.contracts.kind.Kind.{the_type}
 use Rattle.std.proofs.lemmas.Option.{slice_get_within, get_or_from_slice_get}
 use Rattle.std.proofs.lemmas.List.Elements.{All-get_or}
 use Rattle.ps_symbols.specs.declared.symbol.Symbol.{Symbol}
-use Rattle.ps_symbols.specs.Soundness.{IsSound}
+use Rattle.ps_symbols.specs.inside.Soundness.{IsSound}
 use Rattle.ps_parse.proofs.parser.Parser.take.Goals as goal
 
 -- what is so of each symbol is so of the one at a place

@@ -1,6 +1,7 @@
 use Rattle.std.proofs.Common.{rules, sym, subst}
 use Rattle.ps_port.specs.Told.{Tells}
-use Rattle.ps_port.specs.Memory.{Memory, clock_of, HadTold, IsKept}
+use Rattle.ps_port.specs.Memory.{Memory, clock_of, HadTold}
+use Rattle.ps_port.specs.inside.Kept.{IsKept}
 use Rattle.ps_port.proofs.MemoryTelling.{tells_after}
 use Rattle.ps_port.proofs.memory_host.MemoryHost.keep.Goals as goal
 

@@ -1,0 +1,71 @@
+//! Rows of the language reference where one refusal of memory may come anywhere: `rt try --test
+//! --fail-alloc N` refuses the Nth. Each answers its own or status 5, and nothing else.
+
+use ps_command::psalgol;
+use ps_port::{MemoryHost, MemoryShelf};
+use std::alloc::{AllocError, Global};
+
+fn answer(alloc: Global, text: &str) -> Result<(u8, MemoryHost), AllocError> {
+    let mut words = Vec::new(alloc);
+    for word in ["run", "v.vol", "x.ps"] {
+        words.push(String::from_str(alloc, word)?)?;
+    }
+    let mut shelf = MemoryShelf::new(alloc);
+    shelf.add("x.ps", text.as_bytes())?;
+    let host = MemoryHost::new(alloc, b"", &[], 1_000, 16_000)?;
+    Ok(psalgol(alloc, &words, host, &mut shelf))
+}
+
+// Whether the row has its own answer, or status 5. Where memory was refused before the call, there is
+// nothing to compare.
+fn own_answer_or_five(alloc: Global, text: &str, told: &str, status: u8) -> bool {
+    let Ok((found, host)) = answer(alloc, text) else {
+        return true;
+    };
+    match found {
+        5 => host.told_bytes() == b"out of memory\n".as_slice(),
+        _ => found == status && host.told_bytes() == told.as_bytes(),
+    }
+}
+
+#[test]
+fn refused_in_a_sum(rt: HostRuntime) {
+    assert!(rt; own_answer_or_five(rt.alloc(), "write 1 + 2, \"'n\" ?", "3\n", 0));
+}
+
+#[test]
+fn refused_in_declarations(rt: HostRuntime) {
+    let text = "let a = 6; let b := a * 7; b := -b; write b, \" \", { let c = b rem 4; c }";
+    assert!(rt; own_answer_or_five(rt.alloc(), text, "-42 -2", 0));
+}
+
+#[test]
+fn refused_in_choices(rt: HostRuntime) {
+    let text =
+        "let n := 2\nwhile n > 0 do { if n = 1 do write n; n := n - 1 }\nwrite if n = 0 or false then 7 else 8";
+    assert!(rt; own_answer_or_five(rt.alloc(), text, "17", 0));
+}
+
+#[test]
+fn refused_before_a_trap(rt: HostRuntime) {
+    assert!(rt;
+        own_answer_or_five(
+            rt.alloc(),
+            "write 1, 2147483647 * 2",
+            "1trap 1 at line 1\n",
+            3
+        )
+    );
+}
+
+#[test]
+fn refused_before_a_fault(rt: HostRuntime) {
+    assert!(rt;
+        own_answer_or_five(
+            rt.alloc(),
+            "let a = 1\na := 2",
+            "x.ps: check 4 at line 2\n",
+            2
+        )
+    );
+}

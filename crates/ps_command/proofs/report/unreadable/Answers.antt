@@ -1,0 +1,9 @@
+use Rattle.std.proofs.Common.{subst}
+use Rattle.ps_command.specs.Answering.{Answers}
+use Rattle.ps_command.specs.Reports.{unreadable_line}
+use Rattle.ps_command.proofs.report.unreadable.Goals as goal
+
+pub returns : goal.returns
+returns g c =
+    let host = g.H.Host in
+    subst (λ file. Answers host.clock host.told host.output_faults c.args.host.now c.answer.new.host (unreadable_line file) 7 c.answer.result) c.as_bytes.ensures.value c.answer.ensures

@@ -1,0 +1,20 @@
+-- The report lines of what ends a command before its first event.
+use Rattle.std.specs.Prelude.{ℕ, List, ◌++◌, codes, decimal}
+use Rattle.ps_base.specs.declared.TheConstants.{LONGEST_TEXT}
+use Rattle.ps_base.specs.declared.line.Line.{Line}
+
+abbrev pub usage_line : List ℕ
+usage_line = codes "usage: psalgol COMMAND VOLUME WORDS\n"
+
+abbrev pub memory_line : List ℕ
+memory_line = codes "out of memory\n"
+
+abbrev pub unreadable_line : List ℕ → List ℕ
+unreadable_line file = codes "cannot read " ++ (file ++ codes "\n")
+
+abbrev pub too_long_line : List ℕ → ℕ → List ℕ
+too_long_line file length = file ++ (codes ": " ++ (decimal length ++ (codes " bytes, at most " ++ (decimal LONGEST_TEXT ++ codes "\n"))))
+
+-- the stage that found the fault is `scan`, `parse` or `check`
+abbrev pub fault_line : List ℕ → List ℕ → ℕ → Line → List ℕ
+fault_line file stage number line = file ++ (codes ": " ++ (stage ++ (codes " " ++ (decimal number ++ (codes " at line " ++ (decimal line.0 ++ codes "\n"))))))

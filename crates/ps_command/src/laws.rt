@@ -1,0 +1,57 @@
+ghost use Rattle.std.specs.Prelude.{◌≡◌, ◌≤◌, ◌<◌, List, ℕ, Option, Some, None, [], length};
+ghost use Rattle.ps_base.specs.Node.{Node};
+ghost use Rattle.ps_base.specs.declared.line.Line.{Line};
+ghost use Rattle.ps_port.specs.Told.{Rose};
+ghost use Rattle.ps_meaning.specs.Event.{status_of, outputs};
+ghost use Rattle.ps_meaning.specs.Run.{run_events, run_end};
+ghost use Rattle.ps_command.specs.Answering.{Answers};
+ghost use Rattle.ps_command.specs.Command.{Due, Gets};
+ghost use Rattle.ps_command.specs.Reports.{usage_line, unreadable_line, too_long_line, fault_line};
+ghost use Rattle.ps_command.specs.Source.{IsProgram, IsSourceFault};
+ghost use Rattle.ps_command.specs.Words.{RunOf};
+
+use ps_base::LONGEST_TEXT;
+use ps_port::{Host, Shelf};
+
+/// Words that are no command get the usage line and 1, or the refusal for want of memory.
+pub fn no_command_gets_usage<S: Shelf>(shelf: &S)
+    ensures { (before after status : ℕ) (bytes : List ℕ) → Due None (S.holds shelf.now) (S.lacks shelf.now) (Rose before after) bytes status → Gets [] ⊥ usage_line 1 bytes status }
+{}
+
+/// A name that the shelf lacks gets 7, or the refusal for want of memory.
+pub fn lacked_name_is_unreadable<S: Shelf>(shelf: &S)
+    ensures { (before after status : ℕ) (bytes : List ℕ) (run : RunOf) → S.lacks shelf.now run.file → Due (Some run) (S.holds shelf.now) (S.lacks shelf.now) (Rose before after) bytes status → Gets run.file (Rose before after) (unreadable_line run.file) 7 bytes status }
+{}
+
+/// A text that the shelf holds and that is too long gets 13; or there was no memory, or the shelf failed.
+pub fn long_text_is_refused<S: Shelf>(shelf: &S)
+    ensures { (before after status : ℕ) (bytes text : List ℕ) (run : RunOf) → S.holds shelf.now run.file text → LONGEST_TEXT < length text → Due (Some run) (S.holds shelf.now) (S.lacks shelf.now) (Rose before after) bytes status → Gets run.file (Rose before after) (too_long_line run.file (length text)) 13 bytes status }
+{}
+
+/// A text that the shelf holds and that has a first fault gets 2, with the stage, the number and the line
+/// of that fault; or there was no memory, or the shelf failed. It is never run.
+pub fn first_fault_is_told<S: Shelf>(shelf: &S)
+    ensures { (before after status : ℕ) (bytes text stage : List ℕ) (run : RunOf) (number : ℕ) (line : Line) → S.holds shelf.now run.file text → length text ≤ LONGEST_TEXT → IsSourceFault text stage number line → Due (Some run) (S.holds shelf.now) (S.lacks shelf.now) (Rose before after) bytes status → Gets run.file (Rose before after) (fault_line run.file stage number line) 2 bytes status }
+{}
+
+/// A text that the shelf holds and that is a program is run: what is due is what that program tells, with
+/// the status of its end; or there was no memory, or the shelf failed. It is never refused.
+pub fn program_is_run<S: Shelf>(shelf: &S)
+    ensures { (before after status : ℕ) (bytes text : List ℕ) (run : RunOf) (program : Node) (slots : ℕ) → S.holds shelf.now run.file text → length text ≤ LONGEST_TEXT → IsProgram text program slots → Due (Some run) (S.holds shelf.now) (S.lacks shelf.now) (Rose before after) bytes status → Gets run.file (Rose before after) (outputs (run_events run.turns program)) (status_of (run_end run.turns program)) bytes status }
+{}
+
+/// A text has at most one first fault, of one stage, one number and one line.
+pub fn first_fault_is_unique()
+    ensures { (text stage other : List ℕ) (number count : ℕ) (line place : Line) → IsSourceFault text stage number line → IsSourceFault text other count place → (stage ≡ other) × (number ≡ count) × (line ≡ place) }
+{}
+
+/// A text with a first fault is no program.
+pub fn program_excludes_fault()
+    ensures { (text stage : List ℕ) (program : Node) (slots number : ℕ) (line : Line) → IsProgram text program slots → IsSourceFault text stage number line → ⊥ }
+{}
+
+/// The output's count of faults doesn't fall in a call; and where it rose, 8 stands in place of the status.
+pub fn output_fault_gets_8<H: Host>(before: &H, after: &H)
+    ensures never_falls { (due : List ℕ) (status answered : ℕ) → Answers H.clock H.told H.output_faults before.now after.now due status answered → H.output_faults before.now ≤ H.output_faults after.now }
+    ensures stands { (due : List ℕ) (status answered : ℕ) → Answers H.clock H.told H.output_faults before.now after.now due status answered → H.output_faults before.now < H.output_faults after.now → answered ≡ 8 }
+{}

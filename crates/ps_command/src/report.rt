@@ -1,0 +1,75 @@
+ghost use Rattle.ps_port.specs.Telling.{joined};
+ghost use Rattle.ps_command.specs.Answering.{Answers};
+ghost use Rattle.ps_command.specs.Reports.{usage_line, memory_line, unreadable_line, too_long_line, fault_line};
+
+use itoa::Buffer;
+use ps_base::LONGEST_TEXT;
+use ps_base::line::Line;
+use ps_port::{Host, tell};
+
+/// The status where the output failed.
+pub const OUTPUT_FAULT: u8 = 8;
+
+/// Tells the usage line, and answers 1.
+pub fn usage<H: Host>(host: &mut H) -> u8
+    ensures { Answers H.clock H.told H.output_faults host.old host.new usage_line 1 result }
+{
+    answer(host, &[b"usage: psalgol COMMAND VOLUME WORDS\n"], 1)
+}
+
+/// Tells that there was no memory, and answers 5.
+pub fn no_memory<H: Host>(host: &mut H) -> u8
+    ensures { Answers H.clock H.told H.output_faults host.old host.new memory_line 5 result }
+{
+    answer(host, &[b"out of memory\n"], 5)
+}
+
+/// Tells that a text couldn't be read, and answers 7.
+pub fn unreadable<H: Host>(host: &mut H, file: &str) -> u8
+    ensures { Answers H.clock H.told H.output_faults host.old host.new (unreadable_line file.now) 7 result }
+{
+    answer(host, &[b"cannot read ", file.as_bytes(), b"\n"], 7)
+}
+
+/// Tells how long a text is that is too long, and answers 13.
+pub fn too_long<H: Host>(host: &mut H, file: &str, length: u64) -> u8
+    ensures { Answers H.clock H.told H.output_faults host.old host.new (too_long_line file.now length) 13 result }
+{
+    let mut of_length = Buffer::new();
+    let mut of_most = Buffer::new();
+    let count = of_length.format(length).as_bytes();
+    let most = of_most.format(LONGEST_TEXT).as_bytes();
+    let name = file.as_bytes();
+    answer(
+        host,
+        &[name, b": ", count, b" bytes, at most ", most, b"\n"],
+        13,
+    )
+}
+
+/// Tells the first fault of a text: its stage, its number and its line; and answers 2.
+pub fn fault<H: Host>(host: &mut H, file: &str, stage: &[u8], number: u8, line: Line) -> u8
+    ensures { Answers H.clock H.told H.output_faults host.old host.new (fault_line file.now stage.now number line) 2 result }
+{
+    let mut of_number = Buffer::new();
+    let mut of_line = Buffer::new();
+    let number = of_number.format(number).as_bytes();
+    let line = of_line.format(line.0).as_bytes();
+    let name = file.as_bytes();
+    answer(
+        host,
+        &[name, b": ", stage, b" ", number, b" at line ", line, b"\n"],
+        2,
+    )
+}
+
+// Tells pieces one after the other, and answers the status.
+#[tactic(auto, using(crate::specs::Answering::answering))]
+fn answer<H: Host>(host: &mut H, parts: &[&[u8]], status: u8) -> u8
+    ensures { Answers H.clock H.told H.output_faults host.old host.new (joined parts.now) status result }
+{
+    match tell::pieces(host, parts) {
+        Ok(()) => status,
+        Err(_) => OUTPUT_FAULT,
+    }
+}

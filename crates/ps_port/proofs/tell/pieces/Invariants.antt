@@ -1,0 +1,8 @@
+-- The pieces before the next one were told.
+use Rattle.std.proofs.Common.{drop}
+use Rattle.ps_port.specs.Telling.{joined}
+use Rattle.ps_port.proofs.Telling.{SoFar}
+use Rattle.ps_port.proofs.tell.pieces.Given as goal
+
+abbrev pub invariant-loop-part : goal.invariant-loop-part
+invariant-loop-part g l = SoFar g.H.Host.clock g.H.Host.told g.H.Host.output_faults l.initial.host l.host (joined l.parts) (joined (drop l.part-index l.parts))

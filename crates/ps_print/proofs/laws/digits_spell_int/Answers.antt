@@ -1,5 +1,0 @@
-use Rattle.ps_print.proofs.Spelt.{int_is_spelled}
-use Rattle.ps_print.proofs.laws.digits_spell_int.Goals as goal
-
-pub returns : goal.returns
-returns c = int_is_spelled

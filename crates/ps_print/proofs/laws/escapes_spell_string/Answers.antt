@@ -1,5 +1,0 @@
-use Rattle.ps_print.proofs.Spelt.{string_is_spelled}
-use Rattle.ps_print.proofs.laws.escapes_spell_string.Goals as goal
-
-pub returns : goal.returns
-returns c = string_is_spelled

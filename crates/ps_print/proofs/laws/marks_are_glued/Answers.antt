@@ -1,5 +1,0 @@
-use Rattle.ps_print.proofs.Marks.{one_is_mark}
-use Rattle.ps_print.proofs.laws.marks_are_glued.Goals as goal
-
-pub returns : goal.returns
-returns c = one_is_mark

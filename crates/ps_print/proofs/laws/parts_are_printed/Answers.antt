@@ -1,5 +1,0 @@
-use Rattle.ps_print.proofs.Parts.{printable_append}
-use Rattle.ps_print.proofs.laws.parts_are_printed.Goals as goal
-
-pub returns : goal.returns
-returns c = printable_append

@@ -1,5 +1,0 @@
-use Rattle.ps_print.proofs.PrintedBack.{prints_back}
-use Rattle.ps_print.proofs.laws.prints_are_read_back.Goals as goal
-
-pub returns : goal.returns
-returns c = prints_back

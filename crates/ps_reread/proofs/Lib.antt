@@ -1,0 +1,24 @@
+pub mod Appending
+pub mod Begins
+pub mod Canonical
+pub mod Climb
+mod Examples
+pub mod Fronts
+pub mod Given
+pub mod Glued
+pub mod Heads
+pub mod Leaves
+pub mod Making
+pub mod Marks
+pub mod Parts
+pub mod Pieced
+pub mod Pieces
+pub mod Printable
+pub mod PrintedBack
+pub mod Read
+pub mod Rereading
+pub mod Spelt
+pub mod Standing
+pub mod Texts
+pub mod TypesRead
+pub mod Weakening

@@ -1,6 +1,0 @@
-use Rattle.std.proofs.Common.{arith}
-use Rattle.psalgol.proofs.WordLemmas.{four}
-use Rattle.psalgol.proofs.words.read_words.Goals as goal
-
-pub returns-in-len4 : goal.returns-in-len4
-returns-in-len4 c = four c.args.words.now (omega arith)

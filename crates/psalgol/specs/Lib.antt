@@ -1,6 +1,0 @@
-pub mod Answering
-pub mod Command
-pub mod Reports
-pub mod Source
-pub mod TextDue
-pub mod Words
