@@ -10,8 +10,8 @@ use Rattle.ps_tree.specs.Phrase as form
 use Rattle.ps_program.specs.declared.place.Place.TheVariants.{Plain, Kept}
 use Rattle.ps_program.specs.Node.{Node, Nodes, body}
 use Rattle.ps_program.specs.Node as node
-use Rattle.ps_names.specs.Placed as placed
-use Rattle.ps_typing.specs.Fault.{Unknown, Twice, Mismatch, NotAssignable, NotApplicable, TooComplex}
+use Rattle.ps_typing.specs.Placed as placed
+use Rattle.ps_typing.specs.Fault.{Unknown, Twice, Mismatch, NotAssignable, NotApplicable}
 use Rattle.ps_typing.specs.Checking.{◌>>=◌, passes, assigned}
 use Rattle.ps_typing.specs.Program.{Typed, Fails, check_program}
 

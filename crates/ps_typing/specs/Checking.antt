@@ -1,6 +1,6 @@
 -- The typing rules: the typed tree of a clause, or its first fault in the order of the text. A name is a plain place with its
 -- number. The rules stand in the order of the table of the language reference.
-use Rattle.std.specs.Prelude.{ℕ, ℤ, pos, ◌+◌, Bool, true, false, ◌&&◌, ◌||◌, not, Option, Some, None, List, [], ◌∷◌, ◌++◌, map, length, nat_lt, nat_eq, if◌then◌else◌}
+use Rattle.std.specs.Prelude.{ℕ, pos, ◌+◌, Bool, true, false, ◌&&◌, Option, Some, None, List, [], ◌∷◌, ◌++◌, map, length, nat_lt, nat_eq, if◌then◌else◌}
 use Rattle.ps_base.specs.TyView.{TyView, TyViews}
 use Rattle.ps_base.specs.TyView as types
 use Rattle.ps_base.specs.declared.line.Line.{Line}
@@ -8,13 +8,12 @@ use Rattle.ps_base.specs.declared.operator.Relation.{Relation}
 use Rattle.ps_base.specs.declared.operator.Relation.TheVariants.{Equal, NotEqual}
 use Rattle.ps_tree.specs.Phrase.{NameAt, GroupAt, Phrase, at, Form, Phrases, none, more, MaybePhrase, absent, present, Arm, arm, Arms, no_arms, more_arms, WriteItem, item, WriteItems, no_items, more_items}
 use Rattle.ps_tree.specs.Phrase as form
-use Rattle.ps_program.specs.declared.place.Place.{Place}
 use Rattle.ps_program.specs.declared.place.Place.TheVariants.{Plain}
 use Rattle.ps_program.specs.Node.{Param, Node, Nodes, body}
 use Rattle.ps_program.specs.Node as node
 use Rattle.ps_type_text.specs.Texts.{Field, class_text}
 use Rattle.ps_typing.specs.Fault.{Fault, Unknown, Twice, Mismatch, NotAssignable, NotApplicable, Limit}
-use Rattle.ps_typing.specs.Names.{Procedure, plain, scan, Meaning, local, class, library, Names, FieldOf, meant, field_meant, is_declared, is_field_declared, declare, declare_local, declare_field, inside, behind}
+use Rattle.ps_typing.specs.Names.{plain, scan, Meaning, local, class, library, Names, FieldOf, meant, field_meant, is_declared, is_field_declared, declare, declare_local, declare_field, inside, behind}
 use Rattle.ps_typing.specs.Library.{caller}
 
 -- What the check of something gives: it, its type, and the names behind it; or the first fault.

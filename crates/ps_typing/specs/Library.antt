@@ -3,7 +3,7 @@ use Rattle.std.specs.Prelude.{ℕ, List, [], ◌∷◌, true, false, codes}
 use Rattle.ps_base.specs.TyView.{TyView, TyViews, none, more}
 use Rattle.ps_base.specs.TyView as ty
 use Rattle.ps_type_text.specs.Texts.{Field, class_text}
-use Rattle.ps_typing.specs.Names.{Procedure, plain, scan, Meaning, library, class, Declared, FieldOf, Names}
+use Rattle.ps_typing.specs.Names.{plain, scan, library, class, Declared, FieldOf, Names}
 
 abbrev pub one : TyView → TyViews
 one a = more a none

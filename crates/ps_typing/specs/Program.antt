@@ -8,9 +8,8 @@ use Rattle.ps_program.specs.Node.{Node, BodyNode, body}
 use Rattle.ps_program.specs.Node as node
 use Rattle.ps_program.specs.Parts.{Part, operand, label, branch, literal, fold}
 use Rattle.ps_program.specs.Slots.{slot_count}
-use Rattle.ps_names.specs.Placed.{placed_program}
+use Rattle.ps_typing.specs.Placed.{placed_program}
 use Rattle.ps_typing.specs.Fault.{Fault, TooComplex}
-use Rattle.ps_typing.specs.Names.{Names}
 use Rattle.ps_typing.specs.Library.{library_names}
 use Rattle.ps_typing.specs.Checking.{Outcome, Gives, Refuses, check, wants, line_of}
 

@@ -1,13 +1,11 @@
 -- A clause in which each name has its place, each loop and each scan its locals, and each scope its text.
-use Rattle.std.specs.Prelude.{ℕ, ◌+◌, List, [], ◌∷◌, ◌++◌, map, Option, Some, None}
+use Rattle.std.specs.Prelude.{◌+◌, List, [], ◌∷◌, map}
 use Rattle.ps_base.specs.TyView as ty
-use Rattle.ps_program.specs.declared.place.Place.{Place}
-use Rattle.ps_program.specs.declared.place.Place.TheVariants.{Plain, Kept}
 use Rattle.ps_program.specs.Node.{Param, Node, Nodes, none, more, Arm, arm, Arms, no_arms, more_arms, BodyNode, body}
 use Rattle.ps_program.specs.Node as node
 use Rattle.ps_type_text.specs.Texts.{Field}
-use Rattle.ps_names.specs.Mentions.{number_of, numbers, kept_names, common}
-use Rattle.ps_names.specs.Placing.{Locals, Around, is_number, with_name, with_declared, place_of, scope_text, inside, declared}
+use Rattle.ps_typing.specs.Mentions.{number_of, numbers, kept_names, common}
+use Rattle.ps_typing.specs.Placing.{Locals, Around, with_name, with_declared, place_of, scope_text, inside, declared}
 
 -- what has its places, and the locals behind it
 pub record Given (A : Type 0) : Type 0 where

@@ -1,15 +1,14 @@
 -- The places of worked programs.
-use Rattle.std.proofs.Common.{◌≡◌, refl, ℕ, pos, List, [], ◌∷◌, None, Some, false, true}
+use Rattle.std.proofs.Common.{◌≡◌, refl, ℕ, pos, List, [], ◌∷◌, None, Some}
 use Rattle.std.specs.Prelude.{codes}
 use Rattle.ps_base.specs.TyView.{TyView}
 use Rattle.ps_base.specs.TyView as ty
 use Rattle.ps_base.specs.declared.line.Line.{Line}
-use Rattle.ps_program.specs.declared.place.Place.{Place}
 use Rattle.ps_program.specs.declared.place.Place.TheVariants.{Plain, Kept}
 use Rattle.ps_program.specs.Node.{Node, Nodes, none, more, BodyNode, body}
 use Rattle.ps_program.specs.Node as node
 use Rattle.ps_type_text.specs.Texts.{Field}
-use Rattle.ps_names.specs.Placed.{placed_program, then_give, ◌>>=◌}
+use Rattle.ps_typing.specs.Placed.{placed_program, then_give, ◌>>=◌}
 
 abbrev one : Line
 one = record { 0 = 1 }

@@ -1,5 +1,5 @@
 -- Where the names of a body are kept.
-use Rattle.std.specs.Prelude.{ℕ, ◌+◌, nat_eq, Bool, true, false, List, [], ◌∷◌, ◌++◌, map, codes, slice_get, Option, Some, None, if◌then◌else◌}
+use Rattle.std.specs.Prelude.{ℕ, ◌+◌, nat_eq, Bool, true, false, List, [], ◌∷◌, map, codes, slice_get, Option, Some, None, if◌then◌else◌}
 use Rattle.ps_base.specs.TyView.{TyView}
 use Rattle.ps_base.specs.TyView as ty
 use Rattle.ps_program.specs.declared.place.Place.{Place}
@@ -7,7 +7,7 @@ use Rattle.ps_program.specs.declared.place.Place.TheVariants.{Plain, Kept}
 use Rattle.ps_program.specs.Node.{Node, Nodes, none, more}
 use Rattle.ps_program.specs.Node as node
 use Rattle.ps_type_text.specs.Texts.{Field, class_text}
-use Rattle.ps_names.specs.Mentions.{number_of, common, is_among}
+use Rattle.ps_typing.specs.Mentions.{number_of, is_among}
 
 -- The next free local on each stack, and the locals of the names that have one.
 pub record Locals : Type 0 where
