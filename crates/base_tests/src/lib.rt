@@ -1,10 +1,12 @@
-//! Tests of the types that the layers share, and of the search of a table of cases.
+//! Tests of the types that the layers share, of their texts, and of the search of a table of cases.
 #![tactic(auto)]
 
 #[cfg(test)]
 mod cases;
 #[cfg(test)]
 mod trees;
+#[cfg(test)]
+mod type_texts;
 #[cfg(test)]
 mod types;
 #[cfg(test)]
