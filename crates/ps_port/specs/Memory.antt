@@ -1,5 +1,5 @@
 -- A host in memory: what it keeps, which of its calls fail, and what had been told at a moment.
-use Rattle.std.specs.Prelude.{◌≡◌, ℕ, ◌+◌, ◌-◌, ◌*◌, ◌/◌, ◌^◌, ◌≤◌, Bool, ◌||◌, ◌&&◌, ◌==◌, nat_le, nat_lt, not, if◌then◌else◌, List, [], ◌∷◌, ◌++◌, length, take, sum_by}
+use Rattle.std.specs.Prelude.{◌≡◌, ℕ, ◌+◌, ◌-◌, ◌*◌, ◌/◌, ◌^◌, Bool, ◌||◌, ◌&&◌, ◌==◌, nat_le, nat_lt, not, if◌then◌else◌, List, [], ◌∷◌, ◌++◌, length, take, sum_by}
 use Rattle.std.specs.List.{list_any}
 use Rattle.ps_port.specs.declared.memory_host.Call.{Call}
 use Rattle.ps_port.specs.Told.{next_count, counted}
