@@ -11,17 +11,23 @@ fn chain(alloc: Global, length: u32) -> Result<Tree, Fail> {
     let mut tree = Tree::new(alloc, TreeForm::Int(1))?;
     for place in 0..length {
         let b = Tree::new(alloc, TreeForm::Int(2))?;
-        let form = match place % 3 {
-            0 => TreeForm::And { a: tree, b },
-            1 => TreeForm::Or { a: tree, b },
-            _ => TreeForm::Arith {
-                op: Operator::Add,
-                a: tree,
-                b,
-                line: Line(1),
-            },
+        tree = match place % 3 {
+            0 => Tree::new(alloc, TreeForm::And { a: tree, b })?,
+            1 => Tree::new(alloc, TreeForm::Or { a: tree, b })?,
+            _ => {
+                let op = Operator::Add;
+                let line = Line(1);
+                Tree::new(
+                    alloc,
+                    TreeForm::Arith {
+                        op,
+                        a: tree,
+                        b,
+                        line,
+                    },
+                )?
+            }
         };
-        tree = Tree::new(alloc, form)?;
     }
     Ok(tree)
 }

@@ -1,5 +1,5 @@
 -- The first of several forms that aren't built, and the view of an item of a write.
-use Rattle.std.proofs.Common.{◌≡◌, refl, sym, ap, ◌∙◌}
+use Rattle.std.proofs.Common.{◌≡◌, ◌+◌, ◌≤◌, arith, refl, sym, ap, ◌∙◌}
 use Rattle.std.specs.Prelude.{Option, Some, None}
 use Rattle.ps_base.specs.declared.line.Line.{Line}
 use Rattle.ps_tree.specs.declared.rough.Rough.{Rough}
@@ -8,6 +8,7 @@ use Rattle.ps_tree.specs.declared.rough.RoughForm.{RoughForm}
 use Rattle.ps_tree.specs.declared.rough.RoughForm.TheBlock.{struct-RoughItem, struct-RoughRange, RoughItem-w-None', RoughItem-w-Some'}
 use Rattle.ps_tree.specs.declared.rough.RoughForm.TheVariants as code
 use Rattle.ps_tree.specs.Phrase.{MaybePhrase, present, absent, at, item, form_of, phrase_of, maybe_of, item_of}
+use Rattle.ps_types.specs.inside.PhraseWeights.{weight, weight_form}
 use Rattle.ps_types.specs.Built.{or_else, first_unbuilt, unbuilt_in, unbuilt_item, width_line}
 
 pub first_of_three : (a b c : Option Line) → or_else (or_else a b) c ≡ or_else a (or_else b c)
@@ -55,3 +56,12 @@ item_found r width is_width other =
     ap (or_else (first_unbuilt (phrase_of e))) is_width
     ∙ sym (not_text e.form.value e.line (width_of r) (out-RoughItem r).line other)
     ∙ sym (ap unbuilt_item (item_parts r))
+
+-- a clause is read by its form, and weighs more than its parts
+pub reads_as : (rough : Rough) {f d : RoughForm} → d ≡ rough.form.value → d ≡ f → unbuilt_in rough.line (form_of f) ≡ first_unbuilt (phrase_of rough)
+reads_as rough deref is = sym (ap (λ f. unbuilt_in rough.line (form_of f)) (sym deref ∙ is))
+
+pub outweighs : (rough : Rough) {f d : RoughForm} → d ≡ rough.form.value → d ≡ f → weight_form (form_of f) + 1 ≤ weight (phrase_of rough)
+outweighs rough {f} deref is =
+    let same : weight_form (form_of rough.form.value) ≡ weight_form (form_of f) = ap (λ f. weight_form (form_of f)) (sym deref ∙ is) in
+    omega (arith, same)
