@@ -1,24 +1,22 @@
 -- How a clause begins, and what doesn't begin one.
-use Rattle.std.proofs.Common.{◌≡◌, ◌≢◌, ℕ, suc, ◌+◌, List, [], ◌∷◌, ◌++◌, Bool, true, false, Option, Some, None, is_some, option_map, nat_lt, refl, sym, subst, ap, ◌∙◌}
-use Rattle.std.specs.Prelude.{if◌then◌else◌}
+use Rattle.std.proofs.Common.{◌≡◌, ◌≢◌, ℕ, suc, ◌+◌, List, [], ◌∷◌, Bool, true, false, Option, Some, None, is_some, option_map, nat_lt, refl, ap}
 use Rattle.ps_base.specs.declared.line.Line.{Line}
 use Rattle.ps_symbols.specs.declared.kind.Kind.{Kind}
 use Rattle.ps_symbols.specs.declared.kind.Kind.TheVariants as kind
 use Rattle.ps_symbols.specs.declared.kind.Level.TheVariants.{Disjunction}
 use Rattle.ps_symbols.specs.declared.kind.Opening.{Opening}
-use Rattle.ps_symbols.specs.declared.kind.Opening.TheVariants as opening
 use Rattle.ps_symbols.specs.declared.symbol.Symbol.{Symbol}
 use Rattle.ps_symbols.specs.Kinds.{opening_of, begins_item}
 use Rattle.ps_tree.specs.Phrase.{NameAt, Phrase, at, Form, Phrases, none, more, absent, Arms}
 use Rattle.ps_tree.specs.Phrase as form
-use Rattle.ps_parse.specs.Grammar.{Made, a_clause, Part, Rule, Give, Go, Open, Then, Clause, a_clause_inside, Chain, Primary, SecondArgument, MoreArguments, Labels, inside, row, opened, expression, arguments, cases, one_item, between, with_clause, give}
+use Rattle.ps_parse.specs.Grammar.{Made, a_clause, Rule, Go, Clause, a_clause_inside, Chain, Primary, SecondArgument, Labels, inside, row, opened, expression, arguments, cases, one_item, between, with_clause, give}
 use Rattle.ps_parse.specs.Reading.{kind_at, Reads, gives, takes, goes, opens, joins}
 use Rattle.ps_print.specs.Lexemes.{Gap, Lexeme}
 use Rattle.ps_print.specs.Layout.{Tightness, number_of, Behind, before_do, in_brackets, close_round, loosest, disjunction, primary}
 use Rattle.ps_print.specs.Layout as layout
 use Rattle.ps_reread.specs.Bare.{bare}
 use Rattle.ps_reread.proofs.Standing.{Stands, cut}
-use Rattle.ps_reread.proofs.Heads.{Head, head, ended}
+use Rattle.ps_reread.proofs.Heads.{head, ended}
 use Rattle.ps_reread.proofs.Climb.{Rereads, Leads, Above, expression_opens, starts_disjunction, give_back, lead_at, close_disjunction}
 use Rattle.ps_reread.proofs.Climb as climb
 use Rattle.ps_reread.proofs.Fronts.{InFront, of_do, of_comma, of_colon, of_other, closes, no_operator, no_assignment, all_above}

@@ -1,12 +1,11 @@
 -- What stands behind a clause, and that no part of an expression goes on with it.
-use Rattle.std.proofs.Common.{◌≡◌, ℕ, ◌+◌, List, [], ◌∷◌, Bool, true, false, None, refl, ap}
+use Rattle.std.proofs.Common.{◌≡◌, Bool, true, false, None, refl, ap}
 use Rattle.ps_symbols.specs.declared.kind.Kind.{Kind}
 use Rattle.ps_symbols.specs.declared.kind.Kind.TheVariants as kind
 use Rattle.ps_symbols.specs.declared.kind.Level.TheVariants.{Disjunction, Conjunction, Sum, Product}
-use Rattle.ps_symbols.specs.declared.symbol.Symbol.{Symbol}
 use Rattle.ps_symbols.specs.Kinds.{operation_of, relating_of}
 use Rattle.ps_tree.specs.Phrase.{Phrase}
-use Rattle.ps_parse.specs.Grammar.{Rule, Give, a_clause, assignment}
+use Rattle.ps_parse.specs.Grammar.{Give, a_clause, assignment}
 use Rattle.ps_print.specs.Layout.{Behind, other, before_do, before_comma, before_colon, disjunction}
 use Rattle.ps_reread.proofs.Climb.{Above, above_signed, above_product, above_sum, above_comparison, above_negation, above_conjunction, above_disjunction, opens_arguments}
 

@@ -19,7 +19,6 @@ use Rattle.ps_symbols.specs.Kinds.{operation_of, relating_of, begins_item, begin
 use Rattle.ps_tree.specs.Phrase.{NameAt, GroupAt, Phrase, at, Phrases, none, more, MaybePhrase, absent, present, Arms, WriteItems, no_items, more_items}
 use Rattle.ps_tree.specs.Phrase as form
 use Rattle.ps_parse.specs.Grammar
-use Rattle.ps_tree.specs.Composing.{and_then}
 use Rattle.ps_parse.specs.Grammar.{Made, a_clause, Part, Program, Ending, Ended, Items, MoreItems, Item, Binding, Literal, Parameters, Groups, MoreGroups, NextGroup, Result, ParameterTypes, MoreTypes, Choice, Until, Test, Between, Step, Body, Cases, Labels, Written, Width, MoreWritten, Assignment, Chain, MoreChain, Relative, Compared, Comparison, Factor, Application, Applied, Arguments, SecondArgument, MoreArguments, Primary, MoreElements, Rule, Give, Take, Go, Then, Clause, Type_, a_clause_inside, a_type_inside, the_clause, the_type, the_types, the_groups, the_item, inside, row, opened, typed_as}
 use Rattle.ps_parse.specs.Reading.{kind_at, kind_of_next, Reads, gives, takes, goes, opens, joins}
 use Rattle.ps_parse.specs.Program.{IsProgram}
@@ -369,4 +368,4 @@ program_items (sequence {items = items} all) = (items, refl, all)
 
 -- every program's tree is canonical
 pub canonical : (text : List ℕ) (tokens : List Token) (nesting : ℕ) (tree : Phrase) → HasTokens text tokens → IsProgram text nesting (symbols_of tokens) tree → (items : Phrases) × (tree ≡ at (form.Sequence items) (line_of 1)) × AreItemsOf nesting items
-canonical text tokens nesting tree scans program = program_items (typed_reads (leaves scans) program.1 (part tt))
+canonical text tokens nesting tree scans program = program_items (typed_reads (leaves scans) program (part tt))

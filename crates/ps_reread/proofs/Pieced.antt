@@ -1,10 +1,10 @@
 -- Lexemes laid out one behind the other: each is spelled as it should be, none changes the one before
 -- it, and no `;` is read at a newline.
-use Rattle.std.proofs.Common.{◌≡◌, ℕ, Bool, true, false, not, ◌&&◌, IsTrue, List, [], ◌∷◌, ◌++◌, Some, refl, sym, subst, ap, ◌∙◌}
-use Rattle.std.proofs.lemmas.List.{append-nil, append_assoc}
+use Rattle.std.proofs.Common.{◌≡◌, ℕ, Bool, true, false, not, ◌&&◌, List, [], ◌∷◌, ◌++◌, Some, refl, sym, subst, ap, ◌∙◌}
+use Rattle.std.proofs.lemmas.List.{append_assoc}
 use Rattle.ps_scan.specs.declared.mark.TheConstants as mark
 use Rattle.ps_scan.specs.declared.token.TokenKind.{TokenKind}
-use Rattle.ps_scan.specs.declared.token.TokenKind.TheVariants.{Name, Int, Text, Word, Mark}
+use Rattle.ps_scan.specs.declared.token.TokenKind.TheVariants.{Mark}
 use Rattle.ps_scan.specs.Names.{mark_place}
 use Rattle.ps_scan.specs.Tokens.{IsSpelled}
 use Rattle.ps_symbols.specs.Kinds.{kind_of}

@@ -1,10 +1,9 @@
 -- The layout of a canonical tree is scanned as it was meant, and no `;` is read in it but those that are
 -- written.
-use Rattle.std.proofs.Common.{◌≡◌, ℕ, suc, ◌+◌, Bool, true, false, nat_lt, IsTrue, List, [], ◌∷◌, ◌++◌, Some, refl, sym, subst, ap, ◌∙◌}
+use Rattle.std.proofs.Common.{◌≡◌, ℕ, ◌+◌, Bool, true, false, nat_lt, List, [], ◌∷◌, ◌++◌, refl, sym, subst, ap, ◌∙◌}
 use Rattle.std.specs.Prelude.{if◌then◌else◌, codes}
 use Rattle.std.proofs.lemmas.List.{append_assoc}
 use Rattle.ps_base.specs.TyView.{TyView, TyViews}
-use Rattle.ps_base.specs.TyView as ty
 use Rattle.ps_base.specs.declared.operator.Operator.TheVariants as arith
 use Rattle.ps_base.specs.declared.operator.Relation.{Relation}
 use Rattle.ps_base.specs.declared.operator.Relation.TheVariants as order
@@ -17,29 +16,28 @@ use Rattle.ps_tree.specs.Phrase as form
 use Rattle.ps_print.specs.Lexemes.{Gap, nothing, blank, newline, Lexeme}
 use Rattle.ps_reread.specs.Printable.{first_passes, may_follow}
 use Rattle.ps_reread.specs.Lines.{goes_on}
-use Rattle.ps_print.specs.Layout.{lexeme, the_word, the_mark, name_lexeme, open_round, close_round, comma, semicolon, colon, do_word, in_brackets, type_lexemes, types_lexemes, more_types_lexemes, group_lexemes, groups_lexemes, more_groups_lexemes, heading_lexemes, behind_arrow, becomes, is_word, flag_word, bound_word, sign_of_relation, Tightness, number_of, tightness, loosest, disjunction, conjunction, negation, sum, product, signed, application, primary, Behind, other, before_do, before_comma, before_colon, is_taken, behind_clause, behind_item, form_lexemes, clause_lexemes, operand_lexemes, block_lexemes, lines_lexemes, clauses_lexemes, more_clauses_lexemes, arms_lexemes, arm_lexemes, items_lexemes, more_items_lexemes, item_lexemes, program_lexemes}
-use Rattle.ps_print.specs.Layout as layout
+use Rattle.ps_print.specs.Layout.{lexeme, the_word, the_mark, name_lexeme, open_round, close_round, comma, semicolon, colon, do_word, in_brackets, type_lexemes, types_lexemes, more_types_lexemes, group_lexemes, groups_lexemes, more_groups_lexemes, heading_lexemes, behind_arrow, becomes, is_word, flag_word, bound_word, sign_of_relation, Tightness, number_of, tightness, application, primary, Behind, other, before_colon, form_lexemes, clause_lexemes, operand_lexemes, lines_lexemes, clauses_lexemes, more_clauses_lexemes, arms_lexemes, more_items_lexemes, item_lexemes, program_lexemes}
 use Rattle.ps_print.specs.Spellings.{int_text, string_text}
 use Rattle.ps_print.specs.inside.Waiting.{is_procedure}
 use Rattle.ps_reread.specs.Spelled.{can_be_spelled}
 use Rattle.ps_reread.proofs.Canonical.{IsType, AreTypes, IsResult, AreGroups, IsForm, IsClause, IsOperand, AreClauses, AreArms, AreItems, IsWritten, AreItemsOf, IsItem}
 use Rattle.ps_reread.proofs.Canonical as is
 use Rattle.ps_reread.proofs.Glued.{all_passes}
-use Rattle.ps_reread.proofs.Pieced.{Good, Width, any, narrow, Starts, Ends, Begins, Admits, next, under, Piece, Rest, begins_with, Glues, Follows, Prefix, good_nothing, good_cons, admitted_free, admitted_over, glued_follows, rest_nothing, piece_then, rest_then, piece_word, piece_leaf, piece_apart, piece_below, rest_word, rest_leaf, rest_glued, rest_close, prefix_admits, lone_glues, plus_admits, minus_admits, tilde_admits, piece_wider, piece_as, rest_as}
+use Rattle.ps_reread.proofs.Pieced.{Good, Width, any, narrow, Starts, Ends, Begins, Admits, next, under, Piece, Rest, begins_with, Glues, Prefix, good_nothing, good_cons, admitted_free, admitted_over, glued_follows, rest_nothing, piece_then, rest_then, piece_word, piece_leaf, piece_apart, piece_below, rest_word, rest_leaf, rest_glued, rest_close, prefix_admits, lone_glues, plus_admits, minus_admits, tilde_admits, piece_wider, piece_as, rest_as}
 use Rattle.ps_reread.proofs.Spelt.{int_is_spelled, string_is_spelled}
 
 -- the marks that are glued to an end
 comma_glues : Glues comma
-comma_glues = lone_glues mark.COMMA refl
+comma_glues = lone_glues mark.COMMA (codes ",") refl
 
 semicolon_glues : Glues semicolon
-semicolon_glues = lone_glues mark.SEMICOLON refl
+semicolon_glues = lone_glues mark.SEMICOLON (codes ";") refl
 
 close_glues : Glues close_round
-close_glues = lone_glues mark.CLOSE_ROUND refl
+close_glues = lone_glues mark.CLOSE_ROUND (codes ")") refl
 
 open_glues : Glues (open_round nothing)
-open_glues = lone_glues mark.OPEN_ROUND refl
+open_glues = lone_glues mark.OPEN_ROUND (codes "(") refl
 
 -- what stands in brackets: nothing, or a part glued to the bracket or behind a blank
 data Inner : List Lexeme → Type 0 where
@@ -201,7 +199,7 @@ mutual
   form_piece (is.write unclosed (is.and_items one others)) n gap = piece_word (the_word gap word.WRITE) refl (Starts.no_mark refl) refl next (piece_then (item_piece one n) (items_rest others n))
   form_piece is.abort n gap = piece_leaf (the_word gap word.ABORT) refl (Starts.no_mark refl) (Ends.no_mark refl) refl rest_nothing
   form_piece (is.proc pp gg ss) n gap = piece_leaf (the_word gap word.PROC) refl (Starts.no_mark refl) (Ends.no_mark refl) refl (heading_rest pp gg (clause_piece ss n blank))
-  form_piece (is.vector ll uu ee) n gap = piece_word (the_word gap word.VECTOR) refl (Starts.no_mark refl) refl next (piece_then (clause_piece ll n blank) (rest_glued (the_mark nothing mark.DOUBLE_COLON) (lone_glues mark.DOUBLE_COLON refl) (prefix_admits nothing (codes "::") Prefix.double_colon) (piece_then (clause_piece uu n nothing) (rest_word (the_word blank word.OF) refl refl next (clause_piece ee n blank)))))
+  form_piece (is.vector ll uu ee) n gap = piece_word (the_word gap word.VECTOR) refl (Starts.no_mark refl) refl next (piece_then (clause_piece ll n blank) (rest_glued (the_mark nothing mark.DOUBLE_COLON) (lone_glues mark.DOUBLE_COLON (codes "::") refl) (prefix_admits nothing (codes "::") Prefix.double_colon) (piece_then (clause_piece uu n nothing) (rest_word (the_word blank word.OF) refl refl next (clause_piece ee n blank)))))
   form_piece (is.assign xx ee) n gap = piece_then (operand_piece xx n gap) (rest_word (becomes true) refl refl next (clause_piece ee n blank))
   form_piece (is.or aa bb) n gap = piece_then (operand_piece aa n gap) (rest_word (the_word blank word.OR) refl refl next (operand_piece bb n blank))
   form_piece (is.and aa bb) n gap = piece_then (operand_piece aa n gap) (rest_word (the_word blank word.AND) refl refl next (operand_piece bb n blank))
@@ -219,7 +217,7 @@ mutual
   form_piece (is.neg ee) n gap = piece_word (the_mark gap mark.MINUS) refl Starts.minus refl (minus_admits gap) (narrow_piece refl ee n nothing)
   form_piece (is.apply ff is.no_clauses) n gap = piece_then (narrow_piece refl ff n gap) (brackets_rest empty)
   form_piece (is.apply ff (is.more_clauses one others)) n gap = piece_then (narrow_piece refl ff n gap) (brackets_rest (part (piece_then (clause_piece one n nothing) (clauses_rest others n))))
-  form_piece (is.part ss ii mm) n gap = piece_then (narrow_piece refl ss n gap) (brackets_rest (part (piece_then (clause_piece ii n nothing) (rest_glued (the_mark nothing mark.BAR) (lone_glues mark.BAR refl) (prefix_admits nothing (codes "|") Prefix.bar) (clause_piece mm n nothing)))))
+  form_piece (is.part ss ii mm) n gap = piece_then (narrow_piece refl ss n gap) (brackets_rest (part (piece_then (clause_piece ii n nothing) (rest_glued (the_mark nothing mark.BAR) (lone_glues mark.BAR (codes "|") refl) (prefix_admits nothing (codes "|") Prefix.bar) (clause_piece mm n nothing)))))
   form_piece (is.sequence is.no_item) n gap = record { good = λ tail good follows. good_cons (the_mark gap mark.OPEN_CURLY) ((the_mark nothing mark.CLOSE_CURLY) ∷ tail) refl refl refl (good_cons (the_mark nothing mark.CLOSE_CURLY) tail refl (follows.free (the_mark nothing mark.CLOSE_CURLY) Ends.curly refl) (follows.over (the_mark nothing mark.CLOSE_CURLY) Ends.curly) good); begins = λ tail. curly_begins gap ((the_mark nothing mark.CLOSE_CURLY) ∷ tail) }
   form_piece (is.sequence (is.one_more one others)) n gap = let l = lines_piece others (n + 2) n in piece_word (the_mark gap mark.OPEN_CURLY) refl Starts.curly refl (under refl) (piece_then (sequence_item_piece one (n + 2) (newline (n + 2))) (rest_glued semicolon semicolon_glues (under refl) l.1))
   form_piece (is.name {bytes = bytes} of_name) n gap = piece_leaf (name_lexeme gap bytes) of_name (Starts.no_mark refl) name_ends refl rest_nothing
@@ -230,7 +228,7 @@ mutual
   form_piece is.nil n gap = piece_leaf (the_word gap word.NIL) refl (Starts.no_mark refl) (Ends.no_mark refl) refl rest_nothing
   form_piece (is.bound {upper = true} ee) n gap = piece_leaf (bound_word gap true) refl (Starts.no_mark refl) (Ends.no_mark refl) refl (brackets_rest (part (clause_piece ee n nothing)))
   form_piece (is.bound {upper = false} ee) n gap = piece_leaf (bound_word gap false) refl (Starts.no_mark refl) (Ends.no_mark refl) refl (brackets_rest (part (clause_piece ee n nothing)))
-  form_piece (is.elems ll tt' (is.more_clauses one others)) n gap = piece_word (the_mark gap mark.AT) refl Starts.elements refl (prefix_admits gap (codes "@") Prefix.at_sign) (piece_then (clause_piece ll n nothing) (rest_word (the_word blank word.OF) refl refl next (piece_then (type_piece tt' blank) (rest_word (the_mark blank mark.OPEN_SQUARE) refl refl (prefix_admits blank (codes "[") Prefix.open_square) (piece_then (piece_then (clause_piece one n nothing) (clauses_rest others n)) (rest_close (the_mark nothing mark.CLOSE_SQUARE) (lone_glues mark.CLOSE_SQUARE refl) Ends.square rest_nothing))))))
+  form_piece (is.elems ll tt' (is.more_clauses one others)) n gap = piece_word (the_mark gap mark.AT) refl Starts.elements refl (prefix_admits gap (codes "@") Prefix.at_sign) (piece_then (clause_piece ll n nothing) (rest_word (the_word blank word.OF) refl refl next (piece_then (type_piece tt' blank) (rest_word (the_mark blank mark.OPEN_SQUARE) refl refl (prefix_admits blank (codes "[") Prefix.open_square) (piece_then (piece_then (clause_piece one n nothing) (clauses_rest others n)) (rest_close (the_mark nothing mark.CLOSE_SQUARE) (lone_glues mark.CLOSE_SQUARE (codes "]") refl) Ends.square rest_nothing))))))
 
   clauses_rest : {room : ℕ} {last : Behind} {ps : Phrases} → AreClauses room last ps → (n : ℕ) → Rest (more_clauses_lexemes n last ps)
   clauses_rest is.no_clauses n = rest_nothing

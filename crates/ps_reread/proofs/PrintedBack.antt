@@ -1,8 +1,8 @@
 -- Whatever text has a tree, what it is printed as is read as that tree but for lines.
-use Rattle.std.proofs.Common.{◌≡◌, ℕ, zero, suc, ◌+◌, ◌≤◌, List, [], ◌∷◌, ◌++◌, length, Bool, Some, None, slice_get, refl, sym, subst, ap, ◌∙◌, arith}
+use Rattle.std.proofs.Common.{◌≡◌, ℕ, suc, ◌+◌, List, [], ◌∷◌, length, Bool, Some, slice_get, refl, sym, subst, ap, ◌∙◌, arith}
 use Rattle.std.proofs.lemmas.Option.{slice_get_past}
 use Rattle.ps_scan.specs.declared.token.Token.{Token}
-use Rattle.ps_scan.specs.Tokens.{HasTokens, line_of}
+use Rattle.ps_scan.specs.Tokens.{line_of}
 use Rattle.ps_symbols.specs.declared.kind.Kind.{Kind}
 use Rattle.ps_symbols.specs.declared.kind.Kind.TheVariants as kind
 use Rattle.ps_symbols.specs.declared.symbol.Symbol.{Symbol}
@@ -11,10 +11,9 @@ use Rattle.ps_tree.specs.Phrase.{Phrase, Phrases, none, more, at}
 use Rattle.ps_tree.specs.Phrase as form
 use Rattle.ps_parse.specs.Grammar as grammar
 use Rattle.ps_parse.specs.Grammar.{a_clause, Go, Program}
-use Rattle.ps_parse.specs.Program.{IsProgram}
 use Rattle.ps_parse.specs.Reading.{kind_at, kind_of_next, Reads, gives, takes, goes, joins}
 use Rattle.ps_symbols.specs.Symbols.{symbol, symbols}
-use Rattle.ps_reread.specs.Bare.{bare, bare_all}
+use Rattle.ps_reread.specs.Bare.{bare_all}
 use Rattle.ps_print.specs.Layout.{semicolon, other, clause_lexemes, lines_lexemes, program_lexemes, printed}
 use Rattle.ps_print.specs.Lexemes.{nothing, Lexeme}
 use Rattle.ps_reread.specs.Printable.{tokens_of, AreSpelledBy}
@@ -69,7 +68,7 @@ reads_back nesting items are =
     let st = stands text (symbols tokens) 0 0 tokens ls (λ i sym is. ap (λ (p : ℕ). slice_get (symbols tokens) p) (omega arith) ∙ ap (λ (all : List Symbol). slice_get all i) one ∙ is) (printed_spelled ls) in
     let count = symbols_count ls good.lines in
     let r = program_reads (0 + length ls) are st (ap kind_of_next (slice_get_past (symbols tokens) (0 + length ls) (omega (arith, count)))) in
-    record { tokens = tokens; again = at (form.Sequence r.again) (line_of 1); scanned = printed_scans ls good.printable; read = (0 + length ls, r.read); same = ap (λ (ps : Phrases). at (form.Sequence ps) (line_of 1)) r.same }
+    record { tokens = tokens; again = at (form.Sequence r.again) (line_of 1); scanned = printed_scans ls good.printable; read = subst (λ (end : ℕ). Reads text (symbols tokens) nesting (Go Program) 0 (a_clause (at (form.Sequence r.again) (line_of 1))) end) (omega (arith, count)) r.read; same = ap (λ (ps : Phrases). at (form.Sequence ps) (line_of 1)) r.same }
 
 -- the text that a tree is printed as is read as the tree
 pub prints_back : (tree : Phrase) → PrintsBack tree

@@ -1,9 +1,8 @@
 -- A canonical tree, as it is laid out, is read as it was but for lines, with nothing deeper inside it.
-use Rattle.std.proofs.Common.{◌≡◌, ◌≢◌, ℕ, suc, ◌+◌, pos, List, [], ◌∷◌, ◌++◌, Bool, true, false, Some, None, refl, sym, subst, ap, ◌∙◌}
-use Rattle.std.specs.Prelude.{if◌then◌else◌, codes, drop, option_map}
+use Rattle.std.proofs.Common.{◌≡◌, ◌≢◌, ℕ, ◌+◌, pos, List, [], ◌∷◌, ◌++◌, Bool, true, false, Some, None, refl, sym, subst, ap, ◌∙◌}
+use Rattle.std.specs.Prelude.{if◌then◌else◌, drop, option_map}
 use Rattle.ps_base.specs.TyView.{TyView}
 use Rattle.ps_base.specs.declared.line.Line.{Line}
-use Rattle.ps_base.specs.declared.operator.Operator.{Operator}
 use Rattle.ps_base.specs.declared.operator.Operator.TheVariants as arith
 use Rattle.ps_base.specs.declared.operator.Relation.{Relation}
 use Rattle.ps_base.specs.declared.operator.Relation.TheVariants as order
@@ -17,7 +16,6 @@ use Rattle.ps_symbols.specs.declared.kind.Kind.TheVariants as kind
 use Rattle.ps_symbols.specs.declared.kind.Level.TheVariants.{Disjunction, Conjunction, Sum, Product}
 use Rattle.ps_symbols.specs.declared.kind.Operation.{Operation}
 use Rattle.ps_symbols.specs.declared.kind.Operation.TheVariants as operation
-use Rattle.ps_symbols.specs.declared.kind.Relating.{Relating}
 use Rattle.ps_symbols.specs.declared.kind.Relating.TheVariants.{Compares, IsOf}
 use Rattle.ps_symbols.specs.declared.symbol.Symbol.{Symbol}
 use Rattle.ps_symbols.specs.Kinds.{kind_of, operation_of, relating_of, begins_item}
@@ -26,17 +24,17 @@ use Rattle.ps_tree.specs.Phrase as form
 use Rattle.ps_parse.specs.Grammar as grammar
 use Rattle.ps_tree.specs.Composing.{and_then, and_arm, and_item, joined}
 use Rattle.ps_parse.specs.Grammar.{Made, a_clause, an_item, Part, Rule, Give, Take, Go, Open, Then, Clause, a_clause_inside, Items, MoreItems, Item, Literal, Until, Cases, Labels, Width, Written, MoreWritten, Chain, MoreChain, Application, Applied, MoreArguments, MoreElements, Primary, inside, row, skip, with_clause, clause_of, give, line_in}
-use Rattle.ps_parse.specs.Reading.{kind_at, Reads, gives, takes, goes, opens, joins}
+use Rattle.ps_parse.specs.Reading.{kind_at, Reads, gives, takes, goes, joins}
 use Rattle.ps_print.specs.Lexemes.{Gap, nothing, blank, newline, Lexeme}
 use Rattle.ps_print.specs.Layout.{lexeme, the_word, the_mark, name_lexeme, open_round, close_round, comma, semicolon, colon, do_word, in_brackets, type_lexemes, groups_lexemes, heading_lexemes, behind_arrow, becomes, is_word, flag_word, bound_word, sign_of_relation, sign_of_operator, Tightness, number_of, tightness, left_of, right_of, is_looser, disjunction, conjunction, negation, sum, product, signed, application, primary, Behind, other, before_do, before_comma, before_colon, is_taken, ends_open, behind_clause, behind_item, form_lexemes, clause_lexemes, operand_lexemes, block_lexemes, lines_lexemes, clauses_lexemes, more_clauses_lexemes, arms_lexemes, arm_lexemes, items_lexemes, more_items_lexemes, item_lexemes}
 use Rattle.ps_print.specs.Layout as layout
 use Rattle.ps_print.specs.inside.Waiting.{is_procedure}
-use Rattle.ps_reread.specs.Bare.{bare, bare_form, bare_all, bare_name, bare_groups, bare_maybe, bare_arm, bare_arms, bare_item, bare_items}
+use Rattle.ps_reread.specs.Bare.{bare, bare_all, bare_arms, bare_item, bare_items}
 use Rattle.ps_reread.specs.Spelled.{can_be_spelled}
 use Rattle.ps_reread.proofs.Glued.{all_passes}
 use Rattle.ps_reread.proofs.Spelt.{int_is_spelled, string_is_spelled}
 use Rattle.ps_reread.proofs.Appending.{append, append_none, append_one, append_arms, append_no_arms, append_arm, append_items, append_no_items, append_item}
-use Rattle.ps_reread.proofs.Begins.{Begins, By, clause_of_begins, begins_at, bracketed_reads, lead_primary, lead_of_primary, by_lead, opens_clause, starts_clause, arguments_begin, cases_begin, item_is_clause, clause_begins_item, nothing_between}
+use Rattle.ps_reread.proofs.Begins.{By, clause_of_begins, begins_at, bracketed_reads, lead_primary, lead_of_primary, by_lead, starts_clause, arguments_begin, cases_begin, item_is_clause, clause_begins_item, nothing_between}
 use Rattle.ps_reread.proofs.Canonical.{IsForm, IsClause, IsOperand, AreClauses, AreArms, AreItems, IsWritten, AreItemsOf, IsItem, AreGroups, IsResult}
 use Rattle.ps_reread.proofs.Canonical as is
 use Rattle.ps_reread.proofs.Climb.{Rereads, Leads, Above, above_application, above_signed, above_product, above_sum, above_comparison, above_negation, above_conjunction, above_disjunction, opens_arguments, starts_disjunction, expression_opens, give_back, lead_at, close_application, close_product, close_sum, close_comparison, close_conjunction, close_disjunction}
@@ -44,7 +42,7 @@ use Rattle.ps_reread.proofs.Climb as climb
 use Rattle.ps_reread.proofs.Fronts.{InFront, of_do, of_comma, of_colon, of_other, closes}
 use Rattle.ps_reread.proofs.Heads.{Head, head, ended}
 use Rattle.ps_reread.proofs.Standing.{Stands, cut}
-use Rattle.ps_reread.proofs.TypesRead.{round, gives_at, made_as, reads_at, type_reads, result_reads, groups_read}
+use Rattle.ps_reread.proofs.TypesRead.{round, gives_at, reads_at, type_reads, result_reads, groups_read}
 
 -- forms that are alike in their parts are alike
 alike1 : {A B : Type 0} (f : A → B) {a a' : A} → a ≡ a' → f a ≡ f a'

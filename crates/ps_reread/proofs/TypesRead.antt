@@ -1,25 +1,24 @@
 -- A type, and groups, as they are laid out are read as they were.
-use Rattle.std.proofs.Common.{◌≡◌, ℕ, suc, ◌+◌, List, [], ◌∷◌, ◌++◌, Bool, true, false, Option, Some, None, is_some, option_map, refl, sym, subst, ap, ◌∙◌}
+use Rattle.std.proofs.Common.{◌≡◌, ℕ, ◌+◌, List, [], ◌∷◌, ◌++◌, Bool, true, false, Option, Some, None, is_some, option_map, refl, sym, subst, ap, ◌∙◌}
 use Rattle.std.proofs.lemmas.List.{append-nil, append_assoc}
-use Rattle.std.specs.Prelude.{codes}
 use Rattle.ps_base.specs.TyView.{TyView, TyViews}
 use Rattle.ps_base.specs.TyView as ty
-use Rattle.ps_scan.specs.Tokens.{slice_of, line_of}
+use Rattle.ps_scan.specs.Tokens.{line_of}
 use Rattle.ps_scan.specs.declared.mark.TheConstants as mark
 use Rattle.ps_symbols.specs.declared.kind.Kind.{Kind}
 use Rattle.ps_symbols.specs.declared.kind.Kind.TheVariants as kind
 use Rattle.ps_symbols.specs.declared.symbol.Symbol.{Symbol}
 use Rattle.ps_symbols.specs.Kinds.{begins_type, type_start_of}
-use Rattle.ps_tree.specs.Phrase.{NameAt, GroupAt}
+use Rattle.ps_tree.specs.Phrase.{GroupAt}
 use Rattle.ps_tree.specs.Composing.{and_type}
-use Rattle.ps_parse.specs.Grammar.{Made, a_type, all_types, all_groups, Rule, Give, Go, Open, Type_, a_type_inside, typed_as, Parameters, Groups, MoreGroups, NextGroup, Result, ParameterTypes, MoreTypes, inside, row, name_at, parameters, parameter_types, more_types, more_groups, result}
+use Rattle.ps_parse.specs.Grammar.{Made, a_type, all_types, all_groups, Rule, Give, Go, Type_, a_type_inside, typed_as, Parameters, MoreGroups, Result, ParameterTypes, MoreTypes, inside, name_at, parameters, parameter_types, more_types, more_groups, result}
 use Rattle.ps_parse.specs.Reading.{kind_at, Reads, gives, takes, goes, opens, joins}
 use Rattle.ps_print.specs.Lexemes.{Gap, nothing, blank, Lexeme}
-use Rattle.ps_print.specs.Layout.{the_mark, name_lexeme, type_lexemes, types_lexemes, more_types_lexemes, behind_arrow, group_lexemes, groups_lexemes, more_groups_lexemes, in_brackets, close_round}
-use Rattle.ps_reread.specs.Bare.{bare_name, bare_group, bare_groups}
+use Rattle.ps_print.specs.Layout.{the_mark, name_lexeme, type_lexemes, types_lexemes, more_types_lexemes, behind_arrow, groups_lexemes, more_groups_lexemes, close_round}
+use Rattle.ps_reread.specs.Bare.{bare_group, bare_groups}
 use Rattle.ps_reread.proofs.Canonical.{IsType, AreTypes, IsResult, AreGroups}
 use Rattle.ps_reread.proofs.Canonical as is
-use Rattle.ps_reread.proofs.Standing.{Stands, cut, first_kind}
+use Rattle.ps_reread.proofs.Standing.{Stands, cut}
 use Rattle.ps_reread.proofs.Heads.{head, ended}
 
 -- what stands behind the types between brackets: an arrow or a closing bracket
