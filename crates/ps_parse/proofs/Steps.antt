@@ -1,5 +1,5 @@
 -- How the reading of a rule goes on, step by step, in the form that the parser's proofs use: places and trees by equations.
-use Rattle.std.proofs.Common.{◌≡◌, ℕ, ◌+◌, ◌-◌, ◌≤◌, ◌<◌, length, List, Some, Result, Ok, Err, IfOk, IfErr, IsErrAnd, MatchResult, slice_get, sym, subst, ap, arith}
+use Rattle.std.proofs.Common.{◌≡◌, ℕ, ◌-◌, ◌≤◌, ◌<◌, length, List, Some, Result, Ok, Err, IfOk, IfErr, IsErrAnd, MatchResult, sym, subst, ap, arith}
 use Rattle.std.proofs.lemmas.Option.{slice_get_within}
 use Rattle.ps_tree.specs.declared.fault.ParseFault.{ParseFault}
 use Rattle.ps_tree.specs.declared.fault.ParseFault.TheVariants.{Memory}

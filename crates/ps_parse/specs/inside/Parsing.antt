@@ -1,5 +1,5 @@
 -- What the parser's private contracts say.
-use Rattle.std.specs.Prelude.{◌≡◌, ℕ, ◌+◌, ◌≤◌, List, Bool, true, false, Option, Some, length, slice_get, MatchResult}
+use Rattle.std.specs.Prelude.{◌≡◌, ℕ, ◌+◌, ◌≤◌, List, Bool, true, false, Some, length, slice_get, MatchResult}
 use Rattle.std.specs.List.{All}
 use Rattle.std.specs.declared.result.Result.{Result}
 use Rattle.ps_base.specs.TyView.{ty_view}
@@ -16,7 +16,7 @@ use Rattle.ps_tree.specs.declared.rough.RoughItem.{RoughItem}
 use Rattle.ps_tree.specs.Phrase.{Phrase, Phrases, none, more, GroupAt, Arms, arm, phrase_of, item_of}
 use Rattle.ps_tree.specs.Composing.{and_arm}
 use Rattle.ps_parse.specs.declared.parser.Parser.{Parser}
-use Rattle.ps_parse.specs.Grammar.{Made, a_clause, a_type, an_item, all_groups, Cases, Groups, Labels, Rule, Give, Go, skip, with_clause}
+use Rattle.ps_parse.specs.Grammar.{a_clause, a_type, an_item, all_groups, Cases, Groups, Labels, Rule, Give, Go, skip, with_clause}
 use Rattle.ps_parse.specs.Program.{unexpected}
 use Rattle.ps_parse.specs.inside.Stopping.{Continues, HaltsWith, IsNotAt}
 

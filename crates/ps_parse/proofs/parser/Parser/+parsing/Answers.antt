@@ -1,5 +1,4 @@
 use Rattle.std.proofs.Common.{true, false, Some, refl, sym, ap, ◌∙◌, arith}
-use Rattle.std.proofs.lemmas.Result.{err_from_is_err_and}
 use Rattle.ps_base.specs.TyView.{ty_view}
 use Rattle.ps_base.specs.declared.ty.Ty.{Ty}
 use Rattle.ps_symbols.specs.declared.kind.Kind.TheVariants as kind
@@ -8,7 +7,6 @@ use Rattle.ps_tree.specs.Phrase as form
 use Rattle.ps_tree.specs.Composing.{and_arm}
 use Rattle.ps_tree.specs.PhraseLists.{phrases_in}
 use Rattle.ps_parse.specs.Grammar.{a_clause, an_item, Give, Go, Binding, Literal, Step, Labels, Cases, MoreArguments, MoreElements, MoreWritten, MoreItems, MoreChain, Items, a_clause_inside, opened, skip, give, clause_of, with_clause, line_at}
-use Rattle.ps_parse.specs.Reading.{Reads}
 use Rattle.ps_parse.specs.inside.Parsing.{behind_arm}
 use Rattle.ps_parse.specs.inside.Stopping.{HaltsWith}
 use Rattle.ps_parse.proofs.Steps.{on, nearer, took, missing, by_row, behind_first, same, failed, tail, built}

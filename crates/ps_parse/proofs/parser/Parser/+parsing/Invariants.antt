@@ -1,4 +1,4 @@
-use Rattle.std.proofs.Common.{ℕ, ◌≡◌, ◌≤◌, ◌+◌, ◌-◌, ◌*◌, length}
+use Rattle.std.proofs.Common.{ℕ, ◌≡◌, ◌+◌, ◌-◌, ◌*◌, length}
 use Rattle.ps_base.specs.TyView.{ty_view}
 use Rattle.ps_base.specs.declared.line.Line.{Line}
 use Rattle.ps_base.specs.declared.ty.Ty.{Ty}

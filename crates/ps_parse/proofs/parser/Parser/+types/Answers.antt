@@ -1,10 +1,8 @@
 use Rattle.std.proofs.Common.{true, false, Some, refl, sym, ap, ◌∙◌, arith}
-use Rattle.std.proofs.lemmas.Result.{err_from_is_err_and}
 use Rattle.ps_base.specs.TyView.{ty_view, ty_views}
 use Rattle.ps_parse.specs.Grammar.{a_type, all_types, Give, Go, MoreTypes, a_type_inside, typed_as}
-use Rattle.ps_parse.specs.Reading.{Reads}
 use Rattle.ps_parse.specs.inside.Stopping.{HaltsWith}
-use Rattle.ps_parse.proofs.Steps.{on, nearer, took, missing, by_row, behind_first, same, failed, tail, built}
+use Rattle.ps_parse.proofs.Steps.{on, nearer, took, missing, behind_first, same, failed, tail}
 use Rattle.ps_parse.proofs.Rows.{result_other, types_other, opens, type_opens, goes_as, goes_by, types_stand, built_type, types_first, types_again}
 use Rattle.ps_parse.proofs.parser.Parser.+types.Goals as goal
 

@@ -1,7 +1,6 @@
-use Rattle.std.proofs.Common.{ℕ, true, ◌≤◌, ◌+◌, ◌-◌, ◌*◌, length}
+use Rattle.std.proofs.Common.{ℕ, true, ◌+◌, ◌-◌, ◌*◌, length}
 use Rattle.ps_base.specs.TyView.{ty_views}
-use Rattle.ps_parse.specs.declared.parser.Parser.{Parser}
-use Rattle.ps_parse.specs.Grammar.{Rule, Go, parameter_types, MoreTypes}
+use Rattle.ps_parse.specs.Grammar.{Go, parameter_types, MoreTypes}
 use Rattle.ps_parse.specs.inside.Parsing.{GoesOn}
 use Rattle.ps_parse.proofs.parser.Parser.+types.Given as goal
 

@@ -1,8 +1,7 @@
-use Rattle.std.proofs.Common.{[], ◌∷◌, ◌++◌, refl, ap, sym, arith}
+use Rattle.std.proofs.Common.{[], ◌∷◌, ◌++◌, refl}
 use Rattle.ps_base.specs.TyView.{ty_view}
 use Rattle.ps_tree.specs.Phrase.{NameAt, groups_in}
 use Rattle.ps_parse.specs.Grammar.{Go, Groups, MoreGroups, Give, all_groups}
-use Rattle.ps_parse.specs.inside.Parsing.{next_groups}
 use Rattle.ps_parse.specs.inside.Stopping.{HaltsWith}
 use Rattle.ps_parse.proofs.Steps.{on, nearer, took, missing, by_row, behind_first, same, failed}
 use Rattle.ps_parse.proofs.Rows.{groups_begin, groups_again, further, no_next, has_next, same_name}

@@ -1,9 +1,7 @@
-use Rattle.std.proofs.lemmas.Result.{err_from_is_err_and}
 use Rattle.ps_tree.specs.Phrase.{phrase_of}
 use Rattle.ps_tree.specs.Phrase as form
 use Rattle.ps_parse.specs.Grammar.{give, line_at}
-use Rattle.ps_parse.specs.inside.Stopping.{HaltsWith}
-use Rattle.ps_parse.proofs.Steps.{on, took, missing, by_row, behind_first, same, failed, tail, built}
+use Rattle.ps_parse.proofs.Steps.{on, took, missing, failed, built}
 use Rattle.ps_parse.proofs.Rows.{same_name}
 use Rattle.ps_parse.proofs.parser.Parser.is_of.Goals as goal
 

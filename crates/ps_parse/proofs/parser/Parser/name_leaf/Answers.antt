@@ -2,7 +2,7 @@ use Rattle.ps_tree.specs.Phrase.{NameAt}
 use Rattle.ps_tree.specs.Phrase as form
 use Rattle.ps_parse.specs.Grammar.{give}
 use Rattle.ps_parse.specs.inside.Stopping.{HaltsWith}
-use Rattle.ps_parse.proofs.Steps.{on, took, missing, same, failed, built}
+use Rattle.ps_parse.proofs.Steps.{on, took, missing, failed, built}
 use Rattle.ps_parse.proofs.Rows.{same_name}
 use Rattle.ps_parse.proofs.parser.Parser.name_leaf.Goals as goal
 

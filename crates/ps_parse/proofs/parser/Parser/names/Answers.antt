@@ -1,8 +1,7 @@
-use Rattle.std.proofs.Common.{[], ◌∷◌, ◌++◌, Some, refl, ap, sym, arith}
+use Rattle.std.proofs.Common.{[], ◌∷◌, ◌++◌, Some, refl, ap, arith}
 use Rattle.ps_tree.specs.Phrase.{NameAt, names_in}
 use Rattle.ps_parse.specs.Grammar.{Go, MoreGroups}
-use Rattle.ps_parse.specs.inside.Stopping.{HaltsWith}
-use Rattle.ps_parse.proofs.Steps.{on, nearer, nowhere, took, missing, by_row, same, failed}
+use Rattle.ps_parse.proofs.Steps.{on, nearer, nowhere, took}
 use Rattle.ps_parse.proofs.Rows.{groups_other, next_group_other, goes_as, goes_by, names_again, same_name}
 use Rattle.ps_parse.proofs.parser.Parser.names.Goals as goal
 

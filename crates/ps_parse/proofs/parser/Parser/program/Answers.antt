@@ -1,8 +1,6 @@
-use Rattle.std.proofs.Common.{refl, arith}
-use Rattle.std.proofs.lemmas.Result.{err_from_is_err_and}
-use Rattle.ps_parse.specs.Reading.{Reads}
+use Rattle.std.proofs.Common.{refl}
 use Rattle.ps_parse.specs.inside.Stopping.{HaltsWith}
-use Rattle.ps_parse.proofs.Steps.{on, took, missing, by_row, behind_first, same, failed, tail, built}
+use Rattle.ps_parse.proofs.Steps.{on, took, by_row, behind_first, failed}
 use Rattle.ps_parse.proofs.Rows.{ending_other, ended_other, goes_as, halts_by}
 use Rattle.ps_parse.proofs.parser.Parser.program.Goals as goal
 

@@ -1,9 +1,8 @@
-use Rattle.std.proofs.lemmas.Result.{err_from_is_err_and}
 use Rattle.ps_symbols.specs.declared.kind.Kind.TheVariants as kind
 use Rattle.ps_tree.specs.Phrase as form
 use Rattle.ps_parse.specs.Grammar.{Go, Then, Parameters, skip, give, the_groups, line_at}
 use Rattle.ps_parse.specs.inside.Stopping.{HaltsWith}
-use Rattle.ps_parse.proofs.Steps.{on, took, missing, by_row, behind_first, same, failed, tail, built}
+use Rattle.ps_parse.proofs.Steps.{on, took, missing, behind_first, failed, built}
 use Rattle.ps_parse.proofs.Rows.{same_name}
 use Rattle.ps_parse.proofs.parser.Parser.structure_item.Goals as goal
 
