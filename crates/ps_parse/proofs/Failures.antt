@@ -1,4 +1,4 @@
--- Where a reading fails: the fault of `Stops` with the place of its symbol.
+-- Where a reading fails: the fault of `HaltsWith` with the place of its symbol.
 use Rattle.std.proofs.Common.{◌≡◌, ◌≢◌, ℕ, suc, ◌+◌, List, Bool, true, false, Some, None, slice_get, sym, subst, ap}
 use Rattle.ps_tree.specs.declared.fault.ParseFault.{ParseFault}
 use Rattle.ps_tree.specs.declared.fault.ParseFault.TheVariants.{TooNested, Memory}
@@ -7,7 +7,7 @@ use Rattle.ps_symbols.specs.declared.symbol.Symbol.{Symbol}
 use Rattle.ps_parse.specs.Grammar.{Made, Part, Nested, Rule, Take, Go, Open, Then, inside, row}
 use Rattle.ps_parse.specs.Program.{unexpected}
 use Rattle.ps_parse.specs.Reading.{kind_at, Reads, gives, takes, goes, opens, joins, Opens}
-use Rattle.ps_parse.specs.Stopping.{IsNotAt, Stops}
+use Rattle.ps_parse.specs.inside.Stopping.{IsNotAt, HaltsWith}
 use Rattle.ps_parse.proofs.Unique.{unique, reads_as, reads_from, some_same}
 
 -- with room for so many clauses and types inside one another, the reading of the rule from one place on fails
@@ -45,17 +45,17 @@ module _ {text : List ℕ} {symbols : List Symbol} where
   opens_from {n} {place = place} {rule = rule} same = subst (λ (p : ℕ). Opens text symbols n rule p place) same
 
   -- what stops not for want of memory fails at a place
-  pub fails_of : {count room : ℕ} {rule : Rule} {from : ℕ} {fault : ParseFault} → Stops text count symbols room rule from fault → fault ≢ Memory → FailsWith text count symbols room rule from fault
-  fails_of (Stops.out_of_memory is) other = absurd (other is)
-  fails_of (Stops.wrong_token {from = from} wrong is) other = (false, from, Fails.wrong_token wrong, IsFaultAt.by_symbol is)
-  fails_of (Stops.no_part {from = from} none is) other = (false, from, Fails.no_part none, IsFaultAt.by_symbol is)
-  fails_of (Stops.nothing_inside {from = from} none is) other = (false, from, Fails.nothing_inside none, IsFaultAt.by_symbol is)
-  fails_of (Stops.no_room {from = from} here rule is) other = (true, from, Fails.no_room here rule, IsFaultAt.by_depth here is)
-  fails_of (Stops.behind_token here is more) other = let f = fails_of more other in (f.0, f.1, Fails.behind_token here is f.2, f.3)
-  fails_of (Stops.in_part is more) other = let f = fails_of more other in (f.0, f.1, Fails.in_part is f.2, f.3)
-  fails_of (Stops.in_nested is more) other = let f = fails_of more other in (f.0, f.1, Fails.in_nested is f.2, f.3)
-  fails_of (Stops.in_first more) other = let f = fails_of more other in (f.0, f.1, Fails.in_first f.2, f.3)
-  fails_of (Stops.in_next first more) other = let f = fails_of more other in (f.0, f.1, Fails.in_next first f.2, f.3)
+  pub fails_of : {count room : ℕ} {rule : Rule} {from : ℕ} {fault : ParseFault} → HaltsWith text count symbols room rule from fault → fault ≢ Memory → FailsWith text count symbols room rule from fault
+  fails_of (HaltsWith.out_of_memory is) other = absurd (other is)
+  fails_of (HaltsWith.wrong_token {from = from} wrong is) other = (false, from, Fails.wrong_token wrong, IsFaultAt.by_symbol is)
+  fails_of (HaltsWith.no_part {from = from} none is) other = (false, from, Fails.no_part none, IsFaultAt.by_symbol is)
+  fails_of (HaltsWith.nothing_inside {from = from} none is) other = (false, from, Fails.nothing_inside none, IsFaultAt.by_symbol is)
+  fails_of (HaltsWith.no_room {from = from} here rule is) other = (true, from, Fails.no_room here rule, IsFaultAt.by_depth here is)
+  fails_of (HaltsWith.behind_token here is more) other = let f = fails_of more other in (f.0, f.1, Fails.behind_token here is f.2, f.3)
+  fails_of (HaltsWith.in_part is more) other = let f = fails_of more other in (f.0, f.1, Fails.in_part is f.2, f.3)
+  fails_of (HaltsWith.in_nested is more) other = let f = fails_of more other in (f.0, f.1, Fails.in_nested is f.2, f.3)
+  fails_of (HaltsWith.in_first more) other = let f = fails_of more other in (f.0, f.1, Fails.in_first f.2, f.3)
+  fails_of (HaltsWith.in_next first more) other = let f = fails_of more other in (f.0, f.1, Fails.in_next first f.2, f.3)
 
   -- what fails by a symbol isn't read, however deep its clauses and types stand inside one another
   pub unread : {room : ℕ} {rule : Rule} {from place : ℕ} → Fails text symbols false room rule from place → {nesting : ℕ} {made : Made} {to : ℕ} → Reads text symbols nesting rule from made to → ⊥
@@ -96,5 +96,5 @@ module _ {text : List ℕ} {symbols : List Symbol} where
       no_deeper more (opens_as (ap next (sym same.0)) (opens_from (sym same.1) more'))
 
 -- a reading and a stop exclude each other
-pub exclusion : (text : List ℕ) (count : ℕ) (symbols : List Symbol) (room : ℕ) (rule : Rule) (from : ℕ) (made : Made) (to : ℕ) (fault : ParseFault) → Reads text symbols room rule from made to → Stops text count symbols room rule from fault → fault ≢ Memory → ⊥
+pub exclusion : (text : List ℕ) (count : ℕ) (symbols : List Symbol) (room : ℕ) (rule : Rule) (from : ℕ) (made : Made) (to : ℕ) (fault : ParseFault) → Reads text symbols room rule from made to → HaltsWith text count symbols room rule from fault → fault ≢ Memory → ⊥
 exclusion text count symbols room rule from made to fault reads stops other = unread_here (fails_of stops other).2 reads

@@ -1,5 +1,5 @@
 -- The fault at which the reading of a program stops is the one that its text has.
-use Rattle.std.proofs.Common.{◌≡◌, ◌≢◌, ℕ, suc, ◌+◌, ◌<◌, ◌≤◌, inl, inr, List, ◌++◌, Bool, true, false, Some, length, take, drop, slice_get, sym, subst, ap, ◌∙◌, arith}
+use Rattle.std.proofs.Common.{◌≡◌, ◌≢◌, ℕ, suc, ◌+◌, ◌<◌, ◌≤◌, inl, inr, List, ◌++◌, Bool, true, false, Some, None, length, take, drop, slice_get, sym, subst, ap, ◌∙◌, arith}
 use Rattle.std.proofs.lemmas.Option.{slice_get_within}
 use Rattle.std.proofs.lemmas.List.{take-append-drop, take-take, append_assoc}
 use Rattle.std.proofs.lemmas.Bool.{cases_order}
@@ -10,13 +10,16 @@ use Rattle.ps_tree.specs.declared.fault.ParseFault.TheVariants.{TooNested, Memor
 use Rattle.ps_symbols.specs.declared.symbol.Symbol.{Symbol}
 use Rattle.ps_tree.specs.Phrase.{Phrase}
 use Rattle.ps_parse.specs.Grammar.{Made, a_clause, Rule, Go, Program}
-use Rattle.ps_parse.specs.Program.{BeginsProgram, ReadsAs, IsTooDeep, IsUnexpected, IsTooNested, IsParseFault, unexpected_at, too_nested_at, unexpected}
+use Rattle.ps_parse.specs.Program.{BeginsProgram, CanStand, ReadsAs, IsTooDeep, IsUnexpected, IsTooNested, IsParseFault, unexpected_at, too_nested_at, unexpected}
 use Rattle.ps_parse.specs.Reading.{Reads, takes, goes, opens, joins, Opens}
-use Rattle.ps_parse.specs.Stopping.{Stops}
+use Rattle.ps_parse.specs.inside.Stopping.{HaltsWith}
 use Rattle.ps_symbols.specs.Symbols.{symbols as read_as}
 use Rattle.ps_parse.proofs.Unique.{unique, some_same, reads_as, reads_from}
 use Rattle.ps_parse.proofs.Failures.{Fails, IsFaultAt, fails_of, unread, no_deeper, opens_as, opens_from}
 use Rattle.ps_parse.proofs.Prefixes.{forward, fails_within, no_continuation}
+use Rattle.std.specs.List.{All}
+use Rattle.std.proofs.lemmas.List.Elements.{All-append, All-drop, All-take}
+use Rattle.ps_parse.proofs.Ends.{symbols_stand}
 use Rattle.ps_parse.proofs.Completions.{begins_program, reaches, reaches_behind}
 
 module _ {text : List ℕ} {symbols : List Symbol} where
@@ -79,7 +82,7 @@ module _ {text : List ℕ} {symbols : List Symbol} where
 pub unexpected_there : (text : List ℕ) (symbols : List Symbol) (place : ℕ) → Fails text symbols false 100 (Go Program) 0 place → IsUnexpected text symbols place
 unexpected_there text symbols place fails =
     let inside = fails_within fails (omega arith) in
-    record { within = inside; before = begins_program text symbols place inside (reaches fails); here = λ before. no_continuation text symbols 100 place fails before; at_end = λ last nesting tree program. unread fails program.1; first = λ earlier before way. none_too_deep fails way before }
+    record { within = inside; before = begins_program text symbols place inside (reaches fails); here = λ before. no_continuation text symbols 100 place fails before; at_end = λ last nesting tree program. unread fails program; first = λ earlier before way. none_too_deep fails way before }
 
 pub too_nested_there : (text : List ℕ) (symbols : List Symbol) (place : ℕ) (symbol : Symbol) → slice_get symbols place ≡ Some symbol → Fails text symbols true 100 (Go Program) 0 place → IsTooNested text symbols place
 too_nested_there text symbols place symbol found fails =
@@ -91,7 +94,7 @@ fault_of text tokens fails (IsFaultAt.by_symbol {place = place} is) = subst (λ 
 fault_of text tokens fails (IsFaultAt.by_depth {place = place} {symbol = symbol} found is) = subst (λ (f : ParseFault). IsParseFault text tokens f) (sym is) (too_nested_at place symbol found (too_nested_there text (read_as tokens) place symbol found fails))
 
 -- where the reading of the whole text stops, and not for want of memory, the text has that fault
-pub fault_of_stop : (text : List ℕ) (tokens : List Token) (fault : ParseFault) → Stops text (length tokens) (read_as tokens) 100 (Go Program) 0 fault → fault ≢ Memory → IsParseFault text tokens fault
+pub fault_of_stop : (text : List ℕ) (tokens : List Token) (fault : ParseFault) → HaltsWith text (length tokens) (read_as tokens) 100 (Go Program) 0 fault → fault ≢ Memory → IsParseFault text tokens fault
 fault_of_stop text tokens fault stops other =
     let f = fails_of stops other in
     fault_of text tokens f.2 f.3
@@ -99,35 +102,36 @@ fault_of_stop text tokens fault stops other =
 -- a text with a tree has no fault
 pub no_fault_of_tree : (text : List ℕ) (tokens : List Token) (tree : Phrase) (fault : ParseFault) → ReadsAs text tokens tree → IsParseFault text tokens fault → ⊥
 no_fault_of_tree text tokens tree fault reads (unexpected_at place is) =
-    elim (eq-or-lt_of_le is.within) [ inl last ↦ is.at_end last 100 tree reads.program | inr before ↦ is.here before (drop (place + 1) (read_as tokens), (100, (tree, (reads.program.0, subst (λ (all : List Symbol). Reads text all 100 (Go Program) 0 (a_clause tree) reads.program.0) (sym (take-append-drop (place + 1) (read_as tokens))) reads.program.1)))) ]
-no_fault_of_tree text tokens tree fault reads (too_nested_at place symbol found is) = no_deeper reads.program.1 is.too_deep.opens
+    elim (eq-or-lt_of_le is.within) [ inl last ↦ is.at_end last 100 tree reads.program | inr before ↦ is.here before (drop (place + 1) (read_as tokens), (All-drop CanStand (place + 1) (read_as tokens) (symbols_stand None 0 tokens), (100, (tree, subst (λ (all : List Symbol). Reads text all 100 (Go Program) 0 (a_clause tree) (length all)) (sym (take-append-drop (place + 1) (read_as tokens))) reads.program)))) ]
+no_fault_of_tree text tokens tree fault reads (too_nested_at place symbol found is) = no_deeper reads.program is.too_deep.opens
 
 -- a front of what begins a program begins one
-begins_less : (text : List ℕ) (symbols : List Symbol) (shorter longer : ℕ) → shorter ≤ longer → BeginsProgram text (take longer symbols) → BeginsProgram text (take shorter symbols)
-begins_less text symbols shorter longer less begins =
+begins_less : (text : List ℕ) (symbols : List Symbol) → All CanStand symbols → (shorter longer : ℕ) → shorter ≤ longer → BeginsProgram text (take longer symbols) → BeginsProgram text (take shorter symbols)
+begins_less text symbols stand shorter longer less begins =
     let front = take-take shorter longer symbols less in
     let all : take longer symbols ++ begins.0 ≡ take shorter symbols ++ (drop shorter (take longer symbols) ++ begins.0) = ap (λ (s : List Symbol). s ++ begins.0) (sym (take-append-drop shorter (take longer symbols))) ∙ append_assoc (take shorter (take longer symbols)) (drop shorter (take longer symbols)) begins.0 ∙ ap (λ (s : List Symbol). s ++ (drop shorter (take longer symbols) ++ begins.0)) front in
-    (drop shorter (take longer symbols) ++ begins.0, (begins.1.0, (begins.1.1.0, (begins.1.1.1.0, subst (λ (s : List Symbol). Reads text s begins.1.0 (Go Program) 0 (a_clause begins.1.1.0) begins.1.1.1.0) all begins.1.1.1.1))))
+    let more_stand = All-append CanStand (drop shorter (take longer symbols)) begins.0 (All-drop CanStand shorter (take longer symbols) (All-take CanStand longer symbols stand)) begins.1.0 in
+    (drop shorter (take longer symbols) ++ begins.0, (more_stand, (begins.1.1.0, (begins.1.1.1.0, subst (λ (s : List Symbol). Reads text s begins.1.1.0 (Go Program) 0 (a_clause begins.1.1.1.0) (length s)) all begins.1.1.1.1))))
 
-not_before : (text : List ℕ) (symbols : List Symbol) (place other : ℕ) → IsUnexpected text symbols place → IsUnexpected text symbols other → place < other → ⊥
-not_before text symbols place other is was before =
+not_before : (text : List ℕ) (symbols : List Symbol) → All CanStand symbols → (place other : ℕ) → IsUnexpected text symbols place → IsUnexpected text symbols other → place < other → ⊥
+not_before text symbols stand place other is was before =
     let h = was.within in
-    is.here (omega (arith, before, h)) (begins_less text symbols (place + 1) other (omega (arith, before)) was.before)
+    is.here (omega (arith, before, h)) (begins_less text symbols stand (place + 1) other (omega (arith, before)) was.before)
 
-one_place : (text : List ℕ) (symbols : List Symbol) (place other : ℕ) → IsUnexpected text symbols place → IsUnexpected text symbols other → place ≡ other
-one_place text symbols place other is was = elim (cases_order place other) [ inl same ↦ same | inr (inl before) ↦ absurd (not_before text symbols place other is was before) | inr (inr behind) ↦ absurd (not_before text symbols other place was is behind) ]
+one_place : (text : List ℕ) (symbols : List Symbol) → All CanStand symbols → (place other : ℕ) → IsUnexpected text symbols place → IsUnexpected text symbols other → place ≡ other
+one_place text symbols stand place other is was = elim (cases_order place other) [ inl same ↦ same | inr (inl before) ↦ absurd (not_before text symbols stand place other is was before) | inr (inr behind) ↦ absurd (not_before text symbols stand other place was is behind) ]
 
 one_depth : (text : List ℕ) (symbols : List Symbol) (place other : ℕ) → IsTooDeep text symbols place → IsTooDeep text symbols other → place ≡ other
 one_depth text symbols place other is was = elim (cases_order place other) [ inl same ↦ same | inr (inl before) ↦ absurd (was.first place before is.opens) | inr (inr behind) ↦ absurd (is.first other behind was.opens) ]
 
-not_both : (text : List ℕ) (symbols : List Symbol) (place other : ℕ) (symbol : Symbol) → slice_get symbols other ≡ Some symbol → IsUnexpected text symbols place → IsTooNested text symbols other → ⊥
-not_both text symbols place other symbol found is was =
+not_both : (text : List ℕ) (symbols : List Symbol) → All CanStand symbols → (place other : ℕ) (symbol : Symbol) → slice_get symbols other ≡ Some symbol → IsUnexpected text symbols place → IsTooNested text symbols other → ⊥
+not_both text symbols stand place other symbol found is was =
     let h = slice_get_within symbols other symbol found in
-    elim (cases_order place other) [ inl same ↦ is.here (omega (arith, same, h)) (begins_less text symbols (place + 1) (other + 1) (omega (arith, same)) was.expected) | inr (inl before) ↦ is.here (omega (arith, before, h)) (begins_less text symbols (place + 1) (other + 1) (omega (arith, before)) was.expected) | inr (inr behind) ↦ is.first other behind was.too_deep.opens ]
+    elim (cases_order place other) [ inl same ↦ is.here (omega (arith, same, h)) (begins_less text symbols stand (place + 1) (other + 1) (omega (arith, same)) was.expected) | inr (inl before) ↦ is.here (omega (arith, before, h)) (begins_less text symbols stand (place + 1) (other + 1) (omega (arith, before)) was.expected) | inr (inr behind) ↦ is.first other behind was.too_deep.opens ]
 
 -- a text has at most one fault
 pub one_fault : (text : List ℕ) (tokens : List Token) {fault other : ParseFault} → IsParseFault text tokens fault → IsParseFault text tokens other → fault ≡ other
-one_fault text tokens (unexpected_at place is) (unexpected_at place' is') = ap (λ (p : ℕ). unexpected text (length tokens) (slice_get (read_as tokens) p)) (one_place text (read_as tokens) place place' is is')
-one_fault text tokens (unexpected_at place is) (too_nested_at place' symbol found is') = absurd (not_both text (read_as tokens) place place' symbol found is is')
-one_fault text tokens (too_nested_at place symbol found is) (unexpected_at place' is') = absurd (not_both text (read_as tokens) place' place symbol found is' is)
+one_fault text tokens (unexpected_at place is) (unexpected_at place' is') = ap (λ (p : ℕ). unexpected text (length tokens) (slice_get (read_as tokens) p)) (one_place text (read_as tokens) (symbols_stand None 0 tokens) place place' is is')
+one_fault text tokens (unexpected_at place is) (too_nested_at place' symbol found is') = absurd (not_both text (read_as tokens) (symbols_stand None 0 tokens) place place' symbol found is is')
+one_fault text tokens (too_nested_at place symbol found is) (unexpected_at place' is') = absurd (not_both text (read_as tokens) (symbols_stand None 0 tokens) place' place symbol found is' is)
 one_fault text tokens (too_nested_at place symbol found is) (too_nested_at place' symbol' found' is') = ap (λ (s : Symbol). TooNested s.token.line) (some_same (ap (λ (p : ℕ). slice_get (read_as tokens) p) (sym (one_depth text (read_as tokens) place place' is.too_deep is'.too_deep)) ∙ found) found')

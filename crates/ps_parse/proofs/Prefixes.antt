@@ -5,7 +5,7 @@ use Rattle.ps_symbols.specs.declared.symbol.Symbol.{Symbol}
 use Rattle.ps_parse.specs.Grammar.{Made, Part, Nested, Rule, Go, Program, inside, row}
 use Rattle.ps_parse.specs.Program.{BeginsProgram, unexpected}
 use Rattle.ps_parse.specs.Reading.{kind_at, kind_of_next, Reads, gives, takes, goes, opens, joins}
-use Rattle.ps_parse.specs.Stopping.{Stops}
+use Rattle.ps_parse.specs.inside.Stopping.{HaltsWith}
 use Rattle.ps_tree.specs.declared.fault.ParseFault.{ParseFault}
 use Rattle.ps_tree.specs.declared.fault.ParseFault.TheVariants.{TooNested, Memory}
 use Rattle.ps_parse.proofs.Unique.{some_same}
@@ -101,16 +101,16 @@ no_continuation text symbols room place fails inside begins =
     unread (fails_alike fails λ i before. slice_get-take-append symbols begins.0 (place + 1) i (omega (arith, before)) (omega (arith, inside))) begins.1.1.1.1
 
 module _ {text : List ℕ} {count : ℕ} {symbols : List Symbol} where
-  stops_of : {deep : Bool} {room : ℕ} {rule : Rule} {from place : ℕ} {fault : ParseFault} → Fails text symbols deep room rule from place → IsFaultAt text count symbols deep place fault → Stops text count symbols room rule from fault
-  stops_of (Fails.wrong_token wrong) (IsFaultAt.by_symbol is) = Stops.wrong_token wrong is
-  stops_of (Fails.no_part none) (IsFaultAt.by_symbol is) = Stops.no_part none is
-  stops_of (Fails.nothing_inside none) (IsFaultAt.by_symbol is) = Stops.nothing_inside none is
-  stops_of (Fails.no_room found opened) (IsFaultAt.by_depth found' is) = Stops.no_room found opened (is ∙ ap (λ (s : Symbol). TooNested s.token.line) (some_same found' found))
-  stops_of (Fails.behind_token found is more) fault = Stops.behind_token found is (stops_of more fault)
-  stops_of (Fails.in_part is more) fault = Stops.in_part is (stops_of more fault)
-  stops_of (Fails.in_nested is more) fault = Stops.in_nested is (stops_of more fault)
-  stops_of (Fails.in_first more) fault = Stops.in_first (stops_of more fault)
-  stops_of (Fails.in_next first more) fault = Stops.in_next first (stops_of more fault)
+  stops_of : {deep : Bool} {room : ℕ} {rule : Rule} {from place : ℕ} {fault : ParseFault} → Fails text symbols deep room rule from place → IsFaultAt text count symbols deep place fault → HaltsWith text count symbols room rule from fault
+  stops_of (Fails.wrong_token wrong) (IsFaultAt.by_symbol is) = HaltsWith.wrong_token wrong is
+  stops_of (Fails.no_part none) (IsFaultAt.by_symbol is) = HaltsWith.no_part none is
+  stops_of (Fails.nothing_inside none) (IsFaultAt.by_symbol is) = HaltsWith.nothing_inside none is
+  stops_of (Fails.no_room found opened) (IsFaultAt.by_depth found' is) = HaltsWith.no_room found opened (is ∙ ap (λ (s : Symbol). TooNested s.token.line) (some_same found' found))
+  stops_of (Fails.behind_token found is more) fault = HaltsWith.behind_token found is (stops_of more fault)
+  stops_of (Fails.in_part is more) fault = HaltsWith.in_part is (stops_of more fault)
+  stops_of (Fails.in_nested is more) fault = HaltsWith.in_nested is (stops_of more fault)
+  stops_of (Fails.in_first more) fault = HaltsWith.in_first (stops_of more fault)
+  stops_of (Fails.in_next first more) fault = HaltsWith.in_next first (stops_of more fault)
 
 fault_alike : {text : List ℕ} {count : ℕ} (symbols other : List Symbol) {deep : Bool} {place : ℕ} {fault : ParseFault} → slice_get symbols place ≡ slice_get other place → IsFaultAt text count symbols deep place fault → IsFaultAt text count other deep place fault
 fault_alike {text} {count} symbols other same (IsFaultAt.by_symbol is) = IsFaultAt.by_symbol (is ∙ ap (λ (o : Option Symbol). unexpected text count o) same)
@@ -121,7 +121,7 @@ abbrev pub IsNamed : List ℕ → ℕ → List Symbol → ℕ → ParseFault →
 IsNamed text count symbols place fault = (deep : Bool) × IsFaultAt text count symbols deep place fault
 
 -- a stop names a place, and all symbols that agree up to that place and with it stop alike
-pub stops_alike : (text : List ℕ) (count : ℕ) (symbols : List Symbol) (room : ℕ) (rule : Rule) (from : ℕ) (fault : ParseFault) → Stops text count symbols room rule from fault → fault ≢ Memory → (place : ℕ) × IsNamed text count symbols place fault × ((other : List Symbol) → Agree symbols other place → Stops text count other room rule from fault)
+pub stops_alike : (text : List ℕ) (count : ℕ) (symbols : List Symbol) (room : ℕ) (rule : Rule) (from : ℕ) (fault : ParseFault) → HaltsWith text count symbols room rule from fault → fault ≢ Memory → (place : ℕ) × IsNamed text count symbols place fault × ((other : List Symbol) → Agree symbols other place → HaltsWith text count other room rule from fault)
 stops_alike text count symbols room rule from fault stops other =
     let f = fails_of stops other in
     (f.1, (f.0, f.3), λ alike agree. stops_of (fails_alike f.2 agree) (fault_alike symbols alike (agree f.1 (omega arith)) f.3))

@@ -1,5 +1,5 @@
 -- How the parser's calls follow the rows of the grammar.
-use Rattle.std.proofs.Common.{◌≡◌, ℕ, suc, List, [], ◌∷◌, ◌++◌, Bool, true, false, Option, Some, None, option_map, Result, Ok, Err, IfOk, IfErr, IsSome, slice_get, refl, sym, subst, ap, ◌∙◌}
+use Rattle.std.proofs.Common.{◌≡◌, ℕ, suc, List, [], ◌∷◌, ◌++◌, Bool, true, false, not, Option, Some, None, option_map, Result, Ok, Err, IfOk, IfErr, MatchResult, IsSome, slice_get, refl, sym, subst, ap, ◌∙◌}
 use Rattle.ps_base.specs.TyView.{TyView, TyViews, ty_view, ty_views}
 use Rattle.ps_base.specs.TyView as ty
 use Rattle.ps_base.specs.declared.line.Line.{Line}
@@ -12,24 +12,27 @@ use Rattle.ps_symbols.specs.declared.kind.Level.{Level}
 use Rattle.ps_symbols.specs.declared.kind.Operation.{Operation}
 use Rattle.ps_symbols.specs.declared.kind.Opening.{Opening}
 use Rattle.ps_symbols.specs.declared.kind.Relating.{Relating}
+use Rattle.ps_symbols.specs.declared.kind.Start.{Start}
 use Rattle.ps_symbols.specs.declared.kind.TypeStart.{TypeStart}
 use Rattle.ps_tree.specs.declared.rough.Group.{Group}
+use Rattle.ps_tree.specs.declared.rough.Named.{Named}
+use Rattle.std.proofs.lemmas.List.{append_assoc, append-nil}
 use Rattle.ps_tree.specs.declared.rough.Rough.{Rough}
 use Rattle.ps_tree.specs.declared.rough.RoughArm.{RoughArm}
 use Rattle.ps_tree.specs.declared.rough.RoughItem.{RoughItem}
 use Rattle.ps_symbols.specs.declared.symbol.Symbol.{Symbol}
-use Rattle.ps_symbols.specs.Kinds.{operation_of, relating_of, begins_item, begins_type, opening_of, type_start_of}
-use Rattle.ps_tree.specs.Phrase.{Phrase, Phrases, none, more, MaybePhrase, absent, Arms, no_arms, Arm, WriteItem, WriteItems, no_items, more_items, item, GroupAt, NameAt, at, phrase_of, item_of, arm_of, group_of, groups_in}
+use Rattle.ps_symbols.specs.Kinds.{operation_of, relating_of, begins_item, begins_type, opening_of, start_of, type_start_of}
+use Rattle.ps_tree.specs.Phrase.{Phrase, Phrases, none, more, MaybePhrase, absent, Arms, no_arms, Arm, WriteItem, WriteItems, no_items, more_items, item, GroupAt, NameAt, at, phrase_of, item_of, arm_of, group_of, groups_in, names_in, of_type}
 use Rattle.ps_tree.specs.Phrase as form
 use Rattle.ps_tree.specs.PhraseLists.{phrases_in, arms_in, items_in}
 use Rattle.ps_tree.specs.Composing.{and_arm, and_item, and_then, and_type}
-use Rattle.ps_parse.specs.Grammar.{Application, Body, Cases, Clause, Compared, Comparison, Give, Go, Groups, Items, Made, MoreArguments, MoreChain, Nested, NextGroup, Open, ParameterTypes, Parameters, Part, Rule, SecondArgument, Test, Type_, a_clause, a_clause_inside, a_type, a_type_inside, all_groups, all_types, an_item, applied, arguments, assignment, between, binding, cases, choice, comparison, ended, ending, factor, give, inside, items, items_end, labels, line_in, more_arguments, more_chain, more_elements, more_groups, more_types, more_written, named_group, next_group, one_item, opened, parameter_types, parameters, relative, result, row, second_argument, skip, step, typed_as, until, width, with_clause}
+use Rattle.ps_parse.specs.Grammar.{Application, Body, Cases, Clause, Compared, Comparison, Give, Go, Groups, Items, Made, MoreArguments, MoreChain, MoreGroups, Nested, NextGroup, Open, ParameterTypes, Parameters, Part, Primary, Rule, SecondArgument, Test, Type_, a_clause, a_clause_inside, a_type, a_type_inside, all_groups, all_types, an_item, applied, arguments, assignment, between, binding, cases, choice, comparison, ended, ending, factor, give, inside, items, items_end, labels, line_in, more_arguments, more_chain, more_elements, more_groups, more_types, more_written, named_group, next_group, one_item, opened, parameter_types, parameters, primary, relative, result, row, second_argument, skip, step, typed_as, until, width, with_clause}
 use Rattle.ps_parse.specs.Reading.{kind_at, kind_of_next, Reads}
-use Rattle.ps_parse.specs.Parsing.{an_arm, behind_labels}
-use Rattle.ps_parse.specs.Stopping.{Stops, Leads}
+use Rattle.ps_parse.specs.inside.Parsing.{an_arm, behind_labels, next_groups}
+use Rattle.ps_parse.specs.inside.Stopping.{HaltsWith, Continues}
 use Rattle.ps_parse.specs.Program.{unexpected}
-use Rattle.ps_tree.proofs.PhraseLemmas.{phrases_in-append, arms_in-append, items_in-append, ty_views-append, groups_in-append}
-use Rattle.ps_parse.proofs.Steps.{gives_at, leads_go, leads_first, leads_on, leads_same}
+use Rattle.ps_tree.proofs.PhraseLemmas.{phrases_in-append, arms_in-append, items_in-append, ty_views-append, groups_in-append, names_in-append}
+use Rattle.ps_parse.proofs.Steps.{given, reads_as_this, by_row, behind_first, on, same}
 
 -- where the kinds that a part asks for aren't there
 
@@ -148,24 +151,20 @@ nothing_at_end : (text : List ℕ) (nested : Nested) → IsSome (inside text nes
 nothing_at_end text a_clause_inside is = cc
 nothing_at_end text a_type_inside is = cc
 
-pub too_deep : (text : List ℕ) (count : ℕ) (symbols : List Symbol) (from : ℕ) (nested : Nested) (symbol : Symbol) → Some symbol ≡ slice_get symbols from → IsSome (inside text nested (kind_at symbols from)) → Stops text count symbols 0 (Open nested) from (TooNested symbol.token.line)
+pub too_deep : (text : List ℕ) (count : ℕ) (symbols : List Symbol) (from : ℕ) (nested : Nested) (symbol : Symbol) → Some symbol ≡ slice_get symbols from → IsSome (inside text nested (kind_at symbols from)) → HaltsWith text count symbols 0 (Open nested) from (TooNested symbol.token.line)
 too_deep text count symbols from nested symbol here stands =
     let found = some_of (inside text nested (kind_at symbols from)) stands in
-    Stops.no_room (sym here) (ap (λ (o : Option Symbol). inside text nested (kind_of_next o)) here ∙ found.1) refl
+    HaltsWith.no_room (sym here) (ap (λ (o : Option Symbol). inside text nested (kind_of_next o)) here ∙ found.1) refl
 
-pub none_too_deep : (text : List ℕ) (count : ℕ) (symbols : List Symbol) (from : ℕ) (nested : Nested) (fault : ParseFault) → None ≡ slice_get symbols from → IsSome (inside text nested (kind_at symbols from)) → Stops text count symbols 0 (Open nested) from fault
+pub none_too_deep : (text : List ℕ) (count : ℕ) (symbols : List Symbol) (from : ℕ) (nested : Nested) (fault : ParseFault) → None ≡ slice_get symbols from → IsSome (inside text nested (kind_at symbols from)) → HaltsWith text count symbols 0 (Open nested) from fault
 none_too_deep text count symbols from nested fault here stands =
     absurd (nothing_at_end text nested (subst (λ (o : Option Symbol). IsSome (inside text nested (kind_of_next o))) (sym here) stands))
 
 -- a clause or a type is opened, and leaves less room
 module _ (text : List ℕ) (count : ℕ) (symbols : List Symbol) where
-  pub opens_reads : {A : Type 0} (view : A → Made) (result : Result A ParseFault) (room less from to : ℕ) (nested : Nested) (rule : Rule) → IfOk result (λ made. Reads text symbols less rule from (view made) to) → room ≡ suc less → inside text nested (kind_at symbols from) ≡ Some rule → IfOk result (λ made. Reads text symbols room (Open nested) from (view made) to)
-  opens_reads view (Ok made) room less from to nested rule read room_is is = subst (λ (r : ℕ). Reads text symbols r (Open nested) from (view made) to) (sym room_is) (Reads.opens is read)
-  opens_reads view (Err fault) room less from to nested rule read room_is is = read
-
-  pub opens_stops : {A : Type 0} (result : Result A ParseFault) (room less from : ℕ) (nested : Nested) (rule : Rule) → IfErr result (λ fault. Stops text count symbols less rule from fault) → room ≡ suc less → inside text nested (kind_at symbols from) ≡ Some rule → IfErr result (λ fault. Stops text count symbols room (Open nested) from fault)
-  opens_stops (Ok made) room less from nested rule stop room_is is = stop
-  opens_stops (Err fault) room less from nested rule stop room_is is = subst (λ (r : ℕ). Stops text count symbols r (Open nested) from fault) (sym room_is) (Stops.in_nested is stop)
+  pub opens : {A : Type 0} (view : A → Made) (result : Result A ParseFault) (room less from to : ℕ) (nested : Nested) (rule : Rule) → MatchResult result (λ made. Continues text count symbols less rule from (Give (view made)) to) (λ fault. HaltsWith text count symbols less rule from fault) → room ≡ suc less → inside text nested (kind_at symbols from) ≡ Some rule → MatchResult result (λ made. Continues text count symbols room (Open nested) from (Give (view made)) to) (λ fault. HaltsWith text count symbols room (Open nested) from fault)
+  opens view (Ok made) room less from to nested rule goes room_is is = subst (λ (r : ℕ). Continues text count symbols r (Open nested) from (Give (view made)) to) (sym room_is) (given (Reads.opens is (reads_as_this goes)) goes.forward)
+  opens view (Err fault) room less from to nested rule halts room_is is = subst (λ (r : ℕ). HaltsWith text count symbols r (Open nested) from fault) (sym room_is) (HaltsWith.in_nested is halts)
 
   pub type_opens : (from : ℕ) {found : Kind} {start : Option TypeStart} {s : TypeStart} → found ≡ kind_at symbols from → start ≡ type_start_of found → start ≡ Some s → inside text a_type_inside (kind_at symbols from) ≡ Some (typed_as s)
   type_opens from here is some = ap (λ (k : Kind). option_map typed_as (type_start_of k)) (sym here) ∙ ap (λ (o : Option TypeStart). option_map typed_as o) (sym is ∙ some)
@@ -173,106 +172,90 @@ module _ (text : List ℕ) (count : ℕ) (symbols : List Symbol) where
   pub clause_opens : (from : ℕ) {found : Kind} {opening : Option Opening} {o : Opening} → found ≡ kind_at symbols from → opening ≡ opening_of found → opening ≡ Some o → inside text a_clause_inside (kind_at symbols from) ≡ Some (opened text o)
   clause_opens from here is some = ap (λ (k : Kind). option_map (opened text) (opening_of k)) (sym here) ∙ ap (λ (o : Option Opening). option_map (opened text) o) (sym is ∙ some)
 
--- what holds behind all groups, and behind all arms, before
-module _ (text : List ℕ) (count : ℕ) (symbols : List Symbol) (room from : ℕ) where
-  pub tail_group : (result : Result Ty ParseFault) (to : ℕ) (of_last : TyView) → IfOk result (λ made. Reads text symbols room Type_ from (a_type (ty_view made)) to) → ((before : List GroupAt) → Leads text count symbols room (Go (NextGroup of_last before)) from (Go (Groups before)) from) → IfOk result (λ made. (before : List GroupAt) → Leads text count symbols room (Go (NextGroup of_last before)) from (named_group text before (ty_view made)) to)
-  tail_group (Ok made) to of_last read lead = λ before. leads_on (lead before) (leads_on (leads_go refl) (leads_first read))
-  tail_group (Err fault) to of_last read lead = read
-
-  pub tail_group_stops : (result : Result Ty ParseFault) (of_last : TyView) → IfErr result (λ fault. Stops text count symbols room Type_ from fault) → ((before : List GroupAt) → Leads text count symbols room (Go (NextGroup of_last before)) from (Go (Groups before)) from) → IfErr result (λ fault. (before : List GroupAt) → Stops text count symbols room (Go (NextGroup of_last before)) from fault)
-  tail_group_stops (Ok made) of_last stop lead = stop
-  tail_group_stops (Err fault) of_last stop lead = λ before. (lead before).stops fault (Stops.in_part refl (Stops.in_first stop))
-
-  pub tail_arm : (result : Result RoughArm ParseFault) (to : ℕ) (given : Arm) → IfOk result (λ made. arm_of made ≡ given) → ((line : Line) (e : Phrase) (before : Arms) → Leads text count symbols room (an_arm line e before) from (Go (Cases line e (and_arm before given))) to) → IfOk result (λ made. (line : Line) (e : Phrase) (before : Arms) → Leads text count symbols room (an_arm line e before) from (Go (Cases line e (and_arm before (arm_of made)))) to)
-  tail_arm (Ok made) to given is lead = λ line e before. leads_on (lead line e before) (leads_same (ap (λ (a : Arm). Go (Cases line e (and_arm before a))) (sym is)))
-  tail_arm (Err fault) to given is lead = is
-
-  pub tail_arm_memory : (result : Result RoughArm ParseFault) → IfErr result (λ fault. fault ≡ Memory) → IfErr result (λ fault. (line : Line) (e : Phrase) (before : Arms) → Stops text count symbols room (an_arm line e before) from fault)
-  tail_arm_memory (Ok made) stop = stop
-  tail_arm_memory (Err fault) stop = λ line e before. Stops.out_of_memory stop
-
 module _ {text : List ℕ} {count : ℕ} {symbols : List Symbol} where
   -- a part begins with a token of a kind that has been found there
-  pub goes_as : {room from : ℕ} {part : Part} {found kind : Kind} {rule : Rule} → found ≡ kind_at symbols from → found ≡ kind → row text part kind ≡ Some rule → Leads text count symbols room (Go part) from rule from
-  goes_as {room} {from} {part} {found} {kind} here is row_is = leads_go (ap (λ (k : Kind). row text part k) (sym here ∙ is) ∙ row_is)
+  pub goes_as : {room from : ℕ} {part : Part} {found kind : Kind} {rule : Rule} → found ≡ kind_at symbols from → found ≡ kind → row text part kind ≡ Some rule → Continues text count symbols room (Go part) from rule from
+  goes_as {room} {from} {part} {found} {kind} here is row_is = by_row (ap (λ (k : Kind). row text part k) (sym here ∙ is) ∙ row_is)
 
   -- a part is this rule by the kind that has been found there
-  pub goes_by : {room from : ℕ} {part : Part} {found : Kind} {rule : Rule} → found ≡ kind_at symbols from → row text part found ≡ Some rule → Leads text count symbols room (Go part) from rule from
-  goes_by {room} {from} {part} {found} here is = leads_go (ap (λ (k : Kind). row text part k) (sym here) ∙ is)
+  pub goes_by : {room from : ℕ} {part : Part} {found : Kind} {rule : Rule} → found ≡ kind_at symbols from → row text part found ≡ Some rule → Continues text count symbols room (Go part) from rule from
+  goes_by {room} {from} {part} {found} here is = by_row (ap (λ (k : Kind). row text part k) (sym here) ∙ is)
 
-  pub stops_by : {room from : ℕ} {part : Part} {found : Kind} {fault : ParseFault} → found ≡ kind_at symbols from → row text part found ≡ None → fault ≡ unexpected text count (slice_get symbols from) → Stops text count symbols room (Go part) from fault
-  stops_by {room} {from} {part} {found} here is fault_is = Stops.no_part (ap (λ (k : Kind). row text part k) (sym here) ∙ is) fault_is
+  pub halts_by : {room from : ℕ} {part : Part} {found : Kind} {fault : ParseFault} → found ≡ kind_at symbols from → row text part found ≡ None → fault ≡ unexpected text count (slice_get symbols from) → HaltsWith text count symbols room (Go part) from fault
+  halts_by {room} {from} {part} {found} here is fault_is = HaltsWith.no_part (ap (λ (k : Kind). row text part k) (sym here) ∙ is) fault_is
 
-  pub item_stands : {room from : ℕ} {line : Line} {before : Phrases} {found : Kind} → found ≡ kind_at symbols from → (stands : Bool) → stands ≡ begins_item found → Leads text count symbols room (Go (Items line before)) from (items line before stands) from
+  pub item_stands : {room from : ℕ} {line : Line} {before : Phrases} {found : Kind} → found ≡ kind_at symbols from → (stands : Bool) → stands ≡ begins_item found → Continues text count symbols room (Go (Items line before)) from (items line before stands) from
   item_stands {line = line} {before = before} {found = found} here stands is = goes_by here (ap (λ (b : Bool). Some (items line before b)) (sym is))
 
-  pub types_stand : {room from : ℕ} {found : Kind} → found ≡ kind_at symbols from → (stand : Bool) → stand ≡ begins_type found → Leads text count symbols room (Go ParameterTypes) from (parameter_types stand) from
+  pub types_stand : {room from : ℕ} {found : Kind} → found ≡ kind_at symbols from → (stand : Bool) → stand ≡ begins_type found → Continues text count symbols room (Go ParameterTypes) from (parameter_types stand) from
   types_stand {found = found} here stand is = goes_by here (ap (λ (b : Bool). Some (parameter_types b)) (sym is))
 
-  pub parameters_stand : {room from : ℕ} {found : Kind} → found ≡ kind_at symbols from → (stand : Bool) → stand ≡ begins_type found → Leads text count symbols room (Go Parameters) from (parameters stand) from
+  pub parameters_stand : {room from : ℕ} {found : Kind} → found ≡ kind_at symbols from → (stand : Bool) → stand ≡ begins_type found → Continues text count symbols room (Go Parameters) from (parameters stand) from
   parameters_stand {found = found} here stand is = goes_by here (ap (λ (b : Bool). Some (parameters b)) (sym is))
 
-  pub chain_goes : {room from : ℕ} {level : Level} {left : Phrase} {found : Kind} {operation op : Option Operation} → found ≡ kind_at symbols from → operation ≡ operation_of level found → operation ≡ op → Leads text count symbols room (Go (MoreChain level left)) from (more_chain level left found op) from
+  pub chain_goes : {room from : ℕ} {level : Level} {left : Phrase} {found : Kind} {operation op : Option Operation} → found ≡ kind_at symbols from → operation ≡ operation_of level found → operation ≡ op → Continues text count symbols room (Go (MoreChain level left)) from (more_chain level left found op) from
   chain_goes {level = level} {left = left} {found = found} here is some = goes_by here (ap (λ (o : Option Operation). Some (more_chain level left found o)) (sym is ∙ some))
 
-  pub compared_as : {room from : ℕ} {left : Phrase} {found : Kind} {relating r : Option Relating} → found ≡ kind_at symbols from → relating ≡ relating_of found → relating ≡ r → Leads text count symbols room (Go (Comparison left)) from (comparison text left found r) from
+  pub compared_as : {room from : ℕ} {left : Phrase} {found : Kind} {relating r : Option Relating} → found ≡ kind_at symbols from → relating ≡ relating_of found → relating ≡ r → Continues text count symbols room (Go (Comparison left)) from (comparison text left found r) from
   compared_as {left = left} {found = found} here is some = goes_by here (ap (λ (r : Option Relating). Some (comparison text left found r)) (sym is ∙ some))
 
-  -- a call at the end gives what the whole gives
-  pub tail_clause : (result : Result Rough ParseFault) {room from to : ℕ} {rule : Rule} {tree : Phrase} → IfOk result (λ made. phrase_of made ≡ tree) → Leads text count symbols room rule from (Give (a_clause tree)) to → IfOk result (λ made. Reads text symbols room rule from (a_clause (phrase_of made)) to)
-  tail_clause (Ok made) is lead = lead.reads _ _ (gives_at (ap a_clause is) refl)
-  tail_clause (Err fault) is lead = is
-
-  pub tail_type : (result : Result Ty ParseFault) {room from to : ℕ} {rule : Rule} {given : TyView} → IfOk result (λ made. ty_view made ≡ given) → Leads text count symbols room rule from (Give (a_type given)) to → IfOk result (λ made. Reads text symbols room rule from (a_type (ty_view made)) to)
-  tail_type (Ok made) is lead = lead.reads _ _ (gives_at (ap a_type is) refl)
-  tail_type (Err fault) is lead = is
-
-  pub tail_item : (result : Result RoughItem ParseFault) {room from to : ℕ} {rule : Rule} {given : WriteItem} → IfOk result (λ made. item_of made ≡ given) → Leads text count symbols room rule from (Give (an_item given)) to → IfOk result (λ made. Reads text symbols room rule from (an_item (item_of made)) to)
-  tail_item (Ok made) is lead = lead.reads _ _ (gives_at (ap an_item is) refl)
-  tail_item (Err fault) is lead = is
-
-  pub tail_reads : {A : Type 0} (view : A → Made) (result : Result A ParseFault) (to : ℕ) {room from at : ℕ} {rule rest : Rule} → IfOk result (λ made. Reads text symbols room rest at (view made) to) → Leads text count symbols room rule from rest at → IfOk result (λ made. Reads text symbols room rule from (view made) to)
-  tail_reads view (Ok made) to read lead = lead.reads _ _ read
-  tail_reads view (Err fault) to read lead = read
-
-  pub tail_stops : {A : Type 0} (result : Result A ParseFault) {room from at : ℕ} {rule rest : Rule} → IfErr result (λ fault. Stops text count symbols room rest at fault) → Leads text count symbols room rule from rest at → IfErr result (λ fault. Stops text count symbols room rule from fault)
-  tail_stops (Ok made) stop lead = stop
-  tail_stops (Err fault) stop lead = lead.stops fault stop
+  -- a type that is made at the end is what the rule is read as
+  pub built_type : (result : Result Ty ParseFault) {room from to : ℕ} {rule : Rule} {type : TyView} → IfOk result (λ made. ty_view made ≡ type) → IfErr result (λ fault. fault ≡ Memory) → Continues text count symbols room rule from (Give (a_type type)) to → MatchResult result (λ made. Continues text count symbols room rule from (Give (a_type (ty_view made))) to) (λ fault. HaltsWith text count symbols room rule from fault)
+  built_type (Ok made) is memory goes = on goes (same (ap (λ (t : TyView). Give (a_type t)) (sym is)))
+  built_type (Err fault) is memory goes = HaltsWith.out_of_memory memory
 
   -- a name that is declared is the one that stands there
-  pub leads_named : {room from : ℕ} (next : NameAt → Rule) {name other : NameAt} → other ≡ name → Leads text count symbols room (next name) from (next other) from
-  leads_named next is = leads_same (ap next (sym is))
+  pub same_name : {room from : ℕ} (next : NameAt → Rule) {name other : NameAt} → other ≡ name → Continues text count symbols room (next name) from (next other) from
+  same_name next is = same (ap next (sym is))
 
   -- a loop goes on with what it has made
-  pub phrases_begin : {room from : ℕ} (next : Phrases → Rule) {made : List Rough} → made ≡ [] → Leads text count symbols room (next none) from (next (phrases_in made)) from
-  phrases_begin next is = leads_same (ap (λ (made : List Rough). next (phrases_in made)) (sym is))
+  pub phrases_begin : {room from : ℕ} (next : Phrases → Rule) {made : List Rough} → made ≡ [] → Continues text count symbols room (next none) from (next (phrases_in made)) from
+  phrases_begin next is = same (ap (λ (made : List Rough). next (phrases_in made)) (sym is))
 
-  pub phrases_again : {room from : ℕ} (next : Phrases → Rule) (before : List Rough) (last : Rough) {made : List Rough} → made ≡ before ++ last ∷ [] → Leads text count symbols room (next (and_then (phrases_in before) (phrase_of last))) from (next (phrases_in made)) from
-  phrases_again next before last is = leads_same (ap next (sym (ap phrases_in is ∙ phrases_in-append before last)))
+  pub phrases_again : {room from : ℕ} (next : Phrases → Rule) (before : List Rough) (last : Rough) {made : List Rough} → made ≡ before ++ last ∷ [] → Continues text count symbols room (next (and_then (phrases_in before) (phrase_of last))) from (next (phrases_in made)) from
+  phrases_again next before last is = same (ap next (sym (ap phrases_in is ∙ phrases_in-append before last)))
 
-  pub phrases_first : {room from : ℕ} (next : Phrases → Rule) (before : List Rough) (last : Rough) {made : List Rough} → before ≡ [] → made ≡ before ++ last ∷ [] → Leads text count symbols room (next (more (phrase_of last) none)) from (next (phrases_in made)) from
-  phrases_first next before last empty is = leads_same (ap (λ (all : List Rough). next (and_then (phrases_in all) (phrase_of last))) (sym empty) ∙ ap next (sym (ap phrases_in is ∙ phrases_in-append before last)))
+  pub phrases_first : {room from : ℕ} (next : Phrases → Rule) (before : List Rough) (last : Rough) {made : List Rough} → before ≡ [] → made ≡ before ++ last ∷ [] → Continues text count symbols room (next (more (phrase_of last) none)) from (next (phrases_in made)) from
+  phrases_first next before last empty is = same (ap (λ (all : List Rough). next (and_then (phrases_in all) (phrase_of last))) (sym empty) ∙ ap next (sym (ap phrases_in is ∙ phrases_in-append before last)))
 
-  pub arms_begin : {room from : ℕ} (next : Arms → Rule) {made : List RoughArm} → made ≡ [] → Leads text count symbols room (next no_arms) from (next (arms_in made)) from
-  arms_begin next is = leads_same (ap (λ (made : List RoughArm). next (arms_in made)) (sym is))
+  pub arms_begin : {room from : ℕ} (next : Arms → Rule) {made : List RoughArm} → made ≡ [] → Continues text count symbols room (next no_arms) from (next (arms_in made)) from
+  arms_begin next is = same (ap (λ (made : List RoughArm). next (arms_in made)) (sym is))
 
-  pub arms_again : {room from : ℕ} (next : Arms → Rule) (before : List RoughArm) (last : RoughArm) {made : List RoughArm} → made ≡ before ++ last ∷ [] → Leads text count symbols room (next (and_arm (arms_in before) (arm_of last))) from (next (arms_in made)) from
-  arms_again next before last is = leads_same (ap next (sym (ap arms_in is ∙ arms_in-append before last)))
+  pub arms_again : {room from : ℕ} (next : Arms → Rule) (before : List RoughArm) (last : RoughArm) {made : List RoughArm} → made ≡ before ++ last ∷ [] → Continues text count symbols room (next (and_arm (arms_in before) (arm_of last))) from (next (arms_in made)) from
+  arms_again next before last is = same (ap next (sym (ap arms_in is ∙ arms_in-append before last)))
 
-  pub written_again : {room from : ℕ} (next : WriteItems → Rule) (before : List RoughItem) (last : RoughItem) {made : List RoughItem} → made ≡ before ++ last ∷ [] → Leads text count symbols room (next (and_item (items_in before) (item_of last))) from (next (items_in made)) from
-  written_again next before last is = leads_same (ap next (sym (ap items_in is ∙ items_in-append before last)))
+  pub written_again : {room from : ℕ} (next : WriteItems → Rule) (before : List RoughItem) (last : RoughItem) {made : List RoughItem} → made ≡ before ++ last ∷ [] → Continues text count symbols room (next (and_item (items_in before) (item_of last))) from (next (items_in made)) from
+  written_again next before last is = same (ap next (sym (ap items_in is ∙ items_in-append before last)))
 
-  pub written_first : {room from : ℕ} (next : WriteItems → Rule) (before : List RoughItem) (last : RoughItem) {made : List RoughItem} → before ≡ [] → made ≡ before ++ last ∷ [] → Leads text count symbols room (next (more_items (item_of last) no_items)) from (next (items_in made)) from
-  written_first next before last empty is = leads_same (ap (λ (all : List RoughItem). next (and_item (items_in all) (item_of last))) (sym empty) ∙ ap next (sym (ap items_in is ∙ items_in-append before last)))
+  pub written_first : {room from : ℕ} (next : WriteItems → Rule) (before : List RoughItem) (last : RoughItem) {made : List RoughItem} → before ≡ [] → made ≡ before ++ last ∷ [] → Continues text count symbols room (next (more_items (item_of last) no_items)) from (next (items_in made)) from
+  written_first next before last empty is = same (ap (λ (all : List RoughItem). next (and_item (items_in all) (item_of last))) (sym empty) ∙ ap next (sym (ap items_in is ∙ items_in-append before last)))
 
-  pub types_again : {room from : ℕ} (next : TyViews → Rule) (before : List Ty) (last : Ty) {made : List Ty} → made ≡ before ++ last ∷ [] → Leads text count symbols room (next (and_type (ty_views before) (ty_view last))) from (next (ty_views made)) from
-  types_again next before last is = leads_same (ap next (sym (ap ty_views is ∙ ty_views-append before last)))
+  pub types_again : {room from : ℕ} (next : TyViews → Rule) (before : List Ty) (last : Ty) {made : List Ty} → made ≡ before ++ last ∷ [] → Continues text count symbols room (next (and_type (ty_views before) (ty_view last))) from (next (ty_views made)) from
+  types_again next before last is = same (ap next (sym (ap ty_views is ∙ ty_views-append before last)))
 
-  pub types_first : {room from : ℕ} (next : TyViews → Rule) (before : List Ty) (last : Ty) {made : List Ty} → before ≡ [] → made ≡ before ++ last ∷ [] → Leads text count symbols room (next (ty.more (ty_view last) ty.none)) from (next (ty_views made)) from
-  types_first next before last empty is = leads_same (ap (λ (all : List Ty). next (and_type (ty_views all) (ty_view last))) (sym empty) ∙ ap next (sym (ap ty_views is ∙ ty_views-append before last)))
+  pub types_first : {room from : ℕ} (next : TyViews → Rule) (before : List Ty) (last : Ty) {made : List Ty} → before ≡ [] → made ≡ before ++ last ∷ [] → Continues text count symbols room (next (ty.more (ty_view last) ty.none)) from (next (ty_views made)) from
+  types_first next before last empty is = same (ap (λ (all : List Ty). next (and_type (ty_views all) (ty_view last))) (sym empty) ∙ ap next (sym (ap ty_views is ∙ ty_views-append before last)))
 
-  pub groups_begin : {room from : ℕ} (next : List GroupAt → Rule) {made : List Group} → made ≡ [] → Leads text count symbols room (next []) from (next (groups_in made)) from
-  groups_begin next is = leads_same (ap (λ (made : List Group). next (groups_in made)) (sym is))
+  pub groups_begin : {room from : ℕ} (next : List GroupAt → Rule) {made : List Group} → made ≡ [] → Continues text count symbols room (next []) from (next (groups_in made)) from
+  groups_begin next is = same (ap (λ (made : List Group). next (groups_in made)) (sym is))
 
-  pub groups_again : {room from : ℕ} (next : List GroupAt → Rule) (before : List Group) (last : Group) {made : List Group} → made ≡ before ++ last ∷ [] → Leads text count symbols room (next (groups_in before ++ group_of last ∷ [])) from (next (groups_in made)) from
-  groups_again next before last is = leads_same (ap next (sym (ap groups_in is ∙ groups_in-append before last)))
+  pub groups_again : {room from : ℕ} (next : List GroupAt → Rule) (before : List Group) (last : Group) {first : GroupAt} {others : List GroupAt} {made : List Group} → group_of last ≡ first ∷ others → made ≡ before ++ last ∷ [] → Continues text count symbols room (next ((groups_in before ++ first ∷ []) ++ others)) from (next (groups_in made)) from
+  groups_again next before last {first = first} {others = others} group is = same (ap next (append_assoc (groups_in before) (first ∷ []) others ∙ ap (λ (all : List GroupAt). groups_in before ++ all) (sym group) ∙ sym (ap groups_in is ∙ groups_in-append before last)))
+
+  -- behind the first name of a group there are no further ones yet
+  pub further : {room from : ℕ} (t : TyView) (before : List GroupAt) (none_yet : List Named) → none_yet ≡ [] → Continues text count symbols room (Go (MoreGroups t before)) from (Go (MoreGroups t (before ++ names_in t none_yet))) from
+  further t before none_yet is = same (ap (λ (all : List GroupAt). Go (MoreGroups t all)) (sym (ap (λ (names : List Named). before ++ names_in t names) is ∙ append-nil before)))
+
+  -- one name more of a group
+  pub names_again : {room from : ℕ} (next : List GroupAt → Rule) (t : TyView) (before : List GroupAt) (names : List Named) (last : Named) {made : List Named} → made ≡ names ++ last ∷ [] → Continues text count symbols room (next ((before ++ names_in t names) ++ of_type t last ∷ [])) from (next (before ++ names_in t made)) from
+  names_again next t before names last is = same (ap next (append_assoc before (names_in t names) (of_type t last ∷ []) ∙ ap (λ (all : List GroupAt). before ++ all) (sym (ap (names_in t) is ∙ names_in-append t names last))))
+
+  pub primary_as : {room from : ℕ} {found : Kind} {begun : Option Start} {how : Start} → found ≡ kind_at symbols from → begun ≡ start_of found → begun ≡ Some how → Continues text count symbols room (Go Primary) from (primary text found how) from
+  primary_as {found = found} here is some = goes_by here (ap (λ (o : Option Start). option_map (primary text found) o) (sym is ∙ some))
+
+-- whether there is a next group
+pub no_next : (before : List GroupAt) {goes_on : Bool} → goes_on ≡ false → next_groups before goes_on ≡ Give (all_groups before)
+no_next before is = ap (next_groups before) is
+
+pub has_next : (before : List GroupAt) {goes_on : Bool} → goes_on ≡ true → next_groups before goes_on ≡ Go (Groups before)
+has_next before is = ap (next_groups before) is

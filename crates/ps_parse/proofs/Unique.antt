@@ -5,7 +5,8 @@ use Rattle.ps_symbols.specs.declared.symbol.Symbol.{Symbol}
 use Rattle.ps_tree.specs.Phrase.{Phrase}
 use Rattle.ps_parse.specs.Grammar.{Made, the_clause, Rule}
 use Rattle.ps_parse.specs.Reading.{Reads, gives, takes, goes, opens, joins}
-use Rattle.ps_parse.specs.Program.{ReadsAs}
+use Rattle.ps_parse.specs.Program.{IsProgram, ReadsAs}
+use Rattle.ps_symbols.specs.Symbols.{symbols as read_as}
 
 pub some_same : {A : Type 0} {o : Option A} {a b : A} → o ≡ Some a → o ≡ Some b → a ≡ b
 some_same is was = cc
@@ -27,5 +28,9 @@ module _ {text : List ℕ} {symbols : List Symbol} where
       let same = unique first first' in
       unique more (reads_as (ap next (sym same.0)) (reads_from (sym same.1) more'))
 
+-- however deep its clauses and types may stand inside one another
+pub one_tree_of_all : (text : List ℕ) (symbols : List Symbol) (nesting larger : ℕ) (tree other : Phrase) → IsProgram text nesting symbols tree → IsProgram text larger symbols other → tree ≡ other
+one_tree_of_all text symbols nesting larger tree other reads reads' = ap the_clause (unique reads reads').0
+
 pub one_tree : (text : List ℕ) (tokens : List Token) (tree other : Phrase) → ReadsAs text tokens tree → ReadsAs text tokens other → tree ≡ other
-one_tree text tokens tree other reads reads' = ap the_clause (unique reads.program.1 reads'.program.1).0
+one_tree text tokens tree other reads reads' = one_tree_of_all text (read_as tokens) 100 100 tree other reads.program reads'.program

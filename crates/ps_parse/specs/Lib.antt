@@ -1,5 +1,4 @@
 pub mod Grammar
-pub mod Parsing
 pub mod Program
 pub mod Reading
-pub mod Stopping
+pub mod inside

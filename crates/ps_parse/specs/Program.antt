@@ -1,27 +1,34 @@
 -- What a text reads as, and where its first fault stands.
-use Rattle.std.specs.Prelude.{◌≡◌, ℕ, ◌+◌, ◌-◌, ◌<◌, ◌≤◌, List, ◌++◌, length, take, Option, Some, None, slice_get}
+use Rattle.std.specs.Prelude.{◌≡◌, ◌≢◌, ℕ, ◌+◌, ◌-◌, ◌<◌, ◌≤◌, List, ◌++◌, length, take, Option, Some, None, slice_get}
+use Rattle.std.specs.List.{All}
 use Rattle.ps_base.specs.declared.line.Line.{Line}
 use Rattle.ps_scan.specs.declared.token.Token.{Token}
 use Rattle.ps_scan.specs.Tokens.{line_of, line_number}
 use Rattle.ps_tree.specs.declared.fault.ParseFault.{ParseFault}
 use Rattle.ps_tree.specs.declared.fault.ParseFault.TheVariants.{Unexpected, TooNested}
+use Rattle.ps_symbols.specs.declared.kind.Kind.TheVariants.{EndOfText}
 use Rattle.ps_symbols.specs.declared.symbol.Symbol.{Symbol}
 use Rattle.ps_tree.specs.Phrase.{Phrase}
 use Rattle.ps_parse.specs.Grammar.{a_clause, Program, Go}
 use Rattle.ps_parse.specs.Reading.{Reads, Opens}
 use Rattle.ps_symbols.specs.Symbols.{symbols}
 
--- the symbols are those of a program with this tree, with at most so many clauses and types inside one another
+-- the symbols are those of a program with this tree, with at most so many clauses and types inside one another: the
+-- program is read from the first of them on, and all of them
 abbrev pub IsProgram : List ℕ → ℕ → List Symbol → Phrase → Type 0
-IsProgram text nesting all tree = (end : ℕ) × Reads text all nesting (Go Program) 0 (a_clause tree) end
+IsProgram text nesting all tree = Reads text all nesting (Go Program) 0 (a_clause tree) (length all)
 
 -- the text has these tokens and this tree, with at most 100 clauses and types inside one another
 pub record ReadsAs (text : List ℕ) (tokens : List Token) (tree : Phrase) : Type 0 where
   pub program : IsProgram text 100 (symbols tokens) tree
 
--- the symbols and some further ones make a program, however deep they stand inside one another
+-- a symbol that a text can have: the end of the text is none
+abbrev pub CanStand : Symbol → Type 0
+CanStand symbol = symbol.kind ≢ EndOfText
+
+-- the symbols and some further ones that a text can have make a program, however deep they stand inside one another
 abbrev pub BeginsProgram : List ℕ → List Symbol → Type 0
-BeginsProgram text front = (more : List Symbol) × ((nesting : ℕ) × ((tree : Phrase) × IsProgram text nesting (front ++ more) tree))
+BeginsProgram text front = (more : List Symbol) × ((stand : All CanStand more) × ((nesting : ℕ) × ((tree : Phrase) × IsProgram text nesting (front ++ more) tree)))
 
 -- the symbol at this place opens the 101st clause or type of those inside one another, and no symbol before it does
 pub record IsTooDeep (text : List ℕ) (all : List Symbol) (place : ℕ) : Type 0 where

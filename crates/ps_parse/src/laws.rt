@@ -2,13 +2,15 @@
 
 ghost use Rattle.std.specs.Prelude.{◌≡◌, ℕ, List};
 ghost use Rattle.ps_scan.specs.declared.token.Token.{Token};
+ghost use Rattle.ps_symbols.specs.Symbols.{symbols};
 ghost use Rattle.ps_tree.specs.declared.fault.ParseFault.{ParseFault};
 ghost use Rattle.ps_tree.specs.Phrase.{Phrase};
-ghost use Rattle.ps_parse.specs.Program.{ReadsAs, IsParseFault};
+ghost use Rattle.ps_parse.specs.Program.{IsProgram, ReadsAs, IsParseFault};
 
-/// A text with these tokens has at most one tree.
+/// A text with these tokens has at most one tree, however deep its clauses and types may stand
+/// inside one another.
 pub fn tree_is_unique()
-    ensures { (text : List ℕ) (tokens : List Token) (tree other : Phrase) → ReadsAs text tokens tree → ReadsAs text tokens other → tree ≡ other }
+    ensures { (text : List ℕ) (tokens : List Token) (nesting larger : ℕ) (tree other : Phrase) → IsProgram text nesting (symbols tokens) tree → IsProgram text larger (symbols tokens) other → tree ≡ other }
 {}
 
 /// A text with these tokens has at most one first fault.

@@ -1,11 +1,9 @@
-ghost use Rattle.std.specs.Prelude.{◌≡◌, ◌≢◌, ◌≤◌, ◌+◌, length, IfOk, OnOk, OnErr, IfErr, slice_get, Some, IsSome, ◌<◌};
+ghost use Rattle.std.specs.Prelude.{◌≡◌, ◌≢◌, ◌≤◌, length, IfOk, IfErr, slice_get, IsSome, MatchResult};
 ghost use Rattle.ps_scan.specs.Tokens.{HasTokens, IsToken, newlines};
 ghost use Rattle.ps_tree.specs.Phrase.{phrase_of, named};
 ghost use Rattle.ps_parse.specs.Grammar.{Nested, Go, inside, Program, Open, name_at};
 ghost use Rattle.ps_parse.specs.Reading.{kind_at};
-ghost use Rattle.ps_parse.specs.Parsing.{AreSound, Parses, Halts};
-ghost use Rattle.ps_symbols.specs.inside.Soundness.{IsSound};
-ghost use Rattle.ps_parse.specs.Stopping.{IsNotAt};
+ghost use Rattle.ps_parse.specs.inside.Parsing.{AreSound, Halts, ReadsClause, Takes};
 ghost use Rattle.ps_parse.specs.Program.{ReadsAs, IsParseFault, unexpected, end_line};
 
 mod cases;
@@ -111,14 +109,7 @@ impl<'a> Parser<'a> {
     /// Takes the symbol at the place, which has to be of the kind.
     fn take(&self, at: &mut usize, kind: Kind) -> Result<Symbol, ParseFault>
         requires sound { AreSound self.now }
-        ensures taken { IfOk result (λ symbol. slice_get self.now.symbols.now at.old ≡ Some symbol) }
-        ensures kind { IfOk result (λ symbol. symbol.kind ≡ kind) }
-        ensures sound { IfOk result (λ symbol. IsSound self.now.text.now symbol) }
-        ensures place { OnOk result (at.new ≡ at.old + 1) }
-        ensures within { OnOk result (at.old < length self.now.symbols.now) }
-        ensures other { OnErr result (IsNotAt self.now.symbols.now at.old kind) }
-        ensures fault { IfErr result (λ fault. fault ≡ unexpected self.now.text.now self.now.tokens (slice_get self.now.symbols.now at.old)) }
-        ensures forward { at.old ≤ at.new }
+        ensures { Takes self.now kind at.old result at.new }
     {
         let Some(symbol) = self.symbol_at(*at) else {
             return Err(self.unexpected(*at));
@@ -132,9 +123,7 @@ impl<'a> Parser<'a> {
 
     fn program(&self, at: &mut usize) -> Result<Rough, ParseFault>
         requires sound { AreSound self.now }
-        ensures read { IfOk result (λ made. Parses self.now 100 (Go Program) at.old made at.new) }
-        ensures fault { IfErr result (λ fault. Halts self.now 100 (Go Program) at.old fault) }
-        ensures forward { at.old ≤ at.new }
+        ensures { ReadsClause self.now 100 (Go Program) at.old result at.new }
     {
         let all = self.items(at, DEEPEST, Line(1))?;
         match self.kind_at(*at) {
@@ -153,8 +142,7 @@ impl<'a> Parser<'a> {
     /// The name that a symbol is.
     fn name(&self, symbol: Symbol) -> Result<Named, ParseFault>
         requires { IsToken self.now.text.now symbol.token }
-        ensures name { IfOk result (λ made. named made ≡ name_at self.now.text.now symbol) }
-        ensures fault { IfErr result (λ fault. fault ≡ ParseFault.Memory) }
+        ensures { MatchResult result (λ made. named made ≡ name_at self.now.text.now symbol) (λ fault. fault ≡ ParseFault.Memory) }
     {
         let name = Vec::from_slice(self.alloc, ps_scan::name_of(self.text, symbol.token))?;
         Ok(Named {

@@ -1,11 +1,10 @@
 //! The `case`, with its arms.
 
-ghost use Rattle.std.specs.Prelude.{◌≤◌, length, IfOk, OnOk, IfErr, ◌<◌};
 ghost use Rattle.ps_base.specs.declared.line.Line.{Line};
 ghost use Rattle.ps_tree.specs.Phrase.{Arms, Phrase, phrase_of, no_arms, arm_of};
 ghost use Rattle.ps_tree.specs.Composing.{and_arm};
 ghost use Rattle.ps_parse.specs.Grammar.{Go, Cases, cases, choosing};
-ghost use Rattle.ps_parse.specs.Parsing.{AreSound, Parses, Halts, GoesOn, an_arm, behind_labels};
+ghost use Rattle.ps_parse.specs.inside.Parsing.{AreSound, an_arm, behind_labels, Does, ReadsClause, behind_arm};
 ghost use Rattle.ps_tree.specs.PhraseLists.{phrases_in, arms_in};
 
 use super::Parser;
@@ -20,9 +19,7 @@ impl<'a> Parser<'a> {
     #[cycle(parsing)]
     pub(super) fn choosing(&self, at: &mut usize, room: u32) -> Result<Rough, ParseFault>
         requires sound { AreSound self.now }
-        ensures read { IfOk result (λ made. Parses self.now room choosing at.old made at.new) }
-        ensures fault { IfErr result (λ fault. Halts self.now room choosing at.old fault) }
-        ensures forward { at.old ≤ at.new }
+        ensures { ReadsClause self.now room choosing at.old result at.new }
     {
         let word = self.take(at, Kind::Case)?;
         let e = self.clause(at, room)?;
@@ -34,9 +31,7 @@ impl<'a> Parser<'a> {
     #[cycle(parsing)]
     fn cases(&self, at: &mut usize, room: u32, line: Line, e: Rough) -> Result<Rough, ParseFault>
         requires sound { AreSound self.now }
-        ensures read { IfOk result (λ made. Parses self.now room (Go (Cases line (phrase_of e) no_arms)) at.old made at.new) }
-        ensures fault { IfErr result (λ fault. Halts self.now room (Go (Cases line (phrase_of e) no_arms)) at.old fault) }
-        ensures forward { at.old ≤ at.new }
+        ensures { ReadsClause self.now room (Go (Cases line (phrase_of e) no_arms)) at.old result at.new }
     {
         let mut arms = Vec::new(self.alloc);
         loop {
@@ -44,6 +39,7 @@ impl<'a> Parser<'a> {
                 return self.otherwise(at, room, line, e, arms);
             }
             let arm = self.arm(at, room)?;
+            self.take(at, Kind::Semicolon)?;
             arms.push(arm)?;
         }
     }
@@ -58,9 +54,7 @@ impl<'a> Parser<'a> {
         arms: Vec<RoughArm>,
     ) -> Result<Rough, ParseFault>
         requires sound { AreSound self.now }
-        ensures read { IfOk result (λ made. Parses self.now room (cases line (phrase_of e) (arms_in arms.items) Kind.Default) at.old made at.new) }
-        ensures fault { IfErr result (λ fault. Halts self.now room (cases line (phrase_of e) (arms_in arms.items) Kind.Default) at.old fault) }
-        ensures forward { at.old ≤ at.new }
+        ensures { ReadsClause self.now room (cases line (phrase_of e) (arms_in arms.items) Kind.Default) at.old result at.new }
     {
         self.take(at, Kind::Default)?;
         self.take(at, Kind::Colon)?;
@@ -71,25 +65,18 @@ impl<'a> Parser<'a> {
     #[cycle(parsing)]
     fn arm(&self, at: &mut usize, room: u32) -> Result<RoughArm, ParseFault>
         requires sound { AreSound self.now }
-        ensures goes { IfOk result (λ made. (line : Line) (e : Phrase) (before : Arms) → GoesOn self.now room (an_arm line e before) at.old (Go (Cases line e (and_arm before (arm_of made)))) at.new) }
-        ensures fault { IfErr result (λ fault. (line : Line) (e : Phrase) (before : Arms) → Halts self.now room (an_arm line e before) at.old fault) }
-        ensures moved { OnOk result (at.old < at.new) }
-        ensures within { OnOk result (at.old < length self.now.symbols.now) }
-        ensures forward { at.old ≤ at.new }
+        ensures { (line : Line) (e : Phrase) (before : Arms) → Does self.now room (an_arm line e before) at.old result (λ made. behind_arm line e (and_arm before (arm_of made))) at.new }
     {
         let labels = self.labels(at, room)?;
         self.take(at, Kind::Colon)?;
         let a = self.clause(at, room)?;
-        self.take(at, Kind::Semicolon)?;
-        arm_of(self.alloc, labels, a)
+        Ok(arm_of(labels, a))
     }
 
     #[cycle(parsing)]
     fn labels(&self, at: &mut usize, room: u32) -> Result<Vec<Rough>, ParseFault>
         requires sound { AreSound self.now }
-        ensures goes { IfOk result (λ made. (line : Line) (e : Phrase) (before : Arms) → GoesOn self.now room (an_arm line e before) at.old (behind_labels line e before (phrases_in made.items)) at.new) }
-        ensures fault { IfErr result (λ fault. (line : Line) (e : Phrase) (before : Arms) → Halts self.now room (an_arm line e before) at.old fault) }
-        ensures forward { at.old ≤ at.new }
+        ensures { (line : Line) (e : Phrase) (before : Arms) → Does self.now room (an_arm line e before) at.old result (λ made. behind_labels line e before (phrases_in made.items)) at.new }
     {
         let mut labels = Vec::new(self.alloc);
         let first = self.clause(at, room)?;

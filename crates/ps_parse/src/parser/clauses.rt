@@ -1,9 +1,8 @@
 //! Clauses, by the token that opens each.
 
-ghost use Rattle.std.specs.Prelude.{◌≤◌, IfOk, IfErr};
 ghost use Rattle.ps_tree.specs.Phrase.{phrase_of};
 ghost use Rattle.ps_parse.specs.Grammar.{Go, Clause, Choice, Assignment, opened, condition, procedure, filling, expression};
-ghost use Rattle.ps_parse.specs.Parsing.{AreSound, Parses, Halts};
+ghost use Rattle.ps_parse.specs.inside.Parsing.{AreSound, ReadsClause};
 
 use super::Parser;
 use ps_base::line::Line;
@@ -17,9 +16,7 @@ impl<'a> Parser<'a> {
     #[cycle(parsing)]
     pub(super) fn clause(&self, at: &mut usize, room: u32) -> Result<Rough, ParseFault>
         requires sound { AreSound self.now }
-        ensures read { IfOk result (λ made. Parses self.now room Clause at.old made at.new) }
-        ensures fault { IfErr result (λ fault. Halts self.now room Clause at.old fault) }
-        ensures forward { at.old ≤ at.new }
+        ensures { ReadsClause self.now room Clause at.old result at.new }
     {
         let Some(opening) = opening_of(self.kind_at(*at)) else {
             return Err(self.unexpected(*at));
@@ -33,9 +30,7 @@ impl<'a> Parser<'a> {
     #[cycle(parsing)]
     fn opened(&self, at: &mut usize, room: u32, opening: Opening) -> Result<Rough, ParseFault>
         requires sound { AreSound self.now }
-        ensures read { IfOk result (λ made. Parses self.now room (opened self.now.text.now opening) at.old made at.new) }
-        ensures fault { IfErr result (λ fault. Halts self.now room (opened self.now.text.now opening) at.old fault) }
-        ensures forward { at.old ≤ at.new }
+        ensures { ReadsClause self.now room (opened self.now.text.now opening) at.old result at.new }
     {
         match opening {
             Opening::Condition => self.condition(at, room),
@@ -54,9 +49,7 @@ impl<'a> Parser<'a> {
     #[cycle(parsing)]
     fn condition(&self, at: &mut usize, room: u32) -> Result<Rough, ParseFault>
         requires sound { AreSound self.now }
-        ensures read { IfOk result (λ made. Parses self.now room condition at.old made at.new) }
-        ensures fault { IfErr result (λ fault. Halts self.now room condition at.old fault) }
-        ensures forward { at.old ≤ at.new }
+        ensures { ReadsClause self.now room condition at.old result at.new }
     {
         let word = self.take(at, Kind::If)?;
         let c = self.clause(at, room)?;
@@ -67,9 +60,7 @@ impl<'a> Parser<'a> {
     #[cycle(parsing)]
     fn choice(&self, at: &mut usize, room: u32, line: Line, c: Rough) -> Result<Rough, ParseFault>
         requires sound { AreSound self.now }
-        ensures read { IfOk result (λ made. Parses self.now room (Go (Choice line (phrase_of c))) at.old made at.new) }
-        ensures fault { IfErr result (λ fault. Halts self.now room (Go (Choice line (phrase_of c))) at.old fault) }
-        ensures forward { at.old ≤ at.new }
+        ensures { ReadsClause self.now room (Go (Choice line (phrase_of c))) at.old result at.new }
     {
         match self.kind_at(*at) {
             Kind::Do => {
@@ -91,9 +82,7 @@ impl<'a> Parser<'a> {
     #[cycle(parsing)]
     fn procedure(&self, at: &mut usize, room: u32) -> Result<Rough, ParseFault>
         requires sound { AreSound self.now }
-        ensures read { IfOk result (λ made. Parses self.now room procedure at.old made at.new) }
-        ensures fault { IfErr result (λ fault. Halts self.now room procedure at.old fault) }
-        ensures forward { at.old ≤ at.new }
+        ensures { ReadsClause self.now room procedure at.old result at.new }
     {
         let word = self.take(at, Kind::Proc)?;
         self.literal(at, room, word.token.line)
@@ -102,9 +91,7 @@ impl<'a> Parser<'a> {
     #[cycle(parsing)]
     fn filling(&self, at: &mut usize, room: u32) -> Result<Rough, ParseFault>
         requires sound { AreSound self.now }
-        ensures read { IfOk result (λ made. Parses self.now room filling at.old made at.new) }
-        ensures fault { IfErr result (λ fault. Halts self.now room filling at.old fault) }
-        ensures forward { at.old ≤ at.new }
+        ensures { ReadsClause self.now room filling at.old result at.new }
     {
         let word = self.take(at, Kind::Vector)?;
         let l = self.clause(at, room)?;
@@ -118,9 +105,7 @@ impl<'a> Parser<'a> {
     #[cycle(parsing)]
     fn expression(&self, at: &mut usize, room: u32) -> Result<Rough, ParseFault>
         requires sound { AreSound self.now }
-        ensures read { IfOk result (λ made. Parses self.now room expression at.old made at.new) }
-        ensures fault { IfErr result (λ fault. Halts self.now room expression at.old fault) }
-        ensures forward { at.old ≤ at.new }
+        ensures { ReadsClause self.now room expression at.old result at.new }
     {
         let left = self.chain(at, room, Level::Disjunction)?;
         self.assignment(at, room, left)
@@ -130,9 +115,7 @@ impl<'a> Parser<'a> {
     #[cycle(parsing)]
     fn assignment(&self, at: &mut usize, room: u32, left: Rough) -> Result<Rough, ParseFault>
         requires sound { AreSound self.now }
-        ensures read { IfOk result (λ made. Parses self.now room (Go (Assignment (phrase_of left))) at.old made at.new) }
-        ensures fault { IfErr result (λ fault. Halts self.now room (Go (Assignment (phrase_of left))) at.old fault) }
-        ensures forward { at.old ≤ at.new }
+        ensures { ReadsClause self.now room (Go (Assignment (phrase_of left))) at.old result at.new }
     {
         match self.kind_at(*at) {
             Kind::Becomes => {

@@ -1,9 +1,8 @@
 //! Items: the declarations, and sequences of items.
 
-ghost use Rattle.std.specs.Prelude.{◌≤◌, IfOk, OnOk, IfErr};
 ghost use Rattle.ps_tree.specs.Phrase.{named, none};
 ghost use Rattle.ps_parse.specs.Grammar.{Go, Item, Items, MoreItems, Binding, Literal, let_item, structure_item, procedure_item, bound};
-ghost use Rattle.ps_parse.specs.Parsing.{AreSound, Parses, Halts, GoesOn};
+ghost use Rattle.ps_parse.specs.inside.Parsing.{AreSound, Does, ReadsClause};
 ghost use Rattle.ps_tree.specs.PhraseLists.{phrases_in};
 
 use super::Parser;
@@ -19,15 +18,13 @@ impl<'a> Parser<'a> {
     #[cycle(parsing)]
     pub(super) fn items(&self, at: &mut usize, room: u32, line: Line) -> Result<Rough, ParseFault>
         requires sound { AreSound self.now }
-        ensures read { IfOk result (λ made. Parses self.now room (Go (Items line none)) at.old made at.new) }
-        ensures fault { IfErr result (λ fault. Halts self.now room (Go (Items line none)) at.old fault) }
-        ensures forward { at.old ≤ at.new }
+        ensures { ReadsClause self.now room (Go (Items line none)) at.old result at.new }
     {
         let mut items = Vec::new(self.alloc);
         loop {
             self.optional_item(at, room, line, &mut items)?;
             let Kind::Semicolon = self.kind_at(*at) else {
-                return Ok(sequence(items, line));
+                return sequence(self.alloc, items, line);
             };
             self.take(at, Kind::Semicolon)?;
         }
@@ -43,9 +40,7 @@ impl<'a> Parser<'a> {
         items: &mut Vec<Rough>,
     ) -> Result<(), ParseFault>
         requires sound { AreSound self.now }
-        ensures added { OnOk result (GoesOn self.now room (Go (Items line (phrases_in items.old.items))) at.old (Go (MoreItems line (phrases_in items.new.items))) at.new) }
-        ensures fault { IfErr result (λ fault. Halts self.now room (Go (Items line (phrases_in items.old.items))) at.old fault) }
-        ensures forward { at.old ≤ at.new }
+        ensures { Does self.now room (Go (Items line (phrases_in items.old.items))) at.old result (λ added. Go (MoreItems line (phrases_in items.new.items))) at.new }
     {
         if begins_item(self.kind_at(*at)) {
             let item = self.item(at, room)?;
@@ -57,9 +52,7 @@ impl<'a> Parser<'a> {
     #[cycle(parsing)]
     fn item(&self, at: &mut usize, room: u32) -> Result<Rough, ParseFault>
         requires sound { AreSound self.now }
-        ensures read { IfOk result (λ made. Parses self.now room (Go Item) at.old made at.new) }
-        ensures fault { IfErr result (λ fault. Halts self.now room (Go Item) at.old fault) }
-        ensures forward { at.old ≤ at.new }
+        ensures { ReadsClause self.now room (Go Item) at.old result at.new }
     {
         match self.kind_at(*at) {
             Kind::Let => self.let_item(at, room),
@@ -72,9 +65,7 @@ impl<'a> Parser<'a> {
     #[cycle(parsing)]
     fn let_item(&self, at: &mut usize, room: u32) -> Result<Rough, ParseFault>
         requires sound { AreSound self.now }
-        ensures read { IfOk result (λ made. Parses self.now room (let_item self.now.text.now) at.old made at.new) }
-        ensures fault { IfErr result (λ fault. Halts self.now room (let_item self.now.text.now) at.old fault) }
-        ensures forward { at.old ≤ at.new }
+        ensures { ReadsClause self.now room (let_item self.now.text.now) at.old result at.new }
     {
         let word = self.take(at, Kind::Let)?;
         let name = self.take(at, Kind::Name)?;
@@ -92,9 +83,7 @@ impl<'a> Parser<'a> {
         name: Named,
     ) -> Result<Rough, ParseFault>
         requires sound { AreSound self.now }
-        ensures read { IfOk result (λ made. Parses self.now room (Go (Binding line (named name))) at.old made at.new) }
-        ensures fault { IfErr result (λ fault. Halts self.now room (Go (Binding line (named name))) at.old fault) }
-        ensures forward { at.old ≤ at.new }
+        ensures { ReadsClause self.now room (Go (Binding line (named name))) at.old result at.new }
     {
         match self.kind_at(*at) {
             Kind::Equals => self.bound(at, room, Kind::Equals, false, line, name),
@@ -114,9 +103,7 @@ impl<'a> Parser<'a> {
         name: Named,
     ) -> Result<Rough, ParseFault>
         requires sound { AreSound self.now }
-        ensures read { IfOk result (λ made. Parses self.now room (bound mark variable line (named name)) at.old made at.new) }
-        ensures fault { IfErr result (λ fault. Halts self.now room (bound mark variable line (named name)) at.old fault) }
-        ensures forward { at.old ≤ at.new }
+        ensures { ReadsClause self.now room (bound mark variable line (named name)) at.old result at.new }
     {
         self.take(at, mark)?;
         let e = self.clause(at, room)?;
@@ -125,9 +112,7 @@ impl<'a> Parser<'a> {
 
     fn structure_item(&self, at: &mut usize, room: u32) -> Result<Rough, ParseFault>
         requires sound { AreSound self.now }
-        ensures read { IfOk result (λ made. Parses self.now room (structure_item self.now.text.now) at.old made at.new) }
-        ensures fault { IfErr result (λ fault. Halts self.now room (structure_item self.now.text.now) at.old fault) }
-        ensures forward { at.old ≤ at.new }
+        ensures { ReadsClause self.now room (structure_item self.now.text.now) at.old result at.new }
     {
         let word = self.take(at, Kind::Structure)?;
         let name = self.take(at, Kind::Name)?;
@@ -141,9 +126,7 @@ impl<'a> Parser<'a> {
     #[cycle(parsing)]
     fn procedure_item(&self, at: &mut usize, room: u32) -> Result<Rough, ParseFault>
         requires sound { AreSound self.now }
-        ensures read { IfOk result (λ made. Parses self.now room (procedure_item self.now.text.now) at.old made at.new) }
-        ensures fault { IfErr result (λ fault. Halts self.now room (procedure_item self.now.text.now) at.old fault) }
-        ensures forward { at.old ≤ at.new }
+        ensures { ReadsClause self.now room (procedure_item self.now.text.now) at.old result at.new }
     {
         let word = self.take(at, Kind::Procedure)?;
         let name = self.take(at, Kind::Name)?;
@@ -156,9 +139,7 @@ impl<'a> Parser<'a> {
     #[cycle(parsing)]
     pub(super) fn literal(&self, at: &mut usize, room: u32, line: Line) -> Result<Rough, ParseFault>
         requires sound { AreSound self.now }
-        ensures read { IfOk result (λ made. Parses self.now room (Go (Literal line)) at.old made at.new) }
-        ensures fault { IfErr result (λ fault. Halts self.now room (Go (Literal line)) at.old fault) }
-        ensures forward { at.old ≤ at.new }
+        ensures { ReadsClause self.now room (Go (Literal line)) at.old result at.new }
     {
         self.take(at, Kind::OpenRound)?;
         let params = self.parameters(at, room)?;

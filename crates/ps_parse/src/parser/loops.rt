@@ -1,9 +1,8 @@
 //! The loops: `while`, `repeat` and `for`.
 
-ghost use Rattle.std.specs.Prelude.{◌≤◌, IfOk, IfErr};
 ghost use Rattle.ps_tree.specs.Phrase.{phrase_of, named};
 ghost use Rattle.ps_parse.specs.Grammar.{Go, Until, Test, Between, Step, Body, loop, repeating, counting};
-ghost use Rattle.ps_parse.specs.Parsing.{AreSound, Parses, Halts};
+ghost use Rattle.ps_parse.specs.inside.Parsing.{AreSound, ReadsClause};
 ghost use Rattle.ps_tree.specs.PhraseLists.{maybe_in};
 
 use super::Parser;
@@ -18,9 +17,7 @@ impl<'a> Parser<'a> {
     #[cycle(parsing)]
     pub(super) fn repetition(&self, at: &mut usize, room: u32) -> Result<Rough, ParseFault>
         requires sound { AreSound self.now }
-        ensures read { IfOk result (λ made. Parses self.now room loop at.old made at.new) }
-        ensures fault { IfErr result (λ fault. Halts self.now room loop at.old fault) }
-        ensures forward { at.old ≤ at.new }
+        ensures { ReadsClause self.now room loop at.old result at.new }
     {
         let word = self.take(at, Kind::While)?;
         let c = self.clause(at, room)?;
@@ -32,9 +29,7 @@ impl<'a> Parser<'a> {
     #[cycle(parsing)]
     pub(super) fn repeating(&self, at: &mut usize, room: u32) -> Result<Rough, ParseFault>
         requires sound { AreSound self.now }
-        ensures read { IfOk result (λ made. Parses self.now room repeating at.old made at.new) }
-        ensures fault { IfErr result (λ fault. Halts self.now room repeating at.old fault) }
-        ensures forward { at.old ≤ at.new }
+        ensures { ReadsClause self.now room repeating at.old result at.new }
     {
         let word = self.take(at, Kind::Repeat)?;
         let a = self.clause(at, room)?;
@@ -45,9 +40,7 @@ impl<'a> Parser<'a> {
     #[cycle(parsing)]
     fn until(&self, at: &mut usize, room: u32, line: Line, a: Rough) -> Result<Rough, ParseFault>
         requires sound { AreSound self.now }
-        ensures read { IfOk result (λ made. Parses self.now room (Go (Until line (phrase_of a))) at.old made at.new) }
-        ensures fault { IfErr result (λ fault. Halts self.now room (Go (Until line (phrase_of a))) at.old fault) }
-        ensures forward { at.old ≤ at.new }
+        ensures { ReadsClause self.now room (Go (Until line (phrase_of a))) at.old result at.new }
     {
         match self.kind_at(*at) {
             Kind::Semicolon => {
@@ -61,9 +54,7 @@ impl<'a> Parser<'a> {
     #[cycle(parsing)]
     fn test(&self, at: &mut usize, room: u32, line: Line, a: Rough) -> Result<Rough, ParseFault>
         requires sound { AreSound self.now }
-        ensures read { IfOk result (λ made. Parses self.now room (Go (Test line (phrase_of a))) at.old made at.new) }
-        ensures fault { IfErr result (λ fault. Halts self.now room (Go (Test line (phrase_of a))) at.old fault) }
-        ensures forward { at.old ≤ at.new }
+        ensures { ReadsClause self.now room (Go (Test line (phrase_of a))) at.old result at.new }
     {
         self.take(at, Kind::While)?;
         let c = self.clause(at, room)?;
@@ -81,9 +72,7 @@ impl<'a> Parser<'a> {
         c: Rough,
     ) -> Result<Rough, ParseFault>
         requires sound { AreSound self.now }
-        ensures read { IfOk result (λ made. Parses self.now room (Go (Between line (phrase_of a) (phrase_of c))) at.old made at.new) }
-        ensures fault { IfErr result (λ fault. Halts self.now room (Go (Between line (phrase_of a) (phrase_of c))) at.old fault) }
-        ensures forward { at.old ≤ at.new }
+        ensures { ReadsClause self.now room (Go (Between line (phrase_of a) (phrase_of c))) at.old result at.new }
     {
         match self.kind_at(*at) {
             Kind::Do => {
@@ -98,9 +87,7 @@ impl<'a> Parser<'a> {
     #[cycle(parsing)]
     pub(super) fn counting(&self, at: &mut usize, room: u32) -> Result<Rough, ParseFault>
         requires sound { AreSound self.now }
-        ensures read { IfOk result (λ made. Parses self.now room (counting self.now.text.now) at.old made at.new) }
-        ensures fault { IfErr result (λ fault. Halts self.now room (counting self.now.text.now) at.old fault) }
-        ensures forward { at.old ≤ at.new }
+        ensures { ReadsClause self.now room (counting self.now.text.now) at.old result at.new }
     {
         let word = self.take(at, Kind::For)?;
         let name = self.take(at, Kind::Name)?;
@@ -124,9 +111,7 @@ impl<'a> Parser<'a> {
         b: Rough,
     ) -> Result<Rough, ParseFault>
         requires sound { AreSound self.now }
-        ensures read { IfOk result (λ made. Parses self.now room (Go (Step line (named name) (phrase_of a) (phrase_of b))) at.old made at.new) }
-        ensures fault { IfErr result (λ fault. Halts self.now room (Go (Step line (named name) (phrase_of a) (phrase_of b))) at.old fault) }
-        ensures forward { at.old ≤ at.new }
+        ensures { ReadsClause self.now room (Go (Step line (named name) (phrase_of a) (phrase_of b))) at.old result at.new }
     {
         match self.kind_at(*at) {
             Kind::By => {
@@ -150,9 +135,7 @@ impl<'a> Parser<'a> {
         c: Option<Rough>,
     ) -> Result<Rough, ParseFault>
         requires sound { AreSound self.now }
-        ensures read { IfOk result (λ made. Parses self.now room (Go (Body line (named name) (phrase_of a) (phrase_of b) (maybe_in c))) at.old made at.new) }
-        ensures fault { IfErr result (λ fault. Halts self.now room (Go (Body line (named name) (phrase_of a) (phrase_of b) (maybe_in c))) at.old fault) }
-        ensures forward { at.old ≤ at.new }
+        ensures { ReadsClause self.now room (Go (Body line (named name) (phrase_of a) (phrase_of b) (maybe_in c))) at.old result at.new }
     {
         self.take(at, Kind::Do)?;
         let s = self.clause(at, room)?;

@@ -1,9 +1,9 @@
 //! Operators between operands, and signs before them.
 
-ghost use Rattle.std.specs.Prelude.{◌≤◌, IfOk, IfErr, Some};
+ghost use Rattle.std.specs.Prelude.{Some};
 ghost use Rattle.ps_tree.specs.Phrase.{phrase_of};
 ghost use Rattle.ps_parse.specs.Grammar.{Go, Chain, Relative, Compared, Comparison, Factor, operand, comparison};
-ghost use Rattle.ps_parse.specs.Parsing.{AreSound, Parses, Halts};
+ghost use Rattle.ps_parse.specs.inside.Parsing.{AreSound, ReadsClause};
 
 use super::Parser;
 use ps_base::operator::Relation;
@@ -18,9 +18,7 @@ impl<'a> Parser<'a> {
     #[cycle(parsing)]
     pub(super) fn chain(&self, at: &mut usize, room: u32, level: Level) -> Result<Rough, ParseFault>
         requires sound { AreSound self.now }
-        ensures read { IfOk result (λ made. Parses self.now room (Go (Chain level)) at.old made at.new) }
-        ensures fault { IfErr result (λ fault. Halts self.now room (Go (Chain level)) at.old fault) }
-        ensures forward { at.old ≤ at.new }
+        ensures { ReadsClause self.now room (Go (Chain level)) at.old result at.new }
     {
         let mut left = self.operand(at, room, level)?;
         loop {
@@ -37,9 +35,7 @@ impl<'a> Parser<'a> {
     #[cycle(parsing)]
     fn operand(&self, at: &mut usize, room: u32, level: Level) -> Result<Rough, ParseFault>
         requires sound { AreSound self.now }
-        ensures read { IfOk result (λ made. Parses self.now room (Go (operand level)) at.old made at.new) }
-        ensures fault { IfErr result (λ fault. Halts self.now room (Go (operand level)) at.old fault) }
-        ensures forward { at.old ≤ at.new }
+        ensures { ReadsClause self.now room (Go (operand level)) at.old result at.new }
     {
         match level {
             Level::Disjunction => self.chain(at, room, Level::Conjunction),
@@ -53,9 +49,7 @@ impl<'a> Parser<'a> {
     #[cycle(parsing)]
     fn relative(&self, at: &mut usize, room: u32) -> Result<Rough, ParseFault>
         requires sound { AreSound self.now }
-        ensures read { IfOk result (λ made. Parses self.now room (Go Relative) at.old made at.new) }
-        ensures fault { IfErr result (λ fault. Halts self.now room (Go Relative) at.old fault) }
-        ensures forward { at.old ≤ at.new }
+        ensures { ReadsClause self.now room (Go Relative) at.old result at.new }
     {
         match self.kind_at(*at) {
             Kind::Tilde => {
@@ -70,9 +64,7 @@ impl<'a> Parser<'a> {
     #[cycle(parsing)]
     fn compared(&self, at: &mut usize, room: u32) -> Result<Rough, ParseFault>
         requires sound { AreSound self.now }
-        ensures read { IfOk result (λ made. Parses self.now room (Go Compared) at.old made at.new) }
-        ensures fault { IfErr result (λ fault. Halts self.now room (Go Compared) at.old fault) }
-        ensures forward { at.old ≤ at.new }
+        ensures { ReadsClause self.now room (Go Compared) at.old result at.new }
     {
         let left = self.chain(at, room, Level::Sum)?;
         self.comparison(at, room, left)
@@ -82,9 +74,7 @@ impl<'a> Parser<'a> {
     #[cycle(parsing)]
     fn comparison(&self, at: &mut usize, room: u32, left: Rough) -> Result<Rough, ParseFault>
         requires sound { AreSound self.now }
-        ensures read { IfOk result (λ made. Parses self.now room (Go (Comparison (phrase_of left))) at.old made at.new) }
-        ensures fault { IfErr result (λ fault. Halts self.now room (Go (Comparison (phrase_of left))) at.old fault) }
-        ensures forward { at.old ≤ at.new }
+        ensures { ReadsClause self.now room (Go (Comparison (phrase_of left))) at.old result at.new }
     {
         let kind = self.kind_at(*at);
         let Some(relating) = relating_of(kind) else {
@@ -106,9 +96,7 @@ impl<'a> Parser<'a> {
         op: Relation,
     ) -> Result<Rough, ParseFault>
         requires sound { AreSound self.now }
-        ensures read { IfOk result (λ made. Parses self.now room (comparison self.now.text.now (phrase_of left) sign (Some (Relating.Compares op))) at.old made at.new) }
-        ensures fault { IfErr result (λ fault. Halts self.now room (comparison self.now.text.now (phrase_of left) sign (Some (Relating.Compares op))) at.old fault) }
-        ensures forward { at.old ≤ at.new }
+        ensures { ReadsClause self.now room (comparison self.now.text.now (phrase_of left) sign (Some (Relating.Compares op))) at.old result at.new }
     {
         let mark = self.take(at, sign)?;
         let right = self.chain(at, room, Level::Sum)?;
@@ -124,9 +112,7 @@ impl<'a> Parser<'a> {
         negated: bool,
     ) -> Result<Rough, ParseFault>
         requires sound { AreSound self.now }
-        ensures read { IfOk result (λ made. Parses self.now room (comparison self.now.text.now (phrase_of left) sign (Some (Relating.IsOf negated))) at.old made at.new) }
-        ensures fault { IfErr result (λ fault. Halts self.now room (comparison self.now.text.now (phrase_of left) sign (Some (Relating.IsOf negated))) at.old fault) }
-        ensures forward { at.old ≤ at.new }
+        ensures { ReadsClause self.now room (comparison self.now.text.now (phrase_of left) sign (Some (Relating.IsOf negated))) at.old result at.new }
     {
         let mark = self.take(at, sign)?;
         let class = self.take(at, Kind::Name)?;
@@ -137,9 +123,7 @@ impl<'a> Parser<'a> {
     #[cycle(parsing)]
     fn factor(&self, at: &mut usize, room: u32) -> Result<Rough, ParseFault>
         requires sound { AreSound self.now }
-        ensures read { IfOk result (λ made. Parses self.now room (Go Factor) at.old made at.new) }
-        ensures fault { IfErr result (λ fault. Halts self.now room (Go Factor) at.old fault) }
-        ensures forward { at.old ≤ at.new }
+        ensures { ReadsClause self.now room (Go Factor) at.old result at.new }
     {
         match self.kind_at(*at) {
             Kind::Plus => {

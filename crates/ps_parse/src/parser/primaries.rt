@@ -1,10 +1,9 @@
 //! Primaries, and what they are applied to.
 
-ghost use Rattle.std.specs.Prelude.{◌≤◌, IfOk, IfErr};
 ghost use Rattle.ps_base.specs.TyView.{ty_view};
 ghost use Rattle.ps_tree.specs.Phrase.{phrase_of, none, more};
 ghost use Rattle.ps_parse.specs.Grammar.{Go, Application, Arguments, SecondArgument, MoreArguments, Primary, MoreElements, bracketed, block, bound_of, elements};
-ghost use Rattle.ps_parse.specs.Parsing.{AreSound, Parses, Halts};
+ghost use Rattle.ps_parse.specs.inside.Parsing.{AreSound, ReadsClause};
 
 use super::Parser;
 use ps_base::line::Line;
@@ -20,9 +19,7 @@ impl<'a> Parser<'a> {
     #[cycle(parsing)]
     pub(super) fn application(&self, at: &mut usize, room: u32) -> Result<Rough, ParseFault>
         requires sound { AreSound self.now }
-        ensures read { IfOk result (λ made. Parses self.now room (Go Application) at.old made at.new) }
-        ensures fault { IfErr result (λ fault. Halts self.now room (Go Application) at.old fault) }
-        ensures forward { at.old ≤ at.new }
+        ensures { ReadsClause self.now room (Go Application) at.old result at.new }
     {
         let mut made = self.primary(at, room)?;
         while let Kind::OpenRound = self.kind_at(*at) {
@@ -42,9 +39,7 @@ impl<'a> Parser<'a> {
         f: Rough,
     ) -> Result<Rough, ParseFault>
         requires sound { AreSound self.now }
-        ensures read { IfOk result (λ made. Parses self.now room (Go (Arguments line (phrase_of f))) at.old made at.new) }
-        ensures fault { IfErr result (λ fault. Halts self.now room (Go (Arguments line (phrase_of f))) at.old fault) }
-        ensures forward { at.old ≤ at.new }
+        ensures { ReadsClause self.now room (Go (Arguments line (phrase_of f))) at.old result at.new }
     {
         match self.kind_at(*at) {
             Kind::CloseRound => {
@@ -68,9 +63,7 @@ impl<'a> Parser<'a> {
         first: Rough,
     ) -> Result<Rough, ParseFault>
         requires sound { AreSound self.now }
-        ensures read { IfOk result (λ made. Parses self.now room (Go (SecondArgument line (phrase_of f) (phrase_of first))) at.old made at.new) }
-        ensures fault { IfErr result (λ fault. Halts self.now room (Go (SecondArgument line (phrase_of f) (phrase_of first))) at.old fault) }
-        ensures forward { at.old ≤ at.new }
+        ensures { ReadsClause self.now room (Go (SecondArgument line (phrase_of f) (phrase_of first))) at.old result at.new }
     {
         match self.kind_at(*at) {
             Kind::Bar => {
@@ -93,9 +86,7 @@ impl<'a> Parser<'a> {
         first: Rough,
     ) -> Result<Rough, ParseFault>
         requires sound { AreSound self.now }
-        ensures read { IfOk result (λ made. Parses self.now room (Go (MoreArguments line (phrase_of f) (more (phrase_of first) none))) at.old made at.new) }
-        ensures fault { IfErr result (λ fault. Halts self.now room (Go (MoreArguments line (phrase_of f) (more (phrase_of first) none))) at.old fault) }
-        ensures forward { at.old ≤ at.new }
+        ensures { ReadsClause self.now room (Go (MoreArguments line (phrase_of f) (more (phrase_of first) none))) at.old result at.new }
     {
         let mut arguments = Vec::new(self.alloc);
         arguments.push(first)?;
@@ -111,9 +102,7 @@ impl<'a> Parser<'a> {
     #[cycle(parsing)]
     fn primary(&self, at: &mut usize, room: u32) -> Result<Rough, ParseFault>
         requires sound { AreSound self.now }
-        ensures read { IfOk result (λ made. Parses self.now room (Go Primary) at.old made at.new) }
-        ensures fault { IfErr result (λ fault. Halts self.now room (Go Primary) at.old fault) }
-        ensures forward { at.old ≤ at.new }
+        ensures { ReadsClause self.now room (Go Primary) at.old result at.new }
     {
         let kind = self.kind_at(*at);
         let Some(start) = start_of(kind) else {
@@ -135,9 +124,7 @@ impl<'a> Parser<'a> {
     #[cycle(parsing)]
     fn bracketed(&self, at: &mut usize, room: u32) -> Result<Rough, ParseFault>
         requires sound { AreSound self.now }
-        ensures read { IfOk result (λ made. Parses self.now room bracketed at.old made at.new) }
-        ensures fault { IfErr result (λ fault. Halts self.now room bracketed at.old fault) }
-        ensures forward { at.old ≤ at.new }
+        ensures { ReadsClause self.now room bracketed at.old result at.new }
     {
         self.take(at, Kind::OpenRound)?;
         let e = self.clause(at, room)?;
@@ -148,9 +135,7 @@ impl<'a> Parser<'a> {
     #[cycle(parsing)]
     fn block(&self, at: &mut usize, room: u32, first: Kind, last: Kind) -> Result<Rough, ParseFault>
         requires sound { AreSound self.now }
-        ensures read { IfOk result (λ made. Parses self.now room (block first last) at.old made at.new) }
-        ensures fault { IfErr result (λ fault. Halts self.now room (block first last) at.old fault) }
-        ensures forward { at.old ≤ at.new }
+        ensures { ReadsClause self.now room (block first last) at.old result at.new }
     {
         let mark = self.take(at, first)?;
         let all = self.items(at, room, mark.token.line)?;
@@ -167,9 +152,7 @@ impl<'a> Parser<'a> {
         upper: bool,
     ) -> Result<Rough, ParseFault>
         requires sound { AreSound self.now }
-        ensures read { IfOk result (λ made. Parses self.now room (bound_of first upper) at.old made at.new) }
-        ensures fault { IfErr result (λ fault. Halts self.now room (bound_of first upper) at.old fault) }
-        ensures forward { at.old ≤ at.new }
+        ensures { ReadsClause self.now room (bound_of first upper) at.old result at.new }
     {
         let word = self.take(at, first)?;
         self.take(at, Kind::OpenRound)?;
@@ -181,9 +164,7 @@ impl<'a> Parser<'a> {
     #[cycle(parsing)]
     fn elements(&self, at: &mut usize, room: u32) -> Result<Rough, ParseFault>
         requires sound { AreSound self.now }
-        ensures read { IfOk result (λ made. Parses self.now room elements at.old made at.new) }
-        ensures fault { IfErr result (λ fault. Halts self.now room elements at.old fault) }
-        ensures forward { at.old ≤ at.new }
+        ensures { ReadsClause self.now room elements at.old result at.new }
     {
         let mark = self.take(at, Kind::At)?;
         let l = self.clause(at, room)?;
@@ -205,9 +186,7 @@ impl<'a> Parser<'a> {
         first: Rough,
     ) -> Result<Rough, ParseFault>
         requires sound { AreSound self.now }
-        ensures read { IfOk result (λ made. Parses self.now room (Go (MoreElements line (phrase_of l) (ty_view ty) (more (phrase_of first) none))) at.old made at.new) }
-        ensures fault { IfErr result (λ fault. Halts self.now room (Go (MoreElements line (phrase_of l) (ty_view ty) (more (phrase_of first) none))) at.old fault) }
-        ensures forward { at.old ≤ at.new }
+        ensures { ReadsClause self.now room (Go (MoreElements line (phrase_of l) (ty_view ty) (more (phrase_of first) none))) at.old result at.new }
     {
         let mut items = Vec::new(self.alloc);
         items.push(first)?;

@@ -1,9 +1,9 @@
 //! Types.
 
-ghost use Rattle.std.specs.Prelude.{◌≤◌, IfOk, IfErr, true};
+ghost use Rattle.std.specs.Prelude.{true};
 ghost use Rattle.ps_base.specs.TyView.{ty_view, ty_views};
 ghost use Rattle.ps_parse.specs.Grammar.{Go, Type_, skip, Give, a_type, all_types, Result, ParameterTypes, parameter_types, procedure_type, typed_as};
-ghost use Rattle.ps_parse.specs.Parsing.{AreSound, ReadsMade, Halts};
+ghost use Rattle.ps_parse.specs.inside.Parsing.{AreSound, Does, ReadsType};
 
 use super::Parser;
 use ps_base::ty::Ty;
@@ -16,9 +16,7 @@ impl<'a> Parser<'a> {
     #[cycle(types)]
     pub(super) fn ty(&self, at: &mut usize, room: u32) -> Result<Ty, ParseFault>
         requires sound { AreSound self.now }
-        ensures read { IfOk result (λ made. ReadsMade self.now room Type_ at.old (a_type (ty_view made)) at.new) }
-        ensures fault { IfErr result (λ fault. Halts self.now room Type_ at.old fault) }
-        ensures forward { at.old ≤ at.new }
+        ensures { ReadsType self.now room Type_ at.old result at.new }
     {
         let Some(start) = type_start_of(self.kind_at(*at)) else {
             return Err(self.unexpected(*at));
@@ -32,9 +30,7 @@ impl<'a> Parser<'a> {
     #[cycle(types)]
     fn typed_as(&self, at: &mut usize, room: u32, start: TypeStart) -> Result<Ty, ParseFault>
         requires sound { AreSound self.now }
-        ensures read { IfOk result (λ made. ReadsMade self.now room (typed_as start) at.old (a_type (ty_view made)) at.new) }
-        ensures fault { IfErr result (λ fault. Halts self.now room (typed_as start) at.old fault) }
-        ensures forward { at.old ≤ at.new }
+        ensures { ReadsType self.now room (typed_as start) at.old result at.new }
     {
         match start {
             TypeStart::Int => self.plain_type(at, room, Kind::IntType, Ty::Int),
@@ -48,9 +44,7 @@ impl<'a> Parser<'a> {
 
     fn plain_type(&self, at: &mut usize, room: u32, word: Kind, ty: Ty) -> Result<Ty, ParseFault>
         requires sound { AreSound self.now }
-        ensures read { IfOk result (λ made. ReadsMade self.now room (skip word (Give (a_type (ty_view ty)))) at.old (a_type (ty_view made)) at.new) }
-        ensures fault { IfErr result (λ fault. Halts self.now room (skip word (Give (a_type (ty_view ty)))) at.old fault) }
-        ensures forward { at.old ≤ at.new }
+        ensures { ReadsType self.now room (skip word (Give (a_type (ty_view ty)))) at.old result at.new }
     {
         self.take(at, word)?;
         Ok(ty)
@@ -59,9 +53,7 @@ impl<'a> Parser<'a> {
     #[cycle(types)]
     fn vector_type(&self, at: &mut usize, room: u32) -> Result<Ty, ParseFault>
         requires sound { AreSound self.now }
-        ensures read { IfOk result (λ made. ReadsMade self.now room (typed_as TypeStart.Vector) at.old (a_type (ty_view made)) at.new) }
-        ensures fault { IfErr result (λ fault. Halts self.now room (typed_as TypeStart.Vector) at.old fault) }
-        ensures forward { at.old ≤ at.new }
+        ensures { ReadsType self.now room (typed_as TypeStart.Vector) at.old result at.new }
     {
         self.take(at, Kind::Times)?;
         let element = self.ty(at, room)?;
@@ -71,9 +63,7 @@ impl<'a> Parser<'a> {
     #[cycle(types)]
     fn procedure_type(&self, at: &mut usize, room: u32) -> Result<Ty, ParseFault>
         requires sound { AreSound self.now }
-        ensures read { IfOk result (λ made. ReadsMade self.now room procedure_type at.old (a_type (ty_view made)) at.new) }
-        ensures fault { IfErr result (λ fault. Halts self.now room procedure_type at.old fault) }
-        ensures forward { at.old ≤ at.new }
+        ensures { ReadsType self.now room procedure_type at.old result at.new }
     {
         self.take(at, Kind::Proc)?;
         self.take(at, Kind::OpenRound)?;
@@ -87,9 +77,7 @@ impl<'a> Parser<'a> {
     #[cycle(types)]
     fn parameter_types(&self, at: &mut usize, room: u32) -> Result<Vec<Ty>, ParseFault>
         requires sound { AreSound self.now }
-        ensures read { IfOk result (λ made. ReadsMade self.now room (Go ParameterTypes) at.old (all_types (ty_views made.items)) at.new) }
-        ensures fault { IfErr result (λ fault. Halts self.now room (Go ParameterTypes) at.old fault) }
-        ensures forward { at.old ≤ at.new }
+        ensures { Does self.now room (Go ParameterTypes) at.old result (λ made. Give (all_types (ty_views made.items))) at.new }
     {
         if begins_type(self.kind_at(*at)) {
             return self.types(at, room);
@@ -100,9 +88,7 @@ impl<'a> Parser<'a> {
     #[cycle(types)]
     fn types(&self, at: &mut usize, room: u32) -> Result<Vec<Ty>, ParseFault>
         requires sound { AreSound self.now }
-        ensures read { IfOk result (λ made. ReadsMade self.now room (parameter_types true) at.old (all_types (ty_views made.items)) at.new) }
-        ensures fault { IfErr result (λ fault. Halts self.now room (parameter_types true) at.old fault) }
-        ensures forward { at.old ≤ at.new }
+        ensures { Does self.now room (parameter_types true) at.old result (λ made. Give (all_types (ty_views made.items))) at.new }
     {
         let mut types = Vec::new(self.alloc);
         let first = self.ty(at, room)?;
@@ -119,9 +105,7 @@ impl<'a> Parser<'a> {
     #[cycle(types)]
     pub(super) fn result_type(&self, at: &mut usize, room: u32) -> Result<Ty, ParseFault>
         requires sound { AreSound self.now }
-        ensures read { IfOk result (λ made. ReadsMade self.now room (Go Result) at.old (a_type (ty_view made)) at.new) }
-        ensures fault { IfErr result (λ fault. Halts self.now room (Go Result) at.old fault) }
-        ensures forward { at.old ≤ at.new }
+        ensures { ReadsType self.now room (Go Result) at.old result at.new }
     {
         match self.kind_at(*at) {
             Kind::Arrow => {

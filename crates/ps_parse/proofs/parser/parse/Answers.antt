@@ -2,13 +2,19 @@ use Rattle.std.proofs.Common.{arith, List, None, length, subst, sym, ◌∙◌}
 use Rattle.std.specs.List.{All}
 use Rattle.ps_symbols.specs.declared.symbol.Symbol.{Symbol}
 use Rattle.ps_symbols.specs.inside.Soundness.{IsSound}
-use Rattle.ps_parse.specs.Stopping.{Stops}
-use Rattle.std.specs.Prelude.{Result, Ok, Err, IfErr, ◌≢◌}
+use Rattle.ps_parse.specs.inside.Stopping.{HaltsWith, Continues}
+use Rattle.std.specs.Prelude.{ℕ, Result, Ok, Err, IfOk, IfErr, MatchResult, ◌≢◌}
 use Rattle.ps_tree.specs.declared.fault.ParseFault.{ParseFault}
 use Rattle.ps_tree.specs.declared.fault.ParseFault.TheVariants.{Memory}
 use Rattle.ps_tree.specs.declared.rough.Rough.{Rough}
-use Rattle.ps_parse.specs.Program.{IsParseFault}
-use Rattle.ps_parse.specs.Grammar.{Go, Program}
+use Rattle.ps_scan.specs.declared.token.Token.{Token}
+use Rattle.ps_symbols.specs.Symbols.{symbols as read_as}
+use Rattle.ps_tree.specs.Phrase.{phrase_of}
+use Rattle.ps_parse.specs.Program.{IsParseFault, ReadsAs}
+use Rattle.ps_parse.specs.Reading.{Reads}
+use Rattle.ps_parse.specs.Grammar.{Go, Give, Program, a_clause}
+use Rattle.ps_parse.proofs.Ends.{ends_there, symbols_stand}
+use Rattle.ps_parse.proofs.Steps.{reads_as_this}
 use Rattle.ps_parse.proofs.Faults.{fault_of_stop}
 use Rattle.ps_symbols.proofs.SymbolLemmas.{tokens_fit, all_sound}
 use Rattle.ps_parse.proofs.parser.parse.Goals as goal
@@ -27,9 +33,14 @@ program-requires c = record {
   };
 }
 
-pub returns-clause-fault : goal.returns-clause-fault
-returns-clause-fault c = each c.program.result c.program.ensures.fault
-  where
-    each : (r : Result Rough ParseFault) → IfErr r (λ fault. Stops c.args.text.now (length c.args.tokens.now) c.deref.result.now 100 (Go Program) 0 fault) → IfErr r (λ fault. fault ≢ Memory → IsParseFault c.args.text.now c.args.tokens.now fault)
-    each (Ok made) stops = tt
-    each (Err fault) stops = fault_of_stop c.args.text.now c.args.tokens.now fault (subst (λ (all : List Symbol). Stops c.args.text.now (length c.args.tokens.now) all 100 (Go Program) 0 fault) (c.deref.ensures.value ∙ c.in_ok-symbols.ensures) stops)
+-- what the method for a program did, for the symbols of these tokens, is what is said of the text
+read_tokens : (text : List ℕ) (tokens : List Token) (to : ℕ) (result : Result Rough ParseFault) → MatchResult result (λ made. Continues text (length tokens) (read_as tokens) 100 (Go Program) 0 (Give (a_clause (phrase_of made))) to) (λ fault. HaltsWith text (length tokens) (read_as tokens) 100 (Go Program) 0 fault) → IfOk result (λ made. ReadsAs text tokens (phrase_of made)) × IfErr result (λ fault. fault ≢ Memory → IsParseFault text tokens fault)
+read_tokens text tokens to (Ok made) goes =
+    let reads = reads_as_this goes in
+    (record { program = subst (λ (p : ℕ). Reads text (read_as tokens) 100 (Go Program) 0 (a_clause (phrase_of made)) p) (ends_there (symbols_stand None 0 tokens) reads) reads }, tt)
+read_tokens text tokens to (Err fault) halts = (tt, fault_of_stop text tokens fault halts)
+
+pub returns : goal.returns
+returns c =
+    let both = read_tokens c.args.text.now c.args.tokens.now c.program.new.at c.program.result (subst (λ (all : List Symbol). MatchResult c.program.result (λ made. Continues c.args.text.now (length c.args.tokens.now) all 100 (Go Program) 0 (Give (a_clause (phrase_of made))) c.program.new.at) (λ fault. HaltsWith c.args.text.now (length c.args.tokens.now) all 100 (Go Program) 0 fault)) (c.deref.ensures.value ∙ c.in_ok-symbols.ensures) c.program.ensures) in
+    record { tree = both.0; fault = both.1 }

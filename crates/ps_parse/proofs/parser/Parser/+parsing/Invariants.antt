@@ -8,7 +8,7 @@ use Rattle.ps_parse.specs.declared.parser.Parser.{Parser}
 use Rattle.ps_tree.specs.Phrase.{Phrase, Arms, none, no_arms, more, phrase_of}
 use Rattle.ps_tree.specs.PhraseLists.{phrases_in, arms_in, items_in}
 use Rattle.ps_parse.specs.Grammar.{Rule, Go, Application, Applied, Items, Cases, Chain, Labels, MoreArguments, MoreChain, MoreElements, MoreWritten, writing, line_at}
-use Rattle.ps_parse.specs.Parsing.{GoesOn, an_arm}
+use Rattle.ps_parse.specs.inside.Parsing.{GoesOn, an_arm}
 use Rattle.ps_parse.proofs.parser.Parser.+parsing.Given as goal
 
 -- A call of the cycle reads a smaller part of the grammar, or opens a clause, and then has less room.
@@ -168,54 +168,43 @@ decreases-writing l = work l.room 3
 abbrev pub decreases-written : goal.decreases-written
 decreases-written l = work l.room 2
 
--- what a loop has read goes on, and its place has moved on
-pub record Goes (parser : Parser) (room : ℕ) (rule : Rule) (from : ℕ) (rest : Rule) (at : ℕ) : Type 0 where
-  pub on : GoesOn parser room rule from rest at
-  pub forward : from ≤ at
-
--- the same, and the loop keeps a type
+-- what a loop has read goes on, and the loop keeps a type
 pub record GoesKeeping (parser : Parser) (room : ℕ) (rule : Rule) (from : ℕ) (rest : Rule) (at : ℕ) (first now : Ty) : Type 0 where
   pub on : GoesOn parser room rule from rest at
-  pub forward : from ≤ at
   pub kept : now ≡ first
 
--- the same, whatever stands before an arm
-pub record GoesInArm (parser : Parser) (room from : ℕ) (rest : Line → Phrase → Arms → Rule) (at : ℕ) : Type 0 where
-  pub on : (line : Line) (e : Phrase) (before : Arms) → GoesOn parser room (an_arm line e before) from (rest line e before) at
-  pub forward : from ≤ at
-
 abbrev pub invariant-application-loop-at : goal.invariant-application-loop-at
-invariant-application-loop-at l = Goes l.self l.room (Go Application) l.fn.at (Go (Applied (phrase_of l.made))) l.at
+invariant-application-loop-at l = GoesOn l.self l.room (Go Application) l.fn.at (Go (Applied (phrase_of l.made))) l.at
 
 abbrev pub decreases-application-loop-at : goal.decreases-application-loop-at
 decreases-application-loop-at l = length l.self.symbols.now - l.at
 
 abbrev pub invariant-cases-loop-at : goal.invariant-cases-loop-at
-invariant-cases-loop-at l = Goes l.self l.room (Go (Cases l.line (phrase_of l.e) no_arms)) l.fn.at (Go (Cases l.line (phrase_of l.e) (arms_in l.arms.items))) l.at
+invariant-cases-loop-at l = GoesOn l.self l.room (Go (Cases l.line (phrase_of l.e) no_arms)) l.fn.at (Go (Cases l.line (phrase_of l.e) (arms_in l.arms.items))) l.at
 
 abbrev pub decreases-cases-loop-at : goal.decreases-cases-loop-at
 decreases-cases-loop-at l = length l.self.symbols.now - l.at
 
 abbrev pub invariant-chain-loop-operation : goal.invariant-chain-loop-operation
-invariant-chain-loop-operation l = Goes l.self l.room (Go (Chain l.level)) l.fn.at (Go (MoreChain l.level (phrase_of l.left))) l.at
+invariant-chain-loop-operation l = GoesOn l.self l.room (Go (Chain l.level)) l.fn.at (Go (MoreChain l.level (phrase_of l.left))) l.at
 
 abbrev pub decreases-chain-loop-operation : goal.decreases-chain-loop-operation
 decreases-chain-loop-operation l = length l.self.symbols.now - l.at
 
 abbrev pub invariant-items-loop-items : goal.invariant-items-loop-items
-invariant-items-loop-items l = Goes l.self l.room (Go (Items l.line none)) l.fn.at (Go (Items l.line (phrases_in l.items.items))) l.at
+invariant-items-loop-items l = GoesOn l.self l.room (Go (Items l.line none)) l.fn.at (Go (Items l.line (phrases_in l.items.items))) l.at
 
 abbrev pub decreases-items-loop-items : goal.decreases-items-loop-items
 decreases-items-loop-items l = length l.self.symbols.now - l.at
 
 abbrev pub invariant-labels-loop-at : goal.invariant-labels-loop-at
-invariant-labels-loop-at l = GoesInArm l.self l.room l.fn.at (λ line e before. Go (Labels line e before (phrases_in l.labels.items))) l.at
+invariant-labels-loop-at l = (line : Line) (e : Phrase) (before : Arms) → GoesOn l.self l.room (an_arm line e before) l.fn.at (Go (Labels line e before (phrases_in l.labels.items))) l.at
 
 abbrev pub decreases-labels-loop-at : goal.decreases-labels-loop-at
 decreases-labels-loop-at l = length l.self.symbols.now - l.at
 
 abbrev pub invariant-more_arguments-loop-at : goal.invariant-more_arguments-loop-at
-invariant-more_arguments-loop-at l = Goes l.self l.room (Go (MoreArguments l.line (phrase_of l.f) (more (phrase_of l.fn.first) none))) l.fn.at (Go (MoreArguments l.line (phrase_of l.f) (phrases_in l.arguments.items))) l.at
+invariant-more_arguments-loop-at l = GoesOn l.self l.room (Go (MoreArguments l.line (phrase_of l.f) (more (phrase_of l.fn.first) none))) l.fn.at (Go (MoreArguments l.line (phrase_of l.f) (phrases_in l.arguments.items))) l.at
 
 abbrev pub decreases-more_arguments-loop-at : goal.decreases-more_arguments-loop-at
 decreases-more_arguments-loop-at l = length l.self.symbols.now - l.at
@@ -227,7 +216,7 @@ abbrev pub decreases-more_elements-loop-at : goal.decreases-more_elements-loop-a
 decreases-more_elements-loop-at l = length l.self.symbols.now - l.at
 
 abbrev pub invariant-writing-loop-at : goal.invariant-writing-loop-at
-invariant-writing-loop-at l = Goes l.self l.room writing l.fn.at (Go (MoreWritten (line_at l.word) (items_in l.items.items))) l.at
+invariant-writing-loop-at l = GoesOn l.self l.room writing l.fn.at (Go (MoreWritten (line_at l.word) (items_in l.items.items))) l.at
 
 abbrev pub decreases-writing-loop-at : goal.decreases-writing-loop-at
 decreases-writing-loop-at l = length l.self.symbols.now - l.at

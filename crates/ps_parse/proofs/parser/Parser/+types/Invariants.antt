@@ -2,7 +2,7 @@ use Rattle.std.proofs.Common.{ℕ, true, ◌≤◌, ◌+◌, ◌-◌, ◌*◌, l
 use Rattle.ps_base.specs.TyView.{ty_views}
 use Rattle.ps_parse.specs.declared.parser.Parser.{Parser}
 use Rattle.ps_parse.specs.Grammar.{Rule, Go, parameter_types, MoreTypes}
-use Rattle.ps_parse.specs.Parsing.{GoesOn}
+use Rattle.ps_parse.specs.inside.Parsing.{GoesOn}
 use Rattle.ps_parse.proofs.parser.Parser.+types.Given as goal
 
 -- A call of the cycle reads a smaller part of the grammar, or opens a type, and then has less room.
@@ -30,13 +30,8 @@ decreases-procedure_type l = work l.room 3
 abbrev pub decreases-typed_as : goal.decreases-typed_as
 decreases-typed_as l = work l.room 4
 
--- what a loop has read goes on, and its place has moved on
-pub record Goes (parser : Parser) (room : ℕ) (rule : Rule) (from : ℕ) (rest : Rule) (at : ℕ) : Type 0 where
-  pub on : GoesOn parser room rule from rest at
-  pub forward : from ≤ at
-
 abbrev pub invariant-types-loop-at : goal.invariant-types-loop-at
-invariant-types-loop-at l = Goes l.self l.room (parameter_types true) l.fn.at (Go (MoreTypes (ty_views l.types.items))) l.at
+invariant-types-loop-at l = GoesOn l.self l.room (parameter_types true) l.fn.at (Go (MoreTypes (ty_views l.types.items))) l.at
 
 abbrev pub decreases-types-loop-at : goal.decreases-types-loop-at
 decreases-types-loop-at l = length l.self.symbols.now - l.at

@@ -1,7 +1,8 @@
-use Rattle.std.proofs.Common.{refl}
-use Rattle.ps_parse.proofs.Steps.{gives_at, takes_at}
-use Rattle.ps_parse.proofs.Rows.{}
+use Rattle.ps_parse.proofs.Steps.{took, missing, failed, built}
 use Rattle.ps_parse.proofs.parser.Parser.nil_leaf.Goals as goal
 
-pub returns-clause-read : goal.returns-clause-read
-returns-clause-read c = takes_at c.in_ok-word.ensures.taken c.in_ok-word.ensures.kind c.in_ok-word.ensures.place (gives_at refl refl)
+pub returns-in_err-word : goal.returns-in_err-word
+returns-in_err-word c = failed _ _ c.from_residual.ensures.1 (missing c.in_err-word.ensures)
+
+pub returns : goal.returns
+returns c = built _ c.form_at.ensures.made c.form_at.ensures.fault (took c.in_ok-word.ensures)

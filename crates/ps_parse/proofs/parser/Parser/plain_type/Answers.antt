@@ -1,7 +1,8 @@
-use Rattle.std.proofs.Common.{refl}
-use Rattle.ps_parse.proofs.Steps.{gives_at, takes_at}
-use Rattle.ps_parse.proofs.Rows.{}
+use Rattle.ps_parse.proofs.Steps.{took, missing, failed}
 use Rattle.ps_parse.proofs.parser.Parser.plain_type.Goals as goal
 
-pub returns-clause-read : goal.returns-clause-read
-returns-clause-read c = takes_at c.in_ok-take.ensures.taken c.in_ok-take.ensures.kind c.in_ok-take.ensures.place (gives_at refl refl)
+pub returns-in_err-take : goal.returns-in_err-take
+returns-in_err-take c = failed _ _ c.from_residual.ensures.1 (missing c.in_err-take.ensures)
+
+pub returns : goal.returns
+returns c = took c.in_ok-take.ensures

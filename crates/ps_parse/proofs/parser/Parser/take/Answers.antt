@@ -1,4 +1,4 @@
-use Rattle.std.proofs.Common.{ℕ, List, Some, slice_get, sym, subst, ◌≡◌, ◌∙◌}
+use Rattle.std.proofs.Common.{ℕ, List, Some, slice_get, refl, sym, subst, ◌≡◌, ◌∙◌}
 use denote.Enum.Bare.{differs_false}
 use Rattle.std.specs.List.{All}
 use Rattle.ps_symbols.specs.contracts.kind.Kind.{the_type}
@@ -13,11 +13,7 @@ at_place : (P : Symbol → Type 0) (symbols : List Symbol) (place : ℕ) (symbol
 at_place P symbols place symbol all here =
     subst P (get_or_from_slice_get symbols place symbol symbol here) (All-get_or P symbols place symbol (slice_get_within symbols place symbol here) all)
 
-pub returns-clause-kind : goal.returns-clause-kind
-returns-clause-kind c = differs_false the_type tt c.in-Some.symbol.kind c.args.kind (sym c.ne.ensures ∙ c.if-ne.false)
-
-pub returns-clause-sound : goal.returns-clause-sound
-returns-clause-sound c = at_place (IsSound c.args.self.now.text.now) _ _ c.in-Some.symbol c.requires.sound.symbols (sym c.symbol_at.ensures ∙ c.in-Some.is)
-
-pub returns-clause-within : goal.returns-clause-within
-returns-clause-within c = slice_get_within c.args.self.now.symbols.now c.args.at.now c.in-Some.symbol (sym c.symbol_at.ensures ∙ c.in-Some.is)
+pub returns : goal.returns
+returns c =
+    let here = sym c.symbol_at.ensures ∙ c.in-Some.is in
+    record { here = here; is = differs_false the_type tt c.in-Some.symbol.kind c.args.kind (sym c.ne.ensures ∙ c.if-ne.false); sound = at_place (IsSound c.args.self.now.text.now) _ _ c.in-Some.symbol c.requires.sound.symbols here; at = refl }

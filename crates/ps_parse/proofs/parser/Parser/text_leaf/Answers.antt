@@ -1,10 +1,15 @@
-use Rattle.std.proofs.Common.{ℕ, List, refl, ap, ◌∙◌}
-use Rattle.ps_tree.specs.Phrase.{at}
+use Rattle.std.proofs.Common.{ℕ, List, ap, sym, refl, ◌∙◌}
 use Rattle.ps_tree.specs.Phrase as form
-use Rattle.ps_parse.specs.Grammar.{a_clause}
-use Rattle.ps_parse.proofs.Steps.{gives_at, takes_at}
-use Rattle.ps_parse.proofs.Rows.{}
+use Rattle.ps_parse.specs.Grammar.{give}
+use Rattle.ps_parse.specs.inside.Stopping.{HaltsWith}
+use Rattle.ps_parse.proofs.Steps.{on, took, missing, same, failed, built}
 use Rattle.ps_parse.proofs.parser.Parser.text_leaf.Goals as goal
 
-pub returns-clause-read : goal.returns-clause-read
-returns-clause-read c = takes_at c.in_ok-string.ensures.taken c.in_ok-string.ensures.kind c.in_ok-string.ensures.place (gives_at (ap (λ (b : List ℕ). a_clause (at (form.Text b) c.in_ok-string.string.token.line)) (c.new.ensures ∙ c.in_ok-bytes.ensures)) refl)
+pub returns-in_err-string : goal.returns-in_err-string
+returns-in_err-string c = failed _ _ c.from_residual.ensures.1 (missing c.in_err-string.ensures)
+
+pub returns-in_err-bytes : goal.returns-in_err-bytes
+returns-in_err-bytes c = failed _ _ c.from_residual-in_err-bytes.ensures.1 (HaltsWith.out_of_memory refl)
+
+pub returns : goal.returns
+returns c = built _ c.form_at.ensures.made c.form_at.ensures.fault (on (took c.in_ok-string.ensures) (same (ap (λ (b : List ℕ). give (form.Text b) c.in_ok-string.string.token.line) (sym (c.new.ensures ∙ c.in_ok-bytes.ensures)))))
