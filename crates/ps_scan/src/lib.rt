@@ -19,6 +19,3 @@ pub use scanner::{
     tokens_exclude_fault,
 };
 pub use token::{Token, TokenKind, int_of, name_of, spell};
-
-#[cfg(test)]
-mod tests;

@@ -1,6 +1,6 @@
 -- The depth that is left.
 use Rattle.std.proofs.Common.{◌+◌, ◌*◌}
-use Rattle.ps_tests.proofs.show.+show_types.Given as goal
+use Rattle.language_tests.proofs.show.+show_types.Given as goal
 
 abbrev pub decreases-show_type : goal.decreases-show_type
 decreases-show_type l = 2 * l.depth

@@ -1,5 +1,11 @@
-use crate::{LONGEST_TEXT, ScanFault, Token, TokenKind, int_of, mark, name_of, scan, spell, word};
+//! Texts, and the tokens of each or its first fault.
+
+use crate::reading::tokens_of;
+use ps_base::LONGEST_TEXT;
 use ps_base::line::Line;
+use ps_scan::mark::{self, mark_place, marks};
+use ps_scan::word::{self, word_place, words};
+use ps_scan::{ScanFault, Token, TokenKind, int_of, name_of, scan, spell};
 use std::test::Fail;
 
 fn token(what: TokenKind, line: u32, from: u32, to: u32) -> Token {
@@ -13,7 +19,8 @@ fn token(what: TokenKind, line: u32, from: u32, to: u32) -> Token {
 
 #[test]
 fn texts_have_their_tokens(rt: HostRuntime) -> Result<(), Fail> {
-    let rows: [(&[u8], &[Token]); 5] = [
+    let one = token(TokenKind::Int, 1, 0, 1);
+    let rows: [(&[u8], &[Token]); 10] = [
         (b"", &[]),
         (
             b"1a",
@@ -62,19 +69,6 @@ fn texts_have_their_tokens(rt: HostRuntime) -> Result<(), Fail> {
                 token(TokenKind::Mark(mark::PLUS), 1, 12, 13),
             ],
         ),
-    ];
-    for (text, tokens) in rows {
-        assert!(rt; text.len() <= LONGEST_TEXT);
-        let found = scan(rt.alloc(), text).map_err(|_| "fault")?;
-        assert_eq!(rt; found.as_slice(), tokens);
-    }
-    Ok(())
-}
-
-#[test]
-fn comments_end_before_a_newline(rt: HostRuntime) -> Result<(), Fail> {
-    let one = token(TokenKind::Int, 1, 0, 1);
-    let rows: [(&[u8], &[Token]); 5] = [
         (
             b"! \xc8\nwrite 1",
             &[
@@ -92,48 +86,49 @@ fn comments_end_before_a_newline(rt: HostRuntime) -> Result<(), Fail> {
     ];
     for (text, tokens) in rows {
         assert!(rt; text.len() <= LONGEST_TEXT);
-        let found = scan(rt.alloc(), text).map_err(|_| "fault")?;
+        let found = tokens_of(rt.alloc(), text)?;
         assert_eq!(rt; found.as_slice(), tokens);
     }
     Ok(())
 }
 
+const MARKS_OF_TEXTS: [(&[u8], &[u8]); 13] = [
+    (
+        b"(){}",
+        &[
+            mark::OPEN_ROUND,
+            mark::CLOSE_ROUND,
+            mark::OPEN_CURLY,
+            mark::CLOSE_CURLY,
+        ],
+    ),
+    (b"[]", &[mark::OPEN_SQUARE, mark::CLOSE_SQUARE]),
+    (b",;", &[mark::COMMA, mark::SEMICOLON]),
+    (b":", &[mark::COLON]),
+    (b"::", &[mark::DOUBLE_COLON]),
+    (b":=", &[mark::BECOMES]),
+    (b":::=", &[mark::DOUBLE_COLON, mark::BECOMES]),
+    (b"+++", &[mark::CONCATENATE, mark::PLUS]),
+    (b"->-", &[mark::ARROW, mark::MINUS]),
+    (b"-->", &[mark::MINUS, mark::ARROW]),
+    (b"@|*?", &[mark::AT, mark::BAR, mark::TIMES, mark::QUESTION]),
+    (b"=~~=", &[mark::EQUALS, mark::TILDE, mark::NOT_EQUALS]),
+    (
+        b"<<=>>=",
+        &[
+            mark::LESS,
+            mark::LESS_OR_EQUAL,
+            mark::GREATER,
+            mark::GREATER_OR_EQUAL,
+        ],
+    ),
+];
+
 #[test]
 fn longest_mark_is_taken(rt: HostRuntime) -> Result<(), Fail> {
-    let rows: [(&[u8], &[u8]); 13] = [
-        (
-            b"(){}",
-            &[
-                mark::OPEN_ROUND,
-                mark::CLOSE_ROUND,
-                mark::OPEN_CURLY,
-                mark::CLOSE_CURLY,
-            ],
-        ),
-        (b"[]", &[mark::OPEN_SQUARE, mark::CLOSE_SQUARE]),
-        (b",;", &[mark::COMMA, mark::SEMICOLON]),
-        (b":", &[mark::COLON]),
-        (b"::", &[mark::DOUBLE_COLON]),
-        (b":=", &[mark::BECOMES]),
-        (b":::=", &[mark::DOUBLE_COLON, mark::BECOMES]),
-        (b"+++", &[mark::CONCATENATE, mark::PLUS]),
-        (b"->-", &[mark::ARROW, mark::MINUS]),
-        (b"-->", &[mark::MINUS, mark::ARROW]),
-        (b"@|*?", &[mark::AT, mark::BAR, mark::TIMES, mark::QUESTION]),
-        (b"=~~=", &[mark::EQUALS, mark::TILDE, mark::NOT_EQUALS]),
-        (
-            b"<<=>>=",
-            &[
-                mark::LESS,
-                mark::LESS_OR_EQUAL,
-                mark::GREATER,
-                mark::GREATER_OR_EQUAL,
-            ],
-        ),
-    ];
-    for (text, marks) in rows {
+    for (text, marks) in MARKS_OF_TEXTS {
         assert!(rt; text.len() <= LONGEST_TEXT);
-        let found = scan(rt.alloc(), text).map_err(|_| "fault")?;
+        let found = tokens_of(rt.alloc(), text)?;
         assert_eq!(rt; found.len(), marks.len());
         for (token, place) in found.iter().zip(marks) {
             assert_eq!(rt; token.what, TokenKind::Mark(*place));
@@ -142,56 +137,87 @@ fn longest_mark_is_taken(rt: HostRuntime) -> Result<(), Fail> {
     Ok(())
 }
 
+const WORDS_OF_TEXTS: [(&[u8], u8); 36] = [
+    (b"abort", word::ABORT),
+    (b"and", word::AND),
+    (b"begin", word::BEGIN),
+    (b"bool", word::BOOL),
+    (b"by", word::BY),
+    (b"case", word::CASE),
+    (b"default", word::DEFAULT),
+    (b"div", word::DIV),
+    (b"do", word::DO),
+    (b"else", word::ELSE),
+    (b"end", word::END),
+    (b"false", word::FALSE),
+    (b"for", word::FOR),
+    (b"if", word::IF),
+    (b"int", word::INT),
+    (b"is", word::IS),
+    (b"isnt", word::ISNT),
+    (b"let", word::LET),
+    (b"lwb", word::LWB),
+    (b"nil", word::NIL),
+    (b"of", word::OF),
+    (b"or", word::OR),
+    (b"pntr", word::PNTR),
+    (b"proc", word::PROC),
+    (b"procedure", word::PROCEDURE),
+    (b"rem", word::REM),
+    (b"repeat", word::REPEAT),
+    (b"string", word::STRING),
+    (b"structure", word::STRUCTURE),
+    (b"then", word::THEN),
+    (b"to", word::TO),
+    (b"true", word::TRUE),
+    (b"upb", word::UPB),
+    (b"vector", word::VECTOR),
+    (b"while", word::WHILE),
+    (b"write", word::WRITE),
+];
+
 #[test]
 fn words_have_their_places(rt: HostRuntime) -> Result<(), Fail> {
-    let rows: [(&[u8], u8); 36] = [
-        (b"abort", word::ABORT),
-        (b"and", word::AND),
-        (b"begin", word::BEGIN),
-        (b"bool", word::BOOL),
-        (b"by", word::BY),
-        (b"case", word::CASE),
-        (b"default", word::DEFAULT),
-        (b"div", word::DIV),
-        (b"do", word::DO),
-        (b"else", word::ELSE),
-        (b"end", word::END),
-        (b"false", word::FALSE),
-        (b"for", word::FOR),
-        (b"if", word::IF),
-        (b"int", word::INT),
-        (b"is", word::IS),
-        (b"isnt", word::ISNT),
-        (b"let", word::LET),
-        (b"lwb", word::LWB),
-        (b"nil", word::NIL),
-        (b"of", word::OF),
-        (b"or", word::OR),
-        (b"pntr", word::PNTR),
-        (b"proc", word::PROC),
-        (b"procedure", word::PROCEDURE),
-        (b"rem", word::REM),
-        (b"repeat", word::REPEAT),
-        (b"string", word::STRING),
-        (b"structure", word::STRUCTURE),
-        (b"then", word::THEN),
-        (b"to", word::TO),
-        (b"true", word::TRUE),
-        (b"upb", word::UPB),
-        (b"vector", word::VECTOR),
-        (b"while", word::WHILE),
-        (b"write", word::WRITE),
-    ];
     let mut place = 0u8;
-    for (spelling, constant) in rows {
+    for (spelling, constant) in WORDS_OF_TEXTS {
         assert!(rt; spelling.len() <= LONGEST_TEXT);
-        let tokens = scan(rt.alloc(), spelling).map_err(|_| "fault")?;
+        let tokens = tokens_of(rt.alloc(), spelling)?;
         assert_eq!(rt; constant, place);
+        assert_eq!(rt; word_place(spelling), Some(place));
         assert_eq!(rt; tokens.len(), 1);
         assert_eq!(rt; tokens[0].what, TokenKind::Word(place));
         place = place.wrapping_add(1);
     }
     Ok(())
+}
+
+// Each row of the two tables has its own place as its code, and is found by its name.
+#[test]
+fn tables_are_in_order(rt: HostRuntime) {
+    let mut place = 0u8;
+    for row in words() {
+        assert_eq!(rt; row.code, place);
+        assert_eq!(rt; word_place(row.name.as_bytes()), Some(place));
+        place = place.wrapping_add(1);
+    }
+    place = 0;
+    for row in marks() {
+        assert_eq!(rt; row.code, place);
+        assert_eq!(rt; mark_place(row.name.as_bytes()), Some(place));
+        place = place.wrapping_add(1);
+    }
+}
+
+fn line_of(fault: ScanFault) -> Line {
+    match fault {
+        ScanFault::BadByte { line, .. } => line,
+        ScanFault::OpenString { line } => line,
+        ScanFault::IntTooLarge { line } => line,
+        ScanFault::BadEscape { line, .. } => line,
+        ScanFault::NameTooLong { line, .. } => line,
+        ScanFault::StringTooLong { line, .. } => line,
+        ScanFault::Memory => Line(0),
+    }
 }
 
 #[test]
@@ -240,6 +266,7 @@ a2345678901234567890123456789012345678901234567890123456789012345",
         };
         assert_eq!(rt; found, fault);
         assert_eq!(rt; found.number(), Some(number));
+        assert_eq!(rt; found.line(), Some(line_of(fault)));
     }
     Ok(())
 }
@@ -258,7 +285,7 @@ fn longest_string_is_read(rt: HostRuntime) -> Result<(), Fail> {
         })
     );
     text.remove(1);
-    let tokens = scan(rt.alloc(), text.as_slice()).map_err(|_| "fault")?;
+    let tokens = tokens_of(rt.alloc(), text.as_slice())?;
     assert_eq!(rt;
         tokens.as_slice(),
         [token(TokenKind::Text, 1, 0, 65537)].as_slice()
@@ -269,7 +296,7 @@ fn longest_string_is_read(rt: HostRuntime) -> Result<(), Fail> {
 #[test]
 fn tokens_are_read(rt: HostRuntime) -> Result<(), Fail> {
     let text = b"a.b 007 \"x'n't'''\"y\"";
-    let tokens = scan(rt.alloc(), text).map_err(|_| "fault")?;
+    let tokens = tokens_of(rt.alloc(), text)?;
     assert_eq!(rt; tokens.len(), 3);
     assert_eq!(rt; name_of(text, tokens[0]), b"a.b".as_slice());
     assert_eq!(rt; tokens[1].what, TokenKind::Int);

@@ -1,10 +1,7 @@
 //! Programs and what each is printed as.
 
-ghost use Rattle.std.specs.Prelude.{◌≤◌, length};
-
-use ps_parse::parse;
+use crate::reading::read;
 use ps_print::print::print;
-use ps_scan::{LONGEST_TEXT, scan};
 use std::alloc::Global;
 use std::test::Fail;
 
@@ -147,21 +144,18 @@ const PRINTED: [(&[u8], &[u8]); 39] = [
     ),
 ];
 
-fn printed(alloc: Global, text: &[u8]) -> Result<Vec<u8>, Fail>
-    requires { length text.now ≤ LONGEST_TEXT }
-{
-    let tokens = scan(alloc, text).map_err(|_| "scan")?;
-    let tree = parse(alloc, text, &tokens).map_err(|_| "parse")?;
-    Ok(print(alloc, &tree)?)
+fn printed(alloc: Global, text: &[u8]) -> Result<Vec<u8>, Fail> {
+    match read(alloc, text)? {
+        Ok(tree) => Ok(print(alloc, &tree)?),
+        Err(_) => Err("a fault of the parser".into()),
+    }
 }
 
 #[test]
 fn programs_are_printed_and_read_back(rt: HostRuntime) -> Result<(), Fail> {
     for (text, wanted) in PRINTED {
-        assert!(rt; text.len() <= LONGEST_TEXT);
         let once = printed(rt.alloc(), text)?;
         assert_eq!(rt; once.as_slice(), wanted);
-        assert!(rt; once.len() <= LONGEST_TEXT);
         assert_eq!(rt; printed(rt.alloc(), &once)?.as_slice(), wanted);
     }
     Ok(())
@@ -176,9 +170,7 @@ fn long_chains_are_printed(rt: HostRuntime) -> Result<(), Fail> {
         sum.extend_from_slice(b"-7")?;
         calls.extend_from_slice(b"(7)")?;
     }
-    assert!(rt; sum.len() <= LONGEST_TEXT);
     assert_eq!(rt; printed(rt.alloc(), &sum)?.len(), 80_003);
-    assert!(rt; calls.len() <= LONGEST_TEXT);
     assert_eq!(rt; printed(rt.alloc(), &calls)?.len(), 60_003);
     Ok(())
 }
