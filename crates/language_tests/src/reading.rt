@@ -1,7 +1,7 @@
 //! A text read to its tokens, and to its tree or its first fault.
 
-ghost use Rattle.std.specs.Prelude.{◌≤◌, length, IfOk};
-ghost use Rattle.ps_scan.specs.Tokens.{HasTokens};
+ghost use Rattle.std.specs.Prelude.{◌≤◌, length, All, IfOk};
+ghost use Rattle.ps_scan.specs.Tokens.{HasTokens, IsToken};
 
 use ps_base::LONGEST_TEXT;
 use ps_parse::parse;
@@ -14,7 +14,8 @@ use std::test::Fail;
 /// The tokens of a text that has no fault of the scanner.
 pub fn tokens_of(alloc: Global, text: &[u8]) -> Result<Vec<Token>, Fail>
     requires { length text.now ≤ LONGEST_TEXT }
-    ensures { IfOk result (λ tokens. HasTokens text.now tokens.items) }
+    ensures tokens { IfOk result (λ tokens. HasTokens text.now tokens.items) }
+    ensures slices { IfOk result (λ tokens. All (IsToken text.now) tokens.items) }
 {
     match scan(alloc, text) {
         Ok(tokens) => Ok(tokens),
