@@ -1,7 +1,8 @@
 -- How the parser's calls follow the rows of the grammar.
 use Rattle.std.proofs.Common.{◌≡◌, ℕ, suc, List, [], ◌∷◌, ◌++◌, Bool, true, false, Option, Some, None, option_map, Result, Ok, Err, IfOk, IfErr, MatchResult, IsSome, slice_get, refl, sym, subst, ap, ◌∙◌}
-use Rattle.ps_base.specs.TyView.{TyView, TyViews, ty_view, ty_views}
+use Rattle.ps_base.specs.TyView.{TyView, TyViews, and_type, ty_view, ty_views}
 use Rattle.ps_base.specs.TyView as ty
+use Rattle.ps_base.proofs.TyLemmas.{ty_views-append}
 use Rattle.ps_base.specs.declared.line.Line.{Line}
 use Rattle.ps_base.specs.declared.ty.Ty.{Ty}
 use Rattle.ps_tree.specs.declared.fault.ParseFault.{ParseFault}
@@ -25,13 +26,13 @@ use Rattle.ps_symbols.specs.Kinds.{operation_of, relating_of, begins_item, begin
 use Rattle.ps_tree.specs.Phrase.{Phrase, Phrases, none, more, MaybePhrase, absent, Arms, no_arms, Arm, WriteItem, WriteItems, no_items, more_items, item, GroupAt, NameAt, at, phrase_of, item_of, arm_of, group_of, groups_in, names_in, of_type}
 use Rattle.ps_tree.specs.Phrase as form
 use Rattle.ps_tree.specs.PhraseLists.{phrases_in, arms_in, items_in}
-use Rattle.ps_tree.specs.Composing.{and_arm, and_item, and_then, and_type}
+use Rattle.ps_tree.specs.Composing.{and_arm, and_item, and_then}
 use Rattle.ps_parse.specs.Grammar.{Application, Body, Clause, Compared, Comparison, Give, Go, Groups, Items, Made, MoreArguments, MoreChain, MoreGroups, Nested, Open, ParameterTypes, Parameters, Part, Primary, Rule, SecondArgument, Test, a_clause, a_clause_inside, a_type, a_type_inside, all_groups, all_types, an_item, applied, arguments, assignment, between, binding, cases, choice, comparison, ended, ending, factor, give, inside, items, items_end, labels, line_in, more_arguments, more_chain, more_elements, more_groups, more_types, more_written, next_group, one_item, opened, parameter_types, parameters, primary, relative, result, row, second_argument, skip, step, typed_as, until, width, with_clause}
 use Rattle.ps_parse.specs.Reading.{kind_at, kind_of_next, Reads}
 use Rattle.ps_parse.specs.inside.Parsing.{an_arm, behind_labels, next_groups}
 use Rattle.ps_parse.specs.inside.Stopping.{HaltsWith, Continues}
 use Rattle.ps_parse.specs.Program.{unexpected}
-use Rattle.ps_tree.proofs.PhraseLemmas.{phrases_in-append, arms_in-append, items_in-append, ty_views-append, groups_in-append, names_in-append}
+use Rattle.ps_tree.proofs.PhraseLemmas.{phrases_in-append, arms_in-append, items_in-append, groups_in-append, names_in-append}
 use Rattle.ps_parse.proofs.Steps.{given, reads_as_this, by_row, on, same}
 
 -- where the kinds that a part asks for aren't there

@@ -1,7 +1,7 @@
 -- The grammar. What each part of a program is, by the token that stands at its beginning: an
 -- optional part is taken wherever its first token stands, and repeated operators group to the left.
 use Rattle.std.specs.Prelude.{ℕ, pos, List, [], ◌∷◌, ◌++◌, Bool, true, false, Option, Some, None, option_map}
-use Rattle.ps_base.specs.TyView.{TyView, TyViews}
+use Rattle.ps_base.specs.TyView.{TyView, TyViews, and_type}
 use Rattle.ps_base.specs.TyView as ty
 use Rattle.ps_base.specs.declared.line.Line.{Line}
 use Rattle.ps_scan.specs.Tokens.{slice_of, int_value, spelled, line_of}
@@ -22,7 +22,7 @@ use Rattle.ps_symbols.specs.declared.symbol.Symbol.{Symbol}
 use Rattle.ps_symbols.specs.Kinds.{operation_of, relating_of, begins_item, begins_type, opening_of, start_of, type_start_of}
 use Rattle.ps_tree.specs.Phrase.{NameAt, GroupAt, Phrase, at, Phrases, none, more, MaybePhrase, absent, present, Arms, no_arms, arm, WriteItem, item, WriteItems, no_items, more_items}
 use Rattle.ps_tree.specs.Phrase as form
-use Rattle.ps_tree.specs.Composing.{and_then, and_arm, and_item, and_type, joined}
+use Rattle.ps_tree.specs.Composing.{and_then, and_arm, and_item, joined}
 
 -- what a part is read as: a clause, a type, the types or the groups between round brackets, or an
 -- item of a `write`

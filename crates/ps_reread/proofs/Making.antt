@@ -1,12 +1,12 @@
 -- What canonical parts make as the grammar puts them together.
 use Rattle.std.proofs.Common.{◌≡◌, ℕ, suc, ◌≤◌, List, [], ◌∷◌, ◌++◌, Bool, true, false, nat_lt, refl, ◌∙◌, arith}
 use Rattle.std.proofs.lemmas.Bool.Decides.{nat_tests}
-use Rattle.ps_base.specs.TyView.{TyView, TyViews}
+use Rattle.ps_base.specs.TyView.{TyView, TyViews, and_type}
 use Rattle.ps_base.specs.declared.line.Line.{Line}
 use Rattle.ps_scan.specs.Tokens.{IsName}
 use Rattle.ps_tree.specs.Phrase.{NameAt, GroupAt, Phrase, at, Form, Phrases, none, more, MaybePhrase, absent, present, Arms, no_arms, more_arms, arm, WriteItem, item, WriteItems, no_items, more_items}
 use Rattle.ps_tree.specs.Phrase as form
-use Rattle.ps_tree.specs.Composing.{and_then, and_arm, and_item, and_type}
+use Rattle.ps_tree.specs.Composing.{and_then, and_arm, and_item}
 use Rattle.ps_print.specs.Layout.{Behind, other, before_do, before_comma, before_colon, is_taken, ends_open, Tightness, number_of, tightness, is_looser, disjunction, primary}
 use Rattle.ps_print.specs.inside.Waiting.{is_procedure}
 use Rattle.ps_reread.proofs.Canonical.{IsType, AreTypes, IsResult, AreGroups, IsClause, IsOperand, IsForm, AreClauses, AreArms, AreItems, IsWritten, AreItemsOf, IsItem}

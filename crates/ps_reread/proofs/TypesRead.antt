@@ -1,7 +1,7 @@
 -- A type, and groups, as they are laid out are read as they were.
 use Rattle.std.proofs.Common.{◌≡◌, ℕ, ◌+◌, List, [], ◌∷◌, ◌++◌, Bool, true, false, Option, Some, None, is_some, option_map, refl, sym, subst, ap, ◌∙◌}
 use Rattle.std.proofs.lemmas.List.{append-nil, append_assoc}
-use Rattle.ps_base.specs.TyView.{TyView, TyViews}
+use Rattle.ps_base.specs.TyView.{TyView, TyViews, and_type}
 use Rattle.ps_base.specs.TyView as ty
 use Rattle.ps_scan.specs.Tokens.{line_of}
 use Rattle.ps_scan.specs.declared.mark.TheConstants as mark
@@ -10,7 +10,6 @@ use Rattle.ps_symbols.specs.declared.kind.Kind.TheVariants as kind
 use Rattle.ps_symbols.specs.declared.symbol.Symbol.{Symbol}
 use Rattle.ps_symbols.specs.Kinds.{begins_type, type_start_of}
 use Rattle.ps_tree.specs.Phrase.{GroupAt}
-use Rattle.ps_tree.specs.Composing.{and_type}
 use Rattle.ps_parse.specs.Grammar.{Made, a_type, all_types, all_groups, Rule, Give, Go, Type_, a_type_inside, typed_as, Parameters, MoreGroups, Result, ParameterTypes, MoreTypes, inside, name_at, parameters, parameter_types, more_types, more_groups, result}
 use Rattle.ps_parse.specs.Reading.{kind_at, Reads, gives, takes, goes, opens, joins}
 use Rattle.ps_print.specs.Lexemes.{Gap, nothing, blank, Lexeme}

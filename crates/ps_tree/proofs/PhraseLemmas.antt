@@ -2,9 +2,7 @@
 use Rattle.std.proofs.Common.{◌≡◌, List, [], ◌∷◌, ◌++◌, Some, None, option_map, refl, sym, ap, ◌∙◌}
 use Rattle.std.proofs.lemmas.List.{append_assoc, append-nil}
 use Rattle.ps_base.specs.List.{items_of}
-use Rattle.ps_base.specs.TyView.{TyView, TyViews, ty_view, ty_views}
-use Rattle.ps_base.specs.TyView as ty
-use Rattle.ps_base.specs.declared.ty.Ty.{Ty}
+use Rattle.ps_base.specs.TyView.{TyView, ty_view}
 use Rattle.ps_base.specs.declared.list.List.{List as ListOf}
 use Rattle.ps_tree.specs.declared.rough.Group.{Group}
 use Rattle.ps_tree.specs.declared.rough.Named.{Named}
@@ -19,7 +17,7 @@ use Rattle.ps_tree.specs.declared.rough.RoughForm.TheVariants as code
 use Rattle.ps_tree.specs.Phrase.{Phrase, Phrases, none, more, MaybePhrase, Arms, no_arms, more_arms, WriteItems, no_items, more_items, at, form_of, phrases_of, phrase_of, maybe_of, maybe_boxed, arms_of, arm_of, items_written, item_of, GroupAt, groups_in, group_of, named, of_type, names_in}
 use Rattle.ps_tree.specs.Phrase as form
 use Rattle.ps_tree.specs.PhraseLists.{phrases_in, arms_in, items_in, maybe_in}
-use Rattle.ps_tree.specs.Composing.{and_then, and_arm, and_item, and_type}
+use Rattle.ps_tree.specs.Composing.{and_then, and_arm, and_item}
 use Rattle.std.specs.declared.alloc.Global.{Global}
 use Rattle.std.specs.declared.boxed.Box.{Box}
 use mathlib.Core.Former.{Count}
@@ -106,10 +104,6 @@ arms_in-append (first ∷ arms) last = ap (λ (all : Arms). more_arms (arm_of fi
 pub items_in-append : (items : List RoughItem) (last : RoughItem) → items_in (items ++ last ∷ []) ≡ and_item (items_in items) (item_of last)
 items_in-append [] last = refl
 items_in-append (first ∷ items) last = ap (λ (all : WriteItems). more_items (item_of first) all) (items_in-append items last)
-
-pub ty_views-append : (types : List Ty) (last : Ty) → ty_views (types ++ last ∷ []) ≡ and_type (ty_views types) (ty_view last)
-ty_views-append [] last = refl
-ty_views-append (first ∷ types) last = ap (λ (all : TyViews). ty.more (ty_view first) all) (ty_views-append types last)
 
 pub names_in-append : (t : TyView) (names : List Named) (last : Named) → names_in t (names ++ last ∷ []) ≡ names_in t names ++ of_type t last ∷ []
 names_in-append t [] last = refl

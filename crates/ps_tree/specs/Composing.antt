@@ -1,6 +1,4 @@
 -- Trees made of trees: a list with one more at its end, and two clauses with an operator between them.
-use Rattle.ps_base.specs.TyView.{TyView, TyViews}
-use Rattle.ps_base.specs.TyView as ty
 use Rattle.ps_base.specs.declared.line.Line.{Line}
 use Rattle.ps_symbols.specs.declared.kind.Operation.{Operation}
 use Rattle.ps_symbols.specs.declared.kind.Operation.TheVariants as operation
@@ -19,10 +17,6 @@ and_arm (more_arms first rest) last = more_arms first (and_arm rest last)
 abbrev pub and_item : WriteItems → WriteItem → WriteItems
 and_item no_items last = more_items last no_items
 and_item (more_items first rest) last = more_items first (and_item rest last)
-
-abbrev pub and_type : TyViews → TyView → TyViews
-and_type ty.none last = ty.more last ty.none
-and_type (ty.more first rest) last = ty.more first (and_type rest last)
 
 -- what an operator makes of its two operands
 abbrev pub joined : Operation → Phrase → Phrase → Line → Phrase
