@@ -1,6 +1,6 @@
 -- The programs, or the first faults, of worked trees.
 use Rattle.std.proofs.Common.{◌≡◌, refl, ℕ, pos, List, [], ◌∷◌, None, Some, false, true}
-use Rattle.std.specs.Prelude.{codes}
+use Rattle.std.specs.Prelude.{codes, replicate}
 use Rattle.ps_base.specs.TyView.{TyView}
 use Rattle.ps_base.specs.TyView as types
 use Rattle.ps_base.specs.declared.line.Line.{Line}
@@ -11,7 +11,7 @@ use Rattle.ps_program.specs.declared.place.Place.TheVariants.{Plain, Kept}
 use Rattle.ps_program.specs.Node.{Node, Nodes, body}
 use Rattle.ps_program.specs.Node as node
 use Rattle.ps_typing.specs.Placed as placed
-use Rattle.ps_typing.specs.Fault.{Unknown, Twice, Mismatch, NotAssignable, NotApplicable}
+use Rattle.ps_typing.specs.Fault.{Unknown, Twice, Mismatch, NotAssignable, NotApplicable, TooComplex}
 use Rattle.ps_typing.specs.Checking.{◌>>=◌, passes, assigned}
 use Rattle.ps_typing.specs.Program.{Typed, Fails, check_program}
 
@@ -95,3 +95,35 @@ across_blocks : check_program (program (two (the (form.Let (named (codes "x")) f
     ≡ Typed (body [] types.Void (block (node.more (node.Let (Plain 0) types.Int (node.Int (pos 1))) (node.more (block (node.more (node.Let (Plain 1) types.Int (node.Int (pos 2))) node.none)) node.none))) None (on 1))
 unfolding ◌>>=◌ passes assigned placed.then_give placed.◌>>=◌
 across_blocks = refl
+
+-- `structure box(int n); box`, a class that isn't applied
+class_not_applied : check_program (program (two (the (form.Structure (named (codes "box")) (group types.Int (codes "n") ∷ []))) (name (codes "box")))) ≡ Fails (NotApplicable (on 1))
+unfolding ◌>>=◌ passes assigned placed.then_give placed.◌>>=◌
+class_not_applied = refl
+
+-- `nil(1)`, a pointer applied to what is no name
+no_field : check_program (program (more (the (form.Apply (the form.Nil) (more (int 1) none))) none)) ≡ Fails (NotApplicable (on 1))
+unfolding ◌>>=◌ passes assigned placed.then_give placed.◌>>=◌
+no_field = refl
+
+-- `let v = @1 of int[0, .., 0]` of so many elements: a local, and the lower bound and the elements on the stack
+abbrev zeros : List ℕ → Phrases
+zeros [] = none
+zeros (n ∷ ns) = more (int n) (zeros ns)
+
+abbrev zero_nodes : List ℕ → Nodes
+zero_nodes [] = node.none
+zero_nodes (n ∷ ns) = node.more (node.Int (pos n)) (zero_nodes ns)
+
+abbrev with_elements : ℕ → Phrase
+with_elements count = program (more (the (form.Let (named (codes "v")) false (the (form.Elems (int 1) types.Int (zeros (replicate count 0)))))) none)
+
+-- 512 slots, and 513
+at_the_limit : check_program (with_elements 510) ≡ Typed (body [] types.Void (block (node.more (node.Let (Plain 0) (types.Vector types.Int)
+    (node.Elems (node.Int (pos 1)) (zero_nodes (replicate 510 0)) (types.Vector types.Int) (on 1))) node.none)) None (on 1))
+unfolding ◌>>=◌ passes assigned placed.then_give placed.◌>>=◌
+at_the_limit = refl
+
+too_complex : check_program (with_elements 511) ≡ Fails (TooComplex (on 1) 513)
+unfolding ◌>>=◌ passes assigned placed.then_give placed.◌>>=◌
+too_complex = refl
