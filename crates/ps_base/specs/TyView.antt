@@ -25,7 +25,7 @@ abbrev mutual
   ty_view code.Pntr = Pntr
   ty_view code.Void = Void
   ty_view (code.Vector' p element) = Vector (ty_view element)
-  ty_view (code.Proc' shape parameters p gives) = Proc (ty_views_of parameters) (ty_view gives)
+  ty_view (code.Proc' p shape parameters gives) = Proc (ty_views_of parameters) (ty_view gives)
 
   pub ty_views_of : {m : _} → Row_of-Ty m → TyViews
   ty_views_of end_of-Ty = none

@@ -4,10 +4,11 @@ ghost use Rattle.ps_base.specs.TyView as view;
 
 use crate::list::List;
 use std::alloc::{AllocError, Global};
+use std::rc::Rc;
 
 /// A type as a program writes it; `Void` is that of a procedure without a result
-/// (`docs/language.md`).
-#[derive(Drop)]
+/// (`docs/language.md`). The parts of a type are shared, so a type is small, and a copy takes no memory.
+#[cycle(types)]
 pub enum Ty {
     Int,
     Bool,
@@ -15,15 +16,22 @@ pub enum Ty {
     Pntr,
     Void,
     /// A vector of elements of the type.
-    Vector(Box<Ty>),
-    /// A procedure of parameters of these types, and the type of its result.
-    Proc(List<Ty>, Box<Ty>),
+    Vector(Rc<Ty>),
+    Proc(Rc<Signature>),
+}
+
+/// The types of a procedure's parameters, and the type of its result.
+#[cycle(types)]
+#[derive(Drop)]
+pub struct Signature {
+    pub parameters: List<Ty>,
+    pub gives: Ty,
 }
 
 impl Ty {
-    /// The same type once more.
-    #[cycle(copying)]
-    pub fn copy(&self, alloc: Global) -> Result<Ty, AllocError>
+    /// The same type once more. Takes no memory; the only fault is that there are too many copies
+    /// already.
+    pub fn copy(&self) -> Result<Ty, AllocError>
         ensures { IfOk result (λ made. ty_view made ≡ ty_view self.now) }
     {
         match self {
@@ -32,11 +40,8 @@ impl Ty {
             Ty::Str => Ok(Ty::Str),
             Ty::Pntr => Ok(Ty::Pntr),
             Ty::Void => Ok(Ty::Void),
-            Ty::Vector(element) => vector_of(alloc, element.copy(alloc)?),
-            Ty::Proc(parameters, gives) => {
-                let parameters = copies(parameters.as_slice(), alloc)?;
-                procedure_of(alloc, parameters, gives.copy(alloc)?)
-            }
+            Ty::Vector(element) => Ok(Ty::Vector(element.clone()?)),
+            Ty::Proc(signature) => Ok(Ty::Proc(signature.clone()?)),
         }
     }
 }
@@ -45,24 +50,36 @@ impl Ty {
 pub fn vector_of(alloc: Global, element: Ty) -> Result<Ty, AllocError>
     ensures { IfOk result (λ made. ty_view made ≡ view.Vector (ty_view element)) }
 {
-    Ok(Ty::Vector(Box::new(alloc, element)?))
+    Ok(Ty::Vector(Rc::new(alloc, element)?))
 }
 
 /// The type of procedures of these parameters and this result.
 pub fn procedure_of(alloc: Global, parameters: Vec<Ty>, gives: Ty) -> Result<Ty, AllocError>
     ensures { IfOk result (λ made. ty_view made ≡ view.Proc (ty_views parameters.items) (ty_view gives)) }
 {
-    let gives = Box::new(alloc, gives)?;
-    Ok(Ty::Proc(List::new(parameters), gives))
+    let parameters = List::new(parameters);
+    let signature = Signature { parameters, gives };
+    Ok(Ty::Proc(Rc::new(alloc, signature)?))
 }
 
-#[cycle(copying)]
-fn copies(types: &[Ty], alloc: Global) -> Result<Vec<Ty>, AllocError>
-    ensures { IfOk result (λ made. ty_views made.items ≡ ty_views types.now) }
-{
-    let mut made = Vec::new(alloc);
-    for one in types {
-        made.push(one.copy(alloc)?)?;
+/// Lets go of a type. Vectors of vectors have no limit, so they are let go one after the other and
+/// not inside one another.
+impl Drop for Ty {
+    #[cycle(types)]
+    fn drop(mut self) {
+        loop {
+            match self {
+                Ty::Int => return,
+                Ty::Bool => return,
+                Ty::Str => return,
+                Ty::Pntr => return,
+                Ty::Void => return,
+                Ty::Proc(_) => return,
+                Ty::Vector(element) => match Rc::into_inner(element) {
+                    Some(element) => self = element,
+                    None => return,
+                },
+            }
+        }
     }
-    Ok(made)
 }
