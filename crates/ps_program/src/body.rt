@@ -4,7 +4,6 @@ use ps_base::bytes::Bytes;
 use ps_base::line::Line;
 use ps_base::list::List;
 use ps_base::ty::Ty;
-use std::rc::Rc;
 
 /// A typed program.
 #[derive(Drop)]
@@ -18,7 +17,7 @@ pub struct Program {
 #[derive(Drop)]
 pub struct Body {
     pub params: List<Param>,
-    pub gives: Rc<Ty>,
+    pub gives: Ty,
     pub tree: Tree,
     pub scope: Option<Bytes>,
     pub line: Line,
@@ -27,6 +26,6 @@ pub struct Body {
 /// A parameter: its type, and where its value is kept.
 #[derive(Drop)]
 pub struct Param {
-    pub ty: Rc<Ty>,
+    pub ty: Ty,
     pub place: Place,
 }

@@ -18,7 +18,7 @@ pub struct Tree {
 }
 
 /// What a typed clause is made of. A tree has one for each operator and each operand of a text, and all are as large as the
-/// largest: so none has more than 48 bytes. Types and class texts are shared, since a text may mention one very often.
+/// largest: so none has more than 56 bytes. Types and class texts are shared, since a text may mention one very often.
 #[cycle(tree)]
 pub enum TreeForm {
     Int(i32),
@@ -27,18 +27,18 @@ pub enum TreeForm {
     Nil,
     Name {
         place: Place,
-        ty: Rc<Ty>,
+        ty: Ty,
     },
     /// Assigns to a variable.
     SetName {
         place: Place,
-        ty: Rc<Ty>,
+        ty: Ty,
         e: Tree,
     },
     /// Gives a declared name its initial value.
     Let {
         place: Place,
-        ty: Rc<Ty>,
+        ty: Ty,
         e: Tree,
     },
     /// The declaration of a class.
@@ -75,7 +75,7 @@ pub enum TreeForm {
         e: Tree,
         arms: List<Arm>,
         d: Tree,
-        ty: Rc<Ty>,
+        ty: Ty,
     },
     And {
         a: Tree,
@@ -100,7 +100,7 @@ pub enum TreeForm {
     /// Compares two values of the type.
     Compare {
         op: Relation,
-        ty: Rc<Ty>,
+        ty: Ty,
         a: Tree,
         b: Tree,
     },
@@ -131,14 +131,14 @@ pub enum TreeForm {
         e: Tree,
         class: Rc<Bytes>,
         index: u32,
-        ty: Rc<Ty>,
+        ty: Ty,
         line: Line,
     },
     SetField {
         p: Tree,
         class: Rc<Bytes>,
         index: u32,
-        ty: Rc<Ty>,
+        ty: Ty,
         e: Tree,
         line: Line,
     },
@@ -147,28 +147,28 @@ pub enum TreeForm {
         l: Tree,
         u: Tree,
         e: Tree,
-        ty: Rc<Ty>,
+        ty: Ty,
         line: Line,
     },
     /// A vector of the type, from `l` on, with these elements.
     Elems {
         l: Tree,
         items: List<Tree>,
-        ty: Rc<Ty>,
+        ty: Ty,
         line: Line,
     },
     /// The element of `v` at `i`, which is of the type.
     Element {
         v: Tree,
         i: Tree,
-        ty: Rc<Ty>,
+        ty: Ty,
         line: Line,
     },
     SetElement {
         v: Tree,
         i: Tree,
         e: Tree,
-        ty: Rc<Ty>,
+        ty: Ty,
         line: Line,
     },
     /// The lower or the upper bound of a vector.
@@ -204,7 +204,7 @@ pub enum TreeForm {
         e: Tree,
         w: Tree,
         wide: bool,
-        ty: Rc<Ty>,
+        ty: Ty,
         line: Line,
     },
     Abort(Line),
