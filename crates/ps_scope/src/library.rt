@@ -1,0 +1,181 @@
+ghost use Rattle.std.specs.Prelude.{◌≡◌, map, reverse, codes, IfOk};
+ghost use Rattle.std.specs.Rc.{rc_value};
+ghost use Rattle.ps_base.specs.List.{items_of};
+ghost use Rattle.ps_base.specs.TyView.{ty_view, ty_views};
+ghost use Rattle.ps_base.specs.TyView as view;
+ghost use Rattle.ps_typing.specs.Library.{procedures, error_class, three};
+ghost use Rattle.ps_typing.specs.Names.{class, library};
+ghost use Rattle.ps_typing.specs.Names as names;
+ghost use Rattle.ps_scope.specs.Views.{field_of, class_of, procedure_of};
+ghost use Rattle.ps_scope.specs.inside.Declarations.{declared_of, declared_routine, error_fields, types_in, simple_view};
+
+use crate::declaration::{Declaration, bytes_of};
+use crate::field::Field;
+use crate::meaning::{Class, Meaning, Procedure};
+use ps_base::bytes::Bytes;
+use ps_base::list::List;
+use ps_base::ty::{Signature, Ty};
+use std::alloc::{AllocError, Global};
+use std::rc::Rc;
+
+/// A type without parts.
+#[derive(Clone, Copy)]
+pub(crate) enum Simple {
+    Int,
+    Bool,
+    Str,
+    Pntr,
+    Void,
+}
+
+/// A procedure of the library with a number.
+#[derive(Clone, Copy)]
+pub(crate) struct Routine {
+    pub(crate) name: &'static str,
+    pub(crate) code: u8,
+    pub(crate) parameters: &'static [Simple],
+    pub(crate) gives: Simple,
+}
+
+// The last is found first.
+pub(crate) const ROUTINES: [Routine; 13] = [
+    routine("iformat", 12, &[Simple::Int], Simple::Str),
+    routine("length", 11, &[Simple::Str], Simple::Int),
+    routine("eof", 10, &[], Simple::Bool),
+    routine("read.a.line", 9, &[], Simple::Str),
+    routine("cardinality", 8, &[Simple::Pntr], Simple::Int),
+    routine("i.lookup", 7, &[Simple::Int, Simple::Pntr], Simple::Pntr),
+    routine("i.enter", 6, &[Simple::Int, Simple::Pntr, Simple::Pntr], Simple::Void),
+    routine("s.lookup", 5, &[Simple::Str, Simple::Pntr], Simple::Pntr),
+    routine("s.enter", 4, &[Simple::Str, Simple::Pntr, Simple::Pntr], Simple::Void),
+    routine("table", 3, &[], Simple::Pntr),
+    routine("commit", 2, &[], Simple::Pntr),
+    routine("open.database", 1, &[Simple::Str, Simple::Str, Simple::Str], Simple::Pntr),
+    routine("create.database", 0, &[Simple::Str, Simple::Str], Simple::Pntr),
+];
+
+const fn routine(
+    name: &'static str,
+    code: u8,
+    parameters: &'static [Simple],
+    gives: Simple,
+) -> Routine {
+    Routine {
+        name,
+        code,
+        parameters,
+        gives,
+    }
+}
+
+/// The names of the library, from the outermost to the innermost.
+pub(crate) fn procedures(alloc: Global, text: Rc<Bytes>) -> Result<Vec<Declaration>, AllocError>
+    requires { text.value ≡ error_class }
+    ensures { IfOk result (λ made. map declared_of (reverse made.items) ≡ procedures) }
+{
+    let mut made = Vec::new(alloc);
+    made.push(error_record(alloc, text)?)?;
+    made.push(scan(alloc, "i.scan", false)?)?;
+    made.push(scan(alloc, "s.scan", true)?)?;
+    for routine in &ROUTINES {
+        made.push(routine.declaration(alloc)?)?;
+    }
+    Ok(made)
+}
+
+/// The text of the class `error.record`.
+pub(crate) fn error_text(alloc: Global) -> Result<Rc<Bytes>, AllocError>
+    ensures { IfOk result (λ made. made.value ≡ error_class) }
+{
+    let text = bytes_of(
+        alloc,
+        b"error.record(string error.context;string error.fault;string error.explain)",
+    )?;
+    Ok(Rc::new(alloc, text)?)
+}
+
+/// The fields of `error.record`, from the outermost to the innermost.
+pub(crate) fn error_fields(alloc: Global, text: &Rc<Bytes>) -> Result<Vec<Field>, AllocError>
+    requires { text.now.value ≡ error_class }
+    ensures { IfOk result (λ made. map field_of (reverse made.items) ≡ error_fields) }
+{
+    let mut made = Vec::new(alloc);
+    made.push(error_field(alloc, text, 2, b"error.explain")?)?;
+    made.push(error_field(alloc, text, 1, b"error.fault")?)?;
+    made.push(error_field(alloc, text, 0, b"error.context")?)?;
+    Ok(made)
+}
+
+fn error_field(alloc: Global, text: &Rc<Bytes>, index: u32, name: &[u8]) -> Result<Field, AllocError>
+    ensures { IfOk result (λ made. field_of made ≡ record { name = name.now; class = text.now.value; index = index; ty = view.Str }) }
+{
+    Ok(Field {
+        name: bytes_of(alloc, name)?,
+        class: text.clone()?,
+        index,
+        ty: Ty::Str,
+    })
+}
+
+fn error_record(alloc: Global, text: Rc<Bytes>) -> Result<Declaration, AllocError>
+    ensures { IfOk result (λ made. declared_of made ≡ record { name = codes "error.record"; meaning = class text.value (three view.Str view.Str view.Str) }) }
+{
+    let mut fields = Vec::new(alloc);
+    fields.push(Ty::Str)?;
+    fields.push(Ty::Str)?;
+    fields.push(Ty::Str)?;
+    let fields = List::new(fields);
+    let class = Rc::new(alloc, Class { text, fields })?;
+    Ok(Declaration {
+        name: bytes_of(alloc, b"error.record")?,
+        meaning: Meaning::Class(class),
+    })
+}
+
+fn scan(alloc: Global, name: &str, text: bool) -> Result<Declaration, AllocError>
+    ensures { IfOk result (λ made. declared_of made ≡ record { name = name.now; meaning = library (names.scan text) }) }
+{
+    Ok(Declaration {
+        name: bytes_of(alloc, name.as_bytes())?,
+        meaning: Meaning::Library(Procedure::Scan { text }),
+    })
+}
+
+impl Routine {
+    fn declaration(&self, alloc: Global) -> Result<Declaration, AllocError>
+        ensures { IfOk result (λ made. declared_of made ≡ declared_routine self.now) }
+    {
+        let parameters = List::new(types(alloc, self.parameters)?);
+        let gives = self.gives.ty();
+        let signature = Rc::new(alloc, Signature { parameters, gives })?;
+        let code = self.code;
+        Ok(Declaration {
+            name: bytes_of(alloc, self.name.as_bytes())?,
+            meaning: Meaning::Library(Procedure::Plain { code, signature }),
+        })
+    }
+}
+
+fn types(alloc: Global, simple: &[Simple]) -> Result<Vec<Ty>, AllocError>
+    ensures { IfOk result (λ made. ty_views made.items ≡ types_in simple.now) }
+{
+    let mut made = Vec::new(alloc);
+    for one in simple {
+        made.push(one.ty())?;
+    }
+    Ok(made)
+}
+
+impl Simple {
+    fn ty(self) -> Ty
+        ensures { ty_view result ≡ simple_view self }
+    {
+        match self {
+            Simple::Int => Ty::Int,
+            Simple::Bool => Ty::Bool,
+            Simple::Str => Ty::Str,
+            Simple::Pntr => Ty::Pntr,
+            Simple::Void => Ty::Void,
+        }
+    }
+}

@@ -1,0 +1,210 @@
+ghost use Rattle.std.specs.Prelude.{◌≡◌, reverse, map, option_map, IfOk, Bor};
+ghost use Rattle.ps_typing.specs.Names.{lookup, lookup_field};
+ghost use Rattle.ps_scope.specs.Views.{meaning_of, field_of};
+ghost use Rattle.ps_scope.specs.inside.Declarations.{declared_of};
+
+use crate::declaration::{Declaration, bytes_of};
+use crate::field::Field;
+use crate::library;
+use crate::meaning::{Class, Local, Meaning};
+use ps_base::ty::Ty;
+use ps_type_text::Member;
+use std::alloc::{AllocError, Global};
+use std::marker::Model;
+use std::rc::Rc;
+
+/// The names and fields in scope at a place of a program, and the locals declared so far.
+#[derive(Drop)]
+pub struct Scope {
+    // From the outermost to the innermost, and how many of them stand in blocks around.
+    names: Vec<Declaration>,
+    names_around: usize,
+    fields: Vec<Field>,
+    fields_around: usize,
+    locals: Vec<Member>,
+}
+
+/// What `Scope::leave` wants to know of the blocks around the one that it ends.
+#[derive(Clone, Copy)]
+pub struct Block {
+    pub names_around: usize,
+    pub fields_around: usize,
+}
+
+impl Model for Scope {
+    ghost use Rattle.std.specs.Prelude.{◌≤◌, length, reverse, take, drop, map};
+    ghost use Rattle.ps_typing.specs.Names.{Names};
+    ghost use Rattle.ps_type_text.specs.Members.{fields_of};
+    ghost use Rattle.ps_scope.specs.Views.{field_of};
+    ghost use Rattle.ps_scope.specs.inside.Declarations.{declared_of};
+
+    ghost Value = { Names };
+
+    ghost view = { λ s. record {
+        here = map declared_of (reverse (drop s.names_around s.names.items));
+        around = map declared_of (reverse (take s.names_around s.names.items));
+        fields_here = map field_of (reverse (drop s.fields_around s.fields.items));
+        fields_around = map field_of (reverse (take s.fields_around s.fields.items));
+        all = fields_of s.locals.items;
+    } };
+
+    ghost invariant = { λ s. (s.names_around ≤ length s.names.items) × (s.fields_around ≤ length s.fields.items) };
+}
+
+impl Scope {
+    ghost use Rattle.std.specs.Prelude.{ℕ, ◌++◌, ◌≤◌, length, option_map, IfOk, OnOk, Bor};
+    ghost use Rattle.ps_base.specs.TyView.{ty_view};
+    ghost use Rattle.ps_type_text.specs.Members.{fields_of};
+    ghost use Rattle.ps_typing.specs.Names.{Names, meant, field_meant, is_declared, is_field_declared, declare, declare_local, declare_field, inside, behind};
+    ghost use Rattle.ps_typing.specs.Library.{library_names};
+    ghost use Rattle.ps_scope.specs.Views.{meaning_of, class_of, field_of};
+
+    /// The names of the library.
+    pub fn new(alloc: Global) -> Result<Scope, AllocError>
+        ensures { IfOk result (λ made. made ≡ library_names) }
+    {
+        let text = library::error_text(alloc)?;
+        let fields = library::error_fields(alloc, &text)?;
+        let names = library::procedures(alloc, text)?;
+        let names_around = names.len();
+        let fields_around = fields.len();
+        Ok(Scope {
+            names,
+            names_around,
+            fields,
+            fields_around,
+            locals: Vec::new(alloc),
+        })
+    }
+
+    /// What a name means, or `None` where it isn't in scope.
+    pub fn find(&self, name: &[u8]) -> Option<&Meaning>
+        ensures { option_map (λ (m : Bor _). meaning_of m.now) result ≡ meant self.now name.now }
+    {
+        find_last(self.names.as_slice(), name)
+    }
+
+    /// The field of this name, or `None` where none is in scope.
+    pub fn find_field(&self, name: &[u8]) -> Option<&Field>
+        ensures { option_map (λ (f : Bor _). field_of f.now) result ≡ field_meant self.now name.now }
+    {
+        find_last_field(self.fields.as_slice(), name)
+    }
+
+    /// Whether the block itself declares a name.
+    pub fn declares(&self, name: &[u8]) -> bool
+        ensures { result ≡ is_declared self.now name.now }
+    {
+        find_last(&self.names.as_slice()[self.names_around..], name).is_some()
+    }
+
+    /// Whether the block itself declares a field of this name.
+    pub fn declares_field(&self, name: &[u8]) -> bool
+        ensures { result ≡ is_field_declared self.now name.now }
+    {
+        find_last_field(&self.fields.as_slice()[self.fields_around..], name).is_some()
+    }
+
+    /// Declares a constant or a variable in the block, and answers its number. A refusal leaves the names as they were.
+    pub fn declare_local(
+        &mut self,
+        alloc: Global,
+        name: &[u8],
+        ty: &Ty,
+        variable: bool,
+    ) -> Result<u32, AllocError>
+        ensures number { IfOk result (λ number. number ≡ length self.old.all) }
+        ensures names { OnOk result (self.new ≡ declare_local self.old name.now (ty_view ty.now) variable) }
+    {
+        let number = number_of(self.locals.len())?;
+        let member = Member {
+            ty: ty.copy()?,
+            name: bytes_of(alloc, name)?,
+        };
+        let ty = ty.copy()?;
+        let local = Local {
+            number,
+            ty,
+            variable,
+        };
+        let name = bytes_of(alloc, name)?;
+        let meaning = Meaning::Local(local);
+        self.names.push(Declaration { name, meaning })?;
+        self.locals.push(member)?;
+        Ok(number)
+    }
+
+    /// Declares a class in the block.
+    pub fn declare_class(
+        &mut self,
+        alloc: Global,
+        name: &[u8],
+        class: Rc<Class>,
+    ) -> Result<(), AllocError>
+        ensures { OnOk result (self.new ≡ declare self.old name.now (class_of class.value)) }
+    {
+        let name = bytes_of(alloc, name)?;
+        let meaning = Meaning::Class(class);
+        self.names.push(Declaration { name, meaning })?;
+        Ok(())
+    }
+
+    /// Declares a field in the block.
+    pub fn declare_field(&mut self, field: Field) -> Result<(), AllocError>
+        ensures { OnOk result (self.new ≡ declare_field self.old (field_of field)) }
+    {
+        self.fields.push(field)?;
+        Ok(())
+    }
+
+    /// Begins a block, and answers what `leave` wants at its end.
+    pub fn enter(&mut self) -> Block
+        ensures names { self.new ≡ inside self.old }
+        ensures names_around { result.names_around ≡ length self.old.around }
+        ensures fields_around { result.fields_around ≡ length self.old.fields_around }
+    {
+        let block = Block {
+            names_around: self.names_around,
+            fields_around: self.fields_around,
+        };
+        self.names_around = self.names.len();
+        self.fields_around = self.fields.len();
+        block
+    }
+
+    /// Ends the block that began where `enter` answered this.
+    pub fn leave(&mut self, block: Block)
+        requires names { block.names_around ≤ length self.old.around }
+        requires fields { block.fields_around ≤ length self.old.fields_around }
+        ensures { (before : Names) → self.old.around ≡ before.here ++ before.around → self.old.fields_around ≡ before.fields_here ++ before.fields_around → block.names_around ≡ length before.around → block.fields_around ≡ length before.fields_around → self.new ≡ behind before self.old }
+    {
+        self.names.truncate(self.names_around);
+        self.fields.truncate(self.fields_around);
+        self.names_around = block.names_around;
+        self.fields_around = block.fields_around;
+    }
+
+    /// The names and types of all locals that were declared, in the order of their numbers.
+    pub fn into_locals(self) -> Vec<Member>
+        ensures { fields_of result.items ≡ self.all }
+    {
+        let Scope {
+            names: _,
+            names_around: _,
+            fields: _,
+            fields_around: _,
+            locals,
+        } = self;
+        locals
+    }
+}
+
+// The number of a local behind so many.
+fn number_of(count: usize) -> Result<u32, AllocError>
+    ensures { IfOk result (λ number. number ≡ count) }
+{
+    match u32::try_from(count) {
+        Ok(number) => Ok(number),
+        Err(_) => Err(AllocError),
+    }
+}
