@@ -1,4 +1,4 @@
-ghost use Rattle.std.specs.Prelude.{◌≡◌, map, reverse, codes, IfOk};
+ghost use Rattle.std.specs.Prelude.{◌≡◌, map, reverse, take, codes, IfOk};
 ghost use Rattle.std.specs.Rc.{rc_value};
 ghost use Rattle.ps_base.specs.List.{items_of};
 ghost use Rattle.ps_base.specs.TyView.{ty_view, ty_views};
@@ -7,7 +7,8 @@ ghost use Rattle.ps_typing.specs.Library.{procedures, error_class, three};
 ghost use Rattle.ps_typing.specs.Names.{class, library};
 ghost use Rattle.ps_typing.specs.Names as names;
 ghost use Rattle.ps_scope.specs.Views.{field_of, class_of, procedure_of};
-ghost use Rattle.ps_scope.specs.inside.Declarations.{declared_of, declared_routine, error_fields, types_in, simple_view};
+ghost use Rattle.ps_scope.specs.Content.{declared_of};
+ghost use Rattle.ps_scope.specs.inside.Declarations.{declared_routine, error_fields, types_in, simple_view};
 
 use crate::declaration::{Declaration, bytes_of};
 use crate::field::Field;
@@ -20,7 +21,7 @@ use std::rc::Rc;
 
 /// A type without parts.
 #[derive(Clone, Copy)]
-pub(crate) enum Simple {
+pub enum Simple {
     Int,
     Bool,
     Str,
@@ -30,43 +31,41 @@ pub(crate) enum Simple {
 
 /// A procedure of the library with a number.
 #[derive(Clone, Copy)]
-pub(crate) struct Routine {
-    pub(crate) name: &'static str,
-    pub(crate) code: u8,
-    pub(crate) parameters: &'static [Simple],
-    pub(crate) gives: Simple,
+pub struct Routine {
+    pub name: &'static str,
+    pub code: u8,
+    pub parameters: &'static [Simple],
+    pub gives: Simple,
+}
+
+// The rows of a table of routines: the name, the code, the parameters' types and the result's.
+macro_rules! routines {
+    ($($name:literal $code:literal ($($parameter:ident)*) $gives:ident)*) => {
+        [$(Routine {
+            name: $name,
+            code: $code,
+            parameters: &[$(Simple::$parameter),*],
+            gives: Simple::$gives,
+        }),*]
+    };
 }
 
 // The last is found first.
-pub(crate) const ROUTINES: [Routine; 13] = [
-    routine("iformat", 12, &[Simple::Int], Simple::Str),
-    routine("length", 11, &[Simple::Str], Simple::Int),
-    routine("eof", 10, &[], Simple::Bool),
-    routine("read.a.line", 9, &[], Simple::Str),
-    routine("cardinality", 8, &[Simple::Pntr], Simple::Int),
-    routine("i.lookup", 7, &[Simple::Int, Simple::Pntr], Simple::Pntr),
-    routine("i.enter", 6, &[Simple::Int, Simple::Pntr, Simple::Pntr], Simple::Void),
-    routine("s.lookup", 5, &[Simple::Str, Simple::Pntr], Simple::Pntr),
-    routine("s.enter", 4, &[Simple::Str, Simple::Pntr, Simple::Pntr], Simple::Void),
-    routine("table", 3, &[], Simple::Pntr),
-    routine("commit", 2, &[], Simple::Pntr),
-    routine("open.database", 1, &[Simple::Str, Simple::Str, Simple::Str], Simple::Pntr),
-    routine("create.database", 0, &[Simple::Str, Simple::Str], Simple::Pntr),
-];
-
-const fn routine(
-    name: &'static str,
-    code: u8,
-    parameters: &'static [Simple],
-    gives: Simple,
-) -> Routine {
-    Routine {
-        name,
-        code,
-        parameters,
-        gives,
-    }
-}
+pub const ROUTINES: [Routine; 13] = routines! {
+    "iformat" 12 (Int) Str
+    "length" 11 (Str) Int
+    "eof" 10 () Bool
+    "read.a.line" 9 () Str
+    "cardinality" 8 (Pntr) Int
+    "i.lookup" 7 (Int Pntr) Pntr
+    "i.enter" 6 (Int Pntr Pntr) Void
+    "s.lookup" 5 (Str Pntr) Pntr
+    "s.enter" 4 (Str Pntr Pntr) Void
+    "table" 3 () Pntr
+    "commit" 2 () Pntr
+    "open.database" 1 (Str Str Str) Pntr
+    "create.database" 0 (Str Str) Pntr
+};
 
 /// The names of the library, from the outermost to the innermost.
 pub(crate) fn procedures(alloc: Global, text: Rc<Bytes>) -> Result<Vec<Declaration>, AllocError>
@@ -77,10 +76,17 @@ pub(crate) fn procedures(alloc: Global, text: Rc<Bytes>) -> Result<Vec<Declarati
     made.push(error_record(alloc, text)?)?;
     made.push(scan(alloc, "i.scan", false)?)?;
     made.push(scan(alloc, "s.scan", true)?)?;
-    for routine in &ROUTINES {
+    let rows = routines();
+    for routine in rows {
         made.push(routine.declaration(alloc)?)?;
     }
     Ok(made)
+}
+
+fn routines() -> &'static [Routine; 13]
+    ensures { map declared_routine result.now ≡ reverse (take 13 procedures) }
+{
+    &ROUTINES
 }
 
 /// The text of the class `error.record`.

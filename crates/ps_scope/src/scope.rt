@@ -1,7 +1,8 @@
-ghost use Rattle.std.specs.Prelude.{◌≡◌, reverse, map, option_map, IfOk, Bor};
+ghost use Rattle.std.specs.Prelude.{◌≡◌, reverse, map, option_map, IfOk};
+ghost use Rattle.std.specs.Borrow.{Bor};
 ghost use Rattle.ps_typing.specs.Names.{lookup, lookup_field};
 ghost use Rattle.ps_scope.specs.Views.{meaning_of, field_of};
-ghost use Rattle.ps_scope.specs.inside.Declarations.{declared_of};
+ghost use Rattle.ps_scope.specs.Content.{declared_of};
 
 use crate::declaration::{Declaration, bytes_of};
 use crate::field::Field;
@@ -32,36 +33,32 @@ pub struct Block {
 }
 
 impl Model for Scope {
-    ghost use Rattle.std.specs.Prelude.{◌≤◌, length, reverse, take, drop, map};
-    ghost use Rattle.ps_typing.specs.Names.{Names};
-    ghost use Rattle.ps_type_text.specs.Members.{fields_of};
-    ghost use Rattle.ps_scope.specs.Views.{field_of};
-    ghost use Rattle.ps_scope.specs.inside.Declarations.{declared_of};
+    ghost use Rattle.std.specs.Prelude.{◌≤◌, length};
+    ghost use Rattle.std.specs.Coded.{codes};
+    ghost use Rattle.ps_base.specs.contracts.ty.Ty as ty;
+    ghost use Rattle.ps_scope.specs.Content.{Content};
 
-    ghost Value = { Names };
+    ghost Value = { Content };
 
-    ghost view = { λ s. record {
-        here = map declared_of (reverse (drop s.names_around s.names.items));
-        around = map declared_of (reverse (take s.names_around s.names.items));
-        fields_here = map field_of (reverse (drop s.fields_around s.fields.items));
-        fields_around = map field_of (reverse (take s.fields_around s.fields.items));
-        all = fields_of s.locals.items;
-    } };
+    ghost coded = { Prim.hlevel (codes, ty.the_row.coded) };
+
+    ghost view = { λ s. record { names = s.names.items; names_around = s.names_around; fields = s.fields.items; fields_around = s.fields_around; locals = s.locals.items } };
 
     ghost invariant = { λ s. (s.names_around ≤ length s.names.items) × (s.fields_around ≤ length s.fields.items) };
 }
 
 impl Scope {
-    ghost use Rattle.std.specs.Prelude.{ℕ, ◌++◌, ◌≤◌, length, option_map, IfOk, OnOk, Bor};
+    ghost use Rattle.std.specs.Prelude.{ℕ, ◌++◌, ◌≤◌, length, option_map, IfOk, OnOk};
     ghost use Rattle.ps_base.specs.TyView.{ty_view};
     ghost use Rattle.ps_type_text.specs.Members.{fields_of};
     ghost use Rattle.ps_typing.specs.Names.{Names, meant, field_meant, is_declared, is_field_declared, declare, declare_local, declare_field, inside, behind};
     ghost use Rattle.ps_typing.specs.Library.{library_names};
+    ghost use Rattle.ps_scope.specs.Content.{names_of};
     ghost use Rattle.ps_scope.specs.Views.{meaning_of, class_of, field_of};
 
     /// The names of the library.
     pub fn new(alloc: Global) -> Result<Scope, AllocError>
-        ensures { IfOk result (λ made. made ≡ library_names) }
+        ensures { IfOk result (λ made. names_of made ≡ library_names) }
     {
         let text = library::error_text(alloc)?;
         let fields = library::error_fields(alloc, &text)?;
@@ -79,28 +76,28 @@ impl Scope {
 
     /// What a name means, or `None` where it isn't in scope.
     pub fn find(&self, name: &[u8]) -> Option<&Meaning>
-        ensures { option_map (λ (m : Bor _). meaning_of m.now) result ≡ meant self.now name.now }
+        ensures { option_map (λ (m : Bor _). meaning_of m.now) result ≡ meant (names_of self.now) name.now }
     {
         find_last(self.names.as_slice(), name)
     }
 
     /// The field of this name, or `None` where none is in scope.
     pub fn find_field(&self, name: &[u8]) -> Option<&Field>
-        ensures { option_map (λ (f : Bor _). field_of f.now) result ≡ field_meant self.now name.now }
+        ensures { option_map (λ (f : Bor _). field_of f.now) result ≡ field_meant (names_of self.now) name.now }
     {
         find_last_field(self.fields.as_slice(), name)
     }
 
     /// Whether the block itself declares a name.
     pub fn declares(&self, name: &[u8]) -> bool
-        ensures { result ≡ is_declared self.now name.now }
+        ensures { result ≡ is_declared (names_of self.now) name.now }
     {
         find_last(&self.names.as_slice()[self.names_around..], name).is_some()
     }
 
     /// Whether the block itself declares a field of this name.
     pub fn declares_field(&self, name: &[u8]) -> bool
-        ensures { result ≡ is_field_declared self.now name.now }
+        ensures { result ≡ is_field_declared (names_of self.now) name.now }
     {
         find_last_field(&self.fields.as_slice()[self.fields_around..], name).is_some()
     }
@@ -113,8 +110,8 @@ impl Scope {
         ty: &Ty,
         variable: bool,
     ) -> Result<u32, AllocError>
-        ensures number { IfOk result (λ number. number ≡ length self.old.all) }
-        ensures names { OnOk result (self.new ≡ declare_local self.old name.now (ty_view ty.now) variable) }
+        ensures number { IfOk result (λ number. number ≡ length (names_of self.old).all) }
+        ensures names { OnOk result (names_of self.new ≡ declare_local (names_of self.old) name.now (ty_view ty.now) variable) }
     {
         let number = number_of(self.locals.len())?;
         let member = Member {
@@ -141,7 +138,7 @@ impl Scope {
         name: &[u8],
         class: Rc<Class>,
     ) -> Result<(), AllocError>
-        ensures { OnOk result (self.new ≡ declare self.old name.now (class_of class.value)) }
+        ensures { OnOk result (names_of self.new ≡ declare (names_of self.old) name.now (class_of class.value)) }
     {
         let name = bytes_of(alloc, name)?;
         let meaning = Meaning::Class(class);
@@ -151,7 +148,7 @@ impl Scope {
 
     /// Declares a field in the block.
     pub fn declare_field(&mut self, field: Field) -> Result<(), AllocError>
-        ensures { OnOk result (self.new ≡ declare_field self.old (field_of field)) }
+        ensures { OnOk result (names_of self.new ≡ declare_field (names_of self.old) (field_of field)) }
     {
         self.fields.push(field)?;
         Ok(())
@@ -159,9 +156,9 @@ impl Scope {
 
     /// Begins a block, and answers what `leave` wants at its end.
     pub fn enter(&mut self) -> Block
-        ensures names { self.new ≡ inside self.old }
-        ensures names_around { result.names_around ≡ length self.old.around }
-        ensures fields_around { result.fields_around ≡ length self.old.fields_around }
+        ensures names { names_of self.new ≡ inside (names_of self.old) }
+        ensures names_around { result.names_around ≡ length (names_of self.old).around }
+        ensures fields_around { result.fields_around ≡ length (names_of self.old).fields_around }
     {
         let block = Block {
             names_around: self.names_around,
@@ -174,9 +171,9 @@ impl Scope {
 
     /// Ends the block that began where `enter` answered this.
     pub fn leave(&mut self, block: Block)
-        requires names { block.names_around ≤ length self.old.around }
-        requires fields { block.fields_around ≤ length self.old.fields_around }
-        ensures { (before : Names) → self.old.around ≡ before.here ++ before.around → self.old.fields_around ≡ before.fields_here ++ before.fields_around → block.names_around ≡ length before.around → block.fields_around ≡ length before.fields_around → self.new ≡ behind before self.old }
+        requires names { block.names_around ≤ length (names_of self.old).around }
+        requires fields { block.fields_around ≤ length (names_of self.old).fields_around }
+        ensures { (before : Names) → (names_of self.old).around ≡ before.here ++ before.around → (names_of self.old).fields_around ≡ before.fields_here ++ before.fields_around → block.names_around ≡ length before.around → block.fields_around ≡ length before.fields_around → names_of self.new ≡ behind before (names_of self.old) }
     {
         self.names.truncate(self.names_around);
         self.fields.truncate(self.fields_around);
@@ -186,7 +183,7 @@ impl Scope {
 
     /// The names and types of all locals that were declared, in the order of their numbers.
     pub fn into_locals(self) -> Vec<Member>
-        ensures { fields_of result.items ≡ self.all }
+        ensures { fields_of result.items ≡ (names_of self).all }
     {
         let Scope {
             names: _,
@@ -207,4 +204,32 @@ fn number_of(count: usize) -> Result<u32, AllocError>
         Ok(number) => Ok(number),
         Err(_) => Err(AllocError),
     }
+}
+
+// What the last declaration of a name gives.
+fn find_last<'a>(declarations: &'a [Declaration], name: &[u8]) -> Option<&'a Meaning>
+    ensures { option_map (λ (m : Bor _). meaning_of m.now) result ≡ lookup (map declared_of (reverse declarations.now)) name.now }
+{
+    let mut i = declarations.len();
+    while i > 0 {
+        i -= 1;
+        if declarations[i].name.as_slice() == name {
+            return Some(&declarations[i].meaning);
+        }
+    }
+    None
+}
+
+// The last field of this name.
+fn find_last_field<'a>(fields: &'a [Field], name: &[u8]) -> Option<&'a Field>
+    ensures { option_map (λ (f : Bor _). field_of f.now) result ≡ lookup_field (map field_of (reverse fields.now)) name.now }
+{
+    let mut i = fields.len();
+    while i > 0 {
+        i -= 1;
+        if fields[i].name.as_slice() == name {
+            return Some(&fields[i]);
+        }
+    }
+    None
 }

@@ -1,17 +1,12 @@
--- A name that is declared, and a row of the library, as the rules of scope speak of them.
+-- A row of the library, as the rules of scope speak of it.
 use Rattle.std.specs.Prelude.{List, [], ◌∷◌, codes}
 use Rattle.ps_base.specs.TyView.{TyView, TyViews, none, more}
 use Rattle.ps_base.specs.TyView as ty
 use Rattle.ps_typing.specs.Library.{procedure, error_field}
 use Rattle.ps_typing.specs.Names.{Declared, FieldOf}
-use Rattle.ps_scope.specs.Views.{meaning_of}
-use Rattle.ps_scope.specs.declared.declaration.Declaration.{Declaration}
 use Rattle.ps_scope.specs.declared.library.Routine.{Routine}
 use Rattle.ps_scope.specs.declared.library.Simple.{Simple}
 use Rattle.ps_scope.specs.declared.library.Simple.TheVariants as simple
-
-abbrev pub declared_of : Declaration → Declared
-declared_of declaration = record { name = declaration.name; meaning = meaning_of declaration.meaning }
 
 abbrev pub simple_view : Simple → TyView
 simple_view simple.Int = ty.Int

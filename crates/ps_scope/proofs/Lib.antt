@@ -1,0 +1,2 @@
+mod Content
+mod Rows
