@@ -3,9 +3,10 @@ use Rattle.std.proofs.Common.{◌≡◌, ℕ, zero, suc, ◌+◌, ◌<◌, List,
 use Rattle.std.specs.Prelude.{codes}
 use Rattle.std.proofs.lemmas.List.{take_more}
 use Rattle.ps_base.specs.declared.ty.Ty.{Ty}
+use Rattle.ps_base.specs.declared.ty.Ty.TheVariants as code
 use Rattle.ps_base.specs.TyView.{TyView, TyViews, none, more, and_type, ty_view, ty_views}
 use Rattle.ps_base.proofs.TyLemmas.{ty_views-append}
-use Rattle.ps_type_text.specs.Texts.{type_text, parameters_text, further_text, Field, field_text, fields_text, further_fields}
+use Rattle.ps_type_text.specs.Texts.{type_text, result_text, parameters_text, further_text, Field, field_text, fields_text, further_fields}
 use Rattle.ps_type_text.specs.inside.Putting.{comma_at, semicolon_at}
 use Rattle.ps_type_text.specs.Members.{field_of, fields_of}
 use Rattle.ps_type_text.specs.declared.classes.Member.{Member}
@@ -42,13 +43,20 @@ one_parameter place d types old before middle after inside b m a =
     ∙ append_assoc old (parameters_text ps) (comma_at place ++ type_text t)
     ∙ ap (λ l. old ++ l) (sym whole)
 
-pub closes : {E : Type 0} (r : Result (Unit {0}) E) (a b c d z text P R : List ℕ) → b ≡ a ++ codes "proc(" → c ≡ b ++ P → d ≡ c ++ R → text ≡ codes "proc(" ++ (P ++ (R ++ codes ")")) → OnOk r (z ≡ d ++ codes ")") → OnOk r (z ≡ a ++ text)
-closes (Ok done) a b c d z text P R b_is c_is d_is text_is z_is =
-    z_is ∙ ap (λ l. l ++ codes ")") d_is ∙ append_assoc c R (codes ")")
-    ∙ ap (λ l. l ++ (R ++ codes ")")) c_is ∙ append_assoc b P (R ++ codes ")")
-    ∙ ap (λ l. l ++ (P ++ (R ++ codes ")"))) b_is ∙ append_assoc a (codes "proc(") (P ++ (R ++ codes ")"))
-    ∙ ap (λ l. a ++ l) (sym text_is)
-closes (Err fault) a b c d z text P R b_is c_is d_is text_is z_is = z_is
+-- what is put behind what was put before is put behind what stood there at first
+pub behind : {E : Type 0} (r : Result (Unit {0}) E)
+    (old before after text : List ℕ) {rest here : List ℕ}
+    → before ++ rest ≡ old ++ text → rest ≡ here → OnOk r (after ≡ before ++ here) → OnOk r (after ≡ old ++ text)
+behind (Ok done) old before after text so is put = put ∙ ap (λ l. before ++ l) (sym is) ∙ so
+behind (Err fault) old before after text so is put = put
+
+pub given : (gives : Ty) {E : Type 0} (r : Result (Unit {0}) E) (old after : List ℕ) {before : List ℕ}
+    → (gives ≡ code.Void → ⊥) → before ≡ old ++ codes "->" → OnOk r (after ≡ before ++ type_text (ty_view gives))
+    → OnOk r (after ≡ old ++ result_text (ty_view gives) (type_text (ty_view gives)))
+given code.Void r old after not_void arrow put = absurd (not_void refl)
+given gives (Ok done) old after not_void arrow put =
+    put ∙ ap (λ l. l ++ type_text (ty_view gives)) arrow ∙ append_assoc old (codes "->") (type_text (ty_view gives))
+given gives (Err fault) old after not_void arrow put = put
 
 abbrev semicolon_behind : List Field → List ℕ
 semicolon_behind [] = []

@@ -1,7 +1,13 @@
 -- Lists of types are the same where they have as many types, and the same ones at each place.
-use Rattle.std.proofs.Common.{◌≡◌, ℕ, zero, suc, ◌+◌, ◌<◌, Bool, false, List, [], ◌∷◌, length, take, slice_index_or, IsTrue, refl, sym, ap, ◌∙◌, arith}
+use Rattle.std.proofs.Common.{◌≡◌, ℕ, zero, suc, ◌+◌, ◌<◌, Bool, false, List, [], ◌∷◌, length, take, slice_index_or, IsTrue, refl, sym, ap, ◌∙◌, subst, arith}
 use Rattle.std.proofs.lemmas.List.{take_more}
-use Rattle.ps_base.specs.declared.ty.Ty.{Ty}
+use Rattle.std.specs.declared.alloc.Global.{Global}
+use Rattle.std.specs.declared.rc.Rc.{Rc}
+use Rattle.ps_base.specs.declared.ty.Ty.{Ty, Ty-F, out-Ty, roll-Ty, roll-out-Ty}
+use Rattle.ps_base.specs.declared.ty.Ty.TheOpen as parts_of
+use Rattle.ps_base.specs.declared.ty.Ty.TheVariants as code
+use Rattle.ps_base.specs.declared.ty.Ty.TheVariants.{rolls-Int, rolls-Bool, rolls-Str, rolls-Pntr, rolls-Void, rolls-Vector, rolls-Proc}
+use Rattle.ps_base.specs.declared.ty.Signature.{Signature}
 use Rattle.ps_base.specs.TyView.{TyView, TyViews, none, more, and_type, ty_view, ty_views}
 use Rattle.ps_base.specs.TyView as ty
 use Rattle.ps_base.proofs.TyLemmas.{ty_views-append}
@@ -9,20 +15,40 @@ use Rattle.ps_base.proofs.TyLemmas.{ty_views-append}
 pub never : IsTrue false → ⊥
 never h = cc
 
-abbrev parameters_of : TyView → TyViews
-parameters_of (ty.Proc ps g) = ps
-parameters_of _ = none
+-- a type of which a variant is seen is of that variant
+abbrev pub IsOf : TyView → Ty → Type 0
+IsOf ty.Int t = t ≡ code.Int
+IsOf ty.Bool t = t ≡ code.Bool
+IsOf ty.Str t = t ≡ code.Str
+IsOf ty.Pntr t = t ≡ code.Pntr
+IsOf ty.Void t = t ≡ code.Void
+IsOf (ty.Vector element) t = (x : Rc Ty Global) × (t ≡ code.Vector x)
+IsOf (ty.Proc parameters gives) t = (x : Rc Signature Global) × (t ≡ code.Proc x)
 
-abbrev given_by : TyView → TyView
-given_by (ty.Proc ps g) = g
-given_by t = t
+of_made : (t made : Ty) → t ≡ made → IsOf (ty_view made) made → IsOf (ty_view t) t
+of_made t made is of = subst (λ (u : Ty). IsOf (ty_view u) u) (sym is) of
 
-pub procedures_same : {a b : TyView} {ps qs : TyViews} {g h : TyView} {r : Bool} → a ≡ ty.Proc ps g → b ≡ ty.Proc qs h → ps ≡ qs → (IsTrue r → g ≡ h) × (g ≡ h → IsTrue r) → (IsTrue r → a ≡ b) × (a ≡ b → IsTrue r)
-procedures_same {qs = qs} {g = g} a_is b_is same given =
-    (λ yes. a_is ∙ ap (λ l. ty.Proc l g) same ∙ ap (ty.Proc qs) (given.0 yes) ∙ sym b_is, λ e. given.1 (ap given_by (sym a_is ∙ e ∙ b_is)))
+of_parts : (parts : Ty-F Ty Signature) → IsOf (ty_view (roll-Ty parts)) (roll-Ty parts)
+of_parts parts_of.Int = of_made _ code.Int rolls-Int refl
+of_parts parts_of.Bool = of_made _ code.Bool rolls-Bool refl
+of_parts parts_of.Str = of_made _ code.Str rolls-Str refl
+of_parts parts_of.Pntr = of_made _ code.Pntr rolls-Pntr refl
+of_parts parts_of.Void = of_made _ code.Void rolls-Void refl
+of_parts (parts_of.Vector x) = of_made _ (code.Vector x) (rolls-Vector x) (x, refl)
+of_parts (parts_of.Proc x) = of_made _ (code.Proc x) (rolls-Proc x) (x, refl)
 
-pub procedures_differ : {a b : TyView} {ps qs : TyViews} {g h : TyView} {r : Bool} → a ≡ ty.Proc ps g → b ≡ ty.Proc qs h → (IsTrue r → ps ≡ qs) × (ps ≡ qs → IsTrue r) → (IsTrue r → ⊥) → (IsTrue r → a ≡ b) × (a ≡ b → IsTrue r)
-procedures_differ a_is b_is same false_ = (λ yes. absurd (false_ yes), λ e. same.1 (ap parameters_of (sym a_is ∙ e ∙ b_is)))
+is_of_seen : (t : Ty) → IsOf (ty_view t) t
+is_of_seen t = subst (λ (u : Ty). IsOf (ty_view u) u) (roll-out-Ty t) (of_parts (out-Ty t))
+
+-- what is told of what is left of two types is told of the types
+pub as_left : {r : Bool} {x y a b : TyView} → (x ≡ y → a ≡ b) × (a ≡ b → x ≡ y) → (IsTrue r → x ≡ y) × (x ≡ y → IsTrue r)
+    → (IsTrue r → a ≡ b) × (a ≡ b → IsTrue r)
+as_left so told = (λ yes. so.0 (told.0 yes), λ e. told.1 (so.1 e))
+
+pub differ : {a b seen left : TyView} (right : Ty) → (left ≡ ty_view right → a ≡ b) × (a ≡ b → left ≡ ty_view right) → left ≡ seen → (IsOf seen right → ⊥)
+    → (IsTrue false → a ≡ b) × (a ≡ b → IsTrue false)
+differ right so is other =
+    as_left so (λ yes. absurd (never yes), λ e. absurd (other (subst (λ (v : TyView). IsOf v right) (sym e ∙ is) (is_of_seen right))))
 
 abbrev count_of : TyViews → ℕ
 count_of none = 0

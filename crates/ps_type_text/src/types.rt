@@ -2,12 +2,14 @@ ghost use Rattle.std.specs.Prelude.{◌≡◌, ◌++◌, IfOk, OnOk};
 ghost use Rattle.ps_base.specs.TyView.{ty_view, ty_views};
 ghost use Rattle.ps_type_text.specs.Texts.{type_text, result_text, parameters_text};
 ghost use Rattle.ps_type_text.specs.inside.Putting.{comma_at};
+ghost use Rattle.ps_type_text.specs.inside.Procedures.{procedure_view};
 
 use ps_base::bytes::Bytes;
-use ps_base::ty::Ty;
+use ps_base::ty::{Signature, Ty};
 use std::alloc::{AllocError, Global};
 
-/// The canonical text of a type (`docs/formats.md`). The recursion is as deep as types stand inside one another.
+/// The canonical text of a type (`docs/formats.md`). The recursion is as deep as procedures' types
+/// stand inside one another.
 pub fn type_text(alloc: Global, ty: &Ty) -> Result<Bytes, AllocError>
     ensures { IfOk result (λ made. made ≡ type_text (ty_view ty.now)) }
 {
@@ -16,28 +18,37 @@ pub fn type_text(alloc: Global, ty: &Ty) -> Result<Bytes, AllocError>
     Ok(Bytes::new(made))
 }
 
-/// Puts the text of a type behind some bytes.
+/// Puts the text of a type behind some bytes. Vectors of vectors have no limit, so their elements
+/// are reached by a loop.
 #[cycle(putting)]
 pub(crate) fn put_type(ty: &Ty, into: &mut Vec<u8>) -> Result<(), AllocError>
     ensures { OnOk result (into.new.items ≡ into.old.items ++ type_text (ty_view ty.now)) }
 {
-    match ty {
-        Ty::Int => into.extend_from_slice(b"int"),
-        Ty::Bool => into.extend_from_slice(b"bool"),
-        Ty::Str => into.extend_from_slice(b"string"),
-        Ty::Pntr => into.extend_from_slice(b"pntr"),
-        Ty::Void => into.extend_from_slice(b"void"),
-        Ty::Vector(element) => {
-            into.extend_from_slice(b"*")?;
-            put_type(element, into)
-        }
-        Ty::Proc(parameters, gives) => {
-            into.extend_from_slice(b"proc(")?;
-            put_parameters(parameters.as_slice(), into)?;
-            put_result(gives, into)?;
-            into.extend_from_slice(b")")
+    let mut rest = ty;
+    loop {
+        match rest {
+            Ty::Int => return into.extend_from_slice(b"int"),
+            Ty::Bool => return into.extend_from_slice(b"bool"),
+            Ty::Str => return into.extend_from_slice(b"string"),
+            Ty::Pntr => return into.extend_from_slice(b"pntr"),
+            Ty::Void => return into.extend_from_slice(b"void"),
+            Ty::Vector(element) => {
+                into.extend_from_slice(b"*")?;
+                rest = element;
+            }
+            Ty::Proc(signature) => return put_procedure(signature, into),
         }
     }
+}
+
+#[cycle(putting)]
+fn put_procedure(signature: &Signature, into: &mut Vec<u8>) -> Result<(), AllocError>
+    ensures { OnOk result (into.new.items ≡ into.old.items ++ type_text (procedure_view signature.now)) }
+{
+    into.extend_from_slice(b"proc(")?;
+    put_parameters(signature.parameters.as_slice(), into)?;
+    put_result(&signature.gives, into)?;
+    into.extend_from_slice(b")")
 }
 
 #[cycle(putting)]
