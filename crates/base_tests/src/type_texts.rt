@@ -47,6 +47,27 @@ fn types_have_their_texts(rt: HostRuntime) -> Result<(), Fail> {
     Ok(())
 }
 
+// A vector of vectors, so many levels deep.
+fn nested(alloc: Global, levels: u32) -> Result<Ty, Fail> {
+    let mut ty = Ty::Int;
+    for _ in 0..levels {
+        ty = vector_of(alloc, ty)?;
+    }
+    Ok(ty)
+}
+
+#[test]
+fn vectors_of_vectors_have_no_limit(rt: HostRuntime) -> Result<(), Fail> {
+    let levels = 200000;
+    let ty = nested(rt.alloc(), levels)?;
+    let text = type_text(rt.alloc(), &ty)?;
+    assert!(rt; text.as_slice().ends_with(b"**int"));
+    assert_eq!(rt; text.as_slice().len(), 200003);
+    assert!(rt; same_type(&ty, &nested(rt.alloc(), levels)?));
+    assert!(rt; !same_type(&ty, &nested(rt.alloc(), levels - 1)?));
+    Ok(())
+}
+
 #[test]
 fn classes_have_their_texts(rt: HostRuntime) -> Result<(), Fail> {
     let alloc = rt.alloc();

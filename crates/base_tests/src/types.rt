@@ -8,13 +8,15 @@ fn is_as_made(ty: &Ty) -> bool {
     let Ty::Vector(element) = ty else {
         return false;
     };
-    let Ty::Proc(parameters, gives) = &**element else {
+    let Ty::Proc(signature) = &**element else {
         return false;
     };
-    let [Ty::Int, Ty::Vector(bools)] = parameters.as_slice() else {
+    let [number, Ty::Vector(bools)] = signature.parameters.as_slice() else {
         return false;
     };
-    matches!(**bools, Ty::Bool) && matches!(**gives, Ty::Pntr)
+    matches!(number, Ty::Int)
+        && matches!(&**bools, Ty::Bool)
+        && matches!(&signature.gives, Ty::Pntr)
 }
 
 #[test]
@@ -23,7 +25,7 @@ fn types_are_copied(rt: HostRuntime) -> Result<(), Fail> {
     parameters.push(Ty::Int)?;
     parameters.push(vector_of(rt.alloc(), Ty::Bool)?)?;
     let made = vector_of(rt.alloc(), procedure_of(rt.alloc(), parameters, Ty::Pntr)?)?;
-    let copy = made.copy(rt.alloc())?;
+    let copy = made.copy()?;
     for ty in [&made, &copy] {
         assert!(rt; is_as_made(ty));
     }

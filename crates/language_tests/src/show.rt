@@ -236,11 +236,11 @@ fn show_type(out: &mut Writing, ty: &Ty, depth: u32) {
             out.put("*");
             show_type(out, element, depth - 1);
         }
-        Ty::Proc(parameters, gives) => {
+        Ty::Proc(signature) => {
             out.put("proc(");
-            show_types(out, parameters.as_slice(), depth - 1);
+            show_types(out, signature.parameters.as_slice(), depth - 1);
             out.put("->");
-            show_type(out, gives, depth - 1);
+            show_type(out, &signature.gives, depth - 1);
             out.put(")");
         }
     }

@@ -28,7 +28,14 @@ pub(crate) fn put_type<'a>(
         Ty::Pntr => pending.put(&[Piece::Word(gap, word::PNTR)]),
         Ty::Void => Ok(()),
         Ty::Vector(element) => put_vector_type(pending, gap, element),
-        Ty::Proc(parameters, gives) => put_proc_type(pending, gap, parameters.as_slice(), gives),
+        Ty::Proc(signature) => {
+            put_proc_type(
+                pending,
+                gap,
+                signature.parameters.as_slice(),
+                &signature.gives,
+            )
+        }
     }
 }
 
