@@ -3,3 +3,4 @@ pub mod NodeView
 pub mod Parts
 pub mod Slots
 pub mod inside
+pub mod Assigning

@@ -1,4 +1,5 @@
-ghost use Rattle.std.specs.Prelude.{◌≡◌, IfOk};
+ghost use Rattle.std.specs.Prelude.{◌≡◌, option_map, IfOk};
+ghost use Rattle.ps_program.specs.Assigning.{assignment};
 ghost use Rattle.ps_program.specs.NodeView.{node_of_form, node_of};
 
 use crate::body::Body;
@@ -249,6 +250,44 @@ impl Tree {
     {
         let Tree { form } = self;
         Box::into_inner(form)
+    }
+}
+
+impl TreeForm {
+    /// The assignment of a value to what the clause is: a variable, an element or a field. There is none to anything else, and
+    /// then both are let go.
+    pub fn assigned(self, value: Tree) -> Option<TreeForm>
+        ensures { option_map node_of_form result ≡ assignment (node_of_form self) (node_of value) }
+    {
+        match self {
+            TreeForm::Name { place, ty } => Some(TreeForm::SetName {
+                place,
+                ty,
+                e: value,
+            }),
+            TreeForm::Element { v, i, ty, line } => Some(TreeForm::SetElement {
+                v,
+                i,
+                e: value,
+                ty,
+                line,
+            }),
+            TreeForm::Field {
+                e,
+                class,
+                index,
+                ty,
+                line,
+            } => Some(TreeForm::SetField {
+                p: e,
+                class,
+                index,
+                ty,
+                e: value,
+                line,
+            }),
+            _ => None,
+        }
     }
 }
 

@@ -1,3 +1,3 @@
 mod Rows
 mod PlacedRows
-mod SameTypes
+pub mod SameTypes

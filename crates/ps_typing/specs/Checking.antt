@@ -9,6 +9,7 @@ use Rattle.ps_base.specs.declared.operator.Relation.TheVariants.{Equal, NotEqual
 use Rattle.ps_tree.specs.Phrase.{NameAt, GroupAt, Phrase, at, Form, Phrases, none, more, MaybePhrase, absent, present, Arm, arm, Arms, no_arms, more_arms, WriteItem, item, WriteItems, no_items, more_items}
 use Rattle.ps_tree.specs.Phrase as form
 use Rattle.ps_program.specs.declared.place.Place.TheVariants.{Plain}
+use Rattle.ps_program.specs.Assigning.{assignment}
 use Rattle.ps_program.specs.Node.{Param, Node, Nodes, body}
 use Rattle.ps_program.specs.Node as node
 use Rattle.ps_type_text.specs.Texts.{Field, class_text}
@@ -29,6 +30,11 @@ unfoldable pub ◌>>=◌ : {A B : Type 0} → Outcome A → (A → TyView → Na
 
 abbrev pub line_of : Phrase → Line
 line_of (at form line) = line
+
+-- the name that a clause is
+abbrev pub name_in : Phrase → Option (List ℕ)
+name_in (at (form.Name name) line) = Some name
+name_in _ = None
 
 -- whether two types are the same
 abbrev mutual
@@ -147,23 +153,24 @@ abbrev pub is_variable : Option Meaning → Bool
 is_variable (Some (local number ty variable)) = variable
 is_variable _ = false
 
-abbrev pub can_be_assigned : Names → Phrase → Bool
-can_be_assigned names (at (form.Name name) line) = is_variable (meant names name)
-can_be_assigned names _ = true
+abbrev pub named_can_be_assigned : Names → Option (List ℕ) → Bool
+named_can_be_assigned names (Some name) = is_variable (meant names name)
+named_can_be_assigned names None = true
 
-abbrev pub assignment : Node → Node → Option Node
-assignment (node.Name place ty) e = Some (node.SetName place ty e)
-assignment (node.Element v i ty line) e = Some (node.SetElement v i e ty line)
-assignment (node.Field p of index ty line) e = Some (node.SetField p of index ty e line)
-assignment _ e = None
+abbrev pub can_be_assigned : Names → Phrase → Bool
+can_be_assigned names x = named_can_be_assigned names (name_in x)
 
 unfoldable pub assigned : Line → Line → Bool → Option Node → TyView → TyView → Names → Outcome Node
 assigned line e_line true (Some tree) wanted found names = if is_same found wanted then Gives tree types.Void names else Refuses (Mismatch e_line found wanted)
 assigned line e_line _ _ wanted found names = Refuses (NotAssignable line)
 
 -- an argument that names a field
+abbrev pub named_on : Option (List ℕ) → Line → Option NameAt
+named_on (Some name) line = Some (record { name = name; line = line })
+named_on None line = None
+
 abbrev pub field_name : Phrases → Option NameAt
-field_name (more (at (form.Name name) line) none) = Some (record { name = name; line = line })
+field_name (more only none) = named_on (name_in only) (line_of only)
 field_name _ = None
 
 -- `p(f)`
@@ -244,6 +251,11 @@ name_applied names line name_line (Some (library (plain code params gives))) phr
 name_applied names line name_line (Some (library (scan text))) phrases args = scan_applied names line text args
 name_applied names line name_line (Some (local number t variable)) phrases args = value_applied names line (node.Name (Plain number) t) t phrases args
 name_applied names line name_line None phrases args = Refuses (Unknown name_line)
+
+-- an application of a name, or of another clause
+abbrev pub applied : Names → Line → Line → Option (List ℕ) → Outcome Node → Phrases → List Checker → Outcome Node
+applied names line name_line (Some name) f phrases args = name_applied names line name_line (meant names name) phrases args
+applied names line name_line None f phrases args = f >>= λ f t names. value_applied names line f t phrases args
 
 -- a procedure: its clause, on this line, is checked inside the block of its parameters
 abbrev pub literal : Names → Line → List GroupAt → TyView → Line → (Names → Outcome Node) → Outcome Node
@@ -353,8 +365,7 @@ abbrev mutual
   check_form names line (form.Bound upper e) =
       passes is_vector (types.Vector types.Int) (line_of e) (check names e) >>= λ e t names. Gives (node.Bound e upper) types.Int names
   -- applications: the head before the arguments
-  check_form names line (form.Apply (at (form.Name name) name_line) args) = name_applied names line name_line (meant names name) args (checkers args)
-  check_form names line (form.Apply f args) = check names f >>= λ f t names. value_applied names line f t args (checkers args)
+  check_form names line (form.Apply f args) = applied names line (line_of f) (name_in f) (check names f) args (checkers args)
   check_form names line (form.Part s i n) =
       wants types.Str (line_of s) (check names s) >>= λ s t names.
       wants types.Int (line_of i) (check names i) >>= λ i t names.

@@ -1,0 +1,187 @@
+-- The measures of the check, and its loops.
+use Rattle.std.proofs.Common.{◌≡◌, ◌≤◌, ◌+◌, ◌*◌, drop, length, Some}
+use Rattle.ps_base.specs.TyView.{Void, ty_view, ty_views}
+use Rattle.ps_program.specs.NodeView.{node_of, nodes_in}
+use Rattle.ps_program.specs.inside.PartsView.{arms_in}
+use Rattle.ps_tree.specs.Phrase.{phrase_of, item_of, arm_of}
+use Rattle.ps_tree.specs.PhraseLists.{phrases_in, items_in, arms_in as rough_arms_in, maybe_in}
+use Rattle.ps_tree.specs.declared.rough.RoughRange.{out-RoughRange}
+use Rattle.ps_scope.specs.Content.{names_of}
+use Rattle.ps_typing.specs.Checking.{Gives, check_all, check_written, check_each, check_args, check_arms, checkers, elements}
+use Rattle.ps_check.specs.inside.Links.{check_links}
+use Rattle.ps_check.specs.inside.Weights.{weight, weight_all, weight_if_any, weight_arms, weight_arm, weight_written, weight_item, weight_link, weight_links}
+use Rattle.ps_check.specs.inside.Views.{maybe_lent}
+use Rattle.ps_check.proofs.After.{after, after_nodes, after_arms}
+use Rattle.ps_check.proofs.checker.Checker.+clause.Given as goal
+
+abbrev pub decreases-clause : goal.decreases-clause
+decreases-clause l = 16 * weight (phrase_of l.rough.now)
+
+abbrev pub decreases-operand : goal.decreases-operand
+decreases-operand l = 16 * weight (phrase_of l.rough.now) + 1
+
+abbrev pub decreases-tested : goal.decreases-tested
+decreases-tested l = 16 * weight (phrase_of l.rough.now) + 1
+
+abbrev pub decreases-if_any : goal.decreases-if_any
+decreases-if_any l = 16 * weight_if_any (maybe_lent l.rough) + 2
+
+abbrev pub decreases-like : goal.decreases-like
+decreases-like l = 16 * weight (phrase_of l.rough.now) + 2
+
+abbrev pub decreases-prefixed : goal.decreases-prefixed
+decreases-prefixed l = 16 * weight (phrase_of l.e.now) + 3
+
+abbrev pub decreases-compare : goal.decreases-compare
+decreases-compare l = 16 * (weight (phrase_of l.a.now) + weight (phrase_of l.b.now)) + 3
+
+abbrev pub decreases-is_of : goal.decreases-is_of
+decreases-is_of l = 16 * weight (phrase_of l.e.now) + 3
+
+abbrev pub decreases-bound : goal.decreases-bound
+decreases-bound l = 16 * weight (phrase_of l.e.now) + 3
+
+abbrev pub decreases-guarded : goal.decreases-guarded
+decreases-guarded l = 16 * (weight (phrase_of l.c.now) + weight (phrase_of l.a.now)) + 3
+
+abbrev pub decreases-if_else : goal.decreases-if_else
+decreases-if_else l = 16 * (weight (phrase_of l.c.now) + weight (phrase_of l.a.now) + weight (phrase_of l.b.now)) + 3
+
+abbrev pub decreases-case_of : goal.decreases-case_of
+decreases-case_of l = 16 * (weight (phrase_of l.e.now) + weight_arms (rough_arms_in l.arms.now) + weight (phrase_of l.d.now)) + 7
+
+abbrev pub decreases-arms : goal.decreases-arms
+decreases-arms l = 16 * weight_arms (rough_arms_in l.arms.now) + 6
+
+abbrev pub decreases-more_arms : goal.decreases-more_arms
+decreases-more_arms l = 16 * weight_arms (rough_arms_in l.arms.now) + 5
+
+abbrev pub decreases-arm : goal.decreases-arm
+decreases-arm l = 16 * weight_arm (arm_of l.arm.now) + 4
+
+abbrev pub decreases-each : goal.decreases-each
+decreases-each l = 16 * weight_all (phrases_in l.clauses.now) + 3
+
+abbrev pub decreases-repeat : goal.decreases-repeat
+decreases-repeat l = 16 * (weight (phrase_of l.a.now) + weight (phrase_of l.c.now) + weight_if_any (maybe_lent l.b)) + 3
+
+abbrev pub decreases-counted : goal.decreases-counted
+decreases-counted l = let range = out-RoughRange l.range.now in 16 * (weight (phrase_of range.a) + weight (phrase_of range.b) + weight_if_any (maybe_in range.c) + weight (phrase_of l.s.now)) + 3
+
+abbrev pub decreases-sequence : goal.decreases-sequence
+decreases-sequence l = 16 * weight_all (phrases_in l.items.now) + 5
+
+abbrev pub decreases-items : goal.decreases-items
+decreases-items l = 16 * weight_all (phrases_in l.items.now) + 4
+
+abbrev pub decreases-item : goal.decreases-item
+decreases-item l = 16 * weight (phrase_of l.item.now) + 2
+
+abbrev pub decreases-write : goal.decreases-write
+decreases-write l = 16 * weight_written (items_in l.items.now) + 5
+
+abbrev pub decreases-written : goal.decreases-written
+decreases-written l = 16 * weight_written (items_in l.items.now) + 4
+
+abbrev pub decreases-written_item : goal.decreases-written_item
+decreases-written_item l = 16 * weight_item (item_of l.item.now) + 3
+
+abbrev pub decreases-filled : goal.decreases-filled
+decreases-filled l = 16 * (weight (phrase_of l.l.now) + weight (phrase_of l.u.now) + weight (phrase_of l.e.now)) + 3
+
+abbrev pub decreases-elements : goal.decreases-elements
+decreases-elements l = 16 * (weight (phrase_of l.l.now) + weight_all (phrases_in l.items.now)) + 4
+
+abbrev pub decreases-declaration : goal.decreases-declaration
+decreases-declaration l = 16 * weight (phrase_of l.e.now) + 5
+
+abbrev pub decreases-initial : goal.decreases-initial
+decreases-initial l = 16 * weight (phrase_of l.e.now) + 3
+
+abbrev pub decreases-named_literal : goal.decreases-named_literal
+decreases-named_literal l = 16 * weight (phrase_of l.literal.s.now) + 4
+
+abbrev pub decreases-literal : goal.decreases-literal
+decreases-literal l = 16 * weight (phrase_of l.literal.s.now) + 3
+
+abbrev pub decreases-assign : goal.decreases-assign
+decreases-assign l = 16 * (weight (phrase_of l.x.now) + weight (phrase_of l.e.now)) + 3
+
+abbrev pub decreases-application : goal.decreases-application
+decreases-application l = 16 * (weight (phrase_of l.f.now) + weight_all (phrases_in l.args.now)) + 12
+
+abbrev pub decreases-name_applied : goal.decreases-name_applied
+decreases-name_applied l = 16 * weight_all (phrases_in l.args.now) + 10
+
+abbrev pub decreases-library : goal.decreases-library
+decreases-library l = 16 * weight_all (phrases_in l.args.now) + 9
+
+abbrev pub decreases-apply : goal.decreases-apply
+decreases-apply l = 16 * weight_all (phrases_in l.args.now) + 8
+
+abbrev pub decreases-called : goal.decreases-called
+decreases-called l = 16 * weight_all (phrases_in l.args.now) + 7
+
+abbrev pub decreases-with_args : goal.decreases-with_args
+decreases-with_args l = 16 * weight_all (phrases_in l.args.now) + 6
+
+abbrev pub decreases-arguments : goal.decreases-arguments
+decreases-arguments l = 16 * weight_all (phrases_in l.args.now) + 5
+
+abbrev pub decreases-subscripted : goal.decreases-subscripted
+decreases-subscripted l = 16 * weight_all (phrases_in l.args.now) + 6
+
+abbrev pub decreases-subscripts : goal.decreases-subscripts
+decreases-subscripts l = 16 * weight_all (phrases_in l.args.now) + 5
+
+abbrev pub decreases-subscript : goal.decreases-subscript
+decreases-subscript l = 16 * weight (phrase_of l.i.now) + 3
+
+abbrev pub decreases-scan : goal.decreases-scan
+decreases-scan l = 16 * weight_all (phrases_in l.args.now) + 6
+
+abbrev pub decreases-chain : goal.decreases-chain
+decreases-chain l = 16 * (weight (phrase_of l.left.now) + weight_link l.last) + 11
+
+abbrev pub decreases-link : goal.decreases-link
+decreases-link l = 16 * weight_link l.link + 9
+
+abbrev pub decreases-joined : goal.decreases-joined
+decreases-joined l = 16 * weight (phrase_of l.right.now) + 3
+
+abbrev pub decreases-parted : goal.decreases-parted
+decreases-parted l = 16 * (weight (phrase_of l.i.now) + weight (phrase_of l.n.now)) + 3
+
+-- the links that are left, behind the part of the chain that is checked, make the chain
+abbrev pub invariant-chain-loop-link : goal.invariant-chain-loop-link
+invariant-chain-loop-link l = record {
+  chain : check_links l.links.items (Gives (node_of l.chain.tree) (ty_view l.chain.ty) (names_of l.self.scope)) ≡ check_links l.initial.links.items (Gives (node_of l.initial.chain.tree) (ty_view l.initial.chain.ty) (names_of l.initial.self.scope));
+  lighter : weight_links l.links.items ≤ weight_links l.initial.links.items;
+}
+
+abbrev pub decreases-chain-loop-link : goal.decreases-chain-loop-link
+decreases-chain-loop-link l = length l.links.items
+
+-- the trees so far, and then those of the clauses that are left, are those of all
+abbrev pub invariant-items-loop-item : goal.invariant-items-loop-item
+invariant-items-loop-item l =
+    after (after_nodes l.trees.items) (check_all (names_of l.self.scope) l.line (ty_view l.before) (phrases_in (drop l.item-index l.items)))
+    ≡ check_all (names_of l.initial.self.scope) l.initial.line Void (phrases_in l.items)
+
+abbrev pub invariant-written-loop-item : goal.invariant-written-loop-item
+invariant-written-loop-item l = after (after_nodes l.trees.items) (check_written (names_of l.self.scope) (items_in (drop l.item-index l.items))) ≡ check_written (names_of l.initial.self.scope) (items_in l.items)
+
+abbrev pub invariant-each-loop-clause : goal.invariant-each-loop-clause
+invariant-each-loop-clause l = after (after_nodes l.trees.items) (check_each (names_of l.self.scope) (ty_view l.ty) (checkers (phrases_in (drop l.clause-index l.clauses)))) ≡ check_each (names_of l.initial.self.scope) (ty_view l.ty) (checkers (phrases_in l.clauses))
+
+abbrev pub invariant-arguments-loop : goal.invariant-arguments-loop
+invariant-arguments-loop l = after (after_nodes l.trees.items) (check_args (names_of l.self.scope) (ty_views (drop l.i l.types)) (checkers (phrases_in (drop l.i l.args)))) ≡ check_args (names_of l.initial.self.scope) (ty_views l.types) (checkers (phrases_in l.args))
+
+abbrev pub invariant-more_arms-loop-arm : goal.invariant-more_arms-loop-arm
+invariant-more_arms-loop-arm l = after (after_arms l.made.items) (check_arms (names_of l.self.scope) (ty_view l.ty) (Some (ty_view l.own)) (rough_arms_in (drop l.arm-index l.arms))) ≡ after (after_arms l.initial.made.items) (check_arms (names_of l.initial.self.scope) (ty_view l.ty) (Some (ty_view l.own)) (rough_arms_in l.arms))
+
+-- the subscripts that are left, behind those that are checked
+abbrev pub invariant-subscripts-loop-arg : goal.invariant-subscripts-loop-arg
+invariant-subscripts-loop-arg l =
+    elements (names_of l.self.scope) l.line (node_of l.v.tree) (ty_view l.v.ty) (checkers (phrases_in (drop l.arg-index l.args)))
+    ≡ elements (names_of l.initial.self.scope) l.line (node_of l.initial.v.tree) (ty_view l.initial.v.ty) (checkers (phrases_in l.args))

@@ -1,0 +1,71 @@
+-- What the functions of the check do for single forms.
+use Rattle.std.specs.Prelude.{ℕ, Bool, List, Some, None, if◌then◌else◌}
+use Rattle.ps_base.specs.TyView.{TyView}
+use Rattle.ps_base.specs.TyView as types
+use Rattle.ps_base.specs.declared.line.Line.{Line}
+use Rattle.ps_tree.specs.Phrase.{NameAt, Phrase}
+use Rattle.ps_program.specs.Node.{Node, Nodes}
+use Rattle.ps_program.specs.Node as node
+use Rattle.ps_program.specs.NodeView.{node_of}
+use Rattle.std.specs.Rc.{rc_value}
+use Rattle.ps_typing.specs.Names.{Names, Procedure, plain, scan}
+use Rattle.ps_typing.specs.Fault.{NotApplicable}
+use Rattle.ps_typing.specs.Checking.{Outcome, Gives, Refuses, ◌>>=◌, Checker, check, line_of, wants, passes, isnt_void, introduced, literal, named_literal, with_args, scan_applied}
+use Rattle.ps_check.specs.declared.applications.Head.{Head}
+use Rattle.ps_check.specs.declared.applications.Head.TheVariants as head
+use Rattle.ps_check.specs.declared.choices.Guard.{Guard}
+use Rattle.ps_check.specs.declared.choices.Guard.TheVariants as guard
+use Rattle.ps_check.specs.declared.operators.Prefix.{Prefix}
+use Rattle.ps_check.specs.declared.operators.Prefix.TheVariants as prefix
+use Rattle.ps_check.specs.inside.Looks.{LiteralAt}
+
+abbrev pub prefix_ty : Prefix → TyView
+prefix_ty prefix.Not = types.Bool
+prefix_ty prefix.Plus = types.Int
+prefix_ty (prefix.Neg line) = types.Int
+
+abbrev pub prefix_node : Prefix → Node → Node
+prefix_node prefix.Not e = node.Not e
+prefix_node prefix.Plus e = node.Plus e
+prefix_node (prefix.Neg line) e = node.Neg e line
+
+-- an operator with one operand
+abbrev pub check_prefixed : Prefix → Names → Phrase → Outcome Node
+check_prefixed op names e = wants (prefix_ty op) (line_of e) (check names e) >>= λ e t names. Gives (prefix_node op e) (prefix_ty op) names
+
+abbrev pub class_test : Bool → Node → List ℕ → Node
+class_test negated e class = if negated then node.Not (node.Is e class) else node.Is e class
+
+abbrev pub guard_node : Guard → Node → Node → Node
+guard_node guard.IfDo c a = node.IfDo c a
+guard_node guard.While c a = node.While c a
+
+-- a test and what it guards
+abbrev pub check_guarded : Guard → Names → Phrase → Phrase → Outcome Node
+check_guarded kind names c a =
+    wants types.Bool (line_of c) (check names c) >>= λ c t names.
+    wants types.Void (line_of a) (check names a) >>= λ a t names. Gives (guard_node kind c a) types.Void names
+
+-- a name that is declared behind its initial clause, which is no literal
+abbrev pub check_initial : Names → NameAt → Bool → Phrase → Outcome Node
+check_initial names name variable e = passes isnt_void types.Bool (line_of e) (check names e) >>= λ e t names. introduced name variable e t names
+
+abbrev pub check_literal : Names → LiteralAt → Outcome Node
+check_literal names l = literal names l.line l.params l.gives (line_of l.s) (λ own. check own l.s)
+
+abbrev pub check_named : Names → NameAt → Bool → LiteralAt → Outcome Node
+check_named names name variable l = named_literal names name variable l.line l.params l.gives (line_of l.s) (λ own. check own l.s)
+
+abbrev pub head_node : Head → Line → Nodes → Node
+head_node (head.Call f) line args = node.Call (node_of f) args line
+head_node (head.Make class) line args = node.Make (rc_value class) args
+head_node (head.Lib code) line args = node.Lib code args line
+
+-- one subscript
+abbrev pub check_element : Names → Line → Node → TyView → Phrase → Outcome Node
+check_element names line v (types.Vector element) i = wants types.Int (line_of i) (check names i) >>= λ i int names. Gives (node.Element v i element line) element names
+check_element names line v _ i = Refuses (NotApplicable line)
+
+abbrev pub check_library : Names → Line → Procedure → List Checker → Outcome Node
+check_library names line (plain code params gives) args = with_args names line params args (λ args. node.Lib code args line) gives
+check_library names line (scan text) args = scan_applied names line text args

@@ -1,0 +1,61 @@
+ghost use Rattle.std.specs.Prelude.{◌≡◌, option_map};
+ghost use Rattle.std.specs.Borrow.{Bor};
+ghost use Rattle.ps_base.specs.TyView.{ty_view};
+ghost use Rattle.ps_tree.specs.Phrase.{phrase_of, groups_in};
+ghost use Rattle.ps_typing.specs.Checking.{name_in as name_in_of};
+ghost use Rattle.ps_check.specs.inside.Looks.{literal_in as literal_in_of};
+ghost use Rattle.ps_check.specs.inside.Views.{literal_of};
+
+use ps_base::line::Line;
+use ps_base::ty::Ty;
+use ps_tree::rough::{Group, Rough, RoughForm};
+
+/// A procedure literal in the tree of a text.
+#[derive(Clone, Copy)]
+pub(crate) struct Literal<'a> {
+    pub(crate) params: &'a [Group],
+    pub(crate) gives: &'a Ty,
+    pub(crate) s: &'a Rough,
+    pub(crate) line: Line,
+}
+
+/// The name that a clause is, where it is one.
+pub(crate) fn name_in(rough: &Rough) -> Option<&[u8]>
+    ensures { option_map (λ (name : Bor _). name.now) result ≡ name_in_of (phrase_of rough.now) }
+{
+    match &*rough.form {
+        RoughForm::Name(name) => Some(name.as_slice()),
+        _ => None,
+    }
+}
+
+/// The procedure literal that a clause is, where it is one.
+pub(crate) fn literal_in(rough: &Rough) -> Option<Literal>
+    ensures { option_map literal_of result ≡ literal_in_of (phrase_of rough.now) }
+{
+    match &*rough.form {
+        RoughForm::Proc { params, gives, s } => {
+            Some(Literal::new(params.as_slice(), gives, s, rough.line))
+        }
+        _ => None,
+    }
+}
+
+impl<'a> Literal<'a> {
+    /// The literal of these parts.
+    pub(crate) fn new(
+        params: &'a [Group],
+        gives: &'a Ty,
+        s: &'a Rough,
+        line: Line,
+    ) -> Literal<'a>
+        ensures { literal_of result ≡ record { params = groups_in params.now; gives = ty_view gives.now; s = phrase_of s.now; line = line } }
+    {
+        Literal {
+            params,
+            gives,
+            s,
+            line,
+        }
+    }
+}
