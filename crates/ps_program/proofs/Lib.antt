@@ -1,1 +1,3 @@
 mod Rows
+pub mod NodeLists
+pub mod PartLemmas

@@ -4,4 +4,5 @@
 
 pub mod body;
 pub mod form;
+pub mod parts;
 pub mod place;
