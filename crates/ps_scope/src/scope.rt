@@ -1,8 +1,5 @@
-ghost use Rattle.std.specs.Prelude.{◌≡◌, reverse, map, option_map, IfOk};
+ghost use Rattle.std.specs.Prelude.{◌≡◌, IfOk};
 ghost use Rattle.std.specs.Borrow.{Bor};
-ghost use Rattle.ps_typing.specs.Names.{lookup, lookup_field};
-ghost use Rattle.ps_scope.specs.Views.{meaning_of, field_of};
-ghost use Rattle.ps_scope.specs.Content.{declared_of};
 
 use crate::declaration::{Declaration, bytes_of};
 use crate::field::Field;
