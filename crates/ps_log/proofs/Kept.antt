@@ -54,6 +54,7 @@ one_less link before old new kept replaces = record { found = λ name. by name (
     after = replaces (has_place (get_by (λ k. bytes_eq link.name k.items) old) here)
 
     by : (name : List ℕ) (b : Bool) → bytes_eq link.name name ≡ b → place_in new name ≡ last_in before name
-    by name true is = after name ∙ ap (λ (b : Bool). if b then link.hides else place_in old name) is ∙ kept.linked.0 ∙ ap (last_in before) ((bytes_decides link.name name).0 is)
+    by name true is = after name ∙ ap (λ (b : Bool). if b then link.hides else place_in old name) is
+        ∙ kept.linked.0 ∙ ap (last_in before) ((bytes_decides link.name name).0 is)
     by name false is = after name ∙ ap (λ (b : Bool). if b then link.hides else place_in old name) is ∙ kept.found name
         ∙ ap (λ (b : Bool). if b then Some (length before) else last_in before name) is

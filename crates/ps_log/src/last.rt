@@ -8,7 +8,8 @@ ghost use Rattle.ps_log.specs.inside.Kept.{place_in, Replaces, AreAlike};
 use indexmap::IndexMap;
 use std::alloc::AllocError;
 
-/// The place of each name that was put. A name whose entries were taken back may be left without a place.
+/// The place of each name that was put. A name whose entries were taken back is left without a
+/// place.
 pub(crate) type Last = IndexMap<Vec<u8>, Option<usize>>;
 
 /// The place of the name.
