@@ -6,3 +6,4 @@ pub mod Mentions
 pub mod Placing
 pub mod Placed
 pub mod Program
+pub mod WellTyped
