@@ -14,7 +14,7 @@ use Rattle.ps_type_text.specs.Texts.{Field, class_text}
 use Rattle.ps_typing.specs.Names.{plain, library}
 use Rattle.ps_typing.specs.Names as names
 use Rattle.ps_typing.specs.Library.{caller, procedures}
-use Rattle.ps_typing.specs.Checking.{is_comparable, is_equated, is_writable, is_vector, isnt_void}
+use Rattle.ps_typing.specs.Checking.{is_comparable, is_equated, is_writable, isnt_void}
 use Rattle.ps_typing.specs.Placing.{is_number}
 
 -- the item at this position is such

@@ -1,0 +1,7 @@
+pub mod Numbered
+pub mod ByCheck
+pub mod Covered
+pub mod Scopes
+pub mod RulePlaced
+pub mod ByPlacing
+pub mod OfProgram
