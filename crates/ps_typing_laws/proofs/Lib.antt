@@ -5,3 +5,5 @@ pub mod Scopes
 pub mod RulePlaced
 pub mod ByPlacing
 pub mod OfProgram
+mod Rows
+mod ItemRows
