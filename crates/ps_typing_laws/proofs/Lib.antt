@@ -7,3 +7,4 @@ pub mod ByPlacing
 pub mod OfProgram
 mod Rows
 mod ItemRows
+pub mod Tracked
