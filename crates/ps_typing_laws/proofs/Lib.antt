@@ -8,3 +8,4 @@ pub mod OfProgram
 mod Rows
 mod ItemRows
 pub mod Tracked
+pub mod SameCounts

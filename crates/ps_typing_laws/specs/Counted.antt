@@ -2,6 +2,7 @@
 use Rattle.std.specs.Prelude.{ℕ, ◌+◌, ◌<◌, ◌≤◌, Bool, true, false, List, [], ◌∷◌, ◌++◌, if◌then◌else◌}
 use Rattle.ps_base.specs.TyView.{TyView}
 use Rattle.ps_base.specs.TyView as types
+use Rattle.ps_base.specs.declared.line.Line.{Line}
 use Rattle.ps_program.specs.declared.place.Place.{Place}
 use Rattle.ps_program.specs.declared.place.Place.TheVariants.{Plain, Kept}
 use Rattle.ps_program.specs.Node.{Param, Node, BodyNode, body}
@@ -9,6 +10,7 @@ use Rattle.ps_program.specs.Node as node
 use Rattle.ps_program.specs.Parts.{Part, operand, label, branch, literal, fold}
 use Rattle.ps_program.specs.Slots.{sum_of, depth, slot_count}
 use Rattle.ps_typing.specs.Placing.{is_number}
+use Rattle.ps_typing.specs.Program.{line_of_body}
 
 -- each item is such
 abbrev pub Each : {A : Type 0} → (A → Type 0) → List A → Type 0
@@ -93,3 +95,7 @@ depth_of_body (body params gives tree scope line) = depth tree
 pub record IsCounted (of : BodyNode) : Type 0 where
   pub slots : Each (λ (s : Slot). s.slot < locals_on s.is_number of) (slots_of_body of)
   pub room : locals_on true of + locals_on false of + depth_of_body of ≤ slot_count of
+
+-- what the test of slot counts reads of a body
+abbrev pub measure : BodyNode → Line × ℕ
+measure of = (line_of_body of, slot_count of)

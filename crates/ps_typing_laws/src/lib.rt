@@ -3,4 +3,4 @@
 
 mod laws;
 
-pub use laws::{slots_are_counted, typed_program_is_well_typed};
+pub use laws::{placing_keeps_slot_counts, slots_are_counted, typed_program_is_well_typed};
