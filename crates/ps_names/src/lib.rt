@@ -1,0 +1,6 @@
+//! Where the names of a typed program are kept: in a local of their frame, or in a scope, where a procedure inside mentions
+//! them.
+#![tactic(auto)]
+
+mod survey;
+mod table;
