@@ -2,5 +2,9 @@
 //! them.
 #![tactic(auto)]
 
+mod placer;
+mod placing;
 mod survey;
 mod table;
+
+pub use placing::place;
