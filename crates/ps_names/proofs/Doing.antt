@@ -5,7 +5,13 @@ use Rattle.std.proofs.lemmas.List.{take_more, take_more_set, map-append, drop-se
 use Rattle.ps_base.specs.TyView.{ty_view}
 use Rattle.ps_program.specs.declared.body.Param.{Param as ParamOf}
 use Rattle.ps_program.specs.declared.form.Tree.{Tree}
-use Rattle.ps_program.specs.declared.form.Arm.{Arm as ArmOf}
+use Rattle.ps_base.specs.List.{items_of}
+use Rattle.ps_base.specs.declared.list.List.{List as ListOf}
+use Rattle.ps_program.specs.declared.body.Body.{Body}
+use Rattle.ps_program.specs.declared.form.Loop.{Loop}
+use Rattle.ps_program.specs.declared.form.TreeForm.{TreeForm}
+use Rattle.ps_program.specs.declared.form.Arm.{Arm as ArmOf, Arm-F, out-Arm, roll-Arm, out-roll-Arm}
+use Rattle.ps_program.proofs.NodeLists.{arm_of-parts}
 use Rattle.ps_program.specs.Node.{Param, Node, Nodes, none, more, Arm, arm, Arms, no_arms, more_arms}
 use Rattle.ps_program.specs.NodeView.{node_of, nodes_in, arm_of, param_of, params_of}
 use Rattle.ps_program.specs.inside.PartsView.{arms_in}
@@ -17,7 +23,7 @@ use Rattle.ps_names.specs.declared.placer.Placer.{Placer}
 use Rattle.ps_names.specs.inside.Standing.{Stands, Does}
 use Rattle.ps_names.specs.inside.Clauses.{placed_arm, placed_params}
 
-abbrev Made : Type 0
+abbrev pub Made : Type 0
 Made = Result (Unit {0}) AllocError
 
 -- the same, said otherwise
@@ -141,3 +147,14 @@ param_placed list before i now read place around locals below same rest now_is r
     ∙ ap (λ ps. ps ++ param_of made ∷ []) done ∙ ap (λ p. placed_params around locals (params_of (take i before)) ++ p ∷ []) one
     ∙ sym (map-append (λ (p : Param). record p { place = place_of around locals p.place }) (params_of (take i before)) (param_of item ∷ []))
     ∙ ap (placed_params around locals) (sym (map-append param_of (take i before) (item ∷ []))) ∙ ap (λ ps. placed_params around locals (params_of ps)) (sym (take_more before i now (omega (arith, same))))
+
+-- an arm with what was made of its labels and its clause
+pub arm_made : (labels : ListOf Tree) (old a : Tree) → arm_of (roll-Arm (record { labels = (out-Arm (roll-Arm (record { labels = labels; a = old }))).labels; a = a })) ≡ arm (nodes_in (items_of labels)) (node_of a)
+arm_made labels old a =
+    let inner : Arm-F TreeForm Body ArmOf Loop Tree = record { labels = labels; a = old } in
+    let whole : Arm-F TreeForm Body ArmOf Loop Tree = record { labels = (out-Arm (roll-Arm inner)).labels; a = a } in
+    arm_of-parts (roll-Arm whole) ∙ ap (λ (r : Arm-F TreeForm Body ArmOf Loop Tree). arm (nodes_in (items_of r.labels)) (node_of r.a)) (out-roll-Arm whole)
+    ∙ ap (λ (r : Arm-F TreeForm Body ArmOf Loop Tree). arm (nodes_in (items_of r.labels)) (node_of a)) (out-roll-Arm inner)
+
+pub arm_kept : (labels : ListOf Tree) (old : Tree) → (out-Arm (roll-Arm (record { labels = labels; a = old }))).a ≡ old
+arm_kept labels old = let inner : Arm-F TreeForm Body ArmOf Loop Tree = record { labels = labels; a = old } in ap (λ (r : Arm-F TreeForm Body ArmOf Loop Tree). r.a) (out-roll-Arm inner)

@@ -5,3 +5,5 @@ pub mod Spots
 pub mod Doing
 pub mod Rising
 pub mod Entering
+pub mod Forming
+pub mod Scoping

@@ -129,10 +129,11 @@ outward start now next whole above tree link made rest is_link_ link_is rest_is 
   at = λ around locals stands.
       let here = rising.at around locals stands in
       let more = does.at around here.0 here.1 in
-      let behind = (placed_behind around here.0 link).locals in
-      (
-        behind, more.1, ap (λ (t : Node). rises around rest (gives t behind)) more.0 ∙ ap (λ (t : Node). rises around rest (placed_behind around here.0 t)) link_is
-        ∙ ap (λ (t : Node). rises around t (placed_behind around here.0 (with_first tree above))) rest_is ∙ sym (link_rises around here.0 above tree is_link_) ∙ here.2,
+      let behind = (placed_behind around here.0 link).locals in (
+        behind,
+        more.1,
+        ap (λ (t : Node). rises around rest (gives t behind)) more.0 ∙ ap (λ (t : Node). rises around rest (placed_behind around here.0 t)) link_is
+            ∙ ap (λ (t : Node). rises around t (placed_behind around here.0 (with_first tree above))) rest_is ∙ sym (link_rises around here.0 above tree is_link_) ∙ here.2,
       );
 }
 

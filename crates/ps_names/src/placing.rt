@@ -1,9 +1,10 @@
 ghost use Rattle.std.specs.Prelude.{◌≡◌, OnOk, IfOk};
 ghost use Rattle.ps_base.specs.List.{items_of};
 ghost use Rattle.ps_type_text.specs.Members.{fields_of};
+ghost use Rattle.ps_program.specs.Node as node;
 ghost use Rattle.ps_program.specs.NodeView.{node_of, nodes_in, arm_of, body_of};
 ghost use Rattle.ps_program.specs.inside.PartsView.{arms_in};
-ghost use Rattle.ps_typing.specs.Placed.{placed, placed_all, placed_arms, placed_literal, placed_program};
+ghost use Rattle.ps_typing.specs.Placed.{placed, placed_all, placed_arms, placed_program};
 ghost use Rattle.ps_names.specs.inside.Standing.{Does};
 ghost use Rattle.ps_names.specs.inside.Chains.{is_link as is_link_of, first_or, with_first, placed_behind};
 ghost use Rattle.ps_names.specs.inside.Clauses.{pair as pair_of, triple as triple_of, with_all as with_all_of, case_of, block_of, loop_of, text_in, placed_pair, placed_triple, placed_with_all, placed_case, placed_arm, placed_block};
@@ -69,13 +70,36 @@ impl Placer {
         ensures { OnOk result (Does (λ around locals. placed_behind around locals (node_of link.old)) self.old (node_of link.new) self.new) }
     {
         match &mut *link.form {
-            TreeForm::And { a: _, b } => self.tree(b),
-            TreeForm::Or { a: _, b } => self.tree(b),
-            TreeForm::Arith { b, .. } => self.tree(b),
-            TreeForm::Join { b, .. } => self.tree(b),
-            TreeForm::Part { i, n, .. } => self.pair(i, n),
-            TreeForm::Element { i, .. } => self.tree(i),
-            TreeForm::Call { args, .. } => self.all(args),
+            TreeForm::And { b, a: _a } => self.tree(b),
+            TreeForm::Or { b, a: _a } => self.tree(b),
+            TreeForm::Arith {
+                b,
+                op: _op,
+                a: _a,
+                line: _line,
+            } => self.tree(b),
+            TreeForm::Join {
+                b,
+                a: _a,
+                line: _line,
+            } => self.tree(b),
+            TreeForm::Part {
+                i,
+                n,
+                a: _a,
+                line: _line,
+            } => self.pair(i, n),
+            TreeForm::Element {
+                i,
+                v: _v,
+                ty: _ty,
+                line: _line,
+            } => self.tree(i),
+            TreeForm::Call {
+                args,
+                f: _f,
+                line: _line,
+            } => self.all(args),
             _ => Ok(()),
         }
     }
@@ -93,11 +117,11 @@ impl Placer {
             | TreeForm::Class
             | TreeForm::Empty
             | TreeForm::Abort(_) => Ok(()),
-            TreeForm::Name { place, .. } => {
+            TreeForm::Name { place, ty: _ty } => {
                 *place = self.place_of(*place);
                 Ok(())
             }
-            TreeForm::SetName { place, e, .. } => {
+            TreeForm::SetName { place, e, ty: _ty } => {
                 *place = self.place_of(*place);
                 self.tree(e)
             }
@@ -109,18 +133,58 @@ impl Placer {
             TreeForm::Block { scope, items } => self.block(scope, items),
             TreeForm::For(it) => self.for_loop(it),
             TreeForm::Proc(body) => self.literal(body),
-            TreeForm::Case { e, arms, d, .. } => self.case(e, arms, d),
+            TreeForm::Case {
+                e,
+                arms,
+                d,
+                ty: _ty,
+            } => self.case(e, arms, d),
             TreeForm::IfDo { c, a } => self.pair(c, a),
             TreeForm::While { c, a } => self.pair(c, a),
             TreeForm::And { a, b } => self.pair(a, b),
             TreeForm::Or { a, b } => self.pair(a, b),
-            TreeForm::Arith { a, b, .. } => self.pair(a, b),
-            TreeForm::Compare { a, b, .. } => self.pair(a, b),
-            TreeForm::Join { a, b, .. } => self.pair(a, b),
-            TreeForm::SetField { p, e, .. } => self.pair(p, e),
-            TreeForm::Element { v, i, .. } => self.pair(v, i),
-            TreeForm::Write { e, w, .. } => self.pair(e, w),
-            TreeForm::Scan { a, f, q, s, .. } => {
+            TreeForm::Arith {
+                a,
+                b,
+                op: _op,
+                line: _line,
+            } => self.pair(a, b),
+            TreeForm::Compare {
+                a,
+                b,
+                op: _op,
+                ty: _ty,
+            } => self.pair(a, b),
+            TreeForm::Join { a, b, line: _line } => self.pair(a, b),
+            TreeForm::SetField {
+                p,
+                e,
+                class: _class,
+                index: _index,
+                ty: _ty,
+                line: _line,
+            } => self.pair(p, e),
+            TreeForm::Element {
+                v,
+                i,
+                ty: _ty,
+                line: _line,
+            } => self.pair(v, i),
+            TreeForm::Write {
+                e,
+                w,
+                wide: _wide,
+                ty: _ty,
+                line: _line,
+            } => self.pair(e, w),
+            TreeForm::Scan {
+                a,
+                f,
+                q,
+                s,
+                text: _text,
+                line: _line,
+            } => {
                 *q = self.refs;
                 *s = self.nums;
                 self.take_numbers(3)?;
@@ -129,19 +193,58 @@ impl Placer {
             }
             TreeForm::IfElse { c, a, b } => self.triple(c, a, b),
             TreeForm::Repeat { a, c, b } => self.triple(a, c, b),
-            TreeForm::Part { a, i, n, .. } => self.triple(a, i, n),
-            TreeForm::Fill { l, u, e, .. } => self.triple(l, u, e),
-            TreeForm::SetElement { v, i, e, .. } => self.triple(v, i, e),
+            TreeForm::Part {
+                a,
+                i,
+                n,
+                line: _line,
+            } => self.triple(a, i, n),
+            TreeForm::Fill {
+                l,
+                u,
+                e,
+                ty: _ty,
+                line: _line,
+            } => self.triple(l, u, e),
+            TreeForm::SetElement {
+                v,
+                i,
+                e,
+                ty: _ty,
+                line: _line,
+            } => self.triple(v, i, e),
             TreeForm::Not(e) => self.tree(e),
-            TreeForm::Neg { e, .. } => self.tree(e),
+            TreeForm::Neg { e, line: _line } => self.tree(e),
             TreeForm::Plus(e) => self.tree(e),
-            TreeForm::Is { e, .. } => self.tree(e),
-            TreeForm::Field { e, .. } => self.tree(e),
-            TreeForm::Bound { v, .. } => self.tree(v),
-            TreeForm::Make { args, .. } => self.all(args),
-            TreeForm::Lib { args, .. } => self.all(args),
-            TreeForm::Elems { l, items, .. } => self.with_all(l, items),
-            TreeForm::Call { f, args, .. } => self.with_all(f, args),
+            TreeForm::Is { e, class: _class } => self.tree(e),
+            TreeForm::Field {
+                e,
+                class: _class,
+                index: _index,
+                ty: _ty,
+                line: _line,
+            } => self.tree(e),
+            TreeForm::Bound { v, upper: _upper } => self.tree(v),
+            TreeForm::Make {
+                args,
+                class: _class,
+            } => self.all(args),
+            TreeForm::Lib {
+                args,
+                code: _code,
+                line: _line,
+            } => self.all(args),
+            TreeForm::Elems {
+                l,
+                items,
+                ty: _ty,
+                line: _line,
+            } => self.with_all(l, items),
+            TreeForm::Call {
+                f,
+                args,
+                line: _line,
+            } => self.with_all(f, args),
         }
     }
 
@@ -211,7 +314,11 @@ impl Placer {
     }
 
     #[cycle(placing)]
-    fn block(&mut self, scope: &mut Option<Box<Bytes>>, items: &mut List<Tree>) -> Result<(), AllocError>
+    fn block(
+        &mut self,
+        scope: &mut Option<Box<Bytes>>,
+        items: &mut List<Tree>,
+    ) -> Result<(), AllocError>
         ensures { OnOk result (Does (λ around locals. placed_block around locals (nodes_in (items_of items.old))) self.old (block_of (text_in scope.new) (nodes_in (items_of items.new))) self.new) }
     {
         let kept = self.kept_items(items.as_slice())?;
@@ -241,7 +348,7 @@ impl Placer {
     // A body has locals of its own, and a scope where it keeps parameters.
     #[cycle(placing)]
     fn literal(&mut self, body: &mut Body) -> Result<(), AllocError>
-        ensures { OnOk result (Does (λ around locals. placed_literal around locals (body_of body.old)) self.old (body_of body.new) self.new) }
+        ensures { OnOk result (Does (λ around locals. placed around locals (node.Proc (body_of body.old))) self.old (node.Proc (body_of body.new)) self.new) }
     {
         let (nums, refs) = (self.nums, self.refs);
         self.nums = 0;
