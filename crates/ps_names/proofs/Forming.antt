@@ -7,10 +7,11 @@ use Rattle.ps_base.specs.List.{items_of}
 use Rattle.ps_base.specs.declared.list.List.{List as ListOf}
 use Rattle.ps_program.specs.declared.body.Body.{Body}
 use Rattle.ps_program.specs.declared.form.Tree.{Tree}
+use Rattle.ps_program.specs.declared.form.TreeForm.{TreeForm}
 use Rattle.ps_program.specs.declared.form.Arm.{Arm as ArmOf}
 use Rattle.ps_program.specs.declared.place.Place.{Place}
 use Rattle.ps_program.specs.Node.{Node, Nodes, BodyNode}
-use Rattle.ps_program.specs.NodeView.{node_of, nodes_in, body_of}
+use Rattle.ps_program.specs.NodeView.{node_of, node_of_form, nodes_in, body_of}
 use Rattle.ps_program.specs.inside.PartsView.{arms_in}
 use Rattle.ps_program.specs.Node as node
 use Rattle.ps_program.specs.inside.Weights.{weight}
@@ -64,6 +65,10 @@ at_three {A} {B} {C} {D} f b b' c c' d d' x old new r b_is c_is d_is done = subs
 pub formed : {A : Type 0} (g : Around → Locals → Node → Given Node) (f : Around → Locals → Given A) (make : A → Node) (n m before : Node) (x : A) (old new : Placer) (r : Made) → OnOk r (Does f old x new) → n ≡ before → ((around : Around) (locals : Locals) → g around locals before ≡ then_give make (f around locals)) → m ≡ make x → OnOk r (Does (λ around locals. g around locals n) old m new)
 formed g f make n m before x old new r done n_is same m_is =
     on_ok r (λ (does : Does f old x new). does_same (λ around locals. then_give make (f around locals)) (λ around locals. g around locals n) old new (make x) m (λ around locals. ap (g around locals) n_is ∙ same around locals) m_is (does_made f make old new x does)) done
+
+-- the same, of a form that is known to be this one
+pub formed_as : {A : Type 0} (g : Around → Locals → Node → Given Node) (f : Around → Locals → Given A) (make : A → Node) (n before : Node) (form is : TreeForm) (x : A) (old new : Placer) (r : Made) → OnOk r (Does f old x new) → n ≡ before → ((around : Around) (locals : Locals) → g around locals before ≡ then_give make (f around locals)) → (form ≡ is → node_of_form form ≡ make x) → form ≡ is → OnOk r (Does (λ around locals. g around locals n) old (node_of_form form) new)
+formed_as g f make n before form is x old new r done n_is same made form_is = formed g f make n (node_of_form form) before x old new r done n_is same (made form_is)
 
 pub set_name : (n m : Node) (place made : Place) (ty : TyView) (a x : Node) (old new : Placer) (r : Made) → n ≡ node.SetName place ty a →
     ((around : Around) (locals : Locals) → Stands old around locals → made ≡ place_of around locals place) → OnOk r (Does (λ around locals. placed around locals a) old x new) → m ≡ node.SetName made ty x → OnOk r (Does (λ around locals. placed around locals n) old m new)

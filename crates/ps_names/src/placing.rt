@@ -70,19 +70,15 @@ impl Placer {
         ensures { OnOk result (Does (λ around locals. placed_behind around locals (node_of link.old)) self.old (node_of link.new) self.new) }
     {
         match &mut *link.form {
-            TreeForm::And { b, a: _a } => self.tree(b),
-            TreeForm::Or { b, a: _a } => self.tree(b),
+            TreeForm::And { a, b } => self.second(a, b),
+            TreeForm::Or { a, b } => self.second(a, b),
             TreeForm::Arith {
-                b,
                 op: _op,
-                a: _a,
-                line: _line,
-            } => self.tree(b),
-            TreeForm::Join {
+                a,
                 b,
-                a: _a,
                 line: _line,
-            } => self.tree(b),
+            } => self.second(a, b),
+            TreeForm::Join { a, b, line: _line } => self.second(a, b),
             TreeForm::Part {
                 i,
                 n,
@@ -90,11 +86,11 @@ impl Placer {
                 line: _line,
             } => self.pair(i, n),
             TreeForm::Element {
+                v,
                 i,
-                v: _v,
                 ty: _ty,
                 line: _line,
-            } => self.tree(i),
+            } => self.second(v, i),
             TreeForm::Call {
                 args,
                 f: _f,
@@ -144,9 +140,9 @@ impl Placer {
             TreeForm::And { a, b } => self.pair(a, b),
             TreeForm::Or { a, b } => self.pair(a, b),
             TreeForm::Arith {
+                op: _op,
                 a,
                 b,
-                op: _op,
                 line: _line,
             } => self.pair(a, b),
             TreeForm::Compare {
@@ -246,6 +242,16 @@ impl Placer {
                 line: _line,
             } => self.with_all(f, args),
         }
+    }
+
+    // The second of two parts, where the first has its places.
+    #[cycle(placing)]
+    fn second(&mut self, first: &mut Tree, second: &mut Tree) -> Result<(), AllocError>
+        ensures first { first.new ≡ first.old }
+        ensures second { OnOk result (Does (λ around locals. placed around locals (node_of second.old)) self.old (node_of second.new) self.new) }
+    {
+        let _ = first;
+        self.tree(second)
     }
 
     #[cycle(placing)]

@@ -9,6 +9,7 @@ use Rattle.std.specs.declared.boxed.Box.{Box}
 use Rattle.std.specs.declared.alloc.Global.{Global}
 use Rattle.ps_program.specs.declared.body.Body.{Body}
 use Rattle.ps_program.specs.declared.form.Tree.{Tree}
+use Rattle.ps_program.specs.declared.form.TreeForm.TheVariants as code
 use Rattle.ps_program.specs.declared.form.Arm.{out-Arm}
 use Rattle.ps_program.specs.Node.{Node, Nodes, BodyNode, arm}
 use Rattle.ps_program.specs.Node as node
@@ -28,7 +29,7 @@ use Rattle.ps_names.specs.inside.Standing.{Stands, Does, Enters, chosen}
 use Rattle.ps_names.specs.inside.Chains.{is_link, placed_behind, weight_behind, weight_arm, Rises}
 use Rattle.ps_names.specs.inside.Clauses.{Pair, Triple, WithAll, Case, Block, pair, with_all, with_arms, text_in, placed_arm}
 use Rattle.ps_names.proofs.Doing.{does_made, does_both, does_same, on_ok, tree_more, arm_more, same_item, same_rest, arm_made, arm_kept}
-use Rattle.ps_names.proofs.Forming.{tree_does, pair_does, triple_does, all_does, with_all_does, case_does, block_does, literal_does, at_one, at_two, at_three, formed, declared_at, set_name, let_name, scan, weight_some}
+use Rattle.ps_names.proofs.Forming.{tree_does, pair_does, triple_does, all_does, with_all_does, case_does, block_does, literal_does, at_one, at_two, at_three, formed, formed_as, declared_at, set_name, let_name, scan, weight_some}
 use Rattle.ps_names.proofs.Rising.{inward, turns, outward, weight_out, out}
 use Rattle.ps_names.proofs.Scoping.{block_done, loop_done, literal_done}
 use Rattle.ps_names.proofs.placer.Placer.+placing.Goals as goal
@@ -128,22 +129,22 @@ behind-all-requires t c =
 pub behind-returns-in-And : goal.behind-returns-in-And
 unfolding ◌>>=◌ then_give
 behind-returns-in-And t c =
-    formed placed_behind _ (λ (x : Node). node.And (node_of c.in-And._a) x) _ _ _ _ _ _ c.tree.result (at_one tree_does _ _ _ _ _ c.tree.result c.in-And.b-is c.tree.ensures) (ap node_of_form (sym c.deref_mut.ensures.value ∙ c.in-And.is)) (λ around locals. refl) (search rules)
+    formed placed_behind _ (λ (x : Node). node.And (node_of c.in-And.a) x) _ _ _ _ _ _ c.second.result (at_one tree_does _ _ _ _ _ c.second.result c.in-And.b-is c.second.ensures.second) (ap node_of_form (sym c.deref_mut.ensures.value ∙ c.in-And.is)) (λ around locals. refl) (search rules)
 
 pub behind-returns-in-Or : goal.behind-returns-in-Or
 unfolding ◌>>=◌ then_give
 behind-returns-in-Or t c =
-    formed placed_behind _ (λ (x : Node). node.Or (node_of c.in-Or._a) x) _ _ _ _ _ _ c.tree-in-Or.result (at_one tree_does _ _ _ _ _ c.tree-in-Or.result c.in-Or.b-is c.tree-in-Or.ensures) (ap node_of_form (sym c.deref_mut.ensures.value ∙ c.in-Or.is)) (λ around locals. refl) (search rules)
+    formed placed_behind _ (λ (x : Node). node.Or (node_of c.in-Or.a) x) _ _ _ _ _ _ c.second-in-Or.result (at_one tree_does _ _ _ _ _ c.second-in-Or.result c.in-Or.b-is c.second-in-Or.ensures.second) (ap node_of_form (sym c.deref_mut.ensures.value ∙ c.in-Or.is)) (λ around locals. refl) (search rules)
 
 pub behind-returns-in-Arith : goal.behind-returns-in-Arith
 unfolding ◌>>=◌ then_give
 behind-returns-in-Arith t c =
-    formed placed_behind _ (λ (x : Node). node.Arith c.in-Arith._op (node_of c.in-Arith._a) x c.in-Arith._line) _ _ _ _ _ _ c.tree-in-Arith.result (at_one tree_does _ _ _ _ _ c.tree-in-Arith.result c.in-Arith.b-is c.tree-in-Arith.ensures) (ap node_of_form (sym c.deref_mut.ensures.value ∙ c.in-Arith.is)) (λ around locals. refl) (search rules)
+    formed placed_behind _ (λ (x : Node). node.Arith c.in-Arith._op (node_of c.in-Arith.a) x c.in-Arith._line) _ _ _ _ _ _ c.second-in-Arith.result (at_one tree_does _ _ _ _ _ c.second-in-Arith.result c.in-Arith.b-is c.second-in-Arith.ensures.second) (ap node_of_form (sym c.deref_mut.ensures.value ∙ c.in-Arith.is)) (λ around locals. refl) (search rules)
 
 pub behind-returns-in-Join : goal.behind-returns-in-Join
 unfolding ◌>>=◌ then_give
 behind-returns-in-Join t c =
-    formed placed_behind _ (λ (x : Node). node.Join (node_of c.in-Join._a) x c.in-Join._line) _ _ _ _ _ _ c.tree-in-Join.result (at_one tree_does _ _ _ _ _ c.tree-in-Join.result c.in-Join.b-is c.tree-in-Join.ensures) (ap node_of_form (sym c.deref_mut.ensures.value ∙ c.in-Join.is)) (λ around locals. refl) (search rules)
+    formed placed_behind _ (λ (x : Node). node.Join (node_of c.in-Join.a) x c.in-Join._line) _ _ _ _ _ _ c.second-in-Join.result (at_one tree_does _ _ _ _ _ c.second-in-Join.result c.in-Join.b-is c.second-in-Join.ensures.second) (ap node_of_form (sym c.deref_mut.ensures.value ∙ c.in-Join.is)) (λ around locals. refl) (search rules)
 
 pub behind-returns-in-Part : goal.behind-returns-in-Part
 unfolding ◌>>=◌ then_give
@@ -153,7 +154,7 @@ behind-returns-in-Part t c =
 pub behind-returns-in-Element : goal.behind-returns-in-Element
 unfolding ◌>>=◌ then_give
 behind-returns-in-Element t c =
-    formed placed_behind _ (λ (x : Node). node.Element (node_of c.in-Element._v) x (ty_view c.in-Element._ty) c.in-Element._line) _ _ _ _ _ _ c.tree-in-Element.result (at_one tree_does _ _ _ _ _ c.tree-in-Element.result c.in-Element.i-is c.tree-in-Element.ensures) (ap node_of_form (sym c.deref_mut.ensures.value ∙ c.in-Element.is)) (λ around locals. refl) (search rules)
+    formed placed_behind _ (λ (x : Node). node.Element (node_of c.in-Element.v) x (ty_view c.in-Element._ty) c.in-Element._line) _ _ _ _ _ _ c.second-in-Element.result (at_one tree_does _ _ _ _ _ c.second-in-Element.result c.in-Element.i-is c.second-in-Element.ensures.second) (ap node_of_form (sym c.deref_mut.ensures.value ∙ c.in-Element.is)) (λ around locals. refl) (search rules)
 
 pub behind-returns-in-Call : goal.behind-returns-in-Call
 unfolding ◌>>=◌ then_give
@@ -291,12 +292,12 @@ form-returns-in_ok-declare-in-Let t c =
 pub form-returns-in-Block : goal.form-returns-in-Block
 unfolding ◌>>=◌ then_give
 form-returns-in-Block t c =
-    formed placed _ (λ (x : Block). node.Block x.scope x.items) _ _ _ _ _ _ c.block.result (at_one block_does _ _ _ _ _ c.block.result c.in-Block.items-is c.block.ensures) (block_is _ c.in-Block.scope c.in-Block.items _ (sym c.deref_mut.ensures.value ∙ c.in-Block.is) refl) (λ around locals. refl) (block_is _ c.block.new.scope c.block.new.items _ (search rules) refl)
+    formed_as placed _ (λ (x : Block). node.Block x.scope x.items) _ _ _ (code.Block c.block.new.scope c.block.new.items) _ _ _ c.block.result (at_one block_does _ _ _ _ _ c.block.result c.in-Block.items-is c.block.ensures) (block_is _ c.in-Block.scope c.in-Block.items _ (sym c.deref_mut.ensures.value ∙ c.in-Block.is) refl) (λ around locals. refl) (λ e. block_is _ c.block.new.scope c.block.new.items _ e refl) (search rules)
 
 pub form-returns-in-Case : goal.form-returns-in-Case
 unfolding ◌>>=◌ then_give
 form-returns-in-Case t c =
-    formed placed _ (λ (x : Case). node.Case x.tested.first x.tested.arms x.last (ty_view c.in-Case._ty)) _ _ _ _ _ _ c.case.result (at_three case_does _ _ _ _ _ _ _ _ _ c.case.result c.in-Case.e-is c.in-Case.arms-is c.in-Case.d-is c.case.ensures) (case_is _ c.in-Case.e c.in-Case.arms c.in-Case.d c.in-Case._ty _ (sym c.deref_mut.ensures.value ∙ c.in-Case.is) refl) (λ around locals. refl) (case_is _ c.case.new.e c.case.new.arms c.case.new.d c.in-Case._ty _ (search rules) refl)
+    formed_as placed _ (λ (x : Case). node.Case x.tested.first x.tested.arms x.last (ty_view c.in-Case._ty)) _ _ _ (code.Case c.case.new.e c.case.new.arms c.case.new.d c.in-Case._ty) _ _ _ c.case.result (at_three case_does _ _ _ _ _ _ _ _ _ c.case.result c.in-Case.e-is c.in-Case.arms-is c.in-Case.d-is c.case.ensures) (case_is _ c.in-Case.e c.in-Case.arms c.in-Case.d c.in-Case._ty _ (sym c.deref_mut.ensures.value ∙ c.in-Case.is) refl) (λ around locals. refl) (λ e. case_is _ c.case.new.e c.case.new.arms c.case.new.d c.in-Case._ty _ e refl) (search rules)
 
 pub form-returns-in-IfDo : goal.form-returns-in-IfDo
 unfolding ◌>>=◌ then_give
@@ -422,12 +423,12 @@ form-returns-in-Lib t c =
 pub form-returns-in-Elems : goal.form-returns-in-Elems
 unfolding ◌>>=◌ then_give
 form-returns-in-Elems t c =
-    formed placed _ (λ (x : WithAll). node.Elems x.first x.items (ty_view c.in-Elems._ty) c.in-Elems._line) _ _ _ _ _ _ c.with_all.result (at_two with_all_does _ _ _ _ _ _ _ c.with_all.result c.in-Elems.l-is c.in-Elems.items-is c.with_all.ensures) (elems_is _ c.in-Elems.l c.in-Elems.items c.in-Elems._ty c.in-Elems._line _ (sym c.deref_mut.ensures.value ∙ c.in-Elems.is) refl) (λ around locals. refl) (elems_is _ c.with_all.new.first c.with_all.new.items c.in-Elems._ty c.in-Elems._line _ (search rules) refl)
+    formed_as placed _ (λ (x : WithAll). node.Elems x.first x.items (ty_view c.in-Elems._ty) c.in-Elems._line) _ _ _ (code.Elems c.with_all.new.first c.with_all.new.items c.in-Elems._ty c.in-Elems._line) _ _ _ c.with_all.result (at_two with_all_does _ _ _ _ _ _ _ c.with_all.result c.in-Elems.l-is c.in-Elems.items-is c.with_all.ensures) (elems_is _ c.in-Elems.l c.in-Elems.items c.in-Elems._ty c.in-Elems._line _ (sym c.deref_mut.ensures.value ∙ c.in-Elems.is) refl) (λ around locals. refl) (λ e. elems_is _ c.with_all.new.first c.with_all.new.items c.in-Elems._ty c.in-Elems._line _ e refl) (search rules)
 
 pub form-returns-in-Call : goal.form-returns-in-Call
 unfolding ◌>>=◌ then_give
 form-returns-in-Call t c =
-    formed placed _ (λ (x : WithAll). node.Call x.first x.items c.in-Call._line) _ _ _ _ _ _ c.with_all-in-Call.result (at_two with_all_does _ _ _ _ _ _ _ c.with_all-in-Call.result c.in-Call.f-is c.in-Call.args-is c.with_all-in-Call.ensures) (call_is _ c.in-Call.f c.in-Call.args c.in-Call._line _ (sym c.deref_mut.ensures.value ∙ c.in-Call.is) refl) (λ around locals. refl) (call_is _ c.with_all-in-Call.new.first c.with_all-in-Call.new.items c.in-Call._line _ (search rules) refl)
+    formed_as placed _ (λ (x : WithAll). node.Call x.first x.items c.in-Call._line) _ _ _ (code.Call c.with_all-in-Call.new.first c.with_all-in-Call.new.items c.in-Call._line) _ _ _ c.with_all-in-Call.result (at_two with_all_does _ _ _ _ _ _ _ c.with_all-in-Call.result c.in-Call.f-is c.in-Call.args-is c.with_all-in-Call.ensures) (call_is _ c.in-Call.f c.in-Call.args c.in-Call._line _ (sym c.deref_mut.ensures.value ∙ c.in-Call.is) refl) (λ around locals. refl) (λ e. call_is _ c.with_all-in-Call.new.first c.with_all-in-Call.new.items c.in-Call._line _ e refl) (search rules)
 
 pub literal-returns : goal.literal-returns
 unfolding then_give

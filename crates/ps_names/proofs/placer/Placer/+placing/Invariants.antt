@@ -84,3 +84,6 @@ invariant-chain-loop-above l = record {
 
 abbrev pub decreases-chain-loop-above : goal.decreases-chain-loop-above
 decreases-chain-loop-above l = weight (node_of l.above)
+
+abbrev pub decreases-second : goal.decreases-second
+decreases-second l = 10 * weight (node_of l.second.now) + 4
