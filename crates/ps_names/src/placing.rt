@@ -73,18 +73,24 @@ impl Placer {
             TreeForm::And { a, b } => self.second(a, b),
             TreeForm::Or { a, b } => self.second(a, b),
             TreeForm::Arith {
-                op: _op,
+                op,
                 a,
                 b,
                 line: _line,
-            } => self.second(a, b),
+            } => {
+                untouched(op);
+                self.second(a, b)
+            }
             TreeForm::Join { a, b, line: _line } => self.second(a, b),
             TreeForm::Part {
+                a,
                 i,
                 n,
-                a: _a,
                 line: _line,
-            } => self.pair(i, n),
+            } => {
+                untouched(a);
+                self.pair(i, n)
+            }
             TreeForm::Element {
                 v,
                 i,
@@ -92,10 +98,13 @@ impl Placer {
                 line: _line,
             } => self.second(v, i),
             TreeForm::Call {
+                f,
                 args,
-                f: _f,
                 line: _line,
-            } => self.all(args),
+            } => {
+                untouched(f);
+                self.all(args)
+            }
             _ => Ok(()),
         }
     }
@@ -140,17 +149,18 @@ impl Placer {
             TreeForm::And { a, b } => self.pair(a, b),
             TreeForm::Or { a, b } => self.pair(a, b),
             TreeForm::Arith {
-                op: _op,
+                op,
                 a,
                 b,
                 line: _line,
-            } => self.pair(a, b),
-            TreeForm::Compare {
-                a,
-                b,
-                op: _op,
-                ty: _ty,
-            } => self.pair(a, b),
+            } => {
+                untouched(op);
+                self.pair(a, b)
+            }
+            TreeForm::Compare { op, ty: _ty, a, b } => {
+                untouched(op);
+                self.pair(a, b)
+            }
             TreeForm::Join { a, b, line: _line } => self.pair(a, b),
             TreeForm::SetField {
                 p,
@@ -174,13 +184,14 @@ impl Placer {
                 line: _line,
             } => self.pair(e, w),
             TreeForm::Scan {
+                text,
                 a,
                 f,
                 q,
                 s,
-                text: _text,
                 line: _line,
             } => {
+                untouched(text);
                 *q = self.refs;
                 *s = self.nums;
                 self.take_numbers(3)?;
@@ -221,15 +232,18 @@ impl Placer {
                 line: _line,
             } => self.tree(e),
             TreeForm::Bound { v, upper: _upper } => self.tree(v),
-            TreeForm::Make {
-                args,
-                class: _class,
-            } => self.all(args),
+            TreeForm::Make { class, args } => {
+                untouched(class);
+                self.all(args)
+            }
             TreeForm::Lib {
+                code,
                 args,
-                code: _code,
                 line: _line,
-            } => self.all(args),
+            } => {
+                untouched(code);
+                self.all(args)
+            }
             TreeForm::Elems {
                 l,
                 items,
@@ -405,4 +419,11 @@ fn swap_first(link: &mut Tree, other: &mut Tree)
         TreeForm::Call { f, .. } => mem::swap(f, other),
         _ => {}
     }
+}
+
+// A field that stays as it is.
+fn untouched<T>(field: &mut T)
+    ensures { field.new ≡ field.old }
+{
+    let _ = field;
 }

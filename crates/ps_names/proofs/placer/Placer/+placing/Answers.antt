@@ -139,7 +139,7 @@ behind-returns-in-Or t c =
 pub behind-returns-in-Arith : goal.behind-returns-in-Arith
 unfolding ◌>>=◌ then_give
 behind-returns-in-Arith t c =
-    formed placed_behind _ (λ (x : Node). node.Arith c.in-Arith._op (node_of c.in-Arith.a) x c.in-Arith._line) _ _ _ _ _ _ c.second-in-Arith.result (at_one tree_does _ _ _ _ _ c.second-in-Arith.result c.in-Arith.b-is c.second-in-Arith.ensures.second) (ap node_of_form (sym c.deref_mut.ensures.value ∙ c.in-Arith.is)) (λ around locals. refl) (search rules)
+    formed placed_behind _ (λ (x : Node). node.Arith c.in-Arith.op (node_of c.in-Arith.a) x c.in-Arith._line) _ _ _ _ _ _ c.second-in-Arith.result (at_one tree_does _ _ _ _ _ c.second-in-Arith.result c.in-Arith.b-is c.second-in-Arith.ensures.second) (ap node_of_form (sym c.deref_mut.ensures.value ∙ c.in-Arith.is)) (λ around locals. refl) (search rules)
 
 pub behind-returns-in-Join : goal.behind-returns-in-Join
 unfolding ◌>>=◌ then_give
@@ -149,7 +149,7 @@ behind-returns-in-Join t c =
 pub behind-returns-in-Part : goal.behind-returns-in-Part
 unfolding ◌>>=◌ then_give
 behind-returns-in-Part t c =
-    formed placed_behind _ (λ (x : Pair). node.Part (node_of c.in-Part._a) x.first x.second c.in-Part._line) _ _ _ _ _ _ c.pair.result (at_two pair_does _ _ _ _ _ _ _ c.pair.result c.in-Part.i-is c.in-Part.n-is c.pair.ensures) (ap node_of_form (sym c.deref_mut.ensures.value ∙ c.in-Part.is)) (λ around locals. refl) (search rules)
+    formed placed_behind _ (λ (x : Pair). node.Part (node_of c.in-Part.a) x.first x.second c.in-Part._line) _ _ _ _ _ _ c.pair.result (at_two pair_does _ _ _ _ _ _ _ c.pair.result c.in-Part.i-is c.in-Part.n-is c.pair.ensures) (ap node_of_form (sym c.deref_mut.ensures.value ∙ c.in-Part.is)) (λ around locals. refl) (search rules)
 
 pub behind-returns-in-Element : goal.behind-returns-in-Element
 unfolding ◌>>=◌ then_give
@@ -159,7 +159,7 @@ behind-returns-in-Element t c =
 pub behind-returns-in-Call : goal.behind-returns-in-Call
 unfolding ◌>>=◌ then_give
 behind-returns-in-Call t c =
-    formed placed_behind _ (λ (x : Nodes). node.Call (node_of c.in-Call._f) x c.in-Call._line) _ _ _ _ _ _ c.all.result (at_one all_does _ _ _ _ _ c.all.result c.in-Call.args-is c.all.ensures) (call_is _ c.in-Call._f c.in-Call.args c.in-Call._line _ (sym c.deref_mut.ensures.value ∙ c.in-Call.is) refl) (λ around locals. refl) (call_is _ c.in-Call._f c.all.new.items c.in-Call._line _ (search rules) refl)
+    formed_as placed_behind _ (λ (x : Nodes). node.Call (node_of c.in-Call.f) x c.in-Call._line) _ _ _ (code.Call c.in-Call.f c.all.new.items c.in-Call._line) _ _ _ c.all.result (at_one all_does _ _ _ _ _ c.all.result c.in-Call.args-is c.all.ensures) (call_is _ c.in-Call.f c.in-Call.args c.in-Call._line _ (sym c.deref_mut.ensures.value ∙ c.in-Call.is) refl) (λ around locals. refl) (λ form e. call_is form c.in-Call.f c.all.new.items c.in-Call._line (items_of c.all.new.items) e refl) (search rules)
 
 pub block-returns : goal.block-returns
 block-returns t c =
@@ -292,12 +292,12 @@ form-returns-in_ok-declare-in-Let t c =
 pub form-returns-in-Block : goal.form-returns-in-Block
 unfolding ◌>>=◌ then_give
 form-returns-in-Block t c =
-    formed_as placed _ (λ (x : Block). node.Block x.scope x.items) _ _ _ (code.Block c.block.new.scope c.block.new.items) _ _ _ c.block.result (at_one block_does _ _ _ _ _ c.block.result c.in-Block.items-is c.block.ensures) (block_is _ c.in-Block.scope c.in-Block.items _ (sym c.deref_mut.ensures.value ∙ c.in-Block.is) refl) (λ around locals. refl) (λ e. block_is _ c.block.new.scope c.block.new.items _ e refl) (search rules)
+    formed_as placed _ (λ (x : Block). node.Block x.scope x.items) _ _ _ (code.Block c.block.new.scope c.block.new.items) _ _ _ c.block.result (at_one block_does _ _ _ _ _ c.block.result c.in-Block.items-is c.block.ensures) (block_is _ c.in-Block.scope c.in-Block.items _ (sym c.deref_mut.ensures.value ∙ c.in-Block.is) refl) (λ around locals. refl) (λ form e. block_is form c.block.new.scope c.block.new.items (items_of c.block.new.items) e refl) (search rules)
 
 pub form-returns-in-Case : goal.form-returns-in-Case
 unfolding ◌>>=◌ then_give
 form-returns-in-Case t c =
-    formed_as placed _ (λ (x : Case). node.Case x.tested.first x.tested.arms x.last (ty_view c.in-Case._ty)) _ _ _ (code.Case c.case.new.e c.case.new.arms c.case.new.d c.in-Case._ty) _ _ _ c.case.result (at_three case_does _ _ _ _ _ _ _ _ _ c.case.result c.in-Case.e-is c.in-Case.arms-is c.in-Case.d-is c.case.ensures) (case_is _ c.in-Case.e c.in-Case.arms c.in-Case.d c.in-Case._ty _ (sym c.deref_mut.ensures.value ∙ c.in-Case.is) refl) (λ around locals. refl) (λ e. case_is _ c.case.new.e c.case.new.arms c.case.new.d c.in-Case._ty _ e refl) (search rules)
+    formed_as placed _ (λ (x : Case). node.Case x.tested.first x.tested.arms x.last (ty_view c.in-Case._ty)) _ _ _ (code.Case c.case.new.e c.case.new.arms c.case.new.d c.in-Case._ty) _ _ _ c.case.result (at_three case_does _ _ _ _ _ _ _ _ _ c.case.result c.in-Case.e-is c.in-Case.arms-is c.in-Case.d-is c.case.ensures) (case_is _ c.in-Case.e c.in-Case.arms c.in-Case.d c.in-Case._ty _ (sym c.deref_mut.ensures.value ∙ c.in-Case.is) refl) (λ around locals. refl) (λ form e. case_is form c.case.new.e c.case.new.arms c.case.new.d c.in-Case._ty (items_of c.case.new.arms) e refl) (search rules)
 
 pub form-returns-in-IfDo : goal.form-returns-in-IfDo
 unfolding ◌>>=◌ then_give
@@ -322,12 +322,12 @@ form-returns-in-Or t c =
 pub form-returns-in-Arith : goal.form-returns-in-Arith
 unfolding ◌>>=◌ then_give
 form-returns-in-Arith t c =
-    formed placed _ (λ (x : Pair). node.Arith c.in-Arith._op x.first x.second c.in-Arith._line) _ _ _ _ _ _ c.pair-in-Arith.result (at_two pair_does _ _ _ _ _ _ _ c.pair-in-Arith.result c.in-Arith.a-is c.in-Arith.b-is c.pair-in-Arith.ensures) (ap node_of_form (sym c.deref_mut.ensures.value ∙ c.in-Arith.is)) (λ around locals. refl) (search rules)
+    formed placed _ (λ (x : Pair). node.Arith c.in-Arith.op x.first x.second c.in-Arith._line) _ _ _ _ _ _ c.pair-in-Arith.result (at_two pair_does _ _ _ _ _ _ _ c.pair-in-Arith.result c.in-Arith.a-is c.in-Arith.b-is c.pair-in-Arith.ensures) (ap node_of_form (sym c.deref_mut.ensures.value ∙ c.in-Arith.is)) (λ around locals. refl) (search rules)
 
 pub form-returns-in-Compare : goal.form-returns-in-Compare
 unfolding ◌>>=◌ then_give
 form-returns-in-Compare t c =
-    formed placed _ (λ (x : Pair). node.Compare c.in-Compare._op (ty_view c.in-Compare._ty) x.first x.second) _ _ _ _ _ _ c.pair-in-Compare.result (at_two pair_does _ _ _ _ _ _ _ c.pair-in-Compare.result c.in-Compare.a-is c.in-Compare.b-is c.pair-in-Compare.ensures) (ap node_of_form (sym c.deref_mut.ensures.value ∙ c.in-Compare.is)) (λ around locals. refl) (search rules)
+    formed placed _ (λ (x : Pair). node.Compare c.in-Compare.op (ty_view c.in-Compare._ty) x.first x.second) _ _ _ _ _ _ c.pair-in-Compare.result (at_two pair_does _ _ _ _ _ _ _ c.pair-in-Compare.result c.in-Compare.a-is c.in-Compare.b-is c.pair-in-Compare.ensures) (ap node_of_form (sym c.deref_mut.ensures.value ∙ c.in-Compare.is)) (λ around locals. refl) (search rules)
 
 pub form-returns-in-Join : goal.form-returns-in-Join
 unfolding ◌>>=◌ then_give
@@ -352,7 +352,7 @@ form-returns-in-Write t c =
 pub form-returns-in_ok-take_references-in-Scan : goal.form-returns-in_ok-take_references-in-Scan
 unfolding ◌>>=◌ then_give
 form-returns-in_ok-take_references-in-Scan t c =
-    scan _ _ c.in-Scan._text _ _ _ _ c.in-Scan.q c.in-Scan.s c.in-Scan._line _ _ _ _ c.pair-in-Scan.result (ap node_of_form (sym c.deref_mut.ensures.value ∙ c.in-Scan.is)) c.in_ok-take_numbers-in-Scan.ensures c.in_ok-take_references-in-Scan.ensures
+    scan _ _ c.in-Scan.text _ _ _ _ c.in-Scan.q c.in-Scan.s c.in-Scan._line _ _ _ _ c.pair-in-Scan.result (ap node_of_form (sym c.deref_mut.ensures.value ∙ c.in-Scan.is)) c.in_ok-take_numbers-in-Scan.ensures c.in_ok-take_references-in-Scan.ensures
     (at_two pair_does _ _ _ _ (pair (node_of c.pair-in-Scan.new.a) (node_of c.pair-in-Scan.new.b)) _ _ c.pair-in-Scan.result c.in-Scan.a-is c.in-Scan.f-is c.pair-in-Scan.ensures) (search rules)
 
 pub form-returns-in-IfElse : goal.form-returns-in-IfElse
@@ -413,22 +413,22 @@ form-returns-in-Bound t c =
 pub form-returns-in-Make : goal.form-returns-in-Make
 unfolding ◌>>=◌ then_give
 form-returns-in-Make t c =
-    formed placed _ (λ (x : Nodes). node.Make (rc_value c.in-Make._class) x) _ _ _ _ _ _ c.all.result (at_one all_does _ _ _ _ _ c.all.result c.in-Make.args-is c.all.ensures) (make_is _ c.in-Make._class c.in-Make.args _ (sym c.deref_mut.ensures.value ∙ c.in-Make.is) refl) (λ around locals. refl) (make_is _ c.in-Make._class c.all.new.items _ (search rules) refl)
+    formed_as placed _ (λ (x : Nodes). node.Make (rc_value c.in-Make.class) x) _ _ _ (code.Make c.in-Make.class c.all.new.items) _ _ _ c.all.result (at_one all_does _ _ _ _ _ c.all.result c.in-Make.args-is c.all.ensures) (make_is _ c.in-Make.class c.in-Make.args _ (sym c.deref_mut.ensures.value ∙ c.in-Make.is) refl) (λ around locals. refl) (λ form e. make_is form c.in-Make.class c.all.new.items (items_of c.all.new.items) e refl) (search rules)
 
 pub form-returns-in-Lib : goal.form-returns-in-Lib
 unfolding ◌>>=◌ then_give
 form-returns-in-Lib t c =
-    formed placed _ (λ (x : Nodes). node.Lib c.in-Lib._code x c.in-Lib._line) _ _ _ _ _ _ c.all-in-Lib.result (at_one all_does _ _ _ _ _ c.all-in-Lib.result c.in-Lib.args-is c.all-in-Lib.ensures) (lib_is _ c.in-Lib._code c.in-Lib.args c.in-Lib._line _ (sym c.deref_mut.ensures.value ∙ c.in-Lib.is) refl) (λ around locals. refl) (lib_is _ c.in-Lib._code c.all-in-Lib.new.items c.in-Lib._line _ (search rules) refl)
+    formed_as placed _ (λ (x : Nodes). node.Lib c.in-Lib.code x c.in-Lib._line) _ _ _ (code.Lib c.in-Lib.code c.all-in-Lib.new.items c.in-Lib._line) _ _ _ c.all-in-Lib.result (at_one all_does _ _ _ _ _ c.all-in-Lib.result c.in-Lib.args-is c.all-in-Lib.ensures) (lib_is _ c.in-Lib.code c.in-Lib.args c.in-Lib._line _ (sym c.deref_mut.ensures.value ∙ c.in-Lib.is) refl) (λ around locals. refl) (λ form e. lib_is form c.in-Lib.code c.all-in-Lib.new.items c.in-Lib._line (items_of c.all-in-Lib.new.items) e refl) (search rules)
 
 pub form-returns-in-Elems : goal.form-returns-in-Elems
 unfolding ◌>>=◌ then_give
 form-returns-in-Elems t c =
-    formed_as placed _ (λ (x : WithAll). node.Elems x.first x.items (ty_view c.in-Elems._ty) c.in-Elems._line) _ _ _ (code.Elems c.with_all.new.first c.with_all.new.items c.in-Elems._ty c.in-Elems._line) _ _ _ c.with_all.result (at_two with_all_does _ _ _ _ _ _ _ c.with_all.result c.in-Elems.l-is c.in-Elems.items-is c.with_all.ensures) (elems_is _ c.in-Elems.l c.in-Elems.items c.in-Elems._ty c.in-Elems._line _ (sym c.deref_mut.ensures.value ∙ c.in-Elems.is) refl) (λ around locals. refl) (λ e. elems_is _ c.with_all.new.first c.with_all.new.items c.in-Elems._ty c.in-Elems._line _ e refl) (search rules)
+    formed_as placed _ (λ (x : WithAll). node.Elems x.first x.items (ty_view c.in-Elems._ty) c.in-Elems._line) _ _ _ (code.Elems c.with_all.new.first c.with_all.new.items c.in-Elems._ty c.in-Elems._line) _ _ _ c.with_all.result (at_two with_all_does _ _ _ _ _ _ _ c.with_all.result c.in-Elems.l-is c.in-Elems.items-is c.with_all.ensures) (elems_is _ c.in-Elems.l c.in-Elems.items c.in-Elems._ty c.in-Elems._line _ (sym c.deref_mut.ensures.value ∙ c.in-Elems.is) refl) (λ around locals. refl) (λ form e. elems_is form c.with_all.new.first c.with_all.new.items c.in-Elems._ty c.in-Elems._line (items_of c.with_all.new.items) e refl) (search rules)
 
 pub form-returns-in-Call : goal.form-returns-in-Call
 unfolding ◌>>=◌ then_give
 form-returns-in-Call t c =
-    formed_as placed _ (λ (x : WithAll). node.Call x.first x.items c.in-Call._line) _ _ _ (code.Call c.with_all-in-Call.new.first c.with_all-in-Call.new.items c.in-Call._line) _ _ _ c.with_all-in-Call.result (at_two with_all_does _ _ _ _ _ _ _ c.with_all-in-Call.result c.in-Call.f-is c.in-Call.args-is c.with_all-in-Call.ensures) (call_is _ c.in-Call.f c.in-Call.args c.in-Call._line _ (sym c.deref_mut.ensures.value ∙ c.in-Call.is) refl) (λ around locals. refl) (λ e. call_is _ c.with_all-in-Call.new.first c.with_all-in-Call.new.items c.in-Call._line _ e refl) (search rules)
+    formed_as placed _ (λ (x : WithAll). node.Call x.first x.items c.in-Call._line) _ _ _ (code.Call c.with_all-in-Call.new.first c.with_all-in-Call.new.items c.in-Call._line) _ _ _ c.with_all-in-Call.result (at_two with_all_does _ _ _ _ _ _ _ c.with_all-in-Call.result c.in-Call.f-is c.in-Call.args-is c.with_all-in-Call.ensures) (call_is _ c.in-Call.f c.in-Call.args c.in-Call._line _ (sym c.deref_mut.ensures.value ∙ c.in-Call.is) refl) (λ around locals. refl) (λ form e. call_is form c.with_all-in-Call.new.first c.with_all-in-Call.new.items c.in-Call._line (items_of c.with_all-in-Call.new.items) e refl) (search rules)
 
 pub literal-returns : goal.literal-returns
 unfolding then_give
