@@ -67,8 +67,8 @@ formed g f make n m before x old new r done n_is same m_is =
     on_ok r (λ (does : Does f old x new). does_same (λ around locals. then_give make (f around locals)) (λ around locals. g around locals n) old new (make x) m (λ around locals. ap (g around locals) n_is ∙ same around locals) m_is (does_made f make old new x does)) done
 
 -- the same, of a form that is known to be this one
-pub formed_as : {A : Type 0} (g : Around → Locals → Node → Given Node) (f : Around → Locals → Given A) (make : A → Node) (n before : Node) (form is : TreeForm) (x : A) (old new : Placer) (r : Made) → OnOk r (Does f old x new) → n ≡ before → ((around : Around) (locals : Locals) → g around locals before ≡ then_give make (f around locals)) → ((form : TreeForm) → form ≡ is → node_of_form form ≡ make x) → form ≡ is → OnOk r (Does (λ around locals. g around locals n) old (node_of_form form) new)
-formed_as g f make n before form is x old new r done n_is same made form_is = formed g f make n (node_of_form form) before x old new r done n_is same (made form form_is)
+pub formed_to : {A : Type 0} (g : Around → Locals → Node → Given Node) (f : Around → Locals → Given A) (make : A → Node) (n m before : Node) (is : TreeForm) (x : A) (old new : Placer) (r : Made) → OnOk r (Does f old x new) → n ≡ before → ((around : Around) (locals : Locals) → g around locals before ≡ then_give make (f around locals)) → node_of_form is ≡ make x → m ≡ node_of_form is → OnOk r (Does (λ around locals. g around locals n) old m new)
+formed_to g f make n m before is x old new r done n_is same made m_is = formed g f make n m before x old new r done n_is same (m_is ∙ made)
 
 pub set_name : (n m : Node) (place made : Place) (ty : TyView) (a x : Node) (old new : Placer) (r : Made) → n ≡ node.SetName place ty a →
     ((around : Around) (locals : Locals) → Stands old around locals → made ≡ place_of around locals place) → OnOk r (Does (λ around locals. placed around locals a) old x new) → m ≡ node.SetName made ty x → OnOk r (Does (λ around locals. placed around locals n) old m new)

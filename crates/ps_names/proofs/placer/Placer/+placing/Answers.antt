@@ -29,7 +29,7 @@ use Rattle.ps_names.specs.inside.Standing.{Stands, Does, Enters, chosen}
 use Rattle.ps_names.specs.inside.Chains.{is_link, placed_behind, weight_behind, weight_arm, Rises}
 use Rattle.ps_names.specs.inside.Clauses.{Pair, Triple, WithAll, Case, Block, pair, with_all, with_arms, text_in, placed_arm}
 use Rattle.ps_names.proofs.Doing.{does_made, does_both, does_same, on_ok, tree_more, arm_more, same_item, same_rest, arm_made, arm_kept}
-use Rattle.ps_names.proofs.Forming.{tree_does, pair_does, triple_does, all_does, with_all_does, case_does, block_does, literal_does, at_one, at_two, at_three, formed, formed_as, declared_at, set_name, let_name, scan, weight_some}
+use Rattle.ps_names.proofs.Forming.{tree_does, pair_does, triple_does, all_does, with_all_does, case_does, block_does, literal_does, at_one, at_two, at_three, formed, formed_to, declared_at, set_name, let_name, scan, weight_some}
 use Rattle.ps_names.proofs.Rising.{inward, turns, outward, weight_out, out}
 use Rattle.ps_names.proofs.Scoping.{block_done, loop_done, literal_done}
 use Rattle.ps_names.proofs.placer.Placer.+placing.Goals as goal
@@ -123,7 +123,7 @@ arms-returns t c =
 
 pub behind-all-requires : goal.behind-all-requires
 behind-all-requires t c =
-    let whole = ap weight_behind (call_is _ c.in-Call._f c.in-Call.args c.in-Call._line _ (sym c.deref_mut.ensures.value ∙ c.in-Call.is) refl) in
+    let whole = ap weight_behind (call_is _ c.in-Call.f c.in-Call.args c.in-Call._line _ (sym c.deref_mut.ensures.value ∙ c.in-Call.is) refl) in
     search (rules, whole)
 
 pub behind-returns-in-And : goal.behind-returns-in-And
@@ -159,7 +159,7 @@ behind-returns-in-Element t c =
 pub behind-returns-in-Call : goal.behind-returns-in-Call
 unfolding ◌>>=◌ then_give
 behind-returns-in-Call t c =
-    formed_as placed_behind _ (λ (x : Nodes). node.Call (node_of c.in-Call.f) x c.in-Call._line) _ _ _ (code.Call c.in-Call.f c.all.new.items c.in-Call._line) _ _ _ c.all.result (at_one all_does _ _ _ _ _ c.all.result c.in-Call.args-is c.all.ensures) (call_is _ c.in-Call.f c.in-Call.args c.in-Call._line _ (sym c.deref_mut.ensures.value ∙ c.in-Call.is) refl) (λ around locals. refl) (λ form e. call_is form c.in-Call.f c.all.new.items c.in-Call._line (items_of c.all.new.items) e refl) (search rules)
+    formed_to placed_behind _ (λ (x : Nodes). node.Call (node_of c.in-Call.f) x c.in-Call._line) _ _ _ (code.Call c.in-Call.f c.all.new.items c.in-Call._line) _ _ _ c.all.result (at_one all_does _ _ _ _ _ c.all.result c.in-Call.args-is c.all.ensures) (call_is _ c.in-Call.f c.in-Call.args c.in-Call._line _ (sym c.deref_mut.ensures.value ∙ c.in-Call.is) refl) (λ around locals. refl) (call_is (code.Call c.in-Call.f c.all.new.items c.in-Call._line) c.in-Call.f c.all.new.items c.in-Call._line (items_of c.all.new.items) refl refl) (search rules)
 
 pub block-returns : goal.block-returns
 block-returns t c =
@@ -249,16 +249,16 @@ form-case-requires t c =
 
 pub form-all-requires : goal.form-all-requires
 form-all-requires t c =
-    let whole = ap weight (make_is _ c.in-Make._class c.in-Make.args _ (sym c.deref_mut.ensures.value ∙ c.in-Make.is) refl) in
+    let whole = ap weight (make_is _ c.in-Make.class c.in-Make.args _ (sym c.deref_mut.ensures.value ∙ c.in-Make.is) refl) in
     let all = weight_of_all operand (λ n. refl) (nodes_in (items_of c.in-Make.args)) in
-    let is = weight_is (node.Make (rc_value c.in-Make._class) (nodes_in (items_of c.in-Make.args))) in
+    let is = weight_is (node.Make (rc_value c.in-Make.class) (nodes_in (items_of c.in-Make.args))) in
     search (rules, whole, all, is)
 
 pub form-all-requires-in-Lib : goal.form-all-requires-in-Lib
 form-all-requires-in-Lib t c =
-    let whole = ap weight (lib_is _ c.in-Lib._code c.in-Lib.args c.in-Lib._line _ (sym c.deref_mut.ensures.value ∙ c.in-Lib.is) refl) in
+    let whole = ap weight (lib_is _ c.in-Lib.code c.in-Lib.args c.in-Lib._line _ (sym c.deref_mut.ensures.value ∙ c.in-Lib.is) refl) in
     let all = weight_of_all operand (λ n. refl) (nodes_in (items_of c.in-Lib.args)) in
-    let is = weight_is (node.Lib c.in-Lib._code (nodes_in (items_of c.in-Lib.args)) c.in-Lib._line) in
+    let is = weight_is (node.Lib c.in-Lib.code (nodes_in (items_of c.in-Lib.args)) c.in-Lib._line) in
     search (rules, whole, all, is)
 
 pub form-with_all-requires : goal.form-with_all-requires
@@ -292,12 +292,12 @@ form-returns-in_ok-declare-in-Let t c =
 pub form-returns-in-Block : goal.form-returns-in-Block
 unfolding ◌>>=◌ then_give
 form-returns-in-Block t c =
-    formed_as placed _ (λ (x : Block). node.Block x.scope x.items) _ _ _ (code.Block c.block.new.scope c.block.new.items) _ _ _ c.block.result (at_one block_does _ _ _ _ _ c.block.result c.in-Block.items-is c.block.ensures) (block_is _ c.in-Block.scope c.in-Block.items _ (sym c.deref_mut.ensures.value ∙ c.in-Block.is) refl) (λ around locals. refl) (λ form e. block_is form c.block.new.scope c.block.new.items (items_of c.block.new.items) e refl) (search rules)
+    formed_to placed _ (λ (x : Block). node.Block x.scope x.items) _ _ _ (code.Block c.block.new.scope c.block.new.items) _ _ _ c.block.result (at_one block_does _ _ _ _ _ c.block.result c.in-Block.items-is c.block.ensures) (block_is _ c.in-Block.scope c.in-Block.items _ (sym c.deref_mut.ensures.value ∙ c.in-Block.is) refl) (λ around locals. refl) (block_is (code.Block c.block.new.scope c.block.new.items) c.block.new.scope c.block.new.items (items_of c.block.new.items) refl refl) (search rules)
 
 pub form-returns-in-Case : goal.form-returns-in-Case
 unfolding ◌>>=◌ then_give
 form-returns-in-Case t c =
-    formed_as placed _ (λ (x : Case). node.Case x.tested.first x.tested.arms x.last (ty_view c.in-Case._ty)) _ _ _ (code.Case c.case.new.e c.case.new.arms c.case.new.d c.in-Case._ty) _ _ _ c.case.result (at_three case_does _ _ _ _ _ _ _ _ _ c.case.result c.in-Case.e-is c.in-Case.arms-is c.in-Case.d-is c.case.ensures) (case_is _ c.in-Case.e c.in-Case.arms c.in-Case.d c.in-Case._ty _ (sym c.deref_mut.ensures.value ∙ c.in-Case.is) refl) (λ around locals. refl) (λ form e. case_is form c.case.new.e c.case.new.arms c.case.new.d c.in-Case._ty (items_of c.case.new.arms) e refl) (search rules)
+    formed_to placed _ (λ (x : Case). node.Case x.tested.first x.tested.arms x.last (ty_view c.in-Case._ty)) _ _ _ (code.Case c.case.new.e c.case.new.arms c.case.new.d c.in-Case._ty) _ _ _ c.case.result (at_three case_does _ _ _ _ _ _ _ _ _ c.case.result c.in-Case.e-is c.in-Case.arms-is c.in-Case.d-is c.case.ensures) (case_is _ c.in-Case.e c.in-Case.arms c.in-Case.d c.in-Case._ty _ (sym c.deref_mut.ensures.value ∙ c.in-Case.is) refl) (λ around locals. refl) (case_is (code.Case c.case.new.e c.case.new.arms c.case.new.d c.in-Case._ty) c.case.new.e c.case.new.arms c.case.new.d c.in-Case._ty (items_of c.case.new.arms) refl refl) (search rules)
 
 pub form-returns-in-IfDo : goal.form-returns-in-IfDo
 unfolding ◌>>=◌ then_give
@@ -413,22 +413,22 @@ form-returns-in-Bound t c =
 pub form-returns-in-Make : goal.form-returns-in-Make
 unfolding ◌>>=◌ then_give
 form-returns-in-Make t c =
-    formed_as placed _ (λ (x : Nodes). node.Make (rc_value c.in-Make.class) x) _ _ _ (code.Make c.in-Make.class c.all.new.items) _ _ _ c.all.result (at_one all_does _ _ _ _ _ c.all.result c.in-Make.args-is c.all.ensures) (make_is _ c.in-Make.class c.in-Make.args _ (sym c.deref_mut.ensures.value ∙ c.in-Make.is) refl) (λ around locals. refl) (λ form e. make_is form c.in-Make.class c.all.new.items (items_of c.all.new.items) e refl) (search rules)
+    formed_to placed _ (λ (x : Nodes). node.Make (rc_value c.in-Make.class) x) _ _ _ (code.Make c.in-Make.class c.all.new.items) _ _ _ c.all.result (at_one all_does _ _ _ _ _ c.all.result c.in-Make.args-is c.all.ensures) (make_is _ c.in-Make.class c.in-Make.args _ (sym c.deref_mut.ensures.value ∙ c.in-Make.is) refl) (λ around locals. refl) (make_is (code.Make c.in-Make.class c.all.new.items) c.in-Make.class c.all.new.items (items_of c.all.new.items) refl refl) (search rules)
 
 pub form-returns-in-Lib : goal.form-returns-in-Lib
 unfolding ◌>>=◌ then_give
 form-returns-in-Lib t c =
-    formed_as placed _ (λ (x : Nodes). node.Lib c.in-Lib.code x c.in-Lib._line) _ _ _ (code.Lib c.in-Lib.code c.all-in-Lib.new.items c.in-Lib._line) _ _ _ c.all-in-Lib.result (at_one all_does _ _ _ _ _ c.all-in-Lib.result c.in-Lib.args-is c.all-in-Lib.ensures) (lib_is _ c.in-Lib.code c.in-Lib.args c.in-Lib._line _ (sym c.deref_mut.ensures.value ∙ c.in-Lib.is) refl) (λ around locals. refl) (λ form e. lib_is form c.in-Lib.code c.all-in-Lib.new.items c.in-Lib._line (items_of c.all-in-Lib.new.items) e refl) (search rules)
+    formed_to placed _ (λ (x : Nodes). node.Lib c.in-Lib.code x c.in-Lib._line) _ _ _ (code.Lib c.in-Lib.code c.all-in-Lib.new.items c.in-Lib._line) _ _ _ c.all-in-Lib.result (at_one all_does _ _ _ _ _ c.all-in-Lib.result c.in-Lib.args-is c.all-in-Lib.ensures) (lib_is _ c.in-Lib.code c.in-Lib.args c.in-Lib._line _ (sym c.deref_mut.ensures.value ∙ c.in-Lib.is) refl) (λ around locals. refl) (lib_is (code.Lib c.in-Lib.code c.all-in-Lib.new.items c.in-Lib._line) c.in-Lib.code c.all-in-Lib.new.items c.in-Lib._line (items_of c.all-in-Lib.new.items) refl refl) (search rules)
 
 pub form-returns-in-Elems : goal.form-returns-in-Elems
 unfolding ◌>>=◌ then_give
 form-returns-in-Elems t c =
-    formed_as placed _ (λ (x : WithAll). node.Elems x.first x.items (ty_view c.in-Elems._ty) c.in-Elems._line) _ _ _ (code.Elems c.with_all.new.first c.with_all.new.items c.in-Elems._ty c.in-Elems._line) _ _ _ c.with_all.result (at_two with_all_does _ _ _ _ _ _ _ c.with_all.result c.in-Elems.l-is c.in-Elems.items-is c.with_all.ensures) (elems_is _ c.in-Elems.l c.in-Elems.items c.in-Elems._ty c.in-Elems._line _ (sym c.deref_mut.ensures.value ∙ c.in-Elems.is) refl) (λ around locals. refl) (λ form e. elems_is form c.with_all.new.first c.with_all.new.items c.in-Elems._ty c.in-Elems._line (items_of c.with_all.new.items) e refl) (search rules)
+    formed_to placed _ (λ (x : WithAll). node.Elems x.first x.items (ty_view c.in-Elems._ty) c.in-Elems._line) _ _ _ (code.Elems c.with_all.new.first c.with_all.new.items c.in-Elems._ty c.in-Elems._line) _ _ _ c.with_all.result (at_two with_all_does _ _ _ _ _ _ _ c.with_all.result c.in-Elems.l-is c.in-Elems.items-is c.with_all.ensures) (elems_is _ c.in-Elems.l c.in-Elems.items c.in-Elems._ty c.in-Elems._line _ (sym c.deref_mut.ensures.value ∙ c.in-Elems.is) refl) (λ around locals. refl) (elems_is (code.Elems c.with_all.new.first c.with_all.new.items c.in-Elems._ty c.in-Elems._line) c.with_all.new.first c.with_all.new.items c.in-Elems._ty c.in-Elems._line (items_of c.with_all.new.items) refl refl) (search rules)
 
 pub form-returns-in-Call : goal.form-returns-in-Call
 unfolding ◌>>=◌ then_give
 form-returns-in-Call t c =
-    formed_as placed _ (λ (x : WithAll). node.Call x.first x.items c.in-Call._line) _ _ _ (code.Call c.with_all-in-Call.new.first c.with_all-in-Call.new.items c.in-Call._line) _ _ _ c.with_all-in-Call.result (at_two with_all_does _ _ _ _ _ _ _ c.with_all-in-Call.result c.in-Call.f-is c.in-Call.args-is c.with_all-in-Call.ensures) (call_is _ c.in-Call.f c.in-Call.args c.in-Call._line _ (sym c.deref_mut.ensures.value ∙ c.in-Call.is) refl) (λ around locals. refl) (λ form e. call_is form c.with_all-in-Call.new.first c.with_all-in-Call.new.items c.in-Call._line (items_of c.with_all-in-Call.new.items) e refl) (search rules)
+    formed_to placed _ (λ (x : WithAll). node.Call x.first x.items c.in-Call._line) _ _ _ (code.Call c.with_all-in-Call.new.first c.with_all-in-Call.new.items c.in-Call._line) _ _ _ c.with_all-in-Call.result (at_two with_all_does _ _ _ _ _ _ _ c.with_all-in-Call.result c.in-Call.f-is c.in-Call.args-is c.with_all-in-Call.ensures) (call_is _ c.in-Call.f c.in-Call.args c.in-Call._line _ (sym c.deref_mut.ensures.value ∙ c.in-Call.is) refl) (λ around locals. refl) (call_is (code.Call c.with_all-in-Call.new.first c.with_all-in-Call.new.items c.in-Call._line) c.with_all-in-Call.new.first c.with_all-in-Call.new.items c.in-Call._line (items_of c.with_all-in-Call.new.items) refl refl) (search rules)
 
 pub literal-returns : goal.literal-returns
 unfolding then_give
