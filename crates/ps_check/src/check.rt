@@ -29,7 +29,7 @@ pub fn check(alloc: Global, rough: &Rough) -> Result<Program, CheckFault>
     ensures program { IfOk result (λ program. check_program (phrase_of rough.now) ≡ Typed (body_of program.body)) }
     ensures fault { IfErr result (λ fault. (told : Fault) → fault_of fault ≡ Some told → check_program (phrase_of rough.now) ≡ Fails told) }
 {
-    let Whole { tree, names } = whole(alloc, rough)?;
+    let Whole { tree, names } = tree_and_names(alloc, rough)?;
     let body = Body {
         params: List::new(Vec::new(alloc)),
         gives: Ty::Void,
@@ -51,7 +51,7 @@ pub(crate) struct Whole {
     pub(crate) names: Vec<Member>,
 }
 
-fn whole(alloc: Global, rough: &Rough) -> Result<Whole, CheckFault>
+fn tree_and_names(alloc: Global, rough: &Rough) -> Result<Whole, CheckFault>
     ensures { IsWhole (wants Void (end_line_of (phrase_of rough.now)) (check_of library_names (phrase_of rough.now))) result }
 {
     let scope = Scope::new(alloc)?;
