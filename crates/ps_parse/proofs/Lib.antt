@@ -5,5 +5,4 @@ pub mod Failures
 pub mod Faults
 pub mod Prefixes
 pub mod Rows
-pub mod Steps
 pub mod Unique

@@ -27,13 +27,19 @@ use Rattle.ps_tree.specs.Phrase.{Phrase, Phrases, none, more, MaybePhrase, absen
 use Rattle.ps_tree.specs.Phrase as form
 use Rattle.ps_tree.specs.PhraseLists.{phrases_in, arms_in, items_in}
 use Rattle.ps_tree.specs.Composing.{and_arm, and_item, and_then}
-use Rattle.ps_parse.specs.Grammar.{Application, Body, Clause, Compared, Comparison, Give, Go, Groups, Items, Made, MoreArguments, MoreChain, MoreGroups, Nested, Open, ParameterTypes, Parameters, Part, Primary, Rule, SecondArgument, Test, a_clause, a_clause_inside, a_type, a_type_inside, all_groups, all_types, an_item, applied, arguments, assignment, between, binding, cases, choice, comparison, ended, ending, factor, give, inside, items, items_end, labels, line_in, more_arguments, more_chain, more_elements, more_groups, more_types, more_written, next_group, one_item, opened, parameter_types, parameters, primary, relative, result, row, second_argument, skip, step, typed_as, until, width, with_clause}
-use Rattle.ps_parse.specs.Reading.{kind_at, kind_of_next, Reads}
-use Rattle.ps_parse.specs.inside.Parsing.{an_arm, behind_labels, next_groups}
-use Rattle.ps_parse.specs.inside.Stopping.{HaltsWith, Continues}
-use Rattle.ps_parse.specs.Program.{unexpected}
+use Rattle.ps_reader.specs.Grammar.{Application, Between, Body, Clause, Compared, Comparison, Factor, Give, Go, Groups, Items, Labels, Made, MoreArguments, MoreChain, MoreElements, MoreGroups, Nested, Open, ParameterTypes, Parameters, Part, Primary, Rule, SecondArgument, Step, Test, Until, a_clause, a_clause_inside, a_type, a_type_inside, all_groups, all_types, an_item, applied, arguments, assignment, between, binding, cases, choice, clause_of, comparison, ended, ending, factor, give, inside, items, items_end, labels, line_at, line_in, more_arguments, more_chain, more_elements, more_groups, more_types, more_written, next_group, one_item, opened, operand, parameter_types, parameters, primary, relative, result, row, second_argument, skip, step, typed_as, until, width, with_clause}
+use Rattle.ps_reader.specs.Reading.{kind_at, kind_of_next, Reads}
+use Rattle.ps_base.specs.declared.operator.Relation.{Relation}
+use Rattle.ps_symbols.specs.declared.kind.Relating.TheVariants.{Compares, IsOf}
+use Rattle.ps_tree.specs.Composing.{joined}
+use Rattle.ps_reader.specs.declared.reader.Reader.{Reader}
+use Rattle.ps_reader.specs.inside.Parsing.{Accepts, IsOther, Stands, StandsForNone}
+use Rattle.ps_parse.specs.inside.Clauses.{IsList, IsOptional, an_arm, behind_is, behind_labels, behind_relation}
+use Rattle.ps_reader.specs.inside.Stopping.{HaltsWith, Continues}
+use Rattle.ps_reader.specs.Faults.{unexpected}
 use Rattle.ps_tree.proofs.PhraseLemmas.{phrases_in-append, arms_in-append, items_in-append, groups_in-append, names_in-append}
-use Rattle.ps_parse.proofs.Steps.{given, reads_as_this, by_row, on, same}
+use Rattle.ps_reader.proofs.Steps.{on, by_row, took, stood, began, otherwise, same}
+use Rattle.ps_reader.proofs.Rows.{goes_by}
 
 -- where the kinds that a part asks for aren't there
 
@@ -60,23 +66,6 @@ pub binding_other : (line : Line) (name : NameAt) (k : Kind) → (k ≡ kind.Equ
 binding_other line name kind.Equals not_Equals not_Becomes = absurd (not_Equals refl)
 binding_other line name kind.Becomes not_Equals not_Becomes = absurd (not_Becomes refl)
 binding_other line name _ not_Equals not_Becomes = refl
-
-pub groups_other : (of_last : TyView) (before : List GroupAt) (k : Kind) → (k ≡ kind.Comma → ⊥) → (k ≡ kind.Semicolon → ⊥) → more_groups of_last before k ≡ Give (all_groups before)
-groups_other of_last before kind.Comma not_Comma not_Semicolon = absurd (not_Comma refl)
-groups_other of_last before kind.Semicolon not_Comma not_Semicolon = absurd (not_Semicolon refl)
-groups_other of_last before _ not_Comma not_Semicolon = refl
-
-pub next_group_other : (text : List ℕ) (of_last : TyView) (before : List GroupAt) (k : Kind) → (k ≡ kind.Name → ⊥) → next_group text of_last before k ≡ Go (Groups before)
-next_group_other text of_last before kind.Name not_Name = absurd (not_Name refl)
-next_group_other text of_last before _ not_Name = refl
-
-pub result_other : (k : Kind) → (k ≡ kind.Arrow → ⊥) → result k ≡ Give (a_type ty.Void)
-result_other kind.Arrow not_Arrow = absurd (not_Arrow refl)
-result_other _ not_Arrow = refl
-
-pub types_other : (before : TyViews) (k : Kind) → (k ≡ kind.Comma → ⊥) → more_types before k ≡ Give (all_types before)
-types_other before kind.Comma not_Comma = absurd (not_Comma refl)
-types_other before _ not_Comma = refl
 
 pub choice_other : (line : Line) (c : Phrase) (k : Kind) → (k ≡ kind.Do → ⊥) → (k ≡ kind.Then → ⊥) → choice line c k ≡ None
 choice_other line c kind.Do not_Do not_Then = absurd (not_Do refl)
@@ -144,70 +133,14 @@ pub more_elements_other : (line : Line) (l : Phrase) (of_each : TyView) (before 
 more_elements_other line l of_each before kind.Comma not_Comma = absurd (not_Comma refl)
 more_elements_other line l of_each before _ not_Comma = refl
 
-some_of : (o : Option Rule) → IsSome o → (rule : Rule) × (o ≡ Some rule)
-some_of (Some rule) is = (rule, refl)
-some_of None is = absurd (cc)
-
-nothing_at_end : (text : List ℕ) (nested : Nested) → IsSome (inside text nested kind.EndOfText) → ⊥
-nothing_at_end text a_clause_inside is = cc
-nothing_at_end text a_type_inside is = cc
-
-pub too_deep : (text : List ℕ) (count : ℕ) (symbols : List Symbol) (from : ℕ) (nested : Nested) (symbol : Symbol) → Some symbol ≡ slice_get symbols from → IsSome (inside text nested (kind_at symbols from)) → HaltsWith text count symbols 0 (Open nested) from (TooNested symbol.token.line)
-too_deep text count symbols from nested symbol here stands =
-    let found = some_of (inside text nested (kind_at symbols from)) stands in
-    HaltsWith.no_room (sym here) (ap (λ (o : Option Symbol). inside text nested (kind_of_next o)) here ∙ found.1) refl
-
-pub none_too_deep : (text : List ℕ) (count : ℕ) (symbols : List Symbol) (from : ℕ) (nested : Nested) (fault : ParseFault) → None ≡ slice_get symbols from → IsSome (inside text nested (kind_at symbols from)) → HaltsWith text count symbols 0 (Open nested) from fault
-none_too_deep text count symbols from nested fault here stands =
-    absurd (nothing_at_end text nested (subst (λ (o : Option Symbol). IsSome (inside text nested (kind_of_next o))) (sym here) stands))
-
--- a clause or a type is opened, and leaves less room
-module _ (text : List ℕ) (count : ℕ) (symbols : List Symbol) where
-  pub opens : {A : Type 0} (view : A → Made) (result : Result A ParseFault) (room less from to : ℕ) (nested : Nested) (rule : Rule) → MatchResult result (λ made. Continues text count symbols less rule from (Give (view made)) to) (λ fault. HaltsWith text count symbols less rule from fault) → room ≡ suc less → inside text nested (kind_at symbols from) ≡ Some rule → MatchResult result (λ made. Continues text count symbols room (Open nested) from (Give (view made)) to) (λ fault. HaltsWith text count symbols room (Open nested) from fault)
-  opens view (Ok made) room less from to nested rule goes room_is is = subst (λ (r : ℕ). Continues text count symbols r (Open nested) from (Give (view made)) to) (sym room_is) (given (Reads.opens is (reads_as_this goes)) goes.forward)
-  opens view (Err fault) room less from to nested rule halts room_is is = subst (λ (r : ℕ). HaltsWith text count symbols r (Open nested) from fault) (sym room_is) (HaltsWith.in_nested is halts)
-
-  pub type_opens : (from : ℕ) {found : Kind} {start : Option TypeStart} {s : TypeStart} → found ≡ kind_at symbols from → start ≡ type_start_of found → start ≡ Some s → inside text a_type_inside (kind_at symbols from) ≡ Some (typed_as s)
-  type_opens from here is some = ap (λ (k : Kind). option_map typed_as (type_start_of k)) (sym here) ∙ ap (λ (o : Option TypeStart). option_map typed_as o) (sym is ∙ some)
-
+-- a clause is opened
+module _ (text : List ℕ) (symbols : List Symbol) where
   pub clause_opens : (from : ℕ) {found : Kind} {opening : Option Opening} {o : Opening} → found ≡ kind_at symbols from → opening ≡ opening_of found → opening ≡ Some o → inside text a_clause_inside (kind_at symbols from) ≡ Some (opened text o)
   clause_opens from here is some = ap (λ (k : Kind). option_map (opened text) (opening_of k)) (sym here) ∙ ap (λ (o : Option Opening). option_map (opened text) o) (sym is ∙ some)
 
 module _ {text : List ℕ} {count : ℕ} {symbols : List Symbol} where
-  -- a part begins with a token of a kind that has been found there
-  pub goes_as : {room from : ℕ} {part : Part} {found kind : Kind} {rule : Rule} → found ≡ kind_at symbols from → found ≡ kind → row text part kind ≡ Some rule → Continues text count symbols room (Go part) from rule from
-  goes_as {room} {from} {part} {found} {kind} here is row_is = by_row (ap (λ (k : Kind). row text part k) (sym here ∙ is) ∙ row_is)
-
-  -- a part is this rule by the kind that has been found there
-  pub goes_by : {room from : ℕ} {part : Part} {found : Kind} {rule : Rule} → found ≡ kind_at symbols from → row text part found ≡ Some rule → Continues text count symbols room (Go part) from rule from
-  goes_by {room} {from} {part} {found} here is = by_row (ap (λ (k : Kind). row text part k) (sym here) ∙ is)
-
-  pub halts_by : {room from : ℕ} {part : Part} {found : Kind} {fault : ParseFault} → found ≡ kind_at symbols from → row text part found ≡ None → fault ≡ unexpected text count (slice_get symbols from) → HaltsWith text count symbols room (Go part) from fault
-  halts_by {room} {from} {part} {found} here is fault_is = HaltsWith.no_part (ap (λ (k : Kind). row text part k) (sym here) ∙ is) fault_is
-
   pub item_stands : {room from : ℕ} {line : Line} {before : Phrases} {found : Kind} → found ≡ kind_at symbols from → (stands : Bool) → stands ≡ begins_item found → Continues text count symbols room (Go (Items line before)) from (items line before stands) from
   item_stands {line = line} {before = before} {found = found} here stands is = goes_by here (ap (λ (b : Bool). Some (items line before b)) (sym is))
-
-  pub types_stand : {room from : ℕ} {found : Kind} → found ≡ kind_at symbols from → (stand : Bool) → stand ≡ begins_type found → Continues text count symbols room (Go ParameterTypes) from (parameter_types stand) from
-  types_stand {found = found} here stand is = goes_by here (ap (λ (b : Bool). Some (parameter_types b)) (sym is))
-
-  pub parameters_stand : {room from : ℕ} {found : Kind} → found ≡ kind_at symbols from → (stand : Bool) → stand ≡ begins_type found → Continues text count symbols room (Go Parameters) from (parameters stand) from
-  parameters_stand {found = found} here stand is = goes_by here (ap (λ (b : Bool). Some (parameters b)) (sym is))
-
-  pub chain_goes : {room from : ℕ} {level : Level} {left : Phrase} {found : Kind} {operation op : Option Operation} → found ≡ kind_at symbols from → operation ≡ operation_of level found → operation ≡ op → Continues text count symbols room (Go (MoreChain level left)) from (more_chain level left found op) from
-  chain_goes {level = level} {left = left} {found = found} here is some = goes_by here (ap (λ (o : Option Operation). Some (more_chain level left found o)) (sym is ∙ some))
-
-  pub compared_as : {room from : ℕ} {left : Phrase} {found : Kind} {relating r : Option Relating} → found ≡ kind_at symbols from → relating ≡ relating_of found → relating ≡ r → Continues text count symbols room (Go (Comparison left)) from (comparison text left found r) from
-  compared_as {left = left} {found = found} here is some = goes_by here (ap (λ (r : Option Relating). Some (comparison text left found r)) (sym is ∙ some))
-
-  -- a type that is made at the end is what the rule is read as
-  pub built_type : (result : Result Ty ParseFault) {room from to : ℕ} {rule : Rule} {type : TyView} → IfOk result (λ made. ty_view made ≡ type) → IfErr result (λ fault. fault ≡ Memory) → Continues text count symbols room rule from (Give (a_type type)) to → MatchResult result (λ made. Continues text count symbols room rule from (Give (a_type (ty_view made))) to) (λ fault. HaltsWith text count symbols room rule from fault)
-  built_type (Ok made) is memory goes = on goes (same (ap (λ (t : TyView). Give (a_type t)) (sym is)))
-  built_type (Err fault) is memory goes = HaltsWith.out_of_memory memory
-
-  -- a name that is declared is the one that stands there
-  pub same_name : {room from : ℕ} (next : NameAt → Rule) {name other : NameAt} → other ≡ name → Continues text count symbols room (next name) from (next other) from
-  same_name next is = same (ap next (sym is))
 
   -- a loop goes on with what it has made
   pub phrases_begin : {room from : ℕ} (next : Phrases → Rule) {made : List Rough} → made ≡ [] → Continues text count symbols room (next none) from (next (phrases_in made)) from
@@ -228,35 +161,57 @@ module _ {text : List ℕ} {count : ℕ} {symbols : List Symbol} where
   pub written_again : {room from : ℕ} (next : WriteItems → Rule) (before : List RoughItem) (last : RoughItem) {made : List RoughItem} → made ≡ before ++ last ∷ [] → Continues text count symbols room (next (and_item (items_in before) (item_of last))) from (next (items_in made)) from
   written_again next before last is = same (ap next (sym (ap items_in is ∙ items_in-append before last)))
 
-  pub written_first : {room from : ℕ} (next : WriteItems → Rule) (before : List RoughItem) (last : RoughItem) {made : List RoughItem} → before ≡ [] → made ≡ before ++ last ∷ [] → Continues text count symbols room (next (more_items (item_of last) no_items)) from (next (items_in made)) from
-  written_first next before last empty is = same (ap (λ (all : List RoughItem). next (and_item (items_in all) (item_of last))) (sym empty) ∙ ap next (sym (ap items_in is ∙ items_in-append before last)))
-
-  pub types_again : {room from : ℕ} (next : TyViews → Rule) (before : List Ty) (last : Ty) {made : List Ty} → made ≡ before ++ last ∷ [] → Continues text count symbols room (next (and_type (ty_views before) (ty_view last))) from (next (ty_views made)) from
-  types_again next before last is = same (ap next (sym (ap ty_views is ∙ ty_views-append before last)))
-
-  pub types_first : {room from : ℕ} (next : TyViews → Rule) (before : List Ty) (last : Ty) {made : List Ty} → before ≡ [] → made ≡ before ++ last ∷ [] → Continues text count symbols room (next (ty.more (ty_view last) ty.none)) from (next (ty_views made)) from
-  types_first next before last empty is = same (ap (λ (all : List Ty). next (and_type (ty_views all) (ty_view last))) (sym empty) ∙ ap next (sym (ap ty_views is ∙ ty_views-append before last)))
-
-  pub groups_begin : {room from : ℕ} (next : List GroupAt → Rule) {made : List Group} → made ≡ [] → Continues text count symbols room (next []) from (next (groups_in made)) from
-  groups_begin next is = same (ap (λ (made : List Group). next (groups_in made)) (sym is))
-
-  pub groups_again : {room from : ℕ} (next : List GroupAt → Rule) (before : List Group) (last : Group) {first : GroupAt} {others : List GroupAt} {made : List Group} → group_of last ≡ first ∷ others → made ≡ before ++ last ∷ [] → Continues text count symbols room (next ((groups_in before ++ first ∷ []) ++ others)) from (next (groups_in made)) from
-  groups_again next before last {first = first} {others = others} group is = same (ap next (append_assoc (groups_in before) (first ∷ []) others ∙ ap (λ (all : List GroupAt). groups_in before ++ all) (sym group) ∙ sym (ap groups_in is ∙ groups_in-append before last)))
-
-  -- behind the first name of a group there are no further ones yet
-  pub further : {room from : ℕ} (t : TyView) (before : List GroupAt) (none_yet : List Named) → none_yet ≡ [] → Continues text count symbols room (Go (MoreGroups t before)) from (Go (MoreGroups t (before ++ names_in t none_yet))) from
-  further t before none_yet is = same (ap (λ (all : List GroupAt). Go (MoreGroups t all)) (sym (ap (λ (names : List Named). before ++ names_in t names) is ∙ append-nil before)))
-
-  -- one name more of a group
-  pub names_again : {room from : ℕ} (next : List GroupAt → Rule) (t : TyView) (before : List GroupAt) (names : List Named) (last : Named) {made : List Named} → made ≡ names ++ last ∷ [] → Continues text count symbols room (next ((before ++ names_in t names) ++ of_type t last ∷ [])) from (next (before ++ names_in t made)) from
-  names_again next t before names last is = same (ap next (append_assoc before (names_in t names) (of_type t last ∷ []) ∙ ap (λ (all : List GroupAt). before ++ all) (sym (ap (names_in t) is ∙ names_in-append t names last))))
-
   pub primary_as : {room from : ℕ} {found : Kind} {begun : Option Start} {how : Start} → found ≡ kind_at symbols from → begun ≡ start_of found → begun ≡ Some how → Continues text count symbols room (Go Primary) from (primary text found how) from
   primary_as {found = found} here is some = goes_by here (ap (λ (o : Option Start). option_map (primary text found) o) (sym is ∙ some))
 
--- whether there is a next group
-pub no_next : (before : List GroupAt) {goes_on : Bool} → goes_on ≡ false → next_groups before goes_on ≡ Give (all_groups before)
-no_next before is = ap (next_groups before) is
+  pub items_begin : {room from : ℕ} (next : WriteItems → Rule) {made : List RoughItem} → made ≡ [] → Continues text count symbols room (next no_items) from (next (items_in made)) from
+  items_begin next is = same (ap (λ (made : List RoughItem). next (items_in made)) (sym is))
 
-pub has_next : (before : List GroupAt) {goes_on : Bool} → goes_on ≡ true → next_groups before goes_on ≡ Go (Groups before)
-has_next before is = ap (next_groups before) is
+module _ {text : List ℕ} where
+  -- the parts that are lists of clauses with commas between them
+  pub labels_list : {line : Line} {e : Phrase} {before : Arms} → IsList text (Labels line e before) (behind_labels line e before)
+  labels_list = record { comma = λ all. refl; other = λ all k not. ap Some (labels_other _ _ _ all k not) }
+
+  pub arguments_list : {line : Line} {f : Phrase} → IsList text (MoreArguments line f) (λ all. skip kind.CloseRound (give (form.Apply f all) line))
+  arguments_list = record { comma = λ all. refl; other = λ all k not. ap Some (more_arguments_other _ _ all k not) }
+
+  pub elements_list : {line : Line} {l : Phrase} {t : TyView} → IsList text (MoreElements line l t) (λ all. skip kind.CloseSquare (give (form.Elems l t all) line))
+  elements_list = record { comma = λ all. refl; other = λ all k not. ap Some (more_elements_other _ _ _ all k not) }
+
+  -- the parts that are a clause behind a word, if it stands there
+  pub between_optional : {line : Line} {a c : Phrase} → IsOptional text kind.Do (Between line a c) (λ b. give (form.Repeat a c b) line)
+  between_optional = record { symbol = refl; there = refl; other = λ k not. ap Some (between_other _ _ _ k not) }
+
+  pub step_optional : {line : Line} {name : NameAt} {a b : Phrase} → IsOptional text kind.By (Step line name a b) (λ c. Go (Body line name a b c))
+  step_optional = record { symbol = refl; there = refl; other = λ k not. ap Some (step_other _ _ _ _ k not) }
+
+module _ (reader : Reader) where
+  -- a `;` before the `while` of a `repeat`, or none
+  pub passed : {room from to : ℕ} {line : Line} {a : Phrase} (result : Option Symbol) → Accepts reader kind.Semicolon from result to → Continues reader.text.now reader.tokens reader.symbols.now room (Go (Until line a)) from (Go (Test line a)) to
+  passed (Some symbol) taken = began taken refl
+  passed None stays = otherwise stays refl (λ k not. ap Some (until_other _ _ k not))
+
+module _ {reader : Reader} where
+  -- a factor without a sign
+  pub no_sign : {room from middle to : ℕ} → IsOther reader kind.Plus from middle → IsOther reader kind.Minus middle to → Continues reader.text.now reader.tokens reader.symbols.now room (Go Factor) from (Go Application) to
+  no_sign {room} {from} plus minus = subst (λ (p : ℕ). Continues reader.text.now reader.tokens reader.symbols.now room (Go Factor) from (Go Application) p) (sym (minus.stays ∙ plus.stays)) (by_row (ap Some (factor_other (kind_at reader.symbols.now from) (plus.other refl) (subst (λ (p : ℕ). kind_at reader.symbols.now p ≡ kind.Minus → ⊥) plus.stays (minus.other refl)))))
+
+  -- an operator of the level stands behind an operand, or none
+  pub operated : {room from to : ℕ} {level : Level} {left : Phrase} {operation : Operation} {mark : Symbol} → Stands reader (operation_of level) from (operation, mark) to → Continues reader.text.now reader.tokens reader.symbols.now room (Go (MoreChain level left)) from (clause_of (Go (operand level)) (λ right. Go (MoreChain level (joined operation left right (line_at mark))))) to
+  operated {level = level} {left = left} {mark = mark} stands = on (by_row (ap (λ (k : Kind). Some (more_chain level left k (operation_of level k))) (stood stands.taken) ∙ ap (λ (o : Option Operation). Some (more_chain level left mark.kind o)) stands.means)) (took stands.taken)
+
+  pub not_operated : {room from to : ℕ} {level : Level} {left : Phrase} → StandsForNone reader (operation_of level) from to → Continues reader.text.now reader.tokens reader.symbols.now room (Go (MoreChain level left)) from (Give (a_clause left)) to
+  not_operated {room} {from} {level = level} {left = left} stands = subst (λ (p : ℕ). Continues reader.text.now reader.tokens reader.symbols.now room (Go (MoreChain level left)) from (Give (a_clause left)) p) (sym stands.stays) (by_row (ap (λ (o : Option Operation). Some (more_chain level left (kind_at reader.symbols.now from) o)) stands.none))
+
+  -- a comparison stands behind a sum, or the question for a class, or none
+  related : {room from to : ℕ} {left : Phrase} {relating : Relating} {mark : Symbol} → Stands reader relating_of from (relating, mark) to → (how : Relating) → relating ≡ how → Continues reader.text.now reader.tokens reader.symbols.now room (Go (Comparison left)) from (comparison reader.text.now left mark.kind (Some how)) from
+  related {left = left} {mark = mark} stands how is = by_row (ap (λ (k : Kind). Some (comparison reader.text.now left k (relating_of k))) (stood stands.taken) ∙ ap (λ (r : Option Relating). Some (comparison reader.text.now left mark.kind r)) (stands.means ∙ ap Some is))
+
+  pub compares_there : {room from to : ℕ} {left : Phrase} {relating : Relating} {mark : Symbol} {op : Relation} → Stands reader relating_of from (relating, mark) to → relating ≡ Compares op → Continues reader.text.now reader.tokens reader.symbols.now room (Go (Comparison left)) from (behind_relation left op (line_at mark)) to
+  compares_there stands is = on (related stands _ is) (took stands.taken)
+
+  pub is_there : {room from to : ℕ} {left : Phrase} {relating : Relating} {mark : Symbol} {negated : Bool} → Stands reader relating_of from (relating, mark) to → relating ≡ IsOf negated → Continues reader.text.now reader.tokens reader.symbols.now room (Go (Comparison left)) from (behind_is reader.text.now left negated (line_at mark)) to
+  is_there stands is = on (related stands _ is) (took stands.taken)
+
+  pub not_related : {room from to : ℕ} {left : Phrase} → StandsForNone reader relating_of from to → Continues reader.text.now reader.tokens reader.symbols.now room (Go (Comparison left)) from (Give (a_clause left)) to
+  not_related {room} {from} {left = left} stands = subst (λ (p : ℕ). Continues reader.text.now reader.tokens reader.symbols.now room (Go (Comparison left)) from (Give (a_clause left)) p) (sym stands.stays) (by_row (ap (λ (r : Option Relating). Some (comparison reader.text.now left (kind_at reader.symbols.now from) r)) stands.none))

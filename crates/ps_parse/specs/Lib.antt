@@ -1,4 +1,2 @@
-pub mod Grammar
 pub mod Program
-pub mod Reading
 pub mod inside
