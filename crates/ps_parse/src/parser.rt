@@ -1,5 +1,3 @@
-#![tactic(auto, using(ps_reader::proofs::Steps::steps))]
-
 ghost use Rattle.std.specs.Prelude.{◌≢◌, ◌≤◌, length, IfOk, IfErr};
 ghost use Rattle.ps_scan.specs.Tokens.{HasTokens};
 ghost use Rattle.ps_tree.specs.Phrase.{phrase_of};
@@ -7,15 +5,8 @@ ghost use Rattle.ps_reader.specs.Grammar.{Go, Program};
 ghost use Rattle.ps_reader.specs.inside.Parsing.{AreSound, ReadsClause};
 ghost use Rattle.ps_parse.specs.Program.{ReadsAs, IsParseFault};
 
-mod cases;
-mod clauses;
-mod items;
-mod loops;
-mod operators;
-mod primaries;
-mod writing;
-
 use ps_base::line::Line;
+use ps_clauses::items::items;
 use ps_reader::reader::Reader;
 use ps_scan::{LONGEST_TEXT, Token, tokens_are_slices};
 use ps_symbols::kind::Kind;
@@ -46,14 +37,12 @@ pub fn parse(alloc: Global, text: &[u8], tokens: &[Token]) -> Result<Rough, Pars
     program(&reader, &mut 0)
 }
 
-// Each function reads those symbols that are one part of the grammar: from the place on, which moves
-// behind them. `room` is how many clauses and types may still stand inside one another.
-
+#[tactic(auto, using(ps_reader::proofs::Steps::steps))]
 fn program(reader: &Reader, at: &mut usize) -> Result<Rough, ParseFault>
     requires sound { AreSound reader.now }
     ensures { ReadsClause reader.now 100 (Go Program) at.old result at.new }
 {
-    let all = items::items(reader, at, DEEPEST, Line(1))?;
+    let all = items(reader, at, DEEPEST, Line(1))?;
     match reader.kind_at(*at) {
         Kind::Question => {
             reader.take(at, Kind::Question)?;

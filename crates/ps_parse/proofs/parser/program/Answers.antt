@@ -1,9 +1,21 @@
-use Rattle.std.proofs.Common.{refl}
+use Rattle.std.proofs.Common.{◌≡◌, None, refl}
+use Rattle.ps_symbols.specs.declared.kind.Kind.{Kind}
+use Rattle.ps_symbols.specs.declared.kind.Kind.TheVariants as kind
+use Rattle.ps_tree.specs.Phrase.{Phrase}
+use Rattle.ps_reader.specs.Grammar.{ended, ending}
 use Rattle.ps_reader.specs.inside.Stopping.{HaltsWith}
 use Rattle.ps_reader.proofs.Steps.{on, took, by_row, behind_first, failed}
-use Rattle.ps_parse.proofs.Rows.{ending_other, ended_other}
 use Rattle.ps_reader.proofs.Rows.{goes_as, halts_by}
 use Rattle.ps_parse.proofs.parser.program.Goals as goal
+
+ending_other : (all : Phrase) (k : Kind) → (k ≡ kind.Question → ⊥) → (k ≡ kind.EndOfText → ⊥) → ending all k ≡ None
+ending_other all kind.Question not_Question not_EndOfText = absurd (not_Question refl)
+ending_other all kind.EndOfText not_Question not_EndOfText = absurd (not_EndOfText refl)
+ending_other all _ not_Question not_EndOfText = refl
+
+ended_other : (all : Phrase) (k : Kind) → (k ≡ kind.EndOfText → ⊥) → ended all k ≡ None
+ended_other all kind.EndOfText not_EndOfText = absurd (not_EndOfText refl)
+ended_other all _ not_EndOfText = refl
 
 pub returns-in_err-all : goal.returns-in_err-all
 returns-in_err-all c = failed _ _ c.from_residual.ensures.1 (HaltsWith.in_part refl (HaltsWith.in_first c.in_err-all.ensures))

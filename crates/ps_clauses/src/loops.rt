@@ -3,7 +3,7 @@
 ghost use Rattle.ps_reader.specs.Grammar.{loop, repeating, counting};
 ghost use Rattle.ps_reader.specs.inside.Parsing.{AreSound, ReadsClause};
 
-use super::clauses::{after, optional};
+use crate::clauses::{after, optional};
 use ps_reader::reader::Reader;
 use ps_symbols::kind::Kind;
 use ps_tree::build::{for_of, repeat_of, while_of};
@@ -11,7 +11,7 @@ use ps_tree::fault::ParseFault;
 use ps_tree::rough::Rough;
 
 #[cycle(parsing)]
-pub(super) fn repetition(reader: &Reader, at: &mut usize, room: u32) -> Result<Rough, ParseFault>
+pub(crate) fn repetition(reader: &Reader, at: &mut usize, room: u32) -> Result<Rough, ParseFault>
     requires sound { AreSound reader.now }
     ensures { ReadsClause reader.now room loop at.old result at.new }
 {
@@ -21,7 +21,7 @@ pub(super) fn repetition(reader: &Reader, at: &mut usize, room: u32) -> Result<R
 }
 
 #[cycle(parsing)]
-pub(super) fn repeating(reader: &Reader, at: &mut usize, room: u32) -> Result<Rough, ParseFault>
+pub(crate) fn repeating(reader: &Reader, at: &mut usize, room: u32) -> Result<Rough, ParseFault>
     requires sound { AreSound reader.now }
     ensures { ReadsClause reader.now room repeating at.old result at.new }
 {
@@ -33,7 +33,7 @@ pub(super) fn repeating(reader: &Reader, at: &mut usize, room: u32) -> Result<Ro
 }
 
 #[cycle(parsing)]
-pub(super) fn counting(reader: &Reader, at: &mut usize, room: u32) -> Result<Rough, ParseFault>
+pub(crate) fn counting(reader: &Reader, at: &mut usize, room: u32) -> Result<Rough, ParseFault>
     requires sound { AreSound reader.now }
     ensures { ReadsClause reader.now room (counting reader.now.text.now) at.old result at.new }
 {

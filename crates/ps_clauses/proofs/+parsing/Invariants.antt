@@ -6,8 +6,8 @@ use Rattle.ps_tree.specs.PhraseLists.{phrases_in, arms_in, items_in}
 use Rattle.ps_tree.specs.Composing.{and_item}
 use Rattle.ps_reader.specs.Grammar.{Part, Rule, Go, Then, Application, Applied, Items, Cases, Chain, MoreChain, MoreWritten, Written, the_item, writing, line_at}
 use Rattle.ps_reader.specs.inside.Parsing.{GoesOn}
-use Rattle.ps_parse.specs.inside.Clauses.{IsList}
-use Rattle.ps_parse.proofs.parser.+parsing.Given as goal
+use Rattle.ps_clauses.specs.inside.Clauses.{IsList}
+use Rattle.ps_clauses.proofs.+parsing.Given as goal
 
 -- A call of the cycle reads a smaller part of the grammar, or opens a clause, and then has less room.
 abbrev work : ℕ → ℕ → ℕ

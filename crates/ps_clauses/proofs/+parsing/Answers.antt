@@ -9,8 +9,8 @@ use Rattle.ps_reader.specs.Grammar.{Rule, a_clause, an_item, the_clause, the_ite
 use Rattle.ps_reader.specs.inside.Stopping.{HaltsWith}
 use Rattle.ps_reader.proofs.Steps.{on, nearer, took, missing, by_row, behind_first, began, otherwise, unmoved, same, failed, tail, built}
 use Rattle.ps_reader.proofs.Rows.{opens, goes_as, goes_by, halts_by}
-use Rattle.ps_parse.proofs.Rows.{items_other, item_other, binding_other, choice_other, cases_other, width_other, written_other, assignment_other, relative_other, applied_other, arguments_other, second_argument_other, clause_opens, item_stands, primary_as, operated, not_operated, compares_there, is_there, not_related, no_sign, passed, labels_list, arguments_list, elements_list, between_optional, step_optional, phrases_begin, phrases_again, phrases_first, arms_begin, arms_again, items_begin, written_again}
-use Rattle.ps_parse.proofs.parser.+parsing.Goals as goal
+use Rattle.ps_clauses.proofs.Rows.{items_other, item_other, binding_other, choice_other, cases_other, width_other, written_other, assignment_other, relative_other, applied_other, arguments_other, second_argument_other, clause_opens, item_stands, primary_as, operated, not_operated, compares_there, is_there, not_related, no_sign, passed, labels_list, arguments_list, elements_list, between_optional, step_optional, phrases_begin, phrases_again, phrases_first, arms_begin, arms_again, items_begin, written_again}
+use Rattle.ps_clauses.proofs.+parsing.Goals as goal
 
 -- what stands behind the name of a `let`, of a procedure and of a `for`
 abbrev let_name : Line → NameAt → Rule

@@ -34,7 +34,7 @@ use Rattle.ps_symbols.specs.declared.kind.Relating.TheVariants.{Compares, IsOf}
 use Rattle.ps_tree.specs.Composing.{joined}
 use Rattle.ps_reader.specs.declared.reader.Reader.{Reader}
 use Rattle.ps_reader.specs.inside.Parsing.{Accepts, IsOther, Stands, StandsForNone}
-use Rattle.ps_parse.specs.inside.Clauses.{IsList, IsOptional, an_arm, behind_is, behind_labels, behind_relation}
+use Rattle.ps_clauses.specs.inside.Clauses.{IsList, IsOptional, an_arm, behind_is, behind_labels, behind_relation}
 use Rattle.ps_reader.specs.inside.Stopping.{HaltsWith, Continues}
 use Rattle.ps_reader.specs.Faults.{unexpected}
 use Rattle.ps_tree.proofs.PhraseLemmas.{phrases_in-append, arms_in-append, items_in-append, groups_in-append, names_in-append}
@@ -42,15 +42,6 @@ use Rattle.ps_reader.proofs.Steps.{on, by_row, took, stood, began, otherwise, sa
 use Rattle.ps_reader.proofs.Rows.{goes_by}
 
 -- where the kinds that a part asks for aren't there
-
-pub ending_other : (all : Phrase) (k : Kind) → (k ≡ kind.Question → ⊥) → (k ≡ kind.EndOfText → ⊥) → ending all k ≡ None
-ending_other all kind.Question not_Question not_EndOfText = absurd (not_Question refl)
-ending_other all kind.EndOfText not_Question not_EndOfText = absurd (not_EndOfText refl)
-ending_other all _ not_Question not_EndOfText = refl
-
-pub ended_other : (all : Phrase) (k : Kind) → (k ≡ kind.EndOfText → ⊥) → ended all k ≡ None
-ended_other all kind.EndOfText not_EndOfText = absurd (not_EndOfText refl)
-ended_other all _ not_EndOfText = refl
 
 pub items_other : (line : Line) (before : Phrases) (k : Kind) → (k ≡ kind.Semicolon → ⊥) → items_end line before k ≡ give (form.Sequence before) line
 items_other line before kind.Semicolon not_Semicolon = absurd (not_Semicolon refl)

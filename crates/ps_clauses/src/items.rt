@@ -5,7 +5,7 @@ ghost use Rattle.ps_tree.specs.PhraseLists.{phrases_in};
 ghost use Rattle.ps_reader.specs.Grammar.{Go, Item, Items, MoreItems, Literal, let_item, procedure_item, bound};
 ghost use Rattle.ps_reader.specs.inside.Parsing.{AreSound, Does, ReadsClause};
 
-use super::clauses::{after, clause};
+use crate::clauses::{after, clause};
 use ps_base::line::Line;
 use ps_reader::reader::Reader;
 use ps_symbols::kind::{Kind, begins_item};
@@ -15,12 +15,7 @@ use ps_tree::rough::{Named, Rough};
 
 /// The items of a sequence that begins on the line.
 #[cycle(parsing)]
-pub(super) fn items(
-    reader: &Reader,
-    at: &mut usize,
-    room: u32,
-    line: Line,
-) -> Result<Rough, ParseFault>
+pub fn items(reader: &Reader, at: &mut usize, room: u32, line: Line) -> Result<Rough, ParseFault>
     requires sound { AreSound reader.now }
     ensures { ReadsClause reader.now room (Go (Items line none)) at.old result at.new }
 {
@@ -108,7 +103,7 @@ fn procedure_item(reader: &Reader, at: &mut usize, room: u32) -> Result<Rough, P
 
 /// A procedure behind its `proc` on the line, or behind its name.
 #[cycle(parsing)]
-pub(super) fn literal(
+pub(crate) fn literal(
     reader: &Reader,
     at: &mut usize,
     room: u32,

@@ -5,13 +5,13 @@ ghost use Rattle.ps_tree.specs.Phrase.{Phrases, MaybePhrase, phrase_of, none, mo
 ghost use Rattle.ps_tree.specs.PhraseLists.{phrases_in, maybe_in};
 ghost use Rattle.ps_reader.specs.Grammar.{Made, Part, Rule, a_clause, Go, Clause, Choice, opened, condition, procedure, filling, expression};
 ghost use Rattle.ps_reader.specs.inside.Parsing.{AreSound, Does, ReadsClause};
-ghost use Rattle.ps_parse.specs.inside.Clauses.{IsList, IsOptional, behind};
+ghost use Rattle.ps_clauses.specs.inside.Clauses.{IsList, IsOptional, behind};
 
-use super::cases::choosing;
-use super::items::literal;
-use super::loops::{counting, repeating, repetition};
-use super::operators::chain;
-use super::writing::writing;
+use crate::cases::choosing;
+use crate::items::literal;
+use crate::loops::{counting, repeating, repetition};
+use crate::operators::chain;
+use crate::writing::writing;
 use ps_base::line::Line;
 use ps_reader::reader::Reader;
 use ps_symbols::kind::{Kind, Level, Opening, opening_of};
@@ -21,7 +21,7 @@ use ps_tree::fault::ParseFault;
 use ps_tree::rough::Rough;
 
 #[cycle(parsing)]
-pub(super) fn clause(reader: &Reader, at: &mut usize, room: u32) -> Result<Rough, ParseFault>
+pub(crate) fn clause(reader: &Reader, at: &mut usize, room: u32) -> Result<Rough, ParseFault>
     requires sound { AreSound reader.now }
     ensures { ReadsClause reader.now room Clause at.old result at.new }
 {
@@ -55,7 +55,7 @@ fn opened(reader: &Reader, at: &mut usize, room: u32, opening: Opening) -> Resul
 
 /// A symbol of the kind, and the clause behind it.
 #[cycle(parsing)]
-pub(super) fn after(
+pub(crate) fn after(
     reader: &Reader,
     at: &mut usize,
     room: u32,
@@ -71,7 +71,7 @@ pub(super) fn after(
 
 /// The clause behind a symbol of the kind, if one stands at the place.
 #[cycle(parsing)]
-pub(super) fn optional(
+pub(crate) fn optional(
     reader: &Reader,
     at: &mut usize,
     room: u32,
@@ -89,7 +89,7 @@ pub(super) fn optional(
 
 /// The clauses with commas between them of which this is the first.
 #[cycle(parsing)]
-pub(super) fn more_clauses(
+pub(crate) fn more_clauses(
     reader: &Reader,
     at: &mut usize,
     room: u32,

@@ -3,10 +3,10 @@
 ghost use Rattle.ps_tree.specs.Phrase.{phrase_of, none, more};
 ghost use Rattle.ps_reader.specs.Grammar.{Made, Go, Rule, a_clause, Application, Arguments, SecondArgument, MoreArguments, Primary, block, bound_of, elements};
 ghost use Rattle.ps_reader.specs.inside.Parsing.{AreSound, Does, ReadsClause};
-ghost use Rattle.ps_parse.specs.inside.Clauses.{in_brackets};
+ghost use Rattle.ps_clauses.specs.inside.Clauses.{in_brackets};
 
-use super::clauses::{after, clause, more_clauses};
-use super::items::items;
+use crate::clauses::{after, clause, more_clauses};
+use crate::items::items;
 use ps_base::line::Line;
 use ps_reader::reader::Reader;
 use ps_symbols::kind::{Kind, Start, start_of};
@@ -16,7 +16,7 @@ use ps_tree::rough::Rough;
 
 /// A primary, and what it is applied to.
 #[cycle(parsing)]
-pub(super) fn application(reader: &Reader, at: &mut usize, room: u32) -> Result<Rough, ParseFault>
+pub(crate) fn application(reader: &Reader, at: &mut usize, room: u32) -> Result<Rough, ParseFault>
     requires sound { AreSound reader.now }
     ensures { ReadsClause reader.now room (Go Application) at.old result at.new }
 {

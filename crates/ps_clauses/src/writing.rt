@@ -4,9 +4,9 @@ ghost use Rattle.std.specs.Prelude.{◌≡◌};
 ghost use Rattle.ps_tree.specs.Phrase.{absent, item, phrase_of, item_of};
 ghost use Rattle.ps_reader.specs.Grammar.{line_in, Go, Written, writing};
 ghost use Rattle.ps_reader.specs.inside.Parsing.{AreSound, ReadsClause};
-ghost use Rattle.ps_parse.specs.inside.Clauses.{ReadsItem};
+ghost use Rattle.ps_clauses.specs.inside.Clauses.{ReadsItem};
 
-use super::clauses::clause;
+use crate::clauses::clause;
 use ps_reader::reader::Reader;
 use ps_symbols::kind::Kind;
 use ps_tree::build::{item_of, write_of};
@@ -14,7 +14,7 @@ use ps_tree::fault::ParseFault;
 use ps_tree::rough::{Rough, RoughItem};
 
 #[cycle(parsing)]
-pub(super) fn writing(reader: &Reader, at: &mut usize, room: u32) -> Result<Rough, ParseFault>
+pub(crate) fn writing(reader: &Reader, at: &mut usize, room: u32) -> Result<Rough, ParseFault>
     requires sound { AreSound reader.now }
     ensures { ReadsClause reader.now room writing at.old result at.new }
 {

@@ -3,9 +3,9 @@
 ghost use Rattle.ps_tree.specs.Phrase.{phrase_of};
 ghost use Rattle.ps_reader.specs.Grammar.{Go, Chain, Relative, Compared, Factor, operand};
 ghost use Rattle.ps_reader.specs.inside.Parsing.{AreSound, ReadsClause};
-ghost use Rattle.ps_parse.specs.inside.Clauses.{behind_relation, behind_is};
+ghost use Rattle.ps_clauses.specs.inside.Clauses.{behind_relation, behind_is};
 
-use super::primaries::application;
+use crate::primaries::application;
 use ps_base::line::Line;
 use ps_base::operator::Relation;
 use ps_reader::reader::Reader;
@@ -16,7 +16,7 @@ use ps_tree::rough::Rough;
 
 /// Operands with the operators of a level between them.
 #[cycle(parsing)]
-pub(super) fn chain(
+pub(crate) fn chain(
     reader: &Reader,
     at: &mut usize,
     room: u32,

@@ -6,9 +6,9 @@ ghost use Rattle.ps_tree.specs.Phrase.{Arms, Phrase, phrase_of, no_arms, arm_of}
 ghost use Rattle.ps_tree.specs.Composing.{and_arm};
 ghost use Rattle.ps_reader.specs.Grammar.{Go, Cases, choosing};
 ghost use Rattle.ps_reader.specs.inside.Parsing.{AreSound, Does, ReadsClause};
-ghost use Rattle.ps_parse.specs.inside.Clauses.{an_arm};
+ghost use Rattle.ps_clauses.specs.inside.Clauses.{an_arm};
 
-use super::clauses::{after, clause, more_clauses};
+use crate::clauses::{after, clause, more_clauses};
 use ps_base::line::Line;
 use ps_reader::reader::Reader;
 use ps_symbols::kind::Kind;
@@ -17,7 +17,7 @@ use ps_tree::fault::ParseFault;
 use ps_tree::rough::{Rough, RoughArm};
 
 #[cycle(parsing)]
-pub(super) fn choosing(reader: &Reader, at: &mut usize, room: u32) -> Result<Rough, ParseFault>
+pub(crate) fn choosing(reader: &Reader, at: &mut usize, room: u32) -> Result<Rough, ParseFault>
     requires sound { AreSound reader.now }
     ensures { ReadsClause reader.now room choosing at.old result at.new }
 {
