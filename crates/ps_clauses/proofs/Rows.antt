@@ -1,12 +1,7 @@
 -- How the parser's calls follow the rows of the grammar.
-use Rattle.std.proofs.Common.{◌≡◌, ℕ, suc, List, [], ◌∷◌, ◌++◌, Bool, true, false, Option, Some, None, option_map, Result, Ok, Err, IfOk, IfErr, MatchResult, IsSome, slice_get, refl, sym, subst, ap, ◌∙◌}
-use Rattle.ps_base.specs.TyView.{TyView, TyViews, and_type, ty_view, ty_views}
-use Rattle.ps_base.specs.TyView as ty
-use Rattle.ps_base.proofs.TyLemmas.{ty_views-append}
+use Rattle.std.proofs.Common.{◌≡◌, ℕ, List, [], ◌∷◌, ◌++◌, Bool, Option, Some, None, option_map, refl, sym, subst, ap, ◌∙◌}
+use Rattle.ps_base.specs.TyView.{TyView}
 use Rattle.ps_base.specs.declared.line.Line.{Line}
-use Rattle.ps_base.specs.declared.ty.Ty.{Ty}
-use Rattle.ps_tree.specs.declared.fault.ParseFault.{ParseFault}
-use Rattle.ps_tree.specs.declared.fault.ParseFault.TheVariants.{TooNested, Memory}
 use Rattle.ps_symbols.specs.declared.kind.Kind.{Kind}
 use Rattle.ps_symbols.specs.declared.kind.Kind.TheVariants as kind
 use Rattle.ps_symbols.specs.declared.kind.Level.{Level}
@@ -14,30 +9,25 @@ use Rattle.ps_symbols.specs.declared.kind.Operation.{Operation}
 use Rattle.ps_symbols.specs.declared.kind.Opening.{Opening}
 use Rattle.ps_symbols.specs.declared.kind.Relating.{Relating}
 use Rattle.ps_symbols.specs.declared.kind.Start.{Start}
-use Rattle.ps_symbols.specs.declared.kind.TypeStart.{TypeStart}
-use Rattle.ps_tree.specs.declared.rough.Group.{Group}
-use Rattle.ps_tree.specs.declared.rough.Named.{Named}
-use Rattle.std.proofs.lemmas.List.{append_assoc, append-nil}
 use Rattle.ps_tree.specs.declared.rough.Rough.{Rough}
 use Rattle.ps_tree.specs.declared.rough.RoughArm.{RoughArm}
 use Rattle.ps_tree.specs.declared.rough.RoughItem.{RoughItem}
 use Rattle.ps_symbols.specs.declared.symbol.Symbol.{Symbol}
-use Rattle.ps_symbols.specs.Kinds.{operation_of, relating_of, begins_item, begins_type, opening_of, start_of, type_start_of}
+use Rattle.ps_symbols.specs.Kinds.{operation_of, relating_of, begins_item, opening_of, start_of}
 use Rattle.ps_tree.specs.Phrase.{Phrase, Phrases, none, more, MaybePhrase, absent, Arms, no_arms, Arm, WriteItem, WriteItems, no_items, more_items, item, GroupAt, NameAt, at, phrase_of, item_of, arm_of, group_of, groups_in, names_in, of_type}
 use Rattle.ps_tree.specs.Phrase as form
 use Rattle.ps_tree.specs.PhraseLists.{phrases_in, arms_in, items_in}
 use Rattle.ps_tree.specs.Composing.{and_arm, and_item, and_then}
-use Rattle.ps_reader.specs.Grammar.{Application, Between, Body, Clause, Compared, Comparison, Factor, Give, Go, Groups, Items, Labels, Made, MoreArguments, MoreChain, MoreElements, MoreGroups, Nested, Open, ParameterTypes, Parameters, Part, Primary, Rule, SecondArgument, Step, Test, Until, a_clause, a_clause_inside, a_type, a_type_inside, all_groups, all_types, an_item, applied, arguments, assignment, between, binding, cases, choice, clause_of, comparison, ended, ending, factor, give, inside, items, items_end, labels, line_at, line_in, more_arguments, more_chain, more_elements, more_groups, more_types, more_written, next_group, one_item, opened, operand, parameter_types, parameters, primary, relative, result, row, second_argument, skip, step, typed_as, until, width, with_clause}
-use Rattle.ps_reader.specs.Reading.{kind_at, kind_of_next, Reads}
+use Rattle.ps_reader.specs.Grammar.{Application, Between, Body, Clause, Compared, Comparison, Factor, Give, Go, Items, Labels, MoreArguments, MoreChain, MoreElements, Primary, Rule, SecondArgument, Step, Test, Until, a_clause, a_clause_inside, an_item, applied, arguments, assignment, between, binding, cases, choice, clause_of, comparison, factor, give, inside, items, items_end, labels, line_at, line_in, more_arguments, more_chain, more_elements, more_written, one_item, opened, operand, primary, relative, second_argument, skip, step, until, width, with_clause}
+use Rattle.ps_reader.specs.Reading.{kind_at}
 use Rattle.ps_base.specs.declared.operator.Relation.{Relation}
 use Rattle.ps_symbols.specs.declared.kind.Relating.TheVariants.{Compares, IsOf}
 use Rattle.ps_tree.specs.Composing.{joined}
 use Rattle.ps_reader.specs.declared.reader.Reader.{Reader}
 use Rattle.ps_reader.specs.inside.Parsing.{Accepts, IsOther, Stands, StandsForNone}
 use Rattle.ps_clauses.specs.inside.Clauses.{IsList, IsOptional, an_arm, behind_is, behind_labels, behind_relation}
-use Rattle.ps_reader.specs.inside.Stopping.{HaltsWith, Continues}
-use Rattle.ps_reader.specs.Faults.{unexpected}
-use Rattle.ps_tree.proofs.PhraseLemmas.{phrases_in-append, arms_in-append, items_in-append, groups_in-append, names_in-append}
+use Rattle.ps_reader.specs.inside.Stopping.{Continues}
+use Rattle.ps_tree.proofs.PhraseLemmas.{phrases_in-append, arms_in-append, items_in-append}
 use Rattle.ps_reader.proofs.Steps.{on, by_row, took, stood, began, otherwise, same}
 use Rattle.ps_reader.proofs.Rows.{goes_by}
 

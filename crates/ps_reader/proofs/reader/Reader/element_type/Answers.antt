@@ -1,4 +1,3 @@
-use Rattle.ps_reader.specs.inside.Stopping.{HaltsWith}
 use Rattle.ps_reader.proofs.Steps.{took, missing, failed, tail_first}
 use Rattle.ps_reader.proofs.reader.Reader.element_type.Goals as goal
 
