@@ -55,9 +55,14 @@ cases::arm-returns-clause-reads t c =
 
 pub cases::arm-returns-clause-fewer : goal.cases::arm-returns-clause-fewer
 cases::arm-returns-clause-fewer t c =
-    nearer c.in_ok-take.ensures (omega (arith, c.in_ok-first.ensures.forward, (c.in_ok-labels.ensures _ _
-    (labels_list {line = c.in_ok-first.first.line} {e = phrase_of c.in_ok-first.first} {before = no_arms})).forward, (c.in_ok-a.ensures
-    (λ symbol made. Go Written)).forward)) (omega arith)
+    nearer c.in_ok-take.ensures (omega (
+      arith,
+      c.in_ok-first.ensures.forward,
+      (c.in_ok-labels.ensures _ _
+          (labels_list {line = c.in_ok-first.first.line} {e = phrase_of c.in_ok-first.first} {before = no_arms})).forward,
+      (c.in_ok-a.ensures
+          (λ symbol made. Go Written)).forward,
+    )) (omega arith)
 
 pub cases::cases-loop-at-init : goal.cases::cases-loop-at-init
 cases::cases-loop-at-init t c = arms_begin (λ all. Go (Cases c.args.line (phrase_of c.args.e) all)) c.new-arms.ensures.items
