@@ -1,12 +1,12 @@
 ghost use Rattle.std.specs.Prelude.{◌≡◌, ◌∷◌, ◌++◌, [], map, flat_map, replicate, OnOk};
 ghost use Rattle.ps_scan.specs.Names.{reserved_words, marks};
-ghost use Rattle.ps_print.specs.Lexemes.{gap_bytes};
-ghost use Rattle.ps_print.specs.Spellings.{int_text, string_text, escaped_byte};
-ghost use Rattle.ps_print.specs.Layout.{name_at};
-ghost use Rattle.ps_print.specs.inside.Waiting.{gap_of};
+ghost use Rattle.ps_layout.specs.Lexemes.{gap_bytes};
+ghost use Rattle.ps_layout.specs.Spellings.{int_text, string_text, escaped_byte};
+ghost use Rattle.ps_layout.specs.Layout.{name_at};
+ghost use Rattle.ps_layout.specs.Waiting.{gap_of};
 
-use crate::piece::Gap;
 use itoa::Buffer;
+use ps_layout::piece::Gap;
 use ps_scan::{mark, word};
 use std::alloc::AllocError;
 

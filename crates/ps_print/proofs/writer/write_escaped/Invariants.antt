@@ -1,7 +1,7 @@
 -- What is written so far is that of the bytes so far.
 use Rattle.std.proofs.Common.{◌≡◌, ◌++◌, take}
 use Rattle.std.specs.Prelude.{flat_map}
-use Rattle.ps_print.specs.Spellings.{escaped_byte}
+use Rattle.ps_layout.specs.Spellings.{escaped_byte}
 use Rattle.ps_print.proofs.writer.write_escaped.Given as goal
 
 abbrev pub invariant-loop-byte : goal.invariant-loop-byte

@@ -6,20 +6,20 @@ use Rattle.ps_scan.specs.declared.token.TokenKind.TheVariants as scanned
 use Rattle.ps_tree.specs.Phrase.{NameAt, Phrase, at, Form, Sequence, none, form_of, phrase_of, arm_of, item_of, of_type, names_in, groups_in}
 use Rattle.ps_tree.specs.Phrase as form
 use Rattle.ps_tree.specs.PhraseLists.{phrases_in, arms_in, items_in}
-use Rattle.ps_print.specs.Lexemes.{Gap, nothing, blank, newline, Lexeme, text_of}
-use Rattle.ps_print.specs.Layout.{Behind, other, before_do, before_comma, before_colon, Tightness, loosest, disjunction, conjunction, negation, comparison, sum, product, signed, application, primary, lexeme, the_word, the_mark, name_lexeme, becomes, form_lexemes, clause_lexemes, operand_lexemes, lines_lexemes, clauses_lexemes, more_clauses_lexemes, arms_lexemes, arm_lexemes, items_lexemes, more_items_lexemes, item_lexemes, type_lexemes, types_lexemes, more_types_lexemes, behind_arrow, groups_lexemes, more_groups_lexemes, group_lexemes, heading_lexemes}
-use Rattle.ps_print.specs.Spellings.{int_text, string_text}
-use Rattle.ps_print.specs.inside.Weights.{weight, weight_form, weight_all, weight_arms, weight_arm, weight_items, weight_item, weight_ty, weight_tys, weight_groups, weight_group, weight_heading}
-use Rattle.ps_print.specs.declared.piece.Gap.{Gap as CodeGap}
-use Rattle.ps_print.specs.declared.piece.Gap.TheVariants as gap
-use Rattle.ps_print.specs.declared.piece.Behind.{Behind as CodeBehind}
-use Rattle.ps_print.specs.declared.piece.Behind.TheVariants as behind
-use Rattle.ps_print.specs.declared.piece.Tightness.{Tightness as CodeTightness}
-use Rattle.ps_print.specs.declared.piece.Tightness.TheVariants as tight
-use Rattle.ps_print.specs.declared.piece.Spot.{Spot}
-use Rattle.ps_print.specs.declared.piece.Piece.{Piece}
-use Rattle.ps_print.specs.declared.piece.Piece.TheVariants as piece
-use Rattle.ps_print.specs.declared.pending.Pending.{Pending}
+use Rattle.ps_layout.specs.Lexemes.{Gap, nothing, blank, newline, Lexeme, text_of}
+use Rattle.ps_layout.specs.Layout.{Behind, other, before_do, before_comma, before_colon, Tightness, loosest, disjunction, conjunction, negation, comparison, sum, product, signed, application, primary, lexeme, the_word, the_mark, name_lexeme, becomes, form_lexemes, clause_lexemes, operand_lexemes, lines_lexemes, clauses_lexemes, more_clauses_lexemes, arms_lexemes, arm_lexemes, items_lexemes, more_items_lexemes, item_lexemes, type_lexemes, types_lexemes, more_types_lexemes, behind_arrow, groups_lexemes, more_groups_lexemes, group_lexemes, heading_lexemes}
+use Rattle.ps_layout.specs.Spellings.{int_text, string_text}
+use Rattle.ps_layout.specs.Weights.{weight, weight_form, weight_all, weight_arms, weight_arm, weight_items, weight_item, weight_ty, weight_tys, weight_groups, weight_group, weight_heading}
+use Rattle.ps_layout.specs.declared.piece.Gap.{Gap as CodeGap}
+use Rattle.ps_layout.specs.declared.piece.Gap.TheVariants as gap
+use Rattle.ps_layout.specs.declared.piece.Behind.{Behind as CodeBehind}
+use Rattle.ps_layout.specs.declared.piece.Behind.TheVariants as behind
+use Rattle.ps_layout.specs.declared.piece.Tightness.{Tightness as CodeTightness}
+use Rattle.ps_layout.specs.declared.piece.Tightness.TheVariants as tight
+use Rattle.ps_layout.specs.declared.piece.Spot.{Spot}
+use Rattle.ps_layout.specs.declared.piece.Piece.{Piece}
+use Rattle.ps_layout.specs.declared.piece.Piece.TheVariants as piece
+use Rattle.ps_layout.specs.declared.pending.Pending.{Pending}
 
 abbrev pub gap_of : CodeGap → Gap
 gap_of gap.Nothing = nothing

@@ -1,9 +1,12 @@
-ghost use Rattle.std.specs.Prelude.{OnOk, option_map};
+ghost use Rattle.std.specs.Prelude.{◌+◌, ◌∷◌, ◌++◌, OnOk, option_map};
 ghost use Rattle.ps_tree.specs.Phrase.{phrase_of, named as name_at};
 ghost use Rattle.ps_tree.specs.Phrase as form;
 ghost use Rattle.ps_tree.specs.PhraseLists.{arms_in, items_in, maybe_in};
 ghost use Rattle.ps_tree.specs.declared.rough.RoughRange.{out-RoughRange};
-ghost use Rattle.ps_print.specs.inside.Waiting.{waiting, AddsForm};
+ghost use Rattle.ps_layout.specs.Lexemes.{blank};
+ghost use Rattle.ps_layout.specs.Layout.{before_do, the_word, do_word, clause_lexemes};
+ghost use Rattle.ps_layout.specs.Weights.{weight};
+ghost use Rattle.ps_layout.specs.Waiting.{waiting, gap_of, behind_of, Adds, AddsForm};
 
 use crate::pending::Pending;
 use crate::piece::{Behind, Gap, Piece, Spot, Tightness, deeper};
@@ -11,16 +14,18 @@ use ps_scan::{mark, word};
 use ps_tree::rough::{Named, Rough, RoughArm, RoughItem, RoughRange};
 use std::alloc::AllocError;
 
-pub(crate) fn put_if_do<'a>(
+// A word, a condition, and what is done where it holds.
+pub(crate) fn put_conditional<'a>(
     pending: &mut Pending<'a>,
     spot: Spot,
+    first: u8,
     c: &'a Rough,
     a: &'a Rough,
 ) -> Result<(), AllocError>
-    ensures { OnOk result (AddsForm (waiting pending.old) spot (form.IfDo (phrase_of c.now) (phrase_of a.now)) (waiting pending.new)) }
+    ensures { OnOk result (Adds (waiting pending.old) (the_word (gap_of spot.gap) first ∷ (clause_lexemes spot.indent before_do blank (phrase_of c.now) ++ do_word ∷ clause_lexemes spot.indent (behind_of spot.behind) blank (phrase_of a.now))) (weight (phrase_of c.now) + weight (phrase_of a.now) + 8) (waiting pending.new)) }
 {
     pending.put(&[
-        Piece::Word(spot.gap, word::IF),
+        Piece::Word(spot.gap, first),
         Piece::Clause(spot.before(Behind::BeforeDo), c),
         Piece::Word(Gap::Blank, word::DO),
         Piece::Clause(spot.last(), a),
@@ -43,22 +48,6 @@ pub(crate) fn put_if_else<'a>(
         Piece::Clause(spot.before(Behind::Other), a),
         Piece::Word(Gap::Blank, word::ELSE),
         Piece::Clause(spot.last(), b),
-    ])
-}
-
-pub(crate) fn put_while<'a>(
-    pending: &mut Pending<'a>,
-    spot: Spot,
-    c: &'a Rough,
-    a: &'a Rough,
-) -> Result<(), AllocError>
-    ensures { OnOk result (AddsForm (waiting pending.old) spot (form.While (phrase_of c.now) (phrase_of a.now)) (waiting pending.new)) }
-{
-    pending.put(&[
-        Piece::Word(spot.gap, word::WHILE),
-        Piece::Clause(spot.before(Behind::BeforeDo), c),
-        Piece::Word(Gap::Blank, word::DO),
-        Piece::Clause(spot.last(), a),
     ])
 }
 

@@ -3,9 +3,9 @@ ghost use Rattle.ps_base.specs.TyView.{ty_view};
 ghost use Rattle.ps_base.specs.declared.line.Line.{Line};
 ghost use Rattle.ps_tree.specs.Phrase.{phrase_of, groups_in, named as name_at};
 ghost use Rattle.ps_tree.specs.Phrase as form;
-ghost use Rattle.ps_print.specs.Layout.{becomes as becomes_of};
-ghost use Rattle.ps_print.specs.inside.Weights.{weight};
-ghost use Rattle.ps_print.specs.inside.Waiting.{waiting, Adds, AddsForm, let_lexemes, piece_lexemes};
+ghost use Rattle.ps_layout.specs.Layout.{becomes as becomes_of};
+ghost use Rattle.ps_layout.specs.Weights.{weight};
+ghost use Rattle.ps_layout.specs.Waiting.{waiting, Adds, AddsForm, let_lexemes, piece_lexemes};
 
 use crate::pending::Pending;
 use crate::piece::{Gap, Piece, Spot};

@@ -1,5 +1,8 @@
 ghost use Rattle.std.specs.Prelude.{◌≡◌, ◌+◌, IfOk};
+ghost use Rattle.ps_layout.specs.Layout.{left_of as left_tightness};
+ghost use Rattle.ps_layout.specs.Waiting.{tightness_of};
 
+use ps_base::operator::Operator;
 use ps_base::ty::Ty;
 use ps_tree::rough::{Group, Named, Rough, RoughArm, RoughForm, RoughItem};
 use std::alloc::AllocError;
@@ -39,6 +42,18 @@ pub enum Tightness {
     Primary,
 }
 
+impl Tightness {
+    /// How tight the left operand of an operator binds: as tight as the operator.
+    pub fn of_left(op: Operator) -> Tightness
+        ensures { tightness_of result ≡ left_tightness op }
+    {
+        match op {
+            Operator::Add | Operator::Sub => Tightness::Sum,
+            Operator::Mul | Operator::Div | Operator::Rem => Tightness::Product,
+        }
+    }
+}
+
 /// Where something is printed: how far the lines inside it stand to the right, what stands behind
 /// it, and the gap before it.
 #[derive(Clone, Copy)]
@@ -49,6 +64,17 @@ pub struct Spot {
 }
 
 impl Spot {
+    /// That of an item on a line of its own.
+    pub fn on_line(indent: usize) -> Spot
+        ensures { result ≡ record { indent = indent; behind = Behind.Other; gap = Gap.Newline indent } }
+    {
+        Spot {
+            indent,
+            behind: Behind::Other,
+            gap: Gap::Newline(indent),
+        }
+    }
+
     /// That of what stands inside, behind a blank and before this.
     pub fn before(self, behind: Behind) -> Spot
         ensures { result ≡ record { indent = self.indent; behind = behind; gap = Gap.Blank } }

@@ -2,9 +2,9 @@ use Rattle.std.proofs.Common.{◌≡◌, ◌∙◌, ap, sym, subst, false}
 use Rattle.std.specs.Prelude.{OnOk}
 use Rattle.ps_base.specs.TyView.{ty_view}
 use Rattle.ps_tree.specs.Phrase.{Form, at, Let, Proc, phrase_of, form_of, named, groups_in}
-use Rattle.ps_print.specs.inside.Waiting.{is_procedure, waiting, AddsForm}
-use Rattle.ps_print.proofs.Printing.{is_no_procedure, puts_let}
-use Rattle.ps_print.proofs.declarations.put_let.Goals as goal
+use Rattle.ps_layout.specs.Waiting.{is_procedure, waiting, AddsForm}
+use Rattle.ps_layout.proofs.Printing.{is_no_procedure, puts_let}
+use Rattle.ps_layout.proofs.declarations.put_let.Goals as goal
 
 pub returns-in-Proc : goal.returns-in-Proc
 returns-in-Proc c =

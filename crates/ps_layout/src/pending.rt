@@ -1,5 +1,5 @@
 ghost use Rattle.std.specs.Prelude.{◌≡◌, ◌∷◌, [], ◌++◌, OnOk, MatchOption};
-ghost use Rattle.ps_print.specs.inside.Waiting.{waiting};
+ghost use Rattle.ps_layout.specs.Waiting.{waiting};
 
 use crate::piece::Piece;
 use std::alloc::{AllocError, Global};

@@ -1,13 +1,12 @@
 ghost use Rattle.std.specs.Prelude.{◌≡◌, OnOk};
 ghost use Rattle.ps_tree.specs.Phrase.{phrase_of};
-ghost use Rattle.ps_tree.specs.Phrase as form;
 ghost use Rattle.ps_tree.specs.PhraseLists.{phrases_in};
-ghost use Rattle.ps_print.specs.Layout.{behind_clause, program_lexemes, lines_lexemes, clauses_lexemes, more_clauses_lexemes};
-ghost use Rattle.ps_print.specs.inside.Weights.{weight_all};
-ghost use Rattle.ps_print.specs.inside.Waiting.{waiting, gap_of, behind_of, Adds, AddsForm};
+ghost use Rattle.ps_layout.specs.Layout.{behind_clause, program_lexemes, lines_lexemes, clauses_lexemes, more_clauses_lexemes};
+ghost use Rattle.ps_layout.specs.Weights.{weight_all};
+ghost use Rattle.ps_layout.specs.Waiting.{waiting, gap_of, behind_of, Adds};
 
-use crate::pending::Pending;
-use crate::piece::{Behind, Gap, Piece, Spot, deeper};
+use ps_layout::pending::Pending;
+use ps_layout::piece::{Behind, Gap, Piece, Spot};
 use ps_scan::mark;
 use ps_tree::rough::Rough;
 use std::alloc::AllocError;
@@ -30,52 +29,6 @@ pub fn put_program<'a>(
     }
 }
 
-// A block in braces: each item on a line of its own.
-pub(crate) fn put_block<'a>(
-    pending: &mut Pending<'a>,
-    spot: Spot,
-    items: &'a [Rough],
-) -> Result<(), AllocError>
-    ensures { OnOk result (AddsForm (waiting pending.old) spot (form.Sequence (phrases_in items.now)) (waiting pending.new)) }
-{
-    match items.split_first() {
-        None => pending.put(&[
-            Piece::Mark(spot.gap, mark::OPEN_CURLY),
-            Piece::Mark(Gap::Nothing, mark::CLOSE_CURLY),
-        ]),
-        Some((first, rest)) => put_full_block(pending, spot, first, rest),
-    }
-}
-
-fn put_full_block<'a>(
-    pending: &mut Pending<'a>,
-    spot: Spot,
-    first: &'a Rough,
-    rest: &'a [Rough],
-) -> Result<(), AllocError>
-    ensures { OnOk result (AddsForm (waiting pending.old) spot (form.Sequence (form.more (phrase_of first.now) (phrases_in rest.now))) (waiting pending.new)) }
-{
-    let inner = deeper(spot.indent)?;
-    pending.put(&[
-        Piece::Mark(spot.gap, mark::OPEN_CURLY),
-        Piece::Clause(line_at(inner), first),
-        Piece::Mark(Gap::Nothing, mark::SEMICOLON),
-        Piece::Lines(inner, rest),
-        Piece::Mark(Gap::Newline(spot.indent), mark::CLOSE_CURLY),
-    ])
-}
-
-// The spot of an item on a line of its own.
-fn line_at(indent: usize) -> Spot
-    ensures { result ≡ record { indent = indent; behind = Behind.Other; gap = Gap.Newline indent } }
-{
-    Spot {
-        indent,
-        behind: Behind::Other,
-        gap: Gap::Newline(indent),
-    }
-}
-
 pub(crate) fn put_lines<'a>(
     pending: &mut Pending<'a>,
     indent: usize,
@@ -86,7 +39,7 @@ pub(crate) fn put_lines<'a>(
     match items.split_first() {
         None => Ok(()),
         Some((first, rest)) => pending.put(&[
-            Piece::Clause(line_at(indent), first),
+            Piece::Clause(Spot::on_line(indent), first),
             Piece::Mark(Gap::Nothing, mark::SEMICOLON),
             Piece::Lines(indent, rest),
         ]),

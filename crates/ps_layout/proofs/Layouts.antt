@@ -6,8 +6,8 @@ use Rattle.ps_base.specs.declared.operator.Operator.TheVariants as arith
 use Rattle.ps_scan.specs.Tokens.{line_of}
 use Rattle.ps_tree.specs.Phrase.{NameAt, GroupAt, Phrase, at, Form, Phrases, none, more, absent, present, no_arms, more_arms, arm, item, no_items, more_items}
 use Rattle.ps_tree.specs.Phrase as form
-use Rattle.ps_print.specs.Lexemes.{text_of}
-use Rattle.ps_print.specs.Layout.{printed}
+use Rattle.ps_layout.specs.Lexemes.{text_of}
+use Rattle.ps_layout.specs.Layout.{printed}
 
 abbrev p : Form → Phrase
 p f = at f (line_of 1)

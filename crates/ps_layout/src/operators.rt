@@ -1,11 +1,13 @@
-ghost use Rattle.std.specs.Prelude.{◌≡◌, ◌∷◌, [], OnOk};
+ghost use Rattle.std.specs.Prelude.{◌≡◌, ◌+◌, ◌∷◌, [], ◌++◌, OnOk};
 ghost use Rattle.ps_base.specs.TyView.{ty_view};
 ghost use Rattle.ps_tree.specs.Phrase.{phrase_of, named as name_at};
 ghost use Rattle.ps_tree.specs.Phrase as form;
 ghost use Rattle.ps_tree.specs.PhraseLists.{phrases_in};
-ghost use Rattle.ps_print.specs.Layout.{left_of as left_tightness, right_of as right_tightness, sign_of_operator, sign_of_relation, is_word as word_of_is, bound_word as word_of_bound, flag_word as word_of_flag};
-ghost use Rattle.ps_print.specs.inside.Waiting.{waiting, AddsForm, tightness_of, gap_of, piece_lexemes, piece_weight};
-ghost use Rattle.ps_print.specs.declared.piece.Gap.{Gap as GapOf};
+ghost use Rattle.ps_layout.specs.Lexemes.{nothing, blank};
+ghost use Rattle.ps_layout.specs.Layout.{the_mark, operand_lexemes, right_of as right_tightness, sign_of_operator, sign_of_relation, is_word as word_of_is, bound_word as word_of_bound, flag_word as word_of_flag};
+ghost use Rattle.ps_layout.specs.Weights.{weight};
+ghost use Rattle.ps_layout.specs.Waiting.{waiting, Adds, AddsForm, tightness_of, gap_of, piece_lexemes, piece_weight};
+ghost use Rattle.ps_layout.specs.declared.piece.Gap.{Gap as GapOf};
 
 use crate::pending::Pending;
 use crate::piece::{Behind, Gap, Piece, Spot, Tightness};
@@ -15,87 +17,23 @@ use ps_scan::{mark, word};
 use ps_tree::rough::{Named, Rough};
 use std::alloc::AllocError;
 
-pub(crate) fn put_or<'a>(
+// An operator between its operands, each of which has to bind so tight.
+pub(crate) fn put_between<'a>(
     pending: &mut Pending<'a>,
     spot: Spot,
+    left: Tightness,
     a: &'a Rough,
+    sign: Piece<'a>,
+    right: Tightness,
     b: &'a Rough,
 ) -> Result<(), AllocError>
-    ensures { OnOk result (AddsForm (waiting pending.old) spot (form.Or (phrase_of a.now) (phrase_of b.now)) (waiting pending.new)) }
+    requires { piece_weight sign ≡ 1 }
+    ensures { OnOk result (Adds (waiting pending.old) (operand_lexemes spot.indent (tightness_of left) (gap_of spot.gap) (phrase_of a.now) ++ (piece_lexemes sign.entry ++ operand_lexemes spot.indent (tightness_of right) blank (phrase_of b.now))) (weight (phrase_of a.now) + weight (phrase_of b.now) + 8) (waiting pending.new)) }
 {
     pending.put(&[
-        Piece::Operand(Tightness::Disjunction, spot.indent, spot.gap, a),
-        Piece::Word(Gap::Blank, word::OR),
-        Piece::Operand(Tightness::Conjunction, spot.indent, Gap::Blank, b),
-    ])
-}
-
-pub(crate) fn put_and<'a>(
-    pending: &mut Pending<'a>,
-    spot: Spot,
-    a: &'a Rough,
-    b: &'a Rough,
-) -> Result<(), AllocError>
-    ensures { OnOk result (AddsForm (waiting pending.old) spot (form.And (phrase_of a.now) (phrase_of b.now)) (waiting pending.new)) }
-{
-    pending.put(&[
-        Piece::Operand(Tightness::Conjunction, spot.indent, spot.gap, a),
-        Piece::Word(Gap::Blank, word::AND),
-        Piece::Operand(Tightness::Negation, spot.indent, Gap::Blank, b),
-    ])
-}
-
-pub(crate) fn put_join<'a>(
-    pending: &mut Pending<'a>,
-    spot: Spot,
-    a: &'a Rough,
-    b: &'a Rough,
-) -> Result<(), AllocError>
-    ensures { OnOk result (AddsForm (waiting pending.old) spot (form.Join (phrase_of a.now) (phrase_of b.now)) (waiting pending.new)) }
-{
-    pending.put(&[
-        Piece::Operand(Tightness::Sum, spot.indent, spot.gap, a),
-        Piece::Mark(Gap::Blank, mark::CONCATENATE),
-        Piece::Operand(Tightness::Product, spot.indent, Gap::Blank, b),
-    ])
-}
-
-pub(crate) fn put_not<'a>(
-    pending: &mut Pending<'a>,
-    spot: Spot,
-    e: &'a Rough,
-) -> Result<(), AllocError>
-    ensures { OnOk result (AddsForm (waiting pending.old) spot (form.Not (phrase_of e.now)) (waiting pending.new)) }
-{
-    pending.put(&[
-        Piece::Mark(spot.gap, mark::TILDE),
-        Piece::Operand(Tightness::Comparison, spot.indent, Gap::Nothing, e),
-    ])
-}
-
-pub(crate) fn put_plus<'a>(
-    pending: &mut Pending<'a>,
-    spot: Spot,
-    e: &'a Rough,
-) -> Result<(), AllocError>
-    ensures { OnOk result (AddsForm (waiting pending.old) spot (form.Plus (phrase_of e.now)) (waiting pending.new)) }
-{
-    pending.put(&[
-        Piece::Mark(spot.gap, mark::PLUS),
-        Piece::Operand(Tightness::Application, spot.indent, Gap::Nothing, e),
-    ])
-}
-
-pub(crate) fn put_neg<'a>(
-    pending: &mut Pending<'a>,
-    spot: Spot,
-    e: &'a Rough,
-) -> Result<(), AllocError>
-    ensures { OnOk result (AddsForm (waiting pending.old) spot (form.Neg (phrase_of e.now)) (waiting pending.new)) }
-{
-    pending.put(&[
-        Piece::Mark(spot.gap, mark::MINUS),
-        Piece::Operand(Tightness::Application, spot.indent, Gap::Nothing, e),
+        Piece::Operand(left, spot.indent, spot.gap, a),
+        sign,
+        Piece::Operand(right, spot.indent, Gap::Blank, b),
     ])
 }
 
@@ -108,10 +46,44 @@ pub(crate) fn put_compare<'a>(
 ) -> Result<(), AllocError>
     ensures { OnOk result (AddsForm (waiting pending.old) spot (form.Compare op (phrase_of a.now) (phrase_of b.now)) (waiting pending.new)) }
 {
+    let sign = Piece::Mark(Gap::Blank, relation_mark(op));
+    put_between(pending, spot, Tightness::Sum, a, sign, Tightness::Sum, b)
+}
+
+pub(crate) fn put_arith<'a>(
+    pending: &mut Pending<'a>,
+    spot: Spot,
+    op: Operator,
+    a: &'a Rough,
+    b: &'a Rough,
+) -> Result<(), AllocError>
+    ensures { OnOk result (AddsForm (waiting pending.old) spot (form.Arith op (phrase_of a.now) (phrase_of b.now)) (waiting pending.new)) }
+{
+    let sign = operator_sign(op);
+    put_between(
+        pending,
+        spot,
+        Tightness::of_left(op),
+        a,
+        sign,
+        right_of(op),
+        b,
+    )
+}
+
+// A sign before its operand, which has to bind so tight.
+pub(crate) fn put_before<'a>(
+    pending: &mut Pending<'a>,
+    spot: Spot,
+    sign: u8,
+    needed: Tightness,
+    e: &'a Rough,
+) -> Result<(), AllocError>
+    ensures { OnOk result (Adds (waiting pending.old) (the_mark (gap_of spot.gap) sign ∷ operand_lexemes spot.indent (tightness_of needed) nothing (phrase_of e.now)) (weight (phrase_of e.now) + 8) (waiting pending.new)) }
+{
     pending.put(&[
-        Piece::Operand(Tightness::Sum, spot.indent, spot.gap, a),
-        Piece::Mark(Gap::Blank, relation_mark(op)),
-        Piece::Operand(Tightness::Sum, spot.indent, Gap::Blank, b),
+        Piece::Mark(spot.gap, sign),
+        Piece::Operand(needed, spot.indent, Gap::Nothing, e),
     ])
 }
 
@@ -128,22 +100,6 @@ pub(crate) fn put_is<'a>(
         Piece::Operand(Tightness::Sum, spot.indent, spot.gap, e),
         Piece::Word(Gap::Blank, is_word(negated)),
         Piece::Name(Gap::Blank, class.name.as_slice()),
-    ])
-}
-
-pub(crate) fn put_arith<'a>(
-    pending: &mut Pending<'a>,
-    spot: Spot,
-    op: Operator,
-    a: &'a Rough,
-    b: &'a Rough,
-) -> Result<(), AllocError>
-    ensures { OnOk result (AddsForm (waiting pending.old) spot (form.Arith op (phrase_of a.now) (phrase_of b.now)) (waiting pending.new)) }
-{
-    pending.put(&[
-        Piece::Operand(left_of(op), spot.indent, spot.gap, a),
-        operator_sign(op),
-        Piece::Operand(right_of(op), spot.indent, Gap::Blank, b),
     ])
 }
 
@@ -247,16 +203,7 @@ pub(crate) fn put_flag<'a>(
     pending.put(&[Piece::Word(spot.gap, flag_word(value))])
 }
 
-// The left operand of an operator binds as tight as the operator, the right one tighter.
-pub(crate) fn left_of(op: Operator) -> Tightness
-    ensures { tightness_of result ≡ left_tightness op }
-{
-    match op {
-        Operator::Add | Operator::Sub => Tightness::Sum,
-        Operator::Mul | Operator::Div | Operator::Rem => Tightness::Product,
-    }
-}
-
+// The right operand of an operator binds tighter than the operator.
 fn right_of(op: Operator) -> Tightness
     ensures { tightness_of result ≡ right_tightness op }
 {

@@ -1,7 +1,7 @@
 -- The pieces from one place on stand before the others.
 use Rattle.std.proofs.Common.{◌≡◌, ◌++◌, ◌≤◌, length, drop}
-use Rattle.ps_print.specs.inside.Waiting.{waiting}
-use Rattle.ps_print.proofs.pending.Pending.put.Given as goal
+use Rattle.ps_layout.specs.Waiting.{waiting}
+use Rattle.ps_layout.proofs.pending.Pending.put.Given as goal
 
 abbrev pub invariant-loop-i : goal.invariant-loop-i
 invariant-loop-i l = record {

@@ -16,8 +16,8 @@ use Rattle.ps_scan.specs.declared.word.TheConstants as word
 use Rattle.ps_scan.specs.declared.mark.TheConstants as mark
 use Rattle.ps_tree.specs.Phrase.{NameAt, GroupAt, Phrase, at, Form, Phrases, none, more, MaybePhrase, absent, present, Arm, Arms, no_arms, more_arms, arm, WriteItem, item, WriteItems, no_items, more_items}
 use Rattle.ps_tree.specs.Phrase as form
-use Rattle.ps_print.specs.Lexemes.{Gap, nothing, blank, newline, Lexeme, printed as printed_as}
-use Rattle.ps_print.specs.Spellings.{int_text, string_text}
+use Rattle.ps_layout.specs.Lexemes.{Gap, nothing, blank, newline, Lexeme, printed as printed_as}
+use Rattle.ps_layout.specs.Spellings.{int_text, string_text}
 
 abbrev pub lexeme : Gap → TokenKind → List ℕ → Lexeme
 lexeme gap what spelling = record { gap = gap; what = what; spelling = spelling }
