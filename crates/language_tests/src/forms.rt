@@ -91,9 +91,9 @@ fn of_one(rt: &impl Abort, alloc: Global, form: OfOne, a: Rough) -> Result<Rough
 #[test]
 fn forms_of_one_clause_are_built(rt: HostRuntime) -> Result<(), Fail> {
     let alloc = rt.alloc();
-    for (form, wanted) in OF_ONE {
+    for (form, wanted) in &OF_ONE {
         let a = leaf(&rt, alloc, b"a");
-        is_shown(&rt, alloc, of_one(&rt, alloc, form, a), wanted)?;
+        is_shown(&rt, alloc, of_one(&rt, alloc, *form, a), wanted)?;
     }
     Ok(())
 }
@@ -144,10 +144,10 @@ fn of_two(
 #[test]
 fn forms_of_two_clauses_are_built(rt: HostRuntime) -> Result<(), Fail> {
     let alloc = rt.alloc();
-    for (form, wanted) in OF_TWO {
+    for (form, wanted) in &OF_TWO {
         let a = leaf(&rt, alloc, b"a");
         let b = leaf(&rt, alloc, b"b");
-        is_shown(&rt, alloc, of_two(&rt, alloc, form, a, b), wanted)?;
+        is_shown(&rt, alloc, of_two(&rt, alloc, *form, a, b), wanted)?;
     }
     Ok(())
 }
@@ -186,18 +186,18 @@ fn of_three(
 #[test]
 fn forms_of_three_clauses_are_built(rt: HostRuntime) -> Result<(), Fail> {
     let alloc = rt.alloc();
-    for (form, wanted) in OF_THREE {
+    for (form, wanted) in &OF_THREE {
         let a = leaf(&rt, alloc, b"a");
         let b = leaf(&rt, alloc, b"b");
         let c = leaf(&rt, alloc, b"c");
-        is_shown(&rt, alloc, of_three(alloc, form, a, b, c), wanted)?;
+        is_shown(&rt, alloc, of_three(alloc, *form, a, b, c), wanted)?;
     }
     Ok(())
 }
 
-// The forms of names, types, lists and clauses.
+// The forms of parts of several kinds.
 #[derive(Clone, Copy)]
-enum Mixed {
+enum OfKinds {
     For,
     ForBy,
     Case,
@@ -210,18 +210,18 @@ enum Mixed {
     Proc,
 }
 
-const MIXED: [(Mixed, &str); 10] = [
-    (Mixed::For, "for@2i@1(a@1)(b@1)-(c@1)"),
-    (Mixed::ForBy, "for@2i@1(a@1)(b@1)(d@1)(c@1)"),
-    (Mixed::Case, "case@2(a@1)[(b@1):(c@1)](d@1)"),
-    (Mixed::Isnt, "isnt@2(a@1)c@1"),
-    (Mixed::Elems, "elems@2(a@1)bool(b@1)"),
-    (Mixed::Write, "write@2[(a@1)(b@1)@2]"),
-    (Mixed::Int, "7@2"),
-    (Mixed::Variable, "var@2x@1(a@1)"),
-    (Mixed::Structure, "structure@2s@1[int a@1][int b@1]"),
+const OF_KINDS: [(OfKinds, &str); 10] = [
+    (OfKinds::For, "for@2i@1(a@1)(b@1)-(c@1)"),
+    (OfKinds::ForBy, "for@2i@1(a@1)(b@1)(d@1)(c@1)"),
+    (OfKinds::Case, "case@2(a@1)[(b@1):(c@1)](d@1)"),
+    (OfKinds::Isnt, "isnt@2(a@1)c@1"),
+    (OfKinds::Elems, "elems@2(a@1)bool(b@1)"),
+    (OfKinds::Write, "write@2[(a@1)(b@1)@2]"),
+    (OfKinds::Int, "7@2"),
+    (OfKinds::Variable, "var@2x@1(a@1)"),
+    (OfKinds::Structure, "structure@2s@1[int a@1][int b@1]"),
     (
-        Mixed::Proc,
+        OfKinds::Proc,
         "proc@2[int a@1][int b@1]proc(*bool,->int)(a@1)",
     ),
 ];
@@ -232,11 +232,11 @@ fn loop_by(rt: &impl Abort, alloc: Global, by: Option<Rough>) -> Result<Rough, P
     for_of(alloc, named(rt, alloc, b"i"), from, to, by, turn, LINE)
 }
 
-fn mixed(rt: &impl Abort, alloc: Global, form: Mixed) -> Result<Rough, ParseFault> {
+fn of_kinds(rt: &impl Abort, alloc: Global, form: OfKinds) -> Result<Rough, ParseFault> {
     match form {
-        Mixed::For => loop_by(rt, alloc, None),
-        Mixed::ForBy => loop_by(rt, alloc, Some(leaf(rt, alloc, b"d"))),
-        Mixed::Case => {
+        OfKinds::For => loop_by(rt, alloc, None),
+        OfKinds::ForBy => loop_by(rt, alloc, Some(leaf(rt, alloc, b"d"))),
+        OfKinds::Case => {
             let arm = arm_of(one(rt, alloc, leaf(rt, alloc, b"b")), leaf(rt, alloc, b"c"));
             case_of(
                 alloc,
@@ -246,34 +246,34 @@ fn mixed(rt: &impl Abort, alloc: Global, form: Mixed) -> Result<Rough, ParseFaul
                 LINE,
             )
         }
-        Mixed::Isnt => is_of(
+        OfKinds::Isnt => is_of(
             alloc,
             leaf(rt, alloc, b"a"),
             named(rt, alloc, b"c"),
             true,
             LINE,
         ),
-        Mixed::Elems => elems(
+        OfKinds::Elems => elems(
             alloc,
             leaf(rt, alloc, b"a"),
             Ty::Bool,
             one(rt, alloc, leaf(rt, alloc, b"b")),
             LINE,
         ),
-        Mixed::Write => {
+        OfKinds::Write => {
             let item = item_of(leaf(rt, alloc, b"a"), Some(leaf(rt, alloc, b"b")), LINE);
             write_of(alloc, one(rt, alloc, item), LINE)
         }
-        Mixed::Int => form_at(alloc, RoughForm::Int(7), LINE),
-        Mixed::Variable => let_of(
+        OfKinds::Int => form_at(alloc, RoughForm::Int(7), LINE),
+        OfKinds::Variable => let_of(
             alloc,
             named(rt, alloc, b"x"),
             true,
             leaf(rt, alloc, b"a"),
             LINE,
         ),
-        Mixed::Structure => structure_of(alloc, named(rt, alloc, b"s"), groups(rt, alloc), LINE),
-        Mixed::Proc => proc_of(
+        OfKinds::Structure => structure_of(alloc, named(rt, alloc, b"s"), groups(rt, alloc), LINE),
+        OfKinds::Proc => proc_of(
             alloc,
             groups(rt, alloc),
             types(rt, alloc),
@@ -284,10 +284,10 @@ fn mixed(rt: &impl Abort, alloc: Global, form: Mixed) -> Result<Rough, ParseFaul
 }
 
 #[test]
-fn other_forms_are_built(rt: HostRuntime) -> Result<(), Fail> {
+fn forms_of_several_kinds_are_built(rt: HostRuntime) -> Result<(), Fail> {
     let alloc = rt.alloc();
-    for (form, wanted) in MIXED {
-        is_shown(&rt, alloc, mixed(&rt, alloc, form), wanted)?;
+    for (form, wanted) in &OF_KINDS {
+        is_shown(&rt, alloc, of_kinds(&rt, alloc, *form), wanted)?;
     }
     Ok(())
 }

@@ -1,4 +1,4 @@
-//! Tests of the language: the scanner, the symbols, the tree, the parser and the printer.
+//! Tests of the language: the tree, the parser and the printer.
 #![tactic(auto)]
 
 #[cfg(test)]
@@ -10,10 +10,6 @@ mod printing;
 #[cfg(test)]
 mod reading;
 #[cfg(test)]
-mod scanning;
-#[cfg(test)]
 mod show;
-#[cfg(test)]
-mod symbols;
 #[cfg(test)]
 mod trees;

@@ -9,7 +9,8 @@ use ps_symbols::kind::{
     opening_of, operation_of, relating_of, start_of, type_start_of,
 };
 use ps_symbols::newline::{can_continue, can_end};
-use ps_symbols::symbol::symbols;
+use ps_symbols::symbol::{Symbol, symbols};
+use std::alloc::{AllocError, Global};
 use std::test::Fail;
 
 const NEWLINES: [(&[u8], &str); 16] = [
@@ -31,20 +32,23 @@ const NEWLINES: [(&[u8], &str); 16] = [
     (b"int\nwrite\na", "..."),
 ];
 
-// `;` stands for a symbol that a newline stands for; each other one is a `.`.
+// A character for each symbol: `;` for one that a newline stands for, and a `.` for each other one.
+fn shown(alloc: Global, read: &[Symbol]) -> Result<String, AllocError> {
+    let mut shown = String::new(alloc);
+    for symbol in read {
+        let implied = symbol.token.from == symbol.token.to;
+        shown.push(if implied { ';' } else { '.' })?;
+    }
+    Ok(shown)
+}
+
 #[test]
 fn newlines_are_read(rt: HostRuntime) -> Result<(), Fail> {
-    for (text, wanted) in NEWLINES {
-        assert!(rt; text.len() <= LONGEST_TEXT);
+    for (text, wanted) in &NEWLINES {
         let tokens = tokens_of(rt.alloc(), text)?;
         assert!(rt; tokens.len() <= LONGEST_TEXT);
         let read = symbols(rt.alloc(), &tokens)?;
-        let mut shown = String::new(rt.alloc());
-        for symbol in &read {
-            let implied = symbol.token.from == symbol.token.to;
-            shown.push(if implied { ';' } else { '.' })?;
-        }
-        assert_eq!(rt; shown.as_str(), wanted);
+        assert_eq!(rt; shown(rt.alloc(), &read)?.as_str(), *wanted);
     }
     Ok(())
 }

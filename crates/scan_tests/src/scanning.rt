@@ -1,93 +1,94 @@
 //! Texts, and the tokens of each or its first fault.
 
 use crate::reading::tokens_of;
-use ps_base::LONGEST_TEXT;
 use ps_base::line::Line;
 use ps_scan::mark::{self, mark_place, marks};
 use ps_scan::word::{self, word_place, words};
 use ps_scan::{ScanFault, Token, TokenKind, int_of, name_of, scan, spell};
 use std::test::Fail;
 
-fn token(what: TokenKind, line: u32, from: u32, to: u32) -> Token {
-    Token {
-        what,
-        line: Line(line),
-        from,
-        to,
-    }
-}
+/// A token: what it is, its line, and where it begins and ends.
+type Found = (TokenKind, u32, u32, u32);
+
+const TOKENS_OF_TEXTS: [(&[u8], &[Found]); 10] = [
+    (b"", &[]),
+    (
+        b"1a",
+        &[(TokenKind::Int, 1, 0, 1), (TokenKind::Name, 1, 1, 2)],
+    ),
+    (
+        b"write 1 + 2, \"'n\" ?",
+        &[
+            (TokenKind::Word(word::WRITE), 1, 0, 5),
+            (TokenKind::Int, 1, 6, 7),
+            (TokenKind::Mark(mark::PLUS), 1, 8, 9),
+            (TokenKind::Int, 1, 10, 11),
+            (TokenKind::Mark(mark::COMMA), 1, 11, 12),
+            (TokenKind::Text, 1, 13, 17),
+            (TokenKind::Mark(mark::QUESTION), 1, 18, 19),
+        ],
+    ),
+    (
+        b"let a := (6);\r\n\ta.b=-c*d",
+        &[
+            (TokenKind::Word(word::LET), 1, 0, 3),
+            (TokenKind::Name, 1, 4, 5),
+            (TokenKind::Mark(mark::BECOMES), 1, 6, 8),
+            (TokenKind::Mark(mark::OPEN_ROUND), 1, 9, 10),
+            (TokenKind::Int, 1, 10, 11),
+            (TokenKind::Mark(mark::CLOSE_ROUND), 1, 11, 12),
+            (TokenKind::Mark(mark::SEMICOLON), 1, 12, 13),
+            (TokenKind::Name, 2, 16, 19),
+            (TokenKind::Mark(mark::EQUALS), 2, 19, 20),
+            (TokenKind::Mark(mark::MINUS), 2, 20, 21),
+            (TokenKind::Name, 2, 21, 22),
+            (TokenKind::Mark(mark::TIMES), 2, 22, 23),
+            (TokenKind::Name, 2, 23, 24),
+        ],
+    ),
+    (
+        b"12ab lets + +",
+        &[
+            (TokenKind::Int, 1, 0, 2),
+            (TokenKind::Name, 1, 2, 4),
+            (TokenKind::Name, 1, 5, 9),
+            (TokenKind::Mark(mark::PLUS), 1, 10, 11),
+            (TokenKind::Mark(mark::PLUS), 1, 12, 13),
+        ],
+    ),
+    (
+        b"! \xc8\nwrite 1",
+        &[
+            (TokenKind::Word(word::WRITE), 2, 4, 9),
+            (TokenKind::Int, 2, 10, 11),
+        ],
+    ),
+    (b"1!", &[(TokenKind::Int, 1, 0, 1)]),
+    (b"1!!\x00\x7f\"'\r\t", &[(TokenKind::Int, 1, 0, 1)]),
+    (
+        b"1!\n!\n\n;",
+        &[
+            (TokenKind::Int, 1, 0, 1),
+            (TokenKind::Mark(mark::SEMICOLON), 4, 6, 7),
+        ],
+    ),
+    (b"\"!\"", &[(TokenKind::Text, 1, 0, 3)]),
+];
 
 #[test]
 fn texts_have_their_tokens(rt: HostRuntime) -> Result<(), Fail> {
-    let one = token(TokenKind::Int, 1, 0, 1);
-    let rows: [(&[u8], &[Token]); 10] = [
-        (b"", &[]),
-        (
-            b"1a",
-            &[
-                token(TokenKind::Int, 1, 0, 1),
-                token(TokenKind::Name, 1, 1, 2),
-            ],
-        ),
-        (
-            b"write 1 + 2, \"'n\" ?",
-            &[
-                token(TokenKind::Word(word::WRITE), 1, 0, 5),
-                token(TokenKind::Int, 1, 6, 7),
-                token(TokenKind::Mark(mark::PLUS), 1, 8, 9),
-                token(TokenKind::Int, 1, 10, 11),
-                token(TokenKind::Mark(mark::COMMA), 1, 11, 12),
-                token(TokenKind::Text, 1, 13, 17),
-                token(TokenKind::Mark(mark::QUESTION), 1, 18, 19),
-            ],
-        ),
-        (
-            b"let a := (6);\r\n\ta.b=-c*d",
-            &[
-                token(TokenKind::Word(word::LET), 1, 0, 3),
-                token(TokenKind::Name, 1, 4, 5),
-                token(TokenKind::Mark(mark::BECOMES), 1, 6, 8),
-                token(TokenKind::Mark(mark::OPEN_ROUND), 1, 9, 10),
-                token(TokenKind::Int, 1, 10, 11),
-                token(TokenKind::Mark(mark::CLOSE_ROUND), 1, 11, 12),
-                token(TokenKind::Mark(mark::SEMICOLON), 1, 12, 13),
-                token(TokenKind::Name, 2, 16, 19),
-                token(TokenKind::Mark(mark::EQUALS), 2, 19, 20),
-                token(TokenKind::Mark(mark::MINUS), 2, 20, 21),
-                token(TokenKind::Name, 2, 21, 22),
-                token(TokenKind::Mark(mark::TIMES), 2, 22, 23),
-                token(TokenKind::Name, 2, 23, 24),
-            ],
-        ),
-        (
-            b"12ab lets + +",
-            &[
-                token(TokenKind::Int, 1, 0, 2),
-                token(TokenKind::Name, 1, 2, 4),
-                token(TokenKind::Name, 1, 5, 9),
-                token(TokenKind::Mark(mark::PLUS), 1, 10, 11),
-                token(TokenKind::Mark(mark::PLUS), 1, 12, 13),
-            ],
-        ),
-        (
-            b"! \xc8\nwrite 1",
-            &[
-                token(TokenKind::Word(word::WRITE), 2, 4, 9),
-                token(TokenKind::Int, 2, 10, 11),
-            ],
-        ),
-        (b"1!", &[one]),
-        (b"1!!\x00\x7f\"'\r\t", &[one]),
-        (
-            b"1!\n!\n\n;",
-            &[one, token(TokenKind::Mark(mark::SEMICOLON), 4, 6, 7)],
-        ),
-        (b"\"!\"", &[token(TokenKind::Text, 1, 0, 3)]),
-    ];
-    for (text, tokens) in rows {
-        assert!(rt; text.len() <= LONGEST_TEXT);
+    for (text, tokens) in &TOKENS_OF_TEXTS {
         let found = tokens_of(rt.alloc(), text)?;
-        assert_eq!(rt; found.as_slice(), tokens);
+        assert_eq!(rt; found.len(), tokens.len());
+        for (token, (what, line, from, to)) in found.iter().zip(*tokens) {
+            let wanted = Token {
+                what: *what,
+                line: Line(*line),
+                from: *from,
+                to: *to,
+            };
+            assert_eq!(rt; *token, wanted);
+        }
     }
     Ok(())
 }
@@ -126,11 +127,10 @@ const MARKS_OF_TEXTS: [(&[u8], &[u8]); 13] = [
 
 #[test]
 fn longest_mark_is_taken(rt: HostRuntime) -> Result<(), Fail> {
-    for (text, marks) in MARKS_OF_TEXTS {
-        assert!(rt; text.len() <= LONGEST_TEXT);
+    for (text, marks) in &MARKS_OF_TEXTS {
         let found = tokens_of(rt.alloc(), text)?;
         assert_eq!(rt; found.len(), marks.len());
-        for (token, place) in found.iter().zip(marks) {
+        for (token, place) in found.iter().zip(*marks) {
             assert_eq!(rt; token.what, TokenKind::Mark(*place));
         }
     }
@@ -176,16 +176,22 @@ const WORDS_OF_TEXTS: [(&[u8], u8); 36] = [
     (b"write", word::WRITE),
 ];
 
+// What the only token is, where there is one alone.
+fn only(tokens: &[Token]) -> Option<TokenKind> {
+    match tokens {
+        [token] => Some(token.what),
+        _ => None,
+    }
+}
+
 #[test]
 fn words_have_their_places(rt: HostRuntime) -> Result<(), Fail> {
     let mut place = 0u8;
-    for (spelling, constant) in WORDS_OF_TEXTS {
-        assert!(rt; spelling.len() <= LONGEST_TEXT);
+    for (spelling, constant) in &WORDS_OF_TEXTS {
         let tokens = tokens_of(rt.alloc(), spelling)?;
-        assert_eq!(rt; constant, place);
+        assert_eq!(rt; only(&tokens), Some(TokenKind::Word(place)));
         assert_eq!(rt; word_place(spelling), Some(place));
-        assert_eq!(rt; tokens.len(), 1);
-        assert_eq!(rt; tokens[0].what, TokenKind::Word(place));
+        assert_eq!(rt; *constant, place);
         place = place.wrapping_add(1);
     }
     Ok(())
@@ -220,53 +226,97 @@ fn line_of(fault: ScanFault) -> Line {
     }
 }
 
+const LINE: Line = Line(1);
+
+const FAULTS: [(&[u8], ScanFault, u8); 12] = [
+    (
+        b"! $\n1 $",
+        ScanFault::BadByte {
+            line: Line(2),
+            byte: b'$',
+        },
+        1,
+    ),
+    (
+        b"\xc8",
+        ScanFault::BadByte {
+            line: LINE,
+            byte: 200,
+        },
+        1,
+    ),
+    (
+        b"\"\t",
+        ScanFault::BadByte {
+            line: LINE,
+            byte: b'\t',
+        },
+        1,
+    ),
+    (
+        b"\"\x7f'x",
+        ScanFault::BadByte {
+            line: LINE,
+            byte: 127,
+        },
+        1,
+    ),
+    (b"\"ab\n\"", ScanFault::OpenString { line: LINE }, 2),
+    (b"\"ab'", ScanFault::OpenString { line: LINE }, 2),
+    (
+        b"2147483647 2147483648 $",
+        ScanFault::IntTooLarge { line: LINE },
+        3,
+    ),
+    (
+        b"99999999999999999999",
+        ScanFault::IntTooLarge { line: LINE },
+        3,
+    ),
+    (
+        b"\n\n\"'\n",
+        ScanFault::BadEscape {
+            line: Line(3),
+            byte: b'\n',
+        },
+        4,
+    ),
+    (
+        b"\"'x\x7f",
+        ScanFault::BadEscape {
+            line: LINE,
+            byte: b'x',
+        },
+        4,
+    ),
+    (
+        b"a234567890123456789012345678901234567890123456789012345678901234 \
+a2345678901234567890123456789012345678901234567890123456789012345",
+        ScanFault::NameTooLong {
+            line: LINE,
+            length: 65,
+        },
+        5,
+    ),
+    (
+        b"1 2 $ \"",
+        ScanFault::BadByte {
+            line: LINE,
+            byte: b'$',
+        },
+        1,
+    ),
+];
+
 #[test]
 fn first_fault_is_answered(rt: HostRuntime) -> Result<(), Fail> {
-    let line = Line(1);
-    let rows: [(&[u8], ScanFault, u8); 12] = [
-        (
-            b"! $\n1 $",
-            ScanFault::BadByte {
-                line: Line(2),
-                byte: b'$',
-            },
-            1,
-        ),
-        (b"\xc8", ScanFault::BadByte { line, byte: 200 }, 1),
-        (b"\"\t", ScanFault::BadByte { line, byte: b'\t' }, 1),
-        (b"\"\x7f'x", ScanFault::BadByte { line, byte: 127 }, 1),
-        (b"\"ab\n\"", ScanFault::OpenString { line }, 2),
-        (b"\"ab'", ScanFault::OpenString { line }, 2),
-        (
-            b"2147483647 2147483648 $",
-            ScanFault::IntTooLarge { line },
-            3,
-        ),
-        (b"99999999999999999999", ScanFault::IntTooLarge { line }, 3),
-        (
-            b"\n\n\"'\n",
-            ScanFault::BadEscape {
-                line: Line(3),
-                byte: b'\n',
-            },
-            4,
-        ),
-        (b"\"'x\x7f", ScanFault::BadEscape { line, byte: b'x' }, 4),
-        (
-            b"a234567890123456789012345678901234567890123456789012345678901234 \
-a2345678901234567890123456789012345678901234567890123456789012345",
-            ScanFault::NameTooLong { line, length: 65 },
-            5,
-        ),
-        (b"1 2 $ \"", ScanFault::BadByte { line, byte: b'$' }, 1),
-    ];
-    for (text, fault, number) in rows {
+    for (text, fault, number) in &FAULTS {
         let Err(found) = scan(rt.alloc(), text) else {
             return Err("no fault")?;
         };
-        assert_eq!(rt; found, fault);
-        assert_eq!(rt; found.number(), Some(number));
-        assert_eq!(rt; found.line(), Some(line_of(fault)));
+        assert_eq!(rt; found, *fault);
+        assert_eq!(rt; found.number(), Some(*number));
+        assert_eq!(rt; found.line(), Some(line_of(*fault)));
     }
     Ok(())
 }
@@ -288,7 +338,13 @@ fn longest_string_is_read(rt: HostRuntime) -> Result<(), Fail> {
     let tokens = tokens_of(rt.alloc(), text.as_slice())?;
     assert_eq!(rt;
         tokens.as_slice(),
-        [token(TokenKind::Text, 1, 0, 65537)].as_slice()
+        [Token {
+            what: TokenKind::Text,
+            line,
+            from: 0,
+            to: 65537
+        }]
+        .as_slice()
     );
     Ok(())
 }
