@@ -5,6 +5,7 @@ use ps_base::line::Line;
 use ps_scan::mark::{self, mark_place, marks};
 use ps_scan::word::{self, word_place, words};
 use ps_scan::{ScanFault, Token, TokenKind, int_of, name_of, scan, spell};
+use std::process::Abort;
 use std::test::Fail;
 
 /// A token: what it is, its line, and where it begins and ends.
@@ -75,20 +76,24 @@ const TOKENS_OF_TEXTS: [(&[u8], &[Found]); 10] = [
     (b"\"!\"", &[(TokenKind::Text, 1, 0, 3)]),
 ];
 
+fn assert_tokens(rt: &impl Abort, found: &[Token], wanted: &[Found]) {
+    assert_eq!(rt; found.len(), wanted.len());
+    for (token, (what, line, from, to)) in found.iter().zip(wanted) {
+        let wanted = Token {
+            what: *what,
+            line: Line(*line),
+            from: *from,
+            to: *to,
+        };
+        assert_eq!(rt; *token, wanted);
+    }
+}
+
 #[test]
 fn texts_have_their_tokens(rt: HostRuntime) -> Result<(), Fail> {
-    for (text, tokens) in &TOKENS_OF_TEXTS {
+    for (text, wanted) in &TOKENS_OF_TEXTS {
         let found = tokens_of(rt.alloc(), text)?;
-        assert_eq!(rt; found.len(), tokens.len());
-        for (token, (what, line, from, to)) in found.iter().zip(*tokens) {
-            let wanted = Token {
-                what: *what,
-                line: Line(*line),
-                from: *from,
-                to: *to,
-            };
-            assert_eq!(rt; *token, wanted);
-        }
+        assert_tokens(&rt, &found, wanted);
     }
     Ok(())
 }
@@ -349,16 +354,24 @@ fn longest_string_is_read(rt: HostRuntime) -> Result<(), Fail> {
     Ok(())
 }
 
+const SPELLED: &[u8] = b"a.b 007 \"x'n't'''\"y\"";
+
 #[test]
-fn tokens_are_read(rt: HostRuntime) -> Result<(), Fail> {
-    let text = b"a.b 007 \"x'n't'''\"y\"";
-    let tokens = tokens_of(rt.alloc(), text)?;
+fn names_and_ints_are_read(rt: HostRuntime) -> Result<(), Fail> {
+    let tokens = tokens_of(rt.alloc(), SPELLED)?;
     assert_eq!(rt; tokens.len(), 3);
-    assert_eq!(rt; name_of(text, tokens[0]), b"a.b".as_slice());
+    assert_eq!(rt; name_of(SPELLED, tokens[0]), b"a.b".as_slice());
     assert_eq!(rt; tokens[1].what, TokenKind::Int);
-    assert_eq!(rt; int_of(text, tokens[1]), 7);
+    assert_eq!(rt; int_of(SPELLED, tokens[1]), 7);
+    Ok(())
+}
+
+#[test]
+fn strings_are_read(rt: HostRuntime) -> Result<(), Fail> {
+    let tokens = tokens_of(rt.alloc(), SPELLED)?;
+    assert_eq!(rt; tokens.len(), 3);
     assert_eq!(rt; tokens[2].what, TokenKind::Text);
-    let spelled = spell(rt.alloc(), text, tokens[2])?;
+    let spelled = spell(rt.alloc(), SPELLED, tokens[2])?;
     assert_eq!(rt; spelled.as_slice(), b"x\n\t'\"y".as_slice());
     Ok(())
 }

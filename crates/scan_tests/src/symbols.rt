@@ -58,6 +58,10 @@ fn kinds_are_told(rt: HostRuntime) {
     assert!(rt; kind_of(TokenKind::Word(word::WRITE)) == Kind::Write);
     assert!(rt; kind_of(TokenKind::Mark(mark::QUESTION)) == Kind::Question);
     assert!(rt; kind_of(TokenKind::Mark(26)) == Kind::Stray);
+}
+
+#[test]
+fn operators_are_told(rt: HostRuntime) {
     assert!(rt;
         matches!(
             operation_of(Level::Product, Kind::Rem),
@@ -77,6 +81,10 @@ fn kinds_are_told(rt: HostRuntime) {
             Some(Relating::IsOf { negated: true })
         )
     );
+}
+
+#[test]
+fn starts_are_told(rt: HostRuntime) {
     assert!(rt; matches!(opening_of(Kind::Case), Some(Opening::Choosing)));
     assert!(rt; opening_of(Kind::Let).is_none());
     assert!(rt; matches!(start_of(Kind::Upb), Some(Start::Bound { upper: true })));
