@@ -6,4 +6,3 @@ mod items;
 mod lines;
 pub mod print;
 mod types;
-mod writer;

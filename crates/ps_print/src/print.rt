@@ -12,10 +12,12 @@ use crate::types::{
     put_gives, put_groups, put_heading, put_more_groups, put_more_types, put_named, put_type,
     put_types,
 };
-use crate::writer::{write_end, write_int, write_mark, write_spelling, write_string, write_word};
 use ps_layout::forms::put_form;
 use ps_layout::pending::Pending;
 use ps_layout::piece::{Behind, Gap, Piece, Spot};
+use ps_lexemes::writer::{
+    write_end, write_int, write_mark, write_spelling, write_string, write_word,
+};
 use ps_tree::rough::{Rough, RoughForm};
 use std::alloc::{AllocError, Global};
 

@@ -30,23 +30,28 @@ returns-in-IfDo c =
 pub returns-in-IfElse : goal.returns-in-IfElse
 returns-in-IfElse c =
     puts_form (waiting c.args.pending.now) (waiting c.put_if_else.new.pending) c.args.spot c.args.form.now
-    (form.IfElse (phrase_of c.in-IfElse.c) (phrase_of c.in-IfElse.a) (phrase_of c.in-IfElse.b)) c.put_if_else.result (ap form_of c.in-IfElse.is) c.put_if_else.ensures
+    (form.IfElse (phrase_of c.in-IfElse.c) (phrase_of c.in-IfElse.a) (phrase_of c.in-IfElse.b))
+    c.put_if_else.result (ap form_of c.in-IfElse.is) c.put_if_else.ensures
 
 pub returns-in-While : goal.returns-in-While
 returns-in-While c =
     puts_form (waiting c.args.pending.now) (waiting c.put_conditional-in-While.new.pending) c.args.spot c.args.form.now
-    (form.While (phrase_of c.in-While.c) (phrase_of c.in-While.a)) c.put_conditional-in-While.result (ap form_of c.in-While.is) c.put_conditional-in-While.ensures
+    (form.While (phrase_of c.in-While.c) (phrase_of c.in-While.a))
+    c.put_conditional-in-While.result (ap form_of c.in-While.is) c.put_conditional-in-While.ensures
 
 pub returns-in-Repeat : goal.returns-in-Repeat
 returns-in-Repeat c =
-    let is : form_of c.args.form.now ≡ Repeat (phrase_of c.in-Repeat.a) (phrase_of c.in-Repeat.c) (maybe_in (option_map (λ clause. clause.value) c.in-Repeat.b)) =
+    let is : form_of c.args.form.now ≡ Repeat (phrase_of c.in-Repeat.a) (phrase_of c.in-Repeat.c)
+    (maybe_in (option_map (λ clause. clause.value) c.in-Repeat.b)) =
     ap form_of c.in-Repeat.is ∙ ap (λ b. Repeat (phrase_of c.in-Repeat.a) (phrase_of c.in-Repeat.c) b) (maybe_boxed-back c.in-Repeat.b) in
     puts_form (waiting c.args.pending.now) (waiting c.put_repeat.new.pending) c.args.spot c.args.form.now
-    (Repeat (phrase_of c.in-Repeat.a) (phrase_of c.in-Repeat.c) (maybe_in (option_map (λ clause. clause.value) c.in-Repeat.b))) c.put_repeat.result is c.put_repeat.ensures
+    (Repeat (phrase_of c.in-Repeat.a) (phrase_of c.in-Repeat.c) (maybe_in (option_map (λ clause. clause.value) c.in-Repeat.b)))
+    c.put_repeat.result is c.put_repeat.ensures
 
 pub returns-in-For : goal.returns-in-For
 returns-in-For c =
-    let loop = λ (n : Named) (r : RoughRange). For (named n) (phrase_of (out-RoughRange r).a) (phrase_of (out-RoughRange r).b) (maybe_in (out-RoughRange r).c) (phrase_of c.in-For.s) in
+    let loop = λ (n : Named) (r : RoughRange). For (named n) (phrase_of (out-RoughRange r).a)
+    (phrase_of (out-RoughRange r).b) (maybe_in (out-RoughRange r).c) (phrase_of c.in-For.s) in
     let is : form_of c.args.form.now ≡ loop c.deref-in-For.result.now c.deref-in-For-2.result.now =
     ap form_of c.in-For.is ∙ form_of-For c.in-For.name c.in-For.range c.in-For.s
     ∙ ap (λ n. loop n c.in-For.range.value) (sym c.deref-in-For.ensures)
@@ -73,7 +78,8 @@ returns-in-Write c =
 pub returns-in-Vector : goal.returns-in-Vector
 returns-in-Vector c =
     puts_form (waiting c.args.pending.now) (waiting c.put_vector.new.pending) c.args.spot c.args.form.now
-    (form.Vector (phrase_of c.in-Vector.l) (phrase_of c.in-Vector.u) (phrase_of c.in-Vector.e)) c.put_vector.result (ap form_of c.in-Vector.is) c.put_vector.ensures
+    (form.Vector (phrase_of c.in-Vector.l) (phrase_of c.in-Vector.u) (phrase_of c.in-Vector.e))
+    c.put_vector.result (ap form_of c.in-Vector.is) c.put_vector.ensures
 
 pub returns-in-Assign : goal.returns-in-Assign
 returns-in-Assign c =
@@ -170,7 +176,8 @@ returns-in-Structure c =
 pub returns-in-Proc : goal.returns-in-Proc
 returns-in-Proc c =
     let is : form_of c.args.form.now ≡ form.Proc (groups_in c.as_slice-in-Proc.result.now) (ty_view c.deref-in-Proc.result.now) (phrase_of c.in-Proc.s) =
-    ap form_of c.in-Proc.is ∙ ap (λ (gs : List Group). form.Proc (groups_in gs) (ty_view c.in-Proc.gives.value) (phrase_of c.in-Proc.s)) (sym c.as_slice-in-Proc.ensures)
+    ap form_of c.in-Proc.is
+    ∙ ap (λ (gs : List Group). form.Proc (groups_in gs) (ty_view c.in-Proc.gives.value) (phrase_of c.in-Proc.s)) (sym c.as_slice-in-Proc.ensures)
     ∙ ap (λ (gives : Ty). form.Proc (groups_in c.as_slice-in-Proc.result.now) (ty_view gives) (phrase_of c.in-Proc.s)) (sym c.deref-in-Proc.ensures) in
     puts_form (waiting c.args.pending.now) (waiting c.put_proc.new.pending) c.args.spot c.args.form.now
     (form.Proc (groups_in c.as_slice-in-Proc.result.now) (ty_view c.deref-in-Proc.result.now) (phrase_of c.in-Proc.s)) c.put_proc.result is c.put_proc.ensures
@@ -200,12 +207,14 @@ pub returns-in-Name : goal.returns-in-Name
 returns-in-Name c =
     let old = waiting c.args.pending.now in
     let new = waiting c.put-in-Name.new.self in
-    puts_form old new c.args.spot c.args.form.now (form.Name c.as_slice-in-Name.result.now) c.put-in-Name.result (ap form_of c.in-Name.is ∙ ap form.Name (sym c.as_slice-in-Name.ensures))
+    puts_form old new c.args.spot c.args.form.now
+    (form.Name c.as_slice-in-Name.result.now) c.put-in-Name.result (ap form_of c.in-Name.is ∙ ap form.Name (sym c.as_slice-in-Name.ensures))
     (puts_one _ old new c.put-in-Name.result c.put-in-Name.ensures refl (omega arith))
 
 pub returns-in-Text : goal.returns-in-Text
 returns-in-Text c =
     let old = waiting c.args.pending.now in
     let new = waiting c.put-in-Text.new.self in
-    puts_form old new c.args.spot c.args.form.now (form.Text c.as_slice-in-Text.result.now) c.put-in-Text.result (ap form_of c.in-Text.is ∙ ap form.Text (sym c.as_slice-in-Text.ensures))
+    puts_form old new c.args.spot c.args.form.now
+    (form.Text c.as_slice-in-Text.result.now) c.put-in-Text.result (ap form_of c.in-Text.is ∙ ap form.Text (sym c.as_slice-in-Text.ensures))
     (puts_one _ old new c.put-in-Text.result c.put-in-Text.ensures refl (omega arith))
