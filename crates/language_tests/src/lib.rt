@@ -1,12 +1,10 @@
-//! Tests of the language: the tree, the parser and the printer.
+//! Tests of the language: the tree and the parser.
 #![tactic(auto)]
 
 #[cfg(test)]
 mod faults;
 #[cfg(test)]
 mod forms;
-#[cfg(test)]
-mod printing;
 #[cfg(test)]
 mod reading;
 #[cfg(test)]

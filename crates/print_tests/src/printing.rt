@@ -153,10 +153,8 @@ const DATABASE_PROGRAMS: [Program<'static>; 12] = [
 ];
 
 fn printed(alloc: Global, text: &[u8]) -> Result<Vec<u8>, Fail> {
-    match read(alloc, text)? {
-        Ok(tree) => Ok(print(alloc, &tree)?),
-        Err(_) => Err("a fault of the parser".into()),
-    }
+    let tree = read(alloc, text)?;
+    Ok(print(alloc, &tree)?)
 }
 
 fn assert_printed(rt: &impl Abort, alloc: Global, row: &Program<'_>) -> Result<(), Fail> {
