@@ -48,12 +48,13 @@ fn answer(
 fn assert_told(
     rt: &impl Abort,
     alloc: Global,
-    words: (&[&str], &str),
+    words: &[&str],
+    last: &str,
     text: &[u8],
     told: &[u8],
     wanted: u8,
 ) -> Result<(), Fail> {
-    let words = words_of(alloc, words.0, words.1)?;
+    let words = words_of(alloc, words, last)?;
     let (status, host) = answer(alloc, &words, text, &[])?;
     assert_eq!(rt; host.told_bytes(), told);
     assert_eq!(rt; status, wanted);
@@ -121,7 +122,7 @@ const TOLD: [Row<'static>; 18] = [
 #[test]
 fn texts_are_told(rt: HostRuntime) -> Result<(), Fail> {
     for (words, text, told, status) in &TOLD {
-        assert_told(&rt, rt.alloc(), (words, "x.ps"), text, told, *status)?;
+        assert_told(&rt, rt.alloc(), words, "x.ps", text, told, *status)?;
     }
     Ok(())
 }
@@ -155,7 +156,7 @@ const FIRST_FAULTS: [(&[u8], &[u8]); 17] = [
 #[test]
 fn first_faults_are_told(rt: HostRuntime) -> Result<(), Fail> {
     for (text, told) in &FIRST_FAULTS {
-        assert_told(&rt, rt.alloc(), (RUN, "x.ps"), text, told, 2)?;
+        assert_told(&rt, rt.alloc(), RUN, "x.ps", text, told, 2)?;
     }
     Ok(())
 }
@@ -175,7 +176,7 @@ const BRACES: [(usize, &[u8], u8); 2] = [(100, b"", 0), (101, b"x.ps: parse 2 at
 fn braces_are_nested_to_the_limit(rt: HostRuntime) -> Result<(), Fail> {
     for (depth, told, status) in &BRACES {
         let text = nested(rt.alloc(), *depth)?;
-        assert_told(&rt, rt.alloc(), (RUN, "x.ps"), &text, told, *status)?;
+        assert_told(&rt, rt.alloc(), RUN, "x.ps", &text, told, *status)?;
     }
     Ok(())
 }
@@ -197,7 +198,7 @@ const NO_COMMANDS: [(&[&str], &str); 10] = [
 fn other_words_are_no_command(rt: HostRuntime) -> Result<(), Fail> {
     let usage = b"usage: psalgol COMMAND VOLUME WORDS\n";
     for (words, last) in &NO_COMMANDS {
-        assert_told(&rt, rt.alloc(), (words, last), b"write 1", usage, 1)?;
+        assert_told(&rt, rt.alloc(), words, last, b"write 1", usage, 1)?;
     }
     Ok(())
 }
@@ -258,7 +259,7 @@ fn long_chains_end_in_an_answer(rt: HostRuntime) -> Result<(), Fail> {
     for _ in 0..200_000 {
         sum.extend_from_slice(b"+1")?;
     }
-    assert_told(&rt, rt.alloc(), (RUN, "x.ps"), &sum, b"200000", 0)
+    assert_told(&rt, rt.alloc(), RUN, "x.ps", &sum, b"200000", 0)
 }
 
 #[test]
