@@ -3,7 +3,7 @@
 #![tactic(auto)]
 
 use anyhow::Result;
-use ps_check::check;
+use ps_check::check::check;
 use ps_parse::parse;
 use ps_port::{DirShelf, Shelf};
 use ps_scan::scan;

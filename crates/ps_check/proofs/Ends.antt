@@ -1,6 +1,7 @@
 -- The line of a program's last clause, and what its tree comes to.
-use Rattle.std.proofs.Common.{◌≡◌, ◌≤◌, ◌<◌, ◌-◌, ℕ, suc, List, [], ◌∷◌, length, get_or, arith, refl, sym, ap, ◌∙◌}
-use Rattle.std.specs.Prelude.{Option, Some, None}
+use Rattle.std.proofs.Common.{◌≡◌, ◌≤◌, ◌<◌, ◌-◌, ℕ, suc, List, [], ◌∷◌, length, get_or, arith, refl, sym, ap, ◌∙◌, subst}
+use Rattle.std.specs.Prelude.{Option, Some, None, Result, IfErr, IsErrAnd}
+use Rattle.std.proofs.lemmas.Result.{err_from_is_err_and}
 use Rattle.ps_base.specs.TyView as ty
 use Rattle.ps_base.specs.declared.line.Line.{Line}
 use Rattle.ps_tree.specs.Phrase.{Phrase}
@@ -13,7 +14,9 @@ use Rattle.ps_typing.specs.Library.{library_names}
 use Rattle.ps_typing.specs.Names.{Names}
 use Rattle.ps_typing.specs.Checking.{Outcome, Gives, Refuses, check, wants}
 use Rattle.ps_typing.specs.Placed.{placed_program}
-use Rattle.ps_typing.specs.Program.{Typed, Fails, check_program, verdict_of, measured, bodies, first_complex, end_line, last_line}
+use Rattle.ps_typing.specs.Program.{Verdict, Typed, Fails, check_program, verdict_of, measured, bodies, first_complex, end_line, last_line}
+use Rattle.ps_check.specs.Faults.{fault_of}
+use Rattle.ps_check.specs.declared.fault.CheckFault.{CheckFault}
 use Rattle.ps_check.specs.inside.Answers.{Refused}
 
 -- the line of the last item
@@ -45,6 +48,15 @@ pub refused_is : (p : Phrase) (found : Option Fault) (told : Fault) → Refused 
 refused_is p None told is same = absurd cc
 refused_is p (Some fault) told is same = ap verdict_of is ∙ ap fails_as same
   where
-    fails_as : Option Fault → _
+    fails_as : Option Fault → Verdict
     fails_as (Some fault) = Fails fault
     fails_as None = Fails told
+
+-- the exits of a `?`
+pub exits_with : {T : Type 0} (r : Result T CheckFault) (Q : CheckFault → Type 0) (fault : CheckFault) → IsErrAnd r (λ y. y ≡ fault) → Q fault → IfErr r Q
+exits_with r Q fault is h =
+    let p = err_from_is_err_and r is in
+    subst (λ (r : Result _ CheckFault). IfErr r Q) (sym p.1) (subst Q (sym p.2) h)
+
+pub no_program : (fault : CheckFault) (p : Phrase) (told : Fault) → fault_of fault ≡ None → fault_of fault ≡ Some told → check_program p ≡ Fails told
+no_program fault p told memory is = absurd (let e : None ≡ Some told = sym memory ∙ is in cc)

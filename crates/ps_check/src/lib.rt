@@ -22,5 +22,4 @@ mod operators;
 mod sequences;
 mod vectors;
 
-pub use check::check;
 pub use fault::CheckFault;
