@@ -98,15 +98,18 @@ as_item : (clause : Phrase) → Stands clause → LetsStand true clause
 as_item (at (form.Let name variable e) line) h = (refl, h.1)
 as_item (at other line) h = h
 
-and_clause : (is_item : Bool) (before : Phrases) (last : Phrase) → LetsStandInAll is_item before → LetsStand is_item last → LetsStandInAll is_item (and_then before last)
+and_clause : (is_item : Bool) (before : Phrases) (last : Phrase) → LetsStandInAll is_item before → LetsStand is_item last →
+    LetsStandInAll is_item (and_then before last)
 and_clause is_item none last h k = (k, tt)
 and_clause is_item (more first rest) last h k = (h.0, and_clause is_item rest last h.1 k)
 
-and_one_arm : (before : Arms) (labels : Phrases) (a : Phrase) → LetsStandInArms before → LetsStandInAll false labels → Stands a → LetsStandInArms (and_arm before (arm labels a))
+and_one_arm : (before : Arms) (labels : Phrases) (a : Phrase) → LetsStandInArms before → LetsStandInAll false labels → Stands a →
+    LetsStandInArms (and_arm before (arm labels a))
 and_one_arm no_arms labels a h k l = (k, l, tt)
 and_one_arm (more_arms (arm others b) rest) labels a h k l = (h.0, h.1, and_one_arm rest labels a h.2 k l)
 
-and_one_item : (before : WriteItems) (last : WriteItem) → LetsStandInWritten before → LetsStandInWritten (more_items last no_items) → LetsStandInWritten (and_item before last)
+and_one_item : (before : WriteItems) (last : WriteItem) → LetsStandInWritten before → LetsStandInWritten (more_items last no_items) →
+    LetsStandInWritten (and_item before last)
 and_one_item no_items last h k = k
 and_one_item (more_items (item e w line) rest) last h k = (h.0, h.1, and_one_item rest last h.2 k)
 
@@ -124,11 +127,13 @@ good_ended : (all : Phrase) (kind : Kind) → Stands all → GoodRow (grammar.en
 good_ended all kind.EndOfText ok = ok
 good_ended all other ok = tt
 
-good_items : (line : Line) (before : Phrases) (begins : Bool) → LetsStandInAll true before → Good (grammar.items line before begins) (λ made. Stands (the_clause made))
+good_items : (line : Line) (before : Phrases) (begins : Bool) → LetsStandInAll true before →
+    Good (grammar.items line before begins) (λ made. Stands (the_clause made))
 good_items line before true ok = ((tt, λ m h. h), λ m h. (and_clause true before (the_clause m) ok h, λ n k. k))
 good_items line before false ok = (ok, λ m h. h)
 
-good_items_end : (line : Line) (before : Phrases) (kind : Kind) → LetsStandInAll true before → Good (grammar.items_end line before kind) (λ made. Stands (the_clause made))
+good_items_end : (line : Line) (before : Phrases) (kind : Kind) → LetsStandInAll true before →
+    Good (grammar.items_end line before kind) (λ made. Stands (the_clause made))
 good_items_end line before kind.Semicolon ok = λ s. (ok, λ m h. h)
 good_items_end line before other ok = ok
 
@@ -155,7 +160,8 @@ good_more_groups of_last before kind.Comma = λ s. (tt, λ m h. tt)
 good_more_groups of_last before kind.Semicolon = λ s. (tt, λ m h. tt)
 good_more_groups of_last before other = tt
 
-good_next_group : (text : List ℕ) (of_last : TyView) (before : List GroupAt) (kind : Kind) → Good (grammar.next_group text of_last before kind) (λ made. Unit {0})
+good_next_group : (text : List ℕ) (of_last : TyView) (before : List GroupAt) (kind : Kind) →
+    Good (grammar.next_group text of_last before kind) (λ made. Unit {0})
 good_next_group text of_last before kind.Name = λ n. (tt, λ m h. tt)
 good_next_group text of_last before other = (tt, λ m h. tt)
 
@@ -189,15 +195,18 @@ good_between : (line : Line) (a c : Phrase) (kind : Kind) → Stands a → Stand
 good_between line a c kind.Do ok ok' = λ s. (λ m h. h, λ m h. (ok, ok', h))
 good_between line a c other ok ok' = (ok, ok', tt)
 
-good_step : (line : Line) (name : NameAt) (a b : Phrase) (kind : Kind) → Stands a → Stands b → Good (grammar.step line name a b kind) (λ made. Stands (the_clause made))
+good_step : (line : Line) (name : NameAt) (a b : Phrase) (kind : Kind) → Stands a → Stands b →
+    Good (grammar.step line name a b kind) (λ made. Stands (the_clause made))
 good_step line name a b kind.By ok ok' = λ s. (λ m h. h, λ m h. ((ok, ok', h), λ n k. k))
 good_step line name a b other ok ok' = ((ok, ok', tt), λ m h. h)
 
-good_cases : (line : Line) (e : Phrase) (before : Arms) (kind : Kind) → Stands e → LetsStandInArms before → Good (grammar.cases line e before kind) (λ made. Stands (the_clause made))
+good_cases : (line : Line) (e : Phrase) (before : Arms) (kind : Kind) → Stands e → LetsStandInArms before →
+    Good (grammar.cases line e before kind) (λ made. Stands (the_clause made))
 good_cases line e before kind.Default ok arms = λ s t. (λ m h. h, λ m h. (ok, arms, h))
 good_cases line e before other ok arms = (λ m h. h, λ m h. ((ok, arms, (h, tt)), λ n k. k))
 
-good_labels : (line : Line) (e : Phrase) (before : Arms) (labels : Phrases) (kind : Kind) → Stands e → LetsStandInArms before → LetsStandInAll false labels → Good (grammar.labels line e before labels kind) (λ made. Stands (the_clause made))
+good_labels : (line : Line) (e : Phrase) (before : Arms) (labels : Phrases) (kind : Kind) → Stands e → LetsStandInArms before →
+    LetsStandInAll false labels → Good (grammar.labels line e before labels kind) (λ made. Stands (the_clause made))
 good_labels line e before labels kind.Comma ok arms all = λ s. (λ m h. h, λ m h. ((ok, arms, and_clause false labels (the_clause m) all h), λ n k. k))
 good_labels line e before labels other ok arms all = λ s. (λ m h. h, λ m h. λ t. ((ok, and_one_arm before labels (the_clause m) arms all h), λ n k. k))
 
@@ -205,7 +214,8 @@ good_width : (e : Phrase) (kind : Kind) → Stands e → Good (grammar.width e k
 good_width e kind.Colon ok = λ s. (λ m h. h, λ m h. (ok, h, tt))
 good_width e other ok = (ok, tt, tt)
 
-good_more_written : (line : Line) (before : WriteItems) (kind : Kind) → LetsStandInWritten before → Good (grammar.more_written line before kind) (λ made. Stands (the_clause made))
+good_more_written : (line : Line) (before : WriteItems) (kind : Kind) → LetsStandInWritten before →
+    Good (grammar.more_written line before kind) (λ made. Stands (the_clause made))
 good_more_written line before kind.Comma ok = λ s. ((tt, λ m h. h), λ m h. (and_one_item before (the_item m) ok h, λ n k. k))
 good_more_written line before other ok = ok
 
@@ -219,18 +229,22 @@ good_operand Conjunction = (tt, λ m h. h)
 good_operand Sum = (tt, λ m h. h)
 good_operand Product = (tt, λ m h. h)
 
-good_chain : (level : Level) → Good (Then (Go (grammar.operand level)) (λ made. Go (grammar.MoreChain level (the_clause made)))) (λ made. Stands (the_clause made))
+good_chain : (level : Level) → Good (Then (Go (grammar.operand level)) (λ made. Go (grammar.MoreChain level (the_clause made))))
+    (λ made. Stands (the_clause made))
 good_chain level = (((good_operand level).0, λ m h. h), λ m h. ((good_operand level).1 m h, λ n k. k))
 
-good_more_chain : (level : Level) (left : Phrase) (kind : Kind) (o : Option Operation) → Stands left → Good (grammar.more_chain level left kind o) (λ made. Stands (the_clause made))
-good_more_chain level left kind (Some operation) ok = λ s. (((good_operand level).0, λ m h. h), λ m h. (both_joined operation left (the_clause m) _ ok ((good_operand level).1 m h), λ n k. k))
+good_more_chain : (level : Level) (left : Phrase) (kind : Kind) (o : Option Operation) → Stands left →
+    Good (grammar.more_chain level left kind o) (λ made. Stands (the_clause made))
+good_more_chain level left kind (Some operation) ok = λ s.
+    (((good_operand level).0, λ m h. h), λ m h. (both_joined operation left (the_clause m) _ ok ((good_operand level).1 m h), λ n k. k))
 good_more_chain level left kind None ok = ok
 
 good_relative : (kind : Kind) → Good (grammar.relative kind) (λ made. Stands (the_clause made))
 good_relative kind.Tilde = λ s. ((tt, λ m h. h), λ m h. h)
 good_relative other = (tt, λ m h. h)
 
-good_comparison : (text : List ℕ) (left : Phrase) (sign : Kind) (o : Option Relating) → Stands left → Good (grammar.comparison text left sign o) (λ made. Stands (the_clause made))
+good_comparison : (text : List ℕ) (left : Phrase) (sign : Kind) (o : Option Relating) → Stands left →
+    Good (grammar.comparison text left sign o) (λ made. Stands (the_clause made))
 good_comparison text left sign (Some (Compares op)) ok = λ s. ((tt, λ m h. h), λ m h. (ok, h))
 good_comparison text left sign (Some (IsOf negated)) ok = λ s n. ok
 good_comparison text left sign None ok = ok
@@ -248,11 +262,13 @@ good_arguments : (line : Line) (f : Phrase) (kind : Kind) → Stands f → Good 
 good_arguments line f kind.CloseRound ok = λ s. (ok, tt)
 good_arguments line f other ok = (λ m h. h, λ m h. ((ok, h), λ n k. k))
 
-good_second : (line : Line) (f first : Phrase) (kind : Kind) → Stands f → Stands first → Good (grammar.second_argument line f first kind) (λ made. Stands (the_clause made))
+good_second : (line : Line) (f first : Phrase) (kind : Kind) → Stands f → Stands first →
+    Good (grammar.second_argument line f first kind) (λ made. Stands (the_clause made))
 good_second line f first kind.Bar ok ok' = λ s. (λ m h. h, λ m h. λ t. (ok, ok', h))
 good_second line f first other ok ok' = ((ok, (ok', tt)), λ m h. h)
 
-good_more_arguments : (line : Line) (f : Phrase) (before : Phrases) (kind : Kind) → Stands f → LetsStandInAll false before → Good (grammar.more_arguments line f before kind) (λ made. Stands (the_clause made))
+good_more_arguments : (line : Line) (f : Phrase) (before : Phrases) (kind : Kind) → Stands f → LetsStandInAll false before →
+    Good (grammar.more_arguments line f before kind) (λ made. Stands (the_clause made))
 good_more_arguments line f before kind.Comma ok all = λ s. (λ m h. h, λ m h. ((ok, and_clause false before (the_clause m) all h), λ n k. k))
 good_more_arguments line f before other ok all = λ s. (ok, all)
 
@@ -267,7 +283,8 @@ good_primary text kind (start.Block last) = λ s. ((tt, λ m h. h), λ m h. λ t
 good_primary text kind (start.Bound upper) = λ s t. (λ m h. h, λ m h. λ u. h)
 good_primary text kind start.Elements = λ s. (λ m h. h, λ m h. λ t. (λ n k. k, λ n k. λ u. (λ o l. l, λ o l. ((h, (l, tt)), λ p q. q))))
 
-good_more_elements : (line : Line) (l : Phrase) (t : TyView) (before : Phrases) (kind : Kind) → Stands l → LetsStandInAll false before → Good (grammar.more_elements line l t before kind) (λ made. Stands (the_clause made))
+good_more_elements : (line : Line) (l : Phrase) (t : TyView) (before : Phrases) (kind : Kind) → Stands l → LetsStandInAll false before →
+    Good (grammar.more_elements line l t before kind) (λ made. Stands (the_clause made))
 good_more_elements line l t before kind.Comma ok all = λ s. (λ m h. h, λ m h. ((ok, and_clause false before (the_clause m) all h), λ n k. k))
 good_more_elements line l t before other ok all = λ s. (ok, all)
 
@@ -334,7 +351,8 @@ good_row text grammar.Primary kind ok = good_option (grammar.primary text kind) 
 good_row text (grammar.MoreElements line l t before) kind ok = good_more_elements line l t before kind ok.0 ok.1
 
 -- what is read is such
-read : {text : List ℕ} {symbols : List Symbol} {nesting from to : ℕ} {rule : Rule} {made : Made} → Reads text symbols nesting rule from made to → (Is : Made → Type 0) → Good rule Is → Is made
+read : {text : List ℕ} {symbols : List Symbol} {nesting from to : ℕ} {rule : Rule} {made : Made} → Reads text symbols nesting rule from made to →
+    (Is : Made → Type 0) → Good rule Is → Is made
 read reading.gives Is h = h
 read (reading.takes {symbol = symbol} here same next) Is h = read next Is (h symbol)
 read {text = text} {symbols = symbols} (reading.goes {from = from} {part = part} {made = made} row next) Is h =
