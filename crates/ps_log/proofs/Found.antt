@@ -1,5 +1,5 @@
 -- The last entry of a name stands at the place that is kept.
-use Rattle.std.proofs.Common.{◌≡◌, ℕ, zero, suc, ◌+◌, ◌-◌, ◌<◌, ◌≤◌, Bool, true, false, Option, Some, None, is_some, List, [], ◌∷◌, ◌++◌, length, map, reverse, take, drop, get_or, if◌then◌else◌, refl, sym, ap, ◌∙◌, arith}
+use Rattle.std.proofs.Common.{◌≡◌, ℕ, suc, ◌<◌, ◌≤◌, Bool, true, false, Some, None, is_some, List, [], ◌∷◌, ◌++◌, length, map, reverse, take, drop, get_or, if◌then◌else◌, refl, sym, ap, ◌∙◌, arith}
 use Rattle.std.proofs.Math.ListN.{get_or-append}
 use Rattle.std.proofs.Math.Seq.{get_or-append_seam}
 use Rattle.std.proofs.lemmas.List.{reverse-append, length-map, length-reverse, length-append, length-take-le, reverse-reverse, take-append-drop, drop-map}
@@ -50,7 +50,8 @@ module _ {T : Type 0} (name_of : T → List ℕ) where
           → (if b then Some line.entry else first_named name_of (entries before) name) ≡ Some (get_or (reverse (line ∷ before)) place d).entry
       by found true e =
           let place_is : length (reverse before) ≡ place = length-reverse before ∙ sym (length-map before (link_of name_of)) ∙ some_is e in
-          ap (λ (l : Line T). Some l.entry) (sym (at place ∙ ap (λ (n : ℕ). get_or (reverse before ++ line ∷ []) n d) (sym place_is) ∙ get_or-append_seam (reverse before) line [] d))
+          let moved = ap (λ (n : ℕ). get_or (reverse before ++ line ∷ []) n d) (sym place_is) in
+          ap (λ (l : Line T). Some l.entry) (sym (at place ∙ moved ∙ get_or-append_seam (reverse before) line [] d))
       by found false e =
           let inside : place < length (reverse before) = omega (arith, place_within before name place e, length-reverse before) in
           found e ∙ ap (λ (l : Line T). Some l.entry) (sym (at place ∙ get_or-append (reverse before) (line ∷ []) d place inside))
@@ -120,7 +121,8 @@ module _ {T : Type 0} (name_of : T → List ℕ) where
       seen_last : entries last_ones ≡ reverse (drop count seen)
       seen_last = map-reverse (λ line. line.entry) (drop count lines) ∙ ap reverse (sym (drop-map (λ line. line.entry) count lines) ∙ ap (drop count) is)
 
-      pub found_behind : (place : ℕ) → last_in (links (reverse lines)) name ≡ Some place → leb count place ≡ is_some (first_named name_of (reverse (drop count seen)) name)
+      pub found_behind : (place : ℕ) → last_in (links (reverse lines)) name ≡ Some place
+          → leb count place ≡ is_some (first_named name_of (reverse (drop count seen)) name)
       found_behind place at =
           ap (λ n. leb n place) (sym counted) ∙ place_among last_ones others name place (ap (λ (l : List (Line T)). last_in (links l) name) (sym parted) ∙ at)
           ∙ ap (λ (l : List T). is_some (first_named name_of l name)) seen_last

@@ -1,13 +1,13 @@
 -- What is kept of a sequence of names: where the names stand last, and what is left after one less.
-use Rattle.std.proofs.Common.{◌≡◌, ℕ, Bool, true, false, Option, Some, None, IsSome, List, [], ◌∷◌, ◌++◌, length, reverse, if◌then◌else◌, refl, sym, ap, ◌∙◌, subst, true≢false}
-use Rattle.std.proofs.lemmas.List.{reverse-append}
+use Rattle.std.proofs.Common.{◌≡◌, ℕ, Bool, true, false, Option, Some, None, IsSome, List, ◌∷◌, length, if◌then◌else◌, refl, sym, ap, ◌∙◌, subst, true≢false}
+use Rattle.std.specs.Option.{option_flatten}
 use Rattle.std.specs.Str.{bytes_eq}
 use Rattle.std.specs.Cmp.Lexicographic.{bytes_decides}
 use Rattle.std.specs.Map.{IsKeyTest, AreApart, KeepsOthers}
 use Rattle.std.specs.declared.alloc.Global.{Global}
 use Rattle.std.specs.declared.vec.Vec.{Vec}
 use Rattle.indexmap.specs.IndexMap.{IndexMap, get_by}
-use Rattle.ps_log.specs.inside.Kept.{placed, place_in, Replaces, Link, last_in, AreLinked, IsKept}
+use Rattle.ps_log.specs.inside.Kept.{place_in, Replaces, Link, last_in, IsKept}
 
 itself : (name : List ℕ) → bytes_eq name name ≡ true
 itself name = (bytes_decides name name).1 refl
@@ -34,10 +34,10 @@ unfolding KeepsOthers
 replaced old new name place here others other = by (bytes_eq name other) refl
   where
     by : (b : Bool) → bytes_eq name other ≡ b → place_in new other ≡ (if b then place else place_in old other)
-    by true e = subst (λ (n : List ℕ). place_in new n ≡ place) ((bytes_decides name other).0 e) (ap placed here)
-    by false e = ap placed (others (λ k. bytes_eq other k.items) (is_key_test other) (are_apart name other e))
+    by true e = subst (λ (n : List ℕ). place_in new n ≡ place) ((bytes_decides name other).0 e) (ap option_flatten here)
+    by false e = ap option_flatten (others (λ k. bytes_eq other k.items) (is_key_test other) (are_apart name other e))
 
-has_place : (o : Option (Option ℕ)) {n : ℕ} → placed o ≡ Some n → IsSome o
+has_place : (o : Option (Option ℕ)) {n : ℕ} → option_flatten o ≡ Some n → IsSome o
 has_place None e = absurd (cc)
 has_place (Some place) e = refl
 
@@ -54,6 +54,7 @@ one_less link before old new kept replaces = record { found = λ name. by name (
     after = replaces (has_place (get_by (λ k. bytes_eq link.name k.items) old) here)
 
     by : (name : List ℕ) (b : Bool) → bytes_eq link.name name ≡ b → place_in new name ≡ last_in before name
-    by name true is = after name ∙ ap (λ (b : Bool). if b then link.hides else place_in old name) is ∙ kept.linked.0 ∙ ap (last_in before) ((bytes_decides link.name name).0 is)
+    by name true is = after name ∙ ap (λ (b : Bool). if b then link.hides else place_in old name) is
+        ∙ kept.linked.0 ∙ ap (last_in before) ((bytes_decides link.name name).0 is)
     by name false is = after name ∙ ap (λ (b : Bool). if b then link.hides else place_in old name) is ∙ kept.found name
         ∙ ap (λ (b : Bool). if b then Some (length before) else last_in before name) is

@@ -1,4 +1,4 @@
--- The first of a name.
+-- The first entry of a name.
 use Rattle.std.specs.Prelude.{ℕ, Option, Some, None, List, [], ◌∷◌, if◌then◌else◌}
 use Rattle.std.specs.Str.{bytes_eq}
 

@@ -1,5 +1,6 @@
-//! A log of named entries, in which the last entry of a name is found by hash. What is entered last hides what was entered
-//! under its name before, which comes into sight again when the last entries are taken back.
+//! A log of named entries, in which the last entry of a name is found by hash. What is entered last
+//! hides what was entered under its name before, which comes into sight again when the last entries
+//! are taken back.
 #![tactic(auto)]
 
 mod last;

@@ -103,9 +103,8 @@ impl<T: Named> Log<T> {
         ensures refused { OnErr result (self.new ≡ self.old) }
     {
         let place = self.lines.len();
-        let hides = place_of(&self.last, entry.name());
         self.lines.reserve(1)?;
-        put_place(&mut self.last, entry.name(), place)?;
+        let hides = put_place(&mut self.last, entry.name(), place)?;
         self.lines.push(Line { entry, hides })?;
         Ok(())
     }

@@ -1,2 +1,3 @@
 mod Content
+mod Found
 mod Rows

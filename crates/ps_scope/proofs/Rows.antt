@@ -65,4 +65,4 @@ pub all_rows : (made first : List Declaration) (rows : List Routine) (place : �
 all_rows made first rows place is_first is_made is_rows past =
     map-reverse declared_of made
     ∙ ap reverse (is_made ∙ ap (λ (l : List Declared). l ++ map declared_routine (take place rows)) is_first
-      ∙ ap (λ (l : List Declared). others ++ l) (ap (map declared_routine) (take_all place rows (subst (λ n. n ≤ place) (sym (sym (length-map rows declared_routine) ∙ ap length is_rows)) past)) ∙ is_rows))
+    ∙ ap (λ (l : List Declared). others ++ l) (ap (map declared_routine) (take_all place rows (subst (λ n. n ≤ place) (sym (sym (length-map rows declared_routine) ∙ ap length is_rows)) past)) ∙ is_rows))

@@ -1,5 +1,4 @@
 -- What the code keeps of names and fields, as the rules of scope speak of them.
-use Rattle.std.specs.Prelude.{List}
 use Rattle.std.specs.Rc.{rc_value}
 use Rattle.ps_base.specs.List.{items_of}
 use Rattle.ps_base.specs.TyView.{ty_view, ty_views}

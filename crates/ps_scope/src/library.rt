@@ -112,7 +112,12 @@ pub(crate) fn error_fields(alloc: Global, text: &Rc<Bytes>) -> Result<Vec<Field>
     Ok(made)
 }
 
-fn error_field(alloc: Global, text: &Rc<Bytes>, index: u32, name: &[u8]) -> Result<Field, AllocError>
+fn error_field(
+    alloc: Global,
+    text: &Rc<Bytes>,
+    index: u32,
+    name: &[u8],
+) -> Result<Field, AllocError>
     ensures { IfOk result (λ made. field_of made ≡ record { name = name.now; class = text.now.value; index = index; ty = view.Str }) }
 {
     Ok(Field {

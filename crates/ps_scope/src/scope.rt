@@ -1,14 +1,12 @@
-ghost use Rattle.std.specs.Prelude.{◌≡◌, reverse, map, option_map, IfOk};
+ghost use Rattle.std.specs.Prelude.{◌≡◌, IfOk};
 ghost use Rattle.std.specs.Borrow.{Bor};
-ghost use Rattle.ps_typing.specs.Names.{lookup, lookup_field};
-ghost use Rattle.ps_scope.specs.Views.{meaning_of, field_of};
-ghost use Rattle.ps_scope.specs.Content.{declared_of};
 
 use crate::declaration::{Declaration, bytes_of};
 use crate::field::Field;
 use crate::library;
 use crate::meaning::{Class, Local, Meaning};
 use ps_base::ty::Ty;
+use ps_log::Log;
 use ps_type_text::Member;
 use std::alloc::{AllocError, Global};
 use std::marker::Model;
@@ -18,9 +16,9 @@ use std::rc::Rc;
 #[derive(Drop)]
 pub struct Scope {
     // From the outermost to the innermost, and how many of them stand in blocks around.
-    names: Vec<Declaration>,
+    names: Log<Declaration>,
     names_around: usize,
-    fields: Vec<Field>,
+    fields: Log<Field>,
     fields_around: usize,
     locals: Vec<Member>,
 }
@@ -42,9 +40,9 @@ impl Model for Scope {
 
     ghost coded = { Prim.hlevel (codes, ty.the_row.coded) };
 
-    ghost view = { λ s. record { names = s.names.items; names_around = s.names_around; fields = s.fields.items; fields_around = s.fields_around; locals = s.locals.items } };
+    ghost view = { λ s. record { names = s.names; names_around = s.names_around; fields = s.fields; fields_around = s.fields_around; locals = s.locals.items } };
 
-    ghost invariant = { λ s. (s.names_around ≤ length s.names.items) × (s.fields_around ≤ length s.fields.items) };
+    ghost invariant = { λ s. (s.names_around ≤ length s.names) × (s.fields_around ≤ length s.fields) };
 }
 
 impl Scope {
@@ -61,8 +59,8 @@ impl Scope {
         ensures { IfOk result (λ made. names_of made ≡ library_names) }
     {
         let text = library::error_text(alloc)?;
-        let fields = library::error_fields(alloc, &text)?;
-        let names = library::procedures(alloc, text)?;
+        let fields = Log::from_entries(alloc, library::error_fields(alloc, &text)?)?;
+        let names = Log::from_entries(alloc, library::procedures(alloc, text)?)?;
         let names_around = names.len();
         let fields_around = fields.len();
         Ok(Scope {
@@ -78,28 +76,31 @@ impl Scope {
     pub fn find(&self, name: &[u8]) -> Option<&Meaning>
         ensures { option_map (λ (m : Bor _). meaning_of m.now) result ≡ meant (names_of self.now) name.now }
     {
-        find_last(self.names.as_slice(), name)
+        match self.names.find(name) {
+            Some(declaration) => Some(&declaration.meaning),
+            None => None,
+        }
     }
 
     /// The field of this name, or `None` where none is in scope.
     pub fn find_field(&self, name: &[u8]) -> Option<&Field>
         ensures { option_map (λ (f : Bor _). field_of f.now) result ≡ field_meant (names_of self.now) name.now }
     {
-        find_last_field(self.fields.as_slice(), name)
+        self.fields.find(name)
     }
 
     /// Whether the block itself declares a name.
     pub fn declares(&self, name: &[u8]) -> bool
         ensures { result ≡ is_declared (names_of self.now) name.now }
     {
-        find_last(&self.names.as_slice()[self.names_around..], name).is_some()
+        self.names.has_behind(self.names_around, name)
     }
 
     /// Whether the block itself declares a field of this name.
     pub fn declares_field(&self, name: &[u8]) -> bool
         ensures { result ≡ is_field_declared (names_of self.now) name.now }
     {
-        find_last_field(&self.fields.as_slice()[self.fields_around..], name).is_some()
+        self.fields.has_behind(self.fields_around, name)
     }
 
     /// Declares a constant or a variable in the block, and answers its number. A refusal leaves the names as they were.
@@ -126,6 +127,7 @@ impl Scope {
         };
         let name = bytes_of(alloc, name)?;
         let meaning = Meaning::Local(local);
+        self.locals.reserve(1)?;
         self.names.push(Declaration { name, meaning })?;
         self.locals.push(member)?;
         Ok(number)
@@ -204,32 +206,4 @@ fn number_of(count: usize) -> Result<u32, AllocError>
         Ok(number) => Ok(number),
         Err(_) => Err(AllocError),
     }
-}
-
-// What the last declaration of a name gives.
-fn find_last<'a>(declarations: &'a [Declaration], name: &[u8]) -> Option<&'a Meaning>
-    ensures { option_map (λ (m : Bor _). meaning_of m.now) result ≡ lookup (map declared_of (reverse declarations.now)) name.now }
-{
-    let mut i = declarations.len();
-    while i > 0 {
-        i -= 1;
-        if declarations[i].name.as_slice() == name {
-            return Some(&declarations[i].meaning);
-        }
-    }
-    None
-}
-
-// The last field of this name.
-fn find_last_field<'a>(fields: &'a [Field], name: &[u8]) -> Option<&'a Field>
-    ensures { option_map (λ (f : Bor _). field_of f.now) result ≡ lookup_field (map field_of (reverse fields.now)) name.now }
-{
-    let mut i = fields.len();
-    while i > 0 {
-        i -= 1;
-        if fields[i].name.as_slice() == name {
-            return Some(&fields[i]);
-        }
-    }
-    None
 }

@@ -1,17 +1,14 @@
 -- What is kept of the names of a log.
 use Rattle.std.specs.Prelude.{◌≡◌, ℕ, Option, Some, None, List, [], ◌∷◌, length, map, reverse, if◌then◌else◌}
+use Rattle.std.specs.Option.{option_flatten}
 use Rattle.std.specs.Str.{bytes_eq}
 use Rattle.std.specs.declared.alloc.Global.{Global}
 use Rattle.std.specs.declared.vec.Vec.{Vec}
 use Rattle.indexmap.specs.IndexMap.{IndexMap, get_by}
 use Rattle.ps_log.specs.declared.log.Line.{Line}
 
-abbrev pub placed : Option (Option ℕ) → Option ℕ
-placed None = None
-placed (Some place) = place
-
 abbrev pub place_in : {S : Type 0} → IndexMap (Vec ℕ Global) (Option ℕ) S → List ℕ → Option ℕ
-place_in last name = placed (get_by (λ k. bytes_eq name k.items) last)
+place_in last name = option_flatten (get_by (λ k. bytes_eq name k.items) last)
 
 -- the place of the one name, and the places of the others as they were
 abbrev pub Replaces : {S : Type 0} → IndexMap (Vec ℕ Global) (Option ℕ) S → IndexMap (Vec ℕ Global) (Option ℕ) S → List ℕ → Option ℕ → Type 0

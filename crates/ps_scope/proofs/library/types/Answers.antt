@@ -1,4 +1,3 @@
-use Rattle.std.proofs.Common.{◌∙◌, ap}
 use Rattle.ps_scope.proofs.Rows.{one_type}
 use Rattle.ps_scope.proofs.library.types.Goals as goal
 
