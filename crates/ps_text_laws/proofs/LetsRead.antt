@@ -1,5 +1,5 @@
 -- In what the grammar reads each `let` is an item of a sequence.
-use Rattle.std.proofs.Common.{◌≡◌, ℕ, Bool, true, false, List, [], ◌∷◌, refl, subst}
+use Rattle.std.proofs.Common.{ℕ, Bool, true, false, List, refl, subst}
 use Rattle.std.specs.Prelude.{Option, Some, None, option_map}
 use Rattle.ps_base.specs.TyView.{TyView, TyViews}
 use Rattle.ps_base.specs.declared.line.Line.{Line}
@@ -22,13 +22,13 @@ use Rattle.ps_symbols.specs.Kinds.{operation_of, relating_of, begins_item, begin
 use Rattle.ps_tree.specs.Phrase.{NameAt, GroupAt, Phrase, at, Form, Phrases, none, more, MaybePhrase, absent, present, Arm, Arms, no_arms, more_arms, arm, WriteItem, item, WriteItems, no_items, more_items}
 use Rattle.ps_tree.specs.Phrase as form
 use Rattle.ps_tree.specs.Composing.{and_then, and_arm, and_item, joined}
-use Rattle.ps_parse.specs.Grammar.{Made, a_clause, Part, Nested, a_clause_inside, a_type_inside, Rule, Give, Take, Go, Open, Then, the_clause, the_item}
-use Rattle.ps_parse.specs.Grammar as grammar
-use Rattle.ps_parse.specs.Reading.{Reads, kind_at}
-use Rattle.ps_parse.specs.Reading as reading
+use Rattle.ps_reader.specs.Grammar.{Made, a_clause, Part, Nested, a_clause_inside, a_type_inside, Rule, Give, Take, Go, Open, Then, the_clause, the_item}
+use Rattle.ps_reader.specs.Grammar as grammar
+use Rattle.ps_reader.specs.Reading.{Reads, kind_at}
+use Rattle.ps_reader.specs.Reading as reading
 use Rattle.ps_parse.specs.Program.{ReadsAs}
 use Rattle.ps_scan.specs.declared.token.Token.{Token}
-use Rattle.ps_typing.specs.Items.{LetsAreItems, LetsStand, LetsStandIn, LetsStandInAll, LetsStandInMaybe, LetsStandInArms, LetsStandInWritten}
+use Rattle.ps_typing.specs.Items.{LetsAreItems, LetsStand, LetsStandInAll, LetsStandInMaybe, LetsStandInArms, LetsStandInWritten}
 
 abbrev Stands : Phrase → Type 0
 Stands clause = LetsStand false clause
