@@ -31,20 +31,24 @@ gives : {A : Type 0} {before : Names} {of : A} {ty : TyView} → Keeps before (G
 gives = record { same = record { around = refl; fields_around = refl } }
 
 -- the names themselves, with more in the block
-same_gives : {A : Type 0} {before after : Names} {of : A} {ty : TyView} → after.around ≡ before.around → after.fields_around ≡ before.fields_around → Keeps before (Gives of ty after)
+same_gives : {A : Type 0} {before after : Names} {of : A} {ty : TyView} → after.around ≡ before.around → after.fields_around ≡ before.fields_around →
+    Keeps before (Gives of ty after)
 same_gives around fields = record { same = record { around = around; fields_around = fields } }
 
-from : {A : Type 0} {before between : Names} (o : Outcome A) → between.around ≡ before.around → between.fields_around ≡ before.fields_around → Keeps between o → Keeps before o
+from : {A : Type 0} {before between : Names} (o : Outcome A) → between.around ≡ before.around → between.fields_around ≡ before.fields_around →
+    Keeps between o → Keeps before o
 from (Gives of ty after) around fields h = record { same = record { around = h.same.around ∙ around; fields_around = h.same.fields_around ∙ fields } }
 from (Refuses fault) around fields h = refuses
 
-next : {A B : Type 0} {before : Names} (o : Outcome A) (k : A → TyView → Names → Outcome B) → Keeps before o → ((of : A) (ty : TyView) (names : Names) → Keeps names (k of ty names)) → Keeps before (o >>= k)
+next : {A B : Type 0} {before : Names} (o : Outcome A) (k : A → TyView → Names → Outcome B) → Keeps before o →
+    ((of : A) (ty : TyView) (names : Names) → Keeps names (k of ty names)) → Keeps before (o >>= k)
 unfolding ◌>>=◌
 next (Gives of ty names) k h after = from (k of ty names) h.same.around h.same.fields_around (after of ty names)
 next (Refuses fault) k h after = refuses
 
 -- what follows is behind the block
-closed : {A B : Type 0} {before : Names} (o : Outcome A) (k : A → TyView → Names → Outcome B) → ((of : A) (ty : TyView) (names : Names) → Keeps before (k of ty names)) → Keeps before (o >>= k)
+closed : {A B : Type 0} {before : Names} (o : Outcome A) (k : A → TyView → Names → Outcome B) →
+    ((of : A) (ty : TyView) (names : Names) → Keeps before (k of ty names)) → Keeps before (o >>= k)
 unfolding ◌>>=◌
 closed (Gives of ty names) k after = after of ty names
 closed (Refuses fault) k after = refuses
@@ -58,7 +62,8 @@ unfolding passes
 tests test wanted line (Gives tree ty names) h = either (test ty) _ _ h refuses
 tests test wanted line (Refuses fault) h = refuses
 
-keeps_assigned : (line e_line : Line) (can : Bool) (tree : Option Node) (wanted found : TyView) (names : Names) → Keeps names (assigned line e_line can tree wanted found names)
+keeps_assigned : (line e_line : Line) (can : Bool) (tree : Option Node) (wanted found : TyView) (names : Names) →
+    Keeps names (assigned line e_line can tree wanted found names)
 unfolding assigned
 keeps_assigned line e_line true (Some tree) wanted found names = either _ _ _ gives refuses
 keeps_assigned line e_line true None wanted found names = refuses
@@ -121,7 +126,8 @@ keeps_args names (types.more t ts) (first ∷ rest) h =
 keeps_args names (types.more t ts) [] h = gives
 keeps_args names types.none args h = gives
 
-keeps_with_args : (names : Names) (line : Line) (params : TyViews) (args : List Checker) (make : Nodes → Node) (ty : TyView) → AllKeep args → Keeps names (with_args names line params args make ty)
+keeps_with_args : (names : Names) (line : Line) (params : TyViews) (args : List Checker) (make : Nodes → Node) (ty : TyView) → AllKeep args →
+    Keeps names (with_args names line params args make ty)
 keeps_with_args names line params args make ty h =
     either (nat_eq (count_types params) (length args)) _ _ (next _ _ (keeps_args names params args h) (λ trees t n. gives)) refuses
 
@@ -131,7 +137,8 @@ keeps_elements names line v (types.Vector element) (i ∷ rest) h =
     next _ _ (tests _ types.Int _ _ (h.0 names)) (λ i int n. keeps_elements n line _ element rest h.1)
 keeps_elements names line v other (i ∷ rest) h = refuses
 
-keeps_value_applied : (names : Names) (line : Line) (f : Node) (t : TyView) (phrases : Phrases) (args : List Checker) → AllKeep args → Keeps names (value_applied names line f t phrases args)
+keeps_value_applied : (names : Names) (line : Line) (f : Node) (t : TyView) (phrases : Phrases) (args : List Checker) → AllKeep args →
+    Keeps names (value_applied names line f t phrases args)
 keeps_value_applied names line f (types.Proc params ty) phrases args h = keeps_with_args names line params args _ ty h
 keeps_value_applied names line f (types.Vector element) phrases [] h = refuses
 keeps_value_applied names line f (types.Vector element) phrases (i ∷ rest) h = keeps_elements names line f (types.Vector element) (i ∷ rest) h
@@ -143,24 +150,29 @@ keeps_scan_applied names line text (a ∷ f ∷ []) h =
     next _ _ (tests _ types.Pntr _ _ (h.0 names)) (λ a t n. next _ _ (tests _ _ _ _ (h.1.0 n)) (λ f t n. gives))
 keeps_scan_applied names line text other h = refuses
 
-keeps_name_applied : (names : Names) (line name_line : Line) (meaning : Option Meaning) (phrases : Phrases) (args : List Checker) → AllKeep args → Keeps names (name_applied names line name_line meaning phrases args)
+keeps_name_applied : (names : Names) (line name_line : Line) (meaning : Option Meaning) (phrases : Phrases) (args : List Checker) → AllKeep args →
+    Keeps names (name_applied names line name_line meaning phrases args)
 keeps_name_applied names line name_line (Some (class text fields)) phrases args h = keeps_with_args names line fields args _ _ h
 keeps_name_applied names line name_line (Some (library (plain code params ty))) phrases args h = keeps_with_args names line params args _ ty h
 keeps_name_applied names line name_line (Some (library (scan text))) phrases args h = keeps_scan_applied names line text args h
 keeps_name_applied names line name_line (Some (local number t variable)) phrases args h = keeps_value_applied names line _ t phrases args h
 keeps_name_applied names line name_line None phrases args h = refuses
 
-keeps_applied : (names : Names) (line name_line : Line) (name : Option (List ℕ)) (f : Outcome Node) (phrases : Phrases) (args : List Checker) → Keeps names f → AllKeep args → Keeps names (applied names line name_line name f phrases args)
+keeps_applied : (names : Names) (line name_line : Line) (name : Option (List ℕ)) (f : Outcome Node) (phrases : Phrases) (args : List Checker) →
+    Keeps names f → AllKeep args → Keeps names (applied names line name_line name f phrases args)
 keeps_applied names line name_line (Some name) f phrases args f_keeps h = keeps_name_applied names line name_line (meant names name) phrases args h
 keeps_applied names line name_line None f phrases args f_keeps h = next _ _ f_keeps (λ f t n. keeps_value_applied n line f t phrases args h)
 
-keeps_literal : (names : Names) (line : Line) (params : List GroupAt) (ty : TyView) (s_line : Line) (check_s : Names → Outcome Node) → Keeps names (literal names line params ty s_line check_s)
+keeps_literal : (names : Names) (line : Line) (params : List GroupAt) (ty : TyView) (s_line : Line) (check_s : Names → Outcome Node) →
+    Keeps names (literal names line params ty s_line check_s)
 keeps_literal names line params ty s_line check_s = closed _ _ (λ made t own. closed _ _ (λ s t last. same_gives refl refl))
 
-keeps_named_literal : (names : Names) (name : NameAt) (variable : Bool) (line : Line) (params : List GroupAt) (ty : TyView) (s_line : Line) (check_s : Names → Outcome Node) → Keeps names (named_literal names name variable line params ty s_line check_s)
+keeps_named_literal : (names : Names) (name : NameAt) (variable : Bool) (line : Line) (params : List GroupAt) (ty : TyView) (s_line : Line)
+    (check_s : Names → Outcome Node) → Keeps names (named_literal names name variable line params ty s_line check_s)
 keeps_named_literal names name variable line params ty s_line check_s =
     either (is_declared names name.name) _ _ refuses
-    (next _ _ (from _ refl refl (keeps_literal (declare_local names name.name (types.Proc (types_of params) ty) variable) line params ty s_line check_s)) (λ e t n. gives))
+    (next _ _ (from _ refl refl (keeps_literal (declare_local names name.name
+    (types.Proc (types_of params) ty) variable) line params ty s_line check_s)) (λ e t n. gives))
 
 mutual
   pub keeps : (names : Names) (p : Phrase) → Keeps names (check names p)
@@ -218,7 +230,8 @@ mutual
   keeps_form names line (form.Neg e) = next _ _ (tests _ _ _ _ (keeps names e)) (λ e t n. gives)
   keeps_form names line (form.Join a b) = next _ _ (tests _ _ _ _ (keeps names a)) (λ a t n. next _ _ (tests _ _ _ _ (keeps n b)) (λ b t n. gives))
   keeps_form names line (form.Bound upper e) = next _ _ (tests _ _ _ _ (keeps names e)) (λ e t n. gives)
-  keeps_form names line (form.Apply f args) = keeps_applied names line (line_of f) (name_in f) (check names f) args (checkers args) (keeps names f) (all_keep args)
+  keeps_form names line (form.Apply f args) = keeps_applied names line (line_of f) (name_in f) (check names f) args (checkers args) (keeps names f)
+      (all_keep args)
   keeps_form names line (form.Part s i n) =
       next _ _ (tests _ _ _ _ (keeps names s)) (λ s' t names.
       next _ _ (tests _ _ _ _ (keeps names i)) (λ i' t names.
@@ -258,17 +271,25 @@ same_given names o of ty n h is = subst (λ (o : Outcome _). Given names o) is h
 pub keeps_around : (names : Names) (p : Phrase) (tree : Node) (ty : TyView) (n : Names) → check names p ≡ Gives tree ty n → n.around ≡ names.around
 keeps_around names p tree ty n is = (same_given names (check names p) tree ty n (keeps names p) is).around
 
-pub keeps_fields_around : (names : Names) (p : Phrase) (tree : Node) (ty : TyView) (n : Names) → check names p ≡ Gives tree ty n → n.fields_around ≡ names.fields_around
+pub keeps_fields_around : (names : Names) (p : Phrase) (tree : Node) (ty : TyView) (n : Names) → check names p ≡ Gives tree ty n →
+    n.fields_around ≡ names.fields_around
 keeps_fields_around names p tree ty n is = (same_given names (check names p) tree ty n (keeps names p) is).fields_around
 
-pub all_keeps_around : (names : Names) (line : Line) (before : TyView) (items : Phrases) (trees : Nodes) (ty : TyView) (n : Names) → check_all names line before items ≡ Gives trees ty n → n.around ≡ names.around
-all_keeps_around names line before items trees ty n is = (same_given names (check_all names line before items) trees ty n (all_keeps names line before items) is).around
+pub all_keeps_around : (names : Names) (line : Line) (before : TyView) (items : Phrases) (trees : Nodes) (ty : TyView) (n : Names) →
+    check_all names line before items ≡ Gives trees ty n → n.around ≡ names.around
+all_keeps_around names line before items trees ty n is =
+    (same_given names (check_all names line before items) trees ty n (all_keeps names line before items) is).around
 
-pub all_keeps_fields_around : (names : Names) (line : Line) (before : TyView) (items : Phrases) (trees : Nodes) (ty : TyView) (n : Names) → check_all names line before items ≡ Gives trees ty n → n.fields_around ≡ names.fields_around
-all_keeps_fields_around names line before items trees ty n is = (same_given names (check_all names line before items) trees ty n (all_keeps names line before items) is).fields_around
+pub all_keeps_fields_around : (names : Names) (line : Line) (before : TyView) (items : Phrases) (trees : Nodes) (ty : TyView) (n : Names) →
+    check_all names line before items ≡ Gives trees ty n → n.fields_around ≡ names.fields_around
+all_keeps_fields_around names line before items trees ty n is =
+    (same_given names (check_all names line before items) trees ty n (all_keeps names line before items) is).fields_around
 
-pub params_keep_around : (names : Names) (made : List Param) (groups : List GroupAt) (params : List Param) (ty : TyView) (n : Names) → with_params names made groups ≡ Gives params ty n → n.around ≡ names.around
+pub params_keep_around : (names : Names) (made : List Param) (groups : List GroupAt) (params : List Param) (ty : TyView) (n : Names) →
+    with_params names made groups ≡ Gives params ty n → n.around ≡ names.around
 params_keep_around names made groups params ty n is = (same_given names (with_params names made groups) params ty n (keeps_params names made groups) is).around
 
-pub params_keep_fields_around : (names : Names) (made : List Param) (groups : List GroupAt) (params : List Param) (ty : TyView) (n : Names) → with_params names made groups ≡ Gives params ty n → n.fields_around ≡ names.fields_around
-params_keep_fields_around names made groups params ty n is = (same_given names (with_params names made groups) params ty n (keeps_params names made groups) is).fields_around
+pub params_keep_fields_around : (names : Names) (made : List Param) (groups : List GroupAt) (params : List Param) (ty : TyView) (n : Names) →
+    with_params names made groups ≡ Gives params ty n → n.fields_around ≡ names.fields_around
+params_keep_fields_around names made groups params ty n is =
+    (same_given names (with_params names made groups) params ty n (keeps_params names made groups) is).fields_around

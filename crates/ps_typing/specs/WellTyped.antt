@@ -91,7 +91,8 @@ arms_have value ty (more_arms (arm labels a) rest) = all_have value labels ++ (a
 -- as many arguments as parameters, each of its parameter's type
 pub data Arguments : Nodes → TyViews → List Claim → Type 0 where
   no_more : Arguments none types.none []
-  one_more : {n : Node} {ns : Nodes} {t : TyView} {ts : TyViews} {claims : List Claim} → Arguments ns ts claims → Arguments (more n ns) (types.more t ts) (n has t ∷ claims)
+  one_more : {n : Node} {ns : Nodes} {t : TyView} {ts : TyViews} {claims : List Claim} → Arguments ns ts claims →
+      Arguments (more n ns) (types.more t ts) (n has t ∷ claims)
 
 abbrev pub types_of_fields : List Field → TyViews
 types_of_fields [] = types.none
@@ -122,7 +123,8 @@ pub data Rule : Node → List Claim → TyView → Type 0 where
   if_else : {c a b : Node} {t : TyView} → Rule (node.IfElse c a b) (c has types.Bool ∷ a has t ∷ b has t ∷ []) t
   while : {c a : Node} → Rule (node.While c a) (c has types.Bool ∷ a has types.Void ∷ []) types.Void
   repeat : {a c b : Node} → Rule (node.Repeat a c b) (a has types.Void ∷ c has types.Bool ∷ b has types.Void ∷ []) types.Void
-  case : {e d : Node} {arms : Arms} {value t : TyView} → is_equated value ≡ true → Rule (node.Case e arms d value) (e has value ∷ (arms_have value t arms ++ d has t ∷ [])) t
+  case : {e d : Node} {arms : Arms} {value t : TyView} → is_equated value ≡ true →
+      Rule (node.Case e arms d value) (e has value ∷ (arms_have value t arms ++ d has t ∷ [])) t
   and : {a b : Node} → Rule (node.And a b) (a has types.Bool ∷ b has types.Bool ∷ []) types.Bool
   or : {a b : Node} → Rule (node.Or a b) (a has types.Bool ∷ b has types.Bool ∷ []) types.Bool
   not : {e : Node} → Rule (node.Not e) (e has types.Bool ∷ []) types.Bool
@@ -133,29 +135,40 @@ pub data Rule : Node → List Claim → TyView → Type 0 where
   is : {e : Node} {class : List ℕ} {tys : TyViews} → IsClass class tys → Rule (node.Is e class) (e has types.Pntr ∷ []) types.Bool
   join : {a b : Node} {line : Line} → Rule (node.Join a b line) (a has types.Str ∷ b has types.Str ∷ []) types.Str
   part : {a i n : Node} {line : Line} → Rule (node.Part a i n line) (a has types.Str ∷ i has types.Int ∷ n has types.Int ∷ []) types.Str
-  make : {class : List ℕ} {args : Nodes} {tys : TyViews} {claims : List Claim} → IsClass class tys → Arguments args tys claims → Rule (node.Make class args) claims types.Pntr
-  field : {p : Node} {class : List ℕ} {index : ℕ} {t : TyView} {line : Line} → IsField class index t → Rule (node.Field p class index t line) (p has types.Pntr ∷ []) t
-  set_field : {p e : Node} {class : List ℕ} {index : ℕ} {t : TyView} {line : Line} → IsField class index t → Rule (node.SetField p class index t e line) (p has types.Pntr ∷ e has t ∷ []) types.Void
-  fill : {l u e : Node} {t : TyView} {line : Line} → isnt_void t ≡ true → Rule (node.Fill l u e (types.Vector t) line) (l has types.Int ∷ u has types.Int ∷ e has t ∷ []) (types.Vector t)
-  elems : {l : Node} {items : Nodes} {t : TyView} {line : Line} → Rule (node.Elems l items (types.Vector t) line) (l has types.Int ∷ all_have t items) (types.Vector t)
+  make : {class : List ℕ} {args : Nodes} {tys : TyViews} {claims : List Claim} → IsClass class tys → Arguments args tys claims →
+      Rule (node.Make class args) claims types.Pntr
+  field : {p : Node} {class : List ℕ} {index : ℕ} {t : TyView} {line : Line} → IsField class index t →
+      Rule (node.Field p class index t line) (p has types.Pntr ∷ []) t
+  set_field : {p e : Node} {class : List ℕ} {index : ℕ} {t : TyView} {line : Line} → IsField class index t →
+      Rule (node.SetField p class index t e line) (p has types.Pntr ∷ e has t ∷ []) types.Void
+  fill : {l u e : Node} {t : TyView} {line : Line} → isnt_void t ≡ true →
+      Rule (node.Fill l u e (types.Vector t) line) (l has types.Int ∷ u has types.Int ∷ e has t ∷ []) (types.Vector t)
+  elems : {l : Node} {items : Nodes} {t : TyView} {line : Line} →
+      Rule (node.Elems l items (types.Vector t) line) (l has types.Int ∷ all_have t items) (types.Vector t)
   element : {v i : Node} {t : TyView} {line : Line} → Rule (node.Element v i t line) (v has types.Vector t ∷ i has types.Int ∷ []) t
-  set_element : {v i e : Node} {t : TyView} {line : Line} → Rule (node.SetElement v i e t line) (v has types.Vector t ∷ i has types.Int ∷ e has t ∷ []) types.Void
+  set_element : {v i e : Node} {t : TyView} {line : Line} → Rule (node.SetElement v i e t line)
+      (v has types.Vector t ∷ i has types.Int ∷ e has t ∷ []) types.Void
   bound : {v : Node} {upper : Bool} {t : TyView} → Rule (node.Bound v upper) (v has types.Vector t ∷ []) types.Int
-  call : {f : Node} {args : Nodes} {line : Line} {tys : TyViews} {t : TyView} {claims : List Claim} → Arguments args tys claims → Rule (node.Call f args line) (f has types.Proc tys t ∷ claims) t
-  lib : {code : ℕ} {args : Nodes} {line : Line} {tys : TyViews} {t : TyView} {claims : List Claim} → IsLibrary code tys t → Arguments args tys claims → Rule (node.Lib code args line) claims t
-  write : {e : Node} {t : TyView} {line : Line} → is_writable t ≡ true → Rule (node.Write e node.Empty false t line) (e has t ∷ node.Empty has types.Void ∷ []) types.Void
+  call : {f : Node} {args : Nodes} {line : Line} {tys : TyViews} {t : TyView} {claims : List Claim} → Arguments args tys claims →
+      Rule (node.Call f args line) (f has types.Proc tys t ∷ claims) t
+  lib : {code : ℕ} {args : Nodes} {line : Line} {tys : TyViews} {t : TyView} {claims : List Claim} → IsLibrary code tys t →
+      Arguments args tys claims → Rule (node.Lib code args line) claims t
+  write : {e : Node} {t : TyView} {line : Line} → is_writable t ≡ true →
+      Rule (node.Write e node.Empty false t line) (e has t ∷ node.Empty has types.Void ∷ []) types.Void
   write_wide : {e w : Node} {t : TyView} {line : Line} → is_writable t ≡ true → Rule (node.Write e w true t line) (e has t ∷ w has types.Int ∷ []) types.Void
 
 -- The scopes inside a clause that has a scope of this text, where it begins and where it ends: none more without a text, and
 -- else one more, which keeps nothing at first, and at last the names that its text says.
 pub data Opens : Option (List ℕ) → List (List Field) → List (List Field) → List (List Field) → Type 0 where
   unscoped : {around : List (List Field)} → Opens None around around around
-  scoped : {around : List (List Field)} {first : Field} {rest : List Field} → Opens (Some (class_text (codes "scope") (first ∷ rest))) around ([] ∷ around) ((first ∷ rest) ∷ around)
+  scoped : {around : List (List Field)} {first : Field} {rest : List Field} →
+      Opens (Some (class_text (codes "scope") (first ∷ rest))) around ([] ∷ around) ((first ∷ rest) ∷ around)
 
 -- A name that is declared at this place: the next slot of its stack, or the next field of the innermost scope. Behind it the
 -- name is in scope.
 pub data Declares : Env → Free → Place → TyView → Env → Free → Type 0 where
-  as_local : {env : Env} {free : Free} {slot : ℕ} {ty : TyView} → slot ≡ next_slot ty free → Declares env free (Plain slot) ty (with_local slot ty env) (behind_one ty free)
+  as_local : {env : Env} {free : Free} {slot : ℕ} {ty : TyView} → slot ≡ next_slot ty free →
+      Declares env free (Plain slot) ty (with_local slot ty env) (behind_one ty free)
   as_kept : {env : Env} {free : Free} {position : ℕ} {ty : TyView} {scope : List Field} {around : List (List Field)} (name : List ℕ) →
       env.scopes ≡ scope ∷ around → position ≡ length scope → Declares env free (Kept 0 position) ty (with_scopes (and_kept scope name ty ∷ around) env) free
 
@@ -163,8 +176,10 @@ pub data Declares : Env → Free → Place → TyView → Env → Free → Type 
 pub data Takes : Env → Free → List Param → Env → Free → Type 0 where
   no_more : {env : Env} {free : Free} → Takes env free [] env free
   as_local : {env last : Env} {free free' : Free} {slot : ℕ} {ty : TyView} {rest : List Param} →
-      slot ≡ next_slot ty free → Takes (with_local slot ty env) (behind_one ty free) rest last free' → Takes env free (record { ty = ty; place = Plain slot } ∷ rest) last free'
-  as_kept : {env last : Env} {free free' : Free} {position : ℕ} {ty : TyView} {scope : List Field} {around : List (List Field)} {rest : List Param} (name : List ℕ) →
+      slot ≡ next_slot ty free → Takes (with_local slot ty env) (behind_one ty free) rest last free' →
+      Takes env free (record { ty = ty; place = Plain slot } ∷ rest) last free'
+  as_kept : {env last : Env} {free free' : Free} {position : ℕ} {ty : TyView} {scope : List Field} {around : List (List Field)} {rest : List Param}
+      (name : List ℕ) →
       env.scopes ≡ scope ∷ around → position ≡ length scope → Takes (with_scopes (and_kept scope name ty ∷ around) env) (behind_one ty free) rest last free' →
       Takes env free (record { ty = ty; place = Kept 0 position } ∷ rest) last free'
 
@@ -182,22 +197,27 @@ behind_scan free = record { nums = free.nums + 3; refs = free.refs + 3 }
 mutual
   -- a clause with what is in scope, and the free slots before it and behind it
   pub data IsTyped : Env → Free → Node → TyView → Free → Type 0 where
-    by_rule : {env : Env} {free free' : Free} {clause : Node} {claims : List Claim} {ty : TyView} → Rule clause claims ty → AreTyped env free claims free' → IsTyped env free clause ty free'
+    by_rule : {env : Env} {free free' : Free} {clause : Node} {claims : List Claim} {ty : TyView} → Rule clause claims ty →
+        AreTyped env free claims free' → IsTyped env free clause ty free'
     name : {env : Env} {free : Free} {place : Place} {ty : TyView} → IsAt env place ty → IsTyped env free (node.Name place ty) ty free
-    set_name : {env : Env} {free free' : Free} {place : Place} {ty : TyView} {e : Node} → IsAt env place ty → IsTyped env free e ty free' → IsTyped env free (node.SetName place ty e) types.Void free'
+    set_name : {env : Env} {free free' : Free} {place : Place} {ty : TyView} {e : Node} → IsAt env place ty → IsTyped env free e ty free' →
+        IsTyped env free (node.SetName place ty e) types.Void free'
     block : {env last : Env} {free free' : Free} {scope : Option (List ℕ)} {at_first at_last : List (List Field)} {items : Nodes} {ty : TyView} →
         Opens scope env.scopes at_first at_last → AreItems (with_scopes at_first env) free types.Void items ty last free' → last.scopes ≡ at_last →
         IsTyped env free (node.Block scope items) ty free'
     -- the control is in scope in what is repeated alone
-    loop : {env own : Env} {free behind between free' : Free} {slot : ℕ} {a b c s : Node} {scope : Option (List ℕ)} {at_first at_last : List (List Field)} {control : Place} {line : Line} →
-        slot ≡ free.nums → Opens scope env.scopes at_first at_last → Declares (with_scopes at_first env) (behind_loop free) control types.Int own behind → own.scopes ≡ at_last →
+    loop : {env own : Env} {free behind between free' : Free} {slot : ℕ} {a b c s : Node} {scope : Option (List ℕ)}
+        {at_first at_last : List (List Field)} {control : Place} {line : Line} →
+        slot ≡ free.nums → Opens scope env.scopes at_first at_last →
+        Declares (with_scopes at_first env) (behind_loop free) control types.Int own behind → own.scopes ≡ at_last →
         AreTyped env behind (a has types.Int ∷ b has types.Int ∷ c has types.Int ∷ []) between → IsTyped own between s types.Void free' →
         IsTyped env free (node.For slot a b c scope control s line) types.Void free'
     scan : {env : Env} {free free' : Free} {string : Bool} {a f : Node} {q s : ℕ} {line : Line} →
         q ≡ free.refs → s ≡ free.nums → AreTyped env (behind_scan free) (a has types.Pntr ∷ f has caller (if string then types.Str else types.Int) ∷ []) free' →
         IsTyped env free (node.Scan string a f q s line) types.Int free'
     literal : {env : Env} {free : Free} {params : List Param} {gives : TyView} {tree : Node} {scope : Option (List ℕ)} {line : Line} →
-        IsBody env.scopes (body params gives tree scope line) → IsTyped env free (node.Proc (body params gives tree scope line)) (types.Proc (types_of_params params) gives) free
+        IsBody env.scopes (body params gives tree scope line) →
+        IsTyped env free (node.Proc (body params gives tree scope line)) (types.Proc (types_of_params params) gives) free
 
   -- clauses, one after the other
   pub data AreTyped : Env → Free → List Claim → Free → Type 0 where
@@ -212,16 +232,20 @@ mutual
     a_clause : {env last : Env} {free between free' : Free} {item : Node} {rest : Nodes} {of ty : TyView} →
         IsTyped env free item of between → AreItems env between of rest ty last free' → AreItems env free types.Void (more item rest) ty last free'
     a_value : {env with_name last : Env} {free behind between free' : Free} {place : Place} {e : Node} {rest : Nodes} {of ty : TyView} →
-        isnt_void of ≡ true → Declares env free place of with_name behind → IsTyped env behind e of between → AreItems with_name between types.Void rest ty last free' →
+        isnt_void of ≡ true → Declares env free place of with_name behind → IsTyped env behind e of between →
+        AreItems with_name between types.Void rest ty last free' →
         AreItems env free types.Void (more (node.Let place of e) rest) ty last free'
     a_literal : {env with_name last : Env} {free behind between free' : Free} {place : Place} {procedure : BodyNode} {rest : Nodes} {of ty : TyView} →
-        Declares env free place of with_name behind → IsTyped with_name behind (node.Proc procedure) of between → AreItems with_name between types.Void rest ty last free' →
+        Declares env free place of with_name behind → IsTyped with_name behind (node.Proc procedure) of between →
+        AreItems with_name between types.Void rest ty last free' →
         AreItems env free types.Void (more (node.Let place of (node.Proc procedure)) rest) ty last free'
 
   -- a body inside these scopes: it has locals of its own
   pub data IsBody : List (List Field) → BodyNode → Type 0 where
-    of_params : {around at_first at_last : List (List Field)} {params : List Param} {gives : TyView} {tree : Node} {scope : Option (List ℕ)} {line : Line} {env : Env} {free free' : Free} →
-        Opens scope around at_first at_last → Takes (record { locals = []; scopes = at_first }) (record { nums = 0; refs = 0 }) params env free → env.scopes ≡ at_last →
+    of_params : {around at_first at_last : List (List Field)} {params : List Param} {gives : TyView} {tree : Node} {scope : Option (List ℕ)}
+        {line : Line} {env : Env} {free free' : Free} →
+        Opens scope around at_first at_last → Takes (record { locals = []; scopes = at_first }) (record { nums = 0; refs = 0 }) params env free →
+        env.scopes ≡ at_last →
         IsTyped env free tree gives free' → IsBody around (body params gives tree scope line)
 
 -- a program is a body that is handed nothing and gives nothing

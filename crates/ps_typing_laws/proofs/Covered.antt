@@ -61,8 +61,11 @@ module _ (own : Node → List Seen) (all : List Seen) where
   all_within depth (operand c ∷ rest) h = (first_within (seen_in c) _ depth h, all_within depth rest (rest_within (seen_in c) _ depth h))
   all_within depth (label c ∷ rest) h = (first_within (seen_in c) _ depth h, all_within depth rest (rest_within (seen_in c) _ depth h))
   all_within depth (branch c ∷ rest) h = (first_within (seen_in c) _ depth h, all_within depth rest (rest_within (seen_in c) _ depth h))
-  all_within depth (literal c ∷ rest) h =
-      (deeper_within (seen_in c) depth (first_within (map deeper (seen_in c)) _ depth h), all_within depth rest (rest_within (map deeper (seen_in c)) _ depth h))
+  all_within depth (literal c ∷ rest) h = (
+    deeper_within (seen_in c) depth (first_within (map deeper (seen_in c)) _ depth h),
+    all_within depth rest
+        (rest_within (map deeper (seen_in c)) _ depth h),
+  )
 
   parts_within : (depth : ℕ) (clause : Node) → Within (seen_in clause) depth all → Within (own clause) depth all × AllWithin depth (parts_of clause)
   parts_within depth clause h =
@@ -81,21 +84,30 @@ PartsCovered mentioned declared depth (label c ∷ rest) = Covered mentioned dec
 PartsCovered mentioned declared depth (branch c ∷ rest) = Covered mentioned declared depth c × PartsCovered mentioned declared depth rest
 PartsCovered mentioned declared depth (literal c ∷ rest) = Covered mentioned declared (depth + 1) c × PartsCovered mentioned declared depth rest
 
-both_within : (mentioned declared : List Seen) (depth : ℕ) (parts : List (Part Node)) → AllWithin own_mention mentioned depth parts → AllWithin own_declared declared depth parts → PartsCovered mentioned declared depth parts
+both_within : (mentioned declared : List Seen) (depth : ℕ) (parts : List (Part Node)) → AllWithin own_mention mentioned depth parts →
+    AllWithin own_declared declared depth parts → PartsCovered mentioned declared depth parts
 both_within mentioned declared depth [] m d = tt
-both_within mentioned declared depth (operand c ∷ rest) m d = (record { mentions_are = m.0; declarations_are = d.0 }, both_within mentioned declared depth rest m.1 d.1)
-both_within mentioned declared depth (label c ∷ rest) m d = (record { mentions_are = m.0; declarations_are = d.0 }, both_within mentioned declared depth rest m.1 d.1)
-both_within mentioned declared depth (branch c ∷ rest) m d = (record { mentions_are = m.0; declarations_are = d.0 }, both_within mentioned declared depth rest m.1 d.1)
-both_within mentioned declared depth (literal c ∷ rest) m d = (record { mentions_are = m.0; declarations_are = d.0 }, both_within mentioned declared depth rest m.1 d.1)
+both_within mentioned declared depth (operand c ∷ rest) m d =
+    (record { mentions_are = m.0; declarations_are = d.0 }, both_within mentioned declared depth rest m.1 d.1)
+both_within mentioned declared depth (label c ∷ rest) m d =
+    (record { mentions_are = m.0; declarations_are = d.0 }, both_within mentioned declared depth rest m.1 d.1)
+both_within mentioned declared depth (branch c ∷ rest) m d =
+    (record { mentions_are = m.0; declarations_are = d.0 }, both_within mentioned declared depth rest m.1 d.1)
+both_within mentioned declared depth (literal c ∷ rest) m d =
+    (record { mentions_are = m.0; declarations_are = d.0 }, both_within mentioned declared depth rest m.1 d.1)
 
-pub parts_covered : (mentioned declared : List Seen) (depth : ℕ) (clause : Node) → Covered mentioned declared depth clause → PartsCovered mentioned declared depth (parts_of clause)
+pub parts_covered : (mentioned declared : List Seen) (depth : ℕ) (clause : Node) → Covered mentioned declared depth clause →
+    PartsCovered mentioned declared depth (parts_of clause)
 parts_covered mentioned declared depth clause h =
-    both_within mentioned declared depth (parts_of clause) (parts_within own_mention mentioned depth clause h.mentions_are).1 (parts_within own_declared declared depth clause h.declarations_are).1
+    both_within mentioned declared depth (parts_of clause) (parts_within own_mention mentioned depth clause h.mentions_are).1
+    (parts_within own_declared declared depth clause h.declarations_are).1
 
-pub own_mentioned : (mentioned declared : List Seen) (depth : ℕ) (clause : Node) → Covered mentioned declared depth clause → Within (own_mention clause) depth mentioned
+pub own_mentioned : (mentioned declared : List Seen) (depth : ℕ) (clause : Node) → Covered mentioned declared depth clause →
+    Within (own_mention clause) depth mentioned
 own_mentioned mentioned declared depth clause h = (parts_within own_mention mentioned depth clause h.mentions_are).0
 
-pub own_declarations : (mentioned declared : List Seen) (depth : ℕ) (clause : Node) → Covered mentioned declared depth clause → Within (own_declared clause) depth declared
+pub own_declarations : (mentioned declared : List Seen) (depth : ℕ) (clause : Node) → Covered mentioned declared depth clause →
+    Within (own_declared clause) depth declared
 own_declarations mentioned declared depth clause h = (parts_within own_declared declared depth clause h.declarations_are).0
 
 -- so of the parts that a rule names
@@ -118,7 +130,8 @@ module _ (mentioned declared : List Seen) (depth : ℕ) where
   arguments rule.no_more h = tt
   arguments (rule.one_more args) h = (h.0, arguments args h.1)
 
-  labels_then : (t : TyView) (ns : Nodes) (rest : List (Part Node)) (claims : List Claim) → (Parts rest → Claims claims) → Parts (parts_all label ns ++ rest) → Claims (all_have t ns ++ claims)
+  labels_then : (t : TyView) (ns : Nodes) (rest : List (Part Node)) (claims : List Claim) → (Parts rest → Claims claims) →
+      Parts (parts_all label ns ++ rest) → Claims (all_have t ns ++ claims)
   labels_then t none rest claims then_ h = then_ h
   labels_then t (more n ns) rest claims then_ h = (h.0, labels_then t ns rest claims then_ h.1)
 
@@ -126,7 +139,8 @@ module _ (mentioned declared : List Seen) (depth : ℕ) where
   arms_then value t no_arms d h = h
   arms_then value t (more_arms (arm labels a) rest) d h =
       subst Claims (sym (append_assoc (all_have value labels) (a has t ∷ arms_have value t rest) (d has t ∷ [])))
-      (labels_then value labels (branch a ∷ (parts_arms rest ++ branch d ∷ [])) (a has t ∷ (arms_have value t rest ++ d has t ∷ [])) (λ r. (r.0, arms_then value t rest d r.1))
+      (labels_then value labels (branch a ∷ (parts_arms rest ++ branch d ∷ [])) (a has t ∷ (arms_have value t rest ++ d has t ∷ []))
+      (λ r. (r.0, arms_then value t rest d r.1))
       (subst Parts (append_assoc (parts_all label labels) (branch a ∷ parts_arms rest) (branch d ∷ [])) h))
 
   pub claims_covered : {clause : Node} {claims : List Claim} {t : TyView} → Rule clause claims t → Parts (parts_of clause) → Claims claims
@@ -153,14 +167,16 @@ and_true : (a b : Bool) → a ≡ true → b ≡ true → (a && b) ≡ true
 and_true true b h k = k
 and_true false b h k = absurd cc
 
-is_deeper : (mentioned : List Seen) (it : Seen) (k l : ℕ) → Some_is (IsSeen k l) mentioned → it.name ≡ k → it.literals < l → is_mentioned_deeper mentioned it ≡ true
+is_deeper : (mentioned : List Seen) (it : Seen) (k l : ℕ) → Some_is (IsSeen k l) mentioned → it.name ≡ k → it.literals < l →
+    is_mentioned_deeper mentioned it ≡ true
 is_deeper [] it k l h same below = absurd h
 is_deeper (m ∷ rest) it k l (inl h) same below =
     or_first _ _ (and_true _ _ (eq-eqb m.name it.name (h.0 ∙ sym same)) (lt-ltb it.literals m.literals (let e = h.1 in omega arith)))
 is_deeper (m ∷ rest) it k l (inr h) same below = or_second _ _ (is_deeper rest it k l h same below)
 
 -- what is mentioned deeper than it is declared is among the kept names
-pub among_kept : (mentioned declared : List Seen) (k d l : ℕ) → Some_is (IsSeen k l) mentioned → Some_is (IsSeen k d) declared → d < l → is_among (kept_of mentioned declared) k ≡ true
+pub among_kept : (mentioned declared : List Seen) (k d l : ℕ) → Some_is (IsSeen k l) mentioned → Some_is (IsSeen k d) declared → d < l →
+    is_among (kept_of mentioned declared) k ≡ true
 among_kept mentioned [] k d l m h below = absurd h
 among_kept mentioned (it ∷ rest) k d l m (inl h) below =
     by_test (λ (names : List ℕ). is_among names k ≡ true) (is_mentioned_deeper mentioned it) (it.name ∷ kept_of mentioned rest) (kept_of mentioned rest)

@@ -25,12 +25,14 @@ named n = record { name = n; line = one }
 -- `if true do let x := 1; let f = proc(); x := 2`, which has no text
 abbrev let_in_a_branch : Phrase
 let_in_a_branch = the (form.Sequence (more (the (form.IfDo (the (form.Flag true)) (the (form.Let (named (codes "x")) true (the (form.Int (pos 1)))))))
-    (more (the (form.Let (named (codes "f")) true (the (form.Proc [] types.Void (the (form.Assign (the (form.Name (codes "x"))) (the (form.Int (pos 2))))))))) none)))
+    (more (the (form.Let (named (codes "f")) true (the (form.Proc [] types.Void
+    (the (form.Assign (the (form.Name (codes "x"))) (the (form.Int (pos 2))))))))) none)))
 
 -- the procedure would assign to a local that it hasn't
 without_a_scope : check_program let_in_a_branch
     ≡ Typed (body [] types.Void (node.Block None (node.more (node.IfDo (node.Flag true) (node.Let (Plain 0) types.Int (node.Int (pos 1))))
-    (node.more (node.Let (Plain 0) (types.Proc types.none types.Void) (node.Proc (body [] types.Void (node.SetName (Plain 0) types.Int (node.Int (pos 2))) None one))) node.none))) None one)
+    (node.more (node.Let (Plain 0) (types.Proc types.none types.Void)
+    (node.Proc (body [] types.Void (node.SetName (Plain 0) types.Int (node.Int (pos 2))) None one))) node.none))) None one)
 unfolding ◌>>=◌ passes assigned placed.then_give placed.◌>>=◌
 without_a_scope = refl
 

@@ -66,12 +66,14 @@ mutual
   pub data ItemsNumbered (names : List Field) : List Entry → ℕ → ℕ → TyView → Nodes → TyView → ℕ → Type 0 where
     at_end : {scope : List Entry} {depth n : ℕ} {ty : TyView} → ItemsNumbered names scope depth n ty none ty n
     a_clause : {scope : List Entry} {depth n m n' : ℕ} {item : Node} {rest : Nodes} {of ty : TyView} →
-        Numbered names scope depth n item of m → ItemsNumbered names scope depth m of rest ty n' → ItemsNumbered names scope depth n types.Void (more item rest) ty n'
+        Numbered names scope depth n item of m → ItemsNumbered names scope depth m of rest ty n' →
+        ItemsNumbered names scope depth n types.Void (more item rest) ty n'
     a_value : {scope : List Entry} {depth n k n' : ℕ} {e : Node} {rest : Nodes} {of ty : TyView} → isnt_void of ≡ true →
         Numbered names scope depth n e of k → HasType names k of → ItemsNumbered names (entry k of depth ∷ scope) depth (k + 1) types.Void rest ty n' →
         ItemsNumbered names scope depth n types.Void (more (node.Let (Plain k) of e) rest) ty n'
     a_literal : {scope : List Entry} {depth k m n' : ℕ} {procedure : BodyNode} {rest : Nodes} {of ty : TyView} → HasType names k of →
-        Numbered names (entry k of depth ∷ scope) depth (k + 1) (node.Proc procedure) of m → ItemsNumbered names (entry k of depth ∷ scope) depth m types.Void rest ty n' →
+        Numbered names (entry k of depth ∷ scope) depth (k + 1) (node.Proc procedure) of m →
+        ItemsNumbered names (entry k of depth ∷ scope) depth m types.Void rest ty n' →
         ItemsNumbered names scope depth k types.Void (more (node.Let (Plain k) of (node.Proc procedure)) rest) ty n'
 
 pub params_grow : {names : List Field} {scope own : List Entry} {depth n m : ℕ} {params : List Param} → Params names scope depth n params own m → n ≤ m
@@ -92,7 +94,8 @@ mutual
   all_grow no_more = omega arith
   all_grow (one_more first rest) = let h = grows first in let k = all_grow rest in omega arith
 
-  pub items_grow : {names : List Field} {scope : List Entry} {depth n m : ℕ} {before ty : TyView} {items : Nodes} → ItemsNumbered names scope depth n before items ty m → n ≤ m
+  pub items_grow : {names : List Field} {scope : List Entry} {depth n m : ℕ} {before ty : TyView} {items : Nodes} →
+      ItemsNumbered names scope depth n before items ty m → n ≤ m
   items_grow at_end = omega arith
   items_grow (a_clause first rest) = let h = grows first in let k = items_grow rest in omega arith
   items_grow (a_value isnt e is rest) = let h = grows e in let k = items_grow rest in omega arith

@@ -47,7 +47,8 @@ abbrev AllFields : List FieldOf → Type 0
 AllFields [] = Unit {0}
 AllFields (f ∷ fs) = IsField f.class f.index f.ty × AllFields fs
 
-field_found : (fs : List FieldOf) (name : List ℕ) (found : FieldOf) → AllFields fs → lookup_field fs name ≡ Some found → IsField found.class found.index found.ty
+field_found : (fs : List FieldOf) (name : List ℕ) (found : FieldOf) → AllFields fs → lookup_field fs name ≡ Some found →
+    IsField found.class found.index found.ty
 field_found [] name found h e = absurd cc
 field_found (f ∷ fs) name found h e = lookup_field_more f fs name found h.0 (field_found fs name found h.1) e
 
@@ -67,7 +68,8 @@ library_known = record {
 }
 
 -- before anything is declared
-nothing_declared : (names : List _) (tree : Node) → Sync names (kept_of (mentions tree) (declarations tree)) (mentions tree) (declarations tree) refl [] 0 0 [] no_locals (record { locals = []; scopes = [] })
+nothing_declared : (names : List _) (tree : Node) →
+    Sync names (kept_of (mentions tree) (declarations tree)) (mentions tree) (declarations tree) refl [] 0 0 [] no_locals (record { locals = []; scopes = [] })
 nothing_declared names tree = record {
   below = λ k d ty is. absurd is;
   shallow = λ k d ty is. absurd is;
@@ -83,10 +85,12 @@ itself_within found = λ name literals is. let e : literals ≡ literals + 0 = o
 whole_covered : (tree : Node) → Covered (mentions tree) (declarations tree) 0 tree
 whole_covered tree = record { mentions_are = itself_within (mentions tree); declarations_are = itself_within (declarations tree) }
 
-body_typed : (names : List _) (tree : Node) (m : ℕ) (line : Line) → Numbered names [] 0 0 tree types.Void m → IsWellTyped (placed_program names (body [] types.Void tree None line))
+body_typed : (names : List _) (tree : Node) (m : ℕ) (line : Line) → Numbered names [] 0 0 tree types.Void m →
+    IsWellTyped (placed_program names (body [] types.Void tree None line))
 unfolding then_give ◌>>=◌
 body_typed names tree m line t =
-    let f = place names (kept_of (mentions tree) (declarations tree)) (mentions tree) (declarations tree) refl t [] no_locals (record { locals = []; scopes = [] }) (nothing_declared names tree) (whole_covered tree) in
+    let f = place names (kept_of (mentions tree) (declarations tree)) (mentions tree) (declarations tree) refl t [] no_locals
+    (record { locals = []; scopes = [] }) (nothing_declared names tree) (whole_covered tree) in
     (refl, refl, typed.of_params typed.unscoped typed.no_more refl f.is_typed)
 
 given_typed : (o : Outcome Node) (program : BodyNode) → Sound (IsOf types.Void) library_names o → verdict_of o ≡ Typed program → IsWellTyped program

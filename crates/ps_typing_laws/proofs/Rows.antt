@@ -22,7 +22,8 @@ write place ty = node.Write (node.Name place ty) node.Empty false ty one
 
 -- `let a = 1; let b = true; write a`: an int in slot 0, and a bool in slot 1
 abbrev declared_at : Place → Place → Place → BodyNode
-declared_at a b used = program (more (node.Let a types.Int (node.Int (pos 1))) (more (node.Let b types.Bool (node.Flag true)) (more (write used types.Int) none)))
+declared_at a b used = program (more (node.Let a types.Int (node.Int (pos 1)))
+    (more (node.Let b types.Bool (node.Flag true)) (more (write used types.Int) none)))
 
 well_placed : IsWellTyped (declared_at (Plain 0) (Plain 1) (Plain 0))
 well_placed = (
@@ -31,7 +32,8 @@ well_placed = (
   typed.of_params typed.unscoped typed.no_more refl (typed.block typed.unscoped
       (typed.a_value refl (typed.as_local refl) (typed.by_rule typed.int typed.no_more)
       (typed.a_value refl (typed.as_local refl) (typed.by_rule typed.flag typed.no_more)
-      (typed.a_clause (typed.by_rule (typed.write refl) (typed.one_more (typed.name (inr (inl (refl, refl)))) (typed.one_more (typed.by_rule typed.empty typed.no_more) typed.no_more))) typed.at_end))) refl),
+      (typed.a_clause (typed.by_rule (typed.write refl) (typed.one_more (typed.name (inr (inl (refl, refl))))
+      (typed.one_more (typed.by_rule typed.empty typed.no_more) typed.no_more))) typed.at_end))) refl),
 )
 
 abbrev start : Env
@@ -52,26 +54,31 @@ record Declaring (env : Env) (free : Free) (place : Place) (of : TyView) (rest :
   pub declares : Declares env free place of with_name behind
   pub items : AreItems with_name behind types.Void rest ty last free'
 
-int_of : {env last : Env} {free free' : Free} {before of ty : TyView} {place : Place} {v : _} {rest : Nodes} → AreItems env free before (more (node.Let place of (node.Int v)) rest) ty last free' → Declaring env free place of rest ty last free'
+int_of : {env last : Env} {free free' : Free} {before of ty : TyView} {place : Place} {v : _} {rest : Nodes} →
+    AreItems env free before (more (node.Let place of (node.Int v)) rest) ty last free' → Declaring env free place of rest ty last free'
 int_of (typed.a_clause (typed.by_rule r claims) items) = elim r [ ]
 int_of (typed.a_value isnt d (typed.by_rule typed.int typed.no_more) items) = record { with_name = _; behind = _; declares = d; items = items }
 
-flag_of : {env last : Env} {free free' : Free} {before of ty : TyView} {place : Place} {v : _} {rest : Nodes} → AreItems env free before (more (node.Let place of (node.Flag v)) rest) ty last free' → Declaring env free place of rest ty last free'
+flag_of : {env last : Env} {free free' : Free} {before of ty : TyView} {place : Place} {v : _} {rest : Nodes} →
+    AreItems env free before (more (node.Let place of (node.Flag v)) rest) ty last free' → Declaring env free place of rest ty last free'
 flag_of (typed.a_clause (typed.by_rule r claims) items) = elim r [ ]
 flag_of (typed.a_value isnt d (typed.by_rule typed.flag typed.no_more) items) = record { with_name = _; behind = _; declares = d; items = items }
 
 -- a name that has a local takes the next slot
-slot_is : {env with_name : Env} {free behind : Free} {slot : ℕ} {ty : TyView} → Declares env free (Plain slot) ty with_name behind → (slot ≡ next_slot ty free) × (with_name ≡ with_local slot ty env) × (behind ≡ behind_one ty free)
+slot_is : {env with_name : Env} {free behind : Free} {slot : ℕ} {ty : TyView} → Declares env free (Plain slot) ty with_name behind →
+    (slot ≡ next_slot ty free) × (with_name ≡ with_local slot ty env) × (behind ≡ behind_one ty free)
 slot_is (typed.as_local e) = (e, refl, refl)
 
 name_of : {env : Env} {free free' : Free} {place : Place} {of ty : TyView} → IsTyped env free (node.Name place of) ty free' → IsAt env place ty
 name_of (typed.name is) = is
 name_of (typed.by_rule r claims) = elim r [ ]
 
-first_of : {env : Env} {free free' : Free} {clause : Node} {ty : TyView} {rest : List Claim} → AreTyped env free (clause has ty ∷ rest) free' → (between : Free) × IsTyped env free clause ty between
+first_of : {env : Env} {free free' : Free} {clause : Node} {ty : TyView} {rest : List Claim} → AreTyped env free (clause has ty ∷ rest) free' →
+    (between : Free) × IsTyped env free clause ty between
 first_of (typed.one_more first rest) = (_, first)
 
-used_at : {env last : Env} {free free' : Free} {place : Place} {of ty : TyView} {rest : Nodes} → AreItems env free types.Void (more (write place of) rest) ty last free' → IsAt env place of
+used_at : {env last : Env} {free free' : Free} {place : Place} {of ty : TyView} {rest : Nodes} →
+    AreItems env free types.Void (more (write place of) rest) ty last free' → IsAt env place of
 used_at (typed.a_clause (typed.by_rule (typed.write can) claims) items) = name_of (first_of claims).1
 
 differ : (a b : ℕ) → a < b → a ≡ b → ⊥
@@ -99,7 +106,8 @@ a_as_b : IsWellTyped (declared_at (Plain 0) (Plain 1) (Plain 1)) → ⊥
 a_as_b h =
     let a = int_of (items_of h).2 in
     let b = flag_of a.items in
-    let env : b.with_name ≡ with_local 1 types.Bool (with_local 0 types.Int start) = (slot_is b.declares).1 ∙ ap (with_local 1 types.Bool) (slot_is a.declares).1 in
+    let env : b.with_name ≡ with_local 1 types.Bool (with_local 0 types.Int start) = (slot_is b.declares).1 ∙ ap (with_local 1 types.Bool)
+    (slot_is a.declares).1 in
     neither (subst (λ (e : Env). IsAt e (Plain 1) types.Int) env (used_at b.items))
   where
     neither : IsAt (with_local 1 types.Bool (with_local 0 types.Int start)) (Plain 1) types.Int → ⊥
@@ -108,13 +116,16 @@ a_as_b h =
     neither (inr (inr h)) = h
 
 -- `{ let a = 1 }; write a`, with the slot of a name whose block has ended
-rest_of : {env last : Env} {free free' : Free} {before ty : TyView} {scope : Option (List ℕ)} {items rest : Nodes} → AreItems env free before (more (node.Block scope items) rest) ty last free' → (of : TyView) × (between : Free) × AreItems env between of rest ty last free'
+rest_of : {env last : Env} {free free' : Free} {before ty : TyView} {scope : Option (List ℕ)} {items rest : Nodes} →
+    AreItems env free before (more (node.Block scope items) rest) ty last free' → (of : TyView) × (between : Free) × AreItems env between of rest ty last free'
 rest_of (typed.a_clause first rest) = (_, _, rest)
 
-used_behind : {env last : Env} {free free' : Free} {before ty : TyView} {place : Place} {of : TyView} {rest : Nodes} → AreItems env free before (more (write place of) rest) ty last free' → IsAt env place of
+used_behind : {env last : Env} {free free' : Free} {before ty : TyView} {place : Place} {of : TyView} {rest : Nodes} →
+    AreItems env free before (more (write place of) rest) ty last free' → IsAt env place of
 used_behind (typed.a_clause (typed.by_rule (typed.write can) claims) items) = name_of (first_of claims).1
 
-behind_its_block : IsWellTyped (program (more (node.Block None (more (node.Let (Plain 0) types.Int (node.Int (pos 1))) none)) (more (write (Plain 0) types.Int) none))) → ⊥
+behind_its_block : IsWellTyped (program (more (node.Block None (more (node.Let (Plain 0) types.Int (node.Int (pos 1))) none))
+    (more (write (Plain 0) types.Int) none))) → ⊥
 behind_its_block h = used_behind (rest_of (items_of h).2).2
 
 -- `let x := 1`, kept where no scope is

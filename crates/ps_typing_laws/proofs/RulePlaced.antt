@@ -14,13 +14,17 @@ use Rattle.ps_typing.specs.WellTyped as rule
 -- clauses one after the other
 abbrev pub placed_claims : Around → Locals → List Claim → Given (List Claim)
 placed_claims around l [] = gives [] l
-placed_claims around l (claim ∷ rest) = gives ((placed around l claim.clause).of has claim.ty ∷ (placed_claims around (placed around l claim.clause).locals rest).of) (placed_claims around (placed around l claim.clause).locals rest).locals
+placed_claims around l (claim ∷ rest) = gives ((placed around l claim.clause).of has claim.ty ∷
+    (placed_claims around (placed around l claim.clause).locals rest).of) (placed_claims around (placed around l claim.clause).locals rest).locals
 
-append_of : (around : Around) (l : Locals) (xs ys : List Claim) → (placed_claims around l (xs ++ ys)).of ≡ (placed_claims around l xs).of ++ (placed_claims around (placed_claims around l xs).locals ys).of
+append_of : (around : Around) (l : Locals) (xs ys : List Claim) →
+    (placed_claims around l (xs ++ ys)).of ≡ (placed_claims around l xs).of ++ (placed_claims around (placed_claims around l xs).locals ys).of
 append_of around l [] ys = refl
-append_of around l (x ∷ xs) ys = ap (λ (cs : List Claim). (placed around l x.clause).of has x.ty ∷ cs) (append_of around (placed around l x.clause).locals xs ys)
+append_of around l (x ∷ xs) ys = ap (λ (cs : List Claim). (placed around l x.clause).of has x.ty ∷ cs)
+    (append_of around (placed around l x.clause).locals xs ys)
 
-append_locals : (around : Around) (l : Locals) (xs ys : List Claim) → (placed_claims around l (xs ++ ys)).locals ≡ (placed_claims around (placed_claims around l xs).locals ys).locals
+append_locals : (around : Around) (l : Locals) (xs ys : List Claim) →
+    (placed_claims around l (xs ++ ys)).locals ≡ (placed_claims around (placed_claims around l xs).locals ys).locals
 append_locals around l [] ys = refl
 append_locals around l (x ∷ xs) ys = append_locals around (placed around l x.clause).locals xs ys
 
@@ -34,17 +38,20 @@ unfolding then_give ◌>>=◌
 all_locals around l t none = refl
 all_locals around l t (more n ns) = all_locals around (placed around l n).locals t ns
 
-args_of : (around : Around) {ns : Nodes} {tys : TyViews} {claims : List Claim} → Arguments ns tys claims → (l : Locals) → Arguments (placed_all around l ns).of tys (placed_claims around l claims).of
+args_of : (around : Around) {ns : Nodes} {tys : TyViews} {claims : List Claim} → Arguments ns tys claims → (l : Locals) →
+    Arguments (placed_all around l ns).of tys (placed_claims around l claims).of
 unfolding then_give ◌>>=◌
 args_of around rule.no_more l = rule.no_more
 args_of around (rule.one_more {n = n} args) l = rule.one_more (args_of around args (placed around l n).locals)
 
-args_locals : (around : Around) {ns : Nodes} {tys : TyViews} {claims : List Claim} → Arguments ns tys claims → (l : Locals) → (placed_all around l ns).locals ≡ (placed_claims around l claims).locals
+args_locals : (around : Around) {ns : Nodes} {tys : TyViews} {claims : List Claim} → Arguments ns tys claims → (l : Locals) →
+    (placed_all around l ns).locals ≡ (placed_claims around l claims).locals
 unfolding then_give ◌>>=◌
 args_locals around rule.no_more l = refl
 args_locals around (rule.one_more {n = n} args) l = args_locals around args (placed around l n).locals
 
-arms_of : (around : Around) (value t : TyView) (arms : Arms) (l : Locals) → arms_have value t (placed_arms around l arms).of ≡ (placed_claims around l (arms_have value t arms)).of
+arms_of : (around : Around) (value t : TyView) (arms : Arms) (l : Locals) →
+    arms_have value t (placed_arms around l arms).of ≡ (placed_claims around l (arms_have value t arms)).of
 unfolding then_give ◌>>=◌
 arms_of around value t no_arms l = refl
 arms_of around value t (more_arms (arm labels a) rest) l =
@@ -58,7 +65,8 @@ arms_of around value t (more_arms (arm labels a) rest) l =
     ∙ ap (λ (m : Locals). (placed_claims around l xs).of ++ (placed_claims around m (a has t ∷ arms_have value t rest)).of) same
     ∙ sym (append_of around l xs (a has t ∷ arms_have value t rest))
 
-arms_locals : (around : Around) (value t : TyView) (arms : Arms) (l : Locals) → (placed_arms around l arms).locals ≡ (placed_claims around l (arms_have value t arms)).locals
+arms_locals : (around : Around) (value t : TyView) (arms : Arms) (l : Locals) →
+    (placed_arms around l arms).locals ≡ (placed_claims around l (arms_have value t arms)).locals
 unfolding then_give ◌>>=◌
 arms_locals around value t no_arms l = refl
 arms_locals around value t (more_arms (arm labels a) rest) l =
@@ -73,7 +81,8 @@ pub record RulePlaced (around : Around) (l : Locals) (clause : Node) (claims : L
   pub of_placed : Rule (placed around l clause).of (placed_claims around l claims).of ty
   pub locals : (placed around l clause).locals ≡ (placed_claims around l claims).locals
 
-case_placed : (around : Around) (l : Locals) (e d : Node) (arms : Arms) (value t : TyView) → is_equated value ≡ true → RulePlaced around l (node.Case e arms d value) (e has value ∷ (arms_have value t arms ++ d has t ∷ [])) t
+case_placed : (around : Around) (l : Locals) (e d : Node) (arms : Arms) (value t : TyView) → is_equated value ≡ true →
+    RulePlaced around l (node.Case e arms d value) (e has value ∷ (arms_have value t arms ++ d has t ∷ [])) t
 unfolding then_give ◌>>=◌
 case_placed around l e d arms value t is =
     let e' : Node = (placed around l e).of in
@@ -92,17 +101,20 @@ case_placed around l e d arms value t is =
       locals = ap (λ (m : Locals). (placed_claims around m (d has t ∷ [])).locals) same ∙ sym (append_locals around first xs (d has t ∷ []));
     }
 
-elems_placed : (around : Around) (l : Locals) (n : Node) (items : Nodes) (t : TyView) (line : Line) → RulePlaced around l (node.Elems n items (types.Vector t) line) (n has types.Int ∷ all_have t items) (types.Vector t)
+elems_placed : (around : Around) (l : Locals) (n : Node) (items : Nodes) (t : TyView) (line : Line) →
+    RulePlaced around l (node.Elems n items (types.Vector t) line) (n has types.Int ∷ all_have t items) (types.Vector t)
 unfolding then_give ◌>>=◌
 elems_placed around l n items t line =
     let n' : Node = (placed around l n).of in
     let first : Locals = (placed around l n).locals in
     record {
-      of_placed = subst (λ (cs : List Claim). Rule (node.Elems n' (placed_all around first items).of (types.Vector t) line) (n' has types.Int ∷ cs) (types.Vector t)) (all_of around first t items) rule.elems;
+      of_placed = subst (λ (cs : List Claim). Rule (node.Elems n' (placed_all around first items).of (types.Vector t) line) (n' has types.Int ∷ cs)
+          (types.Vector t)) (all_of around first t items) rule.elems;
       locals = all_locals around first t items;
     }
 
-pub rule_placed : (around : Around) (l : Locals) {clause : Node} {claims : List Claim} {ty : TyView} → Rule clause claims ty → RulePlaced around l clause claims ty
+pub rule_placed : (around : Around) (l : Locals) {clause : Node} {claims : List Claim} {ty : TyView} → Rule clause claims ty →
+    RulePlaced around l clause claims ty
 unfolding then_give ◌>>=◌
 rule_placed around l rule.int = record { of_placed = rule.int; locals = refl }
 rule_placed around l rule.flag = record { of_placed = rule.flag; locals = refl }

@@ -56,8 +56,11 @@ module _ {A : Type 0} (g : Node → List (Part A) → A) (R : A → A → Type 0
     same around l (node.Repeat a c b) = blind around l (node.Repeat a c b) _ _ (same around l a, (same around _ c, (same around _ b, tt)))
     same around l (node.For slot a b c scope control s line) =
         blind around l (node.For slot a b c scope control s line) _ _ (same around _ a, (same around _ b, (same around _ c, (same _ _ s, tt))))
-    same around l (node.Case e arms d ty) = blind around l (node.Case e arms d ty) _ _
-        (same around l e, same_append R (fold_arms g (placed_arms around (placed around l e).locals arms).of) (fold_arms g arms) _ _ (same_arms around (placed around l e).locals arms) (same around _ d, tt))
+    same around l (node.Case e arms d ty) = blind around l (node.Case e arms d ty) _ _ (
+      same around l e,
+      same_append R (fold_arms g (placed_arms around (placed around l e).locals arms).of) (fold_arms g arms) _ _
+          (same_arms around (placed around l e).locals arms) (same around _ d, tt),
+    )
     same around l (node.And a b) = blind around l (node.And a b) _ _ (same around l a, (same around _ b, tt))
     same around l (node.Or a b) = blind around l (node.Or a b) _ _ (same around l a, (same around _ b, tt))
     same around l (node.Not e) = blind around l (node.Not e) _ _ (same around l e, tt)
@@ -74,7 +77,8 @@ module _ {A : Type 0} (g : Node → List (Part A) → A) (R : A → A → Type 0
     same around l (node.Fill a b e ty line) = blind around l (node.Fill a b e ty line) _ _ (same around l a, (same around _ b, (same around _ e, tt)))
     same around l (node.Elems a items ty line) = blind around l (node.Elems a items ty line) _ _ (same around l a, same_all operand (λ a b r. r) around _ items)
     same around l (node.Element v i ty line) = blind around l (node.Element v i ty line) _ _ (same around l v, (same around _ i, tt))
-    same around l (node.SetElement v i e ty line) = blind around l (node.SetElement v i e ty line) _ _ (same around l v, (same around _ i, (same around _ e, tt)))
+    same around l (node.SetElement v i e ty line) = blind around l (node.SetElement v i e ty line) _ _
+        (same around l v, (same around _ i, (same around _ e, tt)))
     same around l (node.Bound v upper) = blind around l (node.Bound v upper) _ _ (same around l v, tt)
     same around l (node.Proc (body params gives_ tree scope line)) = blind around l (node.Proc (body params gives_ tree scope line)) _ _ (same _ _ tree, tt)
     same around l (node.Call f args line) = blind around l (node.Call f args line) _ _ (same around l f, same_all operand (λ a b r. r) around _ args)
@@ -83,14 +87,16 @@ module _ {A : Type 0} (g : Node → List (Part A) → A) (R : A → A → Type 0
     same around l (node.Write e w wide ty line) = blind around l (node.Write e w wide ty line) _ _ (same around l e, (same around _ w, tt))
     same around l (node.Abort line) = blind around l (node.Abort line) [] [] tt
 
-    same_all : (as_part : A → Part A) → ((a b : A) → R a b → SamePart R (as_part a) (as_part b)) → (around : Around) (l : Locals) (ns : Nodes) → SameParts R (fold_all g as_part (placed_all around l ns).of) (fold_all g as_part ns)
+    same_all : (as_part : A → Part A) → ((a b : A) → R a b → SamePart R (as_part a) (as_part b)) → (around : Around) (l : Locals) (ns : Nodes) →
+        SameParts R (fold_all g as_part (placed_all around l ns).of) (fold_all g as_part ns)
     same_all as_part is around l none = tt
     same_all as_part is around l (more first rest) = (is _ _ (same around l first), same_all as_part is around _ rest)
 
     same_arms : (around : Around) (l : Locals) (arms : Arms) → SameParts R (fold_arms g (placed_arms around l arms).of) (fold_arms g arms)
     same_arms around l no_arms = tt
     same_arms around l (more_arms (arm labels a) rest) =
-        same_append R (fold_all g label (placed_all around l labels).of) (fold_all g label labels) _ _ (same_all label (λ a b r. r) around l labels) (same around _ a, same_arms around _ rest)
+        same_append R (fold_all g label (placed_all around l labels).of) (fold_all g label labels) _ _ (same_all label (λ a b r. r) around l labels)
+        (same around _ a, same_arms around _ rest)
 
 -- where equal parts are the same parts
 equal_part : {A : Type 0} (p q : Part A) → SamePart (λ (a b : A). a ≡ b) p q → p ≡ q
@@ -126,14 +132,16 @@ same_slot_count around l (body params gives_ tree scope line) =
     let a = length-map params (λ (param : Param). record param { place = place_of within own param.place }) in
     let b = same_locals within own tree in
     let c = same_depth within own tree in
-    ap (λ n. n + (locals (placed within own tree).of + depth (placed within own tree).of)) a ∙ ap (λ n. length params + (n + depth (placed within own tree).of)) b ∙ ap (λ n. length params + (locals tree + n)) c
+    ap (λ n. n + (locals (placed within own tree).of + depth (placed within own tree).of)) a ∙ ap
+    (λ n. length params + (n + depth (placed within own tree).of)) b ∙ ap (λ n. length params + (locals tree + n)) c
 
 same_line : (around : Around) (l : Locals) (of : BodyNode) → line_of_body (placed_literal around l of).of ≡ line_of_body of
 unfolding then_give ◌>>=◌
 same_line around l (body params gives_ tree scope line) = refl
 
 same_measure : (around : Around) (l : Locals) (of : BodyNode) → measure (placed_literal around l of).of ≡ measure of
-same_measure around l of = ap (λ line. (line, slot_count (placed_literal around l of).of)) (same_line around l of) ∙ ap (λ n. (line_of_body of, n)) (same_slot_count around l of)
+same_measure around l of = ap (λ line. (line, slot_count (placed_literal around l of).of)) (same_line around l of) ∙ ap (λ n. (line_of_body of, n))
+    (same_slot_count around l of)
 
 abbrev SameMeasures : List BodyNode → List BodyNode → Type 0
 SameMeasures as_ bs = map measure as_ ≡ map measure bs
@@ -144,9 +152,11 @@ same_own_body around l (node.Proc of) = ap (λ m. m ∷ []) (same_measure around
 same_own_body around l other = refl
 
 joined_measures : (as_ bs cs ds : List BodyNode) → SameMeasures as_ bs → SameMeasures cs ds → SameMeasures (as_ ++ cs) (bs ++ ds)
-joined_measures as_ bs cs ds h k = map-append measure as_ cs ∙ ap (λ ms. ms ++ map measure cs) h ∙ ap (λ ms. map measure bs ++ ms) k ∙ sym (map-append measure bs ds)
+joined_measures as_ bs cs ds h k = map-append measure as_ cs ∙ ap (λ ms. ms ++ map measure cs) h ∙ ap (λ ms. map measure bs ++ ms) k ∙ sym
+    (map-append measure bs ds)
 
-first_measures : (p q : Part (List BodyNode)) (ps qs : List (Part (List BodyNode))) → SamePart SameMeasures p q → SameMeasures (bodies_of ps) (bodies_of qs) → SameMeasures (bodies_of (p ∷ ps)) (bodies_of (q ∷ qs))
+first_measures : (p q : Part (List BodyNode)) (ps qs : List (Part (List BodyNode))) → SamePart SameMeasures p q →
+    SameMeasures (bodies_of ps) (bodies_of qs) → SameMeasures (bodies_of (p ∷ ps)) (bodies_of (q ∷ qs))
 first_measures (operand a) (operand b) ps qs h k = joined_measures a b (bodies_of ps) (bodies_of qs) h k
 first_measures (label a) (label b) ps qs h k = joined_measures a b (bodies_of ps) (bodies_of qs) h k
 first_measures (branch a) (branch b) ps qs h k = joined_measures a b (bodies_of ps) (bodies_of qs) h k
@@ -159,16 +169,20 @@ parts_measures (p ∷ ps) (q ∷ qs) h = first_measures p q ps qs h.0 (parts_mea
 parts_measures [] (q ∷ qs) h = absurd h
 parts_measures (p ∷ ps) [] h = absurd h
 
-same_inside : (around : Around) (l : Locals) (tree : Node) → SameMeasures (fold (λ clause parts. own_body clause ++ bodies_of parts) (placed around l tree).of) (fold (λ clause parts. own_body clause ++ bodies_of parts) tree)
+same_inside : (around : Around) (l : Locals) (tree : Node) →
+    SameMeasures (fold (λ clause parts. own_body clause ++ bodies_of parts) (placed around l tree).of)
+    (fold (λ clause parts. own_body clause ++ bodies_of parts) tree)
 same_inside = same (λ clause parts. own_body clause ++ bodies_of parts) SameMeasures
-    (λ around l tree ps qs h. joined_measures (own_body (placed around l tree).of) (own_body tree) (bodies_of ps) (bodies_of qs) (same_own_body around l tree) (parts_measures ps qs h))
+    (λ around l tree ps qs h. joined_measures (own_body (placed around l tree).of) (own_body tree) (bodies_of ps) (bodies_of qs)
+    (same_own_body around l tree) (parts_measures ps qs h))
 
 same_bodies : (around : Around) (l : Locals) (of : BodyNode) → SameMeasures (bodies (placed_literal around l of).of) (bodies of)
 unfolding then_give ◌>>=◌
 same_bodies around l (body params gives_ tree scope line) =
     let within = inside around (common (numbers params) around.kept) in
     let own = with_params params (record { nums = 0; refs = 0; of = l.of }) in
-    ap (λ m. m ∷ map measure (fold (λ clause parts. own_body clause ++ bodies_of parts) (placed within own tree).of)) (same_measure around l (body params gives_ tree scope line))
+    ap (λ m. m ∷ map measure (fold (λ clause parts. own_body clause ++ bodies_of parts) (placed within own tree).of))
+    (same_measure around l (body params gives_ tree scope line))
     ∙ ap (λ ms. measure (body params gives_ tree scope line) ∷ ms) (same_inside within own tree)
 
 pub program_measures : (names : List Field) (program : BodyNode) → map measure (bodies (placed_program names program)) ≡ map measure (bodies program)
@@ -182,7 +196,8 @@ complex_of (m ∷ ms) = if nat_lt most_slots m.1 then Some (TooComplex m.0 m.1) 
 complex_by_measure : (bs : List BodyNode) → first_complex bs ≡ complex_of (map measure bs)
 unfolding complex_of
 complex_by_measure [] = refl
-complex_by_measure (b ∷ bs) = ap (λ o. if nat_lt most_slots (slot_count b) then Some (TooComplex (line_of_body b) (slot_count b)) else o) (complex_by_measure bs)
+complex_by_measure (b ∷ bs) = ap (λ o. if nat_lt most_slots (slot_count b) then Some (TooComplex (line_of_body b) (slot_count b)) else o)
+    (complex_by_measure bs)
 
 pub program_complex : (names : List Field) (program : BodyNode) → first_complex (bodies (placed_program names program)) ≡ first_complex (bodies program)
 program_complex names program =

@@ -47,7 +47,8 @@ from_less n m (k ∷ ks) h from = let f = from.0 in (omega arith, from_less n m 
 
 pub common_from : (n : ℕ) (ks kept : List ℕ) → AllFrom n ks → AllFrom n (common ks kept)
 common_from n [] kept h = tt
-common_from n (k ∷ ks) kept h = by_test (AllFrom n) (is_among kept k) (k ∷ common ks kept) (common ks kept) (λ is. (h.0, common_from n ks kept h.1)) (λ isnt. common_from n ks kept h.1)
+common_from n (k ∷ ks) kept h = by_test (AllFrom n) (is_among kept k) (k ∷ common ks kept) (common ks kept) (λ is. (h.0, common_from n ks kept h.1))
+    (λ isnt. common_from n ks kept h.1)
 
 pub if_true : {A : Type 0} (b : Bool) (x y : A) → b ≡ true → (if b then x else y) ≡ x
 if_true true x y h = refl
@@ -73,14 +74,16 @@ position_fresh n k (j ∷ ks) h below = let f = h.0 in position_none j k ks (dif
 
 pub position_done : (k : ℕ) (done due : List ℕ) → AllBelow k done → position (done ++ k ∷ due) k ≡ Some (length done)
 position_done k [] due h = position_here k k due (eq-eqb k k refl)
-position_done k (j ∷ done) due h = let f = h.0 in position_next j k (length done) (done ++ k ∷ due) (differ j k (λ e. absurd (omega arith))) (position_done k done due h.1) ∙ ap Some (omega arith)
+position_done k (j ∷ done) due h = let f = h.0 in position_next j k (length done) (done ++ k ∷ due) (differ j k (λ e. absurd (omega arith)))
+    (position_done k done due h.1) ∙ ap Some (omega arith)
 
 -- a name that isn't kept is in no scope
 pub position_common : (k : ℕ) (ks kept : List ℕ) → is_among kept k ≡ false → position (common ks kept) k ≡ None
 position_common k [] kept h = refl
 position_common k (j ∷ ks) kept h =
     by_test (λ (l : List ℕ). position l k ≡ None) (is_among kept j) (j ∷ common ks kept) (common ks kept)
-    (λ is. position_none j k (common ks kept) (differ j k (λ e. absurd (let same : is_among kept k ≡ true = subst (λ (n : ℕ). is_among kept n ≡ true) e is in cc))) (position_common k ks kept h))
+    (λ is. position_none j k (common ks kept) (differ j k
+    (λ e. absurd (let same : is_among kept k ≡ true = subst (λ (n : ℕ). is_among kept n ≡ true) e is in cc))) (position_common k ks kept h))
     (λ isnt. position_common k ks kept h)
 
 -- A kept name of this type is in the innermost of these scopes that has it: which names each keeps, and what of them is
@@ -97,17 +100,20 @@ Outside (ks ∷ scopes) k = (position ks k ≡ None) × Outside scopes k
 pub found_here : (of : List (ℕ × ℕ)) (k up i : ℕ) (ks : List ℕ) (scopes : List (List ℕ)) → position ks k ≡ Some i → found_at of k up (ks ∷ scopes) ≡ Kept up i
 found_here of k up i ks scopes e = rw (e, found_at) refl
 
-pub found_further : (of : List (ℕ × ℕ)) (k up : ℕ) (ks : List ℕ) (scopes : List (List ℕ)) → position ks k ≡ None → found_at of k up (ks ∷ scopes) ≡ found_at of k (up + 1) scopes
+pub found_further : (of : List (ℕ × ℕ)) (k up : ℕ) (ks : List ℕ) (scopes : List (List ℕ)) → position ks k ≡ None →
+    found_at of k up (ks ∷ scopes) ≡ found_at of k (up + 1) scopes
 found_further of k up ks scopes e = rw (e, found_at) refl
 
 -- a field of this type, so many scopes further out
 abbrev pub IsKept : TyView → List (List Field) → ℕ → ℕ → Type 0
 IsKept ty fields up i = At (λ (scope : List Field). At (IsOfType ty) scope i) fields up
 
-pub kept_found : (of : List (ℕ × ℕ)) (k u : ℕ) (ty : TyView) (scopes : List (List ℕ)) (fields : List (List Field)) → KeptIn scopes fields k ty → (up i : ℕ) × (found_at of k u scopes ≡ Kept (u + up) i) × IsKept ty fields up i
+pub kept_found : (of : List (ℕ × ℕ)) (k u : ℕ) (ty : TyView) (scopes : List (List ℕ)) (fields : List (List Field)) → KeptIn scopes fields k ty →
+    (up i : ℕ) × (found_at of k u scopes ≡ Kept (u + up) i) × IsKept ty fields up i
 kept_found of k u ty [] fields h = absurd h
 kept_found of k u ty (ks ∷ scopes) [] h = absurd h
-kept_found of k u ty (ks ∷ scopes) (fs ∷ fields) (inl (i, e, at)) = (0, i, found_here of k u i ks scopes e ∙ ap (λ (n : ℕ). Kept n i) (omega arith), inl (refl, at))
+kept_found of k u ty (ks ∷ scopes) (fs ∷ fields) (inl (i, e, at)) =
+    (0, i, found_here of k u i ks scopes e ∙ ap (λ (n : ℕ). Kept n i) (omega arith), inl (refl, at))
 kept_found of k u ty (ks ∷ scopes) (fs ∷ fields) (inr (none, h)) =
     let r = kept_found of k (u + 1) ty scopes fields h in
     let e : u + 1 + r.0 ≡ u + (r.0 + 1) = omega arith in
@@ -134,7 +140,8 @@ pub opened_with_some : (done due : List ℕ) (k : ℕ) (fs : List Field) (fields
 opened_with_some [] due k fs fields = refl
 opened_with_some (j ∷ done) due k fs fields = refl
 
-pub kept_opened : (ks : List ℕ) (scopes : List (List ℕ)) (fields : List (List Field)) (k : ℕ) (ty : TyView) → position ks k ≡ None → KeptIn scopes fields k ty → KeptIn (opened ks scopes) (opened_with ks [] fields) k ty
+pub kept_opened : (ks : List ℕ) (scopes : List (List ℕ)) (fields : List (List Field)) (k : ℕ) (ty : TyView) → position ks k ≡ None →
+    KeptIn scopes fields k ty → KeptIn (opened ks scopes) (opened_with ks [] fields) k ty
 kept_opened [] scopes fields k ty none h = h
 kept_opened (j ∷ ks) scopes fields k ty none h = inr (none, h)
 
@@ -152,29 +159,34 @@ at_last P [] x h = inl (refl, h)
 at_last P (y ∷ xs) x h = inr (length xs, omega arith, at_last P xs x h)
 
 -- with a name more that is declared
-pub kept_more : (ks : List ℕ) (fs more : List Field) (scopes : List (List ℕ)) (fields : List (List Field)) (k : ℕ) (ty : TyView) → KeptIn (ks ∷ scopes) (fs ∷ fields) k ty → KeptIn (ks ∷ scopes) ((fs ++ more) ∷ fields) k ty
+pub kept_more : (ks : List ℕ) (fs more : List Field) (scopes : List (List ℕ)) (fields : List (List Field)) (k : ℕ) (ty : TyView) →
+    KeptIn (ks ∷ scopes) (fs ∷ fields) k ty → KeptIn (ks ∷ scopes) ((fs ++ more) ∷ fields) k ty
 kept_more ks fs more scopes fields k ty (inl (i, e, at)) = inl (i, e, at_more (IsOfType ty) fs more i at)
 kept_more ks fs more scopes fields k ty (inr h) = inr h
 
-pub opens : (names : List Field) (ks : List ℕ) (around : List (List Field)) → Opens (scope_text names ks) around (opened_with ks [] around) (opened_with ks (map (field_at names) ks) around)
+pub opens : (names : List Field) (ks : List ℕ) (around : List (List Field)) →
+    Opens (scope_text names ks) around (opened_with ks [] around) (opened_with ks (map (field_at names) ks) around)
 opens names [] around = unscoped
 opens names (k ∷ ks) around = scoped
 
 -- a local more
 pub local_here : (k : ℕ) (ty : TyView) (l : Locals) → local_of (with_name k ty l).of k ≡ next_slot ty (free_of l)
 local_here k ty l =
-    by_test (λ (m : Locals). local_of m.of k ≡ (if is_number ty then l.nums else l.refs)) (is_number ty) (record l { nums = l.nums + 1; of = (k, l.nums) ∷ l.of }) (record l { refs = l.refs + 1; of = (k, l.refs) ∷ l.of })
+    by_test (λ (m : Locals). local_of m.of k ≡ (if is_number ty then l.nums else l.refs)) (is_number ty)
+    (record l { nums = l.nums + 1; of = (k, l.nums) ∷ l.of }) (record l { refs = l.refs + 1; of = (k, l.refs) ∷ l.of })
     (λ is. if_true (nat_eq k k) l.nums _ (eq-eqb k k refl) ∙ sym (if_true (is_number ty) l.nums l.refs is))
     (λ isnt. if_true (nat_eq k k) l.refs _ (eq-eqb k k refl) ∙ sym (if_false (is_number ty) l.nums l.refs isnt))
 
 pub local_other : (k j : ℕ) (ty : TyView) (l : Locals) → (k ≡ j → ⊥) → local_of (with_name k ty l).of j ≡ local_of l.of j
 local_other k j ty l h =
-    by_test (λ (m : Locals). local_of m.of j ≡ local_of l.of j) (is_number ty) (record l { nums = l.nums + 1; of = (k, l.nums) ∷ l.of }) (record l { refs = l.refs + 1; of = (k, l.refs) ∷ l.of })
+    by_test (λ (m : Locals). local_of m.of j ≡ local_of l.of j) (is_number ty) (record l { nums = l.nums + 1; of = (k, l.nums) ∷ l.of })
+    (record l { refs = l.refs + 1; of = (k, l.refs) ∷ l.of })
     (λ is. if_false (nat_eq k j) l.nums _ (differ k j h))
     (λ isnt. if_false (nat_eq k j) l.refs _ (differ k j h))
 
 pub free_more : (k : ℕ) (ty : TyView) (l : Locals) → free_of (with_name k ty l) ≡ behind_one ty (free_of l)
 free_more k ty l =
-    by_test (λ (m : Locals). free_of m ≡ behind_one ty (free_of l)) (is_number ty) (record l { nums = l.nums + 1; of = (k, l.nums) ∷ l.of }) (record l { refs = l.refs + 1; of = (k, l.refs) ∷ l.of })
+    by_test (λ (m : Locals). free_of m ≡ behind_one ty (free_of l)) (is_number ty) (record l { nums = l.nums + 1; of = (k, l.nums) ∷ l.of })
+    (record l { refs = l.refs + 1; of = (k, l.refs) ∷ l.of })
     (λ is. sym (if_true (is_number ty) (record (free_of l) { nums = l.nums + 1 }) (record (free_of l) { refs = l.refs + 1 }) is))
     (λ isnt. sym (if_false (is_number ty) (record (free_of l) { nums = l.nums + 1 }) (record (free_of l) { refs = l.refs + 1 }) isnt))

@@ -56,14 +56,16 @@ sum_is f (literal c ∷ rest) = sum_is f rest
 abbrev bodies_in : Node → List BodyNode
 bodies_in = fold (λ clause parts. own_body clause ++ bodies_of parts)
 
-slots_each : (P : Slot → Type 0) (parts : List (Part Node)) → Each (λ (n : Node). Each P (slots_in n)) (evaluated parts) → Each P (slots_of_parts (map (part_as slots_in) parts))
+slots_each : (P : Slot → Type 0) (parts : List (Part Node)) → Each (λ (n : Node). Each P (slots_in n)) (evaluated parts) →
+    Each P (slots_of_parts (map (part_as slots_in) parts))
 slots_each P [] h = tt
 slots_each P (operand c ∷ rest) h = each_append P (slots_in c) _ h.0 (slots_each P rest h.1)
 slots_each P (label c ∷ rest) h = each_append P (slots_in c) _ h.0 (slots_each P rest h.1)
 slots_each P (branch c ∷ rest) h = each_append P (slots_in c) _ h.0 (slots_each P rest h.1)
 slots_each P (literal c ∷ rest) h = slots_each P rest h
 
-bodies_each : (P : BodyNode → Type 0) (parts : List (Part Node)) → Each (λ (n : Node). Each P (bodies_in n)) (evaluated parts) → Each (λ (n : Node). Each P (bodies_in n)) (literals parts) → Each P (bodies_of (map (part_as bodies_in) parts))
+bodies_each : (P : BodyNode → Type 0) (parts : List (Part Node)) → Each (λ (n : Node). Each P (bodies_in n)) (evaluated parts) →
+    Each (λ (n : Node). Each P (bodies_in n)) (literals parts) → Each P (bodies_of (map (part_as bodies_in) parts))
 bodies_each P [] h k = tt
 bodies_each P (operand c ∷ rest) h k = each_append P (bodies_in c) _ h.0 (bodies_each P rest h.1 k)
 bodies_each P (label c ∷ rest) h k = each_append P (bodies_in c) _ h.0 (bodies_each P rest h.1 k)
@@ -123,12 +125,14 @@ record Own (free : Free) (tree : Node) (free' : Free) : Type 0 where
   pub inside_bodies : Each (λ (n : Node). Each IsCounted (bodies_in n)) (literals (parts_of tree))
 
 taken_is : (stack : Bool) (tree : Node) → taken_in stack tree ≡ own_taken stack tree + total (taken_in stack) (evaluated (parts_of tree))
-taken_is stack tree = fold_parts (λ clause parts. own_taken stack clause + sum_of parts) tree ∙ ap (λ n. own_taken stack tree + n) (sum_is (taken_in stack) (parts_of tree))
+taken_is stack tree = fold_parts (λ clause parts. own_taken stack clause + sum_of parts) tree ∙ ap (λ n. own_taken stack tree + n)
+    (sum_is (taken_in stack) (parts_of tree))
 
 locals_are : (tree : Node) → locals tree ≡ own_locals tree + total locals (evaluated (parts_of tree))
 locals_are tree = fold_parts (λ clause parts. own_locals clause + sum_of parts) tree ∙ ap (λ n. own_locals tree + n) (sum_is locals (parts_of tree))
 
-whole : (free between free' : Free) (tree : Node) (trees : List Node) → evaluated (parts_of tree) ≡ trees → Own free tree between → TrackedAll between trees free' → Tracked free tree free'
+whole : (free between free' : Free) (tree : Node) (trees : List Node) → evaluated (parts_of tree) ≡ trees → Own free tree between →
+    TrackedAll between trees free' → Tracked free tree free'
 whole free between free' tree trees are own h =
     let nums = taken_is true tree ∙ ap (λ (ts : List Node). own_taken true tree + total (taken_in true) ts) are in
     let refs = taken_is false tree ∙ ap (λ (ts : List Node). own_taken false tree + total (taken_in false) ts) are in
@@ -149,7 +153,8 @@ whole free between free' tree trees are own h =
 none_tracked : (free : Free) → TrackedAll free [] free
 none_tracked free = record { nums = omega arith; refs = omega arith; few = omega arith; slots = tt; bodies = tt }
 
-then_all : (free between free' : Free) (tree : Node) (trees : List Node) → Tracked free tree between → TrackedAll between trees free' → TrackedAll free (tree ∷ trees) free'
+then_all : (free between free' : Free) (tree : Node) (trees : List Node) → Tracked free tree between → TrackedAll between trees free' →
+    TrackedAll free (tree ∷ trees) free'
 then_all free between free' tree trees h k = record {
   nums = let a = h.nums in let b = k.nums in omega arith;
   refs = let a = h.refs in let b = k.refs in omega arith;
@@ -162,7 +167,8 @@ total_append : (f : Node → ℕ) (xs ys : List Node) → total f (xs ++ ys) ≡
 total_append f [] ys = omega arith
 total_append f (x ∷ xs) ys = let h = total_append f xs ys in omega arith
 
-all_then : (free between free' : Free) (trees : List Node) (tree : Node) → TrackedAll free trees between → Tracked between tree free' → TrackedAll free (trees ++ tree ∷ []) free'
+all_then : (free between free' : Free) (trees : List Node) (tree : Node) → TrackedAll free trees between → Tracked between tree free' →
+    TrackedAll free (trees ++ tree ∷ []) free'
 all_then free between free' trees tree h k = record {
   nums = let a = total_append (taken_in true) trees (tree ∷ []) in let b = h.nums in let c = k.nums in omega arith;
   refs = let a = total_append (taken_in false) trees (tree ∷ []) in let b = h.refs in let c = k.refs in omega arith;
@@ -172,7 +178,8 @@ all_then free between free' trees tree h k = record {
       let c = total_append locals trees (tree ∷ []) in
       let d = h.few in let e = k.few in omega arith;
   slots = each_append (λ (n : Node). Each (Below free') (slots_in n)) trees (tree ∷ [])
-      (each_map (λ (n : Node). Each (Below between) (slots_in n)) (λ (n : Node). Each (Below free') (slots_in n)) trees (λ n b. below_grows between free' (slots_in n) (tree_grows k) b) h.slots) (k.slots, tt);
+      (each_map (λ (n : Node). Each (Below between) (slots_in n)) (λ (n : Node). Each (Below free') (slots_in n)) trees
+      (λ n b. below_grows between free' (slots_in n) (tree_grows k) b) h.slots) (k.slots, tt);
   bodies = each_append (λ (n : Node). Each IsCounted (bodies_in n)) trees (tree ∷ []) h.bodies (k.bodies, tt);
 }
 
@@ -193,7 +200,8 @@ arguments_are : {ns : Nodes} {tys : _} {claims : List Claim} → Arguments ns ty
 arguments_are typed.no_more = refl
 arguments_are (typed.one_more {n = n} args) = ap (λ (l : List Node). n ∷ l) (arguments_are args)
 
-labels_are : (t : TyView) (ns : Nodes) (rest : List (Part Node)) (claims : List Claim) → evaluated rest ≡ clauses_of claims → evaluated (parts_all label ns ++ rest) ≡ clauses_of (all_have t ns ++ claims)
+labels_are : (t : TyView) (ns : Nodes) (rest : List (Part Node)) (claims : List Claim) → evaluated rest ≡ clauses_of claims →
+    evaluated (parts_all label ns ++ rest) ≡ clauses_of (all_have t ns ++ claims)
 labels_are t none rest claims h = h
 labels_are t (more n ns) rest claims h = ap (λ (l : List Node). n ∷ l) (labels_are t ns rest claims h)
 
@@ -205,24 +213,29 @@ arms_are : (value t : TyView) (arms : Arms) (d : Node) → evaluated (parts_arms
 arms_are value t no_arms d = refl
 arms_are value t (more_arms (arm labels a) rest) d =
     ap evaluated (append_assoc (parts_all label labels) (branch a ∷ parts_arms rest) (branch d ∷ []))
-    ∙ labels_are value labels (branch a ∷ (parts_arms rest ++ branch d ∷ [])) (a has t ∷ (arms_have value t rest ++ d has t ∷ [])) (ap (λ (l : List Node). a ∷ l) (arms_are value t rest d))
+    ∙ labels_are value labels (branch a ∷ (parts_arms rest ++ branch d ∷ [])) (a has t ∷ (arms_have value t rest ++ d has t ∷ []))
+    (ap (λ (l : List Node). a ∷ l) (arms_are value t rest d))
     ∙ ap clauses_of (sym (append_assoc (all_have value labels) (a has t ∷ arms_have value t rest) (d has t ∷ [])))
 
 no_arm_literals : (arms : Arms) (d : Node) → literals (parts_arms arms ++ branch d ∷ []) ≡ []
 no_arm_literals no_arms d = refl
 no_arm_literals (more_arms (arm labels a) rest) d =
-    ap literals (append_assoc (parts_all label labels) (branch a ∷ parts_arms rest) (branch d ∷ [])) ∙ no_labels labels (branch a ∷ (parts_arms rest ++ branch d ∷ [])) (no_arm_literals rest d)
+    ap literals (append_assoc (parts_all label labels) (branch a ∷ parts_arms rest) (branch d ∷ [])) ∙ no_labels labels
+    (branch a ∷ (parts_arms rest ++ branch d ∷ [])) (no_arm_literals rest d)
 
-parts_named : {tree : Node} {claims : List Claim} {t : TyView} → Rule tree claims t → (evaluated (parts_of tree) ≡ clauses_of claims) × (literals (parts_of tree) ≡ [])
+parts_named : {tree : Node} {claims : List Claim} {t : TyView} → Rule tree claims t →
+    (evaluated (parts_of tree) ≡ clauses_of claims) × (literals (parts_of tree) ≡ [])
 parts_named (typed.make {args = ns} class args) = (arguments_are args, no_literals ns)
 parts_named (typed.call {f = f} {args = ns} args) = (ap (λ (l : List Node). f ∷ l) (arguments_are args), no_literals ns)
 parts_named (typed.lib {args = ns} known args) = (arguments_are args, no_literals ns)
 parts_named (typed.elems {l = l} {items = items} {t = t}) = (ap (λ (ns : List Node). l ∷ ns) (operands_are t items), no_literals items)
-parts_named (typed.case {e = e} {d = d} {arms = arms} {value = value} {t = t} is) = (ap (λ (ns : List Node). e ∷ ns) (arms_are value t arms d), no_arm_literals arms d)
+parts_named (typed.case {e = e} {d = d} {arms = arms} {value = value} {t = t} is) =
+    (ap (λ (ns : List Node). e ∷ ns) (arms_are value t arms d), no_arm_literals arms d)
 parts_named other = (refl, refl)
 
 -- no clause with a rule takes a local, names a slot or is a literal
-nothing_own : {tree : Node} {claims : List Claim} {t : TyView} → Rule tree claims t → (own_taken true tree ≡ 0) × (own_taken false tree ≡ 0) × (own_slots tree ≡ []) × (own_body tree ≡ [])
+nothing_own : {tree : Node} {claims : List Claim} {t : TyView} → Rule tree claims t →
+    (own_taken true tree ≡ 0) × (own_taken false tree ≡ 0) × (own_slots tree ≡ []) × (own_body tree ≡ [])
 nothing_own typed.int = (refl, refl, refl, refl)
 nothing_own other = (refl, refl, refl, refl)
 
@@ -254,7 +267,8 @@ one_grows : (ty : TyView) (free : Free) → Grows free (behind_one ty free)
 one_grows ty free = let h = one_by ty free in record { nums = omega arith; refs = omega arith }
 
 locals_more : (env : Env) (ty : TyView) (free : Free) → LocalsBelow env free → LocalsBelow (with_local (next_slot ty free) ty env) (behind_one ty free)
-locals_more env ty free h slot t (inl (s, e)) = subst (λ (n : ℕ). n < limit (is_number t) (behind_one ty free)) s (subst (λ (u : TyView). next_slot ty free < limit (is_number u) (behind_one ty free)) e (one_by ty free).here)
+locals_more env ty free h slot t (inl (s, e)) = subst (λ (n : ℕ). n < limit (is_number t) (behind_one ty free)) s
+    (subst (λ (u : TyView). next_slot ty free < limit (is_number u) (behind_one ty free)) e (one_by ty free).here)
 locals_more env ty free h slot t (inr is) = locals_grow env free (behind_one ty free) (one_grows ty free) h slot t is
 
 -- a name that is declared
@@ -265,7 +279,8 @@ record Declared (place : Place) (ty : TyView) (free : Free) (with_name : Env) (b
   pub slots : Each (Below behind) (slot_of ty place)
   pub below : LocalsBelow with_name behind
 
-declared : {env with_name : Env} {free behind : Free} {place : Place} {ty : TyView} → Declares env free place ty with_name behind → LocalsBelow env free → Declared place ty free with_name behind
+declared : {env with_name : Env} {free behind : Free} {place : Place} {ty : TyView} → Declares env free place ty with_name behind →
+    LocalsBelow env free → Declared place ty free with_name behind
 declared (typed.as_local {env = env} {free = free} {slot = slot} {ty = ty} e) below =
     let h = one_by ty free in
     record {
@@ -285,7 +300,8 @@ record Params (params : List Param) (free : Free) (last : Env) (free' : Free) : 
   pub slots : Each (Below free') (slots_of_params params)
   pub below : LocalsBelow last free'
 
-params_tracked : {env last : Env} {free free' : Free} {params : List Param} → Takes env free params last free' → LocalsBelow env free → Params params free last free'
+params_tracked : {env last : Env} {free free' : Free} {params : List Param} → Takes env free params last free' → LocalsBelow env free →
+    Params params free last free'
 params_tracked typed.no_more below = record { nums = omega arith; refs = omega arith; many = refl; slots = tt; below = below }
 params_tracked (typed.as_local {env = env} {free = free} {free' = free'} {slot = slot} {ty = ty} {rest = rest} e takes) below =
     let one = one_by ty free in
@@ -298,7 +314,8 @@ params_tracked (typed.as_kept {env = env} {free = free} {ty = ty} name scopes po
     let h = params_tracked takes (locals_grow env free (behind_one ty free) (one_grows ty free) below) in
     record { nums = omega arith; refs = omega arith; many = omega arith; slots = h.slots; below = h.below }
 
-own_nothing : (free : Free) (tree : Node) → (own_taken true tree ≡ 0) × (own_taken false tree ≡ 0) × (own_slots tree ≡ []) × (own_body tree ≡ []) → literals (parts_of tree) ≡ [] → Own free tree free
+own_nothing : (free : Free) (tree : Node) → (own_taken true tree ≡ 0) × (own_taken false tree ≡ 0) × (own_slots tree ≡ []) × (own_body tree ≡ []) →
+    literals (parts_of tree) ≡ [] → Own free tree free
 own_nothing free tree (nums, refs, slots, bodies) literals_are = record {
   nums = omega arith;
   refs = omega arith;
@@ -324,9 +341,11 @@ no_item_literals : (items : Nodes) → literals (parts_all branch items) ≡ []
 no_item_literals none = refl
 no_item_literals (more first rest) = no_item_literals rest
 
-let_tracked : (env with_name : Env) (free behind between : Free) (place : Place) (of : TyView) (e : Node) → Declared place of free with_name behind → Tracked behind e between → Tracked free (node.Let place of e) between
+let_tracked : (env with_name : Env) (free behind between : Free) (place : Place) (of : TyView) (e : Node) → Declared place of free with_name behind →
+    Tracked behind e between → Tracked free (node.Let place of e) between
 let_tracked env with_name free behind between place of e d h =
-    whole free behind between (node.Let place of e) (e ∷ []) refl (record { nums = d.nums; refs = d.refs; few = d.few; slots = d.slots; bodies = tt; inside_bodies = tt })
+    whole free behind between (node.Let place of e) (e ∷ []) refl
+    (record { nums = d.nums; refs = d.refs; few = d.few; slots = d.slots; bodies = tt; inside_bodies = tt })
     (then_all behind between between e [] h (none_tracked between))
 
 abbrev tree_of : BodyNode → Node
@@ -336,7 +355,8 @@ record BodyTracked (of : BodyNode) : Type 0 where
   pub counted : IsCounted of
   pub inside_it : Each IsCounted (bodies_in (tree_of of))
 
-limit_is : (free free' : Free) (params : List Param) (tree : Node) (gives : TyView) (scope : Option (List ℕ)) (line : Line) → free.nums ≡ 0 + taken_by_params true params → free.refs ≡ 0 + taken_by_params false params → Tracked free tree free' →
+limit_is : (free free' : Free) (params : List Param) (tree : Node) (gives : TyView) (scope : Option (List ℕ)) (line : Line) →
+    free.nums ≡ 0 + taken_by_params true params → free.refs ≡ 0 + taken_by_params false params → Tracked free tree free' →
     (stack : Bool) → limit stack free' ≡ locals_on stack (body params gives tree scope line)
 limit_is free free' params tree gives scope line nums refs h true = let a = h.nums in omega arith
 limit_is free free' params tree gives scope line nums refs h false = let a = h.refs in omega arith
@@ -347,14 +367,25 @@ mutual
       let parts = parts_named r in
       whole free free free' clause (clauses_of claims) parts.0 (own_nothing free clause (nothing_own r) parts.1) (track_all are below)
   track (typed.name {env = env} {free = free} {place = place} {ty = ty} is) below =
-      whole free free free (node.Name place ty) [] refl (record { nums = omega arith; refs = omega arith; few = omega arith; slots = slot_below env free place ty is below; bodies = tt; inside_bodies = tt }) (none_tracked free)
+      whole free free free (node.Name place ty) [] refl (record {
+        nums = omega arith;
+        refs = omega arith;
+        few = omega arith;
+        slots = slot_below env free place ty is below;
+        bodies = tt;
+        inside_bodies = tt;
+      }) (none_tracked free)
   track (typed.set_name {env = env} {free = free} {free' = free'} {place = place} {ty = ty} {e = e} is t) below =
-      whole free free free' (node.SetName place ty e) (e ∷ []) refl (record { nums = omega arith; refs = omega arith; few = omega arith; slots = slot_below env free place ty is below; bodies = tt; inside_bodies = tt })
+      whole free free free' (node.SetName place ty e) (e ∷ []) refl
+      (record { nums = omega arith; refs = omega arith; few = omega arith; slots = slot_below env free place ty is below; bodies = tt; inside_bodies = tt })
       (then_all free free' free' e [] (track t below) (none_tracked free'))
   track (typed.block {free = free} {free' = free'} {scope = scope} {items = items} opens are is) below =
-      whole free free free' (node.Block scope items) (item_nodes items) (items_are items) (own_nothing free (node.Block scope items) (refl, refl, refl, refl) (no_item_literals items)) (track_items are below)
-  track (typed.loop {env = env} {own = own} {free = free} {behind = behind} {between = between} {free' = free'} {slot = slot} {a = a} {b = b} {c = c} {s = s} {scope = scope} {control = control} {line = line} slot_is opens declares is are t) below =
-      let d = declared declares (λ n ty found. let l = below n ty found in let g = limit_grows (is_number ty) free (record free { nums = free.nums + 3 }) (record { nums = omega arith; refs = omega arith }) in omega arith) in
+      whole free free free' (node.Block scope items) (item_nodes items) (items_are items)
+      (own_nothing free (node.Block scope items) (refl, refl, refl, refl) (no_item_literals items)) (track_items are below)
+  track (typed.loop {env = env} {own = own} {free = free} {behind = behind} {between = between} {free' = free'} {slot = slot} {a = a} {b = b} {c = c}
+      {s = s} {scope = scope} {control = control} {line = line} slot_is opens declares is are t) below =
+      let d = declared declares (λ n ty found. let l = below n ty found in let g = limit_grows (is_number ty) free
+      (record free { nums = free.nums + 3 }) (record { nums = omega arith; refs = omega arith }) in omega arith) in
       let grows : Grows free behind = record { nums = let x = d.nums in omega arith; refs = let x = d.refs in omega arith } in
       let three = track_all are (locals_grow env free behind grows below) in
       let last = track t (locals_grow own behind between (all_grows three) d.below) in
@@ -383,39 +414,58 @@ mutual
       (track_all are (locals_grow env free behind grows below))
   track (typed.literal {free = free} {params = params} {gives = gives} {tree = tree} {scope = scope} {line = line} is_body) below =
       let b = track_body is_body in
-      whole free free free (node.Proc (body params gives tree scope line)) [] refl (record { nums = omega arith; refs = omega arith; few = omega arith; slots = tt; bodies = (b.counted, tt); inside_bodies = (b.inside_it, tt) }) (none_tracked free)
+      whole free free free (node.Proc (body params gives tree scope line)) [] refl
+      (record {
+        nums = omega arith;
+        refs = omega arith;
+        few = omega arith;
+        slots = tt;
+        bodies = (b.counted, tt);
+        inside_bodies =
+            (b.inside_it, tt);
+      }) (none_tracked free)
 
-  track_all : {env : Env} {free free' : Free} {claims : List Claim} → AreTyped env free claims free' → LocalsBelow env free → TrackedAll free (clauses_of claims) free'
+  track_all : {env : Env} {free free' : Free} {claims : List Claim} → AreTyped env free claims free' → LocalsBelow env free →
+      TrackedAll free (clauses_of claims) free'
   track_all (typed.no_more {free = free}) below = none_tracked free
   track_all (typed.one_more {env = env} {free = free} {between = between} {free' = free'} {clause = clause} {rest = rest} first others) below =
       let h = track first below in
       then_all free between free' clause (clauses_of rest) h (track_all others (locals_grow env free between (tree_grows h) below))
 
-  track_items : {env last : Env} {free free' : Free} {before ty : TyView} {items : Nodes} → AreItems env free before items ty last free' → LocalsBelow env free → TrackedAll free (item_nodes items) free'
+  track_items : {env last : Env} {free free' : Free} {before ty : TyView} {items : Nodes} → AreItems env free before items ty last free' →
+      LocalsBelow env free → TrackedAll free (item_nodes items) free'
   track_items (typed.at_end {free = free}) below = none_tracked free
   track_items (typed.a_clause {env = env} {free = free} {between = between} {free' = free'} {item = item} {rest = rest} first others) below =
       let h = track first below in
       then_all free between free' item (item_nodes rest) h (track_items others (locals_grow env free between (tree_grows h) below))
-  track_items (typed.a_value {env = env} {with_name = with_name} {free = free} {behind = behind} {between = between} {free' = free'} {place = place} {e = e} {rest = rest} {of = of} isnt declares t others) below =
+  track_items (typed.a_value {env = env} {with_name = with_name} {free = free} {behind = behind} {between = between} {free' = free'} {place = place}
+      {e = e} {rest = rest} {of = of} isnt declares t others) below =
       let d = declared declares below in
       let grows : Grows free behind = record { nums = let x = d.nums in omega arith; refs = let x = d.refs in omega arith } in
       let h = track t (locals_grow env free behind grows below) in
-      then_all free between free' (node.Let place of e) (item_nodes rest) (let_tracked env with_name free behind between place of e d h) (track_items others (locals_grow with_name behind between (tree_grows h) d.below))
-  track_items (typed.a_literal {env = env} {with_name = with_name} {free = free} {behind = behind} {between = between} {free' = free'} {place = place} {procedure = procedure} {rest = rest} {of = of} declares t others) below =
+      then_all free between free' (node.Let place of e) (item_nodes rest) (let_tracked env with_name free behind between place of e d h)
+      (track_items others (locals_grow with_name behind between (tree_grows h) d.below))
+  track_items (typed.a_literal {env = env} {with_name = with_name} {free = free} {behind = behind} {between = between} {free' = free'} {place = place}
+      {procedure = procedure} {rest = rest} {of = of} declares t others) below =
       let d = declared declares below in
       let h = track t d.below in
-      then_all free between free' (node.Let place of (node.Proc procedure)) (item_nodes rest) (let_tracked env with_name free behind between place of (node.Proc procedure) d h) (track_items others (locals_grow with_name behind between (tree_grows h) d.below))
+      then_all free between free' (node.Let place of (node.Proc procedure)) (item_nodes rest)
+      (let_tracked env with_name free behind between place of (node.Proc procedure) d h)
+      (track_items others (locals_grow with_name behind between (tree_grows h) d.below))
 
   track_body : {around : List _} {of : BodyNode} → IsBody around of → BodyTracked of
-  track_body (typed.of_params {params = params} {gives = gives} {tree = tree} {scope = scope} {line = line} {env = env} {free = free} {free' = free'} opens takes is t) =
+  track_body (typed.of_params {params = params} {gives = gives} {tree = tree} {scope = scope} {line = line} {env = env} {free = free}
+      {free' = free'} opens takes is t) =
       let p = params_tracked takes (λ slot ty found. absurd found) in
       let h = track t p.below in
       let of : BodyNode = body params gives tree scope line in
       let is_limit = limit_is free free' params tree gives scope line p.nums p.refs h in
       record {
         counted = record {
-          slots = each_map (Below free') (λ (s : Slot). s.slot < locals_on s.is_number of) (slots_of_body of) (λ s b. let l = is_limit s.is_number in omega arith)
-              (each_append (Below free') (slots_of_params params) (slots_in tree) (below_grows free free' (slots_of_params params) (tree_grows h) p.slots) h.slots);
+          slots = each_map (Below free') (λ (s : Slot). s.slot < locals_on s.is_number of) (slots_of_body of)
+              (λ s b. let l = is_limit s.is_number in omega arith)
+              (each_append (Below free') (slots_of_params params) (slots_in tree)
+              (below_grows free free' (slots_of_params params) (tree_grows h) p.slots) h.slots);
           room = let a = p.many in let b = h.few in omega arith;
         };
         inside_it = h.bodies;
