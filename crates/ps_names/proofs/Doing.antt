@@ -1,5 +1,5 @@
 -- What is done in steps.
-use Rattle.std.proofs.Common.{◌≡◌, ◌<◌, ℕ, ◌+◌, List, [], ◌∷◌, ◌++◌, length, get_or, take, drop, get_or-drop, set, Result, Ok, Err, OnOk, map, refl, sym, ap, subst, ◌∙◌, arith}
+use Rattle.std.proofs.Common.{◌≡◌, ◌<◌, ℕ, ◌+◌, List, [], ◌∷◌, ◌++◌, length, get_or, take, drop, get_or-drop, set, Result, Ok, Err, OnOk, refl, sym, ap, subst, ◌∙◌, arith}
 use Rattle.std.specs.declared.alloc.AllocError.{AllocError}
 use Rattle.std.proofs.lemmas.List.{take_more, take_more_set, map-append, drop-set-lt, drop-drop, get_or_read}
 use Rattle.ps_base.specs.TyView.{ty_view}
@@ -18,7 +18,7 @@ use Rattle.ps_program.specs.inside.PartsView.{arms_in}
 use Rattle.ps_typing.specs.Mentions.{number_of}
 use Rattle.ps_program.specs.declared.place.Place.{Place}
 use Rattle.ps_typing.specs.Placing.{Around, Locals, with_name, place_of}
-use Rattle.ps_typing.specs.Placed.{Given, gives, ◌>>=◌, then_give, placed, placed_all, placed_arms, with_params}
+use Rattle.ps_typing.specs.Placed.{Given, ◌>>=◌, then_give, placed, placed_all, placed_arms, with_params}
 use Rattle.ps_names.specs.declared.placer.Placer.{Placer}
 use Rattle.ps_names.specs.inside.Standing.{Stands, Does}
 use Rattle.ps_names.specs.inside.Clauses.{placed_arm, placed_params}

@@ -1,18 +1,13 @@
 -- Going into a scope and out of it.
-use Rattle.std.proofs.Common.{◌≡◌, ℕ, ◌+◌, suc, nat_eq, Bool, true, false, if◌then◌else◌, Option, Some, None, List, [], ◌∷◌, length, refl, sym, ap, ◌∙◌, arith}
-use Rattle.std.proofs.lemmas.Bool.Decides.{nat_tests}
+use Rattle.std.proofs.Common.{◌≡◌, ℕ, ◌+◌, List, [], ◌∷◌, length, refl, sym, ap, ◌∙◌, arith}
 use Rattle.ps_type_text.specs.Members.{fields_of}
-use Rattle.ps_program.specs.declared.place.Place.{Place}
-use Rattle.ps_program.specs.declared.place.Place.TheVariants.{Kept}
-use Rattle.ps_typing.specs.Mentions.{is_among, common, number_of}
-use Rattle.ps_typing.specs.Placing.{Around, Locals, inside, position, found_at, place_of, local_of}
+use Rattle.ps_typing.specs.Mentions.{is_among, common}
+use Rattle.ps_typing.specs.Placing.{Around, Locals, inside}
 use Rattle.ps_names.specs.declared.placer.Placer.{Placer}
-use Rattle.ps_names.specs.declared.placer.Spot.{Spot}
 use Rattle.ps_names.specs.declared.placer.Outer.{Outer}
-use Rattle.ps_names.specs.declared.placer.Hidden.{Hidden}
 use Rattle.ps_names.specs.inside.Tables.{value_at}
 use Rattle.ps_names.specs.inside.Marks.{marks_of, is_kept}
-use Rattle.ps_names.specs.inside.Standing.{Stands, Enters, Leaves, spot_in, spot_among, undone, found_from, chosen}
+use Rattle.ps_names.specs.inside.Standing.{Stands, Enters, Leaves, undone, found_from, chosen}
 use Rattle.ps_names.proofs.Choosing.{chosen_common}
 
 -- inside the scope that keeps these names

@@ -1,5 +1,5 @@
 -- A clause whose parts have their places.
-use Rattle.std.proofs.Common.{◌≡◌, ◌≤◌, ℕ, ◌+◌, Bool, refl, sym, ap, subst, ◌∙◌, arith, OnOk}
+use Rattle.std.proofs.Common.{◌≡◌, ◌≤◌, ℕ, ◌+◌, Bool, sym, ap, subst, ◌∙◌, arith, OnOk}
 use Rattle.ps_base.specs.TyView.{TyView, ty_view}
 use Rattle.ps_base.specs.declared.ty.Ty.{Ty}
 use Rattle.ps_base.specs.declared.line.Line.{Line}
@@ -18,7 +18,7 @@ use Rattle.ps_program.specs.inside.Weights.{weight}
 use Rattle.ps_program.proofs.PartLemmas.{weight_is}
 use Rattle.ps_typing.specs.Mentions.{number_of}
 use Rattle.ps_typing.specs.Placing.{Around, Locals, with_declared, place_of}
-use Rattle.ps_typing.specs.Placed.{Given, gives, ◌>>=◌, then_give, placed, placed_all, placed_literal}
+use Rattle.ps_typing.specs.Placed.{Given, ◌>>=◌, then_give, placed, placed_all, placed_literal}
 use Rattle.ps_names.specs.declared.placer.Placer.{Placer}
 use Rattle.ps_names.specs.inside.Standing.{Stands, Does}
 use Rattle.ps_names.specs.inside.Clauses.{Pair, Triple, WithAll, Case, Block, pair, placed_pair, placed_triple, placed_with_all, placed_case, placed_block}

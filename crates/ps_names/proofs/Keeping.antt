@@ -1,10 +1,9 @@
 -- A name is kept where the survey finds it mentioned deeper than it is declared.
-use Rattle.std.proofs.Common.{◌≡◌, ℕ, ◌+◌, max, min, nat_eq, nat_lt, Bool, true, false, ◌&&◌, ◌||◌, Option, Some, None, List, [], ◌∷◌, ◌++◌, map, refl, sym, ap, ◌∙◌, arith, if◌then◌else◌}
-use Rattle.std.specs.List.{list_any}
+use Rattle.std.proofs.Common.{◌≡◌, ℕ, ◌+◌, max, nat_eq, nat_lt, Bool, true, false, ◌&&◌, ◌||◌, Option, Some, None, List, [], ◌∷◌, ◌++◌, map, refl, sym, ap, ◌∙◌, arith, if◌then◌else◌}
 use Rattle.std.proofs.lemmas.Bool.Decides.{nat_tests}
 use Rattle.ps_program.specs.Node.{BodyNode, body}
 use Rattle.ps_typing.specs.Mentions.{Seen, seen, mentions, declarations, numbers, is_mentioned_deeper, kept_of, kept_names, is_among}
-use Rattle.ps_names.specs.inside.Marks.{Marks, least, join, deepest, shallowest, marks_in, marks, marks_body, is_deeper, is_kept}
+use Rattle.ps_names.specs.inside.Marks.{least, deepest, shallowest, marks_body, is_deeper, is_kept}
 use Rattle.ps_names.proofs.Marking.{append}
 
 lt_max : (a x y : ℕ) → nat_lt a (max x y) ≡ (nat_lt a x || nat_lt a y)

@@ -1,5 +1,5 @@
 -- The marks of a clause, from its parts.
-use Rattle.std.proofs.Common.{◌≡◌, ◌<◌, ℕ, suc, length, get_or, drop, drop-cons, ◌+◌, max, min, nat_eq, Option, Some, None, List, [], ◌∷◌, ◌++◌, map, Result, Ok, Err, OnOk, refl, sym, ap, ◌∙◌, arith, if◌then◌else◌}
+use Rattle.std.proofs.Common.{◌≡◌, ◌<◌, ℕ, suc, length, get_or, drop, drop-cons, ◌+◌, max, nat_eq, Option, Some, None, List, [], ◌∷◌, ◌++◌, map, Result, Ok, Err, OnOk, refl, sym, ap, ◌∙◌, arith, if◌then◌else◌}
 use Rattle.std.specs.Borrow.{Bor}
 use Rattle.std.specs.declared.alloc.AllocError.{AllocError}
 use Rattle.ps_program.specs.declared.body.Param.{Param}
@@ -11,7 +11,7 @@ use Rattle.ps_program.specs.Node as node
 use Rattle.ps_program.specs.NodeView.{node_of, params_of}
 use Rattle.ps_program.specs.Parts.{Part, operand, label, branch, literal}
 use Rattle.ps_program.specs.inside.Listed.{parts_all, parts_arms, parts_of, part_as}
-use Rattle.ps_program.specs.inside.PartsView.{AreListed, first_in, first_as, further_in}
+use Rattle.ps_program.specs.inside.PartsView.{AreListed, first_as, further_in}
 use Rattle.ps_program.proofs.PartLemmas.{fold_parts}
 use Rattle.ps_typing.specs.Mentions.{Seen, seen, deeper, joined, mentions, declarations, own_mention, own_declared, numbers, number_of}
 use Rattle.ps_names.specs.inside.Marks.{Marks, least, no_marks, join, deepest, shallowest, marks_in, marks, marks_alone, marks_part, marks_parts, marks_all, marks_arms, marks_body}

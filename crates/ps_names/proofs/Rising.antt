@@ -1,12 +1,12 @@
 -- Going into a chain and out of it.
-use Rattle.std.proofs.Common.{◌≡◌, ◌≤◌, ℕ, ◌+◌, Bool, true, false, refl, sym, ap, subst, ◌∙◌, arith}
+use Rattle.std.proofs.Common.{◌≡◌, ◌≤◌, ◌+◌, true, false, refl, sym, ap, subst, ◌∙◌, arith}
 use Rattle.ps_program.specs.Node.{Node, Nodes}
 use Rattle.ps_program.specs.Node as node
 use Rattle.ps_program.specs.Parts.{operand}
 use Rattle.ps_program.specs.inside.Weights.{weight, weight_all}
 use Rattle.ps_program.proofs.PartLemmas.{weight_is, weight_of_all}
 use Rattle.ps_typing.specs.Placing.{Around, Locals}
-use Rattle.ps_typing.specs.Placed.{Given, gives, ◌>>=◌, then_give, placed, placed_all}
+use Rattle.ps_typing.specs.Placed.{Given, gives, ◌>>=◌, then_give, placed}
 use Rattle.ps_names.specs.declared.placer.Placer.{Placer}
 use Rattle.ps_names.specs.inside.Standing.{Stands, Does}
 use Rattle.ps_names.specs.inside.Chains.{is_link, first_or, with_first, rewound, placed_behind, rises, weight_behind, Rises}

@@ -1,5 +1,5 @@
 -- What has a scope: a sequence, a loop and a body.
-use Rattle.std.proofs.Common.{◌≡◌, ℕ, ◌+◌, Option, Some, None, List, [], ◌∷◌, OnOk, refl, sym, ap, subst, ◌∙◌}
+use Rattle.std.proofs.Common.{◌≡◌, ℕ, ◌+◌, Option, List, [], ◌∷◌, OnOk, refl, sym, ap, subst, ◌∙◌}
 use Rattle.ps_base.specs.TyView.{TyView}
 use Rattle.ps_base.specs.TyView as ty
 use Rattle.ps_base.specs.declared.line.Line.{Line}
@@ -9,12 +9,12 @@ use Rattle.ps_program.specs.Node.{Param, Node, Nodes, BodyNode, body}
 use Rattle.ps_program.specs.Node as node
 use Rattle.ps_typing.specs.Mentions.{number_of, numbers, common}
 use Rattle.ps_typing.specs.Placing.{Around, Locals, with_declared, place_of, scope_text, inside, declared}
-use Rattle.ps_typing.specs.Placed.{Given, ◌>>=◌, then_give, placed, placed_all, placed_literal, with_params}
+use Rattle.ps_typing.specs.Placed.{◌>>=◌, then_give, placed, placed_all, placed_literal, with_params}
 use Rattle.ps_names.specs.declared.placer.Placer.{Placer}
 use Rattle.ps_names.specs.declared.placer.Outer.{Outer}
 use Rattle.ps_names.specs.inside.Marks.{marks_of, is_kept}
 use Rattle.ps_names.specs.inside.Standing.{Stands, Does, Enters, Leaves, chosen}
-use Rattle.ps_names.specs.inside.Clauses.{Triple, triple, placed_triple, Block, block_of, placed_block, placed_params}
+use Rattle.ps_names.specs.inside.Clauses.{Triple, triple, placed_triple, block_of, placed_block, placed_params}
 use Rattle.ps_names.proofs.Doing.{Made, on_ok}
 use Rattle.ps_names.proofs.Entering.{entered, left, kept_ones}
 

@@ -1,7 +1,7 @@
 -- What is known of each name of a clause that stands inside so many literals: inside how many it is mentioned at most, and
 -- declared at least.
 use Rattle.std.specs.Prelude.{ℕ, ◌+◌, max, min, nat_eq, nat_lt, Bool, false, Option, Some, None, List, [], ◌∷◌, map, if◌then◌else◌}
-use Rattle.ps_program.specs.Node.{Node, Nodes, none, more, Arm, arm, Arms, no_arms, more_arms, BodyNode, body}
+use Rattle.ps_program.specs.Node.{Node, Nodes, none, more, arm, Arms, no_arms, more_arms, BodyNode, body}
 use Rattle.ps_program.specs.Parts.{Part, operand, label, branch, literal}
 use Rattle.ps_typing.specs.Mentions.{Seen, seen, mentions, declarations, own_mention, own_declared, numbers}
 use Rattle.ps_names.specs.declared.survey.Survey.{Survey}

@@ -1,8 +1,8 @@
 -- What a placer knows where a clause stands, against what is around the clause and the locals before it.
-use Rattle.std.specs.Prelude.{◌≡◌, ℕ, ◌+◌, ◌-◌, Bool, nat_eq, if◌then◌else◌, List, [], ◌∷◌, ◌++◌, length, Option, Some, None}
+use Rattle.std.specs.Prelude.{◌≡◌, ℕ, ◌+◌, Bool, nat_eq, if◌then◌else◌, List, [], ◌∷◌, ◌++◌, length, Option, Some, None}
 use Rattle.ps_type_text.specs.Members.{fields_of}
 use Rattle.ps_type_text.specs.declared.classes.Member.{Member}
-use Rattle.ps_program.specs.Node.{Node, Nodes, none, more}
+use Rattle.ps_program.specs.Node.{Node, none, more}
 use Rattle.ps_typing.specs.Mentions.{is_among}
 use Rattle.ps_typing.specs.Placing.{Around, Locals, local_of, position, declared}
 use Rattle.ps_typing.specs.Placed.{Given, no_locals}

@@ -1,13 +1,10 @@
-use Rattle.std.proofs.Common.{rules, ◌≡◌, ◌<◌, ◌≤◌, ◌+◌, ◌*◌, ◌∙◌, List, [], ◌∷◌, true, length, length-set, take, OnOk, ap, sym, refl, subst, arith}
+use Rattle.std.proofs.Common.{rules, ◌≡◌, ◌<◌, ◌≤◌, ◌∙◌, List, [], ◌∷◌, true, length, length-set, take, OnOk, ap, sym, refl, subst, arith}
 use Rattle.std.proofs.lemmas.List.{take_all}
 use Rattle.std.specs.Rc.{rc_value}
 use Rattle.ps_base.specs.List.{items_of}
 use Rattle.ps_base.specs.TyView.{ty_view}
 use Rattle.ps_type_text.specs.Members.{fields_of}
 use Rattle.ps_program.specs.declared.body.Param.{Param}
-use Rattle.std.specs.declared.boxed.Box.{Box}
-use Rattle.std.specs.declared.alloc.Global.{Global}
-use Rattle.ps_program.specs.declared.body.Body.{Body}
 use Rattle.ps_program.specs.declared.form.Tree.{Tree}
 use Rattle.ps_program.specs.declared.form.TreeForm.TheVariants as code
 use Rattle.ps_program.specs.declared.form.Arm.{out-Arm}
@@ -17,19 +14,19 @@ use Rattle.ps_program.specs.NodeView.{node_of, node_of_form, nodes_in, params_of
 use Rattle.ps_program.specs.Parts.{operand, branch}
 use Rattle.ps_program.specs.inside.Listed.{parts_arms}
 use Rattle.ps_program.specs.inside.PartsView.{arms_in}
-use Rattle.ps_program.specs.inside.Weights.{weight, weight_all, weight_arms, weight_parts}
+use Rattle.ps_program.specs.inside.Weights.{weight, weight_all, weight_arms}
 use Rattle.ps_program.proofs.NodeLists.{arm_of-parts, block_is, make_is, lib_is, elems_is, call_is, case_is}
 use Rattle.ps_program.proofs.NodeSteps.{weight_at, weight_arm_at}
 use Rattle.ps_program.proofs.PartLemmas.{weight_is, weight_of_all, weight_of_arms, weight_parts-append}
-use Rattle.ps_typing.specs.Mentions.{numbers, number_of}
-use Rattle.ps_typing.specs.Placing.{place_of, with_declared, scope_text, inside, declared}
+use Rattle.ps_typing.specs.Mentions.{numbers}
+use Rattle.ps_typing.specs.Placing.{place_of, scope_text, inside, declared}
 use Rattle.ps_typing.specs.Placed.{◌>>=◌, then_give, placed, placed_all, placed_arms, placed_literal, with_params}
 use Rattle.ps_names.specs.inside.Marks.{marks_of, is_kept}
 use Rattle.ps_names.specs.inside.Standing.{Stands, Does, Enters, chosen}
 use Rattle.ps_names.specs.inside.Chains.{is_link, placed_behind, weight_behind, weight_arm, Rises}
 use Rattle.ps_names.specs.inside.Clauses.{Pair, Triple, WithAll, Case, Block, pair, with_all, with_arms, text_in, placed_arm}
 use Rattle.ps_names.proofs.Doing.{does_made, does_both, does_same, on_ok, tree_more, arm_more, same_item, same_rest, arm_made, arm_kept}
-use Rattle.ps_names.proofs.Forming.{tree_does, pair_does, triple_does, all_does, with_all_does, case_does, block_does, literal_does, at_one, at_two, at_three, formed, formed_to, declared_at, set_name, let_name, scan, weight_some}
+use Rattle.ps_names.proofs.Forming.{tree_does, pair_does, triple_does, all_does, with_all_does, case_does, block_does, at_one, at_two, at_three, formed, formed_to, declared_at, set_name, let_name, scan, weight_some}
 use Rattle.ps_names.proofs.Rising.{inward, turns, outward, weight_out, out}
 use Rattle.ps_names.proofs.Scoping.{block_done, loop_done, literal_done}
 use Rattle.ps_names.proofs.placer.Placer.+placing.Goals as goal

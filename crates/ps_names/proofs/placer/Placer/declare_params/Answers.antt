@@ -2,8 +2,6 @@ use Rattle.std.proofs.Common.{sym, subst}
 use Rattle.ps_typing.specs.Placing.{Locals}
 use Rattle.ps_names.specs.inside.Standing.{Stands}
 use Rattle.ps_names.proofs.Doing.{params_one}
-use Rattle.ps_names.proofs.Rising.{out}
-use Rattle.ps_names.proofs.Entering.{left}
 use Rattle.ps_names.proofs.placer.Placer.declare_params.Goals as goal
 
 pub loop-param-preserved : goal.loop-param-preserved

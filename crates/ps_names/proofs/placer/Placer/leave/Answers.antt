@@ -1,4 +1,4 @@
-use Rattle.std.proofs.Common.{◌≡◌, ◌∙◌, ℕ, sym, ap}
+use Rattle.std.proofs.Common.{ap}
 use Rattle.ps_names.specs.declared.placer.Placer.{Placer}
 use Rattle.ps_names.specs.inside.Tables.{value_at}
 use Rattle.ps_names.proofs.Spots.{undone_pop}

@@ -1,4 +1,4 @@
-use Rattle.std.proofs.Common.{◌∙◌, sym, ap}
+use Rattle.std.proofs.Common.{◌∙◌, ap}
 use Rattle.ps_names.specs.inside.Tables.{value_at}
 use Rattle.ps_names.proofs.Spots.{kept_place, plain_place}
 use Rattle.ps_names.proofs.placer.Placer.place_of.Goals as goal

@@ -1,4 +1,4 @@
-use Rattle.std.proofs.Common.{rules, ◌∙◌, length-set, length, ◌<◌, arith}
+use Rattle.std.proofs.Common.{rules, ◌∙◌, length-set, length, ◌<◌}
 use Rattle.ps_names.proofs.Doing.{same_rest, param_placed}
 use Rattle.ps_names.proofs.placer.Placer.place_params.Goals as goal
 

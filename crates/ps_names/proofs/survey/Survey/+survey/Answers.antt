@@ -1,16 +1,16 @@
-use Rattle.std.proofs.Common.{rules, ◌≡◌, ◌<◌, ◌≤◌, ◌+◌, ◌∙◌, [], ◌∷◌, map, ap, sym, refl, subst, arith}
+use Rattle.std.proofs.Common.{rules, ◌≡◌, ◌∙◌, [], ◌∷◌, map, ap, sym, refl, subst, arith}
 use Rattle.std.proofs.lemmas.List.{drop_all}
 use Rattle.ps_base.specs.List.{items_of}
 use Rattle.ps_program.specs.NodeView.{node_of, nodes_in, body_of, params_of}
 use Rattle.ps_typing.specs.Mentions.{seen, numbers}
-use Rattle.ps_program.specs.Parts.{operand, label, branch}
+use Rattle.ps_program.specs.Parts.{operand, branch}
 use Rattle.ps_program.specs.inside.Listed.{parts_arms}
 use Rattle.ps_program.specs.inside.PartsView.{AreListed, arms_in, further_in}
-use Rattle.ps_program.specs.inside.Weights.{weight, weight_all, weight_arms, weight_parts}
+use Rattle.ps_program.specs.inside.Weights.{weight_all}
 use Rattle.ps_program.proofs.NodeSteps.{nodes_from, arms_from, weight_at, weight_arm_at}
 use Rattle.ps_program.proofs.PartLemmas.{further_lighter, first_lighter, weight_of_all, weight_of_arms, weight_parts-append}
 use Rattle.ps_names.specs.inside.Marks.{marks, marks_of, marks_alone, marks_in, marks_all, marks_arms, marks_parts, marks_body, join}
-use Rattle.ps_names.proofs.Marking.{marked_so, then_marked, further_so, part_more, arm_more, gone, join_none, none_join, join_assoc, all_marked, arms_then, marks_with, marks_without, marks_literal}
+use Rattle.ps_names.proofs.Marking.{marked_so, then_marked, further_so, part_more, arm_more, gone, join_none, join_assoc, all_marked, arms_then, marks_with, marks_without, marks_literal}
 use Rattle.ps_names.proofs.survey.Survey.+survey.Goals as goal
 
 pub all-tree-requires : goal.all-tree-requires

@@ -1,10 +1,10 @@
-use Rattle.std.proofs.Common.{◌≡◌, ◌∙◌, ℕ, ◌+◌, [], ◌∷◌, List, map, drop, drop-cons, suc, arith, sym, ap}
+use Rattle.std.proofs.Common.{◌∙◌, [], List, map, sym, ap}
 use Rattle.std.proofs.lemmas.List.{drop_all}
 use Rattle.ps_program.specs.declared.body.Param.{Param}
-use Rattle.ps_program.specs.NodeView.{params_of, param_of}
-use Rattle.ps_typing.specs.Mentions.{seen, numbers, number_of}
-use Rattle.ps_names.specs.inside.Marks.{Marks, marks_of, marks_in, join}
-use Rattle.ps_names.proofs.Marking.{append, part_more, join_none, params_from}
+use Rattle.ps_program.specs.NodeView.{params_of}
+use Rattle.ps_typing.specs.Mentions.{seen, numbers}
+use Rattle.ps_names.specs.inside.Marks.{marks_of, marks_in, join}
+use Rattle.ps_names.proofs.Marking.{part_more, join_none, params_from}
 use Rattle.ps_names.proofs.survey.Survey.params.Goals as goal
 
 pub loop-param-preserved : goal.loop-param-preserved
