@@ -14,9 +14,10 @@ use Rattle.ps_program.specs.declared.form.Arm.{Arm as ArmOf}
 use Rattle.ps_program.specs.declared.form.Tree.{Tree}
 use Rattle.ps_typing.specs.Fault.{Fault, Mismatch}
 use Rattle.ps_typing.specs.Names.{Names}
-use Rattle.ps_typing.specs.Checking.{Outcome, Gives, Refuses, ◌>>=◌, Checker, check, check_all, check_arms, check_each, check_args, check_written, checkers, check_if_any, is_same, is_writable, is_present, like, line_of, passes, wants}
+use Rattle.ps_typing.specs.Checking.{Outcome, Gives, Refuses, ◌>>=◌, Checker, check, check_all, check_arms, check_each, check_args, check_written, checkers, check_if_any, is_same, is_writable, is_present, first_type, like, line_of, passes, wants}
 use Rattle.ps_typing.proofs.SameTypes.{same_is_equal}
 use Rattle.ps_check.specs.declared.fault.CheckFault.{CheckFault}
+use Rattle.ps_check.specs.Faults.{fault_of}
 use Rattle.ps_check.specs.inside.Answers.{Refused, IsFault}
 use Rattle.ps_check.specs.inside.Cases.{check_arm, all_arms}
 use Rattle.ps_check.specs.inside.Lists.{behind_void, check_item}
@@ -52,13 +53,13 @@ pub arms_none : (done : List ArmOf) → after_arms done no_arms ≡ arms_in done
 arms_none [] = refl
 arms_none (d ∷ done) = ap (λ (as_ : Arms). more_arms (arm_of d) as_) (arms_none done)
 
-module _ {A B : Type 0} where
-  -- nothing in front
-  pub after_nothing : (f : A → A) (o : Outcome A) → ((a : A) → f a ≡ a) → after f o ≡ o
-  unfolding ◌>>=◌
-  after_nothing f (Gives a t n) same = ap (λ a. Gives a t n) (same a)
-  after_nothing f (Refuses fault) same = refl
+-- nothing in front
+pub after_nothing : {A : Type 0} (f : A → A) (o : Outcome A) → ((a : A) → f a ≡ a) → after f o ≡ o
+unfolding ◌>>=◌
+after_nothing f (Gives a t n) same = ap (λ a. Gives a t n) (same a)
+after_nothing f (Refuses fault) same = refl
 
+module _ {A B : Type 0} where
   -- one more in front
   pub after_one : (f g : A → B) (one : A → A) (o : Outcome A) → ((a : A) → f (one a) ≡ g a) → after f (after one o) ≡ after g o
   unfolding ◌>>=◌
@@ -124,9 +125,6 @@ written_typed names form.no_items = refl
 written_typed names (form.more_items (form.item e w line) rest) =
     typed_bind Void _ _ (λ e t n. typed_bind Void _ _ (λ w wide n'. typed_bind Void _ _ (λ rest last n''. refl)))
 
-arms_typed : (names : Names) (t own : TyView) (arms : form.Arms) → Typed own (check_arms names t (Some own) arms)
-arms_typed names t own arms = ?
-
 -- one clause, and then the rest
 pub each_step : (names n : Names) (t own : TyView) (one : Node) (c : Checker) (cs : List Checker) → wants t c.line (c.check names) ≡ Gives one own n → check_each names t (c ∷ cs) ≡ after (more one) (check_each n t cs)
 each_step names n t own one c cs is = given _ _ _ _ _ is ∙ retyped t (check_each n t cs) (more one) (each_typed n t cs)
@@ -164,8 +162,8 @@ written_is names (form.item e w line) rest = first (passes is_writable types.Int
     first (Gives e t n) = second e t (check_if_any n types.Int node.Empty w)
     first (Refuses fault) = refl
 
-pub written_step : (names n : Names) (own : TyView) (one : Node) (item : form.WriteItem) (rest : form.WriteItems) → check_item names item ≡ Gives one own n → check_written names (form.more_items item rest) ≡ after (more one) (check_written n rest)
-written_step names n own one item rest is = written_is names item rest ∙ given _ _ _ _ _ is ∙ retyped Void (check_written n rest) (more one) (written_typed n rest)
+pub written_step : (names n : Names) (own : TyView) (one : Node) (i : form.WriteItem) (rest : form.WriteItems) → check_item names i ≡ Gives one own n → check_written names (form.more_items i rest) ≡ after (more one) (check_written n rest)
+written_step names n own one i rest is = written_is names i rest ∙ given _ _ _ _ _ is ∙ retyped Void (check_written n rest) (more one) (written_typed n rest)
 
 -- an arm of a `case`
 abbrev with_arms : TyView → form.Arms → node.Arm → TyView → Names → Outcome Arms
@@ -179,6 +177,69 @@ arms_are names t given (form.arm labels a) rest = first (check_each names t (che
         ≡ ((o >>= λ labels same n. like given (line_of a) (check n a) >>= λ a own n. Gives (node.arm labels a) own n) >>= with_arms t rest)
     first (Gives labels same n) = sym (bind_gives (λ a. node.arm labels a) (like given (line_of a) (check n a)) (with_arms t rest))
     first (Refuses fault) = refl
+
+-- the type of the clause of an arm that is like those before it
+pub arm_typed : (names : Names) (t own : TyView) (a : form.Arm) → Typed own (check_arm names t (Some own) a)
+arm_typed names t own (form.arm labels a) = typed_bind own _ _ (λ labels same n. typed_along own own _ _ (typed_wants own (line_of a) (check n a)) (λ a n'. refl))
+
+pub type_of : {A : Type 0} (o : Outcome A) (a : A) (ty own : TyView) (n : Names) → o ≡ Gives a ty n → Typed own o → ty ≡ own
+type_of o a ty own n is typed = subst (Typed own) is typed
+
+-- what was made, in front of what the rest gives, with this type
+abbrev pub after_as : {A B : Type 0} → TyView → (A → B) → Outcome A → Outcome B
+after_as ty f o = o >>= λ rest last names. Gives (f rest) ty names
+
+pub after_as_one : {A B : Type 0} (ty : TyView) (f g : A → B) (one : A → A) (o : Outcome A) → ((a : A) → f (one a) ≡ g a) → after_as ty f (after_as ty one o) ≡ after_as ty g o
+unfolding ◌>>=◌
+after_as_one ty f g one (Gives a t n) same = ap (λ b. Gives b ty n) (same a)
+after_as_one ty f g one (Refuses fault) same = refl
+
+pub arms_step : (names n : Names) (t own ty : TyView) (made : node.Arm) (a : form.Arm) (rest : form.Arms) → check_arm names t (Some own) a ≡ Gives made ty n → check_arms names t (Some own) (form.more_arms a rest) ≡ after_as own (more_arms made) (check_arms n t (Some own) rest)
+arms_step names n t own ty made a rest is =
+    arms_are names t (Some own) a rest ∙ given _ _ _ _ _ is ∙ ap (λ own. with_arms t rest made own n) (type_of _ _ _ _ _ is (arm_typed names t own a))
+
+-- a tree that is pushed
+pub pushed : (done after_it : List Tree) (t : Tree) (o left all : Outcome Nodes) → after_it ≡ done ++ t ∷ [] → left ≡ after (more (node_of t)) o → after (after_nodes done) left ≡ all → after (after_nodes after_it) o ≡ all
+pushed done after_it t o left all is step before =
+    ap (λ (ts : List Tree). after (after_nodes ts) o) is ∙ sym (after_one (after_nodes done) (after_nodes (done ++ t ∷ [])) (more (node_of t)) o (nodes_push done t)) ∙ ap (after (after_nodes done)) (sym step) ∙ before
+
+-- nothing is left
+pub finished : (done : List Tree) (t : TyView) (n : Names) (left all : Outcome Nodes) → left ≡ Gives none t n → after (after_nodes done) left ≡ all → all ≡ Gives (nodes_in done) t n
+finished done t n left all is before = gives_after (after_nodes done) none t n left all before is ∙ ap (λ (ts : Nodes). Gives ts t n) (nodes_none done)
+
+pub pushed_arm : (own : TyView) (done after_it : List ArmOf) (a : ArmOf) (o left all : Outcome Arms) → after_it ≡ done ++ a ∷ [] → left ≡ after_as own (more_arms (arm_of a)) o → after_as own (after_arms done) left ≡ all → after_as own (after_arms after_it) o ≡ all
+pushed_arm own done after_it a o left all is step before =
+    ap (λ (as_ : List ArmOf). after_as own (after_arms as_) o) is ∙ sym (after_as_one own (after_arms done) (after_arms (done ++ a ∷ [])) (more_arms (arm_of a)) o (arms_push done a)) ∙ ap (after_as own (after_arms done)) (sym step) ∙ before
+
+pub finished_arms : (own t : TyView) (done : List ArmOf) (n : Names) (left all : Outcome Arms) → left ≡ Gives no_arms t n → after_as own (after_arms done) left ≡ all → all ≡ Gives (arms_in done) own n
+finished_arms own t done n left all is before = sym before ∙ given left no_arms t n _ is ∙ ap (λ (as_ : Arms). Gives as_ own n) (arms_none done)
+
+-- the fault of the rest is that of all
+unwrapped : {A B : Type 0} (own : TyView) (g : A → B) (all : Outcome A) (fault : Fault) → after_as own g all ≡ Refuses fault → all ≡ Refuses fault
+unfolding ◌>>=◌
+unwrapped own g (Gives a t n) fault is = absurd cc
+unwrapped own g (Refuses own_fault) fault is = ap fault_as (sym (sym is))
+  where
+    fault_as : Outcome _ → Outcome _
+    fault_as (Refuses f) = Refuses f
+    fault_as (Gives a t n) = Refuses own_fault
+
+unwrapped_if_any : {A B : Type 0} (own : TyView) (g : A → B) (all : Outcome A) (fault : Option Fault) → Refused (after_as own g all) fault → Refused all fault
+unwrapped_if_any own g all None h = tt
+unwrapped_if_any own g all (Some fault) h = unwrapped own g all fault h
+
+pub fails_in_all : {A B C : Type 0} (own : TyView) (f : A → B) (g : C → B) (o : Outcome A) (all : Outcome C) (fault : CheckFault) → after_as own f o ≡ after_as own g all → IsFault o fault → IsFault all fault
+fails_in_all own f g o all fault is h = record { is = unwrapped_if_any own g all (fault_of fault) (fails_as _ _ fault (sym is) (fails_first o fault _ h)).is }
+
+-- arms whose first is this one
+abbrev arms_from_outcome : Arms → Outcome Arms → Arms
+arms_from_outcome other (Gives as_ t n) = as_
+arms_from_outcome other (Refuses fault) = other
+
+pub first_is : (o : Outcome Arms) (a : node.Arm) (own : TyView) (arms : Arms) (n : Names) → (o >>= λ rest last names. Gives (more_arms a rest) own names) ≡ Gives arms own n → first_type arms own ≡ Some own
+unfolding ◌>>=◌
+first_is (Gives rest t m) a own arms n is = ap (λ as_. first_type as_ own) (sym (ap (arms_from_outcome arms) is))
+first_is (Refuses fault) a own arms n is = absurd cc
 
 -- a list from a place on
 pub cut : {A B : Type 0} (f : A → B) (xs : List A) (i : ℕ) (d : A) → i < length xs → map f (drop i xs) ≡ f (get_or xs i d) ∷ map f (drop (i + 1) xs)

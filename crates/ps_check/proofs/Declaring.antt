@@ -1,5 +1,5 @@
 -- Parameters, fields and their types, one by one.
-use Rattle.std.proofs.Common.{◌≡◌, ◌<◌, ◌+◌, ℕ, List, [], ◌∷◌, ◌++◌, length, map, take, drop, get_or, slice_index_or, append_assoc, append-nil, refl, sym, ap, ◌∙◌}
+use Rattle.std.proofs.Common.{◌≡◌, ◌<◌, ◌+◌, ℕ, true, List, [], ◌∷◌, ◌++◌, length, map, take, drop, get_or, slice_index_or, append_assoc, append-nil, refl, sym, ap, ◌∙◌}
 use Rattle.std.proofs.lemmas.List.{take_more, map-append}
 use Rattle.ps_base.specs.TyView.{TyView, TyViews, Void, more, and_type, ty_view, ty_views}
 use Rattle.ps_base.specs.declared.ty.Ty.{Ty}
@@ -46,6 +46,9 @@ member_step all i d before after made inside same is one =
     ap fields_of is ∙ map-append members.field_of before (made ∷ [])
     ∙ ap (λ (fs : List Field). fs ++ members.field_of made ∷ []) same ∙ ap (λ f. map field_of (groups_of (take i all)) ++ f ∷ []) one
     ∙ sym (ap (map field_of) (ap groups_of (take_more all i d inside) ∙ map-append group_of (take i all) (slice_index_or all i d ∷ [])) ∙ map-append field_of (groups_of (take i all)) (group_of (slice_index_or all i d) ∷ []))
+
+abbrev pub field_with : TyView → List ℕ → Field
+field_with ty name = record { ty = ty; name = name }
 
 -- one declarator more
 pub declarator_step : (made after : List Declarator) (one : Declarator) (first rest : List GroupAt) (group : GroupAt) → groups_of made ≡ first ++ rest → after ≡ made ++ one ∷ [] → group_of one ≡ group → groups_of after ≡ first ++ (rest ++ group ∷ [])

@@ -1,3 +1,11 @@
 pub mod Steps
 pub mod After
 pub mod Declaring
+pub mod Fields
+pub mod Together
+pub mod Lets
+pub mod Views
+pub mod Blocks
+pub mod Places
+pub mod Applying
+pub mod LinkSteps

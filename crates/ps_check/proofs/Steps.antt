@@ -72,21 +72,28 @@ true_or_false : (b : Bool) → (b ≡ true → ⊥) → b ≡ false
 true_or_false true h = absurd (h refl)
 true_or_false false h = refl
 
+never : IsTrue false → ⊥
+never h = cc
+
 pub same : (a b : TyView) (r : Bool) → (IsTrue r → a ≡ b) × (a ≡ b → IsTrue r) → r ≡ true → is_same a b ≡ true
-same a b r says holds = equal_is_same a b (says.0 (subst IsTrue (sym holds) tt))
+same a b r says holds = equal_is_same a b (says.0 (subst IsTrue (sym holds) refl))
 
 pub not_same : (a b : TyView) (r : Bool) → (IsTrue r → a ≡ b) × (a ≡ b → IsTrue r) → r ≡ false → is_same a b ≡ false
-not_same a b r says fails = true_or_false (is_same a b) (λ holds. subst IsTrue fails (says.1 (same_is_equal a b holds)))
+not_same a b r says fails = true_or_false (is_same a b) (λ holds. never (subst IsTrue fails (says.1 (same_is_equal a b holds))))
+
+-- a clause with its tree and its type, and these names behind it
+abbrev pub IsClauseAt : Outcome Node → Result Clause CheckFault → Names → Type 0
+IsClauseAt o result names = MatchResult result (λ clause. o ≡ Gives (node_of clause.tree) (ty_view clause.ty) names) (IsFault o)
 
 -- a tree that is made is what the clause gives
-pub made : (o : Outcome Node) (tree : Node) (ty : TyView) (scope : Content) (result : Result Clause CheckFault) → o ≡ Gives tree ty (names_of scope) → IsMade tree ty result → IsClause o result scope
-made o tree ty scope (Ok clause) is m = is ∙ ap (λ t. Gives t ty (names_of scope)) (sym m.0) ∙ ap (λ k. Gives (node_of clause.tree) k (names_of scope)) (sym m.1)
-made o tree ty scope (Err fault) is m = no_memory o fault m
+pub made : (o : Outcome Node) (tree : Node) (ty : TyView) (names : Names) (result : Result Clause CheckFault) → o ≡ Gives tree ty names → IsMade tree ty result → IsClauseAt o result names
+made o tree ty names (Ok clause) is m = is ∙ ap (λ t. Gives t ty names) (sym m.0) ∙ ap (λ k. Gives (node_of clause.tree) k names) (sym m.1)
+made o tree ty names (Err fault) is m = no_memory o fault m
 
 -- an outcome that is another one is answered as that
-pub leads : (o other : Outcome Node) (result : Result Clause CheckFault) (scope : Content) → o ≡ other → IsClause other result scope → IsClause o result scope
-leads o other (Ok clause) scope is h = is ∙ h
-leads o other (Err fault) scope is h = fails_as o other fault is h
+pub leads : (o other : Outcome Node) (result : Result Clause CheckFault) (names : Names) → o ≡ other → IsClauseAt other result names → IsClauseAt o result names
+leads o other (Ok clause) names is h = is ∙ h
+leads o other (Err fault) names is h = fails_as o other fault is h
 
 -- the exit of a `?`
 pub exits : {T : Type 0} {A : Type 0} (r : Result T CheckFault) (P : T → Type 0) (fault : CheckFault) (o : Outcome A) → IsErrAnd r (λ y. y ≡ fault) → IsFault o fault → MatchResult r P (IsFault o)
@@ -138,3 +145,14 @@ pub chosen : {A B : Type 0} (b : Bool) (fault : Fault) (of : A) (ty : TyView) (n
 unfolding ◌>>=◌
 chosen true fault of ty names next = refl
 chosen false fault of ty names next = refl
+
+-- the same tree and the same type in other words
+pub remade_both : (tree other : Node) (ty own : TyView) (result : Result Clause CheckFault) → tree ≡ other → ty ≡ own → IsMade tree ty result → IsMade other own result
+remade_both tree other ty own result is is_own m = subst (λ t. IsMade t own result) is (subst (λ k. IsMade tree k result) is_own m)
+
+-- the wanted type in other words
+pub as_wanted : (line : Line) (o : Outcome Node) (tree : Node) (n : Names) {k own : TyView} → k ≡ own → wants k line o ≡ Gives tree k n → wants own line o ≡ Gives tree own n
+as_wanted line o tree n alike is = subst (λ k. wants k line o ≡ Gives tree k n) alike is
+
+pub fails_as_wanted : (line : Line) (o : Outcome Node) (fault : CheckFault) {k own : TyView} → k ≡ own → IsFault (wants k line o) fault → IsFault (wants own line o) fault
+fails_as_wanted line o fault alike is = subst (λ k. IsFault (wants k line o) fault) alike is

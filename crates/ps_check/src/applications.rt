@@ -8,7 +8,7 @@ ghost use Rattle.ps_program.specs.Node as node;
 ghost use Rattle.ps_program.specs.NodeView.{node_of, nodes_in};
 ghost use Rattle.ps_scope.specs.Content.{names_of};
 
-ghost use Rattle.std.specs.Prelude.{option_map, if◌then◌else◌};
+ghost use Rattle.std.specs.Prelude.{length, option_map, if◌then◌else◌};
 ghost use Rattle.ps_base.specs.List.{items_of};
 ghost use Rattle.ps_typing.specs.Library.{caller};
 ghost use Rattle.ps_scope.specs.Views.{procedure_of};
@@ -177,18 +177,17 @@ impl Checker {
         head.clause(self.alloc, line, args, gives)
     }
 
-    // Arguments of these types, as many as there are of both.
+    // As many arguments as types, of these types.
     #[cycle(clause)]
     fn arguments(&mut self, types: &[Ty], args: &[Rough]) -> Result<Vec<Tree>, CheckFault>
+        requires { length types.now ≡ length args.now }
         ensures { AreTrees (check_args (names_of self.old.scope) (ty_views types.now) (checkers (phrases_in args.now))) result self.new.scope }
     {
         let mut trees = Vec::new(self.alloc);
-        let mut i = 0;
-        while i < types.len() && i < args.len() {
+        for i in 0..args.len() {
             let wanted = types[i].copy()?;
             let tree = self.operand(&args[i], wanted)?;
             trees.push(tree)?;
-            i += 1;
         }
         Ok(trees)
     }
@@ -242,7 +241,12 @@ impl Checker {
                 let i = self.operand(i, Ty::Int)?;
                 element_at(self.alloc, line, tree, i, ty)
             }
-            _ => Err(CheckFault::NotApplicable { line }),
+            Ty::Int => Err(CheckFault::NotApplicable { line }),
+            Ty::Bool => Err(CheckFault::NotApplicable { line }),
+            Ty::Str => Err(CheckFault::NotApplicable { line }),
+            Ty::Pntr => Err(CheckFault::NotApplicable { line }),
+            Ty::Void => Err(CheckFault::NotApplicable { line }),
+            Ty::Proc(_) => Err(CheckFault::NotApplicable { line }),
         }
     }
 
@@ -251,23 +255,21 @@ impl Checker {
     fn scan(&mut self, line: Line, text: bool, args: &[Rough]) -> Result<Clause, CheckFault>
         ensures { IsClause (scan_applied (names_of self.old.scope) line text (checkers (phrases_in args.now))) result self.new.scope }
     {
-        match args {
-            [a, f] => {
-                let a = self.operand(a, Ty::Pntr)?;
-                let wanted = caller(self.alloc, text)?;
-                let f = self.operand(f, wanted)?;
-                let form = TreeForm::Scan {
-                    text,
-                    a,
-                    f,
-                    q: 0,
-                    s: 0,
-                    line,
-                };
-                Clause::new(self.alloc, form, Ty::Int)
-            }
-            _ => Err(CheckFault::NotApplicable { line }),
+        if args.len() != 2 {
+            return Err(CheckFault::NotApplicable { line });
         }
+        let a = self.operand(&args[0], Ty::Pntr)?;
+        let wanted = caller(self.alloc, text)?;
+        let f = self.operand(&args[1], wanted)?;
+        let form = TreeForm::Scan {
+            text,
+            a,
+            f,
+            q: 0,
+            s: 0,
+            line,
+        };
+        Clause::new(self.alloc, form, Ty::Int)
     }
 
     // The field of an object that its argument names.

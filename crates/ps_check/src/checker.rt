@@ -14,7 +14,7 @@ use crate::clause::Clause;
 use crate::fault::CheckFault;
 use crate::fits::Test;
 use crate::link::{Joint, Link};
-use crate::looks::Literal;
+use crate::looks::{Literal, lent_boxed};
 use crate::operators::Prefix;
 use crate::choices::Guard;
 use ps_base::ty::Ty;
@@ -50,7 +50,7 @@ impl Checker {
             RoughForm::Flag(value) => Clause::new(self.alloc, TreeForm::Flag(*value), Ty::Bool),
             RoughForm::IfDo { c, a } => self.guarded(Guard::IfDo, c, a),
             RoughForm::While { c, a } => self.guarded(Guard::While, c, a),
-            RoughForm::Repeat { a, c, b } => self.repeat(a, c, b.as_deref()),
+            RoughForm::Repeat { a, c, b } => self.repeat(a, c, lent_boxed(b)),
             RoughForm::IfElse { c, a, b } => self.if_else(c, a, b),
             RoughForm::For { name, range, s } => self.counted(line, name, range, s),
             RoughForm::Case { e, arms, d } => self.case_of(e, arms.as_slice(), d),

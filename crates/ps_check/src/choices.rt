@@ -137,7 +137,7 @@ impl Checker {
         arms: &[RoughArm],
         made: &mut Vec<Arm>,
     ) -> Result<(), CheckFault>
-        ensures { AreMoreArms (check_arms (names_of self.old.scope) (ty_view ty.now) (Some (ty_view own.now)) (rough_arms_in arms.now)) made.old.items made.new.items result self.new.scope }
+        ensures { AreMoreArms (ty_view own.now) (check_arms (names_of self.old.scope) (ty_view ty.now) (Some (ty_view own.now)) (rough_arms_in arms.now)) made.old.items made.new.items result self.new.scope }
     {
         for arm in arms {
             let wanted = own.copy()?;

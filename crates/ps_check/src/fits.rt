@@ -2,7 +2,7 @@ ghost use Rattle.std.specs.Prelude.{◌≡◌, not, MatchResult};
 ghost use Rattle.ps_base.specs.TyView.{ty_view};
 ghost use Rattle.ps_program.specs.NodeView.{node_of};
 ghost use Rattle.ps_scope.specs.Content.{Content, names_of};
-ghost use Rattle.ps_typing.specs.Checking.{Gives, passes, is_equated, is_ordered, is_comparable, is_writable, is_vector, isnt_void};
+ghost use Rattle.ps_typing.specs.Checking.{Gives, passes, is_equated, is_ordered, is_comparable, is_writable, is_vector, isnt_void, is_present};
 ghost use Rattle.ps_check.specs.inside.Answers.{IsClause, IsMemory, test_of, wanted_by};
 
 use crate::clause::Clause;
@@ -95,7 +95,8 @@ fn is_equated(ty: &Ty) -> bool
     }
 }
 
-fn is_void(ty: &Ty) -> bool
+/// Whether a type is that of a clause without a value.
+pub(crate) fn is_void(ty: &Ty) -> bool
     ensures { not result ≡ isnt_void (ty_view ty.now) }
 {
     match ty {
@@ -104,6 +105,21 @@ fn is_void(ty: &Ty) -> bool
         Ty::Str => false,
         Ty::Pntr => false,
         Ty::Void => true,
+        Ty::Vector(_) => false,
+        Ty::Proc(_) => false,
+    }
+}
+
+/// Whether a type is int.
+pub(crate) fn is_int(ty: &Ty) -> bool
+    ensures { result ≡ is_present (ty_view ty.now) }
+{
+    match ty {
+        Ty::Int => true,
+        Ty::Bool => false,
+        Ty::Str => false,
+        Ty::Pntr => false,
+        Ty::Void => false,
         Ty::Vector(_) => false,
         Ty::Proc(_) => false,
     }

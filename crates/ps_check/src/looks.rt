@@ -2,9 +2,10 @@ ghost use Rattle.std.specs.Prelude.{◌≡◌, option_map};
 ghost use Rattle.std.specs.Borrow.{Bor};
 ghost use Rattle.ps_base.specs.TyView.{ty_view};
 ghost use Rattle.ps_tree.specs.Phrase.{phrase_of, groups_in};
+ghost use Rattle.ps_tree.specs.PhraseLists.{maybe_in};
 ghost use Rattle.ps_typing.specs.Checking.{name_in as name_in_of};
 ghost use Rattle.ps_check.specs.inside.Looks.{literal_in as literal_in_of};
-ghost use Rattle.ps_check.specs.inside.Views.{literal_of};
+ghost use Rattle.ps_check.specs.inside.Views.{literal_of, maybe_lent};
 
 use ps_base::line::Line;
 use ps_base::ty::Ty;
@@ -38,6 +39,26 @@ pub(crate) fn literal_in(rough: &Rough) -> Option<Literal>
             Some(Literal::new(params.as_slice(), gives, s, rough.line))
         }
         _ => None,
+    }
+}
+
+/// A clause that may be left out.
+pub(crate) fn lent(clause: &Option<Rough>) -> Option<&Rough>
+    ensures { maybe_lent result ≡ maybe_in clause.now }
+{
+    match clause {
+        Some(clause) => Some(clause),
+        None => None,
+    }
+}
+
+/// A clause in a box that may be left out.
+pub(crate) fn lent_boxed(clause: &Option<Box<Rough>>) -> Option<&Rough>
+    ensures { maybe_lent result ≡ maybe_in (option_map (λ clause. clause.value) clause.now) }
+{
+    match clause {
+        Some(clause) => Some(clause),
+        None => None,
     }
 }
 

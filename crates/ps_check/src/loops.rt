@@ -11,17 +11,19 @@ ghost use Rattle.ps_scope.specs.Content.{names_of};
 ghost use Rattle.ps_tree.specs.PhraseLists.{maybe_in};
 ghost use Rattle.ps_tree.specs.declared.rough.RoughRange.{out-RoughRange};
 ghost use Rattle.ps_typing.specs.Checking.{check_form};
-ghost use Rattle.ps_check.specs.inside.Answers.{IsClause, check_unlined};
+ghost use Rattle.ps_check.specs.inside.Answers.{IsClause, IsMade, check_unlined};
 ghost use Rattle.ps_check.specs.inside.Views.{maybe_lent};
 
 use crate::checker::Checker;
 use crate::clause::Clause;
 use crate::fault::CheckFault;
+use crate::looks::lent;
 use ps_base::line::Line;
 use ps_base::ty::Ty;
 use ps_program::form::{Loop, TreeForm};
 use ps_program::place::Place;
 use ps_tree::rough::{Named, Rough, RoughRange};
+use std::alloc::Global;
 
 impl Checker {
     #[cycle(clause)]
@@ -51,23 +53,33 @@ impl Checker {
     {
         let a = self.operand(&range.a, Ty::Int)?;
         let b = self.operand(&range.b, Ty::Int)?;
-        let Clause { tree: c, ty: _ } = self.if_any(range.c.as_ref(), Ty::Int, TreeForm::Int(1))?;
+        let Clause { tree: c, ty: _ } = self.if_any(lent(&range.c), Ty::Int, TreeForm::Int(1))?;
         let block = self.scope.enter();
         let name = name.name.as_slice();
         let number = self.scope.declare_local(self.alloc, name, &Ty::Int, false)?;
         let s = self.operand(s, Ty::Void)?;
         self.scope.leave(block);
-        let counted = Loop {
-            slot: 0,
-            a,
-            b,
-            c,
-            scope: None,
-            control: Place::Plain { slot: number },
-            s,
-            line,
-        };
-        let counted = Box::new(self.alloc, counted)?;
-        Clause::new(self.alloc, TreeForm::For(counted), Ty::Void)
+        let control = Place::Plain { slot: number };
+        loop_of(
+            self.alloc,
+            Loop {
+                slot: 0,
+                a,
+                b,
+                c,
+                scope: None,
+                control,
+                s,
+                line,
+            },
+        )
     }
+}
+
+// The clause of a loop.
+fn loop_of(alloc: Global, counted: Loop) -> Result<Clause, CheckFault>
+    ensures { IsMade (node.For counted.slot (node_of counted.a) (node_of counted.b) (node_of counted.c) counted.scope counted.control (node_of counted.s) counted.line) types.Void result }
+{
+    let counted = Box::new(alloc, counted)?;
+    Clause::new(alloc, TreeForm::For(counted), Ty::Void)
 }

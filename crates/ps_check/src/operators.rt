@@ -8,10 +8,11 @@ ghost use Rattle.ps_program.specs.Node as node;
 ghost use Rattle.ps_program.specs.NodeView.{node_of, nodes_in};
 ghost use Rattle.ps_scope.specs.Content.{names_of};
 
-ghost use Rattle.ps_typing.specs.Names.{meant};
+ghost use Rattle.std.specs.Prelude.{option_map};
+ghost use Rattle.ps_scope.specs.Views.{meaning_of, class_of};
 ghost use Rattle.ps_typing.specs.Checking.{check as check_of};
 ghost use Rattle.ps_check.specs.inside.Answers.{IsClause, IsMade, check_unlined};
-ghost use Rattle.ps_check.specs.inside.Forms.{prefix_ty, prefix_node, check_prefixed, class_test};
+ghost use Rattle.ps_check.specs.inside.Forms.{class_meant, prefix_ty, prefix_node, check_prefixed, class_test};
 
 use crate::checker::Checker;
 use crate::clause::Clause;
@@ -22,7 +23,7 @@ use ps_base::line::Line;
 use ps_base::operator::Relation;
 use ps_base::ty::Ty;
 use ps_program::form::{Tree, TreeForm};
-use ps_scope::meaning::Meaning;
+use ps_scope::meaning::{Class, Meaning};
 use ps_tree::rough::{Named, Rough};
 use std::alloc::Global;
 use std::rc::Rc;
@@ -93,12 +94,11 @@ impl Checker {
         ensures { IsClause (check_unlined (names_of self.old.scope) (form.Is (phrase_of e.now) (named class.now) negated)) result self.new.scope }
     {
         let e = self.operand(e, Ty::Pntr)?;
-        match self.meaning(class.name.as_slice())? {
-            Some(Meaning::Class(meant)) => {
-                class_test(self.alloc, e, meant.text.clone()?, negated)
-            }
-            _ => Err(CheckFault::Unknown { line: class.line }),
-        }
+        let meaning = self.meaning(class.name.as_slice())?;
+        let Some(meant) = class_in(meaning) else {
+            return Err(CheckFault::Unknown { line: class.line });
+        };
+        class_test(self.alloc, e, meant.text.clone()?, negated)
     }
 
     #[cycle(clause)]
@@ -107,6 +107,18 @@ impl Checker {
     {
         let Clause { tree: v, ty: _ } = self.tested(e, Test::Vector)?;
         Clause::new(self.alloc, TreeForm::Bound { v, upper }, Ty::Int)
+    }
+}
+
+// The class that is meant, where one is.
+fn class_in(meaning: Option<Meaning>) -> Option<Rc<Class>>
+    ensures { option_map (λ class. class_of class.value) result ≡ class_meant (option_map meaning_of meaning) }
+{
+    match meaning {
+        Some(Meaning::Class(class)) => Some(class),
+        Some(Meaning::Local(_)) => None,
+        Some(Meaning::Library(_)) => None,
+        None => None,
     }
 }
 

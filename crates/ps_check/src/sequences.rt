@@ -18,7 +18,8 @@ ghost use Rattle.ps_check.specs.inside.Lists.{AreTrees, AreItems, behind_void, c
 use crate::checker::Checker;
 use crate::clause::Clause;
 use crate::fault::CheckFault;
-use crate::fits::Test;
+use crate::looks::lent;
+use crate::fits::{Test, is_int, is_void};
 use ps_base::line::Line;
 use ps_base::list::List;
 use ps_base::ty::Ty;
@@ -65,7 +66,7 @@ impl Checker {
     fn item(&mut self, before: Ty, line: Line, item: &Rough) -> Result<Clause, CheckFault>
         ensures { IsClause (behind_void line (ty_view before) (check_of (names_of self.old.scope) (phrase_of item.now))) result self.new.scope }
     {
-        if !matches!(&before, Ty::Void) {
+        if !is_void(&before) {
             return Err(CheckFault::Mismatch {
                 line,
                 found: before,
@@ -100,8 +101,8 @@ impl Checker {
         ensures { IsOfType types.Void (check_item (names_of self.old.scope) (item_of item.now)) result self.new.scope }
     {
         let Clause { tree: e, ty } = self.tested(&item.e, Test::Written)?;
-        let Clause { tree: w, ty: width } = self.if_any(item.w.as_ref(), Ty::Int, TreeForm::Empty)?;
-        let wide = matches!(&width, Ty::Int);
+        let Clause { tree: w, ty: width } = self.if_any(lent(&item.w), Ty::Int, TreeForm::Empty)?;
+        let wide = is_int(&width);
         let line = item.line;
         let form = TreeForm::Write {
             e,

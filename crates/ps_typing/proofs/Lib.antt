@@ -1,3 +1,4 @@
 mod Rows
 mod PlacedRows
 pub mod SameTypes
+pub mod Keeps

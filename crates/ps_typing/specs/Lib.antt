@@ -6,3 +6,5 @@ pub mod Mentions
 pub mod Placing
 pub mod Placed
 pub mod Program
+pub mod Items
+pub mod WellTyped

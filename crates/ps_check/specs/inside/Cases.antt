@@ -34,6 +34,6 @@ all_arms node.no_arms others = others
 all_arms (node.more_arms a as_) others = node.more_arms a (all_arms as_ others)
 
 -- the arms that were made, and then those of the rest
-abbrev pub AreMoreArms : Outcome node.Arms → List ArmOf → List ArmOf → Result (Unit {0}) CheckFault → Content → Type 0
-AreMoreArms outcome before after result scope =
-    MatchResult result (λ _. (ty : TyView) × ((outcome >>= λ rest last names. Gives (all_arms (arms_in before) rest) ty names) ≡ Gives (arms_in after) ty (names_of scope))) (IsFault outcome)
+abbrev pub AreMoreArms : TyView → Outcome node.Arms → List ArmOf → List ArmOf → Result (Unit {0}) CheckFault → Content → Type 0
+AreMoreArms own outcome before after result scope =
+    MatchResult result (λ _. (outcome >>= λ rest last names. Gives (all_arms (arms_in before) rest) own names) ≡ Gives (arms_in after) own (names_of scope)) (IsFault outcome)

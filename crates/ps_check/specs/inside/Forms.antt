@@ -1,5 +1,5 @@
 -- What the functions of the check do for single forms.
-use Rattle.std.specs.Prelude.{ℕ, Bool, List, Some, None, if◌then◌else◌}
+use Rattle.std.specs.Prelude.{ℕ, Bool, List, Option, Some, None, if◌then◌else◌}
 use Rattle.ps_base.specs.TyView.{TyView}
 use Rattle.ps_base.specs.TyView as types
 use Rattle.ps_base.specs.declared.line.Line.{Line}
@@ -8,7 +8,7 @@ use Rattle.ps_program.specs.Node.{Node, Nodes}
 use Rattle.ps_program.specs.Node as node
 use Rattle.ps_program.specs.NodeView.{node_of}
 use Rattle.std.specs.Rc.{rc_value}
-use Rattle.ps_typing.specs.Names.{Names, Procedure, plain, scan}
+use Rattle.ps_typing.specs.Names.{Names, Meaning, class, Procedure, plain, scan}
 use Rattle.ps_typing.specs.Fault.{NotApplicable}
 use Rattle.ps_typing.specs.Checking.{Outcome, Gives, Refuses, ◌>>=◌, Checker, check, line_of, wants, passes, isnt_void, introduced, literal, named_literal, with_args, scan_applied}
 use Rattle.ps_check.specs.declared.applications.Head.{Head}
@@ -33,8 +33,13 @@ prefix_node (prefix.Neg line) e = node.Neg e line
 abbrev pub check_prefixed : Prefix → Names → Phrase → Outcome Node
 check_prefixed op names e = wants (prefix_ty op) (line_of e) (check names e) >>= λ e t names. Gives (prefix_node op e) (prefix_ty op) names
 
+-- a class, where one is meant
+abbrev pub class_meant : Option Meaning → Option Meaning
+class_meant (Some (class text fields)) = Some (class text fields)
+class_meant _ = None
+
 abbrev pub class_test : Bool → Node → List ℕ → Node
-class_test negated e class = if negated then node.Not (node.Is e class) else node.Is e class
+class_test negated e of = if negated then node.Not (node.Is e of) else node.Is e of
 
 abbrev pub guard_node : Guard → Node → Node → Node
 guard_node guard.IfDo c a = node.IfDo c a
@@ -58,7 +63,7 @@ check_named names name variable l = named_literal names name variable l.line l.p
 
 abbrev pub head_node : Head → Line → Nodes → Node
 head_node (head.Call f) line args = node.Call (node_of f) args line
-head_node (head.Make class) line args = node.Make (rc_value class) args
+head_node (head.Make of) line args = node.Make (rc_value of) args
 head_node (head.Lib code) line args = node.Lib code args line
 
 -- one subscript

@@ -7,11 +7,11 @@ use Rattle.ps_check.specs.inside.Weights.{weight, weight_links}
 use Rattle.ps_check.proofs.chains.gather.Given as goal
 
 -- the links so far, behind what is left of the chain, make the chain
-abbrev pub invariant-loop : goal.invariant-loop
-invariant-loop l = record {
-  chain : (names : Names) → check_links l.links.items (check names (phrase_of l.rest.now)) ≡ check_links l.initial.links.items (check names (phrase_of l.initial.rest.now));
-  lighter : weight_links l.links.items + weight (phrase_of l.rest.now) ≤ weight_links l.initial.links.items + weight (phrase_of l.initial.rest.now);
+abbrev pub invariant-loop-link : goal.invariant-loop-link
+invariant-loop-link l = record {
+  chain : (names : Names) → check_links l.links.items (check names (phrase_of l.rest)) ≡ check_links l.initial.links.items (check names (phrase_of l.initial.rest));
+  lighter : weight_links l.links.items + weight (phrase_of l.rest) ≤ weight_links l.initial.links.items + weight (phrase_of l.initial.rest);
 }
 
-abbrev pub decreases-loop : goal.decreases-loop
-decreases-loop l = weight (phrase_of l.rest.now)
+abbrev pub decreases-loop-link : goal.decreases-loop-link
+decreases-loop-link l = weight (phrase_of l.rest)

@@ -6,4 +6,4 @@ use Rattle.ps_check.proofs.declarators.put_group.Given as goal
 
 -- the names before the place were put behind the first
 abbrev pub invariant-loop-name : goal.invariant-loop-name
-invariant-loop-name l = groups_of l.made.items ≡ groups_of l.initial.made.items ++ names_in (ty_view l.ty.now) (take l.name-index l.name-items)
+invariant-loop-name l = groups_of l.made.items ≡ groups_of l.initial.made.items ++ names_in (ty_view l.ty) (take l.name-index l.name-items)

@@ -11,7 +11,7 @@ use Rattle.ps_typing.specs.Checking.{Gives, check_all, check_written, check_each
 use Rattle.ps_check.specs.inside.Links.{check_links}
 use Rattle.ps_check.specs.inside.Weights.{weight, weight_all, weight_if_any, weight_arms, weight_arm, weight_written, weight_item, weight_link, weight_links}
 use Rattle.ps_check.specs.inside.Views.{maybe_lent}
-use Rattle.ps_check.proofs.After.{after, after_nodes, after_arms}
+use Rattle.ps_check.proofs.After.{after, after_as, after_nodes, after_arms}
 use Rattle.ps_check.proofs.checker.Checker.+clause.Given as goal
 
 abbrev pub decreases-clause : goal.decreases-clause
@@ -174,11 +174,11 @@ invariant-written-loop-item l = after (after_nodes l.trees.items) (check_written
 abbrev pub invariant-each-loop-clause : goal.invariant-each-loop-clause
 invariant-each-loop-clause l = after (after_nodes l.trees.items) (check_each (names_of l.self.scope) (ty_view l.ty) (checkers (phrases_in (drop l.clause-index l.clauses)))) ≡ check_each (names_of l.initial.self.scope) (ty_view l.ty) (checkers (phrases_in l.clauses))
 
-abbrev pub invariant-arguments-loop : goal.invariant-arguments-loop
-invariant-arguments-loop l = after (after_nodes l.trees.items) (check_args (names_of l.self.scope) (ty_views (drop l.i l.types)) (checkers (phrases_in (drop l.i l.args)))) ≡ check_args (names_of l.initial.self.scope) (ty_views l.types) (checkers (phrases_in l.args))
+abbrev pub invariant-arguments-loop-i : goal.invariant-arguments-loop-i
+invariant-arguments-loop-i l = after (after_nodes l.trees.items) (check_args (names_of l.self.scope) (ty_views (drop l.i l.types)) (checkers (phrases_in (drop l.i l.args)))) ≡ check_args (names_of l.initial.self.scope) (ty_views l.types) (checkers (phrases_in l.args))
 
 abbrev pub invariant-more_arms-loop-arm : goal.invariant-more_arms-loop-arm
-invariant-more_arms-loop-arm l = after (after_arms l.made.items) (check_arms (names_of l.self.scope) (ty_view l.ty) (Some (ty_view l.own)) (rough_arms_in (drop l.arm-index l.arms))) ≡ after (after_arms l.initial.made.items) (check_arms (names_of l.initial.self.scope) (ty_view l.ty) (Some (ty_view l.own)) (rough_arms_in l.arms))
+invariant-more_arms-loop-arm l = after_as (ty_view l.own) (after_arms l.made.items) (check_arms (names_of l.self.scope) (ty_view l.ty) (Some (ty_view l.own)) (rough_arms_in (drop l.arm-index l.arms))) ≡ after_as (ty_view l.own) (after_arms l.initial.made.items) (check_arms (names_of l.initial.self.scope) (ty_view l.ty) (Some (ty_view l.own)) (rough_arms_in l.arms))
 
 -- the subscripts that are left, behind those that are checked
 abbrev pub invariant-subscripts-loop-arg : goal.invariant-subscripts-loop-arg

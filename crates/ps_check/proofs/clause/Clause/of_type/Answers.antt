@@ -10,7 +10,7 @@ use Rattle.ps_check.proofs.clause.Clause.of_type.Goals as goal
 pub returns-then-same_type : goal.returns-then-same_type
 returns-then-same_type c scope =
     passed (λ found. is_same found (ty_view c.args.wanted)) _ _ _ _ _ _ refl (same _ _ _ c.same_type.ensures c.if-same_type.true)
-    ∙ ap (λ t. Gives (node_of c.args.self.tree) t (names_of scope)) (c.same_type.ensures.0 (subst IsTrue (sym c.if-same_type.true) tt))
+    ∙ ap (λ t. Gives (node_of c.args.self.tree) t (names_of scope)) (c.same_type.ensures.0 (subst IsTrue (sym c.if-same_type.true) refl))
 
 pub returns : goal.returns
 returns c scope =

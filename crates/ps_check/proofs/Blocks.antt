@@ -1,0 +1,28 @@
+-- Where a block ends, what was around it is still there.
+use Rattle.std.proofs.Common.{◌≡◌, ◌≤◌, ℕ, Bool, true, false, List, ◌++◌, length, length-append, arith, refl, sym, ap, ◌∙◌}
+use Rattle.std.specs.Prelude.{if◌then◌else◌}
+use Rattle.ps_base.specs.TyView.{TyView}
+use Rattle.ps_base.specs.declared.line.Line.{Line}
+use Rattle.ps_program.specs.Node.{Node}
+use Rattle.ps_typing.specs.Fault.{Mismatch}
+use Rattle.ps_typing.specs.Names.{Names}
+use Rattle.ps_typing.specs.Checking.{Outcome, Gives, Refuses, passes}
+
+pub stays : {A : Type 0} (block : ℕ) (last here around : List A) → last ≡ here ++ around → block ≡ length around → block ≤ length last
+stays block last here around is at =
+    let all : length last ≡ length (here ++ around) = ap length is in
+    omega (arith, all, at, length-append here around)
+
+-- a clause that passed its test gives what it gave
+abbrev is_given : Outcome Node → Type 0
+is_given (Gives tree ty names) = Unit {0}
+is_given (Refuses fault) = ⊥
+
+pub unpassed : (test : TyView → Bool) (wanted : TyView) (line : Line) (o : Outcome Node) (tree : Node) (ty : TyView) (n : Names) → passes test wanted line o ≡ Gives tree ty n → o ≡ Gives tree ty n
+unfolding passes
+unpassed test wanted line (Gives a k m) tree ty n is = by_test (test k) is
+  where
+    by_test : (b : Bool) → (if b then Gives a k m else Refuses (Mismatch line k wanted)) ≡ Gives tree ty n → Gives a k m ≡ Gives tree ty n
+    by_test true same = same
+    by_test false same = absurd cc
+unpassed test wanted line (Refuses fault) tree ty n is = absurd cc

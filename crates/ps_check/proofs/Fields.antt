@@ -1,0 +1,10 @@
+-- The name that an only argument is.
+use Rattle.std.proofs.Common.{◌≡◌, Bool, true, false, List, [], ◌∷◌, None, length, refl, sym, ◌∙◌}
+use Rattle.std.specs.Bool.{◌==◌}
+use Rattle.ps_tree.specs.PhraseLists.{phrases_in}
+use Rattle.ps_tree.specs.declared.rough.Rough.{Rough}
+use Rattle.ps_typing.specs.Checking.{field_name}
+
+pub several : (only : Rough) (rest : List Rough) (b : Bool) → b ≡ (length rest == 0) → b ≡ false → field_name (phrases_in (only ∷ rest)) ≡ None
+several only [] b is fails = absurd cc
+several only (r ∷ rest) b is fails = refl
