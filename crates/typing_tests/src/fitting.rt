@@ -181,7 +181,7 @@ fn operators_have_trees(rt: HostRuntime) -> Result<(), Fail> {
 }
 
 // What is applied.
-static APPLICATIONS: [(&str, &str); 20] = [
+static APPLICATIONS: [(&str, &str); 21] = [
     (
         "let f = proc(int a; bool b -> int); a; write f(1, true)\n+ f(2, f(3, false) = 4)",
         "(block (let P0:proc(int,bool->int) (proc@1 P0:int P1:bool ->int P0:int)) (write@2:int \
@@ -229,6 +229,11 @@ static APPLICATIONS: [(&str, &str); 20] = [
         (field@3 c(int a;pntr next;string s) 2:string (field@3 c(int a;pntr next;string s) \
         1:pntr P0:pntr)) -)) (set field@5 c(int a;pntr next;string s) 0:int (field@5 c(int \
         a;pntr next;string s) 1:pntr P0:pntr) 2))",
+    ),
+    (
+        "structure c(*int v); let p = nil\np(\nv)(\n1)\n:= 2; let w =\n@\n1 of int[2]",
+        "(block class (let P0:pntr nil) (set element@3:int (field@2 c(*int v) 0:*int P0:pntr) 1 \
+        2) (let P1:*int (elems@6:*int 1 2)))",
     ),
     (
         "structure c(int a); { structure d(bool b, a); write nil(a) }; write nil(a)",

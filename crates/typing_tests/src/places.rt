@@ -337,8 +337,8 @@ static LOOPS: [(&str, &str); 20] = [
         -)))))",
     ),
     (
-        "for\ni =\n1 to 2 do write\ni",
-        "(block (for@1 0 P3 1 2 1 (write@4:int P3:int -)))",
+        "\nfor\ni =\n1 to 2 do write\ni",
+        "(block (for@2 0 P3 1 2 1 (write@5:int P3:int -)))",
     ),
     (
         "let t = table(); let f = proc(string k; pntr v -> bool); true; write s.scan(t, f); let \

@@ -388,6 +388,61 @@ fn sequences_have_types(rt: HostRuntime) -> Result<(), Fail> {
     rows_are_answered(&rt, rt.alloc(), &SEQUENCES)
 }
 
+// A part has the line of its operator, of its first keyword or bracket, or of its one token.
+static LINES: [(&str, &str); 31] = [
+    (
+        "write (\nif true then nil else nil) + 1",
+        "3@2 pntr for int",
+    ),
+    ("write (\n\nnil\n= nil) + 1", "3@4 bool for int"),
+    (
+        "let f = proc(-> bool); true\nwrite 1 + f(\n)",
+        "3@2 bool for int",
+    ),
+    ("write 1 + {\ntrue }", "3@1 bool for int"),
+    ("write 1 + begin true\nend", "3@1 bool for int"),
+    ("write 1 + (\n~\ntrue)", "3@2 bool for int"),
+    ("write true = (\n-\n1)", "3@2 int for bool"),
+    ("write true = (\n+\n1)", "3@2 int for bool"),
+    ("write (\nvector\n1::2 of 0) + 1", "3@2 *int for int"),
+    ("write 1 +\n@\n1 of int[2]", "3@2 *int for int"),
+    ("if\nlwb(\n@1 of int[1]) do {}", "3@2 int for bool"),
+    ("write 1 *\n\"abc\"(\n1|2)", "3@2 string for int"),
+    ("write 1 + (nil\nis\nerror.record)", "3@2 bool for int"),
+    ("write 1 + (true\nor\ntrue)", "3@2 bool for int"),
+    ("write 1 + (true\nand\ntrue)", "3@2 bool for int"),
+    ("write true = (1\n+\n2\n-\n3)", "3@4 int for bool"),
+    ("write true = (1\n*\n2 + 3)", "3@3 int for bool"),
+    ("write true = (\"a\"\n++\n\"b\")", "3@2 string for bool"),
+    (
+        "structure c(bool b)\nwrite 1 + nil(\nb)",
+        "3@2 bool for int",
+    ),
+    (
+        "let v = @1 of bool[true]\nwrite 1 + v(\n1)",
+        "3@2 bool for int",
+    ),
+    (
+        "write 1 + error.record(\n\"\", \"\", \"\")",
+        "3@1 pntr for int",
+    ),
+    ("let x = (\nif\ntrue do {})", "3@2 void for bool"),
+    ("let x = (\nwhile false do {})", "3@2 void for bool"),
+    ("let x = (\nrepeat {} while false)", "3@2 void for bool"),
+    ("let x = (\nfor i = 1 to 2 do {})", "3@2 void for bool"),
+    ("let x = (\ncase 1 of default: {})", "3@2 void for bool"),
+    ("let x = (\nwrite\n1)", "3@2 void for bool"),
+    ("let x =\nabort", "3@2 void for bool"),
+    ("let a := 1\nlet x = a\n:=\n2", "3@3 void for bool"),
+    ("write (\nproc(); {})", "3@2 proc() for int"),
+    ("write 1 + ((((\ntrue))))", "3@2 bool for int"),
+];
+
+#[test]
+fn parts_have_lines(rt: HostRuntime) -> Result<(), Fail> {
+    rows_are_answered(&rt, rt.alloc(), &LINES)
+}
+
 // An assignment to what is no variable, no element and no field.
 static ASSIGNMENTS: [(&str, &str); 25] = [
     ("let a = 1\na\n:= 2", "4@3"),
