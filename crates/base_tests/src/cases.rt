@@ -23,8 +23,9 @@ const FRUIT: [Row; 3] = [
 
 #[test]
 fn rows_are_found_by_code(rt: HostRuntime) {
-    for (code, place) in [(7, Some(0)), (2, Some(1)), (255, Some(2)), (0, None)] {
-        assert_eq!(rt; find_code(&FRUIT, code), place);
+    let rows = [(7, Some(0)), (2, Some(1)), (255, Some(2)), (0, None)];
+    for (code, place) in &rows {
+        assert_eq!(rt; find_code(&FRUIT, *code), *place);
     }
     assert_eq!(rt; find_code(&[], 7), None);
 }
@@ -37,8 +38,8 @@ fn rows_are_found_by_name(rt: HostRuntime) {
         (b"", Some(2)),
         (b"fi", None),
     ];
-    for (name, place) in rows {
-        assert_eq!(rt; find_name(&FRUIT, name), place);
+    for (name, place) in &rows {
+        assert_eq!(rt; find_name(&FRUIT, name), *place);
     }
     assert_eq!(rt; find_name(&[], b"fig"), None);
 }

@@ -4,46 +4,100 @@ use ps_base::bytes::Bytes;
 use ps_base::ty::{Ty, procedure_of, vector_of};
 use ps_type_text::{Member, class_text, same_type, type_text};
 use std::alloc::Global;
+use std::mem;
 use std::test::Fail;
 
-// `proc(int,string->bool)`
-fn test_of_key(alloc: Global) -> Result<Ty, Fail> {
-    let mut parameters = Vec::new(alloc);
-    parameters.push(Ty::Int)?;
-    parameters.push(Ty::Str)?;
-    Ok(procedure_of(alloc, parameters, Ty::Bool)?)
+/// What makes a type, of those that were made before it.
+#[derive(Clone, Copy)]
+enum Make {
+    Int,
+    Bool,
+    Str,
+    Pntr,
+    Void,
+    /// Vectors of the last.
+    Vector,
+    /// Procedures that give the last and take those before it.
+    Proc,
+}
+
+// Types as they are made, and the text of each.
+const TYPES: [(&[Make], &[u8]); 10] = [
+    (&[Make::Int], b"int"),
+    (&[Make::Bool], b"bool"),
+    (&[Make::Str], b"string"),
+    (&[Make::Pntr], b"pntr"),
+    (&[Make::Pntr, Make::Vector, Make::Vector], b"**pntr"),
+    (
+        &[Make::Int, Make::Str, Make::Bool, Make::Proc],
+        b"proc(int,string->bool)",
+    ),
+    (&[Make::Int, Make::Proc], b"proc(->int)"),
+    (&[Make::Void, Make::Proc], b"proc()"),
+    (
+        &[Make::Int, Make::Vector, Make::Void, Make::Proc],
+        b"proc(*int)",
+    ),
+    (
+        &[
+            Make::Int,
+            Make::Str,
+            Make::Bool,
+            Make::Proc,
+            Make::Proc,
+            Make::Vector,
+        ],
+        b"*proc(->proc(int,string->bool))",
+    ),
+];
+
+fn last(types: &mut Vec<Ty>) -> Result<Ty, Fail> {
+    Ok(types.pop().ok_or("no type")?)
+}
+
+fn next(alloc: Global, types: &mut Vec<Ty>, make: Make) -> Result<Ty, Fail> {
+    match make {
+        Make::Int => Ok(Ty::Int),
+        Make::Bool => Ok(Ty::Bool),
+        Make::Str => Ok(Ty::Str),
+        Make::Pntr => Ok(Ty::Pntr),
+        Make::Void => Ok(Ty::Void),
+        Make::Vector => Ok(vector_of(alloc, last(types)?)?),
+        Make::Proc => {
+            let gives = last(types)?;
+            let takes = mem::replace(types, Vec::new(alloc));
+            Ok(procedure_of(alloc, takes, gives)?)
+        }
+    }
+}
+
+fn made(alloc: Global, makes: &[Make]) -> Result<Ty, Fail> {
+    let mut types = Vec::new(alloc);
+    for make in makes {
+        let ty = next(alloc, &mut types, *make)?;
+        types.push(ty)?;
+    }
+    last(&mut types)
 }
 
 #[test]
 fn types_have_their_texts(rt: HostRuntime) -> Result<(), Fail> {
-    let alloc = rt.alloc();
-    let none = || Vec::new(alloc);
-    let mut one = Vec::new(alloc);
-    one.push(vector_of(alloc, Ty::Int)?)?;
-    let rows: [(Ty, &[u8]); 10] = [
-        (Ty::Int, b"int"),
-        (Ty::Bool, b"bool"),
-        (Ty::Str, b"string"),
-        (Ty::Pntr, b"pntr"),
-        (vector_of(alloc, vector_of(alloc, Ty::Pntr)?)?, b"**pntr"),
-        (test_of_key(alloc)?, b"proc(int,string->bool)"),
-        (procedure_of(alloc, none(), Ty::Int)?, b"proc(->int)"),
-        (procedure_of(alloc, none(), Ty::Void)?, b"proc()"),
-        (procedure_of(alloc, one, Ty::Void)?, b"proc(*int)"),
-        (
-            vector_of(alloc, procedure_of(alloc, none(), test_of_key(alloc)?)?)?,
-            b"*proc(->proc(int,string->bool))",
-        ),
-    ];
-    for (ty, text) in &rows {
-        assert_eq!(rt; type_text(alloc, ty)?.as_slice(), *text);
+    for (makes, text) in &TYPES {
+        let ty = made(rt.alloc(), makes)?;
+        assert_eq!(rt; type_text(rt.alloc(), &ty)?.as_slice(), *text);
     }
-    for (place, (ty, _)) in rows.iter().enumerate() {
-        for (other_place, (other, _)) in rows.iter().enumerate() {
-            assert_eq!(rt; same_type(ty, other), place == other_place);
+    Ok(())
+}
+
+#[test]
+fn only_one_type_is_the_same(rt: HostRuntime) -> Result<(), Fail> {
+    for (place, (makes, _)) in TYPES.iter().enumerate() {
+        let ty = made(rt.alloc(), makes)?;
+        for (other_place, (others, _)) in TYPES.iter().enumerate() {
+            let other = made(rt.alloc(), others)?;
+            assert_eq!(rt; same_type(&ty, &other), place == other_place);
         }
     }
-    assert!(rt; same_type(&test_of_key(alloc)?, &test_of_key(alloc)?));
     Ok(())
 }
 

@@ -1,4 +1,4 @@
-//! Tests of the language: the scanner, the symbols, the tree, the parser and the printer.
+//! Tests of the language: the tree and the parser.
 #![tactic(auto)]
 
 #[cfg(test)]
@@ -6,14 +6,8 @@ mod faults;
 #[cfg(test)]
 mod forms;
 #[cfg(test)]
-mod printing;
-#[cfg(test)]
 mod reading;
 #[cfg(test)]
-mod scanning;
-#[cfg(test)]
 mod show;
-#[cfg(test)]
-mod symbols;
 #[cfg(test)]
 mod trees;

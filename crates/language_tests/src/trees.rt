@@ -48,8 +48,8 @@ const EXPRESSIONS: [(&[u8], &str); 22] = [
 
 #[test]
 fn expressions_have_their_trees(rt: HostRuntime) -> Result<(), Fail> {
-    for (text, tree) in EXPRESSIONS {
-        assert_eq!(rt; shown_tree(rt.alloc(), text)?.as_str(), tree);
+    for (text, tree) in &EXPRESSIONS {
+        assert_eq!(rt; shown_tree(rt.alloc(), text)?.as_str(), *tree);
     }
     Ok(())
 }
@@ -127,8 +127,8 @@ const CLAUSES: [(&[u8], &str); 23] = [
 
 #[test]
 fn clauses_have_their_trees(rt: HostRuntime) -> Result<(), Fail> {
-    for (text, tree) in CLAUSES {
-        assert_eq!(rt; shown_tree(rt.alloc(), text)?.as_str(), tree);
+    for (text, tree) in &CLAUSES {
+        assert_eq!(rt; shown_tree(rt.alloc(), text)?.as_str(), *tree);
     }
     Ok(())
 }

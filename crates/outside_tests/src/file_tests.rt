@@ -49,7 +49,7 @@ fn writes_of_a_file_host(rt: HostRuntime) -> Result<(), Fail> {
         ),
         (&[Step::Fails], Err(HostFailed), 0),
     ];
-    for (steps, answer, taken) in rows {
+    for (steps, answer, taken) in &rows {
         let (calls, moved) = (Cell::new(0), Cell::new(0));
         let system = Script {
             steps,
@@ -57,8 +57,8 @@ fn writes_of_a_file_host(rt: HostRuntime) -> Result<(), Fail> {
             moved: &moved,
         };
         let mut host = FileHost::new(&system, alloc, "v.vol", false)?;
-        assert_eq!(rt; host.put(b"hello"), answer);
-        assert_eq!(rt; moved.get(), taken);
+        assert_eq!(rt; host.put(b"hello"), *answer);
+        assert_eq!(rt; moved.get(), *taken);
     }
     let mut host = FileHost::new(&rt, alloc, "v.vol", false)?;
     assert_eq!(rt; host.put(b"told\n"), Ok(()));
@@ -85,7 +85,7 @@ fn reads_in_pieces(rt: HostRuntime) -> Result<(), Fail> {
         (&[Step::Moves(3), Step::Fails], Err(ShelfFault::Failed), 3),
         (&[Step::Fails], Err(ShelfFault::Failed), 0),
     ];
-    for (steps, answer, length) in rows {
+    for (steps, answer, length) in &rows {
         text.clear();
         let (calls, moved) = (Cell::new(0), Cell::new(0));
         let mut file = Script {
@@ -93,8 +93,8 @@ fn reads_in_pieces(rt: HostRuntime) -> Result<(), Fail> {
             calls: &calls,
             moved: &moved,
         };
-        assert_eq!(rt; read_text(&mut file, &mut buffer, &mut text), answer);
-        assert_eq!(rt; text.len(), length);
+        assert_eq!(rt; read_text(&mut file, &mut buffer, &mut text), *answer);
+        assert_eq!(rt; text.len(), *length);
     }
     Ok(())
 }
@@ -110,11 +110,11 @@ fn reads_of_the_longest_files(rt: HostRuntime) -> Result<(), Fail> {
         (4_294_967_296, too_long(4_294_967_296)),
         (4_294_967_297, Err(ShelfFault::Failed)),
     ];
-    for (length, answer) in rows {
+    for (length, answer) in &rows {
         text.clear();
         assert_eq!(rt;
-            read_text(&mut Zeros(length), &mut buffer, &mut text),
-            answer
+            read_text(&mut Zeros(*length), &mut buffer, &mut text),
+            *answer
         );
     }
     Ok(())
@@ -155,8 +155,11 @@ fn files_of_a_dir_shelf(rt: HostRuntime) -> Result<(), Fail> {
         (1_048_576, (Ok(()), 1_048_576)),
         (1_048_577, (too_long, 0)),
     ];
-    for (length, answer) in rows {
-        assert_eq!(rt; read_back(&rt, &mut shelf, path.as_str(), length)?, answer);
+    for (length, answer) in &rows {
+        assert_eq!(rt;
+            read_back(&rt, &mut shelf, path.as_str(), *length)?,
+            *answer
+        );
     }
     fs::remove_dir_all(&rt, folder.as_str())?;
     Ok(())

@@ -71,7 +71,7 @@ fn texts_of_a_memory_shelf(rt: HostRuntime) -> Result<(), Fail> {
         ("longer", longer.as_slice()),
         ("a.ps", b"write 2"),
     ];
-    for (name, bytes) in texts {
+    for (name, bytes) in &texts {
         shelf.add(name, bytes)?;
     }
     let mut text = b"before".to_vec(alloc)?;
@@ -83,9 +83,9 @@ fn texts_of_a_memory_shelf(rt: HostRuntime) -> Result<(), Fail> {
         ("longer", too_long, b""),
         ("long", Ok(()), longest.as_slice()),
     ];
-    for (name, answer, bytes) in rows {
-        assert_eq!(rt; shelf.text(name, &mut text), answer);
-        assert_eq!(rt; text.as_slice(), bytes);
+    for (name, answer, bytes) in &rows {
+        assert_eq!(rt; shelf.text(name, &mut text), *answer);
+        assert_eq!(rt; text.as_slice(), *bytes);
     }
     Ok(())
 }

@@ -1,8 +1,6 @@
-//! Tests of the program: the types, the machine, and the command from its words to its status.
+//! Tests of the program: the command from its words to its status.
 #![tactic(auto)]
 
-#[cfg(test)]
-mod code;
 #[cfg(test)]
 mod command_tests;
 #[cfg(test)]

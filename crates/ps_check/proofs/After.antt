@@ -10,7 +10,10 @@ use Rattle.ps_program.specs.Node.{Node, Nodes, none, more, Arms, no_arms, more_a
 use Rattle.ps_program.specs.Node as node
 use Rattle.ps_program.specs.NodeView.{node_of, nodes_in, arm_of}
 use Rattle.ps_program.specs.inside.PartsView.{arms_in}
-use Rattle.ps_program.specs.declared.form.Arm.{Arm as ArmOf}
+use Rattle.ps_base.specs.List.{items_of}
+use Rattle.ps_base.specs.declared.list.List.{List as ListOf}
+use Rattle.ps_program.proofs.NodeLists.{arm_of-parts}
+use Rattle.ps_program.specs.declared.form.Arm.{Arm as ArmOf, Arm-F, roll-Arm, out-roll-Arm}
 use Rattle.ps_program.specs.declared.form.Tree.{Tree}
 use Rattle.ps_typing.specs.Fault.{Fault, Mismatch}
 use Rattle.ps_typing.specs.Names.{Names}
@@ -126,11 +129,11 @@ written_typed names (form.more_items (form.item e w line) rest) =
     typed_bind Void _ _ (λ e t n. typed_bind Void _ _ (λ w wide n'. typed_bind Void _ _ (λ rest last n''. refl)))
 
 -- one clause, and then the rest
-pub each_step : (names n : Names) (t own : TyView) (one : Node) (c : Checker) (cs : List Checker) → wants t c.line (c.check names) ≡ Gives one own n → check_each names t (c ∷ cs) ≡ after (more one) (check_each n t cs)
-each_step names n t own one c cs is = given _ _ _ _ _ is ∙ retyped t (check_each n t cs) (more one) (each_typed n t cs)
+pub each_step : (names n : Names) (t own : TyView) (one : Node) (p : Phrase) (rest : Phrases) → wants t (line_of p) (check names p) ≡ Gives one own n → check_each names t (checkers (form.more p rest)) ≡ after (more one) (check_each n t (checkers rest))
+each_step names n t own one p rest is = given _ _ _ _ _ is ∙ retyped t (check_each n t (checkers rest)) (more one) (each_typed n t (checkers rest))
 
-pub args_step : (names n : Names) (t own : TyView) (ts : TyViews) (one : Node) (c : Checker) (cs : List Checker) → wants t c.line (c.check names) ≡ Gives one own n → check_args names (types.more t ts) (c ∷ cs) ≡ after (more one) (check_args n ts cs)
-args_step names n t own ts one c cs is = given _ _ _ _ _ is ∙ retyped Void (check_args n ts cs) (more one) (args_typed n ts cs)
+pub args_step : (names n : Names) (t own : TyView) (ts : TyViews) (one : Node) (p : Phrase) (rest : Phrases) → wants t (line_of p) (check names p) ≡ Gives one own n → check_args names (types.more t ts) (checkers (form.more p rest)) ≡ after (more one) (check_args n ts (checkers rest))
+args_step names n t own ts one p rest is = given _ _ _ _ _ is ∙ retyped Void (check_args n ts (checkers rest)) (more one) (args_typed n ts (checkers rest))
 
 -- an item of a sequence
 abbrev with_rest : Line → Phrases → Node → TyView → Names → Outcome Nodes
@@ -214,15 +217,15 @@ pushed_arm own done after_it a o left all is step before =
 pub finished_arms : (own t : TyView) (done : List ArmOf) (n : Names) (left all : Outcome Arms) → left ≡ Gives no_arms t n → after_as own (after_arms done) left ≡ all → all ≡ Gives (arms_in done) own n
 finished_arms own t done n left all is before = sym before ∙ given left no_arms t n _ is ∙ ap (λ (as_ : Arms). Gives as_ own n) (arms_none done)
 
+fault_in : {A : Type 0} → Fault → Outcome A → Fault
+fault_in other (Refuses fault) = fault
+fault_in other (Gives a t n) = other
+
 -- the fault of the rest is that of all
 unwrapped : {A B : Type 0} (own : TyView) (g : A → B) (all : Outcome A) (fault : Fault) → after_as own g all ≡ Refuses fault → all ≡ Refuses fault
-unfolding ◌>>=◌
+unfolding ◌>>=◌ fault_in
 unwrapped own g (Gives a t n) fault is = absurd cc
-unwrapped own g (Refuses own_fault) fault is = ap fault_as (sym (sym is))
-  where
-    fault_as : Outcome _ → Outcome _
-    fault_as (Refuses f) = Refuses f
-    fault_as (Gives a t n) = Refuses own_fault
+unwrapped own g (Refuses own_fault) fault is = ap Refuses (ap (fault_in own_fault) is)
 
 unwrapped_if_any : {A B : Type 0} (own : TyView) (g : A → B) (all : Outcome A) (fault : Option Fault) → Refused (after_as own g all) fault → Refused all fault
 unwrapped_if_any own g all None h = tt
@@ -240,6 +243,10 @@ pub first_is : (o : Outcome Arms) (a : node.Arm) (own : TyView) (arms : Arms) (n
 unfolding ◌>>=◌
 first_is (Gives rest t m) a own arms n is = ap (λ as_. first_type as_ own) (sym (ap (arms_from_outcome arms) is))
 first_is (Refuses fault) a own arms n is = absurd cc
+
+-- an arm that is made
+pub arm_made : (labels : ListOf Tree) (a : Tree) (ts : List Tree) → ts ≡ items_of labels → node.arm (nodes_in ts) (node_of a) ≡ arm_of (roll-Arm record { labels = labels; a = a })
+arm_made labels a ts is = ap (λ l. node.arm (nodes_in l) (node_of a)) is ∙ sym (arm_of-parts (roll-Arm record { labels = labels; a = a }) ∙ ap (λ (p : Arm-F _ _ _ _ _). node.arm (nodes_in (items_of p.labels)) (node_of p.a)) (out-roll-Arm record { labels = labels; a = a }))
 
 -- a list from a place on
 pub cut : {A B : Type 0} (f : A → B) (xs : List A) (i : ℕ) (d : A) → i < length xs → map f (drop i xs) ≡ f (get_or xs i d) ∷ map f (drop (i + 1) xs)

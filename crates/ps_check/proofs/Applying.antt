@@ -1,21 +1,21 @@
 -- Applications to arguments and to subscripts.
-use Rattle.std.proofs.Common.{◌≡◌, ◌≤◌, ◌+◌, ℕ, Bool, true, false, nat_eq, suc, List, [], ◌∷◌, length, arith, refl, sym, ap, ◌∙◌, subst}
+use Rattle.std.proofs.Common.{◌≡◌, ◌≤◌, ◌+◌, ℕ, Bool, true, false, nat_eq, zero, suc, List, [], ◌∷◌, length, get_or, arith, refl, sym, ap, ◌∙◌, subst}
 use Rattle.std.proofs.lemmas.Bool.Decides.{nat_tests}
-use Rattle.std.specs.Prelude.{if◌then◌else◌}
+use Rattle.std.specs.Prelude.{if◌then◌else◌, Option, Some, None}
 use Rattle.ps_base.specs.TyView.{TyView, TyViews, Void, ty_view, ty_views}
 use Rattle.ps_base.specs.TyView as types
 use Rattle.ps_base.specs.declared.line.Line.{Line}
 use Rattle.ps_base.specs.declared.ty.Ty.{Ty}
-use Rattle.ps_tree.specs.Phrase.{Phrase, Phrases, phrase_of}
+use Rattle.ps_tree.specs.Phrase.{NameAt, Phrase, Phrases, phrase_of}
 use Rattle.ps_tree.specs.Phrase as form
 use Rattle.ps_tree.specs.PhraseLists.{phrases_in}
 use Rattle.ps_tree.specs.declared.rough.Rough.{Rough}
 use Rattle.ps_program.specs.Node.{Node, Nodes, none}
 use Rattle.ps_program.specs.Node as node
-use Rattle.ps_typing.specs.Fault.{NotApplicable}
-use Rattle.ps_typing.specs.Names.{Names}
-use Rattle.ps_typing.specs.Checking.{Outcome, Gives, Refuses, ◌>>=◌, Checker, check, check_args, checkers, count_types, elements, line_of, wants, with_args}
-use Rattle.ps_check.specs.inside.Forms.{check_element}
+use Rattle.ps_typing.specs.Fault.{NotApplicable, Unknown}
+use Rattle.ps_typing.specs.Names.{Names, Meaning, local, class, library}
+use Rattle.ps_typing.specs.Checking.{Outcome, Gives, Refuses, ◌>>=◌, Checker, check, check_args, checkers, count_types, elements, line_of, wants, with_args, scan_applied, is_of, isnt_void, is_same}
+use Rattle.ps_check.specs.inside.Forms.{check_element, class_meant, class_test}
 
 counted_types : (ts : List Ty) → count_types (ty_views ts) ≡ length ts
 counted_types [] = refl
@@ -24,6 +24,12 @@ counted_types (t ∷ ts) = ap (λ n. n + 1) (counted_types ts) ∙ omega arith
 counted_checkers : (cs : List Rough) → length (checkers (phrases_in cs)) ≡ length cs
 counted_checkers [] = refl
 counted_checkers (c ∷ cs) = ap suc (counted_checkers cs)
+
+equal_lengths : (n m : ℕ) → n ≡ m → nat_eq n m ≡ true
+equal_lengths n m is = grind (arith, nat_tests)
+
+other_lengths : (n m : ℕ) → (n ≡ m → ⊥) → nat_eq n m ≡ false
+other_lengths n m other = grind (arith, nat_tests)
 
 module _ (names : Names) (line : Line) (ts : List Ty) (cs : List Rough) (make : Nodes → Node) (gives : TyView) where
   with_test : Bool → Outcome Node
@@ -35,11 +41,11 @@ module _ (names : Names) (line : Line) (ts : List Ty) (cs : List Rough) (make : 
 
   pub same_number : length ts ≡ length cs → with_args names line (ty_views ts) (checkers (phrases_in cs)) make gives ≡ (check_args names (ty_views ts) (checkers (phrases_in cs)) >>= λ args t names. Gives (make args) gives names)
   unfolding with_test
-  same_number is = test_is ∙ ap with_test (let b : nat_eq (length ts) (length cs) ≡ true = search (nat_tests, is) in b)
+  same_number is = test_is ∙ ap with_test (equal_lengths _ _ is)
 
   pub other_number : (length ts ≡ length cs → ⊥) → with_args names line (ty_views ts) (checkers (phrases_in cs)) make gives ≡ Refuses (NotApplicable line)
   unfolding with_test
-  other_number other = test_is ∙ ap with_test (let b : nat_eq (length ts) (length cs) ≡ false = search (nat_tests, other) in b)
+  other_number other = test_is ∙ ap with_test (other_lengths _ _ other)
 
 -- where no argument is left
 pub no_args : (names : Names) (ts : TyViews) → check_args names ts [] ≡ Gives none Void names
@@ -63,3 +69,50 @@ elements_are names line v (types.Vector element) p rest = one (wants types.Int (
     one : (o : Outcome Node) → (o >>= λ i int n. elements n line (node.Element v i element line) element (checkers rest)) ≡ ((o >>= λ i int n. Gives (node.Element v i element line) element n) >>= λ v t n. elements n line v t (checkers rest))
     one (Gives i int n) = refl
     one (Refuses fault) = refl
+
+-- the arguments of a scan
+pub two_of : (xs : List Rough) (a f : Rough) → length xs ≡ 2 → a ≡ get_or xs 0 a → f ≡ get_or xs 1 f → xs ≡ a ∷ f ∷ []
+two_of [] a f is a_is f_is = absurd (omega (arith, is))
+two_of (x ∷ []) a f is a_is f_is = absurd (omega (arith, is))
+two_of (x ∷ y ∷ []) a f is a_is f_is = ap (λ r. r ∷ y ∷ []) (sym a_is) ∙ ap (λ r. a ∷ r ∷ []) (sym f_is)
+two_of (x ∷ y ∷ z ∷ zs) a f is a_is f_is = absurd (omega (arith, is))
+
+pub not_two : (names : Names) (line : Line) (text : Bool) (xs : List Rough) → (length xs ≡ 2 → ⊥) → scan_applied names line text (checkers (phrases_in xs)) ≡ Refuses (NotApplicable line)
+not_two names line text [] other = refl
+not_two names line text (x ∷ []) other = refl
+not_two names line text (x ∷ y ∷ []) other = absurd (other refl)
+not_two names line text (x ∷ y ∷ z ∷ zs) other = refl
+
+-- a class that is meant, and anything else
+text_in : List ℕ → Option Meaning → List ℕ
+text_in other (Some (class t fields)) = t
+text_in other _ = other
+
+pub a_class : (name : NameAt) (negated : Bool) (e : Node) (names : Names) (m : Option Meaning) (t : List ℕ) (fields : TyViews) → class_meant m ≡ Some (class t fields) → is_of name negated e names m ≡ Gives (class_test negated e t) types.Bool names
+unfolding text_in
+a_class name negated e names None t fields is = absurd cc
+a_class name negated e names (Some (local number ty variable)) t fields is = absurd cc
+a_class name negated e names (Some (library procedure)) t fields is = absurd cc
+a_class name negated e names (Some (class own others)) t fields is = ap (λ t. Gives (class_test negated e t) types.Bool names) (ap (text_in t) is)
+
+pub no_class : (name : NameAt) (negated : Bool) (e : Node) (names : Names) (m : Option Meaning) → class_meant m ≡ None → is_of name negated e names m ≡ Refuses (Unknown name.line)
+no_class name negated e names None is = refl
+no_class name negated e names (Some (local number ty variable)) is = refl
+no_class name negated e names (Some (library procedure)) is = refl
+no_class name negated e names (Some (class own others)) is = absurd cc
+
+-- a clause that isn't void
+pub not_void : (t : TyView) → isnt_void t ≡ true → is_same t Void ≡ false
+not_void types.Int is = refl
+not_void types.Bool is = refl
+not_void types.Str is = refl
+not_void types.Pntr is = refl
+not_void types.Void is = absurd cc
+not_void (types.Vector element) is = refl
+not_void (types.Proc ts g) is = refl
+
+pub one_of : (xs : List Rough) (a : Rough) → length xs ≡ 2 → a ≡ get_or xs 0 a → xs ≡ a ∷ get_or xs 1 a ∷ []
+one_of [] a is a_is = absurd (omega (arith, is))
+one_of (x ∷ []) a is a_is = absurd (omega (arith, is))
+one_of (x ∷ y ∷ []) a is a_is = ap (λ r. r ∷ y ∷ []) (sym a_is)
+one_of (x ∷ y ∷ z ∷ zs) a is a_is = absurd (omega (arith, is))

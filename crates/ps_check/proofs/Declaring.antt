@@ -1,6 +1,7 @@
 -- Parameters, fields and their types, one by one.
-use Rattle.std.proofs.Common.{◌≡◌, ◌<◌, ◌+◌, ℕ, true, List, [], ◌∷◌, ◌++◌, length, map, take, drop, get_or, slice_index_or, append_assoc, append-nil, refl, sym, ap, ◌∙◌}
-use Rattle.std.proofs.lemmas.List.{take_more, map-append}
+use Rattle.std.proofs.Common.{◌≡◌, ◌<◌, ◌≤◌, ◌+◌, ℕ, true, false, nat_lt, arith, List, [], ◌∷◌, ◌++◌, length, map, take, drop, get_or, slice_index_or, append_assoc, append-nil, refl, sym, ap, ◌∙◌}
+use Rattle.std.proofs.lemmas.List.{take_more, map-append, length-map}
+use Rattle.std.proofs.lemmas.Bool.Decides.{nat_tests}
 use Rattle.ps_base.specs.TyView.{TyView, TyViews, Void, more, and_type, ty_view, ty_views}
 use Rattle.ps_base.specs.declared.ty.Ty.{Ty}
 use Rattle.ps_base.proofs.TyLemmas.{ty_views-append}
@@ -60,3 +61,23 @@ name_step ty names i d inside = ap (names_in ty) (take_more names i d inside) �
 
 pub group_step : (groups : List Group) (i : ℕ) (d : Group) → i < length groups → groups_in (take (i + 1) groups) ≡ groups_in (take i groups) ++ phrase.group_of (slice_index_or groups i d)
 group_step groups i d inside = ap groups_in (take_more groups i d inside) ∙ groups_in-append (take i groups) (slice_index_or groups i d)
+
+-- as many names as are allowed, and more
+pub few : (all : List Declarator) (groups : List GroupAt) (n : ℕ) → groups_of all ≡ groups → n ≡ length all → n ≤ 64 → nat_lt 64 (length groups) ≡ false
+few all groups n is at past =
+    let size : length groups ≡ n = sym (ap length is) ∙ length-map all group_of ∙ sym at in
+    ap (nat_lt 64) size ∙ small n past
+  where
+    small : (n : ℕ) → n ≤ 64 → nat_lt 64 n ≡ false
+    small n past = grind (arith, nat_tests)
+
+pub many : (all : List Declarator) (groups : List GroupAt) (n : ℕ) → groups_of all ≡ groups → n ≡ length all → 64 < n → nat_lt 64 (length groups) ≡ true
+many all groups n is at past =
+    let size : length groups ≡ n = sym (ap length is) ∙ length-map all group_of ∙ sym at in
+    ap (nat_lt 64) size ∙ large n past
+  where
+    large : (n : ℕ) → 64 < n → nat_lt 64 n ≡ true
+    large n past = grind (arith, nat_tests)
+
+pub count_is : (all : List Declarator) (groups : List GroupAt) (n : ℕ) → groups_of all ≡ groups → n ≡ length all → n ≡ length groups
+count_is all groups n is at = at ∙ sym (length-map all group_of) ∙ ap length is

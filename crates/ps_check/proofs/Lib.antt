@@ -9,3 +9,4 @@ pub mod Blocks
 pub mod Places
 pub mod Applying
 pub mod LinkSteps
+pub mod Ends

@@ -1,5 +1,5 @@
 -- The clauses of lists, by their places.
-use Rattle.std.proofs.Common.{◌≡◌, ◌≤◌, ◌<◌, ◌+◌, ℕ, zero, suc, List, [], ◌∷◌, length, get_or, drop, drop-cons, arith, sym, ap, ◌∙◌}
+use Rattle.std.proofs.Common.{◌≡◌, ◌≤◌, ◌<◌, ◌+◌, ℕ, zero, suc, List, [], ◌∷◌, length, get_or, drop, drop-cons, arith, refl, sym, ap, ◌∙◌}
 use Rattle.std.proofs.lemmas.List.{drop_all}
 use Rattle.ps_base.specs.TyView.{ty_view, ty_views}
 use Rattle.ps_base.specs.TyView as ty
@@ -52,3 +52,7 @@ items_behind items i past = ap items_in (drop_all i items past)
 
 pub arms_behind : (arms : List RoughArm) (i : ℕ) → length arms ≤ i → arms_in (drop i arms) ≡ no_arms
 arms_behind arms i past = ap arms_in (drop_all i arms past)
+
+pub empty : {A : Type 0} (xs : List A) → length xs ≡ 0 → xs ≡ []
+empty [] is = refl
+empty (x ∷ xs) is = absurd (omega (arith, is))

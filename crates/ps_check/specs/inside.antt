@@ -7,3 +7,4 @@ pub mod Lists
 pub mod Looks
 pub mod Views
 pub mod Weights
+pub mod Whole

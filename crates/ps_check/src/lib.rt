@@ -6,6 +6,7 @@
 mod applications;
 mod assigning;
 mod chains;
+pub mod check;
 mod checker;
 mod choices;
 mod clause;
@@ -21,4 +22,5 @@ mod operators;
 mod sequences;
 mod vectors;
 
+pub use check::check;
 pub use fault::CheckFault;

@@ -20,12 +20,12 @@ use Rattle.ps_symbols.specs.declared.kind.TypeStart.TheVariants as typed
 use Rattle.ps_symbols.specs.declared.symbol.Symbol.{Symbol}
 use Rattle.ps_symbols.specs.Kinds.{operation_of, relating_of, begins_item, begins_type, opening_of, type_start_of}
 use Rattle.ps_tree.specs.Phrase.{Phrase, Phrases}
-use Rattle.ps_parse.specs.Grammar.{Made, a_clause, all_groups, the_clause, Part, Nested, a_clause_inside, a_type_inside, Rule, Give, Take, Go, Open, Then, Clause, Program, Ending, Ended, Items, MoreItems, Item, Binding, Literal, Parameters, Groups, MoreGroups, NextGroup, Result, ParameterTypes, MoreTypes, Choice, Until, Test, Between, Step, Body, Cases, Labels, Written, Width, MoreWritten, Assignment, Chain, MoreChain, Relative, Compared, Comparison, Factor, Application, Applied, Arguments, SecondArgument, MoreArguments, Primary, MoreElements, inside, row, ending, ended, items, parameters, parameter_types, more_chain, comparison, opened, typed_as}
+use Rattle.ps_reader.specs.Grammar.{Made, a_clause, all_groups, the_clause, Part, Nested, a_clause_inside, a_type_inside, Rule, Give, Take, Go, Open, Then, Clause, Program, Ending, Ended, Items, MoreItems, Item, Binding, Literal, Parameters, Groups, MoreGroups, NextGroup, Result, ParameterTypes, MoreTypes, Choice, Until, Test, Between, Step, Body, Cases, Labels, Written, Width, MoreWritten, Assignment, Chain, MoreChain, Relative, Compared, Comparison, Factor, Application, Applied, Arguments, SecondArgument, MoreArguments, Primary, MoreElements, inside, row, ending, ended, items, parameters, parameter_types, more_chain, comparison, opened, typed_as}
 use Rattle.ps_parse.specs.Program.{BeginsProgram, CanStand}
 use Rattle.std.specs.List.{All}
 use Rattle.std.proofs.lemmas.List.Elements.{All-nil, All-cons}
 use Rattle.ps_parse.proofs.Ends.{real, all_real, both_true, each_true, real_stands}
-use Rattle.ps_parse.specs.Reading.{kind_at, kind_of_next, Reads, gives, takes, goes, opens, joins}
+use Rattle.ps_reader.specs.Reading.{kind_at, kind_of_next, Reads, gives, takes, goes, opens, joins}
 use Rattle.ps_parse.proofs.Unique.{some_same, reads_as}
 use Rattle.ps_parse.proofs.Failures.{Fails}
 use Rattle.ps_parse.proofs.Prefixes.{forward, reads_alike, row_alike, inside_alike, slice_get-take-append}

@@ -12,9 +12,9 @@ use Rattle.ps_symbols.specs.declared.symbol.Symbol.{Symbol}
 use Rattle.ps_symbols.specs.Kinds.{kind_of}
 use Rattle.ps_symbols.specs.Symbols.{breaks, semicolon_behind, symbol, between, symbols_behind}
 use Rattle.ps_tree.specs.Phrase.{Phrase}
-use Rattle.ps_parse.specs.Grammar.{Made, a_clause, the_clause, Rule, Give, Take, Go, Then, Program, Ending, Ended, ending, ended}
+use Rattle.ps_reader.specs.Grammar.{Made, a_clause, the_clause, Rule, Give, Take, Go, Then, Program, Ending, Ended, ending, ended}
 use Rattle.ps_parse.specs.Program.{CanStand}
-use Rattle.ps_parse.specs.Reading.{kind_at, Reads, gives, takes, goes, joins}
+use Rattle.ps_reader.specs.Reading.{kind_at, Reads, gives, takes, goes, joins}
 use Rattle.ps_parse.proofs.Unique.{some_same, reads_as}
 use Rattle.ps_parse.proofs.Prefixes.{within}
 

@@ -4,10 +4,10 @@ use Rattle.ps_tree.specs.declared.fault.ParseFault.{ParseFault}
 use Rattle.ps_tree.specs.declared.fault.ParseFault.TheVariants.{TooNested, Memory}
 use Rattle.ps_symbols.specs.declared.kind.Kind.{Kind}
 use Rattle.ps_symbols.specs.declared.symbol.Symbol.{Symbol}
-use Rattle.ps_parse.specs.Grammar.{Made, Part, Nested, Rule, Take, Go, Open, Then, inside, row}
-use Rattle.ps_parse.specs.Program.{unexpected}
-use Rattle.ps_parse.specs.Reading.{kind_at, Reads, gives, takes, goes, opens, joins, Opens}
-use Rattle.ps_parse.specs.inside.Stopping.{IsNotAt, HaltsWith}
+use Rattle.ps_reader.specs.Grammar.{Made, Part, Nested, Rule, Take, Go, Open, Then, inside, row}
+use Rattle.ps_reader.specs.Faults.{unexpected}
+use Rattle.ps_reader.specs.Reading.{kind_at, Reads, gives, takes, goes, opens, joins, Opens}
+use Rattle.ps_reader.specs.inside.Stopping.{IsNotAt, HaltsWith}
 use Rattle.ps_parse.proofs.Unique.{unique, reads_as, reads_from, some_same}
 
 -- with room for so many clauses and types inside one another, the reading of the rule from one place on fails

@@ -9,10 +9,11 @@ use Rattle.ps_tree.specs.declared.fault.ParseFault.{ParseFault}
 use Rattle.ps_tree.specs.declared.fault.ParseFault.TheVariants.{TooNested, Memory}
 use Rattle.ps_symbols.specs.declared.symbol.Symbol.{Symbol}
 use Rattle.ps_tree.specs.Phrase.{Phrase}
-use Rattle.ps_parse.specs.Grammar.{Made, a_clause, Rule, Go, Program}
-use Rattle.ps_parse.specs.Program.{BeginsProgram, CanStand, ReadsAs, IsTooDeep, IsUnexpected, IsTooNested, IsParseFault, unexpected_at, too_nested_at, unexpected}
-use Rattle.ps_parse.specs.Reading.{Reads, takes, goes, opens, joins, Opens}
-use Rattle.ps_parse.specs.inside.Stopping.{HaltsWith}
+use Rattle.ps_reader.specs.Grammar.{Made, a_clause, Rule, Go, Program}
+use Rattle.ps_parse.specs.Program.{BeginsProgram, CanStand, ReadsAs, IsTooDeep, IsUnexpected, IsTooNested, IsParseFault, unexpected_at, too_nested_at}
+use Rattle.ps_reader.specs.Faults.{unexpected}
+use Rattle.ps_reader.specs.Reading.{Reads, takes, goes, opens, joins, Opens}
+use Rattle.ps_reader.specs.inside.Stopping.{HaltsWith}
 use Rattle.ps_symbols.specs.Symbols.{symbols as read_as}
 use Rattle.ps_parse.proofs.Unique.{unique, some_same, reads_as, reads_from}
 use Rattle.ps_parse.proofs.Failures.{Fails, IsFaultAt, fails_of, unread, no_deeper, opens_as, opens_from}

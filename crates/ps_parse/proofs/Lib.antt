@@ -4,6 +4,4 @@ pub mod Ends
 pub mod Failures
 pub mod Faults
 pub mod Prefixes
-pub mod Rows
-pub mod Steps
 pub mod Unique

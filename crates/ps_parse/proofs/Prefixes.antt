@@ -2,10 +2,11 @@
 use Rattle.std.proofs.Common.{◌≡◌, ◌≢◌, ℕ, zero, suc, ◌+◌, ◌<◌, ◌≤◌, List, [], ◌∷◌, ◌++◌, Bool, false, Option, length, take, slice_get, refl, sym, ap, ◌∙◌, arith}
 use Rattle.std.proofs.lemmas.Option.{slice_get_within}
 use Rattle.ps_symbols.specs.declared.symbol.Symbol.{Symbol}
-use Rattle.ps_parse.specs.Grammar.{Made, Part, Nested, Rule, Go, Program, inside, row}
-use Rattle.ps_parse.specs.Program.{BeginsProgram, unexpected}
-use Rattle.ps_parse.specs.Reading.{kind_at, kind_of_next, Reads, gives, takes, goes, opens, joins}
-use Rattle.ps_parse.specs.inside.Stopping.{HaltsWith}
+use Rattle.ps_reader.specs.Grammar.{Made, Part, Nested, Rule, Go, Program, inside, row}
+use Rattle.ps_parse.specs.Program.{BeginsProgram}
+use Rattle.ps_reader.specs.Faults.{unexpected}
+use Rattle.ps_reader.specs.Reading.{kind_at, kind_of_next, Reads, gives, takes, goes, opens, joins}
+use Rattle.ps_reader.specs.inside.Stopping.{HaltsWith}
 use Rattle.ps_tree.specs.declared.fault.ParseFault.{ParseFault}
 use Rattle.ps_tree.specs.declared.fault.ParseFault.TheVariants.{TooNested, Memory}
 use Rattle.ps_parse.proofs.Unique.{some_same}

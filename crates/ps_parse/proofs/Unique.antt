@@ -3,8 +3,8 @@ use Rattle.std.proofs.Common.{◌≡◌, ℕ, List, Option, Some, refl, sym, sub
 use Rattle.ps_scan.specs.declared.token.Token.{Token}
 use Rattle.ps_symbols.specs.declared.symbol.Symbol.{Symbol}
 use Rattle.ps_tree.specs.Phrase.{Phrase}
-use Rattle.ps_parse.specs.Grammar.{Made, the_clause, Rule}
-use Rattle.ps_parse.specs.Reading.{Reads, gives, takes, goes, opens, joins}
+use Rattle.ps_reader.specs.Grammar.{Made, the_clause, Rule}
+use Rattle.ps_reader.specs.Reading.{Reads, gives, takes, goes, opens, joins}
 use Rattle.ps_parse.specs.Program.{IsProgram, ReadsAs}
 use Rattle.ps_symbols.specs.Symbols.{symbols as read_as}
 

@@ -1,4 +1,1 @@
-pub mod Grammar
 pub mod Program
-pub mod Reading
-pub mod inside

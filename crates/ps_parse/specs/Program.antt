@@ -1,16 +1,15 @@
 -- What a text reads as, and where its first fault stands.
-use Rattle.std.specs.Prelude.{◌≡◌, ◌≢◌, ℕ, ◌+◌, ◌-◌, ◌<◌, ◌≤◌, List, ◌++◌, length, take, Option, Some, None, slice_get}
+use Rattle.std.specs.Prelude.{◌≡◌, ◌≢◌, ℕ, ◌+◌, ◌<◌, ◌≤◌, List, ◌++◌, length, take, Some, slice_get}
 use Rattle.std.specs.List.{All}
-use Rattle.ps_base.specs.declared.line.Line.{Line}
 use Rattle.ps_scan.specs.declared.token.Token.{Token}
-use Rattle.ps_scan.specs.Tokens.{line_of, line_number}
 use Rattle.ps_tree.specs.declared.fault.ParseFault.{ParseFault}
-use Rattle.ps_tree.specs.declared.fault.ParseFault.TheVariants.{Unexpected, TooNested}
+use Rattle.ps_tree.specs.declared.fault.ParseFault.TheVariants.{TooNested}
 use Rattle.ps_symbols.specs.declared.kind.Kind.TheVariants.{EndOfText}
 use Rattle.ps_symbols.specs.declared.symbol.Symbol.{Symbol}
 use Rattle.ps_tree.specs.Phrase.{Phrase}
-use Rattle.ps_parse.specs.Grammar.{a_clause, Program, Go}
-use Rattle.ps_parse.specs.Reading.{Reads, Opens}
+use Rattle.ps_reader.specs.Faults.{unexpected}
+use Rattle.ps_reader.specs.Grammar.{a_clause, Program, Go}
+use Rattle.ps_reader.specs.Reading.{Reads, Opens}
 use Rattle.ps_symbols.specs.Symbols.{symbols}
 
 -- the symbols are those of a program with this tree, with at most so many clauses and types inside one another: the
@@ -49,16 +48,6 @@ pub record IsUnexpected (text : List ℕ) (all : List Symbol) (place : ℕ) : Ty
 pub record IsTooNested (text : List ℕ) (all : List Symbol) (place : ℕ) : Type 0 where
   pub too_deep : IsTooDeep text all place
   pub expected : BeginsProgram text (take (place + 1) all)
-
--- the line of the end of a text: that of its last byte, where a newline belongs to the line that it
--- ends, and 1 for the empty text
-abbrev pub end_line : List ℕ → Line
-end_line text = line_of (line_number text (length text - 1))
-
--- the fault of a symbol that is unexpected, or of the end of a text of so many tokens
-abbrev pub unexpected : List ℕ → ℕ → Option Symbol → ParseFault
-unexpected text count (Some symbol) = Unexpected symbol.token.line symbol.number
-unexpected text count None = Unexpected (end_line text) count
 
 -- the text with these tokens has no tree because of this fault
 pub data IsParseFault (text : List ℕ) (tokens : List Token) : ParseFault → Type 0 where

@@ -1,3 +1,2 @@
-mod Layouts
 pub mod Printing
 pub mod Views

@@ -1,14 +1,11 @@
 -- What the views of arms, of items of a `write` and of clauses say of them.
 use Rattle.std.proofs.Common.{◌≡◌, Bool, true, false, not, List, [], ◌∷◌, ◌++◌, ◌==◌, length, refl, sym, ap, ◌∙◌, rules, tests}
 use Rattle.std.specs.Option.{is_some}
-use Rattle.std.specs.declared.alloc.Global.{Global}
-use Rattle.std.specs.declared.boxed.Box.{Box}
 use Rattle.ps_base.specs.List.{items_of}
 use Rattle.ps_base.specs.declared.line.Line.{Line}
 use Rattle.ps_tree.specs.declared.rough.Rough.{Rough}
 use Rattle.ps_tree.specs.declared.rough.RoughArm.{RoughArm, out-RoughArm}
 use Rattle.ps_tree.specs.declared.rough.RoughItem.{RoughItem, out-RoughItem}
-use Rattle.ps_tree.specs.declared.rough.RoughRange.{RoughRange, out-RoughRange}
 use Rattle.ps_tree.specs.declared.rough.RoughForm.{RoughForm, roll-RoughForm, roll-out-RoughForm}
 use Rattle.ps_tree.specs.declared.rough.RoughForm.TheBlock.{struct-RoughArm, struct-RoughItem, struct-RoughRange, RoughItem-w-None', RoughItem-w-Some', items_shown-the_row-Rough-0}
 use Rattle.ps_tree.specs.declared.rough.RoughForm.TheVariants as code
@@ -16,21 +13,19 @@ use Rattle.ps_tree.specs.Phrase.{at, named, form_of, phrase_of, arm, arm_of, Wri
 use Rattle.ps_tree.specs.Phrase as form
 use Rattle.ps_tree.specs.PhraseLists.{phrases_in, items_in, maybe_in}
 use Rattle.ps_tree.proofs.PhraseLemmas.{rows}
-use Rattle.ps_print.specs.Layout.{loosest, tightness, ends_open}
-use Rattle.ps_print.specs.inside.Waiting.{is_empty_program}
+use Rattle.ps_layout.specs.Lexemes.{nothing}
+use Rattle.ps_layout.specs.Layout.{other, before_do, before_comma, before_colon, is_taken, loosest, tightness, ends_open, form_lexemes, layout}
+use Rattle.ps_layout.specs.Waiting.{is_empty_program}
 
 pub arm_of-parts : (a : RoughArm) → arm_of a ≡ arm (phrases_in (items_of (out-RoughArm a).labels)) (phrase_of (out-RoughArm a).a)
 unfolding out-RoughArm denote.Hole.Carrier.out
 arm_of-parts (struct-RoughArm shape labels p a a_line) = ap (λ ps. arm ps (at (form_of a) a_line)) (rows _ labels ∙ ap phrases_in (sym (items_shown-the_row-Rough-0 shape labels)))
 
--- a loop over a range
-for_parts : (name : _) (range : RoughRange) (o r s s_line : _) → form_of (code.For' name o range r s s_line) ≡ form.For (named name.value) (phrase_of (out-RoughRange range).a) (phrase_of (out-RoughRange range).b) (maybe_in (out-RoughRange range).c) (at (form_of s) s_line)
-unfolding out-RoughRange denote.Hole.Carrier.out
-for_parts name (struct-RoughRange p a a_line q b b_line RoughItem-w-None') o r s s_line = refl
-for_parts name (struct-RoughRange p a a_line q b b_line (RoughItem-w-Some' t c c_line)) o r s s_line = refl
-
-pub form_of-For : (name : _) (range : Box RoughRange Global) (s : Rough) → form_of (code.For name range s) ≡ form.For (named name.value) (phrase_of (out-RoughRange range.value).a) (phrase_of (out-RoughRange range.value).b) (maybe_in (out-RoughRange range.value).c) (phrase_of s)
-form_of-For name range s = for_parts name range.value record { ptr = range.ptr; alloc = range.alloc; value = tt } record { ptr = s.form.ptr; alloc = s.form.alloc; value = tt } s.form.value s.line
+-- an item of a `write` by its parts
+pub item_of-parts : (i : RoughItem) → item_of i ≡ form.item (phrase_of (out-RoughItem i).e) (maybe_in (out-RoughItem i).w) (out-RoughItem i).line
+unfolding out-RoughItem denote.Hole.Carrier.out
+item_of-parts (struct-RoughItem p e e_line RoughItem-w-None' line) = refl
+item_of-parts (struct-RoughItem p e e_line (RoughItem-w-Some' q w w_line) line) = refl
 
 ends_more : (first second : WriteItem) (rest : WriteItems) → ends_open (more_items first (more_items second rest)) ≡ ends_open (more_items second rest)
 ends_more (form.item e form.absent line) second rest = refl
@@ -53,9 +48,37 @@ other_flag true false is = refl
 other_flag false true is = refl
 other_flag false false is = is
 
+no_sequence : (shape items : _) → ((xs : _) → code.Sequence' shape items ≡ code.Sequence xs → ⊥) → ⊥
+no_sequence shape items is_not = is_not _ (sym (roll-out-RoughForm (code.Sequence' shape items)) ∙ ap roll-RoughForm (code.outs-Sequence' shape items) ∙ code.rolls-Sequence _)
+
+no_write : (shape items : _) → ((xs : _) → code.Write' shape items ≡ code.Write xs → ⊥) → ⊥
+no_write shape items is_not = is_not _ (sym (roll-out-RoughForm (code.Write' shape items)) ∙ ap roll-RoughForm (code.outs-Write' shape items) ∙ code.rolls-Write _)
+
+-- a tree that is no program is laid out as its form
+pub layout_of-form : (whole : RoughForm) (line : Line) → ((items : _) → whole ≡ code.Sequence items → ⊥) → form_lexemes 0 other nothing (form_of whole) ≡ layout (at (form_of whole) line)
+layout_of-form (code.Sequence' shape items) line is_not = absurd (no_sequence shape items is_not)
+layout_of-form (code.For' _ _ (struct-RoughRange _ _ _ _ _ _ _) _ _ _) line is_not = refl
+layout_of-form _ line is_not = refl
+
+-- what isn't taken by what may stand behind it
+pub takes_no_do : (whole : RoughForm) → ((a : _) (c : _) (b : _) → whole ≡ code.Repeat a c b → ⊥) → false ≡ is_taken before_do (form_of whole)
+takes_no_do (code.Repeat' p a a_line q c c_line b) is_not = absurd (is_not _ _ _ (sym (roll-out-RoughForm (code.Repeat' p a a_line q c c_line b)) ∙ ap roll-RoughForm (code.outs-Repeat' p a a_line q c c_line b) ∙ code.rolls-Repeat _ _ _))
+takes_no_do (code.For' _ _ (struct-RoughRange _ _ _ _ _ _ _) _ _ _) is_not = refl
+takes_no_do _ is_not = refl
+
+pub takes_no_comma : (whole : RoughForm) → ((items : _) → whole ≡ code.Write items → ⊥) → false ≡ is_taken before_comma (form_of whole)
+takes_no_comma (code.Write' shape items) is_not = absurd (no_write shape items is_not)
+takes_no_comma (code.For' _ _ (struct-RoughRange _ _ _ _ _ _ _) _ _ _) is_not = refl
+takes_no_comma _ is_not = refl
+
+pub takes_no_colon : (whole : RoughForm) → ((items : _) → whole ≡ code.Write items → ⊥) → false ≡ is_taken before_colon (form_of whole)
+takes_no_colon (code.Write' shape items) is_not = absurd (no_write shape items is_not)
+takes_no_colon (code.For' _ _ (struct-RoughRange _ _ _ _ _ _ _) _ _ _) is_not = refl
+takes_no_colon _ is_not = refl
+
 -- the forms that bind loosest are those that aren't among the others
 pub binds_loosest : (whole : RoughForm) → ((items : _) → whole ≡ code.Sequence items → ⊥) → ((a : _) (b : _) → whole ≡ code.Or a b → ⊥) → ((a : _) (b : _) → whole ≡ code.And a b → ⊥) → ((e : _) → whole ≡ code.Not e → ⊥) → ((op : _) (a : _) (b : _) → whole ≡ code.Compare op a b → ⊥) → ((e : _) (class : _) (negated : _) → whole ≡ code.Is e class negated → ⊥) → ((a : _) (b : _) → whole ≡ code.Join a b → ⊥) → ((op : _) (a : _) (b : _) → whole ≡ code.Arith op a b → ⊥) → ((e : _) → whole ≡ code.Plus e → ⊥) → ((e : _) → whole ≡ code.Neg e → ⊥) → ((f : _) (args : _) → whole ≡ code.Apply f args → ⊥) → ((s : _) (i : _) (n : _) → whole ≡ code.Part s i n → ⊥) → ((name : _) → whole ≡ code.Name name → ⊥) → ((value : _) → whole ≡ code.Int value → ⊥) → ((bytes : _) → whole ≡ code.Text bytes → ⊥) → ((value : _) → whole ≡ code.Flag value → ⊥) → (whole ≡ code.Nil → ⊥) → ((upper : _) (e : _) → whole ≡ code.Bound upper e → ⊥) → ((l : _) (t : _) (items : _) → whole ≡ code.Elems l t items → ⊥) → loosest ≡ tightness (form_of whole)
-binds_loosest (code.Sequence' shape items) is_not n1 n2 n3 n4 n5 n6 n7 n8 n9 n10 n11 n12 n13 n14 n15 n16 n17 n18 = absurd (is_not _ (sym (roll-out-RoughForm (code.Sequence' shape items)) ∙ ap roll-RoughForm (code.outs-Sequence' shape items) ∙ code.rolls-Sequence _))
+binds_loosest (code.Sequence' shape items) is_not n1 n2 n3 n4 n5 n6 n7 n8 n9 n10 n11 n12 n13 n14 n15 n16 n17 n18 = absurd (no_sequence shape items is_not)
 binds_loosest (code.Or' _ _ _ _ _ _) n0 is_not n2 n3 n4 n5 n6 n7 n8 n9 n10 n11 n12 n13 n14 n15 n16 n17 n18 = absurd (is_not _ _ refl)
 binds_loosest (code.And' _ _ _ _ _ _) n0 n1 is_not n3 n4 n5 n6 n7 n8 n9 n10 n11 n12 n13 n14 n15 n16 n17 n18 = absurd (is_not _ _ refl)
 binds_loosest (code.Not' _ _ _) n0 n1 n2 is_not n4 n5 n6 n7 n8 n9 n10 n11 n12 n13 n14 n15 n16 n17 n18 = absurd (is_not _ refl)

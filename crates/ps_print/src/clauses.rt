@@ -1,14 +1,13 @@
 ghost use Rattle.std.specs.Prelude.{◌≡◌, ◌+◌, true, OnOk};
 ghost use Rattle.ps_tree.specs.Phrase.{form_of, phrase_of};
 ghost use Rattle.ps_tree.specs.PhraseLists.{items_in};
-ghost use Rattle.ps_print.specs.Lexemes.{nothing};
-ghost use Rattle.ps_print.specs.Layout.{other, before_do, before_comma, before_colon, clause_lexemes, operand_lexemes, form_lexemes, in_brackets, number_of, tightness as tightness_in, is_looser, is_taken, ends_open};
-ghost use Rattle.ps_print.specs.inside.Weights.{weight, weight_form};
-ghost use Rattle.ps_print.specs.inside.Waiting.{waiting, gap_of, behind_of, tightness_of, Adds};
+ghost use Rattle.ps_layout.specs.Lexemes.{nothing};
+ghost use Rattle.ps_layout.specs.Layout.{other, before_do, before_comma, before_colon, clause_lexemes, operand_lexemes, form_lexemes, in_brackets, number_of, tightness as tightness_in, is_looser, is_taken, ends_open};
+ghost use Rattle.ps_layout.specs.Weights.{weight, weight_form};
+ghost use Rattle.ps_layout.specs.Waiting.{waiting, gap_of, behind_of, tightness_of, Adds};
 
-use crate::operators::left_of;
-use crate::pending::Pending;
-use crate::piece::{Behind, Gap, Piece, Spot, Tightness};
+use ps_layout::pending::Pending;
+use ps_layout::piece::{Behind, Gap, Piece, Spot, Tightness};
 use ps_scan::mark;
 use ps_tree::rough::{Rough, RoughForm, RoughItem};
 use std::alloc::AllocError;
@@ -151,7 +150,7 @@ fn tightness(form: &RoughForm) -> Tightness
             negated: _,
         } => Tightness::Comparison,
         RoughForm::Join { a: _, b: _ } => Tightness::Sum,
-        RoughForm::Arith { op, a: _, b: _ } => left_of(*op),
+        RoughForm::Arith { op, a: _, b: _ } => Tightness::of_left(*op),
         RoughForm::Plus { e: _ } | RoughForm::Neg { e: _ } => Tightness::Signed,
         RoughForm::Apply { f: _, args: _ } => Tightness::Application,
         RoughForm::Part { s: _, i: _, n: _ } => Tightness::Application,

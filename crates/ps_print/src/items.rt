@@ -2,13 +2,13 @@ ghost use Rattle.std.specs.Prelude.{◌≡◌, ◌+◌, ◌∷◌, ◌++◌, OnO
 ghost use Rattle.ps_tree.specs.Phrase.{phrase_of, arm_of, item_of};
 ghost use Rattle.ps_tree.specs.Phrase as phrase;
 ghost use Rattle.ps_tree.specs.PhraseLists.{phrases_in, arms_in, items_in};
-ghost use Rattle.ps_print.specs.Lexemes.{blank};
-ghost use Rattle.ps_print.specs.Layout.{before_colon, colon, behind_item, clause_lexemes, arms_lexemes, arm_lexemes, items_lexemes, more_items_lexemes, item_lexemes};
-ghost use Rattle.ps_print.specs.inside.Weights.{weight, weight_arms, weight_arm, weight_items, weight_item};
-ghost use Rattle.ps_print.specs.inside.Waiting.{waiting, gap_of, behind_of, Adds};
+ghost use Rattle.ps_layout.specs.Lexemes.{blank};
+ghost use Rattle.ps_layout.specs.Layout.{before_colon, colon, behind_item, clause_lexemes, arms_lexemes, arm_lexemes, items_lexemes, more_items_lexemes, item_lexemes};
+ghost use Rattle.ps_layout.specs.Weights.{weight, weight_arms, weight_arm, weight_items, weight_item};
+ghost use Rattle.ps_layout.specs.Waiting.{waiting, gap_of, behind_of, Adds};
 
-use crate::pending::Pending;
-use crate::piece::{Behind, Gap, Piece, Spot};
+use ps_layout::pending::Pending;
+use ps_layout::piece::{Behind, Gap, Piece, Spot};
 use ps_scan::mark;
 use ps_tree::rough::{Rough, RoughArm, RoughItem};
 use std::alloc::AllocError;
@@ -137,7 +137,7 @@ fn put_wide<'a>(
     e: &'a Rough,
     w: &'a Rough,
 ) -> Result<(), AllocError>
-    ensures { OnOk result (Adds (waiting pending.old) (clause_lexemes end.indent before_colon blank (phrase_of e.now) ++ colon ∷ clause_lexemes end.indent (behind_of end.behind) (gap_of end.gap) (phrase_of w.now)) (weight (phrase_of e.now) + weight (phrase_of w.now) + 2) (waiting pending.new)) }
+    ensures { OnOk result (Adds (waiting pending.old) (clause_lexemes end.indent before_colon blank (phrase_of e.now) ++ colon ∷ clause_lexemes end.indent (behind_of end.behind) (gap_of end.gap) (phrase_of w.now)) (weight (phrase_of e.now) + (weight (phrase_of w.now) + 2) + 4) (waiting pending.new)) }
 {
     pending.put(&[
         Piece::Clause(end.before(Behind::BeforeColon), e),

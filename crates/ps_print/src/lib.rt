@@ -1,15 +1,8 @@
 //! The printer: the text that a tree is printed as.
 #![tactic(auto)]
 
-mod blocks;
 mod clauses;
-mod declarations;
-mod forms;
 mod items;
-mod operators;
-mod pending;
-mod piece;
+mod lines;
 pub mod print;
-mod statements;
 mod types;
-mod writer;

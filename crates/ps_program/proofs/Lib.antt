@@ -1,3 +1,4 @@
 mod Rows
 pub mod NodeLists
 pub mod PartLemmas
+pub mod NodeSteps

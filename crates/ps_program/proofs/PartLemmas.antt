@@ -1,12 +1,17 @@
 -- What is counted over a clause, from its parts.
-use Rattle.std.proofs.Common.{◌≡◌, ◌+◌, List, [], ◌∷◌, ◌++◌, map, refl, sym, ap, subst, ◌∙◌, arith}
+use Rattle.std.proofs.Common.{◌≡◌, ◌≤◌, Option, Some, ◌+◌, List, [], ◌∷◌, ◌++◌, map, refl, sym, ap, subst, ◌∙◌, arith}
 use Rattle.std.proofs.lemmas.List.{map-append}
+use Rattle.std.specs.Borrow.{Bor}
+use Rattle.ps_program.specs.declared.form.Tree.{Tree}
 use Rattle.ps_program.specs.declared.parts.Parts.{Parts}
+use Rattle.ps_program.specs.declared.parts.Further.{Further}
+use Rattle.ps_program.specs.declared.parts.Further.TheVariants as code
 use Rattle.ps_program.specs.Node.{Node, Nodes, none, more, Arm, arm, Arms, no_arms, more_arms, body}
 use Rattle.ps_program.specs.Node as node
+use Rattle.ps_program.specs.NodeView.{node_of}
 use Rattle.ps_program.specs.Parts.{Part, operand, label, branch, literal, fold, fold_all, fold_arms}
 use Rattle.ps_program.specs.inside.Listed.{parts_all, parts_arms, parts_of, part_as}
-use Rattle.ps_program.specs.inside.PartsView.{ArePartsOf}
+use Rattle.ps_program.specs.inside.PartsView.{ArePartsOf, AreListed, first_in, first_as, further_in}
 use Rattle.ps_program.specs.inside.Weights.{sum_within, weight, weight_part, weight_parts, weight_all, weight_arms}
 
 pub moved : (n m : Node) (found parts : Parts) → n ≡ m → found ≡ parts → ArePartsOf m parts → ArePartsOf n found
@@ -38,39 +43,7 @@ module _ {A : Type 0} (g : Node → List (Part A) → A) where
       ap (λ ps. g (node.Case e arms d ty) (operand (fold g e) ∷ (ps ++ branch (fold g d) ∷ []))) (arms_folded arms)
       ∙ ap (λ ps. g (node.Case e arms d ty) (operand (fold g e) ∷ ps)) (sym (map-append (part_as (fold g)) (parts_arms arms) (branch d ∷ [])))
   fold_parts (node.Proc (body params gives tree scope line)) = refl
-  fold_parts (node.Int v) = refl
-  fold_parts (node.Flag b) = refl
-  fold_parts (node.Text bytes) = refl
-  fold_parts node.Nil = refl
-  fold_parts (node.Name place ty) = refl
-  fold_parts (node.SetName place ty e) = refl
-  fold_parts (node.Let place ty e) = refl
-  fold_parts node.Class = refl
-  fold_parts node.Empty = refl
-  fold_parts (node.IfDo c a) = refl
-  fold_parts (node.IfElse c a b) = refl
-  fold_parts (node.While c a) = refl
-  fold_parts (node.Repeat a c b) = refl
-  fold_parts (node.For slot a b c scope control s line) = refl
-  fold_parts (node.And a b) = refl
-  fold_parts (node.Or a b) = refl
-  fold_parts (node.Not e) = refl
-  fold_parts (node.Neg e line) = refl
-  fold_parts (node.Plus e) = refl
-  fold_parts (node.Arith op a b line) = refl
-  fold_parts (node.Compare op ty a b) = refl
-  fold_parts (node.Is e class) = refl
-  fold_parts (node.Join a b line) = refl
-  fold_parts (node.Part a i n line) = refl
-  fold_parts (node.Field e class index ty line) = refl
-  fold_parts (node.SetField p class index ty e line) = refl
-  fold_parts (node.Fill l u e ty line) = refl
-  fold_parts (node.Element v i ty line) = refl
-  fold_parts (node.SetElement v i e ty line) = refl
-  fold_parts (node.Bound v upper) = refl
-  fold_parts (node.Scan text a f q s line) = refl
-  fold_parts (node.Write e w wide ty line) = refl
-  fold_parts (node.Abort line) = refl
+  fold_parts _ = refl
 
 weighed : (parts : List (Part Node)) → sum_within (map (part_as weight) parts) ≡ weight_parts parts
 weighed [] = refl
@@ -98,3 +71,18 @@ weight_of_arms (more_arms (arm labels a) rest) =
     let rs = weight_of_arms rest in
     let both = weight_parts-append (parts_all label labels) (branch a ∷ parts_arms rest) in
     omega arith
+
+first_weight : (further : Further) (n : Node) → weight_part (first_as further n) ≡ weight n
+first_weight (code.OneBranch a) n = refl
+first_weight (code.TwoBranches a b) n = refl
+first_weight _ n = refl
+
+-- the parts of a clause weigh less than the clause
+pub further_lighter : (n : Node) (first : Option (Bor Tree)) (further : Further) → AreListed n first further → weight_parts (further_in further) + 1 ≤ weight n
+further_lighter n first further are =
+    omega (arith, weight_is n, ap weight_parts are.listed, weight_parts-append (first_in further first) (further_in further))
+
+pub first_lighter : (n : Node) (first : Bor Tree) (further : Further) → AreListed n (Some first) further → weight (node_of first.now) + 1 ≤ weight n
+first_lighter n first further are =
+    let listed : weight_part (first_as further (node_of first.now)) + weight_parts (further_in further) ≡ weight_parts (parts_of n) = ap weight_parts are.listed in
+    omega (arith, weight_is n, listed, first_weight further (node_of first.now))

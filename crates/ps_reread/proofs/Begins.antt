@@ -9,11 +9,11 @@ use Rattle.ps_symbols.specs.declared.symbol.Symbol.{Symbol}
 use Rattle.ps_symbols.specs.Kinds.{opening_of, begins_item}
 use Rattle.ps_tree.specs.Phrase.{NameAt, Phrase, at, Form, Phrases, none, more, absent, Arms}
 use Rattle.ps_tree.specs.Phrase as form
-use Rattle.ps_parse.specs.Grammar.{Made, a_clause, Rule, Go, Clause, a_clause_inside, Chain, Primary, SecondArgument, Labels, inside, row, opened, expression, arguments, cases, one_item, between, with_clause, give}
-use Rattle.ps_parse.specs.Reading.{kind_at, Reads, gives, takes, goes, opens, joins}
-use Rattle.ps_print.specs.Lexemes.{Gap, Lexeme}
-use Rattle.ps_print.specs.Layout.{Tightness, number_of, Behind, before_do, in_brackets, close_round, loosest, disjunction, primary}
-use Rattle.ps_print.specs.Layout as layout
+use Rattle.ps_reader.specs.Grammar.{Made, a_clause, Rule, Go, Clause, a_clause_inside, Chain, Primary, SecondArgument, Labels, inside, row, opened, expression, arguments, cases, one_item, between, with_clause, give}
+use Rattle.ps_reader.specs.Reading.{kind_at, Reads, gives, takes, goes, opens, joins}
+use Rattle.ps_layout.specs.Lexemes.{Gap, Lexeme}
+use Rattle.ps_layout.specs.Layout.{Tightness, number_of, Behind, before_do, in_brackets, close_round, loosest, disjunction, primary}
+use Rattle.ps_layout.specs.Layout as layout
 use Rattle.ps_reread.specs.Bare.{bare}
 use Rattle.ps_reread.proofs.Standing.{Stands, cut}
 use Rattle.ps_reread.proofs.Heads.{head, ended}

@@ -11,8 +11,8 @@ use Rattle.ps_scan.specs.Tokens.{IsName}
 use Rattle.ps_tree.specs.Phrase.{NameAt, GroupAt, Phrase, at, Form, Phrases, none, more, absent, present, Arm, Arms, no_arms, more_arms, arm, WriteItem, item, WriteItems, no_items, more_items}
 use Rattle.ps_tree.specs.Phrase as form
 use Rattle.ps_reread.specs.Spelled.{can_be_spelled}
-use Rattle.ps_print.specs.Layout.{Behind, other, before_do, before_colon, is_taken, behind_clause, behind_item, Tightness, is_looser, left_of, right_of, disjunction, conjunction, negation, comparison, sum, product, application}
-use Rattle.ps_print.specs.inside.Waiting.{is_procedure}
+use Rattle.ps_layout.specs.Layout.{Behind, other, before_do, before_colon, is_taken, behind_clause, behind_item, Tightness, is_looser, left_of, right_of, disjunction, conjunction, negation, comparison, sum, product, application}
+use Rattle.ps_layout.specs.Waiting.{is_procedure}
 
 -- with room for so many types inside one another
 mutual

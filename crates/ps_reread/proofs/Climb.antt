@@ -9,10 +9,10 @@ use Rattle.ps_symbols.specs.declared.kind.Relating.{Relating}
 use Rattle.ps_symbols.specs.declared.symbol.Symbol.{Symbol}
 use Rattle.ps_symbols.specs.Kinds.{operation_of, relating_of, opening_of, start_of}
 use Rattle.ps_tree.specs.Phrase.{Phrase}
-use Rattle.ps_parse.specs.Grammar.{Made, a_clause, Part, Rule, Give, Go, Then, Clause, Chain, MoreChain, Relative, Compared, Factor, Application, Applied, Primary, row, relative, factor, applied, more_chain, comparison}
-use Rattle.ps_parse.specs.Reading.{kind_at, Reads, gives, goes, joins}
-use Rattle.ps_print.specs.Layout.{Tightness, number_of, loosest, disjunction, conjunction, negation, sum, product, signed, application, primary}
-use Rattle.ps_print.specs.Layout as tight
+use Rattle.ps_reader.specs.Grammar.{Made, a_clause, Part, Rule, Give, Go, Then, Clause, Chain, MoreChain, Relative, Compared, Factor, Application, Applied, Primary, row, relative, factor, applied, more_chain, comparison}
+use Rattle.ps_reader.specs.Reading.{kind_at, Reads, gives, goes, joins}
+use Rattle.ps_layout.specs.Layout.{Tightness, number_of, loosest, disjunction, conjunction, negation, sum, product, signed, application, primary}
+use Rattle.ps_layout.specs.Layout as tight
 use Rattle.ps_reread.specs.Bare.{bare}
 
 -- what is read for a form that binds so tight, and what is left when the form has been read

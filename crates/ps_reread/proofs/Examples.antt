@@ -6,10 +6,10 @@ use Rattle.ps_scan.specs.declared.token.TokenKind.{TokenKind}
 use Rattle.ps_scan.specs.declared.token.TokenKind.TheVariants.{Name, Int, Text, Word, Mark}
 use Rattle.ps_scan.specs.Class.{is_name_byte}
 use Rattle.ps_scan.specs.Tokens.{token_at}
-use Rattle.ps_print.specs.Lexemes.{Gap, nothing, blank, newline, Lexeme, text_of, printed}
+use Rattle.ps_layout.specs.Lexemes.{Gap, nothing, blank, newline, Lexeme, text_of, printed}
 use Rattle.ps_reread.specs.Printable.{tokens_of, neighbours_pass, may_follow}
 use Rattle.ps_reread.specs.Lines.{goes_on}
-use Rattle.ps_print.specs.Spellings.{string_text}
+use Rattle.ps_layout.specs.Spellings.{string_text}
 
 abbrev lexeme : Gap → TokenKind → List ℕ → Lexeme
 lexeme gap what spelling = record { gap = gap; what = what; spelling = spelling }

@@ -5,8 +5,8 @@ use Rattle.ps_symbols.specs.declared.kind.Kind.TheVariants as kind
 use Rattle.ps_symbols.specs.declared.kind.Level.TheVariants.{Disjunction, Conjunction, Sum, Product}
 use Rattle.ps_symbols.specs.Kinds.{operation_of, relating_of}
 use Rattle.ps_tree.specs.Phrase.{Phrase}
-use Rattle.ps_parse.specs.Grammar.{Give, a_clause, assignment}
-use Rattle.ps_print.specs.Layout.{Behind, other, before_do, before_comma, before_colon, disjunction}
+use Rattle.ps_reader.specs.Grammar.{Give, a_clause, assignment}
+use Rattle.ps_layout.specs.Layout.{Behind, other, before_do, before_comma, before_colon, disjunction}
 use Rattle.ps_reread.proofs.Climb.{Above, above_signed, above_product, above_sum, above_comparison, above_negation, above_conjunction, above_disjunction, opens_arguments}
 
 -- the kinds that can stand behind a clause and that no clause goes on with

@@ -18,13 +18,13 @@ use Rattle.ps_symbols.specs.declared.symbol.Symbol.{Symbol}
 use Rattle.ps_symbols.specs.Kinds.{operation_of, relating_of, begins_item, begins_type, opening_of, type_start_of}
 use Rattle.ps_tree.specs.Phrase.{NameAt, GroupAt, Phrase, at, Phrases, none, more, MaybePhrase, absent, present, Arms, WriteItems, no_items, more_items}
 use Rattle.ps_tree.specs.Phrase as form
-use Rattle.ps_parse.specs.Grammar
-use Rattle.ps_parse.specs.Grammar.{Made, a_clause, Part, Program, Ending, Ended, Items, MoreItems, Item, Binding, Literal, Parameters, Groups, MoreGroups, NextGroup, Result, ParameterTypes, MoreTypes, Choice, Until, Test, Between, Step, Body, Cases, Labels, Written, Width, MoreWritten, Assignment, Chain, MoreChain, Relative, Compared, Comparison, Factor, Application, Applied, Arguments, SecondArgument, MoreArguments, Primary, MoreElements, Rule, Give, Take, Go, Then, Clause, Type_, a_clause_inside, a_type_inside, the_clause, the_type, the_types, the_groups, the_item, inside, row, opened, typed_as}
-use Rattle.ps_parse.specs.Reading.{kind_at, kind_of_next, Reads, gives, takes, goes, opens, joins}
+use Rattle.ps_reader.specs.Grammar
+use Rattle.ps_reader.specs.Grammar.{Made, a_clause, Part, Program, Ending, Ended, Items, MoreItems, Item, Binding, Literal, Parameters, Groups, MoreGroups, NextGroup, Result, ParameterTypes, MoreTypes, Choice, Until, Test, Between, Step, Body, Cases, Labels, Written, Width, MoreWritten, Assignment, Chain, MoreChain, Relative, Compared, Comparison, Factor, Application, Applied, Arguments, SecondArgument, MoreArguments, Primary, MoreElements, Rule, Give, Take, Go, Then, Clause, Type_, a_clause_inside, a_type_inside, the_clause, the_type, the_types, the_groups, the_item, inside, row, opened, typed_as}
+use Rattle.ps_reader.specs.Reading.{kind_at, kind_of_next, Reads, gives, takes, goes, opens, joins}
 use Rattle.ps_parse.specs.Program.{IsProgram}
 use Rattle.ps_symbols.specs.Symbols.{symbols as symbols_of}
-use Rattle.ps_print.specs.Layout.{Behind, other, before_do, before_comma, before_colon, is_taken, ends_open, Tightness, disjunction, conjunction, negation, sum, product, signed, application, primary}
-use Rattle.ps_print.specs.Layout as tight
+use Rattle.ps_layout.specs.Layout.{Behind, other, before_do, before_comma, before_colon, is_taken, ends_open, Tightness, disjunction, conjunction, negation, sum, product, signed, application, primary}
+use Rattle.ps_layout.specs.Layout as tight
 use Rattle.ps_reread.proofs.Canonical.{IsType, AreTypes, IsResult, AreGroups, IsClause, IsOperand, IsForm, AreClauses, AreArms, AreItems, IsWritten, AreItemsOf, IsItem}
 use Rattle.ps_reread.proofs.Leaves.{IsLeaf, AreLeaves, leaves}
 use Rattle.ps_reread.proofs.Making.{whole, lower, bracket, expression_clause, IsProcedure, procedure, procedure_clause, procedure_item, let_item, one_more_item, one_more_type, one_more_group, one_more_clause, one_more_written, ends_alike, has_clause, has_item, has_one_more, has_one_more_item, one_more_arm, written_clause, elements_operand, IsSequence, sequence, block_operand}

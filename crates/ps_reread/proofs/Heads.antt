@@ -3,8 +3,8 @@ use Rattle.std.proofs.Common.{◌≡◌, ℕ, ◌+◌, List, [], ◌∷◌, Some
 use Rattle.ps_scan.specs.Tokens.{slice_of}
 use Rattle.ps_symbols.specs.declared.symbol.Symbol.{Symbol}
 use Rattle.ps_symbols.specs.Kinds.{kind_of}
-use Rattle.ps_parse.specs.Reading.{kind_at}
-use Rattle.ps_print.specs.Lexemes.{Lexeme}
+use Rattle.ps_reader.specs.Reading.{kind_at}
+use Rattle.ps_layout.specs.Lexemes.{Lexeme}
 use Rattle.ps_reread.proofs.Standing.{Stands, first_kind}
 
 -- a lexeme at a place, and what stands behind it

@@ -7,8 +7,8 @@ use Rattle.ps_scan.specs.Tokens.{IsName}
 use Rattle.ps_tree.specs.Phrase.{NameAt, GroupAt, Phrase, at, Form, Phrases, none, more, MaybePhrase, absent, present, Arms, no_arms, more_arms, arm, WriteItem, item, WriteItems, no_items, more_items}
 use Rattle.ps_tree.specs.Phrase as form
 use Rattle.ps_tree.specs.Composing.{and_then, and_arm, and_item}
-use Rattle.ps_print.specs.Layout.{Behind, other, before_do, before_comma, before_colon, is_taken, ends_open, Tightness, number_of, tightness, is_looser, disjunction, primary}
-use Rattle.ps_print.specs.inside.Waiting.{is_procedure}
+use Rattle.ps_layout.specs.Layout.{Behind, other, before_do, before_comma, before_colon, is_taken, ends_open, Tightness, number_of, tightness, is_looser, disjunction, primary}
+use Rattle.ps_layout.specs.Waiting.{is_procedure}
 use Rattle.ps_reread.proofs.Canonical.{IsType, AreTypes, IsResult, AreGroups, IsClause, IsOperand, IsForm, AreClauses, AreArms, AreItems, IsWritten, AreItemsOf, IsItem}
 use Rattle.ps_reread.proofs.Weakening.{grow_result, grow_groups, grow_clause, grow_form, unbracketed, rebehind}
 

@@ -12,7 +12,7 @@ use Rattle.ps_scan.specs.Class.{is_name_byte}
 use Rattle.ps_scan.specs.Names.{marks, mark_place}
 use Rattle.ps_scan.proofs.Named.{named_fails}
 use Rattle.ps_scan.specs.Tokens.{IsSpelled}
-use Rattle.ps_print.specs.Lexemes.{Gap, nothing, blank, newline, Lexeme}
+use Rattle.ps_layout.specs.Lexemes.{Gap, nothing, blank, newline, Lexeme}
 use Rattle.ps_reread.specs.Printable.{ends_before, first_passes, is_mark, may_follow_glued, may_follow}
 use Rattle.ps_reread.proofs.Glued.{both, not_false}
 use Rattle.ps_reread.proofs.Pieces.{word_begins, mark_name_is, spelled_nonempty}

@@ -5,9 +5,9 @@ use Rattle.std.proofs.lemmas.List.{drop_at}
 use Rattle.std.proofs.lemmas.List.Sums.{sum_by-cons}
 use Rattle.ps_scan.specs.declared.token.Token.{Token}
 use Rattle.ps_scan.specs.Tokens.{token_at, slice_of, IsSpelled}
-use Rattle.ps_print.specs.Lexemes.{Lexeme, gap_bytes, text_of, printed}
+use Rattle.ps_layout.specs.Lexemes.{Lexeme, gap_bytes, text_of, printed}
 use Rattle.ps_reread.specs.Printable.{gap_lines, tokens_of, first_passes, may_follow, neighbours_pass, last_passes, lines_of, token_behind, IsPrintable, AreSpelledBy}
-use Rattle.ps_print.proofs.Printing.{printed_is}
+use Rattle.ps_layout.proofs.Printing.{printed_is}
 use Rattle.ps_reread.proofs.Glued.{both}
 use Rattle.ps_reread.proofs.Texts.{behind, text_behind, slice_here, printed_spelled}
 

@@ -9,7 +9,7 @@ use Rattle.ps_scan.specs.Names.{mark_place}
 use Rattle.ps_scan.specs.Tokens.{IsSpelled}
 use Rattle.ps_symbols.specs.Kinds.{kind_of}
 use Rattle.ps_symbols.specs.Newline.{can_end, can_continue}
-use Rattle.ps_print.specs.Lexemes.{Gap, nothing, blank, newline, Lexeme}
+use Rattle.ps_layout.specs.Lexemes.{Gap, nothing, blank, newline, Lexeme}
 use Rattle.ps_reread.specs.Printable.{IsPrintable, is_mark, first_passes, may_follow, may_follow_glued, ends_before, neighbours_pass, mark_name}
 use Rattle.ps_reread.specs.Lines.{goes_on, goes_on_over}
 use Rattle.ps_reread.proofs.Marks.{mark_glued, token_glued}

@@ -13,12 +13,12 @@ use Rattle.ps_scan.specs.declared.token.TokenKind.TheVariants as scanned
 use Rattle.ps_scan.specs.Tokens.{IsSpelled, IsName}
 use Rattle.ps_tree.specs.Phrase.{NameAt, GroupAt, Phrase, at, Form, Phrases, none, more, absent, present, Arm, Arms, no_arms, more_arms, arm, WriteItem, item, WriteItems, no_items, more_items}
 use Rattle.ps_tree.specs.Phrase as form
-use Rattle.ps_print.specs.Lexemes.{Gap, nothing, blank, newline, Lexeme}
+use Rattle.ps_layout.specs.Lexemes.{Gap, nothing, blank, newline, Lexeme}
 use Rattle.ps_reread.specs.Printable.{first_passes, may_follow}
 use Rattle.ps_reread.specs.Lines.{goes_on}
-use Rattle.ps_print.specs.Layout.{lexeme, the_word, the_mark, name_lexeme, open_round, close_round, comma, semicolon, colon, do_word, in_brackets, type_lexemes, types_lexemes, more_types_lexemes, group_lexemes, groups_lexemes, more_groups_lexemes, heading_lexemes, behind_arrow, becomes, is_word, flag_word, bound_word, sign_of_relation, Tightness, number_of, tightness, application, primary, Behind, other, before_colon, form_lexemes, clause_lexemes, operand_lexemes, lines_lexemes, clauses_lexemes, more_clauses_lexemes, arms_lexemes, more_items_lexemes, item_lexemes, program_lexemes}
-use Rattle.ps_print.specs.Spellings.{int_text, string_text}
-use Rattle.ps_print.specs.inside.Waiting.{is_procedure}
+use Rattle.ps_layout.specs.Layout.{lexeme, the_word, the_mark, name_lexeme, open_round, close_round, comma, semicolon, colon, do_word, in_brackets, type_lexemes, types_lexemes, more_types_lexemes, group_lexemes, groups_lexemes, more_groups_lexemes, heading_lexemes, behind_arrow, becomes, is_word, flag_word, bound_word, sign_of_relation, Tightness, number_of, tightness, application, primary, Behind, other, before_colon, form_lexemes, clause_lexemes, operand_lexemes, lines_lexemes, clauses_lexemes, more_clauses_lexemes, arms_lexemes, more_items_lexemes, item_lexemes, program_lexemes}
+use Rattle.ps_layout.specs.Spellings.{int_text, string_text}
+use Rattle.ps_layout.specs.Waiting.{is_procedure}
 use Rattle.ps_reread.specs.Spelled.{can_be_spelled}
 use Rattle.ps_reread.proofs.Canonical.{IsType, AreTypes, IsResult, AreGroups, IsForm, IsClause, IsOperand, AreClauses, AreArms, AreItems, IsWritten, AreItemsOf, IsItem}
 use Rattle.ps_reread.proofs.Canonical as is

@@ -9,15 +9,15 @@ use Rattle.ps_symbols.specs.declared.symbol.Symbol.{Symbol}
 use Rattle.ps_symbols.specs.Kinds.{kind_of, begins_item}
 use Rattle.ps_tree.specs.Phrase.{Phrase, Phrases, none, more, at}
 use Rattle.ps_tree.specs.Phrase as form
-use Rattle.ps_parse.specs.Grammar as grammar
-use Rattle.ps_parse.specs.Grammar.{a_clause, Go, Program}
-use Rattle.ps_parse.specs.Reading.{kind_at, kind_of_next, Reads, gives, takes, goes, joins}
+use Rattle.ps_reader.specs.Grammar as grammar
+use Rattle.ps_reader.specs.Grammar.{a_clause, Go, Program}
+use Rattle.ps_reader.specs.Reading.{kind_at, kind_of_next, Reads, gives, takes, goes, joins}
 use Rattle.ps_symbols.specs.Symbols.{symbol, symbols}
 use Rattle.ps_reread.specs.Bare.{bare_all}
-use Rattle.ps_print.specs.Layout.{semicolon, other, clause_lexemes, lines_lexemes, program_lexemes, printed}
-use Rattle.ps_print.specs.Lexemes.{nothing, Lexeme}
+use Rattle.ps_layout.specs.Layout.{semicolon, other, clause_lexemes, lines_lexemes, program_lexemes, printed}
+use Rattle.ps_layout.specs.Lexemes.{nothing, Lexeme}
 use Rattle.ps_reread.specs.Printable.{tokens_of, AreSpelledBy}
-use Rattle.ps_print.specs.Lexemes as lexemes
+use Rattle.ps_layout.specs.Lexemes as lexemes
 use Rattle.ps_reread.specs.Lines.{one_for_one}
 use Rattle.ps_reread.specs.Reprint.{ReadsBack, PrintsBack}
 use Rattle.ps_reread.proofs.Canonical.{AreItemsOf}

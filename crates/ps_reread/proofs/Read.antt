@@ -9,7 +9,7 @@ use Rattle.ps_symbols.specs.Kinds.{kind_of}
 use Rattle.ps_symbols.specs.Newline.{can_end, can_continue}
 use Rattle.ps_symbols.specs.declared.symbol.Symbol.{Symbol}
 use Rattle.ps_symbols.specs.Symbols.{breaks, semicolon_behind, symbol, symbols_behind, symbols}
-use Rattle.ps_print.specs.Lexemes.{Gap, nothing, blank, newline, Lexeme, gap_bytes}
+use Rattle.ps_layout.specs.Lexemes.{Gap, nothing, blank, newline, Lexeme, gap_bytes}
 use Rattle.ps_reread.specs.Printable.{gap_lines, tokens_of, first_passes, neighbours_pass, token_behind}
 use Rattle.ps_reread.specs.Lines.{goes_on_over, goes_on, one_for_one}
 use Rattle.ps_reread.proofs.Glued.{both}

@@ -21,14 +21,14 @@ use Rattle.ps_symbols.specs.declared.symbol.Symbol.{Symbol}
 use Rattle.ps_symbols.specs.Kinds.{kind_of, operation_of, relating_of, begins_item}
 use Rattle.ps_tree.specs.Phrase.{NameAt, GroupAt, Phrase, at, Form, Phrases, none, more, absent, present, Arm, Arms, no_arms, more_arms, arm, WriteItem, item, WriteItems, no_items, more_items}
 use Rattle.ps_tree.specs.Phrase as form
-use Rattle.ps_parse.specs.Grammar as grammar
+use Rattle.ps_reader.specs.Grammar as grammar
 use Rattle.ps_tree.specs.Composing.{and_then, and_arm, and_item, joined}
-use Rattle.ps_parse.specs.Grammar.{Made, a_clause, an_item, Part, Rule, Give, Take, Go, Open, Then, Clause, a_clause_inside, Items, MoreItems, Item, Literal, Until, Cases, Labels, Width, Written, MoreWritten, Chain, MoreChain, Application, Applied, MoreArguments, MoreElements, Primary, inside, row, skip, with_clause, clause_of, give, line_in}
-use Rattle.ps_parse.specs.Reading.{kind_at, Reads, gives, takes, goes, joins}
-use Rattle.ps_print.specs.Lexemes.{Gap, nothing, blank, newline, Lexeme}
-use Rattle.ps_print.specs.Layout.{lexeme, the_word, the_mark, name_lexeme, open_round, close_round, comma, semicolon, colon, do_word, in_brackets, type_lexemes, groups_lexemes, heading_lexemes, behind_arrow, becomes, is_word, flag_word, bound_word, sign_of_relation, sign_of_operator, Tightness, number_of, tightness, left_of, right_of, is_looser, disjunction, conjunction, negation, sum, product, signed, application, primary, Behind, other, before_do, before_comma, before_colon, is_taken, ends_open, behind_clause, behind_item, form_lexemes, clause_lexemes, operand_lexemes, block_lexemes, lines_lexemes, clauses_lexemes, more_clauses_lexemes, arms_lexemes, arm_lexemes, items_lexemes, more_items_lexemes, item_lexemes}
-use Rattle.ps_print.specs.Layout as layout
-use Rattle.ps_print.specs.inside.Waiting.{is_procedure}
+use Rattle.ps_reader.specs.Grammar.{Made, a_clause, an_item, Part, Rule, Give, Take, Go, Open, Then, Clause, a_clause_inside, Items, MoreItems, Item, Literal, Until, Cases, Labels, Width, Written, MoreWritten, Chain, MoreChain, Application, Applied, MoreArguments, MoreElements, Primary, inside, row, skip, with_clause, clause_of, give, line_in}
+use Rattle.ps_reader.specs.Reading.{kind_at, Reads, gives, takes, goes, joins}
+use Rattle.ps_layout.specs.Lexemes.{Gap, nothing, blank, newline, Lexeme}
+use Rattle.ps_layout.specs.Layout.{lexeme, the_word, the_mark, name_lexeme, open_round, close_round, comma, semicolon, colon, do_word, in_brackets, type_lexemes, groups_lexemes, heading_lexemes, behind_arrow, becomes, is_word, flag_word, bound_word, sign_of_relation, sign_of_operator, Tightness, number_of, tightness, left_of, right_of, is_looser, disjunction, conjunction, negation, sum, product, signed, application, primary, Behind, other, before_do, before_comma, before_colon, is_taken, ends_open, behind_clause, behind_item, form_lexemes, clause_lexemes, operand_lexemes, block_lexemes, lines_lexemes, clauses_lexemes, more_clauses_lexemes, arms_lexemes, arm_lexemes, items_lexemes, more_items_lexemes, item_lexemes}
+use Rattle.ps_layout.specs.Layout as layout
+use Rattle.ps_layout.specs.Waiting.{is_procedure}
 use Rattle.ps_reread.specs.Bare.{bare, bare_all, bare_arms, bare_item, bare_items}
 use Rattle.ps_reread.specs.Spelled.{can_be_spelled}
 use Rattle.ps_reread.proofs.Glued.{all_passes}

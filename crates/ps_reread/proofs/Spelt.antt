@@ -11,7 +11,7 @@ use Rattle.ps_scan.specs.declared.class.Inner.TheVariants.{Plain}
 use Rattle.ps_scan.specs.Class.{inner_of, escaped, decimal}
 use Rattle.ps_scan.specs.Piece.{Closes, spells, quoted, behind_apostrophe, bytes_of}
 use Rattle.ps_scan.proofs.Closing.{quoted_plain}
-use Rattle.ps_print.specs.Spellings.{int_text, escaped_byte, string_text}
+use Rattle.ps_layout.specs.Spellings.{int_text, escaped_byte, string_text}
 use Rattle.ps_reread.specs.Spelled.{SpellsInt, can_be_spelled, SpellsString}
 use Rattle.ps_reread.proofs.Glued.{both}
 

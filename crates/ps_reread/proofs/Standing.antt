@@ -3,8 +3,8 @@ use Rattle.std.proofs.Common.{◌≡◌, ℕ, ◌+◌, List, [], ◌∷◌, ◌+
 use Rattle.ps_scan.specs.Tokens.{slice_of}
 use Rattle.ps_symbols.specs.declared.symbol.Symbol.{Symbol}
 use Rattle.ps_symbols.specs.Kinds.{kind_of}
-use Rattle.ps_parse.specs.Reading.{kind_at, kind_of_next}
-use Rattle.ps_print.specs.Lexemes.{Lexeme}
+use Rattle.ps_reader.specs.Reading.{kind_at, kind_of_next}
+use Rattle.ps_layout.specs.Lexemes.{Lexeme}
 
 -- the symbols from one place to the other are the lexemes, in kind and in spelling
 pub data Stands (text : List ℕ) (symbols : List Symbol) : ℕ → List Lexeme → ℕ → Type 0 where

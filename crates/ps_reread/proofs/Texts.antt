@@ -9,7 +9,7 @@ use Rattle.ps_scan.specs.declared.token.TokenKind.{TokenKind}
 use Rattle.ps_scan.specs.Class.{class_of}
 use Rattle.ps_scan.specs.Piece.{piece_of, first_piece}
 use Rattle.ps_scan.specs.Tokens.{line_of, piece_at, token_at, slice_of, Scans, HasTokens, IsSpelled}
-use Rattle.ps_print.specs.Lexemes.{Gap, nothing, blank, newline, Lexeme, gap_bytes, text_of, printed}
+use Rattle.ps_layout.specs.Lexemes.{Gap, nothing, blank, newline, Lexeme, gap_bytes, text_of, printed}
 use Rattle.ps_reread.specs.Printable.{gap_lines, tokens_of, ends_before, first_passes, may_follow_glued, may_follow, neighbours_pass, IsPrintable, AreSpelledBy}
 use Rattle.ps_reread.proofs.Glued.{both}
 use Rattle.ps_reread.proofs.Pieces.{token_here, spelled_nonempty, ends_before_blank, ends_before_newline}

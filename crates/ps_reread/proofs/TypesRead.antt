@@ -10,10 +10,10 @@ use Rattle.ps_symbols.specs.declared.kind.Kind.TheVariants as kind
 use Rattle.ps_symbols.specs.declared.symbol.Symbol.{Symbol}
 use Rattle.ps_symbols.specs.Kinds.{begins_type, type_start_of}
 use Rattle.ps_tree.specs.Phrase.{GroupAt}
-use Rattle.ps_parse.specs.Grammar.{Made, a_type, all_types, all_groups, Rule, Give, Go, Type_, a_type_inside, typed_as, Parameters, MoreGroups, Result, ParameterTypes, MoreTypes, inside, name_at, parameters, parameter_types, more_types, more_groups, result}
-use Rattle.ps_parse.specs.Reading.{kind_at, Reads, gives, takes, goes, opens, joins}
-use Rattle.ps_print.specs.Lexemes.{Gap, nothing, blank, Lexeme}
-use Rattle.ps_print.specs.Layout.{the_mark, name_lexeme, type_lexemes, types_lexemes, more_types_lexemes, behind_arrow, groups_lexemes, more_groups_lexemes, close_round}
+use Rattle.ps_reader.specs.Grammar.{Made, a_type, all_types, all_groups, Rule, Give, Go, Type_, a_type_inside, typed_as, Parameters, MoreGroups, Result, ParameterTypes, MoreTypes, inside, name_at, parameters, parameter_types, more_types, more_groups, result}
+use Rattle.ps_reader.specs.Reading.{kind_at, Reads, gives, takes, goes, opens, joins}
+use Rattle.ps_layout.specs.Lexemes.{Gap, nothing, blank, Lexeme}
+use Rattle.ps_layout.specs.Layout.{the_mark, name_lexeme, type_lexemes, types_lexemes, more_types_lexemes, behind_arrow, groups_lexemes, more_groups_lexemes, close_round}
 use Rattle.ps_reread.specs.Bare.{bare_group, bare_groups}
 use Rattle.ps_reread.proofs.Canonical.{IsType, AreTypes, IsResult, AreGroups}
 use Rattle.ps_reread.proofs.Canonical as is

@@ -5,7 +5,7 @@ use Rattle.ps_base.specs.TyView.{TyView, TyViews}
 use Rattle.ps_base.specs.declared.line.Line.{Line}
 use Rattle.ps_tree.specs.Phrase.{GroupAt, Phrase, at, Form, Phrases, none, more, absent, present, Arms, WriteItem, item, WriteItems, no_items, more_items}
 use Rattle.ps_tree.specs.Phrase as form
-use Rattle.ps_print.specs.Layout.{Behind, other, before_do, before_comma, before_colon, is_taken, Tightness}
+use Rattle.ps_layout.specs.Layout.{Behind, other, before_do, before_comma, before_colon, is_taken, Tightness}
 use Rattle.ps_reread.proofs.Canonical.{IsType, AreTypes, IsResult, AreGroups, IsClause, IsOperand, IsForm, AreClauses, AreArms, AreItems, IsWritten, AreItemsOf, IsItem}
 
 mutual

@@ -6,7 +6,7 @@ use Rattle.ps_symbols.specs.declared.symbol.Symbol.{Symbol}
 use Rattle.ps_symbols.specs.Kinds.{kind_of}
 use Rattle.ps_symbols.specs.Newline.{can_end, can_continue}
 use Rattle.ps_symbols.specs.Symbols.{symbol}
-use Rattle.ps_print.specs.Lexemes.{Gap, nothing, blank, newline, Lexeme}
+use Rattle.ps_layout.specs.Lexemes.{Gap, nothing, blank, newline, Lexeme}
 
 -- no `;` is read between these two: no newline stands between them, or the first can't end a clause,
 -- or the second can continue one

@@ -9,7 +9,7 @@ use Rattle.ps_scan.specs.declared.token.TokenKind.TheVariants.{Name, Int, Text, 
 use Rattle.ps_scan.specs.Class.{is_name_byte}
 use Rattle.ps_scan.specs.Names.{marks, mark_place}
 use Rattle.ps_scan.specs.Tokens.{token_at, slice_of, IsSpelled}
-use Rattle.ps_print.specs.Lexemes.{Gap, nothing, blank, newline, Lexeme, gap_bytes, text_of}
+use Rattle.ps_layout.specs.Lexemes.{Gap, nothing, blank, newline, Lexeme, gap_bytes, text_of}
 
 -- how many newlines a gap has
 abbrev pub gap_lines : Gap → ℕ

@@ -5,7 +5,7 @@ use Rattle.ps_scan.specs.Tokens.{HasTokens}
 use Rattle.ps_tree.specs.Phrase.{Phrase}
 use Rattle.ps_parse.specs.Program.{IsProgram}
 use Rattle.ps_symbols.specs.Symbols.{symbols}
-use Rattle.ps_print.specs.Layout.{printed}
+use Rattle.ps_layout.specs.Layout.{printed}
 use Rattle.ps_reread.specs.Bare.{bare}
 
 -- the text is that of a program with a tree that is this one but for lines, with at most so many

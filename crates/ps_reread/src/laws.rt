@@ -6,11 +6,11 @@ ghost use Rattle.ps_scan.specs.declared.token.Token.{Token};
 ghost use Rattle.ps_scan.specs.Tokens.{HasTokens, IsSpelled, slice_of};
 ghost use Rattle.ps_tree.specs.Phrase.{Phrase};
 ghost use Rattle.ps_symbols.specs.Symbols.{symbol, symbols};
-ghost use Rattle.ps_print.specs.Lexemes.{Lexeme, printed};
+ghost use Rattle.ps_layout.specs.Lexemes.{Lexeme, printed};
 ghost use Rattle.ps_reread.specs.Printable.{IsPrintable, tokens_of, token_behind, AreSpelledBy, is_mark, first_passes, last_passes, may_follow, neighbours_pass};
 ghost use Rattle.ps_reread.specs.Lines.{goes_on, one_for_one};
 ghost use Rattle.ps_reread.specs.Reprint.{PrintsBack};
-ghost use Rattle.ps_print.specs.Spellings.{int_text, string_text};
+ghost use Rattle.ps_layout.specs.Spellings.{int_text, string_text};
 ghost use Rattle.ps_reread.specs.Spelled.{SpellsInt, SpellsString, can_be_spelled};
 
 /// Lexemes that are spelled as they should be, none glued to one that it would change, print a text

@@ -363,7 +363,7 @@ pub fn name_of(alloc: Global, name: Named) -> Result<Rough, ParseFault>
     ensures made { IfOk result (λ made. phrase_of made ≡ at (form.Name (named name).name) (named name).line) }
     ensures fault { IfErr result (λ fault. fault ≡ Memory) }
 {
-    let Named { name, line } = name;
+    let (name, line) = name.into_parts();
     let form = RoughForm::Name(name);
     form_at(alloc, form, line)
 }

@@ -1,3 +1,5 @@
+ghost use Rattle.std.specs.Prelude.{◌≡◌};
+
 use ps_base::bytes::Bytes;
 use ps_base::line::Line;
 use ps_base::list::List;
@@ -7,7 +9,6 @@ use ps_base::ty::Ty;
 /// A clause as the grammar reads it, before its names and types are known: its form, and the line
 /// on which a fault of it is reported (`docs/language.md`).
 #[cycle(rough)]
-#[derive(Drop)]
 pub struct Rough {
     pub form: Box<RoughForm>,
     pub line: Line,
@@ -148,7 +149,6 @@ pub enum RoughForm {
 
 /// The values that a `for` goes over: from `a` to `b`, by `c` where a step is given.
 #[cycle(rough)]
-#[derive(Drop)]
 pub struct RoughRange {
     pub a: Rough,
     pub b: Rough,
@@ -157,7 +157,6 @@ pub struct RoughRange {
 
 /// An arm of a `case`: the labels that it is for, and its clause.
 #[cycle(rough)]
-#[derive(Drop)]
 pub struct RoughArm {
     pub labels: List<Rough>,
     pub a: Rough,
@@ -166,7 +165,6 @@ pub struct RoughArm {
 /// An item of a `write`, and how wide it is written, where that is said; the line is that of the
 /// colon before the width, or of the item where none stands.
 #[cycle(rough)]
-#[derive(Drop)]
 pub struct RoughItem {
     pub e: Rough,
     pub w: Option<Rough>,
@@ -174,7 +172,6 @@ pub struct RoughItem {
 }
 
 /// A name that is declared, with the line of its token.
-#[derive(Drop)]
 pub struct Named {
     pub name: Bytes,
     pub line: Line,
@@ -182,44 +179,96 @@ pub struct Named {
 
 /// The parameters of a procedure or the fields of a structure that share a type that is written
 /// once: the first of them, and those behind it.
-#[derive(Drop)]
 pub struct Group {
     pub ty: Ty,
     pub first: Named,
     pub more: List<Named>,
 }
 
-/// Lets go of a clause. A chain of operators or of applications is as long as its text, so the left
+impl Rough {
+    /// The form of a clause that is let go.
+    fn into_form(self) -> RoughForm
+        ensures { result ≡ self.form.value }
+    {
+        let Rough { form, line: _ } = self;
+        Box::into_inner(form)
+    }
+}
+
+impl Named {
+    /// The name, and the line of its token.
+    pub(crate) fn into_parts(self) -> (Bytes, Line)
+        ensures { (result.0 ≡ self.name) × (result.1 ≡ self.line) }
+    {
+        let Named { name, line } = self;
+        (name, line)
+    }
+}
+
+// Each is let go by a function of its own, written out, so that who lets one go calls this and no
+// more.
+
+impl Drop for Rough {
+    #[cycle(rough)]
+    fn drop(self) {
+        let Rough { form: _, line: _ } = self;
+    }
+}
+
+impl Drop for RoughRange {
+    #[cycle(rough)]
+    fn drop(self) {
+        let RoughRange { a: _, b: _, c: _ } = self;
+    }
+}
+
+impl Drop for RoughArm {
+    #[cycle(rough)]
+    fn drop(self) {
+        let RoughArm { labels: _, a: _ } = self;
+    }
+}
+
+impl Drop for RoughItem {
+    #[cycle(rough)]
+    fn drop(self) {
+        let RoughItem {
+            e: _,
+            w: _,
+            line: _,
+        } = self;
+    }
+}
+
+impl Drop for Named {
+    fn drop(self) {
+        let Named { name: _, line: _ } = self;
+    }
+}
+
+impl Drop for Group {
+    fn drop(self) {
+        let Group {
+            ty: _,
+            first: _,
+            more: _,
+        } = self;
+    }
+}
+
+/// Lets go of a form. A chain of operators or of applications is as long as its text, so the left
 /// operands are let go one after the other and not inside one another.
 impl Drop for RoughForm {
     #[cycle(rough)]
     fn drop(mut self) {
         loop {
             match self {
-                RoughForm::Or { a, b: _ } => {
-                    let Rough { form, line: _ } = a;
-                    self = Box::into_inner(form);
-                }
-                RoughForm::And { a, b: _ } => {
-                    let Rough { form, line: _ } = a;
-                    self = Box::into_inner(form);
-                }
-                RoughForm::Join { a, b: _ } => {
-                    let Rough { form, line: _ } = a;
-                    self = Box::into_inner(form);
-                }
-                RoughForm::Arith { op: _, a, b: _ } => {
-                    let Rough { form, line: _ } = a;
-                    self = Box::into_inner(form);
-                }
-                RoughForm::Apply { f, args: _ } => {
-                    let Rough { form, line: _ } = f;
-                    self = Box::into_inner(form);
-                }
-                RoughForm::Part { s, i: _, n: _ } => {
-                    let Rough { form, line: _ } = s;
-                    self = Box::into_inner(form);
-                }
+                RoughForm::Or { a, b: _ } => self = a.into_form(),
+                RoughForm::And { a, b: _ } => self = a.into_form(),
+                RoughForm::Join { a, b: _ } => self = a.into_form(),
+                RoughForm::Arith { op: _, a, b: _ } => self = a.into_form(),
+                RoughForm::Apply { f, args: _ } => self = f.into_form(),
+                RoughForm::Part { s, i: _, n: _ } => self = s.into_form(),
                 RoughForm::Sequence { items: _ } => return,
                 RoughForm::Let {
                     name: _,

@@ -2,7 +2,7 @@ use Rattle.std.proofs.Common.{arith, List, None, length, subst, sym, ◌∙◌}
 use Rattle.std.specs.List.{All}
 use Rattle.ps_symbols.specs.declared.symbol.Symbol.{Symbol}
 use Rattle.ps_symbols.specs.inside.Soundness.{IsSound}
-use Rattle.ps_parse.specs.inside.Stopping.{HaltsWith, Continues}
+use Rattle.ps_reader.specs.inside.Stopping.{HaltsWith, Continues}
 use Rattle.std.specs.Prelude.{ℕ, Result, Ok, Err, IfOk, IfErr, MatchResult, ◌≢◌}
 use Rattle.ps_tree.specs.declared.fault.ParseFault.{ParseFault}
 use Rattle.ps_tree.specs.declared.fault.ParseFault.TheVariants.{Memory}
@@ -11,10 +11,10 @@ use Rattle.ps_scan.specs.declared.token.Token.{Token}
 use Rattle.ps_symbols.specs.Symbols.{symbols as read_as}
 use Rattle.ps_tree.specs.Phrase.{phrase_of}
 use Rattle.ps_parse.specs.Program.{IsParseFault, ReadsAs}
-use Rattle.ps_parse.specs.Reading.{Reads}
-use Rattle.ps_parse.specs.Grammar.{Go, Give, Program, a_clause}
+use Rattle.ps_reader.specs.Reading.{Reads}
+use Rattle.ps_reader.specs.Grammar.{Go, Give, Program, a_clause}
 use Rattle.ps_parse.proofs.Ends.{ends_there, symbols_stand}
-use Rattle.ps_parse.proofs.Steps.{reads_as_this}
+use Rattle.ps_reader.proofs.Steps.{reads_as_this}
 use Rattle.ps_parse.proofs.Faults.{fault_of_stop}
 use Rattle.ps_symbols.proofs.SymbolLemmas.{tokens_fit, all_sound}
 use Rattle.ps_parse.proofs.parser.parse.Goals as goal
@@ -22,8 +22,8 @@ use Rattle.ps_parse.proofs.parser.parse.Goals as goal
 pub symbols-requires : goal.symbols-requires
 symbols-requires c = omega (arith, c.requires.size, tokens_fit _ 0 _ c.tokens_are_slices.ensures.slices c.tokens_are_slices.ensures.in_order (omega arith))
 
-pub overflow_cast-parser : goal.overflow_cast-parser
-overflow_cast-parser c = omega (arith, c.requires.size, tokens_fit _ 0 _ c.tokens_are_slices.ensures.slices c.tokens_are_slices.ensures.in_order (omega arith))
+pub overflow_cast-reader : goal.overflow_cast-reader
+overflow_cast-reader c = omega (arith, c.requires.size, tokens_fit _ 0 _ c.tokens_are_slices.ensures.slices c.tokens_are_slices.ensures.in_order (omega arith))
 
 pub program-requires : goal.program-requires
 program-requires c = record {

@@ -26,7 +26,7 @@ use Rattle.ps_typing.specs.Checking.{with_args}
 use Rattle.ps_check.specs.inside.Forms.{check_literal}
 use Rattle.ps_check.specs.inside.Weights.{weight_item, weight_written, weight_arm, weight_arms}
 use Rattle.ps_check.proofs.After.{after, after_nodes, after_nothing, fails_after, fails_in_all, pushed, finished, pushed_arm, finished_arms, first_is, each_step, args_step, all_is, all_step, written_is, written_step, arms_are, arms_step}
-use Rattle.ps_check.proofs.Applying.{same_number, other_number, no_args, elements_as, elements_are}
+use Rattle.ps_check.proofs.Applying.{one_of, two_of, not_two, a_class, no_class, not_void, same_number, other_number, no_args, elements_as, elements_are}
 use Rattle.ps_check.proofs.LinkSteps.{one_link, one_weight, fails_links, check_links-push, weight_links-push}
 use Rattle.ps_check.proofs.Lets.{let_literal, let_other}
 use Rattle.ps_program.proofs.NodeLists.{elems_is, case_is, arm_of-parts as arm_is_parts}
@@ -41,6 +41,26 @@ use Rattle.ps_check.specs.inside.Lists.{check_item}
 use Rattle.ps_check.specs.inside.Weights.{weight_link, weight_links}
 use Rattle.ps_check.proofs.Places.{weight_at, item_weight_at, arm_weight_at, phrases_from, items_from, arms_from, types_from, phrases_behind, items_behind, arms_behind}
 use Rattle.ps_check.proofs.Views.{form_of-For, arm_of-parts, item_of-parts}
+use Rattle.std.specs.Prelude.{pos}
+use Rattle.ps_program.specs.NodeView.{params_of}
+use Rattle.ps_program.specs.declared.place.Place.TheVariants.{Plain}
+use Rattle.ps_typing.specs.Names.{behind, declare_local, inside, is_declared}
+use Rattle.ps_typing.specs.Checking.{types_of, with_params}
+use Rattle.ps_typing.proofs.Keeps.{keeps_around, keeps_fields_around, all_keeps_around, all_keeps_fields_around, params_keep_around, params_keep_fields_around}
+use Rattle.ps_check.specs.inside.Views.{literal_of, groups_of}
+use Rattle.ps_check.proofs.After.{arm_made}
+use Rattle.ps_check.proofs.Blocks.{stays, unpassed}
+use Rattle.ps_check.proofs.Declaring.{few, many, count_is}
+use Rattle.ps_check.proofs.Places.{empty}
+use Rattle.std.proofs.Common.{not}
+use Rattle.std.specs.declared.alloc.Global.{Global}
+use Rattle.std.specs.declared.rc.Rc.{Rc}
+use Rattle.ps_scope.specs.Views.{class_of}
+use Rattle.ps_scope.specs.declared.meaning.Class.{Class}
+use Rattle.ps_tree.specs.declared.rough.RoughItem.{out-RoughItem}
+use Rattle.ps_typing.specs.Names.{meant}
+use Rattle.ps_typing.specs.Checking.{scan_applied}
+use Rattle.ps_check.specs.inside.Forms.{class_meant, class_test}
 
 pub operand-returns-in_err-operand : goal.operand-returns-in_err-operand
 operand-returns-in_err-operand t c = exits c.from_residual.result _ c.in_err-operand.field-0.0 _ c.from_residual.ensures.1 (fails_test _ _ _ _ _ c.in_err-operand.ensures)
@@ -310,7 +330,7 @@ pub each-loop-clause-preserved : goal.each-loop-clause-preserved
 each-loop-clause-preserved t c =
     let below : c.loop-clause.clause-index < length c.args.clauses.now = search rules in
     let cut = phrases_from c.args.clauses.now c.loop-clause.clause-index c.clause-item.result below c.clause-item.is in
-    pushed c.loop-clause.trees.items _ c.in_ok-tree.tree _ _ _ c.in_ok-push.ensures.items (ap (λ ps. check_each (names_of c.loop-clause.self.scope) (ty_view c.args.ty.now) (checkers ps)) cut ∙ each_step _ _ _ _ _ _ _ (as_wanted _ _ _ _ c.in_ok-wanted.ensures c.in_ok-tree.ensures)) c.loop-clause.invariant
+    pushed c.loop-clause.trees.items _ c.in_ok-tree.tree _ _ _ c.in_ok-push.ensures.items (ap (λ ps. check_each (names_of c.loop-clause.self.scope) (ty_view c.args.ty.now) (checkers ps)) cut ∙ each_step _ _ (ty_view c.args.ty.now) _ _ (phrase_of c.clause-item.result) (phrases_in (drop (c.loop-clause.clause-index + 1) c.args.clauses.now)) (as_wanted _ _ _ _ c.in_ok-wanted.ensures c.in_ok-tree.ensures)) c.loop-clause.invariant
 
 pub each-returns : goal.each-returns
 each-returns t c =
@@ -331,7 +351,7 @@ arguments-loop-i-preserved t c =
     let below_types : c.loop-i.i < length c.args.types.now = let same = c.requires in omega (arith, below, same) in
     let cut = phrases_from c.args.args.now c.loop-i.i c.index-args-i.result below c.index-args-i.is in
     let types_cut = types_from c.args.types.now c.loop-i.i c.index-types-i.result below_types c.index-types-i.is in
-    pushed c.loop-i.trees.items _ c.in_ok-tree.tree _ _ _ c.in_ok-push.ensures.items ((ap (λ ps. check_args (names_of c.loop-i.self.scope) (ty_views (drop c.loop-i.i c.args.types.now)) (checkers ps)) cut ∙ ap (λ ts. check_args (names_of c.loop-i.self.scope) ts (checkers (form.more (phrase_of c.index-args-i.result) (phrases_in (drop (c.loop-i.i + 1) c.args.args.now))))) types_cut) ∙ args_step _ _ _ _ _ _ _ _ (as_wanted _ _ _ _ c.in_ok-wanted.ensures c.in_ok-tree.ensures)) c.loop-i.invariant
+    pushed c.loop-i.trees.items _ c.in_ok-tree.tree _ _ _ c.in_ok-push.ensures.items ((ap (λ ps. check_args (names_of c.loop-i.self.scope) (ty_views (drop c.loop-i.i c.args.types.now)) (checkers ps)) cut ∙ ap (λ ts. check_args (names_of c.loop-i.self.scope) ts (checkers (form.more (phrase_of c.index-args-i.result) (phrases_in (drop (c.loop-i.i + 1) c.args.args.now))))) types_cut) ∙ args_step _ _ (ty_view c.index-types-i.result) _ (ty_views (drop (c.loop-i.i + 1) c.args.types.now)) _ (phrase_of c.index-args-i.result) (phrases_in (drop (c.loop-i.i + 1) c.args.args.now)) (as_wanted _ _ _ _ c.in_ok-wanted.ensures c.in_ok-tree.ensures)) c.loop-i.invariant
 
 pub arguments-returns : goal.arguments-returns
 arguments-returns t c =
@@ -342,13 +362,13 @@ pub items-returns-in_err-tree : goal.items-returns-in_err-tree
 items-returns-in_err-tree t c =
     let below : c.loop-item.item-index < length c.args.items.now = search rules in
     let cut = phrases_from c.args.items.now c.loop-item.item-index c.item-item.result below c.item-item.is in
-    exits c.from_residual.result _ c.in_err-tree.field-0.0 _ c.from_residual.ensures.1 (fails_after _ _ _ _ c.loop-item.invariant (fails_as _ _ _ (ap (check_all (names_of c.loop-item.self.scope) c.loop-item.line (ty_view c.loop-item.before)) cut ∙ all_is _ _ _ _ _) (fails_first _ _ _ c.in_err-tree.ensures)))
+    exits c.from_residual.result _ c.in_err-tree.field-0.0 _ c.from_residual.ensures.1 (fails_after _ _ _ _ c.loop-item.invariant (fails_as _ _ _ (ap (check_all (names_of c.loop-item.self.scope) c.loop-item.line (ty_view c.loop-item.before)) cut ∙ all_is (names_of c.loop-item.self.scope) c.loop-item.line (ty_view c.loop-item.before) (phrase_of c.item-item.result) (phrases_in (drop (c.loop-item.item-index + 1) c.args.items.now))) (fails_first _ _ _ c.in_err-tree.ensures)))
 
 pub items-loop-item-preserved : goal.items-loop-item-preserved
 items-loop-item-preserved t c =
     let below : c.loop-item.item-index < length c.args.items.now = search rules in
     let cut = phrases_from c.args.items.now c.loop-item.item-index c.item-item.result below c.item-item.is in
-    pushed c.loop-item.trees.items _ c.in_ok-tree.field-0.tree _ _ _ c.in_ok-push.ensures.items (ap (check_all (names_of c.loop-item.self.scope) c.loop-item.line (ty_view c.loop-item.before)) cut ∙ all_step _ _ _ _ _ _ _ _ c.in_ok-tree.ensures) c.loop-item.invariant
+    pushed c.loop-item.trees.items _ c.in_ok-tree.field-0.tree _ _ _ c.in_ok-push.ensures.items (ap (check_all (names_of c.loop-item.self.scope) c.loop-item.line (ty_view c.loop-item.before)) cut ∙ all_step (names_of c.loop-item.self.scope) _ c.loop-item.line (ty_view c.loop-item.before) _ _ (phrase_of c.item-item.result) (phrases_in (drop (c.loop-item.item-index + 1) c.args.items.now)) c.in_ok-tree.ensures) c.loop-item.invariant
 
 pub items-returns : goal.items-returns
 items-returns t c =
@@ -359,13 +379,13 @@ pub written-returns-in_err-tree : goal.written-returns-in_err-tree
 written-returns-in_err-tree t c =
     let below : c.loop-item.item-index < length c.args.items.now = search rules in
     let cut = items_from c.args.items.now c.loop-item.item-index c.item-item.result below c.item-item.is in
-    exits c.from_residual.result _ c.in_err-tree.field-0.0 _ c.from_residual.ensures.1 (fails_after _ _ _ _ c.loop-item.invariant (fails_as _ _ _ (ap (check_written (names_of c.loop-item.self.scope)) cut ∙ written_is _ _ _) (fails_first _ _ _ c.in_err-tree.ensures)))
+    exits c.from_residual.result _ c.in_err-tree.field-0.0 _ c.from_residual.ensures.1 (fails_after _ _ _ _ c.loop-item.invariant (fails_as _ _ _ (ap (check_written (names_of c.loop-item.self.scope)) cut ∙ written_is (names_of c.loop-item.self.scope) (item_of c.item-item.result) (items_in (drop (c.loop-item.item-index + 1) c.args.items.now))) (fails_first _ _ _ c.in_err-tree.ensures)))
 
 pub written-loop-item-preserved : goal.written-loop-item-preserved
 written-loop-item-preserved t c =
     let below : c.loop-item.item-index < length c.args.items.now = search rules in
     let cut = items_from c.args.items.now c.loop-item.item-index c.item-item.result below c.item-item.is in
-    pushed c.loop-item.trees.items _ c.in_ok-tree.tree _ _ _ c.in_ok-push.ensures.items (ap (check_written (names_of c.loop-item.self.scope)) cut ∙ written_step _ _ _ _ _ _ c.in_ok-tree.ensures) c.loop-item.invariant
+    pushed c.loop-item.trees.items _ c.in_ok-tree.tree _ _ _ c.in_ok-push.ensures.items (ap (check_written (names_of c.loop-item.self.scope)) cut ∙ written_step (names_of c.loop-item.self.scope) _ _ _ (item_of c.item-item.result) (items_in (drop (c.loop-item.item-index + 1) c.args.items.now)) c.in_ok-tree.ensures) c.loop-item.invariant
 
 pub written-returns : goal.written-returns
 written-returns t c =
@@ -396,7 +416,7 @@ pub arms-returns-in_err-more_arms-in-Some : goal.arms-returns-in_err-more_arms-i
 arms-returns-in_err-more_arms-in-Some t c = exits c.from_residual-in_err-more_arms-in-Some.result _ c.in_err-more_arms-in-Some.field-0.0 _ c.from_residual-in_err-more_arms-in-Some.ensures.1 (fails_as _ _ _ (ap (λ arms. check_arms (names_of c.args.self.now.scope) (ty_view c.args.ty.now) None (rough_arms_in arms)) c.in-Some.ensures.cases.0 ∙ arms_are _ _ _ _ _) (fails_next _ _ _ _ _ _ c.in_ok-arm-in-Some.ensures (fails_first _ _ _ c.in_err-more_arms-in-Some.ensures)))
 
 pub arms-returns-in-None : goal.arms-returns-in-None
-arms-returns-in-None t c = (Void, ap (λ arms. check_arms (names_of c.args.self.now.scope) (ty_view c.args.ty.now) None (rough_arms_in arms)) (c.in-None.ensures.cases) ∙ ap (λ made. Gives (arms_in made) Void (names_of c.args.self.now.scope)) (sym c.new-made.ensures.items), ap (λ made. first_type (arms_in made) Void) c.new-made.ensures.items)
+arms-returns-in-None t c = (Void, ap (λ arms. check_arms (names_of c.args.self.now.scope) (ty_view c.args.ty.now) None (rough_arms_in arms)) (empty _ c.in-None.ensures.cases) ∙ ap (λ made. Gives (arms_in made) Void (names_of c.args.self.now.scope)) (sym c.new-made.ensures.items), ap (λ made. first_type (arms_in made) Void) c.new-made.ensures.items)
 
 pub arms-returns-in_ok-more_arms-in-Some : goal.arms-returns-in_ok-more_arms-in-Some
 arms-returns-in_ok-more_arms-in-Some t c =
@@ -415,7 +435,7 @@ pub arm-returns-in_err-a : goal.arm-returns-in_err-a
 arm-returns-in_err-a t c = exits c.from_residual-in_err-a.result _ c.in_err-a.field-0.0 _ c.from_residual-in_err-a.ensures.1 (fails_as _ _ _ (ap (check_arm (names_of c.args.self.now.scope) (ty_view c.args.ty.now) (option_map ty_view c.args.given)) (arm_of-parts c.args.arm.now) ∙ ap (λ labels. check_arm (names_of c.args.self.now.scope) (ty_view c.args.ty.now) (option_map ty_view c.args.given) (form.arm (phrases_in labels) (phrase_of (out-RoughArm c.args.arm.now).a))) (sym c.as_slice.ensures)) (fails_next _ _ _ _ _ _ c.in_ok-each.ensures.1 (fails_first _ _ _ c.in_err-a.ensures)))
 
 pub arm-returns : goal.arm-returns
-arm-returns t c = (ap (check_arm (names_of c.args.self.now.scope) (ty_view c.args.ty.now) (option_map ty_view c.args.given)) (arm_of-parts c.args.arm.now) ∙ ap (λ labels. check_arm (names_of c.args.self.now.scope) (ty_view c.args.ty.now) (option_map ty_view c.args.given) (form.arm (phrases_in labels) (phrase_of (out-RoughArm c.args.arm.now).a))) (sym c.as_slice.ensures)) ∙ given _ _ _ _ _ c.in_ok-each.ensures.1 ∙ given _ _ _ _ _ c.in_ok-a.ensures ∙ ap (λ a. Gives a (ty_view c.in_ok-a.field-0.ty) (names_of c.like.new.self.scope)) (arm_is _ _ _ (sym c.new-labels.ensures))
+arm-returns t c = (ap (check_arm (names_of c.args.self.now.scope) (ty_view c.args.ty.now) (option_map ty_view c.args.given)) (arm_of-parts c.args.arm.now) ∙ ap (λ labels. check_arm (names_of c.args.self.now.scope) (ty_view c.args.ty.now) (option_map ty_view c.args.given) (form.arm (phrases_in labels) (phrase_of (out-RoughArm c.args.arm.now).a))) (sym c.as_slice.ensures)) ∙ given _ _ _ _ _ c.in_ok-each.ensures.1 ∙ given _ _ _ _ _ c.in_ok-a.ensures ∙ ap (λ a. Gives a (ty_view c.in_ok-a.field-0.ty) (names_of c.like.new.self.scope)) (arm_made c.new-labels.result c.in_ok-a.field-0.tree _ (sym c.new-labels.ensures))
 
 pub arm-each-requires : goal.arm-each-requires
 arm-each-requires t c =
@@ -423,10 +443,10 @@ arm-each-requires t c =
     search (rules, is)
 
 pub case_of-returns-in_err-d : goal.case_of-returns-in_err-d
-case_of-returns-in_err-d t c = exits c.from_residual-in_err-d.result _ c.in_err-d.field-0.0 _ c.from_residual-in_err-d.ensures.1 (fails_next _ _ _ _ _ _ (c.in_ok-e.ensures) (fails_next _ _ _ _ _ _ (c.in_ok-arms.ensures.1.0) (fails_first _ _ _ (subst (λ g. IsFault (like g c.args.d.now.line (check (names_of c.arms.new.self.scope) (phrase_of c.args.d.now))) c.in_err-d.field-0.0) (sym c.in_ok-arms.ensures.1.1) c.in_err-d.ensures))))
+case_of-returns-in_err-d t c = exits c.from_residual-in_err-d.result _ c.in_err-d.field-0.0 _ c.from_residual-in_err-d.ensures.1 (fails_next _ _ _ _ _ _ (c.in_ok-e.ensures) (fails_next _ _ _ _ _ _ (c.in_ok-arms.ensures.1) (fails_first _ _ _ (subst (λ g. IsFault (like g c.args.d.now.line (check (names_of c.arms.new.self.scope) (phrase_of c.args.d.now))) c.in_err-d.field-0.0) (sym c.in_ok-arms.ensures.2) c.in_err-d.ensures))))
 
 pub case_of-returns : goal.case_of-returns
-case_of-returns t c = made _ _ _ _ c.new.result (given _ _ _ _ _ (c.in_ok-e.ensures) ∙ given _ _ _ _ _ (c.in_ok-arms.ensures.1.0) ∙ given _ _ _ _ _ (subst (λ g. like g c.args.d.now.line (check (names_of c.arms.new.self.scope) (phrase_of c.args.d.now)) ≡ Gives (node_of c.in_ok-d.field-0.tree) (ty_view c.in_ok-d.field-0.ty) (names_of c.like.new.self.scope)) (sym c.in_ok-arms.ensures.1.1) c.in_ok-d.ensures)) (remade _ _ _ c.new.result (case_is _ c.in_ok-e.field-0.tree _ c.in_ok-d.field-0.tree c.in_ok-e.field-0.ty c.in_ok-arms.field-0.arms.items refl (sym c.new-arms.ensures)) c.new.ensures)
+case_of-returns t c = made _ _ _ _ c.new.result (given _ _ _ _ _ (c.in_ok-e.ensures) ∙ given _ _ _ _ _ (c.in_ok-arms.ensures.1) ∙ given _ _ _ _ _ (subst (λ g. like g c.args.d.now.line (check (names_of c.arms.new.self.scope) (phrase_of c.args.d.now)) ≡ Gives (node_of c.in_ok-d.field-0.tree) (ty_view c.in_ok-d.field-0.ty) (names_of c.like.new.self.scope)) (sym c.in_ok-arms.ensures.2) c.in_ok-d.ensures)) (remade _ _ _ c.new.result (case_is _ c.in_ok-e.field-0.tree _ c.in_ok-d.field-0.tree c.in_ok-e.field-0.ty c.in_ok-arms.field-0.arms.items refl (sym c.new-arms.ensures)) c.new.ensures)
 
 pub assign-returns : goal.assign-returns
 assign-returns t c = leads _ _ _ _ (given _ _ _ _ _ (c.in_ok-x.ensures) ∙ given _ _ _ _ _ (c.in_ok-value.ensures) ∙ ap (λ v. assigned c.args.line c.args.e.now.line v (assignment (node_of c.in_ok-x.field-0.tree) (node_of c.in_ok-value.field-0.tree)) (ty_view c.in_ok-x.field-0.ty) (ty_view c.in_ok-value.field-0.ty) (names_of c.clause-2.new.self.scope)) (sym c.can_be_assigned-variable.ensures) ∙ ap (λ a. assigned c.args.line c.args.e.now.line c.can_be_assigned-variable.result a (ty_view c.in_ok-x.field-0.ty) (ty_view c.in_ok-value.field-0.ty) (names_of c.clause-2.new.self.scope)) (sym c.in_ok-assignment.ensures)) (c.assigned.ensures c.clause-2.new.self.scope)
@@ -439,14 +459,22 @@ chain-link-requires t c =
     let all : weight_links c.push.new.self.items ≡ weight_link c.args.last = one_weight c.new-links.result.items c.push.new.self.items c.args.last c.new-links.ensures.items c.in_ok-push.ensures.items in
     let gathered = c.in_ok-innermost.ensures.lighter in
     let left = c.loop-link.invariant.lighter in
-    let popped : weight_links c.loop-link.links.items ≡ weight_links c.pop.new.self.items + weight_link c.in-Some.link = ap weight_links c.in-Some.ensures.rest ∙ weight_links-push c.pop.new.self.items c.in-Some.link in
+    let popped : weight_links c.loop-link.links.items ≡ weight_links c.pop.new.self.items + weight_link c.in-Some.link = ap weight_links c.in-Some.ensures.items ∙ weight_links-push c.pop.new.self.items c.in-Some.link in
     search (rules, all, gathered, left, popped)
 
 pub chain-returns-in_err-chain-2 : goal.chain-returns-in_err-chain-2
-chain-returns-in_err-chain-2 t c = exits c.from_residual-in_err-chain-2.result _ c.in_err-chain-2.field-0.0 _ c.from_residual-in_err-chain-2.ensures.1 (fails_as _ _ _ ? (fails_links c.pop.new.self.items _ _ c.in_err-chain-2.ensures))
+chain-returns-in_err-chain-2 t c =
+    let here : check_links c.pop.new.self.items (check_link c.in-Some.link (Gives (node_of c.loop-link.chain.tree) (ty_view c.loop-link.chain.ty) (names_of c.loop-link.self.scope))) ≡ check_links c.loop-link.links.items (Gives (node_of c.loop-link.chain.tree) (ty_view c.loop-link.chain.ty) (names_of c.loop-link.self.scope)) = sym (check_links-push c.pop.new.self.items c.in-Some.link (Gives (node_of c.loop-link.chain.tree) (ty_view c.loop-link.chain.ty) (names_of c.loop-link.self.scope))) ∙ ap (λ ls. check_links ls (Gives (node_of c.loop-link.chain.tree) (ty_view c.loop-link.chain.ty) (names_of c.loop-link.self.scope))) (sym c.in-Some.ensures.items) in
+    exits c.from_residual-in_err-chain-2.result _ c.in_err-chain-2.field-0.0 _ c.from_residual-in_err-chain-2.ensures.1 (fails_as _ _ _ (sym (here ∙ c.loop-link.invariant.chain ∙ ap (check_links c.gather.new.links.items) (sym c.in_ok-chain.ensures) ∙ c.in_ok-innermost.ensures.chain (names_of c.args.self.now.scope) ∙ one_link c.new-links.result.items c.push.new.self.items c.args.last (check (names_of c.args.self.now.scope) (phrase_of c.args.left.now)) c.new-links.ensures.items c.in_ok-push.ensures.items)) (fails_links c.pop.new.self.items _ _ c.in_err-chain-2.ensures))
 
 pub chain-loop-link-preserved : goal.chain-loop-link-preserved
-chain-loop-link-preserved t c = ?
+chain-loop-link-preserved t c =
+    let here : check_links c.pop.new.self.items (check_link c.in-Some.link (Gives (node_of c.loop-link.chain.tree) (ty_view c.loop-link.chain.ty) (names_of c.loop-link.self.scope))) ≡ check_links c.loop-link.links.items (Gives (node_of c.loop-link.chain.tree) (ty_view c.loop-link.chain.ty) (names_of c.loop-link.self.scope)) = sym (check_links-push c.pop.new.self.items c.in-Some.link (Gives (node_of c.loop-link.chain.tree) (ty_view c.loop-link.chain.ty) (names_of c.loop-link.self.scope))) ∙ ap (λ ls. check_links ls (Gives (node_of c.loop-link.chain.tree) (ty_view c.loop-link.chain.ty) (names_of c.loop-link.self.scope))) (sym c.in-Some.ensures.items) in
+    let less : weight_links c.loop-link.links.items ≡ weight_links c.pop.new.self.items + weight_link c.in-Some.link = ap weight_links c.in-Some.ensures.items ∙ weight_links-push c.pop.new.self.items c.in-Some.link in
+    record {
+      chain = ap (check_links c.pop.new.self.items) (sym c.in_ok-chain-2.ensures) ∙ here ∙ c.loop-link.invariant.chain;
+      lighter = omega (arith, less, c.loop-link.invariant.lighter);
+    }
 
 pub declaration-returns-in-Some : goal.declaration-returns-in-Some
 declaration-returns-in-Some t c = λ line. leads _ _ _ _ (let_literal (names_of c.args.self.now.scope) line _ c.args.variable (phrase_of c.args.e.now) _ (sym c.in-Some.ensures)) c.named_literal.ensures
@@ -497,7 +525,7 @@ pub subscripted-returns-in_err-i-in-Some : goal.subscripted-returns-in_err-i-in-
 subscripted-returns-in_err-i-in-Some t c = exits c.from_residual-in_err-i-in-Some.result _ c.in_err-i-in-Some.field-0.0 _ c.from_residual-in_err-i-in-Some.ensures.1 (fails_as _ _ _ (ap (λ as_. value_applied (names_of c.args.self.now.scope) c.args.line (node_of c.args.v) (types.Vector (ty_view c.args.element.now)) (phrases_in as_) (checkers (phrases_in as_))) c.in-Some.ensures.cases.0) (fails_first _ _ _ c.in_err-i-in-Some.ensures))
 
 pub subscripted-returns-in_ok-v-in-Some : goal.subscripted-returns-in_ok-v-in-Some
-subscripted-returns-in_ok-v-in-Some t c = leads _ _ _ _ (ap (λ as_. value_applied (names_of c.args.self.now.scope) c.args.line (node_of c.args.v) (types.Vector (ty_view c.args.element.now)) (phrases_in as_) (checkers (phrases_in as_))) c.in-Some.ensures.cases.0 ∙ given _ _ _ _ _ c.in_ok-i-in-Some.ensures ∙ elements_as _ _ _ _ _ _ _ _ (sym (c.in_ok-v-in-Some.ensures.0 ∙ ap (λ t. node.Element (node_of c.args.v) (node_of c.in_ok-i-in-Some.i) t c.args.line) c.in_ok-ty-in-Some.ensures)) (sym (c.in_ok-v-in-Some.ensures.1 ∙ c.in_ok-ty-in-Some.ensures))) c.subscripts.ensures
+subscripted-returns-in_ok-v-in-Some t c = leads _ _ _ _ (ap (λ as_. value_applied (names_of c.args.self.now.scope) c.args.line (node_of c.args.v) (types.Vector (ty_view c.args.element.now)) (phrases_in as_) (checkers (phrases_in as_))) c.in-Some.ensures.cases.0 ∙ given _ _ _ _ _ c.in_ok-i-in-Some.ensures ∙ elements_as _ _ _ _ _ _ _ (sym (c.in_ok-v-in-Some.ensures.0 ∙ ap (λ t. node.Element (node_of c.args.v) (node_of c.in_ok-i-in-Some.i) t c.args.line) c.in_ok-ty-in-Some.ensures)) (sym (c.in_ok-v-in-Some.ensures.1 ∙ c.in_ok-ty-in-Some.ensures))) c.subscripts.ensures
 
 pub subscripts-returns-in_err-v : goal.subscripts-returns-in_err-v
 subscripts-returns-in_err-v t c =
@@ -514,83 +542,95 @@ subscripts-loop-arg-preserved t c =
 pub written_item-returns-in_err-w : goal.written_item-returns-in_err-w
 written_item-returns-in_err-w t c = exits c.from_residual-in_err-w.result _ c.in_err-w.field-0.0 _ c.from_residual-in_err-w.ensures.1 (fails_as _ _ _ (ap (check_item (names_of c.args.self.now.scope)) (item_of-parts c.args.item.now)) (fails_next _ _ _ _ _ _ c.in_ok-e.ensures (fails_first _ _ _ (subst (λ m. IsFault (check_if_any (names_of c.tested.new.self.scope) types.Int node.Empty m) c.in_err-w.field-0.0) c.lent.ensures c.in_err-w.ensures))))
 
-pub written_item-returns : goal.written_item-returns
-written_item-returns t c = ?
-
-pub counted-returns-in_err-c : goal.counted-returns-in_err-c
-counted-returns-in_err-c t c = ?
-
-pub counted-returns-in_err-s : goal.counted-returns-in_err-s
-counted-returns-in_err-s t c = ?
-
-pub counted-leave-requires-clause-names : goal.counted-leave-requires-clause-names
-counted-leave-requires-clause-names t c = ?
-
-pub counted-leave-requires-clause-fields : goal.counted-leave-requires-clause-fields
-counted-leave-requires-clause-fields t c = ?
-
-pub counted-returns : goal.counted-returns
-counted-returns t c = ?
-
 pub initial-returns-then-declares : goal.initial-returns-then-declares
-initial-returns-then-declares t c = ?
+initial-returns-then-declares t c = is_fault _ _ (Twice c.args.name.now.line) refl (given _ _ _ _ _ c.in_ok-e.ensures ∙ ap (λ b. if b then Refuses (Twice c.args.name.now.line) else Gives (node.Let (Plain (length (names_of c.tested.new.self.scope).all)) (ty_view c.in_ok-e.field-0.ty) (node_of c.in_ok-e.field-0.tree)) Void (declare_local (names_of c.tested.new.self.scope) c.args.name.now.name (ty_view c.in_ok-e.field-0.ty) c.args.variable)) (ap (is_declared (names_of c.tested.new.self.scope)) (sym c.as_slice.ensures) ∙ sym c.declares.ensures ∙ c.if-declares.true))
 
 pub initial-returns : goal.initial-returns
-initial-returns t c = ?
-
-pub is_of-returns-in_ok-clone-in-Some-Class : goal.is_of-returns-in_ok-clone-in-Some-Class
-is_of-returns-in_ok-clone-in-Some-Class t c = ?
-
-pub is_of-returns-in_default : goal.is_of-returns-in_default
-is_of-returns-in_default t c = ?
-
-pub item-returns-then-not-matches : goal.item-returns-then-not-matches
-item-returns-then-not-matches t c = ?
+initial-returns t c = made _ _ _ _ c.new.result (given _ _ _ _ _ c.in_ok-e.ensures ∙ ap (λ b. if b then Refuses (Twice c.args.name.now.line) else Gives (node.Let (Plain (length (names_of c.tested.new.self.scope).all)) (ty_view c.in_ok-e.field-0.ty) (node_of c.in_ok-e.field-0.tree)) Void (declare_local (names_of c.tested.new.self.scope) c.args.name.now.name (ty_view c.in_ok-e.field-0.ty) c.args.variable)) (ap (is_declared (names_of c.tested.new.self.scope)) (sym c.as_slice.ensures) ∙ sym c.declares.ensures ∙ c.if-declares.false) ∙ ap (λ n. Gives (node.Let (Plain (length (names_of c.tested.new.self.scope).all)) (ty_view c.in_ok-e.field-0.ty) (node_of c.in_ok-e.field-0.tree)) Void n) (sym (c.in_ok-number.ensures.names ∙ ap (λ nm. declare_local (names_of c.tested.new.self.scope) nm (ty_view c.in_ok-e.field-0.ty) c.args.variable) c.as_slice-name.ensures))) (remade _ _ _ c.new.result (ap (λ k. node.Let (Plain k) (ty_view c.in_ok-e.field-0.ty) (node_of c.in_ok-e.field-0.tree)) c.in_ok-number.ensures.number) c.new.ensures)
 
 pub literal-returns-then-len-gt-MOST : goal.literal-returns-then-len-gt-MOST
-literal-returns-then-len-gt-MOST t c = ?
+literal-returns-then-len-gt-MOST t c =
+    let at : c.len.result ≡ length c.in_ok-params.params.items = search rules in
+    let counted : c.len-count.result ≡ length c.in_ok-params.params.items = search rules in
+    fails_first _ _ (λ made t own. wants (ty_view c.args.literal.gives.now) c.args.literal.s.now.line (check own (phrase_of c.args.literal.s.now)) >>= λ s t last. Gives (node.Proc (node.body made (ty_view c.args.literal.gives.now) s None c.args.literal.line)) (types.Proc (types_of (groups_in c.args.literal.params.now)) (ty_view c.args.literal.gives.now)) (behind (names_of c.args.self.now.scope) last)) (is_fault _ _ (Limit c.args.literal.line (length (groups_in c.args.literal.params.now))) (ap (λ k. Some (Limit c.args.literal.line k)) (count_is c.in_ok-params.params.items _ _ c.in_ok-params.ensures counted)) (ap (λ b. if b then Refuses (Limit c.args.literal.line (length (groups_in c.args.literal.params.now))) else with_params (inside (names_of c.args.self.now.scope)) [] (groups_in c.args.literal.params.now)) (many c.in_ok-params.params.items _ _ c.in_ok-params.ensures at c.if-len-gt-MOST.true)))
 
 pub literal-returns-in_err-places : goal.literal-returns-in_err-places
-literal-returns-in_err-places t c = ?
+literal-returns-in_err-places t c = exits c.from_residual-in_err-places.result _ c.in_err-places.field-0.0 _ c.from_residual-in_err-places.ensures.1 (fails_first _ _ (λ made t own. wants (ty_view c.args.literal.gives.now) c.args.literal.s.now.line (check own (phrase_of c.args.literal.s.now)) >>= λ s t last. Gives (node.Proc (node.body made (ty_view c.args.literal.gives.now) s None c.args.literal.line)) (types.Proc (types_of (groups_in c.args.literal.params.now)) (ty_view c.args.literal.gives.now)) (behind (names_of c.args.self.now.scope) last)) (fails_as _ _ _ ((ap (λ b. if b then Refuses (Limit c.args.literal.line (length (groups_in c.args.literal.params.now))) else with_params (inside (names_of c.args.self.now.scope)) [] (groups_in c.args.literal.params.now)) (few c.in_ok-params.params.items _ _ c.in_ok-params.ensures (let at : c.len.result ≡ length c.in_ok-params.params.items = search rules in at) c.if-len-gt-MOST.false)) ∙ ap (with_params (inside (names_of c.args.self.now.scope)) []) (sym (ap groups_of c.as_slice.ensures.value ∙ c.in_ok-params.ensures))) (subst (λ n. IsFault (with_params n [] (groups_of c.as_slice.result.now)) c.in_err-places.field-0.0) c.enter-block.ensures.names c.in_err-places.ensures)))
 
 pub literal-returns-in_err-s : goal.literal-returns-in_err-s
-literal-returns-in_err-s t c = ?
+literal-returns-in_err-s t c = exits c.from_residual-in_err-s.result _ c.in_err-s.field-0.0 _ c.from_residual-in_err-s.ensures.1 (fails_next _ _ _ _ (λ made t own. wants (ty_view c.args.literal.gives.now) c.args.literal.s.now.line (check own (phrase_of c.args.literal.s.now)) >>= λ s t last. Gives (node.Proc (node.body made (ty_view c.args.literal.gives.now) s None c.args.literal.line)) (types.Proc (types_of (groups_in c.args.literal.params.now)) (ty_view c.args.literal.gives.now)) (behind (names_of c.args.self.now.scope) last)) _ ((ap (λ b. if b then Refuses (Limit c.args.literal.line (length (groups_in c.args.literal.params.now))) else with_params (inside (names_of c.args.self.now.scope)) [] (groups_in c.args.literal.params.now)) (few c.in_ok-params.params.items _ _ c.in_ok-params.ensures (let at : c.len.result ≡ length c.in_ok-params.params.items = search rules in at) c.if-len-gt-MOST.false)) ∙ ap (with_params (inside (names_of c.args.self.now.scope)) []) (sym (ap groups_of c.as_slice.ensures.value ∙ c.in_ok-params.ensures)) ∙ (subst (λ n. with_params n [] (groups_of c.as_slice.result.now) ≡ Gives (params_of c.in_ok-places.places.items) Void (names_of c.parameters.new.self.scope)) c.enter-block.ensures.names c.in_ok-places.ensures)) (fails_first _ _ _ (fails_as_wanted _ _ _ c.in_ok-wanted.ensures c.in_err-s.ensures)))
 
 pub literal-leave-requires-clause-names : goal.literal-leave-requires-clause-names
-literal-leave-requires-clause-names t c = ?
+literal-leave-requires-clause-names t c = stays _ _ _ _ (keeps_around _ (phrase_of c.args.literal.s.now) _ _ _ (unpassed _ _ _ _ _ _ _ (as_wanted _ _ _ _ c.in_ok-wanted.ensures c.in_ok-s.ensures)) ∙ params_keep_around (inside (names_of c.args.self.now.scope)) [] (groups_of c.as_slice.result.now) _ _ _ (subst (λ n. with_params n [] (groups_of c.as_slice.result.now) ≡ Gives (params_of c.in_ok-places.places.items) Void (names_of c.parameters.new.self.scope)) c.enter-block.ensures.names c.in_ok-places.ensures)) c.enter-block.ensures.names_around
 
 pub literal-leave-requires-clause-fields : goal.literal-leave-requires-clause-fields
-literal-leave-requires-clause-fields t c = ?
+literal-leave-requires-clause-fields t c = stays _ _ _ _ (keeps_fields_around _ (phrase_of c.args.literal.s.now) _ _ _ (unpassed _ _ _ _ _ _ _ (as_wanted _ _ _ _ c.in_ok-wanted.ensures c.in_ok-s.ensures)) ∙ params_keep_fields_around (inside (names_of c.args.self.now.scope)) [] (groups_of c.as_slice.result.now) _ _ _ (subst (λ n. with_params n [] (groups_of c.as_slice.result.now) ≡ Gives (params_of c.in_ok-places.places.items) Void (names_of c.parameters.new.self.scope)) c.enter-block.ensures.names c.in_ok-places.ensures)) c.enter-block.ensures.fields_around
 
 pub literal-returns : goal.literal-returns
-literal-returns t c = ?
+literal-returns t c = made _ _ _ _ c.procedure.result (given _ _ _ _ (λ made t own. wants (ty_view c.args.literal.gives.now) c.args.literal.s.now.line (check own (phrase_of c.args.literal.s.now)) >>= λ s t last. Gives (node.Proc (node.body made (ty_view c.args.literal.gives.now) s None c.args.literal.line)) (types.Proc (types_of (groups_in c.args.literal.params.now)) (ty_view c.args.literal.gives.now)) (behind (names_of c.args.self.now.scope) last)) ((ap (λ b. if b then Refuses (Limit c.args.literal.line (length (groups_in c.args.literal.params.now))) else with_params (inside (names_of c.args.self.now.scope)) [] (groups_in c.args.literal.params.now)) (few c.in_ok-params.params.items _ _ c.in_ok-params.ensures (let at : c.len.result ≡ length c.in_ok-params.params.items = search rules in at) c.if-len-gt-MOST.false)) ∙ ap (with_params (inside (names_of c.args.self.now.scope)) []) (sym (ap groups_of c.as_slice.ensures.value ∙ c.in_ok-params.ensures)) ∙ (subst (λ n. with_params n [] (groups_of c.as_slice.result.now) ≡ Gives (params_of c.in_ok-places.places.items) Void (names_of c.parameters.new.self.scope)) c.enter-block.ensures.names c.in_ok-places.ensures)) ∙ given _ _ _ _ _ (as_wanted _ _ _ _ c.in_ok-wanted.ensures c.in_ok-s.ensures) ∙ ap (λ n. Gives (node.Proc (node.body (params_of c.in_ok-places.places.items) (ty_view c.args.literal.gives.now) (node_of c.in_ok-s.s) None c.args.literal.line)) (types.Proc (types_of (groups_in c.args.literal.params.now)) (ty_view c.args.literal.gives.now)) n) (sym (c.leave.ensures (names_of c.args.self.now.scope) (keeps_around _ (phrase_of c.args.literal.s.now) _ _ _ (unpassed _ _ _ _ _ _ _ (as_wanted _ _ _ _ c.in_ok-wanted.ensures c.in_ok-s.ensures)) ∙ params_keep_around (inside (names_of c.args.self.now.scope)) [] (groups_of c.as_slice.result.now) _ _ _ (subst (λ n. with_params n [] (groups_of c.as_slice.result.now) ≡ Gives (params_of c.in_ok-places.places.items) Void (names_of c.parameters.new.self.scope)) c.enter-block.ensures.names c.in_ok-places.ensures)) (keeps_fields_around _ (phrase_of c.args.literal.s.now) _ _ _ (unpassed _ _ _ _ _ _ _ (as_wanted _ _ _ _ c.in_ok-wanted.ensures c.in_ok-s.ensures)) ∙ params_keep_fields_around (inside (names_of c.args.self.now.scope)) [] (groups_of c.as_slice.result.now) _ _ _ (subst (λ n. with_params n [] (groups_of c.as_slice.result.now) ≡ Gives (params_of c.in_ok-places.places.items) Void (names_of c.parameters.new.self.scope)) c.enter-block.ensures.names c.in_ok-places.ensures)) c.enter-block.ensures.names_around c.enter-block.ensures.fields_around))) (remade_both _ _ _ _ c.procedure.result refl (ap (λ gs. types.Proc (types_of gs) (ty_view c.args.literal.gives.now)) (ap groups_of c.as_slice-2.ensures.value ∙ c.in_ok-params.ensures)) c.procedure.ensures)
 
 pub named_literal-returns-in_err-e : goal.named_literal-returns-in_err-e
-named_literal-returns-in_err-e t c = ?
+named_literal-returns-in_err-e t c = exits c.from_residual-in_err-e.result _ c.in_err-e.field-0.0 _ c.from_residual-in_err-e.ensures.1 (fails_as _ _ _ (ap (λ b. if b then Refuses (Twice c.args.name.now.line) else (check_literal (declare_local (names_of c.args.self.now.scope) c.args.name.now.name (types.Proc (types_of (groups_in c.args.literal.params.now)) (ty_view c.args.literal.gives.now)) c.args.variable) (literal_of c.args.literal) >>= (λ e t last. Gives (node.Let (Plain (length (names_of c.args.self.now.scope).all)) t e) Void last))) (ap (is_declared (names_of c.args.self.now.scope)) (sym c.as_slice.ensures) ∙ sym c.declares.ensures ∙ c.if-declares.false)) (fails_first _ _ (λ e t last. Gives (node.Let (Plain (length (names_of c.args.self.now.scope).all)) t e) Void last) (subst (λ n. IsFault (check_literal n (literal_of c.args.literal)) c.in_err-e.field-0.0) (c.in_ok-number.ensures.names ∙ ap (λ nm. declare_local (names_of c.args.self.now.scope) nm (ty_view c.in_ok-ty.ty) c.args.variable) c.as_slice-name.ensures ∙ ap (λ k. declare_local (names_of c.args.self.now.scope) c.args.name.now.name k c.args.variable) (c.in_ok-ty.ensures ∙ ap (λ ts. types.Proc ts (ty_view c.in_ok-copy.field-0)) (c.in_ok-parameters.ensures ∙ ap types_of (ap groups_of c.as_slice-2.ensures.value ∙ c.in_ok-params.ensures)) ∙ ap (types.Proc (types_of (groups_in c.args.literal.params.now))) c.in_ok-copy.ensures)) c.in_err-e.ensures)))
 
 pub named_literal-returns : goal.named_literal-returns
-named_literal-returns t c = ?
-
-pub scan-returns-in_err-a-in-len2 : goal.scan-returns-in_err-a-in-len2
-scan-returns-in_err-a-in-len2 t c = ?
-
-pub scan-returns-in_err-f-in-len2 : goal.scan-returns-in_err-f-in-len2
-scan-returns-in_err-f-in-len2 t c = ?
-
-pub scan-returns-in_ok-f-in-len2 : goal.scan-returns-in_ok-f-in-len2
-scan-returns-in_ok-f-in-len2 t c = ?
-
-pub scan-returns-in_default : goal.scan-returns-in_default
-scan-returns-in_default t c = ?
+named_literal-returns t c = made _ _ _ _ c.new.result ((ap (λ b. if b then Refuses (Twice c.args.name.now.line) else (check_literal (declare_local (names_of c.args.self.now.scope) c.args.name.now.name (types.Proc (types_of (groups_in c.args.literal.params.now)) (ty_view c.args.literal.gives.now)) c.args.variable) (literal_of c.args.literal) >>= (λ e t last. Gives (node.Let (Plain (length (names_of c.args.self.now.scope).all)) t e) Void last))) (ap (is_declared (names_of c.args.self.now.scope)) (sym c.as_slice.ensures) ∙ sym c.declares.ensures ∙ c.if-declares.false)) ∙ given _ _ _ _ (λ e t last. Gives (node.Let (Plain (length (names_of c.args.self.now.scope).all)) t e) Void last) (subst (λ n. check_literal n (literal_of c.args.literal) ≡ Gives (node_of c.in_ok-e.field-0.tree) (ty_view c.in_ok-e.field-0.ty) (names_of c.literal.new.self.scope)) (c.in_ok-number.ensures.names ∙ ap (λ nm. declare_local (names_of c.args.self.now.scope) nm (ty_view c.in_ok-ty.ty) c.args.variable) c.as_slice-name.ensures ∙ ap (λ k. declare_local (names_of c.args.self.now.scope) c.args.name.now.name k c.args.variable) (c.in_ok-ty.ensures ∙ ap (λ ts. types.Proc ts (ty_view c.in_ok-copy.field-0)) (c.in_ok-parameters.ensures ∙ ap types_of (ap groups_of c.as_slice-2.ensures.value ∙ c.in_ok-params.ensures)) ∙ ap (types.Proc (types_of (groups_in c.args.literal.params.now))) c.in_ok-copy.ensures)) c.in_ok-e.ensures)) (remade _ _ _ c.new.result (ap (λ k. node.Let (Plain k) (ty_view c.in_ok-e.field-0.ty) (node_of c.in_ok-e.field-0.tree)) c.in_ok-number.ensures.number) c.new.ensures)
 
 pub sequence-leave-requires-clause-names : goal.sequence-leave-requires-clause-names
-sequence-leave-requires-clause-names t c = ?
+sequence-leave-requires-clause-names t c = stays _ _ _ _ (all_keeps_around _ _ _ _ _ _ _ c.in_ok-trees.ensures ∙ ap (λ (n : Names). n.around) c.enter-block.ensures.names) c.enter-block.ensures.names_around
 
 pub sequence-leave-requires-clause-fields : goal.sequence-leave-requires-clause-fields
-sequence-leave-requires-clause-fields t c = ?
+sequence-leave-requires-clause-fields t c = stays _ _ _ _ (all_keeps_fields_around _ _ _ _ _ _ _ c.in_ok-trees.ensures ∙ ap (λ (n : Names). n.fields_around) c.enter-block.ensures.names) c.enter-block.ensures.fields_around
 
 pub sequence-returns : goal.sequence-returns
-sequence-returns t c = ?
+sequence-returns t c = made _ _ _ _ c.block_of.result (given _ _ _ _ _ (ap (λ n. check_all n c.args.line Void (phrases_in c.args.items.now)) (sym c.enter-block.ensures.names) ∙ c.in_ok-trees.ensures) ∙ ap (λ n. Gives (node.Block None (nodes_in c.in_ok-trees.field-0.trees.items)) (ty_view c.in_ok-trees.field-0.ty) n) (sym (c.leave.ensures (names_of c.args.self.now.scope) (all_keeps_around _ _ _ _ _ _ _ c.in_ok-trees.ensures ∙ ap (λ (n : Names). n.around) c.enter-block.ensures.names) (all_keeps_fields_around _ _ _ _ _ _ _ c.in_ok-trees.ensures ∙ ap (λ (n : Names). n.fields_around) c.enter-block.ensures.names) c.enter-block.ensures.names_around c.enter-block.ensures.fields_around))) c.block_of.ensures
 
-pub subscript-returns-in_default : goal.subscript-returns-in_default
-subscript-returns-in_default t c = ?
+pub counted-returns-in_err-c : goal.counted-returns-in_err-c
+counted-returns-in_err-c t c = exits c.from_residual-in_err-c.result _ c.in_err-c.field-0.0 _ c.from_residual-in_err-c.ensures.1 (fails_next _ _ _ _ _ _ (c.in_ok-a.ensures) (fails_next _ _ _ _ _ _ (c.in_ok-b.ensures) (fails_first _ _ _ (subst (λ m. IsFault (check_if_any (names_of c.operand-2.new.self.scope) types.Int (node.Int (pos 1)) m) c.in_err-c.field-0.0) c.lent.ensures c.in_err-c.ensures))))
+
+pub counted-returns-in_err-s : goal.counted-returns-in_err-s
+counted-returns-in_err-s t c = exits c.from_residual-in_err-s.result _ c.in_err-s.field-0.0 _ c.from_residual-in_err-s.ensures.1 (fails_next _ _ _ _ _ _ (c.in_ok-a.ensures) (fails_next _ _ _ _ _ _ (c.in_ok-b.ensures) (fails_next _ _ _ _ _ _ ((subst (λ m. check_if_any (names_of c.operand-2.new.self.scope) types.Int (node.Int (pos 1)) m ≡ Gives (node_of c.in_ok-c.field-0.tree) (ty_view c.in_ok-c.field-0.ty) (names_of c.if_any.new.self.scope)) c.lent.ensures c.in_ok-c.ensures)) (fails_first _ _ _ (subst (λ n. IsFault (wants Void c.args.s.now.line (check n (phrase_of c.args.s.now))) c.in_err-s.field-0.0) (c.in_ok-number.ensures.names ∙ ap (λ nm. declare_local (names_of c.enter-block.new.self) nm types.Int false) c.as_slice-name.ensures ∙ ap (λ n. declare_local n c.args.name.now.name types.Int false) c.enter-block.ensures.names) c.in_err-s.ensures)))))
+
+pub counted-leave-requires-clause-names : goal.counted-leave-requires-clause-names
+counted-leave-requires-clause-names t c = stays _ _ _ _ (keeps_around (declare_local (inside (names_of c.if_any.new.self.scope)) c.args.name.now.name types.Int false) (phrase_of c.args.s.now) _ _ _ (unpassed _ _ _ _ _ _ _ (subst (λ n. wants Void c.args.s.now.line (check n (phrase_of c.args.s.now)) ≡ Gives (node_of c.in_ok-s.s) Void (names_of c.operand-3.new.self.scope)) (c.in_ok-number.ensures.names ∙ ap (λ nm. declare_local (names_of c.enter-block.new.self) nm types.Int false) c.as_slice-name.ensures ∙ ap (λ n. declare_local n c.args.name.now.name types.Int false) c.enter-block.ensures.names) c.in_ok-s.ensures))) c.enter-block.ensures.names_around
+
+pub counted-leave-requires-clause-fields : goal.counted-leave-requires-clause-fields
+counted-leave-requires-clause-fields t c = stays _ _ _ _ (keeps_fields_around (declare_local (inside (names_of c.if_any.new.self.scope)) c.args.name.now.name types.Int false) (phrase_of c.args.s.now) _ _ _ (unpassed _ _ _ _ _ _ _ (subst (λ n. wants Void c.args.s.now.line (check n (phrase_of c.args.s.now)) ≡ Gives (node_of c.in_ok-s.s) Void (names_of c.operand-3.new.self.scope)) (c.in_ok-number.ensures.names ∙ ap (λ nm. declare_local (names_of c.enter-block.new.self) nm types.Int false) c.as_slice-name.ensures ∙ ap (λ n. declare_local n c.args.name.now.name types.Int false) c.enter-block.ensures.names) c.in_ok-s.ensures))) c.enter-block.ensures.fields_around
+
+pub counted-returns : goal.counted-returns
+counted-returns t c = made _ _ _ _ c.loop_of.result (given _ _ _ _ _ (c.in_ok-a.ensures) ∙ given _ _ _ _ _ (c.in_ok-b.ensures) ∙ given _ _ _ _ _ ((subst (λ m. check_if_any (names_of c.operand-2.new.self.scope) types.Int (node.Int (pos 1)) m ≡ Gives (node_of c.in_ok-c.field-0.tree) (ty_view c.in_ok-c.field-0.ty) (names_of c.if_any.new.self.scope)) c.lent.ensures c.in_ok-c.ensures)) ∙ given _ _ _ _ _ (subst (λ n. wants Void c.args.s.now.line (check n (phrase_of c.args.s.now)) ≡ Gives (node_of c.in_ok-s.s) Void (names_of c.operand-3.new.self.scope)) (c.in_ok-number.ensures.names ∙ ap (λ nm. declare_local (names_of c.enter-block.new.self) nm types.Int false) c.as_slice-name.ensures ∙ ap (λ n. declare_local n c.args.name.now.name types.Int false) c.enter-block.ensures.names) c.in_ok-s.ensures) ∙ ap (λ n. Gives (node.For 0 (node_of c.in_ok-a.a) (node_of c.in_ok-b.b) (node_of c.in_ok-c.field-0.tree) None (Plain (length (names_of c.if_any.new.self.scope).all)) (node_of c.in_ok-s.s) c.args.line) Void n) (sym (c.leave.ensures (names_of c.if_any.new.self.scope) (keeps_around (declare_local (inside (names_of c.if_any.new.self.scope)) c.args.name.now.name types.Int false) (phrase_of c.args.s.now) _ _ _ (unpassed _ _ _ _ _ _ _ (subst (λ n. wants Void c.args.s.now.line (check n (phrase_of c.args.s.now)) ≡ Gives (node_of c.in_ok-s.s) Void (names_of c.operand-3.new.self.scope)) (c.in_ok-number.ensures.names ∙ ap (λ nm. declare_local (names_of c.enter-block.new.self) nm types.Int false) c.as_slice-name.ensures ∙ ap (λ n. declare_local n c.args.name.now.name types.Int false) c.enter-block.ensures.names) c.in_ok-s.ensures))) (keeps_fields_around (declare_local (inside (names_of c.if_any.new.self.scope)) c.args.name.now.name types.Int false) (phrase_of c.args.s.now) _ _ _ (unpassed _ _ _ _ _ _ _ (subst (λ n. wants Void c.args.s.now.line (check n (phrase_of c.args.s.now)) ≡ Gives (node_of c.in_ok-s.s) Void (names_of c.operand-3.new.self.scope)) (c.in_ok-number.ensures.names ∙ ap (λ nm. declare_local (names_of c.enter-block.new.self) nm types.Int false) c.as_slice-name.ensures ∙ ap (λ n. declare_local n c.args.name.now.name types.Int false) c.enter-block.ensures.names) c.in_ok-s.ensures))) c.enter-block.ensures.names_around c.enter-block.ensures.fields_around))) (remade _ _ _ c.loop_of.result (ap (λ k. node.For 0 (node_of c.in_ok-a.a) (node_of c.in_ok-b.b) (node_of c.in_ok-c.field-0.tree) None (Plain k) (node_of c.in_ok-s.s) c.args.line) (c.in_ok-number.ensures.number ∙ ap (λ (n : Names). length n.all) c.enter-block.ensures.names)) c.loop_of.ensures)
+
+pub written_item-returns : goal.written_item-returns
+written_item-returns t c = ap (check_item (names_of c.args.self.now.scope)) (item_of-parts c.args.item.now) ∙ given _ _ _ _ _ c.in_ok-e.ensures ∙ given _ _ _ _ _ (subst (λ m. check_if_any (names_of c.tested.new.self.scope) types.Int node.Empty m ≡ Gives (node_of c.in_ok-w.field-0.tree) (ty_view c.in_ok-w.field-0.ty) (names_of c.if_any.new.self.scope)) c.lent.ensures c.in_ok-w.ensures) ∙ ap (λ b. Gives (node.Write (node_of c.in_ok-e.field-0.tree) (node_of c.in_ok-w.field-0.tree) b (ty_view c.in_ok-e.field-0.ty) (out-RoughItem c.args.item.now).line) Void (names_of c.if_any.new.self.scope)) (sym c.is_int-wide.ensures) ∙ ap (λ t. Gives t Void (names_of c.if_any.new.self.scope)) (sym c.in_ok-new.ensures)
+
+pub item-returns-then-not-is_void : goal.item-returns-then-not-is_void
+item-returns-then-not-is_void t c = is_fault _ _ (Mismatch c.args.line (ty_view c.args.before) Void) refl (ap (λ b. if b then check (names_of c.args.self.now.scope) (phrase_of c.args.item.now) else Refuses (Mismatch c.args.line (ty_view c.args.before) Void)) (not_void _ (sym c.is_void.ensures ∙ ap not c.if-not-is_void.true)))
+
+pub is_of-returns-in_default : goal.is_of-returns-in_default
+is_of-returns-in_default t c = is_fault _ _ (Unknown c.args.class.now.line) refl (given _ _ _ _ _ c.in_ok-e.ensures ∙ no_class (named c.args.class.now) c.args.negated _ _ _ ((ap class_meant (ap (meant (names_of c.operand.new.self.scope)) (sym c.as_slice.ensures) ∙ sym c.in_ok-meaning.ensures) ∙ sym c.class_in.ensures) ∙ ap (option_map (λ (class : Rc Class Global). class_of class.value)) c.in_default.is))
+
+pub is_of-returns : goal.is_of-returns
+is_of-returns t c = made _ _ _ _ c.class_test.result (given _ _ _ _ _ c.in_ok-e.ensures ∙ a_class (named c.args.class.now) c.args.negated _ _ _ _ _ ((ap class_meant (ap (meant (names_of c.operand.new.self.scope)) (sym c.as_slice.ensures) ∙ sym c.in_ok-meaning.ensures) ∙ sym c.class_in.ensures) ∙ ap (option_map (λ (class : Rc Class Global). class_of class.value)) c.in-Some.is)) (remade _ _ _ c.class_test.result (ap (class_test c.args.negated (node_of c.in_ok-e.e)) (c.in_ok-clone.ensures.cases ∙ ap (λ (class : Class). class.text.value) c.deref.ensures)) c.class_test.ensures)
+
+pub scan-returns-then-args-ne2 : goal.scan-returns-then-args-ne2
+scan-returns-then-args-ne2 t c = is_fault _ _ (NotApplicable c.args.line) refl (not_two (names_of c.args.self.now.scope) c.args.line c.args.text c.args.args.now c.if-args-ne2.true)
+
+pub scan-returns-in_err-a : goal.scan-returns-in_err-a
+scan-returns-in_err-a t c = exits c.from_residual.result _ c.in_err-a.field-0.0 _ c.from_residual.ensures.1 (fails_as _ _ _ (ap (λ as_. scan_applied (names_of c.args.self.now.scope) c.args.line c.args.text (checkers (phrases_in as_))) (one_of _ _ c.if-args-ne2.false c.index-args-0.is)) (fails_first _ _ _ c.in_err-a.ensures))
+
+pub scan-returns-in_err-f : goal.scan-returns-in_err-f
+scan-returns-in_err-f t c = exits c.from_residual-in_err-f.result _ c.in_err-f.field-0.0 _ c.from_residual-in_err-f.ensures.1 (fails_as _ _ _ (ap (λ as_. scan_applied (names_of c.args.self.now.scope) c.args.line c.args.text (checkers (phrases_in as_))) (two_of _ _ _ c.if-args-ne2.false c.index-args-0.is c.index-args-1.is)) (fails_next _ _ _ _ _ _ c.in_ok-a.ensures (fails_first _ _ _ (fails_as_wanted _ _ _ c.in_ok-wanted.ensures c.in_err-f.ensures))))
+
+pub scan-returns : goal.scan-returns
+scan-returns t c = made _ _ _ _ c.new.result (ap (λ as_. scan_applied (names_of c.args.self.now.scope) c.args.line c.args.text (checkers (phrases_in as_))) (two_of _ _ _ c.if-args-ne2.false c.index-args-0.is c.index-args-1.is) ∙ given _ _ _ _ _ c.in_ok-a.ensures ∙ given _ _ _ _ _ (as_wanted _ _ _ _ c.in_ok-wanted.ensures c.in_ok-f.ensures)) c.new.ensures
+
+pub scan-operand-requires : goal.scan-operand-requires
+scan-operand-requires t c =
+    let below : 0 < length c.args.args.now = omega (arith, c.if-args-ne2.false) in
+    let light : weight (phrase_of c.index-args-0.result) ≤ weight_all (phrases_in c.args.args.now) = subst (λ r. weight (phrase_of r) ≤ weight_all (phrases_in c.args.args.now)) (sym c.index-args-0.is) (weight_at c.args.args.now 0 _ below) in
+    search (rules, light)
+
+pub scan-operand-requires-2 : goal.scan-operand-requires-2
+scan-operand-requires-2 t c =
+    let below : 1 < length c.args.args.now = omega (arith, c.if-args-ne2.false) in
+    let light : weight (phrase_of c.index-args-1.result) ≤ weight_all (phrases_in c.args.args.now) = subst (λ r. weight (phrase_of r) ≤ weight_all (phrases_in c.args.args.now)) (sym c.index-args-1.is) (weight_at c.args.args.now 1 _ below) in
+    search (rules, light)

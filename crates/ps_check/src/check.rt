@@ -1,0 +1,77 @@
+ghost use Rattle.std.specs.Prelude.{◌≡◌, Some, Option, MatchResult, IfOk, IfErr};
+ghost use Rattle.ps_base.specs.TyView.{Void};
+ghost use Rattle.ps_tree.specs.Phrase.{phrase_of};
+ghost use Rattle.ps_program.specs.NodeView.{body_of};
+ghost use Rattle.ps_typing.specs.Fault.{Fault};
+ghost use Rattle.ps_typing.specs.Library.{library_names};
+ghost use Rattle.ps_typing.specs.Checking.{check as check_of, wants};
+ghost use Rattle.ps_typing.specs.Program.{Typed, Fails, check_program, end_line as end_line_of};
+ghost use Rattle.ps_check.specs.Faults.{fault_of};
+ghost use Rattle.ps_check.specs.inside.Whole.{IsWhole};
+
+use crate::checker::Checker;
+use crate::fault::CheckFault;
+use ps_base::line::Line;
+use ps_base::list::List;
+use ps_base::ty::Ty;
+use ps_names::place;
+use ps_program::body::{Body, Program};
+use ps_program::form::Tree;
+use ps_scope::scope::Scope;
+use ps_slots::{Complex, first_complex};
+use ps_tree::rough::{Rough, RoughForm};
+use ps_type_text::Member;
+use std::alloc::Global;
+
+/// Checks a program: its names, its types and how many slots its bodies need. Answers the typed program, in which each name has
+/// its place, or the first fault in the order of the text, or `Memory` (`docs/language.md`); what was made until then is let go.
+pub fn check(alloc: Global, rough: &Rough) -> Result<Program, CheckFault>
+    ensures program { IfOk result (λ program. check_program (phrase_of rough.now) ≡ Typed (body_of program.body)) }
+    ensures fault { IfErr result (λ fault. (told : Fault) → fault_of fault ≡ Some told → check_program (phrase_of rough.now) ≡ Fails told) }
+{
+    let Whole { tree, names } = tree_and_names(alloc, rough)?;
+    let body = Body {
+        params: List::new(Vec::new(alloc)),
+        gives: Ty::Void,
+        tree,
+        scope: None,
+        line: Line(1),
+    };
+    let body = place(alloc, names, body)?;
+    match first_complex(alloc, &body)? {
+        None => Ok(Program { body }),
+        Some(Complex { line, count }) => Err(CheckFault::TooComplex { line, count }),
+    }
+}
+
+/// The tree of a program in which each name is a number, and the names by their numbers.
+#[derive(Drop)]
+pub(crate) struct Whole {
+    pub(crate) tree: Tree,
+    pub(crate) names: Vec<Member>,
+}
+
+fn tree_and_names(alloc: Global, rough: &Rough) -> Result<Whole, CheckFault>
+    ensures { IsWhole (wants Void (end_line_of (phrase_of rough.now)) (check_of library_names (phrase_of rough.now))) result }
+{
+    let scope = Scope::new(alloc)?;
+    let mut checker = Checker { alloc, scope };
+    let clause = checker.clause(rough)?;
+    let tree = clause.of_type(end_line(rough), Ty::Void)?;
+    let Checker { alloc: _, scope } = checker;
+    let names = scope.into_locals();
+    Ok(Whole { tree, names })
+}
+
+// The line of a program's last clause.
+fn end_line(program: &Rough) -> Line
+    ensures { result ≡ end_line_of (phrase_of program.now) }
+{
+    match &*program.form {
+        RoughForm::Sequence { items } => match items.as_slice() {
+            [.., last] => last.line,
+            [] => program.line,
+        },
+        _ => program.line,
+    }
+}

@@ -1,0 +1,118 @@
+//! Items: the declarations, and sequences of items.
+
+ghost use Rattle.ps_tree.specs.Phrase.{named, none};
+ghost use Rattle.ps_tree.specs.PhraseLists.{phrases_in};
+ghost use Rattle.ps_reader.specs.Grammar.{Go, Item, Items, MoreItems, Literal, let_item, procedure_item, bound};
+ghost use Rattle.ps_reader.specs.inside.Parsing.{AreSound, Does, ReadsClause};
+
+use crate::clauses::{after, clause};
+use ps_base::line::Line;
+use ps_reader::reader::Reader;
+use ps_symbols::kind::{Kind, begins_item};
+use ps_tree::build::{let_of, proc_of, sequence};
+use ps_tree::fault::ParseFault;
+use ps_tree::rough::{Named, Rough};
+
+/// The items of a sequence that begins on the line.
+#[cycle(parsing)]
+pub fn items(reader: &Reader, at: &mut usize, room: u32, line: Line) -> Result<Rough, ParseFault>
+    requires sound { AreSound reader.now }
+    ensures { ReadsClause reader.now room (Go (Items line none)) at.old result at.new }
+{
+    let mut items = Vec::new(reader.alloc);
+    loop {
+        optional_item(reader, at, room, line, &mut items)?;
+        let Some(_) = reader.accept(at, Kind::Semicolon) else {
+            return sequence(reader.alloc, items, line);
+        };
+    }
+}
+
+/// Adds the item that stands at the place, if there is one.
+#[cycle(parsing)]
+fn optional_item(
+    reader: &Reader,
+    at: &mut usize,
+    room: u32,
+    line: Line,
+    items: &mut Vec<Rough>,
+) -> Result<(), ParseFault>
+    requires sound { AreSound reader.now }
+    ensures { Does reader.now room (Go (Items line (phrases_in items.old.items))) at.old result (λ added. Go (MoreItems line (phrases_in items.new.items))) at.new }
+{
+    if begins_item(reader.kind_at(*at)) {
+        let one = item(reader, at, room)?;
+        items.push(one)?;
+    }
+    Ok(())
+}
+
+#[cycle(parsing)]
+fn item(reader: &Reader, at: &mut usize, room: u32) -> Result<Rough, ParseFault>
+    requires sound { AreSound reader.now }
+    ensures { ReadsClause reader.now room (Go Item) at.old result at.new }
+{
+    match reader.kind_at(*at) {
+        Kind::Let => let_item(reader, at, room),
+        Kind::Structure => reader.structure_item(at, room),
+        Kind::Procedure => procedure_item(reader, at, room),
+        _ => clause(reader, at, room),
+    }
+}
+
+#[cycle(parsing)]
+fn let_item(reader: &Reader, at: &mut usize, room: u32) -> Result<Rough, ParseFault>
+    requires sound { AreSound reader.now }
+    ensures { ReadsClause reader.now room (let_item reader.now.text.now) at.old result at.new }
+{
+    let (line, name) = reader.name_behind(at, Kind::Let)?;
+    match reader.kind_at(*at) {
+        Kind::Equals => bound(reader, at, room, Kind::Equals, false, line, name),
+        Kind::Becomes => bound(reader, at, room, Kind::Becomes, true, line, name),
+        _ => Err(reader.unexpected(*at)),
+    }
+}
+
+/// What a name on the line stands for, behind the mark.
+#[cycle(parsing)]
+fn bound(
+    reader: &Reader,
+    at: &mut usize,
+    room: u32,
+    mark: Kind,
+    variable: bool,
+    line: Line,
+    name: Named,
+) -> Result<Rough, ParseFault>
+    requires sound { AreSound reader.now }
+    ensures { ReadsClause reader.now room (bound mark variable line (named name)) at.old result at.new }
+{
+    let (_, e) = after(reader, at, room, mark)?;
+    let_of(reader.alloc, name, variable, e, line)
+}
+
+#[cycle(parsing)]
+fn procedure_item(reader: &Reader, at: &mut usize, room: u32) -> Result<Rough, ParseFault>
+    requires sound { AreSound reader.now }
+    ensures { ReadsClause reader.now room (procedure_item reader.now.text.now) at.old result at.new }
+{
+    let (line, name) = reader.name_behind(at, Kind::Procedure)?;
+    let e = literal(reader, at, room, line)?;
+    let_of(reader.alloc, name, false, e, line)
+}
+
+/// A procedure behind its `proc` on the line, or behind its name.
+#[cycle(parsing)]
+pub(crate) fn literal(
+    reader: &Reader,
+    at: &mut usize,
+    room: u32,
+    line: Line,
+) -> Result<Rough, ParseFault>
+    requires sound { AreSound reader.now }
+    ensures { ReadsClause reader.now room (Go (Literal line)) at.old result at.new }
+{
+    let (params, gives) = reader.signature(at, room)?;
+    let (_, s) = after(reader, at, room, Kind::Semicolon)?;
+    proc_of(reader.alloc, params, gives, s, line)
+}

@@ -1,0 +1,3 @@
+mod Layouts
+pub mod Printing
+pub mod Views

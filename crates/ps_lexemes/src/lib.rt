@@ -1,0 +1,4 @@
+//! Lexemes as bytes: the gap before each, and its spelling.
+#![tactic(auto)]
+
+pub mod writer;

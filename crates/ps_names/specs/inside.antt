@@ -1,0 +1,5 @@
+pub mod Tables
+pub mod Marks
+pub mod Standing
+pub mod Clauses
+pub mod Chains

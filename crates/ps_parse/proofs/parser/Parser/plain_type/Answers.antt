@@ -1,8 +1,0 @@
-use Rattle.ps_parse.proofs.Steps.{took, missing, failed}
-use Rattle.ps_parse.proofs.parser.Parser.plain_type.Goals as goal
-
-pub returns-in_err-take : goal.returns-in_err-take
-returns-in_err-take c = failed _ _ c.from_residual.ensures.1 (missing c.in_err-take.ensures)
-
-pub returns : goal.returns
-returns c = took c.in_ok-take.ensures

@@ -1,4 +1,0 @@
-pub mod Layout
-pub mod Lexemes
-pub mod Spellings
-pub mod inside

@@ -1,0 +1,2 @@
+pub mod Complexity
+pub mod inside
