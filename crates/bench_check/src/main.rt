@@ -1,0 +1,64 @@
+//! Reads the text of a file, checks it, and tells what the check comes to: `typed`, or the number and line of its first fault.
+//! For the time and the memory that it takes.
+#![tactic(auto)]
+
+use anyhow::Result;
+use ps_check::check;
+use ps_parse::parse;
+use ps_port::{DirShelf, Shelf};
+use ps_scan::scan;
+use std::alloc::Global;
+use std::env;
+
+fn main(rt: HostRuntime) -> Result<()> {
+    let told = match named(&rt) {
+        Some(text) => checked(rt.alloc(), &text),
+        None => Verdict::NoText,
+    };
+    match told {
+        Verdict::NoText => println!(rt; "no text")?,
+        Verdict::NoTree => println!(rt; "no tree")?,
+        Verdict::Memory => println!(rt; "no memory")?,
+        Verdict::Typed => println!(rt; "typed")?,
+        Verdict::Fault { number, line } => println!(rt; "check {} at line {}", number, line)?,
+    }
+    Ok(())
+}
+
+/// What is told of a text.
+#[derive(Clone, Copy)]
+enum Verdict {
+    NoText,
+    NoTree,
+    Memory,
+    Typed,
+    Fault { number: u8, line: u32 },
+}
+
+// The text of the file that the first word names.
+fn named(rt: &HostRuntime) -> Option<Vec<u8>> {
+    let word = env::args(rt).ok()?.nth(1)?;
+    let mut shelf = DirShelf::new(rt, rt.alloc()).ok()?;
+    let mut text = Vec::new(rt.alloc());
+    shelf.text(&word, &mut text).ok()?;
+    Some(text)
+}
+
+fn checked(alloc: Global, text: &[u8]) -> Verdict {
+    let Ok(tokens) = scan(alloc, text) else {
+        return Verdict::NoTree;
+    };
+    let Ok(rough) = parse(alloc, text, &tokens) else {
+        return Verdict::NoTree;
+    };
+    match check(alloc, &rough) {
+        Ok(_) => Verdict::Typed,
+        Err(fault) => match (fault.number(), fault.line()) {
+            (Some(number), Some(line)) => Verdict::Fault {
+                number,
+                line: line.0,
+            },
+            _ => Verdict::Memory,
+        },
+    }
+}
