@@ -8,27 +8,37 @@ use ps_base::ty::Ty;
 use ps_check::CheckFault;
 use ps_check::check::check;
 use ps_parse::parse;
-use ps_program::body::{Body, Program};
+use ps_program::body::Body;
 use ps_scan::scan;
+use ps_tree::rough::Rough;
 use ps_type_text::type_text;
 use std::alloc::Global;
 use std::process::Abort;
 use std::test::Fail;
 
-/// The program of a text that has no fault of the scanner and the parser, or its first fault.
-pub fn checked(alloc: Global, text: &[u8]) -> Result<Result<Program, CheckFault>, Fail> {
+// The tree of a text that has no fault of the scanner and the parser.
+fn parsed(alloc: Global, text: &[u8]) -> Result<Rough, Fail> {
     if text.len() > LONGEST_TEXT {
         return Err("too long".into());
     }
     let tokens = scan(alloc, text).map_err(|_| "scan")?;
-    let rough = parse(alloc, text, &tokens).map_err(|_| "parse")?;
-    Ok(check(alloc, &rough))
+    Ok(parse(alloc, text, &tokens).map_err(|_| "parse")?)
 }
 
 /// What the check answers on a text.
 pub fn answer(alloc: Global, text: &[u8]) -> Result<String, Fail> {
-    match checked(alloc, text)? {
+    let rough = parsed(alloc, text)?;
+    match check(alloc, &rough) {
         Ok(program) => shown_program(alloc, &program.body),
+        Err(fault) => shown_fault(alloc, &fault),
+    }
+}
+
+/// The fault of a text, or nothing where it fits.
+pub fn fault_of(alloc: Global, text: &[u8]) -> Result<String, Fail> {
+    let rough = parsed(alloc, text)?;
+    match check(alloc, &rough) {
+        Ok(_) => Ok(String::new(alloc)),
         Err(fault) => shown_fault(alloc, &fault),
     }
 }
@@ -42,8 +52,8 @@ fn shown_program(alloc: Global, body: &Body) -> Result<String, Fail> {
     shown(alloc, &body.tree)
 }
 
-/// A fault as its number, `@` and its line, and where it has them the types found and wanted, or the count.
-pub fn shown_fault(alloc: Global, fault: &CheckFault) -> Result<String, Fail> {
+// A fault as its number, `@` and its line, and where it has them the types found and wanted, or the count.
+fn shown_fault(alloc: Global, fault: &CheckFault) -> Result<String, Fail> {
     let mut out = Buffer::new(alloc);
     let (Some(number), Some(line)) = (fault.number(), fault.line()) else {
         return Err("memory".into());

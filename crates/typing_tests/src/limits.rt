@@ -1,7 +1,7 @@
 //! The limits of the check, and what has none.
 
 use crate::buffer::Buffer;
-use crate::checking::{answer, checked, is_answer, shown_fault};
+use crate::checking::{answer, fault_of, is_answer};
 use std::alloc::Global;
 use std::process::Abort;
 use std::test::Fail;
@@ -131,15 +131,6 @@ fn put_piece(out: &mut Buffer, piece: &str, number: u32) {
     }
 }
 
-// The fault of a text, or nothing where it fits.
-fn fault_of(alloc: Global, text: Buffer) -> Result<String, Fail> {
-    let text = text.finish()?;
-    match checked(alloc, text.as_bytes())? {
-        Ok(_) => Ok(String::new(alloc)),
-        Err(fault) => shown_fault(alloc, &fault),
-    }
-}
-
 fn repeated(alloc: Global, pattern: &str, count: u32) -> Result<String, Fail> {
     let mut out = Buffer::new(alloc);
     for (place, part) in pattern.split('$').enumerate() {
@@ -149,7 +140,8 @@ fn repeated(alloc: Global, pattern: &str, count: u32) -> Result<String, Fail> {
             out.put(part);
         }
     }
-    fault_of(alloc, out)
+    let text = out.finish()?;
+    fault_of(alloc, text.as_bytes())
 }
 
 fn patterns_are_answered(
@@ -187,7 +179,8 @@ fn two_bodies(alloc: Global, inner: u32, outer: u32) -> Result<String, Fail> {
     put_pieces(&mut out, "let a# = 1;", inner);
     out.put("};");
     put_pieces(&mut out, "let a# = 1;", outer);
-    fault_of(alloc, out)
+    let text = out.finish()?;
+    fault_of(alloc, text.as_bytes())
 }
 
 // The program is the first body, though the procedure in it ends first.
