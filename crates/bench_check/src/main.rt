@@ -3,6 +3,7 @@
 #![tactic(auto)]
 
 use anyhow::Result;
+use ps_base::LONGEST_TEXT;
 use ps_check::check::check;
 use ps_parse::parse;
 use ps_port::{DirShelf, Shelf};
@@ -45,6 +46,9 @@ fn named(rt: &HostRuntime) -> Option<Vec<u8>> {
 }
 
 fn checked(alloc: Global, text: &[u8]) -> Verdict {
+    if text.len() > LONGEST_TEXT {
+        return Verdict::NoText;
+    }
     let Ok(tokens) = scan(alloc, text) else {
         return Verdict::NoTree;
     };

@@ -7,7 +7,6 @@ ghost use Rattle.ps_tree.specs.PhraseLists.{phrases_in};
 ghost use Rattle.ps_program.specs.Node as node;
 ghost use Rattle.ps_program.specs.NodeView.{node_of, nodes_in};
 ghost use Rattle.ps_scope.specs.Content.{names_of};
-
 ghost use Rattle.std.specs.Prelude.{length, option_map, if◌then◌else◌};
 ghost use Rattle.ps_base.specs.List.{items_of};
 ghost use Rattle.ps_typing.specs.Library.{caller};
@@ -215,12 +214,7 @@ impl Checker {
     }
 
     #[cycle(clause)]
-    fn subscripts(
-        &mut self,
-        line: Line,
-        v: Clause,
-        args: &[Rough],
-    ) -> Result<Clause, CheckFault>
+    fn subscripts(&mut self, line: Line, v: Clause, args: &[Rough]) -> Result<Clause, CheckFault>
         ensures { IsClause (elements (names_of self.old.scope) line (node_of v.tree) (ty_view v.ty) (checkers (phrases_in args.now))) result self.new.scope }
     {
         let mut v = v;
@@ -306,12 +300,7 @@ fn field_name(args: &[Rough]) -> Option<FieldName>
     Some(FieldName { name, line })
 }
 
-fn field_at(
-    alloc: Global,
-    line: Line,
-    e: Tree,
-    field: &Field,
-) -> Result<Clause, CheckFault>
+fn field_at(alloc: Global, line: Line, e: Tree, field: &Field) -> Result<Clause, CheckFault>
     ensures { IsMade (node.Field (node_of e) field.now.class.value field.now.index (ty_view field.now.ty) line) (ty_view field.now.ty) result }
 {
     let class = field.class.clone()?;
@@ -328,13 +317,7 @@ fn field_at(
     Clause::new(alloc, form, gives)
 }
 
-fn element_at(
-    alloc: Global,
-    line: Line,
-    v: Tree,
-    i: Tree,
-    ty: Ty,
-) -> Result<Clause, CheckFault>
+fn element_at(alloc: Global, line: Line, v: Tree, i: Tree, ty: Ty) -> Result<Clause, CheckFault>
     ensures { IsMade (node.Element (node_of v) (node_of i) (ty_view ty) line) (ty_view ty) result }
 {
     let gives = ty.copy()?;

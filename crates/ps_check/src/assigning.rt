@@ -7,7 +7,6 @@ ghost use Rattle.ps_tree.specs.PhraseLists.{phrases_in};
 ghost use Rattle.ps_program.specs.Node as node;
 ghost use Rattle.ps_program.specs.NodeView.{node_of, nodes_in};
 ghost use Rattle.ps_scope.specs.Content.{Content, names_of};
-
 ghost use Rattle.std.specs.Prelude.{option_map, Some, None};
 ghost use Rattle.ps_program.specs.Assigning.{assignment as assignment_of};
 ghost use Rattle.ps_typing.specs.Checking.{check_form, can_be_assigned as can_be_assigned_of, assigned};
@@ -27,17 +26,18 @@ use std::alloc::Global;
 
 impl Checker {
     #[cycle(clause)]
-    pub(crate) fn assign(
-        &mut self,
-        line: Line,
-        x: &Rough,
-        e: &Rough,
-    ) -> Result<Clause, CheckFault>
+    pub(crate) fn assign(&mut self, line: Line, x: &Rough, e: &Rough) -> Result<Clause, CheckFault>
         ensures { IsClause (check_form (names_of self.old.scope) line (form.Assign (phrase_of x.now) (phrase_of e.now))) result self.new.scope }
     {
         let variable = self.can_be_assigned(x);
-        let Clause { tree: x, ty: wanted } = self.clause(x)?;
-        let Clause { tree: value, ty: found } = self.clause(e)?;
+        let Clause {
+            tree: x,
+            ty: wanted,
+        } = self.clause(x)?;
+        let Clause {
+            tree: value,
+            ty: found,
+        } = self.clause(e)?;
         let assignment = assignment(self.alloc, x, value)?;
         assigned(line, e.line, variable, assignment, wanted, found)
     }

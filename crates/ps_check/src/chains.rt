@@ -7,7 +7,6 @@ ghost use Rattle.ps_tree.specs.PhraseLists.{phrases_in};
 ghost use Rattle.ps_program.specs.Node as node;
 ghost use Rattle.ps_program.specs.NodeView.{node_of, nodes_in};
 ghost use Rattle.ps_scope.specs.Content.{names_of};
-
 ghost use Rattle.std.specs.Prelude.{◌+◌, ◌≤◌, IfOk, IfErr, IfSome};
 ghost use Rattle.ps_typing.specs.Names.{Names};
 ghost use Rattle.ps_typing.specs.Checking.{Gives, check as check_of};

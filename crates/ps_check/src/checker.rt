@@ -10,13 +10,13 @@ ghost use Rattle.ps_typing.specs.Checking.{check as check_of, wants, passes, che
 ghost use Rattle.ps_check.specs.inside.Answers.{IsClause, IsOfType, IsMemory, test_of, wanted_by};
 ghost use Rattle.ps_check.specs.inside.Views.{maybe_lent};
 
+use crate::choices::Guard;
 use crate::clause::Clause;
 use crate::fault::CheckFault;
 use crate::fits::Test;
 use crate::link::{Joint, Link};
 use crate::looks::{Literal, lent_boxed};
 use crate::operators::Prefix;
-use crate::choices::Guard;
 use ps_base::ty::Ty;
 use ps_program::form::{Tree, TreeForm};
 use ps_scope::meaning::Meaning;

@@ -7,7 +7,6 @@ ghost use Rattle.ps_tree.specs.PhraseLists.{phrases_in};
 ghost use Rattle.ps_program.specs.Node as node;
 ghost use Rattle.ps_program.specs.NodeView.{node_of, nodes_in};
 ghost use Rattle.ps_scope.specs.Content.{names_of};
-
 ghost use Rattle.std.specs.Prelude.{option_map, Some, None, Option};
 ghost use Rattle.ps_tree.specs.Phrase.{arm_of as rough_arm_of};
 ghost use Rattle.ps_tree.specs.PhraseLists.{arms_in as rough_arms_in};
@@ -74,12 +73,7 @@ impl Checker {
     }
 
     #[cycle(clause)]
-    pub(crate) fn if_else(
-        &mut self,
-        c: &Rough,
-        a: &Rough,
-        b: &Rough,
-    ) -> Result<Clause, CheckFault>
+    pub(crate) fn if_else(&mut self, c: &Rough, a: &Rough, b: &Rough) -> Result<Clause, CheckFault>
         ensures { IsClause (check_unlined (names_of self.old.scope) (form.IfElse (phrase_of c.now) (phrase_of a.now) (phrase_of b.now))) result self.new.scope }
     {
         let c = self.operand(c, Ty::Bool)?;
@@ -149,12 +143,7 @@ impl Checker {
 
     // An arm, whose clause is like those before it, where there are any.
     #[cycle(clause)]
-    fn arm(
-        &mut self,
-        ty: &Ty,
-        arm: &RoughArm,
-        given: Option<Ty>,
-    ) -> Result<Labelled, CheckFault>
+    fn arm(&mut self, ty: &Ty, arm: &RoughArm, given: Option<Ty>) -> Result<Labelled, CheckFault>
         ensures { IsArm (check_arm (names_of self.old.scope) (ty_view ty.now) (option_map ty_view given) (rough_arm_of arm.now)) result self.new.scope }
     {
         let labels = List::new(self.each(ty, arm.labels.as_slice())?);

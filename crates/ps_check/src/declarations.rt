@@ -7,7 +7,6 @@ ghost use Rattle.ps_tree.specs.PhraseLists.{phrases_in};
 ghost use Rattle.ps_program.specs.Node as node;
 ghost use Rattle.ps_program.specs.NodeView.{node_of, nodes_in};
 ghost use Rattle.ps_scope.specs.Content.{names_of};
-
 ghost use Rattle.std.specs.Prelude.{map};
 ghost use Rattle.ps_base.specs.declared.line.Line.{Line as LineAt};
 ghost use Rattle.ps_tree.specs.Phrase.{groups_in};

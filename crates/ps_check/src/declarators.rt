@@ -22,10 +22,7 @@ pub(crate) struct Declarator<'a> {
 }
 
 /// The names of some groups, one by one, each with the type of its group.
-pub(crate) fn declarators(
-    alloc: Global,
-    groups: &[Group],
-) -> Result<Vec<Declarator>, CheckFault>
+pub(crate) fn declarators(alloc: Global, groups: &[Group]) -> Result<Vec<Declarator>, CheckFault>
     ensures { MatchResult result (λ made. groups_of made.items ≡ groups_in groups.now) IsMemory }
 {
     let mut made = Vec::new(alloc);

@@ -65,7 +65,10 @@ pub(crate) enum Link<'a> {
         right: &'a Rough,
     },
     /// An application of what is no name, to these.
-    Apply { line: Line, args: &'a [Rough] },
+    Apply {
+        line: Line,
+        args: &'a [Rough],
+    },
     /// A part of a string, from `i`, `n` bytes long; the string begins on the line.
     Part {
         line: Line,

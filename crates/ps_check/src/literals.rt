@@ -8,7 +8,6 @@ ghost use Rattle.ps_program.specs.Node as node;
 ghost use Rattle.ps_program.specs.Node.{body};
 ghost use Rattle.ps_program.specs.NodeView.{node_of, params_of};
 ghost use Rattle.ps_scope.specs.Content.{names_of};
-
 ghost use Rattle.ps_typing.specs.Checking.{with_params, types_of};
 ghost use Rattle.ps_check.specs.inside.Answers.{IsClause, IsMade};
 ghost use Rattle.ps_check.specs.inside.Forms.{check_literal};

@@ -64,12 +64,7 @@ pub(crate) fn lent_boxed(clause: &Option<Box<Rough>>) -> Option<&Rough>
 
 impl<'a> Literal<'a> {
     /// The literal of these parts.
-    pub(crate) fn new(
-        params: &'a [Group],
-        gives: &'a Ty,
-        s: &'a Rough,
-        line: Line,
-    ) -> Literal<'a>
+    pub(crate) fn new(params: &'a [Group], gives: &'a Ty, s: &'a Rough, line: Line) -> Literal<'a>
         ensures { literal_of result ≡ record { params = groups_in params.now; gives = ty_view gives.now; s = phrase_of s.now; line = line } }
     {
         Literal {

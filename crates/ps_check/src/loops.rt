@@ -7,7 +7,6 @@ ghost use Rattle.ps_tree.specs.PhraseLists.{phrases_in};
 ghost use Rattle.ps_program.specs.Node as node;
 ghost use Rattle.ps_program.specs.NodeView.{node_of, nodes_in};
 ghost use Rattle.ps_scope.specs.Content.{names_of};
-
 ghost use Rattle.ps_tree.specs.PhraseLists.{maybe_in};
 ghost use Rattle.ps_tree.specs.declared.rough.RoughRange.{out-RoughRange};
 ghost use Rattle.ps_typing.specs.Checking.{check_form};

@@ -7,7 +7,6 @@ ghost use Rattle.ps_tree.specs.PhraseLists.{phrases_in};
 ghost use Rattle.ps_program.specs.Node as node;
 ghost use Rattle.ps_program.specs.NodeView.{node_of, nodes_in};
 ghost use Rattle.ps_scope.specs.Content.{names_of};
-
 ghost use Rattle.std.specs.Prelude.{option_map};
 ghost use Rattle.ps_scope.specs.Views.{meaning_of, class_of};
 ghost use Rattle.ps_typing.specs.Checking.{check as check_of};
@@ -123,12 +122,7 @@ fn class_in(meaning: Option<Meaning>) -> Option<Rc<Class>>
 }
 
 // Whether an object is of a class, or isn't.
-fn class_test(
-    alloc: Global,
-    e: Tree,
-    class: Rc<Bytes>,
-    negated: bool,
-) -> Result<Clause, CheckFault>
+fn class_test(alloc: Global, e: Tree, class: Rc<Bytes>, negated: bool) -> Result<Clause, CheckFault>
     ensures { IsMade (class_test negated (node_of e) class.value) types.Bool result }
 {
     let is = TreeForm::Is { e, class };

@@ -7,7 +7,6 @@ ghost use Rattle.ps_tree.specs.PhraseLists.{phrases_in};
 ghost use Rattle.ps_program.specs.Node as node;
 ghost use Rattle.ps_program.specs.NodeView.{node_of, nodes_in};
 ghost use Rattle.ps_scope.specs.Content.{names_of};
-
 ghost use Rattle.std.specs.Prelude.{None};
 ghost use Rattle.ps_tree.specs.Phrase.{item_of};
 ghost use Rattle.ps_tree.specs.PhraseLists.{items_in};
@@ -18,8 +17,8 @@ ghost use Rattle.ps_check.specs.inside.Lists.{AreTrees, AreItems, behind_void, c
 use crate::checker::Checker;
 use crate::clause::Clause;
 use crate::fault::CheckFault;
-use crate::looks::lent;
 use crate::fits::{Test, is_int, is_void};
+use crate::looks::lent;
 use ps_base::line::Line;
 use ps_base::list::List;
 use ps_base::ty::Ty;

@@ -7,7 +7,6 @@ ghost use Rattle.ps_tree.specs.PhraseLists.{phrases_in};
 ghost use Rattle.ps_program.specs.Node as node;
 ghost use Rattle.ps_program.specs.NodeView.{node_of, nodes_in};
 ghost use Rattle.ps_scope.specs.Content.{names_of};
-
 ghost use Rattle.ps_typing.specs.Checking.{check_form, check_each, checkers};
 ghost use Rattle.ps_check.specs.inside.Answers.{IsClause};
 ghost use Rattle.ps_check.specs.inside.Lists.{AreTrees};
@@ -35,7 +34,10 @@ impl Checker {
     {
         let l = self.operand(l, Ty::Int)?;
         let u = self.operand(u, Ty::Int)?;
-        let Clause { tree: e, ty: element } = self.tested(e, Test::NotVoid)?;
+        let Clause {
+            tree: e,
+            ty: element,
+        } = self.tested(e, Test::NotVoid)?;
         let ty = ty::vector_of(self.alloc, element)?;
         let gives = ty.copy()?;
         let form = TreeForm::Fill { l, u, e, ty, line };
