@@ -2,7 +2,7 @@
 
 use ps_base::line::Line;
 use ps_base::operator::Operator;
-use ps_base::tree::{Tree, TreeForm};
+use ps_program::form::{Tree, TreeForm};
 use std::alloc::Global;
 use std::test::Fail;
 

@@ -119,6 +119,147 @@ const TOLD: [Row<'static>; 18] = [
     ),
 ];
 
+// Widths, loops that count, choices by value, and the traps that come with them.
+const RUNNING: [Row<'static>; 25] = [
+    (RUN, b"write 1 : 70000", b"trap 10 at line 1\n", 3),
+    (RUN, b"write 1\n, 2 : 65536", b"1trap 10 at line 2\n", 3),
+    (
+        RUN,
+        b"write 7 : 4, -7 : 1, true : 6, \"'n\"",
+        b"   7-7  true\n",
+        0,
+    ),
+    (RUN, b"write \"\" : 3, \"a\" : -1, \"\" : 0", b"   a", 0),
+    (RUN, b"abort", b"trap 8 at line 1\n", 3),
+    (
+        RUN,
+        b"write 1\nif true do\nabort",
+        b"1trap 8 at line 3\n",
+        3,
+    ),
+    (RUN, b"for i = 1 to 3 by 0 do {}", b"trap 3 at line 1\n", 3),
+    (RUN, b"for i = 1 to 3 do write i", b"123", 0),
+    (RUN, b"for i = 3 to 1 by -2 do write i", b"31", 0),
+    (
+        RUN,
+        b"for i = 2147483646 to 2147483647 do write i, \" \"",
+        b"2147483646 2147483647 ",
+        0,
+    ),
+    (
+        RUN,
+        b"for i = { write \"a\"; 1 } to { write \"b\"; 2 } by { write \"c\"; 1 } do write i",
+        b"abc12",
+        0,
+    ),
+    (
+        RUN,
+        b"let a := 1; let b := 3\nfor i = a to b do { a := 9; b := 9; write i }",
+        b"123",
+        0,
+    ),
+    (
+        RUN,
+        b"for i = 1 to 2 do for j = 1 to 2 do write i * 10 + j, \" \"",
+        b"11 12 21 22 ",
+        0,
+    ),
+    (
+        &["run", "v", "--turns", "5"],
+        b"for i = 1 to 5 do {}",
+        b"",
+        0,
+    ),
+    (
+        &["run", "v", "--turns", "4"],
+        b"for i = 1 to 5 do write i",
+        b"1234out of turns\n",
+        4,
+    ),
+    (
+        RUN,
+        b"let n := 0\nrepeat n := n + 1 while n < 3 do write n\nwrite n",
+        b"123",
+        0,
+    ),
+    (
+        RUN,
+        b"let n := 0\nrepeat n := n + 1 while n < 3\nwrite n",
+        b"3",
+        0,
+    ),
+    (
+        &["run", "v", "--turns", "1"],
+        b"let n := 0\nrepeat n := n + 1 while true do write n",
+        b"1out of turns\n",
+        4,
+    ),
+    (
+        RUN,
+        b"case 2 of 1, 2 : write \"a\"; default : write \"b\"",
+        b"a",
+        0,
+    ),
+    (
+        RUN,
+        b"case 3 of 1, 2 : write \"a\"; default : write \"b\"",
+        b"b",
+        0,
+    ),
+    (
+        RUN,
+        b"case 2 of { write 1; 1 }, { write 2; 2 }, { write 3; 2 } : write \"x\"; { write 4; 2 } : abort; default : abort",
+        b"12x",
+        0,
+    ),
+    (
+        RUN,
+        b"write case 1 < 2 of false : 5; true : case 7 of 7 : 6; default : 1; default : 9",
+        b"6",
+        0,
+    ),
+    (
+        RUN,
+        b"let a = case 1 of 1 : 2; default : 3\nwrite a, case true of false : 1; default : a + a",
+        b"24",
+        0,
+    ),
+    (RUN, b"write 1 div 0 : 3", b"trap 2 at line 1\n", 3),
+    (RUN, b"write 5 : 1 div 0", b"trap 2 at line 1\n", 3),
+];
+
+#[test]
+fn loops_and_choices_are_told(rt: HostRuntime) -> Result<(), Fail> {
+    for (words, text, told, status) in &RUNNING {
+        assert_told(&rt, rt.alloc(), words, "x.ps", text, told, *status)?;
+    }
+    Ok(())
+}
+
+// So many declarations, joined by `;`.
+fn declarations(alloc: Global, count: usize) -> Result<Vec<u8>, AllocError> {
+    let mut text = Vec::new(alloc);
+    for place in 0..count {
+        text.extend_from_slice(b"let a")?;
+        for digit in [place / 100, place / 10, place] {
+            text.push(b"0123456789"[digit % 10])?;
+        }
+        text.extend_from_slice(b" = 0;")?;
+    }
+    Ok(text)
+}
+
+const DECLARED: [(usize, &[u8], u8); 2] = [(511, b"", 0), (512, b"x.ps: check 7 at line 1\n", 2)];
+
+#[test]
+fn names_are_declared_to_the_limit(rt: HostRuntime) -> Result<(), Fail> {
+    for (count, told, status) in &DECLARED {
+        let text = declarations(rt.alloc(), *count)?;
+        assert_told(&rt, rt.alloc(), RUN, "x.ps", &text, told, *status)?;
+    }
+    Ok(())
+}
+
 #[test]
 fn texts_are_told(rt: HostRuntime) -> Result<(), Fail> {
     for (words, text, told, status) in &TOLD {
@@ -133,7 +274,7 @@ const OPEN: &[u8] = &[b'{'; 100];
 
 const TOO_DEEP: &[u8] = &[b'{'; 101];
 
-const FIRST_FAULTS: [(&[u8], &[u8]); 17] = [
+const FIRST_FAULTS: [(&[u8], &[u8]); 20] = [
     (b"\xc8", b"x.ps: scan 1 at line 1\n"),
     (b"write \"a", b"x.ps: scan 2 at line 1\n"),
     (b"write\n2147483648", b"x.ps: scan 3 at line 2\n"),
@@ -146,8 +287,14 @@ const FIRST_FAULTS: [(&[u8], &[u8]); 17] = [
     (b"let a = 1\nlet a = 2", b"x.ps: check 2 at line 2\n"),
     (b"write 1\n(2)", b"x.ps: check 3 at line 2\n"),
     (b"let a = 1; a := 2", b"x.ps: check 4 at line 1\n"),
-    (b"for i = 1 to 2 do {}", b"x.ps: check 8 at line 1\n"),
-    (b"write 1 : 2", b"x.ps: check 8 at line 1\n"),
+    (b"write 1\nwrite length", b"x.ps: check 5 at line 2\n"),
+    (b"write true\n:\ntrue", b"x.ps: check 3 at line 3\n"),
+    (b"for i = 1 to 2 do\ni := 2", b"x.ps: check 4 at line 2\n"),
+    (
+        b"write 1;\nlet f = proc(); {}; write b",
+        b"x.ps: check 8 at line 2\n",
+    ),
+    (b"let p =\nvector 1::2 of c", b"x.ps: check 8 at line 2\n"),
     (b"let a = \"a\"", b"x.ps: check 8 at line 1\n"),
     (b"write a\n++ b", b"x.ps: check 8 at line 2\n"),
     (b"a\nwrite nil", b"x.ps: check 8 at line 2\n"),

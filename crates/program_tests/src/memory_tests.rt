@@ -69,3 +69,9 @@ fn refused_before_a_fault(rt: HostRuntime) {
         )
     );
 }
+
+#[test]
+fn refused_in_loops(rt: HostRuntime) {
+    let text = "for i = 1 to 2 do write case i of 1 : 5; default : 6, \"a\" : 2";
+    assert!(rt; own_answer_or_five(rt.alloc(), text, "5 a6 a", 0));
+}

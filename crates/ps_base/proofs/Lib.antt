@@ -1,4 +1,3 @@
 pub mod Units
 pub mod Spellings
-pub mod NodeLemmas
 pub mod TyLemmas

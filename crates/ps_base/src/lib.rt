@@ -1,17 +1,14 @@
-//! The types that the layers share: lines, traps, types, the typed tree of a program, and the
+//! The types that the layers share: lines, traps, types, operators, and the
 //! instructions and units of its code.
 #![tactic(auto)]
 
-pub mod basic_type;
 pub mod bytes;
 pub mod code_unit;
 pub mod instr;
 pub mod line;
 pub mod list;
 pub mod operator;
-pub mod place;
 pub mod trap;
-pub mod tree;
 pub mod ty;
 
 /// The most bytes that a text of a program may have.

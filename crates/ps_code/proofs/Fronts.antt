@@ -26,6 +26,10 @@ front_within code rest (Some x) is =
     let width = is.1 in
     omega (arith, ap length is.0, length-append (spelling x.0) (drop x.1 (code ∷ rest)), length-spelling x.0)
 
+pub front_fits : (code : ℕ) (rest : List ℕ) (answer : Option (Instr × ℕ)) → Answers code rest answer → IfSome answer (λ x. IsInstr x.0)
+front_fits code rest None is = tt
+front_fits code rest (Some x) is = is.2
+
 -- the one instruction that is spelled at the front is answered
 pub front_is : (code : ℕ) (rest : List ℕ) (answer : Option (Instr × ℕ)) → Answers code rest answer → (i : Instr) (after : List ℕ) → IsInstr i → code ∷ rest ≡ spelling i ++ after → answer ≡ Some (i, width_of i)
 front_is code rest None none i after is_instr e =

@@ -89,6 +89,7 @@ pub fn decode(bytes: &[u8]) -> Option<(Instr, usize)>
     ensures found { IfSome result (λ x. bytes.now ≡ spelling x.0 ++ drop x.1 bytes.now) }
     ensures width { IfSome result (λ x. x.1 ≡ width_of x.0) }
     ensures within { IfSome result (λ x. x.1 ≤ length bytes.now) }
+    ensures fits { IfSome result (λ x. IsInstr x.0) }
     // Whatever follows the spelling of an instruction, that instruction is answered.
     ensures only { (i : Instr) (rest : List ℕ) → IsInstr i → bytes.now ≡ spelling i ++ rest →
         result ≡ Some (i, width_of i) }

@@ -1,33 +1,62 @@
 -- Why each answer of a command comes.
 use Rattle.std.proofs.Common.{◌≡◌, ℕ, ◌≤◌, inl, inr, List, length, Option, Some, None, refl, sym, ap, ◌∙◌, subst, arith}
-use Rattle.std.specs.Prelude.{Result, Ok, Err, IsErrOf}
+use Rattle.std.specs.Prelude.{Result, Ok, Err, IsErrOf, codes}
 use Rattle.ps_base.specs.declared.TheConstants.{LONGEST_TEXT}
-use Rattle.ps_base.specs.Node.{Node}
+use Rattle.ps_program.specs.Node.{BodyNode}
 use Rattle.ps_base.specs.declared.line.Line.{Line}
 use Rattle.ps_port.specs.Texts.{TooLongFor}
 use Rattle.ps_port.specs.declared.shelf.ShelfFault.{ShelfFault}
 use Rattle.ps_port.specs.declared.shelf.ShelfFault.TheVariants.{Failed, TooLong, Memory}
 use Rattle.ps_scan.specs.Fault as scanning
 use Rattle.ps_tree.specs.Fault as parsing
-use Rattle.ps_types.specs.CheckFaults as checking
+use Rattle.ps_typing.specs.Fault.{Fault}
+use Rattle.ps_typing.specs.Fault as fault
+use Rattle.ps_check.specs.declared.fault.CheckFault.{CheckFault}
+use Rattle.ps_check.specs.declared.fault.CheckFault.TheVariants.{Unknown, Twice, Mismatch, NotAssignable, NotApplicable, Limit, TooComplex, Memory as NoMemory}
+use Rattle.ps_check.specs.Faults as checking
 use Rattle.ps_command.specs.declared.source_fault.SourceFault.{SourceFault}
 use Rattle.ps_command.specs.declared.source_fault.SourceFault.TheVariants as source
 use Rattle.ps_command.specs.Words.{RunOf}
 use Rattle.ps_command.specs.Reports.{usage_line, memory_line, fault_line}
-use Rattle.ps_command.specs.Source.{IsProgram, IsSourceFault, in_scan, in_parse, in_check}
+use Rattle.ps_command.specs.Source.{IsProgram, IsSourceFault, in_scan, in_parse, not_built, in_check}
+use Rattle.ps_command.specs.Source as told
 use Rattle.ps_command.specs.Answering.{Answers}
 use Rattle.ps_command.specs.Command.{Gives, Due, Why}
-use Rattle.ps_command.specs.inside.Refusal.{Refuses, stage_of, number_of, line_of_fault}
+use Rattle.ps_command.specs.inside.Refusal.{Checked, Refuses, stage_of, number_of, line_of_fault}
 use Rattle.ps_command.specs.inside.Steps.{TextWhy, ProgramWhy, UnreadWhy}
 
 -- a number says that the refusal is no want of memory
 none_is_some : {A : Type 0} (x : A) → None ≡ Some x → ⊥
 none_is_some x e = cc
 
+-- a fault of the check in code that has a number and a line stands for one of the rules
+record Told (fault : CheckFault) (number : ℕ) (line : Line) : Type 0 where
+  rule : Fault
+  stands : checking.fault_of fault ≡ Some rule
+  has_number : told.number_of rule ≡ number
+  has_line : told.line_of rule ≡ line
+
+told_by : (found : CheckFault) (number : ℕ) (line : Line) → checking.number_of found ≡ Some number → checking.line_of_fault found ≡ Some line → Told found number line
+told_by (Unknown at) number line n l = record { rule = fault.Unknown at; stands = refl; has_number = cc; has_line = cc }
+told_by (Twice at) number line n l = record { rule = fault.Twice at; stands = refl; has_number = cc; has_line = cc }
+told_by (Mismatch at found wanted) number line n l = record { rule = fault.Mismatch at _ _; stands = refl; has_number = cc; has_line = cc }
+told_by (NotAssignable at) number line n l = record { rule = fault.NotAssignable at; stands = refl; has_number = cc; has_line = cc }
+told_by (NotApplicable at) number line n l = record { rule = fault.NotApplicable at; stands = refl; has_number = cc; has_line = cc }
+told_by (Limit at count) number line n l = record { rule = fault.Limit at count; stands = refl; has_number = cc; has_line = cc }
+told_by (TooComplex at count) number line n l = record { rule = fault.TooComplex at count; stands = refl; has_number = cc; has_line = cc }
+told_by NoMemory number line n l = absurd (none_is_some number n)
+
 pub fault_found : (text : List ℕ) (fault : SourceFault) (number : ℕ) (line : Line) → number_of fault ≡ Some number → line_of_fault fault ≡ Some line → Refuses text fault → IsSourceFault text (stage_of fault) number line
 fault_found text (source.Scan fault) number line n l h = in_scan (h (λ e. none_is_some number (ap scanning.number_of (sym e) ∙ n))) n l
 fault_found text (source.Parse fault) number line n l h = let is = h (λ e. none_is_some number (ap parsing.number_of (sym e) ∙ n)) in in_parse is.1 is.2 n l
-fault_found text (source.Check fault) number line n l h = let is = h (λ e. none_is_some number (ap checking.number_of (sym e) ∙ n)) in in_check is.1.1 is.1.2 is.1.3 n l
+fault_found text (source.NotBuilt at) number line n l h =
+    let one : 8 ≡ number = cc in
+    let two : at ≡ line = cc in
+    subst (λ (k : ℕ). IsSourceFault text (codes "check") k line) one (subst (λ (x : Line). IsSourceFault text (codes "check") 8 x) two (not_built h.scanned h.read h.first))
+fault_found text (source.Check fault) number line n l h =
+    let found = told_by fault number line n l in
+    let is = h found.rule found.stands in
+    subst (λ (k : ℕ). IsSourceFault text (codes "check") k line) found.has_number (subst (λ (x : Line). IsSourceFault text (codes "check") (told.number_of found.rule) x) found.has_line (in_check is.scanned is.read is.built is.fails))
 fault_found text source.Memory number line n l h = absurd (none_is_some number n)
 
 -- a shelf that answered Ok, or another fault, didn't answer that it failed
@@ -54,9 +83,9 @@ module _ {H : Type 0} (clock : H → ℕ) (told : H → ℕ → List ℕ → Typ
   pub text_no_memory : (run : RunOf) (text : List ℕ) (answered : ℕ) → Whole memory_line 5 answered → TextWhy clock told faults old new run text answered
   text_no_memory run text answered a = record { bytes = _; status = 5; due = Due.no_memory; answers = a }
 
-  pub text_ran : (run : RunOf) (text : List ℕ) (program : Node) (slots answered : ℕ) → length text ≤ LONGEST_TEXT → IsProgram text program slots → ProgramWhy clock told faults old new run.turns program answered → TextWhy clock told faults old new run text answered
-  text_ran run text program slots answered short is (inl a) = record { bytes = _; status = _; due = Due.ran refl (gives_alone text short) is; answers = a }
-  text_ran run text program slots answered short is (inr a) = text_no_memory run text answered a
+  pub text_ran : (run : RunOf) (text : List ℕ) (program : BodyNode) (answered : ℕ) → length text ≤ LONGEST_TEXT → IsProgram text program → ProgramWhy clock told faults old new run.turns program answered → TextWhy clock told faults old new run text answered
+  text_ran run text program answered short is (inl a) = record { bytes = _; status = _; due = Due.ran refl (gives_alone text short) is; answers = a }
+  text_ran run text program answered short is (inr a) = text_no_memory run text answered a
 
   module _ (holds : List ℕ → List ℕ → Type 0) (lacks : List ℕ → Type 0) (failed : Type 0) where
     pub why_usage : (asked : Option RunOf) (answered : ℕ) → asked ≡ None → Whole usage_line 1 answered → Why clock told faults old new asked holds lacks failed answered

@@ -1,3 +1,5 @@
 pub mod Causes
 pub mod Converse
+pub mod Ending
+pub mod Programs
 pub mod WordLemmas

@@ -2,10 +2,10 @@
 use Rattle.std.specs.Prelude.{◌≡◌, ℕ, ◌<◌, ◌≤◌, List, length, Option, Some, None}
 use Rattle.ps_base.specs.declared.TheConstants.{LONGEST_TEXT}
 use Rattle.ps_base.specs.declared.line.Line.{Line}
-use Rattle.ps_base.specs.Node.{Node}
+use Rattle.ps_program.specs.Node.{BodyNode}
 use Rattle.ps_port.specs.Texts.{IsTextOf}
 use Rattle.ps_meaning.specs.Event.{outputs, status_of}
-use Rattle.ps_meaning.specs.Run.{run_events, run_end}
+use Rattle.ps_meaning.specs.Runs.{run_events, run_end}
 use Rattle.ps_command.specs.Words.{RunOf}
 use Rattle.ps_command.specs.Reports.{usage_line, memory_line, unreadable_line, too_long_line, fault_line}
 use Rattle.ps_command.specs.Source.{IsProgram, IsSourceFault}
@@ -37,7 +37,7 @@ pub data Due (asked : Option RunOf) (holds : List ℕ → List ℕ → Type 0) (
   -- there was no memory, before the first event
   no_memory : Due asked holds lacks failed memory_line 5
   -- the program ran to its end
-  ran : {run : RunOf} {text : List ℕ} {program : Node} {slots : ℕ} → asked ≡ Some run → Gives (holds run.file) (lacks run.file) text → IsProgram text program slots → Due asked holds lacks failed (outputs (run_events run.turns program)) (status_of (run_end run.turns program))
+  ran : {run : RunOf} {text : List ℕ} {program : BodyNode} → asked ≡ Some run → Gives (holds run.file) (lacks run.file) text → IsProgram text program → Due asked holds lacks failed (outputs (run_events run.turns program)) (status_of (run_end run.turns program))
 
 -- something is due, and it is answered
 pub record Why {H : Type 0} (clock : H → ℕ) (told : H → ℕ → List ℕ → Type 0) (faults : H → ℕ) (old new : H) (asked : Option RunOf) (holds : List ℕ → List ℕ → Type 0) (lacks : List ℕ → Type 0) (failed : Type 0) (answered : ℕ) : Type 0 where

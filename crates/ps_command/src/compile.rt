@@ -1,29 +1,39 @@
-ghost use Rattle.std.specs.Prelude.{◌≡◌, ◌≤◌, length, reverse, IfOk, IfErr};
-ghost use Rattle.ps_base.specs.Node.{Node};
-ghost use Rattle.ps_machine.specs.Code.{code_of};
+ghost use Rattle.std.specs.Prelude.{◌≡◌, ◌≤◌, length, IfOk, IfErr};
+ghost use Rattle.ps_base.specs.CodeUnit.{unit_view};
+ghost use Rattle.ps_program.specs.Node.{BodyNode};
+ghost use Rattle.ps_program.specs.NodeView.{body_of};
+ghost use Rattle.ps_gen.specs.Units.{unit_of, HasUnit};
 ghost use Rattle.ps_command.specs.Source.{IsProgram};
 ghost use Rattle.ps_command.specs.inside.Refusal.{Refuses};
 
 use crate::source_fault::SourceFault;
 use ps_base::LONGEST_TEXT;
-use ps_machine::Instruction;
-use ps_machine::generate::generate;
+use ps_base::code_unit::CodeUnit;
+use ps_built::first_unbuilt;
+use ps_check::check::check;
+use ps_gen::generate::generate;
 use ps_parse::parse;
+use ps_program::body::Program;
 use ps_scan::scan;
-use ps_types::check::check;
 use std::alloc::Global;
 
-/// A program that can be loaded: its code, and how many locals it has.
-#[derive(Drop)]
-pub struct Compiled {
-    pub code: Vec<Instruction>,
-    pub slots: u32,
+/// The code of the program that a text is, or its first fault.
+pub fn compile(alloc: Global, text: &[u8]) -> Result<CodeUnit, SourceFault>
+    requires { length text.now ≤ LONGEST_TEXT }
+    ensures compiled { IfOk result (λ unit. (program : BodyNode) × IsProgram text.now program × (unit_view unit ≡ unit_of program) × HasUnit program) }
+    ensures refused { IfErr result (λ fault. Refuses text.now fault) }
+{
+    let program = typed(alloc, text)?;
+    match generate(alloc, &program) {
+        Ok(unit) => Ok(unit),
+        Err(_) => Err(SourceFault::Memory),
+    }
 }
 
-/// The code of the program that a text is, or its first fault.
-pub fn compile(alloc: Global, text: &[u8]) -> Result<Compiled, SourceFault>
+// The typed program; the tokens and the tree of the text are let go before its code is made.
+fn typed(alloc: Global, text: &[u8]) -> Result<Program, SourceFault>
     requires { length text.now ≤ LONGEST_TEXT }
-    ensures compiled { IfOk result (λ compiled. (program : Node) × IsProgram text.now program compiled.slots × (compiled.code.items ≡ reverse (code_of program 0))) }
+    ensures typed { IfOk result (λ program. IsProgram text.now (body_of program.body)) }
     ensures refused { IfErr result (λ fault. Refuses text.now fault) }
 {
     let tokens = match scan(alloc, text) {
@@ -34,15 +44,11 @@ pub fn compile(alloc: Global, text: &[u8]) -> Result<Compiled, SourceFault>
         Ok(rough) => rough,
         Err(fault) => return Err(SourceFault::Parse(fault)),
     };
-    let checked = match check(alloc, &rough) {
-        Ok(checked) => checked,
-        Err(fault) => return Err(SourceFault::Check(fault)),
-    };
-    match generate(alloc, &checked.tree) {
-        Ok(code) => Ok(Compiled {
-            code,
-            slots: checked.slots,
-        }),
-        Err(_) => Err(SourceFault::Memory),
+    if let Some(line) = first_unbuilt(&rough) {
+        return Err(SourceFault::NotBuilt { line });
+    }
+    match check(alloc, &rough) {
+        Ok(program) => Ok(program),
+        Err(fault) => Err(SourceFault::Check(fault)),
     }
 }

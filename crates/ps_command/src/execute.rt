@@ -1,22 +1,20 @@
-ghost use Rattle.std.specs.Prelude.{◌≡◌, ◌≤◌, List, ℕ, length, reverse};
-ghost use Rattle.ps_base.specs.Node.{Node};
-ghost use Rattle.ps_base.specs.declared.basic_type.BasicType.TheVariants.{Void};
+ghost use Rattle.std.specs.Prelude.{◌≡◌, ◌≤◌, List, ℕ, length};
+ghost use Rattle.ps_program.specs.Node.{BodyNode};
 ghost use Rattle.ps_meaning.specs.Event.{status_of};
-ghost use Rattle.ps_meaning.specs.Typed.{IsTyped};
-ghost use Rattle.ps_machine.specs.Code.{code_of};
-ghost use Rattle.ps_machine.specs.Stepping.{end_of};
+ghost use Rattle.stack_machine.specs.Stepped.{end_of};
 ghost use Rattle.ps_command.specs.inside.Refusal.{Refuses};
-ghost use Rattle.ps_command.specs.inside.Steps.{TextWhy, ProgramWhy, run_in};
+ghost use Rattle.ps_command.specs.inside.Steps.{TextWhy, ProgramWhy, IsRunnable, run_in};
 
-use crate::compile::{Compiled, compile};
+use crate::compile::compile;
 use crate::report;
 use crate::source_fault::SourceFault;
 use crate::words::RunWords;
 use ps_base::LONGEST_TEXT;
-use ps_machine::RunEnd;
-use ps_machine::load::load;
-use ps_machine::run::run;
+use ps_base::code_unit::CodeUnit;
 use ps_port::Host;
+use stack_machine::RunEnd;
+use stack_machine::load::{LoadFault, load};
+use stack_machine::run::{RunFault, run};
 use std::alloc::Global;
 
 /// Runs a text, or tells its first fault, and answers the status.
@@ -25,7 +23,7 @@ pub fn run_text<H: Host>(alloc: Global, words: &RunWords, text: &[u8], host: &mu
     ensures { TextWhy H.clock H.told H.output_faults host.old host.new (run_in words.now) text.now result }
 {
     match compile(alloc, text) {
-        Ok(compiled) => run_program(alloc, words.turns, &compiled, host),
+        Ok(unit) => run_program(alloc, words.turns, &unit, host),
         Err(fault) => refuse(words.file, &fault, host),
     }
 }
@@ -39,19 +37,19 @@ fn refuse<H: Host>(file: &str, fault: &SourceFault, host: &mut H) -> u8
     }
 }
 
-fn run_program<H: Host>(alloc: Global, turns: u64, compiled: &Compiled, host: &mut H) -> u8
-    requires { (program : Node) × IsTyped compiled.now.slots program Void × (compiled.now.code.items ≡ reverse (code_of program 0)) }
-    ensures { (program : Node) → IsTyped compiled.now.slots program Void → compiled.now.code.items ≡ reverse (code_of program 0) → ProgramWhy H.clock H.told H.output_faults host.old host.new turns program result }
+fn run_program<H: Host>(alloc: Global, turns: u64, unit: &CodeUnit, host: &mut H) -> u8
+    requires { (program : BodyNode) × IsRunnable unit.now program }
+    ensures { (program : BodyNode) → IsRunnable unit.now program → ProgramWhy H.clock H.told H.output_faults host.old host.new turns program result }
 {
-    match load(alloc, &compiled.code, compiled.slots, turns) {
-        Err(_) => report::no_memory(host),
-        Ok(machine) => {
-            let mut machine = machine;
-            match run(&mut machine, host) {
-                Ok(end) => status(end),
-                Err(_) => report::OUTPUT_FAULT,
-            }
-        }
+    let mut machine = match load(alloc, unit, turns) {
+        Ok(machine) => machine,
+        Err(LoadFault::Memory) => return report::no_memory(host),
+        Err(LoadFault::Damaged) => unreachable!(),
+    };
+    match run(&mut machine, host) {
+        Ok(end) => status(end),
+        Err(RunFault::Output) => report::OUTPUT_FAULT,
+        Err(RunFault::Damaged) => unreachable!(),
     }
 }
 

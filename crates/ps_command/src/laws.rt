@@ -1,9 +1,9 @@
 ghost use Rattle.std.specs.Prelude.{◌≡◌, ◌≤◌, ◌<◌, List, ℕ, Option, Some, None, [], length};
-ghost use Rattle.ps_base.specs.Node.{Node};
+ghost use Rattle.ps_program.specs.Node.{BodyNode};
 ghost use Rattle.ps_base.specs.declared.line.Line.{Line};
 ghost use Rattle.ps_port.specs.Told.{Rose};
 ghost use Rattle.ps_meaning.specs.Event.{status_of, outputs};
-ghost use Rattle.ps_meaning.specs.Run.{run_events, run_end};
+ghost use Rattle.ps_meaning.specs.Runs.{run_events, run_end};
 ghost use Rattle.ps_command.specs.Answering.{Answers};
 ghost use Rattle.ps_command.specs.Command.{Due, Gets};
 ghost use Rattle.ps_command.specs.Reports.{usage_line, unreadable_line, too_long_line, fault_line};
@@ -37,7 +37,7 @@ pub fn first_fault_is_told<S: Shelf>(shelf: &S)
 /// A text that the shelf holds and that is a program is run: what is due is what that program tells, with
 /// the status of its end; or there was no memory, or the shelf failed. It is never refused.
 pub fn program_is_run<S: Shelf>(shelf: &S)
-    ensures { (before after status : ℕ) (bytes text : List ℕ) (run : RunOf) (program : Node) (slots : ℕ) → S.holds shelf.now run.file text → length text ≤ LONGEST_TEXT → IsProgram text program slots → Due (Some run) (S.holds shelf.now) (S.lacks shelf.now) (Rose before after) bytes status → Gets run.file (Rose before after) (outputs (run_events run.turns program)) (status_of (run_end run.turns program)) bytes status }
+    ensures { (before after status : ℕ) (bytes text : List ℕ) (run : RunOf) (program : BodyNode) → S.holds shelf.now run.file text → length text ≤ LONGEST_TEXT → IsProgram text program → Due (Some run) (S.holds shelf.now) (S.lacks shelf.now) (Rose before after) bytes status → Gets run.file (Rose before after) (outputs (run_events run.turns program)) (status_of (run_end run.turns program)) bytes status }
 {}
 
 /// A text has at most one first fault, of one stage, one number and one line.
@@ -47,7 +47,7 @@ pub fn first_fault_is_unique()
 
 /// A text with a first fault is no program.
 pub fn program_excludes_fault()
-    ensures { (text stage : List ℕ) (program : Node) (slots number : ℕ) (line : Line) → IsProgram text program slots → IsSourceFault text stage number line → ⊥ }
+    ensures { (text stage : List ℕ) (program : BodyNode) (number : ℕ) (line : Line) → IsProgram text program → IsSourceFault text stage number line → ⊥ }
 {}
 
 /// The output's count of faults doesn't fall in a call; and where it rose, 8 stands in place of the status.

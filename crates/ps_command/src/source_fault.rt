@@ -2,15 +2,17 @@ ghost use Rattle.std.specs.Prelude.{◌≡◌};
 ghost use Rattle.ps_command.specs.inside.Refusal.{stage_of, number_of, line_of_fault};
 
 use ps_base::line::Line;
+use ps_check::CheckFault;
 use ps_scan::ScanFault;
 use ps_tree::fault::ParseFault;
-use ps_types::CheckFault;
 
 /// Why a text is no program, by the stage that found it. Want of memory may come in any stage.
 #[derive(Drop)]
 pub enum SourceFault {
     Scan(ScanFault),
     Parse(ParseFault),
+    /// A form that the grammar reads and that doesn't run yet.
+    NotBuilt { line: Line },
     Check(CheckFault),
     Memory,
 }
@@ -23,6 +25,7 @@ impl SourceFault {
         match self {
             SourceFault::Scan(_) => b"scan",
             SourceFault::Parse(_) => b"parse",
+            SourceFault::NotBuilt { .. } => b"check",
             SourceFault::Check(_) => b"check",
             SourceFault::Memory => b"",
         }
@@ -35,6 +38,7 @@ impl SourceFault {
         match self {
             SourceFault::Scan(fault) => fault.number(),
             SourceFault::Parse(fault) => fault.number(),
+            SourceFault::NotBuilt { .. } => Some(8),
             SourceFault::Check(fault) => fault.number(),
             SourceFault::Memory => None,
         }
@@ -47,6 +51,7 @@ impl SourceFault {
         match self {
             SourceFault::Scan(fault) => fault.line(),
             SourceFault::Parse(fault) => fault.line(),
+            SourceFault::NotBuilt { line } => Some(*line),
             SourceFault::Check(fault) => fault.line(),
             SourceFault::Memory => None,
         }

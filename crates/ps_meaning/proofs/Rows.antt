@@ -1,91 +1,139 @@
--- Programs whose events are computed: the definitions on worked examples.
-use Rattle.std.proofs.Common.{◌≡◌, ℕ, List, [], ◌∷◌, refl, pos, true, false, None}
-use Rattle.std.specs.Prelude.{codes, negsuc}
-use Rattle.std.specs.Fmt.{signed_decimal}
+-- Programs whose events are computed: the evaluation on worked examples.
+use Rattle.std.proofs.Common.{◌≡◌, ℕ, ◌+◌, List, [], ◌∷◌, ◌++◌, refl, pos, true, false, None}
+use Rattle.std.specs.Prelude.{ℤ, codes, negsuc}
+use Rattle.std.specs.Fmt.{signed_decimal, digits}
+use Rattle.ps_base.specs.TyView as ty
 use Rattle.ps_base.specs.declared.line.Line.{Line}
-use Rattle.ps_base.specs.declared.trap.Trap.TheVariants.{Overflow, ZeroDivisor}
-use Rattle.ps_base.specs.declared.basic_type.BasicType.TheVariants as ty
-use Rattle.ps_base.specs.declared.place.Place.TheVariants.{Plain}
+use Rattle.ps_base.specs.declared.trap.Trap.TheVariants.{Overflow, ZeroDivisor, Bounds, Abort as Aborted, TooLong}
 use Rattle.ps_base.specs.declared.operator.Operator.TheVariants.{Add, Mul, Div, Rem, Sub}
-use Rattle.ps_base.specs.declared.operator.Relation.TheVariants.{Greater}
-use Rattle.ps_base.specs.Node.{Node, Nodes, none, more, Int, Name, Let, SetName, Block, While, Neg, Arith, Compare, Write, Empty}
-use Rattle.ps_base.specs.Node as node
-use Rattle.ps_meaning.specs.Event.{Event, Out, Turn, Finish, Done, Trapped, OutOfTurns, status_of}
-use Rattle.ps_meaning.specs.Eval.{emit_some, eval, give, stop, after, ◌>>=◌, answer, emit, written, turn_of, take_turn, get, set, choose, while_turns}
-use Rattle.ps_meaning.specs.Run.{run_events, run_end, outcome_of, all_events, end_reached, fresh_frame, fresh_state}
+use Rattle.ps_base.specs.declared.operator.Relation.TheVariants.{Greater, Less}
+use Rattle.ps_program.specs.declared.place.Place.TheVariants.{Plain}
+use Rattle.ps_program.specs.Node.{Node, Nodes, none, more, Arms, no_arms, more_arms, arm, BodyNode, body}
+use Rattle.ps_program.specs.Node as node
+use Rattle.ps_meaning.specs.Event.{Event, Out, Turn, Finish, Done, Trapped, OutOfTurns}
+use Rattle.ps_meaning.specs.Meaning.{give, stop, after, ◌>>=◌, answer, emit, written, take_turn, get, set, choose, unbuilt}
+use Rattle.ps_meaning.specs.Evaluation.{while_turns, for_turns, for_loop, for_meant, eval}
+use Rattle.ps_meaning.specs.Runs.{run_events, run_end, outcome_of, all_events, end_reached, fresh_frame, fresh_state}
 
 abbrev line : ℕ → Line
 line n = record { 0 = n }
 
+abbrev program : Nodes → BodyNode
+program items = body [] ty.Void (node.Block None items) None (line 1)
+
+abbrev one : Node → BodyNode
+one clause = program (more clause none)
+
 abbrev write : Node → Node
-write e = Write e Empty false ty.Int (line 1)
+write e = node.Write e node.Empty false ty.Int (line 1)
 
 abbrev text : List ℕ → Node
-text bytes = Write (node.Text bytes) Empty false ty.Str (line 1)
+text bytes = node.Write (node.Text bytes) node.Empty false ty.Str (line 1)
+
+abbrev wide : Node → Node → Node
+wide e w = node.Write e w true ty.Int (line 1)
 
 abbrev int : ℕ → Event
 int n = Out (signed_decimal (pos n))
 
-abbrev blank : Event
-blank = Out (codes " ")
-
-abbrev block : Nodes → Node
-block items = Block None items
-
 abbrev num : ℕ → Node
-num n = Int (pos n)
+num n = node.Int (pos n)
+
+abbrev minus : ℕ → Node
+minus n = node.Neg (num n) (line 1)
 
 abbrev local : ℕ → Node
-local s = Name (Plain s) ty.Int
+local s = node.Name (Plain s) ty.Int
+
+-- `for i = a to b by c do write i`
+abbrev counted : Node → Node → Node → Node
+counted a b c = node.For 0 a b c None (Plain 3) (write (local 3)) (line 1)
 
 -- write 1 + 2, "'n" ?
-sum_is_told : run_events 0 (block (more (write (Arith Add (num 1) (num 2) (line 1))) (more (text (codes "\n")) none))) ≡ Out (signed_decimal (pos 3)) ∷ Out (codes "\n") ∷ Finish Done ∷ []
-unfolding eval give stop after ◌>>=◌ answer emit emit_some written turn_of take_turn get set choose while_turns run_events run_end outcome_of all_events end_reached fresh_frame fresh_state
+sum_is_told : run_events 0 (program (more (write (node.Arith Add (num 1) (num 2) (line 1))) (more (text (codes "\n")) none))) ≡ int 3 ∷ Out (codes "\n") ∷ Finish Done ∷ []
+unfolding digits eval give stop after ◌>>=◌ answer emit written take_turn get set choose while_turns run_events run_end outcome_of all_events end_reached fresh_frame fresh_state
 sum_is_told = refl
 
--- let a = 6; let b := a * 7; write b, " ", b div 4, " ", -b rem 4
-abbrev names : Node
-names = block (more (Let (Plain 0) ty.Int (num 6)) (more (Let (Plain 1) ty.Int (Arith Mul (local 0) (num 7) (line 1)))
-    (more (block (more (write (local 1)) (more (text (codes " ")) (more (write (Arith Div (local 1) (num 4) (line 1))) (more (text (codes " "))
-    (more (write (Arith Rem (Neg (local 1) (line 1)) (num 4) (line 1))) none)))))) none)))
+empty_program_tells_nothing : run_events 0 (program none) ≡ Finish Done ∷ []
+unfolding digits eval give stop after ◌>>=◌ run_events outcome_of all_events fresh_frame fresh_state
+empty_program_tells_nothing = refl
 
-names_are_told : run_events 0 names ≡ int 42 ∷ blank ∷ int 10 ∷ blank ∷ Out (signed_decimal (negsuc 1)) ∷ Finish Done ∷ []
-unfolding eval give stop after ◌>>=◌ answer emit emit_some written turn_of take_turn get set choose while_turns run_events run_end outcome_of all_events end_reached fresh_frame fresh_state
-names_are_told = refl
+-- write 2147483647 + 1
+sum_traps : run_events 0 (one (write (node.Arith Add (num 2147483647) (num 1) (line 1)))) ≡ Finish (Trapped Overflow (line 1)) ∷ []
+unfolding digits eval give stop after ◌>>=◌ answer emit written take_turn get set choose run_events outcome_of all_events fresh_frame fresh_state
+sum_traps = refl
 
--- write 1, 2147483647 * 2
-product_traps : run_end 0 (block (more (write (num 1)) (more (write (Arith Mul (num 2147483647) (num 2) (line 1))) none))) ≡ Trapped Overflow (line 1)
-unfolding eval give stop after ◌>>=◌ answer emit emit_some written turn_of take_turn get set choose while_turns run_events run_end outcome_of all_events end_reached fresh_frame fresh_state
-product_traps = refl
+-- for i = 1 to 3 do write i
+loop_counts : run_events 3 (one (counted (num 1) (num 3) (num 1))) ≡ Turn ∷ int 1 ∷ Turn ∷ int 2 ∷ Turn ∷ int 3 ∷ Finish Done ∷ []
+unfolding digits eval give stop after ◌>>=◌ answer emit written take_turn get set choose for_turns for_loop for_meant run_events outcome_of all_events fresh_frame fresh_state
+loop_counts = refl
 
-product_is_told : run_events 0 (block (more (write (num 1)) (more (write (Arith Mul (num 2147483647) (num 2) (line 1))) none))) ≡ int 1 ∷ Finish (Trapped Overflow (line 1)) ∷ []
-unfolding eval give stop after ◌>>=◌ answer emit emit_some written turn_of take_turn get set choose while_turns run_events run_end outcome_of all_events end_reached fresh_frame fresh_state
-product_is_told = refl
+-- with two turns
+loop_is_out_of_turns : run_events 2 (one (counted (num 1) (num 3) (num 1))) ≡ Turn ∷ int 1 ∷ Turn ∷ int 2 ∷ Finish OutOfTurns ∷ []
+unfolding digits eval give stop after ◌>>=◌ answer emit written take_turn get set choose for_turns for_loop for_meant run_events outcome_of all_events fresh_frame fresh_state
+loop_is_out_of_turns = refl
 
--- write 1 div 0
-quotient_traps : run_end 0 (write (Arith Div (num 1) (num 0) (line 1))) ≡ Trapped ZeroDivisor (line 1)
-unfolding eval give stop after ◌>>=◌ answer emit emit_some written turn_of take_turn get set choose while_turns run_events run_end outcome_of all_events end_reached fresh_frame fresh_state
-quotient_traps = refl
+-- for i = 3 to 1 by -1 do write i
+loop_counts_down : run_events 5 (one (counted (num 3) (num 1) (minus 1))) ≡ Turn ∷ int 3 ∷ Turn ∷ int 2 ∷ Turn ∷ int 1 ∷ Finish Done ∷ []
+unfolding digits eval give stop after ◌>>=◌ answer emit written take_turn get set choose for_turns for_loop for_meant run_events outcome_of all_events fresh_frame fresh_state
+loop_counts_down = refl
 
--- let n := 3; while n > 0 do { write n, " "; n := n - 1 }; write "'n"
-abbrev loop : Node
-loop = block (more (Let (Plain 0) ty.Int (num 3)) (more (While (Compare Greater ty.Int (local 0) (num 0))
-    (block (more (block (more (write (local 0)) (more (text (codes " ")) none))) (more (SetName (Plain 0) ty.Int (Arith Sub (local 0) (num 1) (line 1))) none))))
-    (more (text (codes "\n")) none)))
+-- for i = 1 to 3 by 0 do write i
+step_is_0 : run_events 5 (one (counted (num 1) (num 3) (num 0))) ≡ Finish (Trapped Bounds (line 1)) ∷ []
+unfolding digits eval give stop after ◌>>=◌ answer emit written take_turn get set choose for_turns for_loop for_meant run_events outcome_of all_events fresh_frame fresh_state
+step_is_0 = refl
 
-loop_is_told : run_events 9 loop ≡ Turn ∷ int 3 ∷ blank ∷ Turn ∷ int 2 ∷ blank ∷ Turn ∷ int 1 ∷ blank ∷ Out (codes "\n") ∷ Finish Done ∷ []
-unfolding eval give stop after ◌>>=◌ answer emit emit_some written turn_of take_turn get set choose while_turns run_events run_end outcome_of all_events end_reached fresh_frame fresh_state
-loop_is_told = refl
+-- for i = 2147483646 to 2147483647 do write i: the step past the greatest int ends the loop
+loop_ends_at_the_last_int : run_events 5 (one (counted (num 2147483646) (num 2147483647) (num 1))) ≡ Turn ∷ int 2147483646 ∷ Turn ∷ int 2147483647 ∷ Finish Done ∷ []
+unfolding digits eval give stop after ◌>>=◌ answer emit written take_turn get set choose for_turns for_loop for_meant run_events outcome_of all_events fresh_frame fresh_state
+loop_ends_at_the_last_int = refl
 
-loop_is_cut : run_events 2 loop ≡ Turn ∷ int 3 ∷ blank ∷ Turn ∷ int 2 ∷ blank ∷ Finish OutOfTurns ∷ []
-unfolding eval give stop after ◌>>=◌ answer emit emit_some written turn_of take_turn get set choose while_turns run_events run_end outcome_of all_events end_reached fresh_frame fresh_state
-loop_is_cut = refl
+-- for i = 2 to 1 do write i
+loop_without_a_turn : run_events 0 (one (counted (num 2) (num 1) (num 1))) ≡ Finish Done ∷ []
+unfolding digits eval give stop after ◌>>=◌ answer emit written take_turn get set choose for_turns for_loop for_meant run_events outcome_of all_events fresh_frame fresh_state
+loop_without_a_turn = refl
 
-loop_ends : status_of (run_end 3 loop) ≡ 0
-unfolding eval give stop after ◌>>=◌ answer emit emit_some written turn_of take_turn get set choose while_turns run_events run_end outcome_of all_events end_reached fresh_frame fresh_state
-loop_ends = refl
+-- case 2 of 1, 2 : write 5; default : write 6
+abbrev choice : ℕ → Node
+choice n = node.Case (num n) (more_arms (arm (more (num 1) (more (num 2) none)) (write (num 5))) no_arms) (write (num 6)) ty.Int
 
--- while true do {} with no turn
-no_turn : run_end 0 (While (node.Flag true) (block none)) ≡ OutOfTurns
-unfolding eval give stop after ◌>>=◌ answer emit emit_some written turn_of take_turn get set choose while_turns run_events run_end outcome_of all_events end_reached fresh_frame fresh_state
-no_turn = refl
+arm_is_chosen : run_events 0 (one (choice 2)) ≡ int 5 ∷ Finish Done ∷ []
+unfolding digits eval give stop after ◌>>=◌ answer emit written choose run_events outcome_of all_events fresh_frame fresh_state
+arm_is_chosen = refl
+
+default_is_chosen : run_events 0 (one (choice 3)) ≡ int 6 ∷ Finish Done ∷ []
+unfolding digits eval give stop after ◌>>=◌ answer emit written choose run_events outcome_of all_events fresh_frame fresh_state
+default_is_chosen = refl
+
+-- let n := 0; repeat n := n + 1 while n < 3 do write n
+abbrev again : Node → Node
+again b = node.Repeat (node.SetName (Plain 0) ty.Int (node.Arith Add (local 0) (num 1) (line 1))) (node.Compare Less ty.Int (local 0) (num 3)) b
+
+repeat_writes_between : run_events 5 (program (more (node.Let (Plain 0) ty.Int (num 0)) (more (again (write (local 0))) none))) ≡ Turn ∷ int 1 ∷ Turn ∷ int 2 ∷ Finish Done ∷ []
+unfolding digits eval give stop after ◌>>=◌ answer emit written take_turn get set choose while_turns run_events outcome_of all_events fresh_frame fresh_state
+repeat_writes_between = refl
+
+repeat_without_a_clause : run_events 5 (program (more (node.Let (Plain 0) ty.Int (num 0)) (more (again node.Empty) (more (write (local 0)) none)))) ≡ Turn ∷ Turn ∷ int 3 ∷ Finish Done ∷ []
+unfolding digits eval give stop after ◌>>=◌ answer emit written take_turn get set choose while_turns run_events outcome_of all_events fresh_frame fresh_state
+repeat_without_a_clause = refl
+
+-- write true : 6, "" : 3, "a" : 1
+widths_are_filled : run_events 0 (program (more (node.Write (node.Flag true) (num 6) true ty.Bool (line 1)) (more (node.Write (node.Text []) (num 3) true ty.Str (line 1)) (more (node.Write (node.Text (codes "a")) (num 1) true ty.Str (line 1)) none))))
+    ≡ Out (codes "  true") ∷ Out (codes "   ") ∷ Out (codes "a") ∷ Finish Done ∷ []
+unfolding digits eval give stop after ◌>>=◌ answer emit written choose run_events outcome_of all_events fresh_frame fresh_state
+widths_are_filled = refl
+
+-- write 1 : 70000
+width_traps : run_events 0 (one (wide (num 1) (num 70000))) ≡ Finish (Trapped TooLong (line 1)) ∷ []
+unfolding digits eval give stop after ◌>>=◌ answer emit written choose run_events outcome_of all_events fresh_frame fresh_state
+width_traps = refl
+
+abort_traps : run_events 0 (one (node.Abort (line 1))) ≡ Finish (Trapped Aborted (line 1)) ∷ []
+unfolding digits eval give stop after ◌>>=◌ run_events outcome_of all_events fresh_frame fresh_state
+abort_traps = refl
+
+-- write (-7) div 2, (-7) rem 2
+quotients_go_to_zero : run_events 0 (program (more (write (node.Arith Div (minus 7) (num 2) (line 1))) (more (write (node.Arith Rem (minus 7) (num 2) (line 1))) none)))
+    ≡ Out (signed_decimal (negsuc 2)) ∷ Out (signed_decimal (negsuc 0)) ∷ Finish Done ∷ []
+unfolding digits eval give stop after ◌>>=◌ answer emit written choose run_events outcome_of all_events fresh_frame fresh_state
+quotients_go_to_zero = refl

@@ -1,6 +1,8 @@
 pub mod Operators
 pub mod Event
-pub mod Eval
-pub mod Run
-pub mod Typed
 pub mod Answers
+pub mod Values
+pub mod Meaning
+pub mod Evaluation
+pub mod Runs
+pub mod Built

@@ -2,3 +2,4 @@ mod Rows
 mod PlacedRows
 pub mod SameTypes
 pub mod Keeps
+mod LocalRows

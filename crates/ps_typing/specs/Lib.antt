@@ -8,3 +8,4 @@ pub mod Placed
 pub mod Program
 pub mod Items
 pub mod WellTyped
+pub mod Locals

@@ -17,13 +17,14 @@ use Rattle.ps_typing.specs.Placing.{is_number}
 use Rattle.ps_typing.specs.Program.{bodies_of, own_body, bodies}
 use Rattle.ps_typing.specs.WellTyped.{Some_is, Env, Free, IsLocal, IsAt, next_slot, behind_one, with_local, Claim, ◌has◌, all_have, arms_have, Arguments, Rule, Declares, Takes, IsTyped, AreTyped, AreItems, IsBody, IsWellTyped}
 use Rattle.ps_typing.specs.WellTyped as typed
-use Rattle.ps_typing_laws.specs.Counted.{Each, Slot, slot_of, own_slots, slots_of_parts, slots_in, slots_of_params, one_on, taken_on, own_taken, taken_in, taken_by_params, locals_on, slots_of_body, IsCounted}
+use Rattle.ps_typing.specs.Locals.{one_on, taken_on, own_taken, taken_in, taken_by_params, locals_on}
+use Rattle.ps_typing_laws.specs.Counted.{Each, Slot, slot_of, own_slots, slots_of_parts, slots_in, slots_of_params, slots_of_body, IsCounted}
 
 pub each_append : {A : Type 0} (P : A → Type 0) (xs ys : List A) → Each P xs → Each P ys → Each P (xs ++ ys)
 each_append P [] ys h k = k
 each_append P (x ∷ xs) ys h k = (h.0, each_append P xs ys h.1 k)
 
-each_map : {A : Type 0} (P Q : A → Type 0) (xs : List A) → ((x : A) → P x → Q x) → Each P xs → Each Q xs
+pub each_map : {A : Type 0} (P Q : A → Type 0) (xs : List A) → ((x : A) → P x → Q x) → Each P xs → Each Q xs
 each_map P Q [] f h = tt
 each_map P Q (x ∷ xs) f h = (f x h.0, each_map P Q xs f h.1)
 
@@ -53,7 +54,7 @@ sum_is f (label c ∷ rest) = ap (λ n. f c + n) (sum_is f rest)
 sum_is f (branch c ∷ rest) = ap (λ n. f c + n) (sum_is f rest)
 sum_is f (literal c ∷ rest) = sum_is f rest
 
-abbrev bodies_in : Node → List BodyNode
+abbrev pub bodies_in : Node → List BodyNode
 bodies_in = fold (λ clause parts. own_body clause ++ bodies_of parts)
 
 slots_each : (P : Slot → Type 0) (parts : List (Part Node)) → Each (λ (n : Node). Each P (slots_in n)) (evaluated parts) →
@@ -73,11 +74,11 @@ bodies_each P (branch c ∷ rest) h k = each_append P (bodies_in c) _ h.0 (bodie
 bodies_each P (literal c ∷ rest) h k = each_append P (bodies_in c) _ k.0 (bodies_each P rest h k.1)
 
 -- a slot below the free ones of its stack
-abbrev limit : Bool → Free → ℕ
+abbrev pub limit : Bool → Free → ℕ
 limit true free = free.nums
 limit false free = free.refs
 
-abbrev Below : Free → Slot → Type 0
+abbrev pub Below : Free → Slot → Type 0
 Below free s = s.slot < limit s.is_number free
 
 pub record Grows (free free' : Free) : Type 0 where
@@ -109,7 +110,7 @@ pub record TrackedAll (free : Free) (trees : List Node) (free' : Free) : Type 0 
 grows_by : (free free' : Free) (n r : ℕ) → free'.nums ≡ free.nums + n → free'.refs ≡ free.refs + r → Grows free free'
 grows_by free free' n r nums refs = record { nums = omega arith; refs = omega arith }
 
-all_grows : {free free' : Free} {trees : List Node} → TrackedAll free trees free' → Grows free free'
+pub all_grows : {free free' : Free} {trees : List Node} → TrackedAll free trees free' → Grows free free'
 all_grows {free = free} {free' = free'} {trees = trees} h = grows_by free free' (total (taken_in true) trees) (total (taken_in false) trees) h.nums h.refs
 
 pub tree_grows : {free free' : Free} {tree : Node} → Tracked free tree free' → Grows free free'
@@ -184,7 +185,7 @@ all_then free between free' trees tree h k = record {
 }
 
 -- the parts that a rule names
-abbrev clauses_of : List Claim → List Node
+abbrev pub clauses_of : List Claim → List Node
 clauses_of [] = []
 clauses_of (claim ∷ rest) = claim.clause ∷ clauses_of rest
 
@@ -243,7 +244,7 @@ nothing_own other = (refl, refl, refl, refl)
 abbrev pub LocalsBelow : Env → Free → Type 0
 LocalsBelow env free = (slot : ℕ) (ty : TyView) → Some_is (IsLocal slot ty) env.locals → slot < limit (is_number ty) free
 
-locals_grow : (env : Env) (free free' : Free) → Grows free free' → LocalsBelow env free → LocalsBelow env free'
+pub locals_grow : (env : Env) (free free' : Free) → Grows free free' → LocalsBelow env free → LocalsBelow env free'
 locals_grow env free free' g h = λ slot ty is. let b = h slot ty is in let l = limit_grows (is_number ty) free free' g in omega arith
 
 -- the next slot of a name
@@ -251,35 +252,35 @@ next_by : (free : Free) (stack : Bool) → (if stack then free.nums else free.re
 next_by free true = refl
 next_by free false = refl
 
-record One (ty : TyView) (free free' : Free) : Type 0 where
+pub record One (ty : TyView) (free free' : Free) : Type 0 where
   pub nums : free'.nums ≡ free.nums + one_on true ty
   pub refs : free'.refs ≡ free.refs + one_on false ty
   pub one_of : one_on true ty + one_on false ty ≡ 1
   pub here : next_slot ty free < limit (is_number ty) free'
 
-one_by : (ty : TyView) (free : Free) → One ty free (behind_one ty free)
+pub one_by : (ty : TyView) (free : Free) → One ty free (behind_one ty free)
 one_by types.Int free = record { nums = refl; refs = omega arith; one_of = refl; here = omega arith }
 one_by types.Bool free = record { nums = refl; refs = omega arith; one_of = refl; here = omega arith }
 one_by types.Str free = record { nums = omega arith; refs = refl; one_of = refl; here = omega arith }
 one_by other free = record { nums = omega arith; refs = refl; one_of = refl; here = omega arith }
 
-one_grows : (ty : TyView) (free : Free) → Grows free (behind_one ty free)
+pub one_grows : (ty : TyView) (free : Free) → Grows free (behind_one ty free)
 one_grows ty free = let h = one_by ty free in record { nums = omega arith; refs = omega arith }
 
-locals_more : (env : Env) (ty : TyView) (free : Free) → LocalsBelow env free → LocalsBelow (with_local (next_slot ty free) ty env) (behind_one ty free)
+pub locals_more : (env : Env) (ty : TyView) (free : Free) → LocalsBelow env free → LocalsBelow (with_local (next_slot ty free) ty env) (behind_one ty free)
 locals_more env ty free h slot t (inl (s, e)) = subst (λ (n : ℕ). n < limit (is_number t) (behind_one ty free)) s
     (subst (λ (u : TyView). next_slot ty free < limit (is_number u) (behind_one ty free)) e (one_by ty free).here)
 locals_more env ty free h slot t (inr is) = locals_grow env free (behind_one ty free) (one_grows ty free) h slot t is
 
 -- a name that is declared
-record Declared (place : Place) (ty : TyView) (free : Free) (with_name : Env) (behind : Free) : Type 0 where
+pub record Declared (place : Place) (ty : TyView) (free : Free) (with_name : Env) (behind : Free) : Type 0 where
   pub nums : behind.nums ≡ free.nums + taken_on true ty place
   pub refs : behind.refs ≡ free.refs + taken_on false ty place
   pub few : taken_on true ty place + taken_on false ty place ≤ 1
   pub slots : Each (Below behind) (slot_of ty place)
   pub below : LocalsBelow with_name behind
 
-declared : {env with_name : Env} {free behind : Free} {place : Place} {ty : TyView} → Declares env free place ty with_name behind →
+pub declared : {env with_name : Env} {free behind : Free} {place : Place} {ty : TyView} → Declares env free place ty with_name behind →
     LocalsBelow env free → Declared place ty free with_name behind
 declared (typed.as_local {env = env} {free = free} {slot = slot} {ty = ty} e) below =
     let h = one_by ty free in
@@ -293,14 +294,14 @@ declared (typed.as_local {env = env} {free = free} {slot = slot} {ty = ty} e) be
 declared (typed.as_kept name scopes position) below = record { nums = omega arith; refs = omega arith; few = omega arith; slots = tt; below = below }
 
 -- the parameters of a body
-record Params (params : List Param) (free : Free) (last : Env) (free' : Free) : Type 0 where
+pub record Params (params : List Param) (free : Free) (last : Env) (free' : Free) : Type 0 where
   pub nums : free'.nums ≡ free.nums + taken_by_params true params
   pub refs : free'.refs ≡ free.refs + taken_by_params false params
   pub many : taken_by_params true params + taken_by_params false params ≡ length params
   pub slots : Each (Below free') (slots_of_params params)
   pub below : LocalsBelow last free'
 
-params_tracked : {env last : Env} {free free' : Free} {params : List Param} → Takes env free params last free' → LocalsBelow env free →
+pub params_tracked : {env last : Env} {free free' : Free} {params : List Param} → Takes env free params last free' → LocalsBelow env free →
     Params params free last free'
 params_tracked typed.no_more below = record { nums = omega arith; refs = omega arith; many = refl; slots = tt; below = below }
 params_tracked (typed.as_local {env = env} {free = free} {free' = free'} {slot = slot} {ty = ty} {rest = rest} e takes) below =
@@ -329,7 +330,7 @@ slot_below : (env : Env) (free : Free) (place : Place) (ty : TyView) → IsAt en
 slot_below env free (Plain slot) ty is below = (below slot ty is, tt)
 slot_below env free (Kept up position) ty is below = tt
 
-abbrev item_nodes : Nodes → List Node
+abbrev pub item_nodes : Nodes → List Node
 item_nodes none = []
 item_nodes (more first rest) = first ∷ item_nodes rest
 
@@ -348,14 +349,14 @@ let_tracked env with_name free behind between place of e d h =
     (record { nums = d.nums; refs = d.refs; few = d.few; slots = d.slots; bodies = tt; inside_bodies = tt })
     (then_all behind between between e [] h (none_tracked between))
 
-abbrev tree_of : BodyNode → Node
+abbrev pub tree_of : BodyNode → Node
 tree_of (body params gives tree scope line) = tree
 
-record BodyTracked (of : BodyNode) : Type 0 where
+pub record BodyTracked (of : BodyNode) : Type 0 where
   pub counted : IsCounted of
   pub inside_it : Each IsCounted (bodies_in (tree_of of))
 
-limit_is : (free free' : Free) (params : List Param) (tree : Node) (gives : TyView) (scope : Option (List ℕ)) (line : Line) →
+pub limit_is : (free free' : Free) (params : List Param) (tree : Node) (gives : TyView) (scope : Option (List ℕ)) (line : Line) →
     free.nums ≡ 0 + taken_by_params true params → free.refs ≡ 0 + taken_by_params false params → Tracked free tree free' →
     (stack : Bool) → limit stack free' ≡ locals_on stack (body params gives tree scope line)
 limit_is free free' params tree gives scope line nums refs h true = let a = h.nums in omega arith
@@ -425,14 +426,14 @@ mutual
             (b.inside_it, tt);
       }) (none_tracked free)
 
-  track_all : {env : Env} {free free' : Free} {claims : List Claim} → AreTyped env free claims free' → LocalsBelow env free →
+  pub track_all : {env : Env} {free free' : Free} {claims : List Claim} → AreTyped env free claims free' → LocalsBelow env free →
       TrackedAll free (clauses_of claims) free'
   track_all (typed.no_more {free = free}) below = none_tracked free
   track_all (typed.one_more {env = env} {free = free} {between = between} {free' = free'} {clause = clause} {rest = rest} first others) below =
       let h = track first below in
       then_all free between free' clause (clauses_of rest) h (track_all others (locals_grow env free between (tree_grows h) below))
 
-  track_items : {env last : Env} {free free' : Free} {before ty : TyView} {items : Nodes} → AreItems env free before items ty last free' →
+  pub track_items : {env last : Env} {free free' : Free} {before ty : TyView} {items : Nodes} → AreItems env free before items ty last free' →
       LocalsBelow env free → TrackedAll free (item_nodes items) free'
   track_items (typed.at_end {free = free}) below = none_tracked free
   track_items (typed.a_clause {env = env} {free = free} {between = between} {free' = free'} {item = item} {rest = rest} first others) below =
@@ -453,7 +454,7 @@ mutual
       (let_tracked env with_name free behind between place of (node.Proc procedure) d h)
       (track_items others (locals_grow with_name behind between (tree_grows h) d.below))
 
-  track_body : {around : List _} {of : BodyNode} → IsBody around of → BodyTracked of
+  pub track_body : {around : List _} {of : BodyNode} → IsBody around of → BodyTracked of
   track_body (typed.of_params {params = params} {gives = gives} {tree = tree} {scope = scope} {line = line} {env = env} {free = free}
       {free' = free'} opens takes is t) =
       let p = params_tracked takes (λ slot ty found. absurd found) in

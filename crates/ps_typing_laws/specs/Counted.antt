@@ -10,6 +10,7 @@ use Rattle.ps_program.specs.Node as node
 use Rattle.ps_program.specs.Parts.{Part, operand, label, branch, literal, fold}
 use Rattle.ps_program.specs.Slots.{sum_of, depth, slot_count}
 use Rattle.ps_typing.specs.Placing.{is_number}
+use Rattle.ps_typing.specs.Locals.{locals_on}
 use Rattle.ps_typing.specs.Program.{line_of_body}
 
 -- each item is such
@@ -55,34 +56,6 @@ slots_in = fold (λ clause parts. own_slots clause ++ slots_of_parts parts)
 abbrev pub slots_of_params : List Param → List Slot
 slots_of_params [] = []
 slots_of_params (param ∷ rest) = slot_of param.ty param.place ++ slots_of_params rest
-
--- how many locals of this stack a name of this type takes that is declared at this place
-abbrev pub one_on : Bool → TyView → ℕ
-one_on true ty = if is_number ty then 1 else 0
-one_on false ty = if is_number ty then 0 else 1
-
-abbrev pub taken_on : Bool → TyView → Place → ℕ
-taken_on stack ty (Plain slot) = one_on stack ty
-taken_on stack ty (Kept up position) = 0
-
--- how many locals of this stack a clause takes by itself, and with all that is in it
-abbrev pub own_taken : Bool → Node → ℕ
-own_taken stack (node.Let place ty e) = taken_on stack ty place
-own_taken stack (node.For slot a b c scope control s line) = (if stack then 3 else 0) + taken_on stack types.Int control
-own_taken stack (node.Scan text a f q s line) = 3
-own_taken _ _ = 0
-
-abbrev pub taken_in : Bool → Node → ℕ
-taken_in stack = fold (λ clause parts. own_taken stack clause + sum_of parts)
-
--- each parameter takes a local, kept or not
-abbrev pub taken_by_params : Bool → List Param → ℕ
-taken_by_params stack [] = 0
-taken_by_params stack (param ∷ rest) = one_on stack param.ty + taken_by_params stack rest
-
--- the locals that a body has on this stack
-abbrev pub locals_on : Bool → BodyNode → ℕ
-locals_on stack (body params gives tree scope line) = taken_by_params stack params + taken_in stack tree
 
 abbrev pub slots_of_body : BodyNode → List Slot
 slots_of_body (body params gives tree scope line) = slots_of_params params ++ slots_in tree

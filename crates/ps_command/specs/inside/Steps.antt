@@ -1,10 +1,17 @@
 -- What each step of a command answers, where the steps before it went well.
-use Rattle.std.specs.Prelude.{◌≡◌, ◌⊎◌, ℕ, List, Option, Some, None}
-use Rattle.ps_base.specs.Node.{Node}
+use Rattle.std.specs.Prelude.{◌≡◌, ◌≤◌, ◌⊎◌, ℕ, List, Option, Some, None}
+use Rattle.ps_base.specs.CodeUnit.{unit_view}
+use Rattle.ps_base.specs.declared.code_unit.CodeUnit.{CodeUnit}
+use Rattle.ps_program.specs.Node.{BodyNode}
+use Rattle.ps_program.specs.Slots.{slot_count}
+use Rattle.ps_typing.specs.Program.{most_slots}
+use Rattle.ps_typing.specs.WellTyped.{IsWellTyped}
+use Rattle.ps_meaning.specs.Built.{IsBuiltBody}
+use Rattle.ps_gen.specs.Units.{unit_of, HasUnit}
 use Rattle.ps_port.specs.declared.shelf.ShelfFault.{ShelfFault}
 use Rattle.ps_port.specs.declared.shelf.ShelfFault.TheVariants.{Failed, TooLong, Memory}
 use Rattle.ps_meaning.specs.Event.{outputs, status_of}
-use Rattle.ps_meaning.specs.Run.{run_events, run_end}
+use Rattle.ps_meaning.specs.Runs.{run_events, run_end}
 use Rattle.ps_command.specs.Words.{RunOf}
 use Rattle.ps_command.specs.Reports.{memory_line, unreadable_line, too_long_line}
 use Rattle.ps_command.specs.Answering.{Answers}
@@ -25,8 +32,16 @@ abbrev pub TextWhy : {H : Type 0} → (H → ℕ) → (H → ℕ → List ℕ �
 TextWhy clock told faults old new run text answered = Why clock told faults old new (Some run) (λ name held. held ≡ text) (λ name. ⊥) ⊥ answered
 
 -- and it is this program: it ran, or there was no memory
-abbrev pub ProgramWhy : {H : Type 0} → (H → ℕ) → (H → ℕ → List ℕ → Type 0) → (H → ℕ) → H → H → ℕ → Node → ℕ → Type 0
+abbrev pub ProgramWhy : {H : Type 0} → (H → ℕ) → (H → ℕ → List ℕ → Type 0) → (H → ℕ) → H → H → ℕ → BodyNode → ℕ → Type 0
 ProgramWhy clock told faults old new turns program answered = Answers clock told faults old new (outputs (run_events turns program)) (status_of (run_end turns program)) answered ⊎ Answers clock told faults old new memory_line 5 answered
+
+-- this unit is that of a program that can be run: one that is well typed, of forms that run, with slots enough
+pub record IsRunnable (unit : CodeUnit) (program : BodyNode) : Type 0 where
+  pub typed : IsWellTyped program
+  pub built : IsBuiltBody program
+  pub fits : slot_count program ≤ most_slots
+  pub has_unit : HasUnit program
+  pub unit_is : unit_view unit ≡ unit_of program
 
 -- the shelf gave no text
 abbrev pub UnreadWhy : {H : Type 0} → (H → ℕ) → (H → ℕ → List ℕ → Type 0) → (H → ℕ) → H → H → List ℕ → ShelfFault → ℕ → Type 0

@@ -1,0 +1,6 @@
+//! Laws of the forms that run: no code stands on them.
+#![tactic(auto)]
+
+mod laws;
+
+pub use laws::built_tree_is_built_program;

@@ -1,0 +1,307 @@
+-- A clause leaves each local of the number stack alone that it can't name: one below the free slots, and not that of a name in scope.
+use Rattle.std.proofs.Common.{◌≡◌, ℕ, zero, suc, ◌+◌, ◌<◌, ℤ, pos, ◌+ℤ◌, Bool, true, false, List, [], ◌∷◌, ◌++◌, Option, Some, None, inl, inr, refl, sym, ap, ◌∙◌, subst, arith, ne_eqb}
+use Rattle.std.specs.Prelude.{nat_eq, if◌then◌else◌}
+use Rattle.ps_base.specs.TyView.{TyView}
+use Rattle.ps_base.specs.TyView as types
+use Rattle.ps_base.specs.declared.line.Line.{Line}
+use Rattle.ps_program.specs.declared.place.Place.{Place}
+use Rattle.ps_program.specs.declared.place.Place.TheVariants.{Plain, Kept}
+use Rattle.ps_program.specs.Node.{Node, Nodes, none, more, Arms, no_arms, more_arms, arm, BodyNode}
+use Rattle.ps_program.specs.Node as node
+use Rattle.ps_typing.specs.Placing.{is_number}
+use Rattle.ps_typing.specs.WellTyped.{Some_is, Env, Free, IsLocal, Claim, ◌has◌, all_have, arms_have, behind_loop, Rule, Opens, Declares, IsTyped, AreTyped, AreItems}
+use Rattle.ps_typing.specs.WellTyped as typed
+use Rattle.ps_typing_laws.specs.Counted.{Each}
+use Rattle.ps_typing_laws.proofs.Tracked.{Grows, tree_grows, LocalsBelow, locals_grow, declared, track, track_all, all_grows}
+use Rattle.ps_meaning.specs.Operators.{Answer, Gives, Traps, neg_of, arith_of, is_same}
+use Rattle.ps_meaning.specs.Values.{Value, Num, Flag, Text, Nothing, word_of, flag_of, shown}
+use Rattle.ps_meaning.specs.Meaning.{Frame, Store, State, Outcome, Value_is, Ends, Meaning, give, stop, after, ◌>>=◌, choose, answer, emit, in_places, is_width, written, turned, spent, take_turn, with_local, unbuilt, get, set}
+use Rattle.ps_meaning.specs.Evaluation.{Context, while_turns, Counting, goes_on, for_turns, for_loop, for_meant, is_equal, eval, eval_all, eval_arms, eval_labels}
+
+-- the local has the value that it had
+abbrev pub Same : ℕ → Frame → Outcome → Type 0
+Same x f (Value_is v g s) = g.nums x ≡ f.nums x
+Same x f (Ends e s) = Unit {0}
+
+abbrev pub Leaves : ℕ → Meaning → Type 0
+Leaves x m = (f : Frame) (s : State) → Same x f (m f s)
+
+-- in each context
+abbrev pub Keeps : ℕ → Node → Type 0
+Keeps x t = (c : Context) → Leaves x (eval c t)
+
+same_from : (x : ℕ) (f g : Frame) (o : Outcome) → g.nums x ≡ f.nums x → Same x g o → Same x f o
+same_from x f g (Value_is v h s) e k = k ∙ e
+same_from x f g (Ends end s) e k = tt
+
+same_after : (x : ℕ) (f : Frame) (o : Outcome) (b : Value → Meaning) → Same x f o → ((v : Value) → Leaves x (b v)) → Same x f (after o b)
+unfolding after
+same_after x f (Value_is v g s) b h k = same_from x f g (b v g s) h (k v g s)
+same_after x f (Ends e s) b h k = tt
+
+leaves_then : (x : ℕ) (a : Meaning) (b : Value → Meaning) → Leaves x a → ((v : Value) → Leaves x (b v)) → Leaves x (a >>= b)
+unfolding ◌>>=◌
+leaves_then x a b h k f s = same_after x f (a f s) b (h f s) k
+
+leaves_give : (x : ℕ) (v : Value) → Leaves x (give v)
+unfolding give
+leaves_give x v f s = refl
+
+leaves_unbuilt : (x : ℕ) → Leaves x unbuilt
+unfolding unbuilt give
+leaves_unbuilt x f s = refl
+
+leaves_stop : (x : ℕ) (e : _) → Leaves x (stop e)
+unfolding stop
+leaves_stop x e f s = tt
+
+leaves_choose : (x : ℕ) (b : Bool) (m n : Meaning) → Leaves x m → Leaves x n → Leaves x (choose b m n)
+unfolding choose
+leaves_choose x true m n h k = h
+leaves_choose x false m n h k = k
+
+leaves_answer : (x : ℕ) (line : Line) (a : Answer) → Leaves x (answer line a)
+unfolding answer
+leaves_answer x line (Gives z) = leaves_give x (Num z)
+leaves_answer x line (Traps trap) = leaves_stop x _
+
+leaves_emit : (x : ℕ) (bytes : List ℕ) → Leaves x (emit bytes)
+unfolding emit
+leaves_emit x bytes f s = refl
+
+leaves_either : (x : ℕ) (b : Bool) (m n : Meaning) → Leaves x m → Leaves x n → Leaves x (if b then m else n)
+leaves_either x true m n h k = h
+leaves_either x false m n h k = k
+
+leaves_written : (x : ℕ) (line : Line) (width : Option ℤ) (bytes : List ℕ) → Leaves x (written line width bytes)
+unfolding written
+leaves_written x line width bytes = leaves_either x (is_width width) _ _ (leaves_emit x (in_places width bytes)) (leaves_stop x _)
+
+leaves_turned : (x : ℕ) (store : Option Store) → Leaves x (turned store)
+leaves_turned x None f s = tt
+leaves_turned x (Some store) f s = refl
+
+leaves_turn : (x : ℕ) → Leaves x take_turn
+unfolding take_turn
+leaves_turn x f s = leaves_turned x (spent s.store) f s
+
+leaves_get : (x : ℕ) (place : Place) (ty : TyView) → Leaves x (get place ty)
+unfolding get
+leaves_get x (Plain slot) ty f s = refl
+leaves_get x (Kept up position) ty f s = leaves_unbuilt x f s
+
+not_same : (m n : ℕ) → (n ≡ m → ⊥) → nat_eq m n ≡ false
+not_same m n apart = ne_eqb m n (λ e. apart (sym e))
+
+if_false : {A : Type 0} (b : Bool) (x y : A) → b ≡ false → (if b then x else y) ≡ y
+if_false b x y h = ap (λ (c : Bool). if c then x else y) h
+
+pub other_local : {A : Type 0} (row : ℕ → A) (slot x : ℕ) (v : A) → (slot ≡ x → ⊥) → with_local row slot v x ≡ row x
+other_local row slot x v apart = if_false (nat_eq x slot) v (row x) (not_same x slot apart)
+
+other_in_frame : (x slot : ℕ) (v : Value) (f : Frame) (number : Bool) → (number ≡ true → slot ≡ x → ⊥) →
+    (if number then record f { nums = with_local f.nums slot v } else record f { refs = with_local f.refs slot v }).nums x ≡ f.nums x
+other_in_frame x slot v f true apart = other_local f.nums slot x v (apart refl)
+other_in_frame x slot v f false apart = refl
+
+pub leaves_set : (x slot : ℕ) (ty : TyView) (v : Value) → (is_number ty ≡ true → slot ≡ x → ⊥) → Leaves x (set (Plain slot) ty v)
+unfolding set
+leaves_set x slot ty v apart f s = other_in_frame x slot v f (is_number ty) apart
+
+leaves_kept : (x up position : ℕ) (ty : TyView) (v : Value) → Leaves x (set (Kept up position) ty v)
+unfolding set
+leaves_kept x up position ty v f s = leaves_unbuilt x f s
+
+leaves_while : (x n : ℕ) (test clause : Meaning) → Leaves x test → Leaves x clause → Leaves x (while_turns n test clause)
+unfolding while_turns
+leaves_while x zero test clause h k = leaves_then x test _ h (λ v. leaves_choose x (flag_of v) _ _ (leaves_stop x _) (leaves_give x Nothing))
+leaves_while x (suc n) test clause h k =
+    leaves_then x test _ h (λ v. leaves_choose x (flag_of v) _ _
+    (leaves_then x take_turn _ (leaves_turn x) (λ t. leaves_then x clause _ k (λ u. leaves_while x n test clause h k))) (leaves_give x Nothing))
+
+leaves_for_turns : (x n : ℕ) (loop : Counting) (clause : Meaning) → (loop.slot ≡ x → ⊥) → ((v : Value) → Leaves x (set loop.control types.Int v)) →
+    Leaves x clause → (z : ℤ) → Leaves x (for_turns n loop clause z)
+unfolding for_turns
+leaves_for_turns x zero loop clause apart control h z = leaves_stop x _
+leaves_for_turns x (suc n) loop clause apart control h z =
+    leaves_then x take_turn _ (leaves_turn x) (λ t. leaves_then x (set loop.control types.Int (Num z)) _ (control (Num z)) (λ u.
+    leaves_then x clause _ h (λ w. leaves_choose x (goes_on loop.limit loop.step (z +ℤ loop.step)) _ _
+    (leaves_then x (set (Plain loop.slot) types.Int (Num (z +ℤ loop.step))) _ (leaves_set x loop.slot types.Int (Num (z +ℤ loop.step)) (λ is e. apart e))
+    (λ u. leaves_for_turns x n loop clause apart control h (z +ℤ loop.step)))
+    (leaves_give x Nothing))))
+
+leaves_loop : (x n : ℕ) (line : Line) (loop : Counting) (clause : Meaning) → (loop.slot ≡ x → ⊥) → ((v : Value) → Leaves x (set loop.control types.Int v)) →
+    Leaves x clause → (z : ℤ) → Leaves x (for_loop n line loop clause z)
+unfolding for_loop
+leaves_loop x n line loop clause apart control h z =
+    leaves_choose x (is_same loop.step (pos 0)) _ _ (leaves_stop x _)
+    (leaves_choose x (goes_on loop.limit loop.step z) _ _ (leaves_for_turns x n loop clause apart control h z) (leaves_give x Nothing))
+
+leaves_for : (x n : ℕ) (line : Line) (slot : ℕ) (control : Place) (a b c clause : Meaning) → x < slot → ((v : Value) → Leaves x (set control types.Int v)) →
+    Leaves x a → Leaves x b → Leaves x c → Leaves x clause → Leaves x (for_meant n line slot control a b c clause)
+unfolding for_meant
+leaves_for x n line slot control a b c clause below at_control ha hb hc h =
+    let apart : (k : ℕ) → slot + k ≡ x → ⊥ = λ k e. omega arith in
+    let apart_first : slot ≡ x → ⊥ = λ e. omega arith in
+    leaves_then x a _ ha (λ start. leaves_then x (set (Plain slot) types.Int start) _ (leaves_set x slot types.Int start (λ is e. apart_first e)) (λ u.
+    leaves_then x b _ hb (λ limit. leaves_then x (set (Plain (slot + 1)) types.Int limit) _ (leaves_set x (slot + 1) types.Int limit (λ is e. apart 1 e)) (λ u.
+    leaves_then x c _ hc (λ step. leaves_then x (set (Plain (slot + 2)) types.Int step) _ (leaves_set x (slot + 2) types.Int step (λ is e. apart 2 e)) (λ u.
+    leaves_loop x n line (record { slot = slot; control = control; limit = word_of limit; step = word_of step }) clause apart_first at_control h (word_of start)))))))
+
+-- clauses that each keep a local
+abbrev pub KeepClaim : ℕ → Claim → Type 0
+KeepClaim x claim = Keeps x claim.clause
+
+pub each_left : {A : Type 0} (P : A → Type 0) (xs ys : List A) → Each P (xs ++ ys) → Each P xs
+each_left P [] ys h = tt
+each_left P (x ∷ xs) ys h = (h.0, each_left P xs ys h.1)
+
+pub each_right : {A : Type 0} (P : A → Type 0) (xs ys : List A) → Each P (xs ++ ys) → Each P ys
+each_right P [] ys h = h
+each_right P (x ∷ xs) ys h = each_right P xs ys h.1
+
+leaves_labels : (x : ℕ) (c : Context) (value : TyView) (v : Value) (labels : Nodes) → Each (KeepClaim x) (all_have value labels) → Leaves x (eval_labels c v labels)
+unfolding eval_labels
+leaves_labels x c value v none h = leaves_give x _
+leaves_labels x c value v (more label rest) h =
+    leaves_then x (eval c label) _ (h.0 c) (λ w. leaves_choose x (is_equal v w) _ _ (leaves_give x _) (leaves_labels x c value v rest h.1))
+
+leaves_arms : (x : ℕ) (c : Context) (value ty : TyView) (v : Value) (arms : Arms) (d : Meaning) → Each (KeepClaim x) (arms_have value ty arms) → Leaves x d →
+    Leaves x (eval_arms c v arms d)
+unfolding eval_arms
+leaves_arms x c value ty v no_arms d h k = k
+leaves_arms x c value ty v (more_arms (arm labels a) rest) d h k =
+    let behind_labels = each_right (KeepClaim x) (all_have value labels) (a has ty ∷ arms_have value ty rest) h in
+    leaves_then x (eval_labels c v labels) _ (leaves_labels x c value v labels (each_left (KeepClaim x) (all_have value labels) (a has ty ∷ arms_have value ty rest) h))
+    (λ found. leaves_choose x (flag_of found) _ _ (behind_labels.0 c) (leaves_arms x c value ty v rest d behind_labels.1 k))
+
+keeps_by_rule : (x : ℕ) {t : Node} {claims : List Claim} {ty : TyView} → Rule t claims ty → Each (KeepClaim x) claims → Keeps x t
+unfolding eval
+keeps_by_rule x (typed.int {v = v}) h c = leaves_give x (Num v)
+keeps_by_rule x (typed.flag {v = v}) h c = leaves_give x (Flag v)
+keeps_by_rule x (typed.text {bytes = bytes}) h c = leaves_give x (Text bytes)
+keeps_by_rule x typed.empty h c = leaves_give x Nothing
+keeps_by_rule x typed.abort h c = leaves_stop x _
+keeps_by_rule x (typed.if_do {c = t} {a = a}) h c = leaves_then x (eval c t) _ (h.0 c) (λ v. leaves_choose x (flag_of v) _ _ (h.1.0 c) (leaves_give x Nothing))
+keeps_by_rule x (typed.if_else {c = t} {a = a} {b = b}) h c = leaves_then x (eval c t) _ (h.0 c) (λ v. leaves_choose x (flag_of v) _ _ (h.1.0 c) (h.1.1.0 c))
+keeps_by_rule x (typed.while {c = t} {a = a}) h c = leaves_while x c.bound (eval c t) (eval c a) (h.0 c) (h.1.0 c)
+keeps_by_rule x (typed.repeat {a = a} {c = t} {b = b}) h c = leaves_while x c.bound _ (eval c b) (leaves_then x (eval c a) _ (h.0 c) (λ u. h.1.0 c)) (h.1.1.0 c)
+keeps_by_rule x (typed.case {e = e} {d = d} {arms = arms} {value = value} {t = t} is) h c =
+    let behind_arms = each_right (KeepClaim x) (arms_have value t arms) (d has t ∷ []) h.1 in
+    leaves_then x (eval c e) _ (h.0 c) (λ v. leaves_arms x c value t v arms (eval c d) (each_left (KeepClaim x) (arms_have value t arms) (d has t ∷ []) h.1)
+    (behind_arms.0 c))
+keeps_by_rule x (typed.and {a = a} {b = b}) h c = leaves_then x (eval c a) _ (h.0 c) (λ v. leaves_choose x (flag_of v) _ _ (h.1.0 c) (leaves_give x v))
+keeps_by_rule x (typed.or {a = a} {b = b}) h c = leaves_then x (eval c a) _ (h.0 c) (λ v. leaves_choose x (flag_of v) _ _ (leaves_give x v) (h.1.0 c))
+keeps_by_rule x (typed.not {e = e}) h c = leaves_then x (eval c e) _ (h.0 c) (λ v. leaves_give x _)
+keeps_by_rule x (typed.neg {e = e} {line = line}) h c = leaves_then x (eval c e) _ (h.0 c) (λ v. leaves_answer x line (neg_of (word_of v)))
+keeps_by_rule x typed.plus h c = h.0 c
+keeps_by_rule x (typed.arith {op = op} {a = a} {b = b} {line = line}) h c =
+    leaves_then x (eval c a) _ (h.0 c) (λ v. leaves_then x (eval c b) _ (h.1.0 c) (λ w. leaves_answer x line (arith_of op (word_of v) (word_of w))))
+keeps_by_rule x (typed.compare {op = op} {t = t} {a = a} {b = b} is) h c =
+    leaves_then x (eval c a) _ (h.0 c) (λ v. leaves_then x (eval c b) _ (h.1.0 c) (λ w. leaves_give x _))
+keeps_by_rule x (typed.write {e = e} {t = t} {line = line} is) h c = leaves_then x (eval c e) _ (h.0 c) (λ v. leaves_written x line None (shown t v))
+keeps_by_rule x (typed.write_wide {e = e} {w = w} {t = t} {line = line} is) h c =
+    leaves_then x (eval c e) _ (h.0 c) (λ v. leaves_then x (eval c w) _ (h.1.0 c) (λ width. leaves_written x line (Some (word_of width)) (shown t v)))
+keeps_by_rule x other h c = leaves_unbuilt x
+
+-- no name of a number in scope has this slot
+abbrev pub Unnamed : ℕ → Env → Type 0
+Unnamed x env = (ty : TyView) → Some_is (IsLocal x ty) env.locals → is_number ty ≡ true → ⊥
+
+next_above : (x : ℕ) (free : Free) (number : Bool) → x < free.nums → number ≡ true → (if number then free.nums else free.refs) ≡ x → ⊥
+next_above x free true below is e = omega arith
+next_above x free false below is e = absurd cc
+
+-- a name that is declared has a slot of its own
+pub declared_apart : (x : ℕ) {env with_name : Env} {free behind : Free} {place : Place} {ty : TyView} → Declares env free place ty with_name behind →
+    x < free.nums → (v : Value) → Leaves x (set place ty v)
+declared_apart x (typed.as_local {free = free} {slot = slot} {ty = ty} e) below v =
+    leaves_set x slot ty v (λ is same. next_above x free (is_number ty) below is (sym e ∙ same))
+declared_apart x (typed.as_kept {position = position} {ty = ty} name scopes is) below v = leaves_kept x 0 position ty v
+
+pub declared_unnamed : (x : ℕ) {env with_name : Env} {free behind : Free} {place : Place} {ty : TyView} → Declares env free place ty with_name behind →
+    x < free.nums → Unnamed x env → Unnamed x with_name
+declared_unnamed x (typed.as_local {free = free} {slot = slot} {ty = ty} e) below h t (inl (same, is_ty)) is =
+    next_above x free (is_number ty) below (ap is_number is_ty ∙ is) (sym e ∙ same)
+declared_unnamed x (typed.as_local e) below h t (inr found) is = h t found is
+declared_unnamed x (typed.as_kept name scopes at) below h t found is = h t found is
+
+keeps_block : (x : ℕ) {around first last : _} (scope : Option (List ℕ)) (items : Nodes) → Opens scope around first last →
+    ((c : Context) (v : Value) → Leaves x (eval_all c v items)) → Keeps x (node.Block scope items)
+unfolding eval
+keeps_block x None items typed.unscoped h c = h c Nothing
+keeps_block x (Some text) items typed.scoped h c = leaves_unbuilt x
+
+keeps_for : (x : ℕ) {around first last : _} (slot : ℕ) (a b c : Node) (scope : Option (List ℕ)) (control : Place) (s : Node) (line : Line) →
+    Opens scope around first last → x < slot → ((v : Value) → Leaves x (set control types.Int v)) → Keeps x a → Keeps x b → Keeps x c → Keeps x s →
+    Keeps x (node.For slot a b c scope control s line)
+unfolding eval
+keeps_for x slot a b c None control s line typed.unscoped below at_control ha hb hc h context =
+    leaves_for x context.bound line slot control (eval context a) (eval context b) (eval context c) (eval context s) below at_control (ha context) (hb context)
+    (hc context) (h context)
+keeps_for x slot a b c (Some text) control s line typed.scoped below at_control ha hb hc h context = leaves_unbuilt x
+
+-- inside a loop by `for`
+pub locals_in_loop : (env : Env) (free : Free) → LocalsBelow env free → LocalsBelow env (behind_loop free)
+locals_in_loop env free locals = locals_grow env free (behind_loop free) (record { nums = omega arith; refs = omega arith }) locals
+
+mutual
+  unfolding eval eval_all
+
+  pub keeps : (x : ℕ) {env : Env} {free free' : Free} {t : Node} {ty : TyView} → IsTyped env free t ty free' → LocalsBelow env free → x < free.nums →
+      Unnamed x env → Keeps x t
+  keeps x (typed.by_rule r are) locals below apart = keeps_by_rule x r (keeps_each x are locals below apart)
+  keeps x (typed.name {place = place} {ty = ty} is) locals below apart = λ c. leaves_get x place ty
+  keeps x (typed.set_name {env = env} {place = Plain slot} {ty = ty} {e = e} is te) locals below apart = λ c.
+      leaves_then x (eval c e) _ (keeps x te locals below apart c)
+      (λ v. leaves_set x slot ty v (λ number same. apart ty (subst (λ (n : ℕ). Some_is (IsLocal n ty) env.locals) same is) number))
+  keeps x (typed.set_name {place = Kept up position} {ty = ty} {e = e} is te) locals below apart = λ c.
+      leaves_then x (eval c e) _ (keeps x te locals below apart c) (λ v. leaves_kept x up position ty v)
+  keeps x (typed.block {scope = scope} {items = items} opens are is) locals below apart =
+      keeps_block x scope items opens (λ c v. keeps_items x are locals below apart c v)
+  keeps x (typed.loop {env = env} {own = own} {free = free} {behind = behind} {between = between} {slot = slot} {a = a} {b = b} {c = c} {s = s}
+      {scope = scope} {control = control} {line = line} slot_is opens declares is are t) locals below apart =
+      let d = declared declares (locals_in_loop env free locals) in
+      let grows : Grows free behind = record { nums = let y = d.nums in omega arith; refs = let y = d.refs in omega arith } in
+      let further : x < behind.nums = let g = grows.nums in omega arith in
+      let three = keeps_each x are (locals_grow env free behind grows locals) further apart in
+      let last = all_grows (track_all are (locals_grow env free behind grows locals)) in
+      let body = keeps x t (locals_grow own behind between last d.below) (let h = last.nums in omega arith)
+      (declared_unnamed x declares (omega arith) apart) in
+      keeps_for x slot a b c scope control s line opens (omega arith) (declared_apart x declares (omega arith)) three.0 three.1.0 three.1.1.0 body
+  keeps x (typed.scan q_is s_is are) locals below apart = λ c. leaves_unbuilt x
+  keeps x (typed.literal is_body) locals below apart = λ c. leaves_unbuilt x
+
+  pub keeps_each : (x : ℕ) {env : Env} {free free' : Free} {claims : List Claim} → AreTyped env free claims free' → LocalsBelow env free → x < free.nums →
+      Unnamed x env → Each (KeepClaim x) claims
+  keeps_each x typed.no_more locals below apart = tt
+  keeps_each x (typed.one_more {env = env} {free = free} {between = between} first others) locals below apart =
+      let grows = tree_grows (track first locals) in
+      (keeps x first locals below apart, keeps_each x others (locals_grow env free between grows locals) (let h = grows.nums in omega arith) apart)
+
+  keeps_items : (x : ℕ) {env last : Env} {free free' : Free} {before ty : TyView} {items : Nodes} → AreItems env free before items ty last free' →
+      LocalsBelow env free → x < free.nums → Unnamed x env → (c : Context) (v : Value) → Leaves x (eval_all c v items)
+  keeps_items x typed.at_end locals below apart c v = leaves_give x v
+  keeps_items x (typed.a_clause {env = env} {free = free} {between = between} {item = item} first others) locals below apart c v =
+      let grows = tree_grows (track first locals) in
+      leaves_then x (eval c item) _ (keeps x first locals below apart c)
+      (λ w. keeps_items x others (locals_grow env free between grows locals) (let h = grows.nums in omega arith) apart c w)
+  keeps_items x (typed.a_value {env = env} {with_name = with_name} {free = free} {behind = behind} {between = between} {place = place} {e = e} {rest = rest}
+      {of = of} isnt declares te others) locals below apart c v =
+      let d = declared declares locals in
+      let grows : Grows free behind = record { nums = let y = d.nums in omega arith; refs = let y = d.refs in omega arith } in
+      let of_e = tree_grows (track te (locals_grow env free behind grows locals)) in
+      leaves_then x (eval c (node.Let place of e)) _
+      (leaves_then x (eval c e) _ (keeps x te (locals_grow env free behind grows locals) (let h = grows.nums in omega arith) apart c)
+      (λ w. declared_apart x declares below w))
+      (λ w. keeps_items x others (locals_grow with_name behind between of_e d.below) (let h = grows.nums in let k = of_e.nums in omega arith)
+      (declared_unnamed x declares below apart) c w)
+  keeps_items x (typed.a_literal {env = env} {with_name = with_name} {free = free} {behind = behind} {between = between} {place = place}
+      {procedure = procedure} {rest = rest} {of = of} declares te others) locals below apart c v =
+      let d = declared declares locals in
+      let grows : Grows free behind = record { nums = let y = d.nums in omega arith; refs = let y = d.refs in omega arith } in
+      let of_e = tree_grows (track te d.below) in
+      leaves_then x (eval c (node.Let place of (node.Proc procedure))) _
+      (leaves_then x (eval c (node.Proc procedure)) _ (leaves_unbuilt x) (λ w. declared_apart x declares below w))
+      (λ w. keeps_items x others (locals_grow with_name behind between of_e d.below) (let h = grows.nums in let k = of_e.nums in omega arith)
+      (declared_unnamed x declares below apart) c w)

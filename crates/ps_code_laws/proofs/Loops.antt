@@ -1,0 +1,275 @@
+-- Loops by `for`: the machine reads the limit and the step from their locals at each turn, and nothing but the loop sets them.
+use Rattle.std.proofs.Common.{◌≡◌, ℕ, zero, suc, ◌+◌, ◌<◌, ◌≤◌, ℤ, pos, ◌+ℤ◌, Bool, true, false, List, [], ◌∷◌, ◌++◌, refl, sym, ap, ◌∙◌, subst, arith, eq-eqb}
+use Rattle.std.specs.Prelude.{nat_eq}
+use Rattle.ps_base.specs.TyView.{TyView}
+use Rattle.ps_base.specs.TyView as types
+use Rattle.ps_base.specs.Instr.{width_of}
+use Rattle.ps_base.specs.declared.line.Line.{Line}
+use Rattle.ps_base.specs.declared.trap.Trap.TheVariants.{Bounds}
+use Rattle.ps_base.specs.declared.instr.Instr.{Instr}
+use Rattle.ps_base.specs.declared.instr.Instr.TheVariants as instr
+use Rattle.ps_program.specs.declared.place.Place.TheVariants.{Plain}
+use Rattle.ps_meaning.specs.Operators.{is_same}
+use Rattle.ps_meaning.specs.Event.{Event, Trapped}
+use Rattle.ps_meaning.specs.Values.{Value, Num, Nothing, word_of}
+use Rattle.ps_meaning.specs.Meaning.{Frame, Store, State, Outcome, Value_is, Ends, Meaning, give, stop, after, ◌>>=◌, choose, spent, take_turn, with_local, set}
+use Rattle.ps_meaning.specs.Evaluation.{Counting, goes_on, for_turns, for_loop, for_meant}
+use Rattle.ps_stepping.specs.Config.{Config, code_in, frame_in, IsAt}
+use Rattle.ps_stepping.specs.Machine.{turn_to, started, counted, act}
+use Rattle.ps_code_laws.specs.Meets.{nums_left, refs_left}
+use Rattle.ps_code_laws.proofs.Clauses.{int}
+use Rattle.ps_code_laws.proofs.Keeps.{Same, Leaves, other_local}
+use Rattle.ps_code_laws.proofs.Falls.{Falls, Falling, falls_le, falls_set, falls_for}
+use Rattle.ps_code_laws.proofs.Doing.{Way, if_true, if_false, if_lt, words_set, place, Comes, Room, Does, step, quiet, halt, less_room, jump_goes, push_goes, with_words, set_goes, does_set, turn_goes}
+
+same_local : (row : ℕ → Value) (slot : ℕ) (v : Value) → with_local row slot v slot ≡ v
+same_local row slot v = if_true (nat_eq slot slot) v (row slot) (eq-eqb slot slot refl)
+
+-- what is so of a value and the locals behind a clause that has one
+abbrev pub On : (Value → Frame → Type 0) → Outcome → Type 0
+On Is (Value_is v f s) = Is v f
+On Is (Ends e s) = Unit {0}
+
+-- a local that is left alone has the number that it had
+abbrev Reads : ℕ → ℤ → Frame → Type 0
+Reads x z f = word_of (f.nums x) ≡ z
+
+reads_on : (x : ℕ) (z : ℤ) (f : Frame) (o : Outcome) → Reads x z f → Same x f o → On (λ v g. Reads x z g) o
+reads_on x z f (Value_is v g s) h k = ap word_of k ∙ h
+reads_on x z f (Ends e s) h k = tt
+
+-- the three locals of a loop
+pub record Three (slot : ℕ) (z limit step : ℤ) (f : Frame) : Type 0 where
+  pub control_is : Reads slot z f
+  pub limit_is : Reads (slot + 1) limit f
+  pub step_is : Reads (slot + 2) step f
+
+record Two (slot : ℕ) (z limit : ℤ) (f : Frame) : Type 0 where
+  pub control_is : Reads slot z f
+  pub limit_is : Reads (slot + 1) limit f
+
+two_on : (slot : ℕ) (z limit : ℤ) (f : Frame) (o : Outcome) → Two slot z limit f → Same slot f o → Same (slot + 1) f o → On (λ v g. Two slot z limit g) o
+two_on slot z limit f (Value_is v g s) h k l = record { control_is = ap word_of k ∙ h.control_is; limit_is = ap word_of l ∙ h.limit_is }
+two_on slot z limit f (Ends e s) h k l = tt
+
+three_on : (slot : ℕ) (z limit step : ℤ) (f : Frame) (o : Outcome) → Three slot z limit step f → Same slot f o → Same (slot + 1) f o → Same (slot + 2) f o →
+    On (λ v g. Three slot z limit step g) o
+three_on slot z limit step f (Value_is v g s) h k l m =
+    record { control_is = ap word_of k ∙ h.control_is; limit_is = ap word_of l ∙ h.limit_is; step_is = ap word_of m ∙ h.step_is }
+three_on slot z limit step f (Ends e s) h k l m = tt
+
+module _ (w : Way) where
+  -- as `Does`, from locals of which this is so
+  pub record From (n : ℕ) (pre : Frame → Type 0) (bn : List ℤ) (br : List Value) (m : Meaning) (ty : TyView) (need p k : ℕ) : Type 0 where
+    pub by : (nums : List ℤ) (refs : List Value) (f : Frame) (s : State) → pre f → Room w need nums refs → s.store.turns ≤ n → Comes w k nums refs ty (m f s) →
+        w.Holds (place w p (bn ++ nums) (br ++ refs) f s.store) s.events
+
+  from_does : {n : ℕ} {bn : List ℤ} {br : List Value} {m : Meaning} {ty : TyView} {need p k : ℕ} (pre : Frame → Type 0) → Does w n bn br m ty need p k →
+      From n pre bn br m ty need p k
+  from_does pre d = record { by = λ nums refs f s is room turns reach. d.by nums refs f s room turns reach }
+
+  comes_from : (n need q k : ℕ) (nums : List ℤ) (refs : List Value) (tya ty : TyView) (mid : Value → Frame → Type 0) (b : Value → Meaning) →
+      ((v : Value) → From n (mid v) (nums_left tya v) (refs_left tya v) (b v) ty need q k) → Room w need nums refs → (o : Outcome) → On mid o → Falls n o →
+      Comes w k nums refs ty (after o b) → Comes w q nums refs tya o
+  unfolding after
+  comes_from n need q k nums refs tya ty mid b db room (Value_is v f s) is turns reach = (db v).by nums refs f s is room turns reach
+  comes_from n need q k nums refs tya ty mid b db room (Ends e s) is turns reach = reach
+
+  then_from : {n : ℕ} {pre : Frame → Type 0} {bn : List ℤ} {br : List Value} {a : Meaning} {tya ty : TyView} (b : Value → Meaning) (mid : Value → Frame → Type 0)
+      (na need p q k : ℕ) → na ≤ need → Falling a → ((f : Frame) (s : State) → pre f → On mid (a f s)) → From n pre bn br a tya na p q →
+      ((v : Value) → From n (mid v) (nums_left tya v) (refs_left tya v) (b v) ty need q k) → From n pre bn br (a >>= b) ty need p k
+  unfolding ◌>>=◌
+  then_from {n = n} {a = a} {tya = tya} {ty = ty} b mid na need p q k le falls post da db = record {
+    by = λ nums refs f s is room turns reach. da.by nums refs f s is (less_room w na need nums refs le room) turns
+        (comes_from n need q k nums refs tya ty mid b db room (a f s) (post f s is) (falls_le s.store.turns n (a f s) turns (falls f s)) reach);
+  }
+
+  -- what a loop by `for` needs, and where it stands: its turns begin here, and the step to the next is here
+  pub record Stands (n slot control ns need turn q : ℕ) (clause : Meaning) : Type 0 where
+    pub three : slot + 2 < (frame_in w.unit).nums
+    pub own : control < (frame_in w.unit).nums
+    pub apart : slot + 2 < control
+    pub few : ns ≤ need
+    pub one : 1 ≤ need
+    pub get_at : IsAt (code_in w.unit) turn (instr.GetM slot)
+    pub set_at : IsAt (code_in w.unit) (turn + 5) (instr.SetM control)
+    pub does : Does w n [] [] clause types.Void ns (turn + 5 + 5) q
+    pub next_at : IsAt (code_in w.unit) q (instr.ForNext slot turn)
+    pub back : turn < q
+    pub keeps : Leaves slot clause
+    pub keeps_limit : Leaves (slot + 1) clause
+    pub keeps_step : Leaves (slot + 2) clause
+
+  module _ (n slot control ns need turn q : ℕ) (clause : Meaning) (limit step_by : ℤ) (h : Stands n slot control ns need turn q clause) where
+    abbrev loop : Counting
+    loop = record { slot = slot; control = Plain control; limit = limit; step = step_by }
+
+    abbrev At : ℤ → Frame → Type 0
+    At z f = Three slot z limit step_by f
+
+    -- from an instruction that takes a turn to the turns with this number, where so many may be left
+    abbrev Turns : ℕ → Type 0
+    Turns m = (z : ℤ) (before : Config) (i : Instr) (nums : List ℤ) (refs : List Value) (f : Frame) (events : List Event) (turns : ℕ) →
+        IsAt (code_in before.unit) before.at i →
+        act i before ≡ turn_to (spent (record { turns = turns })) turn (place w (before.at + width_of i) nums refs f (record { turns = turns })) →
+        turns ≤ m → m ≤ n → At z f → Room w need nums refs →
+        Comes w (q + 9) nums refs types.Void (for_turns m loop clause z f (record { events = events; store = record { turns = turns } })) → w.Holds before events
+
+    -- the control has the number of the turn
+    control_does : (m : ℕ) (z : ℤ) → From m (At z) [] [] (set (Plain control) types.Int (Num z)) types.Void 1 turn (turn + 5 + 5)
+    unfolding set
+    control_does m z = record {
+      by = λ nums refs f s is room turns reach. quiet w (instr.GetM slot) h.get_at
+          (if_lt slot (frame_in w.unit).nums _ _ (let t = h.three in omega arith) ∙ push_goes w (turn + 5) (word_of (f.nums slot)) nums refs f s.store room)
+          (subst (λ (x : ℤ). w.Holds (place w (turn + 5) (x ∷ nums) refs f s.store) s.events) (sym is.control_is)
+          (set_goes w (turn + 5) control (Num z) nums refs f s h.own h.set_at reach));
+    }
+
+    control_post : (z : ℤ) (f : Frame) (s : State) → At z f → On (λ v g. At z g) (set (Plain control) types.Int (Num z) f s)
+    unfolding set
+    control_post z f s is = let a = h.apart in record {
+      control_is = ap word_of (other_local f.nums control slot (Num z) (λ e. omega arith)) ∙ is.control_is;
+      limit_is = ap word_of (other_local f.nums control (slot + 1) (Num z) (λ e. omega arith)) ∙ is.limit_is;
+      step_is = ap word_of (other_local f.nums control (slot + 2) (Num z) (λ e. omega arith)) ∙ is.step_is;
+    }
+
+    counted_is : (z : ℤ) (nums : List ℤ) (refs : List Value) (f : Frame) (store : Store) → At z f →
+        act (instr.ForNext slot turn) (place w q nums refs f store) ≡ counted q slot turn limit step_by (z +ℤ step_by) (place w (q + 9) nums refs f store)
+    counted_is z nums refs f store is =
+        let c = place w (q + 9) nums refs f store in
+        if_lt (slot + 2) (frame_in w.unit).nums _ _ h.three
+        ∙ ap (λ (x : ℤ). counted q slot turn x (word_of (f.nums (slot + 2))) (word_of (f.nums slot) +ℤ word_of (f.nums (slot + 2))) c) is.limit_is
+        ∙ ap (λ (x : ℤ). counted q slot turn limit x (word_of (f.nums slot) +ℤ x) c) is.step_is
+        ∙ ap (λ (x : ℤ). counted q slot turn limit step_by (x +ℤ step_by) c) is.control_is
+
+    next_does : (m : ℕ) (z : ℤ) → m ≤ n → Turns m → (b : Bool) → goes_on limit step_by (z +ℤ step_by) ≡ b →
+        From m (At z) [] [] (choose b (set (Plain slot) types.Int (Num (z +ℤ step_by)) >>= λ u. for_turns m loop clause (z +ℤ step_by)) (give Nothing))
+        types.Void need q (q + 9)
+    unfolding choose ◌>>=◌ set after give
+    next_does m z le rest true on_it = record {
+      by = λ nums refs f s is room turns reach.
+          let z' = z +ℤ step_by in
+          let g : Frame = record f { nums = with_local f.nums slot (Num z') } in
+          let acts = counted_is z nums refs f s.store is ∙ if_true (goes_on limit step_by z') _ _ on_it ∙ if_lt turn q _ _ h.back
+          ∙ ap (λ (row : ℕ → ℤ). turn_to (spent s.store) turn (with_words w (q + 9) nums refs row f s.store)) (sym (words_set f.nums slot (Num z'))) in
+          let now : At z' g = record {
+            control_is = ap word_of (same_local f.nums slot (Num z'));
+            limit_is = ap word_of (other_local f.nums slot (slot + 1) (Num z') (λ e. omega arith)) ∙ is.limit_is;
+            step_is = ap word_of (other_local f.nums slot (slot + 2) (Num z') (λ e. omega arith)) ∙ is.step_is;
+          } in
+          rest z' (place w q nums refs f s.store) (instr.ForNext slot turn) nums refs g s.events s.store.turns h.next_at acts turns le now room reach;
+    }
+    next_does m z le rest false on_it = record {
+      by = λ nums refs f s is room turns reach. quiet w (instr.ForNext slot turn) h.next_at
+          (counted_is z nums refs f s.store is ∙ if_false (goes_on limit step_by (z +ℤ step_by)) _ _ on_it) reach;
+    }
+
+    -- a turn, and those behind it
+    turn_does : (m : ℕ) (z : ℤ) → m ≤ n → Turns m → From m (At z) [] [] (set (Plain control) types.Int (Num z) >>= λ u. clause >>= λ v.
+        choose (goes_on limit step_by (z +ℤ step_by))
+        (set (Plain slot) types.Int (Num (z +ℤ step_by)) >>= λ u. for_turns m loop clause (z +ℤ step_by)) (give Nothing)) types.Void need turn (q + 9)
+    turn_does m z le rest =
+        let clause_does : From m (At z) [] [] clause types.Void ns (turn + 5 + 5) q
+        = record { by = λ nums refs f s is room turns reach. h.does.by nums refs f s room (omega arith) reach } in
+        then_from _ (λ v g. At z g) 1 need turn (turn + 5 + 5) (q + 9) h.one (falls_set (Plain control) types.Int (Num z)) (control_post z) (control_does m z)
+        (λ u. then_from _ (λ v g. At z g) ns need (turn + 5 + 5) q (q + 9) h.few h.does.falls
+        (λ f s is. three_on slot z limit step_by f (clause f s) is (h.keeps f s) (h.keeps_limit f s) (h.keeps_step f s)) clause_does
+        (λ v. next_does m z le rest (goes_on limit step_by (z +ℤ step_by)) refl))
+
+    turns_go : (m : ℕ) → Turns m
+    unfolding for_turns take_turn stop ◌>>=◌
+    turns_go zero z before i nums refs f events turns at acts few le is room reach =
+        let none_left : turns ≡ 0 = omega arith in
+        halt w i at (acts ∙ ap (λ (t : ℕ). turn_to (spent (record { turns = t })) turn (place w (before.at + width_of i) nums refs f (record { turns = turns })))
+        none_left) reach
+    turns_go (suc m) z before i nums refs f events turns at acts few le is room reach =
+        turn_goes w (q + 9) turn before i nums nums refs refs types.Void f events turns _ at acts
+        (λ s less reach'. (turn_does m z (omega arith) (turns_go m)).by nums refs f s is room (omega arith) reach') reach
+
+    -- the start of a loop
+    module _ (p : ℕ) (line : Line) (start_at : IsAt (code_in w.unit) p (instr.ForStart slot (q + 9) line)) (turn_is : p + 13 ≡ turn) where
+      started_is : (z : ℤ) (nums : List ℤ) (refs : List Value) (f : Frame) (store : Store) → At z f →
+          act (instr.ForStart slot (q + 9) line) (place w p nums refs f store) ≡ started p (q + 9) line z limit step_by (place w (p + 13) nums refs f store)
+      started_is z nums refs f store is =
+          let c = place w (p + 13) nums refs f store in
+          if_lt (slot + 2) (frame_in w.unit).nums _ _ h.three
+          ∙ ap (λ (x : ℤ). started p (q + 9) line x (word_of (f.nums (slot + 1))) (word_of (f.nums (slot + 2))) c) is.control_is
+          ∙ ap (λ (x : ℤ). started p (q + 9) line z x (word_of (f.nums (slot + 2))) c) is.limit_is
+          ∙ ap (λ (x : ℤ). started p (q + 9) line z limit x c) is.step_is
+
+      start_does : (z : ℤ) (zero_step goes : Bool) → is_same step_by (pos 0) ≡ zero_step → goes_on limit step_by z ≡ goes →
+          From n (At z) [] [] (choose zero_step (stop (Trapped Bounds line)) (choose goes (for_turns n loop clause z) (give Nothing))) types.Void need p (q + 9)
+      unfolding choose stop give
+      start_does z true goes is_zero on_it = record {
+        by = λ nums refs f s is room turns reach. halt w (instr.ForStart slot (q + 9) line) start_at
+            (started_is z nums refs f s.store is ∙ if_true (is_same step_by (pos 0)) _ _ is_zero) reach;
+      }
+      start_does z false true is_zero on_it = record {
+        by = λ nums refs f s is room turns reach.
+            let acts = started_is z nums refs f s.store is ∙ if_false (is_same step_by (pos 0)) _ _ is_zero ∙ if_true (goes_on limit step_by z) _ _ on_it
+            ∙ ap (λ (to : ℕ). turn_to (spent s.store) to (place w (p + 13) nums refs f s.store)) turn_is in
+            turns_go n z (place w p nums refs f s.store) (instr.ForStart slot (q + 9) line) nums refs f s.events s.store.turns start_at acts turns (omega arith) is room
+            reach;
+      }
+      start_does z false false is_zero on_it = record {
+        by = λ nums refs f s is room turns reach. jump_goes w p (q + 9) (place w (p + 13) nums refs f s.store) (instr.ForStart slot (q + 9) line) start_at
+            (started_is z nums refs f s.store is ∙ if_false (is_same step_by (pos 0)) _ _ is_zero ∙ if_false (goes_on limit step_by z) _ _ on_it)
+            (let b = h.back in omega arith) reach;
+      }
+
+      loop_does : (z : ℤ) → From n (At z) [] [] (for_loop n line loop clause z) types.Void need p (q + 9)
+      unfolding for_loop
+      loop_does z = start_does z (is_same step_by (pos 0)) (goes_on limit step_by z) refl refl
+
+  on_unit : (o : Outcome) → On (λ v g. Unit {0}) o
+  on_unit (Value_is v f s) = tt
+  on_unit (Ends e s) = tt
+
+  first_post : (slot : ℕ) (v : Value) (f : Frame) (s : State) → On (λ u g. Reads slot (word_of v) g) (set (Plain slot) types.Int v f s)
+  unfolding set
+  first_post slot v f s = ap word_of (same_local f.nums slot v)
+
+  second_post : (slot : ℕ) (z : ℤ) (v : Value) (f : Frame) (s : State) → Reads slot z f → On (λ u g. Two slot z (word_of v) g) (set (Plain (slot + 1)) types.Int v f s)
+  unfolding set
+  second_post slot z v f s is = record {
+    control_is = ap word_of (other_local f.nums (slot + 1) slot v (λ e. omega arith)) ∙ is;
+    limit_is = ap word_of (same_local f.nums (slot + 1) v);
+  }
+
+  third_post : (slot : ℕ) (z limit : ℤ) (v : Value) (f : Frame) (s : State) → Two slot z limit f →
+      On (λ u g. Three slot z limit (word_of v) g) (set (Plain (slot + 2)) types.Int v f s)
+  unfolding set
+  third_post slot z limit v f s is = record {
+    control_is = ap word_of (other_local f.nums (slot + 2) slot v (λ e. omega arith)) ∙ is.control_is;
+    limit_is = ap word_of (other_local f.nums (slot + 2) (slot + 1) v (λ e. omega arith)) ∙ is.limit_is;
+    step_is = ap word_of (same_local f.nums (slot + 2) v);
+  }
+
+  -- the start, the limit and the step, and then the loop
+  pub does_for : (n slot control ns need q na nb nc p pa pb pc : ℕ) (a b c clause : Meaning) (line : Line) → Stands n slot control ns need (pc + 5 + 13) q clause →
+      na ≤ need → nb ≤ need → nc ≤ need → Does w n [] [] a types.Int na p pa → IsAt (code_in w.unit) pa (instr.SetM slot) →
+      Does w n [] [] b types.Int nb (pa + 5) pb → IsAt (code_in w.unit) pb (instr.SetM (slot + 1)) →
+      Does w n [] [] c types.Int nc (pb + 5) pc → IsAt (code_in w.unit) pc (instr.SetM (slot + 2)) →
+      IsAt (code_in w.unit) (pc + 5) (instr.ForStart slot (q + 9) line) → Leaves slot b → Leaves slot c → Leaves (slot + 1) c →
+      Does w n [] [] (for_meant n line slot (Plain control) a b c clause) types.Void need p (q + 9)
+  unfolding for_meant
+  does_for n slot control ns need q na nb nc p pa pb pc a b c clause line h le_a le_b le_c da at_a db at_b dc at_c at_start keeps_b keeps_c keeps_limit =
+      let three = h.three in
+      let chain : From n (λ f. Unit {0}) [] [] (for_meant n line slot (Plain control) a b c clause) types.Void need p (q + 9)
+      = then_from _ (λ v g. Unit {0}) na need p pa (q + 9) le_a da.falls (λ f s is. on_unit (a f s)) (from_does _ da)
+      (λ first. then_from _ (λ u g. Reads slot (word_of first) g) 0 need pa (pa + 5) (q + 9) (omega arith) (falls_set (Plain slot) types.Int first)
+      (λ f s is. first_post slot first f s) (from_does _ (does_set w n pa slot first int (omega arith) at_a))
+      (λ u. then_from _ (λ v g. Reads slot (word_of first) g) nb need (pa + 5) pb (q + 9) le_b db.falls
+      (λ f s is. reads_on slot (word_of first) f (b f s) is (keeps_b f s)) (from_does _ db)
+      (λ limit. then_from _ (λ u g. Two slot (word_of first) (word_of limit) g) 0 need pb (pb + 5) (q + 9) (omega arith) (falls_set (Plain (slot + 1)) types.Int limit)
+      (λ f s is. second_post slot (word_of first) limit f s is) (from_does _ (does_set w n pb (slot + 1) limit int (omega arith) at_b))
+      (λ u. then_from _ (λ v g. Two slot (word_of first) (word_of limit) g) nc need (pb + 5) pc (q + 9) le_c dc.falls
+      (λ f s is. two_on slot (word_of first) (word_of limit) f (c f s) is (keeps_c f s) (keeps_limit f s)) (from_does _ dc)
+      (λ by_step. then_from _ (λ u g. Three slot (word_of first) (word_of limit) (word_of by_step) g) 0 need pc (pc + 5) (q + 9) (omega arith)
+      (falls_set (Plain (slot + 2)) types.Int by_step) (λ f s is. third_post slot (word_of first) (word_of limit) by_step f s is)
+      (from_does _ (does_set w n pc (slot + 2) by_step int (omega arith) at_c))
+      (λ u. loop_does n slot control ns need (pc + 5 + 13) q clause (word_of limit) (word_of by_step) h (pc + 5) line at_start refl (word_of first))))))) in
+      record {
+        by = λ nums refs f s room turns reach. chain.by nums refs f s tt room turns reach;
+        falls = falls_for n line slot (Plain control) a b c clause da.falls db.falls dc.falls h.does.falls;
+      }

@@ -1,0 +1,7 @@
+mod Rows
+pub mod Spelled
+pub mod Putting
+pub mod Laws
+pub mod Chaining
+pub mod Making
+pub mod Widths

@@ -1,0 +1,5 @@
+pub mod Giving
+pub mod Choices
+pub mod Emission
+pub mod Units
+pub mod inside

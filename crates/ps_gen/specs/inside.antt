@@ -1,0 +1,4 @@
+pub mod Pieces
+pub mod Clauses
+pub mod Chains
+pub mod Steps

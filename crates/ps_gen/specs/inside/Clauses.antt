@@ -1,0 +1,202 @@
+-- The code of each form, made of pieces.
+use Rattle.std.specs.Prelude.{ℕ, ◌+◌, pos, Bool, true, false, List, [], ◌∷◌, Option, Some, None, if◌then◌else◌}
+use Rattle.ps_base.specs.TyView.{TyView, ty_view}
+use Rattle.ps_base.specs.TyView as types
+use Rattle.ps_base.specs.Instr.{width_of}
+use Rattle.ps_base.specs.CodeUnit.{ConstantView, text, literal}
+use Rattle.ps_base.specs.declared.line.Line.{Line}
+use Rattle.ps_base.specs.declared.operator.Relation.TheVariants.{Equal}
+use Rattle.ps_base.specs.declared.instr.Instr.{Instr}
+use Rattle.ps_base.specs.declared.instr.Instr.TheVariants as instr
+use Rattle.ps_program.specs.declared.place.Place.{Place}
+use Rattle.ps_program.specs.Node.{Param, Node, Nodes, none, more, Arms, no_arms, more_arms, arm, BodyNode, body}
+use Rattle.ps_program.specs.Node as node
+use Rattle.ps_program.specs.NodeView.{body_of}
+use Rattle.ps_type_text.specs.Texts.{type_text}
+use Rattle.ps_typing.specs.Locals.{taken_on, taken_in}
+use Rattle.ps_gen.specs.Giving.{type_of, element_of}
+use Rattle.ps_gen.specs.Choices as choice
+use Rattle.ps_gen.specs.Emission.{size, size_all, size_arms, size_labels, size_entered, size_left, count, count_all, count_arms, count_scope, entered, left, items_in, emit, emit_all, emit_arms, emit_labels}
+use Rattle.ps_gen.specs.Units.{constants, constants_of_all, constants_of_arms, scope_constants, unit_of, kept_at, size_kept_at, keeps, size_keeps}
+use Rattle.ps_typing.specs.Placing.{is_number}
+use Rattle.ps_gen.specs.declared.forward.Forward.{Forward}
+use Rattle.ps_gen.specs.declared.forward.Forward.TheVariants as forward
+use Rattle.ps_gen.specs.declared.naming.Naming.{Naming}
+use Rattle.ps_gen.specs.declared.naming.Naming.TheVariants as name
+use Rattle.ps_gen.specs.declared.known.Known.{Known}
+use Rattle.ps_gen.specs.declared.known.Known.TheVariants as known
+use Rattle.ps_gen.specs.inside.Pieces.{Piece, ◌▷◌, empty, one, takes, to_behind}
+
+abbrev pub taken_all : Bool → Nodes → ℕ
+taken_all stack none = 0
+taken_all stack (more first rest) = taken_in stack first + taken_all stack rest
+
+abbrev pub taken_arms : Bool → Arms → ℕ
+taken_arms stack no_arms = 0
+taken_arms stack (more_arms (arm labels a) rest) = taken_all stack labels + (taken_in stack a + taken_arms stack rest)
+
+-- the code of a clause, of clauses one after the other
+unfoldable pub clause : Node → Piece
+clause n = record { shape = record { ends = λ at. at + size n; names = λ k. k + count n; constants = constants n; nums = taken_in true n; refs = taken_in false n }; instrs = emit n }
+
+unfoldable pub clauses : Nodes → Piece
+clauses ns = record { shape = record { ends = λ at. at + size_all ns; names = λ k. k + count_all ns; constants = constants_of_all ns; nums = taken_all true ns; refs = taken_all false ns }; instrs = emit_all ns }
+
+-- of the labels of an arm that is chosen at this offset, and of the arms of a `case` that ends at this one
+unfoldable pub labels_of : TyView → Nodes → ℕ → Piece
+labels_of ty ns t = record { shape = record { ends = λ at. at + size_labels ns; names = λ k. k + count_all ns; constants = constants_of_all ns; nums = taken_all true ns; refs = taken_all false ns }; instrs = emit_labels ty t ns }
+
+unfoldable pub arms_of : TyView → Arms → ℕ → Piece
+arms_of ty ns t = record { shape = record { ends = λ at. at + size_arms ns; names = λ k. k + count_arms ns; constants = constants_of_arms ns; nums = taken_arms true ns; refs = taken_arms false ns }; instrs = emit_arms ty t ns }
+
+-- an instruction that names a constant
+unfoldable pub naming : (ℕ → Instr) → ConstantView → Piece
+naming f c = record { shape = record { ends = λ at. at + width_of (f 0); names = λ k. k + 1; constants = c ∷ []; nums = 0; refs = 0 }; instrs = λ at k. f k ∷ [] }
+
+unfoldable pub entering : Option (List ℕ) → Piece
+entering scope = record { shape = record { ends = λ at. at + size_entered scope; names = λ k. k + count_scope scope; constants = scope_constants scope; nums = 0; refs = 0 }; instrs = λ at k. entered scope k }
+
+unfoldable pub leaving : Option (List ℕ) → Piece
+leaving scope = record { shape = record { ends = λ at. at + size_left scope; names = λ k. k; constants = []; nums = 0; refs = 0 }; instrs = λ at k. left scope }
+
+abbrev pub taking : Place → TyView → Piece
+taking place ty = takes (taken_on true ty place) (taken_on false ty place)
+
+-- what depends on the offset at which it begins
+unfoldable pub from_begin : (ℕ → Piece) → Piece
+from_begin p = record { shape = (p 0).shape; instrs = λ at k. (p at).instrs at k }
+
+-- over a clause, to its end
+abbrev pub jump_of : Forward → ℕ → Instr
+jump_of forward.And t = instr.And t
+jump_of forward.Or t = instr.Or t
+jump_of forward.JumpFalse t = instr.JumpFalse t
+jump_of forward.Jump t = instr.Jump t
+
+abbrev pub jumping : Forward → Piece → Piece
+jumping jump p = to_behind (λ end. end) (λ t. one (jump_of jump t) ▷ p)
+
+abbrev pub named_by : Naming → ℕ → Instr
+named_by name.Text c = instr.Text c
+named_by name.Scope c = instr.Scope c
+named_by name.Is c = instr.Is c
+named_by name.Make c = instr.Make c
+named_by name.Closure c = instr.Closure c
+named_by (name.Field index ty line) c = choice.by_type (ty_view ty.now) (instr.FieldM c index line) (instr.FieldP c index line)
+named_by (name.SetField index ty line) c = choice.by_type (ty_view ty.now) (instr.SetFieldM c index line) (instr.SetFieldP c index line)
+named_by (name.Fill ty line) c = choice.by_type (element_of (ty_view ty.now)) (instr.FillM c line) (instr.FillP c line)
+named_by (name.List ty count line) c = choice.by_type (element_of (ty_view ty.now)) (instr.ListM c count line) (instr.ListP c count line)
+
+-- what stands first in a clause, where its code is that of a first clause and more
+abbrev pub first_part : Node → Option Node
+first_part (node.SetName place ty e) = Some e
+first_part (node.Let place ty e) = Some e
+first_part (node.And a b) = Some a
+first_part (node.Or a b) = Some a
+first_part (node.Not e) = Some e
+first_part (node.Neg e line) = Some e
+first_part (node.Plus e) = Some e
+first_part (node.Arith op a b line) = Some a
+first_part (node.Compare op ty a b) = Some a
+first_part (node.Is e class) = Some e
+first_part (node.Join a b line) = Some a
+first_part (node.Part a i n line) = Some a
+first_part (node.Field e class index ty line) = Some e
+first_part (node.SetField p class index ty e line) = Some p
+first_part (node.Element v i ty line) = Some v
+first_part (node.SetElement v i e ty line) = Some v
+first_part (node.Bound v upper) = Some v
+first_part (node.Call f args line) = Some f
+first_part _ = None
+
+-- the code behind the first part, which is of this type
+abbrev pub behind_of : TyView → Node → Piece
+behind_of before (node.SetName place ty e) = one (choice.set place ty)
+behind_of before (node.Let place ty e) = one (choice.set place ty) ▷ taking place ty
+behind_of before (node.And a b) = jumping forward.And (clause b)
+behind_of before (node.Or a b) = jumping forward.Or (clause b)
+behind_of before (node.Not e) = one instr.Not
+behind_of before (node.Neg e line) = one (instr.Neg line)
+behind_of before (node.Plus e) = empty
+behind_of before (node.Arith op a b line) = clause b ▷ one (choice.arith op line)
+behind_of before (node.Compare op ty a b) = clause b ▷ one (choice.compare op ty)
+behind_of before (node.Is e class) = naming instr.Is (text class)
+behind_of before (node.Join a b line) = clause b ▷ one (instr.Join line)
+behind_of before (node.Part a i n line) = clause i ▷ (clause n ▷ one (instr.Part line))
+behind_of before (node.Field e class index ty line) = naming (λ c. choice.by_type ty (instr.FieldM c index line) (instr.FieldP c index line)) (text class)
+behind_of before (node.SetField p class index ty e line) = clause e ▷ naming (λ c. choice.by_type ty (instr.SetFieldM c index line) (instr.SetFieldP c index line)) (text class)
+behind_of before (node.Element v i ty line) = clause i ▷ one (choice.by_type ty (instr.ElemM line) (instr.ElemP line))
+behind_of before (node.SetElement v i e ty line) = clause i ▷ (clause e ▷ one (choice.by_type ty (instr.SetElemM line) (instr.SetElemP line)))
+behind_of before (node.Bound v upper) = one (choice.bound upper)
+behind_of before (node.Call f args line) = clauses args ▷ one (instr.Call (choice.reference_arguments before) line)
+behind_of before _ = empty
+
+-- the code of a `for` behind its limits
+abbrev pub loop : ℕ → Option (List ℕ) → Place → Node → Line → Piece
+loop slot scope control s line =
+    from_begin (λ begin. to_behind (λ end. end) (λ t. one (instr.ForStart slot t line) ▷ (entering scope ▷ (one (instr.GetM slot) ▷ (one (choice.set control types.Int) ▷ (clause s ▷ (leaving scope ▷ one (instr.ForNext slot (begin + 13)))))))))
+
+-- the code of a scan behind its table and its procedure
+abbrev pub turns : Bool → ℕ → ℕ → Line → Piece
+turns string q s line =
+    from_begin (λ begin. to_behind (λ end. end) (λ t. one (choice.scan string q s t line) ▷ (one (instr.Call (if string then 2 else 1) line) ▷ one (instr.ScanMore s begin)))) ▷ one (instr.GetM s)
+
+abbrev pub zeros : ℕ → Piece
+zeros s = one (instr.Int (pos 0)) ▷ (one (instr.SetM s) ▷ (one (instr.Int (pos 0)) ▷ (one (instr.SetM (s + 1)) ▷ (one (instr.Int (pos 0)) ▷ one (instr.SetM (s + 2))))))
+
+-- the code of a clause that has no such first part
+abbrev pub made : Node → Piece
+made (node.Int v) = one (instr.Int v)
+made (node.Flag b) = one (choice.flag b)
+made (node.Text bytes) = naming instr.Text (text bytes)
+made node.Nil = one instr.Nil
+made (node.Name place ty) = one (choice.get place ty)
+made (node.Block scope items) = entering scope ▷ (clauses items ▷ leaving scope)
+made (node.IfDo c a) = clause c ▷ jumping forward.JumpFalse (clause a)
+made (node.IfElse c a b) = clause c ▷ (to_behind (λ end. end + 5) (λ t. one (instr.JumpFalse t) ▷ clause a) ▷ jumping forward.Jump (clause b))
+made (node.While c a) = from_begin (λ begin. jumping forward.Jump (clause a) ▷ (clause c ▷ one (instr.Again (begin + 5))))
+made (node.Repeat a c b) = from_begin (λ begin. jumping forward.Jump (clause b) ▷ (clause a ▷ (clause c ▷ one (instr.Again (begin + 5)))))
+made (node.For slot a b c scope control s line) =
+    takes 3 0 ▷ (taking control types.Int ▷ (clause a ▷ (one (instr.SetM slot) ▷ (clause b ▷ (one (instr.SetM (slot + 1)) ▷ (clause c ▷ (one (instr.SetM (slot + 2)) ▷ loop slot scope control s line)))))))
+made (node.Case e arms d ty) = clause e ▷ (to_behind (λ end. end + 1 + size d) (arms_of ty arms) ▷ (one (choice.by_type ty instr.DropM instr.DropP) ▷ clause d))
+made (node.Make class args) = clauses args ▷ naming instr.Make (text class)
+made (node.Fill l u e ty line) =
+    clause l ▷ (clause u ▷ (clause e ▷ naming (λ c. choice.by_type (element_of ty) (instr.FillM c line) (instr.FillP c line)) (text (type_text ty))))
+made (node.Elems l items ty line) =
+    clause l ▷ (clauses items ▷ naming (λ c. choice.by_type (element_of ty) (instr.ListM c (items_in items) line) (instr.ListP c (items_in items) line)) (text (type_text ty)))
+made (node.Proc of) = naming instr.Closure (literal (unit_of of))
+made (node.Lib code args line) = clauses args ▷ one (instr.Lib code line)
+made (node.Scan string a f q s line) =
+    takes 3 3 ▷ (clause a ▷ (one (instr.SetP q) ▷ (clause f ▷ (one (instr.SetP (q + 1)) ▷ (zeros s ▷ turns string q s line)))))
+made (node.Write e w wide ty line) = clause e ▷ (clause w ▷ one (choice.write ty wide line))
+made (node.Abort line) = one (instr.Abort line)
+made _ = empty
+
+-- a type as far as a call of its values asks for it
+abbrev pub called : TyView → TyView
+called (types.Proc params gives) = types.Proc params gives
+called _ = types.Void
+
+abbrev pub type_in : Known → TyView
+type_in known.Nothing = types.Void
+type_in (known.Type ty) = ty_view ty.now
+type_in (known.Literal it) = type_of (node.Proc (body_of it.now))
+
+-- a label of an arm that is chosen at this offset, and an arm of a `case` that ends at this one
+abbrev pub label_of : TyView → Node → ℕ → Piece
+label_of ty label t = one (choice.by_type ty instr.DupM instr.DupP) ▷ (clause label ▷ (one (choice.compare Equal ty) ▷ one (instr.JumpTrue t)))
+
+abbrev pub arm_of : TyView → Nodes → Node → ℕ → Piece
+arm_of ty labels a t =
+    to_behind (λ end. end + 5) (labels_of ty labels)
+    ▷ (to_behind (λ end. end + 5) (λ next. one (instr.Jump next) ▷ (one (choice.by_type ty instr.DropM instr.DropP) ▷ clause a)) ▷ one (instr.Jump t))
+
+-- what keeps the parameters, behind so many on each stack
+unfoldable pub keeping : List Param → ℕ → ℕ → Piece
+keeping params nums refs = record { shape = record { ends = λ at. at + size_keeps params; names = λ k. k; constants = []; nums = 0; refs = 0 }; instrs = λ at k. keeps params nums refs }
+
+abbrev pub keep_one : Param → ℕ → ℕ → Piece
+keep_one param nums refs = record {
+  shape = record { ends = λ at. at + size_kept_at param.place; names = λ k. k; constants = []; nums = 0; refs = 0 };
+  instrs = λ at k. if is_number param.ty then kept_at param.place (instr.GetM nums) (λ u i. instr.KeepM u i) else kept_at param.place (instr.GetP refs) (λ u i. instr.KeepP u i);
+}

@@ -1,0 +1,129 @@
+-- What a clause does: from the locals and the state that it finds to a value, or to the end of the run.
+use Rattle.std.specs.Prelude.{ℕ, zero, suc, ◌-◌, ◌^◌, ℤ, pos, negsuc, Bool, true, false, List, [], ◌∷◌, ◌++◌, length, replicate, nat_eq, nat_lt, Option, Some, None, if◌then◌else◌}
+use Rattle.ps_base.specs.TyView.{TyView}
+use Rattle.ps_base.specs.declared.line.Line.{Line}
+use Rattle.ps_base.specs.declared.trap.Trap.TheVariants.{TooLong}
+use Rattle.ps_program.specs.declared.place.Place.{Place}
+use Rattle.ps_program.specs.declared.place.Place.TheVariants.{Plain, Kept}
+use Rattle.ps_typing.specs.Placing.{is_number}
+use Rattle.ps_meaning.specs.Values.{Value, Num, Nothing}
+use Rattle.ps_meaning.specs.Operators.{Answer, Gives, Traps}
+use Rattle.ps_meaning.specs.Event.{End, Trapped, OutOfTurns, Event, Out, Turn}
+
+-- The locals of a body, ints and bools in one row and all else in the other, and the scope that a clause stands in.
+pub record Frame : Type 0 where
+  pub nums : ℕ → Value
+  pub refs : ℕ → Value
+  pub scope : Option ℕ
+
+-- what a run holds beside its locals: the turns that it may still take
+pub record Store : Type 0 where
+  pub turns : ℕ
+
+-- what a run has done so far, oldest first, and what it holds
+pub record State : Type 0 where
+  pub events : List Event
+  pub store : Store
+
+-- what a clause comes to: a value, or the end of the run
+pub data Outcome : Type 0 where
+  Value_is : (value : Value) (frame : Frame) (state : State) → Outcome
+  Ends : (end_of_run : End) (state : State) → Outcome
+
+abbrev pub Meaning : Type 0
+Meaning = Frame → State → Outcome
+
+unfoldable pub give : Value → Meaning
+give v frame state = Value_is v frame state
+
+unfoldable pub stop : End → Meaning
+stop e frame state = Ends e state
+
+unfoldable pub after : Outcome → (Value → Meaning) → Outcome
+after (Value_is v frame state) next = next v frame state
+after (Ends e state) next = Ends e state
+
+-- the first, and then the second with the value of the first
+infixr 10 ◌>>=◌
+unfoldable pub ◌>>=◌ : Meaning → (Value → Meaning) → Meaning
+◌>>=◌ first next frame state = after (first frame state) next
+
+unfoldable pub choose : Bool → Meaning → Meaning → Meaning
+choose true a b = a
+choose false a b = b
+
+-- the value of an operator, or its trap on this line
+unfoldable pub answer : Line → Answer → Meaning
+answer line (Gives z) = give (Num z)
+answer line (Traps trap) = stop (Trapped trap line)
+
+-- some bytes make an event, and none make none
+abbrev pub some_out : List ℕ → List Event
+some_out [] = []
+some_out (byte ∷ bytes) = Out (byte ∷ bytes) ∷ []
+
+abbrev pub told : State → List Event → State
+told state events = record state { events = state.events ++ events }
+
+unfoldable pub emit : List ℕ → Meaning
+emit bytes frame state = Value_is Nothing frame (told state (some_out bytes))
+
+-- The blanks before a text of so many bytes, right in so many places: none where the width is no greater.
+abbrev pub blanks_before : ℤ → ℕ → ℕ
+blanks_before (pos width) n = width - n
+blanks_before (negsuc width) n = 0
+
+-- a text right in its places, where a width says so
+abbrev pub in_places : Option ℤ → List ℕ → List ℕ
+in_places None text = text
+in_places (Some width) text = replicate (blanks_before width (length text)) 32 ++ text
+
+-- a width is at most as great as the longest text is long
+abbrev pub is_width : Option ℤ → Bool
+is_width None = true
+is_width (Some (pos width)) = nat_lt width (2 ^ 16)
+is_width (Some (negsuc width)) = true
+
+-- writes a text; the width is tested before anything is written
+unfoldable pub written : Line → Option ℤ → List ℕ → Meaning
+written line width text = if is_width width then emit (in_places width text) else stop (Trapped TooLong line)
+
+-- what is held after a turn more, where one is left
+abbrev pub without_turn : ℕ → Option Store
+without_turn zero = None
+without_turn (suc left) = Some (record { turns = left })
+
+abbrev pub spent : Store → Option Store
+spent store = without_turn store.turns
+
+abbrev pub turned : Option Store → Meaning
+turned None frame state = Ends OutOfTurns state
+turned (Some store) frame state = Value_is Nothing frame (record { events = state.events ++ Turn ∷ []; store = store })
+
+-- one turn of those that are left
+unfoldable pub take_turn : Meaning
+take_turn frame state = turned (spent state.store) frame state
+
+-- a row of locals in which this one has another value
+abbrev pub with_local : {A : Type 0} → (ℕ → A) → ℕ → A → ℕ → A
+with_local row slot v s = if nat_eq s slot then v else row s
+
+abbrev pub local_of : Frame → TyView → ℕ → Value
+local_of frame ty slot = if is_number ty then frame.nums slot else frame.refs slot
+
+abbrev pub frame_with : Frame → TyView → ℕ → Value → Frame
+frame_with frame ty slot v =
+    if is_number ty then record frame { nums = with_local frame.nums slot v } else record frame { refs = with_local frame.refs slot v }
+
+-- Forms that don't run yet have no meaning here. No program is run that has one.
+unfoldable pub unbuilt : Meaning
+unbuilt = give Nothing
+
+-- the value of the name at a place, which is of this type
+unfoldable pub get : Place → TyView → Meaning
+get (Plain slot) ty frame state = Value_is (local_of frame ty slot) frame state
+get (Kept up position) ty frame state = unbuilt frame state
+
+unfoldable pub set : Place → TyView → Value → Meaning
+set (Plain slot) ty v frame state = Value_is Nothing (frame_with frame ty slot v) state
+set (Kept up position) ty v frame state = unbuilt frame state

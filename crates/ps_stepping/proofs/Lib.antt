@@ -1,0 +1,5 @@
+pub mod Determined
+pub mod Following
+pub mod Paths
+mod Effects
+mod Rows

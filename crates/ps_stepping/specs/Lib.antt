@@ -1,0 +1,4 @@
+pub mod Config
+pub mod Machine
+pub mod Path
+pub mod Effects

@@ -1,0 +1,255 @@
+-- What the machine does with each instruction. It never leaves the code, a stack or the frame: where it would, it is stuck, and so it
+-- is where what it finds isn't what the instruction wants.
+use Rattle.std.specs.Prelude.{◌≡◌, ℕ, zero, suc, ◌+◌, ℤ, pos, ◌+ℤ◌, Bool, not, List, [], ◌∷◌, ◌++◌, length, nat_lt, Option, Some, None, if◌then◌else◌}
+use Rattle.std.specs.Fmt.{signed_decimal}
+use Rattle.ps_base.specs.CodeUnit.{ConstantView, text, literal}
+use Rattle.ps_base.specs.Instr.{width_of}
+use Rattle.ps_base.specs.declared.line.Line.{Line}
+use Rattle.ps_base.specs.declared.trap.Trap.TheVariants.{Bounds, Abort as Aborted, TooLong}
+use Rattle.ps_base.specs.declared.operator.Operator.TheVariants as operator
+use Rattle.ps_base.specs.declared.operator.Relation.TheVariants as relation
+use Rattle.ps_base.specs.declared.instr.Instr.{Instr}
+use Rattle.ps_base.specs.declared.instr.Instr.TheVariants.{Int, True, False, Text, Nil, GetM, GetP, SetM, SetP, KeptM, KeptP, KeepM, KeepP, Scope, Leave, Jump, JumpFalse, Again, And, Or, Not, Neg, Add, Sub, Mul, Div, Rem, EqM, NeM, LtM, LeM, GtM, GeM, EqP, NeP, EqT, NeT, LtT, LeT, GtT, GeT, Join, Part, Is, Make, FieldM, FieldP, SetFieldM, SetFieldP, FillM, FillP, ListM, ListP, ElemM, ElemP, SetElemM, SetElemP, Lwb, Upb, Closure, Call, Return, Lib, WriteI, WriteB, WriteT, Abort, ForStart, ForNext, ScanT, ScanI, ScanMore, DupM, DupP, DropM, DropP, JumpTrue}
+use Rattle.ps_meaning.specs.Operators.{Answer, Gives, Traps, is_same, neg_of, arith_of, relation_of}
+use Rattle.ps_meaning.specs.Event.{End, Done, Trapped, OutOfTurns, Event, Turn, Finish}
+use Rattle.ps_meaning.specs.Values.{Value, number_of, is_one, flag_text, bytes_of}
+use Rattle.ps_meaning.specs.Values as value
+use Rattle.ps_meaning.specs.Meaning.{Store, some_out, in_places, is_width, spent, with_local}
+use Rattle.ps_meaning.specs.Evaluation.{goes_on}
+use Rattle.ps_stepping.specs.Config.{frame_words, Caller, Config, code_in, constants_in, frame_in, constant_at, IsAt}
+
+-- what a step does: it goes on with these events, it ends the run, or there is none
+pub data Step : Type 0 where
+  Goes : (events : List Event) (next : Config) → Step
+  Stops : (end_of_run : End) → Step
+  Stuck : Step
+
+-- goes on quietly
+abbrev pub on : Config → Step
+on c = Goes [] c
+
+-- Pushing and popping, on each stack.
+abbrev pub put_num : ℤ → Config → Step
+put_num z c = on (record c { nums = z ∷ c.nums })
+
+abbrev pub push_num : ℤ → Config → Step
+push_num z c = if nat_lt ((frame_in c.unit).nums + length c.nums) frame_words then put_num z c else Stuck
+
+abbrev pub push_ref : Value → Config → Step
+push_ref v c = if nat_lt ((frame_in c.unit).refs + length c.refs) frame_words then on (record c { refs = v ∷ c.refs }) else Stuck
+
+abbrev pub pop_num_of : List ℤ → Config → (ℤ → Config → Step) → Step
+pop_num_of [] c next = Stuck
+pop_num_of (z ∷ nums) c next = next z (record c { nums = nums })
+
+abbrev pub pop_num : Config → (ℤ → Config → Step) → Step
+pop_num c next = pop_num_of c.nums c next
+
+abbrev pub pop_ref_of : List Value → Config → (Value → Config → Step) → Step
+pop_ref_of [] c next = Stuck
+pop_ref_of (v ∷ refs) c next = next v (record c { refs = refs })
+
+abbrev pub pop_ref : Config → (Value → Config → Step) → Step
+pop_ref c next = pop_ref_of c.refs c next
+
+-- the left operand stands below the right one
+abbrev pub pop_two : Config → (ℤ → ℤ → Config → Step) → Step
+pop_two c next = pop_num c (λ b d. pop_num d (λ a e. next a b e))
+
+-- Locals.
+abbrev pub is_num_slot : Config → ℕ → Bool
+is_num_slot c s = nat_lt s (frame_in c.unit).nums
+
+abbrev pub is_ref_slot : Config → ℕ → Bool
+is_ref_slot c s = nat_lt s (frame_in c.unit).refs
+
+abbrev pub with_num : Config → ℕ → ℤ → Config
+with_num c s z = record c { locals = record c.locals { nums = with_local c.locals.nums s z } }
+
+abbrev pub with_ref : Config → ℕ → Value → Config
+with_ref c s v = record c { locals = record c.locals { refs = with_local c.locals.refs s v } }
+
+-- Jumps: forward to a greater offset than that of the jump itself, and back to a smaller one, which takes a turn.
+abbrev pub forward : ℕ → ℕ → Config → Step
+forward own to c = if nat_lt own to then on (record c { at = to }) else Stuck
+
+abbrev pub turn_to : Option Store → ℕ → Config → Step
+turn_to None to c = Stops OutOfTurns
+turn_to (Some store) to c = Goes (Turn ∷ []) (record c { at = to; store = store })
+
+abbrev pub back : ℕ → ℕ → Config → Step
+back own to c = if nat_lt to own then turn_to (spent c.store) to c else Stuck
+
+-- the value of an operator, or its trap
+abbrev pub answered : Line → Answer → Config → Step
+answered line (Gives z) c = put_num z c
+answered line (Traps trap) c = Stops (Trapped trap line)
+
+abbrev pub one_num : Line → (ℤ → Answer) → Config → Step
+one_num line f c = pop_num c (λ a d. answered line (f a) d)
+
+abbrev pub two_nums : Line → (ℤ → ℤ → Answer) → Config → Step
+two_nums line f c = pop_two c (λ a b d. answered line (f a b) d)
+
+abbrev pub test : (ℤ → ℤ → Bool) → Config → Step
+test f c = pop_two c (λ a b d. put_num (number_of (f a b)) d)
+
+-- Writing.
+abbrev pub written : Line → Option ℤ → List ℕ → Config → Step
+written line width bytes c = if is_width width then Goes (some_out (in_places width bytes)) c else Stops (Trapped TooLong line)
+
+-- a width was pushed above the item, or none
+abbrev pub pop_width : ℕ → Config → (Option ℤ → Config → Step) → Step
+pop_width zero c next = next None c
+pop_width (suc zero) c next = pop_num c (λ z d. next (Some z) d)
+pop_width (suc (suc n)) c next = Stuck
+
+abbrev pub write_num : ℕ → Line → (ℤ → List ℕ) → Config → Step
+write_num w line show c = pop_width w c (λ width d. pop_num d (λ z e. written line width (show z) e))
+
+abbrev pub write_text : ℕ → Line → Config → Step
+write_text w line c = pop_width w c (λ width d. pop_ref d (λ v e. written line width (bytes_of v) e))
+
+-- a text constant is pushed
+abbrev pub push_text : Option ConstantView → Config → Step
+push_text (Some (text bytes)) c = push_ref (value.Text bytes) c
+push_text (Some (literal code)) c = Stuck
+push_text None c = Stuck
+
+-- Loops by `for`: the control, the limit and the step stand in three locals from this one on.
+abbrev pub started : ℕ → ℕ → Line → ℤ → ℤ → ℤ → Config → Step
+started own to line control limit step c =
+    if is_same step (pos 0) then Stops (Trapped Bounds line)
+    else (if goes_on limit step control then turn_to (spent c.store) c.at c else forward own to c)
+
+abbrev pub for_start : ℕ → ℕ → ℕ → Line → Config → Step
+for_start own s to line c =
+    if is_num_slot c (s + 2) then started own to line (c.locals.nums s) (c.locals.nums (s + 1)) (c.locals.nums (s + 2)) c else Stuck
+
+abbrev pub counted : ℕ → ℕ → ℕ → ℤ → ℤ → ℤ → Config → Step
+counted own s to limit step next c = if goes_on limit step next then back own to (with_num c s next) else on c
+
+abbrev pub for_next : ℕ → ℕ → ℕ → Config → Step
+for_next own s to c =
+    if is_num_slot c (s + 2) then counted own s to (c.locals.nums (s + 1)) (c.locals.nums (s + 2)) (c.locals.nums s +ℤ c.locals.nums (s + 2)) c else Stuck
+
+-- Coming back to a body that waits, with nothing, a number or a reference.
+abbrev pub resumed : Caller → List ℤ → List Value → List Caller → Store → Config
+resumed caller nums refs callers store = record {
+  unit = caller.unit;
+  at = caller.at;
+  nums = nums;
+  refs = refs;
+  locals = caller.locals;
+  scope = caller.scope;
+  callers = callers;
+  store = store;
+}
+
+abbrev pub come_back : List Caller → (Caller → List ℤ) → (Caller → List Value) → Config → Step
+come_back [] nums refs c = Stops Done
+come_back (caller ∷ callers) nums refs c = on (resumed caller (nums caller) (refs caller) callers c.store)
+
+abbrev pub returned : ℕ → Config → Step
+returned zero c = come_back c.callers (λ caller. caller.nums) (λ caller. caller.refs) c
+returned (suc zero) c = pop_num c (λ z d. come_back d.callers (λ caller. z ∷ caller.nums) (λ caller. caller.refs) d)
+returned (suc (suc zero)) c = pop_ref c (λ v d. come_back d.callers (λ caller. caller.nums) (λ caller. v ∷ caller.refs) d)
+returned (suc (suc (suc n))) c = Stuck
+
+-- What an instruction does whose own offset this is; the configuration stands behind it already. Instructions over objects, texts,
+-- procedures and scopes have no step yet.
+abbrev pub acts : Instr → ℕ → Config → Step
+acts (Int v) own c = push_num v c
+acts True own c = push_num (pos 1) c
+acts False own c = push_num (pos 0) c
+acts (Text k) own c = push_text (constant_at (constants_in c.unit) k) c
+acts Nil own c = Stuck
+acts (GetM s) own c = if is_num_slot c s then push_num (c.locals.nums s) c else Stuck
+acts (GetP s) own c = if is_ref_slot c s then push_ref (c.locals.refs s) c else Stuck
+acts (SetM s) own c = pop_num c (λ z d. if is_num_slot d s then on (with_num d s z) else Stuck)
+acts (SetP s) own c = pop_ref c (λ v d. if is_ref_slot d s then on (with_ref d s v) else Stuck)
+acts (KeptM u i) own c = Stuck
+acts (KeptP u i) own c = Stuck
+acts (KeepM u i) own c = Stuck
+acts (KeepP u i) own c = Stuck
+acts (Scope k) own c = Stuck
+acts Leave own c = Stuck
+acts (Jump t) own c = forward own t c
+acts (JumpFalse t) own c = pop_num c (λ z d. if is_one z then on d else forward own t d)
+acts (JumpTrue t) own c = pop_num c (λ z d. if is_one z then forward own t d else on d)
+acts (Again t) own c = pop_num c (λ z d. if is_one z then back own t d else on d)
+acts (And t) own c = pop_num c (λ z d. if is_one z then on d else forward own t c)
+acts (Or t) own c = pop_num c (λ z d. if is_one z then forward own t c else on d)
+acts Not own c = pop_num c (λ z d. put_num (number_of (not (is_one z))) d)
+acts (Neg line) own c = one_num line neg_of c
+acts (Add line) own c = two_nums line (arith_of operator.Add) c
+acts (Sub line) own c = two_nums line (arith_of operator.Sub) c
+acts (Mul line) own c = two_nums line (arith_of operator.Mul) c
+acts (Div line) own c = two_nums line (arith_of operator.Div) c
+acts (Rem line) own c = two_nums line (arith_of operator.Rem) c
+acts EqM own c = test (relation_of relation.Equal) c
+acts NeM own c = test (relation_of relation.NotEqual) c
+acts LtM own c = test (relation_of relation.Less) c
+acts LeM own c = test (relation_of relation.LessEqual) c
+acts GtM own c = test (relation_of relation.Greater) c
+acts GeM own c = test (relation_of relation.GreaterEqual) c
+acts EqP own c = Stuck
+acts NeP own c = Stuck
+acts EqT own c = Stuck
+acts NeT own c = Stuck
+acts LtT own c = Stuck
+acts LeT own c = Stuck
+acts GtT own c = Stuck
+acts GeT own c = Stuck
+acts (Join line) own c = Stuck
+acts (Part line) own c = Stuck
+acts (Is k) own c = Stuck
+acts (Make k) own c = Stuck
+acts (FieldM k i line) own c = Stuck
+acts (FieldP k i line) own c = Stuck
+acts (SetFieldM k i line) own c = Stuck
+acts (SetFieldP k i line) own c = Stuck
+acts (FillM k line) own c = Stuck
+acts (FillP k line) own c = Stuck
+acts (ListM k n line) own c = Stuck
+acts (ListP k n line) own c = Stuck
+acts (ElemM line) own c = Stuck
+acts (ElemP line) own c = Stuck
+acts (SetElemM line) own c = Stuck
+acts (SetElemP line) own c = Stuck
+acts Lwb own c = Stuck
+acts Upb own c = Stuck
+acts (Closure k) own c = Stuck
+acts (Call n line) own c = Stuck
+acts (Return k) own c = returned k c
+acts (Lib k line) own c = Stuck
+acts (WriteI w line) own c = write_num w line signed_decimal c
+acts (WriteB w line) own c = write_num w line (λ z. flag_text (is_one z)) c
+acts (WriteT w line) own c = write_text w line c
+acts (Abort line) own c = Stops (Trapped Aborted line)
+acts (ForStart s t line) own c = for_start own s t line c
+acts (ForNext s t) own c = for_next own s t c
+acts (ScanT q s t line) own c = Stuck
+acts (ScanI q s t line) own c = Stuck
+acts (ScanMore s t) own c = Stuck
+acts DupM own c = pop_num c (λ z d. push_num z c)
+acts DupP own c = pop_ref c (λ v d. push_ref v c)
+acts DropM own c = pop_num c (λ z d. on d)
+acts DropP own c = pop_ref c (λ v d. on d)
+
+-- behind an instruction
+abbrev pub behind : Instr → Config → Config
+behind i c = record c { at = c.at + width_of i }
+
+abbrev pub act : Instr → Config → Step
+act i c = acts i c.at (behind i c)
+
+-- The step of a configuration: that of the instruction that is spelled at its offset; where none is, it is stuck.
+pub data Steps (c : Config) : Step → Type 0 where
+  at_instruction : {i : Instr} → IsAt (code_in c.unit) c.at i → Steps c (act i c)
+  at_nothing : ((i : Instr) → IsAt (code_in c.unit) c.at i → ⊥) → Steps c Stuck
+
+-- A run that has had these events so far has all of these in the end.
+pub data Runs (total : List Event) : Config → List Event → Type 0 where
+  goes : {c next : Config} {so_far events : List Event} → Steps c (Goes events next) → Runs total next (so_far ++ events) → Runs total c so_far
+  stops : {c : Config} {so_far : List Event} {e : End} → Steps c (Stops e) → total ≡ so_far ++ Finish e ∷ [] → Runs total c so_far

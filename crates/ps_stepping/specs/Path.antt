@@ -1,0 +1,15 @@
+-- The way of a run: from one configuration to another, and from a configuration to the end.
+use Rattle.std.specs.Prelude.{List, [], ◌∷◌, ◌++◌}
+use Rattle.ps_meaning.specs.Event.{End, Event, Finish}
+use Rattle.ps_stepping.specs.Config.{Config}
+use Rattle.ps_stepping.specs.Machine.{Goes, Stops, Steps}
+
+-- some steps lead from the first configuration to the last, with these events
+pub data Reaches : Config → List Event → Config → Type 0 where
+  no_step : {c : Config} → Reaches c [] c
+  more : {c next last : Config} {events behind : List Event} → Steps c (Goes events next) → Reaches next behind last → Reaches c (events ++ behind) last
+
+-- some steps lead from the configuration to an end, with these events, of which the last is the end
+pub data Finishes : Config → List Event → Type 0 where
+  stops : {c : Config} {e : End} → Steps c (Stops e) → Finishes c (Finish e ∷ [])
+  goes : {c next : Config} {events behind : List Event} → Steps c (Goes events next) → Finishes next behind → Finishes c (events ++ behind)

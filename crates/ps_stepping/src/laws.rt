@@ -1,0 +1,32 @@
+ghost use Rattle.std.specs.Prelude.{◌≡◌, List, [], ◌∷◌, ◌++◌};
+ghost use Rattle.ps_base.specs.declared.instr.Instr.{Instr};
+ghost use Rattle.ps_meaning.specs.Event.{End, Event, Finish};
+ghost use Rattle.ps_stepping.specs.Config.{Config, code_in, IsAt};
+ghost use Rattle.ps_stepping.specs.Effects.{effect_of, HasEffect};
+ghost use Rattle.ps_stepping.specs.Machine.{Step, Goes, Stops, Stuck, act, Steps, Runs};
+ghost use Rattle.ps_stepping.specs.Path.{Reaches, Finishes};
+
+/// At an offset of the code there is one instruction at most, and a configuration has one step.
+pub fn step_is_unique()
+    ensures instruction { (c : Config) (i j : Instr) → IsAt (code_in c.unit) c.at i → IsAt (code_in c.unit) c.at j → i ≡ j }
+    ensures step { (c : Config) (s t : Step) → Steps c s → Steps c t → s ≡ t }
+{}
+
+/// From each configuration that a run comes to, the machine comes to an end: it is never stuck. The events from there on are the
+/// rest of the run's.
+pub fn rest_of_a_run()
+    ensures ends { (total : List Event) (c last : Config) (before : List Event) → Runs total c [] → Reaches c before last →
+        (behind : List Event) × Finishes last behind }
+    ensures rest { (total : List Event) (c last : Config) (before behind : List Event) → Runs total c [] → Reaches c before last →
+        Finishes last behind → total ≡ before ++ behind }
+    ensures end { (total : List Event) (c last : Config) (before : List Event) (e : End) → Runs total c [] → Reaches c before last →
+        Steps last (Stops e) → total ≡ before ++ Finish e ∷ [] }
+    ensures goes { (total : List Event) (c last : Config) (before : List Event) → Runs total c [] → Reaches c before last → Steps last Stuck → ⊥ }
+    ensures front { (total : List Event) (c last : Config) (before : List Event) → Runs total c [] → Reaches c before last →
+        (behind : List Event) × (total ≡ before ++ behind) }
+{}
+
+/// A step that goes on takes from the two stacks and leaves on them what the table says of its instruction (`docs/formats.md`).
+pub fn steps_have_their_effects()
+    ensures { (i : Instr) (c next : Config) (events : List Event) → act i c ≡ Goes events next → HasEffect (effect_of i) c next }
+{}

@@ -1,0 +1,6 @@
+//! The stepping machine: what each instruction of a unit does, over the values of the meaning.
+#![tactic(auto)]
+
+mod laws;
+
+pub use laws::{rest_of_a_run, step_is_unique, steps_have_their_effects};

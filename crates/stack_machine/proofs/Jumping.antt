@@ -1,0 +1,48 @@
+-- Steps that change the offset and the turns alone.
+use Rattle.std.proofs.Common.{◌≡◌, ℕ, suc, ◌<◌, ℤ, pos, Bool, true, false, List, [], ◌∷◌, refl, sym, ap, ◌∙◌}
+use Rattle.std.specs.Prelude.{if◌then◌else◌}
+use Rattle.std.proofs.lemmas.Bool.{lt-ltb}
+use Rattle.ps_base.specs.CodeUnit.{UnitView}
+use Rattle.ps_base.specs.declared.line.Line.{Line}
+use Rattle.ps_base.specs.declared.trap.Trap.TheVariants.{Bounds}
+use Rattle.ps_meaning.specs.Event.{Event, Turn, Trapped, outputs}
+use Rattle.ps_meaning.specs.Meaning.{Store, without_turn, spent}
+use Rattle.ps_meaning.specs.Operators.{is_same}
+use Rattle.ps_meaning.specs.Evaluation.{goes_on}
+use Rattle.ps_stepping.specs.Config.{Config}
+use Rattle.ps_stepping.specs.Machine.{Goes, Stops, Stuck, on, forward, turn_to, started}
+use Rattle.stack_machine.specs.Holding.{Stands}
+
+module _ (u : UnitView) (at : ℕ) (nums : List ℤ) (refs : List ℕ) (turns : ℕ) (c : Config) (h : Stands u at nums refs turns c) where
+  -- at another offset
+  pub stands_at : (to : ℕ) → Stands u to nums refs turns (record c { at = to })
+  stands_at to = record { unit_is = h.unit_is; at_is = refl; nums_are = h.nums_are; refs_are = h.refs_are; no_callers = h.no_callers; turns_are = h.turns_are }
+
+  pub goes_forward : (own to : ℕ) → own < to → (events : List Event) × (next : Config) × (forward own to c ≡ Goes events next) × (outputs events ≡ []) × Stands u to nums refs turns next
+  goes_forward own to before =
+      ([], record c { at = to }, ap (λ (b : Bool). if b then on (record c { at = to }) else Stuck) (lt-ltb own to before), refl, stands_at to)
+
+  -- a turn is taken
+  pub turns_to : (to left : ℕ) → turns ≡ suc left → (events : List Event) × (next : Config) × (turn_to (without_turn c.store.turns) to c ≡ Goes events next) × (outputs events ≡ []) × Stands u to nums refs left next
+  turns_to to left some =
+      let store : Store = record { turns = left } in (
+        Turn ∷ [],
+        record c { at = to; store = store },
+        ap (λ (n : ℕ). turn_to (without_turn n) to c) (h.turns_are ∙ some),
+        refl,
+        record { unit_is = h.unit_is; at_is = refl; nums_are = h.nums_are; refs_are = h.refs_are; no_callers = h.no_callers; turns_are = refl },
+      )
+
+-- a loop by `for` that begins
+pub starts_with_turn : (own to : ℕ) (line : Line) (control limit step : ℤ) (c : Config) (at : ℕ) → c.at ≡ at → is_same step (pos 0) ≡ false → goes_on limit step control ≡ true
+    → turn_to (spent c.store) at c ≡ started own to line control limit step c
+starts_with_turn own to line control limit step c at here moves goes =
+    ap (λ (n : ℕ). turn_to (spent c.store) n c) (sym here)
+    ∙ sym (ap (λ (b : Bool). if b then Stops (Trapped Bounds line) else (if goes_on limit step control then turn_to (spent c.store) c.at c else forward own to c)) moves
+    ∙ ap (λ (b : Bool). if b then turn_to (spent c.store) c.at c else forward own to c) goes)
+
+pub starts_past : (own to : ℕ) (line : Line) (control limit step : ℤ) (c : Config) → is_same step (pos 0) ≡ false → goes_on limit step control ≡ false
+    → forward own to c ≡ started own to line control limit step c
+starts_past own to line control limit step c moves goes =
+    sym (ap (λ (b : Bool). if b then Stops (Trapped Bounds line) else (if goes_on limit step control then turn_to (spent c.store) c.at c else forward own to c)) moves
+    ∙ ap (λ (b : Bool). if b then turn_to (spent c.store) c.at c else forward own to c) goes)

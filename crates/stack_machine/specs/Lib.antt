@@ -1,0 +1,5 @@
+pub mod Holding
+pub mod Stepped
+pub mod Loaded
+pub mod Ran
+pub mod inside

@@ -1,0 +1,4 @@
+pub mod Taking
+pub mod Acting
+pub mod Advancing
+pub mod Blanks

@@ -1,0 +1,13 @@
+//! Tests of the stack machine: units that are built by hand, good ones and hostile ones.
+#![tactic(auto)]
+
+#[cfg(test)]
+mod hostile;
+#[cfg(test)]
+mod loops;
+#[cfg(test)]
+mod rows;
+#[cfg(test)]
+mod values;
+#[cfg(test)]
+mod writes;

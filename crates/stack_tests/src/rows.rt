@@ -1,0 +1,156 @@
+//! Rows of tests: what a unit's code comes to, and all that it tells.
+
+use ps_base::bytes::Bytes;
+use ps_base::code_unit::{CodeUnit, Constant, Frame};
+use ps_base::instr::Instr;
+use ps_base::line::Line;
+use ps_base::list::List;
+use ps_code::encode::encode;
+use ps_port::MemoryHost;
+use stack_machine::RunEnd;
+use stack_machine::load::load;
+use stack_machine::run::{RunFault, run};
+use std::alloc::{AllocError, Global};
+use std::process::Abort;
+use std::test::Fail;
+
+/// The line of each instruction that has one.
+pub const LINE: Line = Line(7);
+
+/// Writes the int on top.
+pub const WRITE: Instr = Instr::WriteI { w: 0, line: LINE };
+
+/// Writes the bool on top.
+pub const WRITE_FLAG: Instr = Instr::WriteB { w: 0, line: LINE };
+
+/// Writes the text on top.
+pub const WRITE_TEXT: Instr = Instr::WriteT { w: 0, line: LINE };
+
+/// Ends the run.
+pub const END: Instr = Instr::Return { k: 0 };
+
+/// Ends the run by a trap: what a test must not come to.
+pub const ABORT: Instr = Instr::Abort { line: LINE };
+
+/// What is told of the trap of an abort.
+pub const ABORTED: &[u8] = b"trap 8 at line 7\n";
+
+/// What is told where no turn is left.
+pub const OUT: &[u8] = b"out of turns\n";
+
+/// The bytes that the host of a test has room for.
+const ROOM: u64 = 262_144;
+
+/// What a run came to.
+#[derive(Clone, Copy, PartialEq, Eq, Debug)]
+pub enum Came {
+    Done,
+    Trapped(u32),
+    OutOfTurns,
+    Damaged,
+    Output,
+}
+
+/// The instructions of a row, what they come to, and what they tell.
+pub type Row<'a> = (&'a [Instr], Came, &'a [u8]);
+
+/// A frame with so many numbers and references.
+pub fn frame(nums: u16, refs: u16) -> Frame {
+    Frame {
+        nums,
+        refs,
+        num_params: 0,
+        ref_params: 0,
+    }
+}
+
+/// The spellings of instructions, one after the other.
+pub fn spelled(alloc: Global, instrs: &[Instr]) -> Result<Vec<u8>, AllocError> {
+    let mut code = Vec::new(alloc);
+    for instr in instrs {
+        let mut buffer = [0; 17];
+        let width = encode(*instr, &mut buffer);
+        code.extend_from_slice(&buffer[..width.min(17)])?;
+    }
+    Ok(code)
+}
+
+// A text, the empty text and a unit.
+fn constants(alloc: Global) -> Result<List<Constant>, AllocError> {
+    let inner = CodeUnit {
+        code: Bytes::new(Vec::new(alloc)),
+        constants: List::new(Vec::new(alloc)),
+        frame: frame(0, 0),
+    };
+    let mut constants = Vec::new(alloc);
+    constants.push(Constant::Text(Bytes::new(Vec::from_slice(alloc, b"abc")?)))?;
+    constants.push(Constant::Text(Bytes::new(Vec::new(alloc))))?;
+    constants.push(Constant::of_unit(alloc, inner)?)?;
+    Ok(List::new(constants))
+}
+
+/// A unit of this code and frame, with the constants of the tests.
+pub fn unit_of(alloc: Global, code: &[u8], frame: Frame) -> Result<CodeUnit, AllocError> {
+    Ok(CodeUnit {
+        code: Bytes::new(Vec::from_slice(alloc, code)?),
+        constants: constants(alloc)?,
+        frame,
+    })
+}
+
+/// A host with room for what a test tells, whose calls of these numbers fail.
+pub fn host(alloc: Global, failing: &[u64]) -> Result<MemoryHost, AllocError> {
+    MemoryHost::new(alloc, b"", failing, u64::MAX, ROOM)
+}
+
+/// What a unit comes to by a host, in so many turns.
+pub fn outcome(
+    alloc: Global,
+    unit: &CodeUnit,
+    turns: u64,
+    host: &mut MemoryHost,
+) -> Result<Came, Fail> {
+    let Ok(mut machine) = load(alloc, unit, turns) else {
+        return Err("not loaded".into());
+    };
+    Ok(match run(&mut machine, host) {
+        Ok(RunEnd::Done) => Came::Done,
+        Ok(RunEnd::Trapped { trap, .. }) => Came::Trapped(trap as u32),
+        Ok(RunEnd::OutOfTurns) => Came::OutOfTurns,
+        Err(RunFault::Damaged) => Came::Damaged,
+        Err(RunFault::Output) => Came::Output,
+    })
+}
+
+/// Each code comes to what its row says, over this frame and in so many turns.
+pub fn assert_rows(
+    rt: &impl Abort,
+    alloc: Global,
+    frame: Frame,
+    turns: u64,
+    rows: &[Row<'_>],
+) -> Result<(), Fail> {
+    for (instrs, wanted, told) in rows {
+        let code = spelled(alloc, instrs)?;
+        assert_code(rt, alloc, &code, frame, turns, *wanted, told)?;
+    }
+    Ok(())
+}
+
+/// The code comes to this and tells this.
+pub fn assert_code(
+    rt: &impl Abort,
+    alloc: Global,
+    code: &[u8],
+    frame: Frame,
+    turns: u64,
+    wanted: Came,
+    told: &[u8],
+) -> Result<(), Fail> {
+    let unit = unit_of(alloc, code, frame)?;
+    let mut host = host(alloc, &[])?;
+    let came = outcome(alloc, &unit, turns, &mut host)?;
+    assert_eq!(rt; came, wanted);
+    assert_eq!(rt; host.told_bytes(), told);
+    Ok(())
+}
