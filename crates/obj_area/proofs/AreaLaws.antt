@@ -4,7 +4,7 @@ use Rattle.std.proofs.Math.Seq.{take-set-lt, take-append-add}
 use Rattle.std.proofs.lemmas.List.{drop-drop, take-take, take-append-drop, take_at, drop_at, take_all, take-append-le, drop-append-le, length-take-le, length-replicate, get_or-take, get_or-drop, get_or_append_left, get_or-set_same, get_or-set_other, length-set, take-set-le, drop-set-lt, drop-set-add, drop-take}
 use Rattle.std.specs.Int.{bytes_low_first}
 use Rattle.obj_area.specs.Words.{AreBytes, word_bytes, bytes_of, words_of, AreWords, AreBelow, overwritten}
-use Rattle.obj_area.specs.Area.{AreaView, IsArea, IsGivenOut, fresh_area, top_of, words_spanned, word_at, words_at, bytes_at, with_zeros, with_word, with_words, with_bytes}
+use Rattle.obj_area.specs.Area.{AreaView, IsArea, IsGivenOut, fresh_area, top_of, words_spanned, word_at, words_at, bytes_at, with_zeros, with_word, with_words, with_bytes, with_bytes_from}
 use Rattle.obj_area.proofs.WordLaws.{AreWords-words_of, bytes_of-nil, bytes_of-cons, length-bytes_of, length-words_of, words_of-bytes_of, bytes_of-words_of, bytes_of-append, overwritten-inside, words_of-take, words_of-drop}
 
 -- Words of a range.
@@ -162,13 +162,13 @@ AreBelow-set limit (x ∷ xs) zero v h l (suc k) = l (suc k)
 AreBelow-set limit (x ∷ xs) (suc i) v h l zero = l 0
 AreBelow-set limit (x ∷ xs) (suc i) v h l (suc k) = AreBelow-set limit xs i v h (λ j. l (suc j)) k
 
-AreBelow-take : (limit n : ℕ) (xs : List ℕ) → AreBelow limit xs → 0 < limit → AreBelow limit (take n xs)
+pub AreBelow-take : (limit n : ℕ) (xs : List ℕ) → AreBelow limit xs → 0 < limit → AreBelow limit (take n xs)
 AreBelow-take limit zero xs h l k = l
 AreBelow-take limit (suc n) [] h l k = l
 AreBelow-take limit (suc n) (x ∷ xs) h l zero = h 0
 AreBelow-take limit (suc n) (x ∷ xs) h l (suc k) = AreBelow-take limit n xs (λ j. h (suc j)) l k
 
-AreBelow-drop : (limit n : ℕ) (xs : List ℕ) → AreBelow limit xs → AreBelow limit (drop n xs)
+pub AreBelow-drop : (limit n : ℕ) (xs : List ℕ) → AreBelow limit xs → AreBelow limit (drop n xs)
 AreBelow-drop limit n xs h k = rw (get_or-drop n xs k 0) (h (n + k))
 
 AreBelow-zeros : (limit n : ℕ) → 0 < limit → AreBelow limit (replicate n 0)
@@ -176,7 +176,7 @@ AreBelow-zeros limit zero h k = h
 AreBelow-zeros limit (suc n) h zero = h
 AreBelow-zeros limit (suc n) h (suc k) = AreBelow-zeros limit n h k
 
-AreBelow-overwritten : (limit : ℕ) (xs : List ℕ) (place : ℕ) (ys : List ℕ) → 0 < limit → AreBelow limit xs → AreBelow limit ys → AreBelow limit (overwritten xs place ys)
+pub AreBelow-overwritten : (limit : ℕ) (xs : List ℕ) (place : ℕ) (ys : List ℕ) → 0 < limit → AreBelow limit xs → AreBelow limit ys → AreBelow limit (overwritten xs place ys)
 AreBelow-overwritten limit xs place ys h l m =
     let whole = take place xs ++ (ys ++ drop (length ys) (drop place xs)) in
     let parts : AreBelow limit whole = AreBelow-append limit (take place xs) (ys ++ drop (length ys) (drop place xs)) (AreBelow-take limit place xs l h) (AreBelow-append limit ys (drop (length ys) (drop place xs)) m (AreBelow-drop limit (length ys) (drop place xs) (AreBelow-drop limit place xs l))) in
@@ -239,6 +239,11 @@ pub top_of-with_bytes : (area : AreaView) (at : ℕ) (bytes : List ℕ) → top_
 top_of-with_bytes area at bytes =
     let old = bytes_of area.words in
     omega (arith, length-words_of (overwritten old (8 * (at - 1)) bytes), length-overwritten old (8 * (at - 1)) bytes, length-bytes_of area.words)
+
+pub top_of-with_bytes_from : (area : AreaView) (place : ℕ) (bytes : List ℕ) → top_of (with_bytes_from area place bytes) ≡ top_of area
+top_of-with_bytes_from area place bytes =
+    let old = bytes_of area.words in
+    omega (arith, length-words_of (overwritten old place bytes), length-overwritten old place bytes, length-bytes_of area.words)
 
 pub IsArea-with_bytes : (area : AreaView) (at : ℕ) (bytes : List ℕ) → IsArea area → AreBytes bytes → IsArea (with_bytes area at bytes)
 IsArea-with_bytes area at bytes h fit =

@@ -62,3 +62,15 @@ with_words area at values = record area { words = overwritten area.words (at - 1
 abbrev pub with_bytes : AreaView → ℕ → List ℕ → AreaView
 with_bytes area at bytes =
     record area { words = words_of (overwritten (bytes_of area.words) (8 * (at - 1)) bytes) }
+
+-- so many bytes from this one on, counted over all words
+abbrev pub bytes_from : AreaView → ℕ → ℕ → List ℕ
+bytes_from area place count = take count (drop place (bytes_of area.words))
+
+-- the area with these bytes from that one on
+abbrev pub with_bytes_from : AreaView → ℕ → List ℕ → AreaView
+with_bytes_from area place bytes = record area { words = words_of (overwritten (bytes_of area.words) place bytes) }
+
+-- the byte behind so many ones of the words from this one on
+abbrev pub byte_place : ℕ → ℕ → ℕ
+byte_place at skip = 8 * (at - 1) + skip

@@ -1,7 +1,7 @@
 ghost use Rattle.std.specs.Prelude.{◌≡◌, ◌+◌, ◌-◌, ◌*◌, ◌≤◌, ◌^◌, IfOk, SomeIff, MatchOption, length};
 ghost use Rattle.std.specs.Borrow.{sem};
 ghost use Rattle.obj_area.specs.Lending.{LendsBytes};
-ghost use Rattle.obj_area.specs.Area.{IsArea, IsGivenOut, fresh_area, top_of, word_at, words_at, bytes_at, words_spanned, with_zeros, with_word, with_words};
+ghost use Rattle.obj_area.specs.Area.{IsArea, IsGivenOut, fresh_area, top_of, word_at, words_at, bytes_at, words_spanned, with_zeros, with_word, with_words, bytes_from, byte_place, with_bytes_from};
 
 use crate::spelling;
 use std::alloc::{AllocError, Global};
@@ -135,5 +135,26 @@ impl Area {
         ensures len { length result.now ≡ len }
     {
         spelling::bytes_from_mut(&mut self.bytes, at as usize - 1, len as usize)
+    }
+
+    /// Writes `from` over the bytes of the words from `at` on, behind the first `skip` ones. All other bytes stay.
+    pub fn write_bytes(&mut self, at: u32, skip: u32, from: &[u8])
+        requires { IsGivenOut self.old at (words_spanned (skip + length from.now)) }
+        ensures { self.new ≡ with_bytes_from self.old (byte_place at skip) from.now }
+    {
+        let start = 8 * (at as usize - 1) + skip as usize;
+        spelling::write_bytes(&mut self.bytes, start, from);
+    }
+
+    /// Copies `len` bytes from behind the first `from_skip` ones of the words from `from` on to behind the first `to_skip` ones of those from
+    /// `to` on. The two may overlap.
+    pub fn copy_bytes(&mut self, from: u32, from_skip: u32, to: u32, to_skip: u32, len: u32)
+        requires from { IsGivenOut self.old from (words_spanned (from_skip + len)) }
+        requires to { IsGivenOut self.old to (words_spanned (to_skip + len)) }
+        ensures { self.new ≡ with_bytes_from self.old (byte_place to to_skip) (bytes_from self.old (byte_place from from_skip) len) }
+    {
+        let start = 8 * (from as usize - 1) + from_skip as usize;
+        let end = 8 * (to as usize - 1) + to_skip as usize;
+        spelling::copy_bytes(&mut self.bytes, start, len as usize, end);
     }
 }

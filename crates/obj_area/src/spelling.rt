@@ -82,3 +82,26 @@ pub fn bytes_from_mut<A: Allocator>(bytes: &mut Vec<u8, A>, index: usize, len: u
     let start = 8 * index;
     bytes.slice_mut(start..start + len)
 }
+
+/// Writes `from` over the bytes from `start` on.
+pub fn write_bytes(bytes: &mut [u8], start: usize, from: &[u8])
+    requires whole { AreWhole bytes.old }
+    requires within { start + length from.now ≤ length bytes.old }
+    ensures written { bytes.new ≡ overwritten bytes.old start from.now }
+    ensures spelled { bytes_of (words_of bytes.old) ≡ bytes.old }
+{
+    are_spelled(bytes);
+    bytes[start..start + from.len()].copy_from_slice(from);
+}
+
+/// Copies `len` bytes from those from `start` on over those from `to` on.
+pub fn copy_bytes(bytes: &mut [u8], start: usize, len: usize, to: usize)
+    requires whole { AreWhole bytes.old }
+    requires from { start + len ≤ length bytes.old }
+    requires to { to + len ≤ length bytes.old }
+    ensures written { bytes.new ≡ overwritten bytes.old to (take len (drop start bytes.old)) }
+    ensures spelled { bytes_of (words_of bytes.old) ≡ bytes.old }
+{
+    are_spelled(bytes);
+    bytes.copy_within(start..start + len, to);
+}

@@ -2,3 +2,5 @@ pub mod Kind
 pub mod Reference
 pub mod Header
 pub mod Objects
+pub mod Stored
+pub mod Storing

@@ -1,5 +1,5 @@
 ghost use Rattle.std.specs.Prelude.{◌≡◌, ◌+◌, ◌*◌, ◌^◌, Some, None, MatchResult, IfOk};
-ghost use Rattle.obj_layout.specs.Header.{HasFitLengths, header_fault, header_words, length_fault};
+ghost use Rattle.obj_layout.specs.Header.{HasFitFields, HasFitLengths, header_fault, header_words, length_fault};
 
 use crate::kind::Kind;
 
@@ -37,6 +37,7 @@ const GREATEST_OBJECT: u64 = 1 << 31;
 /// Reads a header.
 pub fn read_header(words: &[u64; 4]) -> Result<Header, LayoutFault>
     ensures read { IfOk result (λ header. header_words header ≡ words.now) }
+    ensures fields { IfOk result HasFitFields }
     ensures lengths { IfOk result HasFitLengths }
     ensures refused { MatchResult result (λ _. header_fault words.now ≡ None) (λ fault. header_fault words.now ≡ Some fault) }
 {

@@ -6,5 +6,6 @@ pub mod header;
 pub mod kind;
 mod laws;
 pub mod reference;
+pub mod vault;
 
 pub use laws::{header_has_one_contents, header_has_one_spelling, words_are_cut_once};

@@ -1,0 +1,4 @@
+//! Vaults in memory, for tests: one that tells what it holds, and one that tells nothing.
+#![tactic(auto)]
+
+pub mod silent;

@@ -1,0 +1,87 @@
+use obj_layout::vault::{Vault, VaultFault};
+
+/// A vault that tells nothing: it answers each object as damaged, has room for none, and can be told anything.
+#[derive(Drop)]
+pub struct SilentVault {
+    /// How many objects were asked for.
+    pub asked: u64,
+}
+
+impl Vault for SilentVault {
+    ghost use Rattle.std.proofs.Common.{arith};
+    ghost use Rattle.memory_vault.specs.Silent.{nothing_told};
+
+    ghost outside = { λ vault. nothing_told };
+
+    ghost alive = { λ vault. Unit {0} };
+
+    ghost used_words = { λ vault. 1 };
+
+    ghost most_words = { λ vault. 1 };
+
+    ghost directory_at = { λ vault. 0 };
+
+    fn length(&mut self, pid: u64) -> Result<u32, VaultFault> {
+        self.asked = self.asked.saturating_add(1);
+        Err(VaultFault::Damaged {
+            at: pid,
+            found: pid,
+            wanted: 1,
+        })
+    }
+
+    fn fetch(&mut self, pid: u64, into: &mut [u64]) -> Result<(), VaultFault> {
+        self.asked = self.asked.saturating_add(1);
+        Err(VaultFault::Damaged {
+            at: pid,
+            found: pid,
+            wanted: 1,
+        })
+    }
+
+    fn append(&mut self, words: &[u64]) -> Result<u64, VaultFault> {
+        Err(VaultFault::Full {
+            used: 1,
+            wanted: words.len() as u64,
+            capacity: 1,
+        })
+    }
+
+    fn overwrite(&mut self, pid: u64, words: &[u64]) -> Result<(), VaultFault> {
+        Err(VaultFault::Damaged {
+            at: pid,
+            found: pid,
+            wanted: 1,
+        })
+    }
+
+    fn settle(&mut self, directory: u64) -> Result<(), VaultFault> {
+        Ok(())
+    }
+
+    fn put(&mut self, bytes: &[u8]) -> Result<(), VaultFault> {
+        Ok(())
+    }
+
+    fn used(&self) -> u64 {
+        1
+    }
+
+    fn capacity(&self) -> u64 {
+        1
+    }
+
+    fn directory(&self) -> u64 {
+        0
+    }
+
+    fn is_alive(&self) -> bool {
+        true
+    }
+
+    ghost space = { λ vault space is. absurd is };
+
+    ghost one = { λ vault a b is other. absurd is };
+
+    ghost bounds = { λ vault. (omega arith, omega arith, omega arith) };
+}

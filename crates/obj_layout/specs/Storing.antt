@@ -1,0 +1,69 @@
+-- What each call of a store says of the outside.
+use Rattle.std.specs.Prelude.{◌≡◌, ◌≢◌, ◌⊎◌, ℕ, ◌+◌, ◌/◌, ◌≤◌, List, Option, Some, None, Result, Err, OnOk}
+use Rattle.ps_outside.specs.Outside.{Outside, Leaves, LeavesSame, SameContents, TellsNothing, TellsFront, ToldAll, Rose}
+use Rattle.obj_layout.specs.declared.vault.VaultFault.{VaultFault}
+use Rattle.obj_layout.specs.declared.vault.VaultFault.TheVariants.{Device, Output, Full, Damaged}
+use Rattle.obj_layout.specs.Stored.{Space, damage_at}
+
+-- A call that reads or stages: it tells nothing, leaves what a crash may leave, fails as the device only where that did, and takes at most
+-- so many device calls where it is answered.
+pub record IsStoreCall {T : Type 0} (old new : Outside Space) (most : ℕ) (result : Result T VaultFault) : Type 0 where
+  pub told : TellsNothing old new
+  pub images : LeavesSame old new
+  pub counts : old.device_faults ≤ new.device_faults
+  pub output : new.output_faults ≡ old.output_faults
+  pub cause : result ≡ Err Device → Rose old.device_faults new.device_faults
+  pub other : result ≢ Err Output
+  pub calls : OnOk result (new.device_calls ≤ old.device_calls + most)
+
+-- Whether the object of a PID is damaged: where the contents are told, exactly by the tests.
+pub record TestsObject {T : Type 0} (old : Outside Space) (pid : ℕ) (wanted : Option ℕ) (result : Result T VaultFault) : Type 0 where
+  pub sound : OnOk result ((space : Space) → old.contents space → damage_at space.words pid wanted ≡ None)
+  pub at_pid : (at found bound : ℕ) → result ≡ Err (Damaged at found bound) → at ≡ pid
+  pub damaged : (at found bound : ℕ) → result ≡ Err (Damaged at found bound) → (space : Space) → old.contents space →
+      damage_at space.words pid wanted ≡ Some (record { found = found; wanted = bound })
+
+-- no object is tested
+abbrev pub NeverDamaged : {T : Type 0} → Result T VaultFault → Type 0
+NeverDamaged result = (at found bound : ℕ) → result ≢ Err (Damaged at found bound)
+
+abbrev pub NeverFull : {T : Type 0} → Result T VaultFault → Type 0
+NeverFull result = (used wanted capacity : ℕ) → result ≢ Err (Full used wanted capacity)
+
+-- what is held afterwards is what was held, after a step
+pub record Becomes (old new : Outside Space) (step : Space → Space) : Type 0 where
+  pub told : (space : Space) → old.contents space → new.contents (step space)
+  pub no_other : (after : Space) → new.contents after → (before : Space) × old.contents before × (step before ≡ after)
+
+-- All that was staged is kept whole, or none of it: at each moment, and after an answer all of it.
+pub record Settles {T : Type 0} (old new : Outside Space) (most : ℕ) (step : Space → Space) (result : Result T VaultFault) : Type 0 where
+  pub told : TellsNothing old new
+  pub images : Leaves old new (λ space. old.images old.clock space ⊎ ((before : Space) × old.contents before × (step before ≡ space)))
+  pub durable : OnOk result ((space : Space) → new.images new.clock space → new.contents space)
+  pub counts : old.device_faults ≤ new.device_faults
+  pub output : new.output_faults ≡ old.output_faults
+  pub cause : result ≡ Err Device → Rose old.device_faults new.device_faults
+  pub other : result ≢ Err Output
+  pub calls : OnOk result (new.device_calls ≤ old.device_calls + most)
+
+-- Bytes are told: a front of them at each moment, and after an answer all of them.
+pub record Puts {T : Type 0} (old new : Outside Space) (bytes : List ℕ) (result : Result T VaultFault) : Type 0 where
+  pub told : TellsFront old new bytes
+  pub all : OnOk result (ToldAll old new bytes)
+  pub images : LeavesSame old new
+  pub contents : SameContents old new
+  pub counts : old.output_faults ≤ new.output_faults
+  pub device : new.device_faults ≡ old.device_faults
+  pub cause : result ≡ Err Output → Rose old.output_faults new.output_faults
+  pub other : result ≢ Err Device
+  pub calls : new.device_calls ≡ old.device_calls
+
+-- how many device calls an object of so many words may take, read and written; and a settling with so many used words
+abbrev pub reading : ℕ → ℕ
+reading words = words / 512 + 4
+
+abbrev pub writing : ℕ → ℕ
+writing words = words / 256 + 6
+
+abbrev pub settling : ℕ → ℕ
+settling used = (used + 524287) / 524288 + 6

@@ -1,0 +1,10 @@
+pub mod Objects
+pub mod Heap
+pub mod Kept
+pub mod View
+pub mod Joint
+pub mod Changes
+pub mod Text
+pub mod Touch
+pub mod Fetched
+pub mod inside

@@ -1,0 +1,108 @@
+//! An object that a vault gave, made ready to lie in the area.
+ghost use Rattle.std.specs.Prelude.{◌≡◌, ◌≢◌, ◌+◌, ◌*◌, ◌<◌, ◌≤◌, ◌^◌, ℕ, List, ◌++◌, drop, Err, IfOk, OnOk, length};
+ghost use Rattle.obj_area.specs.Words.{AreWords};
+ghost use Rattle.ps_outside.specs.Outside.{SameContents};
+ghost use Rattle.obj_layout.specs.Stored.{Holds, IsHeaded};
+ghost use Rattle.obj_layout.specs.Storing.{IsStoreCall, NeverFull, reading};
+ghost use Rattle.obj_layout.specs.Header.{HasFitLengths, header_words};
+ghost use Rattle.swizzle.specs.Fetched.{near_header, IsFar, IsFetched, IsStoredFault};
+ghost use Rattle.swizzle.specs.Objects.{words_before as before};
+
+use crate::texts::words_before;
+use obj_layout::header::{Header, read_header, write_header};
+use obj_layout::vault::{Vault, VaultFault};
+
+const TOP_BIT: u64 = 1 << 63;
+
+/// Fetches an object into the buffer, and gives it there the header that it has in the area. It is damaged where it has no number word,
+/// where the bytes of a text or of code don't fit behind its first number words, or where a reference is neither nil nor a PID.
+pub fn fetch_near<V: Vault>(
+    vault: &mut V,
+    pid: u64,
+    buffer: &mut [u64],
+) -> Result<Header, VaultFault>
+    requires alive { V.alive vault.old }
+    requires fits { (words : List ℕ) → Holds (V.outside vault.old) pid words → length words ≡ length buffer.old }
+    ensures near { IfOk result (λ header. IsFetched (Holds (V.outside vault.old)) pid buffer.new header) }
+    ensures call { IsStoreCall (V.outside vault.old) (V.outside vault.new) (reading (length buffer.old)) result }
+    ensures same { SameContents (V.outside vault.old) (V.outside vault.new) }
+    ensures fault { IsStoredFault pid result }
+    ensures numbers { (V.used_words vault.new ≡ V.used_words vault.old) × (V.directory_at vault.new ≡ V.directory_at vault.old) × (V.most_words vault.new ≡ V.most_words vault.old) }
+    ensures alive { OnOk result (V.alive vault.new) }
+{
+    if let Err(fault) = vault.fetch(pid, buffer) {
+        return Err(fault);
+    }
+    match far_header(buffer) {
+        Ok(header) => {
+            lay_header(buffer, pid, header);
+            Ok(header)
+        }
+        Err(unfit) => Err(VaultFault::Damaged {
+            at: pid,
+            found: unfit.found,
+            wanted: unfit.wanted,
+        }),
+    }
+}
+
+// What was tested and didn't hold.
+#[derive(Clone, Copy)]
+struct Unfit {
+    found: u64,
+    wanted: u64,
+}
+
+// The header of the object that these words are, where it may come into the area.
+fn far_header(words: &[u64]) -> Result<Header, Unfit>
+    requires { IsHeaded words.now }
+    ensures far { IfOk result (IsFar words.now) }
+    ensures words { AreWords words.now }
+{
+    let Ok(header) = read_header(&[words[0], words[1], words[2], words[3]]) else {
+        return Err(Unfit {
+            found: 0,
+            wanted: 1,
+        });
+    };
+    if header.nums == 0 || words.len() != 4 + header.refs as usize + header.nums as usize {
+        return Err(Unfit {
+            found: 0,
+            wanted: 1,
+        });
+    }
+    let first = 8 * words_before(header.kind) as u64 + header.bytes as u64;
+    if first > 8 * header.nums as u64 {
+        return Err(Unfit {
+            found: first,
+            wanted: 8 * header.nums as u64,
+        });
+    }
+    for slot in 0..header.refs as usize {
+        let word = words[4 + slot];
+        if word != 0 && word <= TOP_BIT {
+            return Err(Unfit {
+                found: word,
+                wanted: 0,
+            });
+        }
+    }
+    Ok(header)
+}
+
+// Writes the header that the object has in the area over its own.
+fn lay_header(buffer: &mut [u64], pid: u64, header: Header)
+    requires long { 4 ≤ length buffer.old }
+    requires lengths { HasFitLengths header }
+    ensures { buffer.new ≡ header_words (near_header pid header) ++ drop 4 buffer.old }
+{
+    let near = Header {
+        flags: 0,
+        pid,
+        chain: 0,
+        ..header
+    };
+    let mut words = [0; 4];
+    write_header(&near, &mut words);
+    buffer[..4].copy_from_slice(&words);
+}

@@ -1,0 +1,456 @@
+ghost use Rattle.std.specs.Prelude.{◌≡◌, ◌+◌, ◌^◌, ◌<◌, ◌≤◌, true, false, ℕ, Option, IfOk, IfErr, IfSome, OnOk, MatchResult, ◌++◌, Some, length, take, drop, vec_capacity};
+ghost use Rattle.obj_layout.specs.Header.{HasFitLengths};
+ghost use Rattle.obj_layout.specs.Reference.{IsReference};
+ghost use Rattle.swizzle.specs.Objects.{HasRoomForBytes};
+ghost use Rattle.swizzle.specs.Heap.{IsHeap, IsHeld, IsMade, IsFull, Stands, local_of, fresh_heap, top_of, header_at, ref_at, num_at, with_num, with_ref, with_mark, with_no_marks, blank, reference_to};
+ghost use Rattle.obj_layout.specs.Stored.{Holds};
+ghost use Rattle.swizzle.specs.Joint.{Joint, name_of};
+ghost use Rattle.swizzle.specs.Text.{HasBytes, text_at, with_text};
+ghost use Rattle.swizzle.specs.Changes.{Touched};
+ghost use Rattle.obj_area.specs.Area.{top_of as area_top};
+ghost use Rattle.swizzle.specs.Kept.{place_of};
+ghost use Rattle.swizzle.specs.Fetched.{IsLocal};
+ghost use Rattle.swizzle.specs.Touch.{Keeps, Denotes, IsNear, IsTouchCall, IsTouchFault};
+ghost use Rattle.swizzle.specs.inside.Clearing.{IsUnmarked, IsUnmarkedAll};
+
+use crate::fault::SwizzleFault;
+use crate::fetched::fetch_near;
+use crate::texts::{are_bytes, place_of_bytes};
+use obj_area::area::Area;
+use obj_layout::header::{Header, read_header, write_header};
+use obj_layout::kind::Kind;
+use obj_layout::reference::{Reference, reference_of, word_of};
+use obj_layout::vault::Vault;
+use std::alloc::{AllocError, Global};
+use std::marker::Model;
+
+/// The objects of the area. An object is named by the index of its first word.
+#[derive(Drop)]
+pub struct Swizzle {
+    area: Area,
+    // The objects whose flag bit 0 is set, each once, in the order in which they were marked.
+    assigned: Vec<u32>,
+    // The PIDs of the objects that have one, each with its object.
+    map: Vec<(u64, u32)>,
+    // Where an object is fetched to before it is laid into the area. Its words are taken as they are needed.
+    buffer: Vec<u64>,
+}
+
+impl Model for Swizzle {
+    ghost use Rattle.swizzle.specs.Heap.{Heap};
+    ghost use Rattle.swizzle.specs.View.{heap_of, IsKeptIn};
+
+    ghost Value = { Heap };
+
+    ghost view = { heap_of };
+
+    ghost invariant = { IsKeptIn };
+}
+
+const ASSIGNED: u64 = 1 << 8;
+
+impl Swizzle {
+    /// A law: what is so of every heap.
+    pub fn sound(&self)
+        ensures { IsHeap self.now }
+    {
+        let _size = self.area.size();
+    }
+
+    /// An empty area that can give out `words` words. No page of it is touched before it is used.
+    pub fn new(alloc: Global, words: u32) -> Result<Swizzle, AllocError>
+        requires low { 5 ≤ words }
+        requires high { words ≤ 2 ^ 25 }
+        ensures { IfOk result (λ sw. sw ≡ fresh_heap (words + 1)) }
+    {
+        let area = Area::new(alloc, words)?;
+        let assigned = Vec::with_capacity(alloc, words as usize / 5)?;
+        let map = Vec::with_capacity(alloc, words as usize / 5)?;
+        let buffer = Vec::with_capacity(alloc, words as usize)?;
+        Ok(Swizzle {
+            area,
+            assigned,
+            map,
+            buffer,
+        })
+    }
+
+    /// Forgets all objects, in no time that depends on their number.
+    pub fn reset(&mut self)
+        ensures { self.new ≡ fresh_heap self.old.size }
+    {
+        self.area.reset();
+        self.assigned.clear();
+        self.map.clear();
+    }
+
+    /// The index at which the next object begins.
+    pub fn top(&self) -> u32
+        ensures { result ≡ top_of self.now }
+    {
+        self.area.top()
+    }
+
+    /// One more than the words that the area has for objects.
+    pub fn size(&self) -> u32
+        ensures { result ≡ self.now.size }
+    {
+        self.area.size()
+    }
+
+    /// Makes an object: its references are nil and its numbers 0. AreaFull exactly where the top and its words are more than the size; then
+    /// the area stays.
+    pub fn make(
+        &mut self,
+        kind: Kind,
+        refs: u32,
+        nums: u32,
+        bytes: u32,
+    ) -> Result<u32, SwizzleFault>
+        requires home { 1 ≤ nums }
+        requires lengths { HasFitLengths (blank kind refs nums bytes).header }
+        requires bytes { HasRoomForBytes kind nums bytes }
+        ensures made { MatchResult result
+            (λ at. IsMade self.old self.new at (blank kind refs nums bytes))
+            (λ fault. IsFull self.old self.new (4 + refs + nums) fault) }
+        ensures stands { Stands self.old self.new }
+    {
+        let wanted = 4 + refs + nums;
+        let Some(at) = self.area.make(wanted) else {
+            return Err(SwizzleFault::AreaFull {
+                top: self.area.top(),
+                wanted,
+                size: self.area.size(),
+            });
+        };
+        let header = Header {
+            kind,
+            flags: 0,
+            refs,
+            nums,
+            bytes,
+            pid: 0,
+            chain: 0,
+        };
+        let mut words = [0; 4];
+        write_header(&header, &mut words);
+        self.area.write_words(at, &words);
+        Ok(at)
+    }
+
+    /// The header of the object.
+    #[inline]
+    pub fn header(&self, object: u32) -> Header
+        requires { IsHeld self.now object }
+        ensures value { result ≡ header_at self.now object }
+        ensures lengths { HasFitLengths result }
+    {
+        let words = [
+            self.area.word(object),
+            self.area.word(object + 1),
+            self.area.word(object + 2),
+            self.area.word(object + 3),
+        ];
+        match read_header(&words) {
+            Ok(header) => header,
+            Err(_) => unreachable!(),
+        }
+    }
+
+    // The place of the object's number words.
+    #[inline]
+    fn first_num(&self, object: u32) -> u32
+        requires { IsHeld self.now object }
+        ensures { result ≡ object + 4 + (header_at self.now object).refs }
+    {
+        let first = self.area.word(object);
+        object + 4 + (first >> 32) as u32
+    }
+
+    /// The number word at `index`.
+    #[inline]
+    pub fn num(&self, object: u32, index: u32) -> u64
+        requires held { IsHeld self.now object }
+        requires below { index < (header_at self.now object).nums }
+        ensures { result ≡ num_at self.now object index }
+    {
+        self.area.word(self.first_num(object) + index)
+    }
+
+    /// Writes the number word at `index`.
+    #[inline]
+    pub fn set_num(&mut self, object: u32, index: u32, value: u64)
+        requires held { IsHeld self.old object }
+        requires below { index < (header_at self.old object).nums }
+        ensures written { self.new ≡ with_num self.old object index value }
+        ensures stands { Stands self.old self.new }
+    {
+        let place = self.first_num(object) + index;
+        self.area.set_word(place, value);
+    }
+
+    /// The reference in a slot, as it stands. Nothing is fetched.
+    #[inline]
+    pub fn peek(&self, object: u32, slot: u32) -> Reference
+        requires held { IsHeld self.now object }
+        requires below { slot < (header_at self.now object).refs }
+        ensures value { result ≡ ref_at self.now object slot }
+        ensures fits { IsReference result }
+    {
+        match reference_of(self.area.word(object + 4 + slot)) {
+            Some(reference) => reference,
+            None => unreachable!(),
+        }
+    }
+
+    /// Makes a slot denote an object of the area, or none.
+    pub fn set_ref(&mut self, object: u32, slot: u32, to: Option<u32>)
+        requires held { IsHeld self.old object }
+        requires below { slot < (header_at self.old object).refs }
+        requires target { IfSome to (IsHeld self.old) }
+        ensures written { self.new ≡ with_ref self.old object slot (reference_to to) }
+        ensures stands { Stands self.old self.new }
+    {
+        self.area.set_word(object + 4 + slot, word_of(denoting(to)));
+    }
+
+    /// Makes the slot `to_slot` of `to` denote what the slot `from_slot` of `from` denotes. Nothing is fetched.
+    pub fn copy_ref(&mut self, from: u32, from_slot: u32, to: u32, to_slot: u32)
+        requires from_held { IsHeld self.old from }
+        requires from_below { from_slot < (header_at self.old from).refs }
+        requires to_held { IsHeld self.old to }
+        requires to_below { to_slot < (header_at self.old to).refs }
+        ensures written { self.new ≡ with_ref self.old to to_slot (ref_at self.old from from_slot) }
+        ensures stands { Stands self.old self.new }
+    {
+        let word = self.area.word(from + 4 + from_slot);
+        self.area.set_word(to + 4 + to_slot, word);
+    }
+
+    /// The bytes of a text or of code.
+    pub fn text(&self, object: u32) -> &[u8]
+        requires held { IsHeld self.now object }
+        requires kind { HasBytes (header_at self.now object).kind }
+        ensures value { result.now ≡ text_at self.now object }
+        ensures len { length result.now ≡ (header_at self.now object).bytes }
+    {
+        let header = self.header(object);
+        let _top = self.area.top();
+        let place = place_of_bytes(object, &header);
+        self.area.bytes(place, header.bytes)
+    }
+
+    /// Writes `from` over the bytes of a text or of code, behind the first `start` ones. All else of it stays.
+    pub fn write_text(&mut self, object: u32, start: u32, from: &[u8])
+        requires held { IsHeld self.old object }
+        requires kind { HasBytes (header_at self.old object).kind }
+        requires within { start + length from.now ≤ (header_at self.old object).bytes }
+        ensures written { self.new ≡ with_text self.old object start from.now }
+        ensures stands { Stands self.old self.new }
+    {
+        let header = self.header(object);
+        let _top = self.area.top();
+        are_bytes(from);
+        let place = place_of_bytes(object, &header);
+        self.area.write_bytes(place, start, from);
+    }
+
+    /// Copies `count` bytes of the text or code `from`, behind its first `from_start` ones, over those of `to`, behind its first `to_start`
+    /// ones.
+    pub fn copy_text(&mut self, from: u32, from_start: u32, to: u32, to_start: u32, count: u32)
+        requires from_held { IsHeld self.old from }
+        requires from_kind { HasBytes (header_at self.old from).kind }
+        requires from_within { from_start + count ≤ (header_at self.old from).bytes }
+        requires to_held { IsHeld self.old to }
+        requires to_kind { HasBytes (header_at self.old to).kind }
+        requires to_within { to_start + count ≤ (header_at self.old to).bytes }
+        ensures written { self.new ≡ with_text self.old to to_start (take count (drop from_start (text_at self.old from))) }
+        ensures stands { Stands self.old self.new }
+    {
+        let source = self.header(from);
+        let target = self.header(to);
+        let _top = self.area.top();
+        let place = place_of_bytes(from, &source);
+        let end = place_of_bytes(to, &target);
+        self.area
+            .copy_bytes(place, from_start, end, to_start, count);
+    }
+
+    // The object with this PID, where it is in the area.
+    fn find(&self, pid: u64) -> Option<u32>
+        requires { 1 ≤ pid }
+        ensures { result ≡ local_of self.now pid }
+    {
+        place(&self.map, pid)
+    }
+
+    /// The one object of the area with this PID. It is fetched where it isn't there.
+    pub fn touch_pid<V: Vault>(&mut self, vault: &mut V, pid: u64) -> Result<u32, SwizzleFault>
+        requires alive { V.alive vault.old }
+        requires low { 1 ≤ pid }
+        requires high { pid < 2 ^ 63 }
+        ensures place { IfOk result (IsLocal self.new pid) }
+        ensures keeps { OnOk result (Keeps self.old self.new) }
+        ensures joint { OnOk result (Touched (Joint self.old (Holds (V.outside vault.old))) (Joint self.new (Holds (V.outside vault.new))) (Reference.Pid pid)) }
+        ensures near { (at : ℕ) → local_of self.old pid ≡ Some at → (self.new ≡ self.old) × (vault.new ≡ vault.old) }
+        ensures call { IsTouchCall self.old self.new (V.outside vault.old) (V.outside vault.new) result }
+        ensures fault { IfErr result (IsTouchFault self.old (V.outside vault.old) (Reference.Pid pid)) }
+        ensures numbers { (V.used_words vault.new ≡ V.used_words vault.old) × (V.directory_at vault.new ≡ V.directory_at vault.old) × (V.most_words vault.new ≡ V.most_words vault.old) }
+        ensures alive { OnOk result (V.alive vault.new) }
+    {
+        if let Some(at) = self.find(pid) {
+            return Ok(at);
+        }
+        let count = match vault.length(pid) {
+            Ok(count) => count,
+            Err(fault) => return Err(SwizzleFault::Vault(fault)),
+        };
+        let top = self.area.top();
+        let size = self.area.size();
+        if count > size - top {
+            return Err(SwizzleFault::AreaFull {
+                top,
+                wanted: count,
+                size,
+            });
+        }
+        make_room(&mut self.buffer, count);
+        if let Err(fault) = fetch_near(vault, pid, &mut self.buffer) {
+            return Err(SwizzleFault::Vault(fault));
+        }
+        lay(&mut self.area, &self.buffer, count);
+        match self.map.push((pid, top)) {
+            Ok(()) => {}
+            Err(_) => unreachable!(),
+        }
+        Ok(top)
+    }
+
+    /// The object that a slot denotes, in the area; None exactly for nil. The slot is local afterwards.
+    pub fn touch_slot<V: Vault>(
+        &mut self,
+        vault: &mut V,
+        object: u32,
+        slot: u32,
+    ) -> Result<Option<u32>, SwizzleFault>
+        requires alive { V.alive vault.old }
+        requires held { IsHeld self.old object }
+        requires below { slot < (header_at self.old object).refs }
+        ensures target { IfOk result (λ to. Denotes self.new to (name_of self.old (ref_at self.old object slot))) }
+        ensures local { IfOk result (λ to. ref_at self.new object slot ≡ reference_to to) }
+        ensures keeps { OnOk result (Keeps self.old self.new) }
+        ensures joint { OnOk result (Touched (Joint self.old (Holds (V.outside vault.old))) (Joint self.new (Holds (V.outside vault.new))) (name_of self.old (ref_at self.old object slot))) }
+        ensures still { (to : Option ℕ) → ref_at self.old object slot ≡ reference_to to → (self.new ≡ self.old) × (vault.new ≡ vault.old) }
+        ensures near { IsNear self.old (name_of self.old (ref_at self.old object slot)) → (top_of self.new ≡ top_of self.old) × (vault.new ≡ vault.old) }
+        ensures call { IsTouchCall self.old self.new (V.outside vault.old) (V.outside vault.new) result }
+        ensures fault { IfErr result (IsTouchFault self.old (V.outside vault.old) (ref_at self.old object slot)) }
+        ensures numbers { (V.used_words vault.new ≡ V.used_words vault.old) × (V.directory_at vault.new ≡ V.directory_at vault.old) × (V.most_words vault.new ≡ V.most_words vault.old) }
+        ensures alive { OnOk result (V.alive vault.new) }
+    {
+        self.sound();
+        match self.peek(object, slot) {
+            Reference::Nil => Ok(None),
+            Reference::Local(at) => Ok(Some(at)),
+            Reference::Pid(pid) => match self.touch_pid(vault, pid) {
+                Ok(at) => {
+                    self.sound();
+                    self.set_ref(object, slot, Some(at));
+                    Ok(Some(at))
+                }
+                Err(fault) => Err(fault),
+            },
+        }
+    }
+
+    /// Notes the object as assigned, once.
+    pub fn mark(&mut self, object: u32)
+        requires { IsHeld self.old object }
+        ensures written { self.new ≡ with_mark self.old object }
+        ensures stands { Stands self.old self.new }
+    {
+        let first = self.area.word(object);
+        if first / ASSIGNED % 2 == 1 {
+            return;
+        }
+        self.area.set_word(object, first + ASSIGNED);
+        match self.assigned.push(object) {
+            Ok(()) => {}
+            Err(_) => unreachable!(),
+        }
+    }
+
+    /// The objects that were assigned, each once.
+    pub fn assigned(&self) -> &[u32]
+        ensures { result.now ≡ self.now.assigned }
+    {
+        &self.assigned
+    }
+
+    /// Notes no object as assigned any more, in time that depends on their number alone.
+    pub fn clear_assigned(&mut self)
+        ensures written { self.new ≡ with_no_marks self.old }
+        ensures stands { Stands self.old self.new }
+    {
+        while self.unmark_last() {}
+    }
+
+    // Takes the last object from the list of the assigned. False where there is none.
+    fn unmark_last(&mut self) -> bool
+        ensures one { result ≡ true → IsUnmarked self.old self.new }
+        ensures all { result ≡ false → IsUnmarkedAll self.old self.new }
+    {
+        let Some(object) = self.assigned.pop() else {
+            return false;
+        };
+        let first = self.area.word(object);
+        self.area.set_word(object, first - ASSIGNED);
+        true
+    }
+}
+
+// The reference to an object of the area, or to none.
+fn denoting(to: Option<u32>) -> Reference
+    ensures { result ≡ reference_to to }
+{
+    match to {
+        Some(at) => Reference::Local(at),
+        None => Reference::Nil,
+    }
+}
+
+// The place of the first pair with this PID.
+fn place(pairs: &[(u64, u32)], pid: u64) -> Option<u32>
+    ensures { result ≡ place_of pairs.now pid }
+{
+    for pair in pairs {
+        if pair.0 == pid {
+            return Some(pair.1);
+        }
+    }
+    None
+}
+
+// Makes the buffer so many words long, without memory.
+fn make_room(buffer: &mut Vec<u64>, count: u32)
+    requires { count ≤ vec_capacity buffer.old }
+    ensures long { length buffer.new.items ≡ count }
+    ensures capacity { vec_capacity buffer.old ≤ vec_capacity buffer.new }
+{
+    buffer.clear();
+    match buffer.resize(count as usize, 0) {
+        Ok(()) => {}
+        Err(_) => unreachable!(),
+    }
+}
+
+// Lays words behind those that are given out.
+fn lay(area: &mut Area, words: &[u64], count: u32)
+    requires long { length words.now ≡ count }
+    requires room { area_top area.old + count ≤ area.old.size }
+    ensures { area.new ≡ record area.old { words = area.old.words ++ words.now } }
+{
+    match area.make(count) {
+        Some(at) => area.write_words(at, words),
+        None => unreachable!(),
+    }
+}

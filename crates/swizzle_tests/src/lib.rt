@@ -1,0 +1,7 @@
+//! Objects of a small area, call by call.
+#![tactic(auto)]
+
+#[cfg(test)]
+mod objects;
+#[cfg(test)]
+mod texts;
