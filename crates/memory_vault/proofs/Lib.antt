@@ -1,0 +1,3 @@
+pub mod TestedLaws
+pub mod HeldLaws
+pub mod ToldLaws

@@ -1,1 +1,5 @@
 pub mod Silent
+pub mod Memory
+pub mod Kept
+pub mod Tested
+pub mod MemoryView

@@ -15,6 +15,9 @@ use Rattle.ps_typing.specs.WellTyped.{Some_is, Env, Free, IsLocal, IsAt, next_sl
 use Rattle.ps_typing.specs.WellTyped as typed
 use Rattle.ps_typing_laws.specs.Counted.{Each}
 use Rattle.ps_typing_laws.proofs.Tracked.{limit, Grows, tree_grows, LocalsBelow, locals_grow, declared, track, track_all, track_items, all_grows}
+use Rattle.ps_meaning.specs.Operators.{relation_of}
+use Rattle.ps_meaning.specs.Values.{Value, word_of}
+use Rattle.ps_meaning.specs.Evaluation.{compares}
 use Rattle.ps_meaning.specs.Built.{IsPlain, IsItem, IsBuilt, AreBuilt, AreArmsBuilt}
 use Rattle.ps_code_laws.proofs.Keeps.{Keeps, KeepClaim, keeps, keeps_each, Unnamed, each_left, each_right, locals_in_loop, declared_unnamed}
 
@@ -101,6 +104,11 @@ is_num : (ty : TyView) → is_number ty ≡ true → IsNum ty
 is_num types.Int is = int
 is_num types.Bool is = bool
 is_num other is = absurd cc
+
+-- of two numbers, the relation of their words is asked
+pub compares_words : {ty : TyView} → IsNum ty → (op : Relation) (v w : Value) → compares op ty v w ≡ relation_of op (word_of v) (word_of w)
+compares_words int op v w = refl
+compares_words bool op v w = refl
 
 is_shown : (ty : TyView) → is_writable ty ≡ true → IsShown ty
 is_shown types.Int is = number int

@@ -14,7 +14,7 @@ use Rattle.ps_program.specs.declared.place.Place.TheVariants.{Plain}
 use Rattle.ps_meaning.specs.Operators.{Answer, Gives, Traps}
 use Rattle.ps_meaning.specs.Event.{End, Trapped, Event, Turn, OutOfTurns}
 use Rattle.ps_meaning.specs.Values.{Value, Nothing, word_of, is_one, flag_of}
-use Rattle.ps_meaning.specs.Meaning.{Frame, Store, State, Outcome, Value_is, Ends, Meaning, give, stop, after, ◌>>=◌, choose, answer, some_out, emit, in_places, is_width, written, turned, spent, take_turn, with_local, get, set}
+use Rattle.ps_meaning.specs.Meaning.{Frame, Store, State, Outcome, Value_is, Ends, Meaning, give, stop, after, ◌>>=◌, choose, answer, some_out, emit, in_places, is_width, written, with_turns, turned, spent, take_turn, with_local, get, set}
 use Rattle.ps_meaning.specs.Evaluation.{while_turns}
 use Rattle.ps_stepping.specs.Config.{frame_words, Caller, Config, code_in, frame_in, IsAt}
 use Rattle.ps_stepping.specs.Machine.{Step, Goes, Stops, Stuck, on, push_num, push_ref, forward, back, turn_to, answered, act, Steps, at_instruction}
@@ -377,16 +377,15 @@ module _ (w : Way) where
   }
 
   -- an instruction that takes a turn and goes to a place, where one is left
-  pub turn_goes : (k to : ℕ) (before : Config) (i : Instr) (nums after_nums : List ℤ) (refs after_refs : List Value) (ty : TyView) (f : Frame) (events : List Event)
+  pub turn_goes : (k to : ℕ) (before : Config) (i : Instr) (nums after_nums : List ℤ) (refs after_refs : List Value) (ty : TyView) (f : Frame) (s : State)
       (turns : ℕ) (next : Value → Meaning) → IsAt (code_in before.unit) before.at i →
-      act i before ≡ turn_to (spent (record { turns = turns })) to (place (before.at + width_of i) nums refs f (record { turns = turns })) →
-      ((s : State) → s.store.turns < turns → Comes k after_nums after_refs ty (next Nothing f s) → w.Holds (place to nums refs f s.store) s.events) →
-      Comes k after_nums after_refs ty (after (turned (spent (record { turns = turns })) f (record { events = events; store = record { turns = turns } })) next) →
-      w.Holds before events
+      act i before ≡ turn_to (with_turns s.store turns) to (place (before.at + width_of i) nums refs f s.store) →
+      ((t : State) → t.store.turns < turns → Comes k after_nums after_refs ty (next Nothing f t) → w.Holds (place to nums refs f t.store) t.events) →
+      Comes k after_nums after_refs ty (after (turned (with_turns s.store turns) f s) next) → w.Holds before s.events
   unfolding after
-  turn_goes k to before i nums after_nums refs after_refs ty f events zero next at acts rest reach = halt i at acts reach
-  turn_goes k to before i nums after_nums refs after_refs ty f events (suc left) next at acts rest reach =
-      step i at acts (rest (record { events = events ++ Turn ∷ []; store = record { turns = left } }) (omega arith) reach)
+  turn_goes k to before i nums after_nums refs after_refs ty f s zero next at acts rest reach = halt i at acts reach
+  turn_goes k to before i nums after_nums refs after_refs ty f s (suc left) next at acts rest reach =
+      step i at acts (rest (record { events = s.events ++ Turn ∷ []; store = record (s.store) { turns = left } }) (omega arith) reach)
 
   -- the test of a loop: with a turn to the start of its clause, or on
   again_goes : (p to : ℕ) (v : Value) (nums : List ℤ) (refs : List Value) (f : Frame) (store : Store) → to < p → is_one (word_of v) ≡ true →
@@ -400,7 +399,7 @@ module _ (w : Way) where
     by = λ nums refs f s room turns reach.
         let none_left : s.store.turns ≡ 0 = omega arith in
         halt (instr.Again to) at (again_goes p to v nums refs f s.store lt is
-        ∙ ap (λ (t : ℕ). turn_to (spent (record { turns = t })) to (place (p + 5) nums refs f s.store)) none_left) reach;
+        ∙ ap (λ (t : ℕ). turn_to (with_turns s.store t) to (place (p + 5) nums refs f s.store)) none_left) reach;
     falls = λ f s. tt;
   }
   does_last need p to v lt at false is = record {
@@ -414,7 +413,7 @@ module _ (w : Way) where
   unfolding choose give take_turn ◌>>=◌
   does_again n need p to v next d lt at true is = record {
     by = λ nums refs f s room turns reach.
-        turn_goes (p + 5) to (place p (word_of v ∷ nums) refs f s.store) (instr.Again to) nums nums refs refs types.Void f s.events s.store.turns next at
+        turn_goes (p + 5) to (place p (word_of v ∷ nums) refs f s.store) (instr.Again to) nums nums refs refs types.Void f s s.store.turns next at
         (again_goes p to v nums refs f s.store lt is) (λ s' less. (d Nothing).by nums refs f s' room (omega arith)) reach;
     falls = falls_then take_turn next falls_turn (λ u. (d u).falls);
   }

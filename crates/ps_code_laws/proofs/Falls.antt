@@ -7,9 +7,11 @@ use Rattle.ps_base.specs.declared.line.Line.{Line}
 use Rattle.ps_program.specs.declared.place.Place.{Place}
 use Rattle.ps_program.specs.declared.place.Place.TheVariants.{Plain, Kept}
 use Rattle.ps_meaning.specs.Operators.{is_same}
-use Rattle.ps_meaning.specs.Event.{Event, End}
+use Rattle.ps_meaning.specs.Event.{End}
 use Rattle.ps_meaning.specs.Values.{Value, Num, Nothing, word_of}
-use Rattle.ps_meaning.specs.Meaning.{Frame, State, Outcome, Value_is, Ends, Meaning, give, stop, after, ◌>>=◌, choose, emit, in_places, is_width, written, turned, spent, take_turn, unbuilt, set}
+use Rattle.ps_meaning.specs.Texts.{Attempt, Yields, Fails}
+use Rattle.ps_meaning.specs.Objects.{Heap, Object}
+use Rattle.ps_meaning.specs.Meaning.{Frame, State, Outcome, Value_is, Ends, Meaning, give, stop, after, ◌>>=◌, choose, attempt, with_heap, put_heap, made, emit, in_places, is_width, written, with_turns, turned, take_turn, unbuilt, set}
 use Rattle.ps_meaning.specs.Evaluation.{Counting, goes_on, for_turns, for_loop, for_meant}
 
 abbrev pub Falls : ℕ → Outcome → Type 0
@@ -45,6 +47,23 @@ unfolding choose
 falls_choose true m n h k = h
 falls_choose false m n h k = k
 
+pub falls_attempt : {A : Type 0} (line : Line) (a : Attempt A) (next : A → Meaning) → ((v : A) → Falling (next v)) → Falling (attempt line a next)
+unfolding attempt
+falls_attempt line (Yields v) next h = h v
+falls_attempt line (Fails trap) next h = falls_stop _
+
+pub falls_with_heap : (next : Heap → Meaning) → ((heap : Heap) → Falling (next heap)) → Falling (with_heap next)
+unfolding with_heap
+falls_with_heap next h f s = h s.store.heap f s
+
+pub falls_put_heap : (heap : Heap) → Falling (put_heap heap)
+unfolding put_heap
+falls_put_heap heap f s = omega arith
+
+pub falls_made : (denoting : ℕ → Value) (object : Object) → Falling (made denoting object)
+unfolding made
+falls_made denoting object f s = omega arith
+
 falls_emit : (bytes : List ℕ) → Falling (emit bytes)
 unfolding emit
 falls_emit bytes f s = omega arith
@@ -57,14 +76,13 @@ pub falls_written : (line : Line) (width : Option ℤ) (bytes : List ℕ) → Fa
 unfolding written
 falls_written line width bytes = falls_either (is_width width) _ _ (falls_emit (in_places width bytes)) (falls_stop _)
 
-turned_falls : (f : Frame) (events : List Event) (turns : ℕ) →
-    Falls turns (turned (spent (record { turns = turns })) f (record { events = events; store = record { turns = turns } }))
-turned_falls f events zero = tt
-turned_falls f events (suc left) = omega arith
+turned_falls : (f : Frame) (s : State) (turns : ℕ) → Falls turns (turned (with_turns s.store turns) f s)
+turned_falls f s zero = tt
+turned_falls f s (suc left) = omega arith
 
 pub falls_turn : Falling take_turn
 unfolding take_turn
-falls_turn f s = turned_falls f s.events s.store.turns
+falls_turn f s = turned_falls f s s.store.turns
 
 falls_unbuilt : Falling unbuilt
 unfolding unbuilt give

@@ -1,7 +1,7 @@
 -- A clause leaves each local of the number stack alone that it can't name: one below the free slots, and not that of a name in scope.
 use Rattle.std.proofs.Common.{◌≡◌, ℕ, zero, suc, ◌+◌, ◌<◌, ℤ, pos, ◌+ℤ◌, Bool, true, false, List, [], ◌∷◌, ◌++◌, Option, Some, None, inl, inr, refl, sym, ap, ◌∙◌, subst, arith, ne_eqb}
 use Rattle.std.specs.Prelude.{nat_eq, if◌then◌else◌}
-use Rattle.ps_base.specs.TyView.{TyView}
+use Rattle.ps_base.specs.TyView.{TyView, TyViews}
 use Rattle.ps_base.specs.TyView as types
 use Rattle.ps_base.specs.declared.line.Line.{Line}
 use Rattle.ps_program.specs.declared.place.Place.{Place}
@@ -9,14 +9,16 @@ use Rattle.ps_program.specs.declared.place.Place.TheVariants.{Plain, Kept}
 use Rattle.ps_program.specs.Node.{Node, Nodes, none, more, Arms, no_arms, more_arms, arm, BodyNode}
 use Rattle.ps_program.specs.Node as node
 use Rattle.ps_typing.specs.Placing.{is_number}
-use Rattle.ps_typing.specs.WellTyped.{Some_is, Env, Free, IsLocal, Claim, ◌has◌, all_have, arms_have, behind_loop, Rule, Opens, Declares, IsTyped, AreTyped, AreItems}
+use Rattle.ps_typing.specs.WellTyped.{Some_is, Env, Free, IsLocal, Claim, ◌has◌, all_have, arms_have, behind_loop, Rule, Opens, Declares, IsTyped, AreTyped, AreItems, Arguments}
 use Rattle.ps_typing.specs.WellTyped as typed
 use Rattle.ps_typing_laws.specs.Counted.{Each}
 use Rattle.ps_typing_laws.proofs.Tracked.{Grows, tree_grows, LocalsBelow, locals_grow, declared, track, track_all, all_grows}
 use Rattle.ps_meaning.specs.Operators.{Answer, Gives, Traps, neg_of, arith_of, is_same}
-use Rattle.ps_meaning.specs.Values.{Value, Num, Flag, Text, Nothing, word_of, flag_of, shown}
-use Rattle.ps_meaning.specs.Meaning.{Frame, Store, State, Outcome, Value_is, Ends, Meaning, give, stop, after, ◌>>=◌, choose, answer, emit, in_places, is_width, written, turned, spent, take_turn, with_local, unbuilt, get, set}
-use Rattle.ps_meaning.specs.Evaluation.{Context, while_turns, Counting, goes_on, for_turns, for_loop, for_meant, is_equal, eval, eval_all, eval_arms, eval_labels}
+use Rattle.ps_meaning.specs.Values.{Value, Num, Flag, Text, Nil, Pointer, Vector, Nothing, word_of, flag_of, shown}
+use Rattle.ps_meaning.specs.Texts.{Attempt, Yields, Fails}
+use Rattle.ps_meaning.specs.Objects.{Heap, Object}
+use Rattle.ps_meaning.specs.Meaning.{Frame, Store, State, Outcome, Value_is, Ends, Meaning, give, stop, after, ◌>>=◌, choose, answer, attempt, with_heap, put_heap, made, emit, in_places, is_width, written, turned, spent, take_turn, with_local, unbuilt, get, set}
+use Rattle.ps_meaning.specs.Evaluation.{Context, while_turns, Counting, goes_on, for_turns, for_loop, for_meant, is_equal, make_meant, lib_meant, eval, eval_all, eval_each, eval_arms, eval_labels}
 
 -- the local has the value that it had
 abbrev pub Same : ℕ → Frame → Outcome → Type 0
@@ -64,6 +66,23 @@ leaves_answer : (x : ℕ) (line : Line) (a : Answer) → Leaves x (answer line a
 unfolding answer
 leaves_answer x line (Gives z) = leaves_give x (Num z)
 leaves_answer x line (Traps trap) = leaves_stop x _
+
+leaves_attempt : {A : Type 0} (x : ℕ) (line : Line) (a : Attempt A) (next : A → Meaning) → ((v : A) → Leaves x (next v)) → Leaves x (attempt line a next)
+unfolding attempt
+leaves_attempt x line (Yields v) next h = h v
+leaves_attempt x line (Fails trap) next h = leaves_stop x _
+
+leaves_with_heap : (x : ℕ) (next : Heap → Meaning) → ((heap : Heap) → Leaves x (next heap)) → Leaves x (with_heap next)
+unfolding with_heap
+leaves_with_heap x next h f s = h s.store.heap f s
+
+leaves_put_heap : (x : ℕ) (heap : Heap) → Leaves x (put_heap heap)
+unfolding put_heap
+leaves_put_heap x heap f s = refl
+
+leaves_made : (x : ℕ) (denoting : ℕ → Value) (object : Object) → Leaves x (made denoting object)
+unfolding made
+leaves_made x denoting object f s = refl
 
 leaves_emit : (x : ℕ) (bytes : List ℕ) → Leaves x (emit bytes)
 unfolding emit
@@ -152,6 +171,11 @@ leaves_for x n line slot control a b c clause below at_control ha hb hc h =
 abbrev pub KeepClaim : ℕ → Claim → Type 0
 KeepClaim x claim = Keeps x claim.clause
 
+-- and clauses whose types don't matter
+abbrev KeepAll : ℕ → Nodes → Type 0
+KeepAll x none = Unit {0}
+KeepAll x (more t ts) = Keeps x t × KeepAll x ts
+
 pub each_left : {A : Type 0} (P : A → Type 0) (xs ys : List A) → Each P (xs ++ ys) → Each P xs
 each_left P [] ys h = tt
 each_left P (x ∷ xs) ys h = (h.0, each_left P xs ys h.1)
@@ -160,20 +184,43 @@ pub each_right : {A : Type 0} (P : A → Type 0) (xs ys : List A) → Each P (xs
 each_right P [] ys h = h
 each_right P (x ∷ xs) ys h = each_right P xs ys h.1
 
-leaves_labels : (x : ℕ) (c : Context) (value : TyView) (v : Value) (labels : Nodes) → Each (KeepClaim x) (all_have value labels) → Leaves x (eval_labels c v labels)
+leaves_labels : (x : ℕ) (c : Context) (value : TyView) (v : Value) (labels : Nodes) → Each (KeepClaim x) (all_have value labels) →
+    Leaves x (eval_labels c value v labels)
 unfolding eval_labels
 leaves_labels x c value v none h = leaves_give x _
 leaves_labels x c value v (more label rest) h =
-    leaves_then x (eval c label) _ (h.0 c) (λ w. leaves_choose x (is_equal v w) _ _ (leaves_give x _) (leaves_labels x c value v rest h.1))
+    leaves_then x (eval c label) _ (h.0 c) (λ w. leaves_choose x (is_equal value v w) _ _ (leaves_give x _) (leaves_labels x c value v rest h.1))
 
 leaves_arms : (x : ℕ) (c : Context) (value ty : TyView) (v : Value) (arms : Arms) (d : Meaning) → Each (KeepClaim x) (arms_have value ty arms) → Leaves x d →
-    Leaves x (eval_arms c v arms d)
+    Leaves x (eval_arms c value v arms d)
 unfolding eval_arms
 leaves_arms x c value ty v no_arms d h k = k
 leaves_arms x c value ty v (more_arms (arm labels a) rest) d h k =
     let behind_labels = each_right (KeepClaim x) (all_have value labels) (a has ty ∷ arms_have value ty rest) h in
-    leaves_then x (eval_labels c v labels) _ (leaves_labels x c value v labels (each_left (KeepClaim x) (all_have value labels) (a has ty ∷ arms_have value ty rest) h))
+    leaves_then x (eval_labels c value v labels) _ (leaves_labels x c value v labels
+    (each_left (KeepClaim x) (all_have value labels) (a has ty ∷ arms_have value ty rest) h))
     (λ found. leaves_choose x (flag_of found) _ _ (behind_labels.0 c) (leaves_arms x c value ty v rest d behind_labels.1 k))
+
+-- clauses one after the other that each keep a local, and what goes on with their values
+leaves_each : (x : ℕ) (c : Context) (ts : Nodes) (next : List Value → Meaning) → KeepAll x ts → ((vs : List Value) → Leaves x (next vs)) →
+    Leaves x (eval_each c ts next)
+unfolding eval_each
+leaves_each x c none next h k = k []
+leaves_each x c (more t ts) next h k =
+    leaves_then x (eval c t) _ (h.0 c) (λ v. leaves_each x c ts (λ vs. next (v ∷ vs)) h.1 (λ vs. k (v ∷ vs)))
+
+keep_items : (x : ℕ) (ty : TyView) (ts : Nodes) → Each (KeepClaim x) (all_have ty ts) → KeepAll x ts
+keep_items x ty none h = tt
+keep_items x ty (more t ts) h = (h.0, keep_items x ty ts h.1)
+
+keep_arguments : (x : ℕ) {ts : Nodes} {tys : TyViews} {claims : List Claim} → Arguments ts tys claims → Each (KeepClaim x) claims → KeepAll x ts
+keep_arguments x typed.Arguments.no_more h = tt
+keep_arguments x (typed.Arguments.one_more rest) h = (h.0, keep_arguments x rest h.1)
+
+leaves_lib : (x code : ℕ) (vs : List Value) → Leaves x (lib_meant code vs)
+leaves_lib x code [] = leaves_unbuilt x
+leaves_lib x code (v ∷ vs) =
+    leaves_either x (nat_eq code 11) _ _ (leaves_give x _) (leaves_either x (nat_eq code 12) _ _ (leaves_give x _) (leaves_unbuilt x))
 
 keeps_by_rule : (x : ℕ) {t : Node} {claims : List Claim} {ty : TyView} → Rule t claims ty → Each (KeepClaim x) claims → Keeps x t
 unfolding eval
@@ -202,6 +249,36 @@ keeps_by_rule x (typed.compare {op = op} {t = t} {a = a} {b = b} is) h c =
 keeps_by_rule x (typed.write {e = e} {t = t} {line = line} is) h c = leaves_then x (eval c e) _ (h.0 c) (λ v. leaves_written x line None (shown t v))
 keeps_by_rule x (typed.write_wide {e = e} {w = w} {t = t} {line = line} is) h c =
     leaves_then x (eval c e) _ (h.0 c) (λ v. leaves_then x (eval c w) _ (h.1.0 c) (λ width. leaves_written x line (Some (word_of width)) (shown t v)))
+keeps_by_rule x typed.nil h c = leaves_give x Nil
+keeps_by_rule x typed.class h c = leaves_give x Nothing
+keeps_by_rule x (typed.is {e = e} of) h c = leaves_then x (eval c e) _ (h.0 c) (λ v. leaves_with_heap x _ (λ heap. leaves_give x _))
+keeps_by_rule x (typed.join {a = a} {b = b} {line = line}) h c =
+    leaves_then x (eval c a) _ (h.0 c) (λ v. leaves_then x (eval c b) _ (h.1.0 c) (λ w. leaves_attempt x line _ _ (λ bytes. leaves_give x (Text bytes))))
+keeps_by_rule x (typed.part {a = a} {i = i} {n = n} {line = line}) h c =
+    leaves_then x (eval c a) _ (h.0 c) (λ v. leaves_then x (eval c i) _ (h.1.0 c) (λ from. leaves_then x (eval c n) _ (h.1.1.0 c)
+    (λ count. leaves_attempt x line _ _ (λ bytes. leaves_give x (Text bytes)))))
+keeps_by_rule x (typed.make {class = class} {args = args} of are) h c =
+    leaves_each x c args (make_meant class) (keep_arguments x are h) (λ vs. leaves_made x Pointer _)
+keeps_by_rule x (typed.field {p = p} {class = class} {index = index} {line = line} of) h c =
+    leaves_then x (eval c p) _ (h.0 c) (λ o. leaves_with_heap x _ (λ heap. leaves_attempt x line _ give (λ v. leaves_give x v)))
+keeps_by_rule x (typed.set_field {p = p} {e = e} {line = line} of) h c =
+    leaves_then x (eval c p) _ (h.0 c) (λ o. leaves_then x (eval c e) _ (h.1.0 c)
+    (λ v. leaves_with_heap x _ (λ heap. leaves_attempt x line _ put_heap (λ new. leaves_put_heap x new))))
+keeps_by_rule x (typed.fill {l = l} {u = u} {e = e} {line = line} isnt) h c =
+    leaves_then x (eval c l) _ (h.0 c) (λ low. leaves_then x (eval c u) _ (h.1.0 c) (λ high. leaves_then x (eval c e) _ (h.1.1.0 c)
+    (λ v. leaves_attempt x line _ (made Vector) (λ object. leaves_made x Vector object))))
+keeps_by_rule x (typed.elems {l = l} {items = items} {t = t} {line = line}) h c =
+    leaves_then x (eval c l) _ (h.0 c) (λ low. leaves_each x c items _ (keep_items x t items h.1)
+    (λ vs. leaves_attempt x line _ (made Vector) (λ object. leaves_made x Vector object)))
+keeps_by_rule x (typed.element {v = v} {i = i} {line = line}) h c =
+    leaves_then x (eval c v) _ (h.0 c) (λ vector. leaves_then x (eval c i) _ (h.1.0 c)
+    (λ at. leaves_with_heap x _ (λ heap. leaves_attempt x line _ give (λ w. leaves_give x w))))
+keeps_by_rule x (typed.set_element {v = v} {i = i} {e = e} {line = line}) h c =
+    leaves_then x (eval c v) _ (h.0 c) (λ vector. leaves_then x (eval c i) _ (h.1.0 c) (λ at. leaves_then x (eval c e) _ (h.1.1.0 c)
+    (λ w. leaves_with_heap x _ (λ heap. leaves_attempt x line _ put_heap (λ new. leaves_put_heap x new)))))
+keeps_by_rule x (typed.bound {v = v} {upper = upper}) h c = leaves_then x (eval c v) _ (h.0 c) (λ vector. leaves_with_heap x _ (λ heap. leaves_give x _))
+keeps_by_rule x (typed.lib {code = code} {args = args} of are) h c =
+    leaves_each x c args (lib_meant code) (keep_arguments x are h) (λ vs. leaves_lib x code vs)
 keeps_by_rule x other h c = leaves_unbuilt x
 
 -- no name of a number in scope has this slot

@@ -10,9 +10,9 @@ use Rattle.ps_base.specs.declared.instr.Instr.{Instr}
 use Rattle.ps_base.specs.declared.instr.Instr.TheVariants as instr
 use Rattle.ps_program.specs.declared.place.Place.TheVariants.{Plain}
 use Rattle.ps_meaning.specs.Operators.{is_same}
-use Rattle.ps_meaning.specs.Event.{Event, Trapped}
+use Rattle.ps_meaning.specs.Event.{Trapped}
 use Rattle.ps_meaning.specs.Values.{Value, Num, Nothing, word_of}
-use Rattle.ps_meaning.specs.Meaning.{Frame, Store, State, Outcome, Value_is, Ends, Meaning, give, stop, after, ◌>>=◌, choose, spent, take_turn, with_local, set}
+use Rattle.ps_meaning.specs.Meaning.{Frame, Store, State, Outcome, Value_is, Ends, Meaning, give, stop, after, ◌>>=◌, choose, with_turns, spent, take_turn, with_local, set}
 use Rattle.ps_meaning.specs.Evaluation.{Counting, goes_on, for_turns, for_loop, for_meant}
 use Rattle.ps_stepping.specs.Config.{Config, code_in, frame_in, IsAt}
 use Rattle.ps_stepping.specs.Machine.{turn_to, started, counted, act}
@@ -109,11 +109,11 @@ module _ (w : Way) where
 
     -- from an instruction that takes a turn to the turns with this number, where so many may be left
     abbrev Turns : ℕ → Type 0
-    Turns m = (z : ℤ) (before : Config) (i : Instr) (nums : List ℤ) (refs : List Value) (f : Frame) (events : List Event) (turns : ℕ) →
+    Turns m = (z : ℤ) (before : Config) (i : Instr) (nums : List ℤ) (refs : List Value) (f : Frame) (s : State) →
         IsAt (code_in before.unit) before.at i →
-        act i before ≡ turn_to (spent (record { turns = turns })) turn (place w (before.at + width_of i) nums refs f (record { turns = turns })) →
-        turns ≤ m → m ≤ n → At z f → Room w need nums refs →
-        Comes w (q + 9) nums refs types.Void (for_turns m loop clause z f (record { events = events; store = record { turns = turns } })) → w.Holds before events
+        act i before ≡ turn_to (spent s.store) turn (place w (before.at + width_of i) nums refs f s.store) →
+        s.store.turns ≤ m → m ≤ n → At z f → Room w need nums refs →
+        Comes w (q + 9) nums refs types.Void (for_turns m loop clause z f s) → w.Holds before s.events
 
     -- the control has the number of the turn
     control_does : (m : ℕ) (z : ℤ) → From m (At z) [] [] (set (Plain control) types.Int (Num z)) types.Void 1 turn (turn + 5 + 5)
@@ -157,7 +157,7 @@ module _ (w : Way) where
             limit_is = ap word_of (other_local f.nums slot (slot + 1) (Num z') (λ e. omega arith)) ∙ is.limit_is;
             step_is = ap word_of (other_local f.nums slot (slot + 2) (Num z') (λ e. omega arith)) ∙ is.step_is;
           } in
-          rest z' (place w q nums refs f s.store) (instr.ForNext slot turn) nums refs g s.events s.store.turns h.next_at acts turns le now room reach;
+          rest z' (place w q nums refs f s.store) (instr.ForNext slot turn) nums refs g s h.next_at acts turns le now room reach;
     }
     next_does m z le rest false on_it = record {
       by = λ nums refs f s is room turns reach. quiet w (instr.ForNext slot turn) h.next_at
@@ -178,13 +178,12 @@ module _ (w : Way) where
 
     turns_go : (m : ℕ) → Turns m
     unfolding for_turns take_turn stop ◌>>=◌
-    turns_go zero z before i nums refs f events turns at acts few le is room reach =
-        let none_left : turns ≡ 0 = omega arith in
-        halt w i at (acts ∙ ap (λ (t : ℕ). turn_to (spent (record { turns = t })) turn (place w (before.at + width_of i) nums refs f (record { turns = turns })))
-        none_left) reach
-    turns_go (suc m) z before i nums refs f events turns at acts few le is room reach =
-        turn_goes w (q + 9) turn before i nums nums refs refs types.Void f events turns _ at acts
-        (λ s less reach'. (turn_does m z (omega arith) (turns_go m)).by nums refs f s is room (omega arith) reach') reach
+    turns_go zero z before i nums refs f s at acts few le is room reach =
+        let none_left : s.store.turns ≡ 0 = omega arith in
+        halt w i at (acts ∙ ap (λ (t : ℕ). turn_to (with_turns s.store t) turn (place w (before.at + width_of i) nums refs f s.store)) none_left) reach
+    turns_go (suc m) z before i nums refs f s at acts few le is room reach =
+        turn_goes w (q + 9) turn before i nums nums refs refs types.Void f s s.store.turns _ at acts
+        (λ t less reach'. (turn_does m z (omega arith) (turns_go m)).by nums refs f t is room (omega arith) reach') reach
 
     -- the start of a loop
     module _ (p : ℕ) (line : Line) (start_at : IsAt (code_in w.unit) p (instr.ForStart slot (q + 9) line)) (turn_is : p + 13 ≡ turn) where
@@ -208,8 +207,7 @@ module _ (w : Way) where
         by = λ nums refs f s is room turns reach.
             let acts = started_is z nums refs f s.store is ∙ if_false (is_same step_by (pos 0)) _ _ is_zero ∙ if_true (goes_on limit step_by z) _ _ on_it
             ∙ ap (λ (to : ℕ). turn_to (spent s.store) to (place w (p + 13) nums refs f s.store)) turn_is in
-            turns_go n z (place w p nums refs f s.store) (instr.ForStart slot (q + 9) line) nums refs f s.events s.store.turns start_at acts turns (omega arith) is room
-            reach;
+            turns_go n z (place w p nums refs f s.store) (instr.ForStart slot (q + 9) line) nums refs f s start_at acts turns (omega arith) is room reach;
       }
       start_does z false false is_zero on_it = record {
         by = λ nums refs f s is room turns reach. jump_goes w p (q + 9) (place w (p + 13) nums refs f s.store) (instr.ForStart slot (q + 9) line) start_at

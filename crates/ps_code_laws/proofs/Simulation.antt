@@ -23,7 +23,7 @@ use Rattle.ps_meaning.specs.Operators.{neg_of, arith_of, relation_of}
 use Rattle.ps_meaning.specs.Event.{Trapped}
 use Rattle.ps_meaning.specs.Values.{Value, Num, Flag, Text, Nothing, number_of, word_of, flag_of, bytes_of, shown}
 use Rattle.ps_meaning.specs.Meaning.{Frame, Store, Meaning, give, after, ◌>>=◌, choose, answer, written, set}
-use Rattle.ps_meaning.specs.Evaluation.{Context, eval, eval_all, eval_arms, eval_labels}
+use Rattle.ps_meaning.specs.Evaluation.{Context, compares, eval, eval_all, eval_arms, eval_labels}
 use Rattle.ps_gen.specs.Choices as choice
 use Rattle.ps_gen.specs.Emission.{size, size_all, size_arms, size_labels, count, count_all, count_arms, emit, emit_all, emit_arms, emit_labels}
 use Rattle.ps_gen.specs.Units.{constants, constants_of_all, constants_of_arms}
@@ -32,7 +32,7 @@ use Rattle.ps_stepping.specs.Config.{code_in, constants_in, frame_in, constant_a
 use Rattle.ps_stepping.specs.Machine.{on, answered, push_text, act}
 use Rattle.ps_code_laws.specs.Meets.{nums_left, refs_left}
 use Rattle.ps_code_laws.proofs.Standing.{Ahead, Named, ahead_at, front, behind, named_front, named_behind, after_clause, names_behind}
-use Rattle.ps_code_laws.proofs.Clauses.{IsNum, IsRef, IsShown, Clause, Items, ArmsAre, LabelsAre, IsLoop}
+use Rattle.ps_code_laws.proofs.Clauses.{IsNum, IsRef, IsShown, Clause, Items, ArmsAre, LabelsAre, IsLoop, compares_words}
 use Rattle.ps_code_laws.proofs.Clauses as clause
 use Rattle.ps_code_laws.proofs.Doing.{Way, place, Does, does_then, does_over, does_nothing, does_left, does_give, push_goes, push_ref_goes, does_get, does_get_ref, does_set, does_set_ref, taken, taken_ref, taken_two, does_answer, does_write, does_stop, does_jump_false, does_and, does_or, does_jump, jump_does, does_while, does_same, moved, nums_few, refs_few}
 use Rattle.ps_code_laws.proofs.Branches.{does_label, does_chosen, does_default}
@@ -175,11 +175,17 @@ module _ (w : Way) where
       (does_answer w n p (word_of u ∷ word_of v ∷ []) (arith_of op (word_of v) (word_of u)) line (choice.arith op line)
       (λ nums refs f store. arith_acts op line p (word_of v) (word_of u) nums refs f store) at)
 
-  does_compare : (n p : ℕ) (op : Relation) {ty : TyView} → IsNum ty → (v u : Value) → Stand p (choice.compare op ty) →
-      Does w n (nums_left ty u ++ nums_left ty v) (refs_left ty u ++ refs_left ty v) (give (Flag (relation_of op (word_of v) (word_of u)))) types.Bool 0 p (p + 1)
-  does_compare n p op is v u at = taken_two w is v u (to_end (p + width_of (choice.number_relation op)) (p + 1) (ap (λ k. p + k) (width_compare op types.Int))
+  compare_words : (n p : ℕ) (op : Relation) (v u : Value) → Stand p (choice.number_relation op) →
+      Does w n (word_of u ∷ word_of v ∷ []) [] (give (Flag (relation_of op (word_of v) (word_of u)))) types.Bool 0 p (p + 1)
+  compare_words n p op v u at = to_end (p + width_of (choice.number_relation op)) (p + 1) (ap (λ k. p + k) (width_compare op types.Int))
       (does_give w n p 0 (word_of u ∷ word_of v ∷ []) [] (Flag (relation_of op (word_of v) (word_of u))) types.Bool (choice.number_relation op)
-      (λ nums refs f store room. compare_acts op p (word_of v) (word_of u) nums refs f store) (at_compare op is at)))
+      (λ nums refs f store room. compare_acts op p (word_of v) (word_of u) nums refs f store) at)
+
+  does_compare : (n p : ℕ) (op : Relation) {ty : TyView} → IsNum ty → (v u : Value) → Stand p (choice.compare op ty) →
+      Does w n (nums_left ty u ++ nums_left ty v) (refs_left ty u ++ refs_left ty v) (give (Flag (compares op ty v u))) types.Bool 0 p (p + 1)
+  does_compare n p op {ty = ty} is v u at =
+      subst (λ (b : Bool). Does w n (nums_left ty u ++ nums_left ty v) (refs_left ty u ++ refs_left ty v) (give (Flag b)) types.Bool 0 p (p + 1))
+      (sym (compares_words is op v u)) (taken_two w is v u (compare_words n p op v u (at_compare op is at)))
 
   does_shown : (n p : ℕ) {ty : TyView} → IsShown ty → (line : Line) (v : Value) → Stand p (choice.write ty false line) →
       Does w n (nums_left ty v) (refs_left ty v) (written line None (shown ty v)) types.Void 0 p (p + 9)
@@ -414,7 +420,7 @@ module _ (w : Way) where
         let whole = node.Compare op ty a b in
         let rest = after_clause w.unit a at k _ h in
         to_end (at + size a + size b + 1) (at + size whole) (omega by_arith)
-        (does_two (λ v u. give (Flag (relation_of op (word_of v) (word_of u)))) (depth a) (depth b) (depth whole) at (at + size a) (at + size a + size b)
+        (does_two (λ v u. give (Flag (compares op ty v u))) (depth a) (depth b) (depth whole) at (at + size a) (at + size a + size b)
         (at + size a + size b + 1) (omega by_arith) (omega by_arith)
         (does n at k ta (front w.unit at (emit a at k) _ h) (named_front w.unit k (constants a) _ names))
         (does n (at + size a) (k + count a) tb (front w.unit (at + size a) (emit b (at + size a) (k + count a)) _ rest) (names_behind w.unit a k _ names))
@@ -453,7 +459,7 @@ module _ (w : Way) where
         ArmsAre nums_of refs_of value arms ty → reaches before (fold_arms deepest arms ++ others) ≤ need → Ahead w.unit at (emit_arms value end arms at k) →
         Named w.unit k (constants_of_arms arms) → at + size_arms arms < end →
         Does w n (word_of v ∷ []) [] default ty need (at + size_arms arms) end →
-        Does w n (word_of v ∷ []) [] (eval_arms (context n) v arms default) ty need at end
+        Does w n (word_of v ∷ []) [] (eval_arms (context n) value v arms default) ty need at end
     does_arms n at k need before end is v default others clause.no_more deep h names lt d = from_place (at + 0) at (omega by_arith) d
     does_arms n at k need before end {value = value} is v default others (clause.one_arm {labels = labels} {a = a} {rest = rest} tlabels ta trest) deep h names lt d =
         let jump_at = at + size_labels labels in
@@ -474,7 +480,7 @@ module _ (w : Way) where
         let rest_does = does_arms n next (names_a + count a) need (before + length (fold_all deepest label labels) + 1) end is v default others trest (omega by_arith)
         behind_a.1 (names_behind w.unit a names_a _ its_names) (omega by_arith) (from_place (at + size_arms (more_arms (arm labels a) rest)) (next + size_arms rest)
         (omega by_arith) d) in
-        does_labels n at k need before chosen end is v (λ found. choose (flag_of found) (eval (context n) a) (eval_arms (context n) v rest default))
+        does_labels n at k need before chosen end is v (λ found. choose (flag_of found) (eval (context n) a) (eval_arms (context n) value v rest default))
         (branch (depth a) ∷ (fold_arms deepest rest ++ others)) tlabels labels_deep (front w.unit at (emit_labels value chosen labels at k) _ h)
         (named_front w.unit k (constants_of_all labels) _ names) (omega by_arith) arm_does
         (jump_does w jump_at next (omega by_arith) at_jump.0 rest_does)
@@ -485,7 +491,7 @@ module _ (w : Way) where
         Ahead w.unit at (emit_labels value chosen labels at k) → Named w.unit k (constants_of_all labels) → at + size_labels labels < chosen →
         Does w n (word_of v ∷ []) [] (next (Flag true)) ty need chosen end →
         Does w n (word_of v ∷ []) [] (next (Flag false)) ty need (at + size_labels labels) end →
-        Does w n (word_of v ∷ []) [] (eval_labels (context n) v labels >>= next) ty need at end
+        Does w n (word_of v ∷ []) [] (eval_labels (context n) value v labels >>= next) ty need at end
     does_labels n at k need before chosen end is v next others clause.no_label deep h names lt found missed =
         does_same w _ (λ f s. refl) (from_place (at + 0) at (omega by_arith) missed)
     does_labels n at k need before chosen end {value = value} is v next others (clause.one_label {label = l} {rest = rest} tl trest) deep h names lt found missed =
@@ -497,7 +503,7 @@ module _ (w : Way) where
         (width_by_type 1 value instr.DupM instr.DupP refl refl) h in
         let rest_l = after_clause w.unit l label_at k behind_label of_label in
         let at_jump = next_of q 1 (choice.compare relation.Equal value) behind_test (width_compare relation.Equal value) rest_l in
-        does_label w is need (depth l) at q chosen end v (eval (context n) l) (eval_labels (context n) v rest) next (omega by_arith)
+        does_label w is need (depth l) at q chosen end v (eval (context n) l) (eval_labels (context n) value v rest) next (omega by_arith)
         (at_by_type instr.DupM instr.DupP is h.0)
         (does n label_at k tl (front w.unit label_at (emit l label_at k) _ of_label) (named_front w.unit k (constants l) _ names))
         (at_compare relation.Equal is rest_l.0) at_jump.0 (omega by_arith) found

@@ -1,18 +1,22 @@
 -- Programs whose events are computed: the evaluation on worked examples.
-use Rattle.std.proofs.Common.{◌≡◌, ℕ, ◌+◌, List, [], ◌∷◌, ◌++◌, refl, pos, true, false, None}
-use Rattle.std.specs.Prelude.{ℤ, codes, negsuc}
+use Rattle.std.proofs.Common.{◌≡◌, ℕ, List, [], ◌∷◌, refl, pos, true, false, None}
+use Rattle.std.specs.Prelude.{codes, negsuc}
 use Rattle.std.specs.Fmt.{signed_decimal, digits}
+use Rattle.text_forms.specs.Forms.{forms_of, forms_from, form_here, form_in, begins, element_of, is_text}
 use Rattle.ps_base.specs.TyView as ty
 use Rattle.ps_base.specs.declared.line.Line.{Line}
+use Rattle.ps_base.specs.declared.trap.Trap.TheVariants as trap
 use Rattle.ps_base.specs.declared.trap.Trap.TheVariants.{Overflow, ZeroDivisor, Bounds, Abort as Aborted, TooLong}
-use Rattle.ps_base.specs.declared.operator.Operator.TheVariants.{Add, Mul, Div, Rem, Sub}
-use Rattle.ps_base.specs.declared.operator.Relation.TheVariants.{Greater, Less}
+use Rattle.ps_base.specs.declared.operator.Operator.TheVariants.{Add, Div, Rem}
+use Rattle.ps_base.specs.declared.operator.Relation.TheVariants.{Less}
 use Rattle.ps_program.specs.declared.place.Place.TheVariants.{Plain}
 use Rattle.ps_program.specs.Node.{Node, Nodes, none, more, Arms, no_arms, more_arms, arm, BodyNode, body}
 use Rattle.ps_program.specs.Node as node
 use Rattle.ps_meaning.specs.Event.{Event, Out, Turn, Finish, Done, Trapped, OutOfTurns}
-use Rattle.ps_meaning.specs.Meaning.{give, stop, after, ◌>>=◌, answer, emit, written, take_turn, get, set, choose, unbuilt}
-use Rattle.ps_meaning.specs.Evaluation.{while_turns, for_turns, for_loop, for_meant, eval}
+use Rattle.ps_meaning.specs.Meaning.{give, stop, after, ◌>>=◌, answer, attempt, with_heap, put_heap, made, emit, written, take_turn, get, set, choose}
+use Rattle.ps_meaning.specs.Objects.{field_of, with_field, vector_of, with_element, low_of, high_of}
+use Rattle.ps_meaning.specs.Objects.{element_of as element_at}
+use Rattle.ps_meaning.specs.Evaluation.{while_turns, for_turns, for_loop, for_meant, kept_all, eval}
 use Rattle.ps_meaning.specs.Runs.{run_events, run_end, outcome_of, all_events, end_reached, fresh_frame, fresh_state}
 
 abbrev line : ℕ → Line
@@ -137,3 +141,62 @@ quotients_go_to_zero : run_events 0 (program (more (write (node.Arith Div (minus
     ≡ Out (signed_decimal (negsuc 2)) ∷ Out (signed_decimal (negsuc 0)) ∷ Finish Done ∷ []
 unfolding digits eval give stop after ◌>>=◌ answer emit written choose run_events outcome_of all_events fresh_frame fresh_state
 quotients_go_to_zero = refl
+
+-- structure box(int n ; pntr next)
+abbrev box : List ℕ
+box = codes "box(int n;pntr next)"
+
+abbrev pntr : ℕ → Node
+pntr s = node.Name (Plain s) ty.Pntr
+
+-- b(n), on a line
+abbrev number_of_box : ℕ → Node
+number_of_box at = node.Field (pntr 0) box 0 ty.Int (line at)
+
+-- let b = box(3, nil); b(n) := b(n) + 4; write b(n)
+abbrev a_box : Node → BodyNode
+a_box first = program (more node.Class (more (node.Let (Plain 0) ty.Pntr first)
+    (more (node.SetField (pntr 0) box 0 ty.Int (node.Arith Add (number_of_box 3) (num 4) (line 3)) (line 3)) (more (write (number_of_box 4)) none))))
+
+field_is_changed : run_events 0 (a_box (node.Make box (more (num 3) (more node.Nil none)))) ≡ int 7 ∷ Finish Done ∷ []
+unfolding digits eval give stop after ◌>>=◌ answer attempt with_heap put_heap made emit written get set kept_all field_of with_field forms_of forms_from form_here form_in begins run_events outcome_of all_events fresh_frame fresh_state
+field_is_changed = refl
+
+-- let b = nil: the field is read before it is set, both on line 3
+nil_has_no_field : run_events 0 (a_box node.Nil) ≡ Finish (Trapped trap.Nil (line 3)) ∷ []
+unfolding digits eval give stop after ◌>>=◌ answer attempt with_heap put_heap made emit written get set field_of with_field run_events outcome_of all_events fresh_frame fresh_state
+nil_has_no_field = refl
+
+abbrev ints : Node
+ints = node.Name (Plain 0) (ty.Vector ty.Int)
+
+abbrev three : Node
+three = node.Elems (num 1) (more (num 3) (more (num 4) (more (num 5) none))) (ty.Vector ty.Int) (line 1)
+
+-- let v = @1 of int [3, 4, 5]; v(2) := 6; let sum := 0; for i = lwb(v) to upb(v) + more do sum := sum + v(i); write sum
+abbrev summed : ℕ → BodyNode
+summed further = program (more (node.Let (Plain 0) (ty.Vector ty.Int) three)
+    (more (node.SetElement ints (num 2) (num 6) ty.Int (line 2)) (more (node.Let (Plain 0) ty.Int (num 0))
+    (more (node.For 1 (node.Bound ints false) (node.Arith Add (node.Bound ints true) (num further) (line 4)) (num 1) None (Plain 4)
+    (node.SetName (Plain 0) ty.Int (node.Arith Add (local 0) (node.Element ints (local 4) ty.Int (line 5)) (line 5))) (line 4))
+    (more (write (local 0)) none)))))
+
+vector_is_summed : run_events 9 (summed 0) ≡ Turn ∷ Turn ∷ Turn ∷ int 14 ∷ Finish Done ∷ []
+unfolding digits eval give stop after ◌>>=◌ answer attempt with_heap put_heap made emit written take_turn get set choose for_turns for_loop for_meant vector_of element_at with_element low_of high_of element_of is_text run_events outcome_of all_events fresh_frame fresh_state
+vector_is_summed = refl
+
+-- one past the upper bound
+element_past_the_end : run_events 9 (summed 1) ≡ Turn ∷ Turn ∷ Turn ∷ Turn ∷ Finish (Trapped Bounds (line 5)) ∷ []
+unfolding digits eval give stop after ◌>>=◌ answer attempt with_heap put_heap made emit written take_turn get set choose for_turns for_loop for_meant vector_of element_at with_element low_of high_of element_of is_text run_events outcome_of all_events fresh_frame fresh_state
+element_past_the_end = refl
+
+abbrev string : Node
+string = node.Name (Plain 0) ty.Str
+
+-- let s = "ab" ++ "cd"; if "abc" < s do write s(2|2); write length(s)
+strings_are_joined : run_events 0 (program (more (node.Let (Plain 0) ty.Str (node.Join (node.Text (codes "ab")) (node.Text (codes "cd")) (line 1)))
+    (more (node.IfDo (node.Compare Less ty.Str (node.Text (codes "abc")) string)
+    (node.Write (node.Part string (num 2) (num 2) (line 2)) node.Empty false ty.Str (line 2)))
+    (more (write (node.Lib 11 (more string none) (line 3))) none)))) ≡ Out (codes "bc") ∷ int 4 ∷ Finish Done ∷ []
+unfolding digits eval give stop after ◌>>=◌ answer attempt emit written get set choose run_events outcome_of all_events fresh_frame fresh_state
+strings_are_joined = refl

@@ -1,5 +1,5 @@
 -- Which typed clauses run today: those over ints and bools, with a string only as a whole item of a write.
-use Rattle.std.specs.Prelude.{◌≡◌, Bool, true, Option, None}
+use Rattle.std.specs.Prelude.{◌≡◌, true, None}
 use Rattle.ps_program.specs.declared.place.Place.{Place}
 use Rattle.ps_program.specs.declared.place.Place.TheVariants.{Plain, Kept}
 use Rattle.ps_program.specs.Node.{Node, Nodes, none, more, Arms, no_arms, more_arms, arm, BodyNode, body}

@@ -1,17 +1,29 @@
 -- The meaning of each clause. A clause goes from left to right, and an operation's own tests come behind all its operands.
-use Rattle.std.specs.Prelude.{ℕ, zero, suc, ◌+◌, ℤ, pos, negsuc, ◌+ℤ◌, Bool, true, false, not, ◌&&◌, int_le, Option, Some, None, if◌then◌else◌}
+use Rattle.std.specs.Prelude.{ℕ, zero, suc, ◌+◌, ℤ, pos, negsuc, ◌+ℤ◌, Bool, true, false, not, ◌&&◌, int_le, nat_eq, List, [], ◌∷◌, length, map, Option, Some, None, if◌then◌else◌}
+use Rattle.std.specs.Fmt.{signed_decimal}
+use Rattle.std.specs.Ordering.{is_eq, is_lt, is_gt}
+use Rattle.ps_base.specs.TyView.{TyView}
 use Rattle.ps_base.specs.TyView as ty
+use Rattle.ps_type_text.specs.Texts.{type_text}
+use Rattle.text_forms.specs.declared.forms.Form.{Form}
+use Rattle.text_forms.specs.declared.forms.Form.TheVariants as form
+use Rattle.text_forms.specs.declared.forms.Form.TheVariants.{Number}
+use Rattle.text_forms.specs.Forms.{forms_of, form_in, element_of}
 use Rattle.ps_base.specs.declared.line.Line.{Line}
 use Rattle.ps_base.specs.declared.trap.Trap.TheVariants.{Bounds, Abort}
-use Rattle.ps_base.specs.declared.operator.Relation.TheVariants.{Equal}
+use Rattle.ps_base.specs.declared.operator.Relation.{Relation}
+use Rattle.ps_base.specs.declared.operator.Relation.TheVariants.{Equal, NotEqual, Less, LessEqual, Greater, GreaterEqual}
 use Rattle.ps_program.specs.declared.place.Place.{Place}
 use Rattle.ps_program.specs.declared.place.Place.TheVariants.{Plain}
 use Rattle.ps_program.specs.Node.{Node, Nodes, none, more, Arms, no_arms, more_arms, arm}
 use Rattle.ps_program.specs.Node as node
 use Rattle.ps_meaning.specs.Operators.{is_int, is_same, neg_of, arith_of, relation_of}
 use Rattle.ps_meaning.specs.Event.{Trapped, OutOfTurns}
-use Rattle.ps_meaning.specs.Values.{Value, Num, Flag, Text, Nothing, word_of, flag_of, shown}
-use Rattle.ps_meaning.specs.Meaning.{Meaning, give, stop, ◌>>=◌, choose, answer, written, take_turn, get, set, unbuilt}
+use Rattle.ps_meaning.specs.Values.{Value, Num, Flag, Text, Nil, Pointer, Vector, Nothing, word_of, flag_of, bytes_of, shown}
+use Rattle.ps_meaning.specs.Texts.{join_of, part_of, order_of}
+use Rattle.ps_meaning.specs.Objects.{Structure, is_class, field_of, with_field, vector_of, filled_vector, vector_in, type_in, with_element, low_of, high_of, is_one_object}
+use Rattle.ps_meaning.specs.Objects.{element_of as element_at}
+use Rattle.ps_meaning.specs.Meaning.{Meaning, give, stop, ◌>>=◌, choose, answer, attempt, with_heap, put_heap, made, written, take_turn, get, set, unbuilt}
 
 -- What a clause is evaluated in: a number that bounds the turns that are left, by which loops are defined.
 pub record Context : Type 0 where
@@ -66,9 +78,87 @@ abbrev pub without_scope : {A : Type 0} → Option A → Meaning → Meaning
 without_scope None meant = meant
 without_scope (Some text) meant = unbuilt
 
+-- a value as it is kept in a place of a form: an int, a bool, or else as it is
+abbrev pub kept_as : Option Form → Value → Value
+kept_as (Some Number) v = Num (word_of v)
+kept_as (Some form.Flag) v = Flag (flag_of v)
+kept_as _ v = v
+
+-- the values of fields, each as it is kept
+unfoldable pub kept_all : List Form → List Value → List Value
+kept_all [] vs = vs
+kept_all (form ∷ forms) [] = []
+kept_all (form ∷ forms) (v ∷ vs) = kept_as (Some form) v ∷ kept_all forms vs
+
+-- the elements of a vector, each as it is kept
+abbrev pub kept_elements : List ℕ → List Value → List Value
+kept_elements text vs = map (kept_as (Some (element_of text))) vs
+
+-- a structure of a class, a vector of elements, a vector of one value
+abbrev pub make_meant : List ℕ → List Value → Meaning
+make_meant class vs = made Pointer (Structure class (kept_all (forms_of class) vs))
+
+abbrev pub elements_meant : Line → List ℕ → Value → List Value → Meaning
+elements_meant line text low vs = attempt line (vector_of text (word_of low) (kept_elements text vs)) (made Vector)
+
+abbrev pub fill_meant : Line → List ℕ → Value → Value → Value → Meaning
+fill_meant line text low high v = attempt line (filled_vector text (word_of low) (word_of high) (kept_as (Some (element_of text)) v)) (made Vector)
+
+-- Fields and elements, read and written. What is read is given as it is.
+abbrev pub field_meant : Line → List ℕ → ℕ → Value → Meaning
+field_meant line class n o = with_heap (λ heap. attempt line (field_of heap o class n) give)
+
+abbrev pub set_field_meant : Line → List ℕ → ℕ → Value → Value → Meaning
+set_field_meant line class n o v = with_heap (λ heap. attempt line (with_field heap o class n (kept_as (form_in (forms_of class) n) v)) put_heap)
+
+abbrev pub element_meant : Line → Value → Value → Meaning
+element_meant line v i = with_heap (λ heap. attempt line (element_at heap v (word_of i)) give)
+
+abbrev pub set_element_meant : Line → Value → Value → Value → Meaning
+set_element_meant line v i e =
+    with_heap (λ heap. attempt line (with_element heap v (word_of i) (kept_as (Some (element_of (type_in (vector_in heap v)))) e)) put_heap)
+
+abbrev pub bound_meant : Bool → Value → Meaning
+bound_meant upper v = with_heap (λ heap. give (Num (if upper then high_of heap v else low_of heap v)))
+
+-- Texts.
+abbrev pub join_meant : Line → Value → Value → Meaning
+join_meant line v w = attempt line (join_of (bytes_of v) (bytes_of w)) (λ bytes. give (Text bytes))
+
+abbrev pub part_meant : Line → Value → Value → Value → Meaning
+part_meant line v i n = attempt line (part_of (bytes_of v) (word_of i) (word_of n)) (λ bytes. give (Text bytes))
+
+-- whether two texts stand in a relation
+abbrev pub text_relation : Relation → List ℕ → List ℕ → Bool
+text_relation Equal a b = is_eq (order_of a b)
+text_relation NotEqual a b = not (is_eq (order_of a b))
+text_relation Less a b = is_lt (order_of a b)
+text_relation LessEqual a b = not (is_gt (order_of a b))
+text_relation Greater a b = is_gt (order_of a b)
+text_relation GreaterEqual a b = not (is_lt (order_of a b))
+
+-- whether two values are one object; structures and vectors know no other relation
+abbrev pub object_relation : Relation → Value → Value → Bool
+object_relation NotEqual v w = not (is_one_object v w)
+object_relation _ v w = is_one_object v w
+
+-- Whether two values of a type stand in a relation: ints and bools by their numbers, strings by their bytes, all else by identity.
+abbrev pub compares : Relation → TyView → Value → Value → Bool
+compares op ty.Int v w = relation_of op (word_of v) (word_of w)
+compares op ty.Bool v w = relation_of op (word_of v) (word_of w)
+compares op ty.Str v w = text_relation op (bytes_of v) (bytes_of w)
+compares op _ v w = object_relation op v w
+
 -- whether two values of the type that a `case` is over are equal
-abbrev pub is_equal : Value → Value → Bool
-is_equal v w = relation_of Equal (word_of v) (word_of w)
+abbrev pub is_equal : TyView → Value → Value → Bool
+is_equal ty v w = compares Equal ty v w
+
+-- The library: `length`, and `iformat`. Other procedures don't run yet.
+abbrev pub lib_meant : ℕ → List Value → Meaning
+lib_meant code [] = unbuilt
+lib_meant code (v ∷ vs) =
+    if nat_eq code 11 then give (Num (pos (length (bytes_of v)))) else
+    if nat_eq code 12 then give (Text (signed_decimal (word_of v))) else unbuilt
 
 -- The meaning of a clause in a context.
 unfoldable mutual
@@ -87,14 +177,28 @@ unfoldable mutual
   eval c (node.Repeat a test b) = while_turns c.bound (eval c a >>= λ u. eval c test) (eval c b)
   eval c (node.For slot from to by scope control s line) =
       without_scope scope (for_meant c.bound line slot control (eval c from) (eval c to) (eval c by) (eval c s))
-  eval c (node.Case e arms d ty) = eval c e >>= λ v. eval_arms c v arms (eval c d)
+  eval c (node.Case e arms d ty) = eval c e >>= λ v. eval_arms c ty v arms (eval c d)
   eval c (node.And a b) = eval c a >>= λ v. choose (flag_of v) (eval c b) (give v)
   eval c (node.Or a b) = eval c a >>= λ v. choose (flag_of v) (give v) (eval c b)
   eval c (node.Not e) = eval c e >>= λ v. give (Flag (not (flag_of v)))
   eval c (node.Neg e line) = eval c e >>= λ v. answer line (neg_of (word_of v))
   eval c (node.Plus e) = eval c e
   eval c (node.Arith op a b line) = eval c a >>= λ v. eval c b >>= λ w. answer line (arith_of op (word_of v) (word_of w))
-  eval c (node.Compare op ty a b) = eval c a >>= λ v. eval c b >>= λ w. give (Flag (relation_of op (word_of v) (word_of w)))
+  eval c (node.Compare op ty a b) = eval c a >>= λ v. eval c b >>= λ w. give (Flag (compares op ty v w))
+  eval c node.Nil = give Nil
+  eval c node.Class = give Nothing
+  eval c (node.Is e class) = eval c e >>= λ v. with_heap (λ heap. give (Flag (is_class heap v class)))
+  eval c (node.Join a b line) = eval c a >>= λ v. eval c b >>= λ w. join_meant line v w
+  eval c (node.Part a i n line) = eval c a >>= λ v. eval c i >>= λ from. eval c n >>= λ count. part_meant line v from count
+  eval c (node.Make class args) = eval_each c args (make_meant class)
+  eval c (node.Field e class n ty line) = eval c e >>= λ o. field_meant line class n o
+  eval c (node.SetField p class n ty e line) = eval c p >>= λ o. eval c e >>= λ v. set_field_meant line class n o v
+  eval c (node.Fill l u e ty line) = eval c l >>= λ low. eval c u >>= λ high. eval c e >>= λ v. fill_meant line (type_text ty) low high v
+  eval c (node.Elems l items ty line) = eval c l >>= λ low. eval_each c items (elements_meant line (type_text ty) low)
+  eval c (node.Element v i ty line) = eval c v >>= λ vector. eval c i >>= λ at. element_meant line vector at
+  eval c (node.SetElement v i e ty line) = eval c v >>= λ vector. eval c i >>= λ at. eval c e >>= λ w. set_element_meant line vector at w
+  eval c (node.Bound v upper) = eval c v >>= λ vector. bound_meant upper vector
+  eval c (node.Lib code args line) = eval_each c args (lib_meant code)
   eval c (node.Write e w false ty line) = eval c e >>= λ v. written line None (shown ty v)
   eval c (node.Write e w true ty line) = eval c e >>= λ v. eval c w >>= λ width. written line (Some (word_of width)) (shown ty v)
   eval c (node.Abort line) = stop (Trapped Abort line)
@@ -105,12 +209,17 @@ unfoldable mutual
   eval_all c v none = give v
   eval_all c v (more t ts) = eval c t >>= λ w. eval_all c w ts
 
-  -- The labels of the arms, in their order until one is equal to the value, and then the clause of its arm; else the default.
-  pub eval_arms : Context → Value → Arms → Meaning → Meaning
-  eval_arms c v no_arms default = default
-  eval_arms c v (more_arms (arm labels a) rest) default =
-      eval_labels c v labels >>= λ found. choose (flag_of found) (eval c a) (eval_arms c v rest default)
+  -- clauses one after the other, and what goes on with their values
+  pub eval_each : Context → Nodes → (List Value → Meaning) → Meaning
+  eval_each c none next = next []
+  eval_each c (more t ts) next = eval c t >>= λ v. eval_each c ts (λ vs. next (v ∷ vs))
 
-  pub eval_labels : Context → Value → Nodes → Meaning
-  eval_labels c v none = give (Flag false)
-  eval_labels c v (more label rest) = eval c label >>= λ w. choose (is_equal v w) (give (Flag true)) (eval_labels c v rest)
+  -- The labels of the arms, in their order until one is equal to the value, and then the clause of its arm; else the default.
+  pub eval_arms : Context → TyView → Value → Arms → Meaning → Meaning
+  eval_arms c ty v no_arms default = default
+  eval_arms c ty v (more_arms (arm labels a) rest) default =
+      eval_labels c ty v labels >>= λ found. choose (flag_of found) (eval c a) (eval_arms c ty v rest default)
+
+  pub eval_labels : Context → TyView → Value → Nodes → Meaning
+  eval_labels c ty v none = give (Flag false)
+  eval_labels c ty v (more label rest) = eval c label >>= λ w. choose (is_equal ty v w) (give (Flag true)) (eval_labels c ty v rest)

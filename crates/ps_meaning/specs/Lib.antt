@@ -2,6 +2,8 @@ pub mod Operators
 pub mod Event
 pub mod Answers
 pub mod Values
+pub mod Texts
+pub mod Objects
 pub mod Meaning
 pub mod Evaluation
 pub mod Runs

@@ -8,6 +8,8 @@ use Rattle.ps_program.specs.declared.place.Place.TheVariants.{Plain, Kept}
 use Rattle.ps_typing.specs.Placing.{is_number}
 use Rattle.ps_meaning.specs.Values.{Value, Num, Nothing}
 use Rattle.ps_meaning.specs.Operators.{Answer, Gives, Traps}
+use Rattle.ps_meaning.specs.Texts.{Attempt, Yields, Fails}
+use Rattle.ps_meaning.specs.Objects.{Heap, Object, with_new, new_number}
 use Rattle.ps_meaning.specs.Event.{End, Trapped, OutOfTurns, Event, Out, Turn}
 
 -- The locals of a body, ints and bools in one row and all else in the other, and the scope that a clause stands in.
@@ -16,9 +18,10 @@ pub record Frame : Type 0 where
   pub refs : ℕ → Value
   pub scope : Option ℕ
 
--- what a run holds beside its locals: the turns that it may still take
+-- what a run holds beside its locals: the turns that it may still take, and the heap
 pub record Store : Type 0 where
   pub turns : ℕ
+  pub heap : Heap
 
 -- what a run has done so far, oldest first, and what it holds
 pub record State : Type 0 where
@@ -57,6 +60,26 @@ unfoldable pub answer : Line → Answer → Meaning
 answer line (Gives z) = give (Num z)
 answer line (Traps trap) = stop (Trapped trap line)
 
+-- goes on with what an operation yields, or ends in its trap on this line
+unfoldable pub attempt : {A : Type 0} → Line → Attempt A → (A → Meaning) → Meaning
+attempt line (Yields a) next = next a
+attempt line (Fails trap) next = stop (Trapped trap line)
+
+-- goes on with the heap as it is
+unfoldable pub with_heap : (Heap → Meaning) → Meaning
+with_heap next frame state = next state.store.heap frame state
+
+abbrev pub heap_is : State → Heap → State
+heap_is state heap = record state { store = record (state.store) { heap = heap } }
+
+-- the heap is this one from now on
+unfoldable pub put_heap : Heap → Meaning
+put_heap heap frame state = Value_is Nothing frame (heap_is state heap)
+
+-- a new object is made, and its value given
+unfoldable pub made : (ℕ → Value) → Object → Meaning
+made denoting object frame state = Value_is (denoting (new_number state.store.heap)) frame (heap_is state (with_new state.store.heap object))
+
 -- some bytes make an event, and none make none
 abbrev pub some_out : List ℕ → List Event
 some_out [] = []
@@ -89,12 +112,12 @@ unfoldable pub written : Line → Option ℤ → List ℕ → Meaning
 written line width text = if is_width width then emit (in_places width text) else stop (Trapped TooLong line)
 
 -- what is held after a turn more, where one is left
-abbrev pub without_turn : ℕ → Option Store
-without_turn zero = None
-without_turn (suc left) = Some (record { turns = left })
+abbrev pub with_turns : Store → ℕ → Option Store
+with_turns store zero = None
+with_turns store (suc left) = Some (record store { turns = left })
 
 abbrev pub spent : Store → Option Store
-spent store = without_turn store.turns
+spent store = with_turns store store.turns
 
 abbrev pub turned : Option Store → Meaning
 turned None frame state = Ends OutOfTurns state

@@ -4,13 +4,13 @@ use Rattle.ps_program.specs.Node.{BodyNode, body}
 use Rattle.ps_meaning.specs.Values.{Num, Nil}
 use Rattle.ps_meaning.specs.Event.{End, Done, Event, Finish}
 use Rattle.ps_meaning.specs.Meaning.{Outcome, Value_is, Ends, Frame, Store, State}
-use Rattle.ps_meaning.specs.Evaluation.{Context, eval}
+use Rattle.ps_meaning.specs.Evaluation.{eval}
 
 unfoldable pub fresh_frame : Frame
 fresh_frame = record { nums = λ slot. Num (pos 0); refs = λ slot. Nil; scope = None }
 
 abbrev pub fresh_store : ℕ → Store
-fresh_store turns = record { turns = turns }
+fresh_store turns = record { turns = turns; heap = [] }
 
 unfoldable pub fresh_state : ℕ → State
 fresh_state turns = record { events = []; store = fresh_store turns }

@@ -1,11 +1,9 @@
 -- A configuration has one step.
-use Rattle.std.proofs.Common.{◌≡◌, ℕ, List, ◌++◌, drop, sym, ap, ◌∙◌, refl}
+use Rattle.std.proofs.Common.{◌≡◌, ℕ, List, sym, ap, ◌∙◌, refl}
 use Rattle.ps_base.specs.declared.instr.Instr.{Instr}
-use Rattle.ps_base.specs.Instr.{spelling}
 use Rattle.ps_code.proofs.Makers.{one_front}
-use Rattle.ps_meaning.specs.Event.{End, Event}
 use Rattle.ps_stepping.specs.Config.{Config, code_in, IsAt}
-use Rattle.ps_stepping.specs.Machine.{Step, Goes, Stops, Stuck, act, Steps, at_instruction, at_nothing}
+use Rattle.ps_stepping.specs.Machine.{Step, act, Steps, at_instruction, at_nothing}
 
 pub one_instruction : (code : List ℕ) (at : ℕ) (i j : Instr) → IsAt code at i → IsAt code at j → i ≡ j
 one_instruction code at i j a b = (one_front i j a.rest b.rest a.is_instr b.is_instr (sym a.spelled ∙ b.spelled)).0

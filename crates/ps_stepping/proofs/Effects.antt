@@ -1,38 +1,37 @@
 -- Each instruction that has a step takes from the stacks and leaves on them what the table says.
-use Rattle.std.proofs.Common.{◌≡◌, ℕ, zero, suc, ◌+◌, ℤ, Bool, true, false, List, [], ◌∷◌, length, Option, Some, None, refl, sym, ap, ◌∙◌, subst, arith}
+use Rattle.std.proofs.Common.{◌≡◌, ℕ, zero, suc, ◌+◌, ℤ, Bool, true, false, List, [], ◌∷◌, length, Option, Some, None, refl, ap, subst, arith}
 use Rattle.std.specs.Prelude.{◌⊎◌, ◌+ℤ◌, pos, not, nat_lt, if◌then◌else◌}
-use Rattle.std.specs.Fmt.{signed_decimal}
 use Rattle.ps_base.specs.CodeUnit.{ConstantView, text, literal}
 use Rattle.ps_base.specs.declared.line.Line.{Line}
 use Rattle.ps_base.specs.declared.instr.Instr.{Instr}
-use Rattle.ps_base.specs.declared.instr.Instr.TheVariants.{Int, True, False, Text, Nil, GetM, GetP, SetM, SetP, KeptM, KeptP, KeepM, KeepP, Scope, Leave, Jump, JumpFalse, Again, And, Or, Not, Neg, Add, Sub, Mul, Div, Rem, EqM, NeM, LtM, LeM, GtM, GeM, EqP, NeP, EqT, NeT, LtT, LeT, GtT, GeT, Join, Part, Is, Make, FieldM, FieldP, SetFieldM, SetFieldP, FillM, FillP, ListM, ListP, ElemM, ElemP, SetElemM, SetElemP, Lwb, Upb, Closure, Call, Return, Lib, WriteI, WriteB, WriteT, Abort, ForStart, ForNext, ScanT, ScanI, ScanMore, DupM, DupP, DropM, DropP, JumpTrue}
+use Rattle.ps_base.specs.declared.instr.Instr.TheVariants.{Int, True, False, Text, GetM, GetP, SetM, SetP, Jump, JumpFalse, Again, And, Or, Not, Neg, Add, Sub, Mul, Div, Rem, EqM, NeM, LtM, LeM, GtM, GeM, Return, WriteI, WriteB, WriteT, ForStart, ForNext, DupM, DupP, DropM, DropP, JumpTrue}
 use Rattle.ps_base.specs.declared.trap.Trap.TheVariants.{TooLong, Bounds}
 use Rattle.ps_meaning.specs.Evaluation.{goes_on}
 use Rattle.ps_meaning.specs.Operators.{Answer, Gives, Traps, is_same}
 use Rattle.ps_meaning.specs.Event.{Event, Trapped}
-use Rattle.ps_meaning.specs.Values.{Value, number_of, is_one, flag_text, bytes_of}
+use Rattle.ps_meaning.specs.Values.{Value, number_of, is_one, bytes_of}
 use Rattle.ps_meaning.specs.Meaning.{Store, spent, is_width, some_out, in_places}
 use Rattle.ps_stepping.specs.Config.{frame_words, Config, frame_in, constant_at, constants_in}
-use Rattle.ps_stepping.specs.Machine.{Step, Goes, Stops, Stuck, on, is_num_slot, is_ref_slot, with_num, with_ref, put_num, push_num, push_ref, pop_num_of, pop_num, pop_ref_of, pop_ref, pop_two, forward, turn_to, back, answered, one_num, two_nums, test, written, pop_width, write_num, write_text, push_text, started, for_start, counted, for_next, returned, acts, behind, act}
-use Rattle.ps_stepping.specs.Effects.{Moves, Effect, moves, either, by_name, nums, refs, both, nothing, taken_or_left, width_and, effect_of, Moved, HasEffect}
+use Rattle.ps_stepping.specs.Machine.{Step, Goes, Stops, Stuck, on, is_num_slot, is_ref_slot, with_num, with_ref, put_num, push_num, push_ref, pop_num_of, pop_num, pop_ref_of, pop_ref, forward, turn_to, back, answered, one_num, two_nums, test, written, write_num, write_text, push_text, started, for_start, counted, for_next, returned, acts, behind, act}
+use Rattle.ps_stepping.specs.Effects.{Effect, moves, either, by_name, nums, refs, both, nothing, taken_or_left, width_and, effect_of, Moved, HasEffect}
 
-abbrev Does : Effect → Config → Step → Type 0
+abbrev pub Does : Effect → Config → Step → Type 0
 Does e c (Goes events next) = HasEffect e c next
 Does e c (Stops x) = Unit {0}
 Does e c Stuck = Unit {0}
 
-does_if : (e : Effect) (c : Config) (b : Bool) (x y : Step) → Does e c x → Does e c y → Does e c (if b then x else y)
+pub does_if : (e : Effect) (c : Config) (b : Bool) (x y : Step) → Does e c x → Does e c y → Does e c (if b then x else y)
 does_if e c true x y f g = f
 does_if e c false x y f g = g
 
-popped_num : (e : Effect) (c d : Config) (next : ℤ → Config → Step) → ((z : ℤ) (rest : List ℤ) → d.nums ≡ z ∷ rest → Does e c (next z (record d { nums = rest }))) → Does e c (pop_num d next)
+pub popped_num : (e : Effect) (c d : Config) (next : ℤ → Config → Step) → ((z : ℤ) (rest : List ℤ) → d.nums ≡ z ∷ rest → Does e c (next z (record d { nums = rest }))) → Does e c (pop_num d next)
 popped_num e c d next h = of_list d.nums refl
   where
     of_list : (xs : List ℤ) → d.nums ≡ xs → Does e c (pop_num_of xs d next)
     of_list [] is = tt
     of_list (z ∷ rest) is = h z rest is
 
-popped_ref : (e : Effect) (c d : Config) (next : Value → Config → Step) → ((v : Value) (rest : List Value) → d.refs ≡ v ∷ rest → Does e c (next v (record d { refs = rest }))) → Does e c (pop_ref d next)
+pub popped_ref : (e : Effect) (c d : Config) (next : Value → Config → Step) → ((v : Value) (rest : List Value) → d.refs ≡ v ∷ rest → Does e c (next v (record d { refs = rest }))) → Does e c (pop_ref d next)
 popped_ref e c d next h = of_list d.refs refl
   where
     of_list : (xs : List Value) → d.refs ≡ xs → Does e c (pop_ref_of xs d next)
@@ -46,7 +45,7 @@ does_nothing c = record { nums = refl; refs = refl }
 does_push_num : (c : Config) (z : ℤ) → Does (nums 0 1) c (push_num z c)
 does_push_num c z = does_if (nums 0 1) c (nat_lt ((frame_in c.unit).nums + length c.nums) frame_words) (put_num z c) Stuck (record { nums = omega arith; refs = refl }) tt
 
-does_push_ref : (c : Config) (v : Value) → Does (refs 0 1) c (push_ref v c)
+pub does_push_ref : (c : Config) (v : Value) → Does (refs 0 1) c (push_ref v c)
 does_push_ref c v = does_if (refs 0 1) c (nat_lt ((frame_in c.unit).refs + length c.refs) frame_words) (on (record c { refs = v ∷ c.refs })) Stuck (record { nums = refl; refs = omega arith }) tt
 
 -- a number is taken, and then a jump is made or not
@@ -145,7 +144,7 @@ does_or own t c = popped_num taken_or_left c c (λ z d. if is_one z then forward
     (does_if taken_or_left c (nat_lt own t) (on (record c { at = t })) Stuck (◌⊎◌.inr (record { nums = refl; refs = refl })) tt)
     (◌⊎◌.inl (record { nums = omega (arith, ap length is); refs = refl })))
 
-does_by_name : (c : Config) (s : Step) → Does by_name c s
+pub does_by_name : (c : Config) (s : Step) → Does by_name c s
 does_by_name c (Goes events next) = tt
 does_by_name c (Stops e) = tt
 does_by_name c Stuck = tt
@@ -192,7 +191,7 @@ does DropM own c = does_taken c (λ z d. on d) (λ z d. does_nothing d)
 does DropP own c = popped_ref (refs 1 0) c c (λ v d. on d) (λ v rest is. record { nums = refl; refs = omega (arith, ap length is) })
 does i own c = tt
 
-moved_on : (e : Effect) (c d : Config) (s : Step) (next : Config) (events : List Event) → ((x : Config) → HasEffect e d x → HasEffect e c x) → Does e d s → s ≡ Goes events next → HasEffect e c next
+pub moved_on : (e : Effect) (c d : Config) (s : Step) (next : Config) (events : List Event) → ((x : Config) → HasEffect e d x → HasEffect e c x) → Does e d s → s ≡ Goes events next → HasEffect e c next
 moved_on e c d s next events f h is = f next (subst (λ (x : Step). Does e d x) is h)
 
 same_lengths : (e : Effect) (i : Instr) (c x : Config) → HasEffect e (behind i c) x → HasEffect e c x

@@ -1,8 +1,8 @@
 -- A run goes on from each configuration that it comes to, and stops where the machine does.
-use Rattle.std.proofs.Common.{◌≡◌, List, [], ◌∷◌, ◌++◌, refl, sym, ap, ◌∙◌, subst, append_assoc}
+use Rattle.std.proofs.Common.{◌≡◌, List, [], ◌∷◌, ◌++◌, ap, ◌∙◌, subst, append_assoc}
 use Rattle.ps_meaning.specs.Event.{End, Event, Finish}
 use Rattle.ps_stepping.specs.Config.{Config}
-use Rattle.ps_stepping.specs.Machine.{Step, Goes, Stops, Stuck, Steps, Runs, goes, stops}
+use Rattle.ps_stepping.specs.Machine.{Goes, Stops, Stuck, Steps, Runs, goes, stops}
 use Rattle.ps_stepping.proofs.Determined.{one_step}
 
 same_goes : (events events' : List Event) (next next' : Config) (P : List Event → Config → Type 0) → Goes events next ≡ Goes events' next' → P events next → P events' next'

@@ -3,3 +3,5 @@ pub mod Following
 pub mod Paths
 mod Effects
 mod Rows
+mod ObjectEffects
+mod ObjectRows

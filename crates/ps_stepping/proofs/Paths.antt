@@ -1,5 +1,5 @@
 -- What happens from a configuration of a run on is the rest of what happens in the run.
-use Rattle.std.proofs.Common.{◌≡◌, List, [], ◌∷◌, ◌++◌, refl, sym, ap, ◌∙◌, subst, append_assoc}
+use Rattle.std.proofs.Common.{◌≡◌, List, [], ◌∷◌, ◌++◌, sym, ap, ◌∙◌, subst, append_assoc}
 use Rattle.std.proofs.lemmas.List.{append-nil}
 use Rattle.ps_meaning.specs.Event.{End, Event, Finish}
 use Rattle.ps_stepping.specs.Config.{Config}

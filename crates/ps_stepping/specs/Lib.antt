@@ -1,4 +1,6 @@
 pub mod Config
+pub mod Steps
+pub mod Objects
 pub mod Machine
 pub mod Path
 pub mod Effects

@@ -1,6 +1,6 @@
 -- What the machine does with each instruction. It never leaves the code, a stack or the frame: where it would, it is stuck, and so it
 -- is where what it finds isn't what the instruction wants.
-use Rattle.std.specs.Prelude.{◌≡◌, ℕ, zero, suc, ◌+◌, ℤ, pos, ◌+ℤ◌, Bool, not, List, [], ◌∷◌, ◌++◌, length, nat_lt, Option, Some, None, if◌then◌else◌}
+use Rattle.std.specs.Prelude.{◌≡◌, ℕ, zero, suc, ◌+◌, ℤ, pos, ◌+ℤ◌, not, List, [], ◌∷◌, ◌++◌, nat_lt, Option, Some, None, if◌then◌else◌}
 use Rattle.std.specs.Fmt.{signed_decimal}
 use Rattle.ps_base.specs.CodeUnit.{ConstantView, text, literal}
 use Rattle.ps_base.specs.Instr.{width_of}
@@ -10,64 +10,14 @@ use Rattle.ps_base.specs.declared.operator.Operator.TheVariants as operator
 use Rattle.ps_base.specs.declared.operator.Relation.TheVariants as relation
 use Rattle.ps_base.specs.declared.instr.Instr.{Instr}
 use Rattle.ps_base.specs.declared.instr.Instr.TheVariants.{Int, True, False, Text, Nil, GetM, GetP, SetM, SetP, KeptM, KeptP, KeepM, KeepP, Scope, Leave, Jump, JumpFalse, Again, And, Or, Not, Neg, Add, Sub, Mul, Div, Rem, EqM, NeM, LtM, LeM, GtM, GeM, EqP, NeP, EqT, NeT, LtT, LeT, GtT, GeT, Join, Part, Is, Make, FieldM, FieldP, SetFieldM, SetFieldP, FillM, FillP, ListM, ListP, ElemM, ElemP, SetElemM, SetElemP, Lwb, Upb, Closure, Call, Return, Lib, WriteI, WriteB, WriteT, Abort, ForStart, ForNext, ScanT, ScanI, ScanMore, DupM, DupP, DropM, DropP, JumpTrue}
-use Rattle.ps_meaning.specs.Operators.{Answer, Gives, Traps, is_same, neg_of, arith_of, relation_of}
+use Rattle.ps_meaning.specs.Operators.{is_same, neg_of, arith_of, relation_of}
 use Rattle.ps_meaning.specs.Event.{End, Done, Trapped, OutOfTurns, Event, Turn, Finish}
 use Rattle.ps_meaning.specs.Values.{Value, number_of, is_one, flag_text, bytes_of}
 use Rattle.ps_meaning.specs.Values as value
-use Rattle.ps_meaning.specs.Meaning.{Store, some_out, in_places, is_width, spent, with_local}
+use Rattle.ps_meaning.specs.Meaning.{Store, some_out, in_places, is_width, spent}
 use Rattle.ps_meaning.specs.Evaluation.{goes_on}
-use Rattle.ps_stepping.specs.Config.{frame_words, Caller, Config, code_in, constants_in, frame_in, constant_at, IsAt}
-
--- what a step does: it goes on with these events, it ends the run, or there is none
-pub data Step : Type 0 where
-  Goes : (events : List Event) (next : Config) → Step
-  Stops : (end_of_run : End) → Step
-  Stuck : Step
-
--- goes on quietly
-abbrev pub on : Config → Step
-on c = Goes [] c
-
--- Pushing and popping, on each stack.
-abbrev pub put_num : ℤ → Config → Step
-put_num z c = on (record c { nums = z ∷ c.nums })
-
-abbrev pub push_num : ℤ → Config → Step
-push_num z c = if nat_lt ((frame_in c.unit).nums + length c.nums) frame_words then put_num z c else Stuck
-
-abbrev pub push_ref : Value → Config → Step
-push_ref v c = if nat_lt ((frame_in c.unit).refs + length c.refs) frame_words then on (record c { refs = v ∷ c.refs }) else Stuck
-
-abbrev pub pop_num_of : List ℤ → Config → (ℤ → Config → Step) → Step
-pop_num_of [] c next = Stuck
-pop_num_of (z ∷ nums) c next = next z (record c { nums = nums })
-
-abbrev pub pop_num : Config → (ℤ → Config → Step) → Step
-pop_num c next = pop_num_of c.nums c next
-
-abbrev pub pop_ref_of : List Value → Config → (Value → Config → Step) → Step
-pop_ref_of [] c next = Stuck
-pop_ref_of (v ∷ refs) c next = next v (record c { refs = refs })
-
-abbrev pub pop_ref : Config → (Value → Config → Step) → Step
-pop_ref c next = pop_ref_of c.refs c next
-
--- the left operand stands below the right one
-abbrev pub pop_two : Config → (ℤ → ℤ → Config → Step) → Step
-pop_two c next = pop_num c (λ b d. pop_num d (λ a e. next a b e))
-
--- Locals.
-abbrev pub is_num_slot : Config → ℕ → Bool
-is_num_slot c s = nat_lt s (frame_in c.unit).nums
-
-abbrev pub is_ref_slot : Config → ℕ → Bool
-is_ref_slot c s = nat_lt s (frame_in c.unit).refs
-
-abbrev pub with_num : Config → ℕ → ℤ → Config
-with_num c s z = record c { locals = record c.locals { nums = with_local c.locals.nums s z } }
-
-abbrev pub with_ref : Config → ℕ → Value → Config
-with_ref c s v = record c { locals = record c.locals { refs = with_local c.locals.refs s v } }
+pub use Rattle.ps_stepping.specs.Steps.{Step, Goes, Stops, Stuck, on, put_num, push_num, push_ref, pop_num_of, pop_num, pop_ref_of, pop_ref, pop_two, is_num_slot, is_ref_slot, with_num, with_ref, answered, one_num, two_nums, test, text_of, pop_text, with_text, attempted}
+use Rattle.ps_stepping.specs.Config.{Caller, Config, code_in, constants_in, constant_at, IsAt}
 
 -- Jumps: forward to a greater offset than that of the jump itself, and back to a smaller one, which takes a turn.
 abbrev pub forward : ℕ → ℕ → Config → Step
@@ -79,20 +29,6 @@ turn_to (Some store) to c = Goes (Turn ∷ []) (record c { at = to; store = stor
 
 abbrev pub back : ℕ → ℕ → Config → Step
 back own to c = if nat_lt to own then turn_to (spent c.store) to c else Stuck
-
--- the value of an operator, or its trap
-abbrev pub answered : Line → Answer → Config → Step
-answered line (Gives z) c = put_num z c
-answered line (Traps trap) c = Stops (Trapped trap line)
-
-abbrev pub one_num : Line → (ℤ → Answer) → Config → Step
-one_num line f c = pop_num c (λ a d. answered line (f a) d)
-
-abbrev pub two_nums : Line → (ℤ → ℤ → Answer) → Config → Step
-two_nums line f c = pop_two c (λ a b d. answered line (f a b) d)
-
-abbrev pub test : (ℤ → ℤ → Bool) → Config → Step
-test f c = pop_two c (λ a b d. put_num (number_of (f a b)) d)
 
 -- Writing.
 abbrev pub written : Line → Option ℤ → List ℕ → Config → Step

@@ -7,6 +7,7 @@ use Rattle.ps_port.specs.Telling.{TellsAll, FailsBehind}
 use Rattle.ps_port.proofs.Telling.{all_none, all_then, fails_then}
 use Rattle.ps_meaning.specs.Event.{Event, outputs, output_of}
 use Rattle.ps_meaning.specs.Meaning.{some_out}
+use Rattle.ps_meaning.specs.Runs.{fresh_store}
 use Rattle.ps_stepping.specs.Config.{Config, code_in}
 use Rattle.ps_stepping.specs.Machine.{Step, Goes, Steps}
 use Rattle.ps_stepping.specs.Path.{Reaches, no_step, more}
@@ -56,7 +57,7 @@ held m sound =
         locals = record { nums = λ slot. get_or m.nums.items slot (pos 0); refs = λ slot. value (get_or m.refs.items slot 0) };
         scope = None;
         callers = [];
-        store = record { turns = m.turns };
+        store = fresh_store m.turns;
       },
       record {
         unit_is = refl;

@@ -6,7 +6,7 @@ use Rattle.ps_base.specs.CodeUnit.{UnitView}
 use Rattle.ps_base.specs.declared.line.Line.{Line}
 use Rattle.ps_base.specs.declared.trap.Trap.TheVariants.{Bounds}
 use Rattle.ps_meaning.specs.Event.{Event, Turn, Trapped, outputs}
-use Rattle.ps_meaning.specs.Meaning.{Store, without_turn, spent}
+use Rattle.ps_meaning.specs.Meaning.{Store, with_turns, spent}
 use Rattle.ps_meaning.specs.Operators.{is_same}
 use Rattle.ps_meaning.specs.Evaluation.{goes_on}
 use Rattle.ps_stepping.specs.Config.{Config}
@@ -23,12 +23,13 @@ module _ (u : UnitView) (at : ℕ) (nums : List ℤ) (refs : List ℕ) (turns : 
       ([], record c { at = to }, ap (λ (b : Bool). if b then on (record c { at = to }) else Stuck) (lt-ltb own to before), refl, stands_at to)
 
   -- a turn is taken
-  pub turns_to : (to left : ℕ) → turns ≡ suc left → (events : List Event) × (next : Config) × (turn_to (without_turn c.store.turns) to c ≡ Goes events next) × (outputs events ≡ []) × Stands u to nums refs left next
+  pub turns_to : (to left : ℕ) → turns ≡ suc left →
+      (events : List Event) × (next : Config) × (turn_to (spent c.store) to c ≡ Goes events next) × (outputs events ≡ []) × Stands u to nums refs left next
   turns_to to left some =
-      let store : Store = record { turns = left } in (
+      let store : Store = record (c.store) { turns = left } in (
         Turn ∷ [],
         record c { at = to; store = store },
-        ap (λ (n : ℕ). turn_to (without_turn n) to c) (h.turns_are ∙ some),
+        ap (λ (n : ℕ). turn_to (with_turns c.store n) to c) (h.turns_are ∙ some),
         refl,
         record { unit_is = h.unit_is; at_is = refl; nums_are = h.nums_are; refs_are = h.refs_are; no_callers = h.no_callers; turns_are = refl },
       )

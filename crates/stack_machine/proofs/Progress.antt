@@ -15,7 +15,7 @@ use Rattle.ps_meaning.specs.Operators.{Answer, Gives, Traps, is_same, neg_of, ar
 use Rattle.ps_meaning.specs.Event.{Event}
 use Rattle.ps_meaning.specs.Values.{Value, number_of, is_one, flag_text, bytes_of}
 use Rattle.ps_meaning.specs.Values as value
-use Rattle.ps_meaning.specs.Meaning.{is_width, without_turn}
+use Rattle.ps_meaning.specs.Meaning.{is_width, with_turns}
 use Rattle.ps_meaning.specs.Evaluation.{goes_on}
 use Rattle.ps_stepping.specs.Config.{Config, Caller, frame_words, code_in, constants_in, frame_in, constant_at}
 use Rattle.ps_stepping.specs.Machine.{Step, Goes, Stops, Stuck, Steps, at_instruction, at_nothing, acts, on, put_num, push_num, push_ref, pop_num_of, pop_ref_of, is_num_slot, is_ref_slot, with_num, with_ref, forward, turn_to, back, answered, test, written, pop_width, push_text, started, counted, come_back, returned}
@@ -82,7 +82,8 @@ turn_lower turns n to at left some =
     let product : turns * suc n ≡ suc n + left * suc n = ap (λ (k : ℕ). k * suc n) some ∙ omega arith in
     omega (arith, product)
 
-drops_turn : (b : ℕ) (c : Config) (to own turns : ℕ) → c.store.turns ≡ turns → Lower (c.store.turns * suc (size c) + own) (turn_to (without_turn turns) to c)
+drops_turn : (b : ℕ) (c : Config) (to own turns : ℕ) → c.store.turns ≡ turns →
+    Lower (c.store.turns * suc (size c) + own) (turn_to (with_turns c.store turns) to c)
 drops_turn b c to own zero is = tt
 drops_turn b c to own (suc n) is = turn_lower c.store.turns (size c) to own n is
 

@@ -2,6 +2,7 @@
 use Rattle.std.specs.Prelude.{ℕ, ◌≤◌, Result, Ok, Err, vec_capacity}
 use Rattle.ps_base.specs.CodeUnit.{UnitView}
 use Rattle.ps_base.specs.declared.code_unit.Frame.{Frame}
+use Rattle.ps_meaning.specs.Runs.{fresh_store}
 use Rattle.ps_stepping.specs.Config.{frame_words, frame_in, start}
 use Rattle.stack_machine.specs.declared.machine.Machine.{Machine}
 use Rattle.stack_machine.specs.declared.load.LoadFault.{LoadFault}
@@ -17,7 +18,7 @@ pub record IsFrame (frame : Frame) : Type 0 where
 pub record IsLoaded (u : UnitView) (turns : ℕ) (m : Machine) : Type 0 where
   pub frame : IsFrame (frame_in u)
   pub sound : IsSound m
-  pub starts : Holds m (start u (record { turns = turns }))
+  pub starts : Holds m (start u (fresh_store turns))
   pub nums_room : stack_words ≤ vec_capacity m.nums
   pub refs_room : stack_words ≤ vec_capacity m.refs
 

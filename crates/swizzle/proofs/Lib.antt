@@ -1,9 +1,9 @@
-mod ObjectLaws
-mod HeapLaws
-mod NotedLaws
-mod PidLaws
-mod KeptLaws
-mod ClearLaws
+pub mod ObjectLaws
+pub mod HeapLaws
+pub mod NotedLaws
+pub mod PidLaws
+pub mod KeptLaws
+pub mod ClearLaws
 pub mod TextLaws
 pub mod NameLaws
 pub mod JointLaws
@@ -11,3 +11,5 @@ pub mod TouchLaws
 pub mod MarkLaws
 pub mod StandLaws
 pub mod FetchedLaws
+pub mod ReadingLaws
+pub mod MadeLaws

@@ -1,6 +1,8 @@
 -- Objects and the words that spell them.
 use Rattle.std.proofs.Common.{Bool, inl, inr, ◌≡◌, ◌≢◌, ℕ, zero, suc, ◌+◌, ◌-◌, ◌*◌, ◌/◌, ◌%◌, ◌^◌, ◌<◌, ◌≤◌, ◌==◌, List, [], ◌∷◌, ◌++◌, length, take, drop, map, set, slice_index, get_or, refl, sym, ap, ◌∙◌, subst, arith, append_assoc, length-append, Option, Some, unwrap_or, if◌then◌else◌}
 use Rattle.std.proofs.lemmas.List.{take_at, drop_at, drop-drop, length-map, get_or_append_left, get_or-append-add, set-append_left, set-append_right, map-set, get_or-map, length-set}
+use Rattle.std.specs.Int.Bits.{bit_and}
+use Rattle.std.proofs.lemmas.Nat.{and_mask}
 use Rattle.std.proofs.lemmas.Bool.{cases_eq, eq-eqb, ne_eqb}
 use Rattle.obj_layout.specs.declared.kind.Kind.{Kind}
 use Rattle.obj_layout.specs.declared.kind.Kind.TheVariants.{Text}
@@ -225,6 +227,24 @@ word_of_num o index fit =
 -- the high half of its first word counts the references
 pub refs_of_word : (o : Object) (w : ℕ) → IsFit o → w ≡ slice_index (object_words o) 0 → w / 2 ^ 32 ≡ o.header.refs
 refs_of_word o w fit e = omega (arith, fit.fields.flags, kind_number-lt o.header.kind)
+
+-- the low half of its third word counts the number words
+pub nums_of_word : (o : Object) (w : ℕ) → IsFit o → w ≡ slice_index (object_words o) 2 → w % 2 ^ 32 ≡ o.header.nums
+nums_of_word o w fit e = omega (arith, fit.fields.nums)
+
+-- the low byte of its first word is the number of its kind
+pub kind_of_word : (o : Object) (w : ℕ) → IsFit o → w ≡ slice_index (object_words o) 0 → w % 2 ^ 8 ≡ kind_number o.header.kind
+kind_of_word o w fit e = omega (arith, kind_number-lt o.header.kind)
+
+-- its low byte is the number of the kind
+pub kind_in_word : (o : Object) (w : ℕ) → IsFit o → w ≡ slice_index (object_words o) 0 → kind_numbered (bit_and w 255) ≡ Some o.header.kind
+kind_in_word o w fit e =
+    let low : w % 2 ^ 8 ≡ kind_number o.header.kind = omega (arith, kind_number-lt o.header.kind) in
+    ap kind_numbered (and_mask w 8 ∙ low) ∙ kind_numbered-kind_number o.header.kind
+
+-- the high half of its third word counts the bytes
+pub bytes_of_word : (o : Object) (w : ℕ) → IsFit o → w ≡ slice_index (object_words o) 2 → w / 2 ^ 32 ≡ o.header.bytes
+bytes_of_word o w fit e = omega (arith, fit.fields.nums)
 
 pub set_of_ref : (o : Object) (slot : ℕ) (to : Reference) → IsFit o → slot < o.header.refs → set (object_words o) (4 + slot) (reference_word to) ≡ object_words (record o { refs = set o.refs slot to })
 set_of_ref o slot to fit below =

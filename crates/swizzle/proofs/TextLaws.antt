@@ -7,6 +7,8 @@ use Rattle.obj_area.specs.inside.Bytes.{AreWhole}
 use Rattle.obj_area.specs.Area.{AreaView, IsGivenOut, words_spanned, byte_place, with_bytes_from}
 use Rattle.obj_area.proofs.WordLaws.{overwritten-inside, bytes_of-append, length-bytes_of, words_of-append, words_of-bytes_of, length-words_of, bytes_of-words_of, AreWords-words_of}
 use Rattle.obj_area.proofs.AreaLaws.{length-overwritten, AreBytes-bytes_of, AreBelow-overwritten, AreBelow-take, AreBelow-drop}
+use Rattle.obj_layout.specs.declared.kind.Kind.{Kind}
+use Rattle.obj_layout.specs.declared.kind.Kind.TheVariants.{Text, Code}
 use Rattle.obj_layout.specs.Header.{header_words}
 use Rattle.obj_layout.specs.declared.header.Header.{Header}
 use Rattle.obj_layout.specs.Reference.{reference_word}
@@ -110,6 +112,11 @@ mid words heap at l =
     }
 
 -- Where an object's bytes begin.
+
+pub words_before-le : (kind : Kind) → words_before kind ≤ 2
+words_before-le Text = omega arith
+words_before-le Code = omega arith
+words_before-le _ = omega arith
 
 pub place_fits : (words : List ℕ) (heap : Heap) (at : ℕ) (h : Header) → Lies words heap at → h ≡ (object_at heap at).header → at + h.refs + 6 < 2 ^ 32
 place_fits words heap at h l e = let refs = ap (λ (x : Header). x.refs) e in omega (arith, l.to, l.small)

@@ -17,7 +17,7 @@ use Rattle.obj_layout.specs.declared.vault.VaultFault.{VaultFault}
 use Rattle.obj_layout.specs.declared.vault.VaultFault.TheVariants.{Device, Output, Full}
 use Rattle.swizzle.specs.declared.fault.SwizzleFault.{SwizzleFault}
 use Rattle.swizzle.specs.declared.fault.SwizzleFault.TheVariants.{Vault}
-use Rattle.swizzle.specs.Touch.{Stays, Keeps, IsNear, IsTouchCall}
+use Rattle.swizzle.specs.Touch.{Stays, Keeps, IsNear, AreFew, IsTouchCall}
 use Rattle.swizzle.proofs.ObjectLaws.{split, size_of_all-append}
 use Rattle.swizzle.proofs.HeapLaws.{held-replaced, held-new, size-replaced, local-append, local-append_other}
 use Rattle.swizzle.proofs.KeptLaws.{held_is}
@@ -172,7 +172,7 @@ call-none old new outside result device output full = record {
   cause = λ e. absurd (device e);
   other = output;
   full = full;
-  calls = ok_of result (omega arith);
+  calls = ok_of result (inl refl);
 }
 
 -- The object of a PID comes.
@@ -245,7 +245,7 @@ joint-fetched heap holds holds_now new pid h inside some is away same told =
 -- one call
 pub touch-one : {S T : Type 0} (old new : Heap) (a b : Outside Space) (most : ℕ) (r : Result S VaultFault) (result : Result T SwizzleFault) → IsStoreCall a b most r → SameContents a b
     → (result ≡ Err (Vault Device) → r ≡ Err Device) → result ≢ Err (Vault Output) → ((used wanted capacity : ℕ) → result ≢ Err (Vault (Full used wanted capacity)))
-    → OnOk result (b.device_calls ≤ a.device_calls + (top_of new - top_of old) / 512 + 6) → IsTouchCall old new a b result
+    → OnOk result (AreFew a.device_calls b.device_calls (top_of new - top_of old)) → IsTouchCall old new a b result
 touch-one old new a b most r result call same device output full calls = record {
   told = call.told;
   images = call.images;
@@ -258,14 +258,14 @@ touch-one old new a b most r result call same device output full calls = record 
   calls = calls;
 }
 
-rose_more : (a b c : ℕ) → a ≤ b → Rose b c → Rose a c
+pub rose_more : (a b c : ℕ) → a ≤ b → Rose b c → Rose a c
 rose_more a b c le (inl h) = inl (omega arith)
 rose_more a b c le (inr e) = inr e
 
 -- two calls, of which the first was answered
 pub touch-two : {R S T : Type 0} (old new : Heap) (a b c : Outside Space) (most next : ℕ) (q : Result R VaultFault) (r : Result S VaultFault) (result : Result T SwizzleFault) → IsStoreCall a b most q → SameContents a b → IsStoreCall b c next r → SameContents b c
     → (result ≡ Err (Vault Device) → r ≡ Err Device) → result ≢ Err (Vault Output) → ((used wanted capacity : ℕ) → result ≢ Err (Vault (Full used wanted capacity)))
-    → OnOk result (c.device_calls ≤ a.device_calls + (top_of new - top_of old) / 512 + 6) → IsTouchCall old new a c result
+    → OnOk result (AreFew a.device_calls c.device_calls (top_of new - top_of old)) → IsTouchCall old new a c result
 touch-two old new a b c most next q r result first same second same_too device output full calls = record {
   told = along_then first.told second.told (λ x is. along_now first.told x is);
   images = along_then first.images second.images (λ x is. along_now first.images x is);
@@ -289,7 +289,7 @@ call-ok old mid new a b x y call top = record {
   cause = λ e. absurd (cc);
   other = λ e. cc;
   full = λ used wanted capacity e. cc;
-  calls = omega (arith, call.calls, top);
+  calls = elim (call.calls) [ inl none ↦ inl none | inr some ↦ inr (omega (arith, some.0, top), omega (arith, some.1, top)) ];
 }
 
 pub ref-top : (heap : Heap) (at slot : ℕ) (to : Reference) → IsHeld heap at → top_of (with_ref heap at slot to) ≡ top_of heap

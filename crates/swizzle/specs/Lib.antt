@@ -6,5 +6,6 @@ pub mod Joint
 pub mod Changes
 pub mod Text
 pub mod Touch
+pub mod Reading
 pub mod Fetched
 pub mod inside

@@ -35,8 +35,12 @@ Denotes heap (Some at) name = IsHeld heap at × (name_at heap at ≡ name)
 abbrev pub IsNear : Heap → Reference → Type 0
 IsNear heap name = (name ≡ Nil) ⊎ ((at : ℕ) × IsHeld heap at × (name_at heap at ≡ name))
 
+-- No device call was made; or words came, five at least, and few calls were made for them.
+abbrev pub AreFew : ℕ → ℕ → ℕ → Type 0
+AreFew before after words = (after ≡ before) ⊎ ((5 ≤ words) × (after ≤ before + words / 512 + 6))
+
 -- What a touch does to the outside: it tells nothing, leaves what a crash may leave and what is held, fails as the device only where that
--- did, and takes at most so many device calls where it is answered, by the words of the object that came.
+-- did, and where it is answered takes few device calls, by the words of the object that came.
 pub record IsTouchCall {T : Type 0} (old new : Heap) (before after : Outside Space) (result : Result T SwizzleFault) : Type 0 where
   pub told : TellsNothing before after
   pub images : LeavesSame before after
@@ -46,7 +50,7 @@ pub record IsTouchCall {T : Type 0} (old new : Heap) (before after : Outside Spa
   pub cause : result ≡ Err (Vault Device) → Rose before.device_faults after.device_faults
   pub other : result ≢ Err (Vault Output)
   pub full : (used wanted capacity : ℕ) → result ≢ Err (Vault (Full used wanted capacity))
-  pub calls : OnOk result (after.device_calls ≤ before.device_calls + (top_of new - top_of old) / 512 + 6)
+  pub calls : OnOk result (AreFew before.device_calls after.device_calls (top_of new - top_of old))
 
 -- Why a reference's object isn't in the area: it is stored, and there is no room for it, or the vault refused it or gave no object.
 abbrev pub IsTouchFault : Heap → Outside Space → Reference → SwizzleFault → Type 0

@@ -1,5 +1,6 @@
-ghost use Rattle.std.specs.Prelude.{◌≡◌, ◌+◌, ◌^◌, ◌<◌, ◌≤◌, true, false, ℕ, Option, IfOk, IfErr, IfSome, OnOk, MatchResult, ◌++◌, Some, length, take, drop, vec_capacity};
+ghost use Rattle.std.specs.Prelude.{◌≡◌, nat_eq, ◌+◌, ◌^◌, ◌<◌, ◌≤◌, true, false, ℕ, Option, IfOk, IfErr, IfSome, OnOk, MatchResult, ◌++◌, Some, length, take, drop, vec_capacity};
 ghost use Rattle.obj_layout.specs.Header.{HasFitLengths};
+ghost use Rattle.obj_layout.specs.Kind.{kind_number};
 ghost use Rattle.obj_layout.specs.Reference.{IsReference};
 ghost use Rattle.swizzle.specs.Objects.{HasRoomForBytes};
 ghost use Rattle.swizzle.specs.Heap.{IsHeap, IsHeld, IsMade, IsFull, Stands, local_of, fresh_heap, top_of, header_at, ref_at, num_at, with_num, with_ref, with_mark, with_no_marks, blank, reference_to};
@@ -15,7 +16,7 @@ ghost use Rattle.swizzle.specs.inside.Clearing.{IsUnmarked, IsUnmarkedAll};
 
 use crate::fault::SwizzleFault;
 use crate::fetched::fetch_near;
-use crate::texts::{are_bytes, place_of_bytes};
+use crate::texts::{are_bytes, place_of_bytes, words_before};
 use obj_area::area::Area;
 use obj_layout::header::{Header, read_header, write_header};
 use obj_layout::kind::Kind;
@@ -51,6 +52,7 @@ const ASSIGNED: u64 = 1 << 8;
 
 impl Swizzle {
     /// A law: what is so of every heap.
+    #[inline]
     pub fn sound(&self)
         ensures { IsHeap self.now }
     {
@@ -157,6 +159,63 @@ impl Swizzle {
         }
     }
 
+    /// Whether the object is of this kind.
+    #[inline]
+    pub fn is_kind(&self, object: u32, kind: Kind) -> bool
+        requires { IsHeld self.now object }
+        ensures { result ≡ nat_eq (kind_number (header_at self.now object).kind) (kind_number kind) }
+    {
+        self.area.word(object) & 0xff == kind as u64
+    }
+
+    /// How many references the object has.
+    #[inline]
+    pub fn refs(&self, object: u32) -> u32
+        requires { IsHeld self.now object }
+        ensures { result ≡ (header_at self.now object).refs }
+    {
+        (self.area.word(object) >> 32) as u32
+    }
+
+    /// How many number words the object has.
+    #[inline]
+    pub fn nums(&self, object: u32) -> u32
+        requires { IsHeld self.now object }
+        ensures { result ≡ (header_at self.now object).nums }
+    {
+        (self.area.word(object + 2) & 0xffff_ffff) as u32
+    }
+
+    /// The PID of the object, 0 for none.
+    #[inline]
+    pub fn pid(&self, object: u32) -> u64
+        requires { IsHeld self.now object }
+        ensures { result ≡ (header_at self.now object).pid }
+    {
+        self.area.word(object + 1)
+    }
+
+    /// What the object is. It costs less than the whole header.
+    #[inline]
+    pub fn kind(&self, object: u32) -> Kind
+        requires { IsHeld self.now object }
+        ensures { result ≡ (header_at self.now object).kind }
+    {
+        match Kind::numbered((self.area.word(object) & 0xff) as u8) {
+            Some(kind) => kind,
+            None => unreachable!(),
+        }
+    }
+
+    // How many bytes the object has.
+    #[inline]
+    fn byte_count(&self, object: u32) -> u32
+        requires { IsHeld self.now object }
+        ensures { result ≡ (header_at self.now object).bytes }
+    {
+        (self.area.word(object + 2) >> 32) as u32
+    }
+
     // The place of the object's number words.
     #[inline]
     fn first_num(&self, object: u32) -> u32
@@ -228,16 +287,17 @@ impl Swizzle {
     }
 
     /// The bytes of a text or of code.
+    #[inline]
     pub fn text(&self, object: u32) -> &[u8]
         requires held { IsHeld self.now object }
         requires kind { HasBytes (header_at self.now object).kind }
         ensures value { result.now ≡ text_at self.now object }
         ensures len { length result.now ≡ (header_at self.now object).bytes }
+        ensures small { length result.now < 2 ^ 32 }
     {
-        let header = self.header(object);
         let _top = self.area.top();
-        let place = place_of_bytes(object, &header);
-        self.area.bytes(place, header.bytes)
+        let place = self.first_num(object) + words_before(self.kind(object));
+        self.area.bytes(place, self.byte_count(object))
     }
 
     /// Writes `from` over the bytes of a text or of code, behind the first `start` ones. All else of it stays.
@@ -327,6 +387,7 @@ impl Swizzle {
     }
 
     /// The object that a slot denotes, in the area; None exactly for nil. The slot is local afterwards.
+    #[inline]
     pub fn touch_slot<V: Vault>(
         &mut self,
         vault: &mut V,

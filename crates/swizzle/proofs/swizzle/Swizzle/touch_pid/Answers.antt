@@ -1,4 +1,4 @@
-use Rattle.std.proofs.Common.{◌≡◌, ◌<◌, ◌≤◌, ◌+◌, ◌^◌, ◌++◌, ◌∷◌, [], ◌∙◌, ℕ, List, Ok, None, sym, ap, arith, length, vec_capacity, refl, subst}
+use Rattle.std.proofs.Common.{inr, ◌≡◌, ◌<◌, ◌≤◌, ◌+◌, ◌^◌, ◌++◌, ◌∷◌, [], ◌∙◌, ℕ, List, Ok, None, sym, ap, arith, length, vec_capacity, refl, subst}
 use Rattle.std.proofs.lemmas.List.{with_items_is}
 use Rattle.std.specs.Vec.{with_items}
 use Rattle.obj_area.specs.Area.{AreaView}
@@ -137,10 +137,11 @@ returns-clause-call g c =
     let now = c.args.self.now in
     let new = heap_is c.lay.new.area c.self.inside.assigned.items in
     let o = near c.args.pid f.words in
-    let count = (fetched_long f.words c.fetch_near.new.buffer c.in-Ok.count c.args.pid c.in_default-fetch_near.field-0 f.near_is (buffer_long g c) c.requires.high).0 in
+    let long_enough = fetched_long f.words c.fetch_near.new.buffer c.in-Ok.count c.args.pid c.in_default-fetch_near.field-0 f.near_is (buffer_long g c) c.requires.high in
+    let count = long_enough.0 in
     let top : top_of new ≡ top_of now + c.in-Ok.count = ap top_of (made g c).seen ∙ omega (arith, size_of_all-append now.objects (o ∷ []), count) in
     let long : length c.deref_mut.result.now ≡ c.in-Ok.count = omega (arith, ap length c.deref_mut.ensures.value, c.make_room.ensures.long) in
     touch-two now new (g.V.Vault.outside c.args.vault.now) (g.V.Vault.outside c.length.new.self) (g.V.Vault.outside c.fetch_near.new.vault) _ _ _ _ (Ok c.top-top.result)
     c.in-Ok.ensures.call c.in-Ok.ensures.same c.in_default-fetch_near.ensures.call c.fetch_near.ensures.same
     (λ e. absurd (cc)) (λ e. cc) (λ used wanted capacity e. cc)
-    (omega (arith, c.in-Ok.ensures.call.calls, c.in_default-fetch_near.ensures.call.calls, top, long))
+    (inr (omega (arith, long_enough.1, top), omega (arith, c.in-Ok.ensures.call.calls, c.in_default-fetch_near.ensures.call.calls, top, long)))

@@ -1,0 +1,6 @@
+pub mod StandingLaws
+pub mod PlaceLaws
+pub mod WriteLaws
+pub mod FieldLaws
+pub mod GivenLaws
+pub mod VectorLaws

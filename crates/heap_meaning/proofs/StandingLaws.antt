@@ -1,0 +1,321 @@
+-- The pairing goes through readings, writes and new objects.
+use Rattle.std.proofs.Common.{arith, inl, inr, ◌≡◌, ◌≢◌, ℕ, zero, suc, ◌+◌, List, [], ◌∷◌, ◌++◌, length, get_or, set, slice_index, slice_set, replicate, refl, sym, ap, ◌∙◌, subst, Some, None}
+use Rattle.std.proofs.lemmas.Bool.{cases_eq}
+use Rattle.obj_layout.specs.declared.kind.Kind.{Kind}
+use Rattle.obj_layout.specs.declared.kind.Kind.TheVariants as kind
+use Rattle.obj_layout.specs.declared.reference.Reference as reference
+use Rattle.obj_layout.specs.declared.reference.Reference.TheVariants as name
+use Rattle.swizzle.specs.Joint.{Shown}
+use Rattle.swizzle.specs.Changes.{Within, ChangedAt}
+use Rattle.text_forms.specs.declared.forms.Form.{Form}
+use Rattle.text_forms.specs.declared.forms.Form.TheVariants as form
+use Rattle.text_forms.specs.Forms.{forms_of, element_of, form_in, before_in}
+use Rattle.heap_places.specs.Shapes.{IsText}
+use Rattle.ps_meaning.specs.Values.{Value, Num, Flag, Text, Nil, Pointer, Vector, Procedure, Nothing}
+use Rattle.ps_meaning.specs.Objects.{Heap, Object, Structure, Elements, object_at, with_object, with_new, new_number}
+use Rattle.heap_meaning.specs.Standing.{Seen, Pairing, StandsFor, IsWordOf, AreFor, IsAs, IsLike, Both, Stands, IsOne, with_pair}
+
+-- What stands for a value stands for it where more is seen, and where more is paired.
+
+pub text-more : (seen now : Seen) (n : reference.Reference) (bytes : List ℕ) → ((it : Shown) → it.kind ≡ kind.Text → seen n it → now n it) → IsText seen n bytes → IsText now n bytes
+text-more seen now n bytes grows t = record { it = t.it; there = grows t.it t.kind t.there; kind = t.kind; bytes_are = t.bytes_are }
+
+-- every text that is seen stays
+abbrev pub Texts : Seen → Seen → Type 0
+Texts seen now = (n : reference.Reference) (it : Shown) → it.kind ≡ kind.Text → seen n it → now n it
+
+-- every pair stays
+abbrev pub Pairs : Pairing → Pairing → Type 0
+Pairs pair now = (n : reference.Reference) (id : ℕ) → pair n id → now n id
+
+pub stands-more : (seen now : Seen) (pair more : Pairing) (n : reference.Reference) (v : Value) → Texts seen now → Pairs pair more → StandsFor seen pair n v → StandsFor now more n v
+stands-more seen now pair more n Nil texts pairs s = s
+stands-more seen now pair more n (Text bytes) texts pairs s = text-more seen now n bytes (λ it k. texts n it k) s
+stands-more seen now pair more n (Pointer id) texts pairs s = pairs n id s
+stands-more seen now pair more n (Vector id) texts pairs s = pairs n id s
+stands-more seen now pair more n (Num z) texts pairs s = absurd s
+stands-more seen now pair more n (Flag b) texts pairs s = absurd s
+stands-more seen now pair more n (Procedure of scope) texts pairs s = absurd s
+stands-more seen now pair more n Nothing texts pairs s = absurd s
+
+pub are-more : (seen now : Seen) (pair more : Pairing) (forms : List Form) (ns : List reference.Reference) (words : List ℕ) (vs : List Value) → Texts seen now → Pairs pair more
+    → AreFor seen pair forms ns words vs → AreFor now more forms ns words vs
+are-more seen now pair more (form.Reference ∷ forms) (n ∷ ns) words (v ∷ vs) texts pairs a = (stands-more seen now pair more n v texts pairs a.0, are-more seen now pair more forms ns words vs texts pairs a.1)
+are-more seen now pair more (form.Reference ∷ forms) (n ∷ ns) words [] texts pairs a = absurd a
+are-more seen now pair more (form.Reference ∷ forms) [] words vs texts pairs a = absurd a
+are-more seen now pair more (form.Number ∷ forms) ns (word ∷ words) (v ∷ vs) texts pairs a = (a.0, are-more seen now pair more forms ns words vs texts pairs a.1)
+are-more seen now pair more (form.Number ∷ forms) ns (word ∷ words) [] texts pairs a = absurd a
+are-more seen now pair more (form.Number ∷ forms) ns [] vs texts pairs a = absurd a
+are-more seen now pair more (form.Flag ∷ forms) ns (word ∷ words) (v ∷ vs) texts pairs a = (a.0, are-more seen now pair more forms ns words vs texts pairs a.1)
+are-more seen now pair more (form.Flag ∷ forms) ns (word ∷ words) [] texts pairs a = absurd a
+are-more seen now pair more (form.Flag ∷ forms) ns [] vs texts pairs a = absurd a
+are-more seen now pair more [] [] [] [] texts pairs a = tt
+are-more seen now pair more [] [] [] (v ∷ vs) texts pairs a = absurd a
+are-more seen now pair more [] [] (word ∷ words) vs texts pairs a = absurd a
+are-more seen now pair more [] (n ∷ ns) words vs texts pairs a = absurd a
+
+pub as-more : (seen now : Seen) (pair more : Pairing) (it : Shown) (of : Kind) (text : List ℕ) (first : ℕ → List ℕ) (forms : List Form) (vs : List Value) → Texts seen now → Pairs pair more
+    → IsAs seen pair it of text first forms vs → IsAs now more it of text first forms vs
+as-more seen now pair more it of text first forms vs texts pairs a = record {
+  kind_is = a.kind_is;
+  text_name = a.text_name;
+  home = a.home;
+  names = a.names;
+  words = a.words;
+  refs = a.refs;
+  nums = a.nums;
+  is_text = text-more seen now a.text_name text (λ it k. texts a.text_name it k) a.is_text;
+  are = are-more seen now pair more forms a.names a.words vs texts pairs a.are;
+}
+
+pub like-more : (seen now : Seen) (pair more : Pairing) (it : Shown) (object : Object) → Texts seen now → Pairs pair more → IsLike seen pair it object → IsLike now more it object
+like-more seen now pair more it (Structure class fields) texts pairs l = as-more seen now pair more it kind.Structure class (λ home. home ∷ []) (forms_of class) fields texts pairs l
+like-more seen now pair more it (Elements ty low elements) texts pairs l = record {
+  bound = l.bound;
+  bound_is = l.bound_is;
+  fits = l.fits;
+  rows = as-more seen now pair more it kind.Vector ty (λ home. home ∷ l.bound ∷ []) (replicate (length elements) (element_of ty)) elements texts pairs l.rows;
+}
+
+-- A reading, and whatever loses no object: the same pairing.
+pub stands-within : (seen now : Seen) (heap : Heap) (pair : Pairing) → Within seen now → Stands seen heap pair → Stands now heap pair
+stands-within seen now heap pair grows s = record {
+  both = λ n id p.
+      let b = s.both n id p in
+      record { it = b.it; object = b.object; there = grows n b.it b.there; means = b.means; like = like-more seen now pair pair b.it b.object (λ m it k j. grows m it j) (λ m i q. q) b.like };
+  one_number = s.one_number;
+  one_name = s.one_name;
+}
+
+-- Reading a place.
+
+-- none of another row counts
+skip : (n : ℕ) → n ≡ 0 + n
+skip n = omega arith
+
+-- one of the row counts
+step : (n : ℕ) → suc n ≡ 1 + n
+step n = omega arith
+
+pub read-reference : (seen : Seen) (pair : Pairing) (forms : List Form) (ns : List reference.Reference) (words : List ℕ) (vs : List Value) (n : ℕ) → AreFor seen pair forms ns words vs
+    → form_in forms n ≡ Some form.Reference → StandsFor seen pair (get_or ns (before_in form.Reference forms n) name.Nil) (get_or vs n Nothing)
+unfolding form_in before_in
+read-reference seen pair (form.Reference ∷ forms) (m ∷ ns) words (v ∷ vs) zero a is = a.0
+read-reference seen pair (form.Reference ∷ forms) (m ∷ ns) words (v ∷ vs) (suc n) a is =
+    subst (λ (k : ℕ). StandsFor seen pair (get_or (m ∷ ns) k name.Nil) (get_or vs n Nothing)) (step (before_in form.Reference forms n)) (read-reference seen pair forms ns words vs n a.1 is)
+read-reference seen pair (form.Reference ∷ forms) (m ∷ ns) words [] n a is = absurd a
+read-reference seen pair (form.Reference ∷ forms) [] words vs n a is = absurd a
+read-reference seen pair (form.Number ∷ forms) ns (word ∷ words) (v ∷ vs) zero a is = absurd (cc)
+read-reference seen pair (form.Number ∷ forms) ns (word ∷ words) (v ∷ vs) (suc n) a is =
+    subst (λ (k : ℕ). StandsFor seen pair (get_or ns k name.Nil) (get_or vs n Nothing)) (skip (before_in form.Reference forms n)) (read-reference seen pair forms ns words vs n a.1 is)
+read-reference seen pair (form.Number ∷ forms) ns (word ∷ words) [] n a is = absurd a
+read-reference seen pair (form.Number ∷ forms) ns [] vs n a is = absurd a
+read-reference seen pair (form.Flag ∷ forms) ns (word ∷ words) (v ∷ vs) zero a is = absurd (cc)
+read-reference seen pair (form.Flag ∷ forms) ns (word ∷ words) (v ∷ vs) (suc n) a is =
+    subst (λ (k : ℕ). StandsFor seen pair (get_or ns k name.Nil) (get_or vs n Nothing)) (skip (before_in form.Reference forms n)) (read-reference seen pair forms ns words vs n a.1 is)
+read-reference seen pair (form.Flag ∷ forms) ns (word ∷ words) [] n a is = absurd a
+read-reference seen pair (form.Flag ∷ forms) ns [] vs n a is = absurd a
+read-reference seen pair [] ns words vs n a is = absurd (cc)
+
+-- a form of number words
+unfoldable pub IsNumber : Form → Type 0
+IsNumber form.Number = Unit {0}
+IsNumber form.Flag = Unit {0}
+IsNumber form.Reference = ⊥
+
+pub read-word : (seen : Seen) (pair : Pairing) (f : Form) (forms : List Form) (ns : List reference.Reference) (words : List ℕ) (vs : List Value) (n : ℕ) → IsNumber f → AreFor seen pair forms ns words vs
+    → form_in forms n ≡ Some f → IsWordOf (slice_index words (before_in f forms n)) f (get_or vs n Nothing)
+unfolding form_in before_in IsNumber
+read-word seen pair form.Reference forms ns words vs n number a is = absurd number
+read-word seen pair form.Number (form.Reference ∷ forms) (m ∷ ns) words (v ∷ vs) zero number a is = absurd (cc)
+read-word seen pair form.Number (form.Reference ∷ forms) (m ∷ ns) words (v ∷ vs) (suc n) number a is =
+    subst (λ (k : ℕ). IsWordOf (slice_index words k) form.Number (get_or vs n Nothing)) (skip (before_in form.Number forms n)) (read-word seen pair form.Number forms ns words vs n number a.1 is)
+read-word seen pair form.Number (form.Reference ∷ forms) (m ∷ ns) words [] n number a is = absurd a
+read-word seen pair form.Number (form.Reference ∷ forms) [] words vs n number a is = absurd a
+read-word seen pair form.Number (form.Number ∷ forms) ns (word ∷ words) (v ∷ vs) zero number a is = a.0
+read-word seen pair form.Number (form.Number ∷ forms) ns (word ∷ words) (v ∷ vs) (suc n) number a is =
+    subst (λ (k : ℕ). IsWordOf (slice_index (word ∷ words) k) form.Number (get_or vs n Nothing)) (step (before_in form.Number forms n)) (read-word seen pair form.Number forms ns words vs n number a.1 is)
+read-word seen pair form.Number (form.Number ∷ forms) ns (word ∷ words) [] n number a is = absurd a
+read-word seen pair form.Number (form.Number ∷ forms) ns [] vs n number a is = absurd a
+read-word seen pair form.Number (form.Flag ∷ forms) ns (word ∷ words) (v ∷ vs) zero number a is = absurd (cc)
+read-word seen pair form.Number (form.Flag ∷ forms) ns (word ∷ words) (v ∷ vs) (suc n) number a is =
+    subst (λ (k : ℕ). IsWordOf (slice_index (word ∷ words) k) form.Number (get_or vs n Nothing)) (step (before_in form.Number forms n)) (read-word seen pair form.Number forms ns words vs n number a.1 is)
+read-word seen pair form.Number (form.Flag ∷ forms) ns (word ∷ words) [] n number a is = absurd a
+read-word seen pair form.Number (form.Flag ∷ forms) ns [] vs n number a is = absurd a
+read-word seen pair form.Number [] ns words vs n number a is = absurd (cc)
+read-word seen pair form.Flag (form.Reference ∷ forms) (m ∷ ns) words (v ∷ vs) zero number a is = absurd (cc)
+read-word seen pair form.Flag (form.Reference ∷ forms) (m ∷ ns) words (v ∷ vs) (suc n) number a is =
+    subst (λ (k : ℕ). IsWordOf (slice_index words k) form.Flag (get_or vs n Nothing)) (skip (before_in form.Flag forms n)) (read-word seen pair form.Flag forms ns words vs n number a.1 is)
+read-word seen pair form.Flag (form.Reference ∷ forms) (m ∷ ns) words [] n number a is = absurd a
+read-word seen pair form.Flag (form.Reference ∷ forms) [] words vs n number a is = absurd a
+read-word seen pair form.Flag (form.Number ∷ forms) ns (word ∷ words) (v ∷ vs) zero number a is = absurd (cc)
+read-word seen pair form.Flag (form.Number ∷ forms) ns (word ∷ words) (v ∷ vs) (suc n) number a is =
+    subst (λ (k : ℕ). IsWordOf (slice_index (word ∷ words) k) form.Flag (get_or vs n Nothing)) (step (before_in form.Flag forms n)) (read-word seen pair form.Flag forms ns words vs n number a.1 is)
+read-word seen pair form.Flag (form.Number ∷ forms) ns (word ∷ words) [] n number a is = absurd a
+read-word seen pair form.Flag (form.Number ∷ forms) ns [] vs n number a is = absurd a
+read-word seen pair form.Flag (form.Flag ∷ forms) ns (word ∷ words) (v ∷ vs) zero number a is = a.0
+read-word seen pair form.Flag (form.Flag ∷ forms) ns (word ∷ words) (v ∷ vs) (suc n) number a is =
+    subst (λ (k : ℕ). IsWordOf (slice_index (word ∷ words) k) form.Flag (get_or vs n Nothing)) (step (before_in form.Flag forms n)) (read-word seen pair form.Flag forms ns words vs n number a.1 is)
+read-word seen pair form.Flag (form.Flag ∷ forms) ns (word ∷ words) [] n number a is = absurd a
+read-word seen pair form.Flag (form.Flag ∷ forms) ns [] vs n number a is = absurd a
+read-word seen pair form.Flag [] ns words vs n number a is = absurd (cc)
+
+-- Writing a place.
+
+pub write-reference : (seen : Seen) (pair : Pairing) (forms : List Form) (ns : List reference.Reference) (words : List ℕ) (vs : List Value) (n : ℕ) (m : reference.Reference) (w : Value) → AreFor seen pair forms ns words vs
+    → form_in forms n ≡ Some form.Reference → StandsFor seen pair m w → AreFor seen pair forms (set ns (before_in form.Reference forms n) m) words (set vs n w)
+unfolding form_in before_in
+write-reference seen pair (form.Reference ∷ forms) (k ∷ ns) words (v ∷ vs) zero m w a is s = (s, a.1)
+write-reference seen pair (form.Reference ∷ forms) (k ∷ ns) words (v ∷ vs) (suc n) m w a is s =
+    subst (λ (i : ℕ). AreFor seen pair (form.Reference ∷ forms) (set (k ∷ ns) i m) words (set (v ∷ vs) (suc n) w)) (step (before_in form.Reference forms n)) (a.0, write-reference seen pair forms ns words vs n m w a.1 is s)
+write-reference seen pair (form.Reference ∷ forms) (k ∷ ns) words [] n m w a is s = absurd a
+write-reference seen pair (form.Reference ∷ forms) [] words vs n m w a is s = absurd a
+write-reference seen pair (form.Number ∷ forms) ns (word ∷ words) (v ∷ vs) zero m w a is s = absurd (cc)
+write-reference seen pair (form.Number ∷ forms) ns (word ∷ words) (v ∷ vs) (suc n) m w a is s =
+    subst (λ (i : ℕ). AreFor seen pair (form.Number ∷ forms) (set ns i m) (word ∷ words) (set (v ∷ vs) (suc n) w)) (skip (before_in form.Reference forms n)) (a.0, write-reference seen pair forms ns words vs n m w a.1 is s)
+write-reference seen pair (form.Number ∷ forms) ns (word ∷ words) [] n m w a is s = absurd a
+write-reference seen pair (form.Number ∷ forms) ns [] vs n m w a is s = absurd a
+write-reference seen pair (form.Flag ∷ forms) ns (word ∷ words) (v ∷ vs) zero m w a is s = absurd (cc)
+write-reference seen pair (form.Flag ∷ forms) ns (word ∷ words) (v ∷ vs) (suc n) m w a is s =
+    subst (λ (i : ℕ). AreFor seen pair (form.Flag ∷ forms) (set ns i m) (word ∷ words) (set (v ∷ vs) (suc n) w)) (skip (before_in form.Reference forms n)) (a.0, write-reference seen pair forms ns words vs n m w a.1 is s)
+write-reference seen pair (form.Flag ∷ forms) ns (word ∷ words) [] n m w a is s = absurd a
+write-reference seen pair (form.Flag ∷ forms) ns [] vs n m w a is s = absurd a
+write-reference seen pair [] ns words vs n m w a is s = absurd (cc)
+
+pub write-word : (seen : Seen) (pair : Pairing) (f : Form) (forms : List Form) (ns : List reference.Reference) (words : List ℕ) (vs : List Value) (n : ℕ) (m : ℕ) (w : Value) → IsNumber f → AreFor seen pair forms ns words vs
+    → form_in forms n ≡ Some f → IsWordOf m f w → AreFor seen pair forms ns (slice_set words (before_in f forms n) m) (set vs n w)
+unfolding form_in before_in IsNumber
+write-word seen pair form.Reference forms ns words vs n m w number a is s = absurd number
+write-word seen pair form.Number (form.Reference ∷ forms) (k ∷ ns) words (v ∷ vs) zero m w number a is s = absurd (cc)
+write-word seen pair form.Number (form.Reference ∷ forms) (k ∷ ns) words (v ∷ vs) (suc n) m w number a is s =
+    subst (λ (i : ℕ). AreFor seen pair (form.Reference ∷ forms) (k ∷ ns) (slice_set words i m) (set (v ∷ vs) (suc n) w)) (skip (before_in form.Number forms n)) (a.0, write-word seen pair form.Number forms ns words vs n m w number a.1 is s)
+write-word seen pair form.Number (form.Reference ∷ forms) (k ∷ ns) words [] n m w number a is s = absurd a
+write-word seen pair form.Number (form.Reference ∷ forms) [] words vs n m w number a is s = absurd a
+write-word seen pair form.Number (form.Number ∷ forms) ns (word ∷ words) (v ∷ vs) zero m w number a is s = (s, a.1)
+write-word seen pair form.Number (form.Number ∷ forms) ns (word ∷ words) (v ∷ vs) (suc n) m w number a is s =
+    subst (λ (i : ℕ). AreFor seen pair (form.Number ∷ forms) ns (slice_set (word ∷ words) i m) (set (v ∷ vs) (suc n) w)) (step (before_in form.Number forms n)) (a.0, write-word seen pair form.Number forms ns words vs n m w number a.1 is s)
+write-word seen pair form.Number (form.Number ∷ forms) ns (word ∷ words) [] n m w number a is s = absurd a
+write-word seen pair form.Number (form.Number ∷ forms) ns [] vs n m w number a is s = absurd a
+write-word seen pair form.Number (form.Flag ∷ forms) ns (word ∷ words) (v ∷ vs) zero m w number a is s = absurd (cc)
+write-word seen pair form.Number (form.Flag ∷ forms) ns (word ∷ words) (v ∷ vs) (suc n) m w number a is s =
+    subst (λ (i : ℕ). AreFor seen pair (form.Flag ∷ forms) ns (slice_set (word ∷ words) i m) (set (v ∷ vs) (suc n) w)) (step (before_in form.Number forms n)) (a.0, write-word seen pair form.Number forms ns words vs n m w number a.1 is s)
+write-word seen pair form.Number (form.Flag ∷ forms) ns (word ∷ words) [] n m w number a is s = absurd a
+write-word seen pair form.Number (form.Flag ∷ forms) ns [] vs n m w number a is s = absurd a
+write-word seen pair form.Number [] ns words vs n m w number a is s = absurd (cc)
+write-word seen pair form.Flag (form.Reference ∷ forms) (k ∷ ns) words (v ∷ vs) zero m w number a is s = absurd (cc)
+write-word seen pair form.Flag (form.Reference ∷ forms) (k ∷ ns) words (v ∷ vs) (suc n) m w number a is s =
+    subst (λ (i : ℕ). AreFor seen pair (form.Reference ∷ forms) (k ∷ ns) (slice_set words i m) (set (v ∷ vs) (suc n) w)) (skip (before_in form.Flag forms n)) (a.0, write-word seen pair form.Flag forms ns words vs n m w number a.1 is s)
+write-word seen pair form.Flag (form.Reference ∷ forms) (k ∷ ns) words [] n m w number a is s = absurd a
+write-word seen pair form.Flag (form.Reference ∷ forms) [] words vs n m w number a is s = absurd a
+write-word seen pair form.Flag (form.Number ∷ forms) ns (word ∷ words) (v ∷ vs) zero m w number a is s = absurd (cc)
+write-word seen pair form.Flag (form.Number ∷ forms) ns (word ∷ words) (v ∷ vs) (suc n) m w number a is s =
+    subst (λ (i : ℕ). AreFor seen pair (form.Number ∷ forms) ns (slice_set (word ∷ words) i m) (set (v ∷ vs) (suc n) w)) (step (before_in form.Flag forms n)) (a.0, write-word seen pair form.Flag forms ns words vs n m w number a.1 is s)
+write-word seen pair form.Flag (form.Number ∷ forms) ns (word ∷ words) [] n m w number a is s = absurd a
+write-word seen pair form.Flag (form.Number ∷ forms) ns [] vs n m w number a is s = absurd a
+write-word seen pair form.Flag (form.Flag ∷ forms) ns (word ∷ words) (v ∷ vs) zero m w number a is s = (s, a.1)
+write-word seen pair form.Flag (form.Flag ∷ forms) ns (word ∷ words) (v ∷ vs) (suc n) m w number a is s =
+    subst (λ (i : ℕ). AreFor seen pair (form.Flag ∷ forms) ns (slice_set (word ∷ words) i m) (set (v ∷ vs) (suc n) w)) (step (before_in form.Flag forms n)) (a.0, write-word seen pair form.Flag forms ns words vs n m w number a.1 is s)
+write-word seen pair form.Flag (form.Flag ∷ forms) ns (word ∷ words) [] n m w number a is s = absurd a
+write-word seen pair form.Flag (form.Flag ∷ forms) ns [] vs n m w number a is s = absurd a
+write-word seen pair form.Flag [] ns words vs n m w number a is s = absurd (cc)
+
+-- The heap of the meaning, with one object in another's place, or with one more.
+
+pub object-set : (heap : Heap) (id : ℕ) (old new : Object) → object_at heap id ≡ Some old → object_at (set heap id new) id ≡ Some new
+object-set [] id old new is = absurd (cc)
+object-set (o ∷ os) zero old new is = refl
+object-set (o ∷ os) (suc id) old new is = object-set os id old new is
+
+pub object-set_other : (heap : Heap) (id i : ℕ) (new : Object) → i ≢ id → object_at (set heap id new) i ≡ object_at heap i
+object-set_other [] id i new ne = refl
+object-set_other (o ∷ os) zero zero new ne = absurd (ne refl)
+object-set_other (o ∷ os) zero (suc i) new ne = refl
+object-set_other (o ∷ os) (suc id) zero new ne = refl
+object-set_other (o ∷ os) (suc id) (suc i) new ne = object-set_other os id i new (λ e. ne (ap suc e))
+
+pub object-last : (heap : Heap) (new : Object) → object_at (heap ++ new ∷ []) (length heap) ≡ Some new
+object-last [] new = refl
+object-last (o ∷ os) new = object-last os new
+
+pub object-before : (heap : Heap) (new o : Object) (id : ℕ) → object_at heap id ≡ Some o → object_at (heap ++ new ∷ []) id ≡ Some o
+object-before [] new o id is = absurd (cc)
+object-before (p ∷ ps) new o zero is = is
+object-before (p ∷ ps) new o (suc id) is = object-before ps new o id is
+
+pub object-none : (heap : Heap) → object_at heap (length heap) ≡ None
+object-none [] = refl
+object-none (o ∷ os) = object-none os
+
+-- An object of a structure or of a vector is no text.
+pub no-text : (seen : Seen) (pair : Pairing) (it : Shown) (object : Object) → IsLike seen pair it object → it.kind ≢ kind.Text
+no-text seen pair it (Structure class fields) l = λ e. let bad : kind.Text ≡ kind.Structure = sym e ∙ l.kind_is in absurd (cc)
+no-text seen pair it (Elements ty low elements) l = λ e. let bad : kind.Text ≡ kind.Vector = sym e ∙ l.rows.kind_is in absurd (cc)
+
+-- where one object that is no text changed, texts stay
+pub texts-changed : (seen now : Seen) (n : reference.Reference) (it new : Shown) → IsOne seen → seen n it → it.kind ≢ kind.Text → ChangedAt seen n new now → Texts seen now
+texts-changed seen now n it new one there other c = λ m t k j.
+    c.stays m t (λ e. other (ap (λ (x : Shown). x.kind) (one n it t there (subst (λ (r : reference.Reference). seen r t) e j)) ∙ k)) j
+
+-- A write on both sides: the same pairing.
+pub stands-written : (seen now : Seen) (heap : Heap) (pair : Pairing) (n : reference.Reference) (id : ℕ) (it new : Shown) (object : Object) → IsOne seen → Stands seen heap pair → pair n id → seen n it → it.kind ≢ kind.Text
+    → ChangedAt seen n new now → IsLike now pair new object → Stands now (with_object heap id object) pair
+stands-written seen now heap pair n id it new object one s p there other c like =
+    let texts = texts-changed seen now n it new one there other c in
+    record {
+      both = λ m i q. elim (cases_eq i id) [
+        | inl same ↦
+            let names : n ≡ m = s.one_name n m i (subst (λ (k : ℕ). pair n k) (sym same) p) q in
+            let mine = s.both n id p in
+            subst (λ (r : reference.Reference). Both now (with_object heap id object) pair r i) names
+            (subst (λ (k : ℕ). Both now (with_object heap id object) pair n k) (sym same)
+            (record { it = new; object = object; there = c.there; means = object-set heap id mine.object object mine.means; like = like }))
+        | inr apart ↦
+            let b = s.both m i q in
+            let ne : m ≢ n = λ e. apart (s.one_number n i id (subst (λ (r : reference.Reference). pair r i) e q) p) in
+            record {
+              it = b.it;
+              object = b.object;
+              there = c.stays m b.it ne b.there;
+              means = object-set_other heap id i object apart ∙ b.means;
+              like = like-more seen now pair pair b.it b.object texts (λ m i q. q) b.like;
+            }
+      ];
+      one_number = s.one_number;
+      one_name = s.one_name;
+    }
+
+-- A new object on both sides: one more pair.
+pub stands-made : (seen now : Seen) (heap : Heap) (pair : Pairing) (n : reference.Reference) (new : Shown) (object : Object) → Stands seen heap pair → ((it : Shown) → seen n it → ⊥)
+    → ChangedAt seen n new now → IsLike now (with_pair pair n (new_number heap)) new object → Stands now (with_new heap object) (with_pair pair n (new_number heap))
+stands-made seen now heap pair n new object s fresh c like =
+    let more = with_pair pair n (new_number heap) in
+    let apart : (m : reference.Reference) (i : ℕ) → pair m i → m ≢ n = λ m i p e. let b = s.both m i p in fresh b.it (subst (λ (r : reference.Reference). seen r b.it) e b.there) in
+    let apart_id : (m : reference.Reference) (i : ℕ) → pair m i → i ≢ new_number heap = λ m i p e.
+    let b = s.both m i p in
+    let bad : Some b.object ≡ None = sym b.means ∙ ap (object_at heap) e ∙ object-none heap in absurd (cc) in
+    let texts : Texts seen now = λ m it k j. c.stays m it (λ e. fresh it (subst (λ (r : reference.Reference). seen r it) e j)) j in
+    record {
+      both = λ m i q. elim q [
+        | inl p ↦
+            let b = s.both m i p in
+            record {
+              it = b.it;
+              object = b.object;
+              there = c.stays m b.it (apart m i p) b.there;
+              means = object-before heap object b.object i b.means;
+              like = like-more seen now pair more b.it b.object texts (λ m i q. inl q) b.like;
+            }
+        | inr e ↦
+            subst (λ (r : reference.Reference). Both now (with_new heap object) more r i) (sym e.0)
+            (subst (λ (k : ℕ). Both now (with_new heap object) more n k) (sym e.1)
+            (record { it = new; object = object; there = c.there; means = object-last heap object; like = like }))
+      ];
+      one_number = λ m i j p q. elim p [
+        | inl a ↦ elim q [ inl b ↦ s.one_number m i j a b | inr b ↦ absurd (apart m i a b.0) ]
+        | inr a ↦ elim q [ inl b ↦ absurd (apart m j b a.0) | inr b ↦ a.1 ∙ sym b.1 ]
+      ];
+      one_name = λ m k i p q. elim p [
+        | inl a ↦ elim q [ inl b ↦ s.one_name m k i a b | inr b ↦ absurd (apart_id m i a b.1) ]
+        | inr a ↦ elim q [ inl b ↦ absurd (apart_id k i b a.1) | inr b ↦ a.0 ∙ sym b.0 ]
+      ];
+    }

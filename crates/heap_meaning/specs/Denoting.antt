@@ -1,0 +1,22 @@
+-- Values in code, whose objects lie in the area, denote values of the meaning.
+use Rattle.std.specs.Prelude.{◌≡◌, ℕ, Option}
+use Rattle.obj_layout.specs.declared.reference.Reference as reference
+use Rattle.swizzle.specs.Heap.{Heap}
+use Rattle.swizzle.specs.Touch.{Denotes}
+use Rattle.heap_places.specs.declared.value.Value as code
+use Rattle.heap_places.specs.declared.value.Value.TheVariants as held
+use Rattle.ps_meaning.specs.Values.{Value, Num, Flag}
+use Rattle.heap_meaning.specs.Standing.{Seen, Pairing, StandsFor}
+
+-- an object of the area, or none, by a name that stands for a value
+pub record DenotesValue (heap : Heap) (seen : Seen) (pair : Pairing) (to : Option ℕ) (v : Value) : Type 0 where
+  pub name : reference.Reference
+  pub denotes : Denotes heap to name
+  pub stands : StandsFor seen pair name v
+
+-- a value in code denotes one of the meaning
+abbrev pub IsFor : Heap → Seen → Pairing → code.Value → Value → Type 0
+IsFor heap seen pair (held.Num z) (Num w) = z ≡ w
+IsFor heap seen pair (held.Flag b) (Flag c) = b ≡ c
+IsFor heap seen pair (held.Ref to) v = DenotesValue heap seen pair to v
+IsFor heap seen pair _ _ = ⊥

@@ -1,0 +1,96 @@
+-- Objects that are seen stand for objects of a heap. Structures and vectors have a name here and a number there, and a pairing says which name
+-- goes with which number. A text is a value, and its object stands for its bytes.
+use Rattle.std.specs.Prelude.{◌≡◌, ◌⊎◌, ℕ, ℤ, true, List, [], ◌∷◌, ◌++◌, length, replicate, Some}
+use Rattle.obj_layout.specs.declared.kind.Kind.{Kind}
+use Rattle.obj_layout.specs.declared.kind.Kind.TheVariants as kind
+use Rattle.obj_layout.specs.declared.reference.Reference as reference
+use Rattle.obj_layout.specs.declared.reference.Reference.TheVariants as name
+use Rattle.swizzle.specs.Joint.{Shown}
+use Rattle.text_forms.specs.declared.forms.Form.{Form}
+use Rattle.text_forms.specs.declared.forms.Form.TheVariants as form
+use Rattle.text_forms.specs.Forms.{forms_of, element_of}
+use Rattle.heap_places.specs.Words.{int_in, flag_in}
+use Rattle.heap_places.specs.Shapes.{IsText}
+use Rattle.ps_meaning.specs.Values.{Value, Num, Flag, Text, Nil, Pointer, Vector}
+use Rattle.ps_meaning.specs.Objects.{Heap, Object, Structure, Elements, object_at, is_vector}
+
+-- what is seen: which object a name has
+abbrev pub Seen : Type 1
+Seen = reference.Reference → Shown → Type 0
+
+-- which name goes with which number
+abbrev pub Pairing : Type 1
+Pairing = reference.Reference → ℕ → Type 0
+
+-- A name stands for a value that isn't a number: nil for nil, a text's for its bytes, a structure's or a vector's for the number that goes
+-- with it.
+abbrev pub StandsFor : Seen → Pairing → reference.Reference → Value → Type 0
+StandsFor seen pair n Nil = n ≡ name.Nil
+StandsFor seen pair n (Text bytes) = IsText seen n bytes
+StandsFor seen pair n (Pointer id) = pair n id
+StandsFor seen pair n (Vector id) = pair n id
+StandsFor seen pair n _ = ⊥
+
+-- a word stands for an int or a bool
+abbrev pub IsWordOf : ℕ → Form → Value → Type 0
+IsWordOf word form.Number (Num z) = int_in word ≡ Some z
+IsWordOf word form.Flag (Flag b) = flag_in word ≡ Some b
+IsWordOf word _ v = ⊥
+
+-- The rows of an object, its references and its number words, stand for values in places of these forms.
+abbrev pub AreFor : Seen → Pairing → List Form → List reference.Reference → List ℕ → List Value → Type 0
+AreFor seen pair (form.Reference ∷ forms) (n ∷ ns) words (v ∷ vs) = StandsFor seen pair n v × AreFor seen pair forms ns words vs
+AreFor seen pair (form.Number ∷ forms) ns (word ∷ words) (v ∷ vs) = IsWordOf word form.Number v × AreFor seen pair forms ns words vs
+AreFor seen pair (form.Flag ∷ forms) ns (word ∷ words) (v ∷ vs) = IsWordOf word form.Flag v × AreFor seen pair forms ns words vs
+AreFor seen pair [] [] [] [] = Unit {0}
+AreFor seen pair _ _ _ _ = ⊥
+
+-- An object of this kind that refers to a text first, and has these words before those of its values.
+pub record IsAs (seen : Seen) (pair : Pairing) (it : Shown) (of : Kind) (text : List ℕ) (first : ℕ → List ℕ) (forms : List Form) (values : List Value) : Type 0 where
+  pub kind_is : it.kind ≡ of
+  pub text_name : reference.Reference
+  pub home : ℕ
+  pub names : List reference.Reference
+  pub words : List ℕ
+  pub refs : it.refs ≡ text_name ∷ names
+  pub nums : it.nums ≡ first home ++ words
+  pub is_text : IsText seen text_name text
+  pub are : AreFor seen pair forms names words values
+
+-- What is seen of a structure: its class's text, its home, and the values of its fields.
+abbrev pub IsStructure : Seen → Pairing → Shown → List ℕ → List Value → Type 0
+IsStructure seen pair it class fields = IsAs seen pair it kind.Structure class (λ home. home ∷ []) (forms_of class) fields
+
+-- And of a vector: its type's text, its home, its lower bound, and its elements.
+pub record IsVector (seen : Seen) (pair : Pairing) (it : Shown) (ty : List ℕ) (low : ℤ) (elements : List Value) : Type 0 where
+  pub bound : ℕ
+  pub bound_is : int_in bound ≡ Some low
+  pub fits : is_vector low (length elements) ≡ true
+  pub rows : IsAs seen pair it kind.Vector ty (λ home. home ∷ bound ∷ []) (replicate (length elements) (element_of ty)) elements
+
+-- what is seen stands for an object of the heap
+abbrev pub IsLike : Seen → Pairing → Shown → Object → Type 0
+IsLike seen pair it (Structure class fields) = IsStructure seen pair it class fields
+IsLike seen pair it (Elements ty low elements) = IsVector seen pair it ty low elements
+
+-- The object of a name and that of the number that goes with it.
+pub record Both (seen : Seen) (heap : Heap) (pair : Pairing) (n : reference.Reference) (id : ℕ) : Type 0 where
+  pub it : Shown
+  pub object : Object
+  pub there : seen n it
+  pub means : object_at heap id ≡ Some object
+  pub like : IsLike seen pair it object
+
+-- What is seen stands for the heap: the pairing is one-to-one, and what is paired is alike.
+pub record Stands (seen : Seen) (heap : Heap) (pair : Pairing) : Type 0 where
+  pub both : (n : reference.Reference) (id : ℕ) → pair n id → Both seen heap pair n id
+  pub one_number : (n : reference.Reference) (i j : ℕ) → pair n i → pair n j → i ≡ j
+  pub one_name : (n m : reference.Reference) (id : ℕ) → pair n id → pair m id → n ≡ m
+
+-- a name has one object
+abbrev pub IsOne : Seen → Type 0
+IsOne seen = (n : reference.Reference) (a b : Shown) → seen n a → seen n b → a ≡ b
+
+-- the pairing with one more pair
+abbrev pub with_pair : Pairing → reference.Reference → ℕ → Pairing
+with_pair pair n id m i = pair m i ⊎ ((m ≡ n) × (i ≡ id))

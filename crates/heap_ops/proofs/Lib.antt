@@ -1,0 +1,5 @@
+pub mod ClassLaws
+pub mod FieldLaws
+pub mod LayoutLaws
+pub mod ShapeLaws
+pub mod VectorLaws

@@ -1,0 +1,11 @@
+//! Structures and vectors of the area: what the language's operators on them answer, and what they change.
+#![tactic(auto)]
+
+pub mod layouts;
+mod shape;
+pub mod structures;
+pub mod vectors;
+
+pub use heap_places::value::Value;
+pub use heap_texts::fault::OpFault;
+pub use heap_texts::make::make_text;

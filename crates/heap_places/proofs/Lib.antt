@@ -1,0 +1,4 @@
+pub mod WordLaws
+pub mod PlaceLaws
+pub mod TouchedLaws
+pub mod FillingLaws

@@ -1,0 +1,5 @@
+pub mod Words
+pub mod Shapes
+pub mod Places
+pub mod Filling
+pub mod inside

@@ -1,0 +1,10 @@
+pub mod ReadLaws
+pub mod UnitLaws
+pub mod LoadLaws
+pub mod FitLaws
+pub mod LinkLaws
+pub mod FoundLaws
+pub mod CodeLaws
+pub mod WrittenLaws
+pub mod LoadedLaws
+pub mod StayLaws

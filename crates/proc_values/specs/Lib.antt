@@ -1,0 +1,4 @@
+pub mod Units
+pub mod Reading
+pub mod Loaded
+pub mod inside

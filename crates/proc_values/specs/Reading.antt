@@ -1,0 +1,51 @@
+-- What is read of a code object.
+use Rattle.std.specs.Prelude.{◌≡◌, ◌≢◌, ◌⊎◌, ℕ, ◌+◌, ◌<◌, List, [], ◌∷◌, drop, ◌++◌, Result, Ok, Err, Some}
+use Rattle.ps_base.specs.declared.instr.Instr.{Instr}
+use Rattle.ps_base.specs.Instr.{IsInstr, spelling, width_of}
+use Rattle.ps_outside.specs.Outside.{Outside}
+use Rattle.obj_layout.specs.Stored.{Space}
+use Rattle.obj_layout.specs.declared.kind.Kind.TheVariants.{Code}
+use Rattle.obj_layout.specs.declared.reference.Reference.TheVariants.{Nil}
+use Rattle.obj_layout.specs.declared.vault.VaultFault.TheVariants.{Damaged}
+use Rattle.swizzle.specs.declared.fault.SwizzleFault.{SwizzleFault}
+use Rattle.swizzle.specs.declared.fault.SwizzleFault.TheVariants.{Vault}
+use Rattle.swizzle.specs.Heap.{Heap, header_at, ref_at}
+use Rattle.swizzle.specs.Joint.{name_of}
+use Rattle.swizzle.specs.Text.{text_at}
+use Rattle.swizzle.specs.Touch.{Denotes, IsTouchFault}
+use Rattle.swizzle.specs.Reading.{Reads, FailsReading}
+
+-- it is a code object, and has this constant, which isn't nil
+pub record HasConstant (heap : Heap) (code index : ℕ) : Type 0 where
+  pub kind : (header_at heap code).kind ≡ Code
+  pub below : index < (header_at heap code).refs
+  pub some : ref_at heap code index ≢ Nil
+
+-- the object is damaged: the fault names its PID
+abbrev pub IsDamaged : Heap → ℕ → SwizzleFault → Type 0
+IsDamaged heap at fault = (found : ℕ) × (wanted : ℕ) × (fault ≡ Vault (Damaged (header_at heap at).pid found wanted))
+
+-- A constant of a code object: the object that the slot of this number denotes. It is damaged exactly where it has none; else the fault is
+-- that of the touch.
+abbrev pub GivesConstant : Heap → Heap → Outside Space → Outside Space → ℕ → ℕ → Result ℕ SwizzleFault → Type 0
+GivesConstant old new before after code index (Ok at) =
+    HasConstant old code index
+    × Denotes new (Some at) (name_of old (ref_at old code index))
+    × Reads old new before after (name_of old (ref_at old code index) ∷ [])
+GivesConstant old new before after code index (Err fault) =
+    ((HasConstant old code index → ⊥) × IsDamaged old code fault × (new ≡ old))
+    ⊎ (HasConstant old code index × IsTouchFault old before (ref_at old code index) fault × FailsReading before after fault)
+
+-- This instruction is spelled at an offset of the code, and ends before that one.
+pub record IsSpelled (code : List ℕ) (at : ℕ) (i : Instr) (next : ℕ) : Type 0 where
+  pub is_instr : IsInstr i
+  pub rest : List ℕ
+  pub spelled : drop at code ≡ spelling i ++ rest
+  pub next_is : next ≡ at + width_of i
+
+-- The instruction at an offset of a code object, and the offset behind it. It is damaged exactly where it is no code object or none is
+-- spelled there.
+abbrev pub GivesInstr : Heap → ℕ → ℕ → Result (Instr × ℕ) SwizzleFault → Type 0
+GivesInstr heap code at (Ok found) = ((header_at heap code).kind ≡ Code) × IsSpelled (text_at heap code) at found.0 found.1
+GivesInstr heap code at (Err fault) =
+    IsDamaged heap code fault × ((header_at heap code).kind ≡ Code → (i : Instr) (next : ℕ) → IsSpelled (text_at heap code) at i next → ⊥)

@@ -1,0 +1,115 @@
+ghost use Rattle.std.specs.Prelude.{◌≡◌, ◌<◌, ◌^◌, ◌↔◌, true, length, OnOk};
+ghost use Rattle.obj_layout.specs.declared.kind.Kind.TheVariants.{Code};
+ghost use Rattle.swizzle.specs.Heap.{IsHeld};
+ghost use Rattle.proc_values.specs.Reading.{HasConstant, GivesConstant, GivesInstr, IsDamaged};
+ghost use Rattle.obj_layout.specs.declared.vault.VaultFault.TheVariants.{Damaged};
+ghost use Rattle.swizzle.specs.declared.fault.SwizzleFault.TheVariants.{Vault as InVault};
+ghost use Rattle.proc_values.specs.inside.Spelled.{IsInstrIn};
+
+use obj_layout::kind::Kind;
+use obj_layout::vault::{Vault, VaultFault};
+use ps_base::instr::Instr;
+use ps_code::decode::decode;
+use swizzle::fault::SwizzleFault;
+use swizzle::swizzle::Swizzle;
+
+/// The object of a constant of a code object. It is fetched where it isn't in the area. Damaged, at the code object's PID, exactly where the
+/// object is no code (found its kind, wanted 6), has no such constant (found the index, wanted their count), or has nil there (found 0,
+/// wanted 1).
+pub fn constant<V: Vault>(
+    sw: &mut Swizzle,
+    vault: &mut V,
+    code: u32,
+    index: u32,
+) -> Result<u32, SwizzleFault>
+    requires alive { V.alive vault.old }
+    requires held { IsHeld sw.old code }
+    ensures given { GivesConstant sw.old sw.new (V.outside vault.old) (V.outside vault.new) code index result }
+    ensures still { (HasConstant sw.old code index → ⊥) → vault.new ≡ vault.old }
+    ensures numbers { (V.used_words vault.new ≡ V.used_words vault.old) × (V.directory_at vault.new ≡ V.directory_at vault.old) × (V.most_words vault.new ≡ V.most_words vault.old) }
+    ensures alive { OnOk result (V.alive vault.new) }
+{
+    if !is_code(sw.kind(code)) {
+        return Err(no_code(sw, code));
+    }
+    let header = sw.header(code);
+    if index >= header.refs {
+        return Err(damaged(header.pid, u64::from(index), u64::from(header.refs)));
+    }
+    match sw.touch_slot(vault, code, index) {
+        Ok(Some(at)) => Ok(at),
+        Ok(None) => Err(damaged(header.pid, 0, 1)),
+        Err(fault) => Err(fault),
+    }
+}
+
+/// The instruction at an offset of a code object, and the offset behind it. Damaged, at the object's PID, exactly where the object is no code
+/// (found its kind, wanted 6), or no instruction is spelled there (found the offset, wanted how many bytes the code has).
+#[inline]
+pub fn instr_at(sw: &Swizzle, code: u32, at: u32) -> Result<(Instr, u32), SwizzleFault>
+    requires { IsHeld sw.now code }
+    ensures { GivesInstr sw.now code at result }
+{
+    if !is_code(sw.kind(code)) {
+        return Err(no_code(sw, code));
+    }
+    match instr_in(sw.text(code), at) {
+        Some(found) => Ok(found),
+        None => Err(no_instruction(sw, code, at)),
+    }
+}
+
+// The object is code.
+#[inline]
+fn is_code(kind: Kind) -> bool
+    ensures { (result ≡ true) ↔ (kind ≡ Code) }
+{
+    kind == Kind::Code
+}
+
+// The instruction that is spelled at an offset of the bytes, and the offset behind it.
+#[inline]
+fn instr_in(bytes: &[u8], at: u32) -> Option<(Instr, u32)>
+    requires { length bytes.now < 2 ^ 32 }
+    ensures { IsInstrIn bytes.now at result }
+{
+    if at as usize >= bytes.len() {
+        return None;
+    }
+    let (_, rest) = bytes.split_at(at as usize);
+    match decode(rest) {
+        Some((instr, width)) => Some((instr, at + width as u32)),
+        None => None,
+    }
+}
+
+// The object is no code: its kind, and that of code.
+#[inline(never)]
+fn no_code(sw: &Swizzle, object: u32) -> SwizzleFault
+    requires { IsHeld sw.now object }
+    ensures { IsDamaged sw.now object result }
+{
+    let header = sw.header(object);
+    damaged(
+        header.pid,
+        u64::from(header.kind.number()),
+        u64::from(Kind::Code.number()),
+    )
+}
+
+// No instruction is spelled there: the offset, and how many bytes the code has.
+#[inline(never)]
+fn no_instruction(sw: &Swizzle, code: u32, at: u32) -> SwizzleFault
+    requires { IsHeld sw.now code }
+    ensures { IsDamaged sw.now code result }
+{
+    let header = sw.header(code);
+    damaged(header.pid, u64::from(at), u64::from(header.bytes))
+}
+
+// The object at this PID is damaged: the number that was tested, and its bound.
+fn damaged(at: u64, found: u64, wanted: u64) -> SwizzleFault
+    ensures { result ≡ InVault (Damaged at found wanted) }
+{
+    SwizzleFault::Vault(VaultFault::Damaged { at, found, wanted })
+}

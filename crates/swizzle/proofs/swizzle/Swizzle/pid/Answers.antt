@@ -1,0 +1,18 @@
+use Rattle.std.proofs.Common.{arith}
+use Rattle.swizzle.proofs.KeptLaws.{lies_in, lies-given, lies-word_at}
+use Rattle.swizzle.proofs.swizzle.Swizzle.pid.Goals as goal
+
+pub overflow_add-object : goal.overflow_add-object
+overflow_add-object c =
+    let l = lies_in c.self.inside _ c.args.object c.self.view_is c.self.invariant c.requires in
+    omega (arith, l.to, l.small)
+
+pub word-requires : goal.word-requires
+word-requires c =
+    let l = lies_in c.self.inside _ c.args.object c.self.view_is c.self.invariant c.requires in
+    lies-given c.self.inside.area _ _ 1 _ l (omega arith) (omega arith)
+
+pub returns : goal.returns
+returns c =
+    let l = lies_in c.self.inside _ c.args.object c.self.view_is c.self.invariant c.requires in
+    lies-word_at _ _ c.args.object 1 _ _ l (omega arith) (omega arith) c.word.ensures

@@ -1,0 +1,9 @@
+pub mod Bytes
+pub mod ClassForms
+pub mod Fields
+pub mod Naming
+pub mod Passing
+pub mod Places
+pub mod Reading
+pub mod Rows
+pub mod Whole

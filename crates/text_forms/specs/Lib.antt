@@ -1,0 +1,5 @@
+pub mod Forms
+pub mod Classes
+pub mod Places
+pub mod Strict
+pub mod inside

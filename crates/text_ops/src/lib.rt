@@ -1,0 +1,5 @@
+//! The operators on strings, over the texts of the area.
+#![tactic(auto)]
+
+pub mod operators;
+mod span;
