@@ -3,3 +3,4 @@ pub mod FieldLaws
 pub mod LayoutLaws
 pub mod ShapeLaws
 pub mod VectorLaws
+pub mod MadeVectors

@@ -1,6 +1,6 @@
 ghost use Rattle.std.specs.Prelude.{◌≡◌, ◌-ℤ◌, length, replicate, None, OnOk};
 ghost use Rattle.ps_meaning.specs.Objects.{is_vector as is_vector_of, count_from};
-ghost use Rattle.swizzle.specs.Heap.{IsHeld};
+ghost use Rattle.swizzle.specs.Heap.{IsHeld, Stands};
 ghost use Rattle.heap_places.specs.Places.{IsNear, NamesDamage, fit_damage};
 ghost use Rattle.heap_places.specs.Filling.{AreNear};
 ghost use Rattle.heap_ops.specs.Outcomes.{UnlessFault};
@@ -29,7 +29,8 @@ pub fn make_vector(
 ) -> Result<u32, OpFault>
     requires text { IsHeld sw.old ty }
     requires near { IsNear sw.old fill }
-    ensures { MakesVector sw.old sw.new ty low (replicate (count_from (high -ℤ low)) fill) (is_vector_of low (count_from (high -ℤ low))) result }
+    ensures made { MakesVector sw.old sw.new ty low (replicate (count_from (high -ℤ low)) fill) (is_vector_of low (count_from (high -ℤ low))) result }
+    ensures stands { Stands sw.old sw.new }
 {
     let count = count_between(low, high);
     if !is_vector(low, count) {
@@ -57,7 +58,8 @@ fn count_between(low: i32, high: i32) -> u64
 pub fn make_list(sw: &mut Swizzle, ty: u32, low: i32, items: &[Value]) -> Result<u32, OpFault>
     requires text { IsHeld sw.old ty }
     requires near { AreNear sw.old items.now }
-    ensures { MakesVector sw.old sw.new ty low items.now (is_vector_of low (length items.now)) result }
+    ensures made { MakesVector sw.old sw.new ty low items.now (is_vector_of low (length items.now)) result }
+    ensures stands { Stands sw.old sw.new }
 {
     if !is_vector(low, items.len() as u64) {
         return Err(OpFault::Trap(Trap::Bounds));
@@ -147,6 +149,7 @@ pub fn set_element<V: Vault>(
     ensures set { SetsElement sw.old sw.new (V.outside vault.old) (V.outside vault.new) vector at to result }
     ensures numbers { (V.used_words vault.new ≡ V.used_words vault.old) × (V.directory_at vault.new ≡ V.directory_at vault.old) × (V.most_words vault.new ≡ V.most_words vault.old) }
     ensures alive { UnlessFault result (V.alive vault.new) }
+    ensures stands { UnlessFault result (Stands sw.old sw.new) }
 {
     let shape = match read_shape(sw, vault, vector) {
         Ok(shape) => shape,

@@ -1,0 +1,5 @@
+use Rattle.bench_heap.specs.Scene.{IsSet}
+use Rattle.bench_heap.proofs.read_often.Given as goal
+
+abbrev pub invariant-loop : goal.invariant-loop
+invariant-loop l = IsSet l.scene

@@ -1,0 +1,12 @@
+use Rattle.heap_places.proofs.FillingLaws.{roomy-held}
+use Rattle.heap_ops_tests.proofs.Staying.{text_stands}
+use Rattle.heap_ops_tests.proofs.world.World.bend.Goals as goal
+
+pub returns-in-Ok : goal.returns-in-Ok
+returns-in-Ok c = record {
+  own = text_stands _ _ _ c.make.ensures.stands c.requires.own;
+  equal = text_stands _ _ _ c.make.ensures.stands c.requires.equal;
+  other = text_stands _ _ _ c.make.ensures.stands c.requires.other;
+  name = text_stands _ _ _ c.make.ensures.stands c.requires.name;
+  object = (roomy-held _ _ _ _ c.in-Ok.ensures.made).0;
+}

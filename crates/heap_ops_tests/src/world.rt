@@ -1,0 +1,286 @@
+//! An area with a structure and the texts of three classes, and the calls on it.
+ghost use Rattle.std.specs.Prelude.{◌≡◌, IfOk, IfSome, OnOk};
+ghost use Rattle.swizzle.specs.Heap.{IsHeld, Stands};
+ghost use Rattle.swizzle.specs.Text.{text_at};
+ghost use Rattle.heap_texts.specs.Texts.{HoldsText};
+ghost use Rattle.heap_places.specs.Places.{IsNear};
+ghost use Rattle.heap_places.specs.Filling.{AreNear};
+ghost use Rattle.heap_ops.specs.Structures.{IsNamed};
+ghost use Rattle.heap_ops_tests.specs.World.{IsReady};
+
+use heap_ops::structures::{get_field, is_class, make_structure, set_field};
+use heap_places::places::find_misfit;
+use heap_places::value::Value;
+use heap_texts::fault::OpFault;
+use heap_texts::make::make_text;
+use memory_vault::silent::SilentVault;
+use obj_layout::kind::Kind;
+use obj_layout::reference::Reference;
+use std::alloc::Global;
+use std::test::Fail;
+use swizzle::fault::SwizzleFault;
+use swizzle::swizzle::Swizzle;
+use text_forms::forms::{Located, locate};
+
+/// A structure of the class `own`, whose text stands in the area once more as `equal`, another class, and a text that is a field of the structure.
+#[derive(Drop)]
+pub struct World {
+    pub sw: Swizzle,
+    pub vault: SilentVault,
+    pub own: u32,
+    pub equal: u32,
+    pub other: u32,
+    pub name: u32,
+    pub object: u32,
+}
+
+/// One of the classes.
+#[derive(Clone, Copy)]
+pub enum Class {
+    Own,
+    Equal,
+    Other,
+}
+
+/// What a field is asked of.
+#[derive(Clone, Copy)]
+pub enum Of {
+    Object,
+    Name,
+    Nil,
+}
+
+/// What a field is set to.
+#[derive(Clone, Copy)]
+pub enum To {
+    Num(i32),
+    Flag(bool),
+    Of(Of),
+}
+
+/// What a call answered.
+#[derive(Clone, Copy, PartialEq, Eq, Debug)]
+pub enum Seen {
+    Value(Value),
+    Done,
+    Trap(u32),
+    NoField,
+    Misfit,
+}
+
+const PERSON: &[u8] = b"person(string name;int age;bool old;pntr next)";
+
+/// A text more.
+pub fn text(sw: &mut Swizzle, bytes: &[u8]) -> Result<u32, SwizzleFault>
+    ensures there { IfOk result (HoldsText sw.new) }
+    ensures stands { Stands sw.old sw.new }
+{
+    make_text(sw, bytes)
+}
+
+/// A structure of the class `own` more.
+pub fn structure(sw: &mut Swizzle, class: u32, name: u32) -> Result<u32, SwizzleFault>
+    requires class { IsHeld sw.old class }
+    requires name { IsHeld sw.old name }
+    ensures there { IfOk result (IsHeld sw.new) }
+    ensures stands { Stands sw.old sw.new }
+{
+    let fields = [
+        Value::Ref(Some(name)),
+        Value::Num(-5),
+        Value::Flag(true),
+        Value::Ref(None),
+    ];
+    make_structure(sw, class, &fields)
+}
+
+impl World {
+    /// The area as the tests begin with it.
+    pub fn new(alloc: Global) -> Result<World, Fail>
+        ensures { IfOk result IsReady }
+    {
+        let mut sw = Swizzle::new(alloc, 200)?;
+        match World::made(&mut sw) {
+            Ok(at) => Ok(World {
+                sw,
+                vault: SilentVault { asked: 0 },
+                own: at.0,
+                equal: at.1,
+                other: at.2,
+                name: at.3,
+                object: at.4,
+            }),
+            Err(_) => Err("no room for the objects".into()),
+        }
+    }
+
+    // The texts and the structure.
+    fn made(sw: &mut Swizzle) -> Result<(u32, u32, u32, u32, u32), SwizzleFault>
+        ensures own { IfOk result (λ at. HoldsText sw.new at.0) }
+        ensures equal { IfOk result (λ at. HoldsText sw.new at.1) }
+        ensures other { IfOk result (λ at. HoldsText sw.new at.2) }
+        ensures name { IfOk result (λ at. HoldsText sw.new at.3) }
+        ensures object { IfOk result (λ at. IsHeld sw.new at.4) }
+    {
+        let own = text(sw, PERSON)?;
+        let equal = text(sw, PERSON)?;
+        let other = text(sw, b"pupil(string name;int age;bool old;pntr next)")?;
+        let name = text(sw, b"Ann")?;
+        let object = structure(sw, own, name)?;
+        Ok((own, equal, other, name, object))
+    }
+
+    fn class(&self, class: Class) -> u32
+        requires { IsReady self.now }
+        ensures { HoldsText self.now.sw result }
+    {
+        match class {
+            Class::Own => self.own,
+            Class::Equal => self.equal,
+            Class::Other => self.other,
+        }
+    }
+
+    fn denoted(&self, of: Of) -> Option<u32>
+        requires { IsReady self.now }
+        ensures { IfSome result (IsHeld self.now.sw) }
+    {
+        match of {
+            Of::Object => Some(self.object),
+            Of::Name => Some(self.name),
+            Of::Nil => None,
+        }
+    }
+
+    fn value(&self, to: To) -> Value
+        requires { IsReady self.now }
+        ensures { IsNear self.now.sw result }
+    {
+        match to {
+            To::Num(value) => Value::Num(value),
+            To::Flag(value) => Value::Flag(value),
+            To::Of(of) => Value::Ref(self.denoted(of)),
+        }
+    }
+
+    /// The value of a field of a class.
+    pub fn get(&mut self, of: Of, class: Class, field: u32) -> Result<Seen, SwizzleFault>
+        requires { IsReady self.old }
+        ensures { OnOk result (IsReady self.new) }
+    {
+        let class = self.class(class);
+        let object = self.denoted(of);
+        let Some(located) = place(&self.sw, class, field) else {
+            return Ok(Seen::NoField);
+        };
+        match get_field(&mut self.sw, &mut self.vault, object, class, located) {
+            Ok(value) => Ok(Seen::Value(value)),
+            Err(OpFault::Trap(trap)) => Ok(Seen::Trap(trap as u32)),
+            Err(OpFault::Swizzle(fault)) => Err(fault),
+        }
+    }
+
+    /// Sets a field of a class.
+    pub fn set(&mut self, of: Of, class: Class, field: u32, to: To) -> Result<Seen, SwizzleFault>
+        requires { IsReady self.old }
+        ensures { OnOk result (IsReady self.new) }
+    {
+        let class = self.class(class);
+        let object = self.denoted(of);
+        let value = self.value(to);
+        let Some(located) = place(&self.sw, class, field) else {
+            return Ok(Seen::NoField);
+        };
+        if find_misfit(located.place.form, value).is_some() {
+            return Ok(Seen::Misfit);
+        }
+        match set_field(&mut self.sw, &mut self.vault, object, class, located, value) {
+            Ok(()) => Ok(Seen::Done),
+            Err(OpFault::Trap(trap)) => Ok(Seen::Trap(trap as u32)),
+            Err(OpFault::Swizzle(fault)) => Err(fault),
+        }
+    }
+
+    /// Whether it is a structure of the class.
+    pub fn is(&mut self, of: Of, class: Class) -> Result<bool, SwizzleFault>
+        requires { IsReady self.old }
+        ensures { OnOk result (IsReady self.new) }
+    {
+        let class = self.class(class);
+        let object = self.denoted(of);
+        is_class(&mut self.sw, &mut self.vault, object, class)
+    }
+
+    /// Makes the object one of so many references and words, by hand. False where there is no room.
+    pub fn bend(&mut self, refs: u32, nums: u32) -> bool
+        requires { IsReady self.old }
+        ensures { IsReady self.new }
+    {
+        if refs > 9 || nums > 9 || nums == 0 {
+            return false;
+        }
+        match self.sw.make(Kind::Structure, refs, nums, 0) {
+            Ok(object) => {
+                self.object = object;
+                true
+            }
+            Err(_) => false,
+        }
+    }
+
+    /// Lets the first slot of the object denote something, by hand.
+    pub fn refer(&mut self, to: Option<u32>) -> bool
+        requires ready { IsReady self.old }
+        requires to { IfSome to (IsHeld self.old.sw) }
+        ensures { IsReady self.new }
+    {
+        if self.sw.refs(self.object) == 0 {
+            return false;
+        }
+        self.sw.set_ref(self.object, 0, to);
+        true
+    }
+
+    /// Writes a word of the object, by hand.
+    pub fn put_word(&mut self, index: u32, word: u64) -> bool
+        requires { IsReady self.old }
+        ensures { IsReady self.new }
+    {
+        if index >= self.sw.nums(self.object) {
+            return false;
+        }
+        self.sw.set_num(self.object, index, word);
+        true
+    }
+
+    /// A word of the object.
+    pub fn word(&self, index: u32) -> Option<u64>
+        requires { IsReady self.now }
+    {
+        if index < self.sw.nums(self.object) {
+            Some(self.sw.num(self.object, index))
+        } else {
+            None
+        }
+    }
+
+    /// A reference of the object.
+    pub fn slot(&self, slot: u32) -> Option<Reference>
+        requires { IsReady self.now }
+    {
+        if slot < self.sw.refs(self.object) {
+            Some(self.sw.peek(self.object, slot))
+        } else {
+            None
+        }
+    }
+}
+
+// The place of a field of a class.
+fn place(sw: &Swizzle, class: u32, field: u32) -> Option<Located>
+    requires { HoldsText sw.now class }
+    ensures { IfSome result (IsNamed (text_at sw.now class)) }
+{
+    sw.sound();
+    locate(sw.text(class), field)
+}

@@ -1,0 +1,130 @@
+-- Fields and elements: the texts of objects tell the types of their places, and a value of a type is kept as it is.
+use Rattle.std.proofs.Common.{◌≡◌, ℕ, zero, suc, ◌<◌, true, false, List, [], ◌∷◌, map, length, get_or, set, replicate, Option, Some, inl, inr, refl, sym, ap, ◌∙◌, subst, arith}
+use Rattle.std.specs.List.{AllByRecursion}
+use Rattle.ps_base.specs.TyView.{TyView}
+use Rattle.ps_base.specs.TyView as types
+use Rattle.ps_type_text.specs.Texts.{Field, type_text, class_text, IsNamed}
+use Rattle.text_forms.specs.declared.forms.Form.{Form}
+use Rattle.text_forms.specs.Classes.{form_of_type, form_of_field}
+use Rattle.text_forms.specs.Forms.{forms_of, form_in, element_of}
+use Rattle.text_forms.proofs.ClassForms.{class-told, element-told}
+use Rattle.ps_typing.specs.WellTyped.{At, IsOfType}
+use Rattle.ps_meaning.specs.Values.{Value, Num, Flag}
+use Rattle.ps_meaning.specs.Objects.{Heap, value_at}
+use Rattle.ps_meaning.specs.Evaluation.{kept_as, kept_all, kept_elements}
+use Rattle.ps_soundness.specs.Running.{HasField}
+use Rattle.ps_soundness.specs.Shapes.{IsOf, AreOf, IsTypedStructure}
+use Rattle.ps_soundness.proofs.Telling.{Told}
+
+-- a value of a type is kept as it is
+pub kept_by_type : (heap : Heap) (ty : TyView) (v : Value) → IsOf heap ty v → kept_as (Some (form_of_type ty)) v ≡ v
+kept_by_type heap types.Int (Num z) h = refl
+kept_by_type heap types.Int v h = absurd h
+kept_by_type heap types.Bool (Flag true) h = refl
+kept_by_type heap types.Bool (Flag false) h = refl
+kept_by_type heap types.Bool v h = absurd h
+kept_by_type heap types.Str v h = refl
+kept_by_type heap types.Pntr v h = refl
+kept_by_type heap types.Void v h = refl
+kept_by_type heap (types.Vector element) v h = refl
+kept_by_type heap (types.Proc parameters gives) v h = refl
+
+kept_each : (heap : Heap) (fields : List Field) (values : List Value) → AreOf heap fields values → kept_all (map form_of_field fields) values ≡ values
+unfolding kept_all
+kept_each heap [] values h = refl
+kept_each heap (field ∷ fields) [] h = refl
+kept_each heap (field ∷ fields) (v ∷ vs) h =
+    ap (λ (w : Value). w ∷ kept_all (map form_of_field fields) vs) (kept_by_type heap field.ty v h.0)
+    ∙ ap (λ (ws : List Value). v ∷ ws) (kept_each heap fields vs h.1)
+
+-- the values of a structure are kept as they are
+pub kept_in_class : (heap : Heap) (name : List ℕ) (fields : List Field) (values : List Value) → IsNamed name fields → AreOf heap fields values →
+    kept_all (forms_of (class_text name fields)) values ≡ values
+kept_in_class heap name fields values named h =
+    ap (λ (forms : List Form). kept_all forms values) (class-told name fields named) ∙ kept_each heap fields values h
+
+-- and so are those of a vector
+pub kept_in_vector : (heap : Heap) (element : TyView) (v : Value) → IsOf heap element v →
+    kept_as (Some (element_of (type_text (types.Vector element)))) v ≡ v
+kept_in_vector heap element v h = ap (λ (f : Form). kept_as (Some f) v) (element-told element) ∙ kept_by_type heap element v h
+
+pub all_kept_in_vector : (heap : Heap) (element : TyView) (values : List Value) → AllByRecursion (IsOf heap element) values →
+    kept_elements (type_text (types.Vector element)) values ≡ values
+all_kept_in_vector heap element [] h = refl
+all_kept_in_vector heap element (v ∷ vs) h =
+    ap (λ (w : Value). w ∷ kept_elements (type_text (types.Vector element)) vs) (kept_in_vector heap element v h.0)
+    ∙ ap (λ (ws : List Value). v ∷ ws) (all_kept_in_vector heap element vs h.1)
+
+form_at : (fields : List Field) (position : ℕ) (ty : TyView) → At (IsOfType ty) fields position →
+    form_in (map form_of_field fields) position ≡ Some (form_of_type ty)
+unfolding form_in
+form_at [] position ty h = absurd h
+form_at (field ∷ fields) zero ty (inl h) = ap (λ (t : TyView). Some (form_of_type t)) h.1
+form_at (field ∷ fields) zero ty (inr h) = absurd (let e = h.1 in omega arith)
+form_at (field ∷ fields) (suc position) ty (inl h) = absurd (let e = h.0 in omega arith)
+form_at (field ∷ fields) (suc position) ty (inr (before, e, h)) =
+    form_at fields position ty (subst (At (IsOfType ty) fields) (let same : before ≡ position = omega arith in same) h)
+
+field_value : (heap : Heap) (fields : List Field) (values : List Value) (position : ℕ) (ty : TyView) → At (IsOfType ty) fields position →
+    AreOf heap fields values → IsOf heap ty (value_at values position)
+field_value heap [] values position ty h are = absurd h
+field_value heap (field ∷ fields) [] position ty h are = absurd are
+field_value heap (field ∷ fields) (v ∷ vs) zero ty (inl h) are = subst (λ (t : TyView). IsOf heap t v) h.1 are.0
+field_value heap (field ∷ fields) (v ∷ vs) zero ty (inr h) are = absurd (let e = h.1 in omega arith)
+field_value heap (field ∷ fields) (v ∷ vs) (suc position) ty (inl h) are = absurd (let e = h.0 in omega arith)
+field_value heap (field ∷ fields) (v ∷ vs) (suc position) ty (inr (before, e, h)) are =
+    field_value heap fields vs position ty (subst (At (IsOfType ty) fields) (let same : before ≡ position = omega arith in same) h) are.1
+
+fields_set : (heap : Heap) (fields : List Field) (values : List Value) (position : ℕ) (ty : TyView) (v : Value) → At (IsOfType ty) fields position →
+    IsOf heap ty v → AreOf heap fields values → AreOf heap fields (set values position v)
+fields_set heap [] values position ty v h is are = absurd h
+fields_set heap (field ∷ fields) [] position ty v h is are = absurd are
+fields_set heap (field ∷ fields) (old ∷ vs) zero ty v (inl h) is are = (subst (λ (t : TyView). IsOf heap t v) (sym h.1) is, are.1)
+fields_set heap (field ∷ fields) (old ∷ vs) zero ty v (inr h) is are = absurd (let e = h.1 in omega arith)
+fields_set heap (field ∷ fields) (old ∷ vs) (suc position) ty v (inl h) is are = absurd (let e = h.0 in omega arith)
+fields_set heap (field ∷ fields) (old ∷ vs) (suc position) ty v (inr (before, e, h)) is are =
+    (are.0, fields_set heap fields vs position ty v (subst (At (IsOfType ty) fields) (let same : before ≡ position = omega arith in same) h) is are.1)
+
+-- a field of a typed structure
+at_its_field : (told : Told) (heap : Heap) (class : List ℕ) (position : ℕ) (ty : TyView) (values : List Value) (h : HasField class position ty)
+    (s : IsTypedStructure heap class values) → At (IsOfType ty) s.fields position
+at_its_field told heap class position ty values h s =
+    let same = told.classes h.class.name s.name h.class.fields s.fields h.class.named s.named (sym h.class.text_is ∙ s.class_is) in
+    subst (λ (fields : List Field). At (IsOfType ty) fields position) same.1 h.at
+
+pub typed_field : (told : Told) (heap : Heap) (class : List ℕ) (position : ℕ) (ty : TyView) (values : List Value) → HasField class position ty →
+    IsTypedStructure heap class values → IsOf heap ty (value_at values position)
+typed_field told heap class position ty values h s =
+    field_value heap s.fields values position ty (at_its_field told heap class position ty values h s) s.are
+
+pub typed_with_field : (told : Told) (heap : Heap) (class : List ℕ) (position : ℕ) (ty : TyView) (values : List Value) (v : Value) →
+    HasField class position ty → IsOf heap ty v → IsTypedStructure heap class values → IsTypedStructure heap class (set values position v)
+typed_with_field told heap class position ty values v h is s = record {
+  name = s.name;
+  fields = s.fields;
+  named = s.named;
+  class_is = s.class_is;
+  are = fields_set heap s.fields values position ty v (at_its_field told heap class position ty values h s) is s.are;
+}
+
+pub kept_in_field : (heap : Heap) (class : List ℕ) (position : ℕ) (ty : TyView) (v : Value) → HasField class position ty → IsOf heap ty v →
+    kept_as (form_in (forms_of class) position) v ≡ v
+kept_in_field heap class position ty v h is =
+    ap (λ (text : List ℕ). kept_as (form_in (forms_of text) position) v) h.class.text_is
+    ∙ ap (λ (forms : List Form). kept_as (form_in forms position) v) (class-told h.class.name h.class.fields h.class.named)
+    ∙ ap (λ (f : Option Form). kept_as f v) (form_at h.class.fields position ty h.at) ∙ kept_by_type heap ty v is
+
+-- elements
+pub all_at : {A : Type 0} (P : A → Type 0) (values : List A) (n : ℕ) (other : A) → AllByRecursion P values → n < length values → P (get_or values n other)
+all_at P [] n other h below = absurd (omega arith)
+all_at P (v ∷ vs) zero other h below = h.0
+all_at P (v ∷ vs) (suc n) other h below = all_at P vs n other h.1 (omega arith)
+
+pub all_set : {A : Type 0} (P : A → Type 0) (values : List A) (n : ℕ) (v : A) → AllByRecursion P values → P v → AllByRecursion P (set values n v)
+all_set P [] n v h is = tt
+all_set P (old ∷ vs) zero v h is = (is, h.1)
+all_set P (old ∷ vs) (suc n) v h is = (h.0, all_set P vs n v h.1 is)
+
+pub all_same : {A : Type 0} (P : A → Type 0) (n : ℕ) (v : A) → P v → AllByRecursion P (replicate n v)
+all_same P zero v is = tt
+all_same P (suc n) v is = (is, all_same P n v is)

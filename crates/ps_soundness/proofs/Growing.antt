@@ -1,0 +1,167 @@
+-- A heap that grows: an object more, or another value in a place of one. Values keep their types, and a typed heap stays typed.
+use Rattle.std.proofs.Common.{◌≡◌, ◌⊎◌, ℕ, zero, suc, List, [], ◌∷◌, ◌++◌, set, Option, Some, None, inl, inr, refl, sym, ap, ◌∙◌, subst}
+use Rattle.std.specs.List.{AllByRecursion}
+use Rattle.ps_base.specs.TyView.{TyView}
+use Rattle.ps_base.specs.TyView as types
+use Rattle.ps_type_text.specs.Texts.{Field, type_text}
+use Rattle.ps_typing.specs.WellTyped.{Local}
+use Rattle.ps_meaning.specs.Values.{Value, Num, Flag, Text, Nil, Pointer, Vector, Procedure, Nothing}
+use Rattle.ps_meaning.specs.Objects.{Heap, Object, Structure, Elements, object_at, with_object, with_new, new_number}
+use Rattle.ps_meaning.specs.Meaning.{Frame, local_of}
+use Rattle.ps_soundness.specs.Shapes.{IsStructureAt, IsVectorAt, IsOf, AreOf, IsTypedObject, IsTypedHeap, AreLocals, IsSameSort, Stays, Grows}
+
+object_in : Object → Option Object → Object
+object_in other (Some object) = object
+object_in other None = other
+
+pub one_object : (a b : Object) → Some a ≡ Some b → a ≡ b
+unfolding object_in
+one_object a b e = ap (object_in a) e
+
+no_object : (a : Object) → None ≡ Some a → ⊥
+no_object a e = cc
+
+same_sort : (object : Object) → IsSameSort object object
+same_sort (Structure class values) = refl
+same_sort (Elements text low values) = (refl, refl, refl)
+
+sort_then : (a b c : Object) → IsSameSort a b → IsSameSort b c → IsSameSort a c
+sort_then (Structure class values) (Structure second others) (Structure third last) h k = k ∙ h
+sort_then (Structure class values) (Structure second others) (Elements third low last) h k = absurd k
+sort_then (Structure class values) (Elements text low others) c h k = absurd h
+sort_then (Elements text low values) (Structure second others) c h k = absurd h
+sort_then (Elements text low values) (Elements second bound others) (Structure third last) h k = absurd k
+sort_then (Elements text low values) (Elements second bound others) (Elements third at last) h k = (k.0 ∙ h.0, k.1 ∙ h.1, k.2 ∙ h.2)
+
+pub grows_not : (heap : Heap) → Grows heap heap
+grows_not heap id object e = record { now = object; is = e; sort = same_sort object }
+
+pub grows_then : (a b c : Heap) → Grows a b → Grows b c → Grows a c
+grows_then a b c g k id object e =
+    let first = g id object e in
+    let second = k id first.now first.is in
+    record { now = second.now; is = second.is; sort = sort_then object first.now second.now first.sort second.sort }
+
+-- values of types stay such
+structure_kept : (heap : Heap) (id : ℕ) (class : List ℕ) (fields : List Value) (now : Object) → object_at heap id ≡ Some now →
+    IsSameSort (Structure class fields) now → IsStructureAt heap id
+structure_kept heap id class fields (Structure other others) e h = record { class = other; fields = others; is = e }
+structure_kept heap id class fields (Elements text low others) e h = absurd h
+
+vector_kept : (heap : Heap) (ty : TyView) (id : ℕ) (low : _) (elements : List Value) (now : Object) → object_at heap id ≡ Some now →
+    IsSameSort (Elements (type_text ty) low elements) now → IsVectorAt heap ty id
+vector_kept heap ty id low elements (Structure other others) e h = absurd h
+vector_kept heap ty id low elements (Elements text bound others) e h =
+    record { low = bound; elements = others; is = e ∙ ap (λ (t : List ℕ). Some (Elements t bound others)) h.0 }
+
+pub of_kept : (heap new : Heap) → Grows heap new → (ty : TyView) (v : Value) → IsOf heap ty v → IsOf new ty v
+of_kept heap new g types.Int (Num z) h = h
+of_kept heap new g types.Int v h = absurd h
+of_kept heap new g types.Bool (Flag b) h = h
+of_kept heap new g types.Bool v h = absurd h
+of_kept heap new g types.Str (Text bytes) h = h
+of_kept heap new g types.Str v h = absurd h
+of_kept heap new g types.Pntr Nil h = h
+of_kept heap new g types.Pntr (Pointer id) h =
+    let stays = g id (Structure h.class h.fields) h.is in
+    structure_kept new id h.class h.fields stays.now stays.is stays.sort
+of_kept heap new g types.Pntr v h = absurd h
+of_kept heap new g (types.Vector element) (Vector id) h =
+    let stays = g id _ h.is in
+    vector_kept new (types.Vector element) id h.low h.elements stays.now stays.is stays.sort
+of_kept heap new g (types.Vector element) v h = absurd h
+of_kept heap new g (types.Proc parameters gives) (Procedure of scope) h = h
+of_kept heap new g (types.Proc parameters gives) v h = absurd h
+of_kept heap new g types.Void Nothing h = h
+of_kept heap new g types.Void v h = absurd h
+
+pub are_kept : (heap new : Heap) → Grows heap new → (fields : List Field) (values : List Value) → AreOf heap fields values → AreOf new fields values
+are_kept heap new g [] [] h = tt
+are_kept heap new g [] (v ∷ vs) h = absurd h
+are_kept heap new g (field ∷ fields) [] h = absurd h
+are_kept heap new g (field ∷ fields) (v ∷ vs) h = (of_kept heap new g field.ty v h.0, are_kept heap new g fields vs h.1)
+
+pub all_kept : (heap new : Heap) → Grows heap new → (ty : TyView) (values : List Value) → AllByRecursion (IsOf heap ty) values →
+    AllByRecursion (IsOf new ty) values
+all_kept heap new g ty [] h = tt
+all_kept heap new g ty (v ∷ vs) h = (of_kept heap new g ty v h.0, all_kept heap new g ty vs h.1)
+
+pub locals_kept : (heap new : Heap) → Grows heap new → (frame : Frame) (locals : List Local) → AreLocals heap frame locals → AreLocals new frame locals
+locals_kept heap new g frame [] h = tt
+locals_kept heap new g frame (local ∷ locals) h =
+    (of_kept heap new g local.ty (local_of frame local.ty local.slot) h.0, locals_kept heap new g frame locals h.1)
+
+pub object_kept : (heap new : Heap) → Grows heap new → (object : Object) → IsTypedObject heap object → IsTypedObject new object
+object_kept heap new g (Structure class values) h =
+    record { name = h.name; fields = h.fields; named = h.named; class_is = h.class_is; are = are_kept heap new g h.fields values h.are }
+object_kept heap new g (Elements text low values) h = record {
+  element = h.element;
+  text_is = h.text_is;
+  low_is = h.low_is;
+  fits = h.fits;
+  are = all_kept heap new g h.element values h.are;
+}
+
+-- an object more
+at_old : (heap : Heap) (id : ℕ) (new object : Object) → object_at heap id ≡ Some object → object_at (heap ++ new ∷ []) id ≡ Some object
+at_old [] id new object e = absurd (no_object object e)
+at_old (o ∷ os) zero new object e = e
+at_old (o ∷ os) (suc id) new object e = at_old os id new object e
+
+pub at_new : (heap : Heap) (new : Object) → object_at (with_new heap new) (new_number heap) ≡ Some new
+at_new [] new = refl
+at_new (o ∷ os) new = at_new os new
+
+pub grows_new : (heap : Heap) (new : Object) → Grows heap (with_new heap new)
+grows_new heap new id object e = record { now = object; is = at_old heap id new object e; sort = same_sort object }
+
+found_new : (heap : Heap) (id : ℕ) (new object : Object) → object_at (heap ++ new ∷ []) id ≡ Some object →
+    (object_at heap id ≡ Some object) ⊎ (object ≡ new)
+found_new [] zero new object e = inr (sym (one_object new object e))
+found_new [] (suc id) new object e = absurd (no_object object e)
+found_new (o ∷ os) zero new object e = inl e
+found_new (o ∷ os) (suc id) new object e = found_new os id new object e
+
+typed_found : (heap new : Heap) (made object : Object) → Grows heap new → IsTypedObject heap made → (IsTypedObject heap object) ⊎ (object ≡ made) →
+    IsTypedObject new object
+typed_found heap new made object g h (inl k) = object_kept heap new g object k
+typed_found heap new made object g h (inr e) = subst (IsTypedObject new) (sym e) (object_kept heap new g made h)
+
+pub typed_new : (heap : Heap) (new : Object) → IsTypedHeap heap → IsTypedObject heap new → IsTypedHeap (with_new heap new)
+typed_new heap new typed h id object e = typed_found heap (with_new heap new) new object (grows_new heap new) h (of (found_new heap id new object e))
+  where
+    of : (object_at heap id ≡ Some object) ⊎ (object ≡ new) → (IsTypedObject heap object) ⊎ (object ≡ new)
+    of (inl k) = inl (typed id object k)
+    of (inr k) = inr k
+
+-- another object of the same sort under a number
+stays_set : (heap : Heap) (id at : ℕ) (old new object : Object) → object_at heap id ≡ Some old → IsSameSort old new → object_at heap at ≡ Some object →
+    Stays (set heap id new) at object
+stays_set [] id at old new object was sort e = absurd (no_object object e)
+stays_set (o ∷ os) zero zero old new object was sort e =
+    record { now = new; is = refl; sort = subst (λ (x : Object). IsSameSort x new) (one_object old object (sym was ∙ e)) sort }
+stays_set (o ∷ os) zero (suc at) old new object was sort e = record { now = object; is = e; sort = same_sort object }
+stays_set (o ∷ os) (suc id) zero old new object was sort e = record { now = object; is = e; sort = same_sort object }
+stays_set (o ∷ os) (suc id) (suc at) old new object was sort e =
+    let stays = stays_set os id at old new object was sort e in
+    record { now = stays.now; is = stays.is; sort = stays.sort }
+
+pub grows_set : (heap : Heap) (id : ℕ) (old new : Object) → object_at heap id ≡ Some old → IsSameSort old new → Grows heap (with_object heap id new)
+grows_set heap id old new was sort at object e = stays_set heap id at old new object was sort e
+
+found_set : (heap : Heap) (id at : ℕ) (new object : Object) → object_at (set heap id new) at ≡ Some object →
+    (object_at heap at ≡ Some object) ⊎ (object ≡ new)
+found_set [] id at new object e = absurd (no_object object e)
+found_set (o ∷ os) zero zero new object e = inr (sym (one_object new object e))
+found_set (o ∷ os) zero (suc at) new object e = inl e
+found_set (o ∷ os) (suc id) zero new object e = inl e
+found_set (o ∷ os) (suc id) (suc at) new object e = found_set os id at new object e
+
+pub typed_set : (heap : Heap) (id : ℕ) (old new : Object) → object_at heap id ≡ Some old → IsSameSort old new → IsTypedHeap heap →
+    IsTypedObject heap new → IsTypedHeap (with_object heap id new)
+typed_set heap id old new was sort typed h at object e =
+    typed_found heap (with_object heap id new) new object (grows_set heap id old new was sort) h (of (found_set heap id at new object e))
+  where
+    of : (object_at heap at ≡ Some object) ⊎ (object ≡ new) → (IsTypedObject heap object) ⊎ (object ≡ new)
+    of (inl k) = inl (typed at object k)
+    of (inr k) = inr k

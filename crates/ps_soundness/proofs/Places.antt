@@ -1,0 +1,140 @@
+-- Locals of a frame: what a new value in a slot leaves, and what it gives.
+use Rattle.std.proofs.Common.{◌≡◌, ◌⊎◌, ℕ, ◌<◌, ◌≤◌, Bool, true, false, List, [], ◌∷◌, inl, inr, refl, sym, ap, ◌∙◌, subst, arith, eq-eqb, eqb-true}
+use Rattle.std.specs.Prelude.{nat_eq, if◌then◌else◌}
+use Rattle.ps_base.specs.TyView.{TyView}
+use Rattle.ps_base.specs.TyView as types
+use Rattle.ps_typing.specs.Placing.{is_number}
+use Rattle.ps_typing.specs.WellTyped.{Some_is, Local, Free, IsLocal, next_slot}
+use Rattle.ps_meaning.specs.Values.{Value, Num, Flag, Text, Nil, Pointer, Vector, Procedure, Nothing}
+use Rattle.ps_meaning.specs.Objects.{Heap, Object, Structure, Elements}
+use Rattle.ps_meaning.specs.Meaning.{Frame, with_local, local_of, frame_with}
+use Rattle.ps_soundness.specs.Free.{AllBelow}
+use Rattle.ps_soundness.specs.Shapes.{IsVectorAt, IsOf, AreLocals}
+use Rattle.ps_soundness.proofs.Telling.{Told}
+use Rattle.ps_soundness.proofs.Growing.{one_object}
+
+text_in : List ℕ → Object → List ℕ
+text_in other (Elements text low elements) = text
+text_in other (Structure class fields) = other
+
+-- a vector has one type
+one_vector : (told : Told) (heap : Heap) (a b : TyView) (id : ℕ) → IsVectorAt heap a id → IsVectorAt heap b id → a ≡ b
+unfolding text_in
+one_vector told heap a b id h k = told.types a b (ap (text_in []) (one_object _ _ (sym h.is ∙ k.is)))
+
+-- where one value is of two types, a value of the one is of the other: the types are the same, or both are of procedures
+shared : (told : Told) (heap : Heap) (a b : TyView) (old v : Value) → IsOf heap a old → IsOf heap b old → IsOf heap a v → IsOf heap b v
+shared told heap types.Int types.Int (Num z) v h k l = l
+shared told heap types.Int b (Num z) v h k l = absurd k
+shared told heap types.Int b old v h k l = absurd h
+shared told heap types.Bool types.Bool (Flag z) v h k l = l
+shared told heap types.Bool b (Flag z) v h k l = absurd k
+shared told heap types.Bool b old v h k l = absurd h
+shared told heap types.Str types.Str (Text bytes) v h k l = l
+shared told heap types.Str b (Text bytes) v h k l = absurd k
+shared told heap types.Str b old v h k l = absurd h
+shared told heap types.Pntr types.Pntr Nil v h k l = l
+shared told heap types.Pntr b Nil v h k l = absurd k
+shared told heap types.Pntr types.Pntr (Pointer id) v h k l = l
+shared told heap types.Pntr b (Pointer id) v h k l = absurd k
+shared told heap types.Pntr b old v h k l = absurd h
+shared told heap (types.Vector a) (types.Vector b) (Vector id) v h k l =
+    subst (λ (t : TyView). IsOf heap t v) (one_vector told heap (types.Vector a) (types.Vector b) id h k) l
+shared told heap (types.Vector a) b (Vector id) v h k l = absurd k
+shared told heap (types.Vector a) b old v h k l = absurd h
+shared told heap (types.Proc ps g) (types.Proc qs f) (Procedure of scope) (Procedure other around) h k l = tt
+shared told heap (types.Proc ps g) (types.Proc qs f) (Procedure of scope) v h k l = absurd l
+shared told heap (types.Proc ps g) b (Procedure of scope) v h k l = absurd k
+shared told heap (types.Proc ps g) b old v h k l = absurd h
+shared told heap types.Void types.Void Nothing v h k l = l
+shared told heap types.Void b Nothing v h k l = absurd k
+shared told heap types.Void b old v h k l = absurd h
+
+-- a local of one of the two rows, and a frame in which it has another value
+abbrev in_row : Frame → Bool → ℕ → Value
+in_row frame number slot = if number then frame.nums slot else frame.refs slot
+
+abbrev with_row : Frame → Bool → ℕ → Value → Frame
+with_row frame number slot v =
+    if number then record frame { nums = with_local frame.nums slot v } else record frame { refs = with_local frame.refs slot v }
+
+if_same : {A : Type 0} (b : Bool) (x y : A) → b ≡ true → (if b then x else y) ≡ x
+if_same b x y e = ap (λ (c : Bool). if c then x else y) e
+
+local_same : (row : ℕ → Value) (slot : ℕ) (v : Value) → with_local row slot v slot ≡ v
+local_same row slot v = if_same (nat_eq slot slot) v (row slot) (eq-eqb slot slot refl)
+
+pub row_same : (frame : Frame) (number : Bool) (slot : ℕ) (v : Value) → in_row (with_row frame number slot v) number slot ≡ v
+row_same frame true slot v = local_same frame.nums slot v
+row_same frame false slot v = local_same frame.refs slot v
+
+-- a local is as it was, or is the one that has the new value
+abbrev IsOldOrNew : Frame → Bool → ℕ → Value → Bool → ℕ → Type 0
+IsOldOrNew frame number slot v other at =
+    (in_row (with_row frame number slot v) other at ≡ in_row frame other at)
+    ⊎ ((number ≡ other) × (slot ≡ at) × (in_row (with_row frame number slot v) other at ≡ v) × (in_row frame other at ≡ in_row frame number slot))
+
+local_tested : (row : ℕ → Value) (slot at : ℕ) (v : Value) (b : Bool) → nat_eq at slot ≡ b →
+    ((if b then v else row at) ≡ row at) ⊎ ((slot ≡ at) × ((if b then v else row at) ≡ v) × (row at ≡ row slot))
+local_tested row slot at v true e = let same = eqb-true at slot e in inr (sym same, refl, ap row same)
+local_tested row slot at v false e = inl refl
+
+tested_row : (frame : Frame) (number : Bool) (slot at : ℕ) (v : Value) →
+    (in_row (with_row frame number slot v) number at ≡ in_row frame number at)
+    ⊎ ((slot ≡ at) × (in_row (with_row frame number slot v) number at ≡ v) × (in_row frame number at ≡ in_row frame number slot))
+tested_row frame true slot at v = local_tested frame.nums slot at v (nat_eq at slot) refl
+tested_row frame false slot at v = local_tested frame.refs slot at v (nat_eq at slot) refl
+
+in_one_row : (frame : Frame) (number : Bool) (slot at : ℕ) (v : Value) →
+    (in_row (with_row frame number slot v) number at ≡ in_row frame number at)
+    ⊎ ((slot ≡ at) × (in_row (with_row frame number slot v) number at ≡ v) × (in_row frame number at ≡ in_row frame number slot)) →
+    IsOldOrNew frame number slot v number at
+in_one_row frame number slot at v (inl e) = inl e
+in_one_row frame number slot at v (inr e) = inr (refl, e.0, e.1, e.2)
+
+old_or_new : (frame : Frame) (number : Bool) (slot : ℕ) (v : Value) (other : Bool) (at : ℕ) → IsOldOrNew frame number slot v other at
+old_or_new frame true slot v true at = in_one_row frame true slot at v (tested_row frame true slot at v)
+old_or_new frame true slot v false at = inl refl
+old_or_new frame false slot v true at = inl refl
+old_or_new frame false slot v false at = in_one_row frame false slot at v (tested_row frame false slot at v)
+
+next_above : (free : Free) (a b : Bool) (slot at : ℕ) → (if a then free.nums else free.refs) ≤ slot → at < (if b then free.nums else free.refs) →
+    a ≡ b → slot ≡ at → ⊥
+next_above free true true slot at low high same e = omega arith
+next_above free false false slot at low high same e = omega arith
+next_above free true false slot at low high same e = cc
+next_above free false true slot at low high same e = cc
+
+-- a value in a free slot leaves the locals in scope
+pub free_slot : (heap : Heap) (frame : Frame) (free : Free) (ty : TyView) (slot : ℕ) (v : Value) (locals : List Local) → next_slot ty free ≤ slot →
+    AllBelow locals free → AreLocals heap frame locals → AreLocals heap (frame_with frame ty slot v) locals
+free_slot heap frame free ty slot v [] low below h = tt
+free_slot heap frame free ty slot v (local ∷ locals) low below h =
+    (of (old_or_new frame (is_number ty) slot v (is_number local.ty) local.slot), free_slot heap frame free ty slot v locals low below.1 h.1)
+  where
+    of : IsOldOrNew frame (is_number ty) slot v (is_number local.ty) local.slot → IsOf heap local.ty (local_of (frame_with frame ty slot v) local.ty local.slot)
+    of (inl e) = subst (IsOf heap local.ty) (sym e) h.0
+    of (inr e) = absurd (next_above free (is_number ty) (is_number local.ty) slot local.slot low below.0 e.0 e.1)
+
+-- the value of a name in scope
+pub name_has : (heap : Heap) (frame : Frame) (slot : ℕ) (ty : TyView) (locals : List Local) → Some_is (IsLocal slot ty) locals →
+    AreLocals heap frame locals → IsOf heap ty (local_of frame ty slot)
+name_has heap frame slot ty [] found h = absurd found
+name_has heap frame slot ty (local ∷ locals) (inl is) h =
+    subst (λ (t : TyView). IsOf heap t (local_of frame t slot)) is.1 (subst (λ (n : ℕ). IsOf heap local.ty (local_of frame local.ty n)) is.0 h.0)
+name_has heap frame slot ty (local ∷ locals) (inr found) h = name_has heap frame slot ty locals found h.1
+
+-- a value of its type in the slot of a name in scope
+pub name_set : (told : Told) (heap : Heap) (frame : Frame) (slot : ℕ) (ty : TyView) (v : Value) (locals : List Local) →
+    IsOf heap ty (local_of frame ty slot) → IsOf heap ty v → AreLocals heap frame locals → AreLocals heap (frame_with frame ty slot v) locals
+name_set told heap frame slot ty v [] old new h = tt
+name_set told heap frame slot ty v (local ∷ locals) old new h =
+    (of (old_or_new frame (is_number ty) slot v (is_number local.ty) local.slot), name_set told heap frame slot ty v locals old new h.1)
+  where
+    of : IsOldOrNew frame (is_number ty) slot v (is_number local.ty) local.slot → IsOf heap local.ty (local_of (frame_with frame ty slot v) local.ty local.slot)
+    of (inl e) = subst (IsOf heap local.ty) (sym e) h.0
+    of (inr e) = subst (IsOf heap local.ty) (sym e.2) (shared told heap ty local.ty (local_of frame ty slot) v old (subst (IsOf heap local.ty) e.3 h.0) new)
+
+pub slot_has : (heap : Heap) (frame : Frame) (ty : TyView) (slot : ℕ) (v : Value) → IsOf heap ty v →
+    IsOf heap ty (local_of (frame_with frame ty slot v) ty slot)
+slot_has heap frame ty slot v h = subst (IsOf heap ty) (sym (row_same frame (is_number ty) slot v)) h
