@@ -1,12 +1,25 @@
 -- What is read again and again.
-use Rattle.swizzle.specs.Heap.{IsHeld}
+use Rattle.std.specs.Prelude.{◌≤◌}
+use Rattle.swizzle.specs.Heap.{Heap, IsHeld, header_at}
 use Rattle.swizzle.specs.Text.{text_at}
 use Rattle.heap_texts.specs.Texts.{HoldsText}
 use Rattle.heap_ops.specs.Structures.{IsNamed}
-use Rattle.bench_heap.specs.declared.Scene.{Scene}
+use Rattle.bench_heap.specs.declared.pair.Pair.{Pair}
+use Rattle.bench_heap.specs.declared.fields.Scene.{Scene}
 
--- the class and the object lie in the area, and the class names the place
+-- both objects lie in the area
+pub record AreHeld (heap : Heap) (pair : Pair) : Type 0 where
+  pub a : IsHeld heap pair.a
+  pub b : IsHeld heap pair.b
+
+-- and have eight number words at least
+pub record AreLong (heap : Heap) (pair : Pair) : Type 0 where
+  pub held : AreHeld heap pair
+  pub a : 8 ≤ (header_at heap pair.a).nums
+  pub b : 8 ≤ (header_at heap pair.b).nums
+
+-- the class and both objects lie in the area, and the class names the place
 pub record IsSet (scene : Scene) : Type 0 where
   pub class : HoldsText scene.sw scene.class
-  pub object : IsHeld scene.sw scene.object
+  pub objects : AreHeld scene.sw scene.pair
   pub field : IsNamed (text_at scene.sw scene.class) scene.located

@@ -4,3 +4,4 @@ pub mod WriteLaws
 pub mod FieldLaws
 pub mod GivenLaws
 pub mod VectorLaws
+pub mod PairedLaws

@@ -6,6 +6,8 @@ mod elements;
 #[cfg(test)]
 mod fixture;
 #[cfg(test)]
+mod layouts;
+#[cfg(test)]
 mod making;
 #[cfg(test)]
 mod structures;

@@ -6,8 +6,10 @@ ghost use Rattle.heap_texts.specs.Texts.{HoldsText};
 ghost use Rattle.heap_places.specs.Places.{IsNear};
 ghost use Rattle.heap_places.specs.Filling.{AreNear};
 ghost use Rattle.heap_ops.specs.Structures.{IsNamed};
+ghost use Rattle.heap_ops.specs.Layouts.{AreSo};
 ghost use Rattle.heap_ops_tests.specs.World.{IsReady};
 
+use heap_ops::layouts::Layouts;
 use heap_ops::structures::{get_field, is_class, make_structure, set_field};
 use heap_places::places::find_misfit;
 use heap_places::value::Value;
@@ -20,7 +22,7 @@ use std::alloc::Global;
 use std::test::Fail;
 use swizzle::fault::SwizzleFault;
 use swizzle::swizzle::Swizzle;
-use text_forms::forms::{Located, locate};
+use text_forms::forms::{Located, Place, locate};
 
 /// A structure of the class `own`, whose text stands in the area once more as `equal`, another class, and a text that is a field of the structure.
 #[derive(Drop)]
@@ -283,4 +285,14 @@ fn place(sw: &Swizzle, class: u32, field: u32) -> Option<Located>
 {
     sw.sound();
     locate(sw.text(class), field)
+}
+
+/// The place of a field of a class, by what was looked up before.
+pub fn found(layouts: &mut Layouts, sw: &Swizzle, class: u32, field: u32) -> Option<Place>
+    requires so { AreSo sw.now layouts.old.entries.items }
+    requires class { HoldsText sw.now class }
+    ensures { AreSo sw.now layouts.new.entries.items }
+{
+    let located = layouts.locate(sw, class, field)?;
+    Some(located.place)
 }

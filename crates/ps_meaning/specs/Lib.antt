@@ -4,6 +4,7 @@ pub mod Answers
 pub mod Values
 pub mod Texts
 pub mod Objects
+pub mod Weights
 pub mod Meaning
 pub mod Evaluation
 pub mod Runs

@@ -1,5 +1,5 @@
-ghost use Rattle.std.specs.Prelude.{◌≡◌, ◌<◌, ◌+◌, ◌^◌, ◌==◌, if◌then◌else◌, Some, length};
-ghost use Rattle.text_forms.specs.Forms.{forms_of, rows_of, located_in, element_of, one_more, count_in};
+ghost use Rattle.std.specs.Prelude.{◌≡◌, ◌<◌, ◌+◌, ◌^◌, ◌==◌, if◌then◌else◌, Some, length, codes};
+ghost use Rattle.text_forms.specs.Forms.{is_text, forms_of, rows_of, located_in, element_of, one_more, count_in};
 ghost use Rattle.text_forms.specs.inside.Steps.{next_place};
 
 use crate::steps::{first_field, form_here, is_field, next_field};
@@ -115,15 +115,59 @@ fn found_with(found: Option<Place>, passed: Rows, form: Form, number: u32) -> Op
 
 /// What the elements of a vector hold whose type has this text.
 #[inline]
-#[tactic(auto, using(crate::proofs::Bytes::is_all), unfolding(crate::specs::Forms::element_of))]
+#[tactic(auto, unfolding(crate::specs::Forms::element_of))]
 pub fn element_form(text: &[u8]) -> Form
     ensures { result ≡ element_of text.now }
 {
-    if text == b"*int".as_slice() {
+    if is_ints(text) {
         Form::Number
-    } else if text == b"*bool".as_slice() {
+    } else if is_bools(text) {
         Form::Flag
     } else {
         Form::Reference
     }
+}
+
+// Byte by byte, which is quicker here than a comparison of slices.
+#[inline]
+#[tactic(auto, using(crate::proofs::Bytes::other_length, crate::proofs::Bytes::of_four))]
+fn is_ints(text: &[u8]) -> bool
+    ensures { result ≡ is_text (codes "*int") text.now }
+{
+    if text.len() != 4 {
+        return false;
+    }
+    if text[0] != b'*' {
+        return false;
+    }
+    if text[1] != b'i' {
+        return false;
+    }
+    if text[2] != b'n' {
+        return false;
+    }
+    text[3] == b't'
+}
+
+#[inline]
+#[tactic(auto, using(crate::proofs::Bytes::other_length, crate::proofs::Bytes::of_five))]
+fn is_bools(text: &[u8]) -> bool
+    ensures { result ≡ is_text (codes "*bool") text.now }
+{
+    if text.len() != 5 {
+        return false;
+    }
+    if text[0] != b'*' {
+        return false;
+    }
+    if text[1] != b'b' {
+        return false;
+    }
+    if text[2] != b'o' {
+        return false;
+    }
+    if text[3] != b'o' {
+        return false;
+    }
+    text[4] == b'l'
 }

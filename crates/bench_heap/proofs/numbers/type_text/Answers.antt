@@ -1,5 +1,5 @@
 use Rattle.heap_texts.proofs.TextObjects.{there-made}
-use Rattle.bench_heap.proofs.made.Goals as goal
+use Rattle.bench_heap.proofs.numbers.type_text.Goals as goal
 
 pub returns : goal.returns
 returns c = there-made _ _ _ _ c.make_text.ensures

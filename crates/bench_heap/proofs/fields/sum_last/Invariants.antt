@@ -1,5 +1,5 @@
 use Rattle.bench_heap.specs.Scene.{IsSet}
-use Rattle.bench_heap.proofs.read_often.Given as goal
+use Rattle.bench_heap.proofs.fields.sum_last.Given as goal
 
 abbrev pub invariant-loop : goal.invariant-loop
 invariant-loop l = IsSet l.scene

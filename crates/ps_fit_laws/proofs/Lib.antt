@@ -1,0 +1,3 @@
+mod PlacedFits
+mod ByCheck
+pub mod OfProgram

@@ -1,0 +1,6 @@
+//! What is so of the leaves and the classes of every typed program of a text.
+#![tactic(auto)]
+
+mod laws;
+
+pub use laws::typed_programs_fit;

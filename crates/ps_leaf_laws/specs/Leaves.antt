@@ -1,0 +1,62 @@
+-- Trees whose leaves are ints and strings, and whose structures have names of a text.
+use Rattle.std.specs.Prelude.{◌≡◌, true}
+use Rattle.std.specs.List.{AllByRecursion}
+use Rattle.ps_tree.specs.Phrase.{Phrase, at, Form, Phrases, none, more, MaybePhrase, absent, present, Arm, arm, Arms, no_arms, more_arms, WriteItem, item, WriteItems, no_items, more_items}
+use Rattle.ps_tree.specs.Phrase as form
+use Rattle.ps_type_text.specs.Texts.{IsName}
+use Rattle.ps_meaning.specs.Operators.{is_int}
+use Rattle.ps_meaning.specs.Texts.{is_string}
+
+abbrev mutual
+  pub LeavesFit : Phrase → Type 0
+  LeavesFit (at form line) = LeavesFitIn form
+
+  pub LeavesFitIn : Form → Type 0
+  LeavesFitIn (form.Let name variable e) = LeavesFit e
+  LeavesFitIn (form.Sequence items) = LeavesFitInAll items
+  LeavesFitIn (form.Structure name fields) = IsName name.name × AllByRecursion (λ field. IsName field.name.name) fields
+  LeavesFitIn (form.IfDo c a) = LeavesFit c × LeavesFit a
+  LeavesFitIn (form.IfElse c a b) = LeavesFit c × LeavesFit a × LeavesFit b
+  LeavesFitIn (form.While c a) = LeavesFit c × LeavesFit a
+  LeavesFitIn (form.Repeat a c b) = LeavesFit a × LeavesFit c × LeavesFitInMaybe b
+  LeavesFitIn (form.For name a b c s) = LeavesFit a × LeavesFit b × LeavesFitInMaybe c × LeavesFit s
+  LeavesFitIn (form.Case e arms d) = LeavesFit e × LeavesFitInArms arms × LeavesFit d
+  LeavesFitIn (form.Write items) = LeavesFitInWritten items
+  LeavesFitIn form.Abort = Unit {0}
+  LeavesFitIn (form.Proc params gives s) = LeavesFit s
+  LeavesFitIn (form.Vector l u e) = LeavesFit l × LeavesFit u × LeavesFit e
+  LeavesFitIn (form.Elems l t items) = LeavesFit l × LeavesFitInAll items
+  LeavesFitIn (form.Assign x e) = LeavesFit x × LeavesFit e
+  LeavesFitIn (form.Or a b) = LeavesFit a × LeavesFit b
+  LeavesFitIn (form.And a b) = LeavesFit a × LeavesFit b
+  LeavesFitIn (form.Not e) = LeavesFit e
+  LeavesFitIn (form.Compare op a b) = LeavesFit a × LeavesFit b
+  LeavesFitIn (form.Is e name negated) = LeavesFit e
+  LeavesFitIn (form.Arith op a b) = LeavesFit a × LeavesFit b
+  LeavesFitIn (form.Plus e) = LeavesFit e
+  LeavesFitIn (form.Neg e) = LeavesFit e
+  LeavesFitIn (form.Join a b) = LeavesFit a × LeavesFit b
+  LeavesFitIn (form.Bound upper e) = LeavesFit e
+  LeavesFitIn (form.Apply f args) = LeavesFit f × LeavesFitInAll args
+  LeavesFitIn (form.Part s i n) = LeavesFit s × LeavesFit i × LeavesFit n
+  LeavesFitIn (form.Name name) = Unit {0}
+  LeavesFitIn (form.Int value) = is_int value ≡ true
+  LeavesFitIn (form.Text bytes) = is_string bytes ≡ true
+  LeavesFitIn (form.Flag value) = Unit {0}
+  LeavesFitIn form.Nil = Unit {0}
+
+  pub LeavesFitInAll : Phrases → Type 0
+  LeavesFitInAll none = Unit {0}
+  LeavesFitInAll (more first rest) = LeavesFit first × LeavesFitInAll rest
+
+  pub LeavesFitInMaybe : MaybePhrase → Type 0
+  LeavesFitInMaybe absent = Unit {0}
+  LeavesFitInMaybe (present clause) = LeavesFit clause
+
+  pub LeavesFitInArms : Arms → Type 0
+  LeavesFitInArms no_arms = Unit {0}
+  LeavesFitInArms (more_arms (arm labels a) rest) = LeavesFitInAll labels × LeavesFit a × LeavesFitInArms rest
+
+  pub LeavesFitInWritten : WriteItems → Type 0
+  LeavesFitInWritten no_items = Unit {0}
+  LeavesFitInWritten (more_items (item e w line) rest) = LeavesFit e × LeavesFitInMaybe w × LeavesFitInWritten rest
