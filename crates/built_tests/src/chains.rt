@@ -22,7 +22,8 @@ static CHAINS: [(&str, &str, Option<u32>); 11] = [
 
 const LINKS: u32 = 10_000;
 
-fn chain(alloc: Global, first: &str, link: &str) -> Result<String, Fail> {
+/// The first of a chain and so many links.
+pub fn chain(alloc: Global, first: &str, link: &str) -> Result<String, Fail> {
     let mut text = String::new(alloc);
     text.push_str(first).map_err(|_| "memory")?;
     for _ in 0..LINKS {

@@ -1,10 +1,18 @@
-//! Tests of the search for the first form in a text that isn't built yet: texts, each with the line of that form.
+//! Tests of the search for what isn't built yet: texts, each with the line of the first form or call that isn't.
 #![tactic(auto)]
 
 #[cfg(test)]
 mod built;
 #[cfg(test)]
 mod chains;
+#[cfg(test)]
+mod finding;
+#[cfg(test)]
+mod library;
+#[cfg(test)]
+mod long;
+#[cfg(test)]
+mod procedures;
 #[cfg(test)]
 mod searching;
 #[cfg(test)]

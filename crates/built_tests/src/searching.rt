@@ -10,8 +10,8 @@ use std::alloc::Global;
 use std::process::Abort;
 use std::test::Fail;
 
-// The tree of a text that has no fault of the scanner and the parser.
-fn parsed(alloc: Global, text: &[u8]) -> Result<Rough, Fail> {
+/// The tree of a text that has no fault of the scanner and the parser.
+pub fn parsed(alloc: Global, text: &[u8]) -> Result<Rough, Fail> {
     if text.len() > LONGEST_TEXT {
         return Err("too long".into());
     }

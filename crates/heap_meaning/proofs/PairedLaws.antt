@@ -31,7 +31,7 @@ pub stands-same : (seen : Seen) (heap : Heap) (pair other : Pairing) → ((n : r
 stands-same seen heap pair other there back s = record {
   both = λ n id p.
       let b = s.both n id (back n id p) in
-      record { it = b.it; object = b.object; there = b.there; means = b.means; like = like-more seen seen pair other b.it b.object (λ m it k j. j) there b.like };
+      record { it = b.it; object = b.object; there = b.there; means = b.means; like = like-more seen seen pair other b.it b.object (λ m it k j. j) (λ m it j. record { it = it; there = j; kind_is = refl }) there b.like };
   one_number = λ n i j p q. s.one_number n i j (back n i p) (back n j q);
   one_name = λ n m id p q. s.one_name n m id (back n id p) (back m id q);
 }
@@ -42,9 +42,9 @@ row-within seen now heap names grows r = record { stands = stands-within seen no
 
 -- A write on both sides: the same row.
 pub row-written : (seen now : Seen) (heap : Heap) (names : List reference.Reference) (n : reference.Reference) (id : ℕ) (it new : Shown) (object : Object) → IsOne seen → StandsRow seen heap names → paired names n id → seen n it → it.kind ≢ kind.Text
-    → ChangedAt seen n new now → IsLike now (paired names) new object → StandsRow now (with_object heap id object) names
-row-written seen now heap names n id it new object one r p there other c like = record {
-  stands = stands-written seen now heap (paired names) n id it new object one r.stands p there other c like;
+    → new.kind ≡ it.kind → ChangedAt seen n new now → IsLike now (paired names) new object → StandsRow now (with_object heap id object) names
+row-written seen now heap names n id it new object one r p there other same_kind c like = record {
+  stands = stands-written seen now heap (paired names) n id it new object one r.stands p there other same_kind c like;
   long = r.long ∙ sym (length-set heap id object);
 }
 
@@ -63,6 +63,6 @@ row-made seen now heap names n new object r fresh c like =
     ] in
     record {
       stands = stands-same now (with_new heap object) more (paired (and_name names n)) there back
-          (stands-made seen now heap (paired names) n new object r.stands fresh c (like-more now now (paired (and_name names n)) more new object (λ m it k j. j) back like));
+          (stands-made seen now heap (paired names) n new object r.stands fresh c (like-more now now (paired (and_name names n)) more new object (λ m it k j. j) (λ m it j. record { it = it; there = j; kind_is = refl }) back like));
       long = omega (arith, length-append names (n ∷ []), length-append heap (object ∷ []), r.long);
     }

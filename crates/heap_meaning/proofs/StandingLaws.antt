@@ -7,13 +7,14 @@ use Rattle.obj_layout.specs.declared.reference.Reference as reference
 use Rattle.obj_layout.specs.declared.reference.Reference.TheVariants as name
 use Rattle.swizzle.specs.Joint.{Shown}
 use Rattle.swizzle.specs.Changes.{Within, ChangedAt}
+use Rattle.swizzle.proofs.NameLaws.{names-decided}
 use Rattle.text_forms.specs.declared.forms.Form.{Form}
 use Rattle.text_forms.specs.declared.forms.Form.TheVariants as form
 use Rattle.text_forms.specs.Forms.{forms_of, element_of, form_in, before_in}
 use Rattle.heap_places.specs.Shapes.{IsText}
 use Rattle.ps_meaning.specs.Values.{Value, Num, Flag, Text, Nil, Pointer, Vector, Procedure, Nothing}
 use Rattle.ps_meaning.specs.Objects.{Heap, Object, Structure, Elements, object_at, with_object, with_new, new_number}
-use Rattle.heap_meaning.specs.Standing.{Seen, Pairing, StandsFor, IsWordOf, AreFor, IsAs, IsLike, Both, Stands, IsOne, with_pair}
+use Rattle.heap_meaning.specs.Standing.{Seen, Pairing, IsKindOf, StandsFor, IsWordOf, AreFor, IsAs, IsLike, Both, Stands, IsOne, with_pair}
 
 -- What stands for a value stands for it where more is seen, and where more is paired.
 
@@ -24,39 +25,46 @@ text-more seen now n bytes grows t = record { it = t.it; there = grows t.it t.ki
 abbrev pub Texts : Seen → Seen → Type 0
 Texts seen now = (n : reference.Reference) (it : Shown) → it.kind ≡ kind.Text → seen n it → now n it
 
+-- every name that is seen stays, with the kind of its object
+abbrev pub Kinds : Seen → Seen → Type 0
+Kinds seen now = (n : reference.Reference) (it : Shown) → seen n it → IsKindOf now n it.kind
+
+pub kind-more : (seen now : Seen) (n : reference.Reference) (of : Kind) → Kinds seen now → IsKindOf seen n of → IsKindOf now n of
+kind-more seen now n of kinds k = subst (IsKindOf now n) k.kind_is (kinds n k.it k.there)
+
 -- every pair stays
 abbrev pub Pairs : Pairing → Pairing → Type 0
 Pairs pair now = (n : reference.Reference) (id : ℕ) → pair n id → now n id
 
-pub stands-more : (seen now : Seen) (pair more : Pairing) (n : reference.Reference) (v : Value) → Texts seen now → Pairs pair more → StandsFor seen pair n v → StandsFor now more n v
-stands-more seen now pair more n Nil texts pairs s = s
-stands-more seen now pair more n (Text bytes) texts pairs s = text-more seen now n bytes (λ it k. texts n it k) s
-stands-more seen now pair more n (Pointer id) texts pairs s = pairs n id s
-stands-more seen now pair more n (Vector id) texts pairs s = pairs n id s
-stands-more seen now pair more n (Num z) texts pairs s = absurd s
-stands-more seen now pair more n (Flag b) texts pairs s = absurd s
-stands-more seen now pair more n (Procedure of scope) texts pairs s = absurd s
-stands-more seen now pair more n Nothing texts pairs s = absurd s
+pub stands-more : (seen now : Seen) (pair more : Pairing) (n : reference.Reference) (v : Value) → Texts seen now → Kinds seen now → Pairs pair more → StandsFor seen pair n v → StandsFor now more n v
+stands-more seen now pair more n Nil texts kinds pairs s = s
+stands-more seen now pair more n (Text bytes) texts kinds pairs s = text-more seen now n bytes (λ it k. texts n it k) s
+stands-more seen now pair more n (Pointer id) texts kinds pairs s = (pairs n id s.0, kind-more seen now n kind.Structure kinds s.1)
+stands-more seen now pair more n (Vector id) texts kinds pairs s = (pairs n id s.0, kind-more seen now n kind.Vector kinds s.1)
+stands-more seen now pair more n (Num z) texts kinds pairs s = absurd s
+stands-more seen now pair more n (Flag b) texts kinds pairs s = absurd s
+stands-more seen now pair more n (Procedure of scope) texts kinds pairs s = absurd s
+stands-more seen now pair more n Nothing texts kinds pairs s = absurd s
 
-pub are-more : (seen now : Seen) (pair more : Pairing) (forms : List Form) (ns : List reference.Reference) (words : List ℕ) (vs : List Value) → Texts seen now → Pairs pair more
+pub are-more : (seen now : Seen) (pair more : Pairing) (forms : List Form) (ns : List reference.Reference) (words : List ℕ) (vs : List Value) → Texts seen now → Kinds seen now → Pairs pair more
     → AreFor seen pair forms ns words vs → AreFor now more forms ns words vs
-are-more seen now pair more (form.Reference ∷ forms) (n ∷ ns) words (v ∷ vs) texts pairs a = (stands-more seen now pair more n v texts pairs a.0, are-more seen now pair more forms ns words vs texts pairs a.1)
-are-more seen now pair more (form.Reference ∷ forms) (n ∷ ns) words [] texts pairs a = absurd a
-are-more seen now pair more (form.Reference ∷ forms) [] words vs texts pairs a = absurd a
-are-more seen now pair more (form.Number ∷ forms) ns (word ∷ words) (v ∷ vs) texts pairs a = (a.0, are-more seen now pair more forms ns words vs texts pairs a.1)
-are-more seen now pair more (form.Number ∷ forms) ns (word ∷ words) [] texts pairs a = absurd a
-are-more seen now pair more (form.Number ∷ forms) ns [] vs texts pairs a = absurd a
-are-more seen now pair more (form.Flag ∷ forms) ns (word ∷ words) (v ∷ vs) texts pairs a = (a.0, are-more seen now pair more forms ns words vs texts pairs a.1)
-are-more seen now pair more (form.Flag ∷ forms) ns (word ∷ words) [] texts pairs a = absurd a
-are-more seen now pair more (form.Flag ∷ forms) ns [] vs texts pairs a = absurd a
-are-more seen now pair more [] [] [] [] texts pairs a = tt
-are-more seen now pair more [] [] [] (v ∷ vs) texts pairs a = absurd a
-are-more seen now pair more [] [] (word ∷ words) vs texts pairs a = absurd a
-are-more seen now pair more [] (n ∷ ns) words vs texts pairs a = absurd a
+are-more seen now pair more (form.Reference ∷ forms) (n ∷ ns) words (v ∷ vs) texts kinds pairs a = (stands-more seen now pair more n v texts kinds pairs a.0, are-more seen now pair more forms ns words vs texts kinds pairs a.1)
+are-more seen now pair more (form.Reference ∷ forms) (n ∷ ns) words [] texts kinds pairs a = absurd a
+are-more seen now pair more (form.Reference ∷ forms) [] words vs texts kinds pairs a = absurd a
+are-more seen now pair more (form.Number ∷ forms) ns (word ∷ words) (v ∷ vs) texts kinds pairs a = (a.0, are-more seen now pair more forms ns words vs texts kinds pairs a.1)
+are-more seen now pair more (form.Number ∷ forms) ns (word ∷ words) [] texts kinds pairs a = absurd a
+are-more seen now pair more (form.Number ∷ forms) ns [] vs texts kinds pairs a = absurd a
+are-more seen now pair more (form.Flag ∷ forms) ns (word ∷ words) (v ∷ vs) texts kinds pairs a = (a.0, are-more seen now pair more forms ns words vs texts kinds pairs a.1)
+are-more seen now pair more (form.Flag ∷ forms) ns (word ∷ words) [] texts kinds pairs a = absurd a
+are-more seen now pair more (form.Flag ∷ forms) ns [] vs texts kinds pairs a = absurd a
+are-more seen now pair more [] [] [] [] texts kinds pairs a = tt
+are-more seen now pair more [] [] [] (v ∷ vs) texts kinds pairs a = absurd a
+are-more seen now pair more [] [] (word ∷ words) vs texts kinds pairs a = absurd a
+are-more seen now pair more [] (n ∷ ns) words vs texts kinds pairs a = absurd a
 
-pub as-more : (seen now : Seen) (pair more : Pairing) (it : Shown) (of : Kind) (text : List ℕ) (first : ℕ → List ℕ) (forms : List Form) (vs : List Value) → Texts seen now → Pairs pair more
+pub as-more : (seen now : Seen) (pair more : Pairing) (it : Shown) (of : Kind) (text : List ℕ) (first : ℕ → List ℕ) (forms : List Form) (vs : List Value) → Texts seen now → Kinds seen now → Pairs pair more
     → IsAs seen pair it of text first forms vs → IsAs now more it of text first forms vs
-as-more seen now pair more it of text first forms vs texts pairs a = record {
+as-more seen now pair more it of text first forms vs texts kinds pairs a = record {
   kind_is = a.kind_is;
   text_name = a.text_name;
   home = a.home;
@@ -65,16 +73,16 @@ as-more seen now pair more it of text first forms vs texts pairs a = record {
   refs = a.refs;
   nums = a.nums;
   is_text = text-more seen now a.text_name text (λ it k. texts a.text_name it k) a.is_text;
-  are = are-more seen now pair more forms a.names a.words vs texts pairs a.are;
+  are = are-more seen now pair more forms a.names a.words vs texts kinds pairs a.are;
 }
 
-pub like-more : (seen now : Seen) (pair more : Pairing) (it : Shown) (object : Object) → Texts seen now → Pairs pair more → IsLike seen pair it object → IsLike now more it object
-like-more seen now pair more it (Structure class fields) texts pairs l = as-more seen now pair more it kind.Structure class (λ home. home ∷ []) (forms_of class) fields texts pairs l
-like-more seen now pair more it (Elements ty low elements) texts pairs l = record {
+pub like-more : (seen now : Seen) (pair more : Pairing) (it : Shown) (object : Object) → Texts seen now → Kinds seen now → Pairs pair more → IsLike seen pair it object → IsLike now more it object
+like-more seen now pair more it (Structure class fields) texts kinds pairs l = as-more seen now pair more it kind.Structure class (λ home. home ∷ []) (forms_of class) fields texts kinds pairs l
+like-more seen now pair more it (Elements ty low elements) texts kinds pairs l = record {
   bound = l.bound;
   bound_is = l.bound_is;
   fits = l.fits;
-  rows = as-more seen now pair more it kind.Vector ty (λ home. home ∷ l.bound ∷ []) (replicate (length elements) (element_of ty)) elements texts pairs l.rows;
+  rows = as-more seen now pair more it kind.Vector ty (λ home. home ∷ l.bound ∷ []) (replicate (length elements) (element_of ty)) elements texts kinds pairs l.rows;
 }
 
 -- A reading, and whatever loses no object: the same pairing.
@@ -82,7 +90,7 @@ pub stands-within : (seen now : Seen) (heap : Heap) (pair : Pairing) → Within 
 stands-within seen now heap pair grows s = record {
   both = λ n id p.
       let b = s.both n id p in
-      record { it = b.it; object = b.object; there = grows n b.it b.there; means = b.means; like = like-more seen now pair pair b.it b.object (λ m it k j. grows m it j) (λ m i q. q) b.like };
+      record { it = b.it; object = b.object; there = grows n b.it b.there; means = b.means; like = like-more seen now pair pair b.it b.object (λ m it k j. grows m it j) (λ m it j. record { it = it; there = grows m it j; kind_is = refl }) (λ m i q. q) b.like };
   one_number = s.one_number;
   one_name = s.one_name;
 }
@@ -256,11 +264,22 @@ pub texts-changed : (seen now : Seen) (n : reference.Reference) (it new : Shown)
 texts-changed seen now n it new one there other c = λ m t k j.
     c.stays m t (λ e. other (ap (λ (x : Shown). x.kind) (one n it t there (subst (λ (r : reference.Reference). seen r t) e j)) ∙ k)) j
 
+-- and each name keeps its kind, where the changed one does
+pub kinds-changed : (seen now : Seen) (n : reference.Reference) (it new : Shown) → IsOne seen → seen n it → new.kind ≡ it.kind → ChangedAt seen n new now → Kinds seen now
+kinds-changed seen now n it new one there same c m t j =
+    elim (names-decided m n) [
+      | inl e ↦
+          let is : it ≡ t = one n it t there (subst (λ (r : reference.Reference). seen r t) e j) in
+          subst (λ (r : reference.Reference). IsKindOf now r t.kind) (sym e) (record { it = new; there = c.there; kind_is = same ∙ ap (λ (x : Shown). x.kind) is })
+      | inr ne ↦ record { it = t; there = c.stays m t ne j; kind_is = refl }
+    ]
+
 -- A write on both sides: the same pairing.
 pub stands-written : (seen now : Seen) (heap : Heap) (pair : Pairing) (n : reference.Reference) (id : ℕ) (it new : Shown) (object : Object) → IsOne seen → Stands seen heap pair → pair n id → seen n it → it.kind ≢ kind.Text
-    → ChangedAt seen n new now → IsLike now pair new object → Stands now (with_object heap id object) pair
-stands-written seen now heap pair n id it new object one s p there other c like =
+    → new.kind ≡ it.kind → ChangedAt seen n new now → IsLike now pair new object → Stands now (with_object heap id object) pair
+stands-written seen now heap pair n id it new object one s p there other same_kind c like =
     let texts = texts-changed seen now n it new one there other c in
+    let kinds = kinds-changed seen now n it new one there same_kind c in
     record {
       both = λ m i q. elim (cases_eq i id) [
         | inl same ↦
@@ -277,7 +296,7 @@ stands-written seen now heap pair n id it new object one s p there other c like 
               object = b.object;
               there = c.stays m b.it ne b.there;
               means = object-set_other heap id i object apart ∙ b.means;
-              like = like-more seen now pair pair b.it b.object texts (λ m i q. q) b.like;
+              like = like-more seen now pair pair b.it b.object texts kinds (λ m i q. q) b.like;
             }
       ];
       one_number = s.one_number;
@@ -293,7 +312,9 @@ stands-made seen now heap pair n new object s fresh c like =
     let apart_id : (m : reference.Reference) (i : ℕ) → pair m i → i ≢ new_number heap = λ m i p e.
     let b = s.both m i p in
     let bad : Some b.object ≡ None = sym b.means ∙ ap (object_at heap) e ∙ object-none heap in absurd (cc) in
-    let texts : Texts seen now = λ m it k j. c.stays m it (λ e. fresh it (subst (λ (r : reference.Reference). seen r it) e j)) j in
+    let stays : Within seen now = λ m it j. c.stays m it (λ e. fresh it (subst (λ (r : reference.Reference). seen r it) e j)) j in
+    let texts : Texts seen now = λ m it k j. stays m it j in
+    let kinds : Kinds seen now = λ m it j. record { it = it; there = stays m it j; kind_is = refl } in
     record {
       both = λ m i q. elim q [
         | inl p ↦
@@ -303,7 +324,7 @@ stands-made seen now heap pair n new object s fresh c like =
               object = b.object;
               there = c.stays m b.it (apart m i p) b.there;
               means = object-before heap object b.object i b.means;
-              like = like-more seen now pair more b.it b.object texts (λ m i q. inl q) b.like;
+              like = like-more seen now pair more b.it b.object texts kinds (λ m i q. inl q) b.like;
             }
         | inr e ↦
             subst (λ (r : reference.Reference). Both now (with_new heap object) more r i) (sym e.0)

@@ -22,13 +22,19 @@ Seen = reference.Reference → Shown → Type 0
 abbrev pub Pairing : Type 1
 Pairing = reference.Reference → ℕ → Type 0
 
+-- what is seen under a name is of this kind
+pub record IsKindOf (seen : Seen) (n : reference.Reference) (of : Kind) : Type 0 where
+  pub it : Shown
+  pub there : seen n it
+  pub kind_is : it.kind ≡ of
+
 -- A name stands for a value that isn't a number: nil for nil, a text's for its bytes, a structure's or a vector's for the number that goes
 -- with it.
 abbrev pub StandsFor : Seen → Pairing → reference.Reference → Value → Type 0
 StandsFor seen pair n Nil = n ≡ name.Nil
 StandsFor seen pair n (Text bytes) = IsText seen n bytes
-StandsFor seen pair n (Pointer id) = pair n id
-StandsFor seen pair n (Vector id) = pair n id
+StandsFor seen pair n (Pointer id) = pair n id × IsKindOf seen n kind.Structure
+StandsFor seen pair n (Vector id) = pair n id × IsKindOf seen n kind.Vector
 StandsFor seen pair n _ = ⊥
 
 -- a word stands for an int or a bool

@@ -196,6 +196,7 @@ gets-fault old mid new a b c object at text l fault h o held reads =
     let fails = fails-then old mid a b c (slot_of (shown_at old at) 0 ∷ []) fault o.reads now.0 in
     let why : FailsValue old a at text l.rows l.place.form (suc l.place.index) fault = record {
       mid = mid;
+      heap = h;
       keeps = o.reads.keeps;
       class = class-grows (joint mid b) (joint mid a) (shown_at old at) text (same-before mid a b o.reads.outside.contents) o.fields.class;
       shape = o.fields.shape;
@@ -215,11 +216,11 @@ near-kept old mid (Ref None) keeps near = near
 near-kept old mid (Ref (Some at)) keeps near = (keeps.objects at near).held
 
 pub sets-value : (old mid new : Heap) (a b : Outside Space) (object : Option ℕ) (at : ℕ) (text : List ℕ) (l : Located) (v : Value)
-    → IsOpened old mid a b object at text l.rows
+    → IsHeap mid → IsOpened old mid a b object at text l.rows
     → new ≡ assigned_value mid at (l.place.index + 1) v → SetsField old new a b object text l v (Ok tt)
-sets-value old mid new a b object at text l v o written =
+sets-value old mid new a b object at text l v h o written =
     subst (λ (x : Option ℕ). SetsField old new a b x text l v (Ok tt)) (sym o.is)
-    (record { mid = mid; fields = o.fields; reads = o.reads; written = written ∙ ap (λ (n : ℕ). assigned_value mid at n v) (add-one l.place.index) })
+    (record { mid = mid; heap = h; fields = o.fields; reads = o.reads; written = written ∙ ap (λ (n : ℕ). assigned_value mid at n v) (add-one l.place.index) })
 
 -- no object was lost, unless the store refused one
 pub opens-stands : (old new : Heap) (a b : Outside Space) (object : Option ℕ) (text : List ℕ) (rows : Rows) (fault : OpFault)

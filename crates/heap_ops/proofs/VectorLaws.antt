@@ -170,6 +170,7 @@ fails-element old mid new a b c at n z shape fault h held s place r =
         mid = mid;
         text = text;
         n = n;
+        heap = h;
         keeps = s.1.reads.keeps;
         is = type-grows (joint mid b) (joint mid a) it text (same-before mid a b s.1.reads.outside.contents) s.1.is;
         place = the-subscript it shape text z s.2 of ∙ place;
@@ -186,17 +187,18 @@ refuses old mid a b at z shape v fault held s none names =
     let of = s.3 in
     let kept = damage-kept old mid at (fit_damage shape.form v) fault s.1.reads.keeps held names in (
       fails-damage a b _ _ _ fault s.1.reads.outside kept.2,
-      inr (s.0, s.1.is, ap (λ (f : Form). fitted f v) (sym of) ∙ none, subst (λ (f : Form). NamesDamage old at (fit_damage f v) fault) of kept),
+      inr (s.0, s.1.reads.keeps, s.1.is, ap (λ (f : Form). fitted f v) (sym of) ∙ none, subst (λ (f : Form). NamesDamage old at (fit_damage f v) fault) of kept),
     )
 
-pub sets : (old mid new : Heap) (a b : Outside Space) (at n : ℕ) (z : ℤ) (shape : Shape) (v w : Value) → IsHeld old at → ReadsShape old mid a b at (Ok shape) → place_of shape.low shape.count z ≡ Some n → fitted shape.form v ≡ Some w
+pub sets : (old mid new : Heap) (a b : Outside Space) (at n : ℕ) (z : ℤ) (shape : Shape) (v w : Value) → IsHeap mid → IsHeld old at → ReadsShape old mid a b at (Ok shape) → place_of shape.low shape.count z ≡ Some n → fitted shape.form v ≡ Some w
     → new ≡ assigned_value mid at (index_of shape.form n) w → SetsElement old new a b at z v (Ok tt)
-sets old mid new a b at n z shape v w held s place fits written =
+sets old mid new a b at n z shape v w h held s place fits written =
     let of = s.3 in
     record {
       mid = mid;
       text = s.0;
       n = n;
+      heap = h;
       vector = s.1;
       stored = w;
       fits = ap (λ (f : Form). fitted f v) (sym of) ∙ fits;

@@ -7,7 +7,7 @@ use Rattle.obj_layout.specs.Stored.{Space, Damage}
 use Rattle.obj_layout.specs.declared.kind.Kind.TheVariants.{Structure}
 use Rattle.obj_layout.specs.declared.reference.Reference as reference
 use Rattle.swizzle.specs.declared.fault.SwizzleFault.{SwizzleFault}
-use Rattle.swizzle.specs.Heap.{Heap, ref_at}
+use Rattle.swizzle.specs.Heap.{Heap, IsHeap, ref_at}
 use Rattle.swizzle.specs.Joint.{Shown, shown_at}
 use Rattle.swizzle.specs.Reading.{joint, Reads, FailsReading}
 use Rattle.swizzle.specs.Touch.{Keeps, IsTouchFault}
@@ -73,12 +73,13 @@ pub record HasFields (old new : Heap) (after : Outside Space) (at : ℕ) (text :
 abbrev pub FailsFields : Heap → Heap → Outside Space → Outside Space → ℕ → List ℕ → Rows → SwizzleFault → Type 0
 FailsFields old new before after at text rows fault =
     FailsClass old new before at fault
-    ⊎ (IsOfClass (joint new after) (shown_at old at) text × NamesDamage old at (structure_damage (shown_at old at) rows) fault)
+    ⊎ (Keeps old new × IsOfClass (joint new after) (shown_at old at) text × NamesDamage old at (structure_damage (shown_at old at) rows) fault)
 
 -- Why the value of a field can't be told, when its object was read as one of the class: its word stands for none, or its object couldn't be
 -- fetched.
 pub record FailsValue (old : Heap) (before : Outside Space) (at : ℕ) (text : List ℕ) (rows : Rows) (form : Form) (index : ℕ) (fault : SwizzleFault) : Type 0 where
   pub mid : Heap
+  pub heap : IsHeap mid
   pub keeps : Keeps old mid
   pub class : IsOfClass (joint mid before) (shown_at old at) text
   pub shape : structure_damage (shown_at old at) rows ≡ None
@@ -100,6 +101,7 @@ GetsField old new before after (Some at) text l (Err (op.Swizzle fault)) =
 -- A field was written: behind a reading that found the object to be of the class, the value stands there, and the object is assigned.
 pub record WritesField (old new : Heap) (before after : Outside Space) (at : ℕ) (text : List ℕ) (l : Located) (v : Value) : Type 0 where
   pub mid : Heap
+  pub heap : IsHeap mid
   pub fields : HasFields old mid after at text l.rows
   pub reads : Reads old mid before after (class_of (shown_at old at))
   pub written : new ≡ assigned_value mid at (suc l.place.index) v

@@ -9,7 +9,7 @@ use Rattle.obj_layout.specs.Stored.{Space, Damage, damage}
 use Rattle.obj_layout.specs.declared.kind.Kind.TheVariants.{Vector}
 use Rattle.obj_layout.specs.declared.reference.Reference as reference
 use Rattle.swizzle.specs.declared.fault.SwizzleFault.{SwizzleFault}
-use Rattle.swizzle.specs.Heap.{Heap, header_at, ref_at}
+use Rattle.swizzle.specs.Heap.{Heap, IsHeap, header_at, ref_at}
 use Rattle.swizzle.specs.Joint.{Shown, shown_at}
 use Rattle.swizzle.specs.Reading.{joint, Reads, FailsReading}
 use Rattle.swizzle.specs.Touch.{Keeps, IsTouchFault}
@@ -73,7 +73,7 @@ FailsVector old new before after at fault =
     NamesDamage old at (kind_damage (shown_at old at)) fault
     ⊎ (((shown_at old at).kind ≡ Vector) × (NoText old new at fault ⊎ IsTouchFault old before (ref_at old at 0) fault))
     ⊎ (((shown_at old at).kind ≡ Vector)
-    × ((text : List ℕ) × IsText (joint new after) (slot_of (shown_at old at) 0) text × NamesDamage old at (vector_damage (shown_at old at) (element_of text)) fault))
+    × Keeps old new × ((text : List ℕ) × IsText (joint new after) (slot_of (shown_at old at) 0) text × NamesDamage old at (vector_damage (shown_at old at) (element_of text)) fault))
 
 -- A vector was read as one whose type has this text.
 pub record ReadsVector (old new : Heap) (before after : Outside Space) (at : ℕ) (text : List ℕ) : Type 0 where
@@ -125,6 +125,7 @@ pub record FailsElement (old : Heap) (before : Outside Space) (at : ℕ) (z : �
   pub mid : Heap
   pub text : List ℕ
   pub n : ℕ
+  pub heap : IsHeap mid
   pub keeps : Keeps old mid
   pub is : IsOfType (joint mid before) (shown_at old at) text
   pub place : subscript (shown_at old at) text z ≡ Some n
@@ -162,6 +163,7 @@ pub record WritesElement (old new : Heap) (before after : Outside Space) (at : �
   pub mid : Heap
   pub text : List ℕ
   pub n : ℕ
+  pub heap : IsHeap mid
   pub vector : ReadsVector old mid before after at text
   pub stored : Value
   pub fits : fitted (element_of text) v ≡ Some stored
@@ -175,7 +177,7 @@ SetsElement old new before after at z v (Err (op.Trap t)) = IsBoundsTrap old new
 SetsElement old new before after at z v (Err (op.Swizzle fault)) =
     FailsReading before after fault
     × (FailsVector old new before after at fault
-    ⊎ ((text : List ℕ) × IsOfType (joint new after) (shown_at old at) text × (fitted (element_of text) v ≡ None) × NamesDamage old at (fit_damage (element_of text) v) fault))
+    ⊎ ((text : List ℕ) × Keeps old new × IsOfType (joint new after) (shown_at old at) text × (fitted (element_of text) v ≡ None) × NamesDamage old at (fit_damage (element_of text) v) fault))
 
 -- A vector was made, or its bounds are none of a vector, or there was no room for it.
 abbrev pub MakesVector : Heap → Heap → ℕ → ℤ → List Value → Bool → Result ℕ OpFault → Type 0

@@ -158,6 +158,7 @@ pub fn set_element<V: Vault>(
     let Some(number) = place(shape, at) else {
         return Err(OpFault::Trap(Trap::Bounds));
     };
+    sw.sound();
     match fit(shape.form, to) {
         Some(stored) => {
             write_place(sw, vector, index(shape.form, number), stored);

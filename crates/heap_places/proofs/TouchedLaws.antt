@@ -58,16 +58,16 @@ text-there old new a b at text to is denotes keeps touched call kind =
 
 -- it refers to what is no text
 pub text-other : (old new : Heap) (a b : Outside Space) (at other number : ℕ) (to : Option ℕ) (fault : SwizzleFault) → to ≡ Some other
-    → Denotes new to (name_of old (ref_at old at 0)) → IsTouchCall old new a b (Ok to)
+    → Denotes new to (name_of old (ref_at old at 0)) → Keeps old new → IsTouchCall old new a b (Ok to)
     → nat_eq (kind_number (header_at new other).kind) 1 ≡ false → number ≡ kind_number (header_at new other).kind
     → fault ≡ Vault (Damaged (header_at new other).pid number 1)
     → TouchesText old new a b at (Err fault)
-text-other old new a b at other number to fault some denotes call kind is named =
+text-other old new a b at other number to fault some denotes keeps call kind is named =
     let seen : Denotes new (Some other) (name_of old (ref_at old at 0)) = subst (λ (t : Option ℕ). Denotes new t (name_of old (ref_at old at 0))) some
     denotes in
     let all = named ∙ ap (λ (n : ℕ). Vault (Damaged (header_at new other).pid n 1)) is in (
       fails-damage a b (header_at new other).pid number 1 fault (leaves-touch old new a b (Ok to) call) named,
-      inl (inr (other, denotes-slot old new at 0 (Some other) seen, kinds-differ (header_at new other).kind Text kind, all)),
+      inl (inr (other, denotes-slot old new at 0 (Some other) seen, kinds-differ (header_at new other).kind Text kind, keeps, all)),
     )
 
 ref-nil : (heap : Heap) (r : Reference) → name_of heap r ≡ Nil → r ≡ Nil

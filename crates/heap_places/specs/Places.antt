@@ -14,7 +14,7 @@ use Rattle.swizzle.specs.declared.fault.SwizzleFault.{SwizzleFault}
 use Rattle.swizzle.specs.declared.fault.SwizzleFault.TheVariants.{AreaFull, Vault}
 use Rattle.swizzle.specs.Heap.{Heap, IsHeld, top_of, local_of, header_at, ref_at, with_num, with_ref, with_mark, reference_to}
 use Rattle.swizzle.specs.Joint.{Shown, shown_at}
-use Rattle.swizzle.specs.Touch.{Denotes, IsTouchFault}
+use Rattle.swizzle.specs.Touch.{Denotes, Keeps, IsTouchFault}
 use Rattle.swizzle.specs.Reading.{Reads, FailsReading}
 use Rattle.heap_places.specs.declared.places.Misfit.{Misfit}
 use Rattle.heap_places.specs.declared.value.Value.{Value}
@@ -104,7 +104,7 @@ abbrev pub NoText : Heap → Heap → ℕ → SwizzleFault → Type 0
 NoText old new at fault =
     ((slot_of (shown_at old at) 0 ≡ Nil) × (fault ≡ Vault (Damaged (header_at old at).pid 0 1)))
     ⊎ ((other : ℕ) × Denotes new (Some other) (slot_of (shown_at old at) 0) × ((header_at new other).kind ≢ Text)
-    × (fault ≡ Vault (Damaged (header_at new other).pid (kind_number (header_at new other).kind) 1)))
+    × Keeps old new × (fault ≡ Vault (Damaged (header_at new other).pid (kind_number (header_at new other).kind) 1)))
 
 abbrev pub TouchesText : Heap → Heap → Outside Space → Outside Space → ℕ → Result ℕ SwizzleFault → Type 0
 TouchesText old new before after at (Ok text) = FirstText old new before after at text

@@ -52,6 +52,7 @@ puts old new bytes is = subst (λ (m : Memory). Puts {T = Unit {0}} (outside_of 
   };
   contents = record { kept = λ x is. record { is = is.is; sound = is.sound }; no_other = λ x is. record { is = is.is; sound = is.sound } };
   counts = omega arith;
+  calm = refl;
   device = refl;
   cause = λ e. absurd (cc);
   other = λ e. cc;

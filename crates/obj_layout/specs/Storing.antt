@@ -53,6 +53,7 @@ pub record Puts {T : Type 0} (old new : Outside Space) (bytes : List ℕ) (resul
   pub images : LeavesSame old new
   pub contents : SameContents old new
   pub counts : old.output_faults ≤ new.output_faults
+  pub calm : OnOk result (new.output_faults ≡ old.output_faults)
   pub device : new.device_faults ≡ old.device_faults
   pub cause : result ≡ Err Output → Rose old.output_faults new.output_faults
   pub other : result ≢ Err Device

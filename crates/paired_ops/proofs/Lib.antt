@@ -1,0 +1,11 @@
+pub mod WorldLaws
+pub mod ValueLaws
+pub mod TextLaws
+pub mod ReadLaws
+pub mod CodeLaws
+pub mod FormLaws
+pub mod MadeLaws
+pub mod ClassLaws
+pub mod RewriteLaws
+pub mod FieldLaws
+pub mod ElementLaws

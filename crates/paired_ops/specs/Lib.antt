@@ -1,1 +1,3 @@
 pub mod World
+pub mod Operands
+pub mod Code

@@ -47,12 +47,13 @@ module _ (old new : area.Heap) where
     pub world : IsWorld new of names
     pub carries : Carries names names 0
 
-  -- there was no room for an object of so many bytes
+  -- there was no room for an object of so many bytes, and the area stays
   pub record IsShort (weight : ℕ) (fault : SwizzleFault) : Type 0 where
     pub wanted : ℕ
     pub fault_is : fault ≡ AreaFull (top_of old) wanted old.size
     pub full : old.size < top_of old + wanted
     pub words : 8 * wanted ≤ weight
+    pub stays : new ≡ old
 
   -- An operation that reads: it gives what stands for what the meaning's yields, or ends in its trap.
   abbrev pub Answers : {A T : Type 0} → (T → A → Type 0) → Heap → List reference.Reference → Attempt A → Result T OpFault → Type 0

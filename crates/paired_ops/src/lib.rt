@@ -1,2 +1,12 @@
-//! Operations on objects of the area, as the meaning says them: under a row of names the area stands for a heap.
+//! Operations on objects of an area whose vault holds none, each said as the meaning says it: under a row of names the area stands for a heap of
+//! the meaning.
 #![tactic(auto)]
+
+pub mod code;
+pub mod structures;
+pub mod texts;
+pub mod values;
+pub mod vectors;
+
+pub use heap_places::value::Value;
+pub use heap_texts::fault::OpFault;

@@ -1,3 +1,9 @@
+pub mod Forms
+pub mod Groups
+pub mod LibraryParts
+mod LibraryRows
+pub mod Lines
 pub mod Places
-pub mod Rows
+mod ProcedureRows
+mod Rows
 pub mod Views

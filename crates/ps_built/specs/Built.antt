@@ -3,11 +3,7 @@ use Rattle.std.specs.Prelude.{Option, Some, None}
 use Rattle.ps_base.specs.declared.line.Line.{Line}
 use Rattle.ps_tree.specs.Phrase.{Phrase, at, Form, Phrases, none, more, MaybePhrase, absent, present, Arm, arm, Arms, no_arms, more_arms, WriteItem, item, WriteItems, no_items, more_items}
 use Rattle.ps_tree.specs.Phrase as form
-
--- the first of two, in this order
-abbrev pub or_else : Option Line → Option Line → Option Line
-or_else (Some line) behind = Some line
-or_else None behind = behind
+use Rattle.ps_built.specs.First.{or_else}
 
 -- The line of the first form that isn't built. A form stands where the token stands that gives it its line: an operator and an
 -- application behind the first operand, a keyword before its parts. A string is built where it is a whole item of a `write`.

@@ -1,2 +1,5 @@
 pub mod Built
+pub mod First
+pub mod Library
+pub mod Procedures
 pub mod inside

@@ -1,2 +1,5 @@
+pub mod Lent
+pub mod LibraryParts
 pub mod Parts
 pub mod Weights
+pub mod Within

@@ -1,10 +1,10 @@
-ghost use Rattle.std.specs.Prelude.{◌≡◌, ◌+◌, ◌≤◌, option_map};
+ghost use Rattle.std.specs.Prelude.{◌≡◌, ◌+◌, ◌≤◌};
 ghost use Rattle.ps_tree.specs.Phrase.{phrase_of};
-ghost use Rattle.ps_tree.specs.PhraseLists.{maybe_in};
 ghost use Rattle.ps_built.specs.Built.{first_unbuilt as first_unbuilt_of};
-ghost use Rattle.ps_built.specs.inside.Parts.{maybe_lent, unbuilt_parts, weight_parts};
+ghost use Rattle.ps_built.specs.inside.Parts.{unbuilt_parts, weight_parts};
 ghost use Rattle.ps_built.specs.inside.Weights.{weight};
 
+use crate::lent::lent_boxed;
 use ps_tree::rough::{Rough, RoughArm, RoughForm, RoughItem, RoughRange};
 
 /// What the search goes into in a clause.
@@ -69,24 +69,5 @@ pub(crate) fn parts_of(rough: &Rough) -> Parts
         | RoughForm::Nil
         | RoughForm::Bound { .. }
         | RoughForm::Elems { .. } => Parts::Itself,
-    }
-}
-
-/// A clause that may be left out.
-pub(crate) fn lent(clause: &Option<Rough>) -> Option<&Rough>
-    ensures { maybe_lent result ≡ maybe_in clause.now }
-{
-    match clause {
-        Some(clause) => Some(clause),
-        None => None,
-    }
-}
-
-fn lent_boxed(clause: &Option<Box<Rough>>) -> Option<&Rough>
-    ensures { maybe_lent result ≡ maybe_in (option_map (λ clause. clause.value) clause.now) }
-{
-    match clause {
-        Some(clause) => Some(clause),
-        None => None,
     }
 }

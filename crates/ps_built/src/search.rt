@@ -2,10 +2,13 @@ ghost use Rattle.std.specs.Prelude.{◌≡◌};
 ghost use Rattle.ps_tree.specs.Phrase.{phrase_of, item_of, arm_of};
 ghost use Rattle.ps_tree.specs.PhraseLists.{phrases_in, items_in, arms_in, maybe_in};
 ghost use Rattle.ps_tree.specs.declared.rough.RoughRange.{out-RoughRange};
-ghost use Rattle.ps_built.specs.Built.{first_unbuilt as first_unbuilt_of, unbuilt_among, unbuilt_arm as unbuilt_arm_of, unbuilt_arms, unbuilt_if_any, unbuilt_item as unbuilt_item_of, unbuilt_written, or_else as or_else_of};
-ghost use Rattle.ps_built.specs.inside.Parts.{maybe_lent};
+ghost use Rattle.ps_built.specs.Built.{first_unbuilt as first_unbuilt_of, unbuilt_among, unbuilt_arm as unbuilt_arm_of, unbuilt_arms, unbuilt_if_any, unbuilt_item as unbuilt_item_of, unbuilt_written};
+ghost use Rattle.ps_built.specs.First.{or_else as or_else_of};
+ghost use Rattle.ps_built.specs.inside.Lent.{maybe_lent};
 
-use crate::parts::{Parts, lent, parts_of};
+use crate::first::or_else;
+use crate::lent::lent;
+use crate::parts::{Parts, parts_of};
 use ps_base::line::Line;
 use ps_tree::rough::{Rough, RoughArm, RoughForm, RoughItem, RoughRange};
 
@@ -146,15 +149,5 @@ fn in_item(item: &RoughItem) -> Option<Line>
     match &*item.e.form {
         RoughForm::Text(_) => width,
         _ => or_else(first_unbuilt(&item.e), width),
-    }
-}
-
-// The first of two that there is.
-fn or_else(first: Option<Line>, behind: Option<Line>) -> Option<Line>
-    ensures { result ≡ or_else_of first behind }
-{
-    match first {
-        Some(line) => Some(line),
-        None => behind,
     }
 }

@@ -16,7 +16,8 @@ use Rattle.ps_typing.specs.Names.{Meaning, local, class, library, Names, Declare
 use Rattle.ps_typing.specs.Checking.{Outcome, Gives, Refuses, ◌>>=◌, passes, wants, is_same, is_equated, is_writable, is_comparable, isnt_void, is_present, line_of, introduced, used, assigned, can_be_assigned, together, like, check_each, first_type, check, check_form, checkers, check_if_any, check_arms, check_all, check_written}
 use Rattle.ps_typing.specs.Placing.{is_number}
 use Rattle.ps_meaning.specs.Built.{IsItem, IsBuilt, AreBuilt, AreArmsBuilt}
-use Rattle.ps_built.specs.Built.{or_else, first_unbuilt, unbuilt_in, unbuilt_among, unbuilt_if_any, unbuilt_arms, unbuilt_written}
+use Rattle.ps_built.specs.Built.{first_unbuilt, unbuilt_in, unbuilt_among, unbuilt_if_any, unbuilt_arms, unbuilt_written}
+use Rattle.ps_built.specs.First.{or_else}
 
 -- neither of two
 both : (a b : Option Line) → or_else a b ≡ None → (a ≡ None) × (b ≡ None)

@@ -1,20 +1,15 @@
 -- What the search for a form that isn't built goes into in a clause, and what it finds there.
 use Rattle.std.specs.Prelude.{ℕ, ◌+◌, Option, Some, None}
-use Rattle.std.specs.Borrow.{Bor}
 use Rattle.ps_base.specs.declared.line.Line.{Line}
-use Rattle.ps_tree.specs.declared.rough.Rough.{Rough}
 use Rattle.ps_tree.specs.declared.rough.RoughRange.{out-RoughRange}
-use Rattle.ps_tree.specs.Phrase.{MaybePhrase, absent, present, phrase_of}
+use Rattle.ps_tree.specs.Phrase.{phrase_of}
 use Rattle.ps_tree.specs.PhraseLists.{phrases_in, items_in, arms_in, maybe_in}
 use Rattle.ps_built.specs.declared.parts.Parts.{Parts}
 use Rattle.ps_built.specs.declared.parts.Parts.TheVariants.{Nothing, Itself, Before, One, Two, Three, Repeat, For, Case, Clauses, Items}
-use Rattle.ps_built.specs.Built.{or_else, first_unbuilt, unbuilt_among, unbuilt_if_any, unbuilt_arms, unbuilt_written}
+use Rattle.ps_built.specs.First.{or_else}
+use Rattle.ps_built.specs.Built.{first_unbuilt, unbuilt_among, unbuilt_if_any, unbuilt_arms, unbuilt_written}
+use Rattle.ps_built.specs.inside.Lent.{maybe_lent}
 use Rattle.ps_built.specs.inside.Weights.{weight, weight_all, weight_if_any, weight_arms, weight_written}
-
--- a clause that may be left out
-abbrev pub maybe_lent : Option (Bor Rough) → MaybePhrase
-maybe_lent None = absent
-maybe_lent (Some rough) = present (phrase_of rough.now)
 
 -- the line of the first form that isn't built, of a clause on this line with these parts
 abbrev pub unbuilt_parts : Line → Parts → Option Line

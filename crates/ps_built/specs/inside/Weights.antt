@@ -1,4 +1,4 @@
--- How many clauses the search goes into in a clause: the measure of what goes over clauses.
+-- How many clauses there are in a clause, itself included: the measure of what goes over clauses.
 use Rattle.std.specs.Prelude.{ℕ, ◌+◌}
 use Rattle.ps_tree.specs.Phrase.{Phrase, at, Form, Phrases, none, more, MaybePhrase, absent, present, Arm, arm, Arms, no_arms, more_arms, WriteItem, item, WriteItems, no_items, more_items}
 use Rattle.ps_tree.specs.Phrase as form
@@ -27,8 +27,12 @@ abbrev mutual
   weight_form (form.Arith op a b) = weight a + weight b
   weight_form (form.Plus e) = weight e
   weight_form (form.Neg e) = weight e
-  weight_form (form.Apply f args) = weight f
-  weight_form (form.Part s i n) = weight s
+  weight_form (form.Apply f args) = weight f + weight_all args
+  weight_form (form.Part s i n) = weight s + weight i + weight n
+  weight_form (form.Proc params gives s) = weight s
+  weight_form (form.Vector l u e) = weight l + weight u + weight e
+  weight_form (form.Bound upper e) = weight e
+  weight_form (form.Elems l ty items) = weight l + weight_all items
   weight_form _ = 0
 
   pub weight_all : Phrases → ℕ

@@ -57,6 +57,7 @@ returns-in-Err-find_shape-clause-read g c =
       fails-damage a b _ _ _ c.damaged-in-Err-find_shape.result first.reads.outside c.damaged-in-Err-find_shape.ensures,
       inr (inr (
         kind,
+        first.reads.keeps,
         (
           text_at new c.in-Ok.text,
           text-of old new a b c.args.vector c.in-Ok.text first,

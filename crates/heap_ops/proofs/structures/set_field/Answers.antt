@@ -27,7 +27,7 @@ write_place-requires-clause-near g c = near-kept c.args.sw.now c.open_structure.
 pub returns-clause-set : goal.returns-clause-set
 returns-clause-set g c =
     sets-value c.args.sw.now c.open_structure.new.sw c.write_place.new.sw (g.V.Vault.outside c.args.vault.now) (g.V.Vault.outside c.open_structure.new.vault)
-    c.args.object c.in-Ok.at (text_at c.args.sw.now c.args.class) c.args.located c.args.to c.in-Ok.ensures.opened c.write_place.ensures.written
+    c.args.object c.in-Ok.at (text_at c.args.sw.now c.args.class) c.args.located c.args.to c.sound.ensures c.in-Ok.ensures.opened c.write_place.ensures.written
 
 pub returns-clause-stands : goal.returns-clause-stands
 returns-clause-stands g c =

@@ -1,5 +1,5 @@
 use Rattle.std.proofs.lemmas.Int.{to_z-of_z}
-use Rattle.std.proofs.Common.{w32, ◌≡◌, ℕ, sym, ap, subst, ◌∙◌, Some, Ok, Err}
+use Rattle.std.proofs.Common.{w32, inl, ◌≡◌, ℕ, sym, ap, subst, ◌∙◌, Some, Ok, Err}
 use Rattle.swizzle.specs.Joint.{Shown, shown_at}
 use Rattle.ps_meaning.specs.Objects.{place_of}
 use Rattle.heap_places.specs.Places.{HasPlace, ReadsPlace}
@@ -30,3 +30,6 @@ returns-in-Err-read_place-clause-got g c =
     let d = g.V.Vault.outside c.read_place.new.vault in
     fails-element c.args.sw.now c.read_shape.new.sw c.read_place.new.sw a b d c.args.vector c.in-Some.number c.args.at c.in-Ok.shape c.in-Err-read_place.fault c.sound.ensures c.requires.held c.in-Ok.ensures.read (ap (place_of c.in-Ok.shape.low c.in-Ok.shape.count) (sym (to_z-of_z w32 c.args.at c.ranges.at)) ∙ sym c.place.ensures ∙ c.in-Some.is)
     (subst (λ (k : ℕ). ReadsPlace c.read_shape.new.sw c.read_place.new.sw b d c.args.vector c.in-Ok.shape.form k (Err c.in-Err-read_place.fault)) c.index.ensures c.in-Err-read_place.ensures.read)
+
+pub returns-in-Err-clause-got : goal.returns-in-Err-clause-got
+returns-in-Err-clause-got g c = (c.in-Err.ensures.read.0, inl (c.in-Err.ensures.read.1))

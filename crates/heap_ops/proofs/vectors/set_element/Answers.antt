@@ -1,5 +1,5 @@
 use Rattle.std.proofs.lemmas.Int.{to_z-of_z}
-use Rattle.std.proofs.Common.{w32, ◌≡◌, ℕ, sym, ap, subst, ◌∙◌, Some, Ok, Err}
+use Rattle.std.proofs.Common.{w32, inl, ◌≡◌, ℕ, sym, ap, subst, ◌∙◌, Some, Ok, Err}
 use Rattle.ps_meaning.specs.Objects.{place_of}
 use Rattle.swizzle.specs.Joint.{Shown, shown_at}
 use Rattle.heap_places.specs.Places.{HasRow, assigned_value}
@@ -25,3 +25,6 @@ pub returns-in-None-clause-set : goal.returns-in-None-clause-set
 returns-in-None-clause-set g c =
     refuses c.args.sw.now c.read_shape.new.sw (g.V.Vault.outside c.args.vault.now) (g.V.Vault.outside c.read_shape.new.vault) c.args.vector c.args.at c.in-Ok.shape c.args.to c.misfitting.result
     c.requires.held c.in-Ok.ensures.read (sym c.fit.ensures ∙ c.in-None.is) c.misfitting.ensures
+
+pub returns-in-Err-clause-set : goal.returns-in-Err-clause-set
+returns-in-Err-clause-set g c = (c.in-Err.ensures.read.0, inl (c.in-Err.ensures.read.1))

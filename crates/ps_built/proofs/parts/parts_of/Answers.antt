@@ -1,11 +1,11 @@
-use Rattle.std.proofs.Common.{◌∙◌, ap, sym, refl}
+use Rattle.std.proofs.Common.{◌∙◌, ap, sym, refl, arith}
 use Rattle.ps_base.specs.List.{items_of}
 use Rattle.ps_tree.specs.declared.rough.RoughRange.{out-RoughRange}
 use Rattle.ps_tree.specs.Phrase.{named, phrase_of, form_of}
 use Rattle.ps_tree.specs.Phrase as form
 use Rattle.ps_tree.specs.PhraseLists.{phrases_in, items_in, arms_in, maybe_in}
-use Rattle.ps_tree.proofs.PhraseLemmas.{form_of-Sequence, form_of-Write, form_of-Case, maybe_boxed-back}
-use Rattle.ps_built.specs.inside.Parts.{maybe_lent}
+use Rattle.ps_tree.proofs.PhraseLemmas.{form_of-Sequence, form_of-Write, form_of-Case, form_of-Apply, maybe_boxed-back}
+use Rattle.ps_built.specs.inside.Lent.{maybe_lent}
 use Rattle.ps_built.proofs.Views.{form_of-For, reads_as, outweighs}
 use Rattle.ps_built.proofs.parts.parts_of.Goals as goal
 
@@ -136,13 +136,19 @@ pub returns-in-Apply-clause-first : goal.returns-in-Apply-clause-first
 returns-in-Apply-clause-first c = reads_as c.args.rough.now _ c.deref.ensures c.in-Apply.is refl
 
 pub returns-in-Apply-clause-lighter : goal.returns-in-Apply-clause-lighter
-returns-in-Apply-clause-lighter c = outweighs c.args.rough.now _ c.deref.ensures c.in-Apply.is refl
+returns-in-Apply-clause-lighter c =
+    let whole = outweighs c.args.rough.now (form.Apply (phrase_of c.in-Apply.f)
+    (phrases_in (items_of c.in-Apply.args))) c.deref.ensures c.in-Apply.is (form_of-Apply c.in-Apply.f c.in-Apply.args) in
+    omega (arith, whole)
 
 pub returns-in-Part-clause-first : goal.returns-in-Part-clause-first
 returns-in-Part-clause-first c = reads_as c.args.rough.now _ c.deref.ensures c.in-Part.is refl
 
 pub returns-in-Part-clause-lighter : goal.returns-in-Part-clause-lighter
-returns-in-Part-clause-lighter c = outweighs c.args.rough.now _ c.deref.ensures c.in-Part.is refl
+returns-in-Part-clause-lighter c =
+    let whole = outweighs c.args.rough.now (form.Part (phrase_of c.in-Part.s) (phrase_of c.in-Part.i)
+    (phrase_of c.in-Part.n)) c.deref.ensures c.in-Part.is refl in
+    omega (arith, whole)
 
 pub returns-in-Repeat-clause-first : goal.returns-in-Repeat-clause-first
 returns-in-Repeat-clause-first c =

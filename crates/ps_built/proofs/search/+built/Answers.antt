@@ -7,9 +7,11 @@ use Rattle.ps_tree.specs.declared.rough.RoughArm.{RoughArm, out-RoughArm}
 use Rattle.ps_tree.specs.declared.rough.RoughItem.{RoughItem, out-RoughItem}
 use Rattle.ps_tree.specs.Phrase.{phrase_of, item_of, arm_of, arm}
 use Rattle.ps_tree.specs.PhraseLists.{phrases_in, items_in, arms_in, maybe_in}
-use Rattle.ps_built.specs.Built.{first_unbuilt, unbuilt_among, unbuilt_arm, unbuilt_item, unbuilt_if_any, or_else}
+use Rattle.ps_built.specs.Built.{first_unbuilt, unbuilt_among, unbuilt_arm, unbuilt_item, unbuilt_if_any}
+use Rattle.ps_built.specs.First.{or_else}
 use Rattle.ps_built.specs.inside.Weights.{weight, weight_all, weight_item, weight_written, weight_arm, weight_arms}
-use Rattle.ps_built.proofs.Places.{weight_at, item_weight_at, arm_weight_at, first_of_three, not_text}
+use Rattle.ps_built.proofs.Lines.{first_of_three}
+use Rattle.ps_built.proofs.Places.{weight_at, item_weight_at, arm_weight_at, not_text}
 use Rattle.ps_built.proofs.Views.{arm_of-parts, item_of-parts}
 use Rattle.ps_built.proofs.search.+built.Goals as goal
 

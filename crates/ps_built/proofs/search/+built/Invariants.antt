@@ -3,8 +3,9 @@ use Rattle.std.proofs.Common.{◌≡◌, ◌+◌, ◌*◌, ◌≤◌, drop}
 use Rattle.ps_tree.specs.declared.rough.RoughRange.{out-RoughRange}
 use Rattle.ps_tree.specs.Phrase.{phrase_of, item_of, arm_of}
 use Rattle.ps_tree.specs.PhraseLists.{phrases_in, items_in, arms_in, maybe_in}
-use Rattle.ps_built.specs.Built.{first_unbuilt, unbuilt_among, unbuilt_written, unbuilt_arms, or_else}
-use Rattle.ps_built.specs.inside.Parts.{maybe_lent}
+use Rattle.ps_built.specs.Built.{first_unbuilt, unbuilt_among, unbuilt_written, unbuilt_arms}
+use Rattle.ps_built.specs.First.{or_else}
+use Rattle.ps_built.specs.inside.Lent.{maybe_lent}
 use Rattle.ps_built.specs.inside.Weights.{weight, weight_all, weight_if_any, weight_arms, weight_arm, weight_written, weight_item}
 use Rattle.ps_built.proofs.search.+built.Given as goal
 

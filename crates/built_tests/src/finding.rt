@@ -1,0 +1,69 @@
+//! A text searched for the first form for procedures, and its program for the first call of the library that isn't built.
+
+use crate::searching::parsed;
+use ps_base::line::Line;
+use ps_built::{first_procedure, first_unbuilt_library};
+use ps_check::check::check;
+use std::alloc::Global;
+use std::process::Abort;
+use std::test::Fail;
+
+fn number(line: Option<Line>) -> Option<u32> {
+    match line {
+        Some(Line(line)) => Some(line),
+        None => None,
+    }
+}
+
+/// The line of the first form for procedures in a text.
+pub fn procedure_found(alloc: Global, text: &str) -> Result<Option<u32>, Fail> {
+    let rough = parsed(alloc, text.as_bytes())?;
+    Ok(number(first_procedure(&rough)))
+}
+
+/// The line of the first call of the library in the program of a text that isn't built.
+pub fn library_found(alloc: Global, text: &str) -> Result<Option<u32>, Fail> {
+    let rough = parsed(alloc, text.as_bytes())?;
+    let program = check(alloc, &rough).map_err(|_| "check")?;
+    Ok(number(first_unbuilt_library(&program)))
+}
+
+/// Compares the line of the first form for procedures of each text with the one that is wanted.
+pub fn procedures_are_found(
+    rt: &impl Abort,
+    alloc: Global,
+    rows: &[(&str, u32)],
+) -> Result<(), Fail> {
+    for (text, wanted) in rows {
+        let found = procedure_found(alloc, text)?;
+        assert_eq!(rt; found, Some(*wanted), "{text}");
+    }
+    Ok(())
+}
+
+/// No form of these texts is for procedures.
+pub fn no_procedures_are_found(rt: &impl Abort, alloc: Global, texts: &[&str]) -> Result<(), Fail> {
+    for text in texts {
+        let found = procedure_found(alloc, text)?;
+        assert_eq!(rt; found, None, "{text}");
+    }
+    Ok(())
+}
+
+/// Compares the line of the first call of each program that isn't built with the one that is wanted.
+pub fn calls_are_found(rt: &impl Abort, alloc: Global, rows: &[(&str, u32)]) -> Result<(), Fail> {
+    for (text, wanted) in rows {
+        let found = library_found(alloc, text)?;
+        assert_eq!(rt; found, Some(*wanted), "{text}");
+    }
+    Ok(())
+}
+
+/// Each call of these programs is built.
+pub fn no_calls_are_found(rt: &impl Abort, alloc: Global, texts: &[&str]) -> Result<(), Fail> {
+    for text in texts {
+        let found = library_found(alloc, text)?;
+        assert_eq!(rt; found, None, "{text}");
+    }
+    Ok(())
+}

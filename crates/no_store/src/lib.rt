@@ -1,0 +1,8 @@
+//! The vault of a machine whose objects all lie in the area: it holds no object, and its output goes to a host.
+#![tactic(auto)]
+
+mod laws;
+mod vault;
+
+pub use laws::what_is_put_is_told;
+pub use vault::NoStore;

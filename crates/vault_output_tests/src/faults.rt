@@ -1,0 +1,38 @@
+//! Where the host fails, a front of what was written is told, and nothing is owed.
+use crate::steps::{Step, many_bytes, run, vault, written};
+use obj_layout::vault::{Vault, VaultFault};
+use std::test::Fail;
+use vault_output::Output;
+
+/// Steps, the number of the host's call that fails, and how many bytes are told then: half of a piece behind the others.
+const ROWS: [(&[Step], u64, usize); 5] = [
+    (&[Step::Write(5), Step::Flush], 0, 2),
+    (&[Step::Write(65_537)], 0, 32_768),
+    (&[Step::Write(200_000)], 1, 98_304),
+    (&[Step::Write(65_537), Step::Flush], 1, 65_536),
+    (
+        &[Step::Write(65_536), Step::Blanks(65_535), Step::Flush],
+        1,
+        98_303,
+    ),
+];
+
+#[test]
+fn a_front_is_told(rt: HostRuntime) -> Result<(), Fail> {
+    let bytes = many_bytes(rt.alloc())?;
+    for (steps, failing, told) in &ROWS {
+        let mut vault = vault(rt.alloc(), &[*failing])?;
+        let mut output = Output::new(rt.alloc())?;
+        assert_eq!(rt;
+            run(&mut output, &mut vault, &bytes, steps),
+            Err(VaultFault::Output)
+        );
+        assert_eq!(rt; vault.host().told_bytes().len(), *told);
+        assert_eq!(rt; vault.host().clock(), *failing + 1);
+        let due = written(rt.alloc(), &bytes, steps)?;
+        assert!(rt; due.starts_with(vault.host().told_bytes()));
+        assert!(rt; output.owed().is_empty());
+        assert!(rt; !vault.is_alive());
+    }
+    Ok(())
+}
