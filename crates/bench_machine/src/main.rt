@@ -2,6 +2,7 @@
 #![tactic(auto)]
 
 use anyhow::{Context, Result, bail};
+use no_store::NoStore;
 use ps_base::bytes::Bytes;
 use ps_base::code_unit::{CodeUnit, Frame};
 use ps_base::instr::Instr;
@@ -10,13 +11,17 @@ use ps_base::list::List;
 use ps_code::encode::encode;
 use ps_port::MemoryHost;
 use stack_machine::RunEnd;
-use stack_machine::load::load;
+use stack_machine::load::{load, machine};
 use stack_machine::run::run;
 use std::alloc::{AllocError, Global};
 use std::env;
+use vault_output::Output;
 
 /// The most bytes that the output and its records may take.
 const ROOM: u64 = 4_096;
+
+/// The words of the area.
+const WORDS: u32 = 8_192;
 
 // Instructions one behind the other.
 fn code_of(alloc: Global, instrs: &[Instr]) -> Result<Vec<u8>, AllocError> {
@@ -65,14 +70,19 @@ fn main(rt: HostRuntime) -> Result<()> {
     let mut words = env::args(&rt)?.skip(1);
     let turns = words.next().context("how many turns?")?.parse::<i32>()?;
     let unit = unit_of(rt.alloc(), turns)?;
-    let mut host = MemoryHost::new(rt.alloc(), b"", &[], u64::MAX, ROOM)?;
-    let Ok(mut machine) = load(rt.alloc(), &unit, u64::MAX) else {
+    let host = MemoryHost::new(rt.alloc(), b"", &[], u64::MAX, ROOM)?;
+    let mut output = Output::new(rt.alloc())?;
+    let mut machine = machine(rt.alloc(), WORDS)?;
+    let Ok(()) = load(&mut machine, &unit, u64::MAX) else {
         bail!("not loaded");
     };
-    match run(&mut machine, &mut host) {
+    let mut vault = NoStore::new(host);
+    vault.holds_nothing();
+    match run(&mut machine, &mut vault, &mut output) {
         Ok(RunEnd::Done) => {}
         _ => bail!("not done"),
     }
+    let host = vault.into_host();
     println!(rt; "{} calls, {} bytes", host.clock(), host.told_bytes().len())?;
     Ok(())
 }

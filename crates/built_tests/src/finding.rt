@@ -1,12 +1,24 @@
 //! A text searched for the first form for procedures, and its program for the first call of the library that isn't built.
 
-use crate::searching::parsed;
+use ps_base::LONGEST_TEXT;
 use ps_base::line::Line;
 use ps_built::{first_procedure, first_unbuilt_library};
 use ps_check::check::check;
+use ps_parse::parse;
+use ps_scan::scan;
+use ps_tree::rough::Rough;
 use std::alloc::Global;
 use std::process::Abort;
 use std::test::Fail;
+
+// The tree of a text that has no fault of the scanner and the parser.
+fn parsed(alloc: Global, text: &[u8]) -> Result<Rough, Fail> {
+    if text.len() > LONGEST_TEXT {
+        return Err("too long".into());
+    }
+    let tokens = scan(alloc, text).map_err(|_| "scan")?;
+    Ok(parse(alloc, text, &tokens).map_err(|_| "parse")?)
+}
 
 fn number(line: Option<Line>) -> Option<u32> {
     match line {

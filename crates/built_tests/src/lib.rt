@@ -2,10 +2,6 @@
 #![tactic(auto)]
 
 #[cfg(test)]
-mod built;
-#[cfg(test)]
-mod chains;
-#[cfg(test)]
 mod finding;
 #[cfg(test)]
 mod library;
@@ -14,6 +10,4 @@ mod long;
 #[cfg(test)]
 mod procedures;
 #[cfg(test)]
-mod searching;
-#[cfg(test)]
-mod unbuilt;
+mod without;

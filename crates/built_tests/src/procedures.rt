@@ -1,6 +1,6 @@
-//! Texts with forms for procedures, each with the line of the first, and texts without.
+//! Texts with forms for procedures, each with the line of the first.
 
-use crate::finding::{no_procedures_are_found, procedures_are_found};
+use crate::finding::procedures_are_found;
 use std::test::Fail;
 
 // Literals, declarations and types of procedures.
@@ -33,7 +33,7 @@ static FORMS: [(&str, u32); 22] = [
 ];
 
 // They inside other forms, in the order of the text.
-static NESTED: [(&str, u32); 46] = [
+static NESTED: [(&str, u32); 54] = [
     ("lwb(\nproc(); {})", 2),
     ("f(\nproc(); {})", 2),
     ("f(1,\nproc(); {},\nproc(); {})", 2),
@@ -91,37 +91,35 @@ static NESTED: [(&str, u32); 46] = [
     ("write 1: {\nproc(); {} },\nproc(); {}", 2),
     ("write 1, \"a\": {\nproc(); {} }", 2),
     ("write 1, 2: 3,\nproc(); {}", 2),
+    ("repeat a while b\nproc(); {}", 2),
+    ("for i = 1 to 2 by 3 do\nproc(); {}", 2),
+    (
+        "case a of 1:\nproc(); {}; {\nproc(); {} }: b; default: c",
+        2,
+    ),
+    ("case a of 1: b; 2:\nproc(); {}; default:\nproc(); {}", 2),
+    ("case a of default:\nproc(); {}\nproc(); {}", 2),
+    ("write 1, 2: {\nproc(); {} }, { proc(); {} }", 2),
+    ("~\n(a or {\nproc(); {} })", 3),
+    (
+        "while a do {\nfor i = 1 to 2 do {\ncase i of 1: repeat {\nwrite \"a\",\nproc(); {} } while b\ndefault: nil } }",
+        5,
+    ),
     (
         "{ let a = 1\n{ write a\n{ structure b(*proc() c) } } }\nproc(); {}",
         3,
     ),
 ];
 
-static WITHOUT: [&str; 24] = [
-    "",
-    "x; 1; true; nil; \"a\"; abort",
-    "let a = nil; let b := \"c\"",
-    "structure c()",
-    "structure c(int a; bool b; string d; pntr e; *int f; **string g, h)",
-    "vector 1::2 of nil",
-    "vector a::b of vector c::d of 0",
-    "@1 of int [1, 2]",
-    "@-1 of ***pntr [nil, a(1)]",
-    "x(); x(1, 2)(3)",
-    "p(name) := q(name)(1)",
-    "s(i|n)(1|2)",
-    "a is c; a isnt c",
-    "a ++ b ++ \"c\"",
-    "lwb(a) + upb(b)",
-    "write length(\"a\"), iformat(3), eof()",
-    "s.scan(t, f)",
-    "if a = nil then b is c else ~d",
-    "while a(1) do v(2) := 3",
-    "repeat a while b; repeat a while b do { c(1) }",
-    "for i = lwb(v) to upb(v) by 2 do write v(i): 6, \"'n\"",
-    "case s of \"a\", \"b\": p(x); nil: q; default: r",
-    "write { \"a\" }, \"b\" ++ \"c\": 9",
-    "{ let procs = 1; { structure proced(int a) } }",
+// They come before other faults of the check.
+static BEFORE_OTHERS: [(&str, u32); 4] = [
+    ("write y\nlet x = 1\nlet x = 2\nproc(); {}", 4),
+    (
+        "1 := 2\nwrite true + 1\nwrite x(1)\nprocedure p()\nabort",
+        4,
+    ),
+    ("write length\nlength({\nproc(); 1 })", 3),
+    ("if 1 do 2\nlet p = proc(); 1", 2),
 ];
 
 #[test]
@@ -135,6 +133,6 @@ fn those_inside_other_forms_are_found(rt: HostRuntime) -> Result<(), Fail> {
 }
 
 #[test]
-fn other_forms_run(rt: HostRuntime) -> Result<(), Fail> {
-    no_procedures_are_found(&rt, rt.alloc(), &WITHOUT)
+fn they_come_before_other_faults(rt: HostRuntime) -> Result<(), Fail> {
+    procedures_are_found(&rt, rt.alloc(), &BEFORE_OTHERS)
 }

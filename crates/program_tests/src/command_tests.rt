@@ -44,8 +44,8 @@ fn answer(
     answer_over(alloc, words, "x.ps", text, failing)
 }
 
-// Over a shelf with this text under `x.ps`, the words and the last one get this told, and this status.
-fn assert_told(
+/// Over a shelf with this text under `x.ps`, the words and the last one get this told, and this status.
+pub fn assert_told(
     rt: &impl Abort,
     alloc: Global,
     words: &[&str],
@@ -274,7 +274,7 @@ const OPEN: &[u8] = &[b'{'; 100];
 
 const TOO_DEEP: &[u8] = &[b'{'; 101];
 
-const FIRST_FAULTS: [(&[u8], &[u8]); 20] = [
+const FIRST_FAULTS: [(&[u8], &[u8]); 23] = [
     (b"\xc8", b"x.ps: scan 1 at line 1\n"),
     (b"write \"a", b"x.ps: scan 2 at line 1\n"),
     (b"write\n2147483648", b"x.ps: scan 3 at line 2\n"),
@@ -294,10 +294,16 @@ const FIRST_FAULTS: [(&[u8], &[u8]); 20] = [
         b"write 1;\nlet f = proc(); {}; write b",
         b"x.ps: check 8 at line 2\n",
     ),
-    (b"let p =\nvector 1::2 of c", b"x.ps: check 8 at line 2\n"),
-    (b"let a = \"a\"", b"x.ps: check 8 at line 1\n"),
-    (b"write a\n++ b", b"x.ps: check 8 at line 2\n"),
-    (b"a\nwrite nil", b"x.ps: check 8 at line 2\n"),
+    (b"write b\nprocedure f(); {}", b"x.ps: check 8 at line 2\n"),
+    (
+        b"structure s(int a;\n*proc() f)",
+        b"x.ps: check 8 at line 1\n",
+    ),
+    (b"write 1,\ncardinality(nil)", b"x.ps: check 8 at line 2\n"),
+    (b"write eof()\nwrite b", b"x.ps: check 1 at line 2\n"),
+    (b"let p =\nvector 1::2 of c", b"x.ps: check 1 at line 2\n"),
+    (b"write \"a\" ++\n1", b"x.ps: check 3 at line 2\n"),
+    (b"write nil\nlet p = nil", b"x.ps: check 3 at line 1\n"),
 ];
 
 #[test]
@@ -328,7 +334,7 @@ fn braces_are_nested_to_the_limit(rt: HostRuntime) -> Result<(), Fail> {
     Ok(())
 }
 
-const NO_COMMANDS: [(&[&str], &str); 10] = [
+const NO_COMMANDS: [(&[&str], &str); 16] = [
     (&["run"], "v.vol"),
     (&["walk", "v.vol"], "x.ps"),
     (&["run", "-v"], "x.ps"),
@@ -339,6 +345,12 @@ const NO_COMMANDS: [(&[&str], &str); 10] = [
     (&["run", "v.vol", "--turns", "1000000000001"], "x.ps"),
     (&["run", "v.vol", "--turns", "00000000000005"], "x.ps"),
     (&["run", "v.vol", "x.ps", "--turns"], "5"),
+    (&["run", "v.vol", "--area", "0"], "x.ps"),
+    (&["run", "v.vol", "--area", "262145"], "x.ps"),
+    (&["run", "v.vol", "--area", "0000064"], "x.ps"),
+    (&["run", "v.vol", "--area", ""], "x.ps"),
+    (&["run", "v.vol", "--turns", "5", "--area", "64"], "x.ps"),
+    (&["run", "v.vol", "--area", "64", "--turns"], "x.ps"),
 ];
 
 #[test]
@@ -367,8 +379,8 @@ const FAULTS: [Fault<'static>; 7] = [
         13,
     ),
     ("z.ps", b"\n", 1_048_576, &[], b"", 0),
-    ("z.ps", SUM, 1, &[0], b"", 8),
-    ("z.ps", SUM, 1, &[1], b"3", 8),
+    ("z.ps", SUM, 1, &[0], b"3", 8),
+    ("z.ps", SUM, 1, &[1], b"3\n", 0),
     ("z.ps", b"write 1234, \"'n\"", 1, &[0], b"12", 8),
     ("x.ps", b"", 1, &[1], b"cannot read z.", 8),
 ];

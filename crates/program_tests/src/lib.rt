@@ -5,3 +5,5 @@
 mod command_tests;
 #[cfg(test)]
 mod memory_tests;
+#[cfg(test)]
+mod programs;

@@ -5,5 +5,4 @@ mod LibraryRows
 pub mod Lines
 pub mod Places
 mod ProcedureRows
-mod Rows
 pub mod Views

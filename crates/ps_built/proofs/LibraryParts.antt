@@ -1,5 +1,5 @@
 -- The first call of the library in a clause, from its parts.
-use Rattle.std.proofs.Common.{◌≡◌, ℕ, ◌+◌, Option, Some, None, List, [], ◌∷◌, ◌++◌, map, refl, sym, ap, ◌∙◌, arith}
+use Rattle.std.proofs.Common.{◌≡◌, ◌+◌, Option, Some, None, List, [], ◌∷◌, ◌++◌, map, refl, sym, ap, ◌∙◌, arith}
 use Rattle.std.specs.Borrow.{Bor}
 use Rattle.ps_base.specs.declared.line.Line.{Line}
 use Rattle.ps_program.specs.declared.body.Body.{Body}
@@ -9,7 +9,7 @@ use Rattle.ps_program.specs.declared.parts.Further.TheVariants.{OneBranch, TwoBr
 use Rattle.ps_program.specs.Node.{Node, Nodes, none, more, Arms, no_arms, more_arms, arm, BodyNode, body}
 use Rattle.ps_program.specs.Node as node
 use Rattle.ps_program.specs.NodeView.{node_of, body_of}
-use Rattle.ps_program.specs.Parts.{Part, operand, label, branch, literal, fold}
+use Rattle.ps_program.specs.Parts.{Part, operand, label, branch, literal}
 use Rattle.ps_program.specs.inside.Listed.{parts_all, parts_arms, parts_of, part_as}
 use Rattle.ps_program.specs.inside.PartsView.{AreListed, first_as, further_in}
 use Rattle.ps_program.specs.inside.Weights.{weight}

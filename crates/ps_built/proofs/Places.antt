@@ -1,17 +1,10 @@
 -- What an item of a list weighs, by its place in the list.
-use Rattle.std.proofs.Common.{◌≡◌, ◌≤◌, ◌<◌, ℕ, zero, suc, List, [], ◌∷◌, length, get_or, arith, refl}
-use Rattle.std.specs.Prelude.{Option, Some, None}
-use Rattle.ps_base.specs.declared.line.Line.{Line}
+use Rattle.std.proofs.Common.{◌≤◌, ◌<◌, ℕ, zero, suc, List, [], ◌∷◌, length, get_or, arith}
 use Rattle.ps_tree.specs.declared.rough.Rough.{Rough}
 use Rattle.ps_tree.specs.declared.rough.RoughArm.{RoughArm}
 use Rattle.ps_tree.specs.declared.rough.RoughItem.{RoughItem}
-use Rattle.ps_tree.specs.declared.rough.RoughForm.{RoughForm}
-use Rattle.ps_tree.specs.declared.rough.RoughForm.TheBlock.{struct-RoughRange}
-use Rattle.ps_tree.specs.declared.rough.RoughForm.TheVariants as code
-use Rattle.ps_tree.specs.Phrase.{MaybePhrase, at, item, phrase_of, form_of, item_of, arm_of}
+use Rattle.ps_tree.specs.Phrase.{phrase_of, item_of, arm_of}
 use Rattle.ps_tree.specs.PhraseLists.{phrases_in, items_in, arms_in}
-use Rattle.ps_built.specs.Built.{unbuilt_in, unbuilt_item, unbuilt_if_any}
-use Rattle.ps_built.specs.First.{or_else}
 use Rattle.ps_built.specs.inside.Weights.{weight, weight_all, weight_item, weight_written, weight_arm, weight_arms}
 
 pub weight_at : (clauses : List Rough) (i : ℕ) (d : Rough) → i < length clauses → weight (phrase_of (get_or clauses i d)) ≤ weight_all (phrases_in clauses)
@@ -30,10 +23,3 @@ arm_weight_at [] i d below = absurd (omega arith)
 arm_weight_at (t ∷ ts) zero d below = omega arith
 arm_weight_at (t ∷ ts) (suc i) d below =
     let rest : weight_arm (arm_of (get_or ts i d)) ≤ weight_arms (arms_in ts) = arm_weight_at ts i d (omega arith) in omega arith
-
--- an item that isn't a string
-pub not_text : (r : RoughForm) (line : Line) (w : MaybePhrase) (colon : Line) → ((bytes : _) → r ≡ code.Text bytes → ⊥) →
-    unbuilt_item (item (at (form_of r) line) w colon) ≡ or_else (unbuilt_in line (form_of r)) (unbuilt_if_any w)
-not_text (code.Text bytes) line w colon other = absurd (other bytes refl)
-not_text (code.For' name o (struct-RoughRange p a a_line q b b_line c) r s s_line) line w colon other = refl
-not_text r line w colon other = refl

@@ -1,8 +1,9 @@
 -- The search for procedures, row by row.
-use Rattle.std.specs.Prelude.{◌≡◌, refl, ℕ, pos, true, Option, Some, None, List, [], ◌∷◌, codes}
+use Rattle.std.specs.Prelude.{◌≡◌, refl, ℕ, pos, true, Option, Some, None, [], ◌∷◌, codes}
 use Rattle.ps_base.specs.TyView.{TyView}
 use Rattle.ps_base.specs.TyView as ty
 use Rattle.ps_base.specs.declared.line.Line.{Line}
+use Rattle.ps_base.specs.declared.operator.Operator.TheVariants.{Add}
 use Rattle.ps_tree.specs.Phrase.{NameAt, GroupAt, Phrase, at, Form, Phrases, none, more, absent, present, arm, no_arms, more_arms, item, no_items, more_items}
 use Rattle.ps_tree.specs.Phrase as form
 use Rattle.ps_built.specs.Procedures.{first_procedure}
@@ -79,3 +80,40 @@ written = refl
 
 cased : first_procedure (at (form.Case (int 1) (more_arms (arm (one (int 2)) (literal 3)) no_arms) (literal 4)) (line 1)) ≡ found 3
 cased = refl
+
+-- operands in their order
+added : first_procedure (at (form.Arith Add (at (form.Arith Add (int 1) (literal 2)) (line 1)) (literal 3)) (line 2)) ≡ found 2
+added = refl
+
+assigned : first_procedure (at (form.Assign (at (form.Apply (literal 2) none) (line 2)) (literal 3)) (line 4)) ≡ found 2
+assigned = refl
+
+chosen : first_procedure (at (form.IfElse (int 1) (int 2) (literal 3)) (line 1)) ≡ found 3
+chosen = refl
+
+-- a clause, its test, and what is done between the turns
+turned : first_procedure (at (form.Repeat (int 1) (literal 3) (present (literal 2))) (line 1)) ≡ found 3
+turned = refl
+
+turned_between : first_procedure (at (form.Repeat (int 1) (int 2) (present (literal 3))) (line 1)) ≡ found 3
+turned_between = refl
+
+turned_alone : first_procedure (at (form.Repeat (int 1) (int 2) absent) (line 1)) ≡ None
+turned_alone = refl
+
+-- the range, the step, and what is done over it
+counted : first_procedure (at (form.For name (int 1) (int 2) (present (literal 4)) (literal 3)) (line 1)) ≡ found 4
+counted = refl
+
+counted_last : first_procedure (at (form.For name (int 1) (int 2) absent (literal 3)) (line 1)) ≡ found 3
+counted_last = refl
+
+-- of each arm the labels and then its clause, and the default last
+labelled : first_procedure (at (form.Case (int 1) (more_arms (arm (more (int 2) (one (literal 3))) (literal 2)) no_arms) (literal 2)) (line 1)) ≡ found 3
+labelled = refl
+
+cased_last : first_procedure (at (form.Case (int 1) no_arms (literal 4)) (line 1)) ≡ found 4
+cased_last = refl
+
+item_first : first_procedure (at (form.Write (more_items (item (literal 3) (present (literal 2)) (line 1)) no_items)) (line 1)) ≡ found 3
+item_first = refl

@@ -1,4 +1,3 @@
-pub mod Built
 pub mod First
 pub mod Library
 pub mod Procedures

@@ -1,5 +1,4 @@
 pub mod Lent
 pub mod LibraryParts
-pub mod Parts
 pub mod Weights
 pub mod Within

@@ -4,12 +4,9 @@
 mod first;
 mod lent;
 mod library;
-mod parts;
 mod procedures;
-mod search;
 mod types;
 mod within;
 
 pub use library::first_unbuilt_library;
 pub use procedures::first_procedure;
-pub use search::first_unbuilt;

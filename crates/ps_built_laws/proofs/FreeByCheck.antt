@@ -12,7 +12,6 @@ use Rattle.ps_program.specs.Assigning.{assignment}
 use Rattle.ps_program.specs.Node.{Node, Nodes}
 use Rattle.ps_program.specs.Node as node
 use Rattle.ps_typing.specs.Names.{plain, scan, Meaning, local, class, library, Names, Declared, FieldOf, lookup, lookup_field, meant, field_meant, is_declared, is_field_declared, declare, declare_local, declare_field, inside, behind}
-use Rattle.ps_typing.specs.Library.{caller}
 use Rattle.ps_typing.specs.Checking.{Outcome, Gives, Refuses, ◌>>=◌, passes, wants, is_same, is_vector, is_equated, is_writable, is_comparable, isnt_void, is_present, line_of, name_in, introduced, types_of, with_fields, structure, most, used, is_of, assigned, can_be_assigned, field_at, field, field_name, together, Checker, like, check_each, check_args, count_types, with_args, elements, value_applied, scan_applied, name_applied, applied, first_type, check, check_form, checkers, check_if_any, check_arms, check_all, check_written}
 use Rattle.ps_built.specs.First.{or_else, line_if}
 use Rattle.ps_built.specs.Procedures.{has_procedure, any_has_procedure, first_procedure, procedure_in, procedure_among, procedure_if_any, procedure_in_arms, procedure_written}

@@ -1,7 +1,7 @@
 -- A clause that fits, without procedures and without calls of the library that aren't built, runs.
-use Rattle.std.proofs.Common.{◌≡◌, ℕ, Bool, true, false, ◌||◌, inl, inr, refl, sym, ap, ◌∙◌}
+use Rattle.std.proofs.Common.{◌≡◌, ℕ, Bool, true, false, ◌||◌, inl, inr, refl, sym, ◌∙◌}
 use Rattle.std.proofs.lemmas.Bool.{eqb-true}
-use Rattle.std.specs.Prelude.{◌⊎◌, Option, Some, None, not, nat_eq}
+use Rattle.std.specs.Prelude.{◌⊎◌, Option, None, not, nat_eq}
 use Rattle.ps_base.specs.declared.line.Line.{Line}
 use Rattle.ps_program.specs.Node.{Node, Nodes, none, more, Arms, no_arms, more_arms, arm, BodyNode, body}
 use Rattle.ps_program.specs.Node as node
@@ -10,7 +10,7 @@ use Rattle.ps_program.specs.inside.Listed.{parts_all, parts_of}
 use Rattle.ps_soundness.specs.Running.{Runs, AllRun, ArmsRun, RunsWhole}
 use Rattle.ps_built.specs.First.{or_else, line_if}
 use Rattle.ps_built.specs.Library.{is_built, own_library, library_in, first_unbuilt_library}
-use Rattle.ps_built.specs.inside.LibraryParts.{library_in_parts, library_in_all, library_in_arm, library_in_arms}
+use Rattle.ps_built.specs.inside.LibraryParts.{library_in_parts, library_in_all, library_in_arms}
 use Rattle.ps_built.proofs.LibraryParts.{library_is, library_of_all, arms_then}
 use Rattle.ps_fit_laws.specs.Fitting.{Fits, AllFit, ArmsFit, FitsBody}
 use Rattle.ps_built_laws.proofs.Free.{IsFree, AreFree, AreArmsFree}
@@ -101,7 +101,7 @@ mutual
   runs (node.Fill l u e ty line) f g h =
       let w = three _ _ _ (in_parts (node.Fill l u e ty line) h) in (runs l f.0 g.0 w.0, runs u f.1 g.1 w.1, runs e f.2 g.2 w.2)
   runs (node.Elems l items ty line) f g h =
-      let u = both (library_in l) _ (in_parts (node.Elems l items ty line) h) in (runs l f.0 g.0 u.0, all_run items f.1 g.1 (in_operands items u.1))
+      let u = both (library_in l) _ (in_parts (node.Elems l items ty line) h) in (f.0, runs l f.1 g.0 u.0, all_run items f.2 g.1 (in_operands items u.1))
   runs (node.Element v i ty line) f g h = let u = two _ _ (in_parts (node.Element v i ty line) h) in (runs v f.0 g.0 u.0, runs i f.1 g.1 u.1)
   runs (node.SetElement v i e ty line) f g h =
       let u = three _ _ _ (in_parts (node.SetElement v i e ty line) h) in (runs v f.0 g.0 u.0, runs i f.1 g.1 u.1, runs e f.2 g.2 u.2)

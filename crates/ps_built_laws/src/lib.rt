@@ -3,4 +3,4 @@
 
 mod laws;
 
-pub use laws::{built_program_runs, built_tree_is_built_program};
+pub use laws::built_program_runs;

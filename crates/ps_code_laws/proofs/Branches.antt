@@ -1,16 +1,23 @@
--- The arms of a `case`: the labels are compared with a value that waits on the number stack.
-use Rattle.std.proofs.Common.{◌≡◌, ℕ, ◌+◌, ◌<◌, ◌≤◌, ℤ, Bool, true, false, [], ◌∷◌, ◌++◌, refl, sym, ◌∙◌, arith}
+-- The arms of a `case`: the labels are compared with a value that waits on the stack of its type.
+use Rattle.std.proofs.Common.{◌≡◌, ℕ, ◌+◌, ◌<◌, ◌≤◌, ℤ, Bool, true, false, List, [], ◌∷◌, ◌++◌, length, refl, sym, ◌∙◌, length-append, arith}
 use Rattle.ps_base.specs.TyView.{TyView}
+use Rattle.ps_base.specs.TyView as types
 use Rattle.ps_base.specs.declared.operator.Relation.TheVariants as relation
 use Rattle.ps_base.specs.declared.instr.Instr.TheVariants as instr
-use Rattle.ps_meaning.specs.Operators.{is_same}
 use Rattle.ps_meaning.specs.Values.{Value, Flag, number_of, word_of, is_one}
-use Rattle.ps_meaning.specs.Meaning.{Frame, State, Outcome, Value_is, Ends, Meaning, give, after, ◌>>=◌, choose}
+use Rattle.ps_meaning.specs.Objects.{Heap}
+use Rattle.ps_meaning.specs.Meaning.{Frame, Store, State, Outcome, Value_is, Ends, Meaning, give, after, ◌>>=◌, choose}
 use Rattle.ps_meaning.specs.Evaluation.{is_equal}
+use Rattle.ps_gen.specs.Choices as choice
 use Rattle.ps_stepping.specs.Config.{code_in, IsAt}
+use Rattle.ps_stepping.specs.Machine.{on, act}
+use Rattle.ps_soundness.specs.Shapes.{IsOf, Grows}
+use Rattle.ps_soundness.proofs.Growing.{of_kept}
 use Rattle.ps_code_laws.specs.Meets.{nums_left, refs_left}
-use Rattle.ps_code_laws.proofs.Clauses.{IsNum, int, bool, compares_words}
-use Rattle.ps_code_laws.proofs.Doing.{Way, if_true, if_false, place, Room, Does, quiet, moved, does_over, does_jump, jump_goes, push_goes, does_same}
+use Rattle.ps_code_laws.proofs.Clauses.{int, bool, IsCompared}
+use Rattle.ps_code_laws.proofs.Clauses as clause
+use Rattle.ps_code_laws.proofs.Doing.{Origin, after_it, Leads, Way, if_true, if_false, nums_few, refs_few, place, Room, room_above, Does, quiet, moved, does_over, does_jump, jump_goes, push_goes, push_ref_goes, does_same}
+use Rattle.ps_code_laws.proofs.Comparing.{compare_acts}
 
 after_after : (o : Outcome) (b d : Value → Meaning) → after (after o b) d ≡ after o (λ v. b v >>= d)
 unfolding after ◌>>=◌
@@ -27,65 +34,142 @@ one_of false = refl
 
 module _ (w : Way) where
   -- the value that waited is let go
-  drop_does : {n : ℕ} {a : Meaning} {t : TyView} {need k : ℕ} (p : ℕ) (x : ℤ) → IsAt (code_in w.unit) p instr.DropM → Does w n [] [] a t need (p + 1) k →
-      Does w n (x ∷ []) [] a t need p k
-  drop_does p x at d = record { by = λ nums refs f s room turns reach. quiet w instr.DropM at refl (d.by nums refs f s room turns reach); falls = d.falls }
+  drop_does : {n : Origin} {a : Meaning} {t ty : TyView} {need k : ℕ} → IsCompared relation.Equal ty → (p : ℕ) (v : Value) →
+      IsAt (code_in w.unit) p (choice.by_type ty instr.DropM instr.DropP) → Does w n [] [] a t need (p + 1) k →
+      Does w n (nums_left ty v) (refs_left ty v) a t need p k
+  drop_does (clause.numbers int) p v at d = record {
+    by =
+        λ nums refs f s room since reach. quiet w instr.DropM at refl (d.by nums refs f s room since reach);
+  }
+  drop_does (clause.numbers bool) p v at d = record {
+    by =
+        λ nums refs f s room since reach. quiet w instr.DropM at refl (d.by nums refs f s room since reach);
+  }
+  drop_does clause.texts p v at d = record {
+    by =
+        λ nums refs f s room since reach. quiet w instr.DropP at refl (d.by nums refs f s room since reach);
+  }
+  drop_does (clause.alike clause.IsObject.pntr) p v at d =
+      record { by = λ nums refs f s room since reach. quiet w instr.DropP at refl (d.by nums refs f s room since reach) }
+  drop_does (clause.alike clause.IsObject.vector) p v at d =
+      record { by = λ nums refs f s room since reach. quiet w instr.DropP at refl (d.by nums refs f s room since reach) }
 
   -- the same value is pushed once more
-  twice_does : {n : ℕ} {a : Meaning} {t : TyView} {need k : ℕ} (p : ℕ) (x : ℤ) → 2 ≤ need → IsAt (code_in w.unit) p instr.DupM →
+  twice_num : {n : Origin} {a : Meaning} {t : TyView} {need k : ℕ} (p : ℕ) (x : ℤ) → 2 ≤ need → IsAt (code_in w.unit) p instr.DupM →
       Does w n (x ∷ x ∷ []) [] a t need (p + 1) k → Does w n (x ∷ []) [] a t need p k
-  twice_does {need = need} p x le at d = record {
-    by = λ nums refs f s room turns reach.
-        let one_more : Room w 1 (x ∷ nums) refs = record { on_nums = let h = room.on_nums in omega arith; on_refs = let h = room.on_refs in omega arith } in
-        quiet w instr.DupM at (push_goes w (p + 1) x (x ∷ nums) refs f s.store one_more) (d.by nums refs f s room turns reach);
-    falls = d.falls;
+  twice_num {need = need} p x le at d = record {
+    by = λ nums refs f s room since reach.
+        let one_more : Room w 1 (x ∷ nums) refs = record {
+          on_nums = let h = room.on_nums in omega arith;
+          on_refs = let h = room.on_refs in omega
+              arith;
+        } in
+        quiet w instr.DupM at (push_goes w (p + 1) x (x ∷ nums) refs f s.store one_more) (d.by nums refs f s room since reach);
   }
 
-  test_label : {n : ℕ} {t : TyView} (need q chosen k : ℕ) (v u : Value) (rest : Meaning) (next : Value → Meaning) → IsAt (code_in w.unit) q instr.EqM →
-      IsAt (code_in w.unit) (q + 1) (instr.JumpTrue chosen) → q + 1 < chosen → Does w n (word_of v ∷ []) [] (next (Flag true)) t need chosen k →
-      Does w n (word_of v ∷ []) [] (rest >>= next) t need (q + 1 + 5) k → (b : Bool) → is_same (word_of v) (word_of u) ≡ b →
-      Does w n (word_of u ∷ word_of v ∷ word_of v ∷ []) [] (choose b (give (Flag true)) rest >>= next) t need q k
+  twice_ref : {n : Origin} {a : Meaning} {t : TyView} {need k : ℕ} (p : ℕ) (v : Value) → 2 ≤ need → IsAt (code_in w.unit) p instr.DupP →
+      Does w n [] (v ∷ v ∷ []) a t need (p + 1) k → Does w n [] (v ∷ []) a t need p k
+  twice_ref {need = need} p v le at d = record {
+    by = λ nums refs f s room since reach.
+        let one_more : Room w 1 nums (v ∷ refs) = record {
+          on_nums = let h = room.on_nums in omega arith;
+          on_refs = let h = room.on_refs in omega
+              arith;
+        } in
+        quiet w instr.DupP at (push_ref_goes w (p + 1) v nums (v ∷ refs) f s.store one_more) (d.by nums refs f s room since reach);
+  }
+
+  twice_does : {n : Origin} {a : Meaning} {t ty : TyView} {need k : ℕ} → IsCompared relation.Equal ty → (p : ℕ) (v : Value) → 2 ≤ need →
+      IsAt (code_in w.unit) p (choice.by_type ty instr.DupM instr.DupP) →
+      Does w n (nums_left ty v ++ nums_left ty v) (refs_left ty v ++ refs_left ty v) a t need (p + 1) k →
+      Does w n (nums_left ty v) (refs_left ty v) a t need p k
+  twice_does (clause.numbers int) p v le at d = twice_num p (word_of v) le at d
+  twice_does (clause.numbers bool) p v le at d = twice_num p (word_of v) le at d
+  twice_does clause.texts p v le at d = twice_ref p v le at d
+  twice_does (clause.alike clause.IsObject.pntr) p v le at d = twice_ref p v le at d
+  twice_does (clause.alike clause.IsObject.vector) p v le at d = twice_ref p v le at d
+
+  -- a label over the value that waits, and that value once more
+  test_acts : (heap : Heap) {ty : TyView} → IsCompared relation.Equal ty → (q : ℕ) (v u : Value) → IsOf heap ty v → IsOf heap ty u →
+      (nums : List ℤ) (refs : List Value) (f : Frame) (store : Store) → Room w 1 (nums_left ty v ++ nums) (refs_left ty v ++ refs) →
+      act (choice.compare relation.Equal ty)
+      (place w q ((nums_left ty u ++ (nums_left ty v ++ nums_left ty v)) ++ nums) ((refs_left ty u ++ (refs_left ty v ++ refs_left ty v)) ++ refs) f
+      store)
+      ≡ on (place w (q + 1) (number_of (is_equal ty v u) ∷ (nums_left ty v ++ nums)) (refs_left ty v ++ refs) f store)
+  test_acts heap (clause.numbers int) q v u is of nums refs f store room =
+      compare_acts w heap {op = relation.Equal} (clause.numbers int) q v u is of (nums_left types.Int v ++ nums) (refs_left types.Int v ++ refs) f
+      store room
+  test_acts heap (clause.numbers bool) q v u is of nums refs f store room =
+      compare_acts w heap {op = relation.Equal} (clause.numbers bool) q v u is of (nums_left types.Bool v ++ nums) (refs_left types.Bool v ++ refs) f
+      store room
+  test_acts heap clause.texts q v u is of nums refs f store room =
+      compare_acts w heap {op = relation.Equal} clause.texts q v u is of (nums_left types.Str v ++ nums) (refs_left types.Str v ++ refs) f store room
+  test_acts heap (clause.alike clause.IsObject.pntr) q v u is of nums refs f store room =
+      compare_acts w heap (clause.alike clause.IsObject.pntr) q v u is of (nums_left types.Pntr v ++ nums) (refs_left types.Pntr v ++ refs) f store
+      room
+  test_acts heap (clause.alike (clause.IsObject.vector {element = element})) q v u is of nums refs f store room =
+      compare_acts w heap (clause.alike (clause.IsObject.vector {element = element})) q v u is of nums (v ∷ refs) f store room
+
+  test_label : {n : Origin} {t ty : TyView} → IsCompared relation.Equal ty →
+      (need q chosen k : ℕ) (v u : Value) (rest : Meaning) (next : Value → Meaning) →
+      2 ≤ need → IsOf n.heap ty v → IsOf n.heap ty u → IsAt (code_in w.unit) q (choice.compare relation.Equal ty) →
+      IsAt (code_in w.unit) (q + 1) (instr.JumpTrue chosen) → q + 1 < chosen →
+      Does w n (nums_left ty v) (refs_left ty v) (next (Flag true)) t need chosen k →
+      Does w n (nums_left ty v) (refs_left ty v) (rest >>= next) t need (q + 1 + 5) k →
+      (b : Bool) → is_equal ty v u ≡ b →
+      Does w n (nums_left ty u ++ (nums_left ty v ++ nums_left ty v)) (refs_left ty u ++ (refs_left ty v ++ refs_left ty v))
+      (choose b (give (Flag true)) rest >>= next) t need q k
   unfolding choose give ◌>>=◌ after
-  test_label need q chosen k v u rest next at_test at_jump lt dt df true is = record {
-    by = λ nums refs f s room turns reach. quiet w instr.EqM at_test refl (jump_goes w (q + 1) chosen
-        (place w (q + 1 + 5) (word_of v ∷ nums) refs f s.store) (instr.JumpTrue chosen) at_jump
-        (if_true (is_one (number_of (is_same (word_of v) (word_of u)))) _ _ (one_of (is_same (word_of v) (word_of u)) ∙ is)) lt
-        (dt.by nums refs f s room turns reach));
-    falls = dt.falls;
+  test_label {n = n} {ty = ty} h need q chosen k v u rest next le is of at_test at_jump lt dt df true says = record {
+    by = λ nums refs f s room since reach.
+        let one_more = room_above w 1 1 need (nums_left ty v) (refs_left ty v) nums refs (nums_few ty v) (refs_few ty v) le room in
+        quiet w (choice.compare relation.Equal ty) at_test (test_acts n.heap h q v u is of nums refs f s.store one_more)
+        (jump_goes w (q + 1) chosen (place w (q + 1 + 5) (nums_left ty v ++ nums) (refs_left ty v ++ refs) f s.store) (instr.JumpTrue chosen) at_jump
+        (if_true (is_one (number_of (is_equal ty v u))) _ _ (one_of (is_equal ty v u) ∙ says)) lt (dt.by nums refs f s room since reach));
   }
-  test_label need q chosen k v u rest next at_test at_jump lt dt df false is = record {
-    by = λ nums refs f s room turns reach. quiet w instr.EqM at_test refl (quiet w (instr.JumpTrue chosen) at_jump
-        (if_false (is_one (number_of (is_same (word_of v) (word_of u)))) _ _ (one_of (is_same (word_of v) (word_of u)) ∙ is))
-        (df.by nums refs f s room turns reach));
-    falls = df.falls;
+  test_label {n = n} {ty = ty} h need q chosen k v u rest next le is of at_test at_jump lt dt df false says = record {
+    by = λ nums refs f s room since reach.
+        let one_more = room_above w 1 1 need (nums_left ty v) (refs_left ty v) nums refs (nums_few ty v) (refs_few ty v) le room in
+        quiet w (choice.compare relation.Equal ty) at_test (test_acts n.heap h q v u is of nums refs f s.store one_more)
+        (quiet w (instr.JumpTrue chosen) at_jump
+        (if_false (is_one (number_of (is_equal ty v u))) _ _ (one_of (is_equal ty v u) ∙ says)) (df.by nums refs f s room since reach));
   }
 
-  over_label : {n : ℕ} {m : Meaning} {t ty : TyView} {need p k : ℕ} → IsNum ty → (v u : Value) → Does w n (word_of u ∷ word_of v ∷ word_of v ∷ []) [] m t need p k →
-      Does w n (nums_left ty u ++ word_of v ∷ word_of v ∷ []) (refs_left ty u ++ []) m t need p k
-  over_label int v u d = d
-  over_label bool v u d = d
+  two_few : (ty : TyView) (v : Value) → length (nums_left ty v ++ nums_left ty v) ≤ 2
+  two_few ty v = let a = nums_few ty v in let b = length-append (nums_left ty v) (nums_left ty v) in omega arith
+
+  two_refs_few : (ty : TyView) (v : Value) → length (refs_left ty v ++ refs_left ty v) ≤ 2
+  two_refs_few ty v = let a = refs_few ty v in let b = length-append (refs_left ty v) (refs_left ty v) in omega arith
 
   -- a label and those behind it, and then what follows
-  pub does_label : {n : ℕ} {t ty : TyView} → IsNum ty → (need nl p q chosen k : ℕ) (v : Value) (label rest : Meaning) (next : Value → Meaning) → 2 + nl ≤ need →
-      IsAt (code_in w.unit) p instr.DupM → Does w n [] [] label ty nl (p + 1) q → IsAt (code_in w.unit) q instr.EqM →
-      IsAt (code_in w.unit) (q + 1) (instr.JumpTrue chosen) → q + 1 < chosen → Does w n (word_of v ∷ []) [] (next (Flag true)) t need chosen k →
-      Does w n (word_of v ∷ []) [] (rest >>= next) t need (q + 1 + 5) k →
-      Does w n (word_of v ∷ []) [] ((label >>= λ u. choose (is_equal ty v u) (give (Flag true)) rest) >>= next) t need p k
-  does_label {ty = ty} is need nl p q chosen k v label rest next le at_dup dl at_test at_jump lt dt df =
+  pub does_label : {n : Origin} {t ty : TyView} → IsCompared relation.Equal ty → (need nl p q chosen k : ℕ) (v : Value) (label rest : Meaning)
+      (next : Value → Meaning) → 2 + nl ≤ need → IsOf n.heap ty v → Leads n n.locals ty label →
+      IsAt (code_in w.unit) p (choice.by_type ty instr.DupM instr.DupP) → Does w n [] [] label ty nl (p + 1) q →
+      IsAt (code_in w.unit) q (choice.compare relation.Equal ty) →
+      IsAt (code_in w.unit) (q + 1) (instr.JumpTrue chosen) → q + 1 < chosen →
+      ((new : Heap) → Grows n.heap new → Does w (after_it n new n.locals) (nums_left ty v) (refs_left ty v) (next (Flag true)) t need chosen k) →
+      ((new : Heap) → Grows n.heap new → Does w (after_it n new n.locals) (nums_left ty v) (refs_left ty v) (rest >>= next) t need (q + 1 + 5) k) →
+      Does w n (nums_left ty v) (refs_left ty v) ((label >>= λ u. choose (is_equal ty v u) (give (Flag true)) rest) >>= next) t need p k
+  does_label {n = n} {ty = ty} h need nl p q chosen k v label rest next le is leads at_dup dl at_test at_jump lt dt df =
       does_same w _ (then_then label (λ u. choose (is_equal ty v u) (give (Flag true)) rest) next)
-      (twice_does p (word_of v) (omega arith) at_dup
-      (does_over w (word_of v ∷ word_of v ∷ []) [] (λ u. choose (is_equal ty v u) (give (Flag true)) rest >>= next) 2 nl need need (p + 1) q k
-      (omega arith) (omega arith) (omega arith) (omega arith) dl
-      (λ u. over_label is v u (test_label need q chosen k v u rest next at_test at_jump lt dt df (is_equal ty v u)
-      (sym (compares_words is relation.Equal v u))))))
+      (twice_does h p v (omega arith) at_dup
+      (does_over w (nums_left ty v ++ nums_left ty v) (refs_left ty v ++ refs_left ty v)
+      (λ u. choose (is_equal ty v u) (give (Flag true)) rest >>= next)
+      2 nl need need (p + 1) q k (two_few ty v) (two_refs_few ty v) (omega arith) (omega arith) leads dl
+      (λ new u g of. test_label h need q chosen k v u rest next (omega arith) (of_kept n.heap new g ty v is) of at_test at_jump lt (dt new g)
+      (df new g)
+      (is_equal ty v u) refl)))
 
   -- an arm that is chosen
-  pub does_chosen : {n : ℕ} {t : TyView} {a : Meaning} (need na chosen q k : ℕ) (x : ℤ) → na ≤ need → IsAt (code_in w.unit) chosen instr.DropM →
-      Does w n [] [] a t na (chosen + 1) q → IsAt (code_in w.unit) q (instr.Jump k) → q < k → Does w n (x ∷ []) [] a t need chosen k
-  does_chosen need na chosen q k x le at_drop da at_jump lt =
-      drop_does chosen x at_drop (does_jump w q k lt at_jump (moved w na need (chosen + 1) q q le refl da))
+  pub does_chosen : {n : Origin} {t ty : TyView} {a : Meaning} → IsCompared relation.Equal ty → (need na chosen q k : ℕ) (v : Value) → na ≤ need →
+      IsAt (code_in w.unit) chosen (choice.by_type ty instr.DropM instr.DropP) →
+      Does w n [] [] a t na (chosen + 1) q → IsAt (code_in w.unit) q (instr.Jump k) → q < k →
+      Does w n (nums_left ty v) (refs_left ty v) a t need chosen k
+  does_chosen h need na chosen q k v le at_drop da at_jump lt =
+      drop_does h chosen v at_drop (does_jump w q k lt at_jump (moved w na need (chosen + 1) q q le refl da))
 
   -- the default
-  pub does_default : {n : ℕ} {t : TyView} {a : Meaning} (need na p k : ℕ) (x : ℤ) → na ≤ need → IsAt (code_in w.unit) p instr.DropM →
-      Does w n [] [] a t na (p + 1) k → Does w n (x ∷ []) [] a t need p k
-  does_default need na p k x le at_drop da = drop_does p x at_drop (moved w na need (p + 1) k k le refl da)
+  pub does_default : {n : Origin} {t ty : TyView} {a : Meaning} → IsCompared relation.Equal ty → (need na p k : ℕ) (v : Value) → na ≤ need →
+      IsAt (code_in w.unit) p (choice.by_type ty instr.DropM instr.DropP) →
+      Does w n [] [] a t na (p + 1) k → Does w n (nums_left ty v) (refs_left ty v) a t need p k
+  does_default h need na p k v le at_drop da = drop_does h p v at_drop (moved w na need (p + 1) k k le refl da)

@@ -15,13 +15,19 @@ use Rattle.ps_meaning.specs.Operators.{Answer, Gives, Traps}
 use Rattle.ps_meaning.specs.Event.{End, Trapped, Event, Turn, OutOfTurns}
 use Rattle.ps_meaning.specs.Values.{Value, Nothing, word_of, is_one, flag_of}
 use Rattle.ps_meaning.specs.Meaning.{Frame, Store, State, Outcome, Value_is, Ends, Meaning, give, stop, after, ◌>>=◌, choose, answer, some_out, emit, in_places, is_width, written, with_turns, turned, spent, take_turn, with_local, get, set}
+use Rattle.ps_meaning.specs.Objects.{Heap}
 use Rattle.ps_meaning.specs.Evaluation.{while_turns}
+use Rattle.ps_typing.specs.WellTyped.{Local}
+use Rattle.ps_soundness.specs.Shapes.{IsOf, IsTypedHeap, AreLocals, Grows}
+use Rattle.ps_soundness.proofs.Growing.{grows_not, grows_then}
+use Rattle.ps_soundness.proofs.Combining.{Sound}
+use Rattle.ps_soundness.proofs.Combining as combining
 use Rattle.ps_stepping.specs.Config.{frame_words, Caller, Config, code_in, frame_in, IsAt}
 use Rattle.ps_stepping.specs.Machine.{Step, Goes, Stops, Stuck, on, push_num, push_ref, forward, back, turn_to, answered, act, Steps, at_instruction}
 use Rattle.ps_stepping.specs.Machine as machine
 use Rattle.ps_code_laws.specs.Meets.{nums_left, refs_left, standing}
 use Rattle.ps_code_laws.proofs.Clauses.{IsNum, int, bool, IsRef, str, pntr, vector, proc}
-use Rattle.ps_code_laws.proofs.Falls.{Falls, Falling, falls_le, falls_then, falls_give, falls_stop, falls_written, falls_turn}
+use Rattle.ps_code_laws.proofs.Falls.{Falls, Falling}
 
 -- A run of a unit, inside bodies that wait, that is to come to something: whatever is so of what a step comes to is so of what it
 -- starts from.
@@ -29,9 +35,9 @@ pub record Way : Type 1 where
   pub unit : UnitView
   pub callers : List Caller
   pub Holds : Config → List Event → Type 0
-  pub Final : End → List Event → Type 0
+  pub Final : End → ℕ → List Event → Type 0
   pub goes : {c next : Config} {so_far events : List Event} → Steps c (Goes events next) → Holds next (so_far ++ events) → Holds c so_far
-  pub stops : {c : Config} {so_far : List Event} {e : End} → Steps c (Stops e) → Final e so_far → Holds c so_far
+  pub stops : {c : Config} {so_far : List Event} {e : End} → Steps c (Stops e) → Final e c.store.counted so_far → Holds c so_far
 
 pub if_true : {A : Type 0} (b : Bool) (x y : A) → b ≡ true → (if b then x else y) ≡ x
 if_true b x y h = ap (λ (c : Bool). if c then x else y) h
@@ -42,11 +48,13 @@ if_false b x y h = ap (λ (c : Bool). if c then x else y) h
 pub if_lt : {A : Type 0} (m n : ℕ) (x y : A) → m < n → (if nat_lt m n then x else y) ≡ x
 if_lt m n x y h = if_true (nat_lt m n) x y (lt-ltb m n h)
 
-pub words_set : (row : ℕ → Value) (slot : ℕ) (v : Value) → (λ s. word_of (with_local row slot v s)) ≡ with_local (λ s. word_of (row s)) slot (word_of v)
+pub words_set : (row : ℕ → Value) (slot : ℕ) (v : Value) → (λ s. word_of (with_local row slot v s)) ≡ with_local (λ s. word_of (row s)) slot
+    (word_of v)
 words_set row slot v = λ i s. each s i
   where
     each : (s : ℕ) → word_of (if nat_eq s slot then v else row s) ≡ (if nat_eq s slot then word_of v else word_of (row s))
-    each s = elim (nat_eq s slot) as (λ b. word_of (if b then v else row s) ≡ (if b then word_of v else word_of (row s))) [ true ↦ refl | false ↦ refl ]
+    each s = elim (nat_eq s slot) as (λ b. word_of (if b then v else row s) ≡ (if b then word_of v else word_of (row s)))
+        [ true ↦ refl | false ↦ refl ]
 
 pub nums_few : (ty : TyView) (v : Value) → length (nums_left ty v) ≤ 1
 nums_few types.Int v = omega arith
@@ -59,6 +67,77 @@ refs_few types.Bool v = omega arith
 refs_few types.Void v = omega arith
 refs_few other v = omega arith
 
+-- Where a clause begins: so many turns are left at most, the heap has grown from this one, and these locals are in scope.
+pub record Origin : Type 0 where
+  pub turns : ℕ
+  pub heap : Heap
+  pub locals : List Local
+
+pub record IsSince (n : Origin) (f : Frame) (s : State) : Type 0 where
+  pub few : s.store.turns ≤ n.turns
+  pub grows : Grows n.heap s.store.heap
+  pub typed : IsTypedHeap s.store.heap
+  pub are : AreLocals s.store.heap f n.locals
+
+-- behind a part
+abbrev pub after_it : Origin → Heap → List Local → Origin
+after_it n heap last = record { turns = n.turns; heap = heap; locals = last }
+
+pub since_more : {n : Origin} {f : Frame} {s : State} {m : ℕ} {heap : Heap} → m ≤ n.turns → Grows n.heap heap →
+    IsSince (record { turns = m; heap = heap; locals = n.locals }) f s → IsSince n f s
+since_more {n = n} {s = s} {heap = heap} le g h = record {
+  few = let few = h.few in omega arith;
+  grows = grows_then n.heap heap s.store.heap g h.grows;
+  typed = h.typed;
+  are = h.are;
+}
+
+-- what a part comes to that is of a type: the turns have fallen, the heap has grown and is typed, and so are the locals in scope behind it
+pub record IsLeft (n : Origin) (last : List Local) (ty : TyView) (v : Value) (f : Frame) (s : State) : Type 0 where
+  pub few : s.store.turns ≤ n.turns
+  pub grows : Grows n.heap s.store.heap
+  pub typed : IsTypedHeap s.store.heap
+  pub are : AreLocals s.store.heap f last
+  pub value : IsOf s.store.heap ty v
+
+abbrev pub Behind : Origin → List Local → TyView → Outcome → Type 0
+Behind n last ty (Value_is v f s) = IsLeft n last ty v f s
+Behind n last ty (Ends e s) = Unit {0}
+
+pub since_left : (n : Origin) (last : List Local) (ty : TyView) (v : Value) (f : Frame) (s : State) → IsLeft n last ty v f s →
+    IsSince (after_it n s.store.heap last) f s
+since_left n last ty v f s left = record { few = left.few; grows = grows_not s.store.heap; typed = left.typed; are = left.are }
+
+-- a part that takes turns alone, and comes to a value of a type
+pub record Leads (n : Origin) (last : List Local) (ty : TyView) (a : Meaning) : Type 0 where
+  pub falls : Falling a
+  pub sound : Sound n.heap n.locals last ty a
+
+left_of : (n : Origin) (last : List Local) (ty : TyView) (turns : ℕ) (old : Heap) (o : Outcome) → turns ≤ n.turns → Grows n.heap old → Falls turns o →
+    combining.Comes old last ty o → Behind n last ty o
+left_of n last ty turns old (Value_is v f s) le g falls h =
+    record { few = omega arith; grows = grows_then n.heap old s.store.heap g h.grows; typed = h.typed; are = h.are; value = h.value }
+left_of n last ty turns old (Ends e s) le g falls h = tt
+
+pub leads_left : {n : Origin} {last : List Local} {ty : TyView} {a : Meaning} {f : Frame} {s : State} → Leads n last ty a → IsSince n f s →
+    Behind n last ty (a f s)
+leads_left {n = n} {last = last} {ty = ty} {a = a} {f = f} {s = s} leads since =
+    left_of n last ty s.store.turns s.store.heap (a f s) since.few since.grows (leads.falls f s)
+    (leads.sound.runs f s since.grows since.typed since.are)
+
+pub leads_more : {n : Origin} {last : List Local} {ty : TyView} {a : Meaning} {m : ℕ} {heap : Heap} → m ≤ n.turns → Grows n.heap heap →
+    Leads n last ty a →
+    Leads (record { turns = m; heap = heap; locals = n.locals }) last ty a
+leads_more {heap = heap} le g h = record { falls = h.falls; sound = combining.later heap g h.sound }
+
+-- nothing is told, and where the run ends nothing is made
+abbrev pub IsQuiet : State → Outcome → Type 0
+IsQuiet old (Value_is v f s) = s.events ≡ old.events
+IsQuiet old (Ends e s) = s ≡ old
+
+abbrev pub IsQuietly : Meaning → Type 0
+IsQuietly m = (f : Frame) (s : State) → IsQuiet s (m f s)
+
 module _ (w : Way) where
   abbrev pub place : ℕ → List ℤ → List Value → Frame → Store → Config
   place at nums refs f store = standing w.unit w.callers at nums refs f store
@@ -66,7 +145,7 @@ module _ (w : Way) where
   -- where the run stands behind a clause of this type that came to this
   abbrev pub Comes : ℕ → List ℤ → List Value → TyView → Outcome → Type 0
   Comes k nums refs ty (Value_is v f s) = w.Holds (place k (nums_left ty v ++ nums) (refs_left ty v ++ refs) f s.store) s.events
-  Comes k nums refs ty (Ends e s) = w.Final e s.events
+  Comes k nums refs ty (Ends e s) = w.Final e s.store.counted s.events
 
   -- there is room for so many words more on each stack
   pub record Room (need : ℕ) (nums : List ℤ) (refs : List Value) : Type 0 where
@@ -74,100 +153,122 @@ module _ (w : Way) where
     pub on_refs : (frame_in w.unit).refs + length refs + need ≤ 512
 
   -- From p to k the code does what is meant, with these words on the stacks before it, and takes them.
-  pub record Does (n : ℕ) (bn : List ℤ) (br : List Value) (m : Meaning) (ty : TyView) (need p k : ℕ) : Type 0 where
-    pub by : (nums : List ℤ) (refs : List Value) (f : Frame) (s : State) → Room need nums refs → s.store.turns ≤ n → Comes k nums refs ty (m f s) →
+  pub record Does (n : Origin) (bn : List ℤ) (br : List Value) (m : Meaning) (ty : TyView) (need p k : ℕ) : Type 0 where
+    pub by : (nums : List ℤ) (refs : List Value) (f : Frame) (s : State) → Room need nums refs → IsSince n f s → Comes k nums refs ty (m f s) →
         w.Holds (place p (bn ++ nums) (br ++ refs) f s.store) s.events
-    pub falls : Falling m
 
   -- one step
   pub step : {c next : Config} {so_far events : List Event} (i : Instr) → IsAt (code_in c.unit) c.at i → act i c ≡ Goes events next →
       w.Holds next (so_far ++ events) → w.Holds c so_far
   step {c = c} i at e h = w.goes (subst (λ (s : Step). Steps c s) e (at_instruction at)) h
 
-  pub quiet : {c next : Config} {so_far : List Event} (i : Instr) → IsAt (code_in c.unit) c.at i → act i c ≡ on next → w.Holds next so_far → w.Holds c so_far
+  pub quiet : {c next : Config} {so_far : List Event} (i : Instr) → IsAt (code_in c.unit) c.at i → act i c ≡ on next → w.Holds next so_far →
+      w.Holds c so_far
   quiet {next = next} {so_far = so_far} i at e h = step i at e (subst (λ (es : List Event). w.Holds next es) (sym (append-nil so_far)) h)
 
-  pub halt : {c : Config} {so_far : List Event} {e : End} (i : Instr) → IsAt (code_in c.unit) c.at i → act i c ≡ Stops e → w.Final e so_far → w.Holds c so_far
+  pub halt : {c : Config} {so_far : List Event} {e : End} (i : Instr) → IsAt (code_in c.unit) c.at i → act i c ≡ Stops e →
+      w.Final e c.store.counted so_far → w.Holds c so_far
   halt {c = c} i at e h = w.stops (subst (λ (s : Step). Steps c s) e (at_instruction at)) h
+
+  -- where as many bytes are counted as in a state
+  pub halt_there : {c : Config} {e : End} (i : Instr) (s : State) → c.store.counted ≡ s.store.counted → IsAt (code_in c.unit) c.at i →
+      act i c ≡ Stops e →
+      w.Final e s.store.counted s.events → w.Holds c s.events
+  halt_there {e = e} i s same at acts h = halt i at acts (subst (λ (n : ℕ). w.Final e n s.events) (sym same) h)
 
   pub less_room : (need need' : ℕ) (nums : List ℤ) (refs : List Value) → need ≤ need' → Room need' nums refs → Room need nums refs
   less_room need need' nums refs le room = record { on_nums = let h = room.on_nums in omega arith; on_refs = let h = room.on_refs in omega arith }
 
-  pub room_above : (m need need' : ℕ) (bn : List ℤ) (br : List Value) (nums : List ℤ) (refs : List Value) → length bn ≤ m → length br ≤ m → need + m ≤ need' →
+  pub room_above : (m need need' : ℕ) (bn : List ℤ) (br : List Value) (nums : List ℤ) (refs : List Value) → length bn ≤ m → length br ≤ m →
+      need + m ≤ need' →
       Room need' nums refs → Room need (bn ++ nums) (br ++ refs)
   room_above m need need' bn br nums refs few_nums few_refs le room = record {
     on_nums = let h = room.on_nums in let k = length-append bn nums in omega arith;
     on_refs = let h = room.on_refs in let k = length-append br refs in omega arith;
   }
 
-  pub moved : {n : ℕ} {bn : List ℤ} {br : List Value} {m : Meaning} {ty : TyView} (need need' p k k' : ℕ) → need ≤ need' → k ≡ k' →
+  pub moved : {n : Origin} {bn : List ℤ} {br : List Value} {m : Meaning} {ty : TyView} (need need' p k k' : ℕ) → need ≤ need' → k ≡ k' →
       Does n bn br m ty need p k → Does n bn br m ty need' p k'
   moved {n = n} {bn = bn} {br = br} {m = m} {ty = ty} need need' p k k' le ek d =
       let d' : Does n bn br m ty need p k' = subst (λ (q : ℕ). Does n bn br m ty need p q) ek d in
-      record { by = λ nums refs f s room turns reach. d'.by nums refs f s (less_room need need' nums refs le room) turns reach; falls = d'.falls }
+      record { by = λ nums refs f s room since reach. d'.by nums refs f s (less_room need need' nums refs le room) since reach }
 
-  pub fewer : {n : ℕ} {bn : List ℤ} {br : List Value} {a : Meaning} {ty : TyView} {need p k : ℕ} (m : ℕ) → m ≤ n → Does n bn br a ty need p k →
-      Does m bn br a ty need p k
-  fewer m le d = record { by = λ nums refs f s room turns reach. d.by nums refs f s room (omega arith) reach; falls = d.falls }
+  -- from fewer turns, and a heap that has grown
+  pub fewer : {n : Origin} {bn : List ℤ} {br : List Value} {a : Meaning} {ty : TyView} {need p k : ℕ} (m : ℕ) (heap : Heap) → m ≤ n.turns →
+      Grows n.heap heap →
+      Does n bn br a ty need p k → Does (record { turns = m; heap = heap; locals = n.locals }) bn br a ty need p k
+  fewer m heap le g d = record { by = λ nums refs f s room since reach. d.by nums refs f s room (since_more le g since) reach }
 
-  comes_then : (n need q k : ℕ) (nums : List ℤ) (refs : List Value) (tya ty : TyView) (b : Value → Meaning) →
-      ((v : Value) → Does n (nums_left tya v) (refs_left tya v) (b v) ty need q k) → Room need nums refs → (o : Outcome) → Falls n o →
-      Comes k nums refs ty (after o b) → Comes q nums refs tya o
+  pub later : {n : Origin} {bn : List ℤ} {br : List Value} {a : Meaning} {ty : TyView} {need p k : ℕ} (heap : Heap) → Grows n.heap heap →
+      Does n bn br a ty need p k → Does (after_it n heap n.locals) bn br a ty need p k
+  later {n = n} heap g d = fewer n.turns heap (omega arith) g d
+
+  comes_then : (n : Origin) (last : List Local) (need q k : ℕ) (nums : List ℤ) (refs : List Value) (tya ty : TyView) (b : Value → Meaning) →
+      ((new : Heap) (v : Value) → Grows n.heap new → IsOf new tya v →
+      Does (after_it n new last) (nums_left tya v) (refs_left tya v) (b v) ty need q k) →
+      Room need nums refs → (o : Outcome) → Behind n last tya o → Comes k nums refs ty (after o b) → Comes q nums refs tya o
   unfolding after
-  comes_then n need q k nums refs tya ty b db room (Value_is v f s) turns reach = (db v).by nums refs f s room turns reach
-  comes_then n need q k nums refs tya ty b db room (Ends e s) turns reach = reach
+  comes_then n last need q k nums refs tya ty b db room (Value_is v f s) left reach =
+      (db s.store.heap v left.grows left.value).by nums refs f s room (since_left n last tya v f s left) reach
+  comes_then n last need q k nums refs tya ty b db room (Ends e s) left reach = reach
 
   -- one part, and then another that takes its value
-  pub does_then : {n : ℕ} {bn : List ℤ} {br : List Value} {a : Meaning} {tya ty : TyView} (b : Value → Meaning) (na nb need p q k : ℕ) → na ≤ need → nb ≤ need →
-      Does n bn br a tya na p q → ((v : Value) → Does n (nums_left tya v) (refs_left tya v) (b v) ty nb q k) → Does n bn br (a >>= b) ty need p k
+  pub does_then : {n : Origin} {bn : List ℤ} {br : List Value} {a : Meaning} {tya ty : TyView} {last : List Local} (b : Value → Meaning)
+      (na nb need p q k : ℕ) →
+      na ≤ need → nb ≤ need → Leads n last tya a → Does n bn br a tya na p q →
+      ((new : Heap) (v : Value) → Grows n.heap new → IsOf new tya v → Does (after_it n new last) (nums_left tya v) (refs_left tya v) (b v) ty nb q k)
+      →
+      Does n bn br (a >>= b) ty need p k
   unfolding ◌>>=◌
-  does_then {n = n} {a = a} {tya = tya} {ty = ty} b na nb need p q k le_a le_b da db = record {
-    by = λ nums refs f s room turns reach. da.by nums refs f s (less_room na need nums refs le_a room) turns
-        (comes_then n nb q k nums refs tya ty b db (less_room nb need nums refs le_b room) (a f s) (falls_le s.store.turns n (a f s) turns (da.falls f s)) reach);
-    falls = falls_then a b da.falls (λ v. (db v).falls);
+  does_then {n = n} {a = a} {tya = tya} {ty = ty} {last = last} b na nb need p q k le_a le_b leads da db = record {
+    by = λ nums refs f s room since reach. da.by nums refs f s (less_room na need nums refs le_a room) since
+        (comes_then n last nb q k nums refs tya ty b db (less_room nb need nums refs le_b room) (a f s) (leads_left leads since) reach);
   }
 
-  comes_over : (n nb need m q k : ℕ) (bn : List ℤ) (br : List Value) (nums : List ℤ) (refs : List Value) (tya ty : TyView) (b : Value → Meaning) →
-      ((v : Value) → Does n (nums_left tya v ++ bn) (refs_left tya v ++ br) (b v) ty nb q k) → Room nb nums refs → (o : Outcome) → Falls n o →
+  comes_over : (n : Origin) (last : List Local) (nb q k : ℕ) (bn : List ℤ) (br : List Value) (nums : List ℤ) (refs : List Value) (tya ty : TyView)
+      (b : Value → Meaning) →
+      ((new : Heap) (v : Value) → Grows n.heap new → IsOf new tya v →
+      Does (after_it n new last) (nums_left tya v ++ bn) (refs_left tya v ++ br) (b v) ty nb q k) → Room nb nums refs → (o : Outcome) →
+      Behind n last tya o →
       Comes k nums refs ty (after o b) → Comes q (bn ++ nums) (br ++ refs) tya o
   unfolding after
-  comes_over n nb need m q k bn br nums refs tya ty b db room (Value_is v f s) turns reach =
+  comes_over n last nb q k bn br nums refs tya ty b db room (Value_is v f s) left reach =
       subst (λ (zs : List ℤ). w.Holds (place q zs (refs_left tya v ++ (br ++ refs)) f s.store) s.events) (append_assoc (nums_left tya v) bn nums)
       (subst (λ (vs : List Value). w.Holds (place q ((nums_left tya v ++ bn) ++ nums) vs f s.store) s.events) (append_assoc (refs_left tya v) br refs)
-      ((db v).by nums refs f s room turns reach))
-  comes_over n nb need m q k bn br nums refs tya ty b db room (Ends e s) turns reach = reach
+      ((db s.store.heap v left.grows left.value).by nums refs f s room (since_left n last tya v f s left) reach))
+  comes_over n last nb q k bn br nums refs tya ty b db room (Ends e s) left reach = reach
 
   -- one part over words that stay, and then another that takes its value and those words
-  pub does_over : {n : ℕ} {a : Meaning} {tya ty : TyView} (bn : List ℤ) (br : List Value) (b : Value → Meaning) (m na nb need p q k : ℕ) →
-      length bn ≤ m → length br ≤ m → na + m ≤ need → nb ≤ need →
-      Does n [] [] a tya na p q → ((v : Value) → Does n (nums_left tya v ++ bn) (refs_left tya v ++ br) (b v) ty nb q k) → Does n bn br (a >>= b) ty need p k
+  pub does_over : {n : Origin} {a : Meaning} {tya ty : TyView} {last : List Local} (bn : List ℤ) (br : List Value) (b : Value → Meaning)
+      (m na nb need p q k : ℕ) →
+      length bn ≤ m → length br ≤ m → na + m ≤ need → nb ≤ need → Leads n last tya a → Does n [] [] a tya na p q →
+      ((new : Heap) (v : Value) → Grows n.heap new → IsOf new tya v →
+      Does (after_it n new last) (nums_left tya v ++ bn) (refs_left tya v ++ br) (b v) ty nb q k) → Does n bn br (a >>= b) ty need p k
   unfolding ◌>>=◌
-  does_over {n = n} {a = a} {tya = tya} {ty = ty} bn br b m na nb need p q k few_nums few_refs le_a le_b da db = record {
-    by = λ nums refs f s room turns reach. da.by (bn ++ nums) (br ++ refs) f s (room_above m na need bn br nums refs few_nums few_refs le_a room) turns
-        (comes_over n nb need m q k bn br nums refs tya ty b db (less_room nb need nums refs le_b room) (a f s)
-        (falls_le s.store.turns n (a f s) turns (da.falls f s)) reach);
-    falls = falls_then a b da.falls (λ v. (db v).falls);
+  does_over {n = n} {a = a} {tya = tya} {ty = ty} {last = last} bn br b m na nb need p q k few_nums few_refs le_a le_b leads da db = record {
+    by = λ nums refs f s room since reach. da.by (bn ++ nums) (br ++ refs) f s (room_above m na need bn br nums refs few_nums few_refs le_a room)
+        since
+        (comes_over n last nb q k bn br nums refs tya ty b db (less_room nb need nums refs le_b room) (a f s) (leads_left leads since) reach);
   }
 
   -- no instruction
-  pub does_nothing : (n need k : ℕ) → Does n [] [] (give Nothing) types.Void need k k
+  pub does_nothing : (n : Origin) (need k : ℕ) → Does n [] [] (give Nothing) types.Void need k k
   unfolding give
-  does_nothing n need k = record { by = λ nums refs f s room turns reach. reach; falls = falls_give Nothing }
+  does_nothing n need k = record { by = λ nums refs f s room since reach. reach }
 
   -- nothing more: the value of the clause before is left
-  pub does_left : (n need k : ℕ) (ty : TyView) (v : Value) → Does n (nums_left ty v) (refs_left ty v) (give v) ty need k k
+  pub does_left : (n : Origin) (need k : ℕ) (ty : TyView) (v : Value) → Does n (nums_left ty v) (refs_left ty v) (give v) ty need k k
   unfolding give
-  does_left n need k ty v = record { by = λ nums refs f s room turns reach. reach; falls = falls_give v }
+  does_left n need k ty v = record { by = λ nums refs f s room since reach. reach }
 
   -- an instruction that gives a value
-  pub does_give : (n p need : ℕ) (bn : List ℤ) (br : List Value) (v : Value) (ty : TyView) (i : Instr) →
+  pub does_give : (n : Origin) (p need : ℕ) (bn : List ℤ) (br : List Value) (v : Value) (ty : TyView) (i : Instr) →
       ((nums : List ℤ) (refs : List Value) (f : Frame) (store : Store) → Room need nums refs →
       act i (place p (bn ++ nums) (br ++ refs) f store) ≡ on (place (p + width_of i) (nums_left ty v ++ nums) (refs_left ty v ++ refs) f store)) →
       IsAt (code_in w.unit) p i → Does n bn br (give v) ty need p (p + width_of i)
   unfolding give
   does_give n p need bn br v ty i acts at = record {
-    by = λ nums refs f s room turns reach. quiet i at (acts nums refs f s.store room) reach;
-    falls = falls_give v;
+    by = λ nums refs f s room since reach. quiet i at (acts nums refs f s.store room) reach;
   }
 
   pub push_goes : (p : ℕ) (z : ℤ) (nums : List ℤ) (refs : List Value) (f : Frame) (store : Store) → Room 1 nums refs →
@@ -178,36 +279,35 @@ module _ (w : Way) where
       push_ref v (place p nums refs f store) ≡ on (place p nums (v ∷ refs) f store)
   push_ref_goes p v nums refs f store room = if_lt ((frame_in w.unit).refs + length refs) frame_words _ _ (let h = room.on_refs in omega arith)
 
-  pub does_get : (n p slot : ℕ) {ty : TyView} → IsNum ty → slot < (frame_in w.unit).nums → IsAt (code_in w.unit) p (instr.GetM slot) →
+  pub does_get : (n : Origin) (p slot : ℕ) {ty : TyView} → IsNum ty → slot < (frame_in w.unit).nums → IsAt (code_in w.unit) p (instr.GetM slot) →
       Does n [] [] (get (Plain slot) ty) ty 1 p (p + 5)
   unfolding get
   does_get n p slot int below at = record {
-    by = λ nums refs f s room turns reach. quiet (instr.GetM slot) at
+    by = λ nums refs f s room since reach. quiet (instr.GetM slot) at
         (if_lt slot (frame_in w.unit).nums _ _ below ∙ push_goes (p + 5) (word_of (f.nums slot)) nums refs f s.store room) reach;
-    falls = λ f s. omega arith;
   }
   does_get n p slot bool below at = record {
-    by = λ nums refs f s room turns reach. quiet (instr.GetM slot) at
+    by = λ nums refs f s room since reach. quiet (instr.GetM slot) at
         (if_lt slot (frame_in w.unit).nums _ _ below ∙ push_goes (p + 5) (word_of (f.nums slot)) nums refs f s.store room) reach;
-    falls = λ f s. omega arith;
   }
 
-  pub got_ref : (n p slot : ℕ) (f : Frame) (s : State) (nums : List ℤ) (refs : List Value) → slot < (frame_in w.unit).refs → IsAt (code_in w.unit) p (instr.GetP slot) →
+  pub got_ref : (n : Origin) (p slot : ℕ) (f : Frame) (s : State) (nums : List ℤ) (refs : List Value) → slot < (frame_in w.unit).refs →
+      IsAt (code_in w.unit) p (instr.GetP slot) →
       Room 1 nums refs → w.Holds (place (p + 5) nums (f.refs slot ∷ refs) f s.store) s.events → w.Holds (place p nums refs f s.store) s.events
   got_ref n p slot f s nums refs below at room reach =
       quiet (instr.GetP slot) at (if_lt slot (frame_in w.unit).refs _ _ below ∙ push_ref_goes (p + 5) (f.refs slot) nums refs f s.store room) reach
 
-  pub does_get_ref : (n p slot : ℕ) {ty : TyView} → IsRef ty → slot < (frame_in w.unit).refs → IsAt (code_in w.unit) p (instr.GetP slot) →
+  pub does_get_ref : (n : Origin) (p slot : ℕ) {ty : TyView} → IsRef ty → slot < (frame_in w.unit).refs → IsAt (code_in w.unit) p (instr.GetP slot) →
       Does n [] [] (get (Plain slot) ty) ty 1 p (p + 5)
   unfolding get
   does_get_ref n p slot str below at =
-      record { by = λ nums refs f s room turns reach. got_ref n p slot f s nums refs below at room reach; falls = λ f s. omega arith }
+      record { by = λ nums refs f s room since reach. got_ref n p slot f s nums refs below at room reach }
   does_get_ref n p slot pntr below at =
-      record { by = λ nums refs f s room turns reach. got_ref n p slot f s nums refs below at room reach; falls = λ f s. omega arith }
+      record { by = λ nums refs f s room since reach. got_ref n p slot f s nums refs below at room reach }
   does_get_ref n p slot vector below at =
-      record { by = λ nums refs f s room turns reach. got_ref n p slot f s nums refs below at room reach; falls = λ f s. omega arith }
+      record { by = λ nums refs f s room since reach. got_ref n p slot f s nums refs below at room reach }
   does_get_ref n p slot proc below at =
-      record { by = λ nums refs f s room turns reach. got_ref n p slot f s nums refs below at room reach; falls = λ f s. omega arith }
+      record { by = λ nums refs f s room since reach. got_ref n p slot f s nums refs below at room reach }
 
   -- the machine with its numbers given as they are
   abbrev pub with_words : ℕ → List ℤ → List Value → (ℕ → ℤ) → Frame → Store → Config
@@ -220,16 +320,15 @@ module _ (w : Way) where
       quiet (instr.SetM slot) at (if_lt slot (frame_in w.unit).nums _ _ below)
       (subst (λ (row : ℕ → ℤ). w.Holds (with_words (p + 5) nums refs row f s.store) s.events) (words_set f.nums slot v) reach)
 
-  pub does_set : (n p slot : ℕ) {ty : TyView} (v : Value) → IsNum ty → slot < (frame_in w.unit).nums → IsAt (code_in w.unit) p (instr.SetM slot) →
+  pub does_set : (n : Origin) (p slot : ℕ) {ty : TyView} (v : Value) → IsNum ty → slot < (frame_in w.unit).nums →
+      IsAt (code_in w.unit) p (instr.SetM slot) →
       Does n (word_of v ∷ []) [] (set (Plain slot) ty v) types.Void 0 p (p + 5)
   unfolding set
   does_set n p slot v int below at = record {
-    by = λ nums refs f s room turns reach. set_goes p slot v nums refs f s below at reach;
-    falls = λ f s. omega arith;
+    by = λ nums refs f s room since reach. set_goes p slot v nums refs f s below at reach;
   }
   does_set n p slot v bool below at = record {
-    by = λ nums refs f s room turns reach. set_goes p slot v nums refs f s below at reach;
-    falls = λ f s. omega arith;
+    by = λ nums refs f s room since reach. set_goes p slot v nums refs f s below at reach;
   }
 
   pub set_ref_goes : (p slot : ℕ) (v : Value) (nums : List ℤ) (refs : List Value) (f : Frame) (s : State) → slot < (frame_in w.unit).refs →
@@ -237,120 +336,122 @@ module _ (w : Way) where
       w.Holds (place p nums (v ∷ refs) f s.store) s.events
   set_ref_goes p slot v nums refs f s below at reach = quiet (instr.SetP slot) at (if_lt slot (frame_in w.unit).refs _ _ below) reach
 
-  pub does_set_ref : (n p slot : ℕ) {ty : TyView} (v : Value) → IsRef ty → slot < (frame_in w.unit).refs → IsAt (code_in w.unit) p (instr.SetP slot) →
+  pub does_set_ref : (n : Origin) (p slot : ℕ) {ty : TyView} (v : Value) → IsRef ty → slot < (frame_in w.unit).refs →
+      IsAt (code_in w.unit) p (instr.SetP slot) →
       Does n [] (v ∷ []) (set (Plain slot) ty v) types.Void 0 p (p + 5)
   unfolding set
   does_set_ref n p slot v str below at =
-      record { by = λ nums refs f s room turns reach. set_ref_goes p slot v nums refs f s below at reach; falls = λ f s. omega arith }
+      record { by = λ nums refs f s room since reach. set_ref_goes p slot v nums refs f s below at reach }
   does_set_ref n p slot v pntr below at =
-      record { by = λ nums refs f s room turns reach. set_ref_goes p slot v nums refs f s below at reach; falls = λ f s. omega arith }
+      record { by = λ nums refs f s room since reach. set_ref_goes p slot v nums refs f s below at reach }
   does_set_ref n p slot v vector below at =
-      record { by = λ nums refs f s room turns reach. set_ref_goes p slot v nums refs f s below at reach; falls = λ f s. omega arith }
+      record { by = λ nums refs f s room since reach. set_ref_goes p slot v nums refs f s below at reach }
   does_set_ref n p slot v proc below at =
-      record { by = λ nums refs f s room turns reach. set_ref_goes p slot v nums refs f s below at reach; falls = λ f s. omega arith }
+      record { by = λ nums refs f s room since reach. set_ref_goes p slot v nums refs f s below at reach }
 
   -- the words that a clause of such a type left
-  pub taken : {n : ℕ} {m : Meaning} {t : TyView} {need p k : ℕ} {ty : TyView} → IsNum ty → (v : Value) → Does n (word_of v ∷ []) [] m t need p k →
+  pub taken : {n : Origin} {m : Meaning} {t : TyView} {need p k : ℕ} {ty : TyView} → IsNum ty → (v : Value) →
+      Does n (word_of v ∷ []) [] m t need p k →
       Does n (nums_left ty v) (refs_left ty v) m t need p k
   taken int v d = d
   taken bool v d = d
 
-  pub taken_ref : {n : ℕ} {m : Meaning} {t : TyView} {need p k : ℕ} {ty : TyView} → IsRef ty → (v : Value) → Does n [] (v ∷ []) m t need p k →
+  pub taken_ref : {n : Origin} {m : Meaning} {t : TyView} {need p k : ℕ} {ty : TyView} → IsRef ty → (v : Value) → Does n [] (v ∷ []) m t need p k →
       Does n (nums_left ty v) (refs_left ty v) m t need p k
   taken_ref str v d = d
   taken_ref pntr v d = d
   taken_ref vector v d = d
   taken_ref proc v d = d
 
-  pub taken_two : {n : ℕ} {m : Meaning} {t : TyView} {need p k : ℕ} {ty : TyView} → IsNum ty → (v u : Value) → Does n (word_of u ∷ word_of v ∷ []) [] m t need p k →
+  pub taken_two : {n : Origin} {m : Meaning} {t : TyView} {need p k : ℕ} {ty : TyView} → IsNum ty → (v u : Value) →
+      Does n (word_of u ∷ word_of v ∷ []) [] m t need p k →
       Does n (nums_left ty u ++ nums_left ty v) (refs_left ty u ++ refs_left ty v) m t need p k
   taken_two int v u d = d
   taken_two bool v u d = d
 
   -- an instruction that takes words and gives an int, or traps
-  pub does_answer : (n p : ℕ) (bn : List ℤ) (a : Answer) (line : Line) (i : Instr) →
+  pub does_answer : (n : Origin) (p : ℕ) (bn : List ℤ) (a : Answer) (line : Line) (i : Instr) →
       ((nums : List ℤ) (refs : List Value) (f : Frame) (store : Store) →
       act i (place p (bn ++ nums) refs f store) ≡ answered line a (place (p + width_of i) nums refs f store)) →
       IsAt (code_in w.unit) p i → Does n bn [] (answer line a) types.Int 0 p (p + width_of i)
   unfolding answer give stop
   does_answer n p bn (Gives z) line i acts at = record {
-    by = λ nums refs f s room turns reach. quiet i at (acts nums refs f s.store) reach;
-    falls = λ f s. omega arith;
+    by = λ nums refs f s room since reach. quiet i at (acts nums refs f s.store) reach;
   }
   does_answer n p bn (Traps trap) line i acts at = record {
-    by = λ nums refs f s room turns reach. halt i at (acts nums refs f s.store) reach;
-    falls = λ f s. tt;
+    by = λ nums refs f s room since reach. halt i at (acts nums refs f s.store) reach;
   }
 
-  write_goes : (q : ℕ) (before : Config) (line : Line) (width : Option ℤ) (bytes : List ℕ) (i : Instr) (fits : Bool) (nums : List ℤ) (refs : List Value)
-      (f : Frame) (s : State) → IsAt (code_in before.unit) before.at i →
-      act i before ≡ (if fits then Goes (some_out (in_places width bytes)) (place q nums refs f s.store) else Stops (Trapped TooLong line)) →
+  write_goes : (q : ℕ) (before : Config) (line : Line) (width : Option ℤ) (bytes : List ℕ) (i : Instr) (fits : Bool) (nums : List ℤ)
+      (refs : List Value)
+      (f : Frame) (s : State) → before.store.counted ≡ s.store.counted → IsAt (code_in before.unit) before.at i →
+      act i before ≡ (if fits then Goes (some_out (in_places width bytes) s.store.counted) (place q nums refs f s.store) else Stops
+      (Trapped TooLong line)) →
       Comes q nums refs types.Void ((if fits then emit (in_places width bytes) else stop (Trapped TooLong line)) f s) → w.Holds before s.events
   unfolding emit stop
-  write_goes q before line width bytes i true nums refs f s at acts reach = step i at acts reach
-  write_goes q before line width bytes i false nums refs f s at acts reach = halt i at acts reach
+  write_goes q before line width bytes i true nums refs f s same at acts reach = step i at acts reach
+  write_goes q before line width bytes i false nums refs f s same at acts reach = halt_there i s same at acts reach
 
   -- an instruction that writes
-  pub does_write : (n p : ℕ) (bn : List ℤ) (br : List Value) (line : Line) (width : Option ℤ) (bytes : List ℕ) (i : Instr) →
+  pub does_write : (n : Origin) (p : ℕ) (bn : List ℤ) (br : List Value) (line : Line) (width : Option ℤ) (bytes : List ℕ) (i : Instr) →
       ((nums : List ℤ) (refs : List Value) (f : Frame) (store : Store) →
       act i (place p (bn ++ nums) (br ++ refs) f store) ≡ machine.written line width bytes (place (p + width_of i) nums refs f store)) →
       IsAt (code_in w.unit) p i → Does n bn br (written line width bytes) types.Void 0 p (p + width_of i)
   unfolding written
   does_write n p bn br line width bytes i acts at = record {
-    by = λ nums refs f s room turns reach.
-        write_goes (p + width_of i) (place p (bn ++ nums) (br ++ refs) f s.store) line width bytes i (is_width width) nums refs f s at (acts nums refs f s.store) reach;
-    falls = falls_written line width bytes;
+    by = λ nums refs f s room since reach.
+        write_goes (p + width_of i) (place p (bn ++ nums) (br ++ refs) f s.store) line width bytes i (is_width width) nums refs f s refl at
+        (acts nums refs f s.store) reach;
   }
 
   -- an instruction that ends the run
-  pub does_stop : (n p k : ℕ) (ty : TyView) (e : End) (i : Instr) →
+  pub does_stop : (n : Origin) (p k : ℕ) (ty : TyView) (e : End) (i : Instr) →
       ((nums : List ℤ) (refs : List Value) (f : Frame) (store : Store) → act i (place p nums refs f store) ≡ Stops e) → IsAt (code_in w.unit) p i →
       Does n [] [] (stop e) ty 0 p k
   unfolding stop
-  does_stop n p k ty e i acts at = record { by = λ nums refs f s room turns reach. halt i at (acts nums refs f s.store) reach; falls = falls_stop e }
+  does_stop n p k ty e i acts at = record { by = λ nums refs f s room since reach. halt i at (acts nums refs f s.store) reach }
 
   -- Jumps. A test takes a number, and goes on or jumps.
-  pub jump_goes : {c : Config} {so_far : List Event} (p to : ℕ) (d : Config) (i : Instr) → IsAt (code_in c.unit) c.at i → act i c ≡ forward p to d → p < to →
+  pub jump_goes : {c : Config} {so_far : List Event} (p to : ℕ) (d : Config) (i : Instr) → IsAt (code_in c.unit) c.at i → act i c ≡ forward p to d →
+      p < to →
       w.Holds (record d { at = to }) so_far → w.Holds c so_far
   jump_goes p to d i at acts lt reach = quiet i at (acts ∙ if_lt p to _ _ lt) reach
 
-  pub does_jump_false : {n : ℕ} {ty : TyView} (need p k to : ℕ) (v : Value) (a b : Meaning) → Does n [] [] a ty need (p + 5) k → Does n [] [] b ty need to k → p < to →
+  pub does_jump_false : {n : Origin} {ty : TyView} (need p k to : ℕ) (v : Value) (a b : Meaning) → Does n [] [] a ty need (p + 5) k →
+      Does n [] [] b ty need to k → p < to →
       IsAt (code_in w.unit) p (instr.JumpFalse to) → (c : Bool) → is_one (word_of v) ≡ c → Does n (word_of v ∷ []) [] (choose c a b) ty need p k
   unfolding choose
   does_jump_false need p k to v a b da db lt at true is = record {
-    by = λ nums refs f s room turns reach. quiet (instr.JumpFalse to) at (if_true (is_one (word_of v)) _ _ is) (da.by nums refs f s room turns reach);
-    falls = da.falls;
+    by = λ nums refs f s room since reach. quiet (instr.JumpFalse to) at (if_true (is_one (word_of v)) _ _ is) (da.by nums refs f s room since reach);
   }
   does_jump_false need p k to v a b da db lt at false is = record {
-    by = λ nums refs f s room turns reach.
-        jump_goes p to (place (p + 5) nums refs f s.store) (instr.JumpFalse to) at (if_false (is_one (word_of v)) _ _ is) lt (db.by nums refs f s room turns reach);
-    falls = db.falls;
+    by = λ nums refs f s room since reach.
+        jump_goes p to (place (p + 5) nums refs f s.store) (instr.JumpFalse to) at (if_false (is_one (word_of v)) _ _ is) lt
+        (db.by nums refs f s room since reach);
   }
 
-  pub does_and : {n : ℕ} (need p k : ℕ) (v : Value) (b : Meaning) → Does n [] [] b types.Bool need (p + 5) k → p < k → IsAt (code_in w.unit) p (instr.And k) →
+  pub does_and : {n : Origin} (need p k : ℕ) (v : Value) (b : Meaning) → Does n [] [] b types.Bool need (p + 5) k → p < k →
+      IsAt (code_in w.unit) p (instr.And k) →
       (c : Bool) → is_one (word_of v) ≡ c → Does n (word_of v ∷ []) [] (choose c b (give v)) types.Bool need p k
   unfolding choose give
   does_and need p k v b db lt at true is = record {
-    by = λ nums refs f s room turns reach. quiet (instr.And k) at (if_true (is_one (word_of v)) _ _ is) (db.by nums refs f s room turns reach);
-    falls = db.falls;
+    by = λ nums refs f s room since reach. quiet (instr.And k) at (if_true (is_one (word_of v)) _ _ is) (db.by nums refs f s room since reach);
   }
   does_and need p k v b db lt at false is = record {
-    by = λ nums refs f s room turns reach.
+    by = λ nums refs f s room since reach.
         jump_goes p k (place (p + 5) (word_of v ∷ nums) refs f s.store) (instr.And k) at (if_false (is_one (word_of v)) _ _ is) lt reach;
-    falls = falls_give v;
   }
 
-  pub does_or : {n : ℕ} (need p k : ℕ) (v : Value) (b : Meaning) → Does n [] [] b types.Bool need (p + 5) k → p < k → IsAt (code_in w.unit) p (instr.Or k) →
+  pub does_or : {n : Origin} (need p k : ℕ) (v : Value) (b : Meaning) → Does n [] [] b types.Bool need (p + 5) k → p < k →
+      IsAt (code_in w.unit) p (instr.Or k) →
       (c : Bool) → is_one (word_of v) ≡ c → Does n (word_of v ∷ []) [] (choose c (give v) b) types.Bool need p k
   unfolding choose give
   does_or need p k v b db lt at true is = record {
-    by = λ nums refs f s room turns reach.
+    by = λ nums refs f s room since reach.
         jump_goes p k (place (p + 5) (word_of v ∷ nums) refs f s.store) (instr.Or k) at (if_true (is_one (word_of v)) _ _ is) lt reach;
-    falls = falls_give v;
   }
   does_or need p k v b db lt at false is = record {
-    by = λ nums refs f s room turns reach. quiet (instr.Or k) at (if_false (is_one (word_of v)) _ _ is) (db.by nums refs f s room turns reach);
-    falls = db.falls;
+    by = λ nums refs f s room since reach. quiet (instr.Or k) at (if_false (is_one (word_of v)) _ _ is) (db.by nums refs f s room since reach);
   }
 
   comes_jump : (q k : ℕ) (nums : List ℤ) (refs : List Value) (ty : TyView) → q < k → IsAt (code_in w.unit) q (instr.Jump k) → (o : Outcome) →
@@ -360,86 +461,123 @@ module _ (w : Way) where
   comes_jump q k nums refs ty lt at (Ends e s) reach = reach
 
   -- a clause, and then a jump
-  pub does_jump : {n : ℕ} {bn : List ℤ} {br : List Value} {a : Meaning} {ty : TyView} {need p : ℕ} (q k : ℕ) → q < k → IsAt (code_in w.unit) q (instr.Jump k) →
+  pub does_jump : {n : Origin} {bn : List ℤ} {br : List Value} {a : Meaning} {ty : TyView} {need p : ℕ} (q k : ℕ) → q < k →
+      IsAt (code_in w.unit) q (instr.Jump k) →
       Does n bn br a ty need p q → Does n bn br a ty need p k
   does_jump {a = a} {ty = ty} q k lt at da = record {
-    by = λ nums refs f s room turns reach. da.by nums refs f s room turns (comes_jump q k nums refs ty lt at (a f s) reach);
-    falls = da.falls;
+    by = λ nums refs f s room since reach. da.by nums refs f s room since (comes_jump q k nums refs ty lt at (a f s) reach);
   }
 
   -- a jump, and then a clause
-  pub jump_does : {n : ℕ} {bn : List ℤ} {br : List Value} {a : Meaning} {ty : TyView} {need k : ℕ} (p to : ℕ) → p < to → IsAt (code_in w.unit) p (instr.Jump to) →
+  pub jump_does : {n : Origin} {bn : List ℤ} {br : List Value} {a : Meaning} {ty : TyView} {need k : ℕ} (p to : ℕ) → p < to →
+      IsAt (code_in w.unit) p (instr.Jump to) →
       Does n bn br a ty need to k → Does n bn br a ty need p k
   jump_does {bn = bn} {br = br} p to lt at da = record {
-    by = λ nums refs f s room turns reach.
-        jump_goes p to (place (p + 5) (bn ++ nums) (br ++ refs) f s.store) (instr.Jump to) at refl lt (da.by nums refs f s room turns reach);
-    falls = da.falls;
+    by = λ nums refs f s room since reach.
+        jump_goes p to (place (p + 5) (bn ++ nums) (br ++ refs) f s.store) (instr.Jump to) at refl lt (da.by nums refs f s room since reach);
   }
 
   -- an instruction that takes a turn and goes to a place, where one is left
-  pub turn_goes : (k to : ℕ) (before : Config) (i : Instr) (nums after_nums : List ℤ) (refs after_refs : List Value) (ty : TyView) (f : Frame) (s : State)
-      (turns : ℕ) (next : Value → Meaning) → IsAt (code_in before.unit) before.at i →
+  pub turn_goes : (k to : ℕ) (before : Config) (i : Instr) (nums after_nums : List ℤ) (refs after_refs : List Value) (ty : TyView) (f : Frame)
+      (s : State)
+      (turns : ℕ) (next : Value → Meaning) → before.store.counted ≡ s.store.counted → IsAt (code_in before.unit) before.at i →
       act i before ≡ turn_to (with_turns s.store turns) to (place (before.at + width_of i) nums refs f s.store) →
-      ((t : State) → t.store.turns < turns → Comes k after_nums after_refs ty (next Nothing f t) → w.Holds (place to nums refs f t.store) t.events) →
+      ((events : List Event) (left : ℕ) → left < turns →
+      Comes k after_nums after_refs ty (next Nothing f (record { events = events; store = record s.store { turns = left } })) →
+      w.Holds (place to nums refs f (record s.store { turns = left })) events) →
       Comes k after_nums after_refs ty (after (turned (with_turns s.store turns) f s) next) → w.Holds before s.events
   unfolding after
-  turn_goes k to before i nums after_nums refs after_refs ty f s zero next at acts rest reach = halt i at acts reach
-  turn_goes k to before i nums after_nums refs after_refs ty f s (suc left) next at acts rest reach =
-      step i at acts (rest (record { events = s.events ++ Turn ∷ []; store = record (s.store) { turns = left } }) (omega arith) reach)
+  turn_goes k to before i nums after_nums refs after_refs ty f s zero next same at acts rest reach = halt_there i s same at acts reach
+  turn_goes k to before i nums after_nums refs after_refs ty f s (suc left) next same at acts rest reach =
+      step i at acts (rest (s.events ++ Turn s.store.counted ∷ []) left (omega arith) reach)
 
   -- the test of a loop: with a turn to the start of its clause, or on
   again_goes : (p to : ℕ) (v : Value) (nums : List ℤ) (refs : List Value) (f : Frame) (store : Store) → to < p → is_one (word_of v) ≡ true →
       act (instr.Again to) (place p (word_of v ∷ nums) refs f store) ≡ turn_to (spent store) to (place (p + 5) nums refs f store)
   again_goes p to v nums refs f store lt is = if_true (is_one (word_of v)) _ _ is ∙ if_lt to p _ _ lt
 
-  does_last : (need p to : ℕ) (v : Value) → to < p → IsAt (code_in w.unit) p (instr.Again to) → (c : Bool) → is_one (word_of v) ≡ c →
-      Does 0 (word_of v ∷ []) [] (choose c (stop OutOfTurns) (give Nothing)) types.Void need p (p + 5)
+  does_last : (heap : Heap) (locals : List Local) (need p to : ℕ) (v : Value) → to < p → IsAt (code_in w.unit) p (instr.Again to) →
+      (c : Bool) → is_one (word_of v) ≡ c →
+      Does (record { turns = 0; heap = heap; locals = locals }) (word_of v ∷ []) [] (choose c (stop OutOfTurns) (give Nothing)) types.Void need p
+      (p + 5)
   unfolding choose give stop
-  does_last need p to v lt at true is = record {
-    by = λ nums refs f s room turns reach.
-        let none_left : s.store.turns ≡ 0 = omega arith in
+  does_last heap locals need p to v lt at true is = record {
+    by = λ nums refs f s room since reach.
+        let none_left : s.store.turns ≡ 0 = let few = since.few in omega arith in
         halt (instr.Again to) at (again_goes p to v nums refs f s.store lt is
         ∙ ap (λ (t : ℕ). turn_to (with_turns s.store t) to (place (p + 5) nums refs f s.store)) none_left) reach;
-    falls = λ f s. tt;
   }
-  does_last need p to v lt at false is = record {
-    by = λ nums refs f s room turns reach. quiet (instr.Again to) at (if_false (is_one (word_of v)) _ _ is) reach;
-    falls = λ f s. omega arith;
+  does_last heap locals need p to v lt at false is = record {
+    by = λ nums refs f s room since reach. quiet (instr.Again to) at (if_false (is_one (word_of v)) _ _ is) reach;
   }
 
-  does_again : (n need p to : ℕ) (v : Value) (next : Value → Meaning) → ((u : Value) → Does n [] [] (next u) types.Void need to (p + 5)) → to < p →
+  does_again : (n need p to : ℕ) (heap : Heap) (locals : List Local) (v : Value) (next : Value → Meaning) →
+      Does (record { turns = n; heap = heap; locals = locals }) [] [] (next Nothing) types.Void need to (p + 5) → to < p →
       IsAt (code_in w.unit) p (instr.Again to) → (c : Bool) → is_one (word_of v) ≡ c →
-      Does (suc n) (word_of v ∷ []) [] (choose c (take_turn >>= next) (give Nothing)) types.Void need p (p + 5)
+      Does (record { turns = suc n; heap = heap; locals = locals }) (word_of v ∷ []) [] (choose c (take_turn >>= next) (give Nothing)) types.Void
+      need p (p + 5)
   unfolding choose give take_turn ◌>>=◌
-  does_again n need p to v next d lt at true is = record {
-    by = λ nums refs f s room turns reach.
-        turn_goes (p + 5) to (place p (word_of v ∷ nums) refs f s.store) (instr.Again to) nums nums refs refs types.Void f s s.store.turns next at
-        (again_goes p to v nums refs f s.store lt is) (λ s' less. (d Nothing).by nums refs f s' room (omega arith)) reach;
-    falls = falls_then take_turn next falls_turn (λ u. (d u).falls);
+  does_again n need p to heap locals v next d lt at true is = record {
+    by = λ nums refs f s room since reach.
+        turn_goes (p + 5) to (place p (word_of v ∷ nums) refs f s.store) (instr.Again to) nums nums refs refs types.Void f s s.store.turns next refl
+        at
+        (again_goes p to v nums refs f s.store lt is)
+        (λ events left less. d.by nums refs f _ room
+        (record { few = let few = since.few in omega arith; grows = since.grows; typed = since.typed; are = since.are })) reach;
   }
-  does_again n need p to v next d lt at false is = record {
-    by = λ nums refs f s room turns reach. quiet (instr.Again to) at (if_false (is_one (word_of v)) _ _ is) reach;
-    falls = λ f s. omega arith;
+  does_again n need p to heap locals v next d lt at false is = record {
+    by = λ nums refs f s room since reach. quiet (instr.Again to) at (if_false (is_one (word_of v)) _ _ is) reach;
   }
 
   -- The test from p on, the clause from `to` on up to p, and the end of the loop behind the test.
-  pub does_while : (n need nc na p q to : ℕ) (test clause : Meaning) → nc ≤ need → na ≤ need → Does n [] [] test types.Bool nc p q →
-      Does n [] [] clause types.Void na to p → to < q → IsAt (code_in w.unit) q (instr.Again to) → (m : ℕ) → m ≤ n →
-      Does m [] [] (while_turns m test clause) types.Void need p (q + 5)
+  pub does_while : (n : Origin) (need nc na p q to : ℕ) (test clause : Meaning) → nc ≤ need → na ≤ need → Leads n n.locals types.Bool test →
+      Leads n n.locals types.Void clause → Does n [] [] test types.Bool nc p q → Does n [] [] clause types.Void na to p → to < q →
+      IsAt (code_in w.unit) q (instr.Again to) → (m : ℕ) (heap : Heap) → m ≤ n.turns → Grows n.heap heap →
+      Does (record { turns = m; heap = heap; locals = n.locals }) [] [] (while_turns m test clause) types.Void need p (q + 5)
   unfolding while_turns
-  does_while n need nc na p q to test clause le_c le_a dt dc lt at zero le =
-      does_then _ nc need need p q (q + 5) le_c (omega arith) (fewer 0 le dt) (λ v. does_last need q to v lt at (flag_of v) refl)
-  does_while n need nc na p q to test clause le_c le_a dt dc lt at (suc m) le =
-      let rest = does_while n need nc na p q to test clause le_c le_a dt dc lt at m (omega arith) in
-      let around : Does m [] [] (clause >>= λ u. while_turns m test clause) types.Void need to (q + 5)
-      = does_then (λ u. while_turns m test clause) na need need to p (q + 5) le_a (omega arith) (fewer m (omega arith) dc) (λ u. rest) in
-      does_then _ nc need need p q (q + 5) le_c (omega arith) (fewer (suc m) le dt)
-      (λ v. does_again m need q to v (λ t. clause >>= λ u. while_turns m test clause) (λ t. around) lt at (flag_of v) refl)
+  does_while n need nc na p q to test clause le_c le_a lt_c lt_a dt dc lt at zero heap le g =
+      does_then _ nc need need p q (q + 5) le_c (omega arith) (leads_more le g lt_c) (fewer 0 heap le g dt)
+      (λ new v k is. does_last new n.locals need q to v lt at (flag_of v) refl)
+  does_while n need nc na p q to test clause le_c le_a lt_c lt_a dt dc lt at (suc m) heap le g =
+      does_then _ nc need need p q (q + 5) le_c (omega arith) (leads_more le g lt_c) (fewer (suc m) heap le g dt)
+      (λ new v k is. let h = grows_then n.heap heap new g k in
+      does_again m need q to new n.locals v (λ t. clause >>= λ u. while_turns m test clause)
+      (does_then (λ u. while_turns m test clause) na need need to p (q + 5) le_a (omega arith) (leads_more (omega arith) h lt_a)
+      (fewer m new (omega arith) h dc)
+      (λ last u l of. does_while n need nc na p q to test clause le_c le_a lt_c lt_a dt dc lt at m last (omega arith)
+      (grows_then n.heap new last h l)))
+      lt at (flag_of v) refl)
 
   -- the same meaning
-  pub does_same : {n : ℕ} {bn : List ℤ} {br : List Value} {m : Meaning} {ty : TyView} {need p k : ℕ} (m' : Meaning) → ((f : Frame) (s : State) → m f s ≡ m' f s) →
+  pub does_same : {n : Origin} {bn : List ℤ} {br : List Value} {m : Meaning} {ty : TyView} {need p k : ℕ} (m' : Meaning) →
+      ((f : Frame) (s : State) → m f s ≡ m' f s) →
       Does n bn br m ty need p k → Does n bn br m' ty need p k
   does_same {ty = ty} {k = k} m' same d = record {
-    by = λ nums refs f s room turns reach. d.by nums refs f s room turns (subst (λ (o : Outcome). Comes k nums refs ty o) (sym (same f s)) reach);
-    falls = λ f s. subst (λ (o : Outcome). Falls s.store.turns o) (same f s) (d.falls f s);
+    by = λ nums refs f s room since reach. d.by nums refs f s room since (subst (λ (o : Outcome). Comes k nums refs ty o) (sym (same f s)) reach);
+  }
+
+  -- Instructions that write nothing.
+
+  -- what the machine does for an outcome
+  abbrev pub stepped : ℕ → List ℤ → List Value → TyView → Outcome → Step
+  stepped k nums refs ty (Value_is v f s) = on (place k (nums_left ty v ++ nums) (refs_left ty v ++ refs) f s.store)
+  stepped k nums refs ty (Ends e s) = Stops e
+
+  by_outcome : (k : ℕ) (nums : List ℤ) (refs : List Value) (ty : TyView) (before : Config) (old : State) (i : Instr) (o : Outcome) →
+      IsAt (code_in before.unit) before.at i → before.store.counted ≡ old.store.counted → act i before ≡ stepped k nums refs ty o → IsQuiet old o →
+      Comes k nums refs ty o → w.Holds before old.events
+  by_outcome k nums refs ty before old i (Value_is v f s) at same acts is reach =
+      quiet i at acts (subst (λ (es : List Event). w.Holds (place k (nums_left ty v ++ nums) (refs_left ty v ++ refs) f s.store) es) is reach)
+  by_outcome k nums refs ty before old i (Ends e s) at same acts is reach =
+      halt_there i old same at acts (subst (λ (t : State). w.Final e t.store.counted t.events) is reach)
+
+  -- an instruction that does what is meant
+  pub does_meant : {n : Origin} {bn : List ℤ} {br : List Value} {m : Meaning} {ty : TyView} (p need : ℕ) (i : Instr) →
+      ((nums : List ℤ) (refs : List Value) (f : Frame) (s : State) → Room need nums refs → IsSince n f s →
+      act i (place p (bn ++ nums) (br ++ refs) f s.store) ≡ stepped (p + width_of i) nums refs ty (m f s)) →
+      IsQuietly m → IsAt (code_in w.unit) p i → Does n bn br m ty need p (p + width_of i)
+  does_meant {bn = bn} {br = br} {m = m} {ty = ty} p need i acts is at = record {
+    by = λ nums refs f s room since reach.
+        by_outcome (p + width_of i) nums refs ty (place p (bn ++ nums) (br ++ refs) f s.store) s i (m f s) at refl (acts nums refs f s room since)
+        (is f s) reach;
   }

@@ -1,18 +1,20 @@
 -- The turns that are left never rise.
-use Rattle.std.proofs.Common.{ℕ, zero, suc, ◌+◌, ◌≤◌, ℤ, pos, ◌+ℤ◌, Bool, true, false, List, Option, arith}
-use Rattle.std.specs.Prelude.{if◌then◌else◌}
+use Rattle.std.proofs.Common.{ℕ, zero, suc, ◌+◌, ◌≤◌, ℤ, pos, ◌+ℤ◌, Bool, true, false, List, [], ◌∷◌, Option, Some, None, arith}
+use Rattle.std.specs.Prelude.{nat_eq, if◌then◌else◌}
 use Rattle.ps_base.specs.TyView.{TyView}
 use Rattle.ps_base.specs.TyView as types
 use Rattle.ps_base.specs.declared.line.Line.{Line}
 use Rattle.ps_program.specs.declared.place.Place.{Place}
 use Rattle.ps_program.specs.declared.place.Place.TheVariants.{Plain, Kept}
-use Rattle.ps_meaning.specs.Operators.{is_same}
+use Rattle.ps_program.specs.Node.{Node, Nodes, none, more, Arms, no_arms, more_arms, arm}
+use Rattle.ps_program.specs.Node as node
+use Rattle.ps_meaning.specs.Operators.{Answer, Gives, Traps, is_same}
 use Rattle.ps_meaning.specs.Event.{End}
-use Rattle.ps_meaning.specs.Values.{Value, Num, Nothing, word_of}
+use Rattle.ps_meaning.specs.Values.{Value, Num, Flag, Text, Nil, Pointer, Vector, Nothing, word_of, flag_of}
 use Rattle.ps_meaning.specs.Texts.{Attempt, Yields, Fails}
 use Rattle.ps_meaning.specs.Objects.{Heap, Object}
-use Rattle.ps_meaning.specs.Meaning.{Frame, State, Outcome, Value_is, Ends, Meaning, give, stop, after, ◌>>=◌, choose, attempt, with_heap, put_heap, made, emit, in_places, is_width, written, with_turns, turned, take_turn, unbuilt, set}
-use Rattle.ps_meaning.specs.Evaluation.{Counting, goes_on, for_turns, for_loop, for_meant}
+use Rattle.ps_meaning.specs.Meaning.{Frame, State, Outcome, Value_is, Ends, Meaning, give, stop, after, ◌>>=◌, choose, answer, attempt, with_heap, put_heap, made, made_text, emit, in_places, is_width, written, with_turns, turned, take_turn, unbuilt, get, set}
+use Rattle.ps_meaning.specs.Evaluation.{Context, while_turns, Counting, goes_on, for_turns, for_loop, for_meant, without_scope, is_equal, make_meant, lib_meant, eval, eval_all, eval_each, eval_arms, eval_labels}
 
 abbrev pub Falls : ℕ → Outcome → Type 0
 Falls n (Value_is v f s) = s.store.turns ≤ n
@@ -63,6 +65,10 @@ falls_put_heap heap f s = omega arith
 pub falls_made : (denoting : ℕ → Value) (object : Object) → Falling (made denoting object)
 unfolding made
 falls_made denoting object f s = omega arith
+
+pub falls_made_text : (bytes : List ℕ) → Falling (made_text bytes)
+unfolding made_text
+falls_made_text bytes f s = omega arith
 
 falls_emit : (bytes : List ℕ) → Falling (emit bytes)
 unfolding emit
@@ -116,3 +122,123 @@ falls_for n line slot control a b c clause ha hb hc h =
     falls_then b _ hb (λ limit. falls_then (set (Plain (slot + 1)) types.Int limit) _ (falls_set (Plain (slot + 1)) types.Int limit) (λ u.
     falls_then c _ hc (λ step. falls_then (set (Plain (slot + 2)) types.Int step) _ (falls_set (Plain (slot + 2)) types.Int step) (λ u.
     falls_for_loop n line (record { slot = slot; control = control; limit = word_of limit; step = word_of step }) clause h (word_of start)))))))
+
+falls_get : (place : Place) (ty : TyView) → Falling (get place ty)
+unfolding get
+falls_get (Plain slot) ty f s = omega arith
+falls_get (Kept up position) ty f s = falls_unbuilt f s
+
+falls_answer : (line : Line) (a : Answer) → Falling (answer line a)
+unfolding answer
+falls_answer line (Gives z) = falls_give (Num z)
+falls_answer line (Traps trap) = falls_stop _
+
+falls_while : (n : ℕ) (test clause : Meaning) → Falling test → Falling clause → Falling (while_turns n test clause)
+unfolding while_turns
+falls_while zero test clause h k = falls_then test _ h (λ v. falls_choose (flag_of v) _ _ (falls_stop _) (falls_give Nothing))
+falls_while (suc n) test clause h k =
+    falls_then test _ h (λ v. falls_choose (flag_of v) _ _
+    (falls_then take_turn _ falls_turn (λ t. falls_then clause _ k (λ u. falls_while n test clause h k))) (falls_give Nothing))
+
+falls_scope : (scope : Option (List ℕ)) (m : Meaning) → Falling m → Falling (without_scope scope m)
+falls_scope None m h = h
+falls_scope (Some text) m h = falls_unbuilt
+
+falls_lib : (code : ℕ) (vs : List Value) → Falling (lib_meant code vs)
+falls_lib code [] = falls_unbuilt
+falls_lib code (v ∷ vs) = falls_either (nat_eq code 11) _ _ (falls_give _) (falls_either (nat_eq code 12) _ _ (falls_made_text _) falls_unbuilt)
+
+falls_put : (line : Line) (a : Heap → Attempt Heap) → Falling (with_heap (λ heap. attempt line (a heap) put_heap))
+falls_put line a = falls_with_heap _ (λ heap. falls_attempt line (a heap) put_heap (λ new. falls_put_heap new))
+
+falls_read : (line : Line) (a : Heap → Attempt Value) → Falling (with_heap (λ heap. attempt line (a heap) give))
+falls_read line a = falls_with_heap _ (λ heap. falls_attempt line (a heap) give (λ v. falls_give v))
+
+-- two clauses, and three, and then what is done with their values
+falls_two : (a b : Meaning) (next : Value → Value → Meaning) → Falling a → Falling b → ((v w : Value) → Falling (next v w)) →
+    Falling (a >>= λ v. b >>= λ w. next v w)
+falls_two a b next ha hb h = falls_then a _ ha (λ v. falls_then b _ hb (λ w. h v w))
+
+falls_three : (a b d : Meaning) (next : Value → Value → Value → Meaning) → Falling a → Falling b → Falling d →
+    ((v w u : Value) → Falling (next v w u)) →
+    Falling (a >>= λ v. b >>= λ w. d >>= λ u. next v w u)
+falls_three a b d next ha hb hd h = falls_then a _ ha (λ v. falls_two b d (next v) hb hd (λ w u. h v w u))
+
+mutual
+  unfolding eval eval_all eval_each eval_arms eval_labels
+
+  pub falls_eval : (c : Context) (t : Node) → Falling (eval c t)
+  falls_eval c (node.Int z) = falls_give (Num z)
+  falls_eval c (node.Flag b) = falls_give (Flag b)
+  falls_eval c (node.Text bytes) = falls_give (Text bytes)
+  falls_eval c (node.Name place ty) = falls_get place ty
+  falls_eval c (node.SetName place ty e) = falls_then (eval c e) _ (falls_eval c e) (λ v. falls_set place ty v)
+  falls_eval c (node.Let place ty e) = falls_then (eval c e) _ (falls_eval c e) (λ v. falls_set place ty v)
+  falls_eval c node.Empty = falls_give Nothing
+  falls_eval c (node.Block scope items) = falls_scope scope (eval_all c Nothing items) (falls_all c Nothing items)
+  falls_eval c (node.IfDo test a) =
+      falls_then (eval c test) _ (falls_eval c test) (λ v. falls_choose (flag_of v) _ _ (falls_eval c a) (falls_give Nothing))
+  falls_eval c (node.IfElse test a b) =
+      falls_then (eval c test) _ (falls_eval c test) (λ v. falls_choose (flag_of v) _ _ (falls_eval c a) (falls_eval c b))
+  falls_eval c (node.While test a) = falls_while c.bound (eval c test) (eval c a) (falls_eval c test) (falls_eval c a)
+  falls_eval c (node.Repeat a test b) =
+      falls_while c.bound _ (eval c b) (falls_then (eval c a) _ (falls_eval c a) (λ u. falls_eval c test)) (falls_eval c b)
+  falls_eval c (node.For slot from to by scope control s line) =
+      falls_scope scope (for_meant c.bound line slot control (eval c from) (eval c to) (eval c by) (eval c s))
+      (falls_for c.bound line slot control _ _ _ _ (falls_eval c from) (falls_eval c to) (falls_eval c by) (falls_eval c s))
+  falls_eval c (node.Case e arms d ty) = falls_then (eval c e) _ (falls_eval c e) (λ v. falls_arms c ty v arms (eval c d) (falls_eval c d))
+  falls_eval c (node.And a b) = falls_then (eval c a) _ (falls_eval c a) (λ v. falls_choose (flag_of v) _ _ (falls_eval c b) (falls_give v))
+  falls_eval c (node.Or a b) = falls_then (eval c a) _ (falls_eval c a) (λ v. falls_choose (flag_of v) _ _ (falls_give v) (falls_eval c b))
+  falls_eval c (node.Not e) = falls_then (eval c e) _ (falls_eval c e) (λ v. falls_give _)
+  falls_eval c (node.Neg e line) = falls_then (eval c e) _ (falls_eval c e) (λ v. falls_answer line _)
+  falls_eval c (node.Plus e) = falls_eval c e
+  falls_eval c (node.Arith op a b line) = falls_two (eval c a) (eval c b) _ (falls_eval c a) (falls_eval c b) (λ v w. falls_answer line _)
+  falls_eval c (node.Compare op ty a b) = falls_two (eval c a) (eval c b) _ (falls_eval c a) (falls_eval c b) (λ v w. falls_give _)
+  falls_eval c node.Nil = falls_give Nil
+  falls_eval c node.Class = falls_give Nothing
+  falls_eval c (node.Is e class) = falls_then (eval c e) _ (falls_eval c e) (λ v. falls_with_heap _ (λ heap. falls_give _))
+  falls_eval c (node.Join a b line) =
+      falls_two (eval c a) (eval c b) _ (falls_eval c a) (falls_eval c b) (λ v w. falls_attempt line _ _ (λ bytes. falls_made_text bytes))
+  falls_eval c (node.Part a i n line) =
+      falls_three (eval c a) (eval c i) (eval c n) _ (falls_eval c a) (falls_eval c i) (falls_eval c n)
+      (λ v from count. falls_attempt line _ _ (λ bytes. falls_made_text bytes))
+  falls_eval c (node.Make class args) = falls_each c args (make_meant class) (λ vs. falls_made Pointer _)
+  falls_eval c (node.Field e class n ty line) = falls_then (eval c e) _ (falls_eval c e) (λ o. falls_read line _)
+  falls_eval c (node.SetField p class n ty e line) = falls_two (eval c p) (eval c e) _ (falls_eval c p) (falls_eval c e) (λ o v. falls_put line _)
+  falls_eval c (node.Fill l u e ty line) =
+      falls_three (eval c l) (eval c u) (eval c e) _ (falls_eval c l) (falls_eval c u) (falls_eval c e)
+      (λ low high v. falls_attempt line _ (made Vector) (λ object. falls_made Vector object))
+  falls_eval c (node.Elems l items ty line) =
+      falls_then (eval c l) _ (falls_eval c l)
+      (λ low. falls_each c items _ (λ vs. falls_attempt line _ (made Vector) (λ object. falls_made Vector object)))
+  falls_eval c (node.Element v i ty line) = falls_two (eval c v) (eval c i) _ (falls_eval c v) (falls_eval c i) (λ vector at. falls_read line _)
+  falls_eval c (node.SetElement v i e ty line) =
+      falls_three (eval c v) (eval c i) (eval c e) _ (falls_eval c v) (falls_eval c i) (falls_eval c e) (λ vector at w. falls_put line _)
+  falls_eval c (node.Bound v upper) = falls_then (eval c v) _ (falls_eval c v) (λ vector. falls_with_heap _ (λ heap. falls_give _))
+  falls_eval c (node.Lib code args line) = falls_each c args (lib_meant code) (λ vs. falls_lib code vs)
+  falls_eval c (node.Write e w false ty line) = falls_then (eval c e) _ (falls_eval c e) (λ v. falls_written line None _)
+  falls_eval c (node.Write e w true ty line) = falls_two (eval c e) (eval c w) _ (falls_eval c e) (falls_eval c w) (λ v width. falls_written line _ _)
+  falls_eval c (node.Abort line) = falls_stop _
+  falls_eval c (node.Proc of) = falls_unbuilt
+  falls_eval c (node.Call f args line) = falls_unbuilt
+  falls_eval c (node.Scan text a f q s line) = falls_unbuilt
+
+  pub falls_all : (c : Context) (v : Value) (ts : Nodes) → Falling (eval_all c v ts)
+  falls_all c v none = falls_give v
+  falls_all c v (more t ts) = falls_then (eval c t) _ (falls_eval c t) (λ w. falls_all c w ts)
+
+  pub falls_each : (c : Context) (ts : Nodes) (next : List Value → Meaning) → ((vs : List Value) → Falling (next vs)) → Falling (eval_each c ts next)
+  falls_each c none next h = h []
+  falls_each c (more t ts) next h = falls_then (eval c t) _ (falls_eval c t) (λ v. falls_each c ts (λ vs. next (v ∷ vs)) (λ vs. h (v ∷ vs)))
+
+  pub falls_arms : (c : Context) (ty : TyView) (v : Value) (arms : Arms) (default : Meaning) → Falling default →
+      Falling (eval_arms c ty v arms default)
+  falls_arms c ty v no_arms default h = h
+  falls_arms c ty v (more_arms (arm labels a) rest) default h =
+      falls_then (eval_labels c ty v labels) _ (falls_labels c ty v labels)
+      (λ found. falls_choose (flag_of found) _ _ (falls_eval c a) (falls_arms c ty v rest default h))
+
+  pub falls_labels : (c : Context) (ty : TyView) (v : Value) (labels : Nodes) → Falling (eval_labels c ty v labels)
+  falls_labels c ty v none = falls_give _
+  falls_labels c ty v (more label rest) =
+      falls_then (eval c label) _ (falls_eval c label) (λ w. falls_choose (is_equal ty v w) _ _ (falls_give _) (falls_labels c ty v rest))

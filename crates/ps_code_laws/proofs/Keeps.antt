@@ -17,7 +17,7 @@ use Rattle.ps_meaning.specs.Operators.{Answer, Gives, Traps, neg_of, arith_of, i
 use Rattle.ps_meaning.specs.Values.{Value, Num, Flag, Text, Nil, Pointer, Vector, Nothing, word_of, flag_of, shown}
 use Rattle.ps_meaning.specs.Texts.{Attempt, Yields, Fails}
 use Rattle.ps_meaning.specs.Objects.{Heap, Object}
-use Rattle.ps_meaning.specs.Meaning.{Frame, Store, State, Outcome, Value_is, Ends, Meaning, give, stop, after, ◌>>=◌, choose, answer, attempt, with_heap, put_heap, made, emit, in_places, is_width, written, turned, spent, take_turn, with_local, unbuilt, get, set}
+use Rattle.ps_meaning.specs.Meaning.{Frame, Store, State, Outcome, Value_is, Ends, Meaning, give, stop, after, ◌>>=◌, choose, answer, attempt, with_heap, put_heap, made, made_text, emit, in_places, is_width, written, turned, spent, take_turn, with_local, unbuilt, get, set}
 use Rattle.ps_meaning.specs.Evaluation.{Context, while_turns, Counting, goes_on, for_turns, for_loop, for_meant, is_equal, make_meant, lib_meant, eval, eval_all, eval_each, eval_arms, eval_labels}
 
 -- the local has the value that it had
@@ -67,7 +67,8 @@ unfolding answer
 leaves_answer x line (Gives z) = leaves_give x (Num z)
 leaves_answer x line (Traps trap) = leaves_stop x _
 
-leaves_attempt : {A : Type 0} (x : ℕ) (line : Line) (a : Attempt A) (next : A → Meaning) → ((v : A) → Leaves x (next v)) → Leaves x (attempt line a next)
+leaves_attempt : {A : Type 0} (x : ℕ) (line : Line) (a : Attempt A) (next : A → Meaning) → ((v : A) → Leaves x (next v)) →
+    Leaves x (attempt line a next)
 unfolding attempt
 leaves_attempt x line (Yields v) next h = h v
 leaves_attempt x line (Fails trap) next h = leaves_stop x _
@@ -83,6 +84,10 @@ leaves_put_heap x heap f s = refl
 leaves_made : (x : ℕ) (denoting : ℕ → Value) (object : Object) → Leaves x (made denoting object)
 unfolding made
 leaves_made x denoting object f s = refl
+
+leaves_made_text : (x : ℕ) (bytes : List ℕ) → Leaves x (made_text bytes)
+unfolding made_text
+leaves_made_text x bytes f s = refl
 
 leaves_emit : (x : ℕ) (bytes : List ℕ) → Leaves x (emit bytes)
 unfolding emit
@@ -145,27 +150,34 @@ leaves_for_turns x zero loop clause apart control h z = leaves_stop x _
 leaves_for_turns x (suc n) loop clause apart control h z =
     leaves_then x take_turn _ (leaves_turn x) (λ t. leaves_then x (set loop.control types.Int (Num z)) _ (control (Num z)) (λ u.
     leaves_then x clause _ h (λ w. leaves_choose x (goes_on loop.limit loop.step (z +ℤ loop.step)) _ _
-    (leaves_then x (set (Plain loop.slot) types.Int (Num (z +ℤ loop.step))) _ (leaves_set x loop.slot types.Int (Num (z +ℤ loop.step)) (λ is e. apart e))
+    (leaves_then x (set (Plain loop.slot) types.Int (Num (z +ℤ loop.step))) _
+    (leaves_set x loop.slot types.Int (Num (z +ℤ loop.step)) (λ is e. apart e))
     (λ u. leaves_for_turns x n loop clause apart control h (z +ℤ loop.step)))
     (leaves_give x Nothing))))
 
-leaves_loop : (x n : ℕ) (line : Line) (loop : Counting) (clause : Meaning) → (loop.slot ≡ x → ⊥) → ((v : Value) → Leaves x (set loop.control types.Int v)) →
+leaves_loop : (x n : ℕ) (line : Line) (loop : Counting) (clause : Meaning) → (loop.slot ≡ x → ⊥) →
+    ((v : Value) → Leaves x (set loop.control types.Int v)) →
     Leaves x clause → (z : ℤ) → Leaves x (for_loop n line loop clause z)
 unfolding for_loop
 leaves_loop x n line loop clause apart control h z =
     leaves_choose x (is_same loop.step (pos 0)) _ _ (leaves_stop x _)
     (leaves_choose x (goes_on loop.limit loop.step z) _ _ (leaves_for_turns x n loop clause apart control h z) (leaves_give x Nothing))
 
-leaves_for : (x n : ℕ) (line : Line) (slot : ℕ) (control : Place) (a b c clause : Meaning) → x < slot → ((v : Value) → Leaves x (set control types.Int v)) →
+leaves_for : (x n : ℕ) (line : Line) (slot : ℕ) (control : Place) (a b c clause : Meaning) → x < slot →
+    ((v : Value) → Leaves x (set control types.Int v)) →
     Leaves x a → Leaves x b → Leaves x c → Leaves x clause → Leaves x (for_meant n line slot control a b c clause)
 unfolding for_meant
 leaves_for x n line slot control a b c clause below at_control ha hb hc h =
     let apart : (k : ℕ) → slot + k ≡ x → ⊥ = λ k e. omega arith in
     let apart_first : slot ≡ x → ⊥ = λ e. omega arith in
-    leaves_then x a _ ha (λ start. leaves_then x (set (Plain slot) types.Int start) _ (leaves_set x slot types.Int start (λ is e. apart_first e)) (λ u.
-    leaves_then x b _ hb (λ limit. leaves_then x (set (Plain (slot + 1)) types.Int limit) _ (leaves_set x (slot + 1) types.Int limit (λ is e. apart 1 e)) (λ u.
-    leaves_then x c _ hc (λ step. leaves_then x (set (Plain (slot + 2)) types.Int step) _ (leaves_set x (slot + 2) types.Int step (λ is e. apart 2 e)) (λ u.
-    leaves_loop x n line (record { slot = slot; control = control; limit = word_of limit; step = word_of step }) clause apart_first at_control h (word_of start)))))))
+    leaves_then x a _ ha (λ start. leaves_then x (set (Plain slot) types.Int start) _ (leaves_set x slot types.Int start (λ is e. apart_first e))
+    (λ u.
+    leaves_then x b _ hb (λ limit. leaves_then x (set (Plain (slot + 1)) types.Int limit) _
+    (leaves_set x (slot + 1) types.Int limit (λ is e. apart 1 e)) (λ u.
+    leaves_then x c _ hc (λ step. leaves_then x (set (Plain (slot + 2)) types.Int step) _
+    (leaves_set x (slot + 2) types.Int step (λ is e. apart 2 e)) (λ u.
+    leaves_loop x n line (record { slot = slot; control = control; limit = word_of limit; step = word_of step }) clause apart_first at_control h
+    (word_of start)))))))
 
 -- clauses that each keep a local
 abbrev pub KeepClaim : ℕ → Claim → Type 0
@@ -191,7 +203,8 @@ leaves_labels x c value v none h = leaves_give x _
 leaves_labels x c value v (more label rest) h =
     leaves_then x (eval c label) _ (h.0 c) (λ w. leaves_choose x (is_equal value v w) _ _ (leaves_give x _) (leaves_labels x c value v rest h.1))
 
-leaves_arms : (x : ℕ) (c : Context) (value ty : TyView) (v : Value) (arms : Arms) (d : Meaning) → Each (KeepClaim x) (arms_have value ty arms) → Leaves x d →
+leaves_arms : (x : ℕ) (c : Context) (value ty : TyView) (v : Value) (arms : Arms) (d : Meaning) → Each (KeepClaim x) (arms_have value ty arms) →
+    Leaves x d →
     Leaves x (eval_arms c value v arms d)
 unfolding eval_arms
 leaves_arms x c value ty v no_arms d h k = k
@@ -220,7 +233,7 @@ keep_arguments x (typed.Arguments.one_more rest) h = (h.0, keep_arguments x rest
 leaves_lib : (x code : ℕ) (vs : List Value) → Leaves x (lib_meant code vs)
 leaves_lib x code [] = leaves_unbuilt x
 leaves_lib x code (v ∷ vs) =
-    leaves_either x (nat_eq code 11) _ _ (leaves_give x _) (leaves_either x (nat_eq code 12) _ _ (leaves_give x _) (leaves_unbuilt x))
+    leaves_either x (nat_eq code 11) _ _ (leaves_give x _) (leaves_either x (nat_eq code 12) _ _ (leaves_made_text x _) (leaves_unbuilt x))
 
 keeps_by_rule : (x : ℕ) {t : Node} {claims : List Claim} {ty : TyView} → Rule t claims ty → Each (KeepClaim x) claims → Keeps x t
 unfolding eval
@@ -229,15 +242,20 @@ keeps_by_rule x (typed.flag {v = v}) h c = leaves_give x (Flag v)
 keeps_by_rule x (typed.text {bytes = bytes}) h c = leaves_give x (Text bytes)
 keeps_by_rule x typed.empty h c = leaves_give x Nothing
 keeps_by_rule x typed.abort h c = leaves_stop x _
-keeps_by_rule x (typed.if_do {c = t} {a = a}) h c = leaves_then x (eval c t) _ (h.0 c) (λ v. leaves_choose x (flag_of v) _ _ (h.1.0 c) (leaves_give x Nothing))
-keeps_by_rule x (typed.if_else {c = t} {a = a} {b = b}) h c = leaves_then x (eval c t) _ (h.0 c) (λ v. leaves_choose x (flag_of v) _ _ (h.1.0 c) (h.1.1.0 c))
+keeps_by_rule x (typed.if_do {c = t} {a = a}) h c =
+    leaves_then x (eval c t) _ (h.0 c) (λ v. leaves_choose x (flag_of v) _ _ (h.1.0 c) (leaves_give x Nothing))
+keeps_by_rule x (typed.if_else {c = t} {a = a} {b = b}) h c =
+    leaves_then x (eval c t) _ (h.0 c) (λ v. leaves_choose x (flag_of v) _ _ (h.1.0 c) (h.1.1.0 c))
 keeps_by_rule x (typed.while {c = t} {a = a}) h c = leaves_while x c.bound (eval c t) (eval c a) (h.0 c) (h.1.0 c)
-keeps_by_rule x (typed.repeat {a = a} {c = t} {b = b}) h c = leaves_while x c.bound _ (eval c b) (leaves_then x (eval c a) _ (h.0 c) (λ u. h.1.0 c)) (h.1.1.0 c)
+keeps_by_rule x (typed.repeat {a = a} {c = t} {b = b}) h c =
+    leaves_while x c.bound _ (eval c b) (leaves_then x (eval c a) _ (h.0 c) (λ u. h.1.0 c)) (h.1.1.0 c)
 keeps_by_rule x (typed.case {e = e} {d = d} {arms = arms} {value = value} {t = t} is) h c =
     let behind_arms = each_right (KeepClaim x) (arms_have value t arms) (d has t ∷ []) h.1 in
-    leaves_then x (eval c e) _ (h.0 c) (λ v. leaves_arms x c value t v arms (eval c d) (each_left (KeepClaim x) (arms_have value t arms) (d has t ∷ []) h.1)
+    leaves_then x (eval c e) _ (h.0 c) (λ v. leaves_arms x c value t v arms (eval c d)
+    (each_left (KeepClaim x) (arms_have value t arms) (d has t ∷ []) h.1)
     (behind_arms.0 c))
-keeps_by_rule x (typed.and {a = a} {b = b}) h c = leaves_then x (eval c a) _ (h.0 c) (λ v. leaves_choose x (flag_of v) _ _ (h.1.0 c) (leaves_give x v))
+keeps_by_rule x (typed.and {a = a} {b = b}) h c =
+    leaves_then x (eval c a) _ (h.0 c) (λ v. leaves_choose x (flag_of v) _ _ (h.1.0 c) (leaves_give x v))
 keeps_by_rule x (typed.or {a = a} {b = b}) h c = leaves_then x (eval c a) _ (h.0 c) (λ v. leaves_choose x (flag_of v) _ _ (leaves_give x v) (h.1.0 c))
 keeps_by_rule x (typed.not {e = e}) h c = leaves_then x (eval c e) _ (h.0 c) (λ v. leaves_give x _)
 keeps_by_rule x (typed.neg {e = e} {line = line}) h c = leaves_then x (eval c e) _ (h.0 c) (λ v. leaves_answer x line (neg_of (word_of v)))
@@ -253,10 +271,11 @@ keeps_by_rule x typed.nil h c = leaves_give x Nil
 keeps_by_rule x typed.class h c = leaves_give x Nothing
 keeps_by_rule x (typed.is {e = e} of) h c = leaves_then x (eval c e) _ (h.0 c) (λ v. leaves_with_heap x _ (λ heap. leaves_give x _))
 keeps_by_rule x (typed.join {a = a} {b = b} {line = line}) h c =
-    leaves_then x (eval c a) _ (h.0 c) (λ v. leaves_then x (eval c b) _ (h.1.0 c) (λ w. leaves_attempt x line _ _ (λ bytes. leaves_give x (Text bytes))))
+    leaves_then x (eval c a) _ (h.0 c) (λ v. leaves_then x (eval c b) _ (h.1.0 c)
+    (λ w. leaves_attempt x line _ _ (λ bytes. leaves_made_text x bytes)))
 keeps_by_rule x (typed.part {a = a} {i = i} {n = n} {line = line}) h c =
     leaves_then x (eval c a) _ (h.0 c) (λ v. leaves_then x (eval c i) _ (h.1.0 c) (λ from. leaves_then x (eval c n) _ (h.1.1.0 c)
-    (λ count. leaves_attempt x line _ _ (λ bytes. leaves_give x (Text bytes)))))
+    (λ count. leaves_attempt x line _ _ (λ bytes. leaves_made_text x bytes))))
 keeps_by_rule x (typed.make {class = class} {args = args} of are) h c =
     leaves_each x c args (make_meant class) (keep_arguments x are h) (λ vs. leaves_made x Pointer _)
 keeps_by_rule x (typed.field {p = p} {class = class} {index = index} {line = line} of) h c =
@@ -276,7 +295,8 @@ keeps_by_rule x (typed.element {v = v} {i = i} {line = line}) h c =
 keeps_by_rule x (typed.set_element {v = v} {i = i} {e = e} {line = line}) h c =
     leaves_then x (eval c v) _ (h.0 c) (λ vector. leaves_then x (eval c i) _ (h.1.0 c) (λ at. leaves_then x (eval c e) _ (h.1.1.0 c)
     (λ w. leaves_with_heap x _ (λ heap. leaves_attempt x line _ put_heap (λ new. leaves_put_heap x new)))))
-keeps_by_rule x (typed.bound {v = v} {upper = upper}) h c = leaves_then x (eval c v) _ (h.0 c) (λ vector. leaves_with_heap x _ (λ heap. leaves_give x _))
+keeps_by_rule x (typed.bound {v = v} {upper = upper}) h c =
+    leaves_then x (eval c v) _ (h.0 c) (λ vector. leaves_with_heap x _ (λ heap. leaves_give x _))
 keeps_by_rule x (typed.lib {code = code} {args = args} of are) h c =
     leaves_each x c args (lib_meant code) (keep_arguments x are h) (λ vs. leaves_lib x code vs)
 keeps_by_rule x other h c = leaves_unbuilt x
@@ -296,7 +316,8 @@ declared_apart x (typed.as_local {free = free} {slot = slot} {ty = ty} e) below 
     leaves_set x slot ty v (λ is same. next_above x free (is_number ty) below is (sym e ∙ same))
 declared_apart x (typed.as_kept {position = position} {ty = ty} name scopes is) below v = leaves_kept x 0 position ty v
 
-pub declared_unnamed : (x : ℕ) {env with_name : Env} {free behind : Free} {place : Place} {ty : TyView} → Declares env free place ty with_name behind →
+pub declared_unnamed : (x : ℕ) {env with_name : Env} {free behind : Free} {place : Place} {ty : TyView} →
+    Declares env free place ty with_name behind →
     x < free.nums → Unnamed x env → Unnamed x with_name
 declared_unnamed x (typed.as_local {free = free} {slot = slot} {ty = ty} e) below h t (inl (same, is_ty)) is =
     next_above x free (is_number ty) below (ap is_number is_ty ∙ is) (sym e ∙ same)
@@ -314,7 +335,8 @@ keeps_for : (x : ℕ) {around first last : _} (slot : ℕ) (a b c : Node) (scope
     Keeps x (node.For slot a b c scope control s line)
 unfolding eval
 keeps_for x slot a b c None control s line typed.unscoped below at_control ha hb hc h context =
-    leaves_for x context.bound line slot control (eval context a) (eval context b) (eval context c) (eval context s) below at_control (ha context) (hb context)
+    leaves_for x context.bound line slot control (eval context a) (eval context b) (eval context c) (eval context s) below at_control (ha context)
+    (hb context)
     (hc context) (h context)
 keeps_for x slot a b c (Some text) control s line typed.scoped below at_control ha hb hc h context = leaves_unbuilt x
 
@@ -349,7 +371,8 @@ mutual
   keeps x (typed.scan q_is s_is are) locals below apart = λ c. leaves_unbuilt x
   keeps x (typed.literal is_body) locals below apart = λ c. leaves_unbuilt x
 
-  pub keeps_each : (x : ℕ) {env : Env} {free free' : Free} {claims : List Claim} → AreTyped env free claims free' → LocalsBelow env free → x < free.nums →
+  pub keeps_each : (x : ℕ) {env : Env} {free free' : Free} {claims : List Claim} → AreTyped env free claims free' → LocalsBelow env free →
+      x < free.nums →
       Unnamed x env → Each (KeepClaim x) claims
   keeps_each x typed.no_more locals below apart = tt
   keeps_each x (typed.one_more {env = env} {free = free} {between = between} first others) locals below apart =
@@ -363,7 +386,8 @@ mutual
       let grows = tree_grows (track first locals) in
       leaves_then x (eval c item) _ (keeps x first locals below apart c)
       (λ w. keeps_items x others (locals_grow env free between grows locals) (let h = grows.nums in omega arith) apart c w)
-  keeps_items x (typed.a_value {env = env} {with_name = with_name} {free = free} {behind = behind} {between = between} {place = place} {e = e} {rest = rest}
+  keeps_items x (typed.a_value {env = env} {with_name = with_name} {free = free} {behind = behind} {between = between} {place = place} {e = e}
+      {rest = rest}
       {of = of} isnt declares te others) locals below apart c v =
       let d = declared declares locals in
       let grows : Grows free behind = record { nums = let y = d.nums in omega arith; refs = let y = d.refs in omega arith } in

@@ -74,7 +74,8 @@ all_ahead u at (i ∷ is) h e =
     (record { is_instr = h.0; rest = spelled is; spelled = here }, all_ahead u (at + width_of i) is h.1 next)
 
 -- the constants of a row
-constants_from : (u : UnitView) (k : ℕ) (cs : List ConstantView) → ((n : ℕ) → constant_at (constants_in u) (k + n) ≡ constant_at (row_of cs) n) → Named u k cs
+constants_from : (u : UnitView) (k : ℕ) (cs : List ConstantView) → ((n : ℕ) → constant_at (constants_in u) (k + n) ≡ constant_at (row_of cs) n) →
+    Named u k cs
 constants_from u k [] h = tt
 constants_from u k (c ∷ cs) h =
     let at_first : k ≡ k + 0 = omega arith in

@@ -18,11 +18,11 @@ use Rattle.ps_command.specs.declared.source_fault.SourceFault.{SourceFault}
 use Rattle.ps_command.specs.declared.source_fault.SourceFault.TheVariants as source
 use Rattle.ps_command.specs.Words.{RunOf}
 use Rattle.ps_command.specs.Reports.{usage_line, memory_line, fault_line}
-use Rattle.ps_command.specs.Source.{IsProgram, IsSourceFault, in_scan, in_parse, not_built, in_check}
+use Rattle.ps_command.specs.Source.{IsProgram, IsSourceFault, in_scan, in_parse, in_check}
 use Rattle.ps_command.specs.Source as told
 use Rattle.ps_command.specs.Answering.{Answers}
 use Rattle.ps_command.specs.Command.{Gives, Due, Why}
-use Rattle.ps_command.specs.inside.Refusal.{Checked, Refuses, stage_of, number_of, line_of_fault}
+use Rattle.ps_command.specs.inside.Refusal.{Refuses, stage_of, number_of, line_of_fault}
 use Rattle.ps_command.specs.inside.Steps.{TextWhy, ProgramWhy, UnreadWhy}
 
 -- a number says that the refusal is no want of memory
@@ -46,17 +46,23 @@ told_by (Limit at count) number line n l = record { rule = fault.Limit at count;
 told_by (TooComplex at count) number line n l = record { rule = fault.TooComplex at count; stands = refl; has_number = cc; has_line = cc }
 told_by NoMemory number line n l = absurd (none_is_some number n)
 
+-- a fault has the number and the line that it is told with
+at_line : {text : List ℕ} {n number : ℕ} {k line : Line} → n ≡ number → k ≡ line → IsSourceFault text (codes "check") n k →
+    IsSourceFault text (codes "check") number line
+at_line {text} {n} {number} {k} {line} one two fault =
+    subst (λ (i : ℕ). IsSourceFault text (codes "check") i line) one (subst (λ (x : Line). IsSourceFault text (codes "check") n x) two fault)
+
 pub fault_found : (text : List ℕ) (fault : SourceFault) (number : ℕ) (line : Line) → number_of fault ≡ Some number → line_of_fault fault ≡ Some line → Refuses text fault → IsSourceFault text (stage_of fault) number line
 fault_found text (source.Scan fault) number line n l h = in_scan (h (λ e. none_is_some number (ap scanning.number_of (sym e) ∙ n))) n l
 fault_found text (source.Parse fault) number line n l h = let is = h (λ e. none_is_some number (ap parsing.number_of (sym e) ∙ n)) in in_parse is.1 is.2 n l
 fault_found text (source.NotBuilt at) number line n l h =
     let one : 8 ≡ number = cc in
     let two : at ≡ line = cc in
-    subst (λ (k : ℕ). IsSourceFault text (codes "check") k line) one (subst (λ (x : Line). IsSourceFault text (codes "check") 8 x) two (not_built h.scanned h.read h.first))
+    at_line one two (in_check h.scanned h.read h.fault)
 fault_found text (source.Check fault) number line n l h =
     let found = told_by fault number line n l in
     let is = h found.rule found.stands in
-    subst (λ (k : ℕ). IsSourceFault text (codes "check") k line) found.has_number (subst (λ (x : Line). IsSourceFault text (codes "check") (told.number_of found.rule) x) found.has_line (in_check is.scanned is.read is.built is.fails))
+    at_line found.has_number found.has_line (in_check is.scanned is.read is.fault)
 fault_found text source.Memory number line n l h = absurd (none_is_some number n)
 
 -- a shelf that answered Ok, or another fault, didn't answer that it failed
@@ -83,8 +89,8 @@ module _ {H : Type 0} (clock : H → ℕ) (told : H → ℕ → List ℕ → Typ
   pub text_no_memory : (run : RunOf) (text : List ℕ) (answered : ℕ) → Whole memory_line 5 answered → TextWhy clock told faults old new run text answered
   text_no_memory run text answered a = record { bytes = _; status = 5; due = Due.no_memory; answers = a }
 
-  pub text_ran : (run : RunOf) (text : List ℕ) (program : BodyNode) (answered : ℕ) → length text ≤ LONGEST_TEXT → IsProgram text program → ProgramWhy clock told faults old new run.turns program answered → TextWhy clock told faults old new run text answered
-  text_ran run text program answered short is (inl a) = record { bytes = _; status = _; due = Due.ran refl (gives_alone text short) is; answers = a }
+  pub text_ran : (run : RunOf) (text : List ℕ) (program : BodyNode) (answered : ℕ) → length text ≤ LONGEST_TEXT → IsProgram text program → ProgramWhy clock told faults old new run program answered → TextWhy clock told faults old new run text answered
+  text_ran run text program answered short is (inl a) = record { bytes = a.bytes; status = a.status; due = Due.ran refl (gives_alone text short) is a.comes; answers = a.answers }
   text_ran run text program answered short is (inr a) = text_no_memory run text answered a
 
   module _ (holds : List ℕ → List ℕ → Type 0) (lacks : List ℕ → Type 0) (failed : Type 0) where
@@ -101,7 +107,7 @@ module _ {H : Type 0} (clock : H → ℕ) (told : H → ℕ → List ℕ → Typ
     due_of_text run text bytes status gives (Due.too_long {size = size} is gives') = absurd (let e = gives'.given text refl in let long = gives'.long in let short = gives.short in omega arith)
     due_of_text run text bytes status gives (Due.refused {run = run'} {text = text'} is gives' fault) = Due.refused is (gives_here run run' text text' (same_run run run' is) (gives'.given text refl) gives) fault
     due_of_text run text bytes status gives Due.no_memory = Due.no_memory
-    due_of_text run text bytes status gives (Due.ran {run = run'} {text = text'} is gives' program) = Due.ran is (gives_here run run' text text' (same_run run run' is) (gives'.given text refl) gives) program
+    due_of_text run text bytes status gives (Due.ran {run = run'} {text = text'} is gives' program comes) = Due.ran is (gives_here run run' text text' (same_run run run' is) (gives'.given text refl) gives) program comes
 
     pub why_text : (run : RunOf) (text : List ℕ) (answered : ℕ) → Gives (holds run.file) (lacks run.file) text → TextWhy clock told faults old new run text answered → Why clock told faults old new (Some run) holds lacks failed answered
     why_text run text answered gives why = record { bytes = why.bytes; status = why.status; due = due_of_text run text why.bytes why.status gives why.due; answers = why.answers }

@@ -1,41 +1,58 @@
 -- What a run of a program's unit comes to is what the program means.
-use Rattle.std.proofs.Common.{◌≡◌, ℕ, ◌+◌, ◌≤◌, List, [], ◌∷◌, ◌++◌, reverse, inl, refl, sym, ap, ◌∙◌, subst, append_assoc, arith, Result, Ok, Err}
+use Rattle.std.proofs.Common.{◌≡◌, ℕ, ◌+◌, ◌*◌, ◌<◌, ◌≤◌, List, [], ◌∷◌, ◌++◌, reverse, refl, sym, ap, ◌∙◌, subst, append_assoc, arith}
+use Rattle.std.specs.Prelude.{Result, Ok, Err}
 use Rattle.std.proofs.lemmas.List.{reverse-append, append-nil}
 use Rattle.ps_base.specs.CodeUnit.{UnitView, unit_view}
 use Rattle.ps_base.specs.declared.code_unit.CodeUnit.{CodeUnit}
 use Rattle.ps_port.specs.Telling.{TellsAll, FailsBehind}
-use Rattle.ps_port.proofs.Telling.{fails_more}
+use Rattle.ps_port.proofs.Telling.{all_then, fails_then, fails_more}
+use Rattle.ps_outside.specs.Outside.{Outside}
+use Rattle.obj_layout.specs.Stored.{Space}
+use Rattle.obj_layout.specs.Storing.{Puts}
+use Rattle.obj_layout.specs.declared.vault.VaultFault.TheVariants as vault_fault
+use Rattle.no_store.specs.NoObjects.{outside_of}
+use Rattle.no_store.proofs.PutLaws.{front-put, all-put}
+use Rattle.proc_values.specs.Units.{unit_words}
 use Rattle.ps_program.specs.Node.{BodyNode, body}
 use Rattle.ps_program.specs.Slots.{slot_count}
 use Rattle.ps_typing.specs.WellTyped.{IsWellTyped}
 use Rattle.ps_typing_laws.specs.Counted.{IsCounted}
 use Rattle.ps_typing_laws.proofs.Tracked.{program_counted}
-use Rattle.ps_meaning.specs.Event.{End, Done, Event, Finish, outputs, output_of, report_of, status_of}
+use Rattle.ps_meaning.specs.Event.{End, Done, Event, Finish, count_of, outputs, output_of, report_of, status_of}
 use Rattle.ps_meaning.specs.Meaning.{Outcome, Value_is, Ends}
 use Rattle.ps_meaning.specs.Runs.{run_events, run_end, outcome_of, all_events, end_reached, fresh_store}
-use Rattle.ps_gen.specs.Units.{unit_of, frame_of}
+use Rattle.ps_meaning.specs.Weights.{code_weight}
+use Rattle.ps_soundness.specs.Running.{RunsWhole}
+use Rattle.ps_gen.specs.Units.{unit_of, frame_of, HasUnit}
 use Rattle.ps_stepping.specs.Config.{Config, start, frame_in}
-use Rattle.ps_stepping.specs.Machine.{Stops, Stuck, Steps, Runs}
-use Rattle.ps_stepping.specs.Path.{Reaches}
-use Rattle.ps_stepping.proofs.Paths.{stops_at_the_end, is_never_stuck, front_on_the_way}
-use Rattle.ps_code_laws.proofs.Bodies.{program_runs}
-use Rattle.stack_machine.specs.declared.run_end.RunEnd.{RunEnd}
+use Rattle.ps_stepping.specs.Machine.{Goes, Stops, Stuck, Steps, Runs}
+use Rattle.ps_stepping.specs.Path.{Reaches, no_step, more}
+use Rattle.ps_stepping.proofs.Paths.{on_the_way, stops_at_the_end, is_never_stuck, front_on_the_way}
+use Rattle.ps_stepping.proofs.Following.{follow}
+use Rattle.machine_state.specs.declared.machine.Machine.{Machine}
+use Rattle.machine_state.specs.declared.run_end.RunEnd.{RunEnd}
+use Rattle.machine_state.specs.Holding.{Holds}
+use Rattle.machine_state.specs.Stepped.{end_of}
 use Rattle.stack_machine.specs.declared.run.RunFault.{RunFault}
-use Rattle.stack_machine.specs.declared.run.RunFault.TheVariants.{Damaged, Output}
-use Rattle.stack_machine.specs.Stepped.{end_of}
-use Rattle.stack_machine.specs.Loaded.{IsFrame}
-use Rattle.stack_machine.specs.Ran.{Ran, ended, damaged, cut, report_cut}
+use Rattle.stack_machine.specs.declared.run.RunFault.TheVariants.{Damaged, Full, Output}
+use Rattle.stack_machine.specs.Loaded.{IsFrame, IsLoaded, HasNoRoom}
+use Rattle.stack_machine.specs.Ran as vault
+use Rattle.stack_machine.specs.Ran.{Ran, ended, damaged, full, cut, report_cut}
+use Rattle.stack_machine.proofs.Counting.{next_counted, next_counted_behind}
 use Rattle.ps_command.specs.Answering.{Answers, whole}
 use Rattle.ps_command.specs.Answering as answers
-use Rattle.ps_command.specs.inside.Steps.{IsRunnable}
+use Rattle.ps_command.specs.Reports.{area_full_line}
+use Rattle.ps_command.specs.Words.{RunOf}
+use Rattle.ps_command.specs.Command.{area_size, FillsArea, RunsTo, its_end, area_full}
+use Rattle.ps_command.specs.inside.Steps.{AnswersRun, IsRunnable, IsReady, begin}
 
 outputs-append : (xs ys : List Event) → outputs (xs ++ ys) ≡ outputs xs ++ outputs ys
 outputs-append [] ys = refl
 outputs-append (x ∷ xs) ys = ap (λ (bs : List ℕ). output_of x ++ bs) (outputs-append xs ys) ∙ sym (append_assoc (output_of x) (outputs xs) (outputs ys))
 
 -- all that is told of events and of the end behind them
-told_to_the_end : (total events : List Event) (e : End) → total ≡ events ++ Finish e ∷ [] → outputs total ≡ outputs events ++ report_of e
-told_to_the_end total events e is = ap outputs is ∙ outputs-append events (Finish e ∷ []) ∙ ap (λ (bs : List ℕ). outputs events ++ bs) (append-nil (report_of e))
+told_to_the_end : (total events : List Event) (e : End) (count : ℕ) → total ≡ events ++ Finish e count ∷ [] → outputs total ≡ outputs events ++ report_of e
+told_to_the_end total events e count is = ap outputs is ∙ outputs-append events (Finish e count ∷ []) ∙ ap (λ (bs : List ℕ). outputs events ++ bs) (append-nil (report_of e))
 
 last_same : {A : Type 0} (xs ys : List A) (x y : A) → xs ++ x ∷ [] ≡ ys ++ y ∷ [] → x ≡ y
 last_same xs ys x y e =
@@ -43,14 +60,16 @@ last_same xs ys x y e =
     let both : x ∷ reverse xs ≡ y ∷ reverse ys = sym (back xs x) ∙ ap reverse e ∙ back ys y in
     cc
 
-end_is_of : (o : Outcome) (so_far : List Event) (e : End) → all_events o ≡ so_far ++ Finish e ∷ [] → e ≡ end_reached o
+end_is_of : (o : Outcome) (so_far : List Event) (e : End) (count : ℕ) → all_events o ≡ so_far ++ Finish e count ∷ [] → e ≡ end_reached o
 unfolding all_events end_reached
-end_is_of (Value_is v f s) so_far e is = let same : Finish Done ≡ Finish e = last_same s.events so_far (Finish Done) (Finish e) is in cc
-end_is_of (Ends e' s) so_far e is = let same : Finish e' ≡ Finish e = last_same s.events so_far (Finish e') (Finish e) is in cc
+end_is_of (Value_is v f s) so_far e count is =
+    let same : Finish Done s.store.counted ≡ Finish e count = last_same s.events so_far (Finish Done s.store.counted) (Finish e count) is in cc
+end_is_of (Ends e' s) so_far e count is =
+    let same : Finish e' s.store.counted ≡ Finish e count = last_same s.events so_far (Finish e' s.store.counted) (Finish e count) is in cc
 
-end_is : (turns : ℕ) (program : BodyNode) (so_far : List Event) (e : End) → run_events turns program ≡ so_far ++ Finish e ∷ [] → e ≡ run_end turns program
+end_is : (turns : ℕ) (program : BodyNode) (so_far : List Event) (e : End) (count : ℕ) → run_events turns program ≡ so_far ++ Finish e count ∷ [] → e ≡ run_end turns program
 unfolding run_events run_end
-end_is turns program so_far e is = end_is_of (outcome_of turns program) so_far e is
+end_is turns program so_far e count is = end_is_of (outcome_of turns program) so_far e count is
 
 -- the frame of a program that can be run is none that a machine refuses
 frame_is : (program : BodyNode) → IsCounted program → slot_count program ≤ 512 → IsFrame (frame_of program)
@@ -66,37 +85,166 @@ pub has_frame : (unit : CodeUnit) (program : BodyNode) → IsRunnable unit progr
 has_frame unit program r =
     subst (λ (u : UnitView). IsFrame (frame_in u)) (sym r.unit_is) (subst IsFrame (sym (frame_in_unit program)) (frame_is program (first_counted program r.typed) r.fits))
 
-runs_from : (unit : CodeUnit) (program : BodyNode) (turns : ℕ) → IsRunnable unit program → Runs (run_events turns program) (start (unit_view unit) (fresh_store turns)) []
-runs_from unit program turns r =
-    subst (λ (u : UnitView). Runs (run_events turns program) (start u (fresh_store turns)) []) (sym r.unit_is) (program_runs program turns r.typed r.built r.fits r.has_unit)
+-- what the laws say of each program
+abbrev pub AreRun : Type 0
+AreRun = (program : BodyNode) (turns : ℕ) → IsWellTyped program → RunsWhole program → slot_count program ≤ 512 → HasUnit program
+    → Runs (run_events turns program) (start (unit_of program) (fresh_store turns (code_weight program))) []
 
-module _ {H : Type 0} (clock : H → ℕ) (told : H → ℕ → List ℕ → Type 0) (faults : H → ℕ) (old new : H) (unit : CodeUnit) (program : BodyNode) (turns : ℕ) (r : IsRunnable unit program) where
-  abbrev from : Config
-  from = start (unit_view unit) (fresh_store turns)
+abbrev pub AreWeighed : Type 0
+AreWeighed = (of : BodyNode) → 8 + 8 * unit_words (unit_of of) ≤ code_weight of
 
-  abbrev due : List ℕ
-  due = outputs (run_events turns program)
+module _ (unit : CodeUnit) (run : RunOf) (program : BodyNode) (are_run : AreRun) (are_weighed : AreWeighed) (r : IsRunnable unit program) (old m : Machine) where
+  runs : Runs (run_events run.turns program) (begin run program) []
+  runs = are_run program run.turns r.typed r.runs r.fits r.has_unit
 
-  ended_by : (events : List Event) (last : Config) (e : End) → Reaches from events last → Steps last (Stops e) → run_events turns program ≡ events ++ Finish e ∷ []
-  ended_by events last e way s = stops_at_the_end (run_events turns program) from last events e (runs_from unit program turns r) way s
+  weighs : 8 + 8 * unit_words (unit_view unit) ≤ code_weight program
+  weighs = subst (λ (u : UnitView). 8 + 8 * unit_words u ≤ code_weight program) (sym r.unit_is) (are_weighed program)
 
-  -- the run isn't damaged
-  pub never_damaged : Ran clock told faults old new from (Err Damaged) → ⊥
-  never_damaged (damaged {events = events} {last = last} way s tells) = is_never_stuck (run_events turns program) from last events (runs_from unit program turns r) way s
+  -- a machine that was loaded is ready
+  pub ready : old.sw.size ≡ area_size run → IsLoaded (unit_view unit) run.turns old m → IsReady run program m
+  ready size l = record {
+    sound = l.sound;
+    area = l.size ∙ size;
+    starts = subst (λ (u : UnitView). Holds m (start u (fresh_store run.turns (code_weight program)))) r.unit_is (l.starts (code_weight program) weighs);
+    runs = runs;
+  }
 
-  -- where it ended all was told, and the end is the program's
-  pub all_told : (e : RunEnd) → Ran clock told faults old new from (Ok e) → TellsAll clock told faults old new due × (end_of e ≡ run_end turns program)
-  all_told e (ended {events = events} {last = last} way s tells) =
-      let is = ended_by events last (end_of e) way s in (
-        subst (λ (bs : List ℕ). TellsAll clock told faults old new bs) (sym (told_to_the_end (run_events turns program) events (end_of e) is)) tells,
-        end_is turns program events (end_of e) is,
+  -- there was no room for its code: the first event counts more than the area has
+  pub never_begins : (top wanted size : ℕ) → old.sw.size ≡ area_size run → HasNoRoom (unit_view unit) old m top wanted size
+      → FillsArea run program [] top wanted × (size ≡ area_size run)
+  never_begins top wanted size is none =
+      let whole : size ≡ area_size run = none.size_is ∙ is in
+      let first = next_counted (run_events run.turns program) (begin run program) [] runs refl in
+      let short = none.full in
+      let passed = none.passed in
+      let counts = first.3 in (
+        record {
+          next = first.0;
+          rest = first.1;
+          events_are = first.2;
+          passed = omega (arith, whole, passed, weighs, counts);
+          short = omega (arith, whole, short);
+        },
+        whole,
       )
 
-  -- where the output failed it was behind a front of it
-  pub front_told : Ran clock told faults old new from (Err Output) → FailsBehind clock told faults old new due
-  front_told (cut {events = events} {last = last} way fails) =
-      let front = front_on_the_way (run_events turns program) from last events (runs_from unit program turns r) way in
-      let is : due ≡ outputs events ++ outputs front.0 = ap outputs front.1 ∙ outputs-append events front.0 in
-      subst (λ (bs : List ℕ). FailsBehind clock told faults old new bs) (sym is) (fails_more clock told faults (outputs front.0) fails)
-  front_told (report_cut {events = events} {last = last} e way s fails) =
-      subst (λ (bs : List ℕ). FailsBehind clock told faults old new bs) (sym (told_to_the_end (run_events turns program) events (end_of e) (ended_by events last (end_of e) way s))) fails
+module _ {H : Type 0} (clock : H → ℕ) (told : H → ℕ → List ℕ → Type 0) (faults : H → ℕ) (old new : H) where
+  abbrev seen : H → Outside Space
+  seen host = outside_of clock told faults host
+
+  as_all_put : (bytes : List ℕ) → vault.TellsAll (seen old) (seen new) bytes → Puts {T = Unit {0}} (seen old) (seen new) bytes (Ok tt)
+  as_all_put bytes is = record {
+    told = is.first.told;
+    all = is.all;
+    images = is.first.images;
+    contents = is.first.contents;
+    counts = let calm = is.calm in omega (arith, calm);
+    calm = is.calm;
+    device = refl;
+    cause = λ e. absurd (cc);
+    other = λ e. cc;
+    calls = refl;
+  }
+
+  -- what was told by a vault without objects was told by its host
+  pub host_told : (bytes : List ℕ) → vault.TellsAll (seen old) (seen new) bytes → TellsAll clock told faults old new bytes
+  host_told bytes is = all-put clock told faults old new bytes tt (as_all_put bytes is)
+
+  as_put : (bytes : List ℕ) → vault.FailsBehind (seen old) (seen new) bytes → Puts {T = Unit {0}} (seen old) (seen new) bytes (Err vault_fault.Output)
+  as_put bytes is = record {
+    told = is.first.told;
+    all = tt;
+    images = is.first.images;
+    contents = is.first.contents;
+    counts = is.counts;
+    calm = tt;
+    device = refl;
+    cause = λ e. is.rose;
+    other = λ e. cc;
+    calls = refl;
+  }
+
+  pub host_failed : (bytes : List ℕ) → vault.FailsBehind (seen old) (seen new) bytes → FailsBehind clock told faults old new bytes
+  host_failed bytes is = record { front = front-put clock told faults old new bytes (Err vault_fault.Output) (as_put bytes is); counts = is.counts; rose = is.rose }
+
+  module _ (run : RunOf) (program : BodyNode) (m : Machine) (r : IsReady run program m) where
+    abbrev total : List Event
+    total = run_events run.turns program
+
+    abbrev RanTo : Result RunEnd RunFault → Type 0
+    RanTo answer = Ran (seen old) (seen new) [] m.sw.size (begin run program) answer
+
+    -- the run of the vault over the host, which owed nothing
+    pub ran_is : (a b : H) (owed : List ℕ) (answer : Result RunEnd RunFault) → a ≡ old → b ≡ new → owed ≡ [] → Ran (seen a) (seen b) owed m.sw.size (begin run program) answer → RanTo answer
+    ran_is a b owed answer is_old is_new none ran =
+        subst (λ (bs : List ℕ). Ran (seen old) (seen new) bs m.sw.size (begin run program) answer) none
+        (subst (λ (h : H). Ran (seen old) (seen h) owed m.sw.size (begin run program) answer) is_new
+        (subst (λ (h : H). Ran (seen h) (seen b) owed m.sw.size (begin run program) answer) is_old ran))
+
+    ended_by : (events : List Event) (last : Config) (e : End) → Reaches (begin run program) events last → Steps last (Stops e) → total ≡ events ++ Finish e last.store.counted ∷ []
+    ended_by events last e way s = stops_at_the_end total (begin run program) last events e r.runs way s
+
+    -- the run isn't damaged
+    pub never_damaged : RanTo (Err Damaged) → ⊥
+    never_damaged (damaged {events = events} {last = last} way s tells) = is_never_stuck total (begin run program) last events r.runs way s
+
+    -- where it ended all was told, and the end is the program's
+    pub all_told : (e : RunEnd) (answered : ℕ) → answered ≡ status_of (end_of e) → RanTo (Ok e) → AnswersRun clock told faults old new run program answered
+    all_told e answered is_status (ended {events = events} {last = last} way s tells) =
+        let is = ended_by events last (end_of e) way s in
+        let status : answered ≡ status_of (run_end run.turns program) = is_status ∙ ap status_of (end_is run.turns program events (end_of e) last.store.counted is) in
+        let all = subst (λ (bs : List ℕ). TellsAll clock told faults old new bs) (sym (told_to_the_end total events (end_of e) last.store.counted is)) (host_told (outputs events ++ report_of (end_of e)) tells) in
+        record {
+          bytes = outputs total;
+          status = status_of (run_end run.turns program);
+          comes = its_end;
+          answers = subst (λ (n : ℕ). Answers clock told faults old new (outputs total) (status_of (run_end run.turns program)) n) (sym status) (whole all);
+        }
+
+    -- where the output failed it was behind a front of it
+    failed_in : FailsBehind clock told faults old new (outputs total) → AnswersRun clock told faults old new run program 8
+    failed_in fails = record { bytes = outputs total; status = status_of (run_end run.turns program); comes = its_end; answers = answers.cut fails }
+
+    pub front_told : RanTo (Err Output) → AnswersRun clock told faults old new run program 8
+    front_told (cut {events = events} {last = last} way fails) =
+        let front = front_on_the_way total (begin run program) last events r.runs way in
+        let is : outputs total ≡ outputs events ++ outputs front.0 = ap outputs front.1 ∙ outputs-append events front.0 in
+        failed_in (subst (λ (bs : List ℕ). FailsBehind clock told faults old new bs) (sym is) (fails_more clock told faults (outputs front.0) (host_failed (outputs events) fails)))
+    front_told (report_cut {events = events} {last = last} e way s fails) =
+        failed_in (subst (λ (bs : List ℕ). FailsBehind clock told faults old new bs) (sym (told_to_the_end total events (end_of e) last.store.counted (ended_by events last (end_of e) way s)))
+        (host_failed (outputs events ++ report_of (end_of e)) fails))
+
+    -- where the area was full, the next event counts more than it has
+    pub fills : (top wanted size : ℕ) → RanTo (Err (Full top wanted size)) → (before : List Event) × FillsArea run program before top wanted × TellsAll clock told faults old new (outputs before) × (size ≡ area_size run)
+    fills top wanted size (full {events = events} {last = last} {next = next} way s short passed tells) =
+        let behind = follow total last next events [] (on_the_way total (begin run program) last [] events r.runs way) s in
+        let counted = next_counted_behind (begin run program) last next events refl way s in
+        let first = next_counted total next (events ++ []) behind counted in
+        let area = r.area in
+        let counts = first.3 in (
+          events,
+          record {
+            next = first.0;
+            rest = first.1;
+            events_are = first.2 ∙ ap (λ (es : List Event). es ++ first.0 ∷ first.1) (append-nil events);
+            passed = omega (arith, area, passed, counts);
+            short = omega (arith, area, short);
+          },
+          host_told (outputs events) tells,
+          area,
+        )
+
+-- and the line behind it
+pub full_told : {H : Type 0} (clock : H → ℕ) (told : H → ℕ → List ℕ → Type 0) (faults : H → ℕ) (old mid new : H) (run : RunOf) (program : BodyNode) (before : List Event) (top wanted size answered : ℕ)
+    → FillsArea run program before top wanted → size ≡ area_size run → TellsAll clock told faults old mid (outputs before) → Answers clock told faults mid new (area_full_line top wanted size) 11 answered
+    → AnswersRun clock told faults old new run program answered
+full_told clock told faults old mid new run program before top wanted size answered fills is first line = record {
+  bytes = outputs before ++ area_full_line top wanted (area_size run);
+  status = 11;
+  comes = area_full fills;
+  answers = behind answered (subst (λ (n : ℕ). Answers clock told faults mid new (area_full_line top wanted n) 11 answered) is line);
+}
+  where
+    behind : (n : ℕ) → Answers clock told faults mid new (area_full_line top wanted (area_size run)) 11 n → Answers clock told faults old new (outputs before ++ area_full_line top wanted (area_size run)) 11 n
+    behind n (answers.whole all) = answers.whole (all_then clock told faults first all)
+    behind n (answers.cut fails) = answers.cut (fails_then clock told faults first fails)

@@ -1,5 +1,5 @@
 -- What is so of the program that a text is.
-use Rattle.std.proofs.Common.{◌≡◌, ℕ, ◌≤◌, Bool, true, false, List, [], ◌∷◌, Option, Some, None, refl, sym, ap, ◌∙◌, subst, arith}
+use Rattle.std.proofs.Common.{◌≡◌, ℕ, ◌≤◌, Bool, true, false, List, [], Option, Some, None, refl, subst}
 use Rattle.std.specs.Prelude.{nat_lt, if◌then◌else◌}
 use Rattle.std.proofs.lemmas.Bool.{ltb-false}
 use Rattle.ps_base.specs.TyView as types
@@ -11,10 +11,11 @@ use Rattle.ps_typing.specs.Fault.{Fault, TooComplex}
 use Rattle.ps_typing.specs.Library.{library_names}
 use Rattle.ps_typing.specs.Placed.{placed_program}
 use Rattle.ps_typing.specs.Checking.{Outcome, Gives, Refuses, check, wants}
-use Rattle.ps_typing.specs.Program.{end_line, most_slots, bodies, first_complex, line_of_body, Verdict, Typed, Fails, measured, verdict_of, check_program}
+use Rattle.ps_typing.specs.Program.{end_line, most_slots, bodies, first_complex, line_of_body, Typed, Fails, measured, verdict_of}
 use Rattle.ps_typing_laws.proofs.OfProgram.{program_typed}
 use Rattle.ps_text_laws.proofs.LetsRead.{lets_are_items}
-use Rattle.ps_built_laws.proofs.OfProgram.{program_built}
+use Rattle.ps_leaf_laws.proofs.LeavesRead.{leaves_fit}
+use Rattle.ps_built_laws.proofs.FreeOfProgram.{program_runs}
 use Rattle.ps_gen.specs.Units.{unit_of, HasUnit}
 use Rattle.ps_command.specs.Source.{IsProgram}
 use Rattle.ps_command.specs.inside.Steps.{IsRunnable}
@@ -43,7 +44,7 @@ first_fits (body params gives tree scope line) e =
 pub runnable : (text : List ℕ) (unit : CodeUnit) (program : BodyNode) → IsProgram text program → unit_view unit ≡ unit_of program → HasUnit program → IsRunnable unit program
 runnable text unit program is unit_is has_unit = record {
   typed = program_typed is.phrase program (lets_are_items text is.tokens is.phrase is.read) is.typed;
-  built = program_built is.phrase program is.built is.typed;
+  runs = program_runs is.phrase program is.free is.typed (leaves_fit text is.tokens is.phrase is.scanned is.read) is.built;
   fits = first_fits program (of_outcome program (wants types.Void (end_line is.phrase) (check library_names is.phrase)) is.typed);
   has_unit = has_unit;
   unit_is = unit_is;

@@ -1,4 +1,4 @@
--- The report lines of what ends a command before its first event.
+-- The report lines of what ends a command but for the ends of a program.
 use Rattle.std.specs.Prelude.{ℕ, List, ◌++◌, codes, decimal}
 use Rattle.ps_base.specs.declared.TheConstants.{LONGEST_TEXT}
 use Rattle.ps_base.specs.declared.line.Line.{Line}
@@ -18,3 +18,7 @@ too_long_line file length = file ++ (codes ": " ++ (decimal length ++ (codes " b
 -- the stage that found the fault is `scan`, `parse` or `check`
 abbrev pub fault_line : List ℕ → List ℕ → ℕ → Line → List ℕ
 fault_line file stage number line = file ++ (codes ": " ++ (stage ++ (codes " " ++ (decimal number ++ (codes " at line " ++ (decimal line.0 ++ codes "\n"))))))
+
+-- the next word of the area and the words of the object that is made next are together more than its size
+abbrev pub area_full_line : ℕ → ℕ → ℕ → List ℕ
+area_full_line top wanted size = codes "area full: " ++ (decimal top ++ (codes " + " ++ (decimal wanted ++ (codes " > " ++ (decimal size ++ codes " words\n")))))

@@ -1,7 +1,7 @@
 ghost use Rattle.std.specs.Prelude.{◌≤◌, Some};
 ghost use Rattle.ps_port.specs.Told.{Rose};
 ghost use Rattle.ps_command.specs.Command.{Why};
-ghost use Rattle.ps_command.specs.inside.Steps.{run_in, UnreadWhy};
+ghost use Rattle.ps_command.specs.inside.Steps.{run_in, IsArea, UnreadWhy};
 ghost use Rattle.ps_command.specs.Words.{words_of, command_of};
 
 use crate::execute::run_text;
@@ -22,29 +22,29 @@ pub fn psalgol<H: Host, S: Shelf>(
     ensures why { Why H.clock H.told H.output_faults host result.1 (command_of (words_of words.now)) (S.holds shelf.old) (S.lacks shelf.old) (Rose (S.faults shelf.old) (S.faults shelf.new)) result.0 }
     ensures shelf_counts { S.faults shelf.old ≤ S.faults shelf.new }
 {
-    let mut host = host;
-    let status = command(alloc, words, &mut host, shelf);
-    (status, host)
-}
-
-fn command<H: Host, S: Shelf>(alloc: Global, words: &[String], host: &mut H, shelf: &mut S) -> u8
-    ensures why { Why H.clock H.told H.output_faults host.old host.new (command_of (words_of words.now)) (S.holds shelf.old) (S.lacks shelf.old) (Rose (S.faults shelf.old) (S.faults shelf.new)) result }
-    ensures shelf_counts { S.faults shelf.old ≤ S.faults shelf.new }
-{
     match read_words(words) {
-        None => report::usage(host),
+        None => {
+            let mut host = host;
+            let status = report::usage(&mut host);
+            (status, host)
+        }
         Some(run) => run_file(alloc, &run, host, shelf),
     }
 }
 
-fn run_file<H: Host, S: Shelf>(alloc: Global, run: &RunWords, host: &mut H, shelf: &mut S) -> u8
-    ensures why { Why H.clock H.told H.output_faults host.old host.new (Some (run_in run.now)) (S.holds shelf.old) (S.lacks shelf.old) (Rose (S.faults shelf.old) (S.faults shelf.new)) result }
+fn run_file<H: Host, S: Shelf>(alloc: Global, run: &RunWords, host: H, shelf: &mut S) -> (u8, H)
+    requires { IsArea (run_in run.now) }
+    ensures why { Why H.clock H.told H.output_faults host result.1 (Some (run_in run.now)) (S.holds shelf.old) (S.lacks shelf.old) (Rose (S.faults shelf.old) (S.faults shelf.new)) result.0 }
     ensures shelf_counts { S.faults shelf.old ≤ S.faults shelf.new }
 {
     let mut text = Vec::new(alloc);
     match shelf.text(run.file, &mut text) {
         Ok(()) => run_text(alloc, run, &text, host),
-        Err(fault) => unread(run.file, fault, host),
+        Err(fault) => {
+            let mut host = host;
+            let status = unread(run.file, fault, &mut host);
+            (status, host)
+        }
     }
 }
 

@@ -1,20 +1,22 @@
 ghost use Rattle.std.specs.Prelude.{◌≡◌, ◌≤◌, length, IfOk, IfErr};
 ghost use Rattle.ps_base.specs.CodeUnit.{unit_view};
+ghost use Rattle.ps_tree.specs.Phrase.{phrase_of};
 ghost use Rattle.ps_program.specs.Node.{BodyNode};
 ghost use Rattle.ps_program.specs.NodeView.{body_of};
 ghost use Rattle.ps_gen.specs.Units.{unit_of, HasUnit};
 ghost use Rattle.ps_command.specs.Source.{IsProgram};
-ghost use Rattle.ps_command.specs.inside.Refusal.{Refuses};
+ghost use Rattle.ps_command.specs.inside.Refusal.{IsChecked, Refuses, RefusesTree};
 
 use crate::source_fault::SourceFault;
 use ps_base::LONGEST_TEXT;
 use ps_base::code_unit::CodeUnit;
-use ps_built::first_unbuilt;
+use ps_built::{first_procedure, first_unbuilt_library};
 use ps_check::check::check;
 use ps_gen::generate::generate;
 use ps_parse::parse;
 use ps_program::body::Program;
 use ps_scan::scan;
+use ps_tree::rough::Rough;
 use std::alloc::Global;
 
 /// The code of the program that a text is, or its first fault.
@@ -44,11 +46,23 @@ fn typed(alloc: Global, text: &[u8]) -> Result<Program, SourceFault>
         Ok(rough) => rough,
         Err(fault) => return Err(SourceFault::Parse(fault)),
     };
-    if let Some(line) = first_unbuilt(&rough) {
+    checked(alloc, &rough)
+}
+
+// The typed program of a tree: no form for procedures stands in it, and each of its calls of the library is built.
+fn checked(alloc: Global, rough: &Rough) -> Result<Program, SourceFault>
+    ensures checked { IfOk result (λ program. IsChecked (phrase_of rough.now) (body_of program.body)) }
+    ensures refused { IfErr result (λ fault. RefusesTree (phrase_of rough.now) fault) }
+{
+    if let Some(line) = first_procedure(rough) {
         return Err(SourceFault::NotBuilt { line });
     }
-    match check(alloc, &rough) {
-        Ok(program) => Ok(program),
-        Err(fault) => Err(SourceFault::Check(fault)),
+    let program = match check(alloc, rough) {
+        Ok(program) => program,
+        Err(fault) => return Err(SourceFault::Check(fault)),
+    };
+    match first_unbuilt_library(&program) {
+        Some(line) => Err(SourceFault::NotBuilt { line }),
+        None => Ok(program),
     }
 }

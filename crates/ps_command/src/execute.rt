@@ -1,35 +1,47 @@
-ghost use Rattle.std.specs.Prelude.{◌≡◌, ◌≤◌, List, ℕ, length};
+ghost use Rattle.std.specs.Prelude.{◌≡◌, ◌≤◌, ◌+◌, ◌*◌, [], List, ℕ, length, IfOk};
+ghost use Rattle.ps_base.specs.CodeUnit.{unit_view};
 ghost use Rattle.ps_program.specs.Node.{BodyNode};
 ghost use Rattle.ps_meaning.specs.Event.{status_of};
-ghost use Rattle.stack_machine.specs.Stepped.{end_of};
+ghost use Rattle.machine_state.specs.Stepped.{end_of};
+ghost use Rattle.stack_machine.specs.Loaded.{IsRoomy, Loads};
+ghost use Rattle.ps_command.specs.Words.{RunOf};
 ghost use Rattle.ps_command.specs.inside.Refusal.{Refuses};
-ghost use Rattle.ps_command.specs.inside.Steps.{TextWhy, ProgramWhy, IsRunnable, run_in};
+ghost use Rattle.ps_command.specs.inside.Steps.{TextWhy, ProgramWhy, IsRunnable, IsReady, IsArea, run_in};
 
 use crate::compile::compile;
 use crate::report;
 use crate::source_fault::SourceFault;
 use crate::words::RunWords;
+use no_store::NoStore;
 use ps_base::LONGEST_TEXT;
 use ps_base::code_unit::CodeUnit;
+use ps_code_laws::program_runs_as_meant;
 use ps_port::Host;
-use stack_machine::RunEnd;
-use stack_machine::load::{LoadFault, load};
+use ps_unit_weights::units_weigh_as_counted;
+use stack_machine::load::{LoadFault, load, machine};
 use stack_machine::run::{RunFault, run};
-use std::alloc::Global;
+use stack_machine::{Machine, RunEnd};
+use std::alloc::{AllocError, Global};
+use vault_output::Output;
 
-/// Runs a text, or tells its first fault, and answers the status.
-pub fn run_text<H: Host>(alloc: Global, words: &RunWords, text: &[u8], host: &mut H) -> u8
-    requires { length text.now ≤ LONGEST_TEXT }
-    ensures { TextWhy H.clock H.told H.output_faults host.old host.new (run_in words.now) text.now result }
+/// Runs a text, or tells its first fault, and answers the status beside the host.
+pub fn run_text<H: Host>(alloc: Global, words: &RunWords, text: &[u8], host: H) -> (u8, H)
+    requires short { length text.now ≤ LONGEST_TEXT }
+    requires area { IsArea (run_in words.now) }
+    ensures { TextWhy H.clock H.told H.output_faults host result.1 (run_in words.now) text.now result.0 }
 {
     match compile(alloc, text) {
-        Ok(unit) => run_program(alloc, words.turns, &unit, host),
-        Err(fault) => refuse(words.file, &fault, host),
+        Ok(unit) => run_program(alloc, words, unit, host),
+        Err(fault) => {
+            let mut host = host;
+            let status = refuse(words.file, &fault, &mut host);
+            (status, host)
+        }
     }
 }
 
 fn refuse<H: Host>(file: &str, fault: &SourceFault, host: &mut H) -> u8
-    ensures { (turns : ℕ) (text : List ℕ) → length text ≤ LONGEST_TEXT → Refuses text fault.now → TextWhy H.clock H.told H.output_faults host.old host.new (record { turns = turns; file = file.now }) text result }
+    ensures { (area turns : ℕ) (text : List ℕ) → length text ≤ LONGEST_TEXT → Refuses text fault.now → TextWhy H.clock H.told H.output_faults host.old host.new (record { area = area; turns = turns; file = file.now }) text result }
 {
     match (fault.number(), fault.line()) {
         (Some(number), Some(line)) => report::fault(host, file, fault.stage(), number, line),
@@ -37,18 +49,58 @@ fn refuse<H: Host>(file: &str, fault: &SourceFault, host: &mut H) -> u8
     }
 }
 
-fn run_program<H: Host>(alloc: Global, turns: u64, unit: &CodeUnit, host: &mut H) -> u8
-    requires { (program : BodyNode) × IsRunnable unit.now program }
-    ensures { (program : BodyNode) → IsRunnable unit.now program → ProgramWhy H.clock H.told H.output_faults host.old host.new turns program result }
+// All memory is taken here, before the first event.
+fn run_program<H: Host>(alloc: Global, words: &RunWords, unit: CodeUnit, host: H) -> (u8, H)
+    requires program { (program : BodyNode) × IsRunnable unit program }
+    requires area { IsArea (run_in words.now) }
+    ensures { (program : BodyNode) → IsRunnable unit program → ProgramWhy H.clock H.told H.output_faults host result.1 (run_in words.now) program result.0 }
 {
-    let mut machine = match load(alloc, unit, turns) {
-        Ok(machine) => machine,
-        Err(LoadFault::Memory) => return report::no_memory(host),
-        Err(LoadFault::Damaged) => unreachable!(),
+    program_runs_as_meant();
+    units_weigh_as_counted();
+    let mut host = host;
+    let Ok(output) = Output::new(alloc) else {
+        let status = report::no_memory(&mut host);
+        return (status, host);
     };
-    match run(&mut machine, host) {
-        Ok(end) => status(end),
-        Err(RunFault::Output) => report::OUTPUT_FAULT,
+    let Ok(mut m) = machine(alloc, 128 * words.area_kib) else {
+        let status = report::no_memory(&mut host);
+        return (status, host);
+    };
+    match loaded(&mut m, unit, words.turns) {
+        Ok(()) => run_loaded(m, output, host),
+        Err(LoadFault::Full { top, wanted, size }) => {
+            let status = report::area_full(&mut host, top, wanted, size);
+            (status, host)
+        }
+        Err(LoadFault::Damaged) => unreachable!(),
+    }
+}
+
+// Puts the unit into the machine, and lets it go: the code is run from the area.
+fn loaded(m: &mut Machine, unit: CodeUnit, turns: u64) -> Result<(), LoadFault>
+    requires { IsRoomy m.old }
+    ensures { Loads (unit_view unit) turns m.old m.new result }
+{
+    load(m, &unit, turns)
+}
+
+// Runs what is loaded.
+fn run_loaded<H: Host>(m: Machine, output: Output, host: H) -> (u8, H)
+    requires ready { (run : RunOf) × (program : BodyNode) × IsReady run program m }
+    requires owed { output ≡ [] }
+    ensures { (run : RunOf) (program : BodyNode) → IsReady run program m → ProgramWhy H.clock H.told H.output_faults host result.1 run program result.0 }
+{
+    let mut m = m;
+    let mut output = output;
+    let mut vault = NoStore::new(host);
+    match run(&mut m, &mut vault, &mut output) {
+        Ok(end) => (status(end), vault.into_host()),
+        Err(RunFault::Full { top, wanted, size }) => {
+            let mut host = vault.into_host();
+            let status = report::area_full(&mut host, top, wanted, size);
+            (status, host)
+        }
+        Err(RunFault::Output) => (report::OUTPUT_FAULT, vault.into_host()),
         Err(RunFault::Damaged) => unreachable!(),
     }
 }

@@ -2,10 +2,8 @@ ghost use Rattle.std.specs.Prelude.{◌≡◌, ◌≤◌, ◌<◌, List, ℕ, Op
 ghost use Rattle.ps_program.specs.Node.{BodyNode};
 ghost use Rattle.ps_base.specs.declared.line.Line.{Line};
 ghost use Rattle.ps_port.specs.Told.{Rose};
-ghost use Rattle.ps_meaning.specs.Event.{status_of, outputs};
-ghost use Rattle.ps_meaning.specs.Runs.{run_events, run_end};
 ghost use Rattle.ps_command.specs.Answering.{Answers};
-ghost use Rattle.ps_command.specs.Command.{Due, Gets};
+ghost use Rattle.ps_command.specs.Command.{Due, Gets, GetsRun};
 ghost use Rattle.ps_command.specs.Reports.{usage_line, unreadable_line, too_long_line, fault_line};
 ghost use Rattle.ps_command.specs.Source.{IsProgram, IsSourceFault};
 ghost use Rattle.ps_command.specs.Words.{RunOf};
@@ -34,10 +32,10 @@ pub fn first_fault_is_told<S: Shelf>(shelf: &S)
     ensures { (before after status : ℕ) (bytes text stage : List ℕ) (run : RunOf) (number : ℕ) (line : Line) → S.holds shelf.now run.file text → length text ≤ LONGEST_TEXT → IsSourceFault text stage number line → Due (Some run) (S.holds shelf.now) (S.lacks shelf.now) (Rose before after) bytes status → Gets run.file (Rose before after) (fault_line run.file stage number line) 2 bytes status }
 {}
 
-/// A text that the shelf holds and that is a program is run: what is due is what that program tells, with
-/// the status of its end; or there was no memory, or the shelf failed. It is never refused.
+/// A text that the shelf holds and that is a program is run: what is due is what that program comes to, which is its end, or that its area
+/// is full; or there was no memory, or the shelf failed. It is never refused.
 pub fn program_is_run<S: Shelf>(shelf: &S)
-    ensures { (before after status : ℕ) (bytes text : List ℕ) (run : RunOf) (program : BodyNode) → S.holds shelf.now run.file text → length text ≤ LONGEST_TEXT → IsProgram text program → Due (Some run) (S.holds shelf.now) (S.lacks shelf.now) (Rose before after) bytes status → Gets run.file (Rose before after) (outputs (run_events run.turns program)) (status_of (run_end run.turns program)) bytes status }
+    ensures { (before after status : ℕ) (bytes text : List ℕ) (run : RunOf) (program : BodyNode) → S.holds shelf.now run.file text → length text ≤ LONGEST_TEXT → IsProgram text program → Due (Some run) (S.holds shelf.now) (S.lacks shelf.now) (Rose before after) bytes status → GetsRun run program (Rose before after) bytes status }
 {}
 
 /// A text has at most one first fault, of one stage, one number and one line.

@@ -1,6 +1,6 @@
 ghost use Rattle.ps_port.specs.Telling.{joined};
 ghost use Rattle.ps_command.specs.Answering.{Answers};
-ghost use Rattle.ps_command.specs.Reports.{usage_line, memory_line, unreadable_line, too_long_line, fault_line};
+ghost use Rattle.ps_command.specs.Reports.{usage_line, memory_line, unreadable_line, too_long_line, fault_line, area_full_line};
 
 use itoa::Buffer;
 use ps_base::LONGEST_TEXT;
@@ -60,6 +60,31 @@ pub fn fault<H: Host>(host: &mut H, file: &str, stage: &[u8], number: u8, line: 
         host,
         &[name, b": ", stage, b" ", number, b" at line ", line, b"\n"],
         2,
+    )
+}
+
+/// Tells that the area was full: its next word, the words of the object that was to be made, and its size; and answers 11.
+pub fn area_full<H: Host>(host: &mut H, top: u32, wanted: u32, size: u32) -> u8
+    ensures { Answers H.clock H.told H.output_faults host.old host.new (area_full_line top wanted size) 11 result }
+{
+    let mut of_top = Buffer::new();
+    let mut of_wanted = Buffer::new();
+    let mut of_size = Buffer::new();
+    let top = of_top.format(top).as_bytes();
+    let wanted = of_wanted.format(wanted).as_bytes();
+    let size = of_size.format(size).as_bytes();
+    answer(
+        host,
+        &[
+            b"area full: ",
+            top,
+            b" + ",
+            wanted,
+            b" > ",
+            size,
+            b" words\n",
+        ],
+        11,
     )
 }
 

@@ -18,6 +18,7 @@ use Rattle.ps_type_text.specs.Texts.{Field, class_text, IsName, IsNamed}
 use Rattle.ps_typing.specs.Names.{plain, scan, Meaning, local, class, library, Names, Declared, FieldOf, lookup, lookup_field, meant, field_meant, is_declared, is_field_declared, declare, declare_local, declare_field, inside, behind}
 use Rattle.ps_typing.specs.Checking.{Outcome, Gives, Refuses, ◌>>=◌, passes, wants, is_same, is_vector, is_equated, is_writable, is_comparable, isnt_void, is_present, line_of, name_in, introduced, types_of, field_of, with_fields, structure, most, used, with_params, parameters, is_of, assigned, field_at, field, field_name, together, Checker, like, check_each, check_args, count_types, with_args, elements, value_applied, scan_applied, name_applied, applied, literal, named_literal, first_type, check, check_form, checkers, check_if_any, check_arms, check_all, check_written}
 use Rattle.ps_typing.specs.WellTyped.{At, IsOfType, types_of_fields}
+use Rattle.ps_soundness.specs.Valued.{IsValued}
 use Rattle.ps_soundness.specs.Running.{IsClassText, HasField, AreAsMany, HasAsMany}
 use Rattle.ps_leaf_laws.specs.Leaves.{LeavesFit, LeavesFitIn, LeavesFitInAll, LeavesFitInMaybe, LeavesFitInArms, LeavesFitInWritten}
 use Rattle.ps_fit_laws.specs.Fitting.{Fits, AllFit, ArmsFit}
@@ -126,6 +127,10 @@ known_inside names k = record { means = k.means; fields = k.fields }
 known_behind : (names last : Names) → Known names → Known (behind names last)
 known_behind names last k = record { means = k.means; fields = k.fields }
 
+-- types of fields that have values
+abbrev AreValued : List Field → Type 0
+AreValued fields = AllByRecursion (λ (field : Field). IsValued field.ty) fields
+
 -- the fields of a class, from this position on
 abbrev AreFields : List ℕ → ℕ → List GroupAt → Type 0
 AreFields text index [] = Unit {0}
@@ -138,20 +143,22 @@ at_end_of : (done rest : List Field) (field : Field) → At (IsOfType field.ty) 
 at_end_of [] rest field = inl (refl, refl)
 at_end_of (first ∷ done) rest field = inr (length done, omega arith, at_end_of done rest field)
 
-field_is : (name : List ℕ) (all done rest : List Field) (field : Field) (index : ℕ) → IsNamed name all → all ≡ done ++ field ∷ rest →
+field_is : (name : List ℕ) (all done rest : List Field) (field : Field) (index : ℕ) → IsNamed name all → AreValued all → all ≡ done ++ field ∷ rest →
     index ≡ length done → HasField (class_text name all) index field.ty
-field_is name all done rest field index named e i = record {
-  class = record { name = name; fields = all; named = named; text_is = refl };
+field_is name all done rest field index named valued e i = record {
+  class = record { name = name; fields = all; named = named; text_is = refl; valued = valued };
   at = subst (λ (l : List Field). At (IsOfType field.ty) l index) (sym e)
       (subst (At (IsOfType field.ty) (done ++ field ∷ rest)) (sym i) (at_end_of done rest field));
 }
 
-are_fields : (name : List ℕ) (all done : List Field) (groups : List GroupAt) (index : ℕ) → IsNamed name all → all ≡ done ++ map field_of groups →
+are_fields : (name : List ℕ) (all done : List Field) (groups : List GroupAt) (index : ℕ) → IsNamed name all → AreValued all →
+    all ≡ done ++ map field_of groups →
     index ≡ length done → AreFields (class_text name all) index groups
-are_fields name all done [] index named e i = tt
-are_fields name all done (group ∷ groups) index named e i = (
-  field_is name all done (map field_of groups) (field_of group) index named e i,
-  are_fields name all (done ++ field_of group ∷ []) groups (index + 1) named (e ∙ sym (append_assoc done (field_of group ∷ []) (map field_of groups)))
+are_fields name all done [] index named valued e i = tt
+are_fields name all done (group ∷ groups) index named valued e i = (
+  field_is name all done (map field_of groups) (field_of group) index named valued e i,
+  are_fields name all (done ++ field_of group ∷ []) groups (index + 1) named valued
+      (e ∙ sym (append_assoc done (field_of group ∷ []) (map field_of groups)))
       (let l = length_one done (field_of group) in omega arith),
 )
 
@@ -159,10 +166,17 @@ field_types : (groups : List GroupAt) → types_of groups ≡ types_of_fields (m
 field_types [] = refl
 field_types (group ∷ groups) = ap (types.more group.ty) (field_types groups)
 
-fields_named : (groups : List GroupAt) → AllByRecursion (λ (group : GroupAt). IsName group.name.name) groups →
-    AllByRecursion (λ (field : Field). IsName field.name) (map field_of groups)
+-- the groups have names, and types that have values
+abbrev AreGroups : List GroupAt → Type 0
+AreGroups groups = AllByRecursion (λ (group : GroupAt). IsName group.name.name × IsValued group.ty) groups
+
+fields_named : (groups : List GroupAt) → AreGroups groups → AllByRecursion (λ (field : Field). IsName field.name) (map field_of groups)
 fields_named [] h = tt
-fields_named (group ∷ groups) h = (h.0, fields_named groups h.1)
+fields_named (group ∷ groups) h = (h.0.0, fields_named groups h.1)
+
+fields_valued : (groups : List GroupAt) → AreGroups groups → AreValued (map field_of groups)
+fields_valued [] h = tt
+fields_valued (group ∷ groups) h = (h.0.1, fields_valued groups h.1)
 
 sound_with_fields : (names : Names) (text : List ℕ) (index : ℕ) (groups : List GroupAt) → AreFields text index groups → Known names →
     Sound Fits (with_fields names text index groups)
@@ -172,17 +186,21 @@ sound_with_fields names text index (group ∷ groups) h k =
     (λ once. sound_with_fields _ text (index + 1) groups h.1 (known_field names _ h.0 k))
 
 sound_structure : (names : Names) (line : Line) (name : NameAt) (groups : List GroupAt) → IsName name.name →
-    AllByRecursion (λ (group : GroupAt). IsName group.name.name) groups → Known names → Sound Fits (structure names line name groups)
+    AreGroups groups → Known names → Sound Fits (structure names line name groups)
 sound_structure names line name groups is are k =
     let all : List Field = map field_of groups in
     let text : List ℕ = class_text name.name all in
     let named : IsNamed name.name all = record { class = is; each = fields_named groups are } in
+    let valued = fields_valued groups are in
     let has : HasTypes text (types_of groups) =
-    record { class = record { name = name.name; fields = all; named = named; text_is = refl }; types_are = field_types groups } in
+    record {
+      class = record { name = name.name; fields = all; named = named; text_is = refl; valued = valued };
+      types_are = field_types groups;
+    } in
     by_test (Sound Fits) (nat_lt most (length groups)) _ _ (λ many. refuses) (λ few.
     by_test (Sound Fits) (is_declared names name.name) _ _ (λ twice. refuses) (λ once.
     sound_with_fields (declare names name.name (class text (types_of groups))) text 0 groups
-    (are_fields name.name all [] groups 0 named refl refl) (known_declared names name.name (class text (types_of groups)) has k)))
+    (are_fields name.name all [] groups 0 named valued refl refl) (known_declared names name.name (class text (types_of groups)) has k)))
 
 sound_used : (line : Line) (names : Names) (meaning : Option Meaning) → Known names → Sound Fits (used line names meaning)
 sound_used line names (Some (local number ty variable)) k = ends k tt
@@ -204,7 +222,8 @@ sound_field_at line p names name_line (Some found) f k h = ends k (h found refl,
 sound_field_at line p names name_line None f k h = refuses
 
 sound_field : (line : Line) (p : Node) (names : Names) (name : Option NameAt) → Fits p → Known names → Sound Fits (field line p names name)
-sound_field line p names (Some name) f k = sound_field_at line p names name.line (field_meant names name.name) f k (λ found e. k.fields name.name found e)
+sound_field line p names (Some name) f k =
+    sound_field_at line p names name.line (field_meant names name.name) f k (λ found e. k.fields name.name found e)
 sound_field line p names None f k = refuses
 
 -- so of each of these clauses
@@ -399,7 +418,8 @@ mutual
       tested is_equated _ _ _ _ (sound names e h.0 k) (λ e t n f k.
       next {P = ArmsFit} _ _ (sound_arms n t None arms h.1 k) (λ arms given n g k.
       next {P = Fits} _ _ (sound_like (first_type arms given) _ _ (sound n d h.2 k)) (λ d given n i k. ends k (f, g, i))))
-  sound_form names line (form.Write items) h k = next {P = AllFit} _ _ (sound_written names items h k) (λ trees t n f k. ends k (all_together trees f))
+  sound_form names line (form.Write items) h k =
+      next {P = AllFit} _ _ (sound_written names items h k) (λ trees t n f k. ends k (all_together trees f))
   sound_form names line form.Abort h k = ends k tt
   sound_form names line (form.Proc params ty s) h k =
       sound_literal names line params ty (line_of s) (λ own. check own s) (λ own k. sound own s h k) k
@@ -408,8 +428,8 @@ mutual
       wanted _ _ _ _ (sound n u h.1 k) (λ u t n g k.
       tested isnt_void _ _ _ _ (sound n e h.2 k) (λ e t n i k. ends k (f, g, i))))
   sound_form names line (form.Elems l t items) h k =
-      wanted _ _ _ _ (sound names l h.0 k) (λ l int n f k.
-      next {P = AllFit} _ _ (sound_each n t (checkers items) (all_sound items h.1) k) (λ items last n g k. ends k (f, g)))
+      wanted _ _ _ _ (sound names l h.1 k) (λ l int n f k.
+      next {P = AllFit} _ _ (sound_each n t (checkers items) (all_sound items h.2) k) (λ items last n g k. ends k (h.0, f, g)))
   sound_form names line (form.Assign x e) h k =
       next {P = Fits} _ _ (sound names x h.0 k) (λ x' t n f k.
       next {P = Fits} _ _ (sound n e h.1 k) (λ e' found n g k. sound_assigned line (line_of e) _ x' e' t found n f g k))

@@ -44,7 +44,7 @@ error_named = record {
 }
 
 error_is_class : IsClassText error_class
-error_is_class = record { name = codes "error.record"; fields = error_fields; named = error_named; text_is = refl }
+error_is_class = record { name = codes "error.record"; fields = error_fields; named = error_named; text_is = refl; valued = (tt, (tt, (tt, tt))) }
 
 abbrev AllMeanings : List Declared → Type 0
 AllMeanings [] = Unit {0}

@@ -56,7 +56,7 @@ mutual
   fits around l (node.Field e class index ty line) h = (h.0, fits around l e h.1)
   fits around l (node.SetField p class index ty e line) h = (h.0, fits around l p h.1, fits around _ e h.2)
   fits around l (node.Fill a b e ty line) h = (fits around l a h.0, fits around _ b h.1, fits around _ e h.2)
-  fits around l (node.Elems a items ty line) h = (fits around l a h.0, all_fit around _ items h.1)
+  fits around l (node.Elems a items ty line) h = (h.0, fits around l a h.1, all_fit around _ items h.2)
   fits around l (node.Element v i ty line) h = (fits around l v h.0, fits around _ i h.1)
   fits around l (node.SetElement v i e ty line) h = (fits around l v h.0, fits around _ i h.1, fits around _ e h.2)
   fits around l (node.Bound v upper) h = fits around l v h

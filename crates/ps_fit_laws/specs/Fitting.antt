@@ -4,6 +4,7 @@ use Rattle.ps_program.specs.Node.{Node, Nodes, none, more, Arms, no_arms, more_a
 use Rattle.ps_program.specs.Node as node
 use Rattle.ps_meaning.specs.Operators.{is_int}
 use Rattle.ps_meaning.specs.Texts.{is_string}
+use Rattle.ps_soundness.specs.Valued.{IsValued}
 use Rattle.ps_soundness.specs.Running.{IsClassText, HasField, HasAsMany}
 
 abbrev mutual
@@ -38,7 +39,7 @@ abbrev mutual
   Fits (node.Field e class index ty line) = HasField class index ty × Fits e
   Fits (node.SetField p class index ty e line) = HasField class index ty × Fits p × Fits e
   Fits (node.Fill l u e ty line) = Fits l × Fits u × Fits e
-  Fits (node.Elems l items ty line) = Fits l × AllFit items
+  Fits (node.Elems l items ty line) = IsValued ty × Fits l × AllFit items
   Fits (node.Element v i ty line) = Fits v × Fits i
   Fits (node.SetElement v i e ty line) = Fits v × Fits i × Fits e
   Fits (node.Bound v upper) = Fits v

@@ -2,7 +2,8 @@
 use Rattle.std.proofs.Common.{ℕ, Bool, true, false, List, [], ◌∷◌, ◌++◌, subst}
 use Rattle.std.specs.List.{AllByRecursion}
 use Rattle.std.specs.Prelude.{Option, Some, None, option_map}
-use Rattle.ps_base.specs.TyView.{TyView, TyViews}
+use Rattle.ps_base.specs.TyView.{TyView, TyViews, and_type}
+use Rattle.ps_base.specs.TyView as types
 use Rattle.ps_base.specs.declared.line.Line.{Line}
 use Rattle.ps_symbols.specs.declared.kind.Kind.{Kind}
 use Rattle.ps_symbols.specs.declared.kind.Kind.TheVariants as kind
@@ -23,7 +24,7 @@ use Rattle.ps_symbols.specs.Kinds.{operation_of, relating_of, begins_item, begin
 use Rattle.ps_tree.specs.Phrase.{NameAt, GroupAt, Phrase, Phrases, none, more, Arms, no_arms, more_arms, arm, WriteItem, item, WriteItems, no_items, more_items}
 use Rattle.ps_tree.specs.Composing.{and_then, and_arm, and_item, joined}
 use Rattle.ps_reader.specs.Grammar.{Made, a_clause, Part, Nested, a_clause_inside, a_type_inside, Rule, Give, Take, Go, Open, Then}
-use Rattle.ps_reader.specs.Grammar.{the_clause, the_groups, the_item}
+use Rattle.ps_reader.specs.Grammar.{the_clause, the_type, the_types, the_groups, the_item}
 use Rattle.ps_reader.specs.Grammar as grammar
 use Rattle.ps_reader.specs.Reading.{Reads, kind_at}
 use Rattle.ps_reader.specs.Reading as reading
@@ -32,12 +33,14 @@ use Rattle.ps_scan.specs.declared.token.Token.{Token}
 use Rattle.ps_scan.specs.Tokens.{HasTokens}
 use Rattle.ps_symbols.specs.Symbols.{symbols}
 use Rattle.ps_type_text.specs.Texts.{IsName}
+use Rattle.ps_soundness.specs.Valued.{IsValued, IsGiven, AllValued}
+use Rattle.ps_soundness.proofs.Valued.{given_by}
 use Rattle.ps_leaf_laws.specs.Leaves.{LeavesFit, LeavesFitInAll, LeavesFitInMaybe, LeavesFitInArms, LeavesFitInWritten}
 use Rattle.ps_leaf_laws.proofs.Leaves.{FitsAs, AllFit, symbols_fit}
 
--- the name of each group is one
+-- the name of each group is one, and its type has values
 abbrev AllNamed : List GroupAt → Type 0
-AllNamed groups = AllByRecursion (λ group. IsName group.name.name) groups
+AllNamed groups = AllByRecursion (λ group. IsName group.name.name × IsValued group.ty) groups
 
 -- what is so of what a part gives, and of what it goes on behind
 abbrev PartGives : Part → Made → Type 0
@@ -47,9 +50,9 @@ PartGives grammar.Parameters made = AllNamed (the_groups made)
 PartGives (grammar.Groups before) made = AllNamed (the_groups made)
 PartGives (grammar.MoreGroups of_last before) made = AllNamed (the_groups made)
 PartGives (grammar.NextGroup of_last before) made = AllNamed (the_groups made)
-PartGives grammar.Result made = Unit {0}
-PartGives grammar.ParameterTypes made = Unit {0}
-PartGives (grammar.MoreTypes before) made = Unit {0}
+PartGives grammar.Result made = IsGiven (the_type made)
+PartGives grammar.ParameterTypes made = AllValued (the_types made)
+PartGives (grammar.MoreTypes before) made = AllValued (the_types made)
 PartGives other made = LeavesFit (the_clause made)
 
 abbrev PartFits : Part → Type 0
@@ -58,8 +61,9 @@ PartFits (grammar.Ended all) = LeavesFit all
 PartFits (grammar.Items line before) = LeavesFitInAll before
 PartFits (grammar.MoreItems line before) = LeavesFitInAll before
 PartFits (grammar.Groups before) = AllNamed before
-PartFits (grammar.MoreGroups of_last before) = AllNamed before
-PartFits (grammar.NextGroup of_last before) = AllNamed before
+PartFits (grammar.MoreGroups of_last before) = IsValued of_last × AllNamed before
+PartFits (grammar.NextGroup of_last before) = IsValued of_last × AllNamed before
+PartFits (grammar.MoreTypes before) = AllValued before
 PartFits (grammar.Choice line c) = LeavesFit c
 PartFits (grammar.Until line a) = LeavesFit a
 PartFits (grammar.Test line a) = LeavesFit a
@@ -77,21 +81,25 @@ PartFits (grammar.Applied f) = LeavesFit f
 PartFits (grammar.Arguments line f) = LeavesFit f
 PartFits (grammar.SecondArgument line f first) = LeavesFit f × LeavesFit first
 PartFits (grammar.MoreArguments line f before) = LeavesFit f × LeavesFitInAll before
-PartFits (grammar.MoreElements line l t before) = LeavesFit l × LeavesFitInAll before
+PartFits (grammar.MoreElements line l t before) = IsValued t × LeavesFit l × LeavesFitInAll before
 PartFits other = Unit {0}
 
 abbrev NestedGives : Nested → Made → Type 0
 NestedGives a_clause_inside made = LeavesFit (the_clause made)
-NestedGives a_type_inside made = Unit {0}
+NestedGives a_type_inside made = IsValued (the_type made)
 
 abbrev Gives : Rule → Made → Type 0
 Gives (Go part) made = PartGives part made
 Gives (Open nested) made = NestedGives nested made
 Gives other made = Unit {0}
 
-and_named : (before : List GroupAt) (last : GroupAt) → AllNamed before → IsName last.name.name → AllNamed (before ++ last ∷ [])
-and_named [] last h k = (k, tt)
-and_named (first ∷ rest) last h k = (h.0, and_named rest last h.1 k)
+and_named : (before : List GroupAt) (last : GroupAt) → AllNamed before → IsName last.name.name → IsValued last.ty → AllNamed (before ++ last ∷ [])
+and_named [] last h k l = ((k, l), tt)
+and_named (first ∷ rest) last h k l = (h.0, and_named rest last h.1 k l)
+
+and_valued : (before : TyViews) (last : TyView) → AllValued before → IsValued last → AllValued (and_type before last)
+and_valued types.none last h k = (k, tt)
+and_valued (types.more first rest) last h k = (h.0, and_valued rest last h.1 k)
 
 and_clause : (before : Phrases) (last : Phrase) → LeavesFitInAll before → LeavesFit last →
     LeavesFitInAll (and_then before last)
@@ -157,39 +165,39 @@ module _ (text : List ℕ) where
   good_binding line name other = tt
 
   good_literal : (line : Line) → Good (grammar.literal line) (λ made. LeavesFit (the_clause made))
-  good_literal line = λ s _. ((tt, λ m h. h), λ m h. ((tt, λ n k. tt), λ n k. λ t _ u _. (λ o l. l, λ o l. l)))
+  good_literal line = λ s _. ((tt, λ m h. h), λ m h. ((tt, λ n k. k), λ n k. λ t _ u _. (λ o l. l, λ o l. l)))
 
   good_parameters : (begins : Bool) → Good (grammar.parameters begins) (λ made. AllNamed (the_groups made))
   good_parameters true = (tt, λ m h. h)
   good_parameters false = tt
 
-  good_more_groups : (of_last : TyView) (before : List GroupAt) (kind : Kind) → AllNamed before →
+  good_more_groups : (of_last : TyView) (before : List GroupAt) (kind : Kind) → IsValued of_last → AllNamed before →
       Good (grammar.more_groups of_last before kind) (λ made. AllNamed (the_groups made))
-  good_more_groups of_last before kind.Comma ok = λ s _. (ok, λ m h. h)
-  good_more_groups of_last before kind.Semicolon ok = λ s _. (ok, λ m h. h)
-  good_more_groups of_last before other ok = ok
+  good_more_groups of_last before kind.Comma is ok = λ s _. ((is, ok), λ m h. h)
+  good_more_groups of_last before kind.Semicolon is ok = λ s _. (ok, λ m h. h)
+  good_more_groups of_last before other is ok = ok
 
-  good_next_group : (of_last : TyView) (before : List GroupAt) (kind : Kind) → AllNamed before →
+  good_next_group : (of_last : TyView) (before : List GroupAt) (kind : Kind) → IsValued of_last → AllNamed before →
       Good (grammar.next_group text of_last before kind) (λ made. AllNamed (the_groups made))
-  good_next_group of_last before kind.Name ok = λ n named. (and_named before _ ok named, λ m h. h)
-  good_next_group of_last before other ok = (ok, λ m h. h)
+  good_next_group of_last before kind.Name is ok = λ n named. ((is, and_named before _ ok named is), λ m h. h)
+  good_next_group of_last before other is ok = (ok, λ m h. h)
 
-  good_result : (kind : Kind) → Good (grammar.result kind) (λ made. Unit {0})
-  good_result kind.Arrow = λ s _ m h. tt
+  good_result : (kind : Kind) → Good (grammar.result kind) (λ made. IsGiven (the_type made))
+  good_result kind.Arrow = λ s _ m h. given_by (the_type m) h
   good_result other = tt
 
-  good_type : (t : TypeStart) → Good (grammar.typed_as t) (λ made. Unit {0})
-  good_type typed.Vector = λ s _. (λ m h. tt, λ m h. tt)
-  good_type typed.Proc = λ s _ t _. ((tt, λ m h. tt), λ m h. ((tt, λ n k. tt), λ n k. λ u _. tt))
+  good_type : (t : TypeStart) → Good (grammar.typed_as t) (λ made. IsValued (the_type made))
+  good_type typed.Vector = λ s _. (λ m h. h, λ m h. h)
+  good_type typed.Proc = λ s _ t _. ((tt, λ m h. h), λ m h. ((tt, λ n k. k), λ n k. λ u _. (h, k)))
   good_type other = λ s _. tt
 
-  good_parameter_types : (begins : Bool) → Good (grammar.parameter_types begins) (λ made. Unit {0})
-  good_parameter_types true = (λ m h. tt, λ m h. (tt, λ n k. tt))
+  good_parameter_types : (begins : Bool) → Good (grammar.parameter_types begins) (λ made. AllValued (the_types made))
+  good_parameter_types true = (λ m h. h, λ m h. ((h, tt), λ n k. k))
   good_parameter_types false = tt
 
-  good_more_types : (before : TyViews) (kind : Kind) → Good (grammar.more_types before kind) (λ made. Unit {0})
-  good_more_types before kind.Comma = λ s _. (λ m h. tt, λ m h. (tt, λ n k. tt))
-  good_more_types before other = tt
+  good_more_types : (before : TyViews) (kind : Kind) → AllValued before → Good (grammar.more_types before kind) (λ made. AllValued (the_types made))
+  good_more_types before kind.Comma ok = λ s _. (λ m h. h, λ m h. (and_valued before (the_type m) ok h, λ n k. k))
+  good_more_types before other ok = ok
 
   good_choice : (line : Line) (c : Phrase) (kind : Kind) → LeavesFit c → GoodRow (grammar.choice line c kind) (λ made. LeavesFit (the_clause made))
   good_choice line c kind.Do ok = λ s _. (λ m h. h, λ m h. (ok, h))
@@ -221,7 +229,8 @@ module _ (text : List ℕ) where
   good_labels line e before labels other ok arms all = λ s _.
       (λ m h. h, λ m h. λ t _. ((ok, and_one_arm before labels (the_clause m) arms all h), λ n k. k))
 
-  good_width : (e : Phrase) (kind : Kind) → LeavesFit e → Good (grammar.width e kind) (λ made. LeavesFitInWritten (more_items (the_item made) no_items))
+  good_width : (e : Phrase) (kind : Kind) → LeavesFit e → Good (grammar.width e kind)
+      (λ made. LeavesFitInWritten (more_items (the_item made) no_items))
   good_width e kind.Colon ok = λ s _. (λ m h. h, λ m h. (ok, h, tt))
   good_width e other ok = (ok, tt, tt)
 
@@ -234,7 +243,8 @@ module _ (text : List ℕ) where
   good_assignment left kind.Becomes ok = λ s _. (λ m h. h, λ m h. (ok, h))
   good_assignment left other ok = ok
 
-  good_operand : (level : Level) → PartFits (grammar.operand level) × ((made : Made) → PartGives (grammar.operand level) made → LeavesFit (the_clause made))
+  good_operand : (level : Level) → PartFits (grammar.operand level) ×
+      ((made : Made) → PartGives (grammar.operand level) made → LeavesFit (the_clause made))
   good_operand Disjunction = (tt, λ m h. h)
   good_operand Conjunction = (tt, λ m h. h)
   good_operand Sum = (tt, λ m h. h)
@@ -292,12 +302,12 @@ module _ (text : List ℕ) where
   good_primary kind start.Round = λ s _. (λ m h. h, λ m h. λ t _. h)
   good_primary kind (start.Block last) = λ s _. ((tt, λ m h. h), λ m h. λ t _. h)
   good_primary kind (start.Bound upper) = λ s _ t _. (λ m h. h, λ m h. λ u _. h)
-  good_primary kind start.Elements = λ s _. (λ m h. h, λ m h. λ t _. (λ n k. k, λ n k. λ u _. (λ o l. l, λ o l. ((h, (l, tt)), λ p q. q))))
+  good_primary kind start.Elements = λ s _. (λ m h. h, λ m h. λ t _. (λ n k. k, λ n k. λ u _. (λ o l. l, λ o l. ((k, h, (l, tt)), λ p q. q))))
 
-  good_more_elements : (line : Line) (l : Phrase) (t : TyView) (before : Phrases) (kind : Kind) → LeavesFit l → LeavesFitInAll before →
+  good_more_elements : (line : Line) (l : Phrase) (t : TyView) (before : Phrases) (kind : Kind) → IsValued t → LeavesFit l → LeavesFitInAll before →
       Good (grammar.more_elements line l t before kind) (λ made. LeavesFit (the_clause made))
-  good_more_elements line l t before kind.Comma ok all = λ s _. (λ m h. h, λ m h. ((ok, and_clause before (the_clause m) all h), λ n k. k))
-  good_more_elements line l t before other ok all = λ s _. (ok, all)
+  good_more_elements line l t before kind.Comma is ok all = λ s _. (λ m h. h, λ m h. ((is, ok, and_clause before (the_clause m) all h), λ n k. k))
+  good_more_elements line l t before other is ok all = λ s _. (is, ok, all)
 
   good_opened : (o : Opening) → Good (grammar.opened text o) (λ made. LeavesFit (the_clause made))
   good_opened opening.Condition = λ w _. (λ m h. h, λ m h. (h, λ n k. k))
@@ -329,12 +339,12 @@ module _ (text : List ℕ) where
   good_row (grammar.Binding line name) kind ok = good_binding line name kind
   good_row (grammar.Literal line) kind ok = good_literal line
   good_row grammar.Parameters kind ok = good_parameters (begins_type kind)
-  good_row (grammar.Groups before) kind ok = (λ m h. tt, λ m h. λ n named. (and_named before _ ok named, λ o k. k))
-  good_row (grammar.MoreGroups of_last before) kind ok = good_more_groups of_last before kind ok
-  good_row (grammar.NextGroup of_last before) kind ok = good_next_group of_last before kind ok
+  good_row (grammar.Groups before) kind ok = (λ m h. h, λ m h. λ n named. ((h, and_named before _ ok named h), λ o k. k))
+  good_row (grammar.MoreGroups of_last before) kind ok = good_more_groups of_last before kind ok.0 ok.1
+  good_row (grammar.NextGroup of_last before) kind ok = good_next_group of_last before kind ok.0 ok.1
   good_row grammar.Result kind ok = good_result kind
   good_row grammar.ParameterTypes kind ok = good_parameter_types (begins_type kind)
-  good_row (grammar.MoreTypes before) kind ok = good_more_types before kind
+  good_row (grammar.MoreTypes before) kind ok = good_more_types before kind ok
   good_row (grammar.Choice line c) kind ok = good_choice line c kind ok
   good_row (grammar.Until line a) kind ok = good_until line a kind ok
   good_row (grammar.Test line a) kind ok = λ s _. (λ m h. h, λ m h. ((ok, h), λ n k. k))
@@ -359,18 +369,21 @@ module _ (text : List ℕ) where
   good_row (grammar.SecondArgument line f first) kind ok = good_second line f first kind ok.0 ok.1
   good_row (grammar.MoreArguments line f before) kind ok = good_more_arguments line f before kind ok.0 ok.1
   good_row grammar.Primary kind ok = good_option (grammar.primary text kind) (PartGives grammar.Primary) (start_of kind) (good_primary kind)
-  good_row (grammar.MoreElements line l t before) kind ok = good_more_elements line l t before kind ok.0 ok.1
+  good_row (grammar.MoreElements line l t before) kind ok = good_more_elements line l t before kind ok.0 ok.1 ok.2
 
   -- what is read is such
-  read : {symbols : List Symbol} {nesting from to : ℕ} {rule : Rule} {made : Made} → AllFit text symbols → Reads text symbols nesting rule from made to →
+  read : {symbols : List Symbol} {nesting from to : ℕ} {rule : Rule} {made : Made} → AllFit text symbols →
+      Reads text symbols nesting rule from made to →
       (Is : Made → Type 0) → Good rule Is → Is made
   read fit reading.gives Is h = h
   read fit (reading.takes {from = from} {symbol = symbol} here same next) Is h =
       read fit next Is (h symbol (subst (λ k. FitsAs text k symbol.token) same (fit from symbol here)))
   read {symbols = symbols} fit (reading.goes {from = from} {part = part} {made = made} row next) Is h =
-      h.1 made (read fit next (PartGives part) (subst (λ (o : Option Rule). GoodRow o (PartGives part)) row (good_row part (kind_at symbols from) h.0)))
+      h.1 made (read fit next (PartGives part) (subst (λ (o : Option Rule). GoodRow o (PartGives part)) row
+      (good_row part (kind_at symbols from) h.0)))
   read {symbols = symbols} fit (reading.opens {from = from} {nested = nested} {made = made} row next) Is h =
-      h made (read fit next (NestedGives nested) (subst (λ (o : Option Rule). GoodRow o (NestedGives nested)) row (good_nested nested (kind_at symbols from))))
+      h made (read fit next (NestedGives nested) (subst (λ (o : Option Rule). GoodRow o (NestedGives nested)) row
+      (good_nested nested (kind_at symbols from))))
   read fit (reading.joins {first = first} {one = one} earlier later) Is h = read fit later Is (h.1 one (read fit earlier (Gives first) h.0))
 
 -- the leaves of the tree of a text fit

@@ -1,4 +1,4 @@
--- Trees whose leaves are ints and strings, and whose structures have names of a text.
+-- Trees whose leaves are ints and strings, and whose structures have names of a text, and fields and elements of types that have values.
 use Rattle.std.specs.Prelude.{◌≡◌, true}
 use Rattle.std.specs.List.{AllByRecursion}
 use Rattle.ps_tree.specs.Phrase.{Phrase, at, Form, Phrases, none, more, MaybePhrase, absent, present, Arm, arm, Arms, no_arms, more_arms, WriteItem, item, WriteItems, no_items, more_items}
@@ -6,6 +6,7 @@ use Rattle.ps_tree.specs.Phrase as form
 use Rattle.ps_type_text.specs.Texts.{IsName}
 use Rattle.ps_meaning.specs.Operators.{is_int}
 use Rattle.ps_meaning.specs.Texts.{is_string}
+use Rattle.ps_soundness.specs.Valued.{IsValued}
 
 abbrev mutual
   pub LeavesFit : Phrase → Type 0
@@ -14,7 +15,7 @@ abbrev mutual
   pub LeavesFitIn : Form → Type 0
   LeavesFitIn (form.Let name variable e) = LeavesFit e
   LeavesFitIn (form.Sequence items) = LeavesFitInAll items
-  LeavesFitIn (form.Structure name fields) = IsName name.name × AllByRecursion (λ field. IsName field.name.name) fields
+  LeavesFitIn (form.Structure name fields) = IsName name.name × AllByRecursion (λ field. IsName field.name.name × IsValued field.ty) fields
   LeavesFitIn (form.IfDo c a) = LeavesFit c × LeavesFit a
   LeavesFitIn (form.IfElse c a b) = LeavesFit c × LeavesFit a × LeavesFit b
   LeavesFitIn (form.While c a) = LeavesFit c × LeavesFit a
@@ -25,7 +26,7 @@ abbrev mutual
   LeavesFitIn form.Abort = Unit {0}
   LeavesFitIn (form.Proc params gives s) = LeavesFit s
   LeavesFitIn (form.Vector l u e) = LeavesFit l × LeavesFit u × LeavesFit e
-  LeavesFitIn (form.Elems l t items) = LeavesFit l × LeavesFitInAll items
+  LeavesFitIn (form.Elems l t items) = IsValued t × LeavesFit l × LeavesFitInAll items
   LeavesFitIn (form.Assign x e) = LeavesFit x × LeavesFit e
   LeavesFitIn (form.Or a b) = LeavesFit a × LeavesFit b
   LeavesFitIn (form.And a b) = LeavesFit a × LeavesFit b

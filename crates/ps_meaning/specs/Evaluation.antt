@@ -23,7 +23,7 @@ use Rattle.ps_meaning.specs.Values.{Value, Num, Flag, Text, Nil, Pointer, Vector
 use Rattle.ps_meaning.specs.Texts.{join_of, part_of, order_of}
 use Rattle.ps_meaning.specs.Objects.{Structure, is_class, field_of, with_field, vector_of, filled_vector, vector_in, type_in, with_element, low_of, high_of, is_one_object}
 use Rattle.ps_meaning.specs.Objects.{element_of as element_at}
-use Rattle.ps_meaning.specs.Meaning.{Meaning, give, stop, ◌>>=◌, choose, answer, attempt, with_heap, put_heap, made, written, take_turn, get, set, unbuilt}
+use Rattle.ps_meaning.specs.Meaning.{Meaning, give, stop, ◌>>=◌, choose, answer, attempt, with_heap, put_heap, made, made_text, written, take_turn, get, set, unbuilt}
 
 -- What a clause is evaluated in: a number that bounds the turns that are left, by which loops are defined.
 pub record Context : Type 0 where
@@ -123,10 +123,10 @@ bound_meant upper v = with_heap (λ heap. give (Num (if upper then high_of heap 
 
 -- Texts.
 abbrev pub join_meant : Line → Value → Value → Meaning
-join_meant line v w = attempt line (join_of (bytes_of v) (bytes_of w)) (λ bytes. give (Text bytes))
+join_meant line v w = attempt line (join_of (bytes_of v) (bytes_of w)) made_text
 
 abbrev pub part_meant : Line → Value → Value → Value → Meaning
-part_meant line v i n = attempt line (part_of (bytes_of v) (word_of i) (word_of n)) (λ bytes. give (Text bytes))
+part_meant line v i n = attempt line (part_of (bytes_of v) (word_of i) (word_of n)) made_text
 
 -- whether two texts stand in a relation
 abbrev pub text_relation : Relation → List ℕ → List ℕ → Bool
@@ -158,7 +158,7 @@ abbrev pub lib_meant : ℕ → List Value → Meaning
 lib_meant code [] = unbuilt
 lib_meant code (v ∷ vs) =
     if nat_eq code 11 then give (Num (pos (length (bytes_of v)))) else
-    if nat_eq code 12 then give (Text (signed_decimal (word_of v))) else unbuilt
+    if nat_eq code 12 then made_text (signed_decimal (word_of v)) else unbuilt
 
 -- The meaning of a clause in a context.
 unfoldable mutual

@@ -1,4 +1,4 @@
--- What a run does that can be seen: its events, what each tells, and the status of its end.
+-- What a run does that can be seen: its events, what each tells, how many bytes are counted when it happens, and the status of its end.
 use Rattle.std.specs.Prelude.{ℕ, List, [], ◌∷◌, ◌++◌, codes, decimal}
 use Rattle.ps_base.specs.declared.line.Line.{Line}
 use Rattle.ps_base.specs.declared.trap.Trap.{Trap}
@@ -12,11 +12,17 @@ pub data End : Type 0 where
 
 pub data Event : Type 0 where
   -- these bytes are written
-  Out : (bytes : List ℕ) → Event
+  Out : (bytes : List ℕ) (counted : ℕ) → Event
   -- a loop goes into another turn
-  Turn : Event
+  Turn : (counted : ℕ) → Event
   -- the last event of each run
-  Finish : (end_of_run : End) → Event
+  Finish : (end_of_run : End) (counted : ℕ) → Event
+
+-- the counted bytes of the program when an event happens
+abbrev pub count_of : Event → ℕ
+count_of (Out bytes counted) = counted
+count_of (Turn counted) = counted
+count_of (Finish end_of_run counted) = counted
 
 abbrev pub trap_number : Trap → ℕ
 trap_number Overflow = 1
@@ -39,9 +45,9 @@ report_of OutOfTurns = codes "out of turns\n"
 
 -- what an event tells
 abbrev pub output_of : Event → List ℕ
-output_of (Out bytes) = bytes
-output_of Turn = []
-output_of (Finish end_of_run) = report_of end_of_run
+output_of (Out bytes counted) = bytes
+output_of (Turn counted) = []
+output_of (Finish end_of_run counted) = report_of end_of_run
 
 -- what events tell, one after the other
 abbrev pub outputs : List Event → List ℕ

@@ -8,4 +8,3 @@ pub mod Weights
 pub mod Meaning
 pub mod Evaluation
 pub mod Runs
-pub mod Built

@@ -1,15 +1,16 @@
 -- What a clause does: from the locals and the state that it finds to a value, or to the end of the run.
-use Rattle.std.specs.Prelude.{ℕ, zero, suc, ◌-◌, ◌^◌, ℤ, pos, negsuc, Bool, true, false, List, [], ◌∷◌, ◌++◌, length, replicate, nat_eq, nat_lt, Option, Some, None, if◌then◌else◌}
+use Rattle.std.specs.Prelude.{ℕ, zero, suc, ◌+◌, ◌-◌, ◌^◌, ℤ, pos, negsuc, Bool, true, false, List, [], ◌∷◌, ◌++◌, length, replicate, nat_eq, nat_lt, Option, Some, None, if◌then◌else◌}
 use Rattle.ps_base.specs.TyView.{TyView}
 use Rattle.ps_base.specs.declared.line.Line.{Line}
 use Rattle.ps_base.specs.declared.trap.Trap.TheVariants.{TooLong}
 use Rattle.ps_program.specs.declared.place.Place.{Place}
 use Rattle.ps_program.specs.declared.place.Place.TheVariants.{Plain, Kept}
 use Rattle.ps_typing.specs.Placing.{is_number}
-use Rattle.ps_meaning.specs.Values.{Value, Num, Nothing}
+use Rattle.ps_meaning.specs.Values.{Value, Num, Text, Nothing}
 use Rattle.ps_meaning.specs.Operators.{Answer, Gives, Traps}
 use Rattle.ps_meaning.specs.Texts.{Attempt, Yields, Fails}
 use Rattle.ps_meaning.specs.Objects.{Heap, Object, with_new, new_number}
+use Rattle.ps_meaning.specs.Weights.{own_weight, text_weight}
 use Rattle.ps_meaning.specs.Event.{End, Trapped, OutOfTurns, Event, Out, Turn}
 
 -- The locals of a body, ints and bools in one row and all else in the other, and the scope that a clause stands in.
@@ -18,10 +19,11 @@ pub record Frame : Type 0 where
   pub refs : ℕ → Value
   pub scope : Option ℕ
 
--- what a run holds beside its locals: the turns that it may still take, and the heap
+-- What a run holds beside its locals: the turns that it may still take, the heap, and how many bytes are counted of what it made.
 pub record Store : Type 0 where
   pub turns : ℕ
   pub heap : Heap
+  pub counted : ℕ
 
 -- what a run has done so far, oldest first, and what it holds
 pub record State : Type 0 where
@@ -69,27 +71,41 @@ attempt line (Fails trap) next = stop (Trapped trap line)
 unfoldable pub with_heap : (Heap → Meaning) → Meaning
 with_heap next frame state = next state.store.heap frame state
 
-abbrev pub heap_is : State → Heap → State
-heap_is state heap = record state { store = record (state.store) { heap = heap } }
+-- what is held where the heap is this one, where an object is made, and where a text is
+abbrev pub on_heap : Heap → Store → Store
+on_heap heap store = record store { heap = heap }
+
+abbrev pub and_object : Object → Store → Store
+and_object object store = record store { heap = with_new store.heap object; counted = store.counted + own_weight object }
+
+abbrev pub and_text : List ℕ → Store → Store
+and_text bytes store = record store { counted = store.counted + text_weight bytes }
+
+abbrev pub holding : State → Store → State
+holding state store = record state { store = store }
 
 -- the heap is this one from now on
 unfoldable pub put_heap : Heap → Meaning
-put_heap heap frame state = Value_is Nothing frame (heap_is state heap)
+put_heap heap frame state = Value_is Nothing frame (holding state (on_heap heap state.store))
 
 -- a new object is made, and its value given
 unfoldable pub made : (ℕ → Value) → Object → Meaning
-made denoting object frame state = Value_is (denoting (new_number state.store.heap)) frame (heap_is state (with_new state.store.heap object))
+made denoting object frame state = Value_is (denoting (new_number state.store.heap)) frame (holding state (and_object object state.store))
+
+-- a new text is made
+unfoldable pub made_text : List ℕ → Meaning
+made_text bytes frame state = Value_is (Text bytes) frame (holding state (and_text bytes state.store))
 
 -- some bytes make an event, and none make none
-abbrev pub some_out : List ℕ → List Event
-some_out [] = []
-some_out (byte ∷ bytes) = Out (byte ∷ bytes) ∷ []
+abbrev pub some_out : List ℕ → ℕ → List Event
+some_out [] counted = []
+some_out (byte ∷ bytes) counted = Out (byte ∷ bytes) counted ∷ []
 
 abbrev pub told : State → List Event → State
 told state events = record state { events = state.events ++ events }
 
 unfoldable pub emit : List ℕ → Meaning
-emit bytes frame state = Value_is Nothing frame (told state (some_out bytes))
+emit bytes frame state = Value_is Nothing frame (told state (some_out bytes state.store.counted))
 
 -- The blanks before a text of so many bytes, right in so many places: none where the width is no greater.
 abbrev pub blanks_before : ℤ → ℕ → ℕ
@@ -121,7 +137,7 @@ spent store = with_turns store store.turns
 
 abbrev pub turned : Option Store → Meaning
 turned None frame state = Ends OutOfTurns state
-turned (Some store) frame state = Value_is Nothing frame (record { events = state.events ++ Turn ∷ []; store = store })
+turned (Some store) frame state = Value_is Nothing frame (record { events = state.events ++ Turn store.counted ∷ []; store = store })
 
 -- one turn of those that are left
 unfoldable pub take_turn : Meaning

@@ -32,7 +32,8 @@ sound_block c heap None items e h = h
 sound_block c heap (Some text) items e h = absurd cc
 
 -- a loop by `for` takes three free slots, and one more for its control
-sound_loop : {env own : Env} {free behind : Free} {control : Place} (c : Context) (heap : Heap) (slot : ℕ) (from to by s : Node) (scope : Option (List ℕ))
+sound_loop : {env own : Env} {free behind : Free} {control : Place} (c : Context) (heap : Heap) (slot : ℕ) (from to by s : Node)
+    (scope : Option (List ℕ))
     (line : Line) → scope ≡ None → slot ≡ free.nums → Declares env (behind_loop free) control types.Int own behind → IsPlain control →
     AllBelow env.locals free → ((new : Heap) → Sound new env.locals env.locals types.Int (eval c from)) →
     ((new : Heap) → Sound new env.locals env.locals types.Int (eval c to)) → ((new : Heap) → Sound new env.locals env.locals types.Int (eval c by)) →
@@ -53,7 +54,8 @@ sound_loop c heap slot from to by s (Some text) line e slot_is declares plain be
 mutual
   unfolding eval eval_all
 
-  pub sound : (told : Told) {env : Env} {free behind : Free} {t : Node} {ty : TyView} → IsTyped env free t ty behind → AllBelow env.locals free → Runs t →
+  pub sound : (told : Told) {env : Env} {free behind : Free} {t : Node} {ty : TyView} → IsTyped env free t ty behind → AllBelow env.locals free →
+      Runs t →
       (c : Context) (heap : Heap) → Sound heap env.locals env.locals ty (eval c t)
   sound told (typed.by_rule rule are) below r c heap = rule_sound told rule (sound_each told are below) r c heap
   sound told (typed.name {place = Plain slot} {ty = ty} found) below r c heap = sound_get slot ty found
@@ -82,7 +84,8 @@ mutual
   sound_each told (typed.AreTyped.one_more {env = env} {free = free} {between = between} first others) below =
       (λ r c heap. sound told first below r c heap, sound_each told others (below_climbs free between env.locals (climbs first) below))
 
-  sound_items : (told : Told) {env last : Env} {free behind : Free} {before ty : TyView} {items : Nodes} → AreItems env free before items ty last behind →
+  sound_items : (told : Told) {env last : Env} {free behind : Free} {before ty : TyView} {items : Nodes} →
+      AreItems env free before items ty last behind →
       AllBelow env.locals free → AllRun items → (c : Context) (heap : Heap) (v : Value) → IsOf heap before v →
       Sound heap env.locals env.locals ty (eval_all c v items)
   sound_items told typed.at_end below r c heap v is = sound_give v is

@@ -8,9 +8,9 @@ use Rattle.ps_typing.specs.WellTyped.{Some_is, Local, IsLocal}
 use Rattle.ps_meaning.specs.Operators.{Answer, Gives, Traps}
 use Rattle.ps_meaning.specs.Event.{End, Trapped}
 use Rattle.ps_meaning.specs.Values.{Value, Num, Nothing}
-use Rattle.ps_meaning.specs.Texts.{Attempt, Yields, Fails}
+use Rattle.ps_meaning.specs.Texts.{Attempt, Yields, Fails, is_string}
 use Rattle.ps_meaning.specs.Objects.{Heap, Object, object_at, with_new, new_number}
-use Rattle.ps_meaning.specs.Meaning.{Frame, Store, State, Outcome, Value_is, Ends, Meaning, give, stop, after, ◌>>=◌, choose, answer, attempt, with_heap, put_heap, made, emit, in_places, is_width, written, turned, with_turns, spent, take_turn, frame_with, get, set}
+use Rattle.ps_meaning.specs.Meaning.{Frame, Store, State, Outcome, Value_is, Ends, Meaning, give, stop, after, ◌>>=◌, choose, answer, attempt, with_heap, put_heap, made, made_text, emit, in_places, is_width, written, turned, with_turns, spent, take_turn, frame_with, get, set}
 use Rattle.ps_soundness.specs.Shapes.{IsOf, IsTypedObject, IsTypedHeap, AreLocals, Grows}
 use Rattle.ps_soundness.proofs.Operators.{GivesInt, OnYield}
 use Rattle.ps_soundness.proofs.Growing.{grows_not, grows_then, of_kept, object_kept, locals_kept, at_new, grows_new, typed_new}
@@ -57,7 +57,8 @@ comes_from old new locals ty (Value_is v frame state) g h =
     record { grows = grows_then old new state.store.heap g h.grows; typed = h.typed; are = h.are; value = h.value }
 comes_from old new locals ty (Ends e state) g h = (grows_then old new state.store.heap g h.0, h.1)
 
-comes_after : (heap old : Heap) (between last : List Local) (a ty : TyView) (o : Outcome) (next : Value → Meaning) → Grows heap old → Comes old between a o →
+comes_after : (heap old : Heap) (between last : List Local) (a ty : TyView) (o : Outcome) (next : Value → Meaning) → Grows heap old →
+    Comes old between a o →
     ((new : Heap) (v : Value) → Grows heap new → IsOf new a v → Sound new between last ty (next v)) → Comes old last ty (after o next)
 unfolding after
 comes_after heap old between last a ty (Value_is v frame state) next g h k =
@@ -66,7 +67,8 @@ comes_after heap old between last a ty (Value_is v frame state) next g h k =
     comes_from old new last ty (next v frame state) h.grows (then_sound.runs frame state (grows_not new) h.typed h.are)
 comes_after heap old between last a ty (Ends e state) next g h k = h
 
-pub sound_then : {heap : Heap} {first between last : List Local} {a ty : TyView} {m : Meaning} {next : Value → Meaning} → Sound heap first between a m →
+pub sound_then : {heap : Heap} {first between last : List Local} {a ty : TyView} {m : Meaning} {next : Value → Meaning} →
+    Sound heap first between a m →
     ((new : Heap) (v : Value) → Grows heap new → IsOf new a v → Sound new between last ty (next v)) → Sound heap first last ty (m >>= next)
 unfolding ◌>>=◌
 sound_then {heap = heap} {between = between} {last = last} {a = a} {ty = ty} {m = m} {next = next} h k = record {
@@ -105,7 +107,8 @@ unfolding answer
 sound_answer line (Gives z) h = sound_give (Num z) h
 sound_answer line (Traps trap) h = sound_stop (Trapped trap line)
 
-pub sound_attempt : {A : Type 0} {heap : Heap} {first last : List Local} {ty : TyView} {next : A → Meaning} (P : A → Type 0) (line : Line) (a : Attempt A) →
+pub sound_attempt : {A : Type 0} {heap : Heap} {first last : List Local} {ty : TyView} {next : A → Meaning} (P : A → Type 0) (line : Line)
+    (a : Attempt A) →
     OnYield P a → ((x : A) → P x → Sound heap first last ty (next x)) → Sound heap first last ty (attempt line a next)
 unfolding attempt
 sound_attempt P line (Yields x) h k = k x h
@@ -124,7 +127,8 @@ abbrev pub IsNext : Heap → Heap → Type 0
 IsNext heap new = Grows heap new × IsTypedHeap new
 
 comes_put : (locals : List Local) (line : Line) (a : Attempt Heap) (frame : Frame) (state : State) → OnYield (IsNext state.store.heap) a →
-    IsTypedHeap state.store.heap → AreLocals state.store.heap frame locals → Comes state.store.heap locals types.Void (attempt line a put_heap frame state)
+    IsTypedHeap state.store.heap → AreLocals state.store.heap frame locals →
+    Comes state.store.heap locals types.Void (attempt line a put_heap frame state)
 unfolding attempt put_heap stop
 comes_put locals line (Yields new) frame state h typed are =
     record { grows = h.0; typed = h.1; are = locals_kept state.store.heap new h.0 frame locals are; value = tt }
@@ -152,6 +156,14 @@ sound_made {heap = heap} {locals = locals} denoting object h k = record {
         are = locals_kept old new (grows_new old object) frame locals are;
         value = k new (new_number old) (at_new old object);
       };
+}
+
+pub sound_made_text : {heap : Heap} {locals : List Local} (bytes : List ℕ) → is_string bytes ≡ true →
+    Sound heap locals locals types.Str (made_text bytes)
+unfolding made_text
+sound_made_text bytes short = record {
+  runs = λ frame state g typed are.
+      record { grows = grows_not state.store.heap; typed = typed; are = are; value = short };
 }
 
 sound_emit : {heap : Heap} {locals : List Local} (bytes : List ℕ) → Sound heap locals locals types.Void (emit bytes)

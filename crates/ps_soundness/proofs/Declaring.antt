@@ -58,7 +58,8 @@ mutual
   climbs_all (typed.AreTyped.one_more {free = free} {between = between} {free' = last} first others) =
       climbs_then free between last (climbs first) (climbs_all others)
 
-  climbs_items : {env last : Env} {free behind : Free} {before ty : TyView} {items : Nodes} → AreItems env free before items ty last behind → Climbs free behind
+  climbs_items : {env last : Env} {free behind : Free} {before ty : TyView} {items : Nodes} → AreItems env free before items ty last behind →
+      Climbs free behind
   climbs_items (typed.at_end {free = free}) = climbs_not free
   climbs_items (typed.a_clause {free = free} {between = between} {free' = last} first others) =
       climbs_then free between last (climbs first) (climbs_items others)
@@ -98,7 +99,8 @@ declared_over (typed.as_kept name scopes is) heap frame h = h
 
 -- the initial value of a name is of its type
 pub declared_sound : {env with_name : Env} {free behind : Free} {place : Place} {ty : TyView} → Declares env free place ty with_name behind →
-    IsPlain place → AllBelow env.locals free → (heap : Heap) (v : Value) → IsOf heap ty v → Sound heap env.locals with_name.locals types.Void (set place ty v)
+    IsPlain place → AllBelow env.locals free → (heap : Heap) (v : Value) → IsOf heap ty v →
+    Sound heap env.locals with_name.locals types.Void (set place ty v)
 declared_sound (typed.as_local {env = env} {free = free} {slot = slot} {ty = ty} e) plain below heap v h =
     sound_set slot ty v (λ new frame g are.
     (slot_has new frame ty slot v (of_kept heap new g ty v h), free_slot new frame free ty slot v env.locals (omega (arith, e)) below are))

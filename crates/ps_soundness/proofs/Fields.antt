@@ -107,6 +107,14 @@ typed_with_field told heap class position ty values v h is s = record {
   are = fields_set heap s.fields values position ty v (at_its_field told heap class position ty values h s) is s.are;
 }
 
+-- the form of a field of a class
+pub form_in_field : (class : List ℕ) (position : ℕ) (ty : TyView) → HasField class position ty →
+    form_in (forms_of class) position ≡ Some (form_of_type ty)
+form_in_field class position ty h =
+    ap (λ (text : List ℕ). form_in (forms_of text) position) h.class.text_is
+    ∙ ap (λ (forms : List Form). form_in forms position) (class-told h.class.name h.class.fields h.class.named) ∙ form_at h.class.fields position ty
+    h.at
+
 pub kept_in_field : (heap : Heap) (class : List ℕ) (position : ℕ) (ty : TyView) (v : Value) → HasField class position ty → IsOf heap ty v →
     kept_as (form_in (forms_of class) position) v ≡ v
 kept_in_field heap class position ty v h is =
@@ -115,7 +123,8 @@ kept_in_field heap class position ty v h is =
     ∙ ap (λ (f : Option Form). kept_as f v) (form_at h.class.fields position ty h.at) ∙ kept_by_type heap ty v is
 
 -- elements
-pub all_at : {A : Type 0} (P : A → Type 0) (values : List A) (n : ℕ) (other : A) → AllByRecursion P values → n < length values → P (get_or values n other)
+pub all_at : {A : Type 0} (P : A → Type 0) (values : List A) (n : ℕ) (other : A) → AllByRecursion P values → n < length values →
+    P (get_or values n other)
 all_at P [] n other h below = absurd (omega arith)
 all_at P (v ∷ vs) zero other h below = h.0
 all_at P (v ∷ vs) (suc n) other h below = all_at P vs n other h.1 (omega arith)

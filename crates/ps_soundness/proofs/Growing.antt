@@ -86,7 +86,8 @@ pub all_kept : (heap new : Heap) → Grows heap new → (ty : TyView) (values : 
 all_kept heap new g ty [] h = tt
 all_kept heap new g ty (v ∷ vs) h = (of_kept heap new g ty v h.0, all_kept heap new g ty vs h.1)
 
-pub locals_kept : (heap new : Heap) → Grows heap new → (frame : Frame) (locals : List Local) → AreLocals heap frame locals → AreLocals new frame locals
+pub locals_kept : (heap new : Heap) → Grows heap new → (frame : Frame) (locals : List Local) → AreLocals heap frame locals →
+    AreLocals new frame locals
 locals_kept heap new g frame [] h = tt
 locals_kept heap new g frame (local ∷ locals) h =
     (of_kept heap new g local.ty (local_of frame local.ty local.slot) h.0, locals_kept heap new g frame locals h.1)
@@ -135,7 +136,8 @@ typed_new heap new typed h id object e = typed_found heap (with_new heap new) ne
     of (inr k) = inr k
 
 -- another object of the same sort under a number
-stays_set : (heap : Heap) (id at : ℕ) (old new object : Object) → object_at heap id ≡ Some old → IsSameSort old new → object_at heap at ≡ Some object →
+stays_set : (heap : Heap) (id at : ℕ) (old new object : Object) → object_at heap id ≡ Some old → IsSameSort old new →
+    object_at heap at ≡ Some object →
     Stays (set heap id new) at object
 stays_set [] id at old new object was sort e = absurd (no_object object e)
 stays_set (o ∷ os) zero zero old new object was sort e =

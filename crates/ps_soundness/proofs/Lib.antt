@@ -8,6 +8,7 @@ pub mod Objects
 pub mod Loops
 pub mod Sequences
 pub mod Reading
+pub mod Valued
 pub mod Rules
 pub mod Declaring
 pub mod Clauses

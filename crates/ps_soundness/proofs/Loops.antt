@@ -29,7 +29,7 @@ first_true : (a b : Bool) → (a && b) ≡ true → a ≡ true
 first_true true b e = refl
 first_true false b e = e
 
-goes_on_int : (limit step z : ℤ) → goes_on limit step z ≡ true → is_int z ≡ true
+pub goes_on_int : (limit step z : ℤ) → goes_on limit step z ≡ true → is_int z ≡ true
 goes_on_int limit step z e = first_true (is_int z) (if is_up step then int_le z limit else int_le limit z) e
 
 -- a number in a local leaves these locals typed, from each heap on
@@ -76,4 +76,5 @@ sound_for {heap = heap} n line slot control spares sets counts ha hb hc clause e
     sound_then (ha heap) (λ h1 start g1 is1. sound_then (spares slot (omega arith) h1 start) (λ h2 u g2 is2.
     sound_then (hb h2) (λ h3 limit g3 is3. sound_then (spares (slot + 1) (omega arith) h3 limit) (λ h4 v g4 is4.
     sound_then (hc h4) (λ h5 step g5 is5. sound_then (spares (slot + 2) (omega arith) h5 step) (λ h6 w g6 is6.
-    sound_for_loop n line (record { slot = slot; control = control; limit = word_of limit; step = word_of step }) sets counts clause ends (word_of start)))))))
+    sound_for_loop n line (record { slot = slot; control = control; limit = word_of limit; step = word_of step }) sets counts clause ends
+    (word_of start)))))))

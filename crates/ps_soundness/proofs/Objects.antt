@@ -29,7 +29,8 @@ read_where told heap class text n ty values true e h s =
 read_where told heap class text n ty values false e h s = tt
 
 read_of : (told : Told) (heap : Heap) (class : List ℕ) (n : ℕ) (ty : TyView) (id : ℕ) (found : Option Object) → object_at heap id ≡ found →
-    IsTypedHeap heap → HasField class n ty → OnYield (IsOf heap ty) (if is_of found class then Yields (value_at (fields_in found) n) else Fails WrongClass)
+    IsTypedHeap heap → HasField class n ty → OnYield (IsOf heap ty)
+    (if is_of found class then Yields (value_at (fields_in found) n) else Fails WrongClass)
 read_of told heap class n ty id None e typed h = tt
 read_of told heap class n ty id (Some (Structure text values)) e typed h =
     read_where told heap class text n ty values (is_same_text text class) refl h (typed id (Structure text values) e)
@@ -55,7 +56,8 @@ written_where told heap class text n ty v id values true e at typed h is =
     )
 written_where told heap class text n ty v id values false e at typed h is = tt
 
-written_of : (told : Told) (heap : Heap) (class : List ℕ) (n : ℕ) (ty : TyView) (v : Value) (id : ℕ) (found : Option Object) → object_at heap id ≡ found →
+written_of : (told : Told) (heap : Heap) (class : List ℕ) (n : ℕ) (ty : TyView) (v : Value) (id : ℕ) (found : Option Object) →
+    object_at heap id ≡ found →
     IsTypedHeap heap → HasField class n ty → IsOf heap ty v →
     OnYield (IsNext heap) (if is_of found class then Yields (with_object heap id (Structure class (set (fields_in found) n v))) else Fails WrongClass)
 written_of told heap class n ty v id None e typed h is = tt
@@ -63,7 +65,8 @@ written_of told heap class n ty v id (Some (Structure text values)) e typed h is
     written_where told heap class text n ty v id values (is_same_text text class) refl e typed h is
 written_of told heap class n ty v id (Some (Elements text low values)) e typed h is = tt
 
-with_field_yields : (told : Told) (heap : Heap) (o : Value) (class : List ℕ) (n : ℕ) (ty : TyView) (v : Value) → IsTypedHeap heap → HasField class n ty →
+with_field_yields : (told : Told) (heap : Heap) (o : Value) (class : List ℕ) (n : ℕ) (ty : TyView) (v : Value) → IsTypedHeap heap →
+    HasField class n ty →
     IsOf heap ty v → OnYield (IsNext heap) (with_field heap o class n v)
 unfolding with_field
 with_field_yields told heap Nil class n ty v typed h is = tt
@@ -113,7 +116,8 @@ pub element_yields : (told : Told) (heap : Heap) (v : Value) (element : TyView) 
     OnYield (IsOf heap element) (element_at heap v at)
 unfolding element_at
 element_yields told heap (Vector id) element at typed h =
-    subst (λ (found : Option Object). OnYield (IsOf heap element) (found_at (place_of (low_in found) (length (elements_in found)) at) (elements_in found)))
+    subst (λ (found : Option Object). OnYield (IsOf heap element)
+    (found_at (place_of (low_in found) (length (elements_in found)) at) (elements_in found)))
     (sym h.is) (found_yields (IsOf heap element) (place_of h.low (length h.elements) at) h.elements (place_is_below (length h.elements) (at -ℤ h.low))
     (elements_are told heap element h.low h.elements (typed_at heap (types.Vector element) id h typed)))
 element_yields told heap v element at typed h = absurd h
@@ -138,7 +142,8 @@ put_yields told heap element id (Some n) v typed h is =
     let new = Elements text h.low (set h.elements n v) in
     let typed_new = typed_with_element told heap element h.low h.elements n v is (typed_at heap (types.Vector element) id h typed) in
     let same = length-set h.elements n v in
-    subst (λ (found : Option Object). IsNext heap (with_object heap id (Elements (type_in found) (low_in found) (set (elements_in found) n v)))) (sym h.is)
+    subst (λ (found : Option Object). IsNext heap (with_object heap id (Elements (type_in found) (low_in found) (set (elements_in found) n v))))
+    (sym h.is)
     (grows_set heap id old new h.is (refl, refl, same), typed_set heap id old new h.is (refl, refl, same) typed typed_new)
 
 with_element_yields : (told : Told) (heap : Heap) (v : Value) (element : TyView) (at : ℤ) (e : Value) → IsTypedHeap heap →
@@ -168,7 +173,8 @@ low_is_int heap (Vector id) element typed h =
     ap (λ (found : Option Object). is_int (low_in found)) h.is ∙ (typed_at heap (types.Vector element) id h typed).low_is
 low_is_int heap v element typed h = absurd h
 
-pub high_in_range : (heap : Heap) (v : Value) (element : TyView) → IsTypedHeap heap → IsOf heap (types.Vector element) v → is_int (high_of heap v) ≡ true
+pub high_in_range : (heap : Heap) (v : Value) (element : TyView) → IsTypedHeap heap → IsOf heap (types.Vector element) v →
+    is_int (high_of heap v) ≡ true
 unfolding high_of low_of
 high_in_range heap (Vector id) element typed h =
     ap (λ (found : Option Object). is_int (low_in found +ℤ (pos (length (elements_in found)) -ℤ pos 1))) h.is
@@ -183,7 +189,8 @@ pub record IsNewVector (heap : Heap) (element : TyView) (object : Object) : Type
   pub typed : IsTypedObject heap object
 
 made_where : (heap : Heap) (element : TyView) (low : ℤ) (elements : List Value) (b : Bool) → is_vector low (length elements) ≡ b → is_int low ≡ true →
-    AllByRecursion (IsOf heap element) elements → OnYield (IsNewVector heap element) (is_made b (Elements (type_text (types.Vector element)) low elements))
+    AllByRecursion (IsOf heap element) elements → OnYield (IsNewVector heap element)
+    (is_made b (Elements (type_text (types.Vector element)) low elements))
 made_where heap element low elements true e is are = record {
   low = low;
   elements = elements;
@@ -192,7 +199,8 @@ made_where heap element low elements true e is are = record {
 }
 made_where heap element low elements false e is are = tt
 
-pub vector_yields : (heap : Heap) (element : TyView) (low : ℤ) (elements : List Value) → is_int low ≡ true → AllByRecursion (IsOf heap element) elements →
+pub vector_yields : (heap : Heap) (element : TyView) (low : ℤ) (elements : List Value) → is_int low ≡ true →
+    AllByRecursion (IsOf heap element) elements →
     OnYield (IsNewVector heap element) (vector_of (type_text (types.Vector element)) low elements)
 unfolding vector_of
 vector_yields heap element low elements is are = made_where heap element low elements (is_vector low (length elements)) refl is are
@@ -202,6 +210,7 @@ pub filled_yields : (heap : Heap) (element : TyView) (low high : ℤ) (v : Value
     (filled_vector (type_text (types.Vector element)) low high (kept_as (Some (element_of (type_text (types.Vector element)))) v))
 unfolding filled_vector
 filled_yields heap element low high v is of =
-    subst (λ (w : Value). OnYield (IsNewVector heap element) (vector_of (type_text (types.Vector element)) low (replicate (count_from (high -ℤ low)) w)))
+    subst (λ (w : Value). OnYield (IsNewVector heap element) (vector_of (type_text (types.Vector element)) low
+    (replicate (count_from (high -ℤ low)) w)))
     (sym (kept_in_vector heap element v of))
     (vector_yields heap element low (replicate (count_from (high -ℤ low)) v) is (all_same (IsOf heap element) (count_from (high -ℤ low)) v of))

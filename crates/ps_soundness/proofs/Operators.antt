@@ -84,7 +84,8 @@ decimal_is_string z h =
     let few = length_signed_le 10 z (omega arith) (omega arith) in
     is_short (signed_decimal z) (omega arith)
 
-joined : (bytes : List ℕ) (b : Bool) → is_string bytes ≡ b → OnYield (λ (text : List ℕ). is_string text ≡ true) (if b then Yields bytes else Fails TooLong)
+joined : (bytes : List ℕ) (b : Bool) → is_string bytes ≡ b → OnYield (λ (text : List ℕ). is_string text ≡ true)
+    (if b then Yields bytes else Fails TooLong)
 joined bytes true e = e
 joined bytes false e = tt
 
@@ -96,11 +97,13 @@ part_is_string text before count h =
     let short = ltb-true (length text) (2 ^ 16) h in
     is_short (take count (drop before text)) (omega (arith, length-take count (drop before text), length-drop before text))
 
-parted : (bytes : List ℕ) (b : Bool) → is_string bytes ≡ true → OnYield (λ (text : List ℕ). is_string text ≡ true) (if b then Fails Substring else Yields bytes)
+parted : (bytes : List ℕ) (b : Bool) → is_string bytes ≡ true →
+    OnYield (λ (text : List ℕ). is_string text ≡ true) (if b then Fails Substring else Yields bytes)
 parted bytes true e = tt
 parted bytes false e = e
 
-pub part_yields : (text : List ℕ) (from count : ℤ) → is_string text ≡ true → OnYield (λ (part : List ℕ). is_string part ≡ true) (part_of text from count)
+pub part_yields : (text : List ℕ) (from count : ℤ) → is_string text ≡ true →
+    OnYield (λ (part : List ℕ). is_string part ≡ true) (part_of text from count)
 part_yields text (pos (suc before)) (pos count) h =
     parted (take count (drop before text)) (nat_lt (length text) (before + count)) (part_is_string text before count h)
 part_yields text (pos zero) count h = tt

@@ -112,7 +112,8 @@ free_slot heap frame free ty slot v [] low below h = tt
 free_slot heap frame free ty slot v (local ∷ locals) low below h =
     (of (old_or_new frame (is_number ty) slot v (is_number local.ty) local.slot), free_slot heap frame free ty slot v locals low below.1 h.1)
   where
-    of : IsOldOrNew frame (is_number ty) slot v (is_number local.ty) local.slot → IsOf heap local.ty (local_of (frame_with frame ty slot v) local.ty local.slot)
+    of : IsOldOrNew frame (is_number ty) slot v (is_number local.ty) local.slot →
+        IsOf heap local.ty (local_of (frame_with frame ty slot v) local.ty local.slot)
     of (inl e) = subst (IsOf heap local.ty) (sym e) h.0
     of (inr e) = absurd (next_above free (is_number ty) (is_number local.ty) slot local.slot low below.0 e.0 e.1)
 
@@ -131,9 +132,11 @@ name_set told heap frame slot ty v [] old new h = tt
 name_set told heap frame slot ty v (local ∷ locals) old new h =
     (of (old_or_new frame (is_number ty) slot v (is_number local.ty) local.slot), name_set told heap frame slot ty v locals old new h.1)
   where
-    of : IsOldOrNew frame (is_number ty) slot v (is_number local.ty) local.slot → IsOf heap local.ty (local_of (frame_with frame ty slot v) local.ty local.slot)
+    of : IsOldOrNew frame (is_number ty) slot v (is_number local.ty) local.slot →
+        IsOf heap local.ty (local_of (frame_with frame ty slot v) local.ty local.slot)
     of (inl e) = subst (IsOf heap local.ty) (sym e) h.0
-    of (inr e) = subst (IsOf heap local.ty) (sym e.2) (shared told heap ty local.ty (local_of frame ty slot) v old (subst (IsOf heap local.ty) e.3 h.0) new)
+    of (inr e) = subst (IsOf heap local.ty) (sym e.2) (shared told heap ty local.ty (local_of frame ty slot) v old
+        (subst (IsOf heap local.ty) e.3 h.0) new)
 
 pub slot_has : (heap : Heap) (frame : Frame) (ty : TyView) (slot : ℕ) (v : Value) → IsOf heap ty v →
     IsOf heap ty (local_of (frame_with frame ty slot v) ty slot)

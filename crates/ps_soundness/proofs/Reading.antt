@@ -62,7 +62,8 @@ semicolon_apart : IsApart 59
 semicolon_apart =
     record { int = refl; bool = refl; string = refl; pntr = refl; void = refl; star = refl; begins = refl; arrow = refl; ends = refl; comma = refl }
 
-result_has_none : (mark : ℕ) → IsApart mark → (gives : TyView) → count mark (type_text gives) ≡ 0 → count mark (result_text gives (type_text gives)) ≡ 0
+result_has_none : (mark : ℕ) → IsApart mark → (gives : TyView) → count mark (type_text gives) ≡ 0 →
+    count mark (result_text gives (type_text gives)) ≡ 0
 result_has_none mark a types.Void h = refl
 result_has_none mark a gives h = none_of_two mark (codes "->") (type_text gives) a.arrow h
 
@@ -239,7 +240,8 @@ class_count : (name : List ℕ) (field : Field) (fields : List Field) →
     count 59 (class_text name (field ∷ fields)) ≡ count 59 name + count 59 field.name + (length fields + in_names fields)
 class_count name field fields =
     let whole = count-append 59 name (40 ∷ (fields_text (field ∷ fields) ++ codes ")")) in
-    let inside = ap (count 59) (append_assoc (field_text field) (further_fields fields) (codes ")")) ∙ field_count field (further_fields fields ++ codes ")") in
+    let inside = ap (count 59) (append_assoc (field_text field) (further_fields fields) (codes ")")) ∙ field_count field
+    (further_fields fields ++ codes ")") in
     let others = further_count fields (codes ")") in
     omega arith
 

@@ -70,7 +70,7 @@ typed_heap (suc zero) object e = subst (IsTypedObject heap) (one_object two_ints
 typed_heap (suc (suc id)) object e = absurd cc
 
 box_class : IsClassText box
-box_class = record { name = codes "box"; fields = fields; named = named; text_is = refl }
+box_class = record { name = codes "box"; fields = fields; named = named; text_is = refl; valued = (tt, (tt, tt)) }
 
 -- the text tells its second field, and how many there are
 second_field : HasField box 1 types.Pntr

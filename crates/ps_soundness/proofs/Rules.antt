@@ -20,7 +20,7 @@ use Rattle.ps_soundness.specs.Shapes.{IsOf, AreOf, IsTypedStructure, IsTypedHeap
 use Rattle.ps_soundness.proofs.Telling.{Told}
 use Rattle.ps_soundness.proofs.Operators.{OnYield, arith_gives, neg_gives, join_yields, part_yields}
 use Rattle.ps_soundness.proofs.Growing.{of_kept}
-use Rattle.ps_soundness.proofs.Combining.{Sound, sound_then, sound_give, sound_nothing, sound_stop, sound_choose, sound_answer, sound_attempt, sound_with_heap, sound_put, sound_made, sound_written}
+use Rattle.ps_soundness.proofs.Combining.{Sound, sound_then, sound_give, sound_nothing, sound_stop, sound_choose, sound_answer, sound_attempt, sound_with_heap, sound_put, sound_made, sound_made_text, sound_written}
 use Rattle.ps_soundness.proofs.Fields.{kept_in_class, all_kept_in_vector}
 use Rattle.ps_soundness.proofs.Reading.{same_types}
 use Rattle.ps_soundness.proofs.Objects.{field_yields, kept_field_yields, element_yields, kept_element_yields, low_is_int, high_in_range, IsNewVector, vector_yields, filled_yields}
@@ -45,7 +45,7 @@ count_args (field ∷ fields) typed.Arguments.no_more h = absurd h
 count_args [] (typed.Arguments.one_more rest) h = absurd h
 count_args (field ∷ fields) (typed.Arguments.one_more rest) h = omega (arith, count_args fields rest h)
 
-as_many : {args : Nodes} {tys : TyViews} {claims : List Claim} (fields others : List Field) → Arguments args tys claims → AreAsMany args fields →
+pub as_many : {args : Nodes} {tys : TyViews} {claims : List Claim} (fields others : List Field) → Arguments args tys claims → AreAsMany args fields →
     tys ≡ types_of_fields others → length fields ≡ length others
 as_many fields others are many e = sym (count_args fields are many) ∙ ap count e ∙ count_fields others
 
@@ -55,13 +55,15 @@ values_are heap [] (v ∷ vs) h = absurd h
 values_are heap (f ∷ fs) [] h = absurd h
 values_are heap (f ∷ fs) (v ∷ vs) h = (h.0, values_are heap fs vs h.1)
 
-made_typed : (told : Told) (heap : Heap) (class : List ℕ) (args : Nodes) (tys : TyViews) (claims : List Claim) (vs : List Value) → HasAsMany class args →
+made_typed : (told : Told) (heap : Heap) (class : List ℕ) (args : Nodes) (tys : TyViews) (claims : List Claim) (vs : List Value) →
+    HasAsMany class args →
     IsClass class tys → Arguments args tys claims → ValuesOf heap tys vs → IsTypedStructure heap class (kept_all (forms_of class) vs)
 made_typed told heap class args tys claims vs h (name, others, text_is, tys_are) are of =
     let many = as_many h.class.fields others are h.are tys_are in
     let same = same_types told h.class.name name h.class.fields others h.class.named many (sym h.class.text_is ∙ text_is) in
     let values = values_are heap h.class.fields vs (subst (λ (ts : TyViews). ValuesOf heap ts vs) (tys_are ∙ sym same) of) in
-    let kept = ap (λ (text : List ℕ). kept_all (forms_of text) vs) h.class.text_is ∙ kept_in_class heap h.class.name h.class.fields vs h.class.named values in
+    let kept = ap (λ (text : List ℕ). kept_all (forms_of text) vs) h.class.text_is ∙ kept_in_class heap h.class.name h.class.fields vs h.class.named
+    values in
     record {
       name = h.class.name;
       fields = h.class.fields;
@@ -88,7 +90,8 @@ bound_is : (heap : Heap) (v : Value) (element : TyView) (upper : Bool) → IsTyp
 bound_is heap v element true typed h = high_in_range heap v element typed h
 bound_is heap v element false typed h = low_is_int heap v element typed h
 
-pub rule_sound : (told : Told) {locals : List Local} {t : Node} {claims : List Claim} {ty : TyView} → Rule t claims ty → AreSound locals claims → Runs t →
+pub rule_sound : (told : Told) {locals : List Local} {t : Node} {claims : List Claim} {ty : TyView} → Rule t claims ty → AreSound locals claims →
+    Runs t →
     (c : Context) (heap : Heap) → Sound heap locals locals ty (eval c t)
 unfolding eval
 rule_sound told (typed.int {v = v}) h r c heap = sound_give (Num v) r
@@ -122,12 +125,13 @@ rule_sound told (typed.is {class = class} of_class) h r c heap =
     sound_then (h.0 r.1 c heap) (λ h1 v g is. sound_with_heap (λ now k typed. sound_give (Flag (is_class now v class)) tt))
 rule_sound told (typed.join {line = line}) h r c heap =
     sound_then (h.0 r.0 c heap) (λ h1 v g is. sound_then (h.1.0 r.1 c h1)
-    (λ h2 w k of. sound_attempt (λ (bytes : List ℕ). is_string bytes ≡ true) line (join_of (bytes_of v) (bytes_of w)) (join_yields (bytes_of v) (bytes_of w))
-    (λ bytes short. sound_give (Text bytes) short)))
+    (λ h2 w k of. sound_attempt (λ (bytes : List ℕ). is_string bytes ≡ true) line (join_of (bytes_of v) (bytes_of w))
+    (join_yields (bytes_of v) (bytes_of w))
+    (λ bytes short. sound_made_text bytes short)))
 rule_sound told (typed.part {line = line}) h r c heap =
     sound_then (h.0 r.0 c heap) (λ h1 v g is. sound_then (h.1.0 r.1 c h1) (λ h2 from k of. sound_then (h.1.1.0 r.2 c h2)
     (λ h3 count l some. sound_attempt (λ (bytes : List ℕ). is_string bytes ≡ true) line (part_of (bytes_of v) (word_of from) (word_of count))
-    (part_yields (bytes_of v) (word_of from) (word_of count) (text_of h1 v is)) (λ bytes short. sound_give (Text bytes) short))))
+    (part_yields (bytes_of v) (word_of from) (word_of count) (text_of h1 v is)) (λ bytes short. sound_made_text bytes short))))
 rule_sound told (typed.make {class = class} is are) h r c heap = sound_make told c class r.0 is are h r.1
 rule_sound told (typed.field {class = class} {index = index} {t = t} {line = line} is_field) h r c heap =
     sound_then (h.0 r.1 c heap) (λ h1 o g is. sound_with_heap (λ now k typed.
@@ -142,7 +146,7 @@ rule_sound told (typed.fill {t = t} {line = line} isnt) h r c heap =
     (filled_vector (type_text (types.Vector t)) (word_of low) (word_of high) (kept_as (Some (element_of (type_text (types.Vector t)))) v))
     (filled_yields h3 t (word_of low) (word_of high) v (int_of h1 low is) such) (λ object new. sound_vector t object new))))
 rule_sound told (typed.elems {items = items} {t = t} {line = line}) h r c heap =
-    sound_then (h.0 r.0 c heap) (λ h1 low g is. sound_items c t items h.1 r.1 (λ h2 vs k are.
+    sound_then (h.0 r.1 c heap) (λ h1 low g is. sound_items c t items h.1 r.2 (λ h2 vs k are.
     sound_attempt (IsNewVector h2 t) line (vector_of (type_text (types.Vector t)) (word_of low) (kept_elements (type_text (types.Vector t)) vs))
     (subst (λ (ws : List Value). OnYield (IsNewVector h2 t) (vector_of (type_text (types.Vector t)) (word_of low) ws))
     (sym (all_kept_in_vector h2 t vs are)) (vector_yields h2 t (word_of low) vs (int_of h1 low is) are))
@@ -163,6 +167,7 @@ rule_sound told (typed.bound {upper = upper} {t = t}) h r c heap =
 rule_sound told (typed.call are) h r c heap = absurd r
 rule_sound told (typed.lib {code = code} {tys = tys} {t = t} is are) h r c heap =
     sound_args c are h r.1 (λ new vs g of. sound_lib code tys t is.0 vs is.1 r.0 of)
-rule_sound told (typed.write {t = t} {line = line} writable) h r c heap = sound_then (h.0 r.0 c heap) (λ h1 v g is. sound_written line None (shown t v))
+rule_sound told (typed.write {t = t} {line = line} writable) h r c heap =
+    sound_then (h.0 r.0 c heap) (λ h1 v g is. sound_written line None (shown t v))
 rule_sound told (typed.write_wide {t = t} {line = line} writable) h r c heap =
     sound_then (h.0 r.0 c heap) (λ h1 v g is. sound_then (h.1.0 r.1 c h1) (λ h2 w k of. sound_written line (Some (word_of w)) (shown t v)))

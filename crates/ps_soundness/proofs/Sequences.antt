@@ -22,7 +22,7 @@ use Rattle.ps_soundness.specs.Running.{Runs, AllRun, ArmsRun}
 use Rattle.ps_soundness.specs.Shapes.{IsOf, Grows}
 use Rattle.ps_soundness.proofs.Operators.{length_is_int, decimal_is_string}
 use Rattle.ps_soundness.proofs.Growing.{grows_not, grows_then, of_kept}
-use Rattle.ps_soundness.proofs.Combining.{Sound, sound_then, sound_give, sound_choose}
+use Rattle.ps_soundness.proofs.Combining.{Sound, sound_then, sound_give, sound_made_text, sound_choose}
 
 -- a clause that runs comes to a value of the type that it is to have, from each heap on
 abbrev pub SoundClaim : List Local → Claim → Type 0
@@ -73,7 +73,8 @@ sound_items {heap = heap} c t (more item items) h r k =
     sound_then (h.0 r.0 c heap) (λ new v g is. sound_items c t items h.1 r.1
     (λ last vs more_grows are. k last (v ∷ vs) (grows_then heap new last g more_grows) (of_kept new last more_grows t v is, are)))
 
-pub sound_labels : {heap : Heap} {locals : List Local} (c : Context) (value : TyView) (v : Value) (labels : Nodes) → AreSound locals (all_have value labels) →
+pub sound_labels : {heap : Heap} {locals : List Local} (c : Context) (value : TyView) (v : Value) (labels : Nodes) →
+    AreSound locals (all_have value labels) →
     AllRun labels → Sound heap locals locals types.Bool (eval_labels c value v labels)
 unfolding eval_labels
 sound_labels c value v none h r = sound_give (Flag false) tt
@@ -158,6 +159,12 @@ library_tells = (
   ),
 )
 
+-- what `length` and `iformat` take and give
+pub library_says : (code : ℕ) (tys : TyViews) (ty : TyView) (name : List ℕ) → lookup procedures name ≡ Some (library (plain code tys ty)) →
+    (code ≡ 11 → (tys ≡ types.more types.Str types.none) × (ty ≡ types.Int)) ×
+    (code ≡ 12 → (tys ≡ types.more types.Int types.none) × (ty ≡ types.Str))
+library_says code tys ty name found = tells procedures name (library (plain code tys ty)) library_tells found
+
 sound_length : {heap : Heap} {locals : List Local} (vs : List Value) → ValuesOf heap (types.more types.Str types.none) vs →
     Sound heap locals locals types.Int (lib_meant 11 vs)
 sound_length [] h = absurd h
@@ -167,7 +174,7 @@ sound_length (v ∷ w ∷ vs) h = absurd h.1
 sound_iformat : {heap : Heap} {locals : List Local} (vs : List Value) → ValuesOf heap (types.more types.Int types.none) vs →
     Sound heap locals locals types.Str (lib_meant 12 vs)
 sound_iformat [] h = absurd h
-sound_iformat {heap = heap} (v ∷ []) h = sound_give (Text (signed_decimal (word_of v))) (decimal_is_string (word_of v) (int_of heap v h.0))
+sound_iformat {heap = heap} (v ∷ []) h = sound_made_text (signed_decimal (word_of v)) (decimal_is_string (word_of v) (int_of heap v h.0))
 sound_iformat (v ∷ w ∷ vs) h = absurd h.1
 
 pub sound_lib : {heap : Heap} {locals : List Local} (code : ℕ) (tys : TyViews) (ty : TyView) (name : List ℕ) (vs : List Value) →

@@ -1,3 +1,4 @@
+pub mod Valued
 pub mod Running
 pub mod Shapes
 pub mod Free

@@ -1,7 +1,8 @@
 -- Which typed clauses run without procedures: all but those over scopes, procedures, tables and databases. A literal is an int or a string, and
 -- a class has names of a text, the field that a clause names, and as many fields as a clause gives values, as in each tree of a text. Where names
--- may be any bytes, one text can be read as that of several classes.
+-- may be any bytes, one text can be read as that of several classes. Fields and elements are of types that have values.
 use Rattle.std.specs.Prelude.{◌≡◌, ◌⊎◌, ℕ, true, None, List, [], ◌∷◌}
+use Rattle.std.specs.List.{AllByRecursion}
 use Rattle.ps_base.specs.TyView.{TyView}
 use Rattle.ps_program.specs.declared.place.Place.{Place}
 use Rattle.ps_program.specs.declared.place.Place.TheVariants.{Plain, Kept}
@@ -11,6 +12,7 @@ use Rattle.ps_type_text.specs.Texts.{Field, class_text, IsNamed}
 use Rattle.ps_typing.specs.WellTyped.{At, IsOfType}
 use Rattle.ps_meaning.specs.Operators.{is_int}
 use Rattle.ps_meaning.specs.Texts.{is_string}
+use Rattle.ps_soundness.specs.Valued.{IsValued}
 
 abbrev pub IsPlain : Place → Type 0
 IsPlain (Plain slot) = Unit {0}
@@ -22,6 +24,7 @@ pub record IsClassText (text : List ℕ) : Type 0 where
   pub fields : List Field
   pub named : IsNamed name fields
   pub text_is : text ≡ class_text name fields
+  pub valued : AllByRecursion (λ field. IsValued field.ty) fields
 
 -- the class has a field of this type at this position
 pub record HasField (text : List ℕ) (position : ℕ) (ty : TyView) : Type 0 where
@@ -71,7 +74,7 @@ abbrev mutual
   Runs (node.Field e class index ty line) = HasField class index ty × Runs e
   Runs (node.SetField p class index ty e line) = HasField class index ty × Runs p × Runs e
   Runs (node.Fill l u e ty line) = Runs l × Runs u × Runs e
-  Runs (node.Elems l items ty line) = Runs l × AllRun items
+  Runs (node.Elems l items ty line) = IsValued ty × Runs l × AllRun items
   Runs (node.Element v i ty line) = Runs v × Runs i
   Runs (node.SetElement v i e ty line) = Runs v × Runs i × Runs e
   Runs (node.Bound v upper) = Runs v

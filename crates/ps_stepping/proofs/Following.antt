@@ -5,22 +5,26 @@ use Rattle.ps_stepping.specs.Config.{Config}
 use Rattle.ps_stepping.specs.Machine.{Goes, Stops, Stuck, Steps, Runs, goes, stops}
 use Rattle.ps_stepping.proofs.Determined.{one_step}
 
-same_goes : (events events' : List Event) (next next' : Config) (P : List Event → Config → Type 0) → Goes events next ≡ Goes events' next' → P events next → P events' next'
+same_goes : (events events' : List Event) (next next' : Config) (P : List Event → Config → Type 0) → Goes events next ≡ Goes events' next' →
+    P events next → P events' next'
 same_goes events events' next next' P e p =
     let one : events ≡ events' = cc in
     let two : next ≡ next' = cc in
     subst (λ (es : List Event). P es next') one (subst (λ (n : Config). P events n) two p)
 
-pub follow : (total : List Event) (c next : Config) (so_far events : List Event) → Runs total c so_far → Steps c (Goes events next) → Runs total next (so_far ++ events)
-follow total c next so_far events (goes {next = next'} {events = events'} s r) t = same_goes events' events next' next (λ es n. Runs total n (so_far ++ es)) (one_step c _ _ s t) r
+pub follow : (total : List Event) (c next : Config) (so_far events : List Event) → Runs total c so_far → Steps c (Goes events next) →
+    Runs total next (so_far ++ events)
+follow total c next so_far events (goes {next = next'} {events = events'} s r) t =
+    same_goes events' events next' next (λ es n. Runs total n (so_far ++ es)) (one_step c _ _ s t) r
 follow total c next so_far events (stops {e = e} s is) t = absurd (let both : Stops e ≡ Goes events next = one_step c _ _ s t in cc)
 
-pub last_step : (total : List Event) (c : Config) (so_far : List Event) (e : End) → Runs total c so_far → Steps c (Stops e) → total ≡ so_far ++ Finish e ∷ []
+pub last_step : (total : List Event) (c : Config) (so_far : List Event) (e : End) → Runs total c so_far → Steps c (Stops e) →
+    total ≡ so_far ++ Finish e c.store.counted ∷ []
 last_step total c so_far e (goes {next = next} {events = events} s r) t = absurd (let both : Goes events next ≡ Stops e = one_step c _ _ s t in cc)
 last_step total c so_far e (stops {e = e'} s is) t =
     let both : Stops e' ≡ Stops e = one_step c _ _ s t in
     let same : e' ≡ e = cc in
-    is ∙ ap (λ (x : End). so_far ++ Finish x ∷ []) same
+    is ∙ ap (λ (x : End). so_far ++ Finish x c.store.counted ∷ []) same
 
 pub never_stuck : (total : List Event) (c : Config) (so_far : List Event) → Runs total c so_far → Steps c Stuck → ⊥
 never_stuck total c so_far (goes {next = next} {events = events} s r) t = let both : Goes events next ≡ Stuck = one_step c _ _ s t in cc
@@ -30,4 +34,4 @@ never_stuck total c so_far (stops {e = e} s is) t = let both : Stops e ≡ Stuck
 pub front_of_run : (total : List Event) (c : Config) (so_far : List Event) → Runs total c so_far → (rest : List Event) × (total ≡ so_far ++ rest)
 front_of_run total c so_far (goes {next = next} {events = events} s r) =
     let more = front_of_run total next (so_far ++ events) r in (events ++ more.0, more.1 ∙ append_assoc so_far events more.0)
-front_of_run total c so_far (stops {e = e} s is) = (Finish e ∷ [], is)
+front_of_run total c so_far (stops {e = e} s is) = (Finish e c.store.counted ∷ [], is)

@@ -1,6 +1,7 @@
 pub mod Determined
 pub mod Following
 pub mod Paths
+mod Popping
 mod Effects
 mod Rows
 mod ObjectEffects

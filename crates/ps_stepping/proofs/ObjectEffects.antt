@@ -11,35 +11,23 @@ use Rattle.text_forms.specs.declared.forms.Form.{Form}
 use Rattle.text_forms.specs.declared.forms.Form.TheVariants as form
 use Rattle.text_forms.specs.Forms.{forms_of, form_in, element_of}
 use Rattle.ps_meaning.specs.Evaluation.{kept_as, kept_elements, text_relation, object_relation}
-use Rattle.ps_meaning.specs.Event.{Event}
-use Rattle.ps_meaning.specs.Meaning.{Store}
+use Rattle.ps_meaning.specs.Meaning.{Store, and_object, and_text}
 use Rattle.ps_meaning.specs.Texts.{Attempt, Yields, Fails, join_of, part_of}
-use Rattle.ps_meaning.specs.Objects.{Heap, Object, with_new, new_number, is_class, field_of, with_field, vector_of, filled_vector, with_element, low_of, high_of}
+use Rattle.ps_meaning.specs.Objects.{Heap, Object, new_number, is_class, field_of, with_field, vector_of, filled_vector, with_element, low_of, high_of}
 use Rattle.ps_meaning.specs.Objects.{element_of as element_at}
 use Rattle.ps_meaning.specs.Values.{Value, Num, word_of, number_of}
 use Rattle.ps_meaning.specs.Values as value
 use Rattle.ps_stepping.specs.Config.{frame_words, Config, frame_in, constant_at, constants_in}
-use Rattle.ps_stepping.specs.Steps.{Step, Goes, Stuck, on, put_num, push_num, push_ref, pop_num, pop_ref, pop_two, text_of, pop_text, text_in, with_text, attempted}
-use Rattle.ps_stepping.specs.Objects.{on_heap, make, join, part, compare_texts, compare_objects, object_of, pop_object, is_of_class, make_structure, when_number, when_reference, field_num, field_ref, set_field_num, set_field_ref, type_of, of_type, pop_vector, fill_num, fill_ref, pop_nums, pop_refs, list_num, list_ref, element_num, element_ref, set_element_num, set_element_ref, bound, library, acts_on_objects}
+use Rattle.ps_stepping.specs.Steps.{Step, Stuck, on, put_num, push_num, push_ref, pop_num, pop_two, pop_text, text_in, with_text, attempted}
+use Rattle.ps_stepping.specs.Objects.{holding, changed, make, make_text, join, part, compare_texts, denoting_of, pop_denoting, compare_objects, object_of, pop_object, is_of_class, make_structure, when_number, when_reference, field_num, field_ref, set_field_num, set_field_ref, type_of, of_type, pop_vector, fill_num, fill_ref, pop_nums, pop_refs, list_num, list_ref, element_num, element_ref, set_element_num, set_element_ref, bound, library, acts_on_objects}
 use Rattle.ps_stepping.specs.Effects.{Effect, refs, both, effect_of, HasEffect}
-use Rattle.ps_stepping.proofs.Effects.{Does, does_if, popped_num, popped_ref, does_by_name, does_push_ref, moved_on}
+use Rattle.ps_stepping.proofs.Popping.{Does, does_if, popped_num, popped_ref, popped_text, does_by_name, does_push_ref}
 
--- A text, a structure or nil, and a vector are popped.
+-- A structure or nil, nil or any object, and a vector are popped.
 
-popped_text : (e : Effect) (c d : Config) (next : List ℕ → Config → Step) → ((bytes : List ℕ) (rest : List Value) → length d.refs ≡ suc (length rest) → Does e c (next bytes (record d { refs = rest }))) → Does e c (pop_text d next)
-popped_text e c d next h = popped_ref e c d (λ v d. text_of v d next) (λ v rest is. of_value v rest (ap length is))
-  where
-    of_value : (v : Value) (rest : List Value) → length d.refs ≡ suc (length rest) → Does e c (text_of v (record d { refs = rest }) next)
-    of_value (value.Text bytes) rest is = h bytes rest is
-    of_value (value.Num z) rest is = tt
-    of_value (value.Flag b) rest is = tt
-    of_value value.Nil rest is = tt
-    of_value (value.Pointer o) rest is = tt
-    of_value (value.Vector o) rest is = tt
-    of_value (value.Procedure b o) rest is = tt
-    of_value value.Nothing rest is = tt
-
-popped_object : (e : Effect) (c d : Config) (next : Value → Config → Step) → ((v : Value) (rest : List Value) → length d.refs ≡ suc (length rest) → Does e c (next v (record d { refs = rest }))) → Does e c (pop_object d next)
+popped_object : (e : Effect) (c d : Config) (next : Value → Config → Step) →
+    ((v : Value) (rest : List Value) → length d.refs ≡ suc (length rest) → Does e c (next v (record d { refs = rest }))) →
+    Does e c (pop_object d next)
 popped_object e c d next h = popped_ref e c d (λ v d. object_of v d next) (λ v rest is. of_value v rest (ap length is))
   where
     of_value : (v : Value) (rest : List Value) → length d.refs ≡ suc (length rest) → Does e c (object_of v (record d { refs = rest }) next)
@@ -52,14 +40,35 @@ popped_object e c d next h = popped_ref e c d (λ v d. object_of v d next) (λ v
     of_value (value.Procedure b o) rest is = tt
     of_value value.Nothing rest is = tt
 
-popped_vector : (e : Effect) (c d : Config) (next : List ℕ → Value → Config → Step) → ((ty : List ℕ) (v : Value) (rest : List Value) → length d.refs ≡ suc (length rest) → Does e c (next ty v (record d { refs = rest }))) → Does e c (pop_vector d next)
-popped_vector e c d next h = popped_ref e c d (λ v d. of_type (type_of d.store.heap v) (λ ty. next ty v d)) (λ v rest is. of_known (type_of d.store.heap v) v rest (ap length is))
+popped_denoting : (e : Effect) (c d : Config) (next : Value → Config → Step) →
+    ((v : Value) (rest : List Value) → length d.refs ≡ suc (length rest) → Does e c (next v (record d { refs = rest }))) →
+    Does e c (pop_denoting d next)
+popped_denoting e c d next h = popped_ref e c d (λ v d. denoting_of v d next) (λ v rest is. of_value v rest (ap length is))
   where
-    of_known : (ty : Option (List ℕ)) (v : Value) (rest : List Value) → length d.refs ≡ suc (length rest) → Does e c (of_type ty (λ ty. next ty v (record d { refs = rest })))
+    of_value : (v : Value) (rest : List Value) → length d.refs ≡ suc (length rest) → Does e c (denoting_of v (record d { refs = rest }) next)
+    of_value (value.Text bytes) rest is = tt
+    of_value (value.Num z) rest is = tt
+    of_value (value.Flag b) rest is = tt
+    of_value value.Nil rest is = h value.Nil rest is
+    of_value (value.Pointer o) rest is = h (value.Pointer o) rest is
+    of_value (value.Vector o) rest is = h (value.Vector o) rest is
+    of_value (value.Procedure b o) rest is = tt
+    of_value value.Nothing rest is = tt
+
+popped_vector : (e : Effect) (c d : Config) (next : List ℕ → Value → Config → Step) →
+    ((ty : List ℕ) (v : Value) (rest : List Value) → length d.refs ≡ suc (length rest) → Does e c (next ty v (record d { refs = rest }))) →
+    Does e c (pop_vector d next)
+popped_vector e c d next h =
+    popped_ref e c d (λ v d. of_type (type_of d.store.heap v) (λ ty. next ty v d))
+    (λ v rest is. of_known (type_of d.store.heap v) v rest (ap length is))
+  where
+    of_known : (ty : Option (List ℕ)) (v : Value) (rest : List Value) → length d.refs ≡ suc (length rest) →
+        Does e c (of_type ty (λ ty. next ty v (record d { refs = rest })))
     of_known (Some ty) v rest is = h ty v rest is
     of_known None v rest is = tt
 
-does_attempted : {A : Type 0} (e : Effect) (c : Config) (line : Line) (a : Attempt A) (next : A → Step) → ((x : A) → Does e c (next x)) → Does e c (attempted line a next)
+does_attempted : {A : Type 0} (e : Effect) (c : Config) (line : Line) (a : Attempt A) (next : A → Step) → ((x : A) → Does e c (next x)) →
+    Does e c (attempted line a next)
 does_attempted e c line (Yields x) next h = h x
 does_attempted e c line (Fails trap) next h = tt
 
@@ -92,46 +101,58 @@ ends_ref e c d v h = does_if e c (nat_lt ((frame_in d.unit).refs + length d.refs
 
 -- Texts.
 
+-- a new text is pushed
+does_make_text : (e : Effect) (c d : Config) (bytes : List ℕ) →
+    ((v : Value) (store : Store) → HasEffect e c (record d { refs = v ∷ d.refs; store = store })) → Does e c (make_text bytes d)
+does_make_text e c d bytes h = ends_ref e c (holding (and_text bytes d.store) d) (value.Text bytes) (h _ _)
+
 does_join : (line : Line) (c : Config) → Does (refs 2 1) c (join line c)
 does_join line c =
-    popped_text (refs 2 1) c c (λ b d. pop_text d (λ a e. attempted line (join_of a b) (λ bytes. push_ref (value.Text bytes) e)))
-    (λ b rest is. popped_text (refs 2 1) c (record c { refs = rest }) (λ a e. attempted line (join_of a b) (λ bytes. push_ref (value.Text bytes) e))
-    (λ a below is'. does_attempted (refs 2 1) c line (join_of a b) (λ bytes. push_ref (value.Text bytes) (record c { refs = below }))
-    (λ bytes. ends_ref (refs 2 1) c (record c { refs = below }) (value.Text bytes) (record { nums = refl; refs = omega (arith, is, is') }))))
+    popped_text (refs 2 1) c c (λ b d. pop_text d (λ a e. attempted line (join_of a b) (λ bytes. make_text bytes e)))
+    (λ b rest is. popped_text (refs 2 1) c (record c { refs = rest }) (λ a e. attempted line (join_of a b) (λ bytes. make_text bytes e))
+    (λ a below is'. does_attempted (refs 2 1) c line (join_of a b) (λ bytes. make_text bytes (record c { refs = below }))
+    (λ bytes. does_make_text (refs 2 1) c (record c { refs = below }) bytes (λ v store. record { nums = refl; refs = omega (arith, is, is') }))))
 
 does_part : (line : Line) (c : Config) → Does (both 2 0 1 1) c (part line c)
 does_part line c =
-    popped_num (both 2 0 1 1) c c (λ n d. pop_num d (λ i e. pop_text e (λ a f. attempted line (part_of a i n) (λ bytes. push_ref (value.Text bytes) f))))
-    (λ n rest is. popped_num (both 2 0 1 1) c (record c { nums = rest }) (λ i e. pop_text e (λ a f. attempted line (part_of a i n) (λ bytes. push_ref (value.Text bytes) f)))
-    (λ i below is'. popped_text (both 2 0 1 1) c (record c { nums = below }) (λ a f. attempted line (part_of a i n) (λ bytes. push_ref (value.Text bytes) f))
-    (λ a left is''. does_attempted (both 2 0 1 1) c line (part_of a i n) (λ bytes. push_ref (value.Text bytes) (record c { nums = below; refs = left }))
-    (λ bytes. ends_ref (both 2 0 1 1) c (record c { nums = below; refs = left }) (value.Text bytes) (record { nums = omega (arith, ap length is, ap length is'); refs = omega (arith, is'') })))))
+    let e = both 2 0 1 1 in
+    popped_num e c c (λ n d. pop_num d (λ i e. pop_text e (λ a f. attempted line (part_of a i n) (λ bytes. make_text bytes f))))
+    (λ n rest is. popped_num e c (record c { nums = rest }) (λ i e. pop_text e (λ a f. attempted line (part_of a i n) (λ bytes. make_text bytes f)))
+    (λ i below is'. popped_text e c (record c { nums = below }) (λ a f. attempted line (part_of a i n) (λ bytes. make_text bytes f))
+    (λ a left is''. does_attempted e c line (part_of a i n) (λ bytes. make_text bytes (record c { nums = below; refs = left }))
+    (λ bytes. does_make_text e c (record c { nums = below; refs = left }) bytes
+    (λ v store. record { nums = omega (arith, ap length is, ap length is'); refs = omega (arith, is'') })))))
 
 does_compare_texts : (op : Relation) (c : Config) → Does (both 0 1 2 0) c (compare_texts op c)
 does_compare_texts op c =
     popped_text (both 0 1 2 0) c c (λ b d. pop_text d (λ a e. push_num (number_of (text_relation op a b)) e))
     (λ b rest is. popped_text (both 0 1 2 0) c (record c { refs = rest }) (λ a e. push_num (number_of (text_relation op a b)) e)
-    (λ a below is'. ends_num (both 0 1 2 0) c (record c { refs = below }) (number_of (text_relation op a b)) (record { nums = omega arith; refs = omega (arith, is, is') })))
+    (λ a below is'. ends_num (both 0 1 2 0) c (record c { refs = below }) (number_of (text_relation op a b))
+    (record { nums = omega arith; refs = omega (arith, is, is') })))
 
 -- Structures.
 
 does_compare_objects : (op : Relation) (c : Config) → Does (both 0 1 2 0) c (compare_objects op c)
 does_compare_objects op c =
-    popped_ref (both 0 1 2 0) c c (λ w d. pop_ref d (λ v e. push_num (number_of (object_relation op v w)) e))
-    (λ w rest is. popped_ref (both 0 1 2 0) c (record c { refs = rest }) (λ v e. push_num (number_of (object_relation op v w)) e)
-    (λ v below is'. ends_num (both 0 1 2 0) c (record c { refs = below }) (number_of (object_relation op v w)) (record { nums = omega arith; refs = omega (arith, ap length is, ap length is') })))
+    popped_denoting (both 0 1 2 0) c c (λ w d. pop_denoting d (λ v e. push_num (number_of (object_relation op v w)) e))
+    (λ w rest is. popped_denoting (both 0 1 2 0) c (record c { refs = rest }) (λ v e. push_num (number_of (object_relation op v w)) e)
+    (λ v below is'. ends_num (both 0 1 2 0) c (record c { refs = below }) (number_of (object_relation op v w))
+    (record { nums = omega arith; refs = omega (arith, is, is') })))
 
 does_is : (k : ℕ) (c : Config) → Does (both 0 1 1 0) c (is_of_class k c)
 does_is k c =
     does_with_text (both 0 1 1 0) c k (λ class. pop_object c (λ v d. push_num (number_of (is_class d.store.heap v class)) d))
     (λ class. popped_object (both 0 1 1 0) c c (λ v d. push_num (number_of (is_class d.store.heap v class)) d)
-    (λ v rest is. ends_num (both 0 1 1 0) c (record c { refs = rest }) (number_of (is_class c.store.heap v class)) (record { nums = omega arith; refs = omega (arith, is) })))
+    (λ v rest is. ends_num (both 0 1 1 0) c (record c { refs = rest }) (number_of (is_class c.store.heap v class))
+    (record { nums = omega arith; refs = omega (arith, is) })))
 
 does_field_num : (k n : ℕ) (line : Line) (c : Config) → Does (both 0 1 1 0) c (field_num k n line c)
 does_field_num k n line c =
     let e = both 0 1 1 0 in
-    does_with_text e c k (λ class. when_number (form_in (forms_of class) n) (pop_object c (λ v d. attempted line (field_of d.store.heap v class n) (λ w. push_num (word_of w) d))))
-    (λ class. does_number e c (form_in (forms_of class) n) (pop_object c (λ v d. attempted line (field_of d.store.heap v class n) (λ w. push_num (word_of w) d)))
+    does_with_text e c k (λ class. when_number (form_in (forms_of class) n)
+    (pop_object c (λ v d. attempted line (field_of d.store.heap v class n) (λ w. push_num (word_of w) d))))
+    (λ class. does_number e c (form_in (forms_of class) n) (pop_object c
+    (λ v d. attempted line (field_of d.store.heap v class n) (λ w. push_num (word_of w) d)))
     (popped_object e c c (λ v d. attempted line (field_of d.store.heap v class n) (λ w. push_num (word_of w) d))
     (λ v rest is. does_attempted e c line (field_of c.store.heap v class n) (λ w. push_num (word_of w) (record c { refs = rest }))
     (λ w. ends_num e c (record c { refs = rest }) (word_of w) (record { nums = omega arith; refs = omega (arith, is) })))))
@@ -139,8 +160,10 @@ does_field_num k n line c =
 does_field_ref : (k n : ℕ) (line : Line) (c : Config) → Does (refs 1 1) c (field_ref k n line c)
 does_field_ref k n line c =
     let e = refs 1 1 in
-    does_with_text e c k (λ class. when_reference (form_in (forms_of class) n) (pop_object c (λ v d. attempted line (field_of d.store.heap v class n) (λ w. push_ref w d))))
-    (λ class. does_reference e c (form_in (forms_of class) n) (pop_object c (λ v d. attempted line (field_of d.store.heap v class n) (λ w. push_ref w d)))
+    does_with_text e c k (λ class. when_reference (form_in (forms_of class) n)
+    (pop_object c (λ v d. attempted line (field_of d.store.heap v class n) (λ w. push_ref w d))))
+    (λ class. does_reference e c (form_in (forms_of class) n)
+    (pop_object c (λ v d. attempted line (field_of d.store.heap v class n) (λ w. push_ref w d)))
     (popped_object e c c (λ v d. attempted line (field_of d.store.heap v class n) (λ w. push_ref w d))
     (λ v rest is. does_attempted e c line (field_of c.store.heap v class n) (λ w. push_ref w (record c { refs = rest }))
     (λ w. ends_ref e c (record c { refs = rest }) w (record { nums = refl; refs = omega (arith, is) })))))
@@ -150,9 +173,12 @@ does_set_field_num k n line c =
     let e = both 1 0 1 0 in
     does_with_text e c k _
     (λ class. does_number e c (form_in (forms_of class) n) _
-    (popped_num e c c (λ z d. pop_object d (λ v f. attempted line (with_field f.store.heap v class n (kept_as (form_in (forms_of class) n) (Num z))) (λ heap. on (on_heap heap f))))
-    (λ z rest is. popped_object e c (record c { nums = rest }) (λ v f. attempted line (with_field f.store.heap v class n (kept_as (form_in (forms_of class) n) (Num z))) (λ heap. on (on_heap heap f)))
-    (λ v below is'. does_attempted e c line (with_field c.store.heap v class n (kept_as (form_in (forms_of class) n) (Num z))) (λ heap. on (on_heap heap (record c { nums = rest; refs = below })))
+    (popped_num e c c (λ z d. pop_object d (λ v f. attempted line (with_field f.store.heap v class n (kept_as (form_in (forms_of class) n) (Num z)))
+    (λ heap. changed heap f)))
+    (λ z rest is. popped_object e c (record c { nums = rest })
+    (λ v f. attempted line (with_field f.store.heap v class n (kept_as (form_in (forms_of class) n) (Num z))) (λ heap. changed heap f))
+    (λ v below is'. does_attempted e c line (with_field c.store.heap v class n (kept_as (form_in (forms_of class) n) (Num z)))
+    (λ heap. changed heap (record c { nums = rest; refs = below }))
     (λ heap. record { nums = omega (arith, ap length is); refs = omega (arith, is') })))))
 
 does_set_field_ref : (k n : ℕ) (line : Line) (c : Config) → Does (refs 2 0) c (set_field_ref k n line c)
@@ -160,26 +186,32 @@ does_set_field_ref k n line c =
     let e = refs 2 0 in
     does_with_text e c k _
     (λ class. does_reference e c (form_in (forms_of class) n) _
-    (popped_ref e c c (λ w d. pop_object d (λ v f. attempted line (with_field f.store.heap v class n w) (λ heap. on (on_heap heap f))))
-    (λ w rest is. popped_object e c (record c { refs = rest }) (λ v f. attempted line (with_field f.store.heap v class n w) (λ heap. on (on_heap heap f)))
-    (λ v below is'. does_attempted e c line (with_field c.store.heap v class n w) (λ heap. on (on_heap heap (record c { refs = below })))
+    (popped_ref e c c (λ w d. pop_object d (λ v f. attempted line (with_field f.store.heap v class n w) (λ heap. changed heap f)))
+    (λ w rest is. popped_object e c (record c { refs = rest }) (λ v f. attempted line (with_field f.store.heap v class n w) (λ heap. changed heap f))
+    (λ v below is'. does_attempted e c line (with_field c.store.heap v class n w) (λ heap. changed heap (record c { refs = below }))
     (λ heap. record { nums = refl; refs = omega (arith, ap length is, is') })))))
 
 -- Vectors.
 
-does_make : (e : Effect) (c d : Config) (denoting : ℕ → Value) (object : Object) → ((v : Value) (store : Store) → HasEffect e c (record d { refs = v ∷ d.refs; store = store })) → Does e c (make denoting object d)
-does_make e c d denoting object h = ends_ref e c (on_heap (with_new d.store.heap object) d) (denoting (new_number d.store.heap)) (h _ _)
+does_make : (e : Effect) (c d : Config) (denoting : ℕ → Value) (object : Object) →
+    ((v : Value) (store : Store) → HasEffect e c (record d { refs = v ∷ d.refs; store = store })) → Does e c (make denoting object d)
+does_make e c d denoting object h = ends_ref e c (holding (and_object object d.store) d) (denoting (new_number d.store.heap)) (h _ _)
 
 does_fill_num : (k : ℕ) (line : Line) (c : Config) → Does (both 3 0 0 1) c (fill_num k line c)
 does_fill_num k line c =
     let e = both 3 0 0 1 in
     does_with_text e c k _
     (λ ty. does_number e c (Some (element_of ty)) _
-    (popped_num e c c (λ z d. pop_two d (λ low high f. attempted line (filled_vector ty low high (kept_as (Some (element_of ty)) (Num z))) (λ object. make value.Vector object f)))
-    (λ z rest is. popped_num e c (record c { nums = rest }) (λ high d. pop_num d (λ low f. attempted line (filled_vector ty low high (kept_as (Some (element_of ty)) (Num z))) (λ object. make value.Vector object f)))
-    (λ high below is'. popped_num e c (record c { nums = below }) (λ low f. attempted line (filled_vector ty low high (kept_as (Some (element_of ty)) (Num z))) (λ object. make value.Vector object f))
-    (λ low left is''. does_attempted e c line (filled_vector ty low high (kept_as (Some (element_of ty)) (Num z))) (λ object. make value.Vector object (record c { nums = left }))
-    (λ object. does_make e c (record c { nums = left }) value.Vector object (λ v store. record { nums = omega (arith, ap length is, ap length is', ap length is''); refs = omega arith })))))))
+    (popped_num e c c (λ z d. pop_two d (λ low high f. attempted line (filled_vector ty low high (kept_as (Some (element_of ty)) (Num z)))
+    (λ object. make value.Vector object f)))
+    (λ z rest is. popped_num e c (record c { nums = rest }) (λ high d. pop_num d
+    (λ low f. attempted line (filled_vector ty low high (kept_as (Some (element_of ty)) (Num z))) (λ object. make value.Vector object f)))
+    (λ high below is'. popped_num e c (record c { nums = below })
+    (λ low f. attempted line (filled_vector ty low high (kept_as (Some (element_of ty)) (Num z))) (λ object. make value.Vector object f))
+    (λ low left is''. does_attempted e c line (filled_vector ty low high (kept_as (Some (element_of ty)) (Num z)))
+    (λ object. make value.Vector object (record c { nums = left }))
+    (λ object. does_make e c (record c { nums = left }) value.Vector object
+    (λ v store. record { nums = omega (arith, ap length is, ap length is', ap length is''); refs = omega arith })))))))
 
 does_fill_ref : (k : ℕ) (line : Line) (c : Config) → Does (both 2 0 1 1) c (fill_ref k line c)
 does_fill_ref k line c =
@@ -187,18 +219,26 @@ does_fill_ref k line c =
     does_with_text e c k _
     (λ ty. does_reference e c (Some (element_of ty)) _
     (popped_ref e c c (λ v d. pop_two d (λ low high f. attempted line (filled_vector ty low high v) (λ object. make value.Vector object f)))
-    (λ w rest is. popped_num e c (record c { refs = rest }) (λ high d. pop_num d (λ low f. attempted line (filled_vector ty low high w) (λ object. make value.Vector object f)))
-    (λ high below is'. popped_num e c (record c { nums = below; refs = rest }) (λ low f. attempted line (filled_vector ty low high w) (λ object. make value.Vector object f))
-    (λ low left is''. does_attempted e c line (filled_vector ty low high w) (λ object. make value.Vector object (record c { nums = left; refs = rest }))
-    (λ object. does_make e c (record c { nums = left; refs = rest }) value.Vector object (λ v store. record { nums = omega (arith, ap length is', ap length is''); refs = omega (arith, ap length is) })))))))
+    (λ w rest is. popped_num e c (record c { refs = rest }) (λ high d. pop_num d
+    (λ low f. attempted line (filled_vector ty low high w) (λ object. make value.Vector object f)))
+    (λ high below is'. popped_num e c (record c { nums = below; refs = rest })
+    (λ low f. attempted line (filled_vector ty low high w) (λ object. make value.Vector object f))
+    (λ low left is''. does_attempted e c line (filled_vector ty low high w)
+    (λ object. make value.Vector object (record c { nums = left; refs = rest }))
+    (λ object. does_make e c (record c { nums = left; refs = rest }) value.Vector object
+    (λ v store. record { nums = omega (arith, ap length is', ap length is''); refs = omega (arith, ap length is) })))))))
 
-popped_nums : (e : Effect) (n : ℕ) (zs : List ℤ) (c d : Config) (next : List ℤ → Config → Step) → ((ws : List ℤ) (rest : List ℤ) → length d.nums ≡ n + length rest → Does e c (next ws (record d { nums = rest }))) → Does e c (pop_nums n zs d next)
+popped_nums : (e : Effect) (n : ℕ) (zs : List ℤ) (c d : Config) (next : List ℤ → Config → Step) →
+    ((ws : List ℤ) (rest : List ℤ) → length d.nums ≡ n + length rest → Does e c (next ws (record d { nums = rest }))) →
+    Does e c (pop_nums n zs d next)
 popped_nums e zero zs c d next h = h zs d.nums (omega arith)
 popped_nums e (suc n) zs c d next h =
     popped_num e c d (λ z f. pop_nums n (z ∷ zs) f next)
     (λ z rest is. popped_nums e n (z ∷ zs) c (record d { nums = rest }) next (λ ws left long. h ws left (omega (arith, ap length is, long))))
 
-popped_refs : (e : Effect) (n : ℕ) (vs : List Value) (c d : Config) (next : List Value → Config → Step) → ((ws : List Value) (rest : List Value) → length d.refs ≡ n + length rest → Does e c (next ws (record d { refs = rest }))) → Does e c (pop_refs n vs d next)
+popped_refs : (e : Effect) (n : ℕ) (vs : List Value) (c d : Config) (next : List Value → Config → Step) →
+    ((ws : List Value) (rest : List Value) → length d.refs ≡ n + length rest → Does e c (next ws (record d { refs = rest }))) →
+    Does e c (pop_refs n vs d next)
 popped_refs e zero vs c d next h = h vs d.refs (omega arith)
 popped_refs e (suc n) vs c d next h =
     popped_ref e c d (λ v f. pop_refs n (v ∷ vs) f next)
@@ -209,10 +249,14 @@ does_list_num k n line c =
     let e = both (1 + n) 0 0 1 in
     does_with_text e c k _
     (λ ty. does_number e c (Some (element_of ty)) _
-    (popped_nums e n [] c c (λ zs d. pop_num d (λ low f. attempted line (vector_of ty low (kept_elements ty (map Num zs))) (λ object. make value.Vector object f)))
-    (λ zs rest long. popped_num e c (record c { nums = rest }) (λ low f. attempted line (vector_of ty low (kept_elements ty (map Num zs))) (λ object. make value.Vector object f))
-    (λ low below is. does_attempted e c line (vector_of ty low (kept_elements ty (map Num zs))) (λ object. make value.Vector object (record c { nums = below }))
-    (λ object. does_make e c (record c { nums = below }) value.Vector object (λ v store. record { nums = omega (arith, long, ap length is); refs = omega arith }))))))
+    (popped_nums e n [] c c (λ zs d. pop_num d (λ low f. attempted line (vector_of ty low (kept_elements ty (map Num zs)))
+    (λ object. make value.Vector object f)))
+    (λ zs rest long. popped_num e c (record c { nums = rest })
+    (λ low f. attempted line (vector_of ty low (kept_elements ty (map Num zs))) (λ object. make value.Vector object f))
+    (λ low below is. does_attempted e c line (vector_of ty low (kept_elements ty (map Num zs)))
+    (λ object. make value.Vector object (record c { nums = below }))
+    (λ object. does_make e c (record c { nums = below }) value.Vector object
+    (λ v store. record { nums = omega (arith, long, ap length is); refs = omega arith }))))))
 
 does_list_ref : (k n : ℕ) (line : Line) (c : Config) → Does (both 1 0 n 1) c (list_ref k n line c)
 does_list_ref k n line c =
@@ -222,52 +266,66 @@ does_list_ref k n line c =
     (popped_refs e n [] c c (λ vs d. pop_num d (λ low f. attempted line (vector_of ty low vs) (λ object. make value.Vector object f)))
     (λ vs rest long. popped_num e c (record c { refs = rest }) (λ low f. attempted line (vector_of ty low vs) (λ object. make value.Vector object f))
     (λ low below is. does_attempted e c line (vector_of ty low vs) (λ object. make value.Vector object (record c { nums = below; refs = rest }))
-    (λ object. does_make e c (record c { nums = below; refs = rest }) value.Vector object (λ v store. record { nums = omega (arith, ap length is); refs = omega (arith, long) }))))))
+    (λ object. does_make e c (record c { nums = below; refs = rest }) value.Vector object
+    (λ v store. record { nums = omega (arith, ap length is); refs = omega (arith, long) }))))))
 
 does_element_num : (line : Line) (c : Config) → Does (both 1 1 1 0) c (element_num line c)
 does_element_num line c =
     let e = both 1 1 1 0 in
-    popped_num e c c (λ i d. pop_vector d (λ ty v f. when_number (Some (element_of ty)) (attempted line (element_at f.store.heap v i) (λ w. push_num (word_of w) f))))
-    (λ i rest is. popped_vector e c (record c { nums = rest }) (λ ty v f. when_number (Some (element_of ty)) (attempted line (element_at f.store.heap v i) (λ w. push_num (word_of w) f)))
-    (λ ty v below is'. does_number e c (Some (element_of ty)) _
-    (does_attempted e c line (element_at c.store.heap v i) (λ w. push_num (word_of w) (record c { nums = rest; refs = below }))
-    (λ w. ends_num e c (record c { nums = rest; refs = below }) (word_of w) (record { nums = omega (arith, ap length is); refs = omega (arith, is') })))))
+    popped_num e c c (λ i d. pop_vector d (λ ty v f. attempted line (element_at f.store.heap v i)
+    (λ w. when_number (Some (element_of ty)) (push_num (word_of w) f))))
+    (λ i rest is. popped_vector e c (record c { nums = rest })
+    (λ ty v f. attempted line (element_at f.store.heap v i) (λ w. when_number (Some (element_of ty)) (push_num (word_of w) f)))
+    (λ ty v below is'. does_attempted e c line (element_at c.store.heap v i)
+    (λ w. when_number (Some (element_of ty)) (push_num (word_of w) (record c { nums = rest; refs = below })))
+    (λ w. does_number e c (Some (element_of ty)) _
+    (ends_num e c (record c { nums = rest; refs = below }) (word_of w) (record { nums = omega (arith, ap length is); refs = omega (arith, is') })))))
 
 does_element_ref : (line : Line) (c : Config) → Does (both 1 0 1 1) c (element_ref line c)
 does_element_ref line c =
     let e = both 1 0 1 1 in
-    popped_num e c c (λ i d. pop_vector d (λ ty v f. when_reference (Some (element_of ty)) (attempted line (element_at f.store.heap v i) (λ w. push_ref w f))))
-    (λ i rest is. popped_vector e c (record c { nums = rest }) (λ ty v f. when_reference (Some (element_of ty)) (attempted line (element_at f.store.heap v i) (λ w. push_ref w f)))
-    (λ ty v below is'. does_reference e c (Some (element_of ty)) _
-    (does_attempted e c line (element_at c.store.heap v i) (λ w. push_ref w (record c { nums = rest; refs = below }))
-    (λ w. ends_ref e c (record c { nums = rest; refs = below }) w (record { nums = omega (arith, ap length is); refs = omega (arith, is') })))))
+    popped_num e c c (λ i d. pop_vector d (λ ty v f. attempted line (element_at f.store.heap v i)
+    (λ w. when_reference (Some (element_of ty)) (push_ref w f))))
+    (λ i rest is. popped_vector e c (record c { nums = rest })
+    (λ ty v f. attempted line (element_at f.store.heap v i) (λ w. when_reference (Some (element_of ty)) (push_ref w f)))
+    (λ ty v below is'. does_attempted e c line (element_at c.store.heap v i)
+    (λ w. when_reference (Some (element_of ty)) (push_ref w (record c { nums = rest; refs = below })))
+    (λ w. does_reference e c (Some (element_of ty)) _
+    (ends_ref e c (record c { nums = rest; refs = below }) w (record { nums = omega (arith, ap length is); refs = omega (arith, is') })))))
 
 does_set_element_num : (line : Line) (c : Config) → Does (both 2 0 1 0) c (set_element_num line c)
 does_set_element_num line c =
     let e = both 2 0 1 0 in
-    popped_num e c c (λ z d. pop_num d (λ i e. pop_vector e (λ ty v f. when_number (Some (element_of ty)) (attempted line (with_element f.store.heap v i (kept_as (Some (element_of ty)) (Num z))) (λ heap. on (on_heap heap f))))))
-    (λ z rest is. popped_num e c (record c { nums = rest }) (λ i e. pop_vector e (λ ty v f. when_number (Some (element_of ty)) (attempted line (with_element f.store.heap v i (kept_as (Some (element_of ty)) (Num z))) (λ heap. on (on_heap heap f)))))
-    (λ i below is'. popped_vector e c (record c { nums = below }) (λ ty v f. when_number (Some (element_of ty)) (attempted line (with_element f.store.heap v i (kept_as (Some (element_of ty)) (Num z))) (λ heap. on (on_heap heap f))))
-    (λ ty v left is''. does_number e c (Some (element_of ty)) _
-    (does_attempted e c line (with_element c.store.heap v i (kept_as (Some (element_of ty)) (Num z))) (λ heap. on (on_heap heap (record c { nums = below; refs = left })))
-    (λ heap. record { nums = omega (arith, ap length is, ap length is'); refs = omega (arith, is'') })))))
+    let put : List ℕ → Value → ℤ → ℤ → Config → Step =
+    λ ty v i z f. attempted line (with_element f.store.heap v i (kept_as (Some (element_of ty)) (Num z)))
+    (λ heap. when_number (Some (element_of ty)) (changed heap f)) in
+    popped_num e c c (λ z d. pop_num d (λ i e. pop_vector e (λ ty v f. put ty v i z f)))
+    (λ z rest is. popped_num e c (record c { nums = rest }) (λ i e. pop_vector e (λ ty v f. put ty v i z f))
+    (λ i below is'. popped_vector e c (record c { nums = below }) (λ ty v f. put ty v i z f)
+    (λ ty v left is''. does_attempted e c line (with_element c.store.heap v i (kept_as (Some (element_of ty)) (Num z)))
+    (λ heap. when_number (Some (element_of ty)) (changed heap (record c { nums = below; refs = left })))
+    (λ heap. does_number e c (Some (element_of ty)) _ (record { nums = omega (arith, ap length is, ap length is'); refs = omega (arith, is'') })))))
 
 does_set_element_ref : (line : Line) (c : Config) → Does (both 1 0 2 0) c (set_element_ref line c)
 does_set_element_ref line c =
     let e = both 1 0 2 0 in
-    popped_ref e c c (λ w d. pop_num d (λ i e. pop_vector e (λ ty v f. when_reference (Some (element_of ty)) (attempted line (with_element f.store.heap v i w) (λ heap. on (on_heap heap f))))))
-    (λ w rest is. popped_num e c (record c { refs = rest }) (λ i e. pop_vector e (λ ty v f. when_reference (Some (element_of ty)) (attempted line (with_element f.store.heap v i w) (λ heap. on (on_heap heap f)))))
-    (λ i below is'. popped_vector e c (record c { nums = below; refs = rest }) (λ ty v f. when_reference (Some (element_of ty)) (attempted line (with_element f.store.heap v i w) (λ heap. on (on_heap heap f))))
-    (λ ty v left is''. does_reference e c (Some (element_of ty)) _
-    (does_attempted e c line (with_element c.store.heap v i w) (λ heap. on (on_heap heap (record c { nums = below; refs = left })))
-    (λ heap. record { nums = omega (arith, ap length is'); refs = omega (arith, ap length is, is'') })))))
+    let put : List ℕ → Value → ℤ → Value → Config → Step =
+    λ ty v i w f. attempted line (with_element f.store.heap v i w) (λ heap. when_reference (Some (element_of ty)) (changed heap f)) in
+    popped_ref e c c (λ w d. pop_num d (λ i e. pop_vector e (λ ty v f. put ty v i w f)))
+    (λ w rest is. popped_num e c (record c { refs = rest }) (λ i e. pop_vector e (λ ty v f. put ty v i w f))
+    (λ i below is'. popped_vector e c (record c { nums = below; refs = rest }) (λ ty v f. put ty v i w f)
+    (λ ty v left is''. does_attempted e c line (with_element c.store.heap v i w)
+    (λ heap. when_reference (Some (element_of ty)) (changed heap (record c { nums = below; refs = left })))
+    (λ heap. does_reference e c (Some (element_of ty)) _ (record
+    { nums = omega (arith, ap length is'); refs = omega (arith, ap length is, is'') })))))
 
 does_bound : (of : Heap → Value → ℤ) (c : Config) → Does (both 0 1 1 0) c (bound of c)
 does_bound of c =
     popped_vector (both 0 1 1 0) c c (λ ty v d. push_num (of d.store.heap v) d)
-    (λ ty v rest is. ends_num (both 0 1 1 0) c (record c { refs = rest }) (of c.store.heap v) (record { nums = omega arith; refs = omega (arith, is) }))
+    (λ ty v rest is. ends_num (both 0 1 1 0) c (record c { refs = rest }) (of c.store.heap v)
+    (record { nums = omega arith; refs = omega (arith, is) }))
 
-does_on_objects : (i : Instr) (c : Config) → Does (effect_of i) c (acts_on_objects i c)
+pub does_on_objects : (i : Instr) (c : Config) → Does (effect_of i) c (acts_on_objects i c)
 does_on_objects instr.Nil c = does_push_ref c value.Nil
 does_on_objects instr.EqP c = does_compare_objects relation.Equal c
 does_on_objects instr.NeP c = does_compare_objects relation.NotEqual c
@@ -297,6 +355,3 @@ does_on_objects instr.Lwb c = does_bound low_of c
 does_on_objects instr.Upb c = does_bound high_of c
 does_on_objects (instr.Lib k line) c = does_by_name c (library k c)
 does_on_objects i c = tt
-
-pub objects_have_effects : (i : Instr) (c next : Config) (events : List Event) → acts_on_objects i c ≡ Goes events next → HasEffect (effect_of i) c next
-objects_have_effects i c next events is = moved_on (effect_of i) c c (acts_on_objects i c) next events (λ x h. h) (does_on_objects i c) is

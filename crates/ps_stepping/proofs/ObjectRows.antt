@@ -40,8 +40,12 @@ at nums refs heap = record {
   locals = record { nums = λ s. pos 0; refs = λ s. Nil };
   scope = None;
   callers = [];
-  store = record { turns = 0; heap = heap };
+  store = record { turns = 0; heap = heap; counted = 0 };
 }
+
+-- where so many bytes are counted
+abbrev counting : ℕ → Config → Config
+counting counted c = record c { store = record c.store { counted = counted } }
 
 -- a full box with 3
 abbrev a_box : Heap
@@ -53,7 +57,8 @@ heap = Structure box (Num (pos 3) ∷ Flag true ∷ Nil ∷ []) ∷ Elements int
     ∷ Elements strings (pos 1) (Text (codes "a") ∷ Text (codes "b") ∷ []) ∷ []
 
 -- the values of the fields stand on both stacks, the last one on top
-make_takes_each_field : acts_on_objects (instr.Make 0) (at (pos 1 ∷ pos 3 ∷ pos 8 ∷ []) (Nil ∷ []) []) ≡ on (at (pos 8 ∷ []) (Pointer 0 ∷ []) a_box)
+make_takes_each_field : acts_on_objects (instr.Make 0) (at (pos 1 ∷ pos 3 ∷ pos 8 ∷ []) (Nil ∷ []) []) ≡ on
+    (counting 72 (at (pos 8 ∷ []) (Pointer 0 ∷ []) a_box))
 unfolding forms_of forms_from form_here begins
 make_takes_each_field = refl
 
@@ -90,13 +95,14 @@ nil_is_no_box = refl
 
 -- vector 1::2 of 7
 each_element_is_filled : acts_on_objects (instr.FillM 1 line) (at (pos 7 ∷ pos 2 ∷ pos 1 ∷ []) [] a_box)
-    ≡ on (at [] (Vector 1 ∷ []) (Structure box (Num (pos 3) ∷ Flag true ∷ Nil ∷ []) ∷ Elements ints (pos 1) (Num (pos 7) ∷ Num (pos 7) ∷ []) ∷ []))
+    ≡ on (counting 72 (at [] (Vector 1 ∷ []) (Structure box (Num (pos 3) ∷ Flag true ∷ Nil ∷ []) ∷ Elements ints (pos 1)
+    (Num (pos 7) ∷ Num (pos 7) ∷ []) ∷ [])))
 unfolding element_of is_text filled_vector vector_of
 each_element_is_filled = refl
 
 -- @1 of int [4, 5]
 elements_in_their_order : acts_on_objects (instr.ListM 1 2 line) (at (pos 5 ∷ pos 4 ∷ pos 1 ∷ []) [] [])
-    ≡ on (at [] (Vector 0 ∷ []) (Elements ints (pos 1) (Num (pos 4) ∷ Num (pos 5) ∷ []) ∷ []))
+    ≡ on (counting 72 (at [] (Vector 0 ∷ []) (Elements ints (pos 1) (Num (pos 4) ∷ Num (pos 5) ∷ []) ∷ [])))
 unfolding element_of is_text vector_of
 elements_in_their_order = refl
 
@@ -115,7 +121,8 @@ unfolding element_of is_text with_element
 string_is_put = refl
 
 -- the left text stands below
-texts_are_joined : acts_on_objects (instr.Join line) (at [] (Text (codes "c") ∷ Text (codes "ab") ∷ []) []) ≡ on (at [] (Text (codes "abc") ∷ []) [])
+texts_are_joined : acts_on_objects (instr.Join line) (at [] (Text (codes "c") ∷ Text (codes "ab") ∷ []) []) ≡ on
+    (counting 48 (at [] (Text (codes "abc") ∷ []) []))
 texts_are_joined = refl
 
 -- three bytes of four from the third on
@@ -139,7 +146,7 @@ bound_of_a_structure : acts_on_objects instr.Lwb (at [] (Pointer 0 ∷ []) heap)
 bound_of_a_structure = refl
 
 number_in_a_vector_of_strings : acts_on_objects (instr.ElemM line) (at (pos 1 ∷ []) (Vector 2 ∷ []) heap) ≡ Stuck
-unfolding element_of is_text
+unfolding element_of is_text element_at
 number_in_a_vector_of_strings = refl
 
 nil_is_no_text : acts_on_objects (instr.Join line) (at [] (Nil ∷ Text (codes "ab") ∷ []) []) ≡ Stuck

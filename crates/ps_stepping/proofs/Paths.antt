@@ -10,49 +10,58 @@ use Rattle.ps_stepping.proofs.Determined.{one_step}
 use Rattle.ps_stepping.proofs.Following.{follow, last_step, never_stuck, front_of_run}
 
 -- the run goes on from each place that it comes to
-pub on_the_way : (total : List Event) (c last : Config) (so_far events : List Event) → Runs total c so_far → Reaches c events last → Runs total last (so_far ++ events)
+pub on_the_way : (total : List Event) (c last : Config) (so_far events : List Event) → Runs total c so_far → Reaches c events last →
+    Runs total last (so_far ++ events)
 on_the_way total c last so_far events run no_step = subst (λ (es : List Event). Runs total c es) (sym (append-nil so_far)) run
 on_the_way total c last so_far events run (more {next = next} {events = first} {behind = behind} s way) =
     subst (λ (es : List Event). Runs total last es) (append_assoc so_far first behind)
     (on_the_way total next last (so_far ++ first) behind (follow total c next so_far first run s) way)
 
 -- and ends
-comes_to_an_end : (total : List Event) (c : Config) (so_far : List Event) → Runs total c so_far → (behind : List Event) × Finishes c behind × (total ≡ so_far ++ behind)
+comes_to_an_end : (total : List Event) (c : Config) (so_far : List Event) → Runs total c so_far →
+    (behind : List Event) × Finishes c behind × (total ≡ so_far ++ behind)
 comes_to_an_end total c so_far (machine.goes {next = next} {events = events} s run) =
     let end = comes_to_an_end total next (so_far ++ events) run in
     (events ++ end.0, goes s end.1, end.2 ∙ append_assoc so_far events end.0)
-comes_to_an_end total c so_far (machine.stops {e = e} s is) = (Finish e ∷ [], stops s, is)
+comes_to_an_end total c so_far (machine.stops {e = e} s is) = (Finish e c.store.counted ∷ [], stops s, is)
 
 -- a machine takes one way to its end
 one_way : (c : Config) (events others : List Event) → Finishes c events → Finishes c others → events ≡ others
 one_way c events others (stops {e = e} s) (stops {e = e'} t) =
     let both : Stops e ≡ Stops e' = one_step c _ _ s t in
     let same : e ≡ e' = cc in
-    ap (λ (x : End). Finish x ∷ []) same
-one_way c events others (stops {e = e} s) (goes {next = next} {events = first} t way) = absurd (let both : Stops e ≡ Goes first next = one_step c _ _ s t in cc)
-one_way c events others (goes {next = next} {events = first} s way) (stops {e = e} t) = absurd (let both : Goes first next ≡ Stops e = one_step c _ _ s t in cc)
-one_way c events others (goes {next = next} {events = first} {behind = behind} s way) (goes {next = next'} {events = first'} {behind = behind'} t way') =
+    ap (λ (x : End). Finish x c.store.counted ∷ []) same
+one_way c events others (stops {e = e} s) (goes {next = next} {events = first} t way) =
+    absurd (let both : Stops e ≡ Goes first next = one_step c _ _ s t in cc)
+one_way c events others (goes {next = next} {events = first} s way) (stops {e = e} t) =
+    absurd (let both : Goes first next ≡ Stops e = one_step c _ _ s t in cc)
+one_way c events others (goes {next = next} {events = first} {behind = behind} s way)
+    (goes {next = next'} {events = first'} {behind = behind'} t way') =
     let both : Goes first next ≡ Goes first' next' = one_step c _ _ s t in
     let front : first ≡ first' = cc in
     let place : next' ≡ next = cc in
     let back : behind ≡ behind' = one_way next behind behind' way (subst (λ (n : Config). Finishes n behind') place way') in
     ap (λ (es : List Event). es ++ behind) front ∙ ap (λ (es : List Event). first' ++ es) back
 
-pub rest_is : (total : List Event) (c last : Config) (before behind : List Event) → Runs total c [] → Reaches c before last → Finishes last behind → total ≡ before ++ behind
+pub rest_is : (total : List Event) (c last : Config) (before behind : List Event) → Runs total c [] → Reaches c before last → Finishes last behind →
+    total ≡ before ++ behind
 rest_is total c last before behind run way end =
     let found = comes_to_an_end total last before (on_the_way total c last [] before run way) in
     found.2 ∙ ap (λ (es : List Event). before ++ es) (one_way last found.0 behind found.1 end)
 
-pub way_ends : (total : List Event) (c last : Config) (before : List Event) → Runs total c [] → Reaches c before last → (behind : List Event) × Finishes last behind
+pub way_ends : (total : List Event) (c last : Config) (before : List Event) → Runs total c [] → Reaches c before last →
+    (behind : List Event) × Finishes last behind
 way_ends total c last before run way =
     let found = comes_to_an_end total last before (on_the_way total c last [] before run way) in
     (found.0, found.1)
 
-pub stops_at_the_end : (total : List Event) (c last : Config) (before : List Event) (e : End) → Runs total c [] → Reaches c before last → Steps last (Stops e) → total ≡ before ++ Finish e ∷ []
+pub stops_at_the_end : (total : List Event) (c last : Config) (before : List Event) (e : End) → Runs total c [] → Reaches c before last →
+    Steps last (Stops e) → total ≡ before ++ Finish e last.store.counted ∷ []
 stops_at_the_end total c last before e run way s = last_step total last before e (on_the_way total c last [] before run way) s
 
 pub is_never_stuck : (total : List Event) (c last : Config) (before : List Event) → Runs total c [] → Reaches c before last → Steps last Stuck → ⊥
 is_never_stuck total c last before run way s = never_stuck total last before (on_the_way total c last [] before run way) s
 
-pub front_on_the_way : (total : List Event) (c last : Config) (before : List Event) → Runs total c [] → Reaches c before last → (behind : List Event) × (total ≡ before ++ behind)
+pub front_on_the_way : (total : List Event) (c last : Config) (before : List Event) → Runs total c [] → Reaches c before last →
+    (behind : List Event) × (total ≡ before ++ behind)
 front_on_the_way total c last before run way = front_of_run total last before (on_the_way total c last [] before run way)

@@ -31,7 +31,7 @@ at offset nums turns = record {
   locals = record { nums = λ s. pos 0; refs = λ s. Nil };
   scope = None;
   callers = [];
-  store = record { turns = turns; heap = [] };
+  store = record { turns = turns; heap = []; counted = 0 };
 }
 
 abbrev loop : ℕ → (ℕ → ℤ) → ℕ → Config
@@ -40,7 +40,7 @@ loop offset row turns = record (at offset [] turns) { locals = record { nums = r
 again_goes_on_at_false : act (instr.Again 0) (at 10 (pos 0 ∷ []) 2) ≡ on (at 15 [] 2)
 again_goes_on_at_false = refl
 
-again_takes_a_turn : act (instr.Again 0) (at 10 (pos 1 ∷ []) 2) ≡ Goes (Turn ∷ []) (at 0 [] 1)
+again_takes_a_turn : act (instr.Again 0) (at 10 (pos 1 ∷ []) 2) ≡ Goes (Turn 0 ∷ []) (at 0 [] 1)
 again_takes_a_turn = refl
 
 no_turn_is_left : act (instr.Again 0) (at 10 (pos 1 ∷ []) 0) ≡ Stops OutOfTurns
@@ -57,7 +57,7 @@ left_operand_stands_below : act (instr.Sub line) (at 10 (pos 2 ∷ pos 7 ∷ [])
 left_operand_stands_below = refl
 
 -- for i = 1 to 3: the first turn begins behind the instruction
-for_start_takes_a_turn : act (instr.ForStart 0 60 line) (loop 10 (three 1 3 1) 2) ≡ Goes (Turn ∷ []) (loop 23 (three 1 3 1) 1)
+for_start_takes_a_turn : act (instr.ForStart 0 60 line) (loop 10 (three 1 3 1) 2) ≡ Goes (Turn 0 ∷ []) (loop 23 (three 1 3 1) 1)
 for_start_takes_a_turn = refl
 
 -- for i = 4 to 3
@@ -68,7 +68,7 @@ for_start_passes_the_loop = refl
 step_is_0 : act (instr.ForStart 0 60 line) (loop 10 (three 1 3 0) 2) ≡ Stops (Trapped Bounds line)
 step_is_0 = refl
 
-for_next_takes_a_turn : act (instr.ForNext 0 23) (loop 51 (three 1 3 1) 2) ≡ Goes (Turn ∷ []) (loop 23 (with_local (three 1 3 1) 0 (pos 2)) 1)
+for_next_takes_a_turn : act (instr.ForNext 0 23) (loop 51 (three 1 3 1) 2) ≡ Goes (Turn 0 ∷ []) (loop 23 (with_local (three 1 3 1) 0 (pos 2)) 1)
 for_next_takes_a_turn = refl
 
 -- for i = 2147483647 to 2147483647: the number behind it is no int

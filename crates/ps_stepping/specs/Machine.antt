@@ -9,7 +9,7 @@ use Rattle.ps_base.specs.declared.trap.Trap.TheVariants.{Bounds, Abort as Aborte
 use Rattle.ps_base.specs.declared.operator.Operator.TheVariants as operator
 use Rattle.ps_base.specs.declared.operator.Relation.TheVariants as relation
 use Rattle.ps_base.specs.declared.instr.Instr.{Instr}
-use Rattle.ps_base.specs.declared.instr.Instr.TheVariants.{Int, True, False, Text, Nil, GetM, GetP, SetM, SetP, KeptM, KeptP, KeepM, KeepP, Scope, Leave, Jump, JumpFalse, Again, And, Or, Not, Neg, Add, Sub, Mul, Div, Rem, EqM, NeM, LtM, LeM, GtM, GeM, EqP, NeP, EqT, NeT, LtT, LeT, GtT, GeT, Join, Part, Is, Make, FieldM, FieldP, SetFieldM, SetFieldP, FillM, FillP, ListM, ListP, ElemM, ElemP, SetElemM, SetElemP, Lwb, Upb, Closure, Call, Return, Lib, WriteI, WriteB, WriteT, Abort, ForStart, ForNext, ScanT, ScanI, ScanMore, DupM, DupP, DropM, DropP, JumpTrue}
+use Rattle.ps_base.specs.declared.instr.Instr.TheVariants.{Int, True, False, Text, GetM, GetP, SetM, SetP, Jump, JumpFalse, Again, And, Or, Not, Neg, Add, Sub, Mul, Div, Rem, EqM, NeM, LtM, LeM, GtM, GeM, Return, WriteI, WriteB, WriteT, Abort, ForStart, ForNext, DupM, DupP, DropM, DropP, JumpTrue}
 use Rattle.ps_meaning.specs.Operators.{is_same, neg_of, arith_of, relation_of}
 use Rattle.ps_meaning.specs.Event.{End, Done, Trapped, OutOfTurns, Event, Turn, Finish}
 use Rattle.ps_meaning.specs.Values.{Value, number_of, is_one, flag_text, bytes_of}
@@ -17,6 +17,7 @@ use Rattle.ps_meaning.specs.Values as value
 use Rattle.ps_meaning.specs.Meaning.{Store, some_out, in_places, is_width, spent}
 use Rattle.ps_meaning.specs.Evaluation.{goes_on}
 pub use Rattle.ps_stepping.specs.Steps.{Step, Goes, Stops, Stuck, on, put_num, push_num, push_ref, pop_num_of, pop_num, pop_ref_of, pop_ref, pop_two, is_num_slot, is_ref_slot, with_num, with_ref, answered, one_num, two_nums, test, text_of, pop_text, with_text, attempted}
+use Rattle.ps_stepping.specs.Objects.{acts_on_objects}
 use Rattle.ps_stepping.specs.Config.{Caller, Config, code_in, constants_in, constant_at, IsAt}
 
 -- Jumps: forward to a greater offset than that of the jump itself, and back to a smaller one, which takes a turn.
@@ -25,14 +26,14 @@ forward own to c = if nat_lt own to then on (record c { at = to }) else Stuck
 
 abbrev pub turn_to : Option Store → ℕ → Config → Step
 turn_to None to c = Stops OutOfTurns
-turn_to (Some store) to c = Goes (Turn ∷ []) (record c { at = to; store = store })
+turn_to (Some store) to c = Goes (Turn store.counted ∷ []) (record c { at = to; store = store })
 
 abbrev pub back : ℕ → ℕ → Config → Step
 back own to c = if nat_lt to own then turn_to (spent c.store) to c else Stuck
 
 -- Writing.
 abbrev pub written : Line → Option ℤ → List ℕ → Config → Step
-written line width bytes c = if is_width width then Goes (some_out (in_places width bytes)) c else Stops (Trapped TooLong line)
+written line width bytes c = if is_width width then Goes (some_out (in_places width bytes) c.store.counted) c else Stops (Trapped TooLong line)
 
 -- a width was pushed above the item, or none
 abbrev pub pop_width : ℕ → Config → (Option ℤ → Config → Step) → Step
@@ -44,7 +45,7 @@ abbrev pub write_num : ℕ → Line → (ℤ → List ℕ) → Config → Step
 write_num w line show c = pop_width w c (λ width d. pop_num d (λ z e. written line width (show z) e))
 
 abbrev pub write_text : ℕ → Line → Config → Step
-write_text w line c = pop_width w c (λ width d. pop_ref d (λ v e. written line width (bytes_of v) e))
+write_text w line c = pop_width w c (λ width d. pop_text d (λ bytes e. written line width bytes e))
 
 -- a text constant is pushed
 abbrev pub push_text : Option ConstantView → Config → Step
@@ -92,24 +93,17 @@ returned (suc zero) c = pop_num c (λ z d. come_back d.callers (λ caller. z ∷
 returned (suc (suc zero)) c = pop_ref c (λ v d. come_back d.callers (λ caller. caller.nums) (λ caller. v ∷ caller.refs) d)
 returned (suc (suc (suc n))) c = Stuck
 
--- What an instruction does whose own offset this is; the configuration stands behind it already. Instructions over objects, texts,
--- procedures and scopes have no step yet.
+-- What an instruction does whose own offset this is; the configuration stands behind it already. What instructions over
+-- structures, vectors and texts do is stated by themselves; those over procedures and scopes have no step yet.
 abbrev pub acts : Instr → ℕ → Config → Step
 acts (Int v) own c = push_num v c
 acts True own c = push_num (pos 1) c
 acts False own c = push_num (pos 0) c
 acts (Text k) own c = push_text (constant_at (constants_in c.unit) k) c
-acts Nil own c = Stuck
 acts (GetM s) own c = if is_num_slot c s then push_num (c.locals.nums s) c else Stuck
 acts (GetP s) own c = if is_ref_slot c s then push_ref (c.locals.refs s) c else Stuck
 acts (SetM s) own c = pop_num c (λ z d. if is_num_slot d s then on (with_num d s z) else Stuck)
 acts (SetP s) own c = pop_ref c (λ v d. if is_ref_slot d s then on (with_ref d s v) else Stuck)
-acts (KeptM u i) own c = Stuck
-acts (KeptP u i) own c = Stuck
-acts (KeepM u i) own c = Stuck
-acts (KeepP u i) own c = Stuck
-acts (Scope k) own c = Stuck
-acts Leave own c = Stuck
 acts (Jump t) own c = forward own t c
 acts (JumpFalse t) own c = pop_num c (λ z d. if is_one z then on d else forward own t d)
 acts (JumpTrue t) own c = pop_num c (λ z d. if is_one z then forward own t d else on d)
@@ -129,49 +123,18 @@ acts LtM own c = test (relation_of relation.Less) c
 acts LeM own c = test (relation_of relation.LessEqual) c
 acts GtM own c = test (relation_of relation.Greater) c
 acts GeM own c = test (relation_of relation.GreaterEqual) c
-acts EqP own c = Stuck
-acts NeP own c = Stuck
-acts EqT own c = Stuck
-acts NeT own c = Stuck
-acts LtT own c = Stuck
-acts LeT own c = Stuck
-acts GtT own c = Stuck
-acts GeT own c = Stuck
-acts (Join line) own c = Stuck
-acts (Part line) own c = Stuck
-acts (Is k) own c = Stuck
-acts (Make k) own c = Stuck
-acts (FieldM k i line) own c = Stuck
-acts (FieldP k i line) own c = Stuck
-acts (SetFieldM k i line) own c = Stuck
-acts (SetFieldP k i line) own c = Stuck
-acts (FillM k line) own c = Stuck
-acts (FillP k line) own c = Stuck
-acts (ListM k n line) own c = Stuck
-acts (ListP k n line) own c = Stuck
-acts (ElemM line) own c = Stuck
-acts (ElemP line) own c = Stuck
-acts (SetElemM line) own c = Stuck
-acts (SetElemP line) own c = Stuck
-acts Lwb own c = Stuck
-acts Upb own c = Stuck
-acts (Closure k) own c = Stuck
-acts (Call n line) own c = Stuck
 acts (Return k) own c = returned k c
-acts (Lib k line) own c = Stuck
 acts (WriteI w line) own c = write_num w line signed_decimal c
 acts (WriteB w line) own c = write_num w line (λ z. flag_text (is_one z)) c
 acts (WriteT w line) own c = write_text w line c
 acts (Abort line) own c = Stops (Trapped Aborted line)
 acts (ForStart s t line) own c = for_start own s t line c
 acts (ForNext s t) own c = for_next own s t c
-acts (ScanT q s t line) own c = Stuck
-acts (ScanI q s t line) own c = Stuck
-acts (ScanMore s t) own c = Stuck
 acts DupM own c = pop_num c (λ z d. push_num z c)
 acts DupP own c = pop_ref c (λ v d. push_ref v c)
 acts DropM own c = pop_num c (λ z d. on d)
 acts DropP own c = pop_ref c (λ v d. on d)
+acts i own c = acts_on_objects i c
 
 -- behind an instruction
 abbrev pub behind : Instr → Config → Config
@@ -188,4 +151,4 @@ pub data Steps (c : Config) : Step → Type 0 where
 -- A run that has had these events so far has all of these in the end.
 pub data Runs (total : List Event) : Config → List Event → Type 0 where
   goes : {c next : Config} {so_far events : List Event} → Steps c (Goes events next) → Runs total next (so_far ++ events) → Runs total c so_far
-  stops : {c : Config} {so_far : List Event} {e : End} → Steps c (Stops e) → total ≡ so_far ++ Finish e ∷ [] → Runs total c so_far
+  stops : {c : Config} {so_far : List Event} {e : End} → Steps c (Stops e) → total ≡ so_far ++ Finish e c.store.counted ∷ [] → Runs total c so_far

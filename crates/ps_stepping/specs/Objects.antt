@@ -11,29 +11,38 @@ use Rattle.ps_base.specs.declared.operator.Relation.TheVariants as relation
 use Rattle.ps_base.specs.declared.instr.Instr.{Instr}
 use Rattle.ps_base.specs.declared.instr.Instr.TheVariants as instr
 use Rattle.ps_meaning.specs.Texts.{join_of, part_of}
-use Rattle.ps_meaning.specs.Objects.{Heap, Object, Structure, Elements, object_at, with_new, new_number, is_class, field_of, with_field, vector_of, filled_vector, with_element, low_of, high_of}
+use Rattle.ps_meaning.specs.Objects.{Heap, Object, Structure, Elements, object_at, new_number, is_class, field_of, with_field, vector_of, filled_vector, with_element, low_of, high_of}
 use Rattle.ps_meaning.specs.Objects.{element_of as element_at}
 use Rattle.ps_meaning.specs.Values.{Value, Num, word_of, number_of, is_one}
 use Rattle.ps_meaning.specs.Values as value
+use Rattle.ps_meaning.specs.Meaning.{Store, on_heap, and_object, and_text}
 use Rattle.ps_meaning.specs.Evaluation.{kept_as, kept_elements, text_relation, object_relation}
 use Rattle.ps_stepping.specs.Config.{Config}
 use Rattle.ps_stepping.specs.Steps.{Step, Stuck, on, push_num, push_ref, pop_num, pop_ref, pop_two, pop_text, with_text, attempted}
 
--- the run goes on with another heap
-abbrev pub on_heap : Heap → Config → Config
-on_heap heap c = record c { store = record c.store { heap = heap } }
+-- the run goes on with this in its store
+abbrev pub holding : Store → Config → Config
+holding store c = record c { store = store }
+
+-- with another heap
+abbrev pub changed : Heap → Config → Step
+changed heap c = on (holding (on_heap heap c.store) c)
 
 -- a new object is made, and a reference to it pushed
 abbrev pub make : (ℕ → Value) → Object → Config → Step
-make denoting object c = push_ref (denoting (new_number c.store.heap)) (on_heap (with_new c.store.heap object) c)
+make denoting object c = push_ref (denoting (new_number c.store.heap)) (holding (and_object object c.store) c)
+
+-- a new text
+abbrev pub make_text : List ℕ → Config → Step
+make_text bytes c = push_ref (value.Text bytes) (holding (and_text bytes c.store) c)
 
 -- Texts.
 
 abbrev pub join : Line → Config → Step
-join line c = pop_text c (λ b d. pop_text d (λ a e. attempted line (join_of a b) (λ bytes. push_ref (value.Text bytes) e)))
+join line c = pop_text c (λ b d. pop_text d (λ a e. attempted line (join_of a b) (λ bytes. make_text bytes e)))
 
 abbrev pub part : Line → Config → Step
-part line c = pop_two c (λ i n d. pop_text d (λ a e. attempted line (part_of a i n) (λ bytes. push_ref (value.Text bytes) e)))
+part line c = pop_two c (λ i n d. pop_text d (λ a e. attempted line (part_of a i n) (λ bytes. make_text bytes e)))
 
 abbrev pub compare_texts : Relation → Config → Step
 compare_texts op c = pop_text c (λ b d. pop_text d (λ a e. push_num (number_of (text_relation op a b)) e))
@@ -42,12 +51,22 @@ abbrev pub text_length : Config → Step
 text_length c = pop_text c (λ a d. push_num (pos (length a)) d)
 
 abbrev pub int_text : Config → Step
-int_text c = pop_num c (λ z d. push_ref (value.Text (signed_decimal z)) d)
+int_text c = pop_num c (λ z d. make_text (signed_decimal z) d)
 
 -- Structures, and what may stand where one is wanted.
 
+-- nil, a structure or a vector
+abbrev pub denoting_of : Value → Config → (Value → Config → Step) → Step
+denoting_of value.Nil c next = next value.Nil c
+denoting_of (value.Pointer id) c next = next (value.Pointer id) c
+denoting_of (value.Vector id) c next = next (value.Vector id) c
+denoting_of _ c next = Stuck
+
+abbrev pub pop_denoting : Config → (Value → Config → Step) → Step
+pop_denoting c next = pop_ref c (λ v d. denoting_of v d next)
+
 abbrev pub compare_objects : Relation → Config → Step
-compare_objects op c = pop_ref c (λ w d. pop_ref d (λ v e. push_num (number_of (object_relation op v w)) e))
+compare_objects op c = pop_denoting c (λ w d. pop_denoting d (λ v e. push_num (number_of (object_relation op v w)) e))
 
 -- nil, or a structure
 abbrev pub object_of : Value → Config → (Value → Config → Step) → Step
@@ -95,12 +114,12 @@ abbrev pub set_field_num : ℕ → ℕ → Line → Config → Step
 set_field_num k n line c =
     with_text k c (λ class. when_number (form_in (forms_of class) n)
     (pop_num c (λ z d. pop_object d (λ v e.
-    attempted line (with_field e.store.heap v class n (kept_as (form_in (forms_of class) n) (Num z))) (λ heap. on (on_heap heap e))))))
+    attempted line (with_field e.store.heap v class n (kept_as (form_in (forms_of class) n) (Num z))) (λ heap. changed heap e)))))
 
 abbrev pub set_field_ref : ℕ → ℕ → Line → Config → Step
 set_field_ref k n line c =
     with_text k c (λ class. when_reference (form_in (forms_of class) n)
-    (pop_ref c (λ w d. pop_object d (λ v e. attempted line (with_field e.store.heap v class n w) (λ heap. on (on_heap heap e))))))
+    (pop_ref c (λ w d. pop_object d (λ v e. attempted line (with_field e.store.heap v class n w) (λ heap. changed heap e)))))
 
 -- Vectors.
 
@@ -152,21 +171,21 @@ list_ref k n line c =
 
 abbrev pub element_num : Line → Config → Step
 element_num line c =
-    pop_num c (λ i d. pop_vector d (λ ty v e. when_number (Some (element_of ty)) (attempted line (element_at e.store.heap v i) (λ w. push_num (word_of w) e))))
+    pop_num c (λ i d. pop_vector d (λ ty v e. attempted line (element_at e.store.heap v i) (λ w. when_number (Some (element_of ty)) (push_num (word_of w) e))))
 
 abbrev pub element_ref : Line → Config → Step
 element_ref line c =
-    pop_num c (λ i d. pop_vector d (λ ty v e. when_reference (Some (element_of ty)) (attempted line (element_at e.store.heap v i) (λ w. push_ref w e))))
+    pop_num c (λ i d. pop_vector d (λ ty v e. attempted line (element_at e.store.heap v i) (λ w. when_reference (Some (element_of ty)) (push_ref w e))))
 
 abbrev pub set_element_num : Line → Config → Step
 set_element_num line c =
-    pop_num c (λ z d. pop_num d (λ i e. pop_vector e (λ ty v f. when_number (Some (element_of ty))
-    (attempted line (with_element f.store.heap v i (kept_as (Some (element_of ty)) (Num z))) (λ heap. on (on_heap heap f))))))
+    pop_num c (λ z d. pop_num d (λ i e. pop_vector e (λ ty v f.
+    attempted line (with_element f.store.heap v i (kept_as (Some (element_of ty)) (Num z))) (λ heap. when_number (Some (element_of ty)) (changed heap f)))))
 
 abbrev pub set_element_ref : Line → Config → Step
 set_element_ref line c =
-    pop_ref c (λ w d. pop_num d (λ i e. pop_vector e (λ ty v f. when_reference (Some (element_of ty))
-    (attempted line (with_element f.store.heap v i w) (λ heap. on (on_heap heap f))))))
+    pop_ref c (λ w d. pop_num d (λ i e. pop_vector e (λ ty v f.
+    attempted line (with_element f.store.heap v i w) (λ heap. when_reference (Some (element_of ty)) (changed heap f)))))
 
 abbrev pub bound : (Heap → Value → ℤ) → Config → Step
 bound of c = pop_vector c (λ ty v d. push_num (of d.store.heap v) d)

@@ -11,5 +11,5 @@ pub data Reaches : Config → List Event → Config → Type 0 where
 
 -- some steps lead from the configuration to an end, with these events, of which the last is the end
 pub data Finishes : Config → List Event → Type 0 where
-  stops : {c : Config} {e : End} → Steps c (Stops e) → Finishes c (Finish e ∷ [])
+  stops : {c : Config} {e : End} → Steps c (Stops e) → Finishes c (Finish e c.store.counted ∷ [])
   goes : {c next : Config} {events behind : List Event} → Steps c (Goes events next) → Finishes next behind → Finishes c (events ++ behind)

@@ -4,7 +4,6 @@ ghost use Rattle.ps_meaning.specs.Event.{End, Event, Finish};
 ghost use Rattle.ps_stepping.specs.Config.{Config, code_in, IsAt};
 ghost use Rattle.ps_stepping.specs.Effects.{effect_of, HasEffect};
 ghost use Rattle.ps_stepping.specs.Machine.{Step, Goes, Stops, Stuck, act, Steps, Runs};
-ghost use Rattle.ps_stepping.specs.Objects.{acts_on_objects};
 ghost use Rattle.ps_stepping.specs.Path.{Reaches, Finishes};
 
 /// At an offset of the code there is one instruction at most, and a configuration has one step.
@@ -21,7 +20,7 @@ pub fn rest_of_a_run()
     ensures rest { (total : List Event) (c last : Config) (before behind : List Event) → Runs total c [] → Reaches c before last →
         Finishes last behind → total ≡ before ++ behind }
     ensures end { (total : List Event) (c last : Config) (before : List Event) (e : End) → Runs total c [] → Reaches c before last →
-        Steps last (Stops e) → total ≡ before ++ Finish e ∷ [] }
+        Steps last (Stops e) → total ≡ before ++ Finish e last.store.counted ∷ [] }
     ensures goes { (total : List Event) (c last : Config) (before : List Event) → Runs total c [] → Reaches c before last → Steps last Stuck → ⊥ }
     ensures front { (total : List Event) (c last : Config) (before : List Event) → Runs total c [] → Reaches c before last →
         (behind : List Event) × (total ≡ before ++ behind) }
@@ -29,6 +28,5 @@ pub fn rest_of_a_run()
 
 /// A step that goes on takes from the two stacks and leaves on them what the table says of its instruction (`docs/formats.md`).
 pub fn steps_have_their_effects()
-    ensures built { (i : Instr) (c next : Config) (events : List Event) → act i c ≡ Goes events next → HasEffect (effect_of i) c next }
-    ensures on_objects { (i : Instr) (c next : Config) (events : List Event) → acts_on_objects i c ≡ Goes events next → HasEffect (effect_of i) c next }
+    ensures { (i : Instr) (c next : Config) (events : List Event) → act i c ≡ Goes events next → HasEffect (effect_of i) c next }
 {}

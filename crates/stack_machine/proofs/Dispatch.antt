@@ -1,52 +1,95 @@
--- What an instruction does, by which one it is.
-use Rattle.std.proofs.Common.{◌≡◌, ℕ, ◌+◌, refl, sym, ap, ◌∙◌, subst}
-use Rattle.ps_base.specs.CodeUnit.{UnitView}
+-- What an instruction does, by which one it is; and the step of the machine, by what is spelled at its offset.
+use Rattle.std.proofs.Common.{◌≡◌, ℕ, ◌+◌, List, drop, refl, sym, ap, ◌∙◌, subst}
+use Rattle.std.specs.Prelude.{Ok, Err}
+use Rattle.ps_base.specs.CodeUnit.{UnitView, unit}
 use Rattle.ps_base.specs.Instr.{width_of}
 use Rattle.ps_base.specs.declared.instr.Instr.{Instr}
+use Rattle.obj_layout.specs.declared.kind.Kind.TheVariants as kind
+use Rattle.swizzle.specs.Heap as area
+use Rattle.swizzle.specs.Heap.{header_at}
+use Rattle.swizzle.specs.Text.{text_at}
+use Rattle.swizzle.specs.declared.fault.SwizzleFault.{SwizzleFault}
+use Rattle.proc_values.specs.Loaded.{IsUnit}
+use Rattle.proc_values.specs.Reading.{GivesInstr, IsSpelled}
 use Rattle.ps_stepping.specs.Config.{Config, IsAt, code_in}
 use Rattle.ps_stepping.specs.Machine.{Stuck, acts, act, behind, at_instruction, at_nothing}
-use Rattle.stack_machine.specs.declared.machine.Machine.{Machine}
-use Rattle.stack_machine.specs.declared.stepped.Stepped.{Stepped}
-use Rattle.stack_machine.specs.declared.stepped.Stepped.TheVariants.{Damaged}
-use Rattle.stack_machine.specs.Holding.{IsSound, Holds}
-use Rattle.stack_machine.specs.Stepped.{Takes, TakesStep, Does}
+use Rattle.machine_state.specs.declared.machine.Machine.{Machine}
+use Rattle.machine_state.specs.declared.stepped.Stepped.{Stepped}
+use Rattle.machine_state.specs.declared.stepped.Stepped.TheVariants.{Damaged}
+use Rattle.machine_state.specs.Holding.{IsSound, IsHolding, Holds}
+use Rattle.machine_state.specs.Stepped.{Takes, TakesStep, Does}
 use Rattle.stack_machine.specs.inside.Acting.{ActsAs}
 
 pub acts_as : {i j : Instr} {own : ℕ} {old new : Machine} {answer : Stepped} → i ≡ j → Takes (acts j own) old new answer → ActsAs i own old new answer
 acts_as {i} {j} {own} {old} {new} {answer} is takes = record { takes = subst (λ (x : Instr). Takes (acts x own) old new answer) (sym is) takes }
 
 pub acts_not : {i j : Instr} {own : ℕ} {m : Machine} → i ≡ j → IsSound m → ((c : Config) → acts j own c ≡ Stuck) → ActsAs i own m m Damaged
-acts_not {i} {j} {own} {m} is sound not = acts_as {i = i} {j = j} {own = own} {old = m} {new = m} {answer = Damaged} is (record { sound = sound; does = λ c h. not c })
+acts_not {i} {j} {own} {m} is sound not = acts_as {i = i} {j = j} {own = own} {old = m} {new = m} {answer = Damaged} is (record { sound = sound; size = tt; does = λ c h. not c })
 
--- the instruction at the machine's offset is that at the configuration's
-at_offset : (m : Machine) (c : Config) (i : Instr) → Holds m c → IsAt m.code.now m.at i → IsAt (code_in c.unit) c.at i
-at_offset m c i h at =
-    subst (λ (u : UnitView). IsAt (code_in u) c.at i) (sym h.unit_is) (subst (λ (n : ℕ). IsAt m.code.now n i) (sym h.at_is) at)
+-- the bytes of a unit's code
+unit_code : (here : area.Heap) (at : ℕ) (u : UnitView) → IsUnit here at u → ((header_at here at).kind ≡ kind.Code) × (text_at here at ≡ code_in u)
+unfolding IsUnit
+unit_code here at (unit code constants frame) is = (is.0.kind, is.0.code_is)
 
-at_machine : (m : Machine) (c : Config) (i : Instr) → Holds m c → IsAt (code_in c.unit) c.at i → IsAt m.code.now m.at i
-at_machine m c i h at =
-    subst (λ (n : ℕ). IsAt m.code.now n i) h.at_is (subst (λ (u : UnitView). IsAt (code_in u) c.at i) h.unit_is at)
+pub code_of : (m : Machine) (c : Config) → Holds m c → text_at m.sw m.code ≡ code_in c.unit
+code_of m c h = (unit_code m.sw m.code c.unit h.held.unit_is).1
+
+-- the machine behind the instruction
+holds_behind : (m : Machine) (c : Config) (i : Instr) (next : ℕ) → Holds m c → next ≡ m.at + width_of i → Holds (record m { at = next }) (behind i c)
+holds_behind m c i next h is = let k = h.held in record {
+  names = h.names;
+  held = record {
+    unit_is = k.unit_is;
+    frame_is = k.frame_is;
+    at_is = ap (λ (n : ℕ). n + width_of i) k.at_is ∙ sym is;
+    nums_are = k.nums_are;
+    refs_are = k.refs_are;
+    no_callers = k.no_callers;
+    turns_are = k.turns_are;
+    world = k.world;
+    entries_are = k.entries_are;
+    counted = k.counted;
+  };
+}
+
+-- an instruction is spelled at the machine's offset exactly where it is at the configuration's
+at_offset : (m : Machine) (c : Config) (i : Instr) (next : ℕ) → Holds m c → IsSpelled (text_at m.sw m.code) m.at i next → IsAt (code_in c.unit) c.at i
+at_offset m c i next h at =
+    let same = sym (ap (λ (n : ℕ). drop n (code_in c.unit)) h.held.at_is) in
+    record {
+      is_instr = at.is_instr;
+      rest = at.rest;
+      spelled = sym same ∙ ap (λ (code : List ℕ). drop m.at code) (sym (code_of m c h)) ∙ at.spelled;
+    }
+
+at_machine : (m : Machine) (c : Config) (i : Instr) → Holds m c → IsAt (code_in c.unit) c.at i → IsSpelled (text_at m.sw m.code) m.at i (m.at + width_of i)
+at_machine m c i h at = record {
+  is_instr = at.is_instr;
+  rest = at.rest;
+  spelled = ap (λ (code : List ℕ). drop m.at code) (code_of m c h) ∙ sym (ap (λ (n : ℕ). drop n (code_in c.unit)) h.held.at_is) ∙ at.spelled;
+  next_is = refl;
+}
+
+pub step_holds : (m : Machine) (next : ℕ) (i : Instr) → IsHolding m → GivesInstr m.sw m.code m.at (Ok (i, next)) → IsHolding (record m { at = next })
+step_holds m next i h is = (behind i h.0, holds_behind m h.0 i next h.1 is.1.next_is)
 
 -- where there is no instruction, the run is stuck
-pub step_nothing : (m : Machine) → IsSound m → ((i : Instr) → IsAt m.code.now m.at i → ⊥) → TakesStep m m Damaged
-step_nothing m sound none = record {
+pub step_nothing : (m : Machine) {fault : SwizzleFault} → IsSound m → GivesInstr m.sw m.code m.at (Err fault) → TakesStep m m Damaged
+step_nothing m sound is = record {
   sound = sound;
-  does = λ c h. (Stuck, at_nothing (λ i at. none i (at_machine m c i h at)), refl);
+  size = tt;
+  does = λ c h. (Stuck, at_nothing (λ i at. is.1 (unit_code m.sw m.code c.unit h.held.unit_is).0 i (m.at + width_of i) (at_machine m c i h at)), refl);
 }
 
 -- the step is what the instruction does from behind itself
-pub step_acts : (m new : Machine) (i : Instr) (width : ℕ) (answer : Stepped) → IsAt m.code.now m.at i → width ≡ width_of i
-    → ActsAs i m.at (record m { at = m.at + width }) new answer → TakesStep m new answer
-step_acts m new i width answer at long acting = record {
+pub step_acts : (m new : Machine) (i : Instr) (next : ℕ) (answer : Stepped) → GivesInstr m.sw m.code m.at (Ok (i, next))
+    → ActsAs i m.at (record m { at = next }) new answer → TakesStep m new answer
+step_acts m new i next answer is acting = record {
   sound = acting.takes.sound;
-  does = λ c h.
-      let held : Holds (record m { at = m.at + width }) (behind i c) = record {
-        unit_is = h.unit_is;
-        at_is = ap (λ (n : ℕ). n + width_of i) h.at_is ∙ ap (λ (n : ℕ). m.at + n) (sym long);
-        nums_are = h.nums_are;
-        refs_are = h.refs_are;
-        no_callers = h.no_callers;
-        turns_are = h.turns_are;
-      } in
-      (act i c, at_instruction (at_offset m c i h at), subst (λ (n : ℕ). Does (acts i n (behind i c)) answer new) (sym h.at_is) (acting.takes.does (behind i c) held));
+  size = acting.takes.size;
+  does = λ c h. (
+    act i c,
+    at_instruction (at_offset m c i next h is.1),
+    subst (λ (n : ℕ). Does (acts i n (behind i c)) answer new) (sym h.held.at_is) (acting.takes.does (behind i c) (holds_behind m c i next h is.1.next_is)),
+  );
 }

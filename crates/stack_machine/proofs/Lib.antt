@@ -1,8 +1,7 @@
-pub mod Rows
-pub mod Popping
-pub mod Jumping
+pub mod Telling
+pub mod Loading
 pub mod Dispatch
 pub mod Progress
-pub mod Placing
+pub mod Counting
 pub mod Between
 pub mod Single

@@ -1,6 +1,7 @@
--- Each step lowers a number, so that a run ends: the turns that are left, and then the bytes of the code behind the offset.
+-- Each step lowers a number, so that a run ends: the turns that are left, and then the bytes of the code behind the offset. And none lowers the count
+-- of bytes.
 use Rattle.std.proofs.Common.{◌≡◌, ℕ, zero, suc, ◌+◌, ◌*◌, ◌-◌, ◌<◌, ℤ, pos, ◌+ℤ◌, Bool, true, false, List, [], ◌∷◌, length, Option, Some, None, refl, ap, ◌∙◌, subst, arith, length-append, length-drop}
-use Rattle.std.specs.Prelude.{not, nat_lt, if◌then◌else◌}
+use Rattle.std.specs.Prelude.{◌≤◌, not, nat_lt, nat_eq, map, reverse, if◌then◌else◌}
 use Rattle.std.specs.Fmt.{signed_decimal}
 use Rattle.std.proofs.lemmas.Bool.{ltb-true}
 use Rattle.ps_base.specs.CodeUnit.{ConstantView, text, literal}
@@ -8,15 +9,25 @@ use Rattle.ps_base.specs.Instr.{width_of, spelling}
 use Rattle.ps_base.proofs.Spellings.{length-spelling}
 use Rattle.ps_base.specs.declared.line.Line.{Line}
 use Rattle.ps_base.specs.declared.operator.Operator.TheVariants as operator
+use Rattle.ps_base.specs.declared.operator.Relation.{Relation}
 use Rattle.ps_base.specs.declared.operator.Relation.TheVariants as relation
 use Rattle.ps_base.specs.declared.instr.Instr.{Instr}
 use Rattle.ps_base.specs.declared.instr.Instr.TheVariants.{Int, True, False, Text, Nil, GetM, GetP, SetM, SetP, KeptM, KeptP, KeepM, KeepP, Scope, Leave, Jump, JumpFalse, Again, And, Or, Not, Neg, Add, Sub, Mul, Div, Rem, EqM, NeM, LtM, LeM, GtM, GeM, EqP, NeP, EqT, NeT, LtT, LeT, GtT, GeT, Join, Part, Is, Make, FieldM, FieldP, SetFieldM, SetFieldP, FillM, FillP, ListM, ListP, ElemM, ElemP, SetElemM, SetElemP, Lwb, Upb, Closure, Call, Return, Lib, WriteI, WriteB, WriteT, Abort, ForStart, ForNext, ScanT, ScanI, ScanMore, DupM, DupP, DropM, DropP, JumpTrue}
 use Rattle.ps_meaning.specs.Operators.{Answer, Gives, Traps, is_same, neg_of, arith_of, relation_of}
-use Rattle.ps_meaning.specs.Event.{Event}
-use Rattle.ps_meaning.specs.Values.{Value, number_of, is_one, flag_text, bytes_of}
+use Rattle.ps_meaning.specs.Event.{Event, count_of}
+use Rattle.ps_meaning.specs.Values.{Value, Num, word_of, number_of, is_one, flag_text}
 use Rattle.ps_meaning.specs.Values as value
-use Rattle.ps_meaning.specs.Meaning.{is_width, with_turns}
-use Rattle.ps_meaning.specs.Evaluation.{goes_on}
+use Rattle.ps_meaning.specs.Meaning.{is_width, in_places, some_out, with_turns, on_heap, and_object, and_text}
+use Rattle.ps_meaning.specs.Texts.{Attempt, Yields, Fails, join_of, part_of}
+use Rattle.ps_meaning.specs.Objects.{Heap, Object, Structure, new_number, is_class, field_of, with_field, vector_of, filled_vector, with_element, low_of, high_of}
+use Rattle.ps_meaning.specs.Objects.{element_of as element_at}
+use Rattle.ps_meaning.specs.Evaluation.{goes_on, kept_as, kept_elements, text_relation, object_relation}
+use Rattle.text_forms.specs.declared.forms.Form.{Form}
+use Rattle.text_forms.specs.declared.forms.Form.TheVariants as form
+use Rattle.text_forms.specs.Forms.{forms_of, form_in, element_of}
+use Rattle.ps_stepping.specs.Steps.{text_of, text_in, attempted}
+use Rattle.ps_stepping.specs.Objects.{holding, changed, make, make_text, denoting_of, object_of, pop_fields, when_number, when_reference, type_of, of_type, pop_nums, pop_refs, library, text_length, int_text, join, part, compare_texts, compare_objects, is_of_class, make_structure, field_num, field_ref, set_field_num, set_field_ref, fill_num, fill_ref, list_num, list_ref, element_num, element_ref, set_element_num, set_element_ref, pop_vector}
+use Rattle.ps_stepping.specs.Objects.{bound as bound_of}
 use Rattle.ps_stepping.specs.Config.{Config, Caller, frame_words, code_in, constants_in, frame_in, constant_at}
 use Rattle.ps_stepping.specs.Machine.{Step, Goes, Stops, Stuck, Steps, at_instruction, at_nothing, acts, on, put_num, push_num, push_ref, pop_num_of, pop_ref_of, is_num_slot, is_ref_slot, with_num, with_ref, forward, turn_to, back, answered, test, written, pop_width, push_text, started, counted, come_back, returned}
 
@@ -27,28 +38,47 @@ size c = length (code_in c.unit)
 abbrev pub left : Config → ℕ
 left c = c.store.turns * suc (size c) + (size c - c.at)
 
-abbrev Lower : ℕ → Step → Type 0
-Lower bound (Goes events next) = left next < bound
+-- where each of these events happens, so many bytes are counted at least
+abbrev pub AreCounted : ℕ → List Event → Type 0
+AreCounted count [] = Unit {0}
+AreCounted count (event ∷ events) = (count ≤ count_of event) × AreCounted count events
+
+-- how far a run may be from its end, and how many bytes are counted at least
+record Bound : Type 0 where
+  far : ℕ
+  counted_bytes : ℕ
+
+abbrev Lower : Bound → Step → Type 0
+Lower bound (Goes events next) = (left next < bound.far) × (bound.counted_bytes ≤ next.store.counted) × AreCounted bound.counted_bytes events × (next.callers ≡ [])
 Lower bound (Stops e) = Unit {0}
 Lower bound Stuck = Unit {0}
+
+lower_fewer : (b d : Bound) (s : Step) → d.far ≡ b.far → b.counted_bytes ≤ d.counted_bytes → Lower d s → Lower b s
+lower_fewer b d (Goes events next) far few low = let below = low.0 in let more = low.1 in (omega (arith, far, below), omega (arith, few, more), fewer events low.2, low.3)
+  where
+    fewer : (events : List Event) → AreCounted d.counted_bytes events → AreCounted b.counted_bytes events
+    fewer [] all = tt
+    fewer (event ∷ events) all = let first = all.0 in (omega (arith, few, first), fewer events all.1)
+lower_fewer b d (Stops e) far few low = tt
+lower_fewer b d Stuck far few low = tt
 
 -- the configuration is behind an instruction at this offset of the code, and no body waits
 abbrev Ahead : ℕ → Config → Type 0
 Ahead own c = (own < size c) × (own < c.at) × (c.callers ≡ [])
 
 -- the bound of the instruction's own offset
-abbrev bound : ℕ → Config → ℕ
-bound own c = c.store.turns * suc (size c) + (size c - own)
+abbrev bound : ℕ → Config → Bound
+bound own c = record { far = c.store.turns * suc (size c) + (size c - own); counted_bytes = c.store.counted }
 
 abbrev Drops : ℕ → Config → Step → Type 0
 Drops own c s = Lower (bound own c) s
 
-lower_if : (b : ℕ) (test : Bool) (x y : Step) → (test ≡ true → Lower b x) → (test ≡ false → Lower b y) → Lower b (if test then x else y)
+lower_if : (b : Bound) (test : Bool) (x y : Step) → (test ≡ true → Lower b x) → (test ≡ false → Lower b y) → Lower b (if test then x else y)
 lower_if b true x y f g = f refl
 lower_if b false x y f g = g refl
 
 drops_on : (own : ℕ) (c : Config) → Ahead own c → Drops own c (on c)
-drops_on own c a = omega (arith, a.0, a.1)
+drops_on own c a = (omega (arith, a.0, a.1), omega arith, tt, a.2)
 
 drops_push : (own : ℕ) (c : Config) (z : ℤ) → Ahead own c → Drops own c (push_num z c)
 drops_push own c z a = lower_if _ (nat_lt ((frame_in c.unit).nums + length c.nums) frame_words) _ _ (λ e. drops_on own c a) (λ e. tt)
@@ -62,11 +92,11 @@ drops_text own c (Some (literal code)) a = tt
 drops_text own c None a = tt
 
 -- what is popped changes no bound
-pops : (b : ℕ) (nums : List ℤ) (c : Config) (next : ℤ → Config → Step) → ((z : ℤ) (rest : List ℤ) → Lower b (next z (record c { nums = rest }))) → Lower b (pop_num_of nums c next)
+pops : (b : Bound) (nums : List ℤ) (c : Config) (next : ℤ → Config → Step) → ((z : ℤ) (rest : List ℤ) → Lower b (next z (record c { nums = rest }))) → Lower b (pop_num_of nums c next)
 pops b [] c next f = tt
 pops b (z ∷ rest) c next f = f z rest
 
-pops_ref : (b : ℕ) (refs : List Value) (c : Config) (next : Value → Config → Step) → ((v : Value) (rest : List Value) → Lower b (next v (record c { refs = rest }))) → Lower b (pop_ref_of refs c next)
+pops_ref : (b : Bound) (refs : List Value) (c : Config) (next : Value → Config → Step) → ((v : Value) (rest : List Value) → Lower b (next v (record c { refs = rest }))) → Lower b (pop_ref_of refs c next)
 pops_ref b [] c next f = tt
 pops_ref b (v ∷ rest) c next f = f v rest
 
@@ -75,27 +105,31 @@ drops_two : (own : ℕ) (c : Config) (next : ℤ → ℤ → Config → Step) �
 drops_two own c next f = pops _ c.nums c _ (λ y rest. pops _ rest (record c { nums = rest }) _ (λ x rest'. f x y rest'))
 
 drops_forward : (own to : ℕ) (c : Config) → Ahead own c → Drops own c (forward own to c)
-drops_forward own to c a = lower_if _ (nat_lt own to) _ _ (λ e. let after : own < to = ltb-true own to e in omega (arith, a.0)) (λ e. tt)
+drops_forward own to c a = lower_if _ (nat_lt own to) _ _ (λ e. let after : own < to = ltb-true own to e in (omega (arith, a.0), omega arith, tt, a.2)) (λ e. tt)
 
 turn_lower : (turns n to at : ℕ) → (left : ℕ) → turns ≡ suc left → left * suc n + (n - to) < turns * suc n + at
 turn_lower turns n to at left some =
     let product : turns * suc n ≡ suc n + left * suc n = ap (λ (k : ℕ). k * suc n) some ∙ omega arith in
     omega (arith, product)
 
-drops_turn : (b : ℕ) (c : Config) (to own turns : ℕ) → c.store.turns ≡ turns →
-    Lower (c.store.turns * suc (size c) + own) (turn_to (with_turns c.store turns) to c)
-drops_turn b c to own zero is = tt
-drops_turn b c to own (suc n) is = turn_lower c.store.turns (size c) to own n is
+drops_turn : (c : Config) (to own turns : ℕ) → c.callers ≡ [] → c.store.turns ≡ turns →
+    Lower (record { far = c.store.turns * suc (size c) + own; counted_bytes = c.store.counted }) (turn_to (with_turns c.store turns) to c)
+drops_turn c to own zero alone is = tt
+drops_turn c to own (suc n) alone is = (turn_lower c.store.turns (size c) to own n is, omega arith, (omega arith, tt), alone)
 
-drops_back : (own to : ℕ) (c : Config) → Drops own c (back own to c)
-drops_back own to c = lower_if _ (nat_lt to own) _ _ (λ e. drops_turn 0 c to (size c - own) c.store.turns refl) (λ e. tt)
+drops_back : (own to : ℕ) (c : Config) → c.callers ≡ [] → Drops own c (back own to c)
+drops_back own to c alone = lower_if _ (nat_lt to own) _ _ (λ e. drops_turn c to (size c - own) c.store.turns alone refl) (λ e. tt)
 
 drops_answered : (own : ℕ) (line : Line) (answer : Answer) (c : Config) → Ahead own c → Drops own c (answered line answer c)
 drops_answered own line (Gives z) c a = drops_on own c a
 drops_answered own line (Traps trap) c a = tt
 
+out_counted : (bytes : List ℕ) (count : ℕ) → AreCounted count (some_out bytes count)
+out_counted [] count = tt
+out_counted (byte ∷ bytes) count = (omega arith, tt)
+
 drops_written : (own : ℕ) (line : Line) (width : Option ℤ) (bytes : List ℕ) (c : Config) → Ahead own c → Drops own c (written line width bytes c)
-drops_written own line width bytes c a = lower_if _ (is_width width) _ _ (λ e. drops_on own c a) (λ e. tt)
+drops_written own line width bytes c a = lower_if _ (is_width width) _ _ (λ e. (omega (arith, a.0, a.1), omega arith, out_counted (in_places width bytes) c.store.counted, a.2)) (λ e. tt)
 
 -- a width is popped, and what follows is lower
 drops_width : (own w : ℕ) (c : Config) (next : Option ℤ → Config → Step) → ((width : Option ℤ) (rest : List ℤ) → Drops own c (next width (record c { nums = rest }))) → Drops own c (pop_width w c next)
@@ -103,7 +137,7 @@ drops_width own zero c next f = f None c.nums
 drops_width own (suc zero) c next f = pops _ c.nums c _ (λ z rest. f (Some z) rest)
 drops_width own (suc (suc n)) c next f = tt
 
-drops_back_to : (b : ℕ) (callers : List Caller) (nums : Caller → List ℤ) (refs : Caller → List Value) (c : Config) → callers ≡ [] → Lower b (come_back callers nums refs c)
+drops_back_to : (b : Bound) (callers : List Caller) (nums : Caller → List ℤ) (refs : Caller → List Value) (c : Config) → callers ≡ [] → Lower b (come_back callers nums refs c)
 drops_back_to b [] nums refs c none = tt
 drops_back_to b (caller ∷ callers) nums refs c none = absurd (cc)
 
@@ -121,10 +155,10 @@ drops_arith own line f c a = drops_two own c (λ x y d. answered line (f x y) d)
 
 drops_started : (own to : ℕ) (line : Line) (control limit step : ℤ) (c : Config) → Ahead own c → Drops own c (started own to line control limit step c)
 drops_started own to line control limit step c a = lower_if _ (is_same step (pos 0)) _ _ (λ e. tt)
-    (λ e. lower_if _ (goes_on limit step control) _ _ (λ g. drops_turn 0 c c.at (size c - own) c.store.turns refl) (λ g. drops_forward own to c a))
+    (λ e. lower_if _ (goes_on limit step control) _ _ (λ g. drops_turn c c.at (size c - own) c.store.turns a.2 refl) (λ g. drops_forward own to c a))
 
 drops_counted : (own s to : ℕ) (limit step next : ℤ) (c : Config) → Ahead own c → Drops own c (counted own s to limit step next c)
-drops_counted own s to limit step next c a = lower_if _ (goes_on limit step next) _ _ (λ e. drops_back own to (with_num c s next)) (λ e. drops_on own c a)
+drops_counted own s to limit step next c a = lower_if _ (goes_on limit step next) _ _ (λ e. drops_back own to (with_num c s next) a.2) (λ e. drops_on own c a)
 
 drops_jump : (own to : ℕ) (c : Config) (rest : List ℤ) (stays : List ℤ) (b : Bool) → Ahead own c
     → Drops own c (if b then on (record c { nums = rest }) else forward own to (record c { nums = stays }))
@@ -134,12 +168,134 @@ drops_jump_true : (own to : ℕ) (c : Config) (rest : List ℤ) (stays : List �
     → Drops own c (if b then forward own to (record c { nums = stays }) else on (record c { nums = rest }))
 drops_jump_true own to c rest stays b a = lower_if _ b _ _ (λ e. drops_forward own to (record c { nums = stays }) a) (λ e. drops_on own (record c { nums = rest }) a)
 
+-- Structures, vectors and texts: whatever they are, what follows is lower.
+lower_attempted : {A : Type 0} (b : Bound) (line : Line) (attempt : Attempt A) (next : A → Step) → ((a : A) → Lower b (next a)) → Lower b (attempted line attempt next)
+lower_attempted b line (Yields a) next f = f a
+lower_attempted b line (Fails trap) next f = tt
+
+lower_text : (b : Bound) (v : Value) (c : Config) (next : List ℕ → Config → Step) → ((bytes : List ℕ) → Lower b (next bytes c)) → Lower b (text_of v c next)
+lower_text b (value.Text bytes) c next f = f bytes
+lower_text b (value.Num z) c next f = tt
+lower_text b (value.Flag flag) c next f = tt
+lower_text b value.Nil c next f = tt
+lower_text b (value.Pointer id) c next f = tt
+lower_text b (value.Vector id) c next f = tt
+lower_text b (value.Procedure of scope) c next f = tt
+lower_text b value.Nothing c next f = tt
+
+lower_denoting : (b : Bound) (v : Value) (c : Config) (next : Value → Config → Step) → ((w : Value) → Lower b (next w c)) → Lower b (denoting_of v c next)
+lower_denoting b (value.Text bytes) c next f = tt
+lower_denoting b (value.Num z) c next f = tt
+lower_denoting b (value.Flag flag) c next f = tt
+lower_denoting b value.Nil c next f = f value.Nil
+lower_denoting b (value.Pointer id) c next f = f (value.Pointer id)
+lower_denoting b (value.Vector id) c next f = f (value.Vector id)
+lower_denoting b (value.Procedure of scope) c next f = tt
+lower_denoting b value.Nothing c next f = tt
+
+lower_object : (b : Bound) (v : Value) (c : Config) (next : Value → Config → Step) → ((w : Value) → Lower b (next w c)) → Lower b (object_of v c next)
+lower_object b (value.Text bytes) c next f = tt
+lower_object b (value.Num z) c next f = tt
+lower_object b (value.Flag flag) c next f = tt
+lower_object b value.Nil c next f = f value.Nil
+lower_object b (value.Pointer id) c next f = f (value.Pointer id)
+lower_object b (value.Vector id) c next f = tt
+lower_object b (value.Procedure of scope) c next f = tt
+lower_object b value.Nothing c next f = tt
+
+lower_constant : (b : Bound) (found : Option ConstantView) (next : List ℕ → Step) → ((bytes : List ℕ) → Lower b (next bytes)) → Lower b (text_in found next)
+lower_constant b (Some (text bytes)) next f = f bytes
+lower_constant b (Some (literal code)) next f = tt
+lower_constant b None next f = tt
+
+lower_number : (b : Bound) (found : Option Form) (s : Step) → Lower b s → Lower b (when_number found s)
+lower_number b (Some form.Number) s low = low
+lower_number b (Some form.Flag) s low = low
+lower_number b (Some form.Reference) s low = tt
+lower_number b None s low = tt
+
+lower_reference : (b : Bound) (found : Option Form) (s : Step) → Lower b s → Lower b (when_reference found s)
+lower_reference b (Some form.Number) s low = tt
+lower_reference b (Some form.Flag) s low = tt
+lower_reference b (Some form.Reference) s low = low
+lower_reference b None s low = tt
+
+lower_of_type : (b : Bound) (found : Option (List ℕ)) (next : List ℕ → Step) → ((ty : List ℕ) → Lower b (next ty)) → Lower b (of_type found next)
+lower_of_type b (Some ty) next f = f ty
+lower_of_type b None next f = tt
+
+lower_fields : (b : Bound) (forms : List Form) (values : List Value) (c : Config) (nums : List ℤ) (refs : List Value) (next : List Value → Config → Step)
+    → ((vs : List Value) (ns : List ℤ) (rs : List Value) → Lower b (next vs (record c { nums = ns; refs = rs })))
+    → Lower b (pop_fields forms values (record c { nums = nums; refs = refs }) next)
+lower_fields b [] values c nums refs next f = f values nums refs
+lower_fields b (form.Reference ∷ forms) values c nums refs next f =
+    pops_ref b refs (record c { nums = nums; refs = refs }) _ (λ v rest. lower_fields b forms (v ∷ values) c nums rest next f)
+lower_fields b (form.Number ∷ forms) values c nums refs next f =
+    pops b nums (record c { nums = nums; refs = refs }) _ (λ z rest. lower_fields b forms (kept_as (Some form.Number) (Num z) ∷ values) c rest refs next f)
+lower_fields b (form.Flag ∷ forms) values c nums refs next f =
+    pops b nums (record c { nums = nums; refs = refs }) _ (λ z rest. lower_fields b forms (kept_as (Some form.Flag) (Num z) ∷ values) c rest refs next f)
+
+lower_nums : (b : Bound) (n : ℕ) (zs : List ℤ) (c : Config) (nums : List ℤ) (next : List ℤ → Config → Step) → ((ys : List ℤ) (ns : List ℤ) → Lower b (next ys (record c { nums = ns })))
+    → Lower b (pop_nums n zs (record c { nums = nums }) next)
+lower_nums b zero zs c nums next f = f zs nums
+lower_nums b (suc n) zs c nums next f = pops b nums (record c { nums = nums }) _ (λ z rest. lower_nums b n (z ∷ zs) c rest next f)
+
+lower_refs : (b : Bound) (n : ℕ) (vs : List Value) (c : Config) (refs : List Value) (next : List Value → Config → Step) → ((ws : List Value) (rs : List Value) → Lower b (next ws (record c { refs = rs })))
+    → Lower b (pop_refs n vs (record c { refs = refs }) next)
+lower_refs b zero vs c refs next f = f vs refs
+lower_refs b (suc n) vs c refs next f = pops_ref b refs (record c { refs = refs }) _ (λ v rest. lower_refs b n (v ∷ vs) c rest next f)
+
+drops_text_made : (own : ℕ) (c : Config) (bytes : List ℕ) → Ahead own c → Drops own c (make_text bytes c)
+drops_text_made own c bytes a =
+    let more = holding (and_text bytes c.store) c in
+    lower_fewer (bound own c) (bound own more) _ refl (omega arith) (drops_push_ref own more (value.Text bytes) a)
+
+drops_made : (own : ℕ) (c : Config) (denoting : ℕ → Value) (object : Object) → Ahead own c → Drops own c (make denoting object c)
+drops_made own c denoting object a =
+    let more = holding (and_object object c.store) c in
+    lower_fewer (bound own c) (bound own more) _ refl (omega arith) (drops_push_ref own more (denoting (new_number c.store.heap)) a)
+
+drops_changed : (own : ℕ) (c : Config) (heap : Heap) → Ahead own c → Drops own c (changed heap c)
+drops_changed own c heap a = drops_on own (holding (on_heap heap c.store) c) a
+
+-- two texts are popped
+drops_texts : (own : ℕ) (c : Config) (next : List ℕ → List ℕ → Config → Step) → ((x y : List ℕ) (rest : List Value) → Drops own c (next x y (record c { refs = rest })))
+    → Drops own c (pop_ref_of c.refs c (λ v d. text_of v d (λ y e. pop_ref_of e.refs e (λ w g. text_of w g (λ x h. next x y h)))))
+drops_texts own c next f = pops_ref _ c.refs c _ (λ v rest. lower_text _ v (record c { refs = rest }) _
+    (λ y. pops_ref _ rest (record c { refs = rest }) _ (λ w rest'. lower_text _ w (record c { refs = rest' }) _ (λ x. f x y rest'))))
+
+drops_compare_texts : (own : ℕ) (op : Relation) (c : Config) → Ahead own c → Drops own c (compare_texts op c)
+drops_compare_texts own op c a = drops_texts own c (λ x y d. push_num (number_of (text_relation op x y)) d)
+    (λ x y rest. drops_push own (record c { refs = rest }) (number_of (text_relation op x y)) a)
+
+drops_compare_objects : (own : ℕ) (op : Relation) (c : Config) → Ahead own c → Drops own c (compare_objects op c)
+drops_compare_objects own op c a = pops_ref _ c.refs c _ (λ v rest. lower_denoting _ v (record c { refs = rest }) _
+    (λ w. pops_ref _ rest (record c { refs = rest }) _ (λ v' rest'. lower_denoting _ v' (record c { refs = rest' }) _
+    (λ w'. drops_push own (record c { refs = rest' }) (number_of (object_relation op w' w)) a))))
+
+drops_length : (own : ℕ) (c : Config) → Ahead own c → Drops own c (text_length c)
+drops_length own c a = pops_ref _ c.refs c _ (λ v rest. lower_text _ v (record c { refs = rest }) _ (λ bytes. drops_push own (record c { refs = rest }) (pos (length bytes)) a))
+
+drops_int_text : (own : ℕ) (c : Config) → Ahead own c → Drops own c (int_text c)
+drops_int_text own c a = pops _ c.nums c _ (λ z rest. drops_text_made own (record c { nums = rest }) (signed_decimal z) a)
+
+drops_library : (own code : ℕ) (c : Config) → Ahead own c → Drops own c (library code c)
+drops_library own code c a = lower_if _ (nat_eq code 11) _ _ (λ e. drops_length own c a) (λ e. lower_if _ (nat_eq code 12) _ _ (λ e'. drops_int_text own c a) (λ e'. tt))
+
+-- a vector is popped
+drops_vector : (own : ℕ) (c d : Config) (next : List ℕ → Value → Config → Step) → ((ty : List ℕ) (v : Value) (rest : List Value) → Drops own c (next ty v (record d { refs = rest })))
+    → Drops own c (pop_vector d next)
+drops_vector own c d next f = pops_ref _ d.refs d _ (λ v rest. lower_of_type _ (type_of d.store.heap v) _ (λ ty. f ty v rest))
+
+drops_bound : (own : ℕ) (of : Heap → Value → ℤ) (c : Config) → Ahead own c → Drops own c (bound_of of c)
+drops_bound own of c a = drops_vector own c c (λ ty v d. push_num (of d.store.heap v) d) (λ ty v rest. drops_push own (record c { refs = rest }) (of c.store.heap v) a)
+
 drops : (i : Instr) (own : ℕ) (c : Config) → Ahead own c → Drops own c (acts i own c)
 drops (Int v) own c a = drops_push own c v a
 drops True own c a = drops_push own c (pos 1) a
 drops False own c a = drops_push own c (pos 0) a
 drops (Text k) own c a = drops_text own c (constant_at (constants_in c.unit) k) a
-drops Nil own c a = tt
+drops Nil own c a = drops_push_ref own c value.Nil a
 drops (GetM s) own c a = lower_if _ (is_num_slot c s) _ _ (λ e. drops_push own c (c.locals.nums s) a) (λ e. tt)
 drops (GetP s) own c a = lower_if _ (is_ref_slot c s) _ _ (λ e. drops_push_ref own c (c.locals.refs s) a) (λ e. tt)
 drops (SetM s) own c a = pops _ c.nums c _ (λ z rest. lower_if _ (is_num_slot c s) _ _ (λ e. drops_on own (with_num (record c { nums = rest }) s z) a) (λ e. tt))
@@ -153,7 +309,7 @@ drops Leave own c a = tt
 drops (Jump t) own c a = drops_forward own t c a
 drops (JumpFalse t) own c a = pops _ c.nums c _ (λ z rest. drops_jump own t c rest rest (is_one z) a)
 drops (JumpTrue t) own c a = pops _ c.nums c _ (λ z rest. drops_jump_true own t c rest rest (is_one z) a)
-drops (Again t) own c a = pops _ c.nums c _ (λ z rest. lower_if _ (is_one z) _ _ (λ e. drops_back own t (record c { nums = rest })) (λ e. drops_on own (record c { nums = rest }) a))
+drops (Again t) own c a = pops _ c.nums c _ (λ z rest. lower_if _ (is_one z) _ _ (λ e. drops_back own t (record c { nums = rest }) a.2) (λ e. drops_on own (record c { nums = rest }) a))
 drops (And t) own c a = pops _ c.nums c _ (λ z rest. drops_jump own t c rest c.nums (is_one z) a)
 drops (Or t) own c a = pops _ c.nums c _ (λ z rest. drops_jump_true own t c rest c.nums (is_one z) a)
 drops Not own c a = pops _ c.nums c _ (λ z rest. drops_on own (record c { nums = number_of (not (is_one z)) ∷ rest }) a)
@@ -169,39 +325,57 @@ drops LtM own c a = drops_test own (relation_of relation.Less) c a
 drops LeM own c a = drops_test own (relation_of relation.LessEqual) c a
 drops GtM own c a = drops_test own (relation_of relation.Greater) c a
 drops GeM own c a = drops_test own (relation_of relation.GreaterEqual) c a
-drops EqP own c a = tt
-drops NeP own c a = tt
-drops EqT own c a = tt
-drops NeT own c a = tt
-drops LtT own c a = tt
-drops LeT own c a = tt
-drops GtT own c a = tt
-drops GeT own c a = tt
-drops (Join line) own c a = tt
-drops (Part line) own c a = tt
-drops (Is k) own c a = tt
-drops (Make k) own c a = tt
-drops (FieldM k i line) own c a = tt
-drops (FieldP k i line) own c a = tt
-drops (SetFieldM k i line) own c a = tt
-drops (SetFieldP k i line) own c a = tt
-drops (FillM k line) own c a = tt
-drops (FillP k line) own c a = tt
-drops (ListM k n line) own c a = tt
-drops (ListP k n line) own c a = tt
-drops (ElemM line) own c a = tt
-drops (ElemP line) own c a = tt
-drops (SetElemM line) own c a = tt
-drops (SetElemP line) own c a = tt
-drops Lwb own c a = tt
-drops Upb own c a = tt
+drops EqP own c a = drops_compare_objects own relation.Equal c a
+drops NeP own c a = drops_compare_objects own relation.NotEqual c a
+drops EqT own c a = drops_compare_texts own relation.Equal c a
+drops NeT own c a = drops_compare_texts own relation.NotEqual c a
+drops LtT own c a = drops_compare_texts own relation.Less c a
+drops LeT own c a = drops_compare_texts own relation.LessEqual c a
+drops GtT own c a = drops_compare_texts own relation.Greater c a
+drops GeT own c a = drops_compare_texts own relation.GreaterEqual c a
+drops (Join line) own c a = drops_texts own c (λ x y d. attempted line (join_of x y) (λ bytes. make_text bytes d)) (λ x y rest. lower_attempted _ line (join_of x y) _ (λ bytes. drops_text_made own (record c { refs = rest }) bytes a))
+drops (Part line) own c a = drops_two own c (λ i n d. pop_ref_of d.refs d (λ v e. text_of v e (λ x g. attempted line (part_of x i n) (λ bytes. make_text bytes g))))
+    (λ i n rest. pops_ref _ c.refs (record c { nums = rest }) _ (λ v rest'. lower_text _ v (record c { nums = rest; refs = rest' }) _
+    (λ x. lower_attempted _ line (part_of x i n) _ (λ bytes. drops_text_made own (record c { nums = rest; refs = rest' }) bytes a))))
+drops (Is k) own c a = lower_constant _ (constant_at (constants_in c.unit) k) _ (λ class. pops_ref _ c.refs c _ (λ v rest. lower_object _ v (record c { refs = rest }) _
+    (λ w. drops_push own (record c { refs = rest }) (number_of (is_class c.store.heap w class)) a)))
+drops (Make k) own c a = lower_constant _ (constant_at (constants_in c.unit) k) _ (λ class. lower_fields _ (reverse (forms_of class)) [] c c.nums c.refs _
+    (λ fields ns rs. drops_made own (record c { nums = ns; refs = rs }) value.Pointer (Structure class fields) a))
+drops (FieldM k i line) own c a = lower_constant _ (constant_at (constants_in c.unit) k) _ (λ class. lower_number _ (form_in (forms_of class) i) _ (pops_ref _ c.refs c _ (λ v rest. lower_object _ v (record c { refs = rest }) _
+    (λ w. lower_attempted _ line (field_of c.store.heap w class i) _ (λ x. drops_push own (record c { refs = rest }) (word_of x) a)))))
+drops (FieldP k i line) own c a = lower_constant _ (constant_at (constants_in c.unit) k) _ (λ class. lower_reference _ (form_in (forms_of class) i) _ (pops_ref _ c.refs c _ (λ v rest. lower_object _ v (record c { refs = rest }) _
+    (λ w. lower_attempted _ line (field_of c.store.heap w class i) _ (λ x. drops_push_ref own (record c { refs = rest }) x a)))))
+drops (SetFieldM k i line) own c a = lower_constant _ (constant_at (constants_in c.unit) k) _ (λ class. lower_number _ (form_in (forms_of class) i) _ (pops _ c.nums c _ (λ z ns. pops_ref _ c.refs (record c { nums = ns }) _ (λ v rest.
+    lower_object _ v (record c { nums = ns; refs = rest }) _ (λ w. lower_attempted _ line (with_field c.store.heap w class i (kept_as (form_in (forms_of class) i) (Num z))) _
+    (λ heap. drops_changed own (record c { nums = ns; refs = rest }) heap a))))))
+drops (SetFieldP k i line) own c a = lower_constant _ (constant_at (constants_in c.unit) k) _ (λ class. lower_reference _ (form_in (forms_of class) i) _ (pops_ref _ c.refs c _ (λ x below. pops_ref _ below (record c { refs = below }) _ (λ v rest.
+    lower_object _ v (record c { refs = rest }) _ (λ w. lower_attempted _ line (with_field c.store.heap w class i x) _
+    (λ heap. drops_changed own (record c { refs = rest }) heap a))))))
+drops (FillM k line) own c a = lower_constant _ (constant_at (constants_in c.unit) k) _ (λ ty. lower_number _ (Some (element_of ty)) _ (pops _ c.nums c _ (λ z ns. pops _ ns (record c { nums = ns }) _ (λ high ns'. pops _ ns' (record c { nums = ns' }) _ (λ low rest.
+    lower_attempted _ line (filled_vector ty low high (kept_as (Some (element_of ty)) (Num z))) _ (λ object. drops_made own (record c { nums = rest }) value.Vector object a))))))
+drops (FillP k line) own c a = lower_constant _ (constant_at (constants_in c.unit) k) _ (λ ty. lower_reference _ (Some (element_of ty)) _ (pops_ref _ c.refs c _ (λ v rs. pops _ c.nums (record c { refs = rs }) _ (λ high ns'. pops _ ns' (record c { nums = ns'; refs = rs }) _ (λ low rest.
+    lower_attempted _ line (filled_vector ty low high v) _ (λ object. drops_made own (record c { nums = rest; refs = rs }) value.Vector object a))))))
+drops (ListM k n line) own c a = lower_constant _ (constant_at (constants_in c.unit) k) _ (λ ty. lower_number _ (Some (element_of ty)) _ (lower_nums _ n [] c c.nums _ (λ zs ns. pops _ ns (record c { nums = ns }) _ (λ low rest.
+    lower_attempted _ line (vector_of ty low (kept_elements ty (map Num zs))) _ (λ object. drops_made own (record c { nums = rest }) value.Vector object a)))))
+drops (ListP k n line) own c a = lower_constant _ (constant_at (constants_in c.unit) k) _ (λ ty. lower_reference _ (Some (element_of ty)) _ (lower_refs _ n [] c c.refs _ (λ vs rs. pops _ c.nums (record c { refs = rs }) _ (λ low rest.
+    lower_attempted _ line (vector_of ty low vs) _ (λ object. drops_made own (record c { nums = rest; refs = rs }) value.Vector object a)))))
+drops (ElemM line) own c a = pops _ c.nums c _ (λ i ns. drops_vector own c (record c { nums = ns }) _ (λ ty v rest. lower_attempted _ line (element_at c.store.heap v i) _
+    (λ w. lower_number _ (Some (element_of ty)) _ (drops_push own (record c { nums = ns; refs = rest }) (word_of w) a))))
+drops (ElemP line) own c a = pops _ c.nums c _ (λ i ns. drops_vector own c (record c { nums = ns }) _ (λ ty v rest. lower_attempted _ line (element_at c.store.heap v i) _
+    (λ w. lower_reference _ (Some (element_of ty)) _ (drops_push_ref own (record c { nums = ns; refs = rest }) w a))))
+drops (SetElemM line) own c a = pops _ c.nums c _ (λ z ns'. pops _ ns' (record c { nums = ns' }) _ (λ i ns. drops_vector own c (record c { nums = ns }) _ (λ ty v rest.
+    lower_attempted _ line (with_element c.store.heap v i (kept_as (Some (element_of ty)) (Num z))) _ (λ heap. lower_number _ (Some (element_of ty)) _ (drops_changed own (record c { nums = ns; refs = rest }) heap a)))))
+drops (SetElemP line) own c a = pops_ref _ c.refs c _ (λ w rs. pops _ c.nums (record c { refs = rs }) _ (λ i ns. drops_vector own c (record c { nums = ns; refs = rs }) _ (λ ty v rest.
+    lower_attempted _ line (with_element c.store.heap v i w) _ (λ heap. lower_reference _ (Some (element_of ty)) _ (drops_changed own (record c { nums = ns; refs = rest }) heap a)))))
+drops Lwb own c a = drops_bound own low_of c a
+drops Upb own c a = drops_bound own high_of c a
 drops (Closure k) own c a = tt
 drops (Call n line) own c a = tt
 drops (Return k) own c a = drops_returned own k c a
-drops (Lib k line) own c a = tt
+drops (Lib k line) own c a = drops_library own k c a
 drops (WriteI w line) own c a = drops_width own w c _ (λ width rest. pops _ rest (record c { nums = rest }) _ (λ z rest'. drops_written own line width (signed_decimal z) (record c { nums = rest' }) a))
 drops (WriteB w line) own c a = drops_width own w c _ (λ width rest. pops _ rest (record c { nums = rest }) _ (λ z rest'. drops_written own line width (flag_text (is_one z)) (record c { nums = rest' }) a))
-drops (WriteT w line) own c a = drops_width own w c _ (λ width rest. pops_ref _ c.refs (record c { nums = rest }) _ (λ v rest'. drops_written own line width (bytes_of v) (record c { nums = rest; refs = rest' }) a))
+drops (WriteT w line) own c a = drops_width own w c _ (λ width rest. pops_ref _ c.refs (record c { nums = rest }) _ (λ v rest'. lower_text _ v (record c { nums = rest; refs = rest' }) _ (λ bytes. drops_written own line width bytes (record c { nums = rest; refs = rest' }) a)))
 drops (Abort line) own c a = tt
 drops (ForStart s t line) own c a = lower_if _ (is_num_slot c (s + 2)) _ _ (λ e. drops_started own t line (c.locals.nums s) (c.locals.nums (s + 1)) (c.locals.nums (s + 2)) c a) (λ e. tt)
 drops (ForNext s t) own c a = lower_if _ (is_num_slot c (s + 2)) _ _ (λ e. drops_counted own s t (c.locals.nums (s + 1)) (c.locals.nums (s + 2)) (c.locals.nums s +ℤ c.locals.nums (s + 2)) c a) (λ e. tt)
@@ -213,10 +387,11 @@ drops DupP own c a = pops_ref _ c.refs c _ (λ v rest. drops_push_ref own c v a)
 drops DropM own c a = pops _ c.nums c _ (λ z rest. drops_on own (record c { nums = rest }) a)
 drops DropP own c a = pops_ref _ c.refs c _ (λ v rest. drops_on own (record c { refs = rest }) a)
 
--- a step that goes on comes nearer to the end
-pub nearer : {c : Config} {s : Step} → Steps c s → c.callers ≡ [] → (events : List Event) (next : Config) → s ≡ Goes events next → left next < left c
+-- A step that goes on comes nearer to the end, and counts no fewer bytes; no body waits behind it either.
+pub nearer : {c : Config} {s : Step} → Steps c s → c.callers ≡ [] → (events : List Event) (next : Config) → s ≡ Goes events next
+    → (left next < left c) × (c.store.counted ≤ next.store.counted) × AreCounted c.store.counted events × (next.callers ≡ [])
 nearer {c} {s} (at_instruction {i} at) alone events next is =
     let inside : c.at < size c = omega (arith, ap length at.spelled, length-append (spelling i) at.rest, length-spelling i, length-drop c.at (code_in c.unit)) in
     let lower = drops i c.at (record c { at = c.at + width_of i }) (inside, omega arith, alone) in
-    subst (λ (x : Step). Lower (left c) x) is lower
+    subst (λ (x : Step). Lower (record { far = left c; counted_bytes = c.store.counted }) x) is lower
 nearer {c} {s} (at_nothing none) alone events next is = absurd (let both : Stuck ≡ Goes events next = is in cc)

@@ -1,4 +1,3 @@
-pub mod Taking
 pub mod Acting
 pub mod Advancing
 pub mod Blanks

@@ -1,78 +1,128 @@
-ghost use Rattle.std.specs.Prelude.{◌≡◌, ◌≤◌, replicate, pos, IfOk, vec_len, vec_capacity};
+ghost use Rattle.std.specs.Prelude.{◌≡◌, ◌^◌, ◌+◌, ◌≤◌, replicate, pos, IfOk, vec_capacity};
 ghost use Rattle.ps_base.specs.CodeUnit.{unit_view};
 ghost use Rattle.ps_stepping.specs.Config.{frame_words};
-ghost use Rattle.stack_machine.specs.Holding.{stack_words};
-ghost use Rattle.stack_machine.specs.Loaded.{Loads};
-ghost use Rattle.stack_machine.specs.declared.load.LoadFault.TheVariants.{Memory};
+ghost use Rattle.stack_machine.specs.Loaded.{IsRoomy, IsNew, Loads};
 
-use crate::machine::{FRAME_WORDS, Machine, STACK_WORDS};
-use ps_base::code_unit::CodeUnit;
+use heap_ops::layouts::Layouts;
+use machine_state::{FRAME_WORDS, MOST_VALUES, Machine, STACK_WORDS};
+use paired_ops::code;
+use ps_base::code_unit::{CodeUnit, Frame};
 use std::alloc::{AllocError, Global};
+use swizzle::fault::SwizzleFault;
+use swizzle::swizzle::Swizzle;
 
-/// Why a unit wasn't loaded.
+/// Why a unit wasn't loaded. The machine takes another one behind it.
 #[derive(Clone, Copy, PartialEq, Eq, Debug)]
 pub enum LoadFault {
-    /// There isn't memory for the stacks.
-    Memory,
     /// The unit's frame has more than 512 locals on one stack.
     Damaged,
+    /// The area has no room for the unit: its next word, the words of the object that didn't fit, and the area's size, of which the first two
+    /// together are more.
+    Full { top: u32, wanted: u32, size: u32 },
 }
 
-impl From<AllocError> for LoadFault {
-    ghost from_gives = { λ _ fault. fault ≡ Memory };
+// A frame without locals.
+const NO_LOCALS: Frame = Frame {
+    nums: 0,
+    refs: 0,
+    num_params: 0,
+    ref_params: 0,
+};
 
-    fn from(_: AllocError) -> LoadFault {
-        LoadFault::Memory
-    }
-}
-
-/// A machine at the start of a unit, with so many turns. It takes all the memory that the run will
-/// use: two stacks of 2,001 times 512 words, of which only the locals are written. A refusal keeps
-/// nothing.
-pub fn load<'a>(alloc: Global, unit: &'a CodeUnit, turns: u64) -> Result<Machine<'a>, LoadFault>
-    ensures { Loads (unit_view unit.now) turns result }
+/// A machine without a unit, over an area of so many words. It takes all the memory that its runs will use: the area, two stacks of 2,001 times
+/// 512 words, and room for the values of one object; of all these no page is touched before it is used.
+pub fn machine(alloc: Global, words: u32) -> Result<Machine, AllocError>
+    requires low { 5 ≤ words }
+    requires high { words ≤ 2 ^ 25 }
+    ensures { IfOk result (IsNew (words + 1)) }
 {
-    let frame = unit.frame;
-    let (num_count, ref_count) = (frame.nums as usize, frame.refs as usize);
-    if num_count > FRAME_WORDS {
-        return Err(LoadFault::Damaged);
-    }
-    if ref_count > FRAME_WORDS {
-        return Err(LoadFault::Damaged);
-    }
-    let nums = number_stack(alloc, num_count)?;
-    let refs = reference_stack(alloc, ref_count)?;
+    let sw = Swizzle::new(alloc, words)?;
+    let layouts = Layouts::new(alloc)?;
     Ok(Machine {
-        code: unit.code.as_slice(),
-        constants: unit.constants.as_slice(),
-        frame,
+        sw,
+        layouts,
+        values: Vec::with_capacity(alloc, MOST_VALUES)?,
+        code: 0,
+        frame: NO_LOCALS,
         at: 0,
-        nums,
-        refs,
-        turns,
+        nums: Vec::with_capacity(alloc, STACK_WORDS)?,
+        refs: Vec::with_capacity(alloc, STACK_WORDS)?,
+        turns: 0,
     })
 }
 
-// A stack of numbers, with so many locals that are 0.
-fn number_stack(alloc: Global, count: usize) -> Result<Vec<i32>, AllocError>
-    requires { count ≤ frame_words }
-    ensures items { IfOk result (λ v. v.items ≡ replicate count (pos 0)) }
-    ensures len { IfOk result (λ v. vec_len v ≡ count) }
-    ensures room { IfOk result (λ v. stack_words ≤ vec_capacity v) }
+/// Puts a unit into a machine, at its start and with so many turns. What lay in the area is forgotten in no time that depends on it, and no
+/// memory is taken.
+pub fn load(m: &mut Machine, unit: &CodeUnit, turns: u64) -> Result<(), LoadFault>
+    requires { IsRoomy m.old }
+    ensures { Loads (unit_view unit.now) turns m.old m.new result }
 {
-    let mut stack = Vec::with_capacity(alloc, STACK_WORDS)?;
-    stack.resize(count, 0)?;
-    Ok(stack)
+    let frame = unit.frame;
+    if frame.nums as usize > FRAME_WORDS {
+        return Err(LoadFault::Damaged);
+    }
+    if frame.refs as usize > FRAME_WORDS {
+        return Err(LoadFault::Damaged);
+    }
+    m.sw.reset();
+    m.layouts.clear();
+    match code::load(&mut m.sw, unit) {
+        Ok(code) => {
+            begin(m, code, frame, turns);
+            Ok(())
+        }
+        Err(SwizzleFault::AreaFull { top, wanted, size }) => {
+            Err(LoadFault::Full { top, wanted, size })
+        }
+        Err(SwizzleFault::Vault(_)) => unreachable!(),
+    }
 }
 
-// A stack of references, with so many locals that are nil.
-fn reference_stack(alloc: Global, count: usize) -> Result<Vec<u64>, AllocError>
-    requires { count ≤ frame_words }
-    ensures items { IfOk result (λ v. v.items ≡ replicate count 0) }
-    ensures len { IfOk result (λ v. vec_len v ≡ count) }
-    ensures room { IfOk result (λ v. stack_words ≤ vec_capacity v) }
+// Stands at the start of a code object with this frame: the locals are 0 and nil, and nothing is pushed.
+fn begin(m: &mut Machine, code: u32, frame: Frame, turns: u64)
+    requires roomy { IsRoomy m.old }
+    requires nums { frame.nums ≤ frame_words }
+    requires refs { frame.refs ≤ frame_words }
+    ensures roomy { IsRoomy m.new }
+    ensures sw { m.new.sw ≡ m.old.sw }
+    ensures layouts { m.new.layouts ≡ m.old.layouts }
+    ensures code { m.new.code ≡ code }
+    ensures frame { m.new.frame ≡ frame }
+    ensures at { m.new.at ≡ 0 }
+    ensures nums { m.new.nums.items ≡ replicate frame.nums (pos 0) }
+    ensures refs { m.new.refs.items ≡ replicate frame.refs 0 }
+    ensures turns { m.new.turns ≡ turns }
 {
-    let mut stack = Vec::with_capacity(alloc, STACK_WORDS)?;
-    stack.resize(count, 0)?;
-    Ok(stack)
+    m.code = code;
+    m.frame = frame;
+    m.at = 0;
+    m.turns = turns;
+    blank_nums(&mut m.nums, frame.nums as usize);
+    blank_refs(&mut m.refs, frame.refs as usize);
+}
+
+// So many numbers that are 0, and nothing else.
+fn blank_nums(stack: &mut Vec<i32>, count: usize)
+    requires { count ≤ vec_capacity stack.old }
+    ensures items { stack.new.items ≡ replicate count (pos 0) }
+    ensures room { vec_capacity stack.old ≤ vec_capacity stack.new }
+{
+    stack.clear();
+    match stack.resize(count, 0) {
+        Ok(()) => {}
+        Err(_) => unreachable!(),
+    }
+}
+
+// So many references that are nil, and nothing else.
+fn blank_refs(stack: &mut Vec<u32>, count: usize)
+    requires { count ≤ vec_capacity stack.old }
+    ensures items { stack.new.items ≡ replicate count 0 }
+    ensures room { vec_capacity stack.old ≤ vec_capacity stack.new }
+{
+    stack.clear();
+    match stack.resize(count, 0) {
+        Ok(()) => {}
+        Err(_) => unreachable!(),
+    }
 }

@@ -1,81 +1,73 @@
-ghost use Rattle.std.specs.Prelude.{◌≡◌, ◌+◌, ◌≤◌, length, IfSome};
-ghost use Rattle.ps_base.specs.declared.trap.Trap.TheVariants.{Abort};
-ghost use Rattle.ps_meaning.specs.Event.{Trapped};
-ghost use Rattle.ps_stepping.specs.Machine.{Stops};
-ghost use Rattle.stack_machine.specs.Holding.{IsSound};
-ghost use Rattle.stack_machine.specs.Stepped.{Takes, TakesStep};
-ghost use Rattle.stack_machine.specs.inside.Acting.{ActsAs, IsInstrAt};
+ghost use Rattle.std.specs.Prelude.{◌≡◌};
+ghost use Rattle.swizzle.specs.Reading.{LeavesOutside};
+ghost use Rattle.paired_ops.specs.World.{IsEmpty};
+ghost use Rattle.machine_state.specs.Holding.{IsHolding, IsSound};
+ghost use Rattle.machine_state.specs.Stepped.{TakesStep, UnlessDamaged};
+ghost use Rattle.stack_machine.specs.inside.Acting.{ActsAs};
 
-use crate::jumps::{again, and, drop_num, forward, jump_false, jump_true, or};
-use crate::loops::{for_next, for_start};
-use crate::machine::Machine;
-use crate::run_end::RunEnd;
-use crate::stacks::push_num;
-use crate::stepped::Stepped;
-use crate::values::{
-    arith, compare, drop_ref, dup_num, dup_ref, get_num, get_ref, neg, not, push_text, set_num,
-    set_ref,
+use machine_objects::elements::{set_element_num, set_element_ref};
+use machine_objects::fills::{fill_num, fill_ref};
+use machine_objects::lists::{list_num, list_ref};
+use machine_objects::makes::make_structure;
+use machine_objects::structures::{
+    compare_objects, field_num, field_ref, is_of_class, push_nil, set_field_num, set_field_ref,
 };
-use crate::writes::{returned, write_flag, write_int, write_text};
+use machine_objects::texts::{
+    compare as compare_texts, join, library, part, push_text, write_text,
+};
+use machine_objects::vectors::{element_num, element_ref, lower_bound, upper_bound};
+use machine_state::jumps::{again, and, drop_num, forward, jump_false, jump_true, or};
+use machine_state::loops::{for_next, for_start};
+use machine_state::stacks::push_num;
+use machine_state::values::{
+    arith, compare, drop_ref, dup_num, dup_ref, get_num, get_ref, neg, not, set_num, set_ref,
+};
+use machine_state::writes::{abort, returned, write_flag, write_int};
+use machine_state::{Machine, Stepped};
+use obj_layout::vault::Vault;
+use proc_values::reading::instr_at;
 use ps_base::instr::Instr;
-use ps_base::line::Line;
 use ps_base::operator::{Operator, Relation};
-use ps_base::trap::Trap;
-use ps_code::decode::decode;
 
-/// Takes one step: does what the instruction at the machine's offset says. It is total: where there is
-/// no instruction, or none that the machine can do, it answers `Damaged`, and the machine is of no use.
+/// Takes one step: does what the instruction at the machine's offset says. Where there is no instruction, or none that the machine can do, it
+/// answers `Damaged`, and the machine is of no use.
 #[inline(always)]
-pub fn step<'a>(m: &mut Machine<'a>) -> Stepped<'a>
-    requires { IsSound m.old }
-    ensures { TakesStep m.old m.new result }
+pub fn step<V: Vault>(m: &mut Machine, vault: &mut V) -> Stepped
+    requires sound { IsSound m.old }
+    requires holding { IsHolding m.old }
+    requires alive { V.alive vault.old }
+    requires empty { IsEmpty (V.outside vault.old) }
+    ensures takes { TakesStep m.old m.new result }
+    ensures leaves { LeavesOutside (V.outside vault.old) (V.outside vault.new) }
+    ensures alive { UnlessDamaged result (V.alive vault.new) }
 {
     let own = m.at;
-    let Some((instr, width)) = instr_at(m.code, own) else {
-        return Stepped::Damaged;
-    };
-    m.at = own + width;
-    act(m, own, instr)
-}
-
-// The instruction that is spelled at an offset, and its length.
-#[inline(always)]
-fn instr_at(code: &[u8], at: usize) -> Option<(Instr, usize)>
-    ensures found { IsInstrAt code.now at result }
-    ensures within { IfSome result (λ x. at + x.1 ≤ length code.now) }
-{
-    if at >= code.len() {
-        return None;
+    match instr_at(&m.sw, m.code, own) {
+        Ok((instr, behind)) => {
+            m.at = behind;
+            act(m, vault, own, instr)
+        }
+        Err(_) => Stepped::Damaged,
     }
-    let (_, rest) = code.split_at(at);
-    decode(rest)
-}
-
-// Ends the run by the program's own will.
-#[inline(always)]
-fn abort<'a>(m: &Machine<'a>, line: Line) -> Stepped<'a>
-    requires { IsSound m.now }
-    ensures { Takes (λ c. Stops (Trapped Abort line)) m.now m.now result }
-{
-    let _ = m;
-    Stepped::Halts(RunEnd::Trapped {
-        trap: Trap::Abort,
-        line,
-    })
 }
 
 // Does what an instruction says, whose own offset this is. The machine stands behind it already.
 #[inline(always)]
-fn act<'a>(m: &mut Machine<'a>, own: usize, instr: Instr) -> Stepped<'a>
-    requires { IsSound m.old }
-    ensures { ActsAs instr own m.old m.new result }
+fn act<V: Vault>(m: &mut Machine, vault: &mut V, own: u32, instr: Instr) -> Stepped
+    requires sound { IsSound m.old }
+    requires holding { IsHolding m.old }
+    requires alive { V.alive vault.old }
+    requires empty { IsEmpty (V.outside vault.old) }
+    ensures acts { ActsAs instr own m.old m.new result }
+    ensures leaves { LeavesOutside (V.outside vault.old) (V.outside vault.new) }
+    ensures alive { UnlessDamaged result (V.alive vault.new) }
 {
     match instr {
         Instr::Int { v } => push_num(m, v),
         Instr::True => push_num(m, 1),
         Instr::False => push_num(m, 0),
-        Instr::Text { c } => push_text(m, c),
-        Instr::Nil => Stepped::Damaged,
+        Instr::Text { c } => push_text(m, vault, c),
+        Instr::Nil => push_nil(m),
         Instr::GetM { s } => get_num(m, s as usize),
         Instr::GetP { s } => get_ref(m, s as usize),
         Instr::SetM { s } => set_num(m, s as usize),
@@ -86,11 +78,11 @@ fn act<'a>(m: &mut Machine<'a>, own: usize, instr: Instr) -> Stepped<'a>
         Instr::KeepP { .. } => Stepped::Damaged,
         Instr::Scope { .. } => Stepped::Damaged,
         Instr::Leave => Stepped::Damaged,
-        Instr::Jump { t } => forward(m, own, t as usize),
-        Instr::JumpFalse { t } => jump_false(m, own, t as usize),
-        Instr::Again { t } => again(m, own, t as usize),
-        Instr::And { t } => and(m, own, t as usize),
-        Instr::Or { t } => or(m, own, t as usize),
+        Instr::Jump { t } => forward(m, own, t),
+        Instr::JumpFalse { t } => jump_false(m, own, t),
+        Instr::Again { t } => again(m, own, t),
+        Instr::And { t } => and(m, own, t),
+        Instr::Or { t } => or(m, own, t),
         Instr::Not => not(m),
         Instr::Neg { line } => neg(m, line),
         Instr::Add { line } => arith(m, Operator::Add, line),
@@ -104,42 +96,42 @@ fn act<'a>(m: &mut Machine<'a>, own: usize, instr: Instr) -> Stepped<'a>
         Instr::LeM => compare(m, Relation::LessEqual),
         Instr::GtM => compare(m, Relation::Greater),
         Instr::GeM => compare(m, Relation::GreaterEqual),
-        Instr::EqP => Stepped::Damaged,
-        Instr::NeP => Stepped::Damaged,
-        Instr::EqT => Stepped::Damaged,
-        Instr::NeT => Stepped::Damaged,
-        Instr::LtT => Stepped::Damaged,
-        Instr::LeT => Stepped::Damaged,
-        Instr::GtT => Stepped::Damaged,
-        Instr::GeT => Stepped::Damaged,
-        Instr::Join { .. } => Stepped::Damaged,
-        Instr::Part { .. } => Stepped::Damaged,
-        Instr::Is { .. } => Stepped::Damaged,
-        Instr::Make { .. } => Stepped::Damaged,
-        Instr::FieldM { .. } => Stepped::Damaged,
-        Instr::FieldP { .. } => Stepped::Damaged,
-        Instr::SetFieldM { .. } => Stepped::Damaged,
-        Instr::SetFieldP { .. } => Stepped::Damaged,
-        Instr::FillM { .. } => Stepped::Damaged,
-        Instr::FillP { .. } => Stepped::Damaged,
-        Instr::ListM { .. } => Stepped::Damaged,
-        Instr::ListP { .. } => Stepped::Damaged,
-        Instr::ElemM { .. } => Stepped::Damaged,
-        Instr::ElemP { .. } => Stepped::Damaged,
-        Instr::SetElemM { .. } => Stepped::Damaged,
-        Instr::SetElemP { .. } => Stepped::Damaged,
-        Instr::Lwb => Stepped::Damaged,
-        Instr::Upb => Stepped::Damaged,
+        Instr::EqP => compare_objects(m, Relation::Equal),
+        Instr::NeP => compare_objects(m, Relation::NotEqual),
+        Instr::EqT => compare_texts(m, Relation::Equal),
+        Instr::NeT => compare_texts(m, Relation::NotEqual),
+        Instr::LtT => compare_texts(m, Relation::Less),
+        Instr::LeT => compare_texts(m, Relation::LessEqual),
+        Instr::GtT => compare_texts(m, Relation::Greater),
+        Instr::GeT => compare_texts(m, Relation::GreaterEqual),
+        Instr::Join { line } => join(m, line),
+        Instr::Part { line } => part(m, line),
+        Instr::Is { c } => is_of_class(m, vault, c),
+        Instr::Make { c } => make_structure(m, vault, c),
+        Instr::FieldM { c, i, line } => field_num(m, vault, c, i, line),
+        Instr::FieldP { c, i, line } => field_ref(m, vault, c, i, line),
+        Instr::SetFieldM { c, i, line } => set_field_num(m, vault, c, i, line),
+        Instr::SetFieldP { c, i, line } => set_field_ref(m, vault, c, i, line),
+        Instr::FillM { c, line } => fill_num(m, vault, c, line),
+        Instr::FillP { c, line } => fill_ref(m, vault, c, line),
+        Instr::ListM { c, n, line } => list_num(m, vault, c, n, line),
+        Instr::ListP { c, n, line } => list_ref(m, vault, c, n, line),
+        Instr::ElemM { line } => element_num(m, vault, line),
+        Instr::ElemP { line } => element_ref(m, vault, line),
+        Instr::SetElemM { line } => set_element_num(m, vault, line),
+        Instr::SetElemP { line } => set_element_ref(m, vault, line),
+        Instr::Lwb => lower_bound(m, vault),
+        Instr::Upb => upper_bound(m, vault),
         Instr::Closure { .. } => Stepped::Damaged,
         Instr::Call { .. } => Stepped::Damaged,
         Instr::Return { k } => returned(m, k),
-        Instr::Lib { .. } => Stepped::Damaged,
+        Instr::Lib { k, .. } => library(m, k),
         Instr::WriteI { w, line } => write_int(m, w, line),
         Instr::WriteB { w, line } => write_flag(m, w, line),
         Instr::WriteT { w, line } => write_text(m, w, line),
         Instr::Abort { line } => abort(m, line),
-        Instr::ForStart { s, t, line } => for_start(m, own, s as usize, t as usize, line),
-        Instr::ForNext { s, t } => for_next(m, own, s as usize, t as usize),
+        Instr::ForStart { s, t, line } => for_start(m, own, s as usize, t, line),
+        Instr::ForNext { s, t } => for_next(m, own, s as usize, t),
         Instr::ScanT { .. } => Stepped::Damaged,
         Instr::ScanI { .. } => Stepped::Damaged,
         Instr::ScanMore { .. } => Stepped::Damaged,
@@ -147,6 +139,6 @@ fn act<'a>(m: &mut Machine<'a>, own: usize, instr: Instr) -> Stepped<'a>
         Instr::DupP => dup_ref(m),
         Instr::DropM => drop_num(m),
         Instr::DropP => drop_ref(m),
-        Instr::JumpTrue { t } => jump_true(m, own, t as usize),
+        Instr::JumpTrue { t } => jump_true(m, own, t),
     }
 }

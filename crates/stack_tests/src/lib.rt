@@ -6,6 +6,8 @@ mod hostile;
 #[cfg(test)]
 mod loops;
 #[cfg(test)]
+mod objects;
+#[cfg(test)]
 mod rows;
 #[cfg(test)]
 mod values;

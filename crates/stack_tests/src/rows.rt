@@ -1,5 +1,6 @@
 //! Rows of tests: what a unit's code comes to, and all that it tells.
 
+use no_store::NoStore;
 use ps_base::bytes::Bytes;
 use ps_base::code_unit::{CodeUnit, Constant, Frame};
 use ps_base::instr::Instr;
@@ -8,11 +9,12 @@ use ps_base::list::List;
 use ps_code::encode::encode;
 use ps_port::MemoryHost;
 use stack_machine::RunEnd;
-use stack_machine::load::load;
+use stack_machine::load::{LoadFault, load, machine};
 use stack_machine::run::{RunFault, run};
 use std::alloc::{AllocError, Global};
 use std::process::Abort;
 use std::test::Fail;
+use vault_output::Output;
 
 /// The line of each instruction that has one.
 pub const LINE: Line = Line(7);
@@ -41,6 +43,9 @@ pub const OUT: &[u8] = b"out of turns\n";
 /// The bytes that the host of a test has room for.
 const ROOM: u64 = 262_144;
 
+/// The words of the area of a test.
+pub const WORDS: u32 = 8_192;
+
 /// What a run came to.
 #[derive(Clone, Copy, PartialEq, Eq, Debug)]
 pub enum Came {
@@ -48,6 +53,7 @@ pub enum Came {
     Trapped(u32),
     OutOfTurns,
     Damaged,
+    Full { top: u32, wanted: u32, size: u32 },
     Output,
 }
 
@@ -89,6 +95,24 @@ fn constants(alloc: Global) -> Result<List<Constant>, AllocError> {
     Ok(List::new(constants))
 }
 
+/// A unit of this code and frame, whose constants are these texts.
+pub fn unit_with(
+    alloc: Global,
+    code: &[u8],
+    frame: Frame,
+    texts: &[&[u8]],
+) -> Result<CodeUnit, AllocError> {
+    let mut constants = Vec::new(alloc);
+    for text in texts {
+        constants.push(Constant::Text(Bytes::new(Vec::from_slice(alloc, text)?)))?;
+    }
+    Ok(CodeUnit {
+        code: Bytes::new(Vec::from_slice(alloc, code)?),
+        constants: List::new(constants),
+        frame,
+    })
+}
+
 /// A unit of this code and frame, with the constants of the tests.
 pub fn unit_of(alloc: Global, code: &[u8], frame: Frame) -> Result<CodeUnit, AllocError> {
     Ok(CodeUnit {
@@ -103,23 +127,49 @@ pub fn host(alloc: Global, failing: &[u64]) -> Result<MemoryHost, AllocError> {
     MemoryHost::new(alloc, b"", failing, u64::MAX, ROOM)
 }
 
-/// What a unit comes to by a host, in so many turns.
-pub fn outcome(
+/// What a unit comes to in so many turns, in an area of so many words, and the host that it told.
+pub fn outcome_in(
     alloc: Global,
+    words: u32,
     unit: &CodeUnit,
     turns: u64,
-    host: &mut MemoryHost,
-) -> Result<Came, Fail> {
-    let Ok(mut machine) = load(alloc, unit, turns) else {
-        return Err("not loaded".into());
+    host: MemoryHost,
+) -> Result<(Came, MemoryHost), Fail> {
+    let mut output = Output::new(alloc)?;
+    let mut machine = machine(alloc, words.clamp(5, 1 << 25))?;
+    let loaded = load(&mut machine, unit, turns);
+    let Ok(()) = loaded else {
+        return not_run(loaded.err(), host);
     };
-    Ok(match run(&mut machine, host) {
+    let mut vault = NoStore::new(host);
+    vault.holds_nothing();
+    let came = match run(&mut machine, &mut vault, &mut output) {
         Ok(RunEnd::Done) => Came::Done,
         Ok(RunEnd::Trapped { trap, .. }) => Came::Trapped(trap as u32),
         Ok(RunEnd::OutOfTurns) => Came::OutOfTurns,
         Err(RunFault::Damaged) => Came::Damaged,
+        Err(RunFault::Full { top, wanted, size }) => Came::Full { top, wanted, size },
         Err(RunFault::Output) => Came::Output,
-    })
+    };
+    Ok((came, vault.into_host()))
+}
+
+// Why a unit isn't run.
+fn not_run(fault: Option<LoadFault>, host: MemoryHost) -> Result<(Came, MemoryHost), Fail> {
+    match fault {
+        Some(LoadFault::Full { top, wanted, size }) => Ok((Came::Full { top, wanted, size }, host)),
+        _ => Err("not loaded".into()),
+    }
+}
+
+/// The same in an area with room enough.
+pub fn outcome(
+    alloc: Global,
+    unit: &CodeUnit,
+    turns: u64,
+    host: MemoryHost,
+) -> Result<(Came, MemoryHost), Fail> {
+    outcome_in(alloc, WORDS, unit, turns, host)
 }
 
 /// Each code comes to what its row says, over this frame and in so many turns.
@@ -148,8 +198,7 @@ pub fn assert_code(
     told: &[u8],
 ) -> Result<(), Fail> {
     let unit = unit_of(alloc, code, frame)?;
-    let mut host = host(alloc, &[])?;
-    let came = outcome(alloc, &unit, turns, &mut host)?;
+    let (came, host) = outcome(alloc, &unit, turns, host(alloc, &[])?)?;
     assert_eq!(rt; came, wanted);
     assert_eq!(rt; host.told_bytes(), told);
     Ok(())

@@ -40,16 +40,19 @@ const VALUES: [Row<'_>; 24] = [
         Came::Done,
         b"00",
     ),
+    // a local that is nil is no text
     (
         &[
             I::GetP { s: 0 },
-            WRITE_TEXT,
             I::GetP { s: 1 },
+            I::EqP,
+            WRITE_FLAG,
+            I::GetP { s: 0 },
             WRITE_TEXT,
             END,
         ],
-        Came::Done,
-        b"",
+        Came::Damaged,
+        b"true",
     ),
     (
         &[

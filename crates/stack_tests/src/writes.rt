@@ -97,7 +97,7 @@ fn the_greatest_width(rt: HostRuntime) -> Result<(), Fail> {
     assert_code(&rt, rt.alloc(), &code, frame(0, 0), 0, Came::Done, &told)
 }
 
-// Texts without bytes are no calls of the host, and a call that fails ends the run behind a front of its bytes.
+// What is written before a turn is one call of the host, and nothing is none; a call that fails ends the run behind a front of its bytes.
 #[test]
 fn an_output_that_fails(rt: HostRuntime) -> Result<(), Fail> {
     let rows: [(&[I], u64, Came, u64, &[u8]); 4] = [
@@ -113,28 +113,27 @@ fn an_output_that_fails(rt: HostRuntime) -> Result<(), Fail> {
             0,
             Came::Output,
             1,
-            b"12",
+            b"1234trap 8",
         ),
         (
             &[I::Int { v: 12 }, I::Int { v: 6 }, WIDE, ABORT],
-            1,
+            0,
             Came::Output,
-            2,
-            b"    1",
+            1,
+            b"    12trap ",
         ),
         (
             &[I::Int { v: 12 }, WRITE, ABORT],
             1,
-            Came::Output,
-            2,
-            b"12tr",
+            Came::Trapped(8),
+            1,
+            b"12trap 8 at line 7\n",
         ),
     ];
     for (instrs, failing, wanted, calls, told) in rows {
         let code = spelled(rt.alloc(), instrs)?;
         let unit = unit_of(rt.alloc(), &code, frame(0, 0))?;
-        let mut host = host(rt.alloc(), &[failing])?;
-        let answer = outcome(rt.alloc(), &unit, 0, &mut host)?;
+        let (answer, host) = outcome(rt.alloc(), &unit, 0, host(rt.alloc(), &[failing])?)?;
         assert_eq!(rt; answer, wanted);
         assert_eq!(rt; host.clock(), calls);
         assert_eq!(rt; host.told_bytes(), told);

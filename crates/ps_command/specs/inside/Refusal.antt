@@ -9,35 +9,45 @@ use Rattle.ps_tree.specs.declared.fault.ParseFault.TheVariants as parse_fault
 use Rattle.ps_tree.specs.Phrase.{Phrase}
 use Rattle.ps_parse.specs.Program.{ReadsAs, IsParseFault}
 use Rattle.ps_tree.specs.Fault as parsing
-use Rattle.ps_built.specs.Built.{first_unbuilt}
+use Rattle.ps_built.specs.Library.{first_unbuilt_library}
+use Rattle.ps_built.specs.Procedures.{first_procedure}
+use Rattle.ps_program.specs.Node.{BodyNode}
 use Rattle.ps_typing.specs.Fault.{Fault}
-use Rattle.ps_typing.specs.Program.{check_program, Fails}
+use Rattle.ps_typing.specs.Program.{check_program, Typed}
 use Rattle.ps_check.specs.Faults as checking
+use Rattle.ps_command.specs.Source.{IsCheckFault}
+use Rattle.ps_command.specs.Source as rules
 use Rattle.ps_command.specs.declared.source_fault.SourceFault.{SourceFault}
 use Rattle.ps_command.specs.declared.source_fault.SourceFault.TheVariants as source
 
--- the text is read, and its tree has this fault of the typing rules, where the code's fault stands for one
-pub record Checked (text : List ℕ) (told : Fault) : Type 0 where
-  pub tokens : List Token
-  pub phrase : Phrase
-  pub scanned : HasTokens text tokens
-  pub read : ReadsAs text tokens phrase
-  pub built : first_unbuilt phrase ≡ None
-  pub fails : check_program phrase ≡ Fails told
+-- the tree is typed, and all of it runs: this program
+pub record IsChecked (phrase : Phrase) (program : BodyNode) : Type 0 where
+  pub free : first_procedure phrase ≡ None
+  pub typed : check_program phrase ≡ Typed program
+  pub built : first_unbuilt_library program ≡ None
 
-pub record Unbuilt (text : List ℕ) (line : Line) : Type 0 where
+-- the text is read, and its tree has this fault in the check
+pub record Checked (text : List ℕ) (number : ℕ) (line : Line) : Type 0 where
   pub tokens : List Token
   pub phrase : Phrase
   pub scanned : HasTokens text tokens
   pub read : ReadsAs text tokens phrase
-  pub first : first_unbuilt phrase ≡ Some line
+  pub fault : IsCheckFault phrase number line
+
+-- the fault is that of the tree; want of memory says nothing
+abbrev pub RefusesTree : Phrase → SourceFault → Type 0
+RefusesTree phrase (source.Scan fault) = ⊥
+RefusesTree phrase (source.Parse fault) = ⊥
+RefusesTree phrase (source.NotBuilt line) = IsCheckFault phrase 8 line
+RefusesTree phrase (source.Check fault) = (told : Fault) → checking.fault_of fault ≡ Some told → IsCheckFault phrase (rules.number_of told) (rules.line_of told)
+RefusesTree phrase source.Memory = Unit {0}
 
 -- the fault is that of the text; want of memory says nothing
 abbrev pub Refuses : List ℕ → SourceFault → Type 0
 Refuses text (source.Scan fault) = fault ≢ scan_fault.Memory → HasFault text fault
 Refuses text (source.Parse fault) = fault ≢ parse_fault.Memory → (tokens : List Token) × HasTokens text tokens × IsParseFault text tokens fault
-Refuses text (source.NotBuilt line) = Unbuilt text line
-Refuses text (source.Check fault) = (told : Fault) → checking.fault_of fault ≡ Some told → Checked text told
+Refuses text (source.NotBuilt line) = Checked text 8 line
+Refuses text (source.Check fault) = (told : Fault) → checking.fault_of fault ≡ Some told → Checked text (rules.number_of told) (rules.line_of told)
 Refuses text source.Memory = Unit {0}
 
 abbrev pub stage_of : SourceFault → List ℕ

@@ -1,30 +1,66 @@
--- What one step of a run tells by a host, or how far it came where the output failed.
-use Rattle.std.specs.Prelude.{◌≡◌, ℕ, List, [], Option, Some, None, Result, Ok, Err}
-use Rattle.ps_port.specs.Telling.{TellsAll, FailsBehind}
+-- What one step of a run tells, or how far it came where the output failed.
+use Rattle.std.specs.Prelude.{◌≡◌, ◌⊎◌, ℕ, ◌+◌, ◌*◌, ◌<◌, List, [], ◌++◌, Option, Some, None, Result, Ok, Err}
+use Rattle.ps_outside.specs.Outside.{Outside}
+use Rattle.obj_layout.specs.Stored.{Space}
 use Rattle.ps_meaning.specs.Event.{Event, outputs, report_of}
 use Rattle.ps_stepping.specs.Config.{Config}
 use Rattle.ps_stepping.specs.Machine.{Step, Goes, Stops, Stuck, Steps}
-use Rattle.stack_machine.specs.declared.machine.Machine.{Machine}
-use Rattle.stack_machine.specs.declared.run_end.RunEnd.{RunEnd}
+use Rattle.machine_state.specs.declared.machine.Machine.{Machine}
+use Rattle.machine_state.specs.declared.run_end.RunEnd.{RunEnd}
+use Rattle.machine_state.specs.Holding.{Holds, IsSound}
+use Rattle.machine_state.specs.Stepped.{end_of}
 use Rattle.stack_machine.specs.declared.run.RunFault.{RunFault}
-use Rattle.stack_machine.specs.declared.run.RunFault.TheVariants.{Damaged, Output}
-use Rattle.stack_machine.specs.Holding.{Holds, IsSound}
-use Rattle.stack_machine.specs.Stepped.{end_of}
+use Rattle.stack_machine.specs.declared.run.RunFault.TheVariants.{Damaged, Full, Output}
+use Rattle.stack_machine.specs.Ran.{TellsFirst, TellsAll, FailsBehind}
 
-module _ {H : Type 0} (clock : H → ℕ) (told : H → ℕ → List ℕ → Type 0) (faults : H → ℕ) (old new : H) where
-  -- The step goes on, and tells the outputs of its events; or it stops, or there is none, and it tells nothing; or the output failed.
-  abbrev pub AdvancesBy : Step → Machine → Result (Option RunEnd) RunFault → Type 0
-  AdvancesBy s m (Ok None) = (events : List Event) × (next : Config) × (s ≡ Goes events next) × Holds m next × TellsAll clock told faults old new (outputs events)
-  AdvancesBy s m (Ok (Some e)) = (s ≡ Stops (end_of e)) × TellsAll clock told faults old new []
-  AdvancesBy s m (Err Damaged) = (s ≡ Stuck) × TellsAll clock told faults old new []
-  AdvancesBy s m (Err Output) = (events : List Event) × (next : Config) × (s ≡ Goes events next) × FailsBehind clock told faults old new (outputs events)
+-- Of these bytes the first were told, and the others are owed.
+pub record TellsBut (old new : Outside Space) (due owed : List ℕ) : Type 0 where
+  pub sent : List ℕ
+  pub due_is : due ≡ sent ++ owed
+  pub tells : TellsAll old new sent
 
-  pub record Advances (m m' : Machine) (answer : Result (Option RunEnd) RunFault) : Type 0 where
-    pub sound : IsSound m'
-    pub by : (c : Config) → Holds m c → (s : Step) × Steps c s × AdvancesBy s m' answer
+-- the vault is alive where a run goes on, ends or finds the area full
+abbrev pub StaysAlive : Result (Option RunEnd) RunFault → Type 0 → Type 0
+StaysAlive (Ok answer) so = so
+StaysAlive (Err Damaged) so = Unit {0}
+StaysAlive (Err (Full top wanted size)) so = so
+StaysAlive (Err Output) so = Unit {0}
 
-  -- the report of the end was told, or the output failed in it
-  abbrev pub Reports : RunEnd → Result RunEnd RunFault → Type 0
-  Reports e (Ok answer) = (answer ≡ e) × TellsAll clock told faults old new (report_of (end_of e))
-  Reports e (Err Damaged) = ⊥
-  Reports e (Err Output) = FailsBehind clock told faults old new (report_of (end_of e))
+-- the area keeps its size where a run goes on
+abbrev pub KeepsArea : Result (Option RunEnd) RunFault → Type 0 → Type 0
+KeepsArea (Ok None) so = so
+KeepsArea (Ok (Some e)) so = Unit {0}
+KeepsArea (Err fault) so = Unit {0}
+
+module _ (old new : Outside Space) where
+  module _ (owed left : List ℕ) where
+    -- The step goes on, and tells the outputs of its events behind what is owed; or it stops, or there is none, or there was no room in an area of
+    -- this size for the object that it makes, and it tells nothing; or the output failed.
+    abbrev pub AdvancesBy : ℕ → Step → Machine → Result (Option RunEnd) RunFault → Type 0
+    AdvancesBy area s m (Ok None) = (events : List Event) × (next : Config) × (s ≡ Goes events next) × Holds m next × TellsBut old new (owed ++ outputs events) left
+    AdvancesBy area s m (Ok (Some e)) = (s ≡ Stops (end_of e)) × TellsBut old new owed left
+    AdvancesBy area s m (Err Damaged) = (s ≡ Stuck) × TellsBut old new owed left
+    AdvancesBy area s m (Err (Full top wanted size)) =
+        (next : Config) × (s ≡ Goes [] next) × (size ≡ area) × (size < top + wanted) × (8 * size < next.store.counted) × TellsBut old new owed left
+    AdvancesBy area s m (Err Output) = (events : List Event) × (next : Config) × (s ≡ Goes events next) × FailsBehind old new (owed ++ outputs events)
+
+    pub record Advances (m m' : Machine) (answer : Result (Option RunEnd) RunFault) : Type 0 where
+      pub sound : IsSound m'
+      pub size : KeepsArea answer (m'.sw.size ≡ m.sw.size)
+      pub by : (c : Config) → Holds m c → (s : Step) × Steps c s × AdvancesBy m.sw.size s m' answer
+
+  module _ (owed : List ℕ) where
+    -- the report of the end was told behind what was owed, or the output failed in it
+    abbrev pub Reports : RunEnd → Result RunEnd RunFault → Type 0
+    Reports e (Ok answer) = (answer ≡ e) × TellsAll old new (owed ++ report_of (end_of e))
+    Reports e (Err Damaged) = ⊥
+    Reports e (Err (Full top wanted size)) = ⊥
+    Reports e (Err Output) = FailsBehind old new (owed ++ report_of (end_of e))
+
+    -- what was owed was told, and the run broke off for this; or the output failed
+    abbrev pub Flushes : RunFault → RunFault → Type 0
+    Flushes fault answer = ((answer ≡ fault) × TellsAll old new owed) ⊎ ((answer ≡ Output) × FailsBehind old new owed)
+
+    -- a front of what was owed was told, and the run broke off as damaged; or the output failed
+    abbrev pub BreaksOff : RunFault → Type 0
+    BreaksOff answer = ((answer ≡ Damaged) × TellsFirst old new owed) ⊎ ((answer ≡ Output) × FailsBehind old new owed)

@@ -1,4 +1,4 @@
-use Rattle.std.proofs.Common.{rules, ◌≡◌, ◌∙◌, [], ◌∷◌, ap, sym, refl, subst, arith}
+use Rattle.std.proofs.Common.{rules, ◌∙◌, [], ◌∷◌, ap, sym, refl, subst, arith}
 use Rattle.std.specs.Prelude.{Option}
 use Rattle.ps_base.specs.declared.line.Line.{Line}
 use Rattle.ps_base.specs.List.{items_of}
@@ -14,7 +14,7 @@ use Rattle.ps_built.specs.First.{or_else}
 use Rattle.ps_built.specs.Library.{library_in}
 use Rattle.ps_built.specs.inside.LibraryParts.{library_in_parts, library_in_all, library_in_arm, library_in_arms}
 use Rattle.ps_built.proofs.Lines.{or_none, gone_into, none_of}
-use Rattle.ps_built.proofs.LibraryParts.{itself, library_without, library_with, library_of_literal, weight_of_literal, library_of_all, arms_then}
+use Rattle.ps_built.proofs.LibraryParts.{library_without, library_with, library_of_literal, weight_of_literal, library_of_all, arms_then}
 use Rattle.ps_built.proofs.library.+library.Goals as goal
 
 pub in_all-library_in-requires : goal.in_all-library_in-requires

@@ -1,9 +1,18 @@
--- Between two steps: what has happened so far was told.
+-- Between two steps: what has happened so far was told, but for what is owed.
+use Rattle.paired_ops.specs.World.{IsEmpty}
+use Rattle.machine_state.specs.Holding.{IsHolding}
 use Rattle.stack_machine.proofs.Between.{IsBetween, left_of}
 use Rattle.stack_machine.proofs.run.run.Given as goal
 
 abbrev pub invariant-loop-end : goal.invariant-loop-end
-invariant-loop-end g l = IsBetween g.H.Host.clock g.H.Host.told g.H.Host.output_faults l.initial.m l.initial.host l.m l.host
+invariant-loop-end g l =
+    let vault = g.V.Vault in
+    record {
+      between : IsBetween (vault.outside l.initial.vault) (vault.outside l.vault) l.initial.output l.output l.initial.m l.m;
+      holding : IsHolding l.m;
+      alive : vault.alive l.vault;
+      empty : IsEmpty (vault.outside l.vault);
+    }
 
 abbrev pub decreases-loop-end : goal.decreases-loop-end
 decreases-loop-end g l = left_of l.m

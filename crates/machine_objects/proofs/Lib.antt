@@ -1,0 +1,14 @@
+pub mod Carrying
+pub mod Giving
+pub mod Popping
+pub mod Ending
+pub mod ConstantReads
+pub mod FieldReads
+pub mod FieldWrites
+pub mod VectorReads
+pub mod VectorWrites
+pub mod VectorFills
+pub mod Laying
+pub mod Making
+pub mod MakingStructures
+pub mod MakingLists

@@ -1,0 +1,29 @@
+-- What is read of a vector that was popped.
+use Rattle.std.proofs.Common.{ℕ, List, Some}
+use Rattle.std.specs.Prelude.{Result}
+use Rattle.obj_layout.specs.declared.reference.Reference.{Reference}
+use Rattle.swizzle.specs.Heap as area
+use Rattle.heap_texts.specs.declared.fault.OpFault.{OpFault}
+use Rattle.heap_ops.specs.Outcomes.{UnlessFault}
+use Rattle.ps_meaning.specs.Texts.{Attempt}
+use Rattle.ps_meaning.specs.Objects.{Heap}
+use Rattle.ps_meaning.specs.Values.{Vector}
+use Rattle.paired_ops.specs.World.{IsWorld, DenotesIn, Answers}
+use Rattle.machine_state.specs.declared.machine.Machine.{Machine}
+use Rattle.machine_state.specs.declared.stepped.Stepped.{Stepped}
+use Rattle.machine_state.specs.Holding.{IsHolding}
+use Rattle.machine_state.specs.Stepped.{UnlessDamaged}
+use Rattle.machine_objects.specs.inside.Popping.{PopsVector}
+use Rattle.machine_objects.proofs.FieldReads.{read-done, unless-damaged}
+
+-- the operation never failed as a whole
+pub vector-read : {A T : Type 0} (is : Heap → List Reference → ℕ → T → A → Type 0) (attempt : Heap → ℕ → Attempt A) (old last : Machine)
+    (now : area.Heap) (vector : ℕ) (got : Result T OpFault) → IsHolding old → PopsVector old last (Some vector)
+    → ((of : Heap) (names : List Reference) (id : ℕ) → IsWorld last.sw of names → DenotesIn last.sw names (Some vector) (Vector id)
+    → Answers last.sw now (is of names id) of names (attempt of id) got)
+    → (P : Type 0) (r : Stepped) → UnlessFault got P → UnlessDamaged r P
+vector-read is attempt old last now vector got holding q did P r so =
+    let names = holding.1.names in
+    let v = q.gives names holding.0 holding.1.held in
+    let heap = v.0.store.heap in
+    unless-damaged P r (read-done last.sw now (is heap names v.1) heap names (attempt heap v.1) P got (did heap names v.1 v.5.world v.6) so)

@@ -1,0 +1,200 @@
+-- A vector that was popped with the form of its elements, and what is written into it.
+use Rattle.std.proofs.Common.{◌≡◌, ℕ, ℤ, false, List, Option, Some, None, refl, sym, ap, ◌∙◌, subst}
+use Rattle.std.specs.Prelude.{Result, Ok, Err, length}
+use Rattle.ps_base.specs.declared.line.Line.{Line}
+use Rattle.obj_layout.specs.declared.reference.Reference.{Reference}
+use Rattle.text_forms.specs.declared.forms.Form.{Form}
+use Rattle.text_forms.specs.declared.forms.Form.TheVariants as form
+use Rattle.text_forms.specs.Forms.{element_of, is_number_form}
+use Rattle.swizzle.specs.Heap as area
+use Rattle.swizzle.specs.Heap.{IsHeap, IsHeld}
+use Rattle.heap_places.specs.declared.value.Value as code
+use Rattle.heap_places.specs.declared.value.Value.TheVariants as held
+use Rattle.heap_places.specs.Places.{IsNear}
+use Rattle.heap_texts.specs.declared.fault.OpFault.{OpFault}
+use Rattle.heap_texts.specs.declared.fault.OpFault.TheVariants as op
+use Rattle.heap_ops.specs.Outcomes.{UnlessFault}
+use Rattle.ps_meaning.specs.Texts.{Attempt, Yields, Fails}
+use Rattle.ps_meaning.specs.Objects.{Heap, with_element, vector_in, low_in, elements_in, place_of, found_at, put_at}
+use Rattle.ps_meaning.specs.Objects.{element_of as element_at}
+use Rattle.ps_meaning.specs.Values.{Value, Vector}
+use Rattle.ps_stepping.specs.Config.{Config}
+use Rattle.ps_stepping.specs.Steps.{Step, Stuck, attempted, pop_num}
+use Rattle.ps_stepping.specs.Objects.{pop_vector, changed}
+use Rattle.paired_ops.specs.World.{IsWorld, DenotesIn, Answers, Writes}
+use Rattle.paired_ops.specs.Operands.{IsForIn, IsOfForm, form_in}
+use Rattle.machine_state.specs.declared.machine.Machine.{Machine}
+use Rattle.machine_state.specs.declared.stepped.Stepped.{Stepped}
+use Rattle.machine_state.specs.Holding.{HeldBy, IsHolding}
+use Rattle.machine_state.specs.Stepped.{Does, UnlessDamaged}
+use Rattle.machine_state.specs.inside.Taking.{Taken}
+use Rattle.machine_objects.specs.inside.Popping.{PopsVector}
+use Rattle.machine_objects.specs.inside.Elements.{PopsTyped, GivesTyped, trap_in}
+use Rattle.machine_objects.specs.inside.Giving.{Changes}
+use Rattle.machine_objects.proofs.Carrying.{read-holds, sound-kept, size-behind, never-fails}
+use Rattle.machine_objects.proofs.Ending.{Comes, denoted-there, vector-type}
+use Rattle.machine_objects.proofs.FieldReads.{write-done, unless-damaged}
+
+-- The form of the elements of a vector that was popped.
+module _ (old mid : Machine) (now : area.Heap) (vector : ℕ) (told : Result Form OpFault) (q : PopsVector old mid (Some vector)) (heap : IsHeap now)
+    (did : (of : Heap) (names : List Reference) (id : ℕ) → IsWorld mid.sw of names → DenotesIn mid.sw names (Some vector) (Vector id)
+    → Answers mid.sw now {A = Form} {T = Form} (λ is wanted. is ≡ wanted) of names (Yields (form_in of id)) told) where
+  typed-given : (f : Form) → told ≡ Ok f → (names : List Reference) (c : Config) → HeldBy names old c
+      → GivesTyped names c (Some (vector, f)) old (record mid { sw = now })
+  typed-given f is names c h =
+      let v = q.gives names c h in
+      let of = v.0.store.heap in
+      let a = subst (Answers mid.sw now {A = Form} {T = Form} (λ is wanted. is ≡ wanted) of names (Yields (form_in of v.1))) is
+      (did of names v.1 v.5.world v.6) in
+      let same : form_in of v.1 ≡ f = (let e : Yields (form_in of v.1) ≡ Yields a.0 = a.1 in cc) ∙ sym a.2 in
+      let typed : element_of v.2 ≡ f = ap element_of (sym (vector-type of v.1 v.2 v.4)) ∙ same in (
+        v.0,
+        v.1,
+        v.2,
+        v.3,
+        read-holds mid now names v.0 heap v.5 a.3,
+        a.3.carries.values (Some vector) (Vector v.1) v.6,
+        typed,
+        same,
+        a.3.carries.size ∙ ap (λ (x : area.Heap). x.size) q.area,
+        (λ to w d. a.3.carries.values to w (denoted-there old.sw mid.sw names to w q.area d)),
+      )
+
+  pub typed-popped : (f : Form) → told ≡ Ok f → PopsTyped old (record mid { sw = now }) (Some (vector, f))
+  typed-popped f is = record { sound = sound-kept mid now q.sound; gives = typed-given f is }
+
+  pub typed-holding : (f : Form) → told ≡ Ok f → IsHolding old → IsHolding (record mid { sw = now })
+  typed-holding f is h = let v = typed-given f is h.1.names h.0 h.1.held in (v.0, record { names = h.1.names; held = v.4 })
+
+  pub typed-held : (f : Form) → told ≡ Ok f → IsHolding old → IsHeld now vector
+  typed-held f is h = let v = typed-given f is h.1.names h.0 h.1.held in v.5.denotes.0
+
+  pub untyped : (fault : OpFault) → told ≡ Err fault → PopsTyped old (record mid { sw = now }) None
+  untyped fault is = record {
+    sound = sound-kept mid now q.sound;
+    gives = λ names c h.
+        let v = q.gives names c h in
+        let of = v.0.store.heap in
+        absurd (never-fails {A = Form} {T = Form} mid.sw now (λ is wanted. is ≡ wanted) of names (form_in of v.1) fault
+        (subst (Answers mid.sw now {A = Form} {T = Form} (λ is wanted. is ≡ wanted) of names (Yields (form_in of v.1))) is
+        (did of names v.1 v.5.world v.6)));
+  }
+
+-- behind parts that kept the area's size
+comes-sized : (r : Stepped) (here mid : area.Heap) (new : Machine) (s t : Step) → mid.size ≡ here.size → s ≡ t → Comes r mid new t
+    → Comes r here new s
+comes-sized r here mid new s t same is k = (size-behind r here mid new.sw same k.0, subst (λ (x : Step). Does x r new) (sym is) k.1)
+
+-- what is looked for and what is written are found at the same subscripts
+found-alike : (heap : Heap) (id : ℕ) (at : Option ℕ) (e : Value) (vs : List Value) (line : Line) (next : Heap → Step)
+    → ((of : Heap) → next of ≡ Stuck)
+    → attempted line (put_at heap (Vector id) at e) next ≡ attempted line (found_at at vs) (λ w. Stuck)
+found-alike heap id (Some n) e vs line next stuck = stuck _
+found-alike heap id None e vs line next stuck = refl
+
+elements-alike : (heap : Heap) (id : ℕ) (at : ℤ) (e : Value) (line : Line) (next : Heap → Step) → ((of : Heap) → next of ≡ Stuck)
+    → attempted line (with_element heap (Vector id) at e) next ≡ attempted line (element_at heap (Vector id) at) (λ w. Stuck)
+unfolding with_element element_at
+elements-alike heap id at e line next stuck =
+    let vector = vector_in heap (Vector id) in
+    found-alike heap id (place_of (low_in vector) (length (elements_in vector)) at) e (elements_in vector) line next stuck
+
+-- of an operation whose answer is of no use there is the trap
+trap-comes : (line : Line) (here now : area.Heap) (new : Machine) (is : code.Value → Value → Type 0) (of : Heap) (names : List Reference)
+    (attempt : Attempt Value) (got : Result code.Value OpFault) → Answers here now is of names attempt got
+    → Comes (trap_in line got) here new (attempted line attempt (λ w. Stuck))
+trap-comes line here now new is of names attempt (Ok v) got = (tt, ap (λ (a : Attempt Value). attempted line a (λ w. Stuck)) got.1)
+trap-comes line here now new is of names attempt (Err (op.Trap trap)) got = (tt, ap (λ (a : Attempt Value). attempted line a (λ w. Stuck)) got)
+trap-comes line here now new is of names attempt (Err (op.Swizzle fault)) got = absurd got
+
+-- where what follows is the same, so is the attempt
+attempted-same : {A : Type 0} (line : Line) (a : Attempt A) (next other : A → Step) → ((x : A) → next x ≡ other x)
+    → attempted line a next ≡ attempted line a other
+attempted-same line (Yields x) next other same = same x
+attempted-same line (Fails trap) next other same = refl
+
+-- a reference is held by a place of the row of references
+pub of-reference : (f : Form) (to : Option ℕ) → is_number_form f ≡ false → IsOfForm f (held.Ref to)
+of-reference form.Reference to is = tt
+of-reference form.Number to is = absurd (cc)
+of-reference form.Flag to is = absurd (cc)
+
+-- what the instruction does behind the value, which its row keeps and wants so
+abbrev pub element-set : Line → (Form → Value) → (Form → Step → Step) → Config → Step
+element-set line kept when c = pop_num c (λ i d. pop_vector d
+    (λ ty v e. attempted line (with_element e.store.heap v i (kept (element_of ty))) (λ heap. when (element_of ty) (changed heap e))))
+
+module _ (line : Line) (kept : Form → Value) (when : Form → Step → Step) (mid popped last : Machine) (vector : ℕ) (f : Form) (at place : ℤ)
+    (same : place ≡ at) (t : Taken pop_num mid popped (Some at)) (q : PopsTyped popped last (Some (vector, f)))
+    (names : List Reference) (c : Config) (h : HeldBy names mid c) where
+  size : last.sw.size ≡ mid.sw.size
+  size =
+      let y = t.gives names c h in
+      let v = q.gives names y.0 y.2 in
+      v.8 ∙ ap (λ (x : area.Heap). x.size) t.area
+
+  -- what denoted a value denotes it still
+  pub still-denotes : (to : Option ℕ) (w : Value) → DenotesIn mid.sw names to w → DenotesIn last.sw names to w
+  still-denotes to w d =
+      let y = t.gives names c h in
+      let v = q.gives names y.0 y.2 in
+      v.9 to w (denoted-there mid.sw popped.sw names to w t.area d)
+
+  pub still-near : (to : Option ℕ) (w : Value) → DenotesIn mid.sw names to w → IsNear last.sw (held.Ref to)
+  still-near None w d = tt
+  still-near (Some object) w d = (still-denotes (Some object) w d).denotes.0
+
+  -- An element was written.
+  module _ (now : area.Heap) (to : code.Value) (done : Result (Unit {0}) OpFault) (of_form : IsOfForm f to)
+      (denotes : IsForIn last.sw names to (kept f))
+      (did : (of : Heap) (names : List Reference) (id : ℕ) (v : Value) → IsWorld last.sw of names → DenotesIn last.sw names (Some vector) (Vector id)
+      → IsOfForm (form_in of id) to → IsForIn last.sw names to v
+      → Writes last.sw now names (with_element of (Vector id) place v) done) where
+    wrote : (d : Config) (id : ℕ) → HeldBy names last d → DenotesIn last.sw names (Some vector) (Vector id) → form_in d.store.heap id ≡ f
+        → Writes last.sw now names (with_element d.store.heap (Vector id) at (kept f)) done
+    wrote d id held there is =
+        subst (λ (n : ℤ). Writes last.sw now names (with_element d.store.heap (Vector id) n (kept f)) done) same
+        (did d.store.heap names id (kept f) held.world there (subst (λ (k : Form). IsOfForm k to) (sym is) of_form) denotes)
+
+    pub element-written : (new : Machine) (r : Stepped) → ((s : Step) → when f s ≡ s) → Changes line (record last { sw = now }) new r done
+        → Comes r mid.sw new (element-set line kept when c)
+    element-written new r fits give =
+        let y = t.gives names c h in
+        let v = q.gives names y.0 y.2 in
+        let heap = v.0.store.heap in
+        let a = with_element heap (Vector v.1) at (kept f) in
+        comes-sized r mid.sw last.sw new (element-set line kept when c) (attempted line a (λ of. changed of v.0)) size
+        (y.1 (λ i d. pop_vector d (λ ty w e. attempted line (with_element e.store.heap w i (kept (element_of ty)))
+        (λ of. when (element_of ty) (changed of e))))
+        ∙ v.3 (λ ty w e. attempted line (with_element e.store.heap w at (kept (element_of ty))) (λ of. when (element_of ty) (changed of e)))
+        ∙ ap (λ (k : Form). attempted line (with_element heap (Vector v.1) at (kept k)) (λ of. when k (changed of v.0))) v.6
+        ∙ attempted-same line a (λ of. when f (changed of v.0)) (λ of. changed of v.0) (λ of. fits (changed of v.0)))
+        (give.does last.sw names v.0 a v.4 (wrote v.0 v.1 v.4 v.5 v.7))
+
+    pub element-done : (P : Type 0) (r : Stepped) → UnlessFault done P → UnlessDamaged r P
+    element-done P r so =
+        let y = t.gives names c h in
+        let v = q.gives names y.0 y.2 in
+        unless-damaged P r (write-done last.sw now names (with_element v.0.store.heap (Vector v.1) at (kept f)) P done (wrote v.0 v.1 v.4 v.5 v.7) so)
+
+  -- The elements are of the other row, and the subscript was looked for alone.
+  pub element-missed : (is : Heap → List Reference → ℕ → code.Value → Value → Type 0) (now : area.Heap) (new : Machine)
+      (got : Result code.Value OpFault) (r : Stepped) → ((s : Step) → when f s ≡ Stuck) → r ≡ trap_in line got
+      → ((of : Heap) (names : List Reference) (id : ℕ) → IsWorld last.sw of names → DenotesIn last.sw names (Some vector) (Vector id)
+      → Answers last.sw now (is of names id) of names (element_at of (Vector id) place) got)
+      → Comes r mid.sw new (element-set line kept when c)
+  element-missed is now new got r misfits trap did =
+      let y = t.gives names c h in
+      let v = q.gives names y.0 y.2 in
+      let heap = v.0.store.heap in
+      let looked = element_at heap (Vector v.1) at in
+      let told = subst (λ (n : ℤ). Answers last.sw now (is heap names v.1) heap names (element_at heap (Vector v.1) n) got) same
+      (did heap names v.1 v.4.world v.5) in
+      comes-sized r mid.sw last.sw new (element-set line kept when c) (attempted line looked (λ w. Stuck)) size
+      (y.1 (λ i d. pop_vector d (λ ty w e. attempted line (with_element e.store.heap w i (kept (element_of ty)))
+      (λ of. when (element_of ty) (changed of e))))
+      ∙ v.3 (λ ty w e. attempted line (with_element e.store.heap w at (kept (element_of ty))) (λ of. when (element_of ty) (changed of e)))
+      ∙ ap (λ (k : Form). attempted line (with_element heap (Vector v.1) at (kept k)) (λ of. when k (changed of v.0))) v.6
+      ∙ elements-alike heap v.1 at (kept f) line (λ of. when f (changed of v.0)) (λ of. misfits (changed of v.0)))
+      (subst (λ (x : Stepped). Comes x last.sw new (attempted line looked (λ w. Stuck))) (sym trap)
+      (trap-comes line last.sw now new (is heap names v.1) heap names looked got told))

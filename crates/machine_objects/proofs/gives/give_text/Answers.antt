@@ -1,0 +1,28 @@
+use Rattle.std.proofs.Common.{subst, sym, ap, ◌∙◌}
+use Rattle.ps_stepping.specs.Steps.{attempted}
+use Rattle.ps_stepping.specs.Objects.{make_text}
+use Rattle.machine_state.specs.Stepped.{Does, KeepsSize}
+use Rattle.paired_ops.specs.World.{MakesText}
+use Rattle.machine_objects.proofs.Giving.{text-given, text-fails}
+use Rattle.machine_objects.proofs.gives.give_text.Goals as goal
+
+pub returns-in-Ok : goal.returns-in-Ok
+returns-in-Ok c =
+    let m = c.args.m.now in
+    record {
+      sound = c.push_ref.ensures.sound;
+      does = λ here names conf attempt h made.
+          text-given c.args.line m c.sound.ensures here names conf h c.push_ref.new.m c.push_ref.result _ attempt c.push_ref.ensures
+          (subst (λ r. MakesText here m.sw conf.store.heap names attempt r) c.in-Ok.is made);
+    }
+
+pub returns-in-Err : goal.returns-in-Err
+returns-in-Err c =
+    let m = c.args.m.now in
+    record {
+      sound = c.requires;
+      does = λ here names conf attempt h made.
+          subst (λ r. KeepsSize r here m.sw × Does (attempted c.args.line attempt (λ bytes. make_text bytes conf)) r m) (sym c.failed.ensures)
+          (text-fails c.args.line m c.sound.ensures here names conf h _ c.is_full.result attempt c.is_full.ensures.full c.is_full.ensures.room
+          (subst (λ r. MakesText here m.sw conf.store.heap names attempt r) c.in-Err.is made));
+    }

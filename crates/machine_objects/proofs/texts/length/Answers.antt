@@ -1,0 +1,19 @@
+use Rattle.std.proofs.Common.{◌≡◌, ℕ, pos, length, Some, refl, rules, subst, ap, sym, ◌∙◌}
+use Rattle.ps_stepping.specs.Steps.{push_num, Step}
+use Rattle.ps_stepping.specs.Objects.{text_length}
+use Rattle.machine_state.specs.Stepped.{Takes, Does}
+use Rattle.machine_objects.proofs.Ending.{ends, comes-behind}
+use Rattle.machine_objects.proofs.texts.length.Goals as goal
+
+pub returns : goal.returns
+returns c =
+    let p = c.in-Some.ensures.pops in
+    let mid = c.pop_text.new.m in
+    let push : Takes (push_num (pos c.length-count.result)) mid c.push_num.new.m c.push_num.result = search rules in
+    ends text_length c.args.m.now c.push_num.new.m c.push_num.result push.sound c.requires.holding
+    (λ names conf h.
+    let a = p.gives names conf h in
+    let is : c.length-count.result ≡ length a.1 = c.length-count.ensures.value names a.1 a.4 in
+    comes-behind c.push_num.result c.args.m.now.sw mid.sw c.push_num.new.m (text_length conf) (push_num (pos c.length-count.result) a.0) p.area
+    (a.2 (λ bytes d. push_num (pos (length bytes)) d) ∙ ap (λ (n : ℕ). push_num (pos n) a.0) (sym is))
+    (push.size, push.does a.0 (record { names = names; held = a.3 })))

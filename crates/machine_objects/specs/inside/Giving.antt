@@ -1,0 +1,68 @@
+-- How an instruction ends that did an operation on objects of the area: the machine still stands for the configuration before the operation but for
+-- its area, which stood for it before.
+use Rattle.std.specs.Prelude.{◌≡◌, ℕ, ℤ, Bool, true, false, List, Result, Some}
+use Rattle.obj_layout.specs.declared.reference.Reference.{Reference}
+use Rattle.swizzle.specs.Heap as area
+use Rattle.text_forms.specs.declared.forms.Form.{Form}
+use Rattle.heap_places.specs.declared.value.Value as code
+use Rattle.heap_texts.specs.declared.fault.OpFault.{OpFault}
+use Rattle.heap_texts.specs.declared.fault.OpFault.TheVariants as op
+use Rattle.ps_base.specs.declared.line.Line.{Line}
+use Rattle.ps_meaning.specs.Values.{Value, word_of}
+use Rattle.ps_meaning.specs.Texts.{Attempt, Yields}
+use Rattle.ps_meaning.specs.Objects.{Heap, Object}
+use Rattle.ps_stepping.specs.Config.{Config}
+use Rattle.ps_stepping.specs.Steps.{attempted, push_num, push_ref}
+use Rattle.ps_stepping.specs.Objects.{make, make_text, changed, when_number, when_reference}
+use Rattle.paired_ops.specs.World.{Answers, Writes, Makes, MakesText}
+use Rattle.paired_ops.specs.Operands.{IsForIn, IsOfForm}
+use Rattle.machine_state.specs.declared.machine.Machine.{Machine}
+use Rattle.machine_state.specs.declared.stepped.Stepped.{Stepped}
+use Rattle.machine_state.specs.declared.stepped.Stepped.TheVariants.{Halts, Breaks, Damaged}
+use Rattle.machine_state.specs.declared.run_end.RunEnd.TheVariants as in_code
+use Rattle.machine_state.specs.Holding.{Held, IsSound}
+use Rattle.machine_state.specs.Stepped.{Does, KeepsSize}
+
+-- the machine with this area stood for the configuration
+abbrev pub HeldIn : area.Heap → List Reference → Machine → Config → Type 0
+HeldIn here names m c = Held names here m.layouts.entries.items m.code m.frame m.at m.nums.items m.refs.items m.turns c
+
+-- what an operation that failed comes to: its trap, or there was no room in the area, or not even on the stack
+abbrev pub failed_of : OpFault → Line → Bool → Stepped
+failed_of (op.Trap trap) line full = Halts (in_code.Trapped trap line)
+failed_of (op.Swizzle fault) line true = Damaged
+failed_of (op.Swizzle fault) line false = Breaks fault
+
+-- a bound of a vector, whose reading has no trap
+pub record GivesBound (old new : Machine) (answer : Stepped) (bound : Result ℤ OpFault) : Type 0 where
+  pub sound : IsSound new
+  pub does : (here : area.Heap) (names : List Reference) (c : Config) (wanted : ℤ) → HeldIn here names old c
+      → Answers here old.sw (λ z w. z ≡ w) c.store.heap names (Yields wanted) bound → KeepsSize answer here new.sw × Does (push_num wanted c) answer new
+
+module _ (line : Line) (old new : Machine) (answer : Stepped) where
+  pub record GivesText (made : Result ℕ OpFault) : Type 0 where
+    pub sound : IsSound new
+    pub does : (here : area.Heap) (names : List Reference) (c : Config) (attempt : Attempt (List ℕ)) → HeldIn here names old c → MakesText here old.sw c.store.heap names attempt made
+        → KeepsSize answer here new.sw × Does (attempted line attempt (λ bytes. make_text bytes c)) answer new
+
+  pub record GivesObject (made : Result ℕ OpFault) : Type 0 where
+    pub sound : IsSound new
+    pub does : (here : area.Heap) (names : List Reference) (c : Config) (denoting : ℕ → Value) (attempt : Attempt Object) → HeldIn here names old c
+        → Makes here old.sw c.store.heap names denoting attempt made → KeepsSize answer here new.sw × Does (attempted line attempt (λ object. make denoting object c)) answer new
+
+  pub record GivesNumber (got : Result code.Value OpFault) : Type 0 where
+    pub sound : IsSound new
+    pub does : (here : area.Heap) (names : List Reference) (c : Config) (form : Form) (attempt : Attempt Value) → HeldIn here names old c
+        → Answers here old.sw (λ k v. IsOfForm form k × IsForIn old.sw names k v) c.store.heap names attempt got
+        → KeepsSize answer here new.sw × Does (attempted line attempt (λ w. when_number (Some form) (push_num (word_of w) c))) answer new
+
+  pub record GivesReference (got : Result code.Value OpFault) : Type 0 where
+    pub sound : IsSound new
+    pub does : (here : area.Heap) (names : List Reference) (c : Config) (form : Form) (attempt : Attempt Value) → HeldIn here names old c
+        → Answers here old.sw (λ k v. IsOfForm form k × IsForIn old.sw names k v) c.store.heap names attempt got
+        → KeepsSize answer here new.sw × Does (attempted line attempt (λ w. when_reference (Some form) (push_ref w c))) answer new
+
+  pub record Changes (done : Result (Unit {0}) OpFault) : Type 0 where
+    pub sound : IsSound new
+    pub does : (here : area.Heap) (names : List Reference) (c : Config) (attempt : Attempt Heap) → HeldIn here names old c
+        → Writes here old.sw names attempt done → KeepsSize answer here new.sw × Does (attempted line attempt (λ heap. changed heap c)) answer new

@@ -1,0 +1,16 @@
+//! What the machine does with instructions over structures, vectors and strings.
+#![tactic(auto)]
+
+mod constants;
+pub mod elements;
+mod fields;
+pub mod fills;
+mod forms;
+mod gives;
+pub mod lists;
+pub mod makes;
+mod pops;
+pub mod structures;
+pub mod texts;
+mod values;
+pub mod vectors;

@@ -1,0 +1,92 @@
+//! Instructions over vectors.
+ghost use Rattle.swizzle.specs.Reading.{LeavesOutside};
+ghost use Rattle.ps_meaning.specs.Objects.{low_of, high_of};
+ghost use Rattle.ps_stepping.specs.Objects.{element_num as element_num_of, element_ref as element_ref_of, bound as bound_of};
+ghost use Rattle.paired_ops.specs.World.{IsEmpty};
+ghost use Rattle.machine_state.specs.Holding.{IsHolding, IsSound};
+ghost use Rattle.machine_state.specs.Stepped.{UnlessDamaged, Takes};
+
+use crate::gives::{give_bound, give_number, give_reference};
+use crate::pops::{pop_int, pop_vector};
+use machine_state::{Machine, Stepped};
+use obj_layout::vault::Vault;
+use paired_ops::vectors;
+use ps_base::line::Line;
+
+/// Pops a subscript and a vector, and pushes its element, which is an int or a bool.
+#[inline]
+pub fn element_num<V: Vault>(m: &mut Machine, vault: &mut V, line: Line) -> Stepped
+    requires sound { IsSound m.old }
+    requires holding { IsHolding m.old }
+    requires alive { V.alive vault.old }
+    requires empty { IsEmpty (V.outside vault.old) }
+    ensures takes { Takes (element_num_of line) m.old m.new result }
+    ensures leaves { LeavesOutside (V.outside vault.old) (V.outside vault.new) }
+    ensures alive { UnlessDamaged result (V.alive vault.new) }
+{
+    let Some(at) = pop_int(m) else {
+        return Stepped::Damaged;
+    };
+    let Some(vector) = pop_vector(m) else {
+        return Stepped::Damaged;
+    };
+    let got = vectors::get_element(&mut m.sw, vault, vector, at);
+    give_number(m, got, line)
+}
+
+/// Pops a subscript and a vector, and pushes its element, which is a reference.
+#[inline]
+pub fn element_ref<V: Vault>(m: &mut Machine, vault: &mut V, line: Line) -> Stepped
+    requires sound { IsSound m.old }
+    requires holding { IsHolding m.old }
+    requires alive { V.alive vault.old }
+    requires empty { IsEmpty (V.outside vault.old) }
+    ensures takes { Takes (element_ref_of line) m.old m.new result }
+    ensures leaves { LeavesOutside (V.outside vault.old) (V.outside vault.new) }
+    ensures alive { UnlessDamaged result (V.alive vault.new) }
+{
+    let Some(at) = pop_int(m) else {
+        return Stepped::Damaged;
+    };
+    let Some(vector) = pop_vector(m) else {
+        return Stepped::Damaged;
+    };
+    let got = vectors::get_element(&mut m.sw, vault, vector, at);
+    give_reference(m, got, line)
+}
+
+/// Pops a vector, and pushes its lower bound.
+#[inline]
+pub fn lower_bound<V: Vault>(m: &mut Machine, vault: &mut V) -> Stepped
+    requires sound { IsSound m.old }
+    requires holding { IsHolding m.old }
+    requires alive { V.alive vault.old }
+    requires empty { IsEmpty (V.outside vault.old) }
+    ensures takes { Takes (bound_of low_of) m.old m.new result }
+    ensures leaves { LeavesOutside (V.outside vault.old) (V.outside vault.new) }
+    ensures alive { UnlessDamaged result (V.alive vault.new) }
+{
+    let Some(vector) = pop_vector(m) else {
+        return Stepped::Damaged;
+    };
+    let bound = vectors::low(&mut m.sw, vault, vector);
+    give_bound(m, bound)
+}
+
+/// Pops a vector, and pushes its upper bound.
+#[inline]
+pub fn upper_bound<V: Vault>(m: &mut Machine, vault: &mut V) -> Stepped
+    requires sound { IsSound m.old }
+    requires holding { IsHolding m.old }
+    requires alive { V.alive vault.old }
+    requires empty { IsEmpty (V.outside vault.old) }
+    ensures takes { Takes (bound_of high_of) m.old m.new result }
+    ensures leaves { LeavesOutside (V.outside vault.old) (V.outside vault.new) }
+    ensures alive { UnlessDamaged result (V.alive vault.new) }
+{
+    let Some(vector) = pop_vector(m) else {
+        return Stepped::Damaged;
+    };
+    let bound = vectors::high(&mut m.sw, vault, vector);
+    give_bound(m, bound)
+}

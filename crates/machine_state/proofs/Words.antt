@@ -1,0 +1,15 @@
+-- Words that name objects.
+use Rattle.std.proofs.Common.{◌≡◌, ℕ, zero, suc, List, Option, Some, None, refl, arith}
+use Rattle.obj_layout.specs.declared.reference.Reference.{Reference}
+use Rattle.swizzle.specs.Heap as area
+use Rattle.swizzle.specs.Heap.{IsHeap}
+use Rattle.ps_meaning.specs.Values.{Value}
+use Rattle.paired_ops.specs.World.{DenotesIn}
+use Rattle.heap_ops.proofs.LayoutLaws.{held-from}
+use Rattle.machine_state.specs.Holding.{object_in, word_of}
+
+-- the word of an object names it
+pub named-back : (here : area.Heap) (names : List Reference) (to : Option ℕ) (v : Value) → IsHeap here → DenotesIn here names to v → object_in (word_of to) ≡ to
+named-back here names None v heap d = refl
+named-back here names (Some zero) v heap d = absurd (let low = (held-from here 0 heap d.denotes.0).0 in omega (arith, low))
+named-back here names (Some (suc n)) v heap d = refl

@@ -1,0 +1,90 @@
+-- What a step in code answers of the step of the definition.
+use Rattle.std.specs.Prelude.{◌≡◌, ℕ, ◌<◌, ◌+◌, ◌*◌, List, [], ◌∷◌}
+use Rattle.std.specs.Fmt.{signed_decimal}
+use Rattle.obj_layout.specs.declared.kind.Kind.TheVariants.{Text}
+use Rattle.swizzle.specs.Heap as area
+use Rattle.swizzle.specs.Heap.{IsHeld, header_at}
+use Rattle.swizzle.specs.Text.{text_at}
+use Rattle.swizzle.specs.declared.fault.SwizzleFault.{SwizzleFault}
+use Rattle.swizzle.specs.declared.fault.SwizzleFault.TheVariants.{AreaFull}
+use Rattle.ps_meaning.specs.Event.{End, Done, Trapped, OutOfTurns, Event, Turn, outputs}
+use Rattle.ps_meaning.specs.Values.{flag_text}
+use Rattle.ps_meaning.specs.Meaning.{some_out, in_places}
+use Rattle.ps_stepping.specs.Config.{Config}
+use Rattle.ps_stepping.specs.Machine.{Step, Goes, Stops, Stuck, Steps}
+use Rattle.machine_state.specs.declared.machine.Machine.{Machine}
+use Rattle.machine_state.specs.declared.stepped.Item.{Item}
+use Rattle.machine_state.specs.declared.stepped.Item.TheVariants as item
+use Rattle.machine_state.specs.declared.stepped.Writing.{Writing}
+use Rattle.machine_state.specs.declared.stepped.Stepped.{Stepped}
+use Rattle.machine_state.specs.declared.stepped.Stepped.TheVariants.{Quiet, Turns, Writes, Halts, Breaks, Damaged}
+use Rattle.machine_state.specs.declared.run_end.RunEnd.{RunEnd}
+use Rattle.machine_state.specs.declared.run_end.RunEnd.TheVariants as in_code
+use Rattle.machine_state.specs.Holding.{Holds, IsSound}
+
+abbrev pub end_of : RunEnd → End
+end_of in_code.Done = Done
+end_of (in_code.Trapped trap line) = Trapped trap line
+end_of in_code.OutOfTurns = OutOfTurns
+
+-- the text of an item; that of a text lies in the area
+abbrev pub item_text : area.Heap → Item → List ℕ
+item_text here (item.Int z) = signed_decimal z
+item_text here (item.Flag b) = flag_text b
+item_text here (item.Text at) = text_at here at
+
+abbrev pub IsItem : area.Heap → Item → Type 0
+IsItem here (item.Text at) = IsHeld here at × ((header_at here at).kind ≡ Text)
+IsItem here _ = Unit {0}
+
+-- what a write writes: its item, right in its places
+abbrev pub text_of : area.Heap → Writing → List ℕ
+text_of here w = in_places w.width (item_text here w.item)
+
+-- There was no room in the area, and so many counted bytes pass it.
+pub record IsFull (here : area.Heap) (counted : ℕ) (fault : SwizzleFault) : Type 0 where
+  pub top : ℕ
+  pub wanted : ℕ
+  pub fault_is : fault ≡ AreaFull top wanted here.size
+  pub full : here.size < top + wanted
+  pub passed : 8 * here.size < counted
+
+-- The step is what was answered. Where the run goes on, the machine holds the next configuration; where the area was full, the bytes that would be
+-- counted then pass it.
+abbrev pub Does : Step → Stepped → Machine → Type 0
+Does s Quiet m = (events : List Event) × (next : Config) × (s ≡ Goes events next) × (outputs events ≡ []) × Holds m next
+Does s Turns m = (next : Config) × (s ≡ Goes (Turn next.store.counted ∷ []) next) × Holds m next
+Does s (Writes w) m = (next : Config) × (s ≡ Goes (some_out (text_of m.sw w) next.store.counted) next) × IsItem m.sw w.item × Holds m next
+Does s (Halts e) m = s ≡ Stops (end_of e)
+Does s (Breaks fault) m = (next : Config) × (s ≡ Goes [] next) × IsFull m.sw next.store.counted fault
+Does s Damaged m = s ≡ Stuck
+
+-- the area keeps its size, where it is still of use
+abbrev pub KeepsSize : Stepped → area.Heap → area.Heap → Type 0
+KeepsSize Quiet old new = new.size ≡ old.size
+KeepsSize Turns old new = new.size ≡ old.size
+KeepsSize (Writes w) old new = new.size ≡ old.size
+KeepsSize (Breaks fault) old new = new.size ≡ old.size
+KeepsSize (Halts e) old new = Unit {0}
+KeepsSize Damaged old new = Unit {0}
+
+-- From each configuration that the machine holds, the function's step is what was answered.
+pub record Takes (of : Config → Step) (old new : Machine) (answer : Stepped) : Type 0 where
+  pub sound : IsSound new
+  pub size : KeepsSize answer old.sw new.sw
+  pub does : (c : Config) → Holds old c → Does (of c) answer new
+
+-- From each configuration that the machine holds, the step of the definition is what was answered.
+pub record TakesStep (old new : Machine) (answer : Stepped) : Type 0 where
+  pub sound : IsSound new
+  pub size : KeepsSize answer old.sw new.sw
+  pub does : (c : Config) → Holds old c → (s : Step) × Steps c s × Does s answer new
+
+-- what holds wherever the code was what a machine can run
+abbrev pub UnlessDamaged : Stepped → Type 0 → Type 0
+UnlessDamaged Quiet so = so
+UnlessDamaged Turns so = so
+UnlessDamaged (Writes w) so = so
+UnlessDamaged (Halts e) so = so
+UnlessDamaged (Breaks fault) so = so
+UnlessDamaged Damaged so = Unit {0}

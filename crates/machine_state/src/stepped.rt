@@ -1,0 +1,34 @@
+use crate::run_end::RunEnd;
+use swizzle::fault::SwizzleFault;
+
+/// What a step came to. A write is left to the caller, and the other steps tell nothing.
+#[derive(Clone, Copy)]
+pub enum Stepped {
+    /// The run goes on.
+    Quiet,
+    /// The run goes on, into another turn.
+    Turns,
+    /// The run goes on behind this write.
+    Writes(Writing),
+    /// The run is at its end.
+    Halts(RunEnd),
+    /// An object couldn't be made or fetched; the machine is of no use.
+    Breaks(SwizzleFault),
+    /// There is no step: the code isn't what a machine can run.
+    Damaged,
+}
+
+/// What a write instruction writes: an item, right in so many places where a width is given.
+#[derive(Clone, Copy)]
+pub struct Writing {
+    pub width: Option<i32>,
+    pub item: Item,
+}
+
+/// The item of a write. A text is named by the index of its object in the area.
+#[derive(Clone, Copy)]
+pub enum Item {
+    Int(i32),
+    Flag(bool),
+    Text(u32),
+}

@@ -1,0 +1,152 @@
+-- Instructions that may trap, and those that push a value of a type: what the machine does is what is meant.
+use Rattle.std.proofs.Common.{◌≡◌, ℕ, ℤ, List, ◌∷◌, ◌++◌, Option, Some, refl, ap}
+use Rattle.ps_base.specs.TyView.{TyView}
+use Rattle.ps_base.specs.TyView as types
+use Rattle.ps_base.specs.CodeUnit.{ConstantView, text}
+use Rattle.ps_base.specs.declared.line.Line.{Line}
+use Rattle.text_forms.specs.Classes.{form_of_type}
+use Rattle.ps_meaning.specs.Values.{Value, Num, Text, Nil, Pointer, word_of}
+use Rattle.ps_meaning.specs.Texts.{Attempt, Yields, Fails}
+use Rattle.ps_meaning.specs.Objects.{Heap, Object, new_number}
+use Rattle.ps_meaning.specs.Meaning.{Frame, State, Meaning, give, stop, attempt, with_heap, put_heap, made, made_text, and_object, and_text}
+use Rattle.ps_meaning.specs.Evaluation.{kept_as}
+use Rattle.ps_gen.specs.Choices as choice
+use Rattle.ps_stepping.specs.Config.{Config, constants_in, constant_at}
+use Rattle.ps_stepping.specs.Machine.{Step, push_num, push_ref}
+use Rattle.ps_stepping.specs.Steps.{text_in, with_text, attempted}
+use Rattle.ps_stepping.specs.Objects.{changed, make, make_text, object_of, when_number, when_reference}
+use Rattle.ps_soundness.specs.Shapes.{IsOf}
+use Rattle.ps_code_laws.specs.Meets.{nums_left, refs_left}
+use Rattle.ps_code_laws.proofs.Clauses.{IsNum, int, bool, IsRef, str, pntr, vector, proc}
+use Rattle.ps_code_laws.proofs.Operands.{Stand}
+use Rattle.ps_code_laws.proofs.Doing.{IsQuietly, Way, place, Room, Does, stepped, push_goes, push_ref_goes}
+
+-- Meanings that tell nothing.
+
+pub quiet_give : (v : Value) → IsQuietly (give v)
+unfolding give
+quiet_give v f s = refl
+
+pub quiet_attempt : {A : Type 0} (line : Line) (a : Attempt A) (next : A → Meaning) → ((x : A) → IsQuietly (next x)) → IsQuietly (attempt line a next)
+unfolding attempt stop
+quiet_attempt line (Yields x) next h f s = h x f s
+quiet_attempt line (Fails trap) next h f s = refl
+
+pub quiet_with_heap : (next : Heap → Meaning) → ((heap : Heap) → IsQuietly (next heap)) → IsQuietly (with_heap next)
+unfolding with_heap
+quiet_with_heap next h f s = h s.store.heap f s
+
+pub quiet_put_heap : (heap : Heap) → IsQuietly (put_heap heap)
+unfolding put_heap
+quiet_put_heap heap f s = refl
+
+pub quiet_made : (denoting : ℕ → Value) (object : Object) → IsQuietly (made denoting object)
+unfolding made
+quiet_made denoting object f s = refl
+
+pub quiet_made_text : (bytes : List ℕ) → IsQuietly (made_text bytes)
+unfolding made_text
+quiet_made_text bytes f s = refl
+
+pub quiet_read : (line : Line) (a : Heap → Attempt Value) → IsQuietly (with_heap (λ heap. attempt line (a heap) give))
+quiet_read line a = quiet_with_heap (λ heap. attempt line (a heap) give) (λ heap. quiet_attempt line (a heap) give quiet_give)
+
+pub quiet_put : (line : Line) (a : Heap → Attempt Heap) → IsQuietly (with_heap (λ heap. attempt line (a heap) put_heap))
+quiet_put line a = quiet_with_heap (λ heap. attempt line (a heap) put_heap) (λ heap. quiet_attempt line (a heap) put_heap quiet_put_heap)
+
+-- the instruction for a type of numbers, and for one of references
+pub at_num : (w : Way) {ty : TyView} {p : ℕ} (i j : _) → IsNum ty → Stand w p (choice.by_type ty i j) → Stand w p i
+at_num w i j int h = h
+at_num w i j bool h = h
+
+pub at_ref : (w : Way) {ty : TyView} {p : ℕ} (i j : _) → IsRef ty → Stand w p (choice.by_type ty i j) → Stand w p j
+at_ref w i j str h = h
+at_ref w i j pntr h = h
+at_ref w i j vector h = h
+at_ref w i j proc h = h
+
+-- a place of a type of numbers, and one of a type of references
+pub number_form : {ty : TyView} → IsNum ty → (s : Step) → when_number (Some (form_of_type ty)) s ≡ s
+number_form int s = refl
+number_form bool s = refl
+
+pub reference_form : {ty : TyView} → IsRef ty → (s : Step) → when_reference (Some (form_of_type ty)) s ≡ s
+reference_form str s = refl
+reference_form pntr s = refl
+reference_form vector s = refl
+reference_form proc s = refl
+
+-- a number is kept as the value is
+pub kept_word : {ty : TyView} → IsNum ty → (v : Value) → kept_as (Some (form_of_type ty)) (Num (word_of v)) ≡ kept_as (Some (form_of_type ty)) v
+kept_word int v = refl
+kept_word bool v = refl
+
+-- a value of type pntr is nil or a structure
+pub object_pops : (heap : Heap) (v : Value) → IsOf heap types.Pntr v → (c : Config) (next : Value → Config → Step) → object_of v c next ≡ next v c
+object_pops heap Nil is c next = refl
+object_pops heap (Pointer id) is c next = refl
+object_pops heap _ is c next = absurd is
+
+module _ (w : Way) where
+  -- the constant of this number is a text
+  pub text_there : (k : ℕ) (bytes : List ℕ) (c : Config) (next : List ℕ → Step) → constant_at (constants_in c.unit) k ≡ Some (text bytes) →
+      with_text k c next ≡ next bytes
+  text_there k bytes c next is = ap (λ (found : Option ConstantView). text_in found next) is
+
+  pub attempt_steps : {A : Type 0} (k : ℕ) (nums : List ℤ) (refs : List Value) (ty : TyView) (f : Frame) (s : State) (line : Line) (a : Attempt A)
+      (next : A → Step) (meant : A → Meaning) → ((x : A) → next x ≡ stepped w k nums refs ty (meant x f s)) →
+      attempted line a next ≡ stepped w k nums refs ty (attempt line a meant f s)
+  unfolding attempt stop
+  attempt_steps k nums refs ty f s line (Yields x) next meant h = h x
+  attempt_steps k nums refs ty f s line (Fails trap) next meant h = refl
+
+  pub number_steps : (k : ℕ) (nums : List ℤ) (refs : List Value) {ty : TyView} (f : Frame) (s : State) → IsNum ty → (v : Value) → Room w 1 nums refs →
+      push_num (word_of v) (place w k nums refs f s.store) ≡ stepped w k nums refs ty (give v f s)
+  unfolding give
+  number_steps k nums refs f s int v room = push_goes w k (word_of v) nums refs f s.store room
+  number_steps k nums refs f s bool v room = push_goes w k (word_of v) nums refs f s.store room
+
+  pub reference_steps : (k : ℕ) (nums : List ℤ) (refs : List Value) {ty : TyView} (f : Frame) (s : State) → IsRef ty → (v : Value) →
+      Room w 1 nums refs →
+      push_ref v (place w k nums refs f s.store) ≡ stepped w k nums refs ty (give v f s)
+  unfolding give
+  reference_steps k nums refs f s str v room = push_ref_goes w k v nums refs f s.store room
+  reference_steps k nums refs f s pntr v room = push_ref_goes w k v nums refs f s.store room
+  reference_steps k nums refs f s vector v room = push_ref_goes w k v nums refs f s.store room
+  reference_steps k nums refs f s proc v room = push_ref_goes w k v nums refs f s.store room
+
+  pub text_steps : (k : ℕ) (nums : List ℤ) (refs : List Value) (f : Frame) (s : State) (bytes : List ℕ) → Room w 1 nums refs →
+      make_text bytes (place w k nums refs f s.store) ≡ stepped w k nums refs types.Str (made_text bytes f s)
+  unfolding made_text
+  text_steps k nums refs f s bytes room = push_ref_goes w k (Text bytes) nums refs f (and_text bytes s.store) room
+
+  pub object_steps : (k : ℕ) (nums : List ℤ) (refs : List Value) {ty : TyView} (f : Frame) (s : State) (denoting : ℕ → Value) → IsRef ty →
+      (object : Object) →
+      Room w 1 nums refs → make denoting object (place w k nums refs f s.store) ≡ stepped w k nums refs ty (made denoting object f s)
+  unfolding made
+  object_steps k nums refs f s denoting str object room =
+      push_ref_goes w k (denoting (new_number s.store.heap)) nums refs f (and_object object s.store) room
+  object_steps k nums refs f s denoting pntr object room =
+      push_ref_goes w k (denoting (new_number s.store.heap)) nums refs f (and_object object s.store) room
+  object_steps k nums refs f s denoting vector object room =
+      push_ref_goes w k (denoting (new_number s.store.heap)) nums refs f (and_object object s.store) room
+  object_steps k nums refs f s denoting proc object room =
+      push_ref_goes w k (denoting (new_number s.store.heap)) nums refs f (and_object object s.store) room
+
+  pub change_steps : (k : ℕ) (nums : List ℤ) (refs : List Value) (f : Frame) (s : State) (heap : Heap) →
+      changed heap (place w k nums refs f s.store) ≡ stepped w k nums refs types.Void (put_heap heap f s)
+  unfolding put_heap
+  change_steps k nums refs f s heap = refl
+
+  -- the words of a value over other words
+  pub over_num : {n : _} {m : Meaning} {t ty : TyView} {need p k : ℕ} (bn : List ℤ) (br : List Value) → IsNum ty → (v : Value) →
+      Does w n (word_of v ∷ bn) br m t need p k → Does w n (nums_left ty v ++ bn) (refs_left ty v ++ br) m t need p k
+  over_num bn br int v d = d
+  over_num bn br bool v d = d
+
+  pub over_ref : {n : _} {m : Meaning} {t ty : TyView} {need p k : ℕ} (bn : List ℤ) (br : List Value) → IsRef ty → (v : Value) →
+      Does w n bn (v ∷ br) m t need p k → Does w n (nums_left ty v ++ bn) (refs_left ty v ++ br) m t need p k
+  over_ref bn br str v d = d
+  over_ref bn br pntr v d = d
+  over_ref bn br vector v d = d
+  over_ref bn br proc v d = d

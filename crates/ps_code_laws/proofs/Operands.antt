@@ -1,0 +1,109 @@
+-- Operands, one after the other, and what is done with their values.
+use Rattle.std.proofs.Common.{◌≡◌, ℕ, ◌+◌, ◌≤◌, ℤ, List, [], ◌∷◌, ◌++◌, length, ap, subst, length-append, arith as by_arith}
+use Rattle.ps_base.specs.TyView.{TyView}
+use Rattle.ps_base.specs.Instr.{width_of}
+use Rattle.ps_base.specs.declared.instr.Instr.{Instr}
+use Rattle.ps_program.specs.Node.{Node}
+use Rattle.ps_program.specs.Parts.{Part}
+use Rattle.ps_program.specs.Slots.{reaches}
+use Rattle.ps_meaning.specs.Values.{Value}
+use Rattle.ps_meaning.specs.Objects.{Heap}
+use Rattle.ps_meaning.specs.Meaning.{Meaning, ◌>>=◌}
+use Rattle.ps_meaning.specs.Evaluation.{Context, eval}
+use Rattle.ps_stepping.specs.Config.{code_in, frame_in, IsAt}
+use Rattle.ps_soundness.specs.Shapes.{IsOf, Grows}
+use Rattle.ps_soundness.proofs.Growing.{grows_then, of_kept}
+use Rattle.ps_code_laws.specs.Meets.{nums_left, refs_left}
+use Rattle.ps_code_laws.proofs.Standing.{Ahead, ahead_at}
+use Rattle.ps_code_laws.proofs.Falls.{falls_eval}
+use Rattle.ps_code_laws.proofs.Clauses.{sounds_in}
+use Rattle.ps_code_laws.proofs.Clauses as clause
+use Rattle.ps_code_laws.proofs.Doing.{Origin, after_it, Leads, leads_more, Way, Does, later, does_then, does_over, nums_few, refs_few}
+
+abbrev pub context : ℕ → Context
+context n = record { bound = n }
+
+abbrev pub deepest : Node → List (Part ℕ) → ℕ
+deepest t parts = reaches 0 parts
+
+pub reaches_behind : (before need : ℕ) (xs ys : List (Part ℕ)) → reaches before (xs ++ ys) ≤ need → reaches (before + length xs) ys ≤ need
+reaches_behind before need [] ys h = subst (λ (b : ℕ). reaches b ys ≤ need) (omega by_arith) h
+reaches_behind before need (x ∷ xs) ys h =
+    subst (λ (b : ℕ). reaches b ys ≤ need) (omega by_arith) (reaches_behind (before + 1) need xs ys (omega by_arith))
+
+pub at_least_one : (before : ℕ) (parts : List (Part ℕ)) → 1 ≤ reaches before parts
+at_least_one before [] = omega by_arith
+at_least_one before (part ∷ parts) = let h = at_least_one (before + 1) parts in omega by_arith
+
+module _ (w : Way) where
+  abbrev pub nums_of : ℕ
+  nums_of = (frame_in w.unit).nums
+
+  abbrev pub refs_of : ℕ
+  refs_of = (frame_in w.unit).refs
+
+  abbrev pub Stand : ℕ → Instr → Type 0
+  Stand p i = IsAt (code_in w.unit) p i
+
+  pub to_end : {n : Origin} {bn : List ℤ} {br : List Value} {m : Meaning} {ty : TyView} {need p : ℕ} (k k' : ℕ) → k ≡ k' →
+      Does w n bn br m ty need p k →
+      Does w n bn br m ty need p k'
+  to_end {n = n} {bn = bn} {br = br} {m = m} {ty = ty} {need = need} {p = p} k k' e d = subst (λ (q : ℕ). Does w n bn br m ty need p q) e d
+
+  pub from_place : {n : Origin} {bn : List ℤ} {br : List Value} {m : Meaning} {ty : TyView} {need k : ℕ} (p p' : ℕ) → p ≡ p' →
+      Does w n bn br m ty need p k →
+      Does w n bn br m ty need p' k
+  from_place {n = n} {bn = bn} {br = br} {m = m} {ty = ty} {need = need} {k = k} p p' e d = subst (λ (q : ℕ). Does w n bn br m ty need q k) e d
+
+  -- behind an instruction of this width
+  pub next_of : (p n : ℕ) (i : Instr) (is : List Instr) → width_of i ≡ n → Ahead w.unit p (i ∷ is) → Ahead w.unit (p + n) is
+  next_of p n i is e h = ahead_at w.unit (p + width_of i) (p + n) is (ap (λ k. p + k) e) h.1
+
+  -- what is known of a clause where it begins
+  pub leads_of : (n : Origin) {t : Node} {ty : TyView} → clause.Part nums_of refs_of n.locals t ty → Leads n n.locals ty (eval (context n.turns) t)
+  leads_of n {t = t} h = record { falls = falls_eval (context n.turns) t; sound = sounds_in h (context n.turns) n.heap }
+
+  -- one operand, and an instruction that takes it
+  pub does_one : {n : Origin} {a : Meaning} {tya ty : TyView} (op : Value → Meaning) (na ni need p q k : ℕ) → na ≤ need → ni ≤ need →
+      Leads n n.locals tya a → Does w n [] [] a tya na p q →
+      ((new : Heap) (v : Value) → Grows n.heap new → IsOf new tya v →
+      Does w (after_it n new n.locals) (nums_left tya v) (refs_left tya v) (op v) ty ni q k) →
+      Does w n [] [] (a >>= λ v. op v) ty need p k
+  does_one op na ni need p q k le_a le_o la da dop = does_then w (λ v. op v) na ni need p q k le_a le_o la da dop
+
+  -- two operands, and an instruction that takes them
+  pub does_two : {n : Origin} {a b : Meaning} {tya tyb ty : TyView} (op : Value → Value → Meaning) (na nb ni need p q r k : ℕ) → na ≤ need →
+      nb + 1 ≤ need →
+      ni ≤ need → Leads n n.locals tya a → Leads n n.locals tyb b → Does w n [] [] a tya na p q → Does w n [] [] b tyb nb q r →
+      ((new : Heap) (v u : Value) → Grows n.heap new → IsOf new tya v → IsOf new tyb u →
+      Does w (after_it n new n.locals) (nums_left tyb u ++ nums_left tya v) (refs_left tyb u ++ refs_left tya v) (op v u) ty ni r k) →
+      Does w n [] [] (a >>= λ v. b >>= λ u. op v u) ty need p k
+  does_two {n = n} {b = b} {tya = tya} op na nb ni need p q r k le_a le_b le_o la lb da db dop =
+      does_then w (λ v. b >>= λ u. op v u) na need need p q k le_a (omega by_arith) la da
+      (λ h1 v g1 is. does_over w (nums_left tya v) (refs_left tya v) (λ u. op v u) 1 nb ni need q r k (nums_few tya v) (refs_few tya v) le_b le_o
+      (leads_more (omega by_arith) g1 lb) (later w h1 g1 db)
+      (λ h2 u g2 of. dop h2 v u (grows_then n.heap h1 h2 g1 g2) (of_kept h1 h2 g2 tya v is) of))
+
+  -- three
+  pub does_three : {n : Origin} {a b d : Meaning} {tya tyb tyd ty : TyView} (op : Value → Value → Value → Meaning) (na nb nd ni need p q r t k : ℕ) →
+      na ≤ need →
+      nb + 1 ≤ need → nd + 2 ≤ need → ni ≤ need → Leads n n.locals tya a → Leads n n.locals tyb b → Leads n n.locals tyd d →
+      Does w n [] [] a tya na p q →
+      Does w n [] [] b tyb nb q r → Does w n [] [] d tyd nd r t →
+      ((new : Heap) (v u x : Value) → Grows n.heap new → IsOf new tya v → IsOf new tyb u → IsOf new tyd x →
+      Does w (after_it n new n.locals) (nums_left tyd x ++ (nums_left tyb u ++ nums_left tya v))
+      (refs_left tyd x ++ (refs_left tyb u ++ refs_left tya v))
+      (op v u x) ty ni t k) →
+      Does w n [] [] (a >>= λ v. b >>= λ u. d >>= λ x. op v u x) ty need p k
+  does_three {n = n} {b = b} {d = d} {tya = tya} {tyb = tyb} op na nb nd ni need p q r t k le_a le_b le_d le_o la lb ld da db dd dop =
+      does_then w (λ v. b >>= λ u. d >>= λ x. op v u x) na need need p q k le_a (omega by_arith) la da
+      (λ h1 v g1 is. does_over w (nums_left tya v) (refs_left tya v) (λ u. d >>= λ x. op v u x) 1 nb need need q r k (nums_few tya v)
+      (refs_few tya v) le_b
+      (omega by_arith) (leads_more (omega by_arith) g1 lb) (later w h1 g1 db)
+      (λ h2 u g2 of. let k2 = grows_then n.heap h1 h2 g1 g2 in
+      does_over w (nums_left tyb u ++ nums_left tya v) (refs_left tyb u ++ refs_left tya v) (λ x. op v u x) 2 nd ni need r t k
+      (let e = length-append (nums_left tyb u) (nums_left tya v) in let few = nums_few tyb u in let also = nums_few tya v in omega by_arith)
+      (let e = length-append (refs_left tyb u) (refs_left tya v) in let few = refs_few tyb u in let also = refs_few tya v in omega by_arith)
+      le_d le_o (leads_more (omega by_arith) k2 ld) (later w h2 k2 dd)
+      (λ h3 x g3 so. dop h3 v u x (grows_then n.heap h2 h3 k2 g3) (of_kept h1 h3 (grows_then h1 h2 h3 g2 g3) tya v is) (of_kept h2 h3 g3 tyb u of)
+      so)))

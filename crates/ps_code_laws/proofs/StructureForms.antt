@@ -1,0 +1,97 @@
+-- Instructions over structures do what is meant by the clauses that they stand for.
+use Rattle.std.proofs.Common.{◌≡◌, ℕ, ◌+◌, List, [], ◌∷◌, ◌++◌, Option, Some, sym, ap, ◌∙◌}
+use Rattle.ps_base.specs.TyView.{TyView}
+use Rattle.ps_base.specs.TyView as types
+use Rattle.ps_base.specs.CodeUnit.{text}
+use Rattle.ps_base.specs.declared.line.Line.{Line}
+use Rattle.ps_base.specs.declared.instr.Instr.TheVariants as instr
+use Rattle.text_forms.specs.declared.forms.Form.{Form}
+use Rattle.text_forms.specs.Forms.{forms_of, form_in}
+use Rattle.ps_meaning.specs.Values.{Value, Num, Flag, number_of, word_of}
+use Rattle.ps_meaning.specs.Objects.{is_class, field_of, with_field}
+use Rattle.ps_meaning.specs.Meaning.{give, with_heap, put_heap}
+use Rattle.ps_meaning.specs.Evaluation.{kept_as, field_meant, set_field_meant}
+use Rattle.ps_gen.specs.Choices as choice
+use Rattle.ps_stepping.specs.Config.{constants_in, constant_at}
+use Rattle.ps_stepping.specs.Machine.{Step}
+use Rattle.ps_stepping.specs.Steps.{attempted}
+use Rattle.ps_stepping.specs.Objects.{changed, when_number, when_reference}
+use Rattle.ps_soundness.specs.Running.{HasField}
+use Rattle.ps_soundness.specs.Shapes.{IsOf}
+use Rattle.ps_soundness.proofs.Fields.{form_in_field, kept_in_field}
+use Rattle.ps_code_laws.specs.Meets.{nums_left, refs_left}
+use Rattle.ps_code_laws.proofs.Clauses.{IsNum, IsRef, Kind, of_num, of_ref}
+use Rattle.ps_code_laws.proofs.Doing.{Origin, Way, place, Does, does_meant, push_goes}
+use Rattle.ps_code_laws.proofs.Operands.{Stand}
+use Rattle.ps_code_laws.proofs.Attempts.{at_num, at_ref, quiet_give, quiet_with_heap, quiet_read, quiet_put, number_form, reference_form, kept_word, object_pops, text_there, attempt_steps, number_steps, reference_steps, change_steps, over_num, over_ref}
+
+field_number : (class : List ℕ) (i : ℕ) {ty : TyView} → HasField class i ty → IsNum ty → (s : Step) → when_number (form_in (forms_of class) i) s ≡ s
+field_number class i {ty = ty} has num s = ap (λ (form : Option Form). when_number form s) (form_in_field class i ty has) ∙ number_form num s
+
+field_reference : (class : List ℕ) (i : ℕ) {ty : TyView} → HasField class i ty → IsRef ty → (s : Step) →
+    when_reference (form_in (forms_of class) i) s ≡ s
+field_reference class i {ty = ty} has ref s = ap (λ (form : Option Form). when_reference form s) (form_in_field class i ty has) ∙ reference_form ref s
+
+module _ (w : Way) where
+  pub does_is : (n : Origin) (p k : ℕ) (class : List ℕ) (v : Value) → IsOf n.heap types.Pntr v → Stand w p (instr.Is k) →
+      constant_at (constants_in w.unit) k ≡ Some (text class) →
+      Does w n [] (v ∷ []) (with_heap (λ heap. give (Flag (is_class heap v class)))) types.Bool 1 p (p + 5)
+  unfolding with_heap give
+  does_is n p k class v is at named =
+      does_meant w p 1 (instr.Is k)
+      (λ nums refs f s room since. text_there w k class (place w (p + 5) nums (v ∷ refs) f s.store) _ named ∙ object_pops n.heap v is _ _
+      ∙ push_goes w (p + 5) (number_of (is_class s.store.heap v class)) nums refs f s.store room)
+      (quiet_with_heap (λ heap. give (Flag (is_class heap v class))) (λ heap. quiet_give (Flag (is_class heap v class)))) at
+
+  pub does_field : (n : Origin) (p k i : ℕ) (line : Line) (class : List ℕ) {ty : TyView} (v : Value) → Kind ty → HasField class i ty →
+      IsOf n.heap types.Pntr v →
+      Stand w p (choice.by_type ty (instr.FieldM k i line) (instr.FieldP k i line)) → constant_at (constants_in w.unit) k ≡ Some (text class) →
+      Does w n [] (v ∷ []) (field_meant line class i v) ty 1 p (p + 13)
+  unfolding with_heap
+  does_field n p k i line class {ty = ty} v (of_num num) has is at named =
+      does_meant w p 1 (instr.FieldM k i line)
+      (λ nums refs f s room since. text_there w k class (place w (p + 13) nums (v ∷ refs) f s.store) _ named
+      ∙ field_number class i has num _ ∙ object_pops n.heap v is _ _
+      ∙ attempt_steps w (p + 13) nums refs ty f s line (field_of s.store.heap v class i) _ give
+      (λ x. number_steps w (p + 13) nums refs f s num x room))
+      (quiet_read line (λ heap. field_of heap v class i)) (at_num w _ _ num at)
+  does_field n p k i line class {ty = ty} v (of_ref ref) has is at named =
+      does_meant w p 1 (instr.FieldP k i line)
+      (λ nums refs f s room since. text_there w k class (place w (p + 13) nums (v ∷ refs) f s.store) _ named
+      ∙ field_reference class i has ref _ ∙ object_pops n.heap v is _ _
+      ∙ attempt_steps w (p + 13) nums refs ty f s line (field_of s.store.heap v class i) _ give
+      (λ x. reference_steps w (p + 13) nums refs f s ref x room))
+      (quiet_read line (λ heap. field_of heap v class i)) (at_ref w _ _ ref at)
+
+  -- the value that a field takes is the one that is meant
+  number_kept : (class : List ℕ) (i : ℕ) {ty : TyView} (v : Value) → IsNum ty → HasField class i ty →
+      kept_as (form_in (forms_of class) i) (Num (word_of v)) ≡ kept_as (form_in (forms_of class) i) v
+  number_kept class i {ty = ty} v num has =
+      ap (λ (form : Option Form). kept_as form (Num (word_of v))) (form_in_field class i ty has) ∙ kept_word num v
+      ∙ ap (λ (form : Option Form). kept_as form v) (sym (form_in_field class i ty has))
+
+  pub does_set_field : (n : Origin) (p k i : ℕ) (line : Line) (class : List ℕ) {ty : TyView} (o v : Value) → Kind ty → HasField class i ty →
+      IsOf n.heap types.Pntr o → IsOf n.heap ty v →
+      Stand w p (choice.by_type ty (instr.SetFieldM k i line) (instr.SetFieldP k i line)) → constant_at (constants_in w.unit) k ≡ Some (text class) →
+      Does w n (nums_left ty v ++ []) (refs_left ty v ++ (o ∷ [])) (set_field_meant line class i o v) types.Void 1 p (p + 13)
+  unfolding with_heap
+  does_set_field n p k i line class {ty = ty} o v (of_num num) has is of at named =
+      over_num w [] (o ∷ []) num v
+      (does_meant w p 1 (instr.SetFieldM k i line)
+      (λ nums refs f s room since. text_there w k class (place w (p + 13) (word_of v ∷ nums) (o ∷ refs) f s.store) _ named
+      ∙ field_number class i has num _ ∙ object_pops n.heap o is _ _
+      ∙ ap (λ (x : Value). attempted line (with_field s.store.heap o class i x) (λ heap. changed heap (place w (p + 13) nums refs f s.store)))
+      (number_kept class i v num has)
+      ∙ attempt_steps w (p + 13) nums refs types.Void f s line (with_field s.store.heap o class i (kept_as (form_in (forms_of class) i) v)) _ put_heap
+      (λ heap. change_steps w (p + 13) nums refs f s heap))
+      (quiet_put line (λ heap. with_field heap o class i (kept_as (form_in (forms_of class) i) v))) (at_num w _ _ num at))
+  does_set_field n p k i line class {ty = ty} o v (of_ref ref) has is of at named =
+      over_ref w [] (o ∷ []) ref v
+      (does_meant w p 1 (instr.SetFieldP k i line)
+      (λ nums refs f s room since. text_there w k class (place w (p + 13) nums (v ∷ o ∷ refs) f s.store) _ named
+      ∙ field_reference class i has ref _ ∙ object_pops n.heap o is _ _
+      ∙ ap (λ (x : Value). attempted line (with_field s.store.heap o class i x) (λ heap. changed heap (place w (p + 13) nums refs f s.store)))
+      (sym (kept_in_field n.heap class i ty v has of))
+      ∙ attempt_steps w (p + 13) nums refs types.Void f s line (with_field s.store.heap o class i (kept_as (form_in (forms_of class) i) v)) _ put_heap
+      (λ heap. change_steps w (p + 13) nums refs f s heap))
+      (quiet_put line (λ heap. with_field heap o class i (kept_as (form_in (forms_of class) i) v))) (at_ref w _ _ ref at))

@@ -1,0 +1,103 @@
+-- A machine at the start of a unit.
+use Rattle.std.proofs.Common.{◌≡◌, ℕ, ◌+◌, ◌*◌, ◌<◌, ◌≤◌, ℤ, pos, List, [], ◌∷◌, length, drop, replicate, get_or, Some, None, refl, sym, ap, ◌∙◌, subst, arith, rules}
+use Rattle.std.specs.Prelude.{reverse, vec_len, vec_capacity}
+use Rattle.std.proofs.lemmas.List.{get_or-replicate, drop_all, length-replicate}
+use Rattle.ps_base.specs.CodeUnit.{UnitView, unit}
+use Rattle.ps_base.specs.declared.code_unit.Frame.{Frame}
+use Rattle.obj_layout.specs.declared.reference.Reference.{Reference}
+use Rattle.swizzle.specs.Heap as area
+use Rattle.swizzle.specs.Heap.{top_of, fresh_heap}
+use Rattle.heap_ops.specs.Layouts.{AreSo}
+use Rattle.ps_meaning.specs.Values.{Value, Nil}
+use Rattle.ps_meaning.specs.Runs.{fresh_store}
+use Rattle.ps_stepping.specs.Config.{frame_words, frame_in, start}
+use Rattle.paired_ops.specs.World.{IsWorld, DenotesIn}
+use Rattle.proc_values.specs.Loaded.{IsUnit}
+use Rattle.paired_ops.specs.Code as code
+use Rattle.paired_ops.specs.Code.{unit_weight}
+use Rattle.swizzle.specs.declared.fault.SwizzleFault.{SwizzleFault}
+use Rattle.swizzle.specs.declared.fault.SwizzleFault.TheVariants.{AreaFull}
+use Rattle.machine_state.specs.declared.machine.Machine.{Machine}
+use Rattle.machine_state.specs.Holding.{IsRow, IsRefRow, AreDenoted, object_in, Holds, IsSound, stack_words}
+use Rattle.stack_machine.specs.Loaded.{IsRoomy, IsFrame, IsLoaded, HasNoRoom, loaded_weight}
+
+-- locals that are 0
+row_of : (count : ℕ) → IsRow (replicate count (pos 0)) count [] (λ slot. pos 0)
+row_of count =
+    let long = length-replicate count (pos 0) in
+    record {
+      room = omega (arith, long);
+      pushed_are = sym (ap (λ (xs : List ℤ). reverse xs) (drop_all count (replicate count (pos 0)) (omega (arith, long))));
+      locals_are = λ slot d below. sym (get_or-replicate count slot (pos 0) d below);
+    }
+
+-- nil denotes itself
+nil_denoted : (here : area.Heap) (names : List Reference) → DenotesIn here names None Nil
+nil_denoted here names = search rules
+
+ref_row_of : (here : area.Heap) (names : List Reference) (count : ℕ) → IsRefRow here names (replicate count 0) count [] (λ slot. Nil)
+ref_row_of here names count =
+    let long = length-replicate {A = ℕ} count 0 in
+    record {
+      room = omega (arith, long);
+      pushed_are = subst (λ (xs : List ℕ). AreDenoted here names xs []) (sym (ap (λ (xs : List ℕ). reverse xs) (drop_all count (replicate count 0) (omega (arith, long))))) tt;
+      locals_are = λ slot d below. subst (λ (w : ℕ). DenotesIn here names (object_in w) Nil) (sym (get_or-replicate count slot 0 d below)) (nil_denoted here names);
+    }
+
+module _ (u : UnitView) (turns : ℕ) (old new : Machine) (mid : area.Heap) (frame_is : new.frame ≡ frame_in u) (nums : new.frame.nums ≤ frame_words) (refs : new.frame.refs ≤ frame_words) where
+  own_frame : IsFrame (frame_in u)
+  own_frame = subst IsFrame frame_is (record { nums_fit = nums; refs_fit = refs })
+
+  -- the machine begins
+  pub begins : (at : ℕ) → mid ≡ fresh_heap old.sw.size → code.IsLoaded mid new.sw u at → AreSo new.sw new.layouts.entries.items → IsRoomy new
+      → new.code ≡ at → new.at ≡ 0 → new.nums.items ≡ replicate new.frame.nums (pos 0) → new.refs.items ≡ replicate new.frame.refs 0 → new.turns ≡ turns
+      → IsLoaded u turns old new
+  begins at fresh is so roomy code_is at_is nums_are refs_are turns_are = record {
+    frame = own_frame;
+    sound = record {
+      nums_fit = let n = ap length nums_are in let k = length-replicate new.frame.nums (pos 0) in omega (arith, new.nums.ok.0, n, k);
+      refs_fit = let n = ap length refs_are in let k = length-replicate {A = ℕ} new.frame.refs 0 in omega (arith, new.refs.ok.0, n, k);
+      nums_below = let n = ap length nums_are in let k = length-replicate new.frame.nums (pos 0) in omega (arith, new.nums.ok.0, n, k, nums);
+      refs_below = let n = ap length refs_are in let k = length-replicate {A = ℕ} new.frame.refs 0 in omega (arith, new.refs.ok.0, n, k, refs);
+      nums_room = let r = roomy.nums_room in omega (arith, r);
+      refs_room = let r = roomy.refs_room in omega (arith, r);
+      values_room = roomy.values_room;
+    };
+    roomy = roomy;
+    size = is.size ∙ ap (λ (h : area.Heap). h.size) fresh;
+    starts = λ counted enough. record {
+      names = [];
+      held = record {
+        unit_is = subst (λ (n : ℕ). IsUnit new.sw n u) (sym code_is) is.is;
+        frame_is = sym frame_is;
+        at_is = sym at_is;
+        nums_are = subst (λ (xs : List ℤ). IsRow xs new.frame.nums [] (λ slot. pos 0)) (sym nums_are) (row_of new.frame.nums);
+        refs_are = subst (λ (xs : List ℕ). IsRefRow new.sw [] xs new.frame.refs [] (λ slot. Nil)) (sym refs_are) (ref_row_of new.sw [] new.frame.refs);
+        no_callers = refl;
+        turns_are = sym turns_are;
+        world = is.bare;
+        entries_are = so;
+        counted = let top = is.top in let was = ap top_of fresh in omega (arith, enough, top, was);
+      };
+    };
+  }
+
+-- there was no room
+pub no-room : (u : UnitView) (old new : Machine) (mid : area.Heap) (top wanted size : ℕ) → IsFrame (frame_in u) → IsRoomy new → mid ≡ fresh_heap old.sw.size
+    → code.HasNoRoom mid u (AreaFull top wanted size) → HasNoRoom u old new top wanted size
+no-room u old new mid top wanted size frame roomy fresh is =
+    let told : AreaFull top wanted size ≡ AreaFull is.top is.wanted mid.size = is.fault_is in
+    let t : top ≡ is.top = cc in
+    let w : wanted ≡ is.wanted = cc in
+    let s : size ≡ mid.size = cc in
+    let of_size : mid.size ≡ old.sw.size = ap (λ (h : area.Heap). h.size) fresh in
+    let was : top_of mid ≡ 1 = ap top_of fresh in
+    let full = is.full in
+    let within = is.within in
+    record {
+      frame = frame;
+      roomy = roomy;
+      size_is = s ∙ of_size;
+      full = omega (arith, t, w, s, full);
+      passed = omega (arith, s, full, within, was);
+    }
