@@ -2,7 +2,7 @@
 #![tactic(auto)]
 
 pub mod layouts;
-mod shape;
+pub mod shape;
 pub mod structures;
 pub mod vectors;
 

@@ -33,7 +33,7 @@ pub struct Shape {
 
 /// Whether a form is one of number words.
 #[inline]
-pub(crate) fn is_number(form: Form) -> bool
+pub fn is_number(form: Form) -> bool
     ensures { result ≡ is_number_form form }
 {
     match form {
@@ -65,7 +65,7 @@ fn ends_in_ints(low: i32, last: u32) -> bool
 
 /// The place of a subscript, from 0; None where it is outside.
 #[inline]
-pub(crate) fn place(shape: Shape, at: i32) -> Option<u32>
+pub fn place(shape: Shape, at: i32) -> Option<u32>
     ensures { result ≡ place_of shape.low shape.count at }
 {
     if at < shape.low {
@@ -163,7 +163,7 @@ fn find_shape(sw: &Swizzle, vector: u32, form: Form) -> Result<Shape, Misfit>
 /// Reads the shape of a vector by the text of its type. Damaged where the object is no vector, what it refers to first is no text, or it hasn't
 /// the shape of its type.
 #[inline]
-pub(crate) fn read_shape<V: Vault>(
+pub fn read_shape<V: Vault>(
     sw: &mut Swizzle,
     vault: &mut V,
     vector: u32,
@@ -205,7 +205,7 @@ pub(crate) fn upper(low: i32, count: u32) -> i32
 
 /// The index of an element in its row: two number words stand before the elements, or one reference.
 #[inline]
-pub(crate) fn index(form: Form, place: u32) -> u32
+pub fn index(form: Form, place: u32) -> u32
     requires { place < 2 ^ 20 }
     ensures { result ≡ index_of form place }
 {

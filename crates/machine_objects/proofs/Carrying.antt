@@ -1,29 +1,30 @@
 -- What a machine stands for, as its area changes by operations.
-use Rattle.std.proofs.Common.{◌≡◌, ℕ, ◌+◌, ◌*◌, ◌<◌, ◌≤◌, Bool, true, false, ℤ, List, [], ◌∷◌, length, Option, Some, None, refl, sym, ap, ◌∙◌, subst, arith}
-use Rattle.std.specs.Prelude.{nat_lt, if◌then◌else◌, Result, Ok, Err}
-use Rattle.ps_base.specs.declared.code_unit.Frame.{Frame}
+use Rattle.std.proofs.Common.{◌≡◌, ℕ, ◌+◌, ◌*◌, ◌<◌, ◌≤◌, Bool, true, false, List, ◌∷◌, length, Some, refl, sym, ap, ◌∙◌, subst, arith}
+use Rattle.std.specs.Prelude.{if◌then◌else◌, Err}
 use Rattle.ps_base.specs.declared.line.Line.{Line}
 use Rattle.obj_layout.specs.declared.reference.Reference.{Reference}
 use Rattle.swizzle.specs.Heap as area
 use Rattle.swizzle.specs.Heap.{IsHeap, top_of}
 use Rattle.swizzle.specs.Reading.{TextsStay}
 use Rattle.swizzle.specs.declared.fault.SwizzleFault.{SwizzleFault}
-use Rattle.heap_ops.specs.declared.layouts.Entry.{Entry}
 use Rattle.heap_ops.proofs.LayoutLaws.{stay_so}
 use Rattle.proc_values.proofs.StayLaws.{unit-stays}
+use Rattle.known_vectors.specs.Known.{AllLast}
+use Rattle.known_vectors.proofs.Lasting.{all-same}
+use Rattle.known_vectors.proofs.Entries.{all-stay}
 use Rattle.ps_meaning.specs.Values.{Value, Text}
 use Rattle.ps_meaning.specs.Meaning.{Store}
 use Rattle.ps_stepping.specs.Config.{Config, frame_words, frame_in}
 use Rattle.std.proofs.lemmas.Bool.{lt-ltb, le-ltb}
 use Rattle.heap_texts.specs.declared.fault.OpFault.TheVariants as op
-use Rattle.ps_stepping.specs.Steps.{Step, Goes, Stuck, on, push_ref}
+use Rattle.ps_stepping.specs.Steps.{Stuck, on, push_ref}
 use Rattle.ps_meaning.specs.Texts.{Yields}
 use Rattle.ps_meaning.specs.Objects.{Heap}
 use Rattle.heap_texts.specs.declared.fault.OpFault.{OpFault}
-use Rattle.paired_ops.specs.World.{IsWorld, DenotesIn, Carries, IsShort, Stands, Answers}
+use Rattle.paired_ops.specs.World.{IsWorld, Carries, IsShort, Stands, Answers}
 use Rattle.paired_ops.proofs.ValueLaws.{text-denoted, denotes-text}
 use Rattle.machine_state.specs.declared.machine.Machine.{Machine}
-use Rattle.machine_state.specs.Holding.{Held, HeldBy, IsSound}
+use Rattle.machine_state.specs.Holding.{HeldBy, IsSound}
 use Rattle.machine_state.specs.declared.stepped.Stepped.{Stepped}
 use Rattle.machine_state.specs.declared.stepped.Stepped.TheVariants.{Quiet, Turns, Writes, Halts, Breaks, Damaged}
 use Rattle.machine_state.specs.Stepped.{IsFull, Does, KeepsSize}
@@ -38,9 +39,9 @@ texts-stay here now names more weight heap k at held kind =
     record { held = t.held; kind = t.kind; bytes = t.bytes_are }
 
 -- what stands for a configuration stands for one with another store
-pub held-more : (here now : area.Heap) (names more : List Reference) (weight : ℕ) (m : Machine) (c : Config) (store : Store) → IsHeap now → Carries here now names more weight → HeldIn here names m c
+pub held-more : (here now : area.Heap) (names more : List Reference) (weight : ℕ) (m : Machine) (c : Config) (store : Store) → IsHeap now → Carries here now names more weight → AllLast c.store.heap store.heap → HeldIn here names m c
     → IsWorld now store.heap more → 8 * top_of now ≤ store.counted → store.turns ≡ c.store.turns → HeldIn now more m (record c { store = store })
-held-more here now names more weight m c store heap k h world counted turns = record {
+held-more here now names more weight m c store heap k last h world counted turns = record {
   unit_is = unit-stays here now m.code c.unit k.code h.unit_is;
   frame_is = h.frame_is;
   at_is = h.at_is;
@@ -50,6 +51,7 @@ held-more here now names more weight m c store heap k h world counted turns = re
   turns_are = turns ∙ h.turns_are;
   world = world;
   entries_are = stay_so here now m.layouts.entries.items h.entries_are (texts-stay here now names more weight heap k);
+  known_are = all-stay here now c.store.heap store.heap names more weight k last m.vectors.entries.items h.known_are;
   counted = counted;
 }
 
@@ -58,7 +60,7 @@ pub read-holds : (m : Machine) (now : area.Heap) (names : List Reference) (c : C
 read-holds m now names c heap h s =
     let counted = h.counted in
     let top = s.carries.top in
-    held-more m.sw now names names 0 m c c.store heap s.carries h s.world (omega (arith, counted, top)) refl
+    held-more m.sw now names names 0 m c c.store heap s.carries (all-same c.store.heap) h s.world (omega (arith, counted, top)) refl
 
 -- the area is no part of what is said of the stacks
 pub sound-kept : (m : Machine) (now : area.Heap) → IsSound m → IsSound (record m { sw = now })

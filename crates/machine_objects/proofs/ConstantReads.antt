@@ -1,5 +1,5 @@
 -- The text constants of the code that a machine runs.
-use Rattle.std.proofs.Common.{◌≡◌, ◌≢◌, ℕ, zero, suc, ◌+◌, ◌*◌, List, Option, Some, None, refl, sym, ap, ◌∙◌, subst, arith}
+use Rattle.std.proofs.Common.{◌≡◌, ◌≢◌, ℕ, zero, suc, List, Option, Some, None, refl, sym, ap, ◌∙◌, subst}
 use Rattle.std.specs.Prelude.{Result, Ok, Err}
 use Rattle.ps_base.specs.CodeUnit.{UnitView, unit, ConstantView, text, literal, ConstantsView, no_constants, constant_then}
 use Rattle.ps_base.specs.declared.code_unit.Frame.{Frame}
@@ -19,7 +19,6 @@ use Rattle.paired_ops.specs.Code.{AnswersConstant, DenotesConstant}
 use Rattle.machine_state.specs.declared.machine.Machine.{Machine}
 use Rattle.machine_state.specs.Holding.{HeldBy, IsHolding, IsSound}
 use Rattle.machine_objects.specs.inside.Constants.{StillHolds, ReadsConstant}
-use Rattle.machine_objects.specs.inside.Popping.{IsKind}
 use Rattle.machine_state.specs.declared.stepped.Stepped.{Stepped}
 use Rattle.machine_state.specs.declared.stepped.Stepped.TheVariants.{Damaged}
 use Rattle.machine_state.specs.Stepped.{Takes, Does}

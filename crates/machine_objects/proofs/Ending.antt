@@ -1,5 +1,5 @@
 -- What an instruction takes, from what it comes to in each configuration that the machine holds.
-use Rattle.std.proofs.Common.{◌≡◌, ℕ, List, Option, Some, None, refl, sym, ap, ◌∙◌, subst}
+use Rattle.std.proofs.Common.{◌≡◌, ℕ, List, Option, Some, None, sym, subst}
 use Rattle.obj_layout.specs.declared.reference.Reference.{Reference}
 use Rattle.swizzle.specs.Heap as area
 use Rattle.ps_meaning.specs.Values.{Value, Vector}

@@ -1,5 +1,5 @@
 -- The fields that classes of the code name, and what is read of them.
-use Rattle.std.proofs.Common.{◌≡◌, ℕ, Bool, true, false, List, Option, Some, None, refl, sym, ap, ◌∙◌, subst}
+use Rattle.std.proofs.Common.{◌≡◌, ℕ, true, false, List, Option, Some, None, refl, sym, ap, ◌∙◌, subst}
 use Rattle.std.specs.Prelude.{Result, Ok, Err}
 use Rattle.ps_base.specs.CodeUnit.{ConstantView}
 use Rattle.ps_base.specs.declared.line.Line.{Line}
@@ -60,6 +60,7 @@ module _ (k n class : ℕ) (old mid : Machine) (layouts : Layouts) where
       turns_are = h.turns_are;
       world = h.world;
       entries_are = so;
+      known_are = h.known_are;
       counted = h.counted;
     };
     size = s.size;

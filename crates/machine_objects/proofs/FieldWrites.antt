@@ -1,6 +1,6 @@
 -- What is written into a field of a class of the code.
-use Rattle.std.proofs.Common.{◌≡◌, ℕ, ℤ, Bool, true, false, List, Option, Some, None, refl, sym, ap, ◌∙◌, subst}
-use Rattle.std.specs.Prelude.{Result, Ok, Err}
+use Rattle.std.proofs.Common.{◌≡◌, ℕ, ℤ, true, false, List, Option, Some, ap, ◌∙◌, subst}
+use Rattle.std.specs.Prelude.{Result}
 use Rattle.ps_base.specs.declared.line.Line.{Line}
 use Rattle.obj_layout.specs.declared.reference.Reference.{Reference}
 use Rattle.text_forms.specs.declared.forms.Form.{Form}
@@ -20,6 +20,7 @@ use Rattle.ps_stepping.specs.Steps.{Step, attempted, pop_num, pop_ref}
 use Rattle.ps_stepping.specs.Objects.{when_number, when_reference, pop_object, changed, set_field_num, set_field_ref}
 use Rattle.paired_ops.specs.World.{IsWorld, DenotesIn, Writes}
 use Rattle.paired_ops.specs.Operands.{IsForIn}
+use Rattle.known_vectors.proofs.Lasting.{last-field}
 use Rattle.machine_state.specs.declared.machine.Machine.{Machine}
 use Rattle.machine_state.specs.declared.stepped.Stepped.{Stepped}
 use Rattle.machine_state.specs.Holding.{IsHolding}
@@ -58,7 +59,7 @@ module _ (k n class : ℕ) (l : Located) (old mid popped last : Machine) (now : 
         (ap (λ (x : Option Form). when_number x (number-set n line c text x)) (located-at (forms_of text) n l at).form_is ∙ number-row f row (number-set n line c text (Some f))
         ∙ i.1 (λ y e. pop_object e (λ x g. attempted line (with_field g.store.heap x text n (kept_as (Some f) (Num y))) (λ changed_heap. changed changed_heap g)))
         ∙ o.2 (λ x g. attempted line (with_field g.store.heap x text n v) (λ changed_heap. changed changed_heap g)))
-        (give.does last.sw names o.0 a o.3 (did heap names text n o.1 v o.3.world there o.4 at (denotes last.sw names row))))
+        (give.does last.sw names o.0 a o.3 (λ of done. last-field heap of o.1 v text n done) (did heap names text n o.1 v o.3.world there o.4 at (denotes last.sw names row))))
 
     pub number-done : (P : Type 0) (r : Stepped) → UnlessFault done P → UnlessDamaged r P
     number-done P r so =
@@ -86,7 +87,7 @@ module _ (k n class : ℕ) (l : Located) (old mid popped last : Machine) (now : 
         (ap (λ (x : Option Form). when_reference x (reference-set n line c text)) (located-at (forms_of text) n l at).form_is ∙ reference-row f row (reference-set n line c text)
         ∙ i.2 (λ w e. pop_object e (λ x g. attempted line (with_field g.store.heap x text n w) (λ changed_heap. changed changed_heap g)))
         ∙ o.2 (λ x g. attempted line (with_field g.store.heap x text n i.1) (λ changed_heap. changed changed_heap g)))
-        (give.does last.sw names o.0 a o.3 (did heap names text n o.1 i.1 o.3.world there o.4 at denotes)))
+        (give.does last.sw names o.0 a o.3 (λ of done. last-field heap of o.1 i.1 text n done) (did heap names text n o.1 i.1 o.3.world there o.4 at denotes)))
 
     pub reference-done : (P : Type 0) (r : Stepped) → UnlessFault done P → UnlessDamaged r P
     reference-done P r so =

@@ -1,12 +1,10 @@
 -- How an instruction ends behind an operation on objects.
-use Rattle.std.proofs.Common.{◌≡◌, ℕ, ◌+◌, ◌*◌, ◌<◌, ◌≤◌, Bool, true, false, ℤ, pos, List, [], length, Option, Some, None, refl, sym, ap, ◌∙◌, subst, arith}
-use Rattle.std.specs.Prelude.{Result, Ok, Err}
+use Rattle.std.proofs.Common.{◌≡◌, ℕ, ◌<◌, ◌≤◌, Bool, true, false, ℤ, List, [], length, Option, Some, refl, sym, ap, ◌∙◌, subst, arith}
+use Rattle.std.specs.Prelude.{Ok, Err}
 use Rattle.ps_base.specs.declared.line.Line.{Line}
-use Rattle.ps_base.specs.declared.trap.Trap.{Trap}
 use Rattle.obj_layout.specs.declared.reference.Reference.{Reference}
 use Rattle.swizzle.specs.Heap as area
 use Rattle.swizzle.specs.Heap.{IsHeap}
-use Rattle.swizzle.specs.declared.fault.SwizzleFault.{SwizzleFault}
 use Rattle.text_forms.specs.declared.forms.Form.{Form}
 use Rattle.text_forms.specs.declared.forms.Form.TheVariants as form
 use Rattle.heap_places.specs.declared.value.Value as code
@@ -15,7 +13,7 @@ use Rattle.heap_texts.specs.declared.fault.OpFault.{OpFault}
 use Rattle.heap_texts.specs.declared.fault.OpFault.TheVariants as op
 use Rattle.ps_meaning.specs.Values.{Value, Text, Num, Flag, word_of, number_of}
 use Rattle.ps_meaning.specs.Values as value
-use Rattle.ps_meaning.specs.Texts.{Attempt, Yields, Fails}
+use Rattle.ps_meaning.specs.Texts.{Attempt, Yields}
 use Rattle.ps_meaning.specs.Objects.{Heap, Object, new_number}
 use Rattle.ps_meaning.specs.Meaning.{and_text, and_object, on_heap}
 use Rattle.ps_meaning.specs.Weights.{text_weight, own_weight}
@@ -27,10 +25,11 @@ use Rattle.paired_ops.specs.Operands.{IsForIn, IsOfForm}
 use Rattle.machine_state.specs.declared.machine.Machine.{Machine}
 use Rattle.machine_state.specs.declared.stepped.Stepped.{Stepped}
 use Rattle.machine_state.specs.declared.stepped.Stepped.TheVariants.{Quiet, Damaged}
-use Rattle.machine_state.specs.Holding.{Held, HeldBy, Holds}
 use Rattle.machine_state.specs.Stepped.{Does, KeepsSize, Takes}
 use Rattle.machine_state.specs.inside.Taking.{TakesRef}
 use Rattle.machine_objects.specs.inside.Giving.{HeldIn, failed_of}
+use Rattle.known_vectors.specs.Known.{AllLast}
+use Rattle.known_vectors.proofs.Lasting.{all-same, last-new}
 use Rattle.machine_objects.proofs.Carrying.{held-more, size-behind, fails-push}
 
 -- an int or a bool that was read, as a number
@@ -67,7 +66,7 @@ module _ (line : Line) (m : Machine) (heap : IsHeap m.sw) (here : area.Heap) (na
         let counted = h.counted in
         let top = text.carries.top in
         let store = and_text made.0 c.store in
-        let now = held-more here m.sw names names (text_weight made.0) m c store heap text.carries h text.world (omega (arith, counted, top)) refl in (
+        let now = held-more here m.sw names names (text_weight made.0) m c store heap text.carries (all-same c.store.heap) h text.world (omega (arith, counted, top)) refl in (
           size-behind r here m.sw new.sw text.carries.size push.size,
           subst (λ (a : Attempt (List ℕ)). Does (attempted line a (λ bytes. make_text bytes c)) r new) (sym made.1) (push.does names (Text made.0) (record c { store = store }) now text.denotes),
         )
@@ -79,7 +78,7 @@ module _ (line : Line) (m : Machine) (heap : IsHeap m.sw) (here : area.Heap) (na
         let counted = h.counted in
         let top = it.carries.top in
         let store = and_object made.0 c.store in
-        let now = held-more here m.sw names it.more (own_weight made.0) m c store heap it.carries h it.world (omega (arith, counted, top)) refl in (
+        let now = held-more here m.sw names it.more (own_weight made.0) m c store heap it.carries (last-new c.store.heap made.0) h it.world (omega (arith, counted, top)) refl in (
           size-behind r here m.sw new.sw it.carries.size push.size,
           subst (λ (a : Attempt Object). Does (attempted line a (λ object. make denoting object c)) r new) (sym made.1) (push.does it.more (denoting (new_number c.store.heap)) (record c { store = store }) now it.denotes),
         )
@@ -93,7 +92,7 @@ module _ (line : Line) (m : Machine) (heap : IsHeap m.sw) (here : area.Heap) (na
         let counted = h.counted in
         let top = stands.carries.top in
         let same = is got.0 got.2.0 got.2.1 in
-        let now = held-more here m.sw names names 0 m c c.store heap stands.carries h stands.world (omega (arith, counted, top)) refl in (
+        let now = held-more here m.sw names names 0 m c c.store heap stands.carries (all-same c.store.heap) h stands.world (omega (arith, counted, top)) refl in (
           size-behind r here m.sw new.sw stands.carries.size push.size,
           subst (λ (a : Attempt Value). Does (attempted line a (λ w. when_number (Some f) (push_num (word_of w) c))) r new) (sym got.1)
               (subst (λ (s : Step). Does s r new) (sym (same.1 (push_num (word_of got.0) c) ∙ ap (λ (x : ℤ). push_num x c) same.0)) (push.does c (record { names = names; held = now }))),
@@ -106,7 +105,7 @@ module _ (line : Line) (m : Machine) (heap : IsHeap m.sw) (here : area.Heap) (na
         let counted = h.counted in
         let top = stands.carries.top in
         let same : z ≡ wanted = got.2 ∙ (let e : Yields got.0 ≡ Yields wanted = sym got.1 in cc) in
-        let now = held-more here m.sw names names 0 m c c.store heap stands.carries h stands.world (omega (arith, counted, top)) refl in (
+        let now = held-more here m.sw names names 0 m c c.store heap stands.carries (all-same c.store.heap) h stands.world (omega (arith, counted, top)) refl in (
           size-behind r here m.sw new.sw stands.carries.size push.size,
           subst (λ (x : ℤ). Does (push_num x c) r new) same (push.does c (record { names = names; held = now })),
         )
@@ -119,7 +118,7 @@ module _ (line : Line) (m : Machine) (heap : IsHeap m.sw) (here : area.Heap) (na
         let stands = got.3 in
         let counted = h.counted in
         let top = stands.carries.top in
-        let now = held-more here m.sw names names 0 m c c.store heap stands.carries h stands.world (omega (arith, counted, top)) refl in (
+        let now = held-more here m.sw names names 0 m c c.store heap stands.carries (all-same c.store.heap) h stands.world (omega (arith, counted, top)) refl in (
           size-behind r here m.sw new.sw stands.carries.size push.size,
           subst (λ (a : Attempt Value). Does (attempted line a (λ w. when_reference (Some f) (push_ref w c))) r new) (sym got.1)
               (subst (λ (s : Step). Does s r new) (sym (referred f to got.2.0 (push_ref got.0 c))) (push.does names got.0 c now got.2.1)),
@@ -152,13 +151,13 @@ module _ (line : Line) (m : Machine) (heap : IsHeap m.sw) (here : area.Heap) (na
       of form.Reference (held.Flag b) other is = absurd is
 
   -- what was written
-  pub written : (attempt : Attempt Heap) (unit : Unit {0}) → Writes here m.sw names attempt (Ok unit) → KeepsSize Quiet here m.sw × Does (attempted line attempt (λ heap. changed heap c)) Quiet m
-  written attempt unit did =
+  pub written : (attempt : Attempt Heap) (unit : Unit {0}) → ((of : Heap) → attempt ≡ Yields of → AllLast c.store.heap of) → Writes here m.sw names attempt (Ok unit) → KeepsSize Quiet here m.sw × Does (attempted line attempt (λ heap. changed heap c)) Quiet m
+  written attempt unit last did =
       let stands = did.2 in
       let counted = h.counted in
       let top = stands.carries.top in
       let store = on_heap did.0 c.store in
-      let now = held-more here m.sw names names 0 m c store heap stands.carries h stands.world (omega (arith, counted, top)) refl in
+      let now = held-more here m.sw names names 0 m c store heap stands.carries (last did.0 did.1) h stands.world (omega (arith, counted, top)) refl in
       (stands.carries.size, ([], record c { store = store }, ap (λ (a : Attempt Heap). attempted line a (λ heap. changed heap c)) did.1, refl, record { names = names; held = now }))
 
   -- an operation that failed

@@ -3,7 +3,7 @@ use Rattle.std.proofs.Common.{◌≡◌, ℕ, ◌<◌, ◌≤◌, true, false, L
 use Rattle.std.proofs.Common.{◌++◌, length, sym, ap, ◌∙◌, append_assoc, append-nil, length-append, arith}
 use Rattle.text_forms.specs.declared.forms.Form.{Form}
 use Rattle.text_forms.specs.Forms.{forms_of, forms_from, form_here}
-use Rattle.text_forms.specs.inside.Steps.{behind_first, is_field}
+use Rattle.text_forms.specs.Steps.{behind_first, is_field}
 use Rattle.text_forms.proofs.Passing.{forms-first, a_field, no_field}
 
 pub none-laid : (text rest : List ℕ) → rest ≡ behind_first 40 text → forms_from true rest ≡ forms_of text

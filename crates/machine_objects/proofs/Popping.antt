@@ -2,15 +2,13 @@
 use Rattle.std.proofs.Common.{◌≡◌, ◌≢◌, ℕ, List, Option, Some, None, refl, sym, ap, ◌∙◌, subst}
 use Rattle.std.specs.Prelude.{IfSome, OnSome, ℤ}
 use Rattle.obj_layout.specs.declared.reference.Reference.{Reference}
-use Rattle.obj_layout.specs.declared.kind.Kind.TheVariants as kind
 use Rattle.swizzle.specs.Heap as area
 use Rattle.swizzle.specs.Heap.{IsHeap, IsHeld, header_at}
 use Rattle.ps_meaning.specs.Values.{Value, Num, Flag, Text, Nil, Pointer, Vector, Procedure, Nothing}
-use Rattle.ps_meaning.specs.Objects.{Heap, Object, object_at, Elements}
 use Rattle.ps_stepping.specs.Config.{Config}
-use Rattle.ps_stepping.specs.Steps.{Step, Stuck, pop_num, pop_ref, pop_text, text_of}
+use Rattle.ps_stepping.specs.Steps.{Step, Stuck, pop_num, pop_ref, text_of}
 use Rattle.ps_stepping.specs.Machine.{pop_width}
-use Rattle.ps_stepping.specs.Objects.{pop_object, object_of, pop_denoting, denoting_of, pop_vector, type_of, type_of_object, of_type}
+use Rattle.ps_stepping.specs.Objects.{object_of, denoting_of, type_of, type_of_object, of_type}
 use Rattle.paired_ops.specs.World.{DenotesIn}
 use Rattle.paired_ops.specs.Operands.{IsOfSort, IsSorted, IsNoText}
 use Rattle.paired_ops.specs.declared.values.Sort.{Sort}
@@ -18,9 +16,9 @@ use Rattle.paired_ops.specs.declared.values.Sort.TheVariants as sort
 use Rattle.paired_ops.proofs.ReadLaws.{vector-at}
 use Rattle.paired_ops.proofs.ValueLaws.{vector-denoted}
 use Rattle.machine_state.specs.declared.machine.Machine.{Machine}
-use Rattle.machine_state.specs.Holding.{HeldBy, IsHolding, object_in}
+use Rattle.machine_state.specs.Holding.{IsHolding, object_in}
 use Rattle.machine_state.specs.inside.Taking.{Taken, TakenRef, PopsNum, PopsWidth}
-use Rattle.machine_objects.specs.inside.Popping.{PopsText, PopsAny, PopsObject, PopsDenoting, PopsVector, IsKind}
+use Rattle.machine_objects.specs.inside.Popping.{PopsText, PopsAny, PopsObject, PopsDenoting, PopsVector}
 
 -- behind what was taken the machine still stands for a configuration
 pub taken-holding : {T : Type 0} (taking : Config → (T → Config → Step) → Step) (old new : Machine) (t : T) → Taken taking old new (Some t) → IsHolding old → IsHolding new

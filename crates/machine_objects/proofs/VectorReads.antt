@@ -9,11 +9,14 @@ use Rattle.ps_meaning.specs.Texts.{Attempt}
 use Rattle.ps_meaning.specs.Objects.{Heap}
 use Rattle.ps_meaning.specs.Values.{Vector}
 use Rattle.paired_ops.specs.World.{IsWorld, DenotesIn, Answers}
+use Rattle.known_vectors.specs.declared.known.KnownVector.{KnownVector}
+use Rattle.known_vectors.specs.Known.{IsKnownAs}
 use Rattle.machine_state.specs.declared.machine.Machine.{Machine}
 use Rattle.machine_state.specs.declared.stepped.Stepped.{Stepped}
 use Rattle.machine_state.specs.Holding.{IsHolding}
 use Rattle.machine_state.specs.Stepped.{UnlessDamaged}
 use Rattle.machine_objects.specs.inside.Popping.{PopsVector}
+use Rattle.machine_objects.specs.inside.Elements.{PopsKnown}
 use Rattle.machine_objects.proofs.FieldReads.{read-done, unless-damaged}
 
 -- the operation never failed as a whole
@@ -27,3 +30,15 @@ vector-read is attempt old last now vector got holding q did P r so =
     let v = q.gives names holding.0 holding.1.held in
     let heap = v.0.store.heap in
     unless-damaged P r (read-done last.sw now (is heap names v.1) heap names (attempt heap v.1) P got (did heap names v.1 v.5.world v.6) so)
+
+-- nor that on a known vector
+pub known-read : {A T : Type 0} (is : Heap → List Reference → ℕ → T → A → Type 0) (attempt : Heap → ℕ → Attempt A) (old last : Machine)
+    (now : area.Heap) (known : KnownVector) (got : Result T OpFault) → IsHolding old → PopsKnown old last (Some known)
+    → ((of : Heap) (names : List Reference) (id : ℕ) → IsWorld last.sw of names → DenotesIn last.sw names (Some known.vector) (Vector id)
+    → IsKnownAs of id known → Answers last.sw now (is of names id) of names (attempt of id) got)
+    → (P : Type 0) (r : Stepped) → UnlessFault got P → UnlessDamaged r P
+known-read is attempt old last now known got holding q did P r so =
+    let names = holding.1.names in
+    let v = q.gives names holding.0 holding.1.held in
+    let heap = v.0.store.heap in
+    unless-damaged P r (read-done last.sw now (is heap names v.1) heap names (attempt heap v.1) P got (did heap names v.1 v.4.world v.5 v.10) so)

@@ -6,9 +6,10 @@ ghost use Rattle.machine_state.specs.Holding.{IsHolding, IsSound};
 ghost use Rattle.machine_state.specs.Stepped.{UnlessDamaged, Takes};
 
 use crate::constants::text_constant;
-use crate::forms::{is_number, kept_as};
+use crate::forms::kept_as;
 use crate::gives::give_object;
 use crate::pops::{pop_any, pop_int};
+use heap_ops::shape::is_number;
 use machine_state::{Machine, Stepped};
 use obj_layout::vault::Vault;
 use paired_ops::Value;

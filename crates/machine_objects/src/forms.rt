@@ -24,14 +24,3 @@ pub(crate) fn kept_as(form: Form, z: i32) -> Value
         _ => Value::Num(z),
     }
 }
-
-/// Whether a place of this form lies in the row of numbers.
-#[inline(always)]
-pub(crate) fn is_number(form: Form) -> bool
-    ensures { result ≡ is_number_form form }
-{
-    match form {
-        Form::Number | Form::Flag => true,
-        Form::Reference => false,
-    }
-}

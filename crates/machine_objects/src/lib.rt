@@ -3,10 +3,10 @@
 
 mod constants;
 pub mod elements;
-mod fields;
 pub mod fills;
 mod forms;
 mod gives;
+mod known;
 pub mod lists;
 pub mod makes;
 mod pops;

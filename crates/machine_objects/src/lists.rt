@@ -8,9 +8,9 @@ ghost use Rattle.machine_state.specs.Stepped.{UnlessDamaged, Takes};
 ghost use Rattle.machine_objects.specs.inside.Making.{MakesList};
 
 use crate::constants::text_constant;
-use crate::forms::is_number;
 use crate::gives::give_object;
 use crate::values::{lay_elements, pop_values};
+use heap_ops::shape::is_number;
 use machine_state::stacks::pop_num;
 use machine_state::{Machine, Stepped};
 use obj_layout::vault::Vault;

@@ -12,9 +12,10 @@ ghost use Rattle.ps_meaning.specs.Evaluation.{object_relation};
 ghost use Rattle.ps_meaning.specs.Objects.{is_one_object};
 
 use crate::constants::{field_at, text_constant};
-use crate::forms::{is_number, kept_as};
+use crate::forms::kept_as;
 use crate::gives::{done, give_number, give_reference};
 use crate::pops::{pop_any, pop_denoting, pop_int, pop_object};
+use heap_ops::shape::is_number;
 use machine_state::stacks::{push_num, push_ref};
 use machine_state::values::number;
 use machine_state::{Machine, Stepped};

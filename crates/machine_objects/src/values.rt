@@ -7,7 +7,6 @@ ghost use Rattle.heap_places.specs.declared.value.Value as code;
 ghost use Rattle.machine_state.specs.Holding.{IsSound, most_values};
 ghost use Rattle.machine_objects.specs.inside.Making.{form_of as form_of_value, forms_in, PopsFormed, PopsFields};
 
-use crate::fields::{first_field, form_here, is_field, next_field};
 use crate::forms::kept_as;
 use machine_state::stacks::{object, pop_num, pop_ref};
 use machine_state::{MOST_VALUES, Machine};
@@ -15,6 +14,7 @@ use obj_layout::kind::Kind;
 use paired_ops::Value;
 use swizzle::swizzle::Swizzle;
 use text_forms::forms::Form;
+use text_forms::steps::{first_field, form_here, is_field, next_field};
 
 // A value of a form.
 #[inline(always)]

@@ -7,7 +7,9 @@ ghost use Rattle.machine_state.specs.Holding.{IsHolding, IsSound};
 ghost use Rattle.machine_state.specs.Stepped.{UnlessDamaged, Takes};
 
 use crate::gives::{give_bound, give_number, give_reference};
+use crate::known::pop_known;
 use crate::pops::{pop_int, pop_vector};
+use known_vectors::elements::get_element;
 use machine_state::{Machine, Stepped};
 use obj_layout::vault::Vault;
 use paired_ops::vectors;
@@ -27,10 +29,10 @@ pub fn element_num<V: Vault>(m: &mut Machine, vault: &mut V, line: Line) -> Step
     let Some(at) = pop_int(m) else {
         return Stepped::Damaged;
     };
-    let Some(vector) = pop_vector(m) else {
+    let Some(known) = pop_known(m, vault) else {
         return Stepped::Damaged;
     };
-    let got = vectors::get_element(&mut m.sw, vault, vector, at);
+    let got = get_element(&mut m.sw, vault, known, at);
     give_number(m, got, line)
 }
 
@@ -48,10 +50,10 @@ pub fn element_ref<V: Vault>(m: &mut Machine, vault: &mut V, line: Line) -> Step
     let Some(at) = pop_int(m) else {
         return Stepped::Damaged;
     };
-    let Some(vector) = pop_vector(m) else {
+    let Some(known) = pop_known(m, vault) else {
         return Stepped::Damaged;
     };
-    let got = vectors::get_element(&mut m.sw, vault, vector, at);
+    let got = get_element(&mut m.sw, vault, known, at);
     give_reference(m, got, line)
 }
 

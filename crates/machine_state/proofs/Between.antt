@@ -1,17 +1,15 @@
 -- A function that first takes something from the stacks, and then does what another does.
-use Rattle.std.proofs.Common.{◌≡◌, ℕ, ℤ, List, [], ◌∷◌, Option, Some, None, refl, sym, ap, ◌∙◌, subst}
-use Rattle.obj_layout.specs.declared.reference.Reference.{Reference}
+use Rattle.std.proofs.Common.{◌≡◌, ℕ, ℤ, List, Option, Some, None, sym, ap, ◌∙◌, subst}
 use Rattle.swizzle.specs.Heap as area
 use Rattle.ps_meaning.specs.Values.{Value}
 use Rattle.ps_stepping.specs.Config.{Config}
-use Rattle.ps_stepping.specs.Machine.{Step, Stuck, pop_num_of, pop_num, pop_ref_of, pop_ref, pop_two, pop_width}
-use Rattle.paired_ops.specs.World.{DenotesIn}
+use Rattle.ps_stepping.specs.Machine.{Step, pop_num_of, pop_num, pop_ref_of, pop_ref, pop_width}
 use Rattle.machine_state.specs.declared.machine.Machine.{Machine}
 use Rattle.machine_state.specs.declared.stepped.Stepped.{Stepped}
 use Rattle.machine_state.specs.declared.stepped.Stepped.TheVariants.{Damaged}
-use Rattle.machine_state.specs.Holding.{Holds, HeldBy, IsSound, object_in}
+use Rattle.machine_state.specs.Holding.{Holds, IsSound, object_in}
 use Rattle.machine_state.specs.Stepped.{Takes, Does, KeepsSize}
-use Rattle.machine_state.specs.inside.Taking.{Taken, TakenRef, TakesTwo, TakesRef, HasTop, HasTopRef, HasTwo, ReadsRef}
+use Rattle.machine_state.specs.inside.Taking.{Taken, TakenRef, TakesRef, HasTop, HasTopRef, ReadsRef}
 
 module _ (old mid new : Machine) (r : Stepped) where
   -- behind what was taken

@@ -15,7 +15,7 @@ use Rattle.machine_state.specs.Holding.{Holds, Standing}
 
 module _ (m : Machine) (c : Config) (h : Holds m c) where
   abbrev At : ℕ → ℕ → Config → Type 0
-  At at turns d = Standing m.sw m.layouts.entries.items m.code m.frame at m.nums.items m.refs.items turns d
+  At at turns d = Standing m.sw m.layouts.entries.items m.vectors.entries.items m.code m.frame at m.nums.items m.refs.items turns d
 
   -- at another offset
   pub stands_at : (to : ℕ) → At to m.turns (record c { at = to })
@@ -31,6 +31,7 @@ module _ (m : Machine) (c : Config) (h : Holds m c) where
       turns_are = h.held.turns_are;
       world = h.held.world;
       entries_are = h.held.entries_are;
+      known_are = h.held.known_are;
       counted = h.held.counted;
     };
   }
@@ -58,6 +59,7 @@ module _ (m : Machine) (c : Config) (h : Holds m c) where
             turns_are = refl;
             world = h.held.world;
             entries_are = h.held.entries_are;
+            known_are = h.held.known_are;
             counted = h.held.counted;
           };
         },

@@ -1,5 +1,5 @@
 -- Pushing and popping, from a configuration that a machine stands for.
-use Rattle.std.proofs.Common.{◌≡◌, ℕ, zero, suc, ◌+◌, ◌-◌, ◌<◌, ◌≤◌, ℤ, pos, Bool, true, List, [], ◌∷◌, ◌++◌, length, take, set, get_or, Option, Some, None, refl, sym, ap, ◌∙◌, subst, arith}
+use Rattle.std.proofs.Common.{◌≡◌, ℕ, suc, ◌+◌, ◌-◌, ◌<◌, ◌≤◌, ℤ, pos, Bool, true, List, [], ◌∷◌, ◌++◌, length, take, set, get_or, refl, sym, ap, ◌∙◌, subst, arith}
 use Rattle.std.specs.Prelude.{nat_lt, if◌then◌else◌}
 use Rattle.std.proofs.lemmas.List.{take_all, take_more, take-take, set_split, drop_all, length-take-le, get_or_default}
 use Rattle.std.proofs.lemmas.Bool.{lt-ltb, le-ltb}
@@ -15,7 +15,7 @@ use Rattle.machine_state.specs.declared.machine.Machine.{Machine}
 use Rattle.machine_state.specs.declared.stepped.Stepped.{Stepped}
 use Rattle.machine_state.specs.Stepped.{Takes, Does}
 use Rattle.machine_state.specs.inside.Taking.{TakesTwo}
-use Rattle.machine_state.specs.Holding.{Holds, HeldBy, Held, Standing, IsRow, IsRefRow, object_in}
+use Rattle.machine_state.specs.Holding.{Holds, HeldBy, Held, IsRow, IsRefRow, object_in}
 use Rattle.machine_state.proofs.Rows.{row_push, row_pop, row_pop_two, row_none, row_length, row_set}
 use Rattle.machine_state.proofs.RefRows.{ref_push, ref_pop, ref_none, ref_length, ref_set}
 
@@ -75,10 +75,10 @@ too_few (x ∷ y ∷ xs) few c next = absurd (omega arith)
 module _ (m : Machine) (c : Config) (names : List Reference) (held : HeldBy names m c) where
   -- with other numbers, and with other references
   abbrev WithNums : List ℤ → Config → Type 0
-  WithNums nums d = Held names m.sw m.layouts.entries.items m.code m.frame m.at nums m.refs.items m.turns d
+  WithNums nums d = Held names m.sw m.layouts.entries.items m.vectors.entries.items m.code m.frame m.at nums m.refs.items m.turns d
 
   abbrev pub WithRefs : List ℕ → Config → Type 0
-  WithRefs refs d = Held names m.sw m.layouts.entries.items m.code m.frame m.at m.nums.items refs m.turns d
+  WithRefs refs d = Held names m.sw m.layouts.entries.items m.vectors.entries.items m.code m.frame m.at m.nums.items refs m.turns d
 
   nums_size : (frame_in c.unit).nums ≡ m.frame.nums
   nums_size = ap (λ (f : Frame). f.nums) held.frame_is
@@ -97,6 +97,7 @@ module _ (m : Machine) (c : Config) (names : List Reference) (held : HeldBy name
     turns_are = held.turns_are;
     world = held.world;
     entries_are = held.entries_are;
+    known_are = held.known_are;
     counted = held.counted;
   }
 
@@ -186,6 +187,7 @@ module _ (m : Machine) (c : Config) (names : List Reference) (held : HeldBy name
     turns_are = held.turns_are;
     world = held.world;
     entries_are = held.entries_are;
+    known_are = held.known_are;
     counted = held.counted;
   }
 

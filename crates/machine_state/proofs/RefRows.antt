@@ -1,7 +1,7 @@
 -- Rows of references: each word denotes a value.
-use Rattle.std.proofs.Common.{◌≡◌, ℕ, zero, suc, ◌+◌, ◌-◌, ◌<◌, ◌≤◌, List, [], ◌∷◌, ◌++◌, length, drop, get_or, set, Bool, true, false, refl, sym, ap, ◌∙◌, subst, arith, length-append, length-drop, Option, Some, None}
+use Rattle.std.proofs.Common.{◌≡◌, ℕ, suc, ◌+◌, ◌-◌, ◌<◌, ◌≤◌, List, [], ◌∷◌, ◌++◌, length, drop, get_or, set, Bool, true, false, refl, sym, ap, ◌∙◌, subst, arith, length-append, length-drop, Option}
 use Rattle.std.specs.Prelude.{reverse, nat_eq, if◌then◌else◌}
-use Rattle.std.proofs.lemmas.List.{drop-append-le, get_or_append_left, get_or-set_same, get_or-set_other, length-set, drop-set-lt, length-reverse, drop_all}
+use Rattle.std.proofs.lemmas.List.{get_or_append_left, get_or-set_same, get_or-set_other, length-set, drop-set-lt, length-reverse, drop_all}
 use Rattle.std.proofs.lemmas.Bool.{eqb-true, eqb-false}
 use Rattle.obj_layout.specs.declared.reference.Reference.{Reference}
 use Rattle.swizzle.specs.Heap as area

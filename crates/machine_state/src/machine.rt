@@ -1,5 +1,6 @@
 use heap_ops::layouts::Layouts;
 use heap_places::value::Value;
+use known_vectors::known::KnownVectors;
 use ps_base::code_unit::Frame;
 use swizzle::swizzle::Swizzle;
 
@@ -12,14 +13,15 @@ pub const STACK_WORDS: usize = 2_001 * FRAME_WORDS;
 /// The most values that an object is made of: all that one frame may have on both stacks.
 pub const MOST_VALUES: usize = 2 * FRAME_WORDS;
 
-/// A run of a unit: the area with the places of fields that were looked up, values that an object is made of, the unit's code object and its
-/// frame, the offset of the next instruction in bytes, the two stacks and the turns that are left. Each stack has the locals of the body
+/// A run of a unit: the area with the places of fields and the vectors that were looked up, values that an object is made of, the unit's code
+/// object and its frame, the offset of the next instruction in bytes, the two stacks and the turns that are left. Each stack has the locals of the body
 /// first, and above them what is pushed, its top at the end. A number is an int, or a bool as 0 or 1. On the stack of references 0 is nil, and
 /// each other word is the index of an object in the area.
 #[derive(Drop)]
 pub struct Machine {
     pub sw: Swizzle,
     pub layouts: Layouts,
+    pub vectors: KnownVectors,
     pub values: Vec<Value>,
     pub code: u32,
     pub frame: Frame,

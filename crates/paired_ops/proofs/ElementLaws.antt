@@ -51,12 +51,12 @@ use Rattle.paired_ops.proofs.RewriteLaws.{rewritten, write-stands, for-carried}
 
 -- The type of a vector.
 
-type-text : (here : area.Heap) (of : Heap) (names : List reference.Reference) (at id : ℕ) → (v : VectorAt here of names at id)
+pub type-text : (here : area.Heap) (of : Heap) (names : List reference.Reference) (at id : ℕ) → (v : VectorAt here of names at id)
     → IsText (alone here) (slot_of (shown_at here at) 0) v.ty
 type-text here of names at id v = first-text here names (shown_at here at) kind.Vector v.ty (λ home. home ∷ v.is.bound ∷ [])
     (replicate (length v.elements) (element_of v.ty)) v.elements v.is.rows
 
-type-known : (here : area.Heap) (of : Heap) (names : List reference.Reference) (at id : ℕ) → VectorAt here of names at id
+pub type-known : (here : area.Heap) (of : Heap) (names : List reference.Reference) (at id : ℕ) → VectorAt here of names at id
     → Known here (slot_of (shown_at here at) 0)
 type-known here of names at id v = known-text here (slot_of (shown_at here at) 0) v.ty (type-text here of names at id v)
 
@@ -160,7 +160,7 @@ index-slot form.Reference n e = refl
 index-slot form.Number n e = absurd (cc)
 index-slot form.Flag n e = absurd (cc)
 
-element-touched : (here : area.Heap) (names : List reference.Reference) (it : Shown) (ty : List ℕ) (low : ℤ) (vs : List Value) (n : ℕ)
+pub element-touched : (here : area.Heap) (names : List reference.Reference) (it : Shown) (ty : List ℕ) (low : ℤ) (vs : List Value) (n : ℕ)
     → IsVector (alone here) (paired names) it ty low vs → n < length vs → element_of ty ≡ form.Reference
     → Known here (slot_of it (index_of (element_of ty) n))
 element-touched here names it ty low vs n v lt e = subst (λ (k : ℕ). Known here (slot_of it k)) (index-slot (element_of ty) n e)
@@ -206,22 +206,22 @@ place-none here of names at id z text v same is =
     sym (subscript-is (alone here) (paired names) (shown_at here at) v.ty v.low v.elements z v.is)
     ∙ ap (λ (t : List ℕ). subscript (shown_at here at) t z) same ∙ is
 
-element-meant : (here : area.Heap) (of : Heap) (names : List reference.Reference) (at id : ℕ) (z : ℤ) → (v : VectorAt here of names at id)
+pub element-meant : (here : area.Heap) (of : Heap) (names : List reference.Reference) (at id : ℕ) (z : ℤ) → (v : VectorAt here of names at id)
     → meaning.element_of of (Vector id) z ≡ found_at (place_of v.low (length v.elements) z) v.elements
 unfolding meaning.element_of
 element-meant here of names at id z v = ap (λ (o : Option Object). found_at (place_of (low_in o) (length (elements_in o)) z) (elements_in o)) v.means
 
-put-meant : (here : area.Heap) (of : Heap) (names : List reference.Reference) (at id : ℕ) (z : ℤ) (e : Value) → (v : VectorAt here of names at id)
+pub put-meant : (here : area.Heap) (of : Heap) (names : List reference.Reference) (at id : ℕ) (z : ℤ) (e : Value) → (v : VectorAt here of names at id)
     → with_element of (Vector id) z e ≡ put_at of (Vector id) (place_of v.low (length v.elements) z) e
 unfolding with_element
 put-meant here of names at id z e v = ap (λ (o : Option Object). put_at of (Vector id) (place_of (low_in o) (length (elements_in o)) z) e) v.means
 
-put-some : (here : area.Heap) (of : Heap) (names : List reference.Reference) (at id : ℕ) (n : ℕ) (e : Value) → (v : VectorAt here of names at id)
+pub put-some : (here : area.Heap) (of : Heap) (names : List reference.Reference) (at id : ℕ) (n : ℕ) (e : Value) → (v : VectorAt here of names at id)
     → put_at of (Vector id) (Some n) e ≡ Yields (with_object of id (Elements v.ty v.low (set v.elements n e)))
 put-some here of names at id n e v = ap
     (λ (o : Option Object). Yields (with_object of id (Elements (type_in o) (low_in o) (set (elements_in o) n e)))) v.means
 
-vector-kept : (old new : area.Heap) (names : List reference.Reference) (it : Shown) (ty : List ℕ) (low : ℤ) (vs : List Value) → Keeps old new
+pub vector-kept : (old new : area.Heap) (names : List reference.Reference) (it : Shown) (ty : List ℕ) (low : ℤ) (vs : List Value) → Keeps old new
     → IsVector (alone old) (paired names) it ty low vs → IsVector (alone new) (paired names) it ty low vs
 vector-kept old new names it ty low vs keeps v = record {
   bound = v.bound;

@@ -7,3 +7,19 @@ mod command_tests;
 mod memory_tests;
 #[cfg(test)]
 mod programs;
+#[cfg(test)]
+mod programs_control;
+#[cfg(test)]
+mod programs_limits;
+#[cfg(test)]
+mod programs_objects;
+#[cfg(test)]
+mod programs_order;
+#[cfg(test)]
+mod programs_strings;
+#[cfg(test)]
+mod programs_traps;
+#[cfg(test)]
+mod programs_values;
+#[cfg(test)]
+mod programs_whole;

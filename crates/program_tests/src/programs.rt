@@ -1,26 +1,31 @@
-//! Programs over structures, vectors and strings: what each tells, and its status.
+//! Programs: what each tells, and its status. How a table of them is run, and those over structures and vectors; the other tables stand
+//! in the files `programs_*`.
 
-use crate::command_tests::assert_told;
+use crate::command_tests::{RUN, assert_told};
 use std::alloc::Global;
 use std::process::Abort;
 use std::test::Fail;
 
-const RUN: &[&str] = &["run", "v.vol"];
+/// A program, what it tells, and its status.
+pub type Row<'a> = (&'a str, &'a str, u8);
 
-// A program, what it tells, and its status.
-type Row<'a> = (&'a str, &'a str, u8);
+/// The words before the program's name, the program, what it tells, and its status.
+pub type WordRow<'a> = (&'a [&'a str], &'a str, &'a str, u8);
 
-fn assert_rows(rt: &impl Abort, alloc: Global, rows: &[Row<'_>]) -> Result<(), Fail> {
+/// Each program of the table tells what its row says, with that status.
+pub fn assert_rows(rt: &impl Abort, alloc: Global, rows: &[Row<'_>]) -> Result<(), Fail> {
     for (text, told, status) in rows {
-        assert_told(
-            rt,
-            alloc,
-            RUN,
-            "x.ps",
-            text.as_bytes(),
-            told.as_bytes(),
-            *status,
-        )?;
+        let told = told.as_bytes();
+        assert_told(rt, alloc, RUN, "x.ps", text.as_bytes(), told, *status)?;
+    }
+    Ok(())
+}
+
+/// The same, with the words of each row.
+pub fn assert_word_rows(rt: &impl Abort, alloc: Global, rows: &[WordRow<'_>]) -> Result<(), Fail> {
+    for (words, text, told, status) in rows {
+        let told = told.as_bytes();
+        assert_told(rt, alloc, words, "x.ps", text.as_bytes(), told, *status)?;
     }
     Ok(())
 }
@@ -77,12 +82,21 @@ const STRUCTURES: [Row<'static>; 17] = [
         3,
     ),
     (
-        "structure link(int n; pntr next)\nlet h := nil\nfor i = 1 to 4 do h := link(i, h)\nlet p := h\nwhile p ~= nil do { write p(n); p := p(next) }",
+        r#"structure link(int n; pntr next)
+let h := nil
+for i = 1 to 4 do h := link(i, h)
+let p := h
+while p ~= nil do { write p(n); p := p(next) }"#,
         "4321",
         0,
     ),
     (
-        "structure link(int n; pntr next)\nlet h := nil\nfor i = 1 to 4 do h := link(i, h)\nlet r := nil\nwhile h ~= nil do { let t = h(next); h(next) := r; r := h; h := t }\nwhile r ~= nil do { write r(n); r := r(next) }",
+        r#"structure link(int n; pntr next)
+let h := nil
+for i = 1 to 4 do h := link(i, h)
+let r := nil
+while h ~= nil do { let t = h(next); h(next) := r; r := h; h := t }
+while r ~= nil do { write r(n); r := r(next) }"#,
         "1234",
         0,
     ),
@@ -197,81 +211,6 @@ const VECTORS: [Row<'static>; 17] = [
     ),
 ];
 
-const STRINGS: [Row<'static>; 20] = [
-    ("let s = \"abc\" ++ \"de\"; write s, length(s)", "abcde5", 0),
-    ("write \"\" ++ \"\", length(\"\")", "0", 0),
-    (
-        "let s = \"abcde\"; write s(2|3), s(1|1), s(5|1), s(1|5)",
-        "bcdaeabcde",
-        0,
-    ),
-    ("write \"abc\"(1|0)", "", 0),
-    (
-        "write \"abc\"\nwrite \"abc\"(3|2)",
-        "abctrap 6 at line 2\n",
-        3,
-    ),
-    (
-        "write \"abc\"\nwrite \"abc\"(0|1)",
-        "abctrap 6 at line 2\n",
-        3,
-    ),
-    (
-        "write \"a\" = \"a\", \"a\" ++ \"b\" = \"ab\", \"a\" ~= \"b\"",
-        "truetruetrue",
-        0,
-    ),
-    (
-        "write \"a\" < \"b\", \"ab\" < \"a\", \"\" < \"a\", \"a\" <= \"a\"",
-        "truefalsetruetrue",
-        0,
-    ),
-    (
-        "write \"b\" > \"a\", \"a\" >= \"b\", \"Z\" < \"a\"",
-        "truefalsetrue",
-        0,
-    ),
-    (
-        "write iformat(42), iformat(-7), iformat(-2147483647 - 1)",
-        "42-7-2147483648",
-        0,
-    ),
-    ("write length(iformat(-2147483647 - 1))", "11", 0),
-    ("write \"\" : 3, \"|\"", "   |", 0),
-    ("write \"ab\" : 5, \"abc\" : 2", "   ababc", 0),
-    (
-        "let s := \"x\"; for i = 1 to 5 do s := s ++ s; write length(s)",
-        "32",
-        0,
-    ),
-    (
-        "let s := \"x\"\nfor i = 1 to 15 do s := s ++ s\nwrite length(s)\ns := s ++ s",
-        "32768trap 10 at line 4\n",
-        3,
-    ),
-    (
-        "let s := \"x\"\nfor i = 1 to 15 do s := s ++ s\ns := s ++ s(1|32767)\nwrite length(s)\ns := s ++ \"y\"",
-        "65535trap 10 at line 5\n",
-        3,
-    ),
-    (
-        "let s := \"ab\"; let t = s; s := s ++ \"c\"; write t, s",
-        "ababc",
-        0,
-    ),
-    (
-        "let s = \"hello\"; let r := \"\"; for i = 1 to length(s) do r := s(i|1) ++ r; write r",
-        "olleh",
-        0,
-    ),
-    ("write if \"a\" = \"b\" then \"x\" else \"y\"", "y", 0),
-    (
-        "let s := \"a\"; s := if 1 < 2 then \"b\" else \"c\"; write s",
-        "b",
-        0,
-    ),
-];
-
 #[test]
 fn structures_and_their_traps(rt: HostRuntime) -> Result<(), Fail> {
     assert_rows(&rt, rt.alloc(), &STRUCTURES)
@@ -280,27 +219,4 @@ fn structures_and_their_traps(rt: HostRuntime) -> Result<(), Fail> {
 #[test]
 fn vectors_and_their_traps(rt: HostRuntime) -> Result<(), Fail> {
     assert_rows(&rt, rt.alloc(), &VECTORS)
-}
-
-#[test]
-fn strings_and_their_traps(rt: HostRuntime) -> Result<(), Fail> {
-    assert_rows(&rt, rt.alloc(), &STRINGS)
-}
-
-// 64 KiB are 8,192 words.
-#[test]
-fn an_area_is_as_large_as_the_words_say(rt: HostRuntime) -> Result<(), Fail> {
-    let area: &[&str] = &["run", "v.vol", "--area", "64"];
-    let both: &[&str] = &["run", "v.vol", "--area", "64", "--turns", "3"];
-    let fits = b"let v = vector 1::7000 of 1; write v(7000)";
-    assert_told(&rt, rt.alloc(), area, "x.ps", fits, b"1", 0)?;
-    assert_told(
-        &rt,
-        rt.alloc(),
-        both,
-        "x.ps",
-        b"for i = 1 to 9 do write i",
-        b"123out of turns\n",
-        4,
-    )
 }

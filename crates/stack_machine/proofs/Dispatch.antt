@@ -48,6 +48,7 @@ holds_behind m c i next h is = let k = h.held in record {
     turns_are = k.turns_are;
     world = k.world;
     entries_are = k.entries_are;
+    known_are = k.known_are;
     counted = k.counted;
   };
 }

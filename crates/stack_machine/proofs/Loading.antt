@@ -8,6 +8,7 @@ use Rattle.obj_layout.specs.declared.reference.Reference.{Reference}
 use Rattle.swizzle.specs.Heap as area
 use Rattle.swizzle.specs.Heap.{top_of, fresh_heap}
 use Rattle.heap_ops.specs.Layouts.{AreSo}
+use Rattle.known_vectors.specs.Known.{AreSo as AreKnown}
 use Rattle.ps_meaning.specs.Values.{Value, Nil}
 use Rattle.ps_meaning.specs.Runs.{fresh_store}
 use Rattle.ps_stepping.specs.Config.{frame_words, frame_in, start}
@@ -49,10 +50,10 @@ module _ (u : UnitView) (turns : ℕ) (old new : Machine) (mid : area.Heap) (fra
   own_frame = subst IsFrame frame_is (record { nums_fit = nums; refs_fit = refs })
 
   -- the machine begins
-  pub begins : (at : ℕ) → mid ≡ fresh_heap old.sw.size → code.IsLoaded mid new.sw u at → AreSo new.sw new.layouts.entries.items → IsRoomy new
+  pub begins : (at : ℕ) → mid ≡ fresh_heap old.sw.size → code.IsLoaded mid new.sw u at → AreSo new.sw new.layouts.entries.items → AreKnown new.sw [] [] new.vectors.entries.items → IsRoomy new
       → new.code ≡ at → new.at ≡ 0 → new.nums.items ≡ replicate new.frame.nums (pos 0) → new.refs.items ≡ replicate new.frame.refs 0 → new.turns ≡ turns
       → IsLoaded u turns old new
-  begins at fresh is so roomy code_is at_is nums_are refs_are turns_are = record {
+  begins at fresh is so known roomy code_is at_is nums_are refs_are turns_are = record {
     frame = own_frame;
     sound = record {
       nums_fit = let n = ap length nums_are in let k = length-replicate new.frame.nums (pos 0) in omega (arith, new.nums.ok.0, n, k);
@@ -77,6 +78,7 @@ module _ (u : UnitView) (turns : ℕ) (old new : Machine) (mid : area.Heap) (fra
         turns_are = sym turns_are;
         world = is.bare;
         entries_are = so;
+        known_are = known;
         counted = let top = is.top in let was = ap top_of fresh in omega (arith, enough, top, was);
       };
     };

@@ -4,6 +4,7 @@ ghost use Rattle.ps_stepping.specs.Config.{frame_words};
 ghost use Rattle.stack_machine.specs.Loaded.{IsRoomy, IsNew, Loads};
 
 use heap_ops::layouts::Layouts;
+use known_vectors::known::KnownVectors;
 use machine_state::{FRAME_WORDS, MOST_VALUES, Machine, STACK_WORDS};
 use paired_ops::code;
 use ps_base::code_unit::{CodeUnit, Frame};
@@ -38,9 +39,11 @@ pub fn machine(alloc: Global, words: u32) -> Result<Machine, AllocError>
 {
     let sw = Swizzle::new(alloc, words)?;
     let layouts = Layouts::new(alloc)?;
+    let vectors = KnownVectors::new(alloc)?;
     Ok(Machine {
         sw,
         layouts,
+        vectors,
         values: Vec::with_capacity(alloc, MOST_VALUES)?,
         code: 0,
         frame: NO_LOCALS,
@@ -66,6 +69,7 @@ pub fn load(m: &mut Machine, unit: &CodeUnit, turns: u64) -> Result<(), LoadFaul
     }
     m.sw.reset();
     m.layouts.clear();
+    m.vectors.clear();
     match code::load(&mut m.sw, unit) {
         Ok(code) => {
             begin(m, code, frame, turns);
@@ -86,6 +90,7 @@ fn begin(m: &mut Machine, code: u32, frame: Frame, turns: u64)
     ensures roomy { IsRoomy m.new }
     ensures sw { m.new.sw ≡ m.old.sw }
     ensures layouts { m.new.layouts ≡ m.old.layouts }
+    ensures vectors { m.new.vectors ≡ m.old.vectors }
     ensures code { m.new.code ≡ code }
     ensures frame { m.new.frame ≡ frame }
     ensures at { m.new.at ≡ 0 }

@@ -157,13 +157,50 @@ fn a_frame_of_too_many_locals(rt: HostRuntime) -> Result<(), Fail> {
     Ok(())
 }
 
-const WITHOUT_A_STEP: [I; 27] = [
+// The machine has no step for scopes, procedures and scans, and for the library's procedures but 11 and 12; 13 is none of them.
+const WITHOUT_A_STEP: [I; 24] = [
     I::KeptM { u: 0, i: 0 },
     I::KeptP { u: 0, i: 0 },
     I::KeepM { u: 0, i: 0 },
     I::KeepP { u: 0, i: 0 },
     I::Scope { c: 0 },
     I::Leave,
+    I::Closure { c: 2 },
+    I::Call { n: 0, line: LINE },
+    I::ScanT {
+        q: 0,
+        s: 0,
+        t: 99,
+        line: LINE,
+    },
+    I::ScanI {
+        q: 0,
+        s: 0,
+        t: 99,
+        line: LINE,
+    },
+    I::ScanMore { s: 0, t: 0 },
+    I::Lib { k: 0, line: LINE },
+    I::Lib { k: 1, line: LINE },
+    I::Lib { k: 2, line: LINE },
+    I::Lib { k: 3, line: LINE },
+    I::Lib { k: 4, line: LINE },
+    I::Lib { k: 5, line: LINE },
+    I::Lib { k: 6, line: LINE },
+    I::Lib { k: 7, line: LINE },
+    I::Lib { k: 8, line: LINE },
+    I::Lib { k: 9, line: LINE },
+    I::Lib { k: 10, line: LINE },
+    I::Lib { k: 13, line: LINE },
+    I::Lib {
+        k: u32::MAX,
+        line: LINE,
+    },
+];
+
+// These have steps, but none over such operands: the references are texts where an object is wanted, constant 0 is a text that names no field,
+// and constant 2 is a unit.
+const OVER_OTHER_OPERANDS: [I; 18] = [
     I::EqP,
     I::NeP,
     I::Is { c: 0 },
@@ -189,35 +226,30 @@ const WITHOUT_A_STEP: [I; 27] = [
         line: LINE,
     },
     I::FillM { c: 2, line: LINE },
+    I::FillP { c: 2, line: LINE },
+    I::ListM {
+        c: 2,
+        n: 1,
+        line: LINE,
+    },
+    I::ListP {
+        c: 2,
+        n: 1,
+        line: LINE,
+    },
     I::ElemM { line: LINE },
     I::ElemP { line: LINE },
     I::SetElemM { line: LINE },
     I::SetElemP { line: LINE },
     I::Lwb,
     I::Upb,
-    I::Closure { c: 2 },
-    I::Call { n: 0, line: LINE },
-    I::Lib { k: 0, line: LINE },
-    I::ScanT {
-        q: 0,
-        s: 0,
-        t: 99,
-        line: LINE,
-    },
-    I::ScanI {
-        q: 0,
-        s: 0,
-        t: 99,
-        line: LINE,
-    },
-    I::ScanMore { s: 0, t: 0 },
 ];
 
-// Numbers and texts are pushed, so that none of them is wanting.
-#[test]
-fn instructions_without_a_step(rt: HostRuntime) -> Result<(), Fail> {
-    for instr in &WITHOUT_A_STEP {
+// Three numbers and two texts are pushed, so that none of them is wanting.
+fn assert_damaged_behind_pushes(rt: &impl Abort, alloc: Global, instrs: &[I]) -> Result<(), Fail> {
+    for instr in instrs {
         let code = [
+            I::True,
             I::True,
             I::True,
             I::Text { c: 0 },
@@ -225,9 +257,19 @@ fn instructions_without_a_step(rt: HostRuntime) -> Result<(), Fail> {
             *instr,
             END,
         ];
-        assert_damaged(&rt, rt.alloc(), frame(3, 2), &[&code])?;
+        assert_damaged(rt, alloc, frame(3, 2), &[&code])?;
     }
     Ok(())
+}
+
+#[test]
+fn instructions_without_a_step(rt: HostRuntime) -> Result<(), Fail> {
+    assert_damaged_behind_pushes(&rt, rt.alloc(), &WITHOUT_A_STEP)
+}
+
+#[test]
+fn operands_that_an_instruction_cannot_take(rt: HostRuntime) -> Result<(), Fail> {
+    assert_damaged_behind_pushes(&rt, rt.alloc(), &OVER_OTHER_OPERANDS)
 }
 
 #[test]

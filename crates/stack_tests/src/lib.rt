@@ -2,11 +2,21 @@
 #![tactic(auto)]
 
 #[cfg(test)]
+mod calls;
+#[cfg(test)]
+mod full;
+#[cfg(test)]
 mod hostile;
 #[cfg(test)]
 mod loops;
 #[cfg(test)]
+mod object_rows;
+#[cfg(test)]
 mod objects;
+#[cfg(test)]
+mod references;
+#[cfg(test)]
+mod relations;
 #[cfg(test)]
 mod rows;
 #[cfg(test)]

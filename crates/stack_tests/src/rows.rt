@@ -60,6 +60,9 @@ pub enum Came {
 /// The instructions of a row, what they come to, and what they tell.
 pub type Row<'a> = (&'a [Instr], Came, &'a [u8]);
 
+/// The bytes of one call of the host: so many blanks, and a text behind them.
+pub type Call<'a> = (usize, &'a [u8]);
+
 /// A frame with so many numbers and references.
 pub fn frame(nums: u16, refs: u16) -> Frame {
     Frame {
@@ -201,5 +204,59 @@ pub fn assert_code(
     let (came, host) = outcome(alloc, &unit, turns, host(alloc, &[])?)?;
     assert_eq!(rt; came, wanted);
     assert_eq!(rt; host.told_bytes(), told);
+    Ok(())
+}
+
+// The bytes of one call.
+fn bytes_of(alloc: Global, call: Call<'_>) -> Result<Vec<u8>, AllocError> {
+    let (blanks, text) = call;
+    let mut bytes = vec![in alloc; b' '; blanks]?;
+    bytes.extend_from_slice(text)?;
+    Ok(bytes)
+}
+
+// What these calls tell where the one of this number fails: all that those before it tell, and of its own bytes the first half, rounded down.
+fn told_until(alloc: Global, calls: &[Call<'_>], failing: usize) -> Result<Vec<u8>, AllocError> {
+    let mut told = Vec::new(alloc);
+    for (number, call) in calls.iter().enumerate() {
+        let mut bytes = bytes_of(alloc, *call)?;
+        if number == failing {
+            let half = bytes.len() / 2;
+            bytes.truncate(half);
+        }
+        if number <= failing {
+            told.extend_from_slice(&bytes)?;
+        }
+    }
+    Ok(told)
+}
+
+/// Where the host takes all of it, a unit comes to what is wanted, by exactly these calls. And where one of them fails, whichever it is, the unit
+/// comes to an output failure, by no further call.
+pub fn assert_calls(
+    rt: &impl Abort,
+    alloc: Global,
+    words: u32,
+    unit: &CodeUnit,
+    turns: u64,
+    wanted: Came,
+    calls: &[Call<'_>],
+) -> Result<(), Fail> {
+    // The call behind the last one would fail, and there is none.
+    let count = calls.len();
+    for failing in 0..=count {
+        let (came, host) = outcome_in(alloc, words, unit, turns, host(alloc, &[failing as u64])?)?;
+        let (answer, clock) = if failing < count {
+            (Came::Output, failing.saturating_add(1))
+        } else {
+            (wanted, count)
+        };
+        assert_eq!(rt; came, answer);
+        assert_eq!(rt; host.clock(), clock as u64);
+        assert_eq!(rt;
+            host.told_bytes(),
+            told_until(alloc, calls, failing)?.as_slice()
+        );
+    }
     Ok(())
 }

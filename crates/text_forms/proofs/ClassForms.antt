@@ -8,7 +8,7 @@ use Rattle.ps_type_text.specs.Texts.{type_text, result_text, parameters_text, fu
 use Rattle.ps_type_text.specs.Texts.{is_name_byte, IsName, IsNamed}
 use Rattle.text_forms.specs.Forms.{forms_of, forms_from, form_here, begins, element_of, is_text}
 use Rattle.text_forms.specs.Classes.{form_of_type, form_of_field}
-use Rattle.text_forms.specs.inside.Steps.{behind_first, is_field}
+use Rattle.text_forms.specs.Steps.{behind_first, is_field}
 use Rattle.text_forms.proofs.Passing.{forms-first, a_field}
 use Rattle.text_forms.proofs.Places.{other_number}
 

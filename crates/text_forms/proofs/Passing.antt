@@ -7,7 +7,8 @@ use Rattle.text_forms.specs.declared.forms.Form.{Form}
 use Rattle.text_forms.specs.declared.forms.Place.{Place}
 use Rattle.text_forms.specs.declared.forms.Rows.{Rows}
 use Rattle.text_forms.specs.Forms.{forms_of, forms_from, form_here, form_in, rows_of, one_more, located_in}
-use Rattle.text_forms.specs.inside.Steps.{behind_first, is_field, next_place}
+use Rattle.text_forms.specs.Steps.{behind_first, is_field}
+use Rattle.text_forms.specs.inside.Steps.{next_place}
 use Rattle.text_forms.proofs.Places.{rows_of-last, counted, place_in, place-last, with_rows, located_by}
 
 -- the first field begins behind the bracket, each further one behind a semicolon

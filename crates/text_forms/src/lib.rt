@@ -4,7 +4,7 @@
 
 pub mod forms;
 mod laws;
-mod steps;
+pub mod steps;
 pub mod strict;
 
 pub use laws::{

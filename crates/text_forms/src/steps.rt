@@ -1,6 +1,7 @@
+//! The text of a class or of a scope, field by field (`docs/formats.md`).
 ghost use Rattle.std.specs.Prelude.{◌≡◌, ◌≤◌, ◌-◌, length};
 ghost use Rattle.text_forms.specs.Forms.{form_here};
-ghost use Rattle.text_forms.specs.inside.Steps.{behind_first, is_field};
+ghost use Rattle.text_forms.specs.Steps.{behind_first, is_field};
 
 use crate::forms::Form;
 
@@ -17,31 +18,31 @@ fn behind(bytes: &[u8], mark: u8) -> &[u8]
     &[]
 }
 
-// What stands behind the opening bracket: the first field, if there is one.
-pub(crate) fn first_field(text: &[u8]) -> &[u8]
+/// What stands behind the opening bracket: the first field, if there is one.
+pub fn first_field(text: &[u8]) -> &[u8]
     ensures found { result.now ≡ behind_first 40 text.now }
     ensures shorter { length result.now ≤ length text.now - 1 }
 {
     behind(text, b'(')
 }
 
-// What stands behind the next semicolon: a further field, if there is one.
-pub(crate) fn next_field(rest: &[u8]) -> &[u8]
+/// What stands behind the next semicolon: a further field, if there is one.
+pub fn next_field(rest: &[u8]) -> &[u8]
     ensures found { result.now ≡ behind_first 59 rest.now }
     ensures shorter { length result.now ≤ length rest.now - 1 }
 {
     behind(rest, b';')
 }
 
-// Whether a field begins here, and not the bracket that closes.
-pub(crate) fn is_field(rest: &[u8]) -> bool
+/// Whether a field begins here, and not the bracket that closes.
+pub fn is_field(rest: &[u8]) -> bool
     ensures { result ≡ is_field rest.now }
 {
     !matches!(rest, [] | [b')', ..])
 }
 
-// What the field holds that begins here: its type stands before a blank.
-pub(crate) fn form_here(rest: &[u8]) -> Form
+/// What the field holds that begins here: its type stands before a blank.
+pub fn form_here(rest: &[u8]) -> Form
     ensures { result ≡ form_here rest.now }
 {
     if rest.starts_with(b"int ") {

@@ -1,7 +1,6 @@
--- A vector that an element is written to.
+-- A vector whose elements are read and written.
 use Rattle.std.specs.Prelude.{◌≡◌, ℕ, List, Option, Some, None, Result, Ok, Err}
 use Rattle.obj_layout.specs.declared.reference.Reference.{Reference}
-use Rattle.text_forms.specs.declared.forms.Form.{Form}
 use Rattle.text_forms.specs.Forms.{element_of}
 use Rattle.heap_places.specs.declared.value.Value as code
 use Rattle.heap_texts.specs.declared.fault.OpFault.{OpFault}
@@ -13,23 +12,26 @@ use Rattle.ps_stepping.specs.Steps.{Step, Stuck}
 use Rattle.ps_stepping.specs.Objects.{pop_vector}
 use Rattle.paired_ops.specs.World.{DenotesIn}
 use Rattle.paired_ops.specs.Operands.{form_in}
+use Rattle.known_vectors.specs.declared.known.KnownVector.{KnownVector}
+use Rattle.known_vectors.specs.Known.{IsKnownAs}
 use Rattle.machine_state.specs.declared.machine.Machine.{Machine}
 use Rattle.machine_state.specs.declared.stepped.Stepped.{Stepped}
 use Rattle.machine_state.specs.declared.stepped.Stepped.TheVariants.{Halts, Damaged}
 use Rattle.machine_state.specs.declared.run_end.RunEnd.TheVariants as in_code
 use Rattle.machine_state.specs.Holding.{HeldBy, IsSound}
 
--- What follows gets a vector, whose elements have this form, and what denoted a value denotes it still; or there is no vector.
-abbrev pub GivesTyped : List Reference → Config → Option (ℕ × Form) → Machine → Machine → Type 0
-GivesTyped names c None old new = (next : List ℕ → Value → Config → Step) → pop_vector c next ≡ Stuck
-GivesTyped names c (Some p) old new =
+-- What follows gets a vector, which is known as what it is, and what denoted a value denotes it still; or there is no vector.
+abbrev pub GivesKnown : List Reference → Config → Option KnownVector → Machine → Machine → Type 0
+GivesKnown names c None old new = (next : List ℕ → Value → Config → Step) → pop_vector c next ≡ Stuck
+GivesKnown names c (Some known) old new =
     (d : Config) × (id : ℕ) × (ty : List ℕ) × ((next : List ℕ → Value → Config → Step) → pop_vector c next ≡ next ty (Vector id) d)
-    × HeldBy names new d × DenotesIn new.sw names (Some p.0) (Vector id) × (element_of ty ≡ p.1) × (form_in d.store.heap id ≡ p.1)
+    × HeldBy names new d × DenotesIn new.sw names (Some known.vector) (Vector id) × (element_of ty ≡ known.form) × (form_in d.store.heap id ≡ known.form)
     × (new.sw.size ≡ old.sw.size) × ((to : Option ℕ) (v : Value) → DenotesIn old.sw names to v → DenotesIn new.sw names to v)
+    × IsKnownAs d.store.heap id known
 
-pub record PopsTyped (old new : Machine) (answer : Option (ℕ × Form)) : Type 0 where
+pub record PopsKnown (old new : Machine) (answer : Option KnownVector) : Type 0 where
   pub sound : IsSound new
-  pub gives : (names : List Reference) (c : Config) → HeldBy names old c → GivesTyped names c answer old new
+  pub gives : (names : List Reference) (c : Config) → HeldBy names old c → GivesKnown names c answer old new
 
 -- the trap of what was looked for in vain, and nothing where it was found
 abbrev pub trap_in : Line → Result code.Value OpFault → Stepped

@@ -20,12 +20,13 @@ use Rattle.machine_state.specs.declared.machine.Machine.{Machine}
 use Rattle.machine_state.specs.declared.stepped.Stepped.{Stepped}
 use Rattle.machine_state.specs.declared.stepped.Stepped.TheVariants.{Halts, Breaks, Damaged}
 use Rattle.machine_state.specs.declared.run_end.RunEnd.TheVariants as in_code
+use Rattle.known_vectors.specs.Known.{AllLast}
 use Rattle.machine_state.specs.Holding.{Held, IsSound}
 use Rattle.machine_state.specs.Stepped.{Does, KeepsSize}
 
 -- the machine with this area stood for the configuration
 abbrev pub HeldIn : area.Heap → List Reference → Machine → Config → Type 0
-HeldIn here names m c = Held names here m.layouts.entries.items m.code m.frame m.at m.nums.items m.refs.items m.turns c
+HeldIn here names m c = Held names here m.layouts.entries.items m.vectors.entries.items m.code m.frame m.at m.nums.items m.refs.items m.turns c
 
 -- what an operation that failed comes to: its trap, or there was no room in the area, or not even on the stack
 abbrev pub failed_of : OpFault → Line → Bool → Stepped
@@ -65,4 +66,4 @@ module _ (line : Line) (old new : Machine) (answer : Stepped) where
   pub record Changes (done : Result (Unit {0}) OpFault) : Type 0 where
     pub sound : IsSound new
     pub does : (here : area.Heap) (names : List Reference) (c : Config) (attempt : Attempt Heap) → HeldIn here names old c
-        → Writes here old.sw names attempt done → KeepsSize answer here new.sw × Does (attempted line attempt (λ heap. changed heap c)) answer new
+        → ((of : Heap) → attempt ≡ Yields of → AllLast c.store.heap of) → Writes here old.sw names attempt done → KeepsSize answer here new.sw × Does (attempted line attempt (λ heap. changed heap c)) answer new

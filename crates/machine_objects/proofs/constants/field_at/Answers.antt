@@ -1,4 +1,3 @@
-use Rattle.std.proofs.Common.{Some}
 use Rattle.machine_objects.proofs.FieldReads.{field-found, no-field}
 use Rattle.machine_objects.proofs.constants.field_at.Goals as goal
 

@@ -1,4 +1,4 @@
-use Rattle.std.proofs.Common.{◌≡◌, refl, sym, ◌∙◌}
+use Rattle.std.proofs.Common.{sym, ◌∙◌}
 use Rattle.machine_objects.proofs.ConstantReads.{code-held, answer-held, still-holding, text-read, other-read}
 use Rattle.machine_objects.proofs.constants.text_constant.Goals as goal
 

@@ -11,8 +11,8 @@ returns-in-Ok c =
     let m = c.args.m.now in
     record {
       sound = c.requires;
-      does = λ here names conf attempt h did.
-          written c.args.line m c.sound.ensures here names conf h attempt tt (subst (λ r. Writes here m.sw names attempt r) c.in-Ok.is did);
+      does = λ here names conf attempt h last did.
+          written c.args.line m c.sound.ensures here names conf h attempt tt last (subst (λ r. Writes here m.sw names attempt r) c.in-Ok.is did);
     }
 
 pub returns-in-Err : goal.returns-in-Err
@@ -20,7 +20,7 @@ returns-in-Err c =
     let m = c.args.m.now in
     record {
       sound = c.requires;
-      does = λ here names conf attempt h did.
+      does = λ here names conf attempt h last did.
           subst (λ r. KeepsSize r here m.sw × Does (attempted c.args.line attempt (λ heap. changed heap conf)) r m) (sym c.failed.ensures)
           (write-fails c.args.line m c.sound.ensures here names conf h _ attempt (λ heap. changed heap conf)
           (subst (λ r. Writes here m.sw names attempt r) c.in-Err.is did));

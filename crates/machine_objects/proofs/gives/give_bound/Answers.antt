@@ -1,5 +1,5 @@
-use Rattle.std.proofs.Common.{◌≡◌, ℤ, subst, sym, rules}
-use Rattle.std.specs.Prelude.{Ok, Err}
+use Rattle.std.proofs.Common.{◌≡◌, subst, rules}
+use Rattle.std.specs.Prelude.{Ok}
 use Rattle.ps_base.specs.declared.line.Line.{Line}
 use Rattle.ps_meaning.specs.Texts.{Yields}
 use Rattle.ps_stepping.specs.Steps.{push_num}

@@ -1,13 +1,12 @@
-use Rattle.std.proofs.Common.{◌≡◌, refl, subst, sym, ap, ◌∙◌, Some, rules}
+use Rattle.std.proofs.Common.{◌≡◌, subst, rules}
 use Rattle.std.specs.Prelude.{Ok}
 use Rattle.heap_places.specs.declared.value.Value.TheVariants as held
-use Rattle.ps_meaning.specs.Values.{word_of, number_of}
-use Rattle.ps_stepping.specs.Steps.{attempted, push_num}
-use Rattle.ps_stepping.specs.Objects.{when_number}
+use Rattle.ps_meaning.specs.Values.{number_of}
+use Rattle.ps_stepping.specs.Steps.{push_num}
 use Rattle.paired_ops.specs.World.{Answers}
 use Rattle.paired_ops.specs.Operands.{IsForIn, IsOfForm}
-use Rattle.machine_state.specs.Stepped.{Does, KeepsSize, Takes}
-use Rattle.machine_objects.proofs.Giving.{number-given, int-read, flag-read, no-number, read-fails}
+use Rattle.machine_state.specs.Stepped.{Takes}
+use Rattle.machine_objects.proofs.Giving.{number-given, int-read, flag-read}
 use Rattle.machine_objects.proofs.gives.give_number.Goals as goal
 
 pub returns-in-Ok-Num : goal.returns-in-Ok-Num

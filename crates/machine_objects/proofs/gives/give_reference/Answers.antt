@@ -6,7 +6,7 @@ use Rattle.ps_stepping.specs.Objects.{when_reference}
 use Rattle.machine_state.specs.Stepped.{Does, KeepsSize}
 use Rattle.paired_ops.specs.World.{Answers}
 use Rattle.paired_ops.specs.Operands.{IsForIn, IsOfForm}
-use Rattle.machine_objects.proofs.Giving.{reference-given, no-reference, read-fails}
+use Rattle.machine_objects.proofs.Giving.{reference-given, read-fails}
 use Rattle.machine_objects.proofs.gives.give_reference.Goals as goal
 
 pub returns-in-Ok-Ref : goal.returns-in-Ok-Ref

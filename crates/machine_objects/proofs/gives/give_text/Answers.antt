@@ -1,4 +1,4 @@
-use Rattle.std.proofs.Common.{subst, sym, ap, ◌∙◌}
+use Rattle.std.proofs.Common.{subst, sym}
 use Rattle.ps_stepping.specs.Steps.{attempted}
 use Rattle.ps_stepping.specs.Objects.{make_text}
 use Rattle.machine_state.specs.Stepped.{Does, KeepsSize}

@@ -1,8 +1,7 @@
-use Rattle.std.proofs.Common.{◌≡◌, Some, None, refl, sym, ◌∙◌, subst}
+use Rattle.std.proofs.Common.{None, sym, subst}
 use Rattle.paired_ops.specs.World.{DenotesIn}
 use Rattle.paired_ops.specs.Operands.{IsOfSort}
-use Rattle.machine_state.specs.Holding.{object_in, IsHolding}
-use Rattle.ps_stepping.specs.Steps.{pop_ref}
+use Rattle.machine_state.specs.Holding.{object_in}
 use Rattle.machine_objects.proofs.Popping.{AllSorted, nil-named, nil-object, object-popped, no-object, structure-object, other-object}
 use Rattle.machine_objects.proofs.pops.pop_object.Goals as goal
 

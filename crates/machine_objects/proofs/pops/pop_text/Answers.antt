@@ -1,4 +1,4 @@
-use Rattle.std.proofs.Common.{◌≡◌, Some, refl, sym, ◌∙◌, subst}
+use Rattle.std.proofs.Common.{sym, subst}
 use Rattle.paired_ops.specs.World.{DenotesIn}
 use Rattle.machine_state.specs.Holding.{object_in, IsHolding}
 use Rattle.ps_stepping.specs.Steps.{pop_ref}

@@ -1,6 +1,6 @@
 use mir.Syntax.{w32}
 use mir.Val.{to_z, of_z}
-use Rattle.std.proofs.Common.{◌≡◌, Bool, ℤ, Some, refl, rules, subst, ap, sym, ◌∙◌}
+use Rattle.std.proofs.Common.{◌≡◌, Bool, ℤ, rules, subst, ap, sym, ◌∙◌}
 use Rattle.ps_meaning.specs.Values.{number_of}
 use Rattle.ps_meaning.specs.Evaluation.{object_relation}
 use Rattle.ps_stepping.specs.Steps.{push_num}

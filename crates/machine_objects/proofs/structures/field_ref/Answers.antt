@@ -1,11 +1,10 @@
-use Rattle.std.proofs.Common.{◌≡◌, Bool, true, false, List, Some, None, rules, subst}
+use Rattle.std.proofs.Common.{◌≡◌, true, false, List, rules, subst}
 use Rattle.std.specs.Prelude.{ℕ}
 use Rattle.text_forms.specs.Forms.{is_number_form}
 use Rattle.swizzle.proofs.ReadingLaws.{leaves-then}
 use Rattle.ps_meaning.specs.Objects.{field_of}
-use Rattle.ps_meaning.specs.Values.{word_of}
 use Rattle.ps_stepping.specs.Config.{Config}
-use Rattle.ps_stepping.specs.Steps.{Step, attempted, push_num, push_ref}
+use Rattle.ps_stepping.specs.Steps.{attempted, push_ref}
 use Rattle.ps_stepping.specs.Objects.{pop_object}
 use Rattle.paired_ops.proofs.WorldLaws.{still-empty}
 use Rattle.machine_objects.specs.inside.Constants.{FindsField}
@@ -42,3 +41,8 @@ pub returns-clause-alive : goal.returns-clause-alive
 returns-clause-alive g c =
     field-done c.args.k c.args.n c.in-Some.class c.in-Some.located c.args.m.now c.field_at.new.m c.pop_object.new.m c.get_field-got.new.sw c.in-Some-pop_object.object c.get_field-got.result
     c.in-Some.ensures.finds c.in-Some-pop_object.ensures.pops c.get_field-got.ensures.got c.requires.holding _ c.give_reference.result c.get_field-got.ensures.alive
+
+pub returns-clause-leaves : goal.returns-clause-leaves
+returns-clause-leaves g c =
+    leaves-then (g.V.Vault.outside c.args.vault.now) (g.V.Vault.outside c.field_at.new.vault)
+    (g.V.Vault.outside c.get_field-got.new.vault) c.field_at.ensures.leaves c.get_field-got.ensures.leaves

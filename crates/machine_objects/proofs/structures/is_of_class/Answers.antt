@@ -1,7 +1,6 @@
 use mir.Syntax.{w32}
 use mir.Val.{to_z, of_z}
-use Rattle.std.proofs.Common.{◌≡◌, Bool, ℤ, List, Some, refl, rules, subst, ap, sym, ◌∙◌}
-use Rattle.std.specs.Prelude.{Result, Ok, Err, ℕ}
+use Rattle.std.proofs.Common.{◌≡◌, Bool, ℤ, Some, rules, subst, ap, sym, ◌∙◌}
 use Rattle.ps_meaning.specs.Texts.{Yields}
 use Rattle.ps_meaning.specs.Values.{Text, number_of}
 use Rattle.ps_meaning.specs.Objects.{is_class}
@@ -11,8 +10,6 @@ use Rattle.swizzle.proofs.ReadingLaws.{leaves-then}
 use Rattle.paired_ops.specs.World.{Answers}
 use Rattle.paired_ops.proofs.WorldLaws.{still-empty}
 use Rattle.machine_state.specs.Stepped.{Takes}
-use Rattle.machine_objects.specs.inside.Constants.{ReadsConstant}
-use Rattle.machine_objects.specs.inside.Popping.{PopsObject}
 use Rattle.machine_objects.proofs.Ending.{comes-behind, denoted-there}
 use Rattle.machine_objects.proofs.Carrying.{read-holds, sound-kept, size-behind, never-fails}
 use Rattle.machine_objects.proofs.ConstantReads.{constant-then}

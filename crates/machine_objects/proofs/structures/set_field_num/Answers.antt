@@ -1,6 +1,6 @@
 use mir.Syntax.{w32}
 use mir.Val.{to_z, of_z}
-use Rattle.std.proofs.Common.{ℤ, ◌≡◌, Bool, true, false, List, Some, None, refl, rules, subst}
+use Rattle.std.proofs.Common.{ℤ, ◌≡◌, true, false, List, Some, rules, subst}
 use Rattle.std.specs.Prelude.{ℕ}
 use Rattle.text_forms.specs.Forms.{is_number_form, forms_of, form_in}
 use Rattle.obj_layout.specs.declared.reference.Reference.{Reference}

@@ -1,6 +1,6 @@
-use Rattle.std.proofs.Common.{◌≡◌, Bool, true, false, List, Some, None, refl, rules, subst}
+use Rattle.std.proofs.Common.{◌≡◌, true, false, List, refl, rules, subst}
 use Rattle.std.specs.Prelude.{ℕ}
-use Rattle.text_forms.specs.Forms.{is_number_form, forms_of, form_in}
+use Rattle.text_forms.specs.Forms.{is_number_form}
 use Rattle.heap_places.specs.declared.value.Value.TheVariants as held
 use Rattle.swizzle.proofs.ReadingLaws.{leaves-then}
 use Rattle.ps_stepping.specs.Config.{Config}

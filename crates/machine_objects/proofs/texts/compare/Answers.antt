@@ -1,11 +1,11 @@
 use mir.Syntax.{w32}
 use mir.Val.{to_z, of_z}
-use Rattle.std.proofs.Common.{◌≡◌, Bool, ℤ, Some, refl, rules, subst, ap, sym, ◌∙◌}
+use Rattle.std.proofs.Common.{◌≡◌, Bool, ℤ, Some, rules, subst, ap, sym, ◌∙◌}
 use Rattle.ps_meaning.specs.Values.{Text, number_of}
 use Rattle.ps_meaning.specs.Evaluation.{text_relation}
 use Rattle.ps_stepping.specs.Steps.{push_num, pop_text}
 use Rattle.ps_stepping.specs.Objects.{compare_texts}
-use Rattle.machine_state.specs.Stepped.{Takes, Does}
+use Rattle.machine_state.specs.Stepped.{Takes}
 use Rattle.machine_objects.proofs.Ending.{ends, comes-behind, denoted-there}
 use Rattle.machine_objects.proofs.texts.compare.Goals as goal
 

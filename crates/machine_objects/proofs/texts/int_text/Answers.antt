@@ -1,4 +1,4 @@
-use Rattle.std.proofs.Common.{Some, refl, rules}
+use Rattle.std.proofs.Common.{rules}
 use Rattle.std.specs.Fmt.{signed_decimal}
 use Rattle.ps_meaning.specs.Texts.{Yields}
 use Rattle.ps_stepping.specs.Objects.{int_text, make_text}

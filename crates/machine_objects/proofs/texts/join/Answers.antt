@@ -1,4 +1,4 @@
-use Rattle.std.proofs.Common.{◌∙◌, Some, refl}
+use Rattle.std.proofs.Common.{◌∙◌, Some}
 use Rattle.ps_meaning.specs.Texts.{join_of}
 use Rattle.ps_meaning.specs.Values.{Text}
 use Rattle.ps_stepping.specs.Steps.{attempted, pop_text}

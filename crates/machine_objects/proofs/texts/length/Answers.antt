@@ -1,7 +1,7 @@
-use Rattle.std.proofs.Common.{◌≡◌, ℕ, pos, length, Some, refl, rules, subst, ap, sym, ◌∙◌}
-use Rattle.ps_stepping.specs.Steps.{push_num, Step}
+use Rattle.std.proofs.Common.{◌≡◌, ℕ, pos, length, rules, ap, sym, ◌∙◌}
+use Rattle.ps_stepping.specs.Steps.{push_num}
 use Rattle.ps_stepping.specs.Objects.{text_length}
-use Rattle.machine_state.specs.Stepped.{Takes, Does}
+use Rattle.machine_state.specs.Stepped.{Takes}
 use Rattle.machine_objects.proofs.Ending.{ends, comes-behind}
 use Rattle.machine_objects.proofs.texts.length.Goals as goal
 

@@ -1,4 +1,4 @@
-use Rattle.std.proofs.Common.{◌∙◌, Some, refl, rules}
+use Rattle.std.proofs.Common.{◌∙◌, rules}
 use Rattle.ps_meaning.specs.Texts.{part_of}
 use Rattle.ps_stepping.specs.Steps.{attempted, pop_num, pop_text}
 use Rattle.ps_stepping.specs.Objects.{part, make_text}

@@ -1,5 +1,4 @@
-use Rattle.std.proofs.Common.{Some, None, subst}
-use Rattle.std.specs.Prelude.{Option}
+use Rattle.std.proofs.Common.{subst}
 use Rattle.machine_objects.specs.inside.Constants.{ReadsConstant}
 use Rattle.machine_objects.proofs.ConstantReads.{none-there, no-text-pushed}
 use Rattle.machine_objects.proofs.texts.push_text.Goals as goal

@@ -1,4 +1,4 @@
-use Rattle.std.proofs.Common.{◌≡◌, Some, ap, ◌∙◌, sym, List, ℕ}
+use Rattle.std.proofs.Common.{◌≡◌, ap, ◌∙◌, sym, List, ℕ}
 use Rattle.ps_stepping.specs.Steps.{pop_text}
 use Rattle.ps_stepping.specs.Machine.{write_text, written}
 use Rattle.swizzle.specs.Text.{text_at}

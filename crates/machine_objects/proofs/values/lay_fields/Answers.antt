@@ -13,7 +13,7 @@ pub loop-rest-init : goal.loop-rest-init
 loop-rest-init c = record {
   laid =
       ap (λ (ks : List code.Value). map form_of_value ks ++ forms_from true c.first_field-rest.result.now) c.clear.ensures.items
-      ∙ none-laid c.text.result.now c.first_field-rest.result.now c.first_field-rest.ensures ∙ ap forms_of c.text.ensures.value;
+      ∙ none-laid c.text.result.now c.first_field-rest.result.now c.first_field-rest.ensures.found ∙ ap forms_of c.text.ensures.value;
   room = search rules;
 }
 

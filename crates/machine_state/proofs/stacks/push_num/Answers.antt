@@ -1,4 +1,4 @@
-use Rattle.std.proofs.Common.{subst, arith, rules, refl}
+use Rattle.std.proofs.Common.{subst, arith, rules}
 use Rattle.ps_stepping.specs.Machine.{put_num}
 use Rattle.machine_state.specs.Stepped.{Does, Takes}
 use Rattle.machine_state.proofs.Popping.{pushes_num, pushes_none}

@@ -1,4 +1,4 @@
-use Rattle.std.proofs.Common.{arith, refl}
+use Rattle.std.proofs.Common.{arith}
 use Rattle.machine_state.proofs.Popping.{pushes_no_ref}
 use Rattle.machine_state.proofs.stacks.push_ref.Goals as goal
 

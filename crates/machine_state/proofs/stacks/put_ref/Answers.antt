@@ -1,6 +1,6 @@
 use Rattle.std.proofs.Common.{◌≡◌, ◌++◌, ◌∷◌, [], rules, refl, subst, sym, arith}
 use Rattle.paired_ops.specs.World.{DenotesIn}
-use Rattle.machine_state.specs.Holding.{Held, object_in, word_of}
+use Rattle.machine_state.specs.Holding.{Held, word_of}
 use Rattle.machine_state.proofs.Popping.{pushes_ref}
 use Rattle.machine_state.proofs.Words.{named-back}
 use Rattle.machine_state.proofs.stacks.put_ref.Goals as goal
@@ -16,5 +16,5 @@ returns c =
       does = λ names v conf h d.
           let denoted = subst (λ to. DenotesIn m.sw names to v) (sym (named-back m.sw names c.args.to v c.sound.ensures d)) d in
           let p = pushes_ref m conf names h w v (omega (arith, m.refs.ok.0, c.requires.room)) denoted in
-          ([], p.0, p.1, refl, record { names = names; held = subst (λ xs. Held names m.sw m.layouts.entries.items m.code m.frame m.at m.nums.items xs m.turns p.0) more p.2 });
+          ([], p.0, p.1, refl, record { names = names; held = subst (λ xs. Held names m.sw m.layouts.entries.items m.vectors.entries.items m.code m.frame m.at m.nums.items xs m.turns p.0) more p.2 });
     }

@@ -1,5 +1,5 @@
 use Rattle.std.proofs.Common.{◌≡◌, drop}
-use Rattle.text_forms.specs.inside.Steps.{behind_first}
+use Rattle.text_forms.specs.Steps.{behind_first}
 use Rattle.text_forms.proofs.steps.behind.Given as goal
 
 -- what stands behind the first mark stands behind the first one in what is left

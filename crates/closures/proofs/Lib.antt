@@ -1,0 +1,3 @@
+pub mod ShapeLaws
+pub mod ClosureLaws
+pub mod ReadLaws

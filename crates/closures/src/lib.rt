@@ -1,0 +1,6 @@
+//! Closures as objects of the area: the code of a procedure and the scope that it was made in.
+#![tactic(auto)]
+
+pub mod closure;
+pub mod laws;
+pub mod shape;

@@ -1,0 +1,5 @@
+use Rattle.swizzle.proofs.MadeLaws.{made-held}
+use Rattle.closures_tests.proofs.scene.made_code.Goals as goal
+
+pub returns-in-Ok : goal.returns-in-Ok
+returns-in-Ok c = made-held c.args.sw.now c.make.new.self c.in-Ok.code _ c.in-Ok.ensures.made

@@ -1,0 +1,203 @@
+-- Elements of a known vector: what is read and what is written are those of the meaning's.
+use mir.Syntax.{w32}
+use mir.Val.{to_z, of_z}
+use Rattle.std.proofs.lemmas.Int.{to_z-of_z}
+use Rattle.std.proofs.lemmas.Bool.{ltb-true, and_parts}
+use Rattle.std.proofs.Common.{zero, ◌^◌, pos, negsuc, nat_lt, true, ◌≤◌, arith, inl, inr, ◌≡◌, ℕ, suc, ◌<◌, ℤ, List, [], ◌∷◌, length, get_or, set, sym, ap, ◌∙◌, subst, Option, Some, None}
+use Rattle.std.specs.Prelude.{Ok, Err, ◌+ℤ◌}
+use Rattle.ps_base.specs.declared.trap.Trap.TheVariants as trap
+use Rattle.ps_outside.specs.Outside.{Outside}
+use Rattle.obj_layout.specs.Stored.{Space}
+use Rattle.obj_layout.specs.declared.kind.Kind.TheVariants as kind
+use Rattle.obj_layout.specs.declared.reference.Reference as reference
+use Rattle.swizzle.specs.declared.fault.SwizzleFault.{SwizzleFault}
+use Rattle.swizzle.specs.Heap as area
+use Rattle.swizzle.specs.Heap.{IsHeap, IsHeld}
+use Rattle.swizzle.specs.Joint.{Shown, shown_at, name_at}
+use Rattle.text_forms.specs.declared.forms.Form.{Form}
+use Rattle.text_forms.specs.declared.forms.Form.TheVariants as form
+use Rattle.text_forms.specs.Forms.{element_of}
+use Rattle.heap_places.specs.Words.{word_damage}
+use Rattle.heap_places.specs.Shapes.{word_in, slot_of}
+use Rattle.heap_places.specs.Places.{HasPlace, HasRow, ReadsPlace, touched_by, assigned_value}
+use Rattle.heap_places.specs.declared.value.Value as code
+use Rattle.heap_places.specs.declared.value.Value.TheVariants as held
+use Rattle.heap_ops.specs.declared.shape.Shape.{Shape}
+use Rattle.heap_ops.specs.Vectors.{index_of, IsShaped, ReadsShape}
+use Rattle.heap_ops.proofs.VectorLaws.{element-place}
+use Rattle.heap_ops.proofs.LayoutLaws.{held-from}
+use Rattle.ps_meaning.specs.Operators.{is_int}
+use Rattle.ps_meaning.specs.Values.{Value, Vector, Nothing}
+use Rattle.ps_meaning.specs.Texts.{Fails}
+use Rattle.ps_meaning.specs.Objects.{Heap, Object, Elements, object_at, is_vector, place_of, found_at, put_at, with_object, with_element}
+use Rattle.ps_meaning.specs.Objects as meaning
+use Rattle.heap_meaning.specs.Paired.{paired}
+use Rattle.heap_meaning.proofs.GivenLaws.{shown_with}
+use Rattle.heap_meaning.proofs.VectorLaws.{low-is, is-long, vector-shape, below-count, element-read, element-written}
+use Rattle.paired_ops.specs.World.{IsEmpty, IsWorld, DenotesIn, alone, Stands, Answers, Writes}
+use Rattle.paired_ops.specs.Operands.{IsForIn, IsOfForm, form_in}
+use Rattle.paired_ops.proofs.WorldLaws.{reads-stands}
+use Rattle.paired_ops.proofs.FormLaws.{int-read, holds-form, form-stored}
+use Rattle.paired_ops.proofs.ReadLaws.{VectorAt, vector-at, nothing-done, no-touch, no-damage, text-is}
+use Rattle.paired_ops.proofs.ValueLaws.{vector-denoted}
+use Rattle.paired_ops.proofs.ClassLaws.{touched-known}
+use Rattle.paired_ops.proofs.FieldLaws.{kind-with, no-bytes}
+use Rattle.paired_ops.proofs.RewriteLaws.{rewritten, write-stands}
+use Rattle.paired_ops.proofs.ElementLaws.{type-text, type-known, form-is, no-vector_fault, element-meant, put-meant, put-some, vector-kept, element-touched, element-fits}
+use Rattle.known_vectors.specs.declared.known.KnownVector.{KnownVector}
+use Rattle.known_vectors.specs.Known.{IsKnownAs, IsSo}
+
+-- the vector that a known one is
+pub the-vector : (here : area.Heap) (of : Heap) (names : List reference.Reference) (at id : ℕ) → IsHeap here → IsWorld here of names
+    → DenotesIn here names (Some at) (Vector id) → VectorAt here of names at id
+the-vector here of names at id heap world denotes = vector-at here of names at id heap world (vector-denoted here names at id heap denotes)
+
+-- a place in a vector is small
+is-small : (low : ℤ) (count n : ℕ) → is_vector low count ≡ true → n < count → n < 2 ^ 20
+is-small low zero n e lt = omega (arith, lt)
+is-small low (suc m) n e lt = let a = ltb-true m (2 ^ 20) (and_parts (nat_lt m (2 ^ 20)) (is_int (low +ℤ pos m)) e).0 in omega (arith, a, lt)
+
+record Agrees (ty : List ℕ) (low : ℤ) (elements : List Value) (known : KnownVector) : Type 0 where
+  low_is : known.low ≡ low
+  form_is : known.form ≡ element_of ty
+  count_is : known.count ≡ length elements
+
+agrees : (of : Heap) (id : ℕ) (ty : List ℕ) (low : ℤ) (elements : List Value) (known : KnownVector) → object_at of id ≡ Some (Elements ty low elements)
+    → IsKnownAs of id known → Agrees ty low elements known
+agrees of id ty low elements known means is =
+    let same : Some (Elements is.ty known.low is.elements) ≡ Some (Elements ty low elements) = sym is.means ∙ means in
+    let a : is.ty ≡ ty = cc in
+    let b : known.low ≡ low = cc in
+    let c : is.elements ≡ elements = cc in
+    record { low_is = b; form_is = is.form ∙ ap element_of a; count_is = is.count ∙ ap length c }
+
+module _ (here : area.Heap) (of : Heap) (names : List reference.Reference) (at id : ℕ) (known : KnownVector) (v : VectorAt here of names at id)
+    (is : IsKnownAs of id known) where
+  a : Agrees v.ty v.low v.elements known
+  a = agrees of id v.ty v.low v.elements known v.means is
+
+  abbrev it : Shown
+  it = shown_at here at
+
+  shaped : IsShaped it (record { form = element_of v.ty; low = v.low; count = length v.elements })
+  shaped = record {
+    sound = vector-shape (alone here) (paired names) it v.ty v.low v.elements v.is;
+    low_is = sym (low-is (alone here) (paired names) it v.ty v.low v.elements v.is);
+    count_is = sym (is-long (alone here) (paired names) it v.ty v.low v.elements v.is).count;
+    fits = v.is.fits;
+  }
+
+  same-place : (z : ℤ) → place_of known.low known.count z ≡ place_of v.low (length v.elements) z
+  same-place z = ap (λ (l : ℤ). place_of l known.count z) a.low_is ∙ ap (λ (n : ℕ). place_of v.low n z) a.count_is
+
+  module _ (z : ℤ) (n : ℕ) (place : place_of known.low known.count z ≡ Some n) where
+    there : place_of v.low (length v.elements) z ≡ Some n
+    there = sym (same-place z) ∙ place
+
+    below : n < length v.elements
+    below = below-count v.low z (length v.elements) n there
+
+    pub known-small : n < 2 ^ 20
+    known-small = is-small v.low (length v.elements) n v.is.fits below
+
+    pub known-place : HasPlace it known.form (index_of known.form n)
+    known-place = subst (λ (f : Form). HasPlace it f (index_of f n)) (sym a.form_is) (element-place it (record { form = element_of v.ty; low = v.low; count = length v.elements }) z n shaped there)
+
+    pub known-got : (new : area.Heap) (before after : Outside Space) (c : code.Value) → IsHeap here → IsHeap new → IsEmpty before → IsWorld here of names
+        → ReadsPlace here new before after at known.form (index_of known.form n) (Ok c)
+        → Answers here new (λ k w. IsOfForm (form_in of id) k × IsForIn new names k w) of names (meaning.element_of of (Vector id) z) (Ok c)
+    known-got new before after c h now empty w got =
+        let index = index_of (element_of v.ty) n in
+        let read : ReadsPlace here new before after at (element_of v.ty) index (Ok c) = subst (λ (f : Form). ReadsPlace here new before after at f (index_of f n) (Ok c)) a.form_is got in
+        let touched = touched-known here it (element_of v.ty) index (λ r. element-touched here names it v.ty v.low v.elements n v.is below r) in (
+          get_or v.elements n Nothing,
+          element-meant here of names at id z v ∙ ap (λ (o : Option ℕ). found_at o v.elements) there,
+          (
+            subst (λ (f : Form). IsOfForm f c) (sym (form-is here of names at id v)) (holds-form new it (element_of v.ty) index c read.0),
+            element-read new (alone new) (paired names) it v.ty v.low v.elements n c (vector-kept here new names it v.ty v.low v.elements read.1.keeps v.is) below read.0,
+          ),
+          reads-stands here new before after (touched_by it (element_of v.ty) index) of names now empty read.1 touched w,
+        )
+
+    pub never-fails : (new : area.Heap) (before after : Outside Space) (fault : SwizzleFault) → IsHeap here
+        → ReadsPlace here new before after at known.form (index_of known.form n) (Err fault) → ⊥
+    never-fails new before after fault h got =
+        let index = index_of (element_of v.ty) n in
+        let read : ReadsPlace here new before after at (element_of v.ty) index (Err fault) = subst (λ (f : Form). ReadsPlace here new before after at f (index_of f n) (Err fault)) a.form_is got in
+        elim (read.1) [
+          | inl d ↦ no-damage here at (word_damage (element_of v.ty) (word_in it index)) fault (element-fits (alone here) (paired names) it v.ty v.low v.elements n v.is below) d
+          | inr t ↦ no-touch here before at index fault h (element-touched here names it v.ty v.low v.elements n v.is below t.0) (t.1)
+        ]
+
+    fits-row : (f : Form) (index : ℕ) (c : code.Value) → IsOfForm f c → HasPlace it f index → HasRow it index c
+    fits-row form.Number index (held.Num y) k h = h
+    fits-row form.Flag index (held.Flag b) k h = h
+    fits-row form.Reference index (held.Ref to) k h = h
+    fits-row form.Number index (held.Flag b) k h = absurd k
+    fits-row form.Number index (held.Ref to) k h = absurd k
+    fits-row form.Flag index (held.Num y) k h = absurd k
+    fits-row form.Flag index (held.Ref to) k h = absurd k
+    fits-row form.Reference index (held.Num y) k h = absurd k
+    fits-row form.Reference index (held.Flag b) k h = absurd k
+
+    pub known-row : (c : code.Value) → IsOfForm known.form c → HasRow it (index_of known.form n) c
+    known-row c k = fits-row known.form (index_of known.form n) c k known-place
+
+    pub known-written : (new : area.Heap) (c : code.Value) (e : Value) → IsHeap here → IsWorld here of names → IsOfForm known.form c → IsForIn here names c e
+        → new ≡ assigned_value here at (index_of known.form n) c → Writes here new names (with_element of (Vector id) z e) (Ok tt)
+    known-written new c e h w fits for written =
+        let index = index_of (element_of v.ty) n in
+        let object = Elements v.ty v.low (set v.elements n e) in
+        let shape : IsOfForm (element_of v.ty) c = subst (λ (f : Form). IsOfForm f c) a.form_is fits in
+        let at_index : new ≡ assigned_value here at index c = subst (λ (f : Form). new ≡ assigned_value here at (index_of f n) c) a.form_is written in (
+          with_object of id object,
+          put-meant here of names at id z e v ∙ ap (λ (o : Option ℕ). put_at of (Vector id) o e) there ∙ put-some here of names at id n e v,
+          write-stands here here new of names at id (shown_with here it index c) object h (nothing-done here of names w) v.held v.pair
+              (no-bytes it.kind kind.Vector v.is.rows.kind_is (λ x. cc) (λ x. cc)) (kind-with here it index c)
+              (element-written here (alone here) (paired names) it v.ty v.low v.elements n c e v.is below (form-stored here names (element_of v.ty) c e shape for))
+              (rewritten here new at index c h v.held at_index),
+        )
+
+  -- The subscript is outside.
+  module _ (z : ℤ) (place : place_of known.low known.count z ≡ None) where
+    pub known-missed : meaning.element_of of (Vector id) z ≡ Fails trap.Bounds
+    known-missed = element-meant here of names at id z v ∙ ap (λ (o : Option ℕ). found_at o v.elements) (sym (same-place z) ∙ place)
+
+    pub known-unwritten : (e : Value) → with_element of (Vector id) z e ≡ Fails trap.Bounds
+    known-unwritten e = put-meant here of names at id z e v ∙ ap (λ (o : Option ℕ). put_at of (Vector id) o e) (sym (same-place z) ∙ place)
+
+int-same : (z : ℤ) → is_int z ≡ true → to_z w32 (of_z w32 z) ≡ z
+int-same (pos n) e = to_z-of_z w32 (pos n) (record { sfits = ltb-true n (2 ^ 31) e })
+int-same (negsuc n) e = to_z-of_z w32 (negsuc n) (record { sfits = ltb-true n (2 ^ 31) e })
+
+-- What was read of a vector's shape is so.
+pub learned : (old new : area.Heap) (before after : Outside Space) (of : Heap) (names : List reference.Reference) (at id : ℕ) (shape : Shape) → IsHeap new → IsEmpty before → IsEmpty after
+    → IsWorld old of names → VectorAt old of names at id → ReadsShape old new before after at (Ok shape)
+    → IsKnownAs of id (record { vector = at; form = shape.form; low = to_z w32 (of_z w32 shape.low); count = shape.count }) × Stands old new of names
+learned old new before after of names at id shape now empty still w v r =
+    let it = shown_at old at in
+    let same = text-is old new after (slot_of it 0) v.ty r.0 now still r.1.reads.keeps (type-text old of names at id v) r.1.is.type in
+    let read : shape.low ≡ v.low = r.2.low_is ∙ low-is (alone old) (paired names) it v.ty v.low v.elements v.is in
+    let low : to_z w32 (of_z w32 shape.low) ≡ v.low = int-same shape.low (ap is_int read ∙ int-read v.is.bound v.low v.is.bound_is) ∙ read in
+    let form : shape.form ≡ element_of v.ty = r.3 ∙ ap element_of (sym same) in
+    let count : shape.count ≡ length v.elements = r.2.count_is ∙ ap (λ (f : Form). Rattle.heap_ops.specs.Vectors.count_of it f) form ∙ (is-long (alone old) (paired names) it v.ty v.low v.elements v.is).count in (
+      record { ty = v.ty; elements = v.elements; means = v.means ∙ ap (λ (l : ℤ). Some (Elements v.ty l v.elements)) (sym low); form = form; count = count },
+      reads-stands old new before after (slot_of it 0 ∷ []) of names now empty r.1.reads (type-known old of names at id v, tt) w,
+    )
+
+pub never-unread : (old new : area.Heap) (before after : Outside Space) (of : Heap) (names : List reference.Reference) (at id : ℕ) (fault : SwizzleFault) → IsHeap old → IsHeap new → IsEmpty after
+    → VectorAt old of names at id → ReadsShape old new before after at (Err fault) → ⊥
+never-unread old new before after of names at id fault h now still v r = no-vector_fault old new before after of names at id fault h now still v r.1
+
+-- an object of the area begins at 1 or beyond
+pub held-from-one : (here : area.Heap) (at : ℕ) → IsHeap here → IsHeld here at → 1 ≤ at
+held-from-one here at h held = (held-from here at h held).0
+
+-- an entry of a vector speaks of the number that the vector goes with
+pub same-known : (here : area.Heap) (of : Heap) (names : List reference.Reference) (at id : ℕ) (known : KnownVector) → IsHeap here → IsWorld here of names
+    → DenotesIn here names (Some at) (Vector id) → known.vector ≡ at → IsSo here of names known → IsKnownAs of id known
+same-known here of names at id known h w denotes same so =
+    let p = (vector-denoted here names at id h denotes).pair in
+    let q = (vector-denoted here names known.vector so.id h so.denotes).pair in
+    let there = subst (λ (n : ℕ). paired names (name_at here n) so.id) same q in
+    subst (λ (i : ℕ). IsKnownAs of i known) (w.row.stands.one_number (name_at here at) so.id id there p) so.is

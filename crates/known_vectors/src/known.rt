@@ -1,0 +1,158 @@
+//! What vectors were found to be.
+ghost use Rattle.std.specs.Prelude.{◌≡◌, ◌<◌, ◌≤◌, ℕ, IfOk, IfSome, List, Some};
+ghost use Rattle.obj_layout.specs.declared.reference.Reference.{Reference};
+ghost use Rattle.swizzle.specs.Heap as area;
+ghost use Rattle.swizzle.specs.Heap.{IsHeld};
+ghost use Rattle.swizzle.specs.Reading.{LeavesOutside};
+ghost use Rattle.heap_ops.specs.Outcomes.{UnlessFault};
+ghost use Rattle.ps_meaning.specs.Objects as meaning;
+ghost use Rattle.ps_meaning.specs.Values as meant;
+ghost use Rattle.paired_ops.specs.World.{IsEmpty, IsWorld, DenotesIn};
+ghost use Rattle.known_vectors.specs.Known.{AreSo, IsSo, IsThere, Finds};
+
+use heap_ops::shape::read_shape;
+use heap_texts::fault::OpFault;
+use obj_layout::vault::Vault;
+use std::alloc::{AllocError, Global};
+use swizzle::swizzle::Swizzle;
+use text_forms::forms::Form;
+
+/// What a vector was found to be: its object's index in the area, the form of its elements, its lower bound, and how many elements it has. Index
+/// 0 stands for no entry.
+#[derive(Clone, Copy)]
+pub struct KnownVector {
+    pub vector: u32,
+    pub form: Form,
+    pub low: i32,
+    pub count: u32,
+}
+
+/// Vectors that were looked up before. An entry says what is so as long as vectors last; after `reset` of the area the entries are cleared.
+#[derive(Drop)]
+pub struct KnownVectors {
+    pub entries: Vec<KnownVector>,
+}
+
+// How many entries there are. A vector that is looked up takes the entry of its index from another one.
+const ENTRIES: usize = 64;
+
+const NO_ENTRY: KnownVector = KnownVector {
+    vector: 0,
+    form: Form::Reference,
+    low: 0,
+    count: 0,
+};
+
+impl KnownVectors {
+    /// Without any vector. This takes memory for 64 entries, once.
+    pub fn new(alloc: Global) -> Result<KnownVectors, AllocError>
+        ensures { IfOk result (λ known. (here : area.Heap) (of : meaning.Heap) (names : List Reference) → AreSo here of names known.entries.items) }
+    {
+        let mut entries = Vec::with_capacity(alloc, ENTRIES)?;
+        entries.resize(ENTRIES, NO_ENTRY)?;
+        Ok(KnownVectors { entries })
+    }
+
+    /// Forgets all vectors.
+    pub fn clear(&mut self)
+        ensures { (here : area.Heap) (of : meaning.Heap) (names : List Reference) → AreSo here of names self.new.entries.items }
+    {
+        self.entries.fill(NO_ENTRY);
+    }
+
+    /// What a vector is. It is read where it isn't known, and known from then on.
+    #[inline]
+    pub fn look_up<V: Vault>(
+        &mut self,
+        sw: &mut Swizzle,
+        vault: &mut V,
+        vector: u32,
+    ) -> Result<KnownVector, OpFault>
+        requires alive { V.alive vault.old }
+        requires empty { IsEmpty (V.outside vault.old) }
+        requires there { IsThere sw.old vector self.old.entries.items }
+        ensures finds { (of : meaning.Heap) (names : List Reference) (id : ℕ) → IsWorld sw.old of names
+            → DenotesIn sw.old names (Some vector) (meant.Vector id) → AreSo sw.old of names self.old.entries.items
+            → Finds sw.old sw.new of names id vector self.new.entries.items result }
+        ensures leaves { LeavesOutside (V.outside vault.old) (V.outside vault.new) }
+        ensures alive { UnlessFault result (V.alive vault.new) }
+    {
+        sw.sound();
+        match self.find(vector) {
+            Some(known) => Ok(known),
+            None => self.learn(sw, vault, vector),
+        }
+    }
+
+    // What the entry of a vector says, if it is its own.
+    #[inline]
+    fn find(&self, vector: u32) -> Option<KnownVector>
+        requires { 1 ≤ vector }
+        ensures { (here : area.Heap) (of : meaning.Heap) (names : List Reference) → AreSo here of names self.now.entries.items
+            → IfSome result (λ known. (known.vector ≡ vector) × IsSo here of names known) }
+    {
+        let index = index_of(vector);
+        if index >= self.entries.len() {
+            return None;
+        }
+        let known = self.entries[index];
+        if known.vector == vector {
+            Some(known)
+        } else {
+            None
+        }
+    }
+
+    // Reads what a vector is, and keeps it.
+    #[inline(never)]
+    fn learn<V: Vault>(
+        &mut self,
+        sw: &mut Swizzle,
+        vault: &mut V,
+        vector: u32,
+    ) -> Result<KnownVector, OpFault>
+        requires alive { V.alive vault.old }
+        requires empty { IsEmpty (V.outside vault.old) }
+        requires held { IsHeld sw.old vector }
+        ensures finds { (of : meaning.Heap) (names : List Reference) (id : ℕ) → IsWorld sw.old of names
+            → DenotesIn sw.old names (Some vector) (meant.Vector id) → AreSo sw.old of names self.old.entries.items
+            → Finds sw.old sw.new of names id vector self.new.entries.items result }
+        ensures leaves { LeavesOutside (V.outside vault.old) (V.outside vault.new) }
+        ensures alive { UnlessFault result (V.alive vault.new) }
+    {
+        sw.sound();
+        let read = read_shape(sw, vault, vector);
+        sw.sound();
+        let shape = match read {
+            Ok(shape) => shape,
+            Err(fault) => return Err(OpFault::Swizzle(fault)),
+        };
+        let known = KnownVector {
+            vector,
+            form: shape.form,
+            low: shape.low,
+            count: shape.count,
+        };
+        self.keep(known);
+        Ok(known)
+    }
+
+    // Puts an entry in its place.
+    fn keep(&mut self, known: KnownVector)
+        ensures { (here : area.Heap) (of : meaning.Heap) (names : List Reference) → AreSo here of names self.old.entries.items
+            → IsSo here of names known → AreSo here of names self.new.entries.items }
+    {
+        let index = index_of(known.vector);
+        if index < self.entries.len() {
+            self.entries[index] = known;
+        }
+    }
+}
+
+// Where the entry of a vector stands.
+#[inline]
+fn index_of(vector: u32) -> usize
+    ensures { result < 64 }
+{
+    (vector.wrapping_mul(0x9e37_79b1) >> 26) as usize
+}

@@ -1,0 +1,4 @@
+pub mod Making
+pub mod Way
+pub mod Names
+pub mod inside

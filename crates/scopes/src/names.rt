@@ -1,0 +1,182 @@
+ghost use Rattle.std.specs.Prelude.{◌≡◌, ◌+◌, ◌<◌, ◌^◌, None, length, OnOk};
+ghost use Rattle.obj_layout.specs.declared.vault.VaultFault.TheVariants.{Damaged};
+ghost use Rattle.swizzle.specs.declared.fault.SwizzleFault.TheVariants.{Vault as InVault};
+ghost use Rattle.swizzle.specs.Heap.{IsHeld, Stands, header_at};
+ghost use Rattle.swizzle.specs.Text.{text_at};
+ghost use Rattle.text_forms.specs.Forms.{forms_of};
+ghost use Rattle.heap_places.specs.Places.{IsNear, NamesDamage, fit_damage};
+ghost use Rattle.heap_ops.specs.Layouts.{AreSo};
+ghost use Rattle.heap_ops.specs.Vectors.{fitted};
+ghost use Rattle.scopes.specs.Names.{GetsKept, SetsKept, index_of};
+ghost use Rattle.scopes.specs.inside.Opening.{OpensName};
+
+use closures::shape::{other_kind, test_shape};
+use heap_ops::layouts::Layouts;
+use heap_places::places::{damaged, find_misfit, read_place, write_place};
+use heap_places::texts::first_text;
+use heap_places::value::Value;
+use obj_layout::kind::Kind;
+use obj_layout::vault::Vault;
+use swizzle::fault::SwizzleFault;
+use swizzle::swizzle::Swizzle;
+use text_forms::forms::{Form, Located, Place, count_places};
+
+/// What a scope keeps under the name of this number, from 0 in the order of its text. A referred object is fetched where it isn't in the area.
+/// Damaged, at the scope's PID, exactly where the object is no scope (found the number of its kind, wanted 4), refers to no text first (as
+/// `first_text` says), its text has no such name (found the number, wanted how many names it has), it hasn't two references and one number
+/// word more than its text names places of each row (found their number, wanted that), or the name's word stands for no value of its form; in
+/// this order.
+pub fn get_kept<V: Vault>(
+    sw: &mut Swizzle,
+    vault: &mut V,
+    layouts: &mut Layouts,
+    scope: u32,
+    name: u32,
+) -> Result<Value, SwizzleFault>
+    requires alive { V.alive vault.old }
+    requires so { AreSo sw.old layouts.old.entries.items }
+    requires held { IsHeld sw.old scope }
+    ensures got { GetsKept sw.old sw.new (V.outside vault.old) (V.outside vault.new) scope name result }
+    ensures so { OnOk result (AreSo sw.new layouts.new.entries.items) }
+    ensures numbers { (V.used_words vault.new ≡ V.used_words vault.old) × (V.directory_at vault.new ≡ V.directory_at vault.old) × (V.most_words vault.new ≡ V.most_words vault.old) }
+    ensures alive { OnOk result (V.alive vault.new) }
+{
+    let located = match open_name(sw, vault, layouts, scope, name) {
+        Ok(located) => located,
+        Err(fault) => return Err(fault),
+    };
+    sw.sound();
+    let place = Place {
+        form: located.place.form,
+        index: index(located.place),
+    };
+    read_place(sw, vault, scope, place)
+}
+
+/// Writes what a scope keeps under the name of this number, and notes the scope as assigned. Damaged as `get_kept` says, but that the present value
+/// isn't read, and where the value belongs into the other row: an int may be put where a bool is kept, and a bool where an int is.
+pub fn set_kept<V: Vault>(
+    sw: &mut Swizzle,
+    vault: &mut V,
+    layouts: &mut Layouts,
+    scope: u32,
+    name: u32,
+    to: Value,
+) -> Result<(), SwizzleFault>
+    requires alive { V.alive vault.old }
+    requires so { AreSo sw.old layouts.old.entries.items }
+    requires held { IsHeld sw.old scope }
+    requires near { IsNear sw.old to }
+    ensures set { SetsKept sw.old sw.new (V.outside vault.old) (V.outside vault.new) scope name to result }
+    ensures so { OnOk result (AreSo sw.new layouts.new.entries.items) }
+    ensures numbers { (V.used_words vault.new ≡ V.used_words vault.old) × (V.directory_at vault.new ≡ V.directory_at vault.old) × (V.most_words vault.new ≡ V.most_words vault.old) }
+    ensures alive { OnOk result (V.alive vault.new) }
+    ensures stands { OnOk result (Stands sw.old sw.new) }
+{
+    let located = match open_name(sw, vault, layouts, scope, name) {
+        Ok(located) => located,
+        Err(fault) => return Err(fault),
+    };
+    sw.sound();
+    match fit(located.place.form, to) {
+        Some(stored) => {
+            write_place(sw, scope, index(located.place), stored);
+            Ok(())
+        }
+        None => Err(misfitting(sw, scope, located.place.form, to)),
+    }
+}
+
+// The place of a name of a scope, whose shape is that of its text.
+#[inline]
+fn open_name<V: Vault>(
+    sw: &mut Swizzle,
+    vault: &mut V,
+    layouts: &mut Layouts,
+    scope: u32,
+    name: u32,
+) -> Result<Located, SwizzleFault>
+    requires alive { V.alive vault.old }
+    requires so { AreSo sw.old layouts.old.entries.items }
+    requires held { IsHeld sw.old scope }
+    ensures opened { OpensName sw.old sw.new (V.outside vault.old) (V.outside vault.new) scope name result }
+    ensures so { OnOk result (AreSo sw.new layouts.new.entries.items) }
+    ensures numbers { (V.used_words vault.new ≡ V.used_words vault.old) × (V.directory_at vault.new ≡ V.directory_at vault.old) × (V.most_words vault.new ≡ V.most_words vault.old) }
+    ensures alive { OnOk result (V.alive vault.new) }
+{
+    sw.sound();
+    if !sw.is_kind(scope, Kind::Scope) {
+        return Err(other_kind(sw, scope, Kind::Scope));
+    }
+    let text = match first_text(sw, vault, scope) {
+        Ok(text) => text,
+        Err(fault) => return Err(fault),
+    };
+    sw.sound();
+    let Some(located) = layouts.locate(sw, text, name) else {
+        return Err(no_name(sw, scope, text, name));
+    };
+    let refs = 2 + u64::from(located.rows.refs);
+    let nums = 1 + u64::from(located.rows.nums);
+    match test_shape(sw, scope, Kind::Scope, refs, nums) {
+        Ok(()) => Ok(located),
+        Err(fault) => Err(fault),
+    }
+}
+
+// The fault of a scope whose text has no such name.
+#[inline(never)]
+fn no_name(sw: &Swizzle, scope: u32, text: u32, name: u32) -> SwizzleFault
+    requires held { IsHeld sw.now scope }
+    requires text_held { IsHeld sw.now text }
+    requires text { (header_at sw.now text).kind ≡ Kind.Text }
+    ensures { result ≡ InVault (Damaged (header_at sw.now scope).pid name (length (forms_of (text_at sw.now text)))) }
+{
+    let rows = count_places(sw.text(text));
+    damaged(
+        sw,
+        scope,
+        u64::from(name),
+        u64::from(rows.refs) + u64::from(rows.nums),
+    )
+}
+
+// The index of a name's place in its row.
+#[inline]
+fn index(place: Place) -> u32
+    requires { place.index + 2 < 2 ^ 32 }
+    ensures { result ≡ index_of place }
+{
+    match place.form {
+        Form::Number | Form::Flag => 1 + place.index,
+        Form::Reference => 2 + place.index,
+    }
+}
+
+// A value as a place of a form holds it; None exactly where it belongs into the other row.
+#[inline]
+#[tactic(auto, unfolding(heap_ops::specs::Vectors::fitted))]
+fn fit(form: Form, value: Value) -> Option<Value>
+    ensures { result ≡ fitted form value }
+{
+    match (form, value) {
+        (Form::Number, Value::Num(_)) => Some(value),
+        (Form::Number, Value::Flag(flag)) => Some(Value::Num(i32::from(flag))),
+        (Form::Flag, Value::Num(number)) => Some(Value::Flag(number > 0)),
+        (Form::Flag, Value::Flag(_)) => Some(value),
+        (Form::Reference, Value::Ref(_)) => Some(value),
+        _ => None,
+    }
+}
+
+// The fault of a scope into which a value is put that belongs into the other row.
+fn misfitting(sw: &Swizzle, scope: u32, form: Form, to: Value) -> SwizzleFault
+    requires held { IsHeld sw.now scope }
+    requires none { fitted form to ≡ None }
+    ensures { NamesDamage sw.now scope (fit_damage form to) result }
+{
+    match find_misfit(form, to) {
+        Some(misfit) => damaged(sw, scope, misfit.found, misfit.wanted),
+        None => unreachable!(),
+    }
+}

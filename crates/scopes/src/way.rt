@@ -1,0 +1,79 @@
+ghost use Rattle.std.specs.Prelude.{◌≡◌, None, MatchResult, OnOk};
+ghost use Rattle.swizzle.specs.Heap.{IsHeld};
+ghost use Rattle.swizzle.specs.Joint.{shown_at};
+ghost use Rattle.heap_places.specs.Places.{NamesDamage};
+ghost use Rattle.scopes.specs.Way.{GoesOut, TellsParent, way_damage};
+
+use closures::shape::other_kind;
+use heap_places::places::damaged;
+use obj_layout::kind::Kind;
+use obj_layout::vault::Vault;
+use swizzle::fault::SwizzleFault;
+use swizzle::swizzle::Swizzle;
+
+/// The parent of a scope; None for a scope without one. It is fetched where it isn't in the area, and isn't tested itself. Damaged, at the
+/// object's PID, exactly where it is no scope (found the number of its kind, wanted 4) or has fewer than two references (found their number,
+/// wanted 2).
+pub fn parent_of<V: Vault>(
+    sw: &mut Swizzle,
+    vault: &mut V,
+    scope: u32,
+) -> Result<Option<u32>, SwizzleFault>
+    requires alive { V.alive vault.old }
+    requires held { IsHeld sw.old scope }
+    ensures told { TellsParent sw.old sw.new (V.outside vault.old) (V.outside vault.new) scope result }
+    ensures numbers { (V.used_words vault.new ≡ V.used_words vault.old) × (V.directory_at vault.new ≡ V.directory_at vault.old) × (V.most_words vault.new ≡ V.most_words vault.old) }
+    ensures alive { OnOk result (V.alive vault.new) }
+{
+    sw.sound();
+    match test_way(sw, scope) {
+        Ok(()) => sw.touch_slot(vault, scope, 1),
+        Err(fault) => Err(fault),
+    }
+}
+
+// Tests that the way may go through an object.
+#[inline]
+fn test_way(sw: &Swizzle, object: u32) -> Result<(), SwizzleFault>
+    requires { IsHeld sw.now object }
+    ensures { MatchResult result
+        (λ _. way_damage (shown_at sw.now object) ≡ None)
+        (NamesDamage sw.now object (way_damage (shown_at sw.now object))) }
+{
+    sw.sound();
+    if !sw.is_kind(object, Kind::Scope) {
+        return Err(other_kind(sw, object, Kind::Scope));
+    }
+    let refs = sw.refs(object);
+    if refs < 2 {
+        return Err(damaged(sw, object, u64::from(refs), 2));
+    }
+    Ok(())
+}
+
+/// The scope so many levels out from a scope: itself for 0, else the parent of the one that is a level less out. What it answers isn't tested
+/// itself. Damaged exactly where one that it leaves is no scope or has fewer than two references, as `parent_of` says, or has no parent (found
+/// 0, wanted 1), at the PID of that one. The cost is in line with the levels.
+pub fn scope_out<V: Vault>(
+    sw: &mut Swizzle,
+    vault: &mut V,
+    scope: u32,
+    up: u32,
+) -> Result<u32, SwizzleFault>
+    requires alive { V.alive vault.old }
+    requires held { IsHeld sw.old scope }
+    ensures out { GoesOut sw.old sw.new (V.outside vault.old) (V.outside vault.new) scope up result }
+    ensures numbers { (V.used_words vault.new ≡ V.used_words vault.old) × (V.directory_at vault.new ≡ V.directory_at vault.old) × (V.most_words vault.new ≡ V.most_words vault.old) }
+    ensures alive { OnOk result (V.alive vault.new) }
+{
+    let mut at = scope;
+    for _ in 0..up {
+        sw.sound();
+        match parent_of(sw, vault, at) {
+            Ok(Some(parent)) => at = parent,
+            Ok(None) => return Err(damaged(sw, at, 0, 1)),
+            Err(fault) => return Err(fault),
+        }
+    }
+    Ok(at)
+}

@@ -1,0 +1,5 @@
+use Rattle.heap_texts.proofs.TextObjects.{there-made}
+use Rattle.scopes_tests.proofs.world.made.Goals as goal
+
+pub returns : goal.returns
+returns c = there-made _ _ _ _ c.make_text.ensures

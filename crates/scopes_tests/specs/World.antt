@@ -1,0 +1,11 @@
+-- What the tests begin with.
+use Rattle.swizzle.specs.Heap.{IsHeld}
+use Rattle.heap_texts.specs.Texts.{HoldsText}
+use Rattle.heap_ops.specs.Layouts.{AreSo}
+use Rattle.scopes_tests.specs.declared.world.World.{World}
+
+-- the text and the scope lie in the area, and the places that were looked up are so
+pub record IsReady (world : World) : Type 0 where
+  pub text : HoldsText world.sw world.text
+  pub scope : IsHeld world.sw world.scope
+  pub so : AreSo world.sw world.layouts.entries.items

@@ -1,0 +1,136 @@
+//! Stores of objects, and the scopes that are fetched of them into an area.
+ghost use Rattle.std.specs.Prelude.{◌≡◌, true, IfOk, OnOk};
+ghost use Rattle.swizzle.specs.Heap.{Heap, IsHeld};
+ghost use Rattle.heap_ops.specs.Layouts.{AreSo};
+
+use heap_ops::layouts::Layouts;
+use heap_places::value::Value;
+use memory_vault::memory::MemoryVault;
+use obj_layout::vault::VaultFault;
+use scopes::names::{get_kept, set_kept};
+use scopes::way::{parent_of, scope_out};
+use std::alloc::Global;
+use std::test::Fail;
+use swizzle::fault::SwizzleFault;
+use swizzle::swizzle::Swizzle;
+
+/// What a call ended in that gave nothing.
+#[derive(Clone, Copy, PartialEq, Eq, Debug)]
+pub enum Ended {
+    Damaged { at: u64, found: u64, wanted: u64 },
+    Full { top: u32, wanted: u32, size: u32 },
+    /// Another refusal of the store.
+    Refused(VaultFault),
+    /// It is no PID, or the value denotes an object: no call was made.
+    NotCalled,
+}
+
+/// What a refusal ends in.
+pub fn end_of(fault: SwizzleFault) -> Ended {
+    match fault {
+        SwizzleFault::AreaFull { top, wanted, size } => Ended::Full { top, wanted, size },
+        SwizzleFault::Vault(VaultFault::Damaged { at, found, wanted }) => {
+            Ended::Damaged { at, found, wanted }
+        }
+        SwizzleFault::Vault(refused) => Ended::Refused(refused),
+    }
+}
+
+// One more than the greatest PID.
+const PIDS: u64 = 1 << 63;
+
+// The most words of a store of the tests.
+const MOST_WORDS: usize = 1 << 10;
+
+/// A store with these objects from word 1 on, one behind the other.
+pub fn store_of(alloc: Global, objects: &[&[u64]]) -> Result<MemoryVault, Fail>
+    ensures { IfOk result (λ vault. vault.alive ≡ true) }
+{
+    let mut words = Vec::new(alloc);
+    words.push(0)?;
+    for object in objects {
+        words.extend_from_slice(object)?;
+    }
+    let count = words.len();
+    if count == 0 || count > MOST_WORDS {
+        return Err("no such store".into());
+    }
+    Ok(MemoryVault::of_words(alloc, &words, 0, count as u64)?)
+}
+
+/// The object of a PID, fetched into the area.
+pub fn fetch(vault: &mut MemoryVault, sw: &mut Swizzle, pid: u64) -> Result<u32, Ended>
+    requires { vault.old.alive ≡ true }
+    ensures alive { OnOk result (vault.new.alive ≡ true) }
+    ensures held { IfOk result (IsHeld sw.new) }
+{
+    if pid == 0 || pid >= PIDS {
+        return Err(Ended::NotCalled);
+    }
+    match sw.touch_pid(vault, pid) {
+        Ok(at) => Ok(at),
+        Err(fault) => Err(end_of(fault)),
+    }
+}
+
+/// The scope so many levels out from the scope of a PID.
+pub fn out(vault: &mut MemoryVault, sw: &mut Swizzle, pid: u64, up: u32) -> Result<u32, Ended>
+    requires { vault.old.alive ≡ true }
+{
+    let scope = fetch(vault, sw, pid)?;
+    match scope_out(sw, vault, scope, up) {
+        Ok(at) => Ok(at),
+        Err(fault) => Err(end_of(fault)),
+    }
+}
+
+/// The parent of the scope of a PID.
+pub fn parent(vault: &mut MemoryVault, sw: &mut Swizzle, pid: u64) -> Result<Option<u32>, Ended>
+    requires { vault.old.alive ≡ true }
+{
+    let scope = fetch(vault, sw, pid)?;
+    match parent_of(sw, vault, scope) {
+        Ok(parent) => Ok(parent),
+        Err(fault) => Err(end_of(fault)),
+    }
+}
+
+/// What the scope of a PID keeps under a name.
+pub fn kept(
+    vault: &mut MemoryVault,
+    sw: &mut Swizzle,
+    layouts: &mut Layouts,
+    pid: u64,
+    name: u32,
+) -> Result<Value, Ended>
+    requires alive { vault.old.alive ≡ true }
+    requires so { (heap : Heap) → AreSo heap layouts.old.entries.items }
+{
+    let scope = fetch(vault, sw, pid)?;
+    match get_kept(sw, vault, layouts, scope, name) {
+        Ok(value) => Ok(value),
+        Err(fault) => Err(end_of(fault)),
+    }
+}
+
+/// Writes what it keeps there.
+pub fn keep(
+    vault: &mut MemoryVault,
+    sw: &mut Swizzle,
+    layouts: &mut Layouts,
+    pid: u64,
+    name: u32,
+    to: Value,
+) -> Result<(), Ended>
+    requires alive { vault.old.alive ≡ true }
+    requires so { (heap : Heap) → AreSo heap layouts.old.entries.items }
+{
+    if let Value::Ref(Some(_)) = to {
+        return Err(Ended::NotCalled);
+    }
+    let scope = fetch(vault, sw, pid)?;
+    match set_kept(sw, vault, layouts, scope, name, to) {
+        Ok(()) => Ok(()),
+        Err(fault) => Err(end_of(fault)),
+    }
+}

@@ -1,0 +1,127 @@
+//! An area with the text of a scope and the scope, or two of them.
+ghost use Rattle.std.specs.Prelude.{◌≡◌, ◌≤◌, ◌^◌, IfOk, IfSome, OnOk};
+ghost use Rattle.swizzle.specs.Heap.{IsHeld, Stands};
+ghost use Rattle.heap_texts.specs.Texts.{HoldsText};
+ghost use Rattle.heap_places.specs.Places.{IsNear};
+ghost use Rattle.heap_ops.specs.Layouts.{AreSo};
+ghost use Rattle.scopes_tests.specs.World.{IsReady};
+
+use crate::scene::{Ended, end_of};
+use heap_ops::layouts::Layouts;
+use heap_places::value::Value;
+use heap_texts::make::make_text;
+use memory_vault::silent::SilentVault;
+use scopes::making::make_scope;
+use scopes::names::{get_kept, set_kept};
+use std::alloc::Global;
+use std::test::Fail;
+use swizzle::fault::SwizzleFault;
+use swizzle::swizzle::Swizzle;
+
+/// A text at index 1 and a scope of it behind.
+#[derive(Drop)]
+pub struct World {
+    pub sw: Swizzle,
+    pub layouts: Layouts,
+    pub text: u32,
+    pub scope: u32,
+}
+
+/// An area of so many words with the text alone.
+#[derive(Drop)]
+pub struct Area {
+    pub sw: Swizzle,
+    pub text: u32,
+}
+
+pub fn area_with(alloc: Global, words: u32, text: &[u8]) -> Result<Area, Fail>
+    requires low { 5 ≤ words }
+    requires high { words ≤ 2 ^ 25 }
+    ensures { IfOk result (λ area. HoldsText area.sw area.text) }
+{
+    let mut sw = Swizzle::new(alloc, words)?;
+    match made(&mut sw, text) {
+        Ok(text) => Ok(Area { sw, text }),
+        Err(_) => Err("no room for the text".into()),
+    }
+}
+
+// The call that makes a text.
+fn made(sw: &mut Swizzle, bytes: &[u8]) -> Result<u32, SwizzleFault>
+    ensures { IfOk result (HoldsText sw.new) }
+{
+    make_text(sw, bytes)
+}
+
+/// A scope of a text.
+pub fn scoped(sw: &mut Swizzle, text: u32, parent: Option<u32>) -> Result<u32, Ended>
+    requires text { HoldsText sw.old text }
+    requires parent { IfSome parent (IsHeld sw.old) }
+    ensures held { IfOk result (IsHeld sw.new) }
+    ensures stands { Stands sw.old sw.new }
+{
+    match make_scope(sw, text, parent) {
+        Ok(scope) => Ok(scope),
+        Err(fault) => Err(end_of(fault)),
+    }
+}
+
+impl World {
+    /// A scope of a text.
+    pub fn new(alloc: Global, text: &[u8]) -> Result<World, Fail>
+        ensures { IfOk result IsReady }
+    {
+        let layouts = Layouts::new(alloc)?;
+        let Area { mut sw, text } = area_with(alloc, 100, text)?;
+        match scoped(&mut sw, text, None) {
+            Ok(scope) => Ok(World {
+                sw,
+                layouts,
+                text,
+                scope,
+            }),
+            Err(_) => Err("no room for the scope".into()),
+        }
+    }
+
+    /// What the scope keeps under a name.
+    pub fn get(&mut self, name: u32) -> Result<Value, Ended>
+        requires { IsReady self.old }
+        ensures { OnOk result (IsReady self.new) }
+    {
+        let mut vault = SilentVault { asked: 0 };
+        match get_kept(
+            &mut self.sw,
+            &mut vault,
+            &mut self.layouts,
+            self.scope,
+            name,
+        ) {
+            Ok(value) => Ok(value),
+            Err(fault) => Err(end_of(fault)),
+        }
+    }
+
+    /// Writes what the scope keeps under a name; of objects only the text may be put.
+    pub fn set(&mut self, name: u32, to: Value) -> Result<(), Ended>
+        requires { IsReady self.old }
+        ensures { OnOk result (IsReady self.new) }
+    {
+        let to = match to {
+            Value::Ref(Some(_)) => Value::Ref(Some(self.text)),
+            _ => to,
+        };
+        let mut vault = SilentVault { asked: 0 };
+        match set_kept(
+            &mut self.sw,
+            &mut vault,
+            &mut self.layouts,
+            self.scope,
+            name,
+            to,
+        ) {
+            Ok(()) => Ok(()),
+            Err(fault) => Err(end_of(fault)),
+        }
+    }
+}
