@@ -13,7 +13,7 @@ use Rattle.text_forms.specs.declared.forms.Form.TheVariants as form
 use Rattle.text_forms.specs.Forms.{forms_of, element_of, form_in, before_in}
 use Rattle.heap_places.specs.Shapes.{IsText}
 use Rattle.ps_meaning.specs.Values.{Value, Num, Flag, Text, Nil, Pointer, Vector, Procedure, Nothing}
-use Rattle.ps_meaning.specs.Objects.{Heap, Object, Structure, Elements, object_at, with_object, with_new, new_number}
+use Rattle.ps_meaning.specs.Objects.{Heap, Object, Structure, Elements, Scope, object_at, with_object, with_new, new_number}
 use Rattle.heap_meaning.specs.Standing.{Seen, Pairing, IsKindOf, StandsFor, IsWordOf, AreFor, IsAs, IsLike, Both, Stands, IsOne, with_pair}
 
 -- What stands for a value stands for it where more is seen, and where more is paired.
@@ -84,6 +84,7 @@ like-more seen now pair more it (Elements ty low elements) texts kinds pairs l =
   fits = l.fits;
   rows = as-more seen now pair more it kind.Vector ty (λ home. home ∷ l.bound ∷ []) (replicate (length elements) (element_of ty)) elements texts kinds pairs l.rows;
 }
+like-more seen now pair more it (Scope text parent names) texts kinds pairs l = absurd l
 
 -- A reading, and whatever loses no object: the same pairing.
 pub stands-within : (seen now : Seen) (heap : Heap) (pair : Pairing) → Within seen now → Stands seen heap pair → Stands now heap pair
@@ -258,6 +259,7 @@ object-none (o ∷ os) = object-none os
 pub no-text : (seen : Seen) (pair : Pairing) (it : Shown) (object : Object) → IsLike seen pair it object → it.kind ≢ kind.Text
 no-text seen pair it (Structure class fields) l = λ e. let bad : kind.Text ≡ kind.Structure = sym e ∙ l.kind_is in absurd (cc)
 no-text seen pair it (Elements ty low elements) l = λ e. let bad : kind.Text ≡ kind.Vector = sym e ∙ l.rows.kind_is in absurd (cc)
+no-text seen pair it (Scope text parent names) l = absurd l
 
 -- where one object that is no text changed, texts stay
 pub texts-changed : (seen now : Seen) (n : reference.Reference) (it new : Shown) → IsOne seen → seen n it → it.kind ≢ kind.Text → ChangedAt seen n new now → Texts seen now

@@ -12,7 +12,7 @@ use Rattle.text_forms.specs.Forms.{forms_of, element_of}
 use Rattle.heap_places.specs.Words.{int_in, flag_in}
 use Rattle.heap_places.specs.Shapes.{IsText}
 use Rattle.ps_meaning.specs.Values.{Value, Num, Flag, Text, Nil, Pointer, Vector}
-use Rattle.ps_meaning.specs.Objects.{Heap, Object, Structure, Elements, object_at, is_vector}
+use Rattle.ps_meaning.specs.Objects.{Heap, Object, Structure, Elements, Scope, object_at, is_vector}
 
 -- what is seen: which object a name has
 abbrev pub Seen : Type 1
@@ -74,10 +74,11 @@ pub record IsVector (seen : Seen) (pair : Pairing) (it : Shown) (ty : List ℕ) 
   pub fits : is_vector low (length elements) ≡ true
   pub rows : IsAs seen pair it kind.Vector ty (λ home. home ∷ bound ∷ []) (replicate (length elements) (element_of ty)) elements
 
--- what is seen stands for an object of the heap
+-- What is seen stands for an object of the heap. Nothing stands for a scope yet, so a heap that is paired has none.
 abbrev pub IsLike : Seen → Pairing → Shown → Object → Type 0
 IsLike seen pair it (Structure class fields) = IsStructure seen pair it class fields
 IsLike seen pair it (Elements ty low elements) = IsVector seen pair it ty low elements
+IsLike seen pair it (Scope text parent names) = ⊥
 
 -- The object of a name and that of the number that goes with it.
 pub record Both (seen : Seen) (heap : Heap) (pair : Pairing) (n : reference.Reference) (id : ℕ) : Type 0 where

@@ -219,7 +219,7 @@ pub fn index(form: Form, place: u32) -> u32
 /// A value as an element of a form holds it; None exactly where it belongs into the other row.
 #[inline]
 #[tactic(auto, unfolding(crate::specs::Vectors::fitted))]
-pub(crate) fn fit(form: Form, value: Value) -> Option<Value>
+pub fn fit(form: Form, value: Value) -> Option<Value>
     ensures { result ≡ fitted form value }
 {
     match (form, value) {

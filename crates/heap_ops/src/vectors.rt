@@ -168,14 +168,14 @@ pub fn set_element<V: Vault>(
     }
 }
 
-// The fault of a vector into which a value is put that belongs into the other row.
-fn misfitting(sw: &Swizzle, vector: u32, form: Form, to: Value) -> SwizzleFault
-    requires held { IsHeld sw.now vector }
+/// The fault of an object into whose place of this form a value is put that belongs into the other row: found and wanted as `find_misfit` says.
+pub fn misfitting(sw: &Swizzle, object: u32, form: Form, to: Value) -> SwizzleFault
+    requires held { IsHeld sw.now object }
     requires none { fitted form to ≡ None }
-    ensures { NamesDamage sw.now vector (fit_damage form to) result }
+    ensures { NamesDamage sw.now object (fit_damage form to) result }
 {
     match find_misfit(form, to) {
-        Some(misfit) => damaged(sw, vector, misfit.found, misfit.wanted),
+        Some(misfit) => damaged(sw, object, misfit.found, misfit.wanted),
         None => unreachable!(),
     }
 }

@@ -4,7 +4,7 @@ use mir.Val.{to_z, of_z}
 use Rattle.std.proofs.lemmas.Int.{to_z-of_z}
 use Rattle.std.proofs.lemmas.Bool.{ltb-true, and_parts}
 use Rattle.std.proofs.Common.{zero, ◌^◌, pos, negsuc, nat_lt, true, ◌≤◌, arith, inl, inr, ◌≡◌, ℕ, suc, ◌<◌, ℤ, List, [], ◌∷◌, length, get_or, set, sym, ap, ◌∙◌, subst, Option, Some, None}
-use Rattle.std.specs.Prelude.{Ok, Err, ◌+ℤ◌}
+use Rattle.std.specs.Prelude.{Ok, Err, ◌+ℤ◌, Bool, if◌then◌else◌}
 use Rattle.ps_base.specs.declared.trap.Trap.TheVariants as trap
 use Rattle.ps_outside.specs.Outside.{Outside}
 use Rattle.obj_layout.specs.Stored.{Space}
@@ -16,10 +16,10 @@ use Rattle.swizzle.specs.Heap.{IsHeap, IsHeld}
 use Rattle.swizzle.specs.Joint.{Shown, shown_at, name_at}
 use Rattle.text_forms.specs.declared.forms.Form.{Form}
 use Rattle.text_forms.specs.declared.forms.Form.TheVariants as form
-use Rattle.text_forms.specs.Forms.{element_of}
+use Rattle.text_forms.specs.Forms.{element_of, is_number_form}
 use Rattle.heap_places.specs.Words.{word_damage}
 use Rattle.heap_places.specs.Shapes.{word_in, slot_of}
-use Rattle.heap_places.specs.Places.{HasPlace, HasRow, ReadsPlace, touched_by, assigned_value}
+use Rattle.heap_places.specs.Places.{HasPlace, HasRow, Holds, ReadsPlace, touched_by, assigned_value}
 use Rattle.heap_places.specs.declared.value.Value as code
 use Rattle.heap_places.specs.declared.value.Value.TheVariants as held
 use Rattle.heap_ops.specs.declared.shape.Shape.{Shape}
@@ -28,7 +28,7 @@ use Rattle.heap_ops.proofs.VectorLaws.{element-place}
 use Rattle.heap_ops.proofs.LayoutLaws.{held-from}
 use Rattle.ps_meaning.specs.Operators.{is_int}
 use Rattle.ps_meaning.specs.Values.{Value, Vector, Nothing}
-use Rattle.ps_meaning.specs.Texts.{Fails}
+use Rattle.ps_meaning.specs.Texts.{Fails, Yields}
 use Rattle.ps_meaning.specs.Objects.{Heap, Object, Elements, object_at, is_vector, place_of, found_at, put_at, with_object, with_element}
 use Rattle.ps_meaning.specs.Objects as meaning
 use Rattle.heap_meaning.specs.Paired.{paired}
@@ -87,6 +87,13 @@ module _ (here : area.Heap) (of : Heap) (names : List reference.Reference) (at i
     fits = v.is.fits;
   }
 
+  -- one of numbers refers to the text of its type alone
+  pub known-refs : is_number_form known.form ≡ true → length it.refs ≡ 1
+  known-refs row =
+      let number : is_number_form (element_of v.ty) ≡ true = ap is_number_form (sym a.form_is) ∙ row in
+      sym (ap (λ (b : Bool). if b then length it.refs else length it.nums) number)
+      ∙ (is-long (alone here) (paired names) it v.ty v.low v.elements v.is).rest ∙ ap (λ (b : Bool). if b then 1 else 2) number
+
   same-place : (z : ℤ) → place_of known.low known.count z ≡ place_of v.low (length v.elements) z
   same-place z = ap (λ (l : ℤ). place_of l known.count z) a.low_is ∙ ap (λ (n : ℕ). place_of v.low n z) a.count_is
 
@@ -129,6 +136,20 @@ module _ (here : area.Heap) (of : Heap) (names : List reference.Reference) (at i
           | inr t ↦ no-touch here before at index fault h (element-touched here names it v.ty v.low v.elements n v.is below t.0) (t.1)
         ]
 
+    -- what the place holds is what the meaning's element is
+    pub known-value : (c : code.Value) → Holds here it known.form (index_of known.form n) c
+        → (value : Value) × (meaning.element_of of (Vector id) z ≡ Yields value) × IsForIn here names c value
+    known-value c holds = (
+      get_or v.elements n Nothing,
+      element-meant here of names at id z v ∙ ap (λ (o : Option ℕ). found_at o v.elements) there,
+      element-read here (alone here) (paired names) it v.ty v.low v.elements n c v.is below
+          (subst (λ (f : Form). Holds here it f (index_of f n) c) a.form_is holds),
+    )
+
+    pub known-sound : word_damage known.form (word_in it (index_of known.form n)) ≡ None
+    known-sound = subst (λ (f : Form). word_damage f (word_in it (index_of f n)) ≡ None) (sym a.form_is)
+        (element-fits (alone here) (paired names) it v.ty v.low v.elements n v.is below)
+
     fits-row : (f : Form) (index : ℕ) (c : code.Value) → IsOfForm f c → HasPlace it f index → HasRow it index c
     fits-row form.Number index (held.Num y) k h = h
     fits-row form.Flag index (held.Flag b) k h = h
@@ -166,7 +187,7 @@ module _ (here : area.Heap) (of : Heap) (names : List reference.Reference) (at i
     pub known-unwritten : (e : Value) → with_element of (Vector id) z e ≡ Fails trap.Bounds
     known-unwritten e = put-meant here of names at id z e v ∙ ap (λ (o : Option ℕ). put_at of (Vector id) o e) (sym (same-place z) ∙ place)
 
-int-same : (z : ℤ) → is_int z ≡ true → to_z w32 (of_z w32 z) ≡ z
+pub int-same : (z : ℤ) → is_int z ≡ true → to_z w32 (of_z w32 z) ≡ z
 int-same (pos n) e = to_z-of_z w32 (pos n) (record { sfits = ltb-true n (2 ^ 31) e })
 int-same (negsuc n) e = to_z-of_z w32 (negsuc n) (record { sfits = ltb-true n (2 ^ 31) e })
 

@@ -6,11 +6,11 @@ use Rattle.ps_meaning.specs.Values.{Vector}
 use Rattle.ps_meaning.specs.Objects.{Heap}
 use Rattle.paired_ops.specs.World.{Carries}
 use Rattle.known_vectors.specs.declared.known.KnownVector.{KnownVector}
-use Rattle.known_vectors.specs.Known.{IsKnownAs, IsSo, AreSo, AllLast}
+use Rattle.known_vectors.specs.Known.{IsKnownAs, IsSo, AreSo, AllLast, SaysNothing}
 
 -- what an entry says is so, or it says nothing
 abbrev Says : area.Heap → Heap → List Reference → KnownVector → Type 0
-Says here of names known = (known.vector ≡ 0) ⊎ IsSo here of names known
+Says here of names known = SaysNothing known ⊎ IsSo here of names known
 
 module _ (old new : area.Heap) (of now : Heap) (names more : List Reference) (weight : ℕ) (carries : Carries old new names more weight) (last : AllLast of now) where
   known-lasts : (id : ℕ) (known : KnownVector) → IsKnownAs of id known → IsKnownAs now id known
@@ -27,7 +27,7 @@ module _ (old new : area.Heap) (of now : Heap) (names more : List Reference) (we
   all-stay (known ∷ rest) so = (stays known so.0, all-stay rest so.1)
 
 module _ (here : area.Heap) (of : Heap) (names : List Reference) where
-  none-so : (n : ℕ) (known : KnownVector) → known.vector ≡ 0 → AreSo here of names (replicate n known)
+  none-so : (n : ℕ) (known : KnownVector) → SaysNothing known → AreSo here of names (replicate n known)
   none-so zero known none = tt
   none-so (suc n) known none = (inl none, none-so n known none)
 
@@ -36,7 +36,7 @@ module _ (here : area.Heap) (of : Heap) (names : List Reference) where
   put-so (k ∷ ks) zero known so is = (inr is, so.1)
   put-so (k ∷ ks) (suc index) known so is = (so.0, put-so ks index known so.1 is)
 
-  said : (entries : List KnownVector) (index : ℕ) (known : KnownVector) → AreSo here of names entries → index < length entries → known ≡ get_or entries index known → Says here of names known
+  pub said : (entries : List KnownVector) (index : ℕ) (known : KnownVector) → AreSo here of names entries → index < length entries → known ≡ get_or entries index known → Says here of names known
   said [] index known so below e = absurd (omega arith)
   said (k ∷ ks) zero known so below e = subst (Says here of names) (sym e) so.0
   said (k ∷ ks) (suc index) known so below e = said ks index known so.1 (omega (arith, below)) e
@@ -44,15 +44,15 @@ module _ (here : area.Heap) (of : Heap) (names : List Reference) where
   pub found-so : (entries : List KnownVector) (index vector : ℕ) (known : KnownVector) → AreSo here of names entries → index < length entries → known ≡ get_or entries index known
       → known.vector ≡ vector → 1 ≤ vector → (known.vector ≡ vector) × IsSo here of names known
   found-so entries index vector known so below found same some = elim (said entries index known so below found) [
-    | inl none ↦ absurd (omega (arith, none, same, some))
+    | inl none ↦ absurd (let zero = none.0 in omega (arith, zero, same, some))
     | inr is ↦ (same, is)
   ]
 
   -- entries that were put behind none
-  pub fresh-so : (items before : List KnownVector) (n : ℕ) (known : KnownVector) → before ≡ [] → known.vector ≡ 0 → items ≡ take 64 before ++ replicate n known → AreSo here of names items
+  pub fresh-so : (items before : List KnownVector) (n : ℕ) (known : KnownVector) → before ≡ [] → SaysNothing known → items ≡ take 64 before ++ replicate n known → AreSo here of names items
   fresh-so items before n known empty none is =
       let all : items ≡ replicate n known = is ∙ ap (λ (x : List KnownVector). take 64 x ++ replicate n known) empty in
       subst (AreSo here of names) (sym all) (none-so n known none)
 
-  pub cleared-so : (items : List KnownVector) (n : ℕ) (known : KnownVector) → known.vector ≡ 0 → items ≡ replicate n known → AreSo here of names items
+  pub cleared-so : (items : List KnownVector) (n : ℕ) (known : KnownVector) → SaysNothing known → items ≡ replicate n known → AreSo here of names items
   cleared-so items n known none is = subst (AreSo here of names) (sym is) (none-so n known none)

@@ -3,7 +3,7 @@ use Rattle.std.proofs.Common.{◌≡◌, ℕ, zero, suc, ℤ, Bool, true, false,
 use Rattle.std.proofs.lemmas.List.{length-set}
 use Rattle.ps_meaning.specs.Values.{Value, Num, Flag, Text, Nil, Pointer, Vector, Procedure, Nothing}
 use Rattle.ps_meaning.specs.Texts.{Yields, Fails}
-use Rattle.ps_meaning.specs.Objects.{Heap, Object, Structure, Elements, object_at, with_object, with_new, is_of, fields_in, with_field, with_element, put_at, place_of, low_in, elements_in, type_in}
+use Rattle.ps_meaning.specs.Objects.{Heap, Object, Structure, Elements, Scope, object_at, with_object, with_new, is_of, fields_in, with_field, with_element, put_at, place_of, low_in, elements_in, type_in}
 use Rattle.known_vectors.specs.Known.{AllLast}
 
 pub all-same : (of : Heap) → AllLast of of
@@ -43,6 +43,7 @@ field-last : (of now : Heap) (id : ℕ) (class : List ℕ) (n : ℕ) (e : Value)
 field-last of now id class n e (Some (Structure text fields)) true at is done =
     subst (AllLast of) (yields-one done) (last-set of id (Structure class (set fields n e)) (λ ty low elements bad. absurd (let same : Some (Structure text fields) ≡ Some (Elements ty low elements) = sym at ∙ bad in cc)))
 field-last of now id class n e (Some (Elements ty low elements)) true at is done = absurd (cc)
+field-last of now id class n e (Some (Scope text parent names)) true at is done = absurd (cc)
 field-last of now id class n e None true at is done = absurd (cc)
 field-last of now id class n e o false at is done = absurd (cc)
 

@@ -1,3 +1,4 @@
 pub mod Lasting
 pub mod Entries
 pub mod Access
+pub mod Reaching

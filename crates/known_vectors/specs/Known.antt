@@ -23,10 +23,14 @@ pub record IsSo (here : area.Heap) (of : Heap) (names : List Reference) (known :
   pub denotes : DenotesIn here names (Some known.vector) (Vector id)
   pub is : IsKnownAs of id known
 
--- each entry says what is so, or nothing, where its object is 0
+-- an entry that says nothing: its object is 0, and it has no element
+abbrev pub SaysNothing : KnownVector → Type 0
+SaysNothing known = (known.vector ≡ 0) × (known.count ≡ 0)
+
+-- each entry says what is so, or nothing
 abbrev pub AreSo : area.Heap → Heap → List Reference → List KnownVector → Type 0
 AreSo here of names [] = Unit {0}
-AreSo here of names (known ∷ rest) = ((known.vector ≡ 0) ⊎ IsSo here of names known) × AreSo here of names rest
+AreSo here of names (known ∷ rest) = (SaysNothing known ⊎ IsSo here of names known) × AreSo here of names rest
 
 -- A vector keeps its type, its lower bound and the number of its elements.
 pub record Lasts (now : Heap) (id : ℕ) (ty : List ℕ) (low : ℤ) (count : ℕ) : Type 0 where
@@ -54,6 +58,13 @@ pub record IsRight (here : area.Heap) (known : KnownVector) : Type 0 where
   pub names : List Reference
   pub world : IsWorld here of names
   pub so : IsSo here of names known
+
+-- The area stands for some heap, and all that is known is so of it.
+pub record AreRight (here : area.Heap) (entries : List KnownVector) : Type 0 where
+  pub of : Heap
+  pub names : List Reference
+  pub world : IsWorld here of names
+  pub so : AreSo here of names entries
 
 -- The vector is found to be what it is, and all that is known is so; it never fails.
 abbrev pub Finds : area.Heap → area.Heap → Heap → List Reference → ℕ → ℕ → List KnownVector → Result KnownVector OpFault → Type 0

@@ -24,7 +24,7 @@ use text_forms::forms::Place;
 
 // The place of a subscript, from 0; None where it is outside.
 #[inline(always)]
-fn subscript(known: KnownVector, at: i32) -> Option<u32>
+pub(crate) fn subscript(known: KnownVector, at: i32) -> Option<u32>
     ensures { result ≡ place_of known.low known.count at }
 {
     let shape = Shape {

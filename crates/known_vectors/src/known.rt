@@ -9,6 +9,7 @@ ghost use Rattle.ps_meaning.specs.Objects as meaning;
 ghost use Rattle.ps_meaning.specs.Values as meant;
 ghost use Rattle.paired_ops.specs.World.{IsEmpty, IsWorld, DenotesIn};
 ghost use Rattle.known_vectors.specs.Known.{AreSo, IsSo, IsThere, Finds};
+ghost use Rattle.known_vectors.specs.Reached.{entry_place};
 
 use heap_ops::shape::read_shape;
 use heap_texts::fault::OpFault;
@@ -18,7 +19,7 @@ use swizzle::swizzle::Swizzle;
 use text_forms::forms::Form;
 
 /// What a vector was found to be: its object's index in the area, the form of its elements, its lower bound, and how many elements it has. Index
-/// 0 stands for no entry.
+/// 0 stands for no entry, and such a one has no element, so that none is found for nil.
 #[derive(Clone, Copy)]
 pub struct KnownVector {
     pub vector: u32,
@@ -150,9 +151,9 @@ impl KnownVectors {
 }
 
 // Where the entry of a vector stands.
-#[inline]
-fn index_of(vector: u32) -> usize
-    ensures { result < 64 }
+#[inline(always)]
+pub(crate) fn index_of(vector: u32) -> usize
+    ensures { result ≡ entry_place vector }
 {
     (vector.wrapping_mul(0x9e37_79b1) >> 26) as usize
 }

@@ -5,5 +5,6 @@
 pub mod elements;
 pub mod known;
 mod laws;
+pub mod reached;
 
 pub use laws::what_is_known_stays_so;

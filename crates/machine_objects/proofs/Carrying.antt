@@ -7,14 +7,14 @@ use Rattle.swizzle.specs.Heap as area
 use Rattle.swizzle.specs.Heap.{IsHeap, top_of}
 use Rattle.swizzle.specs.Reading.{TextsStay}
 use Rattle.swizzle.specs.declared.fault.SwizzleFault.{SwizzleFault}
-use Rattle.heap_ops.proofs.LayoutLaws.{stay_so}
+use Rattle.known_classes.proofs.MakesSo.{right-stays}
 use Rattle.proc_values.proofs.StayLaws.{unit-stays}
 use Rattle.known_vectors.specs.Known.{AllLast}
 use Rattle.known_vectors.proofs.Lasting.{all-same}
 use Rattle.known_vectors.proofs.Entries.{all-stay}
 use Rattle.ps_meaning.specs.Values.{Value, Text}
 use Rattle.ps_meaning.specs.Meaning.{Store}
-use Rattle.ps_stepping.specs.Config.{Config, frame_words, frame_in}
+use Rattle.ps_stepping.specs.Config.{Config, frame_words, frame_in, constants_in}
 use Rattle.std.proofs.lemmas.Bool.{lt-ltb, le-ltb}
 use Rattle.heap_texts.specs.declared.fault.OpFault.TheVariants as op
 use Rattle.ps_stepping.specs.Steps.{Stuck, on, push_ref}
@@ -30,7 +30,7 @@ use Rattle.machine_state.specs.declared.stepped.Stepped.TheVariants.{Quiet, Turn
 use Rattle.machine_state.specs.Stepped.{IsFull, Does, KeepsSize}
 use Rattle.machine_state.proofs.Popping.{refs_taken}
 use Rattle.machine_state.proofs.RefRows.{row_more}
-use Rattle.machine_objects.specs.inside.Giving.{HeldIn, failed_of}
+use Rattle.machine_objects.specs.inside.Giving.{HeldIn, failed_of, failed_in}
 
 -- texts stay where they are
 pub texts-stay : (here now : area.Heap) (names more : List Reference) (weight : ℕ) → IsHeap now → Carries here now names more weight → TextsStay here now
@@ -43,6 +43,7 @@ pub held-more : (here now : area.Heap) (names more : List Reference) (weight : �
     → IsWorld now store.heap more → 8 * top_of now ≤ store.counted → store.turns ≡ c.store.turns → HeldIn now more m (record c { store = store })
 held-more here now names more weight m c store heap k last h world counted turns = record {
   unit_is = unit-stays here now m.code c.unit k.code h.unit_is;
+  place_is = h.place_is;
   frame_is = h.frame_is;
   at_is = h.at_is;
   nums_are = h.nums_are;
@@ -50,7 +51,7 @@ held-more here now names more weight m c store heap k last h world counted turns
   no_callers = h.no_callers;
   turns_are = turns ∙ h.turns_are;
   world = world;
-  entries_are = stay_so here now m.layouts.entries.items h.entries_are (texts-stay here now names more weight heap k);
+  entries_are = right-stays here now (constants_in c.unit) m.classes h.entries_are (texts-stay here now names more weight heap k);
   known_are = all-stay here now c.store.heap store.heap names more weight k last m.vectors.entries.items h.known_are;
   counted = counted;
 }
@@ -95,15 +96,15 @@ short-full here now weight counted fault s low =
 pub size-behind : (r : Stepped) (a b c : area.Heap) → b.size ≡ a.size → KeepsSize r b c → KeepsSize r a c
 size-behind Quiet a b c same k = k ∙ same
 size-behind Turns a b c same k = k ∙ same
-size-behind (Writes w) a b c same k = k ∙ same
-size-behind (Breaks fault) a b c same k = k ∙ same
-size-behind (Halts e) a b c same k = tt
+size-behind Writes a b c same k = k ∙ same
+size-behind Breaks a b c same k = k ∙ same
+size-behind Halts a b c same k = tt
 size-behind Damaged a b c same k = tt
 
 -- what is pushed where there was no room in the area
 pub fails-push : (m : Machine) (here : area.Heap) (names : List Reference) (c : Config) (v : Value) (store : Store) (weight : ℕ) (fault : SwizzleFault) (line : Line) (full : Bool) → HeldIn here names m c
     → IsShort here m.sw weight fault → store.counted ≡ c.store.counted + weight → (full ≡ true → frame_words ≤ length m.refs.items) → (full ≡ false → length m.refs.items < frame_words)
-    → KeepsSize (failed_of (op.Swizzle fault) line full) here m.sw × Does (push_ref v (record c { store = store })) (failed_of (op.Swizzle fault) line full) m
+    → KeepsSize (failed_of (op.Swizzle fault) full) here m.sw × Does (push_ref v (record c { store = store })) (failed_of (op.Swizzle fault) full) (failed_in (op.Swizzle fault) line full m)
 fails-push m here names c v store weight fault line full h short count is_full has_room = of full is_full has_room
   where
     held : HeldBy names m c
@@ -113,7 +114,7 @@ fails-push m here names c v store weight fault line full h short count is_full h
     next = record c { store = store }
 
     of : (b : Bool) → (b ≡ true → frame_words ≤ length m.refs.items) → (b ≡ false → length m.refs.items < frame_words)
-        → KeepsSize (failed_of (op.Swizzle fault) line b) here m.sw × Does (push_ref v next) (failed_of (op.Swizzle fault) line b) m
+        → KeepsSize (failed_of (op.Swizzle fault) b) here m.sw × Does (push_ref v next) (failed_of (op.Swizzle fault) b) (failed_in (op.Swizzle fault) line b m)
     of true f r = (tt, ap (λ (b : Bool). if b then on (record next { refs = v ∷ c.refs }) else Stuck) (le-ltb ((frame_in c.unit).refs + length c.refs) frame_words (let f = f refl in omega (arith, f, refs_taken m c names held))))
     of false f r = (
       ap (λ (a : area.Heap). a.size) short.stays,

@@ -3,7 +3,7 @@ use Rattle.std.proofs.Common.{◌≡◌, ℕ, List, Option, Some, None, sym, sub
 use Rattle.obj_layout.specs.declared.reference.Reference.{Reference}
 use Rattle.swizzle.specs.Heap as area
 use Rattle.ps_meaning.specs.Values.{Value, Vector}
-use Rattle.ps_meaning.specs.Objects.{Heap, Object, Structure, Elements, object_at, type_in}
+use Rattle.ps_meaning.specs.Objects.{Heap, Object, Structure, Elements, Scope, object_at, type_in}
 use Rattle.ps_stepping.specs.Objects.{type_of, type_of_object}
 use Rattle.ps_stepping.specs.Config.{Config}
 use Rattle.ps_stepping.specs.Steps.{Step}
@@ -40,3 +40,4 @@ vector-type heap id ty is = of (object_at heap id) is
     of None e = absurd (cc)
     of (Some (Structure class fields)) e = absurd (cc)
     of (Some (Elements t low elements)) e = cc
+    of (Some (Scope text parent names)) e = absurd (cc)

@@ -7,15 +7,12 @@ use Rattle.obj_layout.specs.declared.reference.Reference.{Reference}
 use Rattle.text_forms.specs.declared.forms.Form.{Form}
 use Rattle.text_forms.specs.declared.forms.Form.TheVariants as form
 use Rattle.text_forms.specs.declared.forms.Located.{Located}
-use Rattle.text_forms.specs.Forms.{forms_of, form_in, located_in, located_as, is_number_form}
+use Rattle.text_forms.specs.Forms.{forms_of, form_in, located_in, is_number_form}
 use Rattle.swizzle.specs.Heap as area
 use Rattle.swizzle.specs.Heap.{IsHeap}
-use Rattle.swizzle.specs.Text.{text_at}
 use Rattle.heap_places.specs.declared.value.Value as code
 use Rattle.heap_texts.specs.declared.fault.OpFault.{OpFault}
 use Rattle.heap_texts.specs.declared.fault.OpFault.TheVariants as op
-use Rattle.heap_ops.specs.declared.layouts.Layouts.{Layouts}
-use Rattle.heap_ops.specs.Layouts.{AreSo}
 use Rattle.heap_ops.specs.Outcomes.{UnlessFault}
 use Rattle.heap_meaning.proofs.GivenLaws.{located-at}
 use Rattle.ps_meaning.specs.Texts.{Attempt}
@@ -26,78 +23,16 @@ use Rattle.ps_stepping.specs.Steps.{Step, Stuck, text_in, with_text, attempted, 
 use Rattle.ps_stepping.specs.Objects.{when_number, when_reference, pop_object, field_num, field_ref}
 use Rattle.paired_ops.specs.World.{IsWorld, DenotesIn, Answers, Writes}
 use Rattle.paired_ops.specs.Operands.{IsForIn, IsOfForm}
-use Rattle.paired_ops.proofs.ValueLaws.{text-denoted}
 use Rattle.machine_state.specs.declared.machine.Machine.{Machine}
 use Rattle.machine_state.specs.declared.stepped.Stepped.{Stepped}
 use Rattle.machine_state.specs.declared.stepped.Stepped.TheVariants.{Quiet, Turns, Writes as WritesOut, Halts, Breaks, Damaged}
 use Rattle.machine_state.specs.Holding.{HeldBy, IsHolding, IsSound}
 use Rattle.machine_state.specs.Stepped.{Takes, Does, UnlessDamaged}
-use Rattle.machine_objects.specs.inside.Constants.{StillHolds, ReadsConstant, FindsField}
+use Rattle.machine_objects.specs.inside.Constants.{FindsField}
 use Rattle.machine_objects.specs.inside.Popping.{PopsObject}
 use Rattle.machine_objects.specs.inside.Giving.{GivesNumber, GivesReference}
 use Rattle.machine_objects.proofs.Carrying.{size-behind}
 use Rattle.machine_objects.proofs.Ending.{ends, Comes, comes-behind, denoted-there}
-
--- where a text names no place of this number, it has no form either
-no-form : (forms : List Form) (n : ℕ) → located_in forms n ≡ None → form_in forms n ≡ None
-unfolding located_in
-no-form forms n is = of (form_in forms n) is
-  where
-    of : (f : Option Form) → located_as forms n f ≡ None → f ≡ None
-    of None e = refl
-    of (Some f) e = absurd (cc)
-
-module _ (k n class : ℕ) (old mid : Machine) (layouts : Layouts) where
-  with-layouts : (names : List Reference) (c : Config) → AreSo mid.sw layouts.entries.items → StillHolds names c old mid → StillHolds names c old (record mid { layouts = layouts })
-  with-layouts names c so s = let h = s.held in record {
-    held = record {
-      unit_is = h.unit_is;
-      frame_is = h.frame_is;
-      at_is = h.at_is;
-      nums_are = h.nums_are;
-      refs_are = h.refs_are;
-      no_callers = h.no_callers;
-      turns_are = h.turns_are;
-      world = h.world;
-      entries_are = so;
-      known_are = h.known_are;
-      counted = h.counted;
-    };
-    size = s.size;
-    values = s.values;
-  }
-
-  with-sound : IsSound mid → IsSound (record mid { layouts = layouts })
-  with-sound sound = record {
-    nums_fit = sound.nums_fit;
-    refs_fit = sound.refs_fit;
-    nums_below = sound.nums_below;
-    refs_below = sound.refs_below;
-    nums_room = sound.nums_room;
-    refs_room = sound.refs_room;
-    values_room = sound.values_room;
-  }
-
-  module _ (p : ReadsConstant k old mid (Some class)) (heap : IsHeap mid.sw) (so : AreSo mid.sw layouts.entries.items) (o : Option Located) (place : o ≡ located_in (forms_of (text_at mid.sw class)) n) where
-    named : (names : List Reference) (bytes : List ℕ) → DenotesIn mid.sw names (Some class) (Text bytes) → located_in (forms_of bytes) n ≡ o
-    named names bytes d = ap (λ (text : List ℕ). located_in (forms_of text) n) (sym (text-denoted mid.sw names class bytes heap d).bytes_are) ∙ sym place
-
-    pub field-found : (l : Located) → o ≡ Some l → FindsField k n old (record mid { layouts = layouts }) (Some (class, l))
-    field-found l is = record {
-      sound = with-sound p.sound;
-      gives = λ names c h. let t = p.gives names c h in (t.0, t.1, with-layouts names c so t.2, t.3, named names t.0 t.3 ∙ is);
-    }
-
-    pub no-field : o ≡ None → FindsField k n old (record mid { layouts = layouts }) None
-    no-field is = record {
-      sound = with-sound p.sound;
-      gives = λ names c h next.
-          let t = p.gives names c h in
-          let none = no-form (forms_of t.0) n (named names t.0 t.3 ∙ is) in (
-            ap (λ (x : Option ConstantView). text_in x (λ text. when_number (form_in (forms_of text) n) (next text))) t.1 ∙ ap (λ (f : Option Form). when_number f (next t.0)) none,
-            ap (λ (x : Option ConstantView). text_in x (λ text. when_reference (form_in (forms_of text) n) (next text))) t.1 ∙ ap (λ (f : Option Form). when_reference f (next t.0)) none,
-          );
-    }
 
 -- without such a field there is nothing that follows
 pub no-number-field : (k n : ℕ) (next : Config → List ℕ → Step) (old new : Machine) → FindsField k n old new None
@@ -178,9 +113,9 @@ write-done old now names a P (Err (op.Swizzle fault)) got so = absurd got
 pub unless-damaged : (P : Type 0) (r : Stepped) → P → UnlessDamaged r P
 unless-damaged P Quiet so = so
 unless-damaged P Turns so = so
-unless-damaged P (WritesOut w) so = so
-unless-damaged P (Halts e) so = so
-unless-damaged P (Breaks fault) so = so
+unless-damaged P WritesOut so = so
+unless-damaged P Halts so = so
+unless-damaged P Breaks so = so
 unless-damaged P Damaged so = tt
 
 -- The field of an object that was popped.

@@ -27,7 +27,7 @@ use Rattle.machine_state.specs.declared.stepped.Stepped.{Stepped}
 use Rattle.machine_state.specs.declared.stepped.Stepped.TheVariants.{Quiet, Damaged}
 use Rattle.machine_state.specs.Stepped.{Does, KeepsSize, Takes}
 use Rattle.machine_state.specs.inside.Taking.{TakesRef}
-use Rattle.machine_objects.specs.inside.Giving.{HeldIn, failed_of}
+use Rattle.machine_objects.specs.inside.Giving.{HeldIn, failed_of, failed_in}
 use Rattle.known_vectors.specs.Known.{AllLast}
 use Rattle.known_vectors.proofs.Lasting.{all-same, last-new}
 use Rattle.machine_objects.proofs.Carrying.{held-more, size-behind, fails-push}
@@ -56,6 +56,19 @@ flag-read here names b form.Flag (value.Procedure body scope) of is = absurd is
 flag-read here names b form.Flag value.Nothing of is = absurd is
 flag-read here names b form.Number v of is = absurd of
 flag-read here names b form.Reference v of is = absurd of
+
+-- what an operation that failed comes to is what was answered, and the machine is the one that is left then
+pub failing : (here : area.Heap) (m new : Machine) (s : Step) (fault : OpFault) (line : Line) (full : Bool) (r : Stepped) → r ≡ failed_of fault full → new ≡ failed_in fault line full m
+    → KeepsSize (failed_of fault full) here m.sw × Does s (failed_of fault full) (failed_in fault line full m) → KeepsSize r here new.sw × Does s r new
+failing here m new s fault line full r answer left f =
+    subst (λ (x : Stepped). KeepsSize x here new.sw × Does s x new) (sym answer)
+    (subst (λ (n : Machine). KeepsSize (failed_of fault full) here n.sw × Does s (failed_of fault full) n) (sym left)
+    (subst (λ (a : area.Heap). KeepsSize (failed_of fault full) here a) (sym (area-left fault full)) f.0, f.1))
+  where
+    area-left : (fault : OpFault) (full : Bool) → (failed_in fault line full m).sw ≡ m.sw
+    area-left (op.Trap trap) full = refl
+    area-left (op.Swizzle fault) true = refl
+    area-left (op.Swizzle fault) false = refl
 
 module _ (line : Line) (m : Machine) (heap : IsHeap m.sw) (here : area.Heap) (names : List Reference) (c : Config) (h : HeldIn here names m c) where
   module _ (new : Machine) (r : Stepped) where
@@ -162,21 +175,21 @@ module _ (line : Line) (m : Machine) (heap : IsHeap m.sw) (here : area.Heap) (na
 
   -- an operation that failed
   pub text-fails : (fault : OpFault) (full : Bool) (attempt : Attempt (List ℕ)) → (full ≡ true → frame_words ≤ length m.refs.items) → (full ≡ false → length m.refs.items < frame_words)
-      → MakesText here m.sw c.store.heap names attempt (Err fault) → KeepsSize (failed_of fault line full) here m.sw × Does (attempted line attempt (λ bytes. make_text bytes c)) (failed_of fault line full) m
+      → MakesText here m.sw c.store.heap names attempt (Err fault) → KeepsSize (failed_of fault full) here m.sw × Does (attempted line attempt (λ bytes. make_text bytes c)) (failed_of fault full) (failed_in fault line full m)
   text-fails (op.Trap trap) full attempt is_full has_room made = (tt, ap (λ (a : Attempt (List ℕ)). attempted line a (λ bytes. make_text bytes c)) made)
   text-fails (op.Swizzle fault) full attempt is_full has_room made =
       let f = fails-push m here names c (Text made.0) (and_text made.0 c.store) (text_weight made.0) fault line full h made.2 refl is_full has_room in
-      (f.0, subst (λ (a : Attempt (List ℕ)). Does (attempted line a (λ bytes. make_text bytes c)) (failed_of (op.Swizzle fault) line full) m) (sym made.1) f.1)
+      (f.0, subst (λ (a : Attempt (List ℕ)). Does (attempted line a (λ bytes. make_text bytes c)) (failed_of (op.Swizzle fault) full) (failed_in (op.Swizzle fault) line full m)) (sym made.1) f.1)
 
   pub object-fails : (fault : OpFault) (full : Bool) (denoting : ℕ → Value) (attempt : Attempt Object) → (full ≡ true → frame_words ≤ length m.refs.items) → (full ≡ false → length m.refs.items < frame_words)
-      → Makes here m.sw c.store.heap names denoting attempt (Err fault) → KeepsSize (failed_of fault line full) here m.sw × Does (attempted line attempt (λ object. make denoting object c)) (failed_of fault line full) m
+      → Makes here m.sw c.store.heap names denoting attempt (Err fault) → KeepsSize (failed_of fault full) here m.sw × Does (attempted line attempt (λ object. make denoting object c)) (failed_of fault full) (failed_in fault line full m)
   object-fails (op.Trap trap) full denoting attempt is_full has_room made = (tt, ap (λ (a : Attempt Object). attempted line a (λ object. make denoting object c)) made)
   object-fails (op.Swizzle fault) full denoting attempt is_full has_room made =
       let f = fails-push m here names c (denoting (new_number c.store.heap)) (and_object made.0 c.store) (own_weight made.0) fault line full h made.2 refl is_full has_room in
-      (f.0, subst (λ (a : Attempt Object). Does (attempted line a (λ object. make denoting object c)) (failed_of (op.Swizzle fault) line full) m) (sym made.1) f.1)
+      (f.0, subst (λ (a : Attempt Object). Does (attempted line a (λ object. make denoting object c)) (failed_of (op.Swizzle fault) full) (failed_in (op.Swizzle fault) line full m)) (sym made.1) f.1)
 
   pub read-fails : (fault : OpFault) (is : code.Value → Value → Type 0) (attempt : Attempt Value) (next : Value → Step) → Answers here m.sw is c.store.heap names attempt (Err fault)
-      → KeepsSize (failed_of fault line false) here m.sw × Does (attempted line attempt next) (failed_of fault line false) m
+      → KeepsSize (failed_of fault false) here m.sw × Does (attempted line attempt next) (failed_of fault false) (failed_in fault line false m)
   read-fails (op.Trap trap) is attempt next got = (tt, ap (λ (a : Attempt Value). attempted line a next) got)
   read-fails (op.Swizzle fault) is attempt next got = absurd got
 
@@ -185,6 +198,6 @@ module _ (line : Line) (m : Machine) (heap : IsHeap m.sw) (here : area.Heap) (na
   bound-fails (op.Swizzle fault) wanted got = got
 
   pub write-fails : (fault : OpFault) (attempt : Attempt Heap) (next : Heap → Step) → Writes here m.sw names attempt (Err fault)
-      → KeepsSize (failed_of fault line false) here m.sw × Does (attempted line attempt next) (failed_of fault line false) m
+      → KeepsSize (failed_of fault false) here m.sw × Does (attempted line attempt next) (failed_of fault false) (failed_in fault line false m)
   write-fails (op.Trap trap) attempt next did = (tt, ap (λ (a : Attempt Heap). attempted line a next) did)
   write-fails (op.Swizzle fault) attempt next did = absurd did

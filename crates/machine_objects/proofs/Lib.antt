@@ -3,6 +3,7 @@ pub mod Giving
 pub mod Popping
 pub mod Ending
 pub mod ConstantReads
+pub mod ClassFields
 pub mod FieldReads
 pub mod FieldWrites
 pub mod VectorReads
@@ -12,3 +13,7 @@ pub mod Laying
 pub mod Making
 pub mod MakingStructures
 pub mod MakingLists
+pub mod ElementsReached
+pub mod RowLaws
+pub mod RowsLaid
+pub mod MakingRows

@@ -36,7 +36,7 @@ pub ref-holding : (taking : Config → (Value → Config → Step) → Step) (ol
 ref-holding taking old new w p h = let g = p.gives h.1.names h.0 h.1.held in (g.0, record { names = h.1.names; held = g.3 })
 
 -- what it denotes lies in the area
-named-held : (here : area.Heap) (names : List Reference) (to : Option ℕ) (v : Value) → DenotesIn here names to v → IfSome to (IsHeld here)
+pub named-held : (here : area.Heap) (names : List Reference) (to : Option ℕ) (v : Value) → DenotesIn here names to v → IfSome to (IsHeld here)
 named-held here names None v d = tt
 named-held here names (Some at) v d = d.denotes.0
 

@@ -34,7 +34,7 @@ use Rattle.machine_state.specs.Holding.{HeldBy, IsHolding, IsSound}
 use Rattle.machine_state.specs.Stepped.{Does, UnlessDamaged}
 use Rattle.machine_state.specs.inside.Taking.{Taken}
 use Rattle.machine_objects.specs.inside.Popping.{PopsVector}
-use Rattle.machine_objects.specs.inside.Elements.{PopsKnown, GivesKnown, trap_in}
+use Rattle.machine_objects.specs.inside.Elements.{PopsKnown, GivesKnown, trap_in, trapped_in}
 use Rattle.machine_objects.specs.inside.Giving.{Changes}
 use Rattle.machine_objects.proofs.Carrying.{read-holds, sound-kept, size-behind}
 use Rattle.machine_objects.proofs.Ending.{Comes, denoted-there, vector-type}
@@ -44,6 +44,7 @@ with-vectors : (m : Machine) (vectors : KnownVectors) (names : List Reference) (
     → HeldBy names (record m { vectors = vectors }) c
 with-vectors m vectors names c so h = record {
   unit_is = h.unit_is;
+  place_is = h.place_is;
   frame_is = h.frame_is;
   at_is = h.at_is;
   nums_are = h.nums_are;
@@ -128,9 +129,9 @@ comes-sized r here mid new s t same is k = (size-behind r here mid new.sw same k
 pub still-so : (P : Type 0) (r : Stepped) → P → UnlessDamaged r P
 still-so P Quiet so = so
 still-so P Turns so = so
-still-so P (Telling w) so = so
-still-so P (Halts e) so = so
-still-so P (Breaks fault) so = so
+still-so P Telling so = so
+still-so P Halts so = so
+still-so P Breaks so = so
 still-so P Damaged so = tt
 
 -- what is looked for and what is written are found at the same subscripts
@@ -148,12 +149,12 @@ elements-alike heap id at e line next stuck =
     found-alike heap id (place_of (low_in vector) (length (elements_in vector)) at) e (elements_in vector) line next stuck
 
 -- of an operation whose answer is of no use there is the trap
-trap-comes : (line : Line) (here now : area.Heap) (new : Machine) (is : code.Value → Value → Type 0) (of : Heap) (names : List Reference)
+trap-comes : (line : Line) (here now : area.Heap) (m : Machine) (is : code.Value → Value → Type 0) (of : Heap) (names : List Reference)
     (attempt : Attempt Value) (got : Result code.Value OpFault) → Answers here now is of names attempt got
-    → Comes (trap_in line got) here new (attempted line attempt (λ w. Stuck))
-trap-comes line here now new is of names attempt (Ok v) got = (tt, ap (λ (a : Attempt Value). attempted line a (λ w. Stuck)) got.1)
-trap-comes line here now new is of names attempt (Err (op.Trap trap)) got = (tt, ap (λ (a : Attempt Value). attempted line a (λ w. Stuck)) got)
-trap-comes line here now new is of names attempt (Err (op.Swizzle fault)) got = absurd got
+    → Comes (trap_in got) here (trapped_in line got m) (attempted line attempt (λ w. Stuck))
+trap-comes line here now m is of names attempt (Ok v) got = (tt, ap (λ (a : Attempt Value). attempted line a (λ w. Stuck)) got.1)
+trap-comes line here now m is of names attempt (Err (op.Trap trap)) got = (tt, ap (λ (a : Attempt Value). attempted line a (λ w. Stuck)) got)
+trap-comes line here now m is of names attempt (Err (op.Swizzle fault)) got = absurd got
 
 -- where what follows is the same, so is the attempt
 attempted-same : {A : Type 0} (line : Line) (a : Attempt A) (next other : A → Step) → ((x : A) → next x ≡ other x)
@@ -220,11 +221,11 @@ module _ (line : Line) (kept : Form → Value) (when : Form → Step → Step) (
 
   -- The elements are of the other row, and the subscript was looked for alone.
   pub element-missed : (is : Heap → List Reference → ℕ → code.Value → Value → Type 0) (now : area.Heap) (new : Machine)
-      (got : Result code.Value OpFault) (r : Stepped) → ((s : Step) → when known.form s ≡ Stuck) → r ≡ trap_in line got
+      (got : Result code.Value OpFault) (r : Stepped) → ((s : Step) → when known.form s ≡ Stuck) → r ≡ trap_in got → new ≡ trapped_in line got (record last { sw = now })
       → ((of : Heap) (names : List Reference) (id : ℕ) → IsWorld last.sw of names → DenotesIn last.sw names (Some known.vector) (Vector id)
       → IsKnownAs of id known → Answers last.sw now (is of names id) of names (element_at of (Vector id) place) got)
       → Comes r mid.sw new (element-set line kept when c)
-  element-missed is now new got r misfits trap did =
+  element-missed is now new got r misfits trap left did =
       let y = t.gives names c h in
       let v = q.gives names y.0 y.2 in
       let heap = v.0.store.heap in
@@ -238,4 +239,5 @@ module _ (line : Line) (kept : Form → Value) (when : Form → Step → Step) (
       ∙ ap (λ (k : Form). attempted line (with_element heap (Vector v.1) at (kept k)) (λ of. when k (changed of v.0))) v.6
       ∙ elements-alike heap v.1 at (kept known.form) line (λ of. when known.form (changed of v.0)) (λ of. misfits (changed of v.0)))
       (subst (λ (x : Stepped). Comes x last.sw new (attempted line looked (λ w. Stuck))) (sym trap)
-      (trap-comes line last.sw now new (is heap names v.1) heap names looked got told))
+      (subst (λ (m : Machine). Comes (trap_in got) last.sw m (attempted line looked (λ w. Stuck))) (sym left)
+      (trap-comes line last.sw now (record last { sw = now }) (is heap names v.1) heap names looked got told)))

@@ -5,15 +5,17 @@ ghost use Rattle.ps_stepping.specs.Objects.{set_element_num as set_element_num_o
 ghost use Rattle.paired_ops.specs.World.{IsEmpty};
 ghost use Rattle.machine_state.specs.Holding.{IsHolding, IsSound};
 ghost use Rattle.machine_state.specs.Stepped.{UnlessDamaged, Takes};
-ghost use Rattle.machine_objects.specs.inside.Elements.{trap_in};
+ghost use Rattle.machine_objects.specs.inside.Elements.{trap_in, trapped_in};
 
 use crate::forms::kept_as;
 use crate::gives::done;
 use crate::known::pop_known;
 use crate::pops::{pop_any, pop_int};
+use crate::reaching::{drop_number, drop_reference, write_number, write_reference};
 use heap_ops::shape::is_number;
 use known_vectors::elements::{get_element, set_element};
-use machine_state::{Machine, RunEnd, Stepped};
+use machine_state::ends::trapped;
+use machine_state::{Machine, Stepped};
 use obj_layout::vault::Vault;
 use paired_ops::{OpFault, Value};
 use ps_base::line::Line;
@@ -22,6 +24,23 @@ use ps_base::line::Line;
 /// where the elements are references.
 #[inline]
 pub fn set_element_num<V: Vault>(m: &mut Machine, vault: &mut V, line: Line) -> Stepped
+    requires sound { IsSound m.old }
+    requires holding { IsHolding m.old }
+    requires alive { V.alive vault.old }
+    requires empty { IsEmpty (V.outside vault.old) }
+    ensures takes { Takes (set_element_num_of line) m.old m.new result }
+    ensures leaves { LeavesOutside (V.outside vault.old) (V.outside vault.new) }
+    ensures alive { UnlessDamaged result (V.alive vault.new) }
+{
+    if write_number(m) {
+        return drop_number(m);
+    }
+    place_num(m, vault, line)
+}
+
+// The same, with what is looked up of the vector where it must be, and with the trap of a subscript that is outside.
+#[inline(never)]
+fn place_num<V: Vault>(m: &mut Machine, vault: &mut V, line: Line) -> Stepped
     requires sound { IsSound m.old }
     requires holding { IsHolding m.old }
     requires alive { V.alive vault.old }
@@ -41,7 +60,7 @@ pub fn set_element_num<V: Vault>(m: &mut Machine, vault: &mut V, line: Line) -> 
     };
     if !is_number(known.form) {
         let got = get_element(&mut m.sw, vault, known, at);
-        return trap_of(got, line);
+        return trap_of(m, got, line);
     }
     let to = kept_as(known.form, z);
     let set = set_element(&mut m.sw, known, at, to);
@@ -51,6 +70,23 @@ pub fn set_element_num<V: Vault>(m: &mut Machine, vault: &mut V, line: Line) -> 
 /// As `set_element_num`, where the elements are references.
 #[inline]
 pub fn set_element_ref<V: Vault>(m: &mut Machine, vault: &mut V, line: Line) -> Stepped
+    requires sound { IsSound m.old }
+    requires holding { IsHolding m.old }
+    requires alive { V.alive vault.old }
+    requires empty { IsEmpty (V.outside vault.old) }
+    ensures takes { Takes (set_element_ref_of line) m.old m.new result }
+    ensures leaves { LeavesOutside (V.outside vault.old) (V.outside vault.new) }
+    ensures alive { UnlessDamaged result (V.alive vault.new) }
+{
+    if write_reference(m) {
+        return drop_reference(m);
+    }
+    place_ref(m, vault, line)
+}
+
+// The same for a reference.
+#[inline(never)]
+fn place_ref<V: Vault>(m: &mut Machine, vault: &mut V, line: Line) -> Stepped
     requires sound { IsSound m.old }
     requires holding { IsHolding m.old }
     requires alive { V.alive vault.old }
@@ -70,7 +106,7 @@ pub fn set_element_ref<V: Vault>(m: &mut Machine, vault: &mut V, line: Line) -> 
     };
     if is_number(known.form) {
         let got = get_element(&mut m.sw, vault, known, at);
-        return trap_of(got, line);
+        return trap_of(m, got, line);
     }
     let set = set_element(&mut m.sw, known, at, Value::Ref(to));
     done(m, set, line)
@@ -78,11 +114,14 @@ pub fn set_element_ref<V: Vault>(m: &mut Machine, vault: &mut V, line: Line) -> 
 
 // The trap of an element that was looked for in vain; damaged where it was found, since it is of the other row.
 #[inline(always)]
-fn trap_of(got: Result<Value, OpFault>, line: Line) -> Stepped
-    ensures { result ≡ trap_in line got }
+fn trap_of(m: &mut Machine, got: Result<Value, OpFault>, line: Line) -> Stepped
+    requires { IsSound m.old }
+    ensures answer { result ≡ trap_in got }
+    ensures left { m.new ≡ trapped_in line got m.old }
+    ensures sound { IsSound m.new }
 {
     match got {
-        Err(OpFault::Trap(trap)) => Stepped::Halts(RunEnd::Trapped { trap, line }),
+        Err(OpFault::Trap(trap)) => trapped(m, trap, line),
         _ => Stepped::Damaged,
     }
 }

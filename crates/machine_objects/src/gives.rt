@@ -1,10 +1,11 @@
 ghost use Rattle.machine_state.specs.Holding.{IsSound};
 ghost use Rattle.std.specs.Prelude.{◌≡◌, ◌≤◌, ◌<◌, length, true, false};
 ghost use Rattle.ps_stepping.specs.Config.{frame_words};
-ghost use Rattle.machine_objects.specs.inside.Giving.{failed_of, GivesBound, GivesText, GivesObject, GivesNumber, GivesReference, Changes};
+ghost use Rattle.machine_objects.specs.inside.Giving.{failed_of, failed_in, GivesBound, GivesText, GivesObject, GivesNumber, GivesReference, Changes};
 
+use machine_state::ends::trapped;
 use machine_state::stacks::{push_num, push_ref};
-use machine_state::{FRAME_WORDS, Machine, RunEnd, Stepped};
+use machine_state::{FRAME_WORDS, Machine, Stepped};
 use paired_ops::{OpFault, Value};
 use ps_base::line::Line;
 
@@ -18,18 +19,21 @@ fn is_full(m: &Machine) -> bool
 }
 
 // An operation that failed: its trap, or there was no room in the area; where the stack is full, too, that comes first.
-#[inline(always)]
-fn failed(fault: OpFault, line: Line, full: bool) -> Stepped
-    ensures { result ≡ failed_of fault line full }
+#[inline(never)]
+fn failed(m: &mut Machine, fault: OpFault, line: Line, full: bool) -> Stepped
+    requires { IsSound m.old }
+    ensures answer { result ≡ failed_of fault full }
+    ensures left { m.new ≡ failed_in fault line full m.old }
+    ensures sound { IsSound m.new }
 {
     match fault {
-        OpFault::Trap(trap) => Stepped::Halts(RunEnd::Trapped { trap, line }),
+        OpFault::Trap(trap) => trapped(m, trap, line),
         OpFault::Swizzle(fault) => {
             if full {
-                Stepped::Damaged
-            } else {
-                Stepped::Breaks(fault)
+                return Stepped::Damaged;
             }
+            m.fault = fault;
+            Stepped::Breaks
         }
     }
 }
@@ -43,7 +47,10 @@ pub(crate) fn give_text(m: &mut Machine, made: Result<u32, OpFault>, line: Line)
     m.sw.sound();
     match made {
         Ok(at) => push_ref(m, Some(at)),
-        Err(fault) => failed(fault, line, is_full(m)),
+        Err(fault) => {
+            let full = is_full(m);
+            failed(m, fault, line, full)
+        }
     }
 }
 
@@ -56,7 +63,10 @@ pub(crate) fn give_object(m: &mut Machine, made: Result<u32, OpFault>, line: Lin
     m.sw.sound();
     match made {
         Ok(at) => push_ref(m, Some(at)),
-        Err(fault) => failed(fault, line, is_full(m)),
+        Err(fault) => {
+            let full = is_full(m);
+            failed(m, fault, line, full)
+        }
     }
 }
 
@@ -71,7 +81,7 @@ pub(crate) fn give_number(m: &mut Machine, got: Result<Value, OpFault>, line: Li
         Ok(Value::Num(z)) => push_num(m, z),
         Ok(Value::Flag(flag)) => push_num(m, i32::from(flag)),
         Ok(Value::Ref(_)) => Stepped::Damaged,
-        Err(fault) => failed(fault, line, false),
+        Err(fault) => failed(m, fault, line, false),
     }
 }
 
@@ -98,19 +108,19 @@ pub(crate) fn give_reference(m: &mut Machine, got: Result<Value, OpFault>, line:
     match got {
         Ok(Value::Ref(to)) => push_ref(m, to),
         Ok(_) => Stepped::Damaged,
-        Err(fault) => failed(fault, line, false),
+        Err(fault) => failed(m, fault, line, false),
     }
 }
 
 /// Goes on behind what was written, or ends in the operation's trap.
 #[inline(always)]
-pub(crate) fn done(m: &Machine, written: Result<(), OpFault>, line: Line) -> Stepped
-    requires { IsSound m.now }
-    ensures { Changes line m.now m.now result written }
+pub(crate) fn done(m: &mut Machine, written: Result<(), OpFault>, line: Line) -> Stepped
+    requires { IsSound m.old }
+    ensures { Changes line m.old m.new result written }
 {
     m.sw.sound();
     match written {
         Ok(()) => Stepped::Quiet,
-        Err(fault) => failed(fault, line, false),
+        Err(fault) => failed(m, fault, line, false),
     }
 }

@@ -10,6 +10,8 @@ mod known;
 pub mod lists;
 pub mod makes;
 mod pops;
+mod reaching;
+mod rows;
 pub mod structures;
 pub mod texts;
 mod values;

@@ -16,12 +16,13 @@ use crate::forms::kept_as;
 use crate::gives::{done, give_number, give_reference};
 use crate::pops::{pop_any, pop_denoting, pop_int, pop_object};
 use heap_ops::shape::is_number;
+use known_classes::access::{get_field, set_field};
 use machine_state::stacks::{push_num, push_ref};
 use machine_state::values::number;
 use machine_state::{Machine, Stepped};
 use obj_layout::vault::Vault;
 use paired_ops::Value;
-use paired_ops::structures::{get_field, is_class, set_field};
+use paired_ops::structures::is_class;
 use paired_ops::values::is_one;
 use ps_base::line::Line;
 use ps_base::operator::Relation;
@@ -91,7 +92,7 @@ pub fn field_num<V: Vault>(m: &mut Machine, vault: &mut V, k: u32, n: u32, line:
     ensures leaves { LeavesOutside (V.outside vault.old) (V.outside vault.new) }
     ensures alive { UnlessDamaged result (V.alive vault.new) }
 {
-    let Some((class, located)) = field_at(m, vault, k, n) else {
+    let Some((class, located)) = field_at(m, vault, k, n, 0) else {
         return Stepped::Damaged;
     };
     if !is_number(located.place.form) {
@@ -115,7 +116,7 @@ pub fn field_ref<V: Vault>(m: &mut Machine, vault: &mut V, k: u32, n: u32, line:
     ensures leaves { LeavesOutside (V.outside vault.old) (V.outside vault.new) }
     ensures alive { UnlessDamaged result (V.alive vault.new) }
 {
-    let Some((class, located)) = field_at(m, vault, k, n) else {
+    let Some((class, located)) = field_at(m, vault, k, n, 0) else {
         return Stepped::Damaged;
     };
     if is_number(located.place.form) {
@@ -145,7 +146,7 @@ pub fn set_field_num<V: Vault>(
     ensures leaves { LeavesOutside (V.outside vault.old) (V.outside vault.new) }
     ensures alive { UnlessDamaged result (V.alive vault.new) }
 {
-    let Some((class, located)) = field_at(m, vault, k, n) else {
+    let Some((class, located)) = field_at(m, vault, k, n, 0) else {
         return Stepped::Damaged;
     };
     if !is_number(located.place.form) {
@@ -179,7 +180,7 @@ pub fn set_field_ref<V: Vault>(
     ensures leaves { LeavesOutside (V.outside vault.old) (V.outside vault.new) }
     ensures alive { UnlessDamaged result (V.alive vault.new) }
 {
-    let Some((class, located)) = field_at(m, vault, k, n) else {
+    let Some((class, located)) = field_at(m, vault, k, n, 1) else {
         return Stepped::Damaged;
     };
     if is_number(located.place.form) {

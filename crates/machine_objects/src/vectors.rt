@@ -9,6 +9,7 @@ ghost use Rattle.machine_state.specs.Stepped.{UnlessDamaged, Takes};
 use crate::gives::{give_bound, give_number, give_reference};
 use crate::known::pop_known;
 use crate::pops::{pop_int, pop_vector};
+use crate::reaching::{put_number, put_reference, reached_number, reached_reference};
 use known_vectors::elements::get_element;
 use machine_state::{Machine, Stepped};
 use obj_layout::vault::Vault;
@@ -18,6 +19,23 @@ use ps_base::line::Line;
 /// Pops a subscript and a vector, and pushes its element, which is an int or a bool.
 #[inline]
 pub fn element_num<V: Vault>(m: &mut Machine, vault: &mut V, line: Line) -> Stepped
+    requires sound { IsSound m.old }
+    requires holding { IsHolding m.old }
+    requires alive { V.alive vault.old }
+    requires empty { IsEmpty (V.outside vault.old) }
+    ensures takes { Takes (element_num_of line) m.old m.new result }
+    ensures leaves { LeavesOutside (V.outside vault.old) (V.outside vault.new) }
+    ensures alive { UnlessDamaged result (V.alive vault.new) }
+{
+    match reached_number(m) {
+        Some(z) => put_number(m, z),
+        None => find_num(m, vault, line),
+    }
+}
+
+// The same, with what is looked up of the vector where it must be, and with the trap of a subscript that is outside.
+#[inline(never)]
+fn find_num<V: Vault>(m: &mut Machine, vault: &mut V, line: Line) -> Stepped
     requires sound { IsSound m.old }
     requires holding { IsHolding m.old }
     requires alive { V.alive vault.old }
@@ -39,6 +57,23 @@ pub fn element_num<V: Vault>(m: &mut Machine, vault: &mut V, line: Line) -> Step
 /// Pops a subscript and a vector, and pushes its element, which is a reference.
 #[inline]
 pub fn element_ref<V: Vault>(m: &mut Machine, vault: &mut V, line: Line) -> Stepped
+    requires sound { IsSound m.old }
+    requires holding { IsHolding m.old }
+    requires alive { V.alive vault.old }
+    requires empty { IsEmpty (V.outside vault.old) }
+    ensures takes { Takes (element_ref_of line) m.old m.new result }
+    ensures leaves { LeavesOutside (V.outside vault.old) (V.outside vault.new) }
+    ensures alive { UnlessDamaged result (V.alive vault.new) }
+{
+    match reached_reference(m) {
+        Some(to) => put_reference(m, to),
+        None => find_ref(m, vault, line),
+    }
+}
+
+// The same for a reference.
+#[inline(never)]
+fn find_ref<V: Vault>(m: &mut Machine, vault: &mut V, line: Line) -> Stepped
     requires sound { IsSound m.old }
     requires holding { IsHolding m.old }
     requires alive { V.alive vault.old }

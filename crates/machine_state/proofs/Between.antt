@@ -9,7 +9,7 @@ use Rattle.machine_state.specs.declared.stepped.Stepped.{Stepped}
 use Rattle.machine_state.specs.declared.stepped.Stepped.TheVariants.{Damaged}
 use Rattle.machine_state.specs.Holding.{Holds, IsSound, object_in}
 use Rattle.machine_state.specs.Stepped.{Takes, Does, KeepsSize}
-use Rattle.machine_state.specs.inside.Taking.{Taken, TakenRef, TakesRef, HasTop, HasTopRef, ReadsRef}
+use Rattle.machine_state.specs.inside.Taking.{Taken, TakenRef, TakesTwo, TakesRef, HasTop, HasTopRef, ReadsRef}
 
 module _ (old mid new : Machine) (r : Stepped) where
   -- behind what was taken
@@ -89,6 +89,14 @@ module _ (old new : Machine) (r : Stepped) where
         let has = reads c h in
         subst (λ (s : Step). Does s r new) (sym (same c h)) (t.does has.1 (c.locals.refs slot) c has.2 has.3);
   }
+
+  -- the step is another one from each configuration that the machine holds
+  pub same-held : (of other : Config → Step) → ((c : Config) → Holds old c → other c ≡ of c) → Takes of old new r → Takes other old new r
+  same-held of other same t = record { sound = t.sound; size = t.size; does = λ c h. subst (λ (s : Step). Does s r new) (sym (same c h)) (t.does c h) }
+
+  -- what follows two numbers does not go by them
+  pub any-two : (of : Step) → Takes (λ c. of) old new r → TakesTwo (λ c. of) old new r
+  any-two of t = record { sound = t.sound; size = t.size; does = λ c a b rest h tops. t.does c h }
 
   -- the step is another one
   pub same-step : (of other : Config → Step) → ((c : Config) → other c ≡ of c) → Takes of old new r → Takes other old new r

@@ -15,7 +15,7 @@ use Rattle.machine_state.specs.Holding.{Holds, Standing}
 
 module _ (m : Machine) (c : Config) (h : Holds m c) where
   abbrev At : ℕ → ℕ → Config → Type 0
-  At at turns d = Standing m.sw m.layouts.entries.items m.vectors.entries.items m.code m.frame at m.nums.items m.refs.items turns d
+  At at turns d = Standing m.sw m.classes m.vectors.entries.items m.code m.place m.frame at m.nums.items m.refs.items turns d
 
   -- at another offset
   pub stands_at : (to : ℕ) → At to m.turns (record c { at = to })
@@ -23,6 +23,7 @@ module _ (m : Machine) (c : Config) (h : Holds m c) where
     names = h.names;
     held = record {
       unit_is = h.held.unit_is;
+      place_is = h.held.place_is;
       frame_is = h.held.frame_is;
       at_is = refl;
       nums_are = h.held.nums_are;
@@ -51,6 +52,7 @@ module _ (m : Machine) (c : Config) (h : Holds m c) where
           names = h.names;
           held = record {
             unit_is = h.held.unit_is;
+            place_is = h.held.place_is;
             frame_is = h.held.frame_is;
             at_is = refl;
             nums_are = h.held.nums_are;

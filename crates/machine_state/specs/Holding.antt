@@ -4,13 +4,14 @@ use Rattle.ps_base.specs.declared.code_unit.Frame.{Frame}
 use Rattle.obj_layout.specs.declared.reference.Reference.{Reference}
 use Rattle.swizzle.specs.Heap as area
 use Rattle.swizzle.specs.Heap.{top_of}
-use Rattle.heap_ops.specs.declared.layouts.Entry.{Entry}
-use Rattle.heap_ops.specs.Layouts.{AreSo}
+use Rattle.known_classes.specs.declared.classes.KnownClasses.{KnownClasses}
+use Rattle.known_classes.specs.Classes.{IsRight}
 use Rattle.known_vectors.specs.declared.known.KnownVector.{KnownVector}
 use Rattle.known_vectors.specs.Known.{AreSo as AreKnown}
-use Rattle.proc_values.specs.Loaded.{IsUnit}
+use Rattle.proc_values.specs.declared.reading.CodePlace.{CodePlace}
+use Rattle.proc_values.specs.Loaded.{IsUnit, IsUnitPlace}
 use Rattle.ps_meaning.specs.Values.{Value}
-use Rattle.ps_stepping.specs.Config.{Config, frame_words, frame_in}
+use Rattle.ps_stepping.specs.Config.{Config, frame_words, frame_in, constants_in}
 use Rattle.paired_ops.specs.World.{IsWorld, DenotesIn}
 use Rattle.machine_state.specs.declared.machine.Machine.{Machine}
 
@@ -51,8 +52,9 @@ pub record IsRefRow (here : area.Heap) (names : List Reference) (words : List �
 
 -- These words and numbers of a machine stand for the configuration; there are no callers yet. Its area stands for the heap, and its words are
 -- counted.
-pub record Held (names : List Reference) (here : area.Heap) (entries : List Entry) (known : List KnownVector) (code : ℕ) (frame : Frame) (at : ℕ) (nums : List ℤ) (refs : List ℕ) (turns : ℕ) (c : Config) : Type 0 where
+pub record Held (names : List Reference) (here : area.Heap) (classes : KnownClasses) (known : List KnownVector) (code : ℕ) (place : CodePlace) (frame : Frame) (at : ℕ) (nums : List ℤ) (refs : List ℕ) (turns : ℕ) (c : Config) : Type 0 where
   pub unit_is : IsUnit here code c.unit
+  pub place_is : IsUnitPlace code c.unit place
   pub frame_is : frame_in c.unit ≡ frame
   pub at_is : c.at ≡ at
   pub nums_are : IsRow nums frame.nums c.nums c.locals.nums
@@ -60,20 +62,20 @@ pub record Held (names : List Reference) (here : area.Heap) (entries : List Entr
   pub no_callers : c.callers ≡ []
   pub turns_are : c.store.turns ≡ turns
   pub world : IsWorld here c.store.heap names
-  pub entries_are : AreSo here entries
+  pub entries_are : IsRight here (constants_in c.unit) classes
   pub known_are : AreKnown here c.store.heap names known
   pub counted : 8 * top_of here ≤ c.store.counted
 
 -- under some row of names
-pub record Standing (here : area.Heap) (entries : List Entry) (known : List KnownVector) (code : ℕ) (frame : Frame) (at : ℕ) (nums : List ℤ) (refs : List ℕ) (turns : ℕ) (c : Config) : Type 0 where
+pub record Standing (here : area.Heap) (classes : KnownClasses) (known : List KnownVector) (code : ℕ) (place : CodePlace) (frame : Frame) (at : ℕ) (nums : List ℤ) (refs : List ℕ) (turns : ℕ) (c : Config) : Type 0 where
   pub names : List Reference
-  pub held : Held names here entries known code frame at nums refs turns c
+  pub held : Held names here classes known code place frame at nums refs turns c
 
 abbrev pub HeldBy : List Reference → Machine → Config → Type 0
-HeldBy names m c = Held names m.sw m.layouts.entries.items m.vectors.entries.items m.code m.frame m.at m.nums.items m.refs.items m.turns c
+HeldBy names m c = Held names m.sw m.classes m.vectors.entries.items m.code m.place m.frame m.at m.nums.items m.refs.items m.turns c
 
 abbrev pub Holds : Machine → Config → Type 0
-Holds m c = Standing m.sw m.layouts.entries.items m.vectors.entries.items m.code m.frame m.at m.nums.items m.refs.items m.turns c
+Holds m c = Standing m.sw m.classes m.vectors.entries.items m.code m.place m.frame m.at m.nums.items m.refs.items m.turns c
 
 -- it stands for a configuration
 abbrev pub IsHolding : Machine → Type 0

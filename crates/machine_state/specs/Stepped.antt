@@ -27,6 +27,10 @@ end_of in_code.Done = Done
 end_of (in_code.Trapped trap line) = Trapped trap line
 end_of in_code.OutOfTurns = OutOfTurns
 
+-- the machine with this end
+abbrev pub ended : RunEnd → Machine → Machine
+ended e m = record m { end = e }
+
 -- the text of an item; that of a text lies in the area
 abbrev pub item_text : area.Heap → Item → List ℕ
 item_text here (item.Int z) = signed_decimal z
@@ -49,23 +53,23 @@ pub record IsFull (here : area.Heap) (counted : ℕ) (fault : SwizzleFault) : Ty
   pub full : here.size < top + wanted
   pub passed : 8 * here.size < counted
 
--- The step is what was answered. Where the run goes on, the machine holds the next configuration; where the area was full, the bytes that would be
--- counted then pass it.
+-- The step is what was answered, with the write, the end or the fault that the machine names. Where the run goes on, the machine holds the next
+-- configuration; where the area was full, the bytes that would be counted then pass it.
 abbrev pub Does : Step → Stepped → Machine → Type 0
 Does s Quiet m = (events : List Event) × (next : Config) × (s ≡ Goes events next) × (outputs events ≡ []) × Holds m next
 Does s Turns m = (next : Config) × (s ≡ Goes (Turn next.store.counted ∷ []) next) × Holds m next
-Does s (Writes w) m = (next : Config) × (s ≡ Goes (some_out (text_of m.sw w) next.store.counted) next) × IsItem m.sw w.item × Holds m next
-Does s (Halts e) m = s ≡ Stops (end_of e)
-Does s (Breaks fault) m = (next : Config) × (s ≡ Goes [] next) × IsFull m.sw next.store.counted fault
+Does s Writes m = (next : Config) × (s ≡ Goes (some_out (text_of m.sw m.writing) next.store.counted) next) × IsItem m.sw m.writing.item × Holds m next
+Does s Halts m = s ≡ Stops (end_of m.end)
+Does s Breaks m = (next : Config) × (s ≡ Goes [] next) × IsFull m.sw next.store.counted m.fault
 Does s Damaged m = s ≡ Stuck
 
 -- the area keeps its size, where it is still of use
 abbrev pub KeepsSize : Stepped → area.Heap → area.Heap → Type 0
 KeepsSize Quiet old new = new.size ≡ old.size
 KeepsSize Turns old new = new.size ≡ old.size
-KeepsSize (Writes w) old new = new.size ≡ old.size
-KeepsSize (Breaks fault) old new = new.size ≡ old.size
-KeepsSize (Halts e) old new = Unit {0}
+KeepsSize Writes old new = new.size ≡ old.size
+KeepsSize Breaks old new = new.size ≡ old.size
+KeepsSize Halts old new = Unit {0}
 KeepsSize Damaged old new = Unit {0}
 
 -- From each configuration that the machine holds, the function's step is what was answered.
@@ -84,7 +88,7 @@ pub record TakesStep (old new : Machine) (answer : Stepped) : Type 0 where
 abbrev pub UnlessDamaged : Stepped → Type 0 → Type 0
 UnlessDamaged Quiet so = so
 UnlessDamaged Turns so = so
-UnlessDamaged (Writes w) so = so
-UnlessDamaged (Halts e) so = so
-UnlessDamaged (Breaks fault) so = so
+UnlessDamaged Writes so = so
+UnlessDamaged Halts so = so
+UnlessDamaged Breaks so = so
 UnlessDamaged Damaged so = Unit {0}

@@ -5,6 +5,7 @@ ghost use Rattle.ps_stepping.specs.Machine.{on, forward as forward_of, back as b
 ghost use Rattle.machine_state.specs.Holding.{IsSound};
 ghost use Rattle.machine_state.specs.Stepped.{Takes};
 
+use crate::ends::halt;
 use crate::machine::Machine;
 use crate::run_end::RunEnd;
 use crate::stacks::{pop_num, top_num};
@@ -48,7 +49,7 @@ pub fn turn_to(m: &mut Machine, to: u32) -> Stepped
     ensures { Takes (λ c. turn_to_of (spent c.store) to c) m.old m.new result }
 {
     if m.turns == 0 {
-        return Stepped::Halts(RunEnd::OutOfTurns);
+        return halt(m, RunEnd::OutOfTurns);
     }
     m.turns -= 1;
     m.at = to;

@@ -2,6 +2,7 @@
 //! and references alone do with them.
 #![tactic(auto)]
 
+pub mod ends;
 pub mod jumps;
 pub mod loops;
 mod machine;

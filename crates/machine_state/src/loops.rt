@@ -6,9 +6,9 @@ ghost use Rattle.ps_stepping.specs.Machine.{on, with_num, back as back_of, start
 ghost use Rattle.machine_state.specs.Holding.{IsSound};
 ghost use Rattle.machine_state.specs.Stepped.{Takes};
 
+use crate::ends::trapped;
 use crate::jumps::{back, forward, quiet, turn_to};
 use crate::machine::Machine;
-use crate::run_end::RunEnd;
 use crate::stacks::{num_at, set_num_at};
 use crate::stepped::Stepped;
 use ps_base::line::Line;
@@ -62,10 +62,7 @@ fn started(
     ensures { Takes (started_of own to line control limit step) m.old m.new result }
 {
     if is_still(step) {
-        return Stepped::Halts(RunEnd::Trapped {
-            trap: Trap::Bounds,
-            line,
-        });
+        return trapped(m, Trap::Bounds, line);
     }
     if goes_on(limit, step, control) {
         let behind = m.at;

@@ -108,10 +108,8 @@ pub fn put_num(m: &mut Machine, z: i32) -> Stepped
     requires room { vec_len m.old.nums < frame_words }
     ensures { Takes (put_num_of z) m.old m.new result }
 {
-    match m.nums.push(z) {
-        Ok(()) => Stepped::Quiet,
-        Err(_) => unreachable!(),
-    }
+    m.nums.push_reserved(z);
+    Stepped::Quiet
 }
 
 /// Pushes a number, where the frame has room for one more.
@@ -153,10 +151,8 @@ pub fn put_ref(m: &mut Machine, to: Option<u32>) -> Stepped
     ensures { TakesRef push_ref_of m.old to m.new result }
 {
     m.sw.sound();
-    match m.refs.push(word(to)) {
-        Ok(()) => Stepped::Quiet,
-        Err(_) => unreachable!(),
-    }
+    m.refs.push_reserved(word(to));
+    Stepped::Quiet
 }
 
 /// Pushes a reference, where the frame has room for one more.

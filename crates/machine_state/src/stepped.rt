@@ -1,19 +1,17 @@
-use crate::run_end::RunEnd;
-use swizzle::fault::SwizzleFault;
-
-/// What a step came to. A write is left to the caller, and the other steps tell nothing.
+/// What a step came to. A write is left to the caller, and the other steps tell nothing. What a write writes, where the run ended and why an object
+/// couldn't be made stand in the machine.
 #[derive(Clone, Copy)]
 pub enum Stepped {
     /// The run goes on.
     Quiet,
     /// The run goes on, into another turn.
     Turns,
-    /// The run goes on behind this write.
-    Writes(Writing),
-    /// The run is at its end.
-    Halts(RunEnd),
-    /// An object couldn't be made or fetched; the machine is of no use.
-    Breaks(SwizzleFault),
+    /// The run goes on behind the machine's write.
+    Writes,
+    /// The run is at the machine's end.
+    Halts,
+    /// An object couldn't be made or fetched, for the machine's fault; the machine is of no use.
+    Breaks,
     /// There is no step: the code isn't what a machine can run.
     Damaged,
 }

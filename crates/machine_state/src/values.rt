@@ -9,9 +9,9 @@ ghost use Rattle.machine_state.specs.Holding.{IsSound};
 ghost use Rattle.machine_state.specs.Stepped.{Takes};
 ghost use Rattle.machine_state.specs.inside.Taking.{TakesTwo, TakesRef};
 
+use crate::ends::trapped;
 use crate::jumps::{is_one, quiet};
 use crate::machine::Machine;
-use crate::run_end::RunEnd;
 use crate::stacks::{
     num_at, object, pop_num, pop_ref, push_num, push_ref, put_for_two, put_num, ref_at, set_num_at,
     set_ref_at, top_num, top_ref, top_two,
@@ -124,7 +124,7 @@ fn answered(m: &mut Machine, answer: Result<i32, Trap>, line: Line) -> Stepped
 {
     match answer {
         Ok(value) => put_num(m, value),
-        Err(trap) => Stepped::Halts(RunEnd::Trapped { trap, line }),
+        Err(trap) => trapped(m, trap, line),
     }
 }
 
@@ -137,7 +137,7 @@ fn answered_for_two(m: &mut Machine, answer: Result<i32, Trap>, line: Line) -> S
 {
     match answer {
         Ok(value) => put_for_two(m, value),
-        Err(trap) => Stepped::Halts(RunEnd::Trapped { trap, line }),
+        Err(trap) => trapped(m, trap, line),
     }
 }
 

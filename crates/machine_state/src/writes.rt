@@ -8,6 +8,7 @@ ghost use Rattle.ps_stepping.specs.Machine.{Stops, written as written_of, write_
 ghost use Rattle.machine_state.specs.Holding.{IsSound};
 ghost use Rattle.machine_state.specs.Stepped.{Takes, item_text, IsItem};
 
+use crate::ends::{halt, trapped};
 use crate::jumps::is_one;
 use crate::machine::Machine;
 use crate::run_end::RunEnd;
@@ -32,19 +33,16 @@ fn is_width(width: Option<i32>) -> bool
 
 /// Writes an item where its width isn't too great.
 #[inline(always)]
-pub fn written(m: &Machine, width: Option<i32>, item: Item, line: Line) -> Stepped
-    requires sound { IsSound m.now }
-    requires item { IsItem m.now.sw item }
-    ensures { Takes (written_of line width (item_text m.now.sw item)) m.now m.now result }
+pub fn written(m: &mut Machine, width: Option<i32>, item: Item, line: Line) -> Stepped
+    requires sound { IsSound m.old }
+    requires item { IsItem m.old.sw item }
+    ensures { Takes (written_of line width (item_text m.old.sw item)) m.old m.new result }
 {
-    let _ = m;
     if is_width(width) {
-        return Stepped::Writes(Writing { width, item });
+        m.writing = Writing { width, item };
+        return Stepped::Writes;
     }
-    Stepped::Halts(RunEnd::Trapped {
-        trap: Trap::TooLong,
-        line,
-    })
+    trapped(m, Trap::TooLong, line)
 }
 
 /// Writes an int, in places where a width was pushed above it.
@@ -84,13 +82,13 @@ pub fn returned(m: &mut Machine, kind: u32) -> Stepped
     ensures { Takes (returned_of kind) m.old m.new result }
 {
     match kind {
-        0 => Stepped::Halts(RunEnd::Done),
+        0 => halt(m, RunEnd::Done),
         1 => match pop_num(m) {
-            Some(_) => Stepped::Halts(RunEnd::Done),
+            Some(_) => halt(m, RunEnd::Done),
             None => Stepped::Damaged,
         },
         2 => match pop_ref(m) {
-            Some(_) => Stepped::Halts(RunEnd::Done),
+            Some(_) => halt(m, RunEnd::Done),
             None => Stepped::Damaged,
         },
         _ => Stepped::Damaged,
@@ -99,13 +97,9 @@ pub fn returned(m: &mut Machine, kind: u32) -> Stepped
 
 /// Ends the run by the program's own will.
 #[inline(always)]
-pub fn abort(m: &Machine, line: Line) -> Stepped
-    requires { IsSound m.now }
-    ensures { Takes (λ c. Stops (Trapped Abort line)) m.now m.now result }
+pub fn abort(m: &mut Machine, line: Line) -> Stepped
+    requires { IsSound m.old }
+    ensures { Takes (λ c. Stops (Trapped Abort line)) m.old m.new result }
 {
-    let _ = m;
-    Stepped::Halts(RunEnd::Trapped {
-        trap: Trap::Abort,
-        line,
-    })
+    trapped(m, Trap::Abort, line)
 }

@@ -21,7 +21,7 @@ use Rattle.heap_places.specs.Places.{NoText, FailsFetch, NamesDamage}
 use Rattle.heap_places.proofs.PlaceLaws.{slot-name}
 use Rattle.text_forms.specs.declared.forms.Form.{Form}
 use Rattle.ps_meaning.specs.Values.{Value, Num, Flag, Text, Nil, Pointer, Vector, Procedure, Nothing}
-use Rattle.ps_meaning.specs.Objects.{Heap, Object, Structure, Elements, object_at}
+use Rattle.ps_meaning.specs.Objects.{Heap, Object, Structure, Elements, Scope, object_at}
 use Rattle.heap_meaning.specs.Standing.{StandsFor, IsAs, IsStructure, IsVector, IsLike}
 use Rattle.heap_meaning.specs.Paired.{paired}
 use Rattle.heap_meaning.proofs.StandingLaws.{text-more, as-more}
@@ -62,6 +62,7 @@ structure-at here of names at id h w p = let b = both-at here of names at id h w
     cases : (o : Object) → object_at of id ≡ Some o → IsLike (alone here) (paired names) (shown_at here at) o → StructureAt here of names at id
     cases (Structure class fields) means like = record { held = p.held; pair = p.pair; class = class; fields = fields; means = means; is = like }
     cases (Elements ty low elements) means like = let bad : kind.Structure ≡ kind.Vector = sym p.kind ∙ like.rows.kind_is in absurd (cc)
+    cases (Scope text parent names) means like = absurd like
 
 pub record VectorAt (here : area.Heap) (of : Heap) (names : List reference.Reference) (at id : ℕ) : Type 0 where
   pub held : IsHeld here at
@@ -80,6 +81,7 @@ vector-at here of names at id h w p = let b = both-at here of names at id h w p.
     cases (Structure class fields) means like = let bad : kind.Vector ≡ kind.Structure = sym p.kind ∙ like.kind_is in absurd (cc)
     cases (Elements ty low elements) means like =
         record { held = p.held; pair = p.pair; ty = ty; low = low; elements = elements; means = means; is = like }
+    cases (Scope text parent names) means like = absurd like
 
 -- The text that such an object refers to first.
 pub first-text : (here : area.Heap) (names : List reference.Reference) (it : Shown) (of : Kind) (text : List ℕ) (first : ℕ → List ℕ)

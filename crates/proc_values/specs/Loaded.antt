@@ -1,5 +1,5 @@
 -- A unit that lies in a heap: its code object, and the objects of its constants.
-use Rattle.std.specs.Prelude.{◌≡◌, ℕ, zero, suc, ◌<◌, ◌^◌, List, [], ◌∷◌, Option, Some, None}
+use Rattle.std.specs.Prelude.{◌≡◌, ℕ, zero, suc, ◌+◌, ◌<◌, ◌^◌, List, [], ◌∷◌, length, Option, Some, None}
 use Rattle.ps_base.specs.CodeUnit.{UnitView, unit, ConstantView, text, literal, ConstantsView, no_constants, constant_then}
 use Rattle.ps_base.specs.declared.code_unit.Frame.{Frame}
 use Rattle.obj_area.specs.Words.{AreBytes}
@@ -10,6 +10,7 @@ use Rattle.swizzle.specs.Joint.{shown_at}
 use Rattle.swizzle.specs.Text.{HasBytes, text_at}
 use Rattle.swizzle.specs.Touch.{Denotes, Stays}
 use Rattle.proc_values.specs.Units.{count_of, frame_word}
+use Rattle.proc_values.specs.declared.reading.CodePlace.{CodePlace}
 
 -- a text with these bytes begins there
 pub record IsText (heap : Heap) (at : ℕ) (bytes : List ℕ) : Type 0 where
@@ -41,6 +42,10 @@ unfoldable mutual
   pub IsConstant : Heap → ℕ → ConstantView → Type 0
   IsConstant heap at (text bytes) = IsText heap at bytes
   IsConstant heap at (literal code) = IsUnit heap at code
+
+-- where the bytes of a unit's code lie, whose code object begins there: behind its header, its constants, its home and its frame
+abbrev pub IsUnitPlace : ℕ → UnitView → CodePlace → Type 0
+IsUnitPlace at (unit code constants frame) place = (place.first ≡ at + 6 + count_of constants) × (place.count ≡ length code)
 
 -- the constant of a number
 abbrev pub constant_numbered : ConstantsView → ℕ → Option ConstantView

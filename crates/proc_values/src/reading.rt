@@ -1,10 +1,11 @@
 ghost use Rattle.std.specs.Prelude.{◌≡◌, ◌<◌, ◌^◌, ◌↔◌, true, length, OnOk};
 ghost use Rattle.obj_layout.specs.declared.kind.Kind.TheVariants.{Code};
 ghost use Rattle.swizzle.specs.Heap.{IsHeld};
-ghost use Rattle.proc_values.specs.Reading.{HasConstant, GivesConstant, GivesInstr, IsDamaged};
+ghost use Rattle.swizzle.specs.Heap.{header_at};
+ghost use Rattle.swizzle.specs.Text.{text_at};
+ghost use Rattle.proc_values.specs.Reading.{HasConstant, GivesConstant, GivesInstr, IsInstrIn, IsPlaceOf, IsDamaged};
 ghost use Rattle.obj_layout.specs.declared.vault.VaultFault.TheVariants.{Damaged};
 ghost use Rattle.swizzle.specs.declared.fault.SwizzleFault.TheVariants.{Vault as InVault};
-ghost use Rattle.proc_values.specs.inside.Spelled.{IsInstrIn};
 
 use obj_layout::kind::Kind;
 use obj_layout::vault::{Vault, VaultFault};
@@ -59,6 +60,36 @@ pub fn instr_at(sw: &Swizzle, code: u32, at: u32) -> Result<(Instr, u32), Swizzl
     }
 }
 
+/// Where the bytes of a code object lie: the index of the word at which they begin, and how many they are.
+#[derive(Clone, Copy)]
+pub struct CodePlace {
+    pub first: u32,
+    pub count: u32,
+}
+
+/// Where the bytes of a code object lie.
+pub fn code_place(sw: &Swizzle, code: u32) -> CodePlace
+    requires held { IsHeld sw.now code }
+    requires kind { (header_at sw.now code).kind ≡ Code }
+    ensures { IsPlaceOf sw.now code result }
+{
+    sw.sound();
+    CodePlace {
+        first: code + 6 + sw.refs(code),
+        count: sw.text(code).len() as u32,
+    }
+}
+
+/// The instruction at an offset of a code object whose bytes lie in a known place, and the offset behind it; None exactly where no instruction is
+/// spelled there. The object isn't looked at.
+#[inline(always)]
+pub fn instr_within(sw: &Swizzle, code: u32, place: CodePlace, at: u32) -> Option<(Instr, u32)>
+    requires { IsPlaceOf sw.now code place }
+    ensures { IsInstrIn (text_at sw.now code) at result }
+{
+    instr_in(sw.text_within(code, place.first, place.count), at)
+}
+
 // The object is code.
 #[inline]
 fn is_code(kind: Kind) -> bool
@@ -68,7 +99,7 @@ fn is_code(kind: Kind) -> bool
 }
 
 // The instruction that is spelled at an offset of the bytes, and the offset behind it.
-#[inline]
+#[inline(always)]
 fn instr_in(bytes: &[u8], at: u32) -> Option<(Instr, u32)>
     requires { length bytes.now < 2 ^ 32 }
     ensures { IsInstrIn bytes.now at result }

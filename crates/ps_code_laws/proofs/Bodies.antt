@@ -1,5 +1,5 @@
 -- The code of a body does what its clause means, and the value goes back to the body that waits.
-use Rattle.std.proofs.Common.{◌≡◌, ℕ, ◌+◌, ◌≤◌, Bool, true, false, List, [], ◌∷◌, ◌++◌, Option, Some, None, inl, inr, refl, sym, ap, ◌∙◌, subst, append_assoc, append-nil, arith}
+use Rattle.std.proofs.Common.{◌≡◌, ℕ, ◌+◌, ◌≤◌, Bool, true, false, List, [], ◌∷◌, ◌++◌, length, Option, Some, None, inl, inr, refl, sym, ap, ◌∙◌, subst, append_assoc, append-nil, arith}
 use Rattle.std.specs.Prelude.{if◌then◌else◌}
 use Rattle.ps_base.specs.TyView.{TyView}
 use Rattle.ps_base.specs.TyView as types
@@ -216,7 +216,7 @@ body_meets told around (body params gives tree None line) n typed_body runs hand
     let at_return = after_clause u tree 0 1 (instr.Return (choice.kind_of gives) ∷ []) ahead in
     record {
       follows = λ callers frame state turns typed_heap are_handed.
-          let o = meant n of frame state in
+          let o = meant n (length callers) of frame state in
           let w = way_to u callers gives o in
           let start : Origin = record { turns = n; heap = state.store.heap; locals = k.locals } in
           let d = clause_does w start 0 1 k.runs (front u 0 (emit tree 0 1) (instr.Return (choice.kind_of gives) ∷ []) ahead) names in
@@ -243,14 +243,14 @@ runs_by c gives (Ends e state) h =
 empty_typed : IsTypedHeap []
 empty_typed id object e = absurd cc
 
-pub program_runs : (told : Told) (program : BodyNode) (turns : ℕ) → IsWellTyped program → RunsWhole program →
+pub program_runs : (told : Told) (program : BodyNode) (turns : ℕ) (input : List ℕ) → IsWellTyped program → RunsWhole program →
     slot_count program ≤ frame_words → HasUnit program →
-    machine.Runs (run_events turns program) (start (unit_of program) (fresh_store turns (code_weight program))) []
+    machine.Runs (run_events turns input program) (start (unit_of program) (fresh_store turns input (code_weight program))) []
 unfolding run_events outcome_of fresh_state fresh_frame
-program_runs told (body params gives tree scope line) turns (no_params, is_void, typed_body) runs few has =
+program_runs told (body params gives tree scope line) turns input (no_params, is_void, typed_body) runs few has =
     let of : BodyNode = body params gives tree scope line in
     let handed : Each IsHanded params = subst (Each IsHanded) (sym no_params) tt in
     let m = body_meets told [] of turns typed_body runs handed few has in
     let nothing_handed : AreHanded [] fresh_frame params = subst (AreHanded [] fresh_frame) (sym no_params) tt in
-    runs_by (start (unit_of of) (fresh_store turns (code_weight of))) gives (outcome_of turns of)
-    (m.follows [] fresh_frame (fresh_state turns (code_weight of)) (omega arith) empty_typed nothing_handed)
+    runs_by (start (unit_of of) (fresh_store turns input (code_weight of))) gives (outcome_of turns input of)
+    (m.follows [] fresh_frame (fresh_state turns input (code_weight of)) (omega arith) empty_typed nothing_handed)

@@ -30,12 +30,12 @@ use Rattle.ps_soundness.specs.Running.{IsPlain, HasField, HasAsMany, Runs, AllRu
 use Rattle.ps_soundness.specs.Free.{AllBelow}
 use Rattle.ps_soundness.proofs.Telling.{Told}
 use Rattle.ps_soundness.proofs.Places.{free_slot}
-use Rattle.ps_soundness.proofs.Combining.{Sound, sound_then, sound_nothing, sound_set, narrowed}
+use Rattle.ps_soundness.proofs.Combining.{over, without_scopes, Sound, sound_then, sound_nothing, narrowed}
 use Rattle.ps_soundness.proofs.Loops.{Settable, Spares}
 use Rattle.ps_soundness.proofs.Reading.{same_types}
 use Rattle.ps_soundness.proofs.Sequences.{library_says}
 use Rattle.ps_soundness.proofs.Rules.{as_many}
-use Rattle.ps_soundness.proofs.Declaring.{declared_over, declared_sound}
+use Rattle.ps_soundness.proofs.Declaring.{declared_over, sound_set_local, declared_sound}
 use Rattle.ps_soundness.proofs.Clauses.{sound}
 use Rattle.ps_soundness.proofs.Valued.{valued_by, field_valued, AreValued, declared_valued, GivesClaim, gives, gives_each}
 use Rattle.ps_soundness.specs.Valued.{IsValued}
@@ -79,14 +79,14 @@ pub record IsLoop (nums slot control : ℕ) (b c s : Node) : Type 0 where
 
 -- in each context and from each heap on, a clause comes to a value of its type
 abbrev pub Sounds : List Local → List Local → Node → TyView → Type 0
-Sounds first last t ty = (c : Context) (heap : Heap) → Sound heap first last ty (eval c t)
+Sounds first last t ty = (c : Context) (heap : Heap) → Sound heap (over first) (over last) ty (eval c t)
 
 -- what a loop by `for` keeps of the locals in scope, and of those in what it repeats
 pub record KeepsTypes (locals own : List Local) (slot control : ℕ) : Type 0 where
-  pub spares : (at : ℕ) → slot ≤ at → Spares locals at
-  pub sets : (z : ℤ) → is_int z ≡ true → Settable locals own (Plain control) z
-  pub counts : (z : ℤ) → Settable own locals (Plain slot) z
-  pub ends : (heap : Heap) → Sound heap own locals types.Void (give Nothing)
+  pub spares : (at : ℕ) → slot ≤ at → Spares (over locals) at
+  pub sets : (z : ℤ) → is_int z ≡ true → Settable (over locals) (over own) (Plain control) z
+  pub counts : (z : ℤ) → Settable (over own) (over locals) (Plain slot) z
+  pub ends : (heap : Heap) → Sound heap (over own) (over locals) types.Void (give Nothing)
 
 -- what two values of a type can be compared by
 pub data IsCompared : Relation → TyView → Type 0 where
@@ -521,7 +521,7 @@ module _ (told : Told) (nums refs : ℕ) where
       IsPlain place → LocalsBelow env free → Sounds env.locals env.locals e of → Sounds env.locals with_name.locals (node.Let place of e) types.Void
   unfolding eval
   let_sounds {env = env} {free = free} e declares is_plain below h c heap =
-      sound_then (h c heap) (λ new v g is. declared_sound declares is_plain (are_below env free below) new v is)
+      sound_then (h c heap) (λ new v g is. without_scopes (declared_sound told None declares is_plain (are_below env free below) new v is))
 
   -- what is behind the locals in scope isn't named
   behind_unnamed : (x : ℕ) (env : Env) (free : Free) → LocalsBelow env free → free.nums ≤ x → Unnamed x env
@@ -557,14 +557,14 @@ module _ (told : Told) (nums refs : ℕ) where
   keeps_types {env = env} {free = free} slot slot_is declares below =
       let under = are_below env free below in
       let further = are_below env (behind_loop free) (locals_in_loop env free below) in
-      let over = declared_over declares in
+      let less = declared_over declares in
       record {
-        spares = λ at low heap v. sound_set at types.Int v (λ now frame g are.
+        spares = λ at low heap v. sound_set_local at types.Int v (λ now frame g are.
             free_slot now frame free types.Int at v env.locals (omega by_arith) under are);
-        sets = λ z is heap. declared_sound declares tt further heap (Num z) is;
-        counts = λ z heap. sound_set slot types.Int (Num z) (λ now frame g are.
-            free_slot now frame free types.Int slot (Num z) env.locals (omega by_arith) under (over now frame are));
-        ends = λ heap. narrowed over sound_nothing;
+        sets = λ z is heap. without_scopes (declared_sound told None declares tt further heap (Num z) is);
+        counts = λ z heap. sound_set_local slot types.Int (Num z) (λ now frame g are.
+            free_slot now frame free types.Int slot (Num z) env.locals (omega by_arith) under (less now frame are));
+        ends = λ heap. narrowed (λ now frame h. (less now frame h.0, tt)) sound_nothing;
       }
 
   loop_is : {env own : Env} {free behind between free' : Free} {first last : _} (slot : ℕ) (a b c : Node) (scope : Option (List ℕ)) (control : Place)
@@ -590,7 +590,7 @@ module _ (told : Told) (nums refs : ℕ) where
 
   as_part : {env : Env} {free free' : Free} {t : Node} {ty : TyView} → IsTyped env free t ty free' → Runs t → LocalsBelow env free →
       Clause nums refs env.locals t ty → Part nums refs env.locals t ty
-  as_part {env = env} {free = free} typing is below h = that h (λ c heap. sound told typing (are_below env free below) is c heap)
+  as_part {env = env} {free = free} typing is below h = that h (λ c heap. without_scopes (sound told None typing (are_below env free below) is c tt heap))
 
   mutual
     pub clause : {env : Env} {free free' : Free} {t : Node} {ty : TyView} → IsTyped env free t ty free' → Runs t → LocalsBelow env free →

@@ -20,7 +20,7 @@ use Rattle.ps_meaning.specs.Evaluation.{while_turns}
 use Rattle.ps_typing.specs.WellTyped.{Local}
 use Rattle.ps_soundness.specs.Shapes.{IsOf, IsTypedHeap, AreLocals, Grows}
 use Rattle.ps_soundness.proofs.Growing.{grows_not, grows_then}
-use Rattle.ps_soundness.proofs.Combining.{Sound}
+use Rattle.ps_soundness.proofs.Combining.{Sound, over}
 use Rattle.ps_soundness.proofs.Combining as combining
 use Rattle.ps_stepping.specs.Config.{frame_words, Caller, Config, code_in, frame_in, IsAt}
 use Rattle.ps_stepping.specs.Machine.{Step, Goes, Stops, Stuck, on, push_num, push_ref, forward, back, turn_to, answered, act, Steps, at_instruction}
@@ -111,19 +111,19 @@ since_left n last ty v f s left = record { few = left.few; grows = grows_not s.s
 -- a part that takes turns alone, and comes to a value of a type
 pub record Leads (n : Origin) (last : List Local) (ty : TyView) (a : Meaning) : Type 0 where
   pub falls : Falling a
-  pub sound : Sound n.heap n.locals last ty a
+  pub sound : Sound n.heap (over n.locals) (over last) ty a
 
 left_of : (n : Origin) (last : List Local) (ty : TyView) (turns : ℕ) (old : Heap) (o : Outcome) → turns ≤ n.turns → Grows n.heap old → Falls turns o →
-    combining.Comes old last ty o → Behind n last ty o
+    combining.Comes old (over last) ty o → Behind n last ty o
 left_of n last ty turns old (Value_is v f s) le g falls h =
-    record { few = omega arith; grows = grows_then n.heap old s.store.heap g h.grows; typed = h.typed; are = h.are; value = h.value }
+    record { few = omega arith; grows = grows_then n.heap old s.store.heap g h.grows; typed = h.typed; are = h.are.0; value = h.value }
 left_of n last ty turns old (Ends e s) le g falls h = tt
 
 pub leads_left : {n : Origin} {last : List Local} {ty : TyView} {a : Meaning} {f : Frame} {s : State} → Leads n last ty a → IsSince n f s →
     Behind n last ty (a f s)
 leads_left {n = n} {last = last} {ty = ty} {a = a} {f = f} {s = s} leads since =
     left_of n last ty s.store.turns s.store.heap (a f s) since.few since.grows (leads.falls f s)
-    (leads.sound.runs f s since.grows since.typed since.are)
+    (leads.sound.runs f s since.grows since.typed (since.are, tt))
 
 pub leads_more : {n : Origin} {last : List Local} {ty : TyView} {a : Meaning} {m : ℕ} {heap : Heap} → m ≤ n.turns → Grows n.heap heap →
     Leads n last ty a →

@@ -1,20 +1,22 @@
 -- The turns that are left never rise.
 use Rattle.std.proofs.Common.{ℕ, zero, suc, ◌+◌, ◌≤◌, ℤ, pos, ◌+ℤ◌, Bool, true, false, List, [], ◌∷◌, Option, Some, None, arith}
-use Rattle.std.specs.Prelude.{nat_eq, if◌then◌else◌}
+use Rattle.std.specs.Prelude.{nat_eq, nat_lt, if◌then◌else◌}
 use Rattle.ps_base.specs.TyView.{TyView}
 use Rattle.ps_base.specs.TyView as types
 use Rattle.ps_base.specs.declared.line.Line.{Line}
 use Rattle.ps_program.specs.declared.place.Place.{Place}
 use Rattle.ps_program.specs.declared.place.Place.TheVariants.{Plain, Kept}
-use Rattle.ps_program.specs.Node.{Node, Nodes, none, more, Arms, no_arms, more_arms, arm}
+use Rattle.ps_program.specs.Node.{Param, Node, Nodes, none, more, Arms, no_arms, more_arms, arm, BodyNode, body}
 use Rattle.ps_program.specs.Node as node
 use Rattle.ps_meaning.specs.Operators.{Answer, Gives, Traps, is_same}
 use Rattle.ps_meaning.specs.Event.{End}
-use Rattle.ps_meaning.specs.Values.{Value, Num, Flag, Text, Nil, Pointer, Vector, Nothing, word_of, flag_of}
-use Rattle.ps_meaning.specs.Texts.{Attempt, Yields, Fails}
+use Rattle.ps_meaning.specs.Values.{Value, Num, Flag, Text, Nil, Pointer, Vector, Procedure, Nothing, as_written, word_of, flag_of}
+use Rattle.ps_meaning.specs.Texts.{Attempt, Yields, Fails, line_read, behind_line}
 use Rattle.ps_meaning.specs.Objects.{Heap, Object}
-use Rattle.ps_meaning.specs.Meaning.{Frame, State, Outcome, Value_is, Ends, Meaning, give, stop, after, ◌>>=◌, choose, answer, attempt, with_heap, put_heap, made, made_text, emit, in_places, is_width, written, with_turns, turned, take_turn, unbuilt, get, set}
-use Rattle.ps_meaning.specs.Evaluation.{Context, while_turns, Counting, goes_on, for_turns, for_loop, for_meant, without_scope, is_equal, make_meant, lib_meant, eval, eval_all, eval_each, eval_arms, eval_labels}
+use Rattle.ps_meaning.specs.Meaning.{Frame, State, Outcome, Value_is, Ends, Meaning, give, stop, after, ◌>>=◌, choose, answer, attempt, with_heap, put_heap, made, made_text, made_procedure, with_input, put_input, enter, back_in, back_to, scoped, in_scope, in_frame, emit, in_places, is_width, written, with_turns, turned, take_turn, unbuilt, get, set}
+use Rattle.ps_meaning.specs.Frames.{frame_of_call, keep, keep_all}
+use Rattle.ps_meaning.specs.Calls.{body_meant, call_within, context}
+use Rattle.ps_meaning.specs.Evaluation.{Context, while_turns, Counting, goes_on, in_turn, for_turns, for_loop, for_meant, is_equal, make_meant, most_calls, call_meant, read_line, at_end, lib_meant, eval, eval_all, eval_each, eval_arms, eval_labels}
 
 abbrev pub Falls : ℕ → Outcome → Type 0
 Falls n (Value_is v f s) = s.store.turns ≤ n
@@ -97,16 +99,70 @@ falls_unbuilt f s = omega arith
 pub falls_set : (place : Place) (ty : TyView) (v : Value) → Falling (set place ty v)
 unfolding set
 falls_set (Plain slot) ty v f s = omega arith
-falls_set (Kept up position) ty v f s = falls_unbuilt f s
+falls_set (Kept up position) ty v f s = omega arith
+
+falls_made_procedure : (of : BodyNode) → Falling (made_procedure of)
+unfolding made_procedure
+falls_made_procedure of f s = omega arith
+
+falls_with_input : (next : List ℕ → Meaning) → ((input : List ℕ) → Falling (next input)) → Falling (with_input next)
+unfolding with_input
+falls_with_input next h f s = h s.store.input f s
+
+falls_put_input : (input : List ℕ) → Falling (put_input input)
+unfolding put_input
+falls_put_input input f s = omega arith
+
+-- scopes and frames
+falls_enter : (text : List ℕ) → Falling (enter text)
+unfolding enter
+falls_enter text f s = omega arith
+
+falls_back_in : (n : ℕ) (scope : Option ℕ) (o : Outcome) → Falls n o → Falls n (back_in scope o)
+unfolding back_in
+falls_back_in n scope (Value_is v f s) h = h
+falls_back_in n scope (Ends e s) h = tt
+
+falls_back_to : (n : ℕ) (own : Frame) (o : Outcome) → Falls n o → Falls n (back_to own o)
+unfolding back_to
+falls_back_to n own (Value_is v f s) h = h
+falls_back_to n own (Ends e s) h = tt
+
+falls_scoped : (text : List ℕ) (m : Meaning) → Falling m → Falling (scoped text m)
+unfolding scoped
+falls_scoped text m h f s =
+    falls_back_in s.store.turns f.scope ((enter text >>= λ u. m) f s) (falls_then (enter text) (λ u. m) (falls_enter text) (λ u. h) f s)
+
+falls_scope : (scope : Option (List ℕ)) (m : Meaning) → Falling m → Falling (in_scope scope m)
+falls_scope None m h = h
+falls_scope (Some text) m h = falls_scoped text m h
+
+falls_in_frame : (other : Frame) (m : Meaning) → Falling m → Falling (in_frame other m)
+unfolding in_frame
+falls_in_frame other m h f s = falls_back_to s.store.turns f (m other s) (h other s)
+
+falls_in_turn : (loop : Counting) (clause : Meaning) → Falling clause → (z : ℤ) → Falling (in_turn loop clause z)
+falls_in_turn loop clause h z =
+    falls_scope loop.scope _ (falls_then (set loop.control types.Int (Num z)) _ (falls_set loop.control types.Int (Num z)) (λ u. h))
+
+-- what is called falls
+abbrev pub CallsFall : Context → Type 0
+CallsFall c = (of : BodyNode) (args : List Value) → Falling (c.call of args)
+
+falls_call : (c : Context) → CallsFall c → (line : Line) (v : Value) (args : List Value) → Falling (call_meant c line v args)
+unfolding call_meant
+falls_call c k line (Procedure (as_written of) scope) args =
+    falls_choose (nat_lt c.depth most_calls) _ _ (falls_in_frame (frame_of_call of scope args) (c.call of args) (k of args)) (falls_stop _)
+falls_call c k line v args = falls_stop _
 
 pub falls_for_turns : (n : ℕ) (loop : Counting) (clause : Meaning) → Falling clause → (z : ℤ) → Falling (for_turns n loop clause z)
 unfolding for_turns
 falls_for_turns zero loop clause h z = falls_stop _
 falls_for_turns (suc n) loop clause h z =
-    falls_then take_turn _ falls_turn (λ t. falls_then (set loop.control types.Int (Num z)) _ (falls_set loop.control types.Int (Num z)) (λ u.
-    falls_then clause _ h (λ v. falls_choose (goes_on loop.limit loop.step (z +ℤ loop.step)) _ _
+    falls_then take_turn _ falls_turn (λ t. falls_then (in_turn loop clause z) _ (falls_in_turn loop clause h z) (λ v.
+    falls_choose (goes_on loop.limit loop.step (z +ℤ loop.step)) _ _
     (falls_then (set (Plain loop.slot) types.Int (Num (z +ℤ loop.step))) _ (falls_set (Plain loop.slot) types.Int (Num (z +ℤ loop.step)))
-    (λ u. falls_for_turns n loop clause h (z +ℤ loop.step))) (falls_give Nothing))))
+    (λ u. falls_for_turns n loop clause h (z +ℤ loop.step))) (falls_give Nothing)))
 
 pub falls_for_loop : (n : ℕ) (line : Line) (loop : Counting) (clause : Meaning) → Falling clause → (z : ℤ) → Falling (for_loop n line loop clause z)
 unfolding for_loop
@@ -114,19 +170,19 @@ falls_for_loop n line loop clause h z =
     falls_choose (is_same loop.step (pos 0)) _ _ (falls_stop _)
     (falls_choose (goes_on loop.limit loop.step z) _ _ (falls_for_turns n loop clause h z) (falls_give Nothing))
 
-pub falls_for : (n : ℕ) (line : Line) (slot : ℕ) (control : Place) (a b c clause : Meaning) → Falling a → Falling b → Falling c → Falling clause →
-    Falling (for_meant n line slot control a b c clause)
+pub falls_for : (n : ℕ) (line : Line) (slot : ℕ) (scope : Option (List ℕ)) (control : Place) (a b c clause : Meaning) → Falling a → Falling b → Falling c → Falling clause →
+    Falling (for_meant n line slot scope control a b c clause)
 unfolding for_meant
-falls_for n line slot control a b c clause ha hb hc h =
+falls_for n line slot scope control a b c clause ha hb hc h =
     falls_then a _ ha (λ start. falls_then (set (Plain slot) types.Int start) _ (falls_set (Plain slot) types.Int start) (λ u.
     falls_then b _ hb (λ limit. falls_then (set (Plain (slot + 1)) types.Int limit) _ (falls_set (Plain (slot + 1)) types.Int limit) (λ u.
     falls_then c _ hc (λ step. falls_then (set (Plain (slot + 2)) types.Int step) _ (falls_set (Plain (slot + 2)) types.Int step) (λ u.
-    falls_for_loop n line (record { slot = slot; control = control; limit = word_of limit; step = word_of step }) clause h (word_of start)))))))
+    falls_for_loop n line (record { slot = slot; scope = scope; control = control; limit = word_of limit; step = word_of step }) clause h (word_of start)))))))
 
 falls_get : (place : Place) (ty : TyView) → Falling (get place ty)
 unfolding get
 falls_get (Plain slot) ty f s = omega arith
-falls_get (Kept up position) ty f s = falls_unbuilt f s
+falls_get (Kept up position) ty f s = omega arith
 
 falls_answer : (line : Line) (a : Answer) → Falling (answer line a)
 unfolding answer
@@ -140,13 +196,18 @@ falls_while (suc n) test clause h k =
     falls_then test _ h (λ v. falls_choose (flag_of v) _ _
     (falls_then take_turn _ falls_turn (λ t. falls_then clause _ k (λ u. falls_while n test clause h k))) (falls_give Nothing))
 
-falls_scope : (scope : Option (List ℕ)) (m : Meaning) → Falling m → Falling (without_scope scope m)
-falls_scope None m h = h
-falls_scope (Some text) m h = falls_unbuilt
+falls_read_line : (line : Line) → Falling (read_line line)
+unfolding read_line
+falls_read_line line = falls_with_input _ (λ input. falls_attempt line (line_read input) _ (λ bytes.
+    falls_then (put_input (behind_line input)) _ (falls_put_input (behind_line input)) (λ u. falls_made_text bytes)))
 
-falls_lib : (code : ℕ) (vs : List Value) → Falling (lib_meant code vs)
-falls_lib code [] = falls_unbuilt
-falls_lib code (v ∷ vs) = falls_either (nat_eq code 11) _ _ (falls_give _) (falls_either (nat_eq code 12) _ _ (falls_made_text _) falls_unbuilt)
+falls_at_end : Falling at_end
+unfolding at_end
+falls_at_end = falls_with_input _ (λ input. falls_give _)
+
+falls_lib : (line : Line) (code : ℕ) (vs : List Value) → Falling (lib_meant line code vs)
+falls_lib line code [] = falls_either (nat_eq code 9) _ _ (falls_read_line line) (falls_either (nat_eq code 10) _ _ falls_at_end falls_unbuilt)
+falls_lib line code (v ∷ vs) = falls_either (nat_eq code 11) _ _ (falls_give _) (falls_either (nat_eq code 12) _ _ (falls_made_text _) falls_unbuilt)
 
 falls_put : (line : Line) (a : Heap → Attempt Heap) → Falling (with_heap (λ heap. attempt line (a heap) put_heap))
 falls_put line a = falls_with_heap _ (λ heap. falls_attempt line (a heap) put_heap (λ new. falls_put_heap new))
@@ -167,78 +228,105 @@ falls_three a b d next ha hb hd h = falls_then a _ ha (λ v. falls_two b d (next
 mutual
   unfolding eval eval_all eval_each eval_arms eval_labels
 
-  pub falls_eval : (c : Context) (t : Node) → Falling (eval c t)
-  falls_eval c (node.Int z) = falls_give (Num z)
-  falls_eval c (node.Flag b) = falls_give (Flag b)
-  falls_eval c (node.Text bytes) = falls_give (Text bytes)
-  falls_eval c (node.Name place ty) = falls_get place ty
-  falls_eval c (node.SetName place ty e) = falls_then (eval c e) _ (falls_eval c e) (λ v. falls_set place ty v)
-  falls_eval c (node.Let place ty e) = falls_then (eval c e) _ (falls_eval c e) (λ v. falls_set place ty v)
-  falls_eval c node.Empty = falls_give Nothing
-  falls_eval c (node.Block scope items) = falls_scope scope (eval_all c Nothing items) (falls_all c Nothing items)
-  falls_eval c (node.IfDo test a) =
-      falls_then (eval c test) _ (falls_eval c test) (λ v. falls_choose (flag_of v) _ _ (falls_eval c a) (falls_give Nothing))
-  falls_eval c (node.IfElse test a b) =
-      falls_then (eval c test) _ (falls_eval c test) (λ v. falls_choose (flag_of v) _ _ (falls_eval c a) (falls_eval c b))
-  falls_eval c (node.While test a) = falls_while c.bound (eval c test) (eval c a) (falls_eval c test) (falls_eval c a)
-  falls_eval c (node.Repeat a test b) =
-      falls_while c.bound _ (eval c b) (falls_then (eval c a) _ (falls_eval c a) (λ u. falls_eval c test)) (falls_eval c b)
-  falls_eval c (node.For slot from to by scope control s line) =
-      falls_scope scope (for_meant c.bound line slot control (eval c from) (eval c to) (eval c by) (eval c s))
-      (falls_for c.bound line slot control _ _ _ _ (falls_eval c from) (falls_eval c to) (falls_eval c by) (falls_eval c s))
-  falls_eval c (node.Case e arms d ty) = falls_then (eval c e) _ (falls_eval c e) (λ v. falls_arms c ty v arms (eval c d) (falls_eval c d))
-  falls_eval c (node.And a b) = falls_then (eval c a) _ (falls_eval c a) (λ v. falls_choose (flag_of v) _ _ (falls_eval c b) (falls_give v))
-  falls_eval c (node.Or a b) = falls_then (eval c a) _ (falls_eval c a) (λ v. falls_choose (flag_of v) _ _ (falls_give v) (falls_eval c b))
-  falls_eval c (node.Not e) = falls_then (eval c e) _ (falls_eval c e) (λ v. falls_give _)
-  falls_eval c (node.Neg e line) = falls_then (eval c e) _ (falls_eval c e) (λ v. falls_answer line _)
-  falls_eval c (node.Plus e) = falls_eval c e
-  falls_eval c (node.Arith op a b line) = falls_two (eval c a) (eval c b) _ (falls_eval c a) (falls_eval c b) (λ v w. falls_answer line _)
-  falls_eval c (node.Compare op ty a b) = falls_two (eval c a) (eval c b) _ (falls_eval c a) (falls_eval c b) (λ v w. falls_give _)
-  falls_eval c node.Nil = falls_give Nil
-  falls_eval c node.Class = falls_give Nothing
-  falls_eval c (node.Is e class) = falls_then (eval c e) _ (falls_eval c e) (λ v. falls_with_heap _ (λ heap. falls_give _))
-  falls_eval c (node.Join a b line) =
-      falls_two (eval c a) (eval c b) _ (falls_eval c a) (falls_eval c b) (λ v w. falls_attempt line _ _ (λ bytes. falls_made_text bytes))
-  falls_eval c (node.Part a i n line) =
-      falls_three (eval c a) (eval c i) (eval c n) _ (falls_eval c a) (falls_eval c i) (falls_eval c n)
+  pub falls_eval : (c : Context) → CallsFall c → (t : Node) → Falling (eval c t)
+  falls_eval c k (node.Int z) = falls_give (Num z)
+  falls_eval c k (node.Flag b) = falls_give (Flag b)
+  falls_eval c k (node.Text bytes) = falls_give (Text bytes)
+  falls_eval c k (node.Name place ty) = falls_get place ty
+  falls_eval c k (node.SetName place ty e) = falls_then (eval c e) _ (falls_eval c k e) (λ v. falls_set place ty v)
+  falls_eval c k (node.Let place ty e) = falls_then (eval c e) _ (falls_eval c k e) (λ v. falls_set place ty v)
+  falls_eval c k node.Empty = falls_give Nothing
+  falls_eval c k (node.Block scope items) = falls_scope scope (eval_all c Nothing items) (falls_all c k Nothing items)
+  falls_eval c k (node.IfDo test a) =
+      falls_then (eval c test) _ (falls_eval c k test) (λ v. falls_choose (flag_of v) _ _ (falls_eval c k a) (falls_give Nothing))
+  falls_eval c k (node.IfElse test a b) =
+      falls_then (eval c test) _ (falls_eval c k test) (λ v. falls_choose (flag_of v) _ _ (falls_eval c k a) (falls_eval c k b))
+  falls_eval c k (node.While test a) = falls_while c.bound (eval c test) (eval c a) (falls_eval c k test) (falls_eval c k a)
+  falls_eval c k (node.Repeat a test b) =
+      falls_while c.bound _ (eval c b) (falls_then (eval c a) _ (falls_eval c k a) (λ u. falls_eval c k test)) (falls_eval c k b)
+  falls_eval c k (node.For slot from to by scope control s line) =
+      falls_for c.bound line slot scope control _ _ _ _ (falls_eval c k from) (falls_eval c k to) (falls_eval c k by) (falls_eval c k s)
+  falls_eval c k (node.Case e arms d ty) = falls_then (eval c e) _ (falls_eval c k e) (λ v. falls_arms c k ty v arms (eval c d) (falls_eval c k d))
+  falls_eval c k (node.And a b) = falls_then (eval c a) _ (falls_eval c k a) (λ v. falls_choose (flag_of v) _ _ (falls_eval c k b) (falls_give v))
+  falls_eval c k (node.Or a b) = falls_then (eval c a) _ (falls_eval c k a) (λ v. falls_choose (flag_of v) _ _ (falls_give v) (falls_eval c k b))
+  falls_eval c k (node.Not e) = falls_then (eval c e) _ (falls_eval c k e) (λ v. falls_give _)
+  falls_eval c k (node.Neg e line) = falls_then (eval c e) _ (falls_eval c k e) (λ v. falls_answer line _)
+  falls_eval c k (node.Plus e) = falls_eval c k e
+  falls_eval c k (node.Arith op a b line) = falls_two (eval c a) (eval c b) _ (falls_eval c k a) (falls_eval c k b) (λ v w. falls_answer line _)
+  falls_eval c k (node.Compare op ty a b) = falls_two (eval c a) (eval c b) _ (falls_eval c k a) (falls_eval c k b) (λ v w. falls_give _)
+  falls_eval c k node.Nil = falls_give Nil
+  falls_eval c k node.Class = falls_give Nothing
+  falls_eval c k (node.Is e class) = falls_then (eval c e) _ (falls_eval c k e) (λ v. falls_with_heap _ (λ heap. falls_give _))
+  falls_eval c k (node.Join a b line) =
+      falls_two (eval c a) (eval c b) _ (falls_eval c k a) (falls_eval c k b) (λ v w. falls_attempt line _ _ (λ bytes. falls_made_text bytes))
+  falls_eval c k (node.Part a i n line) =
+      falls_three (eval c a) (eval c i) (eval c n) _ (falls_eval c k a) (falls_eval c k i) (falls_eval c k n)
       (λ v from count. falls_attempt line _ _ (λ bytes. falls_made_text bytes))
-  falls_eval c (node.Make class args) = falls_each c args (make_meant class) (λ vs. falls_made Pointer _)
-  falls_eval c (node.Field e class n ty line) = falls_then (eval c e) _ (falls_eval c e) (λ o. falls_read line _)
-  falls_eval c (node.SetField p class n ty e line) = falls_two (eval c p) (eval c e) _ (falls_eval c p) (falls_eval c e) (λ o v. falls_put line _)
-  falls_eval c (node.Fill l u e ty line) =
-      falls_three (eval c l) (eval c u) (eval c e) _ (falls_eval c l) (falls_eval c u) (falls_eval c e)
+  falls_eval c k (node.Make class args) = falls_each c k args (make_meant class) (λ vs. falls_made Pointer _)
+  falls_eval c k (node.Field e class n ty line) = falls_then (eval c e) _ (falls_eval c k e) (λ o. falls_read line _)
+  falls_eval c k (node.SetField p class n ty e line) = falls_two (eval c p) (eval c e) _ (falls_eval c k p) (falls_eval c k e) (λ o v. falls_put line _)
+  falls_eval c k (node.Fill l u e ty line) =
+      falls_three (eval c l) (eval c u) (eval c e) _ (falls_eval c k l) (falls_eval c k u) (falls_eval c k e)
       (λ low high v. falls_attempt line _ (made Vector) (λ object. falls_made Vector object))
-  falls_eval c (node.Elems l items ty line) =
-      falls_then (eval c l) _ (falls_eval c l)
-      (λ low. falls_each c items _ (λ vs. falls_attempt line _ (made Vector) (λ object. falls_made Vector object)))
-  falls_eval c (node.Element v i ty line) = falls_two (eval c v) (eval c i) _ (falls_eval c v) (falls_eval c i) (λ vector at. falls_read line _)
-  falls_eval c (node.SetElement v i e ty line) =
-      falls_three (eval c v) (eval c i) (eval c e) _ (falls_eval c v) (falls_eval c i) (falls_eval c e) (λ vector at w. falls_put line _)
-  falls_eval c (node.Bound v upper) = falls_then (eval c v) _ (falls_eval c v) (λ vector. falls_with_heap _ (λ heap. falls_give _))
-  falls_eval c (node.Lib code args line) = falls_each c args (lib_meant code) (λ vs. falls_lib code vs)
-  falls_eval c (node.Write e w false ty line) = falls_then (eval c e) _ (falls_eval c e) (λ v. falls_written line None _)
-  falls_eval c (node.Write e w true ty line) = falls_two (eval c e) (eval c w) _ (falls_eval c e) (falls_eval c w) (λ v width. falls_written line _ _)
-  falls_eval c (node.Abort line) = falls_stop _
-  falls_eval c (node.Proc of) = falls_unbuilt
-  falls_eval c (node.Call f args line) = falls_unbuilt
-  falls_eval c (node.Scan text a f q s line) = falls_unbuilt
+  falls_eval c k (node.Elems l items ty line) =
+      falls_then (eval c l) _ (falls_eval c k l)
+      (λ low. falls_each c k items _ (λ vs. falls_attempt line _ (made Vector) (λ object. falls_made Vector object)))
+  falls_eval c k (node.Element v i ty line) = falls_two (eval c v) (eval c i) _ (falls_eval c k v) (falls_eval c k i) (λ vector at. falls_read line _)
+  falls_eval c k (node.SetElement v i e ty line) =
+      falls_three (eval c v) (eval c i) (eval c e) _ (falls_eval c k v) (falls_eval c k i) (falls_eval c k e) (λ vector at w. falls_put line _)
+  falls_eval c k (node.Bound v upper) = falls_then (eval c v) _ (falls_eval c k v) (λ vector. falls_with_heap _ (λ heap. falls_give _))
+  falls_eval c k (node.Lib code args line) = falls_each c k args (lib_meant line code) (λ vs. falls_lib line code vs)
+  falls_eval c k (node.Write e w false ty line) = falls_then (eval c e) _ (falls_eval c k e) (λ v. falls_written line None _)
+  falls_eval c k (node.Write e w true ty line) = falls_two (eval c e) (eval c w) _ (falls_eval c k e) (falls_eval c k w) (λ v width. falls_written line _ _)
+  falls_eval c k (node.Abort line) = falls_stop _
+  falls_eval c k (node.Proc of) = falls_made_procedure of
+  falls_eval c k (node.Call f args line) =
+      falls_then (eval c f) _ (falls_eval c k f) (λ v. falls_each c k args (call_meant c line v) (λ args. falls_call c k line v args))
+  falls_eval c k (node.Scan text a f q s line) = falls_unbuilt
 
-  pub falls_all : (c : Context) (v : Value) (ts : Nodes) → Falling (eval_all c v ts)
-  falls_all c v none = falls_give v
-  falls_all c v (more t ts) = falls_then (eval c t) _ (falls_eval c t) (λ w. falls_all c w ts)
+  pub falls_all : (c : Context) → CallsFall c → (v : Value) (ts : Nodes) → Falling (eval_all c v ts)
+  falls_all c k v none = falls_give v
+  falls_all c k v (more t ts) = falls_then (eval c t) _ (falls_eval c k t) (λ w. falls_all c k w ts)
 
-  pub falls_each : (c : Context) (ts : Nodes) (next : List Value → Meaning) → ((vs : List Value) → Falling (next vs)) → Falling (eval_each c ts next)
-  falls_each c none next h = h []
-  falls_each c (more t ts) next h = falls_then (eval c t) _ (falls_eval c t) (λ v. falls_each c ts (λ vs. next (v ∷ vs)) (λ vs. h (v ∷ vs)))
+  pub falls_each : (c : Context) → CallsFall c → (ts : Nodes) (next : List Value → Meaning) → ((vs : List Value) → Falling (next vs)) → Falling (eval_each c ts next)
+  falls_each c k none next h = h []
+  falls_each c k (more t ts) next h = falls_then (eval c t) _ (falls_eval c k t) (λ v. falls_each c k ts (λ vs. next (v ∷ vs)) (λ vs. h (v ∷ vs)))
 
-  pub falls_arms : (c : Context) (ty : TyView) (v : Value) (arms : Arms) (default : Meaning) → Falling default →
+  pub falls_arms : (c : Context) → CallsFall c → (ty : TyView) (v : Value) (arms : Arms) (default : Meaning) → Falling default →
       Falling (eval_arms c ty v arms default)
-  falls_arms c ty v no_arms default h = h
-  falls_arms c ty v (more_arms (arm labels a) rest) default h =
-      falls_then (eval_labels c ty v labels) _ (falls_labels c ty v labels)
-      (λ found. falls_choose (flag_of found) _ _ (falls_eval c a) (falls_arms c ty v rest default h))
+  falls_arms c k ty v no_arms default h = h
+  falls_arms c k ty v (more_arms (arm labels a) rest) default h =
+      falls_then (eval_labels c ty v labels) _ (falls_labels c k ty v labels)
+      (λ found. falls_choose (flag_of found) _ _ (falls_eval c k a) (falls_arms c k ty v rest default h))
 
-  pub falls_labels : (c : Context) (ty : TyView) (v : Value) (labels : Nodes) → Falling (eval_labels c ty v labels)
-  falls_labels c ty v none = falls_give _
-  falls_labels c ty v (more label rest) =
-      falls_then (eval c label) _ (falls_eval c label) (λ w. falls_choose (is_equal ty v w) _ _ (falls_give _) (falls_labels c ty v rest))
+  pub falls_labels : (c : Context) → CallsFall c → (ty : TyView) (v : Value) (labels : Nodes) → Falling (eval_labels c ty v labels)
+  falls_labels c k ty v none = falls_give _
+  falls_labels c k ty v (more label rest) =
+      falls_then (eval c label) _ (falls_eval c k label) (λ w. falls_choose (is_equal ty v w) _ _ (falls_give _) (falls_labels c k ty v rest))
+
+-- what is called falls too, however many turns may be left
+falls_keep : (place : Place) (ty : TyView) (v : Value) → Falling (keep place ty v)
+unfolding keep
+falls_keep (Plain slot) ty v = falls_give Nothing
+falls_keep (Kept up position) ty v = falls_set (Kept up position) ty v
+
+falls_keep_all : (params : List Param) (args : List Value) → Falling (keep_all params args)
+unfolding keep_all
+falls_keep_all [] args = falls_give Nothing
+falls_keep_all (param ∷ params) [] = falls_give Nothing
+falls_keep_all (param ∷ params) (v ∷ args) =
+    falls_then (keep param.place param.ty v) _ (falls_keep param.place param.ty v) (λ u. falls_keep_all params args)
+
+falls_body : (c : Context) → CallsFall c → (of : BodyNode) (args : List Value) → Falling (body_meant c of args)
+unfolding body_meant
+falls_body c k (body params gives tree text line) args =
+    falls_scope text _ (falls_then (keep_all params args) _ (falls_keep_all params args) (λ u. falls_eval c k tree))
+
+falls_within : (n depth : ℕ) (of : BodyNode) (args : List Value) → Falling (call_within n depth of args)
+unfolding call_within
+falls_within zero depth of args = falls_stop _
+falls_within (suc n) depth of args =
+    falls_then take_turn _ falls_turn (λ t. falls_body (context n depth) (falls_within n (suc depth)) of args)
+
+pub calls_fall : (n depth : ℕ) → CallsFall (context n depth)
+calls_fall n depth = falls_within n (suc depth)

@@ -1,6 +1,6 @@
 -- A clause leaves each local of the number stack alone that it can't name: one below the free slots, and not that of a name in scope.
 use Rattle.std.proofs.Common.{◌≡◌, ℕ, zero, suc, ◌+◌, ◌<◌, ℤ, pos, ◌+ℤ◌, Bool, true, false, List, [], ◌∷◌, ◌++◌, Option, Some, None, inl, inr, refl, sym, ap, ◌∙◌, subst, arith, ne_eqb}
-use Rattle.std.specs.Prelude.{nat_eq, if◌then◌else◌}
+use Rattle.std.specs.Prelude.{nat_eq, nat_lt, if◌then◌else◌}
 use Rattle.ps_base.specs.TyView.{TyView, TyViews}
 use Rattle.ps_base.specs.TyView as types
 use Rattle.ps_base.specs.declared.line.Line.{Line}
@@ -14,11 +14,12 @@ use Rattle.ps_typing.specs.WellTyped as typed
 use Rattle.ps_typing_laws.specs.Counted.{Each}
 use Rattle.ps_typing_laws.proofs.Tracked.{Grows, tree_grows, LocalsBelow, locals_grow, declared, track, track_all, all_grows}
 use Rattle.ps_meaning.specs.Operators.{Answer, Gives, Traps, neg_of, arith_of, is_same}
-use Rattle.ps_meaning.specs.Values.{Value, Num, Flag, Text, Nil, Pointer, Vector, Nothing, word_of, flag_of, shown}
-use Rattle.ps_meaning.specs.Texts.{Attempt, Yields, Fails}
+use Rattle.ps_meaning.specs.Values.{Value, Num, Flag, Text, Nil, Pointer, Vector, Procedure, Nothing, as_written, word_of, flag_of, shown}
+use Rattle.ps_meaning.specs.Texts.{Attempt, Yields, Fails, line_read, behind_line}
 use Rattle.ps_meaning.specs.Objects.{Heap, Object}
-use Rattle.ps_meaning.specs.Meaning.{Frame, Store, State, Outcome, Value_is, Ends, Meaning, give, stop, after, ◌>>=◌, choose, answer, attempt, with_heap, put_heap, made, made_text, emit, in_places, is_width, written, turned, spent, take_turn, with_local, unbuilt, get, set}
-use Rattle.ps_meaning.specs.Evaluation.{Context, while_turns, Counting, goes_on, for_turns, for_loop, for_meant, is_equal, make_meant, lib_meant, eval, eval_all, eval_each, eval_arms, eval_labels}
+use Rattle.ps_meaning.specs.Meaning.{Frame, Store, State, Outcome, Value_is, Ends, Meaning, give, stop, after, ◌>>=◌, choose, answer, attempt, with_heap, put_heap, made, made_text, made_procedure, with_input, put_input, enter, back_in, back_to, scoped, in_scope, in_frame, emit, in_places, is_width, written, turned, spent, take_turn, with_local, unbuilt, get, set}
+use Rattle.ps_meaning.specs.Frames.{frame_of_call}
+use Rattle.ps_meaning.specs.Evaluation.{Context, while_turns, Counting, goes_on, in_turn, for_turns, for_loop, for_meant, is_equal, make_meant, most_calls, call_meant, read_line, at_end, lib_meant, eval, eval_all, eval_each, eval_arms, eval_labels}
 
 -- the local has the value that it had
 abbrev pub Same : ℕ → Frame → Outcome → Type 0
@@ -112,7 +113,7 @@ leaves_turn x f s = leaves_turned x (spent s.store) f s
 leaves_get : (x : ℕ) (place : Place) (ty : TyView) → Leaves x (get place ty)
 unfolding get
 leaves_get x (Plain slot) ty f s = refl
-leaves_get x (Kept up position) ty f s = leaves_unbuilt x f s
+leaves_get x (Kept up position) ty f s = refl
 
 not_same : (m n : ℕ) → (n ≡ m → ⊥) → nat_eq m n ≡ false
 not_same m n apart = ne_eqb m n (λ e. apart (sym e))
@@ -134,7 +135,53 @@ leaves_set x slot ty v apart f s = other_in_frame x slot v f (is_number ty) apar
 
 leaves_kept : (x up position : ℕ) (ty : TyView) (v : Value) → Leaves x (set (Kept up position) ty v)
 unfolding set
-leaves_kept x up position ty v f s = leaves_unbuilt x f s
+leaves_kept x up position ty v f s = refl
+
+leaves_made_procedure : (x : ℕ) (of : BodyNode) → Leaves x (made_procedure of)
+unfolding made_procedure
+leaves_made_procedure x of f s = refl
+
+leaves_with_input : (x : ℕ) (next : List ℕ → Meaning) → ((input : List ℕ) → Leaves x (next input)) → Leaves x (with_input next)
+unfolding with_input
+leaves_with_input x next h f s = h s.store.input f s
+
+leaves_put_input : (x : ℕ) (input : List ℕ) → Leaves x (put_input input)
+unfolding put_input
+leaves_put_input x input f s = refl
+
+-- a scope changes no local, and a call comes back to the frame that it was made in
+leaves_enter : (x : ℕ) (text : List ℕ) → Leaves x (enter text)
+unfolding enter
+leaves_enter x text f s = refl
+
+same_back_in : (x : ℕ) (f : Frame) (scope : Option ℕ) (o : Outcome) → Same x f o → Same x f (back_in scope o)
+unfolding back_in
+same_back_in x f scope (Value_is v g s) h = h
+same_back_in x f scope (Ends e s) h = tt
+
+same_back_to : (x : ℕ) (f : Frame) (o : Outcome) → Same x f (back_to f o)
+unfolding back_to
+same_back_to x f (Value_is v g s) = refl
+same_back_to x f (Ends e s) = tt
+
+leaves_scoped : (x : ℕ) (text : List ℕ) (m : Meaning) → Leaves x m → Leaves x (scoped text m)
+unfolding scoped
+leaves_scoped x text m h f s =
+    same_back_in x f f.scope ((enter text >>= λ u. m) f s) (leaves_then x (enter text) (λ u. m) (leaves_enter x text) (λ u. h) f s)
+
+leaves_scope : (x : ℕ) (scope : Option (List ℕ)) (m : Meaning) → Leaves x m → Leaves x (in_scope scope m)
+leaves_scope x None m h = h
+leaves_scope x (Some text) m h = leaves_scoped x text m h
+
+leaves_in_frame : (x : ℕ) (other : Frame) (m : Meaning) → Leaves x (in_frame other m)
+unfolding in_frame
+leaves_in_frame x other m f s = same_back_to x f (m other s)
+
+leaves_call : (x : ℕ) (c : Context) (line : Line) (v : Value) (args : List Value) → Leaves x (call_meant c line v args)
+unfolding call_meant
+leaves_call x c line (Procedure (as_written of) scope) args =
+    leaves_choose x (nat_lt c.depth most_calls) _ _ (leaves_in_frame x (frame_of_call of scope args) (c.call of args)) (leaves_stop x _)
+leaves_call x c line v args = leaves_stop x _
 
 leaves_while : (x n : ℕ) (test clause : Meaning) → Leaves x test → Leaves x clause → Leaves x (while_turns n test clause)
 unfolding while_turns
@@ -148,12 +195,13 @@ leaves_for_turns : (x n : ℕ) (loop : Counting) (clause : Meaning) → (loop.sl
 unfolding for_turns
 leaves_for_turns x zero loop clause apart control h z = leaves_stop x _
 leaves_for_turns x (suc n) loop clause apart control h z =
-    leaves_then x take_turn _ (leaves_turn x) (λ t. leaves_then x (set loop.control types.Int (Num z)) _ (control (Num z)) (λ u.
-    leaves_then x clause _ h (λ w. leaves_choose x (goes_on loop.limit loop.step (z +ℤ loop.step)) _ _
+    leaves_then x take_turn _ (leaves_turn x) (λ t. leaves_then x (in_turn loop clause z) _
+    (leaves_scope x loop.scope _ (leaves_then x (set loop.control types.Int (Num z)) _ (control (Num z)) (λ u. h)))
+    (λ w. leaves_choose x (goes_on loop.limit loop.step (z +ℤ loop.step)) _ _
     (leaves_then x (set (Plain loop.slot) types.Int (Num (z +ℤ loop.step))) _
     (leaves_set x loop.slot types.Int (Num (z +ℤ loop.step)) (λ is e. apart e))
     (λ u. leaves_for_turns x n loop clause apart control h (z +ℤ loop.step)))
-    (leaves_give x Nothing))))
+    (leaves_give x Nothing)))
 
 leaves_loop : (x n : ℕ) (line : Line) (loop : Counting) (clause : Meaning) → (loop.slot ≡ x → ⊥) →
     ((v : Value) → Leaves x (set loop.control types.Int v)) →
@@ -163,11 +211,11 @@ leaves_loop x n line loop clause apart control h z =
     leaves_choose x (is_same loop.step (pos 0)) _ _ (leaves_stop x _)
     (leaves_choose x (goes_on loop.limit loop.step z) _ _ (leaves_for_turns x n loop clause apart control h z) (leaves_give x Nothing))
 
-leaves_for : (x n : ℕ) (line : Line) (slot : ℕ) (control : Place) (a b c clause : Meaning) → x < slot →
+leaves_for : (x n : ℕ) (line : Line) (slot : ℕ) (scope : Option (List ℕ)) (control : Place) (a b c clause : Meaning) → x < slot →
     ((v : Value) → Leaves x (set control types.Int v)) →
-    Leaves x a → Leaves x b → Leaves x c → Leaves x clause → Leaves x (for_meant n line slot control a b c clause)
+    Leaves x a → Leaves x b → Leaves x c → Leaves x clause → Leaves x (for_meant n line slot scope control a b c clause)
 unfolding for_meant
-leaves_for x n line slot control a b c clause below at_control ha hb hc h =
+leaves_for x n line slot scope control a b c clause below at_control ha hb hc h =
     let apart : (k : ℕ) → slot + k ≡ x → ⊥ = λ k e. omega arith in
     let apart_first : slot ≡ x → ⊥ = λ e. omega arith in
     leaves_then x a _ ha (λ start. leaves_then x (set (Plain slot) types.Int start) _ (leaves_set x slot types.Int start (λ is e. apart_first e))
@@ -176,7 +224,7 @@ leaves_for x n line slot control a b c clause below at_control ha hb hc h =
     (leaves_set x (slot + 1) types.Int limit (λ is e. apart 1 e)) (λ u.
     leaves_then x c _ hc (λ step. leaves_then x (set (Plain (slot + 2)) types.Int step) _
     (leaves_set x (slot + 2) types.Int step (λ is e. apart 2 e)) (λ u.
-    leaves_loop x n line (record { slot = slot; control = control; limit = word_of limit; step = word_of step }) clause apart_first at_control h
+    leaves_loop x n line (record { slot = slot; scope = scope; control = control; limit = word_of limit; step = word_of step }) clause apart_first at_control h
     (word_of start)))))))
 
 -- clauses that each keep a local
@@ -230,9 +278,19 @@ keep_arguments : (x : ℕ) {ts : Nodes} {tys : TyViews} {claims : List Claim} �
 keep_arguments x typed.Arguments.no_more h = tt
 keep_arguments x (typed.Arguments.one_more rest) h = (h.0, keep_arguments x rest h.1)
 
-leaves_lib : (x code : ℕ) (vs : List Value) → Leaves x (lib_meant code vs)
-leaves_lib x code [] = leaves_unbuilt x
-leaves_lib x code (v ∷ vs) =
+leaves_read_line : (x : ℕ) (line : Line) → Leaves x (read_line line)
+unfolding read_line
+leaves_read_line x line = leaves_with_input x _ (λ input. leaves_attempt x line (line_read input) _ (λ bytes.
+    leaves_then x (put_input (behind_line input)) _ (leaves_put_input x (behind_line input)) (λ u. leaves_made_text x bytes)))
+
+leaves_at_end : (x : ℕ) → Leaves x at_end
+unfolding at_end
+leaves_at_end x = leaves_with_input x _ (λ input. leaves_give x _)
+
+leaves_lib : (x : ℕ) (line : Line) (code : ℕ) (vs : List Value) → Leaves x (lib_meant line code vs)
+leaves_lib x line code [] =
+    leaves_either x (nat_eq code 9) _ _ (leaves_read_line x line) (leaves_either x (nat_eq code 10) _ _ (leaves_at_end x) (leaves_unbuilt x))
+leaves_lib x line code (v ∷ vs) =
     leaves_either x (nat_eq code 11) _ _ (leaves_give x _) (leaves_either x (nat_eq code 12) _ _ (leaves_made_text x _) (leaves_unbuilt x))
 
 keeps_by_rule : (x : ℕ) {t : Node} {claims : List Claim} {ty : TyView} → Rule t claims ty → Each (KeepClaim x) claims → Keeps x t
@@ -297,9 +355,11 @@ keeps_by_rule x (typed.set_element {v = v} {i = i} {e = e} {line = line}) h c =
     (λ w. leaves_with_heap x _ (λ heap. leaves_attempt x line _ put_heap (λ new. leaves_put_heap x new)))))
 keeps_by_rule x (typed.bound {v = v} {upper = upper}) h c =
     leaves_then x (eval c v) _ (h.0 c) (λ vector. leaves_with_heap x _ (λ heap. leaves_give x _))
-keeps_by_rule x (typed.lib {code = code} {args = args} of are) h c =
-    leaves_each x c args (lib_meant code) (keep_arguments x are h) (λ vs. leaves_lib x code vs)
-keeps_by_rule x other h c = leaves_unbuilt x
+keeps_by_rule x (typed.lib {code = code} {args = args} {line = line} of are) h c =
+    leaves_each x c args (lib_meant line code) (keep_arguments x are h) (λ vs. leaves_lib x line code vs)
+keeps_by_rule x (typed.call {f = f} {args = args} {line = line} are) h c =
+    leaves_then x (eval c f) _ (h.0 c)
+    (λ v. leaves_each x c args (call_meant c line v) (keep_arguments x are h.1) (λ args. leaves_call x c line v args))
 
 -- no name of a number in scope has this slot
 abbrev pub Unnamed : ℕ → Env → Type 0
@@ -328,17 +388,16 @@ keeps_block : (x : ℕ) {around first last : _} (scope : Option (List ℕ)) (ite
     ((c : Context) (v : Value) → Leaves x (eval_all c v items)) → Keeps x (node.Block scope items)
 unfolding eval
 keeps_block x None items typed.unscoped h c = h c Nothing
-keeps_block x (Some text) items typed.scoped h c = leaves_unbuilt x
+keeps_block x (Some text) items typed.scoped h c = leaves_scoped x text _ (h c Nothing)
 
 keeps_for : (x : ℕ) {around first last : _} (slot : ℕ) (a b c : Node) (scope : Option (List ℕ)) (control : Place) (s : Node) (line : Line) →
     Opens scope around first last → x < slot → ((v : Value) → Leaves x (set control types.Int v)) → Keeps x a → Keeps x b → Keeps x c → Keeps x s →
     Keeps x (node.For slot a b c scope control s line)
 unfolding eval
-keeps_for x slot a b c None control s line typed.unscoped below at_control ha hb hc h context =
-    leaves_for x context.bound line slot control (eval context a) (eval context b) (eval context c) (eval context s) below at_control (ha context)
+keeps_for x slot a b c scope control s line opens below at_control ha hb hc h context =
+    leaves_for x context.bound line slot scope control (eval context a) (eval context b) (eval context c) (eval context s) below at_control (ha context)
     (hb context)
     (hc context) (h context)
-keeps_for x slot a b c (Some text) control s line typed.scoped below at_control ha hb hc h context = leaves_unbuilt x
 
 -- inside a loop by `for`
 pub locals_in_loop : (env : Env) (free : Free) → LocalsBelow env free → LocalsBelow env (behind_loop free)
@@ -369,7 +428,7 @@ mutual
       (declared_unnamed x declares (omega arith) apart) in
       keeps_for x slot a b c scope control s line opens (omega arith) (declared_apart x declares (omega arith)) three.0 three.1.0 three.1.1.0 body
   keeps x (typed.scan q_is s_is are) locals below apart = λ c. leaves_unbuilt x
-  keeps x (typed.literal is_body) locals below apart = λ c. leaves_unbuilt x
+  keeps x (typed.literal is_body) locals below apart = λ c. leaves_made_procedure x _
 
   pub keeps_each : (x : ℕ) {env : Env} {free free' : Free} {claims : List Claim} → AreTyped env free claims free' → LocalsBelow env free →
       x < free.nums →
@@ -403,6 +462,6 @@ mutual
       let grows : Grows free behind = record { nums = let y = d.nums in omega arith; refs = let y = d.refs in omega arith } in
       let of_e = tree_grows (track te d.below) in
       leaves_then x (eval c (node.Let place of (node.Proc procedure))) _
-      (leaves_then x (eval c (node.Proc procedure)) _ (leaves_unbuilt x) (λ w. declared_apart x declares below w))
+      (leaves_then x (eval c (node.Proc procedure)) _ (leaves_made_procedure x procedure) (λ w. declared_apart x declares below w))
       (λ w. keeps_items x others (locals_grow with_name behind between of_e d.below) (let h = grows.nums in let k = of_e.nums in omega arith)
       (declared_unnamed x declares below apart) c w)

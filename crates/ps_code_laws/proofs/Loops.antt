@@ -1,5 +1,5 @@
 -- Loops by `for`: the machine reads the limit and the step from their locals at each turn, and nothing but the loop sets them.
-use Rattle.std.proofs.Common.{◌≡◌, ℕ, zero, suc, ◌+◌, ◌<◌, ◌≤◌, ℤ, pos, ◌+ℤ◌, Bool, true, false, List, [], ◌∷◌, ◌++◌, refl, sym, ap, ◌∙◌, subst, arith, eq-eqb}
+use Rattle.std.proofs.Common.{◌≡◌, ℕ, zero, suc, ◌+◌, ◌<◌, ◌≤◌, ℤ, pos, ◌+ℤ◌, Bool, true, false, List, [], ◌∷◌, ◌++◌, None, refl, sym, ap, ◌∙◌, subst, arith, eq-eqb}
 use Rattle.std.specs.Prelude.{nat_eq}
 use Rattle.ps_base.specs.TyView.{TyView}
 use Rattle.ps_base.specs.TyView as types
@@ -14,7 +14,7 @@ use Rattle.ps_meaning.specs.Objects.{Heap}
 use Rattle.ps_meaning.specs.Event.{Trapped}
 use Rattle.ps_meaning.specs.Values.{Value, Num, Nothing, word_of}
 use Rattle.ps_meaning.specs.Meaning.{Frame, Store, State, Outcome, Value_is, Ends, Meaning, give, stop, after, ◌>>=◌, choose, with_turns, spent, take_turn, with_local, set}
-use Rattle.ps_meaning.specs.Evaluation.{Counting, goes_on, for_turns, for_loop, for_meant}
+use Rattle.ps_meaning.specs.Evaluation.{Counting, goes_on, in_turn, for_turns, for_loop, for_meant}
 use Rattle.ps_stepping.specs.Config.{Config, code_in, frame_in, IsAt}
 use Rattle.ps_stepping.specs.Machine.{turn_to, started, counted, act}
 use Rattle.ps_code_laws.specs.Meets.{nums_left, refs_left}
@@ -65,6 +65,12 @@ three_on slot z limit step f (Value_is v g s) h k l m =
     record { control_is = ap word_of k ∙ h.control_is; limit_is = ap word_of l ∙ h.limit_is; step_is = ap word_of m ∙ h.step_is }
 three_on slot z limit step f (Ends e s) h k l m = tt
 
+-- two that are one meaning before a third
+one_of_two : (o : Outcome) (b c : Value → Meaning) → after o (λ v. b v >>= c) ≡ after (after o b) c
+unfolding after ◌>>=◌
+one_of_two (Value_is v f s) b c = refl
+one_of_two (Ends e s) b c = refl
+
 module _ (w : Way) where
   -- as `Does`, from locals of which this is so
   pub record From (n : Origin) (pre : Frame → Type 0) (bn : List ℤ) (br : List Value) (m : Meaning) (ty : TyView) (need p k : ℕ) : Type 0 where
@@ -100,6 +106,14 @@ module _ (w : Way) where
         (comes_from n last need q k nums refs tya ty mid b db room (a f s) (post f s is) (leads_left leads since) reach);
   }
 
+  then_as_one : {n : Origin} {pre : Frame → Type 0} {bn : List ℤ} {br : List Value} {ty : TyView} {need p k : ℕ} (a : Meaning)
+      (b c : Value → Meaning) → From n pre bn br (a >>= λ v. b v >>= c) ty need p k → From n pre bn br ((a >>= b) >>= c) ty need p k
+  unfolding ◌>>=◌
+  then_as_one {ty = ty} {k = k} a b c h = record {
+    by = λ nums refs f s is room since reach. h.by nums refs f s is room since
+        (subst (λ (o : Outcome). Comes w k nums refs ty o) (sym (one_of_two (a f s) b c)) reach);
+  }
+
   -- what a loop by `for` needs, and where it stands: its turns begin here, and the step to the next is here
   pub record Stands (n : Origin) (own_locals : List Local) (slot control ns need turn q : ℕ) (clause : Meaning) : Type 0 where
     pub typed : KeepsTypes n.locals own_locals slot control
@@ -121,7 +135,7 @@ module _ (w : Way) where
   module _ (n : Origin) (own_locals : List Local) (slot control ns need turn q : ℕ) (clause : Meaning) (limit step_by : ℤ)
       (h : Stands n own_locals slot control ns need turn q clause) where
     abbrev loop : Counting
-    loop = record { slot = slot; control = Plain control; limit = limit; step = step_by }
+    loop = record { slot = slot; scope = None; control = Plain control; limit = limit; step = step_by }
 
     abbrev At : ℤ → Frame → Type 0
     At z f = Three slot z limit step_by f
@@ -185,9 +199,9 @@ module _ (w : Way) where
             limit_is = ap word_of (other_local f.nums slot (slot + 1) (Num z') (λ e. omega arith)) ∙ is.limit_is;
             step_is = ap word_of (other_local f.nums slot (slot + 2) (Num z') (λ e. omega arith)) ∙ is.step_is;
           } in
-          let set_types = (h.typed.counts z' s.store.heap).runs f s (grows_not s.store.heap) known.typed known.are in
+          let set_types = (h.typed.counts z' s.store.heap).runs f s (grows_not s.store.heap) known.typed (known.are, tt) in
           rest z' (place w q nums refs f s.store) (instr.ForNext slot turn) nums refs g s refl h.next_at acts
-          (record { few = known.few; grows = grows_not s.store.heap; typed = known.typed; are = set_types.are }) le
+          (record { few = known.few; grows = grows_not s.store.heap; typed = known.typed; are = set_types.are.0 }) le
           (grows_then n.heap heap s.store.heap grown known.grows)
           (goes_on_int limit step_by z' on_it) now room reach;
     }
@@ -198,18 +212,19 @@ module _ (w : Way) where
 
     -- a turn, and those behind it
     turn_does : (m : ℕ) (heap : Heap) (z : ℤ) → m ≤ n.turns → Grows n.heap heap → is_int z ≡ true → Turns m →
-        From (since m heap n.locals) (At z) [] [] (set (Plain control) types.Int (Num z) >>= λ u. clause >>= λ v.
+        From (since m heap n.locals) (At z) [] [] (in_turn loop clause z >>= λ v.
         choose (goes_on limit step_by (z +ℤ step_by))
         (set (Plain slot) types.Int (Num (z +ℤ step_by)) >>= λ u. for_turns m loop clause (z +ℤ step_by)) (give Nothing)) types.Void need turn (q + 9)
     turn_does m heap z le grown is_number rest =
-        then_from _ (λ v g. At z g) 1 need turn (turn + 5 + 5) (q + 9) h.one
+        then_as_one _ _ _
+        (then_from _ (λ v g. At z g) 1 need turn (turn + 5 + 5) (q + 9) h.one
         (record { falls = falls_set (Plain control) types.Int (Num z); sound = h.typed.sets z is_number heap }) (control_post z)
         (control_does m heap z)
         (λ new u g of. let further = grows_then n.heap heap new grown g in
         then_from _ (λ v g. At z g) ns need (turn + 5 + 5) q (q + 9) h.few (leads_more le further h.leads)
         (λ f s is. three_on slot z limit step_by f (clause f s) is (h.keeps f s) (h.keeps_limit f s) (h.keeps_step f s))
         (from_does (At z) (fewer w m new le further h.does))
-        (λ last v k is. next_does m last z le (grows_then n.heap new last further k) rest (goes_on limit step_by (z +ℤ step_by)) refl))
+        (λ last v k is. next_does m last z le (grows_then n.heap new last further k) rest (goes_on limit step_by (z +ℤ step_by)) refl)))
 
     turns_go : (m : ℕ) → Turns m
     unfolding for_turns take_turn stop ◌>>=◌
@@ -297,14 +312,14 @@ module _ (w : Way) where
       Does w n [] [] b types.Int nb (pa + 5) pb → IsAt (code_in w.unit) pb (instr.SetM (slot + 1)) →
       Does w n [] [] c types.Int nc (pb + 5) pc → IsAt (code_in w.unit) pc (instr.SetM (slot + 2)) →
       IsAt (code_in w.unit) (pc + 5) (instr.ForStart slot (q + 9) line) → Leaves slot b → Leaves slot c → Leaves (slot + 1) c →
-      Does w n [] [] (for_meant n.turns line slot (Plain control) a b c clause) types.Void need p (q + 9)
+      Does w n [] [] (for_meant n.turns line slot None (Plain control) a b c clause) types.Void need p (q + 9)
   unfolding for_meant
   does_for n own_locals slot control ns need q na nb nc p pa pb pc a b c clause line h le_a le_b le_c la lb lc da at_a db at_b dc at_c at_start
       keeps_b keeps_c keeps_limit =
       let three = h.three in
       let sets : (at : ℕ) (heap : Heap) (v : Value) → slot ≤ at → Leads (after_it n heap n.locals) n.locals types.Void (set (Plain at) types.Int v)
       = λ at heap v le. record { falls = falls_set (Plain at) types.Int v; sound = h.typed.spares at le heap v } in
-      let chain : From n (λ f. Unit {0}) [] [] (for_meant n.turns line slot (Plain control) a b c clause) types.Void need p (q + 9)
+      let chain : From n (λ f. Unit {0}) [] [] (for_meant n.turns line slot None (Plain control) a b c clause) types.Void need p (q + 9)
       = then_from _ (λ v g. Unit {0}) na need p pa (q + 9) le_a la (λ f s is. on_unit (a f s)) (from_does _ da)
       (λ h1 first g1 is1. then_from _ (λ u g. Reads slot (word_of first) g) 0 need pa (pa + 5) (q + 9) (omega arith)
       (sets slot h1 first (omega arith))

@@ -10,18 +10,20 @@ use Rattle.ps_meaning.specs.Values.{Value}
 use Rattle.ps_meaning.specs.Objects.{Heap}
 use Rattle.ps_meaning.specs.Meaning.{Meaning, ◌>>=◌}
 use Rattle.ps_meaning.specs.Evaluation.{Context, eval}
+use Rattle.ps_meaning.specs.Calls.{context}
 use Rattle.ps_stepping.specs.Config.{code_in, frame_in, IsAt}
 use Rattle.ps_soundness.specs.Shapes.{IsOf, Grows}
 use Rattle.ps_soundness.proofs.Growing.{grows_then, of_kept}
 use Rattle.ps_code_laws.specs.Meets.{nums_left, refs_left}
 use Rattle.ps_code_laws.proofs.Standing.{Ahead, ahead_at}
-use Rattle.ps_code_laws.proofs.Falls.{falls_eval}
+use Rattle.ps_code_laws.proofs.Falls.{Falling, falls_eval, calls_fall}
 use Rattle.ps_code_laws.proofs.Clauses.{sounds_in}
 use Rattle.ps_code_laws.proofs.Clauses as clause
 use Rattle.ps_code_laws.proofs.Doing.{Origin, after_it, Leads, leads_more, Way, Does, later, does_then, does_over, nums_few, refs_few}
 
-abbrev pub context : ℕ → Context
-context n = record { bound = n }
+-- where a clause stands on this way, and so many turns may be left: inside the bodies that wait
+abbrev pub context_in : Way → ℕ → Context
+context_in w n = context n (length w.callers)
 
 abbrev pub deepest : Node → List (Part ℕ) → ℕ
 deepest t parts = reaches 0 parts
@@ -59,9 +61,12 @@ module _ (w : Way) where
   pub next_of : (p n : ℕ) (i : Instr) (is : List Instr) → width_of i ≡ n → Ahead w.unit p (i ∷ is) → Ahead w.unit (p + n) is
   next_of p n i is e h = ahead_at w.unit (p + width_of i) (p + n) is (ap (λ k. p + k) e) h.1
 
+  pub falls_in : (n : ℕ) (t : Node) → Falling (eval (context_in w n) t)
+  falls_in n t = falls_eval (context_in w n) (calls_fall n (length w.callers)) t
+
   -- what is known of a clause where it begins
-  pub leads_of : (n : Origin) {t : Node} {ty : TyView} → clause.Part nums_of refs_of n.locals t ty → Leads n n.locals ty (eval (context n.turns) t)
-  leads_of n {t = t} h = record { falls = falls_eval (context n.turns) t; sound = sounds_in h (context n.turns) n.heap }
+  pub leads_of : (n : Origin) {t : Node} {ty : TyView} → clause.Part nums_of refs_of n.locals t ty → Leads n n.locals ty (eval (context_in w n.turns) t)
+  leads_of n {t = t} h = record { falls = falls_in n.turns t; sound = sounds_in h (context_in w n.turns) n.heap }
 
   -- one operand, and an instruction that takes it
   pub does_one : {n : Origin} {a : Meaning} {tya ty : TyView} (op : Value → Meaning) (na ni need p q k : ℕ) → na ≤ need → ni ≤ need →

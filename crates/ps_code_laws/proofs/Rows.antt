@@ -98,8 +98,8 @@ has_unit = (
   ),
 )
 
-it_runs : Told → (turns : ℕ) → Runs (run_events turns program) (start (unit_of program) (fresh_store turns (code_weight program))) []
-it_runs told turns = program_runs told program turns is_typed it_has_a_run (omega arith) has_unit
+it_runs : Told → (turns : ℕ) → Runs (run_events turns [] program) (start (unit_of program) (fresh_store turns [] (code_weight program))) []
+it_runs told turns = program_runs told program turns [] is_typed it_has_a_run (omega arith) has_unit
 
 -- let v = @1 of string ["ab"]; write v(1) ++ "c"
 abbrev strings : Node
@@ -132,5 +132,5 @@ strings_have_a_run : RunsWhole of_strings
 strings_have_a_run = (refl, (refl, ((tt, (tt, refl, (refl, tt))), ((((tt, refl), refl), tt), tt))))
 
 strings_run : Told → (turns : ℕ) → HasUnit of_strings →
-    Runs (run_events turns of_strings) (start (unit_of of_strings) (fresh_store turns (code_weight of_strings))) []
-strings_run told turns has = program_runs told of_strings turns strings_are_typed strings_have_a_run (omega arith) has
+    Runs (run_events turns [] of_strings) (start (unit_of of_strings) (fresh_store turns [] (code_weight of_strings))) []
+strings_run told turns has = program_runs told of_strings turns [] strings_are_typed strings_have_a_run (omega arith) has

@@ -38,11 +38,11 @@ use Rattle.ps_stepping.specs.Config.{constants_in, constant_at}
 use Rattle.ps_stepping.specs.Machine.{on, answered, push_text, act}
 use Rattle.ps_code_laws.specs.Meets.{nums_left, refs_left}
 use Rattle.ps_code_laws.proofs.Standing.{Ahead, Named, ahead_at, front, behind, named_front, named_behind, after_clause, after_clauses, names_behind}
-use Rattle.ps_code_laws.proofs.Falls.{falls_then, falls_eval}
+use Rattle.ps_code_laws.proofs.Falls.{falls_then}
 use Rattle.ps_code_laws.proofs.Clauses.{IsNum, IsRef, Kind, IsShown, IsCompared, Clause, Items, ArmsAre, AllAre, Args, sounds_in}
 use Rattle.ps_code_laws.proofs.Clauses as clause
 use Rattle.ps_code_laws.proofs.Doing.{Origin, after_it, Leads, Way, place, Does, does_then, does_nothing, does_left, does_give, push_goes, push_ref_goes, does_get, does_get_ref, does_set, does_set_ref, taken, taken_ref, does_answer, does_write, does_stop, does_jump_false, does_and, does_or, does_jump, jump_does, does_while, does_same, moved, does_over, nums_few, refs_few}
-use Rattle.ps_code_laws.proofs.Operands.{context, deepest, reaches_behind, at_least_one, nums_of, refs_of, Stand, to_end, from_place, next_of, leads_of, does_one, does_two, does_three}
+use Rattle.ps_code_laws.proofs.Operands.{context_in, falls_in, deepest, reaches_behind, at_least_one, nums_of, refs_of, Stand, to_end, from_place, next_of, leads_of, does_one, does_two, does_three}
 use Rattle.ps_code_laws.proofs.TextForms.{does_join, does_part, does_length, does_iformat}
 use Rattle.ps_code_laws.proofs.StructureForms.{does_is, does_field, does_set_field}
 use Rattle.ps_code_laws.proofs.VectorForms.{does_fill, does_element, does_set_element, does_bound}
@@ -194,12 +194,12 @@ module _ (w : Way) where
     unfolding eval eval_all eval_each eval_arms eval_labels ◌>>=◌ after give choose
 
     pub does : (n : Origin) (at k : ℕ) {t : Node} {ty : TyView} → clause.Part (nums_of w) (refs_of w) n.locals t ty → Ahead w.unit at (emit t at k) →
-        Named w.unit k (constants t) → Does w n [] [] (eval (context n.turns) t) ty (depth t) at (at + size t)
+        Named w.unit k (constants t) → Does w n [] [] (eval (context_in w n.turns) t) ty (depth t) at (at + size t)
     does n at k (clause.that h sounds) ahead names = clause_does n at k h ahead names
 
     pub clause_does : (n : Origin) (at k : ℕ) {t : Node} {ty : TyView} → Clause (nums_of w) (refs_of w) n.locals t ty →
         Ahead w.unit at (emit t at k) →
-        Named w.unit k (constants t) → Does w n [] [] (eval (context n.turns) t) ty (depth t) at (at + size t)
+        Named w.unit k (constants t) → Does w n [] [] (eval (context_in w n.turns) t) ty (depth t) at (at + size t)
     clause_does n at k (clause.int {v = v}) h names =
         does_give w n at 1 [] [] (Num v) types.Int (instr.Int v) (λ nums refs f store room. push_goes w (at + 5) v nums refs f store room) h.0
     clause_does n at k (clause.flag {v = v}) h names = does_flag n at v h.0
@@ -244,7 +244,7 @@ module _ (w : Way) where
         to_end w (clause_at + size a) (at + size whole) (omega by_arith)
         (does_then w _ (depth c) (depth whole) (depth whole) at (at + size c) (clause_at + size a) (omega by_arith) (omega by_arith)
         (leads_of w n tc) (does n at k tc (front w.unit at (emit c at k) _ h) (named_front w.unit k (constants c) _ names))
-        (λ new v g is_so. does_jump_false w (depth whole) (at + size c) (clause_at + size a) (clause_at + size a) v (eval (context n.turns) a)
+        (λ new v g is_so. does_jump_false w (depth whole) (at + size c) (clause_at + size a) (clause_at + size a) v (eval (context_in w n.turns) a)
         (give Nothing)
         (moved w (depth a) (depth whole) clause_at (clause_at + size a) (clause_at + size a) (omega by_arith) refl
         (does (after_it n new n.locals) clause_at (k + count c) ta rest.1 (names_behind w.unit c k _ names)))
@@ -260,7 +260,7 @@ module _ (w : Way) where
         to_end w end (at + size whole) (omega by_arith)
         (does_then w _ (depth c) (depth whole) (depth whole) at (at + size c) end (omega by_arith) (omega by_arith)
         (leads_of w n tc) (does n at k tc (front w.unit at (emit c at k) _ h) (named_front w.unit k (constants c) _ names))
-        (λ new v g is_so. does_jump_false w (depth whole) (at + size c) end other v (eval (context n.turns) a) (eval (context n.turns) b)
+        (λ new v g is_so. does_jump_false w (depth whole) (at + size c) end other v (eval (context_in w n.turns) a) (eval (context_in w n.turns) b)
         (does_jump w (clause_at + size a) end (omega by_arith) rest_b.0
         (moved w (depth a) (depth whole) clause_at (clause_at + size a) (clause_at + size a)
         (omega by_arith) refl (does (after_it n new n.locals) clause_at (k + count c) ta
@@ -278,7 +278,7 @@ module _ (w : Way) where
         let some = some_size_in tc refl in
         to_end w (test_at + size c + 5) (at + size whole) (omega by_arith)
         (jump_does w at test_at (omega by_arith) h.0
-        (does_while w n (depth whole) (depth c) (depth a) test_at (test_at + size c) clause_at (eval (context n.turns) c) (eval (context n.turns) a)
+        (does_while w n (depth whole) (depth c) (depth a) test_at (test_at + size c) clause_at (eval (context_in w n.turns) c) (eval (context_in w n.turns) a)
         (omega by_arith) (omega by_arith) (leads_of w n tc) (leads_of w n ta)
         (does n test_at (k + count a) tc (front w.unit test_at (emit c test_at (k + count a)) _ rest) (names_behind w.unit a k _ names))
         (does n clause_at k ta (front w.unit clause_at (emit a clause_at k) _ h.1) (named_front w.unit k (constants a) _ names))
@@ -292,23 +292,23 @@ module _ (w : Way) where
         let again = after_clause w.unit c (clause_at + size a) (k + count b + count a) _ rest_c in
         let names_a = names_behind w.unit b k _ names in
         let some = some_size_in tc refl in
-        let test : Does w n [] [] (eval (context n.turns) a >>= λ u. eval (context n.turns) c) types.Bool (depth whole) clause_at
+        let test : Does w n [] [] (eval (context_in w n.turns) a >>= λ u. eval (context_in w n.turns) c) types.Bool (depth whole) clause_at
         (clause_at + size a + size c)
-        = does_then w (λ u. eval (context n.turns) c) (depth a) (depth c) (depth whole) clause_at (clause_at + size a) (clause_at + size a + size c)
+        = does_then w (λ u. eval (context_in w n.turns) c) (depth a) (depth c) (depth whole) clause_at (clause_at + size a) (clause_at + size a + size c)
         (omega by_arith) (omega by_arith) (leads_of w n ta)
         (does n clause_at (k + count b) ta (front w.unit clause_at (emit a clause_at (k + count b)) _ rest)
         (named_front w.unit (k + count b) (constants a) _ names_a))
         (λ new u g is. does (after_it n new n.locals) (clause_at + size a) (k + count b + count a) tc
         (front w.unit (clause_at + size a) (emit c (clause_at + size a) (k + count b + count a)) _ rest_c)
         (names_behind w.unit a (k + count b) _ names_a)) in
-        let leads_test : Leads n n.locals types.Bool (eval (context n.turns) a >>= λ u. eval (context n.turns) c)
+        let leads_test : Leads n n.locals types.Bool (eval (context_in w n.turns) a >>= λ u. eval (context_in w n.turns) c)
         = record {
-          falls = falls_then (eval (context n.turns) a) _ (falls_eval (context n.turns) a) (λ u. falls_eval (context n.turns) c);
-          sound = sound_then (sounds_in ta (context n.turns) n.heap) (λ new u g is. sounds_in tc (context n.turns) new);
+          falls = falls_then (eval (context_in w n.turns) a) _ (falls_in w n.turns a) (λ u. falls_in w n.turns c);
+          sound = sound_then (sounds_in ta (context_in w n.turns) n.heap) (λ new u g is. sounds_in tc (context_in w n.turns) new);
         } in
         to_end w (clause_at + size a + size c + 5) (at + size whole) (omega by_arith)
         (jump_does w at clause_at (omega by_arith) h.0
-        (does_while w n (depth whole) (depth whole) (depth b) clause_at (clause_at + size a + size c) between _ (eval (context n.turns) b)
+        (does_while w n (depth whole) (depth whole) (depth b) clause_at (clause_at + size a + size c) between _ (eval (context_in w n.turns) b)
         (omega by_arith) (omega by_arith) leads_test (leads_of w n tb) test
         (does n between k tb (front w.unit between (emit b between k) _ h.1) (named_front w.unit k (constants b) _ names))
         (omega by_arith) again.0 n.turns n.heap (omega by_arith) (grows_not n.heap)))
@@ -334,7 +334,7 @@ module _ (w : Way) where
         let q = clause_at + size s in
         let start_at : Stand w (step_at + size c + 5) (instr.ForStart slot (q + 9) line)
         = subst (λ (end : ℕ). Stand w (step_at + size c + 5) (instr.ForStart slot end line)) (omega by_arith) rest_c.1.0 in
-        let stands : Stands w n own_locals slot control (depth s) (depth whole) turn q (eval (context n.turns) s)
+        let stands : Stands w n own_locals slot control (depth s) (depth whole) turn q (eval (context_in w n.turns) s)
         = record {
           typed = typed;
           leads = leads_of w (after_it n n.heap own_locals) ts;
@@ -349,14 +349,14 @@ module _ (w : Way) where
               (does (after_it n n.heap own_locals) clause_at (own + 0) ts (front w.unit clause_at (emit s clause_at (own + 0)) _ of_s) names_s);
           next_at = rest_s.0;
           back = omega by_arith;
-          keeps = is.keeps (context n.turns);
-          keeps_limit = is.keeps_limit (context n.turns);
-          keeps_step = is.keeps_step (context n.turns);
+          keeps = is.keeps (context_in w n.turns);
+          keeps_limit = is.keeps_limit (context_in w n.turns);
+          keeps_step = is.keeps_step (context_in w n.turns);
         } in
         to_end w (q + 9) (at + size whole) (omega by_arith)
         (does_for w n own_locals slot control (depth s) (depth whole) q (depth a) (depth b) (depth c) at (at + size a) (limit_at + size b)
         (step_at + size c)
-        (eval (context n.turns) a) (eval (context n.turns) b) (eval (context n.turns) c) (eval (context n.turns) s) line stands (omega by_arith)
+        (eval (context_in w n.turns) a) (eval (context_in w n.turns) b) (eval (context_in w n.turns) c) (eval (context_in w n.turns) s) line stands (omega by_arith)
         (omega by_arith) (omega by_arith)
         (leads_of w n ta) (leads_of w n tb) (leads_of w n tc)
         (does n at k ta (front w.unit at (emit a at k) _ h) (named_front w.unit k (constants a) _ names)) rest_a.0
@@ -365,7 +365,7 @@ module _ (w : Way) where
         rest_b.0
         (does n step_at (k + count a + count b) tc (front w.unit step_at (emit c step_at (k + count a + count b)) _ rest_b.1)
         (named_front w.unit (k + count a + count b) (constants c) _ names_c)) rest_c.0 start_at
-        (is.limit_keeps (context n.turns)) (is.step_keeps (context n.turns)) (is.step_keeps_limit (context n.turns)))
+        (is.limit_keeps (context_in w n.turns)) (is.step_keeps (context_in w n.turns)) (is.step_keeps_limit (context_in w n.turns)))
     clause_does n at k (clause.case {e = e} {d = d} {arms = arms} {value = value} {ty = ty} is te tarms td) h names =
         let whole = node.Case e arms d value in
         let first = at + size e in
@@ -383,10 +383,10 @@ module _ (w : Way) where
         (ap (λ j. k + count e + j) (count_of_arms arms)) names_arms in
         let last = reaches_behind 1 (depth whole) (fold_arms deepest arms) (branch (depth d) ∷ []) (omega by_arith) in
         to_end w end (at + size whole) (omega by_arith)
-        (does_then w (λ v. eval_arms (context n.turns) value v arms (eval (context n.turns) d)) (depth e) (depth whole) (depth whole) at first end
+        (does_then w (λ v. eval_arms (context_in w n.turns) value v arms (eval (context_in w n.turns) d)) (depth e) (depth whole) (depth whole) at first end
         (omega by_arith) (omega by_arith)
         (leads_of w n te) (does n at k te (front w.unit at (emit e at k) _ h) (named_front w.unit k (constants e) _ names))
-        (λ new v g is_so. does_arms (after_it n new n.locals) first (k + count e) (depth whole) 1 end is v (eval (context n.turns) d)
+        (λ new v g is_so. does_arms (after_it n new n.locals) first (k + count e) (depth whole) 1 end is v (eval (context_in w n.turns) d)
         (branch (depth d) ∷ []) tarms
         is_so (omega by_arith) of_arms (named_front w.unit (k + count e) (constants_of_arms arms) _ names_arms) (omega by_arith)
         (λ final l. does_default w is (depth whole) (depth d) drop_at end v (omega by_arith) rest_d.0
@@ -398,7 +398,7 @@ module _ (w : Way) where
         to_end w (other + size b) (at + size whole) (omega by_arith)
         (does_then w _ (depth a) (depth whole) (depth whole) at (at + size a) (other + size b) (omega by_arith) (omega by_arith)
         (leads_of w n ta) (does n at k ta (front w.unit at (emit a at k) _ h) (named_front w.unit k (constants a) _ names))
-        (λ new v g is_so. does_and w (depth whole) (at + size a) (other + size b) v (eval (context n.turns) b)
+        (λ new v g is_so. does_and w (depth whole) (at + size a) (other + size b) v (eval (context_in w n.turns) b)
         (moved w (depth b) (depth whole) other (other + size b) (other + size b) (omega by_arith) refl
         (does (after_it n new n.locals) other (k + count a) tb rest.1 (names_behind w.unit a k _ names))) (omega by_arith) rest.0 (flag_of v) refl))
     clause_does n at k (clause.or {a = a} {b = b} ta tb) h names =
@@ -408,7 +408,7 @@ module _ (w : Way) where
         to_end w (other + size b) (at + size whole) (omega by_arith)
         (does_then w _ (depth a) (depth whole) (depth whole) at (at + size a) (other + size b) (omega by_arith) (omega by_arith)
         (leads_of w n ta) (does n at k ta (front w.unit at (emit a at k) _ h) (named_front w.unit k (constants a) _ names))
-        (λ new v g is_so. does_or w (depth whole) (at + size a) (other + size b) v (eval (context n.turns) b)
+        (λ new v g is_so. does_or w (depth whole) (at + size a) (other + size b) v (eval (context_in w n.turns) b)
         (moved w (depth b) (depth whole) other (other + size b) (other + size b) (omega by_arith) refl
         (does (after_it n new n.locals) other (k + count a) tb rest.1 (names_behind w.unit a k _ names))) (omega by_arith) rest.0 (flag_of v) refl))
     clause_does n at k (clause.not {e = e} te) h names =
@@ -571,7 +571,7 @@ module _ (w : Way) where
         let rest = after_clause w.unit a at k _ h in
         let names_items = names_behind w.unit a k _ names in
         to_end w (last + 13) (at + size whole) (omega by_arith)
-        (does_then w (λ low. eval_each (context n.turns) items (elements_meant line (type_text (types.Vector t)) low)) (depth a) (depth whole)
+        (does_then w (λ low. eval_each (context_in w n.turns) items (elements_meant line (type_text (types.Vector t)) low)) (depth a) (depth whole)
         (depth whole) at first
         (last + 13) (omega by_arith) (omega by_arith) (leads_of w n ta)
         (does n at k ta (front w.unit at (emit a at k) _ h) (named_front w.unit k (constants a) _ names))
@@ -653,12 +653,12 @@ module _ (w : Way) where
         Ahead w.unit at (emit_all ts at k) → Named w.unit k (constants_of_all ts) → (next : List Value → Meaning) →
         ((new : Heap) (vs : List Value) → Grows n.heap new → AreOf new fields vs →
         Does w (after_it n new n.locals) (pushed_nums fields vs bn) (pushed_refs fields vs br) (next vs) ty need (at + size_all ts) end) →
-        Does w n bn br (eval_each (context n.turns) ts next) ty need at end
+        Does w n bn br (eval_each (context_in w n.turns) ts next) ty need at end
     does_args n at k need before end bn br few_nums few_refs clause.no_arg deep h names next d =
         from_place w (at + 0) at (omega by_arith) (d n.heap [] (grows_not n.heap) tt)
     does_args n at k need before end bn br few_nums few_refs (clause.one_arg {first = t} {rest = ts} {field = field} kind th tail) deep h names next
         d =
-        does_over w bn br (λ v. eval_each (context n.turns) ts (λ vs. next (v ∷ vs))) before (depth t) need need at (at + size t) end few_nums
+        does_over w bn br (λ v. eval_each (context_in w n.turns) ts (λ vs. next (v ∷ vs))) before (depth t) need need at (at + size t) end few_nums
         few_refs
         (omega by_arith) (omega by_arith) (leads_of w n th)
         (does n at k th (front w.unit at (emit t at k) _ h) (named_front w.unit k (constants t) _ names))
@@ -676,11 +676,11 @@ module _ (w : Way) where
         Ahead w.unit at (emit_all ts at k) → Named w.unit k (constants_of_all ts) → (next : List Value → Meaning) →
         ((new : Heap) (vs : List Value) → Grows n.heap new → AllByRecursion (IsOf new of) vs → length vs ≡ items_in ts →
         Does w (after_it n new n.locals) (all_nums of vs bn) (all_refs of vs br) (next vs) ty need (at + size_all ts) end) →
-        Does w n bn br (eval_each (context n.turns) ts next) ty need at end
+        Does w n bn br (eval_each (context_in w n.turns) ts next) ty need at end
     does_items n at k need before end bn br few_nums few_refs clause.none_is deep h names next d =
         from_place w (at + 0) at (omega by_arith) (d n.heap [] (grows_not n.heap) tt refl)
     does_items n at k need before end {of = of} bn br few_nums few_refs (clause.one_is {first = t} {rest = ts} th tail) deep h names next d =
-        does_over w bn br (λ v. eval_each (context n.turns) ts (λ vs. next (v ∷ vs))) before (depth t) need need at (at + size t) end few_nums
+        does_over w bn br (λ v. eval_each (context_in w n.turns) ts (λ vs. next (v ∷ vs))) before (depth t) need need at (at + size t) end few_nums
         few_refs
         (omega by_arith) (omega by_arith) (leads_of w n th)
         (does n at k th (front w.unit at (emit t at k) _ h) (named_front w.unit k (constants t) _ names))
@@ -694,12 +694,12 @@ module _ (w : Way) where
 
     does_all : (n : Origin) (at k need before : ℕ) {first ty : TyView} {ts : Nodes} (v : Value) → Items (nums_of w) (refs_of w) n.locals first ts ty →
         reaches before (fold_all deepest branch ts) ≤ need → Ahead w.unit at (emit_all ts at k) → Named w.unit k (constants_of_all ts) →
-        Does w n (nums_left first v) (refs_left first v) (eval_all (context n.turns) v ts) ty need at (at + size_all ts)
+        Does w n (nums_left first v) (refs_left first v) (eval_all (context_in w n.turns) v ts) ty need at (at + size_all ts)
     does_all n at k need before {first = first} v clause.at_end deep h names = to_end w at (at + 0) (omega by_arith) (does_left w n need at first v)
     does_all n at k need before v (clause.an_item {next = next} {item = t} {rest = ts} head sounds tail) deep h names =
-        does_then w {last = next} (λ u. eval_all (context n.turns) u ts) (depth t) need need at (at + size t) (at + (size t + size_all ts))
+        does_then w {last = next} (λ u. eval_all (context_in w n.turns) u ts) (depth t) need need at (at + size t) (at + (size t + size_all ts))
         (omega by_arith) (omega by_arith)
-        (record { falls = falls_eval (context n.turns) t; sound = sounds (context n.turns) n.heap })
+        (record { falls = falls_in w n.turns t; sound = sounds (context_in w n.turns) n.heap })
         (clause_does n at k head (front w.unit at (emit t at k) _ h) (named_front w.unit k (constants t) _ names))
         (λ new u g is. to_end w (at + size t + size_all ts) (at + (size t + size_all ts)) (omega by_arith)
         (does_all (after_it n new next) (at + size t) (k + count t) need (before + 1) u tail (omega by_arith) (after_clause w.unit t at k _ h)
@@ -713,7 +713,7 @@ module _ (w : Way) where
         Named w.unit k (constants_of_arms arms) → at + size_arms arms < end →
         ((new : Heap) → Grows n.heap new → Does w (after_it n new n.locals) (nums_left value v) (refs_left value v) default ty need
         (at + size_arms arms) end) →
-        Does w n (nums_left value v) (refs_left value v) (eval_arms (context n.turns) value v arms default) ty need at end
+        Does w n (nums_left value v) (refs_left value v) (eval_arms (context_in w n.turns) value v arms default) ty need at end
     does_arms n at k need before end by v default others clause.no_more is deep h names lt d =
         from_place w (at + 0) at (omega by_arith) (d n.heap (grows_not n.heap))
     does_arms n at k need before end {value = value} by v default others (clause.one_arm {labels = labels} {a = a} {rest = rest} tlabels ta trest) is
@@ -733,7 +733,7 @@ module _ (w : Way) where
         let behind_a = after_clause w.unit a (chosen + 1) names_a _ of_a in
         let its_names = named_behind w.unit k names_a (constants_of_all labels) _ (ap (λ j. k + j) (count_of_all labels)) names in
         does_labels n at k need before chosen end by v
-        (λ found. choose (flag_of found) (eval (context n.turns) a) (eval_arms (context n.turns) value v rest default))
+        (λ found. choose (flag_of found) (eval (context_in w n.turns) a) (eval_arms (context_in w n.turns) value v rest default))
         (branch (depth a) ∷ (fold_arms deepest rest ++ others)) tlabels is labels_deep (front w.unit at (emit_labels value chosen labels at k) _ h)
         (named_front w.unit k (constants_of_all labels) _ names) (omega by_arith)
         (λ new g. does_chosen w by need (depth a) chosen (chosen + 1 + size a) end v (omega by_arith) at_jump.1.0
@@ -755,7 +755,7 @@ module _ (w : Way) where
         end) →
         ((new : Heap) → Grows n.heap new →
         Does w (after_it n new n.locals) (nums_left value v) (refs_left value v) (next (Flag false)) ty need (at + size_labels labels) end) →
-        Does w n (nums_left value v) (refs_left value v) (eval_labels (context n.turns) value v labels >>= next) ty need at end
+        Does w n (nums_left value v) (refs_left value v) (eval_labels (context_in w n.turns) value v labels >>= next) ty need at end
     does_labels n at k need before chosen end by v next others clause.none_is is deep h names lt found missed =
         does_same w _ (λ f s. refl) (from_place w (at + 0) at (omega by_arith) (missed n.heap (grows_not n.heap)))
     does_labels n at k need before chosen end {value = value} by v next others (clause.one_is {first = l} {rest = rest} tl trest) is deep h names lt
@@ -768,7 +768,7 @@ module _ (w : Way) where
         (width_by_type 1 value instr.DupM instr.DupP refl refl) h in
         let rest_l = after_clause w.unit l label_at k behind_label of_label in
         let at_jump = next_of w q 1 (choice.compare relation.Equal value) behind_test (width_compare relation.Equal value) rest_l in
-        does_label w by need (depth l) at q chosen end v (eval (context n.turns) l) (eval_labels (context n.turns) value v rest) next
+        does_label w by need (depth l) at q chosen end v (eval (context_in w n.turns) l) (eval_labels (context_in w n.turns) value v rest) next
         (omega by_arith) is
         (leads_of w n tl) h.0
         (does n label_at k tl (front w.unit label_at (emit l label_at k) _ of_label) (named_front w.unit k (constants l) _ names))

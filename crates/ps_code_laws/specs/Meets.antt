@@ -1,5 +1,5 @@
 -- What the machine is to do with a body, inside any bodies that wait: what the body's clause means.
-use Rattle.std.specs.Prelude.{◌≡◌, ℕ, ◌≤◌, ℤ, List, [], ◌∷◌, ◌++◌}
+use Rattle.std.specs.Prelude.{◌≡◌, ℕ, ◌≤◌, ℤ, List, [], ◌∷◌, ◌++◌, length}
 use Rattle.ps_base.specs.TyView.{TyView}
 use Rattle.ps_base.specs.TyView as types
 use Rattle.ps_base.specs.CodeUnit.{UnitView}
@@ -9,6 +9,7 @@ use Rattle.ps_meaning.specs.Values.{Value, word_of}
 use Rattle.ps_meaning.specs.Event.{Event, Finish, Done}
 use Rattle.ps_meaning.specs.Meaning.{Frame, Store, State, Outcome, Value_is, Ends, Meaning, local_of}
 use Rattle.ps_meaning.specs.Evaluation.{eval}
+use Rattle.ps_meaning.specs.Calls.{context}
 use Rattle.ps_program.specs.declared.place.Place.{Place}
 use Rattle.ps_program.specs.declared.place.Place.TheVariants.{Plain, Kept}
 use Rattle.ps_meaning.specs.Objects.{Heap}
@@ -65,9 +66,9 @@ gives_of (body params gives tree scope line) = gives
 abbrev pub params_of : BodyNode → List Param
 params_of (body params gives tree scope line) = params
 
--- what a body's clause means where loops may take so many turns at most
-abbrev pub meant : ℕ → BodyNode → Meaning
-meant n (body params gives tree scope line) = eval (record { bound = n }) tree
+-- what a body's clause means where at most so many turns are left, inside so many calls
+abbrev pub meant : ℕ → ℕ → BodyNode → Meaning
+meant n depth (body params gives tree scope line) = eval (context n depth) tree
 
 -- a value that is handed in a local is of its parameter's type, and so is each that a body is handed
 abbrev pub IsHandedAt : Heap → Frame → TyView → Place → Type 0
@@ -83,7 +84,7 @@ AreHanded heap frame (param ∷ rest) = IsHandedAt heap frame param.ty param.pla
 pub record Meets (n : ℕ) (of : BodyNode) : Type 0 where
   pub follows : (callers : List Caller) (frame : Frame) (state : State) → state.store.turns ≤ n → IsTypedHeap state.store.heap →
       AreHanded state.store.heap frame (params_of of) →
-      Follows (standing (unit_of of) callers 0 [] [] frame state.store) state.events callers (gives_of of) (meant n of frame state)
+      Follows (standing (unit_of of) callers 0 [] [] frame state.store) state.events callers (gives_of of) (meant n (length callers) of frame state)
 
 -- a parameter that stands in a local, and whose type has values
 abbrev pub IsHanded : Param → Type 0

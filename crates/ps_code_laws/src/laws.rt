@@ -17,11 +17,11 @@ ghost use Rattle.ps_code_laws.specs.Meets.{IsHanded, Meets, params_of};
 use ps_type_text::{class_texts_tell_classes_apart, type_texts_tell_types_apart};
 
 /// The unit of a program that is well typed and runs steps to what the program means: all its events in their order, each where as many
-/// bytes are counted, and its end.
+/// bytes are counted, and its end. It does so whatever the input is.
 pub fn program_runs_as_meant()
-    ensures { (program : BodyNode) (turns : ℕ) → IsWellTyped program → RunsWhole program →
+    ensures { (program : BodyNode) (turns : ℕ) (input : List ℕ) → IsWellTyped program → RunsWhole program →
         slot_count program ≤ frame_words → HasUnit program →
-        Runs (run_events turns program) (start (unit_of program) (fresh_store turns (code_weight program))) [] }
+        Runs (run_events turns input program) (start (unit_of program) (fresh_store turns input (code_weight program))) [] }
 {
     type_texts_tell_types_apart();
     class_texts_tell_classes_apart();

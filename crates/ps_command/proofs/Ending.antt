@@ -67,9 +67,9 @@ end_is_of (Value_is v f s) so_far e count is =
 end_is_of (Ends e' s) so_far e count is =
     let same : Finish e' s.store.counted ≡ Finish e count = last_same s.events so_far (Finish e' s.store.counted) (Finish e count) is in cc
 
-end_is : (turns : ℕ) (program : BodyNode) (so_far : List Event) (e : End) (count : ℕ) → run_events turns program ≡ so_far ++ Finish e count ∷ [] → e ≡ run_end turns program
+end_is : (turns : ℕ) (program : BodyNode) (so_far : List Event) (e : End) (count : ℕ) → run_events turns [] program ≡ so_far ++ Finish e count ∷ [] → e ≡ run_end turns [] program
 unfolding run_events run_end
-end_is turns program so_far e count is = end_is_of (outcome_of turns program) so_far e count is
+end_is turns program so_far e count is = end_is_of (outcome_of turns [] program) so_far e count is
 
 -- the frame of a program that can be run is none that a machine refuses
 frame_is : (program : BodyNode) → IsCounted program → slot_count program ≤ 512 → IsFrame (frame_of program)
@@ -87,15 +87,15 @@ has_frame unit program r =
 
 -- what the laws say of each program
 abbrev pub AreRun : Type 0
-AreRun = (program : BodyNode) (turns : ℕ) → IsWellTyped program → RunsWhole program → slot_count program ≤ 512 → HasUnit program
-    → Runs (run_events turns program) (start (unit_of program) (fresh_store turns (code_weight program))) []
+AreRun = (program : BodyNode) (turns : ℕ) (input : List ℕ) → IsWellTyped program → RunsWhole program → slot_count program ≤ 512 → HasUnit program
+    → Runs (run_events turns input program) (start (unit_of program) (fresh_store turns input (code_weight program))) []
 
 abbrev pub AreWeighed : Type 0
 AreWeighed = (of : BodyNode) → 8 + 8 * unit_words (unit_of of) ≤ code_weight of
 
 module _ (unit : CodeUnit) (run : RunOf) (program : BodyNode) (are_run : AreRun) (are_weighed : AreWeighed) (r : IsRunnable unit program) (old m : Machine) where
-  runs : Runs (run_events run.turns program) (begin run program) []
-  runs = are_run program run.turns r.typed r.runs r.fits r.has_unit
+  runs : Runs (run_events run.turns [] program) (begin run program) []
+  runs = are_run program run.turns [] r.typed r.runs r.fits r.has_unit
 
   weighs : 8 + 8 * unit_words (unit_view unit) ≤ code_weight program
   weighs = subst (λ (u : UnitView). 8 + 8 * unit_words u ≤ code_weight program) (sym r.unit_is) (are_weighed program)
@@ -105,7 +105,7 @@ module _ (unit : CodeUnit) (run : RunOf) (program : BodyNode) (are_run : AreRun)
   ready size l = record {
     sound = l.sound;
     area = l.size ∙ size;
-    starts = subst (λ (u : UnitView). Holds m (start u (fresh_store run.turns (code_weight program)))) r.unit_is (l.starts (code_weight program) weighs);
+    starts = subst (λ (u : UnitView). Holds m (start u (fresh_store run.turns [] (code_weight program)))) r.unit_is (l.starts (code_weight program) weighs);
     runs = runs;
   }
 
@@ -114,7 +114,7 @@ module _ (unit : CodeUnit) (run : RunOf) (program : BodyNode) (are_run : AreRun)
       → FillsArea run program [] top wanted × (size ≡ area_size run)
   never_begins top wanted size is none =
       let whole : size ≡ area_size run = none.size_is ∙ is in
-      let first = next_counted (run_events run.turns program) (begin run program) [] runs refl in
+      let first = next_counted (run_events run.turns [] program) (begin run program) [] runs refl in
       let short = none.full in
       let passed = none.passed in
       let counts = first.3 in (
@@ -169,7 +169,7 @@ module _ {H : Type 0} (clock : H → ℕ) (told : H → ℕ → List ℕ → Typ
 
   module _ (run : RunOf) (program : BodyNode) (m : Machine) (r : IsReady run program m) where
     abbrev total : List Event
-    total = run_events run.turns program
+    total = run_events run.turns [] program
 
     abbrev RanTo : Result RunEnd RunFault → Type 0
     RanTo answer = Ran (seen old) (seen new) [] m.sw.size (begin run program) answer
@@ -192,18 +192,18 @@ module _ {H : Type 0} (clock : H → ℕ) (told : H → ℕ → List ℕ → Typ
     pub all_told : (e : RunEnd) (answered : ℕ) → answered ≡ status_of (end_of e) → RanTo (Ok e) → AnswersRun clock told faults old new run program answered
     all_told e answered is_status (ended {events = events} {last = last} way s tells) =
         let is = ended_by events last (end_of e) way s in
-        let status : answered ≡ status_of (run_end run.turns program) = is_status ∙ ap status_of (end_is run.turns program events (end_of e) last.store.counted is) in
+        let status : answered ≡ status_of (run_end run.turns [] program) = is_status ∙ ap status_of (end_is run.turns program events (end_of e) last.store.counted is) in
         let all = subst (λ (bs : List ℕ). TellsAll clock told faults old new bs) (sym (told_to_the_end total events (end_of e) last.store.counted is)) (host_told (outputs events ++ report_of (end_of e)) tells) in
         record {
           bytes = outputs total;
-          status = status_of (run_end run.turns program);
+          status = status_of (run_end run.turns [] program);
           comes = its_end;
-          answers = subst (λ (n : ℕ). Answers clock told faults old new (outputs total) (status_of (run_end run.turns program)) n) (sym status) (whole all);
+          answers = subst (λ (n : ℕ). Answers clock told faults old new (outputs total) (status_of (run_end run.turns [] program)) n) (sym status) (whole all);
         }
 
     -- where the output failed it was behind a front of it
     failed_in : FailsBehind clock told faults old new (outputs total) → AnswersRun clock told faults old new run program 8
-    failed_in fails = record { bytes = outputs total; status = status_of (run_end run.turns program); comes = its_end; answers = answers.cut fails }
+    failed_in fails = record { bytes = outputs total; status = status_of (run_end run.turns [] program); comes = its_end; answers = answers.cut fails }
 
     pub front_told : RanTo (Err Output) → AnswersRun clock told faults old new run program 8
     front_told (cut {events = events} {last = last} way fails) =

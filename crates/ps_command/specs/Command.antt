@@ -1,5 +1,5 @@
 -- What a command answers, and why.
-use Rattle.std.specs.Prelude.{◌≡◌, ℕ, ◌+◌, ◌*◌, ◌<◌, ◌≤◌, List, ◌∷◌, ◌++◌, length, Option, Some, None}
+use Rattle.std.specs.Prelude.{◌≡◌, ℕ, ◌+◌, ◌*◌, ◌<◌, ◌≤◌, List, [], ◌∷◌, ◌++◌, length, Option, Some, None}
 use Rattle.ps_base.specs.declared.TheConstants.{LONGEST_TEXT}
 use Rattle.ps_base.specs.declared.line.Line.{Line}
 use Rattle.ps_program.specs.Node.{BodyNode}
@@ -32,13 +32,13 @@ area_size run = 128 * run.area + 1
 pub record FillsArea (run : RunOf) (program : BodyNode) (before : List Event) (top wanted : ℕ) : Type 0 where
   pub next : Event
   pub rest : List Event
-  pub events_are : run_events run.turns program ≡ before ++ next ∷ rest
+  pub events_are : run_events run.turns [] program ≡ before ++ next ∷ rest
   pub passed : 1024 * run.area < count_of next
   pub short : area_size run < top + wanted
 
 -- What a program tells in a run, and the status of its end: it comes to its end, or its area is full.
 pub data RunsTo (run : RunOf) (program : BodyNode) : List ℕ → ℕ → Type 0 where
-  its_end : RunsTo run program (outputs (run_events run.turns program)) (status_of (run_end run.turns program))
+  its_end : RunsTo run program (outputs (run_events run.turns [] program)) (status_of (run_end run.turns [] program))
   area_full : {before : List Event} {top wanted : ℕ} → FillsArea run program before top wanted →
       RunsTo run program (outputs before ++ area_full_line top wanted (area_size run)) 11
 

@@ -20,16 +20,16 @@ use Rattle.ps_meaning.specs.Objects.{element_of as element_at}
 use Rattle.ps_meaning.specs.Evaluation.{while_turns, for_turns, for_loop, for_meant, kept_all, eval}
 use Rattle.ps_meaning.specs.Runs.{run_events, run_end, outcome_of, all_events, end_reached, fresh_frame, fresh_state}
 
-abbrev line : ℕ → Line
+abbrev pub line : ℕ → Line
 line n = record { 0 = n }
 
-abbrev program : Nodes → BodyNode
+abbrev pub program : Nodes → BodyNode
 program items = body [] ty.Void (node.Block None items) None (line 1)
 
-abbrev one : Node → BodyNode
+abbrev pub one : Node → BodyNode
 one clause = program (more clause none)
 
-abbrev write : Node → Node
+abbrev pub write : Node → Node
 write e = node.Write e node.Empty false ty.Int (line 1)
 
 abbrev text : List ℕ → Node
@@ -40,33 +40,33 @@ wide e w = node.Write e w true ty.Int (line 1)
 
 -- Events without their counts.
 
-abbrev plain : Event → Event
+abbrev pub plain : Event → Event
 plain (Out bytes counted) = Out bytes 0
 plain (Turn counted) = Turn 0
 plain (Finish e counted) = Finish e 0
 
 abbrev told_by : ℕ → BodyNode → List Event
-told_by turns program = map plain (run_events turns program)
+told_by turns program = map plain (run_events turns [] program)
 
-abbrev out : List ℕ → Event
+abbrev pub out : List ℕ → Event
 out bytes = Out bytes 0
 
-abbrev turn : Event
+abbrev pub turn : Event
 turn = Turn 0
 
-abbrev finish : End → Event
+abbrev pub finish : End → Event
 finish e = Finish e 0
 
-abbrev int : ℕ → Event
+abbrev pub int : ℕ → Event
 int n = out (signed_decimal (pos n))
 
-abbrev num : ℕ → Node
+abbrev pub num : ℕ → Node
 num n = node.Int (pos n)
 
 abbrev minus : ℕ → Node
 minus n = node.Neg (num n) (line 1)
 
-abbrev local : ℕ → Node
+abbrev pub local : ℕ → Node
 local s = node.Name (Plain s) ty.Int
 
 -- `for i = a to b by c do write i`
@@ -230,7 +230,7 @@ code_of_a_write : code_weight (one (write (num 3))) ≡ 64 + 48 + 4 * 96
 code_of_a_write = refl
 
 -- a text of two bytes is made, and then told
-join_is_counted : run_events 0 (one (node.Write (node.Join (node.Text (codes "a")) (node.Text (codes "b")) (line 1)) node.Empty false ty.Str (line 1)))
+join_is_counted : run_events 0 [] (one (node.Write (node.Join (node.Text (codes "a")) (node.Text (codes "b")) (line 1)) node.Empty false ty.Str (line 1)))
     ≡ Out (codes "ab") (64 + 48 + 6 * 96 + 2 * 48 + 48) ∷ Finish Done (64 + 48 + 6 * 96 + 2 * 48 + 48) ∷ []
 unfolding eval give stop after ◌>>=◌ attempt made_text emit written choose run_events outcome_of all_events fresh_frame fresh_state
 join_is_counted = refl

@@ -1,33 +1,37 @@
 -- The meaning of each clause. A clause goes from left to right, and an operation's own tests come behind all its operands.
-use Rattle.std.specs.Prelude.{ℕ, zero, suc, ◌+◌, ℤ, pos, negsuc, ◌+ℤ◌, Bool, true, false, not, ◌&&◌, int_le, nat_eq, List, [], ◌∷◌, length, map, Option, Some, None, if◌then◌else◌}
+use Rattle.std.specs.Prelude.{ℕ, zero, suc, ◌+◌, ℤ, pos, negsuc, ◌+ℤ◌, Bool, true, false, not, ◌&&◌, int_le, nat_eq, nat_lt, List, [], ◌∷◌, length, map, Option, Some, None, if◌then◌else◌}
 use Rattle.std.specs.Fmt.{signed_decimal}
 use Rattle.std.specs.Ordering.{is_eq, is_lt, is_gt}
 use Rattle.ps_base.specs.TyView.{TyView}
 use Rattle.ps_base.specs.TyView as ty
 use Rattle.ps_type_text.specs.Texts.{type_text}
 use Rattle.text_forms.specs.declared.forms.Form.{Form}
-use Rattle.text_forms.specs.declared.forms.Form.TheVariants as form
-use Rattle.text_forms.specs.declared.forms.Form.TheVariants.{Number}
 use Rattle.text_forms.specs.Forms.{forms_of, form_in, element_of}
 use Rattle.ps_base.specs.declared.line.Line.{Line}
-use Rattle.ps_base.specs.declared.trap.Trap.TheVariants.{Bounds, Abort}
+use Rattle.ps_base.specs.declared.trap.Trap.TheVariants as trap
+use Rattle.ps_base.specs.declared.trap.Trap.TheVariants.{Bounds, TooDeep, Abort}
 use Rattle.ps_base.specs.declared.operator.Relation.{Relation}
 use Rattle.ps_base.specs.declared.operator.Relation.TheVariants.{Equal, NotEqual, Less, LessEqual, Greater, GreaterEqual}
 use Rattle.ps_program.specs.declared.place.Place.{Place}
 use Rattle.ps_program.specs.declared.place.Place.TheVariants.{Plain}
-use Rattle.ps_program.specs.Node.{Node, Nodes, none, more, Arms, no_arms, more_arms, arm}
+use Rattle.ps_program.specs.Node.{Node, Nodes, none, more, Arms, no_arms, more_arms, arm, BodyNode}
 use Rattle.ps_program.specs.Node as node
 use Rattle.ps_meaning.specs.Operators.{is_int, is_same, neg_of, arith_of, relation_of}
 use Rattle.ps_meaning.specs.Event.{Trapped, OutOfTurns}
-use Rattle.ps_meaning.specs.Values.{Value, Num, Flag, Text, Nil, Pointer, Vector, Nothing, word_of, flag_of, bytes_of, shown}
-use Rattle.ps_meaning.specs.Texts.{join_of, part_of, order_of}
+use Rattle.ps_meaning.specs.Values.{Value, Num, Flag, Text, Nil, Pointer, Vector, Procedure, Nothing, as_written, word_of, flag_of, bytes_of, shown}
+use Rattle.ps_meaning.specs.Texts.{join_of, part_of, order_of, line_read, behind_line, is_at_end}
+pub use Rattle.ps_meaning.specs.Objects.{kept_as}
 use Rattle.ps_meaning.specs.Objects.{Structure, is_class, field_of, with_field, vector_of, filled_vector, vector_in, type_in, with_element, low_of, high_of, is_one_object}
 use Rattle.ps_meaning.specs.Objects.{element_of as element_at}
-use Rattle.ps_meaning.specs.Meaning.{Meaning, give, stop, ◌>>=◌, choose, answer, attempt, with_heap, put_heap, made, made_text, written, take_turn, get, set, unbuilt}
+use Rattle.ps_meaning.specs.Meaning.{Meaning, give, stop, ◌>>=◌, choose, answer, attempt, with_heap, put_heap, made, made_text, made_procedure, with_input, put_input, in_scope, in_frame, written, take_turn, get, set, unbuilt}
+use Rattle.ps_meaning.specs.Frames.{frame_of_call}
 
--- What a clause is evaluated in: a number that bounds the turns that are left, by which loops are defined.
+-- What a clause is evaluated in: a number that bounds the turns that are left, by which loops are defined; how many calls there are round it;
+-- and what a body does that is called with some arguments, in its frame.
 pub record Context : Type 0 where
   pub bound : ℕ
+  pub depth : ℕ
+  pub call : BodyNode → List Value → Meaning
 
 -- The test, and as long as it is true a turn, the clause, and the test again. Where the bound is 0 no turn is left.
 unfoldable pub while_turns : ℕ → Meaning → Meaning → Meaning
@@ -35,9 +39,10 @@ while_turns zero test clause = test >>= λ v. choose (flag_of v) (stop OutOfTurn
 while_turns (suc n) test clause =
     test >>= λ v. choose (flag_of v) (take_turn >>= λ t. clause >>= λ u. while_turns n test clause) (give Nothing)
 
--- a loop by `for` that has begun: where it counts, its control, and its limit and its step, which stay as they are
+-- a loop by `for` that has begun: where it counts, the scope of each turn, its control, and its limit and its step, which stay as they are
 pub record Counting : Type 0 where
   pub slot : ℕ
+  pub scope : Option (List ℕ)
   pub control : Place
   pub limit : ℤ
   pub step : ℤ
@@ -51,11 +56,15 @@ is_up (negsuc n) = false
 abbrev pub goes_on : ℤ → ℤ → ℤ → Bool
 goes_on limit step z = is_int z && (if is_up step then int_le z limit else int_le limit z)
 
+-- what is done in a turn: the clause with this number as the control, in a scope of its own
+abbrev pub in_turn : Counting → Meaning → ℤ → Meaning
+in_turn loop clause z = in_scope loop.scope (set loop.control ty.Int (Num z) >>= λ u. clause)
+
 -- A turn with this number as the control, and the turns behind it, where the loop goes on. Where the bound is 0 no turn is left.
 unfoldable pub for_turns : ℕ → Counting → Meaning → ℤ → Meaning
 for_turns zero loop clause z = stop OutOfTurns
 for_turns (suc n) loop clause z =
-    take_turn >>= λ t. set loop.control ty.Int (Num z) >>= λ u. clause >>= λ u.
+    take_turn >>= λ t. in_turn loop clause z >>= λ u.
     choose (goes_on loop.limit loop.step (z +ℤ loop.step))
     (set (Plain loop.slot) ty.Int (Num (z +ℤ loop.step)) >>= λ u. for_turns n loop clause (z +ℤ loop.step))
     (give Nothing)
@@ -66,23 +75,12 @@ for_loop n line loop clause start =
     (choose (goes_on loop.limit loop.step start) (for_turns n loop clause start) (give Nothing))
 
 -- The start, the limit and the step are evaluated once, in this order, and stand in three locals from a slot on.
-unfoldable pub for_meant : ℕ → Line → ℕ → Place → Meaning → Meaning → Meaning → Meaning → Meaning
-for_meant n line slot control a b c clause =
+unfoldable pub for_meant : ℕ → Line → ℕ → Option (List ℕ) → Place → Meaning → Meaning → Meaning → Meaning → Meaning
+for_meant n line slot scope control a b c clause =
     a >>= λ start. set (Plain slot) ty.Int start >>= λ u.
     b >>= λ limit. set (Plain (slot + 1)) ty.Int limit >>= λ u.
     c >>= λ step. set (Plain (slot + 2)) ty.Int step >>= λ u.
-    for_loop n line (record { slot = slot; control = control; limit = word_of limit; step = word_of step }) clause (word_of start)
-
--- where a scope is made, the form doesn't run yet
-abbrev pub without_scope : {A : Type 0} → Option A → Meaning → Meaning
-without_scope None meant = meant
-without_scope (Some text) meant = unbuilt
-
--- a value as it is kept in a place of a form: an int, a bool, or else as it is
-abbrev pub kept_as : Option Form → Value → Value
-kept_as (Some Number) v = Num (word_of v)
-kept_as (Some form.Flag) v = Flag (flag_of v)
-kept_as _ v = v
+    for_loop n line (record { slot = slot; scope = scope; control = control; limit = word_of limit; step = word_of step }) clause (word_of start)
 
 -- the values of fields, each as it is kept
 unfoldable pub kept_all : List Form → List Value → List Value
@@ -153,10 +151,30 @@ compares op _ v w = object_relation op v w
 abbrev pub is_equal : TyView → Value → Value → Bool
 is_equal ty v w = compares Equal ty v w
 
--- The library: `length`, and `iformat`. Other procedures don't run yet.
-abbrev pub lib_meant : ℕ → List Value → Meaning
-lib_meant code [] = unbuilt
-lib_meant code (v ∷ vs) =
+-- Calls. At most so many are inside one another, and this is tested before a call takes its turn. Behind it the frame is the one before.
+abbrev pub most_calls : ℕ
+most_calls = 2000
+
+-- No typed program calls what is no procedure: each name that a body can mention has its value when the body is called.
+unfoldable pub call_meant : Context → Line → Value → List Value → Meaning
+call_meant c line (Procedure (as_written of) scope) args =
+    choose (nat_lt c.depth most_calls) (in_frame (frame_of_call of scope args) (c.call of args)) (stop (Trapped TooDeep line))
+call_meant c line _ args = stop (Trapped trap.Nil line)
+
+-- the next line of the input, which is passed over with its newline
+unfoldable pub read_line : Line → Meaning
+read_line line = with_input (λ input. attempt line (line_read input) (λ bytes. put_input (behind_line input) >>= λ u. made_text bytes))
+
+-- whether nothing of the input is left
+unfoldable pub at_end : Meaning
+at_end = with_input (λ input. give (Flag (is_at_end input)))
+
+-- The library: `read.a.line`, `eof`, `length` and `iformat`. Other procedures don't run yet.
+abbrev pub lib_meant : Line → ℕ → List Value → Meaning
+lib_meant line code [] =
+    if nat_eq code 9 then read_line line else
+    if nat_eq code 10 then at_end else unbuilt
+lib_meant line code (v ∷ vs) =
     if nat_eq code 11 then give (Num (pos (length (bytes_of v)))) else
     if nat_eq code 12 then made_text (signed_decimal (word_of v)) else unbuilt
 
@@ -170,13 +188,13 @@ unfoldable mutual
   eval c (node.SetName place ty e) = eval c e >>= λ v. set place ty v
   eval c (node.Let place ty e) = eval c e >>= λ v. set place ty v
   eval c node.Empty = give Nothing
-  eval c (node.Block scope items) = without_scope scope (eval_all c Nothing items)
+  eval c (node.Block scope items) = in_scope scope (eval_all c Nothing items)
   eval c (node.IfDo test a) = eval c test >>= λ v. choose (flag_of v) (eval c a) (give Nothing)
   eval c (node.IfElse test a b) = eval c test >>= λ v. choose (flag_of v) (eval c a) (eval c b)
   eval c (node.While test a) = while_turns c.bound (eval c test) (eval c a)
   eval c (node.Repeat a test b) = while_turns c.bound (eval c a >>= λ u. eval c test) (eval c b)
   eval c (node.For slot from to by scope control s line) =
-      without_scope scope (for_meant c.bound line slot control (eval c from) (eval c to) (eval c by) (eval c s))
+      for_meant c.bound line slot scope control (eval c from) (eval c to) (eval c by) (eval c s)
   eval c (node.Case e arms d ty) = eval c e >>= λ v. eval_arms c ty v arms (eval c d)
   eval c (node.And a b) = eval c a >>= λ v. choose (flag_of v) (eval c b) (give v)
   eval c (node.Or a b) = eval c a >>= λ v. choose (flag_of v) (give v) (eval c b)
@@ -198,11 +216,13 @@ unfoldable mutual
   eval c (node.Element v i ty line) = eval c v >>= λ vector. eval c i >>= λ at. element_meant line vector at
   eval c (node.SetElement v i e ty line) = eval c v >>= λ vector. eval c i >>= λ at. eval c e >>= λ w. set_element_meant line vector at w
   eval c (node.Bound v upper) = eval c v >>= λ vector. bound_meant upper vector
-  eval c (node.Lib code args line) = eval_each c args (lib_meant code)
+  eval c (node.Lib code args line) = eval_each c args (lib_meant line code)
   eval c (node.Write e w false ty line) = eval c e >>= λ v. written line None (shown ty v)
   eval c (node.Write e w true ty line) = eval c e >>= λ v. eval c w >>= λ width. written line (Some (word_of width)) (shown ty v)
   eval c (node.Abort line) = stop (Trapped Abort line)
-  eval c _ = unbuilt
+  eval c (node.Proc of) = made_procedure of
+  eval c (node.Call f args line) = eval c f >>= λ procedure. eval_each c args (call_meant c line procedure)
+  eval c (node.Scan text a f q s line) = unbuilt
 
   -- a sequence has the value of its last clause
   pub eval_all : Context → Value → Nodes → Meaning

@@ -13,7 +13,7 @@ pub data End : Type 0 where
 pub data Event : Type 0 where
   -- these bytes are written
   Out : (bytes : List ℕ) (counted : ℕ) → Event
-  -- a loop goes into another turn
+  -- a loop goes into another turn, or a procedure is called
   Turn : (counted : ℕ) → Event
   -- the last event of each run
   Finish : (end_of_run : End) (counted : ℕ) → Event

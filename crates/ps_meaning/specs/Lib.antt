@@ -4,7 +4,10 @@ pub mod Answers
 pub mod Values
 pub mod Texts
 pub mod Objects
+pub mod Scopes
 pub mod Weights
 pub mod Meaning
+pub mod Frames
 pub mod Evaluation
+pub mod Calls
 pub mod Runs

@@ -5,12 +5,14 @@ use Rattle.ps_base.specs.declared.line.Line.{Line}
 use Rattle.ps_base.specs.declared.trap.Trap.TheVariants.{TooLong}
 use Rattle.ps_program.specs.declared.place.Place.{Place}
 use Rattle.ps_program.specs.declared.place.Place.TheVariants.{Plain, Kept}
+use Rattle.ps_program.specs.Node.{BodyNode}
 use Rattle.ps_typing.specs.Placing.{is_number}
-use Rattle.ps_meaning.specs.Values.{Value, Num, Text, Nothing}
+use Rattle.ps_meaning.specs.Values.{Value, Num, Text, Procedure, Nothing, as_written}
 use Rattle.ps_meaning.specs.Operators.{Answer, Gives, Traps}
 use Rattle.ps_meaning.specs.Texts.{Attempt, Yields, Fails}
 use Rattle.ps_meaning.specs.Objects.{Heap, Object, with_new, new_number}
-use Rattle.ps_meaning.specs.Weights.{own_weight, text_weight}
+use Rattle.ps_meaning.specs.Scopes.{new_scope, scope_out, name_in, with_name}
+use Rattle.ps_meaning.specs.Weights.{own_weight, text_weight, closure_weight}
 use Rattle.ps_meaning.specs.Event.{End, Trapped, OutOfTurns, Event, Out, Turn}
 
 -- The locals of a body, ints and bools in one row and all else in the other, and the scope that a clause stands in.
@@ -19,10 +21,12 @@ pub record Frame : Type 0 where
   pub refs : ℕ → Value
   pub scope : Option ℕ
 
--- What a run holds beside its locals: the turns that it may still take, the heap, and how many bytes are counted of what it made.
+-- What a run holds beside its locals: the turns that it may still take, the heap, the input that is left, and how many bytes are counted
+-- of what it made.
 pub record Store : Type 0 where
   pub turns : ℕ
   pub heap : Heap
+  pub input : List ℕ
   pub counted : ℕ
 
 -- what a run has done so far, oldest first, and what it holds
@@ -71,7 +75,7 @@ attempt line (Fails trap) next = stop (Trapped trap line)
 unfoldable pub with_heap : (Heap → Meaning) → Meaning
 with_heap next frame state = next state.store.heap frame state
 
--- what is held where the heap is this one, where an object is made, and where a text is
+-- what is held where the heap is this one, where an object is made, where a text is, where a procedure value is, and where the input is this one
 abbrev pub on_heap : Heap → Store → Store
 on_heap heap store = record store { heap = heap }
 
@@ -80,6 +84,12 @@ and_object object store = record store { heap = with_new store.heap object; coun
 
 abbrev pub and_text : List ℕ → Store → Store
 and_text bytes store = record store { counted = store.counted + text_weight bytes }
+
+abbrev pub and_closure : Store → Store
+and_closure store = record store { counted = store.counted + closure_weight }
+
+abbrev pub on_input : List ℕ → Store → Store
+on_input input store = record store { input = input }
 
 abbrev pub holding : State → Store → State
 holding state store = record state { store = store }
@@ -95,6 +105,45 @@ made denoting object frame state = Value_is (denoting (new_number state.store.he
 -- a new text is made
 unfoldable pub made_text : List ℕ → Meaning
 made_text bytes frame state = Value_is (Text bytes) frame (holding state (and_text bytes state.store))
+
+-- a procedure with this body is made, in the scope that the clause stands in
+unfoldable pub made_procedure : BodyNode → Meaning
+made_procedure of frame state = Value_is (Procedure (as_written of) frame.scope) frame (holding state (and_closure state.store))
+
+-- goes on with the input that is left
+unfoldable pub with_input : (List ℕ → Meaning) → Meaning
+with_input next frame state = next state.store.input frame state
+
+-- this is the input that is left from now on
+unfoldable pub put_input : List ℕ → Meaning
+put_input input frame state = Value_is Nothing frame (holding state (on_input input state.store))
+
+-- a new scope inside the one that the clause stands in
+unfoldable pub enter : List ℕ → Meaning
+enter text frame state =
+    Value_is Nothing (record frame { scope = Some (new_number state.store.heap) }) (holding state (and_object (new_scope text frame.scope) state.store))
+
+-- back in a scope, and back in a frame, with the value of what was inside
+unfoldable pub back_in : Option ℕ → Outcome → Outcome
+back_in scope (Value_is v frame state) = Value_is v (record frame { scope = scope }) state
+back_in scope (Ends e state) = Ends e state
+
+unfoldable pub back_to : Frame → Outcome → Outcome
+back_to own (Value_is v frame state) = Value_is v own state
+back_to own (Ends e state) = Ends e state
+
+-- inside a new scope of this text; behind it the scope is the one before
+unfoldable pub scoped : List ℕ → Meaning → Meaning
+scoped text meant frame state = back_in frame.scope ((enter text >>= λ u. meant) frame state)
+
+-- inside a new scope, where there is the text of one
+abbrev pub in_scope : Option (List ℕ) → Meaning → Meaning
+in_scope None meant = meant
+in_scope (Some text) meant = scoped text meant
+
+-- in another frame; behind it the frame is the one before
+unfoldable pub in_frame : Frame → Meaning → Meaning
+in_frame other meant frame state = back_to frame (meant other state)
 
 -- some bytes make an event, and none make none
 abbrev pub some_out : List ℕ → ℕ → List Event
@@ -154,15 +203,23 @@ abbrev pub frame_with : Frame → TyView → ℕ → Value → Frame
 frame_with frame ty slot v =
     if is_number ty then record frame { nums = with_local frame.nums slot v } else record frame { refs = with_local frame.refs slot v }
 
--- Forms that don't run yet have no meaning here. No program is run that has one.
+-- Tables and databases have no meaning here yet. No program is run that has a form or a call over them.
 unfoldable pub unbuilt : Meaning
 unbuilt = give Nothing
+
+-- the name at a position of the scope so many levels out from a scope: its value, and the heap where it has another one
+abbrev pub kept_name : Heap → Option ℕ → ℕ → ℕ → Value
+kept_name heap scope up position = name_in heap (scope_out heap scope up) position
+
+abbrev pub with_kept_name : Heap → Option ℕ → ℕ → ℕ → Value → Heap
+with_kept_name heap scope up position v = with_name heap (scope_out heap scope up) position v
 
 -- the value of the name at a place, which is of this type
 unfoldable pub get : Place → TyView → Meaning
 get (Plain slot) ty frame state = Value_is (local_of frame ty slot) frame state
-get (Kept up position) ty frame state = unbuilt frame state
+get (Kept up position) ty frame state = Value_is (kept_name state.store.heap frame.scope up position) frame state
 
 unfoldable pub set : Place → TyView → Value → Meaning
 set (Plain slot) ty v frame state = Value_is Nothing (frame_with frame ty slot v) state
-set (Kept up position) ty v frame state = unbuilt frame state
+set (Kept up position) ty v frame state =
+    Value_is Nothing frame (holding state (on_heap (with_kept_name state.store.heap frame.scope up position v) state.store))

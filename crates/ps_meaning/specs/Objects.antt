@@ -1,15 +1,18 @@
--- The heap: structures and vectors, and what is read of them and written to them.
+-- The heap: structures, vectors and scopes, and what is read of structures and vectors and written to them.
 use Rattle.std.specs.Prelude.{ℕ, zero, suc, ◌^◌, ℤ, pos, negsuc, ◌+ℤ◌, ◌-ℤ◌, Bool, true, false, ◌&&◌, nat_lt, nat_eq, if◌then◌else◌, List, [], ◌∷◌, ◌++◌, length, get_or, set, replicate, Option, Some, None}
+use Rattle.text_forms.specs.declared.forms.Form.{Form}
+use Rattle.text_forms.specs.declared.forms.Form.TheVariants as form
 use Rattle.ps_base.specs.declared.trap.Trap.TheVariants as trap
 use Rattle.ps_meaning.specs.Operators.{is_int}
 use Rattle.ps_meaning.specs.Texts.{Attempt, Yields, Fails, is_same_text}
-use Rattle.ps_meaning.specs.Values.{Value, Nil, Pointer, Vector, Nothing}
+use Rattle.ps_meaning.specs.Values.{Value, Num, Flag, Nil, Pointer, Vector, Nothing, word_of, flag_of}
 
 -- A structure has the text of its class and the values of its fields, in their order. A vector has the text of its type, its lower bound
--- and its elements.
+-- and its elements. A scope has its text, the scope round it or none, and the values of its names, in their order.
 pub data Object : Type 0 where
   Structure : (class : List ℕ) (fields : List Value) → Object
   Elements : (ty : List ℕ) (low : ℤ) (elements : List Value) → Object
+  Scope : (text : List ℕ) (parent : Option ℕ) (names : List Value) → Object
 
 -- the objects, each under its number
 abbrev pub Heap : Type 0
@@ -34,11 +37,18 @@ new_number heap = length heap
 abbrev pub value_at : List Value → ℕ → Value
 value_at values n = get_or values n Nothing
 
+-- a value as it is kept in a place of a form: an int, a bool, or else as it is
+abbrev pub kept_as : Option Form → Value → Value
+kept_as (Some form.Number) v = Num (word_of v)
+kept_as (Some form.Flag) v = Flag (flag_of v)
+kept_as _ v = v
+
 -- Structures. Two classes are the same where their texts are.
 
 abbrev pub is_of : Option Object → List ℕ → Bool
 is_of (Some (Structure text fields)) class = is_same_text text class
 is_of (Some (Elements ty low elements)) class = false
+is_of (Some (Scope text parent names)) class = false
 is_of None class = false
 
 -- whether a value denotes a structure of a class: nil does not

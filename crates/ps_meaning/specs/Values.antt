@@ -1,10 +1,17 @@
--- What a clause gives. A structure, a table or a vector is named by its number in the heap; a procedure is its body and the scope
+-- What a clause gives. A structure, a table or a vector is named by its number in the heap; a procedure is what it does and the scope
 -- that it was made in.
 use Rattle.std.specs.Prelude.{ℕ, suc, ℤ, pos, Bool, true, false, List, [], codes, Option}
 use Rattle.std.specs.Fmt.{signed_decimal}
 use Rattle.ps_base.specs.TyView.{TyView}
 use Rattle.ps_base.specs.TyView as ty
+use Rattle.ps_base.specs.CodeUnit.{UnitView}
 use Rattle.ps_program.specs.Node.{BodyNode}
+
+-- What a procedure does: a body as it is written, or the unit of code that one was made into. The meaning makes and calls procedures as they are
+-- written, and the machine that steps through units those that are compiled.
+pub data Routine : Type 0 where
+  as_written : (of : BodyNode) → Routine
+  as_compiled : (of : UnitView) → Routine
 
 pub data Value : Type 0 where
   Num : (value : ℤ) → Value
@@ -13,7 +20,7 @@ pub data Value : Type 0 where
   Nil : Value
   Pointer : (object : ℕ) → Value
   Vector : (object : ℕ) → Value
-  Procedure : (of : BodyNode) (scope : Option ℕ) → Value
+  Procedure : (does : Routine) (scope : Option ℕ) → Value
   -- a clause of type void gives no value
   Nothing : Value
 

@@ -7,7 +7,7 @@ use Rattle.ps_program.specs.Node.{Param, Node, BodyNode, body}
 use Rattle.ps_program.specs.Node as node
 use Rattle.ps_program.specs.Parts.{Part, operand, label, branch, literal, fold}
 use Rattle.ps_typing.specs.WellTyped.{types_of_params}
-use Rattle.ps_meaning.specs.Objects.{Object, Structure, Elements}
+use Rattle.ps_meaning.specs.Objects.{Object, Structure, Elements, Scope}
 
 -- a text: five words, and one for each eight bytes or part of them
 abbrev pub text_weight : List ℕ → ℕ
@@ -17,6 +17,11 @@ text_weight bytes = 40 + 8 * ((length bytes + 7) / 8)
 abbrev pub own_weight : Object → ℕ
 own_weight (Structure class fields) = 48 + 8 * length fields
 own_weight (Elements ty low elements) = 56 + 8 * length elements
+own_weight (Scope text parent names) = 56 + 8 * length names
+
+-- a procedure value, without its code and its scope
+abbrev pub closure_weight : ℕ
+closure_weight = 56
 
 -- the text of a scope, where one is made
 abbrev pub scope_weight : Option (List ℕ) → ℕ

@@ -1,106 +1,172 @@
 -- A clause of a type comes to a value of the type.
-use Rattle.std.proofs.Common.{◌≡◌, ℕ, List, Option, Some, None, arith}
+use Rattle.std.proofs.Common.{◌≡◌, ℕ, List, [], ◌∷◌, Option, Some, None, refl, sym, subst, arith}
+use Rattle.std.specs.Prelude.{codes}
 use Rattle.ps_base.specs.TyView.{TyView}
 use Rattle.ps_base.specs.TyView as types
 use Rattle.ps_base.specs.declared.line.Line.{Line}
 use Rattle.ps_program.specs.declared.place.Place.{Place}
 use Rattle.ps_program.specs.declared.place.Place.TheVariants.{Plain, Kept}
-use Rattle.ps_program.specs.Node.{Node, Nodes, none, more}
+use Rattle.ps_program.specs.Node.{Node, Nodes, none, more, body}
 use Rattle.ps_program.specs.Node as node
-use Rattle.ps_typing.specs.WellTyped.{Env, Free, Local, Claim, behind_loop, Declares, IsTyped, AreTyped, AreItems}
+use Rattle.ps_type_text.specs.Texts.{Field, class_text}
+use Rattle.ps_typing.specs.WellTyped.{Env, Free, Local, Claim, behind_loop, with_scopes, types_of_params, Declares, IsTyped, AreTyped, AreItems}
 use Rattle.ps_typing.specs.WellTyped as typed
 use Rattle.ps_meaning.specs.Values.{Value, Num, Nothing}
 use Rattle.ps_meaning.specs.Objects.{Heap}
-use Rattle.ps_meaning.specs.Meaning.{Frame, State, Outcome, Value_is, Ends}
+use Rattle.ps_meaning.specs.Meaning.{Frame, State, Outcome, Value_is, Ends, Meaning}
 use Rattle.ps_meaning.specs.Evaluation.{Context, eval, eval_all}
-use Rattle.ps_soundness.specs.Running.{IsPlain, Runs, AllRun}
+use Rattle.ps_soundness.specs.Running.{IsPlace, IsScopeText, RunsIn, Runs, AllRunIn}
 use Rattle.ps_soundness.specs.Free.{AllBelow, AreBelow}
 use Rattle.ps_soundness.specs.Shapes.{IsOf, IsTypedHeap, AreLocals, ComesTo}
 use Rattle.ps_soundness.proofs.Telling.{Told}
 use Rattle.ps_soundness.proofs.Growing.{grows_not, of_kept}
 use Rattle.ps_soundness.proofs.Places.{free_slot, name_has, name_set}
-use Rattle.ps_soundness.proofs.Combining.{Comes, Sound, sound_then, sound_give, sound_nothing, sound_get, sound_set, narrowed}
-use Rattle.ps_soundness.proofs.Loops.{sound_for}
+use Rattle.ps_soundness.proofs.Combining.{Standing, AreAround, IsStanding, stand, Comes, Sound, sound_then, sound_give, sound_nothing, sound_get, sound_set, narrowed}
+use Rattle.ps_soundness.proofs.Calling.{AreCalls, sound_get_kept, sound_set_kept, sound_opened, sound_procedure}
+use Rattle.ps_soundness.proofs.Loops.{Turns, sound_for}
 use Rattle.ps_soundness.proofs.Sequences.{AreSound}
-use Rattle.ps_soundness.proofs.Declaring.{Climbs, declared_climbs, climbs, climbs_all, below_climbs, declared_below, declared_over, declared_sound, sound_let}
+use Rattle.ps_soundness.proofs.Declaring.{Climbs, declared_climbs, climbs, climbs_all, below_climbs, declared_below, declared_over, declared_less, scope_same, sound_set_local, declared_sound, sound_let, literal_sound}
 use Rattle.ps_soundness.proofs.Rules.{rule_sound}
 
-sound_block : {locals : List Local} {ty : TyView} (c : Context) (heap : Heap) (scope : Option (List ℕ)) (items : Nodes) → scope ≡ None →
-    Sound heap locals locals ty (eval_all c Nothing items) → Sound heap locals locals ty (eval c (node.Block scope items))
+-- a loop by `for` takes three free slots, and what is known behind a turn is known before it
+sound_loop : {env : Env} {own : Standing} (free : Free) (control : Place) (wholes : Option (List (List Field))) (c : Context) (heap : Heap) (slot : ℕ)
+    (from to by s : Node) (scope : Option (List ℕ)) (line : Line) → slot ≡ free.nums → AllBelow env.locals free →
+    ((new : Heap) (frame : Frame) → IsStanding new frame own → IsStanding new frame (stand wholes env)) →
+    Turns (stand wholes env) own scope control (eval c s) →
+    ((new : Heap) → Sound new (stand wholes env) (stand wholes env) types.Int (eval c from)) →
+    ((new : Heap) → Sound new (stand wholes env) (stand wholes env) types.Int (eval c to)) →
+    ((new : Heap) → Sound new (stand wholes env) (stand wholes env) types.Int (eval c by)) →
+    Sound heap (stand wholes env) (stand wholes env) types.Void (eval c (node.For slot from to by scope control s line))
 unfolding eval
-sound_block c heap None items e h = h
-sound_block c heap (Some text) items e h = absurd cc
-
--- a loop by `for` takes three free slots, and one more for its control
-sound_loop : {env own : Env} {free behind : Free} {control : Place} (c : Context) (heap : Heap) (slot : ℕ) (from to by s : Node)
-    (scope : Option (List ℕ))
-    (line : Line) → scope ≡ None → slot ≡ free.nums → Declares env (behind_loop free) control types.Int own behind → IsPlain control →
-    AllBelow env.locals free → ((new : Heap) → Sound new env.locals env.locals types.Int (eval c from)) →
-    ((new : Heap) → Sound new env.locals env.locals types.Int (eval c to)) → ((new : Heap) → Sound new env.locals env.locals types.Int (eval c by)) →
-    ((new : Heap) → Sound new own.locals own.locals types.Void (eval c s)) →
-    Sound heap env.locals env.locals types.Void (eval c (node.For slot from to by scope control s line))
-unfolding eval
-sound_loop {env = env} {free = free} {control = control} c heap slot from to by s None line e slot_is declares plain below hf ht hb hs =
-    let over = declared_over declares in
-    let further = below_climbs free (behind_loop free) env.locals (record { nums = omega arith; refs = omega arith }) below in
-    sound_for c.bound line slot control
-    (λ at low new v. sound_set at types.Int v (λ now frame g are. free_slot now frame free types.Int at v env.locals (omega arith) below are))
-    (λ z is new. declared_sound declares plain further new (Num z) is)
+sound_loop {env = env} free control wholes c heap slot from to by s scope line e below less turns hf ht hb =
+    sound_for c.bound line slot scope control (eval c s)
+    (λ at low new v. sound_set_local at types.Int v (λ now frame g are. free_slot now frame free types.Int at v env.locals (omega arith) below are))
+    turns
     (λ z new. sound_set slot types.Int (Num z) (λ now frame g are.
-    free_slot now frame free types.Int slot (Num z) env.locals (omega arith) below (over now frame are)))
-    hf ht hb hs (λ new. narrowed over sound_nothing)
-sound_loop c heap slot from to by s (Some text) line e slot_is declares plain below hf ht hb hs = absurd cc
+    let before = less now frame are in (
+      free_slot now frame free types.Int slot (Num z) env.locals (omega arith) below before.0,
+      subst (λ (scope : Option ℕ). AreAround now scope wholes env.scopes) (sym (scope_same frame types.Int slot (Num z))) before.1,
+    )))
+    hf ht hb (λ new. narrowed less sound_nothing)
+
+-- a turn without a scope of its own, and one with it
+turns_unscoped : (told : Told) (wholes : Option (List (List Field))) {env own : Env} {free behind : Free} {control : Place} {clause : Meaning} →
+    Declares env free control types.Int own behind → IsPlace wholes control types.Int → AllBelow env.locals free →
+    ((new : Heap) → Sound new (stand wholes own) (stand wholes own) types.Void clause) →
+    Turns (stand wholes env) (stand wholes own) None control clause
+turns_unscoped told wholes declares at below h z is new =
+    sound_then (declared_sound told wholes declares at below new (Num z) is) (λ h2 u g is_done. h h2)
+
+turns_scoped : (told : Told) (wholes : List (List Field)) (text : List ℕ) (opened : IsScopeText text) {env own : Env} {free behind : Free}
+    {control : Place} {clause : Meaning} →
+    Declares (with_scopes ([] ∷ env.scopes) env) free control types.Int own behind → IsPlace (Some (opened.fields ∷ wholes)) control types.Int →
+    AllBelow env.locals free →
+    ((new : Heap) → Sound new (stand (Some (opened.fields ∷ wholes)) own) (stand (Some (opened.fields ∷ wholes)) own) types.Void clause) →
+    Turns (stand (Some wholes) env) (record { locals = own.locals; wholes = Some wholes; scopes = env.scopes }) (Some text) control clause
+turns_scoped told wholes text opened declares at below h z is new =
+    sound_opened text opened (λ inside g.
+    sound_then (declared_sound told (Some (opened.fields ∷ wholes)) declares at below inside (Num z) is) (λ h2 u g2 is_done. h h2))
+
+-- free slots behind the three of a loop, behind its start, limit and step, and in what is repeated
+in_loop : (env : Env) (free : Free) → AllBelow env.locals free → AllBelow env.locals (behind_loop free)
+in_loop env free below = below_climbs free (behind_loop free) env.locals (record { nums = omega arith; refs = omega arith }) below
+
+loop_room : {env first own : Env} {behind between : Free} {control : Place} {claims : List Claim} (free : Free) →
+    Declares first (behind_loop free) control types.Int own behind → AreTyped env behind claims between → AllBelow first.locals free →
+    AllBelow first.locals behind × AllBelow own.locals between
+loop_room {first = first} {own = own} {behind = behind} {between = between} free declares are below =
+    let one = declared_climbs declares in
+    let up : Climbs free behind = record { nums = omega (arith, one.nums); refs = omega (arith, one.refs) } in (
+      below_climbs free behind first.locals up below,
+      below_climbs behind between own.locals (climbs_all are) (declared_below declares (in_loop first free below)),
+    )
 
 mutual
   unfolding eval eval_all
 
-  pub sound : (told : Told) {env : Env} {free behind : Free} {t : Node} {ty : TyView} → IsTyped env free t ty behind → AllBelow env.locals free →
-      Runs t →
-      (c : Context) (heap : Heap) → Sound heap env.locals env.locals ty (eval c t)
-  sound told (typed.by_rule rule are) below r c heap = rule_sound told rule (sound_each told are below) r c heap
-  sound told (typed.name {place = Plain slot} {ty = ty} found) below r c heap = sound_get slot ty found
-  sound told (typed.name {place = Kept up position} found) below r c heap = absurd r
-  sound told (typed.set_name {env = env} {place = Plain slot} {ty = ty} found te) below r c heap =
-      sound_then (sound told te below r.1 c heap) (λ h1 v g is. sound_set slot ty v (λ now frame k are.
+  pub sound : (told : Told) (wholes : Option (List (List Field))) {env : Env} {free behind : Free} {t : Node} {ty : TyView} →
+      IsTyped env free t ty behind → AllBelow env.locals free →
+      RunsIn wholes t →
+      (c : Context) → AreCalls wholes c → (heap : Heap) → Sound heap (stand wholes env) (stand wholes env) ty (eval c t)
+  sound told wholes (typed.by_rule rule are) below r c calls heap = rule_sound told rule (sound_each told wholes are below) r c calls heap
+  sound told wholes (typed.name {place = Plain slot} {ty = ty} found) below r c calls heap = sound_get slot ty found
+  sound told None (typed.name {place = Kept up position} found) below r c calls heap = absurd r
+  sound told (Some wholes) (typed.name {place = Kept up position} {ty = ty} found) below r c calls heap = sound_get_kept told up position ty found
+  sound told wholes (typed.set_name {env = env} {place = Plain slot} {ty = ty} found te) below r c calls heap =
+      sound_then (sound told wholes te below r.1 c calls heap) (λ h1 v g is. sound_set_local slot ty v (λ now frame k are.
       name_set told now frame slot ty v env.locals (name_has now frame slot ty env.locals found are) (of_kept h1 now k ty v is) are))
-  sound told (typed.set_name {place = Kept up position} found te) below r c heap = absurd r.0
-  sound told (typed.block {scope = scope} {items = items} opens are is) below r c heap =
-      sound_block c heap scope items r.0 (sound_items told are below r.1 c heap Nothing tt)
-  sound told (typed.loop {env = env} {own = own} {free = free} {behind = behind} {between = between} {slot = slot} {a = a} {b = b} {c = by} {s = s}
-      {scope = scope} {control = control} {line = line} slot_is opens declares is are t) below r c heap =
-      let one = declared_climbs declares in
-      let up : Climbs free behind = record { nums = omega (arith, one.nums); refs = omega (arith, one.refs) } in
-      let three = sound_each told are (below_climbs free behind env.locals up below) in
-      let further = below_climbs free (behind_loop free) env.locals (record { nums = omega arith; refs = omega arith }) below in
-      let inside = below_climbs behind between own.locals (climbs_all are) (declared_below declares r.4 further) in
-      sound_loop c heap slot a b by s scope line r.3 slot_is declares r.4 below (λ new. three.0 r.0 c new) (λ new. three.1.0 r.1 c new)
-      (λ new. three.1.1.0 r.2 c new) (λ new. sound told t inside r.5 c new)
-  sound told (typed.scan q_is s_is are) below r c heap = absurd r
-  sound told (typed.literal is_body) below r c heap = absurd r
+  sound told None (typed.set_name {place = Kept up position} found te) below r c calls heap = absurd r.0
+  sound told (Some wholes) (typed.set_name {place = Kept up position} {ty = ty} found te) below r c calls heap =
+      sound_then (sound told (Some wholes) te below r.1 c calls heap) (λ h1 v g is. sound_set_kept told up position ty v found is)
+  sound told None (typed.block typed.unscoped are is) below r c calls heap = sound_items told None are below r.1 c calls heap Nothing tt
+  sound told None (typed.block typed.scoped are is) below r c calls heap = absurd (let e = r.0 in cc)
+  sound told (Some wholes) (typed.block typed.unscoped are is) below r c calls heap = sound_items told (Some wholes) are below r c calls heap Nothing tt
+  sound told (Some wholes) (typed.block (typed.scoped {first = first} {rest = rest}) are is) below r c calls heap =
+      sound_opened (class_text (codes "scope") (first ∷ rest)) r.0
+      (λ new g. sound_items told (Some (r.0.fields ∷ wholes)) are below r.1 c calls new Nothing tt)
+  sound told None (typed.loop {env = env} {free = free} {behind = behind} {between = between} {slot = slot} {a = a} {b = b} {c = by} {s = s}
+      {control = control} {line = line} slot_is typed.unscoped declares is are t) below r c calls heap =
+      let room = loop_room free declares are below in
+      let three = sound_each told None are room.0 in
+      sound_loop free control None c heap slot a b by s None line slot_is below (declared_less None declares)
+      (turns_unscoped told None declares r.4 (in_loop env free below) (λ new. sound told None t room.1 r.5 c calls new))
+      (λ new. three.0 r.0 c calls new) (λ new. three.1.0 r.1 c calls new) (λ new. three.1.1.0 r.2 c calls new)
+  sound told None (typed.loop slot_is typed.scoped declares is are t) below r c calls heap = absurd (let e = r.3 in cc)
+  sound told (Some wholes) (typed.loop {env = env} {free = free} {behind = behind} {between = between} {slot = slot} {a = a} {b = b} {c = by} {s = s}
+      {control = control} {line = line} slot_is typed.unscoped declares is are t) below r c calls heap =
+      let room = loop_room free declares are below in
+      let three = sound_each told (Some wholes) are room.0 in
+      sound_loop free control (Some wholes) c heap slot a b by s None line slot_is below (declared_less (Some wholes) declares)
+      (turns_unscoped told (Some wholes) declares r.3 (in_loop env free below) (λ new. sound told (Some wholes) t room.1 r.4 c calls new))
+      (λ new. three.0 r.0 c calls new) (λ new. three.1.0 r.1 c calls new) (λ new. three.1.1.0 r.2 c calls new)
+  sound told (Some wholes) (typed.loop {env = env} {free = free} {behind = behind} {between = between} {slot = slot} {a = a} {b = b} {c = by} {s = s}
+      {control = control} {line = line} slot_is (typed.scoped {first = first} {rest = rest}) declares is are t) below r c calls heap =
+      let room = loop_room free declares are below in
+      let three = sound_each told (Some wholes) are room.0 in
+      sound_loop free control (Some wholes) c heap slot a b by s (Some (class_text (codes "scope") (first ∷ rest))) line slot_is below
+      (λ new frame h. (declared_over declares new frame h.0, h.1))
+      (turns_scoped told wholes (class_text (codes "scope") (first ∷ rest)) r.3.0 declares r.3.1 (in_loop env free below)
+      (λ new. sound told (Some (r.3.0.fields ∷ wholes)) t room.1 r.3.2 c calls new))
+      (λ new. three.0 r.0 c calls new) (λ new. three.1.0 r.1 c calls new) (λ new. three.1.1.0 r.2 c calls new)
+  sound told wholes (typed.scan q_is s_is are) below r c calls heap = absurd r
+  sound told None (typed.literal is_body) below r c calls heap = absurd r
+  sound told (Some wholes) (typed.literal {env = env} {params = params} {gives = gives} {tree = tree} {scope = text} {line = line} is_body) below r c calls
+      heap =
+      sound_procedure (body params gives tree text line) (types.Proc (types_of_params params) gives) (λ now frame are.
+      record { wholes = wholes; scopes = env.scopes; typed = is_body; runs = r; stand = are.1; ty_is = refl })
 
-  sound_each : (told : Told) {env : Env} {free behind : Free} {claims : List Claim} → AreTyped env free claims behind → AllBelow env.locals free →
-      AreSound env.locals claims
-  sound_each told typed.AreTyped.no_more below = tt
-  sound_each told (typed.AreTyped.one_more {env = env} {free = free} {between = between} first others) below =
-      (λ r c heap. sound told first below r c heap, sound_each told others (below_climbs free between env.locals (climbs first) below))
+  sound_each : (told : Told) (wholes : Option (List (List Field))) {env : Env} {free behind : Free} {claims : List Claim} →
+      AreTyped env free claims behind → AllBelow env.locals free →
+      AreSound (stand wholes env) claims
+  sound_each told wholes typed.AreTyped.no_more below = tt
+  sound_each told wholes (typed.AreTyped.one_more {env = env} {free = free} {between = between} first others) below = (
+    λ r c calls heap. sound told wholes first below r c calls heap,
+    sound_each told wholes others (below_climbs free between env.locals (climbs first) below),
+  )
 
-  sound_items : (told : Told) {env last : Env} {free behind : Free} {before ty : TyView} {items : Nodes} →
+  pub sound_items : (told : Told) (wholes : Option (List (List Field))) {env last : Env} {free behind : Free} {before ty : TyView} {items : Nodes} →
       AreItems env free before items ty last behind →
-      AllBelow env.locals free → AllRun items → (c : Context) (heap : Heap) (v : Value) → IsOf heap before v →
-      Sound heap env.locals env.locals ty (eval_all c v items)
-  sound_items told typed.at_end below r c heap v is = sound_give v is
-  sound_items told (typed.a_clause {env = env} {free = free} {between = between} first others) below r c heap v is =
-      sound_then (sound told first below r.0 c heap)
-      (λ h1 w g of. sound_items told others (below_climbs free between env.locals (climbs first) below) r.1 c h1 w of)
-  sound_items told (typed.a_value {env = env} {with_name = with_name} {free = free} {behind = behind} {between = between} isnt declares te others)
-      below r c heap v is =
-      let inside = below_climbs behind between with_name.locals (climbs te) (declared_below declares r.0.0 below) in
-      let own = sound told te (below_climbs free behind env.locals (declared_climbs declares) below) r.0.1 c heap in
-      sound_let declares r.0.0 below own (λ h1 w of. sound_items told others inside r.1 c h1 w of)
-  sound_items told (typed.a_literal declares te others) below r c heap v is = absurd r.0.1
+      AllBelow env.locals free → AllRunIn wholes items → (c : Context) → AreCalls wholes c → (heap : Heap) (v : Value) → IsOf heap before v →
+      Sound heap (stand wholes env) (stand wholes env) ty (eval_all c v items)
+  sound_items told wholes typed.at_end below r c calls heap v is = sound_give v is
+  sound_items told wholes (typed.a_clause {env = env} {free = free} {between = between} first others) below r c calls heap v is =
+      sound_then (sound told wholes first below r.0 c calls heap)
+      (λ h1 w g of. sound_items told wholes others (below_climbs free between env.locals (climbs first) below) r.1 c calls h1 w of)
+  sound_items told wholes (typed.a_value {env = env} {with_name = with_name} {free = free} {behind = behind} {between = between} isnt declares te others)
+      below r c calls heap v is =
+      let inside = below_climbs behind between with_name.locals (climbs te) (declared_below declares below) in
+      let own = sound told wholes te (below_climbs free behind env.locals (declared_climbs declares) below) r.0.1 c calls heap in
+      sound_let told wholes declares r.0.0 below own (λ h1 w of. sound_items told wholes others inside r.1 c calls h1 w of)
+  sound_items told None (typed.a_literal declares te others) below r c calls heap v is = absurd r.0.1
+  sound_items told (Some wholes) (typed.a_literal {with_name = with_name} {behind = behind} {between = between} declares te others) below r c calls heap v
+      is =
+      let inside = below_climbs behind between with_name.locals (climbs te) (declared_below declares below) in
+      narrowed (declared_less (Some wholes) declares)
+      (sound_then (literal_sound told wholes declares te r.0.1 r.0.0 below heap)
+      (λ h1 w g of. sound_items told (Some wholes) others inside r.1 c calls h1 w of))
 
-comes_to : (heap : Heap) (env : Env) (ty : TyView) (o : Outcome) → Comes heap env.locals ty o → ComesTo heap env ty o
-comes_to heap env ty (Value_is v frame state) h = record { grows = h.grows; typed = h.typed; locals = h.are; value = h.value }
+comes_to : (heap : Heap) (env : Env) (ty : TyView) (o : Outcome) → Comes heap (stand None env) ty o → ComesTo heap env ty o
+comes_to heap env ty (Value_is v frame state) h = record { grows = h.grows; typed = h.typed; locals = h.are.0; value = h.value }
 comes_to heap env ty (Ends e state) h = h
 
 pub typed_comes_to : (told : Told) (c : Context) (env : Env) (free behind : Free) (clause : Node) (ty : TyView) (frame : Frame) (state : State) →
@@ -108,4 +174,4 @@ pub typed_comes_to : (told : Told) (c : Context) (env : Env) (free behind : Free
     ComesTo state.store.heap env ty (eval c clause frame state)
 typed_comes_to told c env free behind clause ty frame state of runs below typed are =
     comes_to state.store.heap env ty (eval c clause frame state)
-    ((sound told of below runs c state.store.heap).runs frame state (grows_not state.store.heap) typed are)
+    ((sound told None of below runs c tt state.store.heap).runs frame state (grows_not state.store.heap) typed (are, tt))

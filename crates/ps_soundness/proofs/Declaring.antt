@@ -1,22 +1,29 @@
 -- Free slots only grow from clause to clause, and a name that is declared takes one that no local in scope has.
-use Rattle.std.proofs.Common.{◌≡◌, ℕ, ◌+◌, ◌<◌, ◌≤◌, Bool, true, false, List, [], ◌∷◌, arith}
+use Rattle.std.proofs.Common.{◌≡◌, ℕ, ◌+◌, ◌<◌, ◌≤◌, Bool, true, false, List, [], ◌∷◌, ◌++◌, length, Option, Some, None, inl, inr, refl, sym, subst, arith}
 use Rattle.std.specs.Prelude.{if◌then◌else◌}
 use Rattle.ps_base.specs.TyView.{TyView}
 use Rattle.ps_base.specs.TyView as types
 use Rattle.ps_program.specs.declared.place.Place.{Place}
-use Rattle.ps_program.specs.Node.{Node, Nodes}
+use Rattle.ps_program.specs.declared.place.Place.TheVariants.{Plain, Kept}
+use Rattle.ps_program.specs.Node.{Node, Nodes, BodyNode, body}
+use Rattle.ps_program.specs.Node as node
+use Rattle.ps_type_text.specs.Texts.{Field}
 use Rattle.ps_typing.specs.Placing.{is_number}
-use Rattle.ps_typing.specs.WellTyped.{Env, Free, Local, Claim, next_slot, behind_one, Declares, IsTyped, AreTyped, AreItems}
+use Rattle.ps_typing.specs.WellTyped.{At, IsOfType, Env, Free, Local, Claim, next_slot, behind_one, and_kept, types_of_params, Declares, IsTyped, AreTyped, AreItems, IsBody}
 use Rattle.ps_typing.specs.WellTyped as typed
-use Rattle.ps_meaning.specs.Values.{Value}
+use Rattle.ps_meaning.specs.Values.{Value, Procedure, as_written}
 use Rattle.ps_meaning.specs.Objects.{Heap}
-use Rattle.ps_meaning.specs.Meaning.{Frame, Meaning, ◌>>=◌, set}
-use Rattle.ps_soundness.specs.Running.{IsPlain}
+use Rattle.ps_meaning.specs.Meaning.{Frame, Meaning, ◌>>=◌, made_procedure, frame_with, set}
+use Rattle.ps_meaning.specs.Meaning.{with_local as local_with}
+use Rattle.ps_soundness.specs.Running.{IsPlace, BodyRuns}
 use Rattle.ps_soundness.specs.Free.{AllBelow}
-use Rattle.ps_soundness.specs.Shapes.{IsOf, AreLocals}
+use Rattle.ps_soundness.specs.Shapes.{IsOf, type_of_body, IsProcedure, AreLocals, Grows}
+use Rattle.ps_soundness.proofs.Telling.{Told}
 use Rattle.ps_soundness.proofs.Growing.{of_kept}
 use Rattle.ps_soundness.proofs.Places.{free_slot, slot_has}
-use Rattle.ps_soundness.proofs.Combining.{Sound, sound_then, sound_set, narrowed}
+use Rattle.ps_soundness.proofs.Scopes.{scopes_less}
+use Rattle.ps_soundness.proofs.Combining.{Standing, AreAround, IsStanding, stand, Sound, sound_then, sound_set, narrowed}
+use Rattle.ps_soundness.proofs.Calling.{sound_declare_kept, sound_procedure, sound_declare_literal}
 
 -- no slot becomes free again
 pub record Climbs (free behind : Free) : Type 0 where
@@ -29,7 +36,7 @@ climbs_not free = record { nums = omega arith; refs = omega arith }
 climbs_then : (a b c : Free) → Climbs a b → Climbs b c → Climbs a c
 climbs_then a b c g h = record { nums = omega (arith, g.nums, h.nums); refs = omega (arith, g.refs, h.refs) }
 
-climbs_one : (free : Free) (number : Bool) →
+pub climbs_one : (free : Free) (number : Bool) →
     Climbs free (if number then record free { nums = free.nums + 1 } else record free { refs = free.refs + 1 })
 climbs_one free true = record { nums = omega arith; refs = omega arith }
 climbs_one free false = record { nums = omega arith; refs = omega arith }
@@ -79,17 +86,17 @@ below_climbs free behind [] h below = tt
 below_climbs free behind (local ∷ locals) h below =
     (next_climbs free behind (is_number local.ty) local.slot h below.0, below_climbs free behind locals h below.1)
 
-below_one : (free : Free) (number : Bool) (slot : ℕ) → slot ≡ (if number then free.nums else free.refs) →
+pub below_one : (free : Free) (number : Bool) (slot : ℕ) → slot ≡ (if number then free.nums else free.refs) →
     slot < (if number then (if number then record free { nums = free.nums + 1 } else record free { refs = free.refs + 1 }).nums
     else (if number then record free { nums = free.nums + 1 } else record free { refs = free.refs + 1 }).refs)
 below_one free true slot e = omega arith
 below_one free false slot e = omega arith
 
 pub declared_below : {env with_name : Env} {free behind : Free} {place : Place} {ty : TyView} → Declares env free place ty with_name behind →
-    IsPlain place → AllBelow env.locals free → AllBelow with_name.locals behind
-declared_below (typed.as_local {env = env} {free = free} {slot = slot} {ty = ty} e) plain below =
+    AllBelow env.locals free → AllBelow with_name.locals behind
+declared_below (typed.as_local {env = env} {free = free} {slot = slot} {ty = ty} e) below =
     (below_one free (is_number ty) slot e, below_climbs free (behind_one ty free) env.locals (climbs_one free (is_number ty)) below)
-declared_below (typed.as_kept name scopes is) plain below = absurd plain
+declared_below (typed.as_kept name scopes is) below = below
 
 -- the locals that were in scope before are typed where those in scope behind are
 pub declared_over : {env with_name : Env} {free behind : Free} {place : Place} {ty : TyView} → Declares env free place ty with_name behind →
@@ -97,20 +104,121 @@ pub declared_over : {env with_name : Env} {free behind : Free} {place : Place} {
 declared_over (typed.as_local e) heap frame h = h.1
 declared_over (typed.as_kept name scopes is) heap frame h = h
 
+around_less : (heap : Heap) (scope : Option ℕ) (wholes : Option (List (List Field))) (fields : List Field) (next : Field)
+    (scopes : List (List Field)) → AreAround heap scope wholes ((fields ++ next ∷ []) ∷ scopes) → AreAround heap scope wholes (fields ∷ scopes)
+around_less heap scope None fields next scopes h = tt
+around_less heap scope (Some wholes) fields next scopes h = scopes_less heap scope wholes fields next scopes h
+
+-- what is known before a name is declared is known behind it
+pub declared_less : {env with_name : Env} {free behind : Free} {place : Place} {ty : TyView} (wholes : Option (List (List Field))) →
+    Declares env free place ty with_name behind → (heap : Heap) (frame : Frame) → IsStanding heap frame (stand wholes with_name) →
+    IsStanding heap frame (stand wholes env)
+declared_less wholes (typed.as_local e) heap frame h = (h.0.1, h.1)
+declared_less wholes (typed.as_kept {ty = ty} {scope = scope} {around = around} name scopes is) heap frame h =
+    (h.0, subst (AreAround heap frame.scope wholes) (sym scopes) (around_less heap frame.scope wholes scope (record { ty = ty; name = name }) around h.1))
+
+-- a local with another value leaves the scope
+scope_in_row : (frame : Frame) (number : Bool) (slot : ℕ) (v : Value) →
+    (if number then record frame { nums = local_with frame.nums slot v } else record frame { refs = local_with frame.refs slot v }).scope ≡ frame.scope
+scope_in_row frame true slot v = refl
+scope_in_row frame false slot v = refl
+
+pub scope_same : (frame : Frame) (ty : TyView) (slot : ℕ) (v : Value) → (frame_with frame ty slot v).scope ≡ frame.scope
+scope_same frame ty slot v = scope_in_row frame (is_number ty) slot v
+
+pub sound_set_local : {heap : Heap} {first last : List Local} {wholes : Option (List (List Field))} {scopes : List (List Field)} (slot : ℕ) (ty : TyView)
+    (v : Value) →
+    ((new : Heap) (frame : Frame) → Grows heap new → AreLocals new frame first → AreLocals new (frame_with frame ty slot v) last) →
+    Sound heap (record { locals = first; wholes = wholes; scopes = scopes }) (record { locals = last; wholes = wholes; scopes = scopes }) types.Void
+    (set (Plain slot) ty v)
+sound_set_local {wholes = wholes} {scopes = scopes} slot ty v h = sound_set slot ty v (λ new frame g are.
+    (h new frame g are.0, subst (λ (scope : Option ℕ). AreAround new scope wholes scopes) (sym (scope_same frame ty slot v)) are.1))
+
+-- what is so of the innermost
+innermost_at : (whole : List Field) (wholes : List (List Field)) (P : List Field → Type 0) → At P (whole ∷ wholes) 0 → P whole
+innermost_at whole wholes P (inl h) = h.1
+innermost_at whole wholes P (inr h) = absurd (let e = h.1 in omega arith)
+
+pub declare_kept : (told : Told) {heap : Heap} {locals : List Local} (wholes : List (List Field)) {scopes around : List (List Field)} {fields : List Field}
+    (position : ℕ) (name : List ℕ) (ty : TyView) (v : Value) → scopes ≡ fields ∷ around → position ≡ length fields →
+    At (λ (whole : List Field). At (IsOfType ty) whole position) wholes 0 → IsOf heap ty v →
+    Sound heap (record { locals = locals; wholes = Some wholes; scopes = scopes })
+    (record { locals = locals; wholes = Some wholes; scopes = and_kept fields name ty ∷ around }) types.Void (set (Kept 0 position) ty v)
+declare_kept told [] position name ty v e p at is = absurd at
+declare_kept told {heap = heap} {locals = locals} (whole ∷ wholes) {scopes = scopes} {around = around} {fields = fields} position name ty v e p at is =
+    let first : List (List Field) → Standing = λ ss. record { locals = locals; wholes = Some (whole ∷ wholes); scopes = ss } in
+    let last = first (and_kept fields name ty ∷ around) in
+    subst (λ (n : ℕ). Sound heap (first scopes) last types.Void (set (Kept 0 n) ty v)) (sym p)
+    (subst (λ (ss : List (List Field)). Sound heap (first ss) last types.Void (set (Kept 0 (length fields)) ty v)) (sym e)
+    (sound_declare_kept told name ty v (subst (At (IsOfType ty) whole) p (innermost_at whole wholes (λ (w : List Field). At (IsOfType ty) w position) at)) is))
+
 -- the initial value of a name is of its type
-pub declared_sound : {env with_name : Env} {free behind : Free} {place : Place} {ty : TyView} → Declares env free place ty with_name behind →
-    IsPlain place → AllBelow env.locals free → (heap : Heap) (v : Value) → IsOf heap ty v →
-    Sound heap env.locals with_name.locals types.Void (set place ty v)
-declared_sound (typed.as_local {env = env} {free = free} {slot = slot} {ty = ty} e) plain below heap v h =
-    sound_set slot ty v (λ new frame g are.
+pub declared_sound : (told : Told) (wholes : Option (List (List Field))) {env with_name : Env} {free behind : Free} {place : Place} {ty : TyView} →
+    Declares env free place ty with_name behind → IsPlace wholes place ty → AllBelow env.locals free →
+    (heap : Heap) (v : Value) → IsOf heap ty v → Sound heap (stand wholes env) (stand wholes with_name) types.Void (set place ty v)
+declared_sound told wholes (typed.as_local {env = env} {free = free} {slot = slot} {ty = ty} e) at below heap v h =
+    sound_set_local slot ty v (λ new frame g are.
     (slot_has new frame ty slot v (of_kept heap new g ty v h), free_slot new frame free ty slot v env.locals (omega (arith, e)) below are))
-declared_sound (typed.as_kept name scopes is) plain below heap v h = absurd plain
+declared_sound told None (typed.as_kept name scopes is) at below heap v h = absurd at
+declared_sound told (Some wholes) (typed.as_kept {position = position} {ty = ty} name scopes is) at below heap v h =
+    declare_kept told wholes position name ty v scopes is at h
 
 -- and the names behind it
-pub sound_let : {env with_name : Env} {free behind : Free} {place : Place} {ty last : TyView} {e : Meaning} {next : Value → Meaning} {heap : Heap} →
-    Declares env free place ty with_name behind → IsPlain place → AllBelow env.locals free → Sound heap env.locals env.locals ty e →
-    ((new : Heap) (v : Value) → IsOf new types.Void v → Sound new with_name.locals with_name.locals last (next v)) →
-    Sound heap env.locals env.locals last ((e >>= λ v. set place ty v) >>= next)
-sound_let declares plain below h k =
-    narrowed (declared_over declares)
-    (sound_then (sound_then h (λ h1 v g is. declared_sound declares plain below h1 v is)) (λ h2 u g is. k h2 u is))
+pub sound_let : (told : Told) (wholes : Option (List (List Field))) {env with_name : Env} {free behind : Free} {place : Place} {ty last : TyView}
+    {e : Meaning} {next : Value → Meaning} {heap : Heap} →
+    Declares env free place ty with_name behind → IsPlace wholes place ty → AllBelow env.locals free →
+    Sound heap (stand wholes env) (stand wholes env) ty e →
+    ((new : Heap) (v : Value) → IsOf new types.Void v → Sound new (stand wholes with_name) (stand wholes with_name) last (next v)) →
+    Sound heap (stand wholes env) (stand wholes env) last ((e >>= λ v. set place ty v) >>= next)
+sound_let told wholes declares at below h k =
+    narrowed (declared_less wholes declares)
+    (sound_then (sound_then h (λ h1 v g is. declared_sound told wholes declares at below h1 v is)) (λ h2 u g is. k h2 u is))
+
+-- A literal: its body is typed in the scopes round it.
+pub literal_is : {env : Env} {free behind : Free} {of : BodyNode} {ty : TyView} → IsTyped env free (node.Proc of) ty behind →
+    IsBody env.scopes of × (ty ≡ type_of_body of)
+literal_is (typed.literal is_body) = (is_body, refl)
+literal_is (typed.by_rule r are) = elim r [ ]
+
+pub procedure_is : (heap : Heap) (ty : TyView) (of : BodyNode) (scope : Option ℕ) → ty ≡ type_of_body of → IsProcedure heap ty of scope →
+    IsOf heap ty (Procedure (as_written of) scope)
+procedure_is heap ty (body params gives tree text line) scope e h =
+    subst (λ (t : TyView). IsOf heap t (Procedure (as_written (body params gives tree text line)) scope)) (sym e)
+    (subst (λ (t : TyView). IsProcedure heap t (body params gives tree text line) scope) e h)
+
+declare_literal : (told : Told) {heap : Heap} {locals : List Local} (wholes : List (List Field)) {scopes around : List (List Field)}
+    {fields : List Field} (position : ℕ) (name : List ℕ) (ty : TyView) (of : BodyNode) → scopes ≡ fields ∷ around → position ≡ length fields →
+    At (λ (whole : List Field). At (IsOfType ty) whole position) wholes 0 → ty ≡ type_of_body of → IsBody (and_kept fields name ty ∷ around) of →
+    BodyRuns wholes of →
+    Sound heap (record { locals = locals; wholes = Some wholes; scopes = scopes })
+    (record { locals = locals; wholes = Some wholes; scopes = and_kept fields name ty ∷ around }) types.Void
+    (made_procedure of >>= λ v. set (Kept 0 position) ty v)
+declare_literal told [] position name ty of e p at ty_is is_body runs = absurd at
+declare_literal told {heap = heap} {locals = locals} (whole ∷ wholes) {scopes = scopes} {around = around} {fields = fields} position name ty
+    (body params gives tree text line) e p at ty_is is_body runs =
+    let of = body params gives tree text line in
+    let known : List (List Field) → Standing = λ ss. record { locals = locals; wholes = Some (whole ∷ wholes); scopes = ss } in
+    let own = types.Proc (types_of_params params) gives in
+    subst (λ (n : ℕ). Sound heap (known scopes) (known (and_kept fields name ty ∷ around)) types.Void
+    (made_procedure of >>= λ v. set (Kept 0 n) ty v)) (sym p)
+    (subst (λ (ss : List (List Field)). Sound heap (known ss) (known (and_kept fields name ty ∷ around)) types.Void
+    (made_procedure of >>= λ v. set (Kept 0 (length fields)) ty v)) (sym e)
+    (subst (λ (t : TyView). Sound heap (known (fields ∷ around)) (known (and_kept fields name t ∷ around)) types.Void
+    (made_procedure of >>= λ v. set (Kept 0 (length fields)) t v)) (sym ty_is)
+    (sound_declare_literal told name params gives tree text line
+    (subst (λ (t : TyView). At (IsOfType t) whole (length fields)) ty_is
+    (subst (At (IsOfType ty) whole) p (innermost_at whole wholes (λ (w : List Field). At (IsOfType ty) w position) at)))
+    (subst (λ (t : TyView). IsBody (and_kept fields name t ∷ around) of) ty_is is_body) runs)))
+
+pub literal_sound : (told : Told) (wholes : List (List Field)) {env with_name : Env} {free behind between : Free} {place : Place} {ty : TyView}
+    {of : BodyNode} → Declares env free place ty with_name behind → IsTyped with_name behind (node.Proc of) ty between → BodyRuns wholes of →
+    IsPlace (Some wholes) place ty → AllBelow env.locals free → (heap : Heap) →
+    Sound heap (stand (Some wholes) env) (stand (Some wholes) with_name) types.Void (made_procedure of >>= λ v. set place ty v)
+literal_sound told wholes {of = of} (typed.as_local {env = env} {free = free} {ty = ty} e) te runs at below heap =
+    let lit = literal_is te in
+    sound_then (sound_procedure of ty (λ now frame are. procedure_is now ty of frame.scope lit.1
+    (record { wholes = wholes; scopes = env.scopes; typed = lit.0; runs = runs; stand = are.1; ty_is = lit.1 })))
+    (λ new v g is. declared_sound told (Some wholes) (typed.as_local {free = free} e) tt below new v is)
+literal_sound told wholes {of = of} (typed.as_kept {position = position} {ty = ty} name scopes is) te runs at below heap =
+    let lit = literal_is te in
+    declare_literal told wholes position name ty of scopes is at lit.1 lit.0 runs

@@ -55,7 +55,7 @@ all_kept_in_vector heap element (v ∷ vs) h =
     ap (λ (w : Value). w ∷ kept_elements (type_text (types.Vector element)) vs) (kept_in_vector heap element v h.0)
     ∙ ap (λ (ws : List Value). v ∷ ws) (all_kept_in_vector heap element vs h.1)
 
-form_at : (fields : List Field) (position : ℕ) (ty : TyView) → At (IsOfType ty) fields position →
+pub form_at : (fields : List Field) (position : ℕ) (ty : TyView) → At (IsOfType ty) fields position →
     form_in (map form_of_field fields) position ≡ Some (form_of_type ty)
 unfolding form_in
 form_at [] position ty h = absurd h

@@ -1,14 +1,16 @@
 -- A heap that grows: an object more, or another value in a place of one. Values keep their types, and a typed heap stays typed.
-use Rattle.std.proofs.Common.{◌≡◌, ◌⊎◌, ℕ, zero, suc, List, [], ◌∷◌, ◌++◌, set, Option, Some, None, inl, inr, refl, sym, ap, ◌∙◌, subst}
+use Rattle.std.proofs.Common.{◌≡◌, ◌⊎◌, ℕ, zero, suc, true, List, [], ◌∷◌, ◌++◌, set, Option, Some, None, inl, inr, refl, sym, ap, ◌∙◌, subst}
 use Rattle.std.specs.List.{AllByRecursion}
 use Rattle.ps_base.specs.TyView.{TyView}
 use Rattle.ps_base.specs.TyView as types
-use Rattle.ps_type_text.specs.Texts.{Field, type_text}
+use Rattle.std.specs.Prelude.{codes}
+use Rattle.ps_program.specs.Node.{BodyNode}
+use Rattle.ps_type_text.specs.Texts.{Field, type_text, class_text}
 use Rattle.ps_typing.specs.WellTyped.{Local}
-use Rattle.ps_meaning.specs.Values.{Value, Num, Flag, Text, Nil, Pointer, Vector, Procedure, Nothing}
-use Rattle.ps_meaning.specs.Objects.{Heap, Object, Structure, Elements, object_at, with_object, with_new, new_number}
+use Rattle.ps_meaning.specs.Values.{Value, Num, Flag, Text, Nil, Pointer, Vector, Procedure, as_written, Nothing}
+use Rattle.ps_meaning.specs.Objects.{Heap, Object, Structure, Elements, Scope, object_at, with_object, with_new, new_number}
 use Rattle.ps_meaning.specs.Meaning.{Frame, local_of}
-use Rattle.ps_soundness.specs.Shapes.{IsStructureAt, IsVectorAt, IsOf, AreOf, IsTypedObject, IsTypedHeap, AreLocals, IsSameSort, Stays, Grows}
+use Rattle.ps_soundness.specs.Shapes.{is_given, HasValue, HaveValues, IsScopeAt, AreScopes, IsProcedure, AreNames, StayGiven, IsStructureAt, IsVectorAt, IsOf, AreOf, IsTypedObject, IsTypedHeap, AreLocals, IsSameSort, Stays, Grows}
 
 object_in : Object → Option Object → Object
 object_in other (Some object) = object
@@ -21,17 +23,48 @@ one_object a b e = ap (object_in a) e
 no_object : (a : Object) → None ≡ Some a → ⊥
 no_object a e = cc
 
+-- names that hold a value for good
+stay_all : (names : List Value) → StayGiven names names
+stay_all [] = tt
+stay_all (v ∷ vs) = (λ e. e, stay_all vs)
+
+stay_then : (a b c : List Value) → StayGiven a b → StayGiven b c → StayGiven a c
+stay_then [] [] c h k = k
+stay_then [] (v ∷ vs) c h k = absurd h
+stay_then (v ∷ vs) [] c h k = absurd h
+stay_then (v ∷ vs) (w ∷ ws) [] h k = absurd k
+stay_then (v ∷ vs) (w ∷ ws) (u ∷ us) h k = (λ e. k.0 (h.0 e), stay_then vs ws us h.1 k.1)
+
+value_stays : (ty : TyView) (v w : Value) → (is_given v ≡ true → is_given w ≡ true) → HasValue ty v → HasValue ty w
+value_stays types.Int v w s h = tt
+value_stays types.Bool v w s h = tt
+value_stays types.Pntr v w s h = tt
+value_stays types.Str v w s h = s h
+value_stays types.Void v w s h = s h
+value_stays (types.Vector element) v w s h = s h
+value_stays (types.Proc parameters gives) v w s h = s h
+
+values_stay : (fields : List Field) (names others : List Value) → StayGiven names others → HaveValues fields names → HaveValues fields others
+values_stay [] names others s h = tt
+values_stay (field ∷ fields) [] others s h = absurd h
+values_stay (field ∷ fields) (v ∷ vs) [] s h = absurd s
+values_stay (field ∷ fields) (v ∷ vs) (w ∷ ws) s h = (value_stays field.ty v w s.0 h.0, values_stay fields vs ws s.1 h.1)
+
 same_sort : (object : Object) → IsSameSort object object
 same_sort (Structure class values) = refl
 same_sort (Elements text low values) = (refl, refl, refl)
+same_sort (Scope text parent names) = (refl, refl, stay_all names)
 
 sort_then : (a b c : Object) → IsSameSort a b → IsSameSort b c → IsSameSort a c
 sort_then (Structure class values) (Structure second others) (Structure third last) h k = k ∙ h
-sort_then (Structure class values) (Structure second others) (Elements third low last) h k = absurd k
-sort_then (Structure class values) (Elements text low others) c h k = absurd h
-sort_then (Elements text low values) (Structure second others) c h k = absurd h
-sort_then (Elements text low values) (Elements second bound others) (Structure third last) h k = absurd k
+sort_then (Structure class values) (Structure second others) c h k = absurd k
+sort_then (Structure class values) b c h k = absurd h
 sort_then (Elements text low values) (Elements second bound others) (Elements third at last) h k = (k.0 ∙ h.0, k.1 ∙ h.1, k.2 ∙ h.2)
+sort_then (Elements text low values) (Elements second bound others) c h k = absurd k
+sort_then (Elements text low values) b c h k = absurd h
+sort_then (Scope text parent names) (Scope second round others) (Scope third up last) h k = (k.0 ∙ h.0, k.1 ∙ h.1, stay_then names others last h.2 k.2)
+sort_then (Scope text parent names) (Scope second round others) c h k = absurd k
+sort_then (Scope text parent names) b c h k = absurd h
 
 pub grows_not : (heap : Heap) → Grows heap heap
 grows_not heap id object e = record { now = object; is = e; sort = same_sort object }
@@ -46,13 +79,57 @@ grows_then a b c g k id object e =
 structure_kept : (heap : Heap) (id : ℕ) (class : List ℕ) (fields : List Value) (now : Object) → object_at heap id ≡ Some now →
     IsSameSort (Structure class fields) now → IsStructureAt heap id
 structure_kept heap id class fields (Structure other others) e h = record { class = other; fields = others; is = e }
-structure_kept heap id class fields (Elements text low others) e h = absurd h
+structure_kept heap id class fields now e h = absurd h
 
 vector_kept : (heap : Heap) (ty : TyView) (id : ℕ) (low : _) (elements : List Value) (now : Object) → object_at heap id ≡ Some now →
     IsSameSort (Elements (type_text ty) low elements) now → IsVectorAt heap ty id
-vector_kept heap ty id low elements (Structure other others) e h = absurd h
 vector_kept heap ty id low elements (Elements text bound others) e h =
     record { low = bound; elements = others; is = e ∙ ap (λ (t : List ℕ). Some (Elements t bound others)) h.0 }
+vector_kept heap ty id low elements now e h = absurd h
+
+-- scopes stay, with the values of their names
+scope_kept : (heap new : Heap) (scope : Option ℕ) (whole fields : List Field) → Grows heap new → (h : IsScopeAt heap scope whole fields) →
+    (k : IsScopeAt new scope whole fields) × (k.parent ≡ h.parent)
+scope_kept heap new scope whole fields g h =
+    let stays = g h.id (Scope (class_text (codes "scope") whole) h.parent h.names) h.is in
+    of stays.now stays.is stays.sort
+  where
+    of : (now : Object) → object_at new h.id ≡ Some now → IsSameSort (Scope (class_text (codes "scope") whole) h.parent h.names) now →
+        (k : IsScopeAt new scope whole fields) × (k.parent ≡ h.parent)
+    of (Scope other round others) e s = (
+      record {
+        id = h.id;
+        scope_is = h.scope_is;
+        parent = round;
+        names = others;
+        is = e ∙ ap (λ (t : List ℕ). Some (Scope t round others)) s.0;
+        named = h.named;
+        front = h.front;
+        have = values_stay fields h.names others s.2 h.have;
+      },
+      s.1,
+    )
+    of now e s = absurd s
+
+pub scopes_kept : (heap new : Heap) → Grows heap new → (wholes scopes : List (List Field)) (scope : Option ℕ) → AreScopes heap scope wholes scopes →
+    AreScopes new scope wholes scopes
+scopes_kept heap new g [] [] scope h = tt
+scopes_kept heap new g [] (fields ∷ scopes) scope h = absurd h
+scopes_kept heap new g (whole ∷ wholes) [] scope h = absurd h
+scopes_kept heap new g (whole ∷ wholes) (fields ∷ scopes) scope h =
+    let k = scope_kept heap new scope whole fields g h.0 in
+    (k.0, subst (λ (p : Option ℕ). AreScopes new p wholes scopes) (sym k.1) (scopes_kept heap new g wholes scopes h.0.parent h.1))
+
+pub procedure_kept : (heap new : Heap) → Grows heap new → (ty : TyView) (of : BodyNode) (scope : Option ℕ) → IsProcedure heap ty of scope →
+    IsProcedure new ty of scope
+procedure_kept heap new g ty of scope h = record {
+  wholes = h.wholes;
+  scopes = h.scopes;
+  typed = h.typed;
+  runs = h.runs;
+  stand = scopes_kept heap new g h.wholes h.scopes scope h.stand;
+  ty_is = h.ty_is;
+}
 
 pub of_kept : (heap new : Heap) → Grows heap new → (ty : TyView) (v : Value) → IsOf heap ty v → IsOf new ty v
 of_kept heap new g types.Int (Num z) h = h
@@ -70,7 +147,7 @@ of_kept heap new g (types.Vector element) (Vector id) h =
     let stays = g id _ h.is in
     vector_kept new (types.Vector element) id h.low h.elements stays.now stays.is stays.sort
 of_kept heap new g (types.Vector element) v h = absurd h
-of_kept heap new g (types.Proc parameters gives) (Procedure of scope) h = h
+of_kept heap new g (types.Proc parameters gives) (Procedure (as_written of) scope) h = procedure_kept heap new g (types.Proc parameters gives) of scope h
 of_kept heap new g (types.Proc parameters gives) v h = absurd h
 of_kept heap new g types.Void Nothing h = h
 of_kept heap new g types.Void v h = absurd h
@@ -92,6 +169,13 @@ locals_kept heap new g frame [] h = tt
 locals_kept heap new g frame (local ∷ locals) h =
     (of_kept heap new g local.ty (local_of frame local.ty local.slot) h.0, locals_kept heap new g frame locals h.1)
 
+pub names_kept : (heap new : Heap) → Grows heap new → (fields : List Field) (names : List Value) → AreNames heap fields names → AreNames new fields names
+names_kept heap new g [] [] h = tt
+names_kept heap new g [] (v ∷ vs) h = absurd h
+names_kept heap new g (field ∷ fields) [] h = absurd h
+names_kept heap new g (field ∷ fields) (v ∷ vs) (inl is, h) = (inl (of_kept heap new g field.ty v is), names_kept heap new g fields vs h)
+names_kept heap new g (field ∷ fields) (v ∷ vs) (inr e, h) = (inr e, names_kept heap new g fields vs h)
+
 pub object_kept : (heap new : Heap) → Grows heap new → (object : Object) → IsTypedObject heap object → IsTypedObject new object
 object_kept heap new g (Structure class values) h =
     record { name = h.name; fields = h.fields; named = h.named; class_is = h.class_is; are = are_kept heap new g h.fields values h.are }
@@ -102,6 +186,8 @@ object_kept heap new g (Elements text low values) h = record {
   fits = h.fits;
   are = all_kept heap new g h.element values h.are;
 }
+object_kept heap new g (Scope text parent names) h =
+    record { fields = h.fields; named = h.named; text_is = h.text_is; are = names_kept heap new g h.fields names h.are }
 
 -- an object more
 at_old : (heap : Heap) (id : ℕ) (new object : Object) → object_at heap id ≡ Some object → object_at (heap ++ new ∷ []) id ≡ Some object
@@ -123,13 +209,15 @@ found_new [] (suc id) new object e = absurd (no_object object e)
 found_new (o ∷ os) zero new object e = inl e
 found_new (o ∷ os) (suc id) new object e = found_new os id new object e
 
-typed_found : (heap new : Heap) (made object : Object) → Grows heap new → IsTypedObject heap made → (IsTypedObject heap object) ⊎ (object ≡ made) →
+typed_found : (heap new : Heap) (made object : Object) → Grows heap new → IsTypedObject new made → (IsTypedObject heap object) ⊎ (object ≡ made) →
     IsTypedObject new object
 typed_found heap new made object g h (inl k) = object_kept heap new g object k
-typed_found heap new made object g h (inr e) = subst (IsTypedObject new) (sym e) (object_kept heap new g made h)
+typed_found heap new made object g h (inr e) = subst (IsTypedObject new) (sym e) h
 
 pub typed_new : (heap : Heap) (new : Object) → IsTypedHeap heap → IsTypedObject heap new → IsTypedHeap (with_new heap new)
-typed_new heap new typed h id object e = typed_found heap (with_new heap new) new object (grows_new heap new) h (of (found_new heap id new object e))
+typed_new heap new typed h id object e =
+    typed_found heap (with_new heap new) new object (grows_new heap new) (object_kept heap (with_new heap new) (grows_new heap new) new h)
+    (of (found_new heap id new object e))
   where
     of : (object_at heap id ≡ Some object) ⊎ (object ≡ new) → (IsTypedObject heap object) ⊎ (object ≡ new)
     of (inl k) = inl (typed id object k)
@@ -159,11 +247,17 @@ found_set (o ∷ os) zero (suc at) new object e = inl e
 found_set (o ∷ os) (suc id) zero new object e = inl e
 found_set (o ∷ os) (suc id) (suc at) new object e = found_set os id at new object e
 
-pub typed_set : (heap : Heap) (id : ℕ) (old new : Object) → object_at heap id ≡ Some old → IsSameSort old new → IsTypedHeap heap →
-    IsTypedObject heap new → IsTypedHeap (with_object heap id new)
-typed_set heap id old new was sort typed h at object e =
+-- which is typed in the heap that it makes
+pub typed_with : (heap : Heap) (id : ℕ) (old new : Object) → object_at heap id ≡ Some old → IsSameSort old new → IsTypedHeap heap →
+    IsTypedObject (with_object heap id new) new → IsTypedHeap (with_object heap id new)
+typed_with heap id old new was sort typed h at object e =
     typed_found heap (with_object heap id new) new object (grows_set heap id old new was sort) h (of (found_set heap id at new object e))
   where
     of : (object_at heap at ≡ Some object) ⊎ (object ≡ new) → (IsTypedObject heap object) ⊎ (object ≡ new)
     of (inl k) = inl (typed at object k)
     of (inr k) = inr k
+
+pub typed_set : (heap : Heap) (id : ℕ) (old new : Object) → object_at heap id ≡ Some old → IsSameSort old new → IsTypedHeap heap →
+    IsTypedObject heap new → IsTypedHeap (with_object heap id new)
+typed_set heap id old new was sort typed h =
+    typed_with heap id old new was sort typed (object_kept heap (with_object heap id new) (grows_set heap id old new was sort) new h)

@@ -3,7 +3,9 @@ pub mod Operators
 pub mod Growing
 pub mod Places
 pub mod Fields
+pub mod Scopes
 pub mod Combining
+pub mod Calling
 pub mod Objects
 pub mod Loops
 pub mod Sequences
@@ -13,3 +15,5 @@ pub mod Rules
 pub mod Declaring
 pub mod Clauses
 mod Rows
+pub mod Bodies
+mod ScopeRows

@@ -1,22 +1,21 @@
 -- Loops leave the locals in scope typed: what is repeated does, and the three numbers of a loop by `for` lie in free slots.
-use Rattle.std.proofs.Common.{◌≡◌, ℕ, zero, suc, ◌+◌, ◌≤◌, ℤ, pos, ◌+ℤ◌, Bool, true, false, List, refl, arith}
+use Rattle.std.proofs.Common.{◌≡◌, ℕ, zero, suc, ◌+◌, ◌≤◌, ℤ, pos, ◌+ℤ◌, Bool, true, false, List, Option, refl, arith}
 use Rattle.std.specs.Prelude.{◌&&◌, int_le, if◌then◌else◌}
 use Rattle.ps_base.specs.TyView.{TyView}
 use Rattle.ps_base.specs.TyView as types
 use Rattle.ps_base.specs.declared.line.Line.{Line}
 use Rattle.ps_program.specs.declared.place.Place.{Place}
 use Rattle.ps_program.specs.declared.place.Place.TheVariants.{Plain}
-use Rattle.ps_typing.specs.WellTyped.{Local}
 use Rattle.ps_meaning.specs.Operators.{is_int, is_same}
 use Rattle.ps_meaning.specs.Event.{OutOfTurns}
 use Rattle.ps_meaning.specs.Values.{Value, Num, Nothing, word_of, flag_of}
 use Rattle.ps_meaning.specs.Objects.{Heap}
-use Rattle.ps_meaning.specs.Meaning.{Meaning, give, set}
+use Rattle.ps_meaning.specs.Meaning.{Meaning, ◌>>=◌, give, in_scope, set}
 use Rattle.ps_meaning.specs.Evaluation.{while_turns, Counting, is_up, goes_on, for_turns, for_loop, for_meant}
-use Rattle.ps_soundness.proofs.Combining.{Sound, later, sound_then, sound_nothing, sound_stop, sound_choose, sound_if, sound_turn}
+use Rattle.ps_soundness.proofs.Combining.{Standing, Sound, later, sound_then, sound_nothing, sound_stop, sound_choose, sound_if, sound_turn}
 
-pub sound_while : {heap : Heap} {locals : List Local} {test clause : Meaning} (n : ℕ) → Sound heap locals locals types.Bool test →
-    Sound heap locals locals types.Void clause → Sound heap locals locals types.Void (while_turns n test clause)
+pub sound_while : {heap : Heap} {known : Standing} {test clause : Meaning} (n : ℕ) → Sound heap known known types.Bool test →
+    Sound heap known known types.Void clause → Sound heap known known types.Void (while_turns n test clause)
 unfolding while_turns
 sound_while zero h k = sound_then h (λ new v g is. sound_choose (flag_of v) (sound_stop OutOfTurns) sound_nothing)
 sound_while (suc n) h k =
@@ -32,49 +31,52 @@ first_true false b e = e
 pub goes_on_int : (limit step z : ℤ) → goes_on limit step z ≡ true → is_int z ≡ true
 goes_on_int limit step z e = first_true (is_int z) (if is_up step then int_le z limit else int_le limit z) e
 
--- a number in a local leaves these locals typed, from each heap on
-abbrev pub Settable : List Local → List Local → Place → ℤ → Type 0
+-- a number in a place leaves what is known, from each heap on
+abbrev pub Settable : Standing → Standing → Place → ℤ → Type 0
 Settable first last place z = (heap : Heap) → Sound heap first last types.Void (set place types.Int (Num z))
 
-pub sound_for_turns : {heap : Heap} {locals own : List Local} {clause : Meaning} (n : ℕ) (loop : Counting) →
-    ((z : ℤ) → is_int z ≡ true → Settable locals own loop.control z) → ((z : ℤ) → Settable own locals (Plain loop.slot) z) →
-    ((new : Heap) → Sound new own own types.Void clause) → ((new : Heap) → Sound new own locals types.Void (give Nothing)) →
-    (z : ℤ) → is_int z ≡ true → Sound heap locals locals types.Void (for_turns n loop clause z)
+-- a turn of a loop, from each heap on: what is known behind it
+abbrev pub Turns : Standing → Standing → Option (List ℕ) → Place → Meaning → Type 0
+Turns known own scope control clause =
+    (z : ℤ) → is_int z ≡ true → (heap : Heap) → Sound heap known own types.Void (in_scope scope (set control types.Int (Num z) >>= λ u. clause))
+
+pub sound_for_turns : {heap : Heap} {known own : Standing} (n : ℕ) (loop : Counting) (clause : Meaning) → Turns known own loop.scope loop.control clause →
+    ((z : ℤ) → Settable own known (Plain loop.slot) z) → ((new : Heap) → Sound new own known types.Void (give Nothing)) →
+    (z : ℤ) → is_int z ≡ true → Sound heap known known types.Void (for_turns n loop clause z)
 unfolding for_turns
-sound_for_turns zero loop control slot clause ends z is = sound_stop OutOfTurns
-sound_for_turns (suc n) loop control slot clause ends z is =
+sound_for_turns zero loop clause turns slot ends z is = sound_stop OutOfTurns
+sound_for_turns (suc n) loop clause turns slot ends z is =
     let next = z +ℤ loop.step in
-    sound_then sound_turn (λ h1 t g1 is1. sound_then (control z is h1) (λ h2 u g2 is2. sound_then (clause h2) (λ h3 w g3 is3.
+    sound_then sound_turn (λ h1 t g1 is1. sound_then (turns z is h1) (λ h3 w g3 is3.
     sound_if (goes_on loop.limit loop.step next)
     (λ e. sound_then (slot next h3)
-    (λ h4 x g4 is4. sound_for_turns n loop control slot clause ends next (goes_on_int loop.limit loop.step next e)))
-    (ends h3))))
+    (λ h4 x g4 is4. sound_for_turns n loop clause turns slot ends next (goes_on_int loop.limit loop.step next e)))
+    (ends h3)))
 
-pub sound_for_loop : {heap : Heap} {locals own : List Local} {clause : Meaning} (n : ℕ) (line : Line) (loop : Counting) →
-    ((z : ℤ) → is_int z ≡ true → Settable locals own loop.control z) → ((z : ℤ) → Settable own locals (Plain loop.slot) z) →
-    ((new : Heap) → Sound new own own types.Void clause) → ((new : Heap) → Sound new own locals types.Void (give Nothing)) →
-    (z : ℤ) → Sound heap locals locals types.Void (for_loop n line loop clause z)
+pub sound_for_loop : {heap : Heap} {known own : Standing} (n : ℕ) (line : Line) (loop : Counting) (clause : Meaning) →
+    Turns known own loop.scope loop.control clause →
+    ((z : ℤ) → Settable own known (Plain loop.slot) z) → ((new : Heap) → Sound new own known types.Void (give Nothing)) →
+    (z : ℤ) → Sound heap known known types.Void (for_loop n line loop clause z)
 unfolding for_loop
-sound_for_loop n line loop control slot clause ends z =
+sound_for_loop n line loop clause turns slot ends z =
     sound_choose (is_same loop.step (pos 0)) (sound_stop _)
     (sound_if (goes_on loop.limit loop.step z)
-    (λ e. sound_for_turns n loop control slot clause ends z (goes_on_int loop.limit loop.step z e)) sound_nothing)
+    (λ e. sound_for_turns n loop clause turns slot ends z (goes_on_int loop.limit loop.step z e)) sound_nothing)
 
--- a value in a free slot leaves the locals in scope typed, from each heap on
-abbrev pub Spares : List Local → ℕ → Type 0
-Spares locals slot = (heap : Heap) (v : Value) → Sound heap locals locals types.Void (set (Plain slot) types.Int v)
+-- a value in a free slot leaves what is known, from each heap on
+abbrev pub Spares : Standing → ℕ → Type 0
+Spares known slot = (heap : Heap) (v : Value) → Sound heap known known types.Void (set (Plain slot) types.Int v)
 
-pub sound_for : {heap : Heap} {locals own : List Local} {a b c clause : Meaning} (n : ℕ) (line : Line) (slot : ℕ) (control : Place) →
-    ((at : ℕ) → slot ≤ at → Spares locals at) →
-    ((z : ℤ) → is_int z ≡ true → Settable locals own control z) → ((z : ℤ) → Settable own locals (Plain slot) z) →
-    ((new : Heap) → Sound new locals locals types.Int a) → ((new : Heap) → Sound new locals locals types.Int b) →
-    ((new : Heap) → Sound new locals locals types.Int c) → ((new : Heap) → Sound new own own types.Void clause) →
-    ((new : Heap) → Sound new own locals types.Void (give Nothing)) →
-    Sound heap locals locals types.Void (for_meant n line slot control a b c clause)
+pub sound_for : {heap : Heap} {known own : Standing} {a b c : Meaning} (n : ℕ) (line : Line) (slot : ℕ) (scope : Option (List ℕ))
+    (control : Place) (clause : Meaning) →
+    ((at : ℕ) → slot ≤ at → Spares known at) → Turns known own scope control clause → ((z : ℤ) → Settable own known (Plain slot) z) →
+    ((new : Heap) → Sound new known known types.Int a) → ((new : Heap) → Sound new known known types.Int b) →
+    ((new : Heap) → Sound new known known types.Int c) → ((new : Heap) → Sound new own known types.Void (give Nothing)) →
+    Sound heap known known types.Void (for_meant n line slot scope control a b c clause)
 unfolding for_meant
-sound_for {heap = heap} n line slot control spares sets counts ha hb hc clause ends =
+sound_for {heap = heap} n line slot scope control clause spares turns counts ha hb hc ends =
     sound_then (ha heap) (λ h1 start g1 is1. sound_then (spares slot (omega arith) h1 start) (λ h2 u g2 is2.
     sound_then (hb h2) (λ h3 limit g3 is3. sound_then (spares (slot + 1) (omega arith) h3 limit) (λ h4 v g4 is4.
     sound_then (hc h4) (λ h5 step g5 is5. sound_then (spares (slot + 2) (omega arith) h5 step) (λ h6 w g6 is6.
-    sound_for_loop n line (record { slot = slot; control = control; limit = word_of limit; step = word_of step }) sets counts clause ends
+    sound_for_loop n line (record { slot = slot; scope = scope; control = control; limit = word_of limit; step = word_of step }) clause turns counts ends
     (word_of start)))))))

@@ -34,7 +34,7 @@ read_of : (told : Told) (heap : Heap) (class : List ℕ) (n : ℕ) (ty : TyView)
 read_of told heap class n ty id None e typed h = tt
 read_of told heap class n ty id (Some (Structure text values)) e typed h =
     read_where told heap class text n ty values (is_same_text text class) refl h (typed id (Structure text values) e)
-read_of told heap class n ty id (Some (Elements text low values)) e typed h = tt
+read_of told heap class n ty id (Some object) e typed h = tt
 
 pub field_yields : (told : Told) (heap : Heap) (o : Value) (class : List ℕ) (n : ℕ) (ty : TyView) → IsTypedHeap heap → HasField class n ty →
     OnYield (IsOf heap ty) (field_of heap o class n)
@@ -63,7 +63,7 @@ written_of : (told : Told) (heap : Heap) (class : List ℕ) (n : ℕ) (ty : TyVi
 written_of told heap class n ty v id None e typed h is = tt
 written_of told heap class n ty v id (Some (Structure text values)) e typed h is =
     written_where told heap class text n ty v id values (is_same_text text class) refl e typed h is
-written_of told heap class n ty v id (Some (Elements text low values)) e typed h is = tt
+written_of told heap class n ty v id (Some object) e typed h is = tt
 
 with_field_yields : (told : Told) (heap : Heap) (o : Value) (class : List ℕ) (n : ℕ) (ty : TyView) (v : Value) → IsTypedHeap heap →
     HasField class n ty →

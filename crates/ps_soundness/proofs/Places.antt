@@ -5,8 +5,8 @@ use Rattle.ps_base.specs.TyView.{TyView}
 use Rattle.ps_base.specs.TyView as types
 use Rattle.ps_typing.specs.Placing.{is_number}
 use Rattle.ps_typing.specs.WellTyped.{Some_is, Local, Free, IsLocal, next_slot}
-use Rattle.ps_meaning.specs.Values.{Value, Num, Flag, Text, Nil, Pointer, Vector, Procedure, Nothing}
-use Rattle.ps_meaning.specs.Objects.{Heap, Object, Structure, Elements}
+use Rattle.ps_meaning.specs.Values.{Value, Num, Flag, Text, Nil, Pointer, Vector, Procedure, as_written, Nothing}
+use Rattle.ps_meaning.specs.Objects.{Heap, Object, Elements}
 use Rattle.ps_meaning.specs.Meaning.{Frame, with_local, local_of, frame_with}
 use Rattle.ps_soundness.specs.Free.{AllBelow}
 use Rattle.ps_soundness.specs.Shapes.{IsVectorAt, IsOf, AreLocals}
@@ -15,14 +15,14 @@ use Rattle.ps_soundness.proofs.Growing.{one_object}
 
 text_in : List ℕ → Object → List ℕ
 text_in other (Elements text low elements) = text
-text_in other (Structure class fields) = other
+text_in other object = other
 
 -- a vector has one type
 one_vector : (told : Told) (heap : Heap) (a b : TyView) (id : ℕ) → IsVectorAt heap a id → IsVectorAt heap b id → a ≡ b
 unfolding text_in
 one_vector told heap a b id h k = told.types a b (ap (text_in []) (one_object _ _ (sym h.is ∙ k.is)))
 
--- where one value is of two types, a value of the one is of the other: the types are the same, or both are of procedures
+-- where one value is of two types, a value of the one is of the other: the types are the same
 shared : (told : Told) (heap : Heap) (a b : TyView) (old v : Value) → IsOf heap a old → IsOf heap b old → IsOf heap a v → IsOf heap b v
 shared told heap types.Int types.Int (Num z) v h k l = l
 shared told heap types.Int b (Num z) v h k l = absurd k
@@ -42,9 +42,9 @@ shared told heap (types.Vector a) (types.Vector b) (Vector id) v h k l =
     subst (λ (t : TyView). IsOf heap t v) (one_vector told heap (types.Vector a) (types.Vector b) id h k) l
 shared told heap (types.Vector a) b (Vector id) v h k l = absurd k
 shared told heap (types.Vector a) b old v h k l = absurd h
-shared told heap (types.Proc ps g) (types.Proc qs f) (Procedure of scope) (Procedure other around) h k l = tt
-shared told heap (types.Proc ps g) (types.Proc qs f) (Procedure of scope) v h k l = absurd l
-shared told heap (types.Proc ps g) b (Procedure of scope) v h k l = absurd k
+shared told heap (types.Proc ps g) (types.Proc qs f) (Procedure (as_written of) scope) v h k l =
+    subst (λ (t : TyView). IsOf heap t v) (h.ty_is ∙ sym k.ty_is) l
+shared told heap (types.Proc ps g) b (Procedure (as_written of) scope) v h k l = absurd k
 shared told heap (types.Proc ps g) b old v h k l = absurd h
 shared told heap types.Void types.Void Nothing v h k l = l
 shared told heap types.Void b Nothing v h k l = absurd k

@@ -50,7 +50,7 @@ no_pointer_to_a_vector h = subst is_vector (one_object two_ints (Structure h.cla
   where
     is_vector : Object → Type 0
     is_vector (Elements text low elements) = Unit {0}
-    is_vector (Structure class values) = ⊥
+    is_vector object = ⊥
 
 vector : IsOf heap (types.Vector types.Int) (Vector 1)
 vector = record { low = pos 5; elements = Num (pos 4) ∷ Num (pos 9) ∷ []; is = refl }

@@ -1,12 +1,14 @@
--- Which typed clauses run without procedures: all but those over scopes, procedures, tables and databases. A literal is an int or a string, and
--- a class has names of a text, the field that a clause names, and as many fields as a clause gives values, as in each tree of a text. Where names
--- may be any bytes, one text can be read as that of several classes. Fields and elements are of types that have values.
-use Rattle.std.specs.Prelude.{◌≡◌, ◌⊎◌, ℕ, true, None, List, [], ◌∷◌}
+-- Which typed clauses run: all but those over tables and databases, and where nothing is known of the scopes round them, all but those over scopes,
+-- procedures and the input too. A literal is an int or a string, and a class has names of a text, the field that a clause names, and as many
+-- fields as a clause gives values, as in each tree of a text; so has a scope names of a text. Where names may be any bytes, one text can be read as
+-- that of several classes. Fields and elements are of types that have values.
+use Rattle.std.specs.Prelude.{◌≡◌, ◌⊎◌, ℕ, true, Option, Some, None, List, [], ◌∷◌, codes}
 use Rattle.std.specs.List.{AllByRecursion}
 use Rattle.ps_base.specs.TyView.{TyView}
+use Rattle.ps_base.specs.TyView as types
 use Rattle.ps_program.specs.declared.place.Place.{Place}
 use Rattle.ps_program.specs.declared.place.Place.TheVariants.{Plain, Kept}
-use Rattle.ps_program.specs.Node.{Node, Nodes, none, more, Arms, no_arms, more_arms, arm, BodyNode, body}
+use Rattle.ps_program.specs.Node.{Param, Node, Nodes, none, more, Arms, no_arms, more_arms, arm, BodyNode, body}
 use Rattle.ps_program.specs.Node as node
 use Rattle.ps_type_text.specs.Texts.{Field, class_text, IsNamed}
 use Rattle.ps_typing.specs.WellTyped.{At, IsOfType}
@@ -17,6 +19,23 @@ use Rattle.ps_soundness.specs.Valued.{IsValued}
 abbrev pub IsPlain : Place → Type 0
 IsPlain (Plain slot) = Unit {0}
 IsPlain (Kept up position) = ⊥
+
+-- A name of this type at this place may stand where the scopes round it have these names, innermost first, or where nothing is known of them.
+abbrev pub IsPlace : Option (List (List Field)) → Place → TyView → Type 0
+IsPlace None place ty = IsPlain place
+IsPlace (Some wholes) (Plain slot) ty = Unit {0}
+IsPlace (Some wholes) (Kept up position) ty = At (λ (whole : List Field). At (IsOfType ty) whole position) wholes up
+
+-- the text of a scope whose names are those of a text
+pub record IsScopeText (text : List ℕ) : Type 0 where
+  pub fields : List Field
+  pub named : IsNamed (codes "scope") fields
+  pub text_is : text ≡ class_text (codes "scope") fields
+
+-- a procedure of the library that runs: `length` and `iformat`, and `read.a.line` and `eof`
+abbrev pub IsRunLibrary : Option (List (List Field)) → ℕ → Type 0
+IsRunLibrary None code = (code ≡ 11) ⊎ (code ≡ 12)
+IsRunLibrary (Some wholes) code = ((code ≡ 11) ⊎ (code ≡ 12)) ⊎ ((code ≡ 9) ⊎ (code ≡ 10))
 
 -- the text of a class whose name and fields have names of a text
 pub record IsClassText (text : List ℕ) : Type 0 where
@@ -42,56 +61,87 @@ pub record HasAsMany (text : List ℕ) (values : Nodes) : Type 0 where
   pub class : IsClassText text
   pub are : AreAsMany values class.fields
 
+-- the parameters of a body in these scopes
+abbrev pub ArePlaces : List (List Field) → List Param → Type 0
+ArePlaces wholes [] = Unit {0}
+ArePlaces wholes (param ∷ params) = IsPlace (Some wholes) param.place param.ty × ArePlaces wholes params
+
 abbrev mutual
-  pub Runs : Node → Type 0
-  Runs (node.Int v) = is_int v ≡ true
-  Runs (node.Flag b) = Unit {0}
-  Runs (node.Text bytes) = is_string bytes ≡ true
-  Runs node.Nil = Unit {0}
-  Runs (node.Name place ty) = IsPlain place
-  Runs (node.SetName place ty e) = IsPlain place × Runs e
-  Runs (node.Let place ty e) = IsPlain place × Runs e
-  Runs node.Class = Unit {0}
-  Runs node.Empty = Unit {0}
-  Runs (node.Block scope items) = (scope ≡ None) × AllRun items
-  Runs (node.IfDo c a) = Runs c × Runs a
-  Runs (node.IfElse c a b) = Runs c × Runs a × Runs b
-  Runs (node.While c a) = Runs c × Runs a
-  Runs (node.Repeat a c b) = Runs a × Runs c × Runs b
-  Runs (node.For slot a b c scope control s line) = Runs a × Runs b × Runs c × (scope ≡ None) × IsPlain control × Runs s
-  Runs (node.Case e arms d ty) = Runs e × ArmsRun arms × Runs d
-  Runs (node.And a b) = Runs a × Runs b
-  Runs (node.Or a b) = Runs a × Runs b
-  Runs (node.Not e) = Runs e
-  Runs (node.Neg e line) = Runs e
-  Runs (node.Plus e) = Runs e
-  Runs (node.Arith op a b line) = Runs a × Runs b
-  Runs (node.Compare op ty a b) = Runs a × Runs b
-  Runs (node.Is e class) = IsClassText class × Runs e
-  Runs (node.Join a b line) = Runs a × Runs b
-  Runs (node.Part a i n line) = Runs a × Runs i × Runs n
-  Runs (node.Make class args) = HasAsMany class args × AllRun args
-  Runs (node.Field e class index ty line) = HasField class index ty × Runs e
-  Runs (node.SetField p class index ty e line) = HasField class index ty × Runs p × Runs e
-  Runs (node.Fill l u e ty line) = Runs l × Runs u × Runs e
-  Runs (node.Elems l items ty line) = IsValued ty × Runs l × AllRun items
-  Runs (node.Element v i ty line) = Runs v × Runs i
-  Runs (node.SetElement v i e ty line) = Runs v × Runs i × Runs e
-  Runs (node.Bound v upper) = Runs v
-  Runs (node.Lib code args line) = ((code ≡ 11) ⊎ (code ≡ 12)) × AllRun args
-  Runs (node.Write e w wide ty line) = Runs e × Runs w
-  Runs (node.Abort line) = Unit {0}
-  Runs (node.Proc of) = ⊥
-  Runs (node.Call f args line) = ⊥
-  Runs (node.Scan text a f q s line) = ⊥
+  pub RunsIn : Option (List (List Field)) → Node → Type 0
+  RunsIn around (node.Int v) = is_int v ≡ true
+  RunsIn around (node.Flag b) = Unit {0}
+  RunsIn around (node.Text bytes) = is_string bytes ≡ true
+  RunsIn around node.Nil = Unit {0}
+  RunsIn around (node.Name place ty) = IsPlace around place ty
+  RunsIn around (node.SetName place ty e) = IsPlace around place ty × RunsIn around e
+  RunsIn around (node.Let place ty e) = IsPlace around place ty × RunsIn around e
+  RunsIn around node.Class = Unit {0}
+  RunsIn around node.Empty = Unit {0}
+  RunsIn None (node.Block scope items) = (scope ≡ None) × AllRunIn None items
+  RunsIn (Some wholes) (node.Block None items) = AllRunIn (Some wholes) items
+  RunsIn (Some wholes) (node.Block (Some text) items) = (own : IsScopeText text) × AllRunIn (Some (own.fields ∷ wholes)) items
+  RunsIn around (node.IfDo c a) = RunsIn around c × RunsIn around a
+  RunsIn around (node.IfElse c a b) = RunsIn around c × RunsIn around a × RunsIn around b
+  RunsIn around (node.While c a) = RunsIn around c × RunsIn around a
+  RunsIn around (node.Repeat a c b) = RunsIn around a × RunsIn around c × RunsIn around b
+  RunsIn None (node.For slot a b c scope control s line) =
+      RunsIn None a × RunsIn None b × RunsIn None c × (scope ≡ None) × IsPlain control × RunsIn None s
+  RunsIn (Some wholes) (node.For slot a b c None control s line) =
+      RunsIn (Some wholes) a × RunsIn (Some wholes) b × RunsIn (Some wholes) c × IsPlace (Some wholes) control types.Int × RunsIn (Some wholes) s
+  RunsIn (Some wholes) (node.For slot a b c (Some text) control s line) =
+      RunsIn (Some wholes) a × RunsIn (Some wholes) b × RunsIn (Some wholes) c
+      × ((own : IsScopeText text) × IsPlace (Some (own.fields ∷ wholes)) control types.Int × RunsIn (Some (own.fields ∷ wholes)) s)
+  RunsIn around (node.Case e arms d ty) = RunsIn around e × ArmsRunIn around arms × RunsIn around d
+  RunsIn around (node.And a b) = RunsIn around a × RunsIn around b
+  RunsIn around (node.Or a b) = RunsIn around a × RunsIn around b
+  RunsIn around (node.Not e) = RunsIn around e
+  RunsIn around (node.Neg e line) = RunsIn around e
+  RunsIn around (node.Plus e) = RunsIn around e
+  RunsIn around (node.Arith op a b line) = RunsIn around a × RunsIn around b
+  RunsIn around (node.Compare op ty a b) = RunsIn around a × RunsIn around b
+  RunsIn around (node.Is e class) = IsClassText class × RunsIn around e
+  RunsIn around (node.Join a b line) = RunsIn around a × RunsIn around b
+  RunsIn around (node.Part a i n line) = RunsIn around a × RunsIn around i × RunsIn around n
+  RunsIn around (node.Make class args) = HasAsMany class args × AllRunIn around args
+  RunsIn around (node.Field e class index ty line) = HasField class index ty × RunsIn around e
+  RunsIn around (node.SetField p class index ty e line) = HasField class index ty × RunsIn around p × RunsIn around e
+  RunsIn around (node.Fill l u e ty line) = RunsIn around l × RunsIn around u × RunsIn around e
+  RunsIn around (node.Elems l items ty line) = IsValued ty × RunsIn around l × AllRunIn around items
+  RunsIn around (node.Element v i ty line) = RunsIn around v × RunsIn around i
+  RunsIn around (node.SetElement v i e ty line) = RunsIn around v × RunsIn around i × RunsIn around e
+  RunsIn around (node.Bound v upper) = RunsIn around v
+  RunsIn around (node.Lib code args line) = IsRunLibrary around code × AllRunIn around args
+  RunsIn around (node.Write e w wide ty line) = RunsIn around e × RunsIn around w
+  RunsIn around (node.Abort line) = Unit {0}
+  RunsIn None (node.Proc of) = ⊥
+  RunsIn (Some wholes) (node.Proc of) = BodyRuns wholes of
+  RunsIn None (node.Call f args line) = ⊥
+  RunsIn (Some wholes) (node.Call f args line) = RunsIn (Some wholes) f × AllRunIn (Some wholes) args
+  RunsIn around (node.Scan text a f q s line) = ⊥
 
-  pub AllRun : Nodes → Type 0
-  AllRun none = Unit {0}
-  AllRun (more first rest) = Runs first × AllRun rest
+  pub AllRunIn : Option (List (List Field)) → Nodes → Type 0
+  AllRunIn around none = Unit {0}
+  AllRunIn around (more first rest) = RunsIn around first × AllRunIn around rest
 
-  pub ArmsRun : Arms → Type 0
-  ArmsRun no_arms = Unit {0}
-  ArmsRun (more_arms (arm labels a) rest) = AllRun labels × Runs a × ArmsRun rest
+  pub ArmsRunIn : Option (List (List Field)) → Arms → Type 0
+  ArmsRunIn around no_arms = Unit {0}
+  ArmsRunIn around (more_arms (arm labels a) rest) = AllRunIn around labels × RunsIn around a × ArmsRunIn around rest
+
+  -- a body inside these scopes
+  pub BodyRuns : List (List Field) → BodyNode → Type 0
+  BodyRuns wholes (body params gives tree None line) = ArePlaces wholes params × RunsIn (Some wholes) tree
+  BodyRuns wholes (body params gives tree (Some text) line) =
+      (own : IsScopeText text) × ArePlaces (own.fields ∷ wholes) params × RunsIn (Some (own.fields ∷ wholes)) tree
+
+-- without procedures
+abbrev pub Runs : Node → Type 0
+Runs = RunsIn None
+
+abbrev pub AllRun : Nodes → Type 0
+AllRun = AllRunIn None
+
+abbrev pub ArmsRun : Arms → Type 0
+ArmsRun = ArmsRunIn None
 
 abbrev pub RunsWhole : BodyNode → Type 0
 RunsWhole (body params gives tree scope line) = (scope ≡ None) × Runs tree

@@ -1,15 +1,19 @@
 -- Values of types, over a heap. A vector's value is an object with the text of its type, and each place of an object holds a value of the type
 -- that its text names.
-use Rattle.std.specs.Prelude.{◌≡◌, ℕ, ℤ, true, List, [], ◌∷◌, length, Some}
+use Rattle.std.specs.Prelude.{◌≡◌, ◌⊎◌, ℕ, ℤ, Bool, true, false, List, [], ◌∷◌, length, codes, Option, Some}
 use Rattle.std.specs.List.{AllByRecursion}
 use Rattle.ps_base.specs.TyView.{TyView}
 use Rattle.ps_base.specs.TyView as types
+use Rattle.text_forms.specs.Classes.{form_of_type}
+use Rattle.ps_program.specs.Node.{BodyNode, body}
 use Rattle.ps_type_text.specs.Texts.{Field, type_text, class_text, IsNamed}
-use Rattle.ps_typing.specs.WellTyped.{Env, Local}
+use Rattle.ps_typing.specs.WellTyped.{Env, Local, IsBody, types_of_params}
 use Rattle.ps_meaning.specs.Operators.{is_int}
 use Rattle.ps_meaning.specs.Texts.{is_string}
-use Rattle.ps_meaning.specs.Values.{Value, Num, Flag, Text, Nil, Pointer, Vector, Procedure, Nothing}
-use Rattle.ps_meaning.specs.Objects.{Heap, Object, Structure, Elements, object_at, is_vector}
+use Rattle.ps_meaning.specs.Values.{Value, Num, Flag, Text, Nil, Pointer, Vector, Procedure, as_written, Nothing}
+use Rattle.ps_meaning.specs.Objects.{Heap, Object, Structure, Elements, Scope, object_at, is_vector}
+use Rattle.ps_meaning.specs.Scopes.{first_value}
+use Rattle.ps_soundness.specs.Running.{BodyRuns}
 use Rattle.ps_meaning.specs.Meaning.{Frame, State, Outcome, Value_is, Ends, local_of}
 
 -- a structure has this number
@@ -24,6 +28,62 @@ pub record IsVectorAt (heap : Heap) (ty : TyView) (id : ℕ) : Type 0 where
   pub elements : List Value
   pub is : object_at heap id ≡ Some (Elements (type_text ty) low elements)
 
+-- a value that is neither a number nor nil nor a pointer: a name that holds such a one never holds nil again
+abbrev pub is_given : Value → Bool
+is_given (Num z) = false
+is_given (Flag b) = false
+is_given Nil = false
+is_given (Pointer id) = false
+is_given _ = true
+
+-- A name of this type has its value. A name of another type holds a value of it from the beginning on: 0, false or nil.
+abbrev pub HasValue : TyView → Value → Type 0
+HasValue types.Int v = Unit {0}
+HasValue types.Bool v = Unit {0}
+HasValue types.Pntr v = Unit {0}
+HasValue _ v = is_given v ≡ true
+
+-- the first names of a scope have had their declarations
+abbrev pub HaveValues : List Field → List Value → Type 0
+HaveValues [] names = Unit {0}
+HaveValues (field ∷ fields) (v ∷ vs) = HasValue field.ty v × HaveValues fields vs
+HaveValues (field ∷ fields) [] = ⊥
+
+-- names of the types of the first ones of others
+abbrev pub IsFront : List Field → List Field → Type 0
+IsFront [] whole = Unit {0}
+IsFront (field ∷ fields) (other ∷ others) = (field.ty ≡ other.ty) × IsFront fields others
+IsFront (field ∷ fields) [] = ⊥
+
+-- a scope that keeps all of these names, of which the first have had their declarations
+pub record IsScopeAt (heap : Heap) (scope : Option ℕ) (whole fields : List Field) : Type 0 where
+  pub id : ℕ
+  pub scope_is : scope ≡ Some id
+  pub parent : Option ℕ
+  pub names : List Value
+  pub is : object_at heap id ≡ Some (Scope (class_text (codes "scope") whole) parent names)
+  pub named : IsNamed (codes "scope") whole
+  pub front : IsFront fields whole
+  pub have : HaveValues fields names
+
+-- The scopes from one outward, innermost first: all the names of each, and those that have had their declarations.
+abbrev pub AreScopes : Heap → Option ℕ → List (List Field) → List (List Field) → Type 0
+AreScopes heap scope [] [] = Unit {0}
+AreScopes heap scope (whole ∷ wholes) (fields ∷ scopes) = (at : IsScopeAt heap scope whole fields) × AreScopes heap at.parent wholes scopes
+AreScopes heap scope wholes scopes = ⊥
+
+abbrev pub type_of_body : BodyNode → TyView
+type_of_body (body params gives tree scope line) = types.Proc (types_of_params params) gives
+
+-- A procedure of a type: its body is typed inside some names, runs, and its scopes have these names.
+pub record IsProcedure (heap : Heap) (ty : TyView) (of : BodyNode) (scope : Option ℕ) : Type 0 where
+  pub wholes : List (List Field)
+  pub scopes : List (List Field)
+  pub typed : IsBody scopes of
+  pub runs : BodyRuns wholes of
+  pub stand : AreScopes heap scope wholes scopes
+  pub ty_is : ty ≡ type_of_body of
+
 -- a value of a type
 abbrev pub IsOf : Heap → TyView → Value → Type 0
 IsOf heap types.Int (Num z) = is_int z ≡ true
@@ -32,7 +92,7 @@ IsOf heap types.Str (Text bytes) = is_string bytes ≡ true
 IsOf heap types.Pntr Nil = Unit {0}
 IsOf heap types.Pntr (Pointer id) = IsStructureAt heap id
 IsOf heap (types.Vector element) (Vector id) = IsVectorAt heap (types.Vector element) id
-IsOf heap (types.Proc parameters gives) (Procedure of scope) = Unit {0}
+IsOf heap (types.Proc parameters gives) (Procedure (as_written of) scope) = IsProcedure heap (types.Proc parameters gives) of scope
 IsOf heap types.Void Nothing = Unit {0}
 IsOf heap _ v = ⊥
 
@@ -58,9 +118,23 @@ pub record IsTypedVector (heap : Heap) (text : List ℕ) (low : ℤ) (values : L
   pub fits : is_vector low (length values) ≡ true
   pub are : AllByRecursion (IsOf heap element) values
 
+-- a name holds a value of its type, or what it held at first
+abbrev pub AreNames : Heap → List Field → List Value → Type 0
+AreNames heap [] [] = Unit {0}
+AreNames heap (field ∷ fields) (v ∷ vs) = (IsOf heap field.ty v ⊎ (v ≡ first_value (form_of_type field.ty))) × AreNames heap fields vs
+AreNames heap fields vs = ⊥
+
+-- the names of a scope are those that its text names
+pub record IsTypedScope (heap : Heap) (text : List ℕ) (names : List Value) : Type 0 where
+  pub fields : List Field
+  pub named : IsNamed (codes "scope") fields
+  pub text_is : text ≡ class_text (codes "scope") fields
+  pub are : AreNames heap fields names
+
 abbrev pub IsTypedObject : Heap → Object → Type 0
 IsTypedObject heap (Structure class values) = IsTypedStructure heap class values
 IsTypedObject heap (Elements text low values) = IsTypedVector heap text low values
+IsTypedObject heap (Scope text parent names) = IsTypedScope heap text names
 
 -- each object of a heap is typed
 abbrev pub IsTypedHeap : Heap → Type 0
@@ -71,10 +145,17 @@ abbrev pub AreLocals : Heap → Frame → List Local → Type 0
 AreLocals heap frame [] = Unit {0}
 AreLocals heap frame (local ∷ locals) = IsOf heap local.ty (local_of frame local.ty local.slot) × AreLocals heap frame locals
 
--- an object keeps its class, or its type and its bounds
+-- what held a value that isn't nil for good still does
+abbrev pub StayGiven : List Value → List Value → Type 0
+StayGiven [] [] = Unit {0}
+StayGiven (v ∷ vs) (w ∷ ws) = (is_given v ≡ true → is_given w ≡ true) × StayGiven vs ws
+StayGiven vs ws = ⊥
+
+-- an object keeps its class, or its type and its bounds, or its text and its parent
 abbrev pub IsSameSort : Object → Object → Type 0
 IsSameSort (Structure class values) (Structure other others) = other ≡ class
 IsSameSort (Elements text low values) (Elements other bound others) = (other ≡ text) × (bound ≡ low) × (length others ≡ length values)
+IsSameSort (Scope text parent names) (Scope other round others) = (other ≡ text) × (round ≡ parent) × StayGiven names others
 IsSameSort _ other = ⊥
 
 -- objects stay, with what they are
@@ -96,3 +177,9 @@ pub record IsSound (heap : Heap) (env : Env) (ty : TyView) (v : Value) (frame : 
 abbrev pub ComesTo : Heap → Env → TyView → Outcome → Type 0
 ComesTo heap env ty (Value_is v frame state) = IsSound heap env ty v frame state
 ComesTo heap env ty (Ends e state) = Grows heap state.store.heap × IsTypedHeap state.store.heap
+
+-- the same where the scopes round the clause have all of these names, of which those in scope have had their declarations
+abbrev pub ComesToInside : Heap → List (List Field) → Env → TyView → Outcome → Type 0
+ComesToInside heap wholes env ty (Value_is v frame state) =
+    IsSound heap env ty v frame state × AreScopes state.store.heap frame.scope wholes env.scopes
+ComesToInside heap wholes env ty (Ends e state) = Grows heap state.store.heap × IsTypedHeap state.store.heap

@@ -1,11 +1,13 @@
-ghost use Rattle.std.specs.Prelude.{◌≡◌, ℕ, Some};
+ghost use Rattle.std.specs.Prelude.{◌≡◌, ℕ, List, Some};
 ghost use Rattle.ps_base.specs.TyView.{TyView};
 ghost use Rattle.ps_program.specs.Node.{Node, BodyNode};
+ghost use Rattle.ps_type_text.specs.Texts.{Field};
 ghost use Rattle.ps_typing.specs.WellTyped.{Env, Free, IsTyped, IsWellTyped};
 ghost use Rattle.ps_meaning.specs.Meaning.{Frame, State};
 ghost use Rattle.ps_meaning.specs.Evaluation.{Context, eval};
-ghost use Rattle.ps_soundness.specs.Running.{Runs};
-ghost use Rattle.ps_soundness.specs.Shapes.{IsTypedHeap, AreLocals, ComesTo};
+ghost use Rattle.ps_meaning.specs.Calls.{context};
+ghost use Rattle.ps_soundness.specs.Running.{Runs, RunsIn};
+ghost use Rattle.ps_soundness.specs.Shapes.{IsTypedHeap, AreLocals, AreScopes, ComesTo, ComesToInside};
 ghost use Rattle.ps_soundness.specs.Free.{AreBelow};
 
 use ps_type_text::{class_texts_tell_classes_apart, type_texts_tell_types_apart};
@@ -15,6 +17,18 @@ pub fn values_have_their_types()
     ensures { (c : Context) (env : Env) (free behind : Free) (clause : Node) (ty : TyView) (frame : Frame) (state : State)
         → IsTyped env free clause ty behind → Runs clause → AreBelow env free → IsTypedHeap state.store.heap
         → AreLocals state.store.heap frame env.locals → ComesTo state.store.heap env ty (eval c clause frame state) }
+{
+    type_texts_tell_types_apart();
+    class_texts_tell_classes_apart();
+}
+
+/// So does a clause that may also make scopes, name what they keep, make and call procedures and read the input, however many turns may be left and
+/// calls are round it, where each scope round it has all the names of its text, and those in scope hold values of their types. These still do behind it.
+pub fn values_in_scopes_have_their_types()
+    ensures { (turns depth : ℕ) (wholes : List (List Field)) (env : Env) (free behind : Free) (clause : Node) (ty : TyView) (frame : Frame) (state : State)
+        → IsTyped env free clause ty behind → RunsIn (Some wholes) clause → AreBelow env free → IsTypedHeap state.store.heap
+        → AreLocals state.store.heap frame env.locals → AreScopes state.store.heap frame.scope wholes env.scopes
+        → ComesToInside state.store.heap wholes env ty (eval (context turns depth) clause frame state) }
 {
     type_texts_tell_types_apart();
     class_texts_tell_classes_apart();

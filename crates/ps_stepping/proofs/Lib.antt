@@ -6,3 +6,4 @@ mod Effects
 mod Rows
 mod ObjectEffects
 mod ObjectRows
+mod ProcedureRows

@@ -40,7 +40,7 @@ at nums refs heap = record {
   locals = record { nums = λ s. pos 0; refs = λ s. Nil };
   scope = None;
   callers = [];
-  store = record { turns = 0; heap = heap; counted = 0 };
+  store = record { turns = 0; heap = heap; input = []; counted = 0 };
 }
 
 -- where so many bytes are counted

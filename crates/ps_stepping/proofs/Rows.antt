@@ -31,7 +31,7 @@ at offset nums turns = record {
   locals = record { nums = λ s. pos 0; refs = λ s. Nil };
   scope = None;
   callers = [];
-  store = record { turns = turns; heap = []; counted = 0 };
+  store = record { turns = turns; heap = []; input = []; counted = 0 };
 }
 
 abbrev loop : ℕ → (ℕ → ℤ) → ℕ → Config

@@ -3,4 +3,5 @@ pub mod Steps
 pub mod Objects
 pub mod Machine
 pub mod Path
+pub mod Procedures
 pub mod Effects

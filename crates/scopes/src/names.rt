@@ -1,18 +1,19 @@
-ghost use Rattle.std.specs.Prelude.{◌≡◌, ◌+◌, ◌<◌, ◌^◌, None, length, OnOk};
+ghost use Rattle.std.specs.Prelude.{◌≡◌, ◌+◌, ◌<◌, ◌^◌, length, OnOk};
 ghost use Rattle.obj_layout.specs.declared.vault.VaultFault.TheVariants.{Damaged};
 ghost use Rattle.swizzle.specs.declared.fault.SwizzleFault.TheVariants.{Vault as InVault};
 ghost use Rattle.swizzle.specs.Heap.{IsHeld, Stands, header_at};
 ghost use Rattle.swizzle.specs.Text.{text_at};
 ghost use Rattle.text_forms.specs.Forms.{forms_of};
-ghost use Rattle.heap_places.specs.Places.{IsNear, NamesDamage, fit_damage};
+ghost use Rattle.heap_places.specs.Places.{IsNear};
 ghost use Rattle.heap_ops.specs.Layouts.{AreSo};
-ghost use Rattle.heap_ops.specs.Vectors.{fitted};
 ghost use Rattle.scopes.specs.Names.{GetsKept, SetsKept, index_of};
 ghost use Rattle.scopes.specs.inside.Opening.{OpensName};
 
 use closures::shape::{other_kind, test_shape};
 use heap_ops::layouts::Layouts;
-use heap_places::places::{damaged, find_misfit, read_place, write_place};
+use heap_ops::shape::fit;
+use heap_ops::vectors::misfitting;
+use heap_places::places::{damaged, read_place, write_place};
 use heap_places::texts::first_text;
 use heap_places::value::Value;
 use obj_layout::kind::Kind;
@@ -150,33 +151,5 @@ fn index(place: Place) -> u32
     match place.form {
         Form::Number | Form::Flag => 1 + place.index,
         Form::Reference => 2 + place.index,
-    }
-}
-
-// A value as a place of a form holds it; None exactly where it belongs into the other row.
-#[inline]
-#[tactic(auto, unfolding(heap_ops::specs::Vectors::fitted))]
-fn fit(form: Form, value: Value) -> Option<Value>
-    ensures { result ≡ fitted form value }
-{
-    match (form, value) {
-        (Form::Number, Value::Num(_)) => Some(value),
-        (Form::Number, Value::Flag(flag)) => Some(Value::Num(i32::from(flag))),
-        (Form::Flag, Value::Num(number)) => Some(Value::Flag(number > 0)),
-        (Form::Flag, Value::Flag(_)) => Some(value),
-        (Form::Reference, Value::Ref(_)) => Some(value),
-        _ => None,
-    }
-}
-
-// The fault of a scope into which a value is put that belongs into the other row.
-fn misfitting(sw: &Swizzle, scope: u32, form: Form, to: Value) -> SwizzleFault
-    requires held { IsHeld sw.now scope }
-    requires none { fitted form to ≡ None }
-    ensures { NamesDamage sw.now scope (fit_damage form to) result }
-{
-    match find_misfit(form, to) {
-        Some(misfit) => damaged(sw, scope, misfit.found, misfit.wanted),
-        None => unreachable!(),
     }
 }

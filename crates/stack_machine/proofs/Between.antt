@@ -1,5 +1,5 @@
 -- What is known of a run between two steps.
-use Rattle.std.proofs.Common.{◌≡◌, ◌⊎◌, inl, inr, ⊎_elim, ℕ, suc, ◌+◌, ◌*◌, ◌-◌, ◌<◌, List, [], ◌∷◌, ◌++◌, length, Some, None, refl, sym, ap, ◌∙◌, subst, append_assoc, arith}
+use Rattle.std.proofs.Common.{◌≡◌, ◌⊎◌, inl, inr, ⊎_elim, ℕ, suc, ◌+◌, ◌*◌, ◌-◌, ◌<◌, Bool, true, false, List, [], ◌∷◌, ◌++◌, length, Some, None, refl, sym, ap, ◌∙◌, subst, append_assoc, arith}
 use Rattle.std.specs.Prelude.{Result, Ok, Err}
 use Rattle.std.proofs.lemmas.List.{append-nil}
 use Rattle.ps_outside.specs.Outside.{Outside}
@@ -9,8 +9,7 @@ use Rattle.obj_layout.specs.Stored.{Space}
 use Rattle.obj_layout.specs.Storing.{Puts}
 use Rattle.swizzle.specs.Reading.{LeavesOutside}
 use Rattle.swizzle.specs.Text.{text_at}
-use Rattle.swizzle.specs.declared.fault.SwizzleFault.{SwizzleFault}
-use Rattle.swizzle.specs.declared.fault.SwizzleFault.TheVariants.{AreaFull, Vault}
+use Rattle.swizzle.specs.declared.fault.SwizzleFault.TheVariants.{AreaFull}
 use Rattle.vault_output.specs.Sending.{Sends}
 use Rattle.vault_output.proofs.SendingLaws.{flush-then}
 use Rattle.ps_meaning.specs.Event.{Event, Turn, outputs, output_of, report_of}
@@ -20,15 +19,16 @@ use Rattle.ps_stepping.specs.Machine.{Step, Goes, Stops, Stuck, Steps}
 use Rattle.ps_stepping.specs.Path.{Reaches, no_step, more}
 use Rattle.machine_state.specs.declared.machine.Machine.{Machine}
 use Rattle.machine_state.specs.declared.run_end.RunEnd.{RunEnd}
-use Rattle.machine_state.specs.declared.stepped.Writing.{Writing}
 use Rattle.machine_state.specs.declared.stepped.Stepped.TheVariants as stepped
 use Rattle.machine_state.specs.Holding.{Holds, IsSound, IsHolding}
 use Rattle.machine_state.specs.Stepped.{text_of, end_of, IsItem, TakesStep}
 use Rattle.stack_machine.specs.declared.run.RunFault.{RunFault}
 use Rattle.stack_machine.specs.declared.run.RunFault.TheVariants as fault
 use Rattle.stack_machine.specs.Ran.{TellsFirst, TellsAll, FailsBehind, Ran, ended, damaged, full, cut, report_cut}
-use Rattle.stack_machine.specs.inside.Advancing.{TellsBut, Advances, Reports, Flushes, BreaksOff}
-use Rattle.stack_machine.proofs.Telling.{all-then, fails-then, all-puts, fails-puts, all-none, fails-sends, but-leaves, but-sends, but-puts, but-then, but-all, but-fails, but-first, leaves-but, leaves-fails, still-empty}
+use Rattle.stack_machine.specs.inside.Advancing.{TellsBut, Advances, SendsOn, advanced_where, Reports, Flushes, BreaksOff, IsNoRoom}
+use Rattle.stack_machine.specs.declared.run.Advanced.TheVariants.{On, Ended, Failed}
+use Rattle.stack_machine.specs.declared.run.Advanced.TheVariants.{Damaged as Stopped, Full as Filled}
+use Rattle.stack_machine.proofs.Telling.{all-then, fails-then, all-puts, fails-puts, all-none, but-leaves, but-then, but-all, but-fails, but-first, leaves-but, leaves-fails, still-empty}
 use Rattle.paired_ops.specs.World.{IsEmpty}
 use Rattle.stack_machine.proofs.Dispatch.{code_of}
 use Rattle.stack_machine.proofs.Progress.{left, nearer}
@@ -60,7 +60,7 @@ left_is m c h =
     ∙ ap (λ (n : ℕ). m.turns * suc (length (text_at m.sw m.code)) + (length (text_at m.sw m.code) - n)) k.at_is
 
 -- a step that goes on brings the machine nearer to its end
-pub comes_nearer : (old new : Outside Space) (owed left : List ℕ) (m m' : Machine) → IsHolding m → Advances old new owed left m m' (Ok None) → left_of m' < left_of m
+pub comes_nearer : (old new : Outside Space) (owed left : List ℕ) (m m' : Machine) → IsHolding m → Advances old new owed left m m' On → left_of m' < left_of m
 comes_nearer old new owed left m m' c a =
     let by = a.by c.0 c.1 in
     let low = (nearer by.1 c.1.held.no_callers by.2.0 by.2.1 by.2.2).0 in
@@ -68,7 +68,7 @@ comes_nearer old new owed left m m' c a =
     let after = left_is m' by.2.1 by.2.3 in
     omega (arith, low, before, after)
 
-pub holds_on : (old new : Outside Space) (owed left : List ℕ) (m m' : Machine) → IsHolding m → Advances old new owed left m m' (Ok None) → IsHolding m'
+pub holds_on : (old new : Outside Space) (owed left : List ℕ) (m m' : Machine) → IsHolding m → Advances old new owed left m m' On → IsHolding m'
 holds_on old new owed left m m' c a = let by = a.by c.0 c.1 in (by.2.1, by.2.3)
 
 -- From each configuration that the first machine holds some steps lead to one that the present machine holds, and what they tell was told but for what
@@ -87,7 +87,7 @@ between_none old owed m sound = record {
 
 module _ (old now new : Outside Space) (owed left rest : List ℕ) (m m' next : Machine) (b : IsBetween old now owed left m m') where
   -- one step more
-  pub between_more : Advances now new left rest m' next (Ok None) → IsBetween old new owed rest m next
+  pub between_more : Advances now new left rest m' next On → IsBetween old new owed rest m next
   between_more a = record {
     sound = a.sound;
     size = a.size ∙ b.size;
@@ -104,7 +104,7 @@ module _ (old now new : Outside Space) (owed left rest : List ℕ) (m m' next : 
   }
 
   -- the output fails in a step
-  pub between_fails : Advances now new left rest m' next (Err fault.Output) → (c : Config) → Holds m c → Ran old new owed m.sw.size c (Err fault.Output)
+  pub between_fails : Advances now new left rest m' next Failed → (c : Config) → Holds m c → Ran old new owed m.sw.size c (Err fault.Output)
   between_fails a c h =
       let w = b.way c h in
       let by = a.by w.1 w.3 in
@@ -122,22 +122,22 @@ module _ (old now new : Outside Space) (owed left rest : List ℕ) (m m' next : 
 
   module _ (last : Outside Space) where
     -- the run stops, and the report is told, or the output fails in it
-    pub between_ends : (e : RunEnd) (r : Result RunEnd RunFault) → Advances now new left rest m' next (Ok (Some e)) → Reports new last rest e r → (c : Config) → Holds m c → Ran old last owed m.sw.size c r
-    between_ends e (Ok answer) a report c h =
+    pub between_ends : (r : Result RunEnd RunFault) → Advances now new left rest m' next Ended → Reports new last rest next.end r → (c : Config) → Holds m c → Ran old last owed m.sw.size c r
+    between_ends (Ok answer) a report c h =
         let w = b.way c h in
         let by = a.by w.1 w.3 in
         let told = still_owed (owed ++ outputs w.0) w.4 by.2.1 in
         subst (λ (x : RunEnd). Ran old last owed m.sw.size c (Ok x)) (sym report.0)
         (ended w.2 (subst (λ (s : Step). Steps w.1 s) by.2.0 by.1)
-        (subst (λ (bs : List ℕ). TellsAll old last bs) (append_assoc owed (outputs w.0) (report_of (end_of e))) (but-all old new last (owed ++ outputs w.0) rest (report_of (end_of e)) told report.1)))
-    between_ends e (Err fault.Damaged) a report c h = absurd report
-    between_ends e (Err (fault.Full top wanted size)) a report c h = absurd report
-    between_ends e (Err fault.Output) a report c h =
+        (subst (λ (bs : List ℕ). TellsAll old last bs) (append_assoc owed (outputs w.0) (report_of (end_of next.end))) (but-all old new last (owed ++ outputs w.0) rest (report_of (end_of next.end)) told report.1)))
+    between_ends (Err fault.Damaged) a report c h = absurd report
+    between_ends (Err (fault.Full top wanted size)) a report c h = absurd report
+    between_ends (Err fault.Output) a report c h =
         let w = b.way c h in
         let by = a.by w.1 w.3 in
         let told = still_owed (owed ++ outputs w.0) w.4 by.2.1 in
-        report_cut e w.2 (subst (λ (s : Step). Steps w.1 s) by.2.0 by.1)
-        (subst (λ (bs : List ℕ). FailsBehind old last bs) (append_assoc owed (outputs w.0) (report_of (end_of e))) (but-fails old new last (owed ++ outputs w.0) rest (report_of (end_of e)) told report))
+        report_cut next.end w.2 (subst (λ (s : Step). Steps w.1 s) by.2.0 by.1)
+        (subst (λ (bs : List ℕ). FailsBehind old last bs) (append_assoc owed (outputs w.0) (report_of (end_of next.end))) (but-fails old new last (owed ++ outputs w.0) rest (report_of (end_of next.end)) told report))
 
     -- all that was owed is told
     all_owed : (due : List ℕ) → TellsBut old new due rest → TellsAll new last rest → TellsAll old last due
@@ -147,21 +147,27 @@ module _ (old now new : Outside Space) (owed left rest : List ℕ) (m m' next : 
     fails_owed due told fails = subst (λ (xs : List ℕ). FailsBehind old last xs) (sym told.due_is) (fails-then old new last told.sent rest told.tells fails)
 
     -- there was no room in the area
-    pub between_full : (top wanted size : ℕ) (answer : RunFault) → Advances now new left rest m' next (Err (fault.Full top wanted size)) → Flushes new last rest (fault.Full top wanted size) answer
-        → (c : Config) → Holds m c → Ran old last owed m.sw.size c (Err answer)
-    between_full top wanted size answer a flush c h =
+    pub between_full : (broke answer : RunFault) → ((top wanted size : ℕ) → next.fault ≡ AreaFull top wanted size → broke ≡ fault.Full top wanted size) → Advances now new left rest m' next Filled
+        → Flushes new last rest broke answer → (c : Config) → Holds m c → Ran old last owed m.sw.size c (Err answer)
+    between_full broke answer names a flush c h =
         let w = b.way c h in
         let by = a.by w.1 w.3 in
-        let told = still_owed (owed ++ outputs w.0) w.4 by.2.5 in
-        let whole : size ≡ m.sw.size = by.2.2 ∙ b.size in
+        let behind = by.2.0 in
+        let top = by.2.1 in
+        let wanted = by.2.2 in
+        let told = still_owed (owed ++ outputs w.0) w.4 by.2.7 in
+        let is : broke ≡ fault.Full top wanted m.sw.size = names top wanted m'.sw.size by.2.3 ∙ ap (λ (n : ℕ). fault.Full top wanted n) b.size in
+        let low = by.2.5 in
+        let passed = by.2.6 in
         ⊎_elim
-        (λ all. subst (λ (f : RunFault). Ran old last owed m.sw.size c (Err f)) (sym all.0) (subst (λ (n : ℕ). Ran old last owed n c (Err (fault.Full top wanted size))) whole
-        (full w.2 (subst (λ (s : Step). Steps w.1 s) by.2.1 by.1) by.2.3 by.2.4 (all_owed (owed ++ outputs w.0) told all.1))))
+        (λ all. subst (λ (f : RunFault). Ran old last owed m.sw.size c (Err f)) (sym (all.0 ∙ is))
+        (full w.2 (subst (λ (s : Step). Steps w.1 s) by.2.4 by.1) (subst (λ (n : ℕ). n < top + wanted) b.size low) (subst (λ (n : ℕ). 8 * n < behind.store.counted) b.size passed)
+        (all_owed (owed ++ outputs w.0) told all.1)))
         (λ fails. subst (λ (f : RunFault). Ran old last owed m.sw.size c (Err f)) (sym fails.0) (cut w.2 (fails_owed (owed ++ outputs w.0) told fails.1)))
         flush
 
     -- there was no step
-    pub between_stuck : (answer : RunFault) → Advances now new left rest m' next (Err fault.Damaged) → BreaksOff new last rest answer → (c : Config) → Holds m c → Ran old last owed m.sw.size c (Err answer)
+    pub between_stuck : (answer : RunFault) → Advances now new left rest m' next Stopped → BreaksOff new last rest answer → (c : Config) → Holds m c → Ran old last owed m.sw.size c (Err answer)
     between_stuck answer a breaks c h =
         let w = b.way c h in
         let by = a.by w.1 w.3 in
@@ -174,7 +180,7 @@ module _ (old now new : Outside Space) (owed left rest : List ℕ) (m m' next : 
 
 -- What a step comes to.
 module _ (old new : Outside Space) (owed : List ℕ) (m m' : Machine) (quiet : LeavesOutside old new) where
-  pub advance_quiet : TakesStep m m' stepped.Quiet → Advances old new owed owed m m' (Ok None)
+  pub advance_quiet : TakesStep m m' stepped.Quiet → Advances old new owed owed m m' On
   advance_quiet t = record {
     sound = t.sound;
     size = t.size;
@@ -183,97 +189,78 @@ module _ (old new : Outside Space) (owed : List ℕ) (m m' : Machine) (quiet : L
         (d.0, d.1, (d.2.0, d.2.1, d.2.2, d.2.4, subst (λ (bs : List ℕ). TellsBut old new bs owed) (sym (append-nil owed) ∙ ap (λ (bs : List ℕ). owed ++ bs) (sym d.2.3)) (but-leaves old new owed quiet)));
   }
 
-  pub advance_halts : (e : RunEnd) → TakesStep m m' (stepped.Halts e) → Advances old new owed owed m m' (Ok (Some e))
-  advance_halts e t = record {
+  pub advance_halts : TakesStep m m' stepped.Halts → Advances old new owed owed m m' Ended
+  advance_halts t = record {
     sound = t.sound;
     size = tt;
     by = λ c h. let d = t.does c h in (d.0, d.1, (d.2, but-leaves old new owed quiet));
   }
 
-  pub advance_damaged : TakesStep m m' stepped.Damaged → Advances old new owed owed m m' (Err fault.Damaged)
+  pub advance_damaged : TakesStep m m' stepped.Damaged → Advances old new owed owed m m' Stopped
   advance_damaged t = record {
     sound = t.sound;
     size = tt;
     by = λ c h. let d = t.does c h in (d.0, d.1, (d.2, but-leaves old new owed quiet));
   }
 
-  pub advance_full : (top wanted size : ℕ) → TakesStep m m' (stepped.Breaks (AreaFull top wanted size)) → Advances old new owed owed m m' (Err (fault.Full top wanted size))
-  advance_full top wanted size t = record {
+  pub advance_full : TakesStep m m' stepped.Breaks → Advances old new owed owed m m' Filled
+  advance_full t = record {
     sound = t.sound;
     size = tt;
     by = λ c h.
         let d = t.does c h in
         let full = d.2.2 in
-        let told : AreaFull top wanted size ≡ AreaFull full.top full.wanted m'.sw.size = full.fault_is in
-        let top_is : top ≡ full.top = cc in
-        let wanted_is : wanted ≡ full.wanted = cc in
-        let size_is : size ≡ m'.sw.size = cc in
-        let short = full.full in
-        let passed = full.passed in
-        (d.0, d.1, (d.2.0, d.2.1, size_is ∙ t.size, omega (arith, top_is, wanted_is, size_is, short), omega (arith, size_is, passed), but-leaves old new owed quiet));
+        let behind = d.2.0 in (
+          d.0,
+          d.1,
+          (
+            behind,
+            full.top,
+            full.wanted,
+            full.fault_is ∙ ap (λ (n : ℕ). AreaFull full.top full.wanted n) t.size,
+            d.2.1,
+            subst (λ (n : ℕ). n < full.top + full.wanted) t.size full.full,
+            subst (λ (n : ℕ). 8 * n < behind.store.counted) t.size full.passed,
+            but-leaves old new owed quiet,
+          ),
+        );
   }
 
-  -- the store refuses nothing
-  pub never_refused : (f : VaultFault) → IsHolding m → TakesStep m m' (stepped.Breaks (Vault f)) → ⊥
-  never_refused f h t = let d = t.does h.0 h.1 in let told : Vault f ≡ AreaFull d.2.2.top d.2.2.wanted m'.sw.size = d.2.2.fault_is in absurd (cc)
-
   module _ (last : Outside Space) (left : List ℕ) where
-    pub advance_turned : {T : Type 0} (done : T) → TakesStep m m' stepped.Turns → Puts new last owed (Ok done) → left ≡ [] → Advances old last owed left m m' (Ok None)
-    advance_turned done t puts none = record {
+    pub advance_turned : (sent : Bool) → TakesStep m m' stepped.Turns → SendsOn new last owed left sent → Advances old last owed left m m' (advanced_where sent)
+    advance_turned true t told = record {
       sound = t.sound;
       size = t.size;
       by = λ c h.
           let d = t.does c h in
-          (d.0, d.1, (Turn d.2.0.store.counted ∷ [], d.2.0, d.2.1, d.2.2, subst (λ (bs : List ℕ). TellsBut old last bs left) (sym (append-nil owed)) (leaves-but old new last owed left quiet (but-puts new last owed left done puts none))));
+          (d.0, d.1, (Turn d.2.0.store.counted ∷ [], d.2.0, d.2.1, d.2.2, subst (λ (bs : List ℕ). TellsBut old last bs left) (sym (append-nil owed)) (leaves-but old new last owed left quiet told)));
     }
-
-    pub advance_turn_fails : {T : Type 0} (f : VaultFault) → f ≡ vault_fault.Output → TakesStep m m' stepped.Turns → Puts {T = T} new last owed (Err f) → Advances old last owed left m m' (Err fault.Output)
-    advance_turn_fails f output t puts = record {
+    advance_turned false t told = record {
       sound = t.sound;
       size = tt;
       by = λ c h.
           let d = t.does c h in
-          (d.0, d.1, (Turn d.2.0.store.counted ∷ [], d.2.0, d.2.1, subst (λ (bs : List ℕ). FailsBehind old last bs) (sym (append-nil owed)) (leaves-fails old new last owed quiet (fails-puts new last owed f output puts))));
+          (d.0, d.1, (Turn d.2.0.store.counted ∷ [], d.2.0, d.2.1, subst (λ (bs : List ℕ). FailsBehind old last bs) (sym (append-nil owed)) (leaves-fails old new last owed quiet told)));
     }
 
-    pub advance_wrote : {T : Type 0} (done : T) (w : Writing) → TakesStep m m' (stepped.Writes w) → Sends new last (owed ++ text_of m'.sw w) left (Ok done) → Advances old last owed left m m' (Ok None)
-    advance_wrote done w t sends = record {
+    pub advance_wrote : (sent : Bool) → TakesStep m m' stepped.Writes → SendsOn new last (owed ++ text_of m'.sw m'.writing) left sent → Advances old last owed left m m' (advanced_where sent)
+    advance_wrote true t told = record {
       sound = t.sound;
       size = t.size;
       by = λ c h.
           let d = t.does c h in
-          let bytes = text_of m'.sw w in (
-            d.0,
-            d.1,
-            (
-              some_out bytes d.2.0.store.counted,
-              d.2.0,
-              d.2.1,
-              d.2.3,
-              subst (λ (bs : List ℕ). TellsBut old last (owed ++ bs) left) (sym (out_told bytes d.2.0.store.counted))
-                  (leaves-but old new last (owed ++ bytes) left quiet (but-sends new last (owed ++ bytes) left done sends)),
-            ),
-          );
+          let bytes = text_of m'.sw m'.writing in
+          let out = some_out bytes d.2.0.store.counted in
+          (d.0, d.1, (out, d.2.0, d.2.1, d.2.3, subst (λ (bs : List ℕ). TellsBut old last (owed ++ bs) left) (sym (out_told bytes d.2.0.store.counted)) (leaves-but old new last (owed ++ bytes) left quiet told)));
     }
-
-    pub advance_fails : {T : Type 0} (f : VaultFault) (w : Writing) → f ≡ vault_fault.Output → TakesStep m m' (stepped.Writes w) → Sends {T = T} new last (owed ++ text_of m'.sw w) left (Err f)
-        → Advances old last owed left m m' (Err fault.Output)
-    advance_fails f w output t sends = record {
+    advance_wrote false t told = record {
       sound = t.sound;
       size = tt;
       by = λ c h.
           let d = t.does c h in
-          let bytes = text_of m'.sw w in (
-            d.0,
-            d.1,
-            (
-              some_out bytes d.2.0.store.counted,
-              d.2.0,
-              d.2.1,
-              subst (λ (bs : List ℕ). FailsBehind old last (owed ++ bs)) (sym (out_told bytes d.2.0.store.counted))
-                  (leaves-fails old new last (owed ++ bytes) quiet (fails-sends new last (owed ++ bytes) left f output sends)),
-            ),
-          );
+          let bytes = text_of m'.sw m'.writing in
+          let out = some_out bytes d.2.0.store.counted in
+          (d.0, d.1, (out, d.2.0, d.2.1, subst (λ (bs : List ℕ). FailsBehind old last (owed ++ bs)) (sym (out_told bytes d.2.0.store.counted)) (leaves-fails old new last (owed ++ bytes) quiet told)));
     }
 
 -- the report is told with all that is owed
@@ -286,9 +273,13 @@ pub reports_cut : {T : Type 0} (old now new : Outside Space) (owed left : List �
 reports_cut old now new owed left e f output sends puts = fails-puts old new (owed ++ report_of (end_of e)) f output (flush-then old now new (owed ++ report_of (end_of e)) left (Err f) sends puts)
 
 -- what a write writes is an item of the machine
-pub item_written : (m m' : Machine) (w : Writing) → IsHolding m → TakesStep m m' (stepped.Writes w) → IsItem m'.sw w.item
-item_written m m' w h t = (t.does h.0 h.1).2.2
+pub item_written : (m m' : Machine) → IsHolding m → TakesStep m m' stepped.Writes → IsItem m'.sw m'.writing.item
+item_written m m' h t = (t.does h.0 h.1).2.2
+
+-- where an object found no room, the fault says so
+pub no_room_told : (old new : Outside Space) (owed left : List ℕ) (m m' : Machine) → IsHolding m → Advances old new owed left m m' Filled → IsNoRoom m'.fault
+no_room_told old new owed left m m' h a = let by = a.by h.0 h.1 in (by.2.1, by.2.2, m.sw.size, by.2.3)
 
 -- no object has come in a step
-pub vault_empty : (old new : Outside Space) (owed left : List ℕ) (m m' : Machine) → IsHolding m → Advances old new owed left m m' (Ok None) → IsEmpty old → IsEmpty new
+pub vault_empty : (old new : Outside Space) (owed left : List ℕ) (m m' : Machine) → IsHolding m → Advances old new owed left m m' On → IsEmpty old → IsEmpty new
 vault_empty old new owed left m m' h a empty = let by = a.by h.0 h.1 in still-empty old new by.2.4.tells.first.contents empty

@@ -1,16 +1,15 @@
 -- What an instruction does, by which one it is; and the step of the machine, by what is spelled at its offset.
 use Rattle.std.proofs.Common.{◌≡◌, ℕ, ◌+◌, List, drop, refl, sym, ap, ◌∙◌, subst}
-use Rattle.std.specs.Prelude.{Ok, Err}
+use Rattle.std.specs.Prelude.{Some, None}
 use Rattle.ps_base.specs.CodeUnit.{UnitView, unit}
 use Rattle.ps_base.specs.Instr.{width_of}
 use Rattle.ps_base.specs.declared.instr.Instr.{Instr}
-use Rattle.obj_layout.specs.declared.kind.Kind.TheVariants as kind
 use Rattle.swizzle.specs.Heap as area
-use Rattle.swizzle.specs.Heap.{header_at}
+use Rattle.swizzle.specs.Heap.{IsHeap}
 use Rattle.swizzle.specs.Text.{text_at}
-use Rattle.swizzle.specs.declared.fault.SwizzleFault.{SwizzleFault}
 use Rattle.proc_values.specs.Loaded.{IsUnit}
-use Rattle.proc_values.specs.Reading.{GivesInstr, IsSpelled}
+use Rattle.proc_values.specs.Reading.{IsInstrIn, IsPlaceOf, IsSpelled}
+use Rattle.proc_values.proofs.ReadLaws.{place-of_unit}
 use Rattle.ps_stepping.specs.Config.{Config, IsAt, code_in}
 use Rattle.ps_stepping.specs.Machine.{Stuck, acts, act, behind, at_instruction, at_nothing}
 use Rattle.machine_state.specs.declared.machine.Machine.{Machine}
@@ -27,12 +26,16 @@ pub acts_not : {i j : Instr} {own : ℕ} {m : Machine} → i ≡ j → IsSound m
 acts_not {i} {j} {own} {m} is sound not = acts_as {i = i} {j = j} {own = own} {old = m} {new = m} {answer = Damaged} is (record { sound = sound; size = tt; does = λ c h. not c })
 
 -- the bytes of a unit's code
-unit_code : (here : area.Heap) (at : ℕ) (u : UnitView) → IsUnit here at u → ((header_at here at).kind ≡ kind.Code) × (text_at here at ≡ code_in u)
+unit_code : (here : area.Heap) (at : ℕ) (u : UnitView) → IsUnit here at u → text_at here at ≡ code_in u
 unfolding IsUnit
-unit_code here at (unit code constants frame) is = (is.0.kind, is.0.code_is)
+unit_code here at (unit code cs frame) is = is.0.code_is
 
 pub code_of : (m : Machine) (c : Config) → Holds m c → text_at m.sw m.code ≡ code_in c.unit
-code_of m c h = (unit_code m.sw m.code c.unit h.held.unit_is).1
+code_of m c h = unit_code m.sw m.code c.unit h.held.unit_is
+
+-- where they lie
+pub placed : (m : Machine) → IsHeap m.sw → IsHolding m → IsPlaceOf m.sw m.code m.place
+placed m heap h = place-of_unit m.sw m.code h.0.unit m.place heap h.1.held.unit_is h.1.held.place_is
 
 -- the machine behind the instruction
 holds_behind : (m : Machine) (c : Config) (i : Instr) (next : ℕ) → Holds m c → next ≡ m.at + width_of i → Holds (record m { at = next }) (behind i c)
@@ -40,6 +43,7 @@ holds_behind m c i next h is = let k = h.held in record {
   names = h.names;
   held = record {
     unit_is = k.unit_is;
+    place_is = k.place_is;
     frame_is = k.frame_is;
     at_is = ap (λ (n : ℕ). n + width_of i) k.at_is ∙ sym is;
     nums_are = k.nums_are;
@@ -71,26 +75,26 @@ at_machine m c i h at = record {
   next_is = refl;
 }
 
-pub step_holds : (m : Machine) (next : ℕ) (i : Instr) → IsHolding m → GivesInstr m.sw m.code m.at (Ok (i, next)) → IsHolding (record m { at = next })
-step_holds m next i h is = (behind i h.0, holds_behind m h.0 i next h.1 is.1.next_is)
+pub step_holds : (m : Machine) (next : ℕ) (i : Instr) → IsHolding m → IsInstrIn (text_at m.sw m.code) m.at (Some (i, next)) → IsHolding (record m { at = next })
+step_holds m next i h is = (behind i h.0, holds_behind m h.0 i next h.1 is.next_is)
 
 -- where there is no instruction, the run is stuck
-pub step_nothing : (m : Machine) {fault : SwizzleFault} → IsSound m → GivesInstr m.sw m.code m.at (Err fault) → TakesStep m m Damaged
+pub step_nothing : (m : Machine) → IsSound m → IsInstrIn (text_at m.sw m.code) m.at None → TakesStep m m Damaged
 step_nothing m sound is = record {
   sound = sound;
   size = tt;
-  does = λ c h. (Stuck, at_nothing (λ i at. is.1 (unit_code m.sw m.code c.unit h.held.unit_is).0 i (m.at + width_of i) (at_machine m c i h at)), refl);
+  does = λ c h. (Stuck, at_nothing (λ i at. is i (m.at + width_of i) (at_machine m c i h at)), refl);
 }
 
 -- the step is what the instruction does from behind itself
-pub step_acts : (m new : Machine) (i : Instr) (next : ℕ) (answer : Stepped) → GivesInstr m.sw m.code m.at (Ok (i, next))
+pub step_acts : (m new : Machine) (i : Instr) (next : ℕ) (answer : Stepped) → IsInstrIn (text_at m.sw m.code) m.at (Some (i, next))
     → ActsAs i m.at (record m { at = next }) new answer → TakesStep m new answer
 step_acts m new i next answer is acting = record {
   sound = acting.takes.sound;
   size = acting.takes.size;
   does = λ c h. (
     act i c,
-    at_instruction (at_offset m c i next h is.1),
-    subst (λ (n : ℕ). Does (acts i n (behind i c)) answer new) (sym h.held.at_is) (acting.takes.does (behind i c) (holds_behind m c i next h is.1.next_is)),
+    at_instruction (at_offset m c i next h is),
+    subst (λ (n : ℕ). Does (acts i n (behind i c)) answer new) (sym h.held.at_is) (acting.takes.does (behind i c) (holds_behind m c i next h is.next_is)),
   );
 }

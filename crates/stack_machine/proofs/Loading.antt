@@ -6,14 +6,15 @@ use Rattle.ps_base.specs.CodeUnit.{UnitView, unit}
 use Rattle.ps_base.specs.declared.code_unit.Frame.{Frame}
 use Rattle.obj_layout.specs.declared.reference.Reference.{Reference}
 use Rattle.swizzle.specs.Heap as area
-use Rattle.swizzle.specs.Heap.{top_of, fresh_heap}
-use Rattle.heap_ops.specs.Layouts.{AreSo}
+use Rattle.obj_layout.specs.declared.kind.Kind.TheVariants.{Code}
+use Rattle.swizzle.specs.Heap.{IsHeld, header_at, top_of, fresh_heap}
+use Rattle.known_classes.specs.Classes.{IsRight}
 use Rattle.known_vectors.specs.Known.{AreSo as AreKnown}
 use Rattle.ps_meaning.specs.Values.{Value, Nil}
 use Rattle.ps_meaning.specs.Runs.{fresh_store}
-use Rattle.ps_stepping.specs.Config.{frame_words, frame_in, start}
+use Rattle.ps_stepping.specs.Config.{constants_in, frame_words, frame_in, start}
 use Rattle.paired_ops.specs.World.{IsWorld, DenotesIn}
-use Rattle.proc_values.specs.Loaded.{IsUnit}
+use Rattle.proc_values.specs.Loaded.{IsUnit, IsUnitPlace}
 use Rattle.paired_ops.specs.Code as code
 use Rattle.paired_ops.specs.Code.{unit_weight}
 use Rattle.swizzle.specs.declared.fault.SwizzleFault.{SwizzleFault}
@@ -50,10 +51,10 @@ module _ (u : UnitView) (turns : ℕ) (old new : Machine) (mid : area.Heap) (fra
   own_frame = subst IsFrame frame_is (record { nums_fit = nums; refs_fit = refs })
 
   -- the machine begins
-  pub begins : (at : ℕ) → mid ≡ fresh_heap old.sw.size → code.IsLoaded mid new.sw u at → AreSo new.sw new.layouts.entries.items → AreKnown new.sw [] [] new.vectors.entries.items → IsRoomy new
-      → new.code ≡ at → new.at ≡ 0 → new.nums.items ≡ replicate new.frame.nums (pos 0) → new.refs.items ≡ replicate new.frame.refs 0 → new.turns ≡ turns
+  pub begins : (at : ℕ) → mid ≡ fresh_heap old.sw.size → code.IsLoaded mid new.sw u at → IsRight new.sw (constants_in u) new.classes → AreKnown new.sw [] [] new.vectors.entries.items → IsRoomy new
+      → new.code ≡ at → IsUnitPlace at u new.place → new.at ≡ 0 → new.nums.items ≡ replicate new.frame.nums (pos 0) → new.refs.items ≡ replicate new.frame.refs 0 → new.turns ≡ turns
       → IsLoaded u turns old new
-  begins at fresh is so known roomy code_is at_is nums_are refs_are turns_are = record {
+  begins at fresh is so known roomy code_is placed at_is nums_are refs_are turns_are = record {
     frame = own_frame;
     sound = record {
       nums_fit = let n = ap length nums_are in let k = length-replicate new.frame.nums (pos 0) in omega (arith, new.nums.ok.0, n, k);
@@ -70,6 +71,7 @@ module _ (u : UnitView) (turns : ℕ) (old new : Machine) (mid : area.Heap) (fra
       names = [];
       held = record {
         unit_is = subst (λ (n : ℕ). IsUnit new.sw n u) (sym code_is) is.is;
+        place_is = subst (λ (n : ℕ). IsUnitPlace n u new.place) (sym code_is) placed;
         frame_is = sym frame_is;
         at_is = sym at_is;
         nums_are = subst (λ (xs : List ℤ). IsRow xs new.frame.nums [] (λ slot. pos 0)) (sym nums_are) (row_of new.frame.nums);
@@ -83,6 +85,11 @@ module _ (u : UnitView) (turns : ℕ) (old new : Machine) (mid : area.Heap) (fra
       };
     };
   }
+
+-- what was loaded is a code object
+pub loaded-held : (here : area.Heap) (at : ℕ) (u : UnitView) → IsUnit here at u → IsHeld here at × ((header_at here at).kind ≡ Code)
+unfolding IsUnit
+loaded-held here at (unit bytes cs frame) is = (is.0.held, is.0.kind)
 
 -- there was no room
 pub no-room : (u : UnitView) (old new : Machine) (mid : area.Heap) (top wanted size : ℕ) → IsFrame (frame_in u) → IsRoomy new → mid ≡ fresh_heap old.sw.size

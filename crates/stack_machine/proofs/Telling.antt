@@ -163,6 +163,10 @@ fails-puts {T = T} a b xs fault output is = record {
 pub but-leaves : (a b : Outside Space) (owed : List ℕ) → LeavesOutside a b → TellsBut a b owed owed
 but-leaves a b owed is = record { sent = []; due_is = refl; tells = all-leaves a b is }
 
+-- nothing was told
+pub but-none : (outside : Outside Space) (owed : List ℕ) → TellsBut outside outside owed owed
+but-none outside owed = record { sent = []; due_is = refl; tells = all-none outside }
+
 pub but-sends : {T : Type 0} (a b : Outside Space) (due left : List ℕ) (done : T) → Sends a b due left (Ok done) → TellsBut a b due left
 but-sends a b due left done is = record {
   sent = is.sent;

@@ -1,5 +1,5 @@
 -- A machine that was loaded with a unit, or why none was.
-use Rattle.std.specs.Prelude.{◌≡◌, ℕ, ◌+◌, ◌*◌, ◌<◌, ◌≤◌, Result, Ok, Err, vec_capacity}
+use Rattle.std.specs.Prelude.{◌≡◌, ℕ, ◌+◌, ◌*◌, ◌<◌, ◌≤◌, [], Result, Ok, Err, vec_capacity}
 use Rattle.ps_base.specs.CodeUnit.{UnitView}
 use Rattle.ps_base.specs.declared.code_unit.Frame.{Frame}
 use Rattle.ps_meaning.specs.Runs.{fresh_store}
@@ -36,7 +36,7 @@ pub record IsLoaded (u : UnitView) (turns : ℕ) (old new : Machine) : Type 0 wh
   pub sound : IsSound new
   pub roomy : IsRoomy new
   pub size : new.sw.size ≡ old.sw.size
-  pub starts : (counted : ℕ) → loaded_weight u ≤ counted → Holds new (start u (fresh_store turns counted))
+  pub starts : (counted : ℕ) → loaded_weight u ≤ counted → Holds new (start u (fresh_store turns [] counted))
 
 -- The area has no room for the unit.
 pub record HasNoRoom (u : UnitView) (old new : Machine) (top wanted size : ℕ) : Type 0 where

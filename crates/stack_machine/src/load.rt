@@ -3,10 +3,11 @@ ghost use Rattle.ps_base.specs.CodeUnit.{unit_view};
 ghost use Rattle.ps_stepping.specs.Config.{frame_words};
 ghost use Rattle.stack_machine.specs.Loaded.{IsRoomy, IsNew, Loads};
 
-use heap_ops::layouts::Layouts;
+use known_classes::classes::KnownClasses;
 use known_vectors::known::KnownVectors;
-use machine_state::{FRAME_WORDS, MOST_VALUES, Machine, STACK_WORDS};
+use machine_state::{FRAME_WORDS, Item, MOST_VALUES, Machine, RunEnd, STACK_WORDS, Writing};
 use paired_ops::code;
+use proc_values::reading::{CodePlace, code_place};
 use ps_base::code_unit::{CodeUnit, Frame};
 use std::alloc::{AllocError, Global};
 use swizzle::fault::SwizzleFault;
@@ -30,6 +31,22 @@ const NO_LOCALS: Frame = Frame {
     ref_params: 0,
 };
 
+// The place of no code.
+const NO_PLACE: CodePlace = CodePlace { first: 0, count: 0 };
+
+// What no write writes.
+const NO_WRITING: Writing = Writing {
+    width: None,
+    item: Item::Int(0),
+};
+
+// The fault of no run.
+const NO_FAULT: SwizzleFault = SwizzleFault::AreaFull {
+    top: 0,
+    wanted: 0,
+    size: 0,
+};
+
 /// A machine without a unit, over an area of so many words. It takes all the memory that its runs will use: the area, two stacks of 2,001 times
 /// 512 words, and room for the values of one object; of all these no page is touched before it is used.
 pub fn machine(alloc: Global, words: u32) -> Result<Machine, AllocError>
@@ -38,19 +55,23 @@ pub fn machine(alloc: Global, words: u32) -> Result<Machine, AllocError>
     ensures { IfOk result (IsNew (words + 1)) }
 {
     let sw = Swizzle::new(alloc, words)?;
-    let layouts = Layouts::new(alloc)?;
+    let classes = KnownClasses::new(alloc)?;
     let vectors = KnownVectors::new(alloc)?;
     Ok(Machine {
         sw,
-        layouts,
+        classes,
         vectors,
         values: Vec::with_capacity(alloc, MOST_VALUES)?,
         code: 0,
+        place: NO_PLACE,
         frame: NO_LOCALS,
         at: 0,
         nums: Vec::with_capacity(alloc, STACK_WORDS)?,
         refs: Vec::with_capacity(alloc, STACK_WORDS)?,
         turns: 0,
+        writing: NO_WRITING,
+        end: RunEnd::Done,
+        fault: NO_FAULT,
     })
 }
 
@@ -68,11 +89,13 @@ pub fn load(m: &mut Machine, unit: &CodeUnit, turns: u64) -> Result<(), LoadFaul
         return Err(LoadFault::Damaged);
     }
     m.sw.reset();
-    m.layouts.clear();
+    m.classes.clear();
     m.vectors.clear();
     match code::load(&mut m.sw, unit) {
         Ok(code) => {
-            begin(m, code, frame, turns);
+            m.sw.sound();
+            let place = code_place(&m.sw, code);
+            begin(m, code, place, frame, turns);
             Ok(())
         }
         Err(SwizzleFault::AreaFull { top, wanted, size }) => {
@@ -83,15 +106,16 @@ pub fn load(m: &mut Machine, unit: &CodeUnit, turns: u64) -> Result<(), LoadFaul
 }
 
 // Stands at the start of a code object with this frame: the locals are 0 and nil, and nothing is pushed.
-fn begin(m: &mut Machine, code: u32, frame: Frame, turns: u64)
+fn begin(m: &mut Machine, code: u32, place: CodePlace, frame: Frame, turns: u64)
     requires roomy { IsRoomy m.old }
     requires nums { frame.nums ≤ frame_words }
     requires refs { frame.refs ≤ frame_words }
     ensures roomy { IsRoomy m.new }
     ensures sw { m.new.sw ≡ m.old.sw }
-    ensures layouts { m.new.layouts ≡ m.old.layouts }
+    ensures classes { m.new.classes ≡ m.old.classes }
     ensures vectors { m.new.vectors ≡ m.old.vectors }
     ensures code { m.new.code ≡ code }
+    ensures place { m.new.place ≡ place }
     ensures frame { m.new.frame ≡ frame }
     ensures at { m.new.at ≡ 0 }
     ensures nums { m.new.nums.items ≡ replicate frame.nums (pos 0) }
@@ -99,6 +123,7 @@ fn begin(m: &mut Machine, code: u32, frame: Frame, turns: u64)
     ensures turns { m.new.turns ≡ turns }
 {
     m.code = code;
+    m.place = place;
     m.frame = frame;
     m.at = 0;
     m.turns = turns;

@@ -1,9 +1,12 @@
-ghost use Rattle.std.specs.Prelude.{◌≡◌, []};
+ghost use Rattle.std.specs.Prelude.{◌≡◌, [], ◌++◌, ℕ};
+ghost use Rattle.swizzle.specs.declared.fault.SwizzleFault.TheVariants.{AreaFull};
 ghost use Rattle.ps_stepping.specs.Config.{Config};
 ghost use Rattle.paired_ops.specs.World.{IsEmpty};
 ghost use Rattle.machine_state.specs.Holding.{Holds, IsHolding, IsSound};
+ghost use Rattle.machine_state.specs.Stepped.{text_of, IsItem};
 ghost use Rattle.stack_machine.specs.Ran.{Ran};
-ghost use Rattle.stack_machine.specs.inside.Advancing.{Advances, Reports, Flushes, BreaksOff, StaysAlive};
+ghost use Rattle.stack_machine.specs.inside.Advancing.{Advances, SendsOn, advanced_where, Reports, Flushes, BreaksOff, StaysAlive, IsNoRoom};
+ghost use Rattle.stack_machine.specs.declared.run.RunFault.TheVariants.{Full};
 
 use crate::steps::step;
 use crate::tell;
@@ -24,13 +27,24 @@ pub enum RunFault {
     Output,
 }
 
+// How far a step came.
+#[derive(Clone, Copy)]
+enum Advanced {
+    // The run goes on.
+    On,
+    // The run is at the machine's end.
+    Ended,
+    // There was no step.
+    Damaged,
+    // The area has no room for an object, as the machine's fault says.
+    Full,
+    // The output failed.
+    Failed,
+}
+
 // One step, and what it writes. What is owed goes out at a turn.
 #[inline(always)]
-fn advance<V: Vault>(
-    m: &mut Machine,
-    vault: &mut V,
-    output: &mut Output,
-) -> Result<Option<RunEnd>, RunFault>
+fn advance<V: Vault>(m: &mut Machine, vault: &mut V, output: &mut Output) -> Advanced
     requires sound { IsSound m.old }
     requires holding { IsHolding m.old }
     requires alive { V.alive vault.old }
@@ -39,21 +53,73 @@ fn advance<V: Vault>(
     ensures alive { StaysAlive result (V.alive vault.new) }
 {
     match step(m, vault) {
-        Stepped::Quiet => Ok(None),
-        Stepped::Turns => match output.flush(vault) {
-            Ok(()) => Ok(None),
-            Err(_) => Err(RunFault::Output),
-        },
-        Stepped::Writes(writing) => match tell::writing(output, vault, &m.sw, writing) {
-            Ok(()) => Ok(None),
-            Err(_) => Err(RunFault::Output),
-        },
-        Stepped::Halts(end) => Ok(Some(end)),
-        Stepped::Breaks(SwizzleFault::AreaFull { top, wanted, size }) => {
-            Err(RunFault::Full { top, wanted, size })
-        }
-        Stepped::Breaks(SwizzleFault::Vault(_)) => unreachable!(),
-        Stepped::Damaged => Err(RunFault::Damaged),
+        Stepped::Quiet => Advanced::On,
+        Stepped::Turns => on_where(turned(vault, output)),
+        Stepped::Writes => on_where(wrote(m, vault, output)),
+        Stepped::Halts => Advanced::Ended,
+        Stepped::Breaks => Advanced::Full,
+        Stepped::Damaged => Advanced::Damaged,
+    }
+}
+
+// The run goes on where the output didn't fail.
+#[inline(always)]
+fn on_where(sent: bool) -> Advanced
+    ensures { result ≡ advanced_where sent }
+{
+    if sent { Advanced::On } else { Advanced::Failed }
+}
+
+// What is owed goes out at a turn; mostly nothing is. False where the output failed.
+#[inline(always)]
+fn turned<V: Vault>(vault: &mut V, output: &mut Output) -> bool
+    requires { V.alive vault.old }
+    ensures sends { SendsOn (V.outside vault.old) (V.outside vault.new) output.old output.new result }
+    ensures emptied { output.new ≡ [] }
+    ensures alive { StaysAlive (advanced_where result) (V.alive vault.new) }
+{
+    if output.owed().is_empty() {
+        return true;
+    }
+    let_go(vault, output)
+}
+
+// What is owed goes out. False where the output failed.
+#[inline(never)]
+fn let_go<V: Vault>(vault: &mut V, output: &mut Output) -> bool
+    requires { V.alive vault.old }
+    ensures sends { SendsOn (V.outside vault.old) (V.outside vault.new) output.old output.new result }
+    ensures emptied { output.new ≡ [] }
+    ensures alive { StaysAlive (advanced_where result) (V.alive vault.new) }
+{
+    match output.flush(vault) {
+        Ok(()) => true,
+        Err(_) => false,
+    }
+}
+
+// Writes the machine's write. False where the output failed.
+#[inline(never)]
+fn wrote<V: Vault>(m: &Machine, vault: &mut V, output: &mut Output) -> bool
+    requires alive { V.alive vault.old }
+    requires item { IsItem m.now.sw m.now.writing.item }
+    ensures sends { SendsOn (V.outside vault.old) (V.outside vault.new) (output.old ++ text_of m.now.sw m.now.writing) output.new result }
+    ensures alive { StaysAlive (advanced_where result) (V.alive vault.new) }
+{
+    match tell::writing(output, vault, &m.sw, m.writing) {
+        Ok(()) => true,
+        Err(_) => false,
+    }
+}
+
+// Why a run broke off where the area has no room.
+fn full(fault: SwizzleFault) -> RunFault
+    requires { IsNoRoom fault }
+    ensures { (top wanted size : ℕ) → fault ≡ AreaFull top wanted size → result ≡ Full top wanted size }
+{
+    match fault {
+        SwizzleFault::AreaFull { top, wanted, size } => RunFault::Full { top, wanted, size },
+        SwizzleFault::Vault(_) => unreachable!(),
     }
 }
 
@@ -114,16 +180,14 @@ pub fn run<V: Vault>(
 {
     loop {
         match advance(m, vault, output) {
-            Ok(None) => {}
-            Ok(Some(end)) => return finish(vault, output, end),
-            Err(RunFault::Output) => {
+            Advanced::On => {}
+            Advanced::Ended => return finish(vault, output, m.end),
+            Advanced::Damaged => return Err(break_off(vault, output)),
+            Advanced::Full => return Err(flushed(vault, output, full(m.fault))),
+            Advanced::Failed => {
                 output.clear();
                 return Err(RunFault::Output);
             }
-            Err(RunFault::Full { top, wanted, size }) => {
-                return Err(flushed(vault, output, RunFault::Full { top, wanted, size }));
-            }
-            Err(RunFault::Damaged) => return Err(break_off(vault, output)),
         }
     }
 }

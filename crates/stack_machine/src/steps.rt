@@ -25,7 +25,7 @@ use machine_state::values::{
 use machine_state::writes::{abort, returned, write_flag, write_int};
 use machine_state::{Machine, Stepped};
 use obj_layout::vault::Vault;
-use proc_values::reading::instr_at;
+use proc_values::reading::instr_within;
 use ps_base::instr::Instr;
 use ps_base::operator::{Operator, Relation};
 
@@ -42,12 +42,13 @@ pub fn step<V: Vault>(m: &mut Machine, vault: &mut V) -> Stepped
     ensures alive { UnlessDamaged result (V.alive vault.new) }
 {
     let own = m.at;
-    match instr_at(&m.sw, m.code, own) {
-        Ok((instr, behind)) => {
+    m.sw.sound();
+    match instr_within(&m.sw, m.code, m.place, own) {
+        Some((instr, behind)) => {
             m.at = behind;
             act(m, vault, own, instr)
         }
-        Err(_) => Stepped::Damaged,
+        None => Stepped::Damaged,
     }
 }
 

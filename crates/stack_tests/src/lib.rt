@@ -4,9 +4,13 @@
 #[cfg(test)]
 mod calls;
 #[cfg(test)]
+mod classes;
+#[cfg(test)]
 mod full;
 #[cfg(test)]
 mod hostile;
+#[cfg(test)]
+mod known;
 #[cfg(test)]
 mod loops;
 #[cfg(test)]

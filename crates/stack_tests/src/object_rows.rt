@@ -64,14 +64,29 @@ pub type Row<'a> = (&'a [I], Came, &'a [u8]);
 
 /// A unit of these instructions and the constants, with three number locals and one reference local.
 pub fn object_unit(alloc: Global, instrs: &[I]) -> Result<CodeUnit, AllocError> {
+    unit_of_texts(alloc, instrs, &TEXTS)
+}
+
+// The same with other constants.
+fn unit_of_texts(alloc: Global, instrs: &[I], texts: &[&[u8]]) -> Result<CodeUnit, AllocError> {
     let code = spelled(alloc, instrs)?;
-    unit_with(alloc, &code, frame(3, 1), &TEXTS)
+    unit_with(alloc, &code, frame(3, 1), texts)
 }
 
 /// Each code comes to what its row says.
 pub fn assert_object_rows(rt: &impl Abort, alloc: Global, rows: &[Row<'_>]) -> Result<(), Fail> {
+    assert_rows_of(rt, alloc, &TEXTS, rows)
+}
+
+/// Each code comes to what its row says, where these are the constants.
+pub fn assert_rows_of(
+    rt: &impl Abort,
+    alloc: Global,
+    texts: &[&[u8]],
+    rows: &[Row<'_>],
+) -> Result<(), Fail> {
     for (instrs, wanted, told) in rows {
-        let unit = object_unit(alloc, instrs)?;
+        let unit = unit_of_texts(alloc, instrs, texts)?;
         let (came, host) = outcome_in(alloc, WORDS, &unit, 9, host(alloc, &[])?)?;
         assert_eq!(rt; came, *wanted);
         assert_eq!(rt; host.told_bytes(), *told);

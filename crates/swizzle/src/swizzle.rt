@@ -1,8 +1,8 @@
-ghost use Rattle.std.specs.Prelude.{◌≡◌, nat_eq, ◌+◌, ◌^◌, ◌<◌, ◌≤◌, true, false, ℕ, Option, IfOk, IfErr, IfSome, OnOk, MatchResult, ◌++◌, Some, length, take, drop, vec_capacity};
+ghost use Rattle.std.specs.Prelude.{◌≡◌, ◌≢◌, nat_eq, ◌+◌, ◌%◌, ◌^◌, ◌<◌, ◌≤◌, true, false, ℕ, Option, IfOk, IfErr, IfSome, OnOk, MatchResult, ◌++◌, Some, length, take, drop, vec_capacity};
 ghost use Rattle.obj_layout.specs.Header.{HasFitLengths};
 ghost use Rattle.obj_layout.specs.Kind.{kind_number};
 ghost use Rattle.obj_layout.specs.Reference.{IsReference};
-ghost use Rattle.swizzle.specs.Objects.{HasRoomForBytes};
+ghost use Rattle.swizzle.specs.Objects.{HasRoomForBytes, words_before as before};
 ghost use Rattle.swizzle.specs.Heap.{IsHeap, IsHeld, IsMade, IsFull, Stands, local_of, fresh_heap, top_of, header_at, ref_at, num_at, with_num, with_ref, with_mark, with_no_marks, blank, reference_to};
 ghost use Rattle.obj_layout.specs.Stored.{Holds};
 ghost use Rattle.swizzle.specs.Joint.{Joint, name_of};
@@ -236,6 +236,17 @@ impl Swizzle {
         self.area.word(self.first_num(object) + index)
     }
 
+    /// The number word at `index` of an object that is known to have so many references, so that these aren't counted anew.
+    #[inline(always)]
+    pub fn num_behind(&self, object: u32, refs: u32, index: u32) -> u64
+        requires held { IsHeld self.now object }
+        requires refs { refs ≡ (header_at self.now object).refs }
+        requires below { index < (header_at self.now object).nums }
+        ensures { result ≡ num_at self.now object index }
+    {
+        self.area.word(object + 4 + refs + index)
+    }
+
     /// Writes the number word at `index`.
     #[inline]
     pub fn set_num(&mut self, object: u32, index: u32, value: u64)
@@ -246,6 +257,18 @@ impl Swizzle {
     {
         let place = self.first_num(object) + index;
         self.area.set_word(place, value);
+    }
+
+    /// Writes the number word at `index` of an object that is known to have so many references.
+    #[inline(always)]
+    pub fn set_num_behind(&mut self, object: u32, refs: u32, index: u32, value: u64)
+        requires held { IsHeld self.old object }
+        requires refs { refs ≡ (header_at self.old object).refs }
+        requires below { index < (header_at self.old object).nums }
+        ensures written { self.new ≡ with_num self.old object index value }
+        ensures stands { Stands self.old self.new }
+    {
+        self.area.set_word(object + 4 + refs + index, value);
     }
 
     /// The reference in a slot, as it stands. Nothing is fetched.
@@ -296,8 +319,22 @@ impl Swizzle {
         ensures small { length result.now < 2 ^ 32 }
     {
         let _top = self.area.top();
-        let place = self.first_num(object) + words_before(self.kind(object));
-        self.area.bytes(place, self.byte_count(object))
+        let first = self.first_num(object) + words_before(self.kind(object));
+        self.text_within(object, first, self.byte_count(object))
+    }
+
+    /// The same bytes, where it is known at which word they begin and how many they are, so that the object isn't looked at.
+    #[inline(always)]
+    pub fn text_within(&self, object: u32, first: u32, count: u32) -> &[u8]
+        requires held { IsHeld self.now object }
+        requires kind { HasBytes (header_at self.now object).kind }
+        requires first { first ≡ object + 4 + (header_at self.now object).refs + before (header_at self.now object).kind }
+        requires count { count ≡ (header_at self.now object).bytes }
+        ensures value { result.now ≡ text_at self.now object }
+        ensures len { length result.now ≡ count }
+    {
+        let _ = object;
+        self.area.bytes(first, count)
     }
 
     /// Writes `from` over the bytes of a text or of code, behind the first `start` ones. All else of it stays.
@@ -423,7 +460,8 @@ impl Swizzle {
         }
     }
 
-    /// Notes the object as assigned, once.
+    /// Notes the object as assigned, once. Where it is already, this reads a word.
+    #[inline(always)]
     pub fn mark(&mut self, object: u32)
         requires { IsHeld self.old object }
         ensures written { self.new ≡ with_mark self.old object }
@@ -433,6 +471,18 @@ impl Swizzle {
         if first / ASSIGNED % 2 == 1 {
             return;
         }
+        self.note(object);
+    }
+
+    // Notes an object as assigned that isn't yet.
+    #[inline(never)]
+    fn note(&mut self, object: u32)
+        requires held { IsHeld self.old object }
+        requires plain { (header_at self.old object).flags % 2 ≢ 1 }
+        ensures written { self.new ≡ with_mark self.old object }
+        ensures stands { Stands self.old self.new }
+    {
+        let first = self.area.word(object);
         self.area.set_word(object, first + ASSIGNED);
         match self.assigned.push(object) {
             Ok(()) => {}

@@ -10,6 +10,10 @@ use Rattle.ps_stepping.specs.Steps.{Step, Stuck, with_text}
 use Rattle.ps_stepping.specs.Objects.{when_number, when_reference}
 use Rattle.paired_ops.specs.World.{DenotesIn}
 use Rattle.machine_state.specs.declared.machine.Machine.{Machine}
+use Rattle.known_classes.specs.declared.known.KnownField.{KnownField}
+use Rattle.known_classes.specs.declared.makes.KnownMake.{KnownMake}
+use Rattle.known_classes.specs.Known.{IsKnown}
+use Rattle.known_classes.specs.Made.{IsKnown as IsKnownMake}
 use Rattle.machine_state.specs.Holding.{HeldBy, IsSound}
 
 -- The machine still stands for the configuration, in an area of the same size, and what denoted a value denotes it still.
@@ -41,3 +45,23 @@ GivesField k n names c (Some p) old new =
 pub record FindsField (k n : ℕ) (old new : Machine) (answer : Option (ℕ × Located)) : Type 0 where
   pub sound : IsSound new
   pub gives : (names : List Reference) (c : Config) → HeldBy names old c → GivesField k n names c answer old new
+
+-- This is known of the field, and the machine stands for the configuration still; or there is no such text, or it names no such field.
+abbrev pub GivesKnown : ℕ → ℕ → List Reference → Config → Option KnownField → Machine → Machine → Type 0
+GivesKnown k n names c None old new = GivesField k n names c None old new
+GivesKnown k n names c (Some known) old new = StillHolds names c old new × IsKnown new.sw (constants_in c.unit) k n known
+
+pub record KnowsField (k n : ℕ) (old new : Machine) (answer : Option KnownField) : Type 0 where
+  pub sound : IsSound new
+  pub gives : (names : List Reference) (c : Config) → HeldBy names old c → GivesKnown k n names c answer old new
+
+-- What was known of a field is known of it by this text too, and but for what is known of classes the machine stays.
+pub record MeetsField (known : KnownField) (old new : Machine) (answer : KnownField) : Type 0 where
+  pub sound : IsSound new
+  pub area : new.sw ≡ old.sw
+  pub gives : (names : List Reference) (c : Config) (k n : ℕ) → HeldBy names old c → IsKnown old.sw (constants_in c.unit) k n known
+      → HeldBy names new c × IsKnown new.sw (constants_in c.unit) k n answer
+
+-- this is known of the class that the text constant of a number is
+abbrev pub KnowsMake : ℕ → Machine → KnownMake → Type 0
+KnowsMake k m known = (names : List Reference) (c : Config) → HeldBy names m c → IsKnownMake m.sw (constants_in c.unit) k known

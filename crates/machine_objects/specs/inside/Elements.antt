@@ -19,6 +19,7 @@ use Rattle.machine_state.specs.declared.stepped.Stepped.{Stepped}
 use Rattle.machine_state.specs.declared.stepped.Stepped.TheVariants.{Halts, Damaged}
 use Rattle.machine_state.specs.declared.run_end.RunEnd.TheVariants as in_code
 use Rattle.machine_state.specs.Holding.{HeldBy, IsSound}
+use Rattle.machine_state.specs.Stepped.{ended}
 
 -- What follows gets a vector, which is known as what it is, and what denoted a value denotes it still; or there is no vector.
 abbrev pub GivesKnown : List Reference → Config → Option KnownVector → Machine → Machine → Type 0
@@ -34,7 +35,13 @@ pub record PopsKnown (old new : Machine) (answer : Option KnownVector) : Type 0 
   pub gives : (names : List Reference) (c : Config) → HeldBy names old c → GivesKnown names c answer old new
 
 -- the trap of what was looked for in vain, and nothing where it was found
-abbrev pub trap_in : Line → Result code.Value OpFault → Stepped
-trap_in line (Err (op.Trap trap)) = Halts (in_code.Trapped trap line)
-trap_in line (Err (op.Swizzle fault)) = Damaged
-trap_in line (Ok found) = Damaged
+abbrev pub trap_in : Result code.Value OpFault → Stepped
+trap_in (Err (op.Trap trap)) = Halts
+trap_in (Err (op.Swizzle fault)) = Damaged
+trap_in (Ok found) = Damaged
+
+-- the machine that stops there
+abbrev pub trapped_in : Line → Result code.Value OpFault → Machine → Machine
+trapped_in line (Err (op.Trap trap)) m = ended (in_code.Trapped trap line) m
+trapped_in line (Err (op.Swizzle fault)) m = m
+trapped_in line (Ok found) m = m

@@ -22,17 +22,23 @@ use Rattle.machine_state.specs.declared.stepped.Stepped.TheVariants.{Halts, Brea
 use Rattle.machine_state.specs.declared.run_end.RunEnd.TheVariants as in_code
 use Rattle.known_vectors.specs.Known.{AllLast}
 use Rattle.machine_state.specs.Holding.{Held, IsSound}
-use Rattle.machine_state.specs.Stepped.{Does, KeepsSize}
+use Rattle.machine_state.specs.Stepped.{Does, KeepsSize, ended}
 
 -- the machine with this area stood for the configuration
 abbrev pub HeldIn : area.Heap → List Reference → Machine → Config → Type 0
-HeldIn here names m c = Held names here m.layouts.entries.items m.vectors.entries.items m.code m.frame m.at m.nums.items m.refs.items m.turns c
+HeldIn here names m c = Held names here m.classes m.vectors.entries.items m.code m.place m.frame m.at m.nums.items m.refs.items m.turns c
 
 -- what an operation that failed comes to: its trap, or there was no room in the area, or not even on the stack
-abbrev pub failed_of : OpFault → Line → Bool → Stepped
-failed_of (op.Trap trap) line full = Halts (in_code.Trapped trap line)
-failed_of (op.Swizzle fault) line true = Damaged
-failed_of (op.Swizzle fault) line false = Breaks fault
+abbrev pub failed_of : OpFault → Bool → Stepped
+failed_of (op.Trap trap) full = Halts
+failed_of (op.Swizzle fault) true = Damaged
+failed_of (op.Swizzle fault) false = Breaks
+
+-- the machine behind it
+abbrev pub failed_in : OpFault → Line → Bool → Machine → Machine
+failed_in (op.Trap trap) line full m = ended (in_code.Trapped trap line) m
+failed_in (op.Swizzle fault) line true m = m
+failed_in (op.Swizzle fault) line false m = record m { fault = fault }
 
 -- a bound of a vector, whose reading has no trap
 pub record GivesBound (old new : Machine) (answer : Stepped) (bound : Result ℤ OpFault) : Type 0 where

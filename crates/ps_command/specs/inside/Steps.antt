@@ -61,14 +61,14 @@ pub record IsRunnable (unit : CodeUnit) (program : BodyNode) : Type 0 where
 
 -- where the program of a run begins
 abbrev pub begin : RunOf → BodyNode → Config
-begin run program = start (unit_of program) (fresh_store run.turns (code_weight program))
+begin run program = start (unit_of program) (fresh_store run.turns [] (code_weight program))
 
 -- The machine is at the start of a program, in the area of the run and with its turns, and from there the program's events come.
 pub record IsReady (run : RunOf) (program : BodyNode) (m : Machine) : Type 0 where
   pub sound : IsSound m
   pub area : m.sw.size ≡ area_size run
   pub starts : Holds m (begin run program)
-  pub runs : Runs (run_events run.turns program) (begin run program) []
+  pub runs : Runs (run_events run.turns [] program) (begin run program) []
 
 -- the shelf gave no text
 abbrev pub UnreadWhy : {H : Type 0} → (H → ℕ) → (H → ℕ → List ℕ → Type 0) → (H → ℕ) → H → H → List ℕ → ShelfFault → ℕ → Type 0

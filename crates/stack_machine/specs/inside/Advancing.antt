@@ -1,5 +1,5 @@
 -- What one step of a run tells, or how far it came where the output failed.
-use Rattle.std.specs.Prelude.{◌≡◌, ◌⊎◌, ℕ, ◌+◌, ◌*◌, ◌<◌, List, [], ◌++◌, Option, Some, None, Result, Ok, Err}
+use Rattle.std.specs.Prelude.{◌≡◌, ◌⊎◌, ℕ, ◌+◌, ◌*◌, ◌<◌, Bool, true, false, List, [], ◌++◌, Result, Ok, Err}
 use Rattle.ps_outside.specs.Outside.{Outside}
 use Rattle.obj_layout.specs.Stored.{Space}
 use Rattle.ps_meaning.specs.Event.{Event, outputs, report_of}
@@ -9,6 +9,11 @@ use Rattle.machine_state.specs.declared.machine.Machine.{Machine}
 use Rattle.machine_state.specs.declared.run_end.RunEnd.{RunEnd}
 use Rattle.machine_state.specs.Holding.{Holds, IsSound}
 use Rattle.machine_state.specs.Stepped.{end_of}
+use Rattle.swizzle.specs.declared.fault.SwizzleFault.{SwizzleFault}
+use Rattle.swizzle.specs.declared.fault.SwizzleFault.TheVariants.{AreaFull}
+use Rattle.stack_machine.specs.declared.run.Advanced.{Advanced}
+use Rattle.stack_machine.specs.declared.run.Advanced.TheVariants.{On, Ended, Failed}
+use Rattle.stack_machine.specs.declared.run.Advanced.TheVariants.{Damaged as Stopped, Full as Filled}
 use Rattle.stack_machine.specs.declared.run.RunFault.{RunFault}
 use Rattle.stack_machine.specs.declared.run.RunFault.TheVariants.{Damaged, Full, Output}
 use Rattle.stack_machine.specs.Ran.{TellsFirst, TellsAll, FailsBehind}
@@ -20,31 +25,49 @@ pub record TellsBut (old new : Outside Space) (due owed : List ℕ) : Type 0 whe
   pub tells : TellsAll old new sent
 
 -- the vault is alive where a run goes on, ends or finds the area full
-abbrev pub StaysAlive : Result (Option RunEnd) RunFault → Type 0 → Type 0
-StaysAlive (Ok answer) so = so
-StaysAlive (Err Damaged) so = Unit {0}
-StaysAlive (Err (Full top wanted size)) so = so
-StaysAlive (Err Output) so = Unit {0}
+abbrev pub StaysAlive : Advanced → Type 0 → Type 0
+StaysAlive On so = so
+StaysAlive Ended so = so
+StaysAlive Stopped so = Unit {0}
+StaysAlive Filled so = so
+StaysAlive Failed so = Unit {0}
 
 -- the area keeps its size where a run goes on
-abbrev pub KeepsArea : Result (Option RunEnd) RunFault → Type 0 → Type 0
-KeepsArea (Ok None) so = so
-KeepsArea (Ok (Some e)) so = Unit {0}
-KeepsArea (Err fault) so = Unit {0}
+abbrev pub KeepsArea : Advanced → Type 0 → Type 0
+KeepsArea On so = so
+KeepsArea Ended so = Unit {0}
+KeepsArea Stopped so = Unit {0}
+KeepsArea Filled so = Unit {0}
+KeepsArea Failed so = Unit {0}
+
+-- how far a step came that sent what was due, or failed to
+abbrev pub advanced_where : Bool → Advanced
+advanced_where true = On
+advanced_where false = Failed
+
+-- the fault is that there was no room in the area
+abbrev pub IsNoRoom : SwizzleFault → Type 0
+IsNoRoom fault = (top : ℕ) × (wanted : ℕ) × (size : ℕ) × (fault ≡ AreaFull top wanted size)
 
 module _ (old new : Outside Space) where
   module _ (owed left : List ℕ) where
     -- The step goes on, and tells the outputs of its events behind what is owed; or it stops, or there is none, or there was no room in an area of
     -- this size for the object that it makes, and it tells nothing; or the output failed.
-    abbrev pub AdvancesBy : ℕ → Step → Machine → Result (Option RunEnd) RunFault → Type 0
-    AdvancesBy area s m (Ok None) = (events : List Event) × (next : Config) × (s ≡ Goes events next) × Holds m next × TellsBut old new (owed ++ outputs events) left
-    AdvancesBy area s m (Ok (Some e)) = (s ≡ Stops (end_of e)) × TellsBut old new owed left
-    AdvancesBy area s m (Err Damaged) = (s ≡ Stuck) × TellsBut old new owed left
-    AdvancesBy area s m (Err (Full top wanted size)) =
-        (next : Config) × (s ≡ Goes [] next) × (size ≡ area) × (size < top + wanted) × (8 * size < next.store.counted) × TellsBut old new owed left
-    AdvancesBy area s m (Err Output) = (events : List Event) × (next : Config) × (s ≡ Goes events next) × FailsBehind old new (owed ++ outputs events)
+    abbrev pub AdvancesBy : ℕ → Step → Machine → Advanced → Type 0
+    AdvancesBy area s m On = (events : List Event) × (next : Config) × (s ≡ Goes events next) × Holds m next × TellsBut old new (owed ++ outputs events) left
+    AdvancesBy area s m Ended = (s ≡ Stops (end_of m.end)) × TellsBut old new owed left
+    AdvancesBy area s m Stopped = (s ≡ Stuck) × TellsBut old new owed left
+    AdvancesBy area s m Filled =
+        (next : Config) × (top : ℕ) × (wanted : ℕ) × (m.fault ≡ AreaFull top wanted area) × (s ≡ Goes [] next) × (area < top + wanted)
+        × (8 * area < next.store.counted) × TellsBut old new owed left
+    AdvancesBy area s m Failed = (events : List Event) × (next : Config) × (s ≡ Goes events next) × FailsBehind old new (owed ++ outputs events)
 
-    pub record Advances (m m' : Machine) (answer : Result (Option RunEnd) RunFault) : Type 0 where
+    -- What is due goes out but for what is left, or the output failed in it.
+    abbrev pub SendsOn : Bool → Type 0
+    SendsOn true = TellsBut old new owed left
+    SendsOn false = FailsBehind old new owed
+
+    pub record Advances (m m' : Machine) (answer : Advanced) : Type 0 where
       pub sound : IsSound m'
       pub size : KeepsArea answer (m'.sw.size ≡ m.sw.size)
       pub by : (c : Config) → Holds m c → (s : Step) × Steps c s × AdvancesBy m.sw.size s m' answer

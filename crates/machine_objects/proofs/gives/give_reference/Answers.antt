@@ -1,12 +1,11 @@
-use Rattle.std.proofs.Common.{◌≡◌, subst, sym, Some, rules}
+use Rattle.std.proofs.Common.{◌≡◌, subst, Some, rules}
 use Rattle.std.specs.Prelude.{Ok}
 use Rattle.heap_places.specs.declared.value.Value.TheVariants as held
 use Rattle.ps_stepping.specs.Steps.{attempted, push_ref}
 use Rattle.ps_stepping.specs.Objects.{when_reference}
-use Rattle.machine_state.specs.Stepped.{Does, KeepsSize}
 use Rattle.paired_ops.specs.World.{Answers}
 use Rattle.paired_ops.specs.Operands.{IsForIn, IsOfForm}
-use Rattle.machine_objects.proofs.Giving.{reference-given, read-fails}
+use Rattle.machine_objects.proofs.Giving.{reference-given, read-fails, failing}
 use Rattle.machine_objects.proofs.gives.give_reference.Goals as goal
 
 pub returns-in-Ok-Ref : goal.returns-in-Ok-Ref
@@ -24,9 +23,9 @@ pub returns-in-Err : goal.returns-in-Err
 returns-in-Err c =
     let m = c.args.m.now in
     record {
-      sound = c.requires;
+      sound = c.failed.ensures.sound;
       does = λ here names conf form attempt h got.
-          subst (λ r. KeepsSize r here m.sw × Does (attempted c.args.line attempt (λ w. when_reference (Some form) (push_ref w conf))) r m) (sym c.failed.ensures)
+          failing here m c.failed.new.m (attempted c.args.line attempt (λ w. when_reference (Some form) (push_ref w conf))) _ c.args.line _ c.failed.result c.failed.ensures.answer c.failed.ensures.left
           (read-fails c.args.line m c.sound.ensures here names conf h _ (λ k v. IsOfForm form k × IsForIn m.sw names k v) attempt (λ w. when_reference (Some form) (push_ref w conf))
           (subst (λ r. Answers here m.sw (λ k v. IsOfForm form k × IsForIn m.sw names k v) conf.store.heap names attempt r) c.in-Err.is got));
     }

@@ -1,9 +1,8 @@
-use Rattle.std.proofs.Common.{subst, sym}
+use Rattle.std.proofs.Common.{subst}
 use Rattle.ps_stepping.specs.Steps.{attempted}
 use Rattle.ps_stepping.specs.Objects.{make_text}
-use Rattle.machine_state.specs.Stepped.{Does, KeepsSize}
 use Rattle.paired_ops.specs.World.{MakesText}
-use Rattle.machine_objects.proofs.Giving.{text-given, text-fails}
+use Rattle.machine_objects.proofs.Giving.{text-given, text-fails, failing}
 use Rattle.machine_objects.proofs.gives.give_text.Goals as goal
 
 pub returns-in-Ok : goal.returns-in-Ok
@@ -20,9 +19,9 @@ pub returns-in-Err : goal.returns-in-Err
 returns-in-Err c =
     let m = c.args.m.now in
     record {
-      sound = c.requires;
+      sound = c.failed.ensures.sound;
       does = λ here names conf attempt h made.
-          subst (λ r. KeepsSize r here m.sw × Does (attempted c.args.line attempt (λ bytes. make_text bytes conf)) r m) (sym c.failed.ensures)
-          (text-fails c.args.line m c.sound.ensures here names conf h _ c.is_full.result attempt c.is_full.ensures.full c.is_full.ensures.room
+          failing here m c.failed.new.m (attempted c.args.line attempt (λ bytes. make_text bytes conf)) _ c.args.line _ c.failed.result c.failed.ensures.answer c.failed.ensures.left
+          (text-fails c.args.line m c.sound.ensures here names conf h _ c.is_full-full.result attempt c.is_full-full.ensures.full c.is_full-full.ensures.room
           (subst (λ r. MakesText here m.sw conf.store.heap names attempt r) c.in-Err.is made));
     }

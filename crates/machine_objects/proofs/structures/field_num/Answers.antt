@@ -10,6 +10,7 @@ use Rattle.ps_stepping.specs.Objects.{pop_object}
 use Rattle.paired_ops.proofs.WorldLaws.{still-empty}
 use Rattle.machine_objects.specs.inside.Constants.{FindsField}
 use Rattle.machine_objects.proofs.ConstantReads.{none-there}
+use Rattle.machine_objects.proofs.ClassFields.{popped-there}
 use Rattle.machine_objects.proofs.FieldReads.{no-number-field, other-number, field-done, number-field}
 use Rattle.machine_objects.proofs.structures.field_num.Goals as goal
 
@@ -31,6 +32,9 @@ returns-then-not-is_number-clause-takes g c =
 pub get_field-got-requires-clause-empty : goal.get_field-got-requires-clause-empty
 get_field-got-requires-clause-empty g c =
     still-empty (g.V.Vault.outside c.args.vault.now) (g.V.Vault.outside c.field_at.new.vault) c.field_at.ensures.leaves c.requires.empty
+
+pub get_field-got-requires-clause-there : goal.get_field-got-requires-clause-there
+get_field-got-requires-clause-there g c = popped-there c.field_at.new.m c.pop_object.new.m c.in-Some-pop_object.object c.in-Some-pop_object.ensures.pops c.in-Some.ensures.holding
 
 pub returns-clause-takes : goal.returns-clause-takes
 returns-clause-takes g c =

@@ -13,6 +13,7 @@ use Rattle.ps_stepping.specs.Config.{Config}
 use Rattle.paired_ops.proofs.WorldLaws.{still-empty}
 use Rattle.machine_objects.specs.inside.Constants.{FindsField}
 use Rattle.machine_objects.proofs.ConstantReads.{none-there}
+use Rattle.machine_objects.proofs.ClassFields.{popped-there}
 use Rattle.machine_objects.proofs.FieldReads.{no-number-field, other-number}
 use Rattle.machine_objects.proofs.FieldWrites.{number-set, number-written, number-done}
 use Rattle.machine_objects.proofs.structures.set_field_num.Goals as goal
@@ -35,6 +36,9 @@ returns-then-not-is_number-clause-takes g c =
 pub set_field-set-requires-clause-empty : goal.set_field-set-requires-clause-empty
 set_field-set-requires-clause-empty g c =
     still-empty (g.V.Vault.outside c.args.vault.now) (g.V.Vault.outside c.field_at.new.vault) c.field_at.ensures.leaves c.requires.empty
+
+pub set_field-set-requires-clause-there : goal.set_field-set-requires-clause-there
+set_field-set-requires-clause-there g c = popped-there c.pop_int.new.m c.pop_object.new.m c.in-Some-pop_object.object c.in-Some-pop_object.ensures.pops c.in-Some-pop_int.ensures.holding
 
 pub returns-clause-takes : goal.returns-clause-takes
 returns-clause-takes g c =

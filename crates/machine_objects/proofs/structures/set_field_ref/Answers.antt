@@ -7,6 +7,7 @@ use Rattle.ps_stepping.specs.Config.{Config}
 use Rattle.paired_ops.proofs.WorldLaws.{still-empty}
 use Rattle.machine_objects.specs.inside.Constants.{FindsField}
 use Rattle.machine_objects.proofs.ConstantReads.{none-there}
+use Rattle.machine_objects.proofs.ClassFields.{popped-there}
 use Rattle.machine_objects.proofs.FieldReads.{no-reference-field, other-reference}
 use Rattle.machine_objects.proofs.FieldWrites.{reference-set, reference-written, reference-done}
 use Rattle.machine_objects.proofs.structures.set_field_ref.Goals as goal
@@ -29,6 +30,9 @@ returns-then-is_number-clause-takes g c =
 pub set_field-set-requires-clause-empty : goal.set_field-set-requires-clause-empty
 set_field-set-requires-clause-empty g c =
     still-empty (g.V.Vault.outside c.args.vault.now) (g.V.Vault.outside c.field_at.new.vault) c.field_at.ensures.leaves c.requires.empty
+
+pub set_field-set-requires-clause-there : goal.set_field-set-requires-clause-there
+set_field-set-requires-clause-there g c = popped-there c.pop_any.new.m c.pop_object.new.m c.in-Some-pop_object.object c.in-Some-pop_object.ensures.pops c.in-Some-pop_any.ensures.holding
 
 pub returns-clause-takes : goal.returns-clause-takes
 returns-clause-takes g c =

@@ -1,4 +1,6 @@
-use Rattle.std.proofs.Common.{◌≡◌, ℕ, pos, length, rules, ap, sym, ◌∙◌}
+use mir.Syntax.{w32}
+use mir.Val.{to_z, of_z}
+use Rattle.std.proofs.Common.{◌≡◌, ℕ, ℤ, pos, length, rules, arith, ap, sym, ◌∙◌, subst}
 use Rattle.ps_stepping.specs.Steps.{push_num}
 use Rattle.ps_stepping.specs.Objects.{text_length}
 use Rattle.machine_state.specs.Stepped.{Takes}
@@ -9,7 +11,8 @@ pub returns : goal.returns
 returns c =
     let p = c.in-Some.ensures.pops in
     let mid = c.pop_text.new.m in
-    let push : Takes (push_num (pos c.length-count.result)) mid c.push_num.new.m c.push_num.result = search rules in
+    let same : to_z w32 (of_z w32 c.cast_signed.result) ≡ pos c.length-count.result = search (rules, arith) in
+    let push : Takes (push_num (pos c.length-count.result)) mid c.push_num.new.m c.push_num.result = subst (λ (z : ℤ). Takes (push_num z) mid c.push_num.new.m c.push_num.result) same c.push_num.ensures in
     ends text_length c.args.m.now c.push_num.new.m c.push_num.result push.sound c.requires.holding
     (λ names conf h.
     let a = p.gives names conf h in

@@ -14,11 +14,11 @@ returns c =
     let last = c.pop_text.new.m in
     let width = c.in-Some.width in
     let step = c.written.ensures in
-    ends (write_text c.args.given line) c.args.m.now last c.written.result step.sound c.requires.holding
+    ends (write_text c.args.given line) c.args.m.now c.written.new.m c.written.result step.sound c.requires.holding
     (λ names conf h.
     let w = p.gives names conf h in
     let a = q.gives names w.0 w.2 in
     let same : text_at last.sw c.in-Some-pop_text.text ≡ a.1 = (text-denoted last.sw names c.in-Some-pop_text.text a.1 c.sound.ensures a.4).bytes_are in
-    comes-behind c.written.result c.args.m.now.sw last.sw last (write_text c.args.given line conf) (written line width (text_at last.sw c.in-Some-pop_text.text) a.0) (q.area ∙ p.area)
+    comes-behind c.written.result c.args.m.now.sw last.sw c.written.new.m (write_text c.args.given line conf) (written line width (text_at last.sw c.in-Some-pop_text.text) a.0) (q.area ∙ p.area)
     (w.1 (λ x d. pop_text d (λ bytes e. written line x bytes e)) ∙ a.2 (λ bytes e. written line width bytes e) ∙ ap (λ (bytes : List ℕ). written line width bytes a.0) (sym same))
     (step.size, step.does a.0 (record { names = names; held = a.3 })))

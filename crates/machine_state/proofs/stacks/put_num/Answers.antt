@@ -6,11 +6,11 @@ use Rattle.machine_state.proofs.stacks.put_num.Goals as goal
 pub returns : goal.returns
 returns c =
     let m = c.args.m.now in
-    let more : m.nums.items ++ c.args.z ∷ [] ≡ c.push.new.self.items = search rules in
+    let more : m.nums.items ++ c.args.z ∷ [] ≡ c.push_reserved.new.self.items = search rules in
     record {
       sound = search rules;
       size = refl;
       does = λ conf h.
           let next = record conf { nums = c.args.z ∷ conf.nums } in
-          ([], next, refl, refl, record { names = h.names; held = subst (λ xs. Held h.names m.sw m.layouts.entries.items m.vectors.entries.items m.code m.frame m.at xs m.refs.items m.turns next) more (puts_num m conf h.names h.held c.args.z) });
+          ([], next, refl, refl, record { names = h.names; held = subst (λ xs. Held h.names m.sw m.classes m.vectors.entries.items m.code m.place m.frame m.at xs m.refs.items m.turns next) more (puts_num m conf h.names h.held c.args.z) });
     }

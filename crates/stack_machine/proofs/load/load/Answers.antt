@@ -1,15 +1,18 @@
 use Rattle.std.proofs.Common.{◌≡◌, ◌≤◌, List, [], pos, sym, subst, replicate, rules, arith}
 use Rattle.ps_base.specs.CodeUnit.{unit_view}
-use Rattle.ps_stepping.specs.Config.{frame_in, frame_words}
+use Rattle.ps_stepping.specs.Config.{constants_in, frame_in, frame_words}
 use Rattle.paired_ops.specs.Code.{IsLoaded, HasNoRoom}
 use Rattle.swizzle.specs.declared.fault.SwizzleFault.TheVariants.{AreaFull}
-use Rattle.heap_ops.specs.Layouts.{AreSo}
-use Rattle.heap_ops.specs.declared.layouts.Layouts.{Layouts}
+use Rattle.known_classes.specs.Classes.{IsRight}
+use Rattle.known_classes.specs.declared.classes.KnownClasses.{KnownClasses}
 use Rattle.obj_layout.specs.declared.reference.Reference.{Reference}
 use Rattle.known_vectors.specs.declared.known.KnownVectors.{KnownVectors}
 use Rattle.known_vectors.specs.Known.{AreSo as AreKnown}
 use Rattle.stack_machine.specs.Loaded.{IsFrame, IsRoomy}
-use Rattle.stack_machine.proofs.Loading.{begins, no-room}
+use Rattle.proc_values.specs.declared.reading.CodePlace.{CodePlace}
+use Rattle.proc_values.specs.Loaded.{IsUnitPlace}
+use Rattle.proc_values.proofs.ReadLaws.{unit-place}
+use Rattle.stack_machine.proofs.Loading.{begins, loaded-held, no-room}
 use Rattle.stack_machine.proofs.load.load.Goals as goal
 
 pub returns-in-Ok : goal.returns-in-Ok
@@ -20,15 +23,17 @@ returns-in-Ok c =
     let nums : c.begin.new.m.frame.nums ≤ frame_words = search (rules, arith) in
     let refs : c.begin.new.m.frame.refs ≤ frame_words = search (rules, arith) in
     let loaded : IsLoaded c.reset.new.self c.begin.new.m.sw u c.in-Ok.code = search rules in
-    let so = subst (λ (l : Layouts). AreSo c.begin.new.m.sw l.entries.items) (sym b.layouts) (c.clear.ensures c.begin.new.m.sw) in
+    let so = subst (λ (k : KnownClasses). IsRight c.begin.new.m.sw (constants_in u) k) (sym b.classes) (c.clear.ensures c.begin.new.m.sw (constants_in u)) in
     let none : List Reference = [] in
     let known = subst (λ (k : KnownVectors). AreKnown c.begin.new.m.sw [] none k.entries.items) (sym b.vectors) (c.clear-2.ensures c.begin.new.m.sw [] none) in
     let code_is : c.begin.new.m.code ≡ c.in-Ok.code = search rules in
+    let first : IsLoaded c.reset.new.self c.load.new.sw u c.in-Ok.code = search rules in
+    let placed = subst (λ (p : CodePlace). IsUnitPlace c.in-Ok.code u p) (sym b.place) (unit-place c.load.new.sw c.in-Ok.code u c.code_place-place.result c.sound.ensures first.is c.code_place-place.ensures) in
     let at_is : c.begin.new.m.at ≡ 0 = search rules in
     let turns_is : c.begin.new.m.turns ≡ c.args.turns = search rules in
     let nums_are : c.begin.new.m.nums.items ≡ replicate c.begin.new.m.frame.nums (pos 0) = search rules in
     let refs_are : c.begin.new.m.refs.items ≡ replicate c.begin.new.m.frame.refs 0 = search rules in
-    begins u c.args.turns c.args.m.now c.begin.new.m c.reset.new.self framed nums refs c.in-Ok.code c.reset.ensures loaded so known b.roomy code_is at_is nums_are refs_are turns_is
+    begins u c.args.turns c.args.m.now c.begin.new.m c.reset.new.self framed nums refs c.in-Ok.code c.reset.ensures loaded so known b.roomy code_is placed at_is nums_are refs_are turns_is
 
 pub returns-in-Err-AreaFull : goal.returns-in-Err-AreaFull
 returns-in-Err-AreaFull c =
@@ -38,6 +43,12 @@ returns-in-Err-AreaFull c =
     let size = c.in-Err-AreaFull.size in
     let frame : IsFrame (frame_in u) = record { nums_fit = search (rules, arith); refs_fit = search (rules, arith) } in
     let full : HasNoRoom c.reset.new.self u (AreaFull top wanted size) = search rules in
-    let roomy : IsRoomy (record c.args.m.now { sw = c.load.new.sw; layouts = c.clear.new.self; vectors = c.clear-2.new.self }) = record { nums_room = c.requires.nums_room; refs_room = c.requires.refs_room; values_room = c.requires.values_room } in
-    let short = no-room u c.args.m.now (record c.args.m.now { sw = c.load.new.sw; layouts = c.clear.new.self; vectors = c.clear-2.new.self }) c.reset.new.self top wanted size frame roomy c.reset.ensures full in
+    let roomy : IsRoomy (record c.args.m.now { sw = c.load.new.sw; classes = c.clear.new.self; vectors = c.clear-2.new.self }) = record { nums_room = c.requires.nums_room; refs_room = c.requires.refs_room; values_room = c.requires.values_room } in
+    let short = no-room u c.args.m.now (record c.args.m.now { sw = c.load.new.sw; classes = c.clear.new.self; vectors = c.clear-2.new.self }) c.reset.new.self top wanted size frame roomy c.reset.ensures full in
     search (rules, short)
+
+pub code_place-place-requires-clause-held : goal.code_place-place-requires-clause-held
+code_place-place-requires-clause-held c = (loaded-held c.load.new.sw c.in-Ok.code (unit_view c.args.unit.now) c.in-Ok.ensures.is).0
+
+pub code_place-place-requires-clause-kind : goal.code_place-place-requires-clause-kind
+code_place-place-requires-clause-kind c = (loaded-held c.load.new.sw c.in-Ok.code (unit_view c.args.unit.now) c.in-Ok.ensures.is).1

@@ -4,8 +4,8 @@ use Rattle.machine_state.specs.Holding.{IsHolding}
 use Rattle.stack_machine.proofs.Between.{IsBetween, left_of}
 use Rattle.stack_machine.proofs.run.run.Given as goal
 
-abbrev pub invariant-loop-end : goal.invariant-loop-end
-invariant-loop-end g l =
+abbrev pub invariant-loop-vault : goal.invariant-loop-vault
+invariant-loop-vault g l =
     let vault = g.V.Vault in
     record {
       between : IsBetween (vault.outside l.initial.vault) (vault.outside l.vault) l.initial.output l.output l.initial.m l.m;
@@ -14,5 +14,5 @@ invariant-loop-end g l =
       empty : IsEmpty (vault.outside l.vault);
     }
 
-abbrev pub decreases-loop-end : goal.decreases-loop-end
-decreases-loop-end g l = left_of l.m
+abbrev pub decreases-loop-vault : goal.decreases-loop-vault
+decreases-loop-vault g l = left_of l.m

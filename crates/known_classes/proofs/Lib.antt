@@ -1,0 +1,4 @@
+pub mod Entries
+pub mod Fields
+pub mod Marks
+pub mod MakesSo

@@ -1,0 +1,5 @@
+pub mod Known
+pub mod Made
+pub mod Classes
+pub mod Reading
+pub mod inside

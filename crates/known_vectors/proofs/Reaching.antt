@@ -1,0 +1,305 @@
+-- Elements that are reached by the entries that are known.
+use mir.Syntax.{w32}
+use mir.Val.{to_z, of_z}
+use Rattle.std.proofs.lemmas.Bool.{cases_lt}
+use Rattle.std.proofs.lemmas.Grind.{common_steps}
+use Rattle.std.proofs.Common.{◌≡◌, ◌≢◌, ℕ, ◌+◌, ◌-◌, ◌%◌, ◌<◌, ◌^◌, ℤ, pos, negsuc, Bool, true, false, List, length, get_or, Option, Some, None}
+use Rattle.std.proofs.Common.{unwrap_or, inl, inr, refl, sym, ap, ◌∙◌, subst, arith}
+use Rattle.std.specs.Prelude.{Ok}
+use Rattle.obj_layout.specs.Stored.{damage}
+use Rattle.obj_layout.specs.declared.reference.Reference.{Reference}
+use Rattle.obj_layout.specs.declared.reference.Reference.TheVariants as reference
+use Rattle.obj_layout.specs.declared.kind.Kind.TheVariants as kind
+use Rattle.swizzle.specs.Objects.{Object}
+use Rattle.swizzle.specs.Heap as area
+use Rattle.swizzle.specs.Heap.{IsHeap, IsHeld, header_at, ref_at, num_at, reference_to, nothing}
+use Rattle.swizzle.specs.Joint.{shown_at, name_at, name_of}
+use Rattle.swizzle.specs.Touch.{Denotes}
+use Rattle.swizzle.proofs.NameLaws.{shown-counts}
+use Rattle.text_forms.specs.declared.forms.Form.{Form}
+use Rattle.text_forms.specs.declared.forms.Form.TheVariants as form
+use Rattle.text_forms.specs.Forms.{is_number_form}
+use Rattle.heap_places.specs.Words.{int_in, flag_in, word_damage, unless}
+use Rattle.heap_places.specs.Shapes.{slot_of, word_in}
+use Rattle.heap_places.specs.Places.{HasPlace, HasRow, Holds, assigned_value}
+use Rattle.heap_places.specs.declared.value.Value as code
+use Rattle.heap_places.specs.declared.value.Value.TheVariants as held
+use Rattle.heap_places.proofs.PlaceLaws.{slot-name, nums_below, refs_below}
+use Rattle.heap_places.proofs.WordLaws.{int-low, int-mid, int-high}
+use Rattle.paired_ops.proofs.FormLaws.{int-read}
+use Rattle.heap_ops.specs.Vectors.{index_of}
+use Rattle.heap_meaning.proofs.VectorLaws.{below-count}
+use Rattle.ps_meaning.specs.Values.{Value, Num, Flag, Text, Nil, Pointer, Vector, Procedure, Nothing, word_of, number_of}
+use Rattle.ps_meaning.specs.Texts.{Yields}
+use Rattle.ps_meaning.specs.Objects.{Heap, with_element}
+use Rattle.ps_meaning.specs.Objects as meaning
+use Rattle.paired_ops.specs.World.{IsWorld, DenotesIn, Writes}
+use Rattle.paired_ops.specs.Operands.{IsForIn, IsOfForm}
+use Rattle.paired_ops.proofs.ReadLaws.{VectorAt}
+use Rattle.paired_ops.proofs.ValueLaws.{some-not_nil, text-denoted, pointer-denoted, vector-denoted}
+use Rattle.known_vectors.specs.declared.known.KnownVector.{KnownVector}
+use Rattle.known_vectors.specs.Known.{IsSo, AreSo, AreRight}
+use Rattle.known_vectors.specs.Reached.{Reaches, IsVectorOf, HasNumber, HasReference, Puts}
+use Rattle.known_vectors.proofs.Access.{int-same, the-vector, known-small, known-place, known-refs, known-value, known-sound, known-row, known-written}
+use Rattle.known_vectors.proofs.Entries.{said}
+
+-- numbers stand behind two words, references behind one
+pub number-index : (f : Form) (n : ℕ) → is_number_form f ≡ true → index_of f n ≡ 2 + n
+number-index form.Number n is = refl
+number-index form.Flag n is = refl
+number-index form.Reference n is = absurd (cc)
+
+pub reference-index : (f : Form) (n : ℕ) → is_number_form f ≡ false → index_of f n ≡ 1 + n
+reference-index form.Reference n is = refl
+reference-index form.Number n is = absurd (cc)
+reference-index form.Flag n is = absurd (cc)
+
+pub other-form : (f : Form) → (f ≡ form.Reference → ⊥) → is_number_form f ≡ true
+other-form form.Number other = refl
+other-form form.Flag other = refl
+other-form form.Reference other = absurd (other refl)
+
+-- in which row a place of a form lies
+number-placed : (here : area.Heap) (vector n : ℕ) (f : Form) → is_number_form f ≡ true → HasPlace (shown_at here vector) f n
+    → n < length (shown_at here vector).nums
+number-placed here vector n form.Number is p = p
+number-placed here vector n form.Flag is p = p
+number-placed here vector n form.Reference is p = absurd (cc)
+
+reference-placed : (here : area.Heap) (vector n : ℕ) (f : Form) → is_number_form f ≡ false → HasPlace (shown_at here vector) f n
+    → n < length (shown_at here vector).refs
+reference-placed here vector n form.Reference is p = p
+reference-placed here vector n form.Number is p = absurd (cc)
+reference-placed here vector n form.Flag is p = absurd (cc)
+
+-- A word that isn't damaged.
+int-there : (word : ℕ) → word_damage form.Number word ≡ None → (z : ℤ) × (int_in word ≡ Some z)
+unfolding word_damage
+int-there word sound = of (int_in word) refl sound
+  where
+    of : (o : Option ℤ) → int_in word ≡ o → unless o (damage word (2 ^ 31)) ≡ None → (z : ℤ) × (int_in word ≡ Some z)
+    of (Some z) is e = (z, is)
+    of None is e = absurd (cc)
+
+flag-there : (word : ℕ) → word_damage form.Flag word ≡ None → (b : Bool) × (flag_in word ≡ Some b)
+unfolding word_damage
+flag-there word sound = of (flag_in word) refl sound
+  where
+    of : (o : Option Bool) → flag_in word ≡ o → unless o (damage word 2) ≡ None → (b : Bool) × (flag_in word ≡ Some b)
+    of (Some b) is e = (b, is)
+    of None is e = absurd (cc)
+
+-- the number of what an int or a bool denotes
+int-word : (here : area.Heap) (names : List Reference) (z : ℤ) (v : Value) → IsForIn here names (held.Num z) v → word_of v ≡ z
+int-word here names z (Num w) is = sym is
+int-word here names z (Flag b) is = absurd is
+int-word here names z (Text bytes) is = absurd is
+int-word here names z Nil is = absurd is
+int-word here names z (Pointer id) is = absurd is
+int-word here names z (Vector id) is = absurd is
+int-word here names z (Procedure whole scope) is = absurd is
+int-word here names z Nothing is = absurd is
+
+flag-word : (here : area.Heap) (names : List Reference) (b : Bool) (v : Value) → IsForIn here names (held.Flag b) v → word_of v ≡ number_of b
+flag-word here names b (Flag c) is = ap number_of (sym is)
+flag-word here names b (Num z) is = absurd is
+flag-word here names b (Text bytes) is = absurd is
+flag-word here names b Nil is = absurd is
+flag-word here names b (Pointer id) is = absurd is
+flag-word here names b (Vector id) is = absurd is
+flag-word here names b (Procedure whole scope) is = absurd is
+flag-word here names b Nothing is = absurd is
+
+-- what a place of a number keeps is no reference
+pub no-reference : (f : Form) (c : code.Value) (to : Option ℕ) → is_number_form f ≡ true → IsOfForm f c → c ≢ held.Ref to
+no-reference form.Number (held.Num z) to row fits e = cc
+no-reference form.Flag (held.Flag b) to row fits e = cc
+no-reference form.Reference c to row fits e = absurd (cc)
+no-reference form.Number (held.Flag b) to row fits e = absurd fits
+no-reference form.Number (held.Ref t) to row fits e = absurd fits
+no-reference form.Flag (held.Num z) to row fits e = absurd fits
+no-reference form.Flag (held.Ref t) to row fits e = absurd fits
+
+-- The low half of an int's word, and of a bool's.
+half-int : (word : ℕ) (z : ℤ) → word < 2 ^ 64 → int_in word ≡ Some z → of_z w32 z ≡ word % 2 ^ 32
+half-int word z fits e = elim (cases_lt word (2 ^ 31)) [
+  | inl low ↦
+      let same : pos word ≡ z = let both : Some (pos word) ≡ Some z = sym (int-low word low) ∙ e in cc in
+      sym (ap (of_z w32) same) ∙ omega (arith, low)
+  | inr ge ↦ elim (cases_lt word (2 ^ 64 - 2 ^ 31)) [
+    | inl mid ↦ let bad : None ≡ Some z = sym (int-mid word ge mid) ∙ e in absurd (cc)
+    | inr high ↦
+        let same : negsuc (2 ^ 64 - 1 - word) ≡ z = let both : Some (negsuc (2 ^ 64 - 1 - word)) ≡ Some z = sym (int-high word high) ∙ e in cc in
+        sym (ap (of_z w32) same) ∙ omega (arith, high, fits)
+  ]
+]
+
+pub low-int : (word : ℕ) (z : ℤ) → word < 2 ^ 64 → int_in word ≡ Some z → to_z w32 (word % 2 ^ 32) ≡ z
+low-int word z fits e = ap (to_z w32) (sym (half-int word z fits e)) ∙ int-same z (int-read word z e)
+
+pub low-flag : (word : ℕ) (b : Bool) → flag_in word ≡ Some b → to_z w32 (word % 2 ^ 32) ≡ number_of b
+unfolding flag_in
+low-flag word b e = grind (arith, common_steps, e)
+
+-- a reference to an object of the area, or to none
+near-denoted : (here : area.Heap) (at slot : ℕ) (to : Option ℕ) → IsHeap here → IsHeld here at → ref_at here at slot ≡ reference_to to
+    → Denotes here to (slot_of (shown_at here at) slot)
+near-denoted here at slot None h held is = slot-name here at slot ∙ ap (name_of here) is
+near-denoted here at slot (Some k) h held is = (
+  h.inside at held.object held.is slot k (sym (ap (λ (o : Option Object). get_or (unwrap_or o nothing).refs slot reference.Nil) held.is) ∙ is),
+  sym (slot-name here at slot ∙ ap (name_of here) is),
+)
+
+-- An object that denotes a vector denotes nothing else.
+pub only-vector : (here : area.Heap) (of : Heap) (names : List Reference) (at id : ℕ) (v : Value) → IsHeap here → IsWorld here of names
+    → DenotesIn here names (Some at) (Vector id) → DenotesIn here names (Some at) v → v ≡ Vector id
+only-vector here of names at id (Vector i) h w is d =
+    ap Vector (w.row.stands.one_number (name_at here at) i id (vector-denoted here names at i h d).pair (vector-denoted here names at id h is).pair)
+only-vector here of names at id (Pointer i) h w is d =
+    let bad : kind.Structure ≡ kind.Vector = sym (pointer-denoted here names at i h d).kind ∙ (vector-denoted here names at id h is).kind in absurd (cc)
+only-vector here of names at id (Text bytes) h w is d =
+    let bad : kind.Text ≡ kind.Vector = sym (text-denoted here names at bytes h d).kind ∙ (vector-denoted here names at id h is).kind in absurd (cc)
+only-vector here of names at id Nil h w is d = absurd (some-not_nil here names at d)
+only-vector here of names at id (Num z) h w is d = absurd (d.stands)
+only-vector here of names at id (Flag b) h w is d = absurd (d.stands)
+only-vector here of names at id (Procedure whole scope) h w is d = absurd (d.stands)
+only-vector here of names at id Nothing h w is d = absurd (d.stands)
+
+-- The entry of a place that is reached says what is so.
+pub reached-so : (here : area.Heap) (of : Heap) (names : List Reference) (entries : List KnownVector) (vector : ℕ) (at : ℤ) → AreSo here of names entries
+    → (r : Reaches entries vector at) → IsSo here of names r.known
+reached-so here of names entries vector at so r = elim (said here of names entries _ r.known so r.within (sym r.stands)) [
+  | inl none ↦
+      let below = below-count r.known.low at r.known.count r.place r.place_is in
+      let empty = none.1 in
+      absurd (omega (arith, below, empty))
+  | inr is ↦ is
+]
+
+module _ (here : area.Heap) (entries : List KnownVector) (vector : ℕ) (at : ℤ) (h : IsHeap here) (r : Reaches entries vector at) where
+  abbrev known : KnownVector
+  known = r.known
+
+  module _ (of : Heap) (names : List Reference) (world : IsWorld here of names) (are : AreSo here of names entries) where
+    so : IsSo here of names known
+    so = reached-so here of names entries vector at are r
+
+    there : VectorAt here of names known.vector so.id
+    there = the-vector here of names known.vector so.id h world so.denotes
+
+    -- it denotes a vector of this row
+    vector-of : (number : Bool) → is_number_form known.form ≡ number → IsVectorOf here of names vector number
+    vector-of number row = record {
+      id = so.id;
+      denotes = subst (λ (n : ℕ). DenotesIn here names (Some n) (Vector so.id)) r.vector_is so.denotes;
+      ty = so.is.ty;
+      low = known.low;
+      elements = so.is.elements;
+      means = so.is.means;
+      row = ap is_number_form (sym so.is.form) ∙ row;
+    }
+
+    small : r.place < 2 ^ 20
+    small = known-small here of names known.vector so.id known there so.is at r.place r.place_is
+
+    placed : HasPlace (shown_at here known.vector) known.form (index_of known.form r.place)
+    placed = known-place here of names known.vector so.id known there so.is at r.place r.place_is
+
+    held-there : IsHeld here vector
+    held-there = subst (IsHeld here) r.vector_is there.held
+
+    -- what the place holds is the element
+    value-of : (c : code.Value) → Holds here (shown_at here known.vector) known.form (index_of known.form r.place) c
+        → (value : Value) × (meaning.element_of of (Vector so.id) at ≡ Yields value) × IsForIn here names c value
+    value-of = known-value here of names known.vector so.id known there so.is at r.place r.place_is
+
+    -- A number was read.
+    pub number-read : (f : Form) (word : ℕ) (z : ℤ) → known.form ≡ f → is_number_form f ≡ true → word ≡ num_at here vector (2 + r.place)
+        → ((y : ℤ) → int_in word ≡ Some y → z ≡ y) → ((b : Bool) → flag_in word ≡ Some b → z ≡ number_of b) → HasNumber here of names vector at z
+    unfolding vector-of so
+    number-read f word z is row read int flag = cases f is row
+      where
+        it : word_in (shown_at here known.vector) (2 + r.place) ≡ word
+        it = ap (λ (n : ℕ). num_at here n (2 + r.place)) r.vector_is ∙ sym read
+
+        sound : (g : Form) → known.form ≡ g → word_damage g (word_in (shown_at here known.vector) (index_of g r.place)) ≡ None
+        sound g e = subst (λ (k : Form). word_damage k (word_in (shown_at here known.vector) (index_of k r.place)) ≡ None) e
+            (known-sound here of names known.vector so.id known there so.is at r.place r.place_is)
+
+        given : (g : Form) (c : code.Value) → known.form ≡ g → is_number_form g ≡ true → ((value : Value) → IsForIn here names c value → word_of value ≡ z)
+            → Holds here (shown_at here known.vector) g (index_of g r.place) c → HasNumber here of names vector at z
+        given g c e number word_is holds =
+            let v = value-of c (subst (λ (k : Form). Holds here (shown_at here known.vector) k (index_of k r.place) c) (sym e) holds) in
+            record { it = vector-of true (ap is_number_form e ∙ number); value = v.0; is = v.1; number = word_is v.0 v.2 }
+
+        cases : (g : Form) → known.form ≡ g → is_number_form g ≡ true → HasNumber here of names vector at z
+        cases form.Number e number =
+            let w = int-there word (subst (λ (n : ℕ). word_damage form.Number n ≡ None) it (sound form.Number e)) in
+            given form.Number (held.Num w.0) e number (λ v for. int-word here names w.0 v for ∙ sym (int w.0 w.1)) (ap int_in it ∙ w.1)
+        cases form.Flag e number =
+            let w = flag-there word (subst (λ (n : ℕ). word_damage form.Flag n ≡ None) it (sound form.Flag e)) in
+            given form.Flag (held.Flag w.0) e number (λ v for. flag-word here names w.0 v for ∙ sym (flag w.0 w.1)) (ap flag_in it ∙ w.1)
+        cases form.Reference e number = absurd (cc)
+
+    -- A reference was read.
+    pub reference-read : (to : Option ℕ) → known.form ≡ form.Reference → ref_at here vector (1 + r.place) ≡ reference_to to
+        → HasReference here of names vector at to
+    unfolding vector-of so
+    reference-read to is read =
+        let slot = near-denoted here known.vector (1 + r.place) to h there.held (ap (λ (n : ℕ). ref_at here n (1 + r.place)) r.vector_is ∙ read) in
+        let v = value-of (held.Ref to) (subst (λ (k : Form). Holds here (shown_at here known.vector) k (index_of k r.place) (held.Ref to)) (sym is) slot) in
+        record { it = vector-of false (ap is_number_form is); value = v.0; is = v.1; denoted = v.2 }
+
+    -- A value was written.
+    pub value-put : (new : area.Heap) (number : Bool) (value : Form → Value) (c : code.Value) (index : ℕ) → is_number_form known.form ≡ number
+        → index ≡ index_of known.form r.place
+        → IsOfForm known.form c → IsForIn here names c (value known.form) → new ≡ assigned_value here vector index c
+        → Puts here of names vector at new number value
+    unfolding vector-of so
+    value-put new number value c index row place fits for written =
+        let to : new ≡ assigned_value here known.vector (index_of known.form r.place) c = written
+        ∙ ap (λ (n : ℕ). assigned_value here n index c) (sym r.vector_is) ∙ ap (λ (n : ℕ). assigned_value here known.vector n c) place in
+        let w : Writes here new names (with_element of (Vector so.id) at (value known.form)) (Ok tt) =
+        known-written here of names known.vector so.id known there so.is at r.place r.place_is new c (value known.form) h world fits for to in
+        record {
+          it = vector-of number row;
+          after = w.0;
+          is = ap (λ (k : Form). with_element of (Vector so.id) at (value k)) (sym so.is.form) ∙ w.1;
+          stands = w.2;
+        }
+
+  module _ (right : AreRight here entries) where
+    pub reached-small : r.place < 2 ^ 20
+    reached-small = small right.of right.names right.world right.so
+
+    pub reached-held : IsHeld here vector
+    reached-held = held-there right.of right.names right.world right.so
+
+    -- a value of the right form has its place
+    pub reached-row : (c : code.Value) (index : ℕ) → index ≡ index_of known.form r.place → IsOfForm known.form c → HasRow (shown_at here vector) index c
+    reached-row c index is fits =
+        let s = so right.of right.names right.world right.so in
+        let row = known-row here right.of right.names known.vector s.id known
+        (there right.of right.names right.world right.so) s.is at r.place r.place_is c fits in
+        subst (λ (n : ℕ). HasRow (shown_at here n) index c) r.vector_is (subst (λ (n : ℕ). HasRow (shown_at here known.vector) n c) (sym is) row)
+
+    pub number-below : is_number_form known.form ≡ true → 2 + r.place < (header_at here vector).nums
+    number-below row = nums_below here vector (2 + r.place) h reached-held
+        (subst (λ (n : ℕ). 2 + r.place < length (shown_at here n).nums) r.vector_is
+        (number-placed here known.vector (2 + r.place) known.form row
+        (subst (HasPlace (shown_at here known.vector) known.form) (number-index known.form r.place row) (placed right.of right.names right.world right.so))))
+
+    pub reached-refs : is_number_form known.form ≡ true → 1 ≡ (header_at here vector).refs
+    reached-refs row =
+        let s = so right.of right.names right.world right.so in
+        let t = there right.of right.names right.world right.so in
+        let one = known-refs here right.of right.names known.vector s.id known t s.is row in
+        let count = (shown-counts here known.vector h t.held).0 in
+        subst (λ (n : ℕ). 1 ≡ (header_at here n).refs) r.vector_is (omega (arith, one, count))
+
+    pub reference-below : is_number_form known.form ≡ false → 1 + r.place < (header_at here vector).refs
+    reference-below row = refs_below here vector (1 + r.place) h reached-held
+        (subst (λ (n : ℕ). 1 + r.place < length (shown_at here n).refs) r.vector_is
+        (reference-placed here known.vector (1 + r.place) known.form row
+        (subst (HasPlace (shown_at here known.vector) known.form) (reference-index known.form r.place row)
+        (placed right.of right.names right.world right.so))))

@@ -1,0 +1,390 @@
+-- Scopes of a typed heap: what their names hold, what a new value of a name leaves, and a new scope.
+use Rattle.std.proofs.Common.{◌≡◌, ◌⊎◌, ℕ, zero, suc, pos, true, false, List, [], ◌∷◌, ◌++◌, map, length, set, Option, Some, inl, inr, refl, sym, ap, ◌∙◌, subst, arith}
+use Rattle.std.specs.Prelude.{codes}
+use Rattle.ps_base.specs.TyView.{TyView}
+use Rattle.ps_base.specs.TyView as types
+use Rattle.ps_type_text.specs.Texts.{Field, class_text, IsNamed}
+use Rattle.text_forms.specs.declared.forms.Form.{Form}
+use Rattle.text_forms.specs.Classes.{form_of_type, form_of_field}
+use Rattle.text_forms.specs.Forms.{forms_of, form_in}
+use Rattle.text_forms.proofs.ClassForms.{class-told}
+use Rattle.ps_typing.specs.WellTyped.{At, IsOfType}
+use Rattle.ps_meaning.specs.Values.{Value, Num, Flag, Text, Nil, Pointer, Vector, Procedure, as_written, Nothing}
+use Rattle.ps_meaning.specs.Objects.{Heap, Object, Scope, object_at, with_object, with_new, new_number, value_at, kept_as}
+use Rattle.ps_meaning.specs.Scopes.{first_value, new_scope, scope_at, parent_in, names_in, scope_out, name_in, with_name_in, with_name}
+use Rattle.ps_meaning.specs.Meaning.{kept_name, with_kept_name}
+use Rattle.ps_soundness.specs.Shapes.{IsOf, is_given, HasValue, HaveValues, IsFront, IsScopeAt, AreScopes, AreNames, IsTypedHeap, StayGiven, Grows}
+use Rattle.ps_soundness.proofs.Telling.{Told}
+use Rattle.ps_soundness.proofs.Growing.{grows_new, grows_set, at_new, typed_new, typed_with, of_kept, names_kept, scopes_kept}
+use Rattle.ps_soundness.proofs.Fields.{form_at, kept_by_type}
+
+-- Names of the types of the first ones of others.
+pub front_less : (fields : List Field) (next : Field) (whole : List Field) → IsFront (fields ++ next ∷ []) whole → IsFront fields whole
+front_less [] next whole h = tt
+front_less (field ∷ fields) next [] h = absurd h
+front_less (field ∷ fields) next (other ∷ others) h = (h.0, front_less fields next others h.1)
+
+pub front_more : (fields : List Field) (next : Field) (whole : List Field) → IsFront fields whole → At (IsOfType next.ty) whole (length fields) →
+    IsFront (fields ++ next ∷ []) whole
+front_more [] next [] h at = absurd at
+front_more [] next (other ∷ others) h (inl at) = (sym at.1, tt)
+front_more [] next (other ∷ others) h (inr at) = absurd (let e = at.1 in omega arith)
+front_more (field ∷ fields) next [] h at = absurd h
+front_more (field ∷ fields) next (other ∷ others) h (inl at) = absurd (let e = at.0 in omega arith)
+front_more (field ∷ fields) next (other ∷ others) h (inr (before, e, at)) =
+    (h.0, front_more fields next others h.1 (subst (At (IsOfType next.ty) others) (let same : before ≡ length fields = omega arith in same) at))
+
+pub front_at : (fields whole : List Field) (position : ℕ) (ty : TyView) → IsFront fields whole → At (IsOfType ty) fields position →
+    At (IsOfType ty) whole position
+front_at [] whole position ty front h = absurd h
+front_at (field ∷ fields) [] position ty front h = absurd front
+front_at (field ∷ fields) (other ∷ others) position ty front (inl h) = inl (h.0, sym front.0 ∙ h.1)
+front_at (field ∷ fields) (other ∷ others) position ty front (inr (before, e, h)) = inr (before, e, front_at fields others before ty front.1 h)
+
+-- What a name holds: a value of its type, or what it held at first.
+abbrev pub Holds : Heap → TyView → Value → Type 0
+Holds heap ty v = IsOf heap ty v ⊎ (v ≡ first_value (form_of_type ty))
+
+nil_given : (v : Value) → is_given v ≡ true → v ≡ Nil → ⊥
+nil_given v h e = let given : is_given Nil ≡ true = ap is_given (sym e) ∙ h in cc
+
+-- where it has its value, this is one of its type
+value_of : (heap : Heap) (ty : TyView) (v : Value) → Holds heap ty v → HasValue ty v → IsOf heap ty v
+value_of heap ty v (inl is) h = is
+value_of heap types.Int v (inr e) h = subst (IsOf heap types.Int) (sym e) refl
+value_of heap types.Bool v (inr e) h = subst (IsOf heap types.Bool) (sym e) tt
+value_of heap types.Pntr v (inr e) h = subst (IsOf heap types.Pntr) (sym e) tt
+value_of heap types.Str v (inr e) h = absurd (nil_given v h e)
+value_of heap types.Void v (inr e) h = absurd (nil_given v h e)
+value_of heap (types.Vector element) v (inr e) h = absurd (nil_given v h e)
+value_of heap (types.Proc parameters gives) v (inr e) h = absurd (nil_given v h e)
+
+-- and a value of its type is one that it has
+pub has_value : (heap : Heap) (ty : TyView) (v : Value) → IsOf heap ty v → HasValue ty v
+has_value heap types.Int v h = tt
+has_value heap types.Bool v h = tt
+has_value heap types.Pntr v h = tt
+has_value heap types.Str (Text bytes) h = refl
+has_value heap types.Str v h = absurd h
+has_value heap types.Void Nothing h = refl
+has_value heap types.Void v h = absurd h
+has_value heap (types.Vector element) (Vector id) h = refl
+has_value heap (types.Vector element) v h = absurd h
+has_value heap (types.Proc parameters gives) (Procedure (as_written of) scope) h = refl
+has_value heap (types.Proc parameters gives) v h = absurd h
+
+-- a value that is given gives way to one only
+given_first : (ty : TyView) (v : Value) → v ≡ first_value (form_of_type ty) → is_given v ≡ true → ⊥
+given_first types.Int v e h = let given : is_given (Num (pos 0)) ≡ true = ap is_given (sym e) ∙ h in cc
+given_first types.Bool v e h = let given : is_given (Flag false) ≡ true = ap is_given (sym e) ∙ h in cc
+given_first types.Str v e h = nil_given v h e
+given_first types.Pntr v e h = nil_given v h e
+given_first types.Void v e h = nil_given v h e
+given_first (types.Vector element) v e h = nil_given v h e
+given_first (types.Proc parameters gives) v e h = nil_given v h e
+
+-- a value that a name may have takes the place of a given one
+given_as : (heap : Heap) (ty : TyView) (old v : Value) → Holds heap ty old → HasValue ty v → is_given old ≡ true → is_given v ≡ true
+given_as heap ty old v (inr e) has given = absurd (given_first ty old e given)
+given_as heap types.Int (Num z) v (inl h) has given = absurd cc
+given_as heap types.Int old v (inl h) has given = absurd h
+given_as heap types.Bool (Flag b) v (inl h) has given = absurd cc
+given_as heap types.Bool old v (inl h) has given = absurd h
+given_as heap types.Pntr Nil v (inl h) has given = absurd cc
+given_as heap types.Pntr (Pointer id) v (inl h) has given = absurd cc
+given_as heap types.Pntr old v (inl h) has given = absurd h
+given_as heap types.Str old v (inl h) has given = has
+given_as heap types.Void old v (inl h) has given = has
+given_as heap (types.Vector element) old v (inl h) has given = has
+given_as heap (types.Proc parameters gives) old v (inl h) has given = has
+
+pub given_then : (heap now : Heap) (ty : TyView) (old v : Value) → Holds heap ty old → IsOf now ty v → is_given old ≡ true → is_given v ≡ true
+given_then heap now ty old v holds is given = given_as heap ty old v holds (has_value now ty v is) given
+
+-- The name at a position.
+name_value : (heap : Heap) (fields whole : List Field) (names : List Value) (position : ℕ) (ty : TyView) → IsFront fields whole →
+    AreNames heap whole names →
+    HaveValues fields names → At (IsOfType ty) fields position → IsOf heap ty (value_at names position)
+name_value heap [] whole names position ty front are have at = absurd at
+name_value heap (field ∷ fields) [] names position ty front are have at = absurd front
+name_value heap (field ∷ fields) (other ∷ others) [] position ty front are have at = absurd are
+name_value heap (field ∷ fields) (other ∷ others) (v ∷ vs) zero ty front are have (inl h) =
+    subst (λ (t : TyView). IsOf heap t v) h.1
+    (value_of heap field.ty v (subst (λ (t : TyView). Holds heap t v) (sym front.0) are.0) have.0)
+name_value heap (field ∷ fields) (other ∷ others) (v ∷ vs) zero ty front are have (inr h) = absurd (let e = h.1 in omega arith)
+name_value heap (field ∷ fields) (other ∷ others) (v ∷ vs) (suc position) ty front are have (inl h) = absurd (let e = h.0 in omega arith)
+name_value heap (field ∷ fields) (other ∷ others) (v ∷ vs) (suc position) ty front are have (inr (before, e, h)) =
+    name_value heap fields others vs position ty front.1 are.1 have.1
+    (subst (At (IsOfType ty) fields) (let same : before ≡ position = omega arith in same) h)
+
+pub name_holds : (heap : Heap) (whole : List Field) (names : List Value) (position : ℕ) (ty : TyView) → AreNames heap whole names →
+    At (IsOfType ty) whole position → Holds heap ty (value_at names position)
+name_holds heap [] names position ty are at = absurd at
+name_holds heap (field ∷ fields) [] position ty are at = absurd are
+name_holds heap (field ∷ fields) (v ∷ vs) zero ty are (inl h) = subst (λ (t : TyView). Holds heap t v) h.1 are.0
+name_holds heap (field ∷ fields) (v ∷ vs) zero ty are (inr h) = absurd (let e = h.1 in omega arith)
+name_holds heap (field ∷ fields) (v ∷ vs) (suc position) ty are (inl h) = absurd (let e = h.0 in omega arith)
+name_holds heap (field ∷ fields) (v ∷ vs) (suc position) ty are (inr (before, e, h)) =
+    name_holds heap fields vs position ty are.1 (subst (At (IsOfType ty) fields) (let same : before ≡ position = omega arith in same) h)
+
+names_set : (heap : Heap) (whole : List Field) (names : List Value) (position : ℕ) (ty : TyView) (v : Value) → AreNames heap whole names →
+    At (IsOfType ty) whole position → IsOf heap ty v → AreNames heap whole (set names position v)
+names_set heap [] names position ty v are at is = absurd at
+names_set heap (field ∷ fields) [] position ty v are at is = absurd are
+names_set heap (field ∷ fields) (old ∷ vs) zero ty v are (inl h) is = (inl (subst (λ (t : TyView). IsOf heap t v) (sym h.1) is), are.1)
+names_set heap (field ∷ fields) (old ∷ vs) zero ty v are (inr h) is = absurd (let e = h.1 in omega arith)
+names_set heap (field ∷ fields) (old ∷ vs) (suc position) ty v are (inl h) is = absurd (let e = h.0 in omega arith)
+names_set heap (field ∷ fields) (old ∷ vs) (suc position) ty v are (inr (before, e, h)) is =
+    (are.0, names_set heap fields vs position ty v are.1 (subst (At (IsOfType ty) fields) (let same : before ≡ position = omega arith in same) h) is)
+
+stay_same : (names : List Value) → StayGiven names names
+stay_same [] = tt
+stay_same (v ∷ vs) = (λ e. e, stay_same vs)
+
+stay_set : (names : List Value) (position : ℕ) (v : Value) → (is_given (value_at names position) ≡ true → is_given v ≡ true) →
+    StayGiven names (set names position v)
+stay_set [] position v h = tt
+stay_set (old ∷ vs) zero v h = (h, stay_same vs)
+stay_set (old ∷ vs) (suc position) v h = (λ e. e, stay_set vs position v h)
+
+-- the next name has its value
+have_next : (heap : Heap) (fields whole : List Field) (next : Field) (names : List Value) (v : Value) → IsFront (fields ++ next ∷ []) whole →
+    AreNames heap whole names → HaveValues fields names → HasValue next.ty v → HaveValues (fields ++ next ∷ []) (set names (length fields) v)
+have_next heap [] [] next names v front are have h = absurd front
+have_next heap [] (other ∷ others) next [] v front are have h = absurd are
+have_next heap [] (other ∷ others) next (old ∷ vs) v front are have h = (h, tt)
+have_next heap (field ∷ fields) [] next names v front are have h = absurd front
+have_next heap (field ∷ fields) (other ∷ others) next [] v front are have h = absurd are
+have_next heap (field ∷ fields) (other ∷ others) next (old ∷ vs) v front are have h =
+    (have.0, have_next heap fields others next vs v front.1 are.1 have.1 h)
+
+have_less : (fields : List Field) (next : Field) (names : List Value) → HaveValues (fields ++ next ∷ []) names → HaveValues fields names
+have_less [] next names h = tt
+have_less (field ∷ fields) next [] h = absurd h
+have_less (field ∷ fields) next (v ∷ vs) h = (h.0, have_less fields next vs h.1)
+
+-- a scope with all of these names, so many levels out from another one
+pub record IsFound (heap : Heap) (scope : Option ℕ) (up : ℕ) (whole : List Field) (names : List Value) : Type 0 where
+  pub id : ℕ
+  pub out : scope_out heap scope up ≡ Some id
+  pub parent : Option ℕ
+  pub is : object_at heap id ≡ Some (Scope (class_text (codes "scope") whole) parent names)
+  pub named : IsNamed (codes "scope") whole
+
+-- the name at a place
+pub record IsName (heap : Heap) (scope : Option ℕ) (up position : ℕ) (ty : TyView) : Type 0 where
+  pub whole : List Field
+  pub names : List Value
+  pub at_scope : IsFound heap scope up whole names
+  pub fields : List Field
+  pub front : IsFront fields whole
+  pub have : HaveValues fields names
+  pub at : At (IsOfType ty) fields position
+
+pub found : (heap : Heap) (wholes scopes : List (List Field)) (scope : Option ℕ) (up position : ℕ) (ty : TyView) →
+    At (λ (s : List Field). At (IsOfType ty) s position) scopes up → AreScopes heap scope wholes scopes → IsName heap scope up position ty
+unfolding scope_out
+found heap wholes [] scope up position ty at h = absurd at
+found heap [] (fields ∷ scopes) scope up position ty at h = absurd h
+found heap (whole ∷ wholes) (fields ∷ scopes) scope zero position ty (inl at) (s, rest) = record {
+  whole = whole;
+  names = s.names;
+  at_scope = record { id = s.id; out = s.scope_is; parent = s.parent; is = s.is; named = s.named };
+  fields = fields;
+  front = s.front;
+  have = s.have;
+  at = at.1;
+}
+found heap (whole ∷ wholes) (fields ∷ scopes) scope zero position ty (inr at) h = absurd (let e = at.1 in omega arith)
+found heap (whole ∷ wholes) (fields ∷ scopes) scope (suc up) position ty (inl at) h = absurd (let e = at.0 in omega arith)
+found heap (whole ∷ wholes) (fields ∷ scopes) scope (suc up) position ty (inr (before, e, at)) (s, rest) =
+    let further = found heap wholes scopes s.parent up position ty
+    (subst (At (λ (f : List Field). At (IsOfType ty) f position) scopes) (let same : before ≡ up = omega arith in same) at) rest in
+    let next : parent_in (scope_at heap scope) ≡ s.parent = ap (λ (o : Option ℕ). parent_in (scope_at heap o)) s.scope_is ∙ ap parent_in s.is in
+    let there = further.at_scope in
+    record {
+      whole = further.whole;
+      names = further.names;
+      at_scope = record {
+        id = there.id;
+        out = ap (λ (o : Option ℕ). scope_out heap o up) next ∙ there.out;
+        parent = there.parent;
+        is = there.is;
+        named = there.named;
+      };
+      fields = further.fields;
+      front = further.front;
+      have = further.have;
+      at = further.at;
+    }
+
+-- the names of a scope of a typed heap
+names_are : (told : Told) (heap : Heap) (scope : Option ℕ) (up : ℕ) (whole : List Field) (names : List Value) → IsTypedHeap heap →
+    IsFound heap scope up whole names → AreNames heap whole names
+names_are told heap scope up whole names typed f =
+    let t = typed f.id (Scope (class_text (codes "scope") whole) f.parent names) f.is in
+    let same = told.classes (codes "scope") (codes "scope") whole t.fields f.named t.named t.text_is in
+    subst (λ (fields : List Field). AreNames heap fields names) (sym same.1) t.are
+
+-- what is read
+pub name_read : (told : Told) (heap : Heap) (scope : Option ℕ) (up position : ℕ) (ty : TyView) → IsTypedHeap heap →
+    IsName heap scope up position ty → IsOf heap ty (kept_name heap scope up position)
+unfolding name_in
+name_read told heap scope up position ty typed n =
+    let s = n.at_scope in
+    let is : name_in heap (scope_out heap scope up) position ≡ value_at n.names position =
+    ap (λ (o : Option ℕ). name_in heap o position) s.out ∙ ap (λ (o : Option Object). value_at (names_in o) position) s.is in
+    subst (IsOf heap ty) (sym is)
+    (name_value heap n.fields n.whole n.names position ty n.front (names_are told heap scope up n.whole n.names typed s) n.have n.at)
+
+-- what is written: the scope with another value of the name
+abbrev pub after_set : (heap : Heap) (scope : Option ℕ) (up : ℕ) (whole : List Field) (names : List Value) → IsFound heap scope up whole names →
+    ℕ → Value → Heap
+after_set heap scope up whole names f position v =
+    with_object heap f.id (Scope (class_text (codes "scope") whole) f.parent (set names position v))
+
+pub set_is : (heap : Heap) (scope : Option ℕ) (up position : ℕ) (whole : List Field) (names : List Value) (ty : TyView) (v : Value)
+    (f : IsFound heap scope up whole names) → At (IsOfType ty) whole position → kept_as (Some (form_of_type ty)) v ≡ v →
+    with_kept_name heap scope up position v ≡ after_set heap scope up whole names f position v
+unfolding with_name
+set_is heap scope up position whole names ty v f at kept =
+    let text = class_text (codes "scope") whole in
+    let form_is : form_in (forms_of text) position ≡ Some (form_of_type ty) =
+    ap (λ (forms : List Form). form_in forms position) (class-told (codes "scope") whole f.named) ∙ form_at whole position ty at in
+    ap (λ (o : Option ℕ). with_name heap o position v) f.out
+    ∙ ap (λ (o : Option Object). with_name_in heap f.id o position v) f.is
+    ∙ ap (λ (w : Value). with_object heap f.id (Scope text f.parent (set names position w)))
+    (ap (λ (form : Option Form). kept_as form v) form_is ∙ kept)
+
+-- it leaves the heap typed, and grown
+pub set_grows : (heap : Heap) (scope : Option ℕ) (up position : ℕ) (whole : List Field) (names : List Value) (v : Value)
+    (f : IsFound heap scope up whole names) → (is_given (value_at names position) ≡ true → is_given v ≡ true) →
+    Grows heap (after_set heap scope up whole names f position v)
+set_grows heap scope up position whole names v f held =
+    let text = class_text (codes "scope") whole in
+    grows_set heap f.id (Scope text f.parent names) (Scope text f.parent (set names position v)) f.is (refl, refl, stay_set names position v held)
+
+pub set_typed : (told : Told) (heap : Heap) (scope : Option ℕ) (up position : ℕ) (whole : List Field) (names : List Value) (ty : TyView) (v : Value)
+    (f : IsFound heap scope up whole names) → (is_given (value_at names position) ≡ true → is_given v ≡ true) → IsTypedHeap heap →
+    At (IsOfType ty) whole position → IsOf (after_set heap scope up whole names f position v) ty v →
+    IsTypedHeap (after_set heap scope up whole names f position v)
+set_typed told heap scope up position whole names ty v f held typed at is =
+    let text = class_text (codes "scope") whole in
+    let new = after_set heap scope up whole names f position v in
+    let grows = set_grows heap scope up position whole names v f held in
+    let are = names_kept heap new grows whole names (names_are told heap scope up whole names typed f) in
+    typed_with heap f.id (Scope text f.parent names) (Scope text f.parent (set names position v)) f.is
+    (refl, refl, stay_set names position v held) typed
+    (record { fields = whole; named = f.named; text_is = refl; are = names_set new whole names position ty v are at is })
+
+-- The innermost scope, in which the next name gets its value.
+abbrev pub innermost : {heap : Heap} {scope : Option ℕ} {whole fields : List Field} (s : IsScopeAt heap scope whole fields) →
+    IsFound heap scope 0 whole s.names
+unfolding scope_out
+innermost s = record { id = s.id; out = s.scope_is; parent = s.parent; is = s.is; named = s.named }
+
+-- a name gets another value of its type
+pub name_put : (told : Told) (heap : Heap) (scope : Option ℕ) (up position : ℕ) (ty : TyView) (v : Value) → IsTypedHeap heap →
+    IsName heap scope up position ty → IsOf heap ty v →
+    Grows heap (with_kept_name heap scope up position v) × IsTypedHeap (with_kept_name heap scope up position v)
+name_put told heap scope up position ty v typed n is =
+    let f = n.at_scope in
+    let at = front_at n.fields n.whole position ty n.front n.at in
+    let holds = name_holds heap n.whole n.names position ty (names_are told heap scope up n.whole n.names typed f) at in
+    let held = given_then heap heap ty (value_at n.names position) v holds is in
+    let grows = set_grows heap scope up position n.whole n.names v f held in
+    let new = after_set heap scope up n.whole n.names f position v in
+    subst (λ (h : Heap). Grows heap h × IsTypedHeap h) (sym (set_is heap scope up position n.whole n.names ty v f at (kept_by_type heap ty v is)))
+    (grows, set_typed told heap scope up position n.whole n.names ty v f held typed at (of_kept heap new grows ty v is))
+
+at_set : (heap : Heap) (id : ℕ) (old new : Object) → object_at heap id ≡ Some old → object_at (with_object heap id new) id ≡ Some new
+at_set [] id old new e = absurd cc
+at_set (o ∷ os) zero old new e = refl
+at_set (o ∷ os) (suc id) old new e = at_set os id old new e
+
+-- the next name of the innermost scope gets its value, which may be a procedure that names it
+pub name_declared : (told : Told) (heap : Heap) (scope : Option ℕ) (whole : List Field) (wholes : List (List Field)) (fields : List Field)
+    (scopes : List (List Field)) (next : Field) (v : Value) → IsTypedHeap heap → AreScopes heap scope (whole ∷ wholes) (fields ∷ scopes) →
+    At (IsOfType next.ty) whole (length fields) → HasValue next.ty v → kept_as (Some (form_of_type next.ty)) v ≡ v →
+    ((new : Heap) → Grows heap new → AreScopes new scope (whole ∷ wholes) ((fields ++ next ∷ []) ∷ scopes) → IsOf new next.ty v) →
+    Grows heap (with_kept_name heap scope 0 (length fields) v) × IsTypedHeap (with_kept_name heap scope 0 (length fields) v)
+    × AreScopes (with_kept_name heap scope 0 (length fields) v) scope (whole ∷ wholes) ((fields ++ next ∷ []) ∷ scopes)
+unfolding innermost
+name_declared told heap scope whole wholes fields scopes next v typed (s, rest) at has kept is =
+    let f = innermost s in
+    let position = length fields in
+    let front = front_more fields next whole s.front at in
+    let text = class_text (codes "scope") whole in
+    let are = names_are told heap scope 0 whole s.names typed f in
+    let held = held_by (name_holds heap whole s.names position next.ty are at) in
+    let grows = set_grows heap scope 0 position whole s.names v f held in
+    let new = after_set heap scope 0 whole s.names f position v in
+    let inner : IsScopeAt new scope whole (fields ++ next ∷ []) = record {
+      id = s.id;
+      scope_is = s.scope_is;
+      parent = s.parent;
+      names = set s.names position v;
+      is = at_set heap s.id (Scope text s.parent s.names) (Scope text s.parent (set s.names position v)) s.is;
+      named = s.named;
+      front = front;
+      have = have_next heap fields whole next s.names v front are s.have has;
+    } in
+    let around : AreScopes new scope (whole ∷ wholes) ((fields ++ next ∷ []) ∷ scopes) =
+    (inner, scopes_kept heap new grows wholes scopes s.parent rest) in
+    let of = is new grows around in
+    subst (λ (h : Heap). Grows heap h × IsTypedHeap h × AreScopes h scope (whole ∷ wholes) ((fields ++ next ∷ []) ∷ scopes))
+    (sym (set_is heap scope 0 position whole s.names next.ty v f at kept))
+    (grows, set_typed told heap scope 0 position whole s.names next.ty v f held typed at of, around)
+  where
+    held_by : Holds heap next.ty (value_at s.names (length fields)) → is_given (value_at s.names (length fields)) ≡ true → is_given v ≡ true
+    held_by holds given = given_as heap next.ty (value_at s.names (length fields)) v holds has given
+
+first_names : (heap : Heap) (fields : List Field) → AreNames heap fields (map first_value (map form_of_field fields))
+first_names heap [] = tt
+first_names heap (field ∷ fields) = (inr refl, first_names heap fields)
+
+-- a new scope: none of its names has had its declaration
+pub scope_made : (heap : Heap) (scope : Option ℕ) (whole : List Field) (wholes scopes : List (List Field)) → IsNamed (codes "scope") whole →
+    IsTypedHeap heap → AreScopes heap scope wholes scopes →
+    IsTypedHeap (with_new heap (new_scope (class_text (codes "scope") whole) scope))
+    × AreScopes (with_new heap (new_scope (class_text (codes "scope") whole) scope)) (Some (new_number heap)) (whole ∷ wholes) ([] ∷ scopes)
+unfolding new_scope
+scope_made heap scope whole wholes scopes named typed stand =
+    let text = class_text (codes "scope") whole in
+    let object = new_scope text scope in
+    let new = with_new heap object in
+    let are = subst (λ (forms : List Form). AreNames heap whole (map first_value forms)) (sym (class-told (codes "scope") whole named))
+    (first_names heap whole) in (
+      typed_new heap object typed (record { fields = whole; named = named; text_is = refl; are = are }),
+      (
+        record {
+          id = new_number heap;
+          scope_is = refl;
+          parent = scope;
+          names = map first_value (forms_of text);
+          is = at_new heap object;
+          named = named;
+          front = tt;
+          have = tt;
+        },
+        scopes_kept heap new (grows_new heap object) wholes scopes scope stand,
+      ),
+    )
+
+-- fewer names are in scope
+pub scopes_less : (heap : Heap) (scope : Option ℕ) (wholes : List (List Field)) (fields : List Field) (next : Field) (scopes : List (List Field)) →
+    AreScopes heap scope wholes ((fields ++ next ∷ []) ∷ scopes) → AreScopes heap scope wholes (fields ∷ scopes)
+scopes_less heap scope [] fields next scopes h = absurd h
+scopes_less heap scope (whole ∷ wholes) fields next scopes (s, rest) = (
+  record {
+    id = s.id;
+    scope_is = s.scope_is;
+    parent = s.parent;
+    names = s.names;
+    is = s.is;
+    named = s.named;
+    front = front_less fields next whole s.front;
+    have = have_less fields next s.names s.have;
+  },
+  rest,
+)
