@@ -1,8 +1,8 @@
-//! A text searched for the first form for procedures, and its program for the first call of the library that isn't built.
+//! The program of a text searched for the first call of the library that isn't built.
 
 use ps_base::LONGEST_TEXT;
 use ps_base::line::Line;
-use ps_built::{first_procedure, first_unbuilt_library};
+use ps_built::first_unbuilt_library;
 use ps_check::check::check;
 use ps_parse::parse;
 use ps_scan::scan;
@@ -27,39 +27,11 @@ fn number(line: Option<Line>) -> Option<u32> {
     }
 }
 
-/// The line of the first form for procedures in a text.
-pub fn procedure_found(alloc: Global, text: &str) -> Result<Option<u32>, Fail> {
-    let rough = parsed(alloc, text.as_bytes())?;
-    Ok(number(first_procedure(&rough)))
-}
-
 /// The line of the first call of the library in the program of a text that isn't built.
 pub fn library_found(alloc: Global, text: &str) -> Result<Option<u32>, Fail> {
     let rough = parsed(alloc, text.as_bytes())?;
     let program = check(alloc, &rough).map_err(|_| "check")?;
     Ok(number(first_unbuilt_library(&program)))
-}
-
-/// Compares the line of the first form for procedures of each text with the one that is wanted.
-pub fn procedures_are_found(
-    rt: &impl Abort,
-    alloc: Global,
-    rows: &[(&str, u32)],
-) -> Result<(), Fail> {
-    for (text, wanted) in rows {
-        let found = procedure_found(alloc, text)?;
-        assert_eq!(rt; found, Some(*wanted), "{text}");
-    }
-    Ok(())
-}
-
-/// No form of these texts is for procedures.
-pub fn no_procedures_are_found(rt: &impl Abort, alloc: Global, texts: &[&str]) -> Result<(), Fail> {
-    for text in texts {
-        let found = procedure_found(alloc, text)?;
-        assert_eq!(rt; found, None, "{text}");
-    }
-    Ok(())
 }
 
 /// Compares the line of the first call of each program that isn't built with the one that is wanted.

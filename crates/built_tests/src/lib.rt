@@ -1,4 +1,4 @@
-//! Tests of the search for what isn't built yet: texts, each with the line of the first form or call that isn't.
+//! Tests of the search for what isn't built yet: texts, each with the line of the first call that isn't.
 #![tactic(auto)]
 
 #[cfg(test)]
@@ -7,7 +7,3 @@ mod finding;
 mod library;
 #[cfg(test)]
 mod long;
-#[cfg(test)]
-mod procedures;
-#[cfg(test)]
-mod without;

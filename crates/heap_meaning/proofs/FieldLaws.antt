@@ -46,7 +46,7 @@ of-class seen heap pair n id it class one s p there is = of b.object b.means (su
           stands = subst (λ (t : List ℕ). IsStructure seen pair it t fields) same like;
         }
     of (Elements ty low elements) means like = let bad : kind.Vector ≡ kind.Structure = sym like.rows.kind_is ∙ is.kind in absurd (cc)
-    of (Scope text parent names) means like = absurd like
+    of (Scope text parent names) means like = let bad : kind.Scope ≡ kind.Structure = sym like.kind_is ∙ is.kind in absurd (cc)
 
 -- an object of another class, or of none
 pub of-other : (seen : Seen) (heap : Heap) (pair : Pairing) (n : reference.Reference) (id : ℕ) (it : Shown) (class : List ℕ) → IsOne seen → Stands seen heap pair → pair n id → seen n it
@@ -60,7 +60,7 @@ of-other seen heap pair n id it class one s p there other = ap (λ (o : Option O
     of (Structure c fields) like (inl none) = absurd (none like.kind_is)
     of (Structure c fields) like (inr t) = other-text c class (λ e. t.2 (sym (structure-class seen pair it c t.0 fields one like t.1) ∙ e))
     of (Elements ty low elements) like other = refl
-    of (Scope text parent names) like other = absurd like
+    of (Scope text parent names) like other = refl
 
 -- What `is` answers.
 pub is-class : (seen : Seen) (heap : Heap) (pair : Pairing) (n : reference.Reference) (id : ℕ) (it : Shown) (class : List ℕ) → IsOne seen → Stands seen heap pair → pair n id → seen n it

@@ -5,3 +5,4 @@ pub mod FieldLaws
 pub mod GivenLaws
 pub mod VectorLaws
 pub mod PairedLaws
+pub mod ScopeLaws

@@ -1,14 +1,13 @@
 -- A row of names through readings, writes and new objects.
-use Rattle.std.proofs.Common.{arith, inl, inr, ◌⊎◌, ◌≡◌, ◌≢◌, ℕ, zero, suc, List, [], ◌∷◌, length, length-append, refl, sym, ap, ◌∙◌, Some}
+use Rattle.std.proofs.Common.{arith, inl, inr, ◌⊎◌, ◌≡◌, ℕ, zero, suc, List, [], ◌∷◌, length, length-append, refl, sym, ap, ◌∙◌, Some}
 use Rattle.std.proofs.lemmas.List.{length-set}
 use Rattle.obj_layout.specs.declared.reference.Reference as reference
 use Rattle.swizzle.specs.Joint.{Shown}
 use Rattle.swizzle.specs.Changes.{Within, ChangedAt}
-use Rattle.obj_layout.specs.declared.kind.Kind.TheVariants as kind
 use Rattle.ps_meaning.specs.Objects.{Heap, Object, with_object, with_new, new_number}
 use Rattle.heap_meaning.specs.Standing.{Seen, Pairing, IsLike, Stands, IsOne, with_pair}
 use Rattle.heap_meaning.specs.Paired.{name_in, paired, StandsRow, and_name}
-use Rattle.heap_meaning.proofs.StandingLaws.{stands-within, stands-written, stands-made, like-more}
+use Rattle.heap_meaning.proofs.StandingLaws.{IsFixed, stands-within, stands-written, stands-made, like-more}
 
 pub name-before : (names : List reference.Reference) (m n : reference.Reference) (id : ℕ) → name_in names id ≡ Some m → name_in (and_name names n) id ≡ Some m
 name-before [] m n id is = absurd (cc)
@@ -41,7 +40,7 @@ pub row-within : (seen now : Seen) (heap : Heap) (names : List reference.Referen
 row-within seen now heap names grows r = record { stands = stands-within seen now heap (paired names) grows r.stands; long = r.long }
 
 -- A write on both sides: the same row.
-pub row-written : (seen now : Seen) (heap : Heap) (names : List reference.Reference) (n : reference.Reference) (id : ℕ) (it new : Shown) (object : Object) → IsOne seen → StandsRow seen heap names → paired names n id → seen n it → it.kind ≢ kind.Text
+pub row-written : (seen now : Seen) (heap : Heap) (names : List reference.Reference) (n : reference.Reference) (id : ℕ) (it new : Shown) (object : Object) → IsOne seen → StandsRow seen heap names → paired names n id → seen n it → (IsFixed it.kind → ⊥)
     → new.kind ≡ it.kind → ChangedAt seen n new now → IsLike now (paired names) new object → StandsRow now (with_object heap id object) names
 row-written seen now heap names n id it new object one r p there other same_kind c like = record {
   stands = stands-written seen now heap (paired names) n id it new object one r.stands p there other same_kind c like;

@@ -60,7 +60,7 @@ are-words seen pair [] (n ∷ ns) words vs a = absurd a
 
 -- Objects without damage.
 
-shape : (it : Shown) (of : Kind) (refs nums : ℕ) → it.kind ≡ of → length it.refs ≡ refs → length it.nums ≡ nums → shape_damage it of refs nums ≡ None
+pub shape : (it : Shown) (of : Kind) (refs nums : ℕ) → it.kind ≡ of → length it.refs ≡ refs → length it.nums ≡ nums → shape_damage it of refs nums ≡ None
 unfolding shape_damage
 shape it of refs nums k r n = simp (eq-eqb (kind_number it.kind) (kind_number of) (ap kind_number k), eq-eqb (length it.refs) refs r, eq-eqb (length it.nums) nums n) refl
 

@@ -1,5 +1,5 @@
 -- The pairing goes through readings, writes and new objects.
-use Rattle.std.proofs.Common.{arith, inl, inr, ◌≡◌, ◌≢◌, ℕ, zero, suc, ◌+◌, List, [], ◌∷◌, ◌++◌, length, get_or, set, slice_index, slice_set, replicate, refl, sym, ap, ◌∙◌, subst, Some, None}
+use Rattle.std.proofs.Common.{arith, inl, inr, ◌≡◌, ◌≢◌, ℕ, zero, suc, ◌+◌, List, [], ◌∷◌, ◌++◌, length, get_or, set, slice_index, slice_set, replicate, refl, sym, ap, ◌∙◌, subst, Option, Some, None}
 use Rattle.std.proofs.lemmas.Bool.{cases_eq}
 use Rattle.obj_layout.specs.declared.kind.Kind.{Kind}
 use Rattle.obj_layout.specs.declared.kind.Kind.TheVariants as kind
@@ -12,18 +12,28 @@ use Rattle.text_forms.specs.declared.forms.Form.{Form}
 use Rattle.text_forms.specs.declared.forms.Form.TheVariants as form
 use Rattle.text_forms.specs.Forms.{forms_of, element_of, form_in, before_in}
 use Rattle.heap_places.specs.Shapes.{IsText}
-use Rattle.ps_meaning.specs.Values.{Value, Num, Flag, Text, Nil, Pointer, Vector, Procedure, Nothing}
+use Rattle.ps_base.specs.CodeUnit as units
+use Rattle.ps_base.specs.CodeUnit.{UnitView, ConstantView, ConstantsView}
+use Rattle.ps_meaning.specs.Values.{Value, Num, Flag, Text, Nil, Pointer, Vector, Procedure, Nothing, as_written, as_compiled}
 use Rattle.ps_meaning.specs.Objects.{Heap, Object, Structure, Elements, Scope, object_at, with_object, with_new, new_number}
-use Rattle.heap_meaning.specs.Standing.{Seen, Pairing, IsKindOf, StandsFor, IsWordOf, AreFor, IsAs, IsLike, Both, Stands, IsOne, with_pair}
+use Rattle.heap_meaning.specs.Units.{IsUnitSeen, AreSeen, IsConstantSeen}
+use Rattle.heap_meaning.specs.Standing.{Seen, Pairing, IsKindOf, StandsForScope, IsClosure, StandsFor, IsWordOf, AreFor, IsAs, IsLike, Both, Stands, IsOne, with_pair}
 
 -- What stands for a value stands for it where more is seen, and where more is paired.
 
 pub text-more : (seen now : Seen) (n : reference.Reference) (bytes : List ℕ) → ((it : Shown) → it.kind ≡ kind.Text → seen n it → now n it) → IsText seen n bytes → IsText now n bytes
 text-more seen now n bytes grows t = record { it = t.it; there = grows t.it t.kind t.there; kind = t.kind; bytes_are = t.bytes_are }
 
--- every text that is seen stays
-abbrev pub Texts : Seen → Seen → Type 0
-Texts seen now = (n : reference.Reference) (it : Shown) → it.kind ≡ kind.Text → seen n it → now n it
+-- objects of this kind are never written: those of fixed, of code, and of closures
+abbrev pub IsFixed : Kind → Type 0
+IsFixed kind.Text = Unit {0}
+IsFixed kind.Code = Unit {0}
+IsFixed kind.Closure = Unit {0}
+IsFixed _ = ⊥
+
+-- every such object that is seen stays
+abbrev pub Fixed : Seen → Seen → Type 0
+Fixed seen now = (n : reference.Reference) (it : Shown) → IsFixed it.kind → seen n it → now n it
 
 -- every name that is seen stays, with the kind of its object
 abbrev pub Kinds : Seen → Seen → Type 0
@@ -36,35 +46,79 @@ kind-more seen now n of kinds k = subst (IsKindOf now n) k.kind_is (kinds n k.it
 abbrev pub Pairs : Pairing → Pairing → Type 0
 Pairs pair now = (n : reference.Reference) (id : ℕ) → pair n id → now n id
 
-pub stands-more : (seen now : Seen) (pair more : Pairing) (n : reference.Reference) (v : Value) → Texts seen now → Kinds seen now → Pairs pair more → StandsFor seen pair n v → StandsFor now more n v
-stands-more seen now pair more n Nil texts kinds pairs s = s
-stands-more seen now pair more n (Text bytes) texts kinds pairs s = text-more seen now n bytes (λ it k. texts n it k) s
-stands-more seen now pair more n (Pointer id) texts kinds pairs s = (pairs n id s.0, kind-more seen now n kind.Structure kinds s.1)
-stands-more seen now pair more n (Vector id) texts kinds pairs s = (pairs n id s.0, kind-more seen now n kind.Vector kinds s.1)
-stands-more seen now pair more n (Num z) texts kinds pairs s = absurd s
-stands-more seen now pair more n (Flag b) texts kinds pairs s = absurd s
-stands-more seen now pair more n (Procedure of scope) texts kinds pairs s = absurd s
-stands-more seen now pair more n Nothing texts kinds pairs s = absurd s
+-- a text
+pub fixed-text : (seen now : Seen) (n : reference.Reference) (bytes : List ℕ) → Fixed seen now → IsText seen n bytes → IsText now n bytes
+fixed-text seen now n bytes fixed t = text-more seen now n bytes (λ it k. fixed n it (subst IsFixed (sym k) tt)) t
 
-pub are-more : (seen now : Seen) (pair more : Pairing) (forms : List Form) (ns : List reference.Reference) (words : List ℕ) (vs : List Value) → Texts seen now → Kinds seen now → Pairs pair more
+-- a unit of code
+mutual
+  unfolding IsUnitSeen AreSeen IsConstantSeen
+
+  pub unit-more : (seen now : Seen) (n : reference.Reference) (u : UnitView) → Fixed seen now → IsUnitSeen seen n u → IsUnitSeen now n u
+  unit-more seen now n (units.unit code cs frame) fixed i =
+      (i.0, fixed n i.0 (subst IsFixed (sym i.2.kind_is) tt) i.1, i.2, constants-more seen now i.0.refs cs fixed i.3)
+
+  constants-more : (seen now : Seen) (ns : List reference.Reference) (cs : ConstantsView) → Fixed seen now → AreSeen seen ns cs → AreSeen now ns cs
+  constants-more seen now [] units.no_constants fixed i = tt
+  constants-more seen now (n ∷ ns) units.no_constants fixed i = absurd i
+  constants-more seen now [] (units.constant_then c cs) fixed i = absurd i
+  constants-more seen now (n ∷ ns) (units.constant_then c cs) fixed i = (constant-more seen now n c fixed i.0, constants-more seen now ns cs fixed i.1)
+
+  constant-more : (seen now : Seen) (n : reference.Reference) (c : ConstantView) → Fixed seen now → IsConstantSeen seen n c → IsConstantSeen now n c
+  constant-more seen now n (units.text bytes) fixed i = fixed-text seen now n bytes fixed i
+  constant-more seen now n (units.literal u) fixed i = unit-more seen now n u fixed i
+
+pub scope-more : (seen now : Seen) (pair more : Pairing) (n : reference.Reference) (scope : Option ℕ) → Kinds seen now → Pairs pair more → StandsForScope seen pair n scope → StandsForScope now more n scope
+scope-more seen now pair more n None kinds pairs s = s
+scope-more seen now pair more n (Some id) kinds pairs s = (pairs n id s.0, kind-more seen now n kind.Scope kinds s.1)
+
+pub closure-more : (seen now : Seen) (pair more : Pairing) (it : Shown) (of : UnitView) (scope : Option ℕ) → Fixed seen now → Kinds seen now → Pairs pair more → IsClosure seen pair it of scope → IsClosure now more it of scope
+closure-more seen now pair more it of scope fixed kinds pairs c = record {
+  kind_is = c.kind_is;
+  code_name = c.code_name;
+  scope_name = c.scope_name;
+  home = c.home;
+  refs = c.refs;
+  nums = c.nums;
+  is_unit = unit-more seen now c.code_name of fixed c.is_unit;
+  fit = c.fit;
+  is_scope = scope-more seen now pair more c.scope_name scope kinds pairs c.is_scope;
+}
+
+pub stands-more : (seen now : Seen) (pair more : Pairing) (n : reference.Reference) (v : Value) → Fixed seen now → Kinds seen now → Pairs pair more → StandsFor seen pair n v → StandsFor now more n v
+stands-more seen now pair more n Nil fixed kinds pairs s = s
+stands-more seen now pair more n (Text bytes) fixed kinds pairs s = fixed-text seen now n bytes fixed s
+stands-more seen now pair more n (Pointer id) fixed kinds pairs s = (pairs n id s.0, kind-more seen now n kind.Structure kinds s.1)
+stands-more seen now pair more n (Vector id) fixed kinds pairs s = (pairs n id s.0, kind-more seen now n kind.Vector kinds s.1)
+stands-more seen now pair more n (Num z) fixed kinds pairs s = absurd s
+stands-more seen now pair more n (Flag b) fixed kinds pairs s = absurd s
+stands-more seen now pair more n (Procedure (as_written of) scope) fixed kinds pairs s = absurd s
+stands-more seen now pair more n (Procedure (as_compiled of) scope) fixed kinds pairs s = record {
+  it = s.it;
+  there = fixed n s.it (subst IsFixed (sym s.is.kind_is) tt) s.there;
+  is = closure-more seen now pair more s.it of scope fixed kinds pairs s.is;
+}
+stands-more seen now pair more n Nothing fixed kinds pairs s = absurd s
+
+pub are-more : (seen now : Seen) (pair more : Pairing) (forms : List Form) (ns : List reference.Reference) (words : List ℕ) (vs : List Value) → Fixed seen now → Kinds seen now → Pairs pair more
     → AreFor seen pair forms ns words vs → AreFor now more forms ns words vs
-are-more seen now pair more (form.Reference ∷ forms) (n ∷ ns) words (v ∷ vs) texts kinds pairs a = (stands-more seen now pair more n v texts kinds pairs a.0, are-more seen now pair more forms ns words vs texts kinds pairs a.1)
-are-more seen now pair more (form.Reference ∷ forms) (n ∷ ns) words [] texts kinds pairs a = absurd a
-are-more seen now pair more (form.Reference ∷ forms) [] words vs texts kinds pairs a = absurd a
-are-more seen now pair more (form.Number ∷ forms) ns (word ∷ words) (v ∷ vs) texts kinds pairs a = (a.0, are-more seen now pair more forms ns words vs texts kinds pairs a.1)
-are-more seen now pair more (form.Number ∷ forms) ns (word ∷ words) [] texts kinds pairs a = absurd a
-are-more seen now pair more (form.Number ∷ forms) ns [] vs texts kinds pairs a = absurd a
-are-more seen now pair more (form.Flag ∷ forms) ns (word ∷ words) (v ∷ vs) texts kinds pairs a = (a.0, are-more seen now pair more forms ns words vs texts kinds pairs a.1)
-are-more seen now pair more (form.Flag ∷ forms) ns (word ∷ words) [] texts kinds pairs a = absurd a
-are-more seen now pair more (form.Flag ∷ forms) ns [] vs texts kinds pairs a = absurd a
-are-more seen now pair more [] [] [] [] texts kinds pairs a = tt
-are-more seen now pair more [] [] [] (v ∷ vs) texts kinds pairs a = absurd a
-are-more seen now pair more [] [] (word ∷ words) vs texts kinds pairs a = absurd a
-are-more seen now pair more [] (n ∷ ns) words vs texts kinds pairs a = absurd a
+are-more seen now pair more (form.Reference ∷ forms) (n ∷ ns) words (v ∷ vs) fixed kinds pairs a = (stands-more seen now pair more n v fixed kinds pairs a.0, are-more seen now pair more forms ns words vs fixed kinds pairs a.1)
+are-more seen now pair more (form.Reference ∷ forms) (n ∷ ns) words [] fixed kinds pairs a = absurd a
+are-more seen now pair more (form.Reference ∷ forms) [] words vs fixed kinds pairs a = absurd a
+are-more seen now pair more (form.Number ∷ forms) ns (word ∷ words) (v ∷ vs) fixed kinds pairs a = (a.0, are-more seen now pair more forms ns words vs fixed kinds pairs a.1)
+are-more seen now pair more (form.Number ∷ forms) ns (word ∷ words) [] fixed kinds pairs a = absurd a
+are-more seen now pair more (form.Number ∷ forms) ns [] vs fixed kinds pairs a = absurd a
+are-more seen now pair more (form.Flag ∷ forms) ns (word ∷ words) (v ∷ vs) fixed kinds pairs a = (a.0, are-more seen now pair more forms ns words vs fixed kinds pairs a.1)
+are-more seen now pair more (form.Flag ∷ forms) ns (word ∷ words) [] fixed kinds pairs a = absurd a
+are-more seen now pair more (form.Flag ∷ forms) ns [] vs fixed kinds pairs a = absurd a
+are-more seen now pair more [] [] [] [] fixed kinds pairs a = tt
+are-more seen now pair more [] [] [] (v ∷ vs) fixed kinds pairs a = absurd a
+are-more seen now pair more [] [] (word ∷ words) vs fixed kinds pairs a = absurd a
+are-more seen now pair more [] (n ∷ ns) words vs fixed kinds pairs a = absurd a
 
-pub as-more : (seen now : Seen) (pair more : Pairing) (it : Shown) (of : Kind) (text : List ℕ) (first : ℕ → List ℕ) (forms : List Form) (vs : List Value) → Texts seen now → Kinds seen now → Pairs pair more
+pub as-more : (seen now : Seen) (pair more : Pairing) (it : Shown) (of : Kind) (text : List ℕ) (first : ℕ → List ℕ) (forms : List Form) (vs : List Value) → Fixed seen now → Kinds seen now → Pairs pair more
     → IsAs seen pair it of text first forms vs → IsAs now more it of text first forms vs
-as-more seen now pair more it of text first forms vs texts kinds pairs a = record {
+as-more seen now pair more it of text first forms vs fixed kinds pairs a = record {
   kind_is = a.kind_is;
   text_name = a.text_name;
   home = a.home;
@@ -72,19 +126,31 @@ as-more seen now pair more it of text first forms vs texts kinds pairs a = recor
   words = a.words;
   refs = a.refs;
   nums = a.nums;
-  is_text = text-more seen now a.text_name text (λ it k. texts a.text_name it k) a.is_text;
-  are = are-more seen now pair more forms a.names a.words vs texts kinds pairs a.are;
+  is_text = fixed-text seen now a.text_name text fixed a.is_text;
+  are = are-more seen now pair more forms a.names a.words vs fixed kinds pairs a.are;
 }
 
-pub like-more : (seen now : Seen) (pair more : Pairing) (it : Shown) (object : Object) → Texts seen now → Kinds seen now → Pairs pair more → IsLike seen pair it object → IsLike now more it object
-like-more seen now pair more it (Structure class fields) texts kinds pairs l = as-more seen now pair more it kind.Structure class (λ home. home ∷ []) (forms_of class) fields texts kinds pairs l
-like-more seen now pair more it (Elements ty low elements) texts kinds pairs l = record {
+pub like-more : (seen now : Seen) (pair more : Pairing) (it : Shown) (object : Object) → Fixed seen now → Kinds seen now → Pairs pair more → IsLike seen pair it object → IsLike now more it object
+like-more seen now pair more it (Structure class fields) fixed kinds pairs l = as-more seen now pair more it kind.Structure class (λ home. home ∷ []) (forms_of class) fields fixed kinds pairs l
+like-more seen now pair more it (Elements ty low elements) fixed kinds pairs l = record {
   bound = l.bound;
   bound_is = l.bound_is;
   fits = l.fits;
-  rows = as-more seen now pair more it kind.Vector ty (λ home. home ∷ l.bound ∷ []) (replicate (length elements) (element_of ty)) elements texts kinds pairs l.rows;
+  rows = as-more seen now pair more it kind.Vector ty (λ home. home ∷ l.bound ∷ []) (replicate (length elements) (element_of ty)) elements fixed kinds pairs l.rows;
 }
-like-more seen now pair more it (Scope text parent names) texts kinds pairs l = absurd l
+like-more seen now pair more it (Scope text parent names) fixed kinds pairs l = record {
+  kind_is = l.kind_is;
+  text_name = l.text_name;
+  parent_name = l.parent_name;
+  home = l.home;
+  names = l.names;
+  words = l.words;
+  refs = l.refs;
+  nums = l.nums;
+  is_text = fixed-text seen now l.text_name text fixed l.is_text;
+  is_parent = scope-more seen now pair more l.parent_name parent kinds pairs l.is_parent;
+  are = are-more seen now pair more (forms_of text) l.names l.words names fixed kinds pairs l.are;
+}
 
 -- A reading, and whatever loses no object: the same pairing.
 pub stands-within : (seen now : Seen) (heap : Heap) (pair : Pairing) → Within seen now → Stands seen heap pair → Stands now heap pair
@@ -255,16 +321,16 @@ pub object-none : (heap : Heap) → object_at heap (length heap) ≡ None
 object-none [] = refl
 object-none (o ∷ os) = object-none os
 
--- An object of a structure or of a vector is no text.
-pub no-text : (seen : Seen) (pair : Pairing) (it : Shown) (object : Object) → IsLike seen pair it object → it.kind ≢ kind.Text
-no-text seen pair it (Structure class fields) l = λ e. let bad : kind.Text ≡ kind.Structure = sym e ∙ l.kind_is in absurd (cc)
-no-text seen pair it (Elements ty low elements) l = λ e. let bad : kind.Text ≡ kind.Vector = sym e ∙ l.rows.kind_is in absurd (cc)
-no-text seen pair it (Scope text parent names) l = absurd l
+-- An object that stands for one of the heap may be written.
+pub not-fixed : (seen : Seen) (pair : Pairing) (it : Shown) (object : Object) → IsLike seen pair it object → IsFixed it.kind → ⊥
+not-fixed seen pair it (Structure class fields) l = subst IsFixed l.kind_is
+not-fixed seen pair it (Elements ty low elements) l = subst IsFixed l.rows.kind_is
+not-fixed seen pair it (Scope text parent names) l = subst IsFixed l.kind_is
 
--- where one object that is no text changed, texts stay
-pub texts-changed : (seen now : Seen) (n : reference.Reference) (it new : Shown) → IsOne seen → seen n it → it.kind ≢ kind.Text → ChangedAt seen n new now → Texts seen now
-texts-changed seen now n it new one there other c = λ m t k j.
-    c.stays m t (λ e. other (ap (λ (x : Shown). x.kind) (one n it t there (subst (λ (r : reference.Reference). seen r t) e j)) ∙ k)) j
+-- where one object that may be written changed, those that may not stay
+pub fixed-changed : (seen now : Seen) (n : reference.Reference) (it new : Shown) → IsOne seen → seen n it → (IsFixed it.kind → ⊥) → ChangedAt seen n new now → Fixed seen now
+fixed-changed seen now n it new one there other c = λ m t k j.
+    c.stays m t (λ e. other (subst IsFixed (sym (ap (λ (x : Shown). x.kind) (one n it t there (subst (λ (r : reference.Reference). seen r t) e j)))) k)) j
 
 -- and each name keeps its kind, where the changed one does
 pub kinds-changed : (seen now : Seen) (n : reference.Reference) (it new : Shown) → IsOne seen → seen n it → new.kind ≡ it.kind → ChangedAt seen n new now → Kinds seen now
@@ -277,10 +343,10 @@ kinds-changed seen now n it new one there same c m t j =
     ]
 
 -- A write on both sides: the same pairing.
-pub stands-written : (seen now : Seen) (heap : Heap) (pair : Pairing) (n : reference.Reference) (id : ℕ) (it new : Shown) (object : Object) → IsOne seen → Stands seen heap pair → pair n id → seen n it → it.kind ≢ kind.Text
+pub stands-written : (seen now : Seen) (heap : Heap) (pair : Pairing) (n : reference.Reference) (id : ℕ) (it new : Shown) (object : Object) → IsOne seen → Stands seen heap pair → pair n id → seen n it → (IsFixed it.kind → ⊥)
     → new.kind ≡ it.kind → ChangedAt seen n new now → IsLike now pair new object → Stands now (with_object heap id object) pair
 stands-written seen now heap pair n id it new object one s p there other same_kind c like =
-    let texts = texts-changed seen now n it new one there other c in
+    let fixed = fixed-changed seen now n it new one there other c in
     let kinds = kinds-changed seen now n it new one there same_kind c in
     record {
       both = λ m i q. elim (cases_eq i id) [
@@ -298,7 +364,7 @@ stands-written seen now heap pair n id it new object one s p there other same_ki
               object = b.object;
               there = c.stays m b.it ne b.there;
               means = object-set_other heap id i object apart ∙ b.means;
-              like = like-more seen now pair pair b.it b.object texts kinds (λ m i q. q) b.like;
+              like = like-more seen now pair pair b.it b.object fixed kinds (λ m i q. q) b.like;
             }
       ];
       one_number = s.one_number;
@@ -315,7 +381,7 @@ stands-made seen now heap pair n new object s fresh c like =
     let b = s.both m i p in
     let bad : Some b.object ≡ None = sym b.means ∙ ap (object_at heap) e ∙ object-none heap in absurd (cc) in
     let stays : Within seen now = λ m it j. c.stays m it (λ e. fresh it (subst (λ (r : reference.Reference). seen r it) e j)) j in
-    let texts : Texts seen now = λ m it k j. stays m it j in
+    let fixed : Fixed seen now = λ m it k j. stays m it j in
     let kinds : Kinds seen now = λ m it j. record { it = it; there = stays m it j; kind_is = refl } in
     record {
       both = λ m i q. elim q [
@@ -326,7 +392,7 @@ stands-made seen now heap pair n new object s fresh c like =
               object = b.object;
               there = c.stays m b.it (apart m i p) b.there;
               means = object-before heap object b.object i b.means;
-              like = like-more seen now pair more b.it b.object texts kinds (λ m i q. inl q) b.like;
+              like = like-more seen now pair more b.it b.object fixed kinds (λ m i q. inl q) b.like;
             }
         | inr e ↦
             subst (λ (r : reference.Reference). Both now (with_new heap object) more r i) (sym e.0)

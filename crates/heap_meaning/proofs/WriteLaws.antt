@@ -37,7 +37,7 @@ as-written_name seen pair it of text first forms vs n m v a is s = record {
 }
 
 -- words behind the first ones
-set-behind : (front words : List ℕ) (k w : ℕ) → slice_set (front ++ words) (length front + k) w ≡ front ++ slice_set words k w
+pub set-behind : (front words : List ℕ) (k w : ℕ) → slice_set (front ++ words) (length front + k) w ≡ front ++ slice_set words k w
 set-behind [] words k w = let e : 0 + k ≡ k = omega arith in ap (λ (i : ℕ). slice_set words i w) e
 set-behind (x ∷ xs) words k w =
     let e : length (x ∷ xs) + k ≡ suc (length xs + k) = omega arith in

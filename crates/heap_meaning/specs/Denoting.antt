@@ -6,13 +6,19 @@ use Rattle.swizzle.specs.Touch.{Denotes}
 use Rattle.heap_places.specs.declared.value.Value as code
 use Rattle.heap_places.specs.declared.value.Value.TheVariants as held
 use Rattle.ps_meaning.specs.Values.{Value, Num, Flag}
-use Rattle.heap_meaning.specs.Standing.{Seen, Pairing, StandsFor}
+use Rattle.heap_meaning.specs.Standing.{Seen, Pairing, StandsForScope, StandsFor}
 
 -- an object of the area, or none, by a name that stands for a value
 pub record DenotesValue (heap : Heap) (seen : Seen) (pair : Pairing) (to : Option ℕ) (v : Value) : Type 0 where
   pub name : reference.Reference
   pub denotes : Denotes heap to name
   pub stands : StandsFor seen pair name v
+
+-- an object of the area, or none, by a name that stands for a scope, or for none
+pub record DenotesScope (heap : Heap) (seen : Seen) (pair : Pairing) (to scope : Option ℕ) : Type 0 where
+  pub name : reference.Reference
+  pub denotes : Denotes heap to name
+  pub stands : StandsForScope seen pair name scope
 
 -- a value in code denotes one of the meaning
 abbrev pub IsFor : Heap → Seen → Pairing → code.Value → Value → Type 0

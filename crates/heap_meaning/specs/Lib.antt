@@ -1,3 +1,4 @@
+pub mod Units
 pub mod Standing
 pub mod Denoting
 pub mod Paired

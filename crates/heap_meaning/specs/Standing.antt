@@ -1,6 +1,8 @@
--- Objects that are seen stand for objects of a heap. Structures and vectors have a name here and a number there, and a pairing says which name
--- goes with which number. A text is a value, and its object stands for its bytes.
-use Rattle.std.specs.Prelude.{◌≡◌, ◌⊎◌, ℕ, ℤ, true, List, [], ◌∷◌, ◌++◌, length, replicate, Some}
+-- Objects that are seen stand for objects of a heap. Structures, vectors and scopes have a name here and a number there, and a pairing says which
+-- name goes with which number. A text is a value, and its object stands for its bytes; so is a procedure, whose object stands for its unit of code
+-- and the scope that it was made in.
+use Rattle.std.specs.Prelude.{◌≡◌, ◌⊎◌, ℕ, ℤ, true, List, [], ◌∷◌, ◌++◌, length, replicate, Option, Some, None}
+use Rattle.ps_base.specs.CodeUnit.{UnitView}
 use Rattle.obj_layout.specs.declared.kind.Kind.{Kind}
 use Rattle.obj_layout.specs.declared.kind.Kind.TheVariants as kind
 use Rattle.obj_layout.specs.declared.reference.Reference as reference
@@ -11,8 +13,10 @@ use Rattle.text_forms.specs.declared.forms.Form.TheVariants as form
 use Rattle.text_forms.specs.Forms.{forms_of, element_of}
 use Rattle.heap_places.specs.Words.{int_in, flag_in}
 use Rattle.heap_places.specs.Shapes.{IsText}
-use Rattle.ps_meaning.specs.Values.{Value, Num, Flag, Text, Nil, Pointer, Vector}
+use Rattle.proc_values.specs.Loaded.{IsFitUnit}
+use Rattle.ps_meaning.specs.Values.{Value, Num, Flag, Text, Nil, Pointer, Vector, Procedure, as_compiled}
 use Rattle.ps_meaning.specs.Objects.{Heap, Object, Structure, Elements, Scope, object_at, is_vector}
+use Rattle.heap_meaning.specs.Units.{IsUnitSeen}
 
 -- what is seen: which object a name has
 abbrev pub Seen : Type 1
@@ -28,13 +32,37 @@ pub record IsKindOf (seen : Seen) (n : reference.Reference) (of : Kind) : Type 0
   pub there : seen n it
   pub kind_is : it.kind ≡ of
 
+-- a name stands for a scope, or nil for none
+abbrev pub StandsForScope : Seen → Pairing → reference.Reference → Option ℕ → Type 0
+StandsForScope seen pair n None = n ≡ name.Nil
+StandsForScope seen pair n (Some id) = pair n id × IsKindOf seen n kind.Scope
+
+-- What is seen of a closure: it refers to the code object of its unit, whose numbers fit their places, and to its scope.
+pub record IsClosure (seen : Seen) (pair : Pairing) (it : Shown) (of : UnitView) (scope : Option ℕ) : Type 0 where
+  pub kind_is : it.kind ≡ kind.Closure
+  pub code_name : reference.Reference
+  pub scope_name : reference.Reference
+  pub home : ℕ
+  pub refs : it.refs ≡ code_name ∷ scope_name ∷ []
+  pub nums : it.nums ≡ home ∷ []
+  pub is_unit : IsUnitSeen seen code_name of
+  pub fit : IsFitUnit of
+  pub is_scope : StandsForScope seen pair scope_name scope
+
+-- a name is that of such a closure
+pub record StandsForProcedure (seen : Seen) (pair : Pairing) (n : reference.Reference) (of : UnitView) (scope : Option ℕ) : Type 0 where
+  pub it : Shown
+  pub there : seen n it
+  pub is : IsClosure seen pair it of scope
+
 -- A name stands for a value that isn't a number: nil for nil, a text's for its bytes, a structure's or a vector's for the number that goes
--- with it.
+-- with it, a closure's for the procedure of its unit and its scope. Nothing stands for a procedure as it is written.
 abbrev pub StandsFor : Seen → Pairing → reference.Reference → Value → Type 0
 StandsFor seen pair n Nil = n ≡ name.Nil
 StandsFor seen pair n (Text bytes) = IsText seen n bytes
 StandsFor seen pair n (Pointer id) = pair n id × IsKindOf seen n kind.Structure
 StandsFor seen pair n (Vector id) = pair n id × IsKindOf seen n kind.Vector
+StandsFor seen pair n (Procedure (as_compiled of) scope) = StandsForProcedure seen pair n of scope
 StandsFor seen pair n _ = ⊥
 
 -- a word stands for an int or a bool
@@ -74,11 +102,25 @@ pub record IsVector (seen : Seen) (pair : Pairing) (it : Shown) (ty : List ℕ) 
   pub fits : is_vector low (length elements) ≡ true
   pub rows : IsAs seen pair it kind.Vector ty (λ home. home ∷ bound ∷ []) (replicate (length elements) (element_of ty)) elements
 
--- What is seen stands for an object of the heap. Nothing stands for a scope yet, so a heap that is paired has none.
+-- And of a scope: its text, its parent, its home, and the values of its names.
+pub record IsScope (seen : Seen) (pair : Pairing) (it : Shown) (text : List ℕ) (parent : Option ℕ) (values : List Value) : Type 0 where
+  pub kind_is : it.kind ≡ kind.Scope
+  pub text_name : reference.Reference
+  pub parent_name : reference.Reference
+  pub home : ℕ
+  pub names : List reference.Reference
+  pub words : List ℕ
+  pub refs : it.refs ≡ text_name ∷ parent_name ∷ names
+  pub nums : it.nums ≡ home ∷ words
+  pub is_text : IsText seen text_name text
+  pub is_parent : StandsForScope seen pair parent_name parent
+  pub are : AreFor seen pair (forms_of text) names words values
+
+-- What is seen stands for an object of the heap.
 abbrev pub IsLike : Seen → Pairing → Shown → Object → Type 0
 IsLike seen pair it (Structure class fields) = IsStructure seen pair it class fields
 IsLike seen pair it (Elements ty low elements) = IsVector seen pair it ty low elements
-IsLike seen pair it (Scope text parent names) = ⊥
+IsLike seen pair it (Scope text parent names) = IsScope seen pair it text parent names
 
 -- The object of a name and that of the number that goes with it.
 pub record Both (seen : Seen) (heap : Heap) (pair : Pairing) (n : reference.Reference) (id : ℕ) : Type 0 where

@@ -1,4 +1,6 @@
+pub mod TextOf
 pub mod Entries
 pub mod Fields
 pub mod Marks
 pub mod MakesSo
+pub mod EntryFields

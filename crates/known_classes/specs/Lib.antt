@@ -3,3 +3,4 @@ pub mod Made
 pub mod Classes
 pub mod Reading
 pub mod inside
+pub mod Reached

@@ -1,6 +1,5 @@
--- Classes by which structures were made before, and what is so of them as long as texts stay.
+-- Classes by which structures were made before, and what is so of them as long as texts and code stay.
 use Rattle.std.specs.Prelude.{◌≡◌, ◌⊎◌, ℕ, ◌/◌, ◌%◌, List, [], ◌∷◌}
-use Rattle.ps_base.specs.CodeUnit.{ConstantsView}
 use Rattle.swizzle.specs.Heap.{Heap}
 use Rattle.swizzle.specs.Text.{text_at}
 use Rattle.text_forms.specs.declared.forms.Form.{Form}
@@ -18,17 +17,18 @@ AreMarked bits (Reference ∷ forms) = AreMarked bits forms
 
 -- What an entry says is so: its text has the bytes of the class that the constant is, so many of whose fields lie in each row, and of those among the
 -- numbers these are bools.
-pub record IsSo (here : Heap) (constants : ConstantsView) (known : KnownMake) : Type 0 where
-  pub class : IsTextOf here constants known.constant known.text
+pub record IsSo (here : Heap) (known : KnownMake) : Type 0 where
+  pub class : IsTextOf here known.code known.constant known.text
   pub rows : known.fields.rows ≡ rows_of (forms_of (text_at here known.text))
   pub marked : AreMarked known.fields.flags.bits (forms_of (text_at here known.text))
 
 -- each entry says what is so, or nothing, where its text is 0
-abbrev pub AreSo : Heap → ConstantsView → List KnownMake → Type 0
-AreSo here row [] = Unit {0}
-AreSo here row (known ∷ rest) = ((known.text ≡ 0) ⊎ IsSo here row known) × AreSo here row rest
+abbrev pub AreSo : Heap → List KnownMake → Type 0
+AreSo here [] = Unit {0}
+AreSo here (known ∷ rest) = ((known.text ≡ 0) ⊎ IsSo here known) × AreSo here rest
 
--- This is known of the class that this constant is.
-pub record IsKnown (here : Heap) (constants : ConstantsView) (constant : ℕ) (known : KnownMake) : Type 0 where
+-- This is known of the class that this constant of a code object is.
+pub record IsKnown (here : Heap) (code constant : ℕ) (known : KnownMake) : Type 0 where
+  pub code_is : known.code ≡ code
   pub constant_is : known.constant ≡ constant
-  pub so : IsSo here constants known
+  pub so : IsSo here known

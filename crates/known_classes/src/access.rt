@@ -135,7 +135,7 @@ fn referring(sw: &Swizzle, object: Option<u32>, text: u32) -> Option<u32>
 
 // The value in a place of an object, where it stands in the area.
 #[inline(always)]
-fn peek_place(sw: &Swizzle, object: u32, place: Place) -> Option<Value>
+pub(crate) fn peek_place(sw: &Swizzle, object: u32, place: Place) -> Option<Value>
     requires held { IsHeld sw.now object }
     requires place { HasPlace (shown_at sw.now object) place.form place.index }
     ensures { IfSome result (Holds sw.now (shown_at sw.now object) place.form place.index) }

@@ -1,9 +1,10 @@
 //! Fields of classes that were looked up before.
 ghost use Rattle.std.specs.Prelude.{◌≡◌, ◌<◌, ℕ, IfOk, IfSome, List, Some};
-ghost use Rattle.ps_base.specs.CodeUnit.{ConstantsView};
-ghost use Rattle.swizzle.specs.Heap.{Heap, IsHeld, header_at};
-ghost use Rattle.swizzle.specs.Reading.{TextsStay};
-ghost use Rattle.known_classes.specs.Known.{AreSo, IsKnown, IsSo};
+ghost use Rattle.ps_base.specs.CodeUnit.{ConstantsView, text};
+ghost use Rattle.swizzle.specs.Heap.{Heap, IsHeap, IsHeld, header_at};
+ghost use Rattle.swizzle.specs.Text.{text_at};
+ghost use Rattle.proc_values.specs.Loaded.{CodeStays, constant_numbered};
+ghost use Rattle.known_classes.specs.Known.{AreSo, HasConstants, IsKnown, IsSo, IsTextOf};
 ghost use Rattle.known_classes.specs.Reading.{IsThere};
 ghost use Rattle.known_classes.specs.declared.known.KnownField as declared;
 
@@ -14,18 +15,18 @@ use std::alloc::{AllocError, Global};
 use swizzle::swizzle::Swizzle;
 use text_forms::forms::{Form, Located, Place, Rows};
 
-/// Where a field of a class lies. The class is a constant of the code that runs, by its number, and so is the field. The text has the bytes of the
+/// Where a field of a class lies. The class is a constant of a code object, by its number, and so is the field. The text has the bytes of the
 /// class: it is one to which structures of the class refer. Text 0 stands for no entry.
 #[derive(Clone, Copy)]
 pub struct KnownField {
     pub text: u32,
+    pub code: u32,
     pub constant: u32,
     pub field: u32,
     pub located: Located,
 }
 
-/// Fields that were looked up before. An entry says what is so as long as texts stay and the same code runs; after `reset` of the area the entries
-/// are cleared.
+/// Fields that were looked up before. An entry says what is so as long as texts and code stay; after `reset` of the area the entries are cleared.
 #[derive(Drop)]
 pub struct KnownFields {
     pub entries: Vec<KnownField>,
@@ -36,6 +37,7 @@ const ENTRIES: usize = 128;
 
 const NO_ENTRY: KnownField = KnownField {
     text: 0,
+    code: 0,
     constant: 0,
     field: 0,
     located: Located {
@@ -47,16 +49,23 @@ const NO_ENTRY: KnownField = KnownField {
     },
 };
 
-/// A law: what is known stays so as long as texts stay.
+/// A law: what is known stays so as long as texts and code stay.
 pub fn what_is_known_stays_so()
-    ensures { (old new : Heap) (constants : ConstantsView) (entries : List declared.KnownField) → AreSo old constants entries → TextsStay old new
-        → AreSo new constants entries }
+    ensures { (old new : Heap) (entries : List declared.KnownField) → AreSo old entries → CodeStays old new → AreSo new entries }
+{}
+
+/// A law: of each unit that a code object is of, the constant of this number is that text.
+pub fn texts_are_of_units()
+    ensures of_unit { (here : Heap) (code constant at : ℕ) (row : ConstantsView) → IsHeap here → HasConstants here code row → IsTextOf here code constant at
+        → constant_numbered row constant ≡ Some (text (text_at here at)) }
+    ensures of_code { (here : Heap) (code constant at : ℕ) (row : ConstantsView) → HasConstants here code row → IsHeld here at
+        → (header_at here at).kind ≡ Kind.Text → constant_numbered row constant ≡ Some (text (text_at here at)) → IsTextOf here code constant at }
 {}
 
 impl KnownFields {
     /// Without any field. This takes memory for 128 entries, once.
     pub fn new(alloc: Global) -> Result<KnownFields, AllocError>
-        ensures { IfOk result (λ known. (here : Heap) (constants : ConstantsView) → AreSo here constants known.entries.items) }
+        ensures { IfOk result (λ known. (here : Heap) → AreSo here known.entries.items) }
     {
         let mut entries = Vec::with_capacity(alloc, ENTRIES)?;
         entries.resize(ENTRIES, NO_ENTRY)?;
@@ -65,23 +74,37 @@ impl KnownFields {
 
     /// Forgets all fields.
     pub fn clear(&mut self)
-        ensures { (here : Heap) (constants : ConstantsView) → AreSo here constants self.new.entries.items }
+        ensures { (here : Heap) → AreSo here self.new.entries.items }
     {
         self.entries.fill(NO_ENTRY);
     }
 
-    /// What is known of a field of the class that is the constant of a number. None where nothing is.
+    /// What is known of a field of the class that is the constant of a number of a code object. None where nothing is.
     #[inline(always)]
-    pub fn find(&self, constant: u32, field: u32) -> Option<KnownField>
-        ensures { (here : Heap) (constants : ConstantsView) → AreSo here constants self.now.entries.items
-            → IfSome result (IsKnown here constants constant field) }
+    pub fn find(&self, code: u32, constant: u32, field: u32) -> Option<KnownField>
+        ensures { (here : Heap) → AreSo here self.now.entries.items → IfSome result (IsKnown here code constant field) }
     {
-        let index = index_of(constant);
+        match self.entry(code, constant, field) {
+            Some(known) => Some(*known),
+            None => None,
+        }
+    }
+
+    // The entry of a field, where it is its own.
+    #[inline(always)]
+    pub(crate) fn entry(&self, code: u32, constant: u32, field: u32) -> Option<&KnownField>
+        ensures { (here : Heap) → AreSo here self.now.entries.items → IfSome result (λ known. IsKnown here code constant field known.now) }
+    {
+        let index = index_of(code, constant);
         if index >= self.entries.len() {
             return None;
         }
-        let known = self.entries[index];
-        if known.text != 0 && known.constant == constant && known.field == field {
+        let known = &self.entries[index];
+        if known.text != 0
+            && known.code == code
+            && known.constant == constant
+            && known.field == field
+        {
             Some(known)
         } else {
             None
@@ -90,10 +113,9 @@ impl KnownFields {
 
     /// Keeps what is known of a field.
     pub fn keep(&mut self, known: KnownField)
-        ensures { (here : Heap) (constants : ConstantsView) → AreSo here constants self.old.entries.items → IsSo here constants known
-            → AreSo here constants self.new.entries.items }
+        ensures { (here : Heap) → AreSo here self.old.entries.items → IsSo here known → AreSo here self.new.entries.items }
     {
-        let index = index_of(known.constant);
+        let index = index_of(known.code, known.constant);
         if index < self.entries.len() {
             self.entries[index] = known;
         }
@@ -105,10 +127,8 @@ impl KnownFields {
         requires there { IsThere sw.now (Some object) }
         requires held { IsHeld sw.now known.text }
         requires text { (header_at sw.now known.text).kind ≡ Kind.Text }
-        ensures known { (constants : ConstantsView) (constant field : ℕ) → IsKnown sw.now constants constant field known
-            → IsKnown sw.now constants constant field result }
-        ensures so { (constants : ConstantsView) → AreSo sw.now constants self.old.entries.items → IsSo sw.now constants known
-            → AreSo sw.now constants self.new.entries.items }
+        ensures known { (code constant field : ℕ) → IsKnown sw.now code constant field known → IsKnown sw.now code constant field result }
+        ensures so { AreSo sw.now self.old.entries.items → IsSo sw.now known → AreSo sw.now self.new.entries.items }
         ensures place { result.located ≡ known.located }
     {
         if refers_to(sw, object, known.text) {
@@ -123,10 +143,8 @@ impl KnownFields {
         requires there { IsThere sw.now (Some object) }
         requires held { IsHeld sw.now known.text }
         requires text { (header_at sw.now known.text).kind ≡ Kind.Text }
-        ensures known { (constants : ConstantsView) (constant field : ℕ) → IsKnown sw.now constants constant field known
-            → IsKnown sw.now constants constant field result }
-        ensures so { (constants : ConstantsView) → AreSo sw.now constants self.old.entries.items → IsSo sw.now constants known
-            → AreSo sw.now constants self.new.entries.items }
+        ensures known { (code constant field : ℕ) → IsKnown sw.now code constant field known → IsKnown sw.now code constant field result }
+        ensures so { AreSo sw.now self.old.entries.items → IsSo sw.now known → AreSo sw.now self.new.entries.items }
         ensures place { result.located ≡ known.located }
     {
         let Some(text) = class_of(sw, object) else {
@@ -137,6 +155,7 @@ impl KnownFields {
         }
         let met = KnownField {
             text,
+            code: known.code,
             constant: known.constant,
             field: known.field,
             located: known.located,
@@ -165,10 +184,11 @@ fn class_of(sw: &Swizzle, object: u32) -> Option<u32>
     }
 }
 
-// Where the entry of a constant stands. Each instruction that names a class has a constant of its own.
+// Where the entry of a constant stands. Each instruction that names a class has a constant of its own, and units that run in turn have code objects
+// in different places.
 #[inline(always)]
-fn index_of(constant: u32) -> usize
+fn index_of(code: u32, constant: u32) -> usize
     ensures { result < 128 }
 {
-    (constant % 128) as usize
+    (code as usize + constant as usize) % 128
 }

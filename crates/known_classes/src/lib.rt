@@ -6,3 +6,4 @@ pub mod access;
 pub mod classes;
 pub mod known;
 pub mod makes;
+pub mod reached;

@@ -1,6 +1,5 @@
 //! Classes by which structures were made before.
 ghost use Rattle.std.specs.Prelude.{◌≡◌, ◌<◌, ◌≤◌, ◌+◌, ◌^◌, ◌/◌, ◌%◌, ◌==◌, ℕ, IfOk, IfSome, List, true, false, length};
-ghost use Rattle.ps_base.specs.CodeUnit.{ConstantsView};
 ghost use Rattle.swizzle.specs.Heap.{Heap, IsHeld, header_at};
 ghost use Rattle.swizzle.specs.Text.{text_at};
 ghost use Rattle.text_forms.specs.Forms.{forms_of, rows_of, one_more};
@@ -27,17 +26,18 @@ pub struct FieldRows {
     pub flags: FlagSet,
 }
 
-/// How structures of a class are made. The class is a constant of the code that runs, by its number. The text has the bytes of the class: structures
+/// How structures of a class are made. The class is a constant of a code object, by its number. The text has the bytes of the class: structures
 /// refer to it. Text 0 stands for no entry.
 #[derive(Clone, Copy)]
 pub struct KnownMake {
     pub text: u32,
+    pub code: u32,
     pub constant: u32,
     pub fields: FieldRows,
 }
 
-/// Classes by which structures were made before. An entry says what is so as long as texts stay and the same code runs; after `reset` of the area the
-/// entries are cleared.
+/// Classes by which structures were made before. An entry says what is so as long as texts and code stay; after `reset` of the area the entries are
+/// cleared.
 #[derive(Drop)]
 pub struct KnownMakes {
     pub entries: Vec<KnownMake>,
@@ -56,6 +56,7 @@ const NO_FIELDS: FieldRows = FieldRows {
 
 const NO_ENTRY: KnownMake = KnownMake {
     text: 0,
+    code: 0,
     constant: 0,
     fields: NO_FIELDS,
 };
@@ -94,7 +95,7 @@ impl FlagSet {
 impl KnownMakes {
     /// Without any class. This takes memory for 64 entries, once.
     pub fn new(alloc: Global) -> Result<KnownMakes, AllocError>
-        ensures { IfOk result (λ known. (here : Heap) (constants : ConstantsView) → AreSo here constants known.entries.items) }
+        ensures { IfOk result (λ known. (here : Heap) → AreSo here known.entries.items) }
     {
         let mut entries = Vec::with_capacity(alloc, ENTRIES)?;
         entries.resize(ENTRIES, NO_ENTRY)?;
@@ -103,43 +104,42 @@ impl KnownMakes {
 
     /// Forgets all classes.
     pub fn clear(&mut self)
-        ensures { (here : Heap) (constants : ConstantsView) → AreSo here constants self.new.entries.items }
+        ensures { (here : Heap) → AreSo here self.new.entries.items }
     {
         self.entries.fill(NO_ENTRY);
     }
 
-    /// What is known of the class that is the constant of a number. None where nothing is.
+    /// What is known of the class that is the constant of a number of a code object. None where nothing is.
     #[inline(always)]
-    pub fn find(&self, constant: u32) -> Option<KnownMake>
-        ensures { (here : Heap) (constants : ConstantsView) → AreSo here constants self.now.entries.items
-            → IfSome result (IsKnown here constants constant) }
+    pub fn find(&self, code: u32, constant: u32) -> Option<KnownMake>
+        ensures { (here : Heap) → AreSo here self.now.entries.items → IfSome result (IsKnown here code constant) }
     {
-        let index = index_of(constant);
+        let index = index_of(code, constant);
         if index >= self.entries.len() {
             return None;
         }
         let known = self.entries[index];
-        if known.text != 0 && known.constant == constant {
+        if known.text != 0 && known.code == code && known.constant == constant {
             Some(known)
         } else {
             None
         }
     }
 
-    /// Reads the text of the class that is the constant of a number, and keeps what it tells. None where more than 64 of its fields are numbers; then it
-    /// isn't kept.
-    pub fn learn(&mut self, sw: &Swizzle, constant: u32, text: u32) -> Option<KnownMake>
+    /// Reads the text of the class that is the constant of a number of a code object, and keeps what it tells. None where more than 64 of its fields are
+    /// numbers; then it isn't kept.
+    pub fn learn(&mut self, sw: &Swizzle, code: u32, constant: u32, text: u32) -> Option<KnownMake>
         requires held { IsHeld sw.now text }
         requires text { (header_at sw.now text).kind ≡ Kind.Text }
-        requires so { (constants : ConstantsView) × AreSo sw.now constants self.old.entries.items }
-        ensures known { (constants : ConstantsView) → IsTextOf sw.now constants constant text → IfSome result (IsKnown sw.now constants constant) }
-        ensures so { (constants : ConstantsView) → AreSo sw.now constants self.old.entries.items → IsTextOf sw.now constants constant text
-            → AreSo sw.now constants self.new.entries.items }
+        requires so { AreSo sw.now self.old.entries.items }
+        ensures known { IsTextOf sw.now code constant text → IfSome result (IsKnown sw.now code constant) }
+        ensures so { IsTextOf sw.now code constant text → AreSo sw.now self.new.entries.items }
     {
         let fields = count_fields(sw.text(text))?;
         let text = self.like(sw, text);
         let known = KnownMake {
             text,
+            code,
             constant,
             fields,
         };
@@ -151,7 +151,7 @@ impl KnownMakes {
     fn like(&self, sw: &Swizzle, text: u32) -> u32
         requires held { IsHeld sw.now text }
         requires text { (header_at sw.now text).kind ≡ Kind.Text }
-        requires so { (constants : ConstantsView) × AreSo sw.now constants self.now.entries.items }
+        requires so { AreSo sw.now self.now.entries.items }
         ensures held { IsHeld sw.now result }
         ensures text { (header_at sw.now result).kind ≡ Kind.Text }
         ensures same { text_at sw.now result ≡ text_at sw.now text }
@@ -167,10 +167,9 @@ impl KnownMakes {
 
     // Puts an entry in its place.
     fn keep(&mut self, known: KnownMake)
-        ensures { (here : Heap) (constants : ConstantsView) → AreSo here constants self.old.entries.items → IsSo here constants known
-            → AreSo here constants self.new.entries.items }
+        ensures { (here : Heap) → AreSo here self.old.entries.items → IsSo here known → AreSo here self.new.entries.items }
     {
-        let index = index_of(known.constant);
+        let index = index_of(known.code, known.constant);
         if index < self.entries.len() {
             self.entries[index] = known;
         }
@@ -221,10 +220,11 @@ fn with_field(fields: FieldRows, form: Form) -> Option<FieldRows>
     })
 }
 
-// Where the entry of a constant stands. Each instruction that names a class has a constant of its own.
+// Where the entry of a constant stands. Each instruction that names a class has a constant of its own, and units that run in turn have code objects
+// in different places.
 #[inline(always)]
-fn index_of(constant: u32) -> usize
+fn index_of(code: u32, constant: u32) -> usize
     ensures { result < 64 }
 {
-    (constant % 64) as usize
+    (code as usize + constant as usize) % 64
 }

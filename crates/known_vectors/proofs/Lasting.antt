@@ -4,6 +4,10 @@ use Rattle.std.proofs.lemmas.List.{length-set}
 use Rattle.ps_meaning.specs.Values.{Value, Num, Flag, Text, Nil, Pointer, Vector, Procedure, Nothing}
 use Rattle.ps_meaning.specs.Texts.{Yields, Fails}
 use Rattle.ps_meaning.specs.Objects.{Heap, Object, Structure, Elements, Scope, object_at, with_object, with_new, is_of, fields_in, with_field, with_element, put_at, place_of, low_in, elements_in, type_in}
+use Rattle.ps_meaning.specs.Objects.{kept_as}
+use Rattle.ps_meaning.specs.Scopes.{with_name, with_name_in, scope_out}
+use Rattle.ps_meaning.specs.Meaning.{with_kept_name}
+use Rattle.text_forms.specs.Forms.{forms_of, form_in}
 use Rattle.known_vectors.specs.Known.{AllLast}
 
 pub all-same : (of : Heap) → AllLast of of
@@ -82,3 +86,20 @@ last-element of now (Text bytes) e at done = absurd (cc)
 last-element of now (Pointer id) e at done = absurd (cc)
 last-element of now (Procedure proc scope) e at done = absurd (cc)
 last-element of now Nothing e at done = absurd (cc)
+
+-- A name of a scope.
+name-last : (of : Heap) (id position : ℕ) (v : Value) (o : Option Object) → object_at of id ≡ o → AllLast of (with_name_in of id o position v)
+name-last of id position v (Some (Scope text parent names)) at =
+    last-set of id (Scope text parent (set names position (kept_as (form_in (forms_of text) position) v)))
+    (λ ty low elements bad. absurd (let same : Some (Scope text parent names) ≡ Some (Elements ty low elements) = sym at ∙ bad in cc))
+name-last of id position v (Some (Structure text fields)) at = all-same of
+name-last of id position v (Some (Elements ty low elements)) at = all-same of
+name-last of id position v None at = all-same of
+
+pub last-name : (of : Heap) (scope : Option ℕ) (up position : ℕ) (v : Value) → AllLast of (with_kept_name of scope up position v)
+unfolding with_name
+last-name of scope up position v = at (scope_out of scope up)
+  where
+    at : (s : Option ℕ) → AllLast of (with_name of s position v)
+    at None = all-same of
+    at (Some id) = name-last of id position v (object_at of id) refl

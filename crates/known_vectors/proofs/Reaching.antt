@@ -36,7 +36,7 @@ use Rattle.ps_meaning.specs.Objects as meaning
 use Rattle.paired_ops.specs.World.{IsWorld, DenotesIn, Writes}
 use Rattle.paired_ops.specs.Operands.{IsForIn, IsOfForm}
 use Rattle.paired_ops.proofs.ReadLaws.{VectorAt}
-use Rattle.paired_ops.proofs.ValueLaws.{some-not_nil, text-denoted, pointer-denoted, vector-denoted}
+use Rattle.paired_ops.proofs.ValueLaws.{some-not_nil, text-denoted, pointer-denoted, vector-denoted, procedure-kind}
 use Rattle.known_vectors.specs.declared.known.KnownVector.{KnownVector}
 use Rattle.known_vectors.specs.Known.{IsSo, AreSo, AreRight}
 use Rattle.known_vectors.specs.Reached.{Reaches, IsVectorOf, HasNumber, HasReference, Puts}
@@ -162,7 +162,9 @@ only-vector here of names at id (Text bytes) h w is d =
 only-vector here of names at id Nil h w is d = absurd (some-not_nil here names at d)
 only-vector here of names at id (Num z) h w is d = absurd (d.stands)
 only-vector here of names at id (Flag b) h w is d = absurd (d.stands)
-only-vector here of names at id (Procedure whole scope) h w is d = absurd (d.stands)
+only-vector here of names at id (Procedure does scope) h w is d =
+    let bad : kind.Closure ≡ kind.Vector = sym (procedure-kind here names at does scope h d) ∙ (vector-denoted here names at id h is).kind in
+    absurd (cc)
 only-vector here of names at id Nothing h w is d = absurd (d.stands)
 
 -- The entry of a place that is reached says what is so.

@@ -29,11 +29,12 @@ use Rattle.known_classes.specs.Known.{IsTextOf}
 use Rattle.known_classes.specs.Made.{AreSo as AreMade}
 use Rattle.known_classes.specs.Classes.{IsRight}
 use Rattle.known_classes.specs.Reading.{IsThere}
+use Rattle.known_classes.proofs.TextOf.{text-of}
 use Rattle.machine_state.specs.declared.machine.Machine.{Machine}
 use Rattle.machine_state.specs.Holding.{HeldBy, IsHolding, IsSound, AreDenoted, object_in}
 use Rattle.machine_objects.specs.inside.Constants.{StillHolds, ReadsConstant, FindsField, KnowsField, MeetsField}
 use Rattle.machine_objects.specs.inside.Popping.{IsKind, PopsObject}
-use Rattle.machine_objects.proofs.ConstantReads.{same-constant}
+use Rattle.machine_objects.proofs.ConstantReads.{same-constant, constants-of, text-known}
 
 -- where a text names no place of this number, it has no form either
 no-form : (forms : List Form) (n : ℕ) → located_in forms n ≡ None → form_in forms n ≡ None
@@ -46,18 +47,22 @@ no-form forms n is = of (form_in forms n) is
 
 -- The machine with other classes known.
 module _ (m : Machine) (classes : KnownClasses) where
-  pub with-classes : (names : List Reference) (c : Config) → IsRight m.sw (constants_in c.unit) classes → HeldBy names m c → HeldBy names (record m { classes = classes }) c
+  pub with-classes : (names : List Reference) (c : Config) → IsRight m.sw classes → HeldBy names m c → HeldBy names (record m { classes = classes }) c
   with-classes names c right h = record {
     unit_is = h.unit_is;
+    fit = h.fit;
     place_is = h.place_is;
     frame_is = h.frame_is;
     at_is = h.at_is;
     nums_are = h.nums_are;
     refs_are = h.refs_are;
-    no_callers = h.no_callers;
+    scope_is = h.scope_is;
+    callers_are = h.callers_are;
+    input_is = h.input_is;
     turns_are = h.turns_are;
     world = h.world;
     entries_are = right;
+    layouts_are = h.layouts_are;
     known_are = h.known_are;
     counted = h.counted;
   }
@@ -71,6 +76,7 @@ module _ (m : Machine) (classes : KnownClasses) where
     nums_room = sound.nums_room;
     refs_room = sound.refs_room;
     values_room = sound.values_room;
+    waiting = sound.waiting;
   }
 
 -- nothing is read where the field is known
@@ -79,10 +85,10 @@ still-holds m names c h = record { held = h; size = refl; values = λ to v d. d 
 
 -- The field was known.
 pub knows-found : (k n : ℕ) (m : Machine) (known : KnownField) → IsSound m
-    → ((here : area.Heap) (row : ConstantsView) → AreSo here row m.classes.fields.entries.items → IsKnown here row k n known) → KnowsField k n m m (Some known)
+    → ((here : area.Heap) → AreSo here m.classes.fields.entries.items → IsKnown here m.code k n known) → KnowsField k n m m (Some known)
 knows-found k n m known sound found = record {
   sound = sound;
-  gives = λ names c h. (still-holds m names c h, found m.sw (constants_in c.unit) h.entries_are.fields);
+  gives = λ names c h. (still-holds m names c h, found m.sw h.entries_are.fields);
 }
 
 -- It was read.
@@ -92,30 +98,27 @@ module _ (k n at : ℕ) (old mid : Machine) (p : ReadsConstant k old mid (Some a
   named names bytes d = ap (λ (t : List ℕ). located_in (forms_of t) n) (sym (text-denoted mid.sw names at bytes heap d).bytes_are) ∙ sym place
 
   pub knows-read : (l : Located) (fields : KnownFields) → o ≡ Some l
-      → ((here : area.Heap) (row : ConstantsView) → AreSo here row mid.classes.fields.entries.items
-      → IsSo here row (record { text = at; constant = k; field = n; located = l }) → AreSo here row fields.entries.items)
-      → KnowsField k n old (record mid { classes = record mid.classes { fields = fields } }) (Some (record { text = at; constant = k; field = n; located = l }))
+      → ((here : area.Heap) → AreSo here mid.classes.fields.entries.items
+      → IsSo here (record { text = at; code = mid.code; constant = k; field = n; located = l }) → AreSo here fields.entries.items)
+      → KnowsField k n old (record mid { classes = record mid.classes { fields = fields } }) (Some (record { text = at; code = mid.code; constant = k; field = n; located = l }))
   knows-read l fields is keep = record {
     sound = with-sound mid (record mid.classes { fields = fields }) p.sound;
     gives = λ names c h.
         let t = p.gives names c h in
         let row = constants_in c.unit in
         let there = text-denoted mid.sw names at t.0 heap t.3 in
-        let so : IsSo mid.sw row (record { text = at; constant = k; field = n; located = l }) = record {
-          class = record {
-            held = there.held;
-            kind = there.kind;
-            is = sym (same-constant row k) ∙ t.1 ∙ ap (λ (bytes : List ℕ). Some (text bytes)) (sym there.bytes_are);
-          };
+        let so : IsSo mid.sw (record { text = at; code = mid.code; constant = k; field = n; located = l }) = record {
+          class = text-of mid.sw mid.code k at row (constants-of mid.sw mid.code c.unit t.2.held.unit_is) there.held there.kind
+              (sym (same-constant row k) ∙ t.1 ∙ ap (λ (bytes : List ℕ). Some (text bytes)) (sym there.bytes_are));
           place = sym place ∙ is;
         } in (
           record {
             held = with-classes mid (record mid.classes { fields = fields }) names c
-                (record { fields = keep mid.sw row t.2.held.entries_are.fields so; makes = t.2.held.entries_are.makes }) t.2.held;
+                (record { fields = keep mid.sw t.2.held.entries_are.fields so; makes = t.2.held.entries_are.makes }) t.2.held;
             size = t.2.size;
             values = t.2.values;
           },
-          record { constant_is = refl; field_is = refl; so = so },
+          record { code_is = refl; constant_is = refl; field_is = refl; so = so },
         );
   }
 
@@ -155,29 +158,29 @@ pub meets-same : (m : Machine) (known : KnownField) → IsSound m → MeetsField
 meets-same m known sound = record { sound = sound; area = refl; gives = λ names c k n h is. (h, is) }
 
 pub meets-other : (m : Machine) (known met : KnownField) (fields : KnownFields) → IsSound m
-    → ((row : ConstantsView) (k n : ℕ) → IsKnown m.sw row k n known → IsKnown m.sw row k n met)
-    → ((row : ConstantsView) → AreSo m.sw row m.classes.fields.entries.items → IsSo m.sw row known → AreSo m.sw row fields.entries.items)
+    → ((code k n : ℕ) → IsKnown m.sw code k n known → IsKnown m.sw code k n met)
+    → (AreSo m.sw m.classes.fields.entries.items → IsSo m.sw known → AreSo m.sw fields.entries.items)
     → MeetsField known m (record m { classes = record m.classes { fields = fields } }) met
 meets-other m known met fields sound is so = record {
   sound = with-sound m (record m.classes { fields = fields }) sound;
   area = refl;
   gives = λ names c k n h known_is. (
     with-classes m (record m.classes { fields = fields }) names c
-        (record { fields = so (constants_in c.unit) h.entries_are.fields known_is.so; makes = h.entries_are.makes }) h,
-    is (constants_in c.unit) k n known_is,
+        (record { fields = so h.entries_are.fields known_is.so; makes = h.entries_are.makes }) h,
+    is m.code k n known_is,
   );
 }
 
 module _ (k n : ℕ) (old mid new : Machine) (known met : KnownField) (p : KnowsField k n old mid (Some known)) (q : MeetsField known mid new met) where
-  pub met-found : FindsField k n old new (Some (met.text, met.located))
-  met-found = record {
+  pub met-found : IsHeap new.sw → FindsField k n old new (Some (met.text, met.located))
+  met-found heap = record {
     sound = q.sound;
     gives = λ names c h.
         let t = p.gives names c h in
         let u = q.gives names c k n t.0.held t.1 in
         let class = u.1.so.class in (
           text_at new.sw met.text,
-          same-constant (constants_in c.unit) k ∙ ap (Rattle.proc_values.specs.Loaded.constant_numbered (constants_in c.unit)) (sym u.1.constant_is) ∙ class.is,
+          text-known new.sw new.code met.code k met.constant met.text c.unit heap u.0.unit_is class u.1.code_is u.1.constant_is,
           record {
             held = u.0;
             size = ap (λ (a : area.Heap). a.size) q.area ∙ t.0.size;
@@ -189,7 +192,7 @@ module _ (k n : ℕ) (old mid new : Machine) (known met : KnownField) (p : Knows
   }
 
   module _ (holding : IsHolding old) where
-    now : HeldBy holding.1.names new holding.0 × IsKnown new.sw (constants_in holding.0.unit) k n met
+    now : HeldBy holding.1.names new holding.0 × IsKnown new.sw new.code k n met
     now = let t = p.gives holding.1.names holding.0 holding.1.held in q.gives holding.1.names holding.0 k n t.0.held t.1
 
     pub met-holding : IsHolding new
@@ -241,7 +244,7 @@ popped-there mid last object q h =
 
 -- A class was read, and what its text tells is kept.
 pub reads-kept : (k at : ℕ) (old mid : Machine) (makes : KnownMakes) → ReadsConstant k old mid (Some at) → IsHeap mid.sw
-    → ((row : ConstantsView) → AreMade mid.sw row mid.classes.makes.entries.items → IsTextOf mid.sw row k at → AreMade mid.sw row makes.entries.items)
+    → (IsTextOf mid.sw mid.code k at → AreMade mid.sw makes.entries.items)
     → ReadsConstant k old (record mid { classes = record mid.classes { makes = makes } }) (Some at)
 reads-kept k at old mid makes p heap keep = record {
   sound = with-sound mid (record mid.classes { makes = makes }) p.sound;
@@ -249,16 +252,14 @@ reads-kept k at old mid makes p heap keep = record {
       let t = p.gives names c h in
       let row = constants_in c.unit in
       let there = text-denoted mid.sw names at t.0 heap t.3 in
-      let is : IsTextOf mid.sw row k at = record {
-        held = there.held;
-        kind = there.kind;
-        is = sym (same-constant row k) ∙ t.1 ∙ ap (λ (bytes : List ℕ). Some (text bytes)) (sym there.bytes_are);
-      } in (
+      let is : IsTextOf mid.sw mid.code k at =
+      text-of mid.sw mid.code k at row (constants-of mid.sw mid.code c.unit t.2.held.unit_is) there.held there.kind
+      (sym (same-constant row k) ∙ t.1 ∙ ap (λ (bytes : List ℕ). Some (text bytes)) (sym there.bytes_are)) in (
         t.0,
         t.1,
         record {
           held = with-classes mid (record mid.classes { makes = makes }) names c
-              (record { fields = t.2.held.entries_are.fields; makes = keep row t.2.held.entries_are.makes is }) t.2.held;
+              (record { fields = t.2.held.entries_are.fields; makes = keep is }) t.2.held;
           size = t.2.size;
           values = t.2.values;
         },

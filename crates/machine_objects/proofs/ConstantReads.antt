@@ -7,6 +7,7 @@ use Rattle.obj_layout.specs.declared.kind.Kind.TheVariants as kind
 use Rattle.obj_layout.specs.declared.reference.Reference.{Reference}
 use Rattle.swizzle.specs.Heap as area
 use Rattle.swizzle.specs.Heap.{IsHeap, IsHeld, header_at}
+use Rattle.swizzle.specs.Text.{text_at}
 use Rattle.swizzle.specs.declared.fault.SwizzleFault.{SwizzleFault}
 use Rattle.proc_values.specs.Loaded.{IsUnit, IsConstant, constant_numbered}
 use Rattle.ps_meaning.specs.Values.{Text}
@@ -16,13 +17,15 @@ use Rattle.ps_stepping.specs.Steps.{Step, Stuck, text_in, with_text, push_ref}
 use Rattle.ps_stepping.specs.Machine.{push_text}
 use Rattle.paired_ops.specs.World.{IsWorld, DenotesIn, Stands}
 use Rattle.paired_ops.specs.Code.{AnswersConstant, DenotesConstant}
+use Rattle.known_classes.specs.Known.{HasConstants, IsTextOf}
+use Rattle.known_classes.proofs.TextOf.{row-text}
 use Rattle.machine_state.specs.declared.machine.Machine.{Machine}
 use Rattle.machine_state.specs.Holding.{HeldBy, IsHolding, IsSound}
 use Rattle.machine_objects.specs.inside.Constants.{StillHolds, ReadsConstant}
 use Rattle.machine_state.specs.declared.stepped.Stepped.{Stepped}
 use Rattle.machine_state.specs.declared.stepped.Stepped.TheVariants.{Damaged}
 use Rattle.machine_state.specs.Stepped.{Takes, Does}
-use Rattle.machine_objects.proofs.Carrying.{read-holds, sound-kept, size-behind}
+use Rattle.machine_state.proofs.Carrying.{read-holds, sound-kept, size-behind}
 use Rattle.machine_objects.proofs.Ending.{ends, Comes}
 
 -- the constant of a number is the same as code and machine tell it
@@ -39,6 +42,18 @@ unit-held here at (unit code cs frame) i = i.0.held
 unit-kind : (here : area.Heap) (at : ℕ) (u : UnitView) → IsUnit here at u → (header_at here at).kind ≡ kind.Code
 unfolding IsUnit
 unit-kind here at (unit code cs frame) i = i.0.kind
+
+-- and has the constants of the unit
+pub constants-of : (here : area.Heap) (code : ℕ) (u : UnitView) → IsUnit here code u → HasConstants here code (constants_in u)
+constants-of here code (unit bytes row frame) is = record { bytes = bytes; frame = frame; is = is }
+
+-- a text of the code that runs, by what is known of it
+pub text-known : (here : area.Heap) (code known k n at : ℕ) (u : UnitView) → IsHeap here → IsUnit here code u → IsTextOf here known n at → known ≡ code → n ≡ k
+    → constant_at (constants_in u) k ≡ Some (text (text_at here at))
+text-known here code known k n at u heap is t of_code of_number =
+    same-constant (constants_in u) k
+    ∙ ap (constant_numbered (constants_in u)) (sym of_number)
+    ∙ row-text here code n at (constants_in u) heap (constants-of here code u is) (subst (λ (x : ℕ). IsTextOf here x n at) of_code t)
 
 pub code-held : (m : Machine) → IsHolding m → IsHeld m.sw m.code
 code-held m h = unit-held m.sw m.code h.0.unit h.1.held.unit_is

@@ -36,7 +36,7 @@ use Rattle.machine_state.proofs.Popping.{pushes_num}
 use Rattle.machine_state.proofs.RefRows.{ref_pop}
 use Rattle.machine_state.proofs.Words.{named-back}
 use Rattle.machine_objects.specs.inside.Reaching.{HasTwoRefs, ReadsReference, Puts, number_for_two, reference_for_two, without_number, without_reference}
-use Rattle.machine_objects.proofs.Carrying.{held-more, sound-kept, size-behind}
+use Rattle.machine_state.proofs.Carrying.{held-more, sound-kept, size-behind}
 use Rattle.machine_objects.proofs.Ending.{denoted-there}
 use Rattle.machine_objects.proofs.FieldReads.{number-row, reference-row}
 
@@ -148,7 +148,7 @@ still-held m now names c w i number value heap k h =
     let counted = h.counted in
     let top = k.stands.carries.top in
     held-more m.sw now names names 0 m c (on_heap k.after c.store) heap k.stands.carries
-    (last-element c.store.heap k.after (Vector k.it.id) (value (element_of k.it.ty)) i k.is) h k.stands.world (omega (arith, counted, top)) refl
+    (last-element c.store.heap k.after (Vector k.it.id) (value (element_of k.it.ty)) i k.is) h k.stands.world (omega (arith, counted, top)) refl refl
 
 -- A number was written.
 pub number-put : (m : Machine) (now : area.Heap) (w : ℕ) (i z at y : ℤ) → at ≡ i → y ≡ z → IsSound m → IsHeap m.sw → IsHeap now → IsHolding m

@@ -31,7 +31,7 @@ use Rattle.machine_state.specs.Stepped.{Takes, Does, UnlessDamaged}
 use Rattle.machine_objects.specs.inside.Constants.{FindsField}
 use Rattle.machine_objects.specs.inside.Popping.{PopsObject}
 use Rattle.machine_objects.specs.inside.Giving.{GivesNumber, GivesReference}
-use Rattle.machine_objects.proofs.Carrying.{size-behind}
+use Rattle.machine_state.proofs.Carrying.{size-behind}
 use Rattle.machine_objects.proofs.Ending.{ends, Comes, comes-behind, denoted-there}
 
 -- without such a field there is nothing that follows

@@ -27,10 +27,12 @@ use Rattle.machine_state.specs.declared.stepped.Stepped.{Stepped}
 use Rattle.machine_state.specs.declared.stepped.Stepped.TheVariants.{Quiet, Damaged}
 use Rattle.machine_state.specs.Stepped.{Does, KeepsSize, Takes}
 use Rattle.machine_state.specs.inside.Taking.{TakesRef}
-use Rattle.machine_objects.specs.inside.Giving.{HeldIn, failed_of, failed_in}
+use Rattle.machine_state.specs.Holding.{HeldIn}
+use Rattle.machine_objects.specs.inside.Giving.{failed_of, failed_in}
 use Rattle.known_vectors.specs.Known.{AllLast}
 use Rattle.known_vectors.proofs.Lasting.{all-same, last-new}
-use Rattle.machine_objects.proofs.Carrying.{held-more, size-behind, fails-push}
+use Rattle.machine_state.proofs.Carrying.{held-more, size-behind}
+use Rattle.machine_objects.proofs.Carrying.{fails-push}
 
 -- an int or a bool that was read, as a number
 pub int-read : (here : area.Heap) (names : List Reference) (z : ℤ) (f : Form) (v : Value) → IsOfForm f (held.Num z) → IsForIn here names (held.Num z) v → (word_of v ≡ z) × ((s : Step) → when_number (Some f) s ≡ s)
@@ -79,7 +81,7 @@ module _ (line : Line) (m : Machine) (heap : IsHeap m.sw) (here : area.Heap) (na
         let counted = h.counted in
         let top = text.carries.top in
         let store = and_text made.0 c.store in
-        let now = held-more here m.sw names names (text_weight made.0) m c store heap text.carries (all-same c.store.heap) h text.world (omega (arith, counted, top)) refl in (
+        let now = held-more here m.sw names names (text_weight made.0) m c store heap text.carries (all-same c.store.heap) h text.world (omega (arith, counted, top)) refl refl in (
           size-behind r here m.sw new.sw text.carries.size push.size,
           subst (λ (a : Attempt (List ℕ)). Does (attempted line a (λ bytes. make_text bytes c)) r new) (sym made.1) (push.does names (Text made.0) (record c { store = store }) now text.denotes),
         )
@@ -91,7 +93,7 @@ module _ (line : Line) (m : Machine) (heap : IsHeap m.sw) (here : area.Heap) (na
         let counted = h.counted in
         let top = it.carries.top in
         let store = and_object made.0 c.store in
-        let now = held-more here m.sw names it.more (own_weight made.0) m c store heap it.carries (last-new c.store.heap made.0) h it.world (omega (arith, counted, top)) refl in (
+        let now = held-more here m.sw names it.more (own_weight made.0) m c store heap it.carries (last-new c.store.heap made.0) h it.world (omega (arith, counted, top)) refl refl in (
           size-behind r here m.sw new.sw it.carries.size push.size,
           subst (λ (a : Attempt Object). Does (attempted line a (λ object. make denoting object c)) r new) (sym made.1) (push.does it.more (denoting (new_number c.store.heap)) (record c { store = store }) now it.denotes),
         )
@@ -105,7 +107,7 @@ module _ (line : Line) (m : Machine) (heap : IsHeap m.sw) (here : area.Heap) (na
         let counted = h.counted in
         let top = stands.carries.top in
         let same = is got.0 got.2.0 got.2.1 in
-        let now = held-more here m.sw names names 0 m c c.store heap stands.carries (all-same c.store.heap) h stands.world (omega (arith, counted, top)) refl in (
+        let now = held-more here m.sw names names 0 m c c.store heap stands.carries (all-same c.store.heap) h stands.world (omega (arith, counted, top)) refl refl in (
           size-behind r here m.sw new.sw stands.carries.size push.size,
           subst (λ (a : Attempt Value). Does (attempted line a (λ w. when_number (Some f) (push_num (word_of w) c))) r new) (sym got.1)
               (subst (λ (s : Step). Does s r new) (sym (same.1 (push_num (word_of got.0) c) ∙ ap (λ (x : ℤ). push_num x c) same.0)) (push.does c (record { names = names; held = now }))),
@@ -118,7 +120,7 @@ module _ (line : Line) (m : Machine) (heap : IsHeap m.sw) (here : area.Heap) (na
         let counted = h.counted in
         let top = stands.carries.top in
         let same : z ≡ wanted = got.2 ∙ (let e : Yields got.0 ≡ Yields wanted = sym got.1 in cc) in
-        let now = held-more here m.sw names names 0 m c c.store heap stands.carries (all-same c.store.heap) h stands.world (omega (arith, counted, top)) refl in (
+        let now = held-more here m.sw names names 0 m c c.store heap stands.carries (all-same c.store.heap) h stands.world (omega (arith, counted, top)) refl refl in (
           size-behind r here m.sw new.sw stands.carries.size push.size,
           subst (λ (x : ℤ). Does (push_num x c) r new) same (push.does c (record { names = names; held = now })),
         )
@@ -131,7 +133,7 @@ module _ (line : Line) (m : Machine) (heap : IsHeap m.sw) (here : area.Heap) (na
         let stands = got.3 in
         let counted = h.counted in
         let top = stands.carries.top in
-        let now = held-more here m.sw names names 0 m c c.store heap stands.carries (all-same c.store.heap) h stands.world (omega (arith, counted, top)) refl in (
+        let now = held-more here m.sw names names 0 m c c.store heap stands.carries (all-same c.store.heap) h stands.world (omega (arith, counted, top)) refl refl in (
           size-behind r here m.sw new.sw stands.carries.size push.size,
           subst (λ (a : Attempt Value). Does (attempted line a (λ w. when_reference (Some f) (push_ref w c))) r new) (sym got.1)
               (subst (λ (s : Step). Does s r new) (sym (referred f to got.2.0 (push_ref got.0 c))) (push.does names got.0 c now got.2.1)),
@@ -170,7 +172,7 @@ module _ (line : Line) (m : Machine) (heap : IsHeap m.sw) (here : area.Heap) (na
       let counted = h.counted in
       let top = stands.carries.top in
       let store = on_heap did.0 c.store in
-      let now = held-more here m.sw names names 0 m c store heap stands.carries (last did.0 did.1) h stands.world (omega (arith, counted, top)) refl in
+      let now = held-more here m.sw names names 0 m c store heap stands.carries (last did.0 did.1) h stands.world (omega (arith, counted, top)) refl refl in
       (stands.carries.size, ([], record c { store = store }, ap (λ (a : Attempt Heap). attempted line a (λ heap. changed heap c)) did.1, refl, record { names = names; held = now }))
 
   -- an operation that failed

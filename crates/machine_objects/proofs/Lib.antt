@@ -17,3 +17,5 @@ pub mod ElementsReached
 pub mod RowLaws
 pub mod RowsLaid
 pub mod MakingRows
+pub mod FieldsReached
+pub mod LinesRead

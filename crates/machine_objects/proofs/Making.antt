@@ -123,6 +123,7 @@ module _ (left last : ℕ) (start now mid : Machine) (f : Form) (r : PopsBack le
           nums_room = p.sound.nums_room;
           refs_room = p.sound.refs_room;
           values_room = room;
+          waiting = p.sound.waiting;
         };
         area = p.area ∙ r.area;
         forms =

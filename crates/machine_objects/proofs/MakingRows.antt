@@ -41,10 +41,11 @@ use Rattle.machine_state.specs.Holding.{HeldBy, IsHolding, IsSound, IsRow, IsRef
 use Rattle.machine_state.specs.Stepped.{Takes, Does}
 use Rattle.machine_state.proofs.Rows.{row_length}
 use Rattle.machine_state.proofs.RefRows.{ref_length}
-use Rattle.machine_objects.specs.inside.Giving.{HeldIn, GivesObject}
+use Rattle.machine_state.specs.Holding.{HeldIn}
+use Rattle.machine_objects.specs.inside.Giving.{GivesObject}
 use Rattle.machine_objects.specs.inside.Constants.{KnowsMake}
 use Rattle.machine_objects.specs.inside.Rows.{row_values, named, AreInts, whole_of}
-use Rattle.machine_objects.proofs.ConstantReads.{same-constant}
+use Rattle.machine_objects.proofs.ConstantReads.{text-known}
 use Rattle.machine_objects.proofs.Ending.{ends}
 use Rattle.machine_objects.proofs.RowLaws.{codes, means, same-refs, same-words, are-codes, pops-rows, too-few-nums, too-few-refs, nums-left, refs-left, near-named, denoted-long}
 
@@ -116,7 +117,7 @@ module _ (m : Machine) (j : ℕ) (refs_low : m.frame.refs ≤ j) (high : j ≤ l
       let left = refs-left m.sw names m.refs.items m.frame.refs j c.refs c.locals.refs holding.1.held.refs_are refs_low high in
       near-named m.sw names (drop j m.refs.items) left.tops left.are
 
-module _ (k : ℕ) (m : Machine) (known : KnownMake) (knows : KnowsMake k m known) where
+module _ (k : ℕ) (m : Machine) (known : KnownMake) (knows : KnowsMake k m known) (heap : IsHeap m.sw) where
   abbrev class : List ℕ
   class = text_at m.sw known.text
 
@@ -128,7 +129,7 @@ module _ (k : ℕ) (m : Machine) (known : KnownMake) (knows : KnowsMake k m know
   named-class names c h =
       let is = knows names c h in
       ap (λ (o : Option ConstantView). text_in o (λ bytes. pop_fields (reverse (forms_of bytes)) [] c (λ fields d. make Pointer (Structure bytes fields) d)))
-      (same-constant (constants_in c.unit) k ∙ ap (constant_numbered (constants_in c.unit)) (sym is.constant_is) ∙ is.so.class.is)
+      (text-known m.sw m.code known.code k known.constant known.text c.unit heap h.unit_is is.so.class is.code_is is.constant_is)
 
   -- the stacks have too few words
   pub few-nums : IsSound m → IsHolding m → length m.nums.items < m.frame.nums + known.fields.rows.nums → Takes (make_structure k) m m Damaged
@@ -148,7 +149,7 @@ module _ (k : ℕ) (m : Machine) (known : KnownMake) (knows : KnowsMake k m know
   ))
 
   module _ (i j : ℕ) (nums_low : m.frame.nums ≤ i) (refs_low : m.frame.refs ≤ j) (nums_are : i + known.fields.rows.nums ≡ length m.nums.items)
-      (refs_are : j + known.fields.rows.refs ≡ length m.refs.items) (heap : IsHeap m.sw) where
+      (refs_are : j + known.fields.rows.refs ≡ length m.refs.items) where
     module _ (now : area.Heap) (left_nums : Vec ℤ Global) (left_refs : Vec ℕ Global)
         (nums_left : left_nums.items ≡ take i m.nums.items) (refs_left : left_refs.items ≡ take j m.refs.items) where
       abbrev popped : Machine
@@ -160,15 +161,19 @@ module _ (k : ℕ) (m : Machine) (known : KnownMake) (knows : KnowsMake k m know
           → HeldIn m.sw names popped (record c { nums = nums; refs = refs })
       stands-behind names c nums refs h row ref_row = record {
         unit_is = h.unit_is;
+        fit = h.fit;
         place_is = h.place_is;
         frame_is = h.frame_is;
         at_is = h.at_is;
         nums_are = subst (λ (l : List ℤ). IsRow l m.frame.nums nums c.locals.nums) (sym nums_left) row;
         refs_are = subst (λ (l : List ℕ). IsRefRow m.sw names l m.frame.refs refs c.locals.refs) (sym refs_left) ref_row;
-        no_callers = h.no_callers;
+        scope_is = h.scope_is;
+        callers_are = h.callers_are;
+        input_is = h.input_is;
         turns_are = h.turns_are;
         world = h.world;
         entries_are = h.entries_are;
+        layouts_are = h.layouts_are;
         known_are = h.known_are;
         counted = h.counted;
       }

@@ -44,6 +44,7 @@ sound-laid m w sound room = record {
   nums_room = sound.nums_room;
   refs_room = sound.refs_room;
   values_room = room;
+  waiting = sound.waiting;
 }
 
 -- the bytes of the text that an object denotes

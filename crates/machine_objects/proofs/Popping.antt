@@ -10,7 +10,7 @@ use Rattle.ps_stepping.specs.Steps.{Step, Stuck, pop_num, pop_ref, text_of}
 use Rattle.ps_stepping.specs.Machine.{pop_width}
 use Rattle.ps_stepping.specs.Objects.{object_of, denoting_of, type_of, type_of_object, of_type}
 use Rattle.paired_ops.specs.World.{DenotesIn}
-use Rattle.paired_ops.specs.Operands.{IsOfSort, IsSorted, IsNoText}
+use Rattle.paired_ops.specs.Operands.{IsOfSort, IsSorted, IsByObject}
 use Rattle.paired_ops.specs.declared.values.Sort.{Sort}
 use Rattle.paired_ops.specs.declared.values.Sort.TheVariants as sort
 use Rattle.paired_ops.proofs.ReadLaws.{vector-at}
@@ -103,6 +103,7 @@ module _ (old new : Machine) (w : ℕ) (s : Sort) (p : TakenRef pop_ref old new 
       stuck (Text b) sort.Structure other is d next = absurd is
       stuck (Text b) sort.Vector other is d next = absurd is
       stuck (Text b) sort.Other other is d next = absurd is
+      stuck (Text b) sort.Procedure other is d next = absurd is
       stuck Nil s other is d next = refl
       stuck (Pointer id) s other is d next = refl
       stuck (Vector id) s other is d next = refl
@@ -134,7 +135,7 @@ module _ (old new : Machine) (w : ℕ) (s : Sort) (p : TakenRef pop_ref old new 
   }
 
   -- nil, a structure or a vector
-  pub denoting-popped : (to : Option ℕ) → object_in w ≡ to → ((v : Value) → IsOfSort v s → IsNoText v × ((d : Config) (next : Value → Config → Step) → denoting_of v d next ≡ next v d)) → PopsDenoting old new (Some to)
+  pub denoting-popped : (to : Option ℕ) → object_in w ≡ to → ((v : Value) → IsOfSort v s → IsByObject v × ((d : Config) (next : Value → Config → Step) → denoting_of v d next ≡ next v d)) → PopsDenoting old new (Some to)
   denoting-popped to is object = record {
     sound = p.sound;
     area = p.area;
@@ -191,13 +192,15 @@ other-object sort.Text a b Nil is d next = absurd is
 other-object sort.Structure a b Nil is d next = absurd is
 other-object sort.Vector a b Nil is d next = absurd is
 other-object sort.Other a b Nil is d next = absurd is
+other-object sort.Procedure a b Nil is d next = absurd is
 other-object sort.Nil a b (Pointer id) is d next = absurd is
 other-object sort.Text a b (Pointer id) is d next = absurd is
 other-object sort.Structure a b (Pointer id) is d next = absurd (b refl)
 other-object sort.Vector a b (Pointer id) is d next = absurd is
 other-object sort.Other a b (Pointer id) is d next = absurd is
+other-object sort.Procedure a b (Pointer id) is d next = absurd is
 
-pub nil-denoting : (v : Value) → IsOfSort v sort.Nil → IsNoText v × ((d : Config) (next : Value → Config → Step) → denoting_of v d next ≡ next v d)
+pub nil-denoting : (v : Value) → IsOfSort v sort.Nil → IsByObject v × ((d : Config) (next : Value → Config → Step) → denoting_of v d next ≡ next v d)
 nil-denoting Nil is = (tt, λ d next. refl)
 nil-denoting (Text b) is = absurd is
 nil-denoting (Pointer id) is = absurd is
@@ -207,7 +210,7 @@ nil-denoting (Flag b) is = absurd is
 nil-denoting (Procedure of scope) is = absurd is
 nil-denoting Nothing is = absurd is
 
-pub structure-denoting : (v : Value) → IsOfSort v sort.Structure → IsNoText v × ((d : Config) (next : Value → Config → Step) → denoting_of v d next ≡ next v d)
+pub structure-denoting : (v : Value) → IsOfSort v sort.Structure → IsByObject v × ((d : Config) (next : Value → Config → Step) → denoting_of v d next ≡ next v d)
 structure-denoting (Pointer id) is = (tt, λ d next. refl)
 structure-denoting Nil is = absurd is
 structure-denoting (Text b) is = absurd is
@@ -227,8 +230,8 @@ vector-of_sort (Flag b) is = absurd is
 vector-of_sort (Procedure of scope) is = absurd is
 vector-of_sort Nothing is = absurd is
 
-pub vector-denoting : (v : Value) → IsOfSort v sort.Vector → IsNoText v × ((d : Config) (next : Value → Config → Step) → denoting_of v d next ≡ next v d)
-vector-denoting v is = let it = vector-of_sort v is in subst (λ (x : Value). IsNoText x × ((d : Config) (next : Value → Config → Step) → denoting_of x d next ≡ next x d)) (sym it.1) (tt, λ d next. refl)
+pub vector-denoting : (v : Value) → IsOfSort v sort.Vector → IsByObject v × ((d : Config) (next : Value → Config → Step) → denoting_of v d next ≡ next v d)
+vector-denoting v is = let it = vector-of_sort v is in subst (λ (x : Value). IsByObject x × ((d : Config) (next : Value → Config → Step) → denoting_of x d next ≡ next x d)) (sym it.1) (tt, λ d next. refl)
 
 -- of another sort nothing denotes an object
 pub other-denoting : (s : Sort) → s ≢ sort.Nil → s ≢ sort.Structure → s ≢ sort.Vector → (v : Value) → IsOfSort v s → (d : Config) (next : Value → Config → Step) → denoting_of v d next ≡ Stuck
@@ -242,16 +245,19 @@ other-denoting sort.Text a b e Nil is d next = absurd is
 other-denoting sort.Structure a b e Nil is d next = absurd is
 other-denoting sort.Vector a b e Nil is d next = absurd is
 other-denoting sort.Other a b e Nil is d next = absurd is
+other-denoting sort.Procedure a b e Nil is d next = absurd is
 other-denoting sort.Nil a b e (Pointer id) is d next = absurd is
 other-denoting sort.Text a b e (Pointer id) is d next = absurd is
 other-denoting sort.Structure a b e (Pointer id) is d next = absurd (b refl)
 other-denoting sort.Vector a b e (Pointer id) is d next = absurd is
 other-denoting sort.Other a b e (Pointer id) is d next = absurd is
+other-denoting sort.Procedure a b e (Pointer id) is d next = absurd is
 other-denoting sort.Nil a b e (Vector id) is d next = absurd is
 other-denoting sort.Text a b e (Vector id) is d next = absurd is
 other-denoting sort.Structure a b e (Vector id) is d next = absurd is
 other-denoting sort.Vector a b e (Vector id) is d next = absurd (e refl)
 other-denoting sort.Other a b e (Vector id) is d next = absurd is
+other-denoting sort.Procedure a b e (Vector id) is d next = absurd is
 
 module _ (old new : Machine) (w : ℕ) (s : Sort) (heap : IsHeap new.sw) (p : TakenRef pop_ref old new (Some w)) (sorted : AllSorted new.sw (object_in w) s) where
   -- a vector, with the text of its type
@@ -287,6 +293,7 @@ module _ (old new : Machine) (w : ℕ) (s : Sort) (heap : IsHeap new.sw) (p : Ta
       stuck (Vector id) sort.Structure other is d next = absurd is
       stuck (Vector id) sort.Text other is d next = absurd is
       stuck (Vector id) sort.Other other is d next = absurd is
+      stuck (Vector id) sort.Procedure other is d next = absurd is
       stuck Nil s other is d next = refl
       stuck (Pointer id) s other is d next = refl
       stuck (Text b) s other is d next = refl

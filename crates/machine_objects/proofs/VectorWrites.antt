@@ -36,7 +36,7 @@ use Rattle.machine_state.specs.inside.Taking.{Taken}
 use Rattle.machine_objects.specs.inside.Popping.{PopsVector}
 use Rattle.machine_objects.specs.inside.Elements.{PopsKnown, GivesKnown, trap_in, trapped_in}
 use Rattle.machine_objects.specs.inside.Giving.{Changes}
-use Rattle.machine_objects.proofs.Carrying.{read-holds, sound-kept, size-behind}
+use Rattle.machine_state.proofs.Carrying.{read-holds, sound-kept, size-behind}
 use Rattle.machine_objects.proofs.Ending.{Comes, denoted-there, vector-type}
 
 -- What a vector was found to be that was popped.
@@ -44,15 +44,19 @@ with-vectors : (m : Machine) (vectors : KnownVectors) (names : List Reference) (
     → HeldBy names (record m { vectors = vectors }) c
 with-vectors m vectors names c so h = record {
   unit_is = h.unit_is;
+  fit = h.fit;
   place_is = h.place_is;
   frame_is = h.frame_is;
   at_is = h.at_is;
   nums_are = h.nums_are;
   refs_are = h.refs_are;
-  no_callers = h.no_callers;
+  scope_is = h.scope_is;
+  callers_are = h.callers_are;
+  input_is = h.input_is;
   turns_are = h.turns_are;
   world = h.world;
   entries_are = h.entries_are;
+  layouts_are = h.layouts_are;
   known_are = so;
   counted = h.counted;
 }
@@ -72,6 +76,7 @@ module _ (old mid : Machine) (now : area.Heap) (vectors : KnownVectors) (vector 
     nums_room = s.nums_room;
     refs_room = s.refs_room;
     values_room = s.values_room;
+    waiting = s.waiting;
   }
 
   known-given : (known : KnownVector) → found ≡ Ok known → (names : List Reference) (c : Config) → HeldBy names old c → GivesKnown names c (Some known) old new

@@ -5,3 +5,4 @@ pub mod Elements
 pub mod Reaching
 pub mod Making
 pub mod Rows
+pub mod Fielding

@@ -64,6 +64,7 @@ pub(crate) fn field_at<V: Vault>(
 {
     let known = known_field(m, vault, k, n)?;
     let met = meet(m, known, below);
+    m.sw.sound();
     Some((met.text, met.located))
 }
 
@@ -79,7 +80,7 @@ fn known_field<V: Vault>(m: &mut Machine, vault: &mut V, k: u32, n: u32) -> Opti
     ensures leaves { LeavesOutside (V.outside vault.old) (V.outside vault.new) }
     ensures alive { OnSome result (V.alive vault.new) }
 {
-    match m.classes.fields.find(k, n) {
+    match m.classes.fields.find(m.code, k, n) {
         Some(known) => Some(known),
         None => look_up(m, vault, k, n),
     }
@@ -103,6 +104,7 @@ fn look_up<V: Vault>(m: &mut Machine, vault: &mut V, k: u32, n: u32) -> Option<K
         Some(located) => {
             let known = KnownField {
                 text,
+                code: m.code,
                 constant: k,
                 field: n,
                 located,

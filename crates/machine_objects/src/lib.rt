@@ -3,9 +3,11 @@
 
 mod constants;
 pub mod elements;
+mod fielding;
 pub mod fills;
 mod forms;
 mod gives;
+mod inputs;
 mod known;
 pub mod lists;
 pub mod makes;

@@ -37,7 +37,7 @@ pub fn make_structure<V: Vault>(m: &mut Machine, vault: &mut V, k: u32) -> Stepp
     ensures leaves { LeavesOutside (V.outside vault.old) (V.outside vault.new) }
     ensures alive { UnlessDamaged result (V.alive vault.new) }
 {
-    match m.classes.makes.find(k) {
+    match m.classes.makes.find(m.code, k) {
         Some(known) => make_known(m, known),
         None => make_by_text(m, vault, k),
     }
@@ -51,14 +51,14 @@ fn make_known(m: &mut Machine, known: KnownMake) -> Stepped
     requires text { IsKind Text m.old.sw known.text }
     ensures { (k : ℕ) → KnowsMake k m.old known → Takes (make_structure_of k) m.old m.new result }
 {
-    let Rows { refs, nums } = known.fields.rows;
-    let Some(first_num) = below_top(m.nums.len(), m.frame.nums as usize, nums as usize) else {
-        return Stepped::Damaged;
-    };
-    let Some(first_ref) = below_top(m.refs.len(), m.frame.refs as usize, refs as usize) else {
-        return Stepped::Damaged;
-    };
     m.sw.sound();
+    let Rows { refs, nums } = known.fields.rows;
+    let Some(first_num) = below_top(m.nums.len(), m.frame.nums, nums) else {
+        return Stepped::Damaged;
+    };
+    let Some(first_ref) = below_top(m.refs.len(), m.frame.refs, refs) else {
+        return Stepped::Damaged;
+    };
     let made = make_rows(
         &mut m.sw,
         known.text,
@@ -73,11 +73,11 @@ fn make_known(m: &mut Machine, known: KnownMake) -> Stepped
 
 // How many words lie below so many on top, where those lie above the locals.
 #[inline(always)]
-fn below_top(all: usize, locals: usize, count: usize) -> Option<usize>
-    requires { locals + count < 2 ^ 64 }
+fn below_top(all: usize, locals: u16, count: u32) -> Option<usize>
     ensures { MatchOption result (all < locals + count) (λ first. (first + count ≡ all) × (locals ≤ first)) }
 {
-    if all < locals + count {
+    let count = count as usize;
+    if all < locals as usize + count {
         return None;
     }
     Some(all - count)
@@ -151,6 +151,6 @@ fn class_constant<V: Vault>(m: &mut Machine, vault: &mut V, k: u32) -> Option<u3
 {
     let class = text_constant(m, vault, k)?;
     m.sw.sound();
-    let _known = m.classes.makes.learn(&m.sw, k, class);
+    let _known = m.classes.makes.learn(&m.sw, m.code, k, class);
     Some(class)
 }

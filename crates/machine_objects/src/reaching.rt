@@ -115,9 +115,9 @@ pub(crate) fn drop_number(m: &mut Machine) -> Stepped
     Stepped::Quiet
 }
 
-// The two references on top, the lower one first, where two were pushed.
+/// The two references on top, the lower one first, where two were pushed.
 #[inline(always)]
-fn top_two_refs(m: &Machine) -> Option<(u32, u32)>
+pub(crate) fn top_two_refs(m: &Machine) -> Option<(u32, u32)>
     ensures { IfSome result (λ words. (c : Config) → Holds m.now c → HasTwoRefs m.now c words) }
 {
     let count = m.refs.len();

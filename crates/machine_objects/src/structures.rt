@@ -12,6 +12,10 @@ ghost use Rattle.ps_meaning.specs.Evaluation.{object_relation};
 ghost use Rattle.ps_meaning.specs.Objects.{is_one_object};
 
 use crate::constants::{field_at, text_constant};
+use crate::fielding::{
+    drop_both, drop_refs, field_number, field_reference, put_number, put_reference, write_number,
+    write_reference,
+};
 use crate::forms::kept_as;
 use crate::gives::{done, give_number, give_reference};
 use crate::pops::{pop_any, pop_denoting, pop_int, pop_object};
@@ -92,6 +96,23 @@ pub fn field_num<V: Vault>(m: &mut Machine, vault: &mut V, k: u32, n: u32, line:
     ensures leaves { LeavesOutside (V.outside vault.old) (V.outside vault.new) }
     ensures alive { UnlessDamaged result (V.alive vault.new) }
 {
+    match field_number(m, k, n) {
+        Some(z) => put_number(m, z),
+        None => find_field_num(m, vault, k, n, line),
+    }
+}
+
+// The same, with its operands from the stacks one by one.
+#[inline(never)]
+fn find_field_num<V: Vault>(m: &mut Machine, vault: &mut V, k: u32, n: u32, line: Line) -> Stepped
+    requires sound { IsSound m.old }
+    requires holding { IsHolding m.old }
+    requires alive { V.alive vault.old }
+    requires empty { IsEmpty (V.outside vault.old) }
+    ensures takes { Takes (field_num_of k n line) m.old m.new result }
+    ensures leaves { LeavesOutside (V.outside vault.old) (V.outside vault.new) }
+    ensures alive { UnlessDamaged result (V.alive vault.new) }
+{
     let Some((class, located)) = field_at(m, vault, k, n, 0) else {
         return Stepped::Damaged;
     };
@@ -108,6 +129,23 @@ pub fn field_num<V: Vault>(m: &mut Machine, vault: &mut V, k: u32, n: u32, line:
 /// As `field_num`, where the field holds a reference.
 #[inline]
 pub fn field_ref<V: Vault>(m: &mut Machine, vault: &mut V, k: u32, n: u32, line: Line) -> Stepped
+    requires sound { IsSound m.old }
+    requires holding { IsHolding m.old }
+    requires alive { V.alive vault.old }
+    requires empty { IsEmpty (V.outside vault.old) }
+    ensures takes { Takes (field_ref_of k n line) m.old m.new result }
+    ensures leaves { LeavesOutside (V.outside vault.old) (V.outside vault.new) }
+    ensures alive { UnlessDamaged result (V.alive vault.new) }
+{
+    match field_reference(m, k, n) {
+        Some(to) => put_reference(m, to),
+        None => find_field_ref(m, vault, k, n, line),
+    }
+}
+
+// The same, with its operands from the stacks one by one.
+#[inline(never)]
+fn find_field_ref<V: Vault>(m: &mut Machine, vault: &mut V, k: u32, n: u32, line: Line) -> Stepped
     requires sound { IsSound m.old }
     requires holding { IsHolding m.old }
     requires alive { V.alive vault.old }
@@ -146,6 +184,23 @@ pub fn set_field_num<V: Vault>(
     ensures leaves { LeavesOutside (V.outside vault.old) (V.outside vault.new) }
     ensures alive { UnlessDamaged result (V.alive vault.new) }
 {
+    if write_number(m, k, n) {
+        return drop_both(m);
+    }
+    store_field_num(m, vault, k, n, line)
+}
+
+// The same, with its operands from the stacks one by one.
+#[inline(never)]
+fn store_field_num<V: Vault>(m: &mut Machine, vault: &mut V, k: u32, n: u32, line: Line) -> Stepped
+    requires sound { IsSound m.old }
+    requires holding { IsHolding m.old }
+    requires alive { V.alive vault.old }
+    requires empty { IsEmpty (V.outside vault.old) }
+    ensures takes { Takes (set_field_num_of k n line) m.old m.new result }
+    ensures leaves { LeavesOutside (V.outside vault.old) (V.outside vault.new) }
+    ensures alive { UnlessDamaged result (V.alive vault.new) }
+{
     let Some((class, located)) = field_at(m, vault, k, n, 0) else {
         return Stepped::Damaged;
     };
@@ -172,6 +227,23 @@ pub fn set_field_ref<V: Vault>(
     n: u32,
     line: Line,
 ) -> Stepped
+    requires sound { IsSound m.old }
+    requires holding { IsHolding m.old }
+    requires alive { V.alive vault.old }
+    requires empty { IsEmpty (V.outside vault.old) }
+    ensures takes { Takes (set_field_ref_of k n line) m.old m.new result }
+    ensures leaves { LeavesOutside (V.outside vault.old) (V.outside vault.new) }
+    ensures alive { UnlessDamaged result (V.alive vault.new) }
+{
+    if write_reference(m, k, n) {
+        return drop_refs(m);
+    }
+    store_field_ref(m, vault, k, n, line)
+}
+
+// The same, with its operands from the stacks one by one.
+#[inline(never)]
+fn store_field_ref<V: Vault>(m: &mut Machine, vault: &mut V, k: u32, n: u32, line: Line) -> Stepped
     requires sound { IsSound m.old }
     requires holding { IsHolding m.old }
     requires alive { V.alive vault.old }

@@ -12,6 +12,7 @@ ghost use Rattle.paired_ops.specs.World.{IsEmpty};
 
 use crate::constants::text_constant;
 use crate::gives::give_text;
+use crate::inputs::{at_end, read_line};
 use crate::pops::{pop_int, pop_text, take_width};
 use machine_state::stacks::{push_num, push_ref};
 use machine_state::values::number;
@@ -45,12 +46,14 @@ pub fn push_text<V: Vault>(m: &mut Machine, vault: &mut V, k: u32) -> Stepped
 
 /// Calls the library's function of this code; damaged where it has none.
 #[inline]
-pub fn library(m: &mut Machine, code: u32) -> Stepped
+pub fn library(m: &mut Machine, code: u32, line: Line) -> Stepped
     requires sound { IsSound m.old }
     requires holding { IsHolding m.old }
-    ensures { Takes (library_of code) m.old m.new result }
+    ensures { Takes (library_of code line) m.old m.new result }
 {
     match code {
+        9 => read_line(m, line),
+        10 => at_end(m),
         11 => length(m),
         12 => int_text(m),
         _ => Stepped::Damaged,

@@ -15,7 +15,7 @@ use Rattle.machine_state.specs.Holding.{Holds, Standing}
 
 module _ (m : Machine) (c : Config) (h : Holds m c) where
   abbrev At : ℕ → ℕ → Config → Type 0
-  At at turns d = Standing m.sw m.classes m.vectors.entries.items m.code m.place m.frame at m.nums.items m.refs.items turns d
+  At at turns d = Standing m.sw m.classes m.layouts m.vectors.entries.items m.code m.place m.frame m.scope m.waiting m.input at m.nums.items m.refs.items turns d
 
   -- at another offset
   pub stands_at : (to : ℕ) → At to m.turns (record c { at = to })
@@ -23,15 +23,19 @@ module _ (m : Machine) (c : Config) (h : Holds m c) where
     names = h.names;
     held = record {
       unit_is = h.held.unit_is;
+      fit = h.held.fit;
       place_is = h.held.place_is;
       frame_is = h.held.frame_is;
       at_is = refl;
       nums_are = h.held.nums_are;
       refs_are = h.held.refs_are;
-      no_callers = h.held.no_callers;
+      scope_is = h.held.scope_is;
+      callers_are = h.held.callers_are;
+      input_is = h.held.input_is;
       turns_are = h.held.turns_are;
       world = h.held.world;
       entries_are = h.held.entries_are;
+      layouts_are = h.held.layouts_are;
       known_are = h.held.known_are;
       counted = h.held.counted;
     };
@@ -52,15 +56,19 @@ module _ (m : Machine) (c : Config) (h : Holds m c) where
           names = h.names;
           held = record {
             unit_is = h.held.unit_is;
+            fit = h.held.fit;
             place_is = h.held.place_is;
             frame_is = h.held.frame_is;
             at_is = refl;
             nums_are = h.held.nums_are;
             refs_are = h.held.refs_are;
-            no_callers = h.held.no_callers;
+            scope_is = h.held.scope_is;
+            callers_are = h.held.callers_are;
+            input_is = h.held.input_is;
             turns_are = refl;
             world = h.held.world;
             entries_are = h.held.entries_are;
+            layouts_are = h.held.layouts_are;
             known_are = h.held.known_are;
             counted = h.held.counted;
           };

@@ -4,3 +4,10 @@ pub mod Words
 pub mod Popping
 pub mod Jumping
 pub mod Between
+pub mod Callers
+pub mod Arguments
+pub mod Handing
+pub mod Carrying
+pub mod Calling
+pub mod Returning
+pub mod Lines

@@ -75,10 +75,10 @@ too_few (x ∷ y ∷ xs) few c next = absurd (omega arith)
 module _ (m : Machine) (c : Config) (names : List Reference) (held : HeldBy names m c) where
   -- with other numbers, and with other references
   abbrev WithNums : List ℤ → Config → Type 0
-  WithNums nums d = Held names m.sw m.classes m.vectors.entries.items m.code m.place m.frame m.at nums m.refs.items m.turns d
+  WithNums nums d = Held names m.sw m.classes m.layouts m.vectors.entries.items m.code m.place m.frame m.scope m.waiting m.input m.at nums m.refs.items m.turns d
 
   abbrev pub WithRefs : List ℕ → Config → Type 0
-  WithRefs refs d = Held names m.sw m.classes m.vectors.entries.items m.code m.place m.frame m.at m.nums.items refs m.turns d
+  WithRefs refs d = Held names m.sw m.classes m.layouts m.vectors.entries.items m.code m.place m.frame m.scope m.waiting m.input m.at m.nums.items refs m.turns d
 
   nums_size : (frame_in c.unit).nums ≡ m.frame.nums
   nums_size = ap (λ (f : Frame). f.nums) held.frame_is
@@ -89,15 +89,19 @@ module _ (m : Machine) (c : Config) (names : List Reference) (held : HeldBy name
   with_nums : (nums pushed : List ℤ) (locals : ℕ → ℤ) → IsRow nums m.frame.nums pushed locals → WithNums nums (record c { nums = pushed; locals = record c.locals { nums = locals } })
   with_nums nums pushed locals row = record {
     unit_is = held.unit_is;
+    fit = held.fit;
     place_is = held.place_is;
     frame_is = held.frame_is;
     at_is = held.at_is;
     nums_are = row;
     refs_are = held.refs_are;
-    no_callers = held.no_callers;
+    scope_is = held.scope_is;
+    callers_are = held.callers_are;
+    input_is = held.input_is;
     turns_are = held.turns_are;
     world = held.world;
     entries_are = held.entries_are;
+    layouts_are = held.layouts_are;
     known_are = held.known_are;
     counted = held.counted;
   }
@@ -180,15 +184,19 @@ module _ (m : Machine) (c : Config) (names : List Reference) (held : HeldBy name
   with_refs : (refs : List ℕ) (pushed : List Value) (locals : ℕ → Value) → IsRefRow m.sw names refs m.frame.refs pushed locals → WithRefs refs (record c { refs = pushed; locals = record c.locals { refs = locals } })
   with_refs refs pushed locals row = record {
     unit_is = held.unit_is;
+    fit = held.fit;
     place_is = held.place_is;
     frame_is = held.frame_is;
     at_is = held.at_is;
     nums_are = held.nums_are;
     refs_are = row;
-    no_callers = held.no_callers;
+    scope_is = held.scope_is;
+    callers_are = held.callers_are;
+    input_is = held.input_is;
     turns_are = held.turns_are;
     world = held.world;
     entries_are = held.entries_are;
+    layouts_are = held.layouts_are;
     known_are = held.known_are;
     counted = held.counted;
   }

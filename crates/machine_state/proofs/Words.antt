@@ -1,10 +1,10 @@
 -- Words that name objects.
-use Rattle.std.proofs.Common.{◌≡◌, ℕ, zero, suc, List, Option, Some, None, refl, arith}
+use Rattle.std.proofs.Common.{◌≡◌, ℕ, zero, suc, List, Option, Some, None, refl, arith, rules}
 use Rattle.obj_layout.specs.declared.reference.Reference.{Reference}
 use Rattle.swizzle.specs.Heap as area
 use Rattle.swizzle.specs.Heap.{IsHeap}
-use Rattle.ps_meaning.specs.Values.{Value}
-use Rattle.paired_ops.specs.World.{DenotesIn}
+use Rattle.ps_meaning.specs.Values.{Value, Nil}
+use Rattle.paired_ops.specs.World.{DenotesIn, DenotesScopeIn}
 use Rattle.heap_ops.proofs.LayoutLaws.{held-from}
 use Rattle.machine_state.specs.Holding.{object_in, word_of}
 
@@ -13,3 +13,12 @@ pub named-back : (here : area.Heap) (names : List Reference) (to : Option ℕ) (
 named-back here names None v heap d = refl
 named-back here names (Some zero) v heap d = absurd (let low = (held-from here 0 heap d.denotes.0).0 in omega (arith, low))
 named-back here names (Some (suc n)) v heap d = refl
+
+pub scope-named-back : (here : area.Heap) (names : List Reference) (to scope : Option ℕ) → IsHeap here → DenotesScopeIn here names to scope → object_in (word_of to) ≡ to
+scope-named-back here names None scope heap d = refl
+scope-named-back here names (Some zero) scope heap d = absurd (let low = (held-from here 0 heap d.denotes.0).0 in omega (arith, low))
+scope-named-back here names (Some (suc n)) scope heap d = refl
+
+-- nil denotes itself
+pub nil-denoted : (here : area.Heap) (names : List Reference) → DenotesIn here names None Nil
+nil-denoted here names = search rules

@@ -1,3 +1,7 @@
+pub mod Rows
+pub mod Waiting
 pub mod Holding
 pub mod Stepped
+pub mod Calling
+pub mod Reading
 pub mod inside

@@ -4,15 +4,14 @@ ghost use Rattle.ps_base.specs.declared.trap.Trap.TheVariants.{Abort};
 ghost use Rattle.ps_meaning.specs.Event.{Trapped};
 ghost use Rattle.ps_meaning.specs.Values.{is_one as is_one_of, flag_text};
 ghost use Rattle.ps_meaning.specs.Meaning.{is_width as is_width_of};
-ghost use Rattle.ps_stepping.specs.Machine.{Stops, written as written_of, write_num as write_num_of, returned as returned_of};
+ghost use Rattle.ps_stepping.specs.Machine.{Stops, written as written_of, write_num as write_num_of};
 ghost use Rattle.machine_state.specs.Holding.{IsSound};
 ghost use Rattle.machine_state.specs.Stepped.{Takes, item_text, IsItem};
 
-use crate::ends::{halt, trapped};
+use crate::ends::trapped;
 use crate::jumps::is_one;
 use crate::machine::Machine;
-use crate::run_end::RunEnd;
-use crate::stacks::{pop_num, pop_ref, pop_width};
+use crate::stacks::{pop_num, pop_width};
 use crate::stepped::{Item, Stepped, Writing};
 use ps_base::line::Line;
 use ps_base::trap::Trap;
@@ -73,26 +72,6 @@ pub fn write_flag(m: &mut Machine, given: u32, line: Line) -> Stepped
         return Stepped::Damaged;
     };
     written(m, width, Item::Flag(is_one(z)), line)
-}
-
-/// Comes back to the body that called, with nothing, a number or a reference. No body waits yet.
-#[inline(always)]
-pub fn returned(m: &mut Machine, kind: u32) -> Stepped
-    requires { IsSound m.old }
-    ensures { Takes (returned_of kind) m.old m.new result }
-{
-    match kind {
-        0 => halt(m, RunEnd::Done),
-        1 => match pop_num(m) {
-            Some(_) => halt(m, RunEnd::Done),
-            None => Stepped::Damaged,
-        },
-        2 => match pop_ref(m) {
-            Some(_) => halt(m, RunEnd::Done),
-            None => Stepped::Damaged,
-        },
-        _ => Stepped::Damaged,
-    }
 }
 
 /// Ends the run by the program's own will.

@@ -1,5 +1,6 @@
 -- A space of word 0 alone has no object.
 use Rattle.std.proofs.Common.{◌≡◌, ℕ, List, [], ◌∷◌, ◌++◌, length, sym, ap, subst, arith, length-append}
+use Rattle.ps_outside.specs.Outside.{Outside}
 use Rattle.obj_layout.specs.Objects.{Placed, Cuts, IsAmong}
 use Rattle.obj_layout.specs.Stored.{Space, HasObject}
 use Rattle.obj_layout.proofs.ObjectLaws.{object-long}
@@ -19,6 +20,5 @@ has_none space pid words is h =
     none_among 1 has.objects (record { pid = pid; words = words }) has.cut.1 has.among
 
 -- whatever the host tells
-pub holds-nothing : {H : Type 0} (clock : H → ℕ) (told : H → ℕ → List ℕ → Type 0) (faults : H → ℕ) (host : H)
-    → HoldsNothing (outside_of clock told faults host)
-holds-nothing clock told faults host = λ pid words h. has_none h.space pid words h.is h.has
+pub holds-nothing : (host : Outside (List ℕ)) → HoldsNothing (outside_of host)
+holds-nothing host = λ pid words h. has_none h.space pid words h.is h.has

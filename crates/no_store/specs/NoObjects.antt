@@ -7,17 +7,17 @@ use Rattle.obj_layout.specs.Stored.{Space, Holds}
 abbrev pub no_objects : Space
 no_objects = record { words = 0 ∷ []; directory = 0 }
 
--- What is seen of a store without objects. It tells what its host tells; what it holds, and what a crash leaves, is no object at any
--- moment; and it has no device.
-abbrev pub outside_of : {H : Type 0} → (H → ℕ) → (H → ℕ → List ℕ → Type 0) → (H → ℕ) → H → Outside Space
-outside_of clock told output_faults host = record {
-  clock = clock host;
-  told = told host;
+-- What is seen of a store without objects. It tells what its host tells, and counts what that counts; what it holds, and what a crash leaves, is
+-- no object at any moment.
+abbrev pub outside_of : Outside (List ℕ) → Outside Space
+outside_of host = record {
+  clock = host.clock;
+  told = host.told;
   images = λ moment space. space ≡ no_objects;
   contents = λ space. space ≡ no_objects;
-  device_faults = 0;
-  output_faults = output_faults host;
-  device_calls = 0;
+  device_faults = host.device_faults;
+  output_faults = host.output_faults;
+  device_calls = host.device_calls;
 }
 
 -- the outside holds no object

@@ -1,7 +1,7 @@
 //! What is told by a vault without objects is told by its host.
 
 ghost use Rattle.std.specs.Prelude.{ℕ, List, Ok, Result};
-ghost use Rattle.ps_port.specs.Told.{TellsFront};
+ghost use Rattle.ps_outside.specs.Outside.{TellsFront};
 ghost use Rattle.ps_port.specs.Telling.{TellsAll};
 ghost use Rattle.obj_layout.specs.Storing.{Puts};
 ghost use Rattle.obj_layout.specs.declared.vault.VaultFault.{VaultFault};
@@ -13,9 +13,9 @@ use ps_port::Host;
 /// after an answer; and then no fault of the host was counted.
 pub fn what_is_put_is_told<H: Host>()
     ensures front { (a b : H) (bytes : List ℕ) (result : Result (Unit {0}) VaultFault)
-        → Puts (outside_of H.clock H.told H.output_faults a) (outside_of H.clock H.told H.output_faults b) bytes result
-        → TellsFront H.clock H.told a b bytes }
+        → Puts (outside_of (H.outside a)) (outside_of (H.outside b)) bytes result
+        → TellsFront (H.outside a) (H.outside b) bytes }
     ensures all { (a b : H) (bytes : List ℕ)
-        → Puts {T = Unit {0}} (outside_of H.clock H.told H.output_faults a) (outside_of H.clock H.told H.output_faults b) bytes (Ok tt)
-        → TellsAll H.clock H.told H.output_faults a b bytes }
+        → Puts {T = Unit {0}} (outside_of (H.outside a)) (outside_of (H.outside b)) bytes (Ok tt)
+        → TellsAll (H.outside a) (H.outside b) bytes }
 {}

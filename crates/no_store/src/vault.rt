@@ -38,7 +38,7 @@ impl<H: Host> NoStore<H> {
 
     /// A law: it holds no object.
     pub fn holds_nothing(&self)
-        ensures { HoldsNothing (outside_of H.clock H.told H.output_faults self.now.host) }
+        ensures { HoldsNothing (outside_of (H.outside self.now.host)) }
     {}
 
     // A PID at which there is no object: there is but word 0.
@@ -60,7 +60,7 @@ impl<H: Host> Vault for NoStore<H> {
     ghost use Rattle.no_store.specs.NoObjects.{outside_of};
     ghost use Rattle.obj_layout.specs.Stored.{IsSpace};
 
-    ghost outside = { λ vault. outside_of H.clock H.told H.output_faults vault.host };
+    ghost outside = { λ vault. outside_of (H.outside vault.host) };
 
     ghost alive = { λ vault. vault.alive ≡ true };
 

@@ -2,9 +2,9 @@
 ghost use Rattle.std.specs.Prelude.{◌≡◌, true, IfOk};
 ghost use Rattle.obj_layout.specs.Stored.{IsHeaded};
 
+use memory_host::MemoryHost;
 use no_store::NoStore;
 use obj_layout::vault::{Vault, VaultFault};
-use ps_port::MemoryHost;
 use std::alloc::{AllocError, Global};
 use std::test::Fail;
 

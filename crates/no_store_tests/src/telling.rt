@@ -1,9 +1,9 @@
 //! What is told goes to the host, in order, and its faults come through.
 ghost use Rattle.std.specs.Prelude.{◌≡◌, true};
 
+use memory_host::MemoryHost;
 use no_store::NoStore;
 use obj_layout::vault::{Vault, VaultFault};
-use ps_port::MemoryHost;
 use std::test::Fail;
 
 /// What is put behind one another, the answer, and all the bytes told then. Call 2 of the host is to fail, and tells the first half.

@@ -65,6 +65,52 @@ fn writes_of_a_file_host(rt: HostRuntime) -> Result<(), Fail> {
     Ok(())
 }
 
+// A new folder for a test.
+fn folder_of(rt: &HostRuntime, name: &str) -> Result<String, Fail> {
+    let folder = env::temp_dir(rt)?.into_string();
+    let folder = format!(in rt.alloc(); "{folder}/ps_port_{name}")?;
+    let _ = fs::remove_dir_all(rt, folder.as_str());
+    fs::create_dir(rt, folder.as_str())?;
+    Ok(folder)
+}
+
+#[test]
+fn the_device_of_a_file_host(rt: HostRuntime) -> Result<(), Fail> {
+    let alloc = rt.alloc();
+    let folder = folder_of(&rt, "device")?;
+    let path = format!(in alloc; "{folder}/v.vol")?;
+    // No file is made where it isn't to be.
+    let mut host = FileHost::new(&rt, alloc, path.as_str(), false)?;
+    assert_eq!(rt; host.size(), Err(HostFailed));
+    assert_eq!(rt; host.sync(), Err(HostFailed));
+    let mut host = FileHost::new(&rt, alloc, path.as_str(), true)?;
+    assert_eq!(rt; host.size(), Ok(0));
+    assert_eq!(rt; host.write_at(0, b"volume"), Ok(()));
+    assert_eq!(rt; host.write_at(3, b"UME and more"), Ok(()));
+    assert_eq!(rt; host.sync(), Ok(()));
+    assert_eq!(rt; host.size(), Ok(15));
+    let mut range = [0u8; 8];
+    assert_eq!(rt; host.read_at(2, &mut range), Ok(()));
+    assert_eq!(rt; range.as_slice(), b"lUME and".as_slice());
+    // A range that isn't there whole.
+    assert_eq!(rt; host.read_at(8, &mut range), Err(HostFailed));
+    // The file is locked as long as the host has it.
+    let mut other = FileHost::new(&rt, alloc, path.as_str(), false)?;
+    assert_eq!(rt; other.size(), Err(HostFailed));
+    drop(host);
+    assert_eq!(rt; other.size(), Ok(15));
+    drop(other);
+    assert_eq!(rt;
+        fs::read(&rt, path.as_str())?.as_slice(),
+        b"volUME and more".as_slice()
+    );
+    // A folder is no device.
+    let mut host = FileHost::new(&rt, alloc, folder.as_str(), true)?;
+    assert_eq!(rt; host.size(), Err(HostFailed));
+    fs::remove_dir_all(&rt, folder.as_str())?;
+    Ok(())
+}
+
 #[test]
 fn reads_in_pieces(rt: HostRuntime) -> Result<(), Fail> {
     let mut text = b"before".to_vec(rt.alloc())?;
@@ -137,11 +183,8 @@ fn read_back(
 #[test]
 fn files_of_a_dir_shelf(rt: HostRuntime) -> Result<(), Fail> {
     let alloc = rt.alloc();
-    let folder = env::temp_dir(&rt)?.into_string();
-    let folder = format!(in alloc; "{folder}/ps_port_files_of_a_dir_shelf")?;
+    let folder = folder_of(&rt, "files_of_a_dir_shelf")?;
     let path = format!(in alloc; "{folder}/a.ps")?;
-    let _ = fs::remove_dir_all(&rt, folder.as_str());
-    fs::create_dir(&rt, folder.as_str())?;
     let mut shelf = DirShelf::new(&rt, alloc)?;
     let mut text = b"before".to_vec(alloc)?;
     for name in [folder.as_str(), path.as_str()] {

@@ -1,6 +1,7 @@
 //! The host and the shelf in memory.
 
-use ps_port::{Host, HostFailed, MemoryHost, MemoryShelf, Shelf, ShelfFault};
+use memory_host::MemoryHost;
+use ps_port::{Host, HostFailed, MemoryShelf, Shelf, ShelfFault};
 use std::process::Abort;
 use std::test::Fail;
 
@@ -55,6 +56,98 @@ fn calls_of_no_bytes_take_room(rt: HostRuntime) -> Result<(), Fail> {
         (b"", Err(HostFailed), b""),
     ];
     assert_puts(&rt, &mut host, &rows);
+    Ok(())
+}
+
+// One call of the device.
+#[derive(Clone, Copy)]
+enum Call<'a> {
+    Write(u64, &'a [u8]),
+    Sync,
+    Size,
+}
+
+fn make(host: &mut MemoryHost, call: Call<'_>) -> Result<(), HostFailed> {
+    match call {
+        Call::Write(at, from) => {
+            if at > host.contents().len() as u64 {
+                return Err(HostFailed);
+            }
+            host.write_at(at, from)
+        }
+        Call::Sync => host.sync(),
+        Call::Size => match host.size() {
+            Ok(_) => Ok(()),
+            Err(fault) => Err(fault),
+        },
+    }
+}
+
+fn read(host: &mut MemoryHost, at: u64, into: &mut [u8]) -> Result<(), HostFailed> {
+    if host.contents().len() < 8 || at > 5 || into.len() != 3 {
+        return Err(HostFailed);
+    }
+    host.read_at(at, into)
+}
+
+#[test]
+fn the_disk_of_a_memory_host(rt: HostRuntime) -> Result<(), Fail> {
+    let alloc = rt.alloc();
+    // Calls 3 and 6 fail: a write and a sync. What a read gives after each call, and what a crash then leaves with `#` where nothing was synced.
+    let mut host = MemoryHost::new(alloc, b"abcdef", &[3, 6], 100, 4096)?;
+    let rows: [(Call<'_>, Result<(), HostFailed>, &[u8], &[u8]); 9] = [
+        (Call::Size, Ok(()), b"abcdef", b"abcdef"),
+        (Call::Write(2, b"XY"), Ok(()), b"abXYef", b"ab##ef"),
+        (Call::Write(5, b"UV"), Ok(()), b"abXYeUV", b"ab##e##"),
+        (
+            Call::Write(0, b"!"),
+            Err(HostFailed),
+            b"abXYeUV",
+            b"#b##e##",
+        ),
+        (Call::Sync, Ok(()), b"abXYeUV", b"abXYeUV"),
+        (Call::Write(7, b"W"), Ok(()), b"abXYeUVW", b"abXYeUV#"),
+        (Call::Sync, Err(HostFailed), b"abXYeUVW", b"abXYeUV#"),
+        (Call::Write(8, b""), Ok(()), b"abXYeUVW", b"abXYeUV#"),
+        (Call::Sync, Ok(()), b"abXYeUVW", b"abXYeUVW"),
+    ];
+    for (call, answer, contents, _) in &rows {
+        assert_eq!(rt; make(&mut host, *call), *answer);
+        assert_eq!(rt; host.contents(), *contents);
+    }
+    let mut moment = 0u64;
+    for (_, _, _, left) in &rows {
+        moment = moment.saturating_add(1);
+        assert_eq!(rt; host.crash(alloc, moment, b'#')?.as_slice(), *left);
+    }
+    assert_eq!(rt;
+        host.crash(alloc, 0, b'#')?.as_slice(),
+        b"abcdef".as_slice()
+    );
+    assert_eq!(rt; host.writes(), 5);
+    assert_eq!(rt; host.clock(), 9);
+    let mut range = [0u8; 3];
+    assert_eq!(rt; read(&mut host, 5, &mut range), Ok(()));
+    assert_eq!(rt; range.as_slice(), b"UVW".as_slice());
+    assert_eq!(rt; host.size(), Ok(8));
+    Ok(())
+}
+
+#[test]
+fn writes_past_the_room(rt: HostRuntime) -> Result<(), Fail> {
+    let alloc = rt.alloc();
+    // There is room for one call of 4 bytes, and for none of 5 behind it.
+    let mut host = MemoryHost::new(alloc, b"abcdef", &[], 100, 68 + 68)?;
+    assert_eq!(rt; host.write_at(1, b"1234"), Ok(()));
+    assert_eq!(rt; host.write_at(0, b"ABCDE"), Err(HostFailed));
+    assert_eq!(rt; host.contents(), b"a1234f".as_slice());
+    assert_eq!(rt;
+        host.crash(alloc, 2, 0)?.as_slice(),
+        b"a\0\0\0\0f".as_slice()
+    );
+    assert_eq!(rt; host.writes(), 1);
+    assert_eq!(rt; host.put(b"told"), Ok(()));
+    assert_eq!(rt; host.told_bytes(), b"told".as_slice());
     Ok(())
 }
 

@@ -37,7 +37,7 @@ use Rattle.heap_meaning.proofs.GivenLaws as given
 use Rattle.paired_ops.specs.World.{IsEmpty, IsWorld, alone, DenotesIn, Stands, Answers}
 use Rattle.paired_ops.specs.Operands.{IsForIn, IsOfForm}
 use Rattle.paired_ops.proofs.WorldLaws.{reads-stands}
-use Rattle.paired_ops.proofs.ValueLaws.{none-nil, some-not_nil, text-denoted, pointer-denoted, vector-denoted}
+use Rattle.paired_ops.proofs.ValueLaws.{none-nil, some-not_nil, text-denoted, pointer-denoted, vector-denoted, procedure-kind}
 use Rattle.paired_ops.proofs.FormLaws.{holds-form}
 use Rattle.paired_ops.proofs.ReadLaws.{StructureAt, structure-at, first-text, Known, known-text, known-value, no-touch, no-fetch, no-text, no-damage, text-is, as-kept}
 
@@ -52,7 +52,8 @@ structure-value here names at (Vector id) h d k = let bad : kind.Vector ≡ kind
     absurd (cc)
 structure-value here names at (Num z) h d k = absurd (d.stands)
 structure-value here names at (Flag b) h d k = absurd (d.stands)
-structure-value here names at (Procedure of scope) h d k = absurd (d.stands)
+structure-value here names at (Procedure does scope) h d k =
+    let bad : kind.Closure ≡ kind.Structure = sym (procedure-kind here names at does scope h d) ∙ k in absurd (cc)
 structure-value here names at Nothing h d k = absurd (d.stands)
 
 -- and what no structure denotes is of no class
@@ -282,7 +283,9 @@ some-field old new before after of names at text n (Vector id) l result h now em
 some-field old new before after of names at text n Nil l result h now empty still w d is g = absurd (some-not_nil old names at d)
 some-field old new before after of names at text n (Num z) l result h now empty still w d is g = absurd (d.stands)
 some-field old new before after of names at text n (Flag b) l result h now empty still w d is g = absurd (d.stands)
-some-field old new before after of names at text n (Procedure whole scope) l result h now empty still w d is g = absurd (d.stands)
+some-field old new before after of names at text n (Procedure does scope) l result h now empty still w d is g =
+    other-field old new before after of names at text l (Fails trap.WrongClass) result
+    (λ k. let bad : kind.Closure ≡ kind.Structure = sym (procedure-kind old names at does scope h d) ∙ k in cc) refl g
 some-field old new before after of names at text n Nothing l result h now empty still w d is g = absurd (d.stands)
 
 pub answers-field : (old new : area.Heap) (before after : Outside Space) (of : Heap) (names : List reference.Reference) (object : Option ℕ)

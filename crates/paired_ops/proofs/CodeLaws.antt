@@ -1,7 +1,7 @@
 -- Units that were loaded, and their constants.
 use Rattle.swizzle.specs.declared.fault.SwizzleFault.TheVariants.{AreaFull}
 use Rattle.std.proofs.Common.{get_or, arith, inl, inr, ◌⊎◌, ◌≡◌, ℕ, zero, suc, ◌+◌, ◌*◌, ◌<◌, List, [], ◌∷◌, refl, sym, ap, ◌∙◌, subst, Option, Some, None}
-use Rattle.std.specs.Prelude.{Result, Ok, Err, OnOk}
+use Rattle.std.specs.Prelude.{Result, Ok, Err, IfOk, OnOk}
 use Rattle.ps_base.specs.CodeUnit.{UnitView, unit, ConstantView, text, literal, ConstantsView, no_constants, constant_then}
 use Rattle.ps_base.specs.declared.code_unit.Frame.{Frame}
 use Rattle.ps_outside.specs.Outside.{Outside}
@@ -150,3 +150,8 @@ pub constant-leaves : (old new : area.Heap) (before after : Outside Space) (code
 constant-leaves old new before after code index (Ok at) still g = g.2.outside
 constant-leaves old new before after code index (Err fault) still (inl g) = still (g.0)
 constant-leaves old new before after code index (Err fault) still (inr g) = g.2.outside
+
+pub constant-held : (old new : area.Heap) (before after : Outside Space) (code index : ℕ) (r : Result ℕ SwizzleFault)
+    → GivesConstant old new before after code index r → IfOk r (IsHeld new)
+constant-held old new before after code index (Ok at) g = g.1.0
+constant-held old new before after code index (Err fault) g = tt

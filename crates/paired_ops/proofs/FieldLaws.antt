@@ -30,7 +30,7 @@ use Rattle.heap_meaning.proofs.GivenLaws.{shown_with, field-written}
 use Rattle.paired_ops.specs.World.{IsEmpty, IsWorld, alone, DenotesIn, Writes}
 use Rattle.paired_ops.specs.Operands.{IsForIn, IsOfForm}
 use Rattle.paired_ops.proofs.WorldLaws.{reads-stands}
-use Rattle.paired_ops.proofs.ValueLaws.{none-nil, some-not_nil, text-denoted, pointer-denoted, vector-denoted}
+use Rattle.paired_ops.proofs.ValueLaws.{none-nil, some-not_nil, text-denoted, pointer-denoted, vector-denoted, procedure-kind}
 use Rattle.paired_ops.proofs.FormLaws.{form-stored}
 use Rattle.paired_ops.proofs.ReadLaws.{StructureAt, structure-at, as-kept}
 use Rattle.paired_ops.proofs.ClassLaws.{field-at, class-is, class-known, other-class, no-fields_fault}
@@ -114,7 +114,9 @@ some-put old new before after of names at text n (Vector id) l c v result h now 
 some-put old new before after of names at text n Nil l c v result h now empty still w d is form for g = absurd (some-not_nil old names at d)
 some-put old new before after of names at text n (Num z) l c v result h now empty still w d is form for g = absurd (d.stands)
 some-put old new before after of names at text n (Flag b) l c v result h now empty still w d is form for g = absurd (d.stands)
-some-put old new before after of names at text n (Procedure whole scope) l c v result h now empty still w d is form for g = absurd (d.stands)
+some-put old new before after of names at text n (Procedure does scope) l c v result h now empty still w d is form for g =
+    other-put old new before after names at text l c (Fails trap.WrongClass) result
+    (λ k. let bad : kind.Closure ≡ kind.Structure = sym (procedure-kind old names at does scope h d) ∙ k in cc) refl g
 some-put old new before after of names at text n Nothing l c v result h now empty still w d is form for g = absurd (d.stands)
 
 pub writes-field : (old new : area.Heap) (before after : Outside Space) (of : Heap) (names : List reference.Reference) (object : Option ℕ)

@@ -15,6 +15,7 @@ use Rattle.swizzle.specs.Heap as area
 use Rattle.swizzle.specs.Heap.{IsHeap, IsHeld, IsInside, IsMade, IsFull, header_at, object_at, top_of, with_new}
 use Rattle.swizzle.specs.Joint.{shown, shown_at, name_at, name_by, name_of}
 use Rattle.swizzle.specs.Changes.{ChangedAt}
+use Rattle.swizzle.specs.Touch.{Denotes}
 use Rattle.swizzle.proofs.NameLaws.{name-none}
 use Rattle.swizzle.proofs.JointLaws.{name-fresh, joint-made}
 use Rattle.swizzle.proofs.MadeLaws.{made-held, made-object}
@@ -33,13 +34,14 @@ use Rattle.ps_meaning.specs.Operators.{is_int}
 use Rattle.ps_meaning.specs.Values.{Value, Text, Pointer, Vector}
 use Rattle.ps_meaning.specs.Texts.{Yields}
 use Rattle.ps_meaning.specs.Objects.{Heap, Object, Structure, Elements, new_number, is_vector, is_made, vector_of, filled_vector, count_from}
+use Rattle.ps_meaning.specs.Objects as meaning
 use Rattle.ps_meaning.specs.Weights.{own_weight}
 use Rattle.heap_meaning.specs.Standing.{StandsFor, IsKindOf, IsLike}
 use Rattle.heap_meaning.specs.Paired.{name_in, paired, and_name}
 use Rattle.heap_meaning.proofs.StandingLaws.{Pairs, like-more}
 use Rattle.heap_meaning.proofs.PairedLaws.{name-before, name-last, row-made}
 use Rattle.heap_meaning.proofs.WriteLaws.{as-made}
-use Rattle.paired_ops.specs.World.{IsWorld, alone, DenotesIn, IsNew, Makes}
+use Rattle.paired_ops.specs.World.{IsWorld, alone, DenotesIn, Carries, IsNew, Makes}
 use Rattle.paired_ops.specs.Operands.{IsForIn, IsOfForm, AreForIn}
 use Rattle.paired_ops.proofs.WorldLaws.{seen-held, keeps-passes, keeps-carries}
 use Rattle.paired_ops.proofs.TextLaws.{made-keeps, made-top, full-short}
@@ -62,7 +64,52 @@ unfolding filled
 inside-filled here of text low cs held near zero to e = let same : text ≡ to = cc in subst (IsHeld here) same held
 inside-filled here of text low cs held near (suc slot) to e = near-inside here cs slot to near e
 
--- A new object that stands for one.
+-- A new object of the area that stands for a new one of the heap, and the name that is paired with its number.
+pub record ObjectMade (old new : area.Heap) (of : Heap) (names : List reference.Reference) (k : Kind) (at : ℕ) (object : Object) : Type 0 where
+  pub more : List reference.Reference
+  pub world : IsWorld new (meaning.with_new of object) more
+  pub carries : Carries old new names more (own_weight object)
+  pub name : reference.Reference
+  pub denotes : Denotes new (Some at) name
+  pub pair : paired more name (new_number of)
+  pub kinds : IsKindOf (alone new) name k
+
+pub object-made : (old new : area.Heap) (of : Heap) (names : List reference.Reference) (at : ℕ) (o : area_objects.Object) (object : Object)
+    → IsHeap old → IsWorld old of names → IsInside old o → o.header.pid ≡ 0 → IsMade old new at o
+    → IsLike (alone old) (paired names) (shown (name_of old) o) object → 8 * size_of o ≡ own_weight object
+    → ObjectMade old new of names o.header.kind at object
+object-made old new of names at o object h w inside no_pid m like weight =
+    let keeps = made-keeps old new at o h m in
+    let passes = keeps-passes old new keeps in
+    let n = name.Local (top_of old) in
+    let more = and_name names n in
+    let pairs : Pairs (paired names) (paired more) = λ i id p. name-before names i n id p in
+    let changed : ChangedAt (alone old) n (shown (name_of old) o) (alone new) =
+    subst (λ (x : area.Heap). ChangedAt (alone old) n (shown (name_of old) o) (alone x)) (sym m.made)
+    (joint-made old (λ pid words. ⊥) o h inside no_pid (λ pid words no. absurd no)) in
+    let grown = like-more (alone old) (alone new) (paired names) (paired more) (shown (name_of old) o) object passes.fixed passes.kinds pairs like in
+    let there = made-held old new at o m in
+    let is = made-object old new at o m in
+    let named : name_at new at ≡ n = ap (λ (x : area_objects.Object). name_by x.header at) is ∙ name-none (o.header) at no_pid
+    ∙ ap (λ (i : ℕ). name.Local i) m.place in
+    record {
+      more = more;
+      world = record {
+        row = row-made (alone old) (alone new) of names n (shown (name_of old) o) object w.row
+            (λ it j. name-fresh old (λ pid words. ⊥) it h j) changed grown;
+      };
+      carries = keeps-carries old new names more (own_weight object) keeps pairs (omega (arith, made-top old new at o m, weight));
+      name = n;
+      denotes = (there, named);
+      pair = ap (name_in more) (sym w.row.long) ∙ name-last names n;
+      kinds = record {
+        it = shown_at new at;
+        there = subst (λ (i : reference.Reference). alone new i (shown_at new at)) named (seen-held new at there);
+        kind_is = ap (λ (x : area_objects.Object). x.header.kind) is;
+      };
+    }
+
+-- A new object that is filled with values, and denotes one.
 pub new-object : (old new : area.Heap) (of : Heap) (names : List reference.Reference) (k : Kind) (text : ℕ) (low : Option ℤ)
     (cs : List code.Value) (at : ℕ) (object : Object) (denoting : ℕ → Value) → IsHeap old → IsWorld old of names
     → IsHeld old text → AreNear old cs → IsMade old new at (filled k text low cs)
@@ -73,37 +120,12 @@ pub new-object : (old new : area.Heap) (of : Heap) (names : List reference.Refer
     → IsNew old new of names denoting object at
 unfolding filled
 new-object old new of names k text low cs at object denoting h w held near m like weight stands =
-    let o = filled k text low cs in
-    let keeps = made-keeps old new at o h m in
-    let passes = keeps-passes old new keeps in
-    let n = name.Local (top_of old) in
-    let more = and_name names n in
-    let pairs : Pairs (paired names) (paired more) = λ i id p. name-before names i n id p in
-    let changed : ChangedAt (alone old) n (shown (name_of old) o) (alone new) =
-    subst (λ (x : area.Heap). ChangedAt (alone old) n (shown (name_of old) o) (alone x)) (sym m.made)
-    (joint-made old (λ pid words. ⊥) o h (inside-filled old k text low cs held near) refl (λ pid words no. absurd no)) in
-    let grown = like-more (alone old) (alone new) (paired names) (paired more) (shown (name_of old) o) object passes.texts passes.kinds pairs like in
-    let there = made-held old new at o m in
-    let is = made-object old new at o m in
-    let named : name_at new at ≡ n = ap (λ (x : area_objects.Object). name_by x.header at) is ∙ name-none (o.header) at refl
-    ∙ ap (λ (i : ℕ). name.Local i) m.place in
-    let kinds : IsKindOf (alone new) n k = record {
-      it = shown_at new at;
-      there = subst (λ (i : reference.Reference). alone new i (shown_at new at)) named (seen-held new at there);
-      kind_is = ap (λ (x : area_objects.Object). x.header.kind) is;
-    } in
+    let made = object-made old new of names at (filled k text low cs) object h w (inside-filled old k text low cs held near) refl m like weight in
     record {
-      more = more;
-      world = record {
-        row = row-made (alone old) (alone new) of names n (shown (name_of old) o) object w.row
-            (λ it j. name-fresh old (λ pid words. ⊥) it h j) changed grown;
-      };
-      carries = keeps-carries old new names more (own_weight object) keeps pairs (omega (arith, made-top old new at o m, weight));
-      denotes = record {
-        name = n;
-        denotes = (there, named);
-        stands = stands n (new_number of) more (ap (name_in more) (sym w.row.long) ∙ name-last names n) kinds;
-      };
+      more = made.more;
+      world = made.world;
+      carries = made.carries;
+      denotes = record { name = made.name; denotes = made.denotes; stands = stands made.name (new_number of) made.more made.pair made.kinds };
     }
 
 -- its class or its type, as what it refers to first

@@ -20,7 +20,7 @@ use Rattle.heap_places.specs.Shapes.{IsText, slot_of}
 use Rattle.heap_places.specs.Places.{NoText, FailsFetch, NamesDamage}
 use Rattle.heap_places.proofs.PlaceLaws.{slot-name}
 use Rattle.text_forms.specs.declared.forms.Form.{Form}
-use Rattle.ps_meaning.specs.Values.{Value, Num, Flag, Text, Nil, Pointer, Vector, Procedure, Nothing}
+use Rattle.ps_meaning.specs.Values.{Value, Num, Flag, Text, Nil, Pointer, Vector, Procedure, Nothing, as_written, as_compiled}
 use Rattle.ps_meaning.specs.Objects.{Heap, Object, Structure, Elements, Scope, object_at}
 use Rattle.heap_meaning.specs.Standing.{StandsFor, IsAs, IsStructure, IsVector, IsLike}
 use Rattle.heap_meaning.specs.Paired.{paired}
@@ -36,7 +36,7 @@ nothing-done here of names w = record { world = w; carries = keeps-carries here 
 
 -- The object of a pair, on both sides.
 
-both-at : (here : area.Heap) (of : Heap) (names : List reference.Reference) (at id : ℕ) → IsHeap here → IsWorld here of names → IsHeld here at
+pub both-at : (here : area.Heap) (of : Heap) (names : List reference.Reference) (at id : ℕ) → IsHeap here → IsWorld here of names → IsHeld here at
     → paired names (name_at here at) id
     → (o : Object) × (object_at of id ≡ Some o) × IsLike (alone here) (paired names) (shown_at here at) o
 both-at here of names at id h w held p =
@@ -62,7 +62,7 @@ structure-at here of names at id h w p = let b = both-at here of names at id h w
     cases : (o : Object) → object_at of id ≡ Some o → IsLike (alone here) (paired names) (shown_at here at) o → StructureAt here of names at id
     cases (Structure class fields) means like = record { held = p.held; pair = p.pair; class = class; fields = fields; means = means; is = like }
     cases (Elements ty low elements) means like = let bad : kind.Structure ≡ kind.Vector = sym p.kind ∙ like.rows.kind_is in absurd (cc)
-    cases (Scope text parent names) means like = absurd like
+    cases (Scope text parent values) means like = let bad : kind.Structure ≡ kind.Scope = sym p.kind ∙ like.kind_is in absurd (cc)
 
 pub record VectorAt (here : area.Heap) (of : Heap) (names : List reference.Reference) (at id : ℕ) : Type 0 where
   pub held : IsHeld here at
@@ -81,7 +81,7 @@ vector-at here of names at id h w p = let b = both-at here of names at id h w p.
     cases (Structure class fields) means like = let bad : kind.Vector ≡ kind.Structure = sym p.kind ∙ like.kind_is in absurd (cc)
     cases (Elements ty low elements) means like =
         record { held = p.held; pair = p.pair; ty = ty; low = low; elements = elements; means = means; is = like }
-    cases (Scope text parent names) means like = absurd like
+    cases (Scope text parent values) means like = let bad : kind.Vector ≡ kind.Scope = sym p.kind ∙ like.kind_is in absurd (cc)
 
 -- The text that such an object refers to first.
 pub first-text : (here : area.Heap) (names : List reference.Reference) (it : Shown) (of : Kind) (text : List ℕ) (first : ℕ → List ℕ)
@@ -105,7 +105,8 @@ known-value here names n (Pointer id) s = inr (record { it = s.1.it; is = s.1.th
 known-value here names n (Vector id) s = inr (record { it = s.1.it; is = s.1.there })
 known-value here names n (Num z) s = absurd s
 known-value here names n (Flag b) s = absurd s
-known-value here names n (Procedure of scope) s = absurd s
+known-value here names n (Procedure (as_written of) scope) s = absurd s
+known-value here names n (Procedure (as_compiled of) scope) s = inr (record { it = s.it; is = s.there })
 known-value here names n Nothing s = absurd s
 
 -- A known name needs no fetching.
@@ -153,4 +154,4 @@ pub as-kept : (old new : area.Heap) (names : List reference.Reference) (it : Sho
     → IsAs (alone old) (paired names) it of text first forms vs → IsAs (alone new) (paired names) it of text first forms vs
 as-kept old new names it of text first forms vs keeps a =
     let p = keeps-passes old new keeps in
-    as-more (alone old) (alone new) (paired names) (paired names) it of text first forms vs p.texts p.kinds (λ n id q. q) a
+    as-more (alone old) (alone new) (paired names) (paired names) it of text first forms vs p.fixed p.kinds (λ n id q. q) a

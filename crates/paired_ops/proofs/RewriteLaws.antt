@@ -1,8 +1,7 @@
 -- A value written to a place of an object: what becomes of the area, and of the world.
-use Rattle.std.proofs.Common.{inl, inr, ◌≡◌, ◌≢◌, ℕ, ◌+◌, ◌*◌, List, [], ◌∷◌, ◌++◌, set, slice_set, refl, sym, ap, ◌∙◌, subst, Bool, true, false, if◌then◌else◌}
+use Rattle.std.proofs.Common.{arith, inl, inr, ◌≡◌, ℕ, ◌+◌, ◌*◌, List, [], ◌∷◌, ◌++◌, set, slice_set, refl, sym, ap, ◌∙◌, subst, Bool, true, false, if◌then◌else◌}
 use Rattle.std.proofs.lemmas.Bool.{cases_eq}
 use Rattle.std.proofs.lemmas.List.{map-set}
-use Rattle.obj_layout.specs.declared.kind.Kind.TheVariants as kind
 use Rattle.obj_layout.specs.declared.reference.Reference as reference
 use Rattle.swizzle.specs.Objects as area_objects
 use Rattle.swizzle.specs.Objects.{size_of, size_of_all, replace_from}
@@ -23,14 +22,14 @@ use Rattle.ps_meaning.specs.Values.{Value}
 use Rattle.ps_meaning.specs.Objects.{Heap, Object, with_object}
 use Rattle.heap_meaning.specs.Standing as standing
 use Rattle.heap_meaning.specs.Paired.{paired}
-use Rattle.heap_meaning.proofs.StandingLaws.{texts-changed, kinds-changed, like-more}
+use Rattle.heap_meaning.proofs.StandingLaws.{IsFixed, not-fixed, fixed-changed, kinds-changed, like-more}
 use Rattle.heap_meaning.proofs.PairedLaws.{row-written}
 use Rattle.heap_meaning.proofs.GivenLaws.{shown_with}
 use Rattle.proc_values.specs.Loaded.{CodeStays}
 use Rattle.proc_values.proofs.StayLaws.{code-other}
 use Rattle.paired_ops.specs.World.{alone, Carries, Stands}
 use Rattle.paired_ops.specs.Operands.{IsForIn}
-use Rattle.paired_ops.proofs.WorldLaws.{seen-at, seen-held, alone-one, Passes, carries-value}
+use Rattle.paired_ops.proofs.WorldLaws.{seen-at, seen-held, alone-one, Passes, carries-value, carries-scope}
 
 -- An object in another's place, twice.
 replace-twice : (at : ℕ) (os : List area_objects.Object) (i : ℕ) (x y : area_objects.Object)
@@ -210,6 +209,20 @@ code-then a b c first second at there bytes =
       nums = t.nums ∙ s.nums;
     }
 
+-- what stands, and stands again
+pub stands-then : (a b c : area.Heap) (of now : Heap) (names : List reference.Reference) → Stands a b of names → Stands b c now names
+    → Stands a c now names
+stands-then a b c of now names s t = record {
+  world = t.world;
+  carries = record {
+    values = λ to v d. t.carries.values to v (s.carries.values to v d);
+    scopes = λ to scope d. t.carries.scopes to scope (s.carries.scopes to scope d);
+    code = code-then a b c s.carries.code t.carries.code;
+    size = t.carries.size ∙ s.carries.size;
+    top = omega (arith, t.carries.top, s.carries.top);
+  };
+}
+
 -- A write on both sides: the area stands for the heap with the other object.
 pub write-stands : (old mid new : area.Heap) (of : Heap) (names : List reference.Reference) (at id : ℕ) (it : Shown) (object : Object)
     → IsHeap mid → Stands old mid of names → IsHeld mid at → paired names (name_at mid at) id → (HasBytes (header_at mid at).kind → ⊥)
@@ -219,17 +232,18 @@ write-stands old mid new of names at id it object h s there p none same like r =
     let one = alone-one mid h in
     let seen = seen-held mid at there in
     let changed = rewritten-changed mid new at it h there r in
-    let no_text : (shown_at mid at).kind ≢ kind.Text = λ e. none (inl e) in
-    let texts = texts-changed (alone mid) (alone new) (name_at mid at) (shown_at mid at) it one seen no_text changed in
+    let written : IsFixed (shown_at mid at).kind → ⊥ = λ f. not-fixed (alone mid) (paired names) it object like (subst IsFixed (sym same) f) in
+    let fixed = fixed-changed (alone mid) (alone new) (name_at mid at) (shown_at mid at) it one seen written changed in
     let kinds = kinds-changed (alone mid) (alone new) (name_at mid at) (shown_at mid at) it one seen same changed in
-    let passes : Passes mid new = record { names = rewritten-names mid new at it there r; texts = texts; kinds = kinds } in
+    let passes : Passes mid new = record { names = rewritten-names mid new at it there r; fixed = fixed; kinds = kinds } in
     record {
       world = record {
-        row = row-written (alone mid) (alone new) of names (name_at mid at) id (shown_at mid at) it object one s.world.row p seen no_text same changed
-            (like-more (alone mid) (alone new) (paired names) (paired names) it object texts kinds (λ n i q. q) like);
+        row = row-written (alone mid) (alone new) of names (name_at mid at) id (shown_at mid at) it object one s.world.row p seen written same changed
+            (like-more (alone mid) (alone new) (paired names) (paired names) it object fixed kinds (λ n i q. q) like);
       };
       carries = record {
         values = λ to v d. carries-value mid new names names to v passes (λ n i q. q) (s.carries.values to v d);
+        scopes = λ to scope d. carries-scope mid new names names to scope passes (λ n i q. q) (s.carries.scopes to scope d);
         code = code-then old mid new s.carries.code (rewritten-code mid new at it there none r);
         size = r.size ∙ s.carries.size;
         top = ap (λ (n : ℕ). 8 * n) (rewritten-top mid new at it there r) ∙ s.carries.top;

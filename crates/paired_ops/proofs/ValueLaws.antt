@@ -17,12 +17,13 @@ use Rattle.swizzle.specs.Joint.{Shown, shown_at, name_at}
 use Rattle.swizzle.specs.Text.{text_at}
 use Rattle.swizzle.proofs.NameLaws.{name-not_nil, name_at-injective}
 use Rattle.heap_places.specs.Shapes.{shown_text}
-use Rattle.ps_meaning.specs.Values.{Value, Num, Flag, Text, Nil, Pointer, Vector, Procedure, Nothing}
+use Rattle.ps_base.specs.CodeUnit.{UnitView}
+use Rattle.ps_meaning.specs.Values.{Value, Num, Flag, Text, Nil, Pointer, Vector, Procedure, Nothing, Routine, as_written, as_compiled}
 use Rattle.ps_meaning.specs.Objects.{Heap, is_one_object}
-use Rattle.heap_meaning.specs.Standing.{IsKindOf, StandsFor}
+use Rattle.heap_meaning.specs.Standing.{IsKindOf, StandsFor, IsClosure}
 use Rattle.heap_meaning.specs.Paired.{paired}
 use Rattle.paired_ops.specs.World.{IsWorld, alone, DenotesIn}
-use Rattle.paired_ops.specs.Operands.{IsOfSort, IsNoText}
+use Rattle.paired_ops.specs.Operands.{IsOfSort, IsByObject}
 use Rattle.paired_ops.specs.declared.values.Sort.{Sort}
 use Rattle.paired_ops.specs.declared.values.Sort.TheVariants as sort
 use Rattle.paired_ops.proofs.WorldLaws.{seen-at, seen-held, seen-is}
@@ -40,7 +41,8 @@ nil-stands here names n (Pointer id) e s = absurd (nil-unseen here s.1.it (subst
 nil-stands here names n (Vector id) e s = absurd (nil-unseen here s.1.it (subst (λ (m : reference.Reference). alone here m s.1.it) e s.1.there))
 nil-stands here names n (Num z) e s = absurd s
 nil-stands here names n (Flag b) e s = absurd s
-nil-stands here names n (Procedure of scope) e s = absurd s
+nil-stands here names n (Procedure (as_written of) scope) e s = absurd s
+nil-stands here names n (Procedure (as_compiled of) scope) e s = absurd (nil-unseen here s.it (subst (λ (m : reference.Reference). alone here m s.it) e s.there))
 nil-stands here names n Nothing e s = absurd s
 
 -- no object denotes nil
@@ -61,7 +63,7 @@ pub record TextAt (here : area.Heap) (at : ℕ) (bytes : List ℕ) : Type 0 wher
   pub kind : (header_at here at).kind ≡ kind.Text
   pub bytes_are : text_at here at ≡ bytes
 
-shown-bytes : (here : area.Heap) (at : ℕ) → (header_at here at).kind ≡ kind.Text → text_at here at ≡ shown_text (shown_at here at)
+pub shown-bytes : (here : area.Heap) (at : ℕ) → (header_at here at).kind ≡ kind.Text → text_at here at ≡ shown_text (shown_at here at)
 shown-bytes here at is = ap (λ (k : Kind). take (header_at here at).bytes (drop (8 * words_before k) (bytes_of (object_at here at).nums))) is
 
 pub text-denoted : (here : area.Heap) (names : List reference.Reference) (at : ℕ) (bytes : List ℕ) → IsHeap here
@@ -110,6 +112,26 @@ pub vector-denoted : (here : area.Heap) (names : List reference.Reference) (at i
     → ObjectAt here names at id kind.Vector
 vector-denoted here names at id h d = object-denoted here names at id d.name kind.Vector h d.denotes.0 d.denotes.1 d.stands
 
+-- An object that denotes a procedure: what is seen of it is a closure.
+pub record ProcedureAt (here : area.Heap) (names : List reference.Reference) (at : ℕ) (of : UnitView) (scope : Option ℕ) : Type 0 where
+  pub held : IsHeld here at
+  pub kind : (header_at here at).kind ≡ kind.Closure
+  pub is : IsClosure (alone here) (paired names) (shown_at here at) of scope
+
+pub procedure-denoted : (here : area.Heap) (names : List reference.Reference) (at : ℕ) (of : UnitView) (scope : Option ℕ) → IsHeap here
+    → DenotesIn here names (Some at) (Procedure (as_compiled of) scope) → ProcedureAt here names at of scope
+procedure-denoted here names at of scope h d =
+    let s = d.stands in
+    let is = seen-is here at d.name s.it h d.denotes.0 d.denotes.1 s.there in
+    let closure = subst (λ (x : Shown). IsClosure (alone here) (paired names) x of scope) is s.is in
+    record { held = d.denotes.0; kind = closure.kind_is; is = closure }
+
+-- whatever procedure it is, the object is a closure
+pub procedure-kind : (here : area.Heap) (names : List reference.Reference) (at : ℕ) (does : Routine) (scope : Option ℕ) → IsHeap here
+    → DenotesIn here names (Some at) (Procedure does scope) → (header_at here at).kind ≡ kind.Closure
+procedure-kind here names at (as_written of) scope h d = absurd (d.stands)
+procedure-kind here names at (as_compiled of) scope h d = (procedure-denoted here names at of scope h d).kind
+
 -- What sort of object was told is the sort of the value.
 pub sorted-none : (here : area.Heap) (names : List reference.Reference) (v : Value) → DenotesIn here names None v → IsOfSort v sort.Nil
 sorted-none here names v d = subst (λ (w : Value). IsOfSort w sort.Nil) (sym (none-nil here names v d)) tt
@@ -119,6 +141,7 @@ pub sort_of : Kind → Sort
 sort_of kind.Text = sort.Text
 sort_of kind.Structure = sort.Structure
 sort_of kind.Vector = sort.Vector
+sort_of kind.Closure = sort.Procedure
 sort_of _ = sort.Other
 
 pub sorted-some : (here : area.Heap) (names : List reference.Reference) (at : ℕ) (v : Value) → IsHeap here → DenotesIn here names (Some at) v
@@ -132,7 +155,8 @@ sorted-some here names at (Pointer id) h d = subst (λ (k : Kind). IsOfSort (Poi
 sorted-some here names at (Vector id) h d = subst (λ (k : Kind). IsOfSort (Vector id) (sort_of k)) (sym (vector-denoted here names at id h d).kind) tt
 sorted-some here names at (Num z) h d = absurd (d.stands)
 sorted-some here names at (Flag b) h d = absurd (d.stands)
-sorted-some here names at (Procedure of scope) h d = absurd (d.stands)
+sorted-some here names at (Procedure does scope) h d = subst (λ (k : Kind). IsOfSort (Procedure does scope) (sort_of k))
+    (sym (procedure-kind here names at does scope h d)) tt
 sorted-some here names at Nothing h d = absurd (d.stands)
 
 -- Two objects are one where they lie at one place.
@@ -197,7 +221,7 @@ not_nil : (here : area.Heap) (names : List reference.Reference) (at : ℕ) (v : 
 not_nil here names at v d e = some-not_nil here names at (subst (DenotesIn here names (Some at)) e d)
 
 both-some : (here : area.Heap) (of : Heap) (names : List reference.Reference) (a b : ℕ) (v w : Value) (r : Bool) → IsHeap here
-    → IsWorld here of names → DenotesIn here names (Some a) v → DenotesIn here names (Some b) w → IsNoText v → IsNoText w
+    → IsWorld here of names → DenotesIn here names (Some a) v → DenotesIn here names (Some b) w → IsByObject v → IsByObject w
     → Tells r (Some a) (Some b) → r ≡ is_one_object v w
 unfolding is_one_object
 both-some here of names a b (Pointer id) (Pointer i) r h world d e nv nw t =
@@ -217,23 +241,23 @@ both-some here of names a b Nil w r h world d e nv nw t = absurd (some-not_nil h
 both-some here of names a b (Text bytes) w r h world d e nv nw t = absurd nv
 both-some here of names a b (Num z) w r h world d e nv nw t = absurd (d.stands)
 both-some here of names a b (Flag z) w r h world d e nv nw t = absurd (d.stands)
-both-some here of names a b (Procedure whole scope) w r h world d e nv nw t = absurd (d.stands)
+both-some here of names a b (Procedure does scope) w r h world d e nv nw t = absurd nv
 both-some here of names a b Nothing w r h world d e nv nw t = absurd (d.stands)
 both-some here of names a b (Pointer id) Nil r h world d e nv nw t = absurd (some-not_nil here names b e)
 both-some here of names a b (Pointer id) (Text bytes) r h world d e nv nw t = absurd nw
 both-some here of names a b (Pointer id) (Num z) r h world d e nv nw t = absurd (e.stands)
 both-some here of names a b (Pointer id) (Flag z) r h world d e nv nw t = absurd (e.stands)
-both-some here of names a b (Pointer id) (Procedure whole scope) r h world d e nv nw t = absurd (e.stands)
+both-some here of names a b (Pointer id) (Procedure does scope) r h world d e nv nw t = absurd nw
 both-some here of names a b (Pointer id) Nothing r h world d e nv nw t = absurd (e.stands)
 both-some here of names a b (Vector id) Nil r h world d e nv nw t = absurd (some-not_nil here names b e)
 both-some here of names a b (Vector id) (Text bytes) r h world d e nv nw t = absurd nw
 both-some here of names a b (Vector id) (Num z) r h world d e nv nw t = absurd (e.stands)
 both-some here of names a b (Vector id) (Flag z) r h world d e nv nw t = absurd (e.stands)
-both-some here of names a b (Vector id) (Procedure whole scope) r h world d e nv nw t = absurd (e.stands)
+both-some here of names a b (Vector id) (Procedure does scope) r h world d e nv nw t = absurd nw
 both-some here of names a b (Vector id) Nothing r h world d e nv nw t = absurd (e.stands)
 
 pub is-one : (here : area.Heap) (of : Heap) (names : List reference.Reference) (a b : Option ℕ) (v w : Value) (r : Bool) → IsHeap here
-    → IsWorld here of names → DenotesIn here names a v → DenotesIn here names b w → IsNoText v → IsNoText w
+    → IsWorld here of names → DenotesIn here names a v → DenotesIn here names b w → IsByObject v → IsByObject w
     → Tells r a b → r ≡ is_one_object v w
 unfolding is_one_object
 is-one here of names None None v w r h world d e nv nw t =

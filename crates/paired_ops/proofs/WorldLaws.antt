@@ -19,10 +19,10 @@ use Rattle.ps_meaning.specs.Values.{Value}
 use Rattle.ps_meaning.specs.Objects.{Heap}
 use Rattle.heap_meaning.specs.Standing.{IsOne}
 use Rattle.heap_meaning.specs.Paired.{paired}
-use Rattle.heap_meaning.proofs.StandingLaws.{Texts, Kinds, Pairs, stands-more}
+use Rattle.heap_meaning.proofs.StandingLaws.{Fixed, Kinds, Pairs, stands-more, scope-more}
 use Rattle.heap_meaning.proofs.PairedLaws.{row-within}
 use Rattle.proc_values.proofs.StayLaws.{keeps-code}
-use Rattle.paired_ops.specs.World.{IsEmpty, IsWorld, alone, DenotesIn, Carries, Stands}
+use Rattle.paired_ops.specs.World.{IsEmpty, IsWorld, alone, DenotesIn, DenotesScopeIn, Carries, Stands}
 
 -- What is seen of the area alone is an object there.
 pub seen-at : (here : area.Heap) (n : reference.Reference) (it : Shown) → alone here n it → InArea here n it
@@ -144,10 +144,10 @@ top-same old new h keeps back = ap (λ (n : ℕ). 1 + n) (same-size 1 old.object
       (object_at old i, held_is old i held);
 }))
 
--- What values need to be denoted still: names stay, texts stay, and names keep their kinds.
+-- What values need to be denoted still: names stay, texts, code and closures stay, and names keep their kinds.
 pub record Passes (old new : area.Heap) : Type 0 where
   pub names : (at : ℕ) → IsHeld old at → IsHeld new at × (name_at new at ≡ name_at old at)
-  pub texts : Texts (alone old) (alone new)
+  pub fixed : Fixed (alone old) (alone new)
   pub kinds : Kinds (alone old) (alone new)
 
 denotes-passes : (old new : area.Heap) (to : Option ℕ) (n : reference.Reference) → Passes old new → Denotes old to n → Denotes new to n
@@ -159,7 +159,15 @@ pub carries-value : (old new : area.Heap) (names more : List reference.Reference
 carries-value old new names more to v p pairs d = record {
   name = d.name;
   denotes = denotes-passes old new to d.name p d.denotes;
-  stands = stands-more (alone old) (alone new) (paired names) (paired more) d.name v p.texts p.kinds pairs d.stands;
+  stands = stands-more (alone old) (alone new) (paired names) (paired more) d.name v p.fixed p.kinds pairs d.stands;
+}
+
+pub carries-scope : (old new : area.Heap) (names more : List reference.Reference) (to scope : Option ℕ) → Passes old new
+    → Pairs (paired names) (paired more) → DenotesScopeIn old names to scope → DenotesScopeIn new more to scope
+carries-scope old new names more to scope p pairs d = record {
+  name = d.name;
+  denotes = denotes-passes old new to d.name p d.denotes;
+  stands = scope-more (alone old) (alone new) (paired names) (paired more) d.name scope p.kinds pairs d.stands;
 }
 
 pub keeps-passes : (old new : area.Heap) → Keeps old new → Passes old new
@@ -167,7 +175,7 @@ keeps-passes old new keeps =
     let grows = keeps-within old new keeps in
     record {
       names = λ at held. let s = keeps.objects at held in (s.held, s.name);
-      texts = λ n it k s. grows n it s;
+      fixed = λ n it k s. grows n it s;
       kinds = λ n it s. record { it = it; there = grows n it s; kind_is = refl };
     }
 
@@ -176,6 +184,7 @@ pub keeps-carries : (old new : area.Heap) (names more : List reference.Reference
     → Pairs (paired names) (paired more) → 8 * top_of new ≡ 8 * top_of old + weight → Carries old new names more weight
 keeps-carries old new names more weight keeps pairs top = record {
   values = λ to v d. carries-value old new names more to v (keeps-passes old new keeps) pairs d;
+  scopes = λ to scope d. carries-scope old new names more to scope (keeps-passes old new keeps) pairs d;
   code = keeps-code old new keeps;
   size = keeps.size;
   top = top;

@@ -11,7 +11,7 @@ use Rattle.heap_places.specs.declared.value.Value.TheVariants as held
 use Rattle.text_forms.specs.Forms.{element_of}
 use Rattle.ps_meaning.specs.Operators.{is_int}
 use Rattle.ps_meaning.specs.Objects.{Heap, object_at, type_in}
-use Rattle.ps_meaning.specs.Values.{Value, Text, Nil, Pointer, Vector}
+use Rattle.ps_meaning.specs.Values.{Value, Text, Nil, Pointer, Vector, Procedure}
 use Rattle.heap_meaning.specs.Paired.{paired}
 use Rattle.heap_meaning.specs.Denoting.{IsFor}
 use Rattle.paired_ops.specs.World.{alone}
@@ -45,6 +45,7 @@ IsOfSort Nil sort.Nil = Unit {0}
 IsOfSort (Text bytes) sort.Text = Unit {0}
 IsOfSort (Pointer id) sort.Structure = Unit {0}
 IsOfSort (Vector id) sort.Vector = Unit {0}
+IsOfSort (Procedure does scope) sort.Procedure = Unit {0}
 IsOfSort _ _ = ⊥
 
 -- an object of the area, or none, is of this sort by its kind
@@ -53,10 +54,12 @@ IsSorted here None sort.Nil = Unit {0}
 IsSorted here (Some at) sort.Text = (header_at here at).kind ≡ kind.Text
 IsSorted here (Some at) sort.Structure = (header_at here at).kind ≡ kind.Structure
 IsSorted here (Some at) sort.Vector = (header_at here at).kind ≡ kind.Vector
+IsSorted here (Some at) sort.Procedure = (header_at here at).kind ≡ kind.Closure
 IsSorted here (Some at) sort.Other = Unit {0}
 IsSorted here _ _ = ⊥
 
--- the value is no text
-abbrev pub IsNoText : Value → Type 0
-IsNoText (Text bytes) = ⊥
-IsNoText _ = Unit {0}
+-- the value goes by its object: it is neither a text nor a procedure
+abbrev pub IsByObject : Value → Type 0
+IsByObject (Text bytes) = ⊥
+IsByObject (Procedure does scope) = ⊥
+IsByObject _ = Unit {0}

@@ -16,7 +16,7 @@ use Rattle.ps_meaning.specs.Texts.{Attempt, Yields, Fails}
 use Rattle.ps_meaning.specs.Objects.{Heap, Object, with_new, new_number}
 use Rattle.ps_meaning.specs.Weights.{own_weight, text_weight}
 use Rattle.heap_meaning.specs.Paired.{paired, StandsRow}
-use Rattle.heap_meaning.specs.Denoting.{DenotesValue}
+use Rattle.heap_meaning.specs.Denoting.{DenotesValue, DenotesScope}
 
 -- the outside holds no object
 abbrev pub IsEmpty : Outside Space → Type 0
@@ -34,10 +34,15 @@ pub record IsWorld (here : area.Heap) (of : Heap) (names : List reference.Refere
 abbrev pub DenotesIn : area.Heap → List reference.Reference → Option ℕ → Value → Type 0
 DenotesIn here names to v = DenotesValue here (alone here) (paired names) to v
 
+-- an object of the area, or none, denotes a scope, or none
+abbrev pub DenotesScopeIn : area.Heap → List reference.Reference → Option ℕ → Option ℕ → Type 0
+DenotesScopeIn here names to scope = DenotesScope here (alone here) (paired names) to scope
+
 module _ (old new : area.Heap) where
-  -- What denoted a value denotes it still, code stays where it is, and the objects made have so many bytes.
+  -- What denoted a value or a scope denotes it still, code stays where it is, and the objects made have so many bytes.
   pub record Carries (names more : List reference.Reference) (weight : ℕ) : Type 0 where
     pub values : (to : Option ℕ) (v : Value) → DenotesIn old names to v → DenotesIn new more to v
+    pub scopes : (to scope : Option ℕ) → DenotesScopeIn old names to scope → DenotesScopeIn new more to scope
     pub code : CodeStays old new
     pub size : new.size ≡ old.size
     pub top : 8 * top_of new ≡ 8 * top_of old + weight

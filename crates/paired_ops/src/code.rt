@@ -1,5 +1,5 @@
 //! Units of code, loaded and read.
-ghost use Rattle.std.specs.Prelude.{◌≡◌, ℕ, List, OnOk};
+ghost use Rattle.std.specs.Prelude.{◌≡◌, ℕ, List, IfOk, OnOk};
 ghost use Rattle.ps_base.specs.CodeUnit.{ConstantsView, unit, unit_view};
 ghost use Rattle.ps_base.specs.declared.code_unit.Frame.{Frame};
 ghost use Rattle.obj_layout.specs.declared.reference.Reference.{Reference};
@@ -44,6 +44,7 @@ pub fn constant<V: Vault>(
         → AnswersConstant sw.old sw.new code constants index result }
     ensures stands { (bytes : List ℕ) (constants : ConstantsView) (frame : Frame) → IsUnit sw.old code (unit bytes constants frame)
         → (of : meaning.Heap) (names : List Reference) → IsWorld sw.old of names → Stands sw.old sw.new of names }
+    ensures held { IfOk result (IsHeld sw.new) }
     ensures leaves { LeavesOutside (V.outside vault.old) (V.outside vault.new) }
     ensures alive { OnOk result (V.alive vault.new) }
 {

@@ -6,7 +6,7 @@ ghost use Rattle.ps_meaning.specs.Objects.{is_one_object};
 ghost use Rattle.ps_meaning.specs.Objects as meaning;
 ghost use Rattle.ps_meaning.specs.Values as meant;
 ghost use Rattle.paired_ops.specs.World.{IsWorld, DenotesIn};
-ghost use Rattle.paired_ops.specs.Operands.{IsOfSort, IsSorted, IsNoText};
+ghost use Rattle.paired_ops.specs.Operands.{IsOfSort, IsSorted, IsByObject};
 
 use obj_layout::kind::Kind;
 use swizzle::swizzle::Swizzle;
@@ -19,6 +19,7 @@ pub enum Sort {
     Text,
     Structure,
     Vector,
+    Procedure,
     /// An object that no value of a clause denotes.
     Other,
 }
@@ -38,15 +39,16 @@ pub fn sort_of(sw: &Swizzle, to: Option<u32>) -> Sort
         Kind::Text => Sort::Text,
         Kind::Structure => Sort::Structure,
         Kind::Vector => Sort::Vector,
+        Kind::Closure => Sort::Procedure,
         _ => Sort::Other,
     }
 }
 
-/// Whether two values that are no texts are one: nil and nil, or the same object.
+/// Whether two values that are neither texts nor procedures are one: nil and nil, or the same object.
 #[inline]
 pub fn is_one(sw: &Swizzle, a: Option<u32>, b: Option<u32>) -> bool
     ensures { (of : meaning.Heap) (names : List Reference) (v w : meant.Value) → IsWorld sw.now of names → DenotesIn sw.now names a v → DenotesIn sw.now names b w
-        → IsNoText v → IsNoText w → result ≡ is_one_object v w }
+        → IsByObject v → IsByObject w → result ≡ is_one_object v w }
 {
     sw.sound();
     a == b

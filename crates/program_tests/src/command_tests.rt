@@ -1,7 +1,8 @@
 //! The command over a host and a shelf in memory.
 
+use memory_host::MemoryHost;
 use ps_command::psalgol;
-use ps_port::{MemoryHost, MemoryShelf};
+use ps_port::MemoryShelf;
 use std::alloc::{AllocError, Global};
 use std::process::Abort;
 use std::test::Fail;
@@ -59,6 +60,43 @@ pub fn assert_told(
     Ok(())
 }
 
+/// Over a shelf with this text under `x.ps` and this input under `in`, the words and `x.ps` get this told, and this status.
+pub fn assert_reads(
+    rt: &impl Abort,
+    alloc: Global,
+    words: &[&str],
+    text: &str,
+    input: &[u8],
+    told: &str,
+    wanted: u8,
+) -> Result<(), Fail> {
+    let words = words_of(alloc, words, "x.ps")?;
+    let mut shelf = MemoryShelf::new(alloc);
+    shelf.add("x.ps", text.as_bytes())?;
+    shelf.add("in", input)?;
+    let host = MemoryHost::new(alloc, b"", &[], 1_000_000, 16_000_000)?;
+    let (status, host) = psalgol(alloc, &words, host, &mut shelf);
+    assert_eq!(rt; host.told_bytes(), told.as_bytes(), "{text}");
+    assert_eq!(rt; status, wanted, "{text}");
+    Ok(())
+}
+
+/// Over a shelf with this text under `x.ps`, the words and `x.ps` get this told, and this status.
+pub fn assert_text_told(
+    rt: &impl Abort,
+    alloc: Global,
+    words: &[&str],
+    text: &str,
+    told: &str,
+    wanted: u8,
+) -> Result<(), Fail> {
+    let words = words_of(alloc, words, "x.ps")?;
+    let (status, host) = answer(alloc, &words, text.as_bytes(), &[])?;
+    assert_eq!(rt; host.told_bytes(), told.as_bytes(), "{text}");
+    assert_eq!(rt; status, wanted, "{text}");
+    Ok(())
+}
+
 // So many declarations, joined by `;`.
 fn declarations(alloc: Global, count: usize) -> Result<Vec<u8>, AllocError> {
     let mut text = Vec::new(alloc);
@@ -95,7 +133,7 @@ const OPEN: &[u8] = &[b'{'; 100];
 
 const TOO_DEEP: &[u8] = &[b'{'; 101];
 
-const FIRST_FAULTS: [(&[u8], &[u8]); 23] = [
+const FIRST_FAULTS: [(&[u8], &[u8]); 24] = [
     (b"\xc8", b"x.ps: scan 1 at line 1\n"),
     (b"write \"a", b"x.ps: scan 2 at line 1\n"),
     (b"write\n2147483648", b"x.ps: scan 3 at line 2\n"),
@@ -113,14 +151,18 @@ const FIRST_FAULTS: [(&[u8], &[u8]); 23] = [
     (b"for i = 1 to 2 do\ni := 2", b"x.ps: check 4 at line 2\n"),
     (
         b"write 1;\nlet f = proc(); {}; write b",
-        b"x.ps: check 8 at line 2\n",
+        b"x.ps: check 1 at line 2\n",
     ),
-    (b"write b\nprocedure f(); {}", b"x.ps: check 8 at line 2\n"),
+    (b"write b\nprocedure f(); {}", b"x.ps: check 1 at line 1\n"),
     (
-        b"structure s(int a;\n*proc() f)",
-        b"x.ps: check 8 at line 1\n",
+        b"structure s(int a;\n*proc() f, a)",
+        b"x.ps: check 2 at line 2\n",
     ),
     (b"write 1,\ncardinality(nil)", b"x.ps: check 8 at line 2\n"),
+    (
+        b"let f = proc( -> int)\ncardinality(nil)",
+        b"x.ps: check 8 at line 2\n",
+    ),
     (b"write eof()\nwrite b", b"x.ps: check 1 at line 2\n"),
     (b"let p =\nvector 1::2 of c", b"x.ps: check 1 at line 2\n"),
     (b"write \"a\" ++\n1", b"x.ps: check 3 at line 2\n"),
@@ -155,7 +197,7 @@ fn braces_are_nested_to_the_limit(rt: HostRuntime) -> Result<(), Fail> {
     Ok(())
 }
 
-const NO_COMMANDS: [(&[&str], &str); 16] = [
+const NO_COMMANDS: [(&[&str], &str); 19] = [
     (&["run"], "v.vol"),
     (&["walk", "v.vol"], "x.ps"),
     (&["run", "-v"], "x.ps"),
@@ -172,6 +214,14 @@ const NO_COMMANDS: [(&[&str], &str); 16] = [
     (&["run", "v.vol", "--area", ""], "x.ps"),
     (&["run", "v.vol", "--turns", "5", "--area", "64"], "x.ps"),
     (&["run", "v.vol", "--area", "64", "--turns"], "x.ps"),
+    (&["run", "v.vol", "--input"], "x.ps"),
+    (&["run", "v.vol", "x.ps", "--input"], "x.ps"),
+    (
+        &[
+            "run", "v.vol", "--area", "64", "--turns", "5", "--input", "x.ps",
+        ],
+        "-x",
+    ),
 ];
 
 #[test]

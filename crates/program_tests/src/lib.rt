@@ -8,13 +8,21 @@ mod memory_tests;
 #[cfg(test)]
 mod programs;
 #[cfg(test)]
+mod programs_calls;
+#[cfg(test)]
+mod programs_closures;
+#[cfg(test)]
 mod programs_control;
+#[cfg(test)]
+mod programs_input;
 #[cfg(test)]
 mod programs_limits;
 #[cfg(test)]
 mod programs_objects;
 #[cfg(test)]
 mod programs_order;
+#[cfg(test)]
+mod programs_procedures;
 #[cfg(test)]
 mod programs_strings;
 #[cfg(test)]

@@ -1,17 +1,19 @@
 //! Rows of the language reference where one refusal of memory may come anywhere: `rt try --test
 //! --fail-alloc N` refuses the Nth. Each answers its own or status 5, and nothing else.
 
+use memory_host::MemoryHost;
 use ps_command::psalgol;
-use ps_port::{MemoryHost, MemoryShelf};
+use ps_port::MemoryShelf;
 use std::alloc::{AllocError, Global};
 
 fn answer(alloc: Global, text: &str) -> Result<(u8, MemoryHost), AllocError> {
     let mut words = Vec::new(alloc);
-    for word in ["run", "v.vol", "x.ps"] {
+    for word in ["run", "v.vol", "--input", "in", "x.ps"] {
         words.push(String::from_str(alloc, word)?)?;
     }
     let mut shelf = MemoryShelf::new(alloc);
     shelf.add("x.ps", text.as_bytes())?;
+    shelf.add("in", b"one\ntwo")?;
     let host = MemoryHost::new(alloc, b"", &[], 1_000, 16_000)?;
     Ok(psalgol(alloc, &words, host, &mut shelf))
 }
@@ -74,4 +76,17 @@ fn refused_before_a_fault(rt: HostRuntime) {
 fn refused_in_loops(rt: HostRuntime) {
     let text = "for i = 1 to 2 do write case i of 1 : 5; default : 6, \"a\" : 2";
     assert!(rt; own_answer_or_five(rt.alloc(), text, "5 a6 a", 0));
+}
+
+#[test]
+fn refused_in_closures(rt: HostRuntime) {
+    let text =
+        "procedure f(int n -> proc( -> int)); proc( -> int); { n := n + 1; n }\nlet g = f(4); write g(), g()";
+    assert!(rt; own_answer_or_five(rt.alloc(), text, "56", 0));
+}
+
+#[test]
+fn refused_in_lines(rt: HostRuntime) {
+    let text = "while ~ eof() do write read.a.line(), \" \"";
+    assert!(rt; own_answer_or_five(rt.alloc(), text, "one two ", 0));
 }

@@ -1,7 +1,7 @@
 //! Programs: what each tells, and its status. How a table of them is run, and those over structures and vectors; the other tables stand
 //! in the files `programs_*`.
 
-use crate::command_tests::{RUN, assert_told};
+use crate::command_tests::{RUN, assert_text_told};
 use std::alloc::Global;
 use std::process::Abort;
 use std::test::Fail;
@@ -15,8 +15,7 @@ pub type WordRow<'a> = (&'a [&'a str], &'a str, &'a str, u8);
 /// Each program of the table tells what its row says, with that status.
 pub fn assert_rows(rt: &impl Abort, alloc: Global, rows: &[Row<'_>]) -> Result<(), Fail> {
     for (text, told, status) in rows {
-        let told = told.as_bytes();
-        assert_told(rt, alloc, RUN, "x.ps", text.as_bytes(), told, *status)?;
+        assert_text_told(rt, alloc, RUN, text, told, *status)?;
     }
     Ok(())
 }
@@ -24,8 +23,7 @@ pub fn assert_rows(rt: &impl Abort, alloc: Global, rows: &[Row<'_>]) -> Result<(
 /// The same, with the words of each row.
 pub fn assert_word_rows(rt: &impl Abort, alloc: Global, rows: &[WordRow<'_>]) -> Result<(), Fail> {
     for (words, text, told, status) in rows {
-        let told = told.as_bytes();
-        assert_told(rt, alloc, words, "x.ps", text.as_bytes(), told, *status)?;
+        assert_text_told(rt, alloc, words, text, told, *status)?;
     }
     Ok(())
 }

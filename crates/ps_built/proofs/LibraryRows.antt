@@ -21,8 +21,14 @@ nothing = refl
 length_runs : first (call 11 (more (call 12 none 1) none) 1) ≡ None
 length_runs = refl
 
-line_read : first (call 9 none 2) ≡ Some (line 2)
+line_read : first (call 9 none 2) ≡ None
 line_read = refl
+
+end_tested : first (call 10 none 2) ≡ None
+end_tested = refl
+
+counted : first (call 8 none 2) ≡ Some (line 2)
+counted = refl
 
 beyond : first (call 13 none 2) ≡ Some (line 2)
 beyond = refl
@@ -37,8 +43,11 @@ argument = refl
 in_order : first (node.Block None (more (call 11 none 1) (more (call 2 none 2) (more (call 3 none 3) none)))) ≡ Some (line 2)
 in_order = refl
 
-in_literal : first (node.Proc (body [] ty.Bool (call 10 none 4) None (line 3))) ≡ Some (line 4)
+in_literal : first (node.Proc (body [] ty.Pntr (call 3 none 4) None (line 3))) ≡ Some (line 4)
 in_literal = refl
+
+scanned_in_literal : first (node.Proc (body [] ty.Int (node.Scan true node.Nil node.Nil 0 0 (line 4)) None (line 3))) ≡ Some (line 4)
+scanned_in_literal = refl
 
 scanned : first (node.Scan true (call 3 none 3) node.Nil 0 0 (line 2)) ≡ Some (line 2)
 scanned = refl

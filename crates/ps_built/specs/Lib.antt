@@ -1,4 +1,3 @@
 pub mod First
 pub mod Library
-pub mod Procedures
 pub mod inside

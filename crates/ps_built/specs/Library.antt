@@ -1,4 +1,4 @@
--- The calls of the library that don't run yet, and the first of them in the text.
+-- The calls of the library that don't run yet, those over tables and databases, and the first of them in the text.
 use Rattle.std.specs.Prelude.{ℕ, nat_eq, Bool, ◌||◌, not, Option, Some, None, List, [], ◌∷◌}
 use Rattle.ps_base.specs.declared.line.Line.{Line}
 use Rattle.ps_program.specs.Node.{Node, BodyNode, body}
@@ -6,9 +6,9 @@ use Rattle.ps_program.specs.Node as node
 use Rattle.ps_program.specs.Parts.{Part, operand, label, branch, literal, fold}
 use Rattle.ps_built.specs.First.{or_else, line_if}
 
--- `length` and `iformat` run
+-- `length` and `iformat` run, and `read.a.line` and `eof`
 abbrev pub is_built : ℕ → Bool
-is_built code = nat_eq code 11 || nat_eq code 12
+is_built code = (nat_eq code 11 || nat_eq code 12) || (nat_eq code 9 || nat_eq code 10)
 
 -- a call of the library by itself; a scan is one that has no code
 abbrev pub own_library : Node → Option Line

@@ -1,4 +1,1 @@
-pub mod Lent
 pub mod LibraryParts
-pub mod Weights
-pub mod Within

@@ -12,12 +12,16 @@ use ps_program::form::{Arm, Tree, TreeForm};
 use ps_program::parts::{Further, Parts};
 
 /// The procedures of the library that are built, by their codes.
+const READ_A_LINE: u8 = 9;
+
+const EOF: u8 = 10;
+
 const LENGTH: u8 = 11;
 
 const IFORMAT: u8 = 12;
 
-/// The line of the first call in the text of a program of a library procedure that isn't built yet: any but `length` and `iformat`; or `None`
-/// where there is none. Takes no memory.
+/// The line of the first call in the text of a program of a library procedure that isn't built yet: any but `read.a.line`, `eof`, `length` and
+/// `iformat`; or `None` where there is none. Takes no memory.
 pub fn first_unbuilt_library(program: &Program) -> Option<Line>
     ensures { result ≡ first_unbuilt_library_of (body_of program.now.body) }
 {
@@ -135,7 +139,7 @@ fn own(tree: &Tree) -> Option<Line>
 fn call_of(code: u8, line: Line) -> Option<Line>
     ensures { result ≡ line_if (not (is_built_of code)) line }
 {
-    if code == LENGTH || code == IFORMAT {
+    if code == LENGTH || code == IFORMAT || code == READ_A_LINE || code == EOF {
         return None;
     }
     Some(line)

@@ -1,6 +1,7 @@
-pub mod Free
-pub mod FreeByCheck
-pub mod FreeByPlacing
-pub mod FreeOfProgram
-mod FreeRows
-pub mod Running
+mod Built
+mod InScopes
+pub mod OfProgram
+mod Rows
+mod RulesRun
+mod ScopePlaces
+mod Tests

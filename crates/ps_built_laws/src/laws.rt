@@ -1,16 +1,18 @@
 //! What is so of every program of which all runs.
 
-ghost use Rattle.std.specs.Prelude.{◌≡◌, None};
+ghost use Rattle.std.specs.Prelude.{◌≡◌, None, []};
 ghost use Rattle.ps_tree.specs.Phrase.{Phrase};
 ghost use Rattle.ps_program.specs.Node.{BodyNode};
+ghost use Rattle.ps_typing.specs.Items.{LetsAreItems};
 ghost use Rattle.ps_typing.specs.Program.{Typed, check_program};
-ghost use Rattle.ps_soundness.specs.Running.{RunsWhole};
+ghost use Rattle.ps_soundness.specs.Running.{BodyRuns};
 ghost use Rattle.ps_leaf_laws.specs.Leaves.{LeavesFit};
 ghost use Rattle.ps_built.specs.Library.{first_unbuilt_library};
-ghost use Rattle.ps_built.specs.Procedures.{first_procedure};
 
-/// A text without a form for procedures, whose leaves fit, is a program of which all runs, if it fits the typing rules and each of its calls of
-/// the library is built.
+/// A text whose leaves fit and whose `let`s are items of sequences, as in every tree of the grammar, is a program of which all runs, with procedures,
+/// scopes and input, if it fits the typing rules and each of its calls of the library is built. Each place that is kept names a name of
+/// its type in the scopes round it, and each scope has names of a text.
 pub fn built_program_runs()
-    ensures { (tree : Phrase) (program : BodyNode) → first_procedure tree ≡ None → check_program tree ≡ Typed program → LeavesFit tree → first_unbuilt_library program ≡ None → RunsWhole program }
+    ensures { (tree : Phrase) (program : BodyNode) → LetsAreItems tree → check_program tree ≡ Typed program → LeavesFit tree
+        → first_unbuilt_library program ≡ None → BodyRuns [] program }
 {}

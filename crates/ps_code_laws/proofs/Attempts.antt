@@ -1,5 +1,5 @@
 -- Instructions that may trap, and those that push a value of a type: what the machine does is what is meant.
-use Rattle.std.proofs.Common.{◌≡◌, ℕ, ℤ, List, ◌∷◌, ◌++◌, Option, Some, refl, ap}
+use Rattle.std.proofs.Common.{◌≡◌, ℕ, ℤ, List, ◌∷◌, ◌++◌, Option, Some, refl, ap, ◌∙◌}
 use Rattle.ps_base.specs.TyView.{TyView}
 use Rattle.ps_base.specs.TyView as types
 use Rattle.ps_base.specs.CodeUnit.{ConstantView, text}
@@ -8,15 +8,17 @@ use Rattle.text_forms.specs.Classes.{form_of_type}
 use Rattle.ps_meaning.specs.Values.{Value, Num, Text, Nil, Pointer, word_of}
 use Rattle.ps_meaning.specs.Texts.{Attempt, Yields, Fails}
 use Rattle.ps_meaning.specs.Objects.{Heap, Object, new_number}
-use Rattle.ps_meaning.specs.Meaning.{Frame, State, Meaning, give, stop, attempt, with_heap, put_heap, made, made_text, and_object, and_text}
+use Rattle.ps_meaning.specs.Meaning.{Frame, Store, State, Meaning, give, stop, attempt, with_heap, put_heap, made, made_text, and_object, and_text}
 use Rattle.ps_meaning.specs.Evaluation.{kept_as}
 use Rattle.ps_gen.specs.Choices as choice
 use Rattle.ps_stepping.specs.Config.{Config, constants_in, constant_at}
-use Rattle.ps_stepping.specs.Machine.{Step, push_num, push_ref}
+use Rattle.ps_stepping.specs.Machine.{Step, on, push_num, push_ref}
 use Rattle.ps_stepping.specs.Steps.{text_in, with_text, attempted}
-use Rattle.ps_stepping.specs.Objects.{changed, make, make_text, object_of, when_number, when_reference}
+use Rattle.ps_stepping.specs.Objects.{holding, changed, make, make_text, object_of, when_number, when_reference}
 use Rattle.ps_soundness.specs.Shapes.{IsOf}
+use Rattle.ps_code_laws.specs.Compiled.{compiled, compiled_object, compiled_heap, compiled_store}
 use Rattle.ps_code_laws.specs.Meets.{nums_left, refs_left}
+use Rattle.ps_code_laws.proofs.Compiling.{word_compiled, compiled_attempt, number_compiled, and_object_compiled}
 use Rattle.ps_code_laws.proofs.Clauses.{IsNum, int, bool, IsRef, str, pntr, vector, proc}
 use Rattle.ps_code_laws.proofs.Operands.{Stand}
 use Rattle.ps_code_laws.proofs.Doing.{IsQuietly, Way, place, Room, Does, stepped, push_goes, push_ref_goes}
@@ -77,12 +79,14 @@ reference_form vector s = refl
 reference_form proc s = refl
 
 -- a number is kept as the value is
-pub kept_word : {ty : TyView} → IsNum ty → (v : Value) → kept_as (Some (form_of_type ty)) (Num (word_of v)) ≡ kept_as (Some (form_of_type ty)) v
+pub kept_word : {ty : TyView} → IsNum ty → (v : Value) →
+    kept_as (Some (form_of_type ty)) (Num (word_of v)) ≡ compiled (kept_as (Some (form_of_type ty)) v)
 kept_word int v = refl
 kept_word bool v = refl
 
 -- a value of type pntr is nil or a structure
-pub object_pops : (heap : Heap) (v : Value) → IsOf heap types.Pntr v → (c : Config) (next : Value → Config → Step) → object_of v c next ≡ next v c
+pub object_pops : (heap : Heap) (v : Value) → IsOf heap types.Pntr v → (c : Config) (next : Value → Config → Step) →
+    object_of (compiled v) c next ≡ next (compiled v) c
 object_pops heap Nil is c next = refl
 object_pops heap (Pointer id) is c next = refl
 object_pops heap _ is c next = absurd is
@@ -100,41 +104,67 @@ module _ (w : Way) where
   attempt_steps k nums refs ty f s line (Yields x) next meant h = h x
   attempt_steps k nums refs ty f s line (Fails trap) next meant h = refl
 
+  attempt_compiled : {A : Type 0} (by : A → A) (k : ℕ) (nums : List ℤ) (refs : List Value) (ty : TyView) (f : Frame) (s : State) (line : Line)
+      (a : Attempt A) (next : A → Step) (meant : A → Meaning) → ((x : A) → next (by x) ≡ stepped w k nums refs ty (meant x f s)) →
+      attempted line (compiled_attempt by a) next ≡ stepped w k nums refs ty (attempt line a meant f s)
+  unfolding attempt stop
+  attempt_compiled by k nums refs ty f s line (Yields x) next meant h = h x
+  attempt_compiled by k nums refs ty f s line (Fails trap) next meant h = refl
+
+  -- where what the machine finds is what is meant, compiled
+  pub compiled_steps : {A : Type 0} (by : A → A) (k : ℕ) (nums : List ℤ) (refs : List Value) (ty : TyView) (f : Frame) (s : State) (line : Line)
+      (a found : Attempt A) (next : A → Step) (meant : A → Meaning) → found ≡ compiled_attempt by a →
+      ((x : A) → next (by x) ≡ stepped w k nums refs ty (meant x f s)) →
+      attempted line found next ≡ stepped w k nums refs ty (attempt line a meant f s)
+  compiled_steps {A = A} by k nums refs ty f s line a found next meant is h =
+      ap (λ (b : Attempt A). attempted line b next) is ∙ attempt_compiled by k nums refs ty f s line a next meant h
+
   pub number_steps : (k : ℕ) (nums : List ℤ) (refs : List Value) {ty : TyView} (f : Frame) (s : State) → IsNum ty → (v : Value) → Room w 1 nums refs →
-      push_num (word_of v) (place w k nums refs f s.store) ≡ stepped w k nums refs ty (give v f s)
+      push_num (word_of (compiled v)) (place w k nums refs f s.store) ≡ stepped w k nums refs ty (give v f s)
   unfolding give
-  number_steps k nums refs f s int v room = push_goes w k (word_of v) nums refs f s.store room
-  number_steps k nums refs f s bool v room = push_goes w k (word_of v) nums refs f s.store room
+  number_steps k nums refs f s int v room =
+      ap (λ (z : ℤ). push_num z (place w k nums refs f s.store)) (word_compiled v) ∙ push_goes w k (word_of v) nums refs f s.store room
+  number_steps k nums refs f s bool v room =
+      ap (λ (z : ℤ). push_num z (place w k nums refs f s.store)) (word_compiled v) ∙ push_goes w k (word_of v) nums refs f s.store room
 
   pub reference_steps : (k : ℕ) (nums : List ℤ) (refs : List Value) {ty : TyView} (f : Frame) (s : State) → IsRef ty → (v : Value) →
       Room w 1 nums refs →
-      push_ref v (place w k nums refs f s.store) ≡ stepped w k nums refs ty (give v f s)
+      push_ref (compiled v) (place w k nums refs f s.store) ≡ stepped w k nums refs ty (give v f s)
   unfolding give
-  reference_steps k nums refs f s str v room = push_ref_goes w k v nums refs f s.store room
-  reference_steps k nums refs f s pntr v room = push_ref_goes w k v nums refs f s.store room
-  reference_steps k nums refs f s vector v room = push_ref_goes w k v nums refs f s.store room
-  reference_steps k nums refs f s proc v room = push_ref_goes w k v nums refs f s.store room
+  reference_steps k nums refs f s str v room = push_ref_goes w k (compiled v) nums refs f s.store room
+  reference_steps k nums refs f s pntr v room = push_ref_goes w k (compiled v) nums refs f s.store room
+  reference_steps k nums refs f s vector v room = push_ref_goes w k (compiled v) nums refs f s.store room
+  reference_steps k nums refs f s proc v room = push_ref_goes w k (compiled v) nums refs f s.store room
 
   pub text_steps : (k : ℕ) (nums : List ℤ) (refs : List Value) (f : Frame) (s : State) (bytes : List ℕ) → Room w 1 nums refs →
       make_text bytes (place w k nums refs f s.store) ≡ stepped w k nums refs types.Str (made_text bytes f s)
   unfolding made_text
   text_steps k nums refs f s bytes room = push_ref_goes w k (Text bytes) nums refs f (and_text bytes s.store) room
 
-  pub object_steps : (k : ℕ) (nums : List ℤ) (refs : List Value) {ty : TyView} (f : Frame) (s : State) (denoting : ℕ → Value) → IsRef ty →
-      (object : Object) →
-      Room w 1 nums refs → make denoting object (place w k nums refs f s.store) ≡ stepped w k nums refs ty (made denoting object f s)
+  -- a new object, by what denotes it
+  object_pushed : (k : ℕ) (nums : List ℤ) (refs : List Value) (f : Frame) (store : Store) (denoting : ℕ → Value) →
+      ((id : ℕ) → denoting id ≡ compiled (denoting id)) → (object : Object) → Room w 1 nums refs →
+      make denoting (compiled_object object) (place w k nums refs f store)
+      ≡ on (place w k nums (compiled (denoting (new_number store.heap)) ∷ refs) f (and_object object store))
+  object_pushed k nums refs f store denoting stays object room =
+      ap (λ (id : ℕ). push_ref (denoting id) (holding (and_object (compiled_object object) (compiled_store store)) (place w k nums refs f store)))
+      (number_compiled store.heap)
+      ∙ ap (λ (held : Store). push_ref (denoting (new_number store.heap)) (holding held (place w k nums refs f store)))
+      (and_object_compiled object store)
+      ∙ push_ref_goes w k (denoting (new_number store.heap)) nums refs f (and_object object store) room
+      ∙ ap (λ (v : Value). on (place w k nums (v ∷ refs) f (and_object object store))) (stays (new_number store.heap))
+
+  pub object_steps : (k : ℕ) (nums : List ℤ) (refs : List Value) {ty : TyView} (f : Frame) (s : State) (denoting : ℕ → Value) →
+      ((id : ℕ) → denoting id ≡ compiled (denoting id)) → IsRef ty → (object : Object) → Room w 1 nums refs →
+      make denoting (compiled_object object) (place w k nums refs f s.store) ≡ stepped w k nums refs ty (made denoting object f s)
   unfolding made
-  object_steps k nums refs f s denoting str object room =
-      push_ref_goes w k (denoting (new_number s.store.heap)) nums refs f (and_object object s.store) room
-  object_steps k nums refs f s denoting pntr object room =
-      push_ref_goes w k (denoting (new_number s.store.heap)) nums refs f (and_object object s.store) room
-  object_steps k nums refs f s denoting vector object room =
-      push_ref_goes w k (denoting (new_number s.store.heap)) nums refs f (and_object object s.store) room
-  object_steps k nums refs f s denoting proc object room =
-      push_ref_goes w k (denoting (new_number s.store.heap)) nums refs f (and_object object s.store) room
+  object_steps k nums refs f s denoting stays str object room = object_pushed k nums refs f s.store denoting stays object room
+  object_steps k nums refs f s denoting stays pntr object room = object_pushed k nums refs f s.store denoting stays object room
+  object_steps k nums refs f s denoting stays vector object room = object_pushed k nums refs f s.store denoting stays object room
+  object_steps k nums refs f s denoting stays proc object room = object_pushed k nums refs f s.store denoting stays object room
 
   pub change_steps : (k : ℕ) (nums : List ℤ) (refs : List Value) (f : Frame) (s : State) (heap : Heap) →
-      changed heap (place w k nums refs f s.store) ≡ stepped w k nums refs types.Void (put_heap heap f s)
+      changed (compiled_heap heap) (place w k nums refs f s.store) ≡ stepped w k nums refs types.Void (put_heap heap f s)
   unfolding put_heap
   change_steps k nums refs f s heap = refl
 
@@ -145,7 +175,7 @@ module _ (w : Way) where
   over_num bn br bool v d = d
 
   pub over_ref : {n : _} {m : Meaning} {t ty : TyView} {need p k : ℕ} (bn : List ℤ) (br : List Value) → IsRef ty → (v : Value) →
-      Does w n bn (v ∷ br) m t need p k → Does w n (nums_left ty v ++ bn) (refs_left ty v ++ br) m t need p k
+      Does w n bn (compiled v ∷ br) m t need p k → Does w n (nums_left ty v ++ bn) (refs_left ty v ++ br) m t need p k
   over_ref bn br str v d = d
   over_ref bn br pntr v d = d
   over_ref bn br vector v d = d

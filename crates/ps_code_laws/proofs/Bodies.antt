@@ -1,49 +1,45 @@
--- The code of a body does what its clause means, and the value goes back to the body that waits.
-use Rattle.std.proofs.Common.{◌≡◌, ℕ, ◌+◌, ◌≤◌, Bool, true, false, List, [], ◌∷◌, ◌++◌, length, Option, Some, None, inl, inr, refl, sym, ap, ◌∙◌, subst, append_assoc, append-nil, arith}
-use Rattle.std.specs.Prelude.{if◌then◌else◌}
-use Rattle.ps_base.specs.TyView.{TyView}
+-- Bodies do what they mean, inside any bodies that wait, and so does a program.
+use Rattle.std.proofs.Common.{◌≡◌, ℕ, zero, suc, ◌+◌, ◌≤◌, List, [], ◌∷◌, ◌++◌, length, Option, Some, None, refl, sym, ◌∙◌, subst, append_assoc, append-nil, arith}
+use Rattle.std.specs.List.{AllByRecursion}
+use Rattle.ps_base.specs.TyView.{TyView, TyViews}
 use Rattle.ps_base.specs.TyView as types
-use Rattle.ps_base.specs.Instr.{spelled}
 use Rattle.ps_base.specs.CodeUnit.{UnitView}
 use Rattle.ps_base.specs.declared.line.Line.{Line}
-use Rattle.ps_base.specs.declared.instr.Instr.{Instr}
 use Rattle.ps_base.specs.declared.instr.Instr.TheVariants as instr
-use Rattle.ps_program.specs.declared.place.Place.{Place}
-use Rattle.ps_program.specs.declared.place.Place.TheVariants.{Plain, Kept}
 use Rattle.ps_program.specs.Node.{Param, Node, BodyNode, body}
-use Rattle.ps_program.specs.Slots.{slot_count, depth}
 use Rattle.ps_type_text.specs.Texts.{Field}
-use Rattle.ps_typing.specs.Locals.{locals_on}
-use Rattle.ps_typing.specs.Placing.{is_number}
-use Rattle.ps_typing.specs.WellTyped.{Some_is, Env, Free, Local, IsLocal, with_local, behind_one, Takes, IsTyped, IsBody, IsWellTyped}
+use Rattle.ps_typing.specs.Program.{bodies, first_complex}
+use Rattle.ps_typing.specs.WellTyped.{types_of_params, IsBody, IsWellTyped}
 use Rattle.ps_typing.specs.WellTyped as typed
-use Rattle.ps_typing_laws.specs.Counted.{Each, IsCounted}
-use Rattle.ps_typing_laws.proofs.Tracked.{params_tracked, limit_is, track, track_body}
 use Rattle.ps_meaning.specs.Objects.{Heap}
 use Rattle.ps_meaning.specs.Weights.{code_weight}
-use Rattle.ps_soundness.specs.Running.{IsPlain, Runs, RunsWhole}
-use Rattle.ps_soundness.specs.Shapes.{IsTypedHeap, AreLocals}
-use Rattle.ps_soundness.specs.Valued.{IsValued}
-use Rattle.ps_soundness.proofs.Valued.{AreValued}
-use Rattle.ps_soundness.proofs.Telling.{Told}
-use Rattle.ps_soundness.proofs.Growing.{grows_not}
 use Rattle.ps_meaning.specs.Event.{End, Event, Finish, Done}
 use Rattle.ps_meaning.specs.Values.{Value}
-use Rattle.ps_meaning.specs.Meaning.{Frame, Store, Outcome, Value_is, Ends}
+use Rattle.ps_meaning.specs.Meaning.{Frame, Store, State, Outcome, Value_is, Ends, give, after, ◌>>=◌}
+use Rattle.ps_meaning.specs.Frames.{arguments_on, frame_of_call, keep_all}
+use Rattle.ps_meaning.specs.Calls.{body_meant, context}
 use Rattle.ps_meaning.specs.Runs.{fresh_frame, fresh_store, fresh_state, outcome_of, all_events, run_events}
 use Rattle.ps_gen.specs.Choices as choice
-use Rattle.ps_gen.specs.Emission.{size, emit}
-use Rattle.ps_gen.specs.Units.{kept_at, size_kept_at, keeps, size_keeps, body_instrs, type_constant, frame_of, constants, HasUnit, unit_of}
-use Rattle.ps_stepping.specs.Config.{frame_words, Caller, Config, code_in, IsAt, start}
+use Rattle.ps_gen.specs.Units.{HasUnit, unit_of}
+use Rattle.ps_stepping.specs.Config.{frame_words, Caller, Config, code_in, frame_in, IsAt, start}
 use Rattle.ps_stepping.specs.Machine.{Step, Goes, Stops, act, Steps, at_instruction, resumed}
 use Rattle.ps_stepping.specs.Machine as machine
 use Rattle.ps_stepping.specs.Path.{Reaches, Finishes}
 use Rattle.ps_stepping.specs.Path as path
-use Rattle.ps_code_laws.specs.Meets.{nums_left, refs_left, standing, ComesBack, Follows, params_of, meant, AreHanded, Meets, IsHanded}
-use Rattle.ps_code_laws.proofs.Standing.{Ahead, all_ahead, all_named, front, after_clause}
-use Rattle.ps_code_laws.proofs.Clauses.{Clause, clause}
-use Rattle.ps_code_laws.proofs.Doing.{Origin, Way, Comes}
-use Rattle.ps_code_laws.proofs.Simulation.{clause_does}
+use Rattle.ps_soundness.specs.Running.{BodyRuns}
+use Rattle.ps_soundness.specs.Valued.{IsValued}
+use Rattle.ps_soundness.specs.Shapes.{type_of_body, IsTypedHeap}
+use Rattle.ps_soundness.proofs.Telling.{Told}
+use Rattle.ps_soundness.proofs.Calling.{ValuesOf}
+use Rattle.ps_code_laws.specs.Literals.{AreScopesValued, Fits}
+use Rattle.ps_code_laws.specs.Meets.{nums_left, refs_left, standing, ComesBack, Follows, AreHanded, HasRoom, Meets}
+use Rattle.ps_code_laws.specs.Compiled.{compiled_store}
+use Rattle.ps_code_laws.proofs.Doing.{Way, if_lt, quiet}
+use Rattle.ps_code_laws.proofs.CallForms.{Returned}
+use Rattle.ps_code_laws.proofs.Calls.{Enters, Entered}
+use Rattle.ps_code_laws.proofs.Called.{within, Closes, Returns, body_does}
+use Rattle.ps_code_laws.proofs.Naming.{names_in_body}
+use Rattle.ps_code_laws.proofs.Inside.{bodies_inside, bodies_fit}
 
 -- one step more before what follows
 back_goes : {c next : Config} {events : List Event} (later : List Event) (callers : List Caller) (gives : TyView) (v : Value) (store : Store) →
@@ -98,131 +94,91 @@ return_stops u k types.Void v f store = refl
 return_stops u k other v f store = refl
 
 return_goes : (u : UnitView) (k : ℕ) (gives : TyView) (v : Value) (f : Frame) (store : Store) (caller : Caller) (callers : List Caller) →
+    HasRoom (caller ∷ callers) →
     act (instr.Return (choice.kind_of gives)) (standing u (caller ∷ callers) k (nums_left gives v ++ []) (refs_left gives v ++ []) f store)
-    ≡ Goes [] (resumed caller (nums_left gives v ++ caller.nums) (refs_left gives v ++ caller.refs) callers store)
-return_goes u k types.Int v f store caller callers = refl
-return_goes u k types.Bool v f store caller callers = refl
-return_goes u k types.Void v f store caller callers = refl
-return_goes u k other v f store caller callers = refl
+    ≡ Goes [] (resumed caller (nums_left gives v ++ caller.nums) (refs_left gives v ++ caller.refs) callers (compiled_store store))
+return_goes u k types.Int v f store caller callers room = if_lt ((frame_in caller.unit).nums + length caller.nums) frame_words _ _ room.0
+return_goes u k types.Bool v f store caller callers room = if_lt ((frame_in caller.unit).nums + length caller.nums) frame_words _ _ room.0
+return_goes u k types.Void v f store caller callers room = refl
+return_goes u k other v f store caller callers room = if_lt ((frame_in caller.unit).refs + length caller.refs) frame_words _ _ room.1
 
-returns : (u : UnitView) (k : ℕ) (gives : TyView) (v : Value) (f : Frame) (store : Store) (callers : List Caller) →
+returns : (u : UnitView) (k : ℕ) (gives : TyView) (v : Value) (f : Frame) (store : Store) (callers : List Caller) → HasRoom callers →
     IsAt (code_in u) k (instr.Return (choice.kind_of gives)) →
     ComesBack (standing u callers k (nums_left gives v ++ []) (refs_left gives v ++ []) f store) [] callers gives v store
-returns u k gives v f store [] at =
+returns u k gives v f store [] room at =
     path.stops (subst (λ (s : Step). Steps (standing u [] k (nums_left gives v ++ []) (refs_left gives v ++ []) f store) s)
     (return_stops u k gives v f store) (at_instruction at))
-returns u k gives v f store (caller ∷ callers) at =
+returns u k gives v f store (caller ∷ callers) room at =
     path.more (subst (λ (s : Step). Steps (standing u (caller ∷ callers) k (nums_left gives v ++ []) (refs_left gives v ++ []) f store) s)
-    (return_goes u k gives v f store caller callers) (at_instruction at)) path.no_step
+    (return_goes u k gives v f store caller callers room) (at_instruction at)) path.no_step
 
-comes_back : (u : UnitView) (k : ℕ) (gives : TyView) (callers : List Caller) (o : Outcome) →
-    IsAt (code_in u) k (instr.Return (choice.kind_of gives)) →
-    Comes (way_to u callers gives o) k [] [] gives o
-comes_back u k gives callers (Value_is v f s) at = ([], sym (append-nil s.events), returns u k gives v f s.store callers at)
-comes_back u k gives callers (Ends e s) at = (refl, refl, refl)
+-- Coming back to a body that waits, on any way.
+abbrev comes_to : Way → Caller → TyView → Value → State → Type 0
+comes_to w caller g v s =
+    w.Holds (resumed caller (nums_left g v ++ caller.nums) (refs_left g v ++ caller.refs) w.callers (compiled_store s.store)) s.events
 
--- no instruction keeps a parameter that isn't kept
-no_keep : (ty : TyView) (slot nums refs : ℕ) (rest : List Param) → ((n r : ℕ) → keeps rest n r ≡ []) →
-    keeps (record { ty = ty; place = Plain slot } ∷ rest) nums refs ≡ []
-no_keep ty slot nums refs rest h = by_type (is_number ty)
-  where
-    by_type : (b : Bool) → (if b then kept_at (Plain slot) (instr.GetM nums) (λ u i. instr.KeepM u i) ++ keeps rest (nums + 1) refs
-        else kept_at (Plain slot) (instr.GetP refs) (λ u i. instr.KeepP u i) ++ keeps rest nums (refs + 1)) ≡ []
-    by_type true = h (nums + 1) refs
-    by_type false = h nums (refs + 1)
+closed_by : (w : Way) (of : BodyNode) (caller : Caller) (g : TyView) (o : Outcome) → Returned w caller g o →
+    Closes w (comes_to w caller g) o
+closed_by w of caller g (Value_is v f s) h = h
+closed_by w of caller g (Ends e s) h = h
 
-no_keep_at : (ty : TyView) (p : Place) (rest : List Param) → IsPlain p → ((n r : ℕ) → keeps rest n r ≡ []) → (nums refs : ℕ) →
-    keeps (record { ty = ty; place = p } ∷ rest) nums refs ≡ []
-no_keep_at ty (Plain slot) rest is h nums refs = no_keep ty slot nums refs rest h
-no_keep_at ty (Kept up position) rest is h nums refs = absurd is
+returns_to : (w : Way) (of : BodyNode) (caller : Caller) (g : TyView) → HasRoom (caller ∷ []) →
+    Returns (within w of (caller ∷ w.callers)) g (comes_to w caller g)
+returns_to w of caller g room k at v f s h =
+    quiet (within w of (caller ∷ w.callers)) (instr.Return (choice.kind_of g)) at (return_goes (unit_of of) k g v f s.store caller w.callers room) h
 
-no_keeps : (params : List Param) → Each IsHanded params → (nums refs : ℕ) → keeps params nums refs ≡ []
-no_keeps [] h nums refs = refl
-no_keeps (param ∷ rest) h nums refs = no_keep_at param.ty param.place rest h.0.0 (λ n r. no_keeps rest h.1 n r) nums refs
+-- where the bodies that are called inside it do what they mean
+enters_by : (told : Told) (m : ℕ) → ((v : Way) → Entered v m) → (w : Way) → Enters w m
+enters_by told m entered w caller of scope args ps g s few room typed_heap is are fits literals held reach =
+    body_does told w (caller ∷ w.callers) m scope args s is.wholes is.scopes of ps g (comes_to w caller g) is.ty_is is.typed is.runs is.stand fits few
+    (entered (within w of (caller ∷ w.callers))) typed_heap are literals held (returns_to w of caller g room) (closed_by w of caller g _ reach)
 
-no_size_at : (p : Place) → IsPlain p → size_kept_at p ≡ 0
-no_size_at (Plain slot) is = refl
-no_size_at (Kept up position) is = absurd is
+-- by induction on the turns that may be left
+enters_up_to : (told : Told) (n m : ℕ) → m ≤ n → (w : Way) → Enters w m
+enters_up_to told zero m le w = enters_by told m (λ v j lt. absurd (omega arith)) w
+enters_up_to told (suc n) m le w = enters_by told m (λ v j lt. enters_up_to told n j (omega arith) v) w
 
-no_size : (params : List Param) → Each IsHanded params → size_keeps params ≡ 0
-no_size [] h = refl
-no_size (param ∷ rest) h = let a = no_size_at param.place h.0.0 in let b = no_size rest h.1 in omega arith
+pub all_enter : (told : Told) (n : ℕ) (w : Way) → Entered w n
+all_enter told n w m lt = enters_up_to told m m (omega arith) w
 
--- the code of such a body is that of its clause, and the return
-instrs_are : (params : List Param) (gives : TyView) (tree : Node) (line : Line) → Each IsHanded params →
-    body_instrs params gives tree None ≡ emit tree 0 1 ++ instr.Return (choice.kind_of gives) ∷ []
-instrs_are params gives tree line h =
-    let begins : 0 + size_keeps params ≡ 0 = let a = no_size params h in omega arith in
-    ap (λ (is : List Instr). is ++ (emit tree (0 + size_keeps params) 1 ++ instr.Return (choice.kind_of gives) ∷ [])) (no_keeps params h 0 0)
-    ∙ ap (λ (at : ℕ). emit tree at 1 ++ instr.Return (choice.kind_of gives) ∷ []) begins
+-- what an outcome has
+abbrev HasSo : Outcome → Value → State → Type 0
+HasSo (Value_is u f t) v s = (u ≡ v) × (t ≡ s)
+HasSo (Ends e t) v s = ⊥
 
-takes_valued : {env last : Env} {free free' : Free} {params : List Param} → Takes env free params last free' → Each IsHanded params →
-    AreValued env.locals → AreValued last.locals
-takes_valued typed.no_more h valued = valued
-takes_valued (typed.as_local {env = env} {slot = slot} {ty = ty} is rest) h valued = takes_valued rest h.1 (and_one env slot ty h.0.1 valued)
-  where
-    and_one : (env : Env) (slot : ℕ) (ty : TyView) → IsValued ty → AreValued env.locals → AreValued (with_local slot ty env).locals
-    and_one env slot ty one valued n t (inl (same, is_ty)) = subst IsValued is_ty one
-    and_one env slot ty one valued n t (inr found) = valued n t found
-takes_valued (typed.as_kept name scopes at rest) h valued = takes_valued rest h.1 valued
+has_so : (u : UnitView) (callers : List Caller) (g : TyView) (o : Outcome) → Closes (way_to u callers g o) (HasSo o) o
+has_so u callers g (Value_is v f s) = (refl, refl)
+has_so u callers g (Ends e s) = (refl, refl, refl)
 
--- what a body is handed are the locals in scope where its clause begins
-handed_locals : {env last : Env} {free free' : Free} {params : List Param} (heap : Heap) (frame : Frame) → Takes env free params last free' →
-    AreLocals heap frame env.locals → AreHanded heap frame params → AreLocals heap frame last.locals
-handed_locals heap frame typed.no_more are h = are
-handed_locals heap frame (typed.as_local is rest) are h = handed_locals heap frame rest (h.0, are) h.1
-handed_locals heap frame (typed.as_kept name scopes at rest) are h = handed_locals heap frame rest are h.1
+comes_so : (u : UnitView) (callers : List Caller) (g : TyView) (o : Outcome) → HasRoom callers → (k : ℕ) →
+    IsAt (code_in u) k (instr.Return (choice.kind_of g)) → (v : Value) (f : Frame) (s : State) → HasSo o v s →
+    Follows (standing u callers k (nums_left g v ++ []) (refs_left g v ++ []) f s.store) s.events callers g o
+comes_so u callers g (Value_is w e t) room k at v f s h =
+    subst (λ (x : Value). Follows (standing u callers k (nums_left g v ++ []) (refs_left g v ++ []) f s.store) s.events callers g (Value_is x e t))
+    (sym h.0)
+    (subst (λ (y : State). Follows (standing u callers k (nums_left g v ++ []) (refs_left g v ++ []) f s.store) s.events callers g (Value_is v e y))
+    (sym h.1) ([], sym (append-nil s.events), returns u k g v f s.store callers room at))
+comes_so u callers g (Ends e t) room k at v f s h = absurd h
 
--- what is to be known of a body
-record Known (nums refs : ℕ) (params : List Param) (tree : Node) (gives : TyView) : Type 0 where
-  pub locals : List Local
-  pub runs : Clause nums refs locals tree gives
-  pub are : (heap : Heap) (frame : Frame) → AreHanded heap frame params → AreLocals heap frame locals
-  pub room : nums + refs + depth tree ≤ 512
+handed : (heap : Heap) (params : List Param) (args : List Value) → AreHanded heap params args → ValuesOf heap (types_of_params params) args
+handed heap [] [] h = tt
+handed heap [] (v ∷ vs) h = absurd h
+handed heap (param ∷ params) [] h = absurd h
+handed heap (param ∷ params) (v ∷ vs) h = (h.0, handed heap params vs h.1)
 
-known : (told : Told) (around : List (List Field)) (params : List Param) (gives : TyView) (tree : Node) (scope : Option (List ℕ)) (line : Line) →
-    IsBody around (body params gives tree scope line) → Runs tree → Each IsHanded params →
-    slot_count (body params gives tree scope line) ≤ frame_words →
-    Known (locals_on true (body params gives tree scope line)) (locals_on false (body params gives tree scope line)) params tree gives
-known told around params gives tree scope line (typed.of_params {env = env} {free = free} {free' = free'} opens takes ended t) runs handed few =
-    let of : BodyNode = body params gives tree scope line in
-    let p = params_tracked takes (λ slot ty found. absurd found) in
-    let h = track t p.below in
-    let is_limit = limit_is free free' params tree gives scope line p.nums p.refs h in
-    let counted : IsCounted of = (track_body (typed.of_params {line = line} opens takes ended t)).counted in
-    let nums = locals_on true of in
-    let refs = locals_on false of in
+-- a body whose bodies fit
+pub body_meets : (told : Told) (wholes scopes : List (List Field)) (of : BodyNode) (n : ℕ) → IsBody scopes of → BodyRuns wholes of →
+    AreScopesValued scopes → AllByRecursion Fits (bodies of) → Meets n wholes scopes of
+body_meets told wholes scopes (body params gives tree text line) n typed_body runs valued fit =
+    let of : BodyNode = body params gives tree text line in
+    let fits = names_in_body wholes typed_body runs (bodies_inside Fits of fit) valued in
     record {
-      locals = env.locals;
-      runs = clause told nums refs t runs p.below (takes_valued takes handed (λ slot ty found. absurd found))
-          (record { nums_are = let a = is_limit true in omega arith; refs_are = let a = is_limit false in omega arith });
-      are = λ heap frame h. handed_locals heap frame takes tt h;
-      room = let a = counted.room in omega arith;
-    }
-
-pub body_meets : (told : Told) (around : List (List Field)) (of : BodyNode) (n : ℕ) → IsBody around of → RunsWhole of →
-    Each IsHanded (params_of of) → slot_count of ≤ frame_words → HasUnit of → Meets n of
-body_meets told around (body params gives tree (Some says) line) n typed_body runs handed few has = absurd (no_scope runs.0)
-  where
-    no_scope : {text : List ℕ} → Some text ≡ None → ⊥
-    no_scope e = cc
-body_meets told around (body params gives tree None line) n typed_body runs handed few has =
-    let of : BodyNode = body params gives tree None line in
-    let u = unit_of of in
-    let k = known told around params gives tree None line typed_body runs.1 handed few in
-    let whole = all_ahead u 0 (body_instrs params gives tree None) has refl in
-    let ahead = subst (λ (is : List Instr). Ahead u 0 is) (instrs_are params gives tree line handed) whole in
-    let names = all_named (spelled (body_instrs params gives tree None)) (type_constant params gives) (constants tree) (frame_of of) in
-    let at_return = after_clause u tree 0 1 (instr.Return (choice.kind_of gives) ∷ []) ahead in
-    record {
-      follows = λ callers frame state turns typed_heap are_handed.
-          let o = meant n (length callers) of frame state in
-          let w = way_to u callers gives o in
-          let start : Origin = record { turns = n; heap = state.store.heap; locals = k.locals } in
-          let d = clause_does w start 0 1 k.runs (front u 0 (emit tree 0 1) (instr.Return (choice.kind_of gives) ∷ []) ahead) names in
-          d.by [] [] frame state (record { on_nums = let a = k.room in omega arith; on_refs = let a = k.room in omega arith })
-          (record { few = turns; grows = grows_not state.store.heap; typed = typed_heap; are = k.are state.store.heap frame are_handed })
-          (comes_back u (0 + size tree) gives callers o at_return.0);
+      follows = λ callers scope args state turns room typed_heap stand are literals held.
+          let o = body_meant (context n (length callers)) of args (frame_of_call of scope args) state in
+          let w = way_to (unit_of of) callers gives o in
+          body_does told w callers n scope args state wholes scopes of (types_of_params params) gives (HasSo o) refl typed_body runs stand fits turns
+          (all_enter told n (within w of callers)) typed_heap (handed state.store.heap params args are) literals held
+          (λ k at v f s h. comes_so (unit_of of) callers gives o room k at v f s h) (has_so (unit_of of) callers gives o);
     }
 
 -- A run has the events of its way to the end.
@@ -243,14 +199,34 @@ runs_by c gives (Ends e state) h =
 empty_typed : IsTypedHeap []
 empty_typed id object e = absurd cc
 
-pub program_runs : (told : Told) (program : BodyNode) (turns : ℕ) (input : List ℕ) → IsWellTyped program → RunsWhole program →
-    slot_count program ≤ frame_words → HasUnit program →
-    machine.Runs (run_events turns input program) (start (unit_of program) (fresh_store turns input (code_weight program))) []
-unfolding run_events outcome_of fresh_state fresh_frame
-program_runs told (body params gives tree scope line) turns input (no_params, is_void, typed_body) runs few has =
-    let of : BodyNode = body params gives tree scope line in
-    let handed : Each IsHanded params = subst (Each IsHanded) (sym no_params) tt in
-    let m = body_meets told [] of turns typed_body runs handed few has in
-    let nothing_handed : AreHanded [] fresh_frame params = subst (AreHanded [] fresh_frame) (sym no_params) tt in
+-- a program is a body that is called with nothing
+program_by : (told : Told) (gives : TyView) (tree : Node) (line : Line) (turns : ℕ) (input : List ℕ) → IsBody [] (body [] gives tree None line) →
+    BodyRuns [] (body [] gives tree None line) → AllByRecursion Fits (bodies (body [] gives tree None line)) →
+    machine.Runs (run_events turns input (body [] gives tree None line))
+    (start (unit_of (body [] gives tree None line)) (fresh_store turns input (code_weight (body [] gives tree None line)))) []
+unfolding run_events outcome_of fresh_state fresh_frame body_meant keep_all ◌>>=◌ after give frame_of_call arguments_on
+program_by told gives tree line turns input typed_body runs fit =
+    let of : BodyNode = body [] gives tree None line in
+    let m = body_meets told [] [] of turns typed_body runs tt fit in
     runs_by (start (unit_of of) (fresh_store turns input (code_weight of))) gives (outcome_of turns input of)
-    (m.follows [] fresh_frame (fresh_state turns input (code_weight of)) (omega arith) empty_typed nothing_handed)
+    (m.follows [] None [] (fresh_state turns input (code_weight of)) (omega arith) tt empty_typed tt tt tt tt)
+
+-- and has no scope of its own
+no_scope : (gives : TyView) (tree : Node) (bytes : List ℕ) (line : Line) → IsBody [] (body [] gives tree (Some bytes) line) → ⊥
+no_scope gives tree bytes line (typed.of_params typed.scoped typed.Takes.no_more ended t) = cc
+
+pub program_runs : (told : Told) (program : BodyNode) (turns : ℕ) (input : List ℕ) → IsWellTyped program → BodyRuns [] program →
+    AllByRecursion (λ (of : BodyNode). IsValued (type_of_body of)) (bodies program) → first_complex (bodies program) ≡ None →
+    AllByRecursion HasUnit (bodies program) →
+    machine.Runs (run_events turns input program) (start (unit_of program) (fresh_store turns input (code_weight program))) []
+program_runs told (body params gives tree text line) turns input (no_params, is_void, typed_body) runs valued few units =
+    let Done : List Param → Option (List ℕ) → Type 0 = λ ps scope. IsBody [] (body ps gives tree scope line) → BodyRuns [] (body ps gives tree scope line) →
+    AllByRecursion Fits (bodies (body ps gives tree scope line)) →
+    machine.Runs (run_events turns input (body ps gives tree scope line))
+    (start (unit_of (body ps gives tree scope line)) (fresh_store turns input (code_weight (body ps gives tree scope line)))) [] in
+    let by_scope : (scope : Option (List ℕ)) → Done [] scope = λ scope. elim scope as (λ s. Done [] s) [
+      | None ↦ program_by told gives tree line turns input
+      | Some bytes ↦ λ is r f. absurd (no_scope gives tree bytes line is)
+    ] in
+    subst (λ (ps : List Param). Done ps text) (sym no_params) (by_scope text) typed_body runs
+    (bodies_fit (bodies (body params gives tree text line)) valued few units)

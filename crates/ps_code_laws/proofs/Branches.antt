@@ -13,6 +13,7 @@ use Rattle.ps_stepping.specs.Config.{code_in, IsAt}
 use Rattle.ps_stepping.specs.Machine.{on, act}
 use Rattle.ps_soundness.specs.Shapes.{IsOf, Grows}
 use Rattle.ps_soundness.proofs.Growing.{of_kept}
+use Rattle.ps_code_laws.specs.Compiled.{compiled}
 use Rattle.ps_code_laws.specs.Meets.{nums_left, refs_left}
 use Rattle.ps_code_laws.proofs.Clauses.{int, bool, IsCompared}
 use Rattle.ps_code_laws.proofs.Clauses as clause
@@ -85,9 +86,9 @@ module _ (w : Way) where
       Does w n (nums_left ty v) (refs_left ty v) a t need p k
   twice_does (clause.numbers int) p v le at d = twice_num p (word_of v) le at d
   twice_does (clause.numbers bool) p v le at d = twice_num p (word_of v) le at d
-  twice_does clause.texts p v le at d = twice_ref p v le at d
-  twice_does (clause.alike clause.IsObject.pntr) p v le at d = twice_ref p v le at d
-  twice_does (clause.alike clause.IsObject.vector) p v le at d = twice_ref p v le at d
+  twice_does clause.texts p v le at d = twice_ref p (compiled v) le at d
+  twice_does (clause.alike clause.IsObject.pntr) p v le at d = twice_ref p (compiled v) le at d
+  twice_does (clause.alike clause.IsObject.vector) p v le at d = twice_ref p (compiled v) le at d
 
   -- a label over the value that waits, and that value once more
   test_acts : (heap : Heap) {ty : TyView} → IsCompared relation.Equal ty → (q : ℕ) (v u : Value) → IsOf heap ty v → IsOf heap ty u →
@@ -108,7 +109,7 @@ module _ (w : Way) where
       compare_acts w heap (clause.alike clause.IsObject.pntr) q v u is of (nums_left types.Pntr v ++ nums) (refs_left types.Pntr v ++ refs) f store
       room
   test_acts heap (clause.alike (clause.IsObject.vector {element = element})) q v u is of nums refs f store room =
-      compare_acts w heap (clause.alike (clause.IsObject.vector {element = element})) q v u is of nums (v ∷ refs) f store room
+      compare_acts w heap (clause.alike (clause.IsObject.vector {element = element})) q v u is of nums (compiled v ∷ refs) f store room
 
   test_label : {n : Origin} {t ty : TyView} → IsCompared relation.Equal ty →
       (need q chosen k : ℕ) (v u : Value) (rest : Meaning) (next : Value → Meaning) →
@@ -143,12 +144,12 @@ module _ (w : Way) where
 
   -- a label and those behind it, and then what follows
   pub does_label : {n : Origin} {t ty : TyView} → IsCompared relation.Equal ty → (need nl p q chosen k : ℕ) (v : Value) (label rest : Meaning)
-      (next : Value → Meaning) → 2 + nl ≤ need → IsOf n.heap ty v → Leads n n.locals ty label →
+      (next : Value → Meaning) → 2 + nl ≤ need → IsOf n.heap ty v → Leads n n.known ty label →
       IsAt (code_in w.unit) p (choice.by_type ty instr.DupM instr.DupP) → Does w n [] [] label ty nl (p + 1) q →
       IsAt (code_in w.unit) q (choice.compare relation.Equal ty) →
       IsAt (code_in w.unit) (q + 1) (instr.JumpTrue chosen) → q + 1 < chosen →
-      ((new : Heap) → Grows n.heap new → Does w (after_it n new n.locals) (nums_left ty v) (refs_left ty v) (next (Flag true)) t need chosen k) →
-      ((new : Heap) → Grows n.heap new → Does w (after_it n new n.locals) (nums_left ty v) (refs_left ty v) (rest >>= next) t need (q + 1 + 5) k) →
+      ((new : Heap) → Grows n.heap new → Does w (after_it n new n.known) (nums_left ty v) (refs_left ty v) (next (Flag true)) t need chosen k) →
+      ((new : Heap) → Grows n.heap new → Does w (after_it n new n.known) (nums_left ty v) (refs_left ty v) (rest >>= next) t need (q + 1 + 5) k) →
       Does w n (nums_left ty v) (refs_left ty v) ((label >>= λ u. choose (is_equal ty v u) (give (Flag true)) rest) >>= next) t need p k
   does_label {n = n} {ty = ty} h need nl p q chosen k v label rest next le is leads at_dup dl at_test at_jump lt dt df =
       does_same w _ (then_then label (λ u. choose (is_equal ty v u) (give (Flag true)) rest) next)

@@ -1,5 +1,5 @@
 -- Comparing two values of a type: what the machine's instruction for the type tells is what is meant.
-use Rattle.std.proofs.Common.{◌≡◌, ℕ, ◌+◌, ℤ, List, ◌∷◌, ◌++◌, refl, ◌∙◌}
+use Rattle.std.proofs.Common.{◌≡◌, ℕ, ◌+◌, ℤ, Bool, List, ◌∷◌, ◌++◌, refl, ap, ◌∙◌}
 use Rattle.ps_base.specs.TyView.{TyView}
 use Rattle.ps_base.specs.Instr.{width_of}
 use Rattle.ps_base.specs.declared.operator.Relation.{Relation}
@@ -11,17 +11,19 @@ use Rattle.ps_meaning.specs.Meaning.{Frame, Store}
 use Rattle.ps_meaning.specs.Evaluation.{text_relation, compares}
 use Rattle.ps_gen.specs.Choices as choice
 use Rattle.ps_stepping.specs.Config.{Config}
-use Rattle.ps_stepping.specs.Machine.{Step, on, act}
+use Rattle.ps_stepping.specs.Machine.{Step, on, push_num, act}
 use Rattle.ps_stepping.specs.Objects.{denoting_of}
 use Rattle.ps_soundness.specs.Shapes.{IsOf}
+use Rattle.ps_code_laws.specs.Compiled.{compiled}
 use Rattle.ps_code_laws.specs.Meets.{nums_left, refs_left}
+use Rattle.ps_code_laws.proofs.Compiling.{relation_compiled}
 use Rattle.ps_code_laws.proofs.Clauses.{IsNum, int, bool, IsObject, IsCompared}
 use Rattle.ps_code_laws.proofs.Clauses as clause
 use Rattle.ps_code_laws.proofs.Doing.{Way, place, Room, push_goes}
 
 -- a value of the type of an object denotes one, or is nil
 denotes : {ty : TyView} (heap : Heap) → IsObject ty → (v : Value) → IsOf heap ty v → (c : Config) (next : Value → Config → Step) →
-    denoting_of v c next ≡ next v c
+    denoting_of (compiled v) c next ≡ next (compiled v) c
 denotes heap clause.IsObject.pntr Nil is c next = refl
 denotes heap clause.IsObject.pntr (Pointer id) is c next = refl
 denotes heap clause.IsObject.pntr _ is c next = absurd is
@@ -60,10 +62,18 @@ module _ (w : Way) where
   compare_acts heap clause.texts p (Text a) _ is of nums refs f store room = absurd of
   compare_acts heap clause.texts p _ u is of nums refs f store room = absurd is
   compare_acts heap (clause.alike clause.IsObject.pntr) p v u is of nums refs f store room =
-      denotes heap clause.IsObject.pntr u of _ _ ∙ denotes heap clause.IsObject.pntr v is _ _ ∙ push_goes w (p + 1) _ nums refs f store room
+      denotes heap clause.IsObject.pntr u of _ _ ∙ denotes heap clause.IsObject.pntr v is _ _
+      ∙ ap (λ (b : Bool). push_num (number_of b) (place w (p + 1) nums refs f store)) (relation_compiled relation.Equal v u)
+      ∙ push_goes w (p + 1) _ nums refs f store room
   compare_acts heap (clause.alike clause.IsObject.vector) p v u is of nums refs f store room =
-      denotes heap clause.IsObject.vector u of _ _ ∙ denotes heap clause.IsObject.vector v is _ _ ∙ push_goes w (p + 1) _ nums refs f store room
+      denotes heap clause.IsObject.vector u of _ _ ∙ denotes heap clause.IsObject.vector v is _ _
+      ∙ ap (λ (b : Bool). push_num (number_of b) (place w (p + 1) nums refs f store)) (relation_compiled relation.Equal v u)
+      ∙ push_goes w (p + 1) _ nums refs f store room
   compare_acts heap (clause.unlike clause.IsObject.pntr) p v u is of nums refs f store room =
-      denotes heap clause.IsObject.pntr u of _ _ ∙ denotes heap clause.IsObject.pntr v is _ _ ∙ push_goes w (p + 1) _ nums refs f store room
+      denotes heap clause.IsObject.pntr u of _ _ ∙ denotes heap clause.IsObject.pntr v is _ _
+      ∙ ap (λ (b : Bool). push_num (number_of b) (place w (p + 1) nums refs f store)) (relation_compiled relation.NotEqual v u)
+      ∙ push_goes w (p + 1) _ nums refs f store room
   compare_acts heap (clause.unlike clause.IsObject.vector) p v u is of nums refs f store room =
-      denotes heap clause.IsObject.vector u of _ _ ∙ denotes heap clause.IsObject.vector v is _ _ ∙ push_goes w (p + 1) _ nums refs f store room
+      denotes heap clause.IsObject.vector u of _ _ ∙ denotes heap clause.IsObject.vector v is _ _
+      ∙ ap (λ (b : Bool). push_num (number_of b) (place w (p + 1) nums refs f store)) (relation_compiled relation.NotEqual v u)
+      ∙ push_goes w (p + 1) _ nums refs f store room

@@ -17,17 +17,20 @@ use Rattle.ps_meaning.specs.Values.{Value, Nothing, word_of, is_one, flag_of}
 use Rattle.ps_meaning.specs.Meaning.{Frame, Store, State, Outcome, Value_is, Ends, Meaning, give, stop, after, ◌>>=◌, choose, answer, some_out, emit, in_places, is_width, written, with_turns, turned, spent, take_turn, with_local, get, set}
 use Rattle.ps_meaning.specs.Objects.{Heap}
 use Rattle.ps_meaning.specs.Evaluation.{while_turns}
-use Rattle.ps_typing.specs.WellTyped.{Local}
-use Rattle.ps_soundness.specs.Shapes.{IsOf, IsTypedHeap, AreLocals, Grows}
+use Rattle.ps_soundness.specs.Shapes.{IsOf, IsTypedHeap, Grows}
 use Rattle.ps_soundness.proofs.Growing.{grows_not, grows_then}
-use Rattle.ps_soundness.proofs.Combining.{Sound, over}
+use Rattle.ps_soundness.proofs.Combining.{Standing, IsStanding, Sound, sound_then}
 use Rattle.ps_soundness.proofs.Combining as combining
 use Rattle.ps_stepping.specs.Config.{frame_words, Caller, Config, code_in, frame_in, IsAt}
 use Rattle.ps_stepping.specs.Machine.{Step, Goes, Stops, Stuck, on, push_num, push_ref, forward, back, turn_to, answered, act, Steps, at_instruction}
 use Rattle.ps_stepping.specs.Machine as machine
+use Rattle.ps_code_laws.specs.Compiled.{compiled, compiled_store}
 use Rattle.ps_code_laws.specs.Meets.{nums_left, refs_left, standing}
 use Rattle.ps_code_laws.proofs.Clauses.{IsNum, int, bool, IsRef, str, pntr, vector, proc}
-use Rattle.ps_code_laws.proofs.Falls.{Falls, Falling}
+use Rattle.ps_code_laws.proofs.Falls.{Falls, Falling, falls_then}
+use Rattle.ps_code_laws.specs.Literals.{Fits}
+use Rattle.ps_code_laws.proofs.Literals.{IsLiteral, InHeap, InFrame}
+use Rattle.ps_code_laws.proofs.Holding.{Left, Holds, holds_then}
 
 -- A run of a unit, inside bodies that wait, that is to come to something: whatever is so of what a step comes to is so of what it
 -- starts from.
@@ -56,6 +59,14 @@ words_set row slot v = λ i s. each s i
     each s = elim (nat_eq s slot) as (λ b. word_of (if b then v else row s) ≡ (if b then word_of v else word_of (row s)))
         [ true ↦ refl | false ↦ refl ]
 
+pub refs_set : (row : ℕ → Value) (slot : ℕ) (v : Value) →
+    (λ s. compiled (with_local row slot v s)) ≡ with_local (λ s. compiled (row s)) slot (compiled v)
+refs_set row slot v = λ i s. each s i
+  where
+    each : (s : ℕ) → compiled (if nat_eq s slot then v else row s) ≡ (if nat_eq s slot then compiled v else compiled (row s))
+    each s = elim (nat_eq s slot) as (λ b. compiled (if b then v else row s) ≡ (if b then compiled v else compiled (row s)))
+        [ true ↦ refl | false ↦ refl ]
+
 pub nums_few : (ty : TyView) (v : Value) → length (nums_left ty v) ≤ 1
 nums_few types.Int v = omega arith
 nums_few types.Bool v = omega arith
@@ -67,68 +78,90 @@ refs_few types.Bool v = omega arith
 refs_few types.Void v = omega arith
 refs_few other v = omega arith
 
--- Where a clause begins: so many turns are left at most, the heap has grown from this one, and these locals are in scope.
+-- Where a clause begins: so many turns are left at most, the heap has grown from this one, and this is known of the locals and the scopes.
 pub record Origin : Type 0 where
   pub turns : ℕ
   pub heap : Heap
-  pub locals : List Local
+  pub known : Standing
 
 pub record IsSince (n : Origin) (f : Frame) (s : State) : Type 0 where
   pub few : s.store.turns ≤ n.turns
   pub grows : Grows n.heap s.store.heap
   pub typed : IsTypedHeap s.store.heap
-  pub are : AreLocals s.store.heap f n.locals
+  pub are : IsStanding s.store.heap f n.known
+  pub held : InFrame Fits f × InHeap Fits s.store.heap
 
 -- behind a part
-abbrev pub after_it : Origin → Heap → List Local → Origin
-after_it n heap last = record { turns = n.turns; heap = heap; locals = last }
+abbrev pub after_it : Origin → Heap → Standing → Origin
+after_it n heap last = record { turns = n.turns; heap = heap; known = last }
 
 pub since_more : {n : Origin} {f : Frame} {s : State} {m : ℕ} {heap : Heap} → m ≤ n.turns → Grows n.heap heap →
-    IsSince (record { turns = m; heap = heap; locals = n.locals }) f s → IsSince n f s
+    IsSince (record { turns = m; heap = heap; known = n.known }) f s → IsSince n f s
 since_more {n = n} {s = s} {heap = heap} le g h = record {
   few = let few = h.few in omega arith;
   grows = grows_then n.heap heap s.store.heap g h.grows;
   typed = h.typed;
   are = h.are;
+  held = h.held;
 }
 
--- what a part comes to that is of a type: the turns have fallen, the heap has grown and is typed, and so are the locals in scope behind it
-pub record IsLeft (n : Origin) (last : List Local) (ty : TyView) (v : Value) (f : Frame) (s : State) : Type 0 where
+-- What a part comes to that is of a type: the turns have fallen, the heap has grown and is typed, what is known behind it is so, and each procedure that
+-- is held fits.
+pub record IsLeft (n : Origin) (last : Standing) (ty : TyView) (v : Value) (f : Frame) (s : State) : Type 0 where
   pub few : s.store.turns ≤ n.turns
   pub grows : Grows n.heap s.store.heap
   pub typed : IsTypedHeap s.store.heap
-  pub are : AreLocals s.store.heap f last
+  pub are : IsStanding s.store.heap f last
   pub value : IsOf s.store.heap ty v
+  pub held : InFrame Fits f × InHeap Fits s.store.heap
+  pub literal : IsLiteral Fits v
 
-abbrev pub Behind : Origin → List Local → TyView → Outcome → Type 0
+abbrev pub Behind : Origin → Standing → TyView → Outcome → Type 0
 Behind n last ty (Value_is v f s) = IsLeft n last ty v f s
 Behind n last ty (Ends e s) = Unit {0}
 
-pub since_left : (n : Origin) (last : List Local) (ty : TyView) (v : Value) (f : Frame) (s : State) → IsLeft n last ty v f s →
+pub since_left : (n : Origin) (last : Standing) (ty : TyView) (v : Value) (f : Frame) (s : State) → IsLeft n last ty v f s →
     IsSince (after_it n s.store.heap last) f s
-since_left n last ty v f s left = record { few = left.few; grows = grows_not s.store.heap; typed = left.typed; are = left.are }
+since_left n last ty v f s left = record { few = left.few; grows = grows_not s.store.heap; typed = left.typed; are = left.are; held = left.held }
 
 -- a part that takes turns alone, and comes to a value of a type
-pub record Leads (n : Origin) (last : List Local) (ty : TyView) (a : Meaning) : Type 0 where
+pub record Leads (n : Origin) (last : Standing) (ty : TyView) (a : Meaning) : Type 0 where
   pub falls : Falling a
-  pub sound : Sound n.heap (over n.locals) (over last) ty a
+  pub sound : Sound n.heap n.known last ty a
+  pub holds : Holds Fits a
 
-left_of : (n : Origin) (last : List Local) (ty : TyView) (turns : ℕ) (old : Heap) (o : Outcome) → turns ≤ n.turns → Grows n.heap old → Falls turns o →
-    combining.Comes old (over last) ty o → Behind n last ty o
-left_of n last ty turns old (Value_is v f s) le g falls h =
-    record { few = omega arith; grows = grows_then n.heap old s.store.heap g h.grows; typed = h.typed; are = h.are.0; value = h.value }
-left_of n last ty turns old (Ends e s) le g falls h = tt
+left_of : (n : Origin) (last : Standing) (ty : TyView) (turns : ℕ) (old : Heap) (o : Outcome) → turns ≤ n.turns → Grows n.heap old → Falls turns o →
+    combining.Comes old last ty o → Left Fits o → Behind n last ty o
+left_of n last ty turns old (Value_is v f s) le g falls h k = record {
+  few = omega arith;
+  grows = grows_then n.heap old s.store.heap g h.grows;
+  typed = h.typed;
+  are = h.are;
+  value = h.value;
+  held = (k.1, k.2);
+  literal = k.0;
+}
+left_of n last ty turns old (Ends e s) le g falls h k = tt
 
-pub leads_left : {n : Origin} {last : List Local} {ty : TyView} {a : Meaning} {f : Frame} {s : State} → Leads n last ty a → IsSince n f s →
+pub leads_left : {n : Origin} {last : Standing} {ty : TyView} {a : Meaning} {f : Frame} {s : State} → Leads n last ty a → IsSince n f s →
     Behind n last ty (a f s)
 leads_left {n = n} {last = last} {ty = ty} {a = a} {f = f} {s = s} leads since =
     left_of n last ty s.store.turns s.store.heap (a f s) since.few since.grows (leads.falls f s)
-    (leads.sound.runs f s since.grows since.typed (since.are, tt))
+    (leads.sound.runs f s since.grows since.typed since.are) (leads.holds f s since.held.0 since.held.1)
 
-pub leads_more : {n : Origin} {last : List Local} {ty : TyView} {a : Meaning} {m : ℕ} {heap : Heap} → m ≤ n.turns → Grows n.heap heap →
+pub leads_more : {n : Origin} {last : Standing} {ty : TyView} {a : Meaning} {m : ℕ} {heap : Heap} → m ≤ n.turns → Grows n.heap heap →
     Leads n last ty a →
-    Leads (record { turns = m; heap = heap; locals = n.locals }) last ty a
-leads_more {heap = heap} le g h = record { falls = h.falls; sound = combining.later heap g h.sound }
+    Leads (record { turns = m; heap = heap; known = n.known }) last ty a
+leads_more {heap = heap} le g h = record { falls = h.falls; sound = combining.later heap g h.sound; holds = h.holds }
+
+-- one part, and then another that needs no value of it
+pub leads_then : {n : Origin} {between last : Standing} {tya ty : TyView} {a b : Meaning} → Leads n between tya a →
+    ((new : Heap) → Grows n.heap new → Leads (after_it n new between) last ty b) → Leads n last ty (a >>= λ u. b)
+leads_then {n = n} {a = a} {b = b} h k = record {
+  falls = falls_then a (λ u. b) h.falls (λ u. (k n.heap (grows_not n.heap)).falls);
+  sound = sound_then h.sound (λ new u g is. (k new g).sound);
+  holds = holds_then Fits a (λ u. b) h.holds (λ u literal. (k n.heap (grows_not n.heap)).holds);
+}
 
 -- nothing is told, and where the run ends nothing is made
 abbrev pub IsQuiet : State → Outcome → Type 0
@@ -196,38 +229,48 @@ module _ (w : Way) where
   -- from fewer turns, and a heap that has grown
   pub fewer : {n : Origin} {bn : List ℤ} {br : List Value} {a : Meaning} {ty : TyView} {need p k : ℕ} (m : ℕ) (heap : Heap) → m ≤ n.turns →
       Grows n.heap heap →
-      Does n bn br a ty need p k → Does (record { turns = m; heap = heap; locals = n.locals }) bn br a ty need p k
+      Does n bn br a ty need p k → Does (record { turns = m; heap = heap; known = n.known }) bn br a ty need p k
   fewer m heap le g d = record { by = λ nums refs f s room since reach. d.by nums refs f s room (since_more le g since) reach }
 
   pub later : {n : Origin} {bn : List ℤ} {br : List Value} {a : Meaning} {ty : TyView} {need p k : ℕ} (heap : Heap) → Grows n.heap heap →
-      Does n bn br a ty need p k → Does (after_it n heap n.locals) bn br a ty need p k
+      Does n bn br a ty need p k → Does (after_it n heap n.known) bn br a ty need p k
   later {n = n} heap g d = fewer n.turns heap (omega arith) g d
 
-  comes_then : (n : Origin) (last : List Local) (need q k : ℕ) (nums : List ℤ) (refs : List Value) (tya ty : TyView) (b : Value → Meaning) →
-      ((new : Heap) (v : Value) → Grows n.heap new → IsOf new tya v →
+  comes_then : (n : Origin) (last : Standing) (need q k : ℕ) (nums : List ℤ) (refs : List Value) (tya ty : TyView) (b : Value → Meaning) →
+      ((new : Heap) (v : Value) → Grows n.heap new → IsOf new tya v → IsLiteral Fits v →
       Does (after_it n new last) (nums_left tya v) (refs_left tya v) (b v) ty need q k) →
       Room need nums refs → (o : Outcome) → Behind n last tya o → Comes k nums refs ty (after o b) → Comes q nums refs tya o
   unfolding after
   comes_then n last need q k nums refs tya ty b db room (Value_is v f s) left reach =
-      (db s.store.heap v left.grows left.value).by nums refs f s room (since_left n last tya v f s left) reach
+      (db s.store.heap v left.grows left.value left.literal).by nums refs f s room (since_left n last tya v f s left) reach
   comes_then n last need q k nums refs tya ty b db room (Ends e s) left reach = reach
 
+  -- one part, and then another that takes its value, of which each procedure fits
+  pub does_then_held : {n : Origin} {bn : List ℤ} {br : List Value} {a : Meaning} {tya ty : TyView} {last : Standing} (b : Value → Meaning)
+      (na nb need p q k : ℕ) →
+      na ≤ need → nb ≤ need → Leads n last tya a → Does n bn br a tya na p q →
+      ((new : Heap) (v : Value) → Grows n.heap new → IsOf new tya v → IsLiteral Fits v →
+      Does (after_it n new last) (nums_left tya v) (refs_left tya v) (b v) ty nb q k) →
+      Does n bn br (a >>= b) ty need p k
+  unfolding ◌>>=◌
+  does_then_held {n = n} {a = a} {tya = tya} {ty = ty} {last = last} b na nb need p q k le_a le_b leads da db = record {
+    by = λ nums refs f s room since reach. da.by nums refs f s (less_room na need nums refs le_a room) since
+        (comes_then n last nb q k nums refs tya ty b db (less_room nb need nums refs le_b room) (a f s) (leads_left leads since) reach);
+  }
+
   -- one part, and then another that takes its value
-  pub does_then : {n : Origin} {bn : List ℤ} {br : List Value} {a : Meaning} {tya ty : TyView} {last : List Local} (b : Value → Meaning)
+  pub does_then : {n : Origin} {bn : List ℤ} {br : List Value} {a : Meaning} {tya ty : TyView} {last : Standing} (b : Value → Meaning)
       (na nb need p q k : ℕ) →
       na ≤ need → nb ≤ need → Leads n last tya a → Does n bn br a tya na p q →
       ((new : Heap) (v : Value) → Grows n.heap new → IsOf new tya v → Does (after_it n new last) (nums_left tya v) (refs_left tya v) (b v) ty nb q k)
       →
       Does n bn br (a >>= b) ty need p k
-  unfolding ◌>>=◌
-  does_then {n = n} {a = a} {tya = tya} {ty = ty} {last = last} b na nb need p q k le_a le_b leads da db = record {
-    by = λ nums refs f s room since reach. da.by nums refs f s (less_room na need nums refs le_a room) since
-        (comes_then n last nb q k nums refs tya ty b db (less_room nb need nums refs le_b room) (a f s) (leads_left leads since) reach);
-  }
+  does_then b na nb need p q k le_a le_b leads da db =
+      does_then_held b na nb need p q k le_a le_b leads da (λ new v g is literal. db new v g is)
 
-  comes_over : (n : Origin) (last : List Local) (nb q k : ℕ) (bn : List ℤ) (br : List Value) (nums : List ℤ) (refs : List Value) (tya ty : TyView)
+  comes_over : (n : Origin) (last : Standing) (nb q k : ℕ) (bn : List ℤ) (br : List Value) (nums : List ℤ) (refs : List Value) (tya ty : TyView)
       (b : Value → Meaning) →
-      ((new : Heap) (v : Value) → Grows n.heap new → IsOf new tya v →
+      ((new : Heap) (v : Value) → Grows n.heap new → IsOf new tya v → IsLiteral Fits v →
       Does (after_it n new last) (nums_left tya v ++ bn) (refs_left tya v ++ br) (b v) ty nb q k) → Room nb nums refs → (o : Outcome) →
       Behind n last tya o →
       Comes k nums refs ty (after o b) → Comes q (bn ++ nums) (br ++ refs) tya o
@@ -235,21 +278,30 @@ module _ (w : Way) where
   comes_over n last nb q k bn br nums refs tya ty b db room (Value_is v f s) left reach =
       subst (λ (zs : List ℤ). w.Holds (place q zs (refs_left tya v ++ (br ++ refs)) f s.store) s.events) (append_assoc (nums_left tya v) bn nums)
       (subst (λ (vs : List Value). w.Holds (place q ((nums_left tya v ++ bn) ++ nums) vs f s.store) s.events) (append_assoc (refs_left tya v) br refs)
-      ((db s.store.heap v left.grows left.value).by nums refs f s room (since_left n last tya v f s left) reach))
+      ((db s.store.heap v left.grows left.value left.literal).by nums refs f s room (since_left n last tya v f s left) reach))
   comes_over n last nb q k bn br nums refs tya ty b db room (Ends e s) left reach = reach
 
-  -- one part over words that stay, and then another that takes its value and those words
-  pub does_over : {n : Origin} {a : Meaning} {tya ty : TyView} {last : List Local} (bn : List ℤ) (br : List Value) (b : Value → Meaning)
+  -- one part over words that stay, and then another that takes its value, of which each procedure fits, and those words
+  pub does_over_held : {n : Origin} {a : Meaning} {tya ty : TyView} {last : Standing} (bn : List ℤ) (br : List Value) (b : Value → Meaning)
       (m na nb need p q k : ℕ) →
       length bn ≤ m → length br ≤ m → na + m ≤ need → nb ≤ need → Leads n last tya a → Does n [] [] a tya na p q →
-      ((new : Heap) (v : Value) → Grows n.heap new → IsOf new tya v →
+      ((new : Heap) (v : Value) → Grows n.heap new → IsOf new tya v → IsLiteral Fits v →
       Does (after_it n new last) (nums_left tya v ++ bn) (refs_left tya v ++ br) (b v) ty nb q k) → Does n bn br (a >>= b) ty need p k
   unfolding ◌>>=◌
-  does_over {n = n} {a = a} {tya = tya} {ty = ty} {last = last} bn br b m na nb need p q k few_nums few_refs le_a le_b leads da db = record {
+  does_over_held {n = n} {a = a} {tya = tya} {ty = ty} {last = last} bn br b m na nb need p q k few_nums few_refs le_a le_b leads da db = record {
     by = λ nums refs f s room since reach. da.by (bn ++ nums) (br ++ refs) f s (room_above m na need bn br nums refs few_nums few_refs le_a room)
         since
         (comes_over n last nb q k bn br nums refs tya ty b db (less_room nb need nums refs le_b room) (a f s) (leads_left leads since) reach);
   }
+
+  -- one part over words that stay, and then another that takes its value and those words
+  pub does_over : {n : Origin} {a : Meaning} {tya ty : TyView} {last : Standing} (bn : List ℤ) (br : List Value) (b : Value → Meaning)
+      (m na nb need p q k : ℕ) →
+      length bn ≤ m → length br ≤ m → na + m ≤ need → nb ≤ need → Leads n last tya a → Does n [] [] a tya na p q →
+      ((new : Heap) (v : Value) → Grows n.heap new → IsOf new tya v →
+      Does (after_it n new last) (nums_left tya v ++ bn) (refs_left tya v ++ br) (b v) ty nb q k) → Does n bn br (a >>= b) ty need p k
+  does_over bn br b m na nb need p q k few_nums few_refs le_a le_b leads da db =
+      does_over_held bn br b m na nb need p q k few_nums few_refs le_a le_b leads da (λ new v g is literal. db new v g is)
 
   -- no instruction
   pub does_nothing : (n : Origin) (need k : ℕ) → Does n [] [] (give Nothing) types.Void need k k
@@ -293,9 +345,9 @@ module _ (w : Way) where
 
   pub got_ref : (n : Origin) (p slot : ℕ) (f : Frame) (s : State) (nums : List ℤ) (refs : List Value) → slot < (frame_in w.unit).refs →
       IsAt (code_in w.unit) p (instr.GetP slot) →
-      Room 1 nums refs → w.Holds (place (p + 5) nums (f.refs slot ∷ refs) f s.store) s.events → w.Holds (place p nums refs f s.store) s.events
+      Room 1 nums refs → w.Holds (place (p + 5) nums (compiled (f.refs slot) ∷ refs) f s.store) s.events → w.Holds (place p nums refs f s.store) s.events
   got_ref n p slot f s nums refs below at room reach =
-      quiet (instr.GetP slot) at (if_lt slot (frame_in w.unit).refs _ _ below ∙ push_ref_goes (p + 5) (f.refs slot) nums refs f s.store room) reach
+      quiet (instr.GetP slot) at (if_lt slot (frame_in w.unit).refs _ _ below ∙ push_ref_goes (p + 5) (compiled (f.refs slot)) nums refs f s.store room) reach
 
   pub does_get_ref : (n : Origin) (p slot : ℕ) {ty : TyView} → IsRef ty → slot < (frame_in w.unit).refs → IsAt (code_in w.unit) p (instr.GetP slot) →
       Does n [] [] (get (Plain slot) ty) ty 1 p (p + 5)
@@ -311,7 +363,11 @@ module _ (w : Way) where
 
   -- the machine with its numbers given as they are
   abbrev pub with_words : ℕ → List ℤ → List Value → (ℕ → ℤ) → Frame → Store → Config
-  with_words at nums refs row f store = record (place at nums refs f store) { locals = record { nums = row; refs = f.refs } }
+  with_words at nums refs row f store = record (place at nums refs f store) { locals = record { nums = row; refs = λ slot. compiled (f.refs slot) } }
+
+  -- and with its references
+  abbrev pub with_values : ℕ → List ℤ → List Value → (ℕ → Value) → Frame → Store → Config
+  with_values at nums refs row f store = record (place at nums refs f store) { locals = record { nums = λ slot. word_of (f.nums slot); refs = row } }
 
   pub set_goes : (p slot : ℕ) (v : Value) (nums : List ℤ) (refs : List Value) (f : Frame) (s : State) → slot < (frame_in w.unit).nums →
       IsAt (code_in w.unit) p (instr.SetM slot) → w.Holds (place (p + 5) nums refs (record f { nums = with_local f.nums slot v }) s.store) s.events →
@@ -333,12 +389,14 @@ module _ (w : Way) where
 
   pub set_ref_goes : (p slot : ℕ) (v : Value) (nums : List ℤ) (refs : List Value) (f : Frame) (s : State) → slot < (frame_in w.unit).refs →
       IsAt (code_in w.unit) p (instr.SetP slot) → w.Holds (place (p + 5) nums refs (record f { refs = with_local f.refs slot v }) s.store) s.events →
-      w.Holds (place p nums (v ∷ refs) f s.store) s.events
-  set_ref_goes p slot v nums refs f s below at reach = quiet (instr.SetP slot) at (if_lt slot (frame_in w.unit).refs _ _ below) reach
+      w.Holds (place p nums (compiled v ∷ refs) f s.store) s.events
+  set_ref_goes p slot v nums refs f s below at reach =
+      quiet (instr.SetP slot) at (if_lt slot (frame_in w.unit).refs _ _ below)
+      (subst (λ (row : ℕ → Value). w.Holds (with_values (p + 5) nums refs row f s.store) s.events) (refs_set f.refs slot v) reach)
 
   pub does_set_ref : (n : Origin) (p slot : ℕ) {ty : TyView} (v : Value) → IsRef ty → slot < (frame_in w.unit).refs →
       IsAt (code_in w.unit) p (instr.SetP slot) →
-      Does n [] (v ∷ []) (set (Plain slot) ty v) types.Void 0 p (p + 5)
+      Does n [] (compiled v ∷ []) (set (Plain slot) ty v) types.Void 0 p (p + 5)
   unfolding set
   does_set_ref n p slot v str below at =
       record { by = λ nums refs f s room since reach. set_ref_goes p slot v nums refs f s below at reach }
@@ -356,18 +414,12 @@ module _ (w : Way) where
   taken int v d = d
   taken bool v d = d
 
-  pub taken_ref : {n : Origin} {m : Meaning} {t : TyView} {need p k : ℕ} {ty : TyView} → IsRef ty → (v : Value) → Does n [] (v ∷ []) m t need p k →
+  pub taken_ref : {n : Origin} {m : Meaning} {t : TyView} {need p k : ℕ} {ty : TyView} → IsRef ty → (v : Value) → Does n [] (compiled v ∷ []) m t need p k →
       Does n (nums_left ty v) (refs_left ty v) m t need p k
   taken_ref str v d = d
   taken_ref pntr v d = d
   taken_ref vector v d = d
   taken_ref proc v d = d
-
-  pub taken_two : {n : Origin} {m : Meaning} {t : TyView} {need p k : ℕ} {ty : TyView} → IsNum ty → (v u : Value) →
-      Does n (word_of u ∷ word_of v ∷ []) [] m t need p k →
-      Does n (nums_left ty u ++ nums_left ty v) (refs_left ty u ++ refs_left ty v) m t need p k
-  taken_two int v u d = d
-  taken_two bool v u d = d
 
   -- an instruction that takes words and gives an int, or traps
   pub does_answer : (n : Origin) (p : ℕ) (bn : List ℤ) (a : Answer) (line : Line) (i : Instr) →
@@ -481,7 +533,7 @@ module _ (w : Way) where
   pub turn_goes : (k to : ℕ) (before : Config) (i : Instr) (nums after_nums : List ℤ) (refs after_refs : List Value) (ty : TyView) (f : Frame)
       (s : State)
       (turns : ℕ) (next : Value → Meaning) → before.store.counted ≡ s.store.counted → IsAt (code_in before.unit) before.at i →
-      act i before ≡ turn_to (with_turns s.store turns) to (place (before.at + width_of i) nums refs f s.store) →
+      act i before ≡ turn_to (with_turns (compiled_store s.store) turns) to (place (before.at + width_of i) nums refs f s.store) →
       ((events : List Event) (left : ℕ) → left < turns →
       Comes k after_nums after_refs ty (next Nothing f (record { events = events; store = record s.store { turns = left } })) →
       w.Holds (place to nums refs f (record s.store { turns = left })) events) →
@@ -493,55 +545,55 @@ module _ (w : Way) where
 
   -- the test of a loop: with a turn to the start of its clause, or on
   again_goes : (p to : ℕ) (v : Value) (nums : List ℤ) (refs : List Value) (f : Frame) (store : Store) → to < p → is_one (word_of v) ≡ true →
-      act (instr.Again to) (place p (word_of v ∷ nums) refs f store) ≡ turn_to (spent store) to (place (p + 5) nums refs f store)
+      act (instr.Again to) (place p (word_of v ∷ nums) refs f store) ≡ turn_to (spent (compiled_store store)) to (place (p + 5) nums refs f store)
   again_goes p to v nums refs f store lt is = if_true (is_one (word_of v)) _ _ is ∙ if_lt to p _ _ lt
 
-  does_last : (heap : Heap) (locals : List Local) (need p to : ℕ) (v : Value) → to < p → IsAt (code_in w.unit) p (instr.Again to) →
+  does_last : (heap : Heap) (known : Standing) (need p to : ℕ) (v : Value) → to < p → IsAt (code_in w.unit) p (instr.Again to) →
       (c : Bool) → is_one (word_of v) ≡ c →
-      Does (record { turns = 0; heap = heap; locals = locals }) (word_of v ∷ []) [] (choose c (stop OutOfTurns) (give Nothing)) types.Void need p
+      Does (record { turns = 0; heap = heap; known = known }) (word_of v ∷ []) [] (choose c (stop OutOfTurns) (give Nothing)) types.Void need p
       (p + 5)
   unfolding choose give stop
-  does_last heap locals need p to v lt at true is = record {
+  does_last heap known need p to v lt at true is = record {
     by = λ nums refs f s room since reach.
         let none_left : s.store.turns ≡ 0 = let few = since.few in omega arith in
         halt (instr.Again to) at (again_goes p to v nums refs f s.store lt is
-        ∙ ap (λ (t : ℕ). turn_to (with_turns s.store t) to (place (p + 5) nums refs f s.store)) none_left) reach;
+        ∙ ap (λ (t : ℕ). turn_to (with_turns (compiled_store s.store) t) to (place (p + 5) nums refs f s.store)) none_left) reach;
   }
-  does_last heap locals need p to v lt at false is = record {
+  does_last heap known need p to v lt at false is = record {
     by = λ nums refs f s room since reach. quiet (instr.Again to) at (if_false (is_one (word_of v)) _ _ is) reach;
   }
 
-  does_again : (n need p to : ℕ) (heap : Heap) (locals : List Local) (v : Value) (next : Value → Meaning) →
-      Does (record { turns = n; heap = heap; locals = locals }) [] [] (next Nothing) types.Void need to (p + 5) → to < p →
+  does_again : (n need p to : ℕ) (heap : Heap) (known : Standing) (v : Value) (next : Value → Meaning) →
+      Does (record { turns = n; heap = heap; known = known }) [] [] (next Nothing) types.Void need to (p + 5) → to < p →
       IsAt (code_in w.unit) p (instr.Again to) → (c : Bool) → is_one (word_of v) ≡ c →
-      Does (record { turns = suc n; heap = heap; locals = locals }) (word_of v ∷ []) [] (choose c (take_turn >>= next) (give Nothing)) types.Void
+      Does (record { turns = suc n; heap = heap; known = known }) (word_of v ∷ []) [] (choose c (take_turn >>= next) (give Nothing)) types.Void
       need p (p + 5)
   unfolding choose give take_turn ◌>>=◌
-  does_again n need p to heap locals v next d lt at true is = record {
+  does_again n need p to heap known v next d lt at true is = record {
     by = λ nums refs f s room since reach.
         turn_goes (p + 5) to (place p (word_of v ∷ nums) refs f s.store) (instr.Again to) nums nums refs refs types.Void f s s.store.turns next refl
         at
         (again_goes p to v nums refs f s.store lt is)
         (λ events left less. d.by nums refs f _ room
-        (record { few = let few = since.few in omega arith; grows = since.grows; typed = since.typed; are = since.are })) reach;
+        (record { few = let few = since.few in omega arith; grows = since.grows; typed = since.typed; are = since.are; held = since.held })) reach;
   }
-  does_again n need p to heap locals v next d lt at false is = record {
+  does_again n need p to heap known v next d lt at false is = record {
     by = λ nums refs f s room since reach. quiet (instr.Again to) at (if_false (is_one (word_of v)) _ _ is) reach;
   }
 
   -- The test from p on, the clause from `to` on up to p, and the end of the loop behind the test.
-  pub does_while : (n : Origin) (need nc na p q to : ℕ) (test clause : Meaning) → nc ≤ need → na ≤ need → Leads n n.locals types.Bool test →
-      Leads n n.locals types.Void clause → Does n [] [] test types.Bool nc p q → Does n [] [] clause types.Void na to p → to < q →
+  pub does_while : (n : Origin) (need nc na p q to : ℕ) (test clause : Meaning) → nc ≤ need → na ≤ need → Leads n n.known types.Bool test →
+      Leads n n.known types.Void clause → Does n [] [] test types.Bool nc p q → Does n [] [] clause types.Void na to p → to < q →
       IsAt (code_in w.unit) q (instr.Again to) → (m : ℕ) (heap : Heap) → m ≤ n.turns → Grows n.heap heap →
-      Does (record { turns = m; heap = heap; locals = n.locals }) [] [] (while_turns m test clause) types.Void need p (q + 5)
+      Does (record { turns = m; heap = heap; known = n.known }) [] [] (while_turns m test clause) types.Void need p (q + 5)
   unfolding while_turns
   does_while n need nc na p q to test clause le_c le_a lt_c lt_a dt dc lt at zero heap le g =
       does_then _ nc need need p q (q + 5) le_c (omega arith) (leads_more le g lt_c) (fewer 0 heap le g dt)
-      (λ new v k is. does_last new n.locals need q to v lt at (flag_of v) refl)
+      (λ new v k is. does_last new n.known need q to v lt at (flag_of v) refl)
   does_while n need nc na p q to test clause le_c le_a lt_c lt_a dt dc lt at (suc m) heap le g =
       does_then _ nc need need p q (q + 5) le_c (omega arith) (leads_more le g lt_c) (fewer (suc m) heap le g dt)
       (λ new v k is. let h = grows_then n.heap heap new g k in
-      does_again m need q to new n.locals v (λ t. clause >>= λ u. while_turns m test clause)
+      does_again m need q to new n.known v (λ t. clause >>= λ u. while_turns m test clause)
       (does_then (λ u. while_turns m test clause) na need need to p (q + 5) le_a (omega arith) (leads_more (omega arith) h lt_a)
       (fewer m new (omega arith) h dc)
       (λ last u l of. does_while n need nc na p q to test clause le_c le_a lt_c lt_a dt dc lt at m last (omega arith)

@@ -128,12 +128,12 @@ unfolding back_to
 falls_back_to n own (Value_is v f s) h = h
 falls_back_to n own (Ends e s) h = tt
 
-falls_scoped : (text : List ℕ) (m : Meaning) → Falling m → Falling (scoped text m)
+pub falls_scoped : (text : List ℕ) (m : Meaning) → Falling m → Falling (scoped text m)
 unfolding scoped
 falls_scoped text m h f s =
     falls_back_in s.store.turns f.scope ((enter text >>= λ u. m) f s) (falls_then (enter text) (λ u. m) (falls_enter text) (λ u. h) f s)
 
-falls_scope : (scope : Option (List ℕ)) (m : Meaning) → Falling m → Falling (in_scope scope m)
+pub falls_scope : (scope : Option (List ℕ)) (m : Meaning) → Falling m → Falling (in_scope scope m)
 falls_scope None m h = h
 falls_scope (Some text) m h = falls_scoped text m h
 
@@ -170,7 +170,8 @@ falls_for_loop n line loop clause h z =
     falls_choose (is_same loop.step (pos 0)) _ _ (falls_stop _)
     (falls_choose (goes_on loop.limit loop.step z) _ _ (falls_for_turns n loop clause h z) (falls_give Nothing))
 
-pub falls_for : (n : ℕ) (line : Line) (slot : ℕ) (scope : Option (List ℕ)) (control : Place) (a b c clause : Meaning) → Falling a → Falling b → Falling c → Falling clause →
+pub falls_for : (n : ℕ) (line : Line) (slot : ℕ) (scope : Option (List ℕ)) (control : Place) (a b c clause : Meaning) → Falling a → Falling b → Falling c →
+    Falling clause →
     Falling (for_meant n line slot scope control a b c clause)
 unfolding for_meant
 falls_for n line slot scope control a b c clause ha hb hc h =
@@ -288,7 +289,8 @@ mutual
   falls_all c k v none = falls_give v
   falls_all c k v (more t ts) = falls_then (eval c t) _ (falls_eval c k t) (λ w. falls_all c k w ts)
 
-  pub falls_each : (c : Context) → CallsFall c → (ts : Nodes) (next : List Value → Meaning) → ((vs : List Value) → Falling (next vs)) → Falling (eval_each c ts next)
+  pub falls_each : (c : Context) → CallsFall c → (ts : Nodes) (next : List Value → Meaning) → ((vs : List Value) → Falling (next vs)) →
+      Falling (eval_each c ts next)
   falls_each c k none next h = h []
   falls_each c k (more t ts) next h = falls_then (eval c t) _ (falls_eval c k t) (λ v. falls_each c k ts (λ vs. next (v ∷ vs)) (λ vs. h (v ∷ vs)))
 
@@ -310,7 +312,7 @@ unfolding keep
 falls_keep (Plain slot) ty v = falls_give Nothing
 falls_keep (Kept up position) ty v = falls_set (Kept up position) ty v
 
-falls_keep_all : (params : List Param) (args : List Value) → Falling (keep_all params args)
+pub falls_keep_all : (params : List Param) (args : List Value) → Falling (keep_all params args)
 unfolding keep_all
 falls_keep_all [] args = falls_give Nothing
 falls_keep_all (param ∷ params) [] = falls_give Nothing

@@ -42,7 +42,7 @@ unfolding after
 same_after x f (Value_is v g s) b h k = same_from x f g (b v g s) h (k v g s)
 same_after x f (Ends e s) b h k = tt
 
-leaves_then : (x : ℕ) (a : Meaning) (b : Value → Meaning) → Leaves x a → ((v : Value) → Leaves x (b v)) → Leaves x (a >>= b)
+pub leaves_then : (x : ℕ) (a : Meaning) (b : Value → Meaning) → Leaves x a → ((v : Value) → Leaves x (b v)) → Leaves x (a >>= b)
 unfolding ◌>>=◌
 leaves_then x a b h k f s = same_after x f (a f s) b (h f s) k
 
@@ -133,7 +133,7 @@ pub leaves_set : (x slot : ℕ) (ty : TyView) (v : Value) → (is_number ty ≡ 
 unfolding set
 leaves_set x slot ty v apart f s = other_in_frame x slot v f (is_number ty) apart
 
-leaves_kept : (x up position : ℕ) (ty : TyView) (v : Value) → Leaves x (set (Kept up position) ty v)
+pub leaves_kept : (x up position : ℕ) (ty : TyView) (v : Value) → Leaves x (set (Kept up position) ty v)
 unfolding set
 leaves_kept x up position ty v f s = refl
 
@@ -164,7 +164,7 @@ unfolding back_to
 same_back_to x f (Value_is v g s) = refl
 same_back_to x f (Ends e s) = tt
 
-leaves_scoped : (x : ℕ) (text : List ℕ) (m : Meaning) → Leaves x m → Leaves x (scoped text m)
+pub leaves_scoped : (x : ℕ) (text : List ℕ) (m : Meaning) → Leaves x m → Leaves x (scoped text m)
 unfolding scoped
 leaves_scoped x text m h f s =
     same_back_in x f f.scope ((enter text >>= λ u. m) f s) (leaves_then x (enter text) (λ u. m) (leaves_enter x text) (λ u. h) f s)

@@ -1,8 +1,19 @@
+pub mod Compiling
 pub mod Standing
 pub mod Keeps
+pub mod Known
+pub mod InputCalls
+pub mod Giving
 pub mod Clauses
+pub mod Naming
+pub mod Building
+pub mod TypeOf
 pub mod Falls
+pub mod Staying
+pub mod Literals
+pub mod Holding
 pub mod Doing
+pub mod From
 pub mod Comparing
 pub mod Branches
 pub mod Loops
@@ -12,6 +23,16 @@ pub mod TextForms
 pub mod StructureForms
 pub mod VectorForms
 pub mod RowForms
+pub mod KeptNames
+pub mod ScopeForms
+pub mod Scoping
+pub mod Arguments
+pub mod CallForms
+pub mod Calls
+pub mod Handed
+pub mod Beginning
 pub mod Simulation
+pub mod Called
+pub mod Inside
 pub mod Bodies
 mod Rows

@@ -17,7 +17,10 @@ use Rattle.ps_soundness.proofs.Growing.{grows_then, of_kept}
 use Rattle.ps_code_laws.specs.Meets.{nums_left, refs_left}
 use Rattle.ps_code_laws.proofs.Standing.{Ahead, ahead_at}
 use Rattle.ps_code_laws.proofs.Falls.{Falling, falls_eval, calls_fall}
-use Rattle.ps_code_laws.proofs.Clauses.{sounds_in}
+use Rattle.ps_code_laws.proofs.Clauses.{sounds_in, bodies_in}
+use Rattle.ps_soundness.specs.Valued.{IsValued}
+use Rattle.ps_code_laws.specs.Literals.{BodiesAre, Fits}
+use Rattle.ps_code_laws.proofs.Holding.{Holds, holds_eval, calls_hold}
 use Rattle.ps_code_laws.proofs.Clauses as clause
 use Rattle.ps_code_laws.proofs.Doing.{Origin, after_it, Leads, leads_more, Way, Does, later, does_then, does_over, nums_few, refs_few}
 
@@ -64,24 +67,31 @@ module _ (w : Way) where
   pub falls_in : (n : ℕ) (t : Node) → Falling (eval (context_in w n) t)
   falls_in n t = falls_eval (context_in w n) (calls_fall n (length w.callers)) t
 
+  pub holds_in : (n : ℕ) (t : Node) → BodiesAre Fits IsValued t → Holds Fits (eval (context_in w n) t)
+  holds_in n t fit = holds_eval Fits (context_in w n) (calls_hold Fits n (length w.callers)) t fit
+
   -- what is known of a clause where it begins
-  pub leads_of : (n : Origin) {t : Node} {ty : TyView} → clause.Part nums_of refs_of n.locals t ty → Leads n n.locals ty (eval (context_in w n.turns) t)
-  leads_of n {t = t} h = record { falls = falls_in n.turns t; sound = sounds_in h (context_in w n.turns) n.heap }
+  pub leads_of : (n : Origin) {t : Node} {ty : TyView} → clause.Part nums_of refs_of n.known t ty → Leads n n.known ty (eval (context_in w n.turns) t)
+  leads_of n {t = t} h = record {
+    falls = falls_in n.turns t;
+    sound = sounds_in h n.turns (length w.callers) n.heap;
+    holds = holds_in n.turns t (bodies_in h);
+  }
 
   -- one operand, and an instruction that takes it
   pub does_one : {n : Origin} {a : Meaning} {tya ty : TyView} (op : Value → Meaning) (na ni need p q k : ℕ) → na ≤ need → ni ≤ need →
-      Leads n n.locals tya a → Does w n [] [] a tya na p q →
+      Leads n n.known tya a → Does w n [] [] a tya na p q →
       ((new : Heap) (v : Value) → Grows n.heap new → IsOf new tya v →
-      Does w (after_it n new n.locals) (nums_left tya v) (refs_left tya v) (op v) ty ni q k) →
+      Does w (after_it n new n.known) (nums_left tya v) (refs_left tya v) (op v) ty ni q k) →
       Does w n [] [] (a >>= λ v. op v) ty need p k
   does_one op na ni need p q k le_a le_o la da dop = does_then w (λ v. op v) na ni need p q k le_a le_o la da dop
 
   -- two operands, and an instruction that takes them
   pub does_two : {n : Origin} {a b : Meaning} {tya tyb ty : TyView} (op : Value → Value → Meaning) (na nb ni need p q r k : ℕ) → na ≤ need →
       nb + 1 ≤ need →
-      ni ≤ need → Leads n n.locals tya a → Leads n n.locals tyb b → Does w n [] [] a tya na p q → Does w n [] [] b tyb nb q r →
+      ni ≤ need → Leads n n.known tya a → Leads n n.known tyb b → Does w n [] [] a tya na p q → Does w n [] [] b tyb nb q r →
       ((new : Heap) (v u : Value) → Grows n.heap new → IsOf new tya v → IsOf new tyb u →
-      Does w (after_it n new n.locals) (nums_left tyb u ++ nums_left tya v) (refs_left tyb u ++ refs_left tya v) (op v u) ty ni r k) →
+      Does w (after_it n new n.known) (nums_left tyb u ++ nums_left tya v) (refs_left tyb u ++ refs_left tya v) (op v u) ty ni r k) →
       Does w n [] [] (a >>= λ v. b >>= λ u. op v u) ty need p k
   does_two {n = n} {b = b} {tya = tya} op na nb ni need p q r k le_a le_b le_o la lb da db dop =
       does_then w (λ v. b >>= λ u. op v u) na need need p q k le_a (omega by_arith) la da
@@ -92,11 +102,11 @@ module _ (w : Way) where
   -- three
   pub does_three : {n : Origin} {a b d : Meaning} {tya tyb tyd ty : TyView} (op : Value → Value → Value → Meaning) (na nb nd ni need p q r t k : ℕ) →
       na ≤ need →
-      nb + 1 ≤ need → nd + 2 ≤ need → ni ≤ need → Leads n n.locals tya a → Leads n n.locals tyb b → Leads n n.locals tyd d →
+      nb + 1 ≤ need → nd + 2 ≤ need → ni ≤ need → Leads n n.known tya a → Leads n n.known tyb b → Leads n n.known tyd d →
       Does w n [] [] a tya na p q →
       Does w n [] [] b tyb nb q r → Does w n [] [] d tyd nd r t →
       ((new : Heap) (v u x : Value) → Grows n.heap new → IsOf new tya v → IsOf new tyb u → IsOf new tyd x →
-      Does w (after_it n new n.locals) (nums_left tyd x ++ (nums_left tyb u ++ nums_left tya v))
+      Does w (after_it n new n.known) (nums_left tyd x ++ (nums_left tyb u ++ nums_left tya v))
       (refs_left tyd x ++ (refs_left tyb u ++ refs_left tya v))
       (op v u x) ty ni t k) →
       Does w n [] [] (a >>= λ v. b >>= λ u. d >>= λ x. op v u x) ty need p k

@@ -26,11 +26,13 @@ use Rattle.ps_stepping.specs.Steps.{pop_num, attempted}
 use Rattle.ps_stepping.specs.Objects.{make, pop_fields, pop_nums, pop_refs}
 use Rattle.ps_soundness.specs.Shapes.{IsOf, AreOf}
 use Rattle.ps_soundness.proofs.Fields.{kept_in_class, all_kept_in_vector}
+use Rattle.ps_code_laws.specs.Compiled.{compiled, compiled_all, compiled_object}
 use Rattle.ps_code_laws.specs.Meets.{nums_left, refs_left}
+use Rattle.ps_code_laws.proofs.Compiling.{vector_compiled}
 use Rattle.ps_code_laws.proofs.Clauses.{IsNum, int, bool, IsRef, str, pntr, vector, proc, Kind, of_num, of_ref}
 use Rattle.ps_code_laws.proofs.Doing.{Origin, Way, place, Does, does_meant}
 use Rattle.ps_code_laws.proofs.Operands.{Stand}
-use Rattle.ps_code_laws.proofs.Attempts.{at_num, at_ref, quiet_attempt, quiet_made, text_there, attempt_steps, object_steps}
+use Rattle.ps_code_laws.proofs.Attempts.{at_num, at_ref, quiet_attempt, quiet_made, text_there, compiled_steps, object_steps}
 use Rattle.ps_code_laws.proofs.VectorForms.{text_of, element_number, element_reference, element_kept}
 
 -- The words of values of fields, over those that were there; the last one's are on top.
@@ -54,13 +56,13 @@ all_refs ty [] refs = refs
 all_refs ty (v ∷ vs) refs = all_refs ty vs (refs_left ty v ++ refs)
 
 -- over further words
-pushed_nums_over : (fields : List Field) (vs : List Value) (xs ys : List ℤ) → pushed_nums fields vs xs ++ ys ≡ pushed_nums fields vs (xs ++ ys)
+pub pushed_nums_over : (fields : List Field) (vs : List Value) (xs ys : List ℤ) → pushed_nums fields vs xs ++ ys ≡ pushed_nums fields vs (xs ++ ys)
 pushed_nums_over [] vs xs ys = refl
 pushed_nums_over (field ∷ fields) [] xs ys = refl
 pushed_nums_over (field ∷ fields) (v ∷ vs) xs ys =
     pushed_nums_over fields vs (nums_left field.ty v ++ xs) ys ∙ ap (pushed_nums fields vs) (append_assoc (nums_left field.ty v) xs ys)
 
-pushed_refs_over : (fields : List Field) (vs xs ys : List Value) → pushed_refs fields vs xs ++ ys ≡ pushed_refs fields vs (xs ++ ys)
+pub pushed_refs_over : (fields : List Field) (vs xs ys : List Value) → pushed_refs fields vs xs ++ ys ≡ pushed_refs fields vs (xs ++ ys)
 pushed_refs_over [] vs xs ys = refl
 pushed_refs_over (field ∷ fields) [] xs ys = refl
 pushed_refs_over (field ∷ fields) (v ∷ vs) xs ys =
@@ -90,13 +92,13 @@ no_nums (proc {params = params} {gives = gives}) (v ∷ vs) nums = no_nums (proc
 module _ (w : Way) where
   -- Taking them again: the last one is taken first.
 
-  last_num : (k n : ℕ) (zs nums : List ℤ) (refs : List Value) (f : Frame) (store : Store) (next : List ℤ → Config → Step) →
+  pub last_num : (k n : ℕ) (zs nums : List ℤ) (refs : List Value) (f : Frame) (store : Store) (next : List ℤ → Config → Step) →
       pop_nums (suc n) zs (place w k nums refs f store) next ≡ pop_nums n zs (place w k nums refs f store) (λ ws d. pop_nums 1 ws d next)
   last_num k zero zs nums refs f store next = refl
   last_num k (suc n) zs [] refs f store next = refl
   last_num k (suc n) zs (z ∷ nums) refs f store next = last_num k n (z ∷ zs) nums refs f store next
 
-  last_ref : (k n : ℕ) (vs : List Value) (nums : List ℤ) (refs : List Value) (f : Frame) (store : Store) (next : List Value → Config → Step) →
+  pub last_ref : (k n : ℕ) (vs : List Value) (nums : List ℤ) (refs : List Value) (f : Frame) (store : Store) (next : List Value → Config → Step) →
       pop_refs (suc n) vs (place w k nums refs f store) next ≡ pop_refs n vs (place w k nums refs f store) (λ ws d. pop_refs 1 ws d next)
   last_ref k zero vs nums refs f store next = refl
   last_ref k (suc n) vs nums [] f store next = refl
@@ -129,26 +131,26 @@ module _ (w : Way) where
 
   refs_taken : {ty : TyView} → IsRef ty → (k : ℕ) (vs us : List Value) (nums : List ℤ) (refs : List Value) (f : Frame) (store : Store)
       (next : List Value → Config → Step) →
-      pop_refs (length vs) us (place w k nums (all_refs ty vs refs) f store) next ≡ next (vs ++ us) (place w k nums refs f store)
+      pop_refs (length vs) us (place w k nums (all_refs ty vs refs) f store) next ≡ next (compiled_all vs ++ us) (place w k nums refs f store)
   refs_taken ref k [] us nums refs f store next = refl
   refs_taken str k (v ∷ vs) us nums refs f store next =
-      last_ref k (length vs) us nums (all_refs types.Str vs (v ∷ refs)) f store next
-      ∙ refs_taken str k vs us nums (v ∷ refs) f store (λ ws d. pop_refs 1 ws d next)
+      last_ref k (length vs) us nums (all_refs types.Str vs (compiled v ∷ refs)) f store next
+      ∙ refs_taken str k vs us nums (compiled v ∷ refs) f store (λ ws d. pop_refs 1 ws d next)
   refs_taken pntr k (v ∷ vs) us nums refs f store next =
-      last_ref k (length vs) us nums (all_refs types.Pntr vs (v ∷ refs)) f store next
-      ∙ refs_taken pntr k vs us nums (v ∷ refs) f store (λ ws d. pop_refs 1 ws d next)
+      last_ref k (length vs) us nums (all_refs types.Pntr vs (compiled v ∷ refs)) f store next
+      ∙ refs_taken pntr k vs us nums (compiled v ∷ refs) f store (λ ws d. pop_refs 1 ws d next)
   refs_taken (vector {element = element}) k (v ∷ vs) us nums refs f store next =
-      last_ref k (length vs) us nums (all_refs (types.Vector element) vs (v ∷ refs)) f store next
-      ∙ refs_taken (vector {element = element}) k vs us nums (v ∷ refs) f store (λ ws d. pop_refs 1 ws d next)
+      last_ref k (length vs) us nums (all_refs (types.Vector element) vs (compiled v ∷ refs)) f store next
+      ∙ refs_taken (vector {element = element}) k vs us nums (compiled v ∷ refs) f store (λ ws d. pop_refs 1 ws d next)
   refs_taken (proc {params = params} {gives = gives}) k (v ∷ vs) us nums refs f store next =
-      last_ref k (length vs) us nums (all_refs (types.Proc params gives) vs (v ∷ refs)) f store next
-      ∙ refs_taken (proc {params = params} {gives = gives}) k vs us nums (v ∷ refs) f store (λ ws d. pop_refs 1 ws d next)
+      last_ref k (length vs) us nums (all_refs (types.Proc params gives) vs (compiled v ∷ refs)) f store next
+      ∙ refs_taken (proc {params = params} {gives = gives}) k vs us nums (compiled v ∷ refs) f store (λ ws d. pop_refs 1 ws d next)
 
   -- a field is taken as the value that it was
   field_taken : (heap : Heap) {ty : TyView} → Kind ty → (k : ℕ) (v : Value) → IsOf heap ty v → (us : List Value) (nums : List ℤ) (refs : List Value)
       (f : Frame) (store : Store) (next : List Value → Config → Step) →
       pop_fields (form_of_type ty ∷ []) us (place w k (nums_left ty v ++ nums) (refs_left ty v ++ refs) f store) next
-      ≡ next (v ∷ us) (place w k nums refs f store)
+      ≡ next (compiled v ∷ us) (place w k nums refs f store)
   field_taken heap (of_num int) k (Num z) is us nums refs f store next = refl
   field_taken heap (of_num int) k _ is us nums refs f store next = absurd is
   field_taken heap (of_num bool) k (Flag true) is us nums refs f store next = refl
@@ -162,7 +164,7 @@ module _ (w : Way) where
   fields_taken : (heap : Heap) (fields : List Field) → AllByRecursion (λ (field : Field). Kind field.ty) fields → (k : ℕ) (vs : List Value) →
       AreOf heap fields vs → (us : List Value) (nums : List ℤ) (refs : List Value) (f : Frame) (store : Store) (next : List Value → Config → Step) →
       pop_fields (reverse (map form_of_field fields)) us (place w k (pushed_nums fields vs nums) (pushed_refs fields vs refs) f store) next
-      ≡ next (vs ++ us) (place w k nums refs f store)
+      ≡ next (compiled_all vs ++ us) (place w k nums refs f store)
   fields_taken heap [] kinds k [] are us nums refs f store next = refl
   fields_taken heap [] kinds k (v ∷ vs) are us nums refs f store next = absurd are
   fields_taken heap (field ∷ fields) kinds k [] are us nums refs f store next = absurd are
@@ -174,7 +176,7 @@ module _ (w : Way) where
       ∙ last_field k (reverse (map form_of_field fields)) (form_of_field field) us on_nums on_refs f store next
       ∙ fields_taken heap fields kinds.1 k vs are.1 us (nums_left field.ty v ++ nums) (refs_left field.ty v ++ refs) f store
       (λ ws d. pop_fields (form_of_field field ∷ []) ws d next)
-      ∙ field_taken heap kinds.0 k v are.0 (vs ++ us) nums refs f store next
+      ∙ field_taken heap kinds.0 k v are.0 (compiled_all vs ++ us) nums refs f store next
 
   -- on the stacks of rows over further words
   on_stacks : (i : Instr) (p : ℕ) (xs ys : List ℤ) (us vs : List Value) (f : Frame) (store : Store) → xs ≡ ys → us ≡ vs →
@@ -199,18 +201,18 @@ module _ (w : Way) where
       (λ values d. make Pointer (Structure class values) d))
       (ap forms_of class_is ∙ class-told name fields named)
       ∙ fields_taken n.heap fields kinds (p + 5) vs are [] nums refs f s.store (λ values d. make Pointer (Structure class values) d)
-      ∙ ap make_of (append-nil vs ∙ sym (kept_in_class n.heap name fields vs named are)
-      ∙ ap (λ (text_is : List ℕ). kept_all (forms_of text_is) vs) (sym class_is))
-      ∙ object_steps w (p + 5) nums refs f s Pointer pntr (Structure class (kept_all (forms_of class) vs)) room)
+      ∙ ap make_of (append-nil (compiled_all vs) ∙ ap compiled_all (sym (kept_in_class n.heap name fields vs named are)
+      ∙ ap (λ (text_is : List ℕ). kept_all (forms_of text_is) vs) (sym class_is)))
+      ∙ object_steps w (p + 5) nums refs f s Pointer (λ id. refl) pntr (Structure class (kept_all (forms_of class) vs)) room)
       (quiet_made Pointer (Structure class (kept_all (forms_of class) vs))) at
 
   -- the elements that are kept are those that are meant
   elements_kept : {element : TyView} → IsNum element → (vs : List Value) →
-      kept_elements (text_of element) (map Num (map word_of vs ++ [])) ≡ kept_elements (text_of element) vs
+      kept_elements (text_of element) (map Num (map word_of vs ++ [])) ≡ compiled_all (kept_elements (text_of element) vs)
   elements_kept num [] = refl
   elements_kept {element = element} num (v ∷ vs) =
       ap (λ (x : Value). x ∷ kept_elements (text_of element) (map Num (map word_of vs ++ []))) (element_kept num v)
-      ∙ ap (λ (xs : List Value). kept_as (Some (element_of (text_of element))) v ∷ xs) (elements_kept num vs)
+      ∙ ap (λ (xs : List Value). compiled (kept_as (Some (element_of (text_of element))) v) ∷ xs) (elements_kept num vs)
 
   pub does_list : (n : Origin) (p k : ℕ) (line : Line) {t : TyView} (low : Value) (vs : List Value) → Kind t → AllByRecursion (IsOf n.heap t) vs →
       Stand w p (choice.by_type t (instr.ListM k (length vs) line) (instr.ListP k (length vs) line)) →
@@ -228,10 +230,9 @@ module _ (w : Way) where
       ∙ nums_taken num (p + 13) vs [] (word_of low ∷ nums) refs f s.store
       (λ zs d. pop_num d (λ low e. attempted line (vector_of (text_of t) low (kept_elements (text_of t) (map Num zs)))
       (λ object. make Vector object e)))
-      ∙ ap (λ (values : List Value). attempted line (of values) (λ object. make Vector object (place w (p + 13) nums refs f s.store)))
-      (elements_kept num vs)
-      ∙ attempt_steps w (p + 13) nums refs (types.Vector t) f s line (of (kept_elements (text_of t) vs)) _ (made Vector)
-      (λ object. object_steps w (p + 13) nums refs f s Vector (vector {element = t}) object room))
+      ∙ compiled_steps w compiled_object (p + 13) nums refs (types.Vector t) f s line (of (kept_elements (text_of t) vs)) _ _ (made Vector)
+      (ap of (elements_kept num vs) ∙ vector_compiled (text_of t) (word_of low) (kept_elements (text_of t) vs))
+      (λ object. object_steps w (p + 13) nums refs f s Vector (λ id. refl) (vector {element = t}) object room))
       (quiet_attempt line (of (kept_elements (text_of t) vs)) (made Vector) (quiet_made Vector)) (at_num w _ _ num at)
   does_list n p k line {t = t} low vs (of_ref ref) are at there =
       let of : List Value → _ = λ values. vector_of (text_of t) (word_of low) values in
@@ -244,8 +245,8 @@ module _ (w : Way) where
       ∙ element_reference ref _
       ∙ refs_taken ref (p + 13) vs [] (word_of low ∷ nums) refs f s.store
       (λ us d. pop_num d (λ low e. attempted line (vector_of (text_of t) low us) (λ object. make Vector object e)))
-      ∙ ap (λ (values : List Value). attempted line (of values) (λ object. make Vector object (place w (p + 13) nums refs f s.store)))
-      (append-nil vs ∙ sym (all_kept_in_vector n.heap t vs are))
-      ∙ attempt_steps w (p + 13) nums refs (types.Vector t) f s line (of (kept_elements (text_of t) vs)) _ (made Vector)
-      (λ object. object_steps w (p + 13) nums refs f s Vector (vector {element = t}) object room))
+      ∙ compiled_steps w compiled_object (p + 13) nums refs (types.Vector t) f s line (of (kept_elements (text_of t) vs)) _ _ (made Vector)
+      (ap of (append-nil (compiled_all vs) ∙ ap compiled_all (sym (all_kept_in_vector n.heap t vs are)))
+      ∙ vector_compiled (text_of t) (word_of low) (kept_elements (text_of t) vs))
+      (λ object. object_steps w (p + 13) nums refs f s Vector (λ id. refl) (vector {element = t}) object room))
       (quiet_attempt line (of (kept_elements (text_of t) vs)) (made Vector) (quiet_made Vector)) (at_ref w _ _ ref at)

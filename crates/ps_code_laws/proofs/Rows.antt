@@ -1,16 +1,19 @@
--- A program of which the law speaks: it is well typed, it runs, and it has a unit.
-use Rattle.std.proofs.Common.{ℕ, ◌^◌, ◌<◌, FitsSigned, w32, [], inl, refl, pos, false, None, arith}
+-- Programs of which the law speaks: they are well typed, they run, and they have units.
+use Rattle.std.proofs.Common.{ℕ, ◌^◌, ◌<◌, FitsSigned, w32, List, [], ◌∷◌, inl, refl, pos, false, Some, None, arith}
+use Rattle.std.specs.List.{AllByRecursion}
 use Rattle.std.specs.Prelude.{codes}
 use Rattle.std.proofs.lemmas.Int.{fits_signed_from_abs}
+use Rattle.ps_base.specs.TyView.{TyView}
 use Rattle.ps_base.specs.TyView as types
 use Rattle.ps_base.specs.declared.line.Line.{Line}
-use Rattle.ps_program.specs.declared.place.Place.TheVariants.{Plain}
+use Rattle.ps_program.specs.declared.place.Place.TheVariants.{Plain, Kept}
 use Rattle.ps_program.specs.Node.{Node, more, none, BodyNode, body}
 use Rattle.ps_program.specs.Node as node
-use Rattle.ps_typing.specs.WellTyped.{IsWellTyped}
+use Rattle.ps_type_text.specs.Texts.{Field, class_text, is_name_byte}
+use Rattle.ps_typing.specs.WellTyped.{IsTyped, IsWellTyped}
 use Rattle.ps_typing.specs.WellTyped as typed
 use Rattle.ps_meaning.specs.Weights.{code_weight}
-use Rattle.ps_soundness.specs.Running.{RunsWhole}
+use Rattle.ps_soundness.specs.Running.{IsScopeText, BodyRuns}
 use Rattle.ps_soundness.proofs.Telling.{Told}
 use Rattle.ps_meaning.specs.Runs.{fresh_store, run_events}
 use Rattle.ps_gen.specs.Units.{HasUnit, unit_of}
@@ -44,8 +47,8 @@ is_typed = (
       typed.at_end)) refl),
 )
 
-it_has_a_run : RunsWhole program
-it_has_a_run = (refl, (refl, ((tt, refl), ((refl, tt, refl, refl, tt, (tt, tt)), tt))))
+it_has_a_run : BodyRuns [] program
+it_has_a_run = (tt, ((tt, refl), ((refl, tt, refl, tt, (tt, tt)), tt)))
 
 fits : (n : ℕ) → n < 2 ^ 31 → FitsSigned w32 (pos n)
 fits n h = fits_signed_from_abs w32 (pos n) h
@@ -99,7 +102,7 @@ has_unit = (
 )
 
 it_runs : Told → (turns : ℕ) → Runs (run_events turns [] program) (start (unit_of program) (fresh_store turns [] (code_weight program))) []
-it_runs told turns = program_runs told program turns [] is_typed it_has_a_run (omega arith) has_unit
+it_runs told turns = program_runs told program turns [] is_typed it_has_a_run ((tt, tt), tt) refl (has_unit, tt)
 
 -- let v = @1 of string ["ab"]; write v(1) ++ "c"
 abbrev strings : Node
@@ -128,9 +131,85 @@ strings_are_typed = (
       typed.at_end)) refl),
 )
 
-strings_have_a_run : RunsWhole of_strings
-strings_have_a_run = (refl, (refl, ((tt, (tt, refl, (refl, tt))), ((((tt, refl), refl), tt), tt))))
+strings_have_a_run : BodyRuns [] of_strings
+strings_have_a_run = (tt, ((tt, (tt, refl, (refl, tt))), ((((tt, refl), refl), tt), tt)))
 
 strings_run : Told → (turns : ℕ) → HasUnit of_strings →
     Runs (run_events turns [] of_strings) (start (unit_of of_strings) (fresh_store turns [] (code_weight of_strings))) []
-strings_run told turns has = program_runs told of_strings turns [] strings_are_typed strings_have_a_run (omega arith) has
+strings_run told turns has = program_runs told of_strings turns [] strings_are_typed strings_have_a_run ((tt, tt), tt) refl (has, tt)
+
+-- let make = proc(int k -> proc( -> int)); proc( -> int); k
+-- for i = 1 to 2 do write make(i)()
+-- The parameter is kept in the scope of `make`, and the control in a scope of each turn.
+abbrev k : List Field
+k = record { ty = types.Int; name = codes "k" } ∷ []
+
+abbrev i : List Field
+i = record { ty = types.Int; name = codes "i" } ∷ []
+
+abbrev gives_int : TyView
+gives_int = types.Proc types.none types.Int
+
+abbrev makes : TyView
+makes = types.Proc (types.more types.Int types.none) gives_int
+
+abbrev reads_k : BodyNode
+reads_k = body [] types.Int (node.Name (Kept 0 0) types.Int) None line
+
+abbrev make : BodyNode
+make = body (record { ty = types.Int; place = Kept 0 0 } ∷ []) gives_int (node.Proc reads_k) (Some (class_text (codes "scope") k)) line
+
+abbrev called : Node
+called = node.Call (node.Call (node.Name (Plain 0) makes) (more (node.Name (Kept 0 0) types.Int) none) line) none line
+
+abbrev of_procedures : BodyNode
+of_procedures = body [] types.Void (node.Block None (more (node.Let (Plain 0) makes (node.Proc make))
+    (more (node.For 0 (num 1) (num 2) (num 1) (Some (class_text (codes "scope") i)) (Kept 0 0)
+    (node.Write called node.Empty false types.Int line) line) none))) None line
+
+called_is_typed : IsTyped (record { locals = record { slot = 0; ty = makes } ∷ []; scopes = i ∷ [] }) (record { nums = 3; refs = 1 }) called types.Int
+    (record { nums = 3; refs = 1 })
+called_is_typed = typed.by_rule (typed.call typed.Arguments.no_more)
+    (typed.one_more (typed.by_rule (typed.call (typed.Arguments.one_more typed.Arguments.no_more))
+    (typed.one_more (typed.name (inl (refl, refl))) (typed.one_more (typed.name (inl (refl, inl (refl, refl)))) typed.no_more))) typed.no_more)
+
+procedures_are_typed : IsWellTyped of_procedures
+procedures_are_typed = (
+  refl,
+  refl,
+  typed.of_params typed.unscoped typed.no_more refl
+      (typed.block typed.unscoped (typed.a_literal (typed.as_local refl)
+      (typed.literal (typed.of_params typed.scoped (typed.as_kept (codes "k") refl refl typed.no_more) refl
+      (typed.literal (typed.of_params typed.unscoped typed.no_more refl (typed.name (inl (refl, inl (refl, refl))))))))
+      (typed.a_clause (typed.loop refl typed.scoped (typed.as_kept (codes "i") refl refl) refl
+      (typed.one_more (typed.by_rule typed.int typed.no_more) (typed.one_more (typed.by_rule typed.int typed.no_more)
+      (typed.one_more (typed.by_rule typed.int typed.no_more) typed.no_more)))
+      (typed.by_rule (typed.write refl) (typed.one_more called_is_typed
+      (typed.one_more (typed.by_rule typed.empty typed.no_more) typed.no_more))))
+      typed.at_end)) refl),
+)
+
+k_is_named : IsScopeText (class_text (codes "scope") k)
+unfolding is_name_byte
+k_is_named =
+    record { fields = k; named = record { class = (refl, (refl, (refl, (refl, (refl, tt))))); each = ((refl, tt), tt) }; text_is = refl }
+
+i_is_named : IsScopeText (class_text (codes "scope") i)
+unfolding is_name_byte
+i_is_named =
+    record { fields = i; named = record { class = (refl, (refl, (refl, (refl, (refl, tt))))); each = ((refl, tt), tt) }; text_is = refl }
+
+procedures_have_a_run : BodyRuns [] of_procedures
+unfolding k_is_named i_is_named
+procedures_have_a_run = (
+  tt,
+  (
+    (tt, (k_is_named, (inl (refl, inl (refl, refl)), tt), (tt, inl (refl, inl (refl, refl))))),
+    ((refl, refl, refl, (i_is_named, inl (refl, inl (refl, refl)), (((tt, (inl (refl, inl (refl, refl)), tt)), tt), tt))), tt),
+  ),
+)
+
+procedures_run : Told → (turns : ℕ) (input : List ℕ) → AllByRecursion HasUnit (of_procedures ∷ make ∷ reads_k ∷ []) →
+    Runs (run_events turns input of_procedures) (start (unit_of of_procedures) (fresh_store turns input (code_weight of_procedures))) []
+procedures_run told turns input have =
+    program_runs told of_procedures turns input procedures_are_typed procedures_have_a_run ((tt, tt), (((tt, tt), (tt, tt)), ((tt, tt), tt))) refl have

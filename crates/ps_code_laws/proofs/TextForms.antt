@@ -9,13 +9,14 @@ use Rattle.ps_meaning.specs.Texts.{join_of, part_of}
 use Rattle.ps_meaning.specs.Meaning.{give, made_text}
 use Rattle.ps_meaning.specs.Evaluation.{join_meant, part_meant}
 use Rattle.ps_soundness.specs.Shapes.{IsOf}
+use Rattle.ps_code_laws.specs.Compiled.{compiled}
 use Rattle.ps_code_laws.proofs.Doing.{Origin, Way, Does, does_meant, push_goes}
 use Rattle.ps_code_laws.proofs.Operands.{Stand}
 use Rattle.ps_code_laws.proofs.Attempts.{quiet_give, quiet_attempt, quiet_made_text, attempt_steps, text_steps}
 
 module _ (w : Way) where
   pub does_join : (n : Origin) (p : ℕ) (line : Line) (v u : Value) → IsOf n.heap types.Str v → IsOf n.heap types.Str u → Stand w p (instr.Join line) →
-      Does w n [] (u ∷ v ∷ []) (join_meant line v u) types.Str 1 p (p + 5)
+      Does w n [] (compiled u ∷ compiled v ∷ []) (join_meant line v u) types.Str 1 p (p + 5)
   does_join n p line (Text a) (Text b) is of at =
       does_meant w p 1 (instr.Join line)
       (λ nums refs f s room since. attempt_steps w (p + 5) nums refs types.Str f s line (join_of a b) _ made_text
@@ -25,7 +26,7 @@ module _ (w : Way) where
   does_join n p line _ u is of at = absurd is
 
   pub does_part : (n : Origin) (p : ℕ) (line : Line) (v from count : Value) → IsOf n.heap types.Str v → Stand w p (instr.Part line) →
-      Does w n (word_of count ∷ word_of from ∷ []) (v ∷ []) (part_meant line v from count) types.Str 1 p (p + 5)
+      Does w n (word_of count ∷ word_of from ∷ []) (compiled v ∷ []) (part_meant line v from count) types.Str 1 p (p + 5)
   does_part n p line (Text a) from count is at =
       let part = part_of a (word_of from) (word_of count) in
       does_meant w p 1 (instr.Part line)
@@ -35,7 +36,7 @@ module _ (w : Way) where
   does_part n p line _ from count is at = absurd is
 
   pub does_length : (n : Origin) (p : ℕ) (line : Line) (v : Value) → IsOf n.heap types.Str v → Stand w p (instr.Lib 11 line) →
-      Does w n [] (v ∷ []) (give (Num (pos (length (bytes_of v))))) types.Int 1 p (p + 9)
+      Does w n [] (compiled v ∷ []) (give (Num (pos (length (bytes_of v))))) types.Int 1 p (p + 9)
   unfolding give
   does_length n p line (Text a) is at =
       does_meant w p 1 (instr.Lib 11 line) (λ nums refs f s room since. push_goes w (p + 9) (pos (length a)) nums refs f s.store room)

@@ -1,5 +1,5 @@
 -- Instructions over vectors do what is meant by the clauses that they stand for.
-use Rattle.std.proofs.Common.{◌≡◌, ℕ, ◌+◌, Bool, true, false, List, [], ◌∷◌, ◌++◌, Option, Some, sym, ap, ◌∙◌}
+use Rattle.std.proofs.Common.{◌≡◌, ℕ, ◌+◌, ℤ, Bool, true, false, List, [], ◌∷◌, ◌++◌, Option, Some, refl, sym, ap, ◌∙◌}
 use Rattle.ps_base.specs.TyView.{TyView}
 use Rattle.ps_base.specs.TyView as types
 use Rattle.ps_base.specs.CodeUnit.{text}
@@ -16,29 +16,31 @@ use Rattle.ps_meaning.specs.Meaning.{give, with_heap, put_heap, made}
 use Rattle.ps_meaning.specs.Evaluation.{kept_as, fill_meant, element_meant, set_element_meant, bound_meant}
 use Rattle.ps_gen.specs.Choices as choice
 use Rattle.ps_stepping.specs.Config.{constants_in, constant_at}
-use Rattle.ps_stepping.specs.Machine.{Step}
-use Rattle.ps_stepping.specs.Steps.{attempted}
-use Rattle.ps_stepping.specs.Objects.{changed, make, when_number, when_reference, type_of_object, type_of, of_type}
+use Rattle.ps_stepping.specs.Machine.{Step, push_num}
+use Rattle.ps_stepping.specs.Objects.{when_number, when_reference, type_of_object, type_of, of_type}
 use Rattle.ps_soundness.specs.Shapes.{IsOf}
 use Rattle.ps_soundness.proofs.Growing.{of_kept}
 use Rattle.ps_soundness.proofs.Fields.{kept_in_vector}
+use Rattle.ps_code_laws.specs.Compiled.{compiled, compiled_object, compiled_heap}
 use Rattle.ps_code_laws.specs.Meets.{nums_left, refs_left}
+use Rattle.ps_code_laws.proofs.Compiling.{compiled_found, object_compiled, filled_compiled, element_compiled, with_element_compiled, low_bound_compiled, high_bound_compiled}
 use Rattle.ps_code_laws.proofs.Clauses.{IsNum, IsRef, vector, Kind, of_num, of_ref}
 use Rattle.ps_code_laws.proofs.Doing.{Origin, Way, place, Does, does_meant, push_goes}
 use Rattle.ps_code_laws.proofs.Operands.{Stand}
-use Rattle.ps_code_laws.proofs.Attempts.{at_num, at_ref, quiet_give, quiet_attempt, quiet_with_heap, quiet_made, quiet_read, quiet_put, number_form, reference_form, kept_word, text_there, attempt_steps, number_steps, reference_steps, object_steps, change_steps, over_num, over_ref}
+use Rattle.ps_code_laws.proofs.Attempts.{at_num, at_ref, quiet_give, quiet_attempt, quiet_with_heap, quiet_made, quiet_read, quiet_put, number_form, reference_form, kept_word, text_there, compiled_steps, number_steps, reference_steps, object_steps, change_steps, over_num, over_ref}
 
 -- the text of a vector's type, where a value denotes one
 abbrev pub text_of : TyView → List ℕ
 text_of element = type_text (types.Vector element)
 
 -- the type's text of what a value of a vector's type denotes
-type_is : (heap : Heap) (element : TyView) (v : Value) → IsOf heap (types.Vector element) v → type_of heap v ≡ Some (text_of element)
-type_is heap element (Vector id) h = ap type_of_object h.is
+type_is : (heap : Heap) (element : TyView) (v : Value) → IsOf heap (types.Vector element) v →
+    type_of (compiled_heap heap) (compiled v) ≡ Some (text_of element)
+type_is heap element (Vector id) h = ap type_of_object (object_compiled heap id ∙ ap compiled_found h.is)
 type_is heap element _ h = absurd h
 
 vector_pops : (heap : Heap) (element : TyView) (v : Value) → IsOf heap (types.Vector element) v → (next : List ℕ → Step) →
-    of_type (type_of heap v) next ≡ next (text_of element)
+    of_type (type_of (compiled_heap heap) (compiled v)) next ≡ next (text_of element)
 vector_pops heap element v h next = ap (λ (found : Option (List ℕ)). of_type found next) (type_is heap element v h)
 
 type_in_is : (heap : Heap) (element : TyView) (v : Value) → IsOf heap (types.Vector element) v → type_in (vector_in heap v) ≡ text_of element
@@ -52,10 +54,10 @@ pub element_reference : {element : TyView} → IsRef element → (s : Step) → 
 element_reference {element = element} ref s = ap (λ (form : Form). when_reference (Some form) s) (element-told element) ∙ reference_form ref s
 
 pub element_kept : {element : TyView} → IsNum element → (v : Value) →
-    kept_as (Some (element_of (text_of element))) (Num (word_of v)) ≡ kept_as (Some (element_of (text_of element))) v
+    kept_as (Some (element_of (text_of element))) (Num (word_of v)) ≡ compiled (kept_as (Some (element_of (text_of element))) v)
 element_kept {element = element} num v =
     ap (λ (form : Form). kept_as (Some form) (Num (word_of v))) (element-told element) ∙ kept_word num v
-    ∙ ap (λ (form : Form). kept_as (Some form) v) (sym (element-told element))
+    ∙ ap (λ (form : Form). compiled (kept_as (Some form) v)) (sym (element-told element))
 
 module _ (w : Way) where
   pub does_fill : (n : Origin) (p k : ℕ) (line : Line) {t : TyView} (low high v : Value) → Kind t → IsOf n.heap t v →
@@ -68,83 +70,83 @@ module _ (w : Way) where
       (does_meant w p 1 (instr.FillM k line)
       (λ nums refs f s room since. text_there w k (text_of t) (place w (p + 9) (word_of v ∷ word_of high ∷ word_of low ∷ nums) refs f s.store) _ named
       ∙ element_number num _
-      ∙ ap (λ (x : Value). attempted line (filled_vector (text_of t) (word_of low) (word_of high) x)
-      (λ object. make Vector object (place w (p + 9) nums refs f s.store)))
-      (element_kept num v)
-      ∙ attempt_steps w (p + 9) nums refs (types.Vector t) f s line filled _ (made Vector)
-      (λ object. object_steps w (p + 9) nums refs f s Vector (vector {element = t}) object room))
+      ∙ compiled_steps w compiled_object (p + 9) nums refs (types.Vector t) f s line filled _ _ (made Vector)
+      (ap (filled_vector (text_of t) (word_of low) (word_of high)) (element_kept num v)
+      ∙ filled_compiled (text_of t) (word_of low) (word_of high) (kept_as (Some (element_of (text_of t))) v))
+      (λ object. object_steps w (p + 9) nums refs f s Vector (λ id. refl) (vector {element = t}) object room))
       (quiet_attempt line filled (made Vector) (quiet_made Vector)) (at_num w _ _ num at))
   does_fill n p k line {t = t} low high v (of_ref ref) is at named =
       let filled = filled_vector (text_of t) (word_of low) (word_of high) (kept_as (Some (element_of (text_of t))) v) in
       over_ref w (word_of high ∷ word_of low ∷ []) [] ref v
       (does_meant w p 1 (instr.FillP k line)
-      (λ nums refs f s room since. text_there w k (text_of t) (place w (p + 9) (word_of high ∷ word_of low ∷ nums) (v ∷ refs) f s.store) _ named
+      (λ nums refs f s room since. text_there w k (text_of t) (place w (p + 9) (word_of high ∷ word_of low ∷ nums) (compiled v ∷ refs) f s.store) _ named
       ∙ element_reference ref _
-      ∙ ap (λ (x : Value). attempted line (filled_vector (text_of t) (word_of low) (word_of high) x)
-      (λ object. make Vector object (place w (p + 9) nums refs f s.store)))
-      (sym (kept_in_vector n.heap t v is))
-      ∙ attempt_steps w (p + 9) nums refs (types.Vector t) f s line filled _ (made Vector)
-      (λ object. object_steps w (p + 9) nums refs f s Vector (vector {element = t}) object room))
+      ∙ compiled_steps w compiled_object (p + 9) nums refs (types.Vector t) f s line filled _ _ (made Vector)
+      (ap (λ (x : Value). filled_vector (text_of t) (word_of low) (word_of high) (compiled x)) (sym (kept_in_vector n.heap t v is))
+      ∙ filled_compiled (text_of t) (word_of low) (word_of high) (kept_as (Some (element_of (text_of t))) v))
+      (λ object. object_steps w (p + 9) nums refs f s Vector (λ id. refl) (vector {element = t}) object room))
       (quiet_attempt line filled (made Vector) (quiet_made Vector)) (at_ref w _ _ ref at))
 
   pub does_element : (n : Origin) (p : ℕ) (line : Line) {t : TyView} (v i : Value) → Kind t → IsOf n.heap (types.Vector t) v →
       Stand w p (choice.by_type t (instr.ElemM line) (instr.ElemP line)) →
-      Does w n (word_of i ∷ []) (v ∷ []) (element_meant line v i) t 1 p (p + 5)
+      Does w n (word_of i ∷ []) (compiled v ∷ []) (element_meant line v i) t 1 p (p + 5)
   unfolding with_heap
   does_element n p line {t = t} v i (of_num num) is at =
       does_meant w p 1 (instr.ElemM line)
       (λ nums refs f s room since. vector_pops s.store.heap t v (of_kept n.heap s.store.heap since.grows (types.Vector t) v is) _
-      ∙ attempt_steps w (p + 5) nums refs t f s line (element_at s.store.heap v (word_of i)) _ give
+      ∙ compiled_steps w compiled (p + 5) nums refs t f s line (element_at s.store.heap v (word_of i)) _ _ give (element_compiled s.store.heap v (word_of i))
       (λ x. element_number num _ ∙ number_steps w (p + 5) nums refs f s num x room))
       (quiet_read line (λ heap. element_at heap v (word_of i))) (at_num w _ _ num at)
   does_element n p line {t = t} v i (of_ref ref) is at =
       does_meant w p 1 (instr.ElemP line)
       (λ nums refs f s room since. vector_pops s.store.heap t v (of_kept n.heap s.store.heap since.grows (types.Vector t) v is) _
-      ∙ attempt_steps w (p + 5) nums refs t f s line (element_at s.store.heap v (word_of i)) _ give
+      ∙ compiled_steps w compiled (p + 5) nums refs t f s line (element_at s.store.heap v (word_of i)) _ _ give (element_compiled s.store.heap v (word_of i))
       (λ x. element_reference ref _ ∙ reference_steps w (p + 5) nums refs f s ref x room))
       (quiet_read line (λ heap. element_at heap v (word_of i))) (at_ref w _ _ ref at)
 
   pub does_set_element : (n : Origin) (p : ℕ) (line : Line) {t : TyView} (v i e : Value) → Kind t → IsOf n.heap (types.Vector t) v → IsOf n.heap t e →
       Stand w p (choice.by_type t (instr.SetElemM line) (instr.SetElemP line)) →
-      Does w n (nums_left t e ++ (word_of i ∷ [])) (refs_left t e ++ (v ∷ [])) (set_element_meant line v i e) types.Void 1 p (p + 5)
+      Does w n (nums_left t e ++ (word_of i ∷ [])) (refs_left t e ++ (compiled v ∷ [])) (set_element_meant line v i e) types.Void 1 p (p + 5)
   unfolding with_heap
   does_set_element n p line {t = t} v i e (of_num num) is of at =
-      over_num w (word_of i ∷ []) (v ∷ []) num e
+      over_num w (word_of i ∷ []) (compiled v ∷ []) num e
       (does_meant w p 1 (instr.SetElemM line)
       (λ nums refs f s room since.
       let now = of_kept n.heap s.store.heap since.grows (types.Vector t) v is in
       vector_pops s.store.heap t v now _
-      ∙ ap (λ (x : Value). attempted line (with_element s.store.heap v (word_of i) x)
-      (λ heap. when_number (Some (element_of (text_of t))) (changed heap (place w (p + 5) nums refs f s.store))))
-      (element_kept num e ∙ ap (λ (ty : List ℕ). kept_as (Some (element_of ty)) e) (sym (type_in_is s.store.heap t v now)))
-      ∙ attempt_steps w (p + 5) nums refs types.Void f s line
-      (with_element s.store.heap v (word_of i) (kept_as (Some (element_of (type_in (vector_in s.store.heap v)))) e)) _ put_heap
+      ∙ compiled_steps w compiled_heap (p + 5) nums refs types.Void f s line
+      (with_element s.store.heap v (word_of i) (kept_as (Some (element_of (type_in (vector_in s.store.heap v)))) e)) _ _ put_heap
+      (ap (with_element (compiled_heap s.store.heap) (compiled v) (word_of i))
+      (element_kept num e ∙ ap (λ (ty : List ℕ). compiled (kept_as (Some (element_of ty)) e)) (sym (type_in_is s.store.heap t v now)))
+      ∙ with_element_compiled s.store.heap v (word_of i) (kept_as (Some (element_of (type_in (vector_in s.store.heap v)))) e))
       (λ heap. element_number num _ ∙ change_steps w (p + 5) nums refs f s heap))
       (quiet_put line (λ heap. with_element heap v (word_of i) (kept_as (Some (element_of (type_in (vector_in heap v)))) e))) (at_num w _ _ num at))
   does_set_element n p line {t = t} v i e (of_ref ref) is of at =
-      over_ref w (word_of i ∷ []) (v ∷ []) ref e
+      over_ref w (word_of i ∷ []) (compiled v ∷ []) ref e
       (does_meant w p 1 (instr.SetElemP line)
       (λ nums refs f s room since.
       let now = of_kept n.heap s.store.heap since.grows (types.Vector t) v is in
       vector_pops s.store.heap t v now _
-      ∙ ap (λ (x : Value). attempted line (with_element s.store.heap v (word_of i) x)
-      (λ heap. when_reference (Some (element_of (text_of t))) (changed heap (place w (p + 5) nums refs f s.store))))
+      ∙ compiled_steps w compiled_heap (p + 5) nums refs types.Void f s line
+      (with_element s.store.heap v (word_of i) (kept_as (Some (element_of (type_in (vector_in s.store.heap v)))) e)) _ _ put_heap
+      (ap (λ (x : Value). with_element (compiled_heap s.store.heap) (compiled v) (word_of i) (compiled x))
       (sym (ap (λ (ty : List ℕ). kept_as (Some (element_of ty)) e) (type_in_is s.store.heap t v now) ∙ kept_in_vector n.heap t e of))
-      ∙ attempt_steps w (p + 5) nums refs types.Void f s line
-      (with_element s.store.heap v (word_of i) (kept_as (Some (element_of (type_in (vector_in s.store.heap v)))) e)) _ put_heap
+      ∙ with_element_compiled s.store.heap v (word_of i) (kept_as (Some (element_of (type_in (vector_in s.store.heap v)))) e))
       (λ heap. element_reference ref _ ∙ change_steps w (p + 5) nums refs f s heap))
       (quiet_put line (λ heap. with_element heap v (word_of i) (kept_as (Some (element_of (type_in (vector_in heap v)))) e))) (at_ref w _ _ ref at))
 
   pub does_bound : (n : Origin) (p : ℕ) (upper : Bool) (t : TyView) (v : Value) → IsOf n.heap (types.Vector t) v → Stand w p (choice.bound upper) →
-      Does w n [] (v ∷ []) (bound_meant upper v) types.Int 1 p (p + 1)
+      Does w n [] (compiled v ∷ []) (bound_meant upper v) types.Int 1 p (p + 1)
   unfolding with_heap give
   does_bound n p true t v is at =
       does_meant w p 1 instr.Upb
       (λ nums refs f s room since. vector_pops s.store.heap t v (of_kept n.heap s.store.heap since.grows (types.Vector t) v is) _
+      ∙ ap (λ (z : ℤ). push_num z (place w (p + 1) nums refs f s.store)) (high_bound_compiled s.store.heap v)
       ∙ push_goes w (p + 1) (high_of s.store.heap v) nums refs f s.store room)
       (quiet_with_heap (λ heap. give (Num (high_of heap v))) (λ heap. quiet_give (Num (high_of heap v)))) at
   does_bound n p false t v is at =
       does_meant w p 1 instr.Lwb
       (λ nums refs f s room since. vector_pops s.store.heap t v (of_kept n.heap s.store.heap since.grows (types.Vector t) v is) _
+      ∙ ap (λ (z : ℤ). push_num z (place w (p + 1) nums refs f s.store)) (low_bound_compiled s.store.heap v)
       ∙ push_goes w (p + 1) (low_of s.store.heap v) nums refs f s.store room)
       (quiet_with_heap (λ heap. give (Num (low_of heap v))) (λ heap. quiet_give (Num (low_of heap v)))) at

@@ -1,26 +1,25 @@
--- What the machine is to do with a body, inside any bodies that wait: what the body's clause means.
-use Rattle.std.specs.Prelude.{◌≡◌, ℕ, ◌≤◌, ℤ, List, [], ◌∷◌, ◌++◌, length}
+-- What the machine is to do with a body that is called, inside any bodies that wait: what the body means.
+use Rattle.std.specs.Prelude.{◌≡◌, ℕ, ◌+◌, ◌<◌, ◌≤◌, ℤ, List, [], ◌∷◌, ◌++◌, length, Option}
 use Rattle.ps_base.specs.TyView.{TyView}
 use Rattle.ps_base.specs.TyView as types
 use Rattle.ps_base.specs.CodeUnit.{UnitView}
 use Rattle.ps_program.specs.Node.{Param, BodyNode, body}
-use Rattle.ps_soundness.specs.Valued.{IsValued}
+use Rattle.ps_type_text.specs.Texts.{Field}
 use Rattle.ps_meaning.specs.Values.{Value, word_of}
 use Rattle.ps_meaning.specs.Event.{Event, Finish, Done}
-use Rattle.ps_meaning.specs.Meaning.{Frame, Store, State, Outcome, Value_is, Ends, Meaning, local_of}
-use Rattle.ps_meaning.specs.Evaluation.{eval}
-use Rattle.ps_meaning.specs.Calls.{context}
-use Rattle.ps_program.specs.declared.place.Place.{Place}
-use Rattle.ps_program.specs.declared.place.Place.TheVariants.{Plain, Kept}
+use Rattle.ps_meaning.specs.Meaning.{Frame, Store, State, Outcome, Value_is, Ends}
+use Rattle.ps_meaning.specs.Frames.{frame_of_call}
+use Rattle.ps_meaning.specs.Calls.{body_meant, context}
 use Rattle.ps_meaning.specs.Objects.{Heap}
-use Rattle.ps_soundness.specs.Running.{IsPlain}
-use Rattle.ps_soundness.specs.Shapes.{IsOf, IsTypedHeap}
+use Rattle.ps_soundness.specs.Shapes.{IsOf, AreScopes, IsTypedHeap}
 use Rattle.ps_gen.specs.Units.{unit_of}
-use Rattle.ps_stepping.specs.Config.{Caller, Config}
+use Rattle.ps_stepping.specs.Config.{frame_words, Caller, Config, frame_in}
 use Rattle.ps_stepping.specs.Machine.{resumed}
 use Rattle.ps_stepping.specs.Path.{Reaches, Finishes}
+use Rattle.ps_code_laws.specs.Compiled.{compiled, compiled_locals, compiled_store}
+use Rattle.ps_code_laws.specs.Literals.{ValuesAre, HeapIs, Fits}
 
--- what a value of a type leaves on each stack: an int or a bool a number, a clause of type void nothing, any other a reference
+-- what a value of a type leaves on each stack: an int or a bool a number, a clause of type void nothing, any other a reference, compiled
 abbrev pub nums_left : TyView → Value → List ℤ
 nums_left types.Int v = word_of v ∷ []
 nums_left types.Bool v = word_of v ∷ []
@@ -30,19 +29,19 @@ abbrev pub refs_left : TyView → Value → List Value
 refs_left types.Int v = []
 refs_left types.Bool v = []
 refs_left types.Void v = []
-refs_left _ v = v ∷ []
+refs_left _ v = compiled v ∷ []
 
--- The machine in a body of this unit: its locals are those of the frame, as numbers and as references.
+-- The machine in a body of this unit: it holds what the frame and the store hold, compiled. What is on its stacks is compiled already.
 abbrev pub standing : UnitView → List Caller → ℕ → List ℤ → List Value → Frame → Store → Config
 standing of callers at nums refs frame store = record {
   unit = of;
   at = at;
   nums = nums;
   refs = refs;
-  locals = record { nums = λ slot. word_of (frame.nums slot); refs = frame.refs };
+  locals = compiled_locals frame;
   scope = frame.scope;
   callers = callers;
-  store = store;
+  store = compiled_store store;
 }
 
 -- Where a body has a value: the run ends where no body waits, and else the last body that waits goes on, with the value on its
@@ -50,7 +49,7 @@ standing of callers at nums refs frame store = record {
 abbrev pub ComesBack : Config → List Event → List Caller → TyView → Value → Store → Type 0
 ComesBack c events [] gives v store = Finishes c (events ++ Finish Done store.counted ∷ [])
 ComesBack c events (caller ∷ callers) gives v store =
-    Reaches c events (resumed caller (nums_left gives v ++ caller.nums) (refs_left gives v ++ caller.refs) callers store)
+    Reaches c events (resumed caller (nums_left gives v ++ caller.nums) (refs_left gives v ++ caller.refs) callers (compiled_store store))
 
 -- The machine goes on from here, where these events have been, with those that are told behind them: back with the value, or to
 -- the end.
@@ -66,26 +65,25 @@ gives_of (body params gives tree scope line) = gives
 abbrev pub params_of : BodyNode → List Param
 params_of (body params gives tree scope line) = params
 
--- what a body's clause means where at most so many turns are left, inside so many calls
-abbrev pub meant : ℕ → ℕ → BodyNode → Meaning
-meant n depth (body params gives tree scope line) = eval (context n depth) tree
+-- values of these parameters' types
+abbrev pub AreHanded : Heap → List Param → List Value → Type 0
+AreHanded heap [] [] = Unit {0}
+AreHanded heap (param ∷ params) (v ∷ vs) = IsOf heap param.ty v × AreHanded heap params vs
+AreHanded heap params vs = ⊥
 
--- a value that is handed in a local is of its parameter's type, and so is each that a body is handed
-abbrev pub IsHandedAt : Heap → Frame → TyView → Place → Type 0
-IsHandedAt heap frame ty (Plain slot) = IsOf heap ty (local_of frame ty slot)
-IsHandedAt heap frame ty (Kept up position) = Unit {0}
+-- the last body that waits has room on each stack for what comes back to it
+abbrev pub HasRoom : List Caller → Type 0
+HasRoom [] = Unit {0}
+HasRoom (caller ∷ callers) =
+    ((frame_in caller.unit).nums + length caller.nums < frame_words) × ((frame_in caller.unit).refs + length caller.refs < frame_words)
 
-abbrev pub AreHanded : Heap → Frame → List Param → Type 0
-AreHanded heap frame [] = Unit {0}
-AreHanded heap frame (param ∷ rest) = IsHandedAt heap frame param.ty param.place × AreHanded heap frame rest
-
--- From its first instruction a body does what its clause means, whatever waits, whatever its other locals are, and whatever has been,
--- where at most so many turns are left, the heap is typed, and the body is handed values of its parameters' types.
-pub record Meets (n : ℕ) (of : BodyNode) : Type 0 where
-  pub follows : (callers : List Caller) (frame : Frame) (state : State) → state.store.turns ≤ n → IsTypedHeap state.store.heap →
-      AreHanded state.store.heap frame (params_of of) →
-      Follows (standing (unit_of of) callers 0 [] [] frame state.store) state.events callers (gives_of of) (meant n (length callers) of frame state)
-
--- a parameter that stands in a local, and whose type has values
-abbrev pub IsHanded : Param → Type 0
-IsHanded param = IsPlain param.place × IsValued param.ty
+-- From its first instruction a body that is called does what it means: its scope is made, the arguments that it keeps are copied there, and its clause
+-- runs. It does so whatever waits that has room, whatever has been, where at most so many turns are left, the heap is typed, the scope that the body
+-- was made in and those round it have these names, of which these have had their declarations, it is handed values of its parameters' types, and each
+-- procedure that it may call fits.
+pub record Meets (n : ℕ) (wholes scopes : List (List Field)) (of : BodyNode) : Type 0 where
+  pub follows : (callers : List Caller) (scope : Option ℕ) (args : List Value) (state : State) → state.store.turns ≤ n → HasRoom callers →
+      IsTypedHeap state.store.heap → AreScopes state.store.heap scope wholes scopes → AreHanded state.store.heap (params_of of) args →
+      ValuesAre Fits args → HeapIs Fits state.store.heap →
+      Follows (standing (unit_of of) callers 0 [] [] (frame_of_call of scope args) state.store) state.events callers (gives_of of)
+      (body_meant (context n (length callers)) of args (frame_of_call of scope args) state)

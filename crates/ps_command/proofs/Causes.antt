@@ -1,9 +1,10 @@
 -- Why each answer of a command comes.
-use Rattle.std.proofs.Common.{◌≡◌, ℕ, ◌≤◌, inl, inr, List, length, Option, Some, None, refl, sym, ap, ◌∙◌, subst, arith}
+use Rattle.std.proofs.Common.{◌≡◌, ℕ, ◌≤◌, ◌↔◌, inl, inr, List, [], Option, Some, None, refl, sym, ap, ◌∙◌, subst, arith}
 use Rattle.std.specs.Prelude.{Result, Ok, Err, IsErrOf, codes}
 use Rattle.ps_base.specs.declared.TheConstants.{LONGEST_TEXT}
 use Rattle.ps_program.specs.Node.{BodyNode}
 use Rattle.ps_base.specs.declared.line.Line.{Line}
+use Rattle.ps_outside.specs.Outside.{Rose, Outside}
 use Rattle.ps_port.specs.Texts.{TooLongFor}
 use Rattle.ps_port.specs.declared.shelf.ShelfFault.{ShelfFault}
 use Rattle.ps_port.specs.declared.shelf.ShelfFault.TheVariants.{Failed, TooLong, Memory}
@@ -21,9 +22,9 @@ use Rattle.ps_command.specs.Reports.{usage_line, memory_line, fault_line}
 use Rattle.ps_command.specs.Source.{IsProgram, IsSourceFault, in_scan, in_parse, in_check}
 use Rattle.ps_command.specs.Source as told
 use Rattle.ps_command.specs.Answering.{Answers}
-use Rattle.ps_command.specs.Command.{Gives, Due, Why}
+use Rattle.ps_command.specs.Command.{Gives, GivesTooLong, GivesInput, GivesProgram, Due, Why}
 use Rattle.ps_command.specs.inside.Refusal.{Refuses, stage_of, number_of, line_of_fault}
-use Rattle.ps_command.specs.inside.Steps.{TextWhy, ProgramWhy, UnreadWhy}
+use Rattle.ps_command.specs.inside.Steps.{RefusalWhy, ProgramWhy, UnreadWhy}
 
 -- a number says that the refusal is no want of memory
 none_is_some : {A : Type 0} (x : A) → None ≡ Some x → ⊥
@@ -72,55 +73,99 @@ not_failed r x is failed = let e : Ok x ≡ Err Failed = sym is ∙ failed in cc
 pub failed_is : (r : Result Unit ShelfFault) (fault : ShelfFault) → r ≡ Err fault → IsErrOf r Failed → fault ≡ Failed
 failed_is r fault is failed = let e : Err fault ≡ Err Failed = sym is ∙ failed in cc
 
--- a shelf that has this text alone gives it
-gives_alone : (text : List ℕ) → length text ≤ LONGEST_TEXT → Gives (λ held. held ≡ text) ⊥ text
-gives_alone text short = record { there = λ lacking. lacking; given = λ held is. sym is; short = short }
-
-pub same_run : (run other : RunOf) → Some run ≡ Some other → run ≡ other
-same_run run other e = cc
-
-module _ {H : Type 0} (clock : H → ℕ) (told : H → ℕ → List ℕ → Type 0) (faults : H → ℕ) (old new : H) where
+module _ (old new : Outside (List ℕ)) where
   abbrev Whole : List ℕ → ℕ → ℕ → Type 0
-  Whole bytes status answered = Answers clock told faults old new bytes status answered
+  Whole bytes status answered = Answers old new bytes status answered
 
-  pub text_refused : (run : RunOf) (text : List ℕ) (fault : SourceFault) (number : ℕ) (line : Line) (answered : ℕ) → number_of fault ≡ Some number → line_of_fault fault ≡ Some line → length text ≤ LONGEST_TEXT → Refuses text fault → Whole (fault_line run.file (stage_of fault) number line) 2 answered → TextWhy clock told faults old new run text answered
-  text_refused run text fault number line answered n l short h a = record { bytes = _; status = 2; due = Due.refused refl (gives_alone text short) (fault_found text fault number line n l h); answers = a }
-
-  pub text_no_memory : (run : RunOf) (text : List ℕ) (answered : ℕ) → Whole memory_line 5 answered → TextWhy clock told faults old new run text answered
-  text_no_memory run text answered a = record { bytes = _; status = 5; due = Due.no_memory; answers = a }
-
-  pub text_ran : (run : RunOf) (text : List ℕ) (program : BodyNode) (answered : ℕ) → length text ≤ LONGEST_TEXT → IsProgram text program → ProgramWhy clock told faults old new run program answered → TextWhy clock told faults old new run text answered
-  text_ran run text program answered short is (inl a) = record { bytes = a.bytes; status = a.status; due = Due.ran refl (gives_alone text short) is a.comes; answers = a.answers }
-  text_ran run text program answered short is (inr a) = text_no_memory run text answered a
+  pub fault_told : (file text : List ℕ) (fault : SourceFault) (number : ℕ) (line : Line) (answered : ℕ) → number_of fault ≡ Some number → line_of_fault fault ≡ Some line → Refuses text fault → Whole (fault_line file (stage_of fault) number line) 2 answered → RefusalWhy old new file text answered
+  fault_told file text fault number line answered n l h a =
+      inl (record { stage = stage_of fault; number = number; line = line; fault = fault_found text fault number line n l h; answers = a })
 
   module _ (holds : List ℕ → List ℕ → Type 0) (lacks : List ℕ → Type 0) (failed : Type 0) where
-    pub why_usage : (asked : Option RunOf) (answered : ℕ) → asked ≡ None → Whole usage_line 1 answered → Why clock told faults old new asked holds lacks failed answered
+    pub why_usage : (asked : Option RunOf) (answered : ℕ) → asked ≡ None → Whole usage_line 1 answered → Why old new asked holds lacks failed answered
     why_usage asked answered none a = record { bytes = _; status = 1; due = Due.no_command none; answers = a }
 
-    -- the text that the shelf gives is the one text
-    gives_here : (run other : RunOf) (text held : List ℕ) → run ≡ other → held ≡ text → Gives (holds run.file) (lacks run.file) text → Gives (holds other.file) (lacks other.file) held
-    gives_here run other text held one two gives = subst (λ (r : RunOf). Gives (holds r.file) (lacks r.file) held) one (subst (λ (t : List ℕ). Gives (holds run.file) (lacks run.file) t) (sym two) gives)
+    pub why_no_memory : (run : RunOf) (answered : ℕ) → Whole memory_line 5 answered → Why old new (Some run) holds lacks failed answered
+    why_no_memory run answered a = record { bytes = _; status = 5; due = Due.no_memory; answers = a }
 
-    due_of_text : (run : RunOf) (text bytes : List ℕ) (status : ℕ) → Gives (holds run.file) (lacks run.file) text → Due (Some run) (λ name held. held ≡ text) (λ name. ⊥) ⊥ bytes status → Due (Some run) holds lacks failed bytes status
-    due_of_text run text bytes status gives (Due.no_command none) = absurd (none_is_some run (sym none))
-    due_of_text run text bytes status gives (Due.unreadable is never) = absurd never
-    due_of_text run text bytes status gives (Due.too_long {size = size} is gives') = absurd (let e = gives'.given text refl in let long = gives'.long in let short = gives.short in omega arith)
-    due_of_text run text bytes status gives (Due.refused {run = run'} {text = text'} is gives' fault) = Due.refused is (gives_here run run' text text' (same_run run run' is) (gives'.given text refl) gives) fault
-    due_of_text run text bytes status gives Due.no_memory = Due.no_memory
-    due_of_text run text bytes status gives (Due.ran {run = run'} {text = text'} is gives' program comes) = Due.ran is (gives_here run run' text text' (same_run run run' is) (gives'.given text refl) gives) program comes
+    too_long_is_other : (size : ℕ) → TooLong size ≡ Failed → ⊥
+    too_long_is_other size e = cc
 
-    pub why_text : (run : RunOf) (text : List ℕ) (answered : ℕ) → Gives (holds run.file) (lacks run.file) text → TextWhy clock told faults old new run text answered → Why clock told faults old new (Some run) holds lacks failed answered
-    why_text run text answered gives why = record { bytes = why.bytes; status = why.status; due = due_of_text run text why.bytes why.status gives why.due; answers = why.answers }
+    -- a shelf that answered that a text is too long gives one that is
+    gives_too_long : (name : List ℕ) (size : ℕ) → (lacks name → TooLong size ≡ Failed) → TooLongFor LONGEST_TEXT (holds name) (TooLong size) →
+        GivesTooLong (holds name) (lacks name) size
+    gives_too_long name size lacking long = record { there = λ l. too_long_is_other size (lacking l); given = long.1; long = long.0 }
 
-    pub why_unread : (run : RunOf) (fault : ShelfFault) (answered : ℕ) → (fault ≡ Failed → failed) → (lacks run.file → fault ≡ Failed) → TooLongFor LONGEST_TEXT (holds run.file) fault → UnreadWhy clock told faults old new run.file fault answered → Why clock told faults old new (Some run) holds lacks failed answered
+    -- the text wasn't given
+    pub why_unread : (run : RunOf) (fault : ShelfFault) (answered : ℕ) → (fault ≡ Failed → failed) → (lacks run.file → fault ≡ Failed) → TooLongFor LONGEST_TEXT (holds run.file) fault → UnreadWhy old new run.file fault answered → Why old new (Some run) holds lacks failed answered
     why_unread run Failed answered rose lacking long a = record { bytes = _; status = 7; due = Due.unreadable refl (rose refl); answers = a }
-    why_unread run (TooLong size) answered rose lacking long a = record {
-      bytes = _;
-      status = 13;
-      due = Due.too_long refl (record { there = λ l. too_long_is_other size (lacking l); given = long.1; long = long.0 });
-      answers = a;
-    }
-      where
-        too_long_is_other : (size : ℕ) → TooLong size ≡ Failed → ⊥
-        too_long_is_other size e = cc
-    why_unread run Memory answered rose lacking long a = record { bytes = _; status = 5; due = Due.no_memory; answers = a }
+    why_unread run (TooLong size) answered rose lacking long a =
+        record { bytes = _; status = 13; due = Due.too_long refl (gives_too_long run.file size lacking long); answers = a }
+    why_unread run Memory answered rose lacking long a = why_no_memory run answered a
+
+    -- the text is refused
+    pub why_refused : (run : RunOf) (text : List ℕ) (answered : ℕ) → Gives (holds run.file) (lacks run.file) text → RefusalWhy old new run.file text answered → Why old new (Some run) holds lacks failed answered
+    why_refused run text answered gives (inl a) = record { bytes = _; status = 2; due = Due.refused refl gives a.fault; answers = a.answers }
+    why_refused run text answered gives (inr a) = why_no_memory run answered a
+
+    -- the input wasn't given
+    pub why_no_input : (run : RunOf) (program : BodyNode) (name : List ℕ) (fault : ShelfFault) (answered : ℕ) → GivesProgram holds lacks run program → run.input ≡ Some name → (fault ≡ Failed → failed) → (lacks name → fault ≡ Failed) → TooLongFor LONGEST_TEXT (holds name) fault → UnreadWhy old new name fault answered → Why old new (Some run) holds lacks failed answered
+    why_no_input run program name Failed answered gives is rose lacking long a =
+        record { bytes = _; status = 7; due = Due.no_input refl gives is (rose refl); answers = a }
+    why_no_input run program name (TooLong size) answered gives is rose lacking long a =
+        record { bytes = _; status = 13; due = Due.long_input refl gives is (gives_too_long name size lacking long); answers = a }
+    why_no_input run program name Memory answered gives is rose lacking long a = why_no_memory run answered a
+
+    -- the program was run
+    pub why_ran : (run : RunOf) (input : List ℕ) (program : BodyNode) (answered : ℕ) → GivesProgram holds lacks run program → GivesInput holds lacks run.input input → ProgramWhy old new run input program answered → Why old new (Some run) holds lacks failed answered
+    why_ran run input program answered gives given (inl a) = record { bytes = a.bytes; status = a.status; due = Due.ran refl gives given a.comes; answers = a.answers }
+    why_ran run input program answered gives given (inr a) = why_no_memory run answered a
+
+-- the input of a run, by its name
+module _ (holds : List ℕ → List ℕ → Type 0) (lacks : List ℕ → Type 0) where
+  pub input_given : (input : Option (List ℕ)) (name bytes : List ℕ) → input ≡ Some name → Gives (holds name) (lacks name) bytes → GivesInput holds lacks input bytes
+  input_given input name bytes is gives = subst (λ (given : Option (List ℕ)). GivesInput holds lacks given bytes) (sym is) gives
+
+  pub no_input_given : (input : Option (List ℕ)) (bytes : List ℕ) → input ≡ None → bytes ≡ [] → GivesInput holds lacks input bytes
+  no_input_given input bytes is none = subst (λ (given : Option (List ℕ)). GivesInput holds lacks given bytes) (sym is) none
+
+-- Two shelves that hold the same texts and lack the same names: what one gives the other gives.
+module _ (holds holds' : List ℕ → List ℕ → Type 0) (lacks lacks' : List ℕ → Type 0) (same : (q t : List ℕ) → holds' q t ↔ holds q t) (also : (q : List ℕ) → lacks' q ↔ lacks q) where
+  pub gives_on : (name text : List ℕ) → Gives (holds name) (lacks name) text → Gives (holds' name) (lacks' name) text
+  gives_on name text g = record { there = λ l. g.there ((also name).0 l); given = λ t h. g.given t ((same name t).0 h); short = g.short }
+
+  too_long_on : (name : List ℕ) (size : ℕ) → GivesTooLong (holds name) (lacks name) size → GivesTooLong (holds' name) (lacks' name) size
+  too_long_on name size g = record { there = λ l. g.there ((also name).0 l); given = λ t h. g.given t ((same name t).0 h); long = g.long }
+
+  program_on : (run : RunOf) (program : BodyNode) → GivesProgram holds lacks run program → GivesProgram holds' lacks' run program
+  program_on run program g = record { text = g.text; gives = gives_on run.file g.text g.gives; is = g.is }
+
+  input_on : (input : Option (List ℕ)) (bytes : List ℕ) → GivesInput holds lacks input bytes → GivesInput holds' lacks' input bytes
+  input_on None bytes g = g
+  input_on (Some name) bytes g = gives_on name bytes g
+
+  due_on : (asked : Option RunOf) (failed failed' : Type 0) (bytes : List ℕ) (status : ℕ) → (failed → failed') → Due asked holds lacks failed bytes status → Due asked holds' lacks' failed' bytes status
+  due_on asked failed failed' bytes status so (Due.no_command is) = Due.no_command is
+  due_on asked failed failed' bytes status so (Due.unreadable is rose) = Due.unreadable is (so rose)
+  due_on asked failed failed' bytes status so (Due.too_long {run = run} {size = size} is g) = Due.too_long is (too_long_on run.file size g)
+  due_on asked failed failed' bytes status so (Due.refused {run = run} {text = text} is g fault) = Due.refused is (gives_on run.file text g) fault
+  due_on asked failed failed' bytes status so (Due.no_input {run = run} {program = program} is g named rose) = Due.no_input is (program_on run program g) named (so rose)
+  due_on asked failed failed' bytes status so (Due.long_input {run = run} {program = program} {name = name} {size = size} is g named long) =
+      Due.long_input is (program_on run program g) named (too_long_on name size long)
+  due_on asked failed failed' bytes status so Due.no_memory = Due.no_memory
+  due_on asked failed failed' bytes status so (Due.ran {run = run} {program = program} {input = input} is g given comes) =
+      Due.ran is (program_on run program g) (input_on run.input input given) comes
+
+  -- so an answer over the second shelf is one over the first
+  pub why_on : (old new : Outside (List ℕ)) (asked : Option RunOf) (failed failed' : Type 0) (answered : ℕ) → (failed → failed') → Why old new asked holds lacks failed answered → Why old new asked holds' lacks' failed' answered
+  why_on old new asked failed failed' answered so why = record {
+    bytes = why.bytes;
+    status = why.status;
+    due = due_on asked failed failed' why.bytes why.status so why.due;
+    answers = why.answers;
+  }
+
+-- what rose behind a call that counted rose from its beginning
+pub rose_from : (before middle after : ℕ) → before ≤ middle → Rose middle after → Rose before after
+rose_from before middle after counted (inl less) = inl (omega (arith, less, counted))
+rose_from before middle after counted (inr last) = inr last

@@ -1,5 +1,6 @@
 -- What the causes of an answer exclude.
-use Rattle.std.proofs.Common.{◌≡◌, ℕ, ◌<◌, ◌≤◌, List, [], length, Some, None, Option, refl, sym, ap, ◌∙◌, subst, arith}
+use Rattle.std.proofs.Common.{◌≡◌, ℕ, ◌<◌, ◌≤◌, List, length, Some, None, Option, refl, sym, ap, ◌∙◌, subst, arith}
+use Rattle.ps_outside.specs.Outside.{Outside}
 use Rattle.ps_base.specs.declared.TheConstants.{LONGEST_TEXT}
 use Rattle.ps_program.specs.Node.{BodyNode}
 use Rattle.ps_base.specs.declared.line.Line.{Line}
@@ -13,14 +14,13 @@ use Rattle.ps_parse.specs.Program.{ReadsAs, IsParseFault}
 use Rattle.ps_parse.proofs.Unique.{one_tree}
 use Rattle.ps_parse.proofs.Faults.{no_fault_of_tree, one_fault}
 use Rattle.ps_built.specs.Library.{first_unbuilt_library}
-use Rattle.ps_built.specs.Procedures.{first_procedure}
 use Rattle.ps_typing.specs.Fault.{Fault}
 use Rattle.ps_typing.specs.Program.{Verdict, check_program, Typed, Fails}
 use Rattle.ps_command.specs.Words.{RunOf}
 use Rattle.ps_command.specs.Reports.{usage_line, memory_line, unreadable_line, too_long_line, fault_line}
-use Rattle.ps_command.specs.Source.{IsProgram, number_of, line_of, IsCheckFault, for_procedures, mistyped, unbuilt_call, IsSourceFault, in_scan, in_parse, in_check}
+use Rattle.ps_command.specs.Source.{IsProgram, number_of, line_of, IsCheckFault, mistyped, unbuilt_call, IsSourceFault, in_scan, in_parse, in_check}
 use Rattle.ps_command.specs.Answering.{Answers, whole, cut}
-use Rattle.ps_command.specs.Command.{Gives, GivesTooLong, RunsTo, Due, Gets, GetsRun}
+use Rattle.ps_command.specs.Command.{Gives, GivesTooLong, GivesInput, HoldsInput, GivesProgram, RunsTo, Due, IsRead, Gets, GetsRun}
 
 not_both : {A : Type 0} (x : Option A) (v : A) → x ≡ None → x ≡ Some v → ⊥
 not_both x v none some = let e : None ≡ Some v = sym none ∙ some in cc
@@ -55,33 +55,25 @@ of_one_phrase {text} {tokens} {others} {phrase} {other} {number} {line} same rea
     subst (λ (ph : Phrase). IsCheckFault ph number line) (one_phrase text tokens others phrase other same read read') fault
 
 -- a tree that is typed and runs has no fault in the check
-no_check_fault : (phrase : Phrase) (p : BodyNode) (number : ℕ) (line : Line) → first_procedure phrase ≡ None → check_program phrase ≡ Typed p →
-    first_unbuilt_library p ≡ None → IsCheckFault phrase number line → ⊥
-no_check_fault phrase p number line free typed built (for_procedures first) = not_both (first_procedure phrase) line free first
-no_check_fault phrase p number line free typed built (mistyped {fault = fault} free' fails) =
-    typed_not_fails (check_program phrase) p fault typed fails
-no_check_fault phrase p number line free typed built (unbuilt_call {program = q} free' typed' first) =
+no_check_fault : (phrase : Phrase) (p : BodyNode) (number : ℕ) (line : Line) → check_program phrase ≡ Typed p → first_unbuilt_library p ≡ None →
+    IsCheckFault phrase number line → ⊥
+no_check_fault phrase p number line typed built (mistyped {fault = fault} fails) = typed_not_fails (check_program phrase) p fault typed fails
+no_check_fault phrase p number line typed built (unbuilt_call {program = q} typed' first) =
     let same : p ≡ q = typed_same (check_program phrase) p q typed typed' in
     not_both (first_unbuilt_library q) line (subst (λ (b : BodyNode). first_unbuilt_library b ≡ None) same built) first
 
 -- and a tree has one first fault
 one_check_fault : (phrase : Phrase) (n m : ℕ) (k l : Line) → IsCheckFault phrase n k → IsCheckFault phrase m l → (n ≡ m) × (k ≡ l)
-one_check_fault phrase n m k l (for_procedures a) (for_procedures b) = (refl, same_some (first_procedure phrase) k l a b)
-one_check_fault phrase n m k l (for_procedures a) (mistyped free fails) = absurd (not_both (first_procedure phrase) k free a)
-one_check_fault phrase n m k l (for_procedures a) (unbuilt_call free typed b) = absurd (not_both (first_procedure phrase) k free a)
-one_check_fault phrase n m k l (mistyped free fails) (for_procedures b) = absurd (not_both (first_procedure phrase) l free b)
-one_check_fault phrase n m k l (mistyped {fault = f} free fails) (mistyped {fault = g} free' fails') =
+one_check_fault phrase n m k l (mistyped {fault = f} fails) (mistyped {fault = g} fails') =
     let same : f ≡ g = fails_same (check_program phrase) f g fails fails' in (ap number_of same, ap line_of same)
-one_check_fault phrase n m k l (mistyped {fault = f} free fails) (unbuilt_call {program = p} free' typed b) =
+one_check_fault phrase n m k l (mistyped {fault = f} fails) (unbuilt_call {program = p} typed b) =
     absurd (typed_not_fails (check_program phrase) p f typed fails)
-one_check_fault phrase n m k l (unbuilt_call free typed a) (for_procedures b) = absurd (not_both (first_procedure phrase) l free b)
-one_check_fault phrase n m k l (unbuilt_call {program = p} free typed a) (mistyped {fault = f} free' fails) =
+one_check_fault phrase n m k l (unbuilt_call {program = p} typed a) (mistyped {fault = f} fails) =
     absurd (typed_not_fails (check_program phrase) p f typed fails)
-one_check_fault phrase n m k l (unbuilt_call {program = p} free typed a) (unbuilt_call {program = q} free' typed' b) =
+one_check_fault phrase n m k l (unbuilt_call {program = p} typed a) (unbuilt_call {program = q} typed' b) =
     let same : p ≡ q = typed_same (check_program phrase) p q typed typed' in
     (refl, same_some (first_unbuilt_library q) k l (subst (λ (of : BodyNode). first_unbuilt_library of ≡ Some k) same a) b)
 
--- a text that reads as a tree has no fault of the parser
 no_parse_fault : (text : List ℕ) (tokens others : List Token) (phrase : Phrase) (fault : ParseFault) → tokens ≡ others → ReadsAs text tokens phrase → IsParseFault text others fault → ⊥
 no_parse_fault text tokens others phrase fault same read has = no_fault_of_tree text others phrase fault (subst (λ (ts : List Token). ReadsAs text ts phrase) same read) has
 
@@ -89,7 +81,7 @@ pub no_fault : (text stage : List ℕ) (p : BodyNode) (number : ℕ) (line : Lin
 no_fault text stage p number line is (in_scan has a b) = never_both is.scanned has
 no_fault text stage p number line is (in_parse {tokens = tokens} {fault = fault} scanned has a b) = no_parse_fault text is.tokens tokens is.phrase fault (same_tokens is.scanned scanned) is.read has
 no_fault text stage p number line is (in_check scanned read fault) =
-    no_check_fault is.phrase p number line is.free is.typed is.built (of_one_phrase (same_tokens scanned is.scanned) read is.read fault)
+    no_check_fault is.phrase p number line is.typed is.built (of_one_phrase (same_tokens scanned is.scanned) read is.read fault)
 
 -- Two first faults are one, with its stage, its number and its line.
 pub record IsOne (stage stage' : List ℕ) (number number' : ℕ) (line line' : Line) : Type 0 where
@@ -123,35 +115,54 @@ same_line : (file stage stage' : List ℕ) (n m : ℕ) (k l : Line) → IsOne st
 same_line file stage stage' n m k l one = ap (λ (s : List ℕ). fault_line file s n k) one.stages ∙ ap (λ (i : ℕ). fault_line file stage' i k) one.numbers ∙ ap (λ (i : Line). fault_line file stage' m i) one.lines
 
 module _ (asked : Option RunOf) (holds : List ℕ → List ℕ → Type 0) (lacks : List ℕ → Type 0) (failed : Type 0) where
-  own_at : (file told bytes : List ℕ) (due status : ℕ) → told ≡ bytes → due ≡ status → Gets file failed told due bytes status
-  own_at file told bytes due status one two = subst (λ (bs : List ℕ). Gets file failed told due bs status) one (subst (λ (n : ℕ). Gets file failed told due told n) two Gets.own)
+  own_at : (read : List ℕ → Type 0) (told bytes : List ℕ) (due status : ℕ) → told ≡ bytes → due ≡ status → Gets read failed told due bytes status
+  own_at read told bytes due status one two = subst (λ (bs : List ℕ). Gets read failed told due bs status) one (subst (λ (n : ℕ). Gets read failed told due told n) two Gets.own)
 
-  pub no_command : (bytes : List ℕ) (status : ℕ) → asked ≡ None → Due asked holds lacks failed bytes status → Gets [] ⊥ usage_line 1 bytes status
+  pub no_command : (bytes : List ℕ) (status : ℕ) → asked ≡ None → Due asked holds lacks failed bytes status → Gets (λ name. ⊥) ⊥ usage_line 1 bytes status
   no_command bytes status none (Due.no_command is) = Gets.own
   no_command bytes status none (Due.unreadable {run = run} is rose) = absurd (not_both asked run none is)
   no_command bytes status none (Due.too_long {run = run} is gives) = absurd (not_both asked run none is)
   no_command bytes status none (Due.refused {run = run} is gives fault) = absurd (not_both asked run none is)
+  no_command bytes status none (Due.no_input {run = run} is gives named rose) = absurd (not_both asked run none is)
+  no_command bytes status none (Due.long_input {run = run} is gives named long) = absurd (not_both asked run none is)
   no_command bytes status none Due.no_memory = Gets.no_memory
-  no_command bytes status none (Due.ran {run = run} is gives program comes) = absurd (not_both asked run none is)
+  no_command bytes status none (Due.ran {run = run} is gives given comes) = absurd (not_both asked run none is)
 
-  -- the cases of a command, one run at a time
-  by_run : (P : List ℕ → ℕ → Type 0) (run : RunOf) (bytes : List ℕ) (status : ℕ) → asked ≡ Some run → P memory_line 5 → (failed → P (unreadable_line run.file) 7) → ((size : ℕ) → GivesTooLong (holds run.file) (lacks run.file) size → P (too_long_line run.file size) 13) → ((text stage : List ℕ) (number : ℕ) (line : Line) → Gives (holds run.file) (lacks run.file) text → IsSourceFault text stage number line → P (fault_line run.file stage number line) 2) → ((text bs : List ℕ) (program : BodyNode) (n : ℕ) → Gives (holds run.file) (lacks run.file) text → IsProgram text program → RunsTo run program bs n → P bs n) → Due asked holds lacks failed bytes status → P bytes status
-  by_run P run bytes status is memory unread long refused ran (Due.no_command none) = absurd (not_both asked run none is)
-  by_run P run bytes status is memory unread long refused ran (Due.unreadable {run = r} is' rose) = subst (λ (x : RunOf). P (unreadable_line x.file) 7) (same_some asked run r is is') (unread rose)
-  by_run P run bytes status is memory unread long refused ran (Due.too_long {run = r} {size = size} is' gives) =
-      let same = same_some asked run r is is' in
-      subst (λ (x : RunOf). P (too_long_line x.file size) 13) same (long size (subst (λ (x : RunOf). GivesTooLong (holds x.file) (lacks x.file) size) (sym same) gives))
-  by_run P run bytes status is memory unread long refused ran (Due.refused {run = r} {text = text} {stage = stage} {number = number} {line = line} is' gives fault) =
-      let same = same_some asked run r is is' in
-      subst (λ (x : RunOf). P (fault_line x.file stage number line) 2) same (refused text stage number line (subst (λ (x : RunOf). Gives (holds x.file) (lacks x.file) text) (sym same) gives) fault)
-  by_run P run bytes status is memory unread long refused ran Due.no_memory = memory
-  by_run P run bytes status is memory unread long refused ran (Due.ran {run = r} {text = text} {program = program} is' gives prog comes) =
-      let same = same_some asked run r is is' in
-      ran text bytes program status (subst (λ (x : RunOf). Gives (holds x.file) (lacks x.file) text) (sym same) gives) prog (subst (λ (x : RunOf). RunsTo x program bytes status) (sym same) comes)
+  -- the cases of a command that is a run
+  record Cases (P : List ℕ → ℕ → Type 0) (run : RunOf) : Type 0 where
+    memory : P memory_line 5
+    unread : failed → P (unreadable_line run.file) 7
+    long : (size : ℕ) → GivesTooLong (holds run.file) (lacks run.file) size → P (too_long_line run.file size) 13
+    refused : (text stage : List ℕ) (number : ℕ) (line : Line) → Gives (holds run.file) (lacks run.file) text → IsSourceFault text stage number line → P (fault_line run.file stage number line) 2
+    no_input : (program : BodyNode) (name : List ℕ) → GivesProgram holds lacks run program → run.input ≡ Some name → failed → P (unreadable_line name) 7
+    long_input : (program : BodyNode) (name : List ℕ) (size : ℕ) → GivesProgram holds lacks run program → run.input ≡ Some name → GivesTooLong (holds name) (lacks name) size → P (too_long_line name size) 13
+    ran : (program : BodyNode) (input bytes : List ℕ) (status : ℕ) → GivesProgram holds lacks run program → GivesInput holds lacks run.input input → RunsTo run input program bytes status → P bytes status
 
-  pub lacked_name : (run : RunOf) (bytes : List ℕ) (status : ℕ) → asked ≡ Some run → lacks run.file → Due asked holds lacks failed bytes status → Gets run.file failed (unreadable_line run.file) 7 bytes status
-  lacked_name run bytes status is lacking due =
-      by_run (λ bs n. Gets run.file failed (unreadable_line run.file) 7 bs n) run bytes status is Gets.no_memory Gets.unreadable (λ size gives. absurd (gives.there lacking)) (λ text stage number line gives fault. absurd (gives.there lacking)) (λ text bs program n gives prog comes. absurd (gives.there lacking)) due
+  by_cases : (P : List ℕ → ℕ → Type 0) (run : RunOf) (bytes : List ℕ) (status : ℕ) → asked ≡ Some run → Cases P run → Due asked holds lacks failed bytes status → P bytes status
+  by_cases P run bytes status is cases (Due.no_command none) = absurd (not_both asked run none is)
+  by_cases P run bytes status is cases (Due.unreadable {run = r} is' rose) = (subst (Cases P) (same_some asked run r is is') cases).unread rose
+  by_cases P run bytes status is cases (Due.too_long {run = r} {size = size} is' gives) = (subst (Cases P) (same_some asked run r is is') cases).long size gives
+  by_cases P run bytes status is cases (Due.refused {run = r} {text = text} {stage = stage} {number = number} {line = line} is' gives fault) =
+      (subst (Cases P) (same_some asked run r is is') cases).refused text stage number line gives fault
+  by_cases P run bytes status is cases (Due.no_input {run = r} {program = program} {name = name} is' gives named rose) =
+      (subst (Cases P) (same_some asked run r is is') cases).no_input program name gives named rose
+  by_cases P run bytes status is cases (Due.long_input {run = r} {program = program} {name = name} {size = size} is' gives named long) =
+      (subst (Cases P) (same_some asked run r is is') cases).long_input program name size gives named long
+  by_cases P run bytes status is cases Due.no_memory = cases.memory
+  by_cases P run bytes status is cases (Due.ran {run = r} {program = program} {input = input} is' gives given comes) =
+      (subst (Cases P) (same_some asked run r is is') cases).ran program input bytes status gives given comes
+
+  pub lacked_name : (run : RunOf) (bytes : List ℕ) (status : ℕ) → asked ≡ Some run → lacks run.file → Due asked holds lacks failed bytes status →
+      Gets (λ name. name ≡ run.file) failed (unreadable_line run.file) 7 bytes status
+  lacked_name run bytes status is lacking due = by_cases (λ bs n. Gets (λ name. name ≡ run.file) failed (unreadable_line run.file) 7 bs n) run bytes status is record {
+    memory = Gets.no_memory;
+    unread = λ rose. Gets.own;
+    long = λ size gives. absurd (gives.there lacking);
+    refused = λ text stage number line gives fault. absurd (gives.there lacking);
+    no_input = λ program name g named rose. absurd (g.gives.there lacking);
+    long_input = λ program name size g named long. absurd (g.gives.there lacking);
+    ran = λ program input bs n g given comes. absurd (g.gives.there lacking);
+  } due
 
   module _ (run : RunOf) (text : List ℕ) (is : asked ≡ Some run) (held : holds run.file text) where
     not_long : (size : ℕ) → length text ≤ LONGEST_TEXT → GivesTooLong (holds run.file) (lacks run.file) size → ⊥
@@ -160,35 +171,110 @@ module _ (asked : Option RunOf) (holds : List ℕ → List ℕ → Type 0) (lack
     not_short : (other : List ℕ) → LONGEST_TEXT < length text → Gives (holds run.file) (lacks run.file) other → ⊥
     not_short other long gives = let e = ap length (gives.given text held) in let short = gives.short in omega arith
 
-    pub program_is_run : (program : BodyNode) (bytes : List ℕ) (status : ℕ) → length text ≤ LONGEST_TEXT → IsProgram text program → Due asked holds lacks failed bytes status → GetsRun run program failed bytes status
-    program_is_run program bytes status short prog due =
-        by_run (λ bs n. GetsRun run program failed bs n) run bytes status is GetsRun.no_memory GetsRun.unreadable
-        (λ size gives. absurd (not_long size short gives))
-        (λ other stage number line gives fault. absurd (no_fault text stage program number line prog (subst (λ (t : List ℕ). IsSourceFault t stage number line) (gives.given text held) fault)))
-        (λ other bs program' n gives prog' comes.
-        let same : program ≡ program' = one_program text program program' prog (subst (λ (t : List ℕ). IsProgram t program') (gives.given text held) prog') in
-        GetsRun.own (subst (λ (p : BodyNode). RunsTo run p bs n) (sym same) comes))
-        due
+    -- the text that is given is this one, and no fault where it is a program
+    no_refusal : (program : BodyNode) (other stage : List ℕ) (number : ℕ) (line : Line) → IsProgram text program → Gives (holds run.file) (lacks run.file) other → IsSourceFault other stage number line → ⊥
+    no_refusal program other stage number line prog gives fault =
+        no_fault text stage program number line prog (subst (λ (t : List ℕ). IsSourceFault t stage number line) (gives.given text held) fault)
 
-    pub first_fault_is_told : (stage : List ℕ) (number : ℕ) (line : Line) (bytes : List ℕ) (status : ℕ) → length text ≤ LONGEST_TEXT → IsSourceFault text stage number line → Due asked holds lacks failed bytes status → Gets run.file failed (fault_line run.file stage number line) 2 bytes status
+    no_program : (program : BodyNode) (stage : List ℕ) (number : ℕ) (line : Line) → IsSourceFault text stage number line → GivesProgram holds lacks run program → ⊥
+    no_program program stage number line fault g =
+        no_fault text stage program number line (subst (λ (t : List ℕ). IsProgram t program) (g.gives.given text held) g.is) fault
+
+    same_given : (program other : BodyNode) → IsProgram text program → GivesProgram holds lacks run other → other ≡ program
+    same_given program other prog g = one_program text other program (subst (λ (t : List ℕ). IsProgram t other) (g.gives.given text held) g.is) prog
+
+    pub first_fault_is_told : (stage : List ℕ) (number : ℕ) (line : Line) (bytes : List ℕ) (status : ℕ) → length text ≤ LONGEST_TEXT → IsSourceFault text stage number line → Due asked holds lacks failed bytes status →
+        Gets (λ name. name ≡ run.file) failed (fault_line run.file stage number line) 2 bytes status
     first_fault_is_told stage number line bytes status short fault due =
-        by_run (λ bs n. Gets run.file failed (fault_line run.file stage number line) 2 bs n) run bytes status is Gets.no_memory Gets.unreadable
-        (λ size gives. absurd (not_long size short gives))
-        (λ other stage' number' line' gives fault'.
-        let one = one_source_fault text stage stage' number number' line line' fault (subst (λ (t : List ℕ). IsSourceFault t stage' number' line') (gives.given text held) fault') in
-        own_at run.file _ _ _ _ (same_line run.file stage stage' number number' line line' one) refl)
-        (λ other bs program n gives prog comes. absurd (no_fault text stage program number line (subst (λ (t : List ℕ). IsProgram t program) (gives.given text held) prog) fault))
-        due
+        by_cases (λ bs n. Gets (λ name. name ≡ run.file) failed (fault_line run.file stage number line) 2 bs n) run bytes status is record {
+          memory = Gets.no_memory;
+          unread = λ rose. Gets.unreadable refl rose;
+          long = λ size gives. absurd (not_long size short gives);
+          refused = λ other stage' number' line' gives fault'.
+              let one = one_source_fault text stage stage' number number' line line' fault (subst (λ (t : List ℕ). IsSourceFault t stage' number' line') (gives.given text held) fault') in
+              own_at _ _ _ _ _ (same_line run.file stage stage' number number' line line' one) refl;
+          no_input = λ program name g named rose. absurd (no_program program stage number line fault g);
+          long_input = λ program name size g named long. absurd (no_program program stage number line fault g);
+          ran = λ program input bs n g given comes. absurd (no_program program stage number line fault g);
+        } due
 
-    pub long_text : (bytes : List ℕ) (status : ℕ) → LONGEST_TEXT < length text → Due asked holds lacks failed bytes status → Gets run.file failed (too_long_line run.file (length text)) 13 bytes status
+    pub long_text : (bytes : List ℕ) (status : ℕ) → LONGEST_TEXT < length text → Due asked holds lacks failed bytes status →
+        Gets (λ name. name ≡ run.file) failed (too_long_line run.file (length text)) 13 bytes status
     long_text bytes status long due =
-        by_run (λ bs n. Gets run.file failed (too_long_line run.file (length text)) 13 bs n) run bytes status is Gets.no_memory Gets.unreadable
-        (λ size gives. own_at run.file _ _ _ _ (ap (λ (n : ℕ). too_long_line run.file n) (sym (gives.given text held))) refl)
-        (λ other stage number line gives fault. absurd (not_short other long gives))
-        (λ other bs program n gives prog comes. absurd (not_short other long gives))
-        due
+        by_cases (λ bs n. Gets (λ name. name ≡ run.file) failed (too_long_line run.file (length text)) 13 bs n) run bytes status is record {
+          memory = Gets.no_memory;
+          unread = λ rose. Gets.unreadable refl rose;
+          long = λ size gives. own_at _ _ _ _ _ (ap (λ (n : ℕ). too_long_line run.file n) (sym (gives.given text held))) refl;
+          refused = λ other stage number line gives fault. absurd (not_short other long gives);
+          no_input = λ program name g named rose. absurd (not_short g.text long g.gives);
+          long_input = λ program name size g named too_long. absurd (not_short g.text long g.gives);
+          ran = λ program input bs n g given comes. absurd (not_short g.text long g.gives);
+        } due
+
+    module _ (program : BodyNode) (short : length text ≤ LONGEST_TEXT) (prog : IsProgram text program) where
+      -- the input that is given is the one that is held
+      same_input : (name : Option (List ℕ)) (input other : List ℕ) → HoldsInput holds name input → GivesInput holds lacks name other → other ≡ input
+      same_input None input other one two = two ∙ sym one
+      same_input (Some name) input other one two = two.given input one.0
+
+      no_long_input : (name : Option (List ℕ)) (input given : List ℕ) (size : ℕ) → name ≡ Some given → HoldsInput holds name input → GivesTooLong (holds given) (lacks given) size → ⊥
+      no_long_input name input given size named one long =
+          let h = subst (λ (n : Option (List ℕ)). HoldsInput holds n input) named one in
+          let few = h.1 in let many = long.long in let e = long.given input h.0 in omega arith
+
+      pub program_is_run : (input bytes : List ℕ) (status : ℕ) → HoldsInput holds run.input input → Due asked holds lacks failed bytes status → GetsRun run input program failed bytes status
+      program_is_run input bytes status has due = by_cases (λ bs n. GetsRun run input program failed bs n) run bytes status is record {
+        memory = GetsRun.no_memory;
+        unread = λ rose. GetsRun.unreadable IsRead.text rose;
+        long = λ size gives. absurd (not_long size short gives);
+        refused = λ other stage number line gives fault. absurd (no_refusal program other stage number line prog gives fault);
+        no_input = λ other name g named rose. GetsRun.unreadable (IsRead.input named) rose;
+        long_input = λ other name size g named long. absurd (no_long_input run.input input name size named has long);
+        ran = λ other read bs n g given comes. GetsRun.own (subst (λ (p : BodyNode). RunsTo run input p bs n) (same_given program other prog g)
+            (subst (λ (i : List ℕ). RunsTo run i other bs n) (same_input run.input input read has given) comes));
+      } due
+
+      module _ (name : List ℕ) (named : run.input ≡ Some name) where
+        same_name : (other : List ℕ) → run.input ≡ Some other → other ≡ name
+        same_name other is' = same_some run.input other name is' named
+
+        given_here : (input : List ℕ) → GivesInput holds lacks run.input input → Gives (holds name) (lacks name) input
+        given_here input given = subst (λ (n : Option (List ℕ)). GivesInput holds lacks n input) named given
+
+        pub lacked_input : (bytes : List ℕ) (status : ℕ) → lacks name → Due asked holds lacks failed bytes status → Gets (IsRead run) failed (unreadable_line name) 7 bytes status
+        lacked_input bytes status lacking due = by_cases (λ bs n. Gets (IsRead run) failed (unreadable_line name) 7 bs n) run bytes status is record {
+          memory = Gets.no_memory;
+          unread = λ rose. Gets.unreadable IsRead.text rose;
+          long = λ size gives. absurd (not_long size short gives);
+          refused = λ other stage number line gives fault. absurd (no_refusal program other stage number line prog gives fault);
+          no_input = λ other name' g named' rose. Gets.unreadable (IsRead.input named') rose;
+          long_input = λ other name' size g named' long. absurd (long.there (subst lacks (sym (same_name name' named')) lacking));
+          ran = λ other read bs n g given comes. absurd ((given_here read given).there lacking);
+        } due
+
+        -- a text of this name that is too long isn't given, and its size is told
+        not_given : (input other : List ℕ) → holds name input → LONGEST_TEXT < length input → Gives (holds name) (lacks name) other → ⊥
+        not_given input other has long gives = let e = ap length (gives.given input has) in let few = gives.short in omega arith
+
+        size_told : (input other : List ℕ) (size : ℕ) → holds name input → other ≡ name → GivesTooLong (holds other) (lacks other) size →
+            too_long_line name (length input) ≡ too_long_line other size
+        size_told input other size has same long =
+            let here = subst (λ (n : List ℕ). GivesTooLong (holds n) (lacks n) size) same long in
+            ap (λ (n : ℕ). too_long_line name n) (sym (here.given input has)) ∙ ap (λ (n : List ℕ). too_long_line n size) (sym same)
+
+        pub long_input : (input bytes : List ℕ) (status : ℕ) → holds name input → LONGEST_TEXT < length input → Due asked holds lacks failed bytes status →
+            Gets (IsRead run) failed (too_long_line name (length input)) 13 bytes status
+        long_input input bytes status has many due = by_cases (λ bs n. Gets (IsRead run) failed (too_long_line name (length input)) 13 bs n) run bytes status is record {
+          memory = Gets.no_memory;
+          unread = λ rose. Gets.unreadable IsRead.text rose;
+          long = λ size gives. absurd (not_long size short gives);
+          refused = λ other stage number line gives fault. absurd (no_refusal program other stage number line prog gives fault);
+          no_input = λ other name' g named' rose. Gets.unreadable (IsRead.input named') rose;
+          long_input = λ other name' size g named' long. own_at _ _ _ _ _ (size_told input name' size has (same_name name' named') long) refl;
+          ran = λ other read bs n g given comes. absurd (not_given input read has many (given_here read given));
+        } due
 
 -- What the count of the output's faults says of an answer.
-pub counted_faults : {H : Type 0} (clock : H → ℕ) (told : H → ℕ → List ℕ → Type 0) (faults : H → ℕ) (old new : H) (due : List ℕ) (status answered : ℕ) → Answers clock told faults old new due status answered → (faults old ≤ faults new) × (faults old < faults new → answered ≡ 8)
-counted_faults clock told faults old new due status answered (whole all) = let e = all.calm in (omega arith, λ rose. absurd (omega arith))
-counted_faults clock told faults old new due status answered (cut fails) = let le = fails.counts in (omega arith, λ rose. refl)
+pub counted_faults : (old new : Outside (List ℕ)) (due : List ℕ) (status answered : ℕ) → Answers old new due status answered → (old.output_faults ≤ new.output_faults) × (old.output_faults < new.output_faults → answered ≡ 8)
+counted_faults old new due status answered (whole all) = let e = all.calm in (omega arith, λ rose. absurd (omega arith))
+counted_faults old new due status answered (cut fails) = let le = fails.counts in (omega arith, λ rose. refl)

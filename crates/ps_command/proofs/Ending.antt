@@ -1,6 +1,7 @@
 -- What a run of a program's unit comes to is what the program means.
-use Rattle.std.proofs.Common.{◌≡◌, ℕ, ◌+◌, ◌*◌, ◌<◌, ◌≤◌, List, [], ◌∷◌, ◌++◌, reverse, refl, sym, ap, ◌∙◌, subst, append_assoc, arith}
-use Rattle.std.specs.Prelude.{Result, Ok, Err}
+use Rattle.std.proofs.Common.{◌≡◌, ℕ, ◌+◌, ◌*◌, ◌≤◌, List, [], ◌∷◌, ◌++◌, reverse, refl, sym, ap, ◌∙◌, subst, append_assoc, arith}
+use Rattle.std.specs.Prelude.{Result, Ok, Err, None}
+use Rattle.std.specs.List.{AllByRecursion}
 use Rattle.std.proofs.lemmas.List.{reverse-append, append-nil}
 use Rattle.ps_base.specs.CodeUnit.{UnitView, unit_view}
 use Rattle.ps_base.specs.declared.code_unit.CodeUnit.{CodeUnit}
@@ -8,25 +9,25 @@ use Rattle.ps_port.specs.Telling.{TellsAll, FailsBehind}
 use Rattle.ps_port.proofs.Telling.{all_then, fails_then, fails_more}
 use Rattle.ps_outside.specs.Outside.{Outside}
 use Rattle.obj_layout.specs.Stored.{Space}
-use Rattle.obj_layout.specs.Storing.{Puts}
-use Rattle.obj_layout.specs.declared.vault.VaultFault.TheVariants as vault_fault
 use Rattle.no_store.specs.NoObjects.{outside_of}
-use Rattle.no_store.proofs.PutLaws.{front-put, all-put}
 use Rattle.proc_values.specs.Units.{unit_words}
 use Rattle.ps_program.specs.Node.{BodyNode, body}
 use Rattle.ps_program.specs.Slots.{slot_count}
 use Rattle.ps_typing.specs.WellTyped.{IsWellTyped}
 use Rattle.ps_typing_laws.specs.Counted.{IsCounted}
 use Rattle.ps_typing_laws.proofs.Tracked.{program_counted}
-use Rattle.ps_meaning.specs.Event.{End, Done, Event, Finish, count_of, outputs, output_of, report_of, status_of}
+use Rattle.ps_meaning.specs.Event.{End, Done, Event, Finish, outputs, output_of, report_of, status_of}
 use Rattle.ps_meaning.specs.Meaning.{Outcome, Value_is, Ends}
 use Rattle.ps_meaning.specs.Runs.{run_events, run_end, outcome_of, all_events, end_reached, fresh_store}
 use Rattle.ps_meaning.specs.Weights.{code_weight}
-use Rattle.ps_soundness.specs.Running.{RunsWhole}
+use Rattle.ps_typing.specs.Program.{bodies, first_complex}
+use Rattle.ps_soundness.specs.Running.{BodyRuns}
+use Rattle.ps_soundness.specs.Shapes.{type_of_body}
+use Rattle.ps_soundness.specs.Valued.{IsValued}
 use Rattle.ps_gen.specs.Units.{unit_of, frame_of, HasUnit}
 use Rattle.ps_stepping.specs.Config.{Config, start, frame_in}
-use Rattle.ps_stepping.specs.Machine.{Goes, Stops, Stuck, Steps, Runs}
-use Rattle.ps_stepping.specs.Path.{Reaches, no_step, more}
+use Rattle.ps_stepping.specs.Machine.{Stops, Steps, Runs}
+use Rattle.ps_stepping.specs.Path.{Reaches}
 use Rattle.ps_stepping.proofs.Paths.{on_the_way, stops_at_the_end, is_never_stuck, front_on_the_way}
 use Rattle.ps_stepping.proofs.Following.{follow}
 use Rattle.machine_state.specs.declared.machine.Machine.{Machine}
@@ -38,13 +39,14 @@ use Rattle.stack_machine.specs.declared.run.RunFault.TheVariants.{Damaged, Full,
 use Rattle.stack_machine.specs.Loaded.{IsFrame, IsLoaded, HasNoRoom}
 use Rattle.stack_machine.specs.Ran as vault
 use Rattle.stack_machine.specs.Ran.{Ran, ended, damaged, full, cut, report_cut}
-use Rattle.stack_machine.proofs.Counting.{next_counted, next_counted_behind}
+use Rattle.stack_machine.proofs.Counting.{next_counted}
 use Rattle.ps_command.specs.Answering.{Answers, whole}
 use Rattle.ps_command.specs.Answering as answers
 use Rattle.ps_command.specs.Reports.{area_full_line}
 use Rattle.ps_command.specs.Words.{RunOf}
-use Rattle.ps_command.specs.Command.{area_size, FillsArea, RunsTo, its_end, area_full}
+use Rattle.ps_command.specs.Command.{area_size, FillsArea, its_end, area_full}
 use Rattle.ps_command.specs.inside.Steps.{AnswersRun, IsRunnable, IsReady, begin}
+use Rattle.ps_command.proofs.Programs.{first_fits}
 
 outputs-append : (xs ys : List Event) → outputs (xs ++ ys) ≡ outputs xs ++ outputs ys
 outputs-append [] ys = refl
@@ -67,9 +69,9 @@ end_is_of (Value_is v f s) so_far e count is =
 end_is_of (Ends e' s) so_far e count is =
     let same : Finish e' s.store.counted ≡ Finish e count = last_same s.events so_far (Finish e' s.store.counted) (Finish e count) is in cc
 
-end_is : (turns : ℕ) (program : BodyNode) (so_far : List Event) (e : End) (count : ℕ) → run_events turns [] program ≡ so_far ++ Finish e count ∷ [] → e ≡ run_end turns [] program
+end_is : (turns : ℕ) (input : List ℕ) (program : BodyNode) (so_far : List Event) (e : End) (count : ℕ) → run_events turns input program ≡ so_far ++ Finish e count ∷ [] → e ≡ run_end turns input program
 unfolding run_events run_end
-end_is turns program so_far e count is = end_is_of (outcome_of turns [] program) so_far e count is
+end_is turns input program so_far e count is = end_is_of (outcome_of turns input program) so_far e count is
 
 -- the frame of a program that can be run is none that a machine refuses
 frame_is : (program : BodyNode) → IsCounted program → slot_count program ≤ 512 → IsFrame (frame_of program)
@@ -83,38 +85,39 @@ frame_in_unit (body params gives tree scope line) = refl
 
 pub has_frame : (unit : CodeUnit) (program : BodyNode) → IsRunnable unit program → IsFrame (frame_in (unit_view unit))
 has_frame unit program r =
-    subst (λ (u : UnitView). IsFrame (frame_in u)) (sym r.unit_is) (subst IsFrame (sym (frame_in_unit program)) (frame_is program (first_counted program r.typed) r.fits))
+    subst (λ (u : UnitView). IsFrame (frame_in u)) (sym r.unit_is) (subst IsFrame (sym (frame_in_unit program)) (frame_is program (first_counted program r.typed) (first_fits program r.simple)))
 
 -- what the laws say of each program
 abbrev pub AreRun : Type 0
-AreRun = (program : BodyNode) (turns : ℕ) (input : List ℕ) → IsWellTyped program → RunsWhole program → slot_count program ≤ 512 → HasUnit program
+AreRun = (program : BodyNode) (turns : ℕ) (input : List ℕ) → IsWellTyped program → BodyRuns [] program
+    → AllByRecursion (λ of. IsValued (type_of_body of)) (bodies program) → first_complex (bodies program) ≡ None → AllByRecursion HasUnit (bodies program)
     → Runs (run_events turns input program) (start (unit_of program) (fresh_store turns input (code_weight program))) []
 
 abbrev pub AreWeighed : Type 0
 AreWeighed = (of : BodyNode) → 8 + 8 * unit_words (unit_of of) ≤ code_weight of
 
-module _ (unit : CodeUnit) (run : RunOf) (program : BodyNode) (are_run : AreRun) (are_weighed : AreWeighed) (r : IsRunnable unit program) (old m : Machine) where
-  runs : Runs (run_events run.turns [] program) (begin run program) []
-  runs = are_run program run.turns [] r.typed r.runs r.fits r.has_unit
+module _ (unit : CodeUnit) (run : RunOf) (input : List ℕ) (program : BodyNode) (are_run : AreRun) (are_weighed : AreWeighed) (r : IsRunnable unit program) (old m : Machine) where
+  runs : Runs (run_events run.turns input program) (begin run input program) []
+  runs = are_run program run.turns input r.typed r.runs r.valued r.simple r.units
 
   weighs : 8 + 8 * unit_words (unit_view unit) ≤ code_weight program
   weighs = subst (λ (u : UnitView). 8 + 8 * unit_words u ≤ code_weight program) (sym r.unit_is) (are_weighed program)
 
   -- a machine that was loaded is ready
-  pub ready : old.sw.size ≡ area_size run → IsLoaded (unit_view unit) run.turns old m → IsReady run program m
+  pub ready : old.sw.size ≡ area_size run → IsLoaded (unit_view unit) run.turns input old m → IsReady run input program m
   ready size l = record {
     sound = l.sound;
     area = l.size ∙ size;
-    starts = subst (λ (u : UnitView). Holds m (start u (fresh_store run.turns [] (code_weight program)))) r.unit_is (l.starts (code_weight program) weighs);
+    starts = subst (λ (u : UnitView). Holds m (start u (fresh_store run.turns input (code_weight program)))) r.unit_is (l.starts (code_weight program) weighs);
     runs = runs;
   }
 
   -- there was no room for its code: the first event counts more than the area has
   pub never_begins : (top wanted size : ℕ) → old.sw.size ≡ area_size run → HasNoRoom (unit_view unit) old m top wanted size
-      → FillsArea run program [] top wanted × (size ≡ area_size run)
+      → FillsArea run input program [] top wanted × (size ≡ area_size run)
   never_begins top wanted size is none =
       let whole : size ≡ area_size run = none.size_is ∙ is in
-      let first = next_counted (run_events run.turns [] program) (begin run program) [] runs refl in
+      let first = next_counted (run_events run.turns input program) (begin run input program) [] runs in
       let short = none.full in
       let passed = none.passed in
       let counts = first.3 in (
@@ -128,98 +131,69 @@ module _ (unit : CodeUnit) (run : RunOf) (program : BodyNode) (are_run : AreRun)
         whole,
       )
 
-module _ {H : Type 0} (clock : H → ℕ) (told : H → ℕ → List ℕ → Type 0) (faults : H → ℕ) (old new : H) where
-  abbrev seen : H → Outside Space
-  seen host = outside_of clock told faults host
-
-  as_all_put : (bytes : List ℕ) → vault.TellsAll (seen old) (seen new) bytes → Puts {T = Unit {0}} (seen old) (seen new) bytes (Ok tt)
-  as_all_put bytes is = record {
-    told = is.first.told;
-    all = is.all;
-    images = is.first.images;
-    contents = is.first.contents;
-    counts = let calm = is.calm in omega (arith, calm);
-    calm = is.calm;
-    device = refl;
-    cause = λ e. absurd (cc);
-    other = λ e. cc;
-    calls = refl;
-  }
+module _ (old new : Outside (List ℕ)) where
+  abbrev seen : Outside (List ℕ) → Outside Space
+  seen host = outside_of host
 
   -- what was told by a vault without objects was told by its host
-  pub host_told : (bytes : List ℕ) → vault.TellsAll (seen old) (seen new) bytes → TellsAll clock told faults old new bytes
-  host_told bytes is = all-put clock told faults old new bytes tt (as_all_put bytes is)
+  pub host_told : (bytes : List ℕ) → vault.TellsAll (seen old) (seen new) bytes → TellsAll old new bytes
+  host_told bytes is = record { front = is.first.told; all = is.all; calm = is.calm }
 
-  as_put : (bytes : List ℕ) → vault.FailsBehind (seen old) (seen new) bytes → Puts {T = Unit {0}} (seen old) (seen new) bytes (Err vault_fault.Output)
-  as_put bytes is = record {
-    told = is.first.told;
-    all = tt;
-    images = is.first.images;
-    contents = is.first.contents;
-    counts = is.counts;
-    calm = tt;
-    device = refl;
-    cause = λ e. is.rose;
-    other = λ e. cc;
-    calls = refl;
-  }
+  pub host_failed : (bytes : List ℕ) → vault.FailsBehind (seen old) (seen new) bytes → FailsBehind old new bytes
+  host_failed bytes is = record { front = is.first.told; counts = is.counts; rose = is.rose }
 
-  pub host_failed : (bytes : List ℕ) → vault.FailsBehind (seen old) (seen new) bytes → FailsBehind clock told faults old new bytes
-  host_failed bytes is = record { front = front-put clock told faults old new bytes (Err vault_fault.Output) (as_put bytes is); counts = is.counts; rose = is.rose }
-
-  module _ (run : RunOf) (program : BodyNode) (m : Machine) (r : IsReady run program m) where
+  module _ (run : RunOf) (input : List ℕ) (program : BodyNode) (m : Machine) (r : IsReady run input program m) where
     abbrev total : List Event
-    total = run_events run.turns [] program
+    total = run_events run.turns input program
 
     abbrev RanTo : Result RunEnd RunFault → Type 0
-    RanTo answer = Ran (seen old) (seen new) [] m.sw.size (begin run program) answer
+    RanTo answer = Ran (seen old) (seen new) [] m.sw.size (begin run input program) answer
 
     -- the run of the vault over the host, which owed nothing
-    pub ran_is : (a b : H) (owed : List ℕ) (answer : Result RunEnd RunFault) → a ≡ old → b ≡ new → owed ≡ [] → Ran (seen a) (seen b) owed m.sw.size (begin run program) answer → RanTo answer
+    pub ran_is : (a b : Outside (List ℕ)) (owed : List ℕ) (answer : Result RunEnd RunFault) → a ≡ old → b ≡ new → owed ≡ [] → Ran (seen a) (seen b) owed m.sw.size (begin run input program) answer → RanTo answer
     ran_is a b owed answer is_old is_new none ran =
-        subst (λ (bs : List ℕ). Ran (seen old) (seen new) bs m.sw.size (begin run program) answer) none
-        (subst (λ (h : H). Ran (seen old) (seen h) owed m.sw.size (begin run program) answer) is_new
-        (subst (λ (h : H). Ran (seen h) (seen b) owed m.sw.size (begin run program) answer) is_old ran))
+        subst (λ (bs : List ℕ). Ran (seen old) (seen new) bs m.sw.size (begin run input program) answer) none
+        (subst (λ (h : Outside (List ℕ)). Ran (seen old) (seen h) owed m.sw.size (begin run input program) answer) is_new
+        (subst (λ (h : Outside (List ℕ)). Ran (seen h) (seen b) owed m.sw.size (begin run input program) answer) is_old ran))
 
-    ended_by : (events : List Event) (last : Config) (e : End) → Reaches (begin run program) events last → Steps last (Stops e) → total ≡ events ++ Finish e last.store.counted ∷ []
-    ended_by events last e way s = stops_at_the_end total (begin run program) last events e r.runs way s
+    ended_by : (events : List Event) (last : Config) (e : End) → Reaches (begin run input program) events last → Steps last (Stops e) → total ≡ events ++ Finish e last.store.counted ∷ []
+    ended_by events last e way s = stops_at_the_end total (begin run input program) last events e r.runs way s
 
     -- the run isn't damaged
     pub never_damaged : RanTo (Err Damaged) → ⊥
-    never_damaged (damaged {events = events} {last = last} way s tells) = is_never_stuck total (begin run program) last events r.runs way s
+    never_damaged (damaged {events = events} {last = last} way s tells) = is_never_stuck total (begin run input program) last events r.runs way s
 
     -- where it ended all was told, and the end is the program's
-    pub all_told : (e : RunEnd) (answered : ℕ) → answered ≡ status_of (end_of e) → RanTo (Ok e) → AnswersRun clock told faults old new run program answered
+    pub all_told : (e : RunEnd) (answered : ℕ) → answered ≡ status_of (end_of e) → RanTo (Ok e) → AnswersRun old new run input program answered
     all_told e answered is_status (ended {events = events} {last = last} way s tells) =
         let is = ended_by events last (end_of e) way s in
-        let status : answered ≡ status_of (run_end run.turns [] program) = is_status ∙ ap status_of (end_is run.turns program events (end_of e) last.store.counted is) in
-        let all = subst (λ (bs : List ℕ). TellsAll clock told faults old new bs) (sym (told_to_the_end total events (end_of e) last.store.counted is)) (host_told (outputs events ++ report_of (end_of e)) tells) in
+        let status : answered ≡ status_of (run_end run.turns input program) = is_status ∙ ap status_of (end_is run.turns input program events (end_of e) last.store.counted is) in
+        let all = subst (λ (bs : List ℕ). TellsAll old new bs) (sym (told_to_the_end total events (end_of e) last.store.counted is)) (host_told (outputs events ++ report_of (end_of e)) tells) in
         record {
           bytes = outputs total;
-          status = status_of (run_end run.turns [] program);
+          status = status_of (run_end run.turns input program);
           comes = its_end;
-          answers = subst (λ (n : ℕ). Answers clock told faults old new (outputs total) (status_of (run_end run.turns [] program)) n) (sym status) (whole all);
+          answers = subst (λ (n : ℕ). Answers old new (outputs total) (status_of (run_end run.turns input program)) n) (sym status) (whole all);
         }
 
     -- where the output failed it was behind a front of it
-    failed_in : FailsBehind clock told faults old new (outputs total) → AnswersRun clock told faults old new run program 8
-    failed_in fails = record { bytes = outputs total; status = status_of (run_end run.turns [] program); comes = its_end; answers = answers.cut fails }
+    failed_in : FailsBehind old new (outputs total) → AnswersRun old new run input program 8
+    failed_in fails = record { bytes = outputs total; status = status_of (run_end run.turns input program); comes = its_end; answers = answers.cut fails }
 
-    pub front_told : RanTo (Err Output) → AnswersRun clock told faults old new run program 8
+    pub front_told : RanTo (Err Output) → AnswersRun old new run input program 8
     front_told (cut {events = events} {last = last} way fails) =
-        let front = front_on_the_way total (begin run program) last events r.runs way in
+        let front = front_on_the_way total (begin run input program) last events r.runs way in
         let is : outputs total ≡ outputs events ++ outputs front.0 = ap outputs front.1 ∙ outputs-append events front.0 in
-        failed_in (subst (λ (bs : List ℕ). FailsBehind clock told faults old new bs) (sym is) (fails_more clock told faults (outputs front.0) (host_failed (outputs events) fails)))
+        failed_in (subst (λ (bs : List ℕ). FailsBehind old new bs) (sym is) (fails_more old new (outputs events) (outputs front.0) (host_failed (outputs events) fails)))
     front_told (report_cut {events = events} {last = last} e way s fails) =
-        failed_in (subst (λ (bs : List ℕ). FailsBehind clock told faults old new bs) (sym (told_to_the_end total events (end_of e) last.store.counted (ended_by events last (end_of e) way s)))
+        failed_in (subst (λ (bs : List ℕ). FailsBehind old new bs) (sym (told_to_the_end total events (end_of e) last.store.counted (ended_by events last (end_of e) way s)))
         (host_failed (outputs events ++ report_of (end_of e)) fails))
 
     -- where the area was full, the next event counts more than it has
-    pub fills : (top wanted size : ℕ) → RanTo (Err (Full top wanted size)) → (before : List Event) × FillsArea run program before top wanted × TellsAll clock told faults old new (outputs before) × (size ≡ area_size run)
+    pub fills : (top wanted size : ℕ) → RanTo (Err (Full top wanted size)) → (before : List Event) × FillsArea run input program before top wanted × TellsAll old new (outputs before) × (size ≡ area_size run)
     fills top wanted size (full {events = events} {last = last} {next = next} way s short passed tells) =
-        let behind = follow total last next events [] (on_the_way total (begin run program) last [] events r.runs way) s in
-        let counted = next_counted_behind (begin run program) last next events refl way s in
-        let first = next_counted total next (events ++ []) behind counted in
+        let behind = follow total last next events [] (on_the_way total (begin run input program) last [] events r.runs way) s in
+        let first = next_counted total next (events ++ []) behind in
         let area = r.area in
         let counts = first.3 in (
           events,
@@ -235,16 +209,16 @@ module _ {H : Type 0} (clock : H → ℕ) (told : H → ℕ → List ℕ → Typ
         )
 
 -- and the line behind it
-pub full_told : {H : Type 0} (clock : H → ℕ) (told : H → ℕ → List ℕ → Type 0) (faults : H → ℕ) (old mid new : H) (run : RunOf) (program : BodyNode) (before : List Event) (top wanted size answered : ℕ)
-    → FillsArea run program before top wanted → size ≡ area_size run → TellsAll clock told faults old mid (outputs before) → Answers clock told faults mid new (area_full_line top wanted size) 11 answered
-    → AnswersRun clock told faults old new run program answered
-full_told clock told faults old mid new run program before top wanted size answered fills is first line = record {
+pub full_told : (old mid new : Outside (List ℕ)) (run : RunOf) (input : List ℕ) (program : BodyNode) (before : List Event) (top wanted size answered : ℕ)
+    → FillsArea run input program before top wanted → size ≡ area_size run → TellsAll old mid (outputs before) → Answers mid new (area_full_line top wanted size) 11 answered
+    → AnswersRun old new run input program answered
+full_told old mid new run input program before top wanted size answered fills is first line = record {
   bytes = outputs before ++ area_full_line top wanted (area_size run);
   status = 11;
   comes = area_full fills;
-  answers = behind answered (subst (λ (n : ℕ). Answers clock told faults mid new (area_full_line top wanted n) 11 answered) is line);
+  answers = behind answered (subst (λ (n : ℕ). Answers mid new (area_full_line top wanted n) 11 answered) is line);
 }
   where
-    behind : (n : ℕ) → Answers clock told faults mid new (area_full_line top wanted (area_size run)) 11 n → Answers clock told faults old new (outputs before ++ area_full_line top wanted (area_size run)) 11 n
-    behind n (answers.whole all) = answers.whole (all_then clock told faults first all)
-    behind n (answers.cut fails) = answers.cut (fails_then clock told faults first fails)
+    behind : (n : ℕ) → Answers mid new (area_full_line top wanted (area_size run)) 11 n → Answers old new (outputs before ++ area_full_line top wanted (area_size run)) 11 n
+    behind n (answers.whole all) = answers.whole (all_then old mid new (outputs before) (area_full_line top wanted (area_size run)) first all)
+    behind n (answers.cut fails) = answers.cut (fails_then old mid new (outputs before) (area_full_line top wanted (area_size run)) first fails)

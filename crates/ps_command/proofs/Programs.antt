@@ -1,6 +1,7 @@
 -- What is so of the program that a text is.
 use Rattle.std.proofs.Common.{◌≡◌, ℕ, ◌≤◌, Bool, true, false, List, [], Option, Some, None, refl, subst}
 use Rattle.std.specs.Prelude.{nat_lt, if◌then◌else◌}
+use Rattle.std.specs.List.{AllByRecursion}
 use Rattle.std.proofs.lemmas.Bool.{ltb-false}
 use Rattle.ps_base.specs.TyView as types
 use Rattle.ps_base.specs.CodeUnit.{unit_view}
@@ -15,7 +16,8 @@ use Rattle.ps_typing.specs.Program.{end_line, most_slots, bodies, first_complex,
 use Rattle.ps_typing_laws.proofs.OfProgram.{program_typed}
 use Rattle.ps_text_laws.proofs.LetsRead.{lets_are_items}
 use Rattle.ps_leaf_laws.proofs.LeavesRead.{leaves_fit}
-use Rattle.ps_built_laws.proofs.FreeOfProgram.{program_runs}
+use Rattle.ps_fit_laws.proofs.Bodies.{program_bodies_valued}
+use Rattle.ps_built_laws.proofs.OfProgram.{program_runs}
 use Rattle.ps_gen.specs.Units.{unit_of, HasUnit}
 use Rattle.ps_command.specs.Source.{IsProgram}
 use Rattle.ps_command.specs.inside.Steps.{IsRunnable}
@@ -35,17 +37,22 @@ not_complex : (b : Bool) (fault : Fault) (rest : Option Fault) → (if b then So
 not_complex true fault rest e = absurd (let both : Some fault ≡ None = e in cc)
 not_complex false fault rest e = refl
 
-first_fits : (p : BodyNode) → first_complex (bodies p) ≡ None → slot_count p ≤ most_slots
+pub first_fits : (p : BodyNode) → first_complex (bodies p) ≡ None → slot_count p ≤ most_slots
 first_fits (body params gives tree scope line) e =
     let p = body params gives tree scope line in
     ltb-false most_slots (slot_count p) (not_complex (nat_lt most_slots (slot_count p)) (TooComplex (line_of_body p) (slot_count p)) _ e)
 
 -- the program of a text can be run, where this is its unit
-pub runnable : (text : List ℕ) (unit : CodeUnit) (program : BodyNode) → IsProgram text program → unit_view unit ≡ unit_of program → HasUnit program → IsRunnable unit program
-runnable text unit program is unit_is has_unit = record {
-  typed = program_typed is.phrase program (lets_are_items text is.tokens is.phrase is.read) is.typed;
-  runs = program_runs is.phrase program is.free is.typed (leaves_fit text is.tokens is.phrase is.scanned is.read) is.built;
-  fits = first_fits program (of_outcome program (wants types.Void (end_line is.phrase) (check library_names is.phrase)) is.typed);
-  has_unit = has_unit;
-  unit_is = unit_is;
-}
+pub runnable : (text : List ℕ) (unit : CodeUnit) (program : BodyNode) → IsProgram text program → unit_view unit ≡ unit_of program →
+    AllByRecursion HasUnit (bodies program) → IsRunnable unit program
+runnable text unit program is unit_is units =
+    let lets = lets_are_items text is.tokens is.phrase is.read in
+    let leaves = leaves_fit text is.tokens is.phrase is.scanned is.read in
+    record {
+      typed = program_typed is.phrase program lets is.typed;
+      runs = program_runs is.phrase program lets is.typed leaves is.built;
+      valued = program_bodies_valued is.phrase program leaves is.typed;
+      simple = of_outcome program (wants types.Void (end_line is.phrase) (check library_names is.phrase)) is.typed;
+      units = units;
+      unit_is = unit_is;
+    }

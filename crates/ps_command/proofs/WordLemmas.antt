@@ -1,11 +1,11 @@
--- Digits that are a number, and words that are too few.
-use Rattle.std.proofs.Common.{String, Global, ◌≡◌, ℕ, ◌≤◌, Bool, true, false, List, [], ◌∷◌, length, Some, None, refl, sym, ap, ◌∙◌, subst, arith}
+-- Digits that are a number.
+use Rattle.std.proofs.Common.{◌≡◌, ℕ, ◌≤◌, Bool, true, false, List, length, Some, None, refl, sym, ap, ◌∙◌, subst}
 use Rattle.std.specs.Prelude.{◌&&◌, if◌then◌else◌}
 use Rattle.std.specs.List.{list_all}
 use Rattle.std.specs.Char.{is_ascii_digit}
 use Rattle.std.proofs.lemmas.Bool.{le-leb}
 use Rattle.ps_scan.specs.Class.{decimal}
-use Rattle.ps_command.specs.Words.{words_of, command_of, number_of}
+use Rattle.ps_command.specs.Words.{number_of}
 
 if_all : {A : Type 0} (p q r s t : Bool) (x y : A) → p ≡ true → q ≡ true → r ≡ true → s ≡ true → t ≡ true → (if (p && q) && (r && (s && t)) then x else y) ≡ x
 if_all true true true true true x y hp hq hr hs ht = refl
@@ -22,21 +22,3 @@ number_is longest least most digits value some few all is low high =
     let below : decimal digits ≤ most = subst (λ (n : ℕ). n ≤ most) is high in
     ap Some is
     ∙ sym (if_all _ _ _ _ _ (Some (decimal digits)) None (le-leb 1 (length digits) some) (le-leb (length digits) longest few) all (le-leb least (decimal digits) above) (le-leb (decimal digits) most below))
-
-pub four : (words : List (String Global)) → length words ≡ 4 → command_of (words_of words) ≡ None
-four [] h = refl
-four (a ∷ []) h = refl
-four (a ∷ b ∷ []) h = refl
-four (a ∷ b ∷ c ∷ []) h = absurd (omega arith)
-four (a ∷ b ∷ c ∷ d ∷ []) h = refl
-four (a ∷ b ∷ c ∷ d ∷ e ∷ more) h = absurd (omega arith)
-
-pub six : (words : List (String Global)) → length words ≡ 6 → command_of (words_of words) ≡ None
-six [] h = refl
-six (a ∷ []) h = refl
-six (a ∷ b ∷ []) h = refl
-six (a ∷ b ∷ c ∷ []) h = absurd (omega arith)
-six (a ∷ b ∷ c ∷ d ∷ []) h = refl
-six (a ∷ b ∷ c ∷ d ∷ e ∷ []) h = absurd (omega arith)
-six (a ∷ b ∷ c ∷ d ∷ e ∷ f ∷ []) h = refl
-six (a ∷ b ∷ c ∷ d ∷ e ∷ f ∷ g ∷ more) h = absurd (omega arith)

@@ -3,6 +3,7 @@ use Rattle.std.specs.Prelude.{◌≡◌, ℕ, ◌+◌, ◌*◌, ◌<◌, ◌≤�
 use Rattle.ps_base.specs.declared.TheConstants.{LONGEST_TEXT}
 use Rattle.ps_base.specs.declared.line.Line.{Line}
 use Rattle.ps_program.specs.Node.{BodyNode}
+use Rattle.ps_outside.specs.Outside.{Outside}
 use Rattle.ps_port.specs.Texts.{IsTextOf}
 use Rattle.ps_meaning.specs.Event.{Event, count_of, outputs, status_of}
 use Rattle.ps_meaning.specs.Runs.{run_events, run_end}
@@ -23,24 +24,40 @@ pub record GivesTooLong (holds : List ℕ → Type 0) (lacks : Type 0) (size : �
   pub given : (text : List ℕ) → holds text → size ≡ length text
   pub long : LONGEST_TEXT < size
 
+-- the input of a run: what the shelf gives under its name, and nothing where it has none
+abbrev pub GivesInput : (List ℕ → List ℕ → Type 0) → (List ℕ → Type 0) → Option (List ℕ) → List ℕ → Type 0
+GivesInput holds lacks None input = input ≡ []
+GivesInput holds lacks (Some name) input = Gives (holds name) (lacks name) input
+
+-- it holds this text under that name, and it isn't too long
+abbrev pub HoldsInput : (List ℕ → List ℕ → Type 0) → Option (List ℕ) → List ℕ → Type 0
+HoldsInput holds None input = input ≡ []
+HoldsInput holds (Some name) input = holds name input × (length input ≤ LONGEST_TEXT)
+
 -- one more than the words of the area of a run
 abbrev pub area_size : RunOf → ℕ
 area_size run = 128 * run.area + 1
 
 -- Behind these events the area of the program is full: the bytes that are counted at the next event pass it, and the next word and the words of the
 -- object that was to be made are more than its size.
-pub record FillsArea (run : RunOf) (program : BodyNode) (before : List Event) (top wanted : ℕ) : Type 0 where
+pub record FillsArea (run : RunOf) (input : List ℕ) (program : BodyNode) (before : List Event) (top wanted : ℕ) : Type 0 where
   pub next : Event
   pub rest : List Event
-  pub events_are : run_events run.turns [] program ≡ before ++ next ∷ rest
+  pub events_are : run_events run.turns input program ≡ before ++ next ∷ rest
   pub passed : 1024 * run.area < count_of next
   pub short : area_size run < top + wanted
 
--- What a program tells in a run, and the status of its end: it comes to its end, or its area is full.
-pub data RunsTo (run : RunOf) (program : BodyNode) : List ℕ → ℕ → Type 0 where
-  its_end : RunsTo run program (outputs (run_events run.turns [] program)) (status_of (run_end run.turns [] program))
-  area_full : {before : List Event} {top wanted : ℕ} → FillsArea run program before top wanted →
-      RunsTo run program (outputs before ++ area_full_line top wanted (area_size run)) 11
+-- What a program tells in a run with this input, and the status of its end: it comes to its end, or its area is full.
+pub data RunsTo (run : RunOf) (input : List ℕ) (program : BodyNode) : List ℕ → ℕ → Type 0 where
+  its_end : RunsTo run input program (outputs (run_events run.turns input program)) (status_of (run_end run.turns input program))
+  area_full : {before : List Event} {top wanted : ℕ} → FillsArea run input program before top wanted →
+      RunsTo run input program (outputs before ++ area_full_line top wanted (area_size run)) 11
+
+-- the shelf gives the text of a run, and it is this program
+pub record GivesProgram (holds : List ℕ → List ℕ → Type 0) (lacks : List ℕ → Type 0) (run : RunOf) (program : BodyNode) : Type 0 where
+  pub text : List ℕ
+  pub gives : Gives (holds run.file) (lacks run.file) text
+  pub is : IsProgram text program
 
 -- What the words ask for, over a shelf that holds these texts and lacks these names, calls for these bytes
 -- to be told and this status to be answered. `failed` says that the shelf's faults rose in this call.
@@ -53,27 +70,38 @@ pub data Due (asked : Option RunOf) (holds : List ℕ → List ℕ → Type 0) (
   too_long : {run : RunOf} {size : ℕ} → asked ≡ Some run → GivesTooLong (holds run.file) (lacks run.file) size → Due asked holds lacks failed (too_long_line run.file size) 13
   -- the text is no program: its first fault
   refused : {run : RunOf} {text stage : List ℕ} {number : ℕ} {line : Line} → asked ≡ Some run → Gives (holds run.file) (lacks run.file) text → IsSourceFault text stage number line → Due asked holds lacks failed (fault_line run.file stage number line) 2
+  -- the text is a program, and its input couldn't be read
+  no_input : {run : RunOf} {program : BodyNode} {name : List ℕ} → asked ≡ Some run → GivesProgram holds lacks run program → run.input ≡ Some name →
+      failed → Due asked holds lacks failed (unreadable_line name) 7
+  -- the text is a program, and its input is too long
+  long_input : {run : RunOf} {program : BodyNode} {name : List ℕ} {size : ℕ} → asked ≡ Some run → GivesProgram holds lacks run program →
+      run.input ≡ Some name → GivesTooLong (holds name) (lacks name) size → Due asked holds lacks failed (too_long_line name size) 13
   -- there was no memory, before the first event
   no_memory : Due asked holds lacks failed memory_line 5
   -- the program was run
-  ran : {run : RunOf} {text : List ℕ} {program : BodyNode} {bytes : List ℕ} {status : ℕ} → asked ≡ Some run → Gives (holds run.file) (lacks run.file) text →
-      IsProgram text program → RunsTo run program bytes status → Due asked holds lacks failed bytes status
+  ran : {run : RunOf} {program : BodyNode} {input bytes : List ℕ} {status : ℕ} → asked ≡ Some run → GivesProgram holds lacks run program →
+      GivesInput holds lacks run.input input → RunsTo run input program bytes status → Due asked holds lacks failed bytes status
 
 -- something is due, and it is answered
-pub record Why {H : Type 0} (clock : H → ℕ) (told : H → ℕ → List ℕ → Type 0) (faults : H → ℕ) (old new : H) (asked : Option RunOf) (holds : List ℕ → List ℕ → Type 0) (lacks : List ℕ → Type 0) (failed : Type 0) (answered : ℕ) : Type 0 where
+pub record Why (old new : Outside (List ℕ)) (asked : Option RunOf) (holds : List ℕ → List ℕ → Type 0) (lacks : List ℕ → Type 0) (failed : Type 0) (answered : ℕ) : Type 0 where
   pub bytes : List ℕ
   pub status : ℕ
   pub due : Due asked holds lacks failed bytes status
-  pub answers : Answers clock told faults old new bytes status answered
+  pub answers : Answers old new bytes status answered
 
--- What is due is this; or there was no memory; or the shelf's faults rose.
-pub data Gets (file : List ℕ) (failed : Type 0) (told : List ℕ) (due : ℕ) : List ℕ → ℕ → Type 0 where
-  own : Gets file failed told due told due
-  no_memory : Gets file failed told due memory_line 5
-  unreadable : failed → Gets file failed told due (unreadable_line file) 7
+-- the names that a run reads: that of its text, and that of its input
+pub data IsRead (run : RunOf) : List ℕ → Type 0 where
+  text : IsRead run run.file
+  input : {name : List ℕ} → run.input ≡ Some name → IsRead run name
 
--- What is due is what the program comes to; or there was no memory; or the shelf's faults rose.
-pub data GetsRun (run : RunOf) (program : BodyNode) (failed : Type 0) : List ℕ → ℕ → Type 0 where
-  own : {bytes : List ℕ} {status : ℕ} → RunsTo run program bytes status → GetsRun run program failed bytes status
-  no_memory : GetsRun run program failed memory_line 5
-  unreadable : failed → GetsRun run program failed (unreadable_line run.file) 7
+-- What is due is this; or there was no memory; or one of these names couldn't be read, and the shelf's faults rose.
+pub data Gets (read : List ℕ → Type 0) (failed : Type 0) (told : List ℕ) (due : ℕ) : List ℕ → ℕ → Type 0 where
+  own : Gets read failed told due told due
+  no_memory : Gets read failed told due memory_line 5
+  unreadable : {name : List ℕ} → read name → failed → Gets read failed told due (unreadable_line name) 7
+
+-- What is due is what the program comes to with this input; or there was no memory; or a name couldn't be read, and the shelf's faults rose.
+pub data GetsRun (run : RunOf) (input : List ℕ) (program : BodyNode) (failed : Type 0) : List ℕ → ℕ → Type 0 where
+  own : {bytes : List ℕ} {status : ℕ} → RunsTo run input program bytes status → GetsRun run input program failed bytes status
+  no_memory : GetsRun run input program failed memory_line 5
+  unreadable : {name : List ℕ} → IsRead run name → failed → GetsRun run input program failed (unreadable_line name) 7

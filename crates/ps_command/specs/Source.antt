@@ -10,20 +10,17 @@ use Rattle.ps_tree.specs.Phrase.{Phrase}
 use Rattle.ps_parse.specs.Program.{ReadsAs, IsParseFault}
 use Rattle.ps_tree.specs.Fault as parsing
 use Rattle.ps_built.specs.Library.{first_unbuilt_library}
-use Rattle.ps_built.specs.Procedures.{first_procedure}
 use Rattle.ps_program.specs.Node.{BodyNode}
 use Rattle.ps_typing.specs.Fault.{Fault}
 use Rattle.ps_typing.specs.Fault as fault
 use Rattle.ps_typing.specs.Program.{check_program, Typed, Fails}
 
--- The text has these tokens, they read as a tree without a form for procedures, and it is typed: this program, each of whose calls of the
--- library is built.
+-- The text has these tokens, they read as a tree, and it is typed: this program, each of whose calls of the library is built.
 pub record IsProgram (text : List ℕ) (program : BodyNode) : Type 0 where
   pub tokens : List Token
   pub phrase : Phrase
   pub scanned : HasTokens text tokens
   pub read : ReadsAs text tokens phrase
-  pub free : first_procedure phrase ≡ None
   pub typed : check_program phrase ≡ Typed program
   pub built : first_unbuilt_library program ≡ None
 
@@ -46,14 +43,12 @@ line_of (fault.NotApplicable line) = line
 line_of (fault.Limit line count) = line
 line_of (fault.TooComplex line count) = line
 
--- The first fault of a tree in the check, with its number and its line. A form for procedures, which don't run yet, is a fault before all
--- typing rules, and a call of a library procedure that isn't built yet is one behind them all.
+-- The first fault of a tree in the check, with its number and its line. A call of a library procedure that isn't built yet is one behind all
+-- typing rules.
 pub data IsCheckFault (phrase : Phrase) : ℕ → Line → Type 0 where
-  for_procedures : {line : Line} → first_procedure phrase ≡ Some line → IsCheckFault phrase 8 line
-  mistyped : {fault : Fault} → first_procedure phrase ≡ None → check_program phrase ≡ Fails fault →
-      IsCheckFault phrase (number_of fault) (line_of fault)
-  unbuilt_call : {program : BodyNode} {line : Line} → first_procedure phrase ≡ None → check_program phrase ≡ Typed program →
-      first_unbuilt_library program ≡ Some line → IsCheckFault phrase 8 line
+  mistyped : {fault : Fault} → check_program phrase ≡ Fails fault → IsCheckFault phrase (number_of fault) (line_of fault)
+  unbuilt_call : {program : BodyNode} {line : Line} → check_program phrase ≡ Typed program → first_unbuilt_library program ≡ Some line →
+      IsCheckFault phrase 8 line
 
 -- The first stage at which the text is refused, with the number and the line of the first fault.
 pub data IsSourceFault (text : List ℕ) : List ℕ → ℕ → Line → Type 0 where

@@ -1,4 +1,4 @@
--- Which words are a command: `run VOLUME [--area KIB] [--turns N] FILE`.
+-- Which words are a command: `run VOLUME [--area KIB] [--turns N] [--input FILE] FILE`.
 use Rattle.std.specs.Prelude.{ℕ, ◌^◌, Bool, true, not, ◌&&◌, List, [], ◌∷◌, length, map, Option, Some, None, String, string_bytes, nat_eq, nat_le, codes, if◌then◌else◌}
 use Rattle.std.specs.declared.alloc.Global.{Global}
 use Rattle.std.specs.List.{list_all}
@@ -9,13 +9,14 @@ use Rattle.ps_scan.specs.Class.{decimal}
 abbrev pub words_of : List (String Global) → List (List ℕ)
 words_of words = map (λ word. string_bytes word) words
 
--- a run: the KiB that its area has, the turns that the program may take, and the name of its text
+-- a run: the KiB that its area has, the turns that the program may take, the name of its input, where it has one, and that of its text
 pub record RunOf : Type 0 where
   pub area : ℕ
   pub turns : ℕ
+  pub input : Option (List ℕ)
   pub file : List ℕ
 
--- neither the volume nor the file begins with `-`
+-- neither the volume nor a file begins with `-`
 abbrev pub is_plain : List ℕ → Bool
 is_plain [] = true
 is_plain (byte ∷ bytes) = not (nat_eq byte 45)
@@ -41,28 +42,51 @@ default_area = 16384
 abbrev pub default_turns : ℕ
 default_turns = 10 ^ 8
 
-abbrev pub run_with : List ℕ → Option ℕ → Option ℕ → Option RunOf
-run_with file (Some area) (Some turns) = Some (record { area = area; turns = turns; file = file })
-run_with file None turns = None
-run_with file (Some area) None = None
+-- an option with its value, where the words begin with it, and the words behind
+pub record OptionTaken : Type 0 where
+  pub value : Option (List ℕ)
+  pub behind : List (List ℕ)
 
-abbrev pub run_of : List ℕ → List ℕ → List ℕ → Option ℕ → Option ℕ → Option RunOf
-run_of command volume file area turns = if bytes_eq command (codes "run") && (is_plain volume && is_plain file) then run_with file area turns else None
+abbrev pub taken : List ℕ → List (List ℕ) → OptionTaken
+taken name [] = record { value = None; behind = [] }
+taken name (word ∷ []) = record { value = None; behind = word ∷ [] }
+taken name (option ∷ value ∷ words) =
+    if bytes_eq option name then record { value = Some value; behind = words } else record { value = None; behind = option ∷ value ∷ words }
 
--- with an area and turns, in this order
-abbrev pub two_given : List ℕ → List ℕ → List ℕ → List ℕ → List ℕ → List ℕ → List ℕ → Option RunOf
-two_given command volume first area second turns file =
-    if bytes_eq first (codes "--area") && bytes_eq second (codes "--turns") then run_of command volume file (area_of area) (turns_of turns) else None
+abbrev pub area_given : Option (List ℕ) → Option ℕ
+area_given None = Some default_area
+area_given (Some digits) = area_of digits
+
+abbrev pub turns_given : Option (List ℕ) → Option ℕ
+turns_given None = Some default_turns
+turns_given (Some digits) = turns_of digits
+
+abbrev pub input_given : Option (List ℕ) → Option (Option (List ℕ))
+input_given None = Some None
+input_given (Some name) = if is_plain name then Some (Some name) else None
+
+-- the last word alone is left
+abbrev pub file_given : List (List ℕ) → Option (List ℕ)
+file_given [] = None
+file_given (file ∷ []) = if is_plain file then Some file else None
+file_given (file ∷ word ∷ words) = None
+
+abbrev pub run_with : Option ℕ → Option ℕ → Option (Option (List ℕ)) → Option (List ℕ) → Option RunOf
+run_with None turns input file = None
+run_with (Some area) None input file = None
+run_with (Some area) (Some turns) None file = None
+run_with (Some area) (Some turns) (Some input) None = None
+run_with (Some area) (Some turns) (Some input) (Some file) = Some (record { area = area; turns = turns; input = input; file = file })
+
+-- behind the volume: the options in this order, each once at most, and the file
+abbrev pub run_of : List (List ℕ) → Option RunOf
+run_of words =
+    let area = taken (codes "--area") words in
+    let turns = taken (codes "--turns") area.behind in
+    let input = taken (codes "--input") turns.behind in
+    run_with (area_given area.value) (turns_given turns.value) (input_given input.value) (file_given input.behind)
 
 abbrev pub command_of : List (List ℕ) → Option RunOf
 command_of [] = None
-command_of (a ∷ []) = None
-command_of (a ∷ b ∷ []) = None
-command_of (command ∷ volume ∷ file ∷ []) = run_of command volume file (Some default_area) (Some default_turns)
-command_of (a ∷ b ∷ c ∷ d ∷ []) = None
-command_of (command ∷ volume ∷ option ∷ digits ∷ file ∷ []) =
-    if bytes_eq option (codes "--area") then run_of command volume file (area_of digits) (Some default_turns)
-    else (if bytes_eq option (codes "--turns") then run_of command volume file (Some default_area) (turns_of digits) else None)
-command_of (a ∷ b ∷ c ∷ d ∷ e ∷ f ∷ []) = None
-command_of (command ∷ volume ∷ first ∷ area ∷ second ∷ turns ∷ file ∷ []) = two_given command volume first area second turns file
-command_of (a ∷ b ∷ c ∷ d ∷ e ∷ f ∷ g ∷ h ∷ more) = None
+command_of (word ∷ []) = None
+command_of (command ∷ volume ∷ words) = if bytes_eq command (codes "run") && is_plain volume then run_of words else None

@@ -1,8 +1,10 @@
 ghost use Rattle.std.specs.Prelude.{◌≡◌, ◌≤◌, length, IfOk, IfErr};
+ghost use Rattle.std.specs.List.{AllByRecursion};
 ghost use Rattle.ps_base.specs.CodeUnit.{unit_view};
 ghost use Rattle.ps_tree.specs.Phrase.{phrase_of};
 ghost use Rattle.ps_program.specs.Node.{BodyNode};
 ghost use Rattle.ps_program.specs.NodeView.{body_of};
+ghost use Rattle.ps_typing.specs.Program.{bodies};
 ghost use Rattle.ps_gen.specs.Units.{unit_of, HasUnit};
 ghost use Rattle.ps_command.specs.Source.{IsProgram};
 ghost use Rattle.ps_command.specs.inside.Refusal.{IsChecked, Refuses, RefusesTree};
@@ -10,7 +12,7 @@ ghost use Rattle.ps_command.specs.inside.Refusal.{IsChecked, Refuses, RefusesTre
 use crate::source_fault::SourceFault;
 use ps_base::LONGEST_TEXT;
 use ps_base::code_unit::CodeUnit;
-use ps_built::{first_procedure, first_unbuilt_library};
+use ps_built::first_unbuilt_library;
 use ps_check::check::check;
 use ps_gen::generate::generate;
 use ps_parse::parse;
@@ -22,7 +24,7 @@ use std::alloc::Global;
 /// The code of the program that a text is, or its first fault.
 pub fn compile(alloc: Global, text: &[u8]) -> Result<CodeUnit, SourceFault>
     requires { length text.now ≤ LONGEST_TEXT }
-    ensures compiled { IfOk result (λ unit. (program : BodyNode) × IsProgram text.now program × (unit_view unit ≡ unit_of program) × HasUnit program) }
+    ensures compiled { IfOk result (λ unit. (program : BodyNode) × IsProgram text.now program × (unit_view unit ≡ unit_of program) × AllByRecursion HasUnit (bodies program)) }
     ensures refused { IfErr result (λ fault. Refuses text.now fault) }
 {
     let program = typed(alloc, text)?;
@@ -49,14 +51,11 @@ fn typed(alloc: Global, text: &[u8]) -> Result<Program, SourceFault>
     checked(alloc, &rough)
 }
 
-// The typed program of a tree: no form for procedures stands in it, and each of its calls of the library is built.
+// The typed program of a tree, each of whose calls of the library is built.
 fn checked(alloc: Global, rough: &Rough) -> Result<Program, SourceFault>
     ensures checked { IfOk result (λ program. IsChecked (phrase_of rough.now) (body_of program.body)) }
     ensures refused { IfErr result (λ fault. RefusesTree (phrase_of rough.now) fault) }
 {
-    if let Some(line) = first_procedure(rough) {
-        return Err(SourceFault::NotBuilt { line });
-    }
     let program = match check(alloc, rough) {
         Ok(program) => program,
         Err(fault) => return Err(SourceFault::Check(fault)),

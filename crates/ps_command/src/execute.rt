@@ -5,15 +5,11 @@ ghost use Rattle.ps_meaning.specs.Event.{status_of};
 ghost use Rattle.machine_state.specs.Stepped.{end_of};
 ghost use Rattle.stack_machine.specs.Loaded.{IsRoomy, Loads};
 ghost use Rattle.ps_command.specs.Words.{RunOf};
-ghost use Rattle.ps_command.specs.inside.Refusal.{Refuses};
-ghost use Rattle.ps_command.specs.inside.Steps.{TextWhy, ProgramWhy, IsRunnable, IsReady, IsArea, run_in};
+ghost use Rattle.ps_command.specs.inside.Steps.{ProgramWhy, IsRunnable, IsReady, IsArea, run_in};
 
-use crate::compile::compile;
 use crate::report;
-use crate::source_fault::SourceFault;
 use crate::words::RunWords;
 use no_store::NoStore;
-use ps_base::LONGEST_TEXT;
 use ps_base::code_unit::CodeUnit;
 use ps_code_laws::program_runs_as_meant;
 use ps_port::Host;
@@ -24,36 +20,17 @@ use stack_machine::{Machine, RunEnd};
 use std::alloc::{AllocError, Global};
 use vault_output::Output;
 
-/// Runs a text, or tells its first fault, and answers the status beside the host.
-pub fn run_text<H: Host>(alloc: Global, words: &RunWords, text: &[u8], host: H) -> (u8, H)
-    requires short { length text.now ≤ LONGEST_TEXT }
-    requires area { IsArea (run_in words.now) }
-    ensures { TextWhy H.clock H.told H.output_faults host result.1 (run_in words.now) text.now result.0 }
-{
-    match compile(alloc, text) {
-        Ok(unit) => run_program(alloc, words, unit, host),
-        Err(fault) => {
-            let mut host = host;
-            let status = refuse(words.file, &fault, &mut host);
-            (status, host)
-        }
-    }
-}
-
-fn refuse<H: Host>(file: &str, fault: &SourceFault, host: &mut H) -> u8
-    ensures { (area turns : ℕ) (text : List ℕ) → length text ≤ LONGEST_TEXT → Refuses text fault.now → TextWhy H.clock H.told H.output_faults host.old host.new (record { area = area; turns = turns; file = file.now }) text result }
-{
-    match (fault.number(), fault.line()) {
-        (Some(number), Some(line)) => report::fault(host, file, fault.stage(), number, line),
-        _ => report::no_memory(host),
-    }
-}
-
-// All memory is taken here, before the first event.
-fn run_program<H: Host>(alloc: Global, words: &RunWords, unit: CodeUnit, host: H) -> (u8, H)
+/// Runs the unit of a program over an input, and answers the status beside the host. All memory is taken here, before the first event.
+pub fn run_program<H: Host>(
+    alloc: Global,
+    words: &RunWords,
+    unit: CodeUnit,
+    input: Vec<u8>,
+    host: H,
+) -> (u8, H)
     requires program { (program : BodyNode) × IsRunnable unit program }
     requires area { IsArea (run_in words.now) }
-    ensures { (program : BodyNode) → IsRunnable unit program → ProgramWhy H.clock H.told H.output_faults host result.1 (run_in words.now) program result.0 }
+    ensures { (program : BodyNode) → IsRunnable unit program → ProgramWhy (H.outside host) (H.outside result.1) (run_in words.now) input.items program result.0 }
 {
     program_runs_as_meant();
     units_weigh_as_counted();
@@ -66,7 +43,7 @@ fn run_program<H: Host>(alloc: Global, words: &RunWords, unit: CodeUnit, host: H
         let status = report::no_memory(&mut host);
         return (status, host);
     };
-    match loaded(&mut m, unit, words.turns) {
+    match loaded(&mut m, unit, words.turns, input) {
         Ok(()) => run_loaded(m, output, host),
         Err(LoadFault::Full { top, wanted, size }) => {
             let status = report::area_full(&mut host, top, wanted, size);
@@ -77,18 +54,18 @@ fn run_program<H: Host>(alloc: Global, words: &RunWords, unit: CodeUnit, host: H
 }
 
 // Puts the unit into the machine, and lets it go: the code is run from the area.
-fn loaded(m: &mut Machine, unit: CodeUnit, turns: u64) -> Result<(), LoadFault>
+fn loaded(m: &mut Machine, unit: CodeUnit, turns: u64, input: Vec<u8>) -> Result<(), LoadFault>
     requires { IsRoomy m.old }
-    ensures { Loads (unit_view unit) turns m.old m.new result }
+    ensures { Loads (unit_view unit) turns input.items m.old m.new result }
 {
-    load(m, &unit, turns)
+    load(m, &unit, turns, input)
 }
 
 // Runs what is loaded.
 fn run_loaded<H: Host>(m: Machine, output: Output, host: H) -> (u8, H)
-    requires ready { (run : RunOf) × (program : BodyNode) × IsReady run program m }
+    requires ready { (run : RunOf) × (input : List ℕ) × (program : BodyNode) × IsReady run input program m }
     requires owed { output ≡ [] }
-    ensures { (run : RunOf) (program : BodyNode) → IsReady run program m → ProgramWhy H.clock H.told H.output_faults host result.1 run program result.0 }
+    ensures { (run : RunOf) (input : List ℕ) (program : BodyNode) → IsReady run input program m → ProgramWhy (H.outside host) (H.outside result.1) run input program result.0 }
 {
     let mut m = m;
     let mut output = output;

@@ -1,9 +1,9 @@
 ghost use Rattle.std.specs.Prelude.{◌≡◌, ◌≤◌, ◌<◌, List, ℕ, Option, Some, None, [], length};
 ghost use Rattle.ps_program.specs.Node.{BodyNode};
 ghost use Rattle.ps_base.specs.declared.line.Line.{Line};
-ghost use Rattle.ps_port.specs.Told.{Rose};
+ghost use Rattle.ps_outside.specs.Outside.{Rose};
 ghost use Rattle.ps_command.specs.Answering.{Answers};
-ghost use Rattle.ps_command.specs.Command.{Due, Gets, GetsRun};
+ghost use Rattle.ps_command.specs.Command.{Due, Gets, GetsRun, HoldsInput, IsRead};
 ghost use Rattle.ps_command.specs.Reports.{usage_line, unreadable_line, too_long_line, fault_line};
 ghost use Rattle.ps_command.specs.Source.{IsProgram, IsSourceFault};
 ghost use Rattle.ps_command.specs.Words.{RunOf};
@@ -13,29 +13,40 @@ use ps_port::{Host, Shelf};
 
 /// Words that are no command get the usage line and 1, or the refusal for want of memory.
 pub fn no_command_gets_usage<S: Shelf>(shelf: &S)
-    ensures { (before after status : ℕ) (bytes : List ℕ) → Due None (S.holds shelf.now) (S.lacks shelf.now) (Rose before after) bytes status → Gets [] ⊥ usage_line 1 bytes status }
+    ensures { (before after status : ℕ) (bytes : List ℕ) → Due None (S.holds shelf.now) (S.lacks shelf.now) (Rose before after) bytes status → Gets (λ name. ⊥) ⊥ usage_line 1 bytes status }
 {}
 
 /// A name that the shelf lacks gets 7, or the refusal for want of memory.
 pub fn lacked_name_is_unreadable<S: Shelf>(shelf: &S)
-    ensures { (before after status : ℕ) (bytes : List ℕ) (run : RunOf) → S.lacks shelf.now run.file → Due (Some run) (S.holds shelf.now) (S.lacks shelf.now) (Rose before after) bytes status → Gets run.file (Rose before after) (unreadable_line run.file) 7 bytes status }
+    ensures { (before after status : ℕ) (bytes : List ℕ) (run : RunOf) → S.lacks shelf.now run.file → Due (Some run) (S.holds shelf.now) (S.lacks shelf.now) (Rose before after) bytes status → Gets (λ name. name ≡ run.file) (Rose before after) (unreadable_line run.file) 7 bytes status }
 {}
 
 /// A text that the shelf holds and that is too long gets 13; or there was no memory, or the shelf failed.
 pub fn long_text_is_refused<S: Shelf>(shelf: &S)
-    ensures { (before after status : ℕ) (bytes text : List ℕ) (run : RunOf) → S.holds shelf.now run.file text → LONGEST_TEXT < length text → Due (Some run) (S.holds shelf.now) (S.lacks shelf.now) (Rose before after) bytes status → Gets run.file (Rose before after) (too_long_line run.file (length text)) 13 bytes status }
+    ensures { (before after status : ℕ) (bytes text : List ℕ) (run : RunOf) → S.holds shelf.now run.file text → LONGEST_TEXT < length text → Due (Some run) (S.holds shelf.now) (S.lacks shelf.now) (Rose before after) bytes status → Gets (λ name. name ≡ run.file) (Rose before after) (too_long_line run.file (length text)) 13 bytes status }
 {}
 
 /// A text that the shelf holds and that has a first fault gets 2, with the stage, the number and the line
 /// of that fault; or there was no memory, or the shelf failed. It is never run.
 pub fn first_fault_is_told<S: Shelf>(shelf: &S)
-    ensures { (before after status : ℕ) (bytes text stage : List ℕ) (run : RunOf) (number : ℕ) (line : Line) → S.holds shelf.now run.file text → length text ≤ LONGEST_TEXT → IsSourceFault text stage number line → Due (Some run) (S.holds shelf.now) (S.lacks shelf.now) (Rose before after) bytes status → Gets run.file (Rose before after) (fault_line run.file stage number line) 2 bytes status }
+    ensures { (before after status : ℕ) (bytes text stage : List ℕ) (run : RunOf) (number : ℕ) (line : Line) → S.holds shelf.now run.file text → length text ≤ LONGEST_TEXT → IsSourceFault text stage number line → Due (Some run) (S.holds shelf.now) (S.lacks shelf.now) (Rose before after) bytes status → Gets (λ name. name ≡ run.file) (Rose before after) (fault_line run.file stage number line) 2 bytes status }
 {}
 
-/// A text that the shelf holds and that is a program is run: what is due is what that program comes to, which is its end, or that its area
-/// is full; or there was no memory, or the shelf failed. It is never refused.
+/// A text that the shelf holds and that is a program is run, where the shelf holds its input too, or it has none: what is due is what that program
+/// comes to with that input, which is its end, or that its area is full; or there was no memory, or the shelf failed. It is never refused.
 pub fn program_is_run<S: Shelf>(shelf: &S)
-    ensures { (before after status : ℕ) (bytes text : List ℕ) (run : RunOf) (program : BodyNode) → S.holds shelf.now run.file text → length text ≤ LONGEST_TEXT → IsProgram text program → Due (Some run) (S.holds shelf.now) (S.lacks shelf.now) (Rose before after) bytes status → GetsRun run program (Rose before after) bytes status }
+    ensures { (before after status : ℕ) (bytes text input : List ℕ) (run : RunOf) (program : BodyNode) → S.holds shelf.now run.file text → length text ≤ LONGEST_TEXT → IsProgram text program → HoldsInput (S.holds shelf.now) run.input input → Due (Some run) (S.holds shelf.now) (S.lacks shelf.now) (Rose before after) bytes status → GetsRun run input program (Rose before after) bytes status }
+{}
+
+/// A program whose input is a name that the shelf lacks gets 7, with that name; or there was no memory, or the shelf failed.
+pub fn lacked_input_is_unreadable<S: Shelf>(shelf: &S)
+    ensures { (before after status : ℕ) (bytes text name : List ℕ) (run : RunOf) (program : BodyNode) → S.holds shelf.now run.file text → length text ≤ LONGEST_TEXT → IsProgram text program → run.input ≡ Some name → S.lacks shelf.now name → Due (Some run) (S.holds shelf.now) (S.lacks shelf.now) (Rose before after) bytes status → Gets (IsRead run) (Rose before after) (unreadable_line name) 7 bytes status }
+{}
+
+/// A program whose input is a text that the shelf holds and that is too long gets 13, with the name and the size of that text; or there was no
+/// memory, or the shelf failed.
+pub fn long_input_is_refused<S: Shelf>(shelf: &S)
+    ensures { (before after status : ℕ) (bytes text name input : List ℕ) (run : RunOf) (program : BodyNode) → S.holds shelf.now run.file text → length text ≤ LONGEST_TEXT → IsProgram text program → run.input ≡ Some name → S.holds shelf.now name input → LONGEST_TEXT < length input → Due (Some run) (S.holds shelf.now) (S.lacks shelf.now) (Rose before after) bytes status → Gets (IsRead run) (Rose before after) (too_long_line name (length input)) 13 bytes status }
 {}
 
 /// A text has at most one first fault, of one stage, one number and one line.
@@ -50,6 +61,6 @@ pub fn program_excludes_fault()
 
 /// The output's count of faults doesn't fall in a call; and where it rose, 8 stands in place of the status.
 pub fn output_fault_gets_8<H: Host>(before: &H, after: &H)
-    ensures never_falls { (due : List ℕ) (status answered : ℕ) → Answers H.clock H.told H.output_faults before.now after.now due status answered → H.output_faults before.now ≤ H.output_faults after.now }
-    ensures stands { (due : List ℕ) (status answered : ℕ) → Answers H.clock H.told H.output_faults before.now after.now due status answered → H.output_faults before.now < H.output_faults after.now → answered ≡ 8 }
+    ensures never_falls { (due : List ℕ) (status answered : ℕ) → Answers (H.outside before.now) (H.outside after.now) due status answered → (H.outside before.now).output_faults ≤ (H.outside after.now).output_faults }
+    ensures stands { (due : List ℕ) (status answered : ℕ) → Answers (H.outside before.now) (H.outside after.now) due status answered → (H.outside before.now).output_faults < (H.outside after.now).output_faults → answered ≡ 8 }
 {}

@@ -12,28 +12,28 @@ pub const OUTPUT_FAULT: u8 = 8;
 
 /// Tells the usage line, and answers 1.
 pub fn usage<H: Host>(host: &mut H) -> u8
-    ensures { Answers H.clock H.told H.output_faults host.old host.new usage_line 1 result }
+    ensures { Answers (H.outside host.old) (H.outside host.new) usage_line 1 result }
 {
     answer(host, &[b"usage: psalgol COMMAND VOLUME WORDS\n"], 1)
 }
 
 /// Tells that there was no memory, and answers 5.
 pub fn no_memory<H: Host>(host: &mut H) -> u8
-    ensures { Answers H.clock H.told H.output_faults host.old host.new memory_line 5 result }
+    ensures { Answers (H.outside host.old) (H.outside host.new) memory_line 5 result }
 {
     answer(host, &[b"out of memory\n"], 5)
 }
 
 /// Tells that a text couldn't be read, and answers 7.
 pub fn unreadable<H: Host>(host: &mut H, file: &str) -> u8
-    ensures { Answers H.clock H.told H.output_faults host.old host.new (unreadable_line file.now) 7 result }
+    ensures { Answers (H.outside host.old) (H.outside host.new) (unreadable_line file.now) 7 result }
 {
     answer(host, &[b"cannot read ", file.as_bytes(), b"\n"], 7)
 }
 
 /// Tells how long a text is that is too long, and answers 13.
 pub fn too_long<H: Host>(host: &mut H, file: &str, length: u64) -> u8
-    ensures { Answers H.clock H.told H.output_faults host.old host.new (too_long_line file.now length) 13 result }
+    ensures { Answers (H.outside host.old) (H.outside host.new) (too_long_line file.now length) 13 result }
 {
     let mut of_length = Buffer::new();
     let mut of_most = Buffer::new();
@@ -49,7 +49,7 @@ pub fn too_long<H: Host>(host: &mut H, file: &str, length: u64) -> u8
 
 /// Tells the first fault of a text: its stage, its number and its line; and answers 2.
 pub fn fault<H: Host>(host: &mut H, file: &str, stage: &[u8], number: u8, line: Line) -> u8
-    ensures { Answers H.clock H.told H.output_faults host.old host.new (fault_line file.now stage.now number line) 2 result }
+    ensures { Answers (H.outside host.old) (H.outside host.new) (fault_line file.now stage.now number line) 2 result }
 {
     let mut of_number = Buffer::new();
     let mut of_line = Buffer::new();
@@ -65,7 +65,7 @@ pub fn fault<H: Host>(host: &mut H, file: &str, stage: &[u8], number: u8, line: 
 
 /// Tells that the area was full: its next word, the words of the object that was to be made, and its size; and answers 11.
 pub fn area_full<H: Host>(host: &mut H, top: u32, wanted: u32, size: u32) -> u8
-    ensures { Answers H.clock H.told H.output_faults host.old host.new (area_full_line top wanted size) 11 result }
+    ensures { Answers (H.outside host.old) (H.outside host.new) (area_full_line top wanted size) 11 result }
 {
     let mut of_top = Buffer::new();
     let mut of_wanted = Buffer::new();
@@ -91,7 +91,7 @@ pub fn area_full<H: Host>(host: &mut H, top: u32, wanted: u32, size: u32) -> u8
 // Tells pieces one after the other, and answers the status.
 #[tactic(auto, using(crate::specs::Answering::answering))]
 fn answer<H: Host>(host: &mut H, parts: &[&[u8]], status: u8) -> u8
-    ensures { Answers H.clock H.told H.output_faults host.old host.new (joined parts.now) status result }
+    ensures { Answers (H.outside host.old) (H.outside host.new) (joined parts.now) status result }
 {
     match tell::pieces(host, parts) {
         Ok(()) => status,

@@ -11,7 +11,7 @@ use ps_tree::fault::ParseFault;
 pub enum SourceFault {
     Scan(ScanFault),
     Parse(ParseFault),
-    /// A form or a call of the library that doesn't run yet.
+    /// A call of the library that doesn't run yet.
     NotBuilt { line: Line },
     Check(CheckFault),
     Memory,

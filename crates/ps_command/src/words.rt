@@ -1,10 +1,10 @@
-ghost use Rattle.std.specs.Prelude.{◌≡◌, ◌≤◌, ◌+◌, ◌-◌, ◌*◌, min, true, IfSome};
+ghost use Rattle.std.specs.Prelude.{◌≡◌, ◌≤◌, ◌+◌, ◌-◌, ◌*◌, min, true, IfSome, option_map};
 ghost use Rattle.std.specs.List.{AllPass};
 ghost use Rattle.std.specs.Char.{is_ascii_digit};
 ghost use Rattle.std.specs.Str.{bytes_eq};
 ghost use Rattle.ps_scan.specs.Class.{decimal};
-ghost use Rattle.ps_command.specs.Words.{words_of, command_of, run_of, two_given, is_plain, number_of, area_of, turns_of};
-ghost use Rattle.ps_command.specs.inside.Steps.{RunIs, IsArea, run_in};
+ghost use Rattle.ps_command.specs.Words.{words_of, command_of, run_of, taken as taken_of, area_given, turns_given, file_given, is_plain, number_of};
+ghost use Rattle.ps_command.specs.inside.Steps.{RunIs, IsArea, run_in, taken_in};
 
 /// The KiB of the area of a program where the words don't say.
 pub const DEFAULT_AREA: u32 = 16_384;
@@ -18,12 +18,20 @@ pub const DEFAULT_TURNS: u64 = 100_000_000;
 /// The most turns that the words may give.
 pub const MOST_TURNS: u64 = 1_000_000_000_000;
 
-/// A run: the KiB that its area has, the turns that the program may take, and the name of its text.
+/// A run: the KiB that its area has, the turns that the program may take, the name of its input, where it has one, and that of its text.
 #[derive(Drop)]
 pub struct RunWords<'a> {
     pub area_kib: u32,
     pub turns: u64,
+    pub input: Option<&'a str>,
     pub file: &'a str,
+}
+
+/// An option's value, where the words begin with it, and the words behind.
+#[derive(Drop)]
+pub(crate) struct OptionTaken<'a> {
+    pub value: Option<&'a str>,
+    pub behind: &'a [String],
 }
 
 /// The run that the words ask for, or None where they are no command (`docs/language.md`).
@@ -32,99 +40,94 @@ pub fn read_words<'a>(words: &'a [String]) -> Option<RunWords<'a>>
     ensures area { IfSome result (λ run. IsArea (run_in run)) }
 {
     match words {
-        [command, volume, file] => run_words(
-            command.as_str(),
-            volume.as_str(),
-            file.as_str(),
-            Some(DEFAULT_AREA),
-            Some(DEFAULT_TURNS),
-        ),
-        [command, volume, option, digits, file] => {
-            if option.as_str() == "--area" {
-                let area = read_area(digits.as_bytes());
-                let turns = Some(DEFAULT_TURNS);
-                return run_words(
-                    command.as_str(),
-                    volume.as_str(),
-                    file.as_str(),
-                    area,
-                    turns,
-                );
+        [command, volume, further @ ..] => {
+            if command.as_str() == "run" && is_plain_word(volume.as_str()) {
+                read_run(further)
+            } else {
+                None
             }
-            if option.as_str() != "--turns" {
-                return None;
-            }
-            let turns = read_turns(digits.as_bytes());
-            let area = Some(DEFAULT_AREA);
-            run_words(
-                command.as_str(),
-                volume.as_str(),
-                file.as_str(),
-                area,
-                turns,
-            )
         }
-        [command, volume, first, area, second, turns, file] => {
-            two_options(
-                command.as_str(),
-                volume.as_str(),
-                first.as_str(),
-                area.as_bytes(),
-                second.as_str(),
-                turns.as_bytes(),
-                file.as_str(),
-            )
+        [_] => None,
+        [] => None,
+    }
+}
+
+// The run of the words behind the volume.
+fn read_run<'a>(words: &'a [String]) -> Option<RunWords<'a>>
+    ensures run { RunIs (run_of (words_of words.now)) result }
+    ensures area { IfSome result (λ run. IsArea (run_in run)) }
+{
+    let area = taken(words, "--area");
+    let turns = taken(area.behind, "--turns");
+    let input = taken(turns.behind, "--input");
+    let area_kib = read_area(area.value)?;
+    let turns = read_turns(turns.value)?;
+    let file = read_file(input.behind)?;
+    match input.value {
+        None => Some(RunWords {
+            area_kib,
+            turns,
+            input: None,
+            file,
+        }),
+        Some(name) => {
+            if is_plain_word(name) {
+                Some(RunWords {
+                    area_kib,
+                    turns,
+                    input: Some(name),
+                    file,
+                })
+            } else {
+                None
+            }
+        }
+    }
+}
+
+// The option of this name, and the words behind it.
+fn taken<'a>(words: &'a [String], name: &str) -> OptionTaken<'a>
+    ensures { taken_in result ≡ taken_of name.now (words_of words.now) }
+{
+    match words {
+        [option, value, behind @ ..] => {
+            if option.as_str() == name {
+                OptionTaken {
+                    value: Some(value.as_str()),
+                    behind,
+                }
+            } else {
+                OptionTaken {
+                    value: None,
+                    behind: words,
+                }
+            }
+        }
+        [_] => OptionTaken {
+            value: None,
+            behind: words,
+        },
+        [] => OptionTaken {
+            value: None,
+            behind: words,
+        },
+    }
+}
+
+// The name of the text, which is the only word that is left.
+fn read_file<'a>(words: &'a [String]) -> Option<&'a str>
+    ensures { option_map (λ file. file.now) result ≡ file_given (words_of words.now) }
+{
+    match words {
+        [file] => {
+            if is_plain_word(file.as_str()) {
+                Some(file.as_str())
+            } else {
+                None
+            }
         }
         [] => None,
-        [_] => None,
-        [_, _] => None,
-        [_, _, _, _] => None,
-        [_, _, _, _, _, _] => None,
-        [_, _, _, _, _, _, _, _, ..] => None,
-    }
-}
-
-// The run with an area and turns, in this order.
-fn two_options<'a>(
-    command: &str,
-    volume: &str,
-    first: &str,
-    area: &[u8],
-    second: &str,
-    turns: &[u8],
-    file: &'a str,
-) -> Option<RunWords<'a>>
-    ensures run { RunIs (two_given command.now volume.now first.now area.now second.now turns.now file.now) result }
-    ensures area { IfSome result (λ run. IsArea (run_in run)) }
-{
-    if first != "--area" {
-        return None;
-    }
-    if second != "--turns" {
-        return None;
-    }
-    run_words(command, volume, file, read_area(area), read_turns(turns))
-}
-
-fn run_words<'a>(
-    command: &str,
-    volume: &str,
-    file: &'a str,
-    area_kib: Option<u32>,
-    turns: Option<u64>,
-) -> Option<RunWords<'a>>
-    requires { IfSome area_kib (λ kib. (1 ≤ kib) × (kib ≤ 262144)) }
-    ensures run { RunIs (run_of command.now volume.now file.now area_kib turns) result }
-    ensures area { IfSome result (λ run. IsArea (run_in run)) }
-{
-    if command == "run" && is_plain_word(volume) && is_plain_word(file) {
-        Some(RunWords {
-            area_kib: area_kib?,
-            turns: turns?,
-            file,
-        })
-    } else {
-        None
+        [_, _, ..] => None,
     }
 }
 
@@ -138,20 +141,26 @@ fn is_plain_word(word: &str) -> bool
 }
 
 // An area, in KiB.
-fn read_area(digits: &[u8]) -> Option<u32>
-    ensures area { result ≡ area_of digits.now }
+fn read_area(digits: Option<&str>) -> Option<u32>
+    ensures area { result ≡ area_given (option_map (λ digits. digits.now) digits.entry) }
     ensures bounds { IfSome result (λ kib. (1 ≤ kib) × (kib ≤ 262144)) }
 {
-    match read_number(digits, 6, 1, MOST_AREA) {
+    let Some(digits) = digits else {
+        return Some(DEFAULT_AREA);
+    };
+    match read_number(digits.as_bytes(), 6, 1, MOST_AREA) {
         Some(kib) => Some(kib as u32),
         None => None,
     }
 }
 
-fn read_turns(digits: &[u8]) -> Option<u64>
-    ensures { result ≡ turns_of digits.now }
+fn read_turns(digits: Option<&str>) -> Option<u64>
+    ensures { result ≡ turns_given (option_map (λ digits. digits.now) digits.entry) }
 {
-    read_number(digits, 13, 0, MOST_TURNS)
+    let Some(digits) = digits else {
+        return Some(DEFAULT_TURNS);
+    };
+    read_number(digits.as_bytes(), 13, 0, MOST_TURNS)
 }
 
 // A number of at most so many digits, from the least to the most.

@@ -17,10 +17,10 @@ use Rattle.ps_program.specs.Node as node
 use Rattle.ps_type_text.specs.Texts.{Field, class_text, IsName, IsNamed}
 use Rattle.ps_typing.specs.Names.{plain, scan, Meaning, local, class, library, Names, Declared, FieldOf, lookup, lookup_field, meant, field_meant, is_declared, is_field_declared, declare, declare_local, declare_field, inside, behind}
 use Rattle.ps_typing.specs.Checking.{Outcome, Gives, Refuses, ◌>>=◌, passes, wants, is_same, is_vector, is_equated, is_writable, is_comparable, isnt_void, is_present, line_of, name_in, introduced, types_of, field_of, with_fields, structure, most, used, with_params, parameters, is_of, assigned, field_at, field, field_name, together, Checker, like, check_each, check_args, count_types, with_args, elements, value_applied, scan_applied, name_applied, applied, literal, named_literal, first_type, check, check_form, checkers, check_if_any, check_arms, check_all, check_written}
-use Rattle.ps_typing.specs.WellTyped.{At, IsOfType, types_of_fields}
-use Rattle.ps_soundness.specs.Valued.{IsValued}
+use Rattle.ps_typing.specs.WellTyped.{At, IsOfType, types_of_fields, types_of_params}
+use Rattle.ps_soundness.specs.Valued.{IsValued, IsGiven, AllValued}
 use Rattle.ps_soundness.specs.Running.{IsClassText, HasField, AreAsMany, HasAsMany}
-use Rattle.ps_leaf_laws.specs.Leaves.{LeavesFit, LeavesFitIn, LeavesFitInAll, LeavesFitInMaybe, LeavesFitInArms, LeavesFitInWritten}
+use Rattle.ps_leaf_laws.specs.Leaves.{AreGroups, LeavesFit, LeavesFitIn, LeavesFitInAll, LeavesFitInMaybe, LeavesFitInArms, LeavesFitInWritten}
 use Rattle.ps_fit_laws.specs.Fitting.{Fits, AllFit, ArmsFit}
 
 -- a choice, by its test
@@ -39,10 +39,19 @@ IsMeaning (local number ty variable) = Unit {0}
 IsMeaning (class text tys) = HasTypes text tys
 IsMeaning (library procedure) = Unit {0}
 
--- each class in scope has names of a text, and each field in scope is one of such a class
+-- names of a text
+abbrev pub AllNamed : List Field → Type 0
+AllNamed names = AllByRecursion (λ (field : Field). IsName field.name) names
+
+and_named : (names : List Field) (last : Field) → AllNamed names → IsName last.name → AllNamed (names ++ last ∷ [])
+and_named [] last h is = (is, tt)
+and_named (first ∷ rest) last h is = (h.0, and_named rest last h.1 is)
+
+-- Each class in scope has names of a text, and each field in scope is one of such a class. All locals have names of a text.
 pub record Known (names : Names) : Type 0 where
   pub means : (name : List ℕ) (meaning : Meaning) → meant names name ≡ Some meaning → IsMeaning meaning
   pub fields : (name : List ℕ) (f : FieldOf) → field_meant names name ≡ Some f → HasField f.class f.index f.ty
+  pub named : AllNamed names.all
 
 -- what is given is such, and the names behind it are known
 pub record Fine {A : Type 0} (P : A → Type 0) (of : A) (after : Names) : Type 0 where
@@ -107,25 +116,28 @@ known_declared : (names : Names) (name : List ℕ) (meaning : Meaning) → IsMea
 known_declared names name meaning is k = record {
   means = λ other found e. lookup_more IsMeaning _ (names.here ++ names.around) other found is (λ there. k.means other found there) e;
   fields = k.fields;
+  named = k.named;
 }
 
-known_local : (names : Names) (name : List ℕ) (ty : TyView) (variable : Bool) → Known names → Known (declare_local names name ty variable)
-known_local names name ty variable k = record {
+known_local : (names : Names) (name : List ℕ) (ty : TyView) (variable : Bool) → IsName name → Known names → Known (declare_local names name ty variable)
+known_local names name ty variable is k = record {
   means = λ other found e. lookup_more IsMeaning _ (names.here ++ names.around) other found tt (λ there. k.means other found there) e;
   fields = k.fields;
+  named = and_named names.all (record { ty = ty; name = name }) k.named is;
 }
 
 known_field : (names : Names) (f : FieldOf) → IsField f → Known names → Known (declare_field names f)
 known_field names f is k = record {
   means = k.means;
   fields = λ name found e. lookup_field_more f (names.fields_here ++ names.fields_around) name found is (λ there. k.fields name found there) e;
+  named = k.named;
 }
 
 known_inside : (names : Names) → Known names → Known (inside names)
-known_inside names k = record { means = k.means; fields = k.fields }
+known_inside names k = record { means = k.means; fields = k.fields; named = k.named }
 
-known_behind : (names last : Names) → Known names → Known (behind names last)
-known_behind names last k = record { means = k.means; fields = k.fields }
+known_behind : (names last : Names) → Known names → Known last → Known (behind names last)
+known_behind names last k last_k = record { means = k.means; fields = k.fields; named = last_k.named }
 
 -- types of fields that have values
 abbrev AreValued : List Field → Type 0
@@ -165,10 +177,6 @@ are_fields name all done (group ∷ groups) index named valued e i = (
 field_types : (groups : List GroupAt) → types_of groups ≡ types_of_fields (map field_of groups)
 field_types [] = refl
 field_types (group ∷ groups) = ap (types.more group.ty) (field_types groups)
-
--- the groups have names, and types that have values
-abbrev AreGroups : List GroupAt → Type 0
-AreGroups groups = AllByRecursion (λ (group : GroupAt). IsName group.name.name × IsValued group.ty) groups
 
 fields_named : (groups : List GroupAt) → AreGroups groups → AllByRecursion (λ (field : Field). IsName field.name) (map field_of groups)
 fields_named [] h = tt
@@ -316,38 +324,46 @@ sound_applied names line name_line (Some name) f phrases args f_sound k h = soun
 sound_applied names line name_line None f phrases args f_sound k h =
     next {P = Fits} _ _ f_sound (λ v t n g k. sound_value_applied n line v t phrases args g k h)
 
--- the parameters of a procedure, of which nothing is asked
+-- the parameters of a procedure
 abbrev AreParams : List Param → Type 0
-AreParams params = Unit {0}
+AreParams params = AllValued (types_of_params params)
 
-sound_params : (names : Names) (made : List Param) (groups : List GroupAt) → Known names → Sound AreParams (with_params names made groups)
-sound_params names made [] k = gives AreParams made types.Void names tt k
-sound_params names made (group ∷ groups) k =
+and_param : (made : List Param) (last : Param) → AreParams made → IsValued last.ty → AreParams (made ++ last ∷ [])
+and_param [] last h is = (is, tt)
+and_param (first ∷ rest) last h is = (h.0, and_param rest last h.1 is)
+
+sound_params : (names : Names) (made : List Param) (groups : List GroupAt) → AreParams made → AreGroups groups → Known names →
+    Sound AreParams (with_params names made groups)
+sound_params names made [] so_far are k = gives AreParams made types.Void names so_far k
+sound_params names made (group ∷ groups) so_far are k =
     by_test (Sound AreParams) (is_declared names group.name.name) _ _ (λ twice. refuses)
-    (λ once. sound_params _ _ groups (known_local names group.name.name group.ty true k))
+    (λ once. sound_params _ _ groups (and_param made _ so_far are.0.1) are.1 (known_local names group.name.name group.ty true are.0.0 k))
 
-sound_parameters : (names : Names) (line : Line) (groups : List GroupAt) → Known names → Sound AreParams (parameters names line groups)
-sound_parameters names line groups k = by_test (Sound AreParams) (nat_lt most (length groups)) _ _ (λ many. refuses)
-    (λ few. sound_params (inside names) [] groups (known_inside names k))
+sound_parameters : (names : Names) (line : Line) (groups : List GroupAt) → AreGroups groups → Known names →
+    Sound AreParams (parameters names line groups)
+sound_parameters names line groups are k = by_test (Sound AreParams) (nat_lt most (length groups)) _ _ (λ many. refuses)
+    (λ few. sound_params (inside names) [] groups tt are (known_inside names k))
 
 sound_literal : (names : Names) (line : Line) (groups : List GroupAt) (ty : TyView) (s_line : Line) (check_s : Names → Outcome Node) →
-    ((own : Names) → Known own → Sound Fits (check_s own)) → Known names → Sound Fits (literal names line groups ty s_line check_s)
-sound_literal names line groups ty s_line check_s h k =
-    next {P = AreParams} _ _ (sound_parameters names line groups k) (λ made t own f own_k.
-    wanted ty _ _ _ (h own own_k) (λ s t' last g last_k. ends (known_behind names last k) g))
+    ((own : Names) → Known own → Sound Fits (check_s own)) → AreGroups groups → IsGiven ty → Known names →
+    Sound Fits (literal names line groups ty s_line check_s)
+sound_literal names line groups ty s_line check_s h are given k =
+    next {P = AreParams} _ _ (sound_parameters names line groups are k) (λ made t own f own_k.
+    wanted ty _ _ _ (h own own_k) (λ s t' last g last_k. ends (known_behind names last k last_k) ((f, given), g)))
 
 sound_named_literal : (names : Names) (name : NameAt) (variable : Bool) (line : Line) (groups : List GroupAt) (ty : TyView) (s_line : Line)
-    (check_s : Names → Outcome Node) → ((own : Names) → Known own → Sound Fits (check_s own)) → Known names →
-    Sound Fits (named_literal names name variable line groups ty s_line check_s)
-sound_named_literal names name variable line groups ty s_line check_s h k =
+    (check_s : Names → Outcome Node) → ((own : Names) → Known own → Sound Fits (check_s own)) → IsName name.name → AreGroups groups → IsGiven ty →
+    Known names → Sound Fits (named_literal names name variable line groups ty s_line check_s)
+sound_named_literal names name variable line groups ty s_line check_s h is are given k =
     by_test (Sound Fits) (is_declared names name.name) _ _ (λ twice. refuses) (λ once.
-    next {P = Fits} _ _ (sound_literal _ line groups ty s_line check_s h (known_local names name.name (types.Proc (types_of groups) ty) variable k))
+    next {P = Fits} _ _ (sound_literal _ line groups ty s_line check_s h are given
+    (known_local names name.name (types.Proc (types_of groups) ty) variable is k))
     (λ e t last g last_k. ends last_k g))
 
-sound_introduced : (name : NameAt) (variable : Bool) (e : Node) (ty : TyView) (names : Names) → Fits e → Known names →
+sound_introduced : (name : NameAt) (variable : Bool) (e : Node) (ty : TyView) (names : Names) → IsName name.name → Fits e → Known names →
     Sound Fits (introduced name variable e ty names)
-sound_introduced name variable e ty names f k =
-    by_test (Sound Fits) (is_declared names name.name) _ _ (λ twice. refuses) (λ once. ends (known_local names name.name ty variable k) f)
+sound_introduced name variable e ty names is f k =
+    by_test (Sound Fits) (is_declared names name.name) _ _ (λ twice. refuses) (λ once. ends (known_local names name.name ty variable is k) f)
 
 -- `x := e`
 sound_target : (line e_line : Line) (can : Bool) (tree : Node) (t found : TyView) (names : Names) → Fits tree → Known names →
@@ -386,9 +402,9 @@ mutual
 
   sound_form : (names : Names) (line : Line) (f : Form) → LeavesFitIn f → Known names → Sound Fits (check_form names line f)
   sound_form names line (form.Let name variable (at (form.Proc params ty s) e_line)) h k =
-      sound_named_literal names name variable e_line params ty (line_of s) (λ own. check own s) (λ own k. sound own s h k) k
+      sound_named_literal names name variable e_line params ty (line_of s) (λ own. check own s) (λ own k. sound own s h.1.2 k) h.0 h.1.0 h.1.1 k
   sound_form names line (form.Let name variable e) h k =
-      tested isnt_void _ _ _ _ (sound names e h k) (λ e t n f k. sound_introduced name variable e t n f k)
+      tested isnt_void _ _ _ _ (sound names e h.1 k) (λ e t n f k. sound_introduced name variable e t n h.0 f k)
   sound_form names line (form.Structure name fields) h k = sound_structure names line name fields h.0 h.1 k
   sound_form names line (form.Name name) h k = sound_used line names (meant names name) k
   sound_form names line form.Nil h k = ends k tt
@@ -408,12 +424,12 @@ mutual
       next {P = Fits} _ _ (sound n a h.1 k) (λ a t n g k.
       wanted _ _ _ _ (sound n b h.2 k) (λ b same n i k. ends k (f, g, i))))
   sound_form names line (form.For name a b c s) h k =
-      wanted _ _ _ _ (sound names a h.0 k) (λ a t n f k.
-      wanted _ _ _ _ (sound n b h.1 k) (λ b t n g k.
-      next {P = Fits} _ _ (sound_if_any n types.Int (node.Int (pos 1)) c h.2 refl k) (λ c t n i k.
-      wanted _ _ _ _ (sound (declare_local (inside n) name.name types.Int false) s h.3
-      (known_local (inside n) name.name types.Int false (known_inside n k)))
-      (λ s t last j last_k. ends (known_behind n last k) (f, g, i, j)))))
+      wanted _ _ _ _ (sound names a h.1 k) (λ a t n f k.
+      wanted _ _ _ _ (sound n b h.2 k) (λ b t n g k.
+      next {P = Fits} _ _ (sound_if_any n types.Int (node.Int (pos 1)) c h.3 refl k) (λ c t n i k.
+      wanted _ _ _ _ (sound (declare_local (inside n) name.name types.Int false) s h.4
+      (known_local (inside n) name.name types.Int false h.0 (known_inside n k)))
+      (λ s t last j last_k. ends (known_behind n last k last_k) (f, g, i, j)))))
   sound_form names line (form.Case e arms d) h k =
       tested is_equated _ _ _ _ (sound names e h.0 k) (λ e t n f k.
       next {P = ArmsFit} _ _ (sound_arms n t None arms h.1 k) (λ arms given n g k.
@@ -422,7 +438,7 @@ mutual
       next {P = AllFit} _ _ (sound_written names items h k) (λ trees t n f k. ends k (all_together trees f))
   sound_form names line form.Abort h k = ends k tt
   sound_form names line (form.Proc params ty s) h k =
-      sound_literal names line params ty (line_of s) (λ own. check own s) (λ own k. sound own s h k) k
+      sound_literal names line params ty (line_of s) (λ own. check own s) (λ own k. sound own s h.2 k) h.0 h.1 k
   sound_form names line (form.Vector l u e) h k =
       wanted _ _ _ _ (sound names l h.0 k) (λ l t n f k.
       wanted _ _ _ _ (sound n u h.1 k) (λ u t n g k.
@@ -457,7 +473,7 @@ mutual
       wanted _ _ _ _ (sound names' n h.2 k) (λ n t names' j k. ends k (f, g, j))))
   sound_form names line (form.Sequence items) h k =
       next {P = AllFit} _ _ (sound_all (inside names) line types.Void items h (known_inside names k))
-      (λ trees t last f last_k. ends (known_behind names last k) f)
+      (λ trees t last f last_k. ends (known_behind names last k last_k) f)
 
   all_sound : (items : Phrases) → LeavesFitInAll items → AllSound (checkers items)
   all_sound none h = tt

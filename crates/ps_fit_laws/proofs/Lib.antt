@@ -1,3 +1,4 @@
-mod PlacedFits
-mod ByCheck
+pub mod Bodies
+pub mod ByCheck
 pub mod OfProgram
+mod PlacedFits

@@ -79,17 +79,18 @@ all_fields = (
   (error_field_at 1 (inr (0, refl, inl (refl, refl))), (error_field_at 2 (inr (1, refl, inr (0, refl, inl (refl, refl)))), tt)),
 )
 
-library_known : Known library_names
+pub library_known : Known library_names
 library_known = record {
   means = λ name meaning e. meaning_found procedures name meaning all_meanings e;
   fields = λ name found e. field_found library_names.fields_around name found all_fields e;
+  named = tt;
 }
 
 given_fits : (o : Outcome Node) (program : BodyNode) → Sound Fits o → verdict_of o ≡ Typed program → FitsBody program
 given_fits (Gives tree ty names) program h is =
     let whole : BodyNode = placed_program names.all (body [] types.Void tree None (record { 0 = 1 })) in
     subst FitsBody (same_program whole program (first_complex (bodies whole)) is)
-    (program_fits names.all (body [] types.Void tree None (record { 0 = 1 })) h.fine.fits)
+    (program_fits names.all (body [] types.Void tree None (record { 0 = 1 })) ((tt, tt), h.fine.fits))
   where
     same_program : (whole program : BodyNode) (complex : Option Fault) → measured whole complex ≡ Typed program → whole ≡ program
     same_program whole program None is = cc

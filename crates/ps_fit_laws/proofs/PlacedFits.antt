@@ -1,10 +1,15 @@
 -- A clause that fits still fits when its names are placed: only places and the texts of scopes are others.
-use Rattle.std.proofs.Common.{List, [], ◌∷◌}
+use Rattle.std.proofs.Common.{◌≡◌, List, [], ◌∷◌, map, refl, ap, subst}
+use Rattle.ps_base.specs.TyView.{TyViews}
+use Rattle.ps_base.specs.TyView as types
+use Rattle.ps_program.specs.declared.place.Place.{Place}
 use Rattle.ps_program.specs.Node.{Param, Node, Nodes, none, more, Arms, no_arms, more_arms, arm, BodyNode, body}
 use Rattle.ps_program.specs.Node as node
 use Rattle.ps_type_text.specs.Texts.{Field}
 use Rattle.ps_typing.specs.Placing.{Locals, Around}
 use Rattle.ps_typing.specs.Placed.{then_give, ◌>>=◌, placed, placed_all, placed_arms, placed_literal, placed_program}
+use Rattle.ps_typing.specs.WellTyped.{types_of_params}
+use Rattle.ps_soundness.specs.Valued.{IsValued}
 use Rattle.ps_soundness.specs.Running.{AreAsMany, HasAsMany}
 use Rattle.ps_fit_laws.specs.Fitting.{Fits, AllFit, ArmsFit, FitsBody}
 
@@ -20,6 +25,12 @@ as_many_placed around l (more first rest) [] h = absurd h
 has_as_many_placed : (around : Around) (l : Locals) (class : List _) (args : Nodes) → HasAsMany class args →
     HasAsMany class (placed_all around l args).of
 has_as_many_placed around l class args h = record { class = h.class; are = as_many_placed around l args h.class.fields h.are }
+
+-- parameters at other places have the same types
+same_types : (to : Place → Place) (params : List Param) →
+    types_of_params params ≡ types_of_params (map (λ (param : Param). record param { place = to param.place }) params)
+same_types to [] = refl
+same_types to (param ∷ params) = ap (types.more param.ty) (same_types to params)
 
 mutual
   unfolding then_give ◌>>=◌
@@ -76,7 +87,8 @@ mutual
   arms_fit around l (more_arms (arm labels a) rest) h = (all_fit around l labels h.0, fits around _ a h.1, arms_fit around _ rest h.2)
 
   body_fits : (around : Around) (l : Locals) (of : BodyNode) → FitsBody of → FitsBody (placed_literal around l of).of
-  body_fits around l (body params gives_ tree scope line) h = fits _ _ tree h
+  body_fits around l (body params gives_ tree scope line) h =
+      (subst (λ (given : TyViews). IsValued (types.Proc given gives_)) (same_types _ params) h.0, fits _ _ tree h.1)
 
 pub program_fits : (names : List Field) (program : BodyNode) → FitsBody program → FitsBody (placed_program names program)
 program_fits names program h = body_fits _ _ program h

@@ -1,11 +1,17 @@
--- Typed trees whose leaves are ints and strings, and whose classes have names of a text and the fields that are named.
+-- Typed trees whose leaves are ints and strings, whose classes have names of a text and the fields that are named, and whose bodies take and give
+-- values.
 use Rattle.std.specs.Prelude.{◌≡◌, true}
 use Rattle.ps_program.specs.Node.{Node, Nodes, none, more, Arms, no_arms, more_arms, arm, BodyNode, body}
 use Rattle.ps_program.specs.Node as node
 use Rattle.ps_meaning.specs.Operators.{is_int}
 use Rattle.ps_meaning.specs.Texts.{is_string}
 use Rattle.ps_soundness.specs.Valued.{IsValued}
+use Rattle.ps_soundness.specs.Shapes.{type_of_body}
 use Rattle.ps_soundness.specs.Running.{IsClassText, HasField, HasAsMany}
+
+-- what a body takes and gives are values
+abbrev pub TakesAndGivesValues : BodyNode → Type 0
+TakesAndGivesValues of = IsValued (type_of_body of)
 
 abbrev mutual
   pub Fits : Node → Type 0
@@ -59,4 +65,4 @@ abbrev mutual
   ArmsFit (more_arms (arm labels a) rest) = AllFit labels × Fits a × ArmsFit rest
 
   pub FitsBody : BodyNode → Type 0
-  FitsBody (body params gives tree scope line) = Fits tree
+  FitsBody (body params gives tree scope line) = TakesAndGivesValues (body params gives tree scope line) × Fits tree

@@ -3,4 +3,4 @@
 
 mod laws;
 
-pub use laws::typed_programs_fit;
+pub use laws::{bodies_take_and_give_values, typed_programs_fit};

@@ -25,7 +25,7 @@ use Rattle.ps_gen.specs.Choices as choice
 use Rattle.ps_gen.specs.Emission.{size, size_arms, count_arms, size_at, size_entered, size_left, count, count_all, count_scope, entered, left, emit, emit_arms, emit_labels, size_labels, items_in}
 use Rattle.ps_gen.specs.Units.{constants, constants_of_all, constants_of_arms, scope_constants}
 use Rattle.ps_gen.specs.inside.Pieces.{Same, ◌▷◌, empty, one, takes, to_behind}
-use Rattle.ps_gen.specs.inside.Clauses.{clause, clauses, labels_of, arms_of, naming, entering, leaving, taking, from_begin, made, label_of, arm_of, taken_all, taken_arms}
+use Rattle.ps_gen.specs.inside.Clauses.{closing, clause, clauses, labels_of, arms_of, naming, entering, leaving, taking, from_begin, made, label_of, arm_of, taken_all, taken_arms}
 
 -- widths
 
@@ -127,6 +127,7 @@ set_name place ty e = record {
   constants = append-nil (constants e);
   nums = omega arith;
   refs = omega arith;
+  literals = simp append-nil refl;
   instrs = λ at k. refl;
 }
 
@@ -138,6 +139,7 @@ let_name place ty e = record {
   constants = append-nil (constants e);
   nums = omega arith;
   refs = omega arith;
+  literals = simp append-nil refl;
   instrs = λ at k. refl;
 }
 
@@ -149,6 +151,7 @@ and_is a b = record {
   constants = refl;
   nums = omega arith;
   refs = omega arith;
+  literals = refl;
   instrs = λ at k. refl;
 }
 
@@ -160,6 +163,7 @@ or_is a b = record {
   constants = refl;
   nums = omega arith;
   refs = omega arith;
+  literals = refl;
   instrs = λ at k. refl;
 }
 
@@ -171,6 +175,7 @@ not_is e = record {
   constants = append-nil (constants e);
   nums = omega arith;
   refs = omega arith;
+  literals = simp append-nil refl;
   instrs = λ at k. refl;
 }
 
@@ -182,6 +187,7 @@ neg_is e line = record {
   constants = append-nil (constants e);
   nums = omega arith;
   refs = omega arith;
+  literals = simp append-nil refl;
   instrs = λ at k. refl;
 }
 
@@ -193,6 +199,7 @@ plus_is e = record {
   constants = append-nil (constants e);
   nums = omega arith;
   refs = omega arith;
+  literals = simp append-nil refl;
   instrs = λ at k. append-nil (emit e at k);
 }
 
@@ -204,6 +211,7 @@ arith_is op a b line = record {
   constants = ap (λ z. constants a ++ z) (append-nil (constants b));
   nums = omega arith;
   refs = omega arith;
+  literals = simp append-nil refl;
   instrs = λ at k. refl;
 }
 
@@ -215,6 +223,7 @@ compare_is op ty a b = record {
   constants = ap (λ z. constants a ++ z) (append-nil (constants b));
   nums = omega arith;
   refs = omega arith;
+  literals = simp append-nil refl;
   instrs = λ at k. refl;
 }
 
@@ -226,6 +235,7 @@ is_is e class = record {
   constants = refl;
   nums = omega arith;
   refs = omega arith;
+  literals = simp append-nil refl;
   instrs = λ at k. refl;
 }
 
@@ -237,6 +247,7 @@ join_is a b line = record {
   constants = ap (λ z. constants a ++ z) (append-nil (constants b));
   nums = omega arith;
   refs = omega arith;
+  literals = simp append-nil refl;
   instrs = λ at k. refl;
 }
 
@@ -248,6 +259,7 @@ part_is a b c line = record {
   constants = ap (λ z. constants a ++ (constants b ++ z)) (append-nil (constants c));
   nums = omega arith;
   refs = omega arith;
+  literals = simp append-nil refl;
   instrs = λ at k. refl;
 }
 
@@ -259,6 +271,7 @@ field_is e class index ty line = record {
   constants = refl;
   nums = omega arith;
   refs = omega arith;
+  literals = simp append-nil refl;
   instrs = λ at k. refl;
 }
 
@@ -270,6 +283,7 @@ set_field_is p class index ty e line = record {
   constants = refl;
   nums = omega arith;
   refs = omega arith;
+  literals = simp append-nil refl;
   instrs = λ at k. refl;
 }
 
@@ -281,6 +295,7 @@ element_is a b ty line = record {
   constants = ap (λ z. constants a ++ z) (append-nil (constants b));
   nums = omega arith;
   refs = omega arith;
+  literals = simp append-nil refl;
   instrs = λ at k. refl;
 }
 
@@ -292,6 +307,7 @@ set_element_is a b c ty line = record {
   constants = ap (λ z. constants a ++ (constants b ++ z)) (append-nil (constants c));
   nums = omega arith;
   refs = omega arith;
+  literals = simp append-nil refl;
   instrs = λ at k. refl;
 }
 
@@ -303,6 +319,7 @@ bound_is e upper = record {
   constants = append-nil (constants e);
   nums = omega arith;
   refs = omega arith;
+  literals = simp append-nil refl;
   instrs = λ at k. refl;
 }
 
@@ -314,6 +331,7 @@ call_is f args line = record {
   constants = ap (λ z. constants f ++ z) (append-nil (constants_of_all args));
   nums = omega (arith, all_operands true args);
   refs = omega (arith, all_operands false args);
+  literals = simp append-nil refl;
   instrs = λ at k. refl;
 }
 
@@ -327,6 +345,7 @@ int_is v = record {
   constants = refl;
   nums = omega arith;
   refs = omega arith;
+  literals = refl;
   instrs = λ at k. refl;
 }
 
@@ -338,6 +357,7 @@ flag_is b = record {
   constants = refl;
   nums = omega arith;
   refs = omega arith;
+  literals = refl;
   instrs = λ at k. refl;
 }
 
@@ -349,6 +369,7 @@ text_is bytes = record {
   constants = refl;
   nums = omega arith;
   refs = omega arith;
+  literals = refl;
   instrs = λ at k. refl;
 }
 
@@ -360,6 +381,7 @@ nil_is = record {
   constants = refl;
   nums = omega arith;
   refs = omega arith;
+  literals = refl;
   instrs = λ at k. refl;
 }
 
@@ -371,6 +393,7 @@ name_is place ty = record {
   constants = refl;
   nums = omega arith;
   refs = omega arith;
+  literals = refl;
   instrs = λ at k. refl;
 }
 
@@ -382,6 +405,7 @@ class_is = record {
   constants = refl;
   nums = omega arith;
   refs = omega arith;
+  literals = refl;
   instrs = λ at k. refl;
 }
 
@@ -393,6 +417,7 @@ empty_is = record {
   constants = refl;
   nums = omega arith;
   refs = omega arith;
+  literals = refl;
   instrs = λ at k. refl;
 }
 
@@ -404,6 +429,7 @@ block_is scope items = record {
   constants = ap (λ z. scope_constants scope ++ z) (append-nil (constants_of_all items));
   nums = omega (arith, all_branches true items);
   refs = omega (arith, all_branches false items);
+  literals = simp append-nil refl;
   instrs = λ at k. refl;
 }
 
@@ -415,6 +441,7 @@ if_do_is c a = record {
   constants = refl;
   nums = omega arith;
   refs = omega arith;
+  literals = refl;
   instrs = λ at k. refl;
 }
 
@@ -426,6 +453,7 @@ if_else_is c a b = record {
   constants = refl;
   nums = omega arith;
   refs = omega arith;
+  literals = simp append_assoc refl;
   instrs = λ at k. refl;
 }
 
@@ -437,6 +465,7 @@ while_is c a = record {
   constants = ap (λ z. constants a ++ z) (append-nil (constants c));
   nums = omega arith;
   refs = omega arith;
+  literals = simp (append-nil, append_assoc) refl;
   instrs = λ at k. refl;
 }
 
@@ -448,6 +477,7 @@ repeat_is a c b = record {
   constants = ap (λ z. constants b ++ (constants a ++ z)) (append-nil (constants c));
   nums = omega arith;
   refs = omega arith;
+  literals = simp (append-nil, append_assoc) refl;
   instrs = λ at k. refl;
 }
 
@@ -459,6 +489,7 @@ for_is slot a b c scope control s line = record {
   constants = ap (λ z. constants a ++ (constants b ++ (constants c ++ (scope_constants scope ++ z)))) (append-nil (constants s));
   nums = omega arith;
   refs = omega arith;
+  literals = simp append-nil refl;
   instrs = λ at k.
       let turn = at + size a + 5 + size b + 5 + size c + 5 + 13 in
       let own = k + count a + count b + count c in
@@ -477,6 +508,7 @@ case_is e arms d ty = record {
   constants = refl;
   nums = omega (arith, arms_taken true arms (taken_in true d));
   refs = omega (arith, arms_taken false arms (taken_in false d));
+  literals = refl;
   instrs = λ at k.
       let first = at + size e + size_arms arms in
       ap (λ w. emit e at k ++ (emit_arms ty (first + 1 + size d) arms (at + size e) (k + count e) ++ choice.by_type ty instr.DropM instr.DropP ∷ emit d (first + w) (k + count e + count_arms arms)))
@@ -491,6 +523,7 @@ make_is class args = record {
   constants = refl;
   nums = omega (arith, all_operands true args);
   refs = omega (arith, all_operands false args);
+  literals = simp append-nil refl;
   instrs = λ at k. refl;
 }
 
@@ -502,6 +535,7 @@ fill_is l u e ty line = record {
   constants = refl;
   nums = omega arith;
   refs = omega arith;
+  literals = simp append-nil refl;
   instrs = λ at k. refl;
 }
 
@@ -513,17 +547,19 @@ elems_is l items ty line = record {
   constants = refl;
   nums = omega (arith, all_operands true items);
   refs = omega (arith, all_operands false items);
+  literals = simp append-nil refl;
   instrs = λ at k. refl;
 }
 
 pub proc_is : (of : BodyNode) → Same (made (node.Proc of)) (clause (node.Proc of))
-unfolding ◌▷◌ clause clauses naming one takes empty to_behind from_begin entering leaving arms_of labels_of
+unfolding ◌▷◌ clause clauses naming one takes empty to_behind from_begin entering leaving arms_of labels_of closing
 proc_is (body params gives tree scope line) = record {
   ends = λ at. omega arith;
   names = λ k. omega arith;
   constants = refl;
   nums = omega arith;
   refs = omega arith;
+  literals = refl;
   instrs = λ at k. refl;
 }
 
@@ -535,6 +571,7 @@ lib_is code args line = record {
   constants = append-nil (constants_of_all args);
   nums = omega (arith, all_operands true args);
   refs = omega (arith, all_operands false args);
+  literals = simp append-nil refl;
   instrs = λ at k. refl;
 }
 
@@ -546,6 +583,7 @@ scan_is string a f q s line = record {
   constants = ap (λ z. constants a ++ z) (append-nil (constants f));
   nums = omega arith;
   refs = omega arith;
+  literals = simp append-nil refl;
   instrs = λ at k.
       let procedure = at + size a + 5 in
       let behind = procedure + size f + 5 in
@@ -565,6 +603,7 @@ write_is e w wide ty line = record {
   constants = ap (λ z. constants e ++ z) (append-nil (constants w));
   nums = omega arith;
   refs = omega arith;
+  literals = simp append-nil refl;
   instrs = λ at k. refl;
 }
 
@@ -576,6 +615,7 @@ abort_is line = record {
   constants = refl;
   nums = omega arith;
   refs = omega arith;
+  literals = refl;
   instrs = λ at k. refl;
 }
 
@@ -589,6 +629,7 @@ no_clauses = record {
   constants = refl;
   nums = omega arith;
   refs = omega arith;
+  literals = refl;
   instrs = λ at k. refl;
 }
 
@@ -600,6 +641,7 @@ more_clauses n ns = record {
   constants = refl;
   nums = omega arith;
   refs = omega arith;
+  literals = refl;
   instrs = λ at k. refl;
 }
 
@@ -607,7 +649,7 @@ more_clauses n ns = record {
 
 pub no_labels : (ty : TyView) (t : ℕ) → Same empty (labels_of ty none t)
 unfolding ◌▷◌ clause clauses naming one takes empty to_behind from_begin entering leaving arms_of labels_of
-no_labels ty t = record { ends = λ at. omega arith; names = λ k. omega arith; constants = refl; nums = refl; refs = refl; instrs = λ at k. refl }
+no_labels ty t = record { ends = λ at. omega arith; names = λ k. omega arith; constants = refl; nums = refl; refs = refl; literals = refl; instrs = λ at k. refl }
 
 pub more_labels : (ty : TyView) (n : Node) (ns : Nodes) (t : ℕ) → Same (label_of ty n t ▷ labels_of ty ns t) (labels_of ty (more n ns) t)
 unfolding ◌▷◌ clause clauses naming one takes empty to_behind from_begin entering leaving arms_of labels_of
@@ -622,6 +664,7 @@ more_labels ty n ns t =
       constants = ap (λ z. z ++ constants_of_all ns) (append-nil (constants n));
       nums = omega arith;
       refs = omega arith;
+      literals = simp append-nil refl;
       instrs = λ at k.
           let code : ℕ → ℕ → List Instr = λ v w. dup ∷ (emit n (at + v) k ++ (test ∷ instr.JumpTrue t ∷ emit_labels ty t ns (at + v + size n + w + 5) (k + count n))) in
           ap (λ z. dup ∷ z) (append_assoc (emit n (at + width_of dup) k) (test ∷ instr.JumpTrue t ∷ []) (emit_labels ty t ns (at + width_of dup + size n + width_of test + 5) (k + count n)))
@@ -630,7 +673,7 @@ more_labels ty n ns t =
 
 pub no_arms_is : (ty : TyView) (t : ℕ) → Same empty (arms_of ty no_arms t)
 unfolding ◌▷◌ clause clauses naming one takes empty to_behind from_begin entering leaving arms_of labels_of
-no_arms_is ty t = record { ends = λ at. omega arith; names = λ k. omega arith; constants = refl; nums = refl; refs = refl; instrs = λ at k. refl }
+no_arms_is ty t = record { ends = λ at. omega arith; names = λ k. omega arith; constants = refl; nums = refl; refs = refl; literals = refl; instrs = λ at k. refl }
 
 pub more_arms_is : (ty : TyView) (labels : Nodes) (a : Node) (rest : Arms) (t : ℕ) → Same (arm_of ty labels a t ▷ arms_of ty rest t) (arms_of ty (more_arms (arm labels a) rest) t)
 unfolding ◌▷◌ clause clauses naming one takes empty to_behind from_begin entering leaving arms_of labels_of
@@ -643,6 +686,7 @@ more_arms_is ty labels a rest t =
       constants = ap (λ z. (constants_of_all labels ++ z) ++ constants_of_arms rest) (append-nil (constants a)) ∙ append_assoc (constants_of_all labels) (constants a) (constants_of_arms rest);
       nums = omega arith;
       refs = omega arith;
+      literals = simp (append-nil, append_assoc) refl;
       instrs = λ at k.
           let chosen = at + size_labels labels + 5 in
           let tests = emit_labels ty chosen labels at k in

@@ -5,3 +5,4 @@ pub mod Laws
 pub mod Chaining
 pub mod Making
 pub mod Widths
+pub mod Bodies

@@ -9,16 +9,16 @@ use Rattle.ps_base.specs.declared.ty.Ty.{Ty}
 use Rattle.ps_base.proofs.TyLemmas.{ty_views-append}
 use Rattle.ps_program.specs.declared.body.Param.{Param as ParamOf}
 use Rattle.ps_program.specs.declared.place.Place.TheVariants.{Plain, Kept}
-use Rattle.ps_program.specs.Node.{Param, Node, body}
+use Rattle.ps_program.specs.Node.{BodyNode, Param, Node, body}
 use Rattle.ps_program.specs.NodeView.{params_of, param_of, nodes_in}
 use Rattle.ps_typing.specs.Placing.{is_number}
 use Rattle.ps_typing.specs.Locals.{one_on}
 use Rattle.ps_typing.specs.WellTyped.{types_of_params}
 use Rattle.ps_gen.specs.inside.Chains.{Left, LeftOpen}
 use Rattle.ps_gen.specs.inside.Steps.{Hole, Halfway, IsUnit}
-use Rattle.ps_base.specs.CodeUnit.{ConstantView, text, constant_then, constant_view, constants_view}
+use Rattle.ps_base.specs.CodeUnit.{ConstantView, text, constant_then, constant_view, constants_view, literal}
 use Rattle.ps_base.specs.declared.code_unit.Constant.{Constant}
-use Rattle.ps_gen.specs.Units.{row_of, kept_at, keeps, size_keeps, body_instrs, type_constant, scope_constants, frame_of, constants}
+use Rattle.ps_gen.specs.Units.{row_of, kept_at, keeps, size_keeps, body_instrs, type_constant, scope_constants, frame_of, constants, HasUnit}
 use Rattle.ps_gen.specs.Emission.{entered, size_entered, count_scope, emit, items_in}
 use Rattle.ps_program.specs.declared.form.Tree.{Tree}
 use Rattle.ps_gen.specs.declared.forward.Forward.{Forward}
@@ -34,8 +34,9 @@ use Rattle.ps_gen.specs.Choices as choice
 use Rattle.ps_gen.specs.Giving.{element_of}
 use Rattle.ps_gen.specs.declared.naming.Naming.{Naming}
 use Rattle.ps_gen.specs.declared.naming.Naming.TheVariants as name
+use Rattle.ps_gen.specs.inside.Literals.{literals_in}
 use Rattle.ps_gen.specs.inside.Pieces.{State, Shape, Piece, Same, Puts, Opens, ◌▷◌, empty, one, constant, to_behind, at_end, next, over, filled, fill}
-use Rattle.ps_gen.specs.inside.Clauses.{naming, named_by, from_begin, entering, leaving, keeping, keep_one, clause, jump_of}
+use Rattle.ps_gen.specs.inside.Clauses.{naming, named_by, from_begin, entering, leaving, keeping, keep_one, clause, closing, jump_of}
 use Rattle.ps_gen.proofs.Putting.{seq, puts_same, opened, followed, closed, beyond, both, whole, filled_long}
 use Rattle.ps_gen.proofs.Laws.{by_type_width}
 
@@ -64,6 +65,7 @@ named it {i} {x} {y} {k} {a} {b} {c} i_is k_is puts same adds_same =
       counted = both.counted;
       nums = both.nums;
       refs = both.refs;
+      units = tt;
       are = both.are;
     }
 
@@ -79,6 +81,7 @@ nothing a = record {
   counted = refl;
   nums = omega arith;
   refs = omega arith;
+  units = tt;
   are = tt;
 }
 
@@ -88,7 +91,7 @@ scope_left scope t {a} {b} is puts = subst (λ s. Puts (leaving s) a b) (sym is)
 
 pub no_scope_left : (scope : Option (List ℕ)) (a : State) → scope ≡ None → Puts (leaving scope) a a
 unfolding empty leaving
-no_scope_left scope a is = subst (λ s. Puts (leaving s) a a) (sym is) (puts_same (record { ends = λ at. omega arith; names = λ k. refl; constants = refl; nums = refl; refs = refl; instrs = λ at k. refl }) (nothing a))
+no_scope_left scope a is = subst (λ s. Puts (leaving s) a a) (sym is) (puts_same (record { ends = λ at. omega arith; names = λ k. refl; constants = refl; nums = refl; refs = refl; literals = refl; instrs = λ at k. refl }) (nothing a))
 
 pub scope_entered : (scope : Option (List ℕ)) (t : List ℕ) {a b : State} → scope ≡ Some t → Puts (naming (named_by name.Scope) (text t)) a b → Puts (entering scope) a b
 unfolding naming entering
@@ -96,7 +99,7 @@ scope_entered scope t {a} {b} is puts = subst (λ s. Puts (entering s) a b) (sym
 
 pub no_scope_entered : (scope : Option (List ℕ)) (a : State) → scope ≡ None → Puts (entering scope) a a
 unfolding empty entering
-no_scope_entered scope a is = subst (λ s. Puts (entering s) a a) (sym is) (puts_same (record { ends = λ at. omega arith; names = λ k. omega arith; constants = refl; nums = refl; refs = refl; instrs = λ at k. refl }) (nothing a))
+no_scope_entered scope a is = subst (λ s. Puts (entering s) a a) (sym is) (puts_same (record { ends = λ at. omega arith; names = λ k. omega arith; constants = refl; nums = refl; refs = refl; literals = refl; instrs = λ at k. refl }) (nothing a))
 
 -- a jump over a piece, whose target is written when it is known
 pub single : (jump : ℕ → Instr) {p : Piece} {a b c d : State} {first last : Instr} {hole t : ℕ} (behind : ℕ → ℕ) → ((n : ℕ) → width_of (jump n) ≡ width_of (jump 0)) → first ≡ jump 0 → Hole (one first) hole a b → Puts p b c →
@@ -123,6 +126,7 @@ begun p begin {a} {b} x is same = record {
   counted = x.counted ∙ ap (λ (s : Shape). s.names (next a)) same;
   nums = x.nums ∙ ap (λ (s : Shape). a.nums + s.nums) same;
   refs = x.refs ∙ ap (λ (s : Shape). a.refs + s.refs) same;
+  units = subst (λ (s : Shape). AllByRecursion HasUnit s.literals) same x.units;
   are = subst (λ n. AllByRecursion IsInstr ((p n).instrs (at_end a) (next a))) is x.are;
 }
 
@@ -152,6 +156,7 @@ kept_number ty nums refs u i is get keep = puts_same (record {
   constants = refl;
   nums = refl;
   refs = refl;
+  literals = refl;
   instrs = λ at k. sym (ap (λ c. if c then instr.GetM nums ∷ instr.KeepM u i ∷ [] else (instr.GetP refs ∷ instr.KeepP u i ∷ [])) is);
 }) (seq get keep)
 
@@ -163,6 +168,7 @@ kept_reference ty nums refs u i is get keep = puts_same (record {
   constants = refl;
   nums = refl;
   refs = refl;
+  literals = refl;
   instrs = λ at k. sym (ap (λ c. if c then instr.GetM nums ∷ instr.KeepM u i ∷ [] else (instr.GetP refs ∷ instr.KeepP u i ∷ [])) is);
 }) (seq get keep)
 
@@ -174,6 +180,7 @@ not_kept param slot nums refs a is = subst (λ place. Puts (keep_one (record { t
   constants = refl;
   nums = refl;
   refs = refl;
+  literals = refl;
   instrs = λ at k. elim (is_number param.ty) as (λ c. ◌≡◌ {A = List Instr} [] (if c then [] else [])) [ true ↦ refl | false ↦ refl ];
 }) (nothing a))
 
@@ -185,6 +192,7 @@ more_kept param params nums refs = record {
   constants = refl;
   nums = refl;
   refs = refl;
+  literals = refl;
   instrs = λ at k.
       let m = kept_at param.place (instr.GetM nums) (λ u i. instr.KeepM u i) in
       let p = kept_at param.place (instr.GetP refs) (λ u i. instr.KeepP u i) in
@@ -196,7 +204,7 @@ more_kept param params nums refs = record {
 
 pub none_kept : (nums refs : ℕ) → Same empty (keeping [] nums refs)
 unfolding empty keeping
-none_kept nums refs = record { ends = λ at. omega arith; names = λ k. refl; constants = refl; nums = refl; refs = refl; instrs = λ at k. refl }
+none_kept nums refs = record { ends = λ at. omega arith; names = λ k. refl; constants = refl; nums = refl; refs = refl; literals = refl; instrs = λ at k. refl }
 
 types_append : (params : List ParamOf) (last : ParamOf) → types_of_params (params_of (params ++ last ∷ [])) ≡ and_type (types_of_params (params_of params)) (ty_view last.ty)
 types_append [] last = refl
@@ -252,6 +260,20 @@ halfway jump {p} {q} {a} {b} {c} {d} {holes} {at} {t} {last} behind opens hole t
   is = hole.is ∙ sym (filled_long t opens);
 }
 
+-- a procedure of a body, whose unit is a constant
+pub closing_puts : (of : BodyNode) {made : UnitView} {a b : State} → IsUnit of made → Puts (naming (named_by name.Closure) (literal made)) a b → Puts (closing of) a b
+unfolding naming closing
+closing_puts of {made} {a} {b} is x = record {
+  code = x.code;
+  long = x.long;
+  constants = x.constants ∙ ap (λ u. a.constants ++ literal u ∷ []) is.unit;
+  counted = x.counted;
+  nums = x.nums;
+  refs = x.refs;
+  units = is.units;
+  are = x.are;
+}
+
 -- the unit of a body
 
 pub body_made : (params : List Param) (gives : TyView) (tree : Node) (scope : Option (List ℕ)) (line : Line) {b c d e f : State} {x : ConstantView} {i : Instr} {frame : Frame} {made : UnitView} {nums refs : ℕ} →
@@ -272,7 +294,10 @@ body_made params gives tree scope line {b} {c} {d} {e} {f} {x} {i} {frame} {made
     record {
       unit = made_is ∙ ap (λ z. unit z (row_of f.constants) frame) code ∙ ap (λ z. unit (spelled (body_instrs params gives tree scope)) (row_of z) frame) constants_are
           ∙ ap (unit (spelled (body_instrs params gives tree scope)) (row_of (type_constant params gives ∷ (scope_constants scope ++ constants tree)))) frame_all;
-      fits = subst (λ n. AllByRecursion IsInstr (code_at n)) begin all.are;
+      units = (
+        subst (λ n. AllByRecursion IsInstr (code_at n)) begin all.are,
+        subst (λ z. AllByRecursion HasUnit z) (append-nil (literals_in tree)) all.units,
+      );
     }
 
 -- small steps
@@ -311,6 +336,7 @@ seq2 p q {r} {a} {b} {c} x y =
       counted = all.counted;
       nums = omega (arith, all.nums);
       refs = omega (arith, all.refs);
+      units = subst (λ z. AllByRecursion HasUnit z) (append_assoc p.shape.literals q.shape.literals r.shape.literals) all.units;
       are = subst (λ z. AllByRecursion IsInstr z) is all.are;
     }
 

@@ -5,8 +5,9 @@ use Rattle.std.specs.List.{AllByRecursion}
 use Rattle.ps_base.specs.declared.instr.Instr.{Instr}
 use Rattle.ps_base.specs.Instr.{spelled, spelling, width_of, IsInstr}
 use Rattle.ps_base.proofs.Spellings.{length-spelling}
+use Rattle.ps_gen.specs.Units.{HasUnit}
 use Rattle.ps_gen.specs.inside.Pieces.{State, Shape, Piece, Puts, Opens, Same, join, ◌▷◌, one, at_end, next, filled, fill, to_behind, bytes_alone}
-use Rattle.ps_gen.proofs.Spelled.{spelled-append, all-append, over_at, filled-append}
+use Rattle.ps_gen.proofs.Spelled.{spelled-append, all-append, units-append, over_at, filled-append}
 
 -- where a piece begins behind another
 begins : (q : Piece) (s : Shape) (a b : State) → at_end b ≡ s.ends (at_end a) → next b ≡ s.names (next a) → q.instrs (at_end b) (next b) ≡ q.instrs (s.ends (at_end a)) (s.names (next a))
@@ -26,6 +27,7 @@ seq {p} {q} {a} {b} {c} x y =
       counted = y.counted ∙ ap q.shape.names x.counted;
       nums = omega (arith, x.nums, y.nums);
       refs = omega (arith, x.refs, y.refs);
+      units = units-append p.shape.literals q.shape.literals x.units y.units;
       are = all-append xs ys x.are (subst (λ z. AllByRecursion IsInstr z) same y.are);
     }
 
@@ -39,6 +41,7 @@ puts_same {p} {q} {a} {b} same x =
       counted = x.counted ∙ same.names (next a);
       nums = x.nums ∙ ap (λ z. a.nums + z) same.nums;
       refs = x.refs ∙ ap (λ z. a.refs + z) same.refs;
+      units = subst (λ z. AllByRecursion HasUnit z) same.literals x.units;
       are = subst (λ z. AllByRecursion IsInstr z) is x.are;
     }
 
@@ -132,6 +135,7 @@ closed {jump} {p} {holes} {a} {b} t behind x target is =
       counted = x.puts.counted;
       nums = x.puts.nums;
       refs = x.puts.refs;
+      units = x.puts.units;
       are = subst (λ z. AllByRecursion IsInstr ((p z).instrs (at_end a) (next a))) to (x.are t is);
     }
 
@@ -151,5 +155,6 @@ beyond {jump} {p} {q} {holes} {a} {b} {c} t x y =
       counted = y.counted;
       nums = y.nums;
       refs = y.refs;
+      units = y.units;
       are = subst (λ z. AllByRecursion IsInstr z) same y.are;
     }

@@ -4,6 +4,8 @@ use Rattle.std.proofs.lemmas.List.{take_at, drop_at, append-nil}
 use Rattle.std.specs.List.{AllByRecursion}
 use Rattle.ps_base.specs.declared.instr.Instr.{Instr}
 use Rattle.ps_base.specs.Instr.{spelled, spelling, IsInstr}
+use Rattle.ps_program.specs.Node.{BodyNode}
+use Rattle.ps_gen.specs.Units.{HasUnit}
 use Rattle.ps_gen.specs.inside.Pieces.{over, filled}
 
 pub spelled-append : (xs ys : List Instr) → spelled (xs ++ ys) ≡ spelled xs ++ spelled ys
@@ -11,6 +13,10 @@ spelled-append [] ys = refl
 spelled-append (x ∷ []) [] = sym (append-nil (spelling x))
 spelled-append (x ∷ []) (y ∷ ys) = refl
 spelled-append (x ∷ x2 ∷ xs) ys = ap (λ z. spelling x ++ z) (spelled-append (x2 ∷ xs) ys) ∙ sym (append_assoc (spelling x) (spelled (x2 ∷ xs)) (spelled ys))
+
+pub units-append : (xs ys : List BodyNode) → AllByRecursion HasUnit xs → AllByRecursion HasUnit ys → AllByRecursion HasUnit (xs ++ ys)
+units-append [] ys are and = and
+units-append (x ∷ xs) ys are and = (are.0, units-append xs ys are.1 and)
 
 pub all-append : (xs ys : List Instr) → AllByRecursion IsInstr xs → AllByRecursion IsInstr ys → AllByRecursion IsInstr (xs ++ ys)
 all-append [] ys are and = and

@@ -1,3 +1,4 @@
+pub mod Literals
 pub mod Pieces
 pub mod Clauses
 pub mod Chains

@@ -1,6 +1,8 @@
 ghost use Rattle.std.specs.Prelude.{◌≡◌, IfOk};
 ghost use Rattle.ps_base.specs.CodeUnit.{unit_view};
 ghost use Rattle.ps_program.specs.NodeView.{body_of};
+ghost use Rattle.std.specs.List.{AllByRecursion};
+ghost use Rattle.ps_typing.specs.Program.{bodies};
 ghost use Rattle.ps_gen.specs.Units.{unit_of, HasUnit};
 
 use crate::literals::unit;
@@ -13,7 +15,7 @@ use std::alloc::{AllocError, Global};
 /// program of a text does. What was made until then is let go.
 pub fn generate(alloc: Global, program: &Program) -> Result<CodeUnit, AllocError>
     ensures unit { IfOk result (λ unit. unit_view unit ≡ unit_of (body_of program.now.body)) }
-    ensures fits { IfOk result (λ unit. HasUnit (body_of program.now.body)) }
+    ensures fits { IfOk result (λ unit. AllByRecursion HasUnit (bodies (body_of program.now.body))) }
 {
     unit(alloc, &program.body)
 }

@@ -1,6 +1,5 @@
 -- In what the grammar reads each leaf fits, where the symbols fit.
 use Rattle.std.proofs.Common.{ℕ, Bool, true, false, List, [], ◌∷◌, ◌++◌, subst}
-use Rattle.std.specs.List.{AllByRecursion}
 use Rattle.std.specs.Prelude.{Option, Some, None, option_map}
 use Rattle.ps_base.specs.TyView.{TyView, TyViews, and_type}
 use Rattle.ps_base.specs.TyView as types
@@ -35,21 +34,17 @@ use Rattle.ps_symbols.specs.Symbols.{symbols}
 use Rattle.ps_type_text.specs.Texts.{IsName}
 use Rattle.ps_soundness.specs.Valued.{IsValued, IsGiven, AllValued}
 use Rattle.ps_soundness.proofs.Valued.{given_by}
-use Rattle.ps_leaf_laws.specs.Leaves.{LeavesFit, LeavesFitInAll, LeavesFitInMaybe, LeavesFitInArms, LeavesFitInWritten}
+use Rattle.ps_leaf_laws.specs.Leaves.{AreGroups, LeavesFit, LeavesFitInAll, LeavesFitInMaybe, LeavesFitInArms, LeavesFitInWritten}
 use Rattle.ps_leaf_laws.proofs.Leaves.{FitsAs, AllFit, symbols_fit}
-
--- the name of each group is one, and its type has values
-abbrev AllNamed : List GroupAt → Type 0
-AllNamed groups = AllByRecursion (λ group. IsName group.name.name × IsValued group.ty) groups
 
 -- what is so of what a part gives, and of what it goes on behind
 abbrev PartGives : Part → Made → Type 0
 PartGives grammar.Written made = LeavesFitInWritten (more_items (the_item made) no_items)
 PartGives (grammar.Width e) made = LeavesFitInWritten (more_items (the_item made) no_items)
-PartGives grammar.Parameters made = AllNamed (the_groups made)
-PartGives (grammar.Groups before) made = AllNamed (the_groups made)
-PartGives (grammar.MoreGroups of_last before) made = AllNamed (the_groups made)
-PartGives (grammar.NextGroup of_last before) made = AllNamed (the_groups made)
+PartGives grammar.Parameters made = AreGroups (the_groups made)
+PartGives (grammar.Groups before) made = AreGroups (the_groups made)
+PartGives (grammar.MoreGroups of_last before) made = AreGroups (the_groups made)
+PartGives (grammar.NextGroup of_last before) made = AreGroups (the_groups made)
 PartGives grammar.Result made = IsGiven (the_type made)
 PartGives grammar.ParameterTypes made = AllValued (the_types made)
 PartGives (grammar.MoreTypes before) made = AllValued (the_types made)
@@ -60,16 +55,17 @@ PartFits (grammar.Ending all) = LeavesFit all
 PartFits (grammar.Ended all) = LeavesFit all
 PartFits (grammar.Items line before) = LeavesFitInAll before
 PartFits (grammar.MoreItems line before) = LeavesFitInAll before
-PartFits (grammar.Groups before) = AllNamed before
-PartFits (grammar.MoreGroups of_last before) = IsValued of_last × AllNamed before
-PartFits (grammar.NextGroup of_last before) = IsValued of_last × AllNamed before
+PartFits (grammar.Groups before) = AreGroups before
+PartFits (grammar.MoreGroups of_last before) = IsValued of_last × AreGroups before
+PartFits (grammar.NextGroup of_last before) = IsValued of_last × AreGroups before
 PartFits (grammar.MoreTypes before) = AllValued before
+PartFits (grammar.Binding line name) = IsName name.name
 PartFits (grammar.Choice line c) = LeavesFit c
 PartFits (grammar.Until line a) = LeavesFit a
 PartFits (grammar.Test line a) = LeavesFit a
 PartFits (grammar.Between line a c) = LeavesFit a × LeavesFit c
-PartFits (grammar.Step line name a b) = LeavesFit a × LeavesFit b
-PartFits (grammar.Body line name a b c) = LeavesFit a × LeavesFit b × LeavesFitInMaybe c
+PartFits (grammar.Step line name a b) = IsName name.name × LeavesFit a × LeavesFit b
+PartFits (grammar.Body line name a b c) = IsName name.name × LeavesFit a × LeavesFit b × LeavesFitInMaybe c
 PartFits (grammar.Cases line e before) = LeavesFit e × LeavesFitInArms before
 PartFits (grammar.Labels line e before labels) = LeavesFit e × LeavesFitInArms before × LeavesFitInAll labels
 PartFits (grammar.Width e) = LeavesFit e
@@ -93,7 +89,7 @@ Gives (Go part) made = PartGives part made
 Gives (Open nested) made = NestedGives nested made
 Gives other made = Unit {0}
 
-and_named : (before : List GroupAt) (last : GroupAt) → AllNamed before → IsName last.name.name → IsValued last.ty → AllNamed (before ++ last ∷ [])
+and_named : (before : List GroupAt) (last : GroupAt) → AreGroups before → IsName last.name.name → IsValued last.ty → AreGroups (before ++ last ∷ [])
 and_named [] last h k l = ((k, l), tt)
 and_named (first ∷ rest) last h k l = (h.0, and_named rest last h.1 k l)
 
@@ -154,31 +150,31 @@ module _ (text : List ℕ) where
   good_items_end line before other ok = ok
 
   good_item : (kind : Kind) → Good (grammar.one_item text kind) (λ made. LeavesFit (the_clause made))
-  good_item kind.Let = λ w _ n _. (tt, λ m h. h)
+  good_item kind.Let = λ w _ n named. (named, λ m h. h)
   good_item kind.Structure = λ w _ n named s _. ((tt, λ m h. h), λ m h. λ t _. (named, h))
-  good_item kind.Procedure = λ w _ n _. ((tt, λ m h. h), λ m h. h)
+  good_item kind.Procedure = λ w _ n named. ((tt, λ m h. h), λ m h. (named, h))
   good_item other = λ m h. h
 
-  good_binding : (line : Line) (name : NameAt) (kind : Kind) → GoodRow (grammar.binding line name kind) (λ made. LeavesFit (the_clause made))
-  good_binding line name kind.Equals = λ s _. (λ m h. h, λ m h. h)
-  good_binding line name kind.Becomes = λ s _. (λ m h. h, λ m h. h)
-  good_binding line name other = tt
+  good_binding : (line : Line) (name : NameAt) (kind : Kind) → IsName name.name → GoodRow (grammar.binding line name kind) (λ made. LeavesFit (the_clause made))
+  good_binding line name kind.Equals is = λ s _. (λ m h. h, λ m h. (is, h))
+  good_binding line name kind.Becomes is = λ s _. (λ m h. h, λ m h. (is, h))
+  good_binding line name other is = tt
 
   good_literal : (line : Line) → Good (grammar.literal line) (λ made. LeavesFit (the_clause made))
-  good_literal line = λ s _. ((tt, λ m h. h), λ m h. ((tt, λ n k. k), λ n k. λ t _ u _. (λ o l. l, λ o l. l)))
+  good_literal line = λ s _. ((tt, λ m h. h), λ m h. ((tt, λ n k. k), λ n k. λ t _ u _. (λ o l. l, λ o l. (h, k, l))))
 
-  good_parameters : (begins : Bool) → Good (grammar.parameters begins) (λ made. AllNamed (the_groups made))
+  good_parameters : (begins : Bool) → Good (grammar.parameters begins) (λ made. AreGroups (the_groups made))
   good_parameters true = (tt, λ m h. h)
   good_parameters false = tt
 
-  good_more_groups : (of_last : TyView) (before : List GroupAt) (kind : Kind) → IsValued of_last → AllNamed before →
-      Good (grammar.more_groups of_last before kind) (λ made. AllNamed (the_groups made))
+  good_more_groups : (of_last : TyView) (before : List GroupAt) (kind : Kind) → IsValued of_last → AreGroups before →
+      Good (grammar.more_groups of_last before kind) (λ made. AreGroups (the_groups made))
   good_more_groups of_last before kind.Comma is ok = λ s _. ((is, ok), λ m h. h)
   good_more_groups of_last before kind.Semicolon is ok = λ s _. (ok, λ m h. h)
   good_more_groups of_last before other is ok = ok
 
-  good_next_group : (of_last : TyView) (before : List GroupAt) (kind : Kind) → IsValued of_last → AllNamed before →
-      Good (grammar.next_group text of_last before kind) (λ made. AllNamed (the_groups made))
+  good_next_group : (of_last : TyView) (before : List GroupAt) (kind : Kind) → IsValued of_last → AreGroups before →
+      Good (grammar.next_group text of_last before kind) (λ made. AreGroups (the_groups made))
   good_next_group of_last before kind.Name is ok = λ n named. ((is, and_named before _ ok named is), λ m h. h)
   good_next_group of_last before other is ok = (ok, λ m h. h)
 
@@ -213,10 +209,10 @@ module _ (text : List ℕ) where
   good_between line a c kind.Do ok ok' = λ s _. (λ m h. h, λ m h. (ok, ok', h))
   good_between line a c other ok ok' = (ok, ok', tt)
 
-  good_step : (line : Line) (name : NameAt) (a b : Phrase) (kind : Kind) → LeavesFit a → LeavesFit b →
+  good_step : (line : Line) (name : NameAt) (a b : Phrase) (kind : Kind) → IsName name.name → LeavesFit a → LeavesFit b →
       Good (grammar.step line name a b kind) (λ made. LeavesFit (the_clause made))
-  good_step line name a b kind.By ok ok' = λ s _. (λ m h. h, λ m h. ((ok, ok', h), λ n k. k))
-  good_step line name a b other ok ok' = ((ok, ok', tt), λ m h. h)
+  good_step line name a b kind.By is ok ok' = λ s _. (λ m h. h, λ m h. ((is, ok, ok', h), λ n k. k))
+  good_step line name a b other is ok ok' = ((is, ok, ok', tt), λ m h. h)
 
   good_cases : (line : Line) (e : Phrase) (before : Arms) (kind : Kind) → LeavesFit e → LeavesFitInArms before →
       Good (grammar.cases line e before kind) (λ made. LeavesFit (the_clause made))
@@ -313,7 +309,7 @@ module _ (text : List ℕ) where
   good_opened opening.Condition = λ w _. (λ m h. h, λ m h. (h, λ n k. k))
   good_opened opening.Repetition = λ w _. (λ m h. h, λ m h. λ s _. (λ n k. k, λ n k. (h, k)))
   good_opened opening.Repeating = λ w _. (λ m h. h, λ m h. (h, λ n k. k))
-  good_opened opening.Counting = λ w _ n _ s _. (λ m h. h, λ m h. λ t _. (λ o k. k, λ o k. ((h, k), λ p q. q)))
+  good_opened opening.Counting = λ w _ n named s _. (λ m h. h, λ m h. λ t _. (λ o k. k, λ o k. ((named, h, k), λ p q. q)))
   good_opened opening.Choosing = λ w _. (λ m h. h, λ m h. λ s _. ((h, tt), λ n k. k))
   good_opened opening.Writing = λ w _. ((tt, λ m h. h), λ m h. (h, λ n k. k))
   good_opened opening.Aborting = λ w _. tt
@@ -336,7 +332,7 @@ module _ (text : List ℕ) where
   good_row (grammar.Items line before) kind ok = good_items line before (begins_item kind) ok
   good_row (grammar.MoreItems line before) kind ok = good_items_end line before kind ok
   good_row grammar.Item kind ok = good_item kind
-  good_row (grammar.Binding line name) kind ok = good_binding line name kind
+  good_row (grammar.Binding line name) kind ok = good_binding line name kind ok
   good_row (grammar.Literal line) kind ok = good_literal line
   good_row grammar.Parameters kind ok = good_parameters (begins_type kind)
   good_row (grammar.Groups before) kind ok = (λ m h. h, λ m h. λ n named. ((h, and_named before _ ok named h), λ o k. k))
@@ -349,8 +345,8 @@ module _ (text : List ℕ) where
   good_row (grammar.Until line a) kind ok = good_until line a kind ok
   good_row (grammar.Test line a) kind ok = λ s _. (λ m h. h, λ m h. ((ok, h), λ n k. k))
   good_row (grammar.Between line a c) kind ok = good_between line a c kind ok.0 ok.1
-  good_row (grammar.Step line name a b) kind ok = good_step line name a b kind ok.0 ok.1
-  good_row (grammar.Body line name a b c) kind ok = λ s _. (λ m h. h, λ m h. (ok.0, ok.1, ok.2, h))
+  good_row (grammar.Step line name a b) kind ok = good_step line name a b kind ok.0 ok.1 ok.2
+  good_row (grammar.Body line name a b c) kind ok = λ s _. (λ m h. h, λ m h. (ok.0, ok.1, ok.2, ok.3, h))
   good_row (grammar.Cases line e before) kind ok = good_cases line e before kind ok.0 ok.1
   good_row (grammar.Labels line e before labels) kind ok = good_labels line e before labels kind ok.0 ok.1 ok.2
   good_row grammar.Written kind ok = (λ m h. h, λ m h. (h, λ n k. k))

@@ -1,30 +1,35 @@
--- Trees whose leaves are ints and strings, and whose structures have names of a text, and fields and elements of types that have values.
-use Rattle.std.specs.Prelude.{◌≡◌, true}
+-- Trees whose leaves are ints and strings, and whose declarations have names of a text: constants and variables, controls, parameters, structures and
+-- their fields. Parameters, fields and elements are of types that have values, and so is what a procedure gives, if it gives anything.
+use Rattle.std.specs.Prelude.{◌≡◌, true, List}
 use Rattle.std.specs.List.{AllByRecursion}
-use Rattle.ps_tree.specs.Phrase.{Phrase, at, Form, Phrases, none, more, MaybePhrase, absent, present, Arm, arm, Arms, no_arms, more_arms, WriteItem, item, WriteItems, no_items, more_items}
+use Rattle.ps_tree.specs.Phrase.{GroupAt, Phrase, at, Form, Phrases, none, more, MaybePhrase, absent, present, Arm, arm, Arms, no_arms, more_arms, WriteItem, item, WriteItems, no_items, more_items}
 use Rattle.ps_tree.specs.Phrase as form
 use Rattle.ps_type_text.specs.Texts.{IsName}
 use Rattle.ps_meaning.specs.Operators.{is_int}
 use Rattle.ps_meaning.specs.Texts.{is_string}
-use Rattle.ps_soundness.specs.Valued.{IsValued}
+use Rattle.ps_soundness.specs.Valued.{IsValued, IsGiven}
+
+-- the fields of a structure, or the parameters of a procedure
+abbrev pub AreGroups : List GroupAt → Type 0
+AreGroups groups = AllByRecursion (λ group. IsName group.name.name × IsValued group.ty) groups
 
 abbrev mutual
   pub LeavesFit : Phrase → Type 0
   LeavesFit (at form line) = LeavesFitIn form
 
   pub LeavesFitIn : Form → Type 0
-  LeavesFitIn (form.Let name variable e) = LeavesFit e
+  LeavesFitIn (form.Let name variable e) = IsName name.name × LeavesFit e
   LeavesFitIn (form.Sequence items) = LeavesFitInAll items
-  LeavesFitIn (form.Structure name fields) = IsName name.name × AllByRecursion (λ field. IsName field.name.name × IsValued field.ty) fields
+  LeavesFitIn (form.Structure name fields) = IsName name.name × AreGroups fields
   LeavesFitIn (form.IfDo c a) = LeavesFit c × LeavesFit a
   LeavesFitIn (form.IfElse c a b) = LeavesFit c × LeavesFit a × LeavesFit b
   LeavesFitIn (form.While c a) = LeavesFit c × LeavesFit a
   LeavesFitIn (form.Repeat a c b) = LeavesFit a × LeavesFit c × LeavesFitInMaybe b
-  LeavesFitIn (form.For name a b c s) = LeavesFit a × LeavesFit b × LeavesFitInMaybe c × LeavesFit s
+  LeavesFitIn (form.For name a b c s) = IsName name.name × LeavesFit a × LeavesFit b × LeavesFitInMaybe c × LeavesFit s
   LeavesFitIn (form.Case e arms d) = LeavesFit e × LeavesFitInArms arms × LeavesFit d
   LeavesFitIn (form.Write items) = LeavesFitInWritten items
   LeavesFitIn form.Abort = Unit {0}
-  LeavesFitIn (form.Proc params gives s) = LeavesFit s
+  LeavesFitIn (form.Proc params gives s) = AreGroups params × IsGiven gives × LeavesFit s
   LeavesFitIn (form.Vector l u e) = LeavesFit l × LeavesFit u × LeavesFit e
   LeavesFitIn (form.Elems l t items) = IsValued t × LeavesFit l × LeavesFitInAll items
   LeavesFitIn (form.Assign x e) = LeavesFit x × LeavesFit e

@@ -5,8 +5,8 @@ ghost use Rattle.ps_tree.specs.Phrase.{Phrase};
 ghost use Rattle.ps_parse.specs.Program.{ReadsAs};
 ghost use Rattle.ps_leaf_laws.specs.Leaves.{LeavesFit};
 
-/// In the tree of a text each int has 32 bits with its sign, each string has at most 65,535 bytes, and the names of structures and of their fields
-/// are letters, digits and dots.
+/// In the tree of a text each int has 32 bits with its sign, each string has at most 65,535 bytes, and all names that
+/// are declared, those of parameters and of fields too, are letters, digits and dots.
 pub fn leaves_of_a_text_fit()
     ensures { (text : List ℕ) (tokens : List Token) (tree : Phrase) → HasTokens text tokens → ReadsAs text tokens tree → LeavesFit tree }
 {}

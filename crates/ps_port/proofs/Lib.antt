@@ -1,2 +1,2 @@
+pub mod Torn
 pub mod Telling
-pub mod MemoryTelling

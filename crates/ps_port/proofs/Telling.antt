@@ -1,10 +1,11 @@
 -- How what is told in parts is told as a whole.
 use Rattle.std.proofs.Common.{Bor, zero, suc, ◌+◌, ◌<◌, ◌≡◌, ℕ, ◌≤◌, ◌⊎◌, List, [], ◌∷◌, ◌++◌, length, drop, get_or, refl, sym, ◌∙◌, ap, subst, append_assoc, arith, ⊎_elim}
-use Rattle.std.specs.Prelude.{Result, Ok, Err, IsErr, OnOk, OnErr}
+use Rattle.std.specs.Prelude.{Result, Ok, Err, IsErr, OnOk}
 use Rattle.std.proofs.lemmas.List.{append-nil}
+use Rattle.ps_outside.specs.Outside.{Outside, IsFront, Adds, AddsFront, TellsFront, ToldAll, IsPutCall, Rose}
+use Rattle.ps_outside.proofs.Moments.{along_none, along_then, along_now}
 use Rattle.ps_port.specs.declared.host.HostFailed.{HostFailed}
-use Rattle.ps_port.specs.Told.{IsFront, Adds, AddsFront, TellsFront, Tells, Rose}
-use Rattle.ps_port.specs.Telling.{joined, TellsAll, FailsBehind, TellsOrFails}
+use Rattle.ps_port.specs.Telling.{joined, TellsAll, FailsBehind, TellsOrFails, LeavesDevice}
 
 either : (m n : ℕ) → (m ≤ n) ⊎ (n ≤ m)
 either m n = grind arith
@@ -42,106 +43,119 @@ adds_nil told_before bytes was = record { before = bytes; was_told = was; bytes_
 adds_front_nil : (told_before : List ℕ → Type 0) (whole bytes : List ℕ) → told_before bytes → AddsFront told_before whole bytes
 adds_front_nil told_before whole bytes was = record { front = []; is_front = record { rest = whole; whole_is = refl }; adds = adds_nil told_before bytes was }
 
--- where no call was made, nothing was told, which is a front of anything
-pub front_of_none : {H : Type 0} (clock : H → ℕ) (told : H → ℕ → List ℕ → Type 0) (host : H) (whole : List ℕ) → TellsFront clock told host host whole
-front_of_none clock told host whole = record {
-  later = omega arith;
-  kept = λ m bytes past is. is;
-  no_other = λ m bytes past is. is;
-  each = λ m bytes from until is. adds_front_nil (told host (clock host)) whole bytes (let now : m ≡ clock host = omega arith in subst (λ (t : ℕ). told host t bytes) now is);
-}
+module _ {X : Type 0} where
+  -- where no call was made, nothing was told, which is a front of anything
+  pub front_of_none : (a : Outside X) (whole : List ℕ) → TellsFront a a whole
+  front_of_none a whole = record {
+    later = omega arith;
+    kept = λ m bytes past is. is;
+    no_other = λ m bytes past is. is;
+    each = λ m bytes from until is. adds_front_nil (a.told a.clock) whole bytes (let now : m ≡ a.clock = omega arith in subst (λ (t : ℕ). a.told t bytes) now is);
+  }
 
-pub tells_none : {H : Type 0} (clock : H → ℕ) (told : H → ℕ → List ℕ → Type 0) (host : H) → Tells clock told host host []
-tells_none clock told host = record {
-  front = front_of_none clock told host [];
-  all = λ bytes is. adds_nil (told host (clock host)) bytes is;
-}
+  -- a front of the first part is a front of the whole
+  front_of_more : (a b : Outside X) (xs ys : List ℕ) → TellsFront a b xs → TellsFront a b (xs ++ ys)
+  front_of_more a b xs ys is = record {
+    later = is.later;
+    kept = is.kept;
+    no_other = is.no_other;
+    each = λ m bytes from until at. adds_front_more (a.told a.clock) xs ys bytes (is.each m bytes from until at);
+  }
 
--- a front of the first part is a front of the whole
-pub front_of_more : {H : Type 0} {clock : H → ℕ} {told : H → ℕ → List ℕ → Type 0} {a b : H} {xs : List ℕ} (ys : List ℕ) → TellsFront clock told a b xs → TellsFront clock told a b (xs ++ ys)
-front_of_more {H} {clock} {told} {a} {b} {xs} ys is = record {
-  later = is.later;
-  kept = is.kept;
-  no_other = is.no_other;
-  each = λ m bytes from until at. adds_front_more (told a (clock a)) xs ys bytes (is.each m bytes from until at);
-}
+  -- all of the first part, and then a front of the second
+  front_then : (a b c : Outside X) (xs ys : List ℕ) → TellsFront a b xs → ToldAll a b xs → TellsFront b c ys → TellsFront a c (xs ++ ys)
+  front_then a b c xs ys first all next = record {
+    later = let one = first.later in let two = next.later in omega arith;
+    kept = λ m bytes past is. next.kept m bytes (let one = first.later in omega arith) (first.kept m bytes past is);
+    no_other = λ m bytes past is. first.no_other m bytes past (next.no_other m bytes (let one = first.later in omega arith) is);
+    each = λ m bytes from until is. ⊎_elim
+        (λ early. adds_front_more (a.told a.clock) xs ys bytes (first.each m bytes from early (next.no_other m bytes early is)))
+        (λ late. adds_front_then (a.told a.clock) (b.told b.clock) xs ys bytes all (next.each m bytes late until is))
+        (either m b.clock);
+  }
 
--- all of the first part, and then a front of the second
-pub tells_then_front : {H : Type 0} {clock : H → ℕ} {told : H → ℕ → List ℕ → Type 0} {a b c : H} {xs ys : List ℕ} → Tells clock told a b xs → TellsFront clock told b c ys → TellsFront clock told a c (xs ++ ys)
-tells_then_front {H} {clock} {told} {a} {b} {c} {xs} {ys} first next = record {
-  later = let one = first.front.later in let two = next.later in omega arith;
-  kept = λ m bytes past is. next.kept m bytes (let one = first.front.later in omega arith) (first.front.kept m bytes past is);
-  no_other = λ m bytes past is. first.front.no_other m bytes past (next.no_other m bytes (let one = first.front.later in omega arith) is);
-  each = λ m bytes from until is. ⊎_elim
-      (λ early. adds_front_more (told a (clock a)) xs ys bytes (first.front.each m bytes from early (next.no_other m bytes early is)))
-      (λ late. adds_front_then (told a (clock a)) (told b (clock b)) xs ys bytes first.all (next.each m bytes late until is))
-      (either m (clock b));
-}
+  -- the device over two calls
+  pub device_none : (a : Outside X) → LeavesDevice a a
+  device_none a = record { images = along_none a.clock a.images; contents = record { kept = λ x is. is; no_other = λ x is. is }; faults = refl; calls = refl }
 
--- all of the first part, and then all of the second
-pub tells_then : {H : Type 0} {clock : H → ℕ} {told : H → ℕ → List ℕ → Type 0} {a b c : H} {xs ys : List ℕ} → Tells clock told a b xs → Tells clock told b c ys → Tells clock told a c (xs ++ ys)
-tells_then {H} {clock} {told} {a} {b} {c} {xs} {ys} first next = record {
-  front = tells_then_front first next.front;
-  all = λ bytes is. adds_then (told a (clock a)) (told b (clock b)) xs ys bytes first.all (next.all bytes is);
-}
+  pub device_then : (a b c : Outside X) → LeavesDevice a b → LeavesDevice b c → LeavesDevice a c
+  device_then a b c first next = record {
+    images = along_then first.images next.images (λ x is. along_now first.images x is);
+    contents = record {
+      kept = λ x is. next.contents.kept x (first.contents.kept x is);
+      no_other = λ x is. first.contents.no_other x (next.contents.no_other x is);
+    };
+    faults = next.faults ∙ first.faults;
+    calls = next.calls ∙ first.calls;
+  }
 
-module _ {H : Type 0} (clock : H → ℕ) (told : H → ℕ → List ℕ → Type 0) (faults : H → ℕ) where
-  pub all_none : (host : H) → TellsAll clock told faults host host []
-  all_none host = record { tells = tells_none clock told host; calm = refl }
+  pub device_put : {T E : Type 0} (a b : Outside X) (r : Result T E) → IsPutCall a b r → LeavesDevice a b
+  device_put a b r call = record { images = call.images; contents = call.contents; faults = call.device; calls = call.calls }
 
-  pub all_then : {a b c : H} {xs ys : List ℕ} → TellsAll clock told faults a b xs → TellsAll clock told faults b c ys → TellsAll clock told faults a c (xs ++ ys)
-  all_then first next = record { tells = tells_then first.tells next.tells; calm = next.calm ∙ first.calm }
+  pub all_none : (a : Outside X) → TellsAll a a []
+  all_none a = record { front = front_of_none a []; all = λ bytes is. adds_nil (a.told a.clock) bytes is; calm = refl }
+
+  -- all of the first part, and then all of the second
+  pub all_then : (a b c : Outside X) (xs ys : List ℕ) → TellsAll a b xs → TellsAll b c ys → TellsAll a c (xs ++ ys)
+  all_then a b c xs ys is next = record {
+    front = front_then a b c xs ys is.front is.all next.front;
+    all = λ bytes at. adds_then (a.told a.clock) (b.told b.clock) xs ys bytes is.all (next.all bytes at);
+    calm = next.calm ∙ is.calm;
+  }
 
   -- all of the first part was told, and the output failed in the second
-  pub fails_then : {a b c : H} {xs ys : List ℕ} → TellsAll clock told faults a b xs → FailsBehind clock told faults b c ys → FailsBehind clock told faults a c (xs ++ ys)
-  fails_then {c = c} first next = record {
-    front = tells_then_front first.tells next.front;
-    counts = subst (λ (n : ℕ). n ≤ faults c) first.calm next.counts;
-    rose = subst (λ (n : ℕ). Rose n (faults c)) first.calm next.rose;
+  pub fails_then : (a b c : Outside X) (xs ys : List ℕ) → TellsAll a b xs → FailsBehind b c ys → FailsBehind a c (xs ++ ys)
+  fails_then a b c xs ys is next = record {
+    front = front_then a b c xs ys is.front is.all next.front;
+    counts = subst (λ (n : ℕ). n ≤ c.output_faults) is.calm next.counts;
+    rose = subst (λ (n : ℕ). Rose n c.output_faults) is.calm next.rose;
   }
 
   -- the output failed in the first part of a whole
-  pub fails_more : {a b : H} {xs : List ℕ} (ys : List ℕ) → FailsBehind clock told faults a b xs → FailsBehind clock told faults a b (xs ++ ys)
-  fails_more ys is = record { front = front_of_more ys is.front; counts = is.counts; rose = is.rose }
+  pub fails_more : (a b : Outside X) (xs ys : List ℕ) → FailsBehind a b xs → FailsBehind a b (xs ++ ys)
+  fails_more a b xs ys is = record { front = front_of_more a b xs ys is.front; counts = is.counts; rose = is.rose }
 
   -- what a call of `put` comes to
-  pub put_tells : (old new : H) (bytes : List ℕ) (r : Result Unit HostFailed) → TellsFront clock told old new bytes → OnOk r (Tells clock told old new bytes) → faults old ≤ faults new → OnOk r (faults new ≡ faults old) → OnErr r (Rose (faults old) (faults new)) → TellsOrFails clock told faults old new bytes r
-  put_tells old new bytes (Ok x) cut all counts calm cause = record { tells = all; calm = calm }
-  put_tells old new bytes (Err e) cut all counts calm cause = record { front = cut; counts = counts; rose = cause }
+  pub put_tells : (a b : Outside X) (bytes : List ℕ) (r : Result Unit HostFailed) → TellsFront a b bytes → OnOk r (ToldAll a b bytes) →
+      OnOk r (b.output_faults ≡ a.output_faults) → IsPutCall a b r → TellsOrFails a b bytes r
+  put_tells a b bytes (Ok x) cut all calm call = record { front = cut; all = all; calm = calm }
+  put_tells a b bytes (Err e) cut all calm call = record { front = cut; counts = call.counts; rose = call.cause }
 
   -- a failure that is handed on
-  pub failed : {A : Type 0} (old new : H) (whole : List ℕ) (r : Result A HostFailed) → IsErr r → FailsBehind clock told faults old new whole → TellsOrFails clock told faults old new whole r
-  failed old new whole (Ok x) is fails = absurd (cc)
-  failed old new whole (Err e) is fails = fails
+  pub failed : {A : Type 0} (a b : Outside X) (whole : List ℕ) (r : Result A HostFailed) → IsErr r → FailsBehind a b whole → TellsOrFails a b whole r
+  failed a b whole (Ok x) is fails = absurd (cc)
+  failed a b whole (Err e) is fails = fails
 
-  -- Some of the whole has been told since the first host, and the rest is still to be told: what stays true
+  -- Some of the whole has been told since the first moment, and the rest is still to be told: what stays true
   -- over any run of calls that tell the whole in parts.
-  pub record SoFar (first now : H) (whole rest : List ℕ) : Type 0 where
+  pub record SoFar (first now : Outside X) (whole rest : List ℕ) : Type 0 where
     pub done : List ℕ
     pub whole_is : whole ≡ done ++ rest
-    pub tells : TellsAll clock told faults first now done
+    pub tells : TellsAll first now done
+    pub device : LeavesDevice first now
 
-  pub so_far_none : (host : H) (whole : List ℕ) → SoFar host host whole whole
-  so_far_none host whole = record { done = []; whole_is = refl; tells = all_none host }
+  pub so_far_none : (a : Outside X) (whole : List ℕ) → SoFar a a whole whole
+  so_far_none a whole = record { done = []; whole_is = refl; tells = all_none a; device = device_none a }
 
   -- These bytes, the next of the rest, were told too, and this is left.
-  pub so_far_more : {a b c : H} {whole rest bytes left : List ℕ} → SoFar a b whole rest → TellsAll clock told faults b c bytes → rest ≡ bytes ++ left → SoFar a c whole left
-  so_far_more {bytes = bytes} {left = left} so next split = record {
+  pub so_far_more : (a b c : Outside X) (whole rest bytes left : List ℕ) → SoFar a b whole rest → TellsAll b c bytes → LeavesDevice b c → rest ≡ bytes ++ left → SoFar a c whole left
+  so_far_more a b c whole rest bytes left so next device split = record {
     done = so.done ++ bytes;
     whole_is = so.whole_is ∙ ap (λ (xs : List ℕ). so.done ++ xs) split ∙ sym (append_assoc so.done bytes left);
-    tells = all_then so.tells next;
+    tells = all_then a b c so.done bytes so.tells next;
+    device = device_then a b c so.device device;
   }
 
   -- The output failed in the next of the rest: then it failed in the whole.
-  pub so_far_fails : {a b c : H} {whole rest bytes : List ℕ} (left : List ℕ) → SoFar a b whole rest → FailsBehind clock told faults b c bytes → rest ≡ bytes ++ left → FailsBehind clock told faults a c whole
-  so_far_fails {a} {b} {c} left so next split =
-      subst (λ (xs : List ℕ). FailsBehind clock told faults a c xs) (sym (so.whole_is ∙ ap (λ (xs : List ℕ). so.done ++ xs) split))
-      (fails_then so.tells (fails_more left next))
+  pub so_far_fails : (a b c : Outside X) (whole rest bytes left : List ℕ) → SoFar a b whole rest → FailsBehind b c bytes → rest ≡ bytes ++ left → FailsBehind a c whole
+  so_far_fails a b c whole rest bytes left so next split =
+      subst (λ (xs : List ℕ). FailsBehind a c xs) (sym (so.whole_is ∙ ap (λ (xs : List ℕ). so.done ++ xs) split))
+      (fails_then a b c so.done (bytes ++ left) so.tells (fails_more b c bytes left next))
 
   -- Where no rest is left, the whole was told.
-  pub so_far_all : {a b : H} {whole rest : List ℕ} → SoFar a b whole rest → rest ≡ [] → TellsAll clock told faults a b whole
-  so_far_all {a} {b} so empty =
-      subst (λ (xs : List ℕ). TellsAll clock told faults a b xs) (sym (so.whole_is ∙ ap (λ (xs : List ℕ). so.done ++ xs) empty ∙ append-nil so.done)) so.tells
+  pub so_far_all : (a b : Outside X) (whole rest : List ℕ) → SoFar a b whole rest → rest ≡ [] → TellsAll a b whole
+  so_far_all a b whole rest so empty =
+      subst (λ (xs : List ℕ). TellsAll a b xs) (sym (so.whole_is ∙ ap (λ (xs : List ℕ). so.done ++ xs) empty ∙ append-nil so.done)) so.tells
 
 joined-drop : (parts : List (Bor (List ℕ))) (i : ℕ) (d : Bor (List ℕ)) → i < length parts → joined (drop i parts) ≡ (get_or parts i d).now ++ joined (drop (suc i) parts)
 joined-drop [] i d below = absurd (omega arith)

@@ -1,7 +1,6 @@
-pub mod Told
+pub mod Disk
+pub mod DiskLaws
+pub mod FileView
 pub mod Telling
 pub mod Texts
-pub mod Memory
-pub mod MemoryView
 pub mod MemoryTexts
-pub mod inside

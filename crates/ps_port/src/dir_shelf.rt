@@ -1,6 +1,6 @@
 ghost use Rattle.std.specs.Prelude.{◌≡◌, ℕ, ◌<◌, ◌≤◌, ◌+◌, length, vec_len, OnOk, IfOk, IfErr, IfSome};
 ghost use Rattle.ps_port.specs.declared.shelf.ShelfFault.TheVariants.{Failed};
-ghost use Rattle.ps_port.specs.Told.{next_count};
+ghost use Rattle.ps_outside.specs.Outside.{next_count};
 ghost use Rattle.ps_port.specs.Texts.{TooLongFor};
 
 use crate::{Shelf, ShelfFault};

@@ -1,30 +1,57 @@
-ghost use Rattle.std.specs.Prelude.{◌≡◌, ℕ, ◌≤◌, List, OnOk, OnErr};
-ghost use Rattle.ps_port.specs.Told.{TellsFront, Tells, Rose};
+ghost use Rattle.std.specs.Prelude.{◌≡◌, ℕ, ◌+◌, ◌≤◌, List, length, take, drop, OnOk, OnErr, IfOk};
+ghost use Rattle.ps_outside.specs.Outside.{Outside, After, Leaves, LeavesSame, SameContents, IsDeviceCall, TellsFront, ToldAll, IsPutCall};
+ghost use Rattle.ps_port.specs.Disk.{Written, Torn};
 
-/// A call of a host failed. Why is counted by the host: a failed `put` raises its `output_faults`.
+/// A call of a host failed. Why is counted by the host: a failed `put` raises its `output_faults`, and a call of the device that failed its
+/// `device_faults`.
 #[derive(Clone, Copy, Debug, PartialEq, Eq)]
 pub struct HostFailed;
 
-/// The output of a program, with a clock that each call moves on. What it tells of its content it tells
-/// moment by moment, so that a caller can say what had been told wherever a run was stopped.
+/// The device and the output as one object, with one clock that each call moves on. What it tells of its content it tells moment by
+/// moment, so that a caller can say what had been told, and what a crash may leave, wherever a run was stopped. The counts stand still at
+/// 2^64 - 1. `docs/formats.md` says what is assumed of a real disk.
 pub trait Host {
-    /// The moment that has come. It stands still at 2^64 - 1.
-    ghost clock: { Self → ℕ };
+    /// What is seen of it: of the device bytes.
+    ghost outside: { Self → Outside (List ℕ) };
 
-    /// At this moment, one that has come, these bytes had been told. A host that tells nothing of its
-    /// content has no such bytes at any moment.
-    ghost told: { Self → ℕ → List ℕ → Type 0 };
+    /// The length of the contents, in bytes.
+    fn size(&mut self) -> Result<u64, HostFailed>
+        ensures size { IfOk result (λ size. (bytes : List ℕ) → (outside self.old).contents bytes → size ≡ length bytes) }
+        ensures contents { SameContents (outside self.old) (outside self.new) }
+        ensures images { LeavesSame (outside self.old) (outside self.new) }
+        ensures call { IsDeviceCall (outside self.old) (outside self.new) result };
 
-    /// How often the output failed. It stands still at 2^64 - 1.
-    ghost output_faults: { Self → ℕ };
+    /// Fills `into` with the contents from this byte on. The range lies in them.
+    fn read_at(&mut self, at: u64, into: &mut [u8]) -> Result<(), HostFailed>
+        requires { (bytes : List ℕ) → (outside self.old).contents bytes → at + length into.old ≤ length bytes }
+        ensures read { OnOk result ((bytes : List ℕ) → (outside self.old).contents bytes → into.new ≡ take (length into.old) (drop at bytes)) }
+        ensures length { length into.new ≡ length into.old }
+        ensures contents { SameContents (outside self.old) (outside self.new) }
+        ensures images { LeavesSame (outside self.old) (outside self.new) }
+        ensures call { IsDeviceCall (outside self.old) (outside self.new) result };
 
-    /// Tells the bytes, all of them where it answers Ok, and then no fault is counted. After a refusal a
-    /// front of them was told.
+    /// Writes bytes from this byte on, which is no farther than the end; where they pass the end, they extend it. Until a sync that succeeds
+    /// a crash may leave any bytes there, also after a refusal.
+    fn write_at(&mut self, at: u64, from: &[u8]) -> Result<(), HostFailed>
+        requires { (bytes : List ℕ) → (outside self.old).contents bytes → at ≤ length bytes }
+        ensures contents { OnOk result ((bytes : List ℕ) → (outside self.new).contents bytes → After (outside self.old).contents (Written at from.now) bytes) }
+        ensures images { Leaves (outside self.old) (outside self.new) (After ((outside self.old).images (outside self.old).clock) (Torn at (length from.now))) }
+        ensures call { IsDeviceCall (outside self.old) (outside self.new) result };
+
+    /// After it a crash leaves what a read gives.
+    fn sync(&mut self) -> Result<(), HostFailed>
+        ensures durable { OnOk result ((bytes : List ℕ) → (outside self.new).images (outside self.new).clock bytes → (outside self.new).contents bytes) }
+        ensures contents { SameContents (outside self.old) (outside self.new) }
+        ensures images { LeavesSame (outside self.old) (outside self.new) }
+        ensures call { IsDeviceCall (outside self.old) (outside self.new) result };
+
+    /// Tells the bytes, all of them where it answers Ok, and then no fault is counted. After a refusal a front of them was told.
     fn put(&mut self, from: &[u8]) -> Result<(), HostFailed>
-        ensures cut { TellsFront clock told self.old self.new from.now }
-        ensures all { OnOk result (Tells clock told self.old self.new from.now) }
-        ensures moves { Rose (clock self.old) (clock self.new) }
-        ensures counts { output_faults self.old ≤ output_faults self.new }
-        ensures calm { OnOk result (output_faults self.new ≡ output_faults self.old) }
-        ensures cause { OnErr result (Rose (output_faults self.old) (output_faults self.new)) };
+        ensures cut { TellsFront (outside self.old) (outside self.new) from.now }
+        ensures all { OnOk result (ToldAll (outside self.old) (outside self.new) from.now) }
+        ensures calm { OnOk result ((outside self.new).output_faults ≡ (outside self.old).output_faults) }
+        ensures call { IsPutCall (outside self.old) (outside self.new) result };
+
+    /// A law: the contents are one of the images that a crash may leave at the present moment.
+    ghost is_image: { (host : Self) (bytes : List ℕ) → (outside host).contents bytes → (outside host).images (outside host).clock bytes };
 }

@@ -1,13 +1,12 @@
-//! The outside of the system: the host, which takes what a program tells, and the shelf, which gives
+//! The outside of the system: the host, which is the device and takes what a program tells, and the shelf, which gives
 //! texts by name. Each is a trait, so that everything above is proved over any host and any shelf;
-//! `MemoryHost` and `MemoryShelf` are whole in memory, `FileHost` and `DirShelf` are the edge to the
-//! real system.
+//! `FileHost` and `DirShelf` are the edge to the real system, `MemoryShelf` is whole in memory.
 #![tactic(auto)]
 
+pub mod device_file;
 pub mod dir_shelf;
 pub mod file_host;
 pub mod host;
-pub mod memory_host;
 pub mod memory_shelf;
 pub mod shelf;
 pub mod tell;
@@ -15,6 +14,5 @@ pub mod tell;
 pub use dir_shelf::DirShelf;
 pub use file_host::FileHost;
 pub use host::{Host, HostFailed};
-pub use memory_host::MemoryHost;
 pub use memory_shelf::MemoryShelf;
 pub use shelf::{Shelf, ShelfFault};

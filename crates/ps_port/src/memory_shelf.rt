@@ -1,6 +1,6 @@
 ghost use Rattle.std.specs.Prelude.{◌≡◌, ℕ, ◌≤◌, ◌↔◌, List, [], None, OnOk, OnErr, IfErr, IsErrOf, vec_len};
 ghost use Rattle.ps_port.specs.declared.shelf.ShelfFault.TheVariants.{Failed};
-ghost use Rattle.ps_port.specs.Told.{Rose, counted};
+ghost use Rattle.ps_outside.specs.Outside.{Rose, counted};
 ghost use Rattle.ps_port.specs.Texts.{IsTextOf, TooLongFor};
 
 use crate::{Shelf, ShelfFault};

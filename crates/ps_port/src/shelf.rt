@@ -1,6 +1,6 @@
 ghost use Rattle.std.specs.Prelude.{◌≡◌, ℕ, ◌≤◌, ◌↔◌, List, [], OnOk, OnErr, IfErr, IsErrOf, vec_len};
 ghost use Rattle.ps_port.specs.declared.shelf.ShelfFault.TheVariants.{Failed, Memory};
-ghost use Rattle.ps_port.specs.Told.{Rose};
+ghost use Rattle.ps_outside.specs.Outside.{Rose};
 ghost use Rattle.ps_port.specs.Texts.{IsTextOf, TooLongFor};
 
 use ps_base::LONGEST_TEXT;

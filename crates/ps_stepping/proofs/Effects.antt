@@ -15,7 +15,7 @@ use Rattle.ps_stepping.specs.Config.{frame_words, Config, frame_in, constant_at,
 use Rattle.ps_stepping.specs.Machine.{Step, Goes, Stops, Stuck, on, is_num_slot, is_ref_slot, with_num, with_ref, put_num, push_num, push_ref, pop_num, pop_text, forward, turn_to, back, answered, one_num, two_nums, test, written, write_num, write_text, push_text, started, for_start, counted, for_next, returned, acts, behind, act}
 use Rattle.ps_stepping.specs.Effects.{Effect, moves, either, by_name, nums, refs, both, nothing, taken_or_left, width_and, effect_of, Moved, HasEffect}
 use Rattle.ps_stepping.proofs.Popping.{Does, does_if, popped_num, popped_ref, popped_text, does_push_ref, does_by_name, moved_on}
-use Rattle.ps_stepping.proofs.ObjectEffects.{does_on_objects}
+use Rattle.ps_stepping.proofs.ProcedureEffects.{does_on_procedures}
 
 -- nothing is taken, and nothing left
 does_nothing : (c : Config) → Moved (record { nums_taken = 0; nums_left = 0; refs_taken = 0; refs_left = 0 }) c c
@@ -192,7 +192,7 @@ does DupP own c = popped_ref (refs 1 2) c c (λ v d. push_ref v c)
     (record { nums = refl; refs = omega arith }) tt)
 does DropM own c = does_taken c (λ z d. on d) (λ z d. does_nothing d)
 does DropP own c = popped_ref (refs 1 0) c c (λ v d. on d) (λ v rest is. record { nums = refl; refs = omega (arith, ap length is) })
-does i own c = does_on_objects i c
+does i own c = does_on_procedures i c
 
 same_lengths : (e : Effect) (i : Instr) (c x : Config) → HasEffect e (behind i c) x → HasEffect e c x
 same_lengths (moves m) i c x h = record { nums = h.nums; refs = h.refs }

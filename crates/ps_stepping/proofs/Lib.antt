@@ -5,5 +5,6 @@ mod Popping
 mod Effects
 mod Rows
 mod ObjectEffects
+mod ProcedureEffects
 mod ObjectRows
 mod ProcedureRows

@@ -72,7 +72,7 @@ does_attempted : {A : Type 0} (e : Effect) (c : Config) (line : Line) (a : Attem
 does_attempted e c line (Yields x) next h = h x
 does_attempted e c line (Fails trap) next h = tt
 
-does_with_text : (e : Effect) (c : Config) (k : ℕ) (next : List ℕ → Step) → ((bytes : List ℕ) → Does e c (next bytes)) → Does e c (with_text k c next)
+pub does_with_text : (e : Effect) (c : Config) (k : ℕ) (next : List ℕ → Step) → ((bytes : List ℕ) → Does e c (next bytes)) → Does e c (with_text k c next)
 does_with_text e c k next h = of_constant (constant_at (constants_in c.unit) k)
   where
     of_constant : (constant : Option ConstantView) → Does e c (text_in constant next)
@@ -80,23 +80,23 @@ does_with_text e c k next h = of_constant (constant_at (constants_in c.unit) k)
     of_constant (Some (literal code)) = tt
     of_constant None = tt
 
-does_number : (e : Effect) (c : Config) (f : Option Form) (s : Step) → Does e c s → Does e c (when_number f s)
+pub does_number : (e : Effect) (c : Config) (f : Option Form) (s : Step) → Does e c s → Does e c (when_number f s)
 does_number e c (Some form.Number) s h = h
 does_number e c (Some form.Flag) s h = h
 does_number e c (Some form.Reference) s h = tt
 does_number e c None s h = tt
 
-does_reference : (e : Effect) (c : Config) (f : Option Form) (s : Step) → Does e c s → Does e c (when_reference f s)
+pub does_reference : (e : Effect) (c : Config) (f : Option Form) (s : Step) → Does e c s → Does e c (when_reference f s)
 does_reference e c (Some form.Number) s h = tt
 does_reference e c (Some form.Flag) s h = tt
 does_reference e c (Some form.Reference) s h = h
 does_reference e c None s h = tt
 
 -- pushing at the end
-ends_num : (e : Effect) (c d : Config) (z : ℤ) → HasEffect e c (record d { nums = z ∷ d.nums }) → Does e c (push_num z d)
+pub ends_num : (e : Effect) (c d : Config) (z : ℤ) → HasEffect e c (record d { nums = z ∷ d.nums }) → Does e c (push_num z d)
 ends_num e c d z h = does_if e c (nat_lt ((frame_in d.unit).nums + length d.nums) frame_words) (put_num z d) Stuck h tt
 
-ends_ref : (e : Effect) (c d : Config) (v : Value) → HasEffect e c (record d { refs = v ∷ d.refs }) → Does e c (push_ref v d)
+pub ends_ref : (e : Effect) (c d : Config) (v : Value) → HasEffect e c (record d { refs = v ∷ d.refs }) → Does e c (push_ref v d)
 ends_ref e c d v h = does_if e c (nat_lt ((frame_in d.unit).refs + length d.refs) frame_words) (on (record d { refs = v ∷ d.refs })) Stuck h tt
 
 -- Texts.
@@ -353,5 +353,5 @@ does_on_objects (instr.SetElemM line) c = does_set_element_num line c
 does_on_objects (instr.SetElemP line) c = does_set_element_ref line c
 does_on_objects instr.Lwb c = does_bound low_of c
 does_on_objects instr.Upb c = does_bound high_of c
-does_on_objects (instr.Lib k line) c = does_by_name c (library k c)
+does_on_objects (instr.Lib k line) c = does_by_name c (library k line c)
 does_on_objects i c = tt

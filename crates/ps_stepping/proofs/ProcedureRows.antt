@@ -1,6 +1,6 @@
 -- Steps over scopes and procedures that are computed.
 use Rattle.std.proofs.Common.{◌≡◌, ℕ, ℤ, pos, List, [], ◌∷◌, refl, true, false, None}
-use Rattle.std.specs.Prelude.{Option, Some, codes}
+use Rattle.std.specs.Prelude.{get_or, Option, Some, codes}
 use Rattle.text_forms.specs.Forms.{forms_of, forms_from, form_here, form_in, begins}
 use Rattle.ps_base.specs.CodeUnit.{UnitView, unit, text, literal, no_constants, constant_then}
 use Rattle.ps_base.specs.declared.line.Line.{Line}
@@ -11,9 +11,10 @@ use Rattle.ps_meaning.specs.Objects.{Heap, Object, Scope}
 use Rattle.ps_meaning.specs.Scopes.{new_scope, scope_out, name_in, with_name}
 use Rattle.ps_meaning.specs.Texts.{line_read, line_of, behind_line}
 use Rattle.ps_meaning.specs.Values.{Value, Num, Flag, Text, Nil, Procedure, as_compiled}
-use Rattle.ps_stepping.specs.Config.{Caller, Config}
+use Rattle.ps_stepping.specs.Config.{Config}
 use Rattle.ps_stepping.specs.Steps.{Goes, Stops, Stuck, on}
-use Rattle.ps_stepping.specs.Procedures.{acts_on_procedures, waiting, body_of_call, called, read_line, at_end}
+use Rattle.ps_stepping.specs.Objects.{read_line, at_end}
+use Rattle.ps_stepping.specs.Procedures.{acts_on_procedures, waiting, body_of_call, called}
 
 abbrev line : Line
 line = record { 0 = 7 }
@@ -131,6 +132,32 @@ call_takes_a_turn : acts_on_procedures (instr.Call 1 line) ready ≡ Goes (Turn 
 unfolding ready waits
 call_takes_a_turn = refl
 
+-- the first argument is the first local
+abbrev of_two : UnitView
+of_two = unit [] no_constants (record { nums = 2; refs = 0; num_params = 2; ref_params = 0 })
+
+first_argument_first : acts_on_procedures (instr.Call 0 line) (at (pos 5 ∷ pos 4 ∷ []) (Procedure (as_compiled of_two) None ∷ []) [] None)
+    ≡ Goes (Turn 0 ∷ [])
+    (body_of_call of_two None (pos 4 ∷ pos 5 ∷ []) [] (record { turns = 0; heap = []; input = []; counted = 0 }) (at [] [] [] None))
+first_argument_first = refl
+
+-- the body that is called stands in the procedure's scope, over nothing, and its other locals are 0 and nil
+called_body : Config
+called_body = body_of_call body (Some 1) (pos 5 ∷ []) (Text (codes "x") ∷ []) (record { turns = 0; heap = scopes; input = []; counted = 0 }) waits
+
+called_body_begins : called_body ≡ record {
+  unit = body;
+  at = 0;
+  nums = [];
+  refs = [];
+  locals = record { nums = λ slot. get_or (pos 5 ∷ []) slot (pos 0); refs = λ slot. get_or (Text (codes "x") ∷ []) slot Nil };
+  scope = Some 1;
+  callers = waiting waits ∷ [];
+  store = record { turns = 0; heap = scopes; input = []; counted = 0 };
+}
+unfolding called_body waits
+called_body_begins = refl
+
 no_turn_is_left : acts_on_procedures (instr.Call 1 line) (record ready { store = record ready.store { turns = 0 } }) ≡ Stops OutOfTurns
 unfolding ready
 no_turn_is_left = refl
@@ -175,3 +202,12 @@ end_of_input = refl
 something_is_left : at_end (reading (10 ∷ [])) ≡ on (record (reading (10 ∷ [])) { nums = pos 0 ∷ [] })
 unfolding reading
 something_is_left = refl
+
+-- both by their numbers in the library
+line_by_its_number : acts_on_procedures (instr.Lib 9 line) (reading []) ≡ Stops (Trapped trap.NoInput line)
+unfolding reading line_read
+line_by_its_number = refl
+
+end_by_its_number : acts_on_procedures (instr.Lib 10 line) (reading []) ≡ on (record (reading []) { nums = pos 1 ∷ [] })
+unfolding reading
+end_by_its_number = refl

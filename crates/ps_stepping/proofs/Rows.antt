@@ -84,3 +84,16 @@ return_hands_the_number_over = refl
 
 return_ends_the_run : act (instr.Return 0) (at 10 [] 2) ≡ Stops Done
 return_ends_the_run = refl
+
+-- one that waits with 512 numbers in its frame: nothing more is pushed there
+full : Caller
+full = record waiting { unit = unit [] no_constants (record { nums = 511; refs = 0; num_params = 0; ref_params = 0 }) }
+
+return_without_room : act (instr.Return 1) (record (at 10 (pos 5 ∷ []) 2) { callers = full ∷ [] }) ≡ Stuck
+unfolding full
+return_without_room = refl
+
+return_with_nothing_needs_none : act (instr.Return 0) (record (at 10 [] 2) { callers = full ∷ [] })
+    ≡ on (record (at 70 (pos 9 ∷ []) 2) { unit = full.unit })
+unfolding full
+return_with_nothing_needs_none = refl

@@ -1,7 +1,7 @@
 pub mod Config
 pub mod Steps
 pub mod Objects
+pub mod Procedures
 pub mod Machine
 pub mod Path
-pub mod Procedures
 pub mod Effects

@@ -17,7 +17,7 @@ use Rattle.ps_meaning.specs.Values as value
 use Rattle.ps_meaning.specs.Meaning.{Store, some_out, in_places, is_width, spent}
 use Rattle.ps_meaning.specs.Evaluation.{goes_on}
 pub use Rattle.ps_stepping.specs.Steps.{Step, Goes, Stops, Stuck, on, put_num, push_num, push_ref, pop_num_of, pop_num, pop_ref_of, pop_ref, pop_two, is_num_slot, is_ref_slot, with_num, with_ref, answered, one_num, two_nums, test, text_of, pop_text, with_text, attempted}
-use Rattle.ps_stepping.specs.Objects.{acts_on_objects}
+use Rattle.ps_stepping.specs.Procedures.{num_back, ref_back, acts_on_procedures}
 use Rattle.ps_stepping.specs.Config.{Caller, Config, code_in, constants_in, constant_at, IsAt}
 
 -- Jumps: forward to a greater offset than that of the jump itself, and back to a smaller one, which takes a turn.
@@ -83,18 +83,18 @@ resumed caller nums refs callers store = record {
   store = store;
 }
 
-abbrev pub come_back : List Caller → (Caller → List ℤ) → (Caller → List Value) → Config → Step
-come_back [] nums refs c = Stops Done
-come_back (caller ∷ callers) nums refs c = on (resumed caller (nums caller) (refs caller) callers c.store)
+abbrev pub come_back : List Caller → (Caller → Step → Step) → (Caller → List ℤ) → (Caller → List Value) → Config → Step
+come_back [] room nums refs c = Stops Done
+come_back (caller ∷ callers) room nums refs c = room caller (on (resumed caller (nums caller) (refs caller) callers c.store))
 
 abbrev pub returned : ℕ → Config → Step
-returned zero c = come_back c.callers (λ caller. caller.nums) (λ caller. caller.refs) c
-returned (suc zero) c = pop_num c (λ z d. come_back d.callers (λ caller. z ∷ caller.nums) (λ caller. caller.refs) d)
-returned (suc (suc zero)) c = pop_ref c (λ v d. come_back d.callers (λ caller. caller.nums) (λ caller. v ∷ caller.refs) d)
+returned zero c = come_back c.callers (λ caller next. next) (λ caller. caller.nums) (λ caller. caller.refs) c
+returned (suc zero) c = pop_num c (λ z d. come_back d.callers num_back (λ caller. z ∷ caller.nums) (λ caller. caller.refs) d)
+returned (suc (suc zero)) c = pop_ref c (λ v d. come_back d.callers ref_back (λ caller. caller.nums) (λ caller. v ∷ caller.refs) d)
 returned (suc (suc (suc n))) c = Stuck
 
 -- What an instruction does whose own offset this is; the configuration stands behind it already. What instructions over
--- structures, vectors and texts do is stated by themselves; those over procedures and scopes have no step yet.
+-- procedures and scopes do, and those over structures, vectors and texts, is stated by themselves.
 abbrev pub acts : Instr → ℕ → Config → Step
 acts (Int v) own c = push_num v c
 acts True own c = push_num (pos 1) c
@@ -134,7 +134,7 @@ acts DupM own c = pop_num c (λ z d. push_num z c)
 acts DupP own c = pop_ref c (λ v d. push_ref v c)
 acts DropM own c = pop_num c (λ z d. on d)
 acts DropP own c = pop_ref c (λ v d. on d)
-acts i own c = acts_on_objects i c
+acts i own c = acts_on_procedures i c
 
 -- behind an instruction
 abbrev pub behind : Instr → Config → Config

@@ -1,4 +1,4 @@
--- What the machine does with instructions over structures, vectors and texts. Where what it finds on the stack of references isn't of the kind
+-- What the machine does with instructions over structures, vectors and texts, and with those of the library. Where what it finds on the stack of references isn't of the kind
 -- that the instruction wants, it is stuck.
 use Rattle.std.specs.Prelude.{ℕ, zero, suc, ℤ, pos, List, [], ◌∷◌, length, map, reverse, nat_eq, Option, Some, None, if◌then◌else◌}
 use Rattle.std.specs.Fmt.{signed_decimal}
@@ -10,12 +10,12 @@ use Rattle.ps_base.specs.declared.operator.Relation.{Relation}
 use Rattle.ps_base.specs.declared.operator.Relation.TheVariants as relation
 use Rattle.ps_base.specs.declared.instr.Instr.{Instr}
 use Rattle.ps_base.specs.declared.instr.Instr.TheVariants as instr
-use Rattle.ps_meaning.specs.Texts.{join_of, part_of}
+use Rattle.ps_meaning.specs.Texts.{join_of, part_of, line_read, behind_line, is_at_end}
 use Rattle.ps_meaning.specs.Objects.{Heap, Object, Structure, Elements, object_at, new_number, is_class, field_of, with_field, vector_of, filled_vector, with_element, low_of, high_of}
 use Rattle.ps_meaning.specs.Objects.{element_of as element_at}
 use Rattle.ps_meaning.specs.Values.{Value, Num, word_of, number_of, is_one}
 use Rattle.ps_meaning.specs.Values as value
-use Rattle.ps_meaning.specs.Meaning.{Store, on_heap, and_object, and_text}
+use Rattle.ps_meaning.specs.Meaning.{Store, on_heap, and_object, and_text, on_input}
 use Rattle.ps_meaning.specs.Evaluation.{kept_as, kept_elements, text_relation, object_relation}
 use Rattle.ps_stepping.specs.Config.{Config}
 use Rattle.ps_stepping.specs.Steps.{Step, Stuck, on, push_num, push_ref, pop_num, pop_ref, pop_two, pop_text, with_text, attempted}
@@ -190,9 +190,20 @@ set_element_ref line c =
 abbrev pub bound : (Heap → Value → ℤ) → Config → Step
 bound of c = pop_vector c (λ ty v d. push_num (of d.store.heap v) d)
 
--- The library: `length`, and `iformat`.
-abbrev pub library : ℕ → Config → Step
-library code c = if nat_eq code 11 then text_length c else (if nat_eq code 12 then int_text c else Stuck)
+-- The library: `read.a.line`, `eof`, `length` and `iformat`.
+
+-- the next line of the input, as a new text
+abbrev pub read_line : Line → Config → Step
+read_line line c =
+    attempted line (line_read c.store.input) (λ bytes. make_text bytes (holding (on_input (behind_line c.store.input) c.store) c))
+
+abbrev pub at_end : Config → Step
+at_end c = push_num (number_of (is_at_end c.store.input)) c
+
+abbrev pub library : ℕ → Line → Config → Step
+library code line c =
+    if nat_eq code 9 then read_line line c else
+    (if nat_eq code 10 then at_end c else (if nat_eq code 11 then text_length c else (if nat_eq code 12 then int_text c else Stuck)))
 
 -- What an instruction over structures, vectors and texts does; the configuration stands behind it already. All others are stuck here.
 abbrev pub acts_on_objects : Instr → Config → Step
@@ -223,5 +234,5 @@ acts_on_objects (instr.SetElemM line) c = set_element_num line c
 acts_on_objects (instr.SetElemP line) c = set_element_ref line c
 acts_on_objects instr.Lwb c = bound low_of c
 acts_on_objects instr.Upb c = bound high_of c
-acts_on_objects (instr.Lib k line) c = library k c
+acts_on_objects (instr.Lib k line) c = library k line c
 acts_on_objects _ c = Stuck

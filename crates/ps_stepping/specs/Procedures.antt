@@ -1,5 +1,4 @@
--- What the machine does with instructions over scopes and procedures, and with those that read the input. Where what it finds isn't of the kind that
--- the instruction wants, it is stuck.
+-- What the machine does with instructions over scopes and procedures. Where what it finds isn't of the kind that the instruction wants, it is stuck.
 use Rattle.std.specs.Prelude.{ℕ, suc, ◌+◌, ℤ, pos, Bool, ◌&&◌, List, [], ◌∷◌, length, get_or, nat_eq, nat_lt, not, Option, Some, None, if◌then◌else◌}
 use Rattle.text_forms.specs.Forms.{forms_of, form_in}
 use Rattle.ps_base.specs.CodeUnit.{UnitView, ConstantView, text, literal}
@@ -9,15 +8,14 @@ use Rattle.ps_base.specs.declared.trap.Trap.TheVariants.{TooDeep}
 use Rattle.ps_base.specs.declared.instr.Instr.{Instr}
 use Rattle.ps_base.specs.declared.instr.Instr.TheVariants as instr
 use Rattle.ps_meaning.specs.Event.{Trapped, OutOfTurns, Turn}
-use Rattle.ps_meaning.specs.Texts.{line_read, behind_line, is_at_end}
 use Rattle.ps_meaning.specs.Objects.{Object, Scope, new_number}
 use Rattle.ps_meaning.specs.Scopes.{new_scope, scope_at, scope_out}
-use Rattle.ps_meaning.specs.Values.{Value, Num, Nil, Procedure, as_compiled, word_of, number_of}
-use Rattle.ps_meaning.specs.Meaning.{Store, on_input, and_object, and_closure, kept_name, with_kept_name, spent}
+use Rattle.ps_meaning.specs.Values.{Value, Num, Nil, Procedure, as_compiled, word_of}
+use Rattle.ps_meaning.specs.Meaning.{Store, and_object, and_closure, kept_name, with_kept_name, spent}
 use Rattle.ps_meaning.specs.Evaluation.{most_calls}
 use Rattle.ps_stepping.specs.Config.{frame_words, Locals, Caller, Config, constants_in, frame_in, constant_at}
-use Rattle.ps_stepping.specs.Steps.{Step, Goes, Stops, Stuck, on, push_num, push_ref, pop_num, pop_ref, with_text, attempted}
-use Rattle.ps_stepping.specs.Objects.{holding, changed, make_text, when_number, when_reference, pop_nums, pop_refs}
+use Rattle.ps_stepping.specs.Steps.{Step, Goes, Stops, Stuck, on, push_num, push_ref, pop_num, pop_ref, with_text}
+use Rattle.ps_stepping.specs.Objects.{holding, changed, when_number, when_reference, pop_nums, pop_refs, acts_on_objects}
 
 -- Scopes.
 
@@ -112,22 +110,13 @@ call n line c =
     if takes_refs n (frame_in of) then pop_nums (frame_in of).num_params [] e (λ zs f. called (length f.callers) line of scope zs vs f) else Stuck))
 
 -- Where a body comes back to one that waits, what it gives is pushed, if the frame of that one has room for it.
-abbrev pub num_back : ℤ → Caller → Step → Step
-num_back z caller next = if nat_lt ((frame_in caller.unit).nums + length caller.nums) frame_words then next else Stuck
+abbrev pub num_back : Caller → Step → Step
+num_back caller next = if nat_lt ((frame_in caller.unit).nums + length caller.nums) frame_words then next else Stuck
 
-abbrev pub ref_back : Value → Caller → Step → Step
-ref_back v caller next = if nat_lt ((frame_in caller.unit).refs + length caller.refs) frame_words then next else Stuck
+abbrev pub ref_back : Caller → Step → Step
+ref_back caller next = if nat_lt ((frame_in caller.unit).refs + length caller.refs) frame_words then next else Stuck
 
--- The input.
-
-abbrev pub read_line : Line → Config → Step
-read_line line c =
-    attempted line (line_read c.store.input) (λ bytes. make_text bytes (holding (on_input (behind_line c.store.input) c.store) c))
-
-abbrev pub at_end : Config → Step
-at_end c = push_num (number_of (is_at_end c.store.input)) c
-
--- What an instruction over scopes and procedures does; the configuration stands behind it already. All others are stuck here.
+-- What an instruction over scopes, procedures or objects does; the configuration stands behind it already. All others are stuck here.
 abbrev pub acts_on_procedures : Instr → Config → Step
 acts_on_procedures (instr.KeptM u i) c = kept_num u i c
 acts_on_procedures (instr.KeptP u i) c = kept_ref u i c
@@ -137,4 +126,4 @@ acts_on_procedures (instr.Scope k) c = enter_scope k c
 acts_on_procedures instr.Leave c = leave_scope c
 acts_on_procedures (instr.Closure k) c = closure k c
 acts_on_procedures (instr.Call n line) c = call n line c
-acts_on_procedures _ c = Stuck
+acts_on_procedures i c = acts_on_objects i c

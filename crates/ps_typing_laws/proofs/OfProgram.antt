@@ -61,7 +61,7 @@ all_fields = (
   ),
 )
 
-library_known : Known [] 0 library_names
+pub library_known : Known [] 0 library_names
 library_known = record {
   means = λ name meaning e. means name meaning (outside procedures name meaning all_outside e) e;
   fields = λ name found e. field_found library_names.fields_around name found all_fields e;

@@ -29,7 +29,7 @@ each_map P Q [] f h = tt
 each_map P Q (x ∷ xs) f h = (f x h.0, each_map P Q xs f h.1)
 
 -- the parts that are evaluated with a clause, and those that aren't
-abbrev evaluated : List (Part Node) → List Node
+abbrev pub evaluated : List (Part Node) → List Node
 evaluated [] = []
 evaluated (operand c ∷ rest) = c ∷ evaluated rest
 evaluated (label c ∷ rest) = c ∷ evaluated rest
@@ -224,7 +224,7 @@ no_arm_literals (more_arms (arm labels a) rest) d =
     ap literals (append_assoc (parts_all label labels) (branch a ∷ parts_arms rest) (branch d ∷ [])) ∙ no_labels labels
     (branch a ∷ (parts_arms rest ++ branch d ∷ [])) (no_arm_literals rest d)
 
-parts_named : {tree : Node} {claims : List Claim} {t : TyView} → Rule tree claims t →
+pub parts_named : {tree : Node} {claims : List Claim} {t : TyView} → Rule tree claims t →
     (evaluated (parts_of tree) ≡ clauses_of claims) × (literals (parts_of tree) ≡ [])
 parts_named (typed.make {args = ns} class args) = (arguments_are args, no_literals ns)
 parts_named (typed.call {f = f} {args = ns} args) = (ap (λ (l : List Node). f ∷ l) (arguments_are args), no_literals ns)

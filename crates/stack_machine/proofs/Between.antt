@@ -1,5 +1,5 @@
 -- What is known of a run between two steps.
-use Rattle.std.proofs.Common.{◌≡◌, ◌⊎◌, inl, inr, ⊎_elim, ℕ, suc, ◌+◌, ◌*◌, ◌-◌, ◌<◌, Bool, true, false, List, [], ◌∷◌, ◌++◌, length, Some, None, refl, sym, ap, ◌∙◌, subst, append_assoc, arith}
+use Rattle.std.proofs.Common.{◌≡◌, ◌⊎◌, inl, inr, ⊎_elim, ℕ, suc, ◌+◌, ◌*◌, ◌-◌, ◌<◌, ◌≤◌, ◌^◌, Bool, true, false, List, [], ◌∷◌, ◌++◌, length, Some, None, refl, sym, ap, ◌∙◌, subst, append_assoc, arith}
 use Rattle.std.specs.Prelude.{Result, Ok, Err}
 use Rattle.std.proofs.lemmas.List.{append-nil}
 use Rattle.ps_outside.specs.Outside.{Outside}
@@ -8,7 +8,14 @@ use Rattle.obj_layout.specs.declared.vault.VaultFault.TheVariants as vault_fault
 use Rattle.obj_layout.specs.Stored.{Space}
 use Rattle.obj_layout.specs.Storing.{Puts}
 use Rattle.swizzle.specs.Reading.{LeavesOutside}
+use Rattle.swizzle.specs.Heap as area
+use Rattle.swizzle.specs.Heap.{IsHeap, object_at}
 use Rattle.swizzle.specs.Text.{text_at}
+use Rattle.swizzle.proofs.KeptLaws.{held_is}
+use Rattle.swizzle.proofs.ObjectLaws.{split}
+use Rattle.swizzle.proofs.TextLaws.{length-text}
+use Rattle.proc_values.specs.Loaded.{IsUnit}
+use Rattle.ps_base.specs.CodeUnit.{UnitView, unit}
 use Rattle.swizzle.specs.declared.fault.SwizzleFault.TheVariants.{AreaFull}
 use Rattle.vault_output.specs.Sending.{Sends}
 use Rattle.vault_output.proofs.SendingLaws.{flush-then}
@@ -31,7 +38,8 @@ use Rattle.stack_machine.specs.declared.run.Advanced.TheVariants.{Damaged as Sto
 use Rattle.stack_machine.proofs.Telling.{all-then, fails-then, all-puts, fails-puts, all-none, but-leaves, but-then, but-all, but-fails, but-first, leaves-but, leaves-fails, still-empty}
 use Rattle.paired_ops.specs.World.{IsEmpty}
 use Rattle.stack_machine.proofs.Dispatch.{code_of}
-use Rattle.stack_machine.proofs.Progress.{left, nearer}
+use Rattle.machine_state.proofs.Callers.{as-many}
+use Rattle.stack_machine.proofs.Progress.{Left, left, nearer, IsNearer, by_turns, by_callers, by_bytes}
 
 pub outputs-append : (xs ys : List Event) → outputs (xs ++ ys) ≡ outputs xs ++ outputs ys
 outputs-append [] ys = refl
@@ -48,24 +56,51 @@ and_step {c = c} {next = next} {events = events} no_step steps = subst (λ (es :
 and_step {c = c} {next = next} {events = events} (more {events = first} {behind = behind} step way) steps =
     subst (λ (es : List Event). Reaches c es next) (sym (append_assoc first behind events)) (more step (and_step way steps))
 
--- how far a machine is from its end at most
+-- How far a machine is from its end at most: by the turns, then by the bodies that wait, which are no more than 2,000, and then by the bytes of its
+-- code, which are fewer than 2 ^ 32.
 abbrev pub left_of : Machine → ℕ
-left_of m = m.turns * suc (length (text_at m.sw m.code)) + (length (text_at m.sw m.code) - m.at)
+left_of m = (m.turns * 2001 + length m.waiting.callers.items) * 2 ^ 32 + (length (text_at m.sw m.code) - m.at)
 
-left_is : (m : Machine) (c : Config) → Holds m c → left c ≡ left_of m
+-- and so a run
+abbrev far : Left → ℕ
+far l = (l.turns * 2001 + l.callers) * 2 ^ 32 + l.bytes
+
+left_is : (m : Machine) (c : Config) → Holds m c → far (left c) ≡ left_of m
 left_is m c h =
     let k = h.held in
-    ap (λ (code : List ℕ). c.store.turns * suc (length code) + (length code - c.at)) (sym (code_of m c h))
-    ∙ ap (λ (n : ℕ). n * suc (length (text_at m.sw m.code)) + (length (text_at m.sw m.code) - c.at)) k.turns_are
-    ∙ ap (λ (n : ℕ). m.turns * suc (length (text_at m.sw m.code)) + (length (text_at m.sw m.code) - n)) k.at_is
+    let many = as-many m.sw h.names m.waiting.callers.items m.waiting.nums.items m.waiting.refs.items c.callers k.callers_are in
+    let long = ap length (code_of m c h) in
+    let turns = k.turns_are in
+    let at = k.at_is in
+    omega (arith, many, long, turns, at)
+
+falls : (l next : Left) → next.callers ≤ 2000 → next.bytes < 2 ^ 32 → IsNearer l next → far next < far l
+falls l next few small (by_turns t) = omega (arith, few, small, t)
+falls l next few small (by_callers t k) = omega (arith, few, small, t, k)
+falls l next few small (by_bytes t k r) = omega (arith, t, k, r)
+
+-- the code of a unit that lies in an area
+code-small : (here : area.Heap) (code : ℕ) (u : UnitView) → IsHeap here → IsUnit here code u → length (code_in u) < 2 ^ 32
+unfolding IsUnit
+code-small here code (unit bytes cs frame) heap is =
+    let fit = (split 1 here.objects code (object_at here code) heap.fit (held_is here code is.0.held)).fit in
+    let fields = fit.fields in
+    let long = length-text (object_at here code) fit in
+    let same = ap length is.0.code_is in
+    omega (arith, fields, long, same)
 
 -- a step that goes on brings the machine nearer to its end
-pub comes_nearer : (old new : Outside Space) (owed left : List ℕ) (m m' : Machine) → IsHolding m → Advances old new owed left m m' On → left_of m' < left_of m
-comes_nearer old new owed left m m' c a =
+pub comes_nearer : (old new : Outside Space) (owed rest : List ℕ) (m m' : Machine) → IsHeap m'.sw → IsHolding m → Advances old new owed rest m m' On → left_of m' < left_of m
+comes_nearer old new owed rest m m' heap c a =
     let by = a.by c.0 c.1 in
-    let low = (nearer by.1 c.1.held.no_callers by.2.0 by.2.1 by.2.2).0 in
+    let next = by.2.1 in
+    let k = by.2.3.held in
+    let few = a.sound.waiting.few in
+    let many = as-many m'.sw by.2.3.names m'.waiting.callers.items m'.waiting.nums.items m'.waiting.refs.items next.callers k.callers_are in
+    let small = code-small m'.sw m'.code next.unit heap k.unit_is in
+    let low = falls (left c.0) (left next) (omega (arith, few, many, m'.waiting.callers.ok.0)) (omega (arith, small)) (nearer by.1 by.2.0 next by.2.2).0 in
     let before = left_is m c.0 c.1 in
-    let after = left_is m' by.2.1 by.2.3 in
+    let after = left_is m' next by.2.3 in
     omega (arith, low, before, after)
 
 pub holds_on : (old new : Outside Space) (owed left : List ℕ) (m m' : Machine) → IsHolding m → Advances old new owed left m m' On → IsHolding m'

@@ -43,15 +43,19 @@ holds_behind m c i next h is = let k = h.held in record {
   names = h.names;
   held = record {
     unit_is = k.unit_is;
+    fit = k.fit;
     place_is = k.place_is;
     frame_is = k.frame_is;
     at_is = ap (λ (n : ℕ). n + width_of i) k.at_is ∙ sym is;
     nums_are = k.nums_are;
     refs_are = k.refs_are;
-    no_callers = k.no_callers;
+    scope_is = k.scope_is;
+    callers_are = k.callers_are;
+    input_is = k.input_is;
     turns_are = k.turns_are;
     world = k.world;
     entries_are = k.entries_are;
+    layouts_are = k.layouts_are;
     known_are = k.known_are;
     counted = k.counted;
   };

@@ -8,19 +8,22 @@ use Rattle.obj_layout.specs.declared.reference.Reference.{Reference}
 use Rattle.swizzle.specs.Heap as area
 use Rattle.obj_layout.specs.declared.kind.Kind.TheVariants.{Code}
 use Rattle.swizzle.specs.Heap.{IsHeld, header_at, top_of, fresh_heap}
+use Rattle.heap_ops.specs.Layouts.{AreSo as AreLaid}
 use Rattle.known_classes.specs.Classes.{IsRight}
 use Rattle.known_vectors.specs.Known.{AreSo as AreKnown}
 use Rattle.ps_meaning.specs.Values.{Value, Nil}
 use Rattle.ps_meaning.specs.Runs.{fresh_store}
-use Rattle.ps_stepping.specs.Config.{constants_in, frame_words, frame_in, start}
-use Rattle.paired_ops.specs.World.{IsWorld, DenotesIn}
+use Rattle.ps_stepping.specs.Config.{frame_words, frame_in, start}
+use Rattle.paired_ops.specs.World.{IsWorld, DenotesIn, DenotesScopeIn}
 use Rattle.proc_values.specs.Loaded.{IsUnit, IsUnitPlace}
 use Rattle.paired_ops.specs.Code as code
 use Rattle.paired_ops.specs.Code.{unit_weight}
 use Rattle.swizzle.specs.declared.fault.SwizzleFault.{SwizzleFault}
 use Rattle.swizzle.specs.declared.fault.SwizzleFault.TheVariants.{AreaFull}
 use Rattle.machine_state.specs.declared.machine.Machine.{Machine}
-use Rattle.machine_state.specs.Holding.{IsRow, IsRefRow, AreDenoted, object_in, Holds, IsSound, stack_words}
+use Rattle.machine_state.specs.Holding.{IsRow, IsRefRow, AreDenoted, object_in, Holds, IsSound}
+use Rattle.machine_state.specs.Waiting.{IsOrderly}
+use Rattle.machine_state.proofs.Words.{nil-denoted}
 use Rattle.stack_machine.specs.Loaded.{IsRoomy, IsFrame, IsLoaded, HasNoRoom, loaded_weight}
 
 -- locals that are 0
@@ -33,9 +36,9 @@ row_of count =
       locals_are = λ slot d below. sym (get_or-replicate count slot (pos 0) d below);
     }
 
--- nil denotes itself
-nil_denoted : (here : area.Heap) (names : List Reference) → DenotesIn here names None Nil
-nil_denoted here names = search rules
+-- no scope denotes itself
+no_scope_denoted : (here : area.Heap) (names : List Reference) → DenotesScopeIn here names None None
+no_scope_denoted here names = search rules
 
 ref_row_of : (here : area.Heap) (names : List Reference) (count : ℕ) → IsRefRow here names (replicate count 0) count [] (λ slot. Nil)
 ref_row_of here names count =
@@ -43,18 +46,19 @@ ref_row_of here names count =
     record {
       room = omega (arith, long);
       pushed_are = subst (λ (xs : List ℕ). AreDenoted here names xs []) (sym (ap (λ (xs : List ℕ). reverse xs) (drop_all count (replicate count 0) (omega (arith, long))))) tt;
-      locals_are = λ slot d below. subst (λ (w : ℕ). DenotesIn here names (object_in w) Nil) (sym (get_or-replicate count slot 0 d below)) (nil_denoted here names);
+      locals_are = λ slot d below. subst (λ (w : ℕ). DenotesIn here names (object_in w) Nil) (sym (get_or-replicate count slot 0 d below)) (nil-denoted here names);
     }
 
-module _ (u : UnitView) (turns : ℕ) (old new : Machine) (mid : area.Heap) (frame_is : new.frame ≡ frame_in u) (nums : new.frame.nums ≤ frame_words) (refs : new.frame.refs ≤ frame_words) where
+module _ (u : UnitView) (turns : ℕ) (input : List ℕ) (old new : Machine) (mid : area.Heap) (frame_is : new.frame ≡ frame_in u) (nums : new.frame.nums ≤ frame_words) (refs : new.frame.refs ≤ frame_words) where
   own_frame : IsFrame (frame_in u)
   own_frame = subst IsFrame frame_is (record { nums_fit = nums; refs_fit = refs })
 
   -- the machine begins
-  pub begins : (at : ℕ) → mid ≡ fresh_heap old.sw.size → code.IsLoaded mid new.sw u at → IsRight new.sw (constants_in u) new.classes → AreKnown new.sw [] [] new.vectors.entries.items → IsRoomy new
+  pub begins : (at : ℕ) → mid ≡ fresh_heap old.sw.size → code.IsLoaded mid new.sw u at → IsRight new.sw new.classes → AreLaid new.sw new.layouts.entries.items → AreKnown new.sw [] [] new.vectors.entries.items → IsRoomy new
       → new.code ≡ at → IsUnitPlace at u new.place → new.at ≡ 0 → new.nums.items ≡ replicate new.frame.nums (pos 0) → new.refs.items ≡ replicate new.frame.refs 0 → new.turns ≡ turns
-      → IsLoaded u turns old new
-  begins at fresh is so known roomy code_is placed at_is nums_are refs_are turns_are = record {
+      → new.scope ≡ 0 → IsOrderly new.waiting → new.waiting.callers.items ≡ [] → new.waiting.nums.items ≡ [] → new.waiting.refs.items ≡ [] → new.input ≡ input
+      → IsLoaded u turns input old new
+  begins at fresh is so laid known roomy code_is placed at_is nums_are refs_are turns_are scope_is orderly no_callers no_nums no_refs input_is = record {
     frame = own_frame;
     sound = record {
       nums_fit = let n = ap length nums_are in let k = length-replicate new.frame.nums (pos 0) in omega (arith, new.nums.ok.0, n, k);
@@ -64,6 +68,7 @@ module _ (u : UnitView) (turns : ℕ) (old new : Machine) (mid : area.Heap) (fra
       nums_room = let r = roomy.nums_room in omega (arith, r);
       refs_room = let r = roomy.refs_room in omega (arith, r);
       values_room = roomy.values_room;
+      waiting = orderly;
     };
     roomy = roomy;
     size = is.size ∙ ap (λ (h : area.Heap). h.size) fresh;
@@ -71,15 +76,19 @@ module _ (u : UnitView) (turns : ℕ) (old new : Machine) (mid : area.Heap) (fra
       names = [];
       held = record {
         unit_is = subst (λ (n : ℕ). IsUnit new.sw n u) (sym code_is) is.is;
+        fit = is.fit;
         place_is = subst (λ (n : ℕ). IsUnitPlace n u new.place) (sym code_is) placed;
         frame_is = sym frame_is;
         at_is = sym at_is;
         nums_are = subst (λ (xs : List ℤ). IsRow xs new.frame.nums [] (λ slot. pos 0)) (sym nums_are) (row_of new.frame.nums);
         refs_are = subst (λ (xs : List ℕ). IsRefRow new.sw [] xs new.frame.refs [] (λ slot. Nil)) (sym refs_are) (ref_row_of new.sw [] new.frame.refs);
-        no_callers = refl;
+        scope_is = subst (λ (w : ℕ). DenotesScopeIn new.sw [] (object_in w) None) (sym scope_is) (no_scope_denoted new.sw []);
+        callers_are = (no_callers, no_nums, no_refs);
+        input_is = input_is;
         turns_are = sym turns_are;
         world = is.bare;
         entries_are = so;
+        layouts_are = laid;
         known_are = known;
         counted = let top = is.top in let was = ap top_of fresh in omega (arith, enough, top, was);
       };

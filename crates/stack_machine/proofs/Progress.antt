@@ -1,10 +1,10 @@
--- Each step lowers a number, so that a run ends: the turns that are left, and then the bytes of the code behind the offset. And none lowers the count
--- of bytes.
+-- Each step brings a run nearer to its end: fewer turns are left, or as many and fewer bodies wait, or as many of both and fewer bytes of the code lie
+-- before it. And none lowers the count of bytes.
 use Rattle.std.proofs.Common.{◌≡◌, ℕ, zero, suc, ◌+◌, ◌*◌, ◌-◌, ◌<◌, ℤ, pos, ◌+ℤ◌, Bool, true, false, List, [], ◌∷◌, length, Option, Some, None, refl, ap, ◌∙◌, subst, arith, length-append, length-drop}
 use Rattle.std.specs.Prelude.{◌≤◌, not, nat_lt, nat_eq, map, reverse, if◌then◌else◌}
 use Rattle.std.specs.Fmt.{signed_decimal}
 use Rattle.std.proofs.lemmas.Bool.{ltb-true}
-use Rattle.ps_base.specs.CodeUnit.{ConstantView, text, literal}
+use Rattle.ps_base.specs.CodeUnit.{UnitView, ConstantView, text, literal}
 use Rattle.ps_base.specs.Instr.{width_of, spelling}
 use Rattle.ps_base.proofs.Spellings.{length-spelling}
 use Rattle.ps_base.specs.declared.line.Line.{Line}
@@ -15,28 +15,41 @@ use Rattle.ps_base.specs.declared.instr.Instr.{Instr}
 use Rattle.ps_base.specs.declared.instr.Instr.TheVariants.{Int, True, False, Text, Nil, GetM, GetP, SetM, SetP, KeptM, KeptP, KeepM, KeepP, Scope, Leave, Jump, JumpFalse, Again, And, Or, Not, Neg, Add, Sub, Mul, Div, Rem, EqM, NeM, LtM, LeM, GtM, GeM, EqP, NeP, EqT, NeT, LtT, LeT, GtT, GeT, Join, Part, Is, Make, FieldM, FieldP, SetFieldM, SetFieldP, FillM, FillP, ListM, ListP, ElemM, ElemP, SetElemM, SetElemP, Lwb, Upb, Closure, Call, Return, Lib, WriteI, WriteB, WriteT, Abort, ForStart, ForNext, ScanT, ScanI, ScanMore, DupM, DupP, DropM, DropP, JumpTrue}
 use Rattle.ps_meaning.specs.Operators.{Answer, Gives, Traps, is_same, neg_of, arith_of, relation_of}
 use Rattle.ps_meaning.specs.Event.{Event, count_of}
-use Rattle.ps_meaning.specs.Values.{Value, Num, word_of, number_of, is_one, flag_text}
+use Rattle.ps_meaning.specs.Values.{Value, Num, as_written, as_compiled, word_of, number_of, is_one, flag_text}
 use Rattle.ps_meaning.specs.Values as value
-use Rattle.ps_meaning.specs.Meaning.{is_width, in_places, some_out, with_turns, on_heap, and_object, and_text}
-use Rattle.ps_meaning.specs.Texts.{Attempt, Yields, Fails, join_of, part_of}
-use Rattle.ps_meaning.specs.Objects.{Heap, Object, Structure, new_number, is_class, field_of, with_field, vector_of, filled_vector, with_element, low_of, high_of}
+use Rattle.ps_meaning.specs.Meaning.{is_width, in_places, some_out, with_turns, on_heap, and_object, and_text, and_closure, on_input, kept_name, with_kept_name}
+use Rattle.ps_meaning.specs.Texts.{Attempt, Yields, Fails, join_of, part_of, line_read, behind_line, is_at_end}
+use Rattle.ps_meaning.specs.Objects.{Heap, Object, Structure, Elements, Scope as ScopeOf, new_number, is_class, field_of, with_field, vector_of, filled_vector, with_element, low_of, high_of}
 use Rattle.ps_meaning.specs.Objects.{element_of as element_at}
-use Rattle.ps_meaning.specs.Evaluation.{goes_on, kept_as, kept_elements, text_relation, object_relation}
+use Rattle.ps_meaning.specs.Scopes.{new_scope, scope_at, scope_out}
+use Rattle.ps_meaning.specs.Evaluation.{most_calls, goes_on, kept_as, kept_elements, text_relation, object_relation}
 use Rattle.text_forms.specs.declared.forms.Form.{Form}
 use Rattle.text_forms.specs.declared.forms.Form.TheVariants as form
 use Rattle.text_forms.specs.Forms.{forms_of, form_in, element_of}
 use Rattle.ps_stepping.specs.Steps.{text_of, text_in, attempted}
-use Rattle.ps_stepping.specs.Objects.{holding, changed, make, make_text, denoting_of, object_of, pop_fields, when_number, when_reference, type_of, of_type, pop_nums, pop_refs, library, text_length, int_text, join, part, compare_texts, compare_objects, is_of_class, make_structure, field_num, field_ref, set_field_num, set_field_ref, fill_num, fill_ref, list_num, list_ref, element_num, element_ref, set_element_num, set_element_ref, pop_vector}
+use Rattle.ps_stepping.specs.Objects.{holding, changed, make, make_text, denoting_of, object_of, pop_fields, when_number, when_reference, type_of, of_type, pop_nums, pop_refs, library, read_line, text_length, int_text, join, part, compare_texts, compare_objects, is_of_class, make_structure, field_num, field_ref, set_field_num, set_field_ref, fill_num, fill_ref, list_num, list_ref, element_num, element_ref, set_element_num, set_element_ref, pop_vector}
 use Rattle.ps_stepping.specs.Objects.{bound as bound_of}
+use Rattle.ps_stepping.specs.Procedures.{of_scope, enter_scope, leave_scope, kept_num, kept_ref, keep_num, keep_ref, procedure_of, unit_called, takes_refs, in_turn, call}
 use Rattle.ps_stepping.specs.Config.{Config, Caller, frame_words, code_in, constants_in, frame_in, constant_at}
 use Rattle.ps_stepping.specs.Machine.{Step, Goes, Stops, Stuck, Steps, at_instruction, at_nothing, acts, on, put_num, push_num, push_ref, pop_num_of, pop_ref_of, is_num_slot, is_ref_slot, with_num, with_ref, forward, turn_to, back, answered, test, written, pop_width, push_text, started, counted, come_back, returned}
 
-abbrev size : Config → ℕ
+abbrev pub size : Config → ℕ
 size c = length (code_in c.unit)
 
--- how far a run is from its end at most
-abbrev pub left : Config → ℕ
-left c = c.store.turns * suc (size c) + (size c - c.at)
+-- what is left of a run: its turns, the bodies that wait, and the bytes of the code that lie before it
+pub record Left : Type 0 where
+  pub turns : ℕ
+  pub callers : ℕ
+  pub bytes : ℕ
+
+abbrev pub left : Config → Left
+left c = record { turns = c.store.turns; callers = length c.callers; bytes = size c - c.at }
+
+-- where so much is left, a run is nearer to its end than where the first of these is
+pub data IsNearer (of next : Left) : Type 0 where
+  by_turns : next.turns < of.turns → IsNearer of next
+  by_callers : next.turns ≡ of.turns → next.callers < of.callers → IsNearer of next
+  by_bytes : next.turns ≡ of.turns → next.callers ≡ of.callers → next.bytes < of.bytes → IsNearer of next
 
 -- where each of these events happens, so many bytes are counted at least
 abbrev pub AreCounted : ℕ → List Event → Type 0
@@ -45,30 +58,31 @@ AreCounted count (event ∷ events) = (count ≤ count_of event) × AreCounted c
 
 -- how far a run may be from its end, and how many bytes are counted at least
 record Bound : Type 0 where
-  far : ℕ
+  of : Left
   counted_bytes : ℕ
 
 abbrev Lower : Bound → Step → Type 0
-Lower bound (Goes events next) = (left next < bound.far) × (bound.counted_bytes ≤ next.store.counted) × AreCounted bound.counted_bytes events × (next.callers ≡ [])
+Lower bound (Goes events next) =
+    IsNearer bound.of (left next) × (bound.counted_bytes ≤ next.store.counted) × AreCounted bound.counted_bytes events
 Lower bound (Stops e) = Unit {0}
 Lower bound Stuck = Unit {0}
 
-lower_fewer : (b d : Bound) (s : Step) → d.far ≡ b.far → b.counted_bytes ≤ d.counted_bytes → Lower d s → Lower b s
-lower_fewer b d (Goes events next) far few low = let below = low.0 in let more = low.1 in (omega (arith, far, below), omega (arith, few, more), fewer events low.2, low.3)
+lower_fewer : (b : Bound) (count : ℕ) (s : Step) → b.counted_bytes ≤ count → Lower (record b { counted_bytes = count }) s → Lower b s
+lower_fewer b count (Goes events next) few low = let more = low.1 in (low.0, omega (arith, few, more), fewer events low.2)
   where
-    fewer : (events : List Event) → AreCounted d.counted_bytes events → AreCounted b.counted_bytes events
+    fewer : (events : List Event) → AreCounted count events → AreCounted b.counted_bytes events
     fewer [] all = tt
     fewer (event ∷ events) all = let first = all.0 in (omega (arith, few, first), fewer events all.1)
-lower_fewer b d (Stops e) far few low = tt
-lower_fewer b d Stuck far few low = tt
+lower_fewer b count (Stops e) few low = tt
+lower_fewer b count Stuck few low = tt
 
--- the configuration is behind an instruction at this offset of the code, and no body waits
+-- the configuration is behind an instruction at this offset of the code
 abbrev Ahead : ℕ → Config → Type 0
-Ahead own c = (own < size c) × (own < c.at) × (c.callers ≡ [])
+Ahead own c = (own < size c) × (own < c.at)
 
 -- the bound of the instruction's own offset
 abbrev bound : ℕ → Config → Bound
-bound own c = record { far = c.store.turns * suc (size c) + (size c - own); counted_bytes = c.store.counted }
+bound own c = record { of = record { turns = c.store.turns; callers = length c.callers; bytes = size c - own }; counted_bytes = c.store.counted }
 
 abbrev Drops : ℕ → Config → Step → Type 0
 Drops own c s = Lower (bound own c) s
@@ -78,7 +92,7 @@ lower_if b true x y f g = f refl
 lower_if b false x y f g = g refl
 
 drops_on : (own : ℕ) (c : Config) → Ahead own c → Drops own c (on c)
-drops_on own c a = (omega (arith, a.0, a.1), omega arith, tt, a.2)
+drops_on own c a = (by_bytes refl refl (omega (arith, a.0, a.1)), omega arith, tt)
 
 drops_push : (own : ℕ) (c : Config) (z : ℤ) → Ahead own c → Drops own c (push_num z c)
 drops_push own c z a = lower_if _ (nat_lt ((frame_in c.unit).nums + length c.nums) frame_words) _ _ (λ e. drops_on own c a) (λ e. tt)
@@ -105,20 +119,14 @@ drops_two : (own : ℕ) (c : Config) (next : ℤ → ℤ → Config → Step) �
 drops_two own c next f = pops _ c.nums c _ (λ y rest. pops _ rest (record c { nums = rest }) _ (λ x rest'. f x y rest'))
 
 drops_forward : (own to : ℕ) (c : Config) → Ahead own c → Drops own c (forward own to c)
-drops_forward own to c a = lower_if _ (nat_lt own to) _ _ (λ e. let after : own < to = ltb-true own to e in (omega (arith, a.0), omega arith, tt, a.2)) (λ e. tt)
+drops_forward own to c a = lower_if _ (nat_lt own to) _ _ (λ e. let after : own < to = ltb-true own to e in (by_bytes refl refl (omega (arith, a.0, after)), omega arith, tt)) (λ e. tt)
 
-turn_lower : (turns n to at : ℕ) → (left : ℕ) → turns ≡ suc left → left * suc n + (n - to) < turns * suc n + at
-turn_lower turns n to at left some =
-    let product : turns * suc n ≡ suc n + left * suc n = ap (λ (k : ℕ). k * suc n) some ∙ omega arith in
-    omega (arith, product)
+drops_turn : (own to turns : ℕ) (c : Config) → c.store.turns ≡ turns → Drops own c (turn_to (with_turns c.store turns) to c)
+drops_turn own to zero c is = tt
+drops_turn own to (suc n) c is = (by_turns (omega (arith, is)), omega arith, (omega arith, tt))
 
-drops_turn : (c : Config) (to own turns : ℕ) → c.callers ≡ [] → c.store.turns ≡ turns →
-    Lower (record { far = c.store.turns * suc (size c) + own; counted_bytes = c.store.counted }) (turn_to (with_turns c.store turns) to c)
-drops_turn c to own zero alone is = tt
-drops_turn c to own (suc n) alone is = (turn_lower c.store.turns (size c) to own n is, omega arith, (omega arith, tt), alone)
-
-drops_back : (own to : ℕ) (c : Config) → c.callers ≡ [] → Drops own c (back own to c)
-drops_back own to c alone = lower_if _ (nat_lt to own) _ _ (λ e. drops_turn c to (size c - own) c.store.turns alone refl) (λ e. tt)
+drops_back : (own to : ℕ) (c : Config) → Drops own c (back own to c)
+drops_back own to c = lower_if _ (nat_lt to own) _ _ (λ e. drops_turn own to c.store.turns c refl) (λ e. tt)
 
 drops_answered : (own : ℕ) (line : Line) (answer : Answer) (c : Config) → Ahead own c → Drops own c (answered line answer c)
 drops_answered own line (Gives z) c a = drops_on own c a
@@ -129,7 +137,7 @@ out_counted [] count = tt
 out_counted (byte ∷ bytes) count = (omega arith, tt)
 
 drops_written : (own : ℕ) (line : Line) (width : Option ℤ) (bytes : List ℕ) (c : Config) → Ahead own c → Drops own c (written line width bytes c)
-drops_written own line width bytes c a = lower_if _ (is_width width) _ _ (λ e. (omega (arith, a.0, a.1), omega arith, out_counted (in_places width bytes) c.store.counted, a.2)) (λ e. tt)
+drops_written own line width bytes c a = lower_if _ (is_width width) _ _ (λ e. (by_bytes refl refl (omega (arith, a.0, a.1)), omega arith, out_counted (in_places width bytes) c.store.counted)) (λ e. tt)
 
 -- a width is popped, and what follows is lower
 drops_width : (own w : ℕ) (c : Config) (next : Option ℤ → Config → Step) → ((width : Option ℤ) (rest : List ℤ) → Drops own c (next width (record c { nums = rest }))) → Drops own c (pop_width w c next)
@@ -137,15 +145,19 @@ drops_width own zero c next f = f None c.nums
 drops_width own (suc zero) c next f = pops _ c.nums c _ (λ z rest. f (Some z) rest)
 drops_width own (suc (suc n)) c next f = tt
 
-drops_back_to : (b : Bound) (callers : List Caller) (nums : Caller → List ℤ) (refs : Caller → List Value) (c : Config) → callers ≡ [] → Lower b (come_back callers nums refs c)
-drops_back_to b [] nums refs c none = tt
-drops_back_to b (caller ∷ callers) nums refs c none = absurd (cc)
+-- where a body comes back to one that waits, fewer wait
+lower_back : (b : Bound) (callers : List Caller) (room : Caller → Step → Step) (nums : Caller → List ℤ) (refs : Caller → List Value) (c : Config) → length callers ≡ b.of.callers → c.store.turns ≡ b.of.turns
+    → b.counted_bytes ≤ c.store.counted → ((caller : Caller) (s : Step) → Lower b s → Lower b (room caller s)) → Lower b (come_back callers room nums refs c)
+lower_back b [] room nums refs c many turns more f = tt
+lower_back b (caller ∷ callers) room nums refs c many turns more f = f caller _ (by_callers turns (omega (arith, many)), more, tt)
 
-drops_returned : (own k : ℕ) (c : Config) → Ahead own c → Drops own c (returned k c)
-drops_returned own zero c a = drops_back_to _ c.callers _ _ c a.2
-drops_returned own (suc zero) c a = pops _ c.nums c _ (λ z rest. drops_back_to _ c.callers _ _ (record c { nums = rest }) a.2)
-drops_returned own (suc (suc zero)) c a = pops_ref _ c.refs c _ (λ v rest. drops_back_to _ c.callers _ _ (record c { refs = rest }) a.2)
-drops_returned own (suc (suc (suc n))) c a = tt
+drops_returned : (own k : ℕ) (c : Config) → Drops own c (returned k c)
+drops_returned own zero c = lower_back (bound own c) c.callers _ _ _ c refl refl (omega arith) (λ caller s low. low)
+drops_returned own (suc zero) c = pops _ c.nums c _ (λ z rest. lower_back (bound own c) c.callers _ _ _ (record c { nums = rest }) refl refl (omega arith)
+    (λ caller s low. lower_if _ (nat_lt ((frame_in caller.unit).nums + length caller.nums) frame_words) _ _ (λ e. low) (λ e. tt)))
+drops_returned own (suc (suc zero)) c = pops_ref _ c.refs c _ (λ v rest. lower_back (bound own c) c.callers _ _ _ (record c { refs = rest }) refl refl (omega arith)
+    (λ caller s low. lower_if _ (nat_lt ((frame_in caller.unit).refs + length caller.refs) frame_words) _ _ (λ e. low) (λ e. tt)))
+drops_returned own (suc (suc (suc n))) c = tt
 
 drops_test : (own : ℕ) (f : ℤ → ℤ → Bool) (c : Config) → Ahead own c → Drops own c (test f c)
 drops_test own f c a = drops_two own c (λ x y d. put_num (number_of (f x y)) d) (λ x y rest. drops_on own (record c { nums = number_of (f x y) ∷ rest }) a)
@@ -155,10 +167,10 @@ drops_arith own line f c a = drops_two own c (λ x y d. answered line (f x y) d)
 
 drops_started : (own to : ℕ) (line : Line) (control limit step : ℤ) (c : Config) → Ahead own c → Drops own c (started own to line control limit step c)
 drops_started own to line control limit step c a = lower_if _ (is_same step (pos 0)) _ _ (λ e. tt)
-    (λ e. lower_if _ (goes_on limit step control) _ _ (λ g. drops_turn c c.at (size c - own) c.store.turns a.2 refl) (λ g. drops_forward own to c a))
+    (λ e. lower_if _ (goes_on limit step control) _ _ (λ g. drops_turn own c.at c.store.turns c refl) (λ g. drops_forward own to c a))
 
 drops_counted : (own s to : ℕ) (limit step next : ℤ) (c : Config) → Ahead own c → Drops own c (counted own s to limit step next c)
-drops_counted own s to limit step next c a = lower_if _ (goes_on limit step next) _ _ (λ e. drops_back own to (with_num c s next) a.2) (λ e. drops_on own c a)
+drops_counted own s to limit step next c a = lower_if _ (goes_on limit step next) _ _ (λ e. drops_back own to (with_num c s next)) (λ e. drops_on own c a)
 
 drops_jump : (own to : ℕ) (c : Config) (rest : List ℤ) (stays : List ℤ) (b : Bool) → Ahead own c
     → Drops own c (if b then on (record c { nums = rest }) else forward own to (record c { nums = stays }))
@@ -248,12 +260,12 @@ lower_refs b (suc n) vs c refs next f = pops_ref b refs (record c { refs = refs 
 drops_text_made : (own : ℕ) (c : Config) (bytes : List ℕ) → Ahead own c → Drops own c (make_text bytes c)
 drops_text_made own c bytes a =
     let more = holding (and_text bytes c.store) c in
-    lower_fewer (bound own c) (bound own more) _ refl (omega arith) (drops_push_ref own more (value.Text bytes) a)
+    lower_fewer (bound own c) more.store.counted _ (omega arith) (drops_push_ref own more (value.Text bytes) a)
 
 drops_made : (own : ℕ) (c : Config) (denoting : ℕ → Value) (object : Object) → Ahead own c → Drops own c (make denoting object c)
 drops_made own c denoting object a =
     let more = holding (and_object object c.store) c in
-    lower_fewer (bound own c) (bound own more) _ refl (omega arith) (drops_push_ref own more (denoting (new_number c.store.heap)) a)
+    lower_fewer (bound own c) more.store.counted _ (omega arith) (drops_push_ref own more (denoting (new_number c.store.heap)) a)
 
 drops_changed : (own : ℕ) (c : Config) (heap : Heap) → Ahead own c → Drops own c (changed heap c)
 drops_changed own c heap a = drops_on own (holding (on_heap heap c.store) c) a
@@ -279,8 +291,73 @@ drops_length own c a = pops_ref _ c.refs c _ (λ v rest. lower_text _ v (record 
 drops_int_text : (own : ℕ) (c : Config) → Ahead own c → Drops own c (int_text c)
 drops_int_text own c a = pops _ c.nums c _ (λ z rest. drops_text_made own (record c { nums = rest }) (signed_decimal z) a)
 
-drops_library : (own code : ℕ) (c : Config) → Ahead own c → Drops own c (library code c)
-drops_library own code c a = lower_if _ (nat_eq code 11) _ _ (λ e. drops_length own c a) (λ e. lower_if _ (nat_eq code 12) _ _ (λ e'. drops_int_text own c a) (λ e'. tt))
+drops_read_line : (own : ℕ) (line : Line) (c : Config) → Ahead own c → Drops own c (read_line line c)
+drops_read_line own line c a = lower_attempted _ line (line_read c.store.input) _ (λ bytes. drops_text_made own (holding (on_input (behind_line c.store.input) c.store) c) bytes a)
+
+drops_library : (own code : ℕ) (line : Line) (c : Config) → Ahead own c → Drops own c (library code line c)
+drops_library own code line c a = lower_if _ (nat_eq code 9) _ _ (λ e. drops_read_line own line c a) (λ e. lower_if _ (nat_eq code 10) _ _ (λ e'. drops_push own c (number_of (is_at_end c.store.input)) a)
+    (λ e'. lower_if _ (nat_eq code 11) _ _ (λ f. drops_length own c a) (λ f. lower_if _ (nat_eq code 12) _ _ (λ f'. drops_int_text own c a) (λ f'. tt))))
+
+-- Scopes and procedures.
+
+lower_of_scope : (b : Bound) (found : Option Object) (next : List ℕ → Option ℕ → Step) → ((of : List ℕ) (parent : Option ℕ) → Lower b (next of parent)) → Lower b (of_scope found next)
+lower_of_scope b (Some (ScopeOf of parent names)) next f = f of parent
+lower_of_scope b (Some (Structure class fields)) next f = tt
+lower_of_scope b (Some (Elements ty low elements)) next f = tt
+lower_of_scope b None next f = tt
+
+drops_enter : (own k : ℕ) (c : Config) → Ahead own c → Drops own c (enter_scope k c)
+drops_enter own k c a =
+    let more : List ℕ → Config = λ of. record (holding (and_object (new_scope of c.scope) c.store) c) { scope = Some (new_number c.store.heap) } in
+    lower_constant _ (constant_at (constants_in c.unit) k) (λ of. on (more of))
+    (λ of. lower_fewer (bound own c) (more of).store.counted (on (more of)) (omega arith) (drops_on own (more of) a))
+
+drops_leave : (own : ℕ) (c : Config) → Ahead own c → Drops own c (leave_scope c)
+drops_leave own c a = lower_of_scope _ (scope_at c.store.heap c.scope) _ (λ of parent. drops_on own (record c { scope = parent }) a)
+
+drops_kept_num : (own up i : ℕ) (c : Config) → Ahead own c → Drops own c (kept_num up i c)
+drops_kept_num own up i c a = lower_of_scope _ (scope_at c.store.heap (scope_out c.store.heap c.scope up)) _
+    (λ of parent. lower_number _ (form_in (forms_of of) i) _ (drops_push own c (word_of (kept_name c.store.heap c.scope up i)) a))
+
+drops_kept_ref : (own up i : ℕ) (c : Config) → Ahead own c → Drops own c (kept_ref up i c)
+drops_kept_ref own up i c a = lower_of_scope _ (scope_at c.store.heap (scope_out c.store.heap c.scope up)) _
+    (λ of parent. lower_reference _ (form_in (forms_of of) i) _ (drops_push_ref own c (kept_name c.store.heap c.scope up i) a))
+
+drops_keep_num : (own up i : ℕ) (c : Config) → Ahead own c → Drops own c (keep_num up i c)
+drops_keep_num own up i c a = pops _ c.nums c _ (λ z rest. lower_of_scope _ (scope_at c.store.heap (scope_out c.store.heap c.scope up)) _
+    (λ of parent. lower_number _ (form_in (forms_of of) i) _ (drops_changed own (record c { nums = rest }) (with_kept_name c.store.heap c.scope up i (Num z)) a)))
+
+drops_keep_ref : (own up i : ℕ) (c : Config) → Ahead own c → Drops own c (keep_ref up i c)
+drops_keep_ref own up i c a = pops_ref _ c.refs c _ (λ v rest. lower_of_scope _ (scope_at c.store.heap (scope_out c.store.heap c.scope up)) _
+    (λ of parent. lower_reference _ (form_in (forms_of of) i) _ (drops_changed own (record c { refs = rest }) (with_kept_name c.store.heap c.scope up i v) a)))
+
+drops_closure : (own : ℕ) (c : Config) (found : Option ConstantView) → Ahead own c → Drops own c (procedure_of found c)
+drops_closure own c (Some (literal of)) a =
+    let more = holding (and_closure c.store) c in
+    lower_fewer (bound own c) more.store.counted _ (omega arith) (drops_push_ref own more (value.Procedure (as_compiled of) c.scope) a)
+drops_closure own c (Some (text bytes)) a = tt
+drops_closure own c None a = tt
+
+lower_called : (b : Bound) (v : Value) (next : UnitView → Option ℕ → Step) → ((of : UnitView) (scope : Option ℕ) → Lower b (next of scope)) → Lower b (unit_called v next)
+lower_called b (value.Procedure (as_compiled of) scope) next f = f of scope
+lower_called b (value.Procedure (as_written of) scope) next f = tt
+lower_called b (value.Text bytes) next f = tt
+lower_called b (value.Num z) next f = tt
+lower_called b (value.Flag flag) next f = tt
+lower_called b value.Nil next f = tt
+lower_called b (value.Pointer id) next f = tt
+lower_called b (value.Vector id) next f = tt
+lower_called b value.Nothing next f = tt
+
+drops_in_turn : (own turns : ℕ) (c : Config) (of : UnitView) (scope : Option ℕ) (zs : List ℤ) (vs : List Value) → c.store.turns ≡ turns
+    → Drops own c (in_turn (with_turns c.store turns) of scope zs vs c)
+drops_in_turn own zero c of scope zs vs is = tt
+drops_in_turn own (suc n) c of scope zs vs is = (by_turns (omega (arith, is)), omega arith, (omega arith, tt))
+
+drops_call : (own n : ℕ) (line : Line) (c : Config) → Drops own c (call n line c)
+drops_call own n line c = lower_refs (bound own c) n [] c c.refs _ (λ vs rs. pops_ref _ rs (record c { refs = rs }) _ (λ v rest. lower_called _ v _ (λ of scope.
+    lower_if _ (takes_refs n (frame_in of)) _ _ (λ e. lower_nums (bound own c) (frame_in of).num_params [] (record c { refs = rest }) c.nums _
+    (λ zs ns. lower_if _ (nat_lt (length c.callers) most_calls) _ _ (λ e'. drops_in_turn own c.store.turns (record c { nums = ns; refs = rest }) of scope zs vs refl) (λ e'. tt))) (λ e. tt))))
 
 -- a vector is popped
 drops_vector : (own : ℕ) (c d : Config) (next : List ℕ → Value → Config → Step) → ((ty : List ℕ) (v : Value) (rest : List Value) → Drops own c (next ty v (record d { refs = rest })))
@@ -300,16 +377,16 @@ drops (GetM s) own c a = lower_if _ (is_num_slot c s) _ _ (λ e. drops_push own 
 drops (GetP s) own c a = lower_if _ (is_ref_slot c s) _ _ (λ e. drops_push_ref own c (c.locals.refs s) a) (λ e. tt)
 drops (SetM s) own c a = pops _ c.nums c _ (λ z rest. lower_if _ (is_num_slot c s) _ _ (λ e. drops_on own (with_num (record c { nums = rest }) s z) a) (λ e. tt))
 drops (SetP s) own c a = pops_ref _ c.refs c _ (λ v rest. lower_if _ (is_ref_slot c s) _ _ (λ e. drops_on own (with_ref (record c { refs = rest }) s v) a) (λ e. tt))
-drops (KeptM u i) own c a = tt
-drops (KeptP u i) own c a = tt
-drops (KeepM u i) own c a = tt
-drops (KeepP u i) own c a = tt
-drops (Scope k) own c a = tt
-drops Leave own c a = tt
+drops (KeptM u i) own c a = drops_kept_num own u i c a
+drops (KeptP u i) own c a = drops_kept_ref own u i c a
+drops (KeepM u i) own c a = drops_keep_num own u i c a
+drops (KeepP u i) own c a = drops_keep_ref own u i c a
+drops (Scope k) own c a = drops_enter own k c a
+drops Leave own c a = drops_leave own c a
 drops (Jump t) own c a = drops_forward own t c a
 drops (JumpFalse t) own c a = pops _ c.nums c _ (λ z rest. drops_jump own t c rest rest (is_one z) a)
 drops (JumpTrue t) own c a = pops _ c.nums c _ (λ z rest. drops_jump_true own t c rest rest (is_one z) a)
-drops (Again t) own c a = pops _ c.nums c _ (λ z rest. lower_if _ (is_one z) _ _ (λ e. drops_back own t (record c { nums = rest }) a.2) (λ e. drops_on own (record c { nums = rest }) a))
+drops (Again t) own c a = pops _ c.nums c _ (λ z rest. lower_if _ (is_one z) _ _ (λ e. drops_back own t (record c { nums = rest })) (λ e. drops_on own (record c { nums = rest }) a))
 drops (And t) own c a = pops _ c.nums c _ (λ z rest. drops_jump own t c rest c.nums (is_one z) a)
 drops (Or t) own c a = pops _ c.nums c _ (λ z rest. drops_jump_true own t c rest c.nums (is_one z) a)
 drops Not own c a = pops _ c.nums c _ (λ z rest. drops_on own (record c { nums = number_of (not (is_one z)) ∷ rest }) a)
@@ -369,10 +446,10 @@ drops (SetElemP line) own c a = pops_ref _ c.refs c _ (λ w rs. pops _ c.nums (r
     lower_attempted _ line (with_element c.store.heap v i w) _ (λ heap. lower_reference _ (Some (element_of ty)) _ (drops_changed own (record c { nums = ns; refs = rest }) heap a)))))
 drops Lwb own c a = drops_bound own low_of c a
 drops Upb own c a = drops_bound own high_of c a
-drops (Closure k) own c a = tt
-drops (Call n line) own c a = tt
-drops (Return k) own c a = drops_returned own k c a
-drops (Lib k line) own c a = drops_library own k c a
+drops (Closure k) own c a = drops_closure own c (constant_at (constants_in c.unit) k) a
+drops (Call n line) own c a = drops_call own n line c
+drops (Return k) own c a = drops_returned own k c
+drops (Lib k line) own c a = drops_library own k line c a
 drops (WriteI w line) own c a = drops_width own w c _ (λ width rest. pops _ rest (record c { nums = rest }) _ (λ z rest'. drops_written own line width (signed_decimal z) (record c { nums = rest' }) a))
 drops (WriteB w line) own c a = drops_width own w c _ (λ width rest. pops _ rest (record c { nums = rest }) _ (λ z rest'. drops_written own line width (flag_text (is_one z)) (record c { nums = rest' }) a))
 drops (WriteT w line) own c a = drops_width own w c _ (λ width rest. pops_ref _ c.refs (record c { nums = rest }) _ (λ v rest'. lower_text _ v (record c { nums = rest; refs = rest' }) _ (λ bytes. drops_written own line width bytes (record c { nums = rest; refs = rest' }) a)))
@@ -387,11 +464,11 @@ drops DupP own c a = pops_ref _ c.refs c _ (λ v rest. drops_push_ref own c v a)
 drops DropM own c a = pops _ c.nums c _ (λ z rest. drops_on own (record c { nums = rest }) a)
 drops DropP own c a = pops_ref _ c.refs c _ (λ v rest. drops_on own (record c { refs = rest }) a)
 
--- A step that goes on comes nearer to the end, and counts no fewer bytes; no body waits behind it either.
-pub nearer : {c : Config} {s : Step} → Steps c s → c.callers ≡ [] → (events : List Event) (next : Config) → s ≡ Goes events next
-    → (left next < left c) × (c.store.counted ≤ next.store.counted) × AreCounted c.store.counted events × (next.callers ≡ [])
-nearer {c} {s} (at_instruction {i} at) alone events next is =
+-- A step that goes on comes nearer to the end, and counts no fewer bytes.
+pub nearer : {c : Config} {s : Step} → Steps c s → (events : List Event) (next : Config) → s ≡ Goes events next
+    → IsNearer (left c) (left next) × (c.store.counted ≤ next.store.counted) × AreCounted c.store.counted events
+nearer {c} {s} (at_instruction {i} at) events next is =
     let inside : c.at < size c = omega (arith, ap length at.spelled, length-append (spelling i) at.rest, length-spelling i, length-drop c.at (code_in c.unit)) in
-    let lower = drops i c.at (record c { at = c.at + width_of i }) (inside, omega arith, alone) in
-    subst (λ (x : Step). Lower (record { far = left c; counted_bytes = c.store.counted }) x) is lower
-nearer {c} {s} (at_nothing none) alone events next is = absurd (let both : Stuck ≡ Goes events next = is in cc)
+    let lower = drops i c.at (record c { at = c.at + width_of i }) (inside, omega arith) in
+    subst (λ (x : Step). Lower (bound c.at c) x) is lower
+nearer {c} {s} (at_nothing none) events next is = absurd (let both : Stuck ≡ Goes events next = is in cc)

@@ -1,20 +1,22 @@
 -- A machine that was loaded with a unit, or why none was.
-use Rattle.std.specs.Prelude.{◌≡◌, ℕ, ◌+◌, ◌*◌, ◌<◌, ◌≤◌, [], Result, Ok, Err, vec_capacity}
+use Rattle.std.specs.Prelude.{◌≡◌, ℕ, ◌+◌, ◌*◌, ◌<◌, ◌≤◌, List, Result, Ok, Err, vec_capacity}
 use Rattle.ps_base.specs.CodeUnit.{UnitView}
 use Rattle.ps_base.specs.declared.code_unit.Frame.{Frame}
 use Rattle.ps_meaning.specs.Runs.{fresh_store}
 use Rattle.ps_stepping.specs.Config.{frame_words, frame_in, start}
 use Rattle.paired_ops.specs.Code.{unit_weight}
 use Rattle.machine_state.specs.declared.machine.Machine.{Machine}
-use Rattle.machine_state.specs.Holding.{stack_words, most_values, Holds, IsSound}
+use Rattle.machine_state.specs.Holding.{most_values, Holds, IsSound}
+use Rattle.machine_state.specs.Waiting.{HasRoom}
 use Rattle.stack_machine.specs.declared.load.LoadFault.{LoadFault}
 use Rattle.stack_machine.specs.declared.load.LoadFault.TheVariants.{Damaged, Full}
 
--- there is memory for all frames of a run, and for the values of an object
+-- there is memory for the frame of the body that runs and for those of the bodies that wait, and for the values of an object
 pub record IsRoomy (m : Machine) : Type 0 where
-  pub nums_room : stack_words ≤ vec_capacity m.nums
-  pub refs_room : stack_words ≤ vec_capacity m.refs
+  pub nums_room : frame_words ≤ vec_capacity m.nums
+  pub refs_room : frame_words ≤ vec_capacity m.refs
   pub values_room : most_values ≤ vec_capacity m.values
+  pub waiting_room : HasRoom m.waiting
 
 -- so there is in a new machine, whose area has this size
 pub record IsNew (size : ℕ) (m : Machine) : Type 0 where
@@ -30,13 +32,13 @@ pub record IsFrame (frame : Frame) : Type 0 where
 abbrev pub loaded_weight : UnitView → ℕ
 loaded_weight u = 8 + unit_weight u
 
--- The machine is at the start of the unit, with so many turns, where its bytes are counted.
-pub record IsLoaded (u : UnitView) (turns : ℕ) (old new : Machine) : Type 0 where
+-- The machine is at the start of the unit, with so many turns and this input, where its bytes are counted.
+pub record IsLoaded (u : UnitView) (turns : ℕ) (input : List ℕ) (old new : Machine) : Type 0 where
   pub frame : IsFrame (frame_in u)
   pub sound : IsSound new
   pub roomy : IsRoomy new
   pub size : new.sw.size ≡ old.sw.size
-  pub starts : (counted : ℕ) → loaded_weight u ≤ counted → Holds new (start u (fresh_store turns [] counted))
+  pub starts : (counted : ℕ) → loaded_weight u ≤ counted → Holds new (start u (fresh_store turns input counted))
 
 -- The area has no room for the unit.
 pub record HasNoRoom (u : UnitView) (old new : Machine) (top wanted size : ℕ) : Type 0 where
@@ -47,7 +49,7 @@ pub record HasNoRoom (u : UnitView) (old new : Machine) (top wanted size : ℕ) 
   pub passed : 8 * size < loaded_weight u
 
 -- a unit is refused as damaged exactly where its frame is too large
-abbrev pub Loads : UnitView → ℕ → Machine → Machine → Result (Unit {0}) LoadFault → Type 0
-Loads u turns old new (Ok done) = IsLoaded u turns old new
-Loads u turns old new (Err Damaged) = (IsFrame (frame_in u) → ⊥) × (new ≡ old)
-Loads u turns old new (Err (Full top wanted size)) = HasNoRoom u old new top wanted size
+abbrev pub Loads : UnitView → ℕ → List ℕ → Machine → Machine → Result (Unit {0}) LoadFault → Type 0
+Loads u turns input old new (Ok done) = IsLoaded u turns input old new
+Loads u turns input old new (Err Damaged) = (IsFrame (frame_in u) → ⊥) × (new ≡ old)
+Loads u turns input old new (Err (Full top wanted size)) = HasNoRoom u old new top wanted size

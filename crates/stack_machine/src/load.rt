@@ -3,9 +3,10 @@ ghost use Rattle.ps_base.specs.CodeUnit.{unit_view};
 ghost use Rattle.ps_stepping.specs.Config.{frame_words};
 ghost use Rattle.stack_machine.specs.Loaded.{IsRoomy, IsNew, Loads};
 
+use heap_ops::layouts::Layouts;
 use known_classes::classes::KnownClasses;
 use known_vectors::known::KnownVectors;
-use machine_state::{FRAME_WORDS, Item, MOST_VALUES, Machine, RunEnd, STACK_WORDS, Writing};
+use machine_state::{FRAME_WORDS, Input, Item, MOST_VALUES, Machine, RunEnd, Waiting, Writing};
 use paired_ops::code;
 use proc_values::reading::{CodePlace, code_place};
 use ps_base::code_unit::{CodeUnit, Frame};
@@ -47,8 +48,9 @@ const NO_FAULT: SwizzleFault = SwizzleFault::AreaFull {
     size: 0,
 };
 
-/// A machine without a unit, over an area of so many words. It takes all the memory that its runs will use: the area, two stacks of 2,001 times
-/// 512 words, and room for the values of one object; of all these no page is touched before it is used.
+/// A machine without a unit, over an area of so many words. It takes all the memory that its runs will use but for their input: the area, the stacks
+/// of the body that runs and of 2,000 bodies that wait, 512 words each, and room for the values of one object; of all these no page is touched
+/// before it is used.
 pub fn machine(alloc: Global, words: u32) -> Result<Machine, AllocError>
     requires low { 5 ≤ words }
     requires high { words ≤ 2 ^ 25 }
@@ -56,18 +58,24 @@ pub fn machine(alloc: Global, words: u32) -> Result<Machine, AllocError>
 {
     let sw = Swizzle::new(alloc, words)?;
     let classes = KnownClasses::new(alloc)?;
+    let layouts = Layouts::new(alloc)?;
     let vectors = KnownVectors::new(alloc)?;
+    let waiting = Waiting::new(alloc)?;
     Ok(Machine {
         sw,
         classes,
+        layouts,
         vectors,
         values: Vec::with_capacity(alloc, MOST_VALUES)?,
         code: 0,
         place: NO_PLACE,
         frame: NO_LOCALS,
+        scope: 0,
         at: 0,
-        nums: Vec::with_capacity(alloc, STACK_WORDS)?,
-        refs: Vec::with_capacity(alloc, STACK_WORDS)?,
+        nums: Vec::with_capacity(alloc, FRAME_WORDS)?,
+        refs: Vec::with_capacity(alloc, FRAME_WORDS)?,
+        waiting,
+        input: Input::new(Vec::new(alloc)),
         turns: 0,
         writing: NO_WRITING,
         end: RunEnd::Done,
@@ -75,11 +83,11 @@ pub fn machine(alloc: Global, words: u32) -> Result<Machine, AllocError>
     })
 }
 
-/// Puts a unit into a machine, at its start and with so many turns. What lay in the area is forgotten in no time that depends on it, and no
-/// memory is taken.
-pub fn load(m: &mut Machine, unit: &CodeUnit, turns: u64) -> Result<(), LoadFault>
+/// Puts a unit into a machine, at its start, with so many turns and this input. What lay in the area is forgotten in no time that depends on it, and
+/// no memory is taken.
+pub fn load(m: &mut Machine, unit: &CodeUnit, turns: u64, input: Vec<u8>) -> Result<(), LoadFault>
     requires { IsRoomy m.old }
-    ensures { Loads (unit_view unit.now) turns m.old m.new result }
+    ensures { Loads (unit_view unit.now) turns input.items m.old m.new result }
 {
     let frame = unit.frame;
     if frame.nums as usize > FRAME_WORDS {
@@ -90,7 +98,10 @@ pub fn load(m: &mut Machine, unit: &CodeUnit, turns: u64) -> Result<(), LoadFaul
     }
     m.sw.reset();
     m.classes.clear();
+    m.layouts.clear();
     m.vectors.clear();
+    m.waiting.clear();
+    m.input = Input::new(input);
     match code::load(&mut m.sw, unit) {
         Ok(code) => {
             m.sw.sound();
@@ -113,18 +124,23 @@ fn begin(m: &mut Machine, code: u32, place: CodePlace, frame: Frame, turns: u64)
     ensures roomy { IsRoomy m.new }
     ensures sw { m.new.sw ≡ m.old.sw }
     ensures classes { m.new.classes ≡ m.old.classes }
+    ensures layouts { m.new.layouts ≡ m.old.layouts }
     ensures vectors { m.new.vectors ≡ m.old.vectors }
     ensures code { m.new.code ≡ code }
     ensures place { m.new.place ≡ place }
     ensures frame { m.new.frame ≡ frame }
+    ensures scope { m.new.scope ≡ 0 }
     ensures at { m.new.at ≡ 0 }
     ensures nums { m.new.nums.items ≡ replicate frame.nums (pos 0) }
     ensures refs { m.new.refs.items ≡ replicate frame.refs 0 }
+    ensures waiting { m.new.waiting ≡ m.old.waiting }
+    ensures input { m.new.input ≡ m.old.input }
     ensures turns { m.new.turns ≡ turns }
 {
     m.code = code;
     m.place = place;
     m.frame = frame;
+    m.scope = 0;
     m.at = 0;
     m.turns = turns;
     blank_nums(&mut m.nums, frame.nums as usize);

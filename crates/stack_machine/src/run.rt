@@ -179,7 +179,9 @@ pub fn run<V: Vault>(
     ensures emptied { output.new ≡ [] }
 {
     loop {
-        match advance(m, vault, output) {
+        let advanced = advance(m, vault, output);
+        m.sw.sound();
+        match advanced {
             Advanced::On => {}
             Advanced::Ended => return finish(vault, output, m.end),
             Advanced::Damaged => return Err(break_off(vault, output)),

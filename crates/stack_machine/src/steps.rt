@@ -16,13 +16,18 @@ use machine_objects::texts::{
     compare as compare_texts, join, library, part, push_text, write_text,
 };
 use machine_objects::vectors::{element_num, element_ref, lower_bound, upper_bound};
+use machine_procedures::blocks::{enter_scope, leave_scope};
+use machine_procedures::calls::call;
+use machine_procedures::names::{keep_num, keep_ref, kept_num, kept_ref};
+use machine_procedures::procedures::closure;
 use machine_state::jumps::{again, and, drop_num, forward, jump_false, jump_true, or};
 use machine_state::loops::{for_next, for_start};
+use machine_state::returns::returned;
 use machine_state::stacks::push_num;
 use machine_state::values::{
     arith, compare, drop_ref, dup_num, dup_ref, get_num, get_ref, neg, not, set_num, set_ref,
 };
-use machine_state::writes::{abort, returned, write_flag, write_int};
+use machine_state::writes::{abort, write_flag, write_int};
 use machine_state::{Machine, Stepped};
 use obj_layout::vault::Vault;
 use proc_values::reading::instr_within;
@@ -73,12 +78,12 @@ fn act<V: Vault>(m: &mut Machine, vault: &mut V, own: u32, instr: Instr) -> Step
         Instr::GetP { s } => get_ref(m, s as usize),
         Instr::SetM { s } => set_num(m, s as usize),
         Instr::SetP { s } => set_ref(m, s as usize),
-        Instr::KeptM { .. } => Stepped::Damaged,
-        Instr::KeptP { .. } => Stepped::Damaged,
-        Instr::KeepM { .. } => Stepped::Damaged,
-        Instr::KeepP { .. } => Stepped::Damaged,
-        Instr::Scope { .. } => Stepped::Damaged,
-        Instr::Leave => Stepped::Damaged,
+        Instr::KeptM { u, i } => kept_num(m, vault, u, i),
+        Instr::KeptP { u, i } => kept_ref(m, vault, u, i),
+        Instr::KeepM { u, i } => keep_num(m, vault, u, i),
+        Instr::KeepP { u, i } => keep_ref(m, vault, u, i),
+        Instr::Scope { c } => enter_scope(m, vault, c),
+        Instr::Leave => leave_scope(m, vault),
         Instr::Jump { t } => forward(m, own, t),
         Instr::JumpFalse { t } => jump_false(m, own, t),
         Instr::Again { t } => again(m, own, t),
@@ -123,10 +128,10 @@ fn act<V: Vault>(m: &mut Machine, vault: &mut V, own: u32, instr: Instr) -> Step
         Instr::SetElemP { line } => set_element_ref(m, vault, line),
         Instr::Lwb => lower_bound(m, vault),
         Instr::Upb => upper_bound(m, vault),
-        Instr::Closure { .. } => Stepped::Damaged,
-        Instr::Call { .. } => Stepped::Damaged,
+        Instr::Closure { c } => closure(m, vault, c),
+        Instr::Call { n, line } => call(m, vault, n, line),
         Instr::Return { k } => returned(m, k),
-        Instr::Lib { k, .. } => library(m, k),
+        Instr::Lib { k, line } => library(m, k, line),
         Instr::WriteI { w, line } => write_int(m, w, line),
         Instr::WriteB { w, line } => write_flag(m, w, line),
         Instr::WriteT { w, line } => write_text(m, w, line),

@@ -151,22 +151,14 @@ fn a_frame_of_too_many_locals(rt: HostRuntime) -> Result<(), Fail> {
     for frame in [frame(513, 0), frame(0, 513), frame(u16::MAX, u16::MAX)] {
         let unit = unit_of(rt.alloc(), b"", frame)?;
         let mut machine = machine(rt.alloc(), WORDS)?;
-        let fault = load(&mut machine, &unit, 1).err();
+        let fault = load(&mut machine, &unit, 1, Vec::new(rt.alloc())).err();
         assert_eq!(rt; fault, Some(LoadFault::Damaged));
     }
     Ok(())
 }
 
-// The machine has no step for scopes, procedures and scans, and for the library's procedures but 11 and 12; 13 is none of them.
-const WITHOUT_A_STEP: [I; 24] = [
-    I::KeptM { u: 0, i: 0 },
-    I::KeptP { u: 0, i: 0 },
-    I::KeepM { u: 0, i: 0 },
-    I::KeepP { u: 0, i: 0 },
-    I::Scope { c: 0 },
-    I::Leave,
-    I::Closure { c: 2 },
-    I::Call { n: 0, line: LINE },
+// The machine has no step for scans, and for the library's procedures but 9 to 12; 13 is none of them.
+const WITHOUT_A_STEP: [I; 14] = [
     I::ScanT {
         q: 0,
         s: 0,
@@ -189,8 +181,6 @@ const WITHOUT_A_STEP: [I; 24] = [
     I::Lib { k: 6, line: LINE },
     I::Lib { k: 7, line: LINE },
     I::Lib { k: 8, line: LINE },
-    I::Lib { k: 9, line: LINE },
-    I::Lib { k: 10, line: LINE },
     I::Lib { k: 13, line: LINE },
     I::Lib {
         k: u32::MAX,
@@ -198,9 +188,20 @@ const WITHOUT_A_STEP: [I; 24] = [
     },
 ];
 
-// These have steps, but none over such operands: the references are texts where an object is wanted, constant 0 is a text that names no field,
-// and constant 2 is a unit.
-const OVER_OTHER_OPERANDS: [I; 18] = [
+// These have steps, but none over such operands: the references are texts where an object or a procedure is wanted, constant 0 is a text that names
+// no field, and constant 2 is a unit; and there is no scope.
+const OVER_OTHER_OPERANDS: [I; 29] = [
+    I::KeptM { u: 0, i: 0 },
+    I::KeptP { u: 0, i: 0 },
+    I::KeepM { u: 0, i: 0 },
+    I::KeepP { u: 0, i: 0 },
+    I::Leave,
+    I::Scope { c: 2 },
+    I::Closure { c: 0 },
+    I::Closure { c: 3 },
+    I::Call { n: 0, line: LINE },
+    I::Call { n: 1, line: LINE },
+    I::Call { n: 2, line: LINE },
     I::EqP,
     I::NeP,
     I::Is { c: 0 },

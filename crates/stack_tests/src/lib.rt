@@ -2,6 +2,8 @@
 #![tactic(auto)]
 
 #[cfg(test)]
+mod bodies;
+#[cfg(test)]
 mod calls;
 #[cfg(test)]
 mod classes;
@@ -10,6 +12,10 @@ mod full;
 #[cfg(test)]
 mod hostile;
 #[cfg(test)]
+mod inputs;
+#[cfg(test)]
+mod kept_names;
+#[cfg(test)]
 mod known;
 #[cfg(test)]
 mod loops;
@@ -17,6 +23,8 @@ mod loops;
 mod object_rows;
 #[cfg(test)]
 mod objects;
+#[cfg(test)]
+mod procedures;
 #[cfg(test)]
 mod references;
 #[cfg(test)]

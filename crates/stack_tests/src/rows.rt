@@ -1,5 +1,6 @@
 //! Rows of tests: what a unit's code comes to, and all that it tells.
 
+use memory_host::MemoryHost;
 use no_store::NoStore;
 use ps_base::bytes::Bytes;
 use ps_base::code_unit::{CodeUnit, Constant, Frame};
@@ -7,7 +8,6 @@ use ps_base::instr::Instr;
 use ps_base::line::Line;
 use ps_base::list::List;
 use ps_code::encode::encode;
-use ps_port::MemoryHost;
 use stack_machine::RunEnd;
 use stack_machine::load::{LoadFault, load, machine};
 use stack_machine::run::{RunFault, run};
@@ -130,7 +130,7 @@ pub fn host(alloc: Global, failing: &[u64]) -> Result<MemoryHost, AllocError> {
     MemoryHost::new(alloc, b"", failing, u64::MAX, ROOM)
 }
 
-/// What a unit comes to in so many turns, in an area of so many words, and the host that it told.
+/// What a unit comes to in so many turns, in an area of so many words and without an input, and the host that it told.
 pub fn outcome_in(
     alloc: Global,
     words: u32,
@@ -138,9 +138,21 @@ pub fn outcome_in(
     turns: u64,
     host: MemoryHost,
 ) -> Result<(Came, MemoryHost), Fail> {
+    outcome_of(alloc, words, unit, turns, b"", host)
+}
+
+/// What a unit comes to with an input.
+pub fn outcome_of(
+    alloc: Global,
+    words: u32,
+    unit: &CodeUnit,
+    turns: u64,
+    input: &[u8],
+    host: MemoryHost,
+) -> Result<(Came, MemoryHost), Fail> {
     let mut output = Output::new(alloc)?;
     let mut machine = machine(alloc, words.clamp(5, 1 << 25))?;
-    let loaded = load(&mut machine, unit, turns);
+    let loaded = load(&mut machine, unit, turns, Vec::from_slice(alloc, input)?);
     let Ok(()) = loaded else {
         return not_run(loaded.err(), host);
     };

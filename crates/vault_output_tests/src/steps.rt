@@ -1,9 +1,9 @@
 //! What is done with an output, step by step.
 ghost use Rattle.std.specs.Prelude.{◌≡◌, true, IfOk, OnOk};
 
+use memory_host::MemoryHost;
 use no_store::NoStore;
 use obj_layout::vault::VaultFault;
-use ps_port::MemoryHost;
 use std::alloc::{AllocError, Global};
 use vault_output::Output;
 

@@ -49,7 +49,7 @@ pub record FindsField (k n : ℕ) (old new : Machine) (answer : Option (ℕ × L
 -- This is known of the field, and the machine stands for the configuration still; or there is no such text, or it names no such field.
 abbrev pub GivesKnown : ℕ → ℕ → List Reference → Config → Option KnownField → Machine → Machine → Type 0
 GivesKnown k n names c None old new = GivesField k n names c None old new
-GivesKnown k n names c (Some known) old new = StillHolds names c old new × IsKnown new.sw (constants_in c.unit) k n known
+GivesKnown k n names c (Some known) old new = StillHolds names c old new × IsKnown new.sw new.code k n known
 
 pub record KnowsField (k n : ℕ) (old new : Machine) (answer : Option KnownField) : Type 0 where
   pub sound : IsSound new
@@ -59,9 +59,9 @@ pub record KnowsField (k n : ℕ) (old new : Machine) (answer : Option KnownFiel
 pub record MeetsField (known : KnownField) (old new : Machine) (answer : KnownField) : Type 0 where
   pub sound : IsSound new
   pub area : new.sw ≡ old.sw
-  pub gives : (names : List Reference) (c : Config) (k n : ℕ) → HeldBy names old c → IsKnown old.sw (constants_in c.unit) k n known
-      → HeldBy names new c × IsKnown new.sw (constants_in c.unit) k n answer
+  pub gives : (names : List Reference) (c : Config) (k n : ℕ) → HeldBy names old c → IsKnown old.sw old.code k n known
+      → HeldBy names new c × IsKnown new.sw new.code k n answer
 
 -- this is known of the class that the text constant of a number is
 abbrev pub KnowsMake : ℕ → Machine → KnownMake → Type 0
-KnowsMake k m known = (names : List Reference) (c : Config) → HeldBy names m c → IsKnownMake m.sw (constants_in c.unit) k known
+KnowsMake k m known = (names : List Reference) (c : Config) → HeldBy names m c → IsKnownMake m.sw m.code k known

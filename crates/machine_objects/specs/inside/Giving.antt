@@ -21,12 +21,8 @@ use Rattle.machine_state.specs.declared.stepped.Stepped.{Stepped}
 use Rattle.machine_state.specs.declared.stepped.Stepped.TheVariants.{Halts, Breaks, Damaged}
 use Rattle.machine_state.specs.declared.run_end.RunEnd.TheVariants as in_code
 use Rattle.known_vectors.specs.Known.{AllLast}
-use Rattle.machine_state.specs.Holding.{Held, IsSound}
+use Rattle.machine_state.specs.Holding.{HeldIn, IsSound}
 use Rattle.machine_state.specs.Stepped.{Does, KeepsSize, ended}
-
--- the machine with this area stood for the configuration
-abbrev pub HeldIn : area.Heap → List Reference → Machine → Config → Type 0
-HeldIn here names m c = Held names here m.classes m.vectors.entries.items m.code m.place m.frame m.at m.nums.items m.refs.items m.turns c
 
 -- what an operation that failed comes to: its trap, or there was no room in the area, or not even on the stack
 abbrev pub failed_of : OpFault → Bool → Stepped

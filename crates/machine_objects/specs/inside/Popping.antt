@@ -9,7 +9,7 @@ use Rattle.ps_stepping.specs.Config.{Config, frame_words}
 use Rattle.ps_stepping.specs.Steps.{Step, Stuck, pop_ref, pop_text}
 use Rattle.ps_stepping.specs.Objects.{pop_object, pop_denoting, pop_vector, type_of}
 use Rattle.paired_ops.specs.World.{DenotesIn}
-use Rattle.paired_ops.specs.Operands.{IsNoText}
+use Rattle.paired_ops.specs.Operands.{IsByObject}
 use Rattle.machine_state.specs.declared.machine.Machine.{Machine}
 use Rattle.machine_state.specs.Holding.{HeldBy, IsSound}
 
@@ -40,7 +40,7 @@ abbrev pub PopsObject : Machine → Machine → Option (Option ℕ) → Type 0
 PopsObject = TakenAs (λ to. to) (λ v. v) anything pop_object
 
 abbrev pub PopsDenoting : Machine → Machine → Option (Option ℕ) → Type 0
-PopsDenoting = TakenAs (λ to. to) (λ v. v) IsNoText pop_denoting
+PopsDenoting = TakenAs (λ to. to) (λ v. v) IsByObject pop_denoting
 
 -- A vector, whose type's text what follows gets too.
 abbrev pub GivesVector : List Reference → Config → Option ℕ → Machine → Type 0

@@ -10,7 +10,6 @@ use Rattle.ps_tree.specs.Phrase.{Phrase}
 use Rattle.ps_parse.specs.Program.{ReadsAs, IsParseFault}
 use Rattle.ps_tree.specs.Fault as parsing
 use Rattle.ps_built.specs.Library.{first_unbuilt_library}
-use Rattle.ps_built.specs.Procedures.{first_procedure}
 use Rattle.ps_program.specs.Node.{BodyNode}
 use Rattle.ps_typing.specs.Fault.{Fault}
 use Rattle.ps_typing.specs.Program.{check_program, Typed}
@@ -22,7 +21,6 @@ use Rattle.ps_command.specs.declared.source_fault.SourceFault.TheVariants as sou
 
 -- the tree is typed, and all of it runs: this program
 pub record IsChecked (phrase : Phrase) (program : BodyNode) : Type 0 where
-  pub free : first_procedure phrase ≡ None
   pub typed : check_program phrase ≡ Typed program
   pub built : first_unbuilt_library program ≡ None
 

@@ -26,7 +26,7 @@ use Rattle.ps_gen.specs.inside.Clauses.{clause, clauses, keeping, naming, labels
 use Rattle.ps_gen.specs.inside.Chains.{Chained, Left, LeftOpen}
 use Rattle.ps_gen.proofs.Laws.{more_clauses, no_clauses, more_labels, no_labels, more_arms_is, no_arms_is, by_type_width}
 use Rattle.ps_gen.proofs.Putting.{seq, puts_same, followed, behind}
-use Rattle.ps_gen.proofs.Making.{one_is, single, begun, left_all, left_more, left_none, left_open_all, left_open_more, left_open_none, opened_at, halfway, body_made, jump_width, entering_is, leaving_is, last_is, third_is, seq2, items_counted, list_named, filled_with, no_items}
+use Rattle.ps_gen.proofs.Making.{closing_puts, one_is, single, begun, left_all, left_more, left_none, left_open_all, left_open_more, left_open_none, opened_at, halfway, body_made, jump_width, entering_is, leaving_is, last_is, third_is, seq2, items_counted, list_named, filled_with, no_items}
 use Rattle.ps_gen.proofs.Chaining.{linked, knows_behind, made_is, chained_last, chained_weight, call_weight, block_weight, make_weight, elems_weight, lib_weight, case_weight}
 use Rattle.ps_gen.proofs.+tree.Goals as goal
 
@@ -322,6 +322,9 @@ emitter::Emitter::tree-returns t c =
     let none : length c.loop-link.links.items ≡ 0 = search (rules, c.in_default.ensures.cases.0) in
     let end : Chained tree [] here.inner = subst (λ ls. Chained tree ls here.inner) (no_items c.loop-link.links.items none) here.chained in
     subst (λ n. Puts (clause n) (state_of c.args.self.now) (state_of c.loop-link.self)) (sym end) here.puts
+
+pub emitter::Emitter::procedure-returns : goal.emitter::Emitter::procedure-returns
+emitter::Emitter::procedure-returns t c = closing_puts _ c.in_ok-unit.ensures c.in_ok-name_unit.ensures
 
 pub literals::unit-returns : goal.literals::unit-returns
 unfolding constant_view

@@ -25,6 +25,7 @@ use Rattle.ps_gen.specs.declared.naming.Naming.{Naming}
 use Rattle.ps_gen.specs.declared.naming.Naming.TheVariants as name
 use Rattle.ps_gen.specs.declared.known.Known.{Known}
 use Rattle.ps_gen.specs.declared.known.Known.TheVariants as known
+use Rattle.ps_gen.specs.inside.Literals.{literals_in, literals_in_all, literals_in_arms}
 use Rattle.ps_gen.specs.inside.Pieces.{Piece, ◌▷◌, empty, one, takes, to_behind}
 
 abbrev pub taken_all : Bool → Nodes → ℕ
@@ -37,27 +38,27 @@ taken_arms stack (more_arms (arm labels a) rest) = taken_all stack labels + (tak
 
 -- the code of a clause, of clauses one after the other
 unfoldable pub clause : Node → Piece
-clause n = record { shape = record { ends = λ at. at + size n; names = λ k. k + count n; constants = constants n; nums = taken_in true n; refs = taken_in false n }; instrs = emit n }
+clause n = record { shape = record { ends = λ at. at + size n; names = λ k. k + count n; constants = constants n; nums = taken_in true n; refs = taken_in false n; literals = literals_in n }; instrs = emit n }
 
 unfoldable pub clauses : Nodes → Piece
-clauses ns = record { shape = record { ends = λ at. at + size_all ns; names = λ k. k + count_all ns; constants = constants_of_all ns; nums = taken_all true ns; refs = taken_all false ns }; instrs = emit_all ns }
+clauses ns = record { shape = record { ends = λ at. at + size_all ns; names = λ k. k + count_all ns; constants = constants_of_all ns; nums = taken_all true ns; refs = taken_all false ns; literals = literals_in_all ns }; instrs = emit_all ns }
 
 -- of the labels of an arm that is chosen at this offset, and of the arms of a `case` that ends at this one
 unfoldable pub labels_of : TyView → Nodes → ℕ → Piece
-labels_of ty ns t = record { shape = record { ends = λ at. at + size_labels ns; names = λ k. k + count_all ns; constants = constants_of_all ns; nums = taken_all true ns; refs = taken_all false ns }; instrs = emit_labels ty t ns }
+labels_of ty ns t = record { shape = record { ends = λ at. at + size_labels ns; names = λ k. k + count_all ns; constants = constants_of_all ns; nums = taken_all true ns; refs = taken_all false ns; literals = literals_in_all ns }; instrs = emit_labels ty t ns }
 
 unfoldable pub arms_of : TyView → Arms → ℕ → Piece
-arms_of ty ns t = record { shape = record { ends = λ at. at + size_arms ns; names = λ k. k + count_arms ns; constants = constants_of_arms ns; nums = taken_arms true ns; refs = taken_arms false ns }; instrs = emit_arms ty t ns }
+arms_of ty ns t = record { shape = record { ends = λ at. at + size_arms ns; names = λ k. k + count_arms ns; constants = constants_of_arms ns; nums = taken_arms true ns; refs = taken_arms false ns; literals = literals_in_arms ns }; instrs = emit_arms ty t ns }
 
 -- an instruction that names a constant
 unfoldable pub naming : (ℕ → Instr) → ConstantView → Piece
-naming f c = record { shape = record { ends = λ at. at + width_of (f 0); names = λ k. k + 1; constants = c ∷ []; nums = 0; refs = 0 }; instrs = λ at k. f k ∷ [] }
+naming f c = record { shape = record { ends = λ at. at + width_of (f 0); names = λ k. k + 1; constants = c ∷ []; nums = 0; refs = 0; literals = [] }; instrs = λ at k. f k ∷ [] }
 
 unfoldable pub entering : Option (List ℕ) → Piece
-entering scope = record { shape = record { ends = λ at. at + size_entered scope; names = λ k. k + count_scope scope; constants = scope_constants scope; nums = 0; refs = 0 }; instrs = λ at k. entered scope k }
+entering scope = record { shape = record { ends = λ at. at + size_entered scope; names = λ k. k + count_scope scope; constants = scope_constants scope; nums = 0; refs = 0; literals = [] }; instrs = λ at k. entered scope k }
 
 unfoldable pub leaving : Option (List ℕ) → Piece
-leaving scope = record { shape = record { ends = λ at. at + size_left scope; names = λ k. k; constants = []; nums = 0; refs = 0 }; instrs = λ at k. left scope }
+leaving scope = record { shape = record { ends = λ at. at + size_left scope; names = λ k. k; constants = []; nums = 0; refs = 0; literals = [] }; instrs = λ at k. left scope }
 
 abbrev pub taking : Place → TyView → Piece
 taking place ty = takes (taken_on true ty place) (taken_on false ty place)
@@ -144,6 +145,11 @@ turns string q s line =
 abbrev pub zeros : ℕ → Piece
 zeros s = one (instr.Int (pos 0)) ▷ (one (instr.SetM s) ▷ (one (instr.Int (pos 0)) ▷ (one (instr.SetM (s + 1)) ▷ (one (instr.Int (pos 0)) ▷ one (instr.SetM (s + 2))))))
 
+-- a procedure of a body
+unfoldable pub closing : BodyNode → Piece
+closing of =
+    record { shape = record (naming instr.Closure (literal (unit_of of))).shape { literals = literals_in (node.Proc of) }; instrs = λ at k. instr.Closure k ∷ [] }
+
 -- the code of a clause that has no such first part
 abbrev pub made : Node → Piece
 made (node.Int v) = one (instr.Int v)
@@ -164,7 +170,7 @@ made (node.Fill l u e ty line) =
     clause l ▷ (clause u ▷ (clause e ▷ naming (λ c. choice.by_type (element_of ty) (instr.FillM c line) (instr.FillP c line)) (text (type_text ty))))
 made (node.Elems l items ty line) =
     clause l ▷ (clauses items ▷ naming (λ c. choice.by_type (element_of ty) (instr.ListM c (items_in items) line) (instr.ListP c (items_in items) line)) (text (type_text ty)))
-made (node.Proc of) = naming instr.Closure (literal (unit_of of))
+made (node.Proc of) = closing of
 made (node.Lib code args line) = clauses args ▷ one (instr.Lib code line)
 made (node.Scan string a f q s line) =
     takes 3 3 ▷ (clause a ▷ (one (instr.SetP q) ▷ (clause f ▷ (one (instr.SetP (q + 1)) ▷ (zeros s ▷ turns string q s line)))))
@@ -193,10 +199,10 @@ arm_of ty labels a t =
 
 -- what keeps the parameters, behind so many on each stack
 unfoldable pub keeping : List Param → ℕ → ℕ → Piece
-keeping params nums refs = record { shape = record { ends = λ at. at + size_keeps params; names = λ k. k; constants = []; nums = 0; refs = 0 }; instrs = λ at k. keeps params nums refs }
+keeping params nums refs = record { shape = record { ends = λ at. at + size_keeps params; names = λ k. k; constants = []; nums = 0; refs = 0; literals = [] }; instrs = λ at k. keeps params nums refs }
 
 abbrev pub keep_one : Param → ℕ → ℕ → Piece
 keep_one param nums refs = record {
-  shape = record { ends = λ at. at + size_kept_at param.place; names = λ k. k; constants = []; nums = 0; refs = 0 };
+  shape = record { ends = λ at. at + size_kept_at param.place; names = λ k. k; constants = []; nums = 0; refs = 0; literals = [] };
   instrs = λ at k. if is_number param.ty then kept_at param.place (instr.GetM nums) (λ u i. instr.KeepM u i) else kept_at param.place (instr.GetP refs) (λ u i. instr.KeepP u i);
 }

@@ -5,6 +5,8 @@ use Rattle.std.specs.List.{AllByRecursion}
 use Rattle.ps_base.specs.Instr.{spelled, spelling, width_of, IsInstr}
 use Rattle.ps_base.specs.CodeUnit.{ConstantView, constant_view}
 use Rattle.ps_base.specs.declared.instr.Instr.{Instr}
+use Rattle.ps_program.specs.Node.{BodyNode}
+use Rattle.ps_gen.specs.Units.{HasUnit}
 use Rattle.ps_gen.specs.declared.emitter.Emitter.{Emitter}
 
 pub record State : Type 0 where
@@ -17,13 +19,14 @@ abbrev pub state_of : Emitter → State
 state_of e = record { code = e.code.items; constants = map constant_view e.constants.items; nums = e.nums; refs = e.refs }
 
 -- The offset where a piece ends and the number of the next constant there, from those where it begins; the constants that it puts,
--- and how many locals it takes on each stack.
+-- how many locals it takes on each stack, and the bodies of the literals among the constants, with those inside them.
 pub record Shape : Type 0 where
   pub ends : ℕ → ℕ
   pub names : ℕ → ℕ
   pub constants : List ConstantView
   pub nums : ℕ
   pub refs : ℕ
+  pub literals : List BodyNode
 
 -- the instructions, from the offset of the first and the number of the first constant
 pub record Piece : Type 0 where
@@ -31,17 +34,17 @@ pub record Piece : Type 0 where
   pub instrs : ℕ → ℕ → List Instr
 
 abbrev pub join : Shape → Shape → Shape
-join s t = record { ends = λ at. t.ends (s.ends at); names = λ k. t.names (s.names k); constants = s.constants ++ t.constants; nums = s.nums + t.nums; refs = s.refs + t.refs }
+join s t = record { ends = λ at. t.ends (s.ends at); names = λ k. t.names (s.names k); constants = s.constants ++ t.constants; nums = s.nums + t.nums; refs = s.refs + t.refs; literals = s.literals ++ t.literals }
 
 infixr 20 ◌▷◌
 unfoldable pub ◌▷◌ : Piece → Piece → Piece
 p ▷ q = record { shape = join p.shape q.shape; instrs = λ at k. p.instrs at k ++ q.instrs (p.shape.ends at) (p.shape.names k) }
 
 abbrev pub bytes_alone : ℕ → Shape
-bytes_alone size = record { ends = λ at. at + size; names = λ k. k; constants = []; nums = 0; refs = 0 }
+bytes_alone size = record { ends = λ at. at + size; names = λ k. k; constants = []; nums = 0; refs = 0; literals = [] }
 
 unfoldable pub empty : Piece
-empty = record { shape = record { ends = λ at. at; names = λ k. k; constants = []; nums = 0; refs = 0 }; instrs = λ at k. [] }
+empty = record { shape = record { ends = λ at. at; names = λ k. k; constants = []; nums = 0; refs = 0; literals = [] }; instrs = λ at k. [] }
 
 -- an instruction
 unfoldable pub one : Instr → Piece
@@ -49,11 +52,11 @@ one i = record { shape = bytes_alone (width_of i); instrs = λ at k. i ∷ [] }
 
 -- a constant, which an instruction before it names
 unfoldable pub constant : ConstantView → Piece
-constant c = record { shape = record { ends = λ at. at; names = λ k. k + 1; constants = c ∷ []; nums = 0; refs = 0 }; instrs = λ at k. [] }
+constant c = record { shape = record { ends = λ at. at; names = λ k. k + 1; constants = c ∷ []; nums = 0; refs = 0; literals = [] }; instrs = λ at k. [] }
 
 -- locals
 unfoldable pub takes : ℕ → ℕ → Piece
-takes nums refs = record { shape = record { ends = λ at. at; names = λ k. k; constants = []; nums = nums; refs = refs }; instrs = λ at k. [] }
+takes nums refs = record { shape = record { ends = λ at. at; names = λ k. k; constants = []; nums = nums; refs = refs; literals = [] }; instrs = λ at k. [] }
 
 abbrev pub at_end : State → ℕ
 at_end s = length s.code
@@ -68,6 +71,7 @@ pub record Puts (p : Piece) (a b : State) : Type 0 where
   pub counted : next b ≡ p.shape.names (next a)
   pub nums : b.nums ≡ a.nums + p.shape.nums
   pub refs : b.refs ≡ a.refs + p.shape.refs
+  pub units : AllByRecursion HasUnit p.shape.literals
   pub are : AllByRecursion IsInstr (p.instrs (at_end a) (next a))
 
 -- bytes written over others
@@ -101,4 +105,5 @@ pub record Same (p q : Piece) : Type 0 where
   pub constants : p.shape.constants ≡ q.shape.constants
   pub nums : p.shape.nums ≡ q.shape.nums
   pub refs : p.shape.refs ≡ q.shape.refs
+  pub literals : p.shape.literals ≡ q.shape.literals
   pub instrs : (at k : ℕ) → p.instrs at k ≡ q.instrs at k

@@ -7,7 +7,7 @@ meet-met-requires-clause-text g c =
 
 pub returns-clause-finds : goal.returns-clause-finds
 returns-clause-finds g c =
-    met-found c.args.k c.args.n c.args.m.now c.known_field.new.m c.meet-met.new.m c.in_ok-known.known c.meet-met.result c.in_ok-known.ensures.knows c.meet-met.ensures
+    met-found c.args.k c.args.n c.args.m.now c.known_field.new.m c.meet-met.new.m c.in_ok-known.known c.meet-met.result c.in_ok-known.ensures.knows c.meet-met.ensures c.sound.ensures
 
 pub returns-clause-holding : goal.returns-clause-holding
 returns-clause-holding g c =

@@ -1,6 +1,9 @@
 use Rattle.machine_objects.proofs.ClassFields.{reads-kept, reads-holding}
 use Rattle.machine_objects.proofs.makes.class_constant.Goals as goal
 
+pub learn-known-requires-clause-so : goal.learn-known-requires-clause-so
+learn-known-requires-clause-so g c = c.in_ok-class.ensures.holding.1.held.entries_are.makes
+
 pub returns-clause-reads : goal.returns-clause-reads
 returns-clause-reads g c =
     reads-kept c.args.k c.in_ok-class.class c.args.m.now c.text_constant.new.m c.learn-known.new.self c.in_ok-class.ensures.reads c.sound.ensures c.learn-known.ensures.so

@@ -9,12 +9,12 @@ use Rattle.machine_objects.proofs.makes.make_known.Goals as goal
 pub returns-in_default : goal.returns-in_default
 returns-in_default c k knows =
     let few = c.in_default.ensures in
-    few-nums k c.args.m.now c.args.known knows c.requires.sound c.requires.holding (omega (arith, c.args.m.now.nums.ok.0, c.len.ensures, few))
+    few-nums k c.args.m.now c.args.known knows c.sound.ensures c.requires.sound c.requires.holding (omega (arith, c.args.m.now.nums.ok.0, c.len.ensures, few))
 
 pub returns-in_default-below_top : goal.returns-in_default-below_top
 returns-in_default-below_top c k knows =
     let few = c.in_default-below_top.ensures in
-    few-refs k c.args.m.now c.args.known knows c.requires.sound c.requires.holding (omega (arith, c.args.m.now.refs.ok.0, c.len-2.ensures, few))
+    few-refs k c.args.m.now c.args.known knows c.sound.ensures c.requires.sound c.requires.holding (omega (arith, c.args.m.now.refs.ok.0, c.len-2.ensures, few))
 
 pub make_rows-made-requires-clause-near : goal.make_rows-made-requires-clause-near
 make_rows-made-requires-clause-near c =
@@ -36,8 +36,8 @@ returns c k knows =
     let ref_all = c.in-Some-below_top.ensures.0 in
     let nums = c.top_nums.ensures ∙ ap (drop i) c.deref.ensures.value in
     let refs = c.top_refs.ensures ∙ ap (drop j) c.deref-2.ensures.value in
-    rows-made k m known knows i j c.in-Some.ensures.1 c.in-Some-below_top.ensures.1 (omega (arith, m.nums.ok.0, c.len.ensures, num_all))
-    (omega (arith, m.refs.ok.0, c.len-2.ensures, ref_all)) c.sound.ensures now c.truncate.new.self c.truncate-2.new.self c.truncate.ensures.items c.truncate-2.ensures.items
+    rows-made k m known knows c.sound.ensures i j c.in-Some.ensures.1 c.in-Some-below_top.ensures.1 (omega (arith, m.nums.ok.0, c.len.ensures, num_all))
+    (omega (arith, m.refs.ok.0, c.len-2.ensures, ref_all)) now c.truncate.new.self c.truncate-2.new.self c.truncate.ensures.items c.truncate-2.ensures.items
     made c.give_object.new.m c.give_object.result _ c.requires.holding
     (subst (λ (xs : List ℤ). OnOk made (AreInts xs)) nums c.make_rows-made.ensures.ints)
     (subst (λ (ws : List ℕ). Fills m.sw now kind.Structure known.text None (row_values known.fields.flags.bits (drop i m.nums.items) ws) made) refs

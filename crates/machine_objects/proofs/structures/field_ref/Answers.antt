@@ -1,52 +1,14 @@
-use Rattle.std.proofs.Common.{◌≡◌, true, false, List, rules, subst}
-use Rattle.std.specs.Prelude.{ℕ}
-use Rattle.text_forms.specs.Forms.{is_number_form}
-use Rattle.swizzle.proofs.ReadingLaws.{leaves-then}
-use Rattle.ps_meaning.specs.Objects.{field_of}
-use Rattle.ps_stepping.specs.Config.{Config}
-use Rattle.ps_stepping.specs.Steps.{attempted, push_ref}
-use Rattle.ps_stepping.specs.Objects.{pop_object}
-use Rattle.paired_ops.proofs.WorldLaws.{still-empty}
-use Rattle.machine_objects.specs.inside.Constants.{FindsField}
-use Rattle.machine_objects.proofs.ConstantReads.{none-there}
-use Rattle.machine_objects.proofs.ClassFields.{popped-there}
-use Rattle.machine_objects.proofs.FieldReads.{no-reference-field, other-reference, field-done, reference-field}
+use Rattle.swizzle.proofs.ReadingLaws.{leaves-none}
+use Rattle.machine_objects.proofs.FieldsReached.{takes-field}
+use Rattle.machine_objects.proofs.VectorWrites.{still-so}
 use Rattle.machine_objects.proofs.structures.field_ref.Goals as goal
 
-pub returns-in_default-clause-takes : goal.returns-in_default-clause-takes
-returns-in_default-clause-takes g c =
-    let n = c.args.n in
-    let line = c.args.line in
-    no-reference-field c.args.k n (λ (e : Config) (text : List ℕ). pop_object e (λ v d. attempted line (field_of d.store.heap v text n) (λ w. push_ref w d))) c.args.m.now c.field_at.new.m
-    (subst (FindsField c.args.k n c.args.m.now c.field_at.new.m) (none-there c.field_at.result c.in_default.not-Some) c.field_at.ensures.finds)
+pub returns-in-Some-clause-takes : goal.returns-in-Some-clause-takes
+returns-in-Some-clause-takes g c =
+    takes-field c.args.k c.args.n c.args.line c.args.m.now c.put_reference.new.m c.put_reference.result c.in-Some.to c.in-Some.ensures c.put_reference.ensures
 
-pub returns-then-is_number-clause-takes : goal.returns-then-is_number-clause-takes
-returns-then-is_number-clause-takes g c =
-    let n = c.args.n in
-    let line = c.args.line in
-    let row : is_number_form c.in-Some.located.place.form ≡ true = search rules in
-    other-reference c.args.k n c.in-Some.class c.in-Some.located (λ (e : Config) (text : List ℕ). pop_object e (λ v d. attempted line (field_of d.store.heap v text n) (λ w. push_ref w d))) c.args.m.now c.field_at.new.m
-    c.in-Some.ensures.finds c.requires.holding row
+pub returns-in-Some-clause-leaves : goal.returns-in-Some-clause-leaves
+returns-in-Some-clause-leaves g c = leaves-none (g.V.Vault.outside c.args.vault.now)
 
-pub get_field-got-requires-clause-empty : goal.get_field-got-requires-clause-empty
-get_field-got-requires-clause-empty g c =
-    still-empty (g.V.Vault.outside c.args.vault.now) (g.V.Vault.outside c.field_at.new.vault) c.field_at.ensures.leaves c.requires.empty
-
-pub get_field-got-requires-clause-there : goal.get_field-got-requires-clause-there
-get_field-got-requires-clause-there g c = popped-there c.field_at.new.m c.pop_object.new.m c.in-Some-pop_object.object c.in-Some-pop_object.ensures.pops c.in-Some.ensures.holding
-
-pub returns-clause-takes : goal.returns-clause-takes
-returns-clause-takes g c =
-    let row : is_number_form c.in-Some.located.place.form ≡ false = search rules in
-    reference-field c.args.k c.args.n c.in-Some.class c.in-Some.located c.args.m.now c.field_at.new.m c.pop_object.new.m c.get_field-got.new.sw c.in-Some-pop_object.object c.get_field-got.result
-    c.in-Some.ensures.finds c.in-Some-pop_object.ensures.pops c.get_field-got.ensures.got c.requires.holding c.args.line c.give_reference.new.m c.give_reference.result row c.give_reference.ensures
-
-pub returns-clause-alive : goal.returns-clause-alive
-returns-clause-alive g c =
-    field-done c.args.k c.args.n c.in-Some.class c.in-Some.located c.args.m.now c.field_at.new.m c.pop_object.new.m c.get_field-got.new.sw c.in-Some-pop_object.object c.get_field-got.result
-    c.in-Some.ensures.finds c.in-Some-pop_object.ensures.pops c.get_field-got.ensures.got c.requires.holding _ c.give_reference.result c.get_field-got.ensures.alive
-
-pub returns-clause-leaves : goal.returns-clause-leaves
-returns-clause-leaves g c =
-    leaves-then (g.V.Vault.outside c.args.vault.now) (g.V.Vault.outside c.field_at.new.vault)
-    (g.V.Vault.outside c.get_field-got.new.vault) c.field_at.ensures.leaves c.get_field-got.ensures.leaves
+pub returns-in-Some-clause-alive : goal.returns-in-Some-clause-alive
+returns-in-Some-clause-alive g c = still-so _ c.put_reference.result c.requires.alive

@@ -11,7 +11,8 @@ use Rattle.paired_ops.specs.World.{Answers}
 use Rattle.paired_ops.proofs.WorldLaws.{still-empty}
 use Rattle.machine_state.specs.Stepped.{Takes}
 use Rattle.machine_objects.proofs.Ending.{comes-behind, denoted-there}
-use Rattle.machine_objects.proofs.Carrying.{read-holds, sound-kept, size-behind, never-fails}
+use Rattle.machine_state.proofs.Carrying.{read-holds, sound-kept, size-behind}
+use Rattle.machine_objects.proofs.Carrying.{never-fails}
 use Rattle.machine_objects.proofs.ConstantReads.{constant-then}
 use Rattle.machine_objects.proofs.structures.is_of_class.Goals as goal
 
@@ -21,6 +22,9 @@ is_class-requires-clause-empty g c =
 
 pub returns-in-Ok-clause-leaves : goal.returns-in-Ok-clause-leaves
 returns-in-Ok-clause-leaves g c = leaves-then (g.V.Vault.outside c.args.vault.now) (g.V.Vault.outside c.text_constant.new.vault) (g.V.Vault.outside c.is_class.new.vault) c.text_constant.ensures.leaves c.is_class.ensures.leaves
+
+pub returns-in-Err-clause-leaves : goal.returns-in-Err-clause-leaves
+returns-in-Err-clause-leaves g c = leaves-then (g.V.Vault.outside c.args.vault.now) (g.V.Vault.outside c.text_constant.new.vault) (g.V.Vault.outside c.is_class.new.vault) c.text_constant.ensures.leaves c.is_class.ensures.leaves
 
 pub returns-in-Ok-clause-takes : goal.returns-in-Ok-clause-takes
 returns-in-Ok-clause-takes g c =

@@ -12,5 +12,5 @@ returns c =
       size = refl;
       does = λ conf h.
           let next = record conf { nums = c.args.z ∷ conf.nums } in
-          ([], next, refl, refl, record { names = h.names; held = subst (λ xs. Held h.names m.sw m.classes m.vectors.entries.items m.code m.place m.frame m.at xs m.refs.items m.turns next) more (puts_num m conf h.names h.held c.args.z) });
+          ([], next, refl, refl, record { names = h.names; held = subst (λ xs. Held h.names m.sw m.classes m.layouts m.vectors.entries.items m.code m.place m.frame m.scope m.waiting m.input m.at xs m.refs.items m.turns next) more (puts_num m conf h.names h.held c.args.z) });
     }

@@ -16,5 +16,5 @@ returns c =
       does = λ names v conf h d.
           let denoted = subst (λ to. DenotesIn m.sw names to v) (sym (named-back m.sw names c.args.to v c.sound.ensures d)) d in
           let p = pushes_ref m conf names h w v (omega (arith, m.refs.ok.0, c.requires.room)) denoted in
-          ([], p.0, p.1, refl, record { names = names; held = subst (λ xs. Held names m.sw m.classes m.vectors.entries.items m.code m.place m.frame m.at m.nums.items xs m.turns p.0) more p.2 });
+          ([], p.0, p.1, refl, record { names = names; held = subst (λ xs. Held names m.sw m.classes m.layouts m.vectors.entries.items m.code m.place m.frame m.scope m.waiting m.input m.at m.nums.items xs m.turns p.0) more p.2 });
     }

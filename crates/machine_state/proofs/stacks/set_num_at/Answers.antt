@@ -13,5 +13,5 @@ returns c =
     record {
       sound = search rules;
       area = refl;
-      holds = λ conf h. record { names = h.names; held = subst (λ (y : ℤ). Held h.names m.sw m.classes m.vectors.entries.items m.code m.place m.frame m.at (set m.nums.items c.args.slot (to_z w32 (of_z w32 c.args.z))) m.refs.items m.turns (with_num conf c.args.slot y)) same (sets_num m conf h.names h.held c.args.slot _ c.requires.slot) };
+      holds = λ conf h. record { names = h.names; held = subst (λ (y : ℤ). Held h.names m.sw m.classes m.layouts m.vectors.entries.items m.code m.place m.frame m.scope m.waiting m.input m.at (set m.nums.items c.args.slot (to_z w32 (of_z w32 c.args.z))) m.refs.items m.turns (with_num conf c.args.slot y)) same (sets_num m conf h.names h.held c.args.slot _ c.requires.slot) };
     }

@@ -1,7 +1,7 @@
 use Rattle.std.proofs.Common.{sym, subst}
 use Rattle.swizzle.specs.Reading.{LeavesOutside}
 use Rattle.swizzle.proofs.ReadingLaws.{leaves-none}
-use Rattle.paired_ops.proofs.CodeLaws.{answers-constant, constant-stands, constant-leaves}
+use Rattle.paired_ops.proofs.CodeLaws.{answers-constant, constant-stands, constant-held, constant-leaves}
 use Rattle.paired_ops.proofs.code.constant.Goals as goal
 
 pub returns-clause-given : goal.returns-clause-given
@@ -24,3 +24,9 @@ returns-clause-leaves g c =
     (λ no. subst (λ (v : _). LeavesOutside (g.V.Vault.outside c.args.vault.now) (g.V.Vault.outside v)) (sym (c.constant-given.ensures.still no))
     (leaves-none (g.V.Vault.outside c.args.vault.now)))
     c.constant-given.ensures.given
+
+pub returns-clause-held : goal.returns-clause-held
+returns-clause-held g c =
+    constant-held c.args.sw.now c.constant-given.new.sw (g.V.Vault.outside c.args.vault.now)
+    (g.V.Vault.outside c.constant-given.new.vault) c.args.code c.args.index
+    c.constant-given.result c.constant-given.ensures.given

@@ -1,4 +1,4 @@
-use Rattle.ps_built_laws.proofs.FreeOfProgram.{program_runs}
+use Rattle.ps_built_laws.proofs.OfProgram.{program_runs}
 use Rattle.ps_built_laws.proofs.laws.built_program_runs.Goals as goal
 
 pub returns : goal.returns

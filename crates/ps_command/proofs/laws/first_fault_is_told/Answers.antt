@@ -1,5 +1,5 @@
 use Rattle.std.proofs.Common.{Some, refl}
-use Rattle.ps_port.specs.Told.{Rose}
+use Rattle.ps_outside.specs.Outside.{Rose}
 use Rattle.ps_command.proofs.Converse.{first_fault_is_told}
 use Rattle.ps_command.proofs.laws.first_fault_is_told.Goals as goal
 

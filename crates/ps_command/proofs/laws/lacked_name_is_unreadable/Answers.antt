@@ -1,5 +1,5 @@
 use Rattle.std.proofs.Common.{Some, refl}
-use Rattle.ps_port.specs.Told.{Rose}
+use Rattle.ps_outside.specs.Outside.{Rose}
 use Rattle.ps_command.proofs.Converse.{lacked_name}
 use Rattle.ps_command.proofs.laws.lacked_name_is_unreadable.Goals as goal
 

@@ -1,5 +1,5 @@
 use Rattle.std.proofs.Common.{Some, refl}
-use Rattle.ps_port.specs.Told.{Rose}
+use Rattle.ps_outside.specs.Outside.{Rose}
 use Rattle.ps_command.proofs.Converse.{long_text}
 use Rattle.ps_command.proofs.laws.long_text_is_refused.Goals as goal
 

@@ -1,5 +1,5 @@
 use Rattle.std.proofs.Common.{None, refl}
-use Rattle.ps_port.specs.Told.{Rose}
+use Rattle.ps_outside.specs.Outside.{Rose}
 use Rattle.ps_command.proofs.Converse.{no_command}
 use Rattle.ps_command.proofs.laws.no_command_gets_usage.Goals as goal
 

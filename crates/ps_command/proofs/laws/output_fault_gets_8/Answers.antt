@@ -3,8 +3,8 @@ use Rattle.ps_command.proofs.laws.output_fault_gets_8.Goals as goal
 
 pub returns-clause-never_falls : goal.returns-clause-never_falls
 returns-clause-never_falls g c due status answered answers = let host = g.H.Host in
-    (counted_faults host.clock host.told host.output_faults c.args.before.now c.args.after.now due status answered answers).0
+    (counted_faults (host.outside c.args.before.now) (host.outside c.args.after.now) due status answered answers).0
 
 pub returns-clause-stands : goal.returns-clause-stands
 returns-clause-stands g c due status answered answers = let host = g.H.Host in
-    (counted_faults host.clock host.told host.output_faults c.args.before.now c.args.after.now due status answered answers).1
+    (counted_faults (host.outside c.args.before.now) (host.outside c.args.after.now) due status answered answers).1

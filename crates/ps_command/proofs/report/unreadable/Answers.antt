@@ -6,4 +6,4 @@ use Rattle.ps_command.proofs.report.unreadable.Goals as goal
 pub returns : goal.returns
 returns g c =
     let host = g.H.Host in
-    subst (λ file. Answers host.clock host.told host.output_faults c.args.host.now c.answer.new.host (unreadable_line file) 7 c.answer.result) c.as_bytes.ensures.value c.answer.ensures
+    subst (λ file. Answers (host.outside c.args.host.now) (host.outside c.answer.new.host) (unreadable_line file) 7 c.answer.result) c.as_bytes.ensures.value c.answer.ensures

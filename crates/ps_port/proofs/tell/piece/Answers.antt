@@ -1,7 +1,12 @@
-use Rattle.ps_port.proofs.Telling.{put_tells}
+use Rattle.ps_port.proofs.Telling.{put_tells, device_put}
 use Rattle.ps_port.proofs.tell.piece.Goals as goal
 
-pub returns : goal.returns
-returns g c =
-    let host = g.H.Host in
-    put_tells host.clock host.told host.output_faults _ _ _ _ c.put.ensures.cut c.put.ensures.all c.put.ensures.counts c.put.ensures.calm c.put.ensures.cause
+pub returns-clause-tells : goal.returns-clause-tells
+returns-clause-tells g c =
+    let seen = g.H.Host.outside in
+    put_tells (seen c.args.host.now) (seen c.put.new.self) _ _ c.put.ensures.cut c.put.ensures.all c.put.ensures.calm c.put.ensures.call
+
+pub returns-clause-device : goal.returns-clause-device
+returns-clause-device g c =
+    let seen = g.H.Host.outside in
+    device_put (seen c.args.host.now) (seen c.put.new.self) _ c.put.ensures.call

@@ -5,4 +5,4 @@ use Rattle.ps_port.proofs.Telling.{SoFar}
 use Rattle.ps_port.proofs.tell.pieces.Given as goal
 
 abbrev pub invariant-loop-part : goal.invariant-loop-part
-invariant-loop-part g l = SoFar g.H.Host.clock g.H.Host.told g.H.Host.output_faults l.initial.host l.host (joined l.parts) (joined (drop l.part-index l.parts))
+invariant-loop-part g l = SoFar (g.H.Host.outside l.initial.host) (g.H.Host.outside l.host) (joined l.parts) (joined (drop l.part-index l.parts))

@@ -1,6 +1,10 @@
-use Rattle.std.proofs.Common.{◌≡◌, ◌≤◌, List, [], pos, sym, subst, replicate, rules, arith}
+use Rattle.std.proofs.Common.{◌≡◌, ◌≤◌, List, [], pos, sym, ap, ◌∙◌, subst, replicate, rules, arith}
 use Rattle.ps_base.specs.CodeUnit.{unit_view}
-use Rattle.ps_stepping.specs.Config.{constants_in, frame_in, frame_words}
+use Rattle.ps_stepping.specs.Config.{frame_in, frame_words}
+use Rattle.heap_ops.specs.Layouts.{AreSo as AreLaid}
+use Rattle.heap_ops.specs.declared.layouts.Layouts.{Layouts}
+use Rattle.machine_state.specs.declared.waiting.Waiting.{Waiting}
+use Rattle.machine_state.specs.Waiting.{IsOrderly, HasRoom}
 use Rattle.paired_ops.specs.Code.{IsLoaded, HasNoRoom}
 use Rattle.swizzle.specs.declared.fault.SwizzleFault.TheVariants.{AreaFull}
 use Rattle.known_classes.specs.Classes.{IsRight}
@@ -8,6 +12,7 @@ use Rattle.known_classes.specs.declared.classes.KnownClasses.{KnownClasses}
 use Rattle.obj_layout.specs.declared.reference.Reference.{Reference}
 use Rattle.known_vectors.specs.declared.known.KnownVectors.{KnownVectors}
 use Rattle.known_vectors.specs.Known.{AreSo as AreKnown}
+use Rattle.machine_state.specs.declared.machine.Machine.{Machine}
 use Rattle.stack_machine.specs.Loaded.{IsFrame, IsRoomy}
 use Rattle.proc_values.specs.declared.reading.CodePlace.{CodePlace}
 use Rattle.proc_values.specs.Loaded.{IsUnitPlace}
@@ -23,9 +28,10 @@ returns-in-Ok c =
     let nums : c.begin.new.m.frame.nums ≤ frame_words = search (rules, arith) in
     let refs : c.begin.new.m.frame.refs ≤ frame_words = search (rules, arith) in
     let loaded : IsLoaded c.reset.new.self c.begin.new.m.sw u c.in-Ok.code = search rules in
-    let so = subst (λ (k : KnownClasses). IsRight c.begin.new.m.sw (constants_in u) k) (sym b.classes) (c.clear.ensures c.begin.new.m.sw (constants_in u)) in
+    let so = subst (λ (k : KnownClasses). IsRight c.begin.new.m.sw k) (sym b.classes) (c.clear.ensures c.begin.new.m.sw) in
+    let laid = subst (λ (k : Layouts). AreLaid c.begin.new.m.sw k.entries.items) (sym b.layouts) (c.clear-2.ensures c.begin.new.m.sw) in
     let none : List Reference = [] in
-    let known = subst (λ (k : KnownVectors). AreKnown c.begin.new.m.sw [] none k.entries.items) (sym b.vectors) (c.clear-2.ensures c.begin.new.m.sw [] none) in
+    let known = subst (λ (k : KnownVectors). AreKnown c.begin.new.m.sw [] none k.entries.items) (sym b.vectors) (c.clear-3.ensures c.begin.new.m.sw [] none) in
     let code_is : c.begin.new.m.code ≡ c.in-Ok.code = search rules in
     let first : IsLoaded c.reset.new.self c.load.new.sw u c.in-Ok.code = search rules in
     let placed = subst (λ (p : CodePlace). IsUnitPlace c.in-Ok.code u p) (sym b.place) (unit-place c.load.new.sw c.in-Ok.code u c.code_place-place.result c.sound.ensures first.is c.code_place-place.ensures) in
@@ -33,7 +39,16 @@ returns-in-Ok c =
     let turns_is : c.begin.new.m.turns ≡ c.args.turns = search rules in
     let nums_are : c.begin.new.m.nums.items ≡ replicate c.begin.new.m.frame.nums (pos 0) = search rules in
     let refs_are : c.begin.new.m.refs.items ≡ replicate c.begin.new.m.frame.refs 0 = search rules in
-    begins u c.args.turns c.args.m.now c.begin.new.m c.reset.new.self framed nums refs c.in-Ok.code c.reset.ensures loaded so known b.roomy code_is placed at_is nums_are refs_are turns_is
+    let scope_is : c.begin.new.m.scope ≡ 0 = search rules in
+    let clear = c.clear-4.ensures in
+    let waits = b.waiting in
+    let orderly = subst (λ (w : Waiting). IsOrderly w) (sym waits) clear.orderly in
+    let no_callers = ap (λ (w : Waiting). w.callers.items) waits ∙ clear.callers in
+    let no_nums = ap (λ (w : Waiting). w.nums.items) waits ∙ clear.nums in
+    let no_refs = ap (λ (w : Waiting). w.refs.items) waits ∙ clear.refs in
+    let input_is : c.begin.new.m.input ≡ c.args.input.items = search rules in
+    begins u c.args.turns c.args.input.items c.args.m.now c.begin.new.m c.reset.new.self framed nums refs c.in-Ok.code c.reset.ensures loaded so laid known b.roomy code_is placed at_is nums_are refs_are turns_is
+    scope_is orderly no_callers no_nums no_refs input_is
 
 pub returns-in-Err-AreaFull : goal.returns-in-Err-AreaFull
 returns-in-Err-AreaFull c =
@@ -43,8 +58,10 @@ returns-in-Err-AreaFull c =
     let size = c.in-Err-AreaFull.size in
     let frame : IsFrame (frame_in u) = record { nums_fit = search (rules, arith); refs_fit = search (rules, arith) } in
     let full : HasNoRoom c.reset.new.self u (AreaFull top wanted size) = search rules in
-    let roomy : IsRoomy (record c.args.m.now { sw = c.load.new.sw; classes = c.clear.new.self; vectors = c.clear-2.new.self }) = record { nums_room = c.requires.nums_room; refs_room = c.requires.refs_room; values_room = c.requires.values_room } in
-    let short = no-room u c.args.m.now (record c.args.m.now { sw = c.load.new.sw; classes = c.clear.new.self; vectors = c.clear-2.new.self }) c.reset.new.self top wanted size frame roomy c.reset.ensures full in
+    let room = c.clear-4.ensures.orderly.room in
+    let new : Machine = record c.args.m.now { sw = c.load.new.sw; classes = c.clear.new.self; layouts = c.clear-2.new.self; vectors = c.clear-3.new.self; waiting = c.clear-4.new.self; input = c.new.result } in
+    let roomy : IsRoomy new = record { nums_room = c.requires.nums_room; refs_room = c.requires.refs_room; values_room = c.requires.values_room; waiting_room = room } in
+    let short = no-room u c.args.m.now new c.reset.new.self top wanted size frame roomy c.reset.ensures full in
     search (rules, short)
 
 pub code_place-place-requires-clause-held : goal.code_place-place-requires-clause-held

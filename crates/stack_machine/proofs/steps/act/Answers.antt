@@ -35,22 +35,22 @@ pub returns-in-SetP-clause-acts : goal.returns-in-SetP-clause-acts
 returns-in-SetP-clause-acts g c = acts_as c.in-SetP.is c.set_ref.ensures
 
 pub returns-in-KeptM-clause-acts : goal.returns-in-KeptM-clause-acts
-returns-in-KeptM-clause-acts g c = acts_not c.in-KeptM.is c.requires.sound (λ conf. refl)
+returns-in-KeptM-clause-acts g c = acts_as c.in-KeptM.is c.kept_num.ensures.takes
 
 pub returns-in-KeptP-clause-acts : goal.returns-in-KeptP-clause-acts
-returns-in-KeptP-clause-acts g c = acts_not c.in-KeptP.is c.requires.sound (λ conf. refl)
+returns-in-KeptP-clause-acts g c = acts_as c.in-KeptP.is c.kept_ref.ensures.takes
 
 pub returns-in-KeepM-clause-acts : goal.returns-in-KeepM-clause-acts
-returns-in-KeepM-clause-acts g c = acts_not c.in-KeepM.is c.requires.sound (λ conf. refl)
+returns-in-KeepM-clause-acts g c = acts_as c.in-KeepM.is c.keep_num.ensures.takes
 
 pub returns-in-KeepP-clause-acts : goal.returns-in-KeepP-clause-acts
-returns-in-KeepP-clause-acts g c = acts_not c.in-KeepP.is c.requires.sound (λ conf. refl)
+returns-in-KeepP-clause-acts g c = acts_as c.in-KeepP.is c.keep_ref.ensures.takes
 
 pub returns-in-Scope-clause-acts : goal.returns-in-Scope-clause-acts
-returns-in-Scope-clause-acts g c = acts_not c.in-Scope.is c.requires.sound (λ conf. refl)
+returns-in-Scope-clause-acts g c = acts_as c.in-Scope.is c.enter_scope.ensures.takes
 
 pub returns-in-Leave-clause-acts : goal.returns-in-Leave-clause-acts
-returns-in-Leave-clause-acts g c = acts_not c.in-Leave.is c.requires.sound (λ conf. refl)
+returns-in-Leave-clause-acts g c = acts_as c.in-Leave.is c.leave_scope.ensures.takes
 
 pub returns-in-Jump-clause-acts : goal.returns-in-Jump-clause-acts
 returns-in-Jump-clause-acts g c = acts_as c.in-Jump.is c.forward.ensures
@@ -185,10 +185,10 @@ pub returns-in-Upb-clause-acts : goal.returns-in-Upb-clause-acts
 returns-in-Upb-clause-acts g c = acts_as c.in-Upb.is c.upper_bound.ensures.takes
 
 pub returns-in-Closure-clause-acts : goal.returns-in-Closure-clause-acts
-returns-in-Closure-clause-acts g c = acts_not c.in-Closure.is c.requires.sound (λ conf. refl)
+returns-in-Closure-clause-acts g c = acts_as c.in-Closure.is c.closure.ensures.takes
 
 pub returns-in-Call-clause-acts : goal.returns-in-Call-clause-acts
-returns-in-Call-clause-acts g c = acts_not c.in-Call.is c.requires.sound (λ conf. refl)
+returns-in-Call-clause-acts g c = acts_as c.in-Call.is c.call.ensures.takes
 
 pub returns-in-Return-clause-acts : goal.returns-in-Return-clause-acts
 returns-in-Return-clause-acts g c = acts_as c.in-Return.is c.returned.ensures

@@ -3,4 +3,4 @@ use Rattle.known_classes.proofs.Entries.{cleared-so}
 use Rattle.known_classes.proofs.known.KnownFields.clear.Goals as goal
 
 pub returns : goal.returns
-returns c = λ here row. cleared-so here row c.fill.new.self.items _ _ refl (c.fill.ensures.items (λ y is. is))
+returns c = λ here. cleared-so here c.fill.new.self.items _ _ refl (c.fill.ensures.items (λ y is. is))

@@ -4,20 +4,20 @@ use Rattle.known_classes.proofs.makes.KnownMakes.like.Goals as goal
 
 pub text-requires-clause-held : goal.text-requires-clause-held
 text-requires-clause-held c =
-    (listed-make c.args.sw.now c.requires.so.0 c.args.self.now.entries.items c.deref-known-items.result.now c.loop-known.known-index _ c.requires.so.1
+    (listed-make c.args.sw.now c.args.self.now.entries.items c.deref-known-items.result.now c.loop-known.known-index _ c.requires.so
     c.deref-known-items.ensures.value c.loop-known-test.true c.if-other-ne0.true).class.held
 
 pub text-requires-clause-kind : goal.text-requires-clause-kind
 text-requires-clause-kind c =
-    inl (listed-make c.args.sw.now c.requires.so.0 c.args.self.now.entries.items c.deref-known-items.result.now c.loop-known.known-index _ c.requires.so.1
+    inl (listed-make c.args.sw.now c.args.self.now.entries.items c.deref-known-items.result.now c.loop-known.known-index _ c.requires.so
     c.deref-known-items.ensures.value c.loop-known-test.true c.if-other-ne0.true).class.kind
 
 pub returns-then-eq-clause-held : goal.returns-then-eq-clause-held
 returns-then-eq-clause-held c =
-    (listed-make c.args.sw.now c.requires.so.0 c.args.self.now.entries.items c.deref-known-items.result.now c.loop-known.known-index _ c.requires.so.1
+    (listed-make c.args.sw.now c.args.self.now.entries.items c.deref-known-items.result.now c.loop-known.known-index _ c.requires.so
     c.deref-known-items.ensures.value c.loop-known-test.true c.if-other-ne0.true).class.held
 
 pub returns-then-eq-clause-text : goal.returns-then-eq-clause-text
 returns-then-eq-clause-text c =
-    (listed-make c.args.sw.now c.requires.so.0 c.args.self.now.entries.items c.deref-known-items.result.now c.loop-known.known-index _ c.requires.so.1
+    (listed-make c.args.sw.now c.args.self.now.entries.items c.deref-known-items.result.now c.loop-known.known-index _ c.requires.so
     c.deref-known-items.ensures.value c.loop-known-test.true c.if-other-ne0.true).class.kind

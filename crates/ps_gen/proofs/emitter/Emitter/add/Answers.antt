@@ -17,5 +17,6 @@ returns c =
       counted = omega (arith, e, length-append (map constant_view old) (constant_view c.args.it ∷ []));
       nums = omega arith;
       refs = omega arith;
+      units = tt;
       are = tt;
     }

@@ -20,5 +20,6 @@ returns c =
       counted = refl;
       nums = omega arith;
       refs = omega arith;
+      units = tt;
       are = (c.encode-width.ensures.fits, tt);
     }

@@ -12,5 +12,6 @@ returns c = record {
   counted = refl;
   nums = c.in_ok-self.ensures;
   refs = c.in_ok-self-2.ensures;
+  units = tt;
   are = tt;
 }

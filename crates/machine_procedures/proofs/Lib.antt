@@ -1,0 +1,5 @@
+pub mod Constants
+pub mod Current
+pub mod Makings
+pub mod KeptNames
+pub mod CalledBodies

@@ -1,0 +1,67 @@
+-- Bodies that wait for a call to come back, and the words that they left.
+use Rattle.std.specs.Prelude.{◌≡◌, ◌*◌, ℕ, ◌≤◌, ℤ, List, [], ◌∷◌, ◌++◌, length, All, sum_by, vec_len, vec_capacity}
+use Rattle.obj_layout.specs.declared.reference.Reference.{Reference}
+use Rattle.swizzle.specs.Heap as area
+use Rattle.proc_values.specs.Loaded.{IsUnit, IsFitUnit, IsUnitPlace}
+use Rattle.ps_meaning.specs.Evaluation.{most_calls}
+use Rattle.ps_stepping.specs.Config.{Caller, frame_words, frame_in}
+use Rattle.paired_ops.specs.World.{DenotesScopeIn}
+use Rattle.machine_state.specs.declared.caller.Caller as in_code
+use Rattle.machine_state.specs.declared.waiting.Waiting.{Waiting}
+use Rattle.machine_state.specs.Rows.{IsRow, IsRefRow, object_in}
+
+-- the most words of all bodies that wait
+abbrev pub waiting_words : ℕ
+waiting_words = most_calls * frame_words
+
+-- With these words it is this body that waits.
+pub record IsWaiting (here : area.Heap) (names : List Reference) (of : in_code.Caller) (nums : List ℤ) (refs : List ℕ) (caller : Caller) : Type 0 where
+  pub unit_is : IsUnit here of.code caller.unit
+  pub fit : IsFitUnit caller.unit
+  pub place_is : IsUnitPlace of.code caller.unit of.place
+  pub frame_is : frame_in caller.unit ≡ of.frame
+  pub at_is : caller.at ≡ of.at
+  pub scope_is : DenotesScopeIn here names (object_in of.scope) caller.scope
+  pub nums_are : IsRow nums of.frame.nums caller.nums caller.locals.nums
+  pub refs_are : IsRefRow here names refs of.frame.refs caller.refs caller.locals.refs
+
+-- The last of some bodies, whose words stand above those of the others.
+pub record Last (callers : List in_code.Caller) (nums : List ℤ) (refs : List ℕ) : Type 0 where
+  pub below : List in_code.Caller
+  pub last : in_code.Caller
+  pub low_nums : List ℤ
+  pub own_nums : List ℤ
+  pub low_refs : List ℕ
+  pub own_refs : List ℕ
+  pub callers_are : callers ≡ below ++ last ∷ []
+  pub nums_are : nums ≡ low_nums ++ own_nums
+  pub refs_are : refs ≡ low_refs ++ own_refs
+  pub nums_count : length own_nums ≡ last.nums
+  pub refs_count : length own_refs ≡ last.refs
+
+-- with these words it is these bodies that wait, of which the last stands first here
+abbrev pub AreWaiting : area.Heap → List Reference → List in_code.Caller → List ℤ → List ℕ → List Caller → Type 0
+AreWaiting here names callers nums refs [] = (callers ≡ []) × (nums ≡ []) × (refs ≡ [])
+AreWaiting here names callers nums refs (caller ∷ rest) =
+    (top : Last callers nums refs) × IsWaiting here names top.last top.own_nums top.own_refs caller × AreWaiting here names top.below top.low_nums top.low_refs rest
+
+-- a body has all its locals, and no more words than one frame may have
+pub record IsFramed (of : in_code.Caller) : Type 0 where
+  pub nums_fit : of.frame.nums ≤ of.nums
+  pub refs_fit : of.frame.refs ≤ of.refs
+  pub nums_below : of.nums ≤ frame_words
+  pub refs_below : of.refs ≤ frame_words
+
+-- there is memory for as many bodies as may wait
+pub record HasRoom (of : Waiting) : Type 0 where
+  pub callers_room : most_calls ≤ vec_capacity of.callers
+  pub nums_room : waiting_words ≤ vec_capacity of.nums
+  pub refs_room : waiting_words ≤ vec_capacity of.refs
+
+-- Each has its own words, they are no more than may wait, and there is memory for those.
+pub record IsOrderly (of : Waiting) : Type 0 where
+  pub framed : All IsFramed of.callers.items
+  pub nums_are : vec_len of.nums ≡ sum_by (λ (c : in_code.Caller). c.nums) of.callers.items
+  pub refs_are : vec_len of.refs ≡ sum_by (λ (c : in_code.Caller). c.refs) of.callers.items
+  pub few : vec_len of.callers ≤ most_calls
+  pub room : HasRoom of

@@ -1,0 +1,4 @@
+pub mod MemoryMoments
+pub mod Inside
+pub mod DiskModel
+pub mod Writes

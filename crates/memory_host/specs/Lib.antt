@@ -1,0 +1,4 @@
+pub mod Memory
+pub mod MemoryView
+pub mod MemoryLaw
+pub mod DiskModel

@@ -1,0 +1,5 @@
+pub mod UnitLaws
+pub mod FrameLaws
+pub mod ProcedureLaws
+pub mod ScopeLaws
+pub mod KeptLaws

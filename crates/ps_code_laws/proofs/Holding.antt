@@ -1,0 +1,408 @@
+-- What a clause comes to holds literals alone, where what it begins with does.
+use Rattle.std.proofs.Common.{ℕ, zero, suc, ◌+◌, ℤ, pos, ◌+ℤ◌, Bool, true, false, List, [], ◌∷◌, Option, Some, None}
+use Rattle.std.specs.Prelude.{nat_eq, nat_lt, get_or, if◌then◌else◌}
+use Rattle.ps_base.specs.TyView.{TyView}
+use Rattle.ps_base.specs.TyView as types
+use Rattle.ps_base.specs.declared.line.Line.{Line}
+use Rattle.text_forms.specs.Forms.{forms_of, form_in, element_of}
+use Rattle.ps_type_text.specs.Texts.{type_text}
+use Rattle.ps_program.specs.declared.place.Place.{Place}
+use Rattle.ps_program.specs.declared.place.Place.TheVariants.{Plain, Kept}
+use Rattle.ps_program.specs.Node.{Param, Node, Nodes, none, more, Arms, no_arms, more_arms, arm, BodyNode, body}
+use Rattle.ps_program.specs.Node as node
+use Rattle.ps_typing.specs.Placing.{is_number}
+use Rattle.ps_meaning.specs.Operators.{Answer, Gives, Traps, is_same}
+use Rattle.ps_meaning.specs.Event.{End}
+use Rattle.ps_meaning.specs.Values.{Value, Num, Flag, Text, Nil, Pointer, Vector, Procedure, Nothing, as_written, word_of, flag_of}
+use Rattle.ps_meaning.specs.Texts.{Attempt, Yields, Fails, line_read, behind_line}
+use Rattle.ps_meaning.specs.Objects.{Heap, Object, Structure, type_in, vector_in}
+use Rattle.ps_meaning.specs.Scopes.{new_scope}
+use Rattle.ps_meaning.specs.Meaning.{Frame, State, Outcome, Value_is, Ends, Meaning, give, stop, after, ◌>>=◌, choose, answer, attempt, with_heap, put_heap, made, made_text, made_procedure, with_input, put_input, enter, back_in, back_to, scoped, in_scope, in_frame, emit, in_places, is_width, written, with_turns, turned, take_turn, with_local, unbuilt, get, set}
+use Rattle.ps_meaning.specs.Frames.{stands_on, arguments_on, frame_of_call, keep, keep_all}
+use Rattle.ps_meaning.specs.Calls.{body_meant, call_within, context}
+use Rattle.ps_meaning.specs.Evaluation.{Context, while_turns, Counting, goes_on, in_turn, for_turns, for_loop, for_meant, kept_all, is_equal, make_meant, elements_meant, most_calls, call_meant, read_line, at_end, lib_meant, eval, eval_all, eval_each, eval_arms, eval_labels}
+use Rattle.ps_soundness.specs.Valued.{IsValued}
+use Rattle.ps_code_laws.specs.Literals.{BodiesAre, BodyIs, AllBodiesAre, ArmsBodiesAre}
+use Rattle.ps_code_laws.proofs.Literals.{IsLiteral, AreLiterals, InObject, InHeap, InFrame, OnYield, in_kept_name, in_kept, in_kept_all, in_kept_elements, in_first, in_field, in_with_field, in_vector_of, in_filled, in_element, in_with_element, in_with_kept_name, in_with_new, in_row}
+
+module _ (P : BodyNode → Type 0) where
+  abbrev pub Literal : Value → Type 0
+  Literal v = IsLiteral P v
+
+  abbrev pub Left : Outcome → Type 0
+  Left (Value_is v f s) = IsLiteral P v × InFrame P f × InHeap P s.store.heap
+  Left (Ends e s) = Unit {0}
+
+  abbrev pub Holds : Meaning → Type 0
+  Holds m = (f : Frame) (s : State) → InFrame P f → InHeap P s.store.heap → Left (m f s)
+
+  holds_after : (o : Outcome) (b : Value → Meaning) → Left o → ((v : Value) → Literal v → Holds (b v)) → Left (after o b)
+  unfolding after
+  holds_after (Value_is v f s) b h k = k v h.0 f s h.1 h.2
+  holds_after (Ends e s) b h k = tt
+
+  pub holds_then : (a : Meaning) (b : Value → Meaning) → Holds a → ((v : Value) → Literal v → Holds (b v)) → Holds (a >>= b)
+  unfolding ◌>>=◌
+  holds_then a b h k f s in_frame in_heap = holds_after (a f s) b (h f s in_frame in_heap) k
+
+  pub holds_give : (v : Value) → Literal v → Holds (give v)
+  unfolding give
+  holds_give v is f s in_frame in_heap = (is, in_frame, in_heap)
+
+  pub holds_stop : (e : End) → Holds (stop e)
+  unfolding stop
+  holds_stop e f s in_frame in_heap = tt
+
+  holds_choose : (b : Bool) (m n : Meaning) → Holds m → Holds n → Holds (choose b m n)
+  unfolding choose
+  holds_choose true m n h k = h
+  holds_choose false m n h k = k
+
+  holds_either : (b : Bool) (m n : Meaning) → Holds m → Holds n → Holds (if b then m else n)
+  holds_either true m n h k = h
+  holds_either false m n h k = k
+
+  holds_attempt : {A : Type 0} (Is : A → Type 0) (line : Line) (a : Attempt A) (next : A → Meaning) → OnYield P Is a →
+      ((x : A) → Is x → Holds (next x)) → Holds (attempt line a next)
+  unfolding attempt
+  holds_attempt Is line (Yields x) next h k = k x h
+  holds_attempt Is line (Fails trap) next h k = holds_stop _
+
+  holds_with_heap : (next : Heap → Meaning) → ((heap : Heap) → InHeap P heap → Holds (next heap)) → Holds (with_heap next)
+  unfolding with_heap
+  holds_with_heap next h f s in_frame in_heap = h s.store.heap in_heap f s in_frame in_heap
+
+  holds_put_heap : (heap : Heap) → InHeap P heap → Holds (put_heap heap)
+  unfolding put_heap
+  holds_put_heap heap is f s in_frame in_heap = (tt, in_frame, is)
+
+  holds_made : (denoting : ℕ → Value) (object : Object) → ((id : ℕ) → Literal (denoting id)) → InObject P object → Holds (made denoting object)
+  unfolding made
+  holds_made denoting object h is f s in_frame in_heap = (h _, in_frame, in_with_new P s.store.heap object in_heap is)
+
+  holds_made_text : (bytes : List ℕ) → Holds (made_text bytes)
+  unfolding made_text
+  holds_made_text bytes f s in_frame in_heap = (tt, in_frame, in_heap)
+
+  holds_emit : (bytes : List ℕ) → Holds (emit bytes)
+  unfolding emit
+  holds_emit bytes f s in_frame in_heap = (tt, in_frame, in_heap)
+
+  holds_written : (line : Line) (width : Option ℤ) (bytes : List ℕ) → Holds (written line width bytes)
+  unfolding written
+  holds_written line width bytes = holds_either (is_width width) _ _ (holds_emit (in_places width bytes)) (holds_stop _)
+
+  turned_holds : (f : Frame) (s : State) (turns : ℕ) → InFrame P f → InHeap P s.store.heap → Left (turned (with_turns s.store turns) f s)
+  turned_holds f s zero in_frame in_heap = tt
+  turned_holds f s (suc left) in_frame in_heap = (tt, in_frame, in_heap)
+
+  pub holds_turn : Holds take_turn
+  unfolding take_turn
+  holds_turn f s in_frame in_heap = turned_holds f s s.store.turns in_frame in_heap
+
+  holds_unbuilt : Holds unbuilt
+  unfolding unbuilt give
+  holds_unbuilt f s in_frame in_heap = (tt, in_frame, in_heap)
+
+  read_local : (f : Frame) (slot : ℕ) (number : Bool) → InFrame P f → Literal (if number then f.nums slot else f.refs slot)
+  read_local f slot true h = h.0 slot
+  read_local f slot false h = h.1 slot
+
+  holds_get : (place : Place) (ty : TyView) → Holds (get place ty)
+  unfolding get
+  holds_get (Plain slot) ty f s in_frame in_heap = (read_local f slot (is_number ty) in_frame, in_frame, in_heap)
+  holds_get (Kept up position) ty f s in_frame in_heap = (in_kept_name P s.store.heap f.scope up position in_heap, in_frame, in_heap)
+
+  put_local : (f : Frame) (slot : ℕ) (v : Value) (number : Bool) → InFrame P f → Literal v →
+      InFrame P (if number then record f { nums = with_local f.nums slot v } else record f { refs = with_local f.refs slot v })
+  put_local f slot v true h is = (λ s. in_row P f.nums slot v h.0 is s, h.1)
+  put_local f slot v false h is = (h.0, λ s. in_row P f.refs slot v h.1 is s)
+
+  pub holds_set : (place : Place) (ty : TyView) (v : Value) → Literal v → Holds (set place ty v)
+  unfolding set
+  holds_set (Plain slot) ty v is f s in_frame in_heap = (tt, put_local f slot v (is_number ty) in_frame is, in_heap)
+  holds_set (Kept up position) ty v is f s in_frame in_heap = (tt, in_frame, in_with_kept_name P s.store.heap f.scope up position v in_heap is)
+
+  pub holds_made_procedure : (of : BodyNode) → BodyIs P IsValued of → Holds (made_procedure of)
+  unfolding made_procedure
+  holds_made_procedure of is f s in_frame in_heap = (is, in_frame, in_heap)
+
+  holds_with_input : (next : List ℕ → Meaning) → ((input : List ℕ) → Holds (next input)) → Holds (with_input next)
+  unfolding with_input
+  holds_with_input next h f s in_frame in_heap = h s.store.input f s in_frame in_heap
+
+  holds_put_input : (input : List ℕ) → Holds (put_input input)
+  unfolding put_input
+  holds_put_input input f s in_frame in_heap = (tt, in_frame, in_heap)
+
+  pub holds_enter : (text : List ℕ) → Holds (enter text)
+  unfolding enter new_scope
+  holds_enter text f s in_frame in_heap =
+      (tt, in_frame, in_with_new P s.store.heap (new_scope text f.scope) in_heap (in_first P (forms_of text)))
+
+  holds_back_in : (scope : Option ℕ) (o : Outcome) → Left o → Left (back_in scope o)
+  unfolding back_in
+  holds_back_in scope (Value_is v f s) h = h
+  holds_back_in scope (Ends e s) h = tt
+
+  holds_back_to : (own : Frame) (o : Outcome) → InFrame P own → Left o → Left (back_to own o)
+  unfolding back_to
+  holds_back_to own (Value_is v f s) is h = (h.0, is, h.2)
+  holds_back_to own (Ends e s) is h = tt
+
+  pub holds_scoped : (text : List ℕ) (m : Meaning) → Holds m → Holds (scoped text m)
+  unfolding scoped
+  holds_scoped text m h f s in_frame in_heap =
+      holds_back_in f.scope ((enter text >>= λ u. m) f s) (holds_then (enter text) (λ u. m) (holds_enter text) (λ u is. h) f s in_frame in_heap)
+
+  pub holds_scope : (scope : Option (List ℕ)) (m : Meaning) → Holds m → Holds (in_scope scope m)
+  holds_scope None m h = h
+  holds_scope (Some text) m h = holds_scoped text m h
+
+  holds_in_frame : (other : Frame) (m : Meaning) → InFrame P other → Holds m → Holds (in_frame other m)
+  unfolding in_frame
+  holds_in_frame other m is h f s in_frame in_heap = holds_back_to f (m other s) in_frame (h other s is in_heap)
+
+  holds_in_turn : (loop : Counting) (clause : Meaning) → Holds clause → (z : ℤ) → Holds (in_turn loop clause z)
+  holds_in_turn loop clause h z =
+      holds_scope loop.scope _ (holds_then (set loop.control types.Int (Num z)) _ (holds_set loop.control types.Int (Num z) tt) (λ u is. h))
+
+  -- what is called holds literals alone too
+  abbrev pub CallsHold : Context → Type 0
+  CallsHold c = (of : BodyNode) (args : List Value) → BodyIs P IsValued of → AreLiterals P args → Holds (c.call of args)
+
+  row_is : (b : Bool) (v : Value) (rest : List Value) → Literal v → AreLiterals P rest → AreLiterals P (if b then v ∷ rest else rest)
+  row_is true v rest is h = (is, h)
+  row_is false v rest is h = h
+
+  arguments_are : (numbers : Bool) (params : List Param) (args : List Value) → AreLiterals P args → AreLiterals P (arguments_on numbers params args)
+  unfolding arguments_on
+  arguments_are numbers [] args h = tt
+  arguments_are numbers (param ∷ params) [] h = tt
+  arguments_are numbers (param ∷ params) (arg ∷ args) h =
+      row_is (stands_on numbers param.ty) arg (arguments_on numbers params args) h.0 (arguments_are numbers params args h.1)
+
+  pub literal_or : (vs : List Value) (n : ℕ) (other : Value) → AreLiterals P vs → Literal other → Literal (get_or vs n other)
+  literal_or [] n other h is = is
+  literal_or (v ∷ vs) zero other h is = h.0
+  literal_or (v ∷ vs) (suc n) other h is = literal_or vs n other h.1 is
+
+  pub frame_is : (of : BodyNode) (scope : Option ℕ) (args : List Value) → AreLiterals P args → InFrame P (frame_of_call of scope args)
+  unfolding frame_of_call
+  frame_is (body params gives tree text line) scope args h = (
+    λ slot. literal_or (arguments_on true params args) slot (Num (pos 0)) (arguments_are true params args h) tt,
+    λ slot. literal_or (arguments_on false params args) slot Nil (arguments_are false params args h) tt,
+  )
+
+  holds_call : (c : Context) → CallsHold c → (line : Line) (v : Value) (args : List Value) → Literal v → AreLiterals P args →
+      Holds (call_meant c line v args)
+  unfolding call_meant
+  holds_call c k line (Procedure (as_written of) scope) args is are =
+      holds_choose (nat_lt c.depth most_calls) _ _
+      (holds_in_frame (frame_of_call of scope args) (c.call of args) (frame_is of scope args are) (k of args is are)) (holds_stop _)
+  holds_call c k line v args is are = holds_stop _
+
+  holds_for_turns : (n : ℕ) (loop : Counting) (clause : Meaning) → Holds clause → (z : ℤ) → Holds (for_turns n loop clause z)
+  unfolding for_turns
+  holds_for_turns zero loop clause h z = holds_stop _
+  holds_for_turns (suc n) loop clause h z =
+      holds_then take_turn _ holds_turn (λ t is_t. holds_then (in_turn loop clause z) _ (holds_in_turn loop clause h z) (λ v is_v.
+      holds_choose (goes_on loop.limit loop.step (z +ℤ loop.step)) _ _
+      (holds_then (set (Plain loop.slot) types.Int (Num (z +ℤ loop.step))) _ (holds_set (Plain loop.slot) types.Int (Num (z +ℤ loop.step)) tt)
+      (λ u is_u. holds_for_turns n loop clause h (z +ℤ loop.step))) (holds_give Nothing tt)))
+
+  holds_for_loop : (n : ℕ) (line : Line) (loop : Counting) (clause : Meaning) → Holds clause → (z : ℤ) → Holds (for_loop n line loop clause z)
+  unfolding for_loop
+  holds_for_loop n line loop clause h z =
+      holds_choose (is_same loop.step (pos 0)) _ _ (holds_stop _)
+      (holds_choose (goes_on loop.limit loop.step z) _ _ (holds_for_turns n loop clause h z) (holds_give Nothing tt))
+
+  holds_for : (n : ℕ) (line : Line) (slot : ℕ) (scope : Option (List ℕ)) (control : Place) (a b c clause : Meaning) → Holds a → Holds b → Holds c →
+      Holds clause → Holds (for_meant n line slot scope control a b c clause)
+  unfolding for_meant
+  holds_for n line slot scope control a b c clause ha hb hc h =
+      holds_then a _ ha (λ start is_a. holds_then (set (Plain slot) types.Int start) _ (holds_set (Plain slot) types.Int start is_a) (λ u is_u.
+      holds_then b _ hb (λ limit is_b. holds_then (set (Plain (slot + 1)) types.Int limit) _ (holds_set (Plain (slot + 1)) types.Int limit is_b)
+      (λ u is_u.
+      holds_then c _ hc (λ step is_c. holds_then (set (Plain (slot + 2)) types.Int step) _ (holds_set (Plain (slot + 2)) types.Int step is_c)
+      (λ u is_u.
+      holds_for_loop n line (record { slot = slot; scope = scope; control = control; limit = word_of limit; step = word_of step }) clause h
+      (word_of start)))))))
+
+  holds_answer : (line : Line) (a : Answer) → Holds (answer line a)
+  unfolding answer
+  holds_answer line (Gives z) = holds_give (Num z) tt
+  holds_answer line (Traps trap) = holds_stop _
+
+  holds_while : (n : ℕ) (test clause : Meaning) → Holds test → Holds clause → Holds (while_turns n test clause)
+  unfolding while_turns
+  holds_while zero test clause h k = holds_then test _ h (λ v is. holds_choose (flag_of v) _ _ (holds_stop _) (holds_give Nothing tt))
+  holds_while (suc n) test clause h k =
+      holds_then test _ h (λ v is. holds_choose (flag_of v) _ _
+      (holds_then take_turn _ holds_turn (λ t is_t. holds_then clause _ k (λ u is_u. holds_while n test clause h k))) (holds_give Nothing tt))
+
+  any_yields : (a : Attempt (List ℕ)) → OnYield P (λ (bytes : List ℕ). Unit {0}) a
+  any_yields (Yields bytes) = tt
+  any_yields (Fails trap) = tt
+
+  holds_texts : (line : Line) (a : Attempt (List ℕ)) (next : List ℕ → Meaning) → ((bytes : List ℕ) → Holds (next bytes)) → Holds (attempt line a next)
+  holds_texts line a next h = holds_attempt (λ (bytes : List ℕ). Unit {0}) line a next (any_yields a) (λ bytes is. h bytes)
+
+  holds_read_line : (line : Line) → Holds (read_line line)
+  unfolding read_line
+  holds_read_line line = holds_with_input _ (λ input. holds_texts line (line_read input) _ (λ bytes.
+      holds_then (put_input (behind_line input)) _ (holds_put_input (behind_line input)) (λ u is. holds_made_text bytes)))
+
+  holds_at_end : Holds at_end
+  unfolding at_end
+  holds_at_end = holds_with_input _ (λ input. holds_give _ tt)
+
+  holds_lib : (line : Line) (code : ℕ) (vs : List Value) → Holds (lib_meant line code vs)
+  holds_lib line code [] = holds_either (nat_eq code 9) _ _ (holds_read_line line) (holds_either (nat_eq code 10) _ _ holds_at_end holds_unbuilt)
+  holds_lib line code (v ∷ vs) =
+      holds_either (nat_eq code 11) _ _ (holds_give _ tt) (holds_either (nat_eq code 12) _ _ (holds_made_text _) holds_unbuilt)
+
+  holds_put : (line : Line) (a : Heap → Attempt Heap) → ((heap : Heap) → InHeap P heap → OnYield P (InHeap P) (a heap)) →
+      Holds (with_heap (λ heap. attempt line (a heap) put_heap))
+  holds_put line a h =
+      holds_with_heap _ (λ heap is. holds_attempt (InHeap P) line (a heap) put_heap (h heap is) (λ new are. holds_put_heap new are))
+
+  holds_read : (line : Line) (a : Heap → Attempt Value) → ((heap : Heap) → InHeap P heap → OnYield P (IsLiteral P) (a heap)) →
+      Holds (with_heap (λ heap. attempt line (a heap) give))
+  holds_read line a h = holds_with_heap _ (λ heap is. holds_attempt (IsLiteral P) line (a heap) give (h heap is) (λ v of. holds_give v of))
+
+  holds_vector : (line : Line) (a : Attempt Object) → OnYield P (InObject P) a → Holds (attempt line a (made Vector))
+  holds_vector line a h = holds_attempt (InObject P) line a (made Vector) h (λ object is. holds_made Vector object (λ id. tt) is)
+
+  mutual
+    unfolding eval eval_all eval_each eval_arms eval_labels
+
+    pub holds_eval : (c : Context) → CallsHold c → (t : Node) → BodiesAre P IsValued t → Holds (eval c t)
+    holds_eval c k (node.Int z) r = holds_give (Num z) tt
+    holds_eval c k (node.Flag b) r = holds_give (Flag b) tt
+    holds_eval c k (node.Text bytes) r = holds_give (Text bytes) tt
+    holds_eval c k (node.Name place ty) r = holds_get place ty
+    holds_eval c k (node.SetName place ty e) r = holds_then (eval c e) _ (holds_eval c k e r.1) (λ v is. holds_set place ty v is)
+    holds_eval c k (node.Let place ty e) r = holds_then (eval c e) _ (holds_eval c k e r.1) (λ v is. holds_set place ty v is)
+    holds_eval c k node.Empty r = holds_give Nothing tt
+    holds_eval c k (node.Block scope items) r = holds_scope scope (eval_all c Nothing items) (holds_all c k Nothing items tt r)
+    holds_eval c k (node.IfDo test a) r =
+        holds_then (eval c test) _ (holds_eval c k test r.0) (λ v is. holds_choose (flag_of v) _ _ (holds_eval c k a r.1) (holds_give Nothing tt))
+    holds_eval c k (node.IfElse test a b) r =
+        holds_then (eval c test) _ (holds_eval c k test r.0)
+        (λ v is. holds_choose (flag_of v) _ _ (holds_eval c k a r.1) (holds_eval c k b r.2))
+    holds_eval c k (node.While test a) r = holds_while c.bound (eval c test) (eval c a) (holds_eval c k test r.0) (holds_eval c k a r.1)
+    holds_eval c k (node.Repeat a test b) r =
+        holds_while c.bound _ (eval c b) (holds_then (eval c a) _ (holds_eval c k a r.0) (λ u is. holds_eval c k test r.1)) (holds_eval c k b r.2)
+    holds_eval c k (node.For slot from to by scope control s line) r =
+        holds_for c.bound line slot scope control _ _ _ _ (holds_eval c k from r.0) (holds_eval c k to r.1) (holds_eval c k by r.2)
+        (holds_eval c k s r.3)
+    holds_eval c k (node.Case e arms d ty) r =
+        holds_then (eval c e) _ (holds_eval c k e r.0) (λ v is. holds_arms c k ty v arms (eval c d) r.1 (holds_eval c k d r.2))
+    holds_eval c k (node.And a b) r =
+        holds_then (eval c a) _ (holds_eval c k a r.0) (λ v is. holds_choose (flag_of v) _ _ (holds_eval c k b r.1) (holds_give v is))
+    holds_eval c k (node.Or a b) r =
+        holds_then (eval c a) _ (holds_eval c k a r.0) (λ v is. holds_choose (flag_of v) _ _ (holds_give v is) (holds_eval c k b r.1))
+    holds_eval c k (node.Not e) r = holds_then (eval c e) _ (holds_eval c k e r) (λ v is. holds_give _ tt)
+    holds_eval c k (node.Neg e line) r = holds_then (eval c e) _ (holds_eval c k e r) (λ v is. holds_answer line _)
+    holds_eval c k (node.Plus e) r = holds_eval c k e r
+    holds_eval c k (node.Arith op a b line) r =
+        holds_then (eval c a) _ (holds_eval c k a r.0) (λ v is. holds_then (eval c b) _ (holds_eval c k b r.1) (λ w of. holds_answer line _))
+    holds_eval c k (node.Compare op ty a b) r =
+        holds_then (eval c a) _ (holds_eval c k a r.0) (λ v is. holds_then (eval c b) _ (holds_eval c k b r.1) (λ w of. holds_give _ tt))
+    holds_eval c k node.Nil r = holds_give Nil tt
+    holds_eval c k node.Class r = holds_give Nothing tt
+    holds_eval c k (node.Is e class) r =
+        holds_then (eval c e) _ (holds_eval c k e r) (λ v is. holds_with_heap _ (λ heap in_heap. holds_give _ tt))
+    holds_eval c k (node.Join a b line) r =
+        holds_then (eval c a) _ (holds_eval c k a r.0) (λ v is. holds_then (eval c b) _ (holds_eval c k b r.1)
+        (λ w of. holds_texts line _ _ (λ bytes. holds_made_text bytes)))
+    holds_eval c k (node.Part a i n line) r =
+        holds_then (eval c a) _ (holds_eval c k a r.0) (λ v is. holds_then (eval c i) _ (holds_eval c k i r.1)
+        (λ from of. holds_then (eval c n) _ (holds_eval c k n r.2) (λ count so. holds_texts line _ _ (λ bytes. holds_made_text bytes))))
+    holds_eval c k (node.Make class args) r =
+        holds_each c k args (make_meant class) r
+        (λ vs are. holds_made Pointer (Structure class (kept_all (forms_of class) vs)) (λ id. tt) (in_kept_all P (forms_of class) vs are))
+    holds_eval c k (node.Field e class n ty line) r =
+        holds_then (eval c e) _ (holds_eval c k e r) (λ o is. holds_read line _ (λ heap in_heap. in_field P heap o class n in_heap))
+    holds_eval c k (node.SetField p class n ty e line) r =
+        holds_then (eval c p) _ (holds_eval c k p r.0) (λ o is. holds_then (eval c e) _ (holds_eval c k e r.1)
+        (λ v of. holds_put line _ (λ heap in_heap. in_with_field P heap o class n _ in_heap (in_kept P (form_in (forms_of class) n) v of))))
+    holds_eval c k (node.Fill l u e ty line) r =
+        holds_then (eval c l) _ (holds_eval c k l r.0) (λ low is. holds_then (eval c u) _ (holds_eval c k u r.1)
+        (λ high of. holds_then (eval c e) _ (holds_eval c k e r.2)
+        (λ v so. holds_vector line _ (in_filled P (type_text ty) (word_of low) (word_of high) _ (in_kept P (Some (element_of (type_text ty))) v so)))))
+    holds_eval c k (node.Elems l items ty line) r =
+        holds_then (eval c l) _ (holds_eval c k l r.0)
+        (λ low is. holds_each c k items (elements_meant line (type_text ty) low) r.1
+        (λ vs are. holds_vector line _ (in_vector_of P (type_text ty) (word_of low) _ (in_kept_elements P (type_text ty) vs are))))
+    holds_eval c k (node.Element v i ty line) r =
+        holds_then (eval c v) _ (holds_eval c k v r.0) (λ vector is. holds_then (eval c i) _ (holds_eval c k i r.1)
+        (λ at of. holds_read line _ (λ heap in_heap. in_element P heap vector (word_of at) in_heap)))
+    holds_eval c k (node.SetElement v i e ty line) r =
+        holds_then (eval c v) _ (holds_eval c k v r.0) (λ vector is. holds_then (eval c i) _ (holds_eval c k i r.1)
+        (λ at of. holds_then (eval c e) _ (holds_eval c k e r.2)
+        (λ w so. holds_put line _ (λ heap in_heap. in_with_element P heap vector (word_of at) _ in_heap
+        (in_kept P (Some (element_of (type_in (vector_in heap vector)))) w so)))))
+    holds_eval c k (node.Bound v upper) r =
+        holds_then (eval c v) _ (holds_eval c k v r) (λ vector is. holds_with_heap _ (λ heap in_heap. holds_give _ tt))
+    holds_eval c k (node.Lib code args line) r = holds_each c k args (lib_meant line code) r (λ vs are. holds_lib line code vs)
+    holds_eval c k (node.Write e w false ty line) r = holds_then (eval c e) _ (holds_eval c k e r.0) (λ v is. holds_written line None _)
+    holds_eval c k (node.Write e w true ty line) r =
+        holds_then (eval c e) _ (holds_eval c k e r.0) (λ v is. holds_then (eval c w) _ (holds_eval c k w r.1) (λ width of. holds_written line _ _))
+    holds_eval c k (node.Abort line) r = holds_stop _
+    holds_eval c k (node.Proc of) r = holds_made_procedure of r
+    holds_eval c k (node.Call f args line) r =
+        holds_then (eval c f) _ (holds_eval c k f r.0)
+        (λ v is. holds_each c k args (call_meant c line v) r.1 (λ vs are. holds_call c k line v vs is are))
+    holds_eval c k (node.Scan text a f q s line) r = holds_unbuilt
+
+    pub holds_all : (c : Context) → CallsHold c → (v : Value) (ts : Nodes) → Literal v → AllBodiesAre P IsValued ts → Holds (eval_all c v ts)
+    holds_all c k v none is r = holds_give v is
+    holds_all c k v (more t ts) is r = holds_then (eval c t) _ (holds_eval c k t r.0) (λ w of. holds_all c k w ts of r.1)
+
+    pub holds_each : (c : Context) → CallsHold c → (ts : Nodes) (next : List Value → Meaning) → AllBodiesAre P IsValued ts →
+        ((vs : List Value) → AreLiterals P vs → Holds (next vs)) → Holds (eval_each c ts next)
+    holds_each c k none next r h = h [] tt
+    holds_each c k (more t ts) next r h =
+        holds_then (eval c t) _ (holds_eval c k t r.0) (λ v is. holds_each c k ts (λ vs. next (v ∷ vs)) r.1 (λ vs are. h (v ∷ vs) (is, are)))
+
+    holds_arms : (c : Context) → CallsHold c → (ty : TyView) (v : Value) (arms : Arms) (default : Meaning) → ArmsBodiesAre P IsValued arms → Holds default →
+        Holds (eval_arms c ty v arms default)
+    holds_arms c k ty v no_arms default r h = h
+    holds_arms c k ty v (more_arms (arm labels a) rest) default r h =
+        holds_then (eval_labels c ty v labels) _ (holds_labels c k ty v labels r.0)
+        (λ found is. holds_choose (flag_of found) _ _ (holds_eval c k a r.1) (holds_arms c k ty v rest default r.2 h))
+
+    holds_labels : (c : Context) → CallsHold c → (ty : TyView) (v : Value) (labels : Nodes) → AllBodiesAre P IsValued labels → Holds (eval_labels c ty v labels)
+    holds_labels c k ty v none r = holds_give _ tt
+    holds_labels c k ty v (more label rest) r =
+        holds_then (eval c label) _ (holds_eval c k label r.0)
+        (λ w is. holds_choose (is_equal ty v w) _ _ (holds_give _ tt) (holds_labels c k ty v rest r.1))
+
+  -- bodies that are called, however many turns may be left
+  pub holds_keep : (place : Place) (ty : TyView) (v : Value) → Literal v → Holds (keep place ty v)
+  unfolding keep
+  holds_keep (Plain slot) ty v is = holds_give Nothing tt
+  holds_keep (Kept up position) ty v is = holds_set (Kept up position) ty v is
+
+  pub holds_keep_all : (params : List Param) (args : List Value) → AreLiterals P args → Holds (keep_all params args)
+  unfolding keep_all
+  holds_keep_all [] args are = holds_give Nothing tt
+  holds_keep_all (param ∷ params) [] are = holds_give Nothing tt
+  holds_keep_all (param ∷ params) (v ∷ args) are =
+      holds_then (keep param.place param.ty v) _ (holds_keep param.place param.ty v are.0) (λ u is. holds_keep_all params args are.1)
+
+  pub holds_body : (c : Context) → CallsHold c → (of : BodyNode) (args : List Value) → BodyIs P IsValued of → AreLiterals P args → Holds (body_meant c of args)
+  unfolding body_meant
+  holds_body c k (body params gives tree text line) args is are =
+      holds_scope text _ (holds_then (keep_all params args) _ (holds_keep_all params args are) (λ u of. holds_eval c k tree is.1))
+
+  holds_within : (n depth : ℕ) (of : BodyNode) (args : List Value) → BodyIs P IsValued of → AreLiterals P args → Holds (call_within n depth of args)
+  unfolding call_within
+  holds_within zero depth of args is are = holds_stop _
+  holds_within (suc n) depth of args is are =
+      holds_then take_turn _ holds_turn (λ t done. holds_body (context n depth) (holds_within n (suc depth)) of args is are)
+
+  pub calls_hold : (n depth : ℕ) → CallsHold (context n depth)
+  calls_hold n depth = holds_within n (suc depth)

@@ -1,0 +1,33 @@
+-- What the machine holds for what the meaning holds: each procedure is the unit of its body, and all else stays.
+use Rattle.std.specs.Prelude.{List, map}
+use Rattle.ps_gen.specs.Units.{unit_of}
+use Rattle.ps_meaning.specs.Values.{Value, Procedure, Routine, as_written, as_compiled, word_of}
+use Rattle.ps_meaning.specs.Objects.{Heap, Object, Structure, Elements, Scope}
+use Rattle.ps_meaning.specs.Meaning.{Frame, Store}
+use Rattle.ps_stepping.specs.Config.{Locals}
+
+unfoldable pub compiled_routine : Routine → Routine
+compiled_routine (as_written of) = as_compiled (unit_of of)
+compiled_routine (as_compiled of) = as_compiled of
+
+abbrev pub compiled : Value → Value
+compiled (Procedure does scope) = Procedure (compiled_routine does) scope
+compiled v = v
+
+abbrev pub compiled_all : List Value → List Value
+compiled_all vs = map compiled vs
+
+abbrev pub compiled_object : Object → Object
+compiled_object (Structure class fields) = Structure class (compiled_all fields)
+compiled_object (Elements ty low elements) = Elements ty low (compiled_all elements)
+compiled_object (Scope text parent names) = Scope text parent (compiled_all names)
+
+abbrev pub compiled_heap : Heap → Heap
+compiled_heap heap = map compiled_object heap
+
+abbrev pub compiled_store : Store → Store
+compiled_store store = record store { heap = compiled_heap store.heap }
+
+-- the locals of a frame: as numbers, and as references
+abbrev pub compiled_locals : Frame → Locals
+compiled_locals frame = record { nums = λ slot. word_of (frame.nums slot); refs = λ slot. compiled (frame.refs slot) }

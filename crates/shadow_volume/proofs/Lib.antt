@@ -1,0 +1,11 @@
+pub mod Gate
+pub mod Halves
+pub mod Numbers
+pub mod Tests
+pub mod Looking
+pub mod Staying
+pub mod Pages
+pub mod Blank
+pub mod Turning
+pub mod New
+pub mod Switched

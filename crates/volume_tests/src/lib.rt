@@ -1,0 +1,11 @@
+//! Tests of volumes over a host in memory.
+#![tactic(auto)]
+
+#[cfg(test)]
+mod attaching;
+#[cfg(test)]
+mod forged;
+#[cfg(test)]
+mod images;
+#[cfg(test)]
+mod stopping;
