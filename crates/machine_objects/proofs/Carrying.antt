@@ -29,7 +29,7 @@ never-fails old now is of names a (op.Swizzle fault) got = got
 
 -- what is pushed where there was no room in the area
 pub fails-push : (m : Machine) (here : area.Heap) (names : List Reference) (c : Config) (v : Value) (store : Store) (weight : ℕ) (fault : SwizzleFault) (line : Line) (full : Bool) → HeldIn here names m c
-    → IsShort here m.sw weight fault → store.counted ≡ c.store.counted + weight → (full ≡ true → frame_words ≤ length m.refs.items) → (full ≡ false → length m.refs.items < frame_words)
+    → IsShort here m.sw weight fault → store.counted ≡ c.store.counted + weight → (full ≡ true → frame_words ≤ length m.refs.own) → (full ≡ false → length m.refs.own < frame_words)
     → KeepsSize (failed_of (op.Swizzle fault) full) here m.sw × Does (push_ref v (record c { store = store })) (failed_of (op.Swizzle fault) full) (failed_in (op.Swizzle fault) line full m)
 fails-push m here names c v store weight fault line full h short count is_full has_room = of full is_full has_room
   where
@@ -39,7 +39,7 @@ fails-push m here names c v store weight fault line full h short count is_full h
     next : Config
     next = record c { store = store }
 
-    of : (b : Bool) → (b ≡ true → frame_words ≤ length m.refs.items) → (b ≡ false → length m.refs.items < frame_words)
+    of : (b : Bool) → (b ≡ true → frame_words ≤ length m.refs.own) → (b ≡ false → length m.refs.own < frame_words)
         → KeepsSize (failed_of (op.Swizzle fault) b) here m.sw × Does (push_ref v next) (failed_of (op.Swizzle fault) b) (failed_in (op.Swizzle fault) line b m)
     of true f r = (tt, ap (λ (b : Bool). if b then on (record next { refs = v ∷ c.refs }) else Stuck) (le-ltb ((frame_in c.unit).refs + length c.refs) frame_words (let f = f refl in omega (arith, f, refs_taken m c names held))))
     of false f r = (

@@ -64,6 +64,7 @@ module _ (m : Machine) (classes : KnownClasses) where
     entries_are = right;
     layouts_are = h.layouts_are;
     known_are = h.known_are;
+    called_are = h.called_are;
     counted = h.counted;
   }
 
@@ -214,12 +215,12 @@ denoted-at here names (w ∷ ws) (v ∷ vs) (suc i) d are below = denoted-at her
 denoted-at here names [] (v ∷ vs) i d are below = absurd are
 denoted-at here names (w ∷ ws) [] i d are below = absurd are
 
-pub word-there : (m : Machine) (i d : ℕ) → IsHolding m → i < length m.refs.items → IsThere m.sw (object_in (get_or m.refs.items i d))
+pub word-there : (m : Machine) (i d : ℕ) → IsHolding m → i < length m.refs.own → IsThere m.sw (object_in (get_or m.refs.own i d))
 word-there m i d h below =
     let names = h.1.names in
     let row = h.1.held.refs_are in
     let size = m.frame.refs in
-    let words = m.refs.items in
+    let words = m.refs.own in
     let pushed = drop size words in
     let value : (v : Value) × DenotesIn m.sw names (object_in (get_or words i d)) v = elim (cases_lt i size) [
       | inl low ↦ (h.0.locals.refs i, row.locals_are i d low)

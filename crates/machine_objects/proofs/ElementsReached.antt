@@ -234,10 +234,10 @@ reference-put m now w x i at one sound heap still holding top two put = record {
 }
 
 -- the two references on top
-pub two-refs : (m : Machine) (c : Config) (n k v w d e : ℕ) → Holds m c → n + 2 ≡ length m.refs.items → k ≡ n + 1 → m.frame.refs ≤ n
-    → get_or m.refs.items n d ≡ v → get_or m.refs.items k e ≡ w → HasTwoRefs m c (v, w)
+pub two-refs : (m : Machine) (c : Config) (n k v w d e : ℕ) → Holds m c → n + 2 ≡ length m.refs.own → k ≡ n + 1 → m.frame.refs ≤ n
+    → get_or m.refs.own n d ≡ v → get_or m.refs.own k e ≡ w → HasTwoRefs m c (v, w)
 two-refs m c n k v w d e h end next room low high =
-    let xs = m.refs.items in
+    let xs = m.refs.own in
     let r = h.held.refs_are in
     let lower : take (n + 1) xs ≡ take n xs ++ v ∷ [] = take_more xs n d (omega (arith, end)) ∙ ap (λ (y : ℕ). take n xs ++ y ∷ []) low in
     let upper : get_or xs (n + 1) e ≡ w = ap (λ (j : ℕ). get_or xs j e) (sym next) ∙ high in
@@ -274,7 +274,7 @@ number-in-place old mid last new r w i z p q t = record {
       let room = q.room in
       let same : number_for_two z c ≡ put_num z y.0 =
       x.2 (λ v d. pop_num d (λ j e. push_num z e)) ∙ y.1 (λ j e. push_num z e)
-      ∙ sym (pushes_num last y.0 h.names y.2 z (omega (arith, room, last.nums.ok.0))) in
+      ∙ sym (pushes_num last y.0 h.names y.2 z (omega (arith, room))) in
       subst (λ (s : Step). Does s r new) (sym same) (t.does y.0 (record { names = h.names; held = y.2 }));
 }
 

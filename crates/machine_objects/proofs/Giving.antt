@@ -176,14 +176,14 @@ module _ (line : Line) (m : Machine) (heap : IsHeap m.sw) (here : area.Heap) (na
       (stands.carries.size, ([], record c { store = store }, ap (λ (a : Attempt Heap). attempted line a (λ heap. changed heap c)) did.1, refl, record { names = names; held = now }))
 
   -- an operation that failed
-  pub text-fails : (fault : OpFault) (full : Bool) (attempt : Attempt (List ℕ)) → (full ≡ true → frame_words ≤ length m.refs.items) → (full ≡ false → length m.refs.items < frame_words)
+  pub text-fails : (fault : OpFault) (full : Bool) (attempt : Attempt (List ℕ)) → (full ≡ true → frame_words ≤ length m.refs.own) → (full ≡ false → length m.refs.own < frame_words)
       → MakesText here m.sw c.store.heap names attempt (Err fault) → KeepsSize (failed_of fault full) here m.sw × Does (attempted line attempt (λ bytes. make_text bytes c)) (failed_of fault full) (failed_in fault line full m)
   text-fails (op.Trap trap) full attempt is_full has_room made = (tt, ap (λ (a : Attempt (List ℕ)). attempted line a (λ bytes. make_text bytes c)) made)
   text-fails (op.Swizzle fault) full attempt is_full has_room made =
       let f = fails-push m here names c (Text made.0) (and_text made.0 c.store) (text_weight made.0) fault line full h made.2 refl is_full has_room in
       (f.0, subst (λ (a : Attempt (List ℕ)). Does (attempted line a (λ bytes. make_text bytes c)) (failed_of (op.Swizzle fault) full) (failed_in (op.Swizzle fault) line full m)) (sym made.1) f.1)
 
-  pub object-fails : (fault : OpFault) (full : Bool) (denoting : ℕ → Value) (attempt : Attempt Object) → (full ≡ true → frame_words ≤ length m.refs.items) → (full ≡ false → length m.refs.items < frame_words)
+  pub object-fails : (fault : OpFault) (full : Bool) (denoting : ℕ → Value) (attempt : Attempt Object) → (full ≡ true → frame_words ≤ length m.refs.own) → (full ≡ false → length m.refs.own < frame_words)
       → Makes here m.sw c.store.heap names denoting attempt (Err fault) → KeepsSize (failed_of fault full) here m.sw × Does (attempted line attempt (λ object. make denoting object c)) (failed_of fault full) (failed_in fault line full m)
   object-fails (op.Trap trap) full denoting attempt is_full has_room made = (tt, ap (λ (a : Attempt Object). attempted line a (λ object. make denoting object c)) made)
   object-fails (op.Swizzle fault) full denoting attempt is_full has_room made =

@@ -57,5 +57,6 @@ module _ (m : Machine) (now : area.Heap) (input : List ℕ) where
     entries_are = h.entries_are;
     layouts_are = h.layouts_are;
     known_are = h.known_are;
+    called_are = h.called_are;
     counted = h.counted;
   }

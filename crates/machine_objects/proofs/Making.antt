@@ -242,11 +242,11 @@ no-number-popped f old new row p = record {
 pub more-than-there : (m : Machine) (names : List Reference) (c : Config) (fs : List Form) (next : List Value → Config → Step) → IsSound m
     → HeldBy names m c → most_values < length fs → pop_fields fs [] c next ≡ Stuck
 more-than-there m names c fs next sound h many =
-    let nums = row_length m.frame.nums m.nums.items c.nums c.locals.nums h.nums_are in
+    let nums = row_length m.frame.nums m.nums.own c.nums c.locals.nums h.nums_are in
     let refs = refs_taken m c names h in
     let few = sound.nums_below in
     let below = sound.refs_below in
-    too-many fs [] c next (omega (arith, many, nums, refs, few, below, m.nums.ok.0, m.refs.ok.0))
+    too-many fs [] c next (omega (arith, many, nums, refs, few, below))
 
 -- values that denote ones of the meaning lie in the area
 pub are-near : (here : area.Heap) (names : List Reference) (fs : List Form) (ks : List code.Value) (vs : List Value) → AreForIn here names fs ks vs

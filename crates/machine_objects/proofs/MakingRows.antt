@@ -1,8 +1,7 @@
 -- Structures of a known class, made at once of the tops of the stacks.
 use Rattle.std.proofs.Common.{◌≡◌, ℕ, suc, ◌+◌, ◌<◌, ◌≤◌, ℤ, List, [], ◌∷◌, ◌++◌, length, reverse, take, drop, Option, Some, None, refl, sym, ap, ◌∙◌, subst, arith, append-nil, length-drop}
 use Rattle.std.specs.Prelude.{Result, Ok, Err, OnOk}
-use Rattle.std.specs.declared.vec.Vec.{Vec}
-use Rattle.std.specs.declared.alloc.Global.{Global}
+use Rattle.frame_stack.specs.Frames.{Frames}
 use Rattle.ps_base.specs.CodeUnit.{ConstantView}
 use Rattle.ps_base.specs.declared.line.Line.{Line}
 use Rattle.obj_layout.specs.declared.kind.Kind.TheVariants as kind
@@ -42,6 +41,7 @@ use Rattle.machine_state.specs.Stepped.{Takes, Does}
 use Rattle.machine_state.proofs.Rows.{row_length}
 use Rattle.machine_state.proofs.RefRows.{ref_length}
 use Rattle.machine_state.specs.Holding.{HeldIn}
+use Rattle.machine_state.specs.Waiting.{AreWaiting}
 use Rattle.machine_objects.specs.inside.Giving.{GivesObject}
 use Rattle.machine_objects.specs.inside.Constants.{KnowsMake}
 use Rattle.machine_objects.specs.inside.Rows.{row_values, named, AreInts, whole_of}
@@ -108,14 +108,14 @@ makes-of old new of names class fs bits xs ys vs bytes (Err fault) heap held int
     (fills-same old new class (row_values bits xs ys) (codes fs xs ys) (Err fault) (same-refs fs bits xs ys n w) (same-words fs bits xs ys marked n w) f)
     (codes-long fs xs ys vs n w (denoted-long old names ys vs denoted))
 
-module _ (m : Machine) (j : ℕ) (refs_low : m.frame.refs ≤ j) (high : j ≤ length m.refs.items) where
+module _ (m : Machine) (j : ℕ) (refs_low : m.frame.refs ≤ j) (high : j ≤ length m.refs.own) where
   -- what is on top names objects of the area
-  pub tops-near : IsHolding m → AreNear m.sw (named (drop j m.refs.items))
+  pub tops-near : IsHolding m → AreNear m.sw (named (drop j m.refs.own))
   tops-near holding =
       let names = holding.1.names in
       let c = holding.0 in
-      let left = refs-left m.sw names m.refs.items m.frame.refs j c.refs c.locals.refs holding.1.held.refs_are refs_low high in
-      near-named m.sw names (drop j m.refs.items) left.tops left.are
+      let left = refs-left m.sw names m.refs.own m.frame.refs j c.refs c.locals.refs holding.1.held.refs_are refs_low high in
+      near-named m.sw names (drop j m.refs.own) left.tops left.are
 
 module _ (k : ℕ) (m : Machine) (known : KnownMake) (knows : KnowsMake k m known) (heap : IsHeap m.sw) where
   abbrev class : List ℕ
@@ -132,32 +132,33 @@ module _ (k : ℕ) (m : Machine) (known : KnownMake) (knows : KnowsMake k m know
       (text-known m.sw m.code known.code k known.constant known.text c.unit heap h.unit_is is.so.class is.code_is is.constant_is)
 
   -- the stacks have too few words
-  pub few-nums : IsSound m → IsHolding m → length m.nums.items < m.frame.nums + known.fields.rows.nums → Takes (make_structure k) m m Damaged
+  pub few-nums : IsSound m → IsHolding m → length m.nums.own < m.frame.nums + known.fields.rows.nums → Takes (make_structure k) m m Damaged
   few-nums sound holding few = ends (make_structure k) m m Damaged sound holding (λ names c h. (
     tt,
     named-class names c h ∙ too-few-nums (forms_of class) c (λ fields d. make Pointer (Structure class fields) d)
-        (let all = row_length m.frame.nums m.nums.items c.nums c.locals.nums h.nums_are in
+        (let all = row_length m.frame.nums m.nums.own c.nums c.locals.nums h.nums_are in
         let rows = ap (λ (r : Rows). r.nums) (knows names c h).so.rows in omega (arith, few, all, rows)),
   ))
 
-  pub few-refs : IsSound m → IsHolding m → length m.refs.items < m.frame.refs + known.fields.rows.refs → Takes (make_structure k) m m Damaged
+  pub few-refs : IsSound m → IsHolding m → length m.refs.own < m.frame.refs + known.fields.rows.refs → Takes (make_structure k) m m Damaged
   few-refs sound holding few = ends (make_structure k) m m Damaged sound holding (λ names c h. (
     tt,
     named-class names c h ∙ too-few-refs (forms_of class) c (λ fields d. make Pointer (Structure class fields) d)
-        (let all = ref_length m.sw names m.frame.refs m.refs.items c.refs c.locals.refs h.refs_are in
+        (let all = ref_length m.sw names m.frame.refs m.refs.own c.refs c.locals.refs h.refs_are in
         let rows = ap (λ (r : Rows). r.refs) (knows names c h).so.rows in omega (arith, few, all, rows)),
   ))
 
-  module _ (i j : ℕ) (nums_low : m.frame.nums ≤ i) (refs_low : m.frame.refs ≤ j) (nums_are : i + known.fields.rows.nums ≡ length m.nums.items)
-      (refs_are : j + known.fields.rows.refs ≡ length m.refs.items) where
-    module _ (now : area.Heap) (left_nums : Vec ℤ Global) (left_refs : Vec ℕ Global)
-        (nums_left : left_nums.items ≡ take i m.nums.items) (refs_left : left_refs.items ≡ take j m.refs.items) where
+  module _ (i j : ℕ) (nums_low : m.frame.nums ≤ i) (refs_low : m.frame.refs ≤ j) (nums_are : i + known.fields.rows.nums ≡ length m.nums.own)
+      (refs_are : j + known.fields.rows.refs ≡ length m.refs.own) where
+    module _ (now : area.Heap) (left_nums : Frames ℤ) (left_refs : Frames ℕ)
+        (nums_left : left_nums.own ≡ take i m.nums.own) (refs_left : left_refs.own ≡ take j m.refs.own)
+        (nums_below : left_nums.below ≡ m.nums.below) (refs_below : left_refs.below ≡ m.refs.below) where
       abbrev popped : Machine
       popped = record m { sw = now; nums = left_nums; refs = left_refs }
 
       -- the machine stood for this configuration behind the pops, but for its area
       stands-behind : (names : List Reference) (c : Config) (nums : List ℤ) (refs : List Value) → HeldBy names m c
-          → IsRow (take i m.nums.items) m.frame.nums nums c.locals.nums → IsRefRow m.sw names (take j m.refs.items) m.frame.refs refs c.locals.refs
+          → IsRow (take i m.nums.own) m.frame.nums nums c.locals.nums → IsRefRow m.sw names (take j m.refs.own) m.frame.refs refs c.locals.refs
           → HeldIn m.sw names popped (record c { nums = nums; refs = refs })
       stands-behind names c nums refs h row ref_row = record {
         unit_is = h.unit_is;
@@ -168,29 +169,32 @@ module _ (k : ℕ) (m : Machine) (known : KnownMake) (knows : KnowsMake k m know
         nums_are = subst (λ (l : List ℤ). IsRow l m.frame.nums nums c.locals.nums) (sym nums_left) row;
         refs_are = subst (λ (l : List ℕ). IsRefRow m.sw names l m.frame.refs refs c.locals.refs) (sym refs_left) ref_row;
         scope_is = h.scope_is;
-        callers_are = h.callers_are;
+        callers_are =
+            subst (λ (l : List ℤ). AreWaiting m.sw names m.callers.items l left_refs.below c.callers) (sym nums_below)
+            (subst (λ (l : List ℕ). AreWaiting m.sw names m.callers.items m.nums.below l c.callers) (sym refs_below) h.callers_are);
         input_is = h.input_is;
         turns_are = h.turns_are;
         world = h.world;
         entries_are = h.entries_are;
         layouts_are = h.layouts_are;
         known_are = h.known_are;
+        called_are = h.called_are;
         counted = h.counted;
       }
 
-      pub rows-made : (made : Result ℕ SwizzleFault) (new : Machine) (r : Stepped) (line : Line) → IsHolding m → OnOk made (AreInts (drop i m.nums.items))
-          → Fills m.sw now kind.Structure known.text None (row_values known.fields.flags.bits (drop i m.nums.items) (drop j m.refs.items)) made
+      pub rows-made : (made : Result ℕ SwizzleFault) (new : Machine) (r : Stepped) (line : Line) → IsHolding m → OnOk made (AreInts (drop i m.nums.own))
+          → Fills m.sw now kind.Structure known.text None (row_values known.fields.flags.bits (drop i m.nums.own) (drop j m.refs.own)) made
           → (whole : Result ℕ OpFault) → whole ≡ whole_of made → GivesObject line popped new r whole → Takes (make_structure k) m new r
       rows-made made new r line holding ints fills whole same_whole give = ends (make_structure k) m new r give.sound holding (λ names c h.
           let is = (knows names c h).so in
           let fs = forms_of class in
-          let xs = drop i m.nums.items in
-          let ys = drop j m.refs.items in
+          let xs = drop i m.nums.own in
+          let ys = drop j m.refs.own in
           let bits = known.fields.flags.bits in
-          let left = nums-left m.nums.items m.frame.nums i c.nums c.locals.nums h.nums_are nums_low (omega (arith, nums_are)) in
-          let tops = refs-left m.sw names m.refs.items m.frame.refs j c.refs c.locals.refs h.refs_are refs_low (omega (arith, refs_are)) in
-          let n : (rows_of fs).nums ≡ length xs = omega (arith, ap (λ (r : Rows). r.nums) is.rows, length-drop i m.nums.items, nums_are) in
-          let w : (rows_of fs).refs ≡ length ys = omega (arith, ap (λ (r : Rows). r.refs) is.rows, length-drop j m.refs.items, refs_are) in
+          let left = nums-left m.nums.own m.frame.nums i c.nums c.locals.nums h.nums_are nums_low (omega (arith, nums_are)) in
+          let tops = refs-left m.sw names m.refs.own m.frame.refs j c.refs c.locals.refs h.refs_are refs_low (omega (arith, refs_are)) in
+          let n : (rows_of fs).nums ≡ length xs = omega (arith, ap (λ (r : Rows). r.nums) is.rows, length-drop i m.nums.own, nums_are) in
+          let w : (rows_of fs).refs ≡ length ys = omega (arith, ap (λ (r : Rows). r.refs) is.rows, length-drop j m.refs.own, refs_are) in
           let vs = means fs xs tops.tops in
           let d = record c { nums = left.0; refs = tops.rest } in
           let next : List Value → Config → Step = λ fields e. make Pointer (Structure class fields) e in

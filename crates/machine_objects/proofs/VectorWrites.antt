@@ -58,6 +58,7 @@ with-vectors m vectors names c so h = record {
   entries_are = h.entries_are;
   layouts_are = h.layouts_are;
   known_are = so;
+  called_are = h.called_are;
   counted = h.counted;
 }
 

@@ -141,5 +141,5 @@ fn named_below(m: &Machine, below: usize) -> Option<u32>
     if count <= below {
         return None;
     }
-    object(m.refs[count - 1 - below])
+    object(m.refs.word(count - 1 - below))
 }

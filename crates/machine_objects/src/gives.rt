@@ -12,8 +12,8 @@ use ps_base::line::Line;
 // Whether the stack of references has no room.
 #[inline(always)]
 fn is_full(m: &Machine) -> bool
-    ensures full { result ≡ true → frame_words ≤ length m.now.refs.items }
-    ensures room { result ≡ false → length m.now.refs.items < frame_words }
+    ensures full { result ≡ true → frame_words ≤ length m.now.refs.own }
+    ensures room { result ≡ false → length m.now.refs.own < frame_words }
 {
     m.refs.len() >= FRAME_WORDS
 }

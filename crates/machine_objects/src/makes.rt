@@ -63,8 +63,8 @@ fn make_known(m: &mut Machine, known: KnownMake) -> Stepped
         &mut m.sw,
         known.text,
         known.fields.flags,
-        top_nums(&m.nums, first_num),
-        top_refs(&m.refs, first_ref),
+        top_nums(m.nums.own(), first_num),
+        top_refs(m.refs.own(), first_ref),
     );
     m.nums.truncate(first_num);
     m.refs.truncate(first_ref);

@@ -124,7 +124,7 @@ pub(crate) fn top_two_refs(m: &Machine) -> Option<(u32, u32)>
     if count < m.frame.refs as usize + 2 {
         return None;
     }
-    Some((m.refs[count - 2], m.refs[count - 1]))
+    Some((m.refs.word(count - 2), m.refs.word(count - 1)))
 }
 
 /// Writes the reference on top as the element that the vector below it and the subscript reach. False where it isn't reached.

@@ -58,6 +58,7 @@ module _ (m : Machine) (layouts : Layouts) where
     entries_are = h.entries_are;
     layouts_are = laid;
     known_are = h.known_are;
+    called_are = h.called_are;
     counted = h.counted;
   }
 

@@ -2,4 +2,5 @@ pub mod Constants
 pub mod Current
 pub mod Makings
 pub mod KeptNames
+pub mod OneProcedure
 pub mod CalledBodies

@@ -96,7 +96,7 @@ module _ (m : Machine) (now : area.Heap) (within : Option ℕ) (in_it : IsCurren
           );
     }
 
-    pub procedure-broken : (fault : SwizzleFault) → IsSound m → length m.refs.items < frame_words → MadeProcedure (Err fault)
+    pub procedure-broken : (fault : SwizzleFault) → IsSound m → length m.refs.own < frame_words → MadeProcedure (Err fault)
         → MakesProcedureOf code m (record m { sw = now; fault = fault }) Breaks
     procedure-broken fault sound room make = record {
       sound = sound-broken m now fault sound;
@@ -114,7 +114,7 @@ module _ (m : Machine) (now : area.Heap) (within : Option ℕ) (in_it : IsCurren
           );
     }
 
-    pub procedure-full : (fault : SwizzleFault) → IsSound (record m { sw = now }) → frame_words ≤ length m.refs.items
+    pub procedure-full : (fault : SwizzleFault) → IsSound (record m { sw = now }) → frame_words ≤ length m.refs.own
         → MakesProcedureOf code m (record m { sw = now }) Damaged
     procedure-full fault sound full = record {
       sound = sound;

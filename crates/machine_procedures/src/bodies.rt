@@ -1,5 +1,5 @@
 //! The bodies of procedures.
-ghost use Rattle.std.specs.Prelude.{◌≡◌, ◌+◌, ◌<◌, ℕ, IfSome, List, MatchOption, Option, OnSome, Some, vec_len};
+ghost use Rattle.std.specs.Prelude.{◌≡◌, ℕ, IfSome, List, MatchOption, Option, OnSome, Some};
 ghost use Rattle.ps_base.specs.CodeUnit.{UnitView};
 ghost use Rattle.obj_layout.specs.declared.reference.Reference.{Reference};
 ghost use Rattle.swizzle.specs.Heap.{IsHeld};
@@ -8,11 +8,11 @@ ghost use Rattle.ps_meaning.specs.Objects as meaning;
 ghost use Rattle.ps_meaning.specs.Values as meant;
 ghost use Rattle.paired_ops.specs.World.{DenotesIn, IsEmpty, IsWorld};
 ghost use Rattle.machine_state.specs.Holding.{IsHolding, IsSound, object_in};
-ghost use Rattle.machine_procedures.specs.inside.Bodies.{AnswersBody, FindsBody, IsCalled, IsNotCalled, IsThere};
+ghost use Rattle.machine_procedures.specs.inside.Bodies.{AnswersBody, FindsBody, FindsPlace, IsBelow, IsCalled, IsNotCalled, IsThere, KeepsBody, StandsAt};
 
-use machine_state::calls::ref_below;
-use machine_state::stacks::object;
-use machine_state::{Body, Machine};
+use machine_state::calls::fits;
+use machine_state::stacks::{object, word};
+use machine_state::{Body, KnownProcedure, Machine};
 use obj_layout::vault::Vault;
 use paired_ops::values::{Sort, sort_of};
 use paired_procedures::procedure::{code_of, scope_of};
@@ -20,21 +20,63 @@ use paired_procedures::unit::frame_of;
 use proc_values::reading::code_place;
 use swizzle::swizzle::Swizzle;
 
-/// The body of the procedure below so many references on top; None where there isn't one.
+/// The place of what is known of the procedure that a word names, or none.
+#[inline(always)]
+pub(crate) fn known_place(m: &Machine, word: u32) -> Option<usize>
+    ensures { IfSome result (StandsAt m.now word) }
+{
+    match object(word) {
+        Some(at) => m.procedures.find(at),
+        None => None,
+    }
+}
+
+/// The place of the procedure that a word names, which is read and known from then on; None where there is none, or its frame doesn't fit.
 #[inline]
-pub(crate) fn body_below<V: Vault>(m: &mut Machine, vault: &mut V, n: u32) -> Option<Body>
+pub(crate) fn learn<V: Vault>(m: &mut Machine, vault: &mut V, n: u32, word: u32) -> Option<usize>
     requires sound { IsSound m.old }
     requires holding { IsHolding m.old }
     requires alive { V.alive vault.old }
     requires empty { IsEmpty (V.outside vault.old) }
-    ensures finds { FindsBody n m.old m.new result }
-    ensures there { IfSome result (λ body. m.new.frame.refs + n < vec_len m.new.refs) }
+    requires below { IsBelow n word m.old }
+    ensures finds { FindsPlace n word m.old m.new result }
+    ensures frame { m.new.frame ≡ m.old.frame }
+    ensures refs { m.new.refs ≡ m.old.refs }
     ensures leaves { LeavesOutside (V.outside vault.old) (V.outside vault.new) }
     ensures alive { OnSome result (V.alive vault.new) }
 {
-    let Some(word) = ref_below(m, n) else {
+    match read_body(m, vault, n, word) {
+        Some(body) => keep_body(m, word, body),
+        None => None,
+    }
+}
+
+// Keeps the body of the procedure that a word names, and tells its place; None where its frame doesn't fit.
+#[inline]
+fn keep_body(m: &mut Machine, word: u32, body: Body) -> Option<usize>
+    ensures { KeepsBody word body m.old m.new result }
+{
+    if !fits(body.frame) {
         return None;
-    };
+    }
+    let procedure = word;
+    Some(m.procedures.keep(KnownProcedure { procedure, body }))
+}
+
+// The body of the procedure that a word names; None where there isn't one.
+#[inline]
+fn read_body<V: Vault>(m: &mut Machine, vault: &mut V, n: u32, word: u32) -> Option<Body>
+    requires sound { IsSound m.old }
+    requires holding { IsHolding m.old }
+    requires alive { V.alive vault.old }
+    requires empty { IsEmpty (V.outside vault.old) }
+    requires below { IsBelow n word m.old }
+    ensures finds { FindsBody n word m.old m.new result }
+    ensures frame { m.new.frame ≡ m.old.frame }
+    ensures refs { m.new.refs ≡ m.old.refs }
+    ensures leaves { LeavesOutside (V.outside vault.old) (V.outside vault.new) }
+    ensures alive { OnSome result (V.alive vault.new) }
+{
     m.sw.sound();
     match procedure_in(&m.sw, word) {
         Some(at) => {
@@ -83,6 +125,6 @@ fn body_of<V: Vault>(sw: &mut Swizzle, vault: &mut V, procedure: u32) -> Option<
         code,
         place,
         frame,
-        scope,
+        scope: word(scope),
     })
 }

@@ -9,7 +9,6 @@ use Rattle.ps_base.specs.declared.line.Line.{Line}
 use Rattle.ps_base.specs.declared.trap.Trap.TheVariants.{TooDeep}
 use Rattle.obj_layout.specs.declared.reference.Reference.{Reference}
 use Rattle.swizzle.specs.Heap as area
-use Rattle.swizzle.specs.Heap.{IsHeap}
 use Rattle.ps_meaning.specs.Event.{Trapped, OutOfTurns, Turn}
 use Rattle.ps_meaning.specs.Evaluation.{most_calls}
 use Rattle.ps_meaning.specs.Meaning.{Store, with_turns, spent}
@@ -22,9 +21,9 @@ use Rattle.paired_ops.specs.World.{DenotesIn, DenotesScopeIn}
 use Rattle.machine_state.specs.declared.body.Body.{Body}
 use Rattle.machine_state.specs.declared.caller.Caller as in_code
 use Rattle.machine_state.specs.declared.machine.Machine.{Machine}
-use Rattle.machine_state.specs.declared.waiting.Waiting.{Waiting}
 use Rattle.std.specs.declared.alloc.Global.{Global}
 use Rattle.std.specs.declared.vec.Vec.{Vec}
+use Rattle.frame_stack.specs.Frames.{Frames}
 use Rattle.machine_state.specs.declared.stepped.Stepped.TheVariants.{Turns}
 use Rattle.machine_state.specs.Holding.{Held, HeldBy, IsRow, IsRefRow, object_in, word_of}
 use Rattle.machine_state.specs.Waiting.{IsWaiting, Last, AreWaiting}
@@ -35,7 +34,7 @@ use Rattle.machine_state.proofs.Rows.{row_length}
 use Rattle.machine_state.proofs.RefRows.{ref_length}
 use Rattle.machine_state.proofs.Callers.{as-many}
 use Rattle.machine_state.proofs.Arguments.{args-popped, too-few-nums, args-row, Below, below-popped, too-few-refs, denoted-many, refs-row}
-use Rattle.machine_state.proofs.Words.{scope-named-back, nil-denoted}
+use Rattle.machine_state.proofs.Words.{nil-denoted}
 
 -- all that is on top from a word on, and the words below it
 parted : (xs : List ℕ) (n k : ℕ) (w d : ℕ) → n + 1 + k ≡ length xs → get_or xs n d ≡ w → xs ≡ (take n xs ++ w ∷ []) ++ drop (n + 1) xs
@@ -45,35 +44,35 @@ parted xs n k w d is at =
 
 module _ (m : Machine) (names : List Reference) (c : Config) (h : HeldBy names m c) where
   -- the word below so many references
-  below-of : (n at w d : ℕ) → at + 1 + n ≡ length m.refs.items → m.frame.refs ≤ at → get_or m.refs.items at d ≡ w
-      → Below m.sw names m.frame.refs (take at m.refs.items) (drop (at + 1) m.refs.items) w c
+  below-of : (n at w d : ℕ) → at + 1 + n ≡ length m.refs.own → m.frame.refs ≤ at → get_or m.refs.own at d ≡ w
+      → Below m.sw names m.frame.refs (take at m.refs.own) (drop (at + 1) m.refs.own) w c
   below-of n at w d is low there =
-      let xs = m.refs.items in
+      let xs = m.refs.own in
       let long = length-take-le at xs (omega (arith, is)) in
       below-popped m.sw names m.frame.refs (take at xs) (drop (at + 1) xs) w c
       (subst (λ (ys : List ℕ). IsRefRow m.sw names ys m.frame.refs c.refs c.locals.refs) (parted xs at n w d is there) h.refs_are) (omega (arith, long, low))
 
-  pub has-below : (n at w d : ℕ) → at + 1 + n ≡ length m.refs.items → m.frame.refs ≤ at → get_or m.refs.items at d ≡ w → HasBelow n names m c (Some w)
+  pub has-below : (n at w d : ℕ) → at + 1 + n ≡ length m.refs.own → m.frame.refs ≤ at → get_or m.refs.own at d ≡ w → HasBelow n names m c (Some w)
   has-below n at w d is low there =
       let b = below-of n at w d is low there in
-      let many : length (drop (at + 1) m.refs.items) ≡ n = omega (arith, is, length-drop (at + 1) m.refs.items) in
+      let many : length (drop (at + 1) m.refs.own) ≡ n = omega (arith, is, length-drop (at + 1) m.refs.own) in
       (b.args, b.of, record c { refs = b.rest }, λ next. ap (λ (k : ℕ). pop_below k c next) (sym many) ∙ b.pops next, b.is)
 
-  pub has-none-below : (n : ℕ) → length m.refs.items ≤ m.frame.refs + n → HasBelow n names m c None
+  pub has-none-below : (n : ℕ) → length m.refs.own ≤ m.frame.refs + n → HasBelow n names m c None
   has-none-below n few next =
-      let size = ref_length m.sw names m.frame.refs m.refs.items c.refs c.locals.refs h.refs_are in
+      let size = ref_length m.sw names m.frame.refs m.refs.own c.refs c.locals.refs h.refs_are in
       too-few-refs n [] c next (omega (arith, few, size))
 
   -- What is popped for a call: the references, the procedure, and the numbers where there are enough.
-  module _ (refs nums at : ℕ) (refs_are : at + 1 + refs ≡ length m.refs.items) (refs_low : m.frame.refs ≤ at) (line : Line) (of : UnitView) (scope : Option ℕ) where
+  module _ (refs nums at : ℕ) (refs_are : at + 1 + refs ≡ length m.refs.own) (refs_low : m.frame.refs ≤ at) (line : Line) (of : UnitView) (scope : Option ℕ) where
     abbrev pub word_there : ℕ
-    word_there = get_or m.refs.items at 0
+    word_there = get_or m.refs.own at 0
 
-    pub under : Below m.sw names m.frame.refs (take at m.refs.items) (drop (at + 1) m.refs.items) word_there c
+    pub under : Below m.sw names m.frame.refs (take at m.refs.own) (drop (at + 1) m.refs.own) word_there c
     under = below-of refs at word_there 0 refs_are refs_low refl
 
-    pub many : length (drop (at + 1) m.refs.items) ≡ refs
-    many = omega (arith, refs_are, length-drop (at + 1) m.refs.items)
+    pub many : length (drop (at + 1) m.refs.own) ≡ refs
+    many = omega (arith, refs_are, length-drop (at + 1) m.refs.own)
 
     -- the step behind the references
     pub behind-refs : call_popped refs nums line of scope c
@@ -82,43 +81,43 @@ module _ (m : Machine) (names : List Reference) (c : Config) (h : HeldBy names m
         ap (λ (k : ℕ). call_popped k nums line of scope c) (sym many)
         ∙ under.pops (λ vs v d. pop_nums nums [] d (λ zs e. called (length e.callers) line of scope zs vs e))
 
-    pub stuck-call : length m.nums.items < m.frame.nums + nums → call_popped refs nums line of scope c ≡ Stuck
+    pub stuck-call : length m.nums.own < m.frame.nums + nums → call_popped refs nums line of scope c ≡ Stuck
     stuck-call few =
-        let size = row_length m.frame.nums m.nums.items c.nums c.locals.nums h.nums_are in
+        let size = row_length m.frame.nums m.nums.own c.nums c.locals.nums h.nums_are in
         behind-refs ∙ too-few-nums nums [] (record c { refs = under.rest }) _ (omega (arith, few, size))
 
-    module _ (low : ℕ) (nums_are : low + nums ≡ length m.nums.items) (nums_low : m.frame.nums ≤ low) where
-      pub taken : (rest : List ℤ) × ((next : List ℤ → Config → Step) → pop_nums (length (drop low m.nums.items)) [] (record c { refs = under.rest }) next ≡ next (drop low m.nums.items) (record c { refs = under.rest; nums = rest }))
-          × IsRow (take low m.nums.items) m.frame.nums rest c.locals.nums
+    module _ (low : ℕ) (nums_are : low + nums ≡ length m.nums.own) (nums_low : m.frame.nums ≤ low) where
+      pub taken : (rest : List ℤ) × ((next : List ℤ → Config → Step) → pop_nums (length (drop low m.nums.own)) [] (record c { refs = under.rest }) next ≡ next (drop low m.nums.own) (record c { refs = under.rest; nums = rest }))
+          × IsRow (take low m.nums.own) m.frame.nums rest c.locals.nums
       taken =
-          args-popped m.frame.nums (take low m.nums.items) (drop low m.nums.items) (record c { refs = under.rest })
-          (subst (λ (zs : List ℤ). IsRow zs m.frame.nums c.nums c.locals.nums) (sym (take-append-drop low m.nums.items)) h.nums_are)
-          (let long = length-take-le low m.nums.items (omega (arith, nums_are)) in omega (arith, long, nums_low))
+          args-popped m.frame.nums (take low m.nums.own) (drop low m.nums.own) (record c { refs = under.rest })
+          (subst (λ (zs : List ℤ). IsRow zs m.frame.nums c.nums c.locals.nums) (sym (take-append-drop low m.nums.own)) h.nums_are)
+          (let long = length-take-le low m.nums.own (omega (arith, nums_are)) in omega (arith, long, nums_low))
 
       -- the body that calls, but for what was popped
       abbrev pub left : Config
       left = record c { refs = under.rest; nums = taken.0 }
 
       abbrev pub args : List ℤ
-      args = drop low m.nums.items
+      args = drop low m.nums.own
 
       pub behind-all : call_popped refs nums line of scope c ≡ called (length c.callers) line of scope args under.args left
       behind-all =
           behind-refs
           ∙ ap (λ (k : ℕ). pop_nums k [] (record c { refs = under.rest }) (λ zs e. called (length e.callers) line of scope zs under.args e))
-          (let long = length-drop low m.nums.items in omega (arith, nums_are, long))
+          (let long = length-drop low m.nums.own in omega (arith, nums_are, long))
           ∙ taken.1 (λ zs e. called (length e.callers) line of scope zs under.args e)
 
-      pub deep : length c.callers ≡ length m.waiting.callers.items
-      deep = as-many m.sw names m.waiting.callers.items m.waiting.nums.items m.waiting.refs.items c.callers h.callers_are
+      pub deep : length c.callers ≡ length m.callers.items
+      deep = as-many m.sw names m.callers.items m.nums.below m.refs.below c.callers h.callers_are
 
-      pub too-deep : most_calls ≤ length m.waiting.callers.items → call_popped refs nums line of scope c ≡ Stops (Trapped TooDeep line)
+      pub too-deep : most_calls ≤ length m.callers.items → call_popped refs nums line of scope c ≡ Stops (Trapped TooDeep line)
       too-deep full =
           behind-all
           ∙ ap (λ (b : Bool). if b then in_turn (spent c.store) of scope args under.args left else Stops (Trapped TooDeep line))
           (le-ltb (length c.callers) most_calls (omega (arith, full, deep)))
 
-      module _ (few : length m.waiting.callers.items < most_calls) where
+      module _ (few : length m.callers.items < most_calls) where
         pub in-a-turn : call_popped refs nums line of scope c ≡ in_turn (spent c.store) of scope args under.args left
         in-a-turn =
             behind-all
@@ -141,13 +140,13 @@ module _ (m : Machine) (names : List Reference) (c : Config) (h : HeldBy names m
           goes-in = in-a-turn ∙ ap (λ (n : ℕ). in_turn (with_turns c.store n) of scope args under.args left) (h.turns_are ∙ one)
 
           -- and it is what the machine holds that was entered
-          module _ (body : Body) (heap : IsHeap m.sw) (is : IsBody m.sw names body of scope) (n_fit : nums ≤ body.frame.nums) (r_fit : refs ≤ body.frame.refs) (ns : Vec ℤ Global) (rs : Vec ℕ Global) (ws : Waiting)
-              (put_nums : ns.items ≡ drop low m.nums.items ++ replicate (low + body.frame.nums - length m.nums.items) (pos 0))
-              (put_refs : rs.items ≡ drop (at + 1) m.refs.items ++ replicate (at + 1 + body.frame.refs - length m.refs.items) 0)
-              (callers : ws.callers.items ≡ m.waiting.callers.items ++ caller_of m low at ∷ [])
-              (kept_nums : ws.nums.items ≡ m.waiting.nums.items ++ take low m.nums.items)
-              (kept_refs : ws.refs.items ≡ m.waiting.refs.items ++ take at m.refs.items) where
-            waits : IsWaiting m.sw names (caller_of m low at) (take low m.nums.items) (take at m.refs.items) (waiting left)
+          module _ (body : Body) (is : IsBody m.sw names body of scope) (n_fit : nums ≤ body.frame.nums) (r_fit : refs ≤ body.frame.refs) (ns : Frames ℤ) (rs : Frames ℕ) (ws : Vec in_code.Caller Global)
+              (put_nums : ns.own ≡ drop low m.nums.own ++ replicate (body.frame.nums - nums) (pos 0))
+              (put_refs : rs.own ≡ drop (at + 1) m.refs.own ++ replicate (body.frame.refs - refs) 0)
+              (callers : ws.items ≡ m.callers.items ++ caller_of m low (at + 1) ∷ [])
+              (kept_nums : ns.below ≡ m.nums.below ++ take low m.nums.own)
+              (kept_refs : rs.below ≡ m.refs.below ++ take (at + 1) m.refs.own) where
+            waits : IsWaiting m.sw names (caller_of m low (at + 1)) (take low m.nums.own) (take at m.refs.own) (waiting left)
             waits = record {
               unit_is = h.unit_is;
               fit = h.fit;
@@ -159,31 +158,32 @@ module _ (m : Machine) (names : List Reference) (c : Config) (h : HeldBy names m
               refs_are = under.row;
             }
 
-            abbrev pub last : Last ws.callers.items ws.nums.items ws.refs.items
+            abbrev pub last : Last ws.items ns.below rs.below
             last = record {
-              below = m.waiting.callers.items;
-              last = caller_of m low at;
-              low_nums = m.waiting.nums.items;
-              own_nums = take low m.nums.items;
-              low_refs = m.waiting.refs.items;
-              own_refs = take at m.refs.items;
+              below = m.callers.items;
+              last = caller_of m low (at + 1);
+              low_nums = m.nums.below;
+              own_nums = take low m.nums.own;
+              low_refs = m.refs.below;
+              own_refs = take at m.refs.own;
+              called = word_there;
               callers_are = callers;
               nums_are = kept_nums;
-              refs_are = kept_refs;
-              nums_count = length-take-le low m.nums.items (omega (arith, nums_are));
-              refs_count = length-take-le at m.refs.items (omega (arith, refs_are));
+              refs_are = kept_refs ∙ ap (λ (xs : List ℕ). m.refs.below ++ xs) (take_more m.refs.own at 0 (omega (arith, refs_are)));
+              nums_count = length-take-le low m.nums.own (omega (arith, nums_are));
+              refs_count = let long = length-take-le at m.refs.own (omega (arith, refs_are)) in omega (arith, long);
             }
 
-            num-row : IsRow ns.items body.frame.nums [] (λ slot. get_or args slot (pos 0))
+            num-row : IsRow ns.own body.frame.nums [] (λ slot. get_or args slot (pos 0))
             num-row =
                 subst (λ (xs : List ℤ). IsRow xs body.frame.nums [] (λ slot. get_or args slot (pos 0))) (sym put_nums)
-                (args-row args (low + body.frame.nums - length m.nums.items) body.frame.nums (let long = length-drop low m.nums.items in omega (arith, long, nums_are, n_fit)))
+                (args-row args (body.frame.nums - nums) body.frame.nums (let long = length-drop low m.nums.own in omega (arith, long, nums_are, n_fit)))
 
-            ref-row : IsRefRow m.sw names rs.items body.frame.refs [] (λ slot. get_or under.args slot Nil)
+            ref-row : IsRefRow m.sw names rs.own body.frame.refs [] (λ slot. get_or under.args slot Nil)
             ref-row =
                 subst (λ (xs : List ℕ). IsRefRow m.sw names xs body.frame.refs [] (λ slot. get_or under.args slot Nil)) (sym put_refs)
-                (refs-row m.sw names (nil-denoted m.sw names) (drop (at + 1) m.refs.items) under.args (at + 1 + body.frame.refs - length m.refs.items) body.frame.refs under.are
-                (let long = length-drop (at + 1) m.refs.items in omega (arith, long, refs_are, r_fit)))
+                (refs-row m.sw names (nil-denoted m.sw names) (drop (at + 1) m.refs.own) under.args (body.frame.refs - refs) body.frame.refs under.are
+                (let long = length-drop (at + 1) m.refs.own in omega (arith, long, refs_are, r_fit)))
 
             pub held-in : HeldBy names (record (entered m body ns rs ws) { turns = t }) begun
             held-in = record {
@@ -194,7 +194,7 @@ module _ (m : Machine) (names : List Reference) (c : Config) (h : HeldBy names m
               at_is = refl;
               nums_are = num-row;
               refs_are = ref-row;
-              scope_is = subst (λ (to : Option ℕ). DenotesScopeIn m.sw names to scope) (sym (scope-named-back m.sw names body.scope scope heap is.scope_is)) is.scope_is;
+              scope_is = is.scope_is;
               callers_are = (last, waits, h.callers_are);
               input_is = h.input_is;
               turns_are = refl;
@@ -202,5 +202,6 @@ module _ (m : Machine) (names : List Reference) (c : Config) (h : HeldBy names m
               entries_are = h.entries_are;
               layouts_are = h.layouts_are;
               known_are = h.known_are;
+              called_are = h.called_are;
               counted = h.counted;
             }

@@ -23,6 +23,7 @@ use Rattle.machine_state.specs.Holding.{HeldBy, HeldIn, IsSound}
 use Rattle.machine_state.specs.Stepped.{IsFull, KeepsSize}
 use Rattle.machine_state.proofs.RefRows.{row_more}
 use Rattle.machine_state.proofs.Callers.{all-waiting}
+use Rattle.machine_state.proofs.Called.{known-more}
 
 -- texts stay where they are
 pub texts-stay : (here now : area.Heap) (names more : List Reference) (weight : ℕ) → IsHeap now → Carries here now names more weight → TextsStay here now
@@ -40,14 +41,15 @@ held-more here now names more weight m c store heap k last h world counted turns
   frame_is = h.frame_is;
   at_is = h.at_is;
   nums_are = h.nums_are;
-  refs_are = row_more here names now more k.values m.refs.items m.frame.refs c.refs c.locals.refs h.refs_are;
+  refs_are = row_more here names now more k.values m.refs.own m.frame.refs c.refs c.locals.refs h.refs_are;
   scope_is = k.scopes _ _ h.scope_is;
-  callers_are = all-waiting here now names more weight k m.waiting.callers.items m.waiting.nums.items m.waiting.refs.items c.callers h.callers_are;
+  callers_are = all-waiting here now names more weight k m.callers.items m.nums.below m.refs.below c.callers h.callers_are;
   input_is = h.input_is ∙ sym input;
   turns_are = turns ∙ h.turns_are;
   world = world;
   entries_are = right-stays here now m.classes h.entries_are k.code;
   layouts_are = stay_so here now m.layouts.entries.items h.layouts_are (texts-stay here now names more weight heap k);
+  called_are = known-more here now names more weight k m.procedures.entries h.called_are;
   known_are = all-stay here now c.store.heap store.heap names more weight k last m.vectors.entries.items h.known_are;
   counted = counted;
 }

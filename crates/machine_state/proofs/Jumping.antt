@@ -15,7 +15,7 @@ use Rattle.machine_state.specs.Holding.{Holds, Standing}
 
 module _ (m : Machine) (c : Config) (h : Holds m c) where
   abbrev At : ℕ → ℕ → Config → Type 0
-  At at turns d = Standing m.sw m.classes m.layouts m.vectors.entries.items m.code m.place m.frame m.scope m.waiting m.input at m.nums.items m.refs.items turns d
+  At at turns d = Standing m.sw m.classes m.layouts m.vectors.entries.items m.procedures.entries m.code m.place m.frame m.scope m.callers.items m.input at m.nums m.refs turns d
 
   -- at another offset
   pub stands_at : (to : ℕ) → At to m.turns (record c { at = to })
@@ -37,6 +37,7 @@ module _ (m : Machine) (c : Config) (h : Holds m c) where
       entries_are = h.held.entries_are;
       layouts_are = h.held.layouts_are;
       known_are = h.held.known_are;
+      called_are = h.held.called_are;
       counted = h.held.counted;
     };
   }
@@ -70,6 +71,7 @@ module _ (m : Machine) (c : Config) (h : Holds m c) where
             entries_are = h.held.entries_are;
             layouts_are = h.held.layouts_are;
             known_are = h.held.known_are;
+            called_are = h.held.called_are;
             counted = h.held.counted;
           };
         },

@@ -5,6 +5,7 @@ pub mod Popping
 pub mod Jumping
 pub mod Between
 pub mod Callers
+pub mod Called
 pub mod Arguments
 pub mod Handing
 pub mod Carrying

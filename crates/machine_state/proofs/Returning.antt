@@ -1,6 +1,10 @@
 -- Coming back to a body that waits.
 use Rattle.std.proofs.Common.{◌≡◌, ℕ, ◌+◌, ◌*◌, ◌-◌, ◌<◌, ◌≤◌, ℤ, true, false, List, [], ◌∷◌, ◌++◌, length, take, drop, Some, refl, sym, ap, ◌∙◌, subst, arith, length-append}
-use Rattle.std.specs.Prelude.{All, sum_by, vec_len, vec_capacity}
+use Rattle.std.specs.Prelude.{All, sum_by, vec_len}
+use Rattle.std.specs.declared.alloc.Global.{Global}
+use Rattle.std.specs.declared.vec.Vec.{Vec}
+use Rattle.std.proofs.lemmas.List.{append-nil}
+use Rattle.frame_stack.specs.Frames.{Frames}
 use Rattle.std.proofs.Math.Seq.{drop-append_seam, take-append_seam}
 use Rattle.std.proofs.lemmas.List.Sums.{sum_by_push}
 use Rattle.obj_layout.specs.declared.reference.Reference.{Reference}
@@ -14,7 +18,6 @@ use Rattle.swizzle.specs.Heap as area
 use Rattle.paired_ops.specs.World.{DenotesIn}
 use Rattle.machine_state.specs.declared.caller.Caller as in_code
 use Rattle.machine_state.specs.declared.machine.Machine.{Machine}
-use Rattle.machine_state.specs.declared.waiting.Waiting.{Waiting}
 use Rattle.machine_state.specs.declared.stepped.Stepped.{Stepped}
 use Rattle.machine_state.specs.declared.stepped.Stepped.TheVariants.{Quiet}
 use Rattle.machine_state.specs.Holding.{Held, HeldBy, IsSound, object_in}
@@ -24,13 +27,18 @@ use Rattle.machine_state.specs.inside.Taking.{Taken, TakenRef, TakesRef}
 use Rattle.machine_state.specs.Waiting.{IsWaiting, AreWaiting, IsFramed, IsOrderly, HasRoom}
 use Rattle.machine_state.proofs.Callers.{as-many, ends-same, all-front, all-last}
 
--- the words of the last body, and those below them
-words-parted : {W : Type 0} (all low own : List W) (n : ℕ) → all ≡ low ++ own → length own ≡ n → (drop (length all - n) all ≡ own) × (take (length all - n) all ≡ low)
-words-parted {W} all low own n split count =
-    let long : length all ≡ length (low ++ own) = ap length split in
-    let here : length all - n ≡ length low = omega (arith, long, count, length-append low own) in (
-      ap (λ (k : ℕ). drop k all) here ∙ ap (λ (xs : List W). drop (length low) xs) split ∙ drop-append_seam low own,
-      ap (λ (k : ℕ). take k all) here ∙ ap (λ (xs : List W). take (length low) xs) split ∙ take-append_seam low own,
+-- the words of the last body but for some on top, and those below them
+words-parted : {W : Type 0} (all low own top : List W) (n dead : ℕ) → all ≡ low ++ (own ++ top) → length own + dead ≡ n → length top ≡ dead
+    → (take (n - dead) (drop (length all - n) all) ≡ own) × (take (length all - n) all ≡ low)
+words-parted {W} all low own top n dead split count above =
+    let long : length all ≡ length (low ++ (own ++ top)) = ap length split in
+    let here : length all - n ≡ length low = omega (arith, long, count, above, length-append low (own ++ top), length-append own top) in (
+      ap (λ (k : ℕ). take (n - dead) (drop k all)) here
+          ∙ ap (λ (xs : List W). take (n - dead) (drop (length low) xs)) split
+          ∙ ap (λ (xs : List W). take (n - dead) xs) (drop-append_seam low (own ++ top))
+          ∙ ap (λ (k : ℕ). take k (own ++ top)) (omega (arith, count))
+          ∙ take-append_seam own top,
+      ap (λ (k : ℕ). take k all) here ∙ ap (λ (xs : List W). take (length low) xs) split ∙ take-append_seam low (own ++ top),
     )
 
 -- a list without items
@@ -40,37 +48,37 @@ is-none (x ∷ xs) long = absurd (omega (arith, long))
 
 module _ (m : Machine) (names : List Reference) (c : Config) (h : HeldBy names m c) where
   -- no body waits
-  pub none-waits : m.waiting.callers.items ≡ [] → c.callers ≡ []
-  none-waits none = is-none c.callers (as-many m.sw names m.waiting.callers.items m.waiting.nums.items m.waiting.refs.items c.callers h.callers_are ∙ ap length none)
+  pub none-waits : m.callers.items ≡ [] → c.callers ≡ []
+  none-waits none = is-none c.callers (as-many m.sw names m.callers.items m.nums.below m.refs.below c.callers h.callers_are ∙ ap length none)
 
   -- the last body that waits goes on
-  module _ (w : in_code.Caller) (kept : Waiting) (nums : List ℤ) (refs : List ℕ) (split : m.waiting.callers.items ≡ kept.callers.items ++ w ∷ [])
-      (nums_are : nums ≡ drop (length m.waiting.nums.items - w.nums) m.waiting.nums.items) (kept_nums : kept.nums.items ≡ take (length m.waiting.nums.items - w.nums) m.waiting.nums.items)
-      (refs_are : refs ≡ drop (length m.waiting.refs.items - w.refs) m.waiting.refs.items) (kept_refs : kept.refs.items ≡ take (length m.waiting.refs.items - w.refs) m.waiting.refs.items) where
+  module _ (w : in_code.Caller) (kept : List in_code.Caller) (nums : Frames ℤ) (refs : Frames ℕ) (split : m.callers.items ≡ kept ++ w ∷ [])
+      (own_nums : nums.own ≡ take (w.nums - 0) (drop (length m.nums.below - w.nums) m.nums.below)) (low_nums : nums.below ≡ take (length m.nums.below - w.nums) m.nums.below)
+      (own_refs : refs.own ≡ take (w.refs - 1) (drop (length m.refs.below - w.refs) m.refs.below)) (low_refs : refs.below ≡ take (length m.refs.below - w.refs) m.refs.below) where
     abbrev Back : Caller → List Caller → Type 0
-    Back caller rest = Held names m.sw m.classes m.layouts m.vectors.entries.items w.code w.place w.frame w.scope kept m.input w.at nums refs m.turns (resumed caller caller.nums caller.refs rest c.store)
+    Back caller rest = Held names m.sw m.classes m.layouts m.vectors.entries.items m.procedures.entries w.code w.place w.frame w.scope kept m.input w.at nums refs m.turns (resumed caller caller.nums caller.refs rest c.store)
 
     pub goes-back : (caller : Caller) × (rest : List Caller) × (c.callers ≡ caller ∷ rest) × Back caller rest
     goes-back = of c.callers refl h.callers_are
       where
-        of : (cs : List Caller) → c.callers ≡ cs → AreWaiting m.sw names m.waiting.callers.items m.waiting.nums.items m.waiting.refs.items cs
+        of : (cs : List Caller) → c.callers ≡ cs → AreWaiting m.sw names m.callers.items m.nums.below m.refs.below cs
             → (caller : Caller) × (rest : List Caller) × (c.callers ≡ caller ∷ rest) × Back caller rest
-        of [] is all = absurd (let long = ap length (sym split ∙ all.0) in omega (arith, long, length-append kept.callers.items (w ∷ [])))
+        of [] is all = absurd (let long = ap length (sym split ∙ all.0) in omega (arith, long, length-append kept (w ∷ [])))
         of (caller ∷ rest) is all =
             let top = all.0 in
-            let same = ends-same kept.callers.items top.below w top.last (sym split ∙ top.callers_are) in
+            let same = ends-same kept top.below w top.last (sym split ∙ top.callers_are) in
             let many : length top.own_nums ≡ w.nums = top.nums_count ∙ ap (λ (x : in_code.Caller). x.nums) (sym same.1) in
-            let more : length top.own_refs ≡ w.refs = top.refs_count ∙ ap (λ (x : in_code.Caller). x.refs) (sym same.1) in
-            let of_nums = words-parted m.waiting.nums.items top.low_nums top.own_nums w.nums top.nums_are many in
-            let of_refs = words-parted m.waiting.refs.items top.low_refs top.own_refs w.refs top.refs_are more in
-            let own : IsWaiting m.sw names w nums refs caller =
-            subst (λ (x : in_code.Caller). IsWaiting m.sw names x nums refs caller) (sym same.1)
-            (subst (λ (xs : List ℤ). IsWaiting m.sw names top.last xs refs caller) (sym (nums_are ∙ of_nums.0))
-            (subst (λ (xs : List ℕ). IsWaiting m.sw names top.last top.own_nums xs caller) (sym (refs_are ∙ of_refs.0)) all.1)) in
-            let others : AreWaiting m.sw names kept.callers.items kept.nums.items kept.refs.items rest =
-            subst (λ (ws : List in_code.Caller). AreWaiting m.sw names ws kept.nums.items kept.refs.items rest) (sym same.0)
-            (subst (λ (xs : List ℤ). AreWaiting m.sw names top.below xs kept.refs.items rest) (sym (kept_nums ∙ of_nums.1))
-            (subst (λ (xs : List ℕ). AreWaiting m.sw names top.below top.low_nums xs rest) (sym (kept_refs ∙ of_refs.1)) all.2)) in (
+            let more : length top.own_refs + 1 ≡ w.refs = top.refs_count ∙ ap (λ (x : in_code.Caller). x.refs) (sym same.1) in
+            let of_nums = words-parted m.nums.below top.low_nums top.own_nums [] w.nums 0 (top.nums_are ∙ ap (λ (xs : List ℤ). top.low_nums ++ xs) (sym (append-nil top.own_nums))) (omega (arith, many)) refl in
+            let of_refs = words-parted m.refs.below top.low_refs top.own_refs (top.called ∷ []) w.refs 1 top.refs_are more refl in
+            let own : IsWaiting m.sw names w nums.own refs.own caller =
+            subst (λ (x : in_code.Caller). IsWaiting m.sw names x nums.own refs.own caller) (sym same.1)
+            (subst (λ (xs : List ℤ). IsWaiting m.sw names top.last xs refs.own caller) (sym (own_nums ∙ of_nums.0))
+            (subst (λ (xs : List ℕ). IsWaiting m.sw names top.last top.own_nums xs caller) (sym (own_refs ∙ of_refs.0)) all.1)) in
+            let others : AreWaiting m.sw names kept nums.below refs.below rest =
+            subst (λ (ws : List in_code.Caller). AreWaiting m.sw names ws nums.below refs.below rest) (sym same.0)
+            (subst (λ (xs : List ℤ). AreWaiting m.sw names top.below xs refs.below rest) (sym (low_nums ∙ of_nums.1))
+            (subst (λ (xs : List ℕ). AreWaiting m.sw names top.below top.low_nums xs rest) (sym (low_refs ∙ of_refs.1)) all.2)) in (
               caller,
               rest,
               is,
@@ -90,34 +98,35 @@ module _ (m : Machine) (names : List Reference) (c : Config) (h : HeldBy names m
                 entries_are = h.entries_are;
                 layouts_are = h.layouts_are;
                 known_are = h.known_are;
+                called_are = h.called_are;
                 counted = h.counted;
               },
             )
 
 -- the others are in order behind the last of some
-module _ (of : Waiting) (sound : IsOrderly of) (w : in_code.Caller) (ws : List in_code.Caller) (split : of.callers.items ≡ ws ++ w ∷ []) where
+module _ (callers : Vec in_code.Caller Global) (nums : Frames ℤ) (refs : Frames ℕ) (sound : IsOrderly callers nums refs) (w : in_code.Caller) (ws : List in_code.Caller)
+    (split : callers.items ≡ ws ++ w ∷ []) where
   all-framed : All IsFramed (ws ++ w ∷ [])
   all-framed = subst (λ (xs : List in_code.Caller). All IsFramed xs) split sound.framed
 
   pub last-framed : IsFramed w
   last-framed = all-last IsFramed ws w all-framed
 
-  pub nums-parted : vec_len of.nums ≡ sum_by (λ (c : in_code.Caller). c.nums) ws + w.nums
+  pub nums-parted : length nums.below ≡ sum_by (λ (c : in_code.Caller). c.nums) ws + w.nums
   nums-parted = sound.nums_are ∙ ap (λ (xs : List in_code.Caller). sum_by (λ (c : in_code.Caller). c.nums) xs) split ∙ sum_by_push (λ (c : in_code.Caller). c.nums) ws w
 
-  pub refs-parted : vec_len of.refs ≡ sum_by (λ (c : in_code.Caller). c.refs) ws + w.refs
+  pub refs-parted : length refs.below ≡ sum_by (λ (c : in_code.Caller). c.refs) ws + w.refs
   refs-parted = sound.refs_are ∙ ap (λ (xs : List in_code.Caller). sum_by (λ (c : in_code.Caller). c.refs) xs) split ∙ sum_by_push (λ (c : in_code.Caller). c.refs) ws w
 
-  module _ (kept : Waiting) (callers_are : kept.callers.items ≡ ws) (nums : vec_len kept.nums + w.nums ≡ vec_len of.nums) (refs : vec_len kept.refs + w.refs ≡ vec_len of.refs)
-      (less : vec_len kept.callers ≤ vec_len of.callers) (room : HasRoom kept) where
-    pub orderly-below : IsOrderly kept
-    orderly-below = record {
-      framed = subst (λ (xs : List in_code.Caller). All IsFramed xs) (sym callers_are) (all-front IsFramed ws w all-framed);
-      nums_are = let parted = nums-parted in subst (λ (xs : List in_code.Caller). vec_len kept.nums ≡ sum_by (λ (c : in_code.Caller). c.nums) xs) (sym callers_are) (omega (arith, parted, nums));
-      refs_are = let parted = refs-parted in subst (λ (xs : List in_code.Caller). vec_len kept.refs ≡ sum_by (λ (c : in_code.Caller). c.refs) xs) (sym callers_are) (omega (arith, parted, refs));
-      few = let few = sound.few in omega (arith, few, less);
-      room = room;
-    }
+  pub orderly-below : (kept : Vec in_code.Caller Global) (ns : Frames ℤ) (rs : Frames ℕ) → kept.items ≡ ws → length ns.below + w.nums ≡ length nums.below → length rs.below + w.refs ≡ length refs.below
+      → vec_len kept ≤ vec_len callers → HasRoom kept ns rs → IsOrderly kept ns rs
+  orderly-below kept ns rs callers_are many more less room = record {
+    framed = subst (λ (xs : List in_code.Caller). All IsFramed xs) (sym callers_are) (all-front IsFramed ws w all-framed);
+    nums_are = let parted = nums-parted in subst (λ (xs : List in_code.Caller). length ns.below ≡ sum_by (λ (c : in_code.Caller). c.nums) xs) (sym callers_are) (omega (arith, parted, many));
+    refs_are = let parted = refs-parted in subst (λ (xs : List in_code.Caller). length rs.below ≡ sum_by (λ (c : in_code.Caller). c.refs) xs) (sym callers_are) (omega (arith, parted, more));
+    few = let few = sound.few in omega (arith, few, less);
+    room = room;
+  }
 
 -- What comes of a return: the body goes on that waits last, or the run is at its end.
 pub nothing-back : (old new : Machine) → Resumes old new true → Takes (returned 0) old new Quiet

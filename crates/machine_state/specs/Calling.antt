@@ -1,30 +1,36 @@
 -- What is called, and what comes of a call and of coming back.
-use Rattle.std.specs.Prelude.{◌≡◌, ℕ, Bool, true, false, List, [], ◌∷◌, length, Option, Some, None}
+use Rattle.std.specs.Prelude.{◌≡◌, ℕ, Bool, true, false, List, [], ◌∷◌, length, slice_index_or, Option, Some, None}
 use Rattle.ps_base.specs.CodeUnit.{UnitView}
 use Rattle.ps_base.specs.declared.line.Line.{Line}
 use Rattle.obj_layout.specs.declared.reference.Reference.{Reference}
 use Rattle.swizzle.specs.Heap as area
-use Rattle.proc_values.specs.Loaded.{IsUnit, IsFitUnit, IsUnitPlace}
 use Rattle.ps_meaning.specs.Values.{Value}
-use Rattle.ps_stepping.specs.Config.{Caller, Config, frame_in}
+use Rattle.ps_stepping.specs.Config.{Caller, Config}
 use Rattle.ps_stepping.specs.Machine.{resumed}
 use Rattle.ps_stepping.specs.Steps.{Step, Stuck, pop_ref}
 use Rattle.ps_stepping.specs.Objects.{pop_nums, pop_refs}
 use Rattle.ps_stepping.specs.Procedures.{called}
 use Rattle.paired_ops.specs.World.{DenotesIn, DenotesScopeIn}
 use Rattle.machine_state.specs.declared.body.Body.{Body}
+use Rattle.machine_state.specs.declared.known.KnownProcedure.{KnownProcedure}
 use Rattle.machine_state.specs.declared.machine.Machine.{Machine}
 use Rattle.machine_state.specs.declared.stepped.Stepped.{Stepped}
 use Rattle.machine_state.specs.Holding.{HeldBy, IsSound, object_in}
+pub use Rattle.machine_state.specs.Known.{IsBody}
 use Rattle.machine_state.specs.Stepped.{Does, KeepsSize}
 
--- A body is that of this unit, in this scope.
-pub record IsBody (here : area.Heap) (names : List Reference) (body : Body) (of : UnitView) (scope : Option ℕ) : Type 0 where
-  pub unit_is : IsUnit here body.code of
-  pub fit : IsFitUnit of
-  pub place_is : IsUnitPlace body.code of body.place
-  pub frame_is : frame_in of ≡ body.frame
-  pub scope_is : DenotesScopeIn here names body.scope scope
+-- what stands in this place of what is known of procedures, and beyond them all an entry that says nothing
+abbrev pub no_entry : KnownProcedure
+no_entry = record {
+  procedure = 0;
+  body = record { code = 0; place = record { first = 0; count = 0 }; frame = record { nums = 0; refs = 0; num_params = 0; ref_params = 0 }; scope = 0 };
+}
+
+abbrev pub entry_at : Machine → ℕ → KnownProcedure
+entry_at m place = slice_index_or m.procedures.entries place no_entry
+
+abbrev pub body_at : Machine → ℕ → Body
+body_at m place = (entry_at m place).body
 
 -- so many references are popped, and then one below them
 abbrev pub pop_below : ℕ → Config → (List Value → Value → Config → Step) → Step

@@ -1,5 +1,6 @@
 pub mod Rows
 pub mod Waiting
+pub mod Known
 pub mod Holding
 pub mod Stepped
 pub mod Calling

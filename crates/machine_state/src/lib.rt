@@ -1,5 +1,6 @@
-//! The state of the machine that runs units of code in the area: its two stacks, its locals and its offset, and what instructions over numbers
-//! and references alone do with them.
+//! The state of the machine that runs units of code in the area: its two stacks, with the words of the body that runs and of the bodies that wait, its
+//! offset, and its input; what is known of the procedures that it called; and what instructions over numbers and references alone, calls and returns do
+//! with all that.
 #![tactic(auto)]
 
 mod body;
@@ -8,6 +9,7 @@ pub mod calls;
 pub mod ends;
 mod input;
 pub mod jumps;
+mod known;
 pub mod loops;
 mod machine;
 pub mod returns;
@@ -16,13 +18,12 @@ pub mod scopes;
 pub mod stacks;
 mod stepped;
 pub mod values;
-mod waiting;
 pub mod writes;
 
 pub use body::Body;
 pub use caller::Caller;
 pub use input::Input;
-pub use machine::{FRAME_WORDS, MOST_VALUES, Machine};
+pub use known::{KnownProcedure, KnownProcedures};
+pub use machine::{ALL_WORDS, FRAME_WORDS, MOST_CALLERS, MOST_VALUES, Machine};
 pub use run_end::RunEnd;
 pub use stepped::{Item, Stepped, Writing};
-pub use waiting::{MOST_CALLERS, Waiting};

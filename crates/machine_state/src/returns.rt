@@ -1,11 +1,10 @@
 //! Coming back to a body that waits.
-ghost use Rattle.std.specs.Prelude.{◌≡◌, ◌-◌, ◌≤◌, drop, length, take, vec_len, vec_capacity};
+ghost use Rattle.std.specs.Prelude.{◌≡◌};
 ghost use Rattle.ps_stepping.specs.Machine.{returned as returned_of};
 ghost use Rattle.machine_state.specs.Calling.{Resumes};
 ghost use Rattle.machine_state.specs.Holding.{IsSound};
 ghost use Rattle.machine_state.specs.Stepped.{Takes};
 
-use crate::calls::append;
 use crate::ends::halt;
 use crate::machine::Machine;
 use crate::run_end::RunEnd;
@@ -71,32 +70,16 @@ fn resume(m: &mut Machine) -> bool
     requires { IsSound m.old }
     ensures { Resumes m.old m.new result }
 {
-    if m.waiting.callers.is_empty() {
+    if m.callers.is_empty() {
         return false;
     }
-    let caller = m.waiting.callers.take_last();
+    let caller = m.callers.take_last();
     m.code = caller.code;
     m.place = caller.place;
     m.frame = caller.frame;
     m.scope = caller.scope;
     m.at = caller.at;
-    take_back(&mut m.nums, &mut m.waiting.nums, caller.nums);
-    take_back(&mut m.refs, &mut m.waiting.refs, caller.refs);
+    m.nums.close(caller.nums, 0);
+    m.refs.close(caller.refs, 1);
     true
-}
-
-// So many words on top of what is kept are a stack again.
-#[inline(always)]
-fn take_back<T: Copy + Drop>(stack: &mut Vec<T>, kept: &mut Vec<T>, count: usize)
-    requires count { count ≤ vec_len kept.old }
-    requires room { count ≤ vec_capacity stack.old }
-    ensures stack { stack.new.items ≡ drop (length kept.old.items - count) kept.old.items }
-    ensures kept { kept.new.items ≡ take (length kept.old.items - count) kept.old.items }
-    ensures room { vec_capacity stack.old ≤ vec_capacity stack.new }
-    ensures kept_room { vec_capacity kept.old ≤ vec_capacity kept.new }
-{
-    let first = kept.len() - count;
-    stack.clear();
-    append(stack, kept.split_at(first).1);
-    kept.truncate(first);
 }

@@ -1,4 +1,4 @@
-ghost use Rattle.std.specs.Prelude.{◌≡◌, ◌<◌, ◌+◌, ◌-◌, take, ◌≤◌, ◌∷◌, ◌++◌, [], length, slice_index_or, slice_set, vec_len, vec_capacity, MatchOption, OnSome, IfSome, true, false};
+ghost use Rattle.std.specs.Prelude.{◌≡◌, ◌<◌, ◌+◌, ◌≤◌, length, IfSome};
 ghost use Rattle.ps_stepping.specs.Config.{Config, frame_words};
 ghost use Rattle.ps_stepping.specs.Machine.{put_num as put_num_of, push_num as push_num_of, push_ref as push_ref_of, on, with_num, with_ref};
 ghost use Rattle.machine_state.specs.Holding.{Holds, IsSound, object_in, word_of};
@@ -17,10 +17,7 @@ pub fn pop_num(m: &mut Machine) -> Option<i32>
     if m.nums.len() <= m.frame.nums as usize {
         return None;
     }
-    match m.nums.pop() {
-        Some(z) => Some(z),
-        None => unreachable!(),
-    }
+    Some(m.nums.take_last())
 }
 
 /// Pops a reference, where one was pushed.
@@ -32,10 +29,7 @@ pub fn pop_ref(m: &mut Machine) -> Option<u32>
     if m.refs.len() <= m.frame.refs as usize {
         return None;
     }
-    match m.refs.pop() {
-        Some(word) => Some(word),
-        None => unreachable!(),
-    }
+    Some(m.refs.take_last())
 }
 
 /// The number on top, where one was pushed.
@@ -47,46 +41,33 @@ pub fn top_num(m: &Machine) -> Option<i32>
     if count <= m.frame.nums as usize {
         return None;
     }
-    Some(m.nums[count - 1])
+    Some(m.nums.word(count - 1))
 }
 
 /// The two numbers on top, the left operand first, where two were pushed.
 #[inline(always)]
 pub fn top_two(m: &Machine) -> Option<(i32, i32)>
     ensures tops { (c : Config) → Holds m.now c → HasTwo c result }
-    ensures room { IfSome result (λ p. m.now.frame.nums + 2 ≤ vec_len m.now.nums) }
+    ensures room { IfSome result (λ p. m.now.frame.nums + 2 ≤ length m.now.nums.own) }
 {
     let count = m.nums.len();
     if count < m.frame.nums as usize + 2 {
         return None;
     }
-    Some((m.nums[count - 2], m.nums[count - 1]))
+    Some((m.nums.word(count - 2), m.nums.word(count - 1)))
 }
 
 /// Puts a number in the place of the two on top.
 #[inline(always)]
 pub fn put_for_two(m: &mut Machine, z: i32) -> Stepped
     requires sound { IsSound m.old }
-    requires room { m.old.frame.nums + 2 ≤ vec_len m.old.nums }
+    requires room { m.old.frame.nums + 2 ≤ length m.old.nums.own }
     ensures { TakesTwo (put_num_of z) m.old m.new result }
 {
     let left = m.nums.len() - 1;
     m.nums.truncate(left);
-    set_last(&mut m.nums, z);
+    m.nums.set(left - 1, z);
     Stepped::Quiet
-}
-
-// Writes over the last word of a stack.
-#[inline(always)]
-#[tactic(auto, using(crate::proofs::Popping::set_last_is))]
-fn set_last(stack: &mut Vec<i32>, z: i32)
-    requires { 0 < vec_len stack.old }
-    ensures items { stack.new.items ≡ take (vec_len stack.old - 1) stack.old.items ++ z ∷ [] }
-    ensures len { vec_len stack.new ≡ vec_len stack.old }
-    ensures room { vec_capacity stack.new ≡ vec_capacity stack.old }
-{
-    let last = stack.len() - 1;
-    stack[last] = z;
 }
 
 /// The reference on top, where one was pushed.
@@ -98,14 +79,14 @@ pub fn top_ref(m: &Machine) -> Option<u32>
     if count <= m.frame.refs as usize {
         return None;
     }
-    Some(m.refs[count - 1])
+    Some(m.refs.word(count - 1))
 }
 
 /// Puts a number in the place of one that was popped.
 #[inline(always)]
 pub fn put_num(m: &mut Machine, z: i32) -> Stepped
     requires sound { IsSound m.old }
-    requires room { vec_len m.old.nums < frame_words }
+    requires room { length m.old.nums.own < frame_words }
     ensures { Takes (put_num_of z) m.old m.new result }
 {
     m.nums.push_reserved(z);
@@ -147,7 +128,7 @@ pub fn word(to: Option<u32>) -> u32
 #[inline(always)]
 pub fn put_ref(m: &mut Machine, to: Option<u32>) -> Stepped
     requires sound { IsSound m.old }
-    requires room { vec_len m.old.refs < frame_words }
+    requires room { length m.old.refs.own < frame_words }
     ensures { TakesRef push_ref_of m.old to m.new result }
 {
     m.sw.sound();
@@ -177,7 +158,7 @@ pub fn num_at(m: &Machine, slot: usize) -> Option<i32>
     if slot >= m.frame.nums as usize {
         return None;
     }
-    Some(m.nums[slot])
+    Some(m.nums.word(slot))
 }
 
 /// The local of this slot among the references, where the frame has it.
@@ -189,7 +170,7 @@ pub fn ref_at(m: &Machine, slot: usize) -> Option<u32>
     if slot >= m.frame.refs as usize {
         return None;
     }
-    Some(m.refs[slot])
+    Some(m.refs.word(slot))
 }
 
 /// Writes a local among the numbers.
@@ -199,7 +180,7 @@ pub fn set_num_at(m: &mut Machine, slot: usize, z: i32)
     requires slot { slot < m.old.frame.nums }
     ensures { Becomes (λ c. with_num c slot z) m.old m.new }
 {
-    m.nums[slot] = z;
+    m.nums.set(slot, z);
 }
 
 /// Writes a local among the references.
@@ -210,7 +191,7 @@ pub fn set_ref_at(m: &mut Machine, slot: usize, to: Option<u32>) -> Stepped
     ensures { TakesRef (λ v c. on (with_ref c slot v)) m.old to m.new result }
 {
     m.sw.sound();
-    m.refs[slot] = word(to);
+    m.refs.set(slot, word(to));
     Stepped::Quiet
 }
 

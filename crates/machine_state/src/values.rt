@@ -4,7 +4,7 @@ ghost use Rattle.ps_meaning.specs.Operators.{neg_of, arith_of, relation_of};
 ghost use Rattle.ps_meaning.specs.Values.{is_one as is_one_of, number_of};
 ghost use Rattle.ps_stepping.specs.Config.{frame_words};
 ghost use Rattle.ps_stepping.specs.Machine.{on, put_num as put_num_of, push_num as push_num_of, push_ref as push_ref_of, pop_num as pop_num_of, pop_ref as pop_ref_of, pop_two as pop_two_of, is_num_slot, is_ref_slot, with_num, with_ref, answered as answered_of, one_num as one_num_of, two_nums as two_nums_of, test as test_of, Stuck};
-ghost use Rattle.std.specs.Prelude.{vec_len, ◌<◌, ◌≤◌, ◌+◌};
+ghost use Rattle.std.specs.Prelude.{length, ◌<◌, ◌≤◌, ◌+◌};
 ghost use Rattle.machine_state.specs.Holding.{IsSound};
 ghost use Rattle.machine_state.specs.Stepped.{Takes};
 ghost use Rattle.machine_state.specs.inside.Taking.{TakesTwo, TakesRef};
@@ -119,7 +119,7 @@ pub fn not(m: &mut Machine) -> Stepped
 #[inline(always)]
 fn answered(m: &mut Machine, answer: Result<i32, Trap>, line: Line) -> Stepped
     requires sound { IsSound m.old }
-    requires room { vec_len m.old.nums < frame_words }
+    requires room { length m.old.nums.own < frame_words }
     ensures { Takes (answered_of line (answer_of answer)) m.old m.new result }
 {
     match answer {
@@ -132,7 +132,7 @@ fn answered(m: &mut Machine, answer: Result<i32, Trap>, line: Line) -> Stepped
 #[inline(always)]
 fn answered_for_two(m: &mut Machine, answer: Result<i32, Trap>, line: Line) -> Stepped
     requires sound { IsSound m.old }
-    requires room { m.old.frame.nums + 2 ≤ vec_len m.old.nums }
+    requires room { m.old.frame.nums + 2 ≤ length m.old.nums.own }
     ensures { TakesTwo (answered_of line (answer_of answer)) m.old m.new result }
 {
     match answer {

@@ -236,9 +236,13 @@ impl MemoryHost {
 }
 
 impl Host for MemoryHost {
+    ghost use Rattle.std.proofs.Common.{sym, ◌∙◌};
+
     ghost outside = { outside_of };
 
     ghost is_image = { is_image };
+
+    ghost one = { λ host a b is other. is ∙ sym other };
 
     fn size(&mut self) -> Result<u64, HostFailed>
         ensures size { IfOk result (λ size. (bytes : List ℕ) → (outside_of self.old).contents bytes → size ≡ length bytes) }
@@ -276,6 +280,7 @@ impl Host for MemoryHost {
     fn write_at(&mut self, at: u64, from: &[u8]) -> Result<(), HostFailed>
         requires { (bytes : List ℕ) → (outside_of self.old).contents bytes → at ≤ length bytes }
         ensures contents { OnOk result ((bytes : List ℕ) → (outside_of self.new).contents bytes → After (outside_of self.old).contents (Written at from.now) bytes) }
+        ensures written { OnOk result ((bytes : List ℕ) → (outside_of self.old).contents bytes → (outside_of self.new).contents (written at from.now bytes)) }
         ensures images { Leaves (outside_of self.old) (outside_of self.new) (After (IsImageAt self.old self.old.clock) (Torn at (length from.now))) }
         ensures call { IsDeviceCall (outside_of self.old) (outside_of self.new) result }
         ensures fails { is_err result ≡ call_fails self.old (length from.now) }

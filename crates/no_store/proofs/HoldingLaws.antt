@@ -1,24 +1,32 @@
--- A space of word 0 alone has no object.
-use Rattle.std.proofs.Common.{◌≡◌, ℕ, List, [], ◌∷◌, ◌++◌, length, sym, ap, subst, arith, length-append}
-use Rattle.ps_outside.specs.Outside.{Outside}
-use Rattle.obj_layout.specs.Objects.{Placed, Cuts, IsAmong}
-use Rattle.obj_layout.specs.Stored.{Space, HasObject}
-use Rattle.obj_layout.proofs.ObjectLaws.{object-long}
-use Rattle.no_store.specs.NoObjects.{no_objects, outside_of, HoldsNothing}
-
--- no words hold no object
-none_among : (at : ℕ) (objects : List Placed) (object : Placed) → Cuts at [] objects → IsAmong object objects → ⊥
-none_among at [] object cut among = among
-none_among at (first ∷ others) object cut among =
-    let long = object-long first.words cut.1 in
-    let none : length (first.words ++ cut.2.0) ≡ 0 = sym (ap length cut.2.1) in
-    omega (arith, length-append first.words cut.2.0)
-
-has_none : (space : Space) (pid : ℕ) (words : List ℕ) → space ≡ no_objects → HasObject space pid words → ⊥
-has_none space pid words is h =
-    let has : HasObject no_objects pid words = subst (λ (s : Space). HasObject s pid words) is h in
-    none_among 1 has.objects (record { pid = pid; words = words }) has.cut.1 has.among
+-- No object is there, and what is left of the store's images is left of the device's.
+use Rattle.std.proofs.Common.{ℕ, List}
+use Rattle.ps_outside.specs.Outside.{Outside, LeavesSame}
+use Rattle.obj_layout.specs.Stored.{Space}
+use Rattle.no_store.specs.NoObjects.{outside_of, HoldsNothing}
 
 -- whatever the host tells
 pub holds-nothing : (host : Outside (List ℕ)) → HoldsNothing (outside_of host)
-holds-nothing host = λ pid words h. has_none h.space pid words h.is h.has
+holds-nothing host = λ pid words h. h.is
+
+-- an image of the device as the store shows it
+abbrev shown : List ℕ → Space
+shown image = record { words = image; directory = 0 }
+
+module _ (a b : Outside (List ℕ)) where
+  -- the device's images were left, where the store's were
+  pub device-left : LeavesSame (outside_of a) (outside_of b) → LeavesSame a b
+  device-left is = record {
+    later = is.later;
+    kept = λ m image past at. is.kept m (shown image) past at;
+    no_other = λ m image past at. is.no_other m (shown image) past at;
+    each = λ m image from until at. is.each m (shown image) from until at;
+  }
+
+  -- and back
+  pub images-left : LeavesSame a b → LeavesSame (outside_of a) (outside_of b)
+  images-left is = record {
+    later = is.later;
+    kept = λ m space past at. is.kept m space.words past at;
+    no_other = λ m space past at. is.no_other m space.words past at;
+    each = λ m space from until at. is.each m space.words from until at;
+  }

@@ -5,6 +5,7 @@ use Rattle.ps_port.specs.Telling.{TellsAll}
 use Rattle.ps_outside.specs.Outside.{Outside, TellsFront, ToldAll, IsPutCall}
 use Rattle.obj_layout.specs.Storing.{Puts}
 use Rattle.no_store.specs.NoObjects.{outside_of}
+use Rattle.no_store.proofs.HoldingLaws.{images-left}
 
 module _ (a b : Outside (List ℕ)) (bytes : List ℕ) where
   -- all of it was told
@@ -13,7 +14,7 @@ module _ (a b : Outside (List ℕ)) (bytes : List ℕ) where
   puts-all done r front all calm call = record {
     told = front;
     all = all;
-    images = record { later = front.later; kept = λ m x past is. is; no_other = λ m x past is. is; each = λ m x from until is. is };
+    images = images-left a b call.images;
     contents = record { kept = λ x is. is; no_other = λ x is. is };
     counts = call.counts;
     calm = calm;

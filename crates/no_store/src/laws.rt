@@ -1,7 +1,7 @@
 //! What is told by a vault without objects is told by its host.
 
 ghost use Rattle.std.specs.Prelude.{ℕ, List, Ok, Result};
-ghost use Rattle.ps_outside.specs.Outside.{TellsFront};
+ghost use Rattle.ps_outside.specs.Outside.{TellsFront, LeavesSame};
 ghost use Rattle.ps_port.specs.Telling.{TellsAll};
 ghost use Rattle.obj_layout.specs.Storing.{Puts};
 ghost use Rattle.obj_layout.specs.declared.vault.VaultFault.{VaultFault};
@@ -18,4 +18,9 @@ pub fn what_is_put_is_told<H: Host>()
     ensures all { (a b : H) (bytes : List ℕ)
         → Puts {T = Unit {0}} (outside_of (H.outside a)) (outside_of (H.outside b)) bytes (Ok tt)
         → TellsAll (H.outside a) (H.outside b) bytes }
+{}
+
+/// Whatever leaves what a crash may leave of the vault leaves what it may leave of the host's device.
+pub fn what_is_left_of_the_device<H: Host>()
+    ensures { (a b : H) → LeavesSame (outside_of (H.outside a)) (outside_of (H.outside b)) → LeavesSame (H.outside a) (H.outside b) }
 {}

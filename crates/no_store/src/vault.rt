@@ -56,9 +56,8 @@ impl<H: Host> NoStore<H> {
 }
 
 impl<H: Host> Vault for NoStore<H> {
-    ghost use Rattle.std.proofs.Common.{arith, refl, sym, ◌∙◌, subst};
+    ghost use Rattle.std.proofs.Common.{arith};
     ghost use Rattle.no_store.specs.NoObjects.{outside_of};
-    ghost use Rattle.obj_layout.specs.Stored.{IsSpace};
 
     ghost outside = { λ vault. outside_of (H.outside vault.host) };
 
@@ -121,9 +120,9 @@ impl<H: Host> Vault for NoStore<H> {
         self.alive
     }
 
-    ghost space = { λ vault space is. subst (IsSpace 1 0) (sym is) (record { wide = (omega arith, tt); long = refl; some = omega arith; small = omega arith; named = refl; below = omega arith }) };
+    ghost space = { λ vault space is. absurd is };
 
-    ghost one = { λ vault a b is other. is ∙ sym other };
+    ghost one = { λ vault a b is other. absurd is };
 
     ghost bounds = { λ vault. (omega arith, omega arith, omega arith) };
 }

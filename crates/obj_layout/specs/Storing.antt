@@ -1,5 +1,5 @@
 -- What each call of a store says of the outside.
-use Rattle.std.specs.Prelude.{◌≡◌, ◌≢◌, ◌⊎◌, ℕ, ◌+◌, ◌/◌, ◌≤◌, List, Option, Some, None, Result, Err, OnOk}
+use Rattle.std.specs.Prelude.{◌≡◌, ◌≢◌, ◌⊎◌, ℕ, ◌+◌, ◌*◌, ◌/◌, ◌≤◌, List, Option, Some, None, Result, Err, OnOk}
 use Rattle.ps_outside.specs.Outside.{Outside, Leaves, LeavesSame, SameContents, TellsNothing, TellsFront, ToldAll, Rose}
 use Rattle.obj_layout.specs.declared.vault.VaultFault.{VaultFault}
 use Rattle.obj_layout.specs.declared.vault.VaultFault.TheVariants.{Device, Output, Full, Damaged}
@@ -35,11 +35,11 @@ pub record Becomes (old new : Outside Space) (step : Space → Space) : Type 0 w
   pub told : (space : Space) → old.contents space → new.contents (step space)
   pub no_other : (after : Space) → new.contents after → (before : Space) × old.contents before × (step before ≡ after)
 
--- All that was staged is kept whole, or none of it: at each moment, and after an answer all of it.
+-- All that was staged is kept whole, or none of it: at each moment, and after an answer all of it, where a content is told.
 pub record Settles {T : Type 0} (old new : Outside Space) (most : ℕ) (step : Space → Space) (result : Result T VaultFault) : Type 0 where
   pub told : TellsNothing old new
   pub images : Leaves old new (λ space. old.images old.clock space ⊎ ((before : Space) × old.contents before × (step before ≡ space)))
-  pub durable : OnOk result ((space : Space) → new.images new.clock space → new.contents space)
+  pub durable : OnOk result ((before space : Space) → old.contents before → new.images new.clock space → new.contents space)
   pub counts : old.device_faults ≤ new.device_faults
   pub output : new.output_faults ≡ old.output_faults
   pub cause : result ≡ Err Device → Rose old.device_faults new.device_faults
@@ -59,7 +59,8 @@ pub record Puts {T : Type 0} (old new : Outside Space) (bytes : List ℕ) (resul
   pub other : result ≢ Err Device
   pub calls : new.device_calls ≡ old.device_calls
 
--- how many device calls an object of so many words may take, read and written; and a settling with so many used words
+-- how many device calls an object of so many words may take, read and written; and a settling with so many used words, of which each page may
+-- be read and written anew
 abbrev pub reading : ℕ → ℕ
 reading words = words / 512 + 4
 
@@ -67,4 +68,4 @@ abbrev pub writing : ℕ → ℕ
 writing words = words / 256 + 6
 
 abbrev pub settling : ℕ → ℕ
-settling used = (used + 524287) / 524288 + 6
+settling used = 2 * ((used + 511) / 512) + 5

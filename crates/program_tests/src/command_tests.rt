@@ -1,5 +1,6 @@
 //! The command over a host and a shelf in memory.
 
+use crate::volumes::volume_host;
 use memory_host::MemoryHost;
 use ps_command::psalgol;
 use ps_port::MemoryShelf;
@@ -10,7 +11,8 @@ use std::test::Fail;
 /// The words of a run without options, before the name of its text.
 pub const RUN: &[&str] = &["run", "v.vol"];
 
-fn words_of(alloc: Global, words: &[&str], file: &str) -> Result<Vec<String>, AllocError> {
+/// These words, and behind them the last.
+pub fn words_of(alloc: Global, words: &[&str], file: &str) -> Result<Vec<String>, AllocError> {
     let mut all = Vec::new(alloc);
     for word in words {
         all.push(String::from_str(alloc, word)?)?;
@@ -19,8 +21,8 @@ fn words_of(alloc: Global, words: &[&str], file: &str) -> Result<Vec<String>, Al
     Ok(all)
 }
 
-// The status that the words get over a shelf with this text under this name, and the host, whose calls
-// fail as listed.
+// The status that the words get over a volume and a shelf with this text under this name, and the host, whose calls
+// fail as listed. Those of attaching are the first six.
 fn answer_over(
     alloc: Global,
     words: &[String],
@@ -30,7 +32,7 @@ fn answer_over(
 ) -> Result<(u8, MemoryHost), AllocError> {
     let mut shelf = MemoryShelf::new(alloc);
     shelf.add(name, text)?;
-    let host = MemoryHost::new(alloc, b"", failing, 1_000_000, 16_000_000)?;
+    let host = volume_host(alloc, failing)?;
     Ok(psalgol(alloc, words, host, &mut shelf))
 }
 
@@ -74,7 +76,7 @@ pub fn assert_reads(
     let mut shelf = MemoryShelf::new(alloc);
     shelf.add("x.ps", text.as_bytes())?;
     shelf.add("in", input)?;
-    let host = MemoryHost::new(alloc, b"", &[], 1_000_000, 16_000_000)?;
+    let host = volume_host(alloc, &[])?;
     let (status, host) = psalgol(alloc, &words, host, &mut shelf);
     assert_eq!(rt; host.told_bytes(), told.as_bytes(), "{text}");
     assert_eq!(rt; status, wanted, "{text}");
@@ -197,8 +199,15 @@ fn braces_are_nested_to_the_limit(rt: HostRuntime) -> Result<(), Fail> {
     Ok(())
 }
 
-const NO_COMMANDS: [(&[&str], &str); 19] = [
+const NO_COMMANDS: [(&[&str], &str); 26] = [
     (&["run"], "v.vol"),
+    (&["format"], "v.vol"),
+    (&["format", "v.vol"], "31"),
+    (&["format", "v.vol"], "131073"),
+    (&["format", "v.vol"], "0000064"),
+    (&["format", "v.vol"], "6a"),
+    (&["format", "v.vol", "64"], "64"),
+    (&["format", "-v"], "64"),
     (&["walk", "v.vol"], "x.ps"),
     (&["run", "-v"], "x.ps"),
     (&["run", "v.vol"], "-x"),
@@ -250,9 +259,9 @@ const FAULTS: [Fault<'static>; 7] = [
         13,
     ),
     ("z.ps", b"\n", 1_048_576, &[], b"", 0),
-    ("z.ps", SUM, 1, &[0], b"3", 8),
-    ("z.ps", SUM, 1, &[1], b"3\n", 0),
-    ("z.ps", b"write 1234, \"'n\"", 1, &[0], b"12", 8),
+    ("z.ps", SUM, 1, &[6], b"3", 8),
+    ("z.ps", SUM, 1, &[7], b"3\n", 0),
+    ("z.ps", b"write 1234, \"'n\"", 1, &[6], b"12", 8),
     ("x.ps", b"", 1, &[1], b"cannot read z.", 8),
 ];
 

@@ -31,3 +31,5 @@ mod programs_traps;
 mod programs_values;
 #[cfg(test)]
 mod programs_whole;
+#[cfg(test)]
+mod volumes;

@@ -1,6 +1,7 @@
 //! Rows of the language reference where one refusal of memory may come anywhere: `rt try --test
 //! --fail-alloc N` refuses the Nth. Each answers its own or status 5, and nothing else.
 
+use crate::volumes::volume_host;
 use memory_host::MemoryHost;
 use ps_command::psalgol;
 use ps_port::MemoryShelf;
@@ -14,7 +15,7 @@ fn answer(alloc: Global, text: &str) -> Result<(u8, MemoryHost), AllocError> {
     let mut shelf = MemoryShelf::new(alloc);
     shelf.add("x.ps", text.as_bytes())?;
     shelf.add("in", b"one\ntwo")?;
-    let host = MemoryHost::new(alloc, b"", &[], 1_000, 16_000)?;
+    let host = volume_host(alloc, &[])?;
     Ok(psalgol(alloc, &words, host, &mut shelf))
 }
 

@@ -17,14 +17,19 @@ use Rattle.ps_check.specs.declared.fault.CheckFault.TheVariants.{Unknown, Twice,
 use Rattle.ps_check.specs.Faults as checking
 use Rattle.ps_command.specs.declared.source_fault.SourceFault.{SourceFault}
 use Rattle.ps_command.specs.declared.source_fault.SourceFault.TheVariants as source
-use Rattle.ps_command.specs.Words.{RunOf}
-use Rattle.ps_command.specs.Reports.{usage_line, memory_line, fault_line}
-use Rattle.ps_command.specs.Source.{IsProgram, IsSourceFault, in_scan, in_parse, in_check}
-use Rattle.ps_command.specs.Source as told
-use Rattle.ps_command.specs.Answering.{Answers}
-use Rattle.ps_command.specs.Command.{Gives, GivesTooLong, GivesInput, GivesProgram, Due, Why}
+use Rattle.ps_port.specs.Telling.{LeavesDevice}
+use Rattle.ps_words.specs.Words.{RunOf, CommandOf, a_run, a_volume}
+use Rattle.ps_reports.specs.Reports.{usage_line, memory_line, fault_line}
+use Rattle.ps_reports.specs.Answering.{Answers}
+use Rattle.ps_volumes.specs.Attaching.{Keeps}
+use Rattle.ps_volumes.specs.Making.{Makes}
+use Rattle.ps_volumes.proofs.Settled.{device_kept}
+use Rattle.ps_causes.specs.Source.{IsProgram, IsSourceFault, in_scan, in_parse, in_check}
+use Rattle.ps_causes.specs.Source as told
+use Rattle.ps_causes.specs.Command.{Gives, GivesTooLong, GivesInput, GivesProgram, Due, Why, LeavesAsAsked}
 use Rattle.ps_command.specs.inside.Refusal.{Refuses, stage_of, number_of, line_of_fault}
-use Rattle.ps_command.specs.inside.Steps.{RefusalWhy, ProgramWhy, UnreadWhy}
+use Rattle.ps_causes.specs.Steps.{RefusalWhy, ProgramWhy, UnreadWhy}
+use Rattle.ps_causes.specs.Steps as steps
 
 -- a number says that the refusal is no want of memory
 none_is_some : {A : Type 0} (x : A) → None ≡ Some x → ⊥
@@ -81,12 +86,31 @@ module _ (old new : Outside (List ℕ)) where
   fault_told file text fault number line answered n l h a =
       inl (record { stage = stage_of fault; number = number; line = line; fault = fault_found text fault number line n l h; answers = a })
 
-  module _ (holds : List ℕ → List ℕ → Type 0) (lacks : List ℕ → Type 0) (failed : Type 0) where
-    pub why_usage : (asked : Option RunOf) (answered : ℕ) → asked ≡ None → Whole usage_line 1 answered → Why old new asked holds lacks failed answered
-    why_usage asked answered none a = record { bytes = _; status = 1; due = Due.no_command none; answers = a }
+  -- the device is left, also where no command was read
+  left_none : (asked : Option CommandOf) → asked ≡ None → LeavesDevice old new → LeavesAsAsked asked old new
+  left_none asked none left = subst (λ (a : Option CommandOf). LeavesAsAsked a old new) (sym none) (device_kept old new left)
 
-    pub why_no_memory : (run : RunOf) (answered : ℕ) → Whole memory_line 5 answered → Why old new (Some run) holds lacks failed answered
-    why_no_memory run answered a = record { bytes = _; status = 5; due = Due.no_memory; answers = a }
+  module _ (holds : List ℕ → List ℕ → Type 0) (lacks : List ℕ → Type 0) (failed : Type 0) where
+    pub why_usage : (asked : Option CommandOf) (answered : ℕ) → asked ≡ None → Whole usage_line 1 answered → LeavesDevice old new → Why old new asked holds lacks failed answered
+    why_usage asked answered none a left = record { bytes = _; status = 1; due = Due.no_command none left; answers = a; device = left_none asked none left }
+
+    -- a volume was to be made
+    pub why_making : (asked : Option CommandOf) (pages answered : ℕ) → asked ≡ Some (a_volume pages) → Makes pages old new answered → Why old new asked holds lacks failed answered
+    why_making asked pages answered is makes = record {
+      bytes = makes.bytes;
+      status = makes.status;
+      due = Due.making is makes.due;
+      answers = makes.answers;
+      device = subst (λ (a : Option CommandOf). LeavesAsAsked a old new) (sym is) makes.any_moment;
+    }
+
+    -- a run was read in other words
+    pub why_of_run : (asked : Option CommandOf) (run : RunOf) (answered : ℕ) → asked ≡ Some (a_run run) → Why old new (Some (a_run run)) holds lacks failed answered →
+        Why old new asked holds lacks failed answered
+    why_of_run asked run answered is why = subst (λ (a : Option CommandOf). Why old new a holds lacks failed answered) (sym is) why
+
+    pub why_no_memory : (run : RunOf) (answered : ℕ) → Whole memory_line 5 answered → Keeps old new → Why old new (Some (a_run run)) holds lacks failed answered
+    why_no_memory run answered a keeps = record { bytes = _; status = 5; due = Due.no_memory; answers = a; device = keeps }
 
     too_long_is_other : (size : ℕ) → TooLong size ≡ Failed → ⊥
     too_long_is_other size e = cc
@@ -97,29 +121,34 @@ module _ (old new : Outside (List ℕ)) where
     gives_too_long name size lacking long = record { there = λ l. too_long_is_other size (lacking l); given = long.1; long = long.0 }
 
     -- the text wasn't given
-    pub why_unread : (run : RunOf) (fault : ShelfFault) (answered : ℕ) → (fault ≡ Failed → failed) → (lacks run.file → fault ≡ Failed) → TooLongFor LONGEST_TEXT (holds run.file) fault → UnreadWhy old new run.file fault answered → Why old new (Some run) holds lacks failed answered
-    why_unread run Failed answered rose lacking long a = record { bytes = _; status = 7; due = Due.unreadable refl (rose refl); answers = a }
-    why_unread run (TooLong size) answered rose lacking long a =
-        record { bytes = _; status = 13; due = Due.too_long refl (gives_too_long run.file size lacking long); answers = a }
-    why_unread run Memory answered rose lacking long a = why_no_memory run answered a
+    pub why_unread : (run : RunOf) (fault : ShelfFault) (answered : ℕ) → (fault ≡ Failed → failed) → (lacks run.file → fault ≡ Failed) → TooLongFor LONGEST_TEXT (holds run.file) fault → UnreadWhy old new run.file fault answered → LeavesDevice old new → Why old new (Some (a_run run)) holds lacks failed answered
+    why_unread run Failed answered rose lacking long a left =
+        record { bytes = _; status = 7; due = Due.unreadable refl (rose refl) left; answers = a; device = device_kept old new left }
+    why_unread run (TooLong size) answered rose lacking long a left =
+        record { bytes = _; status = 13; due = Due.too_long refl (gives_too_long run.file size lacking long) left; answers = a; device = device_kept old new left }
+    why_unread run Memory answered rose lacking long a left = why_no_memory run answered a (device_kept old new left)
 
     -- the text is refused
-    pub why_refused : (run : RunOf) (text : List ℕ) (answered : ℕ) → Gives (holds run.file) (lacks run.file) text → RefusalWhy old new run.file text answered → Why old new (Some run) holds lacks failed answered
-    why_refused run text answered gives (inl a) = record { bytes = _; status = 2; due = Due.refused refl gives a.fault; answers = a.answers }
-    why_refused run text answered gives (inr a) = why_no_memory run answered a
+    pub why_refused : (run : RunOf) (text : List ℕ) (answered : ℕ) → Gives (holds run.file) (lacks run.file) text → RefusalWhy old new run.file text answered → LeavesDevice old new → Why old new (Some (a_run run)) holds lacks failed answered
+    why_refused run text answered gives (inl a) left =
+        record { bytes = _; status = 2; due = Due.refused refl gives a.fault left; answers = a.answers; device = device_kept old new left }
+    why_refused run text answered gives (inr a) left = why_no_memory run answered a (device_kept old new left)
 
     -- the input wasn't given
-    pub why_no_input : (run : RunOf) (program : BodyNode) (name : List ℕ) (fault : ShelfFault) (answered : ℕ) → GivesProgram holds lacks run program → run.input ≡ Some name → (fault ≡ Failed → failed) → (lacks name → fault ≡ Failed) → TooLongFor LONGEST_TEXT (holds name) fault → UnreadWhy old new name fault answered → Why old new (Some run) holds lacks failed answered
-    why_no_input run program name Failed answered gives is rose lacking long a =
-        record { bytes = _; status = 7; due = Due.no_input refl gives is (rose refl); answers = a }
-    why_no_input run program name (TooLong size) answered gives is rose lacking long a =
-        record { bytes = _; status = 13; due = Due.long_input refl gives is (gives_too_long name size lacking long); answers = a }
-    why_no_input run program name Memory answered gives is rose lacking long a = why_no_memory run answered a
+    pub why_no_input : (run : RunOf) (program : BodyNode) (name : List ℕ) (fault : ShelfFault) (answered : ℕ) → GivesProgram holds lacks run program → run.input ≡ Some name → (fault ≡ Failed → failed) → (lacks name → fault ≡ Failed) → TooLongFor LONGEST_TEXT (holds name) fault → UnreadWhy old new name fault answered → LeavesDevice old new → Why old new (Some (a_run run)) holds lacks failed answered
+    why_no_input run program name Failed answered gives is rose lacking long a left =
+        record { bytes = _; status = 7; due = Due.no_input refl gives is (rose refl) left; answers = a; device = device_kept old new left }
+    why_no_input run program name (TooLong size) answered gives is rose lacking long a left =
+        record { bytes = _; status = 13; due = Due.long_input refl gives is (gives_too_long name size lacking long) left; answers = a; device = device_kept old new left }
+    why_no_input run program name Memory answered gives is rose lacking long a left = why_no_memory run answered a (device_kept old new left)
 
-    -- the program was run
-    pub why_ran : (run : RunOf) (input : List ℕ) (program : BodyNode) (answered : ℕ) → GivesProgram holds lacks run program → GivesInput holds lacks run.input input → ProgramWhy old new run input program answered → Why old new (Some run) holds lacks failed answered
-    why_ran run input program answered gives given (inl a) = record { bytes = a.bytes; status = a.status; due = Due.ran refl gives given a.comes; answers = a.answers }
-    why_ran run input program answered gives given (inr a) = why_no_memory run answered a
+    -- the program was run, or there was no volume
+    pub why_ran : (run : RunOf) (input : List ℕ) (program : BodyNode) (answered : ℕ) → GivesProgram holds lacks run program → GivesInput holds lacks run.input input → ProgramWhy old new run input program answered → Keeps old new → Why old new (Some (a_run run)) holds lacks failed answered
+    why_ran run input program answered gives given (steps.ran a settled) keeps =
+        record { bytes = a.bytes; status = a.status; due = Due.ran refl gives given a.comes settled; answers = a.answers; device = keeps }
+    why_ran run input program answered gives given (steps.no_memory a) keeps = why_no_memory run answered a keeps
+    why_ran run input program answered gives given (steps.no_volume none) keeps =
+        record { bytes = _; status = _; due = Due.unattached input refl gives given none.why; answers = none.answers; device = keeps }
 
 -- the input of a run, by its name
 module _ (holds : List ℕ → List ℕ → Type 0) (lacks : List ℕ → Type 0) where
@@ -144,26 +173,31 @@ module _ (holds holds' : List ℕ → List ℕ → Type 0) (lacks lacks' : List 
   input_on None bytes g = g
   input_on (Some name) bytes g = gives_on name bytes g
 
-  due_on : (asked : Option RunOf) (failed failed' : Type 0) (bytes : List ℕ) (status : ℕ) → (failed → failed') → Due asked holds lacks failed bytes status → Due asked holds' lacks' failed' bytes status
-  due_on asked failed failed' bytes status so (Due.no_command is) = Due.no_command is
-  due_on asked failed failed' bytes status so (Due.unreadable is rose) = Due.unreadable is (so rose)
-  due_on asked failed failed' bytes status so (Due.too_long {run = run} {size = size} is g) = Due.too_long is (too_long_on run.file size g)
-  due_on asked failed failed' bytes status so (Due.refused {run = run} {text = text} is g fault) = Due.refused is (gives_on run.file text g) fault
-  due_on asked failed failed' bytes status so (Due.no_input {run = run} {program = program} is g named rose) = Due.no_input is (program_on run program g) named (so rose)
-  due_on asked failed failed' bytes status so (Due.long_input {run = run} {program = program} {name = name} {size = size} is g named long) =
-      Due.long_input is (program_on run program g) named (too_long_on name size long)
-  due_on asked failed failed' bytes status so Due.no_memory = Due.no_memory
-  due_on asked failed failed' bytes status so (Due.ran {run = run} {program = program} {input = input} is g given comes) =
-      Due.ran is (program_on run program g) (input_on run.input input given) comes
+  module _ (old new : Outside (List ℕ)) (asked : Option CommandOf) (failed failed' : Type 0) (so : failed → failed') where
+    due_on : (bytes : List ℕ) (status : ℕ) → Due asked holds lacks failed old new bytes status → Due asked holds' lacks' failed' old new bytes status
+    due_on bytes status (Due.no_command is left) = Due.no_command is left
+    due_on bytes status (Due.unreadable is rose left) = Due.unreadable is (so rose) left
+    due_on bytes status (Due.too_long {run = run} {size = size} is g left) = Due.too_long is (too_long_on run.file size g) left
+    due_on bytes status (Due.refused {run = run} {text = text} is g fault left) = Due.refused is (gives_on run.file text g) fault left
+    due_on bytes status (Due.no_input {run = run} {program = program} is g named rose left) = Due.no_input is (program_on run program g) named (so rose) left
+    due_on bytes status (Due.long_input {run = run} {program = program} {name = name} {size = size} is g named long left) =
+        Due.long_input is (program_on run program g) named (too_long_on name size long) left
+    due_on bytes status Due.no_memory = Due.no_memory
+    due_on bytes status (Due.unattached {run = run} {program = program} input is g given why) =
+        Due.unattached input is (program_on run program g) (input_on run.input input given) why
+    due_on bytes status (Due.ran {run = run} {program = program} {input = input} is g given comes settled) =
+        Due.ran is (program_on run program g) (input_on run.input input given) comes settled
+    due_on bytes status (Due.making is due) = Due.making is due
 
-  -- so an answer over the second shelf is one over the first
-  pub why_on : (old new : Outside (List ℕ)) (asked : Option RunOf) (failed failed' : Type 0) (answered : ℕ) → (failed → failed') → Why old new asked holds lacks failed answered → Why old new asked holds' lacks' failed' answered
-  why_on old new asked failed failed' answered so why = record {
-    bytes = why.bytes;
-    status = why.status;
-    due = due_on asked failed failed' why.bytes why.status so why.due;
-    answers = why.answers;
-  }
+    -- so an answer over the second shelf is one over the first
+    pub why_on : (answered : ℕ) → Why old new asked holds lacks failed answered → Why old new asked holds' lacks' failed' answered
+    why_on answered why = record {
+      bytes = why.bytes;
+      status = why.status;
+      due = due_on why.bytes why.status why.due;
+      answers = why.answers;
+      device = why.device;
+    }
 
 -- what rose behind a call that counted rose from its beginning
 pub rose_from : (before middle after : ℕ) → before ≤ middle → Rose middle after → Rose before after

@@ -7,9 +7,10 @@ use Rattle.ps_base.specs.CodeUnit.{UnitView, unit_view}
 use Rattle.ps_base.specs.declared.code_unit.CodeUnit.{CodeUnit}
 use Rattle.ps_port.specs.Telling.{TellsAll, FailsBehind}
 use Rattle.ps_port.proofs.Telling.{all_then, fails_then, fails_more}
-use Rattle.ps_outside.specs.Outside.{Outside}
+use Rattle.ps_outside.specs.Outside.{Outside, LeavesSame, TellsNothing}
 use Rattle.obj_layout.specs.Stored.{Space}
 use Rattle.no_store.specs.NoObjects.{outside_of}
+use Rattle.no_store.proofs.HoldingLaws.{device-left}
 use Rattle.proc_values.specs.Units.{unit_words}
 use Rattle.ps_program.specs.Node.{BodyNode, body}
 use Rattle.ps_program.specs.Slots.{slot_count}
@@ -40,12 +41,14 @@ use Rattle.stack_machine.specs.Loaded.{IsFrame, IsLoaded, HasNoRoom}
 use Rattle.stack_machine.specs.Ran as vault
 use Rattle.stack_machine.specs.Ran.{Ran, ended, damaged, full, cut, report_cut}
 use Rattle.stack_machine.proofs.Counting.{next_counted}
-use Rattle.ps_command.specs.Answering.{Answers, whole}
-use Rattle.ps_command.specs.Answering as answers
-use Rattle.ps_command.specs.Reports.{area_full_line}
-use Rattle.ps_command.specs.Words.{RunOf}
-use Rattle.ps_command.specs.Command.{area_size, FillsArea, its_end, area_full}
-use Rattle.ps_command.specs.inside.Steps.{AnswersRun, IsRunnable, IsReady, begin}
+use Rattle.ps_words.specs.Words.{RunOf}
+use Rattle.ps_reports.specs.Answering.{Answers, whole}
+use Rattle.ps_reports.specs.Answering as answers
+use Rattle.ps_reports.specs.Reports.{area_full_line}
+use Rattle.ps_reports.proofs.Behind.{behind_nothing}
+use Rattle.ps_causes.specs.Command.{area_size, FillsArea, its_end, area_full}
+use Rattle.ps_causes.specs.Steps.{AnswersRun}
+use Rattle.ps_command.specs.inside.Steps.{IsRunnable, IsReady, begin}
 use Rattle.ps_command.proofs.Programs.{first_fits}
 
 outputs-append : (xs ys : List Event) → outputs (xs ++ ys) ≡ outputs xs ++ outputs ys
@@ -159,6 +162,14 @@ module _ (old new : Outside (List ℕ)) where
     ended_by : (events : List Event) (last : Config) (e : End) → Reaches (begin run input program) events last → Steps last (Stops e) → total ≡ events ++ Finish e last.store.counted ∷ []
     ended_by events last e way s = stops_at_the_end total (begin run input program) last events e r.runs way s
 
+    -- whatever it came to, the device was left
+    pub left_by_run : (answer : Result RunEnd RunFault) → RanTo answer → LeavesSame old new
+    left_by_run answer (ended way s tells) = device-left old new tells.first.images
+    left_by_run answer (damaged way s tells) = device-left old new tells.images
+    left_by_run answer (full way s short passed tells) = device-left old new tells.first.images
+    left_by_run answer (cut way fails) = device-left old new fails.first.images
+    left_by_run answer (report_cut e way s fails) = device-left old new fails.first.images
+
     -- the run isn't damaged
     pub never_damaged : RanTo (Err Damaged) → ⊥
     never_damaged (damaged {events = events} {last = last} way s tells) = is_never_stuck total (begin run input program) last events r.runs way s
@@ -222,3 +233,13 @@ full_told old mid new run input program before top wanted size answered fills is
     behind : (n : ℕ) → Answers mid new (area_full_line top wanted (area_size run)) 11 n → Answers old new (outputs before ++ area_full_line top wanted (area_size run)) 11 n
     behind n (answers.whole all) = answers.whole (all_then old mid new (outputs before) (area_full_line top wanted (area_size run)) first all)
     behind n (answers.cut fails) = answers.cut (fails_then old mid new (outputs before) (area_full_line top wanted (area_size run)) first fails)
+
+-- What a run comes to behind calls that told nothing.
+pub run_behind : (old mid new : Outside (List ℕ)) (run : RunOf) (input : List ℕ) (program : BodyNode) (answered : ℕ) → TellsNothing old mid → mid.output_faults ≡ old.output_faults
+    → AnswersRun mid new run input program answered → AnswersRun old new run input program answered
+run_behind old mid new run input program answered nothing calm is = record {
+  bytes = is.bytes;
+  status = is.status;
+  comes = is.comes;
+  answers = behind_nothing old mid nothing calm new is.bytes is.status answered is.answers;
+}

@@ -1,5 +1,3 @@
 pub mod Causes
-pub mod Converse
 pub mod Ending
 pub mod Programs
-pub mod WordLemmas

@@ -19,7 +19,7 @@ use Rattle.ps_leaf_laws.proofs.LeavesRead.{leaves_fit}
 use Rattle.ps_fit_laws.proofs.Bodies.{program_bodies_valued}
 use Rattle.ps_built_laws.proofs.OfProgram.{program_runs}
 use Rattle.ps_gen.specs.Units.{unit_of, HasUnit}
-use Rattle.ps_command.specs.Source.{IsProgram}
+use Rattle.ps_causes.specs.Source.{IsProgram}
 use Rattle.ps_command.specs.inside.Steps.{IsRunnable}
 
 -- of a program that is typed no body is too complex

@@ -6,7 +6,7 @@ ghost use Rattle.ps_program.specs.Node.{BodyNode};
 ghost use Rattle.ps_program.specs.NodeView.{body_of};
 ghost use Rattle.ps_typing.specs.Program.{bodies};
 ghost use Rattle.ps_gen.specs.Units.{unit_of, HasUnit};
-ghost use Rattle.ps_command.specs.Source.{IsProgram};
+ghost use Rattle.ps_causes.specs.Source.{IsProgram};
 ghost use Rattle.ps_command.specs.inside.Refusal.{IsChecked, Refuses, RefusesTree};
 
 use crate::source_fault::SourceFault;

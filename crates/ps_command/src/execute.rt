@@ -1,26 +1,33 @@
 ghost use Rattle.std.specs.Prelude.{◌≡◌, ◌≤◌, ◌+◌, ◌*◌, [], List, ℕ, length, IfOk};
 ghost use Rattle.ps_base.specs.CodeUnit.{unit_view};
 ghost use Rattle.ps_program.specs.Node.{BodyNode};
+ghost use Rattle.ps_outside.specs.Outside.{LeavesSame};
 ghost use Rattle.ps_meaning.specs.Event.{status_of};
 ghost use Rattle.machine_state.specs.Stepped.{end_of};
-ghost use Rattle.stack_machine.specs.Loaded.{IsRoomy, Loads};
-ghost use Rattle.ps_command.specs.Words.{RunOf};
-ghost use Rattle.ps_command.specs.inside.Steps.{ProgramWhy, IsRunnable, IsReady, IsArea, run_in};
+ghost use Rattle.stack_machine.specs.Loaded.{IsNew, IsRoomy, Loads};
+ghost use Rattle.ps_words.specs.Words.{RunOf};
+ghost use Rattle.ps_words.specs.Reading.{run_in, IsArea};
+ghost use Rattle.ps_volumes.specs.Attaching.{Keeps};
+ghost use Rattle.ps_causes.specs.Command.{area_size};
+ghost use Rattle.ps_causes.specs.Steps.{AnswersRun, ProgramWhy};
+ghost use Rattle.ps_command.specs.inside.Steps.{IsRunnable, IsReady};
 
-use crate::report;
-use crate::words::RunWords;
 use no_store::NoStore;
 use ps_base::code_unit::CodeUnit;
 use ps_code_laws::program_runs_as_meant;
 use ps_port::Host;
+use ps_reports::{OUTPUT_FAULT, report};
 use ps_unit_weights::units_weigh_as_counted;
+use ps_volumes::{Unattached, attached};
+use ps_words::RunWords;
 use stack_machine::load::{LoadFault, load, machine};
 use stack_machine::run::{RunFault, run};
 use stack_machine::{Machine, RunEnd};
 use std::alloc::{AllocError, Global};
 use vault_output::Output;
 
-/// Runs the unit of a program over an input, and answers the status beside the host. All memory is taken here, before the first event.
+/// Runs the unit of a program over an input and the volume of the host, and answers the status beside the host. All memory is taken here, before the
+/// volume is attached and before the first event.
 pub fn run_program<H: Host>(
     alloc: Global,
     words: &RunWords,
@@ -30,22 +37,47 @@ pub fn run_program<H: Host>(
 ) -> (u8, H)
     requires program { (program : BodyNode) × IsRunnable unit program }
     requires area { IsArea (run_in words.now) }
-    ensures { (program : BodyNode) → IsRunnable unit program → ProgramWhy (H.outside host) (H.outside result.1) (run_in words.now) input.items program result.0 }
+    ensures why { (program : BodyNode) → IsRunnable unit program → ProgramWhy (H.outside host) (H.outside result.1) (run_in words.now) input.items program result.0 }
+    ensures device { Keeps (H.outside host) (H.outside result.1) }
+{
+    let Ok(output) = Output::new(alloc) else {
+        let mut host = host;
+        let status = report::no_memory(&mut host);
+        return (status, host);
+    };
+    let Ok(m) = machine(alloc, 128 * words.area_kib) else {
+        let mut host = host;
+        let status = report::no_memory(&mut host);
+        return (status, host);
+    };
+    match attached(alloc, host) {
+        Ok(host) => run_attached(m, output, words, unit, input, host),
+        Err(Unattached { status, host }) => (status, host),
+    }
+}
+
+// Runs the unit where the volume is attached. No program changes it yet.
+fn run_attached<H: Host>(
+    m: Machine,
+    output: Output,
+    words: &RunWords,
+    unit: CodeUnit,
+    input: Vec<u8>,
+    host: H,
+) -> (u8, H)
+    requires program { (program : BodyNode) × IsRunnable unit program }
+    requires fresh { IsNew (area_size (run_in words.now)) m }
+    requires owed { output ≡ [] }
+    ensures ran { (program : BodyNode) → IsRunnable unit program → AnswersRun (H.outside host) (H.outside result.1) (run_in words.now) input.items program result.0 }
+    ensures left { LeavesSame (H.outside host) (H.outside result.1) }
 {
     program_runs_as_meant();
     units_weigh_as_counted();
-    let mut host = host;
-    let Ok(output) = Output::new(alloc) else {
-        let status = report::no_memory(&mut host);
-        return (status, host);
-    };
-    let Ok(mut m) = machine(alloc, 128 * words.area_kib) else {
-        let status = report::no_memory(&mut host);
-        return (status, host);
-    };
+    let mut m = m;
     match loaded(&mut m, unit, words.turns, input) {
         Ok(()) => run_loaded(m, output, host),
         Err(LoadFault::Full { top, wanted, size }) => {
+            let mut host = host;
             let status = report::area_full(&mut host, top, wanted, size);
             (status, host)
         }
@@ -65,7 +97,8 @@ fn loaded(m: &mut Machine, unit: CodeUnit, turns: u64, input: Vec<u8>) -> Result
 fn run_loaded<H: Host>(m: Machine, output: Output, host: H) -> (u8, H)
     requires ready { (run : RunOf) × (input : List ℕ) × (program : BodyNode) × IsReady run input program m }
     requires owed { output ≡ [] }
-    ensures { (run : RunOf) (input : List ℕ) (program : BodyNode) → IsReady run input program m → ProgramWhy (H.outside host) (H.outside result.1) run input program result.0 }
+    ensures ran { (run : RunOf) (input : List ℕ) (program : BodyNode) → IsReady run input program m → AnswersRun (H.outside host) (H.outside result.1) run input program result.0 }
+    ensures left { LeavesSame (H.outside host) (H.outside result.1) }
 {
     let mut m = m;
     let mut output = output;
@@ -77,7 +110,7 @@ fn run_loaded<H: Host>(m: Machine, output: Output, host: H) -> (u8, H)
             let status = report::area_full(&mut host, top, wanted, size);
             (status, host)
         }
-        Err(RunFault::Output) => (report::OUTPUT_FAULT, vault.into_host()),
+        Err(RunFault::Output) => (OUTPUT_FAULT, vault.into_host()),
         Err(RunFault::Damaged) => unreachable!(),
     }
 }

@@ -142,6 +142,8 @@ where
 
     ghost is_image = { λ host bytes is. is };
 
+    ghost one = { λ host a b is other. absurd is };
+
     fn size(&mut self) -> Result<u64, HostFailed> {
         self.begin();
         let length = match &self.file {

@@ -1,6 +1,6 @@
 ghost use Rattle.std.specs.Prelude.{◌≡◌, ℕ, ◌+◌, ◌≤◌, List, length, take, drop, OnOk, OnErr, IfOk};
 ghost use Rattle.ps_outside.specs.Outside.{Outside, After, Leaves, LeavesSame, SameContents, IsDeviceCall, TellsFront, ToldAll, IsPutCall};
-ghost use Rattle.ps_port.specs.Disk.{Written, Torn};
+ghost use Rattle.ps_port.specs.Disk.{Written, written, Torn};
 
 /// A call of a host failed. Why is counted by the host: a failed `put` raises its `output_faults`, and a call of the device that failed its
 /// `device_faults`.
@@ -35,6 +35,7 @@ pub trait Host {
     fn write_at(&mut self, at: u64, from: &[u8]) -> Result<(), HostFailed>
         requires { (bytes : List ℕ) → (outside self.old).contents bytes → at ≤ length bytes }
         ensures contents { OnOk result ((bytes : List ℕ) → (outside self.new).contents bytes → After (outside self.old).contents (Written at from.now) bytes) }
+        ensures written { OnOk result ((bytes : List ℕ) → (outside self.old).contents bytes → (outside self.new).contents (written at from.now bytes)) }
         ensures images { Leaves (outside self.old) (outside self.new) (After ((outside self.old).images (outside self.old).clock) (Torn at (length from.now))) }
         ensures call { IsDeviceCall (outside self.old) (outside self.new) result };
 
@@ -54,4 +55,7 @@ pub trait Host {
 
     /// A law: the contents are one of the images that a crash may leave at the present moment.
     ghost is_image: { (host : Self) (bytes : List ℕ) → (outside host).contents bytes → (outside host).images (outside host).clock bytes };
+
+    /// A law: a read gives one content alone.
+    ghost one: { (host : Self) (a b : List ℕ) → (outside host).contents a → (outside host).contents b → a ≡ b };
 }

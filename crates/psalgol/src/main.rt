@@ -29,9 +29,13 @@ fn status(rt: &HostRuntime) -> u8 {
     }
 }
 
+// The file of the volume is made only where one is to be made there.
 fn run_words(rt: &HostRuntime, words: &[String]) -> Result<u8, AllocError> {
     let volume = words.get(1).map_or("", |word| word.as_str());
-    let host = FileHost::new(rt, rt.alloc(), volume, false)?;
+    let create = words
+        .first()
+        .map_or(false, |word| word.as_str() == "format");
+    let host = FileHost::new(rt, rt.alloc(), volume, create)?;
     let mut shelf = DirShelf::new(rt, rt.alloc())?;
     let (status, _) = psalgol(rt.alloc(), words, host, &mut shelf);
     Ok(status)

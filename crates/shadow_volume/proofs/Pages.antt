@@ -262,3 +262,17 @@ module _ (a b : Outside (List ℕ)) (lives : Bool) (committed : Committed) (stag
             ∙ ap (λ (x : List ℕ). Some (staged_in committed (set staged page true) x)) (sym after.by)
             ∙ now.by;
       }
+
+  pub put_stays : (from : List ℕ) → length from ≡ 4096 → ((image : List ℕ) → a.contents image → a.images a.clock image) →
+      ((image : List ℕ) → a.contents image → b.contents (written (half_at committed.pages (not committed.second) + 4096 * page) from image)) →
+      (found : Option Held) → (seen committed staged a).contents found →
+      (seen committed (set staged page true) b).contents (option_map (with_page page from) found)
+  put_stays from size law wrote found was =
+      let says = alive.says was.from (law was.from was.was) in
+      let bytes = put_bytes committed staged was.from from page alive.fit says.head.long below alive.flags size in
+      record {
+        from = written (half_at committed.pages (not committed.second) + 4096 * page) from was.from;
+        was = wrote was.from was.was;
+        by = ap (λ (xs : List ℕ). Some (record { note = committed.note; bytes = xs })) bytes
+            ∙ ap (λ (o : Option Held). option_map (with_page page from) o) was.by;
+      }

@@ -7,7 +7,7 @@ use Rattle.ps_outside.proofs.Moments.{along_as}
 use Rattle.shadow_volume.specs.Layout.{half_pages, pages_of_words, capacity_of}
 use Rattle.shadow_volume.specs.Found.{Held}
 use Rattle.shadow_volume.specs.Standing.{IsFit, Says, IsAlive, held_in, staged_in, seen, saved, next_note, with_zeros}
-use Rattle.shadow_volume.specs.Switching.{IsKept, IsSwitched, IsEither, Was, switched}
+use Rattle.shadow_volume.specs.Switching.{IsKept, IsSwitched, IsEither, Was, StaysHeld, switched}
 use Rattle.shadow_volume.specs.declared.note.Note.{Note}
 use Rattle.shadow_volume.specs.declared.note.Committed.{Committed}
 use Rattle.shadow_volume.proofs.Staying.{held_says}
@@ -49,6 +49,22 @@ module _ (a b : Outside (List ℕ)) (committed : Committed) (staged : List Bool)
           by = ap (λ (o : Option Held). option_map (with_zeros committed.pages) o) (held_is now.from is)
               ∙ blank_held (switched used directory committed) now.from fit is.says
               ∙ now.by;
+        }
+
+    pub seen_stays : ((image : List ℕ) → b.contents image → b.images b.clock image) → ((x y : List ℕ) → a.contents x → a.contents y → x ≡ y) → StaysHeld a b →
+        (found : Option Held) → Was (seen committed staged a) (λ held. with_zeros committed.pages (saved used directory held)) found →
+        (seen (switched used directory committed) (replicate (half_pages committed.pages) false) b).contents found
+    seen_stays law one stays found was =
+        let now = stays was.was.from was.was.was in
+        let here = Some (staged_in (switched used directory committed) (replicate (half_pages committed.pages) false) now.0) in
+        let back = seen_holds law here (record { from = now.0; was = now.1; by = refl }) in
+        let same = one back.was.from was.was.from back.was.was was.was.was in
+        record {
+          from = now.0;
+          was = now.1;
+          by = sym back.by
+              ∙ ap (λ (o : Option Held). option_map (λ (held : Held). with_zeros committed.pages (saved used directory held)) o) (sym back.was.by ∙ ap (λ (x : List ℕ). Some (staged_in committed staged x)) same ∙ was.was.by)
+              ∙ was.by;
         }
 
     pub switched_alive : IsAlive true (switched used directory committed) (replicate (half_pages committed.pages) false) b

@@ -15,17 +15,23 @@ pub record Works {X T E : Type 0} (old new : Outside X) (result : Result T E) : 
   pub output : new.output_faults ≡ old.output_faults
   pub cause : OnErr result (Rose old.device_faults new.device_faults)
 
+-- where a content was held, one is held
+abbrev pub StaysHeld : {X : Type 0} → Outside X → Outside X → Type 0
+StaysHeld {X = X} old new = (x : X) → old.contents x → (y : X) × new.contents y
+
 -- this was held, after a step
 abbrev pub Was : Outside (Option Held) → (Held → Held) → Option Held → Type 0
 Was old step found = After old.contents (λ (before after : Option Held). option_map step before ≡ after) found
 
 -- All that is staged is kept whole, or none of it: at each moment a crash leaves what it could leave before, or what is saved now; and after an
--- answer only that, which is then held with zeros to the last page.
+-- answer only that, which is then held with zeros to the last page. Each page is read and written at most once, and five calls more are made.
 pub record Switches {T E : Type 0} (old new : Outside (Option Held)) (pages used directory : ℕ) (result : Result T E) : Type 0 where
   pub works : Works old new result
   pub images : Leaves old new (λ found. old.images old.clock found ⊎ Was old (saved used directory) found)
   pub kept : OnOk result ((found : Option Held) → new.images new.clock found → Was old (saved used directory) found)
   pub holds : OnOk result ((found : Option Held) → new.contents found → Was old (λ held. with_zeros pages (saved used directory held)) found)
+  pub stays : OnOk result ((found : Option Held) → Was old (λ held. with_zeros pages (saved used directory held)) found → new.contents found)
+  pub calls : new.device_calls ≤ old.device_calls + (2 * pages_of_words used + 5)
 
 -- what is committed behind it
 abbrev pub switched : ℕ → ℕ → Committed → Committed

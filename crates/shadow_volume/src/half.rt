@@ -2,7 +2,7 @@
 
 ghost use Rattle.std.specs.Prelude.{◌≡◌, ℕ, ◌+◌, ◌*◌, ◌<◌, ◌≤◌, List, length, take, drop, OnOk, OnErr};
 ghost use Rattle.ps_outside.specs.Outside.{After, Leaves, TellsNothing, IsDeviceCall, Rose};
-ghost use Rattle.ps_port.specs.Disk.{Torn, Written};
+ghost use Rattle.ps_port.specs.Disk.{Torn, Written, written};
 ghost use Rattle.shadow_volume.specs.Layout.{half_at, half_pages};
 ghost use Rattle.shadow_volume.specs.Standing.{IsFit};
 ghost use Rattle.shadow_volume.specs.Attaching.{Looks};
@@ -69,6 +69,7 @@ pub fn write_half<H: Host>(
     requires size { length from.now ≡ 4096 }
     requires long { (bytes : List ℕ) → (H.outside host.old).contents bytes → 4096 * pages ≤ length bytes }
     ensures wrote { OnOk result ((bytes : List ℕ) → (H.outside host.new).contents bytes → After (H.outside host.old).contents (Written (half_at pages second + 4096 * page) from.now) bytes) }
+    ensures written { OnOk result ((bytes : List ℕ) → (H.outside host.old).contents bytes → (H.outside host.new).contents (written (half_at pages second + 4096 * page) from.now bytes)) }
     ensures images { Leaves (H.outside host.old) (H.outside host.new) (After ((H.outside host.old).images (H.outside host.old).clock) (Torn (half_at pages second + 4096 * page) 4096)) }
     ensures call { IsDeviceCall (H.outside host.old) (H.outside host.new) result }
 {

@@ -45,6 +45,7 @@ pub fn format<H: Host>(host: &mut H, pages: u32) -> Result<(), FormatFault>
     ensures none { OnOk result ((bytes : List ℕ) → (H.outside host.old).contents bytes → IsNone bytes) }
     ensures told { TellsNothing (H.outside host.old) (H.outside host.new) }
     ensures counts { (H.outside host.old).device_faults ≤ (H.outside host.new).device_faults }
+    ensures output { (H.outside host.new).output_faults ≡ (H.outside host.old).output_faults }
     ensures cause { IfErr result (IsCause (H.outside host.old) (H.outside host.new)) }
 {
     if let Some(gate) = open_gate(host)? {
@@ -62,6 +63,7 @@ fn open_gate<H: Host>(host: &mut H) -> Result<Option<u8>, FormatFault>
     ensures contents { SameContents (H.outside host.old) (H.outside host.new) }
     ensures told { TellsNothing (H.outside host.old) (H.outside host.new) }
     ensures counts { (H.outside host.old).device_faults ≤ (H.outside host.new).device_faults }
+    ensures output { (H.outside host.new).output_faults ≡ (H.outside host.old).output_faults }
     ensures gate { IfOk result (λ found. (bytes : List ℕ) → (H.outside host.old).contents bytes → IsGateOf bytes found) }
     ensures cause { IfErr result (λ fault. (fault ≡ Device) × Rose (H.outside host.old).device_faults (H.outside host.new).device_faults) }
 {
@@ -84,6 +86,7 @@ fn shut<H: Host>(host: &mut H) -> Result<(), HostFailed>
     ensures shut { OnOk result ((image : List ℕ) → (H.outside host.new).images (H.outside host.new).clock image → IsShut image) }
     ensures told { TellsNothing (H.outside host.old) (H.outside host.new) }
     ensures counts { (H.outside host.old).device_faults ≤ (H.outside host.new).device_faults }
+    ensures output { (H.outside host.new).output_faults ≡ (H.outside host.old).output_faults }
     ensures cause { IfErr result (λ _. Rose (H.outside host.old).device_faults (H.outside host.new).device_faults) }
 {
     host.write_at(0, &[0])?;
@@ -129,6 +132,7 @@ fn fill<H: Host>(host: &mut H, pages: u32) -> Result<(), HostFailed>
     ensures begun { OnOk result ((image : List ℕ) → (H.outside host.new).images (H.outside host.new).clock image → IsBegun pages image) }
     ensures told { TellsNothing (H.outside host.old) (H.outside host.new) }
     ensures counts { (H.outside host.old).device_faults ≤ (H.outside host.new).device_faults }
+    ensures output { (H.outside host.new).output_faults ≡ (H.outside host.old).output_faults }
     ensures cause { IfErr result (λ _. Rose (H.outside host.old).device_faults (H.outside host.new).device_faults) }
 {
     let blank = blank();
@@ -158,6 +162,7 @@ fn part<H: Host>(
     ensures put { OnOk result ((bytes : List ℕ) → (H.outside host.new).contents bytes → After (H.outside host.old).contents (IsPut at from.now to) bytes) }
     ensures told { TellsNothing (H.outside host.old) (H.outside host.new) }
     ensures counts { (H.outside host.old).device_faults ≤ (H.outside host.new).device_faults }
+    ensures output { (H.outside host.new).output_faults ≡ (H.outside host.old).output_faults }
     ensures cause { IfErr result (λ _. Rose (H.outside host.old).device_faults (H.outside host.new).device_faults) }
 {
     host.write_at(at, from)?;
@@ -177,6 +182,7 @@ fn zeros<H: Host>(host: &mut H, from: u64, to: u64, blank: &[u8]) -> Result<(), 
     ensures zeroed { OnOk result ((bytes : List ℕ) → (H.outside host.new).contents bytes → After (H.outside host.old).contents (IsZeroed from to) bytes) }
     ensures told { TellsNothing (H.outside host.old) (H.outside host.new) }
     ensures counts { (H.outside host.old).device_faults ≤ (H.outside host.new).device_faults }
+    ensures output { (H.outside host.new).output_faults ≡ (H.outside host.old).output_faults }
     ensures cause { IfErr result (λ _. Rose (H.outside host.old).device_faults (H.outside host.new).device_faults) }
 {
     let mut at = from;
@@ -213,6 +219,7 @@ fn open<H: Host>(host: &mut H, pages: u32) -> Result<(), HostFailed>
     ensures durable { OnOk result ((image : List ℕ) → (H.outside host.new).images (H.outside host.new).clock image → (H.outside host.new).contents image) }
     ensures told { TellsNothing (H.outside host.old) (H.outside host.new) }
     ensures counts { (H.outside host.old).device_faults ≤ (H.outside host.new).device_faults }
+    ensures output { (H.outside host.new).output_faults ≡ (H.outside host.old).output_faults }
     ensures cause { IfErr result (λ _. Rose (H.outside host.old).device_faults (H.outside host.new).device_faults) }
 {
     host.write_at(0, &[1])?;

@@ -6,7 +6,7 @@ ghost use Rattle.ps_port.specs.Disk.{Torn, Written};
 ghost use Rattle.shadow_volume.specs.Layout.{half_at, half_pages, root_at, root_bytes, pages_of_words};
 ghost use Rattle.shadow_volume.specs.Standing.{IsAlive, IsFit, Says};
 ghost use Rattle.shadow_volume.specs.Staging.{HasPages};
-ghost use Rattle.shadow_volume.specs.Switching.{Works, IsKept, IsCopied, IsPageCopied, IsPlaced, IsReady, IsRooted, IsSwitched, IsEither};
+ghost use Rattle.shadow_volume.specs.Switching.{Works, StaysHeld, IsKept, IsCopied, IsPageCopied, IsPlaced, IsReady, IsRooted, IsSwitched, IsEither};
 
 use crate::half::{read_half, write_half};
 use crate::layout::{PAGE_BYTES, logical_pages, root_at};
@@ -41,6 +41,8 @@ fn write_synced<H: Host>(host: &mut H, at: u64, from: &[u8]) -> Result<(), HostF
     ensures images { Leaves (H.outside host.old) (H.outside host.new) (After ((H.outside host.old).images (H.outside host.old).clock) (Torn at (length from.now))) }
     ensures durable { OnOk result ((image : List ℕ) → (H.outside host.new).images (H.outside host.new).clock image → After ((H.outside host.old).images (H.outside host.old).clock) (Written at from.now) image) }
     ensures works { Works (H.outside host.old) (H.outside host.new) result }
+    ensures calls { (H.outside host.new).device_calls ≤ (H.outside host.old).device_calls + 2 }
+    ensures stays { OnOk result (StaysHeld (H.outside host.old) (H.outside host.new)) }
 {
     host.write_at(at, from)?;
     host.sync()
@@ -54,6 +56,8 @@ fn copy_page<H: Host>(host: &mut H, committed: Committed, page: u32) -> Result<(
     ensures images { Leaves (H.outside host.old) (H.outside host.new) (After ((H.outside host.old).images (H.outside host.old).clock) (Torn (half_at committed.pages (not committed.second) + 4096 * page) 4096)) }
     ensures copied { OnOk result ((bytes : List ℕ) → (H.outside host.new).contents bytes → After (H.outside host.old).contents (IsPageCopied committed page) bytes) }
     ensures works { Works (H.outside host.old) (H.outside host.new) result }
+    ensures calls { (H.outside host.new).device_calls ≤ (H.outside host.old).device_calls + 2 }
+    ensures stays { OnOk result (StaysHeld (H.outside host.old) (H.outside host.new)) }
 {
     let Committed { pages, second, .. } = committed;
     let mut buffer = [0u8; PAGE_BYTES];
@@ -74,6 +78,8 @@ fn place_page<H: Host>(
     ensures images { Leaves (H.outside host.old) (H.outside host.new) (After ((H.outside host.old).images (H.outside host.old).clock) (Torn (half_at committed.pages (not committed.second) + 4096 * page) 4096)) }
     ensures placed { OnOk result ((bytes : List ℕ) → (H.outside host.new).contents bytes → After (H.outside host.old).contents (IsPlaced is_staged committed page) bytes) }
     ensures works { Works (H.outside host.old) (H.outside host.new) result }
+    ensures calls { (H.outside host.new).device_calls ≤ (H.outside host.old).device_calls + 2 }
+    ensures stays { OnOk result (StaysHeld (H.outside host.old) (H.outside host.new)) }
 {
     if is_staged {
         return Ok(());
@@ -94,6 +100,8 @@ fn copy_pages<H: Host>(
     ensures images { Leaves (H.outside host.old) (H.outside host.new) (IsKept (H.outside host.old) committed) }
     ensures copied { OnOk result ((bytes : List ℕ) → (H.outside host.new).contents bytes → After (H.outside host.old).contents (IsCopied committed staged.now count) bytes) }
     ensures works { Works (H.outside host.old) (H.outside host.new) result }
+    ensures calls { (H.outside host.new).device_calls ≤ (H.outside host.old).device_calls + 2 * count }
+    ensures stays { OnOk result (StaysHeld (H.outside host.old) (H.outside host.new)) }
 {
     for page in 0..count {
         place_page(host, committed, staged[page as usize], page)?;
@@ -114,6 +122,8 @@ fn prepare<H: Host>(
     ensures images { Leaves (H.outside host.old) (H.outside host.new) (IsKept (H.outside host.old) committed) }
     ensures ready { OnOk result ((image : List ℕ) → (H.outside host.new).images (H.outside host.new).clock image → IsReady (H.outside host.old) committed staged.now count image) }
     ensures works { Works (H.outside host.old) (H.outside host.new) result }
+    ensures calls { (H.outside host.new).device_calls ≤ (H.outside host.old).device_calls + (2 * count + 1) }
+    ensures stays { OnOk result (StaysHeld (H.outside host.old) (H.outside host.new)) }
 {
     copy_pages(host, committed, staged, count)?;
     host.sync()
@@ -132,6 +142,8 @@ fn write_root<H: Host>(
     ensures images { Leaves (H.outside host.old) (H.outside host.new) (IsKept (H.outside host.old) committed) }
     ensures rooted { OnOk result ((image : List ℕ) → (H.outside host.new).images (H.outside host.new).clock image → IsRooted (H.outside host.old) committed staged.now next image) }
     ensures works { Works (H.outside host.old) (H.outside host.new) result }
+    ensures calls { (H.outside host.new).device_calls ≤ (H.outside host.old).device_calls + (2 * pages_of_words next.used + 3) }
+    ensures stays { OnOk result (StaysHeld (H.outside host.old) (H.outside host.new)) }
 {
     let bytes = root_bytes(next);
     prepare(host, committed, staged, logical_pages(next.used) as u32)?;
@@ -151,6 +163,8 @@ pub fn switch_to<H: Host>(
     ensures images { Leaves (H.outside host.old) (H.outside host.new) (IsEither (H.outside host.old) committed staged.now next) }
     ensures switched { OnOk result ((image : List ℕ) → (H.outside host.new).images (H.outside host.new).clock image → IsSwitched (H.outside host.old) committed staged.now next image) }
     ensures works { Works (H.outside host.old) (H.outside host.new) result }
+    ensures calls { (H.outside host.new).device_calls ≤ (H.outside host.old).device_calls + (2 * pages_of_words next.used + 5) }
+    ensures stays { OnOk result (StaysHeld (H.outside host.old) (H.outside host.new)) }
 {
     write_root(host, committed, staged, next)?;
     write_synced(host, PAGE_BYTES as u64, &[selector_of(!committed.second)])

@@ -95,6 +95,8 @@ impl<H: Host> Volume<H> {
         requires size { length from.now ≡ 4096 }
         ensures put { OnOk result ((found : Option Held) → (seen self.new.committed self.new.staged.items (H.outside self.new.host)).contents found →
             After (seen self.old.committed self.old.staged.items (H.outside self.old.host)).contents (λ before after. option_map (with_page page from.now) before ≡ after) found) }
+        ensures stays { OnOk result ((found : Option Held) → (seen self.old.committed self.old.staged.items (H.outside self.old.host)).contents found →
+            (seen self.new.committed self.new.staged.items (H.outside self.new.host)).contents (option_map (with_page page from.now) found)) }
         ensures images { LeavesSame (seen self.old.committed self.old.staged.items (H.outside self.old.host)) (seen self.new.committed self.new.staged.items (H.outside self.new.host)) }
         ensures call { IsDeviceCall (H.outside self.old.host) (H.outside self.new.host) result }
         ensures committed { self.new.committed ≡ self.old.committed }
@@ -124,6 +126,7 @@ impl<H: Host> Volume<H> {
         requires has { HasPages self.old.committed self.old.staged.items (pages_of_words used) }
         ensures switches { Switches (seen self.old.committed self.old.staged.items (H.outside self.old.host)) (seen self.new.committed self.new.staged.items (H.outside self.new.host)) self.old.committed.pages used directory result }
         ensures committed { OnOk result (self.new.committed ≡ switched used directory self.old.committed) }
+        ensures same { OnErr result (self.new.committed ≡ self.old.committed) }
         ensures blank { OnOk result (self.new.staged.items ≡ replicate (half_pages self.old.committed.pages) false) }
         ensures alive { OnOk result (IsAlive self.new.live self.new.committed self.new.staged.items (H.outside self.new.host)) }
         ensures dies { OnErr result (self.new.live ≡ false) }
@@ -147,15 +150,16 @@ impl<H: Host> Volume<H> {
         }
     }
 
-    /// Tells the bytes, as the host does.
+    /// Tells the bytes, as the host does. It is alive afterwards where it was.
     pub fn put(&mut self, bytes: &[u8]) -> Result<(), HostFailed>
-        requires alive { IsAlive self.old.live self.old.committed self.old.staged.items (H.outside self.old.host) }
         ensures cut { TellsFront (H.outside self.old.host) (H.outside self.new.host) bytes.now }
         ensures all { OnOk result (ToldAll (H.outside self.old.host) (H.outside self.new.host) bytes.now) }
         ensures calm { OnOk result ((H.outside self.new.host).output_faults ≡ (H.outside self.old.host).output_faults) }
         ensures call { IsPutCall (H.outside self.old.host) (H.outside self.new.host) result }
         ensures same { (self.new.committed ≡ self.old.committed) × (self.new.staged.items ≡ self.old.staged.items) }
-        ensures alive { IsAlive self.new.live self.new.committed self.new.staged.items (H.outside self.new.host) }
+        ensures lives { self.new.live ≡ self.old.live }
+        ensures alive { IsAlive self.old.live self.old.committed self.old.staged.items (H.outside self.old.host) →
+            IsAlive self.new.live self.new.committed self.new.staged.items (H.outside self.new.host) }
     {
         self.host.put(bytes)
     }

@@ -59,7 +59,7 @@ and_step {c = c} {next = next} {events = events} (more {events = first} {behind 
 -- How far a machine is from its end at most: by the turns, then by the bodies that wait, which are no more than 2,000, and then by the bytes of its
 -- code, which are fewer than 2 ^ 32.
 abbrev pub left_of : Machine → ℕ
-left_of m = (m.turns * 2001 + length m.waiting.callers.items) * 2 ^ 32 + (length (text_at m.sw m.code) - m.at)
+left_of m = (m.turns * 2001 + length m.callers.items) * 2 ^ 32 + (length (text_at m.sw m.code) - m.at)
 
 -- and so a run
 abbrev far : Left → ℕ
@@ -68,7 +68,7 @@ far l = (l.turns * 2001 + l.callers) * 2 ^ 32 + l.bytes
 left_is : (m : Machine) (c : Config) → Holds m c → far (left c) ≡ left_of m
 left_is m c h =
     let k = h.held in
-    let many = as-many m.sw h.names m.waiting.callers.items m.waiting.nums.items m.waiting.refs.items c.callers k.callers_are in
+    let many = as-many m.sw h.names m.callers.items m.nums.below m.refs.below c.callers k.callers_are in
     let long = ap length (code_of m c h) in
     let turns = k.turns_are in
     let at = k.at_is in
@@ -96,9 +96,9 @@ comes_nearer old new owed rest m m' heap c a =
     let next = by.2.1 in
     let k = by.2.3.held in
     let few = a.sound.waiting.few in
-    let many = as-many m'.sw by.2.3.names m'.waiting.callers.items m'.waiting.nums.items m'.waiting.refs.items next.callers k.callers_are in
+    let many = as-many m'.sw by.2.3.names m'.callers.items m'.nums.below m'.refs.below next.callers k.callers_are in
     let small = code-small m'.sw m'.code next.unit heap k.unit_is in
-    let low = falls (left c.0) (left next) (omega (arith, few, many, m'.waiting.callers.ok.0)) (omega (arith, small)) (nearer by.1 by.2.0 next by.2.2).0 in
+    let low = falls (left c.0) (left next) (omega (arith, few, many, m'.callers.ok.0)) (omega (arith, small)) (nearer by.1 by.2.0 next by.2.2).0 in
     let before = left_is m c.0 c.1 in
     let after = left_is m' next by.2.3 in
     omega (arith, low, before, after)

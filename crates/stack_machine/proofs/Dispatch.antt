@@ -57,6 +57,7 @@ holds_behind m c i next h is = let k = h.held in record {
     entries_are = k.entries_are;
     layouts_are = k.layouts_are;
     known_are = k.known_are;
+    called_are = k.called_are;
     counted = k.counted;
   };
 }

@@ -23,6 +23,7 @@ use Rattle.swizzle.specs.declared.fault.SwizzleFault.TheVariants.{AreaFull}
 use Rattle.machine_state.specs.declared.machine.Machine.{Machine}
 use Rattle.machine_state.specs.Holding.{IsRow, IsRefRow, AreDenoted, object_in, Holds, IsSound}
 use Rattle.machine_state.specs.Waiting.{IsOrderly}
+use Rattle.machine_state.specs.Known.{AreKnown as AreCalled}
 use Rattle.machine_state.proofs.Words.{nil-denoted}
 use Rattle.stack_machine.specs.Loaded.{IsRoomy, IsFrame, IsLoaded, HasNoRoom, loaded_weight}
 
@@ -54,19 +55,19 @@ module _ (u : UnitView) (turns : ℕ) (input : List ℕ) (old new : Machine) (mi
   own_frame = subst IsFrame frame_is (record { nums_fit = nums; refs_fit = refs })
 
   -- the machine begins
-  pub begins : (at : ℕ) → mid ≡ fresh_heap old.sw.size → code.IsLoaded mid new.sw u at → IsRight new.sw new.classes → AreLaid new.sw new.layouts.entries.items → AreKnown new.sw [] [] new.vectors.entries.items → IsRoomy new
-      → new.code ≡ at → IsUnitPlace at u new.place → new.at ≡ 0 → new.nums.items ≡ replicate new.frame.nums (pos 0) → new.refs.items ≡ replicate new.frame.refs 0 → new.turns ≡ turns
-      → new.scope ≡ 0 → IsOrderly new.waiting → new.waiting.callers.items ≡ [] → new.waiting.nums.items ≡ [] → new.waiting.refs.items ≡ [] → new.input ≡ input
+  pub begins : (at : ℕ) → mid ≡ fresh_heap old.sw.size → code.IsLoaded mid new.sw u at → IsRight new.sw new.classes → AreLaid new.sw new.layouts.entries.items → AreKnown new.sw [] [] new.vectors.entries.items → AreCalled new.sw [] new.procedures.entries → IsRoomy new
+      → new.code ≡ at → IsUnitPlace at u new.place → new.at ≡ 0 → new.nums.own ≡ replicate new.frame.nums (pos 0) → new.refs.own ≡ replicate new.frame.refs 0 → new.turns ≡ turns
+      → new.scope ≡ 0 → IsOrderly new.callers new.nums new.refs → new.callers.items ≡ [] → new.nums.below ≡ [] → new.refs.below ≡ [] → new.input ≡ input
       → IsLoaded u turns input old new
-  begins at fresh is so laid known roomy code_is placed at_is nums_are refs_are turns_are scope_is orderly no_callers no_nums no_refs input_is = record {
+  begins at fresh is so laid known called roomy code_is placed at_is nums_are refs_are turns_are scope_is orderly no_callers no_nums no_refs input_is = record {
     frame = own_frame;
     sound = record {
-      nums_fit = let n = ap length nums_are in let k = length-replicate new.frame.nums (pos 0) in omega (arith, new.nums.ok.0, n, k);
-      refs_fit = let n = ap length refs_are in let k = length-replicate {A = ℕ} new.frame.refs 0 in omega (arith, new.refs.ok.0, n, k);
-      nums_below = let n = ap length nums_are in let k = length-replicate new.frame.nums (pos 0) in omega (arith, new.nums.ok.0, n, k, nums);
-      refs_below = let n = ap length refs_are in let k = length-replicate {A = ℕ} new.frame.refs 0 in omega (arith, new.refs.ok.0, n, k, refs);
-      nums_room = let r = roomy.nums_room in omega (arith, r);
-      refs_room = let r = roomy.refs_room in omega (arith, r);
+      nums_fit = let n = ap length nums_are in let k = length-replicate new.frame.nums (pos 0) in omega (arith, n, k);
+      refs_fit = let n = ap length refs_are in let k = length-replicate {A = ℕ} new.frame.refs 0 in omega (arith, n, k);
+      nums_below = let n = ap length nums_are in let k = length-replicate new.frame.nums (pos 0) in omega (arith, n, k, nums);
+      refs_below = let n = ap length refs_are in let k = length-replicate {A = ℕ} new.frame.refs 0 in omega (arith, n, k, refs);
+      nums_room = let r = roomy.room.nums_room in let none = ap length no_nums in omega (arith, r, none);
+      refs_room = let r = roomy.room.refs_room in let none = ap length no_refs in omega (arith, r, none);
       values_room = roomy.values_room;
       waiting = orderly;
     };
@@ -90,6 +91,7 @@ module _ (u : UnitView) (turns : ℕ) (input : List ℕ) (old new : Machine) (mi
         entries_are = so;
         layouts_are = laid;
         known_are = known;
+        called_are = called;
         counted = let top = is.top in let was = ap top_of fresh in omega (arith, enough, top, was);
       };
     };

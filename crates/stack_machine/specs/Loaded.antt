@@ -11,12 +11,10 @@ use Rattle.machine_state.specs.Waiting.{HasRoom}
 use Rattle.stack_machine.specs.declared.load.LoadFault.{LoadFault}
 use Rattle.stack_machine.specs.declared.load.LoadFault.TheVariants.{Damaged, Full}
 
--- there is memory for the frame of the body that runs and for those of the bodies that wait, and for the values of an object
+-- there is memory for the bodies that wait, for the words of those and of the body that runs, and for the values of an object
 pub record IsRoomy (m : Machine) : Type 0 where
-  pub nums_room : frame_words ≤ vec_capacity m.nums
-  pub refs_room : frame_words ≤ vec_capacity m.refs
+  pub room : HasRoom m.callers m.nums m.refs
   pub values_room : most_values ≤ vec_capacity m.values
-  pub waiting_room : HasRoom m.waiting
 
 -- so there is in a new machine, whose area has this size
 pub record IsNew (size : ℕ) (m : Machine) : Type 0 where

@@ -1,12 +1,17 @@
-ghost use Rattle.std.specs.Prelude.{◌≡◌, ◌^◌, ◌+◌, ◌≤◌, replicate, pos, IfOk, vec_capacity};
+ghost use Rattle.std.specs.Prelude.{◌≡◌, ◌^◌, ◌+◌, ◌≤◌, [], replicate, pos, IfOk};
 ghost use Rattle.ps_base.specs.CodeUnit.{unit_view};
 ghost use Rattle.ps_stepping.specs.Config.{frame_words};
+ghost use Rattle.machine_state.specs.Waiting.{IsOrderly};
 ghost use Rattle.stack_machine.specs.Loaded.{IsRoomy, IsNew, Loads};
 
+use frame_stack::FrameStack;
 use heap_ops::layouts::Layouts;
 use known_classes::classes::KnownClasses;
 use known_vectors::known::KnownVectors;
-use machine_state::{FRAME_WORDS, Input, Item, MOST_VALUES, Machine, RunEnd, Waiting, Writing};
+use machine_state::{
+    ALL_WORDS, FRAME_WORDS, Input, Item, KnownProcedures, MOST_CALLERS, MOST_VALUES, Machine,
+    RunEnd, Writing,
+};
 use paired_ops::code;
 use proc_values::reading::{CodePlace, code_place};
 use ps_base::code_unit::{CodeUnit, Frame};
@@ -48,8 +53,8 @@ const NO_FAULT: SwizzleFault = SwizzleFault::AreaFull {
     size: 0,
 };
 
-/// A machine without a unit, over an area of so many words. It takes all the memory that its runs will use but for their input: the area, the stacks
-/// of the body that runs and of 2,000 bodies that wait, 512 words each, and room for the values of one object; of all these no page is touched
+/// A machine without a unit, over an area of so many words. It takes all the memory that its runs will use but for their input: the area, the two stacks
+/// with 512 words each for the body that runs and for 2,000 bodies that wait, and room for the values of one object; of all these no page is touched
 /// before it is used.
 pub fn machine(alloc: Global, words: u32) -> Result<Machine, AllocError>
     requires low { 5 ≤ words }
@@ -60,21 +65,22 @@ pub fn machine(alloc: Global, words: u32) -> Result<Machine, AllocError>
     let classes = KnownClasses::new(alloc)?;
     let layouts = Layouts::new(alloc)?;
     let vectors = KnownVectors::new(alloc)?;
-    let waiting = Waiting::new(alloc)?;
+    let procedures = KnownProcedures::new();
     Ok(Machine {
         sw,
         classes,
         layouts,
         vectors,
+        procedures,
         values: Vec::with_capacity(alloc, MOST_VALUES)?,
         code: 0,
         place: NO_PLACE,
         frame: NO_LOCALS,
         scope: 0,
         at: 0,
-        nums: Vec::with_capacity(alloc, FRAME_WORDS)?,
-        refs: Vec::with_capacity(alloc, FRAME_WORDS)?,
-        waiting,
+        nums: FrameStack::with_capacity(alloc, ALL_WORDS)?,
+        refs: FrameStack::with_capacity(alloc, ALL_WORDS)?,
+        callers: Vec::with_capacity(alloc, MOST_CALLERS)?,
         input: Input::new(Vec::new(alloc)),
         turns: 0,
         writing: NO_WRITING,
@@ -100,7 +106,7 @@ pub fn load(m: &mut Machine, unit: &CodeUnit, turns: u64, input: Vec<u8>) -> Res
     m.classes.clear();
     m.layouts.clear();
     m.vectors.clear();
-    m.waiting.clear();
+    m.procedures.clear();
     m.input = Input::new(input);
     match code::load(&mut m.sw, unit) {
         Ok(code) => {
@@ -123,6 +129,8 @@ fn begin(m: &mut Machine, code: u32, place: CodePlace, frame: Frame, turns: u64)
     requires refs { frame.refs ≤ frame_words }
     ensures roomy { IsRoomy m.new }
     ensures sw { m.new.sw ≡ m.old.sw }
+    ensures orderly { IsOrderly m.new.callers m.new.nums m.new.refs }
+    ensures procedures { m.new.procedures ≡ m.old.procedures }
     ensures classes { m.new.classes ≡ m.old.classes }
     ensures layouts { m.new.layouts ≡ m.old.layouts }
     ensures vectors { m.new.vectors ≡ m.old.vectors }
@@ -131,9 +139,11 @@ fn begin(m: &mut Machine, code: u32, place: CodePlace, frame: Frame, turns: u64)
     ensures frame { m.new.frame ≡ frame }
     ensures scope { m.new.scope ≡ 0 }
     ensures at { m.new.at ≡ 0 }
-    ensures nums { m.new.nums.items ≡ replicate frame.nums (pos 0) }
-    ensures refs { m.new.refs.items ≡ replicate frame.refs 0 }
-    ensures waiting { m.new.waiting ≡ m.old.waiting }
+    ensures nums { m.new.nums.own ≡ replicate frame.nums (pos 0) }
+    ensures refs { m.new.refs.own ≡ replicate frame.refs 0 }
+    ensures callers { m.new.callers.items ≡ [] }
+    ensures nums_below { m.new.nums.below ≡ [] }
+    ensures refs_below { m.new.refs.below ≡ [] }
     ensures input { m.new.input ≡ m.old.input }
     ensures turns { m.new.turns ≡ turns }
 {
@@ -143,32 +153,7 @@ fn begin(m: &mut Machine, code: u32, place: CodePlace, frame: Frame, turns: u64)
     m.scope = 0;
     m.at = 0;
     m.turns = turns;
-    blank_nums(&mut m.nums, frame.nums as usize);
-    blank_refs(&mut m.refs, frame.refs as usize);
-}
-
-// So many numbers that are 0, and nothing else.
-fn blank_nums(stack: &mut Vec<i32>, count: usize)
-    requires { count ≤ vec_capacity stack.old }
-    ensures items { stack.new.items ≡ replicate count (pos 0) }
-    ensures room { vec_capacity stack.old ≤ vec_capacity stack.new }
-{
-    stack.clear();
-    match stack.resize(count, 0) {
-        Ok(()) => {}
-        Err(_) => unreachable!(),
-    }
-}
-
-// So many references that are nil, and nothing else.
-fn blank_refs(stack: &mut Vec<u32>, count: usize)
-    requires { count ≤ vec_capacity stack.old }
-    ensures items { stack.new.items ≡ replicate count 0 }
-    ensures room { vec_capacity stack.old ≤ vec_capacity stack.new }
-{
-    stack.clear();
-    match stack.resize(count, 0) {
-        Ok(()) => {}
-        Err(_) => unreachable!(),
-    }
+    m.callers.clear();
+    m.nums.restart(frame.nums as usize, 0);
+    m.refs.restart(frame.refs as usize, 0);
 }

@@ -1,5 +1,5 @@
 -- What is popped of the stack of references, where it is of the kind that an instruction wants.
-use Rattle.std.specs.Prelude.{◌≡◌, ℕ, ◌<◌, List, Option, Some, None, IfSome, vec_len}
+use Rattle.std.specs.Prelude.{◌≡◌, ℕ, ◌<◌, List, Option, Some, None, IfSome, length}
 use Rattle.obj_layout.specs.declared.reference.Reference.{Reference}
 use Rattle.obj_layout.specs.declared.kind.Kind.{Kind}
 use Rattle.swizzle.specs.Heap as area
@@ -23,7 +23,7 @@ GivesAs {T} {V} named value is names taking (Some t) m =
 pub record TakenAs {T V : Type 0} (named : T → Option ℕ) (value : V → Value) (is : V → Type 0) (taking : Config → (V → Config → Step) → Step) (old new : Machine) (answer : Option T) : Type 0 where
   pub sound : IsSound new
   pub area : new.sw ≡ old.sw
-  pub room : IfSome answer (λ t. vec_len new.refs < frame_words)
+  pub room : IfSome answer (λ t. length new.refs.own < frame_words)
   pub gives : (names : List Reference) (c : Config) → HeldBy names old c → GivesAs named value is names (taking c) answer new
 
 abbrev anything : {V : Type 0} → V → Type 0
@@ -52,7 +52,7 @@ GivesVector names c (Some at) m =
 pub record PopsVector (old new : Machine) (answer : Option ℕ) : Type 0 where
   pub sound : IsSound new
   pub area : new.sw ≡ old.sw
-  pub room : IfSome answer (λ t. vec_len new.refs < frame_words)
+  pub room : IfSome answer (λ t. length new.refs.own < frame_words)
   pub gives : (names : List Reference) (c : Config) → HeldBy names old c → GivesVector names c answer new
 
 -- an object of this kind lies there

@@ -1,5 +1,5 @@
 -- What a part of an instruction takes from the machine.
-use Rattle.std.specs.Prelude.{◌≡◌, ℕ, ◌<◌, ℤ, true, false, List, [], ◌∷◌, Option, Some, None, vec_len, IfSome}
+use Rattle.std.specs.Prelude.{◌≡◌, ℕ, ◌<◌, ℤ, true, false, List, [], ◌∷◌, Option, Some, None, length, IfSome}
 use Rattle.obj_layout.specs.declared.reference.Reference.{Reference}
 use Rattle.ps_meaning.specs.Values.{Value}
 use Rattle.ps_stepping.specs.Config.{Config, frame_words}
@@ -30,7 +30,7 @@ pub record Taken {T : Type 0} (taking : Config → (T → Config → Step) → S
 pub record TakenNum {T : Type 0} (taking : Config → (T → Config → Step) → Step) (old new : Machine) (answer : Option T) : Type 0 where
   pub taken : Taken taking old new answer
   pub values : new.values ≡ old.values
-  pub room : IfSome answer (λ t. vec_len new.nums < frame_words)
+  pub room : IfSome answer (λ t. length new.nums.own < frame_words)
 
 abbrev pub PopsNum : Machine → Machine → Option ℤ → Type 0
 PopsNum = TakenNum pop_num
@@ -50,7 +50,7 @@ pub record TakenRef (taking : Config → (Value → Config → Step) → Step) (
   pub sound : IsSound new
   pub area : new.sw ≡ old.sw
   pub values : new.values ≡ old.values
-  pub room : IfSome answer (λ w. vec_len new.refs < frame_words)
+  pub room : IfSome answer (λ w. length new.refs.own < frame_words)
   pub gives : (names : List Reference) (c : Config) → HeldBy names old c → GivesRef names (taking c) answer new
 
 abbrev pub PopsRef : Machine → Machine → Option ℕ → Type 0

@@ -14,8 +14,8 @@ use Rattle.ps_program.specs.Node.{BodyNode}
 use Rattle.ps_typing.specs.Fault.{Fault}
 use Rattle.ps_typing.specs.Program.{check_program, Typed}
 use Rattle.ps_check.specs.Faults as checking
-use Rattle.ps_command.specs.Source.{IsCheckFault}
-use Rattle.ps_command.specs.Source as rules
+use Rattle.ps_causes.specs.Source.{IsCheckFault}
+use Rattle.ps_causes.specs.Source as rules
 use Rattle.ps_command.specs.declared.source_fault.SourceFault.{SourceFault}
 use Rattle.ps_command.specs.declared.source_fault.SourceFault.TheVariants as source
 

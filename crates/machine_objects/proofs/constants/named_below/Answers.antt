@@ -12,5 +12,5 @@ pub returns : goal.returns
 returns c =
     let m = c.args.m.now in
     if-there m.sw c.object.result _ c.object.ensures
-    (subst (λ (w : ℕ). IsThere m.sw (Rattle.machine_state.specs.Holding.object_in w)) (sym c.index.ensures)
-    (word-there m (c.len-count.result - 1 - c.args.below) c.index.result.now c.requires (omega (arith, m.refs.ok.0, c.if-count-below.false, c.len-count.ensures))))
+    (subst (λ (w : ℕ). IsThere m.sw (Rattle.machine_state.specs.Holding.object_in w)) (sym c.word.ensures)
+    (word-there m (c.len-count.result - 1 - c.args.below) c.word.result c.requires (omega (arith, c.if-count-below.false, c.len-count.ensures))))

@@ -5,8 +5,8 @@ use Rattle.machine_objects.proofs.reaching.top_two_refs.Goals as goal
 pub returns : goal.returns
 returns c = λ conf h.
     let m = c.args.m.now in
-    two-refs m conf (c.len-count.result - 2) (c.len-count.result - 1) _ _ c.index.result.now c.index-2.result.now h
-    (omega (arith, m.refs.ok.0, c.if-count-m.false, c.len-count.ensures))
+    two-refs m conf (c.len-count.result - 2) (c.len-count.result - 1) _ _ c.word.result c.word-2.result h
+    (omega (arith, c.if-count-m.false, c.len-count.ensures))
     (omega (arith, c.if-count-m.false))
     (omega (arith, c.if-count-m.false))
     (search rules) (search rules)

@@ -33,4 +33,4 @@ code_place-place-requires-clause-kind g c =
 pub returns-clause-told : goal.returns-clause-told
 returns-clause-told g c =
     body-told c.args.sw.now c.code_of.new.sw c.args.procedure c.in-Ok.code c.scope_of.new.sw c.in-Ok-scope_of.scope c.code_place-place.result
-    c.frame_of-frame.result c.sound.ensures c.in-Ok.ensures.told c.in-Ok-scope_of.ensures.told c.code_place-place.ensures c.frame_of-frame.ensures
+    c.frame_of-frame.result c.word.result c.word.ensures c.sound.ensures c.in-Ok.ensures.told c.in-Ok-scope_of.ensures.told c.code_place-place.ensures c.frame_of-frame.ensures

@@ -1,95 +1,94 @@
-use Rattle.std.proofs.Common.{◌≡◌, ℕ, pos, ◌+◌, ◌-◌, ◌<◌, ◌≤◌, ◌++◌, ◌∷◌, [], drop, length, replicate, take, vec_len, refl, arith, rules}
-use Rattle.std.proofs.lemmas.List.{length-take-le, length-drop, length-replicate}
-use Rattle.std.proofs.Common.{length-append, ap, ◌∙◌}
-use Rattle.machine_state.specs.Waiting.{IsFramed, IsOrderly}
+use Rattle.std.proofs.Common.{◌≡◌, ℕ, ◌+◌, ◌-◌, ◌<◌, ◌≤◌, ◌++◌, ◌∷◌, [], length, take, refl, ap, arith, rules}
+use Rattle.std.proofs.lemmas.List.{length-take-le, length-append}
 use Rattle.machine_state.specs.declared.caller.Caller.{Caller}
-use Rattle.machine_state.specs.declared.waiting.Waiting.{Waiting}
-use Rattle.machine_state.specs.inside.Handing.{caller_of, entered}
+use Rattle.machine_state.specs.Calling.{body_at}
+use Rattle.machine_state.specs.Waiting.{IsFramed}
+use Rattle.machine_state.specs.inside.Handing.{caller_of}
 use Rattle.machine_state.proofs.Handing.{taken-frame, nums-room, refs-room, orderly-above}
 use Rattle.machine_state.proofs.calls.enter.Goals as goal
-
-pub hand_over-requires-clause-kept_room : goal.hand_over-requires-clause-kept_room
-hand_over-requires-clause-kept_room c =
-    let s = c.requires.sound in
-    nums-room c.args.m.now.waiting s.waiting c.requires.few (vec_len c.args.m.now.nums) s.nums_below
-
-pub hand_over-requires-2-clause-kept_room : goal.hand_over-requires-2-clause-kept_room
-hand_over-requires-2-clause-kept_room c =
-    let s = c.requires.sound in
-    refs-room c.args.m.now.waiting s.waiting c.requires.few (vec_len c.args.m.now.refs) s.refs_below
 
 pub returns : goal.returns
 returns c =
     let m = c.args.m.now in
     let s = c.requires.sound in
-    let f = taken-frame c.args.refs c.args.body.frame c.requires.takes in
-    let low = c.len.result - c.args.body.frame.num_params in
-    let at = c.len-2.result - 1 - c.args.refs in
+    let body = body_at m c.args.place in
+    let f = taken-frame c.args.refs body.frame c.requires.takes in
+    let low = length m.nums.own - body.frame.num_params in
+    let at = length m.refs.own - 1 - c.args.refs in
     let there = c.requires.there in
     let enough = c.requires.nums in
-    let nums_low : low + c.args.body.frame.num_params ≡ length m.nums.items = omega (arith, c.len.ensures, enough, m.nums.ok.0) in
-    let refs_low : at + 1 + c.args.refs ≡ length m.refs.items = omega (arith, c.len-2.ensures, there, m.refs.ok.0) in
-    let body = c.args.body in
-    let new_nums = c.hand_over.new.stack in
-    let new_refs = c.hand_over-2.new.stack in
-    let kept_nums = c.hand_over.new.kept in
-    let kept_refs = c.hand_over-2.new.kept in
-    let put_nums = c.hand_over.ensures.stack in
-    let put_refs = c.hand_over-2.ensures.stack in
-    let left_nums = c.hand_over.ensures.kept in
-    let left_refs = c.hand_over-2.ensures.kept in
-    let blanks = low + body.frame.nums - length m.nums.items in
-    let nils = at + 1 + body.frame.refs - length m.refs.items in
-    let many : vec_len new_nums ≡ body.frame.nums =
-    let all = ap length put_nums in
-    let fit = f.nums_fit in
-    omega (arith, all, length-append (drop low m.nums.items) (replicate blanks (pos 0)), length-drop low m.nums.items, length-replicate blanks (pos 0), nums_low, fit, new_nums.ok.0) in
-    let more : vec_len new_refs ≡ body.frame.refs =
-    let all = ap length put_refs in
-    let fit = f.refs_fit in
-    let is = f.refs_are in
-    omega (arith, all, length-append (drop (at + 1) m.refs.items) (replicate nils 0), length-drop (at + 1) m.refs.items, length-replicate {A = ℕ} nils 0, refs_low, fit, is, new_refs.ok.0) in
-    let stay_nums : vec_len kept_nums ≡ vec_len m.waiting.nums + low =
-    let all = ap length left_nums in
-    omega (arith, all, length-append m.waiting.nums.items (take low m.nums.items), length-take-le low m.nums.items (omega (arith, nums_low)), kept_nums.ok.0, m.waiting.nums.ok.0) in
-    let stay_refs : vec_len kept_refs ≡ vec_len m.waiting.refs + at =
-    let all = ap length left_refs in
-    omega (arith, all, length-append m.waiting.refs.items (take at m.refs.items), length-take-le at m.refs.items (omega (arith, refs_low)), kept_refs.ok.0, m.waiting.refs.ok.0) in
+    let nums_low : low + body.frame.num_params ≡ length m.nums.own = omega (arith, enough) in
+    let refs_low : at + 1 + c.args.refs ≡ length m.refs.own = omega (arith, there) in
+    let nums = c.open.new.self in
+    let refs = c.open-2.new.self in
+    let of_nums = c.open.ensures in
+    let of_refs = c.open-2.ensures in
+    let stay_nums : length nums.below ≡ length m.nums.below + low =
+    let all = ap length of_nums.below in
+    omega (arith, all, length-append m.nums.below (take low m.nums.own), length-take-le low m.nums.own (omega (arith, nums_low))) in
+    let at_one : length m.refs.own - c.args.refs ≡ at + 1 = omega (arith, refs_low) in
+    let stay_refs : length refs.below ≡ length m.refs.below + (at + 1) =
+    let all = ap length of_refs.below in
+    omega (arith, all, at_one, length-append m.refs.below (take (length m.refs.own - c.args.refs) m.refs.own), length-take-le (length m.refs.own - c.args.refs) m.refs.own (omega (arith, refs_low))) in
     let room = s.waiting.room in
-    let own : Caller = caller_of m low at in
+    let own : Caller = caller_of m low (at + 1) in
     let framed : IsFramed own = record {
-      nums_fit = omega (arith, c.len.ensures, enough);
-      refs_fit = omega (arith, c.len-2.ensures, there);
-      nums_below = let below = s.nums_below in omega (arith, below, nums_low, m.nums.ok.0);
-      refs_below = let below = s.refs_below in omega (arith, below, refs_low, m.refs.ok.0);
+      nums_fit = omega (arith, enough);
+      refs_fit = omega (arith, there);
+      nums_below = let below = s.nums_below in omega (arith, below, nums_low);
+      refs_below = let below = s.refs_below in omega (arith, below, refs_low);
     } in
-    let waits : Waiting = record { callers = c.push_reserved.new.self; nums = kept_nums; refs = kept_refs } in
+    let nums_total = of_nums.room in
+    let refs_total = of_refs.room in
+    let many = nums-room m.callers m.nums m.refs s.waiting c.requires.few in
+    let more = refs-room m.callers m.nums m.refs s.waiting c.requires.few in
+    let callers_are = c.push_reserved.ensures.items in
     record {
       low_nums = low;
       low_refs = at;
       nums_count = nums_low;
       refs_count = refs_low;
+      nums = nums;
+      refs = refs;
+      callers = c.push_reserved.new.self;
+      new_is = refl;
       sound = record {
-        nums_fit = omega (arith, many);
-        refs_fit = omega (arith, more);
-        nums_below = let below = f.nums_below in omega (arith, many, below);
-        refs_below = let below = f.refs_below in omega (arith, more, below);
-        nums_room = let had = s.nums_room in let has = c.hand_over.ensures.stack_room in omega (arith, had, has);
-        refs_room = let had = s.refs_room in let has = c.hand_over-2.ensures.stack_room in omega (arith, had, has);
+        nums_fit = let long = of_nums.len in omega (arith, long);
+        refs_fit = let long = of_refs.len in omega (arith, long);
+        nums_below = let long = of_nums.len in let below = f.nums_below in omega (arith, long, below);
+        refs_below = let long = of_refs.len in let below = f.refs_below in omega (arith, long, below);
+        nums_room = let below = s.nums_below in omega (arith, nums_total, many, below);
+        refs_room = let below = s.refs_below in omega (arith, refs_total, more, below);
         values_room = s.values_room;
-        waiting = orderly-above m.waiting s.waiting c.requires.few waits own framed c.push_reserved.ensures.items stay_nums stay_refs (record {
+        waiting = orderly-above m.callers m.nums m.refs s.waiting c.requires.few c.push_reserved.new.self nums refs own framed (search rules) stay_nums stay_refs (record {
           callers_room = let had = room.callers_room in let has = c.push_reserved.ensures.capacity in omega (arith, had, has);
-          nums_room = let had = room.nums_room in let has = c.hand_over.ensures.kept_cap in omega (arith, had, has);
-          refs_room = let had = room.refs_room in let has = c.hand_over-2.ensures.kept_cap in omega (arith, had, has);
+          nums_room = let had = room.nums_room in omega (arith, had, nums_total, stay_nums, nums_low);
+          refs_room = let had = room.refs_room in omega (arith, had, refs_total, stay_refs, refs_low);
         });
       };
-      nums = new_nums;
-      refs = new_refs;
-      waiting = waits;
-      new_is = ap (λ (n : ℕ). record (entered m body new_nums new_refs waits) { scope = n }) c.word-m.ensures;
-      nums_are = put_nums;
-      refs_are = put_refs;
-      callers_are = c.push_reserved.ensures.items;
-      waiting_nums = left_nums;
-      waiting_refs = left_refs;
+      own_nums = of_nums.own;
+      own_refs = search rules;
+      callers_are = search rules;
+      nums_below = of_nums.below;
+      refs_below = search rules;
     }
+
+pub open-requires-clause-room : goal.open-requires-clause-room
+open-requires-clause-room c =
+    let m = c.args.m.now in
+    let s = c.requires.sound in
+    let f = taken-frame c.args.refs (body_at m c.args.place).frame c.requires.takes in
+    let many = nums-room m.callers m.nums m.refs s.waiting c.requires.few in
+    let below = s.nums_below in
+    let fit = f.nums_below in
+    omega (arith, many, below, fit)
+
+pub open-requires-2-clause-room : goal.open-requires-2-clause-room
+open-requires-2-clause-room c =
+    let m = c.args.m.now in
+    let s = c.requires.sound in
+    let f = taken-frame c.args.refs (body_at m c.args.place).frame c.requires.takes in
+    let more = refs-room m.callers m.nums m.refs s.waiting c.requires.few in
+    let below = s.refs_below in
+    let fit = f.refs_below in
+    omega (arith, more, below, fit)

@@ -26,6 +26,7 @@ returns c =
         entries_are = h.entries_are;
         layouts_are = h.layouts_are;
         known_are = h.known_are;
+        called_are = h.called_are;
         counted = h.counted;
       };
     }

@@ -9,7 +9,7 @@ returns-then-len-m c =
       taken = record {
         sound = c.requires;
         area = refl;
-        gives = λ names conf h. no_num m conf names h (omega (arith, m.nums.ok.0, c.if-len-m.true, c.len.ensures));
+        gives = λ names conf h. no_num m conf names h (omega (arith, c.if-len-m.true, c.len.ensures));
       };
       values = refl;
       room = tt;
@@ -18,14 +18,14 @@ returns-then-len-m c =
 pub returns : goal.returns
 returns c =
     let m = c.args.m.now in
-    let new = c.pop.new.self in
-    let one : length new.items + 1 ≡ length m.nums.items = search rules in
+    let new = c.take_last.new.self in
+    let one = c.take_last.ensures.len in
     record {
       taken = record {
         sound = search rules;
         area = refl;
-        gives = λ names conf h. pops_num m conf names h new.items _ (search rules) (omega (arith, one, m.nums.ok.0, c.if-len-m.false, c.len.ensures));
+        gives = λ names conf h. pops_num m conf names h new _ c.take_last.ensures.below (search rules) (omega (arith, one, c.if-len-m.false, c.len.ensures));
       };
       values = refl;
-      room = let below = c.requires.nums_below in omega (arith, one, m.nums.ok.0, new.ok.0, below);
+      room = let below = c.requires.nums_below in omega (arith, one, below);
     }

@@ -1,4 +1,4 @@
-use Rattle.std.proofs.Common.{◌≡◌, ◌+◌, ◌++◌, ◌∷◌, [], arith, rules, refl, length}
+use Rattle.std.proofs.Common.{◌≡◌, ◌+◌, arith, rules, refl, length}
 use Rattle.machine_state.proofs.Popping.{pops_ref, no_ref}
 use Rattle.machine_state.proofs.stacks.pop_ref.Goals as goal
 
@@ -10,21 +10,20 @@ returns-then-len-m c =
       area = refl;
       values = refl;
       room = tt;
-      gives = λ names conf h. no_ref m conf names h (omega (arith, m.refs.ok.0, c.if-len-m.true, c.len.ensures));
+      gives = λ names conf h. no_ref m conf names h (omega (arith, c.if-len-m.true, c.len.ensures));
     }
 
 pub returns : goal.returns
 returns c =
     let m = c.args.m.now in
-    let new = c.pop.new.self in
-    let split : m.refs.items ≡ new.items ++ c.in-Some.word ∷ [] = search rules in
-    let one : length new.items + 1 ≡ length m.refs.items = search rules in
+    let new = c.take_last.new.self in
+    let one = c.take_last.ensures.len in
     record {
       sound = search rules;
       area = refl;
       values = refl;
-      room = let below = c.requires.refs_below in omega (arith, one, m.refs.ok.0, new.ok.0, below);
+      room = let below = c.requires.refs_below in omega (arith, one, below);
       gives = λ names conf h.
-          let p = pops_ref m conf names h new.items c.in-Some.word split (omega (arith, one, m.refs.ok.0, c.if-len-m.false, c.len.ensures)) in
+          let p = pops_ref m conf names h new c.take_last.result c.take_last.ensures.below c.take_last.ensures.own (omega (arith, one, c.if-len-m.false, c.len.ensures)) in
           (p.0, p.1, p.2, p.3, p.4);
     }

@@ -10,7 +10,7 @@ returns-then-len-ge-FRAME_WORDS c =
     record {
       sound = c.requires;
       size = tt;
-      does = λ conf h. pushes_none m conf h.names h.held c.args.z (omega (arith, m.nums.ok.0, c.if-len-ge-FRAME_WORDS.true, c.len.ensures));
+      does = λ conf h. pushes_none m conf h.names h.held c.args.z (omega (arith, c.if-len-ge-FRAME_WORDS.true, c.len.ensures));
     }
 
 pub returns : goal.returns
@@ -22,6 +22,6 @@ returns c =
       sound = takes.sound;
       size = takes.size;
       does = λ conf h. subst (λ s. Does s put.result put.new.m)
-          (pushes_num m conf h.names h.held c.args.z (omega (arith, m.nums.ok.0, c.if-len-ge-FRAME_WORDS.false, c.len.ensures)))
+          (pushes_num m conf h.names h.held c.args.z (omega (arith, c.if-len-ge-FRAME_WORDS.false, c.len.ensures)))
           (takes.does conf h);
     }

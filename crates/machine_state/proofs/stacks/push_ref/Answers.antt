@@ -8,5 +8,5 @@ returns-then-len-ge-FRAME_WORDS c =
     record {
       sound = c.requires;
       size = tt;
-      does = λ names v conf h d. pushes_no_ref m conf names h v (omega (arith, m.refs.ok.0, c.if-len-ge-FRAME_WORDS.true, c.len.ensures));
+      does = λ names v conf h d. pushes_no_ref m conf names h v (omega (arith, c.if-len-ge-FRAME_WORDS.true, c.len.ensures));
     }

@@ -14,5 +14,5 @@ returns c =
       size = refl;
       does = λ names v conf h d.
           let denoted = subst (λ to. DenotesIn m.sw names to v) (sym (ap object_in c.word.ensures ∙ named-back m.sw names c.args.to v c.sound.ensures d)) d in
-          ([], with_ref conf c.args.slot v, refl, refl, record { names = names; held = sets_ref m conf names h c.args.slot c.word.result v c.requires.slot denoted });
+          ([], with_ref conf c.args.slot v, refl, refl, record { names = names; held = sets_ref m conf names h c.set.new.self c.args.slot c.word.result v c.set.ensures.below c.set.ensures.own c.requires.slot denoted });
     }

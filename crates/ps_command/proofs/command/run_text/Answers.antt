@@ -1,5 +1,5 @@
 use Rattle.ps_outside.specs.Outside.{Rose}
-use Rattle.ps_command.specs.inside.Steps.{run_in}
+use Rattle.ps_words.specs.Reading.{run_in}
 use Rattle.ps_command.proofs.Causes.{why_refused}
 use Rattle.ps_command.proofs.Programs.{runnable}
 use Rattle.ps_command.proofs.command.run_text.Goals as goal
@@ -16,4 +16,4 @@ returns-in-Err-clause-why g c =
     let shelf = c.args.shelf.now in
     let text = c.args.text.now in
     why_refused (host.outside c.args.host) (host.outside c.refuse-status.new.host) (g.S.Shelf.holds shelf) (g.S.Shelf.lacks shelf)
-    (Rose (g.S.Shelf.faults shelf) (g.S.Shelf.faults shelf)) (run_in c.args.run.now) text c.refuse-status.result c.requires.gives (c.refuse-status.ensures text c.in-Err.ensures.refused)
+    (Rose (g.S.Shelf.faults shelf) (g.S.Shelf.faults shelf)) (run_in c.args.run.now) text c.refuse-status.result c.requires.gives (c.refuse-status.ensures.why text c.in-Err.ensures.refused) c.refuse-status.ensures.device

@@ -1,5 +1,5 @@
 use Rattle.std.proofs.Common.{◌∙◌, sym}
-use Rattle.ps_command.specs.Source.{mistyped, unbuilt_call}
+use Rattle.ps_causes.specs.Source.{mistyped, unbuilt_call}
 use Rattle.ps_command.proofs.compile.checked.Goals as goal
 
 pub returns-in-Err-clause-refused : goal.returns-in-Err-clause-refused

@@ -1,34 +1,21 @@
-use Rattle.std.proofs.Common.{◌∙◌, ap, subst, inl}
-use Rattle.std.specs.Prelude.{Err}
-use Rattle.ps_base.specs.CodeUnit.{unit_view}
-use Rattle.stack_machine.specs.Loaded.{Loads}
-use Rattle.ps_port.proofs.Telling.{all_none}
-use Rattle.ps_command.specs.inside.Steps.{run_in}
-use Rattle.ps_command.proofs.Ending.{has_frame, ready, never_begins, full_told}
+use Rattle.ps_words.specs.Reading.{run_in}
+use Rattle.ps_volumes.proofs.Settled.{device_kept, kept_by, settled_by}
+use Rattle.ps_causes.specs.Steps as steps
+use Rattle.ps_command.proofs.Ending.{run_behind}
 use Rattle.ps_command.proofs.execute.run_program.Goals as goal
 
-pub run_loaded-requires-clause-ready : goal.run_loaded-requires-clause-ready
-run_loaded-requires-clause-ready g c =
-    let run = run_in c.args.words.now in
-    let program = c.requires.program.0 in
-    let old = c.in-Ok-machine.m in
-    let is = subst (λ a. Loads (unit_view c.args.unit) c.args.words.now.turns c.args.input.items old c.loaded.new.m a) c.in-Ok-loaded.is c.loaded.ensures in
-    (run, c.args.input.items, program, ready c.args.unit run c.args.input.items program c.program_runs_as_meant.ensures c.units_weigh_as_counted.ensures c.requires.program.1 old c.loaded.new.m c.in-Ok-machine.ensures.size_is is)
-
-pub unreachable-requires : goal.unreachable-requires
-unreachable-requires g c =
-    let is = subst (λ a. Loads (unit_view c.args.unit) c.args.words.now.turns c.args.input.items c.in-Ok-machine.m c.loaded.new.m a) (c.in-Err-Damaged.is ∙ ap Err c.in-Err-Damaged.field-0-is) c.loaded.ensures in
-    is.0 (has_frame c.args.unit c.requires.program.0 c.requires.program.1)
-
-pub returns-in-Err-Full : goal.returns-in-Err-Full
-returns-in-Err-Full g c program r =
+pub returns-in-Ok-attached-clause-why : goal.returns-in-Ok-attached-clause-why
+returns-in-Ok-attached-clause-why g c program r =
     let host = g.H.Host in
-    let run = run_in c.args.words.now in
-    let old = c.in-Ok-machine.m in
-    let top = c.in-Err-Full.top in
-    let wanted = c.in-Err-Full.wanted in
-    let size = c.in-Err-Full.size in
-    let is = subst (λ a. Loads (unit_view c.args.unit) c.args.words.now.turns c.args.input.items old c.loaded.new.m a) (c.in-Err-Full.is ∙ ap Err c.in-Err-Full.field-0-is) c.loaded.ensures in
-    let none = never_begins c.args.unit run c.args.input.items program c.program_runs_as_meant.ensures c.units_weigh_as_counted.ensures r old c.loaded.new.m top wanted size c.in-Ok-machine.ensures.size_is is in
-    inl (full_told (host.outside c.args.host) (host.outside c.args.host) (host.outside c.area_full-status.new.host) run c.args.input.items program _ top wanted size c.area_full-status.result none.0 none.1
-    (all_none (host.outside c.args.host)) c.area_full-status.ensures)
+    let old = host.outside c.args.host in
+    let mid = host.outside c.in-Ok-attached.host in
+    let new = host.outside c.run_attached.result.1 in
+    let is = c.in-Ok-attached.ensures.ok in
+    steps.ran (run_behind old mid new (run_in c.args.words.now) c.args.input.items program c.run_attached.result.0 is.told is.output (c.run_attached.ensures.ran program r))
+    (settled_by old mid new is c.run_attached.ensures.left)
+
+pub returns-in-Ok-attached-clause-device : goal.returns-in-Ok-attached-clause-device
+returns-in-Ok-attached-clause-device g c =
+    let host = g.H.Host in
+    kept_by (host.outside c.args.host) (host.outside c.in-Ok-attached.host) (host.outside c.run_attached.result.1) c.in-Ok-attached.ensures.ok c.run_attached.ensures.left
+    (g.met.H.Host.is_image c.run_attached.result.1)

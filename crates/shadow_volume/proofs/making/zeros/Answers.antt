@@ -1,4 +1,4 @@
-use Rattle.std.proofs.Common.{◌+◌, ℕ, List, length, subst, sym, refl, arith}
+use Rattle.std.proofs.Common.{◌+◌, ℕ, List, length, subst, sym, refl, ◌∙◌, arith}
 use Rattle.ps_outside.proofs.Moments.{along_then, along_now}
 use Rattle.shadow_volume.specs.Making.{IsZeroed}
 use Rattle.shadow_volume.proofs.Gate.{shut_stays, zeroed_more}
@@ -17,6 +17,7 @@ loop-at-preserved g c =
       shut = along_then inv.shut c.write_at.ensures.images (λ image after. shut_stays _ _ after.from image (omega arith) (along_now inv.shut after.from after.was) after.by);
       told = along_then inv.told call.told (along_now inv.told);
       counts = let one = inv.counts in let two = call.counts in omega arith;
+      output = call.output ∙ inv.output;
       zeroed = λ bytes now.
           let after = c.in_ok-write_at.ensures.contents bytes now in
           let was = inv.zeroed after.from after.was in

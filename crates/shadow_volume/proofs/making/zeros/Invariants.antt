@@ -1,4 +1,4 @@
-use Rattle.std.proofs.Common.{ℕ, ◌-◌, ◌≤◌, List}
+use Rattle.std.proofs.Common.{◌≡◌, ℕ, ◌-◌, ◌≤◌, List}
 use Rattle.ps_outside.specs.Outside.{Leaves, TellsNothing, After}
 use Rattle.shadow_volume.specs.Making.{IsShut, IsZeroed}
 use Rattle.shadow_volume.proofs.making.zeros.Given as goal
@@ -13,6 +13,7 @@ invariant-loop-at g l =
       shut : Leaves (outside l.fn.host) (outside l.host) IsShut;
       told : TellsNothing (outside l.fn.host) (outside l.host);
       counts : (outside l.fn.host).device_faults ≤ (outside l.host).device_faults;
+      output : (outside l.host).output_faults ≡ (outside l.fn.host).output_faults;
       zeroed : (bytes : List ℕ) → (outside l.host).contents bytes → After (outside l.fn.host).contents (IsZeroed l.from l.at) bytes;
     }
 

@@ -23,3 +23,6 @@ returns-clause-copied g c = on_ok_weaker c.write_half.result (λ wrote bytes now
       by = page_copied c.args.committed c.args.page c.read_half.new.into after.from bytes c.requires.fit c.requires.page says.head.long
           (c.in_ok-read_half.ensures.read after.from was) c.read_half.ensures.size after.by;
     }) c.write_half.ensures.wrote
+
+pub returns-clause-stays : goal.returns-clause-stays
+returns-clause-stays g c = on_ok_weaker c.write_half.result (λ wrote x now. (_, wrote x (c.read_half.ensures.looks.same.kept x now))) c.write_half.ensures.written

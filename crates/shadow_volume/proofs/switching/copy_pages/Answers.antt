@@ -17,6 +17,8 @@ loop-page-init g c =
       told = along_none a.clock a.told;
       counts = omega arith;
       output = refl;
+      calls = omega arith;
+      stays = λ x now. (x, now);
     }
 
 pub returns-in_err-place_page-clause-images : goal.returns-in_err-place_page-clause-images
@@ -48,4 +50,6 @@ loop-page-preserved g c =
       told = along_then inv.told works.told (along_now inv.told);
       counts = let one = inv.counts in let two = works.counts in omega arith;
       output = works.output ∙ inv.output;
+      calls = let one = inv.calls in let two = c.place_page.ensures.calls in omega arith;
+      stays = λ x now. let mid = inv.stays x now in c.in_ok-place_page.ensures.stays mid.0 mid.1;
     }

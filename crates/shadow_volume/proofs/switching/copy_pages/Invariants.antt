@@ -1,6 +1,6 @@
-use Rattle.std.proofs.Common.{◌≡◌, ◌≤◌, List, ℕ}
+use Rattle.std.proofs.Common.{◌≡◌, ◌≤◌, ◌+◌, ◌*◌, List, ℕ}
 use Rattle.ps_outside.specs.Outside.{Leaves, TellsNothing, After}
-use Rattle.shadow_volume.specs.Switching.{IsKept, IsCopied}
+use Rattle.shadow_volume.specs.Switching.{IsKept, IsCopied, StaysHeld}
 use Rattle.shadow_volume.proofs.switching.copy_pages.Given as goal
 
 -- what is committed is kept, and the pages so far stand in the other half
@@ -13,4 +13,6 @@ invariant-loop-page g l =
       told : TellsNothing (outside l.fn.host) (outside l.host);
       counts : (outside l.fn.host).device_faults ≤ (outside l.host).device_faults;
       output : (outside l.host).output_faults ≡ (outside l.fn.host).output_faults;
+      calls : (outside l.host).device_calls ≤ (outside l.fn.host).device_calls + 2 * l.page;
+      stays : StaysHeld (outside l.fn.host) (outside l.host);
     }

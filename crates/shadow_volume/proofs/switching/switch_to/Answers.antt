@@ -26,3 +26,6 @@ returns-clause-switched g c = on_ok_weaker c.write_synced.result (λ durable.
     let o = g.H.Host.outside in
     selector_switched (o c.args.host.now) (o c.write_root.new.host) (o c.write_synced.new.host) c.args.committed c.args.staged.now c.args.next c.requires.alive.fit c.requires.fit
     c.in_ok-write_root.ensures.rooted c.selector_of.result c.selector_of.ensures durable) c.write_synced.ensures.durable
+
+pub returns-clause-stays : goal.returns-clause-stays
+returns-clause-stays g c = on_ok_weaker c.write_synced.result (λ stays x now. let mid = c.in_ok-write_root.ensures.stays x now in stays mid.0 mid.1) c.write_synced.ensures.stays

@@ -41,3 +41,6 @@ returns-clause-rooted g c = on_ok_weaker c.write_synced.result (λ durable.
     root_rooted (o c.args.host.now) (o c.prepare.new.host) (o c.write_synced.new.host) c.args.committed c.args.staged.now c.args.next c.requires.alive.fit c.requires.fit
     c.root_at.result _ c.logical_pages.result c.root_at.ensures c.root_bytes-bytes.ensures.size c.logical_pages.ensures c.in_ok-prepare.ensures.ready
     c.root_bytes-bytes.result c.root_bytes-bytes.ensures.is c.root_bytes-bytes.ensures.size (omega arith) (used_low c.args.committed.pages c.args.next c.requires.fit) durable) c.write_synced.ensures.durable
+
+pub returns-clause-stays : goal.returns-clause-stays
+returns-clause-stays g c = on_ok_weaker c.write_synced.result (λ stays x now. let mid = c.in_ok-prepare.ensures.stays x now in stays mid.0 mid.1) c.write_synced.ensures.stays

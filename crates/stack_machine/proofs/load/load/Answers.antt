@@ -3,8 +3,8 @@ use Rattle.ps_base.specs.CodeUnit.{unit_view}
 use Rattle.ps_stepping.specs.Config.{frame_in, frame_words}
 use Rattle.heap_ops.specs.Layouts.{AreSo as AreLaid}
 use Rattle.heap_ops.specs.declared.layouts.Layouts.{Layouts}
-use Rattle.machine_state.specs.declared.waiting.Waiting.{Waiting}
-use Rattle.machine_state.specs.Waiting.{IsOrderly, HasRoom}
+use Rattle.machine_state.specs.declared.known.KnownProcedures.{KnownProcedures}
+use Rattle.machine_state.specs.Known.{AreKnown as AreCalled}
 use Rattle.paired_ops.specs.Code.{IsLoaded, HasNoRoom}
 use Rattle.swizzle.specs.declared.fault.SwizzleFault.TheVariants.{AreaFull}
 use Rattle.known_classes.specs.Classes.{IsRight}
@@ -37,18 +37,13 @@ returns-in-Ok c =
     let placed = subst (λ (p : CodePlace). IsUnitPlace c.in-Ok.code u p) (sym b.place) (unit-place c.load.new.sw c.in-Ok.code u c.code_place-place.result c.sound.ensures first.is c.code_place-place.ensures) in
     let at_is : c.begin.new.m.at ≡ 0 = search rules in
     let turns_is : c.begin.new.m.turns ≡ c.args.turns = search rules in
-    let nums_are : c.begin.new.m.nums.items ≡ replicate c.begin.new.m.frame.nums (pos 0) = search rules in
-    let refs_are : c.begin.new.m.refs.items ≡ replicate c.begin.new.m.frame.refs 0 = search rules in
+    let nums_are : c.begin.new.m.nums.own ≡ replicate c.begin.new.m.frame.nums (pos 0) = search rules in
+    let refs_are : c.begin.new.m.refs.own ≡ replicate c.begin.new.m.frame.refs 0 = search rules in
     let scope_is : c.begin.new.m.scope ≡ 0 = search rules in
-    let clear = c.clear-4.ensures in
-    let waits = b.waiting in
-    let orderly = subst (λ (w : Waiting). IsOrderly w) (sym waits) clear.orderly in
-    let no_callers = ap (λ (w : Waiting). w.callers.items) waits ∙ clear.callers in
-    let no_nums = ap (λ (w : Waiting). w.nums.items) waits ∙ clear.nums in
-    let no_refs = ap (λ (w : Waiting). w.refs.items) waits ∙ clear.refs in
+    let called = subst (λ (k : KnownProcedures). AreCalled c.begin.new.m.sw none k.entries) (sym b.procedures) (c.clear-4.ensures c.begin.new.m.sw none) in
     let input_is : c.begin.new.m.input ≡ c.args.input.items = search rules in
-    begins u c.args.turns c.args.input.items c.args.m.now c.begin.new.m c.reset.new.self framed nums refs c.in-Ok.code c.reset.ensures loaded so laid known b.roomy code_is placed at_is nums_are refs_are turns_is
-    scope_is orderly no_callers no_nums no_refs input_is
+    begins u c.args.turns c.args.input.items c.args.m.now c.begin.new.m c.reset.new.self framed nums refs c.in-Ok.code c.reset.ensures loaded so laid known called b.roomy code_is placed at_is nums_are refs_are turns_is
+    scope_is b.orderly b.callers b.nums_below b.refs_below input_is
 
 pub returns-in-Err-AreaFull : goal.returns-in-Err-AreaFull
 returns-in-Err-AreaFull c =
@@ -58,9 +53,8 @@ returns-in-Err-AreaFull c =
     let size = c.in-Err-AreaFull.size in
     let frame : IsFrame (frame_in u) = record { nums_fit = search (rules, arith); refs_fit = search (rules, arith) } in
     let full : HasNoRoom c.reset.new.self u (AreaFull top wanted size) = search rules in
-    let room = c.clear-4.ensures.orderly.room in
-    let new : Machine = record c.args.m.now { sw = c.load.new.sw; classes = c.clear.new.self; layouts = c.clear-2.new.self; vectors = c.clear-3.new.self; waiting = c.clear-4.new.self; input = c.new.result } in
-    let roomy : IsRoomy new = record { nums_room = c.requires.nums_room; refs_room = c.requires.refs_room; values_room = c.requires.values_room; waiting_room = room } in
+    let new : Machine = record c.args.m.now { sw = c.load.new.sw; classes = c.clear.new.self; layouts = c.clear-2.new.self; vectors = c.clear-3.new.self; procedures = c.clear-4.new.self; input = c.new.result } in
+    let roomy : IsRoomy new = record { room = c.requires.room; values_room = c.requires.values_room } in
     let short = no-room u c.args.m.now new c.reset.new.self top wanted size frame roomy c.reset.ensures full in
     search (rules, short)
 

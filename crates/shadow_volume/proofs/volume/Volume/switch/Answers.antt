@@ -4,7 +4,7 @@ use Rattle.shadow_volume.specs.Layout.{half_pages}
 use Rattle.shadow_volume.specs.Found.{Held}
 use Rattle.shadow_volume.specs.Standing.{seen, saved, next_note, with_zeros}
 use Rattle.shadow_volume.specs.Switching.{IsEither, IsSwitched, Was, switched}
-use Rattle.shadow_volume.proofs.Switched.{seen_images, seen_kept, seen_holds, next_fit}
+use Rattle.shadow_volume.proofs.Switched.{seen_images, seen_kept, seen_holds, seen_stays, next_fit}
 use Rattle.shadow_volume.proofs.volume.Volume.switch.Goals as goal
 
 pub returns-in-Ok-clause-switches : goal.returns-in-Ok-clause-switches
@@ -25,6 +25,10 @@ returns-in-Ok-clause-switches g c =
       holds = subst (λ (flags : List Bool). (found : Option Held) → (seen (switched c.args.used c.args.directory v.committed) flags b).contents found →
           Was (seen v.committed v.staged.items a) (λ held. with_zeros v.committed.pages (saved c.args.used c.args.directory held)) found) (sym blank)
           (seen_holds a b v.committed v.staged.items c.args.used c.args.directory fit is (g.met.H.Host.is_image c.switch_to.new.host));
+      stays = subst (λ (flags : List Bool). (found : Option Held) → Was (seen v.committed v.staged.items a) (λ held. with_zeros v.committed.pages (saved c.args.used c.args.directory held)) found →
+          (seen (switched c.args.used c.args.directory v.committed) flags b).contents found) (sym blank)
+          (seen_stays a b v.committed v.staged.items c.args.used c.args.directory fit is (g.met.H.Host.is_image c.switch_to.new.host) (g.met.H.Host.one v.host) c.in-Ok.ensures.stays);
+      calls = c.switch_to.ensures.calls;
     }
 
 pub returns-in-Err-clause-switches : goal.returns-in-Err-clause-switches
@@ -41,4 +45,6 @@ returns-in-Err-clause-switches g c =
       images = seen_images a b v.committed v.staged.items c.args.used c.args.directory fit v.committed v.staged.items images;
       kept = tt;
       holds = tt;
+      stays = tt;
+      calls = c.switch_to.ensures.calls;
     }

@@ -1,0 +1,10 @@
+mod WordLaws
+mod ReadLaws
+mod WriteLaws
+mod SpaceLaws
+mod TestLaws
+mod ChangeLaws
+mod HeldLaws
+mod SettleLaws
+mod FaultLaws
+mod OpenLaws

@@ -1,0 +1,171 @@
+-- A switch of a volume, seen as spaces.
+use Rattle.std.proofs.Common.{◌≡◌, ◌≢◌, ◌⊎◌, inl, inr, ⊎_elim, ℕ, ◌+◌, ◌-◌, ◌*◌, ◌/◌, ◌<◌, ◌≤◌, Bool, List, ◌++◌, length, get_or, take, drop, replicate, refl, sym, ◌∙◌, ap, subst, arith, length-take, Option, Some, Result, Ok, Err, OnOk}
+use Rattle.std.specs.Option.{option_map}
+use Rattle.std.proofs.lemmas.Option.{same_Some}
+use Rattle.std.proofs.lemmas.Grind.{same_number_lists}
+use Rattle.std.proofs.lemmas.List.{get_or-take, get_or_append_left, length-take-le}
+use Rattle.ps_outside.specs.Outside.{Outside, After, Along, Leaves, LeavesSame, Rose}
+use Rattle.shadow_volume.specs.Layout.{half_pages, capacity_of, pages_of_words}
+use Rattle.shadow_volume.specs.Found.{Held}
+use Rattle.shadow_volume.specs.Standing.{seen, staged_in, saved, with_zeros}
+use Rattle.shadow_volume.specs.Switching.{Switches, Was, switched}
+use Rattle.shadow_volume.specs.declared.note.Committed.{Committed}
+use Rattle.ps_port.specs.declared.host.HostFailed.{HostFailed}
+use Rattle.shadow_volume.proofs.Switched.{next_fit}
+use Rattle.obj_layout.specs.declared.vault.VaultFault.{VaultFault}
+use Rattle.obj_layout.specs.declared.vault.VaultFault.TheVariants.{Device, Output}
+use Rattle.obj_layout.specs.Stored.{Space, directed}
+use Rattle.obj_layout.specs.Storing.{Becomes, Settles, settling}
+use Rattle.obj_store.specs.Spaces.{word_at, words_of, space_of, IsSpaceIn, IsInOrder, spaces}
+use Rattle.obj_store.proofs.WordLaws.{word_same}
+use Rattle.obj_store.proofs.WriteLaws.{held_long}
+use Rattle.obj_store.specs.StoreLaws.{length_words}
+use Rattle.obj_store.proofs.SpaceLaws.{word_of, stood, told_of}
+
+-- what is seen of images through a relation
+pub along_by : {X Y : Type 0} {before now : ℕ} {old new : ℕ → X → Type 0} {P : X → Type 0} (R : X → Y → Type 0) (Q : Y → Type 0) → Along before now old new P → ((x : X) (y : Y) → P x → R x y → Q y)
+    → Along before now (λ m y. After (old m) R y) (λ m y. After (new m) R y) Q
+along_by R Q is holds = record {
+  later = is.later;
+  kept = λ m y le after. record { from = after.from; was = is.kept m after.from le after.was; by = after.by };
+  no_other = λ m y le after. record { from = after.from; was = is.no_other m after.from le after.was; by = after.by };
+  each = λ m y from until after. holds after.from y (is.each m after.from from until after.was) after.by;
+}
+
+-- what leaves the images of a volume leaves those of its space
+pub same_images : (used next : ℕ) (p q : Committed) (s t : List Bool) (a b : Outside (List ℕ)) → LeavesSame (seen p s a) (seen q t b) → LeavesSame (spaces used p s a) (spaces next q t b)
+same_images used next p q s t a b same =
+    along_by IsSpaceIn (λ (space : Space). After ((seen p s a).images a.clock) IsSpaceIn space) same (λ found space was by. record { from = found; was = was; by = by })
+
+same_words : (used : ℕ) (xs ys : List ℕ) → ((index : ℕ) → index < used → word_at xs index ≡ word_at ys index) → words_of used xs ≡ words_of used ys
+same_words used xs ys same =
+    same_number_lists (words_of used xs) (words_of used ys) (length_words used xs ∙ sym (length_words used ys))
+    (λ k lt.
+    let all : k < used = omega (arith, length_words used xs) in
+    word_of used xs k all ∙ same k all ∙ sym (word_of used ys k all))
+
+-- the words of what is saved
+pub saved_words : (used : ℕ) (bytes : List ℕ) → words_of used (take (4096 * pages_of_words used) bytes) ≡ words_of used bytes
+saved_words used bytes =
+    same_words used (take (4096 * pages_of_words used) bytes) bytes
+    (λ index lt. word_same (take (4096 * pages_of_words used) bytes) bytes index index (λ k low. get_or-take (4096 * pages_of_words used) bytes (8 * index + k) 0 (omega arith)))
+
+pub zeros_words : (used : ℕ) (front back : List ℕ) → 8 * used ≤ length front → words_of used (front ++ back) ≡ words_of used front
+zeros_words used front back long =
+    same_words used (front ++ back) front (λ index lt. word_same (front ++ back) front index index (λ k low. get_or_append_left front back 0 (8 * index + k) (omega arith)))
+
+-- what was held, before a step
+record WasHeld (volume : Outside (Option Held)) (step : Held → Held) (found : Option Held) : Type 0 where
+  pub held : Held
+  pub now : volume.contents (Some held)
+  pub is : Some (step held) ≡ found
+
+was_held : (p : Committed) (s : List Bool) (a : Outside (List ℕ)) (step : Held → Held) (found : Option Held) → Was (seen p s a) step found → WasHeld (seen p s a) step found
+was_held p s a step found was = record {
+  held = staged_in p s was.was.from;
+  now = record { from = was.was.from; was = was.was.was; by = refl };
+  is = ap (λ (o : Option Held). option_map step o) was.was.by ∙ was.by;
+}
+
+module _ (used directory : ℕ) (p q : Committed) (s t : List Bool) (a b : Outside (List ℕ)) (order : IsInOrder used p) (order_next : IsInOrder used q) where
+  full : Held → Held
+  full held = with_zeros p.pages (saved used directory held)
+
+  few : pages_of_words used ≤ half_pages p.pages
+  few = let within = order.within in omega arith
+
+  saved_space : (held : Held) → space_of used (saved used directory held) ≡ directed directory (space_of used held)
+  saved_space held = λ i. record { words = saved_words used held.bytes i; directory = directory }
+
+  full_space : (held : Held) → (seen p s a).contents (Some held) → space_of used (with_zeros p.pages (saved used directory held)) ≡ directed directory (space_of used held)
+  full_space held now =
+      let long = held_long p s a held now in
+      let front : length (take (4096 * pages_of_words used) held.bytes) ≡ 4096 * pages_of_words used = length-take-le (4096 * pages_of_words used) held.bytes (omega (arith, long, few)) in
+      (λ i. record {
+        words = zeros_words used (take (4096 * pages_of_words used) held.bytes) (replicate (4096 * half_pages p.pages - length (take (4096 * pages_of_words used) held.bytes)) 0) (omega (arith, front)) i;
+        directory = directory;
+      })
+      ∙ saved_space held
+
+  module _ (holds : (found : Option Held) → (seen q t b).contents found → Was (seen p s a) (λ held. with_zeros p.pages (saved used directory held)) found)
+      (stays : (found : Option Held) → Was (seen p s a) (λ held. with_zeros p.pages (saved used directory held)) found → (seen q t b).contents found) where
+    full_now : (held : Held) → (seen p s a).contents (Some held) → (seen q t b).contents (Some (with_zeros p.pages (saved used directory held)))
+    full_now held now = stays (Some (with_zeros p.pages (saved used directory held))) (record { from = Some held; was = now; by = refl })
+
+    pub switch_becomes : Becomes (spaces used p s a) (spaces used q t b) (directed directory)
+    switch_becomes = record {
+      told = λ space told.
+          let is = stood used p s a space told in
+          subst (λ (x : Space). (spaces used q t b).contents x) (full_space is.held is.now ∙ ap (directed directory) is.is)
+          (told_of used q t b (with_zeros p.pages (saved used directory is.held)) order_next (full_now is.held is.now));
+      no_other = λ after told.
+          let is = stood used q t b after told in
+          let was = was_held p s a (λ held. with_zeros p.pages (saved used directory held)) (Some is.held) (holds (Some is.held) is.now) in (
+            space_of used was.held,
+            told_of used p s a was.held order was.now,
+            sym (full_space was.held was.now) ∙ ap (space_of used) (same_Some (with_zeros p.pages (saved used directory was.held)) is.held was.is) ∙ is.is,
+          );
+    }
+
+    pub switch_durable : ((found : Option Held) → (seen q t b).images b.clock found → Was (seen p s a) (saved used directory) found) →
+        (space : Space) → (spaces used q t b).images b.clock space → (spaces used q t b).contents space
+    switch_durable kept space after =
+        let was = was_held p s a (saved used directory) after.from (kept after.from after.was) in
+        let is : space_of used (saved used directory was.held) ≡ space =
+        same_Some (space_of used (saved used directory was.held)) space
+        (ap (λ (o : Option Held). option_map (λ held. space_of held.note.used held) o) was.is ∙ after.by) in
+        subst (λ (x : Space). (spaces used q t b).contents x) (full_space was.held was.now ∙ sym (saved_space was.held) ∙ is)
+        (told_of used q t b (with_zeros p.pages (saved used directory was.held)) order_next (full_now was.held was.now))
+
+  pub switch_images : Leaves (seen p s a) (seen q t b) (λ found. (seen p s a).images a.clock found ⊎ Was (seen p s a) (saved used directory) found) →
+      Leaves (spaces used p s a) (spaces used q t b) (λ space. (spaces used p s a).images a.clock space ⊎ ((before : Space) × (spaces used p s a).contents before × (directed directory before ≡ space)))
+  switch_images images =
+      along_by IsSpaceIn (λ (space : Space). (spaces used p s a).images a.clock space ⊎ ((before : Space) × (spaces used p s a).contents before × (directed directory before ≡ space))) images
+      (λ found space either by. one found space either by)
+    where
+      one : (found : Option Held) (space : Space) → ((seen p s a).images a.clock found ⊎ Was (seen p s a) (saved used directory) found) → IsSpaceIn found space →
+          (spaces used p s a).images a.clock space ⊎ ((before : Space) × (spaces used p s a).contents before × (directed directory before ≡ space))
+      one found space (inl old) by = inl (record { from = found; was = old; by = by })
+      one found space (inr new) by =
+          let was = was_held p s a (saved used directory) found new in
+          inr (
+            space_of used was.held,
+            told_of used p s a was.held order was.now,
+            sym (saved_space was.held)
+                ∙ same_Some (space_of used (saved used directory was.held)) space (ap (λ (o : Option Held). option_map (λ held. space_of held.note.used held) o) was.is ∙ by),
+          )
+
+pub switched_order : (used directory : ℕ) (p q : Committed) → IsInOrder used p → 1 ≤ used → directory < used → q ≡ switched used directory p → IsInOrder used q
+switched_order used directory p q order some below is = subst (λ (c : Committed). IsInOrder used c) (sym is) (record {
+  fit = next_fit p used directory order.fit some order.within below;
+  from = omega arith;
+  within = order.within;
+})
+
+pub switch_settles : (used directory : ℕ) (p q : Committed) (s t : List Bool) (a b : Outside (List ℕ)) → IsInOrder used p → IsInOrder used q →
+    Switches {T = Unit {0}} {E = HostFailed} (seen p s a) (seen q t b) p.pages used directory (Ok tt) →
+    Settles {T = Unit {0}} (spaces used p s a) (spaces used q t b) (settling used) (directed directory) (Ok tt)
+switch_settles used directory p q s t a b order order_next is = record {
+  told = is.works.told;
+  images = switch_images used directory p q s t a b order order_next is.images;
+  durable = λ before space told. switch_durable used directory p q s t a b order order_next is.holds is.stays is.kept space;
+  counts = is.works.counts;
+  output = is.works.output;
+  cause = λ e. absurd (cc);
+  other = λ e. cc;
+  calls = is.calls;
+}
+
+pub switch_fails : (used directory : ℕ) (p q : Committed) (s t : List Bool) (a b : Outside (List ℕ)) (fault : HostFailed) → IsInOrder used p → IsInOrder used q →
+    Switches {T = Unit {0}} {E = HostFailed} (seen p s a) (seen q t b) p.pages used directory (Err fault) →
+    Settles {T = Unit {0}} (spaces used p s a) (spaces used q t b) (settling used) (directed directory) (Err Device)
+switch_fails used directory p q s t a b fault order order_next is = record {
+  told = is.works.told;
+  images = switch_images used directory p q s t a b order order_next is.images;
+  durable = tt;
+  counts = is.works.counts;
+  output = is.works.output;
+  cause = λ e. is.works.cause;
+  other = λ e. cc;
+  calls = tt;
+}

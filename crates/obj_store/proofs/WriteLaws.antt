@@ -1,0 +1,196 @@
+-- Words that are put page by page.
+use Rattle.std.proofs.Common.{◌≡◌, ◌⊎◌, inl, inr, ℕ, ◌+◌, ◌-◌, ◌*◌, ◌/◌, ◌^◌, ◌<◌, ◌≤◌, min, max, Bool, true, false, List, length, get_or, set, take, drop, refl, sym, ◌∙◌, ap, subst, arith, length-drop, length-take, Option, Some, Result, Ok, Err, OnOk}
+use Rattle.std.specs.Option.{option_map}
+use Rattle.std.proofs.lemmas.Option.{same_Some}
+use Rattle.std.proofs.lemmas.List.{get_or_past}
+use Rattle.ps_outside.specs.Outside.{Outside, After, LeavesSame, SameContents, IsDeviceCall}
+use Rattle.ps_outside.proofs.Moments.{along_then, along_now, same_as}
+use Rattle.ps_port.specs.Disk.{written, IsOutside}
+use Rattle.ps_port.specs.DiskLaws.{written_elsewhere, length-written}
+use Rattle.shadow_volume.specs.Layout.{half_pages}
+use Rattle.shadow_volume.specs.Found.{Held}
+use Rattle.shadow_volume.specs.Standing.{seen, staged_in, held_in}
+use Rattle.shadow_volume.specs.Staging.{page_of, with_page}
+use Rattle.shadow_volume.specs.Attaching.{Looks}
+use Rattle.shadow_volume.specs.declared.note.Committed.{Committed}
+use Rattle.shadow_volume.proofs.Gate.{written_inside}
+use Rattle.shadow_volume.proofs.Pages.{length_staged}
+use Rattle.obj_store.specs.Spaces.{word_at}
+use Rattle.obj_store.specs.Words.{IsApart, IsPut, HoldsPut}
+use Rattle.obj_store.specs.Staging.{Stages, Turns, Marks}
+use Rattle.obj_store.proofs.WordLaws.{word_same}
+use Rattle.obj_store.proofs.ReadLaws.{page_word, seen_kept}
+
+either : (m n : ℕ) → (m < n) ⊎ (n ≤ m)
+either m n = grind arith
+
+-- what a volume holds has all its pages
+pub held_long : (committed : Committed) (staged : List Bool) (outside : Outside (List ℕ)) (held : Held) → (seen committed staged outside).contents (Some held) →
+    length held.bytes ≡ 4096 * half_pages committed.pages
+held_long committed staged outside held now =
+    ap (λ (h : Held). length h.bytes) (sym (same_Some (staged_in committed staged now.from) held now.by)) ∙ length_staged committed staged now.from
+
+-- a page that is put holds the words that were put into it
+module _ (page half at : ℕ) (put buffer from : List ℕ) (held : Held) (below : page < half) (long : length held.bytes ≡ 4096 * half) (is : buffer ≡ page_of page held) (size : length buffer ≡ 4096)
+    (low high : ℕ) (puts : IsPut (512 * page) low high at put buffer from) (from_low : 512 * page ≤ low) (to_high : high ≤ 512 * page + 512) where
+  size_from : length from ≡ 4096
+  size_from = puts.long ∙ size
+
+  in_page : (index : ℕ) → 512 * page ≤ index → index < 512 * page + 512 → word_at (written (4096 * page) from held.bytes) index ≡ word_at from (index - 512 * page)
+  in_page index at_least below_end =
+      word_same (written (4096 * page) from held.bytes) from index (index - 512 * page) (λ k lt.
+      written_inside (4096 * page) from held.bytes (8 * index + k) (omega (arith, long)) (omega arith) (omega (arith, size_from))
+      ∙ ap (λ (p : ℕ). get_or from p 0) (let same : 8 * index + k - 4096 * page ≡ 8 * (index - 512 * page) + k = omega arith in same))
+
+  long_written : length (written (4096 * page) from held.bytes) ≡ length held.bytes
+  long_written =
+      omega (arith, length-written (4096 * page) from held.bytes, length-take (4096 * page) held.bytes, length-drop (4096 * page + length from) held.bytes, size_from, long)
+
+  out_of_page : (index : ℕ) → IsApart (512 * page) (512 * page + 512) index → word_at (written (4096 * page) from held.bytes) index ≡ word_at held.bytes index
+  out_of_page index apart =
+      word_same (written (4096 * page) from held.bytes) held.bytes index index (λ k lt. by k lt (either (8 * index + k) (length held.bytes)))
+    where
+      out : (k : ℕ) → k < 8 → IsApart (512 * page) (512 * page + 512) index → IsOutside (4096 * page) (length from) (8 * index + k)
+      out k lt (inl before) = inl (omega arith)
+      out k lt (inr behind) = inr (omega (arith, size_from))
+
+      by : (k : ℕ) → k < 8 → (8 * index + k < length held.bytes) ⊎ (length held.bytes ≤ 8 * index + k) →
+          get_or (written (4096 * page) from held.bytes) (8 * index + k) 0 ≡ get_or held.bytes (8 * index + k) 0
+      by k lt (inl fits) = written_elsewhere (4096 * page) from held.bytes (8 * index + k) fits (out k lt apart)
+      by k lt (inr past) =
+          get_or_past (written (4096 * page) from held.bytes) (8 * index + k) 0 (omega (arith, long_written)) ∙ sym (get_or_past held.bytes (8 * index + k) 0 past)
+
+  pub page_put : HoldsPut low high at put held (with_page page from held)
+  page_put = record {
+    note = refl;
+    long = long_written;
+    here = λ index at_least below_end. in_page index (omega arith) (omega arith) ∙ puts.here index at_least below_end;
+    elsewhere = λ index apart. by index apart (either index (512 * page)) (either index (512 * page + 512));
+  }
+    where
+      by : (index : ℕ) → IsApart low high index → (index < 512 * page) ⊎ (512 * page ≤ index) → (index < 512 * page + 512) ⊎ (512 * page + 512 ≤ index) →
+          word_at (written (4096 * page) from held.bytes) index ≡ word_at held.bytes index
+      by index apart (inl before) other = out_of_page index (inl before)
+      by index apart (inr here) (inr behind) = out_of_page index (inr behind)
+      by index apart (inr here) (inl within) = in_page index here within ∙ puts.elsewhere index here within apart ∙ page_word page held buffer index is here within
+
+-- a page that was read, changed and put
+pub part_turns : (a b c : Outside (List ℕ)) (p q r : Committed) (s t u : List Bool) (page at low high : ℕ) (put buffer from : List ℕ) →
+    SameContents a b → q ≡ p → t ≡ s → page < half_pages p.pages → length buffer ≡ 4096 →
+    ((held : Held) → (seen p s a).contents (Some held) → buffer ≡ page_of page held) → IsPut (512 * page) low high at put buffer from → 512 * page ≤ low → high ≤ 512 * page + 512 →
+    ((found : Option Held) → (seen q t b).contents found → (seen r u c).contents (option_map (with_page page from) found)) →
+    ((found : Option Held) → (seen r u c).contents found → After (seen q t b).contents (λ before after. option_map (with_page page from) before ≡ after) found) →
+    Turns (seen p s a) (seen r u c) (HoldsPut low high at put)
+part_turns a b c p q r s t u page at low high put buffer from same is_q is_t below size was_read puts from_low to_high stays back = record {
+  forth = λ before was.
+      (with_page page from before, stays (Some before) (seen_kept p q s t a b is_q is_t same (Some before) was), step before was);
+  back = λ after now.
+      let found = back (Some after) now in
+      let before = staged_in q t found.was.from in
+      let there : (seen q t b).contents (Some before) = record { from = found.was.from; was = found.was.was; by = refl } in
+      let was = seen_kept q p t s b a (sym is_q) (sym is_t) (record { kept = same.no_other; no_other = same.kept }) (Some before) there in
+      let is : with_page page from before ≡ after = same_Some (with_page page from before) after (ap (λ (o : Option Held). option_map (with_page page from) o) found.was.by ∙ found.by) in
+      (before, was, subst (λ (h : Held). HoldsPut low high at put before h) is (step before was));
+}
+  where
+    step : (before : Held) → (seen p s a).contents (Some before) → HoldsPut low high at put before (with_page page from before)
+    step before was = page_put page (half_pages p.pages) at put buffer from before below (held_long p s a before was) (was_read before was) size low high puts from_low to_high
+
+pub turns_then : (a b c : Outside (Option Held)) (one two whole : Held → Held → Type 0) → Turns a b one → Turns b c two → ((x y z : Held) → one x y → two y z → whole x z) → Turns a c whole
+turns_then a b c one two whole first next joins = record {
+  forth = λ before was.
+      let mid = first.forth before was in
+      let end = next.forth mid.0 mid.1 in
+      (end.0, end.1, joins before mid.0 end.0 mid.2 end.2);
+  back = λ after now.
+      let mid = next.back after now in
+      let start = first.back mid.0 mid.1 in
+      (start.0, start.1, joins start.0 mid.0 after start.2 mid.2);
+}
+
+-- words behind words
+pub puts_join : (low mid high at : ℕ) (put : List ℕ) (x y z : Held) → low ≤ mid → mid ≤ high → HoldsPut low mid at put x y → HoldsPut mid high at put y z → HoldsPut low high at put x z
+puts_join low mid high at put x y z up on first next = record {
+  note = next.note ∙ first.note;
+  long = next.long ∙ first.long;
+  here = λ index at_least below. here index at_least below (either index mid);
+  elsewhere = λ index apart. next.elsewhere index (after index apart) ∙ first.elsewhere index (before index apart);
+}
+  where
+    after : (index : ℕ) → IsApart low high index → IsApart mid high index
+    after index (inl lt) = inl (omega arith)
+    after index (inr ge) = inr ge
+
+    before : (index : ℕ) → IsApart low high index → IsApart low mid index
+    before index (inl lt) = inl lt
+    before index (inr ge) = inr (omega arith)
+
+    here : (index : ℕ) → low ≤ index → index < high → (index < mid) ⊎ (mid ≤ index) → word_at z.bytes index ≡ get_or put (index - at) 0
+    here index at_least below (inr there) = next.here index there below
+    here index at_least below (inl there) = next.elsewhere index (inl there) ∙ first.here index at_least there
+
+pub marks_then : (from mid to : ℕ) (a b c : List Bool) → Marks from mid a b → Marks mid to b c → Marks from to a c
+marks_then from mid to a b c first next = record {
+  kept = λ page is. next.kept page (first.kept page is);
+  marked = λ page at_least below. by page at_least below (either page mid);
+}
+  where
+    by : (page : ℕ) → from ≤ page → page < to → (page < mid) ⊎ (mid ≤ page) → get_or c page false ≡ true
+    by page at_least below (inl before) = next.kept page (first.marked page at_least before)
+    by page at_least below (inr there) = next.marked page there below
+
+pub stages_looks : (p q : Committed) (s t : List Bool) (a b : Outside (List ℕ)) (most : ℕ) → Looks a b most → Stages (seen p s a) (seen q t b) most
+stages_looks p q s t a b most looks = record {
+  told = looks.told;
+  images = same_as a b held_in looks.images;
+  counts = looks.counts;
+  output = looks.output;
+  calls = looks.calls;
+}
+
+pub stages_put : {T E : Type 0} (result : Result T E) (p q : Committed) (s t : List Bool) (a b : Outside (List ℕ)) → IsDeviceCall a b result → LeavesSame (seen p s a) (seen q t b) → Stages (seen p s a) (seen q t b) 1
+stages_put result p q s t a b call images = record {
+  told = call.told;
+  images = images;
+  counts = call.counts;
+  output = call.output;
+  calls = let is = call.calls in omega arith;
+}
+
+pub stages_then : {X : Type 0} (a b c : Outside X) (m n most : ℕ) → Stages a b m → Stages b c n → m + n ≤ most → Stages a c most
+stages_then a b c m n most first next fits = record {
+  told = along_then first.told next.told (along_now first.told);
+  images = along_then first.images next.images (along_now first.images);
+  counts = let one = first.counts in let two = next.counts in omega arith;
+  output = next.output ∙ first.output;
+  calls = let one = first.calls in let two = next.calls in omega arith;
+}
+
+-- the next page of a range of words
+pub next_put : (at count page : ℕ) (put : List ℕ) (x y z : Held) → 512 * page < at + count → at < 512 * page + 512 →
+    HoldsPut at (max at (min (at + count) (512 * page))) at put x y → HoldsPut (max at (512 * page)) (min (at + count) (512 * page + 512)) at put y z →
+    HoldsPut at (max at (min (at + count) (512 * (page + 1)))) at put x z
+next_put at count page put x y z starts ends first next =
+    let mid : max at (min (at + count) (512 * page)) ≡ max at (512 * page) = omega arith in
+    let high : max at (min (at + count) (512 * (page + 1))) ≡ min (at + count) (512 * page + 512) = omega arith in
+    subst (λ (n : ℕ). HoldsPut at n at put x z) (sym high)
+    (puts_join at (max at (512 * page)) (min (at + count) (512 * page + 512)) at put x y z (omega arith) (omega arith) (subst (λ (n : ℕ). HoldsPut at n at put x y) mid first) next)
+
+-- the calls of the pages of a range
+pub calls_fit : (at count page first : ℕ) → first ≡ at / 512 → first ≤ page → page < (at + count + 511) / 512 → 2 * (page - first) + 2 ≤ count / 256 + 4
+calls_fit at count page first is low high = omega arith
+
+-- what follows from two facts of an answer
+pub on_ok_two : {T E P Q R : Type 0} (r : Result T E) → (P → Q → R) → OnOk r P → OnOk r Q → OnOk r R
+on_ok_two (Ok x) f p q = f p q
+on_ok_two (Err e) f p q = tt
+
+-- a step behind calls that only look
+pub turns_looks : (p q : Committed) (s t : List Bool) (a b : Outside (List ℕ)) (c : Outside (Option Held)) (step : Held → Held → Type 0) → q ≡ p → t ≡ s → SameContents a b →
+    Turns (seen q t b) c step → Turns (seen p s a) c step
+turns_looks p q s t a b c step is_q is_t same turns = record {
+  forth = λ before was. turns.forth before (seen_kept p q s t a b is_q is_t same (Some before) was);
+  back = λ after now.
+      let it = turns.back after now in
+      (it.0, seen_kept q p t s b a (sym is_q) (sym is_t) (record { kept = same.no_other; no_other = same.kept }) (Some it.0) it.1, it.2);
+}

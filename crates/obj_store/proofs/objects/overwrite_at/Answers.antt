@@ -1,0 +1,47 @@
+use Rattle.std.proofs.Common.{◌≡◌, ◌+◌, ◌/◌, ◌≤◌, length, sym, subst, ◌∙◌, arith}
+use Rattle.shadow_volume.specs.Standing.{seen}
+use Rattle.shadow_volume.specs.declared.note.Committed.{Committed}
+use Rattle.obj_layout.specs.Stored.{overwritten}
+use Rattle.obj_layout.specs.Storing.{writing}
+use Rattle.obj_store.specs.Spaces.{IsInOrder}
+use Rattle.obj_store.specs.Words.{HoldsPut}
+use Rattle.obj_store.specs.Staging.{Turns}
+use Rattle.obj_store.proofs.ChangeLaws.{becomes_of, joins_overwrite}
+use Rattle.obj_store.proofs.WriteLaws.{stages_looks, stages_then, turns_looks}
+use Rattle.obj_store.proofs.objects.overwrite_at.Goals as goal
+
+pub returns-in-Ok-clause-becomes : goal.returns-in-Ok-clause-becomes
+returns-in-Ok-clause-becomes g c =
+    let o = g.H.Host.outside in
+    let v = c.args.volume.now in
+    let w = c.object_at.new.volume in
+    let z = c.write_words.new.volume in
+    let put = c.args.words.now in
+    let used = c.args.used in
+    let pid = c.args.pid in
+    let order = c.requires.order in
+    let fits = c.in_ok-_header.ensures.fits in
+    let within : pid + length put ≤ used = omega (arith, fits.within, fits.as_wanted) in
+    let same = c.object_at.ensures.same in
+    becomes_of used used v.committed z.committed v.staged.items z.staged.items (o v.host) (o z.host) (HoldsPut pid (pid + length put) pid put) (overwritten pid put)
+    (turns_looks v.committed w.committed v.staged.items w.staged.items (o v.host) (o w.host) (seen z.committed z.staged.items (o z.host)) (HoldsPut pid (pid + length put) pid put)
+    same.0 same.1 c.object_at.ensures.looks.same c.in-Ok.ensures.turns)
+    order (subst (λ (k : Committed). IsInOrder used k) (sym (c.write_words.ensures.committed ∙ same.0)) order) (λ x y is. joins_overwrite used pid put x y within is)
+
+pub returns-in-Ok-clause-stages : goal.returns-in-Ok-clause-stages
+returns-in-Ok-clause-stages g c =
+    let o = g.H.Host.outside in
+    let v = c.args.volume.now in
+    let w = c.object_at.new.volume in
+    let z = c.write_words.new.volume in
+    stages_then (seen v.committed v.staged.items (o v.host)) (seen w.committed w.staged.items (o w.host)) (seen z.committed z.staged.items (o z.host)) 2 (length c.args.words.now / 256 + 4) (writing (length c.args.words.now))
+    (stages_looks v.committed w.committed v.staged.items w.staged.items (o v.host) (o w.host) 2 c.object_at.ensures.looks) c.write_words.ensures.stages (omega arith)
+
+pub returns-in-Err-clause-stages : goal.returns-in-Err-clause-stages
+returns-in-Err-clause-stages g c =
+    let o = g.H.Host.outside in
+    let v = c.args.volume.now in
+    let w = c.object_at.new.volume in
+    let z = c.write_words.new.volume in
+    stages_then (seen v.committed v.staged.items (o v.host)) (seen w.committed w.staged.items (o w.host)) (seen z.committed z.staged.items (o z.host)) 2 (length c.args.words.now / 256 + 4) (writing (length c.args.words.now))
+    (stages_looks v.committed w.committed v.staged.items w.staged.items (o v.host) (o w.host) 2 c.object_at.ensures.looks) c.write_words.ensures.stages (omega arith)

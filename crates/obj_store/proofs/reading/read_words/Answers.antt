@@ -1,0 +1,49 @@
+use Rattle.std.proofs.Common.{◌≡◌, ◌∙◌, ℕ, ◌+◌, ◌-◌, ◌/◌, ◌^◌, ◌<◌, ◌≤◌, Bool, List, length, arith, refl, sym, ap, Some}
+use Rattle.shadow_volume.specs.Layout.{capacity_of, half_pages}
+use Rattle.shadow_volume.specs.Found.{Held}
+use Rattle.shadow_volume.proofs.Looking.{looks_then}
+use Rattle.obj_store.specs.StoreLaws.{capacity_low}
+use Rattle.obj_store.proofs.ReadLaws.{page_there, seen_kept, more_read}
+use Rattle.obj_store.proofs.reading.read_words.Goals as goal
+
+pub overflow_cast-first : goal.overflow_cast-first
+overflow_cast-first g c =
+    let few = capacity_low c.args.volume.now.committed.pages c.args.volume.now.committed.note c.requires.alive.fit in
+    let within = c.requires.within in
+    omega arith
+
+pub overflow_add-at : goal.overflow_add-at
+overflow_add-at g c =
+    let few = capacity_low c.args.volume.now.committed.pages c.args.volume.now.committed.note c.requires.alive.fit in
+    let within = c.requires.within in
+    omega arith
+
+pub logical_pages-last-requires : goal.logical_pages-last-requires
+logical_pages-last-requires g c =
+    let few = capacity_low c.args.volume.now.committed.pages c.args.volume.now.committed.note c.requires.alive.fit in
+    let within = c.requires.within in
+    let fits : c.args.at + length c.args.into.now + 511 < 2 ^ 64 = omega arith in
+    fits
+
+pub overflow_cast-last : goal.overflow_cast-last
+overflow_cast-last g c =
+    let few = capacity_low c.args.volume.now.committed.pages c.args.volume.now.committed.note c.requires.alive.fit in
+    let within = c.requires.within in
+    omega (arith, c.logical_pages-last.ensures)
+
+pub loop-page-preserved : goal.loop-page-preserved
+loop-page-preserved g c =
+    let o = g.H.Host.outside in
+    let v = c.args.volume.now in
+    let w = c.loop-page.volume in
+    let inv = c.loop-page.invariant in
+    let is = c.read_part.ensures in
+    record {
+      read = λ held now. more_read c.loop-page.page c.args.at held c.args.into.now c.loop-page.into c.read_part.new.into inv.size (inv.read held now)
+          (c.in_ok-read_part.ensures.read held (seen_kept v.committed w.committed v.staged.items w.staged.items (o v.host) (o w.host) inv.committed inv.staged inv.looks.same (Some held) now));
+      size = is.size ∙ inv.size;
+      looks = looks_then (o v.host) (o w.host) (o c.read_part.new.volume.host) (c.loop-page.page - c.args.at / 512) 1 _ inv.looks is.looks (let low = c.loop-page.auto.page in omega arith);
+      committed = is.same.0 ∙ inv.committed;
+      staged = is.same.1 ∙ inv.staged;
+      alive = c.in_ok-read_part.ensures.alive;
+    }

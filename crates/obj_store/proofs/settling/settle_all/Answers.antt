@@ -1,0 +1,35 @@
+use Rattle.std.proofs.Common.{◌≡◌, ◌≤◌, sym, subst, arith}
+use Rattle.shadow_volume.specs.declared.note.Committed.{Committed}
+use Rattle.obj_store.specs.Spaces.{IsInOrder}
+use Rattle.obj_store.proofs.SettleLaws.{switch_becomes, switch_settles, switch_fails, switched_order}
+use Rattle.obj_store.proofs.settling.settle_all.Goals as goal
+
+pub returns-in-Ok-clause-becomes : goal.returns-in-Ok-clause-becomes
+returns-in-Ok-clause-becomes g c =
+    let o = g.H.Host.outside in
+    let v = c.args.volume.now in
+    let z = c.switch.new.self in
+    let order = c.requires.order in
+    let below = c.requires.below in
+    let next = switched_order c.args.used c.args.directory v.committed z.committed order (omega arith) below c.in-Ok.ensures.committed in
+    let is = c.in-Ok.ensures.switches in
+    switch_becomes c.args.used c.args.directory v.committed z.committed v.staged.items z.staged.items (o v.host) (o z.host) order next is.holds is.stays
+
+pub returns-in-Ok-clause-settles : goal.returns-in-Ok-clause-settles
+returns-in-Ok-clause-settles g c =
+    let o = g.H.Host.outside in
+    let v = c.args.volume.now in
+    let z = c.switch.new.self in
+    let order = c.requires.order in
+    let below = c.requires.below in
+    let next = switched_order c.args.used c.args.directory v.committed z.committed order (omega arith) below c.in-Ok.ensures.committed in
+    switch_settles c.args.used c.args.directory v.committed z.committed v.staged.items z.staged.items (o v.host) (o z.host) order next c.in-Ok.ensures.switches
+
+pub returns-in-Err-clause-settles : goal.returns-in-Err-clause-settles
+returns-in-Err-clause-settles g c =
+    let o = g.H.Host.outside in
+    let v = c.args.volume.now in
+    let z = c.switch.new.self in
+    let order = c.requires.order in
+    switch_fails c.args.used c.args.directory v.committed z.committed v.staged.items z.staged.items (o v.host) (o z.host) c.in-Err.field-0 order
+    (subst (λ (k : Committed). IsInOrder c.args.used k) (sym c.in-Err.ensures.same) order) c.in-Err.ensures.switches

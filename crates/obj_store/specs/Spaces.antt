@@ -1,0 +1,56 @@
+-- A volume as a space of words.
+use Rattle.std.specs.Prelude.{◌≡◌, ℕ, ◌*◌, ◌%◌, ◌^◌, ◌≤◌, Bool, List, map, Option, Some}
+use Rattle.std.specs.List.{range_with_len}
+use Rattle.std.specs.Option.{option_map}
+use Rattle.ps_outside.specs.Outside.{Outside, After}
+use Rattle.shadow_volume.specs.Layout.{number_at, capacity_of}
+use Rattle.shadow_volume.specs.Found.{Held}
+use Rattle.shadow_volume.specs.Standing.{seen, IsFit}
+use Rattle.shadow_volume.specs.declared.note.Committed.{Committed}
+use Rattle.obj_layout.specs.Stored.{Space}
+
+-- the word with this index: the number that its eight bytes spell, the low one first
+unfoldable pub word_at : List ℕ → ℕ → ℕ
+word_at bytes index = number_at (8 * index) 8 bytes % 2 ^ 64
+
+-- the first so many words
+unfoldable pub words_of : ℕ → List ℕ → List ℕ
+words_of count bytes = map (word_at bytes) (range_with_len 0 count)
+
+-- what a volume holds, as a space of so many words
+abbrev pub space_of : ℕ → Held → Space
+space_of used held = record { words = words_of used held.bytes; directory = held.note.directory }
+
+-- what was found in a file is this space; where no volume was found it is none
+abbrev pub IsSpaceIn : Option Held → Space → Type 0
+IsSpaceIn found space = option_map (λ held. space_of held.note.used held) found ≡ Some space
+
+-- what is staged, with so many words used, is this space
+abbrev pub IsStaged : ℕ → Option Held → Space → Type 0
+IsStaged used found space = option_map (space_of used) found ≡ Some space
+
+-- So many words can be used in a volume: as many as are committed, or more.
+pub record IsInOrder (used : ℕ) (committed : Committed) : Type 0 where
+  pub fit : IsFit committed.pages committed.note
+  pub from : committed.note.used ≤ used
+  pub within : used ≤ capacity_of committed.pages
+
+-- this space is staged in a volume
+pub record IsTold (used : ℕ) (committed : Committed) (volume : Outside (Option Held)) (space : Space) : Type 0 where
+  pub order : IsInOrder used committed
+  pub staged : After volume.contents (IsStaged used) space
+
+-- A volume with so many words staged, seen as spaces: a crash leaves the space that is committed in an image, and a read gives the one that is
+-- staged. Where no volume is found, or the words can't be used, there is none.
+abbrev pub spaces : ℕ → Committed → List Bool → Outside (List ℕ) → Outside Space
+spaces used committed staged outside =
+    let volume = seen committed staged outside in
+    record {
+      clock = outside.clock;
+      told = outside.told;
+      images = λ moment space. After (volume.images moment) IsSpaceIn space;
+      contents = IsTold used committed volume;
+      device_faults = outside.device_faults;
+      output_faults = outside.output_faults;
+      device_calls = outside.device_calls;
+    }

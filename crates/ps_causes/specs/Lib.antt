@@ -1,0 +1,3 @@
+pub mod Source
+pub mod Command
+pub mod Steps

@@ -1,8 +1,0 @@
-use Rattle.std.proofs.Common.{Some, refl}
-use Rattle.ps_outside.specs.Outside.{Rose}
-use Rattle.ps_command.proofs.Converse.{lacked_input as lemma}
-use Rattle.ps_command.proofs.laws.lacked_input_is_unreadable.Goals as goal
-
-pub returns : goal.returns
-returns g c before after status bytes text name run program held short prog named lacking due =
-    lemma (Some run) (g.S.Shelf.holds c.args.shelf.now) (g.S.Shelf.lacks c.args.shelf.now) (Rose before after) run text refl held program short prog name named bytes status lacking due

@@ -1,7 +1,0 @@
-use Rattle.std.proofs.Common.{Some, refl}
-use Rattle.ps_outside.specs.Outside.{Rose}
-use Rattle.ps_command.proofs.Converse.{lacked_name}
-use Rattle.ps_command.proofs.laws.lacked_name_is_unreadable.Goals as goal
-
-pub returns : goal.returns
-returns g c before after status bytes run lacking due = lacked_name (Some run) (g.S.Shelf.holds c.args.shelf.now) (g.S.Shelf.lacks c.args.shelf.now) (Rose before after) run bytes status refl lacking due

@@ -1,7 +1,0 @@
-use Rattle.std.proofs.Common.{Some, refl}
-use Rattle.ps_outside.specs.Outside.{Rose}
-use Rattle.ps_command.proofs.Converse.{long_text}
-use Rattle.ps_command.proofs.laws.long_text_is_refused.Goals as goal
-
-pub returns : goal.returns
-returns g c before after status bytes text run held long due = long_text (Some run) (g.S.Shelf.holds c.args.shelf.now) (g.S.Shelf.lacks c.args.shelf.now) (Rose before after) run text refl held bytes status long due

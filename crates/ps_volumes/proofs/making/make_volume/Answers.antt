@@ -1,0 +1,28 @@
+use Rattle.std.proofs.Common.{subst}
+use Rattle.shadow_volume.specs.Making.{IsCause}
+use Rattle.ps_volumes.proofs.Refused.{made_by, failed_by, left_by}
+use Rattle.ps_volumes.proofs.making.make_volume.Goals as goal
+
+pub returns-in-Ok : goal.returns-in-Ok
+returns-in-Ok g c =
+    let o = g.H.Host.outside in
+    let is = c.in-Ok.ensures in
+    made_by c.args.pages (o c.args.host.now) (o c.format.new.host) is.any_moment is.told is.output is.none is.made is.durable
+
+pub returns-in-Err-Device : goal.returns-in-Err-Device
+returns-in-Err-Device g c =
+    let o = g.H.Host.outside in
+    let old = o c.args.host.now in
+    let mid = o c.format.new.host in
+    let is = c.in-Err-Device.ensures in
+    failed_by c.args.pages old mid is.any_moment is.told is.output (o c.device_fault.new.host) c.device_fault.ensures.device c.device_fault.result
+    (subst (IsCause old mid) c.in-Err-Device.field-0-is is.cause) c.device_fault.ensures.answers
+
+pub returns-in-Err-AlreadyVolume : goal.returns-in-Err-AlreadyVolume
+returns-in-Err-AlreadyVolume g c =
+    let o = g.H.Host.outside in
+    let old = o c.args.host.now in
+    let mid = o c.format.new.host in
+    let is = c.in-Err-AlreadyVolume.ensures in
+    left_by c.args.pages old mid is.any_moment is.told is.output (o c.already_a_volume.new.host) c.already_a_volume.ensures.device c.in-Err-AlreadyVolume.field-0-0
+    c.already_a_volume.result (subst (IsCause old mid) c.in-Err-AlreadyVolume.field-0-is is.cause) c.already_a_volume.ensures.answers

@@ -1,0 +1,59 @@
+-- What is left of a device whose volume was attached, or couldn't be.
+use Rattle.std.specs.Prelude.{◌≡◌, ℕ, Bool, List}
+use Rattle.ps_outside.specs.Outside.{Outside, LeavesSame, TellsNothing, Settles, Rose}
+use Rattle.shadow_volume.specs.Found.{Held, a_volume, found_in}
+use Rattle.shadow_volume.specs.Attaching.{IsNoVolume}
+use Rattle.shadow_volume.specs.declared.finding.OpenFault.{OpenFault}
+use Rattle.shadow_volume.specs.declared.finding.OpenFault.TheVariants.{Device, NotAVolume, Damaged, Memory}
+use Rattle.ps_reports.specs.Answering.{Answers}
+use Rattle.ps_reports.specs.Reports.{device_line, not_a_volume_line, damaged_line, memory_line}
+
+-- a volume is found in these bytes
+pub record HasVolume (bytes : List ℕ) : Type 0 where
+  pub pages : ℕ
+  pub second : Bool
+  pub held : Held
+  pub found : found_in bytes ≡ a_volume pages second held
+
+-- The device is left as it is: at each moment of the way a crash leaves what it could leave at its start, and a read gives what it gave then.
+pub record Keeps (old new : Outside (List ℕ)) : Type 0 where
+  pub images : LeavesSame old new
+  pub contents : (bytes : List ℕ) → new.contents bytes → old.contents bytes
+
+-- Nothing was told, and a volume was found in each content; from some moment on a crash leaves only what a read gave at the start.
+pub record IsAttached (old new : Outside (List ℕ)) : Type 0 where
+  pub told : TellsNothing old new
+  pub output : new.output_faults ≡ old.output_faults
+  pub keeps : Keeps old new
+  pub settles : Settles old new
+  pub found : (bytes : List ℕ) → old.contents bytes → HasVolume bytes
+
+-- A volume was found in each content at the start; and from some moment of the way on a crash leaves only such a content.
+pub record IsSettled (old new : Outside (List ℕ)) : Type 0 where
+  pub settles : Settles old new
+  pub found : (bytes : List ℕ) → old.contents bytes → HasVolume bytes
+
+-- the report line of what was wrong with the device or with the file on it, and its status
+abbrev pub line_of : OpenFault → List ℕ
+line_of Device = device_line
+line_of (NotAVolume size gate) = not_a_volume_line size gate
+line_of (Damaged at found wanted) = damaged_line at found wanted
+line_of Memory = memory_line
+
+abbrev pub status_of : OpenFault → ℕ
+status_of Device = 6
+status_of (NotAVolume size gate) = 9
+status_of (Damaged at found wanted) = 10
+status_of Memory = 5
+
+-- Why there is no volume: the device failed, and its count rose; or each content fails the tests in this way; or there was no memory.
+pub record IsWhyNone (old new : Outside (List ℕ)) (cause : OpenFault) : Type 0 where
+  pub device : cause ≡ Device → Rose old.device_faults new.device_faults
+  pub found : (bytes : List ℕ) → old.contents bytes → IsNoVolume cause bytes
+
+-- there is none, and why is told
+pub record IsUnattached (old new : Outside (List ℕ)) (answered : ℕ) : Type 0 where
+  pub cause : OpenFault
+  pub why : IsWhyNone old new cause
+  pub answers : Answers old new (line_of cause) (status_of cause) answered
+  pub keeps : Keeps old new

@@ -1,0 +1,24 @@
+-- What is seen in a space: one object under a name.
+use Rattle.std.proofs.Common.{◌≡◌, ◌≢◌, inl, inr, ℕ, sym, ◌∙◌, ap, subst}
+use Rattle.obj_layout.specs.declared.kind.Kind.TheVariants as kind
+use Rattle.obj_layout.specs.declared.reference.Reference.{Reference}
+use Rattle.obj_layout.specs.declared.reference.Reference.TheVariants.{Pid}
+use Rattle.obj_layout.specs.Stored.{Space, HasObject}
+use Rattle.obj_layout.proofs.StoredLaws.{HasObject-one}
+use Rattle.swizzle.specs.Joint.{Shown, shown_words}
+use Rattle.heap_meaning.specs.Standing.{Seen, IsOne}
+use Rattle.volume_meaning.specs.Space.{SeenIn, with_tables}
+
+pub seen-one : (space : Space) → IsOne (SeenIn space)
+seen-one space n a b s t =
+    let names : Pid s.pid ≡ Pid t.pid = sym s.name_is ∙ t.name_is in
+    let pids : s.pid ≡ t.pid = cc in
+    let words = HasObject-one space t.pid s.words t.words (subst (λ (pid : ℕ). HasObject space pid s.words) pids s.there) t.there in
+    s.shown_is ∙ ap shown_words words ∙ sym t.shown_is
+
+-- what is seen under the name of no structure is seen there as it is
+pub seen-itself : (seen : Seen) (n : Reference) (it : Shown) → it.kind ≢ kind.Structure → with_tables seen n it → seen n it
+seen-itself seen n it other t = elim t [
+  | inl there ↦ there
+  | inr as_structure ↦ absurd (other (ap (λ (shown : Shown). shown.kind) as_structure.it_is))
+]

@@ -1,0 +1,59 @@
+-- The space of what is held: the words whose spelling stands at the front of the held bytes.
+use Rattle.std.proofs.Common.{◌≡◌, ℕ, zero, suc, ◌*◌, ◌%◌, ◌^◌, ◌<◌, ◌≤◌, Bool, true, false, nat_lt, refl, sym, ◌∙◌, ap, arith, Some}
+use Rattle.std.proofs.Common.{List, [], ◌∷◌, ◌++◌, length, length-append, drop, slice_index}
+use Rattle.std.specs.Prelude.{if◌then◌else◌}
+use Rattle.std.specs.Option.{option_map}
+use Rattle.std.proofs.lemmas.Bool.{ltb-true, false≢true}
+use Rattle.std.proofs.lemmas.List.{get_or_append_left}
+use Rattle.std.proofs.lemmas.List.FromFn.{length-map-range_with_len, get_or-map-range_with_len}
+use Rattle.std.proofs.lemmas.Grind.{same_number_lists}
+use Rattle.obj_area.specs.Words as words
+use Rattle.obj_area.specs.Words.{first_word, bytes_of, AreWords}
+use Rattle.obj_area.proofs.WordLaws as area
+use Rattle.obj_area.proofs.WordLaws.{length-bytes_of}
+use Rattle.shadow_volume.specs.Found.{Held}
+use Rattle.shadow_volume.specs.Standing.{held_in}
+use Rattle.shadow_volume.specs.declared.note.Note.{Note}
+use Rattle.volume_meaning.specs.Space.{word_at, words_of, holding, spaced, space_of, space_in}
+
+-- the word with an index below the spelled ones is one of them
+spelled-at : (ws behind : List ℕ) → AreWords ws → (k : ℕ) → k < length ws → word_at (bytes_of ws ++ behind) k ≡ slice_index ws k
+unfolding word_at first_word
+spelled-at ws behind are k below =
+    let long = length-bytes_of ws in
+    let all = length-append (bytes_of ws) behind in
+    let split = area.words_of-append (bytes_of ws) behind (omega arith) ∙ ap (λ (ns : List ℕ). ns ++ words.words_of behind) (area.words_of-bytes_of ws are) in
+    let number : first_word (drop (8 * k) (bytes_of ws ++ behind)) ≡ slice_index ws k =
+    sym (area.slice_index-words_of k (bytes_of ws ++ behind) (omega arith)) ∙ ap (λ (ns : List ℕ). slice_index ns k) split
+    ∙ get_or_append_left ws (words.words_of behind) 0 k below in
+    let low = are k in
+    ap (λ (n : ℕ). n % 2 ^ 64) number ∙ omega arith
+
+spelled-front : (ws behind : List ℕ) → AreWords ws → words_of (length ws) (bytes_of ws ++ behind) ≡ ws
+unfolding words_of
+spelled-front ws behind are =
+    let long : length (words_of (length ws) (bytes_of ws ++ behind)) ≡ length ws = length-map-range_with_len (word_at (bytes_of ws ++ behind)) 0 (length ws) in
+    same_number_lists (words_of (length ws) (bytes_of ws ++ behind)) ws long (λ k lt.
+    let below : k < length ws = omega arith in
+    get_or-map-range_with_len (word_at (bytes_of ws ++ behind)) 0 (length ws) k k 0 below (omega arith) ∙ spelled-at ws behind are k below)
+
+pub space-held : (image : List ℕ) (note : Note) (ws behind : List ℕ) → AreWords ws → note.used ≡ length ws
+    → held_in image ≡ Some (holding note (bytes_of ws ++ behind)) → space_in image ≡ Some (spaced ws note.directory)
+unfolding space_in
+space-held image note ws behind are used held =
+    ap (option_map (λ (h : Held). space_of h.note.used h)) held
+    ∙ ap (λ (words : List ℕ). Some (spaced words note.directory)) (ap (λ (n : ℕ). words_of n (bytes_of ws ++ behind)) used ∙ spelled-front ws behind are)
+
+-- each of these is below a limit, by a test of each
+abbrev pub all_below : ℕ → List ℕ → Bool
+all_below limit [] = true
+all_below limit (n ∷ ns) = if nat_lt n limit then all_below limit ns else false
+
+both-true : (a b : Bool) → (if a then b else false) ≡ true → (a ≡ true) × (b ≡ true)
+both-true true b is = (refl, is)
+both-true false b is = absurd (false≢true is)
+
+pub each-below : (limit : ℕ) (ns : List ℕ) → 1 ≤ limit → all_below limit ns ≡ true → (k : ℕ) → slice_index ns k < limit
+each-below limit [] some is k = omega arith
+each-below limit (n ∷ ns) some is zero = ltb-true n limit (both-true (nat_lt n limit) (all_below limit ns) is).0
+each-below limit (n ∷ ns) some is (suc k) = each-below limit ns some (both-true (nat_lt n limit) (all_below limit ns) is).1 k

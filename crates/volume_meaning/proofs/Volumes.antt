@@ -1,0 +1,99 @@
+-- Which images stand for which heaps: only those in which a volume is found; and a new volume for the heaps without a database, and no other.
+use Rattle.std.proofs.Common.{◌≡◌, ℕ, ◌≤◌, Bool, List, [], ◌∷◌, refl, sym, ◌∙◌, ap, subst, arith, Some}
+use Rattle.std.specs.Option.{option_map}
+use Rattle.obj_layout.specs.declared.reference.Reference.{Reference}
+use Rattle.obj_layout.specs.declared.reference.Reference.TheVariants.{Pid}
+use Rattle.obj_layout.specs.Objects.{Placed, HoldsObjects}
+use Rattle.obj_layout.specs.Stored.{Space}
+use Rattle.obj_layout.proofs.StoredLaws.{HasObject-within}
+use Rattle.shadow_volume.specs.Layout.{gate}
+use Rattle.shadow_volume.specs.Found.{Held, Found, a_volume, no_volume, damaged, found_in}
+use Rattle.shadow_volume.specs.Making.{IsNew, empty_held}
+use Rattle.shadow_volume.specs.Standing.{held_in, held_of}
+use Rattle.shadow_volume.proofs.New.{found_new}
+use Rattle.heap_meaning.specs.Paired.{paired}
+use Rattle.volume_meaning.specs.Kept.{Database, KeptHeap, AreDatabases}
+use Rattle.volume_meaning.specs.Space.{word_at, words_of, space_of, space_in, SeenIn}
+use Rattle.volume_meaning.specs.Stands.{IsDirectoryOf, SpaceStands, Stands}
+
+-- A volume is found.
+
+abbrev pub IsFoundIn : Found → Type 0
+IsFoundIn found = (pages : ℕ) × (second : Bool) × (held : Held) × (found ≡ a_volume pages second held)
+
+volume-of : (found : Found) (space : Space) → option_map (λ (held : Held). space_of held.note.used held) (held_of found) ≡ Some space → IsFoundIn found
+volume-of (a_volume pages second held) space is = (pages, second, held, refl)
+volume-of (no_volume size gate) space is = absurd (cc)
+volume-of (damaged damage) space is = absurd (cc)
+
+pub volume-found : (image : List ℕ) (heap : KeptHeap) → Stands image heap → IsFoundIn (found_in image)
+unfolding space_in held_in
+volume-found image heap s = volume-of (found_in image) s.space s.found
+
+-- images in which the same is held stand for the same heaps
+pub stands-held : (image other : List ℕ) (heap : KeptHeap) → held_in image ≡ held_in other → Stands image heap → Stands other heap
+unfolding space_in
+stands-held image other heap same s = record {
+  space = s.space;
+  found = sym (ap (option_map (λ (held : Held). space_of held.note.used held)) same) ∙ s.found;
+  stands = s.stands;
+}
+
+-- Spaces without a directory.
+
+pub stands-without : (space : Space) (objects : List Placed) (heap : KeptHeap) → HoldsObjects space.words objects → space.directory ≡ 0
+    → heap.databases ≡ [] → SpaceStands space heap
+stands-without space objects heap cut no_directory no_database = record {
+  objects = objects;
+  cut = cut;
+  names = [];
+  stands = record {
+    databases = subst AreDatabases (sym no_database) (record { few = omega arith; each = tt; once = tt });
+    directory = subst (λ (ds : List Database). IsDirectoryOf (SeenIn space) (paired []) space.directory ds) (sym no_database) no_directory;
+    both = λ pid id p. absurd (cc);
+    one_number = λ pid i j p q. absurd (cc);
+    apart = λ a b i j n p q. absurd (cc);
+  };
+}
+
+no-database : (space : Space) (names : List Reference) (databases : List Database) → space.directory ≡ 0
+    → IsDirectoryOf (SeenIn space) (paired names) space.directory databases → databases ≡ []
+no-database space names [] none is = refl
+no-database space names (d ∷ ds) none is =
+    let low = (HasObject-within space is.there.pid is.there.words is.there.there).low in
+    let same : Pid space.directory ≡ Pid is.there.pid = is.there.name_is in
+    let pid : space.directory ≡ is.there.pid = cc in
+    absurd (omega arith)
+
+pub none-without : (space : Space) (heap : KeptHeap) → space.directory ≡ 0 → SpaceStands space heap → heap.databases ≡ []
+none-without space heap none s = no-database space s.names heap.databases none s.stands.directory
+
+-- The space of a new volume: word 0 and no directory.
+
+abbrev empty_space : Space
+empty_space = record { words = 0 ∷ []; directory = 0 }
+
+space-empty : space_of 1 empty_held ≡ empty_space
+unfolding words_of word_at
+space-empty = refl
+
+space-new : (pages : ℕ) (image : List ℕ) → 32 ≤ pages → pages ≤ 131072 → IsNew pages image → gate image ≡ 1 → space_in image ≡ Some empty_space
+unfolding space_in held_in
+space-new pages image least most new opened =
+    ap (λ (found : Found). option_map (λ (held : Held). space_of held.note.used held) (held_of found)) (found_new pages image least most new opened)
+    ∙ ap (λ (s : Space). Some s) space-empty
+
+pub new-stands : (pages : ℕ) (image : List ℕ) (heap : KeptHeap) → 32 ≤ pages → pages ≤ 131072 → IsNew pages image → gate image ≡ 1
+    → heap.databases ≡ [] → Stands image heap
+new-stands pages image heap least most new opened none = record {
+  space = empty_space;
+  found = space-new pages image least most new opened;
+  stands = stands-without empty_space [] heap (omega arith, refl) refl none;
+}
+
+pub new-stands_alone : (pages : ℕ) (image : List ℕ) (heap : KeptHeap) → 32 ≤ pages → pages ≤ 131072 → IsNew pages image → gate image ≡ 1
+    → Stands image heap → heap.databases ≡ []
+new-stands_alone pages image heap least most new opened s =
+    let same : Some s.space ≡ Some empty_space = sym s.found ∙ space-new pages image least most new opened in
+    let is : s.space ≡ empty_space = cc in
+    none-without s.space heap (ap (λ (space : Space). space.directory) is) s.stands

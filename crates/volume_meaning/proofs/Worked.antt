@@ -1,0 +1,370 @@
+-- A worked space: a database whose root has one entry, a structure with an int, a string and the root. It stands for its heap. With another home of
+-- the structure, or another number of entries of the table, it doesn't.
+use Rattle.std.proofs.Common.{◌≡◌, inl, inr, ℕ, zero, suc, List, [], ◌∷◌, ◌++◌, ◌^◌, refl, sym, ◌∙◌, ap, subst, arith, pos, Some}
+use Rattle.std.specs.Prelude.{codes}
+use Rattle.obj_layout.specs.declared.kind.Kind.TheVariants as kind
+use Rattle.obj_layout.specs.declared.reference.Reference.{Reference}
+use Rattle.obj_layout.specs.declared.reference.Reference.TheVariants.{Nil, Pid}
+use Rattle.obj_layout.specs.Objects.{Placed, IsAmong}
+use Rattle.obj_layout.specs.Objects as contents
+use Rattle.obj_layout.specs.Stored.{Space}
+use Rattle.obj_area.specs.Words.{bytes_of, word_bytes}
+use Rattle.shadow_volume.specs.Standing.{held_in}
+use Rattle.swizzle.specs.Objects.{header_in, reference_at, object_in}
+use Rattle.swizzle.specs.Joint.{Shown, shown_words}
+use Rattle.heap_places.specs.Words.{int_in}
+use Rattle.heap_places.specs.Shapes.{word_in}
+use Rattle.text_forms.specs.Forms.{forms_of, forms_from, form_here, begins}
+use Rattle.ps_meaning.specs.Values.{Num, Text, Pointer}
+use Rattle.ps_meaning.specs.Objects.{Structure}
+use Rattle.heap_meaning.specs.Standing.{IsKindOf}
+use Rattle.heap_meaning.specs.Paired.{paired}
+use Rattle.volume_meaning.specs.Kept.{by_strings, an_object, a_table, Kept, KeptHeap}
+use Rattle.volume_meaning.specs.Space.{holding, IsStored, SeenIn, with_tables}
+use Rattle.volume_meaning.specs.Tables.{IsTable, IsNodeOf}
+use Rattle.volume_meaning.specs.Stands.{IsThing, IsHome, Both, AreNamed, IsDirectory, StandsUnder, SpaceStands, Stands}
+use Rattle.volume_meaning.proofs.Seen.{seen-one}
+use Rattle.volume_meaning.proofs.Spelled.{space-held, each-below}
+use Rattle.volume_meaning.proofs.Cutting.{pid, at, space_with, is-object, Follow, cut-of, seen-there, of_text, text-is}
+
+-- The words.
+
+abbrev directory : List ℕ
+directory = 0x0000000300000009 ∷ 0 ∷ 1 ∷ 0 ∷ pid 9 ∷ pid 15 ∷ pid 20 ∷ 0 ∷ []
+
+-- "c", and the empty text
+abbrev name : List ℕ
+name = 1 ∷ 0 ∷ 0x0000000100000002 ∷ 0 ∷ 0 ∷ 0x63 ∷ []
+
+abbrev password : List ℕ
+password = 1 ∷ 0 ∷ 1 ∷ 0 ∷ 0 ∷ []
+
+abbrev table : ℕ → List ℕ
+table count = 0x0000000100000007 ∷ 0 ∷ 3 ∷ 0 ∷ pid 28 ∷ 1 ∷ 1 ∷ count ∷ []
+
+abbrev node : List ℕ
+node = 0x0000000400000008 ∷ 0 ∷ 3 ∷ 0 ∷ 0 ∷ 0 ∷ pid 39 ∷ pid 45 ∷ 0 ∷ 0 ∷ 0 ∷ []
+
+-- "k"
+abbrev key : List ℕ
+key = 1 ∷ 0 ∷ 0x0000000100000002 ∷ 0 ∷ 0 ∷ 0x6b ∷ []
+
+abbrev box : ℕ → List ℕ
+box home = 0x0000000300000002 ∷ 0 ∷ 2 ∷ 0 ∷ pid 54 ∷ pid 63 ∷ pid 20 ∷ home ∷ 3 ∷ []
+
+-- "box(int n;string s;pntr t)"
+abbrev class : List ℕ
+class = 1 ∷ 0 ∷ 0x0000001a00000005 ∷ 0 ∷ 0 ∷ 0x20746e6928786f62 ∷ 0x676e697274733b6e ∷ 0x2072746e703b7320 ∷ 0x0000000000002974 ∷ []
+
+-- "hi"
+abbrev string : List ℕ
+string = 1 ∷ 0 ∷ 0x0000000200000002 ∷ 0 ∷ 0 ∷ 0x6968 ∷ []
+
+abbrev objects : ℕ → ℕ → List Placed
+objects home count =
+    at 1 directory ∷ at 9 name ∷ at 15 password ∷ at 20 (table count) ∷ at 28 node ∷ at 39 key ∷ at 45 (box home) ∷ at 54 class ∷ at 63 string ∷ []
+
+-- the space in which the structure has this home, and the table says that it has so many entries
+space : ℕ → ℕ → Space
+space home count = space_with (objects home count) 1
+
+they-follow : (home count : ℕ) → Follow 1 (objects home count)
+they-follow home count = (
+  refl,
+  is-object kind.Directory 3 1 0 (contents.directory 1) directory (omega arith) (omega arith) refl refl refl refl (omega arith, omega arith),
+  (
+    refl,
+    is-object kind.Text 0 2 1 (contents.text 1) name (omega arith) (omega arith) refl refl refl refl tt,
+    (
+      refl,
+      is-object kind.Text 0 1 0 (contents.text 0) password (omega arith) (omega arith) refl refl refl refl tt,
+      (
+        refl,
+        is-object kind.Table 1 3 0 contents.table (table count) (omega arith) (omega arith) refl refl refl refl tt,
+        (
+          refl,
+          is-object kind.Node 4 3 0 contents.node node (omega arith) (omega arith) refl refl refl refl tt,
+          (
+            refl,
+            is-object kind.Text 0 2 1 (contents.text 1) key (omega arith) (omega arith) refl refl refl refl tt,
+            (
+              refl,
+              is-object kind.Structure 3 2 0 (contents.structure 2 1) (box home) (omega arith) (omega arith) refl refl refl refl tt,
+              (
+                refl,
+                is-object kind.Text 0 5 26 (contents.text 26) class (omega arith) (omega arith) refl refl refl refl tt,
+                (
+                  refl,
+                  is-object kind.Text 0 2 2 (contents.text 2) string (omega arith) (omega arith) refl refl refl refl tt,
+                  tt,
+                ),
+              ),
+            ),
+          ),
+        ),
+      ),
+    ),
+  ),
+)
+
+-- What is seen in the space.
+
+seen-in : (home count n : ℕ) (words : List ℕ) (it : Shown) → IsAmong (at n words) (objects home count) → IsStored words
+    → it ≡ shown_words words → SeenIn (space home count) (Pid n) it
+unfolding space
+seen-in home count n words it among stored shown = seen-there (objects home count) 1 n words it (they-follow home count) among stored shown
+
+abbrev directory_shown : Shown
+directory_shown = record { kind = kind.Directory; refs = Pid 9 ∷ Pid 15 ∷ Pid 20 ∷ []; nums = 0 ∷ []; bytes = 0 }
+
+abbrev table_shown : ℕ → Shown
+table_shown count = record { kind = kind.Table; refs = Pid 28 ∷ []; nums = 1 ∷ 1 ∷ count ∷ []; bytes = 0 }
+
+abbrev node_shown : Shown
+node_shown = record { kind = kind.Node; refs = Nil ∷ Nil ∷ Pid 39 ∷ Pid 45 ∷ []; nums = 0 ∷ 0 ∷ 0 ∷ []; bytes = 0 }
+
+abbrev box_shown : ℕ → Shown
+box_shown home = record { kind = kind.Structure; refs = Pid 54 ∷ Pid 63 ∷ Pid 20 ∷ []; nums = home ∷ 3 ∷ []; bytes = 0 }
+
+directory-seen : (home count : ℕ) → SeenIn (space home count) (Pid 1) directory_shown
+unfolding header_in reference_at object_in
+directory-seen home count = seen-in home count 1 directory directory_shown (inl refl)
+    (record { flags = refl; pid = refl; chain = refl; refs = (inr (omega arith), (inr (omega arith), (inr (omega arith), tt))) }) refl
+
+name-seen : (home count : ℕ) → SeenIn (space home count) (Pid 9) (of_text 1 (0x63 ∷ []))
+unfolding header_in reference_at object_in
+name-seen home count = seen-in home count 9 name (of_text 1 (0x63 ∷ [])) (inr (inl refl)) (record { flags = refl; pid = refl; chain = refl; refs = tt }) refl
+
+password-seen : (home count : ℕ) → SeenIn (space home count) (Pid 15) (of_text 0 [])
+unfolding header_in reference_at object_in
+password-seen home count = seen-in home count 15 password (of_text 0 []) (inr (inr (inl refl)))
+    (record { flags = refl; pid = refl; chain = refl; refs = tt }) refl
+
+table-seen : (home count : ℕ) → SeenIn (space home count) (Pid 20) (table_shown count)
+unfolding header_in reference_at object_in
+table-seen home count = seen-in home count 20 (table count) (table_shown count) (inr (inr (inr (inl refl))))
+    (record { flags = refl; pid = refl; chain = refl; refs = (inr (omega arith), tt) }) refl
+
+node-seen : (home count : ℕ) → SeenIn (space home count) (Pid 28) node_shown
+unfolding header_in reference_at object_in
+node-seen home count = seen-in home count 28 node node_shown (inr (inr (inr (inr (inl refl)))))
+    (record { flags = refl; pid = refl; chain = refl; refs = (inl refl, (inl refl, (inr (omega arith), (inr (omega arith), tt)))) }) refl
+
+key-seen : (home count : ℕ) → SeenIn (space home count) (Pid 39) (of_text 1 (0x6b ∷ []))
+unfolding header_in reference_at object_in
+key-seen home count = seen-in home count 39 key (of_text 1 (0x6b ∷ [])) (inr (inr (inr (inr (inr (inl refl))))))
+    (record { flags = refl; pid = refl; chain = refl; refs = tt }) refl
+
+box-seen : (home count : ℕ) → SeenIn (space home count) (Pid 45) (box_shown home)
+unfolding header_in reference_at object_in
+box-seen home count = seen-in home count 45 (box home) (box_shown home) (inr (inr (inr (inr (inr (inr (inl refl)))))))
+    (record { flags = refl; pid = refl; chain = refl; refs = (inr (omega arith), (inr (omega arith), (inr (omega arith), tt))) }) refl
+
+abbrev class_shown : Shown
+class_shown = of_text 26 (0x20746e6928786f62 ∷ 0x676e697274733b6e ∷ 0x2072746e703b7320 ∷ 0x0000000000002974 ∷ [])
+
+class-seen : (home count : ℕ) → SeenIn (space home count) (Pid 54) class_shown
+unfolding header_in reference_at object_in
+class-seen home count = seen-in home count 54 class class_shown (inr (inr (inr (inr (inr (inr (inr (inl refl))))))))
+    (record { flags = refl; pid = refl; chain = refl; refs = tt }) refl
+
+string-seen : (home count : ℕ) → SeenIn (space home count) (Pid 63) (of_text 2 (0x6968 ∷ []))
+unfolding header_in reference_at object_in
+string-seen home count = seen-in home count 63 string (of_text 2 (0x6968 ∷ [])) (inr (inr (inr (inr (inr (inr (inr (inr (inl refl)))))))))
+    (record { flags = refl; pid = refl; chain = refl; refs = tt }) refl
+
+-- The heap, and the names of its things.
+
+abbrev box_class : List ℕ
+box_class = codes "box(int n;string s;pntr t)"
+
+abbrev root : Kept
+root = record { thing = a_table (by_strings (record { key = codes "k"; object = 1 } ∷ [])); home = Some (codes "c") }
+
+abbrev boxed : Kept
+boxed = record { thing = an_object (Structure box_class (Num (pos 3) ∷ Text (codes "hi") ∷ Pointer 0 ∷ [])); home = Some (codes "c") }
+
+abbrev heap : KeptHeap
+heap = record { things = root ∷ boxed ∷ []; databases = record { name = codes "c"; password = []; root = 0 } ∷ [] }
+
+abbrev names : List Reference
+names = Pid 20 ∷ Pid 45 ∷ []
+
+-- The space stands for it.
+
+directory-is : IsDirectory (SeenIn (space 1 1)) (paired names) 1 heap.databases
+unfolding bytes_of word_bytes
+directory-is = record {
+  it = directory_shown;
+  there = directory-seen 1 1;
+  kind_is = refl;
+  names = (
+    text-is (SeenIn (space 1 1)) (Pid 9) 1 (0x63 ∷ []) (codes "c") (name-seen 1 1) refl,
+    text-is (SeenIn (space 1 1)) (Pid 15) 0 [] [] (password-seen 1 1) refl,
+    (refl, record { it = table_shown 1; there = table-seen 1 1; kind_is = refl }),
+    tt,
+  );
+}
+
+table-is : IsTable (SeenIn (space 1 1)) (paired names) (table_shown 1) (by_strings (record { key = codes "k"; object = 1 } ∷ []))
+unfolding bytes_of word_bytes
+table-is = record {
+  kind_is = refl;
+  root = Pid 28;
+  home = 1;
+  refs = refl;
+  nums = refl;
+  nodes = (
+    node_shown,
+    node-seen 1 1,
+    (
+      Nil,
+      record {
+        kind_is = refl;
+        key_name = Pid 39;
+        value_name = Pid 45;
+        home = 0;
+        key_word = 0;
+        refs = refl;
+        nums = refl;
+        is_key = text-is (SeenIn (space 1 1)) (Pid 39) 1 (0x6b ∷ []) (codes "k") (key-seen 1 1) refl;
+        is_value = (refl, record { it = box_shown 1; there = inl (box-seen 1 1); kind_is = refl });
+      },
+      refl,
+    ),
+  );
+  ordered = (tt, tt);
+}
+
+-- a pntr may name the table
+root_as_pntr : IsKindOf (with_tables (SeenIn (space 1 1))) (Pid 20) kind.Structure
+root_as_pntr = record {
+  it = record { kind = kind.Structure; refs = Pid 28 ∷ []; nums = 1 ∷ 1 ∷ 1 ∷ []; bytes = 0 };
+  there = inr (record { table = table_shown 1; there = table-seen 1 1; kind_is = refl; it_is = refl });
+  kind_is = refl;
+}
+
+box-is : IsThing (SeenIn (space 1 1)) (paired names) (box_shown 1) boxed.thing
+unfolding bytes_of word_bytes forms_of forms_from form_here begins int_in
+box-is = (
+  record {
+    kind_is = refl;
+    text_name = Pid 54;
+    home = 1;
+    names = Pid 63 ∷ Pid 20 ∷ [];
+    words = 3 ∷ [];
+    refs = refl;
+    nums = refl;
+    is_text = record { it = class_shown; there = inl (class-seen 1 1); kind = refl; bytes_are = refl };
+    are = (refl, (text-is (with_tables (SeenIn (space 1 1))) (Pid 63) 2 (0x6968 ∷ []) (codes "hi") (inl (string-seen 1 1)) refl, ((refl, root_as_pntr), tt)));
+  },
+  (tt, (tt, (tt, tt))),
+)
+
+both-are : (n id : ℕ) → paired names (Pid n) id → Both (SeenIn (space 1 1)) heap (paired names) (Pid n) id
+both-are n zero p =
+    let same : Pid 20 ≡ Pid n = cc in
+    subst (λ (m : Reference). Both (SeenIn (space 1 1)) heap (paired names) m 0) same
+    (record { it = table_shown 1; kept = root; there = table-seen 1 1; means = refl; like = table-is; home = refl })
+both-are n (suc zero) p =
+    let same : Pid 45 ≡ Pid n = cc in
+    subst (λ (m : Reference). Both (SeenIn (space 1 1)) heap (paired names) m 1) same
+    (record { it = box_shown 1; kept = boxed; there = box-seen 1 1; means = refl; like = box-is; home = refl })
+both-are n (suc (suc id)) p = absurd (cc)
+
+one-number : (n i j : ℕ) → paired names (Pid n) i → paired names (Pid n) j → i ≡ j
+one-number n zero zero p q = refl
+one-number n zero (suc zero) p q = let a : 20 ≡ n = cc in let b : 45 ≡ n = cc in absurd (omega arith)
+one-number n (suc zero) zero p q = let a : 45 ≡ n = cc in let b : 20 ≡ n = cc in absurd (omega arith)
+one-number n (suc zero) (suc zero) p q = refl
+one-number n (suc (suc i)) j p q = absurd (cc)
+one-number n zero (suc (suc j)) p q = absurd (cc)
+one-number n (suc zero) (suc (suc j)) p q = absurd (cc)
+
+no-nodes : (a : ℕ) (n : Reference) → paired names (Pid a) 1 → IsNodeOf (SeenIn (space 1 1)) (Pid a) n → (b : ℕ) → a ≡ b
+no-nodes a n p h b =
+    let here : Pid a ≡ Pid 45 = cc in
+    let same = seen-one (space 1 1) (Pid 45) h.it (box_shown 1) (subst (λ (m : Reference). SeenIn (space 1 1) m h.it) here h.there) (box-seen 1 1) in
+    let of : kind.Structure ≡ kind.Table = sym (ap (λ (it : Shown). it.kind) same) ∙ h.kind_is in
+    absurd (cc)
+
+they-are-apart : (a b i j : ℕ) (n : Reference) → paired names (Pid a) i → paired names (Pid b) j
+    → IsNodeOf (SeenIn (space 1 1)) (Pid a) n → IsNodeOf (SeenIn (space 1 1)) (Pid b) n → a ≡ b
+they-are-apart a b zero zero n p q h k = cc
+they-are-apart a b zero (suc zero) n p q h k = sym (no-nodes b n q k a)
+they-are-apart a b (suc zero) j n p q h k = no-nodes a n p h b
+they-are-apart a b (suc (suc i)) j n p q h k = absurd (cc)
+they-are-apart a b zero (suc (suc j)) n p q h k = absurd (cc)
+
+worked_out : SpaceStands (space 1 1) heap
+unfolding space
+worked_out = record {
+  objects = objects 1 1;
+  cut = cut-of (objects 1 1) 1 (they-follow 1 1);
+  names = names;
+  stands = record {
+    databases = record { few = omega arith; each = (record { named = omega arith; name = omega arith; password = omega arith }, tt); once = (tt, tt) };
+    directory = directory-is;
+    both = both-are;
+    one_number = one-number;
+    apart = they-are-apart;
+  };
+}
+
+-- And so does each image in which the words' spelling is held at the front.
+in_images : (image behind : List ℕ) (commits : ℕ)
+    → held_in image ≡ Some (holding (record { commits = commits; used = 69; directory = 1 }) (bytes_of (space 1 1).words ++ behind)) → Stands image heap
+unfolding space
+in_images image behind commits held = record {
+  space = space 1 1;
+  found = space-held image (record { commits = commits; used = 69; directory = 1 }) (space 1 1).words behind
+      (each-below (2 ^ 64) (space 1 1).words (omega arith) refl) refl held;
+  stands = worked_out;
+}
+
+-- Where such a space stands for the heap, the root is paired with PID 20, and the structure with PID 45, whatever the names are.
+
+root-paired : (home count : ℕ) (names : List Reference) → StandsUnder (space home count) heap names → paired names (Pid 20) 0
+unfolding space
+root-paired home count names s =
+    let same = seen-one (space home count) (Pid 1) s.directory.it directory_shown s.directory.there (directory-seen home count) in
+    (subst (λ (it : Shown). AreNamed (SeenIn (space home count)) (paired names) it.refs heap.databases) same s.directory.names).2.0
+
+-- what stands for the root, and for the structure
+table-of : (home count : ℕ) (names : List Reference) → StandsUnder (space home count) heap names
+    → IsTable (SeenIn (space home count)) (paired names) (table_shown count) (by_strings (record { key = codes "k"; object = 1 } ∷ []))
+table-of home count names s =
+    let both = s.both 20 0 (root-paired home count names s) in
+    let same = seen-one (space home count) (Pid 20) both.it (table_shown count) both.there (table-seen home count) in
+    let kept : both.kept ≡ root = cc in
+    subst (λ (it : Shown). IsThing (SeenIn (space home count)) (paired names) it root.thing) same
+    (subst (λ (k : Kept). IsThing (SeenIn (space home count)) (paired names) both.it k.thing) kept both.like)
+
+box-paired : (home count : ℕ) (names : List Reference) → StandsUnder (space home count) heap names → paired names (Pid 45) 1
+box-paired home count names s =
+    let table = table-of home count names s in
+    let first : table.root ≡ Pid 28 = cc in
+    let there = subst (λ (n : Reference). SeenIn (space home count) n table.nodes.0) first table.nodes.1 in
+    let same = seen-one (space home count) (Pid 28) table.nodes.0 node_shown there (node-seen home count) in
+    let node = table.nodes.2.1 in
+    let refs : node_shown.refs ≡ Nil ∷ table.nodes.2.0 ∷ node.key_name ∷ node.value_name ∷ [] = sym (ap (λ (it : Shown). it.refs) same) ∙ node.refs in
+    let value : node.value_name ≡ Pid 45 = cc in
+    subst (λ (n : Reference). paired names n 1) value node.is_value.0
+
+-- Another home: the structure's word names no database of the directory.
+another_home : SpaceStands (space 2 1) heap → ⊥
+another_home s =
+    let both = s.stands.both 45 1 (box-paired 2 1 s.names s.stands) in
+    let same = seen-one (space 2 1) (Pid 45) both.it (box_shown 2) both.there (box-seen 2 1) in
+    let kept : both.kept ≡ boxed = cc in
+    let home = subst (λ (it : Shown). IsHome heap.databases (word_in it 0) boxed.home) same
+    (subst (λ (k : Kept). IsHome heap.databases (word_in both.it 0) k.home) kept both.home) in
+    cc
+
+-- Another number of entries than the table has.
+another_count : SpaceStands (space 1 2) heap → ⊥
+another_count s =
+    let table = table-of 1 2 s.names s.stands in
+    let nums : 1 ∷ 1 ∷ 2 ∷ [] ≡ table.home ∷ 1 ∷ 1 ∷ [] = table.nums in
+    let two : ◌≡◌ {A = ℕ} 2 1 = cc in
+    absurd (omega arith)

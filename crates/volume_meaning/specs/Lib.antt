@@ -1,0 +1,4 @@
+pub mod Kept
+pub mod Space
+pub mod Tables
+pub mod Stands

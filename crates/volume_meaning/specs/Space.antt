@@ -1,0 +1,69 @@
+-- The space that is found in an image of a volume, and what is seen in it under each name.
+use Rattle.std.specs.Prelude.{◌≡◌, ◌⊎◌, ℕ, ◌*◌, ◌%◌, ◌^◌, ◌<◌, List, map, take, drop, Option}
+use Rattle.std.specs.List.{AllByRecursion, range_with_len}
+use Rattle.std.specs.Option.{option_map}
+use Rattle.shadow_volume.specs.Layout.{number_at}
+use Rattle.shadow_volume.specs.Found.{Held}
+use Rattle.shadow_volume.specs.Standing.{held_in}
+use Rattle.shadow_volume.specs.declared.note.Note.{Note}
+use Rattle.obj_layout.specs.declared.kind.Kind.TheVariants.{Structure, Table}
+use Rattle.obj_layout.specs.declared.reference.Reference.{Reference}
+use Rattle.obj_layout.specs.declared.reference.Reference.TheVariants.{Pid}
+use Rattle.obj_layout.specs.Stored.{Space, HasObject}
+use Rattle.swizzle.specs.Objects.{header_in}
+use Rattle.swizzle.specs.Joint.{Shown, shown_words}
+use Rattle.heap_meaning.specs.Standing.{Seen}
+
+-- the word with this index: the number that its eight bytes spell, the low one first
+unfoldable pub word_at : List ℕ → ℕ → ℕ
+word_at bytes index = number_at (8 * index) 8 bytes % 2 ^ 64
+
+-- the first so many words
+unfoldable pub words_of : ℕ → List ℕ → List ℕ
+words_of count bytes = map (word_at bytes) (range_with_len 0 count)
+
+-- a space of these words
+abbrev pub spaced : List ℕ → ℕ → Space
+spaced words directory = record { words = words; directory = directory }
+
+-- what a volume holds, as a space of so many words
+abbrev pub space_of : ℕ → Held → Space
+space_of used held = spaced (words_of used held.bytes) held.note.directory
+
+-- the space that is found in an image: as many words as are used; None where no volume is found
+unfoldable pub space_in : List ℕ → Option Space
+space_in image = option_map (λ held. space_of held.note.used held) (held_in image)
+
+-- what is held where the pages have these bytes
+abbrev pub holding : Note → List ℕ → Held
+holding note bytes = record { note = note; bytes = bytes }
+
+-- a reference on a volume is nil or a PID, whose top bit is set
+abbrev pub IsStoredReference : ℕ → Type 0
+IsStoredReference word = (word ≡ 0) ⊎ (2 ^ 63 < word)
+
+-- On a volume an object has no flags, no PID in its header and no chain, and none of its references is an index.
+pub record IsStored (words : List ℕ) : Type 0 where
+  pub flags : (header_in words).flags ≡ 0
+  pub pid : (header_in words).pid ≡ 0
+  pub chain : (header_in words).chain ≡ 0
+  pub refs : AllByRecursion IsStoredReference (take (header_in words).refs (drop 4 words))
+
+-- what is seen in a space under a name: the object of that PID
+pub record SeenIn (space : Space) (n : Reference) (it : Shown) : Type 0 where
+  pub pid : ℕ
+  pub words : List ℕ
+  pub name_is : n ≡ Pid pid
+  pub there : HasObject space pid words
+  pub stored : IsStored words
+  pub shown_is : it ≡ shown_words words
+
+-- A value of type pntr names a structure or a table. So for what values name, a table is seen as a structure too.
+pub record SeenAsStructure (seen : Seen) (n : Reference) (it : Shown) : Type 0 where
+  pub table : Shown
+  pub there : seen n table
+  pub kind_is : table.kind ≡ Table
+  pub it_is : it ≡ record table { kind = Structure }
+
+abbrev pub with_tables : Seen → Seen
+with_tables seen n it = seen n it ⊎ SeenAsStructure seen n it

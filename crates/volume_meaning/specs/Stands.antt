@@ -1,0 +1,100 @@
+-- An image of a volume stands for a heap: under a row of names, the PIDs of its things, what is seen in its space is what the heap keeps.
+use Rattle.std.specs.Prelude.{◌≡◌, ℕ, ◌≤◌, List, [], ◌∷◌, Option, Some, None}
+use Rattle.std.specs.List.{AllByRecursion}
+use Rattle.ps_outside.specs.Outside.{Outside}
+use Rattle.obj_layout.specs.declared.kind.Kind.TheVariants as kind
+use Rattle.obj_layout.specs.declared.reference.Reference.{Reference}
+use Rattle.obj_layout.specs.declared.reference.Reference.TheVariants.{Pid}
+use Rattle.obj_layout.specs.Objects.{Placed, HoldsObjects}
+use Rattle.obj_layout.specs.Stored.{Space}
+use Rattle.swizzle.specs.Joint.{Shown}
+use Rattle.heap_places.specs.Shapes.{word_in, IsText}
+use Rattle.ps_gen.specs.Units.{HasUnit}
+use Rattle.ps_meaning.specs.Values.{Value, Procedure, as_written}
+use Rattle.ps_meaning.specs.Objects.{Object, Structure, Elements, Scope}
+use Rattle.ps_code_laws.specs.Compiled.{compiled_object}
+use Rattle.ps_code_laws.specs.Literals.{BodyIs}
+use Rattle.heap_meaning.specs.Standing.{Seen, Pairing, IsKindOf, IsLike}
+use Rattle.heap_meaning.specs.Paired.{paired}
+use Rattle.volume_meaning.specs.Kept.{Thing, an_object, a_table, Kept, Database, KeptHeap, kept_in, name_numbered, AreDatabases}
+use Rattle.volume_meaning.specs.Space.{SeenIn, space_in, with_tables}
+use Rattle.volume_meaning.specs.Tables.{IsTable, IsNodeOf}
+
+-- a procedure as it is written has a unit, and so has each literal in it
+abbrev pub HasUnits : Value → Type 0
+HasUnits (Procedure (as_written of) scope) = BodyIs HasUnit (λ ty. Unit {0}) of
+HasUnits v = Unit {0}
+
+abbrev pub values_of : Object → List Value
+values_of (Structure class fields) = fields
+values_of (Elements ty low elements) = elements
+values_of (Scope text parent names) = names
+
+-- What is seen stands for a thing. A procedure as it is written stands there as its unit.
+abbrev pub IsThing : Seen → Pairing → Shown → Thing → Type 0
+IsThing seen pair it (an_object of) = IsLike (with_tables seen) pair it (compiled_object of) × AllByRecursion HasUnits (values_of of)
+IsThing seen pair it (a_table of) = IsTable seen pair it of
+
+-- a word names a home: the number of its database, or 0 for none
+abbrev pub IsHome : List Database → ℕ → Option (List ℕ) → Type 0
+IsHome databases word None = word ≡ 0
+IsHome databases word (Some name) = name_numbered databases word ≡ Some name
+
+-- the object of a name, and what is kept under the number that goes with it
+pub record Both (seen : Seen) (heap : KeptHeap) (pair : Pairing) (n : Reference) (id : ℕ) : Type 0 where
+  pub it : Shown
+  pub kept : Kept
+  pub there : seen n it
+  pub means : kept_in heap.things id ≡ Some kept
+  pub like : IsThing seen pair it kept.thing
+  pub home : IsHome heap.databases (word_in it 0) kept.home
+
+-- for each database its name, its password and its root, in their order
+abbrev pub AreNamed : Seen → Pairing → List Reference → List Database → Type 0
+AreNamed seen pair (name ∷ password ∷ root ∷ more) (d ∷ ds) =
+    IsText seen name d.name × IsText seen password d.password × (pair root d.root × IsKindOf seen root kind.Table) × AreNamed seen pair more ds
+AreNamed seen pair [] [] = Unit {0}
+AreNamed seen pair _ _ = ⊥
+
+-- what is seen of a directory of these databases
+pub record IsDirectory (seen : Seen) (pair : Pairing) (pid : ℕ) (databases : List Database) : Type 0 where
+  pub it : Shown
+  pub there : seen (Pid pid) it
+  pub kind_is : it.kind ≡ kind.Directory
+  pub names : AreNamed seen pair it.refs databases
+
+-- where there is no database there is no directory
+abbrev pub IsDirectoryOf : Seen → Pairing → ℕ → List Database → Type 0
+IsDirectoryOf seen pair pid [] = pid ≡ 0
+IsDirectoryOf seen pair pid (d ∷ ds) = IsDirectory seen pair pid (d ∷ ds)
+
+-- A space stands for a heap under a row of names, one for each number; what isn't paired has a name that is no PID. The roots are paired, and so is
+-- all that what is paired refers to: so each thing that is reached from the directory is. The pairing is one-to-one, and what is paired is alike.
+pub record StandsUnder (space : Space) (heap : KeptHeap) (names : List Reference) : Type 0 where
+  pub databases : AreDatabases heap.databases
+  pub directory : IsDirectoryOf (SeenIn space) (paired names) space.directory heap.databases
+  pub both : (pid id : ℕ) → paired names (Pid pid) id → Both (SeenIn space) heap (paired names) (Pid pid) id
+  pub one_number : (pid i j : ℕ) → paired names (Pid pid) i → paired names (Pid pid) j → i ≡ j
+  -- no node belongs to two tables
+  pub apart : (a b i j : ℕ) (n : Reference) → paired names (Pid a) i → paired names (Pid b) j
+      → IsNodeOf (SeenIn space) (Pid a) n → IsNodeOf (SeenIn space) (Pid b) n → a ≡ b
+
+-- a space that is cut into objects, and stands for a heap under some row of names
+pub record SpaceStands (space : Space) (heap : KeptHeap) : Type 0 where
+  pub objects : List Placed
+  pub cut : HoldsObjects space.words objects
+  pub names : List Reference
+  pub stands : StandsUnder space heap names
+
+-- An image of a volume stands for a heap.
+pub record Stands (image : List ℕ) (heap : KeptHeap) : Type 0 where
+  pub space : Space
+  pub found : space_in image ≡ Some space
+  pub stands : SpaceStands space heap
+
+-- From some moment of the way on each image that a crash may leave stands for this heap.
+pub record StandsSince (old new : Outside (List ℕ)) (heap : KeptHeap) : Type 0 where
+  pub since : ℕ
+  pub from : old.clock ≤ since
+  pub until : since ≤ new.clock
+  pub stands : (m : ℕ) (image : List ℕ) → since ≤ m → m ≤ new.clock → new.images m image → Stands image heap

@@ -1,0 +1,61 @@
+//! Which images stand for which heaps.
+
+ghost use Rattle.std.specs.Prelude.{◌≡◌, ℕ, ◌≤◌, Bool, List, [], ◌++◌, length, Some};
+ghost use Rattle.obj_area.specs.Words.{bytes_of, AreWords};
+ghost use Rattle.obj_layout.specs.Stored.{Space, IsSpace};
+ghost use Rattle.shadow_volume.specs.Layout.{gate};
+ghost use Rattle.shadow_volume.specs.Found.{Held, found_in, a_volume, no_volume, damaged};
+ghost use Rattle.shadow_volume.specs.declared.finding.Damage.{Damage};
+ghost use Rattle.shadow_volume.specs.Making.{IsNew};
+ghost use Rattle.shadow_volume.specs.Standing.{held_in};
+ghost use Rattle.shadow_volume.specs.declared.note.Note.{Note};
+ghost use Rattle.volume_meaning.specs.Kept.{KeptHeap};
+ghost use Rattle.volume_meaning.specs.Space.{holding, spaced, space_in};
+ghost use Rattle.volume_meaning.specs.Stands.{Stands, StandsSince};
+ghost use Rattle.ps_volumes.specs.Attaching.{IsSettled};
+
+use ps_port::Host;
+
+/// A law: what `format` leaves stands for each heap without a database, and for no other.
+pub fn a_new_volume_stands_for_no_database()
+    ensures stands { (pages : ℕ) (image : List ℕ) (heap : KeptHeap) → 32 ≤ pages → pages ≤ 131072 → IsNew pages image → gate image ≡ 1 →
+        heap.databases ≡ [] → Stands image heap }
+    ensures alone { (pages : ℕ) (image : List ℕ) (heap : KeptHeap) → 32 ≤ pages → pages ≤ 131072 → IsNew pages image → gate image ≡ 1 →
+        Stands image heap → heap.databases ≡ [] }
+{}
+
+/// A law: an image stands for a heap only where a volume is found in it.
+pub fn what_stands_is_a_volume()
+    ensures { (image : List ℕ) (heap : KeptHeap) → Stands image heap →
+        (pages : ℕ) × (second : Bool) × (held : Held) × (found_in image ≡ a_volume pages second held) }
+{}
+
+/// A law: images in which the same is held stand for the same heaps.
+pub fn what_is_held_decides()
+    ensures { (image other : List ℕ) (heap : KeptHeap) → held_in image ≡ held_in other → Stands image heap → Stands other heap }
+{}
+
+/// A law: where the bytes that are held begin with the spelling of as many words as are used, those are the words of the space.
+pub fn what_is_spelled_is_the_space()
+    ensures { (image : List ℕ) (note : Note) (words behind : List ℕ) → AreWords words → note.used ≡ length words →
+        held_in image ≡ Some (holding note (bytes_of words ++ behind)) → space_in image ≡ Some (spaced words note.directory) }
+{}
+
+/// A law: the space of an image has as many words as are used in it, at least word 0, and its directory lies among them.
+pub fn a_space_is_used()
+    ensures { (image : List ℕ) (held : Held) → held_in image ≡ Some held →
+        (space : Space) × (space_in image ≡ Some space) × IsSpace held.note.used held.note.directory space }
+{}
+
+/// A law: a damaged file stands for no heap, and neither does one in which there is no volume.
+pub fn what_is_damaged_stands_for_no_heap()
+    ensures damage { (image : List ℕ) (heap : KeptHeap) (why : Damage) → found_in image ≡ damaged why → Stands image heap → ⊥ }
+    ensures none { (image : List ℕ) (heap : KeptHeap) (size gate : ℕ) → found_in image ≡ no_volume size gate → Stands image heap → ⊥ }
+{}
+
+/// A law: where the device was settled between two states of a host, from some moment on each image that a crash may leave stands for the heap that what
+/// a read gave at the start stood for.
+pub fn a_settled_volume_stands_for_its_heap<H: Host>(host: &H, back: &H)
+    ensures { (heap : KeptHeap) → IsSettled (H.outside host.now) (H.outside back.now) →
+        ((bytes : List ℕ) → (H.outside host.now).contents bytes → Stands bytes heap) → StandsSince (H.outside host.now) (H.outside back.now) heap }
+{}
