@@ -130,7 +130,6 @@ fn main(rt: HostRuntime) -> Result<()> {
         bail!("not loaded");
     };
     let mut vault = NoStore::new(host);
-    vault.holds_nothing();
     match run(&mut machine, &mut vault, &mut output) {
         Ok(RunEnd::Done) => {}
         _ => bail!("not done"),

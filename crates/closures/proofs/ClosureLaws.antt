@@ -8,10 +8,10 @@ use Rattle.obj_layout.specs.declared.reference.Reference.{Reference}
 use Rattle.obj_layout.specs.declared.reference.Reference.TheVariants.{Nil, Pid, Local}
 use Rattle.swizzle.specs.declared.fault.SwizzleFault.{SwizzleFault}
 use Rattle.swizzle.specs.Objects.{Object}
-use Rattle.swizzle.specs.Heap.{Heap, IsHeap, IsHeld, IsMade, header_at, ref_at, with_ref, reference_to, blank}
+use Rattle.swizzle.specs.Heap.{Heap, IsHeap, IsHeld, IsMade, top_of, header_at, ref_at, with_ref, reference_to, blank}
 use Rattle.swizzle.specs.Joint.{shown_at, name_of}
 use Rattle.swizzle.specs.Changes.{Touched}
-use Rattle.swizzle.specs.Touch.{Denotes, Keeps, IsTouchCall, IsTouchFault}
+use Rattle.swizzle.specs.Touch.{Denotes, Keeps, IsNear, IsTouchCall, IsTouchFault}
 use Rattle.swizzle.specs.Reading.{joint}
 use Rattle.swizzle.proofs.NameLaws.{name-not_nil}
 use Rattle.swizzle.proofs.ReadingLaws.{fails-touch}
@@ -49,16 +49,17 @@ pub opens : (old new : Heap) (a b : Outside Space) (at slot : ℕ) (r : Result (
     → IfOk r (λ to. Denotes new to (name_of old (ref_at old at slot))) → OnOk r (Keeps old new)
     → OnOk r (Touched (joint old a) (joint new b) (name_of old (ref_at old at slot)))
     → ((to : Option ℕ) → ref_at old at slot ≡ reference_to to → new ≡ old)
+    → (IsNear old (name_of old (ref_at old at slot)) → top_of new ≡ top_of old)
     → IsTouchCall old new a b r → IfErr r (IsTouchFault old a (ref_at old at slot)) → OpensSlot old new a b at slot r
-opens old new a b at slot (Ok (Some part)) shape target keeps touched still call fault = record {
+opens old new a b at slot (Ok (Some part)) shape target keeps touched still near call fault = record {
   shape = shape;
   denotes = denotes-slot old new at slot (Some part) target;
-  reads = reads-slot old new a b at slot (Some part) keeps touched call;
+  reads = reads-slot old new a b at slot (Some part) keeps touched near call;
 }
-opens old new a b at slot (Ok None) shape target keeps touched still call fault = record {
+opens old new a b at slot (Ok None) shape target keeps touched still near call fault = record {
   shape = shape;
   none = denotes-slot old new at slot None target;
   stays = still None (ref-nil old (ref_at old at slot) target);
-  reads = reads-slot old new a b at slot None keeps touched call;
+  reads = reads-slot old new a b at slot None keeps touched near call;
 }
-opens old new a b at slot (Err f) shape target keeps touched still call fault = (fails-touch old new a b f call, inr (shape, fault))
+opens old new a b at slot (Err f) shape target keeps touched still near call fault = (fails-touch old new a b f call, inr (shape, fault))

@@ -24,7 +24,7 @@ pub fn other_kind(sw: &Swizzle, object: u32, wanted: Kind) -> SwizzleFault
 }
 
 /// Tests that an object is of a kind, and has so many references and so many number words, in this order.
-#[inline]
+#[inline(always)]
 pub fn test_shape(
     sw: &Swizzle,
     object: u32,

@@ -31,8 +31,8 @@ use Rattle.heap_places.specs.declared.value.Value.TheVariants.{Num, Flag as Trut
 use Rattle.heap_places.specs.Shapes.{slot_of, word_in}
 use Rattle.heap_places.specs.Words.{word_damage}
 use Rattle.heap_places.specs.Places.{HasPlace, HasRow, Holds, IsNear, NamesDamage, FailsFetch, ReadsPlace, assigned_value, fit_damage, touched_by}
-use Rattle.heap_places.proofs.PlaceLaws.{slot-name}
-use Rattle.heap_ops.specs.Structures.{TellsClass, IsNamed, GetsField, SetsField, HasFields, FailsValue}
+use Rattle.heap_places.proofs.PlaceLaws.{slot-name, fails-damage}
+use Rattle.heap_ops.specs.Structures.{TellsClass, IsNamed, GetsField, SetsField, HasFields, FailsValue, structure_damage}
 use Rattle.heap_ops.specs.inside.Opening.{IsOpened, OpensFields}
 use Rattle.heap_ops.specs.Outcomes.{UnlessFault}
 use Rattle.heap_ops.proofs.ClassLaws.{same-before, stands-kept, pid-kept, damage-kept, class-grows, HasShape, shaped}
@@ -221,6 +221,19 @@ pub sets-value : (old mid new : Heap) (a b : Outside Space) (object : Option ℕ
 sets-value old mid new a b object at text l v h o written =
     subst (λ (x : Option ℕ). SetsField old new a b x text l v (Ok tt)) (sym o.is)
     (record { mid = mid; heap = h; fields = o.fields; reads = o.reads; written = written ∙ ap (λ (n : ℕ). assigned_value mid at n v) (add-one l.place.index) })
+
+-- the shape is another than that of the class
+pub opens-damaged : (old new : Heap) (a b : Outside Space) (object : Option ℕ) (at : ℕ) (text : List ℕ) (rows : Rows) (is : Bool) (fault : SwizzleFault)
+    → object ≡ Some at → IfSome object (IsHeld old) → is ≡ true → TellsClass old new a b (Some at) text (Ok is)
+    → NamesDamage new at (structure_damage (shown_at new at) rows) fault → OpensFields old new a b object text rows (Err (op.Swizzle fault))
+opens-damaged old new a b object at text rows is fault e held answered told damaged =
+    let t : TellsClass old new a b (Some at) text (Ok true) = subst (λ (x : Bool). TellsClass old new a b (Some at) text (Ok x)) answered told in
+    let there : IsHeld old at = subst (λ (x : Option ℕ). IfSome x (IsHeld old)) e held in
+    let stays = t.1.keeps.objects at there in
+    let kept = damage-kept old new at (structure_damage (shown_at old at) rows) fault t.1.keeps there
+    (subst (λ (it : Shown). NamesDamage new at (structure_damage it rows) fault) stays.shown_as damaged) in
+    subst (λ (x : Option ℕ). OpensFields old new a b x text rows (Err (op.Swizzle fault))) (sym e)
+    (fails-damage a b _ _ _ fault t.1.outside kept.2, inr (t.1.keeps, t.0, kept))
 
 -- no object was lost, unless the store refused one
 pub opens-stands : (old new : Heap) (a b : Outside Space) (object : Option ℕ) (text : List ℕ) (rows : Rows) (fault : OpFault)

@@ -63,7 +63,9 @@ impl Layouts {
         self.entries.fill(NO_ENTRY);
     }
 
-    /// The place of a field of a class, which is a text. None exactly where the text names no such field.
+    /// The place of a field of a class, which is a text. None exactly where the text names no such field. A place that was looked up before is found
+    /// by the class and the field, and no text is read.
+    #[inline(always)]
     pub fn locate(&mut self, sw: &Swizzle, class: u32, field: u32) -> Option<Located>
         requires so { AreSo sw.now self.old.entries.items }
         requires held { IsHeld sw.now class }
@@ -76,6 +78,19 @@ impl Layouts {
         if let Some(located) = self.known(index, class, field) {
             return Some(located);
         }
+        self.learn(sw, index, class, field)
+    }
+
+    // Looks a place up in the text of its class, and keeps it at an index.
+    #[inline(never)]
+    fn learn(&mut self, sw: &Swizzle, index: usize, class: u32, field: u32) -> Option<Located>
+        requires so { AreSo sw.now self.old.entries.items }
+        requires held { IsHeld sw.now class }
+        requires text { (header_at sw.now class).kind ≡ Kind.Text }
+        ensures place { result ≡ located_in (forms_of (text_at sw.now class)) field }
+        ensures so { AreSo sw.now self.new.entries.items }
+    {
+        sw.sound();
         let located = locate(sw.text(class), field)?;
         self.keep(
             index,
@@ -89,7 +104,7 @@ impl Layouts {
     }
 
     // What the entry at an index says of a field of a class.
-    #[inline]
+    #[inline(always)]
     fn known(&self, index: usize, class: u32, field: u32) -> Option<Located>
         requires { 1 ≤ class }
         ensures { (heap : Heap) → AreSo heap self.now.entries.items
@@ -117,7 +132,7 @@ impl Layouts {
 }
 
 // Where the entry for a field of a class stands.
-#[inline]
+#[inline(always)]
 fn index_of(class: u32, field: u32) -> usize
     ensures { result < 256 }
 {

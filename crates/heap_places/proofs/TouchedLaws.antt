@@ -15,11 +15,11 @@ use Rattle.obj_layout.proofs.HeaderLaws.{kind_number-injective}
 use Rattle.swizzle.specs.declared.fault.SwizzleFault.{SwizzleFault}
 use Rattle.swizzle.specs.declared.fault.SwizzleFault.TheVariants.{Vault}
 use Rattle.swizzle.specs.Objects.{words_before}
-use Rattle.swizzle.specs.Heap.{Heap, IsHeap, IsHeld, header_at, ref_at}
+use Rattle.swizzle.specs.Heap.{Heap, IsHeap, IsHeld, top_of, header_at, ref_at}
 use Rattle.swizzle.specs.Joint.{shown_at, name_of}
 use Rattle.swizzle.specs.Changes.{Touched}
 use Rattle.swizzle.specs.Text.{text_at}
-use Rattle.swizzle.specs.Touch.{Denotes, Keeps, IsTouchCall}
+use Rattle.swizzle.specs.Touch.{Denotes, Keeps, IsNear, IsTouchCall}
 use Rattle.swizzle.specs.Reading.{joint}
 use Rattle.swizzle.proofs.NameLaws.{shown-counts, name-not_nil}
 use Rattle.swizzle.proofs.ReadingLaws.{leaves-none, leaves-touch}
@@ -46,14 +46,15 @@ text-none heap outside at fault h held none named = (
 -- it refers to a text
 pub text-there : (old new : Heap) (a b : Outside Space) (at text : ℕ) (to : Option ℕ) → to ≡ Some text → Denotes new to (name_of old (ref_at old at 0))
     → Keeps old new → Touched (joint old a) (joint new b) (name_of old (ref_at old at 0))
-    → IsTouchCall old new a b (Ok to) → nat_eq (kind_number (header_at new text).kind) 1 ≡ true → FirstText old new a b at text
-text-there old new a b at text to is denotes keeps touched call kind =
+    → (IsNear old (name_of old (ref_at old at 0)) → top_of new ≡ top_of old) → IsTouchCall old new a b (Ok to)
+    → nat_eq (kind_number (header_at new text).kind) 1 ≡ true → FirstText old new a b at text
+text-there old new a b at text to is denotes keeps touched near call kind =
     let seen : Denotes new (Some text) (name_of old (ref_at old at 0)) = subst (λ (t : Option ℕ). Denotes new t (name_of old (ref_at old at 0))) is denotes in
     record {
       held = seen.0;
       kind = kinds-same (header_at new text).kind Text kind;
       denotes = denotes-slot old new at 0 (Some text) seen;
-      reads = reads-slot old new a b at 0 to keeps touched call;
+      reads = reads-slot old new a b at 0 to keeps touched near call;
     }
 
 -- it refers to what is no text

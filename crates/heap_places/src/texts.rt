@@ -11,7 +11,7 @@ use swizzle::swizzle::Swizzle;
 /// The text that an object refers to first: that of a structure's class, of a scope, or of a vector's type. It is fetched where it isn't in the
 /// area. Damaged exactly where the object refers to none, at the object's PID with 0 and 1, or to what is no text, at the PID of that with the
 /// number of its kind and 1.
-#[inline]
+#[inline(always)]
 pub fn first_text<V: Vault>(
     sw: &mut Swizzle,
     vault: &mut V,

@@ -11,7 +11,7 @@ ghost use Rattle.heap_ops.specs.Outcomes.{UnlessFault};
 ghost use Rattle.heap_ops.specs.Structures.{IsNamed};
 ghost use Rattle.ps_meaning.specs.Objects as meaning;
 ghost use Rattle.ps_meaning.specs.Values as meant;
-ghost use Rattle.paired_ops.specs.World.{IsEmpty, IsWorld, DenotesIn, Answers, Writes};
+ghost use Rattle.paired_ops.specs.World.{IsWorld, DenotesIn, Answers, Writes};
 ghost use Rattle.paired_ops.specs.Operands.{IsForIn, IsOfForm};
 ghost use Rattle.known_classes.specs.Reading.{IsThere, RefersTo};
 
@@ -37,7 +37,6 @@ pub fn get_field<V: Vault>(
     located: Located,
 ) -> Result<Value, OpFault>
     requires alive { V.alive vault.old }
-    requires empty { IsEmpty (V.outside vault.old) }
     requires held { IfSome object (IsHeld sw.old) }
     requires there { IsThere sw.old object }
     requires class { IsHeld sw.old class }
@@ -74,7 +73,6 @@ pub fn set_field<V: Vault>(
     to: Value,
 ) -> Result<(), OpFault>
     requires alive { V.alive vault.old }
-    requires empty { IsEmpty (V.outside vault.old) }
     requires held { IfSome object (IsHeld sw.old) }
     requires there { IsThere sw.old object }
     requires class { IsHeld sw.old class }
@@ -168,7 +166,6 @@ fn read_field<V: Vault>(
     located: Located,
 ) -> Result<Value, OpFault>
     requires alive { V.alive vault.old }
-    requires empty { IsEmpty (V.outside vault.old) }
     requires held { IfSome object (IsHeld sw.old) }
     requires class { IsHeld sw.old class }
     requires text { (header_at sw.old class).kind ≡ Kind.Text }
@@ -193,7 +190,6 @@ fn write_field<V: Vault>(
     to: Value,
 ) -> Result<(), OpFault>
     requires alive { V.alive vault.old }
-    requires empty { IsEmpty (V.outside vault.old) }
     requires held { IfSome object (IsHeld sw.old) }
     requires class { IsHeld sw.old class }
     requires text { (header_at sw.old class).kind ≡ Kind.Text }

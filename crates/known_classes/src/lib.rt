@@ -1,5 +1,5 @@
-//! Classes whose texts were read before, over an area whose vault holds no object: where a field lies, and a text that structures of the class refer
-//! to, so that neither a class's text nor a structure's shape is read again at each access. Each operation is said as the meaning says it.
+//! Classes of the area whose texts were read before: where a field lies, and a text that structures of the class refer to, so that neither a
+//! class's text nor a structure's shape is read again at each access. Each operation is said as the meaning says it.
 #![tactic(auto)]
 
 pub mod access;

@@ -34,7 +34,7 @@ use Rattle.ps_meaning.specs.Objects as meaning
 use Rattle.heap_meaning.specs.Paired.{paired}
 use Rattle.heap_meaning.proofs.GivenLaws.{shown_with}
 use Rattle.heap_meaning.proofs.VectorLaws.{low-is, is-long, vector-shape, below-count, element-read, element-written}
-use Rattle.paired_ops.specs.World.{IsEmpty, IsWorld, DenotesIn, alone, Stands, Answers, Writes}
+use Rattle.paired_ops.specs.World.{IsWorld, DenotesIn, alone, Stands, Answers, Writes}
 use Rattle.paired_ops.specs.Operands.{IsForIn, IsOfForm, form_in}
 use Rattle.paired_ops.proofs.WorldLaws.{reads-stands}
 use Rattle.paired_ops.proofs.FormLaws.{int-read, holds-form, form-stored}
@@ -110,10 +110,10 @@ module _ (here : area.Heap) (of : Heap) (names : List reference.Reference) (at i
     pub known-place : HasPlace it known.form (index_of known.form n)
     known-place = subst (λ (f : Form). HasPlace it f (index_of f n)) (sym a.form_is) (element-place it (record { form = element_of v.ty; low = v.low; count = length v.elements }) z n shaped there)
 
-    pub known-got : (new : area.Heap) (before after : Outside Space) (c : code.Value) → IsHeap here → IsHeap new → IsEmpty before → IsWorld here of names
+    pub known-got : (new : area.Heap) (before after : Outside Space) (c : code.Value) → IsHeap here → IsWorld here of names
         → ReadsPlace here new before after at known.form (index_of known.form n) (Ok c)
         → Answers here new (λ k w. IsOfForm (form_in of id) k × IsForIn new names k w) of names (meaning.element_of of (Vector id) z) (Ok c)
-    known-got new before after c h now empty w got =
+    known-got new before after c h w got =
         let index = index_of (element_of v.ty) n in
         let read : ReadsPlace here new before after at (element_of v.ty) index (Ok c) = subst (λ (f : Form). ReadsPlace here new before after at f (index_of f n) (Ok c)) a.form_is got in
         let touched = touched-known here it (element_of v.ty) index (λ r. element-touched here names it v.ty v.low v.elements n v.is below r) in (
@@ -123,7 +123,7 @@ module _ (here : area.Heap) (of : Heap) (names : List reference.Reference) (at i
             subst (λ (f : Form). IsOfForm f c) (sym (form-is here of names at id v)) (holds-form new it (element_of v.ty) index c read.0),
             element-read new (alone new) (paired names) it v.ty v.low v.elements n c (vector-kept here new names it v.ty v.low v.elements read.1.keeps v.is) below read.0,
           ),
-          reads-stands here new before after (touched_by it (element_of v.ty) index) of names now empty read.1 touched w,
+          reads-stands here new before after (touched_by it (element_of v.ty) index) of names read.1 touched w,
         )
 
     pub never-fails : (new : area.Heap) (before after : Outside Space) (fault : SwizzleFault) → IsHeap here
@@ -192,23 +192,23 @@ int-same (pos n) e = to_z-of_z w32 (pos n) (record { sfits = ltb-true n (2 ^ 31)
 int-same (negsuc n) e = to_z-of_z w32 (negsuc n) (record { sfits = ltb-true n (2 ^ 31) e })
 
 -- What was read of a vector's shape is so.
-pub learned : (old new : area.Heap) (before after : Outside Space) (of : Heap) (names : List reference.Reference) (at id : ℕ) (shape : Shape) → IsHeap new → IsEmpty before → IsEmpty after
-    → IsWorld old of names → VectorAt old of names at id → ReadsShape old new before after at (Ok shape)
+pub learned : (old new : area.Heap) (before after : Outside Space) (of : Heap) (names : List reference.Reference) (at id : ℕ) (shape : Shape)
+    → IsHeap new → IsWorld old of names → VectorAt old of names at id → ReadsShape old new before after at (Ok shape)
     → IsKnownAs of id (record { vector = at; form = shape.form; low = to_z w32 (of_z w32 shape.low); count = shape.count }) × Stands old new of names
-learned old new before after of names at id shape now empty still w v r =
+learned old new before after of names at id shape now w v r =
     let it = shown_at old at in
-    let same = text-is old new after (slot_of it 0) v.ty r.0 now still r.1.reads.keeps (type-text old of names at id v) r.1.is.type in
+    let same = text-is old new after (slot_of it 0) v.ty r.0 now r.1.reads.keeps (type-text old of names at id v) r.1.is.type in
     let read : shape.low ≡ v.low = r.2.low_is ∙ low-is (alone old) (paired names) it v.ty v.low v.elements v.is in
     let low : to_z w32 (of_z w32 shape.low) ≡ v.low = int-same shape.low (ap is_int read ∙ int-read v.is.bound v.low v.is.bound_is) ∙ read in
     let form : shape.form ≡ element_of v.ty = r.3 ∙ ap element_of (sym same) in
     let count : shape.count ≡ length v.elements = r.2.count_is ∙ ap (λ (f : Form). Rattle.heap_ops.specs.Vectors.count_of it f) form ∙ (is-long (alone old) (paired names) it v.ty v.low v.elements v.is).count in (
       record { ty = v.ty; elements = v.elements; means = v.means ∙ ap (λ (l : ℤ). Some (Elements v.ty l v.elements)) (sym low); form = form; count = count },
-      reads-stands old new before after (slot_of it 0 ∷ []) of names now empty r.1.reads (type-known old of names at id v, tt) w,
+      reads-stands old new before after (slot_of it 0 ∷ []) of names r.1.reads (type-known old of names at id v, tt) w,
     )
 
-pub never-unread : (old new : area.Heap) (before after : Outside Space) (of : Heap) (names : List reference.Reference) (at id : ℕ) (fault : SwizzleFault) → IsHeap old → IsHeap new → IsEmpty after
-    → VectorAt old of names at id → ReadsShape old new before after at (Err fault) → ⊥
-never-unread old new before after of names at id fault h now still v r = no-vector_fault old new before after of names at id fault h now still v r.1
+pub never-unread : (old new : area.Heap) (before after : Outside Space) (of : Heap) (names : List reference.Reference) (at id : ℕ) (fault : SwizzleFault)
+    → IsHeap old → IsHeap new → VectorAt old of names at id → ReadsShape old new before after at (Err fault) → ⊥
+never-unread old new before after of names at id fault h now v r = no-vector_fault old new before after of names at id fault h now v r.1
 
 -- an object of the area begins at 1 or beyond
 pub held-from-one : (here : area.Heap) (at : ℕ) → IsHeap here → IsHeld here at → 1 ≤ at

@@ -8,7 +8,7 @@ ghost use Rattle.heap_ops.specs.Outcomes.{UnlessFault};
 ghost use Rattle.ps_meaning.specs.Objects as meaning;
 ghost use Rattle.ps_meaning.specs.Objects.{place_of};
 ghost use Rattle.ps_meaning.specs.Values as meant;
-ghost use Rattle.paired_ops.specs.World.{IsEmpty, IsWorld, DenotesIn, Answers, Writes};
+ghost use Rattle.paired_ops.specs.World.{IsWorld, DenotesIn, Answers, Writes};
 ghost use Rattle.paired_ops.specs.Operands.{IsForIn, IsOfForm, form_in};
 ghost use Rattle.known_vectors.specs.Known.{IsKnownAs, IsRight};
 
@@ -44,7 +44,6 @@ pub fn get_element<V: Vault>(
     at: i32,
 ) -> Result<Value, OpFault>
     requires alive { V.alive vault.old }
-    requires empty { IsEmpty (V.outside vault.old) }
     requires right { IsRight sw.old known }
     ensures got { (of : meaning.Heap) (names : List Reference) (id : ℕ) → IsWorld sw.old of names
         → DenotesIn sw.old names (Some known.vector) (meant.Vector id) → IsKnownAs of id known

@@ -7,7 +7,7 @@ ghost use Rattle.swizzle.specs.Reading.{LeavesOutside};
 ghost use Rattle.heap_ops.specs.Outcomes.{UnlessFault};
 ghost use Rattle.ps_meaning.specs.Objects as meaning;
 ghost use Rattle.ps_meaning.specs.Values as meant;
-ghost use Rattle.paired_ops.specs.World.{IsEmpty, IsWorld, DenotesIn};
+ghost use Rattle.paired_ops.specs.World.{IsWorld, DenotesIn};
 ghost use Rattle.known_vectors.specs.Known.{AreSo, IsSo, IsThere, Finds};
 ghost use Rattle.known_vectors.specs.Reached.{entry_place};
 
@@ -70,7 +70,6 @@ impl KnownVectors {
         vector: u32,
     ) -> Result<KnownVector, OpFault>
         requires alive { V.alive vault.old }
-        requires empty { IsEmpty (V.outside vault.old) }
         requires there { IsThere sw.old vector self.old.entries.items }
         ensures finds { (of : meaning.Heap) (names : List Reference) (id : ℕ) → IsWorld sw.old of names
             → DenotesIn sw.old names (Some vector) (meant.Vector id) → AreSo sw.old of names self.old.entries.items
@@ -113,7 +112,6 @@ impl KnownVectors {
         vector: u32,
     ) -> Result<KnownVector, OpFault>
         requires alive { V.alive vault.old }
-        requires empty { IsEmpty (V.outside vault.old) }
         requires held { IsHeld sw.old vector }
         ensures finds { (of : meaning.Heap) (names : List Reference) (id : ℕ) → IsWorld sw.old of names
             → DenotesIn sw.old names (Some vector) (meant.Vector id) → AreSo sw.old of names self.old.entries.items

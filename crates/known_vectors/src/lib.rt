@@ -1,5 +1,5 @@
-//! Vectors that were looked up before, over an area whose vault holds no object: what each was found to be, so that its type's text and its shape
-//! aren't read again at each access. Each operation is said as the meaning says it.
+//! Vectors of the area that were looked up before: what each was found to be, so that its type's text and its shape aren't read again at each
+//! access. Each operation is said as the meaning says it.
 #![tactic(auto)]
 
 pub mod elements;

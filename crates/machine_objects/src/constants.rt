@@ -4,7 +4,6 @@ ghost use Rattle.swizzle.specs.Reading.{LeavesOutside};
 ghost use Rattle.swizzle.specs.Text.{text_at};
 ghost use Rattle.heap_ops.specs.Structures.{IsNamed};
 ghost use Rattle.known_classes.specs.Reading.{IsThere};
-ghost use Rattle.paired_ops.specs.World.{IsEmpty};
 ghost use Rattle.machine_state.specs.Holding.{IsHolding, IsSound};
 ghost use Rattle.machine_objects.specs.inside.Constants.{ReadsConstant, FindsField, KnowsField, MeetsField};
 ghost use Rattle.machine_objects.specs.inside.Popping.{IsKind};
@@ -23,7 +22,6 @@ pub(crate) fn text_constant<V: Vault>(m: &mut Machine, vault: &mut V, k: u32) ->
     requires sound { IsSound m.old }
     requires holding { IsHolding m.old }
     requires alive { V.alive vault.old }
-    requires empty { IsEmpty (V.outside vault.old) }
     ensures reads { ReadsConstant k m.old m.new result }
     ensures holding { OnSome result (IsHolding m.new) }
     ensures text { IfSome result (IsKind Text m.new.sw) }
@@ -54,7 +52,6 @@ pub(crate) fn field_at<V: Vault>(
     requires sound { IsSound m.old }
     requires holding { IsHolding m.old }
     requires alive { V.alive vault.old }
-    requires empty { IsEmpty (V.outside vault.old) }
     ensures finds { FindsField k n m.old m.new result }
     ensures holding { OnSome result (IsHolding m.new) }
     ensures text { IfSome result (λ p. IsKind Text m.new.sw p.0) }
@@ -74,7 +71,6 @@ fn known_field<V: Vault>(m: &mut Machine, vault: &mut V, k: u32, n: u32) -> Opti
     requires sound { IsSound m.old }
     requires holding { IsHolding m.old }
     requires alive { V.alive vault.old }
-    requires empty { IsEmpty (V.outside vault.old) }
     ensures knows { KnowsField k n m.old m.new result }
     ensures holding { OnSome result (IsHolding m.new) }
     ensures leaves { LeavesOutside (V.outside vault.old) (V.outside vault.new) }
@@ -92,7 +88,6 @@ fn look_up<V: Vault>(m: &mut Machine, vault: &mut V, k: u32, n: u32) -> Option<K
     requires sound { IsSound m.old }
     requires holding { IsHolding m.old }
     requires alive { V.alive vault.old }
-    requires empty { IsEmpty (V.outside vault.old) }
     ensures knows { KnowsField k n m.old m.new result }
     ensures holding { OnSome result (IsHolding m.new) }
     ensures leaves { LeavesOutside (V.outside vault.old) (V.outside vault.new) }

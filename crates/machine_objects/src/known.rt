@@ -1,7 +1,6 @@
 //! Vectors that are popped with what they are known to be.
 ghost use Rattle.std.specs.Prelude.{IfSome, OnSome};
 ghost use Rattle.swizzle.specs.Reading.{LeavesOutside};
-ghost use Rattle.paired_ops.specs.World.{IsEmpty};
 ghost use Rattle.known_vectors.specs.Known.{IsRight};
 ghost use Rattle.machine_state.specs.Holding.{IsHolding, IsSound};
 ghost use Rattle.machine_objects.specs.inside.Elements.{PopsKnown};
@@ -17,7 +16,6 @@ pub(crate) fn pop_known<V: Vault>(m: &mut Machine, vault: &mut V) -> Option<Know
     requires sound { IsSound m.old }
     requires holding { IsHolding m.old }
     requires alive { V.alive vault.old }
-    requires empty { IsEmpty (V.outside vault.old) }
     ensures pops { PopsKnown m.old m.new result }
     ensures holding { OnSome result (IsHolding m.new) }
     ensures right { IfSome result (IsRight m.new.sw) }

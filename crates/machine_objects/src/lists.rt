@@ -2,7 +2,6 @@
 ghost use Rattle.swizzle.specs.Heap.{IsHeld};
 ghost use Rattle.swizzle.specs.Reading.{LeavesOutside};
 ghost use Rattle.ps_stepping.specs.Objects.{list_num as list_num_of, list_ref as list_ref_of};
-ghost use Rattle.paired_ops.specs.World.{IsEmpty};
 ghost use Rattle.machine_state.specs.Holding.{IsHolding, IsSound};
 ghost use Rattle.machine_state.specs.Stepped.{UnlessDamaged, Takes};
 ghost use Rattle.machine_objects.specs.inside.Making.{MakesList};
@@ -25,7 +24,6 @@ pub fn list_num<V: Vault>(m: &mut Machine, vault: &mut V, k: u32, n: u32, line: 
     requires sound { IsSound m.old }
     requires holding { IsHolding m.old }
     requires alive { V.alive vault.old }
-    requires empty { IsEmpty (V.outside vault.old) }
     ensures takes { Takes (list_num_of k n line) m.old m.new result }
     ensures leaves { LeavesOutside (V.outside vault.old) (V.outside vault.new) }
     ensures alive { UnlessDamaged result (V.alive vault.new) }
@@ -47,7 +45,6 @@ pub fn list_ref<V: Vault>(m: &mut Machine, vault: &mut V, k: u32, n: u32, line: 
     requires sound { IsSound m.old }
     requires holding { IsHolding m.old }
     requires alive { V.alive vault.old }
-    requires empty { IsEmpty (V.outside vault.old) }
     ensures takes { Takes (list_ref_of k n line) m.old m.new result }
     ensures leaves { LeavesOutside (V.outside vault.old) (V.outside vault.new) }
     ensures alive { UnlessDamaged result (V.alive vault.new) }

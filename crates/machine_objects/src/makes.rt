@@ -3,7 +3,6 @@ ghost use Rattle.std.specs.Prelude.{◌≡◌, ◌+◌, ◌^◌, ◌<◌, ◌≤
 ghost use Rattle.obj_layout.specs.declared.kind.Kind.TheVariants.{Text};
 ghost use Rattle.swizzle.specs.Reading.{LeavesOutside};
 ghost use Rattle.ps_stepping.specs.Objects.{make_structure as make_structure_of};
-ghost use Rattle.paired_ops.specs.World.{IsEmpty};
 ghost use Rattle.machine_state.specs.Holding.{IsHolding, IsSound};
 ghost use Rattle.machine_state.specs.Stepped.{UnlessDamaged, Takes};
 ghost use Rattle.machine_objects.specs.inside.Constants.{KnowsMake, ReadsConstant};
@@ -32,7 +31,6 @@ pub fn make_structure<V: Vault>(m: &mut Machine, vault: &mut V, k: u32) -> Stepp
     requires sound { IsSound m.old }
     requires holding { IsHolding m.old }
     requires alive { V.alive vault.old }
-    requires empty { IsEmpty (V.outside vault.old) }
     ensures takes { Takes (make_structure_of k) m.old m.new result }
     ensures leaves { LeavesOutside (V.outside vault.old) (V.outside vault.new) }
     ensures alive { UnlessDamaged result (V.alive vault.new) }
@@ -118,7 +116,6 @@ fn make_by_text<V: Vault>(m: &mut Machine, vault: &mut V, k: u32) -> Stepped
     requires sound { IsSound m.old }
     requires holding { IsHolding m.old }
     requires alive { V.alive vault.old }
-    requires empty { IsEmpty (V.outside vault.old) }
     ensures takes { Takes (make_structure_of k) m.old m.new result }
     ensures leaves { LeavesOutside (V.outside vault.old) (V.outside vault.new) }
     ensures alive { UnlessDamaged result (V.alive vault.new) }
@@ -142,7 +139,6 @@ fn class_constant<V: Vault>(m: &mut Machine, vault: &mut V, k: u32) -> Option<u3
     requires sound { IsSound m.old }
     requires holding { IsHolding m.old }
     requires alive { V.alive vault.old }
-    requires empty { IsEmpty (V.outside vault.old) }
     ensures reads { ReadsConstant k m.old m.new result }
     ensures holding { OnSome result (IsHolding m.new) }
     ensures text { IfSome result (IsKind Text m.new.sw) }

@@ -3,7 +3,6 @@ ghost use Rattle.swizzle.specs.Reading.{LeavesOutside};
 ghost use Rattle.ps_meaning.specs.Values.{Nil};
 ghost use Rattle.ps_stepping.specs.Steps.{push_ref as push_ref_of};
 ghost use Rattle.ps_stepping.specs.Objects.{compare_objects as compare_objects_of, is_of_class as is_of_class_of, field_num as field_num_of, field_ref as field_ref_of, set_field_num as set_field_num_of, set_field_ref as set_field_ref_of};
-ghost use Rattle.paired_ops.specs.World.{IsEmpty};
 ghost use Rattle.machine_state.specs.Holding.{IsHolding, IsSound};
 ghost use Rattle.machine_state.specs.Stepped.{UnlessDamaged, Takes};
 ghost use Rattle.std.specs.Prelude.{◌≡◌};
@@ -64,7 +63,6 @@ pub fn is_of_class<V: Vault>(m: &mut Machine, vault: &mut V, k: u32) -> Stepped
     requires sound { IsSound m.old }
     requires holding { IsHolding m.old }
     requires alive { V.alive vault.old }
-    requires empty { IsEmpty (V.outside vault.old) }
     ensures takes { Takes (is_of_class_of k) m.old m.new result }
     ensures leaves { LeavesOutside (V.outside vault.old) (V.outside vault.new) }
     ensures alive { UnlessDamaged result (V.alive vault.new) }
@@ -91,7 +89,6 @@ pub fn field_num<V: Vault>(m: &mut Machine, vault: &mut V, k: u32, n: u32, line:
     requires sound { IsSound m.old }
     requires holding { IsHolding m.old }
     requires alive { V.alive vault.old }
-    requires empty { IsEmpty (V.outside vault.old) }
     ensures takes { Takes (field_num_of k n line) m.old m.new result }
     ensures leaves { LeavesOutside (V.outside vault.old) (V.outside vault.new) }
     ensures alive { UnlessDamaged result (V.alive vault.new) }
@@ -108,7 +105,6 @@ fn find_field_num<V: Vault>(m: &mut Machine, vault: &mut V, k: u32, n: u32, line
     requires sound { IsSound m.old }
     requires holding { IsHolding m.old }
     requires alive { V.alive vault.old }
-    requires empty { IsEmpty (V.outside vault.old) }
     ensures takes { Takes (field_num_of k n line) m.old m.new result }
     ensures leaves { LeavesOutside (V.outside vault.old) (V.outside vault.new) }
     ensures alive { UnlessDamaged result (V.alive vault.new) }
@@ -132,7 +128,6 @@ pub fn field_ref<V: Vault>(m: &mut Machine, vault: &mut V, k: u32, n: u32, line:
     requires sound { IsSound m.old }
     requires holding { IsHolding m.old }
     requires alive { V.alive vault.old }
-    requires empty { IsEmpty (V.outside vault.old) }
     ensures takes { Takes (field_ref_of k n line) m.old m.new result }
     ensures leaves { LeavesOutside (V.outside vault.old) (V.outside vault.new) }
     ensures alive { UnlessDamaged result (V.alive vault.new) }
@@ -149,7 +144,6 @@ fn find_field_ref<V: Vault>(m: &mut Machine, vault: &mut V, k: u32, n: u32, line
     requires sound { IsSound m.old }
     requires holding { IsHolding m.old }
     requires alive { V.alive vault.old }
-    requires empty { IsEmpty (V.outside vault.old) }
     ensures takes { Takes (field_ref_of k n line) m.old m.new result }
     ensures leaves { LeavesOutside (V.outside vault.old) (V.outside vault.new) }
     ensures alive { UnlessDamaged result (V.alive vault.new) }
@@ -179,7 +173,6 @@ pub fn set_field_num<V: Vault>(
     requires sound { IsSound m.old }
     requires holding { IsHolding m.old }
     requires alive { V.alive vault.old }
-    requires empty { IsEmpty (V.outside vault.old) }
     ensures takes { Takes (set_field_num_of k n line) m.old m.new result }
     ensures leaves { LeavesOutside (V.outside vault.old) (V.outside vault.new) }
     ensures alive { UnlessDamaged result (V.alive vault.new) }
@@ -196,7 +189,6 @@ fn store_field_num<V: Vault>(m: &mut Machine, vault: &mut V, k: u32, n: u32, lin
     requires sound { IsSound m.old }
     requires holding { IsHolding m.old }
     requires alive { V.alive vault.old }
-    requires empty { IsEmpty (V.outside vault.old) }
     ensures takes { Takes (set_field_num_of k n line) m.old m.new result }
     ensures leaves { LeavesOutside (V.outside vault.old) (V.outside vault.new) }
     ensures alive { UnlessDamaged result (V.alive vault.new) }
@@ -230,7 +222,6 @@ pub fn set_field_ref<V: Vault>(
     requires sound { IsSound m.old }
     requires holding { IsHolding m.old }
     requires alive { V.alive vault.old }
-    requires empty { IsEmpty (V.outside vault.old) }
     ensures takes { Takes (set_field_ref_of k n line) m.old m.new result }
     ensures leaves { LeavesOutside (V.outside vault.old) (V.outside vault.new) }
     ensures alive { UnlessDamaged result (V.alive vault.new) }
@@ -247,7 +238,6 @@ fn store_field_ref<V: Vault>(m: &mut Machine, vault: &mut V, k: u32, n: u32, lin
     requires sound { IsSound m.old }
     requires holding { IsHolding m.old }
     requires alive { V.alive vault.old }
-    requires empty { IsEmpty (V.outside vault.old) }
     ensures takes { Takes (set_field_ref_of k n line) m.old m.new result }
     ensures leaves { LeavesOutside (V.outside vault.old) (V.outside vault.new) }
     ensures alive { UnlessDamaged result (V.alive vault.new) }

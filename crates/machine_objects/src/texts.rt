@@ -8,7 +8,6 @@ ghost use Rattle.ps_stepping.specs.Config.{constants_in, constant_at};
 ghost use Rattle.ps_stepping.specs.Machine.{push_text as push_text_of, write_text as write_text_of};
 ghost use Rattle.ps_stepping.specs.Objects.{join as join_of, part as part_of, int_text as int_text_of, text_length as text_length_of, compare_texts as compare_texts_of, library as library_of};
 ghost use Rattle.swizzle.specs.Reading.{LeavesOutside};
-ghost use Rattle.paired_ops.specs.World.{IsEmpty};
 
 use crate::constants::text_constant;
 use crate::gives::give_text;
@@ -33,7 +32,6 @@ pub fn push_text<V: Vault>(m: &mut Machine, vault: &mut V, k: u32) -> Stepped
     requires sound { IsSound m.old }
     requires holding { IsHolding m.old }
     requires alive { V.alive vault.old }
-    requires empty { IsEmpty (V.outside vault.old) }
     ensures takes { Takes (λ c. push_text_of (constant_at (constants_in c.unit) k) c) m.old m.new result }
     ensures leaves { LeavesOutside (V.outside vault.old) (V.outside vault.new) }
     ensures alive { UnlessDamaged result (V.alive vault.new) }

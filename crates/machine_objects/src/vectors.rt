@@ -2,7 +2,6 @@
 ghost use Rattle.swizzle.specs.Reading.{LeavesOutside};
 ghost use Rattle.ps_meaning.specs.Objects.{low_of, high_of};
 ghost use Rattle.ps_stepping.specs.Objects.{element_num as element_num_of, element_ref as element_ref_of, bound as bound_of};
-ghost use Rattle.paired_ops.specs.World.{IsEmpty};
 ghost use Rattle.machine_state.specs.Holding.{IsHolding, IsSound};
 ghost use Rattle.machine_state.specs.Stepped.{UnlessDamaged, Takes};
 
@@ -22,7 +21,6 @@ pub fn element_num<V: Vault>(m: &mut Machine, vault: &mut V, line: Line) -> Step
     requires sound { IsSound m.old }
     requires holding { IsHolding m.old }
     requires alive { V.alive vault.old }
-    requires empty { IsEmpty (V.outside vault.old) }
     ensures takes { Takes (element_num_of line) m.old m.new result }
     ensures leaves { LeavesOutside (V.outside vault.old) (V.outside vault.new) }
     ensures alive { UnlessDamaged result (V.alive vault.new) }
@@ -39,7 +37,6 @@ fn find_num<V: Vault>(m: &mut Machine, vault: &mut V, line: Line) -> Stepped
     requires sound { IsSound m.old }
     requires holding { IsHolding m.old }
     requires alive { V.alive vault.old }
-    requires empty { IsEmpty (V.outside vault.old) }
     ensures takes { Takes (element_num_of line) m.old m.new result }
     ensures leaves { LeavesOutside (V.outside vault.old) (V.outside vault.new) }
     ensures alive { UnlessDamaged result (V.alive vault.new) }
@@ -60,7 +57,6 @@ pub fn element_ref<V: Vault>(m: &mut Machine, vault: &mut V, line: Line) -> Step
     requires sound { IsSound m.old }
     requires holding { IsHolding m.old }
     requires alive { V.alive vault.old }
-    requires empty { IsEmpty (V.outside vault.old) }
     ensures takes { Takes (element_ref_of line) m.old m.new result }
     ensures leaves { LeavesOutside (V.outside vault.old) (V.outside vault.new) }
     ensures alive { UnlessDamaged result (V.alive vault.new) }
@@ -77,7 +73,6 @@ fn find_ref<V: Vault>(m: &mut Machine, vault: &mut V, line: Line) -> Stepped
     requires sound { IsSound m.old }
     requires holding { IsHolding m.old }
     requires alive { V.alive vault.old }
-    requires empty { IsEmpty (V.outside vault.old) }
     ensures takes { Takes (element_ref_of line) m.old m.new result }
     ensures leaves { LeavesOutside (V.outside vault.old) (V.outside vault.new) }
     ensures alive { UnlessDamaged result (V.alive vault.new) }
@@ -98,7 +93,6 @@ pub fn lower_bound<V: Vault>(m: &mut Machine, vault: &mut V) -> Stepped
     requires sound { IsSound m.old }
     requires holding { IsHolding m.old }
     requires alive { V.alive vault.old }
-    requires empty { IsEmpty (V.outside vault.old) }
     ensures takes { Takes (bound_of low_of) m.old m.new result }
     ensures leaves { LeavesOutside (V.outside vault.old) (V.outside vault.new) }
     ensures alive { UnlessDamaged result (V.alive vault.new) }
@@ -116,7 +110,6 @@ pub fn upper_bound<V: Vault>(m: &mut Machine, vault: &mut V) -> Stepped
     requires sound { IsSound m.old }
     requires holding { IsHolding m.old }
     requires alive { V.alive vault.old }
-    requires empty { IsEmpty (V.outside vault.old) }
     ensures takes { Takes (bound_of high_of) m.old m.new result }
     ensures leaves { LeavesOutside (V.outside vault.old) (V.outside vault.new) }
     ensures alive { UnlessDamaged result (V.alive vault.new) }

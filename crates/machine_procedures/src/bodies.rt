@@ -6,7 +6,7 @@ ghost use Rattle.swizzle.specs.Heap.{IsHeld};
 ghost use Rattle.swizzle.specs.Reading.{LeavesOutside};
 ghost use Rattle.ps_meaning.specs.Objects as meaning;
 ghost use Rattle.ps_meaning.specs.Values as meant;
-ghost use Rattle.paired_ops.specs.World.{DenotesIn, IsEmpty, IsWorld};
+ghost use Rattle.paired_ops.specs.World.{DenotesIn, IsWorld};
 ghost use Rattle.machine_state.specs.Holding.{IsHolding, IsSound, object_in};
 ghost use Rattle.machine_procedures.specs.inside.Bodies.{AnswersBody, FindsBody, FindsPlace, IsBelow, IsCalled, IsNotCalled, IsThere, KeepsBody, StandsAt};
 
@@ -37,7 +37,6 @@ pub(crate) fn learn<V: Vault>(m: &mut Machine, vault: &mut V, n: u32, word: u32)
     requires sound { IsSound m.old }
     requires holding { IsHolding m.old }
     requires alive { V.alive vault.old }
-    requires empty { IsEmpty (V.outside vault.old) }
     requires below { IsBelow n word m.old }
     ensures finds { FindsPlace n word m.old m.new result }
     ensures frame { m.new.frame ≡ m.old.frame }
@@ -69,7 +68,6 @@ fn read_body<V: Vault>(m: &mut Machine, vault: &mut V, n: u32, word: u32) -> Opt
     requires sound { IsSound m.old }
     requires holding { IsHolding m.old }
     requires alive { V.alive vault.old }
-    requires empty { IsEmpty (V.outside vault.old) }
     requires below { IsBelow n word m.old }
     ensures finds { FindsBody n word m.old m.new result }
     ensures frame { m.new.frame ≡ m.old.frame }
@@ -105,7 +103,6 @@ fn procedure_in(sw: &Swizzle, word: u32) -> Option<u32>
 #[inline]
 fn body_of<V: Vault>(sw: &mut Swizzle, vault: &mut V, procedure: u32) -> Option<Body>
     requires alive { V.alive vault.old }
-    requires empty { IsEmpty (V.outside vault.old) }
     requires there { IsThere sw.old procedure }
     ensures told { (of : meaning.Heap) (names : List Reference) (u : UnitView) (within : Option ℕ) → IsWorld sw.old of names
         → DenotesIn sw.old names (Some procedure) (meant.Procedure (meant.as_compiled u) within) → AnswersBody sw.old sw.new of names u within result }

@@ -2,7 +2,6 @@
 ghost use Rattle.std.specs.Prelude.{◌+◌, ◌<◌, length};
 ghost use Rattle.swizzle.specs.Reading.{LeavesOutside};
 ghost use Rattle.ps_stepping.specs.Procedures.{call as call_of};
-ghost use Rattle.paired_ops.specs.World.{IsEmpty};
 ghost use Rattle.machine_state.specs.Calling.{body_at};
 ghost use Rattle.machine_state.specs.Holding.{IsHolding, IsSound};
 ghost use Rattle.machine_state.specs.Stepped.{Takes, UnlessDamaged};
@@ -22,7 +21,6 @@ pub fn call<V: Vault>(m: &mut Machine, vault: &mut V, n: u32, line: Line) -> Ste
     requires sound { IsSound m.old }
     requires holding { IsHolding m.old }
     requires alive { V.alive vault.old }
-    requires empty { IsEmpty (V.outside vault.old) }
     ensures takes { Takes (call_of n line) m.old m.new result }
     ensures leaves { LeavesOutside (V.outside vault.old) (V.outside vault.new) }
     ensures alive { UnlessDamaged result (V.alive vault.new) }
@@ -58,7 +56,6 @@ fn call_unknown<V: Vault>(m: &mut Machine, vault: &mut V, word: u32, n: u32, lin
     requires sound { IsSound m.old }
     requires holding { IsHolding m.old }
     requires alive { V.alive vault.old }
-    requires empty { IsEmpty (V.outside vault.old) }
     requires below { IsBelow n word m.old }
     requires there { m.old.frame.refs + n < length m.old.refs.own }
     ensures takes { Takes (call_of n line) m.old m.new result }

@@ -2,7 +2,6 @@
 ghost use Rattle.std.specs.Prelude.{OnSome};
 ghost use Rattle.swizzle.specs.Reading.{LeavesOutside};
 ghost use Rattle.heap_places.specs.Places.{IsNear};
-ghost use Rattle.paired_ops.specs.World.{IsEmpty};
 ghost use Rattle.paired_procedures.specs.Scopes.{IsInt};
 ghost use Rattle.machine_state.specs.Holding.{IsHolding, IsSound};
 ghost use Rattle.machine_state.specs.Stepped.{UnlessDamaged};
@@ -15,7 +14,7 @@ use obj_layout::vault::Vault;
 use paired_procedures::scope::{get_kept, set_kept};
 
 /// What is kept under the name of this number of the scope so many levels out; None where there is none.
-#[inline]
+#[inline(always)]
 pub(crate) fn read_name<V: Vault>(
     m: &mut Machine,
     vault: &mut V,
@@ -25,7 +24,6 @@ pub(crate) fn read_name<V: Vault>(
     requires sound { IsSound m.old }
     requires holding { IsHolding m.old }
     requires alive { V.alive vault.old }
-    requires empty { IsEmpty (V.outside vault.old) }
     ensures reads { ReadsName up name m.old m.new result }
     ensures leaves { LeavesOutside (V.outside vault.old) (V.outside vault.new) }
     ensures alive { OnSome result (V.alive vault.new) }
@@ -53,7 +51,6 @@ pub(crate) fn write_name<V: Vault>(
     requires sound { IsSound m.old }
     requires holding { IsHolding m.old }
     requires alive { V.alive vault.old }
-    requires empty { IsEmpty (V.outside vault.old) }
     requires near { IsNear m.old.sw to }
     requires int { IsInt to }
     ensures writes { WritesName up name to m.old m.new result }

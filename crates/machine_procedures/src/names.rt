@@ -1,7 +1,6 @@
 //! Instructions over names that are kept in scopes.
 ghost use Rattle.swizzle.specs.Reading.{LeavesOutside};
 ghost use Rattle.ps_stepping.specs.Procedures.{keep_num as keep_num_of, keep_ref as keep_ref_of, kept_num as kept_num_of, kept_ref as kept_ref_of};
-ghost use Rattle.paired_ops.specs.World.{IsEmpty};
 ghost use Rattle.machine_state.specs.Holding.{IsHolding, IsSound};
 ghost use Rattle.machine_state.specs.Stepped.{Takes, UnlessDamaged};
 
@@ -19,7 +18,6 @@ pub fn kept_num<V: Vault>(m: &mut Machine, vault: &mut V, up: u32, name: u32) ->
     requires sound { IsSound m.old }
     requires holding { IsHolding m.old }
     requires alive { V.alive vault.old }
-    requires empty { IsEmpty (V.outside vault.old) }
     ensures takes { Takes (kept_num_of up name) m.old m.new result }
     ensures leaves { LeavesOutside (V.outside vault.old) (V.outside vault.new) }
     ensures alive { UnlessDamaged result (V.alive vault.new) }
@@ -38,7 +36,6 @@ pub fn kept_ref<V: Vault>(m: &mut Machine, vault: &mut V, up: u32, name: u32) ->
     requires sound { IsSound m.old }
     requires holding { IsHolding m.old }
     requires alive { V.alive vault.old }
-    requires empty { IsEmpty (V.outside vault.old) }
     ensures takes { Takes (kept_ref_of up name) m.old m.new result }
     ensures leaves { LeavesOutside (V.outside vault.old) (V.outside vault.new) }
     ensures alive { UnlessDamaged result (V.alive vault.new) }
@@ -58,7 +55,6 @@ pub fn keep_num<V: Vault>(m: &mut Machine, vault: &mut V, up: u32, name: u32) ->
     requires sound { IsSound m.old }
     requires holding { IsHolding m.old }
     requires alive { V.alive vault.old }
-    requires empty { IsEmpty (V.outside vault.old) }
     ensures takes { Takes (keep_num_of up name) m.old m.new result }
     ensures leaves { LeavesOutside (V.outside vault.old) (V.outside vault.new) }
     ensures alive { UnlessDamaged result (V.alive vault.new) }
@@ -75,7 +71,6 @@ pub fn keep_ref<V: Vault>(m: &mut Machine, vault: &mut V, up: u32, name: u32) ->
     requires sound { IsSound m.old }
     requires holding { IsHolding m.old }
     requires alive { V.alive vault.old }
-    requires empty { IsEmpty (V.outside vault.old) }
     ensures takes { Takes (keep_ref_of up name) m.old m.new result }
     ensures leaves { LeavesOutside (V.outside vault.old) (V.outside vault.new) }
     ensures alive { UnlessDamaged result (V.alive vault.new) }

@@ -3,7 +3,6 @@ ghost use Rattle.std.specs.Prelude.{◌≡◌};
 ghost use Rattle.swizzle.specs.Heap.{IsHeld};
 ghost use Rattle.swizzle.specs.Reading.{LeavesOutside};
 ghost use Rattle.ps_stepping.specs.Procedures.{closure as closure_of};
-ghost use Rattle.paired_ops.specs.World.{IsEmpty};
 ghost use Rattle.machine_state.specs.Holding.{IsHolding, IsSound};
 ghost use Rattle.machine_state.specs.Stepped.{Takes, UnlessDamaged};
 ghost use Rattle.machine_procedures.specs.inside.Making.{MakesProcedureOf};
@@ -22,7 +21,6 @@ pub fn closure<V: Vault>(m: &mut Machine, vault: &mut V, k: u32) -> Stepped
     requires sound { IsSound m.old }
     requires holding { IsHolding m.old }
     requires alive { V.alive vault.old }
-    requires empty { IsEmpty (V.outside vault.old) }
     ensures takes { Takes (closure_of k) m.old m.new result }
     ensures leaves { LeavesOutside (V.outside vault.old) (V.outside vault.new) }
     ensures alive { UnlessDamaged result (V.alive vault.new) }

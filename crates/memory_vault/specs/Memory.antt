@@ -25,7 +25,7 @@ pub record Memory : Type 0 where
 -- a vault that is made with these words, and has had no call
 abbrev pub fresh : List ℕ → ℕ → ℕ → Memory
 fresh words directory room = record {
-  space = record { words = words; directory = directory };
+  space = record { words = words; directory = directory; file = [] };
   room = room;
   told = [];
   calls = 0;

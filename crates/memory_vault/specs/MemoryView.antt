@@ -1,12 +1,12 @@
 -- How the fields of a `MemoryVault` are seen, and what is so of them.
-use Rattle.std.specs.Prelude.{◌≤◌, vec_capacity}
+use Rattle.std.specs.Prelude.{◌≤◌, [], vec_capacity}
 use Rattle.memory_vault.specs.Memory.{Memory}
 use Rattle.memory_vault.specs.Kept.{IsKept}
 use Rattle.memory_vault.specs.declared.memory.MemoryVault.TheInside.{Inside}
 
 abbrev pub memory_of : Inside → Memory
 memory_of vault = record {
-  space = record { words = vault.words.items; directory = vault.directory };
+  space = record { words = vault.words.items; directory = vault.directory; file = [] };
   room = vault.room;
   told = vault.told.items;
   calls = vault.calls;

@@ -1,5 +1,5 @@
 -- No object is there, and what is left of the store's images is left of the device's.
-use Rattle.std.proofs.Common.{ℕ, List}
+use Rattle.std.proofs.Common.{ℕ, List, []}
 use Rattle.ps_outside.specs.Outside.{Outside, LeavesSame}
 use Rattle.obj_layout.specs.Stored.{Space}
 use Rattle.no_store.specs.NoObjects.{outside_of, HoldsNothing}
@@ -10,7 +10,7 @@ holds-nothing host = λ pid words h. h.is
 
 -- an image of the device as the store shows it
 abbrev shown : List ℕ → Space
-shown image = record { words = image; directory = 0 }
+shown image = record { words = []; directory = 0; file = image }
 
 module _ (a b : Outside (List ℕ)) where
   -- the device's images were left, where the store's were
@@ -26,7 +26,7 @@ module _ (a b : Outside (List ℕ)) where
   pub images-left : LeavesSame a b → LeavesSame (outside_of a) (outside_of b)
   images-left is = record {
     later = is.later;
-    kept = λ m space past at. is.kept m space.words past at;
-    no_other = λ m space past at. is.no_other m space.words past at;
-    each = λ m space from until at. is.each m space.words from until at;
+    kept = λ m space past at. is.kept m space.file past at;
+    no_other = λ m space past at. is.no_other m space.file past at;
+    each = λ m space from until at. is.each m space.file from until at;
   }

@@ -4,12 +4,12 @@ use Rattle.ps_outside.specs.Outside.{Outside}
 use Rattle.obj_layout.specs.Stored.{Space, Holds}
 
 -- What is seen of a store without objects. It tells what its host tells, and counts what that counts; and it holds nothing. What a crash may leave of
--- the host's device it shows as it is, each byte as a word: so who leaves the images of the store leaves those of the device.
+-- the host's device it shows as it is, as a file: so who leaves the images of the store leaves those of the device.
 abbrev pub outside_of : Outside (List ℕ) → Outside Space
 outside_of host = record {
   clock = host.clock;
   told = host.told;
-  images = λ moment space. host.images moment space.words;
+  images = λ moment space. host.images moment space.file;
   contents = λ space. ⊥;
   device_faults = host.device_faults;
   output_faults = host.output_faults;

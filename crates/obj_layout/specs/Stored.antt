@@ -1,5 +1,5 @@
 -- What a store of objects holds, and where an object of it is damaged.
-use Rattle.std.specs.Prelude.{◌≡◌, ℕ, ◌+◌, ◌^◌, ◌<◌, ◌≤◌, List, ◌++◌, length, take, drop, Option, Some, None, nat_lt, nat_eq, if◌then◌else◌, slice_index, ◌/◌, ◌%◌}
+use Rattle.std.specs.Prelude.{◌≡◌, ℕ, ◌+◌, ◌^◌, ◌<◌, ◌≤◌, List, [], ◌++◌, length, take, drop, Option, Some, None, nat_lt, nat_eq, if◌then◌else◌, slice_index, ◌/◌, ◌%◌}
 use Rattle.std.specs.List.{AllByRecursion}
 use Rattle.ps_outside.specs.Outside.{Outside}
 use Rattle.obj_layout.specs.declared.header.Header.{Header}
@@ -8,12 +8,18 @@ use Rattle.obj_layout.specs.declared.header.LayoutFault.TheVariants.{UnknownKind
 use Rattle.obj_layout.specs.Header.{HasFitLengths, HasFitFields, header_words, header_fault, object_length}
 use Rattle.obj_layout.specs.Objects.{Placed, HoldsObjects, IsAmong}
 
--- The used words of a store, from word 0, which is no object's; and the PID of its directory, 0 where it has none.
+-- The used words of a store, from word 0, which is no object's; and the PID of its directory, 0 where it has none. Of what a crash leaves it has
+-- the bytes of the file too; of what a read gives it has none.
 pub record Space : Type 0 where
   pub words : List ℕ
   pub directory : ℕ
+  pub file : List ℕ
 
--- The words of a space are 64 bits wide, as many as are used, and fewer than 2 ^ 30; the directory's PID is below them.
+-- the same words and directory, whatever the file
+abbrev pub without_file : Space → Space
+without_file space = record space { file = [] }
+
+-- The words of a space are 64 bits wide, as many as are used, and fewer than 2 ^ 30; the directory's PID is below them. It has no file.
 pub record IsSpace (used directory : ℕ) (space : Space) : Type 0 where
   pub wide : AllByRecursion (λ word. word < 2 ^ 64) space.words
   pub long : length space.words ≡ used
@@ -21,6 +27,7 @@ pub record IsSpace (used directory : ℕ) (space : Space) : Type 0 where
   pub small : used < 2 ^ 30
   pub named : space.directory ≡ directory
   pub below : directory < used
+  pub unfiled : space.file ≡ []
 
 -- In this space, which is cut into objects, the object of this PID has these words.
 pub record HasObject (space : Space) (pid : ℕ) (words : List ℕ) : Type 0 where

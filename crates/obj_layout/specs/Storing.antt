@@ -1,15 +1,29 @@
 -- What each call of a store says of the outside.
 use Rattle.std.specs.Prelude.{◌≡◌, ◌≢◌, ◌⊎◌, ℕ, ◌+◌, ◌*◌, ◌/◌, ◌≤◌, List, Option, Some, None, Result, Err, OnOk}
-use Rattle.ps_outside.specs.Outside.{Outside, Leaves, LeavesSame, SameContents, TellsNothing, TellsFront, ToldAll, Rose}
+use Rattle.ps_outside.specs.Outside.{Outside, Leaves, LeavesSame, SameContents, TellsNothing, TellsFront, ToldAll, Rose, seen_as}
 use Rattle.obj_layout.specs.declared.vault.VaultFault.{VaultFault}
 use Rattle.obj_layout.specs.declared.vault.VaultFault.TheVariants.{Device, Output, Full, Damaged}
-use Rattle.obj_layout.specs.Stored.{Space, damage_at}
+use Rattle.obj_layout.specs.Stored.{Space, damage_at, without_file}
 
--- A call that reads or stages: it tells nothing, leaves what a crash may leave, fails as the device only where that did, and takes at most
--- so many device calls where it is answered.
+-- an outside whose images are seen by their words and their directory, whatever their files
+abbrev pub unfiled : Outside Space → Outside Space
+unfiled = seen_as without_file
+
+-- A call that reads: it tells nothing, leaves what a crash may leave, fails as the device only where that did, and takes at most so many device
+-- calls where it is answered.
 pub record IsStoreCall {T : Type 0} (old new : Outside Space) (most : ℕ) (result : Result T VaultFault) : Type 0 where
   pub told : TellsNothing old new
   pub images : LeavesSame old new
+  pub counts : old.device_faults ≤ new.device_faults
+  pub output : new.output_faults ≡ old.output_faults
+  pub cause : result ≡ Err Device → Rose old.device_faults new.device_faults
+  pub other : result ≢ Err Output
+  pub calls : OnOk result (new.device_calls ≤ old.device_calls + most)
+
+-- A call that stages words: as one that reads, but that it leaves of what a crash may leave the words and the directory alone.
+pub record IsStagingCall {T : Type 0} (old new : Outside Space) (most : ℕ) (result : Result T VaultFault) : Type 0 where
+  pub told : TellsNothing old new
+  pub images : LeavesSame (unfiled old) (unfiled new)
   pub counts : old.device_faults ≤ new.device_faults
   pub output : new.output_faults ≡ old.output_faults
   pub cause : result ≡ Err Device → Rose old.device_faults new.device_faults
@@ -35,11 +49,11 @@ pub record Becomes (old new : Outside Space) (step : Space → Space) : Type 0 w
   pub told : (space : Space) → old.contents space → new.contents (step space)
   pub no_other : (after : Space) → new.contents after → (before : Space) × old.contents before × (step before ≡ after)
 
--- All that was staged is kept whole, or none of it: at each moment, and after an answer all of it, where a content is told.
+-- All that was staged is kept whole, or none of it, in whatever file: at each moment, and after an answer all of it, where a content is told.
 pub record Settles {T : Type 0} (old new : Outside Space) (most : ℕ) (step : Space → Space) (result : Result T VaultFault) : Type 0 where
   pub told : TellsNothing old new
-  pub images : Leaves old new (λ space. old.images old.clock space ⊎ ((before : Space) × old.contents before × (step before ≡ space)))
-  pub durable : OnOk result ((before space : Space) → old.contents before → new.images new.clock space → new.contents space)
+  pub images : Leaves (unfiled old) (unfiled new) (λ space. (unfiled old).images old.clock space ⊎ ((before : Space) × old.contents before × (step before ≡ space)))
+  pub durable : OnOk result ((before space : Space) → old.contents before → (unfiled new).images new.clock space → new.contents space)
   pub counts : old.device_faults ≤ new.device_faults
   pub output : new.output_faults ≡ old.output_faults
   pub cause : result ≡ Err Device → Rose old.device_faults new.device_faults

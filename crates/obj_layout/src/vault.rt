@@ -1,7 +1,7 @@
 ghost use Rattle.std.specs.Prelude.{◌≡◌, ◌+◌, ◌≤◌, ◌<◌, ◌^◌, ◌↔◌, ℕ, List, length, Some, None, true, IfOk, OnOk, Err, drop};
 ghost use Rattle.ps_outside.specs.Outside.{Outside, SameContents};
 ghost use Rattle.obj_layout.specs.Stored.{Space, IsSpace, Holds, IsHeaded, appended, overwritten, directed};
-ghost use Rattle.obj_layout.specs.Storing.{IsStoreCall, TestsObject, NeverDamaged, NeverFull, Becomes, Settles, Puts, reading, writing, settling};
+ghost use Rattle.obj_layout.specs.Storing.{IsStoreCall, IsStagingCall, TestsObject, NeverDamaged, NeverFull, Becomes, Settles, Puts, reading, writing, settling};
 
 /// Why a vault didn't answer. After any fault the vault isn't alive.
 #[derive(Clone, Copy, PartialEq, Eq, Debug)]
@@ -71,7 +71,7 @@ pub trait Vault {
         ensures full { (used wanted capacity : ℕ) → result ≡ Err (VaultFault.Full used wanted capacity) →
             (used ≡ used_words self.old) × (wanted ≡ length words.now) × (capacity ≡ most_words self.old) × (capacity < used + wanted) }
         ensures room { OnOk result (used_words self.old + length words.now ≤ most_words self.old) }
-        ensures call { IsStoreCall (outside self.old) (outside self.new) (writing (length words.now)) result }
+        ensures call { IsStagingCall (outside self.old) (outside self.new) (writing (length words.now)) result }
         ensures sound { NeverDamaged result }
         ensures used { OnOk result (used_words self.new ≡ used_words self.old + length words.now) }
         ensures numbers { (directory_at self.new ≡ directory_at self.old) × (most_words self.new ≡ most_words self.old) }
@@ -83,7 +83,7 @@ pub trait Vault {
         requires headed { IsHeaded words.now }
         ensures told { OnOk result (Becomes (outside self.old) (outside self.new) (overwritten pid words.now)) }
         ensures tested { TestsObject (outside self.old) pid (Some (length words.now)) result }
-        ensures call { IsStoreCall (outside self.old) (outside self.new) (writing (length words.now)) result }
+        ensures call { IsStagingCall (outside self.old) (outside self.new) (writing (length words.now)) result }
         ensures full { NeverFull result }
         ensures numbers { (used_words self.new ≡ used_words self.old) × (directory_at self.new ≡ directory_at self.old) × (most_words self.new ≡ most_words self.old) }
         ensures alive { OnOk result (alive self.new) };

@@ -1,5 +1,5 @@
 -- What objects that are appended or written over make of a space.
-use Rattle.std.proofs.Common.{◌≡◌, ◌⊎◌, inl, inr, ℕ, ◌+◌, ◌-◌, ◌*◌, ◌<◌, ◌≤◌, Bool, List, ◌++◌, length, get_or, take, drop, refl, sym, ◌∙◌, ap, subst, arith, length-append, length-take, length-drop, Option, Some}
+use Rattle.std.proofs.Common.{◌≡◌, ◌⊎◌, inl, inr, ℕ, ◌+◌, ◌<◌, ◌≤◌, Bool, List, ◌++◌, length, get_or, take, drop, sym, ◌∙◌, ap, subst, arith, length-append, length-take, length-drop, []}
 use Rattle.std.proofs.lemmas.Grind.{same_number_lists}
 use Rattle.std.proofs.lemmas.List.{append_assoc, get_or-append_right, get_or_append_left}
 use Rattle.ps_outside.specs.Outside.{Outside}
@@ -35,7 +35,7 @@ becomes_of used next p q s t a b step f turns order order_next joins = record {
 }
 
 pub joins_append : (used : ℕ) (put : List ℕ) (x y : Held) → HoldsPut used (used + length put) used put x y → appended put (space_of used x) ≡ space_of (used + length put) y
-joins_append used put x y is = λ i. record { words = words i; directory = sym (ap (λ n. n.directory) is.note) i }
+joins_append used put x y is = λ i. record { words = words i; directory = sym (ap (λ n. n.directory) is.note) i; file = [] }
   where
     by : (k : ℕ) → k < used + length put → (k < used) ⊎ (used ≤ k) → get_or (words_of used x.bytes ++ put) k 0 ≡ word_at y.bytes k
     by k lt (inl low) =
@@ -51,7 +51,7 @@ joins_append used put x y is = λ i. record { words = words i; directory = sym (
         by k all (either k used) ∙ sym (word_of (used + length put) y.bytes k all))
 
 pub joins_overwrite : (used pid : ℕ) (put : List ℕ) (x y : Held) → pid + length put ≤ used → HoldsPut pid (pid + length put) pid put x y → overwritten pid put (space_of used x) ≡ space_of used y
-joins_overwrite used pid put x y within is = λ i. record { words = words i; directory = sym (ap (λ n. n.directory) is.note) i }
+joins_overwrite used pid put x y within is = λ i. record { words = words i; directory = sym (ap (λ n. n.directory) is.note) i; file = [] }
   where
     long : length (words_of used x.bytes) ≡ used
     long = length_words used x.bytes

@@ -1,15 +1,15 @@
 -- What the faults of a store say.
-use Rattle.std.proofs.Common.{◌≡◌, ◌≢◌, ◌⊎◌, inl, inr, ℕ, ◌+◌, ◌≤◌, ◌<◌, Bool, List, Option, Some, None, sym, ap, ◌∙◌, subst, arith, Result, Ok, Err, OnOk, refl}
+use Rattle.std.proofs.Common.{◌≡◌, inl, inr, ℕ, ◌+◌, ◌<◌, Bool, List, Option, Some, ◌∙◌, arith, Result, Ok, Err, refl}
 use Rattle.ps_outside.specs.Outside.{Outside, Rose}
 use Rattle.shadow_volume.specs.Standing.{seen}
 use Rattle.shadow_volume.specs.declared.note.Committed.{Committed}
 use Rattle.obj_layout.specs.declared.vault.VaultFault.{VaultFault}
 use Rattle.obj_layout.specs.declared.vault.VaultFault.TheVariants.{Device, Output, Full, Damaged}
-use Rattle.obj_layout.specs.Stored.{Space, Damage, damage_at}
-use Rattle.obj_layout.specs.Storing.{TestsObject, IsStoreCall}
+use Rattle.obj_layout.specs.Stored.{Space}
+use Rattle.obj_layout.specs.Storing.{TestsObject, IsStagingCall}
 use Rattle.obj_store.specs.Spaces.{spaces}
 use Rattle.obj_store.specs.Staging.{Stages}
-use Rattle.obj_store.specs.Tested.{TellsDamage, AreHeld, IsObjectFault, IsAppendFault}
+use Rattle.obj_store.specs.Tested.{IsObjectFault, IsAppendFault}
 use Rattle.obj_store.proofs.SettleLaws.{same_images}
 
 -- a refusal of an object is one of its tests
@@ -34,7 +34,7 @@ tests_fault {T = T} old new pid wanted fault (inr tells) = record {
 
 -- calls that stage are those of a store
 module _ {T : Type 0} (used next most : ℕ) (p q : Committed) (s t : List Bool) (a b : Outside (List ℕ)) (stages : Stages (seen p s a) (seen q t b) most) where
-  pub store_call : (value : T) → IsStoreCall (spaces used p s a) (spaces next q t b) most (Ok value)
+  pub store_call : (value : T) → IsStagingCall (spaces used p s a) (spaces next q t b) most (Ok value)
   store_call value = record {
     told = stages.told;
     images = same_images used next p q s t a b stages.images;
@@ -45,7 +45,7 @@ module _ {T : Type 0} (used next most : ℕ) (p q : Committed) (s t : List Bool)
     calls = stages.calls;
   }
 
-  pub object_call : (pid : ℕ) (wanted : Option ℕ) (fault : VaultFault) → IsObjectFault (spaces used p s a) (spaces next q t b) pid wanted fault → IsStoreCall {T = T} (spaces used p s a) (spaces next q t b) most (Err fault)
+  pub object_call : (pid : ℕ) (wanted : Option ℕ) (fault : VaultFault) → IsObjectFault (spaces used p s a) (spaces next q t b) pid wanted fault → IsStagingCall {T = T} (spaces used p s a) (spaces next q t b) most (Err fault)
   object_call pid wanted fault is = record {
     told = stages.told;
     images = same_images used next p q s t a b stages.images;
@@ -64,7 +64,7 @@ module _ {T : Type 0} (used next most : ℕ) (p q : Committed) (s t : List Bool)
       other e (inl failed) = let is = failed.0 in cc
       other e (inr tells) = let is = tells.fault_is in cc
 
-  pub append_call : (wanted capacity : ℕ) (fault : VaultFault) → IsAppendFault a b used wanted capacity fault → IsStoreCall {T = T} (spaces used p s a) (spaces next q t b) most (Err fault)
+  pub append_call : (wanted capacity : ℕ) (fault : VaultFault) → IsAppendFault a b used wanted capacity fault → IsStagingCall {T = T} (spaces used p s a) (spaces next q t b) most (Err fault)
   append_call wanted capacity fault is = record {
     told = stages.told;
     images = same_images used next p q s t a b stages.images;

@@ -8,3 +8,4 @@ mod HeldLaws
 mod SettleLaws
 mod FaultLaws
 mod OpenLaws
+pub mod LeftLaws

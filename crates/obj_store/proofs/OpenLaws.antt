@@ -1,7 +1,6 @@
 -- An attached store holds what is committed in the file.
-use Rattle.std.proofs.Common.{◌≡◌, ℕ, ◌+◌, ◌-◌, ◌*◌, ◌<◌, ◌≤◌, Bool, true, List, ◌++◌, length, take, drop, replicate, refl, sym, ◌∙◌, ap, subst, arith, length-take, length-drop, Option, Some}
+use Rattle.std.proofs.Common.{◌≡◌, ℕ, ◌-◌, ◌*◌, ◌≤◌, Bool, List, length, take, drop, replicate, refl, sym, ◌∙◌, ap, arith, length-take, length-drop, Option, Some, []}
 use Rattle.std.specs.Option.{option_map}
-use Rattle.std.proofs.lemmas.Option.{same_Some}
 use Rattle.ps_outside.specs.Outside.{Outside, After}
 use Rattle.shadow_volume.specs.Layout.{half_at, half_pages, pages_of_words}
 use Rattle.shadow_volume.specs.Found.{Held}
@@ -10,7 +9,7 @@ use Rattle.shadow_volume.specs.Attaching.{IsAttached}
 use Rattle.shadow_volume.specs.declared.note.Committed.{Committed}
 use Rattle.shadow_volume.proofs.Staying.{committed_held, committed_end, held_says}
 use Rattle.obj_layout.specs.Stored.{Space}
-use Rattle.obj_store.specs.Spaces.{words_of, space_of, IsInOrder, spaces}
+use Rattle.obj_store.specs.Spaces.{space_of, IsInOrder, spaces}
 use Rattle.obj_store.specs.Opening.{IsSpaceOf}
 use Rattle.obj_store.proofs.SettleLaws.{zeros_words}
 
@@ -22,7 +21,7 @@ zeros_space committed bytes fit says =
     let end = committed_end committed bytes fit says in
     let front = take (4096 * pages_of_words used) (drop (half_at committed.pages committed.second) bytes) in
     let long : 8 * used ≤ length front = omega (arith, length-take (4096 * pages_of_words used) (drop (half_at committed.pages committed.second) bytes), length-drop (half_at committed.pages committed.second) bytes, end) in
-    λ i. record { words = zeros_words used front (replicate (4096 * half_pages committed.pages - length front) 0) long i; directory = committed.note.directory }
+    λ i. record { words = zeros_words used front (replicate (4096 * half_pages committed.pages - length front) 0) long i; directory = committed.note.directory; file = [] }
 
 module _ (old new : Outside (List ℕ)) (lives : Bool) (committed : Committed) (staged : List Bool) (is : IsAttached old new lives committed staged)
     (law : (bytes : List ℕ) → new.contents bytes → new.images new.clock bytes) where

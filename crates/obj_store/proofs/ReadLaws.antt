@@ -1,14 +1,11 @@
 -- Words that are read page by page.
-use Rattle.std.proofs.Common.{◌≡◌, ◌⊎◌, inl, inr, ⊎_elim, ℕ, ◌+◌, ◌-◌, ◌*◌, ◌/◌, ◌^◌, ◌<◌, ◌≤◌, min, max, Bool, List, length, get_or, take, drop, refl, sym, ◌∙◌, ap, subst, arith, Option, Some}
+use Rattle.std.proofs.Common.{◌≡◌, ◌⊎◌, inl, inr, ℕ, ◌+◌, ◌-◌, ◌*◌, ◌/◌, ◌<◌, ◌≤◌, min, max, Bool, List, length, get_or, drop, ◌∙◌, ap, arith, Option, Some}
 use Rattle.std.proofs.lemmas.List.{get_or-take, get_or-drop}
-use Rattle.ps_outside.specs.Outside.{Outside, After, SameContents}
-use Rattle.shadow_volume.specs.Layout.{half_pages, capacity_of}
+use Rattle.ps_outside.specs.Outside.{Outside, SameContents}
 use Rattle.shadow_volume.specs.Found.{Held}
-use Rattle.shadow_volume.specs.Standing.{IsFit, IsAlive, seen, staged_in}
+use Rattle.shadow_volume.specs.Standing.{seen, staged_in}
 use Rattle.shadow_volume.specs.Staging.{page_of}
-use Rattle.shadow_volume.specs.declared.note.Note.{Note}
 use Rattle.shadow_volume.specs.declared.note.Committed.{Committed}
-use Rattle.shadow_volume.proofs.Halves.{halves_within}
 use Rattle.obj_store.specs.Spaces.{word_at}
 use Rattle.obj_store.specs.Words.{IsApart, IsRead, HoldsRead}
 use Rattle.obj_store.proofs.WordLaws.{word_same}

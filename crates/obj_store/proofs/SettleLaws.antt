@@ -1,41 +1,73 @@
 -- A switch of a volume, seen as spaces.
-use Rattle.std.proofs.Common.{◌≡◌, ◌≢◌, ◌⊎◌, inl, inr, ⊎_elim, ℕ, ◌+◌, ◌-◌, ◌*◌, ◌/◌, ◌<◌, ◌≤◌, Bool, List, ◌++◌, length, get_or, take, drop, replicate, refl, sym, ◌∙◌, ap, subst, arith, length-take, Option, Some, Result, Ok, Err, OnOk}
+use Rattle.std.proofs.Common.{◌≡◌, ◌⊎◌, inl, inr, ℕ, ◌+◌, ◌-◌, ◌*◌, ◌<◌, ◌≤◌, Bool, List, [], ◌++◌, length, take, replicate, refl, sym, ◌∙◌, ap, subst, arith, Option, Some, None, Ok, Err}
 use Rattle.std.specs.Option.{option_map}
 use Rattle.std.proofs.lemmas.Option.{same_Some}
 use Rattle.std.proofs.lemmas.Grind.{same_number_lists}
 use Rattle.std.proofs.lemmas.List.{get_or-take, get_or_append_left, length-take-le}
-use Rattle.ps_outside.specs.Outside.{Outside, After, Along, Leaves, LeavesSame, Rose}
-use Rattle.shadow_volume.specs.Layout.{half_pages, capacity_of, pages_of_words}
+use Rattle.ps_outside.specs.Outside.{Outside, After, Leaves, LeavesSame}
+use Rattle.shadow_volume.specs.Layout.{half_pages, pages_of_words}
 use Rattle.shadow_volume.specs.Found.{Held}
-use Rattle.shadow_volume.specs.Standing.{seen, staged_in, saved, with_zeros}
+use Rattle.shadow_volume.specs.Standing.{seen, staged_in, saved, with_zeros, held_in}
 use Rattle.shadow_volume.specs.Switching.{Switches, Was, switched}
 use Rattle.shadow_volume.specs.declared.note.Committed.{Committed}
 use Rattle.ps_port.specs.declared.host.HostFailed.{HostFailed}
 use Rattle.shadow_volume.proofs.Switched.{next_fit}
-use Rattle.obj_layout.specs.declared.vault.VaultFault.{VaultFault}
-use Rattle.obj_layout.specs.declared.vault.VaultFault.TheVariants.{Device, Output}
-use Rattle.obj_layout.specs.Stored.{Space, directed}
-use Rattle.obj_layout.specs.Storing.{Becomes, Settles, settling}
-use Rattle.obj_store.specs.Spaces.{word_at, words_of, space_of, IsSpaceIn, IsInOrder, spaces}
+use Rattle.obj_layout.specs.declared.vault.VaultFault.TheVariants.{Device}
+use Rattle.obj_layout.specs.Stored.{Space, directed, without_file}
+use Rattle.obj_layout.specs.Storing.{Becomes, Settles, settling, unfiled}
+use Rattle.obj_store.specs.Spaces.{word_at, words_of, space_of, space_found, space_held, space_filed, IsInOrder, spaces}
 use Rattle.obj_store.proofs.WordLaws.{word_same}
 use Rattle.obj_store.proofs.WriteLaws.{held_long}
 use Rattle.obj_store.specs.StoreLaws.{length_words}
 use Rattle.obj_store.proofs.SpaceLaws.{word_of, stood, told_of}
 
--- what is seen of images through a relation
-pub along_by : {X Y : Type 0} {before now : ℕ} {old new : ℕ → X → Type 0} {P : X → Type 0} (R : X → Y → Type 0) (Q : Y → Type 0) → Along before now old new P → ((x : X) (y : Y) → P x → R x y → Q y)
-    → Along before now (λ m y. After (old m) R y) (λ m y. After (new m) R y) Q
-along_by R Q is holds = record {
+-- without its file, the space of a file is what it holds
+unfiled_is : (found : Option Held) → without_file (record (space_found found) { file = [] }) ≡ space_found found
+unfiled_is None = refl
+unfiled_is (Some held) = refl
+
+held_unfiled : (bytes : List ℕ) → without_file (space_filed bytes) ≡ space_held bytes
+held_unfiled bytes = unfiled_is (held_in bytes)
+
+module _ (used : ℕ) (committed : Committed) (staged : List Bool) (outside : Outside (List ℕ)) (m : ℕ) where
+  -- what is found in an image of a volume is in one of its store, whatever its file
+  pub found_unfiled : (found : Option Held) → (seen committed staged outside).images m found → (unfiled (spaces used committed staged outside)).images m (space_found found)
+  found_unfiled found at = record {
+    from = space_filed at.from;
+    was = record { from = at.from; was = at.was; by = refl };
+    by = held_unfiled at.from ∙ ap space_found at.by;
+  }
+
+  -- and back
+  pub unfiled_found : (space : Space) → (unfiled (spaces used committed staged outside)).images m space →
+      After ((seen committed staged outside).images m) (λ (found : Option Held) (now : Space). space_found found ≡ now) space
+  unfiled_found space at = record {
+    from = held_in at.was.from;
+    was = record { from = at.was.from; was = at.was.was; by = refl };
+    by = sym (held_unfiled at.was.from) ∙ ap without_file at.was.by ∙ at.by;
+  }
+
+-- what is so of the images of a volume is so of those of its store, whatever their files
+along_unfiled : (used next : ℕ) (p q : Committed) (s t : List Bool) (a b : Outside (List ℕ)) (P : Option Held → Type 0) (Q : Space → Type 0) → Leaves (seen p s a) (seen q t b) P
+    → ((found : Option Held) → P found → Q (space_found found)) → Leaves (unfiled (spaces used p s a)) (unfiled (spaces next q t b)) Q
+along_unfiled used next p q s t a b P Q is holds = record {
   later = is.later;
-  kept = λ m y le after. record { from = after.from; was = is.kept m after.from le after.was; by = after.by };
-  no_other = λ m y le after. record { from = after.from; was = is.no_other m after.from le after.was; by = after.by };
-  each = λ m y from until after. holds after.from y (is.each m after.from from until after.was) after.by;
+  kept = λ m space past at.
+      let x = unfiled_found used p s a m space at in
+      subst (λ (y : Space). (unfiled (spaces next q t b)).images m y) x.by (found_unfiled next q t b m x.from (is.kept m x.from past x.was));
+  no_other = λ m space past at.
+      let x = unfiled_found next q t b m space at in
+      subst (λ (y : Space). (unfiled (spaces used p s a)).images m y) x.by (found_unfiled used p s a m x.from (is.no_other m x.from past x.was));
+  each = λ m space from until at.
+      let x = unfiled_found next q t b m space at in
+      subst Q x.by (holds x.from (is.each m x.from from until x.was));
 }
 
--- what leaves the images of a volume leaves those of its space
-pub same_images : (used next : ℕ) (p q : Committed) (s t : List Bool) (a b : Outside (List ℕ)) → LeavesSame (seen p s a) (seen q t b) → LeavesSame (spaces used p s a) (spaces next q t b)
+-- what leaves the images of a volume leaves those of its store, whatever their files
+pub same_images : (used next : ℕ) (p q : Committed) (s t : List Bool) (a b : Outside (List ℕ)) → LeavesSame (seen p s a) (seen q t b)
+    → LeavesSame (unfiled (spaces used p s a)) (unfiled (spaces next q t b))
 same_images used next p q s t a b same =
-    along_by IsSpaceIn (λ (space : Space). After ((seen p s a).images a.clock) IsSpaceIn space) same (λ found space was by. record { from = found; was = was; by = by })
+    along_unfiled used next p q s t a b ((seen p s a).images a.clock) ((unfiled (spaces used p s a)).images a.clock) same (λ found was. found_unfiled used p s a a.clock found was)
 
 same_words : (used : ℕ) (xs ys : List ℕ) → ((index : ℕ) → index < used → word_at xs index ≡ word_at ys index) → words_of used xs ≡ words_of used ys
 same_words used xs ys same =
@@ -75,7 +107,7 @@ module _ (used directory : ℕ) (p q : Committed) (s t : List Bool) (a b : Outsi
   few = let within = order.within in omega arith
 
   saved_space : (held : Held) → space_of used (saved used directory held) ≡ directed directory (space_of used held)
-  saved_space held = λ i. record { words = saved_words used held.bytes i; directory = directory }
+  saved_space held = λ i. record { words = saved_words used held.bytes i; directory = directory; file = [] }
 
   full_space : (held : Held) → (seen p s a).contents (Some held) → space_of used (with_zeros p.pages (saved used directory held)) ≡ directed directory (space_of used held)
   full_space held now =
@@ -84,6 +116,7 @@ module _ (used directory : ℕ) (p q : Committed) (s t : List Bool) (a b : Outsi
       (λ i. record {
         words = zeros_words used (take (4096 * pages_of_words used) held.bytes) (replicate (4096 * half_pages p.pages - length (take (4096 * pages_of_words used) held.bytes)) 0) (omega (arith, front)) i;
         directory = directory;
+        file = [];
       })
       ∙ saved_space held
 
@@ -108,31 +141,30 @@ module _ (used directory : ℕ) (p q : Committed) (s t : List Bool) (a b : Outsi
     }
 
     pub switch_durable : ((found : Option Held) → (seen q t b).images b.clock found → Was (seen p s a) (saved used directory) found) →
-        (space : Space) → (spaces used q t b).images b.clock space → (spaces used q t b).contents space
-    switch_durable kept space after =
+        (space : Space) → (unfiled (spaces used q t b)).images b.clock space → (spaces used q t b).contents space
+    switch_durable kept space at =
+        let after = unfiled_found used q t b b.clock space at in
         let was = was_held p s a (saved used directory) after.from (kept after.from after.was) in
-        let is : space_of used (saved used directory was.held) ≡ space =
-        same_Some (space_of used (saved used directory was.held)) space
-        (ap (λ (o : Option Held). option_map (λ held. space_of held.note.used held) o) was.is ∙ after.by) in
+        let is : space_of used (saved used directory was.held) ≡ space = ap (λ (o : Option Held). space_found o) was.is ∙ after.by in
         subst (λ (x : Space). (spaces used q t b).contents x) (full_space was.held was.now ∙ sym (saved_space was.held) ∙ is)
         (told_of used q t b (with_zeros p.pages (saved used directory was.held)) order_next (full_now was.held was.now))
 
   pub switch_images : Leaves (seen p s a) (seen q t b) (λ found. (seen p s a).images a.clock found ⊎ Was (seen p s a) (saved used directory) found) →
-      Leaves (spaces used p s a) (spaces used q t b) (λ space. (spaces used p s a).images a.clock space ⊎ ((before : Space) × (spaces used p s a).contents before × (directed directory before ≡ space)))
+      Leaves (unfiled (spaces used p s a)) (unfiled (spaces used q t b))
+      (λ space. (unfiled (spaces used p s a)).images a.clock space ⊎ ((before : Space) × (spaces used p s a).contents before × (directed directory before ≡ space)))
   switch_images images =
-      along_by IsSpaceIn (λ (space : Space). (spaces used p s a).images a.clock space ⊎ ((before : Space) × (spaces used p s a).contents before × (directed directory before ≡ space))) images
-      (λ found space either by. one found space either by)
+      along_unfiled used used p q s t a b (λ found. (seen p s a).images a.clock found ⊎ Was (seen p s a) (saved used directory) found)
+      (λ (space : Space). (unfiled (spaces used p s a)).images a.clock space ⊎ ((before : Space) × (spaces used p s a).contents before × (directed directory before ≡ space))) images one
     where
-      one : (found : Option Held) (space : Space) → ((seen p s a).images a.clock found ⊎ Was (seen p s a) (saved used directory) found) → IsSpaceIn found space →
-          (spaces used p s a).images a.clock space ⊎ ((before : Space) × (spaces used p s a).contents before × (directed directory before ≡ space))
-      one found space (inl old) by = inl (record { from = found; was = old; by = by })
-      one found space (inr new) by =
+      one : (found : Option Held) → ((seen p s a).images a.clock found ⊎ Was (seen p s a) (saved used directory) found) →
+          (unfiled (spaces used p s a)).images a.clock (space_found found) ⊎ ((before : Space) × (spaces used p s a).contents before × (directed directory before ≡ space_found found))
+      one found (inl old) = inl (found_unfiled used p s a a.clock found old)
+      one found (inr new) =
           let was = was_held p s a (saved used directory) found new in
           inr (
             space_of used was.held,
             told_of used p s a was.held order was.now,
-            sym (saved_space was.held)
-                ∙ same_Some (space_of used (saved used directory was.held)) space (ap (λ (o : Option Held). option_map (λ held. space_of held.note.used held) o) was.is ∙ by),
+            sym (saved_space was.held) ∙ ap (λ (o : Option Held). space_found o) was.is,
           )
 
 pub switched_order : (used directory : ℕ) (p q : Committed) → IsInOrder used p → 1 ≤ used → directory < used → q ≡ switched used directory p → IsInOrder used q

@@ -1,19 +1,17 @@
 -- What is staged in a volume, as a space.
-use Rattle.std.proofs.Common.{◌≡◌, ◌⊎◌, inl, inr, ℕ, ◌+◌, ◌-◌, ◌*◌, ◌^◌, ◌<◌, ◌≤◌, min, max, Bool, List, [], ◌∷◌, ◌++◌, length, get_or, take, drop, map, refl, sym, ◌∙◌, ap, subst, arith, length-drop, length-take, length-append, Option, Some}
+use Rattle.std.proofs.Common.{◌≡◌, ℕ, ◌+◌, ◌<◌, ◌≤◌, Bool, List, length, get_or, take, drop, refl, sym, ◌∙◌, ap, subst, arith, length-drop, length-take, Option, Some}
 use Rattle.std.specs.Option.{option_map}
-use Rattle.std.specs.List.{range_with_len, AllByRecursion}
 use Rattle.std.proofs.lemmas.Option.{same_Some}
 use Rattle.std.proofs.lemmas.Grind.{same_number_lists}
 use Rattle.std.proofs.lemmas.List.{get_or-take, get_or-drop}
-use Rattle.std.proofs.lemmas.List.FromFn.{get_or-map-range_with_len, length-map-range_with_len}
-use Rattle.ps_outside.specs.Outside.{Outside, After, SameContents}
-use Rattle.shadow_volume.specs.Layout.{half_pages, capacity_of}
+use Rattle.std.proofs.lemmas.List.FromFn.{get_or-map-range_with_len}
+use Rattle.ps_outside.specs.Outside.{Outside, SameContents}
 use Rattle.shadow_volume.specs.Found.{Held}
-use Rattle.shadow_volume.specs.Standing.{IsFit, seen, staged_in}
+use Rattle.shadow_volume.specs.Standing.{seen, staged_in}
 use Rattle.shadow_volume.specs.declared.note.Committed.{Committed}
 use Rattle.obj_layout.specs.Stored.{Space}
-use Rattle.obj_store.specs.Spaces.{word_at, words_of, space_of, IsInOrder, IsTold, spaces}
-use Rattle.obj_store.specs.StoreLaws.{length_words, order_low}
+use Rattle.obj_store.specs.Spaces.{word_at, words_of, space_of, IsInOrder, spaces}
+use Rattle.obj_store.specs.StoreLaws.{length_words}
 use Rattle.obj_store.proofs.ReadLaws.{seen_kept}
 
 pub word_of : (count : ℕ) (bytes : List ℕ) (index : ℕ) → index < count → get_or (words_of count bytes) index 0 ≡ word_at bytes index

@@ -1,13 +1,11 @@
 -- The tests of an object, in order.
-use Rattle.std.proofs.Common.{◌≡◌, ◌≢◌, ◌⊎◌, inl, inr, ℕ, ◌+◌, ◌≤◌, ◌<◌, List, length, take, drop, Option, Some, None, sym, ap, ◌∙◌, subst, arith, Result, Ok, Err, OnOk, IfOk, IfErr, refl}
+use Rattle.std.proofs.Common.{◌≡◌, ℕ, ◌+◌, ◌≤◌, List, length, take, drop, Option, None, ap, ◌∙◌, arith, Result, Ok, Err, OnOk, IfOk, IfErr}
 use Rattle.std.proofs.lemmas.Bool.Decides.{nat_tests}
-use Rattle.ps_outside.specs.Outside.{Outside, Rose}
+use Rattle.ps_outside.specs.Outside.{Outside}
 use Rattle.obj_layout.specs.declared.header.Header.{Header}
-use Rattle.obj_layout.specs.declared.header.LayoutFault.{LayoutFault}
 use Rattle.obj_layout.specs.declared.vault.VaultFault.{VaultFault}
-use Rattle.obj_layout.specs.declared.vault.VaultFault.TheVariants.{Device, Output, Full, Damaged}
 use Rattle.obj_layout.specs.Header.{header_fault, header_words}
-use Rattle.obj_layout.specs.Stored.{Space, Damage, damage_at, of_words}
+use Rattle.obj_layout.specs.Stored.{Space, damage_at, of_words}
 use Rattle.obj_store.specs.Tested.{HasFour, TellsDamage, AreHeld, IsObjectHeader, IsDamageAt}
 
 -- where four words stand at a PID, they and their length are tested

@@ -1,16 +1,13 @@
 -- Words of bytes go by their own bytes alone.
-use Rattle.std.proofs.Common.{◌≡◌, ◌≢◌, ◌⊎◌, inl, inr, ℕ, ◌+◌, ◌-◌, ◌*◌, ◌%◌, ◌^◌, ◌<◌, ◌≤◌, List, [], ◌++◌, length, get_or, take, drop, map, refl, sym, ◌∙◌, ap, subst, arith, length-drop, length-append, length-take}
-use Rattle.std.specs.List.{range_with_len, AllByRecursion}
-use Rattle.std.proofs.Math.Nat.{mod-eq_of_lt, mod-lt}
+use Rattle.std.proofs.Common.{◌≡◌, ◌≢◌, ◌⊎◌, inl, inr, ℕ, ◌+◌, ◌-◌, ◌*◌, ◌%◌, ◌^◌, ◌<◌, ◌≤◌, List, [], ◌++◌, length, get_or, take, drop, sym, ◌∙◌, ap, subst, arith, length-drop}
+use Rattle.std.proofs.Math.Nat.{mod-eq_of_lt}
 use Rattle.std.proofs.lemmas.List.{append_assoc, append-nil, drop_all, drop_at, take_all, drop-drop, length-take-le}
-use Rattle.std.proofs.lemmas.List.FromFn.{get_or-map-range_with_len, length-map-range_with_len}
 use Rattle.byteorder.specs.Endian.{little_bytes, little_number}
 use Rattle.byteorder.specs.Numbers.{little_number-reads_back, length-bytes_low_first}
 use Rattle.ps_port.specs.Disk.{written, IsOutside}
-use Rattle.ps_port.specs.DiskLaws.{written_elsewhere, length-written}
-use Rattle.shadow_volume.specs.Layout.{number_at}
+use Rattle.ps_port.specs.DiskLaws.{written_elsewhere}
 use Rattle.shadow_volume.proofs.Numbers.{number_same}
-use Rattle.obj_store.specs.Spaces.{word_at, words_of}
+use Rattle.obj_store.specs.Spaces.{word_at}
 use Rattle.obj_store.specs.Words.{IsRead, IsPut}
 
 pub word_same : (xs ys : List ℕ) (i j : ℕ) → ((k : ℕ) → k < 8 → get_or xs (8 * i + k) 0 ≡ get_or ys (8 * j + k) 0) → word_at xs i ≡ word_at ys j

@@ -1,11 +1,11 @@
 -- A volume as a space of words.
-use Rattle.std.specs.Prelude.{◌≡◌, ℕ, ◌*◌, ◌%◌, ◌^◌, ◌≤◌, Bool, List, map, Option, Some}
+use Rattle.std.specs.Prelude.{◌≡◌, ℕ, ◌*◌, ◌%◌, ◌^◌, ◌≤◌, Bool, List, [], map, Option, Some, None}
 use Rattle.std.specs.List.{range_with_len}
 use Rattle.std.specs.Option.{option_map}
-use Rattle.ps_outside.specs.Outside.{Outside, After}
+use Rattle.ps_outside.specs.Outside.{Outside, After, seen_as}
 use Rattle.shadow_volume.specs.Layout.{number_at, capacity_of}
 use Rattle.shadow_volume.specs.Found.{Held}
-use Rattle.shadow_volume.specs.Standing.{seen, IsFit}
+use Rattle.shadow_volume.specs.Standing.{seen, held_in, IsFit}
 use Rattle.shadow_volume.specs.declared.note.Committed.{Committed}
 use Rattle.obj_layout.specs.Stored.{Space}
 
@@ -19,7 +19,24 @@ words_of count bytes = map (word_at bytes) (range_with_len 0 count)
 
 -- what a volume holds, as a space of so many words
 abbrev pub space_of : ℕ → Held → Space
-space_of used held = record { words = words_of used held.bytes; directory = held.note.directory }
+space_of used held = record { words = words_of used held.bytes; directory = held.note.directory; file = [] }
+
+-- the space of a file in which no volume is found: no word, and so no directory
+abbrev pub no_space : Space
+no_space = record { words = []; directory = 0; file = [] }
+
+-- what was found in a file, as a space of the words that are committed
+abbrev pub space_found : Option Held → Space
+space_found None = no_space
+space_found (Some held) = space_of held.note.used held
+
+-- and so what a file holds
+abbrev pub space_held : List ℕ → Space
+space_held bytes = space_found (held_in bytes)
+
+-- the same with the file itself
+abbrev pub space_filed : List ℕ → Space
+space_filed bytes = record (space_held bytes) { file = bytes }
 
 -- what was found in a file is this space; where no volume was found it is none
 abbrev pub IsSpaceIn : Option Held → Space → Type 0
@@ -40,15 +57,15 @@ pub record IsTold (used : ℕ) (committed : Committed) (volume : Outside (Option
   pub order : IsInOrder used committed
   pub staged : After volume.contents (IsStaged used) space
 
--- A volume with so many words staged, seen as spaces: a crash leaves the space that is committed in an image, and a read gives the one that is
--- staged. Where no volume is found, or the words can't be used, there is none.
+-- A volume with so many words staged, seen as spaces: a crash leaves a file with the space that is committed in it, without a word where no volume is
+-- found there; and a read gives the space that is staged, or none where the words can't be used.
 abbrev pub spaces : ℕ → Committed → List Bool → Outside (List ℕ) → Outside Space
 spaces used committed staged outside =
     let volume = seen committed staged outside in
     record {
       clock = outside.clock;
       told = outside.told;
-      images = λ moment space. After (volume.images moment) IsSpaceIn space;
+      images = (seen_as space_filed outside).images;
       contents = IsTold used committed volume;
       device_faults = outside.device_faults;
       output_faults = outside.output_faults;

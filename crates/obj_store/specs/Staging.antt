@@ -1,5 +1,5 @@
 -- What the calls that stage pages say.
-use Rattle.std.specs.Prelude.{◌≡◌, ℕ, ◌+◌, ◌/◌, ◌<◌, ◌≤◌, Bool, true, false, List, slice_index_or, Option, Some}
+use Rattle.std.specs.Prelude.{◌≡◌, ℕ, ◌+◌, ◌<◌, ◌≤◌, Bool, true, false, List, slice_index_or, Option, Some}
 use Rattle.ps_outside.specs.Outside.{Outside, LeavesSame, TellsNothing}
 use Rattle.shadow_volume.specs.Found.{Held}
 

@@ -1,5 +1,5 @@
 -- The laws of a store of objects.
-use Rattle.std.proofs.Common.{◌≡◌, ℕ, zero, suc, ◌+◌, ◌-◌, ◌*◌, ◌^◌, ◌<◌, ◌≤◌, min, max, Bool, List, length, map, refl, sym, ◌∙◌, ap, subst, arith, Option, Some}
+use Rattle.std.proofs.Common.{◌≡◌, ℕ, zero, suc, ◌+◌, ◌-◌, ◌*◌, ◌^◌, ◌<◌, ◌≤◌, min, max, List, length, map, refl, sym, ◌∙◌, ap, subst, arith, Option}
 use Rattle.std.specs.List.{AllByRecursion, range_with_len}
 use Rattle.std.specs.Option.{option_map}
 use Rattle.std.proofs.lemmas.Option.{same_Some}
@@ -78,6 +78,7 @@ is_space outside store space told =
       small = omega arith;
       named = refl;
       below = omega (arith, used);
+      unfiled = refl;
     })
 
 pub is_one : {H : Type 0} (outside : H → Outside (List ℕ)) (store : Store H) → ((x y : List ℕ) → (outside store.host).contents x → (outside store.host).contents y → x ≡ y) →

@@ -1,5 +1,5 @@
 -- Words in pages, and words that were put in place of others.
-use Rattle.std.specs.Prelude.{◌≡◌, ◌⊎◌, ℕ, ◌+◌, ◌-◌, ◌*◌, ◌<◌, ◌≤◌, List, length, slice_index}
+use Rattle.std.specs.Prelude.{◌≡◌, ◌⊎◌, ℕ, ◌+◌, ◌-◌, ◌<◌, ◌≤◌, List, length, slice_index}
 use Rattle.shadow_volume.specs.Found.{Held}
 use Rattle.obj_store.specs.Spaces.{word_at}
 

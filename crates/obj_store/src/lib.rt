@@ -1,6 +1,7 @@
 //! A store of objects in a volume: a vault whose space is the words of the volume's pages.
 #![tactic(auto)]
 
+mod laws;
 mod objects;
 mod reading;
 mod settling;
@@ -8,4 +9,5 @@ mod store;
 mod words;
 mod writing;
 
+pub use laws::{what_is_left_of_the_device, what_is_put_is_told};
 pub use store::ObjStore;

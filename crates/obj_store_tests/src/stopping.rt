@@ -105,6 +105,31 @@ fn a_call_that_fails_while_a_text_is_fetched(rt: HostRuntime) -> Result<(), Fail
     Ok(())
 }
 
+/// Fetches a text, stores another, writes over that and tells bytes, and settles nothing.
+fn stage(store: &mut ObjStore<MemoryHost>) -> Result<(), VaultFault>
+    requires { store.old.live ≡ true }
+{
+    fetch(store, 1)?;
+    let pid = store.append(&text(5, 6))?;
+    store.overwrite(pid, &text(7, 8))?;
+    store.put(b"so far")
+}
+
+#[test]
+fn what_is_not_settled_leaves_what_is_held(rt: HostRuntime) -> Result<(), Fail> {
+    let alloc = rt.alloc();
+    let file = settled_file(alloc)?;
+    let mut store = attached(alloc, host_of(alloc, &file, u64::MAX)?)?;
+    assert_eq!(rt; stage(&mut store), Ok(()));
+    let host = store.release();
+    assert!(rt; host.writes() > 0);
+    for moment in 0..host.clock() {
+        let image = host.crash(alloc, moment, 255)?;
+        assert_eq!(rt; found_in(alloc, &image)?, (7, 1, Ok(text(3, 4))));
+    }
+    Ok(())
+}
+
 /// Stores an object that lies in two pages.
 fn store_page(store: &mut ObjStore<MemoryHost>) -> Result<(), VaultFault>
     requires { store.old.live ≡ true }

@@ -34,7 +34,7 @@ use Rattle.heap_meaning.proofs.StandingLaws.{read-reference}
 use Rattle.heap_meaning.proofs.FieldLaws.{same-text, other-text, field-is, no-field}
 use Rattle.heap_meaning.proofs.GivenLaws.{IsAt, located-at, field-read, field-fits}
 use Rattle.heap_meaning.proofs.GivenLaws as given
-use Rattle.paired_ops.specs.World.{IsEmpty, IsWorld, alone, DenotesIn, Stands, Answers}
+use Rattle.paired_ops.specs.World.{IsWorld, alone, DenotesIn, Stands, Answers}
 use Rattle.paired_ops.specs.Operands.{IsForIn, IsOfForm}
 use Rattle.paired_ops.proofs.WorldLaws.{reads-stands}
 use Rattle.paired_ops.proofs.ValueLaws.{none-nil, some-not_nil, text-denoted, pointer-denoted, vector-denoted, procedure-kind}
@@ -87,19 +87,19 @@ class-known here of names at id s = known-text here (slot_of (shown_at here at) 
 
 -- what was read as of a class is of it
 pub class-is : (old new : area.Heap) (after : Outside Space) (of : Heap) (names : List reference.Reference) (at id : ℕ) (text : List ℕ)
-    → IsHeap new → IsEmpty after → Keeps old new → (s : StructureAt old of names at id)
+    → IsHeap new → Keeps old new → (s : StructureAt old of names at id)
     → IsText (joint new after) (slot_of (shown_at old at) 0) text → s.class ≡ text
-class-is old new after of names at id text h empty keeps s t =
-    text-is old new after (slot_of (shown_at old at) 0) s.class text h empty keeps (class-text old of names at id s) t
+class-is old new after of names at id text h keeps s t =
+    text-is old new after (slot_of (shown_at old at) 0) s.class text h keeps (class-text old of names at id s) t
 
 -- it isn't of the class
 pub other-class : (old new : area.Heap) (after : Outside Space) (of : Heap) (names : List reference.Reference) (at id : ℕ) (text : List ℕ)
-    → IsHeap new → IsEmpty after → Keeps old new → StructureAt old of names at id
+    → IsHeap new → Keeps old new → StructureAt old of names at id
     → IsOfOther (joint new after) (shown_at old at) text → is_of (object_at of id) text ≡ false
-other-class old new after of names at id text h empty keeps s (inl ne) = absurd (ne s.is.kind_is)
-other-class old new after of names at id text h empty keeps s (inr t) =
+other-class old new after of names at id text h keeps s (inl ne) = absurd (ne s.is.kind_is)
+other-class old new after of names at id text h keeps s (inr t) =
     ap (λ (o : Option Object). is_of o text) s.means
-    ∙ other-text s.class text (λ e. t.2 (sym (class-is old new after of names at id (t.0) h empty keeps s (t.1)) ∙ e))
+    ∙ other-text s.class text (λ e. t.2 (sym (class-is old new after of names at id (t.0) h keeps s (t.1)) ∙ e))
 
 -- Nothing fails.
 no-class_fault : (old new : area.Heap) (before : Outside Space) (of : Heap) (names : List reference.Reference) (at id : ℕ) (fault : SwizzleFault)
@@ -110,27 +110,27 @@ no-class_fault old new before of names at id fault h now s (inr touch) = no-touc
 
 -- What `is` answers.
 pub tells-ok : (old new : area.Heap) (before after : Outside Space) (of : Heap) (names : List reference.Reference) (at id : ℕ) (text : List ℕ)
-    (is : Bool) → IsHeap new → IsEmpty before → IsEmpty after → IsWorld old of names → StructureAt old of names at id
+    (is : Bool) → IsHeap new → IsWorld old of names → StructureAt old of names at id
     → TellsClass old new before after (Some at) text (Ok is) → (is ≡ is_class of (Pointer id) text) × Stands old new of names
 unfolding is_class
-tells-ok old new before after of names at id text true h empty still w s t =
-    let same = class-is old new after of names at id text h still (t.1.keeps) s (t.0.class) in (
+tells-ok old new before after of names at id text true h w s t =
+    let same = class-is old new after of names at id text h (t.1.keeps) s (t.0.class) in (
       sym (ap (λ (o : Option Object). is_of o text) s.means ∙ ap (λ (c : List ℕ). is_same_text c text) same ∙ same-text text),
-      reads-stands old new before after (slot_of (shown_at old at) 0 ∷ []) of names h empty (t.1) (class-known old of names at id s, tt) w,
+      reads-stands old new before after (slot_of (shown_at old at) 0 ∷ []) of names (t.1) (class-known old of names at id s, tt) w,
     )
-tells-ok old new before after of names at id text false h empty still w s t = (
-  sym (other-class old new after of names at id text h still (t.1.keeps) s (t.0)),
-  reads-stands old new before after (slot_of (shown_at old at) 0 ∷ []) of names h empty (t.1) (class-known old of names at id s, tt) w,
+tells-ok old new before after of names at id text false h w s t = (
+  sym (other-class old new after of names at id text h (t.1.keeps) s (t.0)),
+  reads-stands old new before after (slot_of (shown_at old at) 0 ∷ []) of names (t.1) (class-known old of names at id s, tt) w,
 )
 
 pub told-ok : (old new : area.Heap) (before after : Outside Space) (of : Heap) (names : List reference.Reference) (at : ℕ) (text : List ℕ)
-    (o : Value) (is : Bool) → IsHeap old → IsHeap new → IsEmpty before → IsEmpty after → IsWorld old of names
+    (o : Value) (is : Bool) → IsHeap old → IsHeap new → IsWorld old of names
     → (header_at old at).kind ≡ kind.Structure → DenotesIn old names (Some at) o → TellsClass old new before after (Some at) text (Ok is)
     → (x : Bool) × (Yields (is_class of o text) ≡ Yields x) × (is ≡ x) × Stands old new of names
-told-ok old new before after of names at text o is h now empty still w k d t =
+told-ok old new before after of names at text o is h now w k d t =
     let p = structure-value old names at o h d k in
     let s = structure-at old of names at (p.0) h w (pointer-denoted old names at (p.0) h (subst (DenotesIn old names (Some at)) (p.1) d)) in
-    let told = tells-ok old new before after of names at (p.0) text is now empty still w s t in
+    let told = tells-ok old new before after of names at (p.0) text is now w s t in
     (is_class of o text, refl, told.0 ∙ ap (λ (v : Value). is_class of v text) (sym (p.1)), told.1)
 
 pub told-fault : (old new : area.Heap) (before after : Outside Space) (of : Heap) (names : List reference.Reference) (at : ℕ) (text : List ℕ)
@@ -208,21 +208,20 @@ other-field old new before after of names at text l attempt (Err (op.Swizzle fau
 
 -- no field of a structure fails
 pub no-fields_fault : (old new : area.Heap) (before after : Outside Space) (of : Heap) (names : List reference.Reference) (at id : ℕ)
-    (text : List ℕ) (n : ℕ) (l : Located) (fault : SwizzleFault) → IsHeap old → IsHeap new → IsEmpty after
-    → StructureAt old of names at id → located_in (forms_of text) n ≡ Some l → FailsFields old new before after at text l.rows fault → ⊥
-no-fields_fault old new before after of names at id text n l fault h now still s is (inl c) =
+    (text : List ℕ) (n : ℕ) (l : Located) (fault : SwizzleFault) → IsHeap old → IsHeap new → StructureAt old of names at id
+    → located_in (forms_of text) n ≡ Some l → FailsFields old new before after at text l.rows fault → ⊥
+no-fields_fault old new before after of names at id text n l fault h now s is (inl c) =
     no-class_fault old new before of names at id fault h now s (c.1)
-no-fields_fault old new before after of names at id text n l fault h now still s is (inr d) =
-    let f = field-at old of names at id text s (class-is old new after of names at id text now still (d.0) s (d.1.class)) in
+no-fields_fault old new before after of names at id text n l fault h now s is (inr d) =
+    let f = field-at old of names at id text s (class-is old new after of names at id text now (d.0) s (d.1.class)) in
     no-damage old at (structure_damage (shown_at old at) l.rows) fault
     (given.no-damage (alone old) (paired names) (shown_at old at) text s.fields n l f.is is) (d.2)
 
 no-value_fault : (old : area.Heap) (before : Outside Space) (of : Heap) (names : List reference.Reference) (at id : ℕ) (text : List ℕ) (n : ℕ)
-    (l : Located) (fault : SwizzleFault) → IsHeap old → IsEmpty before
-    → StructureAt old of names at id → located_in (forms_of text) n ≡ Some l
+    (l : Located) (fault : SwizzleFault) → IsHeap old → StructureAt old of names at id → located_in (forms_of text) n ≡ Some l
     → FailsValue old before at text l.rows l.place.form (suc l.place.index) fault → ⊥
-no-value_fault old before of names at id text n l fault h empty s is v =
-    let f = field-at old of names at id text s (class-is old v.mid before of names at id text v.heap empty v.keeps s (v.class.class)) in
+no-value_fault old before of names at id text n l fault h s is v =
+    let f = field-at old of names at id text s (class-is old v.mid before of names at id text v.heap v.keeps s (v.class.class)) in
     elim (v.why) [
       | inl d ↦ no-damage old at (word_damage l.place.form (word_in (shown_at old at) (suc l.place.index))) fault
           (field-fits (alone old) (paired names) (shown_at old at) text s.fields n l f.is is) d
@@ -231,30 +230,30 @@ no-value_fault old before of names at id text n l fault h empty s is v =
     ]
 
 pointer-field : (old new : area.Heap) (before after : Outside Space) (of : Heap) (names : List reference.Reference) (at id : ℕ) (text : List ℕ)
-    (n : ℕ) (l : Located) (result : Result code.Value OpFault) → IsHeap old → IsHeap new → IsEmpty before → IsEmpty after
-    → IsWorld old of names → StructureAt old of names at id → located_in (forms_of text) n ≡ Some l
+    (n : ℕ) (l : Located) (result : Result code.Value OpFault) → IsHeap old → IsHeap new → IsWorld old of names → StructureAt old of names at id
+    → located_in (forms_of text) n ≡ Some l
     → GetsField old new before after (Some at) text l result
     → Answers old new (λ c v. IsOfForm l.place.form c × IsForIn new names c v) of names (field_of of (Pointer id) text n) result
-pointer-field old new before after of names at id text n l (Ok v) h now empty still w s is g =
+pointer-field old new before after of names at id text n l (Ok v) h now w s is g =
     let it = shown_at old at in
     let keeps = g.2.keeps in
-    let f = field-at old of names at id text s (class-is old new after of names at id text now still keeps s (g.0.class.class)) in
+    let f = field-at old of names at id text s (class-is old new after of names at id text now keeps s (g.0.class.class)) in
     let later = as-kept old new names it kind.Structure text (λ home. home ∷ []) (forms_of text) s.fields keeps f.is in (
       get_or s.fields n Nothing,
       field-is of id text s.fields n f.means,
       (holds-form new it l.place.form (suc l.place.index) v (g.1), field-read new (alone new) (paired names) it text s.fields n l v later is (g.1)),
-      reads-stands old new before after (slot_of it 0 ∷ touched_by it l.place.form (suc l.place.index)) of names now empty (g.2) (
+      reads-stands old new before after (slot_of it 0 ∷ touched_by it l.place.form (suc l.place.index)) of names (g.2) (
         class-known old of names at id s,
         touched-known old it l.place.form (suc l.place.index)
             (λ r. field-slot old names it text s.fields n l f.is is r),
       ) w,
     )
-pointer-field old new before after of names at id text n l (Err (op.Trap t)) h now empty still w s is g =
-    no-field of id text n (other-class old new after of names at id text now still (g.2.keeps) s (g.1)) ∙ ap Fails (sym (g.0))
-pointer-field old new before after of names at id text n l (Err (op.Swizzle fault)) h now empty still w s is g =
+pointer-field old new before after of names at id text n l (Err (op.Trap t)) h now w s is g =
+    no-field of id text n (other-class old new after of names at id text now (g.2.keeps) s (g.1)) ∙ ap Fails (sym (g.0))
+pointer-field old new before after of names at id text n l (Err (op.Swizzle fault)) h now w s is g =
     elim (g.1) [
-      | inl fields ↦ no-fields_fault old new before after of names at id text n l fault h now still s is fields
-      | inr v ↦ no-value_fault old before of names at id text n l fault h empty s is v
+      | inl fields ↦ no-fields_fault old new before after of names at id text n l fault h now s is fields
+      | inr v ↦ no-value_fault old before of names at id text n l fault h s is v
     ]
 
 none-field : (old new : area.Heap) (before after : Outside Space) (of : Heap) (names : List reference.Reference) (text : List ℕ) (n : ℕ)
@@ -266,37 +265,37 @@ none-field old new before after of names text n l (Err (op.Trap t)) g = ap Fails
 none-field old new before after of names text n l (Err (op.Swizzle fault)) g = absurd g
 
 some-field : (old new : area.Heap) (before after : Outside Space) (of : Heap) (names : List reference.Reference) (at : ℕ) (text : List ℕ) (n : ℕ)
-    (o : Value) (l : Located) (result : Result code.Value OpFault) → IsHeap old → IsHeap new → IsEmpty before → IsEmpty after
-    → IsWorld old of names → DenotesIn old names (Some at) o → located_in (forms_of text) n ≡ Some l
+    (o : Value) (l : Located) (result : Result code.Value OpFault) → IsHeap old → IsHeap new → IsWorld old of names
+    → DenotesIn old names (Some at) o → located_in (forms_of text) n ≡ Some l
     → GetsField old new before after (Some at) text l result
     → Answers old new (λ c v. IsOfForm l.place.form c × IsForIn new names c v) of names (field_of of o text n) result
 unfolding field_of
-some-field old new before after of names at text n (Pointer id) l result h now empty still w d is g =
-    pointer-field old new before after of names at id text n l result h now empty still w
+some-field old new before after of names at text n (Pointer id) l result h now w d is g =
+    pointer-field old new before after of names at id text n l result h now w
     (structure-at old of names at id h w (pointer-denoted old names at id h d)) is g
-some-field old new before after of names at text n (Text bytes) l result h now empty still w d is g =
+some-field old new before after of names at text n (Text bytes) l result h now w d is g =
     other-field old new before after of names at text l (Fails trap.WrongClass) result
     (λ k. let bad : kind.Text ≡ kind.Structure = sym (text-denoted old names at bytes h d).kind ∙ k in cc) refl g
-some-field old new before after of names at text n (Vector id) l result h now empty still w d is g =
+some-field old new before after of names at text n (Vector id) l result h now w d is g =
     other-field old new before after of names at text l (Fails trap.WrongClass) result
     (λ k. let bad : kind.Vector ≡ kind.Structure = sym (vector-denoted old names at id h d).kind ∙ k in cc) refl g
-some-field old new before after of names at text n Nil l result h now empty still w d is g = absurd (some-not_nil old names at d)
-some-field old new before after of names at text n (Num z) l result h now empty still w d is g = absurd (d.stands)
-some-field old new before after of names at text n (Flag b) l result h now empty still w d is g = absurd (d.stands)
-some-field old new before after of names at text n (Procedure does scope) l result h now empty still w d is g =
+some-field old new before after of names at text n Nil l result h now w d is g = absurd (some-not_nil old names at d)
+some-field old new before after of names at text n (Num z) l result h now w d is g = absurd (d.stands)
+some-field old new before after of names at text n (Flag b) l result h now w d is g = absurd (d.stands)
+some-field old new before after of names at text n (Procedure does scope) l result h now w d is g =
     other-field old new before after of names at text l (Fails trap.WrongClass) result
     (λ k. let bad : kind.Closure ≡ kind.Structure = sym (procedure-kind old names at does scope h d) ∙ k in cc) refl g
-some-field old new before after of names at text n Nothing l result h now empty still w d is g = absurd (d.stands)
+some-field old new before after of names at text n Nothing l result h now w d is g = absurd (d.stands)
 
 pub answers-field : (old new : area.Heap) (before after : Outside Space) (of : Heap) (names : List reference.Reference) (object : Option ℕ)
-    (given text : List ℕ) (n : ℕ) (o : Value) (l : Located) (result : Result code.Value OpFault) → IsHeap old → IsHeap new → IsEmpty before
-    → IsEmpty after → IsWorld old of names → given ≡ text → DenotesIn old names object o → located_in (forms_of text) n ≡ Some l
+    (given text : List ℕ) (n : ℕ) (o : Value) (l : Located) (result : Result code.Value OpFault) → IsHeap old → IsHeap new → IsWorld old of names
+    → given ≡ text → DenotesIn old names object o → located_in (forms_of text) n ≡ Some l
     → GetsField old new before after object given l result
     → Answers old new (λ c v. IsOfForm l.place.form c × IsForIn new names c v) of names (field_of of o text n) result
-answers-field old new before after of names (Some at) given text n o l result h now empty still w e d is g =
-    some-field old new before after of names at text n o l result h now empty still w d is
+answers-field old new before after of names (Some at) given text n o l result h now w e d is g =
+    some-field old new before after of names at text n o l result h now w d is
     (subst (λ (t : List ℕ). GetsField old new before after (Some at) t l result) e g)
-answers-field old new before after of names None given text n o l result h now empty still w e d is g =
+answers-field old new before after of names None given text n o l result h now w e d is g =
     subst (λ (v : Value). Answers old new (λ c v. IsOfForm l.place.form c × IsForIn new names c v) of names (field_of of v text n) result)
     (sym (none-nil old names o d))
     (none-field old new before after of names text n l result (subst (λ (t : List ℕ). GetsField old new before after None t l result) e g))

@@ -25,7 +25,7 @@ use Rattle.proc_values.proofs.UnitLaws.{size-unit}
 use Rattle.proc_values.proofs.LoadedLaws.{loaded-is}
 use Rattle.proc_values.proofs.StayLaws.{keeps-load, unit-has, constant-read}
 use Rattle.ps_meaning.specs.Objects.{Heap}
-use Rattle.paired_ops.specs.World.{IsEmpty, IsWorld, alone, Stands}
+use Rattle.paired_ops.specs.World.{IsWorld, alone, Stands}
 use Rattle.paired_ops.specs.Code.{unit_weight, LoadsUnit, DenotesConstant, AnswersConstant}
 use Rattle.paired_ops.proofs.WorldLaws.{no-names, keeps-carries, keeps-world, reads-stands, seen-held}
 use Rattle.paired_ops.proofs.ValueLaws.{denotes-text}
@@ -133,15 +133,15 @@ answers-constant old new before after code index bytes cs frame (Err fault) h no
     absurd (no-touch old before code index fault h (unit-known old code index bytes cs frame i) (g.1))
 
 pub constant-stands : (old new : area.Heap) (before after : Outside Space) (code index : ℕ) (bytes : List ℕ) (cs : ConstantsView) (frame : Frame)
-    (r : Result ℕ SwizzleFault) → IsHeap old → IsHeap new → IsEmpty before
+    (r : Result ℕ SwizzleFault) → IsHeap old
     → GivesConstant old new before after code index r → IsUnit old code (unit bytes cs frame) → (of : Heap) (names : List reference.Reference)
     → IsWorld old of names → Stands old new of names
-constant-stands old new before after code index bytes cs frame (Ok at) h now empty g i of names w =
-    reads-stands old new before after (name_of old (ref_at old code index) ∷ []) of names now empty (g.2)
+constant-stands old new before after code index bytes cs frame (Ok at) h g i of names w =
+    reads-stands old new before after (name_of old (ref_at old code index) ∷ []) of names (g.2)
     (subst (Known old) (slot-name old code index) (unit-known old code index bytes cs frame i), tt) w
-constant-stands old new before after code index bytes cs frame (Err fault) h now empty (inl g) i of names w =
+constant-stands old new before after code index bytes cs frame (Err fault) h (inl g) i of names w =
     subst (λ (x : area.Heap). Stands old x of names) (sym (g.2)) (nothing-done old of names w)
-constant-stands old new before after code index bytes cs frame (Err fault) h now empty (inr g) i of names w =
+constant-stands old new before after code index bytes cs frame (Err fault) h (inr g) i of names w =
     absurd (no-touch old before code index fault h (unit-known old code index bytes cs frame i) (g.1))
 
 pub constant-leaves : (old new : area.Heap) (before after : Outside Space) (code index : ℕ) (r : Result ℕ SwizzleFault)

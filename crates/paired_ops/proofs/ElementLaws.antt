@@ -39,7 +39,7 @@ use Rattle.heap_meaning.proofs.PlaceLaws.{word-behind, word-fits}
 use Rattle.heap_meaning.proofs.WriteLaws.{element-form, element-before}
 use Rattle.heap_meaning.proofs.VectorLaws.{low-is, is-long, vector-shape, subscript-is, below-count, element-read, element-written}
 use Rattle.heap_meaning.proofs.GivenLaws.{shown_with}
-use Rattle.paired_ops.specs.World.{IsEmpty, IsWorld, alone, Stands, Answers, Writes}
+use Rattle.paired_ops.specs.World.{IsWorld, alone, Stands, Answers, Writes}
 use Rattle.paired_ops.specs.Operands as operands
 use Rattle.paired_ops.specs.Operands.{IsForIn, IsOfForm}
 use Rattle.paired_ops.proofs.WorldLaws.{reads-stands}
@@ -61,10 +61,10 @@ pub type-known : (here : area.Heap) (of : Heap) (names : List reference.Referenc
 type-known here of names at id v = known-text here (slot_of (shown_at here at) 0) v.ty (type-text here of names at id v)
 
 type-is : (old new : area.Heap) (after : Outside Space) (of : Heap) (names : List reference.Reference) (at id : ℕ) (text : List ℕ) → IsHeap new
-    → IsEmpty after → Keeps old new → (v : VectorAt old of names at id)
+    → Keeps old new → (v : VectorAt old of names at id)
     → IsText (joint new after) (slot_of (shown_at old at) 0) text → v.ty ≡ text
-type-is old new after of names at id text h empty keeps v t =
-    text-is old new after (slot_of (shown_at old at) 0) v.ty text h empty keeps (type-text old of names at id v) t
+type-is old new after of names at id text h keeps v t =
+    text-is old new after (slot_of (shown_at old at) 0) v.ty text h keeps (type-text old of names at id v) t
 
 -- the form of its elements
 pub form-is : (here : area.Heap) (of : Heap) (names : List reference.Reference) (at id : ℕ) → (v : VectorAt here of names at id)
@@ -73,15 +73,15 @@ form-is here of names at id v = ap (λ (o : Option Object). element_of (type_in 
 
 -- Its text is read.
 pub form-told : (old new : area.Heap) (before after : Outside Space) (of : Heap) (names : List reference.Reference) (at id text : ℕ) (f : Form)
-    → IsHeap new → IsEmpty before → IsEmpty after → IsWorld old of names → VectorAt old of names at id
+    → IsHeap new → IsWorld old of names → VectorAt old of names at id
     → FirstText old new before after at text → f ≡ element_of (text_at new text)
     → (x : Form) × (Yields (operands.form_in of id) ≡ Yields x) × (f ≡ x) × Stands old new of names
-form-told old new before after of names at id text f h empty still w v t e =
-    let same = type-is old new after of names at id (text_at new text) h still (t.reads.keeps) v (text-seen old new before after at text t) in (
+form-told old new before after of names at id text f h w v t e =
+    let same = type-is old new after of names at id (text_at new text) h (t.reads.keeps) v (text-seen old new before after at text t) in (
       operands.form_in of id,
       refl,
       e ∙ ap element_of (sym same) ∙ sym (form-is old of names at id v),
-      reads-stands old new before after (slot_of (shown_at old at) 0 ∷ []) of names h empty t.reads (type-known old of names at id v, tt) w,
+      reads-stands old new before after (slot_of (shown_at old at) 0 ∷ []) of names t.reads (type-known old of names at id v, tt) w,
     )
 
 -- Nothing fails.
@@ -100,14 +100,14 @@ no-kind_damage : (it : Shown) → it.kind ≡ kind.Vector → kind_damage it ≡
 no-kind_damage it is = ap (λ (k : Kind). if nat_eq (kind_number k) 3 then None else damage (kind_number k) 3) is
 
 pub no-vector_fault : (old new : area.Heap) (before after : Outside Space) (of : Heap) (names : List reference.Reference) (at id : ℕ)
-    (fault : SwizzleFault) → IsHeap old → IsHeap new → IsEmpty after → VectorAt old of names at id
+    (fault : SwizzleFault) → IsHeap old → IsHeap new → VectorAt old of names at id
     → FailsVector old new before after at fault → ⊥
-no-vector_fault old new before after of names at id fault h now still v (inl d) =
+no-vector_fault old new before after of names at id fault h now v (inl d) =
     no-damage old at (kind_damage (shown_at old at)) fault (no-kind_damage (shown_at old at) v.is.rows.kind_is) d
-no-vector_fault old new before after of names at id fault h now still v (inr (inl t)) =
+no-vector_fault old new before after of names at id fault h now v (inr (inl t)) =
     no-type_fault old new before of names at id fault h now v (t.1)
-no-vector_fault old new before after of names at id fault h now still v (inr (inr d)) =
-    let same = type-is old new after of names at id (d.2.0) now still (d.1) v (d.2.1) in
+no-vector_fault old new before after of names at id fault h now v (inr (inr d)) =
+    let same = type-is old new after of names at id (d.2.0) now (d.1) v (d.2.1) in
     no-damage old at (vector_damage (shown_at old at) (element_of (d.2.0))) fault
     (ap (λ (t : List ℕ). vector_damage (shown_at old at) (element_of t)) (sym same)
     ∙ vector-shape (alone old) (paired names) (shown_at old at) v.ty v.low v.elements v.is) (d.2.2)
@@ -115,23 +115,23 @@ no-vector_fault old new before after of names at id fault h now still v (inr (in
 -- Bounds.
 
 pub low-told : (old new : area.Heap) (before after : Outside Space) (of : Heap) (names : List reference.Reference) (at id : ℕ) (z : ℤ)
-    → IsHeap new → IsEmpty before → IsWorld old of names → VectorAt old of names at id → TellsLow old new before after at (Ok z)
+    → IsWorld old of names → VectorAt old of names at id → TellsLow old new before after at (Ok z)
     → (x : ℤ) × (Yields (meaning.low_of of (Vector id)) ≡ Yields x) × (z ≡ x) × Stands old new of names
 unfolding meaning.low_of
-low-told old new before after of names at id z h empty w v t = (
+low-told old new before after of names at id z w v t = (
   meaning.low_of of (Vector id),
   refl,
   t.2 ∙ low-is (alone old) (paired names) (shown_at old at) v.ty v.low v.elements v.is ∙ sym (ap low_in v.means),
-  reads-stands old new before after (slot_of (shown_at old at) 0 ∷ []) of names h empty (t.1.reads) (type-known old of names at id v, tt) w,
+  reads-stands old new before after (slot_of (shown_at old at) 0 ∷ []) of names (t.1.reads) (type-known old of names at id v, tt) w,
 )
 
 pub high-told : (old new : area.Heap) (before after : Outside Space) (of : Heap) (names : List reference.Reference) (at id : ℕ) (z : ℤ)
-    → IsHeap new → IsEmpty before → IsEmpty after → IsWorld old of names → VectorAt old of names at id
+    → IsHeap new → IsWorld old of names → VectorAt old of names at id
     → TellsHigh old new before after at (Ok z) → (x : ℤ) × (Yields (meaning.high_of of (Vector id)) ≡ Yields x) × (z ≡ x) × Stands old new of names
 unfolding meaning.low_of meaning.high_of
-high-told old new before after of names at id z h empty still w v t =
+high-told old new before after of names at id z h w v t =
     let it = shown_at old at in
-    let same = type-is old new after of names at id (t.0) h still (t.1.reads.keeps) v (t.1.is.type) in
+    let same = type-is old new after of names at id (t.0) h (t.1.reads.keeps) v (t.1.is.type) in
     let low = low-is (alone old) (paired names) it v.ty v.low v.elements v.is in
     let count : count_of it (element_of (t.0)) ≡ length v.elements = ap (λ (x : List ℕ). count_of it (element_of x)) (sym same)
     ∙ (is-long (alone old) (paired names) it v.ty v.low v.elements v.is).count in (
@@ -139,7 +139,7 @@ high-told old new before after of names at id z h empty still w v t =
       refl,
       t.2 ∙ ap (λ (l : ℤ). l +ℤ (pos (count_of it (element_of (t.0))) -ℤ pos 1)) low ∙ ap (λ (n : ℕ). v.low +ℤ (pos n -ℤ pos 1)) count
           ∙ sym (ap (λ (o : Option Object). low_in o +ℤ (pos (length (elements_in o)) -ℤ pos 1)) v.means),
-      reads-stands old new before after (slot_of it 0 ∷ []) of names h empty (t.1.reads) (type-known old of names at id v, tt) w,
+      reads-stands old new before after (slot_of it 0 ∷ []) of names (t.1.reads) (type-known old of names at id v, tt) w,
     )
 
 -- Elements.
@@ -231,10 +231,10 @@ vector-kept old new names it ty low vs keeps v = record {
 }
 
 no-element_fault : (old : area.Heap) (before : Outside Space) (of : Heap) (names : List reference.Reference) (at id : ℕ) (z : ℤ)
-    (fault : SwizzleFault) → IsHeap old → IsEmpty before → VectorAt old of names at id → FailsElement old before at z fault → ⊥
-no-element_fault old before of names at id z fault h empty v d =
+    (fault : SwizzleFault) → IsHeap old → VectorAt old of names at id → FailsElement old before at z fault → ⊥
+no-element_fault old before of names at id z fault h v d =
     let it = shown_at old at in
-    let same = type-is old d.mid before of names at id d.text d.heap empty d.keeps v d.is.type in
+    let same = type-is old d.mid before of names at id d.text d.heap d.keeps v d.is.type in
     let p = place-at old of names at id z d.n d.text v same d.place in
     elim (d.why) [
       | inl w ↦ no-damage old at (word_damage (element_of d.text) (word_in it (index_of (element_of d.text) d.n))) fault
@@ -246,13 +246,13 @@ no-element_fault old before of names at id z fault h empty v d =
     ]
 
 pub answers-element : (old new : area.Heap) (before after : Outside Space) (of : Heap) (names : List reference.Reference) (at id : ℕ) (z y : ℤ)
-    (result : Result code.Value OpFault) → y ≡ z → IsHeap old → IsHeap new → IsEmpty before → IsEmpty after → IsWorld old of names
+    (result : Result code.Value OpFault) → y ≡ z → IsHeap old → IsHeap new → IsWorld old of names
     → VectorAt old of names at id → GetsElement old new before after at y result
     → Answers old new (λ c v. IsOfForm (operands.form_in of id) c × IsForIn new names c v) of names (meaning.element_of of (Vector id) z) result
-answers-element old new before after of names at id z y (Ok c) e h now empty still w v g =
+answers-element old new before after of names at id z y (Ok c) e h now w v g =
     let it = shown_at old at in
     let keeps = g.reads.keeps in
-    let same = type-is old new after of names at id g.text now still keeps v g.is.type in
+    let same = type-is old new after of names at id g.text now keeps v g.is.type in
     let p = place-at old of names at id y g.n g.text v same g.place in
     let holds = subst (λ (t : List ℕ). Holds new it (element_of t) (index_of (element_of t) g.n) c)
     (sym same) g.value in
@@ -269,34 +269,34 @@ answers-element old new before after of names at id z y (Ok c) e h now empty sti
             (vector-kept old new names it v.ty v.low v.elements keeps v.is) p.below holds,
       ),
       reads-stands old new before after
-          (slot_of it 0 ∷ touched_by it (element_of g.text) (index_of (element_of g.text) g.n)) of names now empty g.reads
+          (slot_of it 0 ∷ touched_by it (element_of g.text) (index_of (element_of g.text) g.n)) of names g.reads
           (type-known old of names at id v, known) w,
     )
-answers-element old new before after of names at id z y (Err (op.Trap t)) e h now empty still w v g =
-    let same = type-is old new after of names at id (g.1.0) now still (g.1.1.reads.keeps) v (g.1.1.is.type) in
+answers-element old new before after of names at id z y (Err (op.Trap t)) e h now w v g =
+    let same = type-is old new after of names at id (g.1.0) now (g.1.1.reads.keeps) v (g.1.1.is.type) in
     ap (λ (x : ℤ). meaning.element_of of (Vector id) x) (sym e) ∙ element-meant old of names at id y v
     ∙ ap (λ (o : Option ℕ). found_at o v.elements) (place-none old of names at id y (g.1.0) v same (g.1.2)) ∙ ap Fails (sym (g.0))
-answers-element old new before after of names at id z y (Err (op.Swizzle fault)) e h now empty still w v g =
+answers-element old new before after of names at id z y (Err (op.Swizzle fault)) e h now w v g =
     elim (g.1) [
-      | inl d ↦ no-vector_fault old new before after of names at id fault h now still v d
-      | inr d ↦ no-element_fault old before of names at id y fault h empty v d
+      | inl d ↦ no-vector_fault old new before after of names at id fault h now v d
+      | inr d ↦ no-element_fault old before of names at id y fault h v d
     ]
 
 pub writes-element : (old new : area.Heap) (before after : Outside Space) (of : Heap) (names : List reference.Reference) (at id : ℕ) (z y : ℤ)
-    (c : code.Value) (e : Value) (result : Result (Unit {0}) OpFault) → y ≡ z → IsHeap old → IsHeap new → IsEmpty before
-    → IsEmpty after → IsWorld old of names → VectorAt old of names at id → IsOfForm (operands.form_in of id) c → IsForIn old names c e
+    (c : code.Value) (e : Value) (result : Result (Unit {0}) OpFault) → y ≡ z → IsHeap old → IsHeap new → IsWorld old of names
+    → VectorAt old of names at id → IsOfForm (operands.form_in of id) c → IsForIn old names c e
     → SetsElement old new before after at y c result
     → Writes old new names (with_element of (Vector id) z e) result
-writes-element old new before after of names at id z y c e (Ok done) q h now empty still w v form for g =
+writes-element old new before after of names at id z y c e (Ok done) q h now w v form for g =
     let mid = g.mid in
     let keeps = g.vector.reads.keeps in
     let stays = keeps.objects at v.held in
-    let same = type-is old mid after of names at id g.text g.heap still keeps v g.vector.is.type in
+    let same = type-is old mid after of names at id g.text g.heap keeps v g.vector.is.type in
     let p = place-at old of names at id y g.n g.text v same g.place in
     let shaped : IsOfForm (element_of v.ty) c = subst (λ (f : Form). IsOfForm f c) (form-is old of names at id v) form in
     let stored : c ≡ g.stored = let both : Some c ≡ Some g.stored = sym (form-fitted (element_of v.ty) c shaped)
     ∙ ap (λ (t : List ℕ). fitted (element_of t) c) same ∙ g.fits in cc in
-    let read = reads-stands old mid before after (slot_of (shown_at old at) 0 ∷ []) of names g.heap empty g.vector.reads
+    let read = reads-stands old mid before after (slot_of (shown_at old at) 0 ∷ []) of names g.vector.reads
     (type-known old of names at id v, tt) w in
     let seen : IsVector (alone mid) (paired names) (shown_at mid at) v.ty v.low v.elements =
     subst (λ (it : Shown). IsVector (alone mid) (paired names) it v.ty v.low v.elements) (sym stays.shown_as)
@@ -317,15 +317,15 @@ writes-element old new before after of names at id z y c e (Ok done) q h now emp
           (form-stored mid names (element_of v.ty) c e shaped (for-carried old mid names names 0 c e read.carries for)))
           (rewritten mid new at index c g.heap stays.held written),
     )
-writes-element old new before after of names at id z y c e (Err (op.Trap t)) q h now empty still w v form for g =
-    let same = type-is old new after of names at id (g.1.0) now still (g.1.1.reads.keeps) v (g.1.1.is.type) in
+writes-element old new before after of names at id z y c e (Err (op.Trap t)) q h now w v form for g =
+    let same = type-is old new after of names at id (g.1.0) now (g.1.1.reads.keeps) v (g.1.1.is.type) in
     ap (λ (x : ℤ). with_element of (Vector id) x e) (sym q) ∙ put-meant old of names at id y e v
     ∙ ap (λ (o : Option ℕ). put_at of (Vector id) o e) (place-none old of names at id y (g.1.0) v same (g.1.2)) ∙ ap Fails (sym (g.0))
-writes-element old new before after of names at id z y c e (Err (op.Swizzle fault)) q h now empty still w v form for g =
+writes-element old new before after of names at id z y c e (Err (op.Swizzle fault)) q h now w v form for g =
     elim (g.1) [
-      | inl d ↦ no-vector_fault old new before after of names at id fault h now still v d
+      | inl d ↦ no-vector_fault old new before after of names at id fault h now v d
       | inr d ↦
-          let same = type-is old new after of names at id (d.0) now still (d.1) v (d.2.type) in
+          let same = type-is old new after of names at id (d.0) now (d.1) v (d.2.type) in
           let shaped : IsOfForm (element_of v.ty) c = subst (λ (f : Form). IsOfForm f c) (form-is old of names at id v) form in
           let bad : Some c ≡ None = sym (form-fitted (element_of v.ty) c shaped) ∙ ap (λ (t : List ℕ). fitted (element_of t) c) same ∙ d.3 in
           absurd (cc)

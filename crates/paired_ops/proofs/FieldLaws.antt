@@ -27,7 +27,7 @@ use Rattle.heap_meaning.specs.Standing.{IsStructure}
 use Rattle.heap_meaning.specs.Paired.{paired}
 use Rattle.heap_meaning.proofs.FieldLaws.{field-put, no-field_put}
 use Rattle.heap_meaning.proofs.GivenLaws.{shown_with, field-written}
-use Rattle.paired_ops.specs.World.{IsEmpty, IsWorld, alone, DenotesIn, Writes}
+use Rattle.paired_ops.specs.World.{IsWorld, alone, DenotesIn, Writes}
 use Rattle.paired_ops.specs.Operands.{IsForIn, IsOfForm}
 use Rattle.paired_ops.proofs.WorldLaws.{reads-stands}
 use Rattle.paired_ops.proofs.ValueLaws.{none-nil, some-not_nil, text-denoted, pointer-denoted, vector-denoted, procedure-kind}
@@ -57,16 +57,16 @@ other-put old new before after names at text l c attempt (Err (op.Swizzle fault)
     elim (g.1) [ inl k ↦ absurd (ne (k.0)) | inr d ↦ absurd (ne (d.1.kind)) ]
 
 pointer-put : (old new : area.Heap) (before after : Outside Space) (of : Heap) (names : List reference.Reference) (at id : ℕ) (text : List ℕ)
-    (n : ℕ) (l : Located) (c : code.Value) (v : Value) (result : Result (Unit {0}) OpFault) → IsHeap old → IsHeap new → IsEmpty before
-    → IsEmpty after → IsWorld old of names → StructureAt old of names at id → located_in (forms_of text) n ≡ Some l → IsOfForm l.place.form c
+    (n : ℕ) (l : Located) (c : code.Value) (v : Value) (result : Result (Unit {0}) OpFault) → IsHeap old → IsHeap new → IsWorld old of names
+    → StructureAt old of names at id → located_in (forms_of text) n ≡ Some l → IsOfForm l.place.form c
     → IsForIn old names c v → SetsField old new before after (Some at) text l c result
     → Writes old new names (with_field of (Pointer id) text n v) result
-pointer-put old new before after of names at id text n l c v (Ok done) h now empty still w s is form for g =
+pointer-put old new before after of names at id text n l c v (Ok done) h now w s is form for g =
     let mid = g.mid in
     let keeps = g.reads.keeps in
     let stays = keeps.objects at s.held in
-    let f = field-at old of names at id text s (class-is old mid after of names at id text g.heap still keeps s (g.fields.class.class)) in
-    let read = reads-stands old mid before after (slot_of (shown_at old at) 0 ∷ []) of names g.heap empty g.reads
+    let f = field-at old of names at id text s (class-is old mid after of names at id text g.heap keeps s (g.fields.class.class)) in
+    let read = reads-stands old mid before after (slot_of (shown_at old at) 0 ∷ []) of names g.reads
     (class-known old of names at id s, tt) w in
     let seen : IsStructure (alone mid) (paired names) (shown_at mid at) text s.fields =
     subst (λ (it : Shown). IsStructure (alone mid) (paired names) it text s.fields) (sym stays.shown_as)
@@ -83,10 +83,10 @@ pointer-put old new before after of names at id text n l c v (Ok done) h now emp
           (field-written mid (alone mid) (paired names) (shown_at mid at) text s.fields n l c v seen is stored)
           (rewritten mid new at index c g.heap stays.held g.written),
     )
-pointer-put old new before after of names at id text n l c v (Err (op.Trap t)) h now empty still w s is form for g =
-    no-field_put of id text n v (other-class old new after of names at id text now still (g.2.keeps) s (g.1)) ∙ ap Fails (sym (g.0))
-pointer-put old new before after of names at id text n l c v (Err (op.Swizzle fault)) h now empty still w s is form for g =
-    no-fields_fault old new before after of names at id text n l fault h now still s is (g.1)
+pointer-put old new before after of names at id text n l c v (Err (op.Trap t)) h now w s is form for g =
+    no-field_put of id text n v (other-class old new after of names at id text now (g.2.keeps) s (g.1)) ∙ ap Fails (sym (g.0))
+pointer-put old new before after of names at id text n l c v (Err (op.Swizzle fault)) h now w s is form for g =
+    no-fields_fault old new before after of names at id text n l fault h now s is (g.1)
 
 none-put : (old new : area.Heap) (before after : Outside Space) (of : Heap) (names : List reference.Reference) (text : List ℕ) (n : ℕ)
     (l : Located) (c : code.Value) (v : Value) (result : Result (Unit {0}) OpFault) → SetsField old new before after None text l c result
@@ -97,37 +97,37 @@ none-put old new before after of names text n l c v (Err (op.Trap t)) g = ap Fai
 none-put old new before after of names text n l c v (Err (op.Swizzle fault)) g = absurd g
 
 some-put : (old new : area.Heap) (before after : Outside Space) (of : Heap) (names : List reference.Reference) (at : ℕ) (text : List ℕ) (n : ℕ)
-    (o : Value) (l : Located) (c : code.Value) (v : Value) (result : Result (Unit {0}) OpFault) → IsHeap old → IsHeap new → IsEmpty before
-    → IsEmpty after → IsWorld old of names → DenotesIn old names (Some at) o → located_in (forms_of text) n ≡ Some l → IsOfForm l.place.form c
+    (o : Value) (l : Located) (c : code.Value) (v : Value) (result : Result (Unit {0}) OpFault) → IsHeap old → IsHeap new → IsWorld old of names
+    → DenotesIn old names (Some at) o → located_in (forms_of text) n ≡ Some l → IsOfForm l.place.form c
     → IsForIn old names c v → SetsField old new before after (Some at) text l c result
     → Writes old new names (with_field of o text n v) result
 unfolding with_field
-some-put old new before after of names at text n (Pointer id) l c v result h now empty still w d is form for g =
-    pointer-put old new before after of names at id text n l c v result h now empty still w
+some-put old new before after of names at text n (Pointer id) l c v result h now w d is form for g =
+    pointer-put old new before after of names at id text n l c v result h now w
     (structure-at old of names at id h w (pointer-denoted old names at id h d)) is form for g
-some-put old new before after of names at text n (Text bytes) l c v result h now empty still w d is form for g =
+some-put old new before after of names at text n (Text bytes) l c v result h now w d is form for g =
     other-put old new before after names at text l c (Fails trap.WrongClass) result
     (λ k. let bad : kind.Text ≡ kind.Structure = sym (text-denoted old names at bytes h d).kind ∙ k in cc) refl g
-some-put old new before after of names at text n (Vector id) l c v result h now empty still w d is form for g =
+some-put old new before after of names at text n (Vector id) l c v result h now w d is form for g =
     other-put old new before after names at text l c (Fails trap.WrongClass) result
     (λ k. let bad : kind.Vector ≡ kind.Structure = sym (vector-denoted old names at id h d).kind ∙ k in cc) refl g
-some-put old new before after of names at text n Nil l c v result h now empty still w d is form for g = absurd (some-not_nil old names at d)
-some-put old new before after of names at text n (Num z) l c v result h now empty still w d is form for g = absurd (d.stands)
-some-put old new before after of names at text n (Flag b) l c v result h now empty still w d is form for g = absurd (d.stands)
-some-put old new before after of names at text n (Procedure does scope) l c v result h now empty still w d is form for g =
+some-put old new before after of names at text n Nil l c v result h now w d is form for g = absurd (some-not_nil old names at d)
+some-put old new before after of names at text n (Num z) l c v result h now w d is form for g = absurd (d.stands)
+some-put old new before after of names at text n (Flag b) l c v result h now w d is form for g = absurd (d.stands)
+some-put old new before after of names at text n (Procedure does scope) l c v result h now w d is form for g =
     other-put old new before after names at text l c (Fails trap.WrongClass) result
     (λ k. let bad : kind.Closure ≡ kind.Structure = sym (procedure-kind old names at does scope h d) ∙ k in cc) refl g
-some-put old new before after of names at text n Nothing l c v result h now empty still w d is form for g = absurd (d.stands)
+some-put old new before after of names at text n Nothing l c v result h now w d is form for g = absurd (d.stands)
 
 pub writes-field : (old new : area.Heap) (before after : Outside Space) (of : Heap) (names : List reference.Reference) (object : Option ℕ)
     (given text : List ℕ) (n : ℕ) (o : Value) (l : Located) (c : code.Value) (v : Value) (result : Result (Unit {0}) OpFault) → IsHeap old
-    → IsHeap new → IsEmpty before → IsEmpty after → IsWorld old of names → given ≡ text → DenotesIn old names object o
+    → IsHeap new → IsWorld old of names → given ≡ text → DenotesIn old names object o
     → located_in (forms_of text) n ≡ Some l → IsOfForm l.place.form c → IsForIn old names c v
     → SetsField old new before after object given l c result → Writes old new names (with_field of o text n v) result
-writes-field old new before after of names (Some at) given text n o l c v result h now empty still w e d is form for g =
-    some-put old new before after of names at text n o l c v result h now empty still w d is form for
+writes-field old new before after of names (Some at) given text n o l c v result h now w e d is form for g =
+    some-put old new before after of names at text n o l c v result h now w d is form for
     (subst (λ (t : List ℕ). SetsField old new before after (Some at) t l c result) e g)
-writes-field old new before after of names None given text n o l c v result h now empty still w e d is form for g =
+writes-field old new before after of names None given text n o l c v result h now w e d is form for g =
     subst (λ (x : Value). Writes old new names (with_field of x text n v) result) (sym (none-nil old names o d))
     (none-put old new before after of names text n l c v result (subst (λ (t : List ℕ). SetsField old new before after None t l c result) e g))
 

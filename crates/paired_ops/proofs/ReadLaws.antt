@@ -26,8 +26,8 @@ use Rattle.heap_meaning.specs.Standing.{StandsFor, IsAs, IsStructure, IsVector, 
 use Rattle.heap_meaning.specs.Paired.{paired}
 use Rattle.heap_meaning.proofs.StandingLaws.{text-more, as-more}
 use Rattle.heap_meaning.proofs.PlaceLaws.{text-one}
-use Rattle.paired_ops.specs.World.{IsEmpty, IsWorld, alone, Stands}
-use Rattle.paired_ops.proofs.WorldLaws.{seen-at, seen-is, alone-one, joint-alone, keeps-within, keeps-passes, keeps-carries}
+use Rattle.paired_ops.specs.World.{IsWorld, alone, Stands}
+use Rattle.paired_ops.proofs.WorldLaws.{seen-at, seen-is, alone-one, joint-held, keeps-within, keeps-passes, keeps-carries}
 use Rattle.paired_ops.proofs.ValueLaws.{nil-unseen, ObjectAt}
 
 -- Nothing was done: the world stays.
@@ -142,11 +142,12 @@ pub no-damage : (here : area.Heap) (at : ℕ) (damaged : Option Damage) (fault :
 no-damage here at damaged fault none d = let bad : None ≡ Some (d.0) = sym none ∙ d.1 in absurd (cc)
 
 -- A text that a name has after objects stayed is the one that it had.
-pub text-is : (old new : area.Heap) (after : Outside Space) (n : reference.Reference) (text now : List ℕ) → IsHeap new → IsEmpty after
-    → Keeps old new → IsText (alone old) n text → IsText (joint new after) n now → text ≡ now
-text-is old new after n text now h empty keeps t s =
+pub text-is : (old new : area.Heap) (after : Outside Space) (n : reference.Reference) (text now : List ℕ) → IsHeap new → Keeps old new
+    → IsText (alone old) n text → IsText (joint new after) n now → text ≡ now
+text-is old new after n text now h keeps t s =
+    let there = joint-held new after n t.it s.it h (keeps-within old new keeps n t.it t.there) s.there in
     text-one (alone new) n text now (alone-one new h) (text-more (alone old) (alone new) n text (λ it k seen. keeps-within old new keeps n it seen) t)
-    (record { it = s.it; there = joint-alone new after empty n s.it s.there; kind = s.kind; bytes_are = s.bytes_are })
+    (record { it = s.it; there = there; kind = s.kind; bytes_are = s.bytes_are })
 
 -- An object that stays stands for what it stood for.
 pub as-kept : (old new : area.Heap) (names : List reference.Reference) (it : Shown) (of : Kind) (text : List ℕ) (first : ℕ → List ℕ)

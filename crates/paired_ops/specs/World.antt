@@ -1,7 +1,5 @@
--- The area as the meaning sees it: a heap under a row of names. All objects are in the area; the outside holds none.
+-- The area as the meaning sees it: a heap under a row of names. All its objects are in the area, whatever else the outside holds.
 use Rattle.std.specs.Prelude.{◌≡◌, ℕ, ◌+◌, ◌*◌, ◌<◌, ◌≤◌, List, Option, Some, Result, Ok, Err}
-use Rattle.ps_outside.specs.Outside.{Outside}
-use Rattle.obj_layout.specs.Stored.{Space, Holds}
 use Rattle.obj_layout.specs.declared.reference.Reference as reference
 use Rattle.swizzle.specs.Heap as area
 use Rattle.swizzle.specs.Heap.{top_of}
@@ -17,10 +15,6 @@ use Rattle.ps_meaning.specs.Objects.{Heap, Object, with_new, new_number}
 use Rattle.ps_meaning.specs.Weights.{own_weight, text_weight}
 use Rattle.heap_meaning.specs.Paired.{paired, StandsRow}
 use Rattle.heap_meaning.specs.Denoting.{DenotesValue, DenotesScope}
-
--- the outside holds no object
-abbrev pub IsEmpty : Outside Space → Type 0
-IsEmpty outside = (pid : ℕ) (words : List ℕ) → Holds outside pid words → ⊥
 
 -- what is seen of the area alone
 abbrev pub alone : area.Heap → reference.Reference → Shown → Type 0

@@ -7,7 +7,7 @@ ghost use Rattle.swizzle.specs.Heap.{IsHeld};
 ghost use Rattle.swizzle.specs.Reading.{LeavesOutside};
 ghost use Rattle.proc_values.specs.Loaded.{IsUnit};
 ghost use Rattle.ps_meaning.specs.Objects as meaning;
-ghost use Rattle.paired_ops.specs.World.{IsEmpty, IsWorld, Stands};
+ghost use Rattle.paired_ops.specs.World.{IsWorld, Stands};
 ghost use Rattle.paired_ops.specs.Code.{LoadsUnit, AnswersConstant};
 
 use obj_layout::vault::Vault;
@@ -38,7 +38,6 @@ pub fn constant<V: Vault>(
     index: u32,
 ) -> Result<u32, SwizzleFault>
     requires alive { V.alive vault.old }
-    requires empty { IsEmpty (V.outside vault.old) }
     requires held { IsHeld sw.old code }
     ensures given { (bytes : List ℕ) (constants : ConstantsView) (frame : Frame) → IsUnit sw.old code (unit bytes constants frame)
         → AnswersConstant sw.old sw.new code constants index result }

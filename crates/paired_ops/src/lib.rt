@@ -1,5 +1,5 @@
-//! Operations on objects of an area whose vault holds none, each said as the meaning says it: under a row of names the area stands for a heap of
-//! the meaning.
+//! Operations on objects of an area, each said as the meaning says it: under a row of names the area stands for a heap of the meaning, whatever
+//! the vault beside it holds.
 #![tactic(auto)]
 
 pub mod code;

@@ -12,7 +12,7 @@ ghost use Rattle.heap_ops.specs.Structures.{IsNamed};
 ghost use Rattle.ps_meaning.specs.Objects as meaning;
 ghost use Rattle.ps_meaning.specs.Texts.{Yields};
 ghost use Rattle.ps_meaning.specs.Values as meant;
-ghost use Rattle.paired_ops.specs.World.{IsEmpty, IsWorld, DenotesIn, Answers, Writes, Makes};
+ghost use Rattle.paired_ops.specs.World.{IsWorld, DenotesIn, Answers, Writes, Makes};
 ghost use Rattle.paired_ops.specs.Operands.{IsForIn, IsOfForm, AreForIn};
 
 use heap_ops::structures;
@@ -52,7 +52,6 @@ pub fn is_class<V: Vault>(
     class: u32,
 ) -> Result<bool, OpFault>
     requires alive { V.alive vault.old }
-    requires empty { IsEmpty (V.outside vault.old) }
     requires held { IfSome object (IsHeld sw.old) }
     requires class { IsHeld sw.old class }
     requires text { (header_at sw.old class).kind ≡ Kind.Text }
@@ -88,7 +87,6 @@ pub fn get_field<V: Vault>(
     located: Located,
 ) -> Result<Value, OpFault>
     requires alive { V.alive vault.old }
-    requires empty { IsEmpty (V.outside vault.old) }
     requires held { IfSome object (IsHeld sw.old) }
     requires class { IsHeld sw.old class }
     requires text { (header_at sw.old class).kind ≡ Kind.Text }
@@ -116,7 +114,6 @@ pub fn set_field<V: Vault>(
     to: Value,
 ) -> Result<(), OpFault>
     requires alive { V.alive vault.old }
-    requires empty { IsEmpty (V.outside vault.old) }
     requires held { IfSome object (IsHeld sw.old) }
     requires class { IsHeld sw.old class }
     requires text { (header_at sw.old class).kind ≡ Kind.Text }

@@ -10,7 +10,7 @@ ghost use Rattle.heap_ops.specs.Outcomes.{UnlessFault};
 ghost use Rattle.ps_meaning.specs.Objects as meaning;
 ghost use Rattle.ps_meaning.specs.Texts.{Yields};
 ghost use Rattle.ps_meaning.specs.Values as meant;
-ghost use Rattle.paired_ops.specs.World.{IsEmpty, IsWorld, DenotesIn, Answers, Writes, Makes};
+ghost use Rattle.paired_ops.specs.World.{IsWorld, DenotesIn, Answers, Writes, Makes};
 ghost use Rattle.paired_ops.specs.Operands.{IsForIn, IsOfForm, AreForIn, form_in};
 
 use heap_ops::vectors;
@@ -66,7 +66,6 @@ pub fn make_list(sw: &mut Swizzle, ty: u32, low: i32, items: &[Value]) -> Result
 #[inline]
 pub fn form_of<V: Vault>(sw: &mut Swizzle, vault: &mut V, vector: u32) -> Result<Form, OpFault>
     requires alive { V.alive vault.old }
-    requires empty { IsEmpty (V.outside vault.old) }
     requires held { IsHeld sw.old vector }
     ensures told { (of : meaning.Heap) (names : List Reference) (id : ℕ) → IsWorld sw.old of names
         → DenotesIn sw.old names (Some vector) (meant.Vector id)
@@ -87,7 +86,6 @@ pub fn form_of<V: Vault>(sw: &mut Swizzle, vault: &mut V, vector: u32) -> Result
 #[inline]
 pub fn low<V: Vault>(sw: &mut Swizzle, vault: &mut V, vector: u32) -> Result<i32, OpFault>
     requires alive { V.alive vault.old }
-    requires empty { IsEmpty (V.outside vault.old) }
     requires held { IsHeld sw.old vector }
     ensures told { (of : meaning.Heap) (names : List Reference) (id : ℕ) → IsWorld sw.old of names
         → DenotesIn sw.old names (Some vector) (meant.Vector id)
@@ -108,7 +106,6 @@ pub fn low<V: Vault>(sw: &mut Swizzle, vault: &mut V, vector: u32) -> Result<i32
 #[inline]
 pub fn high<V: Vault>(sw: &mut Swizzle, vault: &mut V, vector: u32) -> Result<i32, OpFault>
     requires alive { V.alive vault.old }
-    requires empty { IsEmpty (V.outside vault.old) }
     requires held { IsHeld sw.old vector }
     ensures told { (of : meaning.Heap) (names : List Reference) (id : ℕ) → IsWorld sw.old of names
         → DenotesIn sw.old names (Some vector) (meant.Vector id)
@@ -134,7 +131,6 @@ pub fn get_element<V: Vault>(
     at: i32,
 ) -> Result<Value, OpFault>
     requires alive { V.alive vault.old }
-    requires empty { IsEmpty (V.outside vault.old) }
     requires held { IsHeld sw.old vector }
     ensures got { (of : meaning.Heap) (names : List Reference) (id : ℕ) → IsWorld sw.old of names
         → DenotesIn sw.old names (Some vector) (meant.Vector id)
@@ -158,7 +154,6 @@ pub fn set_element<V: Vault>(
     to: Value,
 ) -> Result<(), OpFault>
     requires alive { V.alive vault.old }
-    requires empty { IsEmpty (V.outside vault.old) }
     requires held { IsHeld sw.old vector }
     requires near { IsNear sw.old to }
     ensures set { (of : meaning.Heap) (names : List Reference) (id : ℕ) (v : meant.Value) → IsWorld sw.old of names

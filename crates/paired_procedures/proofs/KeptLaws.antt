@@ -36,9 +36,9 @@ use Rattle.heap_meaning.specs.Paired.{paired}
 use Rattle.heap_meaning.proofs.StandingLaws.{like-more}
 use Rattle.heap_meaning.proofs.GivenLaws.{IsAt, located-at, shown_with, IsStored}
 use Rattle.heap_meaning.proofs.ScopeLaws.{index_behind, scope-shape, scope-name, scope-read, scope-fits, scope-written}
-use Rattle.paired_ops.specs.World.{IsEmpty, IsWorld, alone, Stands}
+use Rattle.paired_ops.specs.World.{IsWorld, alone, Stands}
 use Rattle.paired_ops.specs.Operands.{IsForIn, IsOfForm}
-use Rattle.paired_ops.proofs.WorldLaws.{keeps-passes, reads-stands, still-empty}
+use Rattle.paired_ops.proofs.WorldLaws.{keeps-passes, reads-stands}
 use Rattle.paired_ops.proofs.ReadLaws.{Known, known-text, known-value, no-touch, no-fetch, no-text, no-damage, text-is}
 use Rattle.paired_ops.proofs.FormLaws.{int-back, holds-form, denoted-name}
 use Rattle.paired_ops.proofs.ClassLaws.{touched-known}
@@ -139,13 +139,13 @@ row-fitted form.Reference (held.Num z) r e = absurd r
 row-fitted form.Reference (held.Flag b) r e = absurd r
 
 -- A scope of the area whose name is read or written.
-module _ (mid : area.Heap) (before : Outside Space) (of : Heap) (names : List reference.Reference) (at which id : ℕ) (h : IsHeap mid) (empty : IsEmpty before) (w : IsWorld mid of names) (lies : IsHeld mid at) (s : ScopeSeen mid of names id (shown_at mid at)) where
+module _ (mid : area.Heap) (before : Outside Space) (of : Heap) (names : List reference.Reference) (at which id : ℕ) (h : IsHeap mid) (w : IsWorld mid of names) (lies : IsHeld mid at) (s : ScopeSeen mid of names id (shown_at mid at)) where
   first-text : IsText (alone mid) (slot_of (shown_at mid at) 0) s.text
   first-text = subst (λ (ns : List reference.Reference). IsText (alone mid) (get_or ns 0 name.Nil) s.text) (sym s.is.refs) s.is.is_text
 
-  text-same : (end : area.Heap) (out : Outside Space) (t : List ℕ) → IsHeap end → IsEmpty out → Keeps mid end
+  text-same : (end : area.Heap) (out : Outside Space) (t : List ℕ) → IsHeap end → Keeps mid end
       → IsText (joint end out) (slot_of (shown_at mid at) 0) t → s.text ≡ t
-  text-same end out t now gone keeps is = text-is mid end out (slot_of (shown_at mid at) 0) s.text t now gone keeps first-text is
+  text-same end out t now keeps is = text-is mid end out (slot_of (shown_at mid at) 0) s.text t now keeps first-text is
 
   place-at : (l : Located) (t : List ℕ) → s.text ≡ t → located_in (forms_of t) which ≡ Some l → IsAt (forms_of s.text) which l
   place-at l t e p = located-at (forms_of s.text) which l (subst (λ (x : List ℕ). located_in (forms_of x) which ≡ Some l) (sym e) p)
@@ -173,8 +173,7 @@ module _ (mid : area.Heap) (before : Outside Space) (of : Heap) (names : List re
   was-read new after c now t =
       let f = t.located.place.form in
       let index = index_of t.located.place in
-      let gone = still-empty before after t.reads.outside empty in
-      let a = place-at t.located t.text (text-same new after t.text now gone t.reads.keeps t.is.names) t.is.place in
+      let a = place-at t.located t.text (text-same new after t.text now t.reads.keeps t.is.names) t.is.place in
       let passes = keeps-passes mid new t.reads.keeps in
       let grown : IsScope (alone new) (paired names) (shown_at mid at) s.text s.parent s.values =
       like-more (alone mid) (alone new) (paired names) (paired names) (shown_at mid at) (Scope s.text s.parent s.values) passes.fixed passes.kinds (λ n i q. q) s.is in
@@ -184,21 +183,21 @@ module _ (mid : area.Heap) (before : Outside Space) (of : Heap) (names : List re
         of_form = holds-form new (shown_at mid at) f index c t.value;
         value = scope-read new (alone new) (paired names) (shown_at mid at) s.text s.parent s.values which f c grown a.form_is
             (subst (λ (k : ℕ). Holds new (shown_at mid at) f k c) (ap (index_behind f) a.index_is) t.value);
-        stands = reads-stands mid new before after (slot_of (shown_at mid at) 0 ∷ touched_by (shown_at mid at) f index) of names now empty t.reads
+        stands = reads-stands mid new before after (slot_of (shown_at mid at) 0 ∷ touched_by (shown_at mid at) f index) of names t.reads
             (text-known, touched-known mid (shown_at mid at) f index (name-known t.located a)) w;
       }
 
   -- The name isn't found only where the text has none of its number.
-  pub not-found : (new : area.Heap) (after : Outside Space) (fault : SwizzleFault) → IsHeap new → IsEmpty after → FailsName mid new before after at which fault
+  pub not-found : (new : area.Heap) (after : Outside Space) (fault : SwizzleFault) → IsHeap new → FailsName mid new before after at which fault
       → (form_in (forms_of s.text) which ≡ None) × IsDamage fault
   unfolding name_damage located_in
-  not-found new after fault now gone (inl d) =
+  not-found new after fault now (inl d) =
       absurd (no-damage mid at (kind_damage (shown_at mid at)) fault
       (ap (λ (k : Kind). if nat_eq (kind_number k) 4 then None else damage (kind_number k) 4) s.is.kind_is) d)
-  not-found new after fault now gone (inr (inl t)) =
+  not-found new after fault now (inr (inl t)) =
       absurd (elim t.1 [ inl none ↦ no-text mid new at s.text fault now first-text none | inr touch ↦ no-touch mid before at 0 fault h text-known touch ])
-  not-found new after fault now gone (inr (inr y)) =
-      let same = text-same new after y.2.0 now gone y.1 y.2.1 in
+  not-found new after fault now (inr (inr y)) =
+      let same = text-same new after y.2.0 now y.1 y.2.1 in
       cases (form_in (forms_of s.text) which) refl
       (subst (λ (t : List ℕ). NamesDamage mid at (damage_by (shown_at mid at) which (length (forms_of t)) (located_as (forms_of t) which (form_in (forms_of t) which))) fault)
       (sym same) y.2.2)
@@ -215,7 +214,7 @@ module _ (mid : area.Heap) (before : Outside Space) (of : Heap) (names : List re
   no-value fault v =
       let f = v.located.place.form in
       let index = index_of v.located.place in
-      let a = place-at v.located v.text (text-same v.mid before v.text v.heap empty v.keeps v.is.names) v.is.place in
+      let a = place-at v.located v.text (text-same v.mid before v.text v.heap v.keeps v.is.names) v.is.place in
       elim v.why [
         | inl d ↦ no-damage mid at (word_damage f (word_in (shown_at mid at) index)) fault
             (subst (λ (k : ℕ). word_damage f (word_in (shown_at mid at) k) ≡ None) (sym (ap (index_behind f) a.index_is))
@@ -235,9 +234,8 @@ module _ (mid : area.Heap) (before : Outside Space) (of : Heap) (names : List re
   was-written new after c v pair int for t =
       let f = t.located.place.form in
       let index = index_of t.located.place in
-      let gone = still-empty before after t.reads.outside empty in
-      let a = place-at t.located t.text (text-same t.mid after t.text t.heap gone t.reads.keeps t.is.names) t.is.place in
-      let read = reads-stands mid t.mid before after (slot_of (shown_at mid at) 0 ∷ []) of names t.heap empty t.reads (text-known, tt) w in
+      let a = place-at t.located t.text (text-same t.mid after t.text t.heap t.reads.keeps t.is.names) t.is.place in
+      let read = reads-stands mid t.mid before after (slot_of (shown_at mid at) 0 ∷ []) of names t.reads (text-known, tt) w in
       let stays = t.reads.keeps.objects at lies in
       let passes = keeps-passes mid t.mid t.reads.keeps in
       let grown : IsScope (alone t.mid) (paired names) (shown_at mid at) s.text s.parent s.values =
@@ -292,7 +290,7 @@ put-is of scope id which text parent values f v is means place =
     ∙ ap (λ (o : Option Object). with_name_in of id o which v) means
     ∙ ap (λ (g : Option Form). with_object of id (Scope text parent (set values which (kept_as g v)))) place
 
-module _ (old mid new : area.Heap) (before after : Outside Space) (of : Heap) (names : List reference.Reference) (within : Option ℕ) (up at which : ℕ) (h : IsHeap mid) (now : IsHeap new) (empty : IsEmpty before) (out : IsOut old mid of names within up at) where
+module _ (old mid new : area.Heap) (before after : Outside Space) (of : Heap) (names : List reference.Reference) (within : Option ℕ) (up at which : ℕ) (h : IsHeap mid) (now : IsHeap new) (out : IsOut old mid of names within up at) where
   scope-there : ScopeAt mid of names at (Some out.id)
   scope-there = scope-denoted mid of names at (Some out.id) h out.stands.world out.denotes
 
@@ -310,7 +308,7 @@ module _ (old mid new : area.Heap) (before after : Outside Space) (of : Heap) (n
   pub gets-kept : (result : Result code.Value SwizzleFault) → GetsKept mid new before after at which result → ReadsKept old new of names within up which result
   gets-kept (Ok c) g =
       let s = scope-there in
-      let r = was-read mid before of names at which s.id h empty out.stands.world s.held s.seen new after c now g in (
+      let r = was-read mid before of names at which s.id h out.stands.world s.held s.seen new after c now g in (
         r.f,
         has-name r.f r.place,
         r.of_form,
@@ -321,17 +319,16 @@ module _ (old mid new : area.Heap) (before after : Outside Space) (of : Heap) (n
       let s = scope-there in
       elim g.1 [
         | inl n ↦
-            let gone = still-empty before after g.0.outside empty in
-            let r = not-found mid before of names at which s.id h empty out.stands.world s.held s.seen new after fault now gone n in
+            let r = not-found mid before of names at which s.id h out.stands.world s.held s.seen new after fault now n in
             (λ f n. let bad : None ≡ Some f = sym r.0 ∙ form-of of within up which s.seen.text s.seen.parent s.seen.values f level-is n in cc, r.1)
-        | inr v ↦ absurd (no-value mid before of names at which s.id h empty out.stands.world s.held s.seen fault v)
+        | inr v ↦ absurd (no-value mid before of names at which s.id h out.stands.world s.held s.seen fault v)
       ]
 
   pub sets-kept : (c : code.Value) (v : Value) (result : Result (Unit {0}) SwizzleFault) → IsInt c → IsForIn mid names c v
       → SetsKept mid new before after at which c result → WritesKept old new of names within up which c v result
   sets-kept c v (Ok done) int for g =
       let s = scope-there in
-      let r = was-written mid before of names at which s.id h empty out.stands.world s.held s.seen new after c v s.pair int for g in (
+      let r = was-written mid before of names at which s.id h out.stands.world s.held s.seen new after c v s.pair int for g in (
         r.f,
         has-name r.f r.place,
         r.of_row,
@@ -342,14 +339,13 @@ module _ (old mid new : area.Heap) (before after : Outside Space) (of : Heap) (n
       )
   sets-kept c v (Err fault) int for g =
       let s = scope-there in
-      let gone = still-empty before after g.0.outside empty in
       elim g.1 [
         | inl n ↦
-            let r = not-found mid before of names at which s.id h empty out.stands.world s.held s.seen new after fault now gone n in
+            let r = not-found mid before of names at which s.id h out.stands.world s.held s.seen new after fault now n in
             (λ f n row. let bad : None ≡ Some f = sym r.0 ∙ form-of of within up which s.seen.text s.seen.parent s.seen.values f level-is n in cc, r.1)
         | inr r ↦
-            let same = text-same mid before of names at which s.id h empty out.stands.world s.held s.seen new after r.text now gone r.keeps r.is.names in
-            let a = place-at mid before of names at which s.id h empty out.stands.world s.held s.seen r.located r.text same r.is.place in (
+            let same = text-same mid before of names at which s.id h out.stands.world s.held s.seen new after r.text now r.keeps r.is.names in
+            let a = place-at mid before of names at which s.id h out.stands.world s.held s.seen r.located r.text same r.is.place in (
               λ f n row.
                   let both : Some r.located.place.form ≡ Some f = sym a.form_is ∙ form-of of within up which s.seen.text s.seen.parent s.seen.values f level-is n in
                   let form_is : r.located.place.form ≡ f = cc in

@@ -30,7 +30,7 @@ use Rattle.heap_meaning.specs.Units.{IsUnitSeen}
 use Rattle.heap_meaning.specs.Paired.{paired}
 use Rattle.heap_meaning.proofs.StandingLaws.{unit-more, scope-more, closure-more}
 use Rattle.heap_meaning.proofs.PlaceLaws.{shape}
-use Rattle.paired_ops.specs.World.{IsEmpty, IsWorld, alone, DenotesScopeIn}
+use Rattle.paired_ops.specs.World.{IsWorld, alone, DenotesScopeIn}
 use Rattle.paired_ops.proofs.WorldLaws.{seen-is, keeps-within, keeps-passes, keeps-carries, keeps-world, reads-stands}
 use Rattle.paired_ops.proofs.ValueLaws.{nil-unseen, ProcedureAt}
 use Rattle.paired_ops.proofs.ReadLaws.{Known, no-touch, no-damage}
@@ -122,7 +122,7 @@ makes-procedure old new of names code scope u within (Err fault) h w held there 
 
 -- A closure that is read.
 
-module _ (old new : area.Heap) (before after : Outside Space) (of : Heap) (names : List reference.Reference) (at : ℕ) (u : UnitView) (within : Option ℕ) (h : IsHeap old) (now : IsHeap new) (empty : IsEmpty before) (w : IsWorld old of names) (p : ProcedureAt old names at u within) where
+module _ (old new : area.Heap) (before after : Outside Space) (of : Heap) (names : List reference.Reference) (at : ℕ) (u : UnitView) (within : Option ℕ) (h : IsHeap old) (now : IsHeap new) (w : IsWorld old of names) (p : ProcedureAt old names at u within) where
   sound : closure_damage (shown_at old at) ≡ None
   sound = shape (shown_at old at) kind.Closure 2 1 p.is.kind_is (ap length p.is.refs) (ap length p.is.nums)
 
@@ -181,7 +181,7 @@ module _ (old new : area.Heap) (before after : Outside Space) (of : Heap) (names
         is = unit-at new code (slot_of (shown_at old at) 0) u now t.denotes
             (unit-more (alone old) (alone new) (slot_of (shown_at old at) 0) u passes.fixed code-is);
         fit = p.is.fit;
-        stands = reads-stands old new before after (slot_of (shown_at old at) 0 ∷ []) of names now empty t.reads (code-known, tt) w;
+        stands = reads-stands old new before after (slot_of (shown_at old at) 0 ∷ []) of names t.reads (code-known, tt) w;
       }
   answers-code (Err fault) t = elim t.1 [
     | inl part ↦ elim part [
@@ -201,7 +201,7 @@ module _ (old new : area.Heap) (before after : Outside Space) (of : Heap) (names
           denotes = t.denotes;
           stands = scope-more (alone old) (alone new) (paired names) (paired names) (slot_of (shown_at old at) 1) within passes.kinds (λ n id q. q) scope-is;
         },
-        reads-stands old new before after (slot_of (shown_at old at) 1 ∷ []) of names now empty t.reads (scope-known, tt) w,
+        reads-stands old new before after (slot_of (shown_at old at) 1 ∷ []) of names t.reads (scope-known, tt) w,
       )
   answers-scope (Ok None) t =
       let passes = keeps-passes old new t.reads.keeps in (
@@ -210,7 +210,7 @@ module _ (old new : area.Heap) (before after : Outside Space) (of : Heap) (names
           denotes = t.none;
           stands = scope-more (alone old) (alone new) (paired names) (paired names) (slot_of (shown_at old at) 1) within passes.kinds (λ n id q. q) scope-is;
         },
-        reads-stands old new before after (slot_of (shown_at old at) 1 ∷ []) of names now empty t.reads (scope-known, tt) w,
+        reads-stands old new before after (slot_of (shown_at old at) 1 ∷ []) of names t.reads (scope-known, tt) w,
       )
   answers-scope (Err fault) t = elim t.1 [
     | inl damaged ↦ no-damage old at (closure_damage (shown_at old at)) fault sound damaged

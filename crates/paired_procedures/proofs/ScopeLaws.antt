@@ -14,7 +14,6 @@ use Rattle.swizzle.specs.Objects.{size_of}
 use Rattle.swizzle.specs.Heap as area
 use Rattle.swizzle.specs.Heap.{IsHeap, IsHeld, IsInside, header_at, reference_to}
 use Rattle.swizzle.specs.Joint.{Shown, shown, shown_at, name_at, name_of}
-use Rattle.swizzle.specs.Changes.{Within}
 use Rattle.swizzle.specs.Touch.{Keeps}
 use Rattle.swizzle.specs.Reading.{joint, AreKnown, LeavesOutside}
 use Rattle.swizzle.specs.Text.{text_at}
@@ -36,8 +35,8 @@ use Rattle.heap_meaning.specs.Standing.{IsKindOf, StandsForScope, IsScope, IsLik
 use Rattle.heap_meaning.specs.Paired.{paired}
 use Rattle.heap_meaning.proofs.StandingLaws.{scope-more}
 use Rattle.heap_meaning.proofs.ScopeLaws.{scope-parent, first-are}
-use Rattle.paired_ops.specs.World.{IsEmpty, IsWorld, alone, DenotesIn, DenotesScopeIn}
-use Rattle.paired_ops.proofs.WorldLaws.{seen-held, alone-one, joint-alone, keeps-within, keeps-passes, keeps-world, reads-stands, still-empty}
+use Rattle.paired_ops.specs.World.{IsWorld, alone, DenotesIn, DenotesScopeIn}
+use Rattle.paired_ops.proofs.WorldLaws.{seen-held, alone-one, joint-held, keeps-within, keeps-passes, keeps-world, reads-stands}
 use Rattle.paired_ops.proofs.ValueLaws.{nil-unseen}
 use Rattle.paired_ops.proofs.ReadLaws.{Known, no-touch, no-fetch, no-damage}
 use Rattle.paired_ops.proofs.MadeLaws.{object-made}
@@ -202,9 +201,9 @@ way-sound here of names at id h held s =
 -- The scope round it.
 
 pub answers-parent : (old new : area.Heap) (before after : Outside Space) (of : Heap) (names : List reference.Reference) (at : ℕ) (within : Option ℕ)
-    (result : Result (Option ℕ) SwizzleFault) → IsHeap old → IsHeap new → IsEmpty before → IsWorld old of names → ScopeAt old of names at within
+    (result : Result (Option ℕ) SwizzleFault) → IsHeap old → IsWorld old of names → ScopeAt old of names at within
     → TellsParent old new before after at result → AnswersParent old new of names within result
-answers-parent old new before after of names at within (Ok to) h now empty w s t =
+answers-parent old new before after of names at within (Ok to) h w s t =
     let passes = keeps-passes old new t.reads.keeps in
     let round = parent-stands old of names s.id (shown_at old at) s.seen in
     record {
@@ -216,10 +215,10 @@ answers-parent old new before after of names at within (Ok to) h now empty w s t
         denotes = t.denotes;
         stands = scope-more (alone old) (alone new) (paired names) (paired names) (slot_of (shown_at old at) 1) s.seen.parent passes.kinds (λ n id q. q) round;
       };
-      stands = reads-stands old new before after (slot_of (shown_at old at) 1 ∷ []) of names now empty t.reads
+      stands = reads-stands old new before after (slot_of (shown_at old at) 1 ∷ []) of names t.reads
           (scope-known old names (slot_of (shown_at old at) 1) s.seen.parent round, tt) w;
     }
-answers-parent old new before after of names at within (Err fault) h now empty w s t =
+answers-parent old new before after of names at within (Err fault) h w s t =
     let round = parent-stands old of names s.id (shown_at old at) s.seen in
     elim t.1 [
       | inl damaged ↦ no-damage old at (way_damage (shown_at old at)) fault (way-sound old of names at s.id h s.held s.seen) damaged
@@ -228,32 +227,30 @@ answers-parent old new before after of names at within (Err fault) h now empty w
 
 -- The way out.
 
-leads-within : (a b : reference.Reference → Shown → Type 0) → Within a b → (n : reference.Reference) (ps : List reference.Reference) → LeadsOver a n ps
-    → LeadsOver b n ps
-leads-within a b grows n [] l = tt
-leads-within a b grows n (p ∷ ps) l = (
-  record { it = l.0.it; there = grows n l.0.it l.0.there; sound = l.0.sound; parent_is = l.0.parent_is; some = l.0.some },
-  leads-within a b grows p ps l.1,
-)
+-- nil has no object, in the area or in the vault
+nil-nowhere : (here : area.Heap) (out : Outside Space) (n : reference.Reference) (it : Shown) → n ≡ name.Nil → joint here out n it → ⊥
+nil-nowhere here out n it nil (inl a) = name-not_nil here a.at (sym a.name_is ∙ nil)
+nil-nowhere here out n it nil (inr v) = let bad : name.Nil ≡ name.Pid v.pid = sym nil ∙ v.name_is in cc
 
 -- where it comes to, and that its names are known
 record Led (old : area.Heap) (of : Heap) (names : List reference.Reference) (n : reference.Reference) (s : Option ℕ) (ps : List reference.Reference) : Type 0 where
   stands : StandsForScope (alone old) (paired names) (end_of n ps) (scope_out of s (length ps))
   known : AreKnown (alone old) ps
 
-led : (old new : area.Heap) (of : Heap) (names : List reference.Reference) (n : reference.Reference) (s : Option ℕ) (ps : List reference.Reference) → IsHeap old
-    → IsHeap new → IsWorld old of names → Keeps old new → StandsForScope (alone old) (paired names) n s → LeadsOver (alone new) n ps → Led old of names n s ps
+led : (old new : area.Heap) (out : Outside Space) (of : Heap) (names : List reference.Reference) (n : reference.Reference) (s : Option ℕ)
+    (ps : List reference.Reference) → IsHeap old → IsHeap new → IsWorld old of names → Keeps old new
+    → StandsForScope (alone old) (paired names) n s → LeadsOver (joint new out) n ps → Led old of names n s ps
 unfolding scope_out
-led old new of names n s [] h now w keeps st l = record { stands = st; known = tt }
-led old new of names n None (p ∷ ps) h now w keeps st l =
-    absurd (nil-unseen new l.0.it (subst (λ (m : reference.Reference). alone new m l.0.it) st l.0.there))
-led old new of names n (Some id) (p ∷ ps) h now w keeps st l =
+led old new out of names n s [] h now w keeps st l = record { stands = st; known = tt }
+led old new out of names n None (p ∷ ps) h now w keeps st l = absurd (nil-nowhere new out n l.0.it st l.0.there)
+led old new out of names n (Some id) (p ∷ ps) h now w keeps st l =
     let it = st.1.it in
     let a = scope-seen old of names n id it h w st st.1.there in
-    let same : it ≡ l.0.it = alone-one new now n it l.0.it (keeps-within old new keeps n it st.1.there) l.0.there in
+    let there = keeps-within old new keeps n it st.1.there in
+    let same : it ≡ l.0.it = alone-one new now n it l.0.it there (joint-held new out n it l.0.it now there l.0.there) in
     let named : slot_of it 1 ≡ p = ap (λ (x : Shown). slot_of x 1) same ∙ l.0.parent_is in
     let round = subst (λ (m : reference.Reference). StandsForScope (alone old) (paired names) m a.parent) named (parent-stands old of names id it a) in
-    let rest = led old new of names p a.parent ps h now w keeps round l.1 in
+    let rest = led old new out of names p a.parent ps h now w keeps round l.1 in
     record {
       stands = subst (λ (x : Option ℕ). StandsForScope (alone old) (paired names) (end_of p ps) x)
           (sym (ap (λ (o : Option Object). scope_out of (parent_in o) (length ps)) a.means)) rest.stands;
@@ -281,15 +278,13 @@ nil-scope here names n (Some id) e s = absurd (nil-unseen here s.1.it (subst (λ
 pub is-damage : (here : area.Heap) (at : ℕ) (damaged : Option Damage) (fault : SwizzleFault) → NamesDamage here at damaged fault → IsDamage fault
 is-damage here at damaged fault d = ((header_at here at).pid, d.0.found, d.0.wanted, d.2)
 
-module _ (old new : area.Heap) (before after : Outside Space) (of : Heap) (names : List reference.Reference) (scope up : ℕ) (within : Option ℕ) (h : IsHeap old) (now : IsHeap new) (empty : IsEmpty before) (w : IsWorld old of names) (d : DenotesScopeIn old names (Some scope) within) where
+module _ (old new : area.Heap) (before after : Outside Space) (of : Heap) (names : List reference.Reference) (scope up : ℕ) (within : Option ℕ) (h : IsHeap old) (now : IsHeap new) (w : IsWorld old of names) (d : DenotesScopeIn old names (Some scope) within) where
   start : StandsForScope (alone old) (paired names) (name_at old scope) within
   start = subst (λ (n : reference.Reference). StandsForScope (alone old) (paired names) n within) (sym d.denotes.1) d.stands
 
   pub answers-out : (result : Result ℕ SwizzleFault) → GoesOut old new before after scope up result → AnswersOut old new of names within up result
   answers-out (Ok at) t =
-      let gone = still-empty before after t.reads.outside empty in
-      let l = led old new of names (name_at old scope) within t.parents h now w t.reads.keeps start
-      (leads-within (joint new after) (alone new) (joint-alone new after gone) (name_at old scope) t.parents t.way) in
+      let l = led old new after of names (name_at old scope) within t.parents h now w t.reads.keeps start t.way in
       let passes = keeps-passes old new t.reads.keeps in
       let end = end_of (name_at old scope) t.parents in
       let there : DenotesScopeIn new names (Some at) (scope_out of within (length t.parents)) = record {
@@ -303,12 +298,11 @@ module _ (old new : area.Heap) (before after : Outside Space) (of : Heap) (names
         id = s.id;
         is = s.within_is;
         denotes = subst (DenotesScopeIn new names (Some at)) s.within_is out;
-        stands = reads-stands old new before after t.parents of names now empty t.reads l.known w;
+        stands = reads-stands old new before after t.parents of names t.reads l.known w;
       }
   answers-out (Err fault) t =
       let e = t.1 in
-      let l = led old e.mid of names (name_at old scope) within e.parents h e.heap w e.keeps start
-      (leads-within (joint e.mid before) (alone e.mid) (joint-alone e.mid before empty) (name_at old scope) e.parents e.way) in
+      let l = led old e.mid before of names (name_at old scope) within e.parents h e.heap w e.keeps start e.way in
       let passes = keeps-passes old e.mid e.keeps in
       let end = end_of (name_at old scope) e.parents in
       let k = length e.parents in

@@ -1,5 +1,5 @@
-//! Scopes and procedures of an area whose vault holds no object, each operation said as the meaning says it: under a row of names the area stands
-//! for a heap of the meaning.
+//! Scopes and procedures of an area, each operation said as the meaning says it: under a row of names the area stands for a heap of the meaning,
+//! whatever the vault beside it holds.
 #![tactic(auto)]
 
 pub mod procedure;

@@ -7,7 +7,7 @@ ghost use Rattle.swizzle.specs.Heap.{IsHeld, Stands as AllStand};
 ghost use Rattle.swizzle.specs.Reading.{LeavesOutside};
 ghost use Rattle.ps_meaning.specs.Objects as meaning;
 ghost use Rattle.ps_meaning.specs.Values as meant;
-ghost use Rattle.paired_ops.specs.World.{DenotesIn, DenotesScopeIn, IsEmpty, IsWorld};
+ghost use Rattle.paired_ops.specs.World.{DenotesIn, DenotesScopeIn, IsWorld};
 ghost use Rattle.paired_procedures.specs.Procedures.{AnswersCode, AnswersScope, MakesProcedure};
 
 use closures::closure;
@@ -40,7 +40,6 @@ pub fn code_of<V: Vault>(
     procedure: u32,
 ) -> Result<u32, SwizzleFault>
     requires alive { V.alive vault.old }
-    requires empty { IsEmpty (V.outside vault.old) }
     requires held { IsHeld sw.old procedure }
     ensures told { (of : meaning.Heap) (names : List Reference) (unit : UnitView) (within : Option ℕ) → IsWorld sw.old of names
         → DenotesIn sw.old names (Some procedure) (meant.Procedure (meant.as_compiled unit) within) → AnswersCode sw.old sw.new of names unit result }
@@ -62,7 +61,6 @@ pub fn scope_of<V: Vault>(
     procedure: u32,
 ) -> Result<Option<u32>, SwizzleFault>
     requires alive { V.alive vault.old }
-    requires empty { IsEmpty (V.outside vault.old) }
     requires held { IsHeld sw.old procedure }
     ensures told { (of : meaning.Heap) (names : List Reference) (unit : UnitView) (within : Option ℕ) → IsWorld sw.old of names
         → DenotesIn sw.old names (Some procedure) (meant.Procedure (meant.as_compiled unit) within) → AnswersScope sw.old sw.new of names within result }

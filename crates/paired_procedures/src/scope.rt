@@ -10,7 +10,7 @@ ghost use Rattle.ps_meaning.specs.Objects as meaning;
 ghost use Rattle.ps_meaning.specs.Scopes.{new_scope};
 ghost use Rattle.ps_meaning.specs.Values as meant;
 ghost use Rattle.paired_ops.specs.Operands.{IsForIn};
-ghost use Rattle.paired_ops.specs.World.{DenotesIn, DenotesScopeIn, IsEmpty, IsWorld};
+ghost use Rattle.paired_ops.specs.World.{DenotesIn, DenotesScopeIn, IsWorld};
 ghost use Rattle.paired_procedures.specs.Scopes.{AnswersOut, AnswersParent, IsInt, MakesScope, ReadsKept, WritesKept};
 
 use heap_ops::layouts::Layouts;
@@ -47,7 +47,6 @@ pub fn parent_of<V: Vault>(
     scope: u32,
 ) -> Result<Option<u32>, SwizzleFault>
     requires alive { V.alive vault.old }
-    requires empty { IsEmpty (V.outside vault.old) }
     requires held { IsHeld sw.old scope }
     ensures told { (of : meaning.Heap) (names : List Reference) (within : Option ℕ) → IsWorld sw.old of names
         → DenotesScopeIn sw.old names (Some scope) within → AnswersParent sw.old sw.new of names within result }
@@ -62,7 +61,7 @@ pub fn parent_of<V: Vault>(
 }
 
 /// The scope so many levels out from a scope, which is 0 levels out from itself. Damaged exactly where there is none.
-#[inline]
+#[inline(always)]
 pub fn scope_out<V: Vault>(
     sw: &mut Swizzle,
     vault: &mut V,
@@ -70,7 +69,6 @@ pub fn scope_out<V: Vault>(
     up: u32,
 ) -> Result<u32, SwizzleFault>
     requires alive { V.alive vault.old }
-    requires empty { IsEmpty (V.outside vault.old) }
     requires held { IsHeld sw.old scope }
     ensures out { (of : meaning.Heap) (names : List Reference) (within : Option ℕ) → IsWorld sw.old of names
         → DenotesScopeIn sw.old names (Some scope) within → AnswersOut sw.old sw.new of names within up result }
@@ -87,7 +85,7 @@ pub fn scope_out<V: Vault>(
 
 /// What is kept under the name of this number, from 0, of the scope so many levels out. Damaged exactly where there is no such scope, or its text
 /// has no such name.
-#[inline]
+#[inline(always)]
 pub fn get_kept<V: Vault>(
     sw: &mut Swizzle,
     vault: &mut V,
@@ -97,7 +95,6 @@ pub fn get_kept<V: Vault>(
     name: u32,
 ) -> Result<Value, SwizzleFault>
     requires alive { V.alive vault.old }
-    requires empty { IsEmpty (V.outside vault.old) }
     requires held { IsHeld sw.old scope }
     requires so { AreSo sw.old layouts.old.entries.items }
     ensures got { (of : meaning.Heap) (names : List Reference) (within : Option ℕ) → IsWorld sw.old of names
@@ -130,7 +127,6 @@ pub fn set_kept<V: Vault>(
     to: Value,
 ) -> Result<(), SwizzleFault>
     requires alive { V.alive vault.old }
-    requires empty { IsEmpty (V.outside vault.old) }
     requires held { IsHeld sw.old scope }
     requires so { AreSo sw.old layouts.old.entries.items }
     requires near { IsNear sw.old to }

@@ -7,7 +7,7 @@ ghost use Rattle.proc_values.specs.Loaded.{IsFitUnit, IsUnit};
 ghost use Rattle.swizzle.specs.Heap.{IsHeld, header_at};
 ghost use Rattle.swizzle.specs.Reading.{LeavesOutside};
 ghost use Rattle.ps_meaning.specs.Objects as meaning;
-ghost use Rattle.paired_ops.specs.World.{IsEmpty, IsWorld, Stands};
+ghost use Rattle.paired_ops.specs.World.{IsWorld, Stands};
 ghost use Rattle.paired_procedures.specs.Units.{AnswersLiteral, AnswersText};
 
 use obj_layout::kind::Kind;
@@ -49,7 +49,6 @@ fn frame_in(word: u64) -> Frame
 #[inline]
 pub fn literal_of<V: Vault>(sw: &mut Swizzle, vault: &mut V, code: u32, index: u32) -> Option<u32>
     requires alive { V.alive vault.old }
-    requires empty { IsEmpty (V.outside vault.old) }
     requires held { IsHeld sw.old code }
     ensures given { (bytes : List ℕ) (row : ConstantsView) (frame : Numbers) → IsUnit sw.old code (unit bytes row frame)
         → IsFitUnit (unit bytes row frame) → AnswersLiteral sw.new row index result }
@@ -73,7 +72,6 @@ pub fn literal_of<V: Vault>(sw: &mut Swizzle, vault: &mut V, code: u32, index: u
 #[inline]
 pub fn text_of<V: Vault>(sw: &mut Swizzle, vault: &mut V, code: u32, index: u32) -> Option<u32>
     requires alive { V.alive vault.old }
-    requires empty { IsEmpty (V.outside vault.old) }
     requires held { IsHeld sw.old code }
     ensures given { (bytes : List ℕ) (row : ConstantsView) (frame : Numbers) → IsUnit sw.old code (unit bytes row frame)
         → AnswersText sw.new row index result }

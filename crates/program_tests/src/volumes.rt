@@ -1,7 +1,12 @@
 //! The volume under the commands: how it is made, attached and left, and what is told where there is none.
 
+ghost use Rattle.std.specs.Prelude.{◌≡◌, true};
+ghost use Rattle.obj_layout.specs.Stored.{IsHeaded};
+
 use crate::command_tests::words_of;
 use memory_host::MemoryHost;
+use obj_layout::vault::{Vault, VaultFault};
+use obj_store::ObjStore;
 use ps_command::psalgol;
 use ps_port::MemoryShelf;
 use std::alloc::{AllocError, Global};
@@ -70,6 +75,52 @@ fn a_run_leaves_its_volume(rt: HostRuntime) -> Result<(), Fail> {
     assert_eq!(rt; host.told_bytes(), b"3\n".as_slice());
     assert_eq!(rt; host.writes(), 0);
     assert!(rt; host.contents() == made.as_slice());
+    Ok(())
+}
+
+/// A text of eight bytes, in six words.
+fn text() -> [u64; 6]
+    ensures { IsHeaded result }
+{
+    [1, 0, 0x0000_0008_0000_0002, 0, 0, 0x6261]
+}
+
+// Keeps a text in a store, as its directory.
+fn keep(store: &mut ObjStore<MemoryHost>) -> Result<(), VaultFault>
+    requires { store.old.live ≡ true }
+{
+    let pid = store.append(&text())?;
+    if store.used() <= pid {
+        return Err(VaultFault::Output);
+    }
+    store.settle(pid)
+}
+
+// The bytes of a volume that keeps a text.
+fn volume_with_a_text(alloc: Global) -> Result<Vec<u8>, Fail> {
+    let Ok(store) = ObjStore::attach(alloc, volume_host(alloc, &[])?) else {
+        return Err(Fail::new("no store"));
+    };
+    let mut store = store;
+    match keep(&mut store) {
+        Ok(()) => Ok(Vec::from_slice(alloc, store.release().contents())?),
+        Err(_) => Err(Fail::new("nothing was kept")),
+    }
+}
+
+#[test]
+fn a_run_leaves_the_objects_of_its_volume(rt: HostRuntime) -> Result<(), Fail> {
+    let kept = volume_with_a_text(rt.alloc())?;
+    let (status, host) = answer(rt.alloc(), RUN, "x.ps", host_of(rt.alloc(), &kept, &[])?)?;
+    assert_eq!(rt; status, 0);
+    assert_eq!(rt; host.told_bytes(), b"3\n".as_slice());
+    assert!(rt; host.contents() == kept.as_slice());
+    for moment in 0..host.clock() {
+        for filler in [0, 255] {
+            let image = host.crash(rt.alloc(), moment, filler)?;
+            assert!(rt; image.as_slice() == kept.as_slice());
+        }
+    }
     Ok(())
 }
 

@@ -1,5 +1,5 @@
 -- What the causes of an answer exclude.
-use Rattle.std.proofs.Common.{◌≡◌, ℕ, Bool, ◌<◌, ◌≤◌, ◌⊎◌, inl, inr, List, [], length, Some, None, Option, refl, sym, ap, ◌∙◌, subst, arith}
+use Rattle.std.proofs.Common.{◌≡◌, ℕ, Bool, ◌<◌, ◌≤◌, inl, inr, List, [], length, Some, None, Option, refl, sym, ap, ◌∙◌, subst, arith}
 use Rattle.ps_outside.specs.Outside.{Outside, Rose}
 use Rattle.ps_base.specs.declared.TheConstants.{LONGEST_TEXT}
 use Rattle.ps_program.specs.Node.{BodyNode}
@@ -23,13 +23,13 @@ use Rattle.shadow_volume.specs.declared.finding.Damage.{Damage}
 use Rattle.shadow_volume.specs.declared.finding.OpenFault.{OpenFault}
 use Rattle.shadow_volume.specs.declared.finding.OpenFault.TheVariants as cause
 use Rattle.ps_words.specs.Words.{RunOf, CommandOf, a_run, a_volume}
-use Rattle.ps_reports.specs.Reports.{usage_line, memory_line, unreadable_line, too_long_line, fault_line, device_line, not_a_volume_line, damaged_line, already_line}
+use Rattle.ps_reports.specs.Reports.{usage_line, memory_line, unreadable_line, too_long_line, fault_line, not_a_volume_line, damaged_line, already_line}
 use Rattle.ps_reports.specs.Answering.{Answers, whole, cut}
-use Rattle.ps_volumes.specs.Attaching.{HasVolume, IsSettled, IsWhyNone, line_of as line_of_cause, status_of as status_of_cause}
+use Rattle.ps_volumes.specs.Attaching.{HasVolume, KeepsVolume, IsWhyNone, line_of as line_of_cause, status_of as status_of_cause}
 use Rattle.ps_volumes.specs.Making.{IsMakingDue, IsOpen}
 use Rattle.ps_volumes.specs.Making as making
 use Rattle.ps_causes.specs.Source.{IsProgram, number_of, line_of, IsCheckFault, mistyped, unbuilt_call, IsSourceFault, in_scan, in_parse, in_check}
-use Rattle.ps_causes.specs.Command.{Gives, GivesTooLong, GivesInput, HoldsInput, GivesProgram, RunsTo, Due, IsRead, Gets, GetsRun}
+use Rattle.ps_causes.specs.Command.{Gives, GivesTooLong, GivesInput, HoldsInput, GivesProgram, RunsTo, Due, IsRead, Gets, GetsOrFails, GetsRun}
 
 not_both : {A : Type 0} (x : Option A) (v : A) → x ≡ None → x ≡ Some v → ⊥
 not_both x v none some = let e : None ≡ Some v = sym none ∙ some in cc
@@ -152,16 +152,16 @@ module _ (asked : Option CommandOf) (holds : List ℕ → List ℕ → Type 0) (
   own_at : (read : List ℕ → Type 0) (by : Type 0) (told bytes : List ℕ) (due status : ℕ) → told ≡ bytes → due ≡ status → Gets read failed by told due bytes status
   own_at read by told bytes due status one two = subst (λ (bs : List ℕ). Gets read failed by told due bs status) one (subst (λ (n : ℕ). Gets read failed by told due told n) two Gets.own)
 
-  pub no_command : (bytes : List ℕ) (status : ℕ) → asked ≡ None → Dues bytes status → Gets (λ name. ⊥) ⊥ ⊥ usage_line 1 bytes status
-  no_command bytes status none (Due.no_command is left) = Gets.own
+  pub no_command : (bytes : List ℕ) (status : ℕ) → asked ≡ None → Dues bytes status → (bytes ≡ usage_line) × (status ≡ 1)
+  no_command bytes status none (Due.no_command is left) = (refl, refl)
   no_command bytes status none (Due.unreadable {run = run} is rose left) = absurd (not_both asked (a_run run) none is)
   no_command bytes status none (Due.too_long {run = run} is gives left) = absurd (not_both asked (a_run run) none is)
   no_command bytes status none (Due.refused {run = run} is gives fault left) = absurd (not_both asked (a_run run) none is)
   no_command bytes status none (Due.no_input {run = run} is gives named rose left) = absurd (not_both asked (a_run run) none is)
   no_command bytes status none (Due.long_input {run = run} is gives named long left) = absurd (not_both asked (a_run run) none is)
-  no_command bytes status none Due.no_memory = Gets.no_memory
-  no_command bytes status none (Due.unattached {run = run} input is gives given why) = absurd (not_both asked (a_run run) none is)
-  no_command bytes status none (Due.ran {run = run} is gives given comes settled) = absurd (not_both asked (a_run run) none is)
+  no_command bytes status none (Due.no_memory {run = run} is left) = absurd (not_both asked (a_run run) none is)
+  no_command bytes status none (Due.unattached {run = run} input is gives given why left) = absurd (not_both asked (a_run run) none is)
+  no_command bytes status none (Due.ran {run = run} is gives given comes kept) = absurd (not_both asked (a_run run) none is)
   no_command bytes status none (Due.making {pages = pages} is due) = absurd (not_both asked (a_volume pages) none is)
 
   -- the cases of a command that is a run
@@ -175,7 +175,7 @@ module _ (asked : Option CommandOf) (holds : List ℕ → List ℕ → Type 0) (
     unattached : (program : BodyNode) (input : List ℕ) (cause : OpenFault) → GivesProgram holds lacks run program → GivesInput holds lacks run.input input → IsWhyNone old new cause →
         P (line_of_cause cause) (status_of_cause cause)
     ran : (program : BodyNode) (input bytes : List ℕ) (status : ℕ) → GivesProgram holds lacks run program → GivesInput holds lacks run.input input → RunsTo run input program bytes status →
-        IsSettled old new → P bytes status
+        KeepsVolume old new → P bytes status
 
   by_cases : (P : List ℕ → ℕ → Type 0) (run : RunOf) (bytes : List ℕ) (status : ℕ) → asked ≡ Some (a_run run) → Cases P run → Dues bytes status → P bytes status
   by_cases P run bytes status is cases (Due.no_command none left) = absurd (not_both asked (a_run run) none is)
@@ -187,11 +187,11 @@ module _ (asked : Option CommandOf) (holds : List ℕ → List ℕ → Type 0) (
       (subst (Cases P) (same_run asked run r is is') cases).no_input program name gives named rose
   by_cases P run bytes status is cases (Due.long_input {run = r} {program = program} {name = name} {size = size} is' gives named long left) =
       (subst (Cases P) (same_run asked run r is is') cases).long_input program name size gives named long
-  by_cases P run bytes status is cases Due.no_memory = cases.memory
-  by_cases P run bytes status is cases (Due.unattached {run = r} {program = program} input {cause = why} is' gives given none) =
+  by_cases P run bytes status is cases (Due.no_memory is' left) = cases.memory
+  by_cases P run bytes status is cases (Due.unattached {run = r} {program = program} input {cause = why} is' gives given none left) =
       (subst (Cases P) (same_run asked run r is is') cases).unattached program input why gives given none
-  by_cases P run bytes status is cases (Due.ran {run = r} {program = program} {input = input} is' gives given comes settled) =
-      (subst (Cases P) (same_run asked run r is is') cases).ran program input bytes status gives given comes settled
+  by_cases P run bytes status is cases (Due.ran {run = r} {program = program} {input = input} is' gives given comes kept) =
+      (subst (Cases P) (same_run asked run r is is') cases).ran program input bytes status gives given comes kept
   by_cases P run bytes status is cases (Due.making {pages = pages} is' due) = absurd (run_or_volume asked run pages is is')
 
   -- over a volume that is told nothing but the device or want of memory comes in the way
@@ -231,38 +231,38 @@ module _ (asked : Option CommandOf) (holds : List ℕ → List ℕ → Type 0) (
   over_damaged read cause.Memory none content at found wanted told is = Gets.no_memory
 
   -- the case of a command that makes a volume
-  of_making : (P : List ℕ → ℕ → Type 0) (pages : ℕ) (bytes : List ℕ) (status : ℕ) → asked ≡ Some (a_volume pages) → P memory_line 5 →
+  of_making : (P : List ℕ → ℕ → Type 0) (pages : ℕ) (bytes : List ℕ) (status : ℕ) → asked ≡ Some (a_volume pages) →
       ((p : ℕ) (bs : List ℕ) (n : ℕ) → IsMakingDue p old new bs n → P bs n) → Dues bytes status → P bytes status
-  of_making P pages bytes status is memory made (Due.no_command none left) = absurd (not_both asked (a_volume pages) none is)
-  of_making P pages bytes status is memory made (Due.unreadable {run = run} is' rose left) = absurd (run_or_volume asked run pages is' is)
-  of_making P pages bytes status is memory made (Due.too_long {run = run} is' gives left) = absurd (run_or_volume asked run pages is' is)
-  of_making P pages bytes status is memory made (Due.refused {run = run} is' gives fault left) = absurd (run_or_volume asked run pages is' is)
-  of_making P pages bytes status is memory made (Due.no_input {run = run} is' gives named rose left) = absurd (run_or_volume asked run pages is' is)
-  of_making P pages bytes status is memory made (Due.long_input {run = run} is' gives named long left) = absurd (run_or_volume asked run pages is' is)
-  of_making P pages bytes status is memory made Due.no_memory = memory
-  of_making P pages bytes status is memory made (Due.unattached {run = run} input is' gives given why) = absurd (run_or_volume asked run pages is' is)
-  of_making P pages bytes status is memory made (Due.ran {run = run} is' gives given comes settled) = absurd (run_or_volume asked run pages is' is)
-  of_making P pages bytes status is memory made (Due.making {pages = p} is' due) = made p bytes status due
+  of_making P pages bytes status is made (Due.no_command none left) = absurd (not_both asked (a_volume pages) none is)
+  of_making P pages bytes status is made (Due.unreadable {run = run} is' rose left) = absurd (run_or_volume asked run pages is' is)
+  of_making P pages bytes status is made (Due.too_long {run = run} is' gives left) = absurd (run_or_volume asked run pages is' is)
+  of_making P pages bytes status is made (Due.refused {run = run} is' gives fault left) = absurd (run_or_volume asked run pages is' is)
+  of_making P pages bytes status is made (Due.no_input {run = run} is' gives named rose left) = absurd (run_or_volume asked run pages is' is)
+  of_making P pages bytes status is made (Due.long_input {run = run} is' gives named long left) = absurd (run_or_volume asked run pages is' is)
+  of_making P pages bytes status is made (Due.no_memory {run = run} is' left) = absurd (run_or_volume asked run pages is' is)
+  of_making P pages bytes status is made (Due.unattached {run = run} input is' gives given why left) = absurd (run_or_volume asked run pages is' is)
+  of_making P pages bytes status is made (Due.ran {run = run} is' gives given comes kept) = absurd (run_or_volume asked run pages is' is)
+  of_making P pages bytes status is made (Due.making {pages = p} is' due) = made p bytes status due
 
   pub volume_made : (pages : ℕ) (content bytes : List ℕ) (status : ℕ) → asked ≡ Some (a_volume pages) → old.contents content → IsNone content → Dues bytes status →
-      Gets (λ name. ⊥) ⊥ Faulted [] 0 bytes status
+      GetsOrFails Faulted [] 0 bytes status
   volume_made pages content bytes status is told none due =
-      of_making (λ bs n. Gets (λ name. ⊥) ⊥ Faulted [] 0 bs n) pages bytes status is Gets.no_memory (λ p bs n d. made_of p bs n d) due
+      of_making (λ bs n. GetsOrFails Faulted [] 0 bs n) pages bytes status is (λ p bs n d. made_of p bs n d) due
     where
-      made_of : (p : ℕ) (bs : List ℕ) (n : ℕ) → IsMakingDue p old new bs n → Gets (λ name. ⊥) ⊥ Faulted [] 0 bs n
-      made_of p bs n (making.made was stands) = Gets.own
-      made_of p bs n (making.failed rose) = Gets.no_device rose
+      made_of : (p : ℕ) (bs : List ℕ) (n : ℕ) → IsMakingDue p old new bs n → GetsOrFails Faulted [] 0 bs n
+      made_of p bs n (making.made was stands) = GetsOrFails.own
+      made_of p bs n (making.failed rose) = GetsOrFails.no_device rose
       made_of p bs n (making.there_is_one opens keeps) = absurd (none_or_open content none (opens content told))
 
   pub volume_kept : (pages : ℕ) (content bytes : List ℕ) (status : ℕ) → asked ≡ Some (a_volume pages) → old.contents content → IsOpen content → Dues bytes status →
-      Gets (λ name. ⊥) ⊥ Faulted already_line 14 bytes status
+      GetsOrFails Faulted already_line 14 bytes status
   volume_kept pages content bytes status is told opens due =
-      of_making (λ bs n. Gets (λ name. ⊥) ⊥ Faulted already_line 14 bs n) pages bytes status is Gets.no_memory (λ p bs n d. kept_of p bs n d) due
+      of_making (λ bs n. GetsOrFails Faulted already_line 14 bs n) pages bytes status is (λ p bs n d. kept_of p bs n d) due
     where
-      kept_of : (p : ℕ) (bs : List ℕ) (n : ℕ) → IsMakingDue p old new bs n → Gets (λ name. ⊥) ⊥ Faulted already_line 14 bs n
+      kept_of : (p : ℕ) (bs : List ℕ) (n : ℕ) → IsMakingDue p old new bs n → GetsOrFails Faulted already_line 14 bs n
       kept_of p bs n (making.made was stands) = absurd (none_or_open content (was content told) opens)
-      kept_of p bs n (making.failed rose) = Gets.no_device rose
-      kept_of p bs n (making.there_is_one opened keeps) = Gets.own
+      kept_of p bs n (making.failed rose) = GetsOrFails.no_device rose
+      kept_of p bs n (making.there_is_one opened keeps) = GetsOrFails.own
 
   pub lacked_name : (run : RunOf) (bytes : List ℕ) (status : ℕ) → asked ≡ Some (a_run run) → lacks run.file → Dues bytes status →
       Gets (λ name. name ≡ run.file) failed ⊥ (unreadable_line run.file) 7 bytes status
@@ -274,7 +274,7 @@ module _ (asked : Option CommandOf) (holds : List ℕ → List ℕ → Type 0) (
     no_input = λ program name g named rose. absurd (g.gives.there lacking);
     long_input = λ program name size g named long. absurd (g.gives.there lacking);
     unattached = λ program input why g given none. absurd (g.gives.there lacking);
-    ran = λ program input bs n g given comes settled. absurd (g.gives.there lacking);
+    ran = λ program input bs n g given comes kept. absurd (g.gives.there lacking);
   } due
 
   module _ (run : RunOf) (text : List ℕ) (is : asked ≡ Some (a_run run)) (held : holds run.file text) where
@@ -309,7 +309,7 @@ module _ (asked : Option CommandOf) (holds : List ℕ → List ℕ → Type 0) (
           no_input = λ program name g named rose. absurd (no_program program stage number line fault g);
           long_input = λ program name size g named long. absurd (no_program program stage number line fault g);
           unattached = λ program input why g given none. absurd (no_program program stage number line fault g);
-          ran = λ program input bs n g given comes settled. absurd (no_program program stage number line fault g);
+          ran = λ program input bs n g given comes kept. absurd (no_program program stage number line fault g);
         } due
 
     pub long_text : (bytes : List ℕ) (status : ℕ) → LONGEST_TEXT < length text → Dues bytes status →
@@ -323,7 +323,7 @@ module _ (asked : Option CommandOf) (holds : List ℕ → List ℕ → Type 0) (
           no_input = λ program name g named rose. absurd (not_short g.text long g.gives);
           long_input = λ program name size g named too_long. absurd (not_short g.text long g.gives);
           unattached = λ program input why g given none. absurd (not_short g.text long g.gives);
-          ran = λ program input bs n g given comes settled. absurd (not_short g.text long g.gives);
+          ran = λ program input bs n g given comes kept. absurd (not_short g.text long g.gives);
         } due
 
     module _ (program : BodyNode) (short : length text ≤ LONGEST_TEXT) (prog : IsProgram text program) where
@@ -347,7 +347,7 @@ module _ (asked : Option CommandOf) (holds : List ℕ → List ℕ → Type 0) (
         no_input = λ other name g named rose. GetsRun.unreadable (IsRead.input named) rose;
         long_input = λ other name size g named long. absurd (no_long_input run.input input name size named has long);
         unattached = λ other read why g given none. over_a_volume run input program why none content told has_one;
-        ran = λ other read bs n g given comes settled. GetsRun.own (subst (λ (p : BodyNode). RunsTo run input p bs n) (same_given program other prog g)
+        ran = λ other read bs n g given comes kept. GetsRun.own (subst (λ (p : BodyNode). RunsTo run input p bs n) (same_given program other prog g)
             (subst (λ (i : List ℕ). RunsTo run i other bs n) (same_input run.input input read has given) comes));
       } due
 
@@ -363,7 +363,7 @@ module _ (asked : Option CommandOf) (holds : List ℕ → List ℕ → Type 0) (
           no_input = λ other name g named rose. Gets.unreadable (IsRead.input named) rose;
           long_input = λ other name size g named long. absurd (no_long_input run.input input name size named has long);
           unattached = λ other read why g given is_why. by why is_why;
-          ran = λ other read bs n g given comes settled. absurd (none (settled.found content told));
+          ran = λ other read bs n g given comes kept. absurd (none (kept.found content told));
         } due
 
         pub no_volume_refused : (size gate : ℕ) (bytes : List ℕ) (status : ℕ) → found_in content ≡ no_volume size gate → Dues bytes status →
@@ -394,7 +394,7 @@ module _ (asked : Option CommandOf) (holds : List ℕ → List ℕ → Type 0) (
           no_input = λ other name' g named' rose. Gets.unreadable (IsRead.input named') rose;
           long_input = λ other name' size g named' long. absurd (long.there (subst lacks (sym (same_name name' named')) lacking));
           unattached = λ other read why g given none. absurd ((given_here read given).there lacking);
-          ran = λ other read bs n g given comes settled. absurd ((given_here read given).there lacking);
+          ran = λ other read bs n g given comes kept. absurd ((given_here read given).there lacking);
         } due
 
         -- a text of this name that is too long isn't given, and its size is told
@@ -417,7 +417,7 @@ module _ (asked : Option CommandOf) (holds : List ℕ → List ℕ → Type 0) (
           no_input = λ other name' g named' rose. Gets.unreadable (IsRead.input named') rose;
           long_input = λ other name' size g named' long. own_at _ _ _ _ _ _ (size_told input name' size has (same_name name' named') long) refl;
           unattached = λ other read why g given none. absurd (not_given input read has many (given_here read given));
-          ran = λ other read bs n g given comes settled. absurd (not_given input read has many (given_here read given));
+          ran = λ other read bs n g given comes kept. absurd (not_given input read has many (given_here read given));
         } due
 
 -- What the count of the output's faults says of an answer.

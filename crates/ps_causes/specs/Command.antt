@@ -11,7 +11,7 @@ use Rattle.shadow_volume.specs.declared.finding.OpenFault.{OpenFault}
 use Rattle.ps_words.specs.Words.{RunOf, CommandOf, a_run, a_volume}
 use Rattle.ps_reports.specs.Reports.{usage_line, memory_line, unreadable_line, too_long_line, fault_line, area_full_line, device_line}
 use Rattle.ps_reports.specs.Answering.{Answers}
-use Rattle.ps_volumes.specs.Attaching.{Keeps, IsSettled, IsWhyNone, line_of, status_of as status_of_cause}
+use Rattle.ps_volumes.specs.Attaching.{Keeps, KeepsVolume, IsWhyNone, line_of, status_of as status_of_cause}
 use Rattle.ps_volumes.specs.Making.{IsMakingDue}
 use Rattle.ps_meaning.specs.Event.{Event, count_of, outputs, status_of}
 use Rattle.ps_meaning.specs.Runs.{run_events, run_end}
@@ -65,7 +65,8 @@ pub record GivesProgram (holds : List ℕ → List ℕ → Type 0) (lacks : List
   pub is : IsProgram text program
 
 -- What the words ask for, over a shelf that holds these texts and lacks these names, and over this device, calls for these bytes to be told and this
--- status to be answered. `failed` says that the shelf's faults rose in this call. A refusal before the volume is attached makes no call of the device.
+-- status to be answered. `failed` says that the shelf's faults rose in this call. A refusal before the volume is attached makes no call of the device, and
+-- a run leaves the device as it is.
 pub data Due (asked : Option CommandOf) (holds : List ℕ → List ℕ → Type 0) (lacks : List ℕ → Type 0) (failed : Type 0) (old new : Outside (List ℕ)) : List ℕ → ℕ → Type 0 where
   -- the words are no command
   no_command : asked ≡ None → LeavesDevice old new → Due asked holds lacks failed old new usage_line 1
@@ -83,14 +84,15 @@ pub data Due (asked : Option CommandOf) (holds : List ℕ → List ℕ → Type 
   -- the text is a program, and its input is too long
   long_input : {run : RunOf} {program : BodyNode} {name : List ℕ} {size : ℕ} → asked ≡ Some (a_run run) → GivesProgram holds lacks run program →
       run.input ≡ Some name → GivesTooLong (holds name) (lacks name) size → LeavesDevice old new → Due asked holds lacks failed old new (too_long_line name size) 13
-  -- there was no memory, before the first event
-  no_memory : Due asked holds lacks failed old new memory_line 5
+  -- there was no memory for a run, before the first event
+  no_memory : {run : RunOf} → asked ≡ Some (a_run run) → Keeps old new → Due asked holds lacks failed old new memory_line 5
   -- the program and its input were given, and there is no volume to run over: why
   unattached : {run : RunOf} {program : BodyNode} (input : List ℕ) {cause : OpenFault} → asked ≡ Some (a_run run) → GivesProgram holds lacks run program →
-      GivesInput holds lacks run.input input → IsWhyNone old new cause → Due asked holds lacks failed old new (line_of cause) (status_of_cause cause)
-  -- the program was run, and from some moment on a crash leaves only what was found at the start
+      GivesInput holds lacks run.input input → IsWhyNone old new cause → Keeps old new →
+      Due asked holds lacks failed old new (line_of cause) (status_of_cause cause)
+  -- the program was run over the volume that was found at the start, and from some moment on a crash leaves only that
   ran : {run : RunOf} {program : BodyNode} {input bytes : List ℕ} {status : ℕ} → asked ≡ Some (a_run run) → GivesProgram holds lacks run program →
-      GivesInput holds lacks run.input input → RunsTo run input program bytes status → IsSettled old new → Due asked holds lacks failed old new bytes status
+      GivesInput holds lacks run.input input → RunsTo run input program bytes status → KeepsVolume old new → Due asked holds lacks failed old new bytes status
   -- a volume was to be made
   making : {pages : ℕ} {bytes : List ℕ} {status : ℕ} → asked ≡ Some (a_volume pages) → IsMakingDue pages old new bytes status →
       Due asked holds lacks failed old new bytes status
@@ -123,6 +125,11 @@ pub data Gets (read : List ℕ → Type 0) (failed device_failed : Type 0) (told
   no_memory : Gets read failed device_failed told due memory_line 5
   unreadable : {name : List ℕ} → read name → failed → Gets read failed device_failed told due (unreadable_line name) 7
   no_device : device_failed → Gets read failed device_failed told due device_line 6
+
+-- What is due is this, or the device failed.
+pub data GetsOrFails (device_failed : Type 0) (told : List ℕ) (due : ℕ) : List ℕ → ℕ → Type 0 where
+  own : GetsOrFails device_failed told due told due
+  no_device : device_failed → GetsOrFails device_failed told due device_line 6
 
 -- What is due is what the program comes to with this input; or there was no memory; or a name couldn't be read, and the shelf's faults rose; or the
 -- device failed.

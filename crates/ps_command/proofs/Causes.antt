@@ -110,7 +110,7 @@ module _ (old new : Outside (List ℕ)) where
     why_of_run asked run answered is why = subst (λ (a : Option CommandOf). Why old new a holds lacks failed answered) (sym is) why
 
     pub why_no_memory : (run : RunOf) (answered : ℕ) → Whole memory_line 5 answered → Keeps old new → Why old new (Some (a_run run)) holds lacks failed answered
-    why_no_memory run answered a keeps = record { bytes = _; status = 5; due = Due.no_memory; answers = a; device = keeps }
+    why_no_memory run answered a keeps = record { bytes = _; status = 5; due = Due.no_memory refl keeps; answers = a; device = keeps }
 
     too_long_is_other : (size : ℕ) → TooLong size ≡ Failed → ⊥
     too_long_is_other size e = cc
@@ -143,12 +143,17 @@ module _ (old new : Outside (List ℕ)) where
     why_no_input run program name Memory answered gives is rose lacking long a left = why_no_memory run answered a (device_kept old new left)
 
     -- the program was run, or there was no volume
-    pub why_ran : (run : RunOf) (input : List ℕ) (program : BodyNode) (answered : ℕ) → GivesProgram holds lacks run program → GivesInput holds lacks run.input input → ProgramWhy old new run input program answered → Keeps old new → Why old new (Some (a_run run)) holds lacks failed answered
-    why_ran run input program answered gives given (steps.ran a settled) keeps =
-        record { bytes = a.bytes; status = a.status; due = Due.ran refl gives given a.comes settled; answers = a.answers; device = keeps }
-    why_ran run input program answered gives given (steps.no_memory a) keeps = why_no_memory run answered a keeps
-    why_ran run input program answered gives given (steps.no_volume none) keeps =
-        record { bytes = _; status = _; due = Due.unattached input refl gives given none.why; answers = none.answers; device = keeps }
+    pub why_ran : (run : RunOf) (input : List ℕ) (program : BodyNode) (answered : ℕ) → GivesProgram holds lacks run program → GivesInput holds lacks run.input input → ProgramWhy old new run input program answered → Why old new (Some (a_run run)) holds lacks failed answered
+    why_ran run input program answered gives given (steps.ran a kept) =
+        record { bytes = a.bytes; status = a.status; due = Due.ran refl gives given a.comes kept; answers = a.answers; device = kept.keeps }
+    why_ran run input program answered gives given (steps.no_memory a keeps) = why_no_memory run answered a keeps
+    why_ran run input program answered gives given (steps.no_volume none) = record {
+      bytes = _;
+      status = _;
+      due = Due.unattached input refl gives given none.why none.keeps;
+      answers = none.answers;
+      device = none.keeps;
+    }
 
 -- the input of a run, by its name
 module _ (holds : List ℕ → List ℕ → Type 0) (lacks : List ℕ → Type 0) where
@@ -182,11 +187,11 @@ module _ (holds holds' : List ℕ → List ℕ → Type 0) (lacks lacks' : List 
     due_on bytes status (Due.no_input {run = run} {program = program} is g named rose left) = Due.no_input is (program_on run program g) named (so rose) left
     due_on bytes status (Due.long_input {run = run} {program = program} {name = name} {size = size} is g named long left) =
         Due.long_input is (program_on run program g) named (too_long_on name size long) left
-    due_on bytes status Due.no_memory = Due.no_memory
-    due_on bytes status (Due.unattached {run = run} {program = program} input is g given why) =
-        Due.unattached input is (program_on run program g) (input_on run.input input given) why
-    due_on bytes status (Due.ran {run = run} {program = program} {input = input} is g given comes settled) =
-        Due.ran is (program_on run program g) (input_on run.input input given) comes settled
+    due_on bytes status (Due.no_memory is left) = Due.no_memory is left
+    due_on bytes status (Due.unattached {run = run} {program = program} input is g given why left) =
+        Due.unattached input is (program_on run program g) (input_on run.input input given) why left
+    due_on bytes status (Due.ran {run = run} {program = program} {input = input} is g given comes kept) =
+        Due.ran is (program_on run program g) (input_on run.input input given) comes kept
     due_on bytes status (Due.making is due) = Due.making is due
 
     -- so an answer over the second shelf is one over the first

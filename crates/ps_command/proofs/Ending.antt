@@ -8,9 +8,8 @@ use Rattle.ps_base.specs.declared.code_unit.CodeUnit.{CodeUnit}
 use Rattle.ps_port.specs.Telling.{TellsAll, FailsBehind}
 use Rattle.ps_port.proofs.Telling.{all_then, fails_then, fails_more}
 use Rattle.ps_outside.specs.Outside.{Outside, LeavesSame, TellsNothing}
-use Rattle.obj_layout.specs.Stored.{Space}
-use Rattle.no_store.specs.NoObjects.{outside_of}
-use Rattle.no_store.proofs.HoldingLaws.{device-left}
+use Rattle.obj_store.specs.Store.{Store, outside_of}
+use Rattle.obj_store.proofs.LeftLaws.{device_left}
 use Rattle.proc_values.specs.Units.{unit_words}
 use Rattle.ps_program.specs.Node.{BodyNode, body}
 use Rattle.ps_program.specs.Slots.{slot_count}
@@ -134,41 +133,49 @@ module _ (unit : CodeUnit) (run : RunOf) (input : List ℕ) (program : BodyNode)
         whole,
       )
 
-module _ (old new : Outside (List ℕ)) where
-  abbrev seen : Outside (List ℕ) → Outside Space
-  seen host = outside_of host
+-- a run over a store, from one state to another
+module _ {H : Type 0} (outside : H → Outside (List ℕ)) (a b : Store H) where
+  abbrev old : Outside (List ℕ)
+  old = outside a.host
 
-  -- what was told by a vault without objects was told by its host
-  pub host_told : (bytes : List ℕ) → vault.TellsAll (seen old) (seen new) bytes → TellsAll old new bytes
+  abbrev new : Outside (List ℕ)
+  new = outside b.host
+
+  -- what was told by the store was told by its host
+  host_told : (bytes : List ℕ) → vault.TellsAll (outside_of outside a) (outside_of outside b) bytes → TellsAll old new bytes
   host_told bytes is = record { front = is.first.told; all = is.all; calm = is.calm }
 
-  pub host_failed : (bytes : List ℕ) → vault.FailsBehind (seen old) (seen new) bytes → FailsBehind old new bytes
+  host_failed : (bytes : List ℕ) → vault.FailsBehind (outside_of outside a) (outside_of outside b) bytes → FailsBehind old new bytes
   host_failed bytes is = record { front = is.first.told; counts = is.counts; rose = is.rose }
+
+  -- and what a crash may leave of the store it leaves of the device
+  host_left : LeavesSame (outside_of outside a) (outside_of outside b) → LeavesSame old new
+  host_left is = device_left a.used b.used a.committed b.committed a.staged b.staged old new is
 
   module _ (run : RunOf) (input : List ℕ) (program : BodyNode) (m : Machine) (r : IsReady run input program m) where
     abbrev total : List Event
     total = run_events run.turns input program
 
     abbrev RanTo : Result RunEnd RunFault → Type 0
-    RanTo answer = Ran (seen old) (seen new) [] m.sw.size (begin run input program) answer
+    RanTo answer = Ran (outside_of outside a) (outside_of outside b) [] m.sw.size (begin run input program) answer
 
-    -- the run of the vault over the host, which owed nothing
-    pub ran_is : (a b : Outside (List ℕ)) (owed : List ℕ) (answer : Result RunEnd RunFault) → a ≡ old → b ≡ new → owed ≡ [] → Ran (seen a) (seen b) owed m.sw.size (begin run input program) answer → RanTo answer
-    ran_is a b owed answer is_old is_new none ran =
-        subst (λ (bs : List ℕ). Ran (seen old) (seen new) bs m.sw.size (begin run input program) answer) none
-        (subst (λ (h : Outside (List ℕ)). Ran (seen old) (seen h) owed m.sw.size (begin run input program) answer) is_new
-        (subst (λ (h : Outside (List ℕ)). Ran (seen h) (seen b) owed m.sw.size (begin run input program) answer) is_old ran))
+    -- nothing was owed, and this was answered
+    pub ran_is : (owed : List ℕ) (given answer : Result RunEnd RunFault) → owed ≡ [] → given ≡ answer
+        → Ran (outside_of outside a) (outside_of outside b) owed m.sw.size (begin run input program) given → RanTo answer
+    ran_is owed given answer none is ran =
+        subst (λ (bs : List ℕ). Ran (outside_of outside a) (outside_of outside b) bs m.sw.size (begin run input program) answer) none
+        (subst (λ (x : Result RunEnd RunFault). Ran (outside_of outside a) (outside_of outside b) owed m.sw.size (begin run input program) x) is ran)
 
     ended_by : (events : List Event) (last : Config) (e : End) → Reaches (begin run input program) events last → Steps last (Stops e) → total ≡ events ++ Finish e last.store.counted ∷ []
     ended_by events last e way s = stops_at_the_end total (begin run input program) last events e r.runs way s
 
     -- whatever it came to, the device was left
     pub left_by_run : (answer : Result RunEnd RunFault) → RanTo answer → LeavesSame old new
-    left_by_run answer (ended way s tells) = device-left old new tells.first.images
-    left_by_run answer (damaged way s tells) = device-left old new tells.images
-    left_by_run answer (full way s short passed tells) = device-left old new tells.first.images
-    left_by_run answer (cut way fails) = device-left old new fails.first.images
-    left_by_run answer (report_cut e way s fails) = device-left old new fails.first.images
+    left_by_run answer (ended way s tells) = host_left tells.first.images
+    left_by_run answer (damaged way s tells) = host_left tells.images
+    left_by_run answer (full way s short passed tells) = host_left tells.first.images
+    left_by_run answer (cut way fails) = host_left fails.first.images
+    left_by_run answer (report_cut e way s fails) = host_left fails.first.images
 
     -- the run isn't damaged
     pub never_damaged : RanTo (Err Damaged) → ⊥

@@ -1,4 +1,4 @@
-ghost use Rattle.std.specs.Prelude.{◌≡◌, ◌≤◌, ◌+◌, ◌*◌, [], List, ℕ, length, IfOk};
+ghost use Rattle.std.specs.Prelude.{◌≡◌, ◌≤◌, ◌+◌, ◌*◌, [], List, ℕ, length, IfOk, true};
 ghost use Rattle.ps_base.specs.CodeUnit.{unit_view};
 ghost use Rattle.ps_program.specs.Node.{BodyNode};
 ghost use Rattle.ps_outside.specs.Outside.{LeavesSame};
@@ -7,12 +7,14 @@ ghost use Rattle.machine_state.specs.Stepped.{end_of};
 ghost use Rattle.stack_machine.specs.Loaded.{IsNew, IsRoomy, Loads};
 ghost use Rattle.ps_words.specs.Words.{RunOf};
 ghost use Rattle.ps_words.specs.Reading.{run_in, IsArea};
+ghost use Rattle.ps_reports.specs.Answering.{Answers};
+ghost use Rattle.ps_reports.specs.Reports.{memory_line};
 ghost use Rattle.ps_volumes.specs.Attaching.{Keeps};
 ghost use Rattle.ps_causes.specs.Command.{area_size};
 ghost use Rattle.ps_causes.specs.Steps.{AnswersRun, ProgramWhy};
 ghost use Rattle.ps_command.specs.inside.Steps.{IsRunnable, IsReady};
 
-use no_store::NoStore;
+use obj_store::ObjStore;
 use ps_base::code_unit::CodeUnit;
 use ps_code_laws::program_runs_as_meant;
 use ps_port::Host;
@@ -27,7 +29,7 @@ use std::alloc::{AllocError, Global};
 use vault_output::Output;
 
 /// Runs the unit of a program over an input and the volume of the host, and answers the status beside the host. All memory is taken here, before the
-/// volume is attached and before the first event.
+/// first event.
 pub fn run_program<H: Host>(
     alloc: Global,
     words: &RunWords,
@@ -38,46 +40,52 @@ pub fn run_program<H: Host>(
     requires program { (program : BodyNode) × IsRunnable unit program }
     requires area { IsArea (run_in words.now) }
     ensures why { (program : BodyNode) → IsRunnable unit program → ProgramWhy (H.outside host) (H.outside result.1) (run_in words.now) input.items program result.0 }
-    ensures device { Keeps (H.outside host) (H.outside result.1) }
 {
     let Ok(output) = Output::new(alloc) else {
-        let mut host = host;
-        let status = report::no_memory(&mut host);
-        return (status, host);
+        return no_memory(host);
     };
     let Ok(m) = machine(alloc, 128 * words.area_kib) else {
-        let mut host = host;
-        let status = report::no_memory(&mut host);
-        return (status, host);
+        return no_memory(host);
     };
     match attached(alloc, host) {
-        Ok(host) => run_attached(m, output, words, unit, input, host),
+        Ok(store) => run_attached(m, output, words, unit, input, store),
         Err(Unattached { status, host }) => (status, host),
     }
 }
 
-// Runs the unit where the volume is attached. No program changes it yet.
+// Tells that there was no memory.
+fn no_memory<H: Host>(host: H) -> (u8, H)
+    ensures answers { Answers (H.outside host) (H.outside result.1) memory_line 5 result.0 }
+    ensures keeps { Keeps (H.outside host) (H.outside result.1) }
+{
+    let mut host = host;
+    let status = report::no_memory(&mut host);
+    (status, host)
+}
+
+// Runs the unit over the store of the attached volume, in which no program keeps anything yet.
 fn run_attached<H: Host>(
     m: Machine,
     output: Output,
     words: &RunWords,
     unit: CodeUnit,
     input: Vec<u8>,
-    host: H,
+    store: ObjStore<H>,
 ) -> (u8, H)
     requires program { (program : BodyNode) × IsRunnable unit program }
     requires fresh { IsNew (area_size (run_in words.now)) m }
     requires owed { output ≡ [] }
-    ensures ran { (program : BodyNode) → IsRunnable unit program → AnswersRun (H.outside host) (H.outside result.1) (run_in words.now) input.items program result.0 }
-    ensures left { LeavesSame (H.outside host) (H.outside result.1) }
+    requires alive { store.live ≡ true }
+    ensures ran { (program : BodyNode) → IsRunnable unit program → AnswersRun (H.outside store.host) (H.outside result.1) (run_in words.now) input.items program result.0 }
+    ensures left { LeavesSame (H.outside store.host) (H.outside result.1) }
 {
     program_runs_as_meant();
     units_weigh_as_counted();
     let mut m = m;
     match loaded(&mut m, unit, words.turns, input) {
-        Ok(()) => run_loaded(m, output, host),
+        Ok(()) => run_loaded(m, output, store),
         Err(LoadFault::Full { top, wanted, size }) => {
-            let mut host = host;
+            let mut host = store.release();
             let status = report::area_full(&mut host, top, wanted, size);
             (status, host)
         }
@@ -94,23 +102,24 @@ fn loaded(m: &mut Machine, unit: CodeUnit, turns: u64, input: Vec<u8>) -> Result
 }
 
 // Runs what is loaded.
-fn run_loaded<H: Host>(m: Machine, output: Output, host: H) -> (u8, H)
+fn run_loaded<H: Host>(m: Machine, output: Output, store: ObjStore<H>) -> (u8, H)
     requires ready { (run : RunOf) × (input : List ℕ) × (program : BodyNode) × IsReady run input program m }
     requires owed { output ≡ [] }
-    ensures ran { (run : RunOf) (input : List ℕ) (program : BodyNode) → IsReady run input program m → AnswersRun (H.outside host) (H.outside result.1) run input program result.0 }
-    ensures left { LeavesSame (H.outside host) (H.outside result.1) }
+    requires alive { store.live ≡ true }
+    ensures ran { (run : RunOf) (input : List ℕ) (program : BodyNode) → IsReady run input program m → AnswersRun (H.outside store.host) (H.outside result.1) run input program result.0 }
+    ensures left { LeavesSame (H.outside store.host) (H.outside result.1) }
 {
     let mut m = m;
     let mut output = output;
-    let mut vault = NoStore::new(host);
-    match run(&mut m, &mut vault, &mut output) {
-        Ok(end) => (status(end), vault.into_host()),
+    let mut store = store;
+    match run(&mut m, &mut store, &mut output) {
+        Ok(end) => (status(end), store.release()),
         Err(RunFault::Full { top, wanted, size }) => {
-            let mut host = vault.into_host();
+            let mut host = store.release();
             let status = report::area_full(&mut host, top, wanted, size);
             (status, host)
         }
-        Err(RunFault::Output) => (OUTPUT_FAULT, vault.into_host()),
+        Err(RunFault::Output) => (OUTPUT_FAULT, store.release()),
         Err(RunFault::Damaged) => unreachable!(),
     }
 }

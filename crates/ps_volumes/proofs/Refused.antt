@@ -1,7 +1,6 @@
 -- What is told where there is no volume, and where one is made.
 use Rattle.std.proofs.Common.{◌≡◌, ℕ, List, [], sym, subst}
-use Rattle.std.specs.Prelude.{Result, Ok, Err}
-use Rattle.ps_outside.specs.Outside.{Outside, Leaves, TellsNothing, Rose, SameContents, LeavesSame}
+use Rattle.ps_outside.specs.Outside.{Outside, Leaves, TellsNothing, Rose}
 use Rattle.ps_outside.proofs.Moments.{along_then, along_now}
 use Rattle.ps_port.specs.Telling.{LeavesDevice}
 use Rattle.shadow_volume.specs.Attaching.{IsRefused}
@@ -12,7 +11,7 @@ use Rattle.shadow_volume.specs.declared.making.FormatFault.TheVariants.{Device, 
 use Rattle.ps_reports.specs.Answering.{Answers, whole}
 use Rattle.ps_reports.specs.Reports.{device_line, already_line}
 use Rattle.ps_reports.proofs.Behind.{told_none, behind_nothing}
-use Rattle.ps_volumes.specs.Attaching.{IsUnattached, Keeps, line_of, status_of}
+use Rattle.ps_volumes.specs.Attaching.{IsUnattached, line_of, status_of}
 use Rattle.ps_volumes.specs.Making.{Makes, IsMade}
 use Rattle.ps_volumes.specs.Making as making
 use Rattle.ps_volumes.proofs.Settled.{keeps_then, device_kept}

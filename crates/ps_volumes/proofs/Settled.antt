@@ -1,12 +1,12 @@
 -- What is left of a device that no call changed.
-use Rattle.std.proofs.Common.{◌≡◌, ◌≤◌, ◌⊎◌, ⊎_elim, ℕ, List, Bool, arith}
+use Rattle.std.proofs.Common.{◌≤◌, ◌⊎◌, ⊎_elim, ℕ, List, arith}
 use Rattle.ps_outside.specs.Outside.{Outside, LeavesSame, Settles}
 use Rattle.ps_outside.proofs.Moments.{along_then, along_now}
 use Rattle.ps_port.specs.Telling.{LeavesDevice}
-use Rattle.shadow_volume.specs.Attaching as volume
 use Rattle.shadow_volume.specs.Found.{held_at}
-use Rattle.shadow_volume.specs.declared.note.Committed.{Committed}
-use Rattle.ps_volumes.specs.Attaching.{Keeps, IsAttached, IsSettled}
+use Rattle.obj_store.specs.Store.{Store}
+use Rattle.obj_store.specs.Opening.{IsOpened}
+use Rattle.ps_volumes.specs.Attaching.{Keeps, KeepsVolume}
 
 either : (m n : ℕ) → (m ≤ n) ⊎ (n ≤ m)
 either m n = grind arith
@@ -35,27 +35,23 @@ keeps_then a b c is next = record {
 pub device_kept : (a b : Outside (List ℕ)) → LeavesDevice a b → Keeps a b
 device_kept a b is = record { images = is.images; contents = λ bytes at. is.contents.no_other bytes at }
 
-pub attached_by : (old new : Outside (List ℕ)) (lives : Bool) (committed : Committed) (staged : List Bool) → volume.IsAttached old new lives committed staged → IsAttached old new
-attached_by old new lives committed staged is = record {
-  told = is.looks.told;
-  output = is.looks.output;
-  keeps = record { images = is.looks.images; contents = λ bytes at. is.looks.same.no_other bytes at };
-  settles = is.settles;
-  found = λ bytes at. record {
-    pages = committed.pages;
-    second = committed.second;
-    held = held_at committed.pages committed.second bytes;
-    found = (is.found bytes at).volume;
-  };
-}
+-- The device was left behind an attached store; and at the end a read gives one of what a crash leaves.
+module _ {H : Type 0} (outside : H → Outside (List ℕ)) (old : Outside (List ℕ)) (store : Store H) (new : Outside (List ℕ)) (is : IsOpened outside old store)
+    (left : LeavesSame (outside store.host) new) (is_image : (bytes : List ℕ) → new.contents bytes → new.images new.clock bytes) where
+  settled : Settles old new
+  settled = settles_then old (outside store.host) new is.settles left
 
--- where the device was left from then on, and at the end a read gives one of what a crash leaves
-module _ (old mid new : Outside (List ℕ)) (is : IsAttached old mid) (left : LeavesSame mid new) where
-  pub settled_by : IsSettled old new
-  settled_by = record { settles = settles_then old mid new is.settles left; found = is.found }
-
-  pub kept_by : ((bytes : List ℕ) → new.contents bytes → new.images new.clock bytes) → Keeps old new
-  kept_by is_image = record {
-    images = along_then is.keeps.images left (along_now is.keeps.images);
-    contents = λ bytes at. is.settles.settled mid.clock bytes (is.settles.until) (omega arith) (along_now left bytes (is_image bytes at));
+  pub volume_kept : KeepsVolume old new
+  volume_kept = record {
+    keeps = record {
+      images = along_then is.looks.images left (along_now is.looks.images);
+      contents = λ bytes at. settled.settled new.clock bytes settled.until (omega arith) (is_image bytes at);
+    };
+    settles = settled;
+    found = λ bytes at. record {
+      pages = store.committed.pages;
+      second = store.committed.second;
+      held = held_at store.committed.pages store.committed.second bytes;
+      found = (is.found bytes at).volume;
+    };
   }

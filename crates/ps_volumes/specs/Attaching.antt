@@ -1,6 +1,6 @@
 -- What is left of a device whose volume was attached, or couldn't be.
 use Rattle.std.specs.Prelude.{◌≡◌, ℕ, Bool, List}
-use Rattle.ps_outside.specs.Outside.{Outside, LeavesSame, TellsNothing, Settles, Rose}
+use Rattle.ps_outside.specs.Outside.{Outside, LeavesSame, Settles, Rose}
 use Rattle.shadow_volume.specs.Found.{Held, a_volume, found_in}
 use Rattle.shadow_volume.specs.Attaching.{IsNoVolume}
 use Rattle.shadow_volume.specs.declared.finding.OpenFault.{OpenFault}
@@ -20,16 +20,9 @@ pub record Keeps (old new : Outside (List ℕ)) : Type 0 where
   pub images : LeavesSame old new
   pub contents : (bytes : List ℕ) → new.contents bytes → old.contents bytes
 
--- Nothing was told, and a volume was found in each content; from some moment on a crash leaves only what a read gave at the start.
-pub record IsAttached (old new : Outside (List ℕ)) : Type 0 where
-  pub told : TellsNothing old new
-  pub output : new.output_faults ≡ old.output_faults
+-- A volume was found in each content at the start, and the device was left as it is; from some moment on a crash leaves only such a content.
+pub record KeepsVolume (old new : Outside (List ℕ)) : Type 0 where
   pub keeps : Keeps old new
-  pub settles : Settles old new
-  pub found : (bytes : List ℕ) → old.contents bytes → HasVolume bytes
-
--- A volume was found in each content at the start; and from some moment of the way on a crash leaves only such a content.
-pub record IsSettled (old new : Outside (List ℕ)) : Type 0 where
   pub settles : Settles old new
   pub found : (bytes : List ℕ) → old.contents bytes → HasVolume bytes
 

@@ -3,11 +3,13 @@
 ghost use Rattle.std.specs.Prelude.{IfErr, IfOk};
 ghost use Rattle.ps_port.specs.Telling.{LeavesDevice};
 ghost use Rattle.ps_reports.specs.Answering.{Answers};
-ghost use Rattle.ps_volumes.specs.Attaching.{IsAttached, IsUnattached, line_of, status_of};
+ghost use Rattle.obj_store.specs.Opening.{IsOpened};
+ghost use Rattle.ps_volumes.specs.Attaching.{IsUnattached, line_of, status_of};
 
+use obj_store::ObjStore;
 use ps_port::Host;
 use ps_reports::report;
-use shadow_volume::{OpenFault, Refused, Volume};
+use shadow_volume::{OpenFault, Refused};
 use std::alloc::Global;
 
 /// A host whose volume wasn't attached. Why was told by it, and the status is to be answered.
@@ -17,15 +19,15 @@ pub struct Unattached<H: Host> {
     pub host: H,
 }
 
-/// Attaches the volume of a host, by a sync and then the tests of its file (`docs/formats.md`), and gives the host back, of whose device a crash then
-/// leaves what was found. Where there is no volume, it tells why: 6 where the device failed, 9 where the file is no volume, 10 where it is
+/// Attaches the volume of a host, by a sync and then the tests of its file (`docs/formats.md`), and gives the store of the objects in it, of which a
+/// crash then leaves what was found. Where there is no volume, it tells why: 6 where the device failed, 9 where the file is no volume, 10 where it is
 /// damaged, 5 where there was no memory. The file is left as it is.
-pub fn attached<H: Host>(alloc: Global, host: H) -> Result<H, Unattached<H>>
-    ensures ok { IfOk result (λ now. IsAttached (H.outside host) (H.outside now)) }
+pub fn attached<H: Host>(alloc: Global, host: H) -> Result<ObjStore<H>, Unattached<H>>
+    ensures ok { IfOk result (λ store. IsOpened H.outside (H.outside host) store) }
     ensures err { IfErr result (λ refused. IsUnattached (H.outside host) (H.outside refused.host) refused.status) }
 {
-    match Volume::attach(alloc, host) {
-        Ok(volume) => Ok(volume.release()),
+    match ObjStore::attach(alloc, host) {
+        Ok(store) => Ok(store),
         Err(Refused { cause, host }) => {
             let mut host = host;
             let status = refused(&mut host, cause);

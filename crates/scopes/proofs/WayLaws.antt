@@ -1,6 +1,6 @@
 -- The way out, from scope to scope.
-use Rattle.std.proofs.Common.{inl, inr, ◌≡◌, ◌≢◌, ℕ, ◌+◌, ◌<◌, ◌≤◌, List, [], ◌∷◌, ◌++◌, length, length-append, Bool, true, false, nat_eq, Option, Some, None, refl, sym, ap, ◌∙◌, arith}
-use Rattle.std.specs.Prelude.{Result, Ok, Err, IfOk, IfErr, OnOk}
+use Rattle.std.proofs.Common.{inl, inr, ◌≡◌, ◌≢◌, ℕ, ◌+◌, ◌<◌, ◌≤◌, List, [], ◌∷◌, ◌++◌, length, length-append, Bool, true, false, nat_eq, Option, Some, None, refl, sym, ap, ◌∙◌, arith, get_or}
+use Rattle.std.specs.Prelude.{Result, Ok, Err, IfOk, IfErr, OnOk, unwrap_or}
 use Rattle.std.proofs.lemmas.Bool.{cases_lt}
 use Rattle.std.proofs.lemmas.Bool.Decides.{nat_tests}
 use Rattle.std.proofs.lemmas.Grind.{common_steps}
@@ -8,19 +8,21 @@ use Rattle.ps_outside.specs.Outside.{Outside, SameContents}
 use Rattle.obj_layout.specs.Kind.{kind_number}
 use Rattle.obj_layout.specs.Stored.{Space, damage}
 use Rattle.obj_layout.specs.declared.reference.Reference.{Reference}
+use Rattle.obj_layout.specs.declared.reference.Reference.TheVariants.{Nil, Local}
 use Rattle.obj_layout.specs.declared.vault.VaultFault.TheVariants.{Damaged}
 use Rattle.swizzle.specs.declared.fault.SwizzleFault.{SwizzleFault}
 use Rattle.swizzle.specs.declared.fault.SwizzleFault.TheVariants.{AreaFull, Vault}
-use Rattle.swizzle.specs.Heap.{Heap, IsHeap, IsHeld, header_at, ref_at}
+use Rattle.swizzle.specs.Heap.{Heap, IsHeap, IsHeld, nothing, top_of, header_at, ref_at}
+use Rattle.swizzle.specs.Objects.{Object}
 use Rattle.swizzle.specs.Joint.{Shown, shown_at, name_at, name_of}
 use Rattle.swizzle.specs.Changes.{Within, Touched}
-use Rattle.swizzle.specs.Touch.{Denotes, Keeps, IsTouchCall, IsTouchFault}
+use Rattle.swizzle.specs.Touch.{Denotes, Keeps, IsNear, IsTouchCall, IsTouchFault}
 use Rattle.swizzle.specs.Reading.{joint}
 use Rattle.swizzle.proofs.NameLaws.{shown-counts, name-not_nil}
 use Rattle.swizzle.proofs.ReadingLaws.{reads-none, reads-then, leaves-then, fails-touch, fails-then}
 use Rattle.heap_places.specs.Shapes.{slot_of}
 use Rattle.heap_places.specs.Places.{NamesDamage, FailsFetch}
-use Rattle.heap_places.proofs.PlaceLaws.{refs_below, reads-slot, denotes-slot, names-damage, fails-damage}
+use Rattle.heap_places.proofs.PlaceLaws.{slot-name, refs_below, reads-slot, denotes-slot, names-damage, fails-damage}
 use Rattle.heap_ops.proofs.ClassLaws.{pid-kept, same-before}
 use Rattle.heap_ops.proofs.FieldLaws.{fetch-fault}
 use Rattle.scopes.specs.Way.{way_damage, HasParent, TellsParent, IsParent, LeadsOver, end_of, LeadsOut, GoesOut}
@@ -76,19 +78,27 @@ not-damaged heap at found h held same is long =
 
 -- The parent of a scope.
 
+pub parent-near : (heap : Heap) (at parent : ℕ) → IsHeap heap → IsHeld heap at → ref_at heap at 1 ≡ Local parent
+    → Denotes heap (Some parent) (slot_of (shown_at heap at) 1)
+parent-near heap at parent h held is = (
+  h.inside at held.object held.is 1 parent (sym (ap (λ (o : Option Object). get_or (unwrap_or o nothing).refs 1 Nil) held.is) ∙ is),
+  sym (slot-name heap at 1 ∙ ap (name_of heap) is),
+)
+
 pub parent-below : (heap : Heap) (at : ℕ) → IsHeap heap → IsHeld heap at → way_damage (shown_at heap at) ≡ None → 1 < (header_at heap at).refs
 parent-below heap at h held none = refs_below heap at 1 h held (omega (arith, two-slots (shown_at heap at) none))
 
 pub tells : (old new : Heap) (a b : Outside Space) (at : ℕ) (r : Result (Option ℕ) SwizzleFault) → way_damage (shown_at old at) ≡ None
     → IfOk r (λ to. Denotes new to (name_of old (ref_at old at 1))) → OnOk r (Keeps old new)
     → OnOk r (Touched (joint old a) (joint new b) (name_of old (ref_at old at 1)))
+    → (IsNear old (name_of old (ref_at old at 1)) → top_of new ≡ top_of old)
     → IsTouchCall old new a b r → IfErr r (IsTouchFault old a (ref_at old at 1)) → TellsParent old new a b at r
-tells old new a b at (Ok to) sound target keeps touched call fault = record {
+tells old new a b at (Ok to) sound target keeps touched near call fault = record {
   sound = sound;
   denotes = denotes-slot old new at 1 to target;
-  reads = reads-slot old new a b at 1 to keeps touched call;
+  reads = reads-slot old new a b at 1 to keeps touched near call;
 }
-tells old new a b at (Err f) sound target keeps touched call fault = (fails-touch old new a b f call, inr (sound, fault))
+tells old new a b at (Err f) sound target keeps touched near call fault = (fails-touch old new a b f call, inr (sound, fault))
 
 -- The way, gone further.
 

@@ -1,10 +1,11 @@
-ghost use Rattle.std.specs.Prelude.{◌≡◌, ◌+◌, ◌<◌, ◌^◌, length, OnOk};
+ghost use Rattle.std.specs.Prelude.{◌≡◌, ◌+◌, ◌<◌, ◌^◌, length, Ok, IfSome, OnOk};
 ghost use Rattle.obj_layout.specs.declared.vault.VaultFault.TheVariants.{Damaged};
 ghost use Rattle.swizzle.specs.declared.fault.SwizzleFault.TheVariants.{Vault as InVault};
 ghost use Rattle.swizzle.specs.Heap.{IsHeld, Stands, header_at};
 ghost use Rattle.swizzle.specs.Text.{text_at};
 ghost use Rattle.text_forms.specs.Forms.{forms_of};
-ghost use Rattle.heap_places.specs.Places.{IsNear};
+ghost use Rattle.swizzle.specs.Joint.{shown_at};
+ghost use Rattle.heap_places.specs.Places.{FirstText, HasPlace, IsNear, ReadsPlace, TouchesText};
 ghost use Rattle.heap_ops.specs.Layouts.{AreSo};
 ghost use Rattle.scopes.specs.Names.{GetsKept, SetsKept, index_of};
 ghost use Rattle.scopes.specs.inside.Opening.{OpensName};
@@ -13,10 +14,11 @@ use closures::shape::{other_kind, test_shape};
 use heap_ops::layouts::Layouts;
 use heap_ops::shape::fit;
 use heap_ops::vectors::misfitting;
-use heap_places::places::{damaged, read_place, write_place};
-use heap_places::texts::first_text;
+use heap_places::places::{self, damaged, write_place};
+use heap_places::texts;
 use heap_places::value::Value;
 use obj_layout::kind::Kind;
+use obj_layout::reference::Reference;
 use obj_layout::vault::Vault;
 use swizzle::fault::SwizzleFault;
 use swizzle::swizzle::Swizzle;
@@ -27,6 +29,7 @@ use text_forms::forms::{Form, Located, Place, count_places};
 /// `first_text` says), its text has no such name (found the number, wanted how many names it has), it hasn't two references and one number
 /// word more than its text names places of each row (found their number, wanted that), or the name's word stands for no value of its form; in
 /// this order.
+#[inline(always)]
 pub fn get_kept<V: Vault>(
     sw: &mut Swizzle,
     vault: &mut V,
@@ -89,7 +92,7 @@ pub fn set_kept<V: Vault>(
 }
 
 // The place of a name of a scope, whose shape is that of its text.
-#[inline]
+#[inline(always)]
 fn open_name<V: Vault>(
     sw: &mut Swizzle,
     vault: &mut V,
@@ -125,6 +128,84 @@ fn open_name<V: Vault>(
     }
 }
 
+// The text that an object refers to first, as `heap_places` has it; where it stands in the area, without a call.
+#[inline(always)]
+fn first_text<V: Vault>(sw: &mut Swizzle, vault: &mut V, object: u32) -> Result<u32, SwizzleFault>
+    requires alive { V.alive vault.old }
+    requires held { IsHeld sw.old object }
+    ensures touched { TouchesText sw.old sw.new (V.outside vault.old) (V.outside vault.new) object result }
+    ensures numbers { (V.used_words vault.new ≡ V.used_words vault.old) × (V.directory_at vault.new ≡ V.directory_at vault.old) × (V.most_words vault.new ≡ V.most_words vault.old) }
+    ensures alive { OnOk result (V.alive vault.new) }
+{
+    match near_text(sw, vault, object) {
+        Some(text) => Ok(text),
+        None => texts::first_text(sw, vault, object),
+    }
+}
+
+// The text that an object refers to first, where it stands in the area.
+#[inline(always)]
+fn near_text<V: Vault>(sw: &Swizzle, vault: &V, object: u32) -> Option<u32>
+    requires { IsHeld sw.now object }
+    ensures { IfSome result (λ text. FirstText sw.now sw.now (V.outside vault.now) (V.outside vault.now) object text) }
+{
+    let _ = vault;
+    sw.sound();
+    if sw.refs(object) == 0 {
+        return None;
+    }
+    match sw.peek(object, 0) {
+        Reference::Local(text) => {
+            if sw.is_kind(text, Kind::Text) {
+                Some(text)
+            } else {
+                None
+            }
+        }
+        _ => None,
+    }
+}
+
+// The value in a place of an object, as `heap_places` has it; a reference that stands in the area is read without a call.
+#[inline(always)]
+fn read_place<V: Vault>(
+    sw: &mut Swizzle,
+    vault: &mut V,
+    object: u32,
+    place: Place,
+) -> Result<Value, SwizzleFault>
+    requires alive { V.alive vault.old }
+    requires held { IsHeld sw.old object }
+    requires place { HasPlace (shown_at sw.old object) place.form place.index }
+    ensures read { ReadsPlace sw.old sw.new (V.outside vault.old) (V.outside vault.new) object place.form place.index result }
+    ensures numbers { (V.used_words vault.new ≡ V.used_words vault.old) × (V.directory_at vault.new ≡ V.directory_at vault.old) × (V.most_words vault.new ≡ V.most_words vault.old) }
+    ensures alive { OnOk result (V.alive vault.new) }
+{
+    match near_value(sw, vault, object, place) {
+        Some(value) => Ok(value),
+        None => places::read_place(sw, vault, object, place),
+    }
+}
+
+// The reference in a place of an object, where it stands in the area.
+#[inline(always)]
+fn near_value<V: Vault>(sw: &Swizzle, vault: &V, object: u32, place: Place) -> Option<Value>
+    requires held { IsHeld sw.now object }
+    requires place { HasPlace (shown_at sw.now object) place.form place.index }
+    ensures { IfSome result (λ value. ReadsPlace sw.now sw.now (V.outside vault.now) (V.outside vault.now) object place.form place.index (Ok value)) }
+{
+    let _ = vault;
+    sw.sound();
+    match place.form {
+        Form::Reference => match sw.peek(object, place.index) {
+            Reference::Nil => Some(Value::Ref(None)),
+            Reference::Local(at) => Some(Value::Ref(Some(at))),
+            Reference::Pid(_) => None,
+        },
+        _ => None,
+    }
+}
+
 // The fault of a scope whose text has no such name.
 #[inline(never)]
 fn no_name(sw: &Swizzle, scope: u32, text: u32, name: u32) -> SwizzleFault
@@ -143,7 +224,7 @@ fn no_name(sw: &Swizzle, scope: u32, text: u32, name: u32) -> SwizzleFault
 }
 
 // The index of a name's place in its row.
-#[inline]
+#[inline(always)]
 fn index(place: Place) -> u32
     requires { place.index + 2 < 2 ^ 32 }
     ensures { result ≡ index_of place }

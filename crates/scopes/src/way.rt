@@ -1,12 +1,13 @@
-ghost use Rattle.std.specs.Prelude.{◌≡◌, None, MatchResult, OnOk};
+ghost use Rattle.std.specs.Prelude.{◌≡◌, None, Some, IfSome, MatchResult, OnOk};
 ghost use Rattle.swizzle.specs.Heap.{IsHeld};
 ghost use Rattle.swizzle.specs.Joint.{shown_at};
 ghost use Rattle.heap_places.specs.Places.{NamesDamage};
-ghost use Rattle.scopes.specs.Way.{GoesOut, TellsParent, way_damage};
+ghost use Rattle.scopes.specs.Way.{GoesOut, HasParent, TellsParent, way_damage};
 
 use closures::shape::other_kind;
 use heap_places::places::damaged;
 use obj_layout::kind::Kind;
+use obj_layout::reference::Reference;
 use obj_layout::vault::Vault;
 use swizzle::fault::SwizzleFault;
 use swizzle::swizzle::Swizzle;
@@ -14,7 +15,47 @@ use swizzle::swizzle::Swizzle;
 /// The parent of a scope; None for a scope without one. It is fetched where it isn't in the area, and isn't tested itself. Damaged, at the
 /// object's PID, exactly where it is no scope (found the number of its kind, wanted 4) or has fewer than two references (found their number,
 /// wanted 2).
+#[inline(always)]
 pub fn parent_of<V: Vault>(
+    sw: &mut Swizzle,
+    vault: &mut V,
+    scope: u32,
+) -> Result<Option<u32>, SwizzleFault>
+    requires alive { V.alive vault.old }
+    requires held { IsHeld sw.old scope }
+    ensures told { TellsParent sw.old sw.new (V.outside vault.old) (V.outside vault.new) scope result }
+    ensures numbers { (V.used_words vault.new ≡ V.used_words vault.old) × (V.directory_at vault.new ≡ V.directory_at vault.old) × (V.most_words vault.new ≡ V.most_words vault.old) }
+    ensures alive { OnOk result (V.alive vault.new) }
+{
+    match near_parent(sw, vault, scope) {
+        Some(parent) => Ok(Some(parent)),
+        None => find_parent(sw, vault, scope),
+    }
+}
+
+// The parent of a scope, where it stands in the area.
+#[inline(always)]
+fn near_parent<V: Vault>(sw: &Swizzle, vault: &V, scope: u32) -> Option<u32>
+    requires { IsHeld sw.now scope }
+    ensures { IfSome result (λ parent. HasParent sw.now sw.now (V.outside vault.now) (V.outside vault.now) scope (Some parent)) }
+{
+    let _ = vault;
+    sw.sound();
+    if !sw.is_kind(scope, Kind::Scope) {
+        return None;
+    }
+    if sw.refs(scope) < 2 {
+        return None;
+    }
+    match sw.peek(scope, 1) {
+        Reference::Local(parent) => Some(parent),
+        _ => None,
+    }
+}
+
+// The parent of a scope, wherever it is, or why there is none.
+#[inline(never)]
+fn find_parent<V: Vault>(
     sw: &mut Swizzle,
     vault: &mut V,
     scope: u32,
@@ -33,7 +74,7 @@ pub fn parent_of<V: Vault>(
 }
 
 // Tests that the way may go through an object.
-#[inline]
+#[inline(always)]
 fn test_way(sw: &Swizzle, object: u32) -> Result<(), SwizzleFault>
     requires { IsHeld sw.now object }
     ensures { MatchResult result
@@ -54,6 +95,7 @@ fn test_way(sw: &Swizzle, object: u32) -> Result<(), SwizzleFault>
 /// The scope so many levels out from a scope: itself for 0, else the parent of the one that is a level less out. What it answers isn't tested
 /// itself. Damaged exactly where one that it leaves is no scope or has fewer than two references, as `parent_of` says, or has no parent (found
 /// 0, wanted 1), at the PID of that one. The cost is in line with the levels.
+#[inline(always)]
 pub fn scope_out<V: Vault>(
     sw: &mut Swizzle,
     vault: &mut V,

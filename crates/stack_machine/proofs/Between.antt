@@ -35,8 +35,7 @@ use Rattle.stack_machine.specs.Ran.{TellsFirst, TellsAll, FailsBehind, Ran, ende
 use Rattle.stack_machine.specs.inside.Advancing.{TellsBut, Advances, SendsOn, advanced_where, Reports, Flushes, BreaksOff, IsNoRoom}
 use Rattle.stack_machine.specs.declared.run.Advanced.TheVariants.{On, Ended, Failed}
 use Rattle.stack_machine.specs.declared.run.Advanced.TheVariants.{Damaged as Stopped, Full as Filled}
-use Rattle.stack_machine.proofs.Telling.{all-then, fails-then, all-puts, fails-puts, all-none, but-leaves, but-then, but-all, but-fails, but-first, leaves-but, leaves-fails, still-empty}
-use Rattle.paired_ops.specs.World.{IsEmpty}
+use Rattle.stack_machine.proofs.Telling.{all-then, fails-then, all-puts, fails-puts, all-none, but-leaves, but-then, but-all, but-fails, but-first, leaves-but, leaves-fails}
 use Rattle.stack_machine.proofs.Dispatch.{code_of}
 use Rattle.machine_state.proofs.Callers.{as-many}
 use Rattle.stack_machine.proofs.Progress.{Left, left, nearer, IsNearer, by_turns, by_callers, by_bytes}
@@ -314,7 +313,3 @@ item_written m m' h t = (t.does h.0 h.1).2.2
 -- where an object found no room, the fault says so
 pub no_room_told : (old new : Outside Space) (owed left : List ℕ) (m m' : Machine) → IsHolding m → Advances old new owed left m m' Filled → IsNoRoom m'.fault
 no_room_told old new owed left m m' h a = let by = a.by h.0 h.1 in (by.2.1, by.2.2, m.sw.size, by.2.3)
-
--- no object has come in a step
-pub vault_empty : (old new : Outside Space) (owed left : List ℕ) (m m' : Machine) → IsHolding m → Advances old new owed left m m' On → IsEmpty old → IsEmpty new
-vault_empty old new owed left m m' h a empty = let by = a.by h.0 h.1 in still-empty old new by.2.4.tells.first.contents empty

@@ -9,7 +9,6 @@ use Rattle.obj_layout.specs.declared.vault.VaultFault.TheVariants.{Output}
 use Rattle.obj_layout.specs.Stored.{Space}
 use Rattle.obj_layout.specs.Storing.{Puts}
 use Rattle.swizzle.specs.Reading.{LeavesOutside}
-use Rattle.paired_ops.specs.World.{IsEmpty}
 use Rattle.vault_output.specs.Sending.{Sends}
 use Rattle.vault_output.proofs.SendingLaws.{sends-more}
 use Rattle.ps_meaning.specs.Meaning.{in_places}
@@ -217,7 +216,3 @@ leaves-but a b c due left quiet next = record { sent = next.sent; due_is = next.
 
 pub leaves-fails : (a b c : Outside Space) (due : List ℕ) → LeavesOutside a b → FailsBehind b c due → FailsBehind a c due
 leaves-fails a b c due quiet next = fails-then a b c [] due (all-leaves a b quiet) next
-
--- no object has come
-pub still-empty : (a b : Outside Space) → SameContents a b → IsEmpty a → IsEmpty b
-still-empty a b same empty = λ pid words h. empty pid words (record { space = h.space; is = same.no_other h.space h.is; has = h.has })

@@ -1,7 +1,6 @@
 ghost use Rattle.std.specs.Prelude.{◌≡◌, [], ◌++◌, ℕ};
 ghost use Rattle.swizzle.specs.declared.fault.SwizzleFault.TheVariants.{AreaFull};
 ghost use Rattle.ps_stepping.specs.Config.{Config};
-ghost use Rattle.paired_ops.specs.World.{IsEmpty};
 ghost use Rattle.machine_state.specs.Holding.{Holds, IsHolding, IsSound};
 ghost use Rattle.machine_state.specs.Stepped.{text_of, IsItem};
 ghost use Rattle.stack_machine.specs.Ran.{Ran};
@@ -48,7 +47,6 @@ fn advance<V: Vault>(m: &mut Machine, vault: &mut V, output: &mut Output) -> Adv
     requires sound { IsSound m.old }
     requires holding { IsHolding m.old }
     requires alive { V.alive vault.old }
-    requires empty { IsEmpty (V.outside vault.old) }
     ensures advances { Advances (V.outside vault.old) (V.outside vault.new) output.old output.new m.old m.new result }
     ensures alive { StaysAlive result (V.alive vault.new) }
 {
@@ -174,7 +172,6 @@ pub fn run<V: Vault>(
     requires sound { IsSound m.old }
     requires holding { IsHolding m.old }
     requires alive { V.alive vault.old }
-    requires empty { IsEmpty (V.outside vault.old) }
     ensures ran { (c : Config) → Holds m.old c → Ran (V.outside vault.old) (V.outside vault.new) output.old m.old.sw.size c result }
     ensures emptied { output.new ≡ [] }
 {

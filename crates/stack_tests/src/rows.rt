@@ -157,7 +157,6 @@ pub fn outcome_of(
         return not_run(loaded.err(), host);
     };
     let mut vault = NoStore::new(host);
-    vault.holds_nothing();
     let came = match run(&mut machine, &mut vault, &mut output) {
         Ok(RunEnd::Done) => Came::Done,
         Ok(RunEnd::Trapped { trap, .. }) => Came::Trapped(trap as u32),

@@ -15,8 +15,8 @@ use Rattle.swizzle.specs.Heap.{Heap, IsHeld, header_at, top_of}
 use Rattle.swizzle.specs.Joint.{Shown, shown_at}
 use Rattle.swizzle.specs.Changes.{IsKnown, Within, Touched}
 use Rattle.swizzle.specs.Text.{text_at}
-use Rattle.swizzle.specs.Touch.{Keeps, AreFew, IsTouchCall}
-use Rattle.swizzle.specs.Reading.{joint, AreKnown, LeavesOutside, Reads, FailsReading, TextStays, TextsStay}
+use Rattle.swizzle.specs.Touch.{Keeps, AreFew, IsNear, IsTouchCall}
+use Rattle.swizzle.specs.Reading.{joint, AreKnown, AreNear, LeavesOutside, Reads, FailsReading, TextStays, TextsStay}
 use Rattle.swizzle.proofs.TouchLaws.{keeps-refl, keeps-trans, rose_more}
 
 pub leaves-none : (outside : Outside Space) → LeavesOutside outside outside
@@ -46,16 +46,18 @@ reads-none heap outside names = record {
   keeps = keeps-refl heap;
   grows = λ n it j. j;
   no_more = λ known n it j. j;
+  idle = λ near. refl;
   outside = leaves-none outside;
   calls = omega arith;
 }
 
 -- One touch.
-pub reads-touch : {T : Type 0} (old new : Heap) (a b : Outside Space) (name : Reference) (x : T) → Keeps old new → Touched (joint old a) (joint new b) name → IsTouchCall old new a b (Ok x) → Reads old new a b (name ∷ [])
-reads-touch old new a b name x keeps touched call = record {
+pub reads-touch : {T : Type 0} (old new : Heap) (a b : Outside Space) (name : Reference) (x : T) → Keeps old new → Touched (joint old a) (joint new b) name → (IsNear old name → top_of new ≡ top_of old) → IsTouchCall old new a b (Ok x) → Reads old new a b (name ∷ [])
+reads-touch old new a b name x keeps touched near call = record {
   keeps = keeps;
   grows = touched.grows;
   no_more = λ known n it j. touched.no_more (known.0) n it j;
+  idle = λ all. near (all.0);
   outside = leaves-touch old new a b (Ok x) call;
   calls = elim (call.calls) [ inl none ↦ omega (arith, none) | inr some ↦ omega (arith, some.0, some.1) ];
 }
@@ -72,6 +74,25 @@ known-grows : (seen now : Reference → Shown → Type 0) (names : List Referenc
 known-grows seen now [] grows k = tt
 known-grows seen now (n ∷ ns) grows k = (elim (k.0) [ inl nil ↦ inl nil | inr is ↦ inr (record { it = is.it; is = grows n is.it is.is }) ], known-grows seen now ns grows k.1)
 
+near-first : (heap : Heap) (names more : List Reference) → AreNear heap (names ++ more) → AreNear heap names
+near-first heap [] more k = tt
+near-first heap (n ∷ ns) more k = (k.0, near-first heap ns more k.1)
+
+near-last : (heap : Heap) (names more : List Reference) → AreNear heap (names ++ more) → AreNear heap more
+near-last heap [] more k = k
+near-last heap (n ∷ ns) more k = near-last heap ns more k.1
+
+-- names of objects that stay are near still
+pub near-kept : (old new : Heap) (names : List Reference) → Keeps old new → AreNear old names → AreNear new names
+near-kept old new [] keeps k = tt
+near-kept old new (n ∷ ns) keeps k = (
+  elim (k.0) [
+    | inl nil ↦ inl nil
+    | inr there ↦ let s = keeps.objects (there.0) (there.1) in inr (there.0, s.held, s.name ∙ there.2)
+  ],
+  near-kept old new ns keeps k.1,
+)
+
 -- Two readings.
 pub reads-then : (old mid new : Heap) (a b c : Outside Space) (names more : List Reference) → Reads old mid a b names → Reads mid new b c more → Reads old new a c (names ++ more)
 reads-then old mid new a b c names more first second = record {
@@ -80,6 +101,7 @@ reads-then old mid new a b c names more first second = record {
   no_more = λ known n it j.
       first.no_more (known-first (joint old a) names more known) n it
       (second.no_more (known-grows (joint old a) (joint mid b) more first.grows (known-last (joint old a) names more known)) n it j);
+  idle = λ near. second.idle (near-kept old mid more first.keeps (near-last old names more near)) ∙ first.idle (near-first old names more near);
   outside = leaves-then a b c first.outside second.outside;
   calls = omega (arith, first.calls, second.calls, first.keeps.top, second.keeps.top);
 }

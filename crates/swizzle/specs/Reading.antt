@@ -12,7 +12,7 @@ use Rattle.swizzle.specs.Heap.{Heap, IsHeld, top_of, header_at}
 use Rattle.swizzle.specs.Joint.{Shown, Joint}
 use Rattle.swizzle.specs.Changes.{IsKnown, Within}
 use Rattle.swizzle.specs.Text.{text_at}
-use Rattle.swizzle.specs.Touch.{Keeps}
+use Rattle.swizzle.specs.Touch.{Keeps, IsNear}
 
 -- what is seen of area and vault together
 abbrev pub joint : Heap → Outside Space → Reference → Shown → Type 0
@@ -23,6 +23,11 @@ abbrev pub AreKnown : (Reference → Shown → Type 0) → List Reference → Ty
 AreKnown seen [] = Unit {0}
 AreKnown seen (name ∷ names) = ((name ≡ Nil) ⊎ IsKnown seen name) × AreKnown seen names
 
+-- each of these names is nil, or that of an object of the area
+abbrev pub AreNear : Heap → List Reference → Type 0
+AreNear heap [] = Unit {0}
+AreNear heap (name ∷ names) = IsNear heap name × AreNear heap names
+
 -- Nothing is told, what a crash may leave and what is held stay, and no count sinks.
 pub record LeavesOutside (before after : Outside Space) : Type 0 where
   pub told : TellsNothing before after
@@ -31,12 +36,13 @@ pub record LeavesOutside (before after : Outside Space) : Type 0 where
   pub counts : before.device_faults ≤ after.device_faults
   pub output : after.output_faults ≡ before.output_faults
 
--- The objects of these names were touched: the area keeps its objects, no object is lost, and where all names were known none has come.
--- For each word that came there were at most two device calls.
+-- The objects of these names were touched: the area keeps its objects, no object is lost, and where all names were known none is seen more.
+-- Where all were nil or in the area, no object came. For each word that came there were at most two device calls.
 pub record Reads (old new : Heap) (before after : Outside Space) (names : List Reference) : Type 0 where
   pub keeps : Keeps old new
   pub grows : Within (joint old before) (joint new after)
   pub no_more : AreKnown (joint old before) names → Within (joint new after) (joint old before)
+  pub idle : AreNear old names → top_of new ≡ top_of old
   pub outside : LeavesOutside before after
   pub calls : after.device_calls ≤ before.device_calls + 2 * (top_of new - top_of old)
 

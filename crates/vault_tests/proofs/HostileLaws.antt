@@ -36,7 +36,7 @@ pub holds_nothing : (rest : List ℕ) (directory room : ℕ) → HoldsNothing (f
 holds_nothing rest directory room = record {
   alive = refl;
   none = λ pid words h.
-      let has : HasObject (record { words = 0 ∷ 0 ∷ rest; directory = directory }) pid words =
+      let has : HasObject (record { words = 0 ∷ 0 ∷ rest; directory = directory; file = [] }) pid words =
       subst (λ (s : Space). HasObject s pid words) (sym h.is.is) h.has in
       no_cut rest has.objects has.cut.1;
 }

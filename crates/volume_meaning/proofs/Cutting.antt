@@ -25,7 +25,7 @@ joined (o ∷ os) = o.words ++ joined os
 
 -- the space of these objects, whose directory has this PID
 abbrev pub space_with : List Placed → ℕ → Space
-space_with objects directory = record { words = 0 ∷ joined objects; directory = directory }
+space_with objects directory = record { words = 0 ∷ joined objects; directory = directory; file = [] }
 
 -- a small object, with nothing but its counts in its header
 pub is-object : (of : Kind) (refs nums bytes : ℕ) (holds : Contents) (words : List ℕ) → refs + nums + bytes ≤ 100 → bytes ≤ 8 * nums

@@ -14,7 +14,8 @@ use Rattle.obj_area.proofs.WordLaws.{length-bytes_of}
 use Rattle.shadow_volume.specs.Found.{Held}
 use Rattle.shadow_volume.specs.Standing.{held_in}
 use Rattle.shadow_volume.specs.declared.note.Note.{Note}
-use Rattle.volume_meaning.specs.Space.{word_at, words_of, holding, spaced, space_of, space_in}
+use Rattle.obj_store.specs.Spaces.{word_at, words_of, space_of}
+use Rattle.volume_meaning.specs.Space.{holding, spaced, space_in}
 
 -- the word with an index below the spelled ones is one of them
 spelled-at : (ws behind : List ℕ) → AreWords ws → (k : ℕ) → k < length ws → word_at (bytes_of ws ++ behind) k ≡ slice_index ws k

@@ -12,15 +12,16 @@ use Rattle.shadow_volume.specs.Standing.{held_in, held_of, IsFit}
 use Rattle.shadow_volume.specs.declared.finding.Damage.{Damage}
 use Rattle.shadow_volume.proofs.Tests.{head_passed, root_passed}
 use Rattle.shadow_volume.proofs.Halves.{halves_within}
-use Rattle.volume_meaning.specs.Space.{word_at, words_of, space_of, space_in}
+use Rattle.obj_store.specs.Spaces.{word_at, words_of, space_of}
+use Rattle.volume_meaning.specs.Space.{space_in}
 
 -- What is held stands in a half, behind tests that passed.
-record IsHeldFrom (image : List ℕ) (held : Held) : Type 0 where
-  pages : ℕ
-  second : Bool
-  fit : IsFit pages held.note
-  long : 4096 * pages ≤ length image
-  is : held ≡ held_at pages second image
+pub record IsHeldFrom (image : List ℕ) (held : Held) : Type 0 where
+  pub pages : ℕ
+  pub second : Bool
+  pub fit : IsFit pages held.note
+  pub long : 4096 * pages ≤ length image
+  pub is : held ≡ held_at pages second image
 
 behind-tests : (pages : ℕ) (image : List ℕ) (held : Held) (o : Option Damage) → root_damage pages (root_at (selects image)) image ≡ o
     → held_of (behind_root pages image o) ≡ Some held
@@ -45,7 +46,7 @@ from-head image held None e is =
       is = sym behind.1;
     }
 
-held-from : (image : List ℕ) (held : Held) → held_in image ≡ Some held → IsHeldFrom image held
+pub held-from : (image : List ℕ) (held : Held) → held_in image ≡ Some held → IsHeldFrom image held
 unfolding held_in found_in
 held-from image held is = by (nat_lt (length image) 16384) (nat_eq (gate image) 1) is
   where
@@ -62,7 +63,7 @@ unfolding word_at
 words-fit bytes from zero = tt
 words-fit bytes from (suc count) = (omega arith, words-fit bytes (from + 1) count)
 
-space-used : (image : List ℕ) (held : Held) → IsHeldFrom image held → IsSpace held.note.used held.note.directory (space_of held.note.used held)
+pub space-used : (image : List ℕ) (held : Held) → IsHeldFrom image held → IsSpace held.note.used held.note.directory (space_of held.note.used held)
 unfolding words_of
 space-used image held from =
     let halves = halves_within from.pages from.fit.least from.fit.most in
@@ -76,6 +77,7 @@ space-used image held from =
       small = omega arith;
       named = refl;
       below = from.fit.below;
+      unfiled = refl;
     }
 
 pub space-of_held : (image : List ℕ) (held : Held) → held_in image ≡ Some held

@@ -1,6 +1,8 @@
 -- Which images stand for which heaps: only those in which a volume is found; and a new volume for the heaps without a database, and no other.
-use Rattle.std.proofs.Common.{◌≡◌, ℕ, ◌≤◌, Bool, List, [], ◌∷◌, refl, sym, ◌∙◌, ap, subst, arith, Some}
+use Rattle.std.proofs.Common.{◌≡◌, ℕ, ◌≤◌, Bool, List, [], ◌∷◌, length, refl, sym, ◌∙◌, ap, subst, arith, Option, Some, None}
 use Rattle.std.specs.Option.{option_map}
+use Rattle.std.proofs.lemmas.Option.{same_Some}
+use Rattle.ps_outside.specs.Outside.{Outside}
 use Rattle.obj_layout.specs.declared.reference.Reference.{Reference}
 use Rattle.obj_layout.specs.declared.reference.Reference.TheVariants.{Pid}
 use Rattle.obj_layout.specs.Objects.{Placed, HoldsObjects}
@@ -13,8 +15,11 @@ use Rattle.shadow_volume.specs.Standing.{held_in, held_of}
 use Rattle.shadow_volume.proofs.New.{found_new}
 use Rattle.heap_meaning.specs.Paired.{paired}
 use Rattle.volume_meaning.specs.Kept.{Database, KeptHeap, AreDatabases}
-use Rattle.volume_meaning.specs.Space.{word_at, words_of, space_of, space_in, SeenIn}
-use Rattle.volume_meaning.specs.Stands.{IsDirectoryOf, SpaceStands, Stands}
+use Rattle.obj_store.specs.Spaces.{word_at, words_of, space_of, space_found}
+use Rattle.ps_volumes.specs.Attaching.{KeepsVolume}
+use Rattle.volume_meaning.specs.Space.{space_in, HoldSame, SeenIn}
+use Rattle.volume_meaning.specs.Stands.{IsDirectoryOf, SpaceStands, Stands, StandsSince}
+use Rattle.volume_meaning.proofs.Used.{held-from, space-used}
 
 -- A volume is found.
 
@@ -30,14 +35,51 @@ pub volume-found : (image : List ℕ) (heap : KeptHeap) → Stands image heap �
 unfolding space_in held_in
 volume-found image heap s = volume-of (found_in image) s.space s.found
 
--- images in which the same is held stand for the same heaps
-pub stands-held : (image other : List ℕ) (heap : KeptHeap) → held_in image ≡ held_in other → Stands image heap → Stands other heap
+-- Files that hold the same stand for the same heaps: one without a volume has no word, and a space has word 0.
+
+space-other : (other : Option Held) (space : Space) → 1 ≤ length space.words → space_found other ≡ space
+    → option_map (λ (held : Held). space_of held.note.used held) other ≡ Some space
+space-other None space used is =
+    let none : 0 ≡ length space.words = ap (λ (s : Space). length s.words) is in
+    absurd (omega arith)
+space-other (Some held) space used is = ap (λ (s : Space). Some s) is
+
+same-space : (image other : Option Held) (space : Space) → option_map (λ (held : Held). space_of held.note.used held) image ≡ Some space
+    → ((held : Held) → image ≡ Some held → 1 ≤ length (space_of held.note.used held).words) → space_found image ≡ space_found other
+    → option_map (λ (held : Held). space_of held.note.used held) other ≡ Some space
+same-space None other space is used same = absurd (cc)
+same-space (Some held) other space is used same =
+    let here : space_of held.note.used held ≡ space = same_Some (space_of held.note.used held) space is in
+    space-other other space (subst (λ (s : Space). 1 ≤ length s.words) here (used held refl)) (sym same ∙ here)
+
+used-held : (image : List ℕ) (held : Held) → held_in image ≡ Some held → 1 ≤ length (space_of held.note.used held).words
+used-held image held is =
+    let space = space-used image held (held-from image held is) in
+    let some = space.some in
+    omega (arith, space.long)
+
+pub stands-held : (image other : List ℕ) (heap : KeptHeap) → HoldSame image other → Stands image heap → Stands other heap
 unfolding space_in
 stands-held image other heap same s = record {
   space = s.space;
-  found = sym (ap (option_map (λ (held : Held). space_of held.note.used held)) same) ∙ s.found;
+  found = same-space (held_in image) (held_in other) s.space s.found (used-held image) same;
   stands = s.stands;
 }
+
+-- What is left of a volume stands for the heap that it stood for.
+
+pub stands-since : (old new : Outside (List ℕ)) (heap : KeptHeap) → KeepsVolume old new → ((bytes : List ℕ) → old.contents bytes → Stands bytes heap)
+    → StandsSince old new heap
+stands-since old new heap kept stood = record {
+  since = kept.settles.since;
+  from = kept.settles.from;
+  until = kept.settles.until;
+  stands = λ m image from until at. stood image (kept.settles.settled m image from until at);
+}
+
+pub stands-after : (old new : Outside (List ℕ)) (heap : KeptHeap) → KeepsVolume old new → ((bytes : List ℕ) → old.contents bytes → Stands bytes heap) →
+    (bytes : List ℕ) → new.contents bytes → Stands bytes heap
+stands-after old new heap kept stood bytes at = stood bytes (kept.keeps.contents bytes at)
 
 -- Spaces without a directory.
 
@@ -71,7 +113,7 @@ none-without space heap none s = no-database space s.names heap.databases none s
 -- The space of a new volume: word 0 and no directory.
 
 abbrev empty_space : Space
-empty_space = record { words = 0 ∷ []; directory = 0 }
+empty_space = record { words = 0 ∷ []; directory = 0; file = [] }
 
 space-empty : space_of 1 empty_held ≡ empty_space
 unfolding words_of word_at

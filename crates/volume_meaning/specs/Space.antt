@@ -1,8 +1,7 @@
 -- The space that is found in an image of a volume, and what is seen in it under each name.
-use Rattle.std.specs.Prelude.{◌≡◌, ◌⊎◌, ℕ, ◌*◌, ◌%◌, ◌^◌, ◌<◌, List, map, take, drop, Option}
-use Rattle.std.specs.List.{AllByRecursion, range_with_len}
+use Rattle.std.specs.Prelude.{◌≡◌, ◌⊎◌, ℕ, ◌^◌, ◌<◌, List, [], take, drop, Option}
+use Rattle.std.specs.List.{AllByRecursion}
 use Rattle.std.specs.Option.{option_map}
-use Rattle.shadow_volume.specs.Layout.{number_at}
 use Rattle.shadow_volume.specs.Found.{Held}
 use Rattle.shadow_volume.specs.Standing.{held_in}
 use Rattle.shadow_volume.specs.declared.note.Note.{Note}
@@ -10,29 +9,22 @@ use Rattle.obj_layout.specs.declared.kind.Kind.TheVariants.{Structure, Table}
 use Rattle.obj_layout.specs.declared.reference.Reference.{Reference}
 use Rattle.obj_layout.specs.declared.reference.Reference.TheVariants.{Pid}
 use Rattle.obj_layout.specs.Stored.{Space, HasObject}
+use Rattle.obj_store.specs.Spaces.{space_of, space_held}
 use Rattle.swizzle.specs.Objects.{header_in}
 use Rattle.swizzle.specs.Joint.{Shown, shown_words}
 use Rattle.heap_meaning.specs.Standing.{Seen}
 
--- the word with this index: the number that its eight bytes spell, the low one first
-unfoldable pub word_at : List ℕ → ℕ → ℕ
-word_at bytes index = number_at (8 * index) 8 bytes % 2 ^ 64
-
--- the first so many words
-unfoldable pub words_of : ℕ → List ℕ → List ℕ
-words_of count bytes = map (word_at bytes) (range_with_len 0 count)
-
 -- a space of these words
 abbrev pub spaced : List ℕ → ℕ → Space
-spaced words directory = record { words = words; directory = directory }
-
--- what a volume holds, as a space of so many words
-abbrev pub space_of : ℕ → Held → Space
-space_of used held = spaced (words_of used held.bytes) held.note.directory
+spaced words directory = record { words = words; directory = directory; file = [] }
 
 -- the space that is found in an image: as many words as are used; None where no volume is found
 unfoldable pub space_in : List ℕ → Option Space
 space_in image = option_map (λ held. space_of held.note.used held) (held_in image)
+
+-- two files hold the same: the same used words under the same directory, or both no volume
+abbrev pub HoldSame : List ℕ → List ℕ → Type 0
+HoldSame a b = space_held a ≡ space_held b
 
 -- what is held where the pages have these bytes
 abbrev pub holding : Note → List ℕ → Held

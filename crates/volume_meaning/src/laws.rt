@@ -10,9 +10,9 @@ ghost use Rattle.shadow_volume.specs.Making.{IsNew};
 ghost use Rattle.shadow_volume.specs.Standing.{held_in};
 ghost use Rattle.shadow_volume.specs.declared.note.Note.{Note};
 ghost use Rattle.volume_meaning.specs.Kept.{KeptHeap};
-ghost use Rattle.volume_meaning.specs.Space.{holding, spaced, space_in};
+ghost use Rattle.volume_meaning.specs.Space.{holding, spaced, space_in, HoldSame};
 ghost use Rattle.volume_meaning.specs.Stands.{Stands, StandsSince};
-ghost use Rattle.ps_volumes.specs.Attaching.{IsSettled};
+ghost use Rattle.ps_volumes.specs.Attaching.{KeepsVolume};
 
 use ps_port::Host;
 
@@ -30,9 +30,9 @@ pub fn what_stands_is_a_volume()
         (pages : ℕ) × (second : Bool) × (held : Held) × (found_in image ≡ a_volume pages second held) }
 {}
 
-/// A law: images in which the same is held stand for the same heaps.
+/// A law: images that hold the same, the same used words under the same directory, stand for the same heaps.
 pub fn what_is_held_decides()
-    ensures { (image other : List ℕ) (heap : KeptHeap) → held_in image ≡ held_in other → Stands image heap → Stands other heap }
+    ensures { (image other : List ℕ) (heap : KeptHeap) → HoldSame image other → Stands image heap → Stands other heap }
 {}
 
 /// A law: where the bytes that are held begin with the spelling of as many words as are used, those are the words of the space.
@@ -53,9 +53,11 @@ pub fn what_is_damaged_stands_for_no_heap()
     ensures none { (image : List ℕ) (heap : KeptHeap) (size gate : ℕ) → found_in image ≡ no_volume size gate → Stands image heap → ⊥ }
 {}
 
-/// A law: where the device was settled between two states of a host, from some moment on each image that a crash may leave stands for the heap that what
-/// a read gave at the start stood for.
-pub fn a_settled_volume_stands_for_its_heap<H: Host>(host: &H, back: &H)
-    ensures { (heap : KeptHeap) → IsSettled (H.outside host.now) (H.outside back.now) →
+/// A law: where a run left its volume between two states of a host, and what a read gave at the start stood for a heap, from some moment on each image
+/// that a crash may leave stands for it, and so does what a read gives at the end.
+pub fn a_run_leaves_its_heap<H: Host>(host: &H, back: &H)
+    ensures since { (heap : KeptHeap) → KeepsVolume (H.outside host.now) (H.outside back.now) →
         ((bytes : List ℕ) → (H.outside host.now).contents bytes → Stands bytes heap) → StandsSince (H.outside host.now) (H.outside back.now) heap }
+    ensures after { (heap : KeptHeap) → KeepsVolume (H.outside host.now) (H.outside back.now) →
+        ((bytes : List ℕ) → (H.outside host.now).contents bytes → Stands bytes heap) → (bytes : List ℕ) → (H.outside back.now).contents bytes → Stands bytes heap }
 {}

@@ -4,6 +4,8 @@ use Rattle.ps_meaning.specs.Objects.{place_of}
 use Rattle.swizzle.specs.Joint.{Shown, shown_at}
 use Rattle.heap_places.specs.Places.{HasRow, assigned_value}
 use Rattle.heap_ops.specs.Vectors.{index_of}
+use Rattle.heap_places.proofs.PlaceLaws.{stands_then}
+use Rattle.heap_ops.proofs.ClassLaws.{stands-kept}
 use Rattle.heap_ops.proofs.VectorLaws.{element-row, near-fitted, near-kept, refuses, sets}
 use Rattle.heap_ops.proofs.vectors.set_element.Goals as goal
 
@@ -28,3 +30,8 @@ returns-in-None-clause-set g c =
 
 pub returns-in-Err-clause-set : goal.returns-in-Err-clause-set
 returns-in-Err-clause-set g c = (c.in-Err.ensures.read.0, inl (c.in-Err.ensures.read.1))
+
+pub returns-in-Some-fit-clause-stands : goal.returns-in-Some-fit-clause-stands
+returns-in-Some-fit-clause-stands g c =
+    stands_then c.args.sw.now c.read_shape.new.sw c.write_place.new.sw
+    (stands-kept c.args.sw.now c.read_shape.new.sw c.in-Ok.ensures.read.1.reads.keeps) c.write_place.ensures.stands

@@ -39,7 +39,7 @@ returns-in-Ok-clause-got g c of names id world denotes is =
     let b = g.V.Vault.outside c.read_place.new.vault in
     known-got here of names k.vector id k (the-vector here of names k.vector id c.sound.ensures world denotes) is c.args.at c.in-Some.number
     (ap (place_of k.low k.count) (sym (to_z-of_z w32 c.args.at c.ranges.at)) ∙ sym c.subscript.ensures ∙ c.in-Some.is)
-    c.read_place.new.sw a b c.in-Ok.value c.sound.ensures c.sound-in-Ok.ensures c.requires.empty world
+    c.read_place.new.sw a b c.in-Ok.value c.sound.ensures world
     (subst (λ (n : ℕ). ReadsPlace here c.read_place.new.sw a b k.vector k.form n (Ok c.in-Ok.value)) c.index.ensures c.in-Ok.ensures.read)
 
 pub returns-in-Err-clause-got : goal.returns-in-Err-clause-got

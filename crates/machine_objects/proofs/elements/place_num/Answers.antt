@@ -10,15 +10,10 @@ use Rattle.ps_meaning.specs.Evaluation.{kept_as}
 use Rattle.ps_meaning.specs.Values.{Num, Value}
 use Rattle.ps_stepping.specs.Objects.{set_element_num, when_number}
 use Rattle.paired_ops.specs.Operands.{IsForIn}
-use Rattle.paired_ops.proofs.WorldLaws.{still-empty}
 use Rattle.machine_objects.proofs.Ending.{ends, comes-behind}
 use Rattle.machine_objects.proofs.FieldReads.{number-row, no-number-row}
 use Rattle.machine_objects.proofs.VectorWrites.{element-set, element-written, still-so, element-missed}
 use Rattle.machine_objects.proofs.elements.place_num.Goals as goal
-
-pub get_element-got-requires-clause-empty : goal.get_element-got-requires-clause-empty
-get_element-got-requires-clause-empty g c =
-    still-empty (g.V.Vault.outside c.args.vault.now) (g.V.Vault.outside c.pop_known.new.vault) c.pop_known.ensures.leaves c.requires.empty
 
 pub returns-then-not-is_number-clause-takes : goal.returns-then-not-is_number-clause-takes
 returns-then-not-is_number-clause-takes g c =

@@ -7,7 +7,6 @@ use Rattle.ps_meaning.specs.Values.{word_of}
 use Rattle.ps_stepping.specs.Config.{Config}
 use Rattle.ps_stepping.specs.Steps.{attempted, push_num}
 use Rattle.ps_stepping.specs.Objects.{pop_object}
-use Rattle.paired_ops.proofs.WorldLaws.{still-empty}
 use Rattle.machine_objects.specs.inside.Constants.{FindsField}
 use Rattle.machine_objects.proofs.ConstantReads.{none-there}
 use Rattle.machine_objects.proofs.ClassFields.{popped-there}
@@ -28,10 +27,6 @@ returns-then-not-is_number-clause-takes g c =
     let row : is_number_form c.in-Some.located.place.form ≡ false = search rules in
     other-number c.args.k n c.in-Some.class c.in-Some.located (λ (e : Config) (text : List ℕ). pop_object e (λ v d. attempted line (field_of d.store.heap v text n) (λ w. push_num (word_of w) d))) c.args.m.now c.field_at.new.m
     c.in-Some.ensures.finds c.requires.holding row
-
-pub get_field-got-requires-clause-empty : goal.get_field-got-requires-clause-empty
-get_field-got-requires-clause-empty g c =
-    still-empty (g.V.Vault.outside c.args.vault.now) (g.V.Vault.outside c.field_at.new.vault) c.field_at.ensures.leaves c.requires.empty
 
 pub get_field-got-requires-clause-there : goal.get_field-got-requires-clause-there
 get_field-got-requires-clause-there g c = popped-there c.field_at.new.m c.pop_object.new.m c.in-Some-pop_object.object c.in-Some-pop_object.ensures.pops c.in-Some.ensures.holding

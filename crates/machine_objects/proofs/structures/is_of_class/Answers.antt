@@ -8,17 +8,12 @@ use Rattle.ps_stepping.specs.Steps.{push_num}
 use Rattle.ps_stepping.specs.Objects.{pop_object}
 use Rattle.swizzle.proofs.ReadingLaws.{leaves-then}
 use Rattle.paired_ops.specs.World.{Answers}
-use Rattle.paired_ops.proofs.WorldLaws.{still-empty}
 use Rattle.machine_state.specs.Stepped.{Takes}
 use Rattle.machine_objects.proofs.Ending.{comes-behind, denoted-there}
 use Rattle.machine_state.proofs.Carrying.{read-holds, sound-kept, size-behind}
 use Rattle.machine_objects.proofs.Carrying.{never-fails}
 use Rattle.machine_objects.proofs.ConstantReads.{constant-then}
 use Rattle.machine_objects.proofs.structures.is_of_class.Goals as goal
-
-pub is_class-requires-clause-empty : goal.is_class-requires-clause-empty
-is_class-requires-clause-empty g c =
-    still-empty (g.V.Vault.outside c.args.vault.now) (g.V.Vault.outside c.text_constant.new.vault) c.text_constant.ensures.leaves c.requires.empty
 
 pub returns-in-Ok-clause-leaves : goal.returns-in-Ok-clause-leaves
 returns-in-Ok-clause-leaves g c = leaves-then (g.V.Vault.outside c.args.vault.now) (g.V.Vault.outside c.text_constant.new.vault) (g.V.Vault.outside c.is_class.new.vault) c.text_constant.ensures.leaves c.is_class.ensures.leaves

@@ -10,7 +10,6 @@ use Rattle.ps_meaning.specs.Values.{Num}
 use Rattle.paired_ops.specs.Operands.{IsForIn}
 use Rattle.swizzle.proofs.ReadingLaws.{leaves-then}
 use Rattle.ps_stepping.specs.Config.{Config}
-use Rattle.paired_ops.proofs.WorldLaws.{still-empty}
 use Rattle.machine_objects.specs.inside.Constants.{FindsField}
 use Rattle.machine_objects.proofs.ConstantReads.{none-there}
 use Rattle.machine_objects.proofs.ClassFields.{popped-there}
@@ -32,10 +31,6 @@ returns-then-not-is_number-clause-takes g c =
     let row : is_number_form c.in-Some.located.place.form ≡ false = search rules in
     other-number c.args.k n c.in-Some.class c.in-Some.located (λ (e : Config) (text : List ℕ). number-set n line e text (form_in (forms_of text) n)) c.args.m.now c.field_at.new.m
     c.in-Some.ensures.finds c.requires.holding row
-
-pub set_field-set-requires-clause-empty : goal.set_field-set-requires-clause-empty
-set_field-set-requires-clause-empty g c =
-    still-empty (g.V.Vault.outside c.args.vault.now) (g.V.Vault.outside c.field_at.new.vault) c.field_at.ensures.leaves c.requires.empty
 
 pub set_field-set-requires-clause-there : goal.set_field-set-requires-clause-there
 set_field-set-requires-clause-there g c = popped-there c.pop_int.new.m c.pop_object.new.m c.in-Some-pop_object.object c.in-Some-pop_object.ensures.pops c.in-Some-pop_int.ensures.holding

@@ -9,15 +9,10 @@ use Rattle.ps_stepping.specs.Steps.{attempted, push_ref}
 use Rattle.ps_stepping.specs.Objects.{element_ref, pop_vector, when_reference}
 use Rattle.paired_ops.specs.World.{Answers}
 use Rattle.paired_ops.specs.Operands.{IsForIn, IsOfForm, form_in}
-use Rattle.paired_ops.proofs.WorldLaws.{still-empty}
 use Rattle.machine_objects.proofs.Ending.{ends}
 use Rattle.machine_objects.proofs.VectorReads.{known-read}
 use Rattle.machine_objects.proofs.VectorWrites.{comes-sized}
 use Rattle.machine_objects.proofs.vectors.find_ref.Goals as goal
-
-pub get_element-got-requires-clause-empty : goal.get_element-got-requires-clause-empty
-get_element-got-requires-clause-empty g c =
-    still-empty (g.V.Vault.outside c.args.vault.now) (g.V.Vault.outside c.pop_known.new.vault) c.pop_known.ensures.leaves c.requires.empty
 
 pub returns-clause-takes : goal.returns-clause-takes
 returns-clause-takes g c =

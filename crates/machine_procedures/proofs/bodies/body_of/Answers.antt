@@ -1,12 +1,7 @@
 use Rattle.std.proofs.Common.{Some}
 use Rattle.ps_meaning.specs.Values.{Procedure, as_compiled}
-use Rattle.paired_ops.proofs.WorldLaws.{still-empty}
 use Rattle.machine_procedures.proofs.CalledBodies.{still-there, there-held, code-there, body-told}
 use Rattle.machine_procedures.proofs.bodies.body_of.Goals as goal
-
-pub scope_of-requires-clause-empty : goal.scope_of-requires-clause-empty
-scope_of-requires-clause-empty g c =
-    still-empty (g.V.Vault.outside c.args.vault.now) (g.V.Vault.outside c.code_of.new.vault) c.code_of.ensures.leaves c.requires.empty
 
 pub scope_of-requires-clause-held : goal.scope_of-requires-clause-held
 scope_of-requires-clause-held g c =

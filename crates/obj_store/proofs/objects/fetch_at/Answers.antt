@@ -1,6 +1,5 @@
-use Rattle.std.proofs.Common.{◌≡◌, ◌+◌, ◌^◌, ◌<◌, ◌≤◌, ℕ, List, length, take, drop, Some, inr, sym, ap, ◌∙◌, subst, arith}
+use Rattle.std.proofs.Common.{◌≡◌, ◌+◌, ◌^◌, ◌<◌, ◌≤◌, ℕ, length, take, drop, Some, inr, sym, ap, ◌∙◌, subst, arith}
 use Rattle.std.proofs.lemmas.List.{take-take}
-use Rattle.obj_layout.specs.declared.vault.VaultFault.{VaultFault}
 use Rattle.obj_layout.specs.Stored.{Space}
 use Rattle.obj_store.specs.Spaces.{spaces}
 use Rattle.obj_store.specs.Tested.{AreHeld, HasFour, IsObjectFault, TellsDamage}

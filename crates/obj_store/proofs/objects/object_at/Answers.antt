@@ -1,8 +1,6 @@
-use Rattle.std.proofs.Common.{◌≡◌, ◌+◌, ◌^◌, ◌<◌, ◌≤◌, ℕ, List, length, take, drop, inr, ◌∙◌, arith}
-use Rattle.obj_layout.specs.declared.header.Header.{Header}
-use Rattle.obj_layout.specs.declared.vault.VaultFault.{VaultFault}
+use Rattle.std.proofs.Common.{◌≡◌, ◌+◌, ◌^◌, ◌<◌, ◌≤◌, length, inr, ◌∙◌, arith}
 use Rattle.obj_layout.specs.Header.{header_fault, header_words}
-use Rattle.obj_layout.specs.Stored.{Space, of_words}
+use Rattle.obj_layout.specs.Stored.{of_words}
 use Rattle.obj_store.specs.Spaces.{spaces}
 use Rattle.obj_store.specs.Tested.{AreHeld, HasFour, IsObjectFault, IsObjectHeader, IsDamageAt}
 use Rattle.obj_store.specs.StoreLaws.{order_low}

@@ -1,11 +1,10 @@
-use Rattle.std.proofs.Common.{◌≡◌, ◌+◌, ◌/◌, ◌≤◌, length, sym, subst, ◌∙◌, arith}
+use Rattle.std.proofs.Common.{◌+◌, ◌/◌, ◌≤◌, length, sym, subst, ◌∙◌, arith}
 use Rattle.shadow_volume.specs.Standing.{seen}
 use Rattle.shadow_volume.specs.declared.note.Committed.{Committed}
 use Rattle.obj_layout.specs.Stored.{overwritten}
 use Rattle.obj_layout.specs.Storing.{writing}
 use Rattle.obj_store.specs.Spaces.{IsInOrder}
 use Rattle.obj_store.specs.Words.{HoldsPut}
-use Rattle.obj_store.specs.Staging.{Turns}
 use Rattle.obj_store.proofs.ChangeLaws.{becomes_of, joins_overwrite}
 use Rattle.obj_store.proofs.WriteLaws.{stages_looks, stages_then, turns_looks}
 use Rattle.obj_store.proofs.objects.overwrite_at.Goals as goal

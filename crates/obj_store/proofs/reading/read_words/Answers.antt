@@ -1,9 +1,7 @@
-use Rattle.std.proofs.Common.{◌≡◌, ◌∙◌, ℕ, ◌+◌, ◌-◌, ◌/◌, ◌^◌, ◌<◌, ◌≤◌, Bool, List, length, arith, refl, sym, ap, Some}
-use Rattle.shadow_volume.specs.Layout.{capacity_of, half_pages}
-use Rattle.shadow_volume.specs.Found.{Held}
+use Rattle.std.proofs.Common.{◌∙◌, ◌+◌, ◌-◌, ◌/◌, ◌^◌, ◌<◌, length, arith, Some}
 use Rattle.shadow_volume.proofs.Looking.{looks_then}
 use Rattle.obj_store.specs.StoreLaws.{capacity_low}
-use Rattle.obj_store.proofs.ReadLaws.{page_there, seen_kept, more_read}
+use Rattle.obj_store.proofs.ReadLaws.{seen_kept, more_read}
 use Rattle.obj_store.proofs.reading.read_words.Goals as goal
 
 pub overflow_cast-first : goal.overflow_cast-first

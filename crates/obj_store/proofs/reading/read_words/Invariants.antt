@@ -1,4 +1,4 @@
-use Rattle.std.proofs.Common.{◌≡◌, ℕ, ◌-◌, ◌*◌, ◌<◌, List, length, get_or, Some, ◌+◌}
+use Rattle.std.proofs.Common.{◌≡◌, ℕ, ◌-◌, ◌*◌, ◌<◌, length, get_or, Some, ◌+◌}
 use Rattle.shadow_volume.specs.Found.{Held}
 use Rattle.shadow_volume.specs.Standing.{IsAlive, seen}
 use Rattle.shadow_volume.specs.Attaching.{Looks}

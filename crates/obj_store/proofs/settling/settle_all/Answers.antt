@@ -1,4 +1,4 @@
-use Rattle.std.proofs.Common.{◌≡◌, ◌≤◌, sym, subst, arith}
+use Rattle.std.proofs.Common.{sym, subst, arith}
 use Rattle.shadow_volume.specs.declared.note.Committed.{Committed}
 use Rattle.obj_store.specs.Spaces.{IsInOrder}
 use Rattle.obj_store.proofs.SettleLaws.{switch_becomes, switch_settles, switch_fails, switched_order}

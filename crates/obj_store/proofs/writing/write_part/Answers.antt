@@ -1,4 +1,4 @@
-use Rattle.std.proofs.Common.{◌*◌, ◌+◌, ◌≤◌, max, min, length, refl, arith}
+use Rattle.std.proofs.Common.{◌*◌, ◌+◌, ◌≤◌, max, min, length, arith}
 use Rattle.obj_store.proofs.WriteLaws.{part_turns, on_ok_two, stages_looks, stages_put, stages_then}
 use Rattle.shadow_volume.specs.Standing.{seen}
 use Rattle.obj_store.proofs.writing.write_part.Goals as goal

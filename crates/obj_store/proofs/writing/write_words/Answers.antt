@@ -1,5 +1,4 @@
-use Rattle.std.proofs.Common.{◌≡◌, ◌∙◌, ℕ, ◌+◌, ◌-◌, ◌*◌, ◌/◌, ◌^◌, ◌<◌, ◌≤◌, max, min, List, length, arith, refl, sym, ap}
-use Rattle.shadow_volume.specs.Layout.{capacity_of, half_pages}
+use Rattle.std.proofs.Common.{◌∙◌, ◌+◌, ◌-◌, ◌*◌, ◌/◌, ◌^◌, ◌<◌, max, min, length, arith, refl}
 use Rattle.shadow_volume.specs.Standing.{seen}
 use Rattle.obj_store.specs.Words.{HoldsPut}
 use Rattle.obj_store.specs.StoreLaws.{capacity_low}

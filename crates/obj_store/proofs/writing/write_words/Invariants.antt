@@ -1,4 +1,4 @@
-use Rattle.std.proofs.Common.{◌≡◌, ℕ, ◌+◌, ◌-◌, ◌*◌, List, length, max, min}
+use Rattle.std.proofs.Common.{◌≡◌, ◌+◌, ◌-◌, ◌*◌, length, max, min}
 use Rattle.shadow_volume.specs.Standing.{IsAlive, seen}
 use Rattle.obj_store.specs.Words.{HoldsPut}
 use Rattle.obj_store.specs.Staging.{Stages, Turns, Marks}

@@ -14,7 +14,7 @@ pub returns-clause-stands : goal.returns-clause-stands
 returns-clause-stands g c bytes cs frame i of names world =
     constant-stands c.args.sw.now c.constant-given.new.sw (g.V.Vault.outside c.args.vault.now)
     (g.V.Vault.outside c.constant-given.new.vault) c.args.code c.args.index
-    bytes cs frame c.constant-given.result c.sound.ensures c.sound-2.ensures c.requires.empty c.constant-given.ensures.given i of names world
+    bytes cs frame c.constant-given.result c.sound.ensures c.constant-given.ensures.given i of names world
 
 pub returns-clause-leaves : goal.returns-clause-leaves
 returns-clause-leaves g c =

@@ -1,5 +1,4 @@
 use Rattle.swizzle.specs.Text.{text_at}
-use Rattle.paired_ops.proofs.WorldLaws.{still-empty}
 use Rattle.paired_ops.proofs.ValueLaws.{text-denoted}
 use Rattle.paired_ops.proofs.ClassLaws.{answers-field, gets-leaves}
 use Rattle.paired_ops.proofs.structures.get_field.Goals as goal
@@ -9,11 +8,9 @@ returns-clause-got g c of names text n o world dc d is =
     let before = g.V.Vault.outside c.args.vault.now in
     let after = g.V.Vault.outside c.get_field-got.new.vault in
     let got = c.get_field-got.ensures.got in
-    let leaves = gets-leaves c.args.sw.now c.get_field-got.new.sw before after c.args.object
-    (text_at c.args.sw.now c.args.class) c.args.located c.get_field-got.result got in
     answers-field c.args.sw.now c.get_field-got.new.sw before after of names c.args.object
     (text_at c.args.sw.now c.args.class) text n o c.args.located c.get_field-got.result
-    c.sound.ensures c.sound-2.ensures c.requires.empty (still-empty before after leaves c.requires.empty) world
+    c.sound.ensures c.sound-2.ensures world
     (text-denoted c.args.sw.now names c.args.class text c.sound.ensures dc).bytes_are d is got
 
 pub returns-clause-leaves : goal.returns-clause-leaves

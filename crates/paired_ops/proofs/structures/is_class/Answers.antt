@@ -6,9 +6,8 @@ use Rattle.heap_places.proofs.TouchedLaws.{kinds-same, kinds-differ}
 use Rattle.heap_ops.specs.Structures.{TellsClass}
 use Rattle.ps_meaning.specs.Objects.{is_class}
 use Rattle.paired_ops.specs.World.{DenotesIn}
-use Rattle.paired_ops.proofs.WorldLaws.{still-empty}
 use Rattle.paired_ops.proofs.ValueLaws.{text-denoted}
-use Rattle.paired_ops.proofs.ClassLaws.{told-ok, told-fault, class-leaves, none-value, other-value}
+use Rattle.paired_ops.proofs.ClassLaws.{told-ok, told-fault, none-value, other-value}
 use Rattle.paired_ops.proofs.ReadLaws.{nothing-done}
 use Rattle.paired_ops.proofs.structures.is_class.Goals as goal
 
@@ -37,9 +36,7 @@ returns-in-Ok-clause-told g c of names text o world dc d =
     let after = g.V.Vault.outside c.is_class-told.new.vault in
     let mine = subst (λ (x : Option ℕ). DenotesIn old names x o) c.in-Some.is d in
     let kind = kinds-same (header_at old at).kind Structure (sym c.is_kind.ensures ∙ c.if-not-is_kind.false) in
-    let leaves = class-leaves old new before after at (text_at old c.args.class) (Ok c.in-Ok.is') c.in-Ok.ensures.told in
-    told-ok old new before after of names at text o c.in-Ok.is' c.sound.ensures c.sound-2.ensures c.requires.empty
-    (still-empty before after leaves c.requires.empty) world kind mine
+    told-ok old new before after of names at text o c.in-Ok.is' c.sound.ensures c.sound-2.ensures world kind mine
     (subst (λ (t : List ℕ). TellsClass old new before after (Some at) t (Ok c.in-Ok.is'))
     (text-denoted old names c.args.class text c.sound.ensures dc).bytes_are c.in-Ok.ensures.told)
 

@@ -1,5 +1,4 @@
 use Rattle.swizzle.specs.Text.{text_at}
-use Rattle.paired_ops.proofs.WorldLaws.{still-empty}
 use Rattle.paired_ops.proofs.ValueLaws.{text-denoted}
 use Rattle.paired_ops.proofs.FormLaws.{form-fits}
 use Rattle.paired_ops.proofs.FieldLaws.{writes-field, sets-leaves}
@@ -14,11 +13,8 @@ returns-clause-set g c of names text n o v world dc d is for =
     let new = c.set_field-set.new.sw in
     let before = g.V.Vault.outside c.args.vault.now in
     let after = g.V.Vault.outside c.set_field-set.new.vault in
-    let leaves = sets-leaves old new before after c.args.object
-    (text_at old c.args.class) c.args.located c.args.to c.set_field-set.result c.set_field-set.ensures.set in
     writes-field old new before after of names c.args.object
-    (text_at old c.args.class) text n o c.args.located c.args.to v c.set_field-set.result c.sound.ensures c.sound-2.ensures
-    c.requires.empty (still-empty before after leaves c.requires.empty) world
+    (text_at old c.args.class) text n o c.args.located c.args.to v c.set_field-set.result c.sound.ensures c.sound-2.ensures world
     (text-denoted old names c.args.class text c.sound.ensures dc).bytes_are d is c.requires.form for c.set_field-set.ensures.set
 
 pub returns-clause-leaves : goal.returns-clause-leaves

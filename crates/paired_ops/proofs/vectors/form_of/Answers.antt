@@ -1,6 +1,5 @@
 use Rattle.std.proofs.Common.{ap, ◌∙◌}
 use Rattle.text_forms.specs.Forms.{element_of}
-use Rattle.paired_ops.proofs.WorldLaws.{still-empty}
 use Rattle.paired_ops.proofs.ValueLaws.{vector-denoted}
 use Rattle.paired_ops.proofs.ReadLaws.{vector-at}
 use Rattle.paired_ops.proofs.ElementLaws.{form-told, form-fault}
@@ -13,8 +12,7 @@ returns-in-Ok-clause-told g c of names id world d =
     let before = g.V.Vault.outside c.args.vault.now in
     let after = g.V.Vault.outside c.first_text-touched.new.vault in
     let t = c.in-Ok.ensures.touched in
-    form-told old new before after of names c.args.vector id c.in-Ok.text c.element_form.result c.sound-2.ensures c.requires.empty
-    (still-empty before after t.reads.outside c.requires.empty) world
+    form-told old new before after of names c.args.vector id c.in-Ok.text c.element_form.result c.sound-2.ensures world
     (vector-at old of names c.args.vector id c.sound.ensures world (vector-denoted old names c.args.vector id c.sound.ensures d)) t
     (c.element_form.ensures ∙ ap element_of c.text.ensures.value)
 

@@ -1,6 +1,5 @@
 use Rattle.std.proofs.Common.{w32}
 use Rattle.std.proofs.lemmas.Int.{to_z-of_z}
-use Rattle.paired_ops.proofs.WorldLaws.{still-empty}
 use Rattle.paired_ops.proofs.ValueLaws.{vector-denoted}
 use Rattle.paired_ops.proofs.ReadLaws.{vector-at}
 use Rattle.paired_ops.proofs.ElementLaws.{answers-element, element-leaves}
@@ -12,10 +11,8 @@ returns-clause-got g c of names id world d =
     let new = c.get_element-got.new.sw in
     let before = g.V.Vault.outside c.args.vault.now in
     let after = g.V.Vault.outside c.get_element-got.new.vault in
-    let leaves = element-leaves old new before after c.args.vector _ c.get_element-got.result c.get_element-got.ensures.got in
     answers-element old new before after of names c.args.vector id c.args.at _ c.get_element-got.result
-    (to_z-of_z w32 c.args.at c.ranges.at) c.sound.ensures c.sound-2.ensures c.requires.empty
-    (still-empty before after leaves c.requires.empty) world
+    (to_z-of_z w32 c.args.at c.ranges.at) c.sound.ensures c.sound-2.ensures world
     (vector-at old of names c.args.vector id c.sound.ensures world
     (vector-denoted old names c.args.vector id c.sound.ensures d)) c.get_element-got.ensures.got
 

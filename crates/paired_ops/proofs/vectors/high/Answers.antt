@@ -1,10 +1,8 @@
-use Rattle.std.specs.Prelude.{Ok, Err}
 use Rattle.ps_meaning.specs.Values.{Vector}
 use Rattle.ps_meaning.specs.Objects.{high_of}
-use Rattle.paired_ops.proofs.WorldLaws.{still-empty}
 use Rattle.paired_ops.proofs.ValueLaws.{vector-denoted}
 use Rattle.paired_ops.proofs.ReadLaws.{vector-at}
-use Rattle.paired_ops.proofs.ElementLaws.{high-told, high-int, bound-told, no-vector_fault, high-leaves}
+use Rattle.paired_ops.proofs.ElementLaws.{high-told, high-int, bound-told, no-vector_fault}
 use Rattle.paired_ops.proofs.vectors.high.Goals as goal
 
 pub returns-in-Ok-clause-told : goal.returns-in-Ok-clause-told
@@ -14,10 +12,8 @@ returns-in-Ok-clause-told g c of names id world d =
     let before = g.V.Vault.outside c.args.vault.now in
     let after = g.V.Vault.outside c.high-told.new.vault in
     let v = vector-at old of names c.args.vector id c.sound.ensures world (vector-denoted old names c.args.vector id c.sound.ensures d) in
-    let leaves = high-leaves old new before after c.args.vector (Ok c.in-Ok.high) c.in-Ok.ensures.told in
     bound-told new old of names c.in-Ok.high (high_of of (Vector id)) (high-int old of names c.args.vector id v)
-    (high-told old new before after of names c.args.vector id c.in-Ok.high c.sound-2.ensures c.requires.empty
-    (still-empty before after leaves c.requires.empty) world v c.in-Ok.ensures.told)
+    (high-told old new before after of names c.args.vector id c.in-Ok.high c.sound-2.ensures world v c.in-Ok.ensures.told)
 
 pub returns-in-Err-clause-told : goal.returns-in-Err-clause-told
 returns-in-Err-clause-told g c of names id world d =
@@ -26,6 +22,4 @@ returns-in-Err-clause-told g c of names id world d =
     let before = g.V.Vault.outside c.args.vault.now in
     let after = g.V.Vault.outside c.high-told.new.vault in
     let v = vector-at old of names c.args.vector id c.sound.ensures world (vector-denoted old names c.args.vector id c.sound.ensures d) in
-    no-vector_fault old new before after of names c.args.vector id c.in-Err.fault c.sound.ensures c.sound-2.ensures
-    (still-empty before after
-    (high-leaves old new before after c.args.vector (Err c.in-Err.fault) c.in-Err.ensures.told) c.requires.empty) v c.in-Err.ensures.told.1
+    no-vector_fault old new before after of names c.args.vector id c.in-Err.fault c.sound.ensures c.sound-2.ensures v c.in-Err.ensures.told.1

@@ -1,10 +1,8 @@
-use Rattle.std.specs.Prelude.{Ok, Err}
 use Rattle.ps_meaning.specs.Values.{Vector}
 use Rattle.ps_meaning.specs.Objects.{low_of}
-use Rattle.paired_ops.proofs.WorldLaws.{still-empty}
 use Rattle.paired_ops.proofs.ValueLaws.{vector-denoted}
 use Rattle.paired_ops.proofs.ReadLaws.{vector-at}
-use Rattle.paired_ops.proofs.ElementLaws.{low-told, low-int, bound-told, no-vector_fault, low-leaves}
+use Rattle.paired_ops.proofs.ElementLaws.{low-told, low-int, bound-told, no-vector_fault}
 use Rattle.paired_ops.proofs.vectors.low.Goals as goal
 
 pub returns-in-Ok-clause-told : goal.returns-in-Ok-clause-told
@@ -14,9 +12,8 @@ returns-in-Ok-clause-told g c of names id world d =
     let before = g.V.Vault.outside c.args.vault.now in
     let after = g.V.Vault.outside c.low-told.new.vault in
     let v = vector-at old of names c.args.vector id c.sound.ensures world (vector-denoted old names c.args.vector id c.sound.ensures d) in
-    let leaves = low-leaves old new before after c.args.vector (Ok c.in-Ok.low) c.in-Ok.ensures.told in
     bound-told new old of names c.in-Ok.low (low_of of (Vector id)) (low-int old of names c.args.vector id v)
-    (low-told old new before after of names c.args.vector id c.in-Ok.low c.sound-2.ensures c.requires.empty world v c.in-Ok.ensures.told)
+    (low-told old new before after of names c.args.vector id c.in-Ok.low world v c.in-Ok.ensures.told)
 
 pub returns-in-Err-clause-told : goal.returns-in-Err-clause-told
 returns-in-Err-clause-told g c of names id world d =
@@ -25,6 +22,4 @@ returns-in-Err-clause-told g c of names id world d =
     let before = g.V.Vault.outside c.args.vault.now in
     let after = g.V.Vault.outside c.low-told.new.vault in
     let v = vector-at old of names c.args.vector id c.sound.ensures world (vector-denoted old names c.args.vector id c.sound.ensures d) in
-    no-vector_fault old new before after of names c.args.vector id c.in-Err.fault c.sound.ensures c.sound-2.ensures
-    (still-empty before after
-    (low-leaves old new before after c.args.vector (Err c.in-Err.fault) c.in-Err.ensures.told) c.requires.empty) v c.in-Err.ensures.told.1
+    no-vector_fault old new before after of names c.args.vector id c.in-Err.fault c.sound.ensures c.sound-2.ensures v c.in-Err.ensures.told.1

@@ -1,6 +1,5 @@
 use Rattle.std.proofs.Common.{w32}
 use Rattle.std.proofs.lemmas.Int.{to_z-of_z}
-use Rattle.paired_ops.proofs.WorldLaws.{still-empty}
 use Rattle.paired_ops.proofs.ValueLaws.{vector-denoted}
 use Rattle.paired_ops.proofs.ReadLaws.{vector-at}
 use Rattle.paired_ops.proofs.ElementLaws.{writes-element, put-leaves}
@@ -12,10 +11,8 @@ returns-clause-set g c of names id v world d form for =
     let new = c.set_element-set.new.sw in
     let before = g.V.Vault.outside c.args.vault.now in
     let after = g.V.Vault.outside c.set_element-set.new.vault in
-    let leaves = put-leaves old new before after c.args.vector _ c.args.to c.set_element-set.result c.set_element-set.ensures.set in
     writes-element old new before after of names c.args.vector id c.args.at _ c.args.to v c.set_element-set.result
-    (to_z-of_z w32 c.args.at c.ranges.at) c.sound.ensures c.sound-2.ensures c.requires.empty
-    (still-empty before after leaves c.requires.empty) world
+    (to_z-of_z w32 c.args.at c.ranges.at) c.sound.ensures c.sound-2.ensures world
     (vector-at old of names c.args.vector id c.sound.ensures world
     (vector-denoted old names c.args.vector id c.sound.ensures d)) form for c.set_element-set.ensures.set
 

@@ -5,7 +5,7 @@ use Rattle.paired_procedures.proofs.procedure.code_of.Goals as goal
 pub returns-clause-told : goal.returns-clause-told
 returns-clause-told g c of names u within world d =
     answers-code c.args.sw.now c.code_of-told.new.sw (g.V.Vault.outside c.args.vault.now) (g.V.Vault.outside c.code_of-told.new.vault) of names
-    c.args.procedure u within c.sound.ensures c.sound-2.ensures c.requires.empty world
+    c.args.procedure u within c.sound.ensures c.sound-2.ensures world
     (procedure-denoted c.args.sw.now names c.args.procedure u within c.sound.ensures d) c.code_of-told.result c.code_of-told.ensures.told
 
 pub returns-clause-leaves : goal.returns-clause-leaves

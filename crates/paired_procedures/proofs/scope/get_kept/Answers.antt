@@ -1,6 +1,5 @@
 use Rattle.swizzle.proofs.ReadingLaws.{leaves-then}
 use Rattle.scopes.proofs.NameLaws.{so-kept}
-use Rattle.paired_ops.proofs.WorldLaws.{still-empty}
 use Rattle.paired_procedures.proofs.KeptLaws.{no-scope, gets-kept, get-leaves}
 use Rattle.paired_procedures.proofs.scope.get_kept.Goals as goal
 
@@ -14,11 +13,10 @@ get_kept-got-requires-clause-so g c =
 
 pub returns-clause-got : goal.returns-clause-got
 returns-clause-got g c of names within world d =
-    let start = g.V.Vault.outside c.args.vault.now in
     let before = g.V.Vault.outside c.scope_out.new.vault in
     let after = g.V.Vault.outside c.get_kept-got.new.vault in
     gets-kept c.args.sw.now c.scope_out.new.sw c.get_kept-got.new.sw before after of names within c.args.up c.in-Ok.at c.args.name
-    c.sound.ensures c.sound-2.ensures (still-empty start before c.in-Ok.ensures.leaves c.requires.empty)
+    c.sound.ensures c.sound-2.ensures
     (c.in-Ok.ensures.out of names within world d) c.get_kept-got.result c.get_kept-got.ensures.got
 
 pub returns-clause-leaves : goal.returns-clause-leaves

@@ -4,7 +4,7 @@ use Rattle.paired_procedures.proofs.scope.parent_of.Goals as goal
 pub returns-clause-told : goal.returns-clause-told
 returns-clause-told g c of names within world d =
     answers-parent c.args.sw.now c.parent_of-told.new.sw (g.V.Vault.outside c.args.vault.now) (g.V.Vault.outside c.parent_of-told.new.vault) of names
-    c.args.scope within c.parent_of-told.result c.sound.ensures c.sound-2.ensures c.requires.empty world
+    c.args.scope within c.parent_of-told.result c.sound.ensures world
     (scope-denoted c.args.sw.now of names c.args.scope within c.sound.ensures world d) c.parent_of-told.ensures.told
 
 pub returns-clause-leaves : goal.returns-clause-leaves

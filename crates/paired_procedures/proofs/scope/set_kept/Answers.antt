@@ -2,7 +2,6 @@ use Rattle.swizzle.proofs.ReadingLaws.{leaves-then}
 use Rattle.heap_ops.proofs.ClassLaws.{stands-kept}
 use Rattle.heap_ops.proofs.VectorLaws.{near-kept}
 use Rattle.scopes.proofs.NameLaws.{so-kept}
-use Rattle.paired_ops.proofs.WorldLaws.{still-empty}
 use Rattle.paired_procedures.proofs.KeptLaws.{no-scope, out-carries, sets-kept, set-leaves, stand-then}
 use Rattle.paired_procedures.proofs.scope.set_kept.Goals as goal
 
@@ -20,12 +19,11 @@ set_kept-set-requires-clause-near g c = near-kept c.args.sw.now c.scope_out.new.
 
 pub returns-clause-set : goal.returns-clause-set
 returns-clause-set g c of names within v world d int for =
-    let start = g.V.Vault.outside c.args.vault.now in
     let before = g.V.Vault.outside c.scope_out.new.vault in
     let after = g.V.Vault.outside c.set_kept-set.new.vault in
     let out = c.in-Ok.ensures.out of names within world d in
     sets-kept c.args.sw.now c.scope_out.new.sw c.set_kept-set.new.sw before after of names within c.args.up c.in-Ok.at c.args.name
-    c.sound.ensures c.sound-2.ensures (still-empty start before c.in-Ok.ensures.leaves c.requires.empty)
+    c.sound.ensures c.sound-2.ensures
     out c.args.to v c.set_kept-set.result int
     (out-carries c.args.sw.now c.scope_out.new.sw of names within c.args.up c.in-Ok.at c.args.to v out for) c.set_kept-set.ensures.set
 

@@ -17,7 +17,7 @@ returns-in-Ok-clause-why g c =
     (Rose (g.S.Shelf.faults shelf) (g.S.Shelf.faults c.text.new.self)) run input program.0 c.run_program.result.0 program.2
     (input_given (g.S.Shelf.holds shelf) (g.S.Shelf.lacks shelf) run.input c.args.name.now input c.requires.name
     (record { there = λ lacking. not_failed c.text.result c.in-Ok.field-0 c.in-Ok.is (c.text.ensures.lacking lacking); given = c.in-Ok.ensures.given; short = short }))
-    (c.run_program.ensures.why program.0 program.1) c.run_program.ensures.device
+    (c.run_program.ensures.why program.0 program.1)
 
 pub returns-in-Err-clause-why : goal.returns-in-Err-clause-why
 returns-in-Err-clause-why g c =

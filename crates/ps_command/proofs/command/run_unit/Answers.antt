@@ -15,4 +15,4 @@ returns-in-None-clause-why g c =
     why_ran (host.outside c.args.host) (host.outside c.run_program.result.1) (g.S.Shelf.holds shelf) (g.S.Shelf.lacks shelf)
     (Rose (g.S.Shelf.faults shelf) (g.S.Shelf.faults shelf)) run c.new.result.items program.0 c.run_program.result.0 program.2
     (no_input_given (g.S.Shelf.holds shelf) (g.S.Shelf.lacks shelf) run.input c.new.result.items (ap (option_map (λ name. name.now)) c.in-None.is) none)
-    (c.run_program.ensures.why program.0 program.1) c.run_program.ensures.device
+    (c.run_program.ensures.why program.0 program.1)

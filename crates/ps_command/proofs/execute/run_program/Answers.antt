@@ -1,21 +1,24 @@
 use Rattle.ps_words.specs.Reading.{run_in}
-use Rattle.ps_volumes.proofs.Settled.{device_kept, kept_by, settled_by}
+use Rattle.ps_volumes.proofs.Settled.{volume_kept}
 use Rattle.ps_causes.specs.Steps as steps
 use Rattle.ps_command.proofs.Ending.{run_behind}
 use Rattle.ps_command.proofs.execute.run_program.Goals as goal
 
-pub returns-in-Ok-attached-clause-why : goal.returns-in-Ok-attached-clause-why
-returns-in-Ok-attached-clause-why g c program r =
-    let host = g.H.Host in
-    let old = host.outside c.args.host in
-    let mid = host.outside c.in-Ok-attached.host in
-    let new = host.outside c.run_attached.result.1 in
-    let is = c.in-Ok-attached.ensures.ok in
-    steps.ran (run_behind old mid new (run_in c.args.words.now) c.args.input.items program c.run_attached.result.0 is.told is.output (c.run_attached.ensures.ran program r))
-    (settled_by old mid new is c.run_attached.ensures.left)
+pub run_attached-requires-clause-alive : goal.run_attached-requires-clause-alive
+run_attached-requires-clause-alive g c = c.in-Ok-attached.ensures.ok.live
 
-pub returns-in-Ok-attached-clause-device : goal.returns-in-Ok-attached-clause-device
-returns-in-Ok-attached-clause-device g c =
-    let host = g.H.Host in
-    kept_by (host.outside c.args.host) (host.outside c.in-Ok-attached.host) (host.outside c.run_attached.result.1) c.in-Ok-attached.ensures.ok c.run_attached.ensures.left
-    (g.met.H.Host.is_image c.run_attached.result.1)
+pub returns-in-Ok-attached : goal.returns-in-Ok-attached
+returns-in-Ok-attached g c =
+    let o = g.H.Host.outside in
+    let old = o c.args.host in
+    let store = c.in-Ok-attached.store in
+    let back = c.run_attached.result.1 in
+    let is = c.in-Ok-attached.ensures.ok in
+    let run = run_in c.args.words.now in
+    let input = c.args.input.items in
+    let status = c.run_attached.result.0 in
+    record {
+      why = λ program r. steps.ran
+          (run_behind old (o store.host) (o back) run input program status is.looks.told is.looks.output (c.run_attached.ensures.ran program r))
+          (volume_kept o old store (o back) is c.run_attached.ensures.left (g.met.H.Host.is_image back));
+    }

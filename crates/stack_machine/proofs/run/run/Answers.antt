@@ -1,4 +1,4 @@
-use Rattle.stack_machine.proofs.Between.{between_none, between_more, between_fails, between_ends, between_full, between_stuck, no_room_told, comes_nearer, holds_on, vault_empty}
+use Rattle.stack_machine.proofs.Between.{between_none, between_more, between_fails, between_ends, between_full, between_stuck, no_room_told, comes_nearer, holds_on}
 use Rattle.stack_machine.proofs.run.run.Goals as goal
 
 pub loop-vault-init : goal.loop-vault-init
@@ -6,7 +6,6 @@ loop-vault-init g c = record {
   between = between_none (g.V.Vault.outside c.args.vault.now) c.args.output.now c.args.m.now c.requires.sound;
   holding = c.requires.holding;
   alive = c.requires.alive;
-  empty = c.requires.empty;
 }
 
 pub loop-vault-smaller : goal.loop-vault-smaller
@@ -21,7 +20,6 @@ loop-vault-preserved g c =
       between = between_more (outside c.args.vault.now) (outside c.loop-vault.vault) (outside c.advance-advanced.new.vault) c.args.output.now c.loop-vault.output c.advance-advanced.new.output c.args.m.now c.loop-vault.m c.advance-advanced.new.m c.loop-vault.invariant.between c.in-On.ensures.advances;
       holding = holds_on (outside c.loop-vault.vault) (outside c.advance-advanced.new.vault) c.loop-vault.output c.advance-advanced.new.output c.loop-vault.m c.advance-advanced.new.m c.loop-vault.invariant.holding c.in-On.ensures.advances;
       alive = c.in-On.ensures.alive;
-      empty = vault_empty (outside c.loop-vault.vault) (outside c.advance-advanced.new.vault) c.loop-vault.output c.advance-advanced.new.output c.loop-vault.m c.advance-advanced.new.m c.loop-vault.invariant.holding c.in-On.ensures.advances c.loop-vault.invariant.empty;
     }
 
 pub returns-in-Ended-clause-ran : goal.returns-in-Ended-clause-ran

@@ -1,5 +1,4 @@
 -- Between two steps: what has happened so far was told, but for what is owed.
-use Rattle.paired_ops.specs.World.{IsEmpty}
 use Rattle.machine_state.specs.Holding.{IsHolding}
 use Rattle.stack_machine.proofs.Between.{IsBetween, left_of}
 use Rattle.stack_machine.proofs.run.run.Given as goal
@@ -11,7 +10,6 @@ invariant-loop-vault g l =
       between : IsBetween (vault.outside l.initial.vault) (vault.outside l.vault) l.initial.output l.output l.initial.m l.m;
       holding : IsHolding l.m;
       alive : vault.alive l.vault;
-      empty : IsEmpty (vault.outside l.vault);
     }
 
 abbrev pub decreases-loop-vault : goal.decreases-loop-vault

@@ -1,9 +1,5 @@
-use Rattle.std.proofs.Common.{arith}
 use Rattle.heap_ops.proofs.LayoutLaws.{held-from}
 use Rattle.heap_ops.proofs.layouts.Layouts.locate.Goals as goal
 
 pub known-requires : goal.known-requires
 known-requires c = (held-from c.args.sw.now c.args.class c.sound.ensures c.requires.held).0
-
-pub locate-requires : goal.locate-requires
-locate-requires c = omega (arith, c.text.ensures.len, (held-from c.args.sw.now c.args.class c.sound.ensures c.requires.held).1)

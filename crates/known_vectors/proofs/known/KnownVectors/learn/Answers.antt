@@ -1,5 +1,4 @@
 use Rattle.std.proofs.Common.{refl}
-use Rattle.paired_ops.proofs.WorldLaws.{still-empty}
 use Rattle.known_vectors.proofs.Access.{the-vector, learned, never-unread}
 use Rattle.known_vectors.proofs.Lasting.{all-same}
 use Rattle.known_vectors.proofs.Entries.{all-stay}
@@ -10,7 +9,6 @@ returns-in-Err-clause-finds g c of names id world denotes so =
     let a = g.V.Vault.outside c.args.vault.now in
     let b = g.V.Vault.outside c.read_shape-read.new.vault in
     never-unread c.args.sw.now c.read_shape-read.new.sw a b of names c.args.vector id c.in-Err.fault c.sound.ensures c.sound-2.ensures
-    (still-empty a b c.in-Err.ensures.read.0.outside c.requires.empty)
     (the-vector c.args.sw.now of names c.args.vector id c.sound.ensures world denotes) c.in-Err.ensures.read
 
 pub returns-clause-finds : goal.returns-clause-finds
@@ -19,7 +17,6 @@ returns-clause-finds g c of names id world denotes so =
     let new = c.read_shape-read.new.sw in
     let a = g.V.Vault.outside c.args.vault.now in
     let b = g.V.Vault.outside c.read_shape-read.new.vault in
-    let l = learned old new a b of names c.args.vector id c.in-Ok.shape c.sound-2.ensures c.requires.empty
-    (still-empty a b c.in-Ok.ensures.read.1.reads.outside c.requires.empty) world
+    let l = learned old new a b of names c.args.vector id c.in-Ok.shape c.sound-2.ensures world
     (the-vector old of names c.args.vector id c.sound.ensures world denotes) c.in-Ok.ensures.read in
     (refl, l.0, l.1, c.keep.ensures new of names (all-stay old new of of names names 0 l.1.carries (all-same of) c.args.self.now.entries.items so) (record { id = id; denotes = l.1.carries.values _ _ denotes; is = l.0 }))

@@ -1,9 +1,7 @@
-use Rattle.std.proofs.Common.{◌≡◌, ℕ, ◌+◌, ◌^◌, ◌<◌, ◌≤◌, List, length, Ok, Err, sym, subst, ◌∙◌, ap, arith, Result}
+use Rattle.std.proofs.Common.{◌≡◌, ℕ, ◌+◌, ◌<◌, ◌≤◌, length, Ok, Err, sym, subst, ◌∙◌, ap, arith}
 use Rattle.shadow_volume.specs.Layout.{capacity_of}
 use Rattle.shadow_volume.specs.declared.note.Committed.{Committed}
-use Rattle.obj_layout.specs.declared.vault.VaultFault.{VaultFault}
-use Rattle.obj_layout.specs.declared.vault.VaultFault.TheVariants.{Full}
-use Rattle.obj_layout.specs.Storing.{IsStoreCall, writing}
+use Rattle.obj_layout.specs.Storing.{IsStagingCall, writing}
 use Rattle.obj_store.specs.Spaces.{spaces}
 use Rattle.obj_store.specs.Store.{Store, outside_of, used_of, most_of}
 use Rattle.obj_store.specs.StoreLaws.{used_is, most_is, order_low}
@@ -43,7 +41,7 @@ returns-in-Ok-clause-call g c =
     let used = c.self.inside.used in
     let next = used + length c.args.words.now in
     let most = writing (length c.args.words.now) in
-    subst (λ (s : Store g.row.H.Denot). IsStoreCall {T = ℕ} (outside_of o s) (spaces next z.committed z.staged.items (o z.host)) most (Ok used)) c.self.view_is
+    subst (λ (s : Store g.row.H.Denot). IsStagingCall {T = ℕ} (outside_of o s) (spaces next z.committed z.staged.items (o z.host)) most (Ok used)) c.self.view_is
     (store_call {T = ℕ} used next most v.committed z.committed v.staged.items z.staged.items (o v.host) (o z.host) c.append_at.ensures.stages used)
 
 pub returns-in-Err-clause-call : goal.returns-in-Err-clause-call
@@ -54,7 +52,7 @@ returns-in-Err-clause-call g c =
     let used = c.self.inside.used in
     let count = length c.args.words.now in
     let most = writing count in
-    subst (λ (s : Store g.row.H.Denot). IsStoreCall {T = ℕ} (outside_of o s) (spaces used z.committed z.staged.items (o z.host)) most (Err c.in-Err.fault)) c.self.view_is
+    subst (λ (s : Store g.row.H.Denot). IsStagingCall {T = ℕ} (outside_of o s) (spaces used z.committed z.staged.items (o z.host)) most (Err c.in-Err.fault)) c.self.view_is
     (append_call {T = ℕ} used used most v.committed z.committed v.staged.items z.staged.items (o v.host) (o z.host) c.append_at.ensures.stages count (capacity_of v.committed.pages) c.in-Err.fault c.in-Err.ensures.fault)
 
 pub returns-in-Err-clause-full : goal.returns-in-Err-clause-full

@@ -1,8 +1,7 @@
-use Rattle.std.proofs.Common.{◌≡◌, ℕ, List, length, take, drop, Some, Err, subst}
+use Rattle.std.proofs.Common.{◌≡◌, length, take, drop, Some, Err, subst}
 use Rattle.obj_layout.specs.Stored.{Space}
 use Rattle.obj_layout.specs.Storing.{TestsObject}
 use Rattle.obj_store.specs.Store.{Store, outside_of}
-use Rattle.obj_store.specs.StoreView.{store_of}
 use Rattle.obj_store.proofs.HeldLaws.{held_words}
 use Rattle.obj_store.proofs.FaultLaws.{tests_fault}
 use Rattle.obj_store.specs.Spaces.{spaces}

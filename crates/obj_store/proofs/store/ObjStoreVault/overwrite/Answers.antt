@@ -1,5 +1,5 @@
-use Rattle.std.proofs.Common.{◌≡◌, ℕ, List, length, Some, Ok, Err, subst}
-use Rattle.obj_layout.specs.Storing.{TestsObject, IsStoreCall, writing}
+use Rattle.std.proofs.Common.{length, Some, Ok, Err, subst}
+use Rattle.obj_layout.specs.Storing.{TestsObject, IsStagingCall, writing}
 use Rattle.obj_store.specs.Spaces.{spaces}
 use Rattle.obj_store.specs.Store.{Store, outside_of}
 use Rattle.obj_store.proofs.FaultLaws.{tests_fault, store_call, object_call}
@@ -12,7 +12,7 @@ returns-in-Ok-clause-call g c =
     let z = c.overwrite_at.new.volume in
     let used = c.self.inside.used in
     let most = writing (length c.args.words.now) in
-    subst (λ (s : Store g.row.H.Denot). IsStoreCall {T = Unit {0}} (outside_of o s) (spaces used z.committed z.staged.items (o z.host)) most (Ok tt)) c.self.view_is
+    subst (λ (s : Store g.row.H.Denot). IsStagingCall {T = Unit {0}} (outside_of o s) (spaces used z.committed z.staged.items (o z.host)) most (Ok tt)) c.self.view_is
     (store_call {T = Unit {0}} used used most v.committed z.committed v.staged.items z.staged.items (o v.host) (o z.host) c.overwrite_at.ensures.stages tt)
 
 pub returns-in-Err-clause-tested : goal.returns-in-Err-clause-tested
@@ -31,5 +31,5 @@ returns-in-Err-clause-call g c =
     let z = c.overwrite_at.new.volume in
     let used = c.self.inside.used in
     let most = writing (length c.args.words.now) in
-    subst (λ (s : Store g.row.H.Denot). IsStoreCall {T = Unit {0}} (outside_of o s) (spaces used z.committed z.staged.items (o z.host)) most (Err c.in-Err.fault)) c.self.view_is
+    subst (λ (s : Store g.row.H.Denot). IsStagingCall {T = Unit {0}} (outside_of o s) (spaces used z.committed z.staged.items (o z.host)) most (Err c.in-Err.fault)) c.self.view_is
     (object_call {T = Unit {0}} used used most v.committed z.committed v.staged.items z.staged.items (o v.host) (o z.host) c.overwrite_at.ensures.stages c.args.pid (Some (length c.args.words.now)) c.in-Err.fault c.in-Err.ensures.fault)

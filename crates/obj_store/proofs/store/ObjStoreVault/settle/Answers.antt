@@ -1,4 +1,4 @@
-use Rattle.std.proofs.Common.{◌≡◌, ℕ, Ok, sym, subst}
+use Rattle.std.proofs.Common.{ℕ, Ok, sym, subst}
 use Rattle.obj_layout.specs.Stored.{directed}
 use Rattle.obj_layout.specs.Storing.{Settles, settling}
 use Rattle.obj_store.specs.Spaces.{spaces}

@@ -1,4 +1,4 @@
-use Rattle.std.proofs.Common.{◌≡◌, ℕ, sym, subst}
+use Rattle.std.proofs.Common.{◌≡◌, sym, subst}
 use Rattle.obj_store.specs.Store.{Store, used_of}
 use Rattle.obj_store.specs.StoreLaws.{used_is}
 use Rattle.obj_store.proofs.store.ObjStoreVault.used.Goals as goal

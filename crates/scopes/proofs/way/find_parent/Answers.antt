@@ -1,5 +1,5 @@
 use Rattle.scopes.proofs.WayLaws.{parent-below, tells}
-use Rattle.scopes.proofs.way.parent_of.Goals as goal
+use Rattle.scopes.proofs.way.find_parent.Goals as goal
 
 pub touch_slot-requires-clause-below : goal.touch_slot-requires-clause-below
 touch_slot-requires-clause-below g c = parent-below c.args.sw.now c.args.scope c.sound.ensures c.requires.held c.in-Ok.ensures
@@ -8,4 +8,4 @@ pub returns-in-Ok-clause-told : goal.returns-in-Ok-clause-told
 returns-in-Ok-clause-told g c =
     let e = c.touch_slot.ensures in
     tells c.args.sw.now c.touch_slot.new.self (g.V.Vault.outside c.args.vault.now) (g.V.Vault.outside c.touch_slot.new.vault) c.args.scope
-    c.touch_slot.result c.in-Ok.ensures e.target e.keeps e.joint e.call e.fault
+    c.touch_slot.result c.in-Ok.ensures e.target e.keeps e.joint (λ near. (e.near near).0) e.call e.fault

@@ -1,0 +1,12 @@
+use Rattle.std.proofs.Common.{refl, arith}
+use Rattle.obj_layout.specs.declared.kind.Kind.TheVariants.{Text}
+use Rattle.program_tests.proofs.volumes.text.Goals as goal
+
+pub returns : goal.returns
+returns c = record {
+  header = record { kind = Text; flags = 0; refs = 0; nums = 2; bytes = 8; pid = 0; chain = 0 };
+  fields = record { flags = omega arith; refs = omega arith; nums = omega arith; bytes = omega arith; pid = omega arith; chain = omega arith };
+  lengths = record { bytes = omega arith; words = omega arith };
+  spelled = refl;
+  long = refl;
+}
