@@ -1,0 +1,12 @@
+//! Tables of tests that stand in files: their rows, and the report of what the rows come to.
+//!
+//! A file begins with a note of what it is for. Each row begins with a line `=== HEAD`, and behind it stand its fields, one after the
+//! other, with a line `---` between two. A field is the bytes of its lines without the end of the last one, so what ends with the end
+//! of a line is written with an empty line behind it.
+#![tactic(auto)]
+
+pub mod report;
+pub mod row;
+
+pub use report::Report;
+pub use row::{Row, rows_of};
