@@ -83,22 +83,6 @@ pub fn assert_reads(
     Ok(())
 }
 
-/// Over a shelf with this text under `x.ps`, the words and `x.ps` get this told, and this status.
-pub fn assert_text_told(
-    rt: &impl Abort,
-    alloc: Global,
-    words: &[&str],
-    text: &str,
-    told: &str,
-    wanted: u8,
-) -> Result<(), Fail> {
-    let words = words_of(alloc, words, "x.ps")?;
-    let (status, host) = answer(alloc, &words, text.as_bytes(), &[])?;
-    assert_eq!(rt; host.told_bytes(), told.as_bytes(), "{text}");
-    assert_eq!(rt; status, wanted, "{text}");
-    Ok(())
-}
-
 // So many declarations, joined by `;`.
 fn declarations(alloc: Global, count: usize) -> Result<Vec<u8>, AllocError> {
     let mut text = Vec::new(alloc);

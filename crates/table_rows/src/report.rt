@@ -1,5 +1,6 @@
 use crate::row::Row;
 use std::alloc::{AllocError, Global};
+use std::io::Error;
 
 /// What the rows of tables came to: how many hold, and a text that says of each other one what was found in place of what.
 #[derive(Drop)]
@@ -38,6 +39,17 @@ impl Report {
         self.say(b"\n-- wanted:\n")?;
         self.say(wanted)?;
         self.say(b"\n")
+    }
+
+    /// Prints how many rows hold, and what was found of each other one.
+    pub fn tell(&self, rt: &impl Print) -> Result<(), Error> {
+        println!(rt; "{} rows hold", self.held)?;
+        if let Ok(others) = str::from_utf8(&self.others) {
+            print!(rt; "{}", others)?;
+        } else {
+            println!(rt; "others don't, and what was found of one is no text")?;
+        }
+        Ok(())
     }
 
     /// How many rows hold.

@@ -1,0 +1,70 @@
+//! Programs: what each tells, and its status. Goes through the tables of its files, and tells how many rows hold, and of each other
+//! one what was found.
+//!
+//! The head of a row is the status, and the words of the command before the program's name, which is `x.ps`. Its fields are the
+//! program, what is told, and the input `in`, where there is one. The volume is a new one of 32 pages.
+#![tactic(auto)]
+
+mod answer;
+
+use answer::Commands;
+use anyhow::Result;
+use ps_port::{DirShelf, Shelf};
+use table_rows::{Report, rows_of};
+
+const FILES: [&str; 36] = [
+    "ints.rows",
+    "bools.rows",
+    "widths.rows",
+    "blocks.rows",
+    "choices.rows",
+    "loops.rows",
+    "order.rows",
+    "order_of_traps.rows",
+    "turns.rows",
+    "areas.rows",
+    "strings.rows",
+    "parts.rows",
+    "comparing.rows",
+    "made_strings.rows",
+    "vectors.rows",
+    "elements.rows",
+    "structures.rows",
+    "classes.rows",
+    "shared_objects.rows",
+    "calls.rows",
+    "recursion.rows",
+    "procedure_values.rows",
+    "closures.rows",
+    "traps_in_calls.rows",
+    "turns_of_calls.rows",
+    "areas_of_calls.rows",
+    "lines.rows",
+    "no_input.rows",
+    "words_of_inputs.rows",
+    "lines_of_bounds.rows",
+    "lines_of_pointers.rows",
+    "lines_of_strings.rows",
+    "lines_of_traps.rows",
+    "refused.rows",
+    "refused_procedures.rows",
+    "whole_programs.rows",
+];
+
+fn main(rt: HostRuntime) -> Result<()> {
+    let commands = Commands::new(rt.alloc())?;
+    let mut shelf = DirShelf::new(&rt, rt.alloc())?;
+    let mut report = Report::new(rt.alloc());
+    for file in FILES {
+        let mut table = Vec::new(rt.alloc());
+        if shelf.text(file, &mut table).is_err() {
+            println!(rt; "{}: can't be read", file)?;
+        }
+        for row in rows_of(rt.alloc(), &table)? {
+            let (found, wanted) = (commands.answer(&row)?, commands.wanted(&row)?);
+            report.compare(file, &row, &found, &wanted)?;
+        }
+    }
+    report.tell(&rt)?;
+    Ok(())
+}
