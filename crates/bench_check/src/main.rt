@@ -2,12 +2,15 @@
 //! For the time and the memory that it takes.
 #![tactic(auto)]
 
+ghost use Rattle.std.specs.Prelude.{◌≤◌, length};
+
 use anyhow::Result;
 use ps_base::LONGEST_TEXT;
 use ps_check::check::check;
 use ps_parse::parse;
 use ps_port::{DirShelf, Shelf};
 use ps_scan::scan;
+use ps_tree::rough::Rough;
 use std::alloc::Global;
 use std::env;
 
@@ -49,10 +52,7 @@ fn checked(alloc: Global, text: &[u8]) -> Verdict {
     if text.len() > LONGEST_TEXT {
         return Verdict::NoText;
     }
-    let Ok(tokens) = scan(alloc, text) else {
-        return Verdict::NoTree;
-    };
-    let Ok(rough) = parse(alloc, text, &tokens) else {
+    let Some(rough) = parsed(alloc, text) else {
         return Verdict::NoTree;
     };
     match check(alloc, &rough) {
@@ -65,4 +65,12 @@ fn checked(alloc: Global, text: &[u8]) -> Verdict {
             _ => Verdict::Memory,
         },
     }
+}
+
+// The tree of the text; its tokens are let go.
+fn parsed(alloc: Global, text: &[u8]) -> Option<Rough>
+    requires { length text.now ≤ LONGEST_TEXT }
+{
+    let tokens = scan(alloc, text).ok()?;
+    parse(alloc, text, &tokens).ok()
 }

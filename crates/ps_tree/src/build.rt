@@ -1,6 +1,7 @@
 ghost use Rattle.std.specs.Prelude.{◌≡◌, ◌∷◌, IfOk, IfErr};
 ghost use Rattle.ps_base.specs.TyView.{ty_view, ty_views};
 ghost use Rattle.ps_base.specs.TyView as view;
+ghost use Rattle.ps_base.specs.List.{items_of};
 ghost use Rattle.ps_tree.specs.declared.fault.ParseFault.TheVariants.{Memory};
 ghost use Rattle.ps_tree.specs.Phrase.{phrase_of, form_of, named, of_type, names_in, group_of, groups_in, arm_of, item_of, at, arm, item};
 ghost use Rattle.ps_tree.specs.Phrase as form;
@@ -66,7 +67,7 @@ pub fn structure_of(
     ensures fault { IfErr result (λ fault. fault ≡ Memory) }
 {
     let name = boxed(alloc, name)?;
-    let fields = List::new(fields);
+    let fields = fitted(fields);
     let form = RoughForm::Structure { name, fields };
     form_at(alloc, form, line)
 }
@@ -144,7 +145,7 @@ pub fn case_of(
     ensures made { IfOk result (λ made. phrase_of made ≡ at (form.Case (phrase_of e) (arms_in arms.items) (phrase_of d)) line) }
     ensures fault { IfErr result (λ fault. fault ≡ Memory) }
 {
-    let arms = boxed(alloc, List::new(arms))?;
+    let arms = boxed(alloc, fitted(arms))?;
     let form = RoughForm::Case { e, arms, d };
     form_at(alloc, form, line)
 }
@@ -153,7 +154,7 @@ pub fn case_of(
 pub fn arm_of(labels: Vec<Rough>, a: Rough) -> RoughArm
     ensures { arm_of result ≡ arm (phrases_in labels.items) (phrase_of a) }
 {
-    let labels = List::new(labels);
+    let labels = fitted(labels);
     RoughArm { labels, a }
 }
 
@@ -168,7 +169,7 @@ pub fn item_of(e: Rough, w: Option<Rough>, line: Line) -> RoughItem
 pub fn group_of(ty: Ty, first: Named, more: Vec<Named>) -> Group
     ensures { group_of result ≡ of_type (ty_view ty) first ∷ names_in (ty_view ty) more.items }
 {
-    let more = List::new(more);
+    let more = fitted(more);
     Group { ty, first, more }
 }
 
@@ -183,7 +184,7 @@ pub fn proc_of(
     ensures made { IfOk result (λ made. phrase_of made ≡ at (form.Proc (groups_in params.items) (ty_view gives) (phrase_of s)) line) }
     ensures fault { IfErr result (λ fault. fault ≡ Memory) }
 {
-    let params = List::new(params);
+    let params = fitted(params);
     let gives = boxed(alloc, gives)?;
     let form = RoughForm::Proc { params, gives, s };
     form_at(alloc, form, line)
@@ -296,7 +297,7 @@ pub fn apply(alloc: Global, f: Rough, args: Vec<Rough>, line: Line) -> Result<Ro
     ensures made { IfOk result (λ made. phrase_of made ≡ at (form.Apply (phrase_of f) (phrases_in args.items)) line) }
     ensures fault { IfErr result (λ fault. fault ≡ Memory) }
 {
-    let args = List::new(args);
+    let args = fitted(args);
     let form = RoughForm::Apply { f, args };
     form_at(alloc, form, line)
 }
@@ -331,7 +332,7 @@ pub fn elems(
     ensures fault { IfErr result (λ fault. fault ≡ Memory) }
 {
     let ty = boxed(alloc, ty)?;
-    let items = List::new(items);
+    let items = fitted(items);
     let form = RoughForm::Elems { l, ty, items };
     form_at(alloc, form, line)
 }
@@ -342,7 +343,7 @@ pub fn sequence(alloc: Global, items: Vec<Rough>, line: Line) -> Result<Rough, P
     ensures fault { IfErr result (λ fault. fault ≡ Memory) }
 {
     let form = RoughForm::Sequence {
-        items: List::new(items),
+        items: fitted(items),
     };
     form_at(alloc, form, line)
 }
@@ -353,7 +354,7 @@ pub fn write_of(alloc: Global, items: Vec<RoughItem>, line: Line) -> Result<Roug
     ensures fault { IfErr result (λ fault. fault ≡ Memory) }
 {
     let form = RoughForm::Write {
-        items: List::new(items),
+        items: fitted(items),
     };
     form_at(alloc, form, line)
 }
@@ -375,4 +376,13 @@ pub fn form_at(alloc: Global, form: RoughForm, line: Line) -> Result<Rough, Pars
 {
     let form = boxed(alloc, form)?;
     Ok(Rough { form, line })
+}
+
+// The list of these items, in no more memory than they need: most lists of a tree have one item or two.
+fn fitted<T>(items: Vec<T>) -> List<T>
+    ensures { items_of result ≡ items.items }
+{
+    let mut items = items;
+    items.shrink_to_fit();
+    List::new(items)
 }

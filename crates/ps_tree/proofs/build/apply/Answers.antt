@@ -9,4 +9,4 @@ use Rattle.ps_tree.proofs.build.apply.Goals as goal
 
 pub returns-clause-made : goal.returns-clause-made
 returns-clause-made c =
-    subst (λ (f : Form). IfOk c.form_at.result (λ (made : Rough). phrase_of made ≡ at f c.args.line)) (form_of-Apply c.args.f c.new-args.result ∙ ap (λ args. form.Apply (phrase_of c.args.f) (phrases_in args)) c.new-args.ensures) c.form_at.ensures.made
+    subst (λ (f : Form). IfOk c.form_at.result (λ (made : Rough). phrase_of made ≡ at f c.args.line)) (form_of-Apply c.args.f c.fitted-args.result ∙ ap (λ args. form.Apply (phrase_of c.args.f) (phrases_in args)) c.fitted-args.ensures) c.form_at.ensures.made

@@ -6,4 +6,4 @@ use Rattle.ps_tree.proofs.build.arm_of.Goals as goal
 
 pub returns : goal.returns
 returns c =
-    arm_of-made c.new-labels.result c.args.a ∙ ap (λ labels. arm (phrases_in labels) (phrase_of c.args.a)) c.new-labels.ensures
+    arm_of-made c.fitted-labels.result c.args.a ∙ ap (λ labels. arm (phrases_in labels) (phrase_of c.args.a)) c.fitted-labels.ensures

@@ -10,4 +10,4 @@ use Rattle.ps_tree.proofs.build.elems.Goals as goal
 
 pub returns-clause-made : goal.returns-clause-made
 returns-clause-made c =
-    subst (λ (f : Form). IfOk c.form_at.result (λ (made : Rough). phrase_of made ≡ at f c.args.line)) (form_of-Elems c.args.l c.in_ok-ty.ty c.new-items.result ∙ ap (λ items. form.Elems (phrase_of c.args.l) (ty_view c.in_ok-ty.ty.value) (phrases_in items)) c.new-items.ensures ∙ ap (λ ty. form.Elems (phrase_of c.args.l) (ty_view ty) (phrases_in c.args.items.items)) c.in_ok-ty.ensures.made) c.form_at.ensures.made
+    subst (λ (f : Form). IfOk c.form_at.result (λ (made : Rough). phrase_of made ≡ at f c.args.line)) (form_of-Elems c.args.l c.in_ok-ty.ty c.fitted-items.result ∙ ap (λ items. form.Elems (phrase_of c.args.l) (ty_view c.in_ok-ty.ty.value) (phrases_in items)) c.fitted-items.ensures ∙ ap (λ ty. form.Elems (phrase_of c.args.l) (ty_view ty) (phrases_in c.args.items.items)) c.in_ok-ty.ensures.made) c.form_at.ensures.made

@@ -9,4 +9,4 @@ use Rattle.ps_tree.proofs.build.write_of.Goals as goal
 
 pub returns-clause-made : goal.returns-clause-made
 returns-clause-made c =
-    subst (λ (f : Form). IfOk c.form_at.result (λ (made : Rough). phrase_of made ≡ at f c.args.line)) (form_of-Write c.new.result ∙ ap (λ items. form.Write (items_in items)) c.new.ensures) c.form_at.ensures.made
+    subst (λ (f : Form). IfOk c.form_at.result (λ (made : Rough). phrase_of made ≡ at f c.args.line)) (form_of-Write c.fitted.result ∙ ap (λ items. form.Write (items_in items)) c.fitted.ensures) c.form_at.ensures.made
