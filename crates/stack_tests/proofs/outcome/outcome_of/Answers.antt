@@ -3,7 +3,7 @@ use Rattle.ps_base.specs.CodeUnit.{unit_view}
 use Rattle.ps_meaning.specs.Runs.{fresh_store}
 use Rattle.ps_stepping.specs.Config.{start}
 use Rattle.stack_machine.specs.Loaded.{Loads, loaded_weight}
-use Rattle.stack_tests.proofs.rows.outcome_of.Goals as goal
+use Rattle.stack_tests.proofs.outcome.outcome_of.Goals as goal
 
 -- A machine that is loaded is at the start of its unit.
 pub run-requires-clause-holding : goal.run-requires-clause-holding

@@ -1,0 +1,61 @@
+use crate::words::{number_of, parted};
+use anyhow::{Result, bail};
+
+/// How a unit is run.
+#[derive(Clone, Copy)]
+pub struct Settings {
+    /// The turns that it has.
+    pub turns: u64,
+    /// The words of the area.
+    pub words: u32,
+    /// The number locals of the program.
+    pub nums: u16,
+    /// Its reference locals.
+    pub refs: u16,
+    /// The call of the host that fails, from 0 on.
+    pub failing: Option<u64>,
+    /// How many bytes of its code the program has.
+    pub cut: Option<u64>,
+}
+
+/// Those that hold where nothing else is given.
+pub const PLAIN: Settings = Settings {
+    turns: 0,
+    words: 8_192,
+    nums: 0,
+    refs: 0,
+    failing: None,
+    cut: None,
+};
+
+impl Settings {
+    /// These, but for those that the words behind the first one of a head set.
+    pub fn changed_by(self, head: &[u8]) -> Result<Settings> {
+        let mut settings = self;
+        let (_, words) = parted(head, b' ');
+        for word in words.split(|byte| *byte == b' ') {
+            if !word.is_empty() {
+                settings.set(word)?;
+            }
+        }
+        Ok(settings)
+    }
+
+    // Sets what a word `NAME=NUMBER` says.
+    fn set(&mut self, word: &[u8]) -> Result<()> {
+        let (name, digits) = parted(word, b'=');
+        let Some(number) = number_of(digits) else {
+            bail!("a setting without its number");
+        };
+        match name {
+            b"turns" => self.turns = number,
+            b"words" => self.words = u32::try_from(number)?,
+            b"nums" => self.nums = u16::try_from(number)?,
+            b"refs" => self.refs = u16::try_from(number)?,
+            b"failing" => self.failing = Some(number),
+            b"cut" => self.cut = Some(number),
+            _ => bail!("no such setting"),
+        }
+        Ok(())
+    }
+}
