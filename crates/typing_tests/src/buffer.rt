@@ -1,8 +1,8 @@
 //! A text that is put together piece by piece.
 
+use anyhow::{Result, ensure};
 use std::alloc::Global;
 use std::fmt::Write;
-use std::test::Fail;
 
 /// The text so far, and whether there was memory for all of it.
 #[derive(Drop)]
@@ -48,11 +48,9 @@ impl Buffer {
     }
 
     /// The text, where there was memory for it.
-    pub fn finish(self) -> Result<String, Fail> {
+    pub fn finish(self) -> Result<String> {
         let Buffer { text, failed } = self;
-        if failed {
-            return Err("memory".into());
-        }
+        ensure!(!failed, "no memory");
         Ok(text)
     }
 }

@@ -2,6 +2,7 @@
 
 use crate::buffer::Buffer;
 use crate::show::shown;
+use anyhow::{Context, Result, bail};
 use ps_base::LONGEST_TEXT;
 use ps_base::line::Line;
 use ps_base::ty::Ty;
@@ -13,20 +14,20 @@ use ps_scan::scan;
 use ps_tree::rough::Rough;
 use ps_type_text::type_text;
 use std::alloc::Global;
-use std::process::Abort;
-use std::test::Fail;
 
 // The tree of a text that has no fault of the scanner and the parser.
-fn parsed(alloc: Global, text: &[u8]) -> Result<Rough, Fail> {
+fn parsed(alloc: Global, text: &[u8]) -> Result<Rough> {
     if text.len() > LONGEST_TEXT {
-        return Err("too long".into());
+        bail!("a text that is too long");
     }
-    let tokens = scan(alloc, text).map_err(|_| "scan")?;
-    Ok(parse(alloc, text, &tokens).map_err(|_| "parse")?)
+    let tokens = scan(alloc, text).ok().context("a fault of the scanner")?;
+    parse(alloc, text, &tokens)
+        .ok()
+        .context("a fault of the parser")
 }
 
 /// What the check answers on a text.
-pub fn answer(alloc: Global, text: &[u8]) -> Result<String, Fail> {
+pub fn answer(alloc: Global, text: &[u8]) -> Result<String> {
     let rough = parsed(alloc, text)?;
     match check(alloc, &rough) {
         Ok(program) => shown_program(alloc, &program.body),
@@ -34,29 +35,29 @@ pub fn answer(alloc: Global, text: &[u8]) -> Result<String, Fail> {
     }
 }
 
-/// The fault of a text, or nothing where it fits.
-pub fn fault_of(alloc: Global, text: &[u8]) -> Result<String, Fail> {
+/// The fault of a text, or `fits` where it has none.
+pub fn fault_of(alloc: Global, text: &[u8]) -> Result<String> {
     let rough = parsed(alloc, text)?;
     match check(alloc, &rough) {
-        Ok(_) => Ok(String::new(alloc)),
+        Ok(_) => Ok(String::from_str(alloc, "fits")?),
         Err(fault) => shown_fault(alloc, &fault),
     }
 }
 
 // The tree of a program, whose body has no parameter, gives nothing and keeps no parameter.
-fn shown_program(alloc: Global, body: &Body) -> Result<String, Fail> {
+fn shown_program(alloc: Global, body: &Body) -> Result<String> {
     let is_plain = body.params.len() == 0 && body.scope.is_none() && body.line == Line(1);
     if !is_plain || !matches!(&body.gives, Ty::Void) {
-        return Err("no body of a program".into());
+        bail!("no body of a program");
     }
     shown(alloc, &body.tree)
 }
 
 // A fault as its number, `@` and its line, and where it has them the types found and wanted, or the count.
-fn shown_fault(alloc: Global, fault: &CheckFault) -> Result<String, Fail> {
+fn shown_fault(alloc: Global, fault: &CheckFault) -> Result<String> {
     let mut out = Buffer::new(alloc);
     let (Some(number), Some(line)) = (fault.number(), fault.line()) else {
-        return Err("memory".into());
+        bail!("no memory");
     };
     out.number(u32::from(number));
     out.put("@");
@@ -91,22 +92,4 @@ fn put_type(alloc: Global, out: &mut Buffer, word: &str, ty: &Ty) {
         Ok(text) => out.bytes(text.as_slice()),
         Err(_) => out.failed = true,
     }
-}
-
-/// Compares an answer with the one that is wanted; a failure tells of which text.
-pub fn is_answer(rt: &impl Abort, found: &str, wanted: &str, text: &str) {
-    assert_eq!(rt; found, wanted, "{text}");
-}
-
-/// Compares what the check answers on each text.
-pub fn rows_are_answered(
-    rt: &impl Abort,
-    alloc: Global,
-    rows: &[(&str, &str)],
-) -> Result<(), Fail> {
-    for (text, wanted) in rows {
-        let found = answer(alloc, text.as_bytes())?;
-        is_answer(rt, found.as_str(), wanted, text);
-    }
-    Ok(())
 }

@@ -1,6 +1,7 @@
-//! A typed tree as a line of text, for tests to compare.
+//! A typed tree as a line of text.
 
 use crate::buffer::Buffer;
+use anyhow::Result;
 use ps_base::bytes::Bytes;
 use ps_base::line::Line;
 use ps_base::operator::{Operator, Relation};
@@ -11,7 +12,6 @@ use ps_program::parts::{Further, Parts};
 use ps_program::place::Place;
 use ps_type_text::type_text;
 use std::alloc::Global;
-use std::test::Fail;
 
 /// What is still to be written.
 #[derive(Clone, Copy)]
@@ -351,7 +351,7 @@ fn operator_text(op: Operator) -> &'static str {
 
 /// A tree as a line of text: a clause as its form with its places, types and lines, and its parts, in brackets; a place as
 /// `P` and its slot, or as `K`, so many scopes outward, and its position.
-pub fn shown(alloc: Global, tree: &Tree) -> Result<String, Fail> {
+pub fn shown(alloc: Global, tree: &Tree) -> Result<String> {
     let mut writing = Writing {
         alloc,
         out: Buffer::new(alloc),

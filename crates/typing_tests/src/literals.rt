@@ -1,0 +1,89 @@
+//! A text of a hundred literals inside one another, which is built with its tree, since each literal has a type as long as those in it.
+
+use crate::buffer::Buffer;
+use crate::checking::answer;
+use crate::patterns::put_pieces;
+use crate::tables::Tables;
+use anyhow::Result;
+use std::alloc::Global;
+use table_rows::Row;
+
+// What a row is called that stands in no file.
+const CALLED: &[u8] = b"a hundred literals inside one another";
+
+/// Compares the tree of the hundred literals.
+pub fn compare(tables: &mut Tables) -> Result<()> {
+    let alloc = tables.alloc;
+    let text = literals(alloc)?;
+    let wanted = tree(alloc)?;
+    let found = answer(alloc, text.as_bytes());
+    let row = row_called(alloc, CALLED)?;
+    tables.compare("literals.rt", &row, found, wanted.as_bytes())
+}
+
+fn row_called(alloc: Global, called: &[u8]) -> Result<Row> {
+    let mut fields = Vec::new(alloc);
+    fields.push(Vec::from_slice(alloc, called)?)?;
+    Ok(Row {
+        line: 0,
+        head: Vec::new(alloc),
+        fields,
+    })
+}
+
+// The type of the result of the literal at this depth of 100.
+fn put_type(out: &mut Buffer, depth: u32) {
+    for _ in depth..100 {
+        out.put("proc(int->");
+    }
+    out.put("int");
+    for _ in depth..100 {
+        out.put(")");
+    }
+}
+
+// A hundred literals inside one another, of which the innermost mentions the parameters of all.
+fn literals(alloc: Global) -> Result<String> {
+    let mut out = Buffer::new(alloc);
+    out.put("procedure f");
+    for depth in 1..=100 {
+        out.put("(int a");
+        out.number(depth);
+        out.put(" -> ");
+        put_type(&mut out, depth);
+        out.put(if depth < 100 { "); proc" } else { "); 1" });
+    }
+    put_pieces(&mut out, b" + a#", 100);
+    out.finish()
+}
+
+// A parameter is kept by each literal but the last, which has it in a scope of its own.
+fn tree(alloc: Global) -> Result<String> {
+    let mut out = Buffer::new(alloc);
+    out.put("(block (let P0:");
+    put_type(&mut out, 0);
+    for depth in 1..100 {
+        out.put(" (proc[scope(int a");
+        out.number(depth);
+        out.put(")]@1 K0.0:int ->");
+        put_type(&mut out, depth);
+    }
+    out.put(" (proc@1 P0:int ->int");
+    put_sum(&mut out);
+    put_pieces(&mut out, b")", 100);
+    out.put("))");
+    out.finish()
+}
+
+// Each parameter but the last stands in the scope of its literal, so many scopes outward.
+fn put_sum(out: &mut Buffer) {
+    out.put(" ");
+    put_pieces(out, b"(+@1 ", 100);
+    out.put("1");
+    for up in (0..99).rev() {
+        out.put(" K");
+        out.number(up);
+        out.put(".0:int)");
+    }
+    out.put(" P0:int)");
+}
