@@ -1,6 +1,7 @@
-//! Each form of the tree, made of its parts.
+//! Each form of the tree, made of its parts: the clauses `a`, `b`, `c` and `d`, which are names on line 1, and others beside them.
 
 use crate::show::shown;
+use anyhow::{Context, Result};
 use ps_base::bytes::Bytes;
 use ps_base::line::Line;
 use ps_base::operator::{Operator, Relation};
@@ -13,281 +14,134 @@ use ps_tree::build::{
 };
 use ps_tree::fault::ParseFault;
 use ps_tree::rough::{Group, Named, Rough, RoughForm};
-use std::alloc::Global;
-use std::process::Abort;
-use std::test::Fail;
+use std::alloc::{AllocError, Global};
 
 const LINE: Line = Line(2);
 
-fn named(rt: &impl Abort, alloc: Global, name: &[u8]) -> Named {
-    let name = Vec::from_slice(alloc, name).expect(rt, "memory");
-    Named {
-        name: Bytes::new(name),
-        line: Line(1),
+/// The form that a row names, made on line 2 and shown as a line of text.
+pub fn shown_form(alloc: Global, form: &[u8]) -> Result<String> {
+    let made = made(alloc, form).ok().context("no memory")?;
+    shown(alloc, &made.context("no such form")?)
+}
+
+fn made(alloc: Global, form: &[u8]) -> Result<Option<Rough>, ParseFault> {
+    if let Some(made) = of_one(alloc, form)? {
+        return Ok(Some(made));
     }
+    if let Some(made) = of_two(alloc, form)? {
+        return Ok(Some(made));
+    }
+    if let Some(made) = of_three(alloc, form)? {
+        return Ok(Some(made));
+    }
+    of_kinds(alloc, form)
 }
 
-fn leaf(rt: &impl Abort, alloc: Global, name: &[u8]) -> Rough {
-    name_of(alloc, named(rt, alloc, name)).expect(rt, "memory")
+fn named(alloc: Global, name: &[u8]) -> Result<Named, AllocError> {
+    Ok(Named {
+        name: Bytes::new(Vec::from_slice(alloc, name)?),
+        line: Line(1),
+    })
 }
 
-fn one<T: Drop>(rt: &impl Abort, alloc: Global, item: T) -> Vec<T> {
+fn leaf(alloc: Global, name: &[u8]) -> Result<Rough, ParseFault> {
+    name_of(alloc, named(alloc, name)?)
+}
+
+fn one<T: Drop>(alloc: Global, item: T) -> Result<Vec<T>, AllocError> {
     let mut items = Vec::new(alloc);
-    items.push(item).ok().expect(rt, "memory");
-    items
+    items.push(item)?;
+    Ok(items)
 }
 
 // Two names of one type.
-fn groups(rt: &impl Abort, alloc: Global) -> Vec<Group> {
-    let more = one(rt, alloc, named(rt, alloc, b"b"));
-    one(rt, alloc, group_of(Ty::Int, named(rt, alloc, b"a"), more))
+fn groups(alloc: Global) -> Result<Vec<Group>, AllocError> {
+    let more = one(alloc, named(alloc, b"b")?)?;
+    one(alloc, group_of(Ty::Int, named(alloc, b"a")?, more))
 }
 
 // The type `proc(*bool -> int)`.
-fn types(rt: &impl Abort, alloc: Global) -> Ty {
-    let element = vector_type(alloc, Ty::Bool).expect(rt, "memory");
-    procedure_type(alloc, one(rt, alloc, element), Ty::Int).expect(rt, "memory")
-}
-
-fn is_shown(
-    rt: &impl Abort,
-    alloc: Global,
-    made: Result<Rough, ParseFault>,
-    wanted: &str,
-) -> Result<(), Fail> {
-    let made = made.map_err(|_| "memory")?;
-    assert_eq!(rt; shown(alloc, &made)?.as_str(), wanted);
-    Ok(())
+fn types(alloc: Global) -> Result<Ty, ParseFault> {
+    let element = vector_type(alloc, Ty::Bool)?;
+    procedure_type(alloc, one(alloc, element)?, Ty::Int)
 }
 
 // The forms of one clause.
-#[derive(Clone, Copy)]
-enum OfOne {
-    Not,
-    Plus,
-    Minus,
-    Upper,
-    Sequence,
-}
-
-const OF_ONE: [(OfOne, &str); 5] = [
-    (OfOne::Not, "~@2(a@1)"),
-    (OfOne::Plus, "plus@2(a@1)"),
-    (OfOne::Minus, "neg@2(a@1)"),
-    (OfOne::Upper, "upb@2(a@1)"),
-    (OfOne::Sequence, "seq@2(a@1)"),
-];
-
-fn of_one(rt: &impl Abort, alloc: Global, form: OfOne, a: Rough) -> Result<Rough, ParseFault> {
-    match form {
-        OfOne::Not => not(alloc, a, LINE),
-        OfOne::Plus => plus(alloc, a, LINE),
-        OfOne::Minus => negation(alloc, a, LINE),
-        OfOne::Upper => bound_of(alloc, true, a, LINE),
-        OfOne::Sequence => sequence(alloc, one(rt, alloc, a), LINE),
-    }
-}
-
-#[test]
-fn forms_of_one_clause_are_built(rt: HostRuntime) -> Result<(), Fail> {
-    let alloc = rt.alloc();
-    for (form, wanted) in &OF_ONE {
-        let a = leaf(&rt, alloc, b"a");
-        is_shown(&rt, alloc, of_one(&rt, alloc, *form, a), wanted)?;
-    }
-    Ok(())
+fn of_one(alloc: Global, form: &[u8]) -> Result<Option<Rough>, ParseFault> {
+    let a = leaf(alloc, b"a")?;
+    let made = match form {
+        b"not" => not(alloc, a, LINE)?,
+        b"plus" => plus(alloc, a, LINE)?,
+        b"minus" => negation(alloc, a, LINE)?,
+        b"upper bound" => bound_of(alloc, true, a, LINE)?,
+        b"sequence" => sequence(alloc, one(alloc, a)?, LINE)?,
+        _ => return Ok(None),
+    };
+    Ok(Some(made))
 }
 
 // The forms of two clauses.
-#[derive(Clone, Copy)]
-enum OfTwo {
-    IfDo,
-    While,
-    Repeat,
-    Assign,
-    Or,
-    Minus,
-    Less,
-    Apply,
-}
-
-const OF_TWO: [(OfTwo, &str); 8] = [
-    (OfTwo::IfDo, "if@2(a@1)(b@1)"),
-    (OfTwo::While, "while@2(a@1)(b@1)"),
-    (OfTwo::Repeat, "repeat@2(a@1)(b@1)-"),
-    (OfTwo::Assign, ":=@2(a@1)(b@1)"),
-    (OfTwo::Or, "or@2(a@1)(b@1)"),
-    (OfTwo::Minus, "-@2(a@1)(b@1)"),
-    (OfTwo::Less, "<@2(a@1)(b@1)"),
-    (OfTwo::Apply, "apply@2(a@1)(b@1)"),
-];
-
-fn of_two(
-    rt: &impl Abort,
-    alloc: Global,
-    form: OfTwo,
-    a: Rough,
-    b: Rough,
-) -> Result<Rough, ParseFault> {
-    match form {
-        OfTwo::IfDo => if_do(alloc, a, b, LINE),
-        OfTwo::While => while_of(alloc, a, b, LINE),
-        OfTwo::Repeat => repeat_of(alloc, a, b, None, LINE),
-        OfTwo::Assign => assign(alloc, a, b, LINE),
-        OfTwo::Or => join(alloc, Operation::Or, a, b, LINE),
-        OfTwo::Minus => join(alloc, Operation::Arith(Operator::Sub), a, b, LINE),
-        OfTwo::Less => compare(alloc, Relation::Less, a, b, LINE),
-        OfTwo::Apply => apply(alloc, a, one(rt, alloc, b), LINE),
-    }
-}
-
-#[test]
-fn forms_of_two_clauses_are_built(rt: HostRuntime) -> Result<(), Fail> {
-    let alloc = rt.alloc();
-    for (form, wanted) in &OF_TWO {
-        let a = leaf(&rt, alloc, b"a");
-        let b = leaf(&rt, alloc, b"b");
-        is_shown(&rt, alloc, of_two(&rt, alloc, *form, a, b), wanted)?;
-    }
-    Ok(())
+fn of_two(alloc: Global, form: &[u8]) -> Result<Option<Rough>, ParseFault> {
+    let a = leaf(alloc, b"a")?;
+    let b = leaf(alloc, b"b")?;
+    let made = match form {
+        b"if do" => if_do(alloc, a, b, LINE)?,
+        b"while" => while_of(alloc, a, b, LINE)?,
+        b"repeat" => repeat_of(alloc, a, b, None, LINE)?,
+        b"assign" => assign(alloc, a, b, LINE)?,
+        b"or" => join(alloc, Operation::Or, a, b, LINE)?,
+        b"subtract" => join(alloc, Operation::Arith(Operator::Sub), a, b, LINE)?,
+        b"less" => compare(alloc, Relation::Less, a, b, LINE)?,
+        b"apply" => apply(alloc, a, one(alloc, b)?, LINE)?,
+        _ => return Ok(None),
+    };
+    Ok(Some(made))
 }
 
 // The forms of three clauses.
-#[derive(Clone, Copy)]
-enum OfThree {
-    IfElse,
-    RepeatDo,
-    Part,
-    Vector,
-}
-
-const OF_THREE: [(OfThree, &str); 4] = [
-    (OfThree::IfElse, "if@2(a@1)(b@1)(c@1)"),
-    (OfThree::RepeatDo, "repeat@2(a@1)(b@1)(c@1)"),
-    (OfThree::Part, "part@2(a@1)(b@1)(c@1)"),
-    (OfThree::Vector, "vector@2(a@1)(b@1)(c@1)"),
-];
-
-fn of_three(
-    alloc: Global,
-    form: OfThree,
-    a: Rough,
-    b: Rough,
-    c: Rough,
-) -> Result<Rough, ParseFault> {
-    match form {
-        OfThree::IfElse => if_else(alloc, a, b, c, LINE),
-        OfThree::RepeatDo => repeat_of(alloc, a, b, Some(c), LINE),
-        OfThree::Part => part_of(alloc, a, b, c, LINE),
-        OfThree::Vector => vector_of(alloc, a, b, c, LINE),
-    }
-}
-
-#[test]
-fn forms_of_three_clauses_are_built(rt: HostRuntime) -> Result<(), Fail> {
-    let alloc = rt.alloc();
-    for (form, wanted) in &OF_THREE {
-        let a = leaf(&rt, alloc, b"a");
-        let b = leaf(&rt, alloc, b"b");
-        let c = leaf(&rt, alloc, b"c");
-        is_shown(&rt, alloc, of_three(alloc, *form, a, b, c), wanted)?;
-    }
-    Ok(())
+fn of_three(alloc: Global, form: &[u8]) -> Result<Option<Rough>, ParseFault> {
+    let a = leaf(alloc, b"a")?;
+    let b = leaf(alloc, b"b")?;
+    let c = leaf(alloc, b"c")?;
+    let made = match form {
+        b"if else" => if_else(alloc, a, b, c, LINE)?,
+        b"repeat do" => repeat_of(alloc, a, b, Some(c), LINE)?,
+        b"part" => part_of(alloc, a, b, c, LINE)?,
+        b"vector" => vector_of(alloc, a, b, c, LINE)?,
+        _ => return Ok(None),
+    };
+    Ok(Some(made))
 }
 
 // The forms of parts of several kinds.
-#[derive(Clone, Copy)]
-enum OfKinds {
-    For,
-    ForBy,
-    Case,
-    Isnt,
-    Elems,
-    Write,
-    Int,
-    Variable,
-    Structure,
-    Proc,
-}
-
-const OF_KINDS: [(OfKinds, &str); 10] = [
-    (OfKinds::For, "for@2i@1(a@1)(b@1)-(c@1)"),
-    (OfKinds::ForBy, "for@2i@1(a@1)(b@1)(d@1)(c@1)"),
-    (OfKinds::Case, "case@2(a@1)[(b@1):(c@1)](d@1)"),
-    (OfKinds::Isnt, "isnt@2(a@1)c@1"),
-    (OfKinds::Elems, "elems@2(a@1)bool(b@1)"),
-    (OfKinds::Write, "write@2[(a@1)(b@1)@2]"),
-    (OfKinds::Int, "7@2"),
-    (OfKinds::Variable, "var@2x@1(a@1)"),
-    (OfKinds::Structure, "structure@2s@1[int a@1][int b@1]"),
-    (
-        OfKinds::Proc,
-        "proc@2[int a@1][int b@1]proc(*bool,->int)(a@1)",
-    ),
-];
-
-fn loop_by(rt: &impl Abort, alloc: Global, by: Option<Rough>) -> Result<Rough, ParseFault> {
-    let (from, to) = (leaf(rt, alloc, b"a"), leaf(rt, alloc, b"b"));
-    let turn = leaf(rt, alloc, b"c");
-    for_of(alloc, named(rt, alloc, b"i"), from, to, by, turn, LINE)
-}
-
-fn of_kinds(rt: &impl Abort, alloc: Global, form: OfKinds) -> Result<Rough, ParseFault> {
-    match form {
-        OfKinds::For => loop_by(rt, alloc, None),
-        OfKinds::ForBy => loop_by(rt, alloc, Some(leaf(rt, alloc, b"d"))),
-        OfKinds::Case => {
-            let arm = arm_of(one(rt, alloc, leaf(rt, alloc, b"b")), leaf(rt, alloc, b"c"));
-            case_of(
-                alloc,
-                leaf(rt, alloc, b"a"),
-                one(rt, alloc, arm),
-                leaf(rt, alloc, b"d"),
-                LINE,
-            )
+fn of_kinds(alloc: Global, form: &[u8]) -> Result<Option<Rough>, ParseFault> {
+    let a = leaf(alloc, b"a")?;
+    let made = match form {
+        b"for" => loop_by(alloc, a, None)?,
+        b"for by" => loop_by(alloc, a, Some(leaf(alloc, b"d")?))?,
+        b"case" => one_arm(alloc, a)?,
+        b"isnt" => is_of(alloc, a, named(alloc, b"c")?, true, LINE)?,
+        b"elements" => elems(alloc, a, Ty::Bool, one(alloc, leaf(alloc, b"b")?)?, LINE)?,
+        b"write" => {
+            let item = item_of(a, Some(leaf(alloc, b"b")?), LINE);
+            write_of(alloc, one(alloc, item)?, LINE)?
         }
-        OfKinds::Isnt => is_of(
-            alloc,
-            leaf(rt, alloc, b"a"),
-            named(rt, alloc, b"c"),
-            true,
-            LINE,
-        ),
-        OfKinds::Elems => elems(
-            alloc,
-            leaf(rt, alloc, b"a"),
-            Ty::Bool,
-            one(rt, alloc, leaf(rt, alloc, b"b")),
-            LINE,
-        ),
-        OfKinds::Write => {
-            let item = item_of(leaf(rt, alloc, b"a"), Some(leaf(rt, alloc, b"b")), LINE);
-            write_of(alloc, one(rt, alloc, item), LINE)
-        }
-        OfKinds::Int => form_at(alloc, RoughForm::Int(7), LINE),
-        OfKinds::Variable => let_of(
-            alloc,
-            named(rt, alloc, b"x"),
-            true,
-            leaf(rt, alloc, b"a"),
-            LINE,
-        ),
-        OfKinds::Structure => structure_of(alloc, named(rt, alloc, b"s"), groups(rt, alloc), LINE),
-        OfKinds::Proc => proc_of(
-            alloc,
-            groups(rt, alloc),
-            types(rt, alloc),
-            leaf(rt, alloc, b"a"),
-            LINE,
-        ),
-    }
+        b"int" => form_at(alloc, RoughForm::Int(7), LINE)?,
+        b"variable" => let_of(alloc, named(alloc, b"x")?, true, a, LINE)?,
+        b"structure" => structure_of(alloc, named(alloc, b"s")?, groups(alloc)?, LINE)?,
+        b"procedure" => proc_of(alloc, groups(alloc)?, types(alloc)?, a, LINE)?,
+        _ => return Ok(None),
+    };
+    Ok(Some(made))
 }
 
-#[test]
-fn forms_of_several_kinds_are_built(rt: HostRuntime) -> Result<(), Fail> {
-    let alloc = rt.alloc();
-    for (form, wanted) in &OF_KINDS {
-        is_shown(&rt, alloc, of_kinds(&rt, alloc, *form), wanted)?;
-    }
-    Ok(())
+fn loop_by(alloc: Global, from: Rough, by: Option<Rough>) -> Result<Rough, ParseFault> {
+    let to = leaf(alloc, b"b")?;
+    let turn = leaf(alloc, b"c")?;
+    for_of(alloc, named(alloc, b"i")?, from, to, by, turn, LINE)
+}
+
+fn one_arm(alloc: Global, chosen: Rough) -> Result<Rough, ParseFault> {
+    let arm = arm_of(one(alloc, leaf(alloc, b"b")?)?, leaf(alloc, b"c")?);
+    case_of(alloc, chosen, one(alloc, arm)?, leaf(alloc, b"d")?, LINE)
 }

@@ -1,6 +1,7 @@
-//! The tree of a text as a line of text, for tests to compare.
+//! The tree of a text as a line of text.
 
 use crate::reading::read;
+use anyhow::{Result, ensure};
 use ps_base::bytes::Bytes;
 use ps_base::line::Line;
 use ps_base::operator::{Operator, Relation};
@@ -8,7 +9,6 @@ use ps_base::ty::Ty;
 use ps_tree::rough::{Group, Named, Rough, RoughArm, RoughForm, RoughItem};
 use std::alloc::Global;
 use std::fmt::Write;
-use std::test::Fail;
 
 /// A tree as it is written so far, and whether there was memory for all of it.
 struct Writing {
@@ -335,21 +335,19 @@ fn operator_text(op: Operator) -> &'static str {
 }
 
 /// The tree as a line of text: a form's word or sign and `@` and its line, then its parts in brackets.
-pub fn shown(alloc: Global, clause: &Rough) -> Result<String, Fail> {
+pub fn shown(alloc: Global, clause: &Rough) -> Result<String> {
     let mut out = Writing {
         text: String::new(alloc),
         failed: false,
     };
     show(&mut out, clause, 1000);
     let Writing { text, failed } = out;
-    if failed {
-        return Err("memory".into());
-    }
+    ensure!(!failed, "no memory");
     Ok(text)
 }
 
 /// The tree of the text, or `?` where it has none.
-pub fn shown_tree(alloc: Global, text: &[u8]) -> Result<String, Fail> {
+pub fn shown_tree(alloc: Global, text: &[u8]) -> Result<String> {
     match read(alloc, text)? {
         Ok(clause) => shown(alloc, &clause),
         Err(_) => Ok(String::from_str(alloc, "?")?),
