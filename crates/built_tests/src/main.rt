@@ -1,0 +1,42 @@
+//! Checks the search for what isn't built yet on the texts of tables, each with the line of the first call that isn't. It prints how many
+//! rows hold, and of each other one what was found.
+#![tactic(auto)]
+
+mod finding;
+mod tables;
+
+use crate::finding::{chain, library_found};
+use crate::tables::Tables;
+use anyhow::Result;
+
+// Programs, each behind the line of the first call of the library that isn't built, or `none`.
+const CALLS: [&str; 3] = ["calls.rows", "calls_inside_forms.rows", "built_calls.rows"];
+
+// Chains as long as a text may be, which are searched without a turn inside a turn.
+const CHAINS: &str = "chains.rows";
+
+fn main(rt: HostRuntime) -> Result<()> {
+    let mut tables = Tables::new(&rt)?;
+    for file in &CALLS {
+        compare_calls(&mut tables, file)?;
+    }
+    compare_chains(&mut tables)?;
+    tables.tell(&rt)
+}
+
+fn compare_calls(tables: &mut Tables, file: &str) -> Result<()> {
+    for row in &tables.rows(file)? {
+        let found = library_found(tables.alloc, row.field(0));
+        tables.compare(file, row, found, &row.head)?;
+    }
+    Ok(())
+}
+
+fn compare_chains(tables: &mut Tables) -> Result<()> {
+    for row in &tables.rows(CHAINS)? {
+        let text = chain(tables.alloc, row.field(0), row.field(1), row.number(0))?;
+        let found = library_found(tables.alloc, &text);
+        tables.compare(CHAINS, row, found, row.field(2))?;
+    }
+    Ok(())
+}
