@@ -3,11 +3,10 @@
 #![tactic(auto)]
 
 mod finding;
-mod tables;
 
 use crate::finding::{chain, library_found};
-use crate::tables::Tables;
 use anyhow::Result;
+use table_rows::Tables;
 
 // Programs, each behind the line of the first call of the library that isn't built, or `none`.
 const CALLS: [&str; 3] = ["calls.rows", "calls_inside_forms.rows", "built_calls.rows"];

@@ -6,13 +6,12 @@ mod faults;
 mod forms;
 mod reading;
 mod show;
-mod tables;
 
 use crate::faults::{fault_of, fault_of_levels, faults_at_the_limit};
 use crate::forms::shown_form;
 use crate::show::shown_tree;
-use crate::tables::Tables;
 use anyhow::Result;
+use table_rows::Tables;
 
 // Texts, each with its tree.
 const TREES: [&str; 2] = ["expression_trees.rows", "clause_trees.rows"];

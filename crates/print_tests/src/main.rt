@@ -4,11 +4,10 @@
 
 mod printing;
 mod reading;
-mod tables;
 
 use crate::printing::{printed_again, printed_length};
-use crate::tables::Tables;
 use anyhow::Result;
+use table_rows::Tables;
 
 // Programs, each with what it is printed as.
 const PROGRAMS: [&str; 2] = ["programs.rows", "database_programs.rows"];
@@ -29,7 +28,7 @@ fn compare_programs(tables: &mut Tables, file: &str) -> Result<()> {
     for row in &tables.rows(file)? {
         let wanted = row.field(1);
         let found = printed_again(tables.alloc, row.field(0), wanted);
-        tables.compare(file, row, found, wanted)?;
+        tables.compare_bytes(file, row, found, wanted)?;
     }
     Ok(())
 }
@@ -37,7 +36,7 @@ fn compare_programs(tables: &mut Tables, file: &str) -> Result<()> {
 fn compare_chains(tables: &mut Tables) -> Result<()> {
     for row in &tables.rows(CHAINS)? {
         let found = printed_length(tables.alloc, row.field(0), row.field(1), row.number(0));
-        tables.compare(CHAINS, row, found, row.field(2))?;
+        tables.compare_bytes(CHAINS, row, found, row.field(2))?;
     }
     Ok(())
 }

@@ -9,8 +9,7 @@ mod answer;
 
 use answer::Commands;
 use anyhow::Result;
-use ps_port::{DirShelf, Shelf};
-use table_rows::{Report, rows_of};
+use table_rows::Tables;
 
 const FILES: [&str; 36] = [
     "ints.rows",
@@ -53,18 +52,17 @@ const FILES: [&str; 36] = [
 
 fn main(rt: HostRuntime) -> Result<()> {
     let commands = Commands::new(rt.alloc())?;
-    let mut shelf = DirShelf::new(&rt, rt.alloc())?;
-    let mut report = Report::new(rt.alloc());
-    for file in FILES {
-        let mut table = Vec::new(rt.alloc());
-        if shelf.text(file, &mut table).is_err() {
-            println!(rt; "{}: can't be read", file)?;
-        }
-        for row in rows_of(rt.alloc(), &table)? {
-            let (found, wanted) = (commands.answer(&row)?, commands.wanted(&row)?);
-            report.compare(file, &row, &found, &wanted)?;
-        }
+    let mut tables = Tables::new(&rt)?;
+    for file in &FILES {
+        compare_programs(&mut tables, &commands, file)?;
     }
-    report.tell(&rt)?;
+    tables.tell(&rt)
+}
+
+fn compare_programs(tables: &mut Tables, commands: &Commands, file: &str) -> Result<()> {
+    for row in &tables.rows(file)? {
+        let (found, wanted) = (commands.answer(row)?, commands.wanted(row)?);
+        tables.compare_bytes(file, row, Ok(found), &wanted)?;
+    }
     Ok(())
 }

@@ -79,11 +79,7 @@ fn main(rt: HostRuntime) -> Result<()> {
         read(&mut shelf, file, &mut text)?;
         compare_rows(alloc, &instructions, file, &text, &mut report)?;
     }
-    println!(rt; "{} rows hold", report.held())?;
-    if !report.others().is_empty() {
-        println!(rt; "{}", String::from_utf8_lossy(alloc, report.others())?)?;
-    }
-    Ok(())
+    Ok(report.tell(&rt)?)
 }
 
 // Reads a file.

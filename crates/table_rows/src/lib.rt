@@ -7,6 +7,8 @@
 
 pub mod report;
 pub mod row;
+pub mod tables;
 
 pub use report::Report;
 pub use row::{Row, rows_of};
+pub use tables::Tables;

@@ -3,10 +3,9 @@
 use crate::buffer::Buffer;
 use crate::checking::answer;
 use crate::patterns::put_pieces;
-use crate::tables::Tables;
 use anyhow::Result;
 use std::alloc::Global;
-use table_rows::Row;
+use table_rows::{Row, Tables};
 
 // What a row is called that stands in no file.
 const CALLED: &[u8] = b"a hundred literals inside one another";

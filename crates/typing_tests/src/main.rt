@@ -7,12 +7,11 @@ mod checking;
 mod literals;
 mod patterns;
 mod show;
-mod tables;
 
 use crate::checking::{answer, fault_of};
 use crate::patterns::text_of;
-use crate::tables::Tables;
 use anyhow::Result;
+use table_rows::Tables;
 
 // Texts that fit the rules, each with its typed tree.
 const TREES: [&str; 8] = [

@@ -1,9 +1,8 @@
-//! The tables of the crate's folder, and what their rows come to.
-
+use crate::report::Report;
+use crate::row::{Row, rows_of};
 use anyhow::{Context, Result, ensure};
 use ps_port::{DirShelf, Shelf};
 use std::alloc::Global;
-use table_rows::{Report, Row, rows_of};
 
 /// Where the tables stand, and the report of the rows that were compared.
 #[derive(Drop)]
@@ -46,13 +45,20 @@ impl Tables {
         Ok(self.report.compare(file, row, found.as_bytes(), wanted)?)
     }
 
+    /// The same, where what was found is bytes.
+    pub fn compare_bytes(
+        &mut self,
+        file: &str,
+        row: &Row,
+        found: Result<Vec<u8>>,
+        wanted: &[u8],
+    ) -> Result<()> {
+        let found = found.context(format_args!("{file}, line {}", row.line))?;
+        Ok(self.report.compare(file, row, &found, wanted)?)
+    }
+
     /// Prints how many rows hold, and what was found of each other one.
     pub fn tell(&self, rt: &HostRuntime) -> Result<()> {
-        println!(rt; "{} rows hold", self.report.held())?;
-        match str::from_utf8(self.report.others()) {
-            Ok(others) => print!(rt; "{others}")?,
-            Err(_) => println!(rt; "what was found of the others is no text")?,
-        }
-        Ok(())
+        Ok(self.report.tell(rt)?)
     }
 }
