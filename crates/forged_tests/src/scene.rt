@@ -6,7 +6,10 @@ ghost use Rattle.heap_texts.specs.Texts.{HoldsText};
 ghost use Rattle.heap_places.specs.Places.{IsNear, fit_damage};
 ghost use Rattle.heap_ops.specs.Structures.{IsNamed};
 
-use crate::forged::{Call, Ended, Given, end_of, refusal_of};
+use crate::call::Call;
+use crate::ended::{Ended, end_of, refusal_of};
+use crate::given::Given;
+use anyhow::bail;
 use heap_ops::structures::{get_field, is_class, set_field};
 use heap_ops::vectors::{get_element, high, low, set_element};
 use heap_places::places::find_misfit;
@@ -17,7 +20,6 @@ use memory_vault::memory::MemoryVault;
 use obj_layout::kind::Kind;
 use proc_values::reading::{constant, instr_at};
 use std::alloc::Global;
-use std::test::Fail;
 use swizzle::fault::SwizzleFault;
 use swizzle::swizzle::Swizzle;
 use text_forms::forms::{Form, Located, locate};
@@ -28,23 +30,13 @@ const PIDS: u64 = 1 << 63;
 // The most words of a store of the tests.
 const MOST_WORDS: usize = 1 << 21;
 
-/// The words of these objects behind word 0.
-pub fn words_of(alloc: Global, objects: &[&[u64]]) -> Result<Vec<u64>, Fail> {
-    let mut words = Vec::new(alloc);
-    words.push(0)?;
-    for object in objects {
-        words.extend_from_slice(object)?;
-    }
-    Ok(words)
-}
-
 /// A store with these words.
-pub fn store_of(alloc: Global, words: &[u64]) -> Result<MemoryVault, Fail>
+pub fn store_of(alloc: Global, words: &[u64]) -> anyhow::Result<MemoryVault>
     ensures { IfOk result (λ vault. vault.alive ≡ true) }
 {
     let count = words.len();
     if count == 0 || count > MOST_WORDS {
-        return Err("no such store".into());
+        bail!("no such store");
     }
     Ok(MemoryVault::of_words(alloc, words, 0, count as u64)?)
 }
@@ -65,7 +57,7 @@ pub fn fetch(vault: &mut MemoryVault, sw: &mut Swizzle, pid: u64) -> Result<u32,
 }
 
 /// Does this with the object of a PID, which is fetched.
-pub fn answer(vault: &mut MemoryVault, sw: &mut Swizzle, call: Call) -> Result<Given, Ended>
+pub fn answer(vault: &mut MemoryVault, sw: &mut Swizzle, call: Call<'_>) -> Result<Given, Ended>
     requires { vault.old.alive ≡ true }
 {
     let object = fetch(vault, sw, pid_of(call))?;
@@ -84,7 +76,7 @@ pub fn answer(vault: &mut MemoryVault, sw: &mut Swizzle, call: Call) -> Result<G
     }
 }
 
-fn pid_of(call: Call) -> u64 {
+fn pid_of(call: Call<'_>) -> u64 {
     match call {
         Call::Touch(pid)
         | Call::Text(pid, _)
