@@ -34,7 +34,7 @@ pub fn compile(alloc: Global, text: &[u8]) -> Result<CodeUnit, SourceFault>
     }
 }
 
-// The typed program; the tokens and the tree of the text are let go before its code is made.
+// The typed program. The tokens are let go before the check, and the tree of the text before code is made: so less memory is taken at once.
 fn typed(alloc: Global, text: &[u8]) -> Result<Program, SourceFault>
     requires { length text.now ≤ LONGEST_TEXT }
     ensures typed { IfOk result (λ program. IsProgram text.now (body_of program.body)) }
@@ -48,6 +48,7 @@ fn typed(alloc: Global, text: &[u8]) -> Result<Program, SourceFault>
         Ok(rough) => rough,
         Err(fault) => return Err(SourceFault::Parse(fault)),
     };
+    drop(tokens);
     checked(alloc, &rough)
 }
 

@@ -29,23 +29,19 @@ pub fn compare_rows(
     report: &mut Report,
 ) -> Result<()> {
     let rows = rows_of(alloc, text)?;
-    let mut table = Table {
-        lexicon: Lexicon {
-            instructions,
-            names: &[],
-        },
-        constants: &[],
-        settings: PLAIN,
-    };
-    for row in &rows {
+    // the rows of the last names and constants
+    let (mut names, mut constants) = (rows.len(), rows.len());
+    let mut settings = PLAIN;
+    for (place, row) in rows.iter().enumerate() {
+        let table = table_of(instructions, &rows, names, constants, settings);
         let held = match row.word(0) {
             b"names" => {
-                table.lexicon.names = row.field(0);
+                names = place;
                 Ok(())
             }
             b"given" => {
-                table.constants = row.field(0);
-                set(&mut table.settings, PLAIN, row)
+                constants = place;
+                set(&mut settings, PLAIN, row)
             }
             b"run" => compare_run(alloc, table, file, row, report),
             b"calls" => compare_calls(alloc, table, file, row, report),
@@ -54,6 +50,34 @@ pub fn compare_rows(
         held.context(format_args!("{}, line {}", file, row.line))?;
     }
     Ok(())
+}
+
+// What holds behind the rows of these places.
+fn table_of<'a>(
+    instructions: &'a [u8],
+    rows: &'a [Row],
+    names: usize,
+    constants: usize,
+    settings: Settings,
+) -> Table<'a> {
+    let names = field_of(rows, names);
+    let lexicon = Lexicon {
+        instructions,
+        names,
+    };
+    Table {
+        lexicon,
+        constants: field_of(rows, constants),
+        settings,
+    }
+}
+
+// The first field of the row at this place, or nothing where there is none.
+fn field_of(rows: &[Row], place: usize) -> &[u8] {
+    match rows.get(place) {
+        Some(row) => row.field(0),
+        None => &[],
+    }
 }
 
 // Sets what is plain, but for what the head of a row says.
