@@ -70,14 +70,18 @@ fn types(alloc: Global) -> Result<Ty, ParseFault> {
 fn of_one(alloc: Global, form: &[u8]) -> Result<Option<Rough>, ParseFault> {
     let a = leaf(alloc, b"a")?;
     let made = match form {
-        b"not" => not(alloc, a, LINE)?,
-        b"plus" => plus(alloc, a, LINE)?,
-        b"minus" => negation(alloc, a, LINE)?,
-        b"upper bound" => bound_of(alloc, true, a, LINE)?,
-        b"sequence" => sequence(alloc, one(alloc, a)?, LINE)?,
+        b"not" => not(alloc, a, LINE),
+        b"plus" => plus(alloc, a, LINE),
+        b"minus" => negation(alloc, a, LINE),
+        b"upper bound" => bound_of(alloc, true, a, LINE),
+        b"sequence" => sequence_of_one(alloc, a),
         _ => return Ok(None),
     };
-    Ok(Some(made))
+    Ok(Some(made?))
+}
+
+fn sequence_of_one(alloc: Global, a: Rough) -> Result<Rough, ParseFault> {
+    sequence(alloc, one(alloc, a)?, LINE)
 }
 
 // The forms of two clauses.
@@ -85,17 +89,21 @@ fn of_two(alloc: Global, form: &[u8]) -> Result<Option<Rough>, ParseFault> {
     let a = leaf(alloc, b"a")?;
     let b = leaf(alloc, b"b")?;
     let made = match form {
-        b"if do" => if_do(alloc, a, b, LINE)?,
-        b"while" => while_of(alloc, a, b, LINE)?,
-        b"repeat" => repeat_of(alloc, a, b, None, LINE)?,
-        b"assign" => assign(alloc, a, b, LINE)?,
-        b"or" => join(alloc, Operation::Or, a, b, LINE)?,
-        b"subtract" => join(alloc, Operation::Arith(Operator::Sub), a, b, LINE)?,
-        b"less" => compare(alloc, Relation::Less, a, b, LINE)?,
-        b"apply" => apply(alloc, a, one(alloc, b)?, LINE)?,
+        b"if do" => if_do(alloc, a, b, LINE),
+        b"while" => while_of(alloc, a, b, LINE),
+        b"repeat" => repeat_of(alloc, a, b, None, LINE),
+        b"assign" => assign(alloc, a, b, LINE),
+        b"or" => join(alloc, Operation::Or, a, b, LINE),
+        b"subtract" => join(alloc, Operation::Arith(Operator::Sub), a, b, LINE),
+        b"less" => compare(alloc, Relation::Less, a, b, LINE),
+        b"apply" => apply_to_one(alloc, a, b),
         _ => return Ok(None),
     };
-    Ok(Some(made))
+    Ok(Some(made?))
+}
+
+fn apply_to_one(alloc: Global, a: Rough, b: Rough) -> Result<Rough, ParseFault> {
+    apply(alloc, a, one(alloc, b)?, LINE)
 }
 
 // The forms of three clauses.
@@ -104,44 +112,81 @@ fn of_three(alloc: Global, form: &[u8]) -> Result<Option<Rough>, ParseFault> {
     let b = leaf(alloc, b"b")?;
     let c = leaf(alloc, b"c")?;
     let made = match form {
-        b"if else" => if_else(alloc, a, b, c, LINE)?,
-        b"repeat do" => repeat_of(alloc, a, b, Some(c), LINE)?,
-        b"part" => part_of(alloc, a, b, c, LINE)?,
-        b"vector" => vector_of(alloc, a, b, c, LINE)?,
+        b"if else" => if_else(alloc, a, b, c, LINE),
+        b"repeat do" => repeat_of(alloc, a, b, Some(c), LINE),
+        b"part" => part_of(alloc, a, b, c, LINE),
+        b"vector" => vector_of(alloc, a, b, c, LINE),
         _ => return Ok(None),
     };
-    Ok(Some(made))
+    Ok(Some(made?))
 }
 
 // The forms of parts of several kinds.
 fn of_kinds(alloc: Global, form: &[u8]) -> Result<Option<Rough>, ParseFault> {
-    let a = leaf(alloc, b"a")?;
     let made = match form {
-        b"for" => loop_by(alloc, a, None)?,
-        b"for by" => loop_by(alloc, a, Some(leaf(alloc, b"d")?))?,
-        b"case" => one_arm(alloc, a)?,
-        b"isnt" => is_of(alloc, a, named(alloc, b"c")?, true, LINE)?,
-        b"elements" => elems(alloc, a, Ty::Bool, one(alloc, leaf(alloc, b"b")?)?, LINE)?,
-        b"write" => {
-            let item = item_of(a, Some(leaf(alloc, b"b")?), LINE);
-            write_of(alloc, one(alloc, item)?, LINE)?
-        }
-        b"int" => form_at(alloc, RoughForm::Int(7), LINE)?,
-        b"variable" => let_of(alloc, named(alloc, b"x")?, true, a, LINE)?,
-        b"structure" => structure_of(alloc, named(alloc, b"s")?, groups(alloc)?, LINE)?,
-        b"procedure" => proc_of(alloc, groups(alloc)?, types(alloc)?, a, LINE)?,
+        b"for" => loop_by(alloc, None),
+        b"for by" => loop_by_step(alloc),
+        b"case" => one_arm(alloc),
+        b"isnt" => is_none_of(alloc),
+        b"elements" => elements(alloc),
+        b"write" => one_item(alloc),
+        b"int" => form_at(alloc, RoughForm::Int(7), LINE),
+        b"variable" => variable(alloc),
+        b"structure" => structure(alloc),
+        b"procedure" => procedure(alloc),
         _ => return Ok(None),
     };
-    Ok(Some(made))
+    Ok(Some(made?))
 }
 
-fn loop_by(alloc: Global, from: Rough, by: Option<Rough>) -> Result<Rough, ParseFault> {
+fn is_none_of(alloc: Global) -> Result<Rough, ParseFault> {
+    let a = leaf(alloc, b"a")?;
+    is_of(alloc, a, named(alloc, b"c")?, true, LINE)
+}
+
+fn elements(alloc: Global) -> Result<Rough, ParseFault> {
+    let low = leaf(alloc, b"a")?;
+    let items = one(alloc, leaf(alloc, b"b")?)?;
+    elems(alloc, low, Ty::Bool, items, LINE)
+}
+
+fn one_item(alloc: Global) -> Result<Rough, ParseFault> {
+    let e = leaf(alloc, b"a")?;
+    let width = leaf(alloc, b"b")?;
+    write_of(alloc, one(alloc, item_of(e, Some(width), LINE))?, LINE)
+}
+
+fn variable(alloc: Global) -> Result<Rough, ParseFault> {
+    let value = leaf(alloc, b"a")?;
+    let_of(alloc, named(alloc, b"x")?, true, value, LINE)
+}
+
+fn structure(alloc: Global) -> Result<Rough, ParseFault> {
+    let fields = groups(alloc)?;
+    structure_of(alloc, named(alloc, b"s")?, fields, LINE)
+}
+
+fn procedure(alloc: Global) -> Result<Rough, ParseFault> {
+    let params = groups(alloc)?;
+    let gives = types(alloc)?;
+    let body = leaf(alloc, b"a")?;
+    proc_of(alloc, params, gives, body, LINE)
+}
+
+fn loop_by_step(alloc: Global) -> Result<Rough, ParseFault> {
+    let step = leaf(alloc, b"d")?;
+    loop_by(alloc, Some(step))
+}
+
+fn loop_by(alloc: Global, by: Option<Rough>) -> Result<Rough, ParseFault> {
+    let from = leaf(alloc, b"a")?;
     let to = leaf(alloc, b"b")?;
     let turn = leaf(alloc, b"c")?;
     for_of(alloc, named(alloc, b"i")?, from, to, by, turn, LINE)
 }
 
-fn one_arm(alloc: Global, chosen: Rough) -> Result<Rough, ParseFault> {
+fn one_arm(alloc: Global) -> Result<Rough, ParseFault> {
+    let chosen = leaf(alloc, b"a")?;
     let arm = arm_of(one(alloc, leaf(alloc, b"b")?)?, leaf(alloc, b"c")?);
     case_of(alloc, chosen, one(alloc, arm)?, leaf(alloc, b"d")?, LINE)
 }

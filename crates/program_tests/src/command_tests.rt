@@ -21,28 +21,38 @@ pub fn words_of(alloc: Global, words: &[&str], file: &str) -> Result<Vec<String>
     Ok(all)
 }
 
-// The status that the words get over a volume and a shelf with this text under this name, and the host, whose calls
-// fail as listed. Those of attaching are the first six.
-fn answer_over(
-    alloc: Global,
-    words: &[String],
-    name: &str,
-    text: &[u8],
-    failing: &[u64],
-) -> Result<(u8, MemoryHost), AllocError> {
-    let mut shelf = MemoryShelf::new(alloc);
-    shelf.add(name, text)?;
-    let host = volume_host(alloc, failing)?;
-    Ok(psalgol(alloc, words, host, &mut shelf))
+/// What a command came to: its status, and the host behind it.
+#[derive(Drop)]
+pub struct Answer {
+    pub status: u8,
+    pub host: MemoryHost,
 }
 
-fn answer(
-    alloc: Global,
-    words: &[String],
-    text: &[u8],
-    failing: &[u64],
-) -> Result<(u8, MemoryHost), AllocError> {
-    answer_over(alloc, words, "x.ps", text, failing)
+/// What the words come to over this host and this shelf.
+pub fn command(alloc: Global, words: &[String], host: MemoryHost, shelf: MemoryShelf) -> Answer {
+    let mut shelf = shelf;
+    let (status, host) = psalgol(alloc, words, host, &mut shelf);
+    Answer { status, host }
+}
+
+/// This was told, and this is the status.
+pub fn assert_answer(rt: &impl Abort, answer: &Answer, told: &[u8], status: u8) {
+    assert_eq!(rt; answer.host.told_bytes(), told);
+    assert_eq!(rt; answer.status, status);
+}
+
+/// A shelf with this text under this name.
+pub fn shelf_of(alloc: Global, name: &str, text: &[u8]) -> Result<MemoryShelf, AllocError> {
+    let mut shelf = MemoryShelf::new(alloc);
+    shelf.add(name, text)?;
+    Ok(shelf)
+}
+
+// A shelf with this text under `x.ps`, and this input under `in`.
+fn shelf_with(alloc: Global, text: &str, input: &[u8]) -> Result<MemoryShelf, AllocError> {
+    let mut shelf = shelf_of(alloc, "x.ps", text.as_bytes())?;
+    shelf.add("in", input)?;
+    Ok(shelf)
 }
 
 /// Over a shelf with this text under `x.ps`, the words and the last one get this told, and this status.
@@ -56,9 +66,9 @@ pub fn assert_told(
     wanted: u8,
 ) -> Result<(), Fail> {
     let words = words_of(alloc, words, last)?;
-    let (status, host) = answer(alloc, &words, text, &[])?;
-    assert_eq!(rt; host.told_bytes(), told);
-    assert_eq!(rt; status, wanted);
+    let shelf = shelf_of(alloc, "x.ps", text)?;
+    let host = volume_host(alloc, &[])?;
+    assert_answer(rt, &command(alloc, &words, host, shelf), told, wanted);
     Ok(())
 }
 
@@ -73,13 +83,10 @@ pub fn assert_reads(
     wanted: u8,
 ) -> Result<(), Fail> {
     let words = words_of(alloc, words, "x.ps")?;
-    let mut shelf = MemoryShelf::new(alloc);
-    shelf.add("x.ps", text.as_bytes())?;
-    shelf.add("in", input)?;
+    let shelf = shelf_with(alloc, text, input)?;
     let host = volume_host(alloc, &[])?;
-    let (status, host) = psalgol(alloc, &words, host, &mut shelf);
-    assert_eq!(rt; host.told_bytes(), told.as_bytes(), "{text}");
-    assert_eq!(rt; status, wanted, "{text}");
+    let answer = command(alloc, &words, host, shelf);
+    assert_answer(rt, &answer, told.as_bytes(), wanted);
     Ok(())
 }
 
@@ -257,14 +264,21 @@ fn repeated(alloc: Global, part: &[u8], times: usize) -> Result<Vec<u8>, AllocEr
     Ok(text)
 }
 
+// The calls of attaching are the first six.
+fn assert_fault(rt: &impl Abort, alloc: Global, fault: &Fault<'_>) -> Result<(), Fail> {
+    let (name, part, times, failing, told, wanted) = fault;
+    let text = repeated(alloc, part, *times)?;
+    let words = words_of(alloc, RUN, "z.ps")?;
+    let shelf = shelf_of(alloc, name, &text)?;
+    let host = volume_host(alloc, failing)?;
+    assert_answer(rt, &command(alloc, &words, host, shelf), told, *wanted);
+    Ok(())
+}
+
 #[test]
 fn faults_of_the_outside_are_answered(rt: HostRuntime) -> Result<(), Fail> {
-    let words = words_of(rt.alloc(), RUN, "z.ps")?;
-    for (name, part, times, failing, told, wanted) in &FAULTS {
-        let text = repeated(rt.alloc(), part, *times)?;
-        let (status, host) = answer_over(rt.alloc(), &words, name, &text, failing)?;
-        assert_eq!(rt; host.told_bytes(), *told);
-        assert_eq!(rt; status, *wanted);
+    for fault in &FAULTS {
+        assert_fault(&rt, rt.alloc(), fault)?;
     }
     Ok(())
 }
@@ -272,8 +286,9 @@ fn faults_of_the_outside_are_answered(rt: HostRuntime) -> Result<(), Fail> {
 // The status for the text under `x.ps`, whatever is told.
 fn status_of(alloc: Global, text: &[u8]) -> Result<u8, AllocError> {
     let words = words_of(alloc, RUN, "x.ps")?;
-    let (status, _) = answer(alloc, &words, text, &[])?;
-    Ok(status)
+    let shelf = shelf_of(alloc, "x.ps", text)?;
+    let host = volume_host(alloc, &[])?;
+    Ok(command(alloc, &words, host, shelf).status)
 }
 
 #[test]

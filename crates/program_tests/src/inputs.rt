@@ -4,8 +4,8 @@ use crate::command_tests::assert_reads;
 use std::alloc::{AllocError, Global};
 use std::test::Fail;
 
-// The words before the program's name, where it reads the file `in`.
-const READ: &[&str] = &["run", "v.vol", "--input", "in"];
+/// The words before the program's name, where it reads the file `in`.
+pub const READ: &[&str] = &["run", "v.vol", "--input", "in"];
 
 // So many bytes, and what stands behind them.
 fn bytes(alloc: Global, count: usize, behind: &[u8]) -> Result<Vec<u8>, AllocError> {

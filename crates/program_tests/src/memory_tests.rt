@@ -1,33 +1,28 @@
 //! Rows of the language reference where one refusal of memory may come anywhere: `rt try --test
 //! --fail-alloc N` refuses the Nth. Each answers its own or status 5, and nothing else.
 
+use crate::command_tests::{Answer, command, shelf_of, words_of};
+use crate::inputs::READ;
 use crate::volumes::volume_host;
-use memory_host::MemoryHost;
-use ps_command::psalgol;
-use ps_port::MemoryShelf;
 use std::alloc::{AllocError, Global};
 
-fn answer(alloc: Global, text: &str) -> Result<(u8, MemoryHost), AllocError> {
-    let mut words = Vec::new(alloc);
-    for word in ["run", "v.vol", "--input", "in", "x.ps"] {
-        words.push(String::from_str(alloc, word)?)?;
-    }
-    let mut shelf = MemoryShelf::new(alloc);
-    shelf.add("x.ps", text.as_bytes())?;
+fn answer(alloc: Global, text: &str) -> Result<Answer, AllocError> {
+    let words = words_of(alloc, READ, "x.ps")?;
+    let mut shelf = shelf_of(alloc, "x.ps", text.as_bytes())?;
     shelf.add("in", b"one\ntwo")?;
     let host = volume_host(alloc, &[])?;
-    Ok(psalgol(alloc, &words, host, &mut shelf))
+    Ok(command(alloc, &words, host, shelf))
 }
 
 // Whether the row has its own answer, or status 5. Where memory was refused before the call, there is
 // nothing to compare.
 fn own_answer_or_five(alloc: Global, text: &str, told: &str, status: u8) -> bool {
-    let Ok((found, host)) = answer(alloc, text) else {
+    let Ok(found) = answer(alloc, text) else {
         return true;
     };
-    match found {
-        5 => host.told_bytes() == b"out of memory\n".as_slice(),
-        _ => found == status && host.told_bytes() == told.as_bytes(),
+    match found.status {
+        5 => found.host.told_bytes() == b"out of memory\n".as_slice(),
+        other => other == status && found.host.told_bytes() == told.as_bytes(),
     }
 }
 

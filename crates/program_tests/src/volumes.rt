@@ -3,12 +3,10 @@
 ghost use Rattle.std.specs.Prelude.{◌≡◌, true};
 ghost use Rattle.obj_layout.specs.Stored.{IsHeaded};
 
-use crate::command_tests::words_of;
+use crate::command_tests::{Answer, assert_answer, command, shelf_of, words_of};
 use memory_host::MemoryHost;
 use obj_layout::vault::{Vault, VaultFault};
 use obj_store::ObjStore;
-use ps_command::psalgol;
-use ps_port::MemoryShelf;
 use std::alloc::{AllocError, Global};
 use std::test::Fail;
 
@@ -24,17 +22,16 @@ const RUN: &[&str] = &["run", "v.vol"];
 /// How many bytes a volume of 32 pages has.
 const VOLUME_BYTES: usize = 131_072;
 
-// The status that the words get over this host, and a shelf with the sum under `x.ps`; and the host.
+// What the words come to over this host, and a shelf with the sum under `x.ps`.
 fn answer(
     alloc: Global,
     words: &[&str],
     last: &str,
     host: MemoryHost,
-) -> Result<(u8, MemoryHost), AllocError> {
+) -> Result<Answer, AllocError> {
     let words = words_of(alloc, words, last)?;
-    let mut shelf = MemoryShelf::new(alloc);
-    shelf.add("x.ps", SUM)?;
-    Ok(psalgol(alloc, &words, host, &mut shelf))
+    let shelf = shelf_of(alloc, "x.ps", SUM)?;
+    Ok(command(alloc, &words, host, shelf))
 }
 
 fn host_of(alloc: Global, bytes: &[u8], failing: &[u64]) -> Result<MemoryHost, AllocError> {
@@ -43,8 +40,8 @@ fn host_of(alloc: Global, bytes: &[u8], failing: &[u64]) -> Result<MemoryHost, A
 
 // The bytes of a volume of so many pages, as `format` makes it.
 fn volume(alloc: Global, pages: &str) -> Result<Vec<u8>, AllocError> {
-    let (_, host) = answer(alloc, FORMAT, pages, host_of(alloc, b"", &[])?)?;
-    Vec::from_slice(alloc, host.contents())
+    let made = answer(alloc, FORMAT, pages, host_of(alloc, b"", &[])?)?;
+    Vec::from_slice(alloc, made.host.contents())
 }
 
 /// A host with a volume of 32 pages, whose calls fail as listed.
@@ -55,22 +52,26 @@ pub fn volume_host(alloc: Global, failing: &[u64]) -> Result<MemoryHost, AllocEr
 
 #[test]
 fn a_volume_is_made_once(rt: HostRuntime) -> Result<(), Fail> {
-    let (status, host) = answer(rt.alloc(), FORMAT, "64", host_of(rt.alloc(), b"", &[])?)?;
+    let Answer { status, host } = answer(rt.alloc(), FORMAT, "64", host_of(rt.alloc(), b"", &[])?)?;
     assert_eq!(rt; status, 0);
     assert_eq!(rt; host.told_bytes(), b"".as_slice());
     assert_eq!(rt; host.contents().len(), 262_144);
     let made = Vec::from_slice(rt.alloc(), host.contents())?;
-    let (status, host) = answer(rt.alloc(), FORMAT, "64", host)?;
-    assert_eq!(rt; status, 14);
-    assert_eq!(rt; host.told_bytes(), b"already a volume\n".as_slice());
-    assert!(rt; host.contents() == made.as_slice());
+    let again = answer(rt.alloc(), FORMAT, "64", host)?;
+    assert_answer(&rt, &again, b"already a volume\n", 14);
+    assert!(rt; again.host.contents() == made.as_slice());
     Ok(())
 }
 
 #[test]
 fn a_run_leaves_its_volume(rt: HostRuntime) -> Result<(), Fail> {
     let made = volume(rt.alloc(), "32")?;
-    let (status, host) = answer(rt.alloc(), RUN, "x.ps", host_of(rt.alloc(), &made, &[])?)?;
+    let Answer { status, host } = answer(
+        rt.alloc(),
+        RUN,
+        "x.ps",
+        host_of(rt.alloc(), &made, &[])?,
+    )?;
     assert_eq!(rt; status, 0);
     assert_eq!(rt; host.told_bytes(), b"3\n".as_slice());
     assert_eq!(rt; host.writes(), 0);
@@ -111,7 +112,12 @@ fn volume_with_a_text(alloc: Global) -> Result<Vec<u8>, Fail> {
 #[test]
 fn a_run_leaves_the_objects_of_its_volume(rt: HostRuntime) -> Result<(), Fail> {
     let kept = volume_with_a_text(rt.alloc())?;
-    let (status, host) = answer(rt.alloc(), RUN, "x.ps", host_of(rt.alloc(), &kept, &[])?)?;
+    let Answer { status, host } = answer(
+        rt.alloc(),
+        RUN,
+        "x.ps",
+        host_of(rt.alloc(), &kept, &[])?,
+    )?;
     assert_eq!(rt; status, 0);
     assert_eq!(rt; host.told_bytes(), b"3\n".as_slice());
     assert!(rt; host.contents() == kept.as_slice());
@@ -145,7 +151,12 @@ const SHORT: [(usize, &[u8]); 4] = [
 fn a_short_file_is_no_volume(rt: HostRuntime) -> Result<(), Fail> {
     for (count, told) in &SHORT {
         let bytes = opened(rt.alloc(), *count)?;
-        let (status, host) = answer(rt.alloc(), RUN, "x.ps", host_of(rt.alloc(), &bytes, &[])?)?;
+        let Answer { status, host } = answer(
+            rt.alloc(),
+            RUN,
+            "x.ps",
+            host_of(rt.alloc(), &bytes, &[])?,
+        )?;
         assert_eq!(rt; host.told_bytes(), *told);
         assert_eq!(rt; status, 9);
         assert!(rt; host.contents() == bytes.as_slice());
@@ -182,7 +193,12 @@ fn a_forged_volume_is_damaged(rt: HostRuntime) -> Result<(), Fail> {
         if let Some(place) = bytes.get_mut(*at) {
             *place = *byte;
         }
-        let (status, host) = answer(rt.alloc(), RUN, "x.ps", host_of(rt.alloc(), &bytes, &[])?)?;
+        let Answer { status, host } = answer(
+            rt.alloc(),
+            RUN,
+            "x.ps",
+            host_of(rt.alloc(), &bytes, &[])?,
+        )?;
         assert_eq!(rt; host.told_bytes(), *told);
         assert_eq!(rt; status, *wanted);
         assert!(rt; host.contents() == bytes.as_slice());
@@ -194,7 +210,7 @@ fn a_forged_volume_is_damaged(rt: HostRuntime) -> Result<(), Fail> {
 fn a_device_that_fails_is_told(rt: HostRuntime) -> Result<(), Fail> {
     for call in 0..6 {
         let host = volume_host(rt.alloc(), &[call])?;
-        let (status, host) = answer(rt.alloc(), RUN, "x.ps", host)?;
+        let Answer { status, host } = answer(rt.alloc(), RUN, "x.ps", host)?;
         assert_eq!(rt; status, 6);
         assert_eq!(rt; host.told_bytes(), b"device fault\n".as_slice());
         assert_eq!(rt; host.writes(), 0);
@@ -204,7 +220,7 @@ fn a_device_that_fails_is_told(rt: HostRuntime) -> Result<(), Fail> {
 
 // The words of a run over this image tell the sum where it is a volume, and that it is none where it isn't.
 fn is_whole_or_none(alloc: Global, image: &[u8]) -> Result<bool, AllocError> {
-    let (status, host) = answer(alloc, RUN, "x.ps", host_of(alloc, image, &[])?)?;
+    let Answer { status, host } = answer(alloc, RUN, "x.ps", host_of(alloc, image, &[])?)?;
     Ok(match status {
         0 => host.told_bytes() == b"3\n".as_slice() && image.len() == VOLUME_BYTES,
         9 => true,
@@ -227,12 +243,12 @@ fn assert_images(alloc: Global, host: &MemoryHost) -> Result<bool, AllocError> {
 
 #[test]
 fn a_stop_while_a_volume_is_made_leaves_none_or_all(rt: HostRuntime) -> Result<(), Fail> {
-    let (status, host) = answer(rt.alloc(), FORMAT, "32", host_of(rt.alloc(), b"", &[])?)?;
+    let Answer { status, host } = answer(rt.alloc(), FORMAT, "32", host_of(rt.alloc(), b"", &[])?)?;
     assert_eq!(rt; status, 0);
     assert!(rt; assert_images(rt.alloc(), &host)?);
     for call in 0..host.clock() {
         let failing = host_of(rt.alloc(), b"", &[call])?;
-        let (status, host) = answer(rt.alloc(), FORMAT, "32", failing)?;
+        let Answer { status, host } = answer(rt.alloc(), FORMAT, "32", failing)?;
         assert_eq!(rt; status, 6);
         assert_eq!(rt; host.told_bytes(), b"device fault\n".as_slice());
         assert!(rt; assert_images(rt.alloc(), &host)?);
