@@ -3,38 +3,15 @@ ghost use Rattle.std.specs.Prelude.{◌≡◌, true, IfOk, OnOk};
 ghost use Rattle.swizzle.specs.Heap.{Heap, IsHeld};
 ghost use Rattle.heap_ops.specs.Layouts.{AreSo};
 
+use crate::ended::{Ended, end_of};
+use anyhow::bail;
 use heap_ops::layouts::Layouts;
 use heap_places::value::Value;
 use memory_vault::memory::MemoryVault;
-use obj_layout::vault::VaultFault;
 use scopes::names::{get_kept, set_kept};
 use scopes::way::{parent_of, scope_out};
 use std::alloc::Global;
-use std::test::Fail;
-use swizzle::fault::SwizzleFault;
 use swizzle::swizzle::Swizzle;
-
-/// What a call ended in that gave nothing.
-#[derive(Clone, Copy, PartialEq, Eq, Debug)]
-pub enum Ended {
-    Damaged { at: u64, found: u64, wanted: u64 },
-    Full { top: u32, wanted: u32, size: u32 },
-    /// Another refusal of the store.
-    Refused(VaultFault),
-    /// It is no PID, or the value denotes an object: no call was made.
-    NotCalled,
-}
-
-/// What a refusal ends in.
-pub fn end_of(fault: SwizzleFault) -> Ended {
-    match fault {
-        SwizzleFault::AreaFull { top, wanted, size } => Ended::Full { top, wanted, size },
-        SwizzleFault::Vault(VaultFault::Damaged { at, found, wanted }) => {
-            Ended::Damaged { at, found, wanted }
-        }
-        SwizzleFault::Vault(refused) => Ended::Refused(refused),
-    }
-}
 
 // One more than the greatest PID.
 const PIDS: u64 = 1 << 63;
@@ -42,20 +19,15 @@ const PIDS: u64 = 1 << 63;
 // The most words of a store of the tests.
 const MOST_WORDS: usize = 1 << 10;
 
-/// A store with these objects from word 1 on, one behind the other.
-pub fn store_of(alloc: Global, objects: &[&[u64]]) -> Result<MemoryVault, Fail>
+/// A store with these words.
+pub fn store_of(alloc: Global, words: &[u64]) -> anyhow::Result<MemoryVault>
     ensures { IfOk result (λ vault. vault.alive ≡ true) }
 {
-    let mut words = Vec::new(alloc);
-    words.push(0)?;
-    for object in objects {
-        words.extend_from_slice(object)?;
-    }
     let count = words.len();
     if count == 0 || count > MOST_WORDS {
-        return Err("no such store".into());
+        bail!("no such store");
     }
-    Ok(MemoryVault::of_words(alloc, &words, 0, count as u64)?)
+    Ok(MemoryVault::of_words(alloc, words, 0, count as u64)?)
 }
 
 /// The object of a PID, fetched into the area.

@@ -6,7 +6,8 @@ ghost use Rattle.heap_places.specs.Places.{IsNear};
 ghost use Rattle.heap_ops.specs.Layouts.{AreSo};
 ghost use Rattle.scopes_tests.specs.World.{IsReady};
 
-use crate::scene::{Ended, end_of};
+use crate::ended::{Ended, end_of};
+use anyhow::anyhow;
 use heap_ops::layouts::Layouts;
 use heap_places::value::Value;
 use heap_texts::make::make_text;
@@ -14,7 +15,6 @@ use memory_vault::silent::SilentVault;
 use scopes::making::make_scope;
 use scopes::names::{get_kept, set_kept};
 use std::alloc::Global;
-use std::test::Fail;
 use swizzle::fault::SwizzleFault;
 use swizzle::swizzle::Swizzle;
 
@@ -34,7 +34,7 @@ pub struct Area {
     pub text: u32,
 }
 
-pub fn area_with(alloc: Global, words: u32, text: &[u8]) -> Result<Area, Fail>
+pub fn area_with(alloc: Global, words: u32, text: &[u8]) -> anyhow::Result<Area>
     requires low { 5 ≤ words }
     requires high { words ≤ 2 ^ 25 }
     ensures { IfOk result (λ area. HoldsText area.sw area.text) }
@@ -42,7 +42,7 @@ pub fn area_with(alloc: Global, words: u32, text: &[u8]) -> Result<Area, Fail>
     let mut sw = Swizzle::new(alloc, words)?;
     match made(&mut sw, text) {
         Ok(text) => Ok(Area { sw, text }),
-        Err(_) => Err("no room for the text".into()),
+        Err(_) => Err(anyhow!("no room for the text")),
     }
 }
 
@@ -68,7 +68,7 @@ pub fn scoped(sw: &mut Swizzle, text: u32, parent: Option<u32>) -> Result<u32, E
 
 impl World {
     /// A scope of a text.
-    pub fn new(alloc: Global, text: &[u8]) -> Result<World, Fail>
+    pub fn new(alloc: Global, text: &[u8]) -> anyhow::Result<World>
         ensures { IfOk result IsReady }
     {
         let layouts = Layouts::new(alloc)?;
@@ -80,7 +80,7 @@ impl World {
                 text,
                 scope,
             }),
-            Err(_) => Err("no room for the scope".into()),
+            Err(_) => Err(anyhow!("no room for the scope")),
         }
     }
 
