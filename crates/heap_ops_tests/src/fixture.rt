@@ -1,20 +1,17 @@
-//! Areas with the text of a type, what is made there, and what is read of an object word by word.
+//! Areas with the text of a type, the vectors that are made there, and what is read of them.
 ghost use Rattle.std.specs.Prelude.{◌≤◌, ◌^◌, IfOk, OnOk};
 ghost use Rattle.swizzle.specs.Heap.{IsHeld};
 ghost use Rattle.heap_texts.specs.Texts.{HoldsText, StillTexts};
 ghost use Rattle.heap_places.specs.Places.{IsNear};
 ghost use Rattle.heap_places.specs.Filling.{AreNear};
 
-use heap_ops::vectors::{get_element, high, low, make_list, make_vector, set_element};
+use heap_ops::vectors::{get_element, high, low, make_list, make_vector};
 use heap_places::value::Value;
 use heap_texts::fault::OpFault;
 use heap_texts::make::make_text;
 use memory_vault::silent::SilentVault;
-use obj_layout::kind::Kind;
-use obj_layout::reference::Reference;
 use obj_layout::vault::VaultFault;
 use std::alloc::Global;
-use std::process::Abort;
 use std::test::Fail;
 use swizzle::fault::SwizzleFault;
 use swizzle::swizzle::Swizzle;
@@ -22,18 +19,10 @@ use swizzle::swizzle::Swizzle;
 /// Room for the type's text and a vector.
 pub const WORDS: u32 = 60;
 
-/// The type's text, which lies at index 1.
-pub const TYPE: Reference = Reference::Local(1);
-
-/// A value that denotes that text.
-pub const TEXT: Value = Value::Ref(Some(1));
-
 pub const NIL: Value = Value::Ref(None);
 
 /// Trap 3.
 pub const BOUNDS: Ended = Ended::Trapped(3);
-
-pub const LEAST_WORD: u64 = 0xffff_ffff_8000_0000;
 
 /// What an operation ended in that gave nothing.
 #[derive(Clone, Copy, PartialEq, Eq, Debug)]
@@ -157,41 +146,11 @@ pub fn listed(sw: &mut Swizzle, ty: u32, low: i32, items: &[Value]) -> Result<u3
     make_list(sw, ty, low, items)
 }
 
-/// A vector of a list in an area of its own.
-#[derive(Drop)]
-pub struct VectorArea {
-    pub sw: Swizzle,
-    pub ty: u32,
-    pub vector: u32,
-}
-
-/// A vector of a list whose type has this text. What the values denote must be that text.
-pub fn vector_of(alloc: Global, text: &[u8], low: i32, items: &[Value]) -> Result<VectorArea, Fail>
-    ensures text { IfOk result (λ made. HoldsText made.sw made.ty) }
-    ensures there { IfOk result (λ made. IsHeld made.sw made.vector) }
-{
-    let Area { mut sw, ty } = area_with(alloc, WORDS, text)?;
-    let items = all_near(alloc, &sw, ty, items)?;
-    match listed(&mut sw, ty, low, &items) {
-        Ok(vector) => Ok(VectorArea { sw, ty, vector }),
-        Err(_) => Err("not made".into()),
-    }
-}
-
 /// The value of an element, where no object is fetched.
 pub fn got(sw: &mut Swizzle, vector: u32, at: i32) -> Result<Value, OpFault>
     requires { IsHeld sw.old vector }
 {
     get_element(sw, &mut SilentVault { asked: 0 }, vector, at)
-}
-
-/// Writes an element.
-pub fn put(sw: &mut Swizzle, vector: u32, at: i32, to: Value) -> Result<(), OpFault>
-    requires held { IsHeld sw.old vector }
-    requires near { IsNear sw.old to }
-    ensures { OnOk result (IsHeld sw.new vector) }
-{
-    set_element(sw, &mut SilentVault { asked: 0 }, vector, at, to)
 }
 
 /// The lower bound.
@@ -207,45 +166,4 @@ pub fn upper(sw: &mut Swizzle, vector: u32) -> Result<i32, SwizzleFault>
     requires { IsHeld sw.old vector }
 {
     high(sw, &mut SilentVault { asked: 0 }, vector)
-}
-
-/// The number words of an object.
-pub fn numbers(alloc: Global, sw: &Swizzle, object: u32) -> Result<Vec<u64>, Fail>
-    requires { IsHeld sw.now object }
-{
-    let mut words = Vec::new(alloc);
-    for index in 0..sw.nums(object) {
-        words.push(sw.num(object, index))?;
-    }
-    Ok(words)
-}
-
-/// The references of an object, as they stand.
-pub fn references(alloc: Global, sw: &Swizzle, object: u32) -> Result<Vec<Reference>, Fail>
-    requires { IsHeld sw.now object }
-{
-    let mut slots = Vec::new(alloc);
-    for slot in 0..sw.refs(object) {
-        slots.push(sw.peek(object, slot))?;
-    }
-    Ok(slots)
-}
-
-/// A vector as it lies: its references and its number words.
-pub fn check_words(
-    rt: &impl Abort,
-    alloc: Global,
-    sw: &Swizzle,
-    vector: u32,
-    refs: &[Reference],
-    nums: &[u64],
-) -> Result<(), Fail>
-    requires { IsHeld sw.now vector }
-{
-    let header = sw.header(vector);
-    assert_eq!(rt; header.kind, Kind::Vector);
-    assert_eq!(rt; (header.bytes, header.pid, header.chain), (0, 0, 0));
-    assert_eq!(rt; references(alloc, sw, vector)?.as_slice(), refs);
-    assert_eq!(rt; numbers(alloc, sw, vector)?.as_slice(), nums);
-    Ok(())
 }

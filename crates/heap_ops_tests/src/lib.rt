@@ -2,8 +2,6 @@
 #![tactic(auto)]
 
 #[cfg(test)]
-mod elements;
-#[cfg(test)]
 mod fixture;
 #[cfg(test)]
 mod layouts;

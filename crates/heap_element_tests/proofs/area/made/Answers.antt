@@ -1,0 +1,8 @@
+use Rattle.heap_texts.proofs.TextObjects.{still-made, there-made}
+use Rattle.heap_element_tests.proofs.area.made.Goals as goal
+
+pub returns-clause-there : goal.returns-clause-there
+returns-clause-there c = there-made _ _ _ _ c.make_text.ensures
+
+pub returns-clause-stay : goal.returns-clause-stay
+returns-clause-stay c = still-made _ _ _ _ c.make_text.ensures

@@ -1,0 +1,39 @@
+ghost use Rattle.std.specs.Prelude.{◌≤◌, ◌^◌, IfOk};
+ghost use Rattle.heap_texts.specs.Texts.{HoldsText, StillTexts};
+
+use anyhow::bail;
+use heap_texts::make::make_text;
+use std::alloc::Global;
+use swizzle::fault::SwizzleFault;
+use swizzle::swizzle::Swizzle;
+
+/// Room for the type's text and a vector.
+pub const WORDS: u32 = 60;
+
+/// An area with one text, which is at index 1.
+#[derive(Drop)]
+pub struct Area {
+    pub sw: Swizzle,
+    pub ty: u32,
+}
+
+/// A text in an area of so many words.
+pub fn area_with(alloc: Global, words: u32, text: &[u8]) -> anyhow::Result<Area>
+    requires low { 5 ≤ words }
+    requires high { words ≤ 2 ^ 25 }
+    ensures { IfOk result (λ area. HoldsText area.sw area.ty) }
+{
+    let mut sw = Swizzle::new(alloc, words)?;
+    match made(&mut sw, text) {
+        Ok(ty) => Ok(Area { sw, ty }),
+        Err(_) => bail!("no room for the text"),
+    }
+}
+
+// The call that makes a text.
+fn made(sw: &mut Swizzle, bytes: &[u8]) -> Result<u32, SwizzleFault>
+    ensures there { IfOk result (HoldsText sw.new) }
+    ensures stay { StillTexts sw.old sw.new }
+{
+    make_text(sw, bytes)
+}
