@@ -26,11 +26,11 @@ use Rattle.machine_state.specs.declared.stepped.Stepped.{Stepped}
 use Rattle.machine_state.specs.Holding.{IsHolding}
 use Rattle.machine_state.specs.Stepped.{Takes, UnlessDamaged}
 use Rattle.machine_state.specs.inside.Taking.{Taken}
-use Rattle.machine_objects.specs.inside.Constants.{FindsField}
-use Rattle.machine_objects.specs.inside.Popping.{PopsObject, PopsAny}
-use Rattle.machine_objects.specs.inside.Giving.{Changes}
-use Rattle.machine_objects.proofs.Ending.{comes-behind, denoted-there}
-use Rattle.machine_objects.proofs.FieldReads.{field-then, number-row, reference-row, write-done, unless-damaged}
+use Rattle.machine_values.specs.Constants.{FindsField}
+use Rattle.machine_values.specs.Popping.{PopsObject, PopsAny}
+use Rattle.machine_values.specs.Giving.{Changes}
+use Rattle.machine_values.proofs.Ending.{comes-behind, denoted-there}
+use Rattle.machine_values.proofs.FieldReads.{field-then, number-row, reference-row, write-done, unless-damaged}
 
 -- what follows the class in the step of each row
 abbrev pub number-set : ℕ → Line → Config → List ℕ → Option Form → Step

@@ -26,10 +26,10 @@ use Rattle.machine_state.specs.declared.stepped.Stepped.TheVariants.{Quiet}
 use Rattle.machine_state.proofs.Popping.{pushes_num}
 use Rattle.machine_state.proofs.RefRows.{ref_pop}
 use Rattle.machine_state.proofs.Words.{named-back}
-use Rattle.machine_objects.specs.inside.Reaching.{HasTwoRefs, Puts}
+use Rattle.machine_values.specs.Reaching.{HasTwoRefs, Puts}
 use Rattle.machine_state.proofs.Carrying.{held-more, sound-kept, size-behind}
-use Rattle.machine_objects.proofs.Ending.{denoted-there}
-use Rattle.machine_objects.proofs.FieldReads.{number-row, reference-row}
+use Rattle.machine_values.proofs.Ending.{denoted-there}
+use Rattle.machine_values.proofs.FieldReads.{number-row, reference-row}
 use Rattle.ps_base.specs.CodeUnit.{ConstantView, ConstantsView, text}
 use Rattle.text_forms.specs.Forms.{forms_of, form_in}
 use Rattle.ps_stepping.specs.Config.{constants_in, constant_at}
@@ -46,7 +46,7 @@ use Rattle.known_classes.specs.Reading.{IsThere}
 use Rattle.known_classes.specs.Reached.{HasValue, PutsValue, number_kept}
 use Rattle.known_vectors.proofs.Lasting.{last-field}
 use Rattle.machine_objects.specs.inside.Fielding.{HasOnTop, ReadsField, number_for_one, reference_for_one, without_both, without_refs}
-use Rattle.machine_objects.proofs.ConstantReads.{same-constant, constants-of}
+use Rattle.machine_values.proofs.ConstantReads.{same-constant, constants-of}
 
 -- what is known is so of the machine's area
 pub all-known : (m : Machine) → IsHolding m → AreSo m.sw m.classes.fields.entries.items

@@ -15,9 +15,9 @@ use Rattle.machine_state.specs.declared.machine.Machine.{Machine}
 use Rattle.machine_state.specs.declared.stepped.Stepped.{Stepped}
 use Rattle.machine_state.specs.Holding.{IsHolding}
 use Rattle.machine_state.specs.Stepped.{UnlessDamaged}
-use Rattle.machine_objects.specs.inside.Popping.{PopsVector}
-use Rattle.machine_objects.specs.inside.Elements.{PopsKnown}
-use Rattle.machine_objects.proofs.FieldReads.{read-done, unless-damaged}
+use Rattle.machine_values.specs.Popping.{PopsVector}
+use Rattle.machine_values.specs.Elements.{PopsKnown}
+use Rattle.machine_values.proofs.FieldReads.{read-done, unless-damaged}
 
 -- the operation never failed as a whole
 pub vector-read : {A T : Type 0} (is : Heap → List Reference → ℕ → T → A → Type 0) (attempt : Heap → ℕ → Attempt A) (old last : Machine)

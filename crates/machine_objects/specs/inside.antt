@@ -1,8 +1,1 @@
-pub mod Popping
-pub mod Giving
-pub mod Constants
-pub mod Elements
-pub mod Reaching
-pub mod Making
-pub mod Rows
 pub mod Fielding

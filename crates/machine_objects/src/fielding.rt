@@ -8,12 +8,12 @@ ghost use Rattle.machine_state.specs.Holding.{Holds, IsHolding, IsSound};
 ghost use Rattle.machine_state.specs.Stepped.{Takes};
 ghost use Rattle.machine_state.specs.inside.Taking.{TakesRef};
 ghost use Rattle.machine_objects.specs.inside.Fielding.{HasOnTop, ReadsField, number_for_one, reference_for_one, without_both, without_refs};
-ghost use Rattle.machine_objects.specs.inside.Reaching.{Puts};
+ghost use Rattle.machine_values.specs.Reaching.{Puts};
 
-use crate::reaching::top_two_refs;
 use known_classes::reached::{set_number, set_reference, value_at};
 use machine_state::stacks::{object, pop_num, pop_ref, push_num, put_ref, top_num, top_ref};
 use machine_state::{Machine, Stepped};
+use machine_values::reaching::top_two_refs;
 use paired_ops::Value;
 
 // The value in a field of the structure on top.

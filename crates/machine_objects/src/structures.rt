@@ -10,19 +10,19 @@ ghost use Rattle.ps_meaning.specs.Values as meant;
 ghost use Rattle.ps_meaning.specs.Evaluation.{object_relation};
 ghost use Rattle.ps_meaning.specs.Objects.{is_one_object};
 
-use crate::constants::{field_at, text_constant};
 use crate::fielding::{
     drop_both, drop_refs, field_number, field_reference, put_number, put_reference, write_number,
     write_reference,
 };
-use crate::forms::kept_as;
-use crate::gives::{done, give_number, give_reference};
-use crate::pops::{pop_any, pop_denoting, pop_int, pop_object};
 use heap_ops::shape::is_number;
 use known_classes::access::{get_field, set_field};
 use machine_state::stacks::{push_num, push_ref};
 use machine_state::values::number;
 use machine_state::{Machine, Stepped};
+use machine_values::constants::{field_at, text_constant};
+use machine_values::forms::kept_as;
+use machine_values::gives::{done, give_number, give_reference};
+use machine_values::pops::{pop_any, pop_denoting, pop_int, pop_object};
 use obj_layout::vault::Vault;
 use paired_ops::Value;
 use paired_ops::structures::is_class;

@@ -5,12 +5,12 @@ ghost use Rattle.ps_stepping.specs.Objects.{element_num as element_num_of, eleme
 ghost use Rattle.machine_state.specs.Holding.{IsHolding, IsSound};
 ghost use Rattle.machine_state.specs.Stepped.{UnlessDamaged, Takes};
 
-use crate::gives::{give_bound, give_number, give_reference};
-use crate::known::pop_known;
-use crate::pops::{pop_int, pop_vector};
-use crate::reaching::{put_number, put_reference, reached_number, reached_reference};
 use known_vectors::elements::get_element;
 use machine_state::{Machine, Stepped};
+use machine_values::gives::{give_bound, give_number, give_reference};
+use machine_values::known::pop_known;
+use machine_values::pops::{pop_int, pop_vector};
+use machine_values::reaching::{put_number, put_reference, reached_number, reached_reference};
 use obj_layout::vault::Vault;
 use paired_ops::vectors;
 use ps_base::line::Line;

@@ -4,15 +4,12 @@ ghost use Rattle.machine_state.specs.Holding.{IsHolding, IsSound};
 ghost use Rattle.machine_state.specs.Stepped.{TakesStep, UnlessDamaged};
 ghost use Rattle.stack_machine.specs.inside.Acting.{ActsAs};
 
+use machine_makes::fills::{fill_num, fill_ref};
+use machine_makes::lists::{list_num, list_ref};
+use machine_makes::makes::make_structure;
 use machine_objects::elements::{set_element_num, set_element_ref};
-use machine_objects::fills::{fill_num, fill_ref};
-use machine_objects::lists::{list_num, list_ref};
-use machine_objects::makes::make_structure;
 use machine_objects::structures::{
     compare_objects, field_num, field_ref, is_of_class, push_nil, set_field_num, set_field_ref,
-};
-use machine_objects::texts::{
-    compare as compare_texts, join, library, part, push_text, write_text,
 };
 use machine_objects::vectors::{element_num, element_ref, lower_bound, upper_bound};
 use machine_procedures::blocks::{enter_scope, leave_scope};
@@ -28,6 +25,7 @@ use machine_state::values::{
 };
 use machine_state::writes::{abort, write_flag, write_int};
 use machine_state::{Machine, Stepped};
+use machine_texts::texts::{compare as compare_texts, join, library, part, push_text, write_text};
 use obj_layout::vault::Vault;
 use proc_values::reading::instr_within;
 use ps_base::instr::Instr;

@@ -10,9 +10,9 @@ use Rattle.ps_meaning.specs.Evaluation.{kept_as}
 use Rattle.ps_meaning.specs.Values.{Num, Value}
 use Rattle.ps_stepping.specs.Objects.{set_element_num, when_number}
 use Rattle.paired_ops.specs.Operands.{IsForIn}
-use Rattle.machine_objects.proofs.Ending.{ends, comes-behind}
-use Rattle.machine_objects.proofs.FieldReads.{number-row, no-number-row}
-use Rattle.machine_objects.proofs.VectorWrites.{element-set, element-written, still-so, element-missed}
+use Rattle.machine_values.proofs.Ending.{ends, comes-behind}
+use Rattle.machine_values.proofs.FieldReads.{number-row, no-number-row}
+use Rattle.machine_values.proofs.VectorWrites.{element-set, element-written, still-so, element-missed}
 use Rattle.machine_objects.proofs.elements.place_num.Goals as goal
 
 pub returns-then-not-is_number-clause-takes : goal.returns-then-not-is_number-clause-takes

@@ -5,9 +5,9 @@ use Rattle.text_forms.specs.Forms.{is_number_form}
 use Rattle.heap_places.specs.declared.value.Value.TheVariants as held
 use Rattle.swizzle.proofs.ReadingLaws.{leaves-then}
 use Rattle.ps_stepping.specs.Objects.{set_element_ref, when_reference}
-use Rattle.machine_objects.proofs.Ending.{ends, comes-behind}
-use Rattle.machine_objects.proofs.FieldReads.{reference-row, no-reference-row}
-use Rattle.machine_objects.proofs.VectorWrites.{element-set, element-written, still-so, element-missed, still-denotes, still-near, of-reference}
+use Rattle.machine_values.proofs.Ending.{ends, comes-behind}
+use Rattle.machine_values.proofs.FieldReads.{reference-row, no-reference-row}
+use Rattle.machine_values.proofs.VectorWrites.{element-set, element-written, still-so, element-missed, still-denotes, still-near, of-reference}
 use Rattle.machine_objects.proofs.elements.place_ref.Goals as goal
 
 pub returns-then-is_number-clause-takes : goal.returns-then-is_number-clause-takes

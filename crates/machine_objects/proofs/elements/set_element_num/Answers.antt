@@ -3,8 +3,8 @@ use Rattle.swizzle.proofs.ReadingLaws.{leaves-none}
 use Rattle.ps_stepping.specs.Objects.{set_element_num}
 use Rattle.machine_state.specs.Holding.{IsSound, IsHolding}
 use Rattle.machine_state.specs.Stepped.{Takes}
-use Rattle.machine_objects.proofs.ElementsReached.{takes-left}
-use Rattle.machine_objects.proofs.VectorWrites.{still-so}
+use Rattle.machine_values.proofs.ElementsReached.{takes-left}
+use Rattle.machine_values.proofs.VectorWrites.{still-so}
 use Rattle.machine_objects.proofs.elements.set_element_num.Goals as goal
 
 pub returns-then-write_number-clause-takes : goal.returns-then-write_number-clause-takes

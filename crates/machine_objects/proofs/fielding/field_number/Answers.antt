@@ -5,7 +5,7 @@ use Rattle.heap_places.specs.declared.value.Value.TheVariants.{Num, Flag}
 use Rattle.ps_meaning.specs.Values.{number_of}
 use Rattle.ps_stepping.specs.Objects.{field_num}
 use Rattle.machine_objects.specs.inside.Fielding.{HasOnTop, number_for_one}
-use Rattle.machine_objects.proofs.Giving.{int-read, flag-read}
+use Rattle.machine_values.proofs.Giving.{int-read, flag-read}
 use Rattle.machine_objects.proofs.FieldsReached.{number-read}
 use Rattle.machine_objects.proofs.fielding.field_number.Goals as goal
 

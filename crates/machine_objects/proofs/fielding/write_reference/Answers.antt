@@ -4,7 +4,7 @@ use Rattle.swizzle.specs.Heap.{Heap, IsHeld}
 use Rattle.known_classes.specs.Reading.{IsThere}
 use Rattle.paired_ops.specs.World.{DenotesIn}
 use Rattle.machine_state.specs.Holding.{object_in}
-use Rattle.machine_objects.proofs.Popping.{named-held}
+use Rattle.machine_values.proofs.Popping.{named-held}
 use Rattle.machine_objects.proofs.FieldsReached.{all-known, lower-there, reference-stored}
 use Rattle.machine_objects.proofs.fielding.write_reference.Goals as goal
 

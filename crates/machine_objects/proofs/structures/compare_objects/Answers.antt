@@ -6,7 +6,7 @@ use Rattle.ps_meaning.specs.Evaluation.{object_relation}
 use Rattle.ps_stepping.specs.Steps.{push_num}
 use Rattle.ps_stepping.specs.Objects.{compare_objects, pop_denoting}
 use Rattle.machine_state.specs.Stepped.{Takes}
-use Rattle.machine_objects.proofs.Ending.{ends, comes-behind, denoted-there}
+use Rattle.machine_values.proofs.Ending.{ends, comes-behind, denoted-there}
 use Rattle.machine_objects.proofs.structures.compare_objects.Goals as goal
 
 pub returns : goal.returns

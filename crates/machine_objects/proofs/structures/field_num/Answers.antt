@@ -5,8 +5,8 @@ use Rattle.swizzle.proofs.ReadingLaws.{leaves-none}
 use Rattle.ps_stepping.specs.Objects.{field_num}
 use Rattle.machine_state.specs.Stepped.{Takes}
 use Rattle.machine_objects.specs.inside.Fielding.{number_for_one}
-use Rattle.machine_objects.proofs.ElementsReached.{takes-same}
-use Rattle.machine_objects.proofs.VectorWrites.{still-so}
+use Rattle.machine_values.proofs.ElementsReached.{takes-same}
+use Rattle.machine_values.proofs.VectorWrites.{still-so}
 use Rattle.machine_objects.proofs.structures.field_num.Goals as goal
 
 pub returns-in-Some-clause-takes : goal.returns-in-Some-clause-takes

@@ -1,6 +1,6 @@
 use Rattle.swizzle.proofs.ReadingLaws.{leaves-none}
 use Rattle.machine_objects.proofs.FieldsReached.{takes-field}
-use Rattle.machine_objects.proofs.VectorWrites.{still-so}
+use Rattle.machine_values.proofs.VectorWrites.{still-so}
 use Rattle.machine_objects.proofs.structures.field_ref.Goals as goal
 
 pub returns-in-Some-clause-takes : goal.returns-in-Some-clause-takes

@@ -7,10 +7,10 @@ use Rattle.ps_meaning.specs.Values.{word_of}
 use Rattle.ps_stepping.specs.Config.{Config}
 use Rattle.ps_stepping.specs.Steps.{attempted, push_num}
 use Rattle.ps_stepping.specs.Objects.{pop_object}
-use Rattle.machine_objects.specs.inside.Constants.{FindsField}
-use Rattle.machine_objects.proofs.ConstantReads.{none-there}
-use Rattle.machine_objects.proofs.ClassFields.{popped-there}
-use Rattle.machine_objects.proofs.FieldReads.{no-number-field, other-number, field-done, number-field}
+use Rattle.machine_values.specs.Constants.{FindsField}
+use Rattle.machine_values.proofs.ConstantReads.{none-there}
+use Rattle.machine_values.proofs.ClassFields.{popped-there}
+use Rattle.machine_values.proofs.FieldReads.{no-number-field, other-number, field-done, number-field}
 use Rattle.machine_objects.proofs.structures.find_field_num.Goals as goal
 
 pub returns-in_default-clause-takes : goal.returns-in_default-clause-takes

@@ -6,10 +6,10 @@ use Rattle.ps_meaning.specs.Objects.{field_of}
 use Rattle.ps_stepping.specs.Config.{Config}
 use Rattle.ps_stepping.specs.Steps.{attempted, push_ref}
 use Rattle.ps_stepping.specs.Objects.{pop_object}
-use Rattle.machine_objects.specs.inside.Constants.{FindsField}
-use Rattle.machine_objects.proofs.ConstantReads.{none-there}
-use Rattle.machine_objects.proofs.ClassFields.{popped-there}
-use Rattle.machine_objects.proofs.FieldReads.{no-reference-field, other-reference, field-done, reference-field}
+use Rattle.machine_values.specs.Constants.{FindsField}
+use Rattle.machine_values.proofs.ConstantReads.{none-there}
+use Rattle.machine_values.proofs.ClassFields.{popped-there}
+use Rattle.machine_values.proofs.FieldReads.{no-reference-field, other-reference, field-done, reference-field}
 use Rattle.machine_objects.proofs.structures.find_field_ref.Goals as goal
 
 pub returns-in_default-clause-takes : goal.returns-in_default-clause-takes

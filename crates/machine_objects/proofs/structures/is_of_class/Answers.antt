@@ -9,10 +9,10 @@ use Rattle.ps_stepping.specs.Objects.{pop_object}
 use Rattle.swizzle.proofs.ReadingLaws.{leaves-then}
 use Rattle.paired_ops.specs.World.{Answers}
 use Rattle.machine_state.specs.Stepped.{Takes}
-use Rattle.machine_objects.proofs.Ending.{comes-behind, denoted-there}
+use Rattle.machine_values.proofs.Ending.{comes-behind, denoted-there}
 use Rattle.machine_state.proofs.Carrying.{read-holds, sound-kept, size-behind}
-use Rattle.machine_objects.proofs.Carrying.{never-fails}
-use Rattle.machine_objects.proofs.ConstantReads.{constant-then}
+use Rattle.machine_values.proofs.Carrying.{never-fails}
+use Rattle.machine_values.proofs.ConstantReads.{constant-then}
 use Rattle.machine_objects.proofs.structures.is_of_class.Goals as goal
 
 pub returns-in-Ok-clause-leaves : goal.returns-in-Ok-clause-leaves

@@ -10,10 +10,10 @@ use Rattle.ps_meaning.specs.Values.{Num}
 use Rattle.paired_ops.specs.Operands.{IsForIn}
 use Rattle.swizzle.proofs.ReadingLaws.{leaves-then}
 use Rattle.ps_stepping.specs.Config.{Config}
-use Rattle.machine_objects.specs.inside.Constants.{FindsField}
-use Rattle.machine_objects.proofs.ConstantReads.{none-there}
-use Rattle.machine_objects.proofs.ClassFields.{popped-there}
-use Rattle.machine_objects.proofs.FieldReads.{no-number-field, other-number}
+use Rattle.machine_values.specs.Constants.{FindsField}
+use Rattle.machine_values.proofs.ConstantReads.{none-there}
+use Rattle.machine_values.proofs.ClassFields.{popped-there}
+use Rattle.machine_values.proofs.FieldReads.{no-number-field, other-number}
 use Rattle.machine_objects.proofs.FieldWrites.{number-set, number-written, number-done}
 use Rattle.machine_objects.proofs.structures.store_field_num.Goals as goal
 

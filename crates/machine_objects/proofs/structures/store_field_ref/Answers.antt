@@ -4,10 +4,10 @@ use Rattle.text_forms.specs.Forms.{is_number_form}
 use Rattle.heap_places.specs.declared.value.Value.TheVariants as held
 use Rattle.swizzle.proofs.ReadingLaws.{leaves-then}
 use Rattle.ps_stepping.specs.Config.{Config}
-use Rattle.machine_objects.specs.inside.Constants.{FindsField}
-use Rattle.machine_objects.proofs.ConstantReads.{none-there}
-use Rattle.machine_objects.proofs.ClassFields.{popped-there}
-use Rattle.machine_objects.proofs.FieldReads.{no-reference-field, other-reference}
+use Rattle.machine_values.specs.Constants.{FindsField}
+use Rattle.machine_values.proofs.ConstantReads.{none-there}
+use Rattle.machine_values.proofs.ClassFields.{popped-there}
+use Rattle.machine_values.proofs.FieldReads.{no-reference-field, other-reference}
 use Rattle.machine_objects.proofs.FieldWrites.{reference-set, reference-written, reference-done}
 use Rattle.machine_objects.proofs.structures.store_field_ref.Goals as goal
 

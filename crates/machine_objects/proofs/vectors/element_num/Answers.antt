@@ -4,9 +4,9 @@ use Rattle.std.proofs.Common.{◌≡◌, ℤ, subst, rules}
 use Rattle.swizzle.proofs.ReadingLaws.{leaves-none}
 use Rattle.ps_stepping.specs.Objects.{element_num}
 use Rattle.machine_state.specs.Stepped.{Takes}
-use Rattle.machine_objects.specs.inside.Reaching.{number_for_two}
-use Rattle.machine_objects.proofs.ElementsReached.{takes-same}
-use Rattle.machine_objects.proofs.VectorWrites.{still-so}
+use Rattle.machine_values.specs.Reaching.{number_for_two}
+use Rattle.machine_values.proofs.ElementsReached.{takes-same}
+use Rattle.machine_values.proofs.VectorWrites.{still-so}
 use Rattle.machine_objects.proofs.vectors.element_num.Goals as goal
 
 pub returns-in-Some-clause-takes : goal.returns-in-Some-clause-takes

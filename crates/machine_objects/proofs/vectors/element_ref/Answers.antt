@@ -1,6 +1,6 @@
 use Rattle.swizzle.proofs.ReadingLaws.{leaves-none}
-use Rattle.machine_objects.proofs.ElementsReached.{takes-reference}
-use Rattle.machine_objects.proofs.VectorWrites.{still-so}
+use Rattle.machine_values.proofs.ElementsReached.{takes-reference}
+use Rattle.machine_values.proofs.VectorWrites.{still-so}
 use Rattle.machine_objects.proofs.vectors.element_ref.Goals as goal
 
 pub returns-in-Some-clause-takes : goal.returns-in-Some-clause-takes

@@ -9,9 +9,9 @@ use Rattle.ps_stepping.specs.Steps.{attempted, push_num}
 use Rattle.ps_stepping.specs.Objects.{element_num, pop_vector, when_number}
 use Rattle.paired_ops.specs.World.{Answers}
 use Rattle.paired_ops.specs.Operands.{IsForIn, IsOfForm, form_in}
-use Rattle.machine_objects.proofs.Ending.{ends}
+use Rattle.machine_values.proofs.Ending.{ends}
 use Rattle.machine_objects.proofs.VectorReads.{known-read}
-use Rattle.machine_objects.proofs.VectorWrites.{comes-sized}
+use Rattle.machine_values.proofs.VectorWrites.{comes-sized}
 use Rattle.machine_objects.proofs.vectors.find_num.Goals as goal
 
 pub returns-clause-takes : goal.returns-clause-takes

@@ -9,9 +9,9 @@ use Rattle.ps_stepping.specs.Steps.{attempted, push_ref}
 use Rattle.ps_stepping.specs.Objects.{element_ref, pop_vector, when_reference}
 use Rattle.paired_ops.specs.World.{Answers}
 use Rattle.paired_ops.specs.Operands.{IsForIn, IsOfForm, form_in}
-use Rattle.machine_objects.proofs.Ending.{ends}
+use Rattle.machine_values.proofs.Ending.{ends}
 use Rattle.machine_objects.proofs.VectorReads.{known-read}
-use Rattle.machine_objects.proofs.VectorWrites.{comes-sized}
+use Rattle.machine_values.proofs.VectorWrites.{comes-sized}
 use Rattle.machine_objects.proofs.vectors.find_ref.Goals as goal
 
 pub returns-clause-takes : goal.returns-clause-takes

@@ -1,0 +1,9 @@
+pub mod Carrying
+pub mod Giving
+pub mod Popping
+pub mod Ending
+pub mod ConstantReads
+pub mod ClassFields
+pub mod FieldReads
+pub mod VectorWrites
+pub mod ElementsReached

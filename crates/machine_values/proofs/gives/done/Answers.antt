@@ -1,0 +1,26 @@
+use Rattle.std.proofs.Common.{subst}
+use Rattle.ps_stepping.specs.Steps.{attempted}
+use Rattle.ps_stepping.specs.Objects.{changed}
+use Rattle.paired_ops.specs.World.{Writes}
+use Rattle.machine_values.proofs.Giving.{written, write-fails, failing}
+use Rattle.machine_values.proofs.gives.done.Goals as goal
+
+pub returns-in-Ok : goal.returns-in-Ok
+returns-in-Ok c =
+    let m = c.args.m.now in
+    record {
+      sound = c.requires;
+      does = λ here names conf attempt h last did.
+          written c.args.line m c.sound.ensures here names conf h attempt tt last (subst (λ r. Writes here m.sw names attempt r) c.in-Ok.is did);
+    }
+
+pub returns-in-Err : goal.returns-in-Err
+returns-in-Err c =
+    let m = c.args.m.now in
+    record {
+      sound = c.failed.ensures.sound;
+      does = λ here names conf attempt h last did.
+          failing here m c.failed.new.m (attempted c.args.line attempt (λ heap. changed heap conf)) _ c.args.line _ c.failed.result c.failed.ensures.answer c.failed.ensures.left
+          (write-fails c.args.line m c.sound.ensures here names conf h _ attempt (λ heap. changed heap conf)
+          (subst (λ r. Writes here m.sw names attempt r) c.in-Err.is did));
+    }

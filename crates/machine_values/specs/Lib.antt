@@ -1,0 +1,5 @@
+pub mod Popping
+pub mod Giving
+pub mod Constants
+pub mod Elements
+pub mod Reaching
