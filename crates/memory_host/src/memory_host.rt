@@ -37,7 +37,6 @@ pub struct Call {
 
 /// A host in memory, for tests: it keeps every call, and its calls fail where it was told to. It takes
 /// all its memory when it is made.
-#[derive(Drop)]
 pub struct MemoryHost {
     first: Vec<u8>,
     contents: Vec<u8>,
@@ -51,6 +50,25 @@ pub struct MemoryHost {
     device_calls: u64,
     device_faults: u64,
     output_faults: u64,
+}
+
+impl Drop for MemoryHost {
+    fn drop(self) {
+        let MemoryHost {
+            first: _,
+            contents: _,
+            failing: _,
+            calls: _,
+            room: _,
+            told: _,
+            kept: _,
+            log: _,
+            clock: _,
+            device_calls: _,
+            device_faults: _,
+            output_faults: _,
+        } = self;
+    }
 }
 
 impl Model for MemoryHost {

@@ -14,7 +14,6 @@ use std::marker::Model;
 /// A vault that lies in memory and tells what it holds, for tests. Its words may be any: no object of them is tested before a call needs it.
 /// Of the outside it tells the one space that it holds, the bytes that were put and its counts; it doesn't tell what a crash would leave.
 /// It takes all its memory when it is made.
-#[derive(Drop)]
 pub struct MemoryVault {
     words: Vec<u64>,
     directory: u64,
@@ -27,6 +26,22 @@ pub struct MemoryVault {
     device_faults: u64,
     output_faults: u64,
     alive: bool,
+}
+
+impl Drop for MemoryVault {
+    fn drop(self) {
+        let MemoryVault {
+            words: _,
+            directory: _,
+            room: _,
+            told: _,
+            calls: _,
+            failing: _,
+            device_faults: _,
+            output_faults: _,
+            alive: _,
+        } = self;
+    }
 }
 
 impl Model for MemoryVault {

@@ -26,7 +26,6 @@ use std::alloc::{AllocError, Global};
 use std::marker::Model;
 
 /// The objects of the area. An object is named by the index of its first word.
-#[derive(Drop)]
 pub struct Swizzle {
     area: Area,
     // The objects whose flag bit 0 is set, each once, in the order in which they were marked.
@@ -35,6 +34,17 @@ pub struct Swizzle {
     map: Vec<(u64, u32)>,
     // Where an object is fetched to before it is laid into the area. Its words are taken as they are needed.
     buffer: Vec<u64>,
+}
+
+impl Drop for Swizzle {
+    fn drop(self) {
+        let Swizzle {
+            area: _,
+            assigned: _,
+            map: _,
+            buffer: _,
+        } = self;
+    }
 }
 
 impl Model for Swizzle {
