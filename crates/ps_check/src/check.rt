@@ -58,8 +58,7 @@ fn tree_and_names(alloc: Global, rough: &Rough) -> Result<Whole, CheckFault>
     let mut checker = Checker { alloc, scope };
     let clause = checker.clause(rough)?;
     let tree = clause.of_type(end_line(rough), Ty::Void)?;
-    let Checker { alloc: _, scope } = checker;
-    let names = scope.into_locals();
+    let names = checker.into_scope().into_locals();
     Ok(Whole { tree, names })
 }
 

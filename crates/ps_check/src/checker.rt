@@ -27,13 +27,26 @@ use std::alloc::Global;
 /// What goes over the tree of a text, in the order of the text.
 ///
 /// Recursion is as deep as clauses stand inside one another; chains of operators and of applications are walked by a loop.
-#[derive(Drop)]
 pub(crate) struct Checker {
     pub(crate) alloc: Global,
     pub(crate) scope: Scope,
 }
 
+impl Drop for Checker {
+    fn drop(self) {
+        let Checker { alloc: _, scope: _ } = self;
+    }
+}
+
 impl Checker {
+    /// The scope that the check left.
+    pub(crate) fn into_scope(self) -> Scope
+        ensures { result ≡ self.scope }
+    {
+        let Checker { alloc: _, scope } = self;
+        scope
+    }
+
     /// Checks a clause.
     #[cycle(clause)]
     pub(crate) fn clause(&mut self, rough: &Rough) -> Result<Clause, CheckFault>

@@ -25,7 +25,7 @@ pub(crate) struct Declarator<'a> {
 pub(crate) fn declarators(alloc: Global, groups: &[Group]) -> Result<Vec<Declarator>, CheckFault>
     ensures { MatchResult result (λ made. groups_of made.items ≡ groups_in groups.now) IsMemory }
 {
-    let mut made = Vec::new(alloc);
+    let mut made = Vec::with_capacity(alloc, groups.len())?;
     for group in groups {
         put_group(&mut made, group)?;
     }
@@ -51,7 +51,7 @@ fn put_group<'a>(made: &mut Vec<Declarator<'a>>, group: &'a Group) -> Result<(),
 pub(crate) fn types(alloc: Global, declarators: &[Declarator]) -> Result<Vec<Ty>, CheckFault>
     ensures { MatchResult result (λ made. ty_views made.items ≡ types_of (groups_of declarators.now)) IsMemory }
 {
-    let mut made = Vec::new(alloc);
+    let mut made = Vec::with_capacity(alloc, declarators.len())?;
     for declarator in declarators {
         made.push(declarator.ty.copy()?)?;
     }
@@ -62,7 +62,7 @@ pub(crate) fn types(alloc: Global, declarators: &[Declarator]) -> Result<Vec<Ty>
 pub(crate) fn members(alloc: Global, declarators: &[Declarator]) -> Result<Vec<Member>, CheckFault>
     ensures { MatchResult result (λ made. fields_of made.items ≡ map field_of (groups_of declarators.now)) IsMemory }
 {
-    let mut made = Vec::new(alloc);
+    let mut made = Vec::with_capacity(alloc, declarators.len())?;
     for declarator in declarators {
         let ty = declarator.ty.copy()?;
         let name = bytes_of(alloc, declarator.name.name.as_slice())?;

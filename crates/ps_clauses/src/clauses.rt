@@ -98,7 +98,7 @@ pub(crate) fn more_clauses(
     requires sound { AreSound reader.now }
     ensures { (part : Phrases → Part) (rest : Phrases → Rule) → IsList reader.now.text.now part rest → Does reader.now room (Go (part (more (phrase_of first) none))) at.old result (λ made. rest (phrases_in made.items)) at.new }
 {
-    let mut clauses = Vec::new(reader.alloc);
+    let mut clauses = Vec::with_capacity(reader.alloc, 1)?;
     clauses.push(first)?;
     while let Some(_) = reader.accept(at, Kind::Comma) {
         let e = clause(reader, at, room)?;

@@ -15,11 +15,14 @@ pub struct Member {
     pub name: Bytes,
 }
 
+// How many bytes are taken for a class's text at first.
+const USUAL_LENGTH: usize = 32;
+
 /// The canonical text of the class of this name and these fields (`docs/formats.md`).
 pub fn class_text(alloc: Global, name: &[u8], fields: &[Member]) -> Result<Bytes, AllocError>
     ensures { IfOk result (λ made. made ≡ class_text name.now (fields_of fields.now)) }
 {
-    let mut made = Vec::new(alloc);
+    let mut made = Vec::with_capacity(alloc, USUAL_LENGTH)?;
     made.extend_from_slice(name)?;
     made.extend_from_slice(b"(")?;
     put_fields(fields, &mut made)?;

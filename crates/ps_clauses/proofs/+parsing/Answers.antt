@@ -177,7 +177,7 @@ clauses::filling-returns t c =
     built _ c.vector_of.ensures.made c.vector_of.ensures.fault (on (c.in_ok-word.ensures _) (on (c.in_ok-u.ensures _) (c.in_ok-e.ensures _)))
 
 pub clauses::more_clauses-loop-at-init : goal.clauses::more_clauses-loop-at-init
-clauses::more_clauses-loop-at-init t c = λ part rest list. phrases_first (λ all. Go (part all)) _ _ c.new-clauses.ensures.items c.in_ok-push.ensures.items
+clauses::more_clauses-loop-at-init t c = λ part rest list. phrases_first (λ all. Go (part all)) _ _ c.in_ok-clauses.ensures.items c.in_ok-push.ensures.items
 
 pub clauses::more_clauses-returns-in_err-e : goal.clauses::more_clauses-returns-in_err-e
 clauses::more_clauses-returns-in_err-e t c =
@@ -594,7 +594,7 @@ writing::writing-returns-in_err-word t c = failed _ _ c.from_residual.ensures.1 
 pub writing::writing-loop-items-init : goal.writing::writing-loop-items-init
 writing::writing-loop-items-init t c =
     on (took c.in_ok-word.ensures) (items_begin (λ all. Then (Go Written) (λ one. Go (MoreWritten (line_at c.in_ok-word.word) (and_item all
-    (the_item one))))) c.new-items.ensures.items)
+    (the_item one))))) c.in_ok-items.ensures.items)
 
 pub writing::writing-returns-in_err-item : goal.writing::writing-returns-in_err-item
 writing::writing-returns-in_err-item t c =

@@ -54,7 +54,7 @@ impl<'a> Reader<'a> {
         requires sound { AreSound self.now }
         ensures { Does self.now room (Go (Groups [])) at.old result (λ made. Give (all_groups (groups_in made.items))) at.new }
     {
-        let mut groups = Vec::new(self.alloc);
+        let mut groups = Vec::with_capacity(self.alloc, 1)?;
         loop {
             let ty = self.ty(at, room)?;
             let first = self.name(at)?;

@@ -28,3 +28,44 @@ returns-in-None-clause-weight c =
     let all : weight_form (form_of c.args.rough.now.form.value) ≡ weight_form (form.Apply (phrase_of c.in-Apply.f) (phrases_in (items_of c.in-Apply.args))) = ap (λ f. weight_form (form_of f)) (sym c.deref.ensures ∙ c.in-Apply.is) ∙ ap weight_form (form_of-Apply c.in-Apply.f c.in-Apply.args) in
     let link : weight_link c.apply.result ≡ weight_all (phrases_in (items_of c.in-Apply.args)) = c.apply.ensures.weight ∙ ap (λ items. weight_all (phrases_in items)) c.as_slice.ensures in
     omega (arith, all, link)
+
+pub returns-in-Or-clause-chain : goal.returns-in-Or-clause-chain
+returns-in-Or-clause-chain c names =
+    ap (λ f. check_form names c.args.rough.now.line (form_of f)) (sym c.deref.ensures ∙ c.in-Or.is) ∙ sym (c.new.ensures.link (check names (phrase_of c.in-Or.a)))
+
+pub returns-in-And-clause-chain : goal.returns-in-And-clause-chain
+returns-in-And-clause-chain c names =
+    ap (λ f. check_form names c.args.rough.now.line (form_of f)) (sym c.deref.ensures ∙ c.in-And.is) ∙ sym (c.new-in-And.ensures.link (check names (phrase_of c.in-And.a)))
+
+pub returns-in-Join-clause-chain : goal.returns-in-Join-clause-chain
+returns-in-Join-clause-chain c names =
+    ap (λ f. check_form names c.args.rough.now.line (form_of f)) (sym c.deref.ensures ∙ c.in-Join.is) ∙ sym (c.new-in-Join.ensures.link (check names (phrase_of c.in-Join.a)))
+
+pub returns-in-Arith-clause-chain : goal.returns-in-Arith-clause-chain
+returns-in-Arith-clause-chain c names =
+    ap (λ f. check_form names c.args.rough.now.line (form_of f)) (sym c.deref.ensures ∙ c.in-Arith.is) ∙ sym (c.new-in-Arith.ensures.link (check names (phrase_of c.in-Arith.a)))
+
+pub returns-in-Or-clause-weight : goal.returns-in-Or-clause-weight
+returns-in-Or-clause-weight c =
+    let all = ap (λ f. weight_form (form_of f)) (sym c.deref.ensures ∙ c.in-Or.is) in
+    omega (arith, all, c.new.ensures.weight)
+
+pub returns-in-And-clause-weight : goal.returns-in-And-clause-weight
+returns-in-And-clause-weight c =
+    let all = ap (λ f. weight_form (form_of f)) (sym c.deref.ensures ∙ c.in-And.is) in
+    omega (arith, all, c.new-in-And.ensures.weight)
+
+pub returns-in-Join-clause-weight : goal.returns-in-Join-clause-weight
+returns-in-Join-clause-weight c =
+    let all = ap (λ f. weight_form (form_of f)) (sym c.deref.ensures ∙ c.in-Join.is) in
+    omega (arith, all, c.new-in-Join.ensures.weight)
+
+pub returns-in-Arith-clause-weight : goal.returns-in-Arith-clause-weight
+returns-in-Arith-clause-weight c =
+    let all = ap (λ f. weight_form (form_of f)) (sym c.deref.ensures ∙ c.in-Arith.is) in
+    omega (arith, all, c.new-in-Arith.ensures.weight)
+
+pub returns-in-Part-clause-weight : goal.returns-in-Part-clause-weight
+returns-in-Part-clause-weight c =
+    let all = ap (λ f. weight_form (form_of f)) (sym c.deref.ensures ∙ c.in-Part.is) in
+    omega (arith, all, c.part.ensures.weight)

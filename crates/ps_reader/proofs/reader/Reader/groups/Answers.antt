@@ -8,10 +8,10 @@ use Rattle.ps_reader.proofs.Rows.{groups_begin, groups_again, further, no_next, 
 use Rattle.ps_reader.proofs.reader.Reader.groups.Goals as goal
 
 pub loop-groups-init : goal.loop-groups-init
-loop-groups-init c = groups_begin (λ all. Go (Groups all)) c.new-groups.ensures.items
+loop-groups-init c = groups_begin (λ all. Go (Groups all)) c.in_ok-groups.ensures.items
 
 pub returns-in_err-ty : goal.returns-in_err-ty
-returns-in_err-ty c = failed _ _ c.from_residual.ensures.1 ((on c.loop-groups.invariant (by_row refl)).halts _ (HaltsWith.in_first c.in_err-ty.ensures))
+returns-in_err-ty c = failed _ _ c.from_residual-in_err-ty.ensures.1 ((on c.loop-groups.invariant (by_row refl)).halts _ (HaltsWith.in_first c.in_err-ty.ensures))
 
 pub returns-in_err-first : goal.returns-in_err-first
 returns-in_err-first c = failed _ _ c.from_residual-in_err-first.ensures.1 ((on c.loop-groups.invariant (on (by_row refl) (behind_first c.in_ok-ty.ensures))).halts _ (c.in_err-first.ensures _ _))
