@@ -21,8 +21,10 @@ enum Make {
     Proc,
 }
 
-// Types as they are made, and the text of each.
-const TYPES: [(&[Make], &[u8]); 10] = [
+/// What makes a type, and its text.
+type TypeRow = (&'static [Make], &'static [u8]);
+
+const TYPES: [TypeRow; 10] = [
     (&[Make::Int], b"int"),
     (&[Make::Bool], b"bool"),
     (&[Make::Str], b"string"),
@@ -50,6 +52,11 @@ const TYPES: [(&[Make], &[u8]); 10] = [
         b"*proc(->proc(int,string->bool))",
     ),
 ];
+
+// Types as they are made, and the text of each.
+fn type_rows() -> &'static [TypeRow; 10] {
+    &TYPES
+}
 
 fn last(types: &mut Vec<Ty>) -> Result<Ty, Fail> {
     Ok(types.pop().ok_or("no type")?)
@@ -88,11 +95,16 @@ fn has_text(alloc: Global, ty: &Ty, wanted: &[u8]) -> bool {
     }
 }
 
+// Whether the type of a row is made, with its text.
+fn row_holds(alloc: Global, (makes, text): &TypeRow) -> Result<bool, Fail> {
+    let ty = made(alloc, makes)?;
+    Ok(has_text(alloc, &ty, text))
+}
+
 #[test]
 fn types_have_their_texts(rt: HostRuntime) -> Result<(), Fail> {
-    for (makes, text) in &TYPES {
-        let ty = made(rt.alloc(), makes)?;
-        assert!(rt; has_text(rt.alloc(), &ty, text));
+    for row in type_rows() {
+        assert!(rt; row_holds(rt.alloc(), row)?);
     }
     Ok(())
 }
@@ -104,13 +116,20 @@ fn make_the_same(alloc: Global, makes: &[Make], others: &[Make]) -> Result<bool,
     Ok(same_type(&ty, &other))
 }
 
+// Whether the type that is made so is the same as that of this row alone.
+fn is_alone(alloc: Global, place: usize, makes: &[Make]) -> Result<bool, Fail> {
+    for (other_place, (others, _)) in type_rows().iter().enumerate() {
+        if make_the_same(alloc, makes, others)? != (place == other_place) {
+            return Ok(false);
+        }
+    }
+    Ok(true)
+}
+
 #[test]
 fn only_one_type_is_the_same(rt: HostRuntime) -> Result<(), Fail> {
-    for (place, (makes, _)) in TYPES.iter().enumerate() {
-        for (other_place, (others, _)) in TYPES.iter().enumerate() {
-            let is_same = make_the_same(rt.alloc(), makes, others)?;
-            assert_eq!(rt; is_same, place == other_place);
-        }
+    for (place, (makes, _)) in type_rows().iter().enumerate() {
+        assert!(rt; is_alone(rt.alloc(), place, makes)?);
     }
     Ok(())
 }
