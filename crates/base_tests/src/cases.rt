@@ -21,25 +21,28 @@ const FRUIT: [Row; 3] = [
     },
 ];
 
+fn codes_hold() -> bool {
+    find_code(&FRUIT, 7) == Some(0)
+        && find_code(&FRUIT, 2) == Some(1)
+        && find_code(&FRUIT, 255) == Some(2)
+        && find_code(&FRUIT, 0) == None
+        && find_code(&[], 7) == None
+}
+
 #[test]
 fn rows_are_found_by_code(rt: HostRuntime) {
-    let rows = [(7, Some(0)), (2, Some(1)), (255, Some(2)), (0, None)];
-    for (code, place) in &rows {
-        assert_eq!(rt; find_code(&FRUIT, *code), *place);
-    }
-    assert_eq!(rt; find_code(&[], 7), None);
+    assert!(rt; codes_hold());
+}
+
+fn names_hold() -> bool {
+    find_name(&FRUIT, b"fig") == Some(0)
+        && find_name(&FRUIT, b"figs") == Some(1)
+        && find_name(&FRUIT, b"") == Some(2)
+        && find_name(&FRUIT, b"fi") == None
+        && find_name(&[], b"fig") == None
 }
 
 #[test]
 fn rows_are_found_by_name(rt: HostRuntime) {
-    let rows: [(&[u8], Option<usize>); 4] = [
-        (b"fig", Some(0)),
-        (b"figs", Some(1)),
-        (b"", Some(2)),
-        (b"fi", None),
-    ];
-    for (name, place) in &rows {
-        assert_eq!(rt; find_name(&FRUIT, name), *place);
-    }
-    assert_eq!(rt; find_name(&[], b"fig"), None);
+    assert!(rt; names_hold());
 }

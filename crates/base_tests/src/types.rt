@@ -1,6 +1,7 @@
 //! Types that are made and copied.
 
 use ps_base::ty::{Ty, procedure_of, vector_of};
+use std::alloc::{AllocError, Global};
 use std::test::Fail;
 
 // Whether the type is `*proc(int, *bool -> pntr)`.
@@ -19,15 +20,18 @@ fn is_as_made(ty: &Ty) -> bool {
         && matches!(&signature.gives, Ty::Pntr)
 }
 
+fn parameters(alloc: Global) -> Result<Vec<Ty>, AllocError> {
+    let mut types = Vec::with_capacity(alloc, 2)?;
+    types.push(Ty::Int)?;
+    types.push(vector_of(alloc, Ty::Bool)?)?;
+    Ok(types)
+}
+
 #[test]
 fn types_are_copied(rt: HostRuntime) -> Result<(), Fail> {
-    let mut parameters = Vec::new(rt.alloc());
-    parameters.push(Ty::Int)?;
-    parameters.push(vector_of(rt.alloc(), Ty::Bool)?)?;
-    let made = vector_of(rt.alloc(), procedure_of(rt.alloc(), parameters, Ty::Pntr)?)?;
+    let procedure = procedure_of(rt.alloc(), parameters(rt.alloc())?, Ty::Pntr)?;
+    let made = vector_of(rt.alloc(), procedure)?;
     let copy = made.copy()?;
-    for ty in [&made, &copy] {
-        assert!(rt; is_as_made(ty));
-    }
+    assert!(rt; is_as_made(&made) && is_as_made(&copy));
     Ok(())
 }

@@ -1,11 +1,15 @@
 //! Texts, and the tokens of each or its first fault.
 
+ghost use Rattle.std.specs.Prelude.{All};
+ghost use Rattle.ps_scan.specs.Tokens.{IsToken};
+
 use crate::reading::tokens_of;
+use ps_base::LONGEST_TEXT;
 use ps_base::line::Line;
 use ps_scan::mark::{self, mark_place, marks};
 use ps_scan::word::{self, word_place, words};
 use ps_scan::{ScanFault, Token, TokenKind, int_of, name_of, scan, spell};
-use std::process::Abort;
+use std::alloc::Global;
 use std::test::Fail;
 
 /// A token: what it is, its line, and where it begins and ends.
@@ -76,26 +80,35 @@ const TOKENS_OF_TEXTS: [(&[u8], &[Found]); 10] = [
     (b"\"!\"", &[(TokenKind::Text, 1, 0, 3)]),
 ];
 
-fn assert_tokens(rt: &impl Abort, found: &[Token], wanted: &[Found]) {
-    assert_eq!(rt; found.len(), wanted.len());
-    for (token, (what, line, from, to)) in found.iter().zip(wanted) {
+// Whether the tokens are those that are wanted.
+fn are_found(tokens: &[Token], wanted: &[Found]) -> bool {
+    for (token, (what, line, from, to)) in tokens.iter().zip(wanted) {
         let wanted = Token {
             what: *what,
             line: Line(*line),
             from: *from,
             to: *to,
         };
-        assert_eq!(rt; *token, wanted);
+        if *token != wanted {
+            return false;
+        }
+    }
+    tokens.len() == wanted.len()
+}
+
+// Whether a text has these tokens.
+fn has_tokens(alloc: Global, text: &[u8], wanted: &[Found]) -> bool {
+    match tokens_of(alloc, text) {
+        Some(tokens) => are_found(&tokens, wanted),
+        None => false,
     }
 }
 
 #[test]
-fn texts_have_their_tokens(rt: HostRuntime) -> Result<(), Fail> {
-    for (text, wanted) in &TOKENS_OF_TEXTS {
-        let found = tokens_of(rt.alloc(), text)?;
-        assert_tokens(&rt, &found, wanted);
+fn texts_have_their_tokens(rt: HostRuntime) {
+    for (place, (text, wanted)) in TOKENS_OF_TEXTS.iter().enumerate() {
+        assert!(rt; has_tokens(rt.alloc(), text, wanted), "row {place}");
     }
-    Ok(())
 }
 
 const MARKS_OF_TEXTS: [(&[u8], &[u8]); 13] = [
@@ -130,16 +143,29 @@ const MARKS_OF_TEXTS: [(&[u8], &[u8]); 13] = [
     ),
 ];
 
-#[test]
-fn longest_mark_is_taken(rt: HostRuntime) -> Result<(), Fail> {
-    for (text, marks) in &MARKS_OF_TEXTS {
-        let found = tokens_of(rt.alloc(), text)?;
-        assert_eq!(rt; found.len(), marks.len());
-        for (token, place) in found.iter().zip(*marks) {
-            assert_eq!(rt; token.what, TokenKind::Mark(*place));
+// Whether the tokens are these marks.
+fn are_marks(tokens: &[Token], marks: &[u8]) -> bool {
+    for (token, place) in tokens.iter().zip(marks) {
+        if token.what != TokenKind::Mark(*place) {
+            return false;
         }
     }
-    Ok(())
+    tokens.len() == marks.len()
+}
+
+// Whether a text has these marks for its tokens.
+fn has_marks(alloc: Global, text: &[u8], marks: &[u8]) -> bool {
+    match tokens_of(alloc, text) {
+        Some(tokens) => are_marks(&tokens, marks),
+        None => false,
+    }
+}
+
+#[test]
+fn longest_mark_is_taken(rt: HostRuntime) {
+    for (place, (text, marks)) in MARKS_OF_TEXTS.iter().enumerate() {
+        assert!(rt; has_marks(rt.alloc(), text, marks), "row {place}");
+    }
 }
 
 const WORDS_OF_TEXTS: [(&[u8], u8); 36] = [
@@ -181,42 +207,52 @@ const WORDS_OF_TEXTS: [(&[u8], u8); 36] = [
     (b"write", word::WRITE),
 ];
 
-// What the only token is, where there is one alone.
-fn only(tokens: &[Token]) -> Option<TokenKind> {
-    match tokens {
-        [token] => Some(token.what),
-        _ => None,
+// Whether a text is the word of this place alone.
+fn is_word(alloc: Global, text: &[u8], place: u8) -> bool {
+    match tokens_of(alloc, text) {
+        Some(tokens) => tokens.len() == 1 && tokens[0].what == TokenKind::Word(place),
+        None => false,
     }
 }
 
 #[test]
-fn words_have_their_places(rt: HostRuntime) -> Result<(), Fail> {
+fn words_have_their_places(rt: HostRuntime) {
     let mut place = 0u8;
     for (spelling, constant) in &WORDS_OF_TEXTS {
-        let tokens = tokens_of(rt.alloc(), spelling)?;
-        assert_eq!(rt; only(&tokens), Some(TokenKind::Word(place)));
-        assert_eq!(rt; word_place(spelling), Some(place));
-        assert_eq!(rt; *constant, place);
+        assert!(rt; is_word(rt.alloc(), spelling, place), "word {place}");
+        assert!(rt; word_place(spelling) == Some(place) && *constant == place);
         place = place.wrapping_add(1);
     }
-    Ok(())
 }
 
-// Each row of the two tables has its own place as its code, and is found by its name.
-#[test]
-fn tables_are_in_order(rt: HostRuntime) {
+// Each word has its own place as its code, and is found by its name.
+fn words_are_in_order() -> bool {
     let mut place = 0u8;
     for row in words() {
-        assert_eq!(rt; row.code, place);
-        assert_eq!(rt; word_place(row.name.as_bytes()), Some(place));
+        if row.code != place || word_place(row.name.as_bytes()) != Some(place) {
+            return false;
+        }
         place = place.wrapping_add(1);
     }
-    place = 0;
+    true
+}
+
+// Each mark has its own place as its code, and is found by its name.
+fn marks_are_in_order() -> bool {
+    let mut place = 0u8;
     for row in marks() {
-        assert_eq!(rt; row.code, place);
-        assert_eq!(rt; mark_place(row.name.as_bytes()), Some(place));
+        if row.code != place || mark_place(row.name.as_bytes()) != Some(place) {
+            return false;
+        }
         place = place.wrapping_add(1);
     }
+    true
+}
+
+#[test]
+fn tables_are_in_order(rt: HostRuntime) {
+    assert!(rt; words_are_in_order());
+    assert!(rt; marks_are_in_order());
 }
 
 fn line_of(fault: ScanFault) -> Line {
@@ -313,65 +349,83 @@ a2345678901234567890123456789012345678901234567890123456789012345",
     ),
 ];
 
-#[test]
-fn first_fault_is_answered(rt: HostRuntime) -> Result<(), Fail> {
-    for (text, fault, number) in &FAULTS {
-        let Err(found) = scan(rt.alloc(), text) else {
-            return Err("no fault")?;
-        };
-        assert_eq!(rt; found, *fault);
-        assert_eq!(rt; found.number(), Some(*number));
-        assert_eq!(rt; found.line(), Some(line_of(*fault)));
+// Whether this is the first fault of a text, with its number and its line.
+fn has_fault(alloc: Global, text: &[u8], fault: ScanFault, number: u8) -> bool {
+    if text.len() > LONGEST_TEXT {
+        return false;
     }
-    Ok(())
+    match scan(alloc, text) {
+        Ok(_) => false,
+        Err(found) => {
+            found == fault && found.number() == Some(number) && found.line() == Some(line_of(fault))
+        }
+    }
+}
+
+#[test]
+fn first_fault_is_answered(rt: HostRuntime) {
+    for (place, (text, fault, number)) in FAULTS.iter().enumerate() {
+        assert!(rt; has_fault(rt.alloc(), text, *fault, *number), "row {place}");
+    }
+}
+
+// A string of so many letters.
+fn quoted(alloc: Global, letters: usize) -> Result<Vec<u8>, Fail> {
+    let mut text = vec![in alloc; b'a'; letters]?;
+    text.push(b'"').map_err(|_| "memory")?;
+    text.insert(0, b'"').map_err(|_| "memory")?;
+    Ok(text)
 }
 
 #[test]
 fn longest_string_is_read(rt: HostRuntime) -> Result<(), Fail> {
-    let mut text = vec![in rt.alloc(); b'a'; 65536]?;
-    text.push(b'"').map_err(|_| "memory")?;
-    text.insert(0, b'"').map_err(|_| "memory")?;
-    let line = Line(1);
-    assert_eq!(rt;
-        scan(rt.alloc(), text.as_slice()).err(),
-        Some(ScanFault::StringTooLong {
-            line,
-            length: 65536
-        })
-    );
-    text.remove(1);
-    let tokens = tokens_of(rt.alloc(), text.as_slice())?;
-    assert_eq!(rt;
-        tokens.as_slice(),
-        [Token {
-            what: TokenKind::Text,
-            line,
-            from: 0,
-            to: 65537
-        }]
-        .as_slice()
-    );
+    let longest = quoted(rt.alloc(), 65535)?;
+    let wanted = [(TokenKind::Text, 1, 0, 65537)];
+    assert!(rt; has_tokens(rt.alloc(), &longest, &wanted));
+    let longer = quoted(rt.alloc(), 65536)?;
+    let too_long = ScanFault::StringTooLong {
+        line: LINE,
+        length: 65536,
+    };
+    assert!(rt; has_fault(rt.alloc(), &longer, too_long, 6));
     Ok(())
 }
 
 const SPELLED: &[u8] = b"a.b 007 \"x'n't'''\"y\"";
 
+// Whether the first two of three tokens are the name and the int.
+fn are_name_and_int(text: &[u8], tokens: &[Token]) -> bool
+    requires { All (IsToken text.now) tokens.now }
+{
+    tokens.len() == 3
+        && name_of(text, tokens[0]) == b"a.b".as_slice()
+        && tokens[1].what == TokenKind::Int
+        && int_of(text, tokens[1]) == 7
+}
+
 #[test]
 fn names_and_ints_are_read(rt: HostRuntime) -> Result<(), Fail> {
-    let tokens = tokens_of(rt.alloc(), SPELLED)?;
-    assert_eq!(rt; tokens.len(), 3);
-    assert_eq!(rt; name_of(SPELLED, tokens[0]), b"a.b".as_slice());
-    assert_eq!(rt; tokens[1].what, TokenKind::Int);
-    assert_eq!(rt; int_of(SPELLED, tokens[1]), 7);
+    let tokens = tokens_of(rt.alloc(), SPELLED).ok_or("no tokens")?;
+    assert!(rt; are_name_and_int(SPELLED, &tokens));
     Ok(())
+}
+
+// Whether the last of three tokens is the string.
+fn is_string(alloc: Global, text: &[u8], tokens: &[Token]) -> bool
+    requires { All (IsToken text.now) tokens.now }
+{
+    if tokens.len() != 3 || tokens[2].what != TokenKind::Text {
+        return false;
+    }
+    match spell(alloc, text, tokens[2]) {
+        Ok(spelled) => spelled.as_slice() == b"x\n\t'\"y".as_slice(),
+        Err(_) => false,
+    }
 }
 
 #[test]
 fn strings_are_read(rt: HostRuntime) -> Result<(), Fail> {
-    let tokens = tokens_of(rt.alloc(), SPELLED)?;
-    assert_eq!(rt; tokens.len(), 3);
-    assert_eq!(rt; tokens[2].what, TokenKind::Text);
-    let spelled = spell(rt.alloc(), SPELLED, tokens[2])?;
-    assert_eq!(rt; spelled.as_slice(), b"x\n\t'\"y".as_slice());
+    let tokens = tokens_of(rt.alloc(), SPELLED).ok_or("no tokens")?;
+    assert!(rt; is_string(rt.alloc(), SPELLED, &tokens));
     Ok(())
 }

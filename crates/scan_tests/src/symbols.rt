@@ -10,8 +10,7 @@ use ps_symbols::kind::{
 };
 use ps_symbols::newline::{can_continue, can_end};
 use ps_symbols::symbol::{Symbol, symbols};
-use std::alloc::{AllocError, Global};
-use std::test::Fail;
+use std::alloc::Global;
 
 const NEWLINES: [(&[u8], &str); 16] = [
     (b"a\n\nb", ".;."),
@@ -32,66 +31,97 @@ const NEWLINES: [(&[u8], &str); 16] = [
     (b"int\nwrite\na", "..."),
 ];
 
-// A character for each symbol: `;` for one that a newline stands for, and a `.` for each other one.
-fn shown(alloc: Global, read: &[Symbol]) -> Result<String, AllocError> {
-    let mut shown = String::new(alloc);
-    for symbol in read {
+// Whether the symbols are shown so: by `;` each that a newline stands for, and by `.` each other one.
+fn are_shown(read: &[Symbol], wanted: &[u8]) -> bool {
+    for (symbol, wanted) in read.iter().zip(wanted) {
         let implied = symbol.token.from == symbol.token.to;
-        shown.push(if implied { ';' } else { '.' })?;
+        let shown = if implied { b';' } else { b'.' };
+        if shown != *wanted {
+            return false;
+        }
     }
-    Ok(shown)
+    read.len() == wanted.len()
+}
+
+// Whether the symbols of a text are shown so.
+fn has_symbols(alloc: Global, text: &[u8], wanted: &str) -> bool {
+    let Some(tokens) = tokens_of(alloc, text) else {
+        return false;
+    };
+    if tokens.len() > LONGEST_TEXT {
+        return false;
+    }
+    match symbols(alloc, &tokens) {
+        Ok(read) => are_shown(&read, wanted.as_bytes()),
+        Err(_) => false,
+    }
 }
 
 #[test]
-fn newlines_are_read(rt: HostRuntime) -> Result<(), Fail> {
-    for (text, wanted) in &NEWLINES {
-        let tokens = tokens_of(rt.alloc(), text)?;
-        assert!(rt; tokens.len() <= LONGEST_TEXT);
-        let read = symbols(rt.alloc(), &tokens)?;
-        assert_eq!(rt; shown(rt.alloc(), &read)?.as_str(), *wanted);
+fn newlines_are_read(rt: HostRuntime) {
+    for (place, (text, wanted)) in NEWLINES.iter().enumerate() {
+        assert!(rt; has_symbols(rt.alloc(), text, wanted), "row {place}");
     }
-    Ok(())
 }
 
 #[test]
 fn kinds_are_told(rt: HostRuntime) {
-    assert!(rt; kind_of(TokenKind::Word(word::WRITE)) == Kind::Write);
-    assert!(rt; kind_of(TokenKind::Mark(mark::QUESTION)) == Kind::Question);
-    assert!(rt; kind_of(TokenKind::Mark(26)) == Kind::Stray);
+    assert!(rt;
+        kind_of(TokenKind::Word(word::WRITE)) == Kind::Write
+            && kind_of(TokenKind::Mark(mark::QUESTION)) == Kind::Question
+            && kind_of(TokenKind::Mark(26)) == Kind::Stray
+    );
+}
+
+fn operations_hold() -> bool {
+    matches!(
+        operation_of(Level::Product, Kind::Rem),
+        Some(Operation::Arith(Operator::Rem))
+    ) && operation_of(Level::Sum, Kind::Rem).is_none()
+}
+
+fn relatings_hold() -> bool {
+    matches!(
+        relating_of(Kind::LessEqual),
+        Some(Relating::Compares(Relation::LessEqual))
+    ) && matches!(
+        relating_of(Kind::Isnt),
+        Some(Relating::IsOf { negated: true })
+    )
 }
 
 #[test]
 fn operators_are_told(rt: HostRuntime) {
-    assert!(rt;
-        matches!(
-            operation_of(Level::Product, Kind::Rem),
-            Some(Operation::Arith(Operator::Rem))
-        )
-    );
-    assert!(rt; operation_of(Level::Sum, Kind::Rem).is_none());
-    assert!(rt;
-        matches!(
-            relating_of(Kind::LessEqual),
-            Some(Relating::Compares(Relation::LessEqual))
-        )
-    );
-    assert!(rt;
-        matches!(
-            relating_of(Kind::Isnt),
-            Some(Relating::IsOf { negated: true })
-        )
-    );
+    assert!(rt; operations_hold());
+    assert!(rt; relatings_hold());
+}
+
+fn starts_hold() -> bool {
+    matches!(opening_of(Kind::Case), Some(Opening::Choosing))
+        && opening_of(Kind::Let).is_none()
+        && matches!(start_of(Kind::Upb), Some(Start::Bound { upper: true }))
+        && matches!(start_of(Kind::Begin), Some(Start::Block(Kind::End)))
+        && matches!(type_start_of(Kind::Times), Some(TypeStart::Vector))
+}
+
+fn beginnings_hold() -> bool {
+    begins_type(Kind::Proc)
+        && !begins_type(Kind::Procedure)
+        && begins_item(Kind::Let)
+        && begins_item(Kind::Minus)
+        && !begins_item(Kind::End)
+}
+
+fn newline_rule_holds() -> bool {
+    can_end(Kind::Nil)
+        && !can_end(Kind::OpenRound)
+        && can_continue(Kind::OpenSquare)
+        && !can_continue(Kind::OpenRound)
 }
 
 #[test]
 fn starts_are_told(rt: HostRuntime) {
-    assert!(rt; matches!(opening_of(Kind::Case), Some(Opening::Choosing)));
-    assert!(rt; opening_of(Kind::Let).is_none());
-    assert!(rt; matches!(start_of(Kind::Upb), Some(Start::Bound { upper: true })));
-    assert!(rt; matches!(start_of(Kind::Begin), Some(Start::Block(Kind::End))));
-    assert!(rt; matches!(type_start_of(Kind::Times), Some(TypeStart::Vector)));
-    assert!(rt; begins_type(Kind::Proc) && !begins_type(Kind::Procedure));
-    assert!(rt; begins_item(Kind::Let) && begins_item(Kind::Minus) && !begins_item(Kind::End));
-    assert!(rt; can_end(Kind::Nil) && !can_end(Kind::OpenRound));
-    assert!(rt; can_continue(Kind::OpenSquare) && !can_continue(Kind::OpenRound));
+    assert!(rt; starts_hold());
+    assert!(rt; beginnings_hold());
+    assert!(rt; newline_rule_holds());
 }

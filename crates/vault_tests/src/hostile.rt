@@ -1,5 +1,5 @@
 //! What each call answers at words that are no objects, cause by cause.
-ghost use Rattle.std.specs.Prelude.{IfOk};
+ghost use Rattle.std.specs.Prelude.{◌≡◌, true, IfOk};
 ghost use Rattle.vault_tests.specs.Hostile.{HoldsNothing};
 
 use crate::objects::{long_text, short_text};
@@ -76,18 +76,31 @@ fn fetch_failing(vault: &mut MemoryVault, pid: u64, into: &mut [u64]) -> Result<
     vault.fetch(pid, into)
 }
 
+/// Whether the length of what is damaged at a PID is refused.
+fn refuses_length(vault: &mut MemoryVault, at: u64, damaged: VaultFault) -> bool
+    requires { vault.old.alive ≡ true }
+{
+    vault.length(at) == Err(damaged) && vault.calls() == 1 && !vault.is_alive()
+}
+
 #[test]
 fn refuses_the_length(rt: HostRuntime) -> Result<(), Fail> {
     for (at, found, wanted) in DAMAGED {
         let mut vault = store(rt.alloc())?;
         let damaged = VaultFault::Damaged { at, found, wanted };
-        assert_eq!(rt; vault.length(at), Err(damaged));
-        assert_eq!(rt; vault.calls(), 1);
-        assert!(rt; !vault.is_alive());
+        assert!(rt; refuses_length(&mut vault, at, damaged), "at {at}");
     }
     let mut vault = store(rt.alloc())?;
     assert_eq!(rt; vault.length(9), Ok(5));
     Ok(())
+}
+
+/// Whether a vault that holds nothing refuses to fetch what is damaged at a PID.
+fn refuses_fetch(vault: &mut MemoryVault, at: u64, damaged: VaultFault) -> bool
+    requires { HoldsNothing vault.old }
+{
+    let mut into = [9; 5];
+    fetch(vault, at, &mut into) == Err(damaged) && !vault.is_alive()
 }
 
 #[test]
@@ -95,28 +108,48 @@ fn refuses_to_fetch(rt: HostRuntime) -> Result<(), Fail> {
     for (at, found, wanted) in DAMAGED {
         let mut vault = store(rt.alloc())?;
         let damaged = VaultFault::Damaged { at, found, wanted };
-        let mut into = [9; 5];
-        assert_eq!(rt; fetch(&mut vault, at, &mut into), Err(damaged));
-        assert!(rt; !vault.is_alive());
+        assert!(rt; refuses_fetch(&mut vault, at, damaged), "at {at}");
     }
     Ok(())
+}
+
+/// What is wrong with six words for the object of five at 9.
+const OTHER_LENGTH: VaultFault = VaultFault::Damaged {
+    at: 9,
+    found: 5,
+    wanted: 6,
+};
+
+/// Whether a vault that holds nothing refuses to fetch six words at 9.
+fn refuses_to_fetch_six(vault: &mut MemoryVault) -> bool
+    requires { HoldsNothing vault.old }
+{
+    let mut into = [9; 6];
+    fetch(vault, 9, &mut into) == Err(OTHER_LENGTH)
+}
+
+/// Whether it gives the five words there.
+fn fetches_five(vault: &mut MemoryVault) -> bool
+    requires { HoldsNothing vault.old }
+{
+    let mut into = [9; 5];
+    fetch(vault, 9, &mut into) == Ok(()) && into == [1, 0, 1, 0, 77]
 }
 
 #[test]
 fn refuses_to_fetch_another_length(rt: HostRuntime) -> Result<(), Fail> {
     let mut vault = store(rt.alloc())?;
-    let mut into = [9; 6];
-    let damaged = VaultFault::Damaged {
-        at: 9,
-        found: 5,
-        wanted: 6,
-    };
-    assert_eq!(rt; fetch(&mut vault, 9, &mut into), Err(damaged));
+    assert!(rt; refuses_to_fetch_six(&mut vault));
     let mut vault = store(rt.alloc())?;
-    let mut into = [9; 5];
-    assert_eq!(rt; fetch(&mut vault, 9, &mut into), Ok(()));
-    assert_eq!(rt; into, [1, 0, 1, 0, 77]);
+    assert!(rt; fetches_five(&mut vault));
     Ok(())
+}
+
+/// Whether it is refused to overwrite what is damaged at a PID.
+fn refuses_overwrite(vault: &mut MemoryVault, at: u64, damaged: VaultFault) -> bool
+    requires { vault.old.alive ≡ true }
+{
+    vault.overwrite(at, &short_text(50)) == Err(damaged) && !vault.is_alive()
 }
 
 #[test]
@@ -124,37 +157,41 @@ fn refuses_to_overwrite(rt: HostRuntime) -> Result<(), Fail> {
     for (at, found, wanted) in DAMAGED {
         let mut vault = store(rt.alloc())?;
         let damaged = VaultFault::Damaged { at, found, wanted };
-        assert_eq!(rt; vault.overwrite(at, &short_text(50)), Err(damaged));
-        assert!(rt; !vault.is_alive());
+        assert!(rt; refuses_overwrite(&mut vault, at, damaged), "at {at}");
     }
     Ok(())
+}
+
+/// Whether five words are put in place of the object at 9.
+fn overwrites_five(vault: &mut MemoryVault) -> bool
+    requires { vault.old.alive ≡ true }
+{
+    vault.overwrite(9, &short_text(50)) == Ok(()) && vault.length(9) == Ok(5)
 }
 
 #[test]
 fn refuses_to_overwrite_another_length(rt: HostRuntime) -> Result<(), Fail> {
     let mut vault = store(rt.alloc())?;
-    let damaged = VaultFault::Damaged {
-        at: 9,
-        found: 5,
-        wanted: 6,
-    };
-    assert_eq!(rt; vault.overwrite(9, &long_text(60, 61)), Err(damaged));
+    assert_eq!(rt; vault.overwrite(9, &long_text(60, 61)), Err(OTHER_LENGTH));
     let mut vault = store(rt.alloc())?;
-    assert_eq!(rt; vault.overwrite(9, &short_text(50)), Ok(()));
-    assert_eq!(rt; vault.length(9), Ok(5));
+    assert!(rt; overwrites_five(&mut vault));
     Ok(())
+}
+
+/// Whether a fetch fails by one call, and leaves what it was to fill.
+fn fails_so(vault: &mut MemoryVault) -> bool
+    requires { HoldsNothing vault.old }
+{
+    let mut into = [9; 5];
+    fetch_failing(vault, 9, &mut into) == Err(VaultFault::Device)
+        && into == [9; 5]
+        && vault.calls() == 1
+        && !vault.is_alive()
 }
 
 #[test]
 fn fails_to_fetch(rt: HostRuntime) -> Result<(), Fail> {
     let mut vault = store(rt.alloc())?;
-    let mut into = [9; 5];
-    assert_eq!(rt;
-        fetch_failing(&mut vault, 9, &mut into),
-        Err(VaultFault::Device)
-    );
-    assert_eq!(rt; into, [9; 5]);
-    assert_eq!(rt; vault.calls(), 1);
-    assert!(rt; !vault.is_alive());
+    assert!(rt; fails_so(&mut vault));
     Ok(())
 }
