@@ -1,6 +1,8 @@
 //! Closures and others that a store gives, and what is read of each.
+ghost use Rattle.std.specs.Prelude.{◌≤◌, ◌^◌};
 
 use crate::scene::{Ended, code, scope, store_of};
+use std::alloc::Global;
 use std::test::Fail;
 use swizzle::swizzle::Swizzle;
 
@@ -249,22 +251,42 @@ const FORGED: [Forged; 17] = [
 // Room for the objects of a row. What is taken for a closure comes first, to index 1, and what is read of it behind that.
 const WORDS: u32 = 40;
 
+// Whether the closure of a PID has this code in an area of so many words, and nothing is assigned there.
+fn reads_code(
+    alloc: Global,
+    words: u32,
+    objects: &[&[u64]],
+    pid: u64,
+    wanted: Result<u32, Ended>,
+) -> Result<bool, Fail>
+    requires low { 5 ≤ words }
+    requires high { words ≤ 2 ^ 25 }
+{
+    let mut vault = store_of(alloc, objects)?;
+    let mut sw = Swizzle::new(alloc, words)?;
+    Ok(code(&mut vault, &mut sw, pid) == wanted && sw.assigned().is_empty())
+}
+
+// The same of its scope.
+fn reads_scope(
+    alloc: Global,
+    objects: &[&[u64]],
+    pid: u64,
+    wanted: Result<Option<u32>, Ended>,
+) -> Result<bool, Fail> {
+    let mut vault = store_of(alloc, objects)?;
+    let mut sw = Swizzle::new(alloc, WORDS)?;
+    Ok(scope(&mut vault, &mut sw, pid) == wanted && sw.assigned().is_empty())
+}
+
 #[test]
 fn reads_what_a_store_gives(rt: HostRuntime) -> Result<(), Fail> {
     for row in &FORGED {
         let what = row.what;
-        let mut vault = store_of(rt.alloc(), row.objects)?;
-        let mut sw = Swizzle::new(rt.alloc(), WORDS)?;
-        assert_eq!(rt; code(&mut vault, &mut sw, row.pid), row.code, "{what}");
-        assert!(rt; sw.assigned().is_empty(), "{what}");
-        let mut other_vault = store_of(rt.alloc(), row.objects)?;
-        let mut other = Swizzle::new(rt.alloc(), WORDS)?;
-        assert_eq!(rt;
-            scope(&mut other_vault, &mut other, row.pid),
-            row.scope,
-            "{what}"
-        );
-        assert!(rt; other.assigned().is_empty(), "{what}");
+        let code = reads_code(rt.alloc(), WORDS, row.objects, row.pid, row.code)?;
+        assert!(rt; code, "the code of {what}");
+        let scope = reads_scope(rt.alloc(), row.objects, row.pid, row.scope)?;
+        assert!(rt; scope, "the scope of {what}");
     }
     Ok(())
 }
@@ -280,9 +302,8 @@ fn fetches_to_the_last_word(rt: HostRuntime) -> Result<(), Fail> {
         (7, Err(full(8, 7, 8))),
         (6, Err(full(1, 7, 7))),
     ] {
-        let mut vault = store_of(rt.alloc(), &objects)?;
-        let mut sw = Swizzle::new(rt.alloc(), words)?;
-        assert_eq!(rt; code(&mut vault, &mut sw, 8), wanted);
+        let right = reads_code(rt.alloc(), words, &objects, 8, wanted)?;
+        assert!(rt; right, "{words}");
     }
     Ok(())
 }

@@ -106,10 +106,17 @@ pub fn made(alloc: Global, words: u32, scoped: bool) -> Result<Area, Fail>
     ensures { IfOk result (λ made. IfOk made.closure (IsHeld made.sw)) }
 {
     let mut sw = Swizzle::new(alloc, words)?;
-    let code = made_code(&mut sw)?;
-    let scope = made_scope(&mut sw, scoped)?;
-    let closure = made_closure(&mut sw, code, scope);
+    let closure = made_in(&mut sw, scoped)?;
     Ok(Area { sw, closure })
+}
+
+// The closure behind its parts, or the end of making it.
+fn made_in(sw: &mut Swizzle, scoped: bool) -> Result<Result<u32, Ended>, Fail>
+    ensures { IfOk result (λ closure. IfOk closure (IsHeld sw.new)) }
+{
+    let code = made_code(sw)?;
+    let scope = made_scope(sw, scoped)?;
+    Ok(made_closure(sw, code, scope))
 }
 
 fn made_code(sw: &mut Swizzle) -> Result<u32, Fail>

@@ -10,7 +10,6 @@ use heap_places::value::Value;
 use heap_texts::fault::OpFault;
 use heap_texts::make::make_text;
 use memory_vault::silent::SilentVault;
-use obj_layout::vault::VaultFault;
 use std::alloc::Global;
 use std::test::Fail;
 use swizzle::fault::SwizzleFault;
@@ -18,6 +17,11 @@ use swizzle::swizzle::Swizzle;
 
 /// Room for the type's text and a vector.
 pub const WORDS: u32 = 60;
+
+/// Six words of the type's text, seven of the vector, and its most elements; and ten words more.
+pub const WIDE: u32 = 6 + 7 + 1_048_576 + 10;
+
+pub const SEVEN: Value = Value::Num(7);
 
 pub const NIL: Value = Value::Ref(None);
 
@@ -29,28 +33,15 @@ pub const BOUNDS: Ended = Ended::Trapped(3);
 pub enum Ended {
     /// A trap, by its number.
     Trapped(u32),
-    Full { top: u32, wanted: u32, size: u32 },
-    Damaged { at: u64, found: u64, wanted: u64 },
-    /// Another refusal of the store.
-    Refused(VaultFault),
+    /// The area is full, or the store refused an object.
+    Refused(SwizzleFault),
 }
 
 /// What a fault ends in.
 pub fn end_of(fault: OpFault) -> Ended {
     match fault {
         OpFault::Trap(trap) => Ended::Trapped(trap as u32),
-        OpFault::Swizzle(refused) => refusal_of(refused),
-    }
-}
-
-/// What a refusal ends in.
-pub fn refusal_of(fault: SwizzleFault) -> Ended {
-    match fault {
-        SwizzleFault::AreaFull { top, wanted, size } => Ended::Full { top, wanted, size },
-        SwizzleFault::Vault(VaultFault::Damaged { at, found, wanted }) => {
-            Ended::Damaged { at, found, wanted }
-        }
-        SwizzleFault::Vault(refused) => Ended::Refused(refused),
+        OpFault::Swizzle(refused) => Ended::Refused(refused),
     }
 }
 
@@ -99,31 +90,24 @@ pub fn near(sw: &Swizzle, text: u32, value: Value) -> Result<Value, Fail>
     }
 }
 
-/// Values whose objects, if they denote some, must be this text.
-pub fn all_near(
-    alloc: Global,
-    sw: &Swizzle,
-    text: u32,
-    values: &[Value],
-) -> Result<Vec<Value>, Fail>
-    requires { HoldsText sw.now text }
+/// So many sevens.
+pub fn sevens(alloc: Global, sw: &Swizzle, count: u32) -> Result<Vec<Value>, Fail>
     ensures { IfOk result (λ list. AreNear sw.now list.items) }
 {
     let mut list = Vec::new(alloc);
-    for value in values {
-        add_near(&mut list, sw, text, *value)?;
+    for _ in 0..count {
+        add_seven(&mut list, sw)?;
     }
     Ok(list)
 }
 
-// Puts such a value behind the others.
+// Puts a seven behind the others.
 #[tactic(auto, using(crate::proofs::NearLaws::near_more))]
-fn add_near(list: &mut Vec<Value>, sw: &Swizzle, text: u32, value: Value) -> Result<(), Fail>
-    requires text { HoldsText sw.now text }
-    requires near { AreNear sw.now list.old.items }
+fn add_seven(list: &mut Vec<Value>, sw: &Swizzle) -> Result<(), Fail>
+    requires { AreNear sw.now list.old.items }
     ensures { OnOk result (AreNear sw.now list.new.items) }
 {
-    list.push(near(sw, text, value)?)?;
+    list.push(SEVEN)?;
     Ok(())
 }
 
@@ -166,4 +150,35 @@ pub fn upper(sw: &mut Swizzle, vector: u32) -> Result<i32, SwizzleFault>
     requires { IsHeld sw.old vector }
 {
     high(sw, &mut SilentVault { asked: 0 }, vector)
+}
+
+/// Where the area ends behind a vector of ints that all are one value, or what that ended in and where the area ends then.
+pub fn top_behind_repeated(
+    alloc: Global,
+    words: u32,
+    low: i32,
+    high: i32,
+    fill: Value,
+) -> Result<Result<u32, (Ended, u32)>, Fail> {
+    let mut area = area_with(alloc, words.clamp(6, WIDE), b"*int")?;
+    let fill = near(&area.sw, area.ty, fill)?;
+    match repeated(&mut area.sw, area.ty, low, high, fill) {
+        Ok(_) => Ok(Ok(area.sw.top())),
+        Err(fault) => Ok(Err((end_of(fault), area.sw.top()))),
+    }
+}
+
+/// Where the area ends behind a list of so many sevens, or what that ended in and where the area ends then.
+pub fn top_behind_listed(
+    alloc: Global,
+    words: u32,
+    low: i32,
+    count: u32,
+) -> Result<Result<u32, (Ended, u32)>, Fail> {
+    let mut area = area_with(alloc, words.clamp(6, WIDE), b"*int")?;
+    let items = sevens(alloc, &area.sw, count)?;
+    match listed(&mut area.sw, area.ty, low, &items) {
+        Ok(_) => Ok(Ok(area.sw.top())),
+        Err(fault) => Ok(Err((end_of(fault), area.sw.top()))),
+    }
 }

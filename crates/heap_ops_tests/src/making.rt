@@ -1,8 +1,12 @@
 //! Bounds of vectors of one value and of lists at their edges.
 
-use crate::fixture::{BOUNDS, WORDS, all_near, area_with, end_of, listed, lower, repeated, upper};
+use crate::fixture::{
+    BOUNDS, SEVEN, WORDS, area_with, lower, repeated, top_behind_listed, top_behind_repeated, upper,
+};
 use heap_places::value::Value;
+use std::alloc::Global;
 use std::test::Fail;
+use swizzle::fault::SwizzleFault;
 
 #[test]
 fn makes_no_vectors_of_wrong_bounds(rt: HostRuntime) -> Result<(), Fail> {
@@ -17,12 +21,8 @@ fn makes_no_vectors_of_wrong_bounds(rt: HostRuntime) -> Result<(), Fail> {
         (i32::MIN, i32::MAX),
         (-1, i32::MAX),
     ] {
-        let mut area = area_with(rt.alloc(), WORDS, b"*int")?;
-        match repeated(&mut area.sw, area.ty, low, high, Value::Num(0)) {
-            Ok(_) => return Err("made".into()),
-            Err(fault) => assert_eq!(rt; end_of(fault), BOUNDS),
-        }
-        assert_eq!(rt; area.sw.top(), 7);
+        let found = top_behind_repeated(rt.alloc(), WORDS, low, high, Value::Num(0))?;
+        assert_eq!(rt; found, Err((BOUNDS, 7)));
     }
     Ok(())
 }
@@ -30,16 +30,27 @@ fn makes_no_vectors_of_wrong_bounds(rt: HostRuntime) -> Result<(), Fail> {
 #[test]
 fn makes_no_vectors_of_wrong_lists(rt: HostRuntime) -> Result<(), Fail> {
     for (low, count) in [(1, 0), (i32::MIN, 0), (i32::MAX, 2), (i32::MAX - 1, 3)] {
-        let mut area = area_with(rt.alloc(), WORDS, b"*int")?;
-        let items = [Value::Num(7); 3].split_at(count).0;
-        let items = all_near(rt.alloc(), &area.sw, area.ty, items)?;
-        match listed(&mut area.sw, area.ty, low, &items) {
-            Ok(_) => return Err("made".into()),
-            Err(fault) => assert_eq!(rt; end_of(fault), BOUNDS),
-        }
-        assert_eq!(rt; area.sw.top(), 7);
+        let found = top_behind_listed(rt.alloc(), WORDS, low, count)?;
+        assert_eq!(rt; found, Err((BOUNDS, 7)));
     }
     Ok(())
+}
+
+type Bound = Result<i32, SwizzleFault>;
+
+// The bounds that a vector tells.
+fn bounds_of(alloc: Global, first: i32, last: i32) -> Result<(Bound, Bound), Fail> {
+    let mut area = area_with(alloc, WORDS, b"*int")?;
+    match repeated(&mut area.sw, area.ty, first, last, SEVEN) {
+        Ok(vector) => {
+            let low = lower(&mut area.sw, vector);
+            if low.is_err() {
+                return Err("no lower bound".into());
+            }
+            Ok((low, upper(&mut area.sw, vector)))
+        }
+        Err(_) => Err("not made".into()),
+    }
 }
 
 #[test]
@@ -52,14 +63,7 @@ fn tells_the_bounds(rt: HostRuntime) -> Result<(), Fail> {
         (i32::MIN, i32::MIN + 1),
         (i32::MAX - 1, i32::MAX),
     ] {
-        let mut area = area_with(rt.alloc(), WORDS, b"*int")?;
-        match repeated(&mut area.sw, area.ty, first, last, Value::Num(7)) {
-            Ok(vector) => {
-                assert_eq!(rt; lower(&mut area.sw, vector), Ok(first));
-                assert_eq!(rt; upper(&mut area.sw, vector), Ok(last));
-            }
-            Err(_) => return Err("not made".into()),
-        }
+        assert_eq!(rt; bounds_of(rt.alloc(), first, last)?, (Ok(first), Ok(last)));
     }
     Ok(())
 }

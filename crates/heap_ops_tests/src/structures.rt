@@ -1,5 +1,5 @@
 //! Structures: what is made, what is told of them, and what is refused.
-ghost use Rattle.std.specs.Prelude.{IfOk, OnOk};
+ghost use Rattle.std.specs.Prelude.{◌≡◌, true, OnOk};
 ghost use Rattle.heap_ops_tests.specs.World.{IsReady};
 
 use crate::world::{Class, Of, Seen, To, World, structure, text};
@@ -8,13 +8,37 @@ use obj_layout::kind::Kind;
 use obj_layout::reference::Reference;
 use obj_layout::vault::VaultFault;
 use std::alloc::Global;
-use std::process::Abort;
 use std::test::Fail;
 use swizzle::fault::SwizzleFault;
 use swizzle::swizzle::Swizzle;
 
+// A call on a world.
+#[derive(Clone, Copy)]
+enum Call {
+    Get(Of, Class, u32),
+    Set(Of, Class, u32, To),
+    Is(Of, Class),
+    // The objects that were assigned are this one alone, or none for nil.
+    Assigned(Of),
+    // By hand: the object gets so many references and words, its first reference, a word.
+    Bend(u32, u32),
+    Refer(Of),
+    Put(u32, u64),
+}
+
+// A call and what it must answer, or what is found in a damaged object and what is wanted of it.
+type Row = (Call, Result<Seen, (u64, u64)>);
+
+const YES: Result<Seen, (u64, u64)> = Ok(Seen::Told(true));
+
+const NO: Result<Seen, (u64, u64)> = Ok(Seen::Told(false));
+
+const DONE: Result<Seen, (u64, u64)> = Ok(Seen::Done);
+
+const MISFIT: Result<Seen, (u64, u64)> = Ok(Seen::Misfit);
+
 // The fault of a damaged object that has no PID.
-fn damaged(found: u64, wanted: u64) -> SwizzleFault {
+fn damaged((found, wanted): (u64, u64)) -> SwizzleFault {
     SwizzleFault::Vault(VaultFault::Damaged {
         at: 0,
         found,
@@ -22,391 +46,293 @@ fn damaged(found: u64, wanted: u64) -> SwizzleFault {
     })
 }
 
-// A structure of the class `own` by hand, of so many references and words.
-fn bent(alloc: Global, refs: u32, nums: u32) -> Result<World, Fail>
-    ensures { IfOk result IsReady }
+fn answer(world: &mut World, call: Call) -> Result<Seen, SwizzleFault>
+    requires { IsReady world.old }
+    ensures { OnOk result (IsReady world.new) }
 {
+    match call {
+        Call::Get(of, class, field) => world.get(of, class, field),
+        Call::Set(of, class, field, to) => world.set(of, class, field, to),
+        Call::Is(of, class) => match world.is(of, class) {
+            Ok(told) => Ok(Seen::Told(told)),
+            Err(fault) => Err(fault),
+        },
+        Call::Assigned(of) => Ok(Seen::Told(world.has_assigned(of))),
+        Call::Bend(refs, nums) => Ok(Seen::Told(world.bend(refs, nums))),
+        Call::Refer(of) => Ok(Seen::Told(world.refer(of))),
+        Call::Put(index, word) => Ok(Seen::Told(world.put_word(index, word))),
+    }
+}
+
+// How many calls, one after the other, answered what they must. A refusal is the last answer.
+fn answered(world: &mut World, rows: &[Row]) -> usize
+    requires { IsReady world.old }
+{
+    let mut held = 0usize;
+    for (call, wanted) in rows {
+        let found = answer(world, *call);
+        if found != wanted.map_err(damaged) {
+            return held;
+        }
+        held = held.saturating_add(1);
+        if found.is_err() {
+            return held;
+        }
+    }
+    held
+}
+
+// The same in a world of its own.
+fn held(alloc: Global, rows: &[Row]) -> Result<usize, Fail> {
     let mut world = World::new(alloc)?;
-    if !world.bend(refs, nums) {
-        return Err("not bent".into());
-    }
-    let own = world.own;
-    if !world.refer(Some(own)) {
-        return Err("no slot for the class".into());
-    }
-    Ok(world)
+    Ok(answered(&mut world, rows))
 }
 
-// That a call isn't refused, and what it answers.
-fn gets(
-    rt: &impl Abort,
-    world: &mut World,
-    of: Of,
-    class: Class,
-    field: u32,
-    wanted: Seen,
-) -> Result<(), Fail>
-    requires { IsReady world.old }
-    ensures { OnOk result (IsReady world.new) }
+// That the fields of the object lie in two rows, behind its class and its home.
+fn lies_in_two_rows(world: &World) -> bool
+    requires { IsReady world.now }
 {
-    match world.get(of, class, field) {
-        Ok(seen) => {
-            assert_eq!(rt; seen, wanted);
-            Ok(())
-        }
-        Err(_) => Err("refused".into()),
-    }
-}
-
-fn sets(
-    rt: &impl Abort,
-    world: &mut World,
-    of: Of,
-    class: Class,
-    field: u32,
-    to: To,
-    wanted: Seen,
-) -> Result<(), Fail>
-    requires { IsReady world.old }
-    ensures { OnOk result (IsReady world.new) }
-{
-    match world.set(of, class, field, to) {
-        Ok(seen) => {
-            assert_eq!(rt; seen, wanted);
-            Ok(())
-        }
-        Err(_) => Err("refused".into()),
-    }
-}
-
-fn tells(rt: &impl Abort, world: &mut World, of: Of, class: Class, wanted: bool) -> Result<(), Fail>
-    requires { IsReady world.old }
-    ensures { OnOk result (IsReady world.new) }
-{
-    match world.is(of, class) {
-        Ok(told) => {
-            assert_eq!(rt; told, wanted);
-            Ok(())
-        }
-        Err(_) => Err("refused".into()),
-    }
+    world.sw.is_kind(world.object, Kind::Structure)
+        && world.sw.refs(world.object) == 3
+        && world.sw.nums(world.object) == 3
+        && world.slot(0) == Some(Reference::Local(world.own))
+        && world.slot(1) == Some(Reference::Local(world.name))
+        && world.slot(2) == Some(Reference::Nil)
+        && world.word(0) == Some(0)
+        && world.word(1) == Some(0xffff_ffff_ffff_fffb)
+        && world.word(2) == Some(1)
+        && world.sw.assigned().is_empty()
 }
 
 #[test]
 fn lays_fields_in_two_rows(rt: HostRuntime) -> Result<(), Fail> {
     let world = World::new(rt.alloc())?;
-    assert!(rt; world.sw.is_kind(world.object, Kind::Structure));
-    assert_eq!(rt;
-        (world.sw.refs(world.object), world.sw.nums(world.object)),
-        (3, 3)
-    );
-    assert_eq!(rt; world.slot(0), Some(Reference::Local(world.own)));
-    assert_eq!(rt; world.slot(1), Some(Reference::Local(world.name)));
-    assert_eq!(rt; world.slot(2), Some(Reference::Nil));
-    assert_eq!(rt; world.word(0), Some(0));
-    assert_eq!(rt; world.word(1), Some(0xffff_ffff_ffff_fffb));
-    assert_eq!(rt; world.word(2), Some(1));
-    assert_eq!(rt; world.sw.assigned(), [].as_slice());
+    assert!(rt; lies_in_two_rows(&world));
     Ok(())
 }
 
 #[test]
 fn tells_classes_by_their_texts(rt: HostRuntime) -> Result<(), Fail> {
-    let mut world = World::new(rt.alloc())?;
-    tells(&rt, &mut world, Of::Object, Class::Own, true)?;
-    tells(&rt, &mut world, Of::Object, Class::Equal, true)?;
-    tells(&rt, &mut world, Of::Object, Class::Other, false)?;
-    tells(&rt, &mut world, Of::Name, Class::Own, false)?;
-    tells(&rt, &mut world, Of::Nil, Class::Own, false)?;
+    const ROWS: [Row; 5] = [
+        (Call::Is(Of::Object, Class::Own), YES),
+        (Call::Is(Of::Object, Class::Equal), YES),
+        (Call::Is(Of::Object, Class::Other), NO),
+        (Call::Is(Of::Name, Class::Own), NO),
+        (Call::Is(Of::Nil, Class::Own), NO),
+    ];
+    assert_eq!(rt; held(rt.alloc(), &ROWS)?, ROWS.len());
     Ok(())
 }
 
 #[test]
 fn gets_fields_of_each_form(rt: HostRuntime) -> Result<(), Fail> {
-    let mut world = World::new(rt.alloc())?;
-    let name = Value::Ref(Some(world.name));
-    gets(
-        &rt,
-        &mut world,
-        Of::Object,
-        Class::Own,
-        0,
-        Seen::Value(name),
-    )?;
-    gets(
-        &rt,
-        &mut world,
-        Of::Object,
-        Class::Own,
-        1,
-        Seen::Value(Value::Num(-5)),
-    )?;
-    gets(
-        &rt,
-        &mut world,
-        Of::Object,
-        Class::Equal,
-        2,
-        Seen::Value(Value::Flag(true)),
-    )?;
-    gets(
-        &rt,
-        &mut world,
-        Of::Object,
-        Class::Own,
-        3,
-        Seen::Value(Value::Ref(None)),
-    )?;
-    gets(&rt, &mut world, Of::Object, Class::Own, 4, Seen::NoField)?;
+    const ROWS: [Row; 5] = [
+        (Call::Get(Of::Object, Class::Own, 0), Ok(Seen::Name)),
+        (
+            Call::Get(Of::Object, Class::Own, 1),
+            Ok(Seen::Value(Value::Num(-5))),
+        ),
+        (
+            Call::Get(Of::Object, Class::Equal, 2),
+            Ok(Seen::Value(Value::Flag(true))),
+        ),
+        (
+            Call::Get(Of::Object, Class::Own, 3),
+            Ok(Seen::Value(Value::Ref(None))),
+        ),
+        (Call::Get(Of::Object, Class::Own, 4), Ok(Seen::NoField)),
+    ];
+    assert_eq!(rt; held(rt.alloc(), &ROWS)?, ROWS.len());
     Ok(())
 }
 
 #[test]
 fn sets_fields_of_each_form(rt: HostRuntime) -> Result<(), Fail> {
-    let mut world = World::new(rt.alloc())?;
-    let object = Value::Ref(Some(world.object));
-    sets(
-        &rt,
-        &mut world,
-        Of::Object,
-        Class::Own,
-        3,
-        To::Of(Of::Object),
-        Seen::Done,
-    )?;
-    assert_eq!(rt; world.sw.assigned(), [world.object].as_slice());
-    sets(
-        &rt,
-        &mut world,
-        Of::Object,
-        Class::Own,
-        1,
-        To::Num(i32::MIN),
-        Seen::Done,
-    )?;
-    sets(
-        &rt,
-        &mut world,
-        Of::Object,
-        Class::Equal,
-        2,
-        To::Flag(false),
-        Seen::Done,
-    )?;
-    assert_eq!(rt; world.sw.assigned(), [world.object].as_slice());
-    gets(
-        &rt,
-        &mut world,
-        Of::Object,
-        Class::Own,
-        3,
-        Seen::Value(object),
-    )?;
-    gets(
-        &rt,
-        &mut world,
-        Of::Object,
-        Class::Own,
-        1,
-        Seen::Value(Value::Num(i32::MIN)),
-    )?;
-    gets(
-        &rt,
-        &mut world,
-        Of::Object,
-        Class::Own,
-        2,
-        Seen::Value(Value::Flag(false)),
-    )?;
+    const ROWS: [Row; 8] = [
+        (
+            Call::Set(Of::Object, Class::Own, 3, To::Of(Of::Object)),
+            DONE,
+        ),
+        (Call::Assigned(Of::Object), YES),
+        (
+            Call::Set(Of::Object, Class::Own, 1, To::Num(i32::MIN)),
+            DONE,
+        ),
+        (
+            Call::Set(Of::Object, Class::Equal, 2, To::Flag(false)),
+            DONE,
+        ),
+        (Call::Assigned(Of::Object), YES),
+        (Call::Get(Of::Object, Class::Own, 3), Ok(Seen::Object)),
+        (
+            Call::Get(Of::Object, Class::Own, 1),
+            Ok(Seen::Value(Value::Num(i32::MIN))),
+        ),
+        (
+            Call::Get(Of::Object, Class::Own, 2),
+            Ok(Seen::Value(Value::Flag(false))),
+        ),
+    ];
+    assert_eq!(rt; held(rt.alloc(), &ROWS)?, ROWS.len());
     Ok(())
 }
 
 #[test]
 fn refuses_values_of_other_forms(rt: HostRuntime) -> Result<(), Fail> {
-    let mut world = World::new(rt.alloc())?;
-    sets(
-        &rt,
-        &mut world,
-        Of::Object,
-        Class::Own,
-        1,
-        To::Of(Of::Nil),
-        Seen::Misfit,
-    )?;
-    sets(
-        &rt,
-        &mut world,
-        Of::Object,
-        Class::Own,
-        0,
-        To::Num(0),
-        Seen::Misfit,
-    )?;
-    sets(
-        &rt,
-        &mut world,
-        Of::Object,
-        Class::Own,
-        2,
-        To::Num(2),
-        Seen::Misfit,
-    )?;
-    sets(
-        &rt,
-        &mut world,
-        Of::Object,
-        Class::Own,
-        2,
-        To::Num(0),
-        Seen::Done,
-    )?;
-    gets(
-        &rt,
-        &mut world,
-        Of::Object,
-        Class::Own,
-        2,
-        Seen::Value(Value::Flag(false)),
-    )?;
+    const ROWS: [Row; 5] = [
+        (
+            Call::Set(Of::Object, Class::Own, 1, To::Of(Of::Nil)),
+            MISFIT,
+        ),
+        (Call::Set(Of::Object, Class::Own, 0, To::Num(0)), MISFIT),
+        (Call::Set(Of::Object, Class::Own, 2, To::Num(2)), MISFIT),
+        (Call::Set(Of::Object, Class::Own, 2, To::Num(0)), DONE),
+        (
+            Call::Get(Of::Object, Class::Own, 2),
+            Ok(Seen::Value(Value::Flag(false))),
+        ),
+    ];
+    assert_eq!(rt; held(rt.alloc(), &ROWS)?, ROWS.len());
     Ok(())
 }
 
 // Trap 4 of nil, and 5 of what is no structure of the class.
 #[test]
 fn traps(rt: HostRuntime) -> Result<(), Fail> {
-    let mut world = World::new(rt.alloc())?;
-    gets(&rt, &mut world, Of::Nil, Class::Own, 0, Seen::Trap(4))?;
-    gets(&rt, &mut world, Of::Name, Class::Own, 0, Seen::Trap(5))?;
-    gets(&rt, &mut world, Of::Object, Class::Other, 0, Seen::Trap(5))?;
-    sets(
-        &rt,
-        &mut world,
-        Of::Nil,
-        Class::Own,
-        1,
-        To::Num(1),
-        Seen::Trap(4),
-    )?;
-    sets(
-        &rt,
-        &mut world,
-        Of::Name,
-        Class::Own,
-        1,
-        To::Num(1),
-        Seen::Trap(5),
-    )?;
-    sets(
-        &rt,
-        &mut world,
-        Of::Object,
-        Class::Other,
-        1,
-        To::Num(1),
-        Seen::Trap(5),
-    )?;
-    assert_eq!(rt; world.sw.assigned(), [].as_slice());
+    const ROWS: [Row; 7] = [
+        (Call::Get(Of::Nil, Class::Own, 0), Ok(Seen::Trap(4))),
+        (Call::Get(Of::Name, Class::Own, 0), Ok(Seen::Trap(5))),
+        (Call::Get(Of::Object, Class::Other, 0), Ok(Seen::Trap(5))),
+        (
+            Call::Set(Of::Nil, Class::Own, 1, To::Num(1)),
+            Ok(Seen::Trap(4)),
+        ),
+        (
+            Call::Set(Of::Name, Class::Own, 1, To::Num(1)),
+            Ok(Seen::Trap(5)),
+        ),
+        (
+            Call::Set(Of::Object, Class::Other, 1, To::Num(1)),
+            Ok(Seen::Trap(5)),
+        ),
+        (Call::Assigned(Of::Nil), YES),
+    ];
+    assert_eq!(rt; held(rt.alloc(), &ROWS)?, ROWS.len());
     Ok(())
 }
 
 #[test]
 fn refuses_a_reference_too_few(rt: HostRuntime) -> Result<(), Fail> {
-    let mut world = bent(rt.alloc(), 2, 3)?;
-    tells(&rt, &mut world, Of::Object, Class::Own, true)?;
-    gets(&rt, &mut world, Of::Object, Class::Other, 1, Seen::Trap(5))?;
-    assert_eq!(rt; world.get(Of::Object, Class::Own, 1), Err(damaged(2, 3)));
+    const ROWS: [Row; 5] = [
+        (Call::Bend(2, 3), YES),
+        (Call::Refer(Of::Class), YES),
+        (Call::Is(Of::Object, Class::Own), YES),
+        (Call::Get(Of::Object, Class::Other, 1), Ok(Seen::Trap(5))),
+        (Call::Get(Of::Object, Class::Own, 1), Err((2, 3))),
+    ];
+    assert_eq!(rt; held(rt.alloc(), &ROWS)?, ROWS.len());
     Ok(())
 }
 
 #[test]
 fn refuses_a_word_too_many(rt: HostRuntime) -> Result<(), Fail> {
-    let mut world = bent(rt.alloc(), 3, 4)?;
-    assert_eq!(rt;
-        world.set(Of::Object, Class::Own, 1, To::Num(1)),
-        Err(damaged(4, 3))
-    );
+    const ROWS: [Row; 3] = [
+        (Call::Bend(3, 4), YES),
+        (Call::Refer(Of::Class), YES),
+        (
+            Call::Set(Of::Object, Class::Own, 1, To::Num(1)),
+            Err((4, 3)),
+        ),
+    ];
+    assert_eq!(rt; held(rt.alloc(), &ROWS)?, ROWS.len());
     Ok(())
 }
 
 #[test]
 fn refuses_a_word_that_is_no_bool(rt: HostRuntime) -> Result<(), Fail> {
-    let mut world = bent(rt.alloc(), 3, 3)?;
-    assert!(rt; world.put_word(2, 1));
-    gets(
-        &rt,
-        &mut world,
-        Of::Object,
-        Class::Own,
-        2,
-        Seen::Value(Value::Flag(true)),
-    )?;
-    assert!(rt; world.put_word(2, 2));
-    assert_eq!(rt; world.get(Of::Object, Class::Own, 2), Err(damaged(2, 2)));
+    const ROWS: [Row; 6] = [
+        (Call::Bend(3, 3), YES),
+        (Call::Refer(Of::Class), YES),
+        (Call::Put(2, 1), YES),
+        (
+            Call::Get(Of::Object, Class::Own, 2),
+            Ok(Seen::Value(Value::Flag(true))),
+        ),
+        (Call::Put(2, 2), YES),
+        (Call::Get(Of::Object, Class::Own, 2), Err((2, 2))),
+    ];
+    assert_eq!(rt; held(rt.alloc(), &ROWS)?, ROWS.len());
     Ok(())
 }
 
 #[test]
 fn refuses_a_word_that_is_no_int(rt: HostRuntime) -> Result<(), Fail> {
-    let mut world = bent(rt.alloc(), 3, 3)?;
-    assert!(rt; world.put_word(1, 0x7fff_ffff));
-    gets(
-        &rt,
-        &mut world,
-        Of::Object,
-        Class::Own,
-        1,
-        Seen::Value(Value::Num(i32::MAX)),
-    )?;
-    assert!(rt; world.put_word(1, 0xffff_ffff_8000_0000));
-    gets(
-        &rt,
-        &mut world,
-        Of::Object,
-        Class::Own,
-        1,
-        Seen::Value(Value::Num(i32::MIN)),
-    )?;
-    assert!(rt; world.put_word(1, 0x8000_0000));
-    assert_eq!(rt;
-        world.get(Of::Object, Class::Own, 1),
-        Err(damaged(0x8000_0000, 0x8000_0000))
-    );
+    const ROWS: [Row; 8] = [
+        (Call::Bend(3, 3), YES),
+        (Call::Refer(Of::Class), YES),
+        (Call::Put(1, 0x7fff_ffff), YES),
+        (
+            Call::Get(Of::Object, Class::Own, 1),
+            Ok(Seen::Value(Value::Num(i32::MAX))),
+        ),
+        (Call::Put(1, 0xffff_ffff_8000_0000), YES),
+        (
+            Call::Get(Of::Object, Class::Own, 1),
+            Ok(Seen::Value(Value::Num(i32::MIN))),
+        ),
+        (Call::Put(1, 0x8000_0000), YES),
+        (
+            Call::Get(Of::Object, Class::Own, 1),
+            Err((0x8000_0000, 0x8000_0000)),
+        ),
+    ];
+    assert_eq!(rt; held(rt.alloc(), &ROWS)?, ROWS.len());
     Ok(())
 }
 
 #[test]
 fn refuses_a_structure_without_a_class(rt: HostRuntime) -> Result<(), Fail> {
-    let mut world = World::new(rt.alloc())?;
-    assert!(rt; world.bend(3, 3));
-    assert_eq!(rt; world.is(Of::Object, Class::Own), Err(damaged(0, 1)));
-    let mut other = World::new(rt.alloc())?;
-    assert!(rt; other.bend(0, 3));
-    assert_eq!(rt; other.get(Of::Object, Class::Own, 1), Err(damaged(0, 1)));
+    const NIL: [Row; 2] = [
+        (Call::Bend(3, 3), YES),
+        (Call::Is(Of::Object, Class::Own), Err((0, 1))),
+    ];
+    assert_eq!(rt; held(rt.alloc(), &NIL)?, NIL.len());
+    const NONE: [Row; 2] = [
+        (Call::Bend(0, 3), YES),
+        (Call::Get(Of::Object, Class::Own, 1), Err((0, 1))),
+    ];
+    assert_eq!(rt; held(rt.alloc(), &NONE)?, NONE.len());
     Ok(())
 }
 
 #[test]
 fn refuses_a_class_that_is_no_text(rt: HostRuntime) -> Result<(), Fail> {
-    let mut world = World::new(rt.alloc())?;
-    assert!(rt; world.bend(3, 3));
-    let object = world.object;
-    assert!(rt; world.refer(Some(object)));
-    assert_eq!(rt; world.get(Of::Object, Class::Own, 1), Err(damaged(2, 1)));
+    const ROWS: [Row; 3] = [
+        (Call::Bend(3, 3), YES),
+        (Call::Refer(Of::Object), YES),
+        (Call::Get(Of::Object, Class::Own, 1), Err((2, 1))),
+    ];
+    assert_eq!(rt; held(rt.alloc(), &ROWS)?, ROWS.len());
     Ok(())
 }
 
-#[test]
-fn answers_a_full_area(rt: HostRuntime) -> Result<(), Fail> {
-    let mut sw = Swizzle::new(rt.alloc(), 16)?;
-    assert_eq!(rt; text(&mut sw, b"Ann"), Ok(1));
-    assert_eq!(rt; structure(&mut sw, 1, 1), Ok(7));
-    assert_eq!(rt; sw.top(), 17);
+// That a text and a structure fill an area of 16 words, so that a second structure is refused and takes nothing.
+fn fills(sw: &mut Swizzle) -> bool {
     let full = SwizzleFault::AreaFull {
         top: 17,
         wanted: 10,
         size: 17,
     };
-    assert_eq!(rt; structure(&mut sw, 1, 1), Err(full));
-    assert_eq!(rt; sw.top(), 17);
+    text(sw, b"Ann") == Ok(1)
+        && structure(sw, 1, 1) == Ok(7)
+        && sw.top() == 17
+        && structure(sw, 1, 1) == Err(full)
+        && sw.top() == 17
+}
+
+#[test]
+fn answers_a_full_area(rt: HostRuntime) -> Result<(), Fail> {
+    let mut sw = Swizzle::new(rt.alloc(), 16)?;
+    assert!(rt; fills(&mut sw));
     Ok(())
 }

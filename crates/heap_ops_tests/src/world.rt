@@ -49,6 +49,8 @@ pub enum Class {
 pub enum Of {
     Object,
     Name,
+    /// The text of the class `own`.
+    Class,
     Nil,
 }
 
@@ -61,9 +63,15 @@ pub enum To {
 }
 
 /// What a call answered.
-#[derive(Clone, Copy, PartialEq, Eq, Debug)]
+#[derive(Clone, Copy, PartialEq, Eq)]
 pub enum Seen {
+    /// The structure of the world.
+    Object,
+    /// The text that is a field of the structure.
+    Name,
+    /// Another value.
     Value(Value),
+    Told(bool),
     Done,
     Trap(u32),
     NoField,
@@ -150,6 +158,7 @@ impl World {
         match of {
             Of::Object => Some(self.object),
             Of::Name => Some(self.name),
+            Of::Class => Some(self.own),
             Of::Nil => None,
         }
     }
@@ -165,6 +174,14 @@ impl World {
         }
     }
 
+    fn seen(&self, value: Value) -> Seen {
+        match value {
+            Value::Ref(Some(at)) if at == self.object => Seen::Object,
+            Value::Ref(Some(at)) if at == self.name => Seen::Name,
+            _ => Seen::Value(value),
+        }
+    }
+
     /// The value of a field of a class.
     pub fn get(&mut self, of: Of, class: Class, field: u32) -> Result<Seen, SwizzleFault>
         requires { IsReady self.old }
@@ -176,7 +193,7 @@ impl World {
             return Ok(Seen::NoField);
         };
         match get_field(&mut self.sw, &mut self.vault, object, class, located) {
-            Ok(value) => Ok(Seen::Value(value)),
+            Ok(value) => Ok(self.seen(value)),
             Err(OpFault::Trap(trap)) => Ok(Seen::Trap(trap as u32)),
             Err(OpFault::Swizzle(fault)) => Err(fault),
         }
@@ -213,6 +230,16 @@ impl World {
         is_class(&mut self.sw, &mut self.vault, object, class)
     }
 
+    /// Whether this object alone was assigned, or none for nil.
+    pub fn has_assigned(&self, of: Of) -> bool
+        requires { IsReady self.now }
+    {
+        match self.denoted(of) {
+            Some(object) => self.sw.assigned() == [object].as_slice(),
+            None => self.sw.assigned().is_empty(),
+        }
+    }
+
     /// Makes the object one of so many references and words, by hand. False where there is no room.
     pub fn bend(&mut self, refs: u32, nums: u32) -> bool
         requires { IsReady self.old }
@@ -231,14 +258,14 @@ impl World {
     }
 
     /// Lets the first slot of the object denote something, by hand.
-    pub fn refer(&mut self, to: Option<u32>) -> bool
-        requires ready { IsReady self.old }
-        requires to { IfSome to (IsHeld self.old.sw) }
+    pub fn refer(&mut self, of: Of) -> bool
+        requires { IsReady self.old }
         ensures { IsReady self.new }
     {
         if self.sw.refs(self.object) == 0 {
             return false;
         }
+        let to = self.denoted(of);
         self.sw.set_ref(self.object, 0, to);
         true
     }

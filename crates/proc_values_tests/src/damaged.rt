@@ -28,12 +28,18 @@ fn fault_at(sw: &Swizzle, code: u32, at: u32) -> Option<SwizzleFault>
     }
 }
 
+fn names_no_code(sw: &mut Swizzle) -> bool
+    requires { IsHeld sw.old 28 }
+{
+    read(sw, 28, 0) == Ok(1)
+        && fault_at(sw, 1, 0) == Some(damaged(1, 6))
+        && read(sw, 1, 0) == Err(damaged(1, 6))
+}
+
 #[test]
 fn a_text_is_no_code(rt: HostRuntime) -> Result<(), Fail> {
     let mut sw = loaded(rt.alloc(), 50)?;
-    assert_eq!(rt; read(&mut sw, 28, 0), Ok(1));
-    assert_eq!(rt; fault_at(&sw, 1, 0), Some(damaged(1, 6)));
-    assert_eq!(rt; read(&mut sw, 1, 0), Err(damaged(1, 6)));
+    assert!(rt; names_no_code(&mut sw));
     Ok(())
 }
 
@@ -52,22 +58,30 @@ fn nil_is_no_constant(rt: HostRuntime) -> Result<(), Fail> {
     Ok(())
 }
 
+fn ends_at_twenty(sw: &Swizzle) -> bool
+    requires { IsHeld sw.now 28 }
+{
+    fault_at(sw, 28, 20) == Some(damaged(20, 20))
+        && fault_at(sw, 28, u32::MAX) == Some(damaged(4_294_967_295, 20))
+}
+
 #[test]
 fn no_instruction_is_behind_the_last(rt: HostRuntime) -> Result<(), Fail> {
     let sw = loaded(rt.alloc(), 50)?;
-    assert_eq!(rt; fault_at(&sw, 28, 20), Some(damaged(20, 20)));
-    assert_eq!(rt;
-        fault_at(&sw, 28, u32::MAX),
-        Some(damaged(4_294_967_295, 20))
-    );
+    assert!(rt; ends_at_twenty(&sw));
     Ok(())
+}
+
+fn has_one_instruction(sw: &Swizzle) -> bool
+    requires { IsHeld sw.now 1 }
+{
+    fault_at(sw, 1, 0) == None && fault_at(sw, 1, 1) == Some(damaged(1, 2))
 }
 
 #[test]
 fn an_unknown_code_is_no_instruction(rt: HostRuntime) -> Result<(), Fail> {
     let sw = with_code(rt.alloc(), [5, 78].as_slice())?;
-    assert_eq!(rt; fault_at(&sw, 1, 0), None);
-    assert_eq!(rt; fault_at(&sw, 1, 1), Some(damaged(1, 2)));
+    assert!(rt; has_one_instruction(&sw));
     Ok(())
 }
 

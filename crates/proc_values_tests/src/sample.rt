@@ -27,66 +27,88 @@ pub fn bytes(alloc: Global, from: &[u8]) -> Result<Bytes, AllocError> {
     Ok(Bytes::new(items))
 }
 
-/// A unit without constants and locals.
-pub fn plain(alloc: Global, code: &[u8]) -> Result<CodeUnit, AllocError> {
+// Puts a text behind the constants.
+fn push_text(alloc: Global, constants: &mut Vec<Constant>, text: &[u8]) -> Result<(), AllocError> {
+    constants.push(Constant::Text(bytes(alloc, text)?))?;
+    Ok(())
+}
+
+/// A unit whose constants are these texts.
+pub fn with_texts(
+    alloc: Global,
+    code: &[u8],
+    texts: &[&[u8]],
+    frame: Frame,
+) -> Result<CodeUnit, AllocError> {
+    let mut constants = Vec::new(alloc);
+    for text in texts {
+        push_text(alloc, &mut constants, text)?;
+    }
+    unit(alloc, code, constants, frame)
+}
+
+fn unit(
+    alloc: Global,
+    code: &[u8],
+    constants: Vec<Constant>,
+    frame: Frame,
+) -> Result<CodeUnit, AllocError> {
     Ok(CodeUnit {
         code: bytes(alloc, code)?,
-        constants: List::new(Vec::new(alloc)),
-        frame: Frame {
-            nums: 0,
-            refs: 0,
-            num_params: 0,
-            ref_params: 0,
-        },
+        constants: List::new(constants),
+        frame,
     })
+}
+
+/// A unit without constants and locals.
+pub fn plain(alloc: Global, code: &[u8]) -> Result<CodeUnit, AllocError> {
+    let frame = Frame {
+        nums: 0,
+        refs: 0,
+        num_params: 0,
+        ref_params: 0,
+    };
+    with_texts(alloc, code, &[], frame)
 }
 
 /// The unit that `docs/formats.md` lays out: `text 0; return 0`, in 10 bytes.
 pub fn worked_out(alloc: Global) -> Result<CodeUnit, AllocError> {
-    let mut constants = Vec::new(alloc);
-    constants.push(Constant::Text(bytes(alloc, b"ab".as_slice())?))?;
-    Ok(CodeUnit {
-        code: bytes(alloc, [4, 0, 0, 0, 0, 62, 0, 0, 0, 0].as_slice())?,
-        constants: List::new(constants),
-        frame: Frame {
-            nums: 1,
-            refs: 2,
-            num_params: 0,
-            ref_params: 1,
-        },
-    })
+    let frame = Frame {
+        nums: 1,
+        refs: 2,
+        num_params: 0,
+        ref_params: 1,
+    };
+    with_texts(alloc, &[4, 0, 0, 0, 0, 62, 0, 0, 0, 0], &[b"ab"], frame)
 }
 
 fn inner(alloc: Global) -> Result<CodeUnit, AllocError> {
-    let mut constants = Vec::new(alloc);
-    constants.push(Constant::Text(bytes(alloc, b"x".as_slice())?))?;
-    Ok(CodeUnit {
-        code: bytes(alloc, INNER.as_slice())?,
-        constants: List::new(constants),
-        frame: Frame {
-            nums: 5,
-            refs: 0,
-            num_params: 0,
-            ref_params: 65535,
-        },
-    })
+    let frame = Frame {
+        nums: 5,
+        refs: 0,
+        num_params: 0,
+        ref_params: 65535,
+    };
+    with_texts(alloc, &INNER, &[b"x"], frame)
+}
+
+// Puts the constants of the outer unit behind one another.
+fn push_outer(alloc: Global, constants: &mut Vec<Constant>) -> Result<(), AllocError> {
+    push_text(alloc, constants, b"ab")?;
+    constants.push(Constant::of_unit(alloc, inner(alloc)?)?)?;
+    push_text(alloc, constants, b"nine long")
 }
 
 pub fn outer(alloc: Global) -> Result<CodeUnit, AllocError> {
     let mut constants = Vec::new(alloc);
-    constants.push(Constant::Text(bytes(alloc, b"ab".as_slice())?))?;
-    constants.push(Constant::of_unit(alloc, inner(alloc)?)?)?;
-    constants.push(Constant::Text(bytes(alloc, b"nine long".as_slice())?))?;
-    Ok(CodeUnit {
-        code: bytes(alloc, OUTER.as_slice())?,
-        constants: List::new(constants),
-        frame: Frame {
-            nums: 1,
-            refs: 2,
-            num_params: 3,
-            ref_params: 4,
-        },
-    })
+    push_outer(alloc, &mut constants)?;
+    let frame = Frame {
+        nums: 1,
+        refs: 2,
+        num_params: 3,
+        ref_params: 4,
+    };
+    unit(alloc, &OUTER, constants, frame)
 }
 
 /// An area of so many words into which the unit was loaded.
@@ -103,17 +125,14 @@ pub fn loaded(alloc: Global, words: u32) -> Result<Swizzle, Fail>
     }
 }
 
-/// What a unit is answered in an area of so many words, and the top behind that.
-pub fn tried(
-    alloc: Global,
-    unit: &CodeUnit,
-    words: u32,
-) -> Result<(Option<SwizzleFault>, u32), Fail>
+/// What the outer unit is answered in an area of so many words, and the top behind that.
+pub fn tried(alloc: Global, words: u32) -> Result<(Option<SwizzleFault>, u32), Fail>
     requires low { 5 ≤ words }
     requires high { words ≤ 2 ^ 25 }
 {
+    let unit = outer(alloc)?;
     let mut sw = Swizzle::new(alloc, words)?;
-    match load_unit(&mut sw, unit) {
+    match load_unit(&mut sw, &unit) {
         Ok(_) => Ok((None, sw.top())),
         Err(fault) => Ok((Some(fault), sw.top())),
     }
