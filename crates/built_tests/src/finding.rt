@@ -1,6 +1,5 @@
 //! The program of a text searched for the first call of the library that isn't built.
 
-use anyhow::{Context, Result, bail};
 use ps_base::LONGEST_TEXT;
 use ps_base::line::Line;
 use ps_built::first_unbuilt_library;
@@ -8,42 +7,52 @@ use ps_check::check::check;
 use ps_parse::parse;
 use ps_scan::scan;
 use ps_tree::rough::Rough;
-use std::alloc::{AllocError, Global};
-use std::fmt::Write;
+use std::alloc::Global;
+use table_rows::Buffer;
 
-// The tree of a text that has no fault of the scanner and the parser.
-fn parsed(alloc: Global, text: &[u8]) -> Result<Rough> {
+// The tree of a text that is not too long and has no fault of the scanner and the parser.
+fn parsed(alloc: Global, text: &[u8]) -> Option<Rough> {
     if text.len() > LONGEST_TEXT {
-        bail!("a text that is too long");
+        return None;
     }
-    let tokens = scan(alloc, text).ok().context("a fault of the scanner")?;
-    parse(alloc, text, &tokens)
-        .ok()
-        .context("a fault of the parser")
+    match scan(alloc, text) {
+        Ok(tokens) => parse(alloc, text, &tokens).ok(),
+        Err(_) => None,
+    }
 }
 
-/// The line of the first call of the library in the program of a text that isn't built, as `line` and its number, or `none`.
-pub fn library_found(alloc: Global, text: &[u8]) -> Result<String> {
-    let rough = parsed(alloc, text)?;
-    let program = check(alloc, &rough).ok().context("a fault of the check")?;
-    let mut found = String::new(alloc);
-    match first_unbuilt_library(&program) {
-        Some(Line(line)) => write!(found, "line {line}")?,
-        None => found.push_str("none")?,
+/// Tells the line of the first call of the library in the program of a text that isn't built, as `line` and its number, or `none`.
+pub fn put_library_found(out: &mut Buffer, text: &[u8]) {
+    match parsed(out.alloc(), text) {
+        Some(rough) => put_found(out, &rough),
+        None => out.fail(),
     }
-    Ok(found)
 }
 
-/// The first of a chain and so many links.
-pub fn chain(
-    alloc: Global,
-    first: &[u8],
-    link: &[u8],
-    count: usize,
-) -> Result<Vec<u8>, AllocError> {
-    let mut text = Vec::from_slice(alloc, first)?;
-    for _ in 0..count {
-        text.extend_from_slice(link)?;
+fn put_found(out: &mut Buffer, rough: &Rough) {
+    match check(out.alloc(), rough) {
+        Ok(program) => put_line(out, first_unbuilt_library(&program)),
+        Err(_) => out.fail(),
     }
-    Ok(text)
+}
+
+fn put_line(out: &mut Buffer, line: Option<Line>) {
+    match line {
+        Some(Line(line)) => {
+            out.put("line ");
+            out.number(u64::from(line));
+        }
+        None => out.put("none"),
+    }
+}
+
+/// Tells the same of the text that is the first of a chain and so many links.
+pub fn put_library_in_chain(out: &mut Buffer, first: &[u8], link: &[u8], count: usize) {
+    let mut text = Buffer::new(out.alloc());
+    text.bytes(first);
+    text.repeat(link, count);
+    match text.told() {
+        Some(text) => put_library_found(out, text),
+        None => out.fail(),
+    }
 }

@@ -4,9 +4,9 @@
 
 mod finding;
 
-use crate::finding::{chain, library_found};
+use crate::finding::{put_library_found, put_library_in_chain};
 use anyhow::Result;
-use table_rows::Tables;
+use table_rows::{Buffer, Tables};
 
 // Programs, each behind the line of the first call of the library that isn't built, or `none`.
 const CALLS: [&str; 3] = ["calls.rows", "calls_inside_forms.rows", "built_calls.rows"];
@@ -25,17 +25,18 @@ fn main(rt: HostRuntime) -> Result<()> {
 
 fn compare_calls(tables: &mut Tables, file: &str) -> Result<()> {
     for row in &tables.rows(file)? {
-        let found = library_found(tables.alloc, row.field(0));
-        tables.compare(file, row, found, &row.head)?;
+        let mut found = Buffer::new(tables.alloc);
+        put_library_found(&mut found, row.field(0));
+        tables.compare_told(file, row, &found, &row.head)?;
     }
     Ok(())
 }
 
 fn compare_chains(tables: &mut Tables) -> Result<()> {
     for row in &tables.rows(CHAINS)? {
-        let text = chain(tables.alloc, row.field(0), row.field(1), row.number(0))?;
-        let found = library_found(tables.alloc, &text);
-        tables.compare(CHAINS, row, found, row.field(2))?;
+        let mut found = Buffer::new(tables.alloc);
+        put_library_in_chain(&mut found, row.field(0), row.field(1), row.number(0));
+        tables.compare_told(CHAINS, row, &found, row.field(2))?;
     }
     Ok(())
 }

@@ -1,7 +1,6 @@
-ghost use Rattle.std.specs.Prelude.{◌≤◌, ◌^◌, IfOk};
+ghost use Rattle.std.specs.Prelude.{◌≤◌, ◌^◌, IfOk, IfSome};
 ghost use Rattle.heap_texts.specs.Texts.{HoldsText, StillTexts};
 
-use anyhow::bail;
 use heap_texts::make::make_text;
 use std::alloc::Global;
 use swizzle::fault::SwizzleFault;
@@ -17,16 +16,18 @@ pub struct Area {
     pub ty: u32,
 }
 
-/// A text in an area of so many words.
-pub fn area_with(alloc: Global, words: u32, text: &[u8]) -> anyhow::Result<Area>
+/// A text in an area of so many words, if there is room for it.
+pub fn area_with(alloc: Global, words: u32, text: &[u8]) -> Option<Area>
     requires low { 5 ≤ words }
     requires high { words ≤ 2 ^ 25 }
-    ensures { IfOk result (λ area. HoldsText area.sw area.ty) }
+    ensures { IfSome result (λ area. HoldsText area.sw area.ty) }
 {
-    let mut sw = Swizzle::new(alloc, words)?;
+    let Ok(mut sw) = Swizzle::new(alloc, words) else {
+        return None;
+    };
     match made(&mut sw, text) {
-        Ok(ty) => Ok(Area { sw, ty }),
-        Err(_) => bail!("no room for the text"),
+        Ok(ty) => Some(Area { sw, ty }),
+        Err(_) => None,
     }
 }
 

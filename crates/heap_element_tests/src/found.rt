@@ -1,95 +1,109 @@
 //! What is found of the rows.
 ghost use Rattle.swizzle.specs.Heap.{IsHeld};
-ghost use Rattle.heap_places.specs.Places.{IsNear};
+ghost use Rattle.heap_texts.specs.Texts.{HoldsText};
 
-use crate::area::{Area, WORDS, area_with};
+use crate::area::{WORDS, area_with};
 use crate::near::near;
-use crate::told::{fault_text, put_assigned, value_text, vector_text};
+use crate::told::{put_assigned, put_fault, put_value, put_vector};
 use crate::vectors::{got, put, repeated, vector_of};
-use crate::words::{Words, parted};
-use anyhow::{Result, bail, ensure};
-use heap_places::value::Value;
-use std::alloc::Global;
+use row_words::{Words, parted};
 use swizzle::swizzle::Swizzle;
+use table_rows::Buffer;
 
-/// What is found of these lines: the text of a type, a vector, and a call if there is one.
-pub fn found_of(alloc: Global, field: &[u8]) -> Result<String> {
+/// Tells what is found of these lines: the text of a type, a vector, and a call if there is one.
+pub fn put_found(out: &mut Buffer, field: &[u8]) {
     let (text, lines) = parted(field, b'\n');
     let (vector, call) = parted(lines, b'\n');
     let mut words = Words::of(vector);
-    match words.word() {
-        b"repeat" => {
-            ensure!(call.is_empty(), "a call on a vector of one value");
-            found_of_one_value(alloc, text, words)
-        }
-        b"list" => found_of_list(alloc, text, words, Words::of(call)),
-        _ => bail!("no such vector"),
+    match (words.word(), call) {
+        (b"repeat", b"") => put_vector_of_one_value(out, text, words),
+        (b"list", _) => put_vector_of_list(out, text, words, Words::of(call)),
+        _ => out.fail(),
+    }
+}
+
+fn put_vector_of_one_value(out: &mut Buffer, text: &[u8], words: Words<'_>) {
+    match area_with(out.alloc(), WORDS, text) {
+        Some(mut area) => put_repeated(out, &mut area.sw, area.ty, words),
+        None => out.fail(),
     }
 }
 
 // The vector of one value that these words tell of.
-fn found_of_one_value(alloc: Global, text: &[u8], mut words: Words<'_>) -> Result<String> {
-    let low = words.int()?;
-    let high = words.int()?;
-    let fill = words.value()?;
-    words.end()?;
-    let Area { mut sw, ty } = area_with(alloc, WORDS, text)?;
-    let fill = near(&sw, ty, fill)?;
-    match repeated(&mut sw, ty, low, high, fill) {
+fn put_repeated(out: &mut Buffer, sw: &mut Swizzle, ty: u32, mut words: Words<'_>)
+    requires { HoldsText sw.old ty }
+{
+    let (Some(low), Some(high)) = (words.int(), words.int()) else {
+        return out.fail();
+    };
+    let Some(fill) = near(sw, ty, words.rest()) else {
+        return out.fail();
+    };
+    match repeated(sw, ty, low, high, fill) {
         Ok(vector) => {
-            let mut found = vector_text(alloc, &sw, vector)?;
-            put_assigned(&mut found, sw.assigned(), vector)?;
-            Ok(found)
+            put_vector(out, sw, vector);
+            put_assigned(out, sw.assigned(), vector);
         }
-        Err(fault) => Ok(fault_text(alloc, fault)?),
+        Err(fault) => put_fault(out, fault),
     }
 }
 
 // The vector of a list that these words tell of, and what the call on it answers.
-fn found_of_list(
-    alloc: Global,
-    text: &[u8],
-    mut words: Words<'_>,
-    mut call: Words<'_>,
-) -> Result<String> {
-    let low = words.int()?;
-    let items = words.values(alloc)?;
-    let mut made = vector_of(alloc, text, low, &items)?;
-    let mut found = match call.word() {
-        b"" => vector_text(alloc, &made.sw, made.vector)?,
-        b"get" => {
-            let at = call.int()?;
-            found_at(alloc, &mut made.sw, made.vector, at)?
-        }
-        b"set" => {
-            let at = call.int()?;
-            let to = near(&made.sw, made.ty, call.value()?)?;
-            found_behind(alloc, &mut made.sw, made.vector, at, to)?
-        }
-        _ => bail!("no such call"),
+fn put_vector_of_list(out: &mut Buffer, text: &[u8], mut words: Words<'_>, call: Words<'_>) {
+    let Some(low) = words.int() else {
+        return out.fail();
     };
-    call.end()?;
-    put_assigned(&mut found, made.sw.assigned(), made.vector)?;
-    Ok(found)
-}
-
-// What an element is.
-fn found_at(alloc: Global, sw: &mut Swizzle, vector: u32, at: i32) -> Result<String>
-    requires { IsHeld sw.old vector }
-{
-    match got(sw, vector, at) {
-        Ok(value) => Ok(value_text(alloc, value)?),
-        Err(fault) => Ok(fault_text(alloc, fault)?),
+    match vector_of(out.alloc(), text, low, words) {
+        Some(mut made) => {
+            put_called(out, &mut made.sw, made.ty, made.vector, call);
+            put_assigned(out, made.sw.assigned(), made.vector);
+        }
+        None => out.fail(),
     }
 }
 
-// The vector as it lies when an element is written.
-fn found_behind(alloc: Global, sw: &mut Swizzle, vector: u32, at: i32, to: Value) -> Result<String>
+// The vector as it lies, or what a call on it answers.
+fn put_called(out: &mut Buffer, sw: &mut Swizzle, ty: u32, vector: u32, mut call: Words<'_>)
+    requires text { HoldsText sw.old ty }
     requires held { IsHeld sw.old vector }
-    requires near { IsNear sw.old to }
 {
+    match call.word() {
+        b"" => put_vector(out, sw, vector),
+        b"get" => put_got(out, sw, vector, call),
+        b"set" => put_set(out, sw, ty, vector, call),
+        _ => out.fail(),
+    }
+}
+
+// What the element of this subscript is.
+fn put_got(out: &mut Buffer, sw: &mut Swizzle, vector: u32, mut words: Words<'_>)
+    requires { IsHeld sw.old vector }
+{
+    let Some(at) = words.int() else {
+        return out.fail();
+    };
+    if !words.is_at_end() {
+        return out.fail();
+    }
+    match got(sw, vector, at) {
+        Ok(value) => put_value(out, value),
+        Err(fault) => put_fault(out, fault),
+    }
+}
+
+// The vector as it lies when the element of this subscript is written.
+fn put_set(out: &mut Buffer, sw: &mut Swizzle, ty: u32, vector: u32, mut words: Words<'_>)
+    requires text { HoldsText sw.old ty }
+    requires held { IsHeld sw.old vector }
+{
+    let Some(at) = words.int() else {
+        return out.fail();
+    };
+    let Some(to) = near(sw, ty, words.rest()) else {
+        return out.fail();
+    };
     match put(sw, vector, at, to) {
-        Ok(()) => Ok(vector_text(alloc, sw, vector)?),
-        Err(fault) => Ok(fault_text(alloc, fault)?),
+        Ok(()) => put_vector(out, sw, vector),
+        Err(fault) => put_fault(out, fault),
     }
 }

@@ -26,12 +26,12 @@ mod area;
 mod found;
 mod near;
 mod told;
+mod value;
 mod vectors;
-mod words;
 
-use crate::found::found_of;
+use crate::found::put_found;
 use anyhow::Result;
-use table_rows::Tables;
+use table_rows::{Buffer, Tables};
 
 /// The files of the tables: vectors of one value and of lists, and what is read of elements, written to them, and refused.
 const TABLES: [&str; 5] = [
@@ -52,8 +52,9 @@ fn main(rt: HostRuntime) -> Result<()> {
 
 fn compare_rows(tables: &mut Tables, file: &str) -> Result<()> {
     for row in &tables.rows(file)? {
-        let found = found_of(tables.alloc, row.field(0));
-        tables.compare(file, row, found, row.field(1))?;
+        let mut found = Buffer::new(tables.alloc);
+        put_found(&mut found, row.field(0));
+        tables.compare_told(file, row, &found, row.field(1))?;
     }
     Ok(())
 }

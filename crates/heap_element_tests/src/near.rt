@@ -1,50 +1,48 @@
 //! Values that denote no object but the type's text.
-ghost use Rattle.std.specs.Prelude.{IfOk, OnOk};
+ghost use Rattle.std.specs.Prelude.{IfSome};
 ghost use Rattle.heap_texts.specs.Texts.{HoldsText};
 ghost use Rattle.heap_places.specs.Places.{IsNear};
 ghost use Rattle.heap_places.specs.Filling.{AreNear};
 
-use anyhow::{Result, bail};
+use crate::value::value_of;
 use heap_places::value::Value;
+use row_words::Words;
 use std::alloc::Global;
 use swizzle::swizzle::Swizzle;
 
-/// A value whose object, if it denotes one, must be this text.
-pub fn near(sw: &Swizzle, text: u32, value: Value) -> Result<Value>
+/// The value that a word spells, where the object that it denotes, if it denotes one, is this text.
+pub fn near(sw: &Swizzle, text: u32, word: &[u8]) -> Option<Value>
     requires { HoldsText sw.now text }
-    ensures { IfOk result (IsNear sw.now) }
+    ensures { IfSome result (IsNear sw.now) }
 {
-    match value {
-        Value::Ref(Some(at)) => {
-            if at == text {
-                Ok(value)
-            } else {
-                bail!("no object there")
-            }
-        }
-        _ => Ok(value),
+    match value_of(word) {
+        Some(Value::Ref(Some(at))) if at != text => None,
+        value => value,
     }
 }
 
-/// Values whose objects, if they denote some, must be this text.
-pub fn all_near(alloc: Global, sw: &Swizzle, text: u32, values: &[Value]) -> Result<Vec<Value>>
+/// Such values, which all words spell that are left.
+pub fn all_near(alloc: Global, sw: &Swizzle, text: u32, words: Words<'_>) -> Option<Vec<Value>>
     requires { HoldsText sw.now text }
-    ensures { IfOk result (λ list. AreNear sw.now list.items) }
+    ensures { IfSome result (λ list. AreNear sw.now list.items) }
 {
     let mut list = Vec::new(alloc);
-    for value in values {
-        add_near(&mut list, sw, text, *value)?;
+    for word in words.rest().split(|byte| *byte == b' ') {
+        add_near(&mut list, sw, text, word)?;
     }
-    Ok(list)
+    Some(list)
 }
 
 // Puts such a value behind the others.
 #[tactic(auto, using(crate::proofs::NearLaws::near_more))]
-fn add_near(list: &mut Vec<Value>, sw: &Swizzle, text: u32, value: Value) -> Result<()>
+fn add_near(list: &mut Vec<Value>, sw: &Swizzle, text: u32, word: &[u8]) -> Option<()>
     requires text { HoldsText sw.now text }
     requires near { AreNear sw.now list.old.items }
-    ensures { OnOk result (AreNear sw.now list.new.items) }
+    ensures { IfSome result (λ _. AreNear sw.now list.new.items) }
 {
-    list.push(near(sw, text, value)?)?;
-    Ok(())
+    let value = near(sw, text, word)?;
+    match list.push(value) {
+        Ok(()) => Some(()),
+        Err(_) => None,
+    }
 }

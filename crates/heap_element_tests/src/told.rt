@@ -1,86 +1,116 @@
 //! What was found, told as a text.
 ghost use Rattle.swizzle.specs.Heap.{IsHeld};
 
-use crate::vectors::{numbers, references};
-use crate::words::TEXT_AT;
+use crate::value::TEXT_AT;
 use heap_places::value::Value;
 use heap_texts::fault::OpFault;
+use obj_layout::header::Header;
 use obj_layout::kind::Kind;
 use obj_layout::reference::Reference;
 use obj_layout::vault::VaultFault;
-use std::alloc::{AllocError, Global};
 use swizzle::fault::SwizzleFault;
 use swizzle::swizzle::Swizzle;
+use table_rows::Buffer;
 
-/// A vector as it lies: its references and its number words, and before them its header where it isn't that of a new vector.
-pub fn vector_text(alloc: Global, sw: &Swizzle, vector: u32) -> Result<String, AllocError>
+/// Tells a vector as it lies: its references and its number words, and before them its header where it isn't that of a new vector.
+pub fn put_vector(out: &mut Buffer, sw: &Swizzle, vector: u32)
     requires { IsHeld sw.now vector }
 {
-    let header = sw.header(vector);
-    let mut text = String::new(alloc);
-    if header.kind != Kind::Vector || (header.bytes, header.pid, header.chain) != (0, 0, 0) {
-        write!(text, "{header:?}\n")?;
+    put_header(out, sw.header(vector));
+    out.put("refs");
+    for slot in 0..sw.refs(vector) {
+        put_reference(out, sw.peek(vector, slot));
     }
-    write!(text, "refs")?;
-    for reference in &references(alloc, sw, vector)? {
-        put_reference(&mut text, *reference)?;
+    out.put("\nnums");
+    for index in 0..sw.nums(vector) {
+        put_hex(out, " ", sw.num(vector, index));
     }
-    write!(text, "\nnums")?;
-    for word in &numbers(alloc, sw, vector)? {
-        write!(text, " {word:x}")?;
-    }
-    Ok(text)
 }
 
-fn put_reference(text: &mut String, reference: Reference) -> Result<(), AllocError> {
+fn put_header(out: &mut Buffer, header: Header) {
+    if header.kind == Kind::Vector && (header.bytes, header.pid, header.chain) == (0, 0, 0) {
+        return;
+    }
+    match format!(in out.alloc(); "{header:?}\n") {
+        Ok(text) => out.put(&text),
+        Err(_) => out.fail(),
+    }
+}
+
+// A word, and a number in hex behind it.
+fn put_hex(out: &mut Buffer, word: &str, number: u64) {
+    out.put(word);
+    out.hex(number);
+}
+
+fn put_reference(out: &mut Buffer, reference: Reference) {
     match reference {
-        Reference::Nil => write!(text, " nil"),
-        Reference::Local(at) if at == TEXT_AT => write!(text, " text"),
-        Reference::Local(at) => write!(text, " object {at:x}"),
-        Reference::Pid(pid) => write!(text, " pid {pid:x}"),
+        Reference::Nil => out.put(" nil"),
+        Reference::Local(TEXT_AT) => out.put(" text"),
+        Reference::Local(at) => put_hex(out, " object ", u64::from(at)),
+        Reference::Pid(pid) => put_hex(out, " pid ", pid),
     }
 }
 
-/// The value of an element.
-pub fn value_text(alloc: Global, value: Value) -> Result<String, AllocError> {
+/// Tells the value of an element.
+pub fn put_value(out: &mut Buffer, value: Value) {
+    out.put("value ");
     match value {
-        Value::Num(int) => format!(in alloc; "value {int}"),
-        Value::Flag(is) => format!(in alloc; "value {is}"),
-        Value::Ref(None) => format!(in alloc; "value nil"),
-        Value::Ref(Some(at)) if at == TEXT_AT => format!(in alloc; "value text"),
-        Value::Ref(Some(at)) => format!(in alloc; "value object {at:x}"),
+        Value::Num(int) => out.int(int),
+        Value::Flag(true) => out.put("true"),
+        Value::Flag(false) => out.put("false"),
+        Value::Ref(None) => out.put("nil"),
+        Value::Ref(Some(TEXT_AT)) => out.put("text"),
+        Value::Ref(Some(at)) => put_hex(out, "object ", u64::from(at)),
     }
 }
 
-/// What a call ended in that gave nothing.
-pub fn fault_text(alloc: Global, fault: OpFault) -> Result<String, AllocError> {
+/// Tells what a call ended in that gave nothing.
+pub fn put_fault(out: &mut Buffer, fault: OpFault) {
     match fault {
         OpFault::Trap(trap) => {
-            let number = trap as u32;
-            format!(in alloc; "trapped {number}")
+            out.put("trapped ");
+            out.number(trap as u64);
         }
         OpFault::Swizzle(SwizzleFault::AreaFull { top, wanted, size }) => {
-            format!(in alloc; "full {top:x} {wanted:x} {size:x}")
+            put_three(
+                out,
+                "full",
+                [u64::from(top), u64::from(wanted), u64::from(size)],
+            );
         }
         OpFault::Swizzle(SwizzleFault::Vault(VaultFault::Damaged { at, found, wanted })) => {
-            format!(in alloc; "damaged {at:x} {found:x} {wanted:x}")
+            put_three(out, "damaged", [at, found, wanted]);
         }
-        OpFault::Swizzle(SwizzleFault::Vault(refused)) => format!(in alloc; "refused {refused:?}"),
+        OpFault::Swizzle(SwizzleFault::Vault(refused)) => put_refusal(out, refused),
+    }
+}
+
+fn put_three(out: &mut Buffer, word: &str, numbers: [u64; 3]) {
+    out.put(word);
+    for number in numbers {
+        put_hex(out, " ", number);
+    }
+}
+
+fn put_refusal(out: &mut Buffer, refused: VaultFault) {
+    match format!(in out.alloc(); "refused {refused:?}") {
+        Ok(text) => out.put(&text),
+        Err(_) => out.fail(),
     }
 }
 
 /// Tells behind the rest which objects are noted as assigned, where there are any.
-pub fn put_assigned(text: &mut String, assigned: &[u32], vector: u32) -> Result<(), AllocError> {
+pub fn put_assigned(out: &mut Buffer, assigned: &[u32], vector: u32) {
     if assigned.is_empty() {
-        return Ok(());
+        return;
     }
-    write!(text, "\nassigned")?;
+    out.put("\nassigned");
     for object in assigned {
         if *object == vector {
-            write!(text, " vector")?;
+            out.put(" vector");
         } else {
-            write!(text, " {object:x}")?;
+            put_hex(out, " ", u64::from(*object));
         }
     }
-    Ok(())
 }

@@ -1,5 +1,5 @@
 //! Vectors that are made, what is read of them and written to them, and their words.
-ghost use Rattle.std.specs.Prelude.{IfOk, OnOk};
+ghost use Rattle.std.specs.Prelude.{IfOk, IfSome, OnOk};
 ghost use Rattle.swizzle.specs.Heap.{IsHeld};
 ghost use Rattle.heap_texts.specs.Texts.{HoldsText, StillTexts};
 ghost use Rattle.heap_places.specs.Places.{IsNear};
@@ -7,13 +7,12 @@ ghost use Rattle.heap_places.specs.Filling.{AreNear};
 
 use crate::area::{Area, WORDS, area_with};
 use crate::near::all_near;
-use anyhow::bail;
 use heap_ops::vectors::{get_element, make_list, make_vector, set_element};
 use heap_places::value::Value;
 use heap_texts::fault::OpFault;
 use memory_vault::silent::SilentVault;
-use obj_layout::reference::Reference;
-use std::alloc::{AllocError, Global};
+use row_words::Words;
+use std::alloc::Global;
 use swizzle::swizzle::Swizzle;
 
 /// A vector of one value so many times.
@@ -43,21 +42,16 @@ pub struct VectorArea {
     pub vector: u32,
 }
 
-/// A vector of a list whose type has this text. What the values denote must be that text.
-pub fn vector_of(
-    alloc: Global,
-    text: &[u8],
-    low: i32,
-    items: &[Value],
-) -> anyhow::Result<VectorArea>
-    ensures text { IfOk result (λ made. HoldsText made.sw made.ty) }
-    ensures there { IfOk result (λ made. IsHeld made.sw made.vector) }
+/// A vector of a list of the values that these words spell, whose type has this text. What the values denote must be that text.
+pub fn vector_of(alloc: Global, text: &[u8], low: i32, words: Words<'_>) -> Option<VectorArea>
+    ensures text { IfSome result (λ made. HoldsText made.sw made.ty) }
+    ensures there { IfSome result (λ made. IsHeld made.sw made.vector) }
 {
     let Area { mut sw, ty } = area_with(alloc, WORDS, text)?;
-    let items = all_near(alloc, &sw, ty, items)?;
+    let items = all_near(alloc, &sw, ty, words)?;
     match listed(&mut sw, ty, low, &items) {
-        Ok(vector) => Ok(VectorArea { sw, ty, vector }),
-        Err(_) => bail!("not made"),
+        Ok(vector) => Some(VectorArea { sw, ty, vector }),
+        Err(_) => None,
     }
 }
 
@@ -75,26 +69,4 @@ pub fn put(sw: &mut Swizzle, vector: u32, at: i32, to: Value) -> Result<(), OpFa
     ensures { OnOk result (IsHeld sw.new vector) }
 {
     set_element(sw, &mut SilentVault { asked: 0 }, vector, at, to)
-}
-
-/// The number words of an object.
-pub fn numbers(alloc: Global, sw: &Swizzle, object: u32) -> Result<Vec<u64>, AllocError>
-    requires { IsHeld sw.now object }
-{
-    let mut words = Vec::new(alloc);
-    for index in 0..sw.nums(object) {
-        words.push(sw.num(object, index))?;
-    }
-    Ok(words)
-}
-
-/// The references of an object, as they stand.
-pub fn references(alloc: Global, sw: &Swizzle, object: u32) -> Result<Vec<Reference>, AllocError>
-    requires { IsHeld sw.now object }
-{
-    let mut slots = Vec::new(alloc);
-    for slot in 0..sw.refs(object) {
-        slots.push(sw.peek(object, slot))?;
-    }
-    Ok(slots)
 }

@@ -1,78 +1,73 @@
 //! The first fault of a text, as a line of text.
 
 use crate::reading::read;
-use anyhow::{Context, Result, bail, ensure};
+use ps_base::line::Line;
 use ps_tree::fault::ParseFault;
-use std::alloc::{AllocError, Global};
-use std::fmt::Write;
+use row_words::parted;
+use std::alloc::Global;
+use table_rows::Buffer;
 
-/// The first fault of a text as its number, `@` and its line, and the token that is unexpected where one is; or `none`.
-pub fn fault_of(alloc: Global, text: &[u8]) -> Result<String> {
-    match read(alloc, text)? {
-        Ok(_) => Ok(String::from_str(alloc, "none")?),
-        Err(fault) => shown_fault(alloc, fault),
+/// Tells the first fault of a text as its number, `@` and its line, and the token that is unexpected where one is; or `none`.
+pub fn put_fault(out: &mut Buffer, text: &[u8]) {
+    match read(out.alloc(), text) {
+        Ok(_) => out.put("none"),
+        Err(Some(fault)) => put_shown(out, fault),
+        Err(None) => out.fail(),
     }
 }
 
-fn shown_fault(alloc: Global, fault: ParseFault) -> Result<String> {
-    let number = fault.number().context("no memory")?;
-    let mut out = String::new(alloc);
-    let line = match fault {
+fn put_shown(out: &mut Buffer, fault: ParseFault) {
+    match fault {
         ParseFault::Unexpected { line, token } => {
-            write!(out, "{number}@{} token {token}", line.0)?;
-            line
+            put_place(out, fault, line);
+            out.put(" token ");
+            out.number(u64::from(token));
         }
-        ParseFault::TooNested { line } => {
-            write!(out, "{number}@{}", line.0)?;
-            line
+        ParseFault::TooNested { line } => put_place(out, fault, line),
+        ParseFault::Memory => out.fail(),
+    }
+}
+
+// The number of a fault and its line, which must be the one that the fault tells.
+fn put_place(out: &mut Buffer, fault: ParseFault, line: Line) {
+    match fault.number() {
+        Some(number) if fault.line() == Some(line) => {
+            out.number(u64::from(number));
+            out.put("@");
+            out.number(u64::from(line.0));
         }
-        ParseFault::Memory => bail!("no memory"),
-    };
-    ensure!(
-        fault.line() == Some(line),
-        "a fault that tells another line"
-    );
-    Ok(out)
+        _ => out.fail(),
+    }
 }
 
-/// The fault of a text of so many levels.
-pub fn fault_of_levels(alloc: Global, count: usize, parts: &[u8]) -> Result<String> {
-    let text = nested(alloc, count, parts)?;
-    fault_of(alloc, &text)
+/// Tells the fault of a text of so many levels.
+pub fn put_fault_of_levels(out: &mut Buffer, count: usize, parts: &[u8]) {
+    let text = nested(out.alloc(), count, parts);
+    match text.told() {
+        Some(text) => put_fault(out, text),
+        None => out.fail(),
+    }
 }
 
-/// The faults of a text of so many levels and of one with a level more.
-pub fn faults_at_the_limit(alloc: Global, count: usize, parts: &[u8]) -> Result<String> {
-    let mut out = fault_of_levels(alloc, count, parts)?;
-    let deeper = fault_of_levels(alloc, count.saturating_add(1), parts)?;
-    out.push_str(", then ")?;
-    out.push_str(deeper.as_str())?;
-    Ok(out)
+/// Tells the faults of a text of so many levels and of one with a level more.
+pub fn put_faults_at_the_limit(out: &mut Buffer, count: usize, parts: &[u8]) {
+    put_fault_of_levels(out, count, parts);
+    out.put(", then ");
+    put_fault_of_levels(out, count.saturating_add(1), parts);
 }
 
-// A text of so many levels. Its parts are its start, the front of each level, what stands in the middle, the back of each level, and its
+// A text of so many levels. Its parts, which `#` stands between, are its start, the front of each level, what stands in the middle, the back of each level, and its
 // end.
-fn nested(alloc: Global, count: usize, parts: &[u8]) -> Result<Vec<u8>, AllocError> {
-    let (start, parts) = split(parts);
-    let (front, parts) = split(parts);
-    let (middle, parts) = split(parts);
-    let (back, end) = split(parts);
-    let mut text = Vec::from_slice(alloc, start)?;
-    for _ in 0..count {
-        text.extend_from_slice(front)?;
-    }
-    text.extend_from_slice(middle)?;
-    for _ in 0..count {
-        text.extend_from_slice(back)?;
-    }
-    text.extend_from_slice(end)?;
-    Ok(text)
-}
-
-// The first of the parts that `#` stands between, and the others.
-fn split(parts: &[u8]) -> (&[u8], &[u8]) {
-    match parts.iter().position(|byte| *byte == b'#') {
-        Some(place) => (&parts[..place], &parts[place + 1..]),
-        None => (parts, b""),
-    }
+fn nested(alloc: Global, count: usize, parts: &[u8]) -> Buffer {
+    let (start, parts) = parted(parts, b'#');
+    let (front, parts) = parted(parts, b'#');
+    let (middle, parts) = parted(parts, b'#');
+    let (back, end) = parted(parts, b'#');
+    let mut text = Buffer::new(alloc);
+    text.bytes(start);
+    text.repeat(front, count);
+    text.bytes(middle);
+    text.repeat(back, count);
+    text.bytes(end);
+    text
 }

@@ -7,80 +7,73 @@ mod forms;
 mod reading;
 mod show;
 
-use crate::faults::{fault_of, fault_of_levels, faults_at_the_limit};
-use crate::forms::shown_form;
-use crate::show::shown_tree;
+use crate::faults::{put_fault, put_fault_of_levels, put_faults_at_the_limit};
+use crate::forms::put_form;
+use crate::show::put_tree;
 use anyhow::Result;
-use table_rows::Tables;
+use table_rows::{Buffer, Row, Tables};
 
-// Texts, each with its tree.
-const TREES: [&str; 2] = ["expression_trees.rows", "clause_trees.rows"];
+/// What the rows of a table are.
+#[derive(Clone, Copy)]
+enum Kind {
+    /// Texts, each with its tree.
+    Trees,
+    /// Texts, each behind its first fault.
+    Faults,
+    /// The forms of the tree, each with the tree that is made.
+    Forms,
+    /// Texts of one form inside itself, each behind the most levels that are read.
+    Nestings,
+    /// Texts of many levels or many links, each with its fault.
+    Levels,
+}
 
-// Texts, each behind its first fault.
-const FAULTS: [&str; 2] = ["clause_faults.rows", "declaration_and_loop_faults.rows"];
-
-// The forms of the tree, each with the tree that is made.
-const FORMS: &str = "forms.rows";
-
-// Texts of one form inside itself, each behind the most levels that are read.
-const NESTINGS: &str = "nestings.rows";
-
-// Texts of many levels or many links, each with its fault.
-const LEVELS: &str = "levels_and_links.rows";
+const TABLES: [(&str, Kind); 7] = [
+    ("expression_trees.rows", Kind::Trees),
+    ("clause_trees.rows", Kind::Trees),
+    ("clause_faults.rows", Kind::Faults),
+    ("declaration_and_loop_faults.rows", Kind::Faults),
+    ("forms.rows", Kind::Forms),
+    ("nestings.rows", Kind::Nestings),
+    ("levels_and_links.rows", Kind::Levels),
+];
 
 // What is found of a text of the most levels that are read, and of one level more.
 const AT_THE_LIMIT: &[u8] = b"none, then 2@1";
 
 fn main(rt: HostRuntime) -> Result<()> {
     let mut tables = Tables::new(&rt)?;
-    for file in &TREES {
-        compare_trees(&mut tables, file)?;
+    for (file, kind) in &TABLES {
+        compare_rows(&mut tables, file, *kind)?;
     }
-    for file in &FAULTS {
-        compare_faults(&mut tables, file)?;
-    }
-    compare_forms(&mut tables)?;
-    compare_nestings(&mut tables)?;
-    compare_levels(&mut tables)?;
     tables.tell(&rt)
 }
 
-fn compare_trees(tables: &mut Tables, file: &str) -> Result<()> {
+fn compare_rows(tables: &mut Tables, file: &str, kind: Kind) -> Result<()> {
     for row in &tables.rows(file)? {
-        let found = shown_tree(tables.alloc, row.field(0));
-        tables.compare(file, row, found, row.field(1))?;
+        let mut found = Buffer::new(tables.alloc);
+        put_found(&mut found, row, kind);
+        tables.compare_told(file, row, &found, wanted_of(row, kind))?;
     }
     Ok(())
 }
 
-fn compare_faults(tables: &mut Tables, file: &str) -> Result<()> {
-    for row in &tables.rows(file)? {
-        let found = fault_of(tables.alloc, row.field(0));
-        tables.compare(file, row, found, &row.head)?;
+// What is found of a row.
+fn put_found(found: &mut Buffer, row: &Row, kind: Kind) {
+    match kind {
+        Kind::Trees => put_tree(found, row.field(0)),
+        Kind::Faults => put_fault(found, row.field(0)),
+        Kind::Forms => put_form(found, row.field(0)),
+        Kind::Nestings => put_faults_at_the_limit(found, row.number(0), row.field(0)),
+        Kind::Levels => put_fault_of_levels(found, row.number(0), row.field(0)),
     }
-    Ok(())
 }
 
-fn compare_forms(tables: &mut Tables) -> Result<()> {
-    for row in &tables.rows(FORMS)? {
-        let found = shown_form(tables.alloc, row.field(0));
-        tables.compare(FORMS, row, found, row.field(1))?;
+// What a row wants to be found.
+fn wanted_of(row: &Row, kind: Kind) -> &[u8] {
+    match kind {
+        Kind::Faults => row.head.as_slice(),
+        Kind::Nestings => AT_THE_LIMIT,
+        Kind::Trees | Kind::Forms | Kind::Levels => row.field(1),
     }
-    Ok(())
-}
-
-fn compare_nestings(tables: &mut Tables) -> Result<()> {
-    for row in &tables.rows(NESTINGS)? {
-        let found = faults_at_the_limit(tables.alloc, row.number(0), row.field(0));
-        tables.compare(NESTINGS, row, found, AT_THE_LIMIT)?;
-    }
-    Ok(())
-}
-
-fn compare_levels(tables: &mut Tables) -> Result<()> {
-    for row in &tables.rows(LEVELS)? {
-        let found = fault_of_levels(tables.alloc, row.number(0), row.field(0));
-        tables.compare(LEVELS, row, found, row.field(1))?;
-    }
-    Ok(())
 }

@@ -1,6 +1,5 @@
 //! A text read to its tree or its first fault.
 
-use anyhow::{Result, bail};
 use ps_base::LONGEST_TEXT;
 use ps_parse::parse;
 use ps_scan::scan;
@@ -8,13 +7,16 @@ use ps_tree::fault::ParseFault;
 use ps_tree::rough::Rough;
 use std::alloc::Global;
 
-/// The tree of a text that is not too long and has no fault of the scanner, or its first fault.
-pub fn read(alloc: Global, text: &[u8]) -> Result<Result<Rough, ParseFault>> {
+/// The tree of a text, or its first fault. There is none where the text is too long or has a fault of the scanner.
+pub fn read(alloc: Global, text: &[u8]) -> Result<Rough, Option<ParseFault>> {
     if text.len() > LONGEST_TEXT {
-        bail!("a text that is too long");
+        return Err(None);
     }
     match scan(alloc, text) {
-        Ok(tokens) => Ok(parse(alloc, text, &tokens)),
-        Err(_) => bail!("a fault of the scanner"),
+        Ok(tokens) => match parse(alloc, text, &tokens) {
+            Ok(tree) => Ok(tree),
+            Err(fault) => Err(Some(fault)),
+        },
+        Err(_) => Err(None),
     }
 }

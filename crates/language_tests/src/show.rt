@@ -1,62 +1,30 @@
 //! The tree of a text as a line of text.
 
 use crate::reading::read;
-use anyhow::{Result, ensure};
-use ps_base::bytes::Bytes;
 use ps_base::line::Line;
 use ps_base::operator::{Operator, Relation};
 use ps_base::ty::Ty;
 use ps_tree::rough::{Group, Named, Rough, RoughArm, RoughForm, RoughItem};
-use std::alloc::Global;
-use std::fmt::Write;
+use table_rows::Buffer;
 
-/// A tree as it is written so far, and whether there was memory for all of it.
-struct Writing {
-    text: String,
-    failed: bool,
+/// A word or a sign, with its line.
+fn mark(out: &mut Buffer, mark: &str, line: Line) {
+    out.put(mark);
+    out.put("@");
+    out.number(u64::from(line.0));
 }
 
-impl Writing {
-    fn put(&mut self, text: &str) {
-        if self.text.push_str(text).is_err() {
-            self.failed = true;
-        }
-    }
-
-    fn number(&mut self, value: i32) {
-        if write!(self.text, "{value}").is_err() {
-            self.failed = true;
-        }
-    }
-
-    fn bytes(&mut self, bytes: &Bytes) {
-        for byte in bytes.as_slice() {
-            if self.text.push(*byte as char).is_err() {
-                self.failed = true;
-            }
-        }
-    }
-
-    /// A word or a sign, with its line.
-    fn mark(&mut self, mark: &str, line: Line) {
-        self.put(mark);
-        if write!(self.text, "@{}", line.0).is_err() {
-            self.failed = true;
-        }
-    }
-
-    fn named(&mut self, name: &Named) {
-        self.bytes(&name.name);
-        self.mark("", name.line);
-    }
+fn put_named(out: &mut Buffer, name: &Named) {
+    out.bytes(name.name.as_slice());
+    mark(out, "", name.line);
 }
 
 /// Writes the tree as `form@line` and its parts in brackets, down to the depth.
 #[cycle(show)]
-fn show(out: &mut Writing, clause: &Rough, depth: u32) {
+fn show(out: &mut Buffer, clause: &Rough, depth: u32) {
     if depth > 0 {
         show_leaf(out, &clause.form);
-        out.mark(head(&clause.form), clause.line);
+        mark(out, head(&clause.form), clause.line);
         show_lists(out, &clause.form, depth - 1);
     }
 }
@@ -103,7 +71,7 @@ fn choice(test: bool, yes: &'static str, no: &'static str) -> &'static str {
 
 /// The parts of the forms that hold lists or names.
 #[cycle(show)]
-fn show_lists(out: &mut Writing, form: &RoughForm, depth: u32) {
+fn show_lists(out: &mut Buffer, form: &RoughForm, depth: u32) {
     match form {
         RoughForm::Sequence { items } => show_all(out, items.as_slice(), depth),
         RoughForm::Let {
@@ -111,15 +79,15 @@ fn show_lists(out: &mut Writing, form: &RoughForm, depth: u32) {
             variable: _,
             e,
         } => {
-            out.named(name);
+            put_named(out, name);
             show_one(out, e, depth);
         }
         RoughForm::Structure { name, fields } => {
-            out.named(name);
+            put_named(out, name);
             show_groups(out, fields.as_slice());
         }
         RoughForm::For { name, range, s } => {
-            out.named(name);
+            put_named(out, name);
             show_two(out, &range.a, &range.b, depth);
             show_maybe(out, &range.c, depth);
             show_one(out, s, depth);
@@ -141,7 +109,7 @@ fn show_lists(out: &mut Writing, form: &RoughForm, depth: u32) {
             negated: _,
         } => {
             show_one(out, e, depth);
-            out.named(class);
+            put_named(out, class);
         }
         RoughForm::Apply { f, args } => {
             show_one(out, f, depth);
@@ -158,7 +126,7 @@ fn show_lists(out: &mut Writing, form: &RoughForm, depth: u32) {
 
 /// The parts of the forms that hold clauses alone.
 #[cycle(show)]
-fn show_clauses(out: &mut Writing, form: &RoughForm, depth: u32) {
+fn show_clauses(out: &mut Buffer, form: &RoughForm, depth: u32) {
     match form {
         RoughForm::IfElse { c, a, b } => show_three(out, c, a, b, depth),
         RoughForm::Vector { l, u, e } => show_three(out, l, u, e, depth),
@@ -178,7 +146,7 @@ fn show_clauses(out: &mut Writing, form: &RoughForm, depth: u32) {
 
 /// The parts of the forms of two clauses.
 #[cycle(show)]
-fn show_pairs(out: &mut Writing, form: &RoughForm, depth: u32) {
+fn show_pairs(out: &mut Buffer, form: &RoughForm, depth: u32) {
     match form {
         RoughForm::IfDo { c, a } => show_two(out, c, a, depth),
         RoughForm::While { c, a } => show_two(out, c, a, depth),
@@ -193,17 +161,17 @@ fn show_pairs(out: &mut Writing, form: &RoughForm, depth: u32) {
 }
 
 /// What a name, an int or a string is made of.
-fn show_leaf(out: &mut Writing, form: &RoughForm) {
+fn show_leaf(out: &mut Buffer, form: &RoughForm) {
     match form {
-        RoughForm::Name(bytes) => out.bytes(bytes),
-        RoughForm::Text(bytes) => out.bytes(bytes),
-        RoughForm::Int(value) => out.number(*value),
+        RoughForm::Name(bytes) => out.bytes(bytes.as_slice()),
+        RoughForm::Text(bytes) => out.bytes(bytes.as_slice()),
+        RoughForm::Int(value) => out.int(*value),
         _ => {}
     }
 }
 
 /// Groups as `[type name@line]`, each name with the type.
-fn show_groups(out: &mut Writing, groups: &[Group]) {
+fn show_groups(out: &mut Buffer, groups: &[Group]) {
     for group in groups {
         show_group(out, &group.ty, &group.first);
         for name in group.more.as_slice() {
@@ -212,17 +180,17 @@ fn show_groups(out: &mut Writing, groups: &[Group]) {
     }
 }
 
-fn show_group(out: &mut Writing, ty: &Ty, name: &Named) {
+fn show_group(out: &mut Buffer, ty: &Ty, name: &Named) {
     out.put("[");
     show_type(out, ty, 200);
     out.put(" ");
-    out.named(name);
+    put_named(out, name);
     out.put("]");
 }
 
 /// Writes the type, down to the depth.
 #[cycle(show_types)]
-fn show_type(out: &mut Writing, ty: &Ty, depth: u32) {
+fn show_type(out: &mut Buffer, ty: &Ty, depth: u32) {
     if depth == 0 {
         return;
     }
@@ -247,7 +215,7 @@ fn show_type(out: &mut Writing, ty: &Ty, depth: u32) {
 }
 
 #[cycle(show_types)]
-fn show_types(out: &mut Writing, types: &[Ty], depth: u32) {
+fn show_types(out: &mut Buffer, types: &[Ty], depth: u32) {
     for ty in types {
         show_type(out, ty, depth);
         out.put(",");
@@ -255,27 +223,27 @@ fn show_types(out: &mut Writing, types: &[Ty], depth: u32) {
 }
 
 #[cycle(show)]
-fn show_one(out: &mut Writing, e: &Rough, depth: u32) {
+fn show_one(out: &mut Buffer, e: &Rough, depth: u32) {
     out.put("(");
     show(out, e, depth);
     out.put(")");
 }
 
 #[cycle(show)]
-fn show_two(out: &mut Writing, a: &Rough, b: &Rough, depth: u32) {
+fn show_two(out: &mut Buffer, a: &Rough, b: &Rough, depth: u32) {
     show_one(out, a, depth);
     show_one(out, b, depth);
 }
 
 #[cycle(show)]
-fn show_three(out: &mut Writing, a: &Rough, b: &Rough, c: &Rough, depth: u32) {
+fn show_three(out: &mut Buffer, a: &Rough, b: &Rough, c: &Rough, depth: u32) {
     show_two(out, a, b, depth);
     show_one(out, c, depth);
 }
 
 /// A clause that may be left out, as `-` where it is.
 #[cycle(show)]
-fn show_maybe(out: &mut Writing, e: &Option<Rough>, depth: u32) {
+fn show_maybe(out: &mut Buffer, e: &Option<Rough>, depth: u32) {
     match e {
         Some(e) => show_one(out, e, depth),
         None => out.put("-"),
@@ -283,7 +251,7 @@ fn show_maybe(out: &mut Writing, e: &Option<Rough>, depth: u32) {
 }
 
 #[cycle(show)]
-fn show_all(out: &mut Writing, items: &[Rough], depth: u32) {
+fn show_all(out: &mut Buffer, items: &[Rough], depth: u32) {
     for item in items {
         show_one(out, item, depth);
     }
@@ -291,7 +259,7 @@ fn show_all(out: &mut Writing, items: &[Rough], depth: u32) {
 
 /// Arms as `[labels:clause]`.
 #[cycle(show)]
-fn show_arms(out: &mut Writing, arms: &[RoughArm], depth: u32) {
+fn show_arms(out: &mut Buffer, arms: &[RoughArm], depth: u32) {
     for arm in arms {
         out.put("[");
         show_all(out, arm.labels.as_slice(), depth);
@@ -303,12 +271,12 @@ fn show_arms(out: &mut Writing, arms: &[RoughArm], depth: u32) {
 
 /// Items as `[clause width@line]`.
 #[cycle(show)]
-fn show_items(out: &mut Writing, items: &[RoughItem], depth: u32) {
+fn show_items(out: &mut Buffer, items: &[RoughItem], depth: u32) {
     for item in items {
         out.put("[");
         show_one(out, &item.e, depth);
         show_maybe(out, &item.w, depth);
-        out.mark("", item.line);
+        mark(out, "", item.line);
         out.put("]");
     }
 }
@@ -334,22 +302,16 @@ fn operator_text(op: Operator) -> &'static str {
     }
 }
 
-/// The tree as a line of text: a form's word or sign and `@` and its line, then its parts in brackets.
-pub fn shown(alloc: Global, clause: &Rough) -> Result<String> {
-    let mut out = Writing {
-        text: String::new(alloc),
-        failed: false,
-    };
-    show(&mut out, clause, 1000);
-    let Writing { text, failed } = out;
-    ensure!(!failed, "no memory");
-    Ok(text)
+/// Tells a tree as a line of text: a form's word or sign and `@` and its line, then its parts in brackets.
+pub fn put_shown(out: &mut Buffer, clause: &Rough) {
+    show(out, clause, 1000);
 }
 
-/// The tree of the text, or `?` where it has none.
-pub fn shown_tree(alloc: Global, text: &[u8]) -> Result<String> {
-    match read(alloc, text)? {
-        Ok(clause) => shown(alloc, &clause),
-        Err(_) => Ok(String::from_str(alloc, "?")?),
+/// Tells the tree of a text, or `?` where it has none.
+pub fn put_tree(out: &mut Buffer, text: &[u8]) {
+    match read(out.alloc(), text) {
+        Ok(clause) => put_shown(out, &clause),
+        Err(Some(_)) => out.put("?"),
+        Err(None) => out.fail(),
     }
 }

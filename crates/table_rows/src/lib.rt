@@ -5,10 +5,12 @@
 //! of a line is written with an empty line behind it.
 #![tactic(auto)]
 
+pub mod buffer;
 pub mod report;
 pub mod row;
 pub mod tables;
 
+pub use buffer::Buffer;
 pub use report::Report;
 pub use row::{Row, rows_of};
 pub use tables::Tables;

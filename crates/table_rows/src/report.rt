@@ -30,15 +30,12 @@ impl Report {
             self.held = self.held.saturating_add(1);
             return Ok(());
         }
-        self.say(b"== differs: ")?;
-        self.say(file.as_bytes())?;
-        self.say(b", the row with these fields:\n")?;
-        self.say(row.field(0))?;
-        self.say(b"\n-- found:\n")?;
-        self.say(found)?;
-        self.say(b"\n-- wanted:\n")?;
-        self.say(wanted)?;
-        self.say(b"\n")
+        self.say(b"== differs: ", file.as_bytes())?;
+        self.say(b", the row with these fields:\n", row.field(0))?;
+        self.say(b"\n-- found:\n", found)?;
+        self.say(b"\n-- wanted:\n", wanted)?;
+        self.others.push(b'\n')?;
+        Ok(())
     }
 
     /// Prints how many rows hold, and what was found of each other one.
@@ -62,7 +59,8 @@ impl Report {
         self.others.as_slice()
     }
 
-    fn say(&mut self, text: &[u8]) -> Result<(), AllocError> {
+    fn say(&mut self, what: &[u8], text: &[u8]) -> Result<(), AllocError> {
+        self.others.extend_from_slice(what)?;
         self.others.extend_from_slice(text)
     }
 }

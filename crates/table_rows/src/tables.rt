@@ -1,3 +1,4 @@
+use crate::buffer::Buffer;
 use crate::report::Report;
 use crate::row::{Row, rows_of};
 use anyhow::{Context, Result, ensure};
@@ -55,6 +56,19 @@ impl Tables {
     ) -> Result<()> {
         let found = found.context(format_args!("{file}, line {}", row.line))?;
         Ok(self.report.compare(file, row, &found, wanted)?)
+    }
+
+    /// The same, where what was found is put together piece by piece.
+    pub fn compare_told(
+        &mut self,
+        file: &str,
+        row: &Row,
+        found: &Buffer,
+        wanted: &[u8],
+    ) -> Result<()> {
+        let place = format_args!("{file}, line {}: nothing can be told of it", row.line);
+        let found = found.told().context(place)?;
+        Ok(self.report.compare(file, row, found, wanted)?)
     }
 
     /// Prints how many rows hold, and what was found of each other one.

@@ -1,26 +1,24 @@
 //! A text of a hundred literals inside one another, which is built with its tree, since each literal has a type as long as those in it.
 
-use crate::buffer::Buffer;
-use crate::checking::answer;
+use crate::checking::put_answer;
 use crate::patterns::put_pieces;
 use anyhow::Result;
-use std::alloc::Global;
-use table_rows::{Row, Tables};
+use std::alloc::{AllocError, Global};
+use table_rows::{Buffer, Row, Tables};
 
 // What a row is called that stands in no file.
 const CALLED: &[u8] = b"a hundred literals inside one another";
 
 /// Compares the tree of the hundred literals.
 pub fn compare(tables: &mut Tables) -> Result<()> {
-    let alloc = tables.alloc;
-    let text = literals(alloc)?;
-    let wanted = tree(alloc)?;
-    let found = answer(alloc, text.as_bytes());
-    let row = row_called(alloc, CALLED)?;
-    tables.compare("literals.rt", &row, found, wanted.as_bytes())
+    let row = row_called(tables.alloc, CALLED)?;
+    let mut found = Buffer::new(tables.alloc);
+    put_found(&mut found);
+    let wanted = tree(tables.alloc);
+    tables.compare_told("literals.rt", &row, &found, wanted.told().unwrap_or(CALLED))
 }
 
-fn row_called(alloc: Global, called: &[u8]) -> Result<Row> {
+fn row_called(alloc: Global, called: &[u8]) -> Result<Row, AllocError> {
     let mut fields = Vec::new(alloc);
     fields.push(Vec::from_slice(alloc, called)?)?;
     Ok(Row {
@@ -28,6 +26,14 @@ fn row_called(alloc: Global, called: &[u8]) -> Result<Row> {
         head: Vec::new(alloc),
         fields,
     })
+}
+
+fn put_found(found: &mut Buffer) {
+    let text = literals(found.alloc());
+    match text.told() {
+        Some(text) => put_answer(found, text),
+        None => found.fail(),
+    }
 }
 
 // The type of the result of the literal at this depth of 100.
@@ -42,28 +48,28 @@ fn put_type(out: &mut Buffer, depth: u32) {
 }
 
 // A hundred literals inside one another, of which the innermost mentions the parameters of all.
-fn literals(alloc: Global) -> Result<String> {
+fn literals(alloc: Global) -> Buffer {
     let mut out = Buffer::new(alloc);
     out.put("procedure f");
-    for depth in 1..=100 {
+    for depth in 1..=100u32 {
         out.put("(int a");
-        out.number(depth);
+        out.number(u64::from(depth));
         out.put(" -> ");
         put_type(&mut out, depth);
         out.put(if depth < 100 { "); proc" } else { "); 1" });
     }
     put_pieces(&mut out, b" + a#", 100);
-    out.finish()
+    out
 }
 
 // A parameter is kept by each literal but the last, which has it in a scope of its own.
-fn tree(alloc: Global) -> Result<String> {
+fn tree(alloc: Global) -> Buffer {
     let mut out = Buffer::new(alloc);
     out.put("(block (let P0:");
     put_type(&mut out, 0);
-    for depth in 1..100 {
+    for depth in 1..100u32 {
         out.put(" (proc[scope(int a");
-        out.number(depth);
+        out.number(u64::from(depth));
         out.put(")]@1 K0.0:int ->");
         put_type(&mut out, depth);
     }
@@ -71,7 +77,7 @@ fn tree(alloc: Global) -> Result<String> {
     put_sum(&mut out);
     put_pieces(&mut out, b")", 100);
     out.put("))");
-    out.finish()
+    out
 }
 
 // Each parameter but the last stands in the scope of its literal, so many scopes outward.
@@ -79,7 +85,7 @@ fn put_sum(out: &mut Buffer) {
     out.put(" ");
     put_pieces(out, b"(+@1 ", 100);
     out.put("1");
-    for up in (0..99).rev() {
+    for up in (0..99u64).rev() {
         out.put(" K");
         out.number(up);
         out.put(".0:int)");

@@ -2,82 +2,89 @@
 //! first fault. It prints how many rows hold, and of each other one what was found.
 #![tactic(auto)]
 
-mod buffer;
 mod checking;
 mod literals;
 mod patterns;
 mod show;
 
-use crate::checking::{answer, fault_of};
+use crate::checking::{put_answer, put_fault};
 use crate::patterns::text_of;
 use anyhow::Result;
-use table_rows::Tables;
+use table_rows::{Buffer, Row, Tables};
 
-// Texts that fit the rules, each with its typed tree.
-const TREES: [&str; 8] = [
-    "clause_trees.rows",
-    "operator_trees.rows",
-    "application_trees.rows",
-    "procedure_trees.rows",
-    "kept_names.rows",
-    "parameter_scopes.rows",
-    "loops_and_scans.rows",
-    "locals.rows",
+/// What the rows of a table are.
+#[derive(Clone, Copy)]
+enum Kind {
+    /// Texts that fit the rules, each with its typed tree.
+    Trees,
+    /// Texts that break a rule, each behind its first fault.
+    Faults,
+    /// Patterns of texts at the limits and far past what has none, each with its fault.
+    Patterns,
+}
+
+const TABLES: [(&str, Kind); 21] = [
+    ("clause_trees.rows", Kind::Trees),
+    ("operator_trees.rows", Kind::Trees),
+    ("application_trees.rows", Kind::Trees),
+    ("procedure_trees.rows", Kind::Trees),
+    ("kept_names.rows", Kind::Trees),
+    ("parameter_scopes.rows", Kind::Trees),
+    ("loops_and_scans.rows", Kind::Trees),
+    ("locals.rows", Kind::Trees),
+    ("unknown_names.rows", Kind::Faults),
+    ("names_declared_twice.rows", Kind::Faults),
+    ("clause_types.rows", Kind::Faults),
+    ("operand_types.rows", Kind::Faults),
+    ("value_types.rows", Kind::Faults),
+    ("library_types.rows", Kind::Faults),
+    ("sequence_types.rows", Kind::Faults),
+    ("lines_of_parts.rows", Kind::Faults),
+    ("assignments.rows", Kind::Faults),
+    ("applications.rows", Kind::Faults),
+    ("limits.rows", Kind::Patterns),
+    ("chains.rows", Kind::Patterns),
+    ("two_bodies.rows", Kind::Patterns),
 ];
-
-// Texts that break a rule, each behind its first fault.
-const FAULTS: [&str; 10] = [
-    "unknown_names.rows",
-    "names_declared_twice.rows",
-    "clause_types.rows",
-    "operand_types.rows",
-    "value_types.rows",
-    "library_types.rows",
-    "sequence_types.rows",
-    "lines_of_parts.rows",
-    "assignments.rows",
-    "applications.rows",
-];
-
-// Patterns of texts at the limits and far past what has none, each with its fault.
-const PATTERNS: [&str; 3] = ["limits.rows", "chains.rows", "two_bodies.rows"];
 
 fn main(rt: HostRuntime) -> Result<()> {
     let mut tables = Tables::new(&rt)?;
-    for file in &TREES {
-        compare_trees(&mut tables, file)?;
-    }
-    for file in &FAULTS {
-        compare_faults(&mut tables, file)?;
-    }
-    for file in &PATTERNS {
-        compare_patterns(&mut tables, file)?;
+    for (file, kind) in &TABLES {
+        compare_rows(&mut tables, file, *kind)?;
     }
     literals::compare(&mut tables)?;
     tables.tell(&rt)
 }
 
-fn compare_trees(tables: &mut Tables, file: &str) -> Result<()> {
+fn compare_rows(tables: &mut Tables, file: &str, kind: Kind) -> Result<()> {
     for row in &tables.rows(file)? {
-        let found = answer(tables.alloc, row.field(0));
-        tables.compare(file, row, found, row.field(1))?;
+        let mut found = Buffer::new(tables.alloc);
+        put_found(&mut found, row, kind);
+        tables.compare_told(file, row, &found, wanted_of(row, kind))?;
     }
     Ok(())
 }
 
-fn compare_faults(tables: &mut Tables, file: &str) -> Result<()> {
-    for row in &tables.rows(file)? {
-        let found = answer(tables.alloc, row.field(0));
-        tables.compare(file, row, found, &row.head)?;
+// What is found of a row.
+fn put_found(found: &mut Buffer, row: &Row, kind: Kind) {
+    match kind {
+        Kind::Trees | Kind::Faults => put_answer(found, row.field(0)),
+        Kind::Patterns => put_pattern(found, row),
     }
-    Ok(())
 }
 
-fn compare_patterns(tables: &mut Tables, file: &str) -> Result<()> {
-    for row in &tables.rows(file)? {
-        let text = text_of(tables.alloc, row)?;
-        let found = fault_of(tables.alloc, text.as_bytes());
-        tables.compare(file, row, found, row.field(1))?;
+fn put_pattern(found: &mut Buffer, row: &Row) {
+    let text = text_of(found.alloc(), row);
+    match text.told() {
+        Some(text) => put_fault(found, text),
+        None => found.fail(),
     }
-    Ok(())
+}
+
+// What a row wants to be found.
+fn wanted_of(row: &Row, kind: Kind) -> &[u8] {
+    match kind {
+        Kind::Trees | Kind::Patterns => row.field(1),
+        Kind::Faults => row.head.as_slice(),
+    }
 }

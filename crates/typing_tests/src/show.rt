@@ -1,7 +1,6 @@
 //! A typed tree as a line of text.
 
-use crate::buffer::Buffer;
-use anyhow::Result;
+use crate::checking::put_type;
 use ps_base::bytes::Bytes;
 use ps_base::line::Line;
 use ps_base::operator::{Operator, Relation};
@@ -10,8 +9,8 @@ use ps_program::body::Body;
 use ps_program::form::{Arm, Tree, TreeForm};
 use ps_program::parts::{Further, Parts};
 use ps_program::place::Place;
-use ps_type_text::type_text;
 use std::alloc::Global;
+use table_rows::Buffer;
 
 /// What is still to be written.
 #[derive(Clone, Copy)]
@@ -20,22 +19,24 @@ enum Item<'a> {
     Mark(&'static str),
 }
 
-/// What is written so far, and what is still to be written, the next of it last.
+/// All that is still to be written, the next of it last, and whether there was memory for it.
 #[derive(Drop)]
-struct Writing<'a> {
-    alloc: Global,
-    out: Buffer,
+struct Pending<'a> {
     rest: Vec<Item<'a>>,
+    failed: bool,
 }
 
-impl<'a> Writing<'a> {
-    fn put(&mut self, text: &str) {
-        self.out.put(text);
+impl<'a> Pending<'a> {
+    fn new(alloc: Global) -> Pending<'a> {
+        Pending {
+            rest: Vec::new(alloc),
+            failed: false,
+        }
     }
 
     fn later(&mut self, item: Item<'a>) {
         if self.rest.push(item).is_err() {
-            self.out.failed = true;
+            self.failed = true;
         }
     }
 
@@ -62,13 +63,8 @@ impl<'a> Writing<'a> {
     fn further(&mut self, further: Further<'a>) {
         match further {
             Further::Nothing => {}
-            Further::One(a) => self.clause(a),
-            Further::OneBranch(a) => self.clause(a),
-            Further::Two(a, b) => {
-                self.clause(b);
-                self.clause(a);
-            }
-            Further::TwoBranches(a, b) => {
+            Further::One(a) | Further::OneBranch(a) => self.clause(a),
+            Further::Two(a, b) | Further::TwoBranches(a, b) => {
                 self.clause(b);
                 self.clause(a);
             }
@@ -77,8 +73,7 @@ impl<'a> Writing<'a> {
                 self.clause(b);
                 self.clause(a);
             }
-            Further::Branches(trees) => self.clauses(trees),
-            Further::Operands(trees) => self.clauses(trees),
+            Further::Branches(trees) | Further::Operands(trees) => self.clauses(trees),
             Further::Arms(arms, d) => {
                 self.clause(d);
                 self.later(Item::Mark(" else"));
@@ -86,125 +81,102 @@ impl<'a> Writing<'a> {
             }
         }
     }
+}
 
-    fn place(&mut self, place: Place) {
-        match place {
-            Place::Plain { slot } => {
-                self.put("P");
-                self.out.number(slot);
+fn put_slot(out: &mut Buffer, word: &str, slot: u32) {
+    out.put(word);
+    out.number(u64::from(slot));
+}
+
+fn put_place(out: &mut Buffer, place: Place) {
+    match place {
+        Place::Plain { slot } => put_slot(out, "P", slot),
+        Place::Kept { up, slot } => {
+            put_slot(out, "K", up);
+            put_slot(out, ".", slot);
+        }
+    }
+}
+
+fn put_bytes(out: &mut Buffer, before: &str, bytes: &Bytes, behind: &str) {
+    out.put(before);
+    out.bytes(bytes.as_slice());
+    out.put(behind);
+}
+
+/// A form, but for the clauses in it: its word, and what it has of a scope, a line, a class, numbers, a place and a type.
+fn put_form(out: &mut Buffer, form: &TreeForm) {
+    out.put(word_of(form));
+    if let Some(scope) = scope_of(form) {
+        put_bytes(out, "[", scope, "]");
+    }
+    if let Some(line) = line_of(form) {
+        put_slot(out, "@", line.0);
+    }
+    if let Some(class) = class_of(form) {
+        put_bytes(out, " ", class, "");
+    }
+    put_numbers(out, form);
+    if let Some(place) = place_of(form) {
+        put_place(out, place);
+    }
+    if let Some(ty) = ty_of(form) {
+        put_type(out, ":", ty);
+    }
+}
+
+fn put_numbers(out: &mut Buffer, form: &TreeForm) {
+    match form {
+        TreeForm::Int(value) => out.int(*value),
+        TreeForm::Text(bytes) => put_bytes(out, "", bytes, "'"),
+        TreeForm::For(counted) => {
+            put_slot(out, " ", counted.slot);
+            out.put(" ");
+            put_place(out, counted.control);
+        }
+        TreeForm::Field { index, .. } | TreeForm::SetField { index, .. } => {
+            put_slot(out, " ", *index);
+        }
+        TreeForm::Lib { code, .. } => put_slot(out, " ", u32::from(*code)),
+        TreeForm::Scan { q, s, .. } => {
+            put_slot(out, " ", *q);
+            put_slot(out, " ", *s);
+        }
+        TreeForm::Proc(body) => put_parameters(out, body),
+        _ => {}
+    }
+}
+
+fn put_parameters(out: &mut Buffer, body: &Body) {
+    for param in body.params.as_slice() {
+        out.put(" ");
+        put_place(out, param.place);
+        put_type(out, ":", &param.ty);
+    }
+    put_type(out, " ->", &body.gives);
+}
+
+/// A clause, but for its parts, which stay pending.
+fn put_tree<'a>(out: &mut Buffer, pending: &mut Pending<'a>, tree: &'a Tree) {
+    match tree.parts() {
+        Parts::Clauses {
+            first: None,
+            further: Further::Nothing,
+        } => put_form(out, &tree.form),
+        Parts::Clauses { first, further } => {
+            out.put("(");
+            put_form(out, &tree.form);
+            pending.later(Item::Mark(")"));
+            pending.further(further);
+            if let Some(first) = first {
+                pending.clause(first);
             }
-            Place::Kept { up, slot } => {
-                self.put("K");
-                self.out.number(up);
-                self.put(".");
-                self.out.number(slot);
-            }
         }
-    }
-
-    fn ty(&mut self, ty: &Ty) {
-        match type_text(self.alloc, ty) {
-            Ok(text) => self.out.bytes(text.as_slice()),
-            Err(_) => self.out.failed = true,
-        }
-    }
-
-    fn line(&mut self, line: Line) {
-        self.put("@");
-        self.out.number(line.0);
-    }
-
-    fn scope(&mut self, scope: &Bytes) {
-        self.put("[");
-        self.out.bytes(scope.as_slice());
-        self.put("]");
-    }
-
-    fn counted(&mut self, number: u32) {
-        self.put(" ");
-        self.out.number(number);
-    }
-
-    /// A form, but for the clauses in it: its word, and what it has of a scope, a line, a class, numbers, a place and a type.
-    fn form(&mut self, form: &TreeForm) {
-        self.put(word_of(form));
-        if let Some(scope) = scope_of(form) {
-            self.scope(scope);
-        }
-        if let Some(line) = line_of(form) {
-            self.line(line);
-        }
-        if let Some(class) = class_of(form) {
-            self.put(" ");
-            self.out.bytes(class.as_slice());
-        }
-        self.numbers(form);
-        if let Some(place) = place_of(form) {
-            self.place(place);
-        }
-        if let Some(ty) = ty_of(form) {
-            self.put(":");
-            self.ty(ty);
-        }
-    }
-
-    fn numbers(&mut self, form: &TreeForm) {
-        match form {
-            TreeForm::Int(value) => self.out.int(i64::from(*value)),
-            TreeForm::Text(bytes) => {
-                self.out.bytes(bytes.as_slice());
-                self.put("'");
-            }
-            TreeForm::For(counted) => {
-                self.counted(counted.slot);
-                self.put(" ");
-                self.place(counted.control);
-            }
-            TreeForm::Field { index, .. } => self.counted(*index),
-            TreeForm::SetField { index, .. } => self.counted(*index),
-            TreeForm::Lib { code, .. } => self.counted(u32::from(*code)),
-            TreeForm::Scan { q, s, .. } => {
-                self.counted(*q);
-                self.counted(*s);
-            }
-            TreeForm::Proc(body) => self.parameters(body),
-            _ => {}
-        }
-    }
-
-    fn parameters(&mut self, body: &Body) {
-        for param in body.params.as_slice() {
-            self.put(" ");
-            self.place(param.place);
-            self.put(":");
-            self.ty(&param.ty);
-        }
-        self.put(" ->");
-        self.ty(&body.gives);
-    }
-
-    /// A clause, and its parts later on.
-    fn tree(&mut self, tree: &'a Tree) {
-        match tree.parts() {
-            Parts::Clauses {
-                first: None,
-                further: Further::Nothing,
-            } => self.form(&tree.form),
-            Parts::Clauses { first, further } => {
-                self.put("(");
-                self.form(&tree.form);
-                self.later(Item::Mark(")"));
-                self.further(further);
-                if let Some(first) = first {
-                    self.clause(first);
-                }
-            }
-            Parts::Literal(body) => {
-                self.put("(");
-                self.form(&tree.form);
-                self.later(Item::Mark(")"));
-                self.clause(&body.tree);
-            }
+        Parts::Literal(body) => {
+            out.put("(");
+            put_form(out, &tree.form);
+            pending.later(Item::Mark(")"));
+            pending.clause(&body.tree);
         }
     }
 }
@@ -349,22 +321,19 @@ fn operator_text(op: Operator) -> &'static str {
     }
 }
 
-/// A tree as a line of text: a clause as its form with its places, types and lines, and its parts, in brackets; a place as
+/// Tells a tree as a line of text: a clause as its form with its places, types and lines, and its parts, in brackets; a place as
 /// `P` and its slot, or as `K`, so many scopes outward, and its position.
-pub fn shown(alloc: Global, tree: &Tree) -> Result<String> {
-    let mut writing = Writing {
-        alloc,
-        out: Buffer::new(alloc),
-        rest: Vec::new(alloc),
-    };
-    writing.tree(tree);
+pub fn put_shown(out: &mut Buffer, tree: &Tree) {
+    let mut pending = Pending::new(out.alloc());
+    put_tree(out, &mut pending, tree);
     for _ in 0..u32::MAX {
-        match writing.rest.pop() {
-            Some(Item::Mark(mark)) => writing.put(mark),
-            Some(Item::Clause(tree)) => writing.tree(tree),
+        match pending.rest.pop() {
+            Some(Item::Mark(mark)) => out.put(mark),
+            Some(Item::Clause(tree)) => put_tree(out, &mut pending, tree),
             None => break,
         }
     }
-    let Writing { out, .. } = writing;
-    out.finish()
+    if pending.failed {
+        out.fail();
+    }
 }

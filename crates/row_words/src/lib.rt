@@ -1,0 +1,10 @@
+//! The words that the fields of rows are made of: numbers, and the words of forged objects.
+#![tactic(auto)]
+
+pub mod number;
+pub mod objects;
+pub mod words;
+
+pub use number::put_number;
+pub use objects::words_of;
+pub use words::{Words, area_of, index_of, int_of, number_of, parted};
