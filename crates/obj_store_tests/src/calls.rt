@@ -2,20 +2,28 @@
 
 ghost use Rattle.std.specs.Prelude.{◌≡◌, OnOk, true};
 
-use crate::objects::{attached, fetch, host_of, new_store, page_of_text, text};
+use crate::objects::{fetch, left, new_store, page_of_text, text};
 use memory_host::MemoryHost;
 use obj_layout::vault::{Vault, VaultFault};
 use obj_store::ObjStore;
-use std::test::Fail;
+use std::alloc::Global;
+
+// A new store holds nothing, in a volume of 32 pages.
+fn is_empty(alloc: Global) -> bool {
+    match new_store(alloc) {
+        Some(store) => {
+            store.used() == 1
+                && store.capacity() == 6656
+                && store.directory() == 0
+                && store.is_alive()
+        }
+        None => false,
+    }
+}
 
 #[test]
-fn a_new_store_is_empty(rt: HostRuntime) -> Result<(), Fail> {
-    let store = new_store(rt.alloc())?;
-    assert_eq!(rt; store.used(), 1);
-    assert_eq!(rt; store.capacity(), 6656);
-    assert_eq!(rt; store.directory(), 0);
-    assert!(rt; store.is_alive());
-    Ok(())
+fn a_new_store_is_empty(rt: HostRuntime) {
+    assert!(rt; is_empty(rt.alloc()));
 }
 
 /// Stores eighty-six texts, of which the last lies across the end of a page, and changes that one.
@@ -31,13 +39,27 @@ fn store_texts(store: &mut ObjStore<MemoryHost>) -> Result<[u64; 6], VaultFault>
     fetch(store, last)
 }
 
+// The texts are stored, and the last two of them are fetched.
+fn are_stored(store: &mut ObjStore<MemoryHost>) -> bool
+    requires { store.old.live ≡ true }
+{
+    store_texts(store) == Ok(text(90, 91))
+        && store.used() == 517
+        && fetch(store, 505) == Ok(text(84, 7))
+}
+
+// The same in a new store.
+fn are_stored_anew(alloc: Global) -> bool {
+    let Some(store) = new_store(alloc) else {
+        return false;
+    };
+    let mut store = store;
+    are_stored(&mut store)
+}
+
 #[test]
-fn objects_across_the_end_of_a_page(rt: HostRuntime) -> Result<(), Fail> {
-    let mut store = new_store(rt.alloc())?;
-    assert_eq!(rt; store_texts(&mut store), Ok(text(90, 91)));
-    assert_eq!(rt; store.used(), 517);
-    assert_eq!(rt; fetch(&mut store, 505), Ok(text(84, 7)));
-    Ok(())
+fn objects_across_the_end_of_a_page(rt: HostRuntime) {
+    assert!(rt; are_stored_anew(rt.alloc()));
 }
 
 /// Stores, settles and puts.
@@ -53,20 +75,41 @@ fn settle(store: &mut ObjStore<MemoryHost>) -> Result<(), VaultFault>
     store.settle(511)
 }
 
+// The texts are stored and settled.
+fn are_settled(store: &mut ObjStore<MemoryHost>) -> bool
+    requires { store.old.live ≡ true }
+{
+    settle(store) == Ok(()) && store.directory() == 511
+}
+
+// The texts that were settled, and the last one of them.
+fn are_held(store: &mut ObjStore<MemoryHost>) -> bool
+    requires { store.old.live ≡ true }
+{
+    store.used() == 517 && store.directory() == 511 && fetch(store, 511) == Ok(text(90, 91))
+}
+
+// What was put was told, and a stop leaves what was settled.
+fn are_left(alloc: Global, host: &MemoryHost) -> bool {
+    let Some(store) = left(alloc, host, host.clock(), 255) else {
+        return false;
+    };
+    let mut store = store;
+    are_held(&mut store) && host.told_bytes() == b"so far".as_slice()
+}
+
+// The texts are settled in a new store, and found again.
+fn are_found_again(alloc: Global) -> bool {
+    let Some(store) = new_store(alloc) else {
+        return false;
+    };
+    let mut store = store;
+    are_settled(&mut store) && are_left(alloc, &store.release())
+}
+
 #[test]
-fn what_is_settled_is_found_again(rt: HostRuntime) -> Result<(), Fail> {
-    let alloc = rt.alloc();
-    let mut store = new_store(alloc)?;
-    assert_eq!(rt; settle(&mut store), Ok(()));
-    assert_eq!(rt; store.directory(), 511);
-    let host = store.release();
-    assert_eq!(rt; host.told_bytes(), b"so far".as_slice());
-    let image = host.crash(alloc, host.clock(), 255)?;
-    let mut again = attached(alloc, host_of(alloc, &image, u64::MAX)?)?;
-    assert_eq!(rt; again.used(), 517);
-    assert_eq!(rt; again.directory(), 511);
-    assert_eq!(rt; fetch(&mut again, 511), Ok(text(90, 91)));
-    Ok(())
+fn what_is_settled_is_found_again(rt: HostRuntime) {
+    assert!(rt; are_found_again(rt.alloc()));
 }
 
 /// Stores eleven objects of 600 words.
@@ -92,18 +135,28 @@ fn fill(store: &mut ObjStore<MemoryHost>) -> Result<u64, VaultFault>
     Ok(store.used())
 }
 
-#[test]
-fn full_is_answered_at_the_capacity(rt: HostRuntime) -> Result<(), Fail> {
-    let mut store = new_store(rt.alloc())?;
-    assert_eq!(rt; fill(&mut store), Ok(6655));
+// The store is full behind these objects.
+fn is_full(store: &mut ObjStore<MemoryHost>) -> bool
+    requires { store.old.live ≡ true }
+{
     let full = VaultFault::Full {
         used: 6655,
         wanted: 6,
         capacity: 6656,
     };
-    if store.is_alive() {
-        assert_eq!(rt; store.append(&text(1, 2)), Err(full));
-    }
-    assert!(rt; !store.is_alive());
-    Ok(())
+    fill(store) == Ok(6655) && store.append(&text(1, 2)) == Err(full) && !store.is_alive()
+}
+
+// The same of a new store.
+fn is_full_anew(alloc: Global) -> bool {
+    let Some(store) = new_store(alloc) else {
+        return false;
+    };
+    let mut store = store;
+    is_full(&mut store)
+}
+
+#[test]
+fn full_is_answered_at_the_capacity(rt: HostRuntime) {
+    assert!(rt; is_full_anew(rt.alloc()));
 }

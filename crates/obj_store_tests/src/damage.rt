@@ -1,13 +1,13 @@
 //! Each test of an object, in order.
 
-ghost use Rattle.std.specs.Prelude.{◌≡◌, IfOk, OnOk, true};
+ghost use Rattle.std.specs.Prelude.{◌≡◌, IfSome, OnOk, true};
+ghost use Rattle.obj_layout.specs.Stored.{IsHeaded};
 
 use crate::objects::{new_store, short_text, text};
 use memory_host::MemoryHost;
 use obj_layout::vault::{Vault, VaultFault};
 use obj_store::ObjStore;
 use std::alloc::Global;
-use std::test::Fail;
 
 /// What is wrong in a store of two texts of six words: the home of each text, a PID, the number that is tested, and its bound.
 const DAMAGED: [(u64, u64, u64, u64); 10] = [
@@ -31,13 +31,16 @@ const DAMAGED: [(u64, u64, u64, u64); 10] = [
 ];
 
 /// A store of two texts with this home.
-fn two_texts(alloc: Global, home: u64) -> Result<ObjStore<MemoryHost>, Fail>
-    ensures { IfOk result (λ store. store.live ≡ true) }
+fn two_texts(alloc: Global, home: u64) -> Option<ObjStore<MemoryHost>>
+    ensures { IfSome result (λ store. store.live ≡ true) }
 {
-    let mut store = new_store(alloc)?;
+    let Some(store) = new_store(alloc) else {
+        return None;
+    };
+    let mut store = store;
     match store_two(&mut store, home) {
-        Ok(()) => Ok(store),
-        Err(_) => Err(Fail::new("two texts weren't stored")),
+        Ok(()) => Some(store),
+        Err(_) => None,
     }
 }
 
@@ -51,39 +54,85 @@ fn store_two(store: &mut ObjStore<MemoryHost>, home: u64) -> Result<(), VaultFau
     Ok(())
 }
 
-#[test]
-fn a_length_is_refused(rt: HostRuntime) -> Result<(), Fail> {
-    for (home, at, found, wanted) in DAMAGED {
-        let mut store = two_texts(rt.alloc(), home)?;
-        let damaged = VaultFault::Damaged { at, found, wanted };
-        assert_eq!(rt; store.length(at), Err(damaged));
-        assert!(rt; !store.is_alive());
+// The length of an object is refused, and the store lives no more.
+fn is_length_refused(store: &mut ObjStore<MemoryHost>, pid: u64, damaged: VaultFault) -> bool
+    requires { store.old.live ≡ true }
+{
+    store.length(pid) == Err(damaged) && !store.is_alive()
+}
+
+// The same of the overwriting of an object by these words.
+fn is_refused(
+    store: &mut ObjStore<MemoryHost>,
+    pid: u64,
+    words: &[u64],
+    damaged: VaultFault,
+) -> bool
+    requires live { store.old.live ≡ true }
+    requires headed { IsHeaded words.now }
+{
+    store.overwrite(pid, words) == Err(damaged) && !store.is_alive()
+}
+
+// What is damaged is refused, by the length of the object or by its overwriting.
+fn is_found(alloc: Global, row: (u64, u64, u64, u64), by_length: bool) -> bool {
+    let (home, at, found, wanted) = row;
+    let damaged = VaultFault::Damaged { at, found, wanted };
+    let Some(store) = two_texts(alloc, home) else {
+        return false;
+    };
+    let mut store = store;
+    if by_length {
+        is_length_refused(&mut store, at, damaged)
+    } else {
+        is_refused(&mut store, at, &text(8, 9), damaged)
     }
-    Ok(())
+}
+
+// The place of the first row that isn't found, by lengths or by overwritings.
+fn other_row(alloc: Global, by_length: bool) -> Option<usize> {
+    for (place, row) in DAMAGED.iter().enumerate() {
+        if !is_found(alloc, *row, by_length) {
+            return Some(place);
+        }
+    }
+    None
 }
 
 #[test]
-fn an_overwriting_is_refused(rt: HostRuntime) -> Result<(), Fail> {
-    for (home, at, found, wanted) in DAMAGED {
-        let mut store = two_texts(rt.alloc(), home)?;
-        let damaged = VaultFault::Damaged { at, found, wanted };
-        assert_eq!(rt; store.overwrite(at, &text(8, 9)), Err(damaged));
-        assert!(rt; !store.is_alive());
-    }
-    Ok(())
+fn a_length_is_refused(rt: HostRuntime) {
+    assert_eq!(rt; other_row(rt.alloc(), true), None);
 }
 
 #[test]
-fn the_test_of_a_length(rt: HostRuntime) -> Result<(), Fail> {
-    let mut store = two_texts(rt.alloc(), 5)?;
-    assert_eq!(rt; store.length(1), Ok(6));
-    assert_eq!(rt; store.length(7), Ok(6));
+fn an_overwriting_is_refused(rt: HostRuntime) {
+    assert_eq!(rt; other_row(rt.alloc(), false), None);
+}
+
+// The lengths of two texts are six words, and five words are no other text for one of them.
+fn is_length_tested(store: &mut ObjStore<MemoryHost>) -> bool
+    requires { store.old.live ≡ true }
+{
     let wrong = VaultFault::Damaged {
         at: 7,
         found: 6,
         wanted: 5,
     };
-    assert_eq!(rt; store.overwrite(7, &short_text(9)), Err(wrong));
-    assert!(rt; !store.is_alive());
-    Ok(())
+    store.length(1) == Ok(6)
+        && store.length(7) == Ok(6)
+        && is_refused(store, 7, &short_text(9), wrong)
+}
+
+// The same in a store of two texts.
+fn is_length_tested_anew(alloc: Global) -> bool {
+    let Some(store) = two_texts(alloc, 5) else {
+        return false;
+    };
+    let mut store = store;
+    is_length_tested(&mut store)
+}
+
+#[test]
+fn the_test_of_a_length(rt: HostRuntime) {
+    assert!(rt; is_length_tested_anew(rt.alloc()));
 }

@@ -1,6 +1,6 @@
 //! Stores to be tested, and objects to be stored.
 
-ghost use Rattle.std.specs.Prelude.{◌≡◌, IfOk, OnOk, true};
+ghost use Rattle.std.specs.Prelude.{◌≡◌, IfSome, OnOk, true};
 ghost use Rattle.obj_layout.specs.Stored.{IsHeaded};
 
 use memory_host::MemoryHost;
@@ -8,39 +8,65 @@ use obj_layout::vault::{Vault, VaultFault};
 use obj_store::ObjStore;
 use shadow_volume::format;
 use std::alloc::{AllocError, Global};
-use std::test::Fail;
 
 /// The room of a host: bytes and records of its calls.
-pub const ROOM: u64 = 1 << 22;
-
-/// A host with these bytes, which fails from this call on.
-pub fn host_of(alloc: Global, bytes: &[u8], calls: u64) -> Result<MemoryHost, AllocError> {
-    MemoryHost::new(alloc, bytes, &[], calls, ROOM)
-}
+const ROOM: u64 = 1 << 22;
 
 /// The file of a new volume of 32 pages, so with room for 6,656 words.
 pub fn new_file(alloc: Global) -> Result<Vec<u8>, AllocError> {
-    let mut host = host_of(alloc, b"", u64::MAX)?;
+    let mut host = MemoryHost::new(alloc, b"", &[], u64::MAX, ROOM)?;
     let _ = format(&mut host, 32);
     Vec::from_slice(alloc, host.contents())
 }
 
-/// The store in a host, where there is one.
-pub fn attached(alloc: Global, host: MemoryHost) -> Result<ObjStore<MemoryHost>, Fail>
-    ensures { IfOk result (λ store. store.live ≡ true) }
+/// The store in a file, over a host of which these calls fail, and all of them from this one on; or none, where it isn't attached.
+pub fn store_over(
+    alloc: Global,
+    file: &[u8],
+    failing: &[u64],
+    calls: u64,
+) -> Option<ObjStore<MemoryHost>>
+    ensures { IfSome result (λ store. store.live ≡ true) }
 {
+    let Ok(host) = MemoryHost::new(alloc, file, failing, calls, ROOM) else {
+        return None;
+    };
     match ObjStore::attach(alloc, host) {
-        Ok(store) => Ok(store),
-        Err(_) => Err(Fail::new("no store")),
+        Ok(store) => Some(store),
+        Err(_) => None,
     }
 }
 
-/// The store in a new volume.
-pub fn new_store(alloc: Global) -> Result<ObjStore<MemoryHost>, Fail>
-    ensures { IfOk result (λ store. store.live ≡ true) }
+/// The store in a file.
+pub fn store_in(alloc: Global, file: &[u8]) -> Option<ObjStore<MemoryHost>>
+    ensures { IfSome result (λ store. store.live ≡ true) }
 {
-    let file = new_file(alloc)?;
-    attached(alloc, host_of(alloc, &file, u64::MAX)?)
+    store_over(alloc, file, &[], u64::MAX)
+}
+
+/// The store in a new volume.
+pub fn new_store(alloc: Global) -> Option<ObjStore<MemoryHost>>
+    ensures { IfSome result (λ store. store.live ≡ true) }
+{
+    match new_file(alloc) {
+        Ok(file) => store_in(alloc, &file),
+        Err(_) => None,
+    }
+}
+
+/// The store in the file that a stop leaves at this moment, with this byte where anything may stand.
+pub fn left(
+    alloc: Global,
+    host: &MemoryHost,
+    moment: u64,
+    filler: u8,
+) -> Option<ObjStore<MemoryHost>>
+    ensures { IfSome result (λ store. store.live ≡ true) }
+{
+    match host.crash(alloc, moment, filler) {
+        Ok(image) => store_in(alloc, &image),
+        Err(_) => None,
+    }
 }
 
 /// A text with no byte, in five words, the last of which is its home.

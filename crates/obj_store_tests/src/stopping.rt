@@ -2,7 +2,7 @@
 
 ghost use Rattle.std.specs.Prelude.{◌≡◌, OnOk, true};
 
-use crate::objects::{ROOM, attached, fetch, host_of, new_file, new_store, page_of_text, text};
+use crate::objects::{fetch, left, new_file, new_store, page_of_text, store_in, store_over, text};
 use memory_host::MemoryHost;
 use obj_layout::vault::{Vault, VaultFault};
 use obj_store::ObjStore;
@@ -21,86 +21,102 @@ fn store_text(store: &mut ObjStore<MemoryHost>) -> Result<(), VaultFault>
     store.settle(pid)
 }
 
-/// What a file holds: its used words, its directory, and the text there.
-fn found_in(alloc: Global, bytes: &[u8]) -> Result<(u64, u64, Result<[u64; 6], VaultFault>), Fail> {
-    let mut store = attached(alloc, host_of(alloc, bytes, u64::MAX)?)?;
-    let directory = store.directory();
-    let used = store.used();
-    let found = fetch(&mut store, directory);
-    Ok((used, directory, found))
+// The text was settled.
+fn holds_text(store: &mut ObjStore<MemoryHost>) -> bool
+    requires { store.old.live ≡ true }
+{
+    store.used() == 7 && store.directory() == 1 && fetch(store, 1) == Ok(text(3, 4))
 }
 
-/// Each image of this moment holds the empty space, or the text whole.
-fn stands_for(alloc: Global, host: &MemoryHost) -> Result<(), Fail> {
-    for filler in [0u8, 255] {
-        let image = host.crash(alloc, host.clock(), filler)?;
-        match found_in(alloc, &image)? {
-            (1, 0, _) => {}
-            (7, 1, Ok(words)) if words == text(3, 4) => {}
-            _ => return Err(Fail::new("neither")),
-        }
+// A stop at this moment leaves the text whole, or, where it may, the empty space.
+fn is_left(alloc: Global, host: &MemoryHost, moment: u64, filler: u8, or_nothing: bool) -> bool {
+    let Some(store) = left(alloc, host, moment, filler) else {
+        return false;
+    };
+    let mut store = store;
+    if or_nothing && store.used() == 1 {
+        store.directory() == 0
+    } else {
+        holds_text(&mut store)
     }
-    Ok(())
+}
+
+// The text is settled where it is to be, and then the store lives. A stop leaves the empty space or the text whole, and where it is settled, the text.
+fn is_settled(alloc: Global, store: ObjStore<MemoryHost>, is_made: bool) -> bool
+    requires { store.live ≡ true }
+{
+    let mut store = store;
+    if store_text(&mut store).is_ok() != is_made || store.is_alive() != is_made {
+        return false;
+    }
+    let host = store.release();
+    let end = host.clock();
+    is_left(alloc, &host, end, 0, !is_made) && is_left(alloc, &host, end, 255, !is_made)
+}
+
+// The text is settled in a file, over a host of which these calls fail, and all of them from this one on, where it is to be.
+fn is_settled_over(alloc: Global, file: &[u8], failing: &[u64], calls: u64, is_made: bool) -> bool {
+    match store_over(alloc, file, failing, calls) {
+        Some(store) => is_settled(alloc, store, is_made),
+        None => false,
+    }
 }
 
 #[test]
 fn a_stop_while_a_text_is_settled(rt: HostRuntime) -> Result<(), Fail> {
-    let alloc = rt.alloc();
-    let file = new_file(alloc)?;
+    let file = new_file(rt.alloc())?;
     for calls in 6..MOST_CALLS {
-        let mut store = attached(alloc, host_of(alloc, &file, calls)?)?;
-        let answer = store_text(&mut store);
-        assert_eq!(rt; store.is_alive(), answer.is_ok());
-        assert_eq!(rt; answer.is_ok(), calls >= 13);
-        let host = store.release();
-        stands_for(alloc, &host)?;
-        if answer.is_ok() {
-            let image = host.crash(alloc, host.clock(), 255)?;
-            assert_eq!(rt; found_in(alloc, &image)?, (7, 1, Ok(text(3, 4))));
-        }
+        assert!(rt; is_settled_over(rt.alloc(), &file, &[], calls, calls >= 13));
     }
     Ok(())
 }
 
 #[test]
 fn one_call_that_fails(rt: HostRuntime) -> Result<(), Fail> {
-    let alloc = rt.alloc();
-    let file = new_file(alloc)?;
+    let file = new_file(rt.alloc())?;
     for failing in 6..MOST_CALLS {
-        let host = MemoryHost::new(alloc, &file, &[failing], u64::MAX, ROOM)?;
-        let mut store = attached(alloc, host)?;
-        let answer = store_text(&mut store);
-        assert_eq!(rt; answer.is_ok(), failing >= 13);
-        assert_eq!(rt; store.is_alive(), answer.is_ok());
-        stands_for(alloc, &store.release())?;
+        assert!(rt; is_settled_over(rt.alloc(), &file, &[failing], u64::MAX, failing >= 13));
     }
     Ok(())
 }
 
 /// A file in which a text is settled.
 fn settled_file(alloc: Global) -> Result<Vec<u8>, Fail> {
-    let file = new_file(alloc)?;
-    let mut store = attached(alloc, host_of(alloc, &file, u64::MAX)?)?;
+    let Some(store) = new_store(alloc) else {
+        return Err(Fail::new("no store"));
+    };
+    let mut store = store;
     match store_text(&mut store) {
         Ok(()) => Ok(Vec::from_slice(alloc, store.release().contents())?),
         Err(_) => Err(Fail::new("nothing was settled")),
     }
 }
 
+// The text is fetched where no call fails, and else it isn't, and the store lives no more.
+fn is_fetched(store: &mut ObjStore<MemoryHost>, fails: bool) -> bool
+    requires { store.old.live ≡ true }
+{
+    if fails {
+        fetch(store, 1) == Err(VaultFault::Device) && !store.is_alive()
+    } else {
+        fetch(store, 1) == Ok(text(3, 4)) && store.is_alive()
+    }
+}
+
+// The text of a file is fetched, by a host of which this call alone fails.
+fn is_fetch_failed(alloc: Global, file: &[u8], failing: u64) -> bool {
+    let Some(store) = store_over(alloc, file, &[failing], u64::MAX) else {
+        return false;
+    };
+    let mut store = store;
+    is_fetched(&mut store, failing < 9)
+}
+
 #[test]
 fn a_call_that_fails_while_a_text_is_fetched(rt: HostRuntime) -> Result<(), Fail> {
-    let alloc = rt.alloc();
-    let file = settled_file(alloc)?;
+    let file = settled_file(rt.alloc())?;
     for failing in 6..10 {
-        let host = MemoryHost::new(alloc, &file, &[failing], u64::MAX, ROOM)?;
-        let mut store = attached(alloc, host)?;
-        let wanted = if failing < 9 {
-            Err(VaultFault::Device)
-        } else {
-            Ok(text(3, 4))
-        };
-        assert_eq!(rt; fetch(&mut store, 1), wanted);
-        assert_eq!(rt; store.is_alive(), wanted.is_ok());
+        assert!(rt; is_fetch_failed(rt.alloc(), &file, failing));
     }
     Ok(())
 }
@@ -115,18 +131,29 @@ fn stage(store: &mut ObjStore<MemoryHost>) -> Result<(), VaultFault>
     store.put(b"so far")
 }
 
+// There were writes, and at each moment a stop leaves the text.
+fn is_always_left(alloc: Global, host: &MemoryHost) -> bool {
+    for moment in 0..host.clock() {
+        if !is_left(alloc, host, moment, 255, false) {
+            return false;
+        }
+    }
+    host.writes() > 0
+}
+
+// What is staged over a file leaves what the file holds.
+fn is_staged(alloc: Global, file: &[u8]) -> bool {
+    let Some(store) = store_in(alloc, file) else {
+        return false;
+    };
+    let mut store = store;
+    stage(&mut store).is_ok() && is_always_left(alloc, &store.release())
+}
+
 #[test]
 fn what_is_not_settled_leaves_what_is_held(rt: HostRuntime) -> Result<(), Fail> {
-    let alloc = rt.alloc();
-    let file = settled_file(alloc)?;
-    let mut store = attached(alloc, host_of(alloc, &file, u64::MAX)?)?;
-    assert_eq!(rt; stage(&mut store), Ok(()));
-    let host = store.release();
-    assert!(rt; host.writes() > 0);
-    for moment in 0..host.clock() {
-        let image = host.crash(alloc, moment, 255)?;
-        assert_eq!(rt; found_in(alloc, &image)?, (7, 1, Ok(text(3, 4))));
-    }
+    let file = settled_file(rt.alloc())?;
+    assert!(rt; is_staged(rt.alloc(), &file));
     Ok(())
 }
 
@@ -150,16 +177,28 @@ fn settle_page(store: &mut ObjStore<MemoryHost>) -> Result<(), VaultFault>
     store.settle(1)
 }
 
+// How many calls a page takes that is stored in a new store, or settled there.
+fn calls_of_page(alloc: Global, is_settled: bool) -> Option<u64> {
+    let Some(store) = new_store(alloc) else {
+        return None;
+    };
+    let mut store = store;
+    let answer = if is_settled {
+        settle_page(&mut store)
+    } else {
+        store_page(&mut store)
+    };
+    if answer.is_ok() {
+        Some(store.release().clock())
+    } else {
+        None
+    }
+}
+
 #[test]
-fn the_calls_of_two_pages(rt: HostRuntime) -> Result<(), Fail> {
-    let alloc = rt.alloc();
-    let mut staged = new_store(alloc)?;
-    assert_eq!(rt; store_page(&mut staged), Ok(()));
+fn the_calls_of_two_pages(rt: HostRuntime) {
     // Six to attach; the first page is read and written, the second written.
-    assert_eq!(rt; staged.release().clock(), 9);
-    let mut settled = new_store(alloc)?;
-    assert_eq!(rt; settle_page(&mut settled), Ok(()));
+    assert_eq!(rt; calls_of_page(rt.alloc(), false), Some(9));
     // Two writes and three syncs more.
-    assert_eq!(rt; settled.release().clock(), 14);
-    Ok(())
+    assert_eq!(rt; calls_of_page(rt.alloc(), true), Some(14));
 }

@@ -1,8 +1,8 @@
 //! Files whose numbers were changed.
 
-use crate::images::{host_of, new_file};
-use shadow_volume::{Note, OpenFault, Volume};
-use std::test::Fail;
+use crate::images::{is_found, new_file};
+use shadow_volume::{Note, OpenFault};
+use std::alloc::Global;
 
 /// Bytes put at a place of the file of a new volume of 32 pages, and what is found then.
 struct Row {
@@ -514,29 +514,38 @@ const ROWS: [Row; 54] = [
     },
 ];
 
-#[test]
-fn each_number_is_tested(rt: HostRuntime) -> Result<(), Fail> {
-    let alloc = rt.alloc();
-    for row in &ROWS {
-        let mut file = new_file(alloc)?;
-        let mut at = row.at;
-        for byte in row.bytes {
-            if at < file.len() {
-                file[at] = *byte;
-            }
-            at = at.saturating_add(1);
+// Puts the bytes of a row into a file.
+fn forge(file: &mut [u8], row: &Row) {
+    let mut at = row.at;
+    for byte in row.bytes {
+        if at < file.len() {
+            file[at] = *byte;
         }
-        let host = host_of(alloc, &file, u64::MAX)?;
-        match Volume::attach(alloc, host) {
-            Ok(volume) => {
-                assert_eq!(rt; Ok(volume.note()), row.found);
-                assert_eq!(rt; volume.release().contents(), file.as_slice());
-            }
-            Err(refused) => {
-                assert_eq!(rt; Err(refused.cause), row.found);
-                assert_eq!(rt; refused.host.contents(), file.as_slice());
-            }
+        at = at.saturating_add(1);
+    }
+}
+
+// What a row says is found.
+fn holds(alloc: Global, row: &Row) -> bool {
+    let Ok(file) = new_file(alloc) else {
+        return false;
+    };
+    let mut file = file;
+    forge(&mut file, row);
+    is_found(alloc, &file, u64::MAX, row.found)
+}
+
+// The place of the first row that doesn't hold.
+fn other_row(alloc: Global) -> Option<usize> {
+    for (place, row) in ROWS.iter().enumerate() {
+        if !holds(alloc, row) {
+            return Some(place);
         }
     }
-    Ok(())
+    None
+}
+
+#[test]
+fn each_number_is_tested(rt: HostRuntime) {
+    assert_eq!(rt; other_row(rt.alloc()), None);
 }

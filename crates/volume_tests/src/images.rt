@@ -19,11 +19,14 @@ pub fn new_file(alloc: Global) -> Result<Vec<u8>, AllocError> {
     Vec::from_slice(alloc, host.contents())
 }
 
-/// What is found in a file: a note, or why there is none.
-pub fn found_in(alloc: Global, bytes: &[u8]) -> Result<Result<Note, OpenFault>, AllocError> {
-    let host = host_of(alloc, bytes, u64::MAX)?;
-    match Volume::attach(alloc, host) {
-        Ok(volume) => Ok(Ok(volume.note())),
-        Err(refused) => Ok(Err(refused.cause)),
-    }
+/// Whether this is what is found in a file by a host that fails from this call on: a note, or why there is none. The file is left as it is.
+pub fn is_found(alloc: Global, file: &[u8], calls: u64, wanted: Result<Note, OpenFault>) -> bool {
+    let Ok(host) = host_of(alloc, file, calls) else {
+        return false;
+    };
+    let (found, host) = match Volume::attach(alloc, host) {
+        Ok(volume) => (Ok(volume.note()), volume.release()),
+        Err(refused) => (Err(refused.cause), refused.host),
+    };
+    found == wanted && host.contents() == file
 }

@@ -8,14 +8,14 @@ use crate::images::{ROOM, host_of, new_file};
 use memory_host::MemoryHost;
 use ps_port::HostFailed;
 use shadow_volume::{Note, OpenFault, Volume, format};
-use std::alloc::{AllocError, Global};
+use std::alloc::Global;
 use std::test::Fail;
 
 /// More calls than a test makes.
 const MOST_CALLS: u64 = 18;
 
 /// What stands in a volume: its note, and the first byte of each of its first three pages.
-#[derive(Clone, Copy, Debug, PartialEq, Eq)]
+#[derive(Clone, Copy, PartialEq, Eq)]
 struct Content {
     note: Note,
     bytes: [u8; 3],
@@ -75,17 +75,16 @@ fn read(volume: &mut Volume<MemoryHost>) -> Result<Content, HostFailed>
 }
 
 /// What stands in a file.
-fn content_of(alloc: Global, bytes: &[u8]) -> Result<Result<Content, OpenFault>, AllocError> {
-    let host = MemoryHost::new(alloc, bytes, &[], u64::MAX, 65_536)?;
+fn content_of(alloc: Global, bytes: &[u8]) -> Result<Content, OpenFault> {
+    let Ok(host) = MemoryHost::new(alloc, bytes, &[], u64::MAX, 65_536) else {
+        return Err(OpenFault::Memory);
+    };
     match Volume::attach(alloc, host) {
         Ok(volume) => {
             let mut volume = volume;
-            match read(&mut volume) {
-                Ok(content) => Ok(Ok(content)),
-                Err(_) => Ok(Err(OpenFault::Device)),
-            }
+            read(&mut volume).map_err(OpenFault::from)
         }
-        Err(refused) => Ok(Err(refused.cause)),
+        Err(refused) => Err(refused.cause),
     }
 }
 
@@ -113,154 +112,222 @@ fn change_second(volume: &mut Volume<MemoryHost>) -> Result<(), HostFailed>
     volume.switch(1536, 4)
 }
 
-/// Makes the first change, or both.
-fn change_both(volume: &mut Volume<MemoryHost>, both: bool) -> Result<(), Fail>
+/// Makes the first change, or both, and answers whether all were made.
+fn change(volume: &mut Volume<MemoryHost>, both: bool) -> bool
     requires alive { IsAlive volume.old.live volume.old.committed volume.old.staged.items (outside_of volume.old.host) }
 {
-    match change_first(volume) {
-        Ok(()) => {
-            if both && change_second(volume).is_err() {
-                return Err(Fail::new("the second change"));
-            }
-            Ok(())
-        }
-        Err(_) => Err(Fail::new("the first change")),
+    change_first(volume).is_ok() && (!both || change_second(volume).is_ok())
+}
+
+/// The file of a volume, with the first change made, or both.
+fn file_behind(alloc: Global, volume: Volume<MemoryHost>, both: bool) -> Option<Vec<u8>>
+    requires alive { IsAlive volume.live volume.committed volume.staged.items (outside_of volume.host) }
+{
+    let mut volume = volume;
+    if !change(&mut volume, both) {
+        return None;
     }
+    let host = volume.release();
+    Vec::from_slice(alloc, host.contents()).ok()
 }
 
 /// A file, with the first change made, or both.
-fn changed(alloc: Global, file: &[u8], both: bool) -> Result<Vec<u8>, Fail> {
-    let host = host_of(alloc, file, u64::MAX)?;
-    let Ok(volume) = Volume::attach(alloc, host) else {
-        return Err(Fail::new("no volume"));
+fn changed(alloc: Global, file: &[u8], both: bool) -> Option<Vec<u8>> {
+    let Ok(host) = host_of(alloc, file, u64::MAX) else {
+        return None;
     };
-    let mut volume = volume;
-    change_both(&mut volume, both)?;
-    Ok(Vec::from_slice(alloc, volume.release().contents())?)
+    match Volume::attach(alloc, host) {
+        Ok(volume) => file_behind(alloc, volume, both),
+        Err(_) => None,
+    }
+}
+
+/// The file of a new volume, with the first change made.
+fn first_file(alloc: Global) -> Result<Vec<u8>, Fail> {
+    let file = new_file(alloc)?;
+    match changed(alloc, &file, false) {
+        Some(first) => Ok(first),
+        None => Err(Fail::new("the first change")),
+    }
+}
+
+// What a file holds with the first change made, or both.
+fn is_read_again(alloc: Global, file: &[u8], both: bool, content: Content) -> bool {
+    match changed(alloc, file, both) {
+        Some(bytes) => content_of(alloc, &bytes) == Ok(content),
+        None => false,
+    }
+}
+
+// What a new file holds, and what it holds with the first change made, and both.
+fn are_read_again(alloc: Global, file: &[u8]) -> bool {
+    content_of(alloc, file) == Ok(EMPTY)
+        && is_read_again(alloc, file, false, FIRST)
+        && is_read_again(alloc, file, true, SECOND)
 }
 
 #[test]
 fn changes_are_read_again(rt: HostRuntime) -> Result<(), Fail> {
-    let alloc = rt.alloc();
-    let file = new_file(alloc)?;
-    assert_eq!(rt; content_of(alloc, &file)?, Ok(EMPTY));
-    let first = changed(alloc, &file, false)?;
-    assert_eq!(rt; content_of(alloc, &first)?, Ok(FIRST));
-    let second = changed(alloc, &file, true)?;
-    assert_eq!(rt; content_of(alloc, &second)?, Ok(SECOND));
+    let file = new_file(rt.alloc())?;
+    assert!(rt; are_read_again(rt.alloc(), &file));
     Ok(())
 }
 
-/// Each image of each moment is one of these two contents.
-fn stands_for(alloc: Global, host: &MemoryHost, old: Content, new: Content) -> Result<(), Fail> {
-    for moment in 0..MOST_CALLS {
-        if moment <= host.clock() {
-            for filler in [0u8, 255] {
-                let image = host.crash(alloc, moment, filler)?;
-                let found = content_of(alloc, &image)?;
-                if found != Ok(old) && found != Ok(new) {
-                    return Err(Fail::new("neither"));
-                }
-            }
+/// What stands in the file that a crash leaves at this moment, with this byte where anything may stand.
+fn content_at(
+    alloc: Global,
+    host: &MemoryHost,
+    moment: u64,
+    filler: u8,
+) -> Result<Content, OpenFault> {
+    match host.crash(alloc, moment, filler) {
+        Ok(image) => content_of(alloc, &image),
+        Err(_) => Err(OpenFault::Memory),
+    }
+}
+
+// What a crash leaves at this moment is one of these two contents.
+fn is_either(
+    alloc: Global,
+    host: &MemoryHost,
+    moment: u64,
+    filler: u8,
+    old: Content,
+    new: Content,
+) -> bool {
+    let found = content_at(alloc, host, moment, filler);
+    found == Ok(old) || found == Ok(new)
+}
+
+/// Each image of each moment is one of these two contents, and where the change is made, the last one is the new one.
+fn stands_for(alloc: Global, host: &MemoryHost, old: Content, new: Content, is_made: bool) -> bool {
+    for moment in 0..MOST_CALLS.min(host.clock().saturating_add(1)) {
+        let is_one = is_either(alloc, host, moment, 0, old, new)
+            && is_either(alloc, host, moment, 255, old, new);
+        if !is_one {
+            return false;
         }
     }
-    Ok(())
+    !is_made || content_at(alloc, host, host.clock(), 255) == Ok(new)
+}
+
+/// The second change is made, where it is to be made, and then the volume lives. A stop leaves what was there before or behind it.
+fn is_second_change(alloc: Global, volume: Volume<MemoryHost>, is_made: bool) -> bool
+    requires alive { IsAlive volume.live volume.committed volume.staged.items (outside_of volume.host) }
+{
+    let mut volume = volume;
+    change_second(&mut volume).is_ok() == is_made
+        && volume.is_alive() == is_made
+        && stands_for(alloc, &volume.release(), FIRST, SECOND, is_made)
+}
+
+// The second change, by a host that fails from this call on.
+fn is_stopped(alloc: Global, first: &[u8], calls: u64) -> bool {
+    let Ok(host) = host_of(alloc, first, calls) else {
+        return false;
+    };
+    match Volume::attach(alloc, host) {
+        Ok(volume) => is_second_change(alloc, volume, calls >= 16),
+        Err(_) => false,
+    }
 }
 
 #[test]
 fn a_stop_while_pages_are_committed(rt: HostRuntime) -> Result<(), Fail> {
-    let alloc = rt.alloc();
-    let file = new_file(alloc)?;
-    let first = changed(alloc, &file, false)?;
+    let first = first_file(rt.alloc())?;
     for calls in 6..MOST_CALLS {
-        let host = host_of(alloc, &first, calls)?;
-        let Ok(volume) = Volume::attach(alloc, host) else {
-            return Err(Fail::new("no volume"));
-        };
-        let mut volume = volume;
-        let answer = change_second(&mut volume);
-        assert_eq!(rt; volume.is_alive(), answer.is_ok());
-        assert_eq!(rt; answer.is_ok(), calls >= 16);
-        let host = volume.release();
-        stands_for(alloc, &host, FIRST, SECOND)?;
-        if answer.is_ok() {
-            let image = host.crash(alloc, host.clock(), 255)?;
-            assert_eq!(rt; content_of(alloc, &image)?, Ok(SECOND));
-        }
+        assert!(rt; is_stopped(rt.alloc(), &first, calls));
     }
     Ok(())
 }
 
+// The same of the first change.
+fn is_first_change(alloc: Global, volume: Volume<MemoryHost>, is_made: bool) -> bool
+    requires alive { IsAlive volume.live volume.committed volume.staged.items (outside_of volume.host) }
+{
+    let mut volume = volume;
+    change_first(&mut volume).is_ok() == is_made
+        && volume.is_alive() == is_made
+        && stands_for(alloc, &volume.release(), EMPTY, FIRST, is_made)
+}
+
+// The first change, by a host that fails from this call on.
+fn is_stopped_growing(alloc: Global, file: &[u8], calls: u64) -> bool {
+    let Ok(host) = host_of(alloc, file, calls) else {
+        return false;
+    };
+    match Volume::attach(alloc, host) {
+        Ok(volume) => is_first_change(alloc, volume, calls >= 14),
+        Err(_) => false,
+    }
+}
+
 #[test]
 fn a_stop_while_a_volume_grows(rt: HostRuntime) -> Result<(), Fail> {
-    let alloc = rt.alloc();
-    let file = new_file(alloc)?;
+    let file = new_file(rt.alloc())?;
     for calls in 6..16 {
-        let host = host_of(alloc, &file, calls)?;
-        let Ok(volume) = Volume::attach(alloc, host) else {
-            return Err(Fail::new("no volume"));
-        };
-        let mut volume = volume;
-        let answer = change_first(&mut volume);
-        assert_eq!(rt; volume.is_alive(), answer.is_ok());
-        assert_eq!(rt; answer.is_ok(), calls >= 14);
-        let host = volume.release();
-        stands_for(alloc, &host, EMPTY, FIRST)?;
+        assert!(rt; is_stopped_growing(rt.alloc(), &file, calls));
     }
     Ok(())
+}
+
+// The second change, by a host of which this call alone fails.
+fn is_failed(alloc: Global, first: &[u8], failing: u64) -> bool {
+    let Ok(host) = MemoryHost::new(alloc, first, &[failing], u64::MAX, ROOM) else {
+        return false;
+    };
+    match Volume::attach(alloc, host) {
+        Ok(volume) => failing >= 6 && is_second_change(alloc, volume, failing >= 16),
+        Err(refused) => {
+            failing < 6 && refused.cause == OpenFault::Device && refused.host.contents() == first
+        }
+    }
 }
 
 /// One call alone fails.
 #[test]
 fn one_call_that_fails(rt: HostRuntime) -> Result<(), Fail> {
-    let alloc = rt.alloc();
-    let file = new_file(alloc)?;
-    let first = changed(alloc, &file, false)?;
+    let first = first_file(rt.alloc())?;
     for failing in 0..MOST_CALLS {
-        let host = MemoryHost::new(alloc, &first, &[failing], u64::MAX, ROOM)?;
-        match Volume::attach(alloc, host) {
-            Ok(volume) => {
-                assert!(rt; failing >= 6);
-                let mut volume = volume;
-                let answer = change_second(&mut volume);
-                assert_eq!(rt; answer.is_ok(), failing >= 16);
-                assert_eq!(rt; volume.is_alive(), answer.is_ok());
-                stands_for(alloc, &volume.release(), FIRST, SECOND)?;
-            }
-            Err(refused) => {
-                assert!(rt; failing < 6);
-                assert_eq!(rt; refused.cause, OpenFault::Device);
-                assert_eq!(rt; refused.host.contents(), first.as_slice());
-            }
-        }
+        assert!(rt; is_failed(rt.alloc(), &first, failing));
     }
     Ok(())
 }
 
-#[test]
-fn a_stop_while_a_volume_is_made(rt: HostRuntime) -> Result<(), Fail> {
-    let alloc = rt.alloc();
-    for calls in 0..MOST_CALLS {
-        let mut host = host_of(alloc, b"", calls)?;
-        let answer = format(&mut host, 32);
-        for moment in 0..MOST_CALLS {
-            if moment <= host.clock() {
-                for filler in [0u8, 255] {
-                    let image = host.crash(alloc, moment, filler)?;
-                    match content_of(alloc, &image)? {
-                        Ok(content) => assert_eq!(rt; content, EMPTY),
-                        Err(OpenFault::NotAVolume { size, gate }) => {
-                            assert!(rt; size < 16_384 || gate != 1);
-                        }
-                        Err(_) => return Err(Fail::new("neither")),
-                    }
-                }
-            }
-        }
-        if answer.is_ok() {
-            let image = host.crash(alloc, host.clock(), 255)?;
-            assert_eq!(rt; content_of(alloc, &image)?, Ok(EMPTY));
+// What a stop leaves while a volume is made: the new volume, or no volume.
+fn is_new_or_none(found: Result<Content, OpenFault>) -> bool {
+    match found {
+        Ok(content) => content == EMPTY,
+        Err(OpenFault::NotAVolume { size, gate }) => size < 16_384 || gate != 1,
+        Err(_) => false,
+    }
+}
+
+// Each image of each moment is the new volume or no volume, and where it is made, the last one is the new volume.
+fn stands_for_new(alloc: Global, host: &MemoryHost, is_made: bool) -> bool {
+    for moment in 0..MOST_CALLS.min(host.clock().saturating_add(1)) {
+        let is_one = is_new_or_none(content_at(alloc, host, moment, 0))
+            && is_new_or_none(content_at(alloc, host, moment, 255));
+        if !is_one {
+            return false;
         }
     }
-    Ok(())
+    !is_made || content_at(alloc, host, host.clock(), 255) == Ok(EMPTY)
+}
+
+// The making of a volume, by a host that fails from this call on.
+fn is_made_whole(alloc: Global, calls: u64) -> bool {
+    let Ok(host) = host_of(alloc, b"", calls) else {
+        return false;
+    };
+    let mut host = host;
+    let is_made = format(&mut host, 32).is_ok();
+    stands_for_new(alloc, &host, is_made)
+}
+
+#[test]
+fn a_stop_while_a_volume_is_made(rt: HostRuntime) {
+    for calls in 0..MOST_CALLS {
+        assert!(rt; is_made_whole(rt.alloc(), calls));
+    }
 }
