@@ -32,7 +32,6 @@ pub const ALL_WORDS: usize = (MOST_CALLERS + 1) * FRAME_WORDS;
 /// is an int, or a bool as 0 or 1. On the stack of references 0 is nil, and each other word is the index of an object in the area; so is the scope, which
 /// is 0 for none. Behind all that stand what the last write was, the end that the run came to, and the fault that it broke off with; each means something
 /// only where a step was answered that says so.
-#[derive(Drop)]
 pub struct Machine {
     pub sw: Swizzle,
     pub classes: KnownClasses,
@@ -53,4 +52,30 @@ pub struct Machine {
     pub writing: Writing,
     pub end: RunEnd,
     pub fault: SwizzleFault,
+}
+
+impl Drop for Machine {
+    fn drop(self) {
+        let Machine {
+            sw: _,
+            classes: _,
+            layouts: _,
+            vectors: _,
+            procedures: _,
+            values: _,
+            code: _,
+            place: _,
+            frame: _,
+            scope: _,
+            at: _,
+            nums: _,
+            refs: _,
+            callers: _,
+            input: _,
+            turns: _,
+            writing: _,
+            end: _,
+            fault: _,
+        } = self;
+    }
 }
