@@ -1,40 +1,48 @@
-use crate::number::Number;
 use obj_layout::vault::VaultFault;
-use std::fmt;
+use row_words::put_number;
 use swizzle::fault::SwizzleFault;
+use table_rows::Buffer;
 
-/// What a call ended in that gave nothing.
-#[derive(Clone, Copy)]
-pub enum Ended {
-    Damaged { at: u64, found: u64, wanted: u64 },
-    Full { top: u32, wanted: u32, size: u32 },
-    /// Another refusal of the store.
-    Refused(VaultFault),
-    /// It is no PID, or the value denotes an object: no call was made.
-    NotCalled,
-}
+/// What a call ended in that gave nothing: a refusal. It is none where no call was made: it is no PID, or the value denotes an object.
+pub type Ended = Option<SwizzleFault>;
 
-/// What a refusal ends in.
-pub fn end_of(fault: SwizzleFault) -> Ended {
-    match fault {
-        SwizzleFault::AreaFull { top, wanted, size } => Ended::Full { top, wanted, size },
-        SwizzleFault::Vault(VaultFault::Damaged { at, found, wanted }) => {
-            Ended::Damaged { at, found, wanted }
+/// Tells what a call ended in.
+pub fn put_ended(out: &mut Buffer, ended: Ended) {
+    match ended {
+        Some(SwizzleFault::AreaFull { top, wanted, size }) => {
+            put_numbers(
+                out,
+                "full",
+                [u64::from(top), u64::from(wanted), u64::from(size)],
+            );
         }
-        SwizzleFault::Vault(refused) => Ended::Refused(refused),
+        Some(SwizzleFault::Vault(VaultFault::Damaged { at, found, wanted })) => {
+            put_damage(out, [at, found, wanted]);
+        }
+        Some(SwizzleFault::Vault(refused)) => put_refusal(out, refused),
+        None => out.put("not called"),
     }
 }
 
-impl fmt::Display for Ended {
-    fn fmt<W: fmt::Write>(&self, f: &mut fmt::Formatter<W>) -> fmt::Result {
-        match *self {
-            Ended::Damaged { at, found, wanted } => {
-                let (at, found, wanted) = (Number(at), Number(found), Number(wanted));
-                write!(f, "damaged {at} {found} {wanted}")
-            }
-            Ended::Full { top, wanted, size } => write!(f, "full {top} {wanted} {size}"),
-            Ended::Refused(fault) => write!(f, "refused {fault:?}"),
-            Ended::NotCalled => write!(f, "not called"),
-        }
+fn put_numbers(out: &mut Buffer, word: &str, numbers: [u64; 3]) {
+    out.put(word);
+    for number in numbers {
+        out.put(" ");
+        out.number(number);
+    }
+}
+
+fn put_damage(out: &mut Buffer, numbers: [u64; 3]) {
+    out.put("damaged");
+    for number in numbers {
+        out.put(" ");
+        put_number(out, number);
+    }
+}
+
+fn put_refusal(out: &mut Buffer, refused: VaultFault) {
+    match format!(in out.alloc(); "refused {refused:?}") {
+        Ok(text) => out.put(&text),
+        Err(_) => out.fail(),
     }
 }

@@ -1,11 +1,13 @@
 //! Scopes as they lie in the area.
+ghost use Rattle.heap_texts.specs.Texts.{HoldsText};
 
-use crate::seen::seen;
-use crate::words::area_of;
+use crate::ended::put_ended;
+use crate::seen::put_seen;
 use crate::world::{area_with, scoped};
-use anyhow::{Result, bail};
-use std::alloc::Global;
-use table_rows::{Row, Tables};
+use anyhow::Result;
+use row_words::area_of;
+use swizzle::swizzle::Swizzle;
+use table_rows::{Buffer, Row, Tables};
 
 /// The words of the area where a row says nothing of them.
 const WORDS: u32 = 60;
@@ -13,39 +15,53 @@ const WORDS: u32 = 60;
 /// Compares each row of a file with the scope that it makes.
 pub fn compare(tables: &mut Tables, file: &str) -> Result<()> {
     for row in &tables.rows(file)? {
-        let found = made(tables.alloc, row);
-        tables.compare(file, row, found, row.field(2))?;
+        let mut found = Buffer::new(tables.alloc);
+        put_made(&mut found, row);
+        tables.compare_told(file, row, &found, row.field(2))?;
     }
     Ok(())
 }
 
-fn made(alloc: Global, row: &Row) -> Result<String> {
-    let words = area_of(row.field(3), WORDS)?;
-    match row.field(1) {
-        b"outermost" => outermost(alloc, words, row.field(0)),
-        b"inner" => inner(alloc, words, row.field(0)),
-        _ => bail!("no such scope"),
+fn put_made(out: &mut Buffer, row: &Row) {
+    let Some(words) = area_of(row.field(3), WORDS) else {
+        return out.fail();
+    };
+    match area_with(out.alloc(), words.clamp(5, 1 << 25), row.field(0)) {
+        Some(mut area) => put_made_in(out, &mut area.sw, area.text, row.field(1)),
+        None => out.fail(),
+    }
+}
+
+fn put_made_in(out: &mut Buffer, sw: &mut Swizzle, text: u32, what: &[u8])
+    requires { HoldsText sw.old text }
+{
+    match what {
+        b"outermost" => put_outermost(out, sw, text),
+        b"inner" => put_inner(out, sw, text),
+        _ => out.fail(),
     }
 }
 
 // A scope of this text without a parent.
-fn outermost(alloc: Global, words: u32, text: &[u8]) -> Result<String> {
-    let mut area = area_with(alloc, words.clamp(5, 1 << 25), text)?;
-    match scoped(&mut area.sw, area.text, None) {
-        Ok(scope) => Ok(seen(alloc, &area.sw, scope)?),
-        Err(ended) => Ok(format!(in alloc; "{ended}")?),
+fn put_outermost(out: &mut Buffer, sw: &mut Swizzle, text: u32)
+    requires { HoldsText sw.old text }
+{
+    match scoped(sw, text, None) {
+        Ok(scope) => put_seen(out, sw, scope),
+        Err(ended) => put_ended(out, ended),
     }
 }
 
 // A scope of this text under one without a parent.
-fn inner(alloc: Global, words: u32, text: &[u8]) -> Result<String> {
-    let mut area = area_with(alloc, words.clamp(5, 1 << 25), text)?;
-    let outer = match scoped(&mut area.sw, area.text, None) {
+fn put_inner(out: &mut Buffer, sw: &mut Swizzle, text: u32)
+    requires { HoldsText sw.old text }
+{
+    let outer = match scoped(sw, text, None) {
         Ok(scope) => scope,
-        Err(ended) => return Ok(format!(in alloc; "{ended}")?),
+        Err(ended) => return put_ended(out, ended),
     };
-    match scoped(&mut area.sw, area.text, Some(outer)) {
-        Ok(scope) => Ok(seen(alloc, &area.sw, scope)?),
-        Err(ended) => Ok(format!(in alloc; "{ended}")?),
+    match scoped(sw, text, Some(outer)) {
+        Ok(scope) => put_seen(out, sw, scope),
+        Err(ended) => put_ended(out, ended),
     }
 }

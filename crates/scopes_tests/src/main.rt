@@ -39,19 +39,14 @@
 //! first free word of the area. Where objects are noted as assigned then, the line `assigned INDEX..` stands last.
 #![tactic(auto)]
 
-mod call;
 mod ended;
 mod forged;
-mod given;
 mod made;
 mod names;
-mod number;
-mod objects;
 mod scene;
 mod seen;
-mod slot;
 mod step;
-mod words;
+mod value;
 mod world;
 
 use anyhow::Result;

@@ -1,10 +1,9 @@
 //! Stores of objects, and the scopes that are fetched of them into an area.
-ghost use Rattle.std.specs.Prelude.{◌≡◌, true, IfOk, OnOk};
+ghost use Rattle.std.specs.Prelude.{◌≡◌, true, IfOk, IfSome, OnOk};
 ghost use Rattle.swizzle.specs.Heap.{Heap, IsHeld};
 ghost use Rattle.heap_ops.specs.Layouts.{AreSo};
 
-use crate::ended::{Ended, end_of};
-use anyhow::bail;
+use crate::ended::Ended;
 use heap_ops::layouts::Layouts;
 use heap_places::value::Value;
 use memory_vault::memory::MemoryVault;
@@ -19,15 +18,18 @@ const PIDS: u64 = 1 << 63;
 // The most words of a store of the tests.
 const MOST_WORDS: usize = 1 << 10;
 
-/// A store with these words.
-pub fn store_of(alloc: Global, words: &[u64]) -> anyhow::Result<MemoryVault>
-    ensures { IfOk result (λ vault. vault.alive ≡ true) }
+/// A store with these words, if there may be such a store.
+pub fn store_of(alloc: Global, words: &[u64]) -> Option<MemoryVault>
+    ensures { IfSome result (λ vault. vault.alive ≡ true) }
 {
     let count = words.len();
     if count == 0 || count > MOST_WORDS {
-        bail!("no such store");
+        return None;
     }
-    Ok(MemoryVault::of_words(alloc, words, 0, count as u64)?)
+    match MemoryVault::of_words(alloc, words, 0, count as u64) {
+        Ok(vault) => Some(vault),
+        Err(_) => None,
+    }
 }
 
 /// The object of a PID, fetched into the area.
@@ -37,22 +39,22 @@ pub fn fetch(vault: &mut MemoryVault, sw: &mut Swizzle, pid: u64) -> Result<u32,
     ensures held { IfOk result (IsHeld sw.new) }
 {
     if pid == 0 || pid >= PIDS {
-        return Err(Ended::NotCalled);
+        return Err(None);
     }
     match sw.touch_pid(vault, pid) {
         Ok(at) => Ok(at),
-        Err(fault) => Err(end_of(fault)),
+        Err(fault) => Err(Some(fault)),
     }
 }
 
 /// The scope so many levels out from the scope of a PID.
-pub fn out(vault: &mut MemoryVault, sw: &mut Swizzle, pid: u64, up: u32) -> Result<u32, Ended>
+pub fn out_of(vault: &mut MemoryVault, sw: &mut Swizzle, pid: u64, up: u32) -> Result<u32, Ended>
     requires { vault.old.alive ≡ true }
 {
     let scope = fetch(vault, sw, pid)?;
     match scope_out(sw, vault, scope, up) {
         Ok(at) => Ok(at),
-        Err(fault) => Err(end_of(fault)),
+        Err(fault) => Err(Some(fault)),
     }
 }
 
@@ -63,7 +65,7 @@ pub fn parent(vault: &mut MemoryVault, sw: &mut Swizzle, pid: u64) -> Result<Opt
     let scope = fetch(vault, sw, pid)?;
     match parent_of(sw, vault, scope) {
         Ok(parent) => Ok(parent),
-        Err(fault) => Err(end_of(fault)),
+        Err(fault) => Err(Some(fault)),
     }
 }
 
@@ -81,7 +83,7 @@ pub fn kept(
     let scope = fetch(vault, sw, pid)?;
     match get_kept(sw, vault, layouts, scope, name) {
         Ok(value) => Ok(value),
-        Err(fault) => Err(end_of(fault)),
+        Err(fault) => Err(Some(fault)),
     }
 }
 
@@ -98,11 +100,11 @@ pub fn keep(
     requires so { (heap : Heap) → AreSo heap layouts.old.entries.items }
 {
     if let Value::Ref(Some(_)) = to {
-        return Err(Ended::NotCalled);
+        return Err(None);
     }
     let scope = fetch(vault, sw, pid)?;
     match set_kept(sw, vault, layouts, scope, name, to) {
         Ok(()) => Ok(()),
-        Err(fault) => Err(end_of(fault)),
+        Err(fault) => Err(Some(fault)),
     }
 }

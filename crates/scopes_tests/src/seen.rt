@@ -1,41 +1,60 @@
 //! What is seen of a scope word by word.
 ghost use Rattle.swizzle.specs.Heap.{IsHeld};
 
-use crate::slot::Slot;
-use std::alloc::{AllocError, Global};
+use obj_layout::header::Header;
+use obj_layout::reference::Reference;
 use swizzle::swizzle::Swizzle;
+use table_rows::Buffer;
 
-/// The place of a scope, its header, its references and number words as they lie, and what lies behind them.
-pub fn seen(alloc: Global, sw: &Swizzle, scope: u32) -> Result<String, AllocError>
+/// Tells the place of a scope, its header, its references and number words as they lie, and what lies behind them.
+pub fn put_seen(out: &mut Buffer, sw: &Swizzle, scope: u32)
     requires { IsHeld sw.now scope }
 {
-    let header = sw.header(scope);
-    let mut text = format!(in alloc; "place {scope}\nheader {:?}", header.kind)?;
-    write!(
-        text,
-        " {} {} {}\nrefs",
-        header.bytes, header.pid, header.chain
-    )?;
+    put_counted(out, "place ", u64::from(scope));
+    put_header(out, sw.header(scope));
+    out.put("\nrefs");
     for slot in 0..sw.refs(scope) {
-        write!(text, " {}", Slot(sw.peek(scope, slot)))?;
+        put_reference(out, sw.peek(scope, slot));
     }
-    write!(text, "\nnums")?;
+    out.put("\nnums");
     for index in 0..sw.nums(scope) {
-        write!(text, " {}", sw.num(scope, index))?;
+        put_counted(out, " ", sw.num(scope, index));
     }
-    write!(text, "\ntop {}", sw.top())?;
-    tell_assigned(&mut text, sw)?;
-    Ok(text)
+    put_counted(out, "\ntop ", u64::from(sw.top()));
+    put_assigned(out, sw);
 }
 
-/// Puts a line with the objects that are noted as assigned behind a text, where there are any.
-pub fn tell_assigned(text: &mut String, sw: &Swizzle) -> Result<(), AllocError> {
+// A word, and a number behind it.
+fn put_counted(out: &mut Buffer, word: &str, number: u64) {
+    out.put(word);
+    out.number(number);
+}
+
+fn put_header(out: &mut Buffer, header: Header) {
+    match format!(in out.alloc(); "\nheader {:?}", header.kind) {
+        Ok(text) => out.put(&text),
+        Err(_) => out.fail(),
+    }
+    put_counted(out, " ", u64::from(header.bytes));
+    put_counted(out, " ", header.pid);
+    put_counted(out, " ", u64::from(header.chain));
+}
+
+fn put_reference(out: &mut Buffer, reference: Reference) {
+    match reference {
+        Reference::Nil => out.put(" nil"),
+        Reference::Local(at) => put_counted(out, " ", u64::from(at)),
+        Reference::Pid(pid) => put_counted(out, " pid+", pid),
+    }
+}
+
+/// Tells in a line which objects are noted as assigned, where there are any.
+pub fn put_assigned(out: &mut Buffer, sw: &Swizzle) {
     if sw.assigned().is_empty() {
-        return Ok(());
+        return;
     }
-    write!(text, "\nassigned")?;
+    out.put("\nassigned");
     for object in sw.assigned() {
-        write!(text, " {object}")?;
+        put_counted(out, " ", u64::from(*object));
     }
-    Ok(())
 }

@@ -1,6 +1,6 @@
-use crate::words::Words;
-use anyhow::{Result, bail};
+use crate::value::value_of;
 use heap_places::value::Value;
+use row_words::{Words, index_of};
 
 /// What is done with a scope that was made.
 #[derive(Clone, Copy)]
@@ -11,15 +11,13 @@ pub enum Step {
 }
 
 impl Step {
-    /// The step that stands in a line.
-    pub fn of_line(line: &[u8]) -> Result<Step> {
+    /// The step that stands in a line, if one does.
+    pub fn of_line(line: &[u8]) -> Option<Step> {
         let mut words = Words::of(line);
-        let step = match words.word() {
-            b"get" => Step::Get(words.index()?),
-            b"set" => Step::Set(words.index()?, words.value()?),
-            _ => bail!("no such step"),
-        };
-        words.end()?;
-        Ok(step)
+        match words.word() {
+            b"get" => Some(Step::Get(index_of(words.rest())?)),
+            b"set" => Some(Step::Set(words.index()?, value_of(words)?)),
+            _ => None,
+        }
     }
 }

@@ -6,8 +6,7 @@ ghost use Rattle.heap_places.specs.Places.{IsNear};
 ghost use Rattle.heap_ops.specs.Layouts.{AreSo};
 ghost use Rattle.scopes_tests.specs.World.{IsReady};
 
-use crate::ended::{Ended, end_of};
-use anyhow::anyhow;
+use crate::ended::Ended;
 use heap_ops::layouts::Layouts;
 use heap_places::value::Value;
 use heap_texts::make::make_text;
@@ -34,15 +33,18 @@ pub struct Area {
     pub text: u32,
 }
 
-pub fn area_with(alloc: Global, words: u32, text: &[u8]) -> anyhow::Result<Area>
+/// Such an area, if there is room for the text.
+pub fn area_with(alloc: Global, words: u32, text: &[u8]) -> Option<Area>
     requires low { 5 ≤ words }
     requires high { words ≤ 2 ^ 25 }
-    ensures { IfOk result (λ area. HoldsText area.sw area.text) }
+    ensures { IfSome result (λ area. HoldsText area.sw area.text) }
 {
-    let mut sw = Swizzle::new(alloc, words)?;
+    let Ok(mut sw) = Swizzle::new(alloc, words) else {
+        return None;
+    };
     match made(&mut sw, text) {
-        Ok(text) => Ok(Area { sw, text }),
-        Err(_) => Err(anyhow!("no room for the text")),
+        Ok(text) => Some(Area { sw, text }),
+        Err(_) => None,
     }
 }
 
@@ -62,25 +64,27 @@ pub fn scoped(sw: &mut Swizzle, text: u32, parent: Option<u32>) -> Result<u32, E
 {
     match make_scope(sw, text, parent) {
         Ok(scope) => Ok(scope),
-        Err(fault) => Err(end_of(fault)),
+        Err(fault) => Err(Some(fault)),
     }
 }
 
 impl World {
-    /// A scope of a text.
-    pub fn new(alloc: Global, text: &[u8]) -> anyhow::Result<World>
-        ensures { IfOk result IsReady }
+    /// A scope of a text, if there is room for it.
+    pub fn new(alloc: Global, text: &[u8]) -> Option<World>
+        ensures { IfSome result IsReady }
     {
-        let layouts = Layouts::new(alloc)?;
+        let Ok(layouts) = Layouts::new(alloc) else {
+            return None;
+        };
         let Area { mut sw, text } = area_with(alloc, 100, text)?;
         match scoped(&mut sw, text, None) {
-            Ok(scope) => Ok(World {
+            Ok(scope) => Some(World {
                 sw,
                 layouts,
                 text,
                 scope,
             }),
-            Err(_) => Err(anyhow!("no room for the scope")),
+            Err(_) => None,
         }
     }
 
@@ -98,7 +102,7 @@ impl World {
             name,
         ) {
             Ok(value) => Ok(value),
-            Err(fault) => Err(end_of(fault)),
+            Err(fault) => Err(Some(fault)),
         }
     }
 
@@ -121,7 +125,7 @@ impl World {
             to,
         ) {
             Ok(()) => Ok(()),
-            Err(fault) => Err(end_of(fault)),
+            Err(fault) => Err(Some(fault)),
         }
     }
 }
