@@ -1,63 +1,73 @@
-use crate::words::{Words, parted};
-use anyhow::{Result, bail};
-use heap_places::value::Value;
+use row_words::{Words, parted};
 
-/// What is done with the object of a PID, which comes first.
+/// What is done with the object of a PID.
 #[derive(Clone, Copy)]
-pub enum Call<'a> {
+pub enum Operation {
     /// It is fetched.
-    Touch(u64),
-    /// Whether its bytes are these.
-    Text(u64, &'a [u8]),
-    /// Whether it is a structure of the class with this text.
-    Class(u64, &'a [u8]),
-    /// Its field of this number, by the class with this text.
-    Field(u64, &'a [u8], u32),
-    SetField(u64, &'a [u8], u32, Value),
-    Low(u64),
-    High(u64),
-    /// Its element at this subscript.
-    Element(u64, i32),
-    SetElement(u64, i32, Value),
-    /// Its constant of this number.
-    Constant(u64, u32),
-    /// Its instruction at this offset in bytes.
-    Instr(u64, u32),
+    Touch,
+    /// Whether its bytes are those of the text.
+    Text,
+    /// Whether it is a structure of the class with the text.
+    Class,
+    /// Its field of a number, by the class with the text.
+    Field,
+    SetField,
+    Low,
+    High,
+    /// Its element at a subscript.
+    Element,
+    SetElement,
+    /// Its constant of a number.
+    Constant,
+    /// Its instruction at an offset in bytes.
+    Instr,
+}
+
+// The operations by their names.
+const OPERATIONS: [(&[u8], Operation); 11] = [
+    (b"touch", Operation::Touch),
+    (b"text", Operation::Text),
+    (b"class", Operation::Class),
+    (b"field", Operation::Field),
+    (b"set_field", Operation::SetField),
+    (b"low", Operation::Low),
+    (b"high", Operation::High),
+    (b"element", Operation::Element),
+    (b"set_element", Operation::SetElement),
+    (b"constant", Operation::Constant),
+    (b"instruction", Operation::Instr),
+];
+
+/// A call: what is done, the PID of the object, which comes first, the words behind it, and the text in the next line.
+#[derive(Clone, Copy)]
+pub struct Call<'a> {
+    pub operation: Operation,
+    pub pid: u64,
+    pub words: Words<'a>,
+    pub text: &'a [u8],
 }
 
 impl<'a> Call<'a> {
-    /// The call that stands in a field: its words, and its text in the next line.
-    pub fn of_field(field: &'a [u8]) -> Result<Call<'a>> {
+    /// The call that stands in a field, if one does.
+    pub fn of_field(field: &'a [u8]) -> Option<Call<'a>> {
         let (line, text) = parted(field, b'\n');
         let mut words = Words::of(line);
-        let name = words.word();
+        let operation = operation_called(words.word())?;
         let pid = words.number()?;
-        let call = match name {
-            b"touch" => Call::Touch(pid),
-            b"text" => Call::Text(pid, text),
-            b"class" => Call::Class(pid, text),
-            b"field" => Call::Field(pid, text, words.index()?),
-            b"set_field" => Call::SetField(pid, text, words.index()?, value_of(&mut words)?),
-            b"low" => Call::Low(pid),
-            b"high" => Call::High(pid),
-            b"element" => Call::Element(pid, words.int()?),
-            b"set_element" => Call::SetElement(pid, words.int()?, value_of(&mut words)?),
-            b"constant" => Call::Constant(pid, words.index()?),
-            b"instruction" => Call::Instr(pid, words.index()?),
-            _ => bail!("no such call"),
-        };
-        words.end()?;
-        Ok(call)
+        Some(Call {
+            operation,
+            pid,
+            words,
+            text,
+        })
     }
 }
 
-// The value that the next words spell.
-fn value_of(words: &mut Words<'_>) -> Result<Value> {
-    Ok(match words.word() {
-        b"num" => Value::Num(words.int()?),
-        b"true" => Value::Flag(true),
-        b"false" => Value::Flag(false),
-        b"nil" => Value::Ref(None),
-        _ => bail!("no value"),
-    })
+fn operation_called(name: &[u8]) -> Option<Operation> {
+    for (known, operation) in &OPERATIONS {
+        if *known == name {
+            return Some(*operation);
+        }
+    }
+    None
 }

@@ -1,55 +1,61 @@
-use crate::number::Number;
 use heap_texts::fault::OpFault;
 use obj_layout::vault::VaultFault;
-use std::fmt;
+use row_words::put_number;
 use swizzle::fault::SwizzleFault;
+use table_rows::Buffer;
 
-/// What a call ended in that gave nothing.
-#[derive(Clone, Copy)]
-pub enum Ended {
-    /// A trap, by its number.
-    Trapped(u32),
-    Damaged { at: u64, found: u64, wanted: u64 },
-    Full { top: u32, wanted: u32, size: u32 },
-    /// Another refusal of the store.
-    Refused(VaultFault),
-    /// The class names no such field, or the value is none of its form: no call was made.
-    NoField,
-    /// It is no PID: no call was made.
-    NoPid,
-}
-
-/// What a fault ends in.
-pub fn end_of(fault: OpFault) -> Ended {
+/// Tells what a call ended in that gave nothing.
+pub fn put_fault(out: &mut Buffer, fault: OpFault) {
     match fault {
-        OpFault::Trap(trap) => Ended::Trapped(trap as u32),
-        OpFault::Swizzle(refused) => refusal_of(refused),
+        OpFault::Trap(trap) => {
+            out.put("trapped ");
+            out.number(trap as u64);
+        }
+        OpFault::Swizzle(refused) => put_refusal(out, refused),
     }
 }
 
-/// What a refusal ends in.
-pub fn refusal_of(fault: SwizzleFault) -> Ended {
+/// Tells what was refused.
+pub fn put_refusal(out: &mut Buffer, fault: SwizzleFault) {
     match fault {
-        SwizzleFault::AreaFull { top, wanted, size } => Ended::Full { top, wanted, size },
+        SwizzleFault::AreaFull { top, wanted, size } => {
+            put_numbers(
+                out,
+                "full",
+                [u64::from(top), u64::from(wanted), u64::from(size)],
+            );
+        }
         SwizzleFault::Vault(VaultFault::Damaged { at, found, wanted }) => {
-            Ended::Damaged { at, found, wanted }
+            put_damage(out, [at, found, wanted]);
         }
-        SwizzleFault::Vault(refused) => Ended::Refused(refused),
+        SwizzleFault::Vault(refused) => put_other(out, refused),
     }
 }
 
-impl fmt::Display for Ended {
-    fn fmt<W: fmt::Write>(&self, f: &mut fmt::Formatter<W>) -> fmt::Result {
-        match *self {
-            Ended::Trapped(trap) => write!(f, "trapped {trap}"),
-            Ended::Damaged { at, found, wanted } => {
-                let (at, found, wanted) = (Number(at), Number(found), Number(wanted));
-                write!(f, "damaged {at} {found} {wanted}")
-            }
-            Ended::Full { top, wanted, size } => write!(f, "full {top} {wanted} {size}"),
-            Ended::Refused(fault) => write!(f, "refused {fault:?}"),
-            Ended::NoField => write!(f, "no field"),
-            Ended::NoPid => write!(f, "no pid"),
-        }
+fn put_numbers(out: &mut Buffer, word: &str, numbers: [u64; 3]) {
+    out.put(word);
+    for number in numbers {
+        out.put(" ");
+        out.number(number);
     }
+}
+
+fn put_damage(out: &mut Buffer, numbers: [u64; 3]) {
+    out.put("damaged");
+    for number in numbers {
+        out.put(" ");
+        put_number(out, number);
+    }
+}
+
+fn put_other(out: &mut Buffer, refused: VaultFault) {
+    match format!(in out.alloc(); "refused {refused:?}") {
+        Ok(text) => out.put(&text),
+        Err(_) => out.fail(),
+    }
+}
+
+/// Tells that the class names no such field, or that the value is none of its form: no call was made.
+pub fn put_no_field(out: &mut Buffer) {
+    out.put("no field");
 }

@@ -39,17 +39,13 @@
 
 mod call;
 mod ended;
-mod given;
-mod number;
-mod objects;
 mod scene;
 mod table;
-mod words;
+mod value;
 
 use crate::table::compare_rows;
-use anyhow::{Result, bail};
-use ps_port::{DirShelf, Shelf};
-use table_rows::Report;
+use anyhow::Result;
+use table_rows::Tables;
 
 /// The files of the tables: what is fetched, structures, vectors, code, and vectors that fill an area.
 const TABLES: [&str; 5] = [
@@ -61,16 +57,9 @@ const TABLES: [&str; 5] = [
 ];
 
 fn main(rt: HostRuntime) -> Result<()> {
-    let alloc = rt.alloc();
-    let mut shelf = DirShelf::new(&rt, alloc)?;
-    let mut report = Report::new(alloc);
-    for file in TABLES {
-        let mut text = Vec::new(alloc);
-        if shelf.text(file, &mut text).is_err() {
-            bail!("{} can't be read", file);
-        }
-        compare_rows(alloc, file, &text, &mut report)?;
+    let mut tables = Tables::new(&rt)?;
+    for file in &TABLES {
+        compare_rows(&mut tables, file)?;
     }
-    report.tell(&rt)?;
-    Ok(())
+    tables.tell(&rt)
 }

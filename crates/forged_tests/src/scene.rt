@@ -6,10 +6,9 @@ ghost use Rattle.heap_texts.specs.Texts.{HoldsText};
 ghost use Rattle.heap_places.specs.Places.{IsNear, fit_damage};
 ghost use Rattle.heap_ops.specs.Structures.{IsNamed};
 
-use crate::call::Call;
-use crate::ended::{Ended, end_of, refusal_of};
-use crate::given::Given;
-use anyhow::bail;
+use crate::call::{Call, Operation};
+use crate::ended::{put_fault, put_no_field, put_refusal};
+use crate::value::{put_value, value_of};
 use heap_ops::structures::{get_field, is_class, set_field};
 use heap_ops::vectors::{get_element, high, low, set_element};
 use heap_places::places::find_misfit;
@@ -19,9 +18,11 @@ use heap_texts::make::make_text;
 use memory_vault::memory::MemoryVault;
 use obj_layout::kind::Kind;
 use proc_values::reading::{constant, instr_at};
+use row_words::{index_of, int_of};
 use std::alloc::Global;
 use swizzle::fault::SwizzleFault;
 use swizzle::swizzle::Swizzle;
+use table_rows::Buffer;
 use text_forms::forms::{Form, Located, locate};
 
 // One more than the greatest PID.
@@ -30,105 +31,122 @@ const PIDS: u64 = 1 << 63;
 // The most words of a store of the tests.
 const MOST_WORDS: usize = 1 << 21;
 
-/// A store with these words.
-pub fn store_of(alloc: Global, words: &[u64]) -> anyhow::Result<MemoryVault>
-    ensures { IfOk result (λ vault. vault.alive ≡ true) }
+/// A store with these words, if there may be such a store.
+pub fn store_of(alloc: Global, words: &[u64]) -> Option<MemoryVault>
+    ensures { IfSome result (λ vault. vault.alive ≡ true) }
 {
     let count = words.len();
     if count == 0 || count > MOST_WORDS {
-        bail!("no such store");
+        return None;
     }
-    Ok(MemoryVault::of_words(alloc, words, 0, count as u64)?)
+    match MemoryVault::of_words(alloc, words, 0, count as u64) {
+        Ok(vault) => Some(vault),
+        Err(_) => None,
+    }
 }
 
-/// The object of a PID, fetched into the area.
-pub fn fetch(vault: &mut MemoryVault, sw: &mut Swizzle, pid: u64) -> Result<u32, Ended>
+/// The object of a PID, fetched into the area; where it is no PID, there is no refusal either.
+fn fetch(vault: &mut MemoryVault, sw: &mut Swizzle, pid: u64) -> Result<u32, Option<SwizzleFault>>
     requires { vault.old.alive ≡ true }
     ensures alive { OnOk result (vault.new.alive ≡ true) }
     ensures held { IfOk result (IsHeld sw.new) }
 {
     if pid == 0 || pid >= PIDS {
-        return Err(Ended::NoPid);
+        return Err(None);
     }
     match sw.touch_pid(vault, pid) {
         Ok(at) => Ok(at),
-        Err(fault) => Err(refusal_of(fault)),
+        Err(fault) => Err(Some(fault)),
     }
 }
 
-/// Does this with the object of a PID, which is fetched.
-pub fn answer(vault: &mut MemoryVault, sw: &mut Swizzle, call: Call<'_>) -> Result<Given, Ended>
+/// Tells what a call answers on the object of its PID, which is fetched.
+pub fn put_answer(out: &mut Buffer, vault: &mut MemoryVault, sw: &mut Swizzle, call: Call<'_>)
     requires { vault.old.alive ≡ true }
 {
-    let object = fetch(vault, sw, pid_of(call))?;
-    match call {
-        Call::Touch(pid) => Ok(fetched(sw, object, pid)),
-        Call::Text(_, bytes) => Ok(Given::Is(has_bytes(sw, object, bytes))),
-        Call::Class(_, text) => is_of_class(vault, sw, object, text),
-        Call::Field(_, text, number) => field(vault, sw, object, text, number),
-        Call::SetField(_, text, number, to) => write_field(vault, sw, object, text, number, to),
-        Call::Low(_) => bound(low(sw, vault, object)),
-        Call::High(_) => bound(high(sw, vault, object)),
-        Call::Element(_, at) => value(get_element(sw, vault, object, at)),
-        Call::SetElement(_, at, to) => write_element(vault, sw, object, at, to),
-        Call::Constant(_, index) => place(constant(sw, vault, object, index)),
-        Call::Instr(_, at) => next(sw, object, at),
+    match fetch(vault, sw, call.pid) {
+        Ok(object) => put_called(out, vault, sw, object, call),
+        Err(Some(fault)) => put_refusal(out, fault),
+        Err(None) => out.put("no pid"),
     }
 }
 
-fn pid_of(call: Call<'_>) -> u64 {
-    match call {
-        Call::Touch(pid)
-        | Call::Text(pid, _)
-        | Call::Class(pid, _)
-        | Call::Field(pid, _, _)
-        | Call::SetField(pid, _, _, _)
-        | Call::Low(pid)
-        | Call::High(pid)
-        | Call::Element(pid, _)
-        | Call::SetElement(pid, _, _)
-        | Call::Constant(pid, _)
-        | Call::Instr(pid, _) => pid,
+fn put_called(
+    out: &mut Buffer,
+    vault: &mut MemoryVault,
+    sw: &mut Swizzle,
+    object: u32,
+    call: Call<'_>,
+)
+    requires alive { vault.old.alive ≡ true }
+    requires held { IsHeld sw.old object }
+{
+    match call.operation {
+        Operation::Field => put_field(out, vault, sw, object, call),
+        Operation::SetField => put_set_field(out, vault, sw, object, call),
+        Operation::Element => put_element(out, vault, sw, object, call.words.rest()),
+        Operation::SetElement => put_set_element(out, vault, sw, object, call),
+        Operation::Constant => put_constant(out, vault, sw, object, call.words.rest()),
+        Operation::Instr => put_next(out, sw, object, call.words.rest()),
+        _ if !call.words.is_at_end() => out.fail(),
+        Operation::Touch => put_fetched(out, sw, object, call.pid),
+        Operation::Text => put_is(out, has_bytes(sw, object, call.text)),
+        Operation::Class => put_is_of_class(out, vault, sw, object, call.text),
+        Operation::Low => put_bound(out, low(sw, vault, object)),
+        Operation::High => put_bound(out, high(sw, vault, object)),
     }
 }
 
-fn bound(answer: Result<i32, SwizzleFault>) -> Result<Given, Ended> {
+// A word, and a number behind it.
+fn put_counted(out: &mut Buffer, word: &str, number: u32) {
+    out.put(word);
+    out.number(u64::from(number));
+}
+
+fn put_is(out: &mut Buffer, is: bool) {
+    out.put(if is { "is true" } else { "is false" });
+}
+
+fn put_bound(out: &mut Buffer, answer: Result<i32, SwizzleFault>) {
     match answer {
-        Ok(bound) => Ok(Given::Bound(bound)),
-        Err(fault) => Err(refusal_of(fault)),
+        Ok(bound) => {
+            out.put("bound ");
+            out.int(bound);
+        }
+        Err(fault) => put_refusal(out, fault),
     }
 }
 
-fn place(answer: Result<u32, SwizzleFault>) -> Result<Given, Ended> {
+fn put_found(out: &mut Buffer, answer: Result<Value, OpFault>) {
     match answer {
-        Ok(at) => Ok(Given::Place(at)),
-        Err(fault) => Err(refusal_of(fault)),
+        Ok(value) => put_value(out, value),
+        Err(fault) => put_fault(out, fault),
     }
 }
 
-fn value(answer: Result<Value, OpFault>) -> Result<Given, Ended> {
+fn put_done(out: &mut Buffer, answer: Result<(), OpFault>) {
     match answer {
-        Ok(value) => Ok(Given::Value(value)),
-        Err(fault) => Err(end_of(fault)),
-    }
-}
-
-fn done(answer: Result<(), OpFault>) -> Result<Given, Ended> {
-    match answer {
-        Ok(()) => Ok(Given::Done),
-        Err(fault) => Err(end_of(fault)),
+        Ok(()) => out.put("done"),
+        Err(fault) => put_fault(out, fault),
     }
 }
 
 // What came, if it has the header that it is to have in the area.
-fn fetched(sw: &Swizzle, object: u32, pid: u64) -> Given
+fn put_fetched(out: &mut Buffer, sw: &Swizzle, object: u32, pid: u64)
     requires { IsHeld sw.now object }
 {
     let header = sw.header(object);
     if (header.flags, header.pid, header.chain) == (0, pid, 0) {
-        Given::Object(header.kind)
+        put_object(out, header.kind);
     } else {
-        Given::Is(false)
+        put_is(out, false);
+    }
+}
+
+fn put_object(out: &mut Buffer, kind: Kind) {
+    match format!(in out.alloc(); "object {kind:?}") {
+        Ok(text) => out.put(&text),
+        Err(_) => out.fail(),
     }
 }
 
@@ -142,18 +160,7 @@ fn has_bytes(sw: &Swizzle, object: u32, bytes: &[u8]) -> bool
 }
 
 // The text of a class in the area, where the object stays.
-fn class_text(sw: &mut Swizzle, object: u32, text: &[u8]) -> Result<u32, Ended>
-    requires { IsHeld sw.old object }
-    ensures text { IfOk result (HoldsText sw.new) }
-    ensures held { OnOk result (IsHeld sw.new object) }
-{
-    match made(sw, object, text) {
-        Ok(class) => Ok(class),
-        Err(fault) => Err(refusal_of(fault)),
-    }
-}
-
-fn made(sw: &mut Swizzle, object: u32, text: &[u8]) -> Result<u32, SwizzleFault>
+fn class_text(sw: &mut Swizzle, object: u32, text: &[u8]) -> Result<u32, SwizzleFault>
     requires { IsHeld sw.old object }
     ensures text { IfOk result (HoldsText sw.new) }
     ensures held { IsHeld sw.new object }
@@ -161,19 +168,23 @@ fn made(sw: &mut Swizzle, object: u32, text: &[u8]) -> Result<u32, SwizzleFault>
     make_text(sw, text)
 }
 
-fn is_of_class(
+fn put_is_of_class(
+    out: &mut Buffer,
     vault: &mut MemoryVault,
     sw: &mut Swizzle,
     object: u32,
     text: &[u8],
-) -> Result<Given, Ended>
+)
     requires alive { vault.old.alive ≡ true }
     requires held { IsHeld sw.old object }
 {
-    let class = class_text(sw, object, text)?;
+    let class = match class_text(sw, object, text) {
+        Ok(class) => class,
+        Err(fault) => return put_refusal(out, fault),
+    };
     match is_class(sw, vault, Some(object), class) {
-        Ok(is) => Ok(Given::Is(is)),
-        Err(fault) => Err(refusal_of(fault)),
+        Ok(is) => put_is(out, is),
+        Err(fault) => put_refusal(out, fault),
     }
 }
 
@@ -185,20 +196,26 @@ fn place_of(sw: &Swizzle, class: u32, number: u32) -> Option<Located>
     locate(sw.text(class), number)
 }
 
-fn field(
+fn put_field(
+    out: &mut Buffer,
     vault: &mut MemoryVault,
     sw: &mut Swizzle,
     object: u32,
-    text: &[u8],
-    number: u32,
-) -> Result<Given, Ended>
+    call: Call<'_>,
+)
     requires alive { vault.old.alive ≡ true }
     requires held { IsHeld sw.old object }
 {
-    let class = class_text(sw, object, text)?;
+    let Some(number) = index_of(call.words.rest()) else {
+        return out.fail();
+    };
+    let class = match class_text(sw, object, call.text) {
+        Ok(class) => class,
+        Err(fault) => return put_refusal(out, fault),
+    };
     match place_of(sw, class, number) {
-        Some(located) => value(get_field(sw, vault, Some(object), class, located)),
-        None => Err(Ended::NoField),
+        Some(located) => put_found(out, get_field(sw, vault, Some(object), class, located)),
+        None => put_no_field(out),
     }
 }
 
@@ -214,48 +231,86 @@ fn fit(sw: &Swizzle, form: Form, to: Value) -> Option<Value>
     }
 }
 
-fn write_field(
+fn put_set_field(
+    out: &mut Buffer,
     vault: &mut MemoryVault,
     sw: &mut Swizzle,
     object: u32,
-    text: &[u8],
-    number: u32,
-    to: Value,
-) -> Result<Given, Ended>
+    mut call: Call<'_>,
+)
     requires alive { vault.old.alive ≡ true }
     requires held { IsHeld sw.old object }
 {
-    let class = class_text(sw, object, text)?;
+    let (Some(number), Some(to)) = (call.words.index(), value_of(call.words)) else {
+        return out.fail();
+    };
+    let class = match class_text(sw, object, call.text) {
+        Ok(class) => class,
+        Err(fault) => return put_refusal(out, fault),
+    };
     let Some(located) = place_of(sw, class, number) else {
-        return Err(Ended::NoField);
+        return put_no_field(out);
     };
     match fit(sw, located.place.form, to) {
-        Some(to) => done(set_field(sw, vault, Some(object), class, located, to)),
-        None => Err(Ended::NoField),
+        Some(to) => put_done(out, set_field(sw, vault, Some(object), class, located, to)),
+        None => put_no_field(out),
     }
 }
 
-fn write_element(
-    vault: &mut MemoryVault,
-    sw: &mut Swizzle,
-    object: u32,
-    at: i32,
-    to: Value,
-) -> Result<Given, Ended>
+fn put_element(out: &mut Buffer, vault: &mut MemoryVault, sw: &mut Swizzle, object: u32, at: &[u8])
     requires alive { vault.old.alive ≡ true }
     requires held { IsHeld sw.old object }
 {
-    match to {
-        Value::Ref(Some(_)) => Err(Ended::NoField),
-        _ => done(set_element(sw, vault, object, at, to)),
+    match int_of(at) {
+        Some(at) => put_found(out, get_element(sw, vault, object, at)),
+        None => out.fail(),
     }
 }
 
-fn next(sw: &Swizzle, object: u32, at: u32) -> Result<Given, Ended>
+fn put_set_element(
+    out: &mut Buffer,
+    vault: &mut MemoryVault,
+    sw: &mut Swizzle,
+    object: u32,
+    mut call: Call<'_>,
+)
+    requires alive { vault.old.alive ≡ true }
+    requires held { IsHeld sw.old object }
+{
+    match (call.words.int(), value_of(call.words)) {
+        (Some(_), Some(Value::Ref(Some(_)))) => put_no_field(out),
+        (Some(at), Some(to)) => put_done(out, set_element(sw, vault, object, at, to)),
+        _ => out.fail(),
+    }
+}
+
+fn put_constant(
+    out: &mut Buffer,
+    vault: &mut MemoryVault,
+    sw: &mut Swizzle,
+    object: u32,
+    index: &[u8],
+)
+    requires alive { vault.old.alive ≡ true }
+    requires held { IsHeld sw.old object }
+{
+    let Some(index) = index_of(index) else {
+        return out.fail();
+    };
+    match constant(sw, vault, object, index) {
+        Ok(at) => put_counted(out, "place ", at),
+        Err(fault) => put_refusal(out, fault),
+    }
+}
+
+fn put_next(out: &mut Buffer, sw: &Swizzle, object: u32, at: &[u8])
     requires { IsHeld sw.now object }
 {
+    let Some(at) = index_of(at) else {
+        return out.fail();
+    };
     match instr_at(sw, object, at) {
-        Ok((_, next)) => Ok(Given::Next(next)),
-        Err(fault) => Err(refusal_of(fault)),
+        Ok((_, next)) => put_counted(out, "next ", next),
+        Err(fault) => put_refusal(out, fault),
     }
 }

@@ -1,15 +1,14 @@
 //! The rows of tables, and what is found of each.
+ghost use Rattle.std.specs.Prelude.{◌≡◌, true, IfSome};
 
 use crate::call::Call;
-use crate::ended::Ended;
-use crate::given::Given;
-use crate::objects::words_of;
-use crate::scene::{answer, store_of};
-use crate::words::Words;
-use anyhow::{Context, Result, bail};
-use std::alloc::{AllocError, Global};
+use crate::scene::{put_answer, store_of};
+use anyhow::Result;
+use memory_vault::memory::MemoryVault;
+use row_words::{area_of, words_of};
+use std::alloc::Global;
 use swizzle::swizzle::Swizzle;
-use table_rows::{Report, Row, rows_of};
+use table_rows::{Buffer, Row, Tables};
 
 /// The head of a row that names words.
 const NAMES: &[u8] = b"names";
@@ -18,53 +17,65 @@ const NAMES: &[u8] = b"names";
 const WORDS: u32 = 200;
 
 /// Compares each row of a file with what is found of it.
-pub fn compare_rows(alloc: Global, file: &str, text: &[u8], report: &mut Report) -> Result<()> {
-    let rows = rows_of(alloc, text)?;
+pub fn compare_rows(tables: &mut Tables, file: &str) -> Result<()> {
+    let rows = tables.rows(file)?;
     let mut names: &[u8] = &[];
     for row in &rows {
         if row.head.as_slice() == NAMES {
             names = row.field(0);
         } else {
-            let place = format_args!("{}, line {}", file, row.line);
-            let found = found_of(alloc, names, row).context(place)?;
-            report.compare(file, row, found.as_bytes(), row.field(2))?;
+            let mut found = Buffer::new(tables.alloc);
+            put_found(&mut found, names, row);
+            tables.compare_told(file, row, &found, row.field(2))?;
         }
     }
     Ok(())
 }
 
 // What the call of a row answers.
-fn found_of(alloc: Global, names: &[u8], row: &Row) -> Result<String> {
-    let words = words_of(alloc, names, row.field(0))?;
-    let call = Call::of_field(row.field(1))?;
-    let mut vault = store_of(alloc, &words)?;
-    let mut sw = Swizzle::new(alloc, area_of(row)?.clamp(5, 1 << 25))?;
-    let found = answer(&mut vault, &mut sw, call);
-    Ok(answer_text(alloc, found, sw.assigned().len())?)
-}
-
-// The words of the area of a row.
-fn area_of(row: &Row) -> Result<u32> {
-    let mut words = Words::of(row.field(3));
-    match words.word() {
-        b"" => Ok(WORDS),
-        b"area" => words.index(),
-        _ => bail!("a fourth field that says nothing of the area"),
+fn put_found(out: &mut Buffer, names: &[u8], row: &Row) {
+    match store(out.alloc(), names, row.field(0)) {
+        Some(mut vault) => put_found_in(out, &mut vault, row),
+        None => out.fail(),
     }
 }
 
-// An answer, and in the next line how many objects are noted as assigned then, where there are any.
-fn answer_text(
-    alloc: Global,
-    answer: Result<Given, Ended>,
-    assigned: usize,
-) -> Result<String, AllocError> {
-    let mut text = match answer {
-        Ok(given) => format!(in alloc; "{given}")?,
-        Err(ended) => format!(in alloc; "{ended}")?,
+// The store of these objects.
+fn store(alloc: Global, names: &[u8], objects: &[u8]) -> Option<MemoryVault>
+    ensures { IfSome result (λ vault. vault.alive ≡ true) }
+{
+    let words = words_of(alloc, names, objects)?;
+    store_of(alloc, &words)
+}
+
+// What the call answers, and in the next line how many objects are noted as assigned then, where there are any.
+fn put_found_in(out: &mut Buffer, vault: &mut MemoryVault, row: &Row)
+    requires { vault.old.alive ≡ true }
+{
+    let Some(call) = Call::of_field(row.field(1)) else {
+        return out.fail();
     };
-    if assigned > 0 {
-        write!(text, "\nassigned {assigned}")?;
+    match area(out.alloc(), row.field(3)) {
+        Some(mut sw) => {
+            put_answer(out, vault, &mut sw, call);
+            put_assigned(out, sw.assigned().len());
+        }
+        None => out.fail(),
     }
-    Ok(text)
+}
+
+// An area of the words that a field tells of.
+fn area(alloc: Global, field: &[u8]) -> Option<Swizzle> {
+    let words = area_of(field, WORDS)?;
+    match Swizzle::new(alloc, words.clamp(5, 1 << 25)) {
+        Ok(sw) => Some(sw),
+        Err(_) => None,
+    }
+}
+
+fn put_assigned(out: &mut Buffer, assigned: usize) {
+    if assigned > 0 {
+        out.put("\nassigned ");
+        out.number(assigned as u64);
+    }
 }

@@ -1,9 +1,9 @@
-//! The assembler: from the words of a code to its bytes, by the file of the instructions alone.
+//! The assembler: from the words of a code to its bytes, by the table of the instructions alone.
 
 use crate::label::Label;
 use crate::lexicon::Lexicon;
 use crate::words::{int_of, number_of, word_at};
-use anyhow::{Result, bail};
+use anyhow::{Error, Result, anyhow};
 use std::alloc::Global;
 
 /// What stands before the bytes that are given as such.
@@ -12,161 +12,172 @@ const BYTES: &[u8] = b"bytes";
 /// The letter of an operand that is an int.
 const INT: &[u8] = b"v";
 
+/// The most bytes that are given at once.
+const MOST_BYTES: u64 = 65_536;
+
 /// The bytes of the code that these words spell.
 pub fn assemble(alloc: Global, lexicon: Lexicon<'_>, text: &[u8]) -> Result<Vec<u8>> {
-    let mut draft = Assembled::new(alloc);
-    draft.put_text(lexicon, text, None)?;
     let mut assembled = Assembled::new(alloc);
-    assembled.put_text(lexicon, text, Some(draft.labels.as_slice()))?;
+    let refused = assembled.put_text(lexicon, text);
     let Assembled { code, .. } = assembled;
-    Ok(code)
+    match refused {
+        None => Ok(code),
+        Some(words) => Err(refusal(alloc, words)),
+    }
 }
 
-/// The code so far, and the labels that were met.
+// Why these words are no code.
+fn refusal(alloc: Global, words: &[u8]) -> Error {
+    match String::from_utf8_lossy(alloc, words) {
+        Ok(words) => anyhow!("no statement and no label: {}", words),
+        Err(fault) => Error::from(fault),
+    }
+}
+
+/// The code so far, the labels that were met, and where the places of labels are wanted.
 #[derive(Drop)]
-struct Assembled {
-    alloc: Global,
+struct Assembled<'a> {
     code: Vec<u8>,
-    labels: Vec<Label>,
+    labels: Vec<Label<'a>>,
+    wanted: Vec<Label<'a>>,
 }
 
-impl Assembled {
-    fn new(alloc: Global) -> Assembled {
+impl<'a> Assembled<'a> {
+    fn new(alloc: Global) -> Assembled<'a> {
         Assembled {
-            alloc,
             code: Vec::new(alloc),
             labels: Vec::new(alloc),
+            wanted: Vec::new(alloc),
         }
     }
 
-    // Puts a text, over these labels; where there are none yet, their places are 0.
-    fn put_text(
-        &mut self,
-        lexicon: Lexicon<'_>,
-        text: &[u8],
-        known: Option<&[Label]>,
-    ) -> Result<()> {
+    // Puts a text. Answers the statement that is none, or the label that isn't there.
+    fn put_text(&mut self, lexicon: Lexicon<'a>, text: &'a [u8]) -> Option<&'a [u8]> {
         for line in text.split(|byte| *byte == b'\n') {
             if !line.starts_with(b"#") {
-                for statement in line.split(|byte| *byte == b';') {
-                    self.put_statement(lexicon, statement, known)?;
+                if let Some(refused) = self.put_line(lexicon, line) {
+                    return Some(refused);
                 }
             }
         }
-        Ok(())
+        put_places(&mut self.code, &self.labels, &self.wanted)
+    }
+
+    // Puts the statements of a line. Answers the one that is none.
+    fn put_line(&mut self, lexicon: Lexicon<'a>, line: &'a [u8]) -> Option<&'a [u8]> {
+        for statement in line.split(|byte| *byte == b';') {
+            if self.put_statement(lexicon, statement).is_none() {
+                return Some(statement);
+            }
+        }
+        None
     }
 
     // Puts a label, a name of the table or an instruction.
-    fn put_statement(
-        &mut self,
-        lexicon: Lexicon<'_>,
-        statement: &[u8],
-        known: Option<&[Label]>,
-    ) -> Result<()> {
-        let first = word_at(statement, 0);
-        if first.is_empty() {
-            return Ok(());
+    fn put_statement(&mut self, lexicon: Lexicon<'a>, statement: &'a [u8]) -> Option<()> {
+        match word_at(statement, 0) {
+            [] => Some(()),
+            [name @ .., b':'] => self.put_label(name),
+            name => match lexicon.meaning(name) {
+                Some(meaning) => self.put_meaning(lexicon, meaning, word_at(statement, 1)),
+                None => self.put_instruction(lexicon, statement),
+            },
         }
-        if let [name @ .., b':'] = first {
-            return self.put_label(name);
-        }
-        let Some(meaning) = lexicon.meaning(first) else {
-            return self.put_instruction(lexicon, statement, known);
-        };
+    }
+
+    fn put_label(&mut self, name: &'a [u8]) -> Option<()> {
+        let place = self.code.len();
+        self.labels.push(Label { name, place }).ok()
+    }
+
+    // Puts the instructions that a name stands for, behind which no word stands.
+    fn put_meaning(&mut self, lexicon: Lexicon<'a>, meaning: &'a [u8], more: &[u8]) -> Option<()> {
         for instruction in meaning.split(|byte| *byte == b';') {
-            self.put_instruction(lexicon, instruction, known)?;
+            self.put_instruction(lexicon, instruction)?;
         }
-        self.end_statement(statement, 1)
+        more.is_empty().then_some(())
     }
 
-    fn put_label(&mut self, name: &[u8]) -> Result<()> {
-        let place = u32::try_from(self.code.len())?;
-        let name = Vec::from_slice(self.alloc, name)?;
-        self.labels.push(Label { name, place })?;
-        Ok(())
-    }
-
-    fn put_instruction(
-        &mut self,
-        lexicon: Lexicon<'_>,
-        statement: &[u8],
-        known: Option<&[Label]>,
-    ) -> Result<()> {
+    fn put_instruction(&mut self, lexicon: Lexicon<'a>, statement: &'a [u8]) -> Option<()> {
         let name = word_at(statement, 0);
         if name == BYTES {
             return self.put_bytes(statement);
         }
-        let Some(instruction) = lexicon.instruction(name) else {
-            bail!(
-                "no instruction: {}",
-                String::from_utf8_lossy(self.alloc, name)?
-            );
-        };
-        self.code.push(instruction.code)?;
+        let instruction = lexicon.instruction(name)?;
+        self.code.push(instruction.code).ok()?;
+        self.put_operands(instruction.operands, statement)
+    }
+
+    // Puts the operands of these letters, which are all the words behind the first.
+    fn put_operands(&mut self, letters: &[u8], statement: &'a [u8]) -> Option<()> {
         let mut place = 1usize;
-        for letter in instruction.operands.split(|byte| *byte == b' ') {
+        for letter in letters.split(|byte| *byte == b' ') {
             if !letter.is_empty() {
-                self.put_operand(letter, word_at(statement, place), known)?;
+                self.put_operand(letter, word_at(statement, place))?;
                 place = place.saturating_add(1);
             }
         }
-        self.end_statement(statement, place)
+        word_at(statement, place).is_empty().then_some(())
     }
 
     // Puts so many bytes of a value.
-    fn put_bytes(&mut self, statement: &[u8]) -> Result<()> {
-        let (Some(count), Some(value)) = (
-            number_of(word_at(statement, 1)),
-            number_of(word_at(statement, 2)),
-        ) else {
-            bail!("bytes without their number or their value");
-        };
-        let byte = u8::try_from(value)?;
-        for _ in 0..count.min(65_536) {
-            self.code.push(byte)?;
+    fn put_bytes(&mut self, statement: &[u8]) -> Option<()> {
+        let count = number_of(word_at(statement, 1))?;
+        let value = number_of(word_at(statement, 2))?;
+        let byte = u8::try_from(value).ok()?;
+        for _ in 0..count.min(MOST_BYTES) {
+            self.code.push(byte).ok()?;
         }
-        self.end_statement(statement, 3)
+        word_at(statement, 3).is_empty().then_some(())
     }
 
-    // Puts an operand, low byte first.
-    fn put_operand(&mut self, letter: &[u8], word: &[u8], known: Option<&[Label]>) -> Result<()> {
-        let number = if letter == INT {
-            int_of(word).map(|int| int.cast_unsigned())
-        } else {
-            match number_of(word) {
-                Some(number) => u32::try_from(number).ok(),
-                None => place_of(word, known),
-            }
-        };
-        let Some(number) = number else {
-            bail!("no operand: {}", String::from_utf8_lossy(self.alloc, word)?);
-        };
-        self.code.extend_from_slice(&number.to_le_bytes())?;
-        Ok(())
+    // Puts an operand: an int, a number or the place of a label.
+    fn put_operand(&mut self, letter: &[u8], word: &'a [u8]) -> Option<()> {
+        if letter == INT {
+            return self.put_number(int_of(word)?.cast_unsigned());
+        }
+        if let Some(number) = number_of(word) {
+            return self.put_number(u32::try_from(number).ok()?);
+        }
+        let place = self.code.len();
+        self.wanted.push(Label { name: word, place }).ok()?;
+        self.put_number(0)
     }
 
-    // A statement has no more words than these.
-    fn end_statement(&self, statement: &[u8], words: usize) -> Result<()> {
-        let more = word_at(statement, words);
-        if !more.is_empty() {
-            bail!(
-                "one word too many: {}",
-                String::from_utf8_lossy(self.alloc, more)?
-            );
-        }
-        Ok(())
+    // Puts a number, low byte first.
+    fn put_number(&mut self, number: u32) -> Option<()> {
+        self.code.extend_from_slice(&number.to_le_bytes()).ok()
     }
 }
 
-// The place of a label.
-fn place_of(name: &[u8], known: Option<&[Label]>) -> Option<u32> {
-    let Some(labels) = known else {
-        return Some(0);
-    };
-    for label in labels {
-        if label.name.as_slice() == name {
-            return Some(label.place);
+// Puts the places of the labels where they are wanted. Answers the name that is no label.
+fn put_places<'a>(code: &mut [u8], labels: &[Label<'a>], wanted: &[Label<'a>]) -> Option<&'a [u8]> {
+    for label in wanted {
+        match place_of(label.name, labels) {
+            Some(place) => put_place(code, label.place, place),
+            None => return Some(label.name),
         }
     }
     None
+}
+
+// The place of a label.
+fn place_of(name: &[u8], labels: &[Label<'_>]) -> Option<u32> {
+    for label in labels {
+        if label.name == name {
+            return u32::try_from(label.place).ok();
+        }
+    }
+    None
+}
+
+// Puts a place into the code, low byte first.
+fn put_place(code: &mut [u8], at: usize, place: u32) {
+    let mut at = at;
+    for byte in place.to_le_bytes() {
+        if at < code.len() {
+            code[at] = byte;
+        }
+        at = at.saturating_add(1);
+    }
 }

@@ -1,6 +1,6 @@
-/// A name of a place in the code.
-#[derive(Drop)]
-pub struct Label {
-    pub name: Vec<u8>,
-    pub place: u32,
+/// A name, and a place in the code: where it stands as a label, or where the place of that label is wanted.
+#[derive(Clone, Copy)]
+pub struct Label<'a> {
+    pub name: &'a [u8],
+    pub place: usize,
 }

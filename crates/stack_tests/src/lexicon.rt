@@ -8,9 +8,9 @@ pub struct Lexicon<'a> {
     pub names: &'a [u8],
 }
 
-impl Lexicon<'_> {
+impl<'a> Lexicon<'a> {
     /// The instruction of this name.
-    pub fn instruction(&self, name: &[u8]) -> Option<Instruction<'_>> {
+    pub fn instruction(self, name: &[u8]) -> Option<Instruction<'a>> {
         for line in self.instructions.split(|byte| *byte == b'\n') {
             if word_at(line, 0) == name {
                 let code = number_of(word_at(line, 1))?;
@@ -26,7 +26,7 @@ impl Lexicon<'_> {
     }
 
     /// The instructions that this name stands for.
-    pub fn meaning(&self, name: &[u8]) -> Option<&[u8]> {
+    pub fn meaning(self, name: &[u8]) -> Option<&'a [u8]> {
         for line in self.names.split(|byte| *byte == b'\n') {
             let (named, meaning) = parted(line, b'=');
             if word_at(named, 0) == name {

@@ -23,8 +23,8 @@
 //! (all).
 //!
 //! A code is instructions, parted by `;` or the end of a line; a line that begins with `#` is a note. An instruction is its name and its operands, as
-//! `docs/formats.md` lists them: the file `instructions` has its table, in each line a name, a code and the letters of the operands. An operand is a number
-//! or a label, and a statement `NAME:` is the label of the place where it stands. `bytes COUNT VALUE` is so many bytes of this value. In these
+//! `docs/formats.md` lists them: the file `instructions.rows` has their table, in each line a name, a code and the letters of the operands. An operand is
+//! a number or a label, and a statement `NAME:` is the label of the place where it stands. `bytes COUNT VALUE` is so many bytes of this value. In these
 //! tables each instruction that has a line has line 7.
 //!
 //! A run comes to `Done`, `Trapped TRAP`, `OutOfTurns`, `Damaged`, `Full TOP WANTED SIZE`, `Output` (it failed) or `NotLoaded`. What is told, an input and
@@ -45,9 +45,11 @@ mod unit;
 mod words;
 
 use crate::table::compare_rows;
-use anyhow::{Result, bail};
-use ps_port::{DirShelf, Shelf};
-use table_rows::Report;
+use anyhow::{Context, Result};
+use table_rows::Tables;
+
+/// The file of the instructions.
+const INSTRUCTIONS: &str = "instructions.rows";
 
 /// The files of the tables.
 const TABLES: [&str; 15] = [
@@ -69,23 +71,11 @@ const TABLES: [&str; 15] = [
 ];
 
 fn main(rt: HostRuntime) -> Result<()> {
-    let alloc = rt.alloc();
-    let mut shelf = DirShelf::new(&rt, alloc)?;
-    let mut instructions = Vec::new(alloc);
-    read(&mut shelf, "instructions", &mut instructions)?;
-    let mut report = Report::new(alloc);
+    let mut tables = Tables::new(&rt)?;
+    let rows = tables.rows(INSTRUCTIONS)?;
+    let instructions = rows.first().context("no instructions")?;
     for file in TABLES {
-        let mut text = Vec::new(alloc);
-        read(&mut shelf, file, &mut text)?;
-        compare_rows(alloc, &instructions, file, &text, &mut report)?;
+        compare_rows(&mut tables, instructions.field(0), file)?;
     }
-    Ok(report.tell(&rt)?)
-}
-
-// Reads a file.
-fn read(shelf: &mut impl Shelf, file: &str, into: &mut Vec<u8>) -> Result<()> {
-    if shelf.text(file, into).is_err() {
-        bail!("{} can't be read", file);
-    }
-    Ok(())
+    tables.tell(&rt)
 }

@@ -1,5 +1,4 @@
 use crate::words::{number_of, parted};
-use anyhow::{Result, bail};
 
 /// How a unit is run.
 #[derive(Clone, Copy)]
@@ -14,8 +13,8 @@ pub struct Settings {
     pub refs: u16,
     /// The call of the host that fails, from 0 on.
     pub failing: Option<u64>,
-    /// How many bytes of its code the program has.
-    pub cut: Option<u64>,
+    /// How many bytes of its code the program has, where it has as many.
+    pub cut: usize,
 }
 
 /// Those that hold where nothing else is given.
@@ -25,12 +24,12 @@ pub const PLAIN: Settings = Settings {
     nums: 0,
     refs: 0,
     failing: None,
-    cut: None,
+    cut: usize::MAX,
 };
 
 impl Settings {
     /// These, but for those that the words behind the first one of a head set.
-    pub fn changed_by(self, head: &[u8]) -> Result<Settings> {
+    pub fn changed_by(self, head: &[u8]) -> Option<Settings> {
         let mut settings = self;
         let (_, words) = parted(head, b' ');
         for word in words.split(|byte| *byte == b' ') {
@@ -38,24 +37,22 @@ impl Settings {
                 settings.set(word)?;
             }
         }
-        Ok(settings)
+        Some(settings)
     }
 
     // Sets what a word `NAME=NUMBER` says.
-    fn set(&mut self, word: &[u8]) -> Result<()> {
+    fn set(&mut self, word: &[u8]) -> Option<()> {
         let (name, digits) = parted(word, b'=');
-        let Some(number) = number_of(digits) else {
-            bail!("a setting without its number");
-        };
+        let number = number_of(digits)?;
         match name {
             b"turns" => self.turns = number,
-            b"words" => self.words = u32::try_from(number)?,
-            b"nums" => self.nums = u16::try_from(number)?,
-            b"refs" => self.refs = u16::try_from(number)?,
+            b"words" => self.words = u32::try_from(number).ok()?,
+            b"nums" => self.nums = u16::try_from(number).ok()?,
+            b"refs" => self.refs = u16::try_from(number).ok()?,
             b"failing" => self.failing = Some(number),
-            b"cut" => self.cut = Some(number),
-            _ => bail!("no such setting"),
+            b"cut" => self.cut = usize::try_from(number).ok()?,
+            _ => return None,
         }
-        Ok(())
+        Some(())
     }
 }

@@ -13,18 +13,24 @@ const LONGEST_RUN: u64 = 1_048_576;
 /// The bytes of a line.
 pub fn bytes_of(alloc: Global, line: &[u8]) -> Result<Vec<u8>, AllocError> {
     let mut bytes = Vec::new(alloc);
+    put_all(&mut bytes, line)?;
+    Ok(bytes)
+}
+
+// Puts the bytes of a line.
+fn put_all(bytes: &mut Vec<u8>, line: &[u8]) -> Result<(), AllocError> {
     let mut rest = line;
     for _ in 0..line.len() {
         rest = match rest {
             [] => rest,
-            [b'\\', escaped @ ..] => put_escaped(&mut bytes, escaped)?,
+            [b'\\', escaped @ ..] => put_escaped(bytes, escaped)?,
             [byte, behind @ ..] => {
                 bytes.push(*byte)?;
                 behind
             }
         };
     }
-    Ok(bytes)
+    Ok(())
 }
 
 // Puts the bytes of what stands behind a `\`, and answers what stands behind that.
@@ -70,35 +76,42 @@ fn digit_of(digit: u8) -> u8 {
     }
 }
 
-/// The line of these bytes.
-pub fn line_of(alloc: Global, bytes: &[u8]) -> Result<Vec<u8>, AllocError> {
-    let mut line = Vec::new(alloc);
+/// Puts the line of these bytes.
+pub fn put_line(alloc: Global, bytes: &[u8], line: &mut Vec<u8>) -> Result<(), AllocError> {
     let mut last = 0u8;
     let mut count = 0usize;
     for byte in bytes {
         if *byte != last {
-            put_bytes(alloc, &mut line, last, count)?;
+            put_bytes(alloc, line, last, count)?;
             last = *byte;
             count = 0;
         }
         count = count.saturating_add(1);
     }
-    put_bytes(alloc, &mut line, last, count)?;
-    Ok(line)
+    put_bytes(alloc, line, last, count)
 }
 
 // Puts so many of a byte.
 fn put_bytes(alloc: Global, line: &mut Vec<u8>, byte: u8, count: usize) -> Result<(), AllocError> {
     if count >= LONG_RUN && is_plain(byte) {
-        let run = format!(in alloc; "\\{}*", count)?;
-        line.extend_from_slice(run.as_bytes())?;
-        line.push(byte)?;
-        return Ok(());
+        return put_long_run(alloc, line, byte, count);
     }
     for _ in 0..count {
-        put_byte(alloc, line, byte)?;
+        put_byte(line, byte)?;
     }
     Ok(())
+}
+
+// Puts so many of a byte as their number.
+fn put_long_run(
+    alloc: Global,
+    line: &mut Vec<u8>,
+    byte: u8,
+    count: usize,
+) -> Result<(), AllocError> {
+    let run = format!(in alloc; "\\{}*", count)?;
+    line.extend_from_slice(run.as_bytes())?;
+    line.extend_from_slice(&[byte])
 }
 
 // Whether a byte stands for itself.
@@ -106,17 +119,20 @@ fn is_plain(byte: u8) -> bool {
     matches!(byte, b' '..=b'~') && byte != b'\\'
 }
 
-fn put_byte(alloc: Global, line: &mut Vec<u8>, byte: u8) -> Result<(), AllocError> {
-    if is_plain(byte) {
-        line.push(byte)?;
-        return Ok(());
-    }
+fn put_byte(line: &mut Vec<u8>, byte: u8) -> Result<(), AllocError> {
     match byte {
         b'\n' => line.extend_from_slice(b"\\n"),
         b'\\' => line.extend_from_slice(b"\\\\"),
-        _ => {
-            let escaped = format!(in alloc; "\\x{:02x}", byte)?;
-            line.extend_from_slice(escaped.as_bytes())
-        }
+        _ if is_plain(byte) => line.extend_from_slice(&[byte]),
+        _ => line.extend_from_slice(&[b'\\', b'x', hex_of(byte / 16), hex_of(byte % 16)]),
+    }
+}
+
+// A digit in hex of this value, below 16.
+fn hex_of(value: u8) -> u8 {
+    if value < 10 {
+        value.saturating_add(b'0')
+    } else {
+        value.saturating_sub(10).saturating_add(b'a')
     }
 }

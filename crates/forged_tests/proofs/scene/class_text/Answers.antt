@@ -1,6 +1,6 @@
 use Rattle.heap_texts.proofs.TextObjects.{there-made}
 use Rattle.forged_tests.proofs.StayLaws.{still-held}
-use Rattle.forged_tests.proofs.scene.made.Goals as goal
+use Rattle.forged_tests.proofs.scene.class_text.Goals as goal
 
 pub returns-clause-text : goal.returns-clause-text
 returns-clause-text c = there-made _ _ _ _ c.make_text.ensures
