@@ -55,7 +55,7 @@ fn checked(alloc: Global, text: &[u8]) -> Verdict {
     let Some(rough) = parsed(alloc, text) else {
         return Verdict::NoTree;
     };
-    match check(alloc, &rough) {
+    match check(alloc, rough) {
         Ok(_) => Verdict::Typed,
         Err(fault) => match (fault.number(), fault.line()) {
             (Some(number), Some(line)) => Verdict::Fault {

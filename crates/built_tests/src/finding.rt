@@ -24,12 +24,12 @@ fn parsed(alloc: Global, text: &[u8]) -> Option<Rough> {
 /// Tells the line of the first call of the library in the program of a text that isn't built, as `line` and its number, or `none`.
 pub fn put_library_found(out: &mut Buffer, text: &[u8]) {
     match parsed(out.alloc(), text) {
-        Some(rough) => put_found(out, &rough),
+        Some(rough) => put_found(out, rough),
         None => out.fail(),
     }
 }
 
-fn put_found(out: &mut Buffer, rough: &Rough) {
+fn put_found(out: &mut Buffer, rough: Rough) {
     match check(out.alloc(), rough) {
         Ok(program) => put_line(out, first_unbuilt_library(&program)),
         Err(_) => out.fail(),

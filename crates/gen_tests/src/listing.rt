@@ -19,7 +19,7 @@ pub fn unit_of(alloc: Global, text: &[u8]) -> Result<CodeUnit, Fail> {
     }
     let tokens = scan(alloc, text).map_err(|_| "scan")?;
     let rough = parse(alloc, text, &tokens).map_err(|_| "parse")?;
-    let program = check(alloc, &rough).map_err(|_| "check")?;
+    let program = check(alloc, rough).map_err(|_| "check")?;
     Ok(generate(alloc, &program).map_err(|_| "generate")?)
 }
 

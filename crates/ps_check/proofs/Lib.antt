@@ -7,6 +7,7 @@ pub mod Lets
 pub mod Views
 pub mod Blocks
 pub mod Places
+pub mod Taking
 pub mod Applying
 pub mod LinkSteps
 pub mod Ends

@@ -24,10 +24,11 @@ use ps_type_text::Member;
 use std::alloc::Global;
 
 /// Checks a program: its names, its types and how many slots its bodies need. Answers the typed program, in which each name has
-/// its place, or the first fault in the order of the text, or `Memory` (`docs/language.md`); what was made until then is let go.
-pub fn check(alloc: Global, rough: &Rough) -> Result<Program, CheckFault>
-    ensures program { IfOk result (λ program. check_program (phrase_of rough.now) ≡ Typed (body_of program.body)) }
-    ensures fault { IfErr result (λ fault. (told : Fault) → fault_of fault ≡ Some told → check_program (phrase_of rough.now) ≡ Fails told) }
+/// its place, or the first fault in the order of the text, or `Memory` (`docs/language.md`); what was made until then is let go. Of a
+/// sequence each item is let go when it is checked, so that the text's tree and the typed one don't stand beside each other whole.
+pub fn check(alloc: Global, rough: Rough) -> Result<Program, CheckFault>
+    ensures program { IfOk result (λ program. check_program (phrase_of rough) ≡ Typed (body_of program.body)) }
+    ensures fault { IfErr result (λ fault. (told : Fault) → fault_of fault ≡ Some told → check_program (phrase_of rough) ≡ Fails told) }
 {
     let Whole { tree, names } = tree_and_names(alloc, rough)?;
     let body = Body {
@@ -51,13 +52,14 @@ pub(crate) struct Whole {
     pub(crate) names: Vec<Member>,
 }
 
-fn tree_and_names(alloc: Global, rough: &Rough) -> Result<Whole, CheckFault>
-    ensures { IsWhole (wants Void (end_line_of (phrase_of rough.now)) (check_of library_names (phrase_of rough.now))) result }
+fn tree_and_names(alloc: Global, rough: Rough) -> Result<Whole, CheckFault>
+    ensures { IsWhole (wants Void (end_line_of (phrase_of rough)) (check_of library_names (phrase_of rough))) result }
 {
+    let end = end_line(&rough);
     let scope = Scope::new(alloc)?;
     let mut checker = Checker { alloc, scope };
-    let clause = checker.clause(rough)?;
-    let tree = clause.of_type(end_line(rough), Ty::Void)?;
+    let clause = checker.program(rough)?;
+    let tree = clause.of_type(end, Ty::Void)?;
     let names = checker.into_scope().into_locals();
     Ok(Whole { tree, names })
 }

@@ -7,7 +7,7 @@ ghost use Rattle.ps_tree.specs.PhraseLists.{phrases_in};
 ghost use Rattle.ps_program.specs.Node as node;
 ghost use Rattle.ps_program.specs.NodeView.{node_of, nodes_in};
 ghost use Rattle.ps_scope.specs.Content.{names_of};
-ghost use Rattle.std.specs.Prelude.{None};
+ghost use Rattle.std.specs.Prelude.{None, IfSome};
 ghost use Rattle.ps_tree.specs.Phrase.{item_of};
 ghost use Rattle.ps_tree.specs.PhraseLists.{items_in};
 ghost use Rattle.ps_typing.specs.Checking.{check as check_of, check_form, check_all, check_written, together};
@@ -23,8 +23,9 @@ use ps_base::line::Line;
 use ps_base::list::List;
 use ps_base::ty::Ty;
 use ps_program::form::{Tree, TreeForm};
-use ps_tree::rough::{Rough, RoughItem};
+use ps_tree::rough::{Rough, RoughForm, RoughItem};
 use std::alloc::Global;
+use std::mem;
 
 /// The items of a sequence, and the type of the last; where there is none, of none.
 #[derive(Drop)]
@@ -111,6 +112,61 @@ impl Checker {
             line,
         };
         Ok(Tree::new(self.alloc, form)?)
+    }
+}
+
+impl Checker {
+    /// Checks a program. The items of its sequence are let go one by one as they are checked, so that their memory serves for the typed tree.
+    pub(crate) fn program(&mut self, rough: Rough) -> Result<Clause, CheckFault>
+        ensures { IsClause (check_of (names_of self.old.scope) (phrase_of rough)) result self.new.scope }
+    {
+        let mut rough = rough;
+        let line = rough.line;
+        match taken_items(self.alloc, &mut rough) {
+            Some(items) => self.last_sequence(line, items),
+            None => self.clause(&rough),
+        }
+    }
+
+    // A sequence that is let go while it is checked.
+    fn last_sequence(&mut self, line: Line, items: Vec<Rough>) -> Result<Clause, CheckFault>
+        ensures { IsClause (check_form (names_of self.old.scope) line (form.Sequence (phrases_in items.items))) result self.new.scope }
+    {
+        let block = self.scope.enter();
+        let Items { trees, ty } = self.last_items(line, items)?;
+        self.scope.leave(block);
+        block_of(self.alloc, trees, ty)
+    }
+
+    // The items of a sequence, each of which is let go when it is checked.
+    fn last_items(&mut self, line: Line, items: Vec<Rough>) -> Result<Items, CheckFault>
+        ensures { AreItems (check_all (names_of self.old.scope) line types.Void (phrases_in items.items)) result self.new.scope }
+    {
+        let mut rest = items;
+        rest.reverse();
+        let mut trees = Vec::new(self.alloc);
+        let mut before = Ty::Void;
+        let mut line = line;
+        while let Some(item) = rest.pop() {
+            let Clause { tree, ty } = self.item(before, line, &item)?;
+            trees.push(tree)?;
+            before = ty;
+            line = item.line;
+        }
+        Ok(Items { trees, ty: before })
+    }
+}
+
+// The items of a program that is a sequence, which is left empty.
+fn taken_items(alloc: Global, program: &mut Rough) -> Option<Vec<Rough>>
+    ensures taken { IfSome result (λ items. phrase_of program.old ≡ form.at (form.Sequence (phrases_in items.items)) program.old.line) }
+    ensures left { result ≡ None → phrase_of program.new ≡ phrase_of program.old }
+{
+    match &mut *program.form {
+        RoughForm::Sequence { items } => {
+            Some(mem::replace(items, List::new(Vec::new(alloc))).into_vec())
+        }
+        _ => None,
     }
 }
 

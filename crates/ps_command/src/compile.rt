@@ -34,7 +34,7 @@ pub fn compile(alloc: Global, text: &[u8]) -> Result<CodeUnit, SourceFault>
     }
 }
 
-// The typed program. The tokens are let go before the check, and the tree of the text before code is made: so less memory is taken at once.
+// The typed program. The tokens are let go before the check, and the tree of the text while it is checked: so less memory is taken at once.
 fn typed(alloc: Global, text: &[u8]) -> Result<Program, SourceFault>
     requires { length text.now ≤ LONGEST_TEXT }
     ensures typed { IfOk result (λ program. IsProgram text.now (body_of program.body)) }
@@ -49,13 +49,13 @@ fn typed(alloc: Global, text: &[u8]) -> Result<Program, SourceFault>
         Err(fault) => return Err(SourceFault::Parse(fault)),
     };
     drop(tokens);
-    checked(alloc, &rough)
+    checked(alloc, rough)
 }
 
 // The typed program of a tree, each of whose calls of the library is built.
-fn checked(alloc: Global, rough: &Rough) -> Result<Program, SourceFault>
-    ensures checked { IfOk result (λ program. IsChecked (phrase_of rough.now) (body_of program.body)) }
-    ensures refused { IfErr result (λ fault. RefusesTree (phrase_of rough.now) fault) }
+fn checked(alloc: Global, rough: Rough) -> Result<Program, SourceFault>
+    ensures checked { IfOk result (λ program. IsChecked (phrase_of rough) (body_of program.body)) }
+    ensures refused { IfErr result (λ fault. RefusesTree (phrase_of rough) fault) }
 {
     let program = match check(alloc, rough) {
         Ok(program) => program,

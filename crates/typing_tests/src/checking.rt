@@ -28,12 +28,12 @@ fn parsed(alloc: Global, text: &[u8]) -> Option<Rough> {
 /// Tells what the check answers on a text.
 pub fn put_answer(out: &mut Buffer, text: &[u8]) {
     match parsed(out.alloc(), text) {
-        Some(rough) => put_checked(out, &rough),
+        Some(rough) => put_checked(out, rough),
         None => out.fail(),
     }
 }
 
-fn put_checked(out: &mut Buffer, rough: &Rough) {
+fn put_checked(out: &mut Buffer, rough: Rough) {
     match check(out.alloc(), rough) {
         Ok(program) => put_program(out, &program.body),
         Err(fault) => put_check_fault(out, &fault),
@@ -43,12 +43,12 @@ fn put_checked(out: &mut Buffer, rough: &Rough) {
 /// Tells the fault of a text, or `fits` where it has none.
 pub fn put_fault(out: &mut Buffer, text: &[u8]) {
     match parsed(out.alloc(), text) {
-        Some(rough) => put_fault_or_fits(out, &rough),
+        Some(rough) => put_fault_or_fits(out, rough),
         None => out.fail(),
     }
 }
 
-fn put_fault_or_fits(out: &mut Buffer, rough: &Rough) {
+fn put_fault_or_fits(out: &mut Buffer, rough: Rough) {
     match check(out.alloc(), rough) {
         Ok(_) => out.put("fits"),
         Err(fault) => put_check_fault(out, &fault),
