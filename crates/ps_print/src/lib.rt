@@ -5,4 +5,3 @@ mod clauses;
 mod items;
 mod lines;
 pub mod print;
-mod types;

@@ -8,10 +8,6 @@ ghost use Rattle.ps_layout.specs.Waiting.{waiting, lexemes_of, is_empty_program,
 use crate::clauses::{put_clause, put_operand};
 use crate::items::{put_arm, put_arms, put_item, put_items, put_more_items};
 use crate::lines::{put_clauses, put_lines, put_more_clauses, put_program};
-use crate::types::{
-    put_gives, put_groups, put_heading, put_more_groups, put_more_types, put_named, put_type,
-    put_types,
-};
 use ps_layout::forms::put_form;
 use ps_layout::pending::Pending;
 use ps_layout::piece::{Behind, Gap, Piece, Spot};
@@ -19,6 +15,10 @@ use ps_lexemes::writer::{
     write_end, write_int, write_mark, write_spelling, write_string, write_word,
 };
 use ps_tree::rough::{Rough, RoughForm};
+use ps_type_pieces::types::{
+    put_gives, put_groups, put_heading, put_more_groups, put_more_types, put_named, put_type,
+    put_types,
+};
 use std::alloc::{AllocError, Global};
 
 /// Prints a tree as a text that is read as that tree again: blocks in braces, each item on a line of

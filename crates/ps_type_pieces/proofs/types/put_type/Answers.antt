@@ -2,7 +2,7 @@ use Rattle.std.proofs.Common.{◌≡◌, ◌∙◌, ap, sym, rules}
 use Rattle.ps_base.specs.TyView.{ty_view, ty_views, Proc}
 use Rattle.ps_base.specs.List.{items_of}
 use Rattle.ps_base.proofs.TyLemmas.{ty_view-Proc}
-use Rattle.ps_print.proofs.types.put_type.Goals as goal
+use Rattle.ps_type_pieces.proofs.types.put_type.Goals as goal
 
 pub returns-in-Proc : goal.returns-in-Proc
 returns-in-Proc c =

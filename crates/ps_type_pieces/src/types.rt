@@ -14,11 +14,8 @@ use ps_scan::{mark, word};
 use ps_tree::rough::{Group, Named};
 use std::alloc::AllocError;
 
-pub(crate) fn put_type<'a>(
-    pending: &mut Pending<'a>,
-    gap: Gap,
-    ty: &'a Ty,
-) -> Result<(), AllocError>
+/// The pieces of a type, behind the gap: its word, or its mark and its parts. Want of memory leaves any front of them.
+pub fn put_type<'a>(pending: &mut Pending<'a>, gap: Gap, ty: &'a Ty) -> Result<(), AllocError>
     ensures { OnOk result (Adds (waiting pending.old) (type_lexemes (gap_of gap) (ty_view ty.now)) (weight_ty (ty_view ty.now)) (waiting pending.new)) }
 {
     match ty {
@@ -69,7 +66,8 @@ fn put_proc_type<'a>(
     ])
 }
 
-pub(crate) fn put_types<'a>(pending: &mut Pending<'a>, tys: &'a [Ty]) -> Result<(), AllocError>
+/// The pieces of the types of parameters, parted by commas; of no parameters none.
+pub fn put_types<'a>(pending: &mut Pending<'a>, tys: &'a [Ty]) -> Result<(), AllocError>
     ensures { OnOk result (Adds (waiting pending.old) (types_lexemes nothing (ty_views tys.now)) (weight_tys (ty_views tys.now)) (waiting pending.new)) }
 {
     match tys.split_first() {
@@ -80,7 +78,8 @@ pub(crate) fn put_types<'a>(pending: &mut Pending<'a>, tys: &'a [Ty]) -> Result<
     }
 }
 
-pub(crate) fn put_more_types<'a>(pending: &mut Pending<'a>, tys: &'a [Ty]) -> Result<(), AllocError>
+/// The same behind the first type, each behind a comma.
+pub fn put_more_types<'a>(pending: &mut Pending<'a>, tys: &'a [Ty]) -> Result<(), AllocError>
     ensures { OnOk result (Adds (waiting pending.old) (more_types_lexemes (ty_views tys.now)) (weight_tys (ty_views tys.now)) (waiting pending.new)) }
 {
     match tys.split_first() {
@@ -93,8 +92,8 @@ pub(crate) fn put_more_types<'a>(pending: &mut Pending<'a>, tys: &'a [Ty]) -> Re
     }
 }
 
-// The type of a result behind its arrow; a procedure without a result has none.
-pub(crate) fn put_gives<'a>(pending: &mut Pending<'a>, ty: &'a Ty) -> Result<(), AllocError>
+/// The pieces of a result, its type behind its arrow; a procedure without a result has none.
+pub fn put_gives<'a>(pending: &mut Pending<'a>, ty: &'a Ty) -> Result<(), AllocError>
     ensures { OnOk result (Adds (waiting pending.old) (behind_arrow (ty_view ty.now) (type_lexemes blank (ty_view ty.now))) (weight_ty (ty_view ty.now) + 2) (waiting pending.new)) }
 {
     match ty {
@@ -106,10 +105,8 @@ pub(crate) fn put_gives<'a>(pending: &mut Pending<'a>, ty: &'a Ty) -> Result<(),
     }
 }
 
-pub(crate) fn put_groups<'a>(
-    pending: &mut Pending<'a>,
-    groups: &'a [Group],
-) -> Result<(), AllocError>
+/// The pieces of parameters or fields, each with its type; of none none.
+pub fn put_groups<'a>(pending: &mut Pending<'a>, groups: &'a [Group]) -> Result<(), AllocError>
     ensures { OnOk result (Adds (waiting pending.old) (groups_lexemes (groups_in groups.now)) (weight_groups (groups_in groups.now)) (waiting pending.new)) }
 {
     match groups.split_first() {
@@ -121,8 +118,8 @@ pub(crate) fn put_groups<'a>(
     }
 }
 
-// The names that share the type of the one before them, each with the type, and then the groups.
-pub(crate) fn put_more_groups<'a>(
+/// The pieces of the names that share the type of the one before them, each with the type, and then of the groups.
+pub fn put_more_groups<'a>(
     pending: &mut Pending<'a>,
     ty: &'a Ty,
     names: &'a [Named],
@@ -153,8 +150,8 @@ fn put_next_group<'a>(pending: &mut Pending<'a>, groups: &'a [Group]) -> Result<
     }
 }
 
-// A parameter or a field, with its type.
-pub(crate) fn put_named<'a>(
+/// The pieces of a parameter or a field, behind the gap: its type and its name.
+pub fn put_named<'a>(
     pending: &mut Pending<'a>,
     gap: Gap,
     ty: &'a Ty,
@@ -168,7 +165,8 @@ pub(crate) fn put_named<'a>(
     ])
 }
 
-pub(crate) fn put_heading<'a>(
+/// The pieces of what stands before the clause of a procedure literal: its parameters and its result in brackets, and a semicolon.
+pub fn put_heading<'a>(
     pending: &mut Pending<'a>,
     params: &'a [Group],
     gives: &'a Ty,

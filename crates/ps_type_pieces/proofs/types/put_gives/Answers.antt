@@ -7,7 +7,7 @@ use Rattle.ps_layout.specs.Lexemes.{Lexeme, blank}
 use Rattle.ps_layout.specs.Layout.{behind_arrow, the_mark, type_lexemes}
 use Rattle.ps_layout.specs.Waiting.{waiting, Adds}
 use Rattle.ps_layout.specs.Weights.{weight_ty}
-use Rattle.ps_print.proofs.types.put_gives.Goals as goal
+use Rattle.ps_type_pieces.proofs.types.put_gives.Goals as goal
 
 -- a result has an arrow before it
 behind : (t : Ty) (shown : List Lexeme) → (t ≡ code.Void → ⊥) → behind_arrow (ty_view t) shown ≡ the_mark blank mark.ARROW ∷ shown
