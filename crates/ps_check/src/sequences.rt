@@ -123,37 +123,37 @@ impl Checker {
         let mut rough = rough;
         let line = rough.line;
         match taken_items(self.alloc, &mut rough) {
-            Some(items) => self.last_sequence(line, items),
+            Some(items) => self.owned_sequence(line, items),
             None => self.clause(&rough),
         }
     }
 
     // A sequence that is let go while it is checked.
-    fn last_sequence(&mut self, line: Line, items: Vec<Rough>) -> Result<Clause, CheckFault>
+    fn owned_sequence(&mut self, line: Line, items: Vec<Rough>) -> Result<Clause, CheckFault>
         ensures { IsClause (check_form (names_of self.old.scope) line (form.Sequence (phrases_in items.items))) result self.new.scope }
     {
         let block = self.scope.enter();
-        let Items { trees, ty } = self.last_items(line, items)?;
+        let Items { trees, ty } = self.owned_items(line, items)?;
         self.scope.leave(block);
         block_of(self.alloc, trees, ty)
     }
 
     // The items of a sequence, each of which is let go when it is checked.
-    fn last_items(&mut self, line: Line, items: Vec<Rough>) -> Result<Items, CheckFault>
+    fn owned_items(&mut self, line: Line, items: Vec<Rough>) -> Result<Items, CheckFault>
         ensures { AreItems (check_all (names_of self.old.scope) line types.Void (phrases_in items.items)) result self.new.scope }
     {
         let mut rest = items;
         rest.reverse();
         let mut trees = Vec::new(self.alloc);
-        let mut before = Ty::Void;
+        let mut last = Ty::Void;
         let mut line = line;
         while let Some(item) = rest.pop() {
-            let Clause { tree, ty } = self.item(before, line, &item)?;
+            let Clause { tree, ty } = self.item(last, line, &item)?;
             trees.push(tree)?;
-            before = ty;
+            last = ty;
             line = item.line;
         }
-        Ok(Items { trees, ty: before })
+        Ok(Items { trees, ty: last })
     }
 }
 

@@ -10,7 +10,7 @@ use Rattle.ps_typing.proofs.Keeps.{all_keeps_around, all_keeps_fields_around}
 use Rattle.ps_check.specs.inside.Answers.{IsFault}
 use Rattle.ps_check.proofs.Steps.{exits, fails_first, given, made}
 use Rattle.ps_check.proofs.Blocks.{stays}
-use Rattle.ps_check.proofs.checker.Checker.last_sequence.Goals as goal
+use Rattle.ps_check.proofs.checker.Checker.owned_sequence.Goals as goal
 
 pub returns-in_err-trees : goal.returns-in_err-trees
 returns-in_err-trees c = exits c.from_residual.result _ c.in_err-trees.field-0.0 _ c.from_residual.ensures.1 (fails_first _ _ _ (subst (λ n. IsFault (check_all n c.args.line Void (phrases_in c.args.items.items)) c.in_err-trees.field-0.0) c.enter-block.ensures.names c.in_err-trees.ensures))
