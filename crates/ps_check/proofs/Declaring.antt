@@ -1,12 +1,11 @@
 -- Parameters, fields and their types, one by one.
-use Rattle.std.proofs.Common.{◌≡◌, ◌<◌, ◌≤◌, ◌+◌, ℕ, true, false, nat_lt, arith, List, [], ◌∷◌, ◌++◌, length, map, take, drop, get_or, slice_index_or, append_assoc, append-nil, refl, sym, ap, ◌∙◌}
+use Rattle.std.proofs.Common.{◌≡◌, ◌<◌, ◌≤◌, ◌+◌, ℕ, true, false, nat_lt, arith, List, [], ◌∷◌, ◌++◌, length, map, take, slice_index_or, append_assoc, refl, sym, ap, ◌∙◌}
 use Rattle.std.proofs.lemmas.List.{take_more, map-append, length-map}
 use Rattle.std.proofs.lemmas.Bool.Decides.{nat_tests}
 use Rattle.ps_base.specs.TyView.{TyView, TyViews, Void, more, and_type, ty_view, ty_views}
 use Rattle.ps_base.specs.declared.ty.Ty.{Ty}
 use Rattle.ps_base.proofs.TyLemmas.{ty_views-append}
-use Rattle.ps_program.specs.Node.{Param, Node}
-use Rattle.ps_program.specs.declared.place.Place.TheVariants.{Plain}
+use Rattle.ps_program.specs.Node.{Param}
 use Rattle.ps_tree.specs.Phrase.{GroupAt, groups_in, names_in, of_type}
 use Rattle.ps_tree.specs.Phrase as phrase
 use Rattle.ps_tree.specs.declared.rough.Group.{Group}
@@ -18,7 +17,7 @@ use Rattle.ps_type_text.specs.Members as members
 use Rattle.ps_type_text.specs.declared.classes.Member.{Member}
 use Rattle.ps_typing.specs.Fault.{Twice}
 use Rattle.ps_typing.specs.Names.{Names, declare_local, declare_field, is_declared, is_field_declared}
-use Rattle.ps_typing.specs.Checking.{Outcome, ◌>>=◌, types_of, field_of, with_params, with_fields}
+use Rattle.ps_typing.specs.Checking.{◌>>=◌, types_of, field_of, with_params, with_fields}
 use Rattle.ps_check.specs.declared.declarators.Declarator.{Declarator}
 use Rattle.ps_check.specs.inside.Declaring.{one_param, one_field}
 use Rattle.ps_check.specs.inside.Views.{group_of, groups_of}

@@ -12,9 +12,9 @@ use Rattle.ps_type_text.specs.Texts.{Field}
 use Rattle.ps_typing.specs.Fault.{Fault}
 use Rattle.ps_typing.specs.Library.{library_names}
 use Rattle.ps_typing.specs.Names.{Names}
-use Rattle.ps_typing.specs.Checking.{Outcome, Gives, Refuses, check, wants}
+use Rattle.ps_typing.specs.Checking.{Gives, check, wants}
 use Rattle.ps_typing.specs.Placed.{placed_program}
-use Rattle.ps_typing.specs.Program.{Verdict, Typed, Fails, check_program, verdict_of, measured, bodies, first_complex, end_line, last_line}
+use Rattle.ps_typing.specs.Program.{Verdict, Fails, check_program, verdict_of, measured, bodies, first_complex, end_line, last_line}
 use Rattle.ps_check.specs.Faults.{fault_of}
 use Rattle.ps_check.specs.declared.fault.CheckFault.{CheckFault}
 use Rattle.ps_check.specs.inside.Answers.{Refused}

@@ -1,5 +1,5 @@
 -- The name that an only argument is.
-use Rattle.std.proofs.Common.{◌≡◌, Bool, true, false, List, [], ◌∷◌, None, length, refl, sym, ◌∙◌}
+use Rattle.std.proofs.Common.{◌≡◌, Bool, false, List, [], ◌∷◌, None, length, refl}
 use Rattle.std.specs.Bool.{◌==◌}
 use Rattle.ps_tree.specs.PhraseLists.{phrases_in}
 use Rattle.ps_tree.specs.declared.rough.Rough.{Rough}

@@ -1,5 +1,5 @@
 -- A declaration whose initial clause is a literal, and one whose clause is none.
-use Rattle.std.proofs.Common.{◌≡◌, Bool, Option, Some, None, refl, sym, ap, ◌∙◌}
+use Rattle.std.proofs.Common.{◌≡◌, Bool, Option, Some, None, refl, ap}
 use Rattle.ps_base.specs.declared.line.Line.{Line}
 use Rattle.ps_tree.specs.Phrase.{NameAt, Phrase, at}
 use Rattle.ps_tree.specs.Phrase as form

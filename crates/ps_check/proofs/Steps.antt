@@ -1,14 +1,11 @@
 -- How outcomes follow from one another, and what the functions of the check answer of them.
-use Rattle.std.proofs.Common.{◌≡◌, Bool, true, false, not, refl, sym, ap, ◌∙◌, subst, IsTrue}
+use Rattle.std.proofs.Common.{◌≡◌, Bool, true, false, refl, sym, ap, ◌∙◌, subst, IsTrue}
 use Rattle.std.specs.Prelude.{Result, Ok, Err, Option, Some, None, if◌then◌else◌, MatchResult, IsErrAnd}
 use Rattle.std.proofs.lemmas.Result.{err_from_is_err_and}
 use Rattle.ps_base.specs.TyView.{TyView, Void, ty_view}
 use Rattle.ps_base.specs.declared.line.Line.{Line}
-use Rattle.ps_base.specs.declared.ty.Ty.{Ty}
 use Rattle.ps_program.specs.Node.{Node}
 use Rattle.ps_program.specs.NodeView.{node_of}
-use Rattle.ps_program.specs.declared.form.Tree.{Tree}
-use Rattle.ps_scope.specs.Content.{Content, names_of}
 use Rattle.ps_typing.specs.Fault.{Fault, Mismatch, NotAssignable}
 use Rattle.ps_typing.specs.Names.{Names}
 use Rattle.ps_typing.specs.Checking.{Outcome, Gives, Refuses, ◌>>=◌, passes, wants, is_same, assigned}
@@ -16,7 +13,7 @@ use Rattle.ps_typing.proofs.SameTypes.{same_is_equal, equal_is_same}
 use Rattle.ps_check.specs.Faults.{fault_of}
 use Rattle.ps_check.specs.declared.clause.Clause.{Clause}
 use Rattle.ps_check.specs.declared.fault.CheckFault.{CheckFault}
-use Rattle.ps_check.specs.inside.Answers.{Refused, IsFault, IsClause, IsOfType, IsMade, IsMemory}
+use Rattle.ps_check.specs.inside.Answers.{Refused, IsFault, IsMade, IsMemory}
 
 -- what follows from what an outcome gives
 pub given : {A B : Type 0} (o : Outcome A) (tree : A) (ty : TyView) (names : Names) (next : A → TyView → Names → Outcome B) → o ≡ Gives tree ty names → (o >>= next) ≡ next tree ty names

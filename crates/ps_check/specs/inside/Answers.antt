@@ -1,13 +1,11 @@
 -- What the functions of the check answer.
-use Rattle.std.specs.Prelude.{◌≡◌, Bool, List, [], ◌∷◌, Option, Some, None, Result, Ok, Err, MatchResult}
+use Rattle.std.specs.Prelude.{◌≡◌, Bool, Option, Some, None, Result, MatchResult}
 use Rattle.ps_base.specs.TyView.{TyView, ty_view}
 use Rattle.ps_base.specs.TyView as types
-use Rattle.ps_base.specs.declared.line.Line.{Line}
-use Rattle.ps_base.specs.declared.operator.Relation.{Relation}
 use Rattle.ps_program.specs.declared.form.Tree.{Tree}
-use Rattle.ps_program.specs.Node.{Node, Nodes}
-use Rattle.ps_program.specs.NodeView.{node_of, nodes_in}
-use Rattle.ps_tree.specs.Phrase.{Phrase, at, Form}
+use Rattle.ps_program.specs.Node.{Node}
+use Rattle.ps_program.specs.NodeView.{node_of}
+use Rattle.ps_tree.specs.Phrase.{Form}
 use Rattle.ps_scope.specs.Content.{Content, names_of}
 use Rattle.ps_typing.specs.Fault.{Fault}
 use Rattle.ps_typing.specs.Names.{Names}

@@ -1,7 +1,6 @@
 -- What the functions of the check do for the arms of a `case`.
-use Rattle.std.specs.Prelude.{◌≡◌, Result, MatchResult, List, Option, Some, None, option_map}
+use Rattle.std.specs.Prelude.{◌≡◌, Result, MatchResult, List, Option, option_map}
 use Rattle.ps_base.specs.TyView.{TyView, ty_view}
-use Rattle.ps_base.specs.List.{items_of}
 use Rattle.ps_tree.specs.Phrase.{Arm, arm}
 use Rattle.ps_program.specs.Node as node
 use Rattle.ps_program.specs.NodeView.{arm_of}
@@ -9,7 +8,7 @@ use Rattle.ps_program.specs.inside.PartsView.{arms_in}
 use Rattle.ps_program.specs.declared.form.Arm.{Arm as ArmOf}
 use Rattle.ps_scope.specs.Content.{Content, names_of}
 use Rattle.ps_typing.specs.Names.{Names}
-use Rattle.ps_typing.specs.Checking.{Outcome, Gives, Refuses, ◌>>=◌, check, check_each, checkers, line_of, like, first_type}
+use Rattle.ps_typing.specs.Checking.{Outcome, Gives, ◌>>=◌, check, check_each, checkers, line_of, like, first_type}
 use Rattle.ps_check.specs.declared.fault.CheckFault.{CheckFault}
 use Rattle.ps_check.specs.declared.choices.Arms.{Arms}
 use Rattle.ps_check.specs.declared.choices.Labelled.{Labelled}

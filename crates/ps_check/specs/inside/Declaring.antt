@@ -1,5 +1,5 @@
 -- What the functions of the check do for parameters and fields.
-use Rattle.std.specs.Prelude.{◌≡◌, ◌+◌, ℕ, Result, MatchResult, List, [], length, true, if◌then◌else◌}
+use Rattle.std.specs.Prelude.{◌≡◌, ℕ, Result, MatchResult, List, length, true, if◌then◌else◌}
 use Rattle.ps_base.specs.TyView.{TyView}
 use Rattle.ps_base.specs.TyView as types
 use Rattle.ps_tree.specs.Phrase.{GroupAt}

@@ -1,12 +1,12 @@
 -- What the functions of the check do for lists of clauses.
-use Rattle.std.specs.Prelude.{◌≡◌, Result, MatchResult, List, if◌then◌else◌}
+use Rattle.std.specs.Prelude.{◌≡◌, Result, MatchResult, if◌then◌else◌}
 use Rattle.ps_base.specs.TyView.{TyView, ty_view}
 use Rattle.ps_base.specs.TyView as types
 use Rattle.ps_base.specs.declared.line.Line.{Line}
 use Rattle.ps_tree.specs.Phrase.{WriteItem, item}
 use Rattle.ps_program.specs.Node.{Node, Nodes}
 use Rattle.ps_program.specs.Node as node
-use Rattle.ps_program.specs.NodeView.{node_of, nodes_in}
+use Rattle.ps_program.specs.NodeView.{nodes_in}
 use Rattle.ps_program.specs.declared.form.Tree.{Tree}
 use Rattle.std.specs.declared.alloc.Global.{Global}
 use Rattle.std.specs.declared.vec.Vec.{Vec}

@@ -1,4 +1,4 @@
-use Rattle.std.proofs.Common.{◌≡◌, ◌∙◌, ap, sym}
+use Rattle.std.proofs.Common.{◌∙◌, ap, sym}
 use Rattle.ps_tree.specs.PhraseLists.{phrases_in}
 use Rattle.ps_typing.specs.Checking.{field_name}
 use Rattle.ps_check.proofs.Fields.{several}

@@ -1,4 +1,4 @@
-use Rattle.std.proofs.Common.{◌≡◌, ◌∙◌, ◌+◌, ap, sym, None, arith}
+use Rattle.std.proofs.Common.{◌≡◌, ◌∙◌, ap, sym, arith}
 use Rattle.ps_base.specs.List.{items_of}
 use Rattle.ps_tree.specs.Phrase.{form_of, phrase_of}
 use Rattle.ps_tree.specs.PhraseLists.{phrases_in}
@@ -6,7 +6,7 @@ use Rattle.ps_tree.proofs.PhraseLemmas.{form_of-Apply}
 use Rattle.ps_tree.specs.Phrase as form
 use Rattle.ps_typing.specs.Checking.{check, check_form, applied, checkers}
 use Rattle.ps_check.specs.inside.Links.{applied_to}
-use Rattle.ps_check.specs.inside.Weights.{weight, weight_all, weight_form, weight_link}
+use Rattle.ps_check.specs.inside.Weights.{weight_all, weight_form, weight_link}
 use Rattle.ps_check.proofs.chains.link_of.Goals as goal
 
 pub returns-in-Part-clause-chain : goal.returns-in-Part-clause-chain

@@ -1,4 +1,4 @@
-use Rattle.std.proofs.Common.{◌≡◌, ◌∙◌, ap, sym}
+use Rattle.std.proofs.Common.{◌∙◌, ap, sym}
 use Rattle.ps_base.specs.List.{items_of}
 use Rattle.ps_tree.specs.Phrase.{at, Sequence, form_of}
 use Rattle.ps_tree.specs.PhraseLists.{phrases_in}

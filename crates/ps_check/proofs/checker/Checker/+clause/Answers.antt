@@ -1,5 +1,4 @@
-use Rattle.std.proofs.Common.{◌≡◌, ◌≤◌, ◌<◌, ◌+◌, ◌∙◌, ap, sym, refl, subst, rules, arith, true, false, Some, None, Option, Ok, Err, List, [], ◌∷◌, ◌++◌, length, length-append, map, drop, get_or, suc}
-use Rattle.std.proofs.lemmas.List.{drop_all}
+use Rattle.std.proofs.Common.{◌≡◌, ◌≤◌, ◌<◌, ◌+◌, ◌∙◌, ap, sym, refl, subst, rules, arith, false, Some, None, [], ◌∷◌, ◌++◌, length, drop}
 use Rattle.std.specs.Prelude.{option_map, if◌then◌else◌}
 use Rattle.ps_base.specs.List.{items_of}
 use Rattle.ps_base.specs.TyView.{TyView, Void, ty_view, ty_views}
@@ -13,10 +12,10 @@ use Rattle.ps_scope.specs.Content.{names_of}
 use Rattle.ps_typing.specs.Fault.{Twice, Mismatch, NotApplicable, Unknown, Limit}
 use Rattle.ps_typing.specs.Names.{Names}
 use Rattle.ps_typing.specs.Checking.{Gives, Refuses, check, check_form, check_all, check_each, check_args, check_written, check_arms, checkers, wants, value_applied}
-use Rattle.ps_check.specs.inside.Answers.{IsFault, IsClause}
-use Rattle.ps_check.specs.inside.Links.{joint_ty, check_link, check_links}
+use Rattle.ps_check.specs.inside.Answers.{IsFault}
+use Rattle.ps_check.specs.inside.Links.{check_link, check_links}
 use Rattle.ps_check.specs.inside.Weights.{weight, weight_all, weight_form}
-use Rattle.ps_check.proofs.Steps.{given, fails_as, fails_first, fails_next, fails_test, no_memory, is_fault, made, leads, exits, exhausted, remade, remade_both, as_wanted, fails_as_wanted}
+use Rattle.ps_check.proofs.Steps.{given, fails_as, fails_first, fails_next, fails_test, is_fault, made, leads, exits, remade, remade_both, as_wanted, fails_as_wanted}
 use Rattle.ps_check.proofs.checker.Checker.+clause.Goals as goal
 use Rattle.ps_base.specs.declared.ty.Signature.{Signature}
 use Rattle.ps_base.proofs.TyLemmas.{ty_view-Proc}
@@ -29,7 +28,7 @@ use Rattle.ps_check.proofs.After.{after, after_nodes, after_nothing, fails_after
 use Rattle.ps_check.proofs.Applying.{one_of, two_of, not_two, a_class, no_class, not_void, same_number, other_number, no_args, elements_as, elements_are}
 use Rattle.ps_check.proofs.LinkSteps.{one_link, one_weight, fails_links, check_links-push, weight_links-push}
 use Rattle.ps_check.proofs.Lets.{let_literal, let_other}
-use Rattle.ps_program.proofs.NodeLists.{elems_is, case_is, arm_of-parts as arm_is_parts}
+use Rattle.ps_program.proofs.NodeLists.{elems_is, case_is}
 use Rattle.ps_program.specs.NodeView.{arm_of as tree_arm_of}
 use Rattle.ps_program.specs.inside.PartsView.{arms_in}
 use Rattle.ps_program.specs.Assigning.{assignment}

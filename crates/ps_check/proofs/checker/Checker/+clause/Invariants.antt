@@ -1,8 +1,7 @@
 -- The measures of the check, and its loops.
 use Rattle.std.proofs.Common.{◌≡◌, ◌≤◌, ◌+◌, ◌*◌, drop, length, Some}
 use Rattle.ps_base.specs.TyView.{Void, ty_view, ty_views}
-use Rattle.ps_program.specs.NodeView.{node_of, nodes_in}
-use Rattle.ps_program.specs.inside.PartsView.{arms_in}
+use Rattle.ps_program.specs.NodeView.{node_of}
 use Rattle.ps_tree.specs.Phrase.{phrase_of, item_of, arm_of}
 use Rattle.ps_tree.specs.PhraseLists.{phrases_in, items_in, arms_in as rough_arms_in, maybe_in}
 use Rattle.ps_tree.specs.declared.rough.RoughRange.{out-RoughRange}
