@@ -2,17 +2,13 @@
 //! For the time and the memory that it takes.
 #![tactic(auto)]
 
-ghost use Rattle.std.specs.Prelude.{◌≤◌, length};
-
 use anyhow::Result;
-use ps_base::LONGEST_TEXT;
 use ps_check::check::check;
-use ps_parse::parse;
 use ps_port::{DirShelf, Shelf};
-use ps_scan::scan;
 use ps_tree::rough::Rough;
 use std::alloc::Global;
 use std::env;
+use text_trees::{TextFault, tree_of};
 
 fn main(rt: HostRuntime) -> Result<()> {
     let told = match named(&rt) {
@@ -49,12 +45,14 @@ fn named(rt: &HostRuntime) -> Option<Vec<u8>> {
 }
 
 fn checked(alloc: Global, text: &[u8]) -> Verdict {
-    if text.len() > LONGEST_TEXT {
-        return Verdict::NoText;
+    match tree_of(alloc, text) {
+        Ok(rough) => verdict_of(alloc, rough),
+        Err(TextFault::TooLong) => Verdict::NoText,
+        Err(TextFault::Scan(_) | TextFault::Parse(_)) => Verdict::NoTree,
     }
-    let Some(rough) = parsed(alloc, text) else {
-        return Verdict::NoTree;
-    };
+}
+
+fn verdict_of(alloc: Global, rough: Rough) -> Verdict {
     match check(alloc, rough) {
         Ok(_) => Verdict::Typed,
         Err(fault) => match (fault.number(), fault.line()) {
@@ -65,12 +63,4 @@ fn checked(alloc: Global, text: &[u8]) -> Verdict {
             _ => Verdict::Memory,
         },
     }
-}
-
-// The tree of the text; its tokens are let go.
-fn parsed(alloc: Global, text: &[u8]) -> Option<Rough>
-    requires { length text.now ≤ LONGEST_TEXT }
-{
-    let tokens = scan(alloc, text).ok()?;
-    parse(alloc, text, &tokens).ok()
 }

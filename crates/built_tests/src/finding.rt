@@ -1,31 +1,17 @@
 //! The program of a text searched for the first call of the library that isn't built.
 
-use ps_base::LONGEST_TEXT;
 use ps_base::line::Line;
 use ps_built::first_unbuilt_library;
 use ps_check::check::check;
-use ps_parse::parse;
-use ps_scan::scan;
 use ps_tree::rough::Rough;
-use std::alloc::Global;
 use table_rows::Buffer;
-
-// The tree of a text that is not too long and has no fault of the scanner and the parser.
-fn parsed(alloc: Global, text: &[u8]) -> Option<Rough> {
-    if text.len() > LONGEST_TEXT {
-        return None;
-    }
-    match scan(alloc, text) {
-        Ok(tokens) => parse(alloc, text, &tokens).ok(),
-        Err(_) => None,
-    }
-}
+use text_trees::tree_of;
 
 /// Tells the line of the first call of the library in the program of a text that isn't built, as `line` and its number, or `none`.
 pub fn put_library_found(out: &mut Buffer, text: &[u8]) {
-    match parsed(out.alloc(), text) {
-        Some(rough) => put_found(out, rough),
-        None => out.fail(),
+    match tree_of(out.alloc(), text) {
+        Ok(rough) => put_found(out, rough),
+        Err(_) => out.fail(),
     }
 }
 

@@ -1,24 +1,27 @@
 //! The unit of a text, as lines of text: each instruction by its name and its operands, then the constants and the frame.
 
 use crate::buffer::Buffer;
-use ps_base::LONGEST_TEXT;
 use ps_base::code_unit::{CodeUnit, Constant};
 use ps_check::check::check;
 use ps_code::decode::decode;
 use ps_code::table::rows;
 use ps_gen::generate::generate;
-use ps_parse::parse;
-use ps_scan::scan;
+use ps_tree::rough::Rough;
 use std::alloc::Global;
 use std::test::Fail;
+use text_trees::{TextFault, tree_of};
 
 /// The unit of a text that fits the typing rules.
 pub fn unit_of(alloc: Global, text: &[u8]) -> Result<CodeUnit, Fail> {
-    if text.len() > LONGEST_TEXT {
-        return Err("too long".into());
+    match tree_of(alloc, text) {
+        Ok(rough) => unit_of_tree(alloc, rough),
+        Err(TextFault::TooLong) => Err("too long".into()),
+        Err(TextFault::Scan(_)) => Err("scan".into()),
+        Err(TextFault::Parse(_)) => Err("parse".into()),
     }
-    let tokens = scan(alloc, text).map_err(|_| "scan")?;
-    let rough = parse(alloc, text, &tokens).map_err(|_| "parse")?;
+}
+
+fn unit_of_tree(alloc: Global, rough: Rough) -> Result<CodeUnit, Fail> {
     let program = check(alloc, rough).map_err(|_| "check")?;
     Ok(generate(alloc, &program).map_err(|_| "generate")?)
 }

@@ -11,6 +11,7 @@ use heap_texts::fault::OpFault;
 use heap_texts::make::make_text;
 use memory_vault::silent::SilentVault;
 use std::alloc::Global;
+use std::process::Abort;
 use std::test::Fail;
 use swizzle::fault::SwizzleFault;
 use swizzle::swizzle::Swizzle;
@@ -25,24 +26,15 @@ pub const SEVEN: Value = Value::Num(7);
 
 pub const NIL: Value = Value::Ref(None);
 
-/// Trap 3.
-pub const BOUNDS: Ended = Ended::Trapped(3);
-
-/// What an operation ended in that gave nothing.
-#[derive(Clone, Copy, PartialEq, Eq, Debug)]
-pub enum Ended {
-    /// A trap, by its number.
-    Trapped(u32),
-    /// The area is full, or the store refused an object.
-    Refused(SwizzleFault),
-}
-
-/// What a fault ends in.
-pub fn end_of(fault: OpFault) -> Ended {
-    match fault {
-        OpFault::Trap(trap) => Ended::Trapped(trap as u32),
-        OpFault::Swizzle(refused) => Ended::Refused(refused),
-    }
+/// What a vector of an area with six words that are taken comes to.
+#[derive(Clone, Copy)]
+pub enum Top {
+    /// It is made, and the area ends here.
+    At(u32),
+    /// Trap 3. The area ends where it did.
+    Bounds,
+    /// The area is full: so many words were wanted, of so many that it has. It ends where it did.
+    Full(u32, u32),
 }
 
 /// An area with one text, which is at index 1.
@@ -152,33 +144,51 @@ pub fn upper(sw: &mut Swizzle, vector: u32) -> Result<i32, SwizzleFault>
     high(sw, &mut SilentVault { asked: 0 }, vector)
 }
 
-/// Where the area ends behind a vector of ints that all are one value, or what that ended in and where the area ends then.
-pub fn top_behind_repeated(
-    alloc: Global,
-    words: u32,
-    low: i32,
-    high: i32,
-    fill: Value,
-) -> Result<Result<u32, (Ended, u32)>, Fail> {
-    let mut area = area_with(alloc, words.clamp(6, WIDE), b"*int")?;
-    let fill = near(&area.sw, area.ty, fill)?;
-    match repeated(&mut area.sw, area.ty, low, high, fill) {
-        Ok(_) => Ok(Ok(area.sw.top())),
-        Err(fault) => Ok(Err((end_of(fault), area.sw.top()))),
+// Whether this was made, and the area ends so.
+fn ends_so(made: Result<u32, OpFault>, end: u32, top: Top) -> bool {
+    match (made, top) {
+        (Ok(_), Top::At(at)) => end == at,
+        (Err(OpFault::Trap(trap)), Top::Bounds) => trap as u32 == 3 && end == 7,
+        (Err(OpFault::Swizzle(fault)), Top::Full(wanted, size)) => {
+            let top = 7;
+            end == top && fault == SwizzleFault::AreaFull { top, wanted, size }
+        }
+        _ => false,
     }
 }
 
-/// Where the area ends behind a list of so many sevens, or what that ended in and where the area ends then.
-pub fn top_behind_listed(
-    alloc: Global,
-    words: u32,
-    low: i32,
-    count: u32,
-) -> Result<Result<u32, (Ended, u32)>, Fail> {
-    let mut area = area_with(alloc, words.clamp(6, WIDE), b"*int")?;
-    let items = sevens(alloc, &area.sw, count)?;
-    match listed(&mut area.sw, area.ty, low, &items) {
-        Ok(_) => Ok(Ok(area.sw.top())),
-        Err(fault) => Ok(Err((end_of(fault), area.sw.top()))),
+/// A vector of ints that all are one value: the words of the area, its bounds, the value, and what it comes to.
+pub struct Filled(pub u32, pub i32, pub i32, pub Value, pub Top);
+
+fn is_filled(alloc: Global, row: &Filled) -> Result<bool, Fail> {
+    let mut area = area_with(alloc, row.0.clamp(6, WIDE), b"*int")?;
+    let fill = near(&area.sw, area.ty, row.3)?;
+    let made = repeated(&mut area.sw, area.ty, row.1, row.2, fill);
+    Ok(ends_so(made, area.sw.top(), row.4))
+}
+
+/// Ends the test where one comes to something else.
+pub fn assert_filled(rt: &impl Abort, alloc: Global, rows: &[Filled]) -> Result<(), Fail> {
+    for (place, row) in rows.iter().enumerate() {
+        assert!(rt; is_filled(alloc, row)?, "row {place}");
     }
+    Ok(())
+}
+
+/// A list of sevens: the words of the area, its lower bound, how many they are, and what it comes to.
+pub struct List(pub u32, pub i32, pub u32, pub Top);
+
+fn is_list(alloc: Global, row: &List) -> Result<bool, Fail> {
+    let mut area = area_with(alloc, row.0.clamp(6, WIDE), b"*int")?;
+    let items = sevens(alloc, &area.sw, row.2)?;
+    let made = listed(&mut area.sw, area.ty, row.1, &items);
+    Ok(ends_so(made, area.sw.top(), row.3))
+}
+
+/// Ends the test where one comes to something else.
+pub fn assert_lists(rt: &impl Abort, alloc: Global, rows: &[List]) -> Result<(), Fail> {
+    for (place, row) in rows.iter().enumerate() {
+        assert!(rt; is_list(alloc, row)?, "row {place}");
+    }
+    Ok(())
 }

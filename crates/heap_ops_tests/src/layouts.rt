@@ -3,7 +3,7 @@ ghost use Rattle.std.specs.Prelude.{◌≡◌, true};
 ghost use Rattle.heap_texts.specs.Texts.{HoldsText};
 ghost use Rattle.heap_ops.specs.Layouts.{AreSo};
 
-use crate::world::{found, text};
+use crate::calls::{found, text};
 use heap_ops::layouts::Layouts;
 use std::test::Fail;
 use swizzle::swizzle::Swizzle;

@@ -1,18 +1,18 @@
 //! The first fault of a text, as a line of text.
 
-use crate::reading::read;
 use ps_base::line::Line;
 use ps_tree::fault::ParseFault;
 use row_words::parted;
 use std::alloc::Global;
 use table_rows::Buffer;
+use text_trees::{TextFault, tree_of};
 
 /// Tells the first fault of a text as its number, `@` and its line, and the token that is unexpected where one is; or `none`.
 pub fn put_fault(out: &mut Buffer, text: &[u8]) {
-    match read(out.alloc(), text) {
+    match tree_of(out.alloc(), text) {
         Ok(_) => out.put("none"),
-        Err(Some(fault)) => put_shown(out, fault),
-        Err(None) => out.fail(),
+        Err(TextFault::Parse(fault)) => put_shown(out, fault),
+        Err(TextFault::TooLong | TextFault::Scan(_)) => out.fail(),
     }
 }
 

@@ -4,7 +4,6 @@
 
 mod faults;
 mod forms;
-mod reading;
 mod show;
 
 use crate::faults::{put_fault, put_fault_of_levels, put_faults_at_the_limit};

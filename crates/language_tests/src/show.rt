@@ -1,11 +1,11 @@
 //! The tree of a text as a line of text.
 
-use crate::reading::read;
 use ps_base::line::Line;
 use ps_base::operator::{Operator, Relation};
 use ps_base::ty::Ty;
 use ps_tree::rough::{Group, Named, Rough, RoughArm, RoughForm, RoughItem};
 use table_rows::Buffer;
+use text_trees::{TextFault, tree_of};
 
 /// A word or a sign, with its line.
 fn mark(out: &mut Buffer, mark: &str, line: Line) {
@@ -309,9 +309,9 @@ pub fn put_shown(out: &mut Buffer, clause: &Rough) {
 
 /// Tells the tree of a text, or `?` where it has none.
 pub fn put_tree(out: &mut Buffer, text: &[u8]) {
-    match read(out.alloc(), text) {
+    match tree_of(out.alloc(), text) {
         Ok(clause) => put_shown(out, &clause),
-        Err(Some(_)) => out.put("?"),
-        Err(None) => out.fail(),
+        Err(TextFault::Parse(_)) => out.put("?"),
+        Err(TextFault::TooLong | TextFault::Scan(_)) => out.fail(),
     }
 }

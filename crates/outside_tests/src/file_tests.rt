@@ -22,12 +22,12 @@ impl Read for Zeros {
 }
 
 // What the calls of a system do, the answer to a put of five bytes, and how many of them the output took.
-type Put<'a> = (&'a [Step], Result<(), HostFailed>, usize);
+struct Put<'a>(&'a [Step], Result<(), HostFailed>, usize);
 
-const PUTS: [Put<'static>; 6] = [
-    (&[Step::Moves(5)], Ok(()), 5),
-    (&[Step::Moves(2), Step::Moves(1), Step::Moves(9)], Ok(()), 5),
-    (
+static PUTS: [Put<'static>; 6] = [
+    Put(&[Step::Moves(5)], Ok(()), 5),
+    Put(&[Step::Moves(2), Step::Moves(1), Step::Moves(9)], Ok(()), 5),
+    Put(
         &[
             Step::Interrupted,
             Step::Moves(4),
@@ -37,101 +37,153 @@ const PUTS: [Put<'static>; 6] = [
         Ok(()),
         5,
     ),
-    (
+    Put(
         &[Step::Moves(2), Step::Moves(0), Step::Moves(3)],
         Err(HostFailed),
         2,
     ),
-    (
+    Put(
         &[Step::Moves(2), Step::Fails, Step::Moves(3)],
         Err(HostFailed),
         2,
     ),
-    (&[Step::Fails], Err(HostFailed), 0),
+    Put(&[Step::Fails], Err(HostFailed), 0),
 ];
 
-// Whether a host over such a system puts so.
-fn put_holds(alloc: Global, (steps, answer, taken): &Put<'_>) -> bool {
+// Whether the host over a system answers a put so.
+fn is_put(alloc: Global, system: &Script<'_>, answer: Result<(), HostFailed>) -> bool {
+    match FileHost::new(system, alloc, "v.vol", false) {
+        Ok(mut host) => host.put(b"hello") == answer,
+        Err(_) => false,
+    }
+}
+
+// Whether the host over such a system puts so.
+fn put_holds(alloc: Global, row: &Put<'_>) -> bool {
     let (calls, moved) = (Cell::new(0), Cell::new(0));
     let system = Script {
-        steps,
+        steps: row.0,
         calls: &calls,
         moved: &moved,
     };
-    let put = match FileHost::new(&system, alloc, "v.vol", false) {
-        Ok(mut host) => host.put(b"hello"),
-        Err(_) => return false,
-    };
-    put == *answer && moved.get() == *taken
+    is_put(alloc, &system, row.1) && moved.get() == row.2
+}
+
+// The host of the real system, whose methods are called here alone.
+struct RealHost(FileHost<HostRuntime>);
+
+impl Drop for RealHost {
+    fn drop(self) {
+        let RealHost(_) = self;
+    }
+}
+
+impl RealHost {
+    fn new(rt: &HostRuntime, path: &str, create: bool) -> Result<RealHost, AllocError> {
+        Ok(RealHost(FileHost::new(rt, rt.alloc(), path, create)?))
+    }
+
+    fn size(&mut self) -> Result<u64, HostFailed> {
+        self.0.size()
+    }
+
+    fn read_at(&mut self, at: u64, into: &mut [u8]) -> Result<(), HostFailed> {
+        self.0.read_at(at, into)
+    }
+
+    fn write_at(&mut self, at: u64, from: &[u8]) -> Result<(), HostFailed> {
+        self.0.write_at(at, from)
+    }
+
+    fn sync(&mut self) -> Result<(), HostFailed> {
+        self.0.sync()
+    }
+
+    fn put(&mut self, from: &[u8]) -> Result<(), HostFailed> {
+        self.0.put(from)
+    }
 }
 
 // Whether the host of a real output puts a line.
 fn tells_a_line(rt: &HostRuntime) -> bool {
-    match FileHost::new(rt, rt.alloc(), "v.vol", false) {
-        Ok(mut host) => host.put(b"told\n") == Ok(()),
+    match RealHost::new(rt, "v.vol", false) {
+        Ok(mut host) => host.put(b"told\n").is_ok(),
         Err(_) => false,
     }
 }
 
 #[test]
 fn writes_of_a_file_host(rt: HostRuntime) {
+    assert!(rt; tells_a_line(&rt));
     for (place, row) in PUTS.iter().enumerate() {
         assert!(rt; put_holds(rt.alloc(), row), "row {place}");
     }
-    assert!(rt; tells_a_line(&rt));
+}
+
+fn path_in(alloc: Global, folder: &str, name: &str) -> Result<String, AllocError> {
+    format!(in alloc; "{folder}/{name}")
+}
+
+// The path of the folder of a test.
+fn path_of(rt: &HostRuntime, name: &str) -> Result<String, Fail> {
+    let folder = env::temp_dir(rt)?.into_string();
+    Ok(path_in(rt.alloc(), folder.as_str(), name)?)
+}
+
+fn remove(rt: &HostRuntime, folder: &str) -> io::Result<()> {
+    fs::remove_dir_all(rt, folder)
 }
 
 // A new folder for a test.
 fn folder_of(rt: &HostRuntime, name: &str) -> Result<String, Fail> {
-    let folder = env::temp_dir(rt)?.into_string();
-    let folder = format!(in rt.alloc(); "{folder}/ps_port_{name}")?;
-    let _ = fs::remove_dir_all(rt, folder.as_str());
+    let folder = path_of(rt, name)?;
+    let _ = remove(rt, folder.as_str());
     fs::create_dir(rt, folder.as_str())?;
     Ok(folder)
 }
 
 // A host answers neither its size nor a sync.
-fn answers_nothing(host: &mut FileHost<HostRuntime>) -> bool {
-    host.size() == Err(HostFailed) && host.sync() == Err(HostFailed)
+fn answers_nothing(host: &mut RealHost) -> bool {
+    host.size().is_err() && host.sync().is_err()
 }
 
 // A path has no device: no file is made where it isn't to be, and a folder is none.
 fn has_no_device(rt: &HostRuntime, path: &str, create: bool) -> bool {
-    match FileHost::new(rt, rt.alloc(), path, create) {
+    match RealHost::new(rt, path, create) {
         Ok(mut host) => answers_nothing(&mut host),
         Err(_) => false,
     }
 }
 
-// The device of a new file takes two writes, and gives what they wrote; the last range isn't there whole.
-fn keeps_what_is_written(host: &mut FileHost<HostRuntime>) -> bool {
-    let mut range = [0u8; 8];
+// The device of a new file takes two writes.
+fn takes_writes(host: &mut RealHost) -> bool {
     host.size() == Ok(0)
-        && host.write_at(0, b"volume") == Ok(())
-        && host.write_at(3, b"UME and more") == Ok(())
-        && host.sync() == Ok(())
+        && host.write_at(0, b"volume").is_ok()
+        && host.write_at(3, b"UME and more").is_ok()
+        && host.sync().is_ok()
         && host.size() == Ok(15)
-        && host.read_at(2, &mut range) == Ok(())
-        && range.as_slice() == b"lUME and".as_slice()
-        && host.read_at(8, &mut range) == Err(HostFailed)
 }
 
-fn has_size(host: &mut FileHost<HostRuntime>, wanted: Result<u64, HostFailed>) -> bool {
-    host.size() == wanted
+// It gives what they wrote; the last range isn't there whole.
+fn gives_ranges(host: &mut RealHost) -> bool {
+    let mut range = [0u8; 8];
+    host.read_at(2, &mut range).is_ok()
+        && range.as_slice() == b"lUME and".as_slice()
+        && host.read_at(8, &mut range).is_err()
 }
 
 // The device of a new file keeps what is written, and no other host has it as long as its own does.
-fn is_kept_alone(rt: &HostRuntime, path: &str, other: &mut FileHost<HostRuntime>) -> bool {
-    match FileHost::new(rt, rt.alloc(), path, true) {
-        Ok(mut host) => keeps_what_is_written(&mut host) && has_size(other, Err(HostFailed)),
+fn is_kept_alone(rt: &HostRuntime, path: &str, other: &mut RealHost) -> bool {
+    match RealHost::new(rt, path, true) {
+        Ok(mut host) => takes_writes(&mut host) && gives_ranges(&mut host) && other.size().is_err(),
         Err(_) => false,
     }
 }
 
 // The device of a new file is kept by its host, and another has it then.
 fn has_a_device(rt: &HostRuntime, path: &str) -> bool {
-    match FileHost::new(rt, rt.alloc(), path, false) {
-        Ok(mut other) => { is_kept_alone(rt, path, &mut other) && has_size(&mut other, Ok(15)) }
+    match RealHost::new(rt, path, false) {
+        Ok(mut other) => is_kept_alone(rt, path, &mut other) && other.size() == Ok(15),
         Err(_) => false,
     }
 }
@@ -144,32 +196,33 @@ fn file_is(rt: &HostRuntime, path: &str, wanted: &[u8]) -> bool {
     }
 }
 
-// Whether a folder has a device where one is made, and none before.
-fn device_holds(rt: &HostRuntime, folder: &str) -> Result<bool, AllocError> {
-    let path = format!(in rt.alloc(); "{folder}/v.vol")?;
-    let path = path.as_str();
-    Ok(
-        has_no_device(rt, path, false)
-            && has_a_device(rt, path)
-            && file_is(rt, path, b"volUME and more"),
-    )
+// Whether a path has a device where one is made, and none before.
+fn device_holds(rt: &HostRuntime, path: &str) -> bool {
+    has_no_device(rt, path, false)
+        && has_a_device(rt, path)
+        && file_is(rt, path, b"volUME and more")
+}
+
+// The same of a file in a folder, which is no device itself.
+fn devices_hold(rt: &HostRuntime, folder: &str) -> Result<bool, AllocError> {
+    let path = path_in(rt.alloc(), folder, "v.vol")?;
+    Ok(device_holds(rt, path.as_str()) && has_no_device(rt, folder, true))
 }
 
 #[test]
 fn the_device_of_a_file_host(rt: HostRuntime) -> Result<(), Fail> {
-    let folder = folder_of(&rt, "device")?;
-    assert!(rt; device_holds(&rt, folder.as_str())?);
-    assert!(rt; has_no_device(&rt, folder.as_str(), true));
-    fs::remove_dir_all(&rt, folder.as_str())?;
+    let folder = folder_of(&rt, "ps_port_device")?;
+    assert!(rt; devices_hold(&rt, folder.as_str())?);
+    remove(&rt, folder.as_str())?;
     Ok(())
 }
 
 // What the reads of a file do, and the answer with the length of what was kept.
-type Reading<'a> = (&'a [Step], Result<(), ShelfFault>, usize);
+struct Reading<'a>(&'a [Step], Result<(), ShelfFault>, usize);
 
-const READINGS: [Reading<'static>; 4] = [
-    (&[Step::Moves(0)], Ok(()), 0),
-    (
+static READINGS: [Reading<'static>; 4] = [
+    Reading(&[Step::Moves(0)], Ok(()), 0),
+    Reading(
         &[
             Step::Moves(3),
             Step::Interrupted,
@@ -179,13 +232,12 @@ const READINGS: [Reading<'static>; 4] = [
         Ok(()),
         7,
     ),
-    (&[Step::Moves(3), Step::Fails], Err(ShelfFault::Failed), 3),
-    (&[Step::Fails], Err(ShelfFault::Failed), 0),
+    Reading(&[Step::Moves(3), Step::Fails], Err(ShelfFault::Failed), 3),
+    Reading(&[Step::Fails], Err(ShelfFault::Failed), 0),
 ];
 
-// Whether such a file is read so.
-fn reading_holds(text: &mut Vec<u8>, (steps, answer, length): &Reading<'_>) -> bool {
-    let mut buffer = [0u8; 16];
+// The answer for such a file.
+fn read_pieces(steps: &[Step], text: &mut Vec<u8>) -> Result<(), ShelfFault> {
     let (calls, moved) = (Cell::new(0), Cell::new(0));
     let mut file = Script {
         steps,
@@ -193,13 +245,13 @@ fn reading_holds(text: &mut Vec<u8>, (steps, answer, length): &Reading<'_>) -> b
         moved: &moved,
     };
     text.clear();
-    read_text(&mut file, &mut buffer, text) == *answer && text.len() == *length
+    read_text(&mut file, &mut [0u8; 16], text)
 }
 
 // Whether each file is read so.
 fn readings_hold(text: &mut Vec<u8>) -> bool {
     for row in &READINGS {
-        if !reading_holds(text, row) {
+        if read_pieces(row.0, text) != row.1 || text.len() != row.2 {
             return false;
         }
     }
@@ -214,7 +266,7 @@ fn reads_in_pieces(rt: HostRuntime) -> Result<(), Fail> {
 }
 
 // The length of a file, and the answer to its reading.
-const LONGEST: [(u64, Result<(), ShelfFault>); 4] = [
+static LONGEST: [(u64, Result<(), ShelfFault>); 4] = [
     (1_048_576, Ok(())),
     (1_048_577, Err(ShelfFault::TooLong { length: 1_048_577 })),
     (
@@ -250,36 +302,60 @@ fn reads_of_the_longest_files(rt: HostRuntime) -> Result<(), Fail> {
     Ok(())
 }
 
-// The answer for a file of so many bytes, and the length of the text that it gave.
-fn read_back(
-    rt: &HostRuntime,
-    shelf: &mut DirShelf<HostRuntime>,
-    path: &str,
-    length: usize,
-) -> Result<(Result<(), ShelfFault>, usize), Fail> {
-    let bytes = vec![in rt.alloc(); b'x'; length]?;
-    fs::write(rt, path, bytes.as_slice())?;
-    let mut text = b"before".to_vec(rt.alloc())?;
-    let answer = shelf.text(path, &mut text);
-    Ok((answer, text.len()))
-}
-
 // The length of a file, and the answer with the length of the text.
-const FILES: [(usize, Result<(), ShelfFault>, usize); 4] = [
-    (0, Ok(()), 0),
-    (100_000, Ok(()), 100_000),
-    (1_048_576, Ok(()), 1_048_576),
-    (1_048_577, Err(ShelfFault::TooLong { length: 1_048_577 }), 0),
+struct Text(usize, Result<(), ShelfFault>, usize);
+
+static TEXTS: [Text; 4] = [
+    Text(0, Ok(()), 0),
+    Text(100_000, Ok(()), 100_000),
+    Text(1_048_576, Ok(()), 1_048_576),
+    Text(1_048_577, Err(ShelfFault::TooLong { length: 1_048_577 }), 0),
 ];
 
-// Whether each file is read back so.
-fn files_hold(
-    rt: &HostRuntime,
-    shelf: &mut DirShelf<HostRuntime>,
-    path: &str,
-) -> Result<bool, Fail> {
-    for (length, answer, kept) in &FILES {
-        if read_back(rt, shelf, path, *length)? != (*answer, *kept) {
+// Makes a file of so many bytes.
+fn write_file(rt: &HostRuntime, path: &str, length: usize) -> io::Result<()> {
+    let bytes = vec![in rt.alloc(); b'x'; length]?;
+    fs::write(rt, path, bytes.as_slice())
+}
+
+// The shelf of the real system, whose methods are called here alone.
+struct RealShelf(DirShelf<HostRuntime>);
+
+impl Drop for RealShelf {
+    fn drop(self) {
+        let RealShelf(_) = self;
+    }
+}
+
+impl RealShelf {
+    fn new(rt: &HostRuntime) -> Result<RealShelf, AllocError> {
+        Ok(RealShelf(DirShelf::new(rt, rt.alloc())?))
+    }
+
+    fn text(&mut self, name: &str, into: &mut Vec<u8>) -> Result<(), ShelfFault> {
+        self.0.text(name, into)
+    }
+}
+
+// Whether a shelf answers so, and gives a text of so many bytes.
+fn is_given(
+    alloc: Global,
+    shelf: &mut RealShelf,
+    name: &str,
+    answer: Result<(), ShelfFault>,
+    length: usize,
+) -> bool {
+    match b"before".to_vec(alloc) {
+        Ok(mut text) => shelf.text(name, &mut text) == answer && text.len() == length,
+        Err(_) => false,
+    }
+}
+
+// Whether each file is given so.
+fn files_hold(rt: &HostRuntime, shelf: &mut RealShelf, path: &str) -> io::Result<bool> {
+    for row in &TEXTS {
+        write_file(rt, path, row.0)?;
+        if !is_given(rt.alloc(), shelf, path, row.1, row.2) {
             return Ok(false);
         }
     }
@@ -287,31 +363,34 @@ fn files_hold(
 }
 
 // Whether a shelf has no text of this name, and leaves none.
-fn has_no_text(alloc: Global, shelf: &mut DirShelf<HostRuntime>, name: &str) -> bool {
-    match b"before".to_vec(alloc) {
-        Ok(mut text) => {
-            shelf.text(name, &mut text) == Err(ShelfFault::Failed) && text.len() == 0
-        }
-        Err(_) => false,
-    }
+fn has_no_text(alloc: Global, shelf: &mut RealShelf, name: &str) -> bool {
+    is_given(alloc, shelf, name, Err(ShelfFault::Failed), 0)
 }
 
 // Whether a shelf has no text for a folder nor for a file that isn't there, and has each that is.
+fn texts_hold(
+    rt: &HostRuntime,
+    shelf: &mut RealShelf,
+    folder: &str,
+    path: &str,
+) -> io::Result<bool> {
+    if !has_no_text(rt.alloc(), shelf, folder) || !has_no_text(rt.alloc(), shelf, path) {
+        return Ok(false);
+    }
+    files_hold(rt, shelf, path)
+}
+
+// The same of a new shelf.
 fn shelf_holds(rt: &HostRuntime, folder: &str) -> Result<bool, Fail> {
-    let path = format!(in rt.alloc(); "{folder}/a.ps")?;
-    let path = path.as_str();
-    let mut shelf = DirShelf::new(rt, rt.alloc())?;
-    Ok(
-        has_no_text(rt.alloc(), &mut shelf, folder)
-            && has_no_text(rt.alloc(), &mut shelf, path)
-            && files_hold(rt, &mut shelf, path)?,
-    )
+    let path = path_in(rt.alloc(), folder, "a.ps")?;
+    let mut shelf = RealShelf::new(rt)?;
+    Ok(texts_hold(rt, &mut shelf, folder, path.as_str())?)
 }
 
 #[test]
 fn files_of_a_dir_shelf(rt: HostRuntime) -> Result<(), Fail> {
-    let folder = folder_of(&rt, "files_of_a_dir_shelf")?;
+    let folder = folder_of(&rt, "ps_port_files_of_a_dir_shelf")?;
     assert!(rt; shelf_holds(&rt, folder.as_str())?);
-    fs::remove_dir_all(&rt, folder.as_str())?;
+    remove(&rt, folder.as_str())?;
     Ok(())
 }

@@ -2,68 +2,13 @@
 
 use memory_host::MemoryHost;
 use ps_port::{Host, HostFailed, MemoryShelf, Shelf, ShelfFault};
-use std::alloc::Global;
+use std::alloc::{AllocError, Global};
 use std::test::Fail;
 
-// What is put, the answer, and all the bytes told then.
-type Put<'a> = (&'a [u8], Result<(), HostFailed>, &'a [u8]);
-
-// Whether the puts are answered so, and are all the calls of the host.
-fn puts_hold(host: &mut MemoryHost, rows: &[Put<'_>]) -> bool {
-    for (from, answer, told) in rows {
-        if host.put(from) != *answer || host.told_bytes() != *told {
-            return false;
-        }
-    }
-    host.clock() == rows.len() as u64
-}
-
-#[test]
-fn calls_of_a_memory_host(rt: HostRuntime) -> Result<(), Fail> {
-    let rows: [Put<'_>; 5] = [
-        (b"first ", Ok(()), b"first "),
-        (b"hello", Err(HostFailed), b"first he"),
-        (b"", Ok(()), b"first he"),
-        (b"r", Ok(()), b"first her"),
-        (b"x", Err(HostFailed), b"first her"),
-    ];
-    // Call 1 is listed, and 4 is the first of those that fail from a number on.
-    let mut host = MemoryHost::new(rt.alloc(), b"disk", &[1, 9], 4, 4096)?;
-    assert!(rt; puts_hold(&mut host, &rows));
-    assert_eq!(rt; host.contents(), b"disk".as_slice());
-    Ok(())
-}
-
-#[test]
-fn the_room_of_a_memory_host(rt: HostRuntime) -> Result<(), Fail> {
-    let rows: [Put<'_>; 4] = [
-        (b"hello", Ok(()), b"hello"),
-        (b"ab", Err(HostFailed), b"hello"),
-        (b"c", Ok(()), b"helloc"),
-        (b"", Err(HostFailed), b"helloc"),
-    ];
-    // A call of 5 bytes and one of 1 byte fill the room; one of 2 bytes between them has none.
-    let mut host = MemoryHost::new(rt.alloc(), b"", &[], 100, 69 + 65)?;
-    assert!(rt; puts_hold(&mut host, &rows));
-    assert!(rt; MemoryHost::new(rt.alloc(), b"", &[], 100, u64::MAX).is_err());
-    Ok(())
-}
-
-#[test]
-fn calls_of_no_bytes_take_room(rt: HostRuntime) -> Result<(), Fail> {
-    let rows: [Put<'_>; 3] = [
-        (b"", Ok(()), b""),
-        (b"", Ok(()), b""),
-        (b"", Err(HostFailed), b""),
-    ];
-    let mut host = MemoryHost::new(rt.alloc(), b"", &[], 100, 128)?;
-    assert!(rt; puts_hold(&mut host, &rows));
-    Ok(())
-}
-
-// One call of the device.
+// One call of a host.
 #[derive(Clone, Copy)]
 enum Call<'a> {
+    Put(&'a [u8]),
     Write(u64, &'a [u8]),
     Sync,
     Size,
@@ -71,6 +16,7 @@ enum Call<'a> {
 
 fn make(host: &mut MemoryHost, call: Call<'_>) -> Result<(), HostFailed> {
     match call {
+        Call::Put(from) => host.put(from),
         Call::Write(at, from) => {
             if at > host.contents().len() as u64 {
                 return Err(HostFailed);
@@ -85,41 +31,42 @@ fn make(host: &mut MemoryHost, call: Call<'_>) -> Result<(), HostFailed> {
     }
 }
 
-fn read(host: &mut MemoryHost, at: u64, into: &mut [u8]) -> Result<(), HostFailed> {
-    if host.contents().len() < 8 || at > 5 || into.len() != 3 {
-        return Err(HostFailed);
+// What a call changes: all the bytes told, or the contents.
+fn seen<'a>(host: &'a MemoryHost, call: Call<'_>) -> &'a [u8] {
+    match call {
+        Call::Put(_) => host.told_bytes(),
+        _ => host.contents(),
     }
-    host.read_at(at, into)
 }
 
-// A call, its answer, what a read gives after it, and what a crash then leaves with `#` where nothing was synced.
-type DiskRow<'a> = (Call<'a>, Result<(), HostFailed>, &'a [u8], &'a [u8]);
+// A call, its answer, what is seen after it, and what a crash then leaves, with the filler where nothing was synced.
+struct Row<'a>(Call<'a>, Result<(), HostFailed>, &'a [u8], &'a [u8]);
 
-const DISK: [DiskRow<'static>; 9] = [
-    (Call::Size, Ok(()), b"abcdef", b"abcdef"),
-    (Call::Write(2, b"XY"), Ok(()), b"abXYef", b"ab##ef"),
-    (Call::Write(5, b"UV"), Ok(()), b"abXYeUV", b"ab##e##"),
-    (
-        Call::Write(0, b"!"),
-        Err(HostFailed),
-        b"abXYeUV",
-        b"#b##e##",
-    ),
-    (Call::Sync, Ok(()), b"abXYeUV", b"abXYeUV"),
-    (Call::Write(7, b"W"), Ok(()), b"abXYeUVW", b"abXYeUV#"),
-    (Call::Sync, Err(HostFailed), b"abXYeUVW", b"abXYeUV#"),
-    (Call::Write(8, b""), Ok(()), b"abXYeUVW", b"abXYeUV#"),
-    (Call::Sync, Ok(()), b"abXYeUVW", b"abXYeUVW"),
-];
+// All the calls of a host, and with what it begins.
+struct Calls<'a> {
+    contents: &'a [u8],
+    // The calls that fail, and the first of those that fail from a number on.
+    failing: &'a [u64],
+    until: u64,
+    room: u64,
+    filler: u8,
+    rows: &'a [Row<'a>],
+    // How many of them were to write.
+    writes: u64,
+}
 
-// Whether the calls of the disk are answered so, with what a read then gives.
-fn calls_hold(host: &mut MemoryHost, rows: &[DiskRow<'_>]) -> bool {
-    for (call, answer, contents, _) in rows {
-        if make(host, *call) != *answer || host.contents() != *contents {
+fn row_holds(host: &mut MemoryHost, row: &Row<'_>) -> bool {
+    make(host, row.0) == row.1 && seen(host, row.0) == row.2
+}
+
+// Whether the calls are answered so, with what is seen then, and are all that the host counts.
+fn rows_hold(host: &mut MemoryHost, rows: &[Row<'_>]) -> bool {
+    for row in rows {
+        if !row_holds(host, row) {
             return false;
         }
     }
-    true
+    host.clock() == rows.len() as u64
 }
 
 // Whether a crash at this moment leaves these bytes.
@@ -131,108 +78,237 @@ fn leaves(alloc: Global, host: &MemoryHost, moment: u64, filler: u8, wanted: &[u
 }
 
 // Whether a crash leaves so much at each moment.
-fn crashes_hold(alloc: Global, host: &MemoryHost, rows: &[DiskRow<'_>]) -> bool {
+fn crashes_hold(alloc: Global, host: &MemoryHost, calls: &Calls<'_>) -> bool {
     let mut moment = 0u64;
-    for (_, _, _, left) in rows {
+    for row in calls.rows {
         moment = moment.saturating_add(1);
-        if !leaves(alloc, host, moment, b'#', left) {
+        if !leaves(alloc, host, moment, calls.filler, row.3) {
             return false;
         }
     }
-    leaves(alloc, host, 0, b'#', b"abcdef")
+    leaves(alloc, host, 0, calls.filler, calls.contents)
 }
 
-// Whether the calls of the table are answered, and leave what it says.
-fn disk_holds(alloc: Global, host: &mut MemoryHost) -> bool {
-    let rows = &DISK;
-    calls_hold(host, rows) && crashes_hold(alloc, host, rows)
+fn host_of(alloc: Global, calls: &Calls<'_>) -> Result<MemoryHost, AllocError> {
+    MemoryHost::new(
+        alloc,
+        calls.contents,
+        calls.failing,
+        calls.until,
+        calls.room,
+    )
 }
 
-// Whether the host counts its writes and its calls, and gives the last range.
-fn ends_so(host: &mut MemoryHost) -> bool {
+// Whether all holds for a host with which they begin.
+fn calls_hold(alloc: Global, host: &mut MemoryHost, calls: &Calls<'_>) -> bool {
+    rows_hold(host, calls.rows) && host.writes() == calls.writes && crashes_hold(alloc, host, calls)
+}
+
+// The same of a new host.
+fn are_made(alloc: Global, calls: &Calls<'_>) -> bool {
+    match host_of(alloc, calls) {
+        Ok(mut host) => calls_hold(alloc, &mut host, calls),
+        Err(_) => false,
+    }
+}
+
+static PUTS: Calls<'static> = Calls {
+    contents: b"disk",
+    failing: &[1, 9],
+    until: 4,
+    room: 4096,
+    filler: b'#',
+    rows: &[
+        Row(Call::Put(b"first "), Ok(()), b"first ", b"disk"),
+        Row(Call::Put(b"hello"), Err(HostFailed), b"first he", b"disk"),
+        Row(Call::Put(b""), Ok(()), b"first he", b"disk"),
+        Row(Call::Put(b"r"), Ok(()), b"first her", b"disk"),
+        Row(Call::Put(b"x"), Err(HostFailed), b"first her", b"disk"),
+    ],
+    writes: 0,
+};
+
+#[test]
+fn calls_of_a_memory_host(rt: HostRuntime) {
+    assert!(rt; are_made(rt.alloc(), &PUTS));
+}
+
+// A call of 5 bytes and one of 1 byte fill the room; one of 2 bytes between them has none.
+static ROOM: Calls<'static> = Calls {
+    contents: b"",
+    failing: &[],
+    until: 100,
+    room: 69 + 65,
+    filler: b'#',
+    rows: &[
+        Row(Call::Put(b"hello"), Ok(()), b"hello", b""),
+        Row(Call::Put(b"ab"), Err(HostFailed), b"hello", b""),
+        Row(Call::Put(b"c"), Ok(()), b"helloc", b""),
+        Row(Call::Put(b""), Err(HostFailed), b"helloc", b""),
+    ],
+    writes: 0,
+};
+
+// Whether no host is made whose room is more than there is.
+fn is_none_made(alloc: Global) -> bool {
+    MemoryHost::new(alloc, b"", &[], 100, u64::MAX).is_err()
+}
+
+#[test]
+fn the_room_of_a_memory_host(rt: HostRuntime) {
+    assert!(rt; are_made(rt.alloc(), &ROOM) && is_none_made(rt.alloc()));
+}
+
+static NO_BYTES: Calls<'static> = Calls {
+    contents: b"",
+    failing: &[],
+    until: 100,
+    room: 128,
+    filler: b'#',
+    rows: &[
+        Row(Call::Put(b""), Ok(()), b"", b""),
+        Row(Call::Put(b""), Ok(()), b"", b""),
+        Row(Call::Put(b""), Err(HostFailed), b"", b""),
+    ],
+    writes: 0,
+};
+
+#[test]
+fn calls_of_no_bytes_take_room(rt: HostRuntime) {
+    assert!(rt; are_made(rt.alloc(), &NO_BYTES));
+}
+
+// Calls 3 and 6 fail: a write and a sync.
+static DISK: Calls<'static> = Calls {
+    contents: b"abcdef",
+    failing: &[3, 6],
+    until: 100,
+    room: 4096,
+    filler: b'#',
+    rows: &[
+        Row(Call::Size, Ok(()), b"abcdef", b"abcdef"),
+        Row(Call::Write(2, b"XY"), Ok(()), b"abXYef", b"ab##ef"),
+        Row(Call::Write(5, b"UV"), Ok(()), b"abXYeUV", b"ab##e##"),
+        Row(
+            Call::Write(0, b"!"),
+            Err(HostFailed),
+            b"abXYeUV",
+            b"#b##e##",
+        ),
+        Row(Call::Sync, Ok(()), b"abXYeUV", b"abXYeUV"),
+        Row(Call::Write(7, b"W"), Ok(()), b"abXYeUVW", b"abXYeUV#"),
+        Row(Call::Sync, Err(HostFailed), b"abXYeUVW", b"abXYeUV#"),
+        Row(Call::Write(8, b""), Ok(()), b"abXYeUVW", b"abXYeUV#"),
+        Row(Call::Sync, Ok(()), b"abXYeUVW", b"abXYeUVW"),
+    ],
+    writes: 5,
+};
+
+// Whether the host gives its last three bytes.
+fn gives_the_end(host: &mut MemoryHost) -> bool {
     let mut range = [0u8; 3];
-    host.writes() == 5
-        && host.clock() == 9
-        && read(host, 5, &mut range) == Ok(())
+    host.contents().len() == 8
+        && host.read_at(5, &mut range).is_ok()
         && range.as_slice() == b"UVW".as_slice()
-        && host.size() == Ok(8)
+}
+
+// Whether the calls of the disk hold, and its end and its size are given then.
+fn disk_holds(alloc: Global) -> bool {
+    match host_of(alloc, &DISK) {
+        Ok(mut host) => {
+            calls_hold(alloc, &mut host, &DISK) && gives_the_end(&mut host) && host.size() == Ok(8)
+        }
+        Err(_) => false,
+    }
 }
 
 #[test]
-fn the_disk_of_a_memory_host(rt: HostRuntime) -> Result<(), Fail> {
-    // Calls 3 and 6 fail: a write and a sync.
-    let mut host = MemoryHost::new(rt.alloc(), b"abcdef", &[3, 6], 100, 4096)?;
-    assert!(rt; disk_holds(rt.alloc(), &mut host) && ends_so(&mut host));
-    Ok(())
+fn the_disk_of_a_memory_host(rt: HostRuntime) {
+    assert!(rt; disk_holds(rt.alloc()));
 }
 
-// Whether the first write is kept, and the second and what it takes no room for are refused.
-fn room_holds(alloc: Global, host: &mut MemoryHost) -> bool {
-    make(host, Call::Write(1, b"1234")) == Ok(())
-        && make(host, Call::Write(0, b"ABCDE")) == Err(HostFailed)
-        && host.contents() == b"a1234f".as_slice()
-        && leaves(alloc, host, 2, 0, b"a\0\0\0\0f")
-        && host.writes() == 1
-        && host.put(b"told") == Ok(())
-        && host.told_bytes() == b"told".as_slice()
-}
+// There is room for one write of 4 bytes and for what is put, and for no write of 5 between them.
+static WRITES: Calls<'static> = Calls {
+    contents: b"abcdef",
+    failing: &[],
+    until: 100,
+    room: 68 + 68,
+    filler: 0,
+    rows: &[
+        Row(Call::Write(1, b"1234"), Ok(()), b"a1234f", b"a\0\0\0\0f"),
+        Row(
+            Call::Write(0, b"ABCDE"),
+            Err(HostFailed),
+            b"a1234f",
+            b"a\0\0\0\0f",
+        ),
+        Row(Call::Put(b"told"), Ok(()), b"told", b"a\0\0\0\0f"),
+    ],
+    writes: 1,
+};
 
 #[test]
-fn writes_past_the_room(rt: HostRuntime) -> Result<(), Fail> {
-    // There is room for one call of 4 bytes, and for none of 5 behind it.
-    let mut host = MemoryHost::new(rt.alloc(), b"abcdef", &[], 100, 68 + 68)?;
-    assert!(rt; room_holds(rt.alloc(), &mut host));
-    Ok(())
+fn writes_past_the_room(rt: HostRuntime) {
+    assert!(rt; are_made(rt.alloc(), &WRITES));
 }
 
-// A shelf with these texts, the later of the same name in place of the earlier.
-fn shelf_of(alloc: Global, texts: &[(&str, &[u8])]) -> Result<MemoryShelf, Fail> {
-    let mut shelf = MemoryShelf::new(alloc);
-    for (name, bytes) in texts {
+// Texts under their names, the later in place of the earlier.
+static TEXTS: [(&str, &[u8]); 3] = [("a.ps", b"write 1"), ("", b"no name"), ("a.ps", b"write 2")];
+
+// Puts them into a shelf, and two long ones.
+fn fill(shelf: &mut MemoryShelf, longest: &[u8], longer: &[u8]) -> Result<(), AllocError> {
+    shelf.add("long", longest)?;
+    shelf.add("longer", longer)?;
+    for (name, bytes) in &TEXTS {
         shelf.add(name, bytes)?;
     }
-    Ok(shelf)
+    Ok(())
 }
 
 // The name of a text, the answer of the shelf, and the text.
 type TextRow<'a> = (&'a str, Result<(), ShelfFault>, &'a [u8]);
 
-// Whether the texts are answered so.
-fn texts_hold(shelf: &mut MemoryShelf, text: &mut Vec<u8>, rows: &[TextRow<'_>]) -> bool {
-    for (name, answer, bytes) in rows {
-        if shelf.text(name, text) != *answer || text.as_slice() != *bytes {
+static GIVEN: [TextRow<'static>; 4] = [
+    ("a.ps", Ok(()), b"write 2"),
+    ("b.ps", Err(ShelfFault::Failed), b""),
+    ("", Ok(()), b"no name"),
+    (
+        "longer",
+        Err(ShelfFault::TooLong { length: 1_048_577 }),
+        b"",
+    ),
+];
+
+fn is_given(shelf: &mut MemoryShelf, text: &mut Vec<u8>, row: &TextRow<'_>) -> bool {
+    shelf.text(row.0, text) == row.1 && text.as_slice() == row.2
+}
+
+// Whether the texts are answered so, and then the longest.
+fn texts_hold(shelf: &mut MemoryShelf, text: &mut Vec<u8>, longest: &[u8]) -> bool {
+    for row in &GIVEN {
+        if !is_given(shelf, text, row) {
             return false;
         }
     }
-    true
+    is_given(shelf, text, &("long", Ok(()), longest))
 }
 
 // Whether a shelf with these two long texts answers so.
-fn long_texts_hold<'a>(alloc: Global, longest: &'a [u8], longer: &'a [u8]) -> Result<bool, Fail> {
-    let texts: [(&str, &[u8]); 5] = [
-        ("a.ps", b"write 1"),
-        ("", b"no name"),
-        ("long", longest),
-        ("longer", longer),
-        ("a.ps", b"write 2"),
-    ];
-    let too_long = Err(ShelfFault::TooLong { length: 1_048_577 });
-    let rows: [TextRow<'_>; 5] = [
-        ("a.ps", Ok(()), b"write 2"),
-        ("b.ps", Err(ShelfFault::Failed), b""),
-        ("", Ok(()), b"no name"),
-        ("longer", too_long, b""),
-        ("long", Ok(()), longest),
-    ];
-    let mut shelf = shelf_of(alloc, &texts)?;
+fn shelf_holds(alloc: Global, longest: &[u8], longer: &[u8]) -> Result<bool, AllocError> {
+    let mut shelf = MemoryShelf::new(alloc);
+    fill(&mut shelf, longest, longer)?;
     let mut text = b"before".to_vec(alloc)?;
-    Ok(texts_hold(&mut shelf, &mut text, &rows))
+    Ok(texts_hold(&mut shelf, &mut text, longest))
+}
+
+// The same of the longest text that a shelf gives, and one that is longer by a byte.
+fn long_texts_hold(alloc: Global) -> Result<bool, AllocError> {
+    let longer = vec![in alloc; b'x'; 1_048_577]?;
+    shelf_holds(alloc, &longer[1..], &longer)
 }
 
 #[test]
 fn texts_of_a_memory_shelf(rt: HostRuntime) -> Result<(), Fail> {
-    let longest = vec![in rt.alloc(); b'x'; 1_048_576]?;
-    let longer = vec![in rt.alloc(); b'x'; 1_048_577]?;
-    assert!(rt; long_texts_hold(rt.alloc(), &longest, &longer)?);
+    assert!(rt; long_texts_hold(rt.alloc())?);
     Ok(())
 }

@@ -3,7 +3,6 @@
 #![tactic(auto)]
 
 mod printing;
-mod reading;
 
 use crate::printing::{printed_again, printed_length};
 use anyhow::Result;

@@ -1,14 +1,18 @@
 //! What a program is printed as.
 
-use crate::reading::read;
-use anyhow::Result;
+use anyhow::{Result, bail};
 use ps_print::print::print;
 use std::alloc::Global;
 use std::fmt::Write;
+use text_trees::{TextFault, tree_of};
 
 fn printed(alloc: Global, text: &[u8]) -> Result<Vec<u8>> {
-    let tree = read(alloc, text)?;
-    Ok(print(alloc, &tree)?)
+    match tree_of(alloc, text) {
+        Ok(tree) => Ok(print(alloc, &tree)?),
+        Err(TextFault::TooLong) => bail!("a text that is too long"),
+        Err(TextFault::Scan(_)) => bail!("a fault of the scanner"),
+        Err(TextFault::Parse(_)) => bail!("a fault of the parser"),
+    }
 }
 
 /// What a program is printed as; where that is what is wanted, what it is printed as when it is read back.

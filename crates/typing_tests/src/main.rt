@@ -3,11 +3,13 @@
 #![tactic(auto)]
 
 mod checking;
+mod form;
 mod literals;
 mod patterns;
 mod show;
 
-use crate::checking::{put_answer, put_fault};
+use crate::checking::{Telling, put_answer};
+use crate::literals::{put_literal_trees, text_of_literals};
 use crate::patterns::text_of;
 use anyhow::Result;
 use table_rows::{Buffer, Row, Tables};
@@ -21,9 +23,11 @@ enum Kind {
     Faults,
     /// Patterns of texts at the limits and far past what has none, each with its fault.
     Patterns,
+    /// Numbers of literals inside one another.
+    Literals,
 }
 
-const TABLES: [(&str, Kind); 21] = [
+const TABLES: [(&str, Kind); 22] = [
     ("clause_trees.rows", Kind::Trees),
     ("operator_trees.rows", Kind::Trees),
     ("application_trees.rows", Kind::Trees),
@@ -45,46 +49,68 @@ const TABLES: [(&str, Kind); 21] = [
     ("limits.rows", Kind::Patterns),
     ("chains.rows", Kind::Patterns),
     ("two_bodies.rows", Kind::Patterns),
+    ("literals.rows", Kind::Literals),
 ];
+
+// What is told of a row that wants nothing that can be told.
+const NOTHING: &[u8] = b"nothing can be wanted";
 
 fn main(rt: HostRuntime) -> Result<()> {
     let mut tables = Tables::new(&rt)?;
     for (file, kind) in &TABLES {
         compare_rows(&mut tables, file, *kind)?;
     }
-    literals::compare(&mut tables)?;
     tables.tell(&rt)
 }
 
 fn compare_rows(tables: &mut Tables, file: &str, kind: Kind) -> Result<()> {
-    for row in &tables.rows(file)? {
-        let mut found = Buffer::new(tables.alloc);
-        put_found(&mut found, row, kind);
-        tables.compare_told(file, row, &found, wanted_of(row, kind))?;
+    let rows = tables.rows(file)?;
+    compare_all(tables, file, &rows, kind)
+}
+
+fn compare_all(tables: &mut Tables, file: &str, rows: &[Row], kind: Kind) -> Result<()> {
+    for row in rows {
+        compare_row(tables, file, row, kind)?;
     }
     Ok(())
 }
 
-// What is found of a row.
-fn put_found(found: &mut Buffer, row: &Row, kind: Kind) {
+fn compare_row(tables: &mut Tables, file: &str, row: &Row, kind: Kind) -> Result<()> {
+    let mut found = Buffer::new(tables.alloc);
+    put_found(&mut found, row, kind);
+    let mut wanted = Buffer::new(tables.alloc);
+    put_wanted(&mut wanted, row, kind);
+    tables.compare_told(file, row, &found, wanted.told().unwrap_or(NOTHING))
+}
+
+// Tells what is found of a row.
+fn put_found(out: &mut Buffer, row: &Row, kind: Kind) {
     match kind {
-        Kind::Trees | Kind::Faults => put_answer(found, row.field(0)),
-        Kind::Patterns => put_pattern(found, row),
+        Kind::Trees | Kind::Faults => put_answer(out, row.field(0), Telling::Tree),
+        Kind::Patterns => put_answer_on(out, &text_of(out.alloc(), row), Telling::Fits),
+        Kind::Literals => {
+            put_answer_on(
+                out,
+                &text_of_literals(out.alloc(), row.number(0)),
+                Telling::Tree,
+            );
+        }
     }
 }
 
-fn put_pattern(found: &mut Buffer, row: &Row) {
-    let text = text_of(found.alloc(), row);
+// Tells what the check answers on a text that was made.
+fn put_answer_on(out: &mut Buffer, text: &Buffer, telling: Telling) {
     match text.told() {
-        Some(text) => put_fault(found, text),
-        None => found.fail(),
+        Some(text) => put_answer(out, text, telling),
+        None => out.fail(),
     }
 }
 
-// What a row wants to be found.
-fn wanted_of(row: &Row, kind: Kind) -> &[u8] {
+// Tells what a row wants to be found.
+fn put_wanted(out: &mut Buffer, row: &Row, kind: Kind) {
     match kind {
-        Kind::Trees | Kind::Patterns => row.field(1),
-        Kind::Faults => row.head.as_slice(),
+        Kind::Trees | Kind::Patterns => out.bytes(row.field(1)),
+        Kind::Faults => out.bytes(row.head.as_slice()),
+        Kind::Literals => put_literal_trees(out, row.number(0)),
     }
 }

@@ -1,18 +1,26 @@
 //! Texts that repeat their pieces.
 
+use row_words::parted;
 use std::alloc::Global;
 use table_rows::{Buffer, Row};
+
+/// The most pieces of a pattern.
+const MOST_PIECES: usize = 8;
 
 /// The text of a pattern: what stands between the first `$` and the second stands there so many times as the first word of the row's head
 /// says, what stands between the next two as the second word says, and so on. In place of a `#` each piece has its own number, from 1 on.
 pub fn text_of(alloc: Global, row: &Row) -> Buffer {
     let mut out = Buffer::new(alloc);
-    for (place, part) in row.field(0).split(|byte| *byte == b'$').enumerate() {
-        if place % 2 == 0 {
-            out.bytes(part);
-        } else {
-            put_pieces(&mut out, part, row.number(place / 2));
-        }
+    let mut rest = row.field(0);
+    for place in 0..MOST_PIECES {
+        let (plain, behind) = parted(rest, b'$');
+        let (piece, behind) = parted(behind, b'$');
+        out.bytes(plain);
+        put_pieces(&mut out, piece, row.number(place));
+        rest = behind;
+    }
+    if !rest.is_empty() {
+        out.fail();
     }
     out
 }
@@ -25,10 +33,10 @@ pub fn put_pieces(out: &mut Buffer, piece: &[u8], count: usize) {
 }
 
 fn put_piece(out: &mut Buffer, piece: &[u8], number: u64) {
-    for (place, part) in piece.split(|byte| *byte == b'#').enumerate() {
-        if place > 0 {
-            out.number(number);
+    for byte in piece {
+        match *byte {
+            b'#' => out.number(number),
+            byte => out.bytes(&[byte]),
         }
-        out.bytes(part);
     }
 }

@@ -1,5 +1,5 @@
 use Rattle.heap_places.proofs.FillingLaws.{fills-held}
-use Rattle.heap_ops_tests.proofs.world.structure.Goals as goal
+use Rattle.heap_ops_tests.proofs.calls.structure.Goals as goal
 
 pub returns-clause-there : goal.returns-clause-there
 returns-clause-there c = fills-held _ _ _ _ _ _ _ c.make_structure.ensures.filled

@@ -1,6 +1,6 @@
 use Rattle.heap_places.proofs.FillingLaws.{roomy-held}
 use Rattle.heap_ops_tests.proofs.Staying.{text_stands}
-use Rattle.heap_ops_tests.proofs.world.World.bend.Goals as goal
+use Rattle.heap_ops_tests.proofs.calls.bend.Goals as goal
 
 pub returns-in-Ok : goal.returns-in-Ok
 returns-in-Ok c = record {

@@ -1,5 +1,5 @@
 use Rattle.heap_ops_tests.proofs.Staying.{text_stands}
-use Rattle.heap_ops_tests.proofs.world.World.made.Goals as goal
+use Rattle.heap_ops_tests.proofs.calls.made.Goals as goal
 
 pub returns-clause-own : goal.returns-clause-own
 returns-clause-own c =

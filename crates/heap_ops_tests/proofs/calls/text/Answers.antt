@@ -1,6 +1,6 @@
 use Rattle.heap_texts.proofs.TextObjects.{there-made}
 use Rattle.heap_ops_tests.proofs.Staying.{made_stand}
-use Rattle.heap_ops_tests.proofs.world.text.Goals as goal
+use Rattle.heap_ops_tests.proofs.calls.text.Goals as goal
 
 pub returns-clause-there : goal.returns-clause-there
 returns-clause-there c = there-made _ _ _ _ c.make_text.ensures
