@@ -1,21 +1,22 @@
 -- Applications to arguments and to subscripts.
 use Rattle.std.proofs.Common.{◌≡◌, ◌+◌, ℕ, Bool, true, false, nat_eq, suc, List, [], ◌∷◌, length, get_or, arith, refl, sym, ap, ◌∙◌}
 use Rattle.std.proofs.lemmas.Bool.Decides.{nat_tests}
-use Rattle.std.specs.Prelude.{if◌then◌else◌, Option, Some, None}
+use Rattle.std.specs.Bool.{◌==◌}
+use Rattle.std.specs.Prelude.{if◌then◌else◌}
 use Rattle.ps_base.specs.TyView.{TyView, TyViews, Void, ty_view, ty_views}
 use Rattle.ps_base.specs.TyView as types
 use Rattle.ps_base.specs.declared.line.Line.{Line}
 use Rattle.ps_base.specs.declared.ty.Ty.{Ty}
-use Rattle.ps_tree.specs.Phrase.{NameAt, Phrase, Phrases, phrase_of}
+use Rattle.ps_tree.specs.Phrase.{Phrase, Phrases, phrase_of}
 use Rattle.ps_tree.specs.Phrase as form
 use Rattle.ps_tree.specs.PhraseLists.{phrases_in}
 use Rattle.ps_tree.specs.declared.rough.Rough.{Rough}
 use Rattle.ps_program.specs.Node.{Node, Nodes, none}
 use Rattle.ps_program.specs.Node as node
-use Rattle.ps_typing.specs.Fault.{NotApplicable, Unknown}
-use Rattle.ps_typing.specs.Names.{Names, Meaning, local, class, library}
-use Rattle.ps_typing.specs.Checking.{Outcome, Gives, Refuses, ◌>>=◌, Checker, check, check_args, checkers, count_types, elements, line_of, wants, with_args, scan_applied, is_of, isnt_void, is_same}
-use Rattle.ps_check.specs.inside.Forms.{check_element, class_meant, class_test}
+use Rattle.ps_typing.specs.Fault.{NotApplicable}
+use Rattle.ps_typing.specs.Names.{Names}
+use Rattle.ps_typing.specs.Checking.{Outcome, Gives, Refuses, ◌>>=◌, Checker, check, check_args, checkers, count_types, elements, line_of, wants, value_applied, with_args, scan_applied, isnt_void, is_same}
+use Rattle.ps_checked.specs.inside.Forms.{check_element}
 
 counted_types : (ts : List Ty) → count_types (ty_views ts) ≡ length ts
 counted_types [] = refl
@@ -83,24 +84,6 @@ not_two names line text (x ∷ []) other = refl
 not_two names line text (x ∷ y ∷ []) other = absurd (other refl)
 not_two names line text (x ∷ y ∷ z ∷ zs) other = refl
 
--- a class that is meant, and anything else
-text_in : List ℕ → Option Meaning → List ℕ
-text_in other (Some (class t fields)) = t
-text_in other _ = other
-
-pub a_class : (name : NameAt) (negated : Bool) (e : Node) (names : Names) (m : Option Meaning) (t : List ℕ) (fields : TyViews) → class_meant m ≡ Some (class t fields) → is_of name negated e names m ≡ Gives (class_test negated e t) types.Bool names
-unfolding text_in
-a_class name negated e names None t fields is = absurd cc
-a_class name negated e names (Some (local number ty variable)) t fields is = absurd cc
-a_class name negated e names (Some (library procedure)) t fields is = absurd cc
-a_class name negated e names (Some (class own others)) t fields is = ap (λ t. Gives (class_test negated e t) types.Bool names) (ap (text_in t) is)
-
-pub no_class : (name : NameAt) (negated : Bool) (e : Node) (names : Names) (m : Option Meaning) → class_meant m ≡ None → is_of name negated e names m ≡ Refuses (Unknown name.line)
-no_class name negated e names None is = refl
-no_class name negated e names (Some (local number ty variable)) is = refl
-no_class name negated e names (Some (library procedure)) is = refl
-no_class name negated e names (Some (class own others)) is = absurd cc
-
 -- a clause that isn't void
 pub not_void : (t : TyView) → isnt_void t ≡ true → is_same t Void ≡ false
 not_void types.Int is = refl
@@ -116,3 +99,8 @@ one_of [] a is a_is = absurd (omega (arith, is))
 one_of (x ∷ []) a is a_is = absurd (omega (arith, is))
 one_of (x ∷ y ∷ []) a is a_is = ap (λ r. r ∷ y ∷ []) (sym a_is)
 one_of (x ∷ y ∷ z ∷ zs) a is a_is = absurd (omega (arith, is))
+
+-- a vector at one subscript or more
+pub some_subscripts : (names : Names) (line : Line) (v : Node) (element : TyView) (args : List Rough) (b : Bool) → b ≡ (length args == 0) → b ≡ false → value_applied names line v (types.Vector element) (phrases_in args) (checkers (phrases_in args)) ≡ elements names line v (types.Vector element) (checkers (phrases_in args))
+some_subscripts names line v element [] b is fails = absurd cc
+some_subscripts names line v element (arg ∷ args) b is fails = refl

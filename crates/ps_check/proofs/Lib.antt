@@ -1,13 +1,8 @@
-pub mod Steps
 pub mod After
-pub mod Declaring
-pub mod Fields
-pub mod Together
-pub mod Lets
-pub mod Views
+pub mod Applying
 pub mod Blocks
+pub mod Lets
+pub mod Meeting
 pub mod Places
 pub mod Taking
-pub mod Applying
-pub mod LinkSteps
-pub mod Ends
+pub mod Views

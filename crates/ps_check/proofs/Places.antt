@@ -9,7 +9,7 @@ use Rattle.ps_tree.specs.declared.rough.RoughArm.{RoughArm}
 use Rattle.ps_tree.specs.declared.rough.RoughItem.{RoughItem}
 use Rattle.ps_tree.specs.Phrase.{more, more_items, more_arms, none, no_items, no_arms, phrase_of, item_of, arm_of}
 use Rattle.ps_tree.specs.PhraseLists.{phrases_in, items_in, arms_in}
-use Rattle.ps_check.specs.inside.Weights.{weight, weight_all, weight_item, weight_written, weight_arm, weight_arms}
+use Rattle.ps_checked.specs.inside.Weights.{weight, weight_all, weight_item, weight_written, weight_arm, weight_arms}
 
 -- a clause of a list weighs no more than the list
 pub weight_at : (clauses : List Rough) (i : ℕ) (d : Rough) → i < length clauses → weight (phrase_of (get_or clauses i d)) ≤ weight_all (phrases_in clauses)

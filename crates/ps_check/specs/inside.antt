@@ -1,10 +1,1 @@
-pub mod Answers
-pub mod Cases
-pub mod Declaring
-pub mod Forms
-pub mod Links
-pub mod Lists
-pub mod Looks
-pub mod Views
-pub mod Weights
 pub mod Whole

@@ -6,20 +6,21 @@ ghost use Rattle.ps_typing.specs.Fault.{Fault};
 ghost use Rattle.ps_typing.specs.Library.{library_names};
 ghost use Rattle.ps_typing.specs.Checking.{check as check_of, wants};
 ghost use Rattle.ps_typing.specs.Program.{Typed, Fails, check_program, end_line as end_line_of};
-ghost use Rattle.ps_check.specs.Faults.{fault_of};
+ghost use Rattle.ps_checked.specs.Faults.{fault_of};
 ghost use Rattle.ps_check.specs.inside.Whole.{IsWhole};
 
 use crate::checker::Checker;
-use crate::fault::CheckFault;
 use ps_base::line::Line;
 use ps_base::list::List;
 use ps_base::ty::Ty;
+use ps_checked::fault::CheckFault;
+use ps_checked::items::end_line;
 use ps_names::place;
 use ps_program::body::{Body, Program};
 use ps_program::form::Tree;
 use ps_scope::scope::Scope;
 use ps_slots::{Complex, first_complex};
-use ps_tree::rough::{Rough, RoughForm};
+use ps_tree::rough::Rough;
 use ps_type_text::Member;
 use std::alloc::Global;
 
@@ -59,20 +60,7 @@ fn tree_and_names(alloc: Global, rough: Rough) -> Result<Whole, CheckFault>
     let scope = Scope::new(alloc)?;
     let mut checker = Checker { alloc, scope };
     let clause = checker.program(rough)?;
-    let tree = clause.of_type(end, Ty::Void)?;
+    let tree = clause.of_type(end, &Ty::Void)?;
     let names = checker.into_scope().into_locals();
     Ok(Whole { tree, names })
-}
-
-// The line of a program's last clause.
-fn end_line(program: &Rough) -> Line
-    ensures { result ≡ end_line_of (phrase_of program.now) }
-{
-    match &*program.form {
-        RoughForm::Sequence { items } => match items.as_slice() {
-            [.., last] => last.line,
-            [] => program.line,
-        },
-        _ => program.line,
-    }
 }

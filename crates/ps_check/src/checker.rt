@@ -1,25 +1,25 @@
-ghost use Rattle.std.specs.Prelude.{◌≡◌, option_map, MatchResult};
+ghost use Rattle.std.specs.Prelude.{◌≡◌};
 ghost use Rattle.ps_base.specs.TyView.{ty_view};
 ghost use Rattle.ps_tree.specs.Phrase.{phrase_of};
-ghost use Rattle.ps_tree.specs.PhraseLists.{phrases_in};
 ghost use Rattle.ps_program.specs.NodeView.{node_of_form};
 ghost use Rattle.ps_scope.specs.Content.{names_of};
-ghost use Rattle.ps_scope.specs.Views.{meaning_of};
-ghost use Rattle.ps_typing.specs.Names.{meant};
-ghost use Rattle.ps_typing.specs.Checking.{check as check_of, wants, passes, check_if_any};
-ghost use Rattle.ps_check.specs.inside.Answers.{IsClause, IsOfType, IsMemory, test_of, wanted_by};
-ghost use Rattle.ps_check.specs.inside.Views.{maybe_lent};
+ghost use Rattle.ps_typing.specs.Checking.{check as check_of, check_if_any};
+ghost use Rattle.ps_checked.specs.inside.Answers.{IsClause};
+ghost use Rattle.ps_checked.specs.inside.Parts.{meets, want_of};
+ghost use Rattle.ps_checked.specs.inside.Views.{maybe_lent};
 
-use crate::choices::Guard;
-use crate::clause::Clause;
-use crate::fault::CheckFault;
-use crate::fits::Test;
-use crate::link::{Joint, Link};
-use crate::looks::{Literal, lent_boxed};
-use crate::operators::Prefix;
 use ps_base::ty::Ty;
-use ps_program::form::{Tree, TreeForm};
-use ps_scope::meaning::Meaning;
+use ps_checked::assigning::can_be_assigned;
+use ps_checked::classes::structure;
+use ps_checked::clause::Clause;
+use ps_checked::double::Double;
+use ps_checked::fault::CheckFault;
+use ps_checked::link::{Joint, Link};
+use ps_checked::looks::{Literal, lent_boxed};
+use ps_checked::names::{text, used};
+use ps_checked::single::Single;
+use ps_checked::wanted::Wanted;
+use ps_program::form::TreeForm;
 use ps_scope::scope::Scope;
 use ps_tree::rough::{Rough, RoughForm};
 use std::alloc::Global;
@@ -55,14 +55,16 @@ impl Checker {
         let line = rough.line;
         match &*rough.form {
             RoughForm::Let { name, variable, e } => self.declaration(name, *variable, e),
-            RoughForm::Structure { name, fields } => self.structure(line, name, fields.as_slice()),
-            RoughForm::Name(name) => self.name(line, name.as_slice()),
+            RoughForm::Structure { name, fields } => {
+                structure(self.alloc, &mut self.scope, line, name, fields.as_slice())
+            }
+            RoughForm::Name(name) => used(self.alloc, &self.scope, line, name.as_slice()),
             RoughForm::Nil => Clause::new(self.alloc, TreeForm::Nil, Ty::Pntr),
             RoughForm::Int(value) => Clause::new(self.alloc, TreeForm::Int(*value), Ty::Int),
-            RoughForm::Text(bytes) => self.text(bytes.as_slice()),
+            RoughForm::Text(bytes) => text(self.alloc, bytes.as_slice()),
             RoughForm::Flag(value) => Clause::new(self.alloc, TreeForm::Flag(*value), Ty::Bool),
-            RoughForm::IfDo { c, a } => self.guarded(Guard::IfDo, c, a),
-            RoughForm::While { c, a } => self.guarded(Guard::While, c, a),
+            RoughForm::IfDo { c, a } => self.double(Double::IfDo, c, a),
+            RoughForm::While { c, a } => self.double(Double::While, c, a),
             RoughForm::Repeat { a, c, b } => self.repeat(a, c, lent_boxed(b)),
             RoughForm::IfElse { c, a, b } => self.if_else(c, a, b),
             RoughForm::For { name, range, s } => self.counted(line, name, range, s),
@@ -74,7 +76,16 @@ impl Checker {
             }
             RoughForm::Vector { l, u, e } => self.filled(line, l, u, e),
             RoughForm::Elems { l, ty, items } => self.elements(line, l, ty, items.as_slice()),
-            RoughForm::Assign { x, e } => self.assign(line, x, e),
+            RoughForm::Assign { x, e } => {
+                let e_line = e.line;
+                let variable = can_be_assigned(&self.scope, x);
+                let assign = Double::Assign {
+                    line,
+                    e_line,
+                    variable,
+                };
+                self.double(assign, x, e)
+            }
             RoughForm::Or { a, b } => self.chain(a, Link::new(Joint::Or, a, b)),
             RoughForm::And { a, b } => self.chain(a, Link::new(Joint::And, a, b)),
             RoughForm::Join { a, b } => self.chain(a, Link::new(Joint::Join(line), a, b)),
@@ -83,32 +94,26 @@ impl Checker {
             }
             RoughForm::Apply { f, args } => self.application(line, f, args.as_slice()),
             RoughForm::Part { s, i, n } => self.chain(s, Link::part(line, s, i, n)),
-            RoughForm::Not { e } => self.prefixed(Prefix::Not, e),
-            RoughForm::Plus { e } => self.prefixed(Prefix::Plus, e),
-            RoughForm::Neg { e } => self.prefixed(Prefix::Neg(line), e),
-            RoughForm::Compare { op, a, b } => self.compare(*op, a, b),
-            RoughForm::Is { e, class, negated } => self.is_of(e, class, *negated),
-            RoughForm::Bound { upper, e } => self.bound(*upper, e),
+            RoughForm::Not { e } => self.single(Single::Not, e),
+            RoughForm::Plus { e } => self.single(Single::Plus, e),
+            RoughForm::Neg { e } => self.single(Single::Neg(line), e),
+            RoughForm::Compare { op, a, b } => self.double(Double::Compare(*op), a, b),
+            RoughForm::Is { e, class, negated } => {
+                let negated = *negated;
+                self.single(Single::Is { class, negated }, e)
+            }
+            RoughForm::Bound { upper, e } => self.single(Single::Bound { upper: *upper }, e),
             RoughForm::Sequence { items } => self.sequence(line, items.as_slice()),
         }
     }
 
-    /// Checks a clause that is to have this type.
+    /// Checks a clause that is to have such a type.
     #[cycle(clause)]
-    pub(crate) fn operand(&mut self, rough: &Rough, wanted: Ty) -> Result<Tree, CheckFault>
-        ensures { IsOfType (ty_view wanted) (wants (ty_view wanted) rough.now.line (check_of (names_of self.old.scope) (phrase_of rough.now))) result self.new.scope }
-    {
-        let operand = self.clause(rough)?;
-        operand.of_type(rough.line, wanted)
-    }
-
-    /// Checks a clause whose type is to pass a test.
-    #[cycle(clause)]
-    pub(crate) fn tested(&mut self, rough: &Rough, test: Test) -> Result<Clause, CheckFault>
-        ensures { IsClause (passes (test_of test) (wanted_by test) rough.now.line (check_of (names_of self.old.scope) (phrase_of rough.now))) result self.new.scope }
+    pub(crate) fn part(&mut self, rough: &Rough, wanted: Wanted) -> Result<Clause, CheckFault>
+        ensures { IsClause (meets (want_of wanted) rough.now.line (check_of (names_of self.old.scope) (phrase_of rough.now))) result self.new.scope }
     {
         let clause = self.clause(rough)?;
-        test.passed(self.alloc, clause, rough.line)
+        wanted.met(self.alloc, clause, rough.line)
     }
 
     /// Checks a clause of this type that may be left out; this form stands for one that is.
@@ -123,21 +128,7 @@ impl Checker {
     {
         match rough {
             None => Clause::new(self.alloc, otherwise, Ty::Void),
-            Some(rough) => {
-                let ty = wanted.copy()?;
-                let tree = self.operand(rough, wanted)?;
-                Ok(Clause { tree, ty })
-            }
-        }
-    }
-
-    /// What a name means.
-    pub(crate) fn meaning(&self, name: &[u8]) -> Result<Option<Meaning>, CheckFault>
-        ensures { MatchResult result (λ found. option_map meaning_of found ≡ meant (names_of self.now.scope) name.now) IsMemory }
-    {
-        match self.scope.find(name) {
-            Some(meaning) => Ok(Some(meaning.copy()?)),
-            None => Ok(None),
+            Some(rough) => self.part(rough, Wanted::This(wanted)),
         }
     }
 }

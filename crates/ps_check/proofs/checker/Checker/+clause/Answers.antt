@@ -1,188 +1,53 @@
-use Rattle.std.proofs.Common.{◌≡◌, ◌≤◌, ◌<◌, ◌+◌, ◌∙◌, ap, sym, refl, subst, rules, arith, false, Some, None, [], ◌∷◌, ◌++◌, length, drop}
-use Rattle.std.specs.Prelude.{option_map, if◌then◌else◌}
+use Rattle.std.proofs.Common.{◌≡◌, ◌≤◌, ◌<◌, ◌+◌, ◌∙◌, ap, sym, refl, subst, rules, arith, false, Some, None, [], ◌∷◌, ◌++◌, length, drop, not}
+use Rattle.std.specs.Prelude.{option_map, if◌then◌else◌, pos}
 use Rattle.ps_base.specs.List.{items_of}
-use Rattle.ps_base.specs.TyView.{TyView, Void, ty_view, ty_views}
-use Rattle.ps_base.specs.TyView as types
+use Rattle.ps_base.specs.TyView.{Void, ty_view, ty_views}
 use Rattle.ps_tree.specs.Phrase.{named, phrase_of, form_of, item_of, arm_of, groups_in}
-use Rattle.ps_tree.specs.Phrase as form
 use Rattle.ps_tree.specs.PhraseLists.{phrases_in, items_in, arms_in as rough_arms_in, maybe_in}
-use Rattle.ps_program.specs.Node as node
-use Rattle.ps_program.specs.NodeView.{node_of, nodes_in}
+use Rattle.ps_program.specs.NodeView.{node_of, nodes_in, arm_of as tree_arm_of, params_of}
 use Rattle.ps_scope.specs.Content.{names_of}
-use Rattle.ps_typing.specs.Fault.{Twice, Mismatch, NotApplicable, Unknown, Limit}
-use Rattle.ps_typing.specs.Names.{Names}
-use Rattle.ps_typing.specs.Checking.{Gives, Refuses, check, check_form, check_all, check_each, check_args, check_written, check_arms, checkers, wants, value_applied}
-use Rattle.ps_check.specs.inside.Answers.{IsFault}
-use Rattle.ps_check.specs.inside.Links.{check_link, check_links}
-use Rattle.ps_check.specs.inside.Weights.{weight, weight_all, weight_form}
-use Rattle.ps_check.proofs.Steps.{given, fails_as, fails_first, fails_next, fails_test, is_fault, made, leads, exits, remade, remade_both, as_wanted, fails_as_wanted}
-use Rattle.ps_check.proofs.checker.Checker.+clause.Goals as goal
+use Rattle.ps_typing.specs.Fault.{Twice, Mismatch, NotApplicable, Limit}
+use Rattle.ps_typing.specs.Names.{Names, behind, declare_local, inside, is_declared}
+use Rattle.ps_typing.specs.Checking.{Gives, Refuses, check, check_form, check_all, check_each, check_args, check_written, check_arms, checkers, wants, value_applied, with_args, ◌>>=◌, like, elements, check_if_any, first_type, types_of, with_params, scan_applied}
+use Rattle.ps_checked.specs.inside.Answers.{IsFault}
+use Rattle.ps_checked.specs.inside.Links.{check_link, check_links}
+use Rattle.ps_checked.specs.inside.Weights.{weight, weight_all, weight_form, weight_item, weight_written, weight_arm, weight_arms, weight_link, weight_links}
+use Rattle.ps_checked.proofs.Steps.{given, fails_as, fails_first, fails_next, is_fault, made, leads, exits, remade, remade_both, as_wanted, fails_as_wanted}
 use Rattle.ps_base.specs.declared.ty.Signature.{Signature}
 use Rattle.ps_base.proofs.TyLemmas.{ty_view-Proc}
 use Rattle.ps_tree.proofs.PhraseLemmas.{form_of-Sequence, form_of-Write, form_of-Apply, form_of-Elems, form_of-Case, maybe_boxed-back}
 use Rattle.ps_tree.specs.declared.rough.RoughRange.{out-RoughRange}
-use Rattle.ps_typing.specs.Checking.{with_args}
-use Rattle.ps_check.specs.inside.Forms.{check_literal}
-use Rattle.ps_check.specs.inside.Weights.{weight_item, weight_written, weight_arm, weight_arms}
-use Rattle.ps_check.proofs.After.{after, after_nodes, after_nothing, fails_after, fails_in_all, pushed, finished, pushed_arm, finished_arms, first_is, each_step, args_step, all_is, all_step, written_is, written_step, arms_are, arms_step}
-use Rattle.ps_check.proofs.Applying.{one_of, two_of, not_two, a_class, no_class, not_void, same_number, other_number, no_args, elements_as, elements_are}
-use Rattle.ps_check.proofs.LinkSteps.{one_link, one_weight, fails_links, check_links-push, weight_links-push}
+use Rattle.ps_checked.specs.inside.Forms.{check_literal, head_node}
+use Rattle.ps_check.proofs.After.{after, after_nodes, after_nothing, fails_after, fails_in_all, pushed, finished, pushed_arm, finished_arms, first_is, each_step, args_step, all_is, all_step, written_is, written_step, arms_are, arms_step, arm_made}
+use Rattle.ps_check.proofs.Applying.{two_of, not_two, not_void, same_number, other_number, no_args, elements_are, some_subscripts}
+use Rattle.ps_checked.proofs.LinkSteps.{one_link, one_weight, fails_links, check_links-push, weight_links-push}
 use Rattle.ps_check.proofs.Lets.{let_literal, let_other}
-use Rattle.ps_program.proofs.NodeLists.{elems_is, case_is}
-use Rattle.ps_program.specs.NodeView.{arm_of as tree_arm_of}
+use Rattle.ps_program.proofs.NodeLists.{case_is}
 use Rattle.ps_program.specs.inside.PartsView.{arms_in}
-use Rattle.ps_program.specs.Assigning.{assignment}
 use Rattle.ps_tree.specs.declared.rough.RoughArm.{out-RoughArm}
-use Rattle.ps_typing.specs.Checking.{◌>>=◌, like, assigned, elements, check_if_any, first_type}
-use Rattle.ps_check.specs.inside.Cases.{check_arm, all_arms}
-use Rattle.ps_check.specs.inside.Forms.{head_node, check_element}
-use Rattle.ps_check.specs.inside.Lists.{check_item}
-use Rattle.ps_check.specs.inside.Weights.{weight_link, weight_links}
-use Rattle.ps_check.proofs.Places.{weight_at, item_weight_at, arm_weight_at, phrases_from, items_from, arms_from, types_from, phrases_behind, items_behind, arms_behind}
+use Rattle.ps_checked.specs.inside.Cases.{check_arm, all_arms}
+use Rattle.ps_checked.specs.inside.Lists.{check_item}
+use Rattle.ps_check.proofs.Places.{weight_at, item_weight_at, arm_weight_at, phrases_from, items_from, arms_from, types_from, phrases_behind, items_behind, arms_behind, empty}
 use Rattle.ps_check.proofs.Views.{form_of-For, arm_of-parts, item_of-parts}
-use Rattle.std.specs.Prelude.{pos}
-use Rattle.ps_program.specs.NodeView.{params_of}
 use Rattle.ps_program.specs.declared.place.Place.TheVariants.{Plain}
-use Rattle.ps_typing.specs.Names.{behind, declare_local, inside, is_declared}
-use Rattle.ps_typing.specs.Checking.{types_of, with_params}
 use Rattle.ps_typing.proofs.Keeps.{keeps_around, keeps_fields_around, all_keeps_around, all_keeps_fields_around, params_keep_around, params_keep_fields_around}
-use Rattle.ps_check.specs.inside.Views.{literal_of, groups_of}
-use Rattle.ps_check.proofs.After.{arm_made}
+use Rattle.ps_checked.specs.inside.Views.{literal_of, groups_of}
 use Rattle.ps_check.proofs.Blocks.{stays, unpassed}
-use Rattle.ps_check.proofs.Declaring.{few, many, count_is}
-use Rattle.ps_check.proofs.Places.{empty}
-use Rattle.std.proofs.Common.{not}
-use Rattle.std.specs.declared.alloc.Global.{Global}
-use Rattle.std.specs.declared.rc.Rc.{Rc}
-use Rattle.ps_scope.specs.Views.{class_of}
-use Rattle.ps_scope.specs.declared.meaning.Class.{Class}
+use Rattle.ps_checked.proofs.Declaring.{few, many, count_is}
 use Rattle.ps_tree.specs.declared.rough.RoughItem.{out-RoughItem}
-use Rattle.ps_typing.specs.Names.{meant}
-use Rattle.ps_typing.specs.Checking.{scan_applied}
-use Rattle.ps_check.specs.inside.Forms.{class_meant, class_test}
-
-pub operand-returns-in_err-operand : goal.operand-returns-in_err-operand
-operand-returns-in_err-operand t c = exits c.from_residual.result _ c.in_err-operand.field-0.0 _ c.from_residual.ensures.1 (fails_test _ _ _ _ _ c.in_err-operand.ensures)
-
-pub tested-returns-in_err-clause : goal.tested-returns-in_err-clause
-tested-returns-in_err-clause t c = exits c.from_residual.result _ c.in_err-clause.field-0.0 _ c.from_residual.ensures.1 (fails_test _ _ _ _ _ c.in_err-clause.ensures)
-
-pub prefixed-returns-in_err-e : goal.prefixed-returns-in_err-e
-prefixed-returns-in_err-e t c = exits c.from_residual.result _ c.in_err-e.field-0.0 _ c.from_residual.ensures.1 (fails_first _ _ _ (fails_as_wanted _ _ _ c.ty.ensures c.in_err-e.ensures))
-
-pub prefixed-returns : goal.prefixed-returns
-prefixed-returns t c = made _ _ _ _ c.clause.result (given _ _ _ _ _ (as_wanted _ _ _ _ c.ty.ensures c.in_ok-e.ensures)) c.clause.ensures
-
-pub bound-returns-in_err-v : goal.bound-returns-in_err-v
-bound-returns-in_err-v t c = exits c.from_residual.result _ c.in_err-v.field-0.0 _ c.from_residual.ensures.1 (fails_first _ _ _ c.in_err-v.ensures)
-
-pub bound-returns : goal.bound-returns
-bound-returns t c = made _ _ _ _ c.new.result (given _ _ _ _ _ (c.in_ok-v.ensures)) c.new.ensures
-
-pub guarded-returns-in_err-c : goal.guarded-returns-in_err-c
-guarded-returns-in_err-c t c = exits c.from_residual.result _ c.in_err-c.field-0.0 _ c.from_residual.ensures.1 (fails_first _ _ _ c.in_err-c.ensures)
-
-pub guarded-returns-in_err-a : goal.guarded-returns-in_err-a
-guarded-returns-in_err-a t c = exits c.from_residual-in_err-a.result _ c.in_err-a.field-0.0 _ c.from_residual-in_err-a.ensures.1 (fails_next _ _ _ _ _ _ (c.in_ok-c.ensures) (fails_first _ _ _ c.in_err-a.ensures))
-
-pub guarded-returns : goal.guarded-returns
-guarded-returns t c = made _ _ _ _ c.clause.result (given _ _ _ _ _ (c.in_ok-c.ensures) ∙ given _ _ _ _ _ (c.in_ok-a.ensures)) c.clause.ensures
-
-pub compare-returns-in_err-a : goal.compare-returns-in_err-a
-compare-returns-in_err-a t c = exits c.from_residual.result _ c.in_err-a.field-0.0 _ c.from_residual.ensures.1 (fails_first _ _ _ c.in_err-a.ensures)
-
-pub compare-returns-in_err-b : goal.compare-returns-in_err-b
-compare-returns-in_err-b t c = exits c.from_residual-in_err-b.result _ c.in_err-b.field-0.0 _ c.from_residual-in_err-b.ensures.1 (fails_next _ _ _ _ _ _ (c.in_ok-a.ensures) (fails_first _ _ _ (fails_as_wanted _ _ _ c.in_ok-wanted.ensures c.in_err-b.ensures)))
-
-pub compare-returns : goal.compare-returns
-compare-returns t c = made _ _ _ _ c.new.result (given _ _ _ _ _ (c.in_ok-a.ensures) ∙ given _ _ _ _ _ (as_wanted _ _ _ _ c.in_ok-wanted.ensures c.in_ok-b.ensures)) c.new.ensures
-
-pub if_else-returns-in_err-c : goal.if_else-returns-in_err-c
-if_else-returns-in_err-c t c = exits c.from_residual.result _ c.in_err-c.field-0.0 _ c.from_residual.ensures.1 (fails_first _ _ _ c.in_err-c.ensures)
-
-pub if_else-returns-in_err-a : goal.if_else-returns-in_err-a
-if_else-returns-in_err-a t c = exits c.from_residual-in_err-a.result _ c.in_err-a.field-0.0 _ c.from_residual-in_err-a.ensures.1 (fails_next _ _ _ _ _ _ (c.in_ok-c.ensures) (fails_first _ _ _ c.in_err-a.ensures))
-
-pub if_else-returns-in_err-b : goal.if_else-returns-in_err-b
-if_else-returns-in_err-b t c = exits c.from_residual-in_err-b.result _ c.in_err-b.field-0.0 _ c.from_residual-in_err-b.ensures.1 (fails_next _ _ _ _ _ _ (c.in_ok-c.ensures) (fails_next _ _ _ _ _ _ (c.in_ok-a.ensures) (fails_first _ _ _ (fails_as_wanted _ _ _ c.in_ok-wanted.ensures c.in_err-b.ensures))))
-
-pub if_else-returns : goal.if_else-returns
-if_else-returns t c = made _ _ _ _ c.new.result (given _ _ _ _ _ (c.in_ok-c.ensures) ∙ given _ _ _ _ _ (c.in_ok-a.ensures) ∙ given _ _ _ _ _ (as_wanted _ _ _ _ c.in_ok-wanted.ensures c.in_ok-b.ensures)) c.new.ensures
-
-pub repeat-returns-in_err-a : goal.repeat-returns-in_err-a
-repeat-returns-in_err-a t c = exits c.from_residual.result _ c.in_err-a.field-0.0 _ c.from_residual.ensures.1 (fails_first _ _ _ c.in_err-a.ensures)
-
-pub repeat-returns-in_err-c : goal.repeat-returns-in_err-c
-repeat-returns-in_err-c t c = exits c.from_residual-in_err-c.result _ c.in_err-c.field-0.0 _ c.from_residual-in_err-c.ensures.1 (fails_next _ _ _ _ _ _ (c.in_ok-a.ensures) (fails_first _ _ _ c.in_err-c.ensures))
-
-pub repeat-returns-in_err-b : goal.repeat-returns-in_err-b
-repeat-returns-in_err-b t c = exits c.from_residual-in_err-b.result _ c.in_err-b.field-0.0 _ c.from_residual-in_err-b.ensures.1 (fails_next _ _ _ _ _ _ (c.in_ok-a.ensures) (fails_next _ _ _ _ _ _ (c.in_ok-c.ensures) (fails_first _ _ _ c.in_err-b.ensures)))
-
-pub repeat-returns : goal.repeat-returns
-repeat-returns t c = made _ _ _ _ c.new.result (given _ _ _ _ _ (c.in_ok-a.ensures) ∙ given _ _ _ _ _ (c.in_ok-c.ensures) ∙ given _ _ _ _ _ (c.in_ok-b.ensures)) c.new.ensures
-
-pub filled-returns-in_err-l : goal.filled-returns-in_err-l
-filled-returns-in_err-l t c = exits c.from_residual.result _ c.in_err-l.field-0.0 _ c.from_residual.ensures.1 (fails_first _ _ _ c.in_err-l.ensures)
-
-pub filled-returns-in_err-u : goal.filled-returns-in_err-u
-filled-returns-in_err-u t c = exits c.from_residual-in_err-u.result _ c.in_err-u.field-0.0 _ c.from_residual-in_err-u.ensures.1 (fails_next _ _ _ _ _ _ (c.in_ok-l.ensures) (fails_first _ _ _ c.in_err-u.ensures))
-
-pub filled-returns-in_err-e : goal.filled-returns-in_err-e
-filled-returns-in_err-e t c = exits c.from_residual-in_err-e.result _ c.in_err-e.field-0.0 _ c.from_residual-in_err-e.ensures.1 (fails_next _ _ _ _ _ _ (c.in_ok-l.ensures) (fails_next _ _ _ _ _ _ (c.in_ok-u.ensures) (fails_first _ _ _ c.in_err-e.ensures)))
-
-pub filled-returns : goal.filled-returns
-filled-returns t c = made _ _ _ _ c.new.result (given _ _ _ _ _ (c.in_ok-l.ensures) ∙ given _ _ _ _ _ (c.in_ok-u.ensures) ∙ given _ _ _ _ _ (c.in_ok-e.ensures)) (remade_both _ _ _ _ c.new.result (ap (λ t. node.Fill (node_of c.in_ok-l.l) (node_of c.in_ok-u.u) (node_of c.in_ok-e.field-0.tree) t c.args.line) c.in_ok-ty.ensures) (c.in_ok-gives.ensures ∙ c.in_ok-ty.ensures) c.new.ensures)
-
-pub counted-returns-in_err-a : goal.counted-returns-in_err-a
-counted-returns-in_err-a t c = exits c.from_residual.result _ c.in_err-a.field-0.0 _ c.from_residual.ensures.1 (fails_first _ _ _ c.in_err-a.ensures)
-
-pub counted-returns-in_err-b : goal.counted-returns-in_err-b
-counted-returns-in_err-b t c = exits c.from_residual-in_err-b.result _ c.in_err-b.field-0.0 _ c.from_residual-in_err-b.ensures.1 (fails_next _ _ _ _ _ _ (c.in_ok-a.ensures) (fails_first _ _ _ c.in_err-b.ensures))
-
-pub elements-returns-in_err-l : goal.elements-returns-in_err-l
-elements-returns-in_err-l t c = exits c.from_residual.result _ c.in_err-l.field-0.0 _ c.from_residual.ensures.1 (fails_first _ _ _ c.in_err-l.ensures)
-
-pub elements-returns-in_err-each : goal.elements-returns-in_err-each
-elements-returns-in_err-each t c = exits c.from_residual-in_err-each.result _ c.in_err-each.field-0.0 _ c.from_residual-in_err-each.ensures.1 (fails_next _ _ _ _ _ _ (c.in_ok-l.ensures) (fails_first _ _ _ c.in_err-each.ensures))
-
-pub is_of-returns-in_err-e : goal.is_of-returns-in_err-e
-is_of-returns-in_err-e t c = exits c.from_residual.result _ c.in_err-e.field-0.0 _ c.from_residual.ensures.1 (fails_first _ _ _ c.in_err-e.ensures)
-
-pub initial-returns-in_err-e : goal.initial-returns-in_err-e
-initial-returns-in_err-e t c = exits c.from_residual.result _ c.in_err-e.field-0.0 _ c.from_residual.ensures.1 (fails_first _ _ _ c.in_err-e.ensures)
-
-pub joined-returns-in_err-a : goal.joined-returns-in_err-a
-joined-returns-in_err-a t c = exits c.from_residual.result _ c.in_err-a.field-0.0 _ c.from_residual.ensures.1 (fails_first _ _ _ (fails_as_wanted _ _ _ c.ty.ensures (c.in_err-a.ensures c.args.self.now.scope)))
-
-pub parted-returns-in_err-a : goal.parted-returns-in_err-a
-parted-returns-in_err-a t c = exits c.from_residual.result _ c.in_err-a.field-0.0 _ c.from_residual.ensures.1 (fails_first _ _ _ (c.in_err-a.ensures c.args.self.now.scope))
-
-pub assign-returns-in_err-x : goal.assign-returns-in_err-x
-assign-returns-in_err-x t c = exits c.from_residual.result _ c.in_err-x.field-0.0 _ c.from_residual.ensures.1 (fails_first _ _ _ c.in_err-x.ensures)
-
-pub assign-returns-in_err-value : goal.assign-returns-in_err-value
-assign-returns-in_err-value t c = exits c.from_residual-in_err-value.result _ c.in_err-value.field-0.0 _ c.from_residual-in_err-value.ensures.1 (fails_next _ _ _ _ _ _ (c.in_ok-x.ensures) (fails_first _ _ _ c.in_err-value.ensures))
-
-pub case_of-returns-in_err-e : goal.case_of-returns-in_err-e
-case_of-returns-in_err-e t c = exits c.from_residual.result _ c.in_err-e.field-0.0 _ c.from_residual.ensures.1 (fails_first _ _ _ c.in_err-e.ensures)
-
-pub case_of-returns-in_err-arms : goal.case_of-returns-in_err-arms
-case_of-returns-in_err-arms t c = exits c.from_residual-in_err-arms.result _ c.in_err-arms.field-0.0 _ c.from_residual-in_err-arms.ensures.1 (fails_next _ _ _ _ _ _ (c.in_ok-e.ensures) (fails_first _ _ _ c.in_err-arms.ensures))
-
-pub sequence-returns-in_err-trees : goal.sequence-returns-in_err-trees
-sequence-returns-in_err-trees t c = exits c.from_residual.result _ c.in_err-trees.field-0.0 _ c.from_residual.ensures.1 (fails_first _ _ _ (subst (λ n. IsFault (check_all n c.args.line Void (phrases_in c.args.items.now)) c.in_err-trees.field-0.0) c.enter-block.ensures.names c.in_err-trees.ensures))
-
-pub write-returns-in_err-trees : goal.write-returns-in_err-trees
-write-returns-in_err-trees t c = exits c.from_residual.result _ c.in_err-trees.field-0.0 _ c.from_residual.ensures.1 (fails_first _ _ _ c.in_err-trees.ensures)
-
-pub written_item-returns-in_err-e : goal.written_item-returns-in_err-e
-written_item-returns-in_err-e t c = exits c.from_residual.result _ c.in_err-e.field-0.0 _ c.from_residual.ensures.1 (fails_as _ _ _ (ap (check_item (names_of c.args.self.now.scope)) (item_of-parts c.args.item.now)) (fails_first _ _ _ c.in_err-e.ensures))
+use Rattle.ps_checked.specs.inside.Parts.{this, meets, want_of, check_double}
+use Rattle.ps_check.proofs.Meeting.{fails_unmet, fails_met, as_met}
+use Rattle.ps_base.specs.TyView as types
+use Rattle.ps_tree.specs.Phrase as form
+use Rattle.ps_program.specs.Node as node
+use Rattle.ps_check.proofs.checker.Checker.+clause.Goals as goal
+use Rattle.ps_checked.specs.declared.double.Double.TheVariants as double
 
 pub clause-returns-in-IfDo : goal.clause-returns-in-IfDo
-clause-returns-in-IfDo t c = leads _ _ _ _ (ap (λ f. check_form (names_of c.args.self.now.scope) c.args.rough.now.line (form_of f)) (sym c.deref.ensures ∙ c.in-IfDo.is)) c.guarded.ensures
+clause-returns-in-IfDo t c = leads _ _ _ _ (ap (λ f. check_form (names_of c.args.self.now.scope) c.args.rough.now.line (form_of f)) (sym c.deref.ensures ∙ c.in-IfDo.is)) c.double.ensures
 
 pub clause-returns-in-While : goal.clause-returns-in-While
-clause-returns-in-While t c = leads _ _ _ _ (ap (λ f. check_form (names_of c.args.self.now.scope) c.args.rough.now.line (form_of f)) (sym c.deref.ensures ∙ c.in-While.is)) c.guarded-in-While.ensures
+clause-returns-in-While t c = leads _ _ _ _ (ap (λ f. check_form (names_of c.args.self.now.scope) c.args.rough.now.line (form_of f)) (sym c.deref.ensures ∙ c.in-While.is)) c.double-in-While.ensures
 
 pub clause-returns-in-IfElse : goal.clause-returns-in-IfElse
 clause-returns-in-IfElse t c = leads _ _ _ _ (ap (λ f. check_form (names_of c.args.self.now.scope) c.args.rough.now.line (form_of f)) (sym c.deref.ensures ∙ c.in-IfElse.is)) c.if_else.ensures
@@ -191,10 +56,10 @@ pub clause-returns-in-Vector : goal.clause-returns-in-Vector
 clause-returns-in-Vector t c = leads _ _ _ _ (ap (λ f. check_form (names_of c.args.self.now.scope) c.args.rough.now.line (form_of f)) (sym c.deref.ensures ∙ c.in-Vector.is)) c.filled.ensures
 
 pub clause-returns-in-Assign : goal.clause-returns-in-Assign
-clause-returns-in-Assign t c = leads _ _ _ _ (ap (λ f. check_form (names_of c.args.self.now.scope) c.args.rough.now.line (form_of f)) (sym c.deref.ensures ∙ c.in-Assign.is)) c.assign.ensures
+clause-returns-in-Assign t c = leads _ _ _ _ (ap (λ f. check_form (names_of c.args.self.now.scope) c.args.rough.now.line (form_of f)) (sym c.deref.ensures ∙ c.in-Assign.is) ∙ ap (λ v. check_double (double.Assign c.args.rough.now.line c.in-Assign.e.line v) (names_of c.args.self.now.scope) (phrase_of c.in-Assign.x) (phrase_of c.in-Assign.e)) (sym c.can_be_assigned-variable.ensures)) c.double-in-Assign.ensures
 
 pub clause-returns-in-Compare : goal.clause-returns-in-Compare
-clause-returns-in-Compare t c = leads _ _ _ _ (ap (λ f. check_form (names_of c.args.self.now.scope) c.args.rough.now.line (form_of f)) (sym c.deref.ensures ∙ c.in-Compare.is)) c.compare.ensures
+clause-returns-in-Compare t c = leads _ _ _ _ (ap (λ f. check_form (names_of c.args.self.now.scope) c.args.rough.now.line (form_of f)) (sym c.deref.ensures ∙ c.in-Compare.is)) c.double-in-Compare.ensures
 
 pub clause-returns-in-Repeat : goal.clause-returns-in-Repeat
 clause-returns-in-Repeat t c = leads _ _ _ _ (ap (λ f. check_form (names_of c.args.self.now.scope) c.args.rough.now.line (form_of f)) (sym c.deref.ensures ∙ c.in-Repeat.is) ∙ ap (λ b. check_form (names_of c.args.self.now.scope) c.args.rough.now.line (form.Repeat (phrase_of c.in-Repeat.a) (phrase_of c.in-Repeat.c) b)) (maybe_boxed-back c.in-Repeat.b ∙ sym c.lent_boxed.ensures)) c.repeat.ensures
@@ -268,73 +133,121 @@ clause-sequence-requires t c =
     let light : weight (phrase_of c.args.rough.now) ≡ weight_form (form.Sequence (phrases_in c.as_slice-in-Sequence.result.now)) + 1 = ap (λ f. weight_form f + 1) is in
     search (rules, light)
 
-pub apply-returns-in-Proc : goal.apply-returns-in-Proc
-apply-returns-in-Proc t c = leads _ _ _ _ (ap (λ t. value_applied (names_of c.args.self.now.scope) c.args.line (node_of c.args.f.tree) t (phrases_in c.args.args.now) (checkers (phrases_in c.args.args.now))) (ap ty_view c.in-Proc.is ∙ ty_view-Proc c.in-Proc.signature) ∙ ap (λ (s : Signature). with_args (names_of c.args.self.now.scope) c.args.line (ty_views (items_of s.parameters)) (checkers (phrases_in c.args.args.now)) (λ args. node.Call (node_of c.args.f.tree) args c.args.line) (ty_view s.gives)) (sym c.deref.ensures)) c.called.ensures
+pub clause-returns-in-Not : goal.clause-returns-in-Not
+clause-returns-in-Not t c = leads _ _ _ _ (ap (λ f. check_form (names_of c.args.self.now.scope) c.args.rough.now.line (form_of f)) (sym c.deref.ensures ∙ c.in-Not.is)) c.single.ensures
 
-pub arguments-loop-i-init : goal.arguments-loop-i-init
-arguments-loop-i-init t c = ap (λ ts. after (after_nodes ts) (check_args (names_of c.args.self.now.scope) (ty_views c.args.types.now) (checkers (phrases_in c.args.args.now)))) c.new-trees.ensures.items ∙ after_nothing _ _ (λ ts. refl)
+pub clause-returns-in-Plus : goal.clause-returns-in-Plus
+clause-returns-in-Plus t c = leads _ _ _ _ (ap (λ f. check_form (names_of c.args.self.now.scope) c.args.rough.now.line (form_of f)) (sym c.deref.ensures ∙ c.in-Plus.is)) c.single-in-Plus.ensures
+
+pub clause-returns-in-Neg : goal.clause-returns-in-Neg
+clause-returns-in-Neg t c = leads _ _ _ _ (ap (λ f. check_form (names_of c.args.self.now.scope) c.args.rough.now.line (form_of f)) (sym c.deref.ensures ∙ c.in-Neg.is)) c.single-in-Neg.ensures
+
+pub clause-returns-in-Bound : goal.clause-returns-in-Bound
+clause-returns-in-Bound t c = leads _ _ _ _ (ap (λ f. check_form (names_of c.args.self.now.scope) c.args.rough.now.line (form_of f)) (sym c.deref.ensures ∙ c.in-Bound.is)) c.single-in-Bound.ensures
+
+pub part-returns-in_err-clause : goal.part-returns-in_err-clause
+part-returns-in_err-clause t c = exits c.from_residual.result _ c.in_err-clause.field-0.0 _ c.from_residual.ensures.1 (fails_unmet _ _ _ _ c.in_err-clause.ensures)
+
+pub part-returns : goal.part-returns
+part-returns t c = leads _ _ _ _ (ap (meets (want_of c.args.wanted) c.args.rough.now.line) c.in_ok-clause.ensures) (c.met.ensures c.clause.new.self.scope)
+
+pub single-returns-in_err-e : goal.single-returns-in_err-e
+single-returns-in_err-e t c = exits c.from_residual.result _ c.in_err-e.field-0.0 _ c.from_residual.ensures.1 (fails_first _ _ _ (fails_met _ _ _ c.wanted.ensures c.in_err-e.ensures))
+
+pub single-returns : goal.single-returns
+single-returns t c = leads _ _ _ _ (given _ _ _ _ _ (as_met _ _ _ _ _ c.wanted.ensures c.in_ok-e.ensures)) c.made.ensures
+
+pub double-returns-in_err-a : goal.double-returns-in_err-a
+double-returns-in_err-a t c = exits c.from_residual.result _ c.in_err-a.field-0.0 _ c.from_residual.ensures.1 (fails_first _ _ _ (fails_met _ _ _ c.first.ensures c.in_err-a.ensures))
+
+pub double-returns-in_err-b : goal.double-returns-in_err-b
+double-returns-in_err-b t c = exits c.from_residual-in_err-b.result _ c.in_err-b.field-0.0 _ c.from_residual-in_err-b.ensures.1 (fails_next _ _ _ _ _ _ (as_met _ _ _ _ _ c.first.ensures c.in_ok-a.ensures) (fails_first _ _ _ (fails_met _ _ _ c.in_ok-wanted.ensures c.in_err-b.ensures)))
+
+pub double-returns : goal.double-returns
+double-returns t c = leads _ _ _ _ (given _ _ _ _ _ (as_met _ _ _ _ _ c.first.ensures c.in_ok-a.ensures) ∙ given _ _ _ _ _ (as_met _ _ _ _ _ c.in_ok-wanted.ensures c.in_ok-b.ensures)) (c.made.ensures c.part-2.new.self.scope)
+
+pub if_else-returns-in_err-c : goal.if_else-returns-in_err-c
+if_else-returns-in_err-c t c = exits c.from_residual.result _ c.in_err-c.field-0.0 _ c.from_residual.ensures.1 (fails_first _ _ _ c.in_err-c.ensures)
+
+pub if_else-returns : goal.if_else-returns
+if_else-returns t c = leads _ _ _ _ (given _ _ _ _ _ c.in_ok-c.ensures) c.double.ensures
+
+pub filled-returns-in_err-l : goal.filled-returns-in_err-l
+filled-returns-in_err-l t c = exits c.from_residual.result _ c.in_err-l.field-0.0 _ c.from_residual.ensures.1 (fails_first _ _ _ c.in_err-l.ensures)
+
+pub filled-returns : goal.filled-returns
+filled-returns t c = leads _ _ _ _ (given _ _ _ _ _ c.in_ok-l.ensures) c.double.ensures
+
+pub elements-returns-in_err-l : goal.elements-returns-in_err-l
+elements-returns-in_err-l t c = exits c.from_residual.result _ c.in_err-l.field-0.0 _ c.from_residual.ensures.1 (fails_first _ _ _ c.in_err-l.ensures)
+
+pub elements-returns-in_err-items : goal.elements-returns-in_err-items
+elements-returns-in_err-items t c = exits c.from_residual-in_err-items.result _ c.in_err-items.field-0.0 _ c.from_residual-in_err-items.ensures.1 (fails_next _ _ _ _ _ _ c.in_ok-l.ensures (fails_first _ _ _ c.in_err-items.ensures))
+
+pub elements-returns : goal.elements-returns
+elements-returns t c = made _ _ _ _ c.listed.result (given _ _ _ _ _ c.in_ok-l.ensures ∙ given _ _ _ _ _ c.in_ok-items.ensures.1) c.listed.ensures
+
+pub repeat-returns-in_err-a : goal.repeat-returns-in_err-a
+repeat-returns-in_err-a t c = exits c.from_residual.result _ c.in_err-a.field-0.0 _ c.from_residual.ensures.1 (fails_first _ _ _ c.in_err-a.ensures)
+
+pub repeat-returns-in_err-c : goal.repeat-returns-in_err-c
+repeat-returns-in_err-c t c = exits c.from_residual-in_err-c.result _ c.in_err-c.field-0.0 _ c.from_residual-in_err-c.ensures.1 (fails_next _ _ _ _ _ _ (c.in_ok-a.ensures) (fails_first _ _ _ c.in_err-c.ensures))
+
+pub repeat-returns-in_err-b : goal.repeat-returns-in_err-b
+repeat-returns-in_err-b t c = exits c.from_residual-in_err-b.result _ c.in_err-b.field-0.0 _ c.from_residual-in_err-b.ensures.1 (fails_next _ _ _ _ _ _ (c.in_ok-a.ensures) (fails_next _ _ _ _ _ _ (c.in_ok-c.ensures) (fails_first _ _ _ c.in_err-b.ensures)))
+
+pub repeat-returns : goal.repeat-returns
+repeat-returns t c = made _ _ _ _ c.new.result (given _ _ _ _ _ (c.in_ok-a.ensures) ∙ given _ _ _ _ _ (c.in_ok-c.ensures) ∙ given _ _ _ _ _ (c.in_ok-b.ensures)) c.new.ensures
+
+pub counted-returns-in_err-a : goal.counted-returns-in_err-a
+counted-returns-in_err-a t c = exits c.from_residual.result _ c.in_err-a.field-0.0 _ c.from_residual.ensures.1 (fails_first _ _ _ c.in_err-a.ensures)
+
+pub counted-returns-in_err-b : goal.counted-returns-in_err-b
+counted-returns-in_err-b t c = exits c.from_residual-in_err-b.result _ c.in_err-b.field-0.0 _ c.from_residual-in_err-b.ensures.1 (fails_next _ _ _ _ _ _ (c.in_ok-a.ensures) (fails_first _ _ _ c.in_err-b.ensures))
+
+pub counted-returns-in_err-c : goal.counted-returns-in_err-c
+counted-returns-in_err-c t c = exits c.from_residual-in_err-c.result _ c.in_err-c.field-0.0 _ c.from_residual-in_err-c.ensures.1 (fails_next _ _ _ _ _ _ (c.in_ok-a.ensures) (fails_next _ _ _ _ _ _ (c.in_ok-b.ensures) (fails_first _ _ _ (subst (λ m. IsFault (check_if_any (names_of c.part-2.new.self.scope) types.Int (node.Int (pos 1)) m) c.in_err-c.field-0.0) c.lent.ensures c.in_err-c.ensures))))
+
+pub counted-returns-in_err-s : goal.counted-returns-in_err-s
+counted-returns-in_err-s t c = exits c.from_residual-in_err-s.result _ c.in_err-s.field-0.0 _ c.from_residual-in_err-s.ensures.1 (fails_next _ _ _ _ _ _ (c.in_ok-a.ensures) (fails_next _ _ _ _ _ _ (c.in_ok-b.ensures) (fails_next _ _ _ _ _ _ ((subst (λ m. check_if_any (names_of c.part-2.new.self.scope) types.Int (node.Int (pos 1)) m ≡ Gives (node_of c.in_ok-c.field-0.tree) (ty_view c.in_ok-c.field-0.ty) (names_of c.if_any.new.self.scope)) c.lent.ensures c.in_ok-c.ensures)) (fails_first _ _ _ (subst (λ n. IsFault (wants Void c.args.s.now.line (check n (phrase_of c.args.s.now))) c.in_err-s.field-0.0) (c.in_ok-number.ensures.names ∙ ap (λ nm. declare_local (names_of c.enter-block.new.self) nm types.Int false) c.as_slice-name.ensures ∙ ap (λ n. declare_local n c.args.name.now.name types.Int false) c.enter-block.ensures.names) c.in_err-s.ensures)))))
+
+pub counted-leave-requires-clause-names : goal.counted-leave-requires-clause-names
+counted-leave-requires-clause-names t c = stays _ _ _ _ (keeps_around (declare_local (inside (names_of c.if_any.new.self.scope)) c.args.name.now.name types.Int false) (phrase_of c.args.s.now) _ _ _ (unpassed _ _ _ _ _ _ _ (subst (λ n. wants Void c.args.s.now.line (check n (phrase_of c.args.s.now)) ≡ Gives (node_of c.in_ok-s.field-0.tree) (ty_view c.in_ok-s.field-0.ty) (names_of c.part-3.new.self.scope)) (c.in_ok-number.ensures.names ∙ ap (λ nm. declare_local (names_of c.enter-block.new.self) nm types.Int false) c.as_slice-name.ensures ∙ ap (λ n. declare_local n c.args.name.now.name types.Int false) c.enter-block.ensures.names) c.in_ok-s.ensures))) c.enter-block.ensures.names_around
+
+pub counted-leave-requires-clause-fields : goal.counted-leave-requires-clause-fields
+counted-leave-requires-clause-fields t c = stays _ _ _ _ (keeps_fields_around (declare_local (inside (names_of c.if_any.new.self.scope)) c.args.name.now.name types.Int false) (phrase_of c.args.s.now) _ _ _ (unpassed _ _ _ _ _ _ _ (subst (λ n. wants Void c.args.s.now.line (check n (phrase_of c.args.s.now)) ≡ Gives (node_of c.in_ok-s.field-0.tree) (ty_view c.in_ok-s.field-0.ty) (names_of c.part-3.new.self.scope)) (c.in_ok-number.ensures.names ∙ ap (λ nm. declare_local (names_of c.enter-block.new.self) nm types.Int false) c.as_slice-name.ensures ∙ ap (λ n. declare_local n c.args.name.now.name types.Int false) c.enter-block.ensures.names) c.in_ok-s.ensures))) c.enter-block.ensures.fields_around
+
+pub counted-returns : goal.counted-returns
+counted-returns t c = made _ _ _ _ c.loop_of.result (given _ _ _ _ _ (c.in_ok-a.ensures) ∙ given _ _ _ _ _ (c.in_ok-b.ensures) ∙ given _ _ _ _ _ ((subst (λ m. check_if_any (names_of c.part-2.new.self.scope) types.Int (node.Int (pos 1)) m ≡ Gives (node_of c.in_ok-c.field-0.tree) (ty_view c.in_ok-c.field-0.ty) (names_of c.if_any.new.self.scope)) c.lent.ensures c.in_ok-c.ensures)) ∙ given _ _ _ _ _ (subst (λ n. wants Void c.args.s.now.line (check n (phrase_of c.args.s.now)) ≡ Gives (node_of c.in_ok-s.field-0.tree) (ty_view c.in_ok-s.field-0.ty) (names_of c.part-3.new.self.scope)) (c.in_ok-number.ensures.names ∙ ap (λ nm. declare_local (names_of c.enter-block.new.self) nm types.Int false) c.as_slice-name.ensures ∙ ap (λ n. declare_local n c.args.name.now.name types.Int false) c.enter-block.ensures.names) c.in_ok-s.ensures) ∙ ap (λ n. Gives (node.For 0 (node_of c.in_ok-a.field-0.tree) (node_of c.in_ok-b.field-0.tree) (node_of c.in_ok-c.field-0.tree) None (Plain (length (names_of c.if_any.new.self.scope).all)) (node_of c.in_ok-s.field-0.tree) c.args.line) Void n) (sym (c.leave.ensures (names_of c.if_any.new.self.scope) (keeps_around (declare_local (inside (names_of c.if_any.new.self.scope)) c.args.name.now.name types.Int false) (phrase_of c.args.s.now) _ _ _ (unpassed _ _ _ _ _ _ _ (subst (λ n. wants Void c.args.s.now.line (check n (phrase_of c.args.s.now)) ≡ Gives (node_of c.in_ok-s.field-0.tree) (ty_view c.in_ok-s.field-0.ty) (names_of c.part-3.new.self.scope)) (c.in_ok-number.ensures.names ∙ ap (λ nm. declare_local (names_of c.enter-block.new.self) nm types.Int false) c.as_slice-name.ensures ∙ ap (λ n. declare_local n c.args.name.now.name types.Int false) c.enter-block.ensures.names) c.in_ok-s.ensures))) (keeps_fields_around (declare_local (inside (names_of c.if_any.new.self.scope)) c.args.name.now.name types.Int false) (phrase_of c.args.s.now) _ _ _ (unpassed _ _ _ _ _ _ _ (subst (λ n. wants Void c.args.s.now.line (check n (phrase_of c.args.s.now)) ≡ Gives (node_of c.in_ok-s.field-0.tree) (ty_view c.in_ok-s.field-0.ty) (names_of c.part-3.new.self.scope)) (c.in_ok-number.ensures.names ∙ ap (λ nm. declare_local (names_of c.enter-block.new.self) nm types.Int false) c.as_slice-name.ensures ∙ ap (λ n. declare_local n c.args.name.now.name types.Int false) c.enter-block.ensures.names) c.in_ok-s.ensures))) c.enter-block.ensures.names_around c.enter-block.ensures.fields_around))) (remade _ _ _ c.loop_of.result (ap (λ k. node.For 0 (node_of c.in_ok-a.field-0.tree) (node_of c.in_ok-b.field-0.tree) (node_of c.in_ok-c.field-0.tree) None (Plain k) (node_of c.in_ok-s.field-0.tree) c.args.line) (c.in_ok-number.ensures.number ∙ ap (λ (n : Names). length n.all) c.enter-block.ensures.names)) c.loop_of.ensures)
 
 pub each-loop-clause-init : goal.each-loop-clause-init
 each-loop-clause-init t c = ap (λ ts. after (after_nodes ts) (check_each (names_of c.args.self.now.scope) (ty_view c.args.ty.now) (checkers (phrases_in c.args.clauses.now)))) c.new-trees.ensures.items ∙ after_nothing _ _ (λ ts. refl)
-
-pub items-loop-item-init : goal.items-loop-item-init
-items-loop-item-init t c = ap (λ ts. after (after_nodes ts) (check_all (names_of c.args.self.now.scope) c.args.line Void (phrases_in c.args.items.now))) c.new-trees.ensures.items ∙ after_nothing _ _ (λ ts. refl)
-
-pub written-loop-item-init : goal.written-loop-item-init
-written-loop-item-init t c = ap (λ ts. after (after_nodes ts) (check_written (names_of c.args.self.now.scope) (items_in c.args.items.now))) c.new-trees.ensures.items ∙ after_nothing _ _ (λ ts. refl)
-
-pub each-operand-requires : goal.each-operand-requires
-each-operand-requires t c =
-    let below : c.loop-clause.clause-index < length c.args.clauses.now = search rules in
-    let light : weight (phrase_of c.clause-item.result) ≤ weight_all (phrases_in c.args.clauses.now) = subst (λ r. weight (phrase_of r) ≤ weight_all (phrases_in c.args.clauses.now)) (sym c.clause-item.is) (weight_at c.args.clauses.now c.loop-clause.clause-index _ below) in
-    search (rules, light)
-
-pub items-item-requires : goal.items-item-requires
-items-item-requires t c =
-    let below : c.loop-item.item-index < length c.args.items.now = search rules in
-    let light : weight (phrase_of c.item-item.result) ≤ weight_all (phrases_in c.args.items.now) = subst (λ r. weight (phrase_of r) ≤ weight_all (phrases_in c.args.items.now)) (sym c.item-item.is) (weight_at c.args.items.now c.loop-item.item-index _ below) in
-    search (rules, light)
-
-pub written-written_item-requires : goal.written-written_item-requires
-written-written_item-requires t c =
-    let below : c.loop-item.item-index < length c.args.items.now = search rules in
-    let light : weight_item (item_of c.item-item.result) ≤ weight_written (items_in c.args.items.now) = subst (λ r. weight_item (item_of r) ≤ weight_written (items_in c.args.items.now)) (sym c.item-item.is) (item_weight_at c.args.items.now c.loop-item.item-index _ below) in
-    search (rules, light)
-
-pub more_arms-arm-requires : goal.more_arms-arm-requires
-more_arms-arm-requires t c =
-    let below : c.loop-arm.arm-index < length c.args.arms.now = search rules in
-    let light : weight_arm (arm_of c.arm-item.result) ≤ weight_arms (rough_arms_in c.args.arms.now) = subst (λ r. weight_arm (arm_of r) ≤ weight_arms (rough_arms_in c.args.arms.now)) (sym c.arm-item.is) (arm_weight_at c.args.arms.now c.loop-arm.arm-index _ below) in
-    search (rules, light)
-
-pub subscripts-subscript-requires : goal.subscripts-subscript-requires
-subscripts-subscript-requires t c =
-    let below : c.loop-arg.arg-index < length c.args.args.now = search rules in
-    let light : weight (phrase_of c.arg-item.result) ≤ weight_all (phrases_in c.args.args.now) = subst (λ r. weight (phrase_of r) ≤ weight_all (phrases_in c.args.args.now)) (sym c.arg-item.is) (weight_at c.args.args.now c.loop-arg.arg-index _ below) in
-    search (rules, light)
-
-pub arguments-operand-requires : goal.arguments-operand-requires
-arguments-operand-requires t c =
-    let below : c.loop-i.i < length c.args.args.now = search rules in
-    let light : weight (phrase_of c.index-args-i.result) ≤ weight_all (phrases_in c.args.args.now) = subst (λ r. weight (phrase_of r) ≤ weight_all (phrases_in c.args.args.now)) (sym c.index-args-i.is) (weight_at c.args.args.now c.loop-i.i _ below) in
-    search (rules, light)
 
 pub each-returns-in_err-tree : goal.each-returns-in_err-tree
 each-returns-in_err-tree t c =
     let below : c.loop-clause.clause-index < length c.args.clauses.now = search rules in
     let cut = phrases_from c.args.clauses.now c.loop-clause.clause-index c.clause-item.result below c.clause-item.is in
-    exits c.from_residual-in_err-tree.result _ c.in_err-tree.field-0.0 _ c.from_residual-in_err-tree.ensures.1 (fails_after _ _ _ _ c.loop-clause.invariant (fails_as _ _ _ (ap (λ ps. check_each (names_of c.loop-clause.self.scope) (ty_view c.args.ty.now) (checkers ps)) cut) (fails_first _ _ _ (fails_as_wanted _ _ _ c.in_ok-wanted.ensures c.in_err-tree.ensures))))
+    exits c.from_residual-in_err-tree.result _ c.in_err-tree.field-0.0 _ c.from_residual-in_err-tree.ensures.1 (fails_after _ _ _ _ c.loop-clause.invariant (fails_as _ _ _ (ap (λ ps. check_each (names_of c.loop-clause.self.scope) (ty_view c.args.ty.now) (checkers ps)) cut) (fails_first _ _ _ (fails_met _ _ _ (ap this c.in_ok-copy.ensures) c.in_err-tree.ensures))))
 
 pub each-loop-clause-preserved : goal.each-loop-clause-preserved
 each-loop-clause-preserved t c =
     let below : c.loop-clause.clause-index < length c.args.clauses.now = search rules in
     let cut = phrases_from c.args.clauses.now c.loop-clause.clause-index c.clause-item.result below c.clause-item.is in
-    pushed c.loop-clause.trees.items _ c.in_ok-tree.tree _ _ _ c.in_ok-push.ensures.items (ap (λ ps. check_each (names_of c.loop-clause.self.scope) (ty_view c.args.ty.now) (checkers ps)) cut ∙ each_step _ _ (ty_view c.args.ty.now) _ _ (phrase_of c.clause-item.result) (phrases_in (drop (c.loop-clause.clause-index + 1) c.args.clauses.now)) (as_wanted _ _ _ _ c.in_ok-wanted.ensures c.in_ok-tree.ensures)) c.loop-clause.invariant
+    pushed c.loop-clause.trees.items _ c.in_ok-tree.field-0.tree _ _ _ c.in_ok-push.ensures.items (ap (λ ps. check_each (names_of c.loop-clause.self.scope) (ty_view c.args.ty.now) (checkers ps)) cut ∙ each_step _ _ (ty_view c.args.ty.now) _ _ (phrase_of c.clause-item.result) (phrases_in (drop (c.loop-clause.clause-index + 1) c.args.clauses.now)) (as_met _ _ _ _ _ (ap this c.in_ok-copy.ensures) c.in_ok-tree.ensures)) c.loop-clause.invariant
 
 pub each-returns : goal.each-returns
 each-returns t c =
     let past : length c.args.clauses.now ≤ c.loop-clause.clause-index = search rules in
     (ty_view c.args.ty.now, finished c.loop-clause.trees.items _ _ _ _ (ap (λ ps. check_each (names_of c.loop-clause.self.scope) (ty_view c.args.ty.now) (checkers ps)) (phrases_behind c.args.clauses.now c.loop-clause.clause-index past)) c.loop-clause.invariant)
+
+pub each-part-requires : goal.each-part-requires
+each-part-requires t c =
+    let below : c.loop-clause.clause-index < length c.args.clauses.now = search rules in
+    let light : weight (phrase_of c.clause-item.result) ≤ weight_all (phrases_in c.args.clauses.now) = subst (λ r. weight (phrase_of r) ≤ weight_all (phrases_in c.args.clauses.now)) (sym c.clause-item.is) (weight_at c.args.clauses.now c.loop-clause.clause-index _ below) in
+    search (rules, light)
+
+pub arguments-loop-i-init : goal.arguments-loop-i-init
+arguments-loop-i-init t c = ap (λ ts. after (after_nodes ts) (check_args (names_of c.args.self.now.scope) (ty_views c.args.types.now) (checkers (phrases_in c.args.args.now)))) c.new-trees.ensures.items ∙ after_nothing _ _ (λ ts. refl)
 
 pub arguments-returns-in_err-tree : goal.arguments-returns-in_err-tree
 arguments-returns-in_err-tree t c =
@@ -342,7 +255,7 @@ arguments-returns-in_err-tree t c =
     let below_types : c.loop-i.i < length c.args.types.now = let same = c.requires in omega (arith, below, same) in
     let cut = phrases_from c.args.args.now c.loop-i.i c.index-args-i.result below c.index-args-i.is in
     let types_cut = types_from c.args.types.now c.loop-i.i c.index-types-i.result below_types c.index-types-i.is in
-    exits c.from_residual-in_err-tree.result _ c.in_err-tree.field-0.0 _ c.from_residual-in_err-tree.ensures.1 (fails_after _ _ _ _ c.loop-i.invariant (fails_as _ _ _ (ap (λ ps. check_args (names_of c.loop-i.self.scope) (ty_views (drop c.loop-i.i c.args.types.now)) (checkers ps)) cut ∙ ap (λ ts. check_args (names_of c.loop-i.self.scope) ts (checkers (form.more (phrase_of c.index-args-i.result) (phrases_in (drop (c.loop-i.i + 1) c.args.args.now))))) types_cut) (fails_first _ _ _ (fails_as_wanted _ _ _ c.in_ok-wanted.ensures c.in_err-tree.ensures))))
+    exits c.from_residual-in_err-tree.result _ c.in_err-tree.field-0.0 _ c.from_residual-in_err-tree.ensures.1 (fails_after _ _ _ _ c.loop-i.invariant (fails_as _ _ _ (ap (λ ps. check_args (names_of c.loop-i.self.scope) (ty_views (drop c.loop-i.i c.args.types.now)) (checkers ps)) cut ∙ ap (λ ts. check_args (names_of c.loop-i.self.scope) ts (checkers (form.more (phrase_of c.index-args-i.result) (phrases_in (drop (c.loop-i.i + 1) c.args.args.now))))) types_cut) (fails_first _ _ _ (fails_met _ _ _ (ap this c.in_ok-copy.ensures) c.in_err-tree.ensures))))
 
 pub arguments-loop-i-preserved : goal.arguments-loop-i-preserved
 arguments-loop-i-preserved t c =
@@ -350,29 +263,33 @@ arguments-loop-i-preserved t c =
     let below_types : c.loop-i.i < length c.args.types.now = let same = c.requires in omega (arith, below, same) in
     let cut = phrases_from c.args.args.now c.loop-i.i c.index-args-i.result below c.index-args-i.is in
     let types_cut = types_from c.args.types.now c.loop-i.i c.index-types-i.result below_types c.index-types-i.is in
-    pushed c.loop-i.trees.items _ c.in_ok-tree.tree _ _ _ c.in_ok-push.ensures.items ((ap (λ ps. check_args (names_of c.loop-i.self.scope) (ty_views (drop c.loop-i.i c.args.types.now)) (checkers ps)) cut ∙ ap (λ ts. check_args (names_of c.loop-i.self.scope) ts (checkers (form.more (phrase_of c.index-args-i.result) (phrases_in (drop (c.loop-i.i + 1) c.args.args.now))))) types_cut) ∙ args_step _ _ (ty_view c.index-types-i.result) _ (ty_views (drop (c.loop-i.i + 1) c.args.types.now)) _ (phrase_of c.index-args-i.result) (phrases_in (drop (c.loop-i.i + 1) c.args.args.now)) (as_wanted _ _ _ _ c.in_ok-wanted.ensures c.in_ok-tree.ensures)) c.loop-i.invariant
+    pushed c.loop-i.trees.items _ c.in_ok-tree.field-0.tree _ _ _ c.in_ok-push.ensures.items ((ap (λ ps. check_args (names_of c.loop-i.self.scope) (ty_views (drop c.loop-i.i c.args.types.now)) (checkers ps)) cut ∙ ap (λ ts. check_args (names_of c.loop-i.self.scope) ts (checkers (form.more (phrase_of c.index-args-i.result) (phrases_in (drop (c.loop-i.i + 1) c.args.args.now))))) types_cut) ∙ args_step _ _ (ty_view c.index-types-i.result) _ (ty_views (drop (c.loop-i.i + 1) c.args.types.now)) _ (phrase_of c.index-args-i.result) (phrases_in (drop (c.loop-i.i + 1) c.args.args.now)) (as_met _ _ _ _ _ (ap this c.in_ok-copy.ensures) c.in_ok-tree.ensures)) c.loop-i.invariant
 
 pub arguments-returns : goal.arguments-returns
 arguments-returns t c =
     let past : length c.args.args.now ≤ c.loop-i.i = search rules in
     (Void, finished c.loop-i.trees.items _ _ _ _ (ap (λ ps. check_args (names_of c.loop-i.self.scope) (ty_views (drop c.loop-i.i c.args.types.now)) (checkers ps)) (phrases_behind c.args.args.now c.loop-i.i past) ∙ no_args _ _) c.loop-i.invariant)
 
-pub items-returns-in_err-tree : goal.items-returns-in_err-tree
-items-returns-in_err-tree t c =
-    let below : c.loop-item.item-index < length c.args.items.now = search rules in
-    let cut = phrases_from c.args.items.now c.loop-item.item-index c.item-item.result below c.item-item.is in
-    exits c.from_residual.result _ c.in_err-tree.field-0.0 _ c.from_residual.ensures.1 (fails_after _ _ _ _ c.loop-item.invariant (fails_as _ _ _ (ap (check_all (names_of c.loop-item.self.scope) c.loop-item.line (ty_view c.loop-item.before)) cut ∙ all_is (names_of c.loop-item.self.scope) c.loop-item.line (ty_view c.loop-item.before) (phrase_of c.item-item.result) (phrases_in (drop (c.loop-item.item-index + 1) c.args.items.now))) (fails_first _ _ _ c.in_err-tree.ensures)))
+pub arguments-part-requires : goal.arguments-part-requires
+arguments-part-requires t c =
+    let below : c.loop-i.i < length c.args.args.now = search rules in
+    let light : weight (phrase_of c.index-args-i.result) ≤ weight_all (phrases_in c.args.args.now) = subst (λ r. weight (phrase_of r) ≤ weight_all (phrases_in c.args.args.now)) (sym c.index-args-i.is) (weight_at c.args.args.now c.loop-i.i _ below) in
+    search (rules, light)
 
-pub items-loop-item-preserved : goal.items-loop-item-preserved
-items-loop-item-preserved t c =
-    let below : c.loop-item.item-index < length c.args.items.now = search rules in
-    let cut = phrases_from c.args.items.now c.loop-item.item-index c.item-item.result below c.item-item.is in
-    pushed c.loop-item.trees.items _ c.in_ok-tree.field-0.tree _ _ _ c.in_ok-push.ensures.items (ap (check_all (names_of c.loop-item.self.scope) c.loop-item.line (ty_view c.loop-item.before)) cut ∙ all_step (names_of c.loop-item.self.scope) _ c.loop-item.line (ty_view c.loop-item.before) _ _ (phrase_of c.item-item.result) (phrases_in (drop (c.loop-item.item-index + 1) c.args.items.now)) c.in_ok-tree.ensures) c.loop-item.invariant
+pub write-returns-in_err-trees : goal.write-returns-in_err-trees
+write-returns-in_err-trees t c = exits c.from_residual.result _ c.in_err-trees.field-0.0 _ c.from_residual.ensures.1 (fails_first _ _ _ c.in_err-trees.ensures)
 
-pub items-returns : goal.items-returns
-items-returns t c =
-    let past : length c.args.items.now ≤ c.loop-item.item-index = search rules in
-    finished c.loop-item.trees.items _ _ _ _ (ap (check_all (names_of c.loop-item.self.scope) c.loop-item.line (ty_view c.loop-item.before)) (phrases_behind c.args.items.now c.loop-item.item-index past)) c.loop-item.invariant
+pub write-returns : goal.write-returns
+write-returns t c = made _ _ _ _ c.one_or_sequence.result (given _ _ _ _ _ c.in_ok-trees.ensures.1) c.one_or_sequence.ensures
+
+pub written-loop-item-init : goal.written-loop-item-init
+written-loop-item-init t c = ap (λ ts. after (after_nodes ts) (check_written (names_of c.args.self.now.scope) (items_in c.args.items.now))) c.new-trees.ensures.items ∙ after_nothing _ _ (λ ts. refl)
+
+pub written-written_item-requires : goal.written-written_item-requires
+written-written_item-requires t c =
+    let below : c.loop-item.item-index < length c.args.items.now = search rules in
+    let light : weight_item (item_of c.item-item.result) ≤ weight_written (items_in c.args.items.now) = subst (λ r. weight_item (item_of r) ≤ weight_written (items_in c.args.items.now)) (sym c.item-item.is) (item_weight_at c.args.items.now c.loop-item.item-index _ below) in
+    search (rules, light)
 
 pub written-returns-in_err-tree : goal.written-returns-in_err-tree
 written-returns-in_err-tree t c =
@@ -391,22 +308,26 @@ written-returns t c =
     let past : length c.args.items.now ≤ c.loop-item.item-index = search rules in
     (Void, finished c.loop-item.trees.items _ _ _ _ (ap (check_written (names_of c.loop-item.self.scope)) (items_behind c.args.items.now c.loop-item.item-index past)) c.loop-item.invariant)
 
-pub more_arms-returns-in_err-arm : goal.more_arms-returns-in_err-arm
-more_arms-returns-in_err-arm t c =
-    let below : c.loop-arm.arm-index < length c.args.arms.now = search rules in
-    let cut = arms_from c.args.arms.now c.loop-arm.arm-index c.arm-item.result below c.arm-item.is in
-    exits c.from_residual-in_err-arm.result _ c.in_err-arm.field-0.0 _ c.from_residual-in_err-arm.ensures.1 (fails_in_all (ty_view c.args.own.now) _ _ _ _ _ c.loop-arm.invariant (fails_as _ _ _ (ap (check_arms (names_of c.loop-arm.self.scope) (ty_view c.args.ty.now) (Some (ty_view c.args.own.now))) cut ∙ arms_are _ _ _ _ _) (fails_first _ _ _ (subst (λ k. IsFault (check_arm (names_of c.loop-arm.self.scope) (ty_view c.args.ty.now) (Some k) (arm_of c.arm-item.result)) c.in_err-arm.field-0.0) c.in_ok-wanted.ensures c.in_err-arm.ensures))))
+pub written_item-returns-in_err-e : goal.written_item-returns-in_err-e
+written_item-returns-in_err-e t c = exits c.from_residual.result _ c.in_err-e.field-0.0 _ c.from_residual.ensures.1 (fails_as _ _ _ (ap (check_item (names_of c.args.self.now.scope)) (item_of-parts c.args.item.now)) (fails_first _ _ _ c.in_err-e.ensures))
 
-pub more_arms-loop-arm-preserved : goal.more_arms-loop-arm-preserved
-more_arms-loop-arm-preserved t c =
-    let below : c.loop-arm.arm-index < length c.args.arms.now = search rules in
-    let cut = arms_from c.args.arms.now c.loop-arm.arm-index c.arm-item.result below c.arm-item.is in
-    pushed_arm (ty_view c.args.own.now) c.loop-arm.made.items _ c.in_ok-arm.field-0.arm _ _ _ c.in_ok-push.ensures.items (ap (check_arms (names_of c.loop-arm.self.scope) (ty_view c.args.ty.now) (Some (ty_view c.args.own.now))) cut ∙ arms_step _ _ _ _ _ _ _ _ (subst (λ k. check_arm (names_of c.loop-arm.self.scope) (ty_view c.args.ty.now) (Some k) (arm_of c.arm-item.result) ≡ Gives (tree_arm_of c.in_ok-arm.field-0.arm) (ty_view c.in_ok-arm.field-0.ty) (names_of c.arm.new.self.scope)) c.in_ok-wanted.ensures c.in_ok-arm.ensures)) c.loop-arm.invariant
+pub written_item-returns-in_err-w : goal.written_item-returns-in_err-w
+written_item-returns-in_err-w t c = exits c.from_residual-in_err-w.result _ c.in_err-w.field-0.0 _ c.from_residual-in_err-w.ensures.1 (fails_as _ _ _ (ap (check_item (names_of c.args.self.now.scope)) (item_of-parts c.args.item.now)) (fails_next _ _ _ _ _ _ c.in_ok-e.ensures (fails_first _ _ _ (subst (λ m. IsFault (check_if_any (names_of c.part.new.self.scope) types.Int node.Empty m) c.in_err-w.field-0.0) c.lent.ensures c.in_err-w.ensures))))
 
-pub more_arms-returns : goal.more_arms-returns
-more_arms-returns t c =
-    let past : length c.args.arms.now ≤ c.loop-arm.arm-index = search rules in
-    finished_arms (ty_view c.args.own.now) _ c.loop-arm.made.items _ _ _ (ap (check_arms (names_of c.loop-arm.self.scope) (ty_view c.args.ty.now) (Some (ty_view c.args.own.now))) (arms_behind c.args.arms.now c.loop-arm.arm-index past)) c.loop-arm.invariant
+pub written_item-returns : goal.written_item-returns
+written_item-returns t c = ap (check_item (names_of c.args.self.now.scope)) (item_of-parts c.args.item.now) ∙ given _ _ _ _ _ c.in_ok-e.ensures ∙ given _ _ _ _ _ (subst (λ m. check_if_any (names_of c.part.new.self.scope) types.Int node.Empty m ≡ Gives (node_of c.in_ok-w.field-0.tree) (ty_view c.in_ok-w.field-0.ty) (names_of c.if_any.new.self.scope)) c.lent.ensures c.in_ok-w.ensures) ∙ ap (λ b. Gives (node.Write (node_of c.in_ok-e.field-0.tree) (node_of c.in_ok-w.field-0.tree) b (ty_view c.in_ok-e.field-0.ty) (out-RoughItem c.args.item.now).line) Void (names_of c.if_any.new.self.scope)) (sym c.is_int-wide.ensures) ∙ ap (λ t. Gives t Void (names_of c.if_any.new.self.scope)) (sym c.in_ok-new.ensures)
+
+pub case_of-returns-in_err-e : goal.case_of-returns-in_err-e
+case_of-returns-in_err-e t c = exits c.from_residual.result _ c.in_err-e.field-0.0 _ c.from_residual.ensures.1 (fails_first _ _ _ c.in_err-e.ensures)
+
+pub case_of-returns-in_err-arms : goal.case_of-returns-in_err-arms
+case_of-returns-in_err-arms t c = exits c.from_residual-in_err-arms.result _ c.in_err-arms.field-0.0 _ c.from_residual-in_err-arms.ensures.1 (fails_next _ _ _ _ _ _ (c.in_ok-e.ensures) (fails_first _ _ _ c.in_err-arms.ensures))
+
+pub case_of-returns-in_err-d : goal.case_of-returns-in_err-d
+case_of-returns-in_err-d t c = exits c.from_residual-in_err-d.result _ c.in_err-d.field-0.0 _ c.from_residual-in_err-d.ensures.1 (fails_next _ _ _ _ _ _ (c.in_ok-e.ensures) (fails_next _ _ _ _ _ _ (c.in_ok-arms.ensures.1) (fails_first _ _ _ (subst (λ g. IsFault (like g c.args.d.now.line (check (names_of c.arms.new.self.scope) (phrase_of c.args.d.now))) c.in_err-d.field-0.0) (sym c.in_ok-arms.ensures.2) c.in_err-d.ensures))))
+
+pub case_of-returns : goal.case_of-returns
+case_of-returns t c = made _ _ _ _ c.new.result (given _ _ _ _ _ (c.in_ok-e.ensures) ∙ given _ _ _ _ _ (c.in_ok-arms.ensures.1) ∙ given _ _ _ _ _ (subst (λ g. like g c.args.d.now.line (check (names_of c.arms.new.self.scope) (phrase_of c.args.d.now)) ≡ Gives (node_of c.in_ok-d.field-0.tree) (ty_view c.in_ok-d.field-0.ty) (names_of c.like.new.self.scope)) (sym c.in_ok-arms.ensures.2) c.in_ok-d.ensures)) (remade _ _ _ c.new.result (case_is _ c.in_ok-e.field-0.tree _ c.in_ok-d.field-0.tree c.in_ok-e.field-0.ty c.in_ok-arms.field-0.arms.items refl (sym c.new-arms.ensures)) c.new.ensures)
 
 pub arms-returns-in_err-arm-in-Some : goal.arms-returns-in_err-arm-in-Some
 arms-returns-in_err-arm-in-Some t c = exits c.from_residual.result _ c.in_err-arm-in-Some.field-0.0 _ c.from_residual.ensures.1 (fails_as _ _ _ (ap (λ arms. check_arms (names_of c.args.self.now.scope) (ty_view c.args.ty.now) None (rough_arms_in arms)) c.in-Some.ensures.cases.0 ∙ arms_are _ _ _ _ _) (fails_first _ _ _ c.in_err-arm-in-Some.ensures))
@@ -427,6 +348,29 @@ arms-returns-in_ok-more_arms-in-Some t c =
     subst (λ made. (rest >>= λ arms last n. Gives (all_arms (arms_in made) arms) own n) ≡ Gives (arms_in c.more_arms.new.made.items) own (names_of c.more_arms.new.self.scope)) only c.in_ok-more_arms-in-Some.ensures in
     (own, (ap (λ arms. check_arms (names_of c.args.self.now.scope) (ty_view c.args.ty.now) None (rough_arms_in arms)) c.in-Some.ensures.cases.0 ∙ arms_are _ _ _ _ _) ∙ given _ _ _ _ _ c.in_ok-arm-in-Some.ensures ∙ all, first_is rest _ _ _ _ all)
 
+pub more_arms-arm-requires : goal.more_arms-arm-requires
+more_arms-arm-requires t c =
+    let below : c.loop-arm.arm-index < length c.args.arms.now = search rules in
+    let light : weight_arm (arm_of c.arm-item.result) ≤ weight_arms (rough_arms_in c.args.arms.now) = subst (λ r. weight_arm (arm_of r) ≤ weight_arms (rough_arms_in c.args.arms.now)) (sym c.arm-item.is) (arm_weight_at c.args.arms.now c.loop-arm.arm-index _ below) in
+    search (rules, light)
+
+pub more_arms-returns-in_err-arm : goal.more_arms-returns-in_err-arm
+more_arms-returns-in_err-arm t c =
+    let below : c.loop-arm.arm-index < length c.args.arms.now = search rules in
+    let cut = arms_from c.args.arms.now c.loop-arm.arm-index c.arm-item.result below c.arm-item.is in
+    exits c.from_residual-in_err-arm.result _ c.in_err-arm.field-0.0 _ c.from_residual-in_err-arm.ensures.1 (fails_in_all (ty_view c.args.own.now) _ _ _ _ _ c.loop-arm.invariant (fails_as _ _ _ (ap (check_arms (names_of c.loop-arm.self.scope) (ty_view c.args.ty.now) (Some (ty_view c.args.own.now))) cut ∙ arms_are _ _ _ _ _) (fails_first _ _ _ (subst (λ k. IsFault (check_arm (names_of c.loop-arm.self.scope) (ty_view c.args.ty.now) (Some k) (arm_of c.arm-item.result)) c.in_err-arm.field-0.0) c.in_ok-wanted.ensures c.in_err-arm.ensures))))
+
+pub more_arms-loop-arm-preserved : goal.more_arms-loop-arm-preserved
+more_arms-loop-arm-preserved t c =
+    let below : c.loop-arm.arm-index < length c.args.arms.now = search rules in
+    let cut = arms_from c.args.arms.now c.loop-arm.arm-index c.arm-item.result below c.arm-item.is in
+    pushed_arm (ty_view c.args.own.now) c.loop-arm.made.items _ c.in_ok-arm.field-0.arm _ _ _ c.in_ok-push.ensures.items (ap (check_arms (names_of c.loop-arm.self.scope) (ty_view c.args.ty.now) (Some (ty_view c.args.own.now))) cut ∙ arms_step _ _ _ _ _ _ _ _ (subst (λ k. check_arm (names_of c.loop-arm.self.scope) (ty_view c.args.ty.now) (Some k) (arm_of c.arm-item.result) ≡ Gives (tree_arm_of c.in_ok-arm.field-0.arm) (ty_view c.in_ok-arm.field-0.ty) (names_of c.arm.new.self.scope)) c.in_ok-wanted.ensures c.in_ok-arm.ensures)) c.loop-arm.invariant
+
+pub more_arms-returns : goal.more_arms-returns
+more_arms-returns t c =
+    let past : length c.args.arms.now ≤ c.loop-arm.arm-index = search rules in
+    finished_arms (ty_view c.args.own.now) _ c.loop-arm.made.items _ _ _ (ap (check_arms (names_of c.loop-arm.self.scope) (ty_view c.args.ty.now) (Some (ty_view c.args.own.now))) (arms_behind c.args.arms.now c.loop-arm.arm-index past)) c.loop-arm.invariant
+
 pub arm-returns-in_err-each : goal.arm-returns-in_err-each
 arm-returns-in_err-each t c = exits c.from_residual.result _ c.in_err-each.field-0.0 _ c.from_residual.ensures.1 (fails_as _ _ _ (ap (check_arm (names_of c.args.self.now.scope) (ty_view c.args.ty.now) (option_map ty_view c.args.given)) (arm_of-parts c.args.arm.now) ∙ ap (λ labels. check_arm (names_of c.args.self.now.scope) (ty_view c.args.ty.now) (option_map ty_view c.args.given) (form.arm (phrases_in labels) (phrase_of (out-RoughArm c.args.arm.now).a))) (sym c.as_slice.ensures)) (fails_first _ _ _ c.in_err-each.ensures))
 
@@ -441,14 +385,79 @@ arm-each-requires t c =
     let is : weight_arm (arm_of c.args.arm.now) ≡ weight_all (phrases_in c.as_slice.result.now) + weight (phrase_of (out-RoughArm c.args.arm.now).a) = ap weight_arm (arm_of-parts c.args.arm.now) ∙ ap (λ labels. weight_all (phrases_in labels) + weight (phrase_of (out-RoughArm c.args.arm.now).a)) (sym c.as_slice.ensures) in
     search (rules, is)
 
-pub case_of-returns-in_err-d : goal.case_of-returns-in_err-d
-case_of-returns-in_err-d t c = exits c.from_residual-in_err-d.result _ c.in_err-d.field-0.0 _ c.from_residual-in_err-d.ensures.1 (fails_next _ _ _ _ _ _ (c.in_ok-e.ensures) (fails_next _ _ _ _ _ _ (c.in_ok-arms.ensures.1) (fails_first _ _ _ (subst (λ g. IsFault (like g c.args.d.now.line (check (names_of c.arms.new.self.scope) (phrase_of c.args.d.now))) c.in_err-d.field-0.0) (sym c.in_ok-arms.ensures.2) c.in_err-d.ensures))))
+pub sequence-returns-in_err-trees : goal.sequence-returns-in_err-trees
+sequence-returns-in_err-trees t c = exits c.from_residual.result _ c.in_err-trees.field-0.0 _ c.from_residual.ensures.1 (fails_first _ _ _ (subst (λ n. IsFault (check_all n c.args.line Void (phrases_in c.args.items.now)) c.in_err-trees.field-0.0) c.enter-block.ensures.names c.in_err-trees.ensures))
 
-pub case_of-returns : goal.case_of-returns
-case_of-returns t c = made _ _ _ _ c.new.result (given _ _ _ _ _ (c.in_ok-e.ensures) ∙ given _ _ _ _ _ (c.in_ok-arms.ensures.1) ∙ given _ _ _ _ _ (subst (λ g. like g c.args.d.now.line (check (names_of c.arms.new.self.scope) (phrase_of c.args.d.now)) ≡ Gives (node_of c.in_ok-d.field-0.tree) (ty_view c.in_ok-d.field-0.ty) (names_of c.like.new.self.scope)) (sym c.in_ok-arms.ensures.2) c.in_ok-d.ensures)) (remade _ _ _ c.new.result (case_is _ c.in_ok-e.field-0.tree _ c.in_ok-d.field-0.tree c.in_ok-e.field-0.ty c.in_ok-arms.field-0.arms.items refl (sym c.new-arms.ensures)) c.new.ensures)
+pub sequence-leave-requires-clause-names : goal.sequence-leave-requires-clause-names
+sequence-leave-requires-clause-names t c = stays _ _ _ _ (all_keeps_around _ _ _ _ _ _ _ c.in_ok-trees.ensures ∙ ap (λ (n : Names). n.around) c.enter-block.ensures.names) c.enter-block.ensures.names_around
 
-pub assign-returns : goal.assign-returns
-assign-returns t c = leads _ _ _ _ (given _ _ _ _ _ (c.in_ok-x.ensures) ∙ given _ _ _ _ _ (c.in_ok-value.ensures) ∙ ap (λ v. assigned c.args.line c.args.e.now.line v (assignment (node_of c.in_ok-x.field-0.tree) (node_of c.in_ok-value.field-0.tree)) (ty_view c.in_ok-x.field-0.ty) (ty_view c.in_ok-value.field-0.ty) (names_of c.clause-2.new.self.scope)) (sym c.can_be_assigned-variable.ensures) ∙ ap (λ a. assigned c.args.line c.args.e.now.line c.can_be_assigned-variable.result a (ty_view c.in_ok-x.field-0.ty) (ty_view c.in_ok-value.field-0.ty) (names_of c.clause-2.new.self.scope)) (sym c.in_ok-assignment.ensures)) (c.assigned.ensures c.clause-2.new.self.scope)
+pub sequence-leave-requires-clause-fields : goal.sequence-leave-requires-clause-fields
+sequence-leave-requires-clause-fields t c = stays _ _ _ _ (all_keeps_fields_around _ _ _ _ _ _ _ c.in_ok-trees.ensures ∙ ap (λ (n : Names). n.fields_around) c.enter-block.ensures.names) c.enter-block.ensures.fields_around
+
+pub sequence-returns : goal.sequence-returns
+sequence-returns t c = made _ _ _ _ c.block_of.result (given _ _ _ _ _ (ap (λ n. check_all n c.args.line Void (phrases_in c.args.items.now)) (sym c.enter-block.ensures.names) ∙ c.in_ok-trees.ensures) ∙ ap (λ n. Gives (node.Block None (nodes_in c.in_ok-trees.field-0.trees.items)) (ty_view c.in_ok-trees.field-0.ty) n) (sym (c.leave.ensures (names_of c.args.self.now.scope) (all_keeps_around _ _ _ _ _ _ _ c.in_ok-trees.ensures ∙ ap (λ (n : Names). n.around) c.enter-block.ensures.names) (all_keeps_fields_around _ _ _ _ _ _ _ c.in_ok-trees.ensures ∙ ap (λ (n : Names). n.fields_around) c.enter-block.ensures.names) c.enter-block.ensures.names_around c.enter-block.ensures.fields_around))) c.block_of.ensures
+
+pub items-loop-item-init : goal.items-loop-item-init
+items-loop-item-init t c = ap (λ ts. after (after_nodes ts) (check_all (names_of c.args.self.now.scope) c.args.line Void (phrases_in c.args.items.now))) c.new-trees.ensures.items ∙ after_nothing _ _ (λ ts. refl)
+
+pub items-item-requires : goal.items-item-requires
+items-item-requires t c =
+    let below : c.loop-item.item-index < length c.args.items.now = search rules in
+    let light : weight (phrase_of c.item-item.result) ≤ weight_all (phrases_in c.args.items.now) = subst (λ r. weight (phrase_of r) ≤ weight_all (phrases_in c.args.items.now)) (sym c.item-item.is) (weight_at c.args.items.now c.loop-item.item-index _ below) in
+    search (rules, light)
+
+pub items-returns-in_err-tree : goal.items-returns-in_err-tree
+items-returns-in_err-tree t c =
+    let below : c.loop-item.item-index < length c.args.items.now = search rules in
+    let cut = phrases_from c.args.items.now c.loop-item.item-index c.item-item.result below c.item-item.is in
+    exits c.from_residual.result _ c.in_err-tree.field-0.0 _ c.from_residual.ensures.1 (fails_after _ _ _ _ c.loop-item.invariant (fails_as _ _ _ (ap (check_all (names_of c.loop-item.self.scope) c.loop-item.line (ty_view c.loop-item.before)) cut ∙ all_is (names_of c.loop-item.self.scope) c.loop-item.line (ty_view c.loop-item.before) (phrase_of c.item-item.result) (phrases_in (drop (c.loop-item.item-index + 1) c.args.items.now))) (fails_first _ _ _ c.in_err-tree.ensures)))
+
+pub items-loop-item-preserved : goal.items-loop-item-preserved
+items-loop-item-preserved t c =
+    let below : c.loop-item.item-index < length c.args.items.now = search rules in
+    let cut = phrases_from c.args.items.now c.loop-item.item-index c.item-item.result below c.item-item.is in
+    pushed c.loop-item.trees.items _ c.in_ok-tree.field-0.tree _ _ _ c.in_ok-push.ensures.items (ap (check_all (names_of c.loop-item.self.scope) c.loop-item.line (ty_view c.loop-item.before)) cut ∙ all_step (names_of c.loop-item.self.scope) _ c.loop-item.line (ty_view c.loop-item.before) _ _ (phrase_of c.item-item.result) (phrases_in (drop (c.loop-item.item-index + 1) c.args.items.now)) c.in_ok-tree.ensures) c.loop-item.invariant
+
+pub items-returns : goal.items-returns
+items-returns t c =
+    let past : length c.args.items.now ≤ c.loop-item.item-index = search rules in
+    finished c.loop-item.trees.items _ _ _ _ (ap (check_all (names_of c.loop-item.self.scope) c.loop-item.line (ty_view c.loop-item.before)) (phrases_behind c.args.items.now c.loop-item.item-index past)) c.loop-item.invariant
+
+pub item-returns-then-not-is_void : goal.item-returns-then-not-is_void
+item-returns-then-not-is_void t c = is_fault _ _ (Mismatch c.args.line (ty_view c.args.before) Void) refl (ap (λ b. if b then check (names_of c.args.self.now.scope) (phrase_of c.args.item.now) else Refuses (Mismatch c.args.line (ty_view c.args.before) Void)) (not_void _ (sym c.is_void.ensures ∙ ap not c.if-not-is_void.true)))
+
+pub declaration-returns-in-Some : goal.declaration-returns-in-Some
+declaration-returns-in-Some t c = λ line. leads _ _ _ _ (let_literal (names_of c.args.self.now.scope) line _ c.args.variable (phrase_of c.args.e.now) _ (sym c.in-Some.ensures)) c.named_literal.ensures
+
+pub declaration-returns-in-None : goal.declaration-returns-in-None
+declaration-returns-in-None t c = λ line. leads _ _ _ _ (let_other (names_of c.args.self.now.scope) line _ c.args.variable (phrase_of c.args.e.now) (sym c.in-None.ensures)) c.single.ensures
+
+pub named_literal-returns-in_err-e : goal.named_literal-returns-in_err-e
+named_literal-returns-in_err-e t c = exits c.from_residual-in_err-e.result _ c.in_err-e.field-0.0 _ c.from_residual-in_err-e.ensures.1 (fails_as _ _ _ (ap (λ b. if b then Refuses (Twice c.args.name.now.line) else (check_literal (declare_local (names_of c.args.self.now.scope) c.args.name.now.name (types.Proc (types_of (groups_in c.args.literal.params.now)) (ty_view c.args.literal.gives.now)) c.args.variable) (literal_of c.args.literal) >>= (λ e t last. Gives (node.Let (Plain (length (names_of c.args.self.now.scope).all)) t e) Void last))) (ap (is_declared (names_of c.args.self.now.scope)) (sym c.as_slice.ensures) ∙ sym c.declares.ensures ∙ c.if-declares.false)) (fails_first _ _ (λ e t last. Gives (node.Let (Plain (length (names_of c.args.self.now.scope).all)) t e) Void last) (subst (λ n. IsFault (check_literal n (literal_of c.args.literal)) c.in_err-e.field-0.0) (c.in_ok-number.ensures.names ∙ ap (λ nm. declare_local (names_of c.args.self.now.scope) nm (ty_view c.in_ok-ty.ty) c.args.variable) c.as_slice-name.ensures ∙ ap (λ k. declare_local (names_of c.args.self.now.scope) c.args.name.now.name k c.args.variable) c.in_ok-ty.ensures) c.in_err-e.ensures)))
+
+pub named_literal-returns : goal.named_literal-returns
+named_literal-returns t c = made _ _ _ _ c.new.result ((ap (λ b. if b then Refuses (Twice c.args.name.now.line) else (check_literal (declare_local (names_of c.args.self.now.scope) c.args.name.now.name (types.Proc (types_of (groups_in c.args.literal.params.now)) (ty_view c.args.literal.gives.now)) c.args.variable) (literal_of c.args.literal) >>= (λ e t last. Gives (node.Let (Plain (length (names_of c.args.self.now.scope).all)) t e) Void last))) (ap (is_declared (names_of c.args.self.now.scope)) (sym c.as_slice.ensures) ∙ sym c.declares.ensures ∙ c.if-declares.false)) ∙ given _ _ _ _ (λ e t last. Gives (node.Let (Plain (length (names_of c.args.self.now.scope).all)) t e) Void last) (subst (λ n. check_literal n (literal_of c.args.literal) ≡ Gives (node_of c.in_ok-e.field-0.tree) (ty_view c.in_ok-e.field-0.ty) (names_of c.literal.new.self.scope)) (c.in_ok-number.ensures.names ∙ ap (λ nm. declare_local (names_of c.args.self.now.scope) nm (ty_view c.in_ok-ty.ty) c.args.variable) c.as_slice-name.ensures ∙ ap (λ k. declare_local (names_of c.args.self.now.scope) c.args.name.now.name k c.args.variable) c.in_ok-ty.ensures) c.in_ok-e.ensures)) (remade _ _ _ c.new.result (ap (λ k. node.Let (Plain k) (ty_view c.in_ok-e.field-0.ty) (node_of c.in_ok-e.field-0.tree)) c.in_ok-number.ensures.number) c.new.ensures)
+
+pub literal-returns-then-len-gt-MOST : goal.literal-returns-then-len-gt-MOST
+literal-returns-then-len-gt-MOST t c =
+    let at : c.len.result ≡ length c.in_ok-params.params.items = search rules in
+    let counted : c.len-count.result ≡ length c.in_ok-params.params.items = search rules in
+    fails_first _ _ (λ made t own. wants (ty_view c.args.literal.gives.now) c.args.literal.s.now.line (check own (phrase_of c.args.literal.s.now)) >>= λ s t last. Gives (node.Proc (node.body made (ty_view c.args.literal.gives.now) s None c.args.literal.line)) (types.Proc (types_of (groups_in c.args.literal.params.now)) (ty_view c.args.literal.gives.now)) (behind (names_of c.args.self.now.scope) last)) (is_fault _ _ (Limit c.args.literal.line (length (groups_in c.args.literal.params.now))) (ap (λ k. Some (Limit c.args.literal.line k)) (count_is c.in_ok-params.params.items _ _ c.in_ok-params.ensures counted)) (ap (λ b. if b then Refuses (Limit c.args.literal.line (length (groups_in c.args.literal.params.now))) else with_params (inside (names_of c.args.self.now.scope)) [] (groups_in c.args.literal.params.now)) (many c.in_ok-params.params.items _ _ c.in_ok-params.ensures at c.if-len-gt-MOST.true)))
+
+pub literal-returns-in_err-places : goal.literal-returns-in_err-places
+literal-returns-in_err-places t c = exits c.from_residual-in_err-places.result _ c.in_err-places.field-0.0 _ c.from_residual-in_err-places.ensures.1 (fails_first _ _ (λ made t own. wants (ty_view c.args.literal.gives.now) c.args.literal.s.now.line (check own (phrase_of c.args.literal.s.now)) >>= λ s t last. Gives (node.Proc (node.body made (ty_view c.args.literal.gives.now) s None c.args.literal.line)) (types.Proc (types_of (groups_in c.args.literal.params.now)) (ty_view c.args.literal.gives.now)) (behind (names_of c.args.self.now.scope) last)) (fails_as _ _ _ ((ap (λ b. if b then Refuses (Limit c.args.literal.line (length (groups_in c.args.literal.params.now))) else with_params (inside (names_of c.args.self.now.scope)) [] (groups_in c.args.literal.params.now)) (few c.in_ok-params.params.items _ _ c.in_ok-params.ensures (let at : c.len.result ≡ length c.in_ok-params.params.items = search rules in at) c.if-len-gt-MOST.false)) ∙ ap (with_params (inside (names_of c.args.self.now.scope)) []) (sym (ap groups_of c.as_slice.ensures.value ∙ c.in_ok-params.ensures))) (subst (λ n. IsFault (with_params n [] (groups_of c.as_slice.result.now)) c.in_err-places.field-0.0) c.enter-block.ensures.names c.in_err-places.ensures)))
+
+pub literal-returns-in_err-s : goal.literal-returns-in_err-s
+literal-returns-in_err-s t c = exits c.from_residual-in_err-s.result _ c.in_err-s.field-0.0 _ c.from_residual-in_err-s.ensures.1 (fails_next _ _ _ _ (λ made t own. wants (ty_view c.args.literal.gives.now) c.args.literal.s.now.line (check own (phrase_of c.args.literal.s.now)) >>= λ s t last. Gives (node.Proc (node.body made (ty_view c.args.literal.gives.now) s None c.args.literal.line)) (types.Proc (types_of (groups_in c.args.literal.params.now)) (ty_view c.args.literal.gives.now)) (behind (names_of c.args.self.now.scope) last)) _ ((ap (λ b. if b then Refuses (Limit c.args.literal.line (length (groups_in c.args.literal.params.now))) else with_params (inside (names_of c.args.self.now.scope)) [] (groups_in c.args.literal.params.now)) (few c.in_ok-params.params.items _ _ c.in_ok-params.ensures (let at : c.len.result ≡ length c.in_ok-params.params.items = search rules in at) c.if-len-gt-MOST.false)) ∙ ap (with_params (inside (names_of c.args.self.now.scope)) []) (sym (ap groups_of c.as_slice.ensures.value ∙ c.in_ok-params.ensures)) ∙ (subst (λ n. with_params n [] (groups_of c.as_slice.result.now) ≡ Gives (params_of c.in_ok-places.places.items) Void (names_of c.parameters.new.scope)) c.enter-block.ensures.names c.in_ok-places.ensures)) (fails_first _ _ _ (fails_met _ _ _ (ap this c.in_ok-copy.ensures) c.in_err-s.ensures)))
+
+pub literal-leave-requires-clause-names : goal.literal-leave-requires-clause-names
+literal-leave-requires-clause-names t c = stays _ _ _ _ (keeps_around _ (phrase_of c.args.literal.s.now) _ _ _ (unpassed _ _ _ _ _ _ _ (as_met _ _ _ _ _ (ap this c.in_ok-copy.ensures) c.in_ok-s.ensures)) ∙ params_keep_around (inside (names_of c.args.self.now.scope)) [] (groups_of c.as_slice.result.now) _ _ _ (subst (λ n. with_params n [] (groups_of c.as_slice.result.now) ≡ Gives (params_of c.in_ok-places.places.items) Void (names_of c.parameters.new.scope)) c.enter-block.ensures.names c.in_ok-places.ensures)) c.enter-block.ensures.names_around
+
+pub literal-leave-requires-clause-fields : goal.literal-leave-requires-clause-fields
+literal-leave-requires-clause-fields t c = stays _ _ _ _ (keeps_fields_around _ (phrase_of c.args.literal.s.now) _ _ _ (unpassed _ _ _ _ _ _ _ (as_met _ _ _ _ _ (ap this c.in_ok-copy.ensures) c.in_ok-s.ensures)) ∙ params_keep_fields_around (inside (names_of c.args.self.now.scope)) [] (groups_of c.as_slice.result.now) _ _ _ (subst (λ n. with_params n [] (groups_of c.as_slice.result.now) ≡ Gives (params_of c.in_ok-places.places.items) Void (names_of c.parameters.new.scope)) c.enter-block.ensures.names c.in_ok-places.ensures)) c.enter-block.ensures.fields_around
+
+pub literal-returns : goal.literal-returns
+literal-returns t c = made _ _ _ _ c.procedure.result (given _ _ _ _ (λ made t own. wants (ty_view c.args.literal.gives.now) c.args.literal.s.now.line (check own (phrase_of c.args.literal.s.now)) >>= λ s t last. Gives (node.Proc (node.body made (ty_view c.args.literal.gives.now) s None c.args.literal.line)) (types.Proc (types_of (groups_in c.args.literal.params.now)) (ty_view c.args.literal.gives.now)) (behind (names_of c.args.self.now.scope) last)) ((ap (λ b. if b then Refuses (Limit c.args.literal.line (length (groups_in c.args.literal.params.now))) else with_params (inside (names_of c.args.self.now.scope)) [] (groups_in c.args.literal.params.now)) (few c.in_ok-params.params.items _ _ c.in_ok-params.ensures (let at : c.len.result ≡ length c.in_ok-params.params.items = search rules in at) c.if-len-gt-MOST.false)) ∙ ap (with_params (inside (names_of c.args.self.now.scope)) []) (sym (ap groups_of c.as_slice.ensures.value ∙ c.in_ok-params.ensures)) ∙ (subst (λ n. with_params n [] (groups_of c.as_slice.result.now) ≡ Gives (params_of c.in_ok-places.places.items) Void (names_of c.parameters.new.scope)) c.enter-block.ensures.names c.in_ok-places.ensures)) ∙ given _ _ _ _ _ (as_met _ _ _ _ _ (ap this c.in_ok-copy.ensures) c.in_ok-s.ensures) ∙ ap (λ n. Gives (node.Proc (node.body (params_of c.in_ok-places.places.items) (ty_view c.args.literal.gives.now) (node_of c.in_ok-s.field-0.tree) None c.args.literal.line)) (types.Proc (types_of (groups_in c.args.literal.params.now)) (ty_view c.args.literal.gives.now)) n) (sym (c.leave.ensures (names_of c.args.self.now.scope) (keeps_around _ (phrase_of c.args.literal.s.now) _ _ _ (unpassed _ _ _ _ _ _ _ (as_met _ _ _ _ _ (ap this c.in_ok-copy.ensures) c.in_ok-s.ensures)) ∙ params_keep_around (inside (names_of c.args.self.now.scope)) [] (groups_of c.as_slice.result.now) _ _ _ (subst (λ n. with_params n [] (groups_of c.as_slice.result.now) ≡ Gives (params_of c.in_ok-places.places.items) Void (names_of c.parameters.new.scope)) c.enter-block.ensures.names c.in_ok-places.ensures)) (keeps_fields_around _ (phrase_of c.args.literal.s.now) _ _ _ (unpassed _ _ _ _ _ _ _ (as_met _ _ _ _ _ (ap this c.in_ok-copy.ensures) c.in_ok-s.ensures)) ∙ params_keep_fields_around (inside (names_of c.args.self.now.scope)) [] (groups_of c.as_slice.result.now) _ _ _ (subst (λ n. with_params n [] (groups_of c.as_slice.result.now) ≡ Gives (params_of c.in_ok-places.places.items) Void (names_of c.parameters.new.scope)) c.enter-block.ensures.names c.in_ok-places.ensures)) c.enter-block.ensures.names_around c.enter-block.ensures.fields_around))) (remade_both _ _ _ _ c.procedure.result refl (ap (λ gs. types.Proc (types_of gs) (ty_view c.args.literal.gives.now)) (ap groups_of c.as_slice-2.ensures.value ∙ c.in_ok-params.ensures)) c.procedure.ensures)
 
 pub chain-returns-in_err-chain : goal.chain-returns-in_err-chain
 chain-returns-in_err-chain t c = exits c.from_residual-in_err-chain.result _ c.in_err-chain.field-0.0 _ c.from_residual-in_err-chain.ensures.1 (fails_as _ _ _ (sym (c.in_ok-innermost.ensures.chain (names_of c.args.self.now.scope) ∙ one_link c.new-links.result.items c.push.new.self.items c.args.last (check (names_of c.args.self.now.scope) (phrase_of c.args.left.now)) c.new-links.ensures.items c.in_ok-push.ensures.items)) (fails_links c.gather.new.links.items _ _ c.in_err-chain.ensures))
@@ -475,161 +484,75 @@ chain-loop-link-preserved t c =
       lighter = omega (arith, less, c.loop-link.invariant.lighter);
     }
 
-pub declaration-returns-in-Some : goal.declaration-returns-in-Some
-declaration-returns-in-Some t c = λ line. leads _ _ _ _ (let_literal (names_of c.args.self.now.scope) line _ c.args.variable (phrase_of c.args.e.now) _ (sym c.in-Some.ensures)) c.named_literal.ensures
-
-pub declaration-returns-in-None : goal.declaration-returns-in-None
-declaration-returns-in-None t c = λ line. leads _ _ _ _ (let_other (names_of c.args.self.now.scope) line _ c.args.variable (phrase_of c.args.e.now) (sym c.in-None.ensures)) c.initial.ensures
-
 pub link-returns-in-Apply : goal.link-returns-in-Apply
 link-returns-in-Apply t c = leads _ _ _ _ (ap (λ l. check_link l (Gives (node_of c.args.left.tree) (ty_view c.args.left.ty) (names_of c.args.self.now.scope))) c.in-Apply.is ∙ given _ _ _ _ _ refl) c.apply.ensures
 
-pub write-returns : goal.write-returns
-write-returns t c = made _ _ _ _ c.one_or_sequence.result (given _ _ _ _ _ c.in_ok-trees.ensures.1) c.one_or_sequence.ensures
+pub apply-returns-in-Proc : goal.apply-returns-in-Proc
+apply-returns-in-Proc t c =
+    let cs = checkers (phrases_in c.args.args.now) in
+    leads _ _ _ _ (ap (λ t. value_applied (names_of c.args.self.now.scope) c.args.line (node_of c.args.f.tree) t (phrases_in c.args.args.now) cs) (ap ty_view c.in-Proc.is ∙ ty_view-Proc c.in-Proc.signature)
+    ∙ ap (λ (s : Signature). with_args (names_of c.args.self.now.scope) c.args.line (ty_views (items_of s.parameters)) cs (λ args. node.Call (node_of c.args.f.tree) args c.args.line) (ty_view c.in-Proc.signature.value.gives)) (sym c.deref.ensures)
+    ∙ ap (λ ps. with_args (names_of c.args.self.now.scope) c.args.line (ty_views ps) cs (λ args. node.Call (node_of c.args.f.tree) args c.args.line) (ty_view c.in-Proc.signature.value.gives)) (sym c.as_slice-parameters.ensures)
+    ∙ ap (λ (s : Signature). with_args (names_of c.args.self.now.scope) c.args.line (ty_views c.as_slice-parameters.result.now) cs (λ args. node.Call (node_of c.args.f.tree) args c.args.line) (ty_view s.gives)) (sym c.deref-in-Proc.ensures)) c.with_args.ensures
 
-pub joined-returns : goal.joined-returns
-joined-returns t c = made _ _ _ _ c.clause.result (given _ _ _ _ _ (as_wanted _ _ _ _ c.ty.ensures (c.in_ok-a.ensures c.args.self.now.scope)) ∙ given _ _ _ _ _ (as_wanted _ _ _ _ c.ty-2.ensures c.in_ok-b.ensures)) c.clause.ensures
+pub apply-returns-else-is_empty : goal.apply-returns-else-is_empty
+apply-returns-else-is_empty t c =
+    leads _ _ _ _ (ap (λ t. value_applied (names_of c.args.self.now.scope) c.args.line (node_of c.args.f.tree) t (phrases_in c.args.args.now) (checkers (phrases_in c.args.args.now))) (ap ty_view c.in-Vector.is)
+    ∙ some_subscripts (names_of c.args.self.now.scope) c.args.line (node_of c.args.f.tree) _ c.args.args.now _ c.is_empty.ensures c.if-is_empty.false
+    ∙ ap (λ t. elements (names_of c.args.self.now.scope) c.args.line (node_of c.args.f.tree) t (checkers (phrases_in c.args.args.now))) (sym (ap ty_view c.in-Vector.is))) c.subscripts.ensures
 
-pub joined-returns-in_err-b : goal.joined-returns-in_err-b
-joined-returns-in_err-b t c = exits c.from_residual-in_err-b.result _ c.in_err-b.field-0.0 _ c.from_residual-in_err-b.ensures.1 (fails_next _ _ _ _ _ _ (as_wanted _ _ _ _ c.ty.ensures (c.in_ok-a.ensures c.args.self.now.scope)) (fails_first _ _ _ (fails_as_wanted _ _ _ c.ty-2.ensures c.in_err-b.ensures)))
+pub link-returns-in_err-left-in-Operator : goal.link-returns-in_err-left-in-Operator
+link-returns-in_err-left-in-Operator t c = exits c.from_residual.result _ c.in_err-left-in-Operator.field-0.0 _ c.from_residual.ensures.1 (fails_as _ _ _ (ap (λ l. check_link l (Gives (node_of c.args.left.tree) (ty_view c.args.left.ty) (names_of c.args.self.now.scope))) c.in-Operator.is) (fails_first _ _ _ (fails_as_wanted _ _ _ c.ty.ensures (c.in_err-left-in-Operator.ensures c.args.self.now.scope))))
 
-pub parted-returns-in_err-i : goal.parted-returns-in_err-i
-parted-returns-in_err-i t c = exits c.from_residual-in_err-i.result _ c.in_err-i.field-0.0 _ c.from_residual-in_err-i.ensures.1 (fails_next _ _ _ _ _ _ (c.in_ok-a.ensures c.args.self.now.scope) (fails_first _ _ _ c.in_err-i.ensures))
+pub link-returns-in_ok-left-in-Operator : goal.link-returns-in_ok-left-in-Operator
+link-returns-in_ok-left-in-Operator t c = leads _ _ _ _ (ap (λ l. check_link l (Gives (node_of c.args.left.tree) (ty_view c.args.left.ty) (names_of c.args.self.now.scope))) c.in-Operator.is ∙ given _ _ _ _ _ (as_wanted _ _ _ _ c.ty.ensures (c.in_ok-left-in-Operator.ensures c.args.self.now.scope))) c.single.ensures
 
-pub parted-returns-in_err-n : goal.parted-returns-in_err-n
-parted-returns-in_err-n t c = exits c.from_residual-in_err-n.result _ c.in_err-n.field-0.0 _ c.from_residual-in_err-n.ensures.1 (fails_next _ _ _ _ _ _ (c.in_ok-a.ensures c.args.self.now.scope) (fails_next _ _ _ _ _ _ (c.in_ok-i.ensures) (fails_first _ _ _ c.in_err-n.ensures)))
+pub link-returns-in_err-s-in-Part : goal.link-returns-in_err-s-in-Part
+link-returns-in_err-s-in-Part t c = exits c.from_residual-in_err-s-in-Part.result _ c.in_err-s-in-Part.field-0.0 _ c.from_residual-in_err-s-in-Part.ensures.1 (fails_as _ _ _ (ap (λ l. check_link l (Gives (node_of c.args.left.tree) (ty_view c.args.left.ty) (names_of c.args.self.now.scope))) c.in-Part.is) (fails_first _ _ _ (c.in_err-s-in-Part.ensures c.args.self.now.scope)))
 
-pub parted-returns : goal.parted-returns
-parted-returns t c = made _ _ _ _ c.new.result (given _ _ _ _ _ (c.in_ok-a.ensures c.args.self.now.scope) ∙ given _ _ _ _ _ (c.in_ok-i.ensures) ∙ given _ _ _ _ _ (c.in_ok-n.ensures)) c.new.ensures
-
-pub elements-returns : goal.elements-returns
-elements-returns t c = made _ _ _ _ c.new.result (given _ _ _ _ _ (c.in_ok-l.ensures) ∙ given _ _ _ _ _ (c.in_ok-each.ensures.1)) (remade_both _ _ _ _ c.new.result (elems_is _ c.in_ok-l.l _ _ _ c.in_ok-each.field-0.items refl (sym c.new-items.ensures) ∙ ap (λ t. node.Elems (node_of c.in_ok-l.l) (nodes_in c.in_ok-each.field-0.items) t c.args.line) (c.in_ok-ty.ensures ∙ ap types.Vector c.in_ok-copy.ensures)) (c.in_ok-gives.ensures ∙ c.in_ok-ty.ensures ∙ ap types.Vector c.in_ok-copy.ensures) c.new.ensures)
+pub link-returns-in_ok-s-in-Part : goal.link-returns-in_ok-s-in-Part
+link-returns-in_ok-s-in-Part t c = leads _ _ _ _ (ap (λ l. check_link l (Gives (node_of c.args.left.tree) (ty_view c.args.left.ty) (names_of c.args.self.now.scope))) c.in-Part.is ∙ given _ _ _ _ _ (c.in_ok-s-in-Part.ensures c.args.self.now.scope)) c.double.ensures
 
 pub with_args-returns-then-types-args : goal.with_args-returns-then-types-args
-with_args-returns-then-types-args t c = is_fault _ _ (NotApplicable c.args.line) refl (other_number (names_of c.args.self.now.scope) c.args.line c.args.types.now c.args.args.now (head_node c.args.head c.args.line) (ty_view c.args.gives) c.if-types-args.true)
+with_args-returns-then-types-args t c = is_fault _ _ (NotApplicable c.args.line) refl (other_number (names_of c.args.self.now.scope) c.args.line c.args.types.now c.args.args.now (head_node c.args.head c.args.line) (ty_view c.args.gives.now) c.if-types-args.true)
 
 pub with_args-returns-in_err-args : goal.with_args-returns-in_err-args
-with_args-returns-in_err-args t c = exits c.from_residual.result _ c.in_err-args.field-0.0 _ c.from_residual.ensures.1 (fails_as _ _ _ (same_number (names_of c.args.self.now.scope) c.args.line c.args.types.now c.args.args.now (head_node c.args.head c.args.line) (ty_view c.args.gives) c.if-types-args.false) (fails_first _ _ _ c.in_err-args.ensures))
+with_args-returns-in_err-args t c = exits c.from_residual.result _ c.in_err-args.field-0.0 _ c.from_residual.ensures.1 (fails_as _ _ _ (same_number (names_of c.args.self.now.scope) c.args.line c.args.types.now c.args.args.now (head_node c.args.head c.args.line) (ty_view c.args.gives.now) c.if-types-args.false) (fails_first _ _ _ c.in_err-args.ensures))
 
 pub with_args-returns : goal.with_args-returns
-with_args-returns t c = made _ _ _ _ c.clause.result (same_number (names_of c.args.self.now.scope) c.args.line c.args.types.now c.args.args.now (head_node c.args.head c.args.line) (ty_view c.args.gives) c.if-types-args.false ∙ given _ _ _ _ _ c.in_ok-args.ensures.1) c.clause.ensures
+with_args-returns t c = made _ _ _ _ c.clause.result (same_number (names_of c.args.self.now.scope) c.args.line c.args.types.now c.args.args.now (head_node c.args.head c.args.line) (ty_view c.args.gives.now) c.if-types-args.false ∙ given _ _ _ _ _ c.in_ok-args.ensures.1) (remade_both _ _ _ _ c.clause.result refl c.in_ok-copy.ensures c.clause.ensures)
 
-pub subscript-returns-in_err-i-in-Vector : goal.subscript-returns-in_err-i-in-Vector
-subscript-returns-in_err-i-in-Vector t c = exits c.from_residual-in_err-i-in-Vector.result _ c.in_err-i-in-Vector.field-0.0 _ c.from_residual-in_err-i-in-Vector.ensures.1 (fails_as _ _ _ (ap (λ t. check_element (names_of c.args.self.now.scope) c.args.line (node_of c.args.v.tree) t (phrase_of c.args.i.now)) (ap ty_view c.in-Vector.is)) (fails_first _ _ _ c.in_err-i-in-Vector.ensures))
-
-pub subscript-returns-in_ok-i-in-Vector : goal.subscript-returns-in_ok-i-in-Vector
-subscript-returns-in_ok-i-in-Vector t c = made _ _ _ _ c.element_at.result (ap (λ t. check_element (names_of c.args.self.now.scope) c.args.line (node_of c.args.v.tree) t (phrase_of c.args.i.now)) (ap ty_view c.in-Vector.is) ∙ given _ _ _ _ _ c.in_ok-i-in-Vector.ensures) (remade_both _ _ _ _ c.element_at.result (ap (λ t. node.Element (node_of c.args.v.tree) (node_of c.in_ok-i-in-Vector.i) t c.args.line) (c.in_ok-ty-in-Vector.ensures ∙ (ap ty_view c.deref.ensures))) (c.in_ok-ty-in-Vector.ensures ∙ (ap ty_view c.deref.ensures)) c.element_at.ensures)
-
-pub subscripted-returns-in_err-i-in-Some : goal.subscripted-returns-in_err-i-in-Some
-subscripted-returns-in_err-i-in-Some t c = exits c.from_residual-in_err-i-in-Some.result _ c.in_err-i-in-Some.field-0.0 _ c.from_residual-in_err-i-in-Some.ensures.1 (fails_as _ _ _ (ap (λ as_. value_applied (names_of c.args.self.now.scope) c.args.line (node_of c.args.v) (types.Vector (ty_view c.args.element.now)) (phrases_in as_) (checkers (phrases_in as_))) c.in-Some.ensures.cases.0) (fails_first _ _ _ c.in_err-i-in-Some.ensures))
-
-pub subscripted-returns-in_ok-v-in-Some : goal.subscripted-returns-in_ok-v-in-Some
-subscripted-returns-in_ok-v-in-Some t c = leads _ _ _ _ (ap (λ as_. value_applied (names_of c.args.self.now.scope) c.args.line (node_of c.args.v) (types.Vector (ty_view c.args.element.now)) (phrases_in as_) (checkers (phrases_in as_))) c.in-Some.ensures.cases.0 ∙ given _ _ _ _ _ c.in_ok-i-in-Some.ensures ∙ elements_as _ _ _ _ _ _ _ (sym (c.in_ok-v-in-Some.ensures.0 ∙ ap (λ t. node.Element (node_of c.args.v) (node_of c.in_ok-i-in-Some.i) t c.args.line) c.in_ok-ty-in-Some.ensures)) (sym (c.in_ok-v-in-Some.ensures.1 ∙ c.in_ok-ty-in-Some.ensures))) c.subscripts.ensures
+pub subscripts-returns-in_err-element : goal.subscripts-returns-in_err-element
+subscripts-returns-in_err-element t c =
+    let below : c.loop-arg.arg-index < length c.args.args.now = search rules in
+    let cut = phrases_from c.args.args.now c.loop-arg.arg-index c.arg-item.result below c.arg-item.is in
+    exits c.from_residual.result _ c.in_err-element.field-0.0 _ c.from_residual.ensures.1 (fails_as _ _ _ (sym c.loop-arg.invariant ∙ ap (λ ps. elements (names_of c.loop-arg.self.scope) c.args.line (node_of c.loop-arg.v.tree) (ty_view c.loop-arg.v.ty) (checkers ps)) cut ∙ elements_are _ _ _ _ _ _) (fails_first _ _ _ (c.in_err-element.ensures (names_of c.loop-arg.self.scope) (phrase_of c.arg-item.result))))
 
 pub subscripts-returns-in_err-v : goal.subscripts-returns-in_err-v
 subscripts-returns-in_err-v t c =
     let below : c.loop-arg.arg-index < length c.args.args.now = search rules in
     let cut = phrases_from c.args.args.now c.loop-arg.arg-index c.arg-item.result below c.arg-item.is in
-    exits c.from_residual.result _ c.in_err-v.field-0.0 _ c.from_residual.ensures.1 (fails_as _ _ _ (sym c.loop-arg.invariant ∙ ap (λ ps. elements (names_of c.loop-arg.self.scope) c.args.line (node_of c.loop-arg.v.tree) (ty_view c.loop-arg.v.ty) (checkers ps)) cut ∙ elements_are _ _ _ _ _ _) (fails_first _ _ _ c.in_err-v.ensures))
+    exits c.from_residual-in_err-v.result _ c.in_err-v.field-0.0 _ c.from_residual-in_err-v.ensures.1 (fails_as _ _ _ (sym c.loop-arg.invariant ∙ ap (λ ps. elements (names_of c.loop-arg.self.scope) c.args.line (node_of c.loop-arg.v.tree) (ty_view c.loop-arg.v.ty) (checkers ps)) cut ∙ elements_are _ _ _ _ _ _) (fails_first _ _ _ (fails_as _ _ _ (c.in_ok-element.ensures (names_of c.loop-arg.self.scope) (phrase_of c.arg-item.result)) c.in_err-v.ensures)))
 
 pub subscripts-loop-arg-preserved : goal.subscripts-loop-arg-preserved
 subscripts-loop-arg-preserved t c =
     let below : c.loop-arg.arg-index < length c.args.args.now = search rules in
     let cut = phrases_from c.args.args.now c.loop-arg.arg-index c.arg-item.result below c.arg-item.is in
-    sym (ap (λ ps. elements (names_of c.loop-arg.self.scope) c.args.line (node_of c.loop-arg.v.tree) (ty_view c.loop-arg.v.ty) (checkers ps)) cut ∙ elements_are _ _ _ _ _ _ ∙ given _ _ _ _ _ c.in_ok-v.ensures) ∙ c.loop-arg.invariant
+    sym (ap (λ ps. elements (names_of c.loop-arg.self.scope) c.args.line (node_of c.loop-arg.v.tree) (ty_view c.loop-arg.v.ty) (checkers ps)) cut ∙ elements_are _ _ _ _ _ _ ∙ given _ _ _ _ _ (c.in_ok-element.ensures (names_of c.loop-arg.self.scope) (phrase_of c.arg-item.result) ∙ c.in_ok-v.ensures)) ∙ c.loop-arg.invariant
 
-pub written_item-returns-in_err-w : goal.written_item-returns-in_err-w
-written_item-returns-in_err-w t c = exits c.from_residual-in_err-w.result _ c.in_err-w.field-0.0 _ c.from_residual-in_err-w.ensures.1 (fails_as _ _ _ (ap (check_item (names_of c.args.self.now.scope)) (item_of-parts c.args.item.now)) (fails_next _ _ _ _ _ _ c.in_ok-e.ensures (fails_first _ _ _ (subst (λ m. IsFault (check_if_any (names_of c.tested.new.self.scope) types.Int node.Empty m) c.in_err-w.field-0.0) c.lent.ensures c.in_err-w.ensures))))
-
-pub initial-returns-then-declares : goal.initial-returns-then-declares
-initial-returns-then-declares t c = is_fault _ _ (Twice c.args.name.now.line) refl (given _ _ _ _ _ c.in_ok-e.ensures ∙ ap (λ b. if b then Refuses (Twice c.args.name.now.line) else Gives (node.Let (Plain (length (names_of c.tested.new.self.scope).all)) (ty_view c.in_ok-e.field-0.ty) (node_of c.in_ok-e.field-0.tree)) Void (declare_local (names_of c.tested.new.self.scope) c.args.name.now.name (ty_view c.in_ok-e.field-0.ty) c.args.variable)) (ap (is_declared (names_of c.tested.new.self.scope)) (sym c.as_slice.ensures) ∙ sym c.declares.ensures ∙ c.if-declares.true))
-
-pub initial-returns : goal.initial-returns
-initial-returns t c = made _ _ _ _ c.new.result (given _ _ _ _ _ c.in_ok-e.ensures ∙ ap (λ b. if b then Refuses (Twice c.args.name.now.line) else Gives (node.Let (Plain (length (names_of c.tested.new.self.scope).all)) (ty_view c.in_ok-e.field-0.ty) (node_of c.in_ok-e.field-0.tree)) Void (declare_local (names_of c.tested.new.self.scope) c.args.name.now.name (ty_view c.in_ok-e.field-0.ty) c.args.variable)) (ap (is_declared (names_of c.tested.new.self.scope)) (sym c.as_slice.ensures) ∙ sym c.declares.ensures ∙ c.if-declares.false) ∙ ap (λ n. Gives (node.Let (Plain (length (names_of c.tested.new.self.scope).all)) (ty_view c.in_ok-e.field-0.ty) (node_of c.in_ok-e.field-0.tree)) Void n) (sym (c.in_ok-number.ensures.names ∙ ap (λ nm. declare_local (names_of c.tested.new.self.scope) nm (ty_view c.in_ok-e.field-0.ty) c.args.variable) c.as_slice-name.ensures))) (remade _ _ _ c.new.result (ap (λ k. node.Let (Plain k) (ty_view c.in_ok-e.field-0.ty) (node_of c.in_ok-e.field-0.tree)) c.in_ok-number.ensures.number) c.new.ensures)
-
-pub literal-returns-then-len-gt-MOST : goal.literal-returns-then-len-gt-MOST
-literal-returns-then-len-gt-MOST t c =
-    let at : c.len.result ≡ length c.in_ok-params.params.items = search rules in
-    let counted : c.len-count.result ≡ length c.in_ok-params.params.items = search rules in
-    fails_first _ _ (λ made t own. wants (ty_view c.args.literal.gives.now) c.args.literal.s.now.line (check own (phrase_of c.args.literal.s.now)) >>= λ s t last. Gives (node.Proc (node.body made (ty_view c.args.literal.gives.now) s None c.args.literal.line)) (types.Proc (types_of (groups_in c.args.literal.params.now)) (ty_view c.args.literal.gives.now)) (behind (names_of c.args.self.now.scope) last)) (is_fault _ _ (Limit c.args.literal.line (length (groups_in c.args.literal.params.now))) (ap (λ k. Some (Limit c.args.literal.line k)) (count_is c.in_ok-params.params.items _ _ c.in_ok-params.ensures counted)) (ap (λ b. if b then Refuses (Limit c.args.literal.line (length (groups_in c.args.literal.params.now))) else with_params (inside (names_of c.args.self.now.scope)) [] (groups_in c.args.literal.params.now)) (many c.in_ok-params.params.items _ _ c.in_ok-params.ensures at c.if-len-gt-MOST.true)))
-
-pub literal-returns-in_err-places : goal.literal-returns-in_err-places
-literal-returns-in_err-places t c = exits c.from_residual-in_err-places.result _ c.in_err-places.field-0.0 _ c.from_residual-in_err-places.ensures.1 (fails_first _ _ (λ made t own. wants (ty_view c.args.literal.gives.now) c.args.literal.s.now.line (check own (phrase_of c.args.literal.s.now)) >>= λ s t last. Gives (node.Proc (node.body made (ty_view c.args.literal.gives.now) s None c.args.literal.line)) (types.Proc (types_of (groups_in c.args.literal.params.now)) (ty_view c.args.literal.gives.now)) (behind (names_of c.args.self.now.scope) last)) (fails_as _ _ _ ((ap (λ b. if b then Refuses (Limit c.args.literal.line (length (groups_in c.args.literal.params.now))) else with_params (inside (names_of c.args.self.now.scope)) [] (groups_in c.args.literal.params.now)) (few c.in_ok-params.params.items _ _ c.in_ok-params.ensures (let at : c.len.result ≡ length c.in_ok-params.params.items = search rules in at) c.if-len-gt-MOST.false)) ∙ ap (with_params (inside (names_of c.args.self.now.scope)) []) (sym (ap groups_of c.as_slice.ensures.value ∙ c.in_ok-params.ensures))) (subst (λ n. IsFault (with_params n [] (groups_of c.as_slice.result.now)) c.in_err-places.field-0.0) c.enter-block.ensures.names c.in_err-places.ensures)))
-
-pub literal-returns-in_err-s : goal.literal-returns-in_err-s
-literal-returns-in_err-s t c = exits c.from_residual-in_err-s.result _ c.in_err-s.field-0.0 _ c.from_residual-in_err-s.ensures.1 (fails_next _ _ _ _ (λ made t own. wants (ty_view c.args.literal.gives.now) c.args.literal.s.now.line (check own (phrase_of c.args.literal.s.now)) >>= λ s t last. Gives (node.Proc (node.body made (ty_view c.args.literal.gives.now) s None c.args.literal.line)) (types.Proc (types_of (groups_in c.args.literal.params.now)) (ty_view c.args.literal.gives.now)) (behind (names_of c.args.self.now.scope) last)) _ ((ap (λ b. if b then Refuses (Limit c.args.literal.line (length (groups_in c.args.literal.params.now))) else with_params (inside (names_of c.args.self.now.scope)) [] (groups_in c.args.literal.params.now)) (few c.in_ok-params.params.items _ _ c.in_ok-params.ensures (let at : c.len.result ≡ length c.in_ok-params.params.items = search rules in at) c.if-len-gt-MOST.false)) ∙ ap (with_params (inside (names_of c.args.self.now.scope)) []) (sym (ap groups_of c.as_slice.ensures.value ∙ c.in_ok-params.ensures)) ∙ (subst (λ n. with_params n [] (groups_of c.as_slice.result.now) ≡ Gives (params_of c.in_ok-places.places.items) Void (names_of c.parameters.new.self.scope)) c.enter-block.ensures.names c.in_ok-places.ensures)) (fails_first _ _ _ (fails_as_wanted _ _ _ c.in_ok-wanted.ensures c.in_err-s.ensures)))
-
-pub literal-leave-requires-clause-names : goal.literal-leave-requires-clause-names
-literal-leave-requires-clause-names t c = stays _ _ _ _ (keeps_around _ (phrase_of c.args.literal.s.now) _ _ _ (unpassed _ _ _ _ _ _ _ (as_wanted _ _ _ _ c.in_ok-wanted.ensures c.in_ok-s.ensures)) ∙ params_keep_around (inside (names_of c.args.self.now.scope)) [] (groups_of c.as_slice.result.now) _ _ _ (subst (λ n. with_params n [] (groups_of c.as_slice.result.now) ≡ Gives (params_of c.in_ok-places.places.items) Void (names_of c.parameters.new.self.scope)) c.enter-block.ensures.names c.in_ok-places.ensures)) c.enter-block.ensures.names_around
-
-pub literal-leave-requires-clause-fields : goal.literal-leave-requires-clause-fields
-literal-leave-requires-clause-fields t c = stays _ _ _ _ (keeps_fields_around _ (phrase_of c.args.literal.s.now) _ _ _ (unpassed _ _ _ _ _ _ _ (as_wanted _ _ _ _ c.in_ok-wanted.ensures c.in_ok-s.ensures)) ∙ params_keep_fields_around (inside (names_of c.args.self.now.scope)) [] (groups_of c.as_slice.result.now) _ _ _ (subst (λ n. with_params n [] (groups_of c.as_slice.result.now) ≡ Gives (params_of c.in_ok-places.places.items) Void (names_of c.parameters.new.self.scope)) c.enter-block.ensures.names c.in_ok-places.ensures)) c.enter-block.ensures.fields_around
-
-pub literal-returns : goal.literal-returns
-literal-returns t c = made _ _ _ _ c.procedure.result (given _ _ _ _ (λ made t own. wants (ty_view c.args.literal.gives.now) c.args.literal.s.now.line (check own (phrase_of c.args.literal.s.now)) >>= λ s t last. Gives (node.Proc (node.body made (ty_view c.args.literal.gives.now) s None c.args.literal.line)) (types.Proc (types_of (groups_in c.args.literal.params.now)) (ty_view c.args.literal.gives.now)) (behind (names_of c.args.self.now.scope) last)) ((ap (λ b. if b then Refuses (Limit c.args.literal.line (length (groups_in c.args.literal.params.now))) else with_params (inside (names_of c.args.self.now.scope)) [] (groups_in c.args.literal.params.now)) (few c.in_ok-params.params.items _ _ c.in_ok-params.ensures (let at : c.len.result ≡ length c.in_ok-params.params.items = search rules in at) c.if-len-gt-MOST.false)) ∙ ap (with_params (inside (names_of c.args.self.now.scope)) []) (sym (ap groups_of c.as_slice.ensures.value ∙ c.in_ok-params.ensures)) ∙ (subst (λ n. with_params n [] (groups_of c.as_slice.result.now) ≡ Gives (params_of c.in_ok-places.places.items) Void (names_of c.parameters.new.self.scope)) c.enter-block.ensures.names c.in_ok-places.ensures)) ∙ given _ _ _ _ _ (as_wanted _ _ _ _ c.in_ok-wanted.ensures c.in_ok-s.ensures) ∙ ap (λ n. Gives (node.Proc (node.body (params_of c.in_ok-places.places.items) (ty_view c.args.literal.gives.now) (node_of c.in_ok-s.s) None c.args.literal.line)) (types.Proc (types_of (groups_in c.args.literal.params.now)) (ty_view c.args.literal.gives.now)) n) (sym (c.leave.ensures (names_of c.args.self.now.scope) (keeps_around _ (phrase_of c.args.literal.s.now) _ _ _ (unpassed _ _ _ _ _ _ _ (as_wanted _ _ _ _ c.in_ok-wanted.ensures c.in_ok-s.ensures)) ∙ params_keep_around (inside (names_of c.args.self.now.scope)) [] (groups_of c.as_slice.result.now) _ _ _ (subst (λ n. with_params n [] (groups_of c.as_slice.result.now) ≡ Gives (params_of c.in_ok-places.places.items) Void (names_of c.parameters.new.self.scope)) c.enter-block.ensures.names c.in_ok-places.ensures)) (keeps_fields_around _ (phrase_of c.args.literal.s.now) _ _ _ (unpassed _ _ _ _ _ _ _ (as_wanted _ _ _ _ c.in_ok-wanted.ensures c.in_ok-s.ensures)) ∙ params_keep_fields_around (inside (names_of c.args.self.now.scope)) [] (groups_of c.as_slice.result.now) _ _ _ (subst (λ n. with_params n [] (groups_of c.as_slice.result.now) ≡ Gives (params_of c.in_ok-places.places.items) Void (names_of c.parameters.new.self.scope)) c.enter-block.ensures.names c.in_ok-places.ensures)) c.enter-block.ensures.names_around c.enter-block.ensures.fields_around))) (remade_both _ _ _ _ c.procedure.result refl (ap (λ gs. types.Proc (types_of gs) (ty_view c.args.literal.gives.now)) (ap groups_of c.as_slice-2.ensures.value ∙ c.in_ok-params.ensures)) c.procedure.ensures)
-
-pub named_literal-returns-in_err-e : goal.named_literal-returns-in_err-e
-named_literal-returns-in_err-e t c = exits c.from_residual-in_err-e.result _ c.in_err-e.field-0.0 _ c.from_residual-in_err-e.ensures.1 (fails_as _ _ _ (ap (λ b. if b then Refuses (Twice c.args.name.now.line) else (check_literal (declare_local (names_of c.args.self.now.scope) c.args.name.now.name (types.Proc (types_of (groups_in c.args.literal.params.now)) (ty_view c.args.literal.gives.now)) c.args.variable) (literal_of c.args.literal) >>= (λ e t last. Gives (node.Let (Plain (length (names_of c.args.self.now.scope).all)) t e) Void last))) (ap (is_declared (names_of c.args.self.now.scope)) (sym c.as_slice.ensures) ∙ sym c.declares.ensures ∙ c.if-declares.false)) (fails_first _ _ (λ e t last. Gives (node.Let (Plain (length (names_of c.args.self.now.scope).all)) t e) Void last) (subst (λ n. IsFault (check_literal n (literal_of c.args.literal)) c.in_err-e.field-0.0) (c.in_ok-number.ensures.names ∙ ap (λ nm. declare_local (names_of c.args.self.now.scope) nm (ty_view c.in_ok-ty.ty) c.args.variable) c.as_slice-name.ensures ∙ ap (λ k. declare_local (names_of c.args.self.now.scope) c.args.name.now.name k c.args.variable) (c.in_ok-ty.ensures ∙ ap (λ ts. types.Proc ts (ty_view c.in_ok-copy.field-0)) (c.in_ok-parameters.ensures ∙ ap types_of (ap groups_of c.as_slice-2.ensures.value ∙ c.in_ok-params.ensures)) ∙ ap (types.Proc (types_of (groups_in c.args.literal.params.now))) c.in_ok-copy.ensures)) c.in_err-e.ensures)))
-
-pub named_literal-returns : goal.named_literal-returns
-named_literal-returns t c = made _ _ _ _ c.new.result ((ap (λ b. if b then Refuses (Twice c.args.name.now.line) else (check_literal (declare_local (names_of c.args.self.now.scope) c.args.name.now.name (types.Proc (types_of (groups_in c.args.literal.params.now)) (ty_view c.args.literal.gives.now)) c.args.variable) (literal_of c.args.literal) >>= (λ e t last. Gives (node.Let (Plain (length (names_of c.args.self.now.scope).all)) t e) Void last))) (ap (is_declared (names_of c.args.self.now.scope)) (sym c.as_slice.ensures) ∙ sym c.declares.ensures ∙ c.if-declares.false)) ∙ given _ _ _ _ (λ e t last. Gives (node.Let (Plain (length (names_of c.args.self.now.scope).all)) t e) Void last) (subst (λ n. check_literal n (literal_of c.args.literal) ≡ Gives (node_of c.in_ok-e.field-0.tree) (ty_view c.in_ok-e.field-0.ty) (names_of c.literal.new.self.scope)) (c.in_ok-number.ensures.names ∙ ap (λ nm. declare_local (names_of c.args.self.now.scope) nm (ty_view c.in_ok-ty.ty) c.args.variable) c.as_slice-name.ensures ∙ ap (λ k. declare_local (names_of c.args.self.now.scope) c.args.name.now.name k c.args.variable) (c.in_ok-ty.ensures ∙ ap (λ ts. types.Proc ts (ty_view c.in_ok-copy.field-0)) (c.in_ok-parameters.ensures ∙ ap types_of (ap groups_of c.as_slice-2.ensures.value ∙ c.in_ok-params.ensures)) ∙ ap (types.Proc (types_of (groups_in c.args.literal.params.now))) c.in_ok-copy.ensures)) c.in_ok-e.ensures)) (remade _ _ _ c.new.result (ap (λ k. node.Let (Plain k) (ty_view c.in_ok-e.field-0.ty) (node_of c.in_ok-e.field-0.tree)) c.in_ok-number.ensures.number) c.new.ensures)
-
-pub sequence-leave-requires-clause-names : goal.sequence-leave-requires-clause-names
-sequence-leave-requires-clause-names t c = stays _ _ _ _ (all_keeps_around _ _ _ _ _ _ _ c.in_ok-trees.ensures ∙ ap (λ (n : Names). n.around) c.enter-block.ensures.names) c.enter-block.ensures.names_around
-
-pub sequence-leave-requires-clause-fields : goal.sequence-leave-requires-clause-fields
-sequence-leave-requires-clause-fields t c = stays _ _ _ _ (all_keeps_fields_around _ _ _ _ _ _ _ c.in_ok-trees.ensures ∙ ap (λ (n : Names). n.fields_around) c.enter-block.ensures.names) c.enter-block.ensures.fields_around
-
-pub sequence-returns : goal.sequence-returns
-sequence-returns t c = made _ _ _ _ c.block_of.result (given _ _ _ _ _ (ap (λ n. check_all n c.args.line Void (phrases_in c.args.items.now)) (sym c.enter-block.ensures.names) ∙ c.in_ok-trees.ensures) ∙ ap (λ n. Gives (node.Block None (nodes_in c.in_ok-trees.field-0.trees.items)) (ty_view c.in_ok-trees.field-0.ty) n) (sym (c.leave.ensures (names_of c.args.self.now.scope) (all_keeps_around _ _ _ _ _ _ _ c.in_ok-trees.ensures ∙ ap (λ (n : Names). n.around) c.enter-block.ensures.names) (all_keeps_fields_around _ _ _ _ _ _ _ c.in_ok-trees.ensures ∙ ap (λ (n : Names). n.fields_around) c.enter-block.ensures.names) c.enter-block.ensures.names_around c.enter-block.ensures.fields_around))) c.block_of.ensures
-
-pub counted-returns-in_err-c : goal.counted-returns-in_err-c
-counted-returns-in_err-c t c = exits c.from_residual-in_err-c.result _ c.in_err-c.field-0.0 _ c.from_residual-in_err-c.ensures.1 (fails_next _ _ _ _ _ _ (c.in_ok-a.ensures) (fails_next _ _ _ _ _ _ (c.in_ok-b.ensures) (fails_first _ _ _ (subst (λ m. IsFault (check_if_any (names_of c.operand-2.new.self.scope) types.Int (node.Int (pos 1)) m) c.in_err-c.field-0.0) c.lent.ensures c.in_err-c.ensures))))
-
-pub counted-returns-in_err-s : goal.counted-returns-in_err-s
-counted-returns-in_err-s t c = exits c.from_residual-in_err-s.result _ c.in_err-s.field-0.0 _ c.from_residual-in_err-s.ensures.1 (fails_next _ _ _ _ _ _ (c.in_ok-a.ensures) (fails_next _ _ _ _ _ _ (c.in_ok-b.ensures) (fails_next _ _ _ _ _ _ ((subst (λ m. check_if_any (names_of c.operand-2.new.self.scope) types.Int (node.Int (pos 1)) m ≡ Gives (node_of c.in_ok-c.field-0.tree) (ty_view c.in_ok-c.field-0.ty) (names_of c.if_any.new.self.scope)) c.lent.ensures c.in_ok-c.ensures)) (fails_first _ _ _ (subst (λ n. IsFault (wants Void c.args.s.now.line (check n (phrase_of c.args.s.now))) c.in_err-s.field-0.0) (c.in_ok-number.ensures.names ∙ ap (λ nm. declare_local (names_of c.enter-block.new.self) nm types.Int false) c.as_slice-name.ensures ∙ ap (λ n. declare_local n c.args.name.now.name types.Int false) c.enter-block.ensures.names) c.in_err-s.ensures)))))
-
-pub counted-leave-requires-clause-names : goal.counted-leave-requires-clause-names
-counted-leave-requires-clause-names t c = stays _ _ _ _ (keeps_around (declare_local (inside (names_of c.if_any.new.self.scope)) c.args.name.now.name types.Int false) (phrase_of c.args.s.now) _ _ _ (unpassed _ _ _ _ _ _ _ (subst (λ n. wants Void c.args.s.now.line (check n (phrase_of c.args.s.now)) ≡ Gives (node_of c.in_ok-s.s) Void (names_of c.operand-3.new.self.scope)) (c.in_ok-number.ensures.names ∙ ap (λ nm. declare_local (names_of c.enter-block.new.self) nm types.Int false) c.as_slice-name.ensures ∙ ap (λ n. declare_local n c.args.name.now.name types.Int false) c.enter-block.ensures.names) c.in_ok-s.ensures))) c.enter-block.ensures.names_around
-
-pub counted-leave-requires-clause-fields : goal.counted-leave-requires-clause-fields
-counted-leave-requires-clause-fields t c = stays _ _ _ _ (keeps_fields_around (declare_local (inside (names_of c.if_any.new.self.scope)) c.args.name.now.name types.Int false) (phrase_of c.args.s.now) _ _ _ (unpassed _ _ _ _ _ _ _ (subst (λ n. wants Void c.args.s.now.line (check n (phrase_of c.args.s.now)) ≡ Gives (node_of c.in_ok-s.s) Void (names_of c.operand-3.new.self.scope)) (c.in_ok-number.ensures.names ∙ ap (λ nm. declare_local (names_of c.enter-block.new.self) nm types.Int false) c.as_slice-name.ensures ∙ ap (λ n. declare_local n c.args.name.now.name types.Int false) c.enter-block.ensures.names) c.in_ok-s.ensures))) c.enter-block.ensures.fields_around
-
-pub counted-returns : goal.counted-returns
-counted-returns t c = made _ _ _ _ c.loop_of.result (given _ _ _ _ _ (c.in_ok-a.ensures) ∙ given _ _ _ _ _ (c.in_ok-b.ensures) ∙ given _ _ _ _ _ ((subst (λ m. check_if_any (names_of c.operand-2.new.self.scope) types.Int (node.Int (pos 1)) m ≡ Gives (node_of c.in_ok-c.field-0.tree) (ty_view c.in_ok-c.field-0.ty) (names_of c.if_any.new.self.scope)) c.lent.ensures c.in_ok-c.ensures)) ∙ given _ _ _ _ _ (subst (λ n. wants Void c.args.s.now.line (check n (phrase_of c.args.s.now)) ≡ Gives (node_of c.in_ok-s.s) Void (names_of c.operand-3.new.self.scope)) (c.in_ok-number.ensures.names ∙ ap (λ nm. declare_local (names_of c.enter-block.new.self) nm types.Int false) c.as_slice-name.ensures ∙ ap (λ n. declare_local n c.args.name.now.name types.Int false) c.enter-block.ensures.names) c.in_ok-s.ensures) ∙ ap (λ n. Gives (node.For 0 (node_of c.in_ok-a.a) (node_of c.in_ok-b.b) (node_of c.in_ok-c.field-0.tree) None (Plain (length (names_of c.if_any.new.self.scope).all)) (node_of c.in_ok-s.s) c.args.line) Void n) (sym (c.leave.ensures (names_of c.if_any.new.self.scope) (keeps_around (declare_local (inside (names_of c.if_any.new.self.scope)) c.args.name.now.name types.Int false) (phrase_of c.args.s.now) _ _ _ (unpassed _ _ _ _ _ _ _ (subst (λ n. wants Void c.args.s.now.line (check n (phrase_of c.args.s.now)) ≡ Gives (node_of c.in_ok-s.s) Void (names_of c.operand-3.new.self.scope)) (c.in_ok-number.ensures.names ∙ ap (λ nm. declare_local (names_of c.enter-block.new.self) nm types.Int false) c.as_slice-name.ensures ∙ ap (λ n. declare_local n c.args.name.now.name types.Int false) c.enter-block.ensures.names) c.in_ok-s.ensures))) (keeps_fields_around (declare_local (inside (names_of c.if_any.new.self.scope)) c.args.name.now.name types.Int false) (phrase_of c.args.s.now) _ _ _ (unpassed _ _ _ _ _ _ _ (subst (λ n. wants Void c.args.s.now.line (check n (phrase_of c.args.s.now)) ≡ Gives (node_of c.in_ok-s.s) Void (names_of c.operand-3.new.self.scope)) (c.in_ok-number.ensures.names ∙ ap (λ nm. declare_local (names_of c.enter-block.new.self) nm types.Int false) c.as_slice-name.ensures ∙ ap (λ n. declare_local n c.args.name.now.name types.Int false) c.enter-block.ensures.names) c.in_ok-s.ensures))) c.enter-block.ensures.names_around c.enter-block.ensures.fields_around))) (remade _ _ _ c.loop_of.result (ap (λ k. node.For 0 (node_of c.in_ok-a.a) (node_of c.in_ok-b.b) (node_of c.in_ok-c.field-0.tree) None (Plain k) (node_of c.in_ok-s.s) c.args.line) (c.in_ok-number.ensures.number ∙ ap (λ (n : Names). length n.all) c.enter-block.ensures.names)) c.loop_of.ensures)
-
-pub written_item-returns : goal.written_item-returns
-written_item-returns t c = ap (check_item (names_of c.args.self.now.scope)) (item_of-parts c.args.item.now) ∙ given _ _ _ _ _ c.in_ok-e.ensures ∙ given _ _ _ _ _ (subst (λ m. check_if_any (names_of c.tested.new.self.scope) types.Int node.Empty m ≡ Gives (node_of c.in_ok-w.field-0.tree) (ty_view c.in_ok-w.field-0.ty) (names_of c.if_any.new.self.scope)) c.lent.ensures c.in_ok-w.ensures) ∙ ap (λ b. Gives (node.Write (node_of c.in_ok-e.field-0.tree) (node_of c.in_ok-w.field-0.tree) b (ty_view c.in_ok-e.field-0.ty) (out-RoughItem c.args.item.now).line) Void (names_of c.if_any.new.self.scope)) (sym c.is_int-wide.ensures) ∙ ap (λ t. Gives t Void (names_of c.if_any.new.self.scope)) (sym c.in_ok-new.ensures)
-
-pub item-returns-then-not-is_void : goal.item-returns-then-not-is_void
-item-returns-then-not-is_void t c = is_fault _ _ (Mismatch c.args.line (ty_view c.args.before) Void) refl (ap (λ b. if b then check (names_of c.args.self.now.scope) (phrase_of c.args.item.now) else Refuses (Mismatch c.args.line (ty_view c.args.before) Void)) (not_void _ (sym c.is_void.ensures ∙ ap not c.if-not-is_void.true)))
-
-pub is_of-returns-in_default : goal.is_of-returns-in_default
-is_of-returns-in_default t c = is_fault _ _ (Unknown c.args.class.now.line) refl (given _ _ _ _ _ c.in_ok-e.ensures ∙ no_class (named c.args.class.now) c.args.negated _ _ _ ((ap class_meant (ap (meant (names_of c.operand.new.self.scope)) (sym c.as_slice.ensures) ∙ sym c.in_ok-meaning.ensures) ∙ sym c.class_in.ensures) ∙ ap (option_map (λ (class : Rc Class Global). class_of class.value)) c.in_default.is))
-
-pub is_of-returns : goal.is_of-returns
-is_of-returns t c = made _ _ _ _ c.class_test.result (given _ _ _ _ _ c.in_ok-e.ensures ∙ a_class (named c.args.class.now) c.args.negated _ _ _ _ _ ((ap class_meant (ap (meant (names_of c.operand.new.self.scope)) (sym c.as_slice.ensures) ∙ sym c.in_ok-meaning.ensures) ∙ sym c.class_in.ensures) ∙ ap (option_map (λ (class : Rc Class Global). class_of class.value)) c.in-Some.is)) (remade _ _ _ c.class_test.result (ap (class_test c.args.negated (node_of c.in_ok-e.e)) (c.in_ok-clone.ensures.cases ∙ ap (λ (class : Class). class.text.value) c.deref.ensures)) c.class_test.ensures)
+pub subscripts-single-requires : goal.subscripts-single-requires
+subscripts-single-requires t c =
+    let below : c.loop-arg.arg-index < length c.args.args.now = search rules in
+    let light : weight (phrase_of c.arg-item.result) ≤ weight_all (phrases_in c.args.args.now) = subst (λ r. weight (phrase_of r) ≤ weight_all (phrases_in c.args.args.now)) (sym c.arg-item.is) (weight_at c.args.args.now c.loop-arg.arg-index _ below) in
+    search (rules, light)
 
 pub scan-returns-then-args-ne2 : goal.scan-returns-then-args-ne2
 scan-returns-then-args-ne2 t c = is_fault _ _ (NotApplicable c.args.line) refl (not_two (names_of c.args.self.now.scope) c.args.line c.args.text c.args.args.now c.if-args-ne2.true)
 
-pub scan-returns-in_err-a : goal.scan-returns-in_err-a
-scan-returns-in_err-a t c = exits c.from_residual.result _ c.in_err-a.field-0.0 _ c.from_residual.ensures.1 (fails_as _ _ _ (ap (λ as_. scan_applied (names_of c.args.self.now.scope) c.args.line c.args.text (checkers (phrases_in as_))) (one_of _ _ c.if-args-ne2.false c.index-args-0.is)) (fails_first _ _ _ c.in_err-a.ensures))
-
-pub scan-returns-in_err-f : goal.scan-returns-in_err-f
-scan-returns-in_err-f t c = exits c.from_residual-in_err-f.result _ c.in_err-f.field-0.0 _ c.from_residual-in_err-f.ensures.1 (fails_as _ _ _ (ap (λ as_. scan_applied (names_of c.args.self.now.scope) c.args.line c.args.text (checkers (phrases_in as_))) (two_of _ _ _ c.if-args-ne2.false c.index-args-0.is c.index-args-1.is)) (fails_next _ _ _ _ _ _ c.in_ok-a.ensures (fails_first _ _ _ (fails_as_wanted _ _ _ c.in_ok-wanted.ensures c.in_err-f.ensures))))
-
 pub scan-returns : goal.scan-returns
-scan-returns t c = made _ _ _ _ c.new.result (ap (λ as_. scan_applied (names_of c.args.self.now.scope) c.args.line c.args.text (checkers (phrases_in as_))) (two_of _ _ _ c.if-args-ne2.false c.index-args-0.is c.index-args-1.is) ∙ given _ _ _ _ _ c.in_ok-a.ensures ∙ given _ _ _ _ _ (as_wanted _ _ _ _ c.in_ok-wanted.ensures c.in_ok-f.ensures)) c.new.ensures
+scan-returns t c = leads _ _ _ _ (ap (λ as_. scan_applied (names_of c.args.self.now.scope) c.args.line c.args.text (checkers (phrases_in as_))) (two_of _ _ _ c.if-args-ne2.false c.index-args-0.is c.index-args-1.is)) c.double.ensures
 
-pub scan-operand-requires : goal.scan-operand-requires
-scan-operand-requires t c =
-    let below : 0 < length c.args.args.now = omega (arith, c.if-args-ne2.false) in
-    let light : weight (phrase_of c.index-args-0.result) ≤ weight_all (phrases_in c.args.args.now) = subst (λ r. weight (phrase_of r) ≤ weight_all (phrases_in c.args.args.now)) (sym c.index-args-0.is) (weight_at c.args.args.now 0 _ below) in
-    search (rules, light)
-
-pub scan-operand-requires-2 : goal.scan-operand-requires-2
-scan-operand-requires-2 t c =
-    let below : 1 < length c.args.args.now = omega (arith, c.if-args-ne2.false) in
-    let light : weight (phrase_of c.index-args-1.result) ≤ weight_all (phrases_in c.args.args.now) = subst (λ r. weight (phrase_of r) ≤ weight_all (phrases_in c.args.args.now)) (sym c.index-args-1.is) (weight_at c.args.args.now 1 _ below) in
+pub scan-double-requires : goal.scan-double-requires
+scan-double-requires t c =
+    let light : weight_all (phrases_in c.args.args.now) ≡ weight (phrase_of c.index-args-0.result) + (weight (phrase_of c.index-args-1.result) + 0) = ap (λ as_. weight_all (phrases_in as_)) (two_of _ _ _ c.if-args-ne2.false c.index-args-0.is c.index-args-1.is) in
     search (rules, light)

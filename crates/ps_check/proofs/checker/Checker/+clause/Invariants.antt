@@ -7,41 +7,29 @@ use Rattle.ps_tree.specs.PhraseLists.{phrases_in, items_in, arms_in as rough_arm
 use Rattle.ps_tree.specs.declared.rough.RoughRange.{out-RoughRange}
 use Rattle.ps_scope.specs.Content.{names_of}
 use Rattle.ps_typing.specs.Checking.{Gives, check_all, check_written, check_each, check_args, check_arms, checkers, elements}
-use Rattle.ps_check.specs.inside.Links.{check_links}
-use Rattle.ps_check.specs.inside.Weights.{weight, weight_all, weight_if_any, weight_arms, weight_arm, weight_written, weight_item, weight_link, weight_links}
-use Rattle.ps_check.specs.inside.Views.{maybe_lent}
+use Rattle.ps_checked.specs.inside.Links.{check_links}
+use Rattle.ps_checked.specs.inside.Weights.{weight, weight_all, weight_if_any, weight_arms, weight_arm, weight_written, weight_item, weight_link, weight_links}
+use Rattle.ps_checked.specs.inside.Views.{maybe_lent}
 use Rattle.ps_check.proofs.After.{after, after_as, after_nodes, after_arms}
 use Rattle.ps_check.proofs.checker.Checker.+clause.Given as goal
 
 abbrev pub decreases-clause : goal.decreases-clause
 decreases-clause l = 16 * weight (phrase_of l.rough.now)
 
-abbrev pub decreases-operand : goal.decreases-operand
-decreases-operand l = 16 * weight (phrase_of l.rough.now) + 1
+abbrev pub decreases-part : goal.decreases-part
+decreases-part l = 16 * weight (phrase_of l.rough.now) + 1
 
-abbrev pub decreases-tested : goal.decreases-tested
-decreases-tested l = 16 * weight (phrase_of l.rough.now) + 1
+abbrev pub decreases-single : goal.decreases-single
+decreases-single l = 16 * weight (phrase_of l.e.now) + 2
+
+abbrev pub decreases-double : goal.decreases-double
+decreases-double l = 16 * (weight (phrase_of l.a.now) + weight (phrase_of l.b.now)) + 2
 
 abbrev pub decreases-if_any : goal.decreases-if_any
 decreases-if_any l = 16 * weight_if_any (maybe_lent l.rough) + 2
 
 abbrev pub decreases-like : goal.decreases-like
 decreases-like l = 16 * weight (phrase_of l.rough.now) + 2
-
-abbrev pub decreases-prefixed : goal.decreases-prefixed
-decreases-prefixed l = 16 * weight (phrase_of l.e.now) + 3
-
-abbrev pub decreases-compare : goal.decreases-compare
-decreases-compare l = 16 * (weight (phrase_of l.a.now) + weight (phrase_of l.b.now)) + 3
-
-abbrev pub decreases-is_of : goal.decreases-is_of
-decreases-is_of l = 16 * weight (phrase_of l.e.now) + 3
-
-abbrev pub decreases-bound : goal.decreases-bound
-decreases-bound l = 16 * weight (phrase_of l.e.now) + 3
-
-abbrev pub decreases-guarded : goal.decreases-guarded
-decreases-guarded l = 16 * (weight (phrase_of l.c.now) + weight (phrase_of l.a.now)) + 3
 
 abbrev pub decreases-if_else : goal.decreases-if_else
 decreases-if_else l = 16 * (weight (phrase_of l.c.now) + weight (phrase_of l.a.now) + weight (phrase_of l.b.now)) + 3
@@ -94,17 +82,11 @@ decreases-elements l = 16 * (weight (phrase_of l.l.now) + weight_all (phrases_in
 abbrev pub decreases-declaration : goal.decreases-declaration
 decreases-declaration l = 16 * weight (phrase_of l.e.now) + 5
 
-abbrev pub decreases-initial : goal.decreases-initial
-decreases-initial l = 16 * weight (phrase_of l.e.now) + 3
-
 abbrev pub decreases-named_literal : goal.decreases-named_literal
 decreases-named_literal l = 16 * weight (phrase_of l.literal.s.now) + 4
 
 abbrev pub decreases-literal : goal.decreases-literal
 decreases-literal l = 16 * weight (phrase_of l.literal.s.now) + 3
-
-abbrev pub decreases-assign : goal.decreases-assign
-decreases-assign l = 16 * (weight (phrase_of l.x.now) + weight (phrase_of l.e.now)) + 3
 
 abbrev pub decreases-application : goal.decreases-application
 decreases-application l = 16 * (weight (phrase_of l.f.now) + weight_all (phrases_in l.args.now)) + 12
@@ -118,23 +100,14 @@ decreases-library l = 16 * weight_all (phrases_in l.args.now) + 9
 abbrev pub decreases-apply : goal.decreases-apply
 decreases-apply l = 16 * weight_all (phrases_in l.args.now) + 8
 
-abbrev pub decreases-called : goal.decreases-called
-decreases-called l = 16 * weight_all (phrases_in l.args.now) + 7
-
 abbrev pub decreases-with_args : goal.decreases-with_args
 decreases-with_args l = 16 * weight_all (phrases_in l.args.now) + 6
 
 abbrev pub decreases-arguments : goal.decreases-arguments
 decreases-arguments l = 16 * weight_all (phrases_in l.args.now) + 5
 
-abbrev pub decreases-subscripted : goal.decreases-subscripted
-decreases-subscripted l = 16 * weight_all (phrases_in l.args.now) + 6
-
 abbrev pub decreases-subscripts : goal.decreases-subscripts
 decreases-subscripts l = 16 * weight_all (phrases_in l.args.now) + 5
-
-abbrev pub decreases-subscript : goal.decreases-subscript
-decreases-subscript l = 16 * weight (phrase_of l.i.now) + 3
 
 abbrev pub decreases-scan : goal.decreases-scan
 decreases-scan l = 16 * weight_all (phrases_in l.args.now) + 6
@@ -145,13 +118,6 @@ decreases-chain l = 16 * (weight (phrase_of l.left.now) + weight_link l.last) + 
 abbrev pub decreases-link : goal.decreases-link
 decreases-link l = 16 * weight_link l.link + 9
 
-abbrev pub decreases-joined : goal.decreases-joined
-decreases-joined l = 16 * weight (phrase_of l.right.now) + 3
-
-abbrev pub decreases-parted : goal.decreases-parted
-decreases-parted l = 16 * (weight (phrase_of l.i.now) + weight (phrase_of l.n.now)) + 3
-
--- the links that are left, behind the part of the chain that is checked, make the chain
 abbrev pub invariant-chain-loop-link : goal.invariant-chain-loop-link
 invariant-chain-loop-link l = record {
   chain : check_links l.links.items (Gives (node_of l.chain.tree) (ty_view l.chain.ty) (names_of l.self.scope)) ≡ check_links l.initial.links.items (Gives (node_of l.initial.chain.tree) (ty_view l.initial.chain.ty) (names_of l.initial.self.scope));

@@ -1,0 +1,102 @@
+ghost use Rattle.std.specs.Prelude.{◌≡◌, option_map, Some, None};
+ghost use Rattle.ps_base.specs.TyView.{ty_view};
+ghost use Rattle.ps_tree.specs.Phrase.{phrase_of, arm_of as rough_arm_of};
+ghost use Rattle.ps_tree.specs.Phrase as form;
+ghost use Rattle.ps_tree.specs.PhraseLists.{arms_in as rough_arms_in};
+ghost use Rattle.ps_scope.specs.Content.{names_of};
+ghost use Rattle.ps_typing.specs.Checking.{check as check_of, like, check_arms};
+ghost use Rattle.ps_checked.specs.inside.Answers.{IsClause, check_unlined};
+ghost use Rattle.ps_checked.specs.inside.Cases.{IsArm, AreArms, AreMoreArms, check_arm};
+
+use crate::checker::Checker;
+use ps_base::list::List;
+use ps_base::ty::Ty;
+use ps_checked::arms::{Arms, Labelled};
+use ps_checked::clause::Clause;
+use ps_checked::fault::CheckFault;
+use ps_checked::fits::Test;
+use ps_checked::wanted::Wanted;
+use ps_program::form::{Arm, TreeForm};
+use ps_tree::rough::{Rough, RoughArm};
+
+impl Checker {
+    #[cycle(clause)]
+    pub(crate) fn case_of(
+        &mut self,
+        e: &Rough,
+        arms: &[RoughArm],
+        d: &Rough,
+    ) -> Result<Clause, CheckFault>
+        ensures { IsClause (check_unlined (names_of self.old.scope) (form.Case (phrase_of e.now) (rough_arms_in arms.now) (phrase_of d.now))) result self.new.scope }
+    {
+        let Clause { tree: e, ty } = self.part(e, Wanted::Passing(Test::Equated))?;
+        let Arms { arms, given } = self.arms(&ty, arms)?;
+        let Clause { tree: d, ty: gives } = self.like(d, given)?;
+        let arms = List::new(arms);
+        Clause::new(self.alloc, TreeForm::Case { e, arms, d, ty }, gives)
+    }
+
+    // The arms for values of the type.
+    #[cycle(clause)]
+    fn arms(&mut self, ty: &Ty, arms: &[RoughArm]) -> Result<Arms, CheckFault>
+        ensures { AreArms (check_arms (names_of self.old.scope) (ty_view ty.now) None (rough_arms_in arms.now)) result self.new.scope }
+    {
+        let mut made = Vec::new(self.alloc);
+        match arms.split_first() {
+            None => Ok(Arms {
+                arms: made,
+                given: None,
+            }),
+            Some((first, rest)) => {
+                let Labelled { arm, ty: own } = self.arm(ty, first, None)?;
+                made.push(arm)?;
+                self.more_arms(ty, &own, rest, &mut made)?;
+                Ok(Arms {
+                    arms: made,
+                    given: Some(own),
+                })
+            }
+        }
+    }
+
+    // The arms behind the first, whose clause has this type.
+    #[cycle(clause)]
+    fn more_arms(
+        &mut self,
+        ty: &Ty,
+        own: &Ty,
+        arms: &[RoughArm],
+        made: &mut Vec<Arm>,
+    ) -> Result<(), CheckFault>
+        ensures { AreMoreArms (ty_view own.now) (check_arms (names_of self.old.scope) (ty_view ty.now) (Some (ty_view own.now)) (rough_arms_in arms.now)) made.old.items made.new.items result self.new.scope }
+    {
+        for arm in arms {
+            let wanted = own.copy()?;
+            let Labelled { arm, ty: _ } = self.arm(ty, arm, Some(wanted))?;
+            made.push(arm)?;
+        }
+        Ok(())
+    }
+
+    // An arm, whose clause is like those before it, where there are any.
+    #[cycle(clause)]
+    fn arm(&mut self, ty: &Ty, arm: &RoughArm, given: Option<Ty>) -> Result<Labelled, CheckFault>
+        ensures { IsArm (check_arm (names_of self.old.scope) (ty_view ty.now) (option_map ty_view given) (rough_arm_of arm.now)) result self.new.scope }
+    {
+        let labels = List::new(self.each(ty, arm.labels.as_slice())?);
+        let Clause { tree: a, ty } = self.like(&arm.a, given)?;
+        let arm = Arm { labels, a };
+        Ok(Labelled { arm, ty })
+    }
+
+    // A clause like those before it, where there are any.
+    #[cycle(clause)]
+    fn like(&mut self, rough: &Rough, given: Option<Ty>) -> Result<Clause, CheckFault>
+        ensures { IsClause (like (option_map ty_view given) rough.now.line (check_of (names_of self.old.scope) (phrase_of rough.now))) result self.new.scope }
+    {
+        match given {
+            None => self.clause(rough),
+            Some(wanted) => self.part(rough, Wanted::This(wanted)),
+        }
+    }
+}

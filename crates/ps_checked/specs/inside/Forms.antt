@@ -1,0 +1,48 @@
+-- What the functions of the check do for single forms.
+use Rattle.std.specs.Prelude.{ℕ, Bool, List, Option, Some, None, if◌then◌else◌}
+use Rattle.ps_base.specs.TyView.{TyView}
+use Rattle.ps_base.specs.TyView as types
+use Rattle.ps_base.specs.declared.line.Line.{Line}
+use Rattle.ps_tree.specs.Phrase.{NameAt, Phrase}
+use Rattle.ps_program.specs.Node.{Node, Nodes}
+use Rattle.ps_program.specs.Node as node
+use Rattle.ps_program.specs.NodeView.{node_of}
+use Rattle.std.specs.Rc.{rc_value}
+use Rattle.ps_typing.specs.Names.{Names, Meaning, class, Procedure, plain, scan}
+use Rattle.ps_typing.specs.Fault.{NotApplicable}
+use Rattle.ps_typing.specs.Checking.{Outcome, Gives, Refuses, ◌>>=◌, Checker, check, line_of, wants, passes, isnt_void, introduced, literal, named_literal, with_args, scan_applied}
+use Rattle.ps_checked.specs.declared.head.Head.{Head}
+use Rattle.ps_checked.specs.declared.head.Head.TheVariants as head
+use Rattle.ps_checked.specs.inside.Looks.{LiteralAt}
+
+-- a class, where one is meant
+abbrev pub class_meant : Option Meaning → Option Meaning
+class_meant (Some (class text fields)) = Some (class text fields)
+class_meant _ = None
+
+abbrev pub class_test : Bool → Node → List ℕ → Node
+class_test negated e of = if negated then node.Not (node.Is e of) else node.Is e of
+
+-- a name that is declared behind its initial clause, which is no literal
+abbrev pub check_initial : Names → NameAt → Bool → Phrase → Outcome Node
+check_initial names name variable e = passes isnt_void types.Bool (line_of e) (check names e) >>= λ e t names. introduced name variable e t names
+
+abbrev pub check_literal : Names → LiteralAt → Outcome Node
+check_literal names l = literal names l.line l.params l.gives (line_of l.s) (λ own. check own l.s)
+
+abbrev pub check_named : Names → NameAt → Bool → LiteralAt → Outcome Node
+check_named names name variable l = named_literal names name variable l.line l.params l.gives (line_of l.s) (λ own. check own l.s)
+
+abbrev pub head_node : Head → Line → Nodes → Node
+head_node (head.Call f) line args = node.Call (node_of f) args line
+head_node (head.Make of) line args = node.Make (rc_value of) args
+head_node (head.Lib code) line args = node.Lib code args line
+
+-- one subscript
+abbrev pub check_element : Names → Line → Node → TyView → Phrase → Outcome Node
+check_element names line v (types.Vector element) i = wants types.Int (line_of i) (check names i) >>= λ i int names. Gives (node.Element v i element line) element names
+check_element names line v _ i = Refuses (NotApplicable line)
+
+abbrev pub check_library : Names → Line → Procedure → List Checker → Outcome Node
+check_library names line (plain code params gives) args = with_args names line params args (λ args. node.Lib code args line) gives
+check_library names line (scan text) args = scan_applied names line text args

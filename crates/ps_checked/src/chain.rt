@@ -1,0 +1,47 @@
+ghost use Rattle.std.specs.Prelude.{◌≡◌, ◌+◌, ◌≤◌, IfOk, IfErr, IfSome};
+ghost use Rattle.ps_tree.specs.Phrase.{phrase_of};
+ghost use Rattle.ps_typing.specs.Names.{Names};
+ghost use Rattle.ps_typing.specs.Checking.{check as check_of};
+ghost use Rattle.ps_checked.specs.inside.Answers.{IsMemory};
+ghost use Rattle.ps_checked.specs.inside.Links.{check_link, check_links};
+ghost use Rattle.ps_checked.specs.inside.Weights.{weight, weight_link, weight_links};
+
+use crate::fault::CheckFault;
+use crate::link::{Joint, Link};
+use crate::looks::name_in;
+use ps_tree::rough::{Rough, RoughForm};
+
+/// Goes down the left operands of a chain, and keeps the links on the way. What is applied by its name has no left operand. The only
+/// fault is `Memory`.
+pub fn gather<'a>(links: &mut Vec<Link<'a>>, left: &'a Rough) -> Result<&'a Rough, CheckFault>
+    ensures chain { IfOk result (λ innermost. (names : Names) → check_links links.new.items (check_of names (phrase_of innermost.now)) ≡ check_links links.old.items (check_of names (phrase_of left.now))) }
+    ensures lighter { IfOk result (λ innermost. weight_links links.new.items + weight (phrase_of innermost.now) ≤ weight_links links.old.items + weight (phrase_of left.now)) }
+    ensures fault { IfErr result IsMemory }
+{
+    let mut rest = left;
+    while let Some((link, inner)) = link_of(rest) {
+        links.push(link)?;
+        rest = inner;
+    }
+    Ok(rest)
+}
+
+// The last link of a chain and what stands before it, where a clause is a chain.
+fn link_of(rough: &Rough) -> Option<(Link, &Rough)>
+    ensures chain { IfSome result (λ parts. (names : Names) → check_of names (phrase_of rough.now) ≡ check_link parts.0 (check_of names (phrase_of parts.1.now))) }
+    ensures weight { IfSome result (λ parts. weight (phrase_of rough.now) ≡ weight (phrase_of parts.1.now) + weight_link parts.0 + 1) }
+{
+    let line = rough.line;
+    match &*rough.form {
+        RoughForm::Or { a, b } => Some((Link::new(Joint::Or, a, b), a)),
+        RoughForm::And { a, b } => Some((Link::new(Joint::And, a, b), a)),
+        RoughForm::Join { a, b } => Some((Link::new(Joint::Join(line), a, b), a)),
+        RoughForm::Arith { op, a, b } => Some((Link::new(Joint::Arith(*op, line), a, b), a)),
+        RoughForm::Part { s, i, n } => Some((Link::part(line, s, i, n), s)),
+        RoughForm::Apply { f, args } => match name_in(f) {
+            Some(_) => None,
+            None => Some((Link::apply(line, args.as_slice()), f)),
+        },
+        _ => None,
+    }
+}

@@ -1,0 +1,25 @@
+//! What the check makes of clauses that were checked: of what type they have to be, and the clause of a form with its parts.
+//!
+//! Nothing here goes into a clause of the text: `ps_check` does, and hands in what came of it.
+#![tactic(auto)]
+
+pub mod arms;
+pub mod assigning;
+pub mod chain;
+pub mod classes;
+pub mod clause;
+pub mod declarators;
+pub mod double;
+pub mod fault;
+pub mod fields;
+pub mod fits;
+pub mod head;
+pub mod items;
+pub mod link;
+pub mod literals;
+pub mod looks;
+pub mod loops;
+pub mod names;
+pub mod single;
+pub mod vectors;
+pub mod wanted;

@@ -1,0 +1,41 @@
+ghost use Rattle.std.specs.Prelude.{◌≡◌};
+ghost use Rattle.ps_base.specs.TyView.{ty_view};
+ghost use Rattle.ps_program.specs.NodeView.{node_of};
+ghost use Rattle.ps_scope.specs.Content.{Content, names_of};
+ghost use Rattle.ps_typing.specs.Checking.{Gives};
+ghost use Rattle.ps_checked.specs.inside.Answers.{IsClause};
+ghost use Rattle.ps_checked.specs.inside.Parts.{meets, want_of};
+
+use crate::clause::Clause;
+use crate::fault::CheckFault;
+use crate::fits::Test;
+use ps_base::line::Line;
+use ps_base::ty::Ty;
+use std::alloc::Global;
+
+/// What type a clause is to have.
+#[derive(Drop)]
+pub enum Wanted {
+    /// Any type will do.
+    Any,
+    /// This one.
+    This(Ty),
+    /// One that passes the test.
+    Passing(Test),
+}
+
+impl Wanted {
+    /// The clause on this line, where its type will do; else `Mismatch`. The only other fault is `Memory`.
+    pub fn met(self, alloc: Global, clause: Clause, line: Line) -> Result<Clause, CheckFault>
+        ensures { (scope : Content) → IsClause (meets (want_of self) line (Gives (node_of clause.tree) (ty_view clause.ty) (names_of scope))) result scope }
+    {
+        match self {
+            Wanted::Any => Ok(clause),
+            Wanted::This(ty) => {
+                let tree = clause.of_type(line, &ty)?;
+                Ok(Clause { tree, ty })
+            }
+            Wanted::Passing(test) => test.passed(alloc, clause, line),
+        }
+    }
+}
