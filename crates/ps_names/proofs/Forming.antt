@@ -19,8 +19,8 @@ use Rattle.ps_program.proofs.PartLemmas.{weight_is}
 use Rattle.ps_typing.specs.Mentions.{number_of}
 use Rattle.ps_typing.specs.Placing.{Around, Locals, with_declared, place_of}
 use Rattle.ps_typing.specs.Placed.{Given, ◌>>=◌, then_give, placed, placed_all, placed_literal}
-use Rattle.ps_names.specs.declared.placer.Placer.{Placer}
-use Rattle.ps_names.specs.inside.Standing.{Stands, Does}
+use Rattle.ps_placer.specs.declared.placer.Placer.{Placer}
+use Rattle.ps_placer.specs.inside.Standing.{Stands, Does}
 use Rattle.ps_names.specs.inside.Clauses.{Pair, Triple, WithAll, Case, Block, pair, placed_pair, placed_triple, placed_with_all, placed_case, placed_block}
 use Rattle.ps_names.proofs.Doing.{Made, does_same, does_made, on_ok}
 

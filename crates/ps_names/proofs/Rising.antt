@@ -7,8 +7,8 @@ use Rattle.ps_program.specs.inside.Weights.{weight, weight_all}
 use Rattle.ps_program.proofs.PartLemmas.{weight_is, weight_of_all}
 use Rattle.ps_typing.specs.Placing.{Around, Locals}
 use Rattle.ps_typing.specs.Placed.{Given, gives, ◌>>=◌, then_give, placed}
-use Rattle.ps_names.specs.declared.placer.Placer.{Placer}
-use Rattle.ps_names.specs.inside.Standing.{Stands, Does}
+use Rattle.ps_placer.specs.declared.placer.Placer.{Placer}
+use Rattle.ps_placer.specs.inside.Standing.{Stands, Does}
 use Rattle.ps_names.specs.inside.Chains.{is_link, first_or, with_first, rewound, placed_behind, rises, weight_behind, Rises}
 
 rises_law : (around : Around) (l : Locals) (above x : Node) → rises around above (placed around l x) ≡ placed around l (rewound above x)

@@ -10,13 +10,14 @@ use Rattle.ps_program.specs.Node as node
 use Rattle.ps_typing.specs.Mentions.{number_of, numbers, common}
 use Rattle.ps_typing.specs.Placing.{Around, Locals, with_declared, place_of, scope_text, inside, declared}
 use Rattle.ps_typing.specs.Placed.{◌>>=◌, then_give, placed, placed_all, placed_literal, with_params}
-use Rattle.ps_names.specs.declared.placer.Placer.{Placer}
-use Rattle.ps_names.specs.declared.placer.Outer.{Outer}
-use Rattle.ps_names.specs.inside.Marks.{marks_of, is_kept}
-use Rattle.ps_names.specs.inside.Standing.{Stands, Does, Enters, Leaves, chosen}
-use Rattle.ps_names.specs.inside.Clauses.{Triple, triple, placed_triple, block_of, placed_block, placed_params}
+use Rattle.ps_placer.specs.declared.placer.Placer.{Placer}
+use Rattle.ps_placer.specs.declared.placer.Outer.{Outer}
+use Rattle.ps_placer.specs.inside.Marks.{marks_of, is_kept}
+use Rattle.ps_placer.specs.inside.Standing.{Stands, Does, Enters, Leaves, chosen}
+use Rattle.ps_names.specs.inside.Clauses.{Triple, triple, placed_triple, block_of, placed_block}
+use Rattle.ps_placer.specs.inside.Params.{placed_params}
 use Rattle.ps_names.proofs.Doing.{Made, on_ok}
-use Rattle.ps_names.proofs.Entering.{entered, left, kept_ones}
+use Rattle.ps_placer.proofs.Entering.{entered, left, kept_ones}
 
 text_known : (placer : Placer) (around : Around) (locals : Locals) (kept ks : List ℕ) (text : Option (List ℕ)) → Stands placer around locals → kept ≡ ks → text ≡ scope_text (fields_of placer.names.items) kept → text ≡ scope_text around.names ks
 text_known placer around locals kept ks text stands kept_is text_is = text_is ∙ ap (λ names. scope_text names kept) stands.names ∙ ap (scope_text around.names) kept_is

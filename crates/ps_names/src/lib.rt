@@ -2,9 +2,6 @@
 //! them.
 #![tactic(auto)]
 
-mod placer;
 mod placing;
-mod survey;
-mod table;
 
 pub use placing::place;

@@ -4,8 +4,8 @@ use Rattle.std.specs.Prelude.{◌≡◌, Bool, true, false, ℕ, ◌+◌}
 use Rattle.ps_program.specs.Node.{Node, Nodes, Arm, arm}
 use Rattle.ps_program.specs.Node as node
 use Rattle.ps_program.specs.inside.Weights.{weight, weight_all}
-use Rattle.ps_names.specs.declared.placer.Placer.{Placer}
-use Rattle.ps_names.specs.inside.Standing.{Stands}
+use Rattle.ps_placer.specs.declared.placer.Placer.{Placer}
+use Rattle.ps_placer.specs.inside.Standing.{Stands}
 use Rattle.ps_typing.specs.Placing.{Around, Locals}
 use Rattle.ps_typing.specs.Placed.{Given, gives, ◌>>=◌, then_give, placed, placed_all}
 

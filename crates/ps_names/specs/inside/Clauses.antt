@@ -1,18 +1,12 @@
 -- Several clauses, one behind the other.
-use Rattle.std.specs.Prelude.{ℕ, List, map, Option, option_map}
-use Rattle.std.specs.declared.boxed.Box.{Box}
-use Rattle.std.specs.declared.alloc.Global.{Global}
-use Rattle.ps_base.specs.declared.bytes.Bytes.{Bytes}
+use Rattle.std.specs.Prelude.{ℕ, List, Option}
 use Rattle.ps_program.specs.declared.form.Loop.{Loop}
-use Rattle.ps_program.specs.Node.{Param, Node, Nodes, Arm, arm, Arms}
+use Rattle.ps_program.specs.Node.{Node, Nodes, Arm, arm, Arms}
 use Rattle.ps_program.specs.Node as node
 use Rattle.ps_program.specs.NodeView.{node_of}
 use Rattle.ps_typing.specs.Mentions.{common}
-use Rattle.ps_typing.specs.Placing.{Around, Locals, place_of, scope_text, inside, declared}
+use Rattle.ps_typing.specs.Placing.{Around, Locals, scope_text, inside, declared}
 use Rattle.ps_typing.specs.Placed.{Given, ◌>>=◌, then_give, placed, placed_all, placed_arms}
-
-abbrev pub text_in : Option (Box Bytes Global) → Option (List ℕ)
-text_in = option_map (λ (bytes : Box Bytes Global). bytes.value)
 
 abbrev pub loop_of : Loop → Node
 loop_of it = node.For it.slot (node_of it.a) (node_of it.b) (node_of it.c) it.scope it.control (node_of it.s) it.line
@@ -81,6 +75,3 @@ abbrev pub placed_block : Around → Locals → Nodes → Given Block
 placed_block around locals items =
     let kept = common (declared items) around.kept in
     then_give (block_of (scope_text around.names kept)) (placed_all (inside around kept) locals items)
-
-abbrev pub placed_params : Around → Locals → List Param → List Param
-placed_params around locals params = map (λ (param : Param). record param { place = place_of around locals param.place }) params

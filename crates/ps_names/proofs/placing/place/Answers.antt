@@ -17,4 +17,4 @@ unfolding then_give
 returns c =
     let of = body_of c.args.body in
     let around : Around = record { names = fields_of c.args.names.items; kept = kept_names of; scopes = [] } in
-    ap (in_literal of) (c.in_ok-literal.ensures.at around no_locals (c.new-placer.ensures.at (kept_names of) c.in_ok-survey.ensures)).0
+    ap (in_literal of) (c.in_ok-place_literal.ensures.at around no_locals (c.new-placer.ensures.at (kept_names of) c.in_ok-survey.ensures)).0
