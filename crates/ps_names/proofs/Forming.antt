@@ -1,8 +1,7 @@
 -- A clause whose parts have their places.
-use Rattle.std.proofs.Common.{◌≡◌, ◌≤◌, ℕ, ◌+◌, Bool, sym, ap, subst, ◌∙◌, arith, OnOk}
+use Rattle.std.proofs.Common.{◌≡◌, ◌<◌, ◌≤◌, ℕ, ◌+◌, ◌*◌, refl, sym, ap, subst, ◌∙◌, arith, OnOk}
 use Rattle.ps_base.specs.TyView.{TyView, ty_view}
 use Rattle.ps_base.specs.declared.ty.Ty.{Ty}
-use Rattle.ps_base.specs.declared.line.Line.{Line}
 use Rattle.ps_base.specs.List.{items_of}
 use Rattle.ps_base.specs.declared.list.List.{List as ListOf}
 use Rattle.ps_program.specs.declared.body.Body.{Body}
@@ -14,14 +13,15 @@ use Rattle.ps_program.specs.Node.{Node, Nodes, BodyNode}
 use Rattle.ps_program.specs.NodeView.{node_of, node_of_form, nodes_in, body_of}
 use Rattle.ps_program.specs.inside.PartsView.{arms_in}
 use Rattle.ps_program.specs.Node as node
-use Rattle.ps_program.specs.inside.Weights.{weight}
+use Rattle.ps_program.specs.inside.Weights.{weight, weight_all, weight_arms}
 use Rattle.ps_program.proofs.PartLemmas.{weight_is}
 use Rattle.ps_typing.specs.Mentions.{number_of}
 use Rattle.ps_typing.specs.Placing.{Around, Locals, with_declared, place_of}
-use Rattle.ps_typing.specs.Placed.{Given, ◌>>=◌, then_give, placed, placed_all, placed_literal}
+use Rattle.ps_typing.specs.Placed.{Given, then_give, placed, placed_all, placed_literal}
 use Rattle.ps_placer.specs.declared.placer.Placer.{Placer}
 use Rattle.ps_placer.specs.inside.Standing.{Stands, Does}
-use Rattle.ps_names.specs.inside.Clauses.{Pair, Triple, WithAll, Case, Block, pair, placed_pair, placed_triple, placed_with_all, placed_case, placed_block}
+use Rattle.ps_names.specs.inside.Clauses.{Pair, Triple, WithAll, Case, Block, Named, Scan, pair, named, scan_of, placed_assigned, placed_declared, placed_scan, placed_pair, placed_triple, placed_with_all, placed_case, placed_block}
+use Rattle.ps_names.specs.inside.Chains.{placed_parts, weight_placed}
 use Rattle.ps_names.proofs.Doing.{Made, does_same, does_made, on_ok}
 
 -- what is done to a tree, to several, and to lists
@@ -50,6 +50,15 @@ block_does items around locals = placed_block around locals (nodes_in (items_of 
 abbrev pub literal_does : Body → Around → Locals → Given BodyNode
 literal_does of around locals = placed_literal around locals (body_of of)
 
+abbrev pub assigned_does : Place → Tree → Around → Locals → Given Named
+assigned_does place e around locals = placed_assigned around locals place (node_of e)
+
+abbrev pub declared_does : Place → Ty → Tree → Around → Locals → Given Named
+declared_does place ty e around locals = placed_declared around locals place (ty_view ty) (node_of e)
+
+abbrev pub scan_does : Tree → Tree → Around → Locals → Given Scan
+scan_does a f around locals = placed_scan around locals (node_of a) (node_of f)
+
 -- the same, of what is known to be equal
 
 pub at_one : {A B : Type 0} (f : B → Around → Locals → Given A) (b b' : B) (x : A) (old new : Placer) (r : Made) → b' ≡ b → OnOk r (Does (f b') old x new) → OnOk r (Does (f b) old x new)
@@ -61,6 +70,16 @@ at_two {A} {B} {C} f b b' c c' x old new r b_is c_is done = subst (λ (y : C). O
 pub at_three : {A B C D : Type 0} (f : B → C → D → Around → Locals → Given A) (b b' : B) (c c' : C) (d d' : D) (x : A) (old new : Placer) (r : Made) → b' ≡ b → c' ≡ c → d' ≡ d → OnOk r (Does (f b' c' d') old x new) → OnOk r (Does (f b c d) old x new)
 at_three {A} {B} {C} {D} f b b' c c' d d' x old new r b_is c_is d_is done = subst (λ (y : D). OnOk r (Does (f b c y) old x new)) d_is (at_two (λ y z. f y z d') b b' c c' x old new r b_is c_is done)
 
+-- what was done to the form of a tree
+
+pub form_did : {F form : TreeForm} {m x : Node} {old new : Placer} → F ≡ form → m ≡ x → Does (λ around locals. placed_parts around locals (node_of_form F)) old x new → Does (λ around locals. placed_parts around locals (node_of_form form)) old m new
+form_did {F} {form} {m} {x} {old} {new} is m_is does =
+    does_same (λ around locals. placed_parts around locals (node_of_form F)) (λ around locals. placed_parts around locals (node_of_form form)) old new x m (λ around locals. ap (λ f. placed_parts around locals (node_of_form f)) (sym is)) m_is does
+
+pub tree_did : (F form : TreeForm) (m x : Node) (old new : Placer) (r : Made) → ((around : Around) (locals : Locals) → placed around locals (node_of_form form) ≡ placed_parts around locals (node_of_form form)) → F ≡ form → m ≡ x → OnOk r (Does (λ around locals. placed_parts around locals (node_of_form F)) old x new) → OnOk r (Does (λ around locals. placed around locals (node_of_form form)) old m new)
+tree_did F form m x old new r places is m_is done =
+    on_ok r (λ (does : Does (λ around locals. placed_parts around locals (node_of_form F)) old x new). does_same (λ around locals. placed_parts around locals (node_of_form form)) (λ around locals. placed around locals (node_of_form form)) old new m m places refl (form_did is m_is does)) done
+
 -- a clause is made of what was done
 pub formed : {A : Type 0} (g : Around → Locals → Node → Given Node) (f : Around → Locals → Given A) (make : A → Node) (n m before : Node) (x : A) (old new : Placer) (r : Made) → OnOk r (Does f old x new) → n ≡ before → ((around : Around) (locals : Locals) → g around locals before ≡ then_give make (f around locals)) → m ≡ make x → OnOk r (Does (λ around locals. g around locals n) old m new)
 formed g f make n m before x old new r done n_is same m_is =
@@ -70,31 +89,33 @@ formed g f make n m before x old new r done n_is same m_is =
 pub formed_to : {A : Type 0} (g : Around → Locals → Node → Given Node) (f : Around → Locals → Given A) (make : A → Node) (n m before : Node) (is : TreeForm) (x : A) (old new : Placer) (r : Made) → OnOk r (Does f old x new) → n ≡ before → ((around : Around) (locals : Locals) → g around locals before ≡ then_give make (f around locals)) → node_of_form is ≡ make x → m ≡ node_of_form is → OnOk r (Does (λ around locals. g around locals n) old m new)
 formed_to g f make n m before is x old new r done n_is same made m_is = formed g f make n m before x old new r done n_is same (m_is ∙ made)
 
-pub set_name : (n m : Node) (place made : Place) (ty : TyView) (a x : Node) (old new : Placer) (r : Made) → n ≡ node.SetName place ty a →
-    ((around : Around) (locals : Locals) → Stands old around locals → made ≡ place_of around locals place) → OnOk r (Does (λ around locals. placed around locals a) old x new) → m ≡ node.SetName made ty x → OnOk r (Does (λ around locals. placed around locals n) old m new)
+-- a name has its place
+pub name_done : (n m : Node) (place made : Place) (ty : TyView) (old : Placer) → n ≡ node.Name place ty → ((around : Around) (locals : Locals) → Stands old around locals → made ≡ place_of around locals place) → m ≡ node.Name made ty → Does (λ around locals. placed_parts around locals n) old m old
+name_done n m place made ty old n_is place_is m_is = record {
+  at = λ around locals stands.
+      (m_is ∙ ap (λ p. node.Name p ty) (place_is around locals stands) ∙ ap (λ (k : Node). (placed_parts around locals k).of) (sym n_is), subst (λ (k : Node). Stands old around (placed_parts around locals k).locals) (sym n_is) stands);
+}
+
+pub assigned_done : (place made : Place) (a x : Node) (old new : Placer) (r : Made) → ((around : Around) (locals : Locals) → Stands old around locals → made ≡ place_of around locals place) → OnOk r (Does (λ around locals. placed around locals a) old x new) → OnOk r (Does (λ around locals. placed_assigned around locals place a) old (named made x) new)
 unfolding then_give
-set_name n m place made ty a x old new r n_is place_is done m_is =
+assigned_done place made a x old new r place_is done =
     on_ok r (λ (does : Does (λ around locals. placed around locals a) old x new). record {
       at = λ around locals stands.
-          let here = does.at around locals stands in (
-            m_is ∙ ap (λ p. node.SetName p ty x) (place_is around locals stands) ∙ ap (node.SetName (place_of around locals place) ty) here.0 ∙ ap (λ (k : Node). (placed around locals k).of) (sym n_is),
-            subst (λ (k : Node). Stands new around (placed around locals k).locals) (sym n_is) here.1,
-          );
+          let here = does.at around locals stands in
+          (ap (λ p. named p x) (place_is around locals stands) ∙ ap (named (place_of around locals place)) here.0, here.1);
     }) done
 
-pub let_name : (n m : Node) (place made : Place) (ty : TyView) (a x : Node) (old mid new : Placer) (r : Made) → n ≡ node.Let place ty a →
+pub declared_done : (place made : Place) (ty : TyView) (a x : Node) (old mid new : Placer) (r : Made) →
     ((around : Around) (locals : Locals) → Stands old around locals → Stands mid around (with_declared around (number_of place) ty locals)) →
-    ((around : Around) (locals : Locals) → Stands mid around locals → made ≡ place_of around locals place) → OnOk r (Does (λ around locals. placed around locals a) mid x new) → m ≡ node.Let made ty x → OnOk r (Does (λ around locals. placed around locals n) old m new)
+    ((around : Around) (locals : Locals) → Stands mid around locals → made ≡ place_of around locals place) → OnOk r (Does (λ around locals. placed around locals a) mid x new) → OnOk r (Does (λ around locals. placed_declared around locals place ty a) old (named made x) new)
 unfolding then_give
-let_name n m place made ty a x old mid new r n_is declared place_is done m_is =
+declared_done place made ty a x old mid new r declared place_is done =
     on_ok r (λ (does : Does (λ around locals. placed around locals a) mid x new). record {
       at = λ around locals stands.
           let own = with_declared around (number_of place) ty locals in
           let known = declared around locals stands in
-          let here = does.at around own known in (
-            m_is ∙ ap (λ p. node.Let p ty x) (place_is around own known) ∙ ap (node.Let (place_of around own place) ty) here.0 ∙ ap (λ (k : Node). (placed around locals k).of) (sym n_is),
-            subst (λ (k : Node). Stands new around (placed around locals k).locals) (sym n_is) here.1,
-          );
+          let here = does.at around own known in
+          (ap (λ p. named p x) (place_is around own known) ∙ ap (named (place_of around own place)) here.0, here.1);
     }) done
 
 abbrev moved : Placer → Placer
@@ -111,25 +132,61 @@ moved_stands p around locals stands = record {
   of = stands.of;
 }
 
-pub scan : (n m : Node) (text : Bool) (a f x y : Node) (q s : ℕ) (line : Line) (old first mid new : Placer) (r : Made) → n ≡ node.Scan text a f q s line →
-    first ≡ record old { nums = old.nums + 3 } → mid ≡ record first { refs = first.refs + 3 } → OnOk r (Does (λ around locals. placed_pair around locals a f) mid (pair x y) new) → m ≡ node.Scan text x y old.refs old.nums line → OnOk r (Does (λ around locals. placed around locals n) old m new)
-unfolding ◌>>=◌ then_give
-scan n m text a f x y q s line old first mid new r n_is first_is mid_is done m_is =
+pub scan_done : (a f x y : Node) (old first mid new : Placer) (r : Made) → first ≡ record old { nums = old.nums + 3 } → mid ≡ record first { refs = first.refs + 3 } → OnOk r (Does (λ around locals. placed_pair around locals a f) mid (pair x y) new) → OnOk r (Does (λ around locals. placed_scan around locals a f) old (scan_of (pair x y) old.refs old.nums) new)
+unfolding then_give
+scan_done a f x y old first mid new r first_is mid_is done =
     on_ok r (λ (does : Does (λ around locals. placed_pair around locals a f) mid (pair x y) new). record {
       at = λ around locals stands.
           let own = record locals { nums = locals.nums + 3; refs = locals.refs + 3 } in
           let taken : mid ≡ moved old = mid_is ∙ ap (λ (p : Placer). record p { refs = p.refs + 3 }) first_is in
           let known : Stands mid around own = subst (λ (p : Placer). Stands p around own) (sym taken) (moved_stands old around locals stands) in
-          let here = does.at around own known in (
-            m_is ∙ ap (λ k. node.Scan text x y k old.nums line) stands.refs ∙ ap (λ k. node.Scan text x y locals.refs k line) stands.nums
-                ∙ ap (λ (p : Pair). node.Scan text p.first p.second locals.refs locals.nums line) here.0 ∙ ap (λ (k : Node). (placed around locals k).of) (sym n_is),
-            subst (λ (k : Node). Stands new around (placed around locals k).locals) (sym n_is) here.1,
-          );
+          let here = does.at around own known in
+          (ap (λ k. scan_of (pair x y) k old.nums) stands.refs ∙ ap (λ k. scan_of (pair x y) locals.refs k) stands.nums ∙ ap (λ (p : Pair). scan_of p locals.refs locals.nums) here.0, here.1);
     }) done
-
-pub declared_at : (placer : Placer) (around : Around) (locals : Locals) (p p' : Place) (y y' : Ty) → p' ≡ p → y' ≡ y → Stands placer around (with_declared around (number_of p') (ty_view y') locals) → Stands placer around (with_declared around (number_of p) (ty_view y) locals)
-declared_at placer around locals p p' y y' p_is y_is stands =
-    subst (λ (z : Ty). Stands placer around (with_declared around (number_of p) (ty_view z) locals)) y_is (subst (λ (q : Place). Stands placer around (with_declared around (number_of q) (ty_view y') locals)) p_is stands)
 
 pub weight_some : (n : Node) → 1 ≤ weight n
 weight_some n = omega (arith, weight_is n)
+
+-- a part of a clause weighs less
+
+pub tree_falls : (k : ℕ) (now form : TreeForm) (b b' : Tree) (t : ℕ) → 10 * weight_placed (node_of_form now) ≡ t → now ≡ form → b' ≡ b → k ≤ 9 → 1 + weight (node_of b) ≤ weight_placed (node_of_form form) → (10 * weight (node_of b') + k < t) × Unit {0}
+tree_falls k now form b b' t t_is is b_is few most =
+    let whole = ap (λ f. weight_placed (node_of_form f)) is in
+    let part = ap (λ (a : Tree). weight (node_of a)) b_is in
+    (omega (arith, t_is, whole, part, few, most), tt)
+
+pub pair_falls : (k : ℕ) (now form : TreeForm) (a a' b b' : Tree) (t : ℕ) → 10 * weight_placed (node_of_form now) ≡ t → now ≡ form → a' ≡ a → b' ≡ b → k ≤ 9 → 1 + (weight (node_of a) + weight (node_of b)) ≤ weight_placed (node_of_form form) → (10 * (weight (node_of a') + weight (node_of b')) + k < t) × Unit {0}
+pair_falls k now form a a' b b' t t_is is a_is b_is few most =
+    let whole = ap (λ f. weight_placed (node_of_form f)) is in
+    let first = ap (λ (a : Tree). weight (node_of a)) a_is in
+    let second = ap (λ (a : Tree). weight (node_of a)) b_is in
+    (omega (arith, t_is, whole, first, second, few, most), tt)
+
+pub triple_falls : (now form : TreeForm) (a a' b b' c c' : Tree) (t : ℕ) → 10 * weight_placed (node_of_form now) ≡ t → now ≡ form → a' ≡ a → b' ≡ b → c' ≡ c → 1 + (weight (node_of a) + weight (node_of b) + weight (node_of c)) ≤ weight_placed (node_of_form form) → (10 * (weight (node_of a') + weight (node_of b') + weight (node_of c')) + 5 < t) × Unit {0}
+triple_falls now form a a' b b' c c' t t_is is a_is b_is c_is most =
+    let whole = ap (λ f. weight_placed (node_of_form f)) is in
+    let first = ap (λ (a : Tree). weight (node_of a)) a_is in
+    let second = ap (λ (a : Tree). weight (node_of a)) b_is in
+    let third = ap (λ (a : Tree). weight (node_of a)) c_is in
+    (omega (arith, t_is, whole, first, second, third, most), tt)
+
+pub all_falls : (k : ℕ) (now n : Node) (items items' : ListOf Tree) (t : ℕ) → 10 * weight_placed now ≡ t → now ≡ n → items' ≡ items → k ≤ 9 → 1 + weight_all (nodes_in (items_of items)) ≤ weight_placed n → (10 * weight_all (nodes_in (items_of items')) + k < t) × Unit {0}
+all_falls k now n items items' t t_is is items_is few most =
+    let whole = ap weight_placed is in
+    let part = ap (λ (ts : ListOf Tree). weight_all (nodes_in (items_of ts))) items_is in
+    (omega (arith, t_is, whole, part, few, most), tt)
+
+pub with_all_falls : (now n : Node) (a a' : Tree) (items items' : ListOf Tree) (t : ℕ) → 10 * weight_placed now ≡ t → now ≡ n → a' ≡ a → items' ≡ items → 1 + (weight (node_of a) + weight_all (nodes_in (items_of items))) ≤ weight_placed n → (10 * (weight (node_of a') + weight_all (nodes_in (items_of items'))) + 5 < t) × Unit {0}
+with_all_falls now n a a' items items' t t_is is a_is items_is most =
+    let whole = ap weight_placed is in
+    let first = ap (λ (a : Tree). weight (node_of a)) a_is in
+    let rest = ap (λ (ts : ListOf Tree). weight_all (nodes_in (items_of ts))) items_is in
+    (omega (arith, t_is, whole, first, rest, most), tt)
+
+pub case_falls : (now n : Node) (e e' : Tree) (arms arms' : ListOf ArmOf) (d d' : Tree) (t : ℕ) → 10 * weight_placed now ≡ t → now ≡ n → e' ≡ e → arms' ≡ arms → d' ≡ d → 1 + (weight (node_of e) + weight_arms (arms_in (items_of arms)) + weight (node_of d)) ≤ weight_placed n → (10 * (weight (node_of e') + weight_arms (arms_in (items_of arms')) + weight (node_of d')) + 7 < t) × Unit {0}
+case_falls now n e e' arms arms' d d' t t_is is e_is arms_is d_is most =
+    let whole = ap weight_placed is in
+    let first = ap (λ (a : Tree). weight (node_of a)) e_is in
+    let middle = ap (λ (ts : ListOf ArmOf). weight_arms (arms_in (items_of ts))) arms_is in
+    let last = ap (λ (a : Tree). weight (node_of a)) d_is in
+    (omega (arith, t_is, whole, first, middle, last, most), tt)

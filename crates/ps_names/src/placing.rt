@@ -2,13 +2,14 @@ ghost use Rattle.std.specs.Prelude.{◌≡◌, OnOk, IfOk};
 ghost use Rattle.ps_base.specs.List.{items_of};
 ghost use Rattle.ps_type_text.specs.Members.{fields_of};
 ghost use Rattle.ps_program.specs.Node as node;
-ghost use Rattle.ps_program.specs.NodeView.{node_of, nodes_in, arm_of, body_of};
+ghost use Rattle.ps_base.specs.TyView.{ty_view};
+ghost use Rattle.ps_program.specs.NodeView.{node_of, node_of_form, nodes_in, arm_of, body_of};
 ghost use Rattle.ps_program.specs.inside.PartsView.{arms_in};
 ghost use Rattle.ps_typing.specs.Placed.{placed, placed_all, placed_arms, placed_program};
 ghost use Rattle.ps_placer.specs.inside.Standing.{Does};
-ghost use Rattle.ps_names.specs.inside.Chains.{is_link as is_link_of, first_or, with_first, placed_behind};
+ghost use Rattle.ps_names.specs.inside.Chains.{is_link as is_link_of, first_or, with_first, placed_parts};
 ghost use Rattle.ps_placer.specs.inside.Params.{text_in};
-ghost use Rattle.ps_names.specs.inside.Clauses.{pair as pair_of, triple as triple_of, with_all as with_all_of, case_of, block_of, loop_of, placed_pair, placed_triple, placed_with_all, placed_case, placed_arm, placed_block};
+ghost use Rattle.ps_names.specs.inside.Clauses.{pair as pair_of, triple as triple_of, with_all as with_all_of, case_of, block_of, loop_of, named, scan_of, placed_assigned, placed_declared, placed_scan, placed_pair, placed_triple, placed_with_all, placed_case, placed_arm, placed_block};
 
 use ps_base::bytes::Bytes;
 use ps_base::list::List;
@@ -17,6 +18,7 @@ use ps_placer::placer::Placer;
 use ps_placer::survey::surveyed;
 use ps_program::body::Body;
 use ps_program::form::{Arm, Loop, Tree, TreeForm};
+use ps_program::place::Place;
 use ps_type_text::Member;
 use std::alloc::{AllocError, Global};
 use std::mem;
@@ -40,7 +42,7 @@ fn place_tree(placer: &mut Placer, tree: &mut Tree) -> Result<(), AllocError>
     if is_link(tree) {
         place_chain(placer, tree)
     } else {
-        place_form(placer, tree)
+        place_parts(placer, &mut tree.form)
     }
 }
 
@@ -55,217 +57,105 @@ fn place_chain(placer: &mut Placer, tree: &mut Tree) -> Result<(), AllocError>
         swap_first(tree, &mut above);
         mem::swap(tree, &mut above);
     }
-    place_form(placer, tree)?;
+    place_parts(placer, &mut tree.form)?;
     while is_link(&above) {
         swap_first(&mut above, tree);
-        place_behind(placer, &mut above)?;
+        place_parts(placer, &mut above.form)?;
         mem::swap(tree, &mut above);
     }
     Ok(())
 }
 
-// The parts of a link behind its first.
+// The parts of a clause, but those of a link behind its first.
 #[cycle(placing)]
-fn place_behind(placer: &mut Placer, link: &mut Tree) -> Result<(), AllocError>
-    ensures { OnOk result (Does (λ around locals. placed_behind around locals (node_of link.old)) placer.old (node_of link.new) placer.new) }
+fn place_parts(placer: &mut Placer, form: &mut TreeForm) -> Result<(), AllocError>
+    ensures { OnOk result (Does (λ around locals. placed_parts around locals (node_of_form form.old)) placer.old (node_of_form form.new) placer.new) }
 {
-    match &mut *link.form {
-        TreeForm::And { a, b } => place_second(placer, a, b),
-        TreeForm::Or { a, b } => place_second(placer, a, b),
-        TreeForm::Arith {
-            op,
-            a,
-            b,
-            line: _line,
-        } => {
-            untouched(op);
-            place_second(placer, a, b)
-        }
-        TreeForm::Join { a, b, line: _line } => place_second(placer, a, b),
-        TreeForm::Part {
-            a,
-            i,
-            n,
-            line: _line,
-        } => {
-            untouched(a);
-            place_pair(placer, i, n)
-        }
-        TreeForm::Element {
-            v,
-            i,
-            ty: _ty,
-            line: _line,
-        } => place_second(placer, v, i),
-        TreeForm::Call {
-            f,
-            args,
-            line: _line,
-        } => {
-            untouched(f);
-            place_all(placer, args)
-        }
-        _ => Ok(()),
-    }
-}
-
-// A clause, part by part.
-#[cycle(placing)]
-fn place_form(placer: &mut Placer, tree: &mut Tree) -> Result<(), AllocError>
-    ensures { OnOk result (Does (λ around locals. placed around locals (node_of tree.old)) placer.old (node_of tree.new) placer.new) }
-{
-    match &mut *tree.form {
+    match form {
         TreeForm::Int(_)
         | TreeForm::Flag(_)
         | TreeForm::Text(_)
         | TreeForm::Nil
         | TreeForm::Class
         | TreeForm::Empty
-        | TreeForm::Abort(_) => Ok(()),
-        TreeForm::Name { place, ty: _ty } => {
+        | TreeForm::Abort(_)
+        | TreeForm::Field { .. } => Ok(()),
+        TreeForm::Name { place, .. } => {
             *place = placer.place_of(*place);
             Ok(())
         }
-        TreeForm::SetName { place, e, ty: _ty } => {
-            *place = placer.place_of(*place);
-            place_tree(placer, e)
-        }
-        TreeForm::Let { place, ty, e } => {
-            placer.declare(*place, ty)?;
-            *place = placer.place_of(*place);
-            place_tree(placer, e)
-        }
+        TreeForm::SetName { place, e, .. } => place_assigned(placer, place, e),
+        TreeForm::Let { place, ty, e } => place_declared(placer, place, ty, e),
         TreeForm::Block { scope, items } => place_block(placer, scope, items),
         TreeForm::For(it) => place_loop(placer, it),
         TreeForm::Proc(body) => place_literal(placer, body),
-        TreeForm::Case {
-            e,
-            arms,
-            d,
-            ty: _ty,
-        } => place_case(placer, e, arms, d),
+        TreeForm::Case { e, arms, d, .. } => place_case(placer, e, arms, d),
+        TreeForm::Scan { a, f, q, s, .. } => place_scan(placer, a, f, q, s),
         TreeForm::IfDo { c, a } => place_pair(placer, c, a),
         TreeForm::While { c, a } => place_pair(placer, c, a),
-        TreeForm::And { a, b } => place_pair(placer, a, b),
-        TreeForm::Or { a, b } => place_pair(placer, a, b),
-        TreeForm::Arith {
-            op,
-            a,
-            b,
-            line: _line,
-        } => {
-            untouched(op);
-            place_pair(placer, a, b)
-        }
-        TreeForm::Compare { op, ty: _ty, a, b } => {
-            untouched(op);
-            place_pair(placer, a, b)
-        }
-        TreeForm::Join { a, b, line: _line } => place_pair(placer, a, b),
-        TreeForm::SetField {
-            p,
-            e,
-            class: _class,
-            index: _index,
-            ty: _ty,
-            line: _line,
-        } => place_pair(placer, p, e),
-        TreeForm::Element {
-            v,
-            i,
-            ty: _ty,
-            line: _line,
-        } => place_pair(placer, v, i),
-        TreeForm::Write {
-            e,
-            w,
-            wide: _wide,
-            ty: _ty,
-            line: _line,
-        } => place_pair(placer, e, w),
-        TreeForm::Scan {
-            text,
-            a,
-            f,
-            q,
-            s,
-            line: _line,
-        } => {
-            untouched(text);
-            *q = placer.refs;
-            *s = placer.nums;
-            placer.take_numbers(3)?;
-            placer.take_references(3)?;
-            place_pair(placer, a, f)
-        }
+        TreeForm::Compare { a, b, .. } => place_pair(placer, a, b),
+        TreeForm::SetField { p, e, .. } => place_pair(placer, p, e),
+        TreeForm::Write { e, w, .. } => place_pair(placer, e, w),
+        TreeForm::Part { i, n, .. } => place_pair(placer, i, n),
         TreeForm::IfElse { c, a, b } => place_triple(placer, c, a, b),
         TreeForm::Repeat { a, c, b } => place_triple(placer, a, c, b),
-        TreeForm::Part {
-            a,
-            i,
-            n,
-            line: _line,
-        } => place_triple(placer, a, i, n),
-        TreeForm::Fill {
-            l,
-            u,
-            e,
-            ty: _ty,
-            line: _line,
-        } => place_triple(placer, l, u, e),
-        TreeForm::SetElement {
-            v,
-            i,
-            e,
-            ty: _ty,
-            line: _line,
-        } => place_triple(placer, v, i, e),
+        TreeForm::Fill { l, u, e, .. } => place_triple(placer, l, u, e),
+        TreeForm::SetElement { v, i, e, .. } => place_triple(placer, v, i, e),
+        TreeForm::And { b, .. } => place_tree(placer, b),
+        TreeForm::Or { b, .. } => place_tree(placer, b),
+        TreeForm::Arith { b, .. } => place_tree(placer, b),
+        TreeForm::Join { b, .. } => place_tree(placer, b),
+        TreeForm::Element { i, .. } => place_tree(placer, i),
         TreeForm::Not(e) => place_tree(placer, e),
-        TreeForm::Neg { e, line: _line } => place_tree(placer, e),
+        TreeForm::Neg { e, .. } => place_tree(placer, e),
         TreeForm::Plus(e) => place_tree(placer, e),
-        TreeForm::Is { e, class: _class } => place_tree(placer, e),
-        TreeForm::Field {
-            e,
-            class: _class,
-            index: _index,
-            ty: _ty,
-            line: _line,
-        } => place_tree(placer, e),
-        TreeForm::Bound { v, upper: _upper } => place_tree(placer, v),
-        TreeForm::Make { class, args } => {
-            untouched(class);
-            place_all(placer, args)
-        }
-        TreeForm::Lib {
-            code,
-            args,
-            line: _line,
-        } => {
-            untouched(code);
-            place_all(placer, args)
-        }
-        TreeForm::Elems {
-            l,
-            items,
-            ty: _ty,
-            line: _line,
-        } => place_with_all(placer, l, items),
-        TreeForm::Call {
-            f,
-            args,
-            line: _line,
-        } => place_with_all(placer, f, args),
+        TreeForm::Is { e, .. } => place_tree(placer, e),
+        TreeForm::Bound { v, .. } => place_tree(placer, v),
+        TreeForm::Make { args, .. } => place_all(placer, args),
+        TreeForm::Lib { args, .. } => place_all(placer, args),
+        TreeForm::Call { args, .. } => place_all(placer, args),
+        TreeForm::Elems { l, items, .. } => place_with_all(placer, l, items),
     }
 }
 
-// The second of two parts, where the first has its places.
 #[cycle(placing)]
-fn place_second(placer: &mut Placer, first: &mut Tree, second: &mut Tree) -> Result<(), AllocError>
-    ensures first { first.new ≡ first.old }
-    ensures second { OnOk result (Does (λ around locals. placed around locals (node_of second.old)) placer.old (node_of second.new) placer.new) }
+fn place_assigned(placer: &mut Placer, place: &mut Place, e: &mut Tree) -> Result<(), AllocError>
+    ensures { OnOk result (Does (λ around locals. placed_assigned around locals place.old (node_of e.old)) placer.old (named place.new (node_of e.new)) placer.new) }
 {
-    let _ = first;
-    place_tree(placer, second)
+    *place = placer.place_of(*place);
+    place_tree(placer, e)
+}
+
+#[cycle(placing)]
+fn place_declared(
+    placer: &mut Placer,
+    place: &mut Place,
+    ty: &Ty,
+    e: &mut Tree,
+) -> Result<(), AllocError>
+    ensures { OnOk result (Does (λ around locals. placed_declared around locals place.old (ty_view ty.now) (node_of e.old)) placer.old (named place.new (node_of e.new)) placer.new) }
+{
+    placer.declare(*place, ty)?;
+    *place = placer.place_of(*place);
+    place_tree(placer, e)
+}
+
+// A scan takes three locals on each stack.
+#[cycle(placing)]
+fn place_scan(
+    placer: &mut Placer,
+    a: &mut Tree,
+    f: &mut Tree,
+    references: &mut u32,
+    numbers: &mut u32,
+) -> Result<(), AllocError>
+    ensures { OnOk result (Does (λ around locals. placed_scan around locals (node_of a.old) (node_of f.old)) placer.old (scan_of (pair_of (node_of a.new) (node_of f.new)) references.new numbers.new) placer.new) }
+{
+    *references = placer.refs;
+    *numbers = placer.nums;
+    placer.take_numbers(3)?;
+    placer.take_references(3)?;
+    place_pair(placer, a, f)
 }
 
 #[cycle(placing)]
@@ -432,11 +322,4 @@ fn swap_first(link: &mut Tree, other: &mut Tree)
         TreeForm::Call { f, .. } => mem::swap(f, other),
         _ => {}
     }
-}
-
-// A field that stays as it is.
-fn untouched<T>(field: &mut T)
-    ensures { field.new ≡ field.old }
-{
-    let _ = field;
 }

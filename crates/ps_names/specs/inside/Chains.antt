@@ -56,39 +56,41 @@ rewound (node.Element v i ty line) x = rewound v (node.Element x i ty line)
 rewound (node.Call f args line) x = rewound f (node.Call x args line)
 rewound _ x = x
 
--- a link behind its first part, which has its places
-abbrev pub placed_behind : Around → Locals → Node → Given Node
-placed_behind around locals (node.And a b) = then_give (λ b. node.And a b) (placed around locals b)
-placed_behind around locals (node.Or a b) = then_give (λ b. node.Or a b) (placed around locals b)
-placed_behind around locals (node.Arith op a b line) = then_give (λ b. node.Arith op a b line) (placed around locals b)
-placed_behind around locals (node.Join a b line) = then_give (λ b. node.Join a b line) (placed around locals b)
-placed_behind around locals (node.Part a i n line) = placed around locals i >>= λ i l. then_give (λ n. node.Part a i n line) (placed around l n)
-placed_behind around locals (node.Element v i ty line) = then_give (λ i. node.Element v i ty line) (placed around locals i)
-placed_behind around locals (node.Call f args line) = then_give (λ args. node.Call f args line) (placed_all around locals args)
-placed_behind around locals n = gives n locals
+-- A clause; or of a link what stands behind its first part, which has its places.
+abbrev pub placed_parts : Around → Locals → Node → Given Node
+placed_parts around locals (node.And a b) = then_give (λ b. node.And a b) (placed around locals b)
+placed_parts around locals (node.Or a b) = then_give (λ b. node.Or a b) (placed around locals b)
+placed_parts around locals (node.Arith op a b line) = then_give (λ b. node.Arith op a b line) (placed around locals b)
+placed_parts around locals (node.Join a b line) = then_give (λ b. node.Join a b line) (placed around locals b)
+placed_parts around locals (node.Part a i n line) = placed around locals i >>= λ i l. then_give (λ n. node.Part a i n line) (placed around l n)
+placed_parts around locals (node.Element v i ty line) = then_give (λ i. node.Element v i ty line) (placed around locals i)
+placed_parts around locals (node.Call f args line) = then_give (λ args. node.Call f args line) (placed_all around locals args)
+placed_parts around locals (node.Field e class index ty line) = gives (node.Field e class index ty line) locals
+placed_parts around locals n = placed around locals n
 
 -- a clause that has its places, with what is above it put round it again
 abbrev pub rises : Around → Node → Given Node → Given Node
-rises around (node.And a b) x = rises around a (x >>= λ x l. placed_behind around l (node.And x b))
-rises around (node.Or a b) x = rises around a (x >>= λ x l. placed_behind around l (node.Or x b))
-rises around (node.Arith op a b line) x = rises around a (x >>= λ x l. placed_behind around l (node.Arith op x b line))
-rises around (node.Join a b line) x = rises around a (x >>= λ x l. placed_behind around l (node.Join x b line))
-rises around (node.Part a i n line) x = rises around a (x >>= λ x l. placed_behind around l (node.Part x i n line))
-rises around (node.Field e class index ty line) x = rises around e (x >>= λ x l. placed_behind around l (node.Field x class index ty line))
-rises around (node.Element v i ty line) x = rises around v (x >>= λ x l. placed_behind around l (node.Element x i ty line))
-rises around (node.Call f args line) x = rises around f (x >>= λ x l. placed_behind around l (node.Call x args line))
+rises around (node.And a b) x = rises around a (x >>= λ x l. placed_parts around l (node.And x b))
+rises around (node.Or a b) x = rises around a (x >>= λ x l. placed_parts around l (node.Or x b))
+rises around (node.Arith op a b line) x = rises around a (x >>= λ x l. placed_parts around l (node.Arith op x b line))
+rises around (node.Join a b line) x = rises around a (x >>= λ x l. placed_parts around l (node.Join x b line))
+rises around (node.Part a i n line) x = rises around a (x >>= λ x l. placed_parts around l (node.Part x i n line))
+rises around (node.Field e class index ty line) x = rises around e (x >>= λ x l. placed_parts around l (node.Field x class index ty line))
+rises around (node.Element v i ty line) x = rises around v (x >>= λ x l. placed_parts around l (node.Element x i ty line))
+rises around (node.Call f args line) x = rises around f (x >>= λ x l. placed_parts around l (node.Call x args line))
 rises around _ x = x
 
--- the parts behind the first
-abbrev pub weight_behind : Node → ℕ
-weight_behind (node.And a b) = weight b
-weight_behind (node.Or a b) = weight b
-weight_behind (node.Arith op a b line) = weight b
-weight_behind (node.Join a b line) = weight b
-weight_behind (node.Part a i n line) = weight i + weight n
-weight_behind (node.Element v i ty line) = weight i
-weight_behind (node.Call f args line) = weight_all args
-weight_behind _ = 0
+-- how many clauses that are, with the clause itself
+abbrev pub weight_placed : Node → ℕ
+weight_placed (node.And a b) = 1 + weight b
+weight_placed (node.Or a b) = 1 + weight b
+weight_placed (node.Arith op a b line) = 1 + weight b
+weight_placed (node.Join a b line) = 1 + weight b
+weight_placed (node.Part a i n line) = 1 + (weight i + weight n)
+weight_placed (node.Field e class index ty line) = 1
+weight_placed (node.Element v i ty line) = 1 + weight i
+weight_placed (node.Call f args line) = 1 + weight_all args
+weight_placed n = weight n
 
 -- The clause in hand has its places; with what is above it put round it again it is the whole.
 pub record Rises (start now : Placer) (whole above tree : Node) : Type 0 where

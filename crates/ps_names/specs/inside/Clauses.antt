@@ -1,11 +1,13 @@
 -- Several clauses, one behind the other.
-use Rattle.std.specs.Prelude.{ℕ, List, Option}
+use Rattle.std.specs.Prelude.{ℕ, ◌+◌, List, Option}
+use Rattle.ps_base.specs.TyView.{TyView}
 use Rattle.ps_program.specs.declared.form.Loop.{Loop}
+use Rattle.ps_program.specs.declared.place.Place.{Place}
 use Rattle.ps_program.specs.Node.{Node, Nodes, Arm, arm, Arms}
 use Rattle.ps_program.specs.Node as node
 use Rattle.ps_program.specs.NodeView.{node_of}
-use Rattle.ps_typing.specs.Mentions.{common}
-use Rattle.ps_typing.specs.Placing.{Around, Locals, scope_text, inside, declared}
+use Rattle.ps_typing.specs.Mentions.{common, number_of}
+use Rattle.ps_typing.specs.Placing.{Around, Locals, place_of, scope_text, inside, declared, with_declared}
 use Rattle.ps_typing.specs.Placed.{Given, ◌>>=◌, then_give, placed, placed_all, placed_arms}
 
 abbrev pub loop_of : Loop → Node
@@ -53,6 +55,31 @@ pub record Block : Type 0 where
 abbrev pub block_of : Option (List ℕ) → Nodes → Block
 block_of scope items = record { scope = scope; items = items }
 
+pub record Named : Type 0 where
+  pub place : Place
+  pub value : Node
+
+abbrev pub named : Place → Node → Named
+named place value = record { place = place; value = value }
+
+pub record Scan : Type 0 where
+  pub parts : Pair
+  pub references : ℕ
+  pub numbers : ℕ
+
+abbrev pub scan_of : Pair → ℕ → ℕ → Scan
+scan_of parts references numbers = record { parts = parts; references = references; numbers = numbers }
+
+-- a name that is assigned to
+abbrev pub placed_assigned : Around → Locals → Place → Node → Given Named
+placed_assigned around locals place e = then_give (named (place_of around locals place)) (placed around locals e)
+
+-- a name with its initial value
+abbrev pub placed_declared : Around → Locals → Place → TyView → Node → Given Named
+placed_declared around locals place ty e =
+    let own = with_declared around (number_of place) ty locals in
+    then_give (named (place_of around own place)) (placed around own e)
+
 abbrev pub placed_pair : Around → Locals → Node → Node → Given Pair
 placed_pair around locals a b = placed around locals a >>= λ a l. then_give (pair a) (placed around l b)
 
@@ -75,3 +102,8 @@ abbrev pub placed_block : Around → Locals → Nodes → Given Block
 placed_block around locals items =
     let kept = common (declared items) around.kept in
     then_give (block_of (scope_text around.names kept)) (placed_all (inside around kept) locals items)
+
+-- a scan, which takes three locals on each stack
+abbrev pub placed_scan : Around → Locals → Node → Node → Given Scan
+placed_scan around locals a f =
+    then_give (λ parts. scan_of parts locals.refs locals.nums) (placed_pair around (record locals { nums = locals.nums + 3; refs = locals.refs + 3 }) a f)

@@ -1,12 +1,12 @@
 -- The measures of placing, and what its loops keep.
 use Rattle.std.proofs.Common.{◌≡◌, ◌≤◌, ◌+◌, ◌*◌, take, drop, length}
 use Rattle.ps_base.specs.List.{items_of}
-use Rattle.ps_program.specs.NodeView.{node_of, nodes_in, arm_of}
+use Rattle.ps_program.specs.NodeView.{node_of, node_of_form, nodes_in, arm_of}
 use Rattle.ps_program.specs.inside.PartsView.{arms_in}
 use Rattle.ps_program.specs.inside.Weights.{weight, weight_all, weight_arms}
 use Rattle.ps_typing.specs.Placed.{placed_all, placed_arms}
 use Rattle.ps_placer.specs.inside.Standing.{Does}
-use Rattle.ps_names.specs.inside.Chains.{rewound, weight_behind, weight_arm, Rises}
+use Rattle.ps_names.specs.inside.Chains.{rewound, weight_placed, weight_arm, Rises}
 use Rattle.ps_names.proofs.placing.+placing.Given as goal
 
 abbrev pub decreases-place_tree : goal.decreases-place_tree
@@ -15,11 +15,17 @@ decreases-place_tree l = 10 * weight (node_of l.tree.now) + 3
 abbrev pub decreases-place_chain : goal.decreases-place_chain
 decreases-place_chain l = 10 * weight (node_of l.tree.now) + 2
 
-abbrev pub decreases-place_form : goal.decreases-place_form
-decreases-place_form l = 10 * weight (node_of l.tree.now)
+abbrev pub decreases-place_parts : goal.decreases-place_parts
+decreases-place_parts l = 10 * weight_placed (node_of_form l.form.now)
 
-abbrev pub decreases-place_behind : goal.decreases-place_behind
-decreases-place_behind l = 10 * weight_behind (node_of l.link.now) + 6
+abbrev pub decreases-place_assigned : goal.decreases-place_assigned
+decreases-place_assigned l = 10 * weight (node_of l.e.now) + 5
+
+abbrev pub decreases-place_declared : goal.decreases-place_declared
+decreases-place_declared l = 10 * weight (node_of l.e.now) + 5
+
+abbrev pub decreases-place_scan : goal.decreases-place_scan
+decreases-place_scan l = 10 * (weight (node_of l.a.now) + weight (node_of l.f.now)) + 5
 
 abbrev pub decreases-place_pair : goal.decreases-place_pair
 decreases-place_pair l = 10 * (weight (node_of l.a.now) + weight (node_of l.b.now)) + 4
@@ -84,6 +90,3 @@ invariant-place_chain-loop-above l = record {
 
 abbrev pub decreases-place_chain-loop-above : goal.decreases-place_chain-loop-above
 decreases-place_chain-loop-above l = weight (node_of l.above)
-
-abbrev pub decreases-place_second : goal.decreases-place_second
-decreases-place_second l = 10 * weight (node_of l.second.now) + 4
