@@ -9,7 +9,7 @@ use Rattle.ps_program.specs.Node.{Param}
 use Rattle.ps_type_text.specs.Texts.{Field}
 use Rattle.ps_typing.specs.Placing.{is_number}
 use Rattle.ps_typing.specs.Locals.{one_on, taken_by_params}
-use Rattle.ps_gen.specs.Choices as choice
+use Rattle.ps_emitter.specs.Choices as choice
 use Rattle.ps_soundness.specs.Valued.{AllValued}
 use Rattle.ps_soundness.specs.Shapes.{AreOf}
 use Rattle.ps_typing.specs.WellTyped.{types_of_params}

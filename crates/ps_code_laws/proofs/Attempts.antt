@@ -10,7 +10,7 @@ use Rattle.ps_meaning.specs.Texts.{Attempt, Yields, Fails}
 use Rattle.ps_meaning.specs.Objects.{Heap, Object, new_number}
 use Rattle.ps_meaning.specs.Meaning.{Frame, Store, State, Meaning, give, stop, attempt, with_heap, put_heap, made, made_text, and_object, and_text}
 use Rattle.ps_meaning.specs.Evaluation.{kept_as}
-use Rattle.ps_gen.specs.Choices as choice
+use Rattle.ps_emitter.specs.Choices as choice
 use Rattle.ps_stepping.specs.Config.{Config, constants_in, constant_at}
 use Rattle.ps_stepping.specs.Machine.{Step, on, push_num, push_ref}
 use Rattle.ps_stepping.specs.Steps.{text_in, with_text, attempted}

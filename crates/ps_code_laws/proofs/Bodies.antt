@@ -19,7 +19,7 @@ use Rattle.ps_meaning.specs.Meaning.{Frame, Store, State, Outcome, Value_is, End
 use Rattle.ps_meaning.specs.Frames.{arguments_on, frame_of_call, keep_all}
 use Rattle.ps_meaning.specs.Calls.{body_meant, context}
 use Rattle.ps_meaning.specs.Runs.{fresh_frame, fresh_store, fresh_state, outcome_of, all_events, run_events}
-use Rattle.ps_gen.specs.Choices as choice
+use Rattle.ps_emitter.specs.Choices as choice
 use Rattle.ps_gen.specs.Units.{HasUnit, unit_of}
 use Rattle.ps_stepping.specs.Config.{frame_words, Caller, Config, code_in, frame_in, IsAt, start}
 use Rattle.ps_stepping.specs.Machine.{Step, Goes, Stops, act, Steps, at_instruction, resumed}

@@ -8,7 +8,7 @@ use Rattle.ps_meaning.specs.Values.{Value, Flag, number_of, word_of, is_one}
 use Rattle.ps_meaning.specs.Objects.{Heap}
 use Rattle.ps_meaning.specs.Meaning.{Frame, Store, State, Outcome, Value_is, Ends, Meaning, give, after, ◌>>=◌, choose}
 use Rattle.ps_meaning.specs.Evaluation.{is_equal}
-use Rattle.ps_gen.specs.Choices as choice
+use Rattle.ps_emitter.specs.Choices as choice
 use Rattle.ps_stepping.specs.Config.{code_in, IsAt}
 use Rattle.ps_stepping.specs.Machine.{on, act}
 use Rattle.ps_soundness.specs.Shapes.{IsOf, Grows}

@@ -30,7 +30,7 @@ use Rattle.ps_meaning.specs.Meaning.{Frame, State, Outcome, Value_is, Ends, afte
 use Rattle.ps_meaning.specs.Frames.{arguments_on, frame_of_call, keep_all}
 use Rattle.ps_meaning.specs.Evaluation.{eval}
 use Rattle.ps_meaning.specs.Calls.{body_meant, context}
-use Rattle.ps_gen.specs.Choices as choice
+use Rattle.ps_emitter.specs.Choices as choice
 use Rattle.ps_gen.specs.Emission.{size, emit}
 use Rattle.ps_gen.specs.Units.{kept_at, size_kept_at, keeps, size_keeps, body_instrs, type_constant, constants, frame_of, unit_of}
 use Rattle.ps_gen.proofs.Widths.{widths}

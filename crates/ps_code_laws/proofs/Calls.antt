@@ -21,7 +21,7 @@ use Rattle.ps_meaning.specs.Meaning.{Frame, Store, State, stop, after, ◌>>=◌
 use Rattle.ps_meaning.specs.Evaluation.{most_calls, call_meant}
 use Rattle.ps_meaning.specs.Frames.{arguments_on, frame_of_call}
 use Rattle.ps_meaning.specs.Calls.{body_meant, call_within, context}
-use Rattle.ps_gen.specs.Choices as choice
+use Rattle.ps_emitter.specs.Choices as choice
 use Rattle.ps_gen.specs.Units.{unit_of}
 use Rattle.ps_stepping.specs.Config.{frame_words, Caller, Config, code_in, IsAt}
 use Rattle.ps_stepping.specs.Steps.{Stops}

@@ -9,7 +9,7 @@ use Rattle.ps_meaning.specs.Values.{Value, Text, Nil, Pointer, Vector, number_of
 use Rattle.ps_meaning.specs.Objects.{Heap}
 use Rattle.ps_meaning.specs.Meaning.{Frame, Store}
 use Rattle.ps_meaning.specs.Evaluation.{text_relation, compares}
-use Rattle.ps_gen.specs.Choices as choice
+use Rattle.ps_emitter.specs.Choices as choice
 use Rattle.ps_stepping.specs.Config.{Config}
 use Rattle.ps_stepping.specs.Machine.{Step, on, push_num, act}
 use Rattle.ps_stepping.specs.Objects.{denoting_of}

@@ -19,7 +19,7 @@ use Rattle.ps_meaning.specs.Values.{Value, Num, Flag, Pointer, Vector, word_of}
 use Rattle.ps_meaning.specs.Objects.{Heap, Structure, vector_of}
 use Rattle.ps_meaning.specs.Meaning.{Frame, Store, made}
 use Rattle.ps_meaning.specs.Evaluation.{kept_as, kept_all, kept_elements, make_meant, elements_meant}
-use Rattle.ps_gen.specs.Choices as choice
+use Rattle.ps_emitter.specs.Choices as choice
 use Rattle.ps_stepping.specs.Config.{Config, constants_in, constant_at}
 use Rattle.ps_stepping.specs.Machine.{Step, act}
 use Rattle.ps_stepping.specs.Steps.{pop_num, attempted}

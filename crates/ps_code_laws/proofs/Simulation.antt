@@ -29,11 +29,12 @@ use Rattle.ps_meaning.specs.Event.{Trapped}
 use Rattle.ps_meaning.specs.Values.{Value, Num, Flag, Text, Nil, Procedure, Nothing, as_written, number_of, word_of, flag_of, bytes_of, shown}
 use Rattle.ps_meaning.specs.Meaning.{Frame, Store, State, Meaning, give, after, ◌>>=◌, choose, answer, made_text, made_procedure, written, and_closure, set}
 use Rattle.ps_meaning.specs.Evaluation.{compares, join_meant, part_meant, make_meant, elements_meant, fill_meant, set_field_meant, element_meant, set_element_meant, call_meant, eval, eval_all, eval_each, eval_arms, eval_labels}
-use Rattle.ps_gen.specs.Choices as choice
+use Rattle.ps_emitter.specs.Choices as choice
 use Rattle.ps_type_text.specs.Texts.{Field, type_text}
 use Rattle.ps_gen.specs.Emission.{items_in, size, size_all, size_arms, size_labels, count, count_all, count_arms, emit, emit_all, emit_arms, emit_labels}
 use Rattle.ps_gen.specs.Units.{unit_of, constants, constants_of_all, constants_of_arms}
-use Rattle.ps_gen.proofs.Widths.{width_arith, width_compare, width_by_type, width_arms, width_labels, count_of_all, count_of_arms}
+use Rattle.ps_emitter.proofs.ChoiceWidths.{width_arith, width_compare, width_by_type}
+use Rattle.ps_gen.proofs.Widths.{width_arms, width_labels, count_of_all, count_of_arms}
 use Rattle.ps_stepping.specs.Config.{constants_in, constant_at}
 use Rattle.ps_stepping.specs.Machine.{on, answered, push_text, act}
 use Rattle.ps_code_laws.specs.Compiled.{compiled}

@@ -11,7 +11,7 @@ use Rattle.ps_meaning.specs.Values.{Value, Num, Flag, number_of, word_of}
 use Rattle.ps_meaning.specs.Objects.{is_class, field_of, with_field}
 use Rattle.ps_meaning.specs.Meaning.{give, with_heap, put_heap}
 use Rattle.ps_meaning.specs.Evaluation.{kept_as, field_meant, set_field_meant}
-use Rattle.ps_gen.specs.Choices as choice
+use Rattle.ps_emitter.specs.Choices as choice
 use Rattle.ps_stepping.specs.Config.{constants_in, constant_at}
 use Rattle.ps_stepping.specs.Machine.{Step, push_num}
 use Rattle.ps_stepping.specs.Objects.{when_number, when_reference}

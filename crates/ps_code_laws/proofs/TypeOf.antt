@@ -2,7 +2,7 @@
 use Rattle.std.proofs.Common.{◌≡◌, ℕ, refl, ap, ◌∙◌}
 use Rattle.ps_base.specs.TyView.{TyView}
 use Rattle.ps_program.specs.Node.{Node, Nodes}
-use Rattle.ps_gen.specs.Giving.{result_of, type_of, type_of_last}
+use Rattle.ps_emitter.specs.Giving.{result_of, type_of, type_of_last}
 use Rattle.ps_soundness.proofs.Combining.{Standing}
 use Rattle.ps_code_laws.proofs.Clauses.{Clause, Items}
 use Rattle.ps_code_laws.proofs.Clauses as clause

@@ -14,7 +14,7 @@ use Rattle.ps_meaning.specs.Objects.{Heap, filled_vector, vector_in, type_in, wi
 use Rattle.ps_meaning.specs.Objects.{element_of as element_at}
 use Rattle.ps_meaning.specs.Meaning.{give, with_heap, put_heap, made}
 use Rattle.ps_meaning.specs.Evaluation.{kept_as, fill_meant, element_meant, set_element_meant, bound_meant}
-use Rattle.ps_gen.specs.Choices as choice
+use Rattle.ps_emitter.specs.Choices as choice
 use Rattle.ps_stepping.specs.Config.{constants_in, constant_at}
 use Rattle.ps_stepping.specs.Machine.{Step, push_num}
 use Rattle.ps_stepping.specs.Objects.{when_number, when_reference, type_of_object, type_of, of_type}

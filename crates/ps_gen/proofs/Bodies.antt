@@ -1,22 +1,34 @@
 -- Where each literal in a clause has a unit, so has each body of it, in whatever order they are told.
 use Rattle.std.proofs.Common.{◌≡◌, List, [], ◌∷◌, ◌++◌, refl, sym, subst}
 use Rattle.std.specs.List.{AllByRecursion}
+use Rattle.ps_base.specs.declared.instr.Instr.{Instr}
 use Rattle.ps_program.specs.Node.{Node, Nodes, none, more, Arms, no_arms, more_arms, arm, BodyNode, body}
 use Rattle.ps_program.specs.Node as node
 use Rattle.ps_program.specs.Parts.{Part, operand, label, branch, literal, fold, fold_all, fold_arms}
 use Rattle.ps_typing.specs.Program.{bodies, bodies_of, own_body}
 use Rattle.ps_gen.specs.Units.{HasUnit}
-use Rattle.ps_gen.proofs.Spelled.{units-append}
+use Rattle.ps_emitter.specs.Pieces.{AreInstrs}
+use Rattle.ps_emitter.proofs.Spelled.{all-append}
 use Rattle.ps_gen.specs.inside.Literals.{literals_in, literals_in_all, literals_in_arms}
 
 -- of a list that is joined of two, each
-first_of : (xs ys : List BodyNode) → AllByRecursion HasUnit (xs ++ ys) → AllByRecursion HasUnit xs
-first_of [] ys are = tt
-first_of (x ∷ xs) ys are = (are.0, first_of xs ys are.1)
+first_all : {A : Type 0} (P : A → Type 0) (xs ys : List A) → AllByRecursion P (xs ++ ys) → AllByRecursion P xs
+first_all P [] ys are = tt
+first_all P (x ∷ xs) ys are = (are.0, first_all P xs ys are.1)
 
-rest_of : (xs ys : List BodyNode) → AllByRecursion HasUnit (xs ++ ys) → AllByRecursion HasUnit ys
-rest_of [] ys are = are
-rest_of (x ∷ xs) ys are = rest_of xs ys are.1
+rest_all : {A : Type 0} (P : A → Type 0) (xs ys : List A) → AllByRecursion P (xs ++ ys) → AllByRecursion P ys
+rest_all P [] ys are = are
+rest_all P (x ∷ xs) ys are = rest_all P xs ys are.1
+
+-- each of these codes can be spelled
+abbrev Fit : List (List Instr) → Type 0
+Fit codes = AllByRecursion AreInstrs codes
+
+first_of : (xs ys : List (List Instr)) → Fit (xs ++ ys) → Fit xs
+first_of xs ys are = first_all AreInstrs xs ys are
+
+rest_of : (xs ys : List (List Instr)) → Fit (xs ++ ys) → Fit ys
+rest_of xs ys are = rest_all AreInstrs xs ys are
 
 abbrev told : Node → List BodyNode
 told n = fold (λ clause parts. own_body clause ++ bodies_of parts) n
@@ -26,33 +38,33 @@ Has xs = AllByRecursion HasUnit xs
 
 -- of two parts, and of three
 two : (xs ys : List BodyNode) → Has xs → Has ys → Has (xs ++ (ys ++ []))
-two xs ys are and = units-append xs (ys ++ []) are (units-append ys [] and tt)
+two xs ys are and = all-append HasUnit xs (ys ++ []) are (all-append HasUnit ys [] and tt)
 
 three : (xs ys zs : List BodyNode) → Has xs → Has ys → Has zs → Has (xs ++ (ys ++ (zs ++ [])))
-three xs ys zs are and also = units-append xs (ys ++ (zs ++ [])) are (two ys zs and also)
+three xs ys zs are and also = all-append HasUnit xs (ys ++ (zs ++ [])) are (two ys zs and also)
 
 one : (xs : List BodyNode) → Has xs → Has (xs ++ [])
-one xs are = units-append xs [] are tt
+one xs are = all-append HasUnit xs [] are tt
 
 parts_two : (ps qs : List (Part (List BodyNode))) → Has (bodies_of ps) → Has (bodies_of qs) → Has (bodies_of (ps ++ qs))
 parts_two [] qs are and = and
-parts_two (operand found ∷ ps) qs are and = units-append found _ (first_of found (bodies_of ps) are) (parts_two ps qs (rest_of found (bodies_of ps) are) and)
-parts_two (label found ∷ ps) qs are and = units-append found _ (first_of found (bodies_of ps) are) (parts_two ps qs (rest_of found (bodies_of ps) are) and)
-parts_two (branch found ∷ ps) qs are and = units-append found _ (first_of found (bodies_of ps) are) (parts_two ps qs (rest_of found (bodies_of ps) are) and)
-parts_two (literal found ∷ ps) qs are and = units-append found _ (first_of found (bodies_of ps) are) (parts_two ps qs (rest_of found (bodies_of ps) are) and)
+parts_two (operand found ∷ ps) qs are and = all-append HasUnit found _ (first_all HasUnit found (bodies_of ps) are) (parts_two ps qs (rest_all HasUnit found (bodies_of ps) are) and)
+parts_two (label found ∷ ps) qs are and = all-append HasUnit found _ (first_all HasUnit found (bodies_of ps) are) (parts_two ps qs (rest_all HasUnit found (bodies_of ps) are) and)
+parts_two (branch found ∷ ps) qs are and = all-append HasUnit found _ (first_all HasUnit found (bodies_of ps) are) (parts_two ps qs (rest_all HasUnit found (bodies_of ps) are) and)
+parts_two (literal found ∷ ps) qs are and = all-append HasUnit found _ (first_all HasUnit found (bodies_of ps) are) (parts_two ps qs (rest_all HasUnit found (bodies_of ps) are) and)
 
 -- the same of parts whose literals are joined in the order of the code
-pair : (la lb a b : List BodyNode) → (Has la → Has a) → (Has lb → Has b) → Has (la ++ lb) → Has (a ++ (b ++ []))
+pair : (la lb : List (List Instr)) (a b : List BodyNode) → (Fit la → Has a) → (Fit lb → Has b) → Fit (la ++ lb) → Has (a ++ (b ++ []))
 pair la lb a b f g are = two a b (f (first_of la lb are)) (g (rest_of la lb are))
 
-triple : (la lb lc a b c : List BodyNode) → (Has la → Has a) → (Has lb → Has b) → (Has lc → Has c) → Has (la ++ (lb ++ lc)) → Has (a ++ (b ++ (c ++ [])))
-triple la lb lc a b c f g h are = units-append a (b ++ (c ++ [])) (f (first_of la (lb ++ lc) are)) (pair lb lc b c g h (rest_of la (lb ++ lc) are))
+triple : (la lb lc : List (List Instr)) (a b c : List BodyNode) → (Fit la → Has a) → (Fit lb → Has b) → (Fit lc → Has c) → Fit (la ++ (lb ++ lc)) → Has (a ++ (b ++ (c ++ [])))
+triple la lb lc a b c f g h are = all-append HasUnit a (b ++ (c ++ [])) (f (first_of la (lb ++ lc) are)) (pair lb lc b c g h (rest_of la (lb ++ lc) are))
 
-behind : (la lns a ns : List BodyNode) → (Has la → Has a) → (Has lns → Has ns) → Has (la ++ lns) → Has (a ++ ns)
-behind la lns a ns f g are = units-append a ns (f (first_of la lns are)) (g (rest_of la lns are))
+behind : (la lns : List (List Instr)) (a ns : List BodyNode) → (Fit la → Has a) → (Fit lns → Has ns) → Fit (la ++ lns) → Has (a ++ ns)
+behind la lns a ns f g are = all-append HasUnit a ns (f (first_of la lns are)) (g (rest_of la lns are))
 
 mutual
-  told_units : (n : Node) → Has (literals_in n) → Has (told n)
+  told_units : (n : Node) → Fit (literals_in n) → Has (told n)
   told_units (node.SetName place ty e) are = one (told e) (told_units e are)
   told_units (node.Let place ty e) are = one (told e) (told_units e are)
   told_units (node.Block scope items) are = all_units branch (λ found ps. refl) items are
@@ -66,12 +78,12 @@ mutual
       three (told a) (told c) (told b) (told_units a (first_of (literals_in a) (literals_in c) r)) (told_units c (rest_of (literals_in a) (literals_in c) r))
       (told_units b (first_of (literals_in b) (literals_in a ++ literals_in c) are))
   told_units (node.For slot a b c scope control s line) are =
-      units-append (told a) (told b ++ (told c ++ (told s ++ []))) (told_units a (first_of (literals_in a) (literals_in b ++ (literals_in c ++ literals_in s)) are))
+      all-append HasUnit (told a) (told b ++ (told c ++ (told s ++ []))) (told_units a (first_of (literals_in a) (literals_in b ++ (literals_in c ++ literals_in s)) are))
       (triple (literals_in b) (literals_in c) (literals_in s) (told b) (told c) (told s) (λ h. told_units b h) (λ h. told_units c h)
       (λ h. told_units s h) (rest_of (literals_in a) (literals_in b ++ (literals_in c ++ literals_in s)) are))
   told_units (node.Case e arms d ty) are =
       let r = rest_of (literals_in e) (literals_in_arms arms ++ literals_in d) are in
-      units-append (told e) _ (told_units e (first_of (literals_in e) (literals_in_arms arms ++ literals_in d) are))
+      all-append HasUnit (told e) _ (told_units e (first_of (literals_in e) (literals_in_arms arms ++ literals_in d) are))
       (parts_two (fold_arms (λ clause parts. own_body clause ++ bodies_of parts) arms) (branch (told d) ∷ [])
       (arms_units arms (first_of (literals_in_arms arms) (literals_in d) r)) (one (told d) (told_units d (rest_of (literals_in_arms arms) (literals_in d) r))))
   told_units (node.And a b) are = pair (literals_in a) (literals_in b) (told a) (told b) (λ h. told_units a h) (λ h. told_units b h) are
@@ -115,24 +127,24 @@ mutual
   told_units (node.Abort line) are = tt
 
   all_units : (as_part : List BodyNode → Part (List BodyNode)) → ((found : List BodyNode) (ps : List (Part (List BodyNode))) → bodies_of (as_part found ∷ ps) ≡ found ++ bodies_of ps) →
-      (ns : Nodes) → Has (literals_in_all ns) → Has (bodies_of (fold_all (λ clause parts. own_body clause ++ bodies_of parts) as_part ns))
+      (ns : Nodes) → Fit (literals_in_all ns) → Has (bodies_of (fold_all (λ clause parts. own_body clause ++ bodies_of parts) as_part ns))
   all_units as_part is none are = tt
   all_units as_part is (more n ns) are =
       let rest = fold_all (λ clause parts. own_body clause ++ bodies_of parts) as_part ns in
       subst (λ xs. Has xs) (sym (is (told n) rest))
-      (units-append (told n) (bodies_of rest) (told_units n (first_of (literals_in n) (literals_in_all ns) are))
+      (all-append HasUnit (told n) (bodies_of rest) (told_units n (first_of (literals_in n) (literals_in_all ns) are))
       (all_units as_part is ns (rest_of (literals_in n) (literals_in_all ns) are)))
 
-  arms_units : (arms : Arms) → Has (literals_in_arms arms) → Has (bodies_of (fold_arms (λ clause parts. own_body clause ++ bodies_of parts) arms))
+  arms_units : (arms : Arms) → Fit (literals_in_arms arms) → Has (bodies_of (fold_arms (λ clause parts. own_body clause ++ bodies_of parts) arms))
   arms_units no_arms are = tt
   arms_units (more_arms (arm labels a) rest) are =
       let g : Node → List (Part (List BodyNode)) → List BodyNode = λ clause parts. own_body clause ++ bodies_of parts in
       let r = rest_of (literals_in_all labels) (literals_in a ++ literals_in_arms rest) are in
       parts_two (fold_all g label labels) (branch (told a) ∷ fold_arms g rest)
       (all_units label (λ found ps. refl) labels (first_of (literals_in_all labels) (literals_in a ++ literals_in_arms rest) are))
-      (units-append (told a) (bodies_of (fold_arms g rest)) (told_units a (first_of (literals_in a) (literals_in_arms rest) r))
+      (all-append HasUnit (told a) (bodies_of (fold_arms g rest)) (told_units a (first_of (literals_in a) (literals_in_arms rest) r))
       (arms_units rest (rest_of (literals_in a) (literals_in_arms rest) r)))
 
 -- each body of a body, itself first
-pub bodies_units : (of : BodyNode) → AllByRecursion HasUnit (literals_in (node.Proc of)) → AllByRecursion HasUnit (bodies of)
+pub bodies_units : (of : BodyNode) → AllByRecursion AreInstrs (literals_in (node.Proc of)) → AllByRecursion HasUnit (bodies of)
 bodies_units (body params gives tree scope line) are = (are.0, told_units tree are.1)

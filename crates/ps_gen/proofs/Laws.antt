@@ -9,86 +9,23 @@ use Rattle.ps_base.specs.declared.instr.Instr.{Instr}
 use Rattle.ps_base.specs.declared.instr.Instr.TheVariants as instr
 use Rattle.ps_base.specs.declared.line.Line.{Line}
 use Rattle.ps_base.specs.declared.operator.Operator.{Operator}
-use Rattle.ps_base.specs.declared.operator.Operator.TheVariants as operator
 use Rattle.ps_base.specs.declared.operator.Relation.{Relation}
 use Rattle.ps_base.specs.declared.operator.Relation.TheVariants as relation
 use Rattle.ps_program.specs.declared.place.Place.{Place}
-use Rattle.ps_program.specs.declared.place.Place.TheVariants.{Plain, Kept}
 use Rattle.ps_program.specs.Node.{Node, Nodes, none, more, Arms, no_arms, more_arms, arm, BodyNode, body}
 use Rattle.ps_program.specs.Node as node
 use Rattle.ps_program.specs.Parts.{Part, operand, label, branch, fold_all, fold_arms}
 use Rattle.ps_program.specs.Slots.{sum_of}
-use Rattle.ps_typing.specs.Placing.{is_number}
 use Rattle.ps_typing.specs.Locals.{own_taken, taken_in}
-use Rattle.ps_gen.specs.Giving.{type_of, element_of}
-use Rattle.ps_gen.specs.Choices as choice
-use Rattle.ps_gen.specs.Emission.{size, size_arms, count_arms, size_at, size_entered, size_left, count, count_all, count_scope, entered, left, emit, emit_arms, emit_labels, size_labels, items_in}
+use Rattle.ps_emitter.specs.Giving.{type_of, element_of}
+use Rattle.ps_emitter.specs.Choices as choice
+use Rattle.ps_emitter.proofs.ChoiceWidths.{by_type_width, width_flag, width_arith, width_compare, width_write, width_bound, width_scan}
+use Rattle.ps_gen.proofs.Widths.{width_get, width_set}
+use Rattle.ps_gen.specs.Emission.{size, size_arms, count_arms, size_entered, size_left, count, count_all, count_scope, entered, left, emit, emit_arms, emit_labels, size_labels, items_in}
 use Rattle.ps_gen.specs.Units.{constants, constants_of_all, constants_of_arms, scope_constants}
-use Rattle.ps_gen.specs.inside.Pieces.{Same, ◌▷◌, empty, one, takes, to_behind}
-use Rattle.ps_gen.specs.inside.Clauses.{closing, clause, clauses, labels_of, arms_of, naming, entering, leaving, taking, from_begin, made, label_of, arm_of, taken_all, taken_arms}
-
--- widths
-
-pub by_type_width : (ty : TyView) (m p : Instr) → width_of m ≡ width_of p → width_of (choice.by_type ty m p) ≡ width_of p
-by_type_width ty m p same = elim (is_number ty) as (λ c. width_of (if c then m else p) ≡ width_of p) [ true ↦ same | false ↦ refl ]
-
-set_width : (place : Place) (ty : TyView) → width_of (choice.set place ty) ≡ size_at place
-set_width (Plain s) ty = by_type_width ty (instr.SetM s) (instr.SetP s) refl
-set_width (Kept u i) ty = by_type_width ty (instr.KeepM u i) (instr.KeepP u i) refl
-
-get_width : (place : Place) (ty : TyView) → width_of (choice.get place ty) ≡ size_at place
-get_width (Plain s) ty = by_type_width ty (instr.GetM s) (instr.GetP s) refl
-get_width (Kept u i) ty = by_type_width ty (instr.KeptM u i) (instr.KeptP u i) refl
-
-arith_width : (op : Operator) (line : Line) → width_of (choice.arith op line) ≡ 5
-arith_width operator.Add line = refl
-arith_width operator.Sub line = refl
-arith_width operator.Mul line = refl
-arith_width operator.Div line = refl
-arith_width operator.Rem line = refl
-
-number_width : (op : Relation) → width_of (choice.number_relation op) ≡ 1
-number_width relation.Equal = refl
-number_width relation.NotEqual = refl
-number_width relation.Less = refl
-number_width relation.LessEqual = refl
-number_width relation.Greater = refl
-number_width relation.GreaterEqual = refl
-
-text_width : (op : Relation) → width_of (choice.text_relation op) ≡ 1
-text_width relation.Equal = refl
-text_width relation.NotEqual = refl
-text_width relation.Less = refl
-text_width relation.LessEqual = refl
-text_width relation.Greater = refl
-text_width relation.GreaterEqual = refl
-
-identity_width : (op : Relation) → width_of (choice.identity op) ≡ 1
-identity_width relation.NotEqual = refl
-identity_width _ = refl
-
-pub compare_width : (op : Relation) (ty : TyView) → width_of (choice.compare op ty) ≡ 1
-compare_width op types.Int = number_width op
-compare_width op types.Bool = number_width op
-compare_width op types.Str = text_width op
-compare_width op _ = identity_width op
-
-write_width : (ty : TyView) (wide : Bool) (line : Line) → width_of (choice.write ty wide line) ≡ 9
-write_width types.Int wide line = refl
-write_width types.Bool wide line = refl
-write_width _ wide line = refl
-
-bound_width : (upper : Bool) → width_of (choice.bound upper) ≡ 1
-bound_width true = refl
-bound_width false = refl
-
-flag_width : (b : Bool) → width_of (choice.flag b) ≡ 1
-flag_width true = refl
-flag_width false = refl
-
-pub scan_width : (string : Bool) (q s t : ℕ) (line : Line) → width_of (choice.scan string q s t line) ≡ 17
-scan_width true q s t line = refl
-scan_width false q s t line = refl
+use Rattle.ps_emitter.specs.Pieces.{Same, ◌▷◌, empty, one, takes, to_behind, from_begin}
+use Rattle.ps_gen.specs.inside.Clauses.{closing, clause, clauses, labels_of, arms_of, entering, leaving, made, label_of, arm_of, taken_all, taken_arms}
+use Rattle.ps_emitter.specs.Instructions.{naming, taking}
 
 -- what the clauses of a list take
 
@@ -122,7 +59,7 @@ arms_taken stack (more_arms (arm labels a) rest) d =
 pub set_name : (place : Place) (ty : TyView) (e : Node) → Same (clause e ▷ one (choice.set place ty)) (clause (node.SetName place ty e))
 unfolding ◌▷◌ clause clauses naming one takes empty to_behind from_begin entering leaving arms_of labels_of
 set_name place ty e = record {
-  ends = λ at. omega (arith, set_width place ty);
+  ends = λ at. omega (arith, width_set place ty);
   names = λ k. omega arith;
   constants = append-nil (constants e);
   nums = omega arith;
@@ -134,7 +71,7 @@ set_name place ty e = record {
 pub let_name : (place : Place) (ty : TyView) (e : Node) → Same (clause e ▷ (one (choice.set place ty) ▷ taking place ty)) (clause (node.Let place ty e))
 unfolding ◌▷◌ clause clauses naming one takes empty to_behind from_begin entering leaving arms_of labels_of
 let_name place ty e = record {
-  ends = λ at. omega (arith, set_width place ty);
+  ends = λ at. omega (arith, width_set place ty);
   names = λ k. omega arith;
   constants = append-nil (constants e);
   nums = omega arith;
@@ -206,7 +143,7 @@ plus_is e = record {
 pub arith_is : (op : Operator) (a b : Node) (line : Line) → Same (clause a ▷ (clause b ▷ one (choice.arith op line))) (clause (node.Arith op a b line))
 unfolding ◌▷◌ clause clauses naming one takes empty to_behind from_begin entering leaving arms_of labels_of
 arith_is op a b line = record {
-  ends = λ at. omega (arith, arith_width op line);
+  ends = λ at. omega (arith, width_arith op line);
   names = λ k. omega arith;
   constants = ap (λ z. constants a ++ z) (append-nil (constants b));
   nums = omega arith;
@@ -218,7 +155,7 @@ arith_is op a b line = record {
 pub compare_is : (op : Relation) (ty : TyView) (a b : Node) → Same (clause a ▷ (clause b ▷ one (choice.compare op ty))) (clause (node.Compare op ty a b))
 unfolding ◌▷◌ clause clauses naming one takes empty to_behind from_begin entering leaving arms_of labels_of
 compare_is op ty a b = record {
-  ends = λ at. omega (arith, compare_width op ty);
+  ends = λ at. omega (arith, width_compare op ty);
   names = λ k. omega arith;
   constants = ap (λ z. constants a ++ z) (append-nil (constants b));
   nums = omega arith;
@@ -314,7 +251,7 @@ set_element_is a b c ty line = record {
 pub bound_is : (e : Node) (upper : Bool) → Same (clause e ▷ one (choice.bound upper)) (clause (node.Bound e upper))
 unfolding ◌▷◌ clause clauses naming one takes empty to_behind from_begin entering leaving arms_of labels_of
 bound_is e upper = record {
-  ends = λ at. omega (arith, bound_width upper);
+  ends = λ at. omega (arith, width_bound upper);
   names = λ k. omega arith;
   constants = append-nil (constants e);
   nums = omega arith;
@@ -352,7 +289,7 @@ int_is v = record {
 pub flag_is : (b : Bool) → Same (one (choice.flag b)) (clause (node.Flag b))
 unfolding ◌▷◌ clause clauses naming one takes empty to_behind from_begin entering leaving arms_of labels_of
 flag_is b = record {
-  ends = λ at. omega (arith, flag_width b);
+  ends = λ at. omega (arith, width_flag b);
   names = λ k. omega arith;
   constants = refl;
   nums = omega arith;
@@ -388,7 +325,7 @@ nil_is = record {
 pub name_is : (place : Place) (ty : TyView) → Same (one (choice.get place ty)) (clause (node.Name place ty))
 unfolding ◌▷◌ clause clauses naming one takes empty to_behind from_begin entering leaving arms_of labels_of
 name_is place ty = record {
-  ends = λ at. omega (arith, get_width place ty);
+  ends = λ at. omega (arith, width_get place ty);
   names = λ k. omega arith;
   constants = refl;
   nums = omega arith;
@@ -484,7 +421,7 @@ repeat_is a c b = record {
 pub for_is : (slot : ℕ) (a b c : Node) (scope : Option (List ℕ)) (control : Place) (s : Node) (line : Line) → Same (made (node.For slot a b c scope control s line)) (clause (node.For slot a b c scope control s line))
 unfolding ◌▷◌ clause clauses naming one takes empty to_behind from_begin entering leaving arms_of labels_of
 for_is slot a b c scope control s line = record {
-  ends = λ at. omega (arith, set_width control types.Int);
+  ends = λ at. omega (arith, width_set control types.Int);
   names = λ k. omega arith;
   constants = ap (λ z. constants a ++ (constants b ++ (constants c ++ (scope_constants scope ++ z)))) (append-nil (constants s));
   nums = omega arith;
@@ -497,7 +434,7 @@ for_is slot a b c scope control s line = record {
       emit a at k ++ instr.SetM slot ∷ (emit b (at + size a + 5) (k + count a) ++ instr.SetM (slot + 1) ∷ (emit c (at + size a + 5 + size b + 5) (k + count a + count b) ++ instr.SetM (slot + 2)
       ∷ instr.ForStart slot (turn + size_entered scope + 5 + w + size s + size_left scope + 9) line
       ∷ (entered scope own ++ instr.GetM slot ∷ choice.set control types.Int ∷ (emit s (turn + size_entered scope + 5 + w) (own + count_scope scope) ++ (left scope ++ instr.ForNext slot turn ∷ []))))) in
-      ap with_clause (set_width control types.Int);
+      ap with_clause (width_set control types.Int);
 }
 
 pub case_is : (e : Node) (arms : Arms) (d : Node) (ty : TyView) → Same (made (node.Case e arms d ty)) (clause (node.Case e arms d ty))
@@ -578,7 +515,7 @@ lib_is code args line = record {
 pub scan_is : (string : Bool) (a f : Node) (q s : ℕ) (line : Line) → Same (made (node.Scan string a f q s line)) (clause (node.Scan string a f q s line))
 unfolding ◌▷◌ clause clauses naming one takes empty to_behind from_begin entering leaving arms_of labels_of
 scan_is string a f q s line = record {
-  ends = λ at. omega (arith, scan_width string q s 0 line);
+  ends = λ at. omega (arith, width_scan string q s 0 line);
   names = λ k. omega arith;
   constants = ap (λ z. constants a ++ z) (append-nil (constants f));
   nums = omega arith;
@@ -592,13 +529,13 @@ scan_is string a f q s line = record {
       ∷ instr.Int (pos 0) ∷ instr.SetM s ∷ instr.Int (pos 0) ∷ instr.SetM (s + 1) ∷ instr.Int (pos 0) ∷ instr.SetM (s + 2)
       ∷ choice.scan string q s (turn + w + 9 + 9) line ∷ instr.Call (if string then 2 else 1) line ∷ instr.ScanMore s turn ∷ instr.GetM s ∷ []) in
       let zeros_long : behind + 5 + 5 + 5 + 5 + 5 + 5 ≡ behind + 30 = omega arith in
-      ap (λ turn. with_turn turn (width_of (choice.scan string q s 0 line))) zeros_long ∙ ap (with_turn (behind + 30)) (scan_width string q s 0 line);
+      ap (λ turn. with_turn turn (width_of (choice.scan string q s 0 line))) zeros_long ∙ ap (with_turn (behind + 30)) (width_scan string q s 0 line);
 }
 
 pub write_is : (e w : Node) (wide : Bool) (ty : TyView) (line : Line) → Same (clause e ▷ (clause w ▷ one (choice.write ty wide line))) (clause (node.Write e w wide ty line))
 unfolding ◌▷◌ clause clauses naming one takes empty to_behind from_begin entering leaving arms_of labels_of
 write_is e w wide ty line = record {
-  ends = λ at. omega (arith, write_width ty wide line);
+  ends = λ at. omega (arith, width_write ty wide line);
   names = λ k. omega arith;
   constants = ap (λ z. constants e ++ z) (append-nil (constants w));
   nums = omega arith;
@@ -657,7 +594,7 @@ more_labels ty n ns t =
     let dup = choice.by_type ty instr.DupM instr.DupP in
     let test = choice.compare relation.Equal ty in
     let dup_width : width_of dup ≡ 1 = by_type_width ty instr.DupM instr.DupP refl in
-    let test_width : width_of test ≡ 1 = compare_width relation.Equal ty in
+    let test_width : width_of test ≡ 1 = width_compare relation.Equal ty in
     record {
       ends = λ at. omega (arith, dup_width, test_width);
       names = λ k. omega arith;

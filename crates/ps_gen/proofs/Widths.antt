@@ -1,24 +1,16 @@
 -- How many bytes the code of a clause has, and how many constants it names: as many as `size` and `count` say.
-use Rattle.std.proofs.Common.{◌≡◌, ℕ, ◌+◌, Bool, true, false, List, [], ◌∷◌, ◌++◌, length, Option, Some, None, refl, sym, ap, ◌∙◌, subst, arith, length-append}
-use Rattle.std.specs.Prelude.{if◌then◌else◌}
+use Rattle.std.proofs.Common.{◌≡◌, ℕ, ◌+◌, List, [], ◌∷◌, ◌++◌, length, Option, Some, None, refl, arith, length-append}
 use Rattle.ps_base.specs.TyView.{TyView}
-use Rattle.ps_base.specs.TyView as types
 use Rattle.ps_base.specs.Instr.{width_of}
-use Rattle.ps_base.specs.CodeUnit.{ConstantView}
-use Rattle.ps_base.specs.declared.line.Line.{Line}
-use Rattle.ps_base.specs.declared.operator.Operator.{Operator}
-use Rattle.ps_base.specs.declared.operator.Operator.TheVariants as operator
-use Rattle.ps_base.specs.declared.operator.Relation.{Relation}
-use Rattle.ps_base.specs.declared.operator.Relation.TheVariants as relation
 use Rattle.ps_base.specs.declared.instr.Instr.{Instr}
 use Rattle.ps_base.specs.declared.instr.Instr.TheVariants as instr
 use Rattle.ps_program.specs.declared.place.Place.{Place}
 use Rattle.ps_program.specs.declared.place.Place.TheVariants.{Plain, Kept}
 use Rattle.ps_program.specs.Node.{Node, Nodes, none, more, Arms, no_arms, more_arms, arm, body}
 use Rattle.ps_program.specs.Node as node
-use Rattle.ps_typing.specs.Placing.{is_number}
-use Rattle.ps_gen.specs.Giving.{type_of, element_of}
-use Rattle.ps_gen.specs.Choices as choice
+use Rattle.ps_emitter.specs.Giving.{element_of}
+use Rattle.ps_emitter.specs.Choices as choice
+use Rattle.ps_emitter.proofs.ChoiceWidths.{width_by_type, width_flag, width_arith, width_compare, width_write, width_bound, width_scan}
 use Rattle.ps_gen.specs.Emission.{size_at, size_entered, size_left, size, size_all, size_arms, size_labels, count_scope, count, count_all, count_arms, entered, left, items_in, emit, emit_all, emit_arms, emit_labels}
 use Rattle.ps_gen.specs.Units.{scope_constants, constants, constants_of_all, constants_of_arms}
 
@@ -31,18 +23,6 @@ pub widths_append : (is js : List Instr) → widths (is ++ js) ≡ widths is + w
 widths_append [] js = omega arith
 widths_append (i ∷ is) js = let h = widths_append is js in omega arith
 
--- where each of two instructions has this width
-chosen : (n : ℕ) (number : Bool) (i j : Instr) → width_of i ≡ n → width_of j ≡ n → width_of (if number then i else j) ≡ n
-chosen n true i j h k = h
-chosen n false i j h k = k
-
-pub width_by_type : (n : ℕ) (ty : TyView) (i j : Instr) → width_of i ≡ n → width_of j ≡ n → width_of (choice.by_type ty i j) ≡ n
-width_by_type n ty i j h k = chosen n (is_number ty) i j h k
-
-pub width_flag : (v : Bool) → width_of (choice.flag v) ≡ 1
-width_flag true = refl
-width_flag false = refl
-
 pub width_get : (place : Place) (ty : TyView) → width_of (choice.get place ty) ≡ size_at place
 width_get (Plain s) ty = width_by_type 5 ty (instr.GetM s) (instr.GetP s) refl refl
 width_get (Kept u i) ty = width_by_type 9 ty (instr.KeptM u i) (instr.KeptP u i) refl refl
@@ -50,52 +30,6 @@ width_get (Kept u i) ty = width_by_type 9 ty (instr.KeptM u i) (instr.KeptP u i)
 pub width_set : (place : Place) (ty : TyView) → width_of (choice.set place ty) ≡ size_at place
 width_set (Plain s) ty = width_by_type 5 ty (instr.SetM s) (instr.SetP s) refl refl
 width_set (Kept u i) ty = width_by_type 9 ty (instr.KeepM u i) (instr.KeepP u i) refl refl
-
-pub width_arith : (op : Operator) (line : Line) → width_of (choice.arith op line) ≡ 5
-width_arith operator.Add line = refl
-width_arith operator.Sub line = refl
-width_arith operator.Mul line = refl
-width_arith operator.Div line = refl
-width_arith operator.Rem line = refl
-
-width_number_relation : (op : Relation) → width_of (choice.number_relation op) ≡ 1
-width_number_relation relation.Equal = refl
-width_number_relation relation.NotEqual = refl
-width_number_relation relation.Less = refl
-width_number_relation relation.LessEqual = refl
-width_number_relation relation.Greater = refl
-width_number_relation relation.GreaterEqual = refl
-
-width_text_relation : (op : Relation) → width_of (choice.text_relation op) ≡ 1
-width_text_relation relation.Equal = refl
-width_text_relation relation.NotEqual = refl
-width_text_relation relation.Less = refl
-width_text_relation relation.LessEqual = refl
-width_text_relation relation.Greater = refl
-width_text_relation relation.GreaterEqual = refl
-
-width_identity : (op : Relation) → width_of (choice.identity op) ≡ 1
-width_identity relation.NotEqual = refl
-width_identity other = refl
-
-pub width_compare : (op : Relation) (ty : TyView) → width_of (choice.compare op ty) ≡ 1
-width_compare op types.Int = width_number_relation op
-width_compare op types.Bool = width_number_relation op
-width_compare op types.Str = width_text_relation op
-width_compare op other = width_identity op
-
-pub width_write : (ty : TyView) (wide : Bool) (line : Line) → width_of (choice.write ty wide line) ≡ 9
-width_write types.Int wide line = refl
-width_write types.Bool wide line = refl
-width_write other wide line = refl
-
-width_bound : (upper : Bool) → width_of (choice.bound upper) ≡ 1
-width_bound true = refl
-width_bound false = refl
-
-width_scan : (text : Bool) (q s t : ℕ) (line : Line) → width_of (choice.scan text q s t line) ≡ 17
-width_scan true q s t line = refl
-width_scan false q s t line = refl
 
 pub widths_entered : (scope : Option (List ℕ)) (k : ℕ) → widths (entered scope k) ≡ size_entered scope
 widths_entered None k = refl

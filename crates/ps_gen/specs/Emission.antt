@@ -10,8 +10,8 @@ use Rattle.ps_program.specs.declared.place.Place.{Place}
 use Rattle.ps_program.specs.declared.place.Place.TheVariants.{Plain, Kept}
 use Rattle.ps_program.specs.Node.{Node, Nodes, none, more, Arms, no_arms, more_arms, arm, body}
 use Rattle.ps_program.specs.Node as node
-use Rattle.ps_gen.specs.Giving.{type_of, element_of}
-use Rattle.ps_gen.specs.Choices as choice
+use Rattle.ps_emitter.specs.Giving.{type_of, element_of}
+use Rattle.ps_emitter.specs.Choices as choice
 
 -- how many bytes the get or the set of a place has
 abbrev pub size_at : Place → ℕ

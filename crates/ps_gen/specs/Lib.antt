@@ -1,5 +1,3 @@
-pub mod Giving
-pub mod Choices
 pub mod Emission
 pub mod Units
 pub mod inside

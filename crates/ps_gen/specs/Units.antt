@@ -16,7 +16,7 @@ use Rattle.ps_type_text.specs.Texts.{type_text}
 use Rattle.ps_typing.specs.Placing.{is_number}
 use Rattle.ps_typing.specs.WellTyped.{types_of_params}
 use Rattle.ps_typing.specs.Locals.{locals_on, taken_by_params}
-use Rattle.ps_gen.specs.Choices as choice
+use Rattle.ps_emitter.specs.Choices as choice
 use Rattle.ps_gen.specs.Emission.{size_entered, count_scope, entered, emit}
 
 -- a scope keeps an argument: it is pushed from its local, and kept

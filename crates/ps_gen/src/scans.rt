@@ -1,83 +1,33 @@
-ghost use Rattle.std.specs.Prelude.{◌≡◌, OnOk, if◌then◌else◌};
-ghost use Rattle.ps_base.specs.declared.instr.Instr.TheVariants as instr;
+ghost use Rattle.std.specs.Prelude.{OnOk};
 ghost use Rattle.ps_program.specs.Node as node;
 ghost use Rattle.ps_program.specs.NodeView.{node_of};
-ghost use Rattle.ps_gen.specs.Choices as choice;
-ghost use Rattle.ps_gen.specs.inside.Pieces.{state_of, Puts, ◌▷◌, one};
-ghost use Rattle.ps_gen.specs.inside.Clauses.{clause, made, zeros, turns};
+ghost use Rattle.ps_emitter.specs.Pieces.{state_of, Puts};
+ghost use Rattle.ps_gen.specs.inside.Clauses.{made};
 
-use crate::emitter::{Emitter, sum};
+use crate::operands::one_then;
 use ps_base::instr::Instr;
 use ps_base::line::Line;
+use ps_emitter::emitter::{Emitter, sum};
 use ps_program::form::Tree;
 use std::alloc::AllocError;
 
-impl Emitter {
-    /// A scan of a table by a procedure.
-    #[cycle(tree)]
-    pub(crate) fn scan(
-        &mut self,
-        text: bool,
-        a: &Tree,
-        f: &Tree,
-        q: u32,
-        s: u32,
-        line: Line,
-    ) -> Result<(), AllocError>
-        ensures { OnOk result (Puts (made (node.Scan text (node_of a.now) (node_of f.now) q s line)) (state_of self.old) (state_of self.new)) }
-    {
-        let procedure = sum(q, 1)?;
-        self.take(3, 3)?;
-        self.one_then(a, Instr::SetP { s: q })?;
-        self.one_then(f, Instr::SetP { s: procedure })?;
-        self.zeros(s)?;
-        self.turns(text, q, s, line)?;
-        Ok(())
-    }
-
-    fn zeros(&mut self, s: u32) -> Result<(), AllocError>
-        ensures { OnOk result (Puts (zeros s) (state_of self.old) (state_of self.new)) }
-    {
-        let second = sum(s, 1)?;
-        let third = sum(s, 2)?;
-        self.put(Instr::Int { v: 0 })?;
-        self.put(Instr::SetM { s })?;
-        self.put(Instr::Int { v: 0 })?;
-        self.put(Instr::SetM { s: second })?;
-        self.put(Instr::Int { v: 0 })?;
-        self.put(Instr::SetM { s: third })?;
-        Ok(())
-    }
-
-    fn turns(&mut self, text: bool, q: u32, s: u32, line: Line) -> Result<(), AllocError>
-        ensures { OnOk result (Puts (turns text q s line) (state_of self.old) (state_of self.new)) }
-    {
-        let turn = self.here()?;
-        let hole = self.hole(scan_by(text, q, s, 0, line))?;
-        self.put(called(text, line))?;
-        self.put(Instr::ScanMore { s, t: turn })?;
-        let end = self.here()?;
-        self.overwrite(hole, scan_by(text, q, s, end, line))?;
-        self.put(Instr::GetM { s })?;
-        Ok(())
-    }
-}
-
-// The next key, by strings or by ints.
-fn scan_by(text: bool, q: u32, s: u32, t: u32, line: Line) -> Instr
-    ensures { result ≡ choice.scan text q s t line }
+/// A scan of a table by a procedure.
+#[cycle(tree)]
+pub(crate) fn scan(
+    emitter: &mut Emitter,
+    text: bool,
+    a: &Tree,
+    f: &Tree,
+    q: u32,
+    s: u32,
+    line: Line,
+) -> Result<(), AllocError>
+    ensures { OnOk result (Puts (made (node.Scan text (node_of a.now) (node_of f.now) q s line)) (state_of emitter.old) (state_of emitter.new)) }
 {
-    if text {
-        Instr::ScanT { q, s, t, line }
-    } else {
-        Instr::ScanI { q, s, t, line }
-    }
-}
-
-// The call of the procedure: a string key is a reference, as the value is.
-fn called(text: bool, line: Line) -> Instr
-    ensures { result ≡ instr.Call (if text then 2 else 1) line }
-{
-    let n = if text { 2 } else { 1 };
-    Instr::Call { n, line }
+    let procedure = sum(q, 1)?;
+    emitter.take(3, 3)?;
+    one_then(emitter, a, Instr::SetP { s: q })?;
+    one_then(emitter, f, Instr::SetP { s: procedure })?;
+    emitter.zeros(s)?;
+    emitter.turns(text, q, s, line)
 }

@@ -18,7 +18,7 @@ use Rattle.ps_type_text.specs.Texts.{type_text}
 use Rattle.ps_typing.specs.Placing.{is_number}
 use Rattle.ps_typing.specs.WellTyped.{types_of_params}
 use Rattle.ps_meaning.specs.Weights.{text_weight, scope_weight, head_weight, named_weight, total_of, clause_weight, code_weight}
-use Rattle.ps_gen.specs.Choices as choice
+use Rattle.ps_emitter.specs.Choices as choice
 use Rattle.ps_gen.specs.Emission.{size_at, size_entered, size_left, size, size_all, size_arms, size_labels, count_scope, count, count_all, count_arms, entered, emit}
 use Rattle.ps_gen.specs.Units.{kept_at, keeps, size_keeps, body_instrs, scope_constants, row_of, constants, constants_of_all, constants_of_arms, unit_of}
 use Rattle.ps_gen.proofs.Widths.{widths, widths_append, widths_entered, width_emit, count_of_scope, count_constants}

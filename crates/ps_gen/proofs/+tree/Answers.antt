@@ -1,307 +1,313 @@
 -- What the functions of the cycle put.
-use Rattle.std.proofs.Common.{rules, ◌≡◌, ◌+◌, true, false, List, [], ◌∷◌, OnOk, length, length-append, drop, ap, sym, refl, subst, ◌∙◌, arith}
+use Rattle.std.proofs.Common.{rules, ◌≡◌, ◌+◌, List, [], ◌∷◌, OnOk, length, length-append, drop, ap, sym, refl, subst, ◌∙◌, arith}
 use Rattle.std.proofs.lemmas.List.{drop_all}
 use Rattle.std.specs.Borrow.{Bor}
 use Rattle.std.specs.Prelude.{option_map}
 use Rattle.std.specs.Rc.{rc_value}
 use Rattle.ps_base.specs.List.{items_of}
-use Rattle.ps_base.specs.CodeUnit.{text, constant_view}
+use Rattle.ps_base.specs.CodeUnit.{text}
 use Rattle.ps_base.specs.Instr.{spelling}
 use Rattle.ps_base.specs.TyView.{ty_view}
 use Rattle.ps_base.specs.declared.instr.Instr.TheVariants as instr
 use Rattle.ps_program.specs.declared.form.Tree.{Tree}
 use Rattle.ps_program.specs.declared.form.Arm.{out-Arm}
-use Rattle.ps_program.specs.NodeView.{node_of, nodes_in, params_of}
+use Rattle.ps_program.specs.NodeView.{node_of, node_of_form, nodes_in, params_of}
 use Rattle.ps_program.specs.inside.PartsView.{arms_in}
 use Rattle.ps_program.specs.inside.Weights.{weight, weight_all}
 use Rattle.ps_program.proofs.NodeLists.{block_is, make_is, lib_is, elems_is, call_is, case_is}
 use Rattle.ps_program.proofs.NodeSteps.{nodes_from, arms_from, weight_at, weight_arm_at}
-use Rattle.ps_base.specs.declared.code_unit.Constant.{Text}
 use Rattle.ps_type_text.specs.Texts.{type_text}
-use Rattle.ps_typing.specs.Locals.{taken_by_params}
-use Rattle.ps_gen.specs.Units.{type_constant}
 use Rattle.ps_gen.specs.Emission.{size}
-use Rattle.ps_gen.specs.inside.Pieces.{state_of, constant, Puts, Opens, ◌▷◌, one, to_behind}
-use Rattle.ps_gen.specs.inside.Clauses.{clause, clauses, keeping, naming, labels_of, arms_of, arm_of, made, behind_of, jump_of, type_in}
-use Rattle.ps_gen.specs.inside.Chains.{Chained, Left, LeftOpen}
-use Rattle.ps_gen.proofs.Laws.{more_clauses, no_clauses, more_labels, no_labels, more_arms_is, no_arms_is, by_type_width}
-use Rattle.ps_gen.proofs.Putting.{seq, puts_same, followed, behind}
-use Rattle.ps_gen.proofs.Making.{closing_puts, one_is, single, begun, left_all, left_more, left_none, left_open_all, left_open_more, left_open_none, opened_at, halfway, body_made, jump_width, entering_is, leaving_is, last_is, third_is, seq2, items_counted, list_named, filled_with, no_items}
-use Rattle.ps_gen.proofs.Chaining.{linked, knows_behind, made_is, chained_last, chained_weight, call_weight, block_weight, make_weight, elems_weight, lib_weight, case_weight}
+use Rattle.ps_emitter.specs.Pieces.{state_of, Puts, Opens, ◌▷◌, one, to_behind, Left, LeftOpen}
+use Rattle.ps_gen.specs.inside.Clauses.{clause, clauses, labels_of, arms_of, arm_of, made, behind_of}
+use Rattle.ps_emitter.specs.Instructions.{naming, jump_of}
+use Rattle.ps_emitter.specs.Chains.{type_in, Chained}
+use Rattle.ps_gen.proofs.Laws.{more_clauses, no_clauses, more_labels, no_labels, more_arms_is, no_arms_is}
+use Rattle.ps_emitter.proofs.ChoiceWidths.{by_type_width}
+use Rattle.ps_emitter.proofs.Putting.{seq, puts_same, followed, behind}
+use Rattle.ps_gen.proofs.Making.{on_ok, if_ok, closing_puts, body_made, entering_is, leaving_is, items_counted, list_named}
+use Rattle.ps_emitter.proofs.Steps.{one_is, single, begun, left_all, left_more, left_none, left_open_all, left_open_more, left_open_none, opened_at, halfway, jump_width, last_is, third_is, seq2, filled_with, no_items}
+use Rattle.ps_gen.proofs.Linking.{linked, made_is, make_weight, elems_weight, lib_weight}
+use Rattle.ps_emitter.proofs.Chaining.{knows_behind, chained_last, chained_weight, call_weight, block_weight, case_weight}
 use Rattle.ps_gen.proofs.+tree.Goals as goal
 
-pub emitter::Emitter::all-loop-item-init : goal.emitter::Emitter::all-loop-item-init
-emitter::Emitter::all-loop-item-init t c = left_all _ _
+pub operands::all-loop-item-init : goal.operands::all-loop-item-init
+operands::all-loop-item-init t c = left_all _ _
 
-pub emitter::Emitter::all-tree-requires : goal.emitter::Emitter::all-tree-requires
-emitter::Emitter::all-tree-requires t c =
+pub operands::all-tree-requires : goal.operands::all-tree-requires
+operands::all-tree-requires t c =
     let light = weight_at c.args.items.now c.loop-item.item-index c.item-item.result _ c.item-item.is c.loop-item-test.true in
-    search (rules, light)
+    (omega (arith, c.decreases, light), tt)
 
-pub emitter::Emitter::all-loop-item-preserved : goal.emitter::Emitter::all-loop-item-preserved
-emitter::Emitter::all-loop-item-preserved t c =
+pub operands::all-loop-item-preserved : goal.operands::all-loop-item-preserved
+operands::all-loop-item-preserved t c =
     let items = c.args.items.now in
     let i = c.loop-item.item-index in
     let cut = nodes_from items i c.item-item.result _ c.item-item.is c.loop-item-test.true in
-    left_more (subst (λ ns. Left (clauses ns) (clauses (nodes_in items)) (state_of c.args.self.now) (state_of c.loop-item.self)) cut c.loop-item.invariant)
+    left_more (subst (λ ns. Left (clauses ns) (clauses (nodes_in items)) (state_of c.args.emitter.now) (state_of c.loop-item.emitter)) cut c.loop-item.invariant)
     (more_clauses (node_of c.item-item.result) (nodes_in (drop (i + 1) items))) c.in_ok-tree.ensures
 
-pub emitter::Emitter::all-returns : goal.emitter::Emitter::all-returns
-emitter::Emitter::all-returns t c =
+pub operands::all-returns : goal.operands::all-returns
+operands::all-returns t c =
     let items = c.args.items.now in
     let end = drop_all c.loop-item.item-index items c.loop-item-test.false in
-    left_none (subst (λ ts. Left (clauses (nodes_in ts)) (clauses (nodes_in items)) (state_of c.args.self.now) (state_of c.loop-item.self)) end c.loop-item.invariant) no_clauses
+    left_none (subst (λ ts. Left (clauses (nodes_in ts)) (clauses (nodes_in items)) (state_of c.args.emitter.now) (state_of c.loop-item.emitter)) end c.loop-item.invariant) no_clauses
 
-pub emitter::Emitter::all_then-returns : goal.emitter::Emitter::all_then-returns
-emitter::Emitter::all_then-returns t c = seq c.in_ok-all.ensures c.in_ok-put.ensures
+pub operands::all_then-returns : goal.operands::all_then-returns
+operands::all_then-returns t c = on_ok c.put.result (λ puts. seq c.in_ok-all.ensures puts) c.put.ensures
 
-pub emitter::Emitter::one_then-returns : goal.emitter::Emitter::one_then-returns
-emitter::Emitter::one_then-returns t c = seq c.in_ok-tree.ensures c.in_ok-put.ensures
+pub operands::one_then-returns : goal.operands::one_then-returns
+operands::one_then-returns t c = on_ok c.put.result (λ puts. seq c.in_ok-tree.ensures puts) c.put.ensures
 
-pub emitter::Emitter::two_then-returns : goal.emitter::Emitter::two_then-returns
-emitter::Emitter::two_then-returns t c = seq c.in_ok-tree.ensures c.in_ok-one_then.ensures
+pub operands::two_then-returns : goal.operands::two_then-returns
+operands::two_then-returns t c = on_ok c.one_then.result (λ puts. seq c.in_ok-tree.ensures puts) c.one_then.ensures
 
-pub emitter::Emitter::one_named-returns : goal.emitter::Emitter::one_named-returns
-emitter::Emitter::one_named-returns t c = seq c.in_ok-tree.ensures c.in_ok-name.ensures
+pub operands::one_named-returns : goal.operands::one_named-returns
+operands::one_named-returns t c = on_ok c.name.result (λ puts. seq c.in_ok-tree.ensures puts) c.name.ensures
 
-pub emitter::Emitter::call-returns : goal.emitter::Emitter::call-returns
-emitter::Emitter::call-returns t c = seq c.in_ok-all.ensures (one_is (ap (λ n. instr.Call n c.args.line) c.in_ok-n.ensures) c.in_ok-put.ensures)
+pub operands::call-returns : goal.operands::call-returns
+operands::call-returns t c = on_ok c.put.result (λ puts. seq c.in_ok-all.ensures (one_is (ap (λ n. instr.Call n c.args.line) c.in_ok-n.ensures) puts)) c.put.ensures
 
-pub emitter::Emitter::make-returns : goal.emitter::Emitter::make-returns
-emitter::Emitter::make-returns t c = seq c.in_ok-all.ensures c.in_ok-name.ensures
+pub operands::make-returns : goal.operands::make-returns
+operands::make-returns t c = on_ok c.name.result (λ puts. seq c.in_ok-all.ensures puts) c.name.ensures
 
-pub emitter::Emitter::vector_filled-returns : goal.emitter::Emitter::vector_filled-returns
-emitter::Emitter::vector_filled-returns t c = seq c.in_ok-tree.ensures (seq c.in_ok-tree-2.ensures (seq c.in_ok-tree-3.ensures c.in_ok-name_type.ensures))
+pub operands::vector_filled-returns : goal.operands::vector_filled-returns
+operands::vector_filled-returns t c = on_ok c.name_type.result (λ puts. seq c.in_ok-tree.ensures (seq c.in_ok-tree-2.ensures (seq c.in_ok-tree-3.ensures puts))) c.name_type.ensures
 
-pub emitter::Emitter::vector_of-returns : goal.emitter::Emitter::vector_of-returns
-emitter::Emitter::vector_of-returns t c =
+pub operands::vector_of-returns : goal.operands::vector_of-returns
+operands::vector_of-returns t c =
     let counted = c.in_ok-count.ensures ∙ items_counted c.args.items.now in
-    seq c.in_ok-tree.ensures (seq c.in_ok-all.ensures (list_named (ty_view c.args.ty.now) c.args.line (text (type_text (ty_view c.args.ty.now))) counted c.in_ok-name_type.ensures))
+    on_ok c.name_type.result (λ puts. seq c.in_ok-tree.ensures (seq c.in_ok-all.ensures (list_named (ty_view c.args.ty.now) c.args.line (text (type_text (ty_view c.args.ty.now))) counted puts))) c.name_type.ensures
 
-pub emitter::Emitter::block-returns : goal.emitter::Emitter::block-returns
-emitter::Emitter::block-returns t c = seq (entering_is c.boxed_text-scope.ensures c.in_ok-enter.ensures) (seq c.in_ok-all.ensures (leaving_is c.boxed_text-scope.ensures c.in_ok-leave.ensures))
+pub jumps::block-returns : goal.jumps::block-returns
+jumps::block-returns t c = on_ok c.leave.result (λ puts. seq (entering_is c.boxed_text-scope.ensures c.in_ok-enter.ensures) (seq c.in_ok-all.ensures (leaving_is c.boxed_text-scope.ensures puts))) c.leave.ensures
 
-pub emitter::Emitter::if_do-returns : goal.emitter::Emitter::if_do-returns
-emitter::Emitter::if_do-returns t c = seq c.in_ok-tree.ensures c.in_ok-jump_over.ensures
+pub jumps::if_do-returns : goal.jumps::if_do-returns
+jumps::if_do-returns t c = on_ok c.jump_over.result (λ puts. seq c.in_ok-tree.ensures puts) c.jump_over.ensures
 
-pub emitter::Emitter::if_else-returns : goal.emitter::Emitter::if_else-returns
-emitter::Emitter::if_else-returns t c =
+pub jumps::if_else-returns : goal.jumps::if_else-returns
+jumps::if_else-returns t c =
     let out = c.in_ok-out.ensures in
-    let last = single instr.Jump (λ end. end) (λ n. refl) refl (record { puts = out.second; is = out.is }) c.in_ok-tree-2.ensures c.in_ok-end.ensures refl c.overwrite.ensures.fits c.in_ok-overwrite.ensures.written in
-    seq c.in_ok-tree.ensures (seq out.first last)
+    on_ok c.overwrite.result (λ written. seq c.in_ok-tree.ensures (seq out.first
+    (single instr.Jump (λ end. end) (λ n. refl) refl (record { puts = out.second; is = out.is }) c.in_ok-tree-2.ensures c.in_ok-end.ensures refl c.overwrite.ensures.fits written))) c.overwrite.ensures.written
 
-pub emitter::Emitter::jump_over-returns : goal.emitter::Emitter::jump_over-returns
-emitter::Emitter::jump_over-returns t c = single (jump_of c.args.jump) (λ end. end) (jump_width c.args.jump) c.to.ensures c.in_ok-hole.ensures c.in_ok-tree.ensures c.in_ok-end.ensures c.to-2.ensures c.overwrite.ensures.fits c.in_ok-overwrite.ensures.written
+pub jumps::jump_over-returns : goal.jumps::jump_over-returns
+jumps::jump_over-returns t c =
+    on_ok c.overwrite.result (λ written. single (jump_of c.args.jump) (λ end. end) (jump_width c.args.jump) c.to.ensures c.in_ok-hole.ensures c.in_ok-tree.ensures c.in_ok-end.ensures c.to-2.ensures c.overwrite.ensures.fits written) c.overwrite.ensures.written
 
-pub emitter::Emitter::then_out-returns : goal.emitter::Emitter::then_out-returns
+pub jumps::then_out-returns : goal.jumps::then_out-returns
 unfolding one
-emitter::Emitter::then_out-returns t c =
+jumps::then_out-returns t c =
     halfway instr.JumpFalse (λ end. end + 5) (followed (opened_at instr.JumpFalse refl c.in_ok-test.ensures.puts c.in_ok-test.ensures.is (λ n. refl)) c.in_ok-tree.ensures) c.in_ok-out.ensures
     (c.in_ok-other.ensures ∙ c.in_ok-out.ensures.puts.long) refl c.overwrite.ensures.fits c.in_ok-overwrite.ensures.written
 
-pub emitter::Emitter::while_loop-returns : goal.emitter::Emitter::while_loop-returns
+pub jumps::while_loop-returns : goal.jumps::while_loop-returns
 unfolding one ◌▷◌ to_behind
-emitter::Emitter::while_loop-returns t c = begun _ c.in_ok-here.field-0 (seq c.in_ok-jump_over.ensures (last_is _ (ap instr.Again c.in_ok-clause.ensures) c.in_ok-one_then.ensures)) c.in_ok-here.ensures refl
+jumps::while_loop-returns t c = on_ok c.one_then.result (λ puts. begun _ c.in_ok-here.field-0 (seq c.in_ok-jump_over.ensures (last_is _ (ap instr.Again c.in_ok-clause.ensures) puts)) c.in_ok-here.ensures refl) c.one_then.ensures
 
-pub emitter::Emitter::repeat_loop-returns : goal.emitter::Emitter::repeat_loop-returns
+pub jumps::repeat_loop-returns : goal.jumps::repeat_loop-returns
 unfolding one ◌▷◌ to_behind
-emitter::Emitter::repeat_loop-returns t c = begun _ c.in_ok-here.field-0 (seq c.in_ok-jump_over.ensures (third_is (clause (node_of c.args.a.now)) (clause (node_of c.args.c.now)) (ap instr.Again c.in_ok-between.ensures) c.in_ok-two_then.ensures)) c.in_ok-here.ensures refl
+jumps::repeat_loop-returns t c = on_ok c.two_then.result (λ puts. begun _ c.in_ok-here.field-0 (seq c.in_ok-jump_over.ensures (third_is (clause (node_of c.args.a.now)) (clause (node_of c.args.c.now)) (ap instr.Again c.in_ok-between.ensures) puts)) c.in_ok-here.ensures refl) c.two_then.ensures
 
-pub emitter::Emitter::for_loop-returns : goal.emitter::Emitter::for_loop-returns
-emitter::Emitter::for_loop-returns t c =
-    seq c.in_ok-take.ensures (seq c.in_ok-take_place.ensures (seq2 _ _ c.in_ok-one_then.ensures (seq2 _ _ (last_is _ (ap instr.SetM c.in_ok-limit.ensures) c.in_ok-one_then-2.ensures)
-    (seq2 _ _ (last_is _ (ap instr.SetM c.in_ok-step.ensures) c.in_ok-one_then-3.ensures) c.in_ok-for_turns.ensures))))
+pub jumps::for_loop-returns : goal.jumps::for_loop-returns
+jumps::for_loop-returns t c =
+    on_ok c.for_turns.result (λ puts. seq c.in_ok-take.ensures (seq c.in_ok-take_place.ensures (seq2 _ _ c.in_ok-one_then.ensures (seq2 _ _ (last_is _ (ap instr.SetM c.in_ok-limit.ensures) c.in_ok-one_then-2.ensures)
+    (seq2 _ _ (last_is _ (ap instr.SetM c.in_ok-step.ensures) c.in_ok-one_then-3.ensures) puts))))) c.for_turns.ensures
 
-pub emitter::Emitter::for_turns-returns : goal.emitter::Emitter::for_turns-returns
+pub jumps::for_turns-returns : goal.jumps::for_turns-returns
 unfolding one ◌▷◌ to_behind
-emitter::Emitter::for_turns-returns t c =
+jumps::for_turns-returns t c =
     let it = c.args.it.now in
     let scope = c.text_in-scope.ensures in
     let inner = seq (entering_is scope c.in_ok-enter.ensures) (seq c.in_ok-put.ensures (seq (one_is c.set.ensures c.in_ok-put-2.ensures) (seq c.in_ok-tree.ensures
     (seq (leaving_is scope c.in_ok-leave.ensures) (one_is (ap (instr.ForNext it.slot) c.in_ok-turn.ensures) c.in_ok-put-3.ensures))))) in
-    begun _ c.in_ok-here.field-0 (single (λ n. instr.ForStart it.slot n it.line) (λ end. end) (λ n. refl) refl c.in_ok-hole.ensures inner c.in_ok-end.ensures refl c.overwrite.ensures.fits c.in_ok-overwrite.ensures.written)
-    c.in_ok-here.ensures refl
+    on_ok c.overwrite.result (λ written. begun _ c.in_ok-here.field-0
+    (single (λ n. instr.ForStart it.slot n it.line) (λ end. end) (λ n. refl) refl c.in_ok-hole.ensures inner c.in_ok-end.ensures refl c.overwrite.ensures.fits written)
+    c.in_ok-here.ensures refl) c.overwrite.ensures.written
 
-pub emitter::Emitter::scan-returns : goal.emitter::Emitter::scan-returns
-emitter::Emitter::scan-returns t c =
-    seq c.in_ok-take.ensures (seq2 _ _ c.in_ok-one_then.ensures (seq2 _ _ (last_is _ (ap instr.SetP c.in_ok-procedure.ensures) c.in_ok-one_then-2.ensures) (seq c.in_ok-zeros.ensures c.in_ok-turns.ensures)))
+pub scans::scan-returns : goal.scans::scan-returns
+scans::scan-returns t c =
+    on_ok c.turns.result (λ puts. seq c.in_ok-take.ensures (seq2 _ _ c.in_ok-one_then.ensures (seq2 _ _ (last_is _ (ap instr.SetP c.in_ok-procedure.ensures) c.in_ok-one_then-2.ensures) (seq c.in_ok-zeros.ensures puts)))) c.turns.ensures
 
-pub emitter::Emitter::case-returns : goal.emitter::Emitter::case-returns
+pub cases::case-returns : goal.cases::case-returns
 unfolding one ◌▷◌ clause
-emitter::Emitter::case-returns t c =
+cases::case-returns t c =
     let ty = ty_view c.args.ty.now in
     let last = seq (one_is c.by_type.ensures c.in_ok-put.ensures) c.in_ok-tree-2.ensures in
+    on_ok c.fill.result (λ filled.
     let arms = halfway instr.Jump (λ end. end + 1 + size (node_of c.args.d.now)) c.in_ok-ends.ensures (record { puts = last; is = refl })
-    (omega (arith, c.in_ok-end.ensures, last.long, by_type_width ty instr.DropM instr.DropP refl)) refl c.fill.ensures.fits (filled_with (spelling (instr.Jump c.in_ok-end.end)) (state_of c.tree-2.new.self) c.in_ok-fill.ensures.written c.as_slice.ensures.value) in
-    seq c.in_ok-tree.ensures (seq arms.first arms.second)
+    (omega (arith, c.in_ok-end.ensures, last.long, by_type_width ty instr.DropM instr.DropP refl)) refl c.fill.ensures.fits (filled_with (spelling (instr.Jump c.in_ok-end.end)) (state_of c.tree-2.new.emitter) filled c.as_slice.ensures.value) in
+    seq c.in_ok-tree.ensures (seq arms.first arms.second)) c.fill.ensures.written
 
-pub emitter::Emitter::arms-loop-arm-init : goal.emitter::Emitter::arms-loop-arm-init
-emitter::Emitter::arms-loop-arm-init t c = left_open_all c.new-ends.ensures.items
+pub cases::put_arms-loop-arm-init : goal.cases::put_arms-loop-arm-init
+cases::put_arms-loop-arm-init t c = left_open_all c.new-ends.ensures.items
 
-pub emitter::Emitter::arms-arm-requires : goal.emitter::Emitter::arms-arm-requires
-emitter::Emitter::arms-arm-requires t c =
+pub cases::put_arms-put_arm-requires : goal.cases::put_arms-put_arm-requires
+cases::put_arms-put_arm-requires t c =
     let light = weight_arm_at c.args.arms.now c.loop-arm.arm-index c.arm-item.result _ c.arm-item.is c.loop-arm-test.true in
     let labels = ap (λ ts. weight_all (nodes_in ts)) c.as_slice.ensures in
-    search (rules, light, labels)
+    (omega (arith, c.decreases, light, labels), tt)
 
-pub emitter::Emitter::arms-loop-arm-preserved : goal.emitter::Emitter::arms-loop-arm-preserved
+pub cases::put_arms-loop-arm-preserved : goal.cases::put_arms-loop-arm-preserved
 unfolding arms_of
-emitter::Emitter::arms-loop-arm-preserved t c =
+cases::put_arms-loop-arm-preserved t c =
     let arms = c.args.arms.now in
     let i = c.loop-arm.arm-index in
     let ty = ty_view c.args.ty.now in
     let arm = out-Arm c.arm-item.result in
     let cut = arms_from arms i c.arm-item.result _ c.arm-item.is c.loop-arm-test.true in
-    left_open_more (subst (λ ns. LeftOpen instr.Jump (arms_of ty ns) (arms_of ty (arms_in arms)) c.loop-arm.ends.items (state_of c.args.self.now) (state_of c.loop-arm.self)) cut c.loop-arm.invariant)
+    left_open_more (subst (λ ns. LeftOpen instr.Jump (arms_of ty ns) (arms_of ty (arms_in arms)) c.loop-arm.ends.items (state_of c.args.emitter.now) (state_of c.loop-arm.emitter)) cut c.loop-arm.invariant)
     (λ t. more_arms_is ty (nodes_in (items_of arm.labels)) (node_of arm.a) (arms_in (drop (i + 1) arms)) t) (λ t. refl)
-    (subst (λ ls. Opens instr.Jump (arm_of ty (nodes_in ls) (node_of arm.a)) (c.in_ok-end.end ∷ []) (state_of c.loop-arm.self) (state_of c.arm.new.self)) c.as_slice.ensures c.in_ok-end.ensures) c.in_ok-push.ensures.items
+    (subst (λ ls. Opens instr.Jump (arm_of ty (nodes_in ls) (node_of arm.a)) (c.in_ok-end.end ∷ []) (state_of c.loop-arm.emitter) (state_of c.put_arm.new.emitter)) c.as_slice.ensures c.in_ok-end.ensures) c.in_ok-push.ensures.items
 
-pub emitter::Emitter::arms-returns : goal.emitter::Emitter::arms-returns
+pub cases::put_arms-returns : goal.cases::put_arms-returns
 unfolding arms_of
-emitter::Emitter::arms-returns t c =
+cases::put_arms-returns t c =
     let arms = c.args.arms.now in
     let ty = ty_view c.args.ty.now in
     let end = drop_all c.loop-arm.arm-index arms c.loop-arm-test.false in
-    left_open_none (subst (λ ns. LeftOpen instr.Jump (arms_of ty (arms_in ns)) (arms_of ty (arms_in arms)) c.loop-arm.ends.items (state_of c.args.self.now) (state_of c.loop-arm.self)) end c.loop-arm.invariant)
+    left_open_none (subst (λ ns. LeftOpen instr.Jump (arms_of ty (arms_in ns)) (arms_of ty (arms_in arms)) c.loop-arm.ends.items (state_of c.args.emitter.now) (state_of c.loop-arm.emitter)) end c.loop-arm.invariant)
     (no_arms_is ty) (λ t. refl)
 
-pub emitter::Emitter::arm-returns : goal.emitter::Emitter::arm-returns
+pub cases::put_arm-returns : goal.cases::put_arm-returns
 unfolding one
-emitter::Emitter::arm-returns t c =
+cases::put_arm-returns t c =
     let past = c.in_ok-past.ensures in
     let opens = followed (opened_at instr.Jump refl past.second past.is (λ n. refl)) (seq (one_is c.by_type.ensures c.in_ok-put.ensures) c.in_ok-tree.ensures) in
     let rest = halfway instr.Jump (λ end. end + 5) opens c.in_ok-out.ensures (c.in_ok-next.ensures ∙ c.in_ok-out.ensures.puts.long) refl c.overwrite.ensures.fits c.in_ok-overwrite.ensures.written in
     behind past.first (behind rest.first (opened_at instr.Jump refl rest.second rest.is (λ n. refl)))
 
-pub emitter::Emitter::arm_labels-returns : goal.emitter::Emitter::arm_labels-returns
+pub cases::arm_labels-returns : goal.cases::arm_labels-returns
 unfolding one
-emitter::Emitter::arm_labels-returns t c =
+cases::arm_labels-returns t c =
     halfway instr.JumpTrue (λ end. end + 5) c.in_ok-holes.ensures c.in_ok-past.ensures (c.in_ok-chosen.ensures ∙ c.in_ok-past.ensures.puts.long) refl c.fill.ensures.fits
     (filled_with (spelling (instr.JumpTrue c.in_ok-chosen.chosen)) (state_of c.hole.new.self) c.in_ok-fill.ensures.written c.as_slice.ensures.value)
 
-pub emitter::Emitter::labels-loop-label-init : goal.emitter::Emitter::labels-loop-label-init
-emitter::Emitter::labels-loop-label-init t c = left_open_all c.new-holes.ensures.items
+pub cases::put_labels-loop-label-init : goal.cases::put_labels-loop-label-init
+cases::put_labels-loop-label-init t c = left_open_all c.new-holes.ensures.items
 
-pub emitter::Emitter::labels-label-requires : goal.emitter::Emitter::labels-label-requires
-emitter::Emitter::labels-label-requires t c =
+pub cases::put_labels-put_label-requires : goal.cases::put_labels-put_label-requires
+cases::put_labels-put_label-requires t c =
     let light = weight_at c.args.labels.now c.loop-label.label-index c.label-item.result _ c.label-item.is c.loop-label-test.true in
-    search (rules, light)
+    (omega (arith, c.decreases, light), tt)
 
-pub emitter::Emitter::labels-loop-label-preserved : goal.emitter::Emitter::labels-loop-label-preserved
+pub cases::put_labels-loop-label-preserved : goal.cases::put_labels-loop-label-preserved
 unfolding labels_of
-emitter::Emitter::labels-loop-label-preserved t c =
+cases::put_labels-loop-label-preserved t c =
     let labels = c.args.labels.now in
     let i = c.loop-label.label-index in
     let ty = ty_view c.args.ty.now in
     let cut = nodes_from labels i c.label-item.result _ c.label-item.is c.loop-label-test.true in
-    left_open_more (subst (λ ns. LeftOpen instr.JumpTrue (labels_of ty ns) (labels_of ty (nodes_in labels)) c.loop-label.holes.items (state_of c.args.self.now) (state_of c.loop-label.self)) cut c.loop-label.invariant)
+    left_open_more (subst (λ ns. LeftOpen instr.JumpTrue (labels_of ty ns) (labels_of ty (nodes_in labels)) c.loop-label.holes.items (state_of c.args.emitter.now) (state_of c.loop-label.emitter)) cut c.loop-label.invariant)
     (λ t. more_labels ty (node_of c.label-item.result) (nodes_in (drop (i + 1) labels)) t) (λ t. refl) c.in_ok-hole.ensures c.in_ok-push.ensures.items
 
-pub emitter::Emitter::labels-returns : goal.emitter::Emitter::labels-returns
+pub cases::put_labels-returns : goal.cases::put_labels-returns
 unfolding labels_of
-emitter::Emitter::labels-returns t c =
+cases::put_labels-returns t c =
     let labels = c.args.labels.now in
     let ty = ty_view c.args.ty.now in
     let end = drop_all c.loop-label.label-index labels c.loop-label-test.false in
-    left_open_none (subst (λ ts. LeftOpen instr.JumpTrue (labels_of ty (nodes_in ts)) (labels_of ty (nodes_in labels)) c.loop-label.holes.items (state_of c.args.self.now) (state_of c.loop-label.self)) end c.loop-label.invariant)
+    left_open_none (subst (λ ts. LeftOpen instr.JumpTrue (labels_of ty (nodes_in ts)) (labels_of ty (nodes_in labels)) c.loop-label.holes.items (state_of c.args.emitter.now) (state_of c.loop-label.emitter)) end c.loop-label.invariant)
     (no_labels ty) (λ t. refl)
 
-pub emitter::Emitter::label-returns : goal.emitter::Emitter::label-returns
-emitter::Emitter::label-returns t c = behind (one_is c.by_type.ensures c.in_ok-put.ensures) (behind c.in_ok-tree.ensures (behind (one_is c.compare.ensures c.in_ok-put-2.ensures) (opened_at instr.JumpTrue refl c.in_ok-hole.ensures.puts c.in_ok-hole.ensures.is (λ n. refl))))
+pub cases::put_label-returns : goal.cases::put_label-returns
+cases::put_label-returns t c =
+    if_ok c.hole.result (λ at hole. behind (one_is c.by_type.ensures c.in_ok-put.ensures) (behind c.in_ok-tree.ensures (behind (one_is c.compare.ensures c.in_ok-put-2.ensures)
+    (opened_at instr.JumpTrue refl hole.puts hole.is (λ n. refl))))) c.hole.ensures
 
-pub emitter::Emitter::behind-call-requires : goal.emitter::Emitter::behind-call-requires
-emitter::Emitter::behind-call-requires t c =
+pub tree::behind-call-requires : goal.tree::behind-call-requires
+tree::behind-call-requires t c =
     let whole = ap weight (call_is _ c.in-Call.f c.in-Call.args c.in-Call.line _ (sym c.deref.ensures ∙ c.in-Call.is) c.as_slice-in-Call.ensures) in
-    search (rules, whole, call_weight (node_of c.in-Call.f) (nodes_in c.as_slice-in-Call.result.now) c.in-Call.line)
+    (omega (arith, c.decreases, whole, call_weight (node_of c.in-Call.f) (nodes_in c.as_slice-in-Call.result.now) c.in-Call.line), tt)
 
-pub emitter::Emitter::behind-returns-in-Call : goal.emitter::Emitter::behind-returns-in-Call
-emitter::Emitter::behind-returns-in-Call t c =
+pub tree::behind-returns-in-Call : goal.tree::behind-returns-in-Call
+tree::behind-returns-in-Call t c =
     let is = call_is _ c.in-Call.f c.in-Call.args c.in-Call.line _ (sym c.deref.ensures ∙ c.in-Call.is) c.as_slice-in-Call.ensures in
-    subst (λ n. OnOk c.call.result (Puts (behind_of (type_in c.args.known) n) (state_of c.args.self.now) (state_of c.call.new.self))) (sym is) c.call.ensures
+    subst (λ n. OnOk c.call.result (Puts (behind_of (type_in c.args.known) n) (state_of c.args.emitter.now) (state_of c.call.new.emitter))) (sym is) c.call.ensures
 
-pub emitter::Emitter::form-block-requires : goal.emitter::Emitter::form-block-requires
-emitter::Emitter::form-block-requires t c =
+pub tree::form-block-requires : goal.tree::form-block-requires
+tree::form-block-requires t c =
     let whole = ap weight (block_is _ c.in-Block.scope c.in-Block.items _ (sym c.deref.ensures ∙ c.in-Block.is) c.as_slice-in-Block.ensures) in
-    search (rules, whole, block_weight (option_map (λ bytes. bytes.value) c.in-Block.scope) (nodes_in c.as_slice-in-Block.result.now))
+    (omega (arith, c.decreases, whole, block_weight (option_map (λ bytes. bytes.value) c.in-Block.scope) (nodes_in c.as_slice-in-Block.result.now)), tt)
 
-pub emitter::Emitter::form-returns-in-Block : goal.emitter::Emitter::form-returns-in-Block
-emitter::Emitter::form-returns-in-Block t c =
+pub tree::form-returns-in-Block : goal.tree::form-returns-in-Block
+tree::form-returns-in-Block t c =
     let is = block_is _ c.in-Block.scope c.in-Block.items _ (sym c.deref.ensures ∙ c.in-Block.is) c.as_slice-in-Block.ensures in
-    subst (λ n. OnOk c.block.result (Puts (made n) (state_of c.args.self.now) (state_of c.block.new.self))) (sym is) c.block.ensures
+    subst (λ n. OnOk c.block.result (Puts (made n) (state_of c.args.emitter.now) (state_of c.block.new.emitter))) (sym is) c.block.ensures
 
-pub emitter::Emitter::form-case-requires : goal.emitter::Emitter::form-case-requires
-emitter::Emitter::form-case-requires t c =
+pub tree::form-case-requires : goal.tree::form-case-requires
+tree::form-case-requires t c =
     let whole = ap weight (case_is _ c.in-Case.e c.in-Case.arms c.in-Case.d c.in-Case.ty _ (sym c.deref.ensures ∙ c.in-Case.is) c.as_slice-in-Case.ensures) in
-    search (rules, whole, case_weight (node_of c.in-Case.e) (arms_in c.as_slice-in-Case.result.now) (node_of c.in-Case.d) (ty_view c.in-Case.ty))
+    (omega (arith, c.decreases, whole, case_weight (node_of c.in-Case.e) (arms_in c.as_slice-in-Case.result.now) (node_of c.in-Case.d) (ty_view c.in-Case.ty)), tt)
 
-pub emitter::Emitter::form-returns-in-Case : goal.emitter::Emitter::form-returns-in-Case
-emitter::Emitter::form-returns-in-Case t c =
+pub tree::form-returns-in-Case : goal.tree::form-returns-in-Case
+tree::form-returns-in-Case t c =
     let is = case_is _ c.in-Case.e c.in-Case.arms c.in-Case.d c.in-Case.ty _ (sym c.deref.ensures ∙ c.in-Case.is) c.as_slice-in-Case.ensures in
-    subst (λ n. OnOk c.case.result (Puts (made n) (state_of c.args.self.now) (state_of c.case.new.self))) (sym is) c.case.ensures
+    subst (λ n. OnOk c.case.result (Puts (made n) (state_of c.args.emitter.now) (state_of c.case.new.emitter))) (sym is) c.case.ensures
 
-pub emitter::Emitter::form-make-requires : goal.emitter::Emitter::form-make-requires
-emitter::Emitter::form-make-requires t c =
+pub tree::form-make-requires : goal.tree::form-make-requires
+tree::form-make-requires t c =
     let whole = ap weight (make_is _ c.in-Make.class c.in-Make.args _ (sym c.deref.ensures ∙ c.in-Make.is) c.as_slice-in-Make.ensures) in
-    search (rules, whole, make_weight (rc_value c.in-Make.class) (nodes_in c.as_slice-in-Make.result.now))
+    (omega (arith, c.decreases, whole, make_weight (rc_value c.in-Make.class) (nodes_in c.as_slice-in-Make.result.now)), tt)
 
-pub emitter::Emitter::form-returns-in-Make : goal.emitter::Emitter::form-returns-in-Make
-emitter::Emitter::form-returns-in-Make t c =
+pub tree::form-returns-in-Make : goal.tree::form-returns-in-Make
+tree::form-returns-in-Make t c =
     let is = make_is _ c.in-Make.class c.in-Make.args _ (sym c.deref.ensures ∙ c.in-Make.is) c.as_slice-in-Make.ensures in
     let class_is : c.as_slice-in-Make-2.result.now ≡ rc_value c.in-Make.class = search rules in
-    subst (λ n. OnOk c.make.result (Puts (made n) (state_of c.args.self.now) (state_of c.make.new.self))) (sym is)
-    (subst (λ x. OnOk c.make.result (Puts (clauses (nodes_in c.as_slice-in-Make.result.now) ▷ naming instr.Make (text x)) (state_of c.args.self.now) (state_of c.make.new.self))) class_is c.make.ensures)
+    subst (λ n. OnOk c.make.result (Puts (made n) (state_of c.args.emitter.now) (state_of c.make.new.emitter))) (sym is)
+    (subst (λ x. OnOk c.make.result (Puts (clauses (nodes_in c.as_slice-in-Make.result.now) ▷ naming instr.Make (text x)) (state_of c.args.emitter.now) (state_of c.make.new.emitter))) class_is c.make.ensures)
 
-pub emitter::Emitter::form-vector_of-requires : goal.emitter::Emitter::form-vector_of-requires
-emitter::Emitter::form-vector_of-requires t c =
+pub tree::form-vector_of-requires : goal.tree::form-vector_of-requires
+tree::form-vector_of-requires t c =
     let whole = ap weight (elems_is _ c.in-Elems.l c.in-Elems.items c.in-Elems.ty c.in-Elems.line _ (sym c.deref.ensures ∙ c.in-Elems.is) c.as_slice-in-Elems.ensures) in
-    search (rules, whole, elems_weight (node_of c.in-Elems.l) (nodes_in c.as_slice-in-Elems.result.now) (ty_view c.in-Elems.ty) c.in-Elems.line)
+    (omega (arith, c.decreases, whole, elems_weight (node_of c.in-Elems.l) (nodes_in c.as_slice-in-Elems.result.now) (ty_view c.in-Elems.ty) c.in-Elems.line), tt)
 
-pub emitter::Emitter::form-returns-in-Elems : goal.emitter::Emitter::form-returns-in-Elems
-emitter::Emitter::form-returns-in-Elems t c =
+pub tree::form-returns-in-Elems : goal.tree::form-returns-in-Elems
+tree::form-returns-in-Elems t c =
     let is = elems_is _ c.in-Elems.l c.in-Elems.items c.in-Elems.ty c.in-Elems.line _ (sym c.deref.ensures ∙ c.in-Elems.is) c.as_slice-in-Elems.ensures in
-    subst (λ n. OnOk c.vector_of.result (Puts (made n) (state_of c.args.self.now) (state_of c.vector_of.new.self))) (sym is) c.vector_of.ensures
+    subst (λ n. OnOk c.vector_of.result (Puts (made n) (state_of c.args.emitter.now) (state_of c.vector_of.new.emitter))) (sym is) c.vector_of.ensures
 
-pub emitter::Emitter::form-all_then-requires : goal.emitter::Emitter::form-all_then-requires
-emitter::Emitter::form-all_then-requires t c =
+pub tree::form-all_then-requires : goal.tree::form-all_then-requires
+tree::form-all_then-requires t c =
     let whole = ap weight (lib_is _ c.in-Lib.code c.in-Lib.args c.in-Lib.line _ (sym c.deref.ensures ∙ c.in-Lib.is) c.as_slice-in-Lib.ensures) in
-    search (rules, whole, lib_weight c.in-Lib.code (nodes_in c.as_slice-in-Lib.result.now) c.in-Lib.line)
+    (omega (arith, c.decreases, whole, lib_weight c.in-Lib.code (nodes_in c.as_slice-in-Lib.result.now) c.in-Lib.line), tt)
 
-pub emitter::Emitter::form-returns-in-Lib : goal.emitter::Emitter::form-returns-in-Lib
-emitter::Emitter::form-returns-in-Lib t c =
+pub tree::form-returns-in-Lib : goal.tree::form-returns-in-Lib
+tree::form-returns-in-Lib t c =
     let is = lib_is _ c.in-Lib.code c.in-Lib.args c.in-Lib.line _ (sym c.deref.ensures ∙ c.in-Lib.is) c.as_slice-in-Lib.ensures in
-    subst (λ n. OnOk c.all_then.result (Puts (made n) (state_of c.args.self.now) (state_of c.all_then.new.self))) (sym is) c.all_then.ensures
+    subst (λ n. OnOk c.all_then.result (Puts (made n) (state_of c.args.emitter.now) (state_of c.all_then.new.emitter))) (sym is) c.all_then.ensures
 
-pub emitter::Emitter::tree-form-requires : goal.emitter::Emitter::tree-form-requires
-emitter::Emitter::tree-form-requires t c =
+pub tree::tree-form-requires : goal.tree::tree-form-requires
+tree::tree-form-requires t c =
     let tree = node_of c.args.tree.now in
     let inner = node_of c.in_ok-innermost.innermost.now in
     let chain = c.in_ok-innermost.ensures.chain tree (subst (λ ls. Chained tree ls tree) (sym c.new-links.ensures.items) refl) in
     let light = chained_weight c.gather.new.links.items inner tree chain in
-    search (rules, light)
+    (omega (arith, c.decreases, light), tt)
 
-pub emitter::Emitter::tree-loop-link-init : goal.emitter::Emitter::tree-loop-link-init
-emitter::Emitter::tree-loop-link-init t c =
+pub tree::tree-loop-link-init : goal.tree::tree-loop-link-init
+tree::tree-loop-link-init t c =
     let tree = node_of c.args.tree.now in
     let inner = node_of c.in_ok-innermost.innermost.now in
     let chain = c.in_ok-innermost.ensures.chain tree (subst (λ ls. Chained tree ls tree) (sym c.new-links.ensures.items) refl) in
     record { inner = inner; chained = chain; knows = c.in_ok-known.ensures; puts = puts_same (made_is inner c.in_ok-innermost.ensures.end) c.in_ok-form.ensures }
 
-pub emitter::Emitter::tree-behind-requires : goal.emitter::Emitter::tree-behind-requires
-emitter::Emitter::tree-behind-requires t c =
+pub tree::tree-behind-requires : goal.tree::tree-behind-requires
+tree::tree-behind-requires t c =
     let tree = node_of c.args.tree.now in
     let here = c.loop-link.invariant in
     let links = c.pop.new.self.items in
     let last = chained_last links c.in-Some.link here.inner tree (subst (λ ls. Chained tree ls here.inner) c.in-Some.ensures.items here.chained) in
     let light = chained_weight links (node_of c.in-Some.link.now) tree last.0 in
-    search (rules, light)
+    (omega (arith, c.decreases, light), tt)
 
-pub emitter::Emitter::tree-loop-link-smaller : goal.emitter::Emitter::tree-loop-link-smaller
-emitter::Emitter::tree-loop-link-smaller t c =
+pub tree::tree-loop-link-smaller : goal.tree::tree-loop-link-smaller
+tree::tree-loop-link-smaller t c =
     let e = ap (λ (ls : List (Bor Tree)). length ls) c.in-Some.ensures.items in
     omega (arith, e, length-append c.pop.new.self.items (c.in-Some.link ∷ []))
 
-pub emitter::Emitter::tree-loop-link-preserved : goal.emitter::Emitter::tree-loop-link-preserved
-emitter::Emitter::tree-loop-link-preserved t c =
+pub tree::tree-loop-link-preserved : goal.tree::tree-loop-link-preserved
+tree::tree-loop-link-preserved t c =
     let tree = node_of c.args.tree.now in
     let here = c.loop-link.invariant in
     let links = c.pop.new.self.items in
@@ -315,27 +321,315 @@ emitter::Emitter::tree-loop-link-preserved t c =
       puts = puts_same (linked ty link here.inner last.1 here.knows) (seq here.puts c.in_ok-behind.ensures);
     }
 
-pub emitter::Emitter::tree-returns : goal.emitter::Emitter::tree-returns
-emitter::Emitter::tree-returns t c =
+pub tree::tree-returns : goal.tree::tree-returns
+tree::tree-returns t c =
     let here = c.loop-link.invariant in
     let tree = node_of c.args.tree.now in
     let none : length c.loop-link.links.items ≡ 0 = search (rules, c.in_default.ensures.cases.0) in
     let end : Chained tree [] here.inner = subst (λ ls. Chained tree ls here.inner) (no_items c.loop-link.links.items none) here.chained in
-    subst (λ n. Puts (clause n) (state_of c.args.self.now) (state_of c.loop-link.self)) (sym end) here.puts
+    subst (λ n. Puts (clause n) (state_of c.args.emitter.now) (state_of c.loop-link.emitter)) (sym end) here.puts
 
-pub emitter::Emitter::procedure-returns : goal.emitter::Emitter::procedure-returns
-emitter::Emitter::procedure-returns t c = closing_puts _ c.in_ok-unit.ensures c.in_ok-name_unit.ensures
+pub literals::procedure-returns : goal.literals::procedure-returns
+literals::procedure-returns t c = on_ok c.name_unit.result (λ puts. closing_puts _ c.in_ok-unit.ensures puts) c.name_unit.ensures
 
 pub literals::unit-returns : goal.literals::unit-returns
-unfolding constant_view
 literals::unit-returns t c =
     let body = c.args.body.now in
-    let params = c.as_slice-params.ensures in
-    body_made (params_of (items_of body.params)) (ty_view body.gives) (node_of body.tree) body.scope body.line
-    (c.in_ok-of.ensures ∙ ap (λ ps. type_constant (params_of ps) (ty_view body.gives)) params)
-    (subst (λ s. Puts (constant (constant_view (Text c.in_ok-of.of))) s (state_of c.add.new.self)) c.new-emitter.ensures c.in_ok-add.ensures)
-    (entering_is c.text_in.ensures c.in_ok-enter.ensures)
-    (subst (λ ps. Puts (keeping (params_of ps) 0 0) (state_of c.enter.new.self) (state_of c.keep_all.new.self)) params c.in_ok-counts.ensures.put)
-    c.in_ok-tree.ensures (ap instr.Return c.kind_of.ensures) c.in_ok-put.ensures c.in_ok-frame.ensures
-    (c.in_ok-counts.ensures.nums ∙ ap (λ ps. taken_by_params true (params_of ps)) params)
-    (c.in_ok-counts.ensures.refs ∙ ap (λ ps. taken_by_params false (params_of ps)) params) c.into_unit.ensures
+    if_ok c.end.result (λ made ends. body_made (params_of (items_of body.params)) (ty_view body.gives) (node_of body.tree) body.scope body.line c.in_ok-begun.ensures c.in_ok-tree.ensures ends) c.end.ensures
+
+-- a call of the cycle has less work before it
+
+pub cases::arm_labels-put_labels-requires : goal.cases::arm_labels-put_labels-requires
+cases::arm_labels-put_labels-requires t c = (omega (arith, c.decreases), tt)
+
+pub cases::case-tree-requires : goal.cases::case-tree-requires
+cases::case-tree-requires t c = (omega (arith, c.decreases), tt)
+
+pub cases::case-put_arms-requires : goal.cases::case-put_arms-requires
+cases::case-put_arms-requires t c = (omega (arith, c.decreases), tt)
+
+pub cases::case-tree-requires-2 : goal.cases::case-tree-requires-2
+cases::case-tree-requires-2 t c = (omega (arith, c.decreases), tt)
+
+pub cases::put_arm-arm_labels-requires : goal.cases::put_arm-arm_labels-requires
+cases::put_arm-arm_labels-requires t c = (omega (arith, c.decreases), tt)
+
+pub cases::put_arm-tree-requires : goal.cases::put_arm-tree-requires
+cases::put_arm-tree-requires t c = (omega (arith, c.decreases), tt)
+
+pub cases::put_label-tree-requires : goal.cases::put_label-tree-requires
+cases::put_label-tree-requires t c = (omega (arith, c.decreases), tt)
+
+pub jumps::block-all-requires : goal.jumps::block-all-requires
+jumps::block-all-requires t c = (omega (arith, c.decreases), tt)
+
+pub jumps::for_loop-one_then-requires : goal.jumps::for_loop-one_then-requires
+jumps::for_loop-one_then-requires t c = (omega (arith, c.decreases), tt)
+
+pub jumps::for_loop-one_then-requires-2 : goal.jumps::for_loop-one_then-requires-2
+jumps::for_loop-one_then-requires-2 t c = (omega (arith, c.decreases), tt)
+
+pub jumps::for_loop-one_then-requires-3 : goal.jumps::for_loop-one_then-requires-3
+jumps::for_loop-one_then-requires-3 t c = (omega (arith, c.decreases), tt)
+
+pub jumps::for_loop-for_turns-requires : goal.jumps::for_loop-for_turns-requires
+jumps::for_loop-for_turns-requires t c = (omega (arith, c.decreases), tt)
+
+pub jumps::for_turns-tree-requires : goal.jumps::for_turns-tree-requires
+jumps::for_turns-tree-requires t c = (omega (arith, c.decreases), tt)
+
+pub jumps::if_do-tree-requires : goal.jumps::if_do-tree-requires
+jumps::if_do-tree-requires t c = (omega (arith, c.decreases), tt)
+
+pub jumps::if_do-jump_over-requires : goal.jumps::if_do-jump_over-requires
+jumps::if_do-jump_over-requires t c = (omega (arith, c.decreases), tt)
+
+pub jumps::if_else-tree-requires : goal.jumps::if_else-tree-requires
+jumps::if_else-tree-requires t c = (omega (arith, c.decreases), tt)
+
+pub jumps::if_else-then_out-requires : goal.jumps::if_else-then_out-requires
+jumps::if_else-then_out-requires t c = (omega (arith, c.decreases), tt)
+
+pub jumps::if_else-tree-requires-2 : goal.jumps::if_else-tree-requires-2
+jumps::if_else-tree-requires-2 t c = (omega (arith, c.decreases), tt)
+
+pub jumps::jump_over-tree-requires : goal.jumps::jump_over-tree-requires
+jumps::jump_over-tree-requires t c = (omega (arith, c.decreases), tt)
+
+pub jumps::repeat_loop-jump_over-requires : goal.jumps::repeat_loop-jump_over-requires
+jumps::repeat_loop-jump_over-requires t c = (omega (arith, c.decreases), tt)
+
+pub jumps::repeat_loop-two_then-requires : goal.jumps::repeat_loop-two_then-requires
+jumps::repeat_loop-two_then-requires t c = (omega (arith, c.decreases), tt)
+
+pub jumps::then_out-tree-requires : goal.jumps::then_out-tree-requires
+jumps::then_out-tree-requires t c = (omega (arith, c.decreases), tt)
+
+pub jumps::while_loop-jump_over-requires : goal.jumps::while_loop-jump_over-requires
+jumps::while_loop-jump_over-requires t c = (omega (arith, c.decreases), tt)
+
+pub jumps::while_loop-one_then-requires : goal.jumps::while_loop-one_then-requires
+jumps::while_loop-one_then-requires t c = (omega (arith, c.decreases), tt)
+
+pub literals::procedure-unit-requires : goal.literals::procedure-unit-requires
+literals::procedure-unit-requires t c = (omega (arith, c.decreases), tt)
+
+pub literals::unit-tree-requires : goal.literals::unit-tree-requires
+literals::unit-tree-requires t c = (omega (arith, c.decreases), tt)
+
+pub operands::all_then-all-requires : goal.operands::all_then-all-requires
+operands::all_then-all-requires t c = (omega (arith, c.decreases), tt)
+
+pub operands::call-all-requires : goal.operands::call-all-requires
+operands::call-all-requires t c = (omega (arith, c.decreases), tt)
+
+pub operands::make-all-requires : goal.operands::make-all-requires
+operands::make-all-requires t c = (omega (arith, c.decreases), tt)
+
+pub operands::one_named-tree-requires : goal.operands::one_named-tree-requires
+operands::one_named-tree-requires t c = (omega (arith, c.decreases), tt)
+
+pub operands::one_then-tree-requires : goal.operands::one_then-tree-requires
+operands::one_then-tree-requires t c = (omega (arith, c.decreases), tt)
+
+pub operands::two_then-tree-requires : goal.operands::two_then-tree-requires
+operands::two_then-tree-requires t c = (omega (arith, c.decreases), tt)
+
+pub operands::two_then-one_then-requires : goal.operands::two_then-one_then-requires
+operands::two_then-one_then-requires t c = (omega (arith, c.decreases), tt)
+
+pub operands::vector_filled-tree-requires : goal.operands::vector_filled-tree-requires
+operands::vector_filled-tree-requires t c = (omega (arith, c.decreases), tt)
+
+pub operands::vector_filled-tree-requires-2 : goal.operands::vector_filled-tree-requires-2
+operands::vector_filled-tree-requires-2 t c = (omega (arith, c.decreases), tt)
+
+pub operands::vector_filled-tree-requires-3 : goal.operands::vector_filled-tree-requires-3
+operands::vector_filled-tree-requires-3 t c = (omega (arith, c.decreases), tt)
+
+pub operands::vector_of-tree-requires : goal.operands::vector_of-tree-requires
+operands::vector_of-tree-requires t c = (omega (arith, c.decreases), tt)
+
+pub operands::vector_of-all-requires : goal.operands::vector_of-all-requires
+operands::vector_of-all-requires t c = (omega (arith, c.decreases), tt)
+
+pub scans::scan-one_then-requires : goal.scans::scan-one_then-requires
+scans::scan-one_then-requires t c = (omega (arith, c.decreases), tt)
+
+pub scans::scan-one_then-requires-2 : goal.scans::scan-one_then-requires-2
+scans::scan-one_then-requires-2 t c = (omega (arith, c.decreases), tt)
+
+pub tree::behind-jump_over-requires : goal.tree::behind-jump_over-requires
+tree::behind-jump_over-requires t c = let light = ap (λ f. weight (node_of_form f)) (sym c.deref.ensures ∙ c.in-And.is) in (omega (arith, c.decreases, light), tt)
+
+pub tree::behind-jump_over-requires-in-Or : goal.tree::behind-jump_over-requires-in-Or
+tree::behind-jump_over-requires-in-Or t c = let light = ap (λ f. weight (node_of_form f)) (sym c.deref.ensures ∙ c.in-Or.is) in (omega (arith, c.decreases, light), tt)
+
+pub tree::behind-one_then-requires : goal.tree::behind-one_then-requires
+tree::behind-one_then-requires t c = let light = ap (λ f. weight (node_of_form f)) (sym c.deref.ensures ∙ c.in-Arith.is) in (omega (arith, c.decreases, light), tt)
+
+pub tree::behind-one_then-requires-in-Compare : goal.tree::behind-one_then-requires-in-Compare
+tree::behind-one_then-requires-in-Compare t c = let light = ap (λ f. weight (node_of_form f)) (sym c.deref.ensures ∙ c.in-Compare.is) in (omega (arith, c.decreases, light), tt)
+
+pub tree::behind-one_then-requires-in-Join : goal.tree::behind-one_then-requires-in-Join
+tree::behind-one_then-requires-in-Join t c = let light = ap (λ f. weight (node_of_form f)) (sym c.deref.ensures ∙ c.in-Join.is) in (omega (arith, c.decreases, light), tt)
+
+pub tree::behind-two_then-requires : goal.tree::behind-two_then-requires
+tree::behind-two_then-requires t c = let light = ap (λ f. weight (node_of_form f)) (sym c.deref.ensures ∙ c.in-Part.is) in (omega (arith, c.decreases, light), tt)
+
+pub tree::behind-one_named-requires : goal.tree::behind-one_named-requires
+tree::behind-one_named-requires t c = let light = ap (λ f. weight (node_of_form f)) (sym c.deref.ensures ∙ c.in-SetField.is) in (omega (arith, c.decreases, light), tt)
+
+pub tree::behind-one_then-requires-in-Element : goal.tree::behind-one_then-requires-in-Element
+tree::behind-one_then-requires-in-Element t c = let light = ap (λ f. weight (node_of_form f)) (sym c.deref.ensures ∙ c.in-Element.is) in (omega (arith, c.decreases, light), tt)
+
+pub tree::behind-two_then-requires-in-SetElement : goal.tree::behind-two_then-requires-in-SetElement
+tree::behind-two_then-requires-in-SetElement t c = let light = ap (λ f. weight (node_of_form f)) (sym c.deref.ensures ∙ c.in-SetElement.is) in (omega (arith, c.decreases, light), tt)
+
+pub tree::form-if_do-requires : goal.tree::form-if_do-requires
+tree::form-if_do-requires t c = let light = ap (λ f. weight (node_of_form f)) (sym c.deref.ensures ∙ c.in-IfDo.is) in (omega (arith, c.decreases, light), tt)
+
+pub tree::form-if_else-requires : goal.tree::form-if_else-requires
+tree::form-if_else-requires t c = let light = ap (λ f. weight (node_of_form f)) (sym c.deref.ensures ∙ c.in-IfElse.is) in (omega (arith, c.decreases, light), tt)
+
+pub tree::form-while_loop-requires : goal.tree::form-while_loop-requires
+tree::form-while_loop-requires t c = let light = ap (λ f. weight (node_of_form f)) (sym c.deref.ensures ∙ c.in-While.is) in (omega (arith, c.decreases, light), tt)
+
+pub tree::form-repeat_loop-requires : goal.tree::form-repeat_loop-requires
+tree::form-repeat_loop-requires t c = let light = ap (λ f. weight (node_of_form f)) (sym c.deref.ensures ∙ c.in-Repeat.is) in (omega (arith, c.decreases, light), tt)
+
+pub tree::form-vector_filled-requires : goal.tree::form-vector_filled-requires
+tree::form-vector_filled-requires t c = let light = ap (λ f. weight (node_of_form f)) (sym c.deref.ensures ∙ c.in-Fill.is) in (omega (arith, c.decreases, light), tt)
+
+pub tree::form-scan-requires : goal.tree::form-scan-requires
+tree::form-scan-requires t c = let light = ap (λ f. weight (node_of_form f)) (sym c.deref.ensures ∙ c.in-Scan.is) in (omega (arith, c.decreases, light), tt)
+
+pub tree::form-two_then-requires : goal.tree::form-two_then-requires
+tree::form-two_then-requires t c = let light = ap (λ f. weight (node_of_form f)) (sym c.deref.ensures ∙ c.in-Write.is) in (omega (arith, c.decreases, light), tt)
+
+-- the code of each form
+
+pub tree::behind-returns-in-SetName : goal.tree::behind-returns-in-SetName
+tree::behind-returns-in-SetName t c =
+    subst (λ f. OnOk c.put.result (Puts (behind_of (type_in c.args.known) (node_of_form f)) (state_of c.args.emitter.now) (state_of c.put.new.self))) (sym c.in-SetName.is ∙ c.deref.ensures)
+    (on_ok c.put.result (λ puts. one_is c.set.ensures puts) c.put.ensures)
+
+pub tree::behind-returns-in-Let : goal.tree::behind-returns-in-Let
+tree::behind-returns-in-Let t c =
+    subst (λ f. OnOk c.declare.result (Puts (behind_of (type_in c.args.known) (node_of_form f)) (state_of c.args.emitter.now) (state_of c.declare.new.self))) (sym c.in-Let.is ∙ c.deref.ensures)
+    c.declare.ensures
+
+pub tree::behind-returns-in-And : goal.tree::behind-returns-in-And
+tree::behind-returns-in-And t c =
+    subst (λ f. OnOk c.jump_over.result (Puts (behind_of (type_in c.args.known) (node_of_form f)) (state_of c.args.emitter.now) (state_of c.jump_over.new.emitter))) (sym c.in-And.is ∙ c.deref.ensures)
+    c.jump_over.ensures
+
+pub tree::behind-returns-in-Or : goal.tree::behind-returns-in-Or
+tree::behind-returns-in-Or t c =
+    subst (λ f. OnOk c.jump_over-in-Or.result (Puts (behind_of (type_in c.args.known) (node_of_form f)) (state_of c.args.emitter.now) (state_of c.jump_over-in-Or.new.emitter))) (sym c.in-Or.is ∙ c.deref.ensures)
+    c.jump_over-in-Or.ensures
+
+pub tree::behind-returns-in-Not : goal.tree::behind-returns-in-Not
+tree::behind-returns-in-Not t c =
+    subst (λ f. OnOk c.put-in-Not.result (Puts (behind_of (type_in c.args.known) (node_of_form f)) (state_of c.args.emitter.now) (state_of c.put-in-Not.new.self))) (sym c.in-Not.is ∙ c.deref.ensures)
+    c.put-in-Not.ensures
+
+pub tree::behind-returns-in-Neg : goal.tree::behind-returns-in-Neg
+tree::behind-returns-in-Neg t c =
+    subst (λ f. OnOk c.put-in-Neg.result (Puts (behind_of (type_in c.args.known) (node_of_form f)) (state_of c.args.emitter.now) (state_of c.put-in-Neg.new.self))) (sym c.in-Neg.is ∙ c.deref.ensures)
+    c.put-in-Neg.ensures
+
+pub tree::behind-returns-in-Plus : goal.tree::behind-returns-in-Plus
+tree::behind-returns-in-Plus t c =
+    subst (λ f. OnOk c.nothing.result (Puts (behind_of (type_in c.args.known) (node_of_form f)) (state_of c.args.emitter.now) (state_of c.nothing.new.self))) (sym c.in-Plus.is ∙ c.deref.ensures)
+    c.nothing.ensures
+
+pub tree::behind-returns-in-Arith : goal.tree::behind-returns-in-Arith
+tree::behind-returns-in-Arith t c =
+    subst (λ f. OnOk c.one_then.result (Puts (behind_of (type_in c.args.known) (node_of_form f)) (state_of c.args.emitter.now) (state_of c.one_then.new.emitter))) (sym c.in-Arith.is ∙ c.deref.ensures)
+    (on_ok c.one_then.result (λ puts. last_is _ c.arith.ensures puts) c.one_then.ensures)
+
+pub tree::behind-returns-in-Compare : goal.tree::behind-returns-in-Compare
+tree::behind-returns-in-Compare t c =
+    subst (λ f. OnOk c.one_then-in-Compare.result (Puts (behind_of (type_in c.args.known) (node_of_form f)) (state_of c.args.emitter.now) (state_of c.one_then-in-Compare.new.emitter))) (sym c.in-Compare.is ∙ c.deref.ensures)
+    (on_ok c.one_then-in-Compare.result (λ puts. last_is _ c.compare.ensures puts) c.one_then-in-Compare.ensures)
+
+pub tree::behind-returns-in-Join : goal.tree::behind-returns-in-Join
+tree::behind-returns-in-Join t c =
+    subst (λ f. OnOk c.one_then-in-Join.result (Puts (behind_of (type_in c.args.known) (node_of_form f)) (state_of c.args.emitter.now) (state_of c.one_then-in-Join.new.emitter))) (sym c.in-Join.is ∙ c.deref.ensures)
+    c.one_then-in-Join.ensures
+
+pub tree::behind-returns-in-Part : goal.tree::behind-returns-in-Part
+tree::behind-returns-in-Part t c =
+    subst (λ f. OnOk c.two_then.result (Puts (behind_of (type_in c.args.known) (node_of_form f)) (state_of c.args.emitter.now) (state_of c.two_then.new.emitter))) (sym c.in-Part.is ∙ c.deref.ensures)
+    c.two_then.ensures
+
+pub tree::behind-returns-in-Element : goal.tree::behind-returns-in-Element
+tree::behind-returns-in-Element t c =
+    subst (λ f. OnOk c.one_then-in-Element.result (Puts (behind_of (type_in c.args.known) (node_of_form f)) (state_of c.args.emitter.now) (state_of c.one_then-in-Element.new.emitter))) (sym c.in-Element.is ∙ c.deref.ensures)
+    (on_ok c.one_then-in-Element.result (λ puts. last_is _ c.by_type.ensures puts) c.one_then-in-Element.ensures)
+
+pub tree::behind-returns-in-SetElement : goal.tree::behind-returns-in-SetElement
+tree::behind-returns-in-SetElement t c =
+    subst (λ f. OnOk c.two_then-in-SetElement.result (Puts (behind_of (type_in c.args.known) (node_of_form f)) (state_of c.args.emitter.now) (state_of c.two_then-in-SetElement.new.emitter))) (sym c.in-SetElement.is ∙ c.deref.ensures)
+    (on_ok c.two_then-in-SetElement.result (λ puts. third_is _ _ c.by_type-in-SetElement.ensures puts) c.two_then-in-SetElement.ensures)
+
+pub tree::behind-returns-in-Bound : goal.tree::behind-returns-in-Bound
+tree::behind-returns-in-Bound t c =
+    subst (λ f. OnOk c.put-in-Bound.result (Puts (behind_of (type_in c.args.known) (node_of_form f)) (state_of c.args.emitter.now) (state_of c.put-in-Bound.new.self))) (sym c.in-Bound.is ∙ c.deref.ensures)
+    (on_ok c.put-in-Bound.result (λ puts. one_is c.bound.ensures puts) c.put-in-Bound.ensures)
+
+pub tree::form-returns-in-Flag : goal.tree::form-returns-in-Flag
+tree::form-returns-in-Flag t c =
+    subst (λ f. OnOk c.put-in-Flag.result (Puts (made (node_of_form f)) (state_of c.args.emitter.now) (state_of c.put-in-Flag.new.self))) (sym c.in-Flag.is ∙ c.deref.ensures)
+    (on_ok c.put-in-Flag.result (λ puts. one_is c.flag.ensures puts) c.put-in-Flag.ensures)
+
+pub tree::form-returns-in-Nil : goal.tree::form-returns-in-Nil
+tree::form-returns-in-Nil t c =
+    subst (λ f. OnOk c.put-in-Nil.result (Puts (made (node_of_form f)) (state_of c.args.emitter.now) (state_of c.put-in-Nil.new.self))) (sym c.in-Nil.is ∙ c.deref.ensures)
+    c.put-in-Nil.ensures
+
+pub tree::form-returns-in-Name : goal.tree::form-returns-in-Name
+tree::form-returns-in-Name t c =
+    subst (λ f. OnOk c.put-in-Name.result (Puts (made (node_of_form f)) (state_of c.args.emitter.now) (state_of c.put-in-Name.new.self))) (sym c.in-Name.is ∙ c.deref.ensures)
+    (on_ok c.put-in-Name.result (λ puts. one_is c.get.ensures puts) c.put-in-Name.ensures)
+
+pub tree::form-returns-in-IfDo : goal.tree::form-returns-in-IfDo
+tree::form-returns-in-IfDo t c =
+    subst (λ f. OnOk c.if_do.result (Puts (made (node_of_form f)) (state_of c.args.emitter.now) (state_of c.if_do.new.emitter))) (sym c.in-IfDo.is ∙ c.deref.ensures)
+    c.if_do.ensures
+
+pub tree::form-returns-in-IfElse : goal.tree::form-returns-in-IfElse
+tree::form-returns-in-IfElse t c =
+    subst (λ f. OnOk c.if_else.result (Puts (made (node_of_form f)) (state_of c.args.emitter.now) (state_of c.if_else.new.emitter))) (sym c.in-IfElse.is ∙ c.deref.ensures)
+    c.if_else.ensures
+
+pub tree::form-returns-in-While : goal.tree::form-returns-in-While
+tree::form-returns-in-While t c =
+    subst (λ f. OnOk c.while_loop.result (Puts (made (node_of_form f)) (state_of c.args.emitter.now) (state_of c.while_loop.new.emitter))) (sym c.in-While.is ∙ c.deref.ensures)
+    c.while_loop.ensures
+
+pub tree::form-returns-in-Repeat : goal.tree::form-returns-in-Repeat
+tree::form-returns-in-Repeat t c =
+    subst (λ f. OnOk c.repeat_loop.result (Puts (made (node_of_form f)) (state_of c.args.emitter.now) (state_of c.repeat_loop.new.emitter))) (sym c.in-Repeat.is ∙ c.deref.ensures)
+    c.repeat_loop.ensures
+
+pub tree::form-returns-in-Fill : goal.tree::form-returns-in-Fill
+tree::form-returns-in-Fill t c =
+    subst (λ f. OnOk c.vector_filled.result (Puts (made (node_of_form f)) (state_of c.args.emitter.now) (state_of c.vector_filled.new.emitter))) (sym c.in-Fill.is ∙ c.deref.ensures)
+    c.vector_filled.ensures
+
+pub tree::form-returns-in-Scan : goal.tree::form-returns-in-Scan
+tree::form-returns-in-Scan t c =
+    subst (λ f. OnOk c.scan.result (Puts (made (node_of_form f)) (state_of c.args.emitter.now) (state_of c.scan.new.emitter))) (sym c.in-Scan.is ∙ c.deref.ensures)
+    c.scan.ensures
+
+pub tree::form-returns-in-Write : goal.tree::form-returns-in-Write
+tree::form-returns-in-Write t c =
+    subst (λ f. OnOk c.two_then.result (Puts (made (node_of_form f)) (state_of c.args.emitter.now) (state_of c.two_then.new.emitter))) (sym c.in-Write.is ∙ c.deref.ensures)
+    (on_ok c.two_then.result (λ puts. third_is _ _ c.write.ensures puts) c.two_then.ensures)
+
+pub tree::form-returns-in-Abort : goal.tree::form-returns-in-Abort
+tree::form-returns-in-Abort t c =
+    subst (λ f. OnOk c.put-in-Abort.result (Puts (made (node_of_form f)) (state_of c.args.emitter.now) (state_of c.put-in-Abort.new.self))) (sym c.in-Abort.is ∙ c.deref.ensures)
+    c.put-in-Abort.ensures

@@ -1,32 +1,26 @@
 -- The code of each form, made of pieces.
-use Rattle.std.specs.Prelude.{ℕ, ◌+◌, pos, Bool, true, false, List, [], ◌∷◌, Option, Some, None, if◌then◌else◌}
-use Rattle.ps_base.specs.TyView.{TyView, ty_view}
+use Rattle.std.specs.Prelude.{ℕ, ◌+◌, Bool, true, false, List, [], ◌∷◌, Option, if◌then◌else◌}
+use Rattle.ps_base.specs.TyView.{TyView}
 use Rattle.ps_base.specs.TyView as types
-use Rattle.ps_base.specs.Instr.{width_of}
-use Rattle.ps_base.specs.CodeUnit.{ConstantView, text, literal}
+use Rattle.ps_base.specs.CodeUnit.{text, literal}
 use Rattle.ps_base.specs.declared.line.Line.{Line}
 use Rattle.ps_base.specs.declared.operator.Relation.TheVariants.{Equal}
-use Rattle.ps_base.specs.declared.instr.Instr.{Instr}
 use Rattle.ps_base.specs.declared.instr.Instr.TheVariants as instr
 use Rattle.ps_program.specs.declared.place.Place.{Place}
 use Rattle.ps_program.specs.Node.{Param, Node, Nodes, none, more, Arms, no_arms, more_arms, arm, BodyNode, body}
 use Rattle.ps_program.specs.Node as node
-use Rattle.ps_program.specs.NodeView.{body_of}
 use Rattle.ps_type_text.specs.Texts.{type_text}
-use Rattle.ps_typing.specs.Locals.{taken_on, taken_in}
-use Rattle.ps_gen.specs.Giving.{type_of, element_of}
-use Rattle.ps_gen.specs.Choices as choice
+use Rattle.ps_typing.specs.Locals.{taken_in}
+use Rattle.ps_emitter.specs.Giving.{element_of}
+use Rattle.ps_emitter.specs.Choices as choice
 use Rattle.ps_gen.specs.Emission.{size, size_all, size_arms, size_labels, size_entered, size_left, count, count_all, count_arms, count_scope, entered, left, items_in, emit, emit_all, emit_arms, emit_labels}
 use Rattle.ps_gen.specs.Units.{constants, constants_of_all, constants_of_arms, scope_constants, unit_of, kept_at, size_kept_at, keeps, size_keeps}
 use Rattle.ps_typing.specs.Placing.{is_number}
-use Rattle.ps_gen.specs.declared.forward.Forward.{Forward}
-use Rattle.ps_gen.specs.declared.forward.Forward.TheVariants as forward
-use Rattle.ps_gen.specs.declared.naming.Naming.{Naming}
-use Rattle.ps_gen.specs.declared.naming.Naming.TheVariants as name
-use Rattle.ps_gen.specs.declared.known.Known.{Known}
-use Rattle.ps_gen.specs.declared.known.Known.TheVariants as known
+use Rattle.ps_emitter.specs.declared.forward.Forward.{Forward}
+use Rattle.ps_emitter.specs.declared.forward.Forward.TheVariants as forward
 use Rattle.ps_gen.specs.inside.Literals.{literals_in, literals_in_all, literals_in_arms}
-use Rattle.ps_gen.specs.inside.Pieces.{Piece, ◌▷◌, empty, one, takes, to_behind}
+use Rattle.ps_emitter.specs.Pieces.{Piece, ◌▷◌, empty, one, takes, to_behind, from_begin}
+use Rattle.ps_emitter.specs.Instructions.{naming, taking, jump_of, turns, zeros}
 
 abbrev pub taken_all : Bool → Nodes → ℕ
 taken_all stack none = 0
@@ -50,65 +44,15 @@ labels_of ty ns t = record { shape = record { ends = λ at. at + size_labels ns;
 unfoldable pub arms_of : TyView → Arms → ℕ → Piece
 arms_of ty ns t = record { shape = record { ends = λ at. at + size_arms ns; names = λ k. k + count_arms ns; constants = constants_of_arms ns; nums = taken_arms true ns; refs = taken_arms false ns; literals = literals_in_arms ns }; instrs = emit_arms ty t ns }
 
--- an instruction that names a constant
-unfoldable pub naming : (ℕ → Instr) → ConstantView → Piece
-naming f c = record { shape = record { ends = λ at. at + width_of (f 0); names = λ k. k + 1; constants = c ∷ []; nums = 0; refs = 0; literals = [] }; instrs = λ at k. f k ∷ [] }
-
 unfoldable pub entering : Option (List ℕ) → Piece
 entering scope = record { shape = record { ends = λ at. at + size_entered scope; names = λ k. k + count_scope scope; constants = scope_constants scope; nums = 0; refs = 0; literals = [] }; instrs = λ at k. entered scope k }
 
 unfoldable pub leaving : Option (List ℕ) → Piece
 leaving scope = record { shape = record { ends = λ at. at + size_left scope; names = λ k. k; constants = []; nums = 0; refs = 0; literals = [] }; instrs = λ at k. left scope }
 
-abbrev pub taking : Place → TyView → Piece
-taking place ty = takes (taken_on true ty place) (taken_on false ty place)
-
--- what depends on the offset at which it begins
-unfoldable pub from_begin : (ℕ → Piece) → Piece
-from_begin p = record { shape = (p 0).shape; instrs = λ at k. (p at).instrs at k }
-
 -- over a clause, to its end
-abbrev pub jump_of : Forward → ℕ → Instr
-jump_of forward.And t = instr.And t
-jump_of forward.Or t = instr.Or t
-jump_of forward.JumpFalse t = instr.JumpFalse t
-jump_of forward.Jump t = instr.Jump t
-
 abbrev pub jumping : Forward → Piece → Piece
 jumping jump p = to_behind (λ end. end) (λ t. one (jump_of jump t) ▷ p)
-
-abbrev pub named_by : Naming → ℕ → Instr
-named_by name.Text c = instr.Text c
-named_by name.Scope c = instr.Scope c
-named_by name.Is c = instr.Is c
-named_by name.Make c = instr.Make c
-named_by name.Closure c = instr.Closure c
-named_by (name.Field index ty line) c = choice.by_type (ty_view ty.now) (instr.FieldM c index line) (instr.FieldP c index line)
-named_by (name.SetField index ty line) c = choice.by_type (ty_view ty.now) (instr.SetFieldM c index line) (instr.SetFieldP c index line)
-named_by (name.Fill ty line) c = choice.by_type (element_of (ty_view ty.now)) (instr.FillM c line) (instr.FillP c line)
-named_by (name.List ty count line) c = choice.by_type (element_of (ty_view ty.now)) (instr.ListM c count line) (instr.ListP c count line)
-
--- what stands first in a clause, where its code is that of a first clause and more
-abbrev pub first_part : Node → Option Node
-first_part (node.SetName place ty e) = Some e
-first_part (node.Let place ty e) = Some e
-first_part (node.And a b) = Some a
-first_part (node.Or a b) = Some a
-first_part (node.Not e) = Some e
-first_part (node.Neg e line) = Some e
-first_part (node.Plus e) = Some e
-first_part (node.Arith op a b line) = Some a
-first_part (node.Compare op ty a b) = Some a
-first_part (node.Is e class) = Some e
-first_part (node.Join a b line) = Some a
-first_part (node.Part a i n line) = Some a
-first_part (node.Field e class index ty line) = Some e
-first_part (node.SetField p class index ty e line) = Some p
-first_part (node.Element v i ty line) = Some v
-first_part (node.SetElement v i e ty line) = Some v
-first_part (node.Bound v upper) = Some v
-first_part (node.Call f args line) = Some f
-first_part _ = None
 
 -- the code behind the first part, which is of this type
 abbrev pub behind_of : TyView → Node → Piece
@@ -136,14 +80,6 @@ behind_of before _ = empty
 abbrev pub loop : ℕ → Option (List ℕ) → Place → Node → Line → Piece
 loop slot scope control s line =
     from_begin (λ begin. to_behind (λ end. end) (λ t. one (instr.ForStart slot t line) ▷ (entering scope ▷ (one (instr.GetM slot) ▷ (one (choice.set control types.Int) ▷ (clause s ▷ (leaving scope ▷ one (instr.ForNext slot (begin + 13)))))))))
-
--- the code of a scan behind its table and its procedure
-abbrev pub turns : Bool → ℕ → ℕ → Line → Piece
-turns string q s line =
-    from_begin (λ begin. to_behind (λ end. end) (λ t. one (choice.scan string q s t line) ▷ (one (instr.Call (if string then 2 else 1) line) ▷ one (instr.ScanMore s begin)))) ▷ one (instr.GetM s)
-
-abbrev pub zeros : ℕ → Piece
-zeros s = one (instr.Int (pos 0)) ▷ (one (instr.SetM s) ▷ (one (instr.Int (pos 0)) ▷ (one (instr.SetM (s + 1)) ▷ (one (instr.Int (pos 0)) ▷ one (instr.SetM (s + 2))))))
 
 -- a procedure of a body
 unfoldable pub closing : BodyNode → Piece
@@ -177,16 +113,6 @@ made (node.Scan string a f q s line) =
 made (node.Write e w wide ty line) = clause e ▷ (clause w ▷ one (choice.write ty wide line))
 made (node.Abort line) = one (instr.Abort line)
 made _ = empty
-
--- a type as far as a call of its values asks for it
-abbrev pub called : TyView → TyView
-called (types.Proc params gives) = types.Proc params gives
-called _ = types.Void
-
-abbrev pub type_in : Known → TyView
-type_in known.Nothing = types.Void
-type_in (known.Type ty) = ty_view ty.now
-type_in (known.Literal it) = type_of (node.Proc (body_of it.now))
 
 -- a label of an arm that is chosen at this offset, and an arm of a `case` that ends at this one
 abbrev pub label_of : TyView → Node → ℕ → Piece

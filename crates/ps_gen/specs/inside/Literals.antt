@@ -1,11 +1,13 @@
--- The bodies that a clause makes procedures of.
+-- The code of the bodies that a clause makes procedures of.
 use Rattle.std.specs.Prelude.{List, [], ◌∷◌, ◌++◌}
-use Rattle.ps_program.specs.Node.{Node, Nodes, none, more, Arms, no_arms, more_arms, arm, BodyNode, body}
+use Rattle.ps_base.specs.declared.instr.Instr.{Instr}
+use Rattle.ps_program.specs.Node.{Node, Nodes, none, more, Arms, no_arms, more_arms, arm, body}
 use Rattle.ps_program.specs.Node as node
+use Rattle.ps_gen.specs.Units.{body_instrs}
 
--- the bodies of the literals in a clause, each before those inside it
+-- the instructions of the literals in a clause, each before those inside it
 abbrev mutual
-  pub literals_in : Node → List BodyNode
+  pub literals_in : Node → List (List Instr)
   literals_in (node.SetName place ty e) = literals_in e
   literals_in (node.Let place ty e) = literals_in e
   literals_in (node.Block scope items) = literals_in_all items
@@ -33,17 +35,17 @@ abbrev mutual
   literals_in (node.Element v i ty line) = literals_in v ++ literals_in i
   literals_in (node.SetElement v i e ty line) = literals_in v ++ (literals_in i ++ literals_in e)
   literals_in (node.Bound v upper) = literals_in v
-  literals_in (node.Proc (body params gives tree scope line)) = body params gives tree scope line ∷ literals_in tree
+  literals_in (node.Proc (body params gives tree scope line)) = body_instrs params gives tree scope ∷ literals_in tree
   literals_in (node.Call f args line) = literals_in f ++ literals_in_all args
   literals_in (node.Lib code args line) = literals_in_all args
   literals_in (node.Scan string a f q s line) = literals_in a ++ literals_in f
   literals_in (node.Write e w wide ty line) = literals_in e ++ literals_in w
   literals_in _ = []
 
-  pub literals_in_all : Nodes → List BodyNode
+  pub literals_in_all : Nodes → List (List Instr)
   literals_in_all none = []
   literals_in_all (more first rest) = literals_in first ++ literals_in_all rest
 
-  pub literals_in_arms : Arms → List BodyNode
+  pub literals_in_arms : Arms → List (List Instr)
   literals_in_arms no_arms = []
   literals_in_arms (more_arms (arm labels a) rest) = literals_in_all labels ++ (literals_in a ++ literals_in_arms rest)
