@@ -2,10 +2,11 @@
 
 use crate::outcome::{put_run, put_told};
 use crate::settings::Settings;
-use crate::text_form::bytes_of;
-use crate::words::{line_at, parted};
 use ps_base::code_unit::CodeUnit;
+use row_words::parted;
 use std::alloc::{AllocError, Global};
+use table_rows::Buffer;
+use unit_rows::{bytes_of, line_at};
 
 // How many calls the lines of a field name, of which the first one says what the run comes to.
 fn count_of(field: &[u8]) -> u64 {
@@ -18,73 +19,60 @@ fn count_of(field: &[u8]) -> u64 {
     count
 }
 
-/// Puts what is wanted: where a call fails, an output failure, by no further call, and where none of them does, what the field says, by exactly these
+/// Tells what is wanted: where a call fails, an output failure, by no further call, and where none of them does, what the field says, by exactly these
 /// calls.
-pub fn put_calls_wanted(alloc: Global, field: &[u8], text: &mut Vec<u8>) -> Result<(), AllocError> {
+pub fn put_calls_wanted(out: &mut Buffer, field: &[u8]) {
     let count = count_of(field);
     for failing in 0..count {
-        text.extend_from_slice(b"Output")?;
-        put_told_until(alloc, field, failing, failing.saturating_add(1), text)?;
+        out.put("Output");
+        put_told_until(out, field, failing, failing.saturating_add(1));
     }
     // The call behind the last one would fail, and there is none.
-    text.extend_from_slice(line_at(field, 0))?;
-    put_told_until(alloc, field, count, count, text)
+    out.bytes(line_at(field, 0));
+    put_told_until(out, field, count, count);
 }
 
-// Puts so many calls, and what the calls of a field tell where the one of this number fails.
-fn put_told_until(
-    alloc: Global,
-    field: &[u8],
-    failing: u64,
-    calls: u64,
-    text: &mut Vec<u8>,
-) -> Result<(), AllocError> {
-    let mut told = Vec::new(alloc);
-    tell_until(alloc, field, failing, &mut told)?;
-    put_told(alloc, Some(calls), &told, text)
+// Tells so many calls, and what the calls of a field tell where the one of this number fails.
+fn put_told_until(out: &mut Buffer, field: &[u8], failing: u64, calls: u64) {
+    match told_until(out.alloc(), field, failing) {
+        Ok(told) => put_told(out, Some(calls), &told),
+        Err(_) => out.fail(),
+    }
 }
 
 // What the calls of a field tell where the one of this number fails: all that those before it tell, and of its own bytes the first half, rounded
 // down.
-fn tell_until(
-    alloc: Global,
-    field: &[u8],
-    failing: u64,
-    told: &mut Vec<u8>,
-) -> Result<(), AllocError> {
+fn told_until(alloc: Global, field: &[u8], failing: u64) -> Result<Vec<u8>, AllocError> {
+    let mut told = Vec::new(alloc);
     let (_, lines) = parted(field, b'\n');
     let mut number = 0u64;
     for line in lines.split(|byte| *byte == b'\n') {
         if number <= failing {
-            tell(alloc, line, number == failing, told)?;
+            tell(alloc, line, number == failing, &mut told)?;
         }
         number = number.saturating_add(1);
     }
-    Ok(())
+    Ok(told)
 }
 
-// The bytes of a line, or the first half of them.
+// Puts the bytes of a line, or the first half of them.
 fn tell(alloc: Global, line: &[u8], is_half: bool, told: &mut Vec<u8>) -> Result<(), AllocError> {
     let bytes = bytes_of(alloc, line)?;
-    let count = if is_half {
-        bytes.len() / 2
-    } else {
-        bytes.len()
-    };
-    let (front, _) = bytes.split_at(count);
-    told.extend_from_slice(front)
+    told.extend_from_slice(front_of(&bytes, is_half))
 }
 
-/// Puts what is found.
-pub fn put_calls_found(
-    alloc: Global,
-    settings: Settings,
-    unit: &CodeUnit,
-    field: &[u8],
-    text: &mut Vec<u8>,
-) -> Result<(), AllocError> {
-    for failing in 0..=count_of(field) {
-        put_run(alloc, settings, unit, b"", Some(failing), text)?;
+// All bytes, or the first half of them.
+fn front_of(bytes: &[u8], is_half: bool) -> &[u8] {
+    if !is_half {
+        return bytes;
     }
-    Ok(())
+    let (front, _) = bytes.split_at(bytes.len() / 2);
+    front
+}
+
+/// Tells what is found.
+pub fn put_calls_found(out: &mut Buffer, settings: Settings, unit: &CodeUnit, field: &[u8]) {
+    for failing in 0..=count_of(field) {
+        put_run(out, settings, unit, b"", Some(failing));
+    }
 }

@@ -5,7 +5,6 @@ ghost use Rattle.stack_machine.specs.Loaded.{IsRoomy};
 
 use crate::came::Came;
 use crate::settings::Settings;
-use crate::text_form::put_line;
 use memory_host::MemoryHost;
 use no_store::NoStore;
 use ps_base::code_unit::CodeUnit;
@@ -13,6 +12,8 @@ use stack_machine::Machine;
 use stack_machine::load::{load, machine};
 use stack_machine::run::run;
 use std::alloc::{AllocError, Global};
+use table_rows::Buffer;
+use unit_rows::put_line;
 use vault_output::Output;
 
 /// The bytes that the host of a test has room for.
@@ -26,44 +27,63 @@ fn host(alloc: Global, failing: Option<u64>) -> Result<MemoryHost, AllocError> {
     }
 }
 
-/// Puts what a unit comes to and tells, with this input, where this call of the host fails. Where one is to fail, it says as well how many calls the
+/// Tells what a unit comes to and tells, with this input, where this call of the host fails. Where one is to fail, it says as well how many calls the
 /// host had.
 pub fn put_run(
-    alloc: Global,
+    out: &mut Buffer,
     settings: Settings,
     unit: &CodeUnit,
     input: &[u8],
     failing: Option<u64>,
-    text: &mut Vec<u8>,
-) -> Result<(), AllocError> {
-    let host = host(alloc, failing)?;
-    let (came, host) = outcome_of(alloc, settings, unit, input, host)?;
-    let calls = failing.map(|_| host.clock());
-    came.put(alloc, text)?;
-    put_told(alloc, calls, host.told_bytes(), text)
+) {
+    match host(out.alloc(), failing) {
+        Ok(host) => {
+            let mut vault = NoStore::new(host);
+            put_came(out, settings, unit, input, &mut vault);
+            let host = vault.host();
+            put_told(out, failing.map(|_| host.clock()), host.told_bytes());
+        }
+        Err(_) => out.fail(),
+    }
 }
 
-// What a unit comes to, and the host that it told.
-fn outcome_of(
+// Tells what a unit comes to with this input, over a new machine.
+fn put_came(
+    out: &mut Buffer,
+    settings: Settings,
+    unit: &CodeUnit,
+    input: &[u8],
+    vault: &mut NoStore<MemoryHost>,
+)
+    requires alive { vault.old.alive ≡ true }
+{
+    match came_on(out.alloc(), settings, unit, input, vault) {
+        Ok(came) => came.put(out),
+        Err(_) => out.fail(),
+    }
+}
+
+// What a unit comes to with this input, over a new machine.
+fn came_on(
     alloc: Global,
     settings: Settings,
     unit: &CodeUnit,
     input: &[u8],
-    host: MemoryHost,
-) -> Result<(Came, MemoryHost), AllocError> {
+    vault: &mut NoStore<MemoryHost>,
+) -> Result<Came, AllocError>
+    requires alive { vault.old.alive ≡ true }
+{
     let input = Vec::from_slice(alloc, input)?;
     let mut output = Output::new(alloc)?;
     let mut machine = machine(alloc, settings.words.clamp(5, 1 << 25))?;
-    let mut vault = NoStore::new(host);
-    let came = came_of(
+    Ok(came_of(
         &mut machine,
-        &mut vault,
+        vault,
         &mut output,
         unit,
         settings.turns,
         input,
-    );
-    Ok((came, vault.into_host()))
+    ))
 }
 
 // What a unit comes to in so many turns, with this input.
@@ -85,26 +105,15 @@ fn came_of(
     Came::of_run(run(machine, vault, output))
 }
 
-/// Puts how many calls the host had, where that is asked, and what was told, where anything was: each in a line.
-pub fn put_told(
-    alloc: Global,
-    calls: Option<u64>,
-    told: &[u8],
-    text: &mut Vec<u8>,
-) -> Result<(), AllocError> {
+/// Tells how many calls the host had, where that is asked, and what was told, where anything was: each in a line.
+pub fn put_told(out: &mut Buffer, calls: Option<u64>, told: &[u8]) {
     if let Some(count) = calls {
-        put_calls(alloc, count, text)?;
+        out.put("\ncalls ");
+        out.number(count);
     }
     if !told.is_empty() {
-        text.push(b'\n')?;
-        put_line(alloc, told, text)?;
+        out.put("\n");
+        put_line(out, told);
     }
-    text.push(b'\n')?;
-    Ok(())
-}
-
-// Puts how many calls the host had.
-fn put_calls(alloc: Global, count: u64, text: &mut Vec<u8>) -> Result<(), AllocError> {
-    let line = format!(in alloc; "\ncalls {}", count)?;
-    text.extend_from_slice(line.as_bytes())
+    out.put("\n");
 }

@@ -1,4 +1,5 @@
-use crate::words::{number_of, parted};
+use ps_base::code_unit::Frame;
+use row_words::{number_of, parted};
 
 /// How a unit is run.
 #[derive(Clone, Copy)]
@@ -38,6 +39,16 @@ impl Settings {
             }
         }
         Some(settings)
+    }
+
+    /// The frame of the program.
+    pub fn frame(self) -> Frame {
+        Frame {
+            nums: self.nums,
+            refs: self.refs,
+            num_params: 0,
+            ref_params: 0,
+        }
     }
 
     // Sets what a word `NAME=NUMBER` says.

@@ -1,5 +1,6 @@
 use crate::instruction::Instruction;
-use crate::words::{number_of, parted, word_at};
+use crate::words::word_at;
+use row_words::{number_of, parted};
 
 /// The words that code is written in: a text with a line for each instruction, and one with a line for each name of a table.
 #[derive(Clone, Copy)]

@@ -2,8 +2,9 @@
 
 use crate::label::Label;
 use crate::lexicon::Lexicon;
-use crate::words::{int_of, number_of, word_at};
+use crate::words::word_at;
 use anyhow::{Error, Result, anyhow};
+use row_words::{int_of, number_of};
 use std::alloc::Global;
 
 /// What stands before the bytes that are given as such.

@@ -1,8 +1,9 @@
 //! Bytes as a line of text: `\n` is the end of a line, `\\` is `\`, `\x` and two digits is the byte of that number in hex, `\` with a number,
 //! `*` and a byte is so many of that byte, and any other byte stands for itself.
 
-use crate::words::{number_of, parted};
+use row_words::{number_of, parted};
 use std::alloc::{AllocError, Global};
+use table_rows::Buffer;
 
 /// So many equal bytes are written as a number of them.
 const LONG_RUN: usize = 20;
@@ -76,42 +77,37 @@ fn digit_of(digit: u8) -> u8 {
     }
 }
 
-/// Puts the line of these bytes.
-pub fn put_line(alloc: Global, bytes: &[u8], line: &mut Vec<u8>) -> Result<(), AllocError> {
+/// Tells the line of these bytes.
+pub fn put_line(out: &mut Buffer, bytes: &[u8]) {
     let mut last = 0u8;
     let mut count = 0usize;
     for byte in bytes {
         if *byte != last {
-            put_bytes(alloc, line, last, count)?;
+            put_bytes(out, last, count);
             last = *byte;
             count = 0;
         }
         count = count.saturating_add(1);
     }
-    put_bytes(alloc, line, last, count)
+    put_bytes(out, last, count);
 }
 
-// Puts so many of a byte.
-fn put_bytes(alloc: Global, line: &mut Vec<u8>, byte: u8, count: usize) -> Result<(), AllocError> {
+// Tells so many of a byte.
+fn put_bytes(out: &mut Buffer, byte: u8, count: usize) {
     if count >= LONG_RUN && is_plain(byte) {
-        return put_long_run(alloc, line, byte, count);
+        return put_long_run(out, byte, count);
     }
     for _ in 0..count {
-        put_byte(line, byte)?;
+        put_byte(out, byte);
     }
-    Ok(())
 }
 
-// Puts so many of a byte as their number.
-fn put_long_run(
-    alloc: Global,
-    line: &mut Vec<u8>,
-    byte: u8,
-    count: usize,
-) -> Result<(), AllocError> {
-    let run = format!(in alloc; "\\{}*", count)?;
-    line.extend_from_slice(run.as_bytes())?;
-    line.extend_from_slice(&[byte])
+// Tells so many of a byte as their number.
+fn put_long_run(out: &mut Buffer, byte: u8, count: usize) {
+    out.put("\\");
+    out.number(count as u64);
+    out.put("*");
+    out.bytes(&[byte]);
 }
 
 // Whether a byte stands for itself.
@@ -119,20 +115,17 @@ fn is_plain(byte: u8) -> bool {
     matches!(byte, b' '..=b'~') && byte != b'\\'
 }
 
-fn put_byte(line: &mut Vec<u8>, byte: u8) -> Result<(), AllocError> {
+fn put_byte(out: &mut Buffer, byte: u8) {
     match byte {
-        b'\n' => line.extend_from_slice(b"\\n"),
-        b'\\' => line.extend_from_slice(b"\\\\"),
-        _ if is_plain(byte) => line.extend_from_slice(&[byte]),
-        _ => line.extend_from_slice(&[b'\\', b'x', hex_of(byte / 16), hex_of(byte % 16)]),
+        b'\n' => out.put("\\n"),
+        b'\\' => out.put("\\\\"),
+        _ if is_plain(byte) => out.bytes(&[byte]),
+        _ => put_in_hex(out, byte),
     }
 }
 
-// A digit in hex of this value, below 16.
-fn hex_of(value: u8) -> u8 {
-    if value < 10 {
-        value.saturating_add(b'0')
-    } else {
-        value.saturating_sub(10).saturating_add(b'a')
-    }
+// Tells a byte by its two digits.
+fn put_in_hex(out: &mut Buffer, byte: u8) {
+    out.put(if byte < 16 { "\\x0" } else { "\\x" });
+    out.hex(u64::from(byte));
 }

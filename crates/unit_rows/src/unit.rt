@@ -3,29 +3,29 @@
 use crate::assembler::assemble;
 use crate::table::Table;
 use crate::text_form::bytes_of;
-use crate::words::{number_of, parted, word_at};
+use crate::words::word_at;
 use anyhow::{Context, Result, bail};
 use ps_base::bytes::Bytes;
 use ps_base::code_unit::{CodeUnit, Constant, Frame};
 use ps_base::list::List;
+use row_words::{number_of, parted};
 use std::alloc::{AllocError, Global};
 use table_rows::Row;
 
 /// What the field of a body begins with.
 const BODY: &[u8] = b"body ";
 
-/// The unit of a row: its constants are its bodies and the constants of the table behind them.
-pub fn unit_of(alloc: Global, table: Table<'_>, row: &Row) -> Result<CodeUnit> {
+/// The unit of a row, with this frame and at most so many bytes of its code: its constants are its bodies and the constants of the table behind them.
+pub fn unit_of(
+    alloc: Global,
+    table: Table<'_>,
+    frame: Frame,
+    cut: usize,
+    row: &Row,
+) -> Result<CodeUnit> {
     let mut code = assemble(alloc, table.lexicon, row.field(0))?;
-    code.truncate(table.settings.cut);
-    let mut constants = Vec::new(alloc);
-    put_all(alloc, table, &row.fields, &mut constants)?;
-    let frame = Frame {
-        nums: table.settings.nums,
-        refs: table.settings.refs,
-        num_params: 0,
-        ref_params: 0,
-    };
+    code.truncate(cut);
+    let constants = constants_of(alloc, table, &row.fields)?;
     Ok(unit_with(code, constants, frame))
 }
 
@@ -38,8 +38,23 @@ fn unit_with(code: Vec<u8>, constants: Vec<Constant>, frame: Frame) -> CodeUnit 
     }
 }
 
-// Puts the bodies of these fields, and behind them the constants of the table.
-fn put_all(
+// The bodies of these fields, and behind them the constants of the table.
+fn constants_of(alloc: Global, table: Table<'_>, fields: &[Vec<u8>]) -> Result<Vec<Constant>> {
+    let mut constants = Vec::new(alloc);
+    put_bodies(alloc, table, fields, &mut constants)?;
+    put_constants(alloc, table.constants, &mut constants)?;
+    Ok(constants)
+}
+
+// The constants of these lines.
+fn constants_given(alloc: Global, lines: &[u8]) -> Result<Vec<Constant>> {
+    let mut constants = Vec::new(alloc);
+    put_constants(alloc, lines, &mut constants)?;
+    Ok(constants)
+}
+
+// Puts the bodies of these fields.
+fn put_bodies(
     alloc: Global,
     table: Table<'_>,
     fields: &[Vec<u8>],
@@ -51,7 +66,7 @@ fn put_all(
             put_unit(alloc, body, constants)?;
         }
     }
-    put_constants(alloc, table.constants, constants)
+    Ok(())
 }
 
 // The unit of a body: its frame stands in the first line, and its constants are those of the table.
@@ -59,8 +74,7 @@ fn body_of(alloc: Global, table: Table<'_>, field: &[u8]) -> Result<CodeUnit> {
     let (head, text) = parted(field, b'\n');
     let frame = frame_of(head).context("a frame without its four numbers")?;
     let code = assemble(alloc, table.lexicon, text)?;
-    let mut constants = Vec::new(alloc);
-    put_constants(alloc, table.constants, &mut constants)?;
+    let constants = constants_given(alloc, table.constants)?;
     Ok(unit_with(code, constants, frame))
 }
 

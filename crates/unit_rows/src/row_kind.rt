@@ -1,0 +1,27 @@
+use table_rows::Row;
+
+/// What a row of a table of units is.
+#[derive(Clone, Copy)]
+pub enum RowKind {
+    /// It names instructions.
+    Names,
+    /// It says what holds for the rows behind it.
+    Given,
+    /// A program, which is run once.
+    Run,
+    /// A program, which is run with each of its calls of the host failing.
+    Calls,
+}
+
+impl RowKind {
+    /// What a row is, by the first word of its head.
+    pub fn of(row: &Row) -> Option<RowKind> {
+        match row.word(0) {
+            b"names" => Some(RowKind::Names),
+            b"given" => Some(RowKind::Given),
+            b"run" => Some(RowKind::Run),
+            b"calls" => Some(RowKind::Calls),
+            _ => None,
+        }
+    }
+}
