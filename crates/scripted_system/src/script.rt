@@ -1,5 +1,3 @@
-//! A made-up system, for the calls that no real one fails at will.
-
 ghost use Rattle.std.specs.Prelude.{◌≤◌, IfOk};
 
 use std::alloc::Allocator;
