@@ -1,6 +1,4 @@
-use memory_host::MemoryHost;
-use ps_command::psalgol;
-use ps_port::MemoryShelf;
+use command_answers::{Answer, Text, host_of, new_volume};
 use std::alloc::{AllocError, Global};
 use table_rows::Row;
 
@@ -20,38 +18,33 @@ pub struct Commands {
 impl Commands {
     /// Makes the volume that they all begin with.
     pub fn new(alloc: Global) -> Result<Commands, AllocError> {
-        let mut words = Vec::new(alloc);
-        for word in ["format", "v.vol", "32"] {
-            words.push(String::from_str(alloc, word)?)?;
-        }
-        let (_, host) = psalgol(
-            alloc,
-            &words,
-            host_of(alloc, b"")?,
-            &mut MemoryShelf::new(alloc),
-        );
         Ok(Commands {
             alloc,
-            volume: Vec::from_slice(alloc, host.contents())?,
+            volume: new_volume(alloc, "32")?,
         })
     }
 
     /// The status that a row's command gets, and behind it what it tells.
     pub fn answer(&self, row: &Row) -> Result<Vec<u8>, AllocError> {
-        let mut shelf = MemoryShelf::new(self.alloc);
-        shelf.add(PROGRAM, row.field(0))?;
-        if row.fields.len() > 2 {
-            shelf.add(INPUT, row.field(2))?;
-        }
         let words = self.words(row)?;
-        let host = host_of(self.alloc, &self.volume)?;
-        let (status, host) = psalgol(self.alloc, &words, host, &mut shelf);
-        self.told(status as usize, host.told_bytes())
+        let program = (PROGRAM, row.field(0));
+        let answer = if row.fields.len() > 2 {
+            self.answer_to(&words, &[program, (INPUT, row.field(2))])?
+        } else {
+            self.answer_to(&words, &[program])?
+        };
+        self.told(answer.status() as usize, answer.told())
     }
 
     /// The same as the row has it.
     pub fn wanted(&self, row: &Row) -> Result<Vec<u8>, AllocError> {
         self.told(row.number(0), row.field(1))
+    }
+
+    // What these words come to over the volume and these texts.
+    fn answer_to(&self, words: &[String], texts: &[Text<'_>]) -> Result<Answer, AllocError> {
+        let host = host_of(self.alloc, &self.volume, &[])?;
+        Answer::of(self.alloc, words, texts, host)
     }
 
     // The words of the head behind the status, and the program's name.
@@ -73,9 +66,4 @@ impl Commands {
         told.extend_from_slice(bytes)?;
         Ok(told)
     }
-}
-
-// A host with these bytes, and room for what a program tells.
-fn host_of(alloc: Global, bytes: &[u8]) -> Result<MemoryHost, AllocError> {
-    MemoryHost::new(alloc, bytes, &[], 1_000_000, 16_000_000)
 }

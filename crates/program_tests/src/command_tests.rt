@@ -1,97 +1,34 @@
-//! The command over a host and a shelf in memory.
+//! The command from its words to its status.
 
-use crate::volumes::volume_host;
-use memory_host::MemoryHost;
-use ps_command::psalgol;
-use ps_port::MemoryShelf;
+use command_answers::Command;
 use std::alloc::{AllocError, Global};
-use std::process::Abort;
-use std::test::Fail;
 
 /// The words of a run without options, before the name of its text.
 pub const RUN: &[&str] = &["run", "v.vol"];
 
-/// These words, and behind them the last.
-pub fn words_of(alloc: Global, words: &[&str], file: &str) -> Result<Vec<String>, AllocError> {
-    let mut all = Vec::new(alloc);
-    for word in words {
-        all.push(String::from_str(alloc, word)?)?;
+/// Whether a run of this text gets this told, and this status.
+pub fn is_answered(alloc: Global, text: &[u8], told: &[u8], status: u8) -> bool {
+    let run = Command {
+        words: RUN,
+        last: "x.ps",
+        texts: &[("x.ps", text)],
+    };
+    run.is_answered(alloc, &[], told, status)
+}
+
+/// A number of parts that a text is made of, what it gets told, and its status.
+pub type Limit = (usize, &'static [u8], u8);
+
+/// Whether the text that is made of so many parts is answered so; not so where there was no memory for it.
+pub fn is_limit(alloc: Global, text: Result<Vec<u8>, AllocError>, limit: &Limit) -> bool {
+    match text {
+        Ok(text) => is_answered(alloc, &text, limit.1, limit.2),
+        Err(_) => false,
     }
-    all.push(String::from_str(alloc, file)?)?;
-    Ok(all)
 }
 
-/// What a command came to: its status, and the host behind it.
-#[derive(Drop)]
-pub struct Answer {
-    pub status: u8,
-    pub host: MemoryHost,
-}
-
-/// What the words come to over this host and this shelf.
-pub fn command(alloc: Global, words: &[String], host: MemoryHost, shelf: MemoryShelf) -> Answer {
-    let mut shelf = shelf;
-    let (status, host) = psalgol(alloc, words, host, &mut shelf);
-    Answer { status, host }
-}
-
-/// This was told, and this is the status.
-pub fn assert_answer(rt: &impl Abort, answer: &Answer, told: &[u8], status: u8) {
-    assert_eq!(rt; answer.host.told_bytes(), told);
-    assert_eq!(rt; answer.status, status);
-}
-
-/// A shelf with this text under this name.
-pub fn shelf_of(alloc: Global, name: &str, text: &[u8]) -> Result<MemoryShelf, AllocError> {
-    let mut shelf = MemoryShelf::new(alloc);
-    shelf.add(name, text)?;
-    Ok(shelf)
-}
-
-// A shelf with this text under `x.ps`, and this input under `in`.
-fn shelf_with(alloc: Global, text: &str, input: &[u8]) -> Result<MemoryShelf, AllocError> {
-    let mut shelf = shelf_of(alloc, "x.ps", text.as_bytes())?;
-    shelf.add("in", input)?;
-    Ok(shelf)
-}
-
-/// Over a shelf with this text under `x.ps`, the words and the last one get this told, and this status.
-pub fn assert_told(
-    rt: &impl Abort,
-    alloc: Global,
-    words: &[&str],
-    last: &str,
-    text: &[u8],
-    told: &[u8],
-    wanted: u8,
-) -> Result<(), Fail> {
-    let words = words_of(alloc, words, last)?;
-    let shelf = shelf_of(alloc, "x.ps", text)?;
-    let host = volume_host(alloc, &[])?;
-    assert_answer(rt, &command(alloc, &words, host, shelf), told, wanted);
-    Ok(())
-}
-
-/// Over a shelf with this text under `x.ps` and this input under `in`, the words and `x.ps` get this told, and this status.
-pub fn assert_reads(
-    rt: &impl Abort,
-    alloc: Global,
-    words: &[&str],
-    text: &str,
-    input: &[u8],
-    told: &str,
-    wanted: u8,
-) -> Result<(), Fail> {
-    let words = words_of(alloc, words, "x.ps")?;
-    let shelf = shelf_with(alloc, text, input)?;
-    let host = volume_host(alloc, &[])?;
-    let answer = command(alloc, &words, host, shelf);
-    assert_answer(rt, &answer, told.as_bytes(), wanted);
-    Ok(())
-}
-
-// So many declarations, joined by `;`.
-fn declarations(alloc: Global, count: usize) -> Result<Vec<u8>, AllocError> {
+/// So many declarations, each with a `;` behind it.
+pub fn declarations(alloc: Global, count: usize) -> Result<Vec<u8>, AllocError> {
     let mut text = Vec::new(alloc);
     for place in 0..count {
         text.extend_from_slice(b"let a")?;
@@ -103,21 +40,22 @@ fn declarations(alloc: Global, count: usize) -> Result<Vec<u8>, AllocError> {
     Ok(text)
 }
 
-const DECLARED: [(usize, &[u8], u8); 2] = [(511, b"", 0), (512, b"x.ps: check 7 at line 1\n", 2)];
+const DECLARED: [Limit; 2] = [(511, b"", 0), (512, b"x.ps: check 7 at line 1\n", 2)];
 
-#[test]
-fn names_are_declared_to_the_limit(rt: HostRuntime) -> Result<(), Fail> {
-    for (count, told, status) in &DECLARED {
-        let text = declarations(rt.alloc(), *count)?;
-        assert_told(&rt, rt.alloc(), RUN, "x.ps", &text, told, *status)?;
-    }
-    Ok(())
+fn are_declared(alloc: Global, limit: &Limit) -> bool {
+    is_limit(alloc, declarations(alloc, limit.0), limit)
 }
 
 #[test]
-fn comments_hold_any_byte(rt: HostRuntime) -> Result<(), Fail> {
-    let text = b"! \xc8\nwrite 1";
-    assert_told(&rt, rt.alloc(), RUN, "x.ps", text, b"1", 0)
+fn names_are_declared_to_the_limit(rt: HostRuntime) {
+    for limit in &DECLARED {
+        assert!(rt; are_declared(rt.alloc(), limit));
+    }
+}
+
+#[test]
+fn comments_hold_any_byte(rt: HostRuntime) {
+    assert!(rt; is_answered(rt.alloc(), b"! \xc8\nwrite 1", b"1", 0));
 }
 
 const LONG_NAME: &[u8] = &[b'a'; 65];
@@ -126,7 +64,7 @@ const OPEN: &[u8] = &[b'{'; 100];
 
 const TOO_DEEP: &[u8] = &[b'{'; 101];
 
-const FIRST_FAULTS: [(&[u8], &[u8]); 24] = [
+static FIRST_FAULTS: [(&[u8], &[u8]); 24] = [
     (b"\xc8", b"x.ps: scan 1 at line 1\n"),
     (b"write \"a", b"x.ps: scan 2 at line 1\n"),
     (b"write\n2147483648", b"x.ps: scan 3 at line 2\n"),
@@ -163,11 +101,10 @@ const FIRST_FAULTS: [(&[u8], &[u8]); 24] = [
 ];
 
 #[test]
-fn first_faults_are_told(rt: HostRuntime) -> Result<(), Fail> {
-    for (text, told) in &FIRST_FAULTS {
-        assert_told(&rt, rt.alloc(), RUN, "x.ps", text, told, 2)?;
+fn first_faults_are_told(rt: HostRuntime) {
+    for (place, (text, told)) in FIRST_FAULTS.iter().enumerate() {
+        assert!(rt; is_answered(rt.alloc(), text, told, 2), "row {place}");
     }
-    Ok(())
 }
 
 // So many open braces, and as many closed ones.
@@ -179,18 +116,20 @@ fn nested(alloc: Global, depth: usize) -> Result<Vec<u8>, AllocError> {
     Ok(text)
 }
 
-const BRACES: [(usize, &[u8], u8); 2] = [(100, b"", 0), (101, b"x.ps: parse 2 at line 1\n", 2)];
+const BRACES: [Limit; 2] = [(100, b"", 0), (101, b"x.ps: parse 2 at line 1\n", 2)];
 
-#[test]
-fn braces_are_nested_to_the_limit(rt: HostRuntime) -> Result<(), Fail> {
-    for (depth, told, status) in &BRACES {
-        let text = nested(rt.alloc(), *depth)?;
-        assert_told(&rt, rt.alloc(), RUN, "x.ps", &text, told, *status)?;
-    }
-    Ok(())
+fn are_nested(alloc: Global, limit: &Limit) -> bool {
+    is_limit(alloc, nested(alloc, limit.0), limit)
 }
 
-const NO_COMMANDS: [(&[&str], &str); 26] = [
+#[test]
+fn braces_are_nested_to_the_limit(rt: HostRuntime) {
+    for limit in &BRACES {
+        assert!(rt; are_nested(rt.alloc(), limit));
+    }
+}
+
+static NO_COMMANDS: [(&[&str], &str); 26] = [
     (&["run"], "v.vol"),
     (&["format"], "v.vol"),
     (&["format", "v.vol"], "31"),
@@ -224,13 +163,22 @@ const NO_COMMANDS: [(&[&str], &str); 26] = [
     ),
 ];
 
+const USAGE: &[u8] = b"usage: psalgol COMMAND VOLUME WORDS\n";
+
+fn are_no_command<'a>(alloc: Global, words: &'a [&'a str], last: &'a str) -> bool {
+    let command = Command {
+        words,
+        last,
+        texts: &[("x.ps", b"write 1")],
+    };
+    command.is_answered(alloc, &[], USAGE, 1)
+}
+
 #[test]
-fn other_words_are_no_command(rt: HostRuntime) -> Result<(), Fail> {
-    let usage = b"usage: psalgol COMMAND VOLUME WORDS\n";
-    for (words, last) in &NO_COMMANDS {
-        assert_told(&rt, rt.alloc(), words, last, b"write 1", usage, 1)?;
+fn other_words_are_no_command(rt: HostRuntime) {
+    for (place, (words, last)) in NO_COMMANDS.iter().enumerate() {
+        assert!(rt; are_no_command(rt.alloc(), words, last), "row {place}");
     }
-    Ok(())
 }
 
 // The name of the only text, that text as a part that is repeated, the calls that fail, what is told
@@ -239,7 +187,7 @@ type Fault<'a> = (&'a str, &'a [u8], usize, &'a [u64], &'a [u8], u8);
 
 const SUM: &[u8] = b"write 1 + 2, \"'n\" ?";
 
-const FAULTS: [Fault<'static>; 7] = [
+static FAULTS: [Fault<'static>; 7] = [
     ("x.ps", b"", 1, &[], b"cannot read z.ps\n", 7),
     (
         "z.ps",
@@ -265,47 +213,66 @@ fn repeated(alloc: Global, part: &[u8], times: usize) -> Result<Vec<u8>, AllocEr
 }
 
 // The calls of attaching are the first six.
-fn assert_fault(rt: &impl Abort, alloc: Global, fault: &Fault<'_>) -> Result<(), Fail> {
-    let (name, part, times, failing, told, wanted) = fault;
-    let text = repeated(alloc, part, *times)?;
-    let words = words_of(alloc, RUN, "z.ps")?;
-    let shelf = shelf_of(alloc, name, &text)?;
-    let host = volume_host(alloc, failing)?;
-    assert_answer(rt, &command(alloc, &words, host, shelf), told, *wanted);
-    Ok(())
+fn is_fault(alloc: Global, fault: &Fault<'_>) -> bool {
+    let (name, part, times, failing, told, status) = fault;
+    let Ok(text) = repeated(alloc, part, *times) else {
+        return false;
+    };
+    let command = Command {
+        words: RUN,
+        last: "z.ps",
+        texts: &[(*name, text.as_slice())],
+    };
+    command.is_answered(alloc, failing, told, *status)
 }
 
 #[test]
-fn faults_of_the_outside_are_answered(rt: HostRuntime) -> Result<(), Fail> {
-    for fault in &FAULTS {
-        assert_fault(&rt, rt.alloc(), fault)?;
+fn faults_of_the_outside_are_answered(rt: HostRuntime) {
+    for (place, fault) in FAULTS.iter().enumerate() {
+        assert!(rt; is_fault(rt.alloc(), fault), "row {place}");
     }
-    Ok(())
 }
 
-// The status for the text under `x.ps`, whatever is told.
-fn status_of(alloc: Global, text: &[u8]) -> Result<u8, AllocError> {
-    let words = words_of(alloc, RUN, "x.ps")?;
-    let shelf = shelf_of(alloc, "x.ps", text)?;
-    let host = volume_host(alloc, &[])?;
-    Ok(command(alloc, &words, host, shelf).status)
-}
-
-#[test]
-fn long_chains_end_in_an_answer(rt: HostRuntime) -> Result<(), Fail> {
-    let mut sum = Vec::from_slice(rt.alloc(), b"write 0")?;
-    for _ in 0..200_000 {
+// A sum of so many ones and a 0.
+fn sum_of(alloc: Global, ones: usize) -> Result<Vec<u8>, AllocError> {
+    let mut sum = Vec::from_slice(alloc, b"write 0")?;
+    for _ in 0..ones {
         sum.extend_from_slice(b"+1")?;
     }
-    assert_told(&rt, rt.alloc(), RUN, "x.ps", &sum, b"200000", 0)
+    Ok(sum)
 }
 
 #[test]
-fn long_texts_of_one_byte_end_in_an_answer(rt: HostRuntime) -> Result<(), Fail> {
-    for byte in b"({-~\n" {
-        let text = vec![in rt.alloc(); *byte; 1_048_576]?;
-        let wanted = if *byte == b'\n' { 0 } else { 2 };
-        assert_eq!(rt; status_of(rt.alloc(), &text)?, wanted);
+fn long_chains_end_in_an_answer(rt: HostRuntime) {
+    let sum = sum_of(rt.alloc(), 200_000);
+    assert!(rt; is_limit(rt.alloc(), sum, &(200_000, b"200000", 0)));
+}
+
+// The status for this text, whatever is told.
+fn status_of(alloc: Global, text: &[u8]) -> Option<u8> {
+    let run = Command {
+        words: RUN,
+        last: "x.ps",
+        texts: &[("x.ps", text)],
+    };
+    match run.answer(alloc, &[]) {
+        Ok(answer) => Some(answer.status()),
+        Err(_) => None,
     }
-    Ok(())
+}
+
+// Whether the longest text of bytes like this one ends in this status.
+fn is_ended(alloc: Global, byte: u8, status: u8) -> bool {
+    match vec![in alloc; byte; 1_048_576] {
+        Ok(text) => status_of(alloc, &text) == Some(status),
+        Err(_) => false,
+    }
+}
+
+#[test]
+fn long_texts_of_one_byte_end_in_an_answer(rt: HostRuntime) {
+    assert!(rt; is_ended(rt.alloc(), b'\n', 0));
+    for byte in b"({-~" {
+        assert!(rt; is_ended(rt.alloc(), *byte, 2));
+    }
 }

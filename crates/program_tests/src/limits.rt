@@ -1,6 +1,7 @@
 //! Programs at the limits: parameters, names, widths, and areas that code and strings fill.
 
-use crate::command_tests::{RUN, assert_told};
+use crate::command_tests::{Limit, declarations, is_answered, is_limit};
+use command_answers::Command;
 use std::alloc::{AllocError, Global};
 use std::test::Fail;
 
@@ -27,43 +28,38 @@ fn with_parameters(alloc: Global, count: usize) -> Result<Vec<u8>, AllocError> {
     Ok(text)
 }
 
-const PARAMETERS: [(usize, &[u8], u8); 2] = [
-    (64, b"163", 0),
-    (65, b"x.ps: check 6 at line 1\n", 2),
-];
+const PARAMETERS: [Limit; 2] = [(64, b"163", 0), (65, b"x.ps: check 6 at line 1\n", 2)];
+
+fn have_parameters(alloc: Global, limit: &Limit) -> bool {
+    is_limit(alloc, with_parameters(alloc, limit.0), limit)
+}
 
 #[test]
-fn procedures_have_parameters_to_the_limit(rt: HostRuntime) -> Result<(), Fail> {
-    for (count, told, status) in &PARAMETERS {
-        let text = with_parameters(rt.alloc(), *count)?;
-        assert_told(&rt, rt.alloc(), RUN, "x.ps", &text, told, *status)?;
+fn procedures_have_parameters_to_the_limit(rt: HostRuntime) {
+    for limit in &PARAMETERS {
+        assert!(rt; have_parameters(rt.alloc(), limit));
     }
-    Ok(())
 }
 
 // A procedure that declares so many names, and is called.
 fn with_names(alloc: Global, count: usize) -> Result<Vec<u8>, AllocError> {
     let mut text = Vec::from_slice(alloc, b"write 1\nprocedure f()\n{ ")?;
-    for place in 0..count {
-        text.extend_from_slice(b"let a")?;
-        for digit in [place / 100, place / 10, place] {
-            text.push(b"0123456789"[digit % 10])?;
-        }
-        text.extend_from_slice(b" = 0; ")?;
-    }
+    text.extend_from_slice(&declarations(alloc, count)?)?;
     text.extend_from_slice(b"}\nf()")?;
     Ok(text)
 }
 
-const NAMES: [(usize, &[u8], u8); 2] = [(511, b"1", 0), (512, b"x.ps: check 7 at line 2\n", 2)];
+const NAMES: [Limit; 2] = [(511, b"1", 0), (512, b"x.ps: check 7 at line 2\n", 2)];
+
+fn declare_names(alloc: Global, limit: &Limit) -> bool {
+    is_limit(alloc, with_names(alloc, limit.0), limit)
+}
 
 #[test]
-fn procedures_declare_names_to_the_limit(rt: HostRuntime) -> Result<(), Fail> {
-    for (count, told, status) in &NAMES {
-        let text = with_names(rt.alloc(), *count)?;
-        assert_told(&rt, rt.alloc(), RUN, "x.ps", &text, told, *status)?;
+fn procedures_declare_names_to_the_limit(rt: HostRuntime) {
+    for limit in &NAMES {
+        assert!(rt; declare_names(rt.alloc(), limit));
     }
-    Ok(())
 }
 
 // So many ones, written one by one: 14 bytes of code for each, and 5 behind the last.
@@ -75,29 +71,49 @@ fn ones(alloc: Global, count: usize) -> Result<Vec<u8>, AllocError> {
     Ok(text)
 }
 
+// A string of so many bytes, written.
+fn string_of(alloc: Global, count: usize) -> Result<Vec<u8>, AllocError> {
+    let mut text = Vec::from_slice(alloc, b"write \"")?;
+    for _ in 0..count {
+        text.push(b'a')?;
+    }
+    text.push(b'"')?;
+    Ok(text)
+}
+
+// Whether a text gets this told and this status in an area of 128 words.
+fn is_answered_in_an_area(alloc: Global, text: &[u8], told: &[u8], status: u8) -> bool {
+    let run = Command {
+        words: &["run", "v.vol", "--area", "1"],
+        last: "x.ps",
+        texts: &[("x.ps", text)],
+    };
+    run.is_answered(alloc, &[], told, status)
+}
+
 // An area of 128 words has room for the text of the type, which has 6, and for a code of 122: 4 of its header, 3 more, and 115 for
 // at most 920 bytes. A string of 1,000 bytes takes 130.
 #[test]
 fn code_and_strings_fill_an_area(rt: HostRuntime) -> Result<(), Fail> {
-    let words: &[&str] = &["run", "v.vol", "--area", "1"];
     let text = ones(rt.alloc(), 65)?;
-    let told = vec![in rt.alloc(); b'1'; 65]?;
-    assert_told(&rt, rt.alloc(), words, "x.ps", &text, &told, 0)?;
+    assert!(rt; is_answered_in_an_area(rt.alloc(), &text, &[b'1'; 65], 0));
     let text = ones(rt.alloc(), 66)?;
     let full = b"area full: 7 + 124 > 129 words\n";
-    assert_told(&rt, rt.alloc(), words, "x.ps", &text, full, 11)?;
-    let mut text = Vec::from_slice(rt.alloc(), b"write \"")?;
-    let letters = vec![in rt.alloc(); b'a'; 1_000]?;
-    text.extend_from_slice(&letters)?;
-    text.push(b'"')?;
+    assert!(rt; is_answered_in_an_area(rt.alloc(), &text, full, 11));
+    let text = string_of(rt.alloc(), 1_000)?;
     let full = b"area full: 7 + 130 > 129 words\n";
-    assert_told(&rt, rt.alloc(), words, "x.ps", &text, full, 11)
+    assert!(rt; is_answered_in_an_area(rt.alloc(), &text, full, 11));
+    Ok(())
+}
+
+// Whether a string at the widest gets as many bytes told.
+fn is_widest(alloc: Global) -> Result<bool, AllocError> {
+    let mut told = vec![in alloc; b' '; 65_534]?;
+    told.push(b'x')?;
+    Ok(is_answered(alloc, b"write \"x\" : 65535", &told, 0))
 }
 
 #[test]
-fn widths_go_to_the_limit(rt: HostRuntime) -> Result<(), Fail> {
-    let mut told = vec![in rt.alloc(); b' '; 65_534]?;
-    told.push(b'x')?;
-    let text = b"write \"x\" : 65535";
-    assert_told(&rt, rt.alloc(), RUN, "x.ps", text, &told, 0)
+fn widths_go_to_the_limit(rt: HostRuntime) {
+    assert!(rt; is_widest(rt.alloc()) == Ok(true));
 }

@@ -1,28 +1,26 @@
 //! Rows of the language reference where one refusal of memory may come anywhere: `rt try --test
 //! --fail-alloc N` refuses the Nth. Each answers its own or status 5, and nothing else.
 
-use crate::command_tests::{Answer, command, shelf_of, words_of};
 use crate::inputs::READ;
-use crate::volumes::volume_host;
-use std::alloc::{AllocError, Global};
+use command_answers::{Answer, Command};
+use std::alloc::Global;
 
-fn answer(alloc: Global, text: &str) -> Result<Answer, AllocError> {
-    let words = words_of(alloc, READ, "x.ps")?;
-    let mut shelf = shelf_of(alloc, "x.ps", text.as_bytes())?;
-    shelf.add("in", b"one\ntwo")?;
-    let host = volume_host(alloc, &[])?;
-    Ok(command(alloc, &words, host, shelf))
+// Whether a row was answered by its own, or by status 5.
+fn is_own_or_five(answer: &Answer, told: &str, status: u8) -> bool {
+    answer.is(told.as_bytes(), status) || answer.is(b"out of memory\n", 5)
 }
 
 // Whether the row has its own answer, or status 5. Where memory was refused before the call, there is
 // nothing to compare.
 fn own_answer_or_five(alloc: Global, text: &str, told: &str, status: u8) -> bool {
-    let Ok(found) = answer(alloc, text) else {
-        return true;
+    let command = Command {
+        words: READ,
+        last: "x.ps",
+        texts: &[("x.ps", text.as_bytes()), ("in", b"one\ntwo")],
     };
-    match found.status {
-        5 => found.host.told_bytes() == b"out of memory\n".as_slice(),
-        other => other == status && found.host.told_bytes() == told.as_bytes(),
+    match command.answer(alloc, &[]) {
+        Ok(answer) => is_own_or_five(&answer, told, status),
+        Err(_) => true,
     }
 }
 

@@ -1,6 +1,6 @@
 use Rattle.std.proofs.Common.{refl, arith}
 use Rattle.obj_layout.specs.declared.kind.Kind.TheVariants.{Text}
-use Rattle.program_tests.proofs.volumes.text.Goals as goal
+use Rattle.program_volume_tests.proofs.objects.text.Goals as goal
 
 pub returns : goal.returns
 returns c = record {

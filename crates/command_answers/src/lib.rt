@@ -1,0 +1,10 @@
+//! What commands of the program come to over a host and a shelf in memory, for its tests.
+#![tactic(auto)]
+
+mod answer;
+mod command;
+mod volume;
+
+pub use answer::{Answer, Text};
+pub use command::Command;
+pub use volume::{host_of, new_volume, volume_host};

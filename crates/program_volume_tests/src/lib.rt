@@ -1,0 +1,11 @@
+//! Tests of the program over its volume: how it is made, attached and left, and what is told where there is none.
+#![tactic(auto)]
+
+#[cfg(test)]
+mod commands;
+#[cfg(test)]
+mod files;
+#[cfg(test)]
+mod making;
+#[cfg(test)]
+mod objects;
