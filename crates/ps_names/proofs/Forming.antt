@@ -6,7 +6,11 @@ use Rattle.ps_base.specs.List.{items_of}
 use Rattle.ps_base.specs.declared.list.List.{List as ListOf}
 use Rattle.ps_program.specs.declared.body.Body.{Body}
 use Rattle.ps_program.specs.declared.form.Tree.{Tree}
+use Rattle.ps_program.specs.declared.form.Loop.{Loop}
 use Rattle.ps_program.specs.declared.form.TreeForm.{TreeForm}
+use Rattle.ps_program.specs.declared.form.TreeForm.TheVariants as code
+use Rattle.std.specs.declared.alloc.Global.{Global}
+use Rattle.std.specs.declared.boxed.Box.{Box}
 use Rattle.ps_program.specs.declared.form.Arm.{Arm as ArmOf}
 use Rattle.ps_program.specs.declared.place.Place.{Place}
 use Rattle.ps_program.specs.Node.{Node, Nodes, BodyNode}
@@ -20,7 +24,7 @@ use Rattle.ps_typing.specs.Placing.{Around, Locals, with_declared, place_of}
 use Rattle.ps_typing.specs.Placed.{Given, then_give, placed, placed_all, placed_literal}
 use Rattle.ps_placer.specs.declared.placer.Placer.{Placer}
 use Rattle.ps_placer.specs.inside.Standing.{Stands, Does}
-use Rattle.ps_names.specs.inside.Clauses.{Pair, Triple, WithAll, Case, Block, Named, Scan, pair, named, scan_of, placed_assigned, placed_declared, placed_scan, placed_pair, placed_triple, placed_with_all, placed_case, placed_block}
+use Rattle.ps_names.specs.inside.Clauses.{loop_of, Pair, Triple, WithAll, Case, Block, Named, Scan, pair, named, scan_of, placed_assigned, placed_declared, placed_scan, placed_pair, placed_triple, placed_with_all, placed_case, placed_block}
 use Rattle.ps_names.specs.inside.Chains.{placed_parts, weight_placed}
 use Rattle.ps_names.proofs.Doing.{Made, does_same, does_made, on_ok}
 
@@ -56,6 +60,12 @@ assigned_does place e around locals = placed_assigned around locals place (node_
 abbrev pub declared_does : Place → Ty → Tree → Around → Locals → Given Named
 declared_does place ty e around locals = placed_declared around locals place (ty_view ty) (node_of e)
 
+abbrev pub loop_does : Loop → Around → Locals → Given Node
+loop_does it around locals = placed around locals (loop_of it)
+
+abbrev pub body_does : Body → Around → Locals → Given Node
+body_does it around locals = placed around locals (node.Proc (body_of it))
+
 abbrev pub scan_does : Tree → Tree → Around → Locals → Given Scan
 scan_does a f around locals = placed_scan around locals (node_of a) (node_of f)
 
@@ -84,6 +94,11 @@ tree_did F form m x old new r places is m_is done =
 pub formed : {A : Type 0} (g : Around → Locals → Node → Given Node) (f : Around → Locals → Given A) (make : A → Node) (n m before : Node) (x : A) (old new : Placer) (r : Made) → OnOk r (Does f old x new) → n ≡ before → ((around : Around) (locals : Locals) → g around locals before ≡ then_give make (f around locals)) → m ≡ make x → OnOk r (Does (λ around locals. g around locals n) old m new)
 formed g f make n m before x old new r done n_is same m_is =
     on_ok r (λ (does : Does f old x new). does_same (λ around locals. then_give make (f around locals)) (λ around locals. g around locals n) old new (make x) m (λ around locals. ap (g around locals) n_is ∙ same around locals) m_is (does_made f make old new x does)) done
+
+-- a clause is what was done
+pub formed_as : (f : Around → Locals → Given Node) (n m before x : Node) (old new : Placer) (r : Made) → OnOk r (Does f old x new) → n ≡ before → ((around : Around) (locals : Locals) → placed_parts around locals before ≡ f around locals) → m ≡ x → OnOk r (Does (λ around locals. placed_parts around locals n) old m new)
+formed_as f n m before x old new r done n_is same m_is =
+    on_ok r (λ (does : Does f old x new). does_same f (λ around locals. placed_parts around locals n) old new x m (λ around locals. ap (placed_parts around locals) n_is ∙ same around locals) m_is does) done
 
 -- the same, of a form that is known to be this one
 pub formed_to : {A : Type 0} (g : Around → Locals → Node → Given Node) (f : Around → Locals → Given A) (make : A → Node) (n m before : Node) (is : TreeForm) (x : A) (old new : Placer) (r : Made) → OnOk r (Does f old x new) → n ≡ before → ((around : Around) (locals : Locals) → g around locals before ≡ then_give make (f around locals)) → node_of_form is ≡ make x → m ≡ node_of_form is → OnOk r (Does (λ around locals. g around locals n) old m new)
@@ -190,3 +205,17 @@ case_falls now n e e' arms arms' d d' t t_is is e_is arms_is d_is most =
     let middle = ap (λ (ts : ListOf ArmOf). weight_arms (arms_in (items_of ts))) arms_is in
     let last = ap (λ (a : Tree). weight (node_of a)) d_is in
     (omega (arith, t_is, whole, first, middle, last, most), tt)
+
+pub loop_falls : (now : TreeForm) (box : Box Loop Global) (it : Loop) (t : ℕ) → 10 * weight_placed (node_of_form now) ≡ t → now ≡ code.For box → it ≡ box.value → (10 * (weight (node_of it.a) + weight (node_of it.b) + weight (node_of it.c) + weight (node_of it.s)) + 6 < t) × Unit {0}
+loop_falls now box it t t_is is it_is =
+    let least : 1 + (weight (node_of box.value.a) + weight (node_of box.value.b) + weight (node_of box.value.c) + weight (node_of box.value.s)) ≤ weight_placed (node_of_form (code.For box)) = omega arith in
+    let whole = ap (λ f. weight_placed (node_of_form f)) is in
+    let parts = ap (λ (l : Loop). weight (node_of l.a) + weight (node_of l.b) + weight (node_of l.c) + weight (node_of l.s)) it_is in
+    (omega (arith, t_is, whole, parts, least), tt)
+
+pub literal_falls : (now : TreeForm) (box : Box Body Global) (it : Body) (t : ℕ) → 10 * weight_placed (node_of_form now) ≡ t → now ≡ code.Proc box → it ≡ box.value → (10 * weight (node_of it.tree) + 4 < t) × Unit {0}
+literal_falls now box it t t_is is it_is =
+    let least : 1 + weight (node_of box.value.tree) ≤ weight_placed (node_of_form (code.Proc box)) = omega arith in
+    let whole = ap (λ f. weight_placed (node_of_form f)) is in
+    let part = ap (λ (b : Body). weight (node_of b.tree)) it_is in
+    (omega (arith, t_is, whole, part, least), tt)

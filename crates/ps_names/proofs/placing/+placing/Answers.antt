@@ -1,4 +1,8 @@
 use Rattle.std.proofs.Common.{rules, ◌≡◌, ◌<◌, ◌≤◌, ◌∙◌, List, [], ◌∷◌, true, length, length-set, take, OnOk, ap, sym, refl, subst, arith}
+use Rattle.std.specs.declared.alloc.Global.{Global}
+use Rattle.std.specs.declared.boxed.Box.{Box}
+use Rattle.ps_program.specs.declared.form.Loop.{Loop}
+use Rattle.ps_program.specs.declared.body.Body.{Body}
 use Rattle.std.proofs.lemmas.List.{take_all}
 use Rattle.std.specs.Rc.{rc_value}
 use Rattle.ps_base.specs.List.{items_of}
@@ -30,7 +34,7 @@ use Rattle.ps_names.specs.inside.Clauses.{Pair, Triple, WithAll, Case, Block, Na
 use Rattle.ps_placer.specs.inside.Params.{text_in}
 use Rattle.ps_placer.proofs.Steps.{same_item, same_rest}
 use Rattle.ps_names.proofs.Doing.{does_made, does_both, does_same, on_ok, tree_more, arm_more, arm_made, arm_kept}
-use Rattle.ps_names.proofs.Forming.{tree_does, pair_does, triple_does, all_does, with_all_does, case_does, block_does, assigned_does, declared_does, scan_does, at_one, at_two, at_three, formed, formed_to, form_did, tree_did, name_done, assigned_done, declared_done, scan_done, weight_some, tree_falls, pair_falls, triple_falls, all_falls, with_all_falls, case_falls}
+use Rattle.ps_names.proofs.Forming.{formed_as, loop_does, body_does, loop_falls, literal_falls, tree_does, pair_does, triple_does, all_does, with_all_does, case_does, block_does, assigned_does, declared_does, scan_does, at_one, at_two, at_three, formed, formed_to, form_did, tree_did, name_done, assigned_done, declared_done, scan_done, weight_some, tree_falls, pair_falls, triple_falls, all_falls, with_all_falls, case_falls}
 use Rattle.ps_names.proofs.Rising.{whole, inward, turns, outward, weight_out, out}
 use Rattle.ps_names.proofs.Scoping.{block_done, loop_done, literal_done}
 use Rattle.ps_names.proofs.placing.+placing.Goals as goal
@@ -299,6 +303,14 @@ pub place_parts-place_declared-requires : goal.place_parts-place_declared-requir
 place_parts-place_declared-requires t c =
     tree_falls 5 _ _ c.in-Let.e _ t c.decreases c.in-Let.is c.in-Let.e-is (omega arith) (omega arith)
 
+pub place_parts-place_literal-requires : goal.place_parts-place_literal-requires
+place_parts-place_literal-requires t c =
+    literal_falls _ c.in-Proc.body _ t c.decreases c.in-Proc.is (c.deref_mut-in-Proc.ensures.value ∙ ap (λ (b : Box Body Global). b.value) c.in-Proc.body-is)
+
+pub place_parts-place_loop-requires : goal.place_parts-place_loop-requires
+place_parts-place_loop-requires t c =
+    loop_falls _ c.in-For.it _ t c.decreases c.in-For.is (c.deref_mut.ensures.value ∙ ap (λ (b : Box Loop Global). b.value) c.in-For.it-is)
+
 pub place_parts-place_pair-requires : goal.place_parts-place_pair-requires
 place_parts-place_pair-requires t c =
     pair_falls 4 _ _ c.in-IfDo.c _ c.in-IfDo.a _ t c.decreases c.in-IfDo.is c.in-IfDo.c-is c.in-IfDo.a-is (omega arith) (omega arith)
@@ -451,6 +463,10 @@ place_parts-returns-in-Fill t c =
     let is : c.args.form.now ≡ code.Fill c.in-Fill.l c.in-Fill.u c.in-Fill.e c.in-Fill.ty c.in-Fill.line = c.in-Fill.is in
     formed placed_parts _ (λ (x : Triple). node.Fill x.both.first x.both.second x.third (ty_view c.in-Fill.ty) c.in-Fill.line) _ _ _ _ _ _ c.place_triple-in-Fill.result (at_three triple_does _ _ _ _ _ _ _ _ _ c.place_triple-in-Fill.result c.in-Fill.l-is c.in-Fill.u-is c.in-Fill.e-is c.place_triple-in-Fill.ensures) (ap node_of_form is) (λ around locals. refl) (rw is)
 
+pub place_parts-returns-in-For : goal.place_parts-returns-in-For
+place_parts-returns-in-For t c =
+    formed_as _ _ _ _ _ _ _ c.place_loop.result (at_one loop_does c.in-For.it.value _ _ _ _ c.place_loop.result (c.deref_mut.ensures.value ∙ ap (λ (b : Box Loop Global). b.value) c.in-For.it-is) c.place_loop.ensures) (ap node_of_form c.in-For.is) (λ around locals. refl) (search rules)
+
 pub place_parts-returns-in-IfDo : goal.place_parts-returns-in-IfDo
 unfolding ◌>>=◌ then_give
 place_parts-returns-in-IfDo t c =
@@ -526,6 +542,10 @@ unfolding ◌>>=◌ then_give out-TreeForm denote.Hole.Carrier.out
 place_parts-returns-in-Plus t c =
     let is : c.args.form.now ≡ code.Plus c.in-Plus.e = c.in-Plus.is in
     formed placed_parts _ (λ (x : Node). node.Plus x) _ _ _ _ _ _ c.place_tree-in-Plus.result (at_one tree_does _ _ _ _ _ c.place_tree-in-Plus.result c.in-Plus.e-is c.place_tree-in-Plus.ensures) (ap node_of_form is) (λ around locals. refl) (rw is)
+
+pub place_parts-returns-in-Proc : goal.place_parts-returns-in-Proc
+place_parts-returns-in-Proc t c =
+    formed_as _ _ _ _ _ _ _ c.place_literal.result (at_one body_does c.in-Proc.body.value _ _ _ _ c.place_literal.result (c.deref_mut-in-Proc.ensures.value ∙ ap (λ (b : Box Body Global). b.value) c.in-Proc.body-is) c.place_literal.ensures) (ap node_of_form c.in-Proc.is) (λ around locals. refl) (search rules)
 
 pub place_parts-returns-in-Repeat : goal.place_parts-returns-in-Repeat
 unfolding ◌>>=◌ then_give
