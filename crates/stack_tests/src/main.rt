@@ -30,6 +30,7 @@ mod came;
 mod outcome;
 mod program;
 mod rows;
+mod setting;
 mod settings;
 
 use crate::rows::compare_rows;

@@ -14,7 +14,7 @@ const INPUT: &[u8] = b"input ";
 #[derive(Clone, Copy)]
 pub struct Program<'a> {
     table: Table<'a>,
-    settings: Settings,
+    pub settings: Settings,
     kind: RowKind,
     pub row: &'a Row,
 }

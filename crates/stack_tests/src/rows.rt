@@ -23,9 +23,8 @@ fn compare_all(tables: &mut Tables, instructions: &[u8], file: &str, rows: &[Row
                 given = settings_of(PLAIN, file, row)?;
             }
             kind => {
-                let settings = settings_of(given, file, row)?;
                 let table = Table::new(instructions, names, constants);
-                compare(tables, file, Program::new(table, settings, kind, row))?;
+                compare_row(tables, file, Program::new(table, given, kind, row))?;
             }
         }
     }
@@ -41,6 +40,12 @@ fn kind_of(file: &str, row: &Row) -> Result<RowKind> {
 fn settings_of(given: Settings, file: &str, row: &Row) -> Result<Settings> {
     let place = format_args!("{file}, line {}: no such setting", row.line);
     given.changed_by(&row.head).context(place)
+}
+
+// Compares a row that is run, with the settings of its head in place of those that are given.
+fn compare_row(tables: &mut Tables, file: &str, mut program: Program<'_>) -> Result<()> {
+    program.settings = settings_of(program.settings, file, program.row)?;
+    compare(tables, file, program)
 }
 
 // Compares a row that is run.

@@ -1,3 +1,4 @@
+use crate::setting::Setting;
 use ps_base::code_unit::Frame;
 use row_words::{number_of, parted};
 
@@ -55,14 +56,13 @@ impl Settings {
     fn set(&mut self, word: &[u8]) -> Option<()> {
         let (name, digits) = parted(word, b'=');
         let number = number_of(digits)?;
-        match name {
-            b"turns" => self.turns = number,
-            b"words" => self.words = u32::try_from(number).ok()?,
-            b"nums" => self.nums = u16::try_from(number).ok()?,
-            b"refs" => self.refs = u16::try_from(number).ok()?,
-            b"failing" => self.failing = Some(number),
-            b"cut" => self.cut = usize::try_from(number).ok()?,
-            _ => return None,
+        match Setting::named(name)? {
+            Setting::Turns => self.turns = number,
+            Setting::Words => self.words = u32::try_from(number).ok()?,
+            Setting::Nums => self.nums = u16::try_from(number).ok()?,
+            Setting::Refs => self.refs = u16::try_from(number).ok()?,
+            Setting::Failing => self.failing = Some(number),
+            Setting::Cut => self.cut = usize::try_from(number).ok()?,
         }
         Some(())
     }
