@@ -1,8 +1,1 @@
-pub mod After
-pub mod Applying
-pub mod Blocks
-pub mod Lets
-pub mod Meeting
-pub mod Places
 pub mod Taking
-pub mod Views

@@ -9,12 +9,13 @@ ghost use Rattle.ps_typing.specs.Program.{Typed, Fails, check_program, end_line 
 ghost use Rattle.ps_checked.specs.Faults.{fault_of};
 ghost use Rattle.ps_check.specs.inside.Whole.{IsWhole};
 
-use crate::checker::Checker;
+use crate::program::program;
 use ps_base::line::Line;
 use ps_base::list::List;
 use ps_base::ty::Ty;
 use ps_checked::fault::CheckFault;
 use ps_checked::items::end_line;
+use ps_checker::checker::Checker;
 use ps_names::place;
 use ps_program::body::{Body, Program};
 use ps_program::form::Tree;
@@ -59,7 +60,7 @@ fn tree_and_names(alloc: Global, rough: Rough) -> Result<Whole, CheckFault>
     let end = end_line(&rough);
     let scope = Scope::new(alloc)?;
     let mut checker = Checker { alloc, scope };
-    let clause = checker.program(rough)?;
+    let clause = program(&mut checker, rough)?;
     let tree = clause.of_type(end, &Ty::Void)?;
     let names = checker.into_scope().into_locals();
     Ok(Whole { tree, names })

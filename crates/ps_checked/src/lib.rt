@@ -21,5 +21,6 @@ pub mod looks;
 pub mod loops;
 pub mod names;
 pub mod single;
+pub mod triple;
 pub mod vectors;
 pub mod wanted;

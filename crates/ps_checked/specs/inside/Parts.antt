@@ -10,7 +10,7 @@ use Rattle.ps_program.specs.Node as node
 use Rattle.ps_program.specs.NodeView.{node_of}
 use Rattle.ps_typing.specs.Library.{caller}
 use Rattle.ps_typing.specs.Names.{Names, meant}
-use Rattle.ps_typing.specs.Checking.{Outcome, Gives, ◌>>=◌, check, line_of, wants, passes, introduced, is_of, assigned}
+use Rattle.ps_typing.specs.Checking.{Outcome, Gives, ◌>>=◌, check, line_of, wants, passes, introduced, is_of, assigned, isnt_void}
 use Rattle.ps_checked.specs.declared.fits.Test.{Test}
 use Rattle.ps_checked.specs.declared.fits.Test.TheVariants as test
 use Rattle.ps_checked.specs.declared.wanted.Wanted.{Wanted}
@@ -19,6 +19,8 @@ use Rattle.ps_checked.specs.declared.single.Single.{Single}
 use Rattle.ps_checked.specs.declared.single.Single.TheVariants as single
 use Rattle.ps_checked.specs.declared.double.Double.{Double}
 use Rattle.ps_checked.specs.declared.double.Double.TheVariants as double
+use Rattle.ps_checked.specs.declared.triple.Triple.{Triple}
+use Rattle.ps_checked.specs.declared.triple.Triple.TheVariants as triple
 use Rattle.ps_checked.specs.inside.Answers.{test_of, wanted_by}
 use Rattle.ps_checked.specs.inside.Links.{joint_ty, joint_node}
 
@@ -98,3 +100,19 @@ abbrev pub check_double : Double → Names → Phrase → Phrase → Outcome Nod
 check_double form names a b =
     meets (double_first form) (line_of a) (check names a) >>= λ a t names.
     meets (double_second form t) (line_of b) (check names b) >>= λ b s names. double_made form a t b s names
+
+-- three parts: the first, and then two
+abbrev pub triple_first : Triple → Want
+triple_first triple.IfElse = this types.Bool
+triple_first (triple.Fill line) = this types.Int
+
+abbrev pub triple_rest : Triple → Node → Names → Phrase → Phrase → Outcome Node
+triple_rest triple.IfElse c names a b =
+    check names a >>= λ a t names.
+    wants t (line_of b) (check names b) >>= λ b s names. Gives (node.IfElse c a b) t names
+triple_rest (triple.Fill line) l names u e =
+    wants types.Int (line_of u) (check names u) >>= λ u t names.
+    passes isnt_void types.Bool (line_of e) (check names e) >>= λ e t names. Gives (node.Fill l u e (types.Vector t) line) (types.Vector t) names
+
+abbrev pub check_triple : Triple → Names → Phrase → Phrase → Phrase → Outcome Node
+check_triple form names a b c = meets (triple_first form) (line_of a) (check names a) >>= λ a t names. triple_rest form a names b c

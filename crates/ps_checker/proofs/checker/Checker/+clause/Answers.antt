@@ -11,36 +11,36 @@ use Rattle.ps_typing.specs.Names.{Names, behind, declare_local, inside, is_decla
 use Rattle.ps_typing.specs.Checking.{Gives, Refuses, check, check_form, check_all, check_each, check_args, check_written, check_arms, checkers, wants, value_applied, with_args, ◌>>=◌, like, elements, check_if_any, first_type, types_of, with_params, scan_applied}
 use Rattle.ps_checked.specs.inside.Answers.{IsFault}
 use Rattle.ps_checked.specs.inside.Links.{check_link, check_links}
-use Rattle.ps_checked.specs.inside.Weights.{weight, weight_all, weight_form, weight_item, weight_written, weight_arm, weight_arms, weight_link, weight_links}
+use Rattle.ps_checked.specs.inside.Weights.{weight, weight_all, weight_form, weight_if_any, weight_item, weight_written, weight_arm, weight_arms, weight_link, weight_links}
 use Rattle.ps_checked.proofs.Steps.{given, fails_as, fails_first, fails_next, is_fault, made, leads, exits, remade, remade_both, as_wanted, fails_as_wanted}
 use Rattle.ps_base.specs.declared.ty.Signature.{Signature}
 use Rattle.ps_base.proofs.TyLemmas.{ty_view-Proc}
 use Rattle.ps_tree.proofs.PhraseLemmas.{form_of-Sequence, form_of-Write, form_of-Apply, form_of-Elems, form_of-Case, maybe_boxed-back}
 use Rattle.ps_tree.specs.declared.rough.RoughRange.{out-RoughRange}
 use Rattle.ps_checked.specs.inside.Forms.{check_literal, head_node}
-use Rattle.ps_check.proofs.After.{after, after_nodes, after_nothing, fails_after, fails_in_all, pushed, finished, pushed_arm, finished_arms, first_is, each_step, args_step, all_is, all_step, written_is, written_step, arms_are, arms_step, arm_made}
-use Rattle.ps_check.proofs.Applying.{two_of, not_two, not_void, same_number, other_number, no_args, elements_are, some_subscripts}
+use Rattle.ps_checker.proofs.After.{after, after_nodes, after_nothing, fails_after, fails_in_all, pushed, finished, pushed_arm, finished_arms, first_is, each_step, args_step, all_is, all_step, written_is, written_step, arms_are, arms_step, arm_made}
+use Rattle.ps_checker.proofs.Applying.{two_of, not_two, not_void, same_number, other_number, no_args, elements_are, some_subscripts}
 use Rattle.ps_checked.proofs.LinkSteps.{one_link, one_weight, fails_links, check_links-push, weight_links-push}
-use Rattle.ps_check.proofs.Lets.{let_literal, let_other}
+use Rattle.ps_checker.proofs.Lets.{let_literal, let_other}
 use Rattle.ps_program.proofs.NodeLists.{case_is}
 use Rattle.ps_program.specs.inside.PartsView.{arms_in}
 use Rattle.ps_tree.specs.declared.rough.RoughArm.{out-RoughArm}
 use Rattle.ps_checked.specs.inside.Cases.{check_arm, all_arms}
 use Rattle.ps_checked.specs.inside.Lists.{check_item}
-use Rattle.ps_check.proofs.Places.{weight_at, item_weight_at, arm_weight_at, phrases_from, items_from, arms_from, types_from, phrases_behind, items_behind, arms_behind, empty}
-use Rattle.ps_check.proofs.Views.{form_of-For, arm_of-parts, item_of-parts}
+use Rattle.ps_checker.proofs.Places.{weight_at, item_weight_at, arm_weight_at, phrases_from, items_from, arms_from, types_from, phrases_behind, items_behind, arms_behind, empty}
+use Rattle.ps_checker.proofs.Views.{form_of-For, arm_of-parts, item_of-parts}
 use Rattle.ps_program.specs.declared.place.Place.TheVariants.{Plain}
 use Rattle.ps_typing.proofs.Keeps.{keeps_around, keeps_fields_around, all_keeps_around, all_keeps_fields_around, params_keep_around, params_keep_fields_around}
 use Rattle.ps_checked.specs.inside.Views.{literal_of, groups_of}
-use Rattle.ps_check.proofs.Blocks.{stays, unpassed}
+use Rattle.ps_checker.proofs.Blocks.{stays, unpassed}
 use Rattle.ps_checked.proofs.Declaring.{few, many, count_is}
 use Rattle.ps_tree.specs.declared.rough.RoughItem.{out-RoughItem}
 use Rattle.ps_checked.specs.inside.Parts.{this, meets, want_of, check_double}
-use Rattle.ps_check.proofs.Meeting.{fails_unmet, fails_met, as_met}
+use Rattle.ps_checker.proofs.Meeting.{fails_unmet, fails_met, as_met}
 use Rattle.ps_base.specs.TyView as types
 use Rattle.ps_tree.specs.Phrase as form
 use Rattle.ps_program.specs.Node as node
-use Rattle.ps_check.proofs.checker.Checker.+clause.Goals as goal
+use Rattle.ps_checker.proofs.checker.Checker.+clause.Goals as goal
 use Rattle.ps_checked.specs.declared.double.Double.TheVariants as double
 
 pub clause-returns-in-IfDo : goal.clause-returns-in-IfDo
@@ -50,10 +50,10 @@ pub clause-returns-in-While : goal.clause-returns-in-While
 clause-returns-in-While t c = leads _ _ _ _ (ap (λ f. check_form (names_of c.args.self.now.scope) c.args.rough.now.line (form_of f)) (sym c.deref.ensures ∙ c.in-While.is)) c.double-in-While.ensures
 
 pub clause-returns-in-IfElse : goal.clause-returns-in-IfElse
-clause-returns-in-IfElse t c = leads _ _ _ _ (ap (λ f. check_form (names_of c.args.self.now.scope) c.args.rough.now.line (form_of f)) (sym c.deref.ensures ∙ c.in-IfElse.is)) c.if_else.ensures
+clause-returns-in-IfElse t c = leads _ _ _ _ (ap (λ f. check_form (names_of c.args.self.now.scope) c.args.rough.now.line (form_of f)) (sym c.deref.ensures ∙ c.in-IfElse.is)) c.triple.ensures
 
 pub clause-returns-in-Vector : goal.clause-returns-in-Vector
-clause-returns-in-Vector t c = leads _ _ _ _ (ap (λ f. check_form (names_of c.args.self.now.scope) c.args.rough.now.line (form_of f)) (sym c.deref.ensures ∙ c.in-Vector.is)) c.filled.ensures
+clause-returns-in-Vector t c = leads _ _ _ _ (ap (λ f. check_form (names_of c.args.self.now.scope) c.args.rough.now.line (form_of f)) (sym c.deref.ensures ∙ c.in-Vector.is)) c.triple-in-Vector.ensures
 
 pub clause-returns-in-Assign : goal.clause-returns-in-Assign
 clause-returns-in-Assign t c = leads _ _ _ _ (ap (λ f. check_form (names_of c.args.self.now.scope) c.args.rough.now.line (form_of f)) (sym c.deref.ensures ∙ c.in-Assign.is) ∙ ap (λ v. check_double (double.Assign c.args.rough.now.line c.in-Assign.e.line v) (names_of c.args.self.now.scope) (phrase_of c.in-Assign.x) (phrase_of c.in-Assign.e)) (sym c.can_be_assigned-variable.ensures)) c.double-in-Assign.ensures
@@ -107,31 +107,31 @@ pub clause-case_of-requires : goal.clause-case_of-requires
 clause-case_of-requires t c =
     let is : form_of c.args.rough.now.form.value ≡ form.Case (phrase_of c.in-Case.e) (rough_arms_in c.as_slice-in-Case.result.now) (phrase_of c.in-Case.d) = ap form_of (sym c.deref.ensures ∙ c.in-Case.is) ∙ form_of-Case c.in-Case.e c.in-Case.arms c.in-Case.d ∙ ap (λ arms. form.Case (phrase_of c.in-Case.e) (rough_arms_in arms) (phrase_of c.in-Case.d)) (sym (c.as_slice-in-Case.ensures ∙ ap items_of c.deref-in-Case.ensures)) in
     let light : weight (phrase_of c.args.rough.now) ≡ weight_form (form.Case (phrase_of c.in-Case.e) (rough_arms_in c.as_slice-in-Case.result.now) (phrase_of c.in-Case.d)) + 1 = ap (λ f. weight_form f + 1) is in
-    search (rules, light)
+    (omega (arith, c.decreases, light), tt)
 
 pub clause-write-requires : goal.clause-write-requires
 clause-write-requires t c =
     let is : form_of c.args.rough.now.form.value ≡ form.Write (items_in c.as_slice-in-Write.result.now) = ap form_of (sym c.deref.ensures ∙ c.in-Write.is) ∙ form_of-Write c.in-Write.items ∙ ap (λ items. form.Write (items_in items)) (sym c.as_slice-in-Write.ensures) in
     let light : weight (phrase_of c.args.rough.now) ≡ weight_form (form.Write (items_in c.as_slice-in-Write.result.now)) + 1 = ap (λ f. weight_form f + 1) is in
-    search (rules, light)
+    (omega (arith, c.decreases, light), tt)
 
 pub clause-elements-requires : goal.clause-elements-requires
 clause-elements-requires t c =
     let is : form_of c.args.rough.now.form.value ≡ form.Elems (phrase_of c.in-Elems.l) (ty_view c.in-Elems.ty.value) (phrases_in c.as_slice-in-Elems.result.now) = ap form_of (sym c.deref.ensures ∙ c.in-Elems.is) ∙ form_of-Elems c.in-Elems.l c.in-Elems.ty c.in-Elems.items ∙ ap (λ items. form.Elems (phrase_of c.in-Elems.l) (ty_view c.in-Elems.ty.value) (phrases_in items)) (sym c.as_slice-in-Elems.ensures) in
     let light : weight (phrase_of c.args.rough.now) ≡ weight_form (form.Elems (phrase_of c.in-Elems.l) (ty_view c.in-Elems.ty.value) (phrases_in c.as_slice-in-Elems.result.now)) + 1 = ap (λ f. weight_form f + 1) is in
-    search (rules, light)
+    (omega (arith, c.decreases, light), tt)
 
 pub clause-application-requires : goal.clause-application-requires
 clause-application-requires t c =
     let is : form_of c.args.rough.now.form.value ≡ form.Apply (phrase_of c.in-Apply.f) (phrases_in c.as_slice-in-Apply.result.now) = ap form_of (sym c.deref.ensures ∙ c.in-Apply.is) ∙ form_of-Apply c.in-Apply.f c.in-Apply.args ∙ ap (λ items. form.Apply (phrase_of c.in-Apply.f) (phrases_in items)) (sym c.as_slice-in-Apply.ensures) in
     let light : weight (phrase_of c.args.rough.now) ≡ weight_form (form.Apply (phrase_of c.in-Apply.f) (phrases_in c.as_slice-in-Apply.result.now)) + 1 = ap (λ f. weight_form f + 1) is in
-    search (rules, light)
+    (omega (arith, c.decreases, light), tt)
 
 pub clause-sequence-requires : goal.clause-sequence-requires
 clause-sequence-requires t c =
     let is : form_of c.args.rough.now.form.value ≡ form.Sequence (phrases_in c.as_slice-in-Sequence.result.now) = ap form_of (sym c.deref.ensures ∙ c.in-Sequence.is) ∙ form_of-Sequence c.in-Sequence.items ∙ ap (λ items. form.Sequence (phrases_in items)) (sym c.as_slice-in-Sequence.ensures) in
     let light : weight (phrase_of c.args.rough.now) ≡ weight_form (form.Sequence (phrases_in c.as_slice-in-Sequence.result.now)) + 1 = ap (λ f. weight_form f + 1) is in
-    search (rules, light)
+    (omega (arith, c.decreases, light), tt)
 
 pub clause-returns-in-Not : goal.clause-returns-in-Not
 clause-returns-in-Not t c = leads _ _ _ _ (ap (λ f. check_form (names_of c.args.self.now.scope) c.args.rough.now.line (form_of f)) (sym c.deref.ensures ∙ c.in-Not.is)) c.single.ensures
@@ -145,17 +145,114 @@ clause-returns-in-Neg t c = leads _ _ _ _ (ap (λ f. check_form (names_of c.args
 pub clause-returns-in-Bound : goal.clause-returns-in-Bound
 clause-returns-in-Bound t c = leads _ _ _ _ (ap (λ f. check_form (names_of c.args.self.now.scope) c.args.rough.now.line (form_of f)) (sym c.deref.ensures ∙ c.in-Bound.is)) c.single-in-Bound.ensures
 
+pub clause-declaration-requires : goal.clause-declaration-requires
+clause-declaration-requires t c =
+    let whole = ap (λ f. weight_form (form_of f)) (sym c.deref.ensures ∙ c.in-Let.is) in
+    (omega (arith, c.decreases, whole), tt)
+
+pub clause-double-requires : goal.clause-double-requires
+clause-double-requires t c =
+    let whole = ap (λ f. weight_form (form_of f)) (sym c.deref.ensures ∙ c.in-IfDo.is) in
+    (omega (arith, c.decreases, whole), tt)
+
+pub clause-double-requires-in-While : goal.clause-double-requires-in-While
+clause-double-requires-in-While t c =
+    let whole = ap (λ f. weight_form (form_of f)) (sym c.deref.ensures ∙ c.in-While.is) in
+    (omega (arith, c.decreases, whole), tt)
+
+pub clause-double-requires-in-Assign : goal.clause-double-requires-in-Assign
+clause-double-requires-in-Assign t c =
+    let whole = ap (λ f. weight_form (form_of f)) (sym c.deref.ensures ∙ c.in-Assign.is) in
+    (omega (arith, c.decreases, whole), tt)
+
+pub clause-double-requires-in-Compare : goal.clause-double-requires-in-Compare
+clause-double-requires-in-Compare t c =
+    let whole = ap (λ f. weight_form (form_of f)) (sym c.deref.ensures ∙ c.in-Compare.is) in
+    (omega (arith, c.decreases, whole), tt)
+
+pub clause-triple-requires : goal.clause-triple-requires
+clause-triple-requires t c =
+    let whole = ap (λ f. weight_form (form_of f)) (sym c.deref.ensures ∙ c.in-IfElse.is) in
+    (omega (arith, c.decreases, whole), tt)
+
+pub clause-triple-requires-in-Vector : goal.clause-triple-requires-in-Vector
+clause-triple-requires-in-Vector t c =
+    let whole = ap (λ f. weight_form (form_of f)) (sym c.deref.ensures ∙ c.in-Vector.is) in
+    (omega (arith, c.decreases, whole), tt)
+
+pub clause-chain-requires : goal.clause-chain-requires
+clause-chain-requires t c =
+    let whole = ap (λ f. weight_form (form_of f)) (sym c.deref.ensures ∙ c.in-Or.is) in
+    (omega (arith, c.decreases, whole, c.new-in-Or.ensures.weight), tt)
+
+pub clause-chain-requires-in-And : goal.clause-chain-requires-in-And
+clause-chain-requires-in-And t c =
+    let whole = ap (λ f. weight_form (form_of f)) (sym c.deref.ensures ∙ c.in-And.is) in
+    (omega (arith, c.decreases, whole, c.new-in-And.ensures.weight), tt)
+
+pub clause-chain-requires-in-Join : goal.clause-chain-requires-in-Join
+clause-chain-requires-in-Join t c =
+    let whole = ap (λ f. weight_form (form_of f)) (sym c.deref.ensures ∙ c.in-Join.is) in
+    (omega (arith, c.decreases, whole, c.new-in-Join.ensures.weight), tt)
+
+pub clause-chain-requires-in-Arith : goal.clause-chain-requires-in-Arith
+clause-chain-requires-in-Arith t c =
+    let whole = ap (λ f. weight_form (form_of f)) (sym c.deref.ensures ∙ c.in-Arith.is) in
+    (omega (arith, c.decreases, whole, c.new-in-Arith.ensures.weight), tt)
+
+pub clause-chain-requires-in-Part : goal.clause-chain-requires-in-Part
+clause-chain-requires-in-Part t c =
+    let whole = ap (λ f. weight_form (form_of f)) (sym c.deref.ensures ∙ c.in-Part.is) in
+    (omega (arith, c.decreases, whole, c.part.ensures.weight), tt)
+
+pub clause-single-requires : goal.clause-single-requires
+clause-single-requires t c =
+    let whole = ap (λ f. weight_form (form_of f)) (sym c.deref.ensures ∙ c.in-Not.is) in
+    (omega (arith, c.decreases, whole), tt)
+
+pub clause-single-requires-in-Plus : goal.clause-single-requires-in-Plus
+clause-single-requires-in-Plus t c =
+    let whole = ap (λ f. weight_form (form_of f)) (sym c.deref.ensures ∙ c.in-Plus.is) in
+    (omega (arith, c.decreases, whole), tt)
+
+pub clause-single-requires-in-Neg : goal.clause-single-requires-in-Neg
+clause-single-requires-in-Neg t c =
+    let whole = ap (λ f. weight_form (form_of f)) (sym c.deref.ensures ∙ c.in-Neg.is) in
+    (omega (arith, c.decreases, whole), tt)
+
+pub clause-single-requires-in-Is : goal.clause-single-requires-in-Is
+clause-single-requires-in-Is t c =
+    let whole = ap (λ f. weight_form (form_of f)) (sym c.deref.ensures ∙ c.in-Is.is) in
+    (omega (arith, c.decreases, whole), tt)
+
+pub clause-single-requires-in-Bound : goal.clause-single-requires-in-Bound
+clause-single-requires-in-Bound t c =
+    let whole = ap (λ f. weight_form (form_of f)) (sym c.deref.ensures ∙ c.in-Bound.is) in
+    (omega (arith, c.decreases, whole), tt)
+
+pub clause-repeat-requires : goal.clause-repeat-requires
+clause-repeat-requires t c =
+    let whole = ap (λ f. weight_form (form_of f)) (sym c.deref.ensures ∙ c.in-Repeat.is) in
+    let third = ap weight_if_any (maybe_boxed-back c.in-Repeat.b ∙ sym c.lent_boxed.ensures) in
+    (omega (arith, c.decreases, whole, third), tt)
+
 pub part-returns-in_err-clause : goal.part-returns-in_err-clause
 part-returns-in_err-clause t c = exits c.from_residual.result _ c.in_err-clause.field-0.0 _ c.from_residual.ensures.1 (fails_unmet _ _ _ _ c.in_err-clause.ensures)
 
 pub part-returns : goal.part-returns
 part-returns t c = leads _ _ _ _ (ap (meets (want_of c.args.wanted) c.args.rough.now.line) c.in_ok-clause.ensures) (c.met.ensures c.clause.new.self.scope)
 
+pub part-clause-requires : goal.part-clause-requires
+part-clause-requires t c = (omega (arith, c.decreases), tt)
+
 pub single-returns-in_err-e : goal.single-returns-in_err-e
 single-returns-in_err-e t c = exits c.from_residual.result _ c.in_err-e.field-0.0 _ c.from_residual.ensures.1 (fails_first _ _ _ (fails_met _ _ _ c.wanted.ensures c.in_err-e.ensures))
 
 pub single-returns : goal.single-returns
 single-returns t c = leads _ _ _ _ (given _ _ _ _ _ (as_met _ _ _ _ _ c.wanted.ensures c.in_ok-e.ensures)) c.made.ensures
+
+pub single-part-requires : goal.single-part-requires
+single-part-requires t c = (omega (arith, c.decreases), tt)
 
 pub double-returns-in_err-a : goal.double-returns-in_err-a
 double-returns-in_err-a t c = exits c.from_residual.result _ c.in_err-a.field-0.0 _ c.from_residual.ensures.1 (fails_first _ _ _ (fails_met _ _ _ c.first.ensures c.in_err-a.ensures))
@@ -166,17 +263,23 @@ double-returns-in_err-b t c = exits c.from_residual-in_err-b.result _ c.in_err-b
 pub double-returns : goal.double-returns
 double-returns t c = leads _ _ _ _ (given _ _ _ _ _ (as_met _ _ _ _ _ c.first.ensures c.in_ok-a.ensures) ∙ given _ _ _ _ _ (as_met _ _ _ _ _ c.in_ok-wanted.ensures c.in_ok-b.ensures)) (c.made.ensures c.part-2.new.self.scope)
 
-pub if_else-returns-in_err-c : goal.if_else-returns-in_err-c
-if_else-returns-in_err-c t c = exits c.from_residual.result _ c.in_err-c.field-0.0 _ c.from_residual.ensures.1 (fails_first _ _ _ c.in_err-c.ensures)
+pub double-part-requires : goal.double-part-requires
+double-part-requires t c = (omega (arith, c.decreases), tt)
 
-pub if_else-returns : goal.if_else-returns
-if_else-returns t c = leads _ _ _ _ (given _ _ _ _ _ c.in_ok-c.ensures) c.double.ensures
+pub double-part-requires-2 : goal.double-part-requires-2
+double-part-requires-2 t c = (omega (arith, c.decreases), tt)
 
-pub filled-returns-in_err-l : goal.filled-returns-in_err-l
-filled-returns-in_err-l t c = exits c.from_residual.result _ c.in_err-l.field-0.0 _ c.from_residual.ensures.1 (fails_first _ _ _ c.in_err-l.ensures)
+pub triple-returns-in_err-tree : goal.triple-returns-in_err-tree
+triple-returns-in_err-tree t c = exits c.from_residual.result _ c.in_err-tree.field-0.0 _ c.from_residual.ensures.1 (fails_first _ _ _ (fails_met _ _ _ c.first.ensures c.in_err-tree.ensures))
 
-pub filled-returns : goal.filled-returns
-filled-returns t c = leads _ _ _ _ (given _ _ _ _ _ c.in_ok-l.ensures) c.double.ensures
+pub triple-returns : goal.triple-returns
+triple-returns t c = leads _ _ _ _ (given _ _ _ _ _ (as_met _ _ _ _ _ c.first.ensures c.in_ok-tree.ensures) ∙ sym (c.rest.ensures _ _ _)) c.double.ensures
+
+pub triple-part-requires : goal.triple-part-requires
+triple-part-requires t c = (omega (arith, c.decreases), tt)
+
+pub triple-double-requires : goal.triple-double-requires
+triple-double-requires t c = (omega (arith, c.decreases), tt)
 
 pub elements-returns-in_err-l : goal.elements-returns-in_err-l
 elements-returns-in_err-l t c = exits c.from_residual.result _ c.in_err-l.field-0.0 _ c.from_residual.ensures.1 (fails_first _ _ _ c.in_err-l.ensures)
@@ -186,6 +289,12 @@ elements-returns-in_err-items t c = exits c.from_residual-in_err-items.result _ 
 
 pub elements-returns : goal.elements-returns
 elements-returns t c = made _ _ _ _ c.listed.result (given _ _ _ _ _ c.in_ok-l.ensures ∙ given _ _ _ _ _ c.in_ok-items.ensures.1) c.listed.ensures
+
+pub elements-part-requires : goal.elements-part-requires
+elements-part-requires t c = (omega (arith, c.decreases), tt)
+
+pub elements-each-requires : goal.elements-each-requires
+elements-each-requires t c = (omega (arith, c.decreases), tt)
 
 pub repeat-returns-in_err-a : goal.repeat-returns-in_err-a
 repeat-returns-in_err-a t c = exits c.from_residual.result _ c.in_err-a.field-0.0 _ c.from_residual.ensures.1 (fails_first _ _ _ c.in_err-a.ensures)
@@ -198,6 +307,15 @@ repeat-returns-in_err-b t c = exits c.from_residual-in_err-b.result _ c.in_err-b
 
 pub repeat-returns : goal.repeat-returns
 repeat-returns t c = made _ _ _ _ c.new.result (given _ _ _ _ _ (c.in_ok-a.ensures) ∙ given _ _ _ _ _ (c.in_ok-c.ensures) ∙ given _ _ _ _ _ (c.in_ok-b.ensures)) c.new.ensures
+
+pub repeat-part-requires : goal.repeat-part-requires
+repeat-part-requires t c = (omega (arith, c.decreases), tt)
+
+pub repeat-part-requires-2 : goal.repeat-part-requires-2
+repeat-part-requires-2 t c = (omega (arith, c.decreases), tt)
+
+pub repeat-if_any-requires : goal.repeat-if_any-requires
+repeat-if_any-requires t c = (omega (arith, c.decreases), tt)
 
 pub counted-returns-in_err-a : goal.counted-returns-in_err-a
 counted-returns-in_err-a t c = exits c.from_residual.result _ c.in_err-a.field-0.0 _ c.from_residual.ensures.1 (fails_first _ _ _ c.in_err-a.ensures)
@@ -220,18 +338,32 @@ counted-leave-requires-clause-fields t c = stays _ _ _ _ (keeps_fields_around (d
 pub counted-returns : goal.counted-returns
 counted-returns t c = made _ _ _ _ c.loop_of.result (given _ _ _ _ _ (c.in_ok-a.ensures) ∙ given _ _ _ _ _ (c.in_ok-b.ensures) ∙ given _ _ _ _ _ ((subst (λ m. check_if_any (names_of c.part-2.new.self.scope) types.Int (node.Int (pos 1)) m ≡ Gives (node_of c.in_ok-c.field-0.tree) (ty_view c.in_ok-c.field-0.ty) (names_of c.if_any.new.self.scope)) c.lent.ensures c.in_ok-c.ensures)) ∙ given _ _ _ _ _ (subst (λ n. wants Void c.args.s.now.line (check n (phrase_of c.args.s.now)) ≡ Gives (node_of c.in_ok-s.field-0.tree) (ty_view c.in_ok-s.field-0.ty) (names_of c.part-3.new.self.scope)) (c.in_ok-number.ensures.names ∙ ap (λ nm. declare_local (names_of c.enter-block.new.self) nm types.Int false) c.as_slice-name.ensures ∙ ap (λ n. declare_local n c.args.name.now.name types.Int false) c.enter-block.ensures.names) c.in_ok-s.ensures) ∙ ap (λ n. Gives (node.For 0 (node_of c.in_ok-a.field-0.tree) (node_of c.in_ok-b.field-0.tree) (node_of c.in_ok-c.field-0.tree) None (Plain (length (names_of c.if_any.new.self.scope).all)) (node_of c.in_ok-s.field-0.tree) c.args.line) Void n) (sym (c.leave.ensures (names_of c.if_any.new.self.scope) (keeps_around (declare_local (inside (names_of c.if_any.new.self.scope)) c.args.name.now.name types.Int false) (phrase_of c.args.s.now) _ _ _ (unpassed _ _ _ _ _ _ _ (subst (λ n. wants Void c.args.s.now.line (check n (phrase_of c.args.s.now)) ≡ Gives (node_of c.in_ok-s.field-0.tree) (ty_view c.in_ok-s.field-0.ty) (names_of c.part-3.new.self.scope)) (c.in_ok-number.ensures.names ∙ ap (λ nm. declare_local (names_of c.enter-block.new.self) nm types.Int false) c.as_slice-name.ensures ∙ ap (λ n. declare_local n c.args.name.now.name types.Int false) c.enter-block.ensures.names) c.in_ok-s.ensures))) (keeps_fields_around (declare_local (inside (names_of c.if_any.new.self.scope)) c.args.name.now.name types.Int false) (phrase_of c.args.s.now) _ _ _ (unpassed _ _ _ _ _ _ _ (subst (λ n. wants Void c.args.s.now.line (check n (phrase_of c.args.s.now)) ≡ Gives (node_of c.in_ok-s.field-0.tree) (ty_view c.in_ok-s.field-0.ty) (names_of c.part-3.new.self.scope)) (c.in_ok-number.ensures.names ∙ ap (λ nm. declare_local (names_of c.enter-block.new.self) nm types.Int false) c.as_slice-name.ensures ∙ ap (λ n. declare_local n c.args.name.now.name types.Int false) c.enter-block.ensures.names) c.in_ok-s.ensures))) c.enter-block.ensures.names_around c.enter-block.ensures.fields_around))) (remade _ _ _ c.loop_of.result (ap (λ k. node.For 0 (node_of c.in_ok-a.field-0.tree) (node_of c.in_ok-b.field-0.tree) (node_of c.in_ok-c.field-0.tree) None (Plain k) (node_of c.in_ok-s.field-0.tree) c.args.line) (c.in_ok-number.ensures.number ∙ ap (λ (n : Names). length n.all) c.enter-block.ensures.names)) c.loop_of.ensures)
 
+pub counted-part-requires : goal.counted-part-requires
+counted-part-requires t c = (omega (arith, c.decreases), tt)
+
+pub counted-part-requires-2 : goal.counted-part-requires-2
+counted-part-requires-2 t c = (omega (arith, c.decreases), tt)
+
+pub counted-part-requires-3 : goal.counted-part-requires-3
+counted-part-requires-3 t c = (omega (arith, c.decreases), tt)
+
+pub counted-if_any-requires : goal.counted-if_any-requires
+counted-if_any-requires t c =
+    let third = ap weight_if_any c.lent.ensures in
+    (omega (arith, c.decreases, third), tt)
+
 pub each-loop-clause-init : goal.each-loop-clause-init
 each-loop-clause-init t c = ap (λ ts. after (after_nodes ts) (check_each (names_of c.args.self.now.scope) (ty_view c.args.ty.now) (checkers (phrases_in c.args.clauses.now)))) c.new-trees.ensures.items ∙ after_nothing _ _ (λ ts. refl)
 
 pub each-returns-in_err-tree : goal.each-returns-in_err-tree
 each-returns-in_err-tree t c =
-    let below : c.loop-clause.clause-index < length c.args.clauses.now = search rules in
+    let below = c.loop-clause-test.true in
     let cut = phrases_from c.args.clauses.now c.loop-clause.clause-index c.clause-item.result below c.clause-item.is in
     exits c.from_residual-in_err-tree.result _ c.in_err-tree.field-0.0 _ c.from_residual-in_err-tree.ensures.1 (fails_after _ _ _ _ c.loop-clause.invariant (fails_as _ _ _ (ap (λ ps. check_each (names_of c.loop-clause.self.scope) (ty_view c.args.ty.now) (checkers ps)) cut) (fails_first _ _ _ (fails_met _ _ _ (ap this c.in_ok-copy.ensures) c.in_err-tree.ensures))))
 
 pub each-loop-clause-preserved : goal.each-loop-clause-preserved
 each-loop-clause-preserved t c =
-    let below : c.loop-clause.clause-index < length c.args.clauses.now = search rules in
+    let below = c.loop-clause-test.true in
     let cut = phrases_from c.args.clauses.now c.loop-clause.clause-index c.clause-item.result below c.clause-item.is in
     pushed c.loop-clause.trees.items _ c.in_ok-tree.field-0.tree _ _ _ c.in_ok-push.ensures.items (ap (λ ps. check_each (names_of c.loop-clause.self.scope) (ty_view c.args.ty.now) (checkers ps)) cut ∙ each_step _ _ (ty_view c.args.ty.now) _ _ (phrase_of c.clause-item.result) (phrases_in (drop (c.loop-clause.clause-index + 1) c.args.clauses.now)) (as_met _ _ _ _ _ (ap this c.in_ok-copy.ensures) c.in_ok-tree.ensures)) c.loop-clause.invariant
 
@@ -242,16 +374,16 @@ each-returns t c =
 
 pub each-part-requires : goal.each-part-requires
 each-part-requires t c =
-    let below : c.loop-clause.clause-index < length c.args.clauses.now = search rules in
+    let below = c.loop-clause-test.true in
     let light : weight (phrase_of c.clause-item.result) ≤ weight_all (phrases_in c.args.clauses.now) = subst (λ r. weight (phrase_of r) ≤ weight_all (phrases_in c.args.clauses.now)) (sym c.clause-item.is) (weight_at c.args.clauses.now c.loop-clause.clause-index _ below) in
-    search (rules, light)
+    (omega (arith, c.decreases, light), tt)
 
 pub arguments-loop-i-init : goal.arguments-loop-i-init
 arguments-loop-i-init t c = ap (λ ts. after (after_nodes ts) (check_args (names_of c.args.self.now.scope) (ty_views c.args.types.now) (checkers (phrases_in c.args.args.now)))) c.new-trees.ensures.items ∙ after_nothing _ _ (λ ts. refl)
 
 pub arguments-returns-in_err-tree : goal.arguments-returns-in_err-tree
 arguments-returns-in_err-tree t c =
-    let below : c.loop-i.i < length c.args.args.now = search rules in
+    let below = c.loop-i-test.true in
     let below_types : c.loop-i.i < length c.args.types.now = let same = c.requires in omega (arith, below, same) in
     let cut = phrases_from c.args.args.now c.loop-i.i c.index-args-i.result below c.index-args-i.is in
     let types_cut = types_from c.args.types.now c.loop-i.i c.index-types-i.result below_types c.index-types-i.is in
@@ -259,7 +391,7 @@ arguments-returns-in_err-tree t c =
 
 pub arguments-loop-i-preserved : goal.arguments-loop-i-preserved
 arguments-loop-i-preserved t c =
-    let below : c.loop-i.i < length c.args.args.now = search rules in
+    let below = c.loop-i-test.true in
     let below_types : c.loop-i.i < length c.args.types.now = let same = c.requires in omega (arith, below, same) in
     let cut = phrases_from c.args.args.now c.loop-i.i c.index-args-i.result below c.index-args-i.is in
     let types_cut = types_from c.args.types.now c.loop-i.i c.index-types-i.result below_types c.index-types-i.is in
@@ -272,41 +404,35 @@ arguments-returns t c =
 
 pub arguments-part-requires : goal.arguments-part-requires
 arguments-part-requires t c =
-    let below : c.loop-i.i < length c.args.args.now = search rules in
+    let below = c.loop-i-test.true in
     let light : weight (phrase_of c.index-args-i.result) ≤ weight_all (phrases_in c.args.args.now) = subst (λ r. weight (phrase_of r) ≤ weight_all (phrases_in c.args.args.now)) (sym c.index-args-i.is) (weight_at c.args.args.now c.loop-i.i _ below) in
-    search (rules, light)
+    (omega (arith, c.decreases, light), tt)
 
-pub write-returns-in_err-trees : goal.write-returns-in_err-trees
-write-returns-in_err-trees t c = exits c.from_residual.result _ c.in_err-trees.field-0.0 _ c.from_residual.ensures.1 (fails_first _ _ _ c.in_err-trees.ensures)
+pub write-loop-item-init : goal.write-loop-item-init
+write-loop-item-init t c = ap (λ ts. after (after_nodes ts) (check_written (names_of c.args.self.now.scope) (items_in c.args.items.now))) c.new-trees.ensures.items ∙ after_nothing _ _ (λ ts. refl)
 
-pub write-returns : goal.write-returns
-write-returns t c = made _ _ _ _ c.one_or_sequence.result (given _ _ _ _ _ c.in_ok-trees.ensures.1) c.one_or_sequence.ensures
-
-pub written-loop-item-init : goal.written-loop-item-init
-written-loop-item-init t c = ap (λ ts. after (after_nodes ts) (check_written (names_of c.args.self.now.scope) (items_in c.args.items.now))) c.new-trees.ensures.items ∙ after_nothing _ _ (λ ts. refl)
-
-pub written-written_item-requires : goal.written-written_item-requires
-written-written_item-requires t c =
-    let below : c.loop-item.item-index < length c.args.items.now = search rules in
+pub write-written_item-requires : goal.write-written_item-requires
+write-written_item-requires t c =
+    let below = c.loop-item-test.true in
     let light : weight_item (item_of c.item-item.result) ≤ weight_written (items_in c.args.items.now) = subst (λ r. weight_item (item_of r) ≤ weight_written (items_in c.args.items.now)) (sym c.item-item.is) (item_weight_at c.args.items.now c.loop-item.item-index _ below) in
-    search (rules, light)
+    (omega (arith, c.decreases, light), tt)
 
-pub written-returns-in_err-tree : goal.written-returns-in_err-tree
-written-returns-in_err-tree t c =
-    let below : c.loop-item.item-index < length c.args.items.now = search rules in
+pub write-returns-in_err-tree : goal.write-returns-in_err-tree
+write-returns-in_err-tree t c =
+    let below = c.loop-item-test.true in
     let cut = items_from c.args.items.now c.loop-item.item-index c.item-item.result below c.item-item.is in
-    exits c.from_residual.result _ c.in_err-tree.field-0.0 _ c.from_residual.ensures.1 (fails_after _ _ _ _ c.loop-item.invariant (fails_as _ _ _ (ap (check_written (names_of c.loop-item.self.scope)) cut ∙ written_is (names_of c.loop-item.self.scope) (item_of c.item-item.result) (items_in (drop (c.loop-item.item-index + 1) c.args.items.now))) (fails_first _ _ _ c.in_err-tree.ensures)))
+    exits c.from_residual.result _ c.in_err-tree.field-0.0 _ c.from_residual.ensures.1 (fails_first _ _ _ (fails_after _ _ _ _ c.loop-item.invariant (fails_as _ _ _ (ap (check_written (names_of c.loop-item.self.scope)) cut ∙ written_is (names_of c.loop-item.self.scope) (item_of c.item-item.result) (items_in (drop (c.loop-item.item-index + 1) c.args.items.now))) (fails_first _ _ _ c.in_err-tree.ensures))))
 
-pub written-loop-item-preserved : goal.written-loop-item-preserved
-written-loop-item-preserved t c =
-    let below : c.loop-item.item-index < length c.args.items.now = search rules in
+pub write-loop-item-preserved : goal.write-loop-item-preserved
+write-loop-item-preserved t c =
+    let below = c.loop-item-test.true in
     let cut = items_from c.args.items.now c.loop-item.item-index c.item-item.result below c.item-item.is in
     pushed c.loop-item.trees.items _ c.in_ok-tree.tree _ _ _ c.in_ok-push.ensures.items (ap (check_written (names_of c.loop-item.self.scope)) cut ∙ written_step (names_of c.loop-item.self.scope) _ _ _ (item_of c.item-item.result) (items_in (drop (c.loop-item.item-index + 1) c.args.items.now)) c.in_ok-tree.ensures) c.loop-item.invariant
 
-pub written-returns : goal.written-returns
-written-returns t c =
+pub write-returns : goal.write-returns
+write-returns t c =
     let past : length c.args.items.now ≤ c.loop-item.item-index = search rules in
-    (Void, finished c.loop-item.trees.items _ _ _ _ (ap (check_written (names_of c.loop-item.self.scope)) (items_behind c.args.items.now c.loop-item.item-index past)) c.loop-item.invariant)
+    made _ _ _ _ c.one_or_sequence.result (given _ _ _ _ _ (finished c.loop-item.trees.items _ _ _ _ (ap (check_written (names_of c.loop-item.self.scope)) (items_behind c.args.items.now c.loop-item.item-index past)) c.loop-item.invariant)) c.one_or_sequence.ensures
 
 pub written_item-returns-in_err-e : goal.written_item-returns-in_err-e
 written_item-returns-in_err-e t c = exits c.from_residual.result _ c.in_err-e.field-0.0 _ c.from_residual.ensures.1 (fails_as _ _ _ (ap (check_item (names_of c.args.self.now.scope)) (item_of-parts c.args.item.now)) (fails_first _ _ _ c.in_err-e.ensures))
@@ -317,6 +443,17 @@ written_item-returns-in_err-w t c = exits c.from_residual-in_err-w.result _ c.in
 pub written_item-returns : goal.written_item-returns
 written_item-returns t c = ap (check_item (names_of c.args.self.now.scope)) (item_of-parts c.args.item.now) ∙ given _ _ _ _ _ c.in_ok-e.ensures ∙ given _ _ _ _ _ (subst (λ m. check_if_any (names_of c.part.new.self.scope) types.Int node.Empty m ≡ Gives (node_of c.in_ok-w.field-0.tree) (ty_view c.in_ok-w.field-0.ty) (names_of c.if_any.new.self.scope)) c.lent.ensures c.in_ok-w.ensures) ∙ ap (λ b. Gives (node.Write (node_of c.in_ok-e.field-0.tree) (node_of c.in_ok-w.field-0.tree) b (ty_view c.in_ok-e.field-0.ty) (out-RoughItem c.args.item.now).line) Void (names_of c.if_any.new.self.scope)) (sym c.is_int-wide.ensures) ∙ ap (λ t. Gives t Void (names_of c.if_any.new.self.scope)) (sym c.in_ok-new.ensures)
 
+pub written_item-part-requires : goal.written_item-part-requires
+written_item-part-requires t c =
+    let whole = ap weight_item (item_of-parts c.args.item.now) in
+    (omega (arith, c.decreases, whole), tt)
+
+pub written_item-if_any-requires : goal.written_item-if_any-requires
+written_item-if_any-requires t c =
+    let whole = ap weight_item (item_of-parts c.args.item.now) in
+    let width = ap weight_if_any c.lent.ensures in
+    (omega (arith, c.decreases, whole, width), tt)
+
 pub case_of-returns-in_err-e : goal.case_of-returns-in_err-e
 case_of-returns-in_err-e t c = exits c.from_residual.result _ c.in_err-e.field-0.0 _ c.from_residual.ensures.1 (fails_first _ _ _ c.in_err-e.ensures)
 
@@ -324,10 +461,19 @@ pub case_of-returns-in_err-arms : goal.case_of-returns-in_err-arms
 case_of-returns-in_err-arms t c = exits c.from_residual-in_err-arms.result _ c.in_err-arms.field-0.0 _ c.from_residual-in_err-arms.ensures.1 (fails_next _ _ _ _ _ _ (c.in_ok-e.ensures) (fails_first _ _ _ c.in_err-arms.ensures))
 
 pub case_of-returns-in_err-d : goal.case_of-returns-in_err-d
-case_of-returns-in_err-d t c = exits c.from_residual-in_err-d.result _ c.in_err-d.field-0.0 _ c.from_residual-in_err-d.ensures.1 (fails_next _ _ _ _ _ _ (c.in_ok-e.ensures) (fails_next _ _ _ _ _ _ (c.in_ok-arms.ensures.1) (fails_first _ _ _ (subst (λ g. IsFault (like g c.args.d.now.line (check (names_of c.arms.new.self.scope) (phrase_of c.args.d.now))) c.in_err-d.field-0.0) (sym c.in_ok-arms.ensures.2) c.in_err-d.ensures))))
+case_of-returns-in_err-d t c = exits c.from_residual-in_err-d.result _ c.in_err-d.field-0.0 _ c.from_residual-in_err-d.ensures.1 (fails_next _ _ _ _ _ _ (c.in_ok-e.ensures) (fails_next _ _ _ _ _ _ (c.in_ok-arms.ensures.1) (fails_first _ _ _ (subst (λ g. IsFault (like g c.args.d.now.line (check (names_of c.arms.new.self.scope) (phrase_of c.args.d.now))) c.in_err-d.field-0.0) (sym c.in_ok-arms.ensures.2) (fails_as _ _ _ (sym (c.like.ensures _ _)) c.in_err-d.ensures)))))
 
 pub case_of-returns : goal.case_of-returns
-case_of-returns t c = made _ _ _ _ c.new.result (given _ _ _ _ _ (c.in_ok-e.ensures) ∙ given _ _ _ _ _ (c.in_ok-arms.ensures.1) ∙ given _ _ _ _ _ (subst (λ g. like g c.args.d.now.line (check (names_of c.arms.new.self.scope) (phrase_of c.args.d.now)) ≡ Gives (node_of c.in_ok-d.field-0.tree) (ty_view c.in_ok-d.field-0.ty) (names_of c.like.new.self.scope)) (sym c.in_ok-arms.ensures.2) c.in_ok-d.ensures)) (remade _ _ _ c.new.result (case_is _ c.in_ok-e.field-0.tree _ c.in_ok-d.field-0.tree c.in_ok-e.field-0.ty c.in_ok-arms.field-0.arms.items refl (sym c.new-arms.ensures)) c.new.ensures)
+case_of-returns t c = made _ _ _ _ c.new.result (given _ _ _ _ _ (c.in_ok-e.ensures) ∙ given _ _ _ _ _ (c.in_ok-arms.ensures.1) ∙ given _ _ _ _ _ (subst (λ g. like g c.args.d.now.line (check (names_of c.arms.new.self.scope) (phrase_of c.args.d.now)) ≡ Gives (node_of c.in_ok-d.field-0.tree) (ty_view c.in_ok-d.field-0.ty) (names_of c.part-2.new.self.scope)) (sym c.in_ok-arms.ensures.2) (sym (c.like.ensures _ _) ∙ c.in_ok-d.ensures))) (remade _ _ _ c.new.result (case_is _ c.in_ok-e.field-0.tree _ c.in_ok-d.field-0.tree c.in_ok-e.field-0.ty c.in_ok-arms.field-0.arms.items refl (sym c.new-arms.ensures)) c.new.ensures)
+
+pub case_of-part-requires : goal.case_of-part-requires
+case_of-part-requires t c = (omega (arith, c.decreases), tt)
+
+pub case_of-arms-requires : goal.case_of-arms-requires
+case_of-arms-requires t c = (omega (arith, c.decreases), tt)
+
+pub case_of-part-requires-2 : goal.case_of-part-requires-2
+case_of-part-requires-2 t c = (omega (arith, c.decreases), tt)
 
 pub arms-returns-in_err-arm-in-Some : goal.arms-returns-in_err-arm-in-Some
 arms-returns-in_err-arm-in-Some t c = exits c.from_residual.result _ c.in_err-arm-in-Some.field-0.0 _ c.from_residual.ensures.1 (fails_as _ _ _ (ap (λ arms. check_arms (names_of c.args.self.now.scope) (ty_view c.args.ty.now) None (rough_arms_in arms)) c.in-Some.ensures.cases.0 ∙ arms_are _ _ _ _ _) (fails_first _ _ _ c.in_err-arm-in-Some.ensures))
@@ -348,21 +494,31 @@ arms-returns-in_ok-more_arms-in-Some t c =
     subst (λ made. (rest >>= λ arms last n. Gives (all_arms (arms_in made) arms) own n) ≡ Gives (arms_in c.more_arms.new.made.items) own (names_of c.more_arms.new.self.scope)) only c.in_ok-more_arms-in-Some.ensures in
     (own, (ap (λ arms. check_arms (names_of c.args.self.now.scope) (ty_view c.args.ty.now) None (rough_arms_in arms)) c.in-Some.ensures.cases.0 ∙ arms_are _ _ _ _ _) ∙ given _ _ _ _ _ c.in_ok-arm-in-Some.ensures ∙ all, first_is rest _ _ _ _ all)
 
+pub arms-arm-requires : goal.arms-arm-requires
+arms-arm-requires t c =
+    let whole = ap (λ arms. weight_arms (rough_arms_in arms)) c.in-Some.ensures.cases.0 in
+    (omega (arith, c.decreases, whole), tt)
+
+pub arms-more_arms-requires : goal.arms-more_arms-requires
+arms-more_arms-requires t c =
+    let whole = ap (λ arms. weight_arms (rough_arms_in arms)) c.in-Some.ensures.cases.0 in
+    (omega (arith, c.decreases, whole), tt)
+
 pub more_arms-arm-requires : goal.more_arms-arm-requires
 more_arms-arm-requires t c =
-    let below : c.loop-arm.arm-index < length c.args.arms.now = search rules in
+    let below = c.loop-arm-test.true in
     let light : weight_arm (arm_of c.arm-item.result) ≤ weight_arms (rough_arms_in c.args.arms.now) = subst (λ r. weight_arm (arm_of r) ≤ weight_arms (rough_arms_in c.args.arms.now)) (sym c.arm-item.is) (arm_weight_at c.args.arms.now c.loop-arm.arm-index _ below) in
-    search (rules, light)
+    (omega (arith, c.decreases, light), tt)
 
 pub more_arms-returns-in_err-arm : goal.more_arms-returns-in_err-arm
 more_arms-returns-in_err-arm t c =
-    let below : c.loop-arm.arm-index < length c.args.arms.now = search rules in
+    let below = c.loop-arm-test.true in
     let cut = arms_from c.args.arms.now c.loop-arm.arm-index c.arm-item.result below c.arm-item.is in
     exits c.from_residual-in_err-arm.result _ c.in_err-arm.field-0.0 _ c.from_residual-in_err-arm.ensures.1 (fails_in_all (ty_view c.args.own.now) _ _ _ _ _ c.loop-arm.invariant (fails_as _ _ _ (ap (check_arms (names_of c.loop-arm.self.scope) (ty_view c.args.ty.now) (Some (ty_view c.args.own.now))) cut ∙ arms_are _ _ _ _ _) (fails_first _ _ _ (subst (λ k. IsFault (check_arm (names_of c.loop-arm.self.scope) (ty_view c.args.ty.now) (Some k) (arm_of c.arm-item.result)) c.in_err-arm.field-0.0) c.in_ok-wanted.ensures c.in_err-arm.ensures))))
 
 pub more_arms-loop-arm-preserved : goal.more_arms-loop-arm-preserved
 more_arms-loop-arm-preserved t c =
-    let below : c.loop-arm.arm-index < length c.args.arms.now = search rules in
+    let below = c.loop-arm-test.true in
     let cut = arms_from c.args.arms.now c.loop-arm.arm-index c.arm-item.result below c.arm-item.is in
     pushed_arm (ty_view c.args.own.now) c.loop-arm.made.items _ c.in_ok-arm.field-0.arm _ _ _ c.in_ok-push.ensures.items (ap (check_arms (names_of c.loop-arm.self.scope) (ty_view c.args.ty.now) (Some (ty_view c.args.own.now))) cut ∙ arms_step _ _ _ _ _ _ _ _ (subst (λ k. check_arm (names_of c.loop-arm.self.scope) (ty_view c.args.ty.now) (Some k) (arm_of c.arm-item.result) ≡ Gives (tree_arm_of c.in_ok-arm.field-0.arm) (ty_view c.in_ok-arm.field-0.ty) (names_of c.arm.new.self.scope)) c.in_ok-wanted.ensures c.in_ok-arm.ensures)) c.loop-arm.invariant
 
@@ -375,15 +531,20 @@ pub arm-returns-in_err-each : goal.arm-returns-in_err-each
 arm-returns-in_err-each t c = exits c.from_residual.result _ c.in_err-each.field-0.0 _ c.from_residual.ensures.1 (fails_as _ _ _ (ap (check_arm (names_of c.args.self.now.scope) (ty_view c.args.ty.now) (option_map ty_view c.args.given)) (arm_of-parts c.args.arm.now) ∙ ap (λ labels. check_arm (names_of c.args.self.now.scope) (ty_view c.args.ty.now) (option_map ty_view c.args.given) (form.arm (phrases_in labels) (phrase_of (out-RoughArm c.args.arm.now).a))) (sym c.as_slice.ensures)) (fails_first _ _ _ c.in_err-each.ensures))
 
 pub arm-returns-in_err-a : goal.arm-returns-in_err-a
-arm-returns-in_err-a t c = exits c.from_residual-in_err-a.result _ c.in_err-a.field-0.0 _ c.from_residual-in_err-a.ensures.1 (fails_as _ _ _ (ap (check_arm (names_of c.args.self.now.scope) (ty_view c.args.ty.now) (option_map ty_view c.args.given)) (arm_of-parts c.args.arm.now) ∙ ap (λ labels. check_arm (names_of c.args.self.now.scope) (ty_view c.args.ty.now) (option_map ty_view c.args.given) (form.arm (phrases_in labels) (phrase_of (out-RoughArm c.args.arm.now).a))) (sym c.as_slice.ensures)) (fails_next _ _ _ _ _ _ c.in_ok-each.ensures.1 (fails_first _ _ _ c.in_err-a.ensures)))
+arm-returns-in_err-a t c = exits c.from_residual-in_err-a.result _ c.in_err-a.field-0.0 _ c.from_residual-in_err-a.ensures.1 (fails_as _ _ _ (ap (check_arm (names_of c.args.self.now.scope) (ty_view c.args.ty.now) (option_map ty_view c.args.given)) (arm_of-parts c.args.arm.now) ∙ ap (λ labels. check_arm (names_of c.args.self.now.scope) (ty_view c.args.ty.now) (option_map ty_view c.args.given) (form.arm (phrases_in labels) (phrase_of (out-RoughArm c.args.arm.now).a))) (sym c.as_slice.ensures)) (fails_next _ _ _ _ _ _ c.in_ok-each.ensures.1 (fails_first _ _ _ (fails_as _ _ _ (sym (c.like.ensures _ _)) c.in_err-a.ensures))))
 
 pub arm-returns : goal.arm-returns
-arm-returns t c = (ap (check_arm (names_of c.args.self.now.scope) (ty_view c.args.ty.now) (option_map ty_view c.args.given)) (arm_of-parts c.args.arm.now) ∙ ap (λ labels. check_arm (names_of c.args.self.now.scope) (ty_view c.args.ty.now) (option_map ty_view c.args.given) (form.arm (phrases_in labels) (phrase_of (out-RoughArm c.args.arm.now).a))) (sym c.as_slice.ensures)) ∙ given _ _ _ _ _ c.in_ok-each.ensures.1 ∙ given _ _ _ _ _ c.in_ok-a.ensures ∙ ap (λ a. Gives a (ty_view c.in_ok-a.field-0.ty) (names_of c.like.new.self.scope)) (arm_made c.new-labels.result c.in_ok-a.field-0.tree _ (sym c.new-labels.ensures))
+arm-returns t c = (ap (check_arm (names_of c.args.self.now.scope) (ty_view c.args.ty.now) (option_map ty_view c.args.given)) (arm_of-parts c.args.arm.now) ∙ ap (λ labels. check_arm (names_of c.args.self.now.scope) (ty_view c.args.ty.now) (option_map ty_view c.args.given) (form.arm (phrases_in labels) (phrase_of (out-RoughArm c.args.arm.now).a))) (sym c.as_slice.ensures)) ∙ given _ _ _ _ _ c.in_ok-each.ensures.1 ∙ given _ _ _ _ _ (sym (c.like.ensures _ _) ∙ c.in_ok-a.ensures) ∙ ap (λ a. Gives a (ty_view c.in_ok-a.field-0.ty) (names_of c.part.new.self.scope)) (arm_made c.new-labels.result c.in_ok-a.field-0.tree _ (sym c.new-labels.ensures))
 
 pub arm-each-requires : goal.arm-each-requires
 arm-each-requires t c =
     let is : weight_arm (arm_of c.args.arm.now) ≡ weight_all (phrases_in c.as_slice.result.now) + weight (phrase_of (out-RoughArm c.args.arm.now).a) = ap weight_arm (arm_of-parts c.args.arm.now) ∙ ap (λ labels. weight_all (phrases_in labels) + weight (phrase_of (out-RoughArm c.args.arm.now).a)) (sym c.as_slice.ensures) in
-    search (rules, is)
+    (omega (arith, c.decreases, is), tt)
+
+pub arm-part-requires : goal.arm-part-requires
+arm-part-requires t c =
+    let is : weight_arm (arm_of c.args.arm.now) ≡ weight_all (phrases_in c.as_slice.result.now) + weight (phrase_of (out-RoughArm c.args.arm.now).a) = ap weight_arm (arm_of-parts c.args.arm.now) ∙ ap (λ labels. weight_all (phrases_in labels) + weight (phrase_of (out-RoughArm c.args.arm.now).a)) (sym c.as_slice.ensures) in
+    (omega (arith, c.decreases, is), tt)
 
 pub sequence-returns-in_err-trees : goal.sequence-returns-in_err-trees
 sequence-returns-in_err-trees t c = exits c.from_residual.result _ c.in_err-trees.field-0.0 _ c.from_residual.ensures.1 (fails_first _ _ _ (subst (λ n. IsFault (check_all n c.args.line Void (phrases_in c.args.items.now)) c.in_err-trees.field-0.0) c.enter-block.ensures.names c.in_err-trees.ensures))
@@ -397,24 +558,27 @@ sequence-leave-requires-clause-fields t c = stays _ _ _ _ (all_keeps_fields_arou
 pub sequence-returns : goal.sequence-returns
 sequence-returns t c = made _ _ _ _ c.block_of.result (given _ _ _ _ _ (ap (λ n. check_all n c.args.line Void (phrases_in c.args.items.now)) (sym c.enter-block.ensures.names) ∙ c.in_ok-trees.ensures) ∙ ap (λ n. Gives (node.Block None (nodes_in c.in_ok-trees.field-0.trees.items)) (ty_view c.in_ok-trees.field-0.ty) n) (sym (c.leave.ensures (names_of c.args.self.now.scope) (all_keeps_around _ _ _ _ _ _ _ c.in_ok-trees.ensures ∙ ap (λ (n : Names). n.around) c.enter-block.ensures.names) (all_keeps_fields_around _ _ _ _ _ _ _ c.in_ok-trees.ensures ∙ ap (λ (n : Names). n.fields_around) c.enter-block.ensures.names) c.enter-block.ensures.names_around c.enter-block.ensures.fields_around))) c.block_of.ensures
 
+pub sequence-items-requires : goal.sequence-items-requires
+sequence-items-requires t c = (omega (arith, c.decreases), tt)
+
 pub items-loop-item-init : goal.items-loop-item-init
 items-loop-item-init t c = ap (λ ts. after (after_nodes ts) (check_all (names_of c.args.self.now.scope) c.args.line Void (phrases_in c.args.items.now))) c.new-trees.ensures.items ∙ after_nothing _ _ (λ ts. refl)
 
 pub items-item-requires : goal.items-item-requires
 items-item-requires t c =
-    let below : c.loop-item.item-index < length c.args.items.now = search rules in
+    let below = c.loop-item-test.true in
     let light : weight (phrase_of c.item-item.result) ≤ weight_all (phrases_in c.args.items.now) = subst (λ r. weight (phrase_of r) ≤ weight_all (phrases_in c.args.items.now)) (sym c.item-item.is) (weight_at c.args.items.now c.loop-item.item-index _ below) in
-    search (rules, light)
+    (omega (arith, c.decreases, light), tt)
 
 pub items-returns-in_err-tree : goal.items-returns-in_err-tree
 items-returns-in_err-tree t c =
-    let below : c.loop-item.item-index < length c.args.items.now = search rules in
+    let below = c.loop-item-test.true in
     let cut = phrases_from c.args.items.now c.loop-item.item-index c.item-item.result below c.item-item.is in
     exits c.from_residual.result _ c.in_err-tree.field-0.0 _ c.from_residual.ensures.1 (fails_after _ _ _ _ c.loop-item.invariant (fails_as _ _ _ (ap (check_all (names_of c.loop-item.self.scope) c.loop-item.line (ty_view c.loop-item.before)) cut ∙ all_is (names_of c.loop-item.self.scope) c.loop-item.line (ty_view c.loop-item.before) (phrase_of c.item-item.result) (phrases_in (drop (c.loop-item.item-index + 1) c.args.items.now))) (fails_first _ _ _ c.in_err-tree.ensures)))
 
 pub items-loop-item-preserved : goal.items-loop-item-preserved
 items-loop-item-preserved t c =
-    let below : c.loop-item.item-index < length c.args.items.now = search rules in
+    let below = c.loop-item-test.true in
     let cut = phrases_from c.args.items.now c.loop-item.item-index c.item-item.result below c.item-item.is in
     pushed c.loop-item.trees.items _ c.in_ok-tree.field-0.tree _ _ _ c.in_ok-push.ensures.items (ap (check_all (names_of c.loop-item.self.scope) c.loop-item.line (ty_view c.loop-item.before)) cut ∙ all_step (names_of c.loop-item.self.scope) _ c.loop-item.line (ty_view c.loop-item.before) _ _ (phrase_of c.item-item.result) (phrases_in (drop (c.loop-item.item-index + 1) c.args.items.now)) c.in_ok-tree.ensures) c.loop-item.invariant
 
@@ -426,17 +590,26 @@ items-returns t c =
 pub item-returns-then-not-is_void : goal.item-returns-then-not-is_void
 item-returns-then-not-is_void t c = is_fault _ _ (Mismatch c.args.line (ty_view c.args.before) Void) refl (ap (λ b. if b then check (names_of c.args.self.now.scope) (phrase_of c.args.item.now) else Refuses (Mismatch c.args.line (ty_view c.args.before) Void)) (not_void _ (sym c.is_void.ensures ∙ ap not c.if-not-is_void.true)))
 
+pub item-clause-requires : goal.item-clause-requires
+item-clause-requires t c = (omega (arith, c.decreases), tt)
+
 pub declaration-returns-in-Some : goal.declaration-returns-in-Some
 declaration-returns-in-Some t c = λ line. leads _ _ _ _ (let_literal (names_of c.args.self.now.scope) line _ c.args.variable (phrase_of c.args.e.now) _ (sym c.in-Some.ensures)) c.named_literal.ensures
 
 pub declaration-returns-in-None : goal.declaration-returns-in-None
 declaration-returns-in-None t c = λ line. leads _ _ _ _ (let_other (names_of c.args.self.now.scope) line _ c.args.variable (phrase_of c.args.e.now) (sym c.in-None.ensures)) c.single.ensures
 
+pub declaration-single-requires : goal.declaration-single-requires
+declaration-single-requires t c = (omega (arith, c.decreases), tt)
+
 pub named_literal-returns-in_err-e : goal.named_literal-returns-in_err-e
 named_literal-returns-in_err-e t c = exits c.from_residual-in_err-e.result _ c.in_err-e.field-0.0 _ c.from_residual-in_err-e.ensures.1 (fails_as _ _ _ (ap (λ b. if b then Refuses (Twice c.args.name.now.line) else (check_literal (declare_local (names_of c.args.self.now.scope) c.args.name.now.name (types.Proc (types_of (groups_in c.args.literal.params.now)) (ty_view c.args.literal.gives.now)) c.args.variable) (literal_of c.args.literal) >>= (λ e t last. Gives (node.Let (Plain (length (names_of c.args.self.now.scope).all)) t e) Void last))) (ap (is_declared (names_of c.args.self.now.scope)) (sym c.as_slice.ensures) ∙ sym c.declares.ensures ∙ c.if-declares.false)) (fails_first _ _ (λ e t last. Gives (node.Let (Plain (length (names_of c.args.self.now.scope).all)) t e) Void last) (subst (λ n. IsFault (check_literal n (literal_of c.args.literal)) c.in_err-e.field-0.0) (c.in_ok-number.ensures.names ∙ ap (λ nm. declare_local (names_of c.args.self.now.scope) nm (ty_view c.in_ok-ty.ty) c.args.variable) c.as_slice-name.ensures ∙ ap (λ k. declare_local (names_of c.args.self.now.scope) c.args.name.now.name k c.args.variable) c.in_ok-ty.ensures) c.in_err-e.ensures)))
 
 pub named_literal-returns : goal.named_literal-returns
 named_literal-returns t c = made _ _ _ _ c.new.result ((ap (λ b. if b then Refuses (Twice c.args.name.now.line) else (check_literal (declare_local (names_of c.args.self.now.scope) c.args.name.now.name (types.Proc (types_of (groups_in c.args.literal.params.now)) (ty_view c.args.literal.gives.now)) c.args.variable) (literal_of c.args.literal) >>= (λ e t last. Gives (node.Let (Plain (length (names_of c.args.self.now.scope).all)) t e) Void last))) (ap (is_declared (names_of c.args.self.now.scope)) (sym c.as_slice.ensures) ∙ sym c.declares.ensures ∙ c.if-declares.false)) ∙ given _ _ _ _ (λ e t last. Gives (node.Let (Plain (length (names_of c.args.self.now.scope).all)) t e) Void last) (subst (λ n. check_literal n (literal_of c.args.literal) ≡ Gives (node_of c.in_ok-e.field-0.tree) (ty_view c.in_ok-e.field-0.ty) (names_of c.literal.new.self.scope)) (c.in_ok-number.ensures.names ∙ ap (λ nm. declare_local (names_of c.args.self.now.scope) nm (ty_view c.in_ok-ty.ty) c.args.variable) c.as_slice-name.ensures ∙ ap (λ k. declare_local (names_of c.args.self.now.scope) c.args.name.now.name k c.args.variable) c.in_ok-ty.ensures) c.in_ok-e.ensures)) (remade _ _ _ c.new.result (ap (λ k. node.Let (Plain k) (ty_view c.in_ok-e.field-0.ty) (node_of c.in_ok-e.field-0.tree)) c.in_ok-number.ensures.number) c.new.ensures)
+
+pub named_literal-literal-requires : goal.named_literal-literal-requires
+named_literal-literal-requires t c = (omega (arith, c.decreases), tt)
 
 pub literal-returns-then-len-gt-MOST : goal.literal-returns-then-len-gt-MOST
 literal-returns-then-len-gt-MOST t c =
@@ -459,6 +632,9 @@ literal-leave-requires-clause-fields t c = stays _ _ _ _ (keeps_fields_around _ 
 pub literal-returns : goal.literal-returns
 literal-returns t c = made _ _ _ _ c.procedure.result (given _ _ _ _ (λ made t own. wants (ty_view c.args.literal.gives.now) c.args.literal.s.now.line (check own (phrase_of c.args.literal.s.now)) >>= λ s t last. Gives (node.Proc (node.body made (ty_view c.args.literal.gives.now) s None c.args.literal.line)) (types.Proc (types_of (groups_in c.args.literal.params.now)) (ty_view c.args.literal.gives.now)) (behind (names_of c.args.self.now.scope) last)) ((ap (λ b. if b then Refuses (Limit c.args.literal.line (length (groups_in c.args.literal.params.now))) else with_params (inside (names_of c.args.self.now.scope)) [] (groups_in c.args.literal.params.now)) (few c.in_ok-params.params.items _ _ c.in_ok-params.ensures (let at : c.len.result ≡ length c.in_ok-params.params.items = search rules in at) c.if-len-gt-MOST.false)) ∙ ap (with_params (inside (names_of c.args.self.now.scope)) []) (sym (ap groups_of c.as_slice.ensures.value ∙ c.in_ok-params.ensures)) ∙ (subst (λ n. with_params n [] (groups_of c.as_slice.result.now) ≡ Gives (params_of c.in_ok-places.places.items) Void (names_of c.parameters.new.scope)) c.enter-block.ensures.names c.in_ok-places.ensures)) ∙ given _ _ _ _ _ (as_met _ _ _ _ _ (ap this c.in_ok-copy.ensures) c.in_ok-s.ensures) ∙ ap (λ n. Gives (node.Proc (node.body (params_of c.in_ok-places.places.items) (ty_view c.args.literal.gives.now) (node_of c.in_ok-s.field-0.tree) None c.args.literal.line)) (types.Proc (types_of (groups_in c.args.literal.params.now)) (ty_view c.args.literal.gives.now)) n) (sym (c.leave.ensures (names_of c.args.self.now.scope) (keeps_around _ (phrase_of c.args.literal.s.now) _ _ _ (unpassed _ _ _ _ _ _ _ (as_met _ _ _ _ _ (ap this c.in_ok-copy.ensures) c.in_ok-s.ensures)) ∙ params_keep_around (inside (names_of c.args.self.now.scope)) [] (groups_of c.as_slice.result.now) _ _ _ (subst (λ n. with_params n [] (groups_of c.as_slice.result.now) ≡ Gives (params_of c.in_ok-places.places.items) Void (names_of c.parameters.new.scope)) c.enter-block.ensures.names c.in_ok-places.ensures)) (keeps_fields_around _ (phrase_of c.args.literal.s.now) _ _ _ (unpassed _ _ _ _ _ _ _ (as_met _ _ _ _ _ (ap this c.in_ok-copy.ensures) c.in_ok-s.ensures)) ∙ params_keep_fields_around (inside (names_of c.args.self.now.scope)) [] (groups_of c.as_slice.result.now) _ _ _ (subst (λ n. with_params n [] (groups_of c.as_slice.result.now) ≡ Gives (params_of c.in_ok-places.places.items) Void (names_of c.parameters.new.scope)) c.enter-block.ensures.names c.in_ok-places.ensures)) c.enter-block.ensures.names_around c.enter-block.ensures.fields_around))) (remade_both _ _ _ _ c.procedure.result refl (ap (λ gs. types.Proc (types_of gs) (ty_view c.args.literal.gives.now)) (ap groups_of c.as_slice-2.ensures.value ∙ c.in_ok-params.ensures)) c.procedure.ensures)
 
+pub literal-part-requires : goal.literal-part-requires
+literal-part-requires t c = (omega (arith, c.decreases), tt)
+
 pub chain-returns-in_err-chain : goal.chain-returns-in_err-chain
 chain-returns-in_err-chain t c = exits c.from_residual-in_err-chain.result _ c.in_err-chain.field-0.0 _ c.from_residual-in_err-chain.ensures.1 (fails_as _ _ _ (sym (c.in_ok-innermost.ensures.chain (names_of c.args.self.now.scope) ∙ one_link c.new-links.result.items c.push.new.self.items c.args.last (check (names_of c.args.self.now.scope) (phrase_of c.args.left.now)) c.new-links.ensures.items c.in_ok-push.ensures.items)) (fails_links c.gather.new.links.items _ _ c.in_err-chain.ensures))
 
@@ -468,7 +644,7 @@ chain-link-requires t c =
     let gathered = c.in_ok-innermost.ensures.lighter in
     let left = c.loop-link.invariant.lighter in
     let popped : weight_links c.loop-link.links.items ≡ weight_links c.pop.new.self.items + weight_link c.in-Some.link = ap weight_links c.in-Some.ensures.items ∙ weight_links-push c.pop.new.self.items c.in-Some.link in
-    search (rules, all, gathered, left, popped)
+    (omega (arith, c.decreases, all, gathered, left, popped), tt)
 
 pub chain-returns-in_err-chain-2 : goal.chain-returns-in_err-chain-2
 chain-returns-in_err-chain-2 t c =
@@ -487,6 +663,54 @@ chain-loop-link-preserved t c =
 pub link-returns-in-Apply : goal.link-returns-in-Apply
 link-returns-in-Apply t c = leads _ _ _ _ (ap (λ l. check_link l (Gives (node_of c.args.left.tree) (ty_view c.args.left.ty) (names_of c.args.self.now.scope))) c.in-Apply.is ∙ given _ _ _ _ _ refl) c.apply.ensures
 
+pub link-returns-in_err-left-in-Operator : goal.link-returns-in_err-left-in-Operator
+link-returns-in_err-left-in-Operator t c = exits c.from_residual.result _ c.in_err-left-in-Operator.field-0.0 _ c.from_residual.ensures.1 (fails_as _ _ _ (ap (λ l. check_link l (Gives (node_of c.args.left.tree) (ty_view c.args.left.ty) (names_of c.args.self.now.scope))) c.in-Operator.is) (fails_first _ _ _ (fails_as_wanted _ _ _ c.ty.ensures (c.in_err-left-in-Operator.ensures c.args.self.now.scope))))
+
+pub link-returns-in_ok-left-in-Operator : goal.link-returns-in_ok-left-in-Operator
+link-returns-in_ok-left-in-Operator t c = leads _ _ _ _ (ap (λ l. check_link l (Gives (node_of c.args.left.tree) (ty_view c.args.left.ty) (names_of c.args.self.now.scope))) c.in-Operator.is ∙ given _ _ _ _ _ (as_wanted _ _ _ _ c.ty.ensures (c.in_ok-left-in-Operator.ensures c.args.self.now.scope))) c.single.ensures
+
+pub link-returns-in_err-s-in-Part : goal.link-returns-in_err-s-in-Part
+link-returns-in_err-s-in-Part t c = exits c.from_residual-in_err-s-in-Part.result _ c.in_err-s-in-Part.field-0.0 _ c.from_residual-in_err-s-in-Part.ensures.1 (fails_as _ _ _ (ap (λ l. check_link l (Gives (node_of c.args.left.tree) (ty_view c.args.left.ty) (names_of c.args.self.now.scope))) c.in-Part.is) (fails_first _ _ _ (c.in_err-s-in-Part.ensures c.args.self.now.scope)))
+
+pub link-returns-in_ok-s-in-Part : goal.link-returns-in_ok-s-in-Part
+link-returns-in_ok-s-in-Part t c = leads _ _ _ _ (ap (λ l. check_link l (Gives (node_of c.args.left.tree) (ty_view c.args.left.ty) (names_of c.args.self.now.scope))) c.in-Part.is ∙ given _ _ _ _ _ (c.in_ok-s-in-Part.ensures c.args.self.now.scope)) c.double.ensures
+
+pub link-single-requires : goal.link-single-requires
+link-single-requires t c =
+    let whole = ap weight_link c.in-Operator.is in
+    (omega (arith, c.decreases, whole), tt)
+
+pub link-apply-requires : goal.link-apply-requires
+link-apply-requires t c =
+    let whole = ap weight_link c.in-Apply.is in
+    (omega (arith, c.decreases, whole), tt)
+
+pub link-double-requires : goal.link-double-requires
+link-double-requires t c =
+    let whole = ap weight_link c.in-Part.is in
+    (omega (arith, c.decreases, whole), tt)
+
+pub application-name_applied-requires : goal.application-name_applied-requires
+application-name_applied-requires t c = (omega (arith, c.decreases), tt)
+
+pub application-chain-requires : goal.application-chain-requires
+application-chain-requires t c = (omega (arith, c.decreases, c.apply.ensures.weight), tt)
+
+pub name_applied-apply-requires : goal.name_applied-apply-requires
+name_applied-apply-requires t c = (omega (arith, c.decreases), tt)
+
+pub name_applied-with_args-requires : goal.name_applied-with_args-requires
+name_applied-with_args-requires t c = (omega (arith, c.decreases), tt)
+
+pub name_applied-library-requires : goal.name_applied-library-requires
+name_applied-library-requires t c = (omega (arith, c.decreases), tt)
+
+pub library-with_args-requires : goal.library-with_args-requires
+library-with_args-requires t c = (omega (arith, c.decreases), tt)
+
+pub library-scan-requires : goal.library-scan-requires
+library-scan-requires t c = (omega (arith, c.decreases), tt)
+
 pub apply-returns-in-Proc : goal.apply-returns-in-Proc
 apply-returns-in-Proc t c =
     let cs = checkers (phrases_in c.args.args.now) in
@@ -501,17 +725,11 @@ apply-returns-else-is_empty t c =
     ∙ some_subscripts (names_of c.args.self.now.scope) c.args.line (node_of c.args.f.tree) _ c.args.args.now _ c.is_empty.ensures c.if-is_empty.false
     ∙ ap (λ t. elements (names_of c.args.self.now.scope) c.args.line (node_of c.args.f.tree) t (checkers (phrases_in c.args.args.now))) (sym (ap ty_view c.in-Vector.is))) c.subscripts.ensures
 
-pub link-returns-in_err-left-in-Operator : goal.link-returns-in_err-left-in-Operator
-link-returns-in_err-left-in-Operator t c = exits c.from_residual.result _ c.in_err-left-in-Operator.field-0.0 _ c.from_residual.ensures.1 (fails_as _ _ _ (ap (λ l. check_link l (Gives (node_of c.args.left.tree) (ty_view c.args.left.ty) (names_of c.args.self.now.scope))) c.in-Operator.is) (fails_first _ _ _ (fails_as_wanted _ _ _ c.ty.ensures (c.in_err-left-in-Operator.ensures c.args.self.now.scope))))
+pub apply-with_args-requires : goal.apply-with_args-requires
+apply-with_args-requires t c = (omega (arith, c.decreases), tt)
 
-pub link-returns-in_ok-left-in-Operator : goal.link-returns-in_ok-left-in-Operator
-link-returns-in_ok-left-in-Operator t c = leads _ _ _ _ (ap (λ l. check_link l (Gives (node_of c.args.left.tree) (ty_view c.args.left.ty) (names_of c.args.self.now.scope))) c.in-Operator.is ∙ given _ _ _ _ _ (as_wanted _ _ _ _ c.ty.ensures (c.in_ok-left-in-Operator.ensures c.args.self.now.scope))) c.single.ensures
-
-pub link-returns-in_err-s-in-Part : goal.link-returns-in_err-s-in-Part
-link-returns-in_err-s-in-Part t c = exits c.from_residual-in_err-s-in-Part.result _ c.in_err-s-in-Part.field-0.0 _ c.from_residual-in_err-s-in-Part.ensures.1 (fails_as _ _ _ (ap (λ l. check_link l (Gives (node_of c.args.left.tree) (ty_view c.args.left.ty) (names_of c.args.self.now.scope))) c.in-Part.is) (fails_first _ _ _ (c.in_err-s-in-Part.ensures c.args.self.now.scope)))
-
-pub link-returns-in_ok-s-in-Part : goal.link-returns-in_ok-s-in-Part
-link-returns-in_ok-s-in-Part t c = leads _ _ _ _ (ap (λ l. check_link l (Gives (node_of c.args.left.tree) (ty_view c.args.left.ty) (names_of c.args.self.now.scope))) c.in-Part.is ∙ given _ _ _ _ _ (c.in_ok-s-in-Part.ensures c.args.self.now.scope)) c.double.ensures
+pub apply-subscripts-requires : goal.apply-subscripts-requires
+apply-subscripts-requires t c = (omega (arith, c.decreases), tt)
 
 pub with_args-returns-then-types-args : goal.with_args-returns-then-types-args
 with_args-returns-then-types-args t c = is_fault _ _ (NotApplicable c.args.line) refl (other_number (names_of c.args.self.now.scope) c.args.line c.args.types.now c.args.args.now (head_node c.args.head c.args.line) (ty_view c.args.gives.now) c.if-types-args.true)
@@ -522,29 +740,32 @@ with_args-returns-in_err-args t c = exits c.from_residual.result _ c.in_err-args
 pub with_args-returns : goal.with_args-returns
 with_args-returns t c = made _ _ _ _ c.clause.result (same_number (names_of c.args.self.now.scope) c.args.line c.args.types.now c.args.args.now (head_node c.args.head c.args.line) (ty_view c.args.gives.now) c.if-types-args.false ∙ given _ _ _ _ _ c.in_ok-args.ensures.1) (remade_both _ _ _ _ c.clause.result refl c.in_ok-copy.ensures c.clause.ensures)
 
+pub with_args-arguments-requires : goal.with_args-arguments-requires
+with_args-arguments-requires t c = (omega (arith, c.decreases), c.if-types-args.false)
+
 pub subscripts-returns-in_err-element : goal.subscripts-returns-in_err-element
 subscripts-returns-in_err-element t c =
-    let below : c.loop-arg.arg-index < length c.args.args.now = search rules in
+    let below = c.loop-arg-test.true in
     let cut = phrases_from c.args.args.now c.loop-arg.arg-index c.arg-item.result below c.arg-item.is in
     exits c.from_residual.result _ c.in_err-element.field-0.0 _ c.from_residual.ensures.1 (fails_as _ _ _ (sym c.loop-arg.invariant ∙ ap (λ ps. elements (names_of c.loop-arg.self.scope) c.args.line (node_of c.loop-arg.v.tree) (ty_view c.loop-arg.v.ty) (checkers ps)) cut ∙ elements_are _ _ _ _ _ _) (fails_first _ _ _ (c.in_err-element.ensures (names_of c.loop-arg.self.scope) (phrase_of c.arg-item.result))))
 
 pub subscripts-returns-in_err-v : goal.subscripts-returns-in_err-v
 subscripts-returns-in_err-v t c =
-    let below : c.loop-arg.arg-index < length c.args.args.now = search rules in
+    let below = c.loop-arg-test.true in
     let cut = phrases_from c.args.args.now c.loop-arg.arg-index c.arg-item.result below c.arg-item.is in
     exits c.from_residual-in_err-v.result _ c.in_err-v.field-0.0 _ c.from_residual-in_err-v.ensures.1 (fails_as _ _ _ (sym c.loop-arg.invariant ∙ ap (λ ps. elements (names_of c.loop-arg.self.scope) c.args.line (node_of c.loop-arg.v.tree) (ty_view c.loop-arg.v.ty) (checkers ps)) cut ∙ elements_are _ _ _ _ _ _) (fails_first _ _ _ (fails_as _ _ _ (c.in_ok-element.ensures (names_of c.loop-arg.self.scope) (phrase_of c.arg-item.result)) c.in_err-v.ensures)))
 
 pub subscripts-loop-arg-preserved : goal.subscripts-loop-arg-preserved
 subscripts-loop-arg-preserved t c =
-    let below : c.loop-arg.arg-index < length c.args.args.now = search rules in
+    let below = c.loop-arg-test.true in
     let cut = phrases_from c.args.args.now c.loop-arg.arg-index c.arg-item.result below c.arg-item.is in
     sym (ap (λ ps. elements (names_of c.loop-arg.self.scope) c.args.line (node_of c.loop-arg.v.tree) (ty_view c.loop-arg.v.ty) (checkers ps)) cut ∙ elements_are _ _ _ _ _ _ ∙ given _ _ _ _ _ (c.in_ok-element.ensures (names_of c.loop-arg.self.scope) (phrase_of c.arg-item.result) ∙ c.in_ok-v.ensures)) ∙ c.loop-arg.invariant
 
 pub subscripts-single-requires : goal.subscripts-single-requires
 subscripts-single-requires t c =
-    let below : c.loop-arg.arg-index < length c.args.args.now = search rules in
+    let below = c.loop-arg-test.true in
     let light : weight (phrase_of c.arg-item.result) ≤ weight_all (phrases_in c.args.args.now) = subst (λ r. weight (phrase_of r) ≤ weight_all (phrases_in c.args.args.now)) (sym c.arg-item.is) (weight_at c.args.args.now c.loop-arg.arg-index _ below) in
-    search (rules, light)
+    (omega (arith, c.decreases, light), tt)
 
 pub scan-returns-then-args-ne2 : goal.scan-returns-then-args-ne2
 scan-returns-then-args-ne2 t c = is_fault _ _ (NotApplicable c.args.line) refl (not_two (names_of c.args.self.now.scope) c.args.line c.args.text c.args.args.now c.if-args-ne2.true)
@@ -555,4 +776,4 @@ scan-returns t c = leads _ _ _ _ (ap (λ as_. scan_applied (names_of c.args.self
 pub scan-double-requires : goal.scan-double-requires
 scan-double-requires t c =
     let light : weight_all (phrases_in c.args.args.now) ≡ weight (phrase_of c.index-args-0.result) + (weight (phrase_of c.index-args-1.result) + 0) = ap (λ as_. weight_all (phrases_in as_)) (two_of _ _ _ c.if-args-ne2.false c.index-args-0.is c.index-args-1.is) in
-    search (rules, light)
+    (omega (arith, c.decreases, light), tt)

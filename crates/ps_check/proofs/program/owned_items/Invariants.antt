@@ -3,14 +3,14 @@ use Rattle.ps_base.specs.TyView.{Void, ty_view}
 use Rattle.ps_tree.specs.PhraseLists.{phrases_in}
 use Rattle.ps_scope.specs.Content.{names_of}
 use Rattle.ps_typing.specs.Checking.{check_all}
-use Rattle.ps_check.proofs.After.{after, after_nodes}
-use Rattle.ps_check.proofs.checker.Checker.owned_items.Given as goal
+use Rattle.ps_checker.proofs.After.{after, after_nodes}
+use Rattle.ps_check.proofs.program.owned_items.Given as goal
 
 -- the trees so far, and then those of the clauses that are left, are those of all
 abbrev pub invariant-loop-item : goal.invariant-loop-item
 invariant-loop-item l =
-    after (after_nodes l.trees.items) (check_all (names_of l.self.scope) l.line (ty_view l.last) (phrases_in (reverse l.rest.items)))
-    ≡ check_all (names_of l.initial.self.scope) l.initial.line Void (phrases_in (reverse l.initial.rest.items))
+    after (after_nodes l.trees.items) (check_all (names_of l.checker.scope) l.line (ty_view l.last) (phrases_in (reverse l.rest.items)))
+    ≡ check_all (names_of l.initial.checker.scope) l.initial.line Void (phrases_in (reverse l.initial.rest.items))
 
 abbrev pub decreases-loop-item : goal.decreases-loop-item
 decreases-loop-item l = length l.rest.items

@@ -10,8 +10,8 @@ use Rattle.ps_typing.specs.Checking.{Gives, check_all, check_written, check_each
 use Rattle.ps_checked.specs.inside.Links.{check_links}
 use Rattle.ps_checked.specs.inside.Weights.{weight, weight_all, weight_if_any, weight_arms, weight_arm, weight_written, weight_item, weight_link, weight_links}
 use Rattle.ps_checked.specs.inside.Views.{maybe_lent}
-use Rattle.ps_check.proofs.After.{after, after_as, after_nodes, after_arms}
-use Rattle.ps_check.proofs.checker.Checker.+clause.Given as goal
+use Rattle.ps_checker.proofs.After.{after, after_as, after_nodes, after_arms}
+use Rattle.ps_checker.proofs.checker.Checker.+clause.Given as goal
 
 abbrev pub decreases-clause : goal.decreases-clause
 decreases-clause l = 16 * weight (phrase_of l.rough.now)
@@ -25,14 +25,11 @@ decreases-single l = 16 * weight (phrase_of l.e.now) + 2
 abbrev pub decreases-double : goal.decreases-double
 decreases-double l = 16 * (weight (phrase_of l.a.now) + weight (phrase_of l.b.now)) + 2
 
+abbrev pub decreases-triple : goal.decreases-triple
+decreases-triple l = 16 * (weight (phrase_of l.a.now) + weight (phrase_of l.b.now) + weight (phrase_of l.c.now)) + 3
+
 abbrev pub decreases-if_any : goal.decreases-if_any
 decreases-if_any l = 16 * weight_if_any (maybe_lent l.rough) + 2
-
-abbrev pub decreases-like : goal.decreases-like
-decreases-like l = 16 * weight (phrase_of l.rough.now) + 2
-
-abbrev pub decreases-if_else : goal.decreases-if_else
-decreases-if_else l = 16 * (weight (phrase_of l.c.now) + weight (phrase_of l.a.now) + weight (phrase_of l.b.now)) + 3
 
 abbrev pub decreases-case_of : goal.decreases-case_of
 decreases-case_of l = 16 * (weight (phrase_of l.e.now) + weight_arms (rough_arms_in l.arms.now) + weight (phrase_of l.d.now)) + 7
@@ -67,14 +64,8 @@ decreases-item l = 16 * weight (phrase_of l.item.now) + 2
 abbrev pub decreases-write : goal.decreases-write
 decreases-write l = 16 * weight_written (items_in l.items.now) + 5
 
-abbrev pub decreases-written : goal.decreases-written
-decreases-written l = 16 * weight_written (items_in l.items.now) + 4
-
 abbrev pub decreases-written_item : goal.decreases-written_item
 decreases-written_item l = 16 * weight_item (item_of l.item.now) + 3
-
-abbrev pub decreases-filled : goal.decreases-filled
-decreases-filled l = 16 * (weight (phrase_of l.l.now) + weight (phrase_of l.u.now) + weight (phrase_of l.e.now)) + 3
 
 abbrev pub decreases-elements : goal.decreases-elements
 decreases-elements l = 16 * (weight (phrase_of l.l.now) + weight_all (phrases_in l.items.now)) + 4
@@ -133,8 +124,8 @@ invariant-items-loop-item l =
     after (after_nodes l.trees.items) (check_all (names_of l.self.scope) l.line (ty_view l.before) (phrases_in (drop l.item-index l.items)))
     ≡ check_all (names_of l.initial.self.scope) l.initial.line Void (phrases_in l.items)
 
-abbrev pub invariant-written-loop-item : goal.invariant-written-loop-item
-invariant-written-loop-item l = after (after_nodes l.trees.items) (check_written (names_of l.self.scope) (items_in (drop l.item-index l.items))) ≡ check_written (names_of l.initial.self.scope) (items_in l.items)
+abbrev pub invariant-write-loop-item : goal.invariant-write-loop-item
+invariant-write-loop-item l = after (after_nodes l.trees.items) (check_written (names_of l.self.scope) (items_in (drop l.item-index l.items))) ≡ check_written (names_of l.initial.self.scope) (items_in l.items)
 
 abbrev pub invariant-each-loop-clause : goal.invariant-each-loop-clause
 invariant-each-loop-clause l = after (after_nodes l.trees.items) (check_each (names_of l.self.scope) (ty_view l.ty) (checkers (phrases_in (drop l.clause-index l.clauses)))) ≡ check_each (names_of l.initial.self.scope) (ty_view l.ty) (checkers (phrases_in l.clauses))

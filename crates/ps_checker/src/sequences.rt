@@ -14,7 +14,7 @@ use ps_base::ty::Ty;
 use ps_checked::clause::Clause;
 use ps_checked::fault::CheckFault;
 use ps_checked::fits::is_void;
-use ps_checked::items::{Items, block_of, taken_items};
+use ps_checked::items::{Items, block_of};
 use ps_tree::rough::Rough;
 
 impl Checker {
@@ -44,9 +44,9 @@ impl Checker {
         Ok(Items { trees, ty: before })
     }
 
-    // An item of a sequence behind one on this line of this type, which has to be void.
+    /// Checks an item of a sequence, behind one on this line of this type, which has to be void.
     #[cycle(clause)]
-    fn item(&mut self, before: Ty, line: Line, item: &Rough) -> Result<Clause, CheckFault>
+    pub fn item(&mut self, before: Ty, line: Line, item: &Rough) -> Result<Clause, CheckFault>
         ensures { IsClause (behind_void line (ty_view before) (check_of (names_of self.old.scope) (phrase_of item.now))) result self.new.scope }
     {
         if !is_void(&before) {
@@ -57,47 +57,5 @@ impl Checker {
             });
         }
         self.clause(item)
-    }
-}
-
-impl Checker {
-    /// Checks a program. The items of its sequence are let go one by one as they are checked, so that their memory serves for the typed tree.
-    pub(crate) fn program(&mut self, rough: Rough) -> Result<Clause, CheckFault>
-        ensures { IsClause (check_of (names_of self.old.scope) (phrase_of rough)) result self.new.scope }
-    {
-        let mut rough = rough;
-        let line = rough.line;
-        match taken_items(self.alloc, &mut rough) {
-            Some(items) => self.owned_sequence(line, items),
-            None => self.clause(&rough),
-        }
-    }
-
-    // A sequence that is let go while it is checked.
-    fn owned_sequence(&mut self, line: Line, items: Vec<Rough>) -> Result<Clause, CheckFault>
-        ensures { IsClause (check_form (names_of self.old.scope) line (form.Sequence (phrases_in items.items))) result self.new.scope }
-    {
-        let block = self.scope.enter();
-        let Items { trees, ty } = self.owned_items(line, items)?;
-        self.scope.leave(block);
-        block_of(self.alloc, trees, ty)
-    }
-
-    // The items of a sequence, each of which is let go when it is checked.
-    fn owned_items(&mut self, line: Line, items: Vec<Rough>) -> Result<Items, CheckFault>
-        ensures { AreItems (check_all (names_of self.old.scope) line types.Void (phrases_in items.items)) result self.new.scope }
-    {
-        let mut rest = items;
-        rest.reverse();
-        let mut trees = Vec::new(self.alloc);
-        let mut last = Ty::Void;
-        let mut line = line;
-        while let Some(item) = rest.pop() {
-            let Clause { tree, ty } = self.item(last, line, &item)?;
-            trees.push(tree)?;
-            last = ty;
-            line = item.line;
-        }
-        Ok(Items { trees, ty: last })
     }
 }

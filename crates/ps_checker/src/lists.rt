@@ -4,7 +4,7 @@ ghost use Rattle.ps_tree.specs.Phrase.{item_of};
 ghost use Rattle.ps_tree.specs.Phrase as form;
 ghost use Rattle.ps_tree.specs.PhraseLists.{phrases_in, items_in};
 ghost use Rattle.ps_scope.specs.Content.{names_of};
-ghost use Rattle.ps_typing.specs.Checking.{check_each, check_args, check_written, checkers};
+ghost use Rattle.ps_typing.specs.Checking.{check_each, check_args, checkers};
 ghost use Rattle.ps_base.specs.TyView as types;
 ghost use Rattle.ps_checked.specs.inside.Answers.{IsClause, IsOfType, check_unlined};
 ghost use Rattle.ps_checked.specs.inside.Lists.{AreTrees, check_item};
@@ -58,20 +58,12 @@ impl Checker {
     pub(crate) fn write(&mut self, items: &[RoughItem]) -> Result<Clause, CheckFault>
         ensures { IsClause (check_unlined (names_of self.old.scope) (form.Write (items_in items.now))) result self.new.scope }
     {
-        let trees = self.written(items)?;
-        one_or_sequence(self.alloc, trees)
-    }
-
-    #[cycle(clause)]
-    fn written(&mut self, items: &[RoughItem]) -> Result<Vec<Tree>, CheckFault>
-        ensures { AreTrees (check_written (names_of self.old.scope) (items_in items.now)) result self.new.scope }
-    {
         let mut trees = Vec::new(self.alloc);
         for item in items {
             let tree = self.written_item(item)?;
             trees.push(tree)?;
         }
-        Ok(trees)
+        one_or_sequence(self.alloc, trees)
     }
 
     #[cycle(clause)]

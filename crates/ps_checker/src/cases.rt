@@ -4,7 +4,7 @@ ghost use Rattle.ps_tree.specs.Phrase.{phrase_of, arm_of as rough_arm_of};
 ghost use Rattle.ps_tree.specs.Phrase as form;
 ghost use Rattle.ps_tree.specs.PhraseLists.{arms_in as rough_arms_in};
 ghost use Rattle.ps_scope.specs.Content.{names_of};
-ghost use Rattle.ps_typing.specs.Checking.{check as check_of, like, check_arms};
+ghost use Rattle.ps_typing.specs.Checking.{check_arms};
 ghost use Rattle.ps_checked.specs.inside.Answers.{IsClause, check_unlined};
 ghost use Rattle.ps_checked.specs.inside.Cases.{IsArm, AreArms, AreMoreArms, check_arm};
 
@@ -31,7 +31,7 @@ impl Checker {
     {
         let Clause { tree: e, ty } = self.part(e, Wanted::Passing(Test::Equated))?;
         let Arms { arms, given } = self.arms(&ty, arms)?;
-        let Clause { tree: d, ty: gives } = self.like(d, given)?;
+        let Clause { tree: d, ty: gives } = self.part(d, Wanted::like(given))?;
         let arms = List::new(arms);
         Clause::new(self.alloc, TreeForm::Case { e, arms, d, ty }, gives)
     }
@@ -84,19 +84,8 @@ impl Checker {
         ensures { IsArm (check_arm (names_of self.old.scope) (ty_view ty.now) (option_map ty_view given) (rough_arm_of arm.now)) result self.new.scope }
     {
         let labels = List::new(self.each(ty, arm.labels.as_slice())?);
-        let Clause { tree: a, ty } = self.like(&arm.a, given)?;
+        let Clause { tree: a, ty } = self.part(&arm.a, Wanted::like(given))?;
         let arm = Arm { labels, a };
         Ok(Labelled { arm, ty })
-    }
-
-    // A clause like those before it, where there are any.
-    #[cycle(clause)]
-    fn like(&mut self, rough: &Rough, given: Option<Ty>) -> Result<Clause, CheckFault>
-        ensures { IsClause (like (option_map ty_view given) rough.now.line (check_of (names_of self.old.scope) (phrase_of rough.now))) result self.new.scope }
-    {
-        match given {
-            None => self.clause(rough),
-            Some(wanted) => self.part(rough, Wanted::This(wanted)),
-        }
     }
 }

@@ -9,8 +9,8 @@ use Rattle.ps_typing.specs.Checking.{Gives, check_all}
 use Rattle.ps_typing.proofs.Keeps.{all_keeps_around, all_keeps_fields_around}
 use Rattle.ps_checked.specs.inside.Answers.{IsFault}
 use Rattle.ps_checked.proofs.Steps.{exits, fails_first, given, made}
-use Rattle.ps_check.proofs.Blocks.{stays}
-use Rattle.ps_check.proofs.checker.Checker.owned_sequence.Goals as goal
+use Rattle.ps_checker.proofs.Blocks.{stays}
+use Rattle.ps_check.proofs.program.owned_sequence.Goals as goal
 
 pub returns-in_err-trees : goal.returns-in_err-trees
 returns-in_err-trees c = exits c.from_residual.result _ c.in_err-trees.field-0.0 _ c.from_residual.ensures.1 (fails_first _ _ _ (subst (λ n. IsFault (check_all n c.args.line Void (phrases_in c.args.items.items)) c.in_err-trees.field-0.0) c.enter-block.ensures.names c.in_err-trees.ensures))
@@ -22,4 +22,4 @@ pub leave-requires-clause-fields : goal.leave-requires-clause-fields
 leave-requires-clause-fields c = stays _ _ _ _ (all_keeps_fields_around _ _ _ _ _ _ _ c.in_ok-trees.ensures ∙ ap (λ (n : Names). n.fields_around) c.enter-block.ensures.names) c.enter-block.ensures.fields_around
 
 pub returns : goal.returns
-returns c = made _ _ _ _ c.block_of.result (given _ _ _ _ _ (ap (λ n. check_all n c.args.line Void (phrases_in c.args.items.items)) (sym c.enter-block.ensures.names) ∙ c.in_ok-trees.ensures) ∙ ap (λ n. Gives (node.Block None (nodes_in c.in_ok-trees.field-0.trees.items)) (ty_view c.in_ok-trees.field-0.ty) n) (sym (c.leave.ensures (names_of c.args.self.now.scope) (all_keeps_around _ _ _ _ _ _ _ c.in_ok-trees.ensures ∙ ap (λ (n : Names). n.around) c.enter-block.ensures.names) (all_keeps_fields_around _ _ _ _ _ _ _ c.in_ok-trees.ensures ∙ ap (λ (n : Names). n.fields_around) c.enter-block.ensures.names) c.enter-block.ensures.names_around c.enter-block.ensures.fields_around))) c.block_of.ensures
+returns c = made _ _ _ _ c.block_of.result (given _ _ _ _ _ (ap (λ n. check_all n c.args.line Void (phrases_in c.args.items.items)) (sym c.enter-block.ensures.names) ∙ c.in_ok-trees.ensures) ∙ ap (λ n. Gives (node.Block None (nodes_in c.in_ok-trees.field-0.trees.items)) (ty_view c.in_ok-trees.field-0.ty) n) (sym (c.leave.ensures (names_of c.args.checker.now.scope) (all_keeps_around _ _ _ _ _ _ _ c.in_ok-trees.ensures ∙ ap (λ (n : Names). n.around) c.enter-block.ensures.names) (all_keeps_fields_around _ _ _ _ _ _ _ c.in_ok-trees.ensures ∙ ap (λ (n : Names). n.fields_around) c.enter-block.ensures.names) c.enter-block.ensures.names_around c.enter-block.ensures.fields_around))) c.block_of.ensures

@@ -18,6 +18,7 @@ use ps_checked::link::{Joint, Link};
 use ps_checked::looks::{Literal, lent_boxed};
 use ps_checked::names::{text, used};
 use ps_checked::single::Single;
+use ps_checked::triple::Triple;
 use ps_checked::wanted::Wanted;
 use ps_program::form::TreeForm;
 use ps_scope::scope::Scope;
@@ -27,9 +28,9 @@ use std::alloc::Global;
 /// What goes over the tree of a text, in the order of the text.
 ///
 /// Recursion is as deep as clauses stand inside one another; chains of operators and of applications are walked by a loop.
-pub(crate) struct Checker {
-    pub(crate) alloc: Global,
-    pub(crate) scope: Scope,
+pub struct Checker {
+    pub alloc: Global,
+    pub scope: Scope,
 }
 
 impl Drop for Checker {
@@ -40,16 +41,17 @@ impl Drop for Checker {
 
 impl Checker {
     /// The scope that the check left.
-    pub(crate) fn into_scope(self) -> Scope
+    pub fn into_scope(self) -> Scope
         ensures { result ≡ self.scope }
     {
         let Checker { alloc: _, scope } = self;
         scope
     }
 
-    /// Checks a clause.
+    /// Checks a clause, with all that stands in it. Answers its typed tree and its type, or the first fault in the order of the text, or
+    /// `Memory`; what was made until then is let go.
     #[cycle(clause)]
-    pub(crate) fn clause(&mut self, rough: &Rough) -> Result<Clause, CheckFault>
+    pub fn clause(&mut self, rough: &Rough) -> Result<Clause, CheckFault>
         ensures { IsClause (check_of (names_of self.old.scope) (phrase_of rough.now)) result self.new.scope }
     {
         let line = rough.line;
@@ -66,7 +68,7 @@ impl Checker {
             RoughForm::IfDo { c, a } => self.double(Double::IfDo, c, a),
             RoughForm::While { c, a } => self.double(Double::While, c, a),
             RoughForm::Repeat { a, c, b } => self.repeat(a, c, lent_boxed(b)),
-            RoughForm::IfElse { c, a, b } => self.if_else(c, a, b),
+            RoughForm::IfElse { c, a, b } => self.triple(Triple::IfElse, c, a, b),
             RoughForm::For { name, range, s } => self.counted(line, name, range, s),
             RoughForm::Case { e, arms, d } => self.case_of(e, arms.as_slice(), d),
             RoughForm::Write { items } => self.write(items.as_slice()),
@@ -74,7 +76,7 @@ impl Checker {
             RoughForm::Proc { params, gives, s } => {
                 self.literal(Literal::new(params.as_slice(), gives, s, line))
             }
-            RoughForm::Vector { l, u, e } => self.filled(line, l, u, e),
+            RoughForm::Vector { l, u, e } => self.triple(Triple::Fill(line), l, u, e),
             RoughForm::Elems { l, ty, items } => self.elements(line, l, ty, items.as_slice()),
             RoughForm::Assign { x, e } => {
                 let e_line = e.line;

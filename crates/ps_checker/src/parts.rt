@@ -7,7 +7,7 @@ ghost use Rattle.ps_tree.specs.declared.rough.RoughRange.{out-RoughRange};
 ghost use Rattle.ps_scope.specs.Content.{names_of};
 ghost use Rattle.ps_typing.specs.Checking.{check_form};
 ghost use Rattle.ps_checked.specs.inside.Answers.{IsClause, check_unlined};
-ghost use Rattle.ps_checked.specs.inside.Parts.{check_single, check_double};
+ghost use Rattle.ps_checked.specs.inside.Parts.{check_single, check_double, check_triple};
 ghost use Rattle.ps_checked.specs.inside.Views.{maybe_lent};
 
 use crate::checker::Checker;
@@ -19,6 +19,7 @@ use ps_checked::fault::CheckFault;
 use ps_checked::looks::lent;
 use ps_checked::loops::loop_of;
 use ps_checked::single::Single;
+use ps_checked::triple::Triple;
 use ps_checked::vectors::listed;
 use ps_checked::wanted::Wanted;
 use ps_program::form::{Loop, TreeForm};
@@ -51,26 +52,19 @@ impl Checker {
         form.made(self.alloc, a, b)
     }
 
+    /// A form with three parts left.
     #[cycle(clause)]
-    pub(crate) fn if_else(&mut self, c: &Rough, a: &Rough, b: &Rough) -> Result<Clause, CheckFault>
-        ensures { IsClause (check_unlined (names_of self.old.scope) (form.IfElse (phrase_of c.now) (phrase_of a.now) (phrase_of b.now))) result self.new.scope }
-    {
-        let Clause { tree: c, ty: _ } = self.part(c, Wanted::This(Ty::Bool))?;
-        self.double(Double::IfElse { c }, a, b)
-    }
-
-    #[cycle(clause)]
-    pub(crate) fn filled(
+    pub(crate) fn triple(
         &mut self,
-        line: Line,
-        l: &Rough,
-        u: &Rough,
-        e: &Rough,
+        form: Triple,
+        a: &Rough,
+        b: &Rough,
+        c: &Rough,
     ) -> Result<Clause, CheckFault>
-        ensures { IsClause (check_form (names_of self.old.scope) line (form.Vector (phrase_of l.now) (phrase_of u.now) (phrase_of e.now))) result self.new.scope }
+        ensures { IsClause (check_triple form (names_of self.old.scope) (phrase_of a.now) (phrase_of b.now) (phrase_of c.now)) result self.new.scope }
     {
-        let Clause { tree: l, ty: _ } = self.part(l, Wanted::This(Ty::Int))?;
-        self.double(Double::Fill { l, line }, u, e)
+        let Clause { tree, ty: _ } = self.part(a, form.first())?;
+        self.double(form.rest(tree), b, c)
     }
 
     #[cycle(clause)]
