@@ -6,16 +6,16 @@ ghost use Rattle.ps_typing.specs.Fault.{Fault};
 ghost use Rattle.ps_typing.specs.Library.{library_names};
 ghost use Rattle.ps_typing.specs.Checking.{check as check_of, wants};
 ghost use Rattle.ps_typing.specs.Program.{Typed, Fails, check_program, end_line as end_line_of};
-ghost use Rattle.ps_checked.specs.Faults.{fault_of};
+ghost use Rattle.ps_declared.specs.Faults.{fault_of};
 ghost use Rattle.ps_check.specs.inside.Whole.{IsWhole};
 
 use crate::program::program;
 use ps_base::line::Line;
 use ps_base::list::List;
 use ps_base::ty::Ty;
-use ps_checked::fault::CheckFault;
 use ps_checked::items::end_line;
 use ps_checker::checker::Checker;
+use ps_declared::fault::CheckFault;
 use ps_names::place;
 use ps_program::body::{Body, Program};
 use ps_program::form::Tree;

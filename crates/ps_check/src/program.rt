@@ -4,15 +4,15 @@ ghost use Rattle.ps_tree.specs.Phrase as form;
 ghost use Rattle.ps_tree.specs.PhraseLists.{phrases_in};
 ghost use Rattle.ps_scope.specs.Content.{names_of};
 ghost use Rattle.ps_typing.specs.Checking.{check as check_of, check_form, check_all};
-ghost use Rattle.ps_checked.specs.inside.Answers.{IsClause};
+ghost use Rattle.ps_declared.specs.inside.Answers.{IsClause};
 ghost use Rattle.ps_checked.specs.inside.Lists.{AreItems};
 
 use ps_base::line::Line;
 use ps_base::ty::Ty;
-use ps_checked::clause::Clause;
-use ps_checked::fault::CheckFault;
 use ps_checked::items::{Items, block_of, taken_items};
 use ps_checker::checker::Checker;
+use ps_declared::clause::Clause;
+use ps_declared::fault::CheckFault;
 use ps_tree::rough::Rough;
 
 /// Checks a program. The items of its sequence are let go one by one as they are checked, so that their memory serves for the typed tree.

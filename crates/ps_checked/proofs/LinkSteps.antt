@@ -5,13 +5,13 @@ use Rattle.ps_tree.specs.declared.rough.Rough.{Rough}
 use Rattle.ps_program.specs.Node.{Node}
 use Rattle.ps_typing.specs.Names.{Names}
 use Rattle.ps_typing.specs.Checking.{Outcome, check}
-use Rattle.ps_checked.specs.declared.fault.CheckFault.{CheckFault}
+use Rattle.ps_declared.specs.declared.fault.CheckFault.{CheckFault}
 use Rattle.ps_checked.specs.declared.link.Link.{Link}
 use Rattle.ps_checked.specs.declared.link.Link.TheVariants as link
-use Rattle.ps_checked.specs.inside.Answers.{IsFault}
+use Rattle.ps_declared.specs.inside.Answers.{IsFault}
 use Rattle.ps_checked.specs.inside.Links.{check_link, check_links}
 use Rattle.ps_checked.specs.inside.Weights.{weight, weight_link, weight_links}
-use Rattle.ps_checked.proofs.Steps.{fails_first, fails_test}
+use Rattle.ps_declared.proofs.Steps.{fails_first, fails_test}
 
 -- a link behind the innermost comes first
 pub check_links-push : (links : List Link) (last : Link) (o : Outcome Node) → check_links (links ++ last ∷ []) o ≡ check_links links (check_link last o)

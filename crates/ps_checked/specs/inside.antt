@@ -1,10 +1,7 @@
-pub mod Answers
 pub mod Cases
-pub mod Declaring
 pub mod Forms
 pub mod Links
 pub mod Lists
-pub mod Looks
 pub mod Parts
-pub mod Views
+pub mod Tests
 pub mod Weights

@@ -5,13 +5,13 @@ ghost use Rattle.ps_program.specs.Assigning.{assignment as assignment_of};
 ghost use Rattle.ps_program.specs.NodeView.{node_of};
 ghost use Rattle.ps_scope.specs.Content.{Content, names_of};
 ghost use Rattle.ps_typing.specs.Checking.{can_be_assigned as can_be_assigned_of, assigned};
-ghost use Rattle.ps_checked.specs.inside.Answers.{IsClause, IsMemory};
+ghost use Rattle.ps_declared.specs.inside.Answers.{IsClause, IsMemory};
 
-use crate::clause::Clause;
-use crate::fault::CheckFault;
-use crate::looks::name_in;
 use ps_base::line::Line;
 use ps_base::ty::Ty;
+use ps_declared::clause::Clause;
+use ps_declared::fault::CheckFault;
+use ps_declared::looks::name_in;
 use ps_program::form::Tree;
 use ps_scope::meaning::Meaning;
 use ps_scope::scope::Scope;

@@ -2,13 +2,13 @@ ghost use Rattle.std.specs.Prelude.{◌≡◌, ◌+◌, ◌≤◌, IfOk, IfErr, 
 ghost use Rattle.ps_tree.specs.Phrase.{phrase_of};
 ghost use Rattle.ps_typing.specs.Names.{Names};
 ghost use Rattle.ps_typing.specs.Checking.{check as check_of};
-ghost use Rattle.ps_checked.specs.inside.Answers.{IsMemory};
+ghost use Rattle.ps_declared.specs.inside.Answers.{IsMemory};
 ghost use Rattle.ps_checked.specs.inside.Links.{check_link, check_links};
 ghost use Rattle.ps_checked.specs.inside.Weights.{weight, weight_link, weight_links};
 
-use crate::fault::CheckFault;
 use crate::link::{Joint, Link};
-use crate::looks::name_in;
+use ps_declared::fault::CheckFault;
+use ps_declared::looks::name_in;
 use ps_tree::rough::{Rough, RoughForm};
 
 /// Goes down the left operands of a chain, and keeps the links on the way. What is applied by its name has no left operand. The only

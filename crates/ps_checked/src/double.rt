@@ -4,18 +4,18 @@ ghost use Rattle.ps_program.specs.NodeView.{node_of};
 ghost use Rattle.ps_scope.specs.Content.{Content, names_of};
 ghost use Rattle.ps_base.specs.TyView as types;
 ghost use Rattle.ps_program.specs.Node as node;
-ghost use Rattle.ps_checked.specs.inside.Answers.{IsClause, IsMade, IsMemory};
+ghost use Rattle.ps_declared.specs.inside.Answers.{IsClause, IsMade, IsMemory};
 ghost use Rattle.ps_checked.specs.inside.Parts.{want_of, double_first, double_second, double_made};
 
 use crate::assigning::{assigned, assignment};
-use crate::clause::Clause;
-use crate::fault::CheckFault;
 use crate::fits::Test;
 use crate::vectors::{caller, filled};
 use crate::wanted::Wanted;
 use ps_base::line::Line;
 use ps_base::operator::Relation;
 use ps_base::ty::Ty;
+use ps_declared::clause::Clause;
+use ps_declared::fault::CheckFault;
 use ps_program::form::{Tree, TreeForm};
 use std::alloc::Global;
 

@@ -3,13 +3,14 @@ ghost use Rattle.ps_base.specs.TyView.{ty_view};
 ghost use Rattle.ps_program.specs.NodeView.{node_of};
 ghost use Rattle.ps_scope.specs.Content.{Content, names_of};
 ghost use Rattle.ps_typing.specs.Checking.{Gives, passes, is_equated, is_ordered, is_comparable, is_writable, is_vector, isnt_void, is_present};
-ghost use Rattle.ps_checked.specs.inside.Answers.{IsClause, IsMemory, test_of, wanted_by};
+ghost use Rattle.ps_declared.specs.inside.Answers.{IsClause, IsMemory};
+ghost use Rattle.ps_checked.specs.inside.Tests.{test_of, wanted_by};
 
-use crate::clause::Clause;
-use crate::fault::CheckFault;
 use ps_base::line::Line;
 use ps_base::operator::Relation;
 use ps_base::ty::{self, Ty};
+use ps_declared::clause::Clause;
+use ps_declared::fault::CheckFault;
 use std::alloc::Global;
 
 /// What a clause's type is to be, where several types will do.

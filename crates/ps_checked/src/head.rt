@@ -1,14 +1,14 @@
 ghost use Rattle.ps_base.specs.TyView.{ty_view};
 ghost use Rattle.ps_program.specs.NodeView.{nodes_in};
-ghost use Rattle.ps_checked.specs.inside.Answers.{IsMade};
+ghost use Rattle.ps_declared.specs.inside.Answers.{IsMade};
 ghost use Rattle.ps_checked.specs.inside.Forms.{head_node};
 
-use crate::clause::Clause;
-use crate::fault::CheckFault;
 use ps_base::bytes::Bytes;
 use ps_base::line::Line;
 use ps_base::list::List;
 use ps_base::ty::Ty;
+use ps_declared::clause::Clause;
+use ps_declared::fault::CheckFault;
 use ps_program::form::{Tree, TreeForm};
 use std::alloc::Global;
 use std::rc::Rc;

@@ -8,13 +8,13 @@ ghost use Rattle.ps_program.specs.Node as node;
 ghost use Rattle.ps_program.specs.NodeView.{nodes_in};
 ghost use Rattle.ps_typing.specs.Checking.{together};
 ghost use Rattle.ps_typing.specs.Program.{end_line as end_line_of};
-ghost use Rattle.ps_checked.specs.inside.Answers.{IsMade};
+ghost use Rattle.ps_declared.specs.inside.Answers.{IsMade};
 
-use crate::clause::Clause;
-use crate::fault::CheckFault;
 use ps_base::line::Line;
 use ps_base::list::List;
 use ps_base::ty::Ty;
+use ps_declared::clause::Clause;
+use ps_declared::fault::CheckFault;
 use ps_program::form::{Tree, TreeForm};
 use ps_tree::rough::{Rough, RoughForm};
 use std::alloc::Global;

@@ -6,14 +6,14 @@ ghost use Rattle.ps_typing.specs.Checking.{Outcome};
 ghost use Rattle.ps_checked.specs.inside.Weights.{weight, weight_all, weight_link};
 ghost use Rattle.ps_base.specs.TyView.{ty_view};
 ghost use Rattle.ps_program.specs.NodeView.{node_of};
-ghost use Rattle.ps_checked.specs.inside.Answers.{IsMade};
+ghost use Rattle.ps_declared.specs.inside.Answers.{IsMade};
 ghost use Rattle.ps_checked.specs.inside.Links.{joint_ty, joint_node, joined, applied_to, parted, check_link};
 
-use crate::clause::Clause;
-use crate::fault::CheckFault;
 use ps_base::line::Line;
 use ps_base::operator::Operator;
 use ps_base::ty::Ty;
+use ps_declared::clause::Clause;
+use ps_declared::fault::CheckFault;
 use ps_program::form::{Tree, TreeForm};
 use ps_tree::rough::Rough;
 use std::alloc::Global;

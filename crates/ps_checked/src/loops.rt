@@ -1,11 +1,11 @@
 ghost use Rattle.ps_base.specs.TyView as types;
 ghost use Rattle.ps_program.specs.Node as node;
 ghost use Rattle.ps_program.specs.NodeView.{node_of};
-ghost use Rattle.ps_checked.specs.inside.Answers.{IsMade};
+ghost use Rattle.ps_declared.specs.inside.Answers.{IsMade};
 
-use crate::clause::Clause;
-use crate::fault::CheckFault;
 use ps_base::ty::Ty;
+use ps_declared::clause::Clause;
+use ps_declared::fault::CheckFault;
 use ps_program::form::{Loop, TreeForm};
 use std::alloc::Global;
 

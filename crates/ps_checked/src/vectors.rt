@@ -6,16 +6,16 @@ ghost use Rattle.ps_program.specs.Node as node;
 ghost use Rattle.ps_program.specs.NodeView.{node_of, nodes_in};
 ghost use Rattle.ps_typing.specs.Library.{caller as caller_of};
 ghost use Rattle.ps_typing.specs.Names.{Names};
-ghost use Rattle.ps_checked.specs.inside.Answers.{IsFault, IsMade, IsMemory};
+ghost use Rattle.ps_declared.specs.inside.Answers.{IsFault, IsMade, IsMemory};
 ghost use Rattle.ps_checked.specs.inside.Forms.{check_element};
 ghost use Rattle.ps_checked.specs.inside.Parts.{check_single};
 
-use crate::clause::Clause;
-use crate::fault::CheckFault;
 use crate::single::Single;
 use ps_base::line::Line;
 use ps_base::list::List;
 use ps_base::ty::{self, Ty};
+use ps_declared::clause::Clause;
+use ps_declared::fault::CheckFault;
 use ps_program::form::{Tree, TreeForm};
 use std::alloc::Global;
 

@@ -5,14 +5,14 @@ ghost use Rattle.ps_program.specs.Node.{Node};
 ghost use Rattle.ps_program.specs.NodeView.{node_of};
 ghost use Rattle.ps_scope.specs.Content.{Content, names_of};
 ghost use Rattle.ps_typing.specs.Checking.{Gives, Outcome, like};
-ghost use Rattle.ps_checked.specs.inside.Answers.{IsClause};
+ghost use Rattle.ps_declared.specs.inside.Answers.{IsClause};
 ghost use Rattle.ps_checked.specs.inside.Parts.{meets, want_of};
 
-use crate::clause::Clause;
-use crate::fault::CheckFault;
 use crate::fits::Test;
 use ps_base::line::Line;
 use ps_base::ty::Ty;
+use ps_declared::clause::Clause;
+use ps_declared::fault::CheckFault;
 use std::alloc::Global;
 
 /// What type a clause is to have.

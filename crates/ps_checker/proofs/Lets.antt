@@ -6,7 +6,7 @@ use Rattle.ps_tree.specs.Phrase as form
 use Rattle.ps_typing.specs.Names.{Names}
 use Rattle.ps_typing.specs.Checking.{check_form}
 use Rattle.ps_checked.specs.inside.Forms.{check_initial, check_named}
-use Rattle.ps_checked.specs.inside.Looks.{LiteralAt, literal_in}
+use Rattle.ps_declared.specs.inside.Looks.{LiteralAt, literal_in}
 
 abbrev or_other : LiteralAt → Option LiteralAt → LiteralAt
 or_other other (Some l) = l

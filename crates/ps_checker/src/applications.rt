@@ -8,21 +8,21 @@ ghost use Rattle.ps_scope.specs.Content.{names_of};
 ghost use Rattle.ps_scope.specs.Views.{procedure_of};
 ghost use Rattle.ps_typing.specs.Names.{meant};
 ghost use Rattle.ps_typing.specs.Checking.{check_form, checkers, value_applied, name_applied as name_applied_of, with_args as with_args_of, elements, scan_applied};
-ghost use Rattle.ps_checked.specs.inside.Answers.{IsClause};
+ghost use Rattle.ps_declared.specs.inside.Answers.{IsClause};
 ghost use Rattle.ps_checked.specs.inside.Forms.{head_node, check_library};
 
 use crate::checker::Checker;
 use ps_base::line::Line;
 use ps_base::ty::Ty;
-use ps_checked::clause::Clause;
 use ps_checked::double::Double;
-use ps_checked::fault::CheckFault;
-use ps_checked::fields::field_of;
 use ps_checked::head::Head;
 use ps_checked::link::Link;
-use ps_checked::looks::name_in;
-use ps_checked::names::{meaning, value_of};
 use ps_checked::vectors::subscripted;
+use ps_declared::clause::Clause;
+use ps_declared::fault::CheckFault;
+use ps_declared::fields::field_of;
+use ps_declared::looks::name_in;
+use ps_declared::names::{meaning, value_of};
 use ps_scope::meaning::{Meaning, Procedure};
 use ps_tree::rough::Rough;
 

@@ -5,17 +5,17 @@ ghost use Rattle.ps_tree.specs.Phrase as form;
 ghost use Rattle.ps_tree.specs.PhraseLists.{arms_in as rough_arms_in};
 ghost use Rattle.ps_scope.specs.Content.{names_of};
 ghost use Rattle.ps_typing.specs.Checking.{check_arms};
-ghost use Rattle.ps_checked.specs.inside.Answers.{IsClause, check_unlined};
+ghost use Rattle.ps_declared.specs.inside.Answers.{IsClause, check_unlined};
 ghost use Rattle.ps_checked.specs.inside.Cases.{IsArm, AreArms, AreMoreArms, check_arm};
 
 use crate::checker::Checker;
 use ps_base::list::List;
 use ps_base::ty::Ty;
 use ps_checked::arms::{Arms, Labelled};
-use ps_checked::clause::Clause;
-use ps_checked::fault::CheckFault;
 use ps_checked::fits::Test;
 use ps_checked::wanted::Wanted;
+use ps_declared::clause::Clause;
+use ps_declared::fault::CheckFault;
 use ps_program::form::{Arm, TreeForm};
 use ps_tree::rough::{Rough, RoughArm};
 

@@ -6,17 +6,17 @@ ghost use Rattle.ps_tree.specs.PhraseLists.{phrases_in, items_in};
 ghost use Rattle.ps_scope.specs.Content.{names_of};
 ghost use Rattle.ps_typing.specs.Checking.{check_each, check_args, checkers};
 ghost use Rattle.ps_base.specs.TyView as types;
-ghost use Rattle.ps_checked.specs.inside.Answers.{IsClause, IsOfType, check_unlined};
+ghost use Rattle.ps_declared.specs.inside.Answers.{IsClause, IsOfType, check_unlined};
 ghost use Rattle.ps_checked.specs.inside.Lists.{AreTrees, check_item};
 
 use crate::checker::Checker;
 use ps_base::ty::Ty;
-use ps_checked::clause::Clause;
-use ps_checked::fault::CheckFault;
 use ps_checked::fits::{Test, is_int};
 use ps_checked::items::one_or_sequence;
-use ps_checked::looks::lent;
 use ps_checked::wanted::Wanted;
+use ps_declared::clause::Clause;
+use ps_declared::fault::CheckFault;
+use ps_declared::looks::lent;
 use ps_program::form::{Tree, TreeForm};
 use ps_tree::rough::{Rough, RoughItem};
 

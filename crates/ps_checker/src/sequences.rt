@@ -5,16 +5,16 @@ ghost use Rattle.ps_tree.specs.Phrase as form;
 ghost use Rattle.ps_tree.specs.PhraseLists.{phrases_in};
 ghost use Rattle.ps_scope.specs.Content.{names_of};
 ghost use Rattle.ps_typing.specs.Checking.{check as check_of, check_form, check_all};
-ghost use Rattle.ps_checked.specs.inside.Answers.{IsClause};
+ghost use Rattle.ps_declared.specs.inside.Answers.{IsClause};
 ghost use Rattle.ps_checked.specs.inside.Lists.{AreItems, behind_void};
 
 use crate::checker::Checker;
 use ps_base::line::Line;
 use ps_base::ty::Ty;
-use ps_checked::clause::Clause;
-use ps_checked::fault::CheckFault;
 use ps_checked::fits::is_void;
 use ps_checked::items::{Items, block_of};
+use ps_declared::clause::Clause;
+use ps_declared::fault::CheckFault;
 use ps_tree::rough::Rough;
 
 impl Checker {

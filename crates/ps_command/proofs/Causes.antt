@@ -12,9 +12,9 @@ use Rattle.ps_scan.specs.Fault as scanning
 use Rattle.ps_tree.specs.Fault as parsing
 use Rattle.ps_typing.specs.Fault.{Fault}
 use Rattle.ps_typing.specs.Fault as fault
-use Rattle.ps_checked.specs.declared.fault.CheckFault.{CheckFault}
-use Rattle.ps_checked.specs.declared.fault.CheckFault.TheVariants.{Unknown, Twice, Mismatch, NotAssignable, NotApplicable, Limit, TooComplex, Memory as NoMemory}
-use Rattle.ps_checked.specs.Faults as checking
+use Rattle.ps_declared.specs.declared.fault.CheckFault.{CheckFault}
+use Rattle.ps_declared.specs.declared.fault.CheckFault.TheVariants.{Unknown, Twice, Mismatch, NotAssignable, NotApplicable, Limit, TooComplex, Memory as NoMemory}
+use Rattle.ps_declared.specs.Faults as checking
 use Rattle.ps_command.specs.declared.source_fault.SourceFault.{SourceFault}
 use Rattle.ps_command.specs.declared.source_fault.SourceFault.TheVariants as source
 use Rattle.ps_port.specs.Telling.{LeavesDevice}

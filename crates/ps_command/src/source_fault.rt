@@ -2,7 +2,7 @@ ghost use Rattle.std.specs.Prelude.{◌≡◌};
 ghost use Rattle.ps_command.specs.inside.Refusal.{stage_of, number_of, line_of_fault};
 
 use ps_base::line::Line;
-use ps_checked::fault::CheckFault;
+use ps_declared::fault::CheckFault;
 use ps_scan::ScanFault;
 use ps_tree::fault::ParseFault;
 

@@ -4,7 +4,7 @@ use crate::show::put_shown;
 use ps_base::line::Line;
 use ps_base::ty::Ty;
 use ps_check::check::check;
-use ps_checked::fault::CheckFault;
+use ps_declared::fault::CheckFault;
 use ps_program::body::Body;
 use ps_tree::rough::Rough;
 use ps_type_text::type_text;

@@ -7,8 +7,8 @@ use Rattle.ps_type_text.specs.Members.{fields_of}
 use Rattle.ps_typing.specs.Names.{Names}
 use Rattle.ps_typing.specs.Checking.{Outcome, Gives}
 use Rattle.ps_check.specs.declared.check.Whole.{Whole}
-use Rattle.ps_checked.specs.declared.fault.CheckFault.{CheckFault}
-use Rattle.ps_checked.specs.inside.Answers.{IsFault}
+use Rattle.ps_declared.specs.declared.fault.CheckFault.{CheckFault}
+use Rattle.ps_declared.specs.inside.Answers.{IsFault}
 
 -- its tree, and its names by their numbers
 abbrev pub IsWhole : Outcome Node → Result Whole CheckFault → Type 0

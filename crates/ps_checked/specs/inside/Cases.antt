@@ -9,10 +9,10 @@ use Rattle.ps_program.specs.declared.form.Arm.{Arm as ArmOf}
 use Rattle.ps_scope.specs.Content.{Content, names_of}
 use Rattle.ps_typing.specs.Names.{Names}
 use Rattle.ps_typing.specs.Checking.{Outcome, Gives, ◌>>=◌, check, check_each, checkers, line_of, like, first_type}
-use Rattle.ps_checked.specs.declared.fault.CheckFault.{CheckFault}
+use Rattle.ps_declared.specs.declared.fault.CheckFault.{CheckFault}
 use Rattle.ps_checked.specs.declared.arms.Arms.{Arms}
 use Rattle.ps_checked.specs.declared.arms.Labelled.{Labelled}
-use Rattle.ps_checked.specs.inside.Answers.{IsFault}
+use Rattle.ps_declared.specs.inside.Answers.{IsFault}
 
 -- one arm
 abbrev pub check_arm : Names → TyView → Option TyView → Arm → Outcome node.Arm

@@ -1,5 +1,5 @@
 -- What the functions of the check do for single forms.
-use Rattle.std.specs.Prelude.{ℕ, Bool, List, Option, Some, None, if◌then◌else◌}
+use Rattle.std.specs.Prelude.{Bool, List}
 use Rattle.ps_base.specs.TyView.{TyView}
 use Rattle.ps_base.specs.TyView as types
 use Rattle.ps_base.specs.declared.line.Line.{Line}
@@ -8,20 +8,12 @@ use Rattle.ps_program.specs.Node.{Node, Nodes}
 use Rattle.ps_program.specs.Node as node
 use Rattle.ps_program.specs.NodeView.{node_of}
 use Rattle.std.specs.Rc.{rc_value}
-use Rattle.ps_typing.specs.Names.{Names, Meaning, class, Procedure, plain, scan}
+use Rattle.ps_typing.specs.Names.{Names, Procedure, plain, scan}
 use Rattle.ps_typing.specs.Fault.{NotApplicable}
 use Rattle.ps_typing.specs.Checking.{Outcome, Gives, Refuses, ◌>>=◌, Checker, check, line_of, wants, passes, isnt_void, introduced, literal, named_literal, with_args, scan_applied}
 use Rattle.ps_checked.specs.declared.head.Head.{Head}
 use Rattle.ps_checked.specs.declared.head.Head.TheVariants as head
-use Rattle.ps_checked.specs.inside.Looks.{LiteralAt}
-
--- a class, where one is meant
-abbrev pub class_meant : Option Meaning → Option Meaning
-class_meant (Some (class text fields)) = Some (class text fields)
-class_meant _ = None
-
-abbrev pub class_test : Bool → Node → List ℕ → Node
-class_test negated e of = if negated then node.Not (node.Is e of) else node.Is e of
+use Rattle.ps_declared.specs.inside.Looks.{LiteralAt}
 
 -- a name that is declared behind its initial clause, which is no literal
 abbrev pub check_initial : Names → NameAt → Bool → Phrase → Outcome Node

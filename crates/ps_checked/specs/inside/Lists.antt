@@ -14,9 +14,9 @@ use Rattle.ps_scope.specs.Content.{Content, names_of}
 use Rattle.ps_typing.specs.Names.{Names}
 use Rattle.ps_typing.specs.Fault.{Mismatch}
 use Rattle.ps_typing.specs.Checking.{Outcome, Gives, Refuses, ◌>>=◌, check, check_if_any, line_of, passes, is_same, is_writable, is_present}
-use Rattle.ps_checked.specs.declared.fault.CheckFault.{CheckFault}
+use Rattle.ps_declared.specs.declared.fault.CheckFault.{CheckFault}
 use Rattle.ps_checked.specs.declared.items.Items.{Items}
-use Rattle.ps_checked.specs.inside.Answers.{IsFault}
+use Rattle.ps_declared.specs.inside.Answers.{IsFault}
 
 -- the trees of some clauses, whatever type the last of them has
 abbrev pub AreTrees : Outcome Nodes → Result (Vec Tree Global) CheckFault → Content → Type 0

@@ -21,7 +21,7 @@ use Rattle.ps_checked.specs.declared.double.Double.{Double}
 use Rattle.ps_checked.specs.declared.double.Double.TheVariants as double
 use Rattle.ps_checked.specs.declared.triple.Triple.{Triple}
 use Rattle.ps_checked.specs.declared.triple.Triple.TheVariants as triple
-use Rattle.ps_checked.specs.inside.Answers.{test_of, wanted_by}
+use Rattle.ps_checked.specs.inside.Tests.{test_of, wanted_by}
 use Rattle.ps_checked.specs.inside.Links.{joint_ty, joint_node}
 
 -- what type a clause is to have: any, this one, or one that passes a test

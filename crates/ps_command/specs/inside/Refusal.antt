@@ -13,7 +13,7 @@ use Rattle.ps_built.specs.Library.{first_unbuilt_library}
 use Rattle.ps_program.specs.Node.{BodyNode}
 use Rattle.ps_typing.specs.Fault.{Fault}
 use Rattle.ps_typing.specs.Program.{check_program, Typed}
-use Rattle.ps_checked.specs.Faults as checking
+use Rattle.ps_declared.specs.Faults as checking
 use Rattle.ps_causes.specs.Source.{IsCheckFault}
 use Rattle.ps_causes.specs.Source as rules
 use Rattle.ps_command.specs.declared.source_fault.SourceFault.{SourceFault}

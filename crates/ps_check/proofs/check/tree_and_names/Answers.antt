@@ -1,8 +1,8 @@
 use Rattle.std.proofs.Common.{subst}
 use Rattle.ps_tree.specs.Phrase.{phrase_of}
 use Rattle.ps_typing.specs.Checking.{check}
-use Rattle.ps_checked.specs.inside.Answers.{IsFault}
-use Rattle.ps_checked.proofs.Steps.{exits, fails_test}
+use Rattle.ps_declared.specs.inside.Answers.{IsFault}
+use Rattle.ps_declared.proofs.Steps.{exits, fails_test}
 use Rattle.ps_check.proofs.check.tree_and_names.Goals as goal
 
 pub returns-in_err-clause : goal.returns-in_err-clause

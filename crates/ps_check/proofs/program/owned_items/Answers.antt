@@ -4,7 +4,7 @@ use Rattle.ps_tree.specs.Phrase.{phrase_of}
 use Rattle.ps_tree.specs.PhraseLists.{phrases_in}
 use Rattle.ps_scope.specs.Content.{names_of}
 use Rattle.ps_typing.specs.Checking.{check_all}
-use Rattle.ps_checked.proofs.Steps.{exits, fails_as, fails_first}
+use Rattle.ps_declared.proofs.Steps.{exits, fails_as, fails_first}
 use Rattle.ps_checker.proofs.After.{after, after_nodes, after_nothing, fails_after, pushed, finished, all_is, all_step}
 use Rattle.ps_check.proofs.Taking.{next_taken, all_left, none_left}
 use Rattle.ps_check.proofs.program.owned_items.Goals as goal

@@ -7,8 +7,8 @@ use Rattle.ps_scope.specs.Content.{names_of}
 use Rattle.ps_typing.specs.Names.{Names}
 use Rattle.ps_typing.specs.Checking.{Gives, check_all}
 use Rattle.ps_typing.proofs.Keeps.{all_keeps_around, all_keeps_fields_around}
-use Rattle.ps_checked.specs.inside.Answers.{IsFault}
-use Rattle.ps_checked.proofs.Steps.{exits, fails_first, given, made}
+use Rattle.ps_declared.specs.inside.Answers.{IsFault}
+use Rattle.ps_declared.proofs.Steps.{exits, fails_first, given, made}
 use Rattle.ps_checker.proofs.Blocks.{stays}
 use Rattle.ps_check.proofs.program.owned_sequence.Goals as goal
 

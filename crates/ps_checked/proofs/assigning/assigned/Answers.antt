@@ -5,7 +5,7 @@ use Rattle.ps_program.specs.NodeView.{node_of}
 use Rattle.ps_scope.specs.Content.{names_of}
 use Rattle.ps_typing.specs.Fault.{Mismatch, NotAssignable}
 use Rattle.ps_typing.specs.Checking.{assigned}
-use Rattle.ps_checked.proofs.Steps.{is_fault, same, not_same, assigned_to, mismatched, nothing_to_assign, constant_assigned}
+use Rattle.ps_declared.proofs.Steps.{is_fault, same, not_same, assigned_to, mismatched, nothing_to_assign, constant_assigned}
 use Rattle.ps_checked.proofs.assigning.assigned.Goals as goal
 
 pub returns-then-same_type : goal.returns-then-same_type

@@ -1,6 +1,6 @@
 use Rattle.std.proofs.Common.{refl, sym, None}
 use Rattle.ps_program.proofs.NodeLists.{block_is}
-use Rattle.ps_checked.proofs.Steps.{remade}
+use Rattle.ps_declared.proofs.Steps.{remade}
 use Rattle.ps_checked.proofs.items.block_of.Goals as goal
 
 pub returns : goal.returns

@@ -1,5 +1,5 @@
 use Rattle.std.proofs.Common.{◌≢◌, length, rules}
-use Rattle.ps_checked.proofs.Steps.{remade}
+use Rattle.ps_declared.proofs.Steps.{remade}
 use Rattle.ps_checked.proofs.Together.{several}
 use Rattle.ps_checked.proofs.items.one_or_sequence.Goals as goal
 

@@ -3,7 +3,7 @@ use Rattle.ps_base.specs.TyView as types
 use Rattle.ps_program.specs.Node as node
 use Rattle.ps_program.specs.NodeView.{node_of, nodes_in}
 use Rattle.ps_program.proofs.NodeLists.{elems_is}
-use Rattle.ps_checked.proofs.Steps.{remade_both}
+use Rattle.ps_declared.proofs.Steps.{remade_both}
 use Rattle.ps_checked.proofs.vectors.listed.Goals as goal
 
 pub returns : goal.returns

@@ -1,8 +1,8 @@
 use Rattle.std.proofs.Common.{◌∙◌, ap, sym, refl, Some}
 use Rattle.ps_base.specs.TyView.{ty_view}
 use Rattle.ps_typing.specs.Fault.{Mismatch}
-use Rattle.ps_checked.specs.inside.Answers.{test_of, wanted_by}
-use Rattle.ps_checked.proofs.Steps.{passed, not_passed, is_fault}
+use Rattle.ps_checked.specs.inside.Tests.{test_of, wanted_by}
+use Rattle.ps_declared.proofs.Steps.{passed, not_passed, is_fault}
 use Rattle.ps_checked.proofs.fits.Test.passed.Goals as goal
 
 pub returns-then-fits : goal.returns-then-fits

@@ -2,7 +2,7 @@ use Rattle.std.proofs.Common.{◌∙◌, ap, refl, sym}
 use Rattle.ps_program.specs.NodeView.{nodes_in}
 use Rattle.ps_program.proofs.NodeLists.{call_is, make_is, lib_is}
 use Rattle.ps_checked.specs.inside.Forms.{head_node}
-use Rattle.ps_checked.proofs.Steps.{remade}
+use Rattle.ps_declared.proofs.Steps.{remade}
 use Rattle.ps_checked.proofs.head.Head.clause.Goals as goal
 
 pub returns-in-Call : goal.returns-in-Call

@@ -9,10 +9,10 @@ use Rattle.ps_scope.specs.Content.{names_of}
 use Rattle.ps_typing.specs.Fault.{Twice, Mismatch, NotApplicable, Limit}
 use Rattle.ps_typing.specs.Names.{Names, behind, declare_local, inside, is_declared}
 use Rattle.ps_typing.specs.Checking.{Gives, Refuses, check, check_form, check_all, check_each, check_args, check_written, check_arms, checkers, wants, value_applied, with_args, ◌>>=◌, like, elements, check_if_any, first_type, types_of, with_params, scan_applied}
-use Rattle.ps_checked.specs.inside.Answers.{IsFault}
+use Rattle.ps_declared.specs.inside.Answers.{IsFault}
 use Rattle.ps_checked.specs.inside.Links.{check_link, check_links}
 use Rattle.ps_checked.specs.inside.Weights.{weight, weight_all, weight_form, weight_if_any, weight_item, weight_written, weight_arm, weight_arms, weight_link, weight_links}
-use Rattle.ps_checked.proofs.Steps.{given, fails_as, fails_first, fails_next, is_fault, made, leads, exits, remade, remade_both, as_wanted, fails_as_wanted}
+use Rattle.ps_declared.proofs.Steps.{given, fails_as, fails_first, fails_next, is_fault, made, leads, exits, remade, remade_both, as_wanted, fails_as_wanted}
 use Rattle.ps_base.specs.declared.ty.Signature.{Signature}
 use Rattle.ps_base.proofs.TyLemmas.{ty_view-Proc}
 use Rattle.ps_tree.proofs.PhraseLemmas.{form_of-Sequence, form_of-Write, form_of-Apply, form_of-Elems, form_of-Case, maybe_boxed-back}
@@ -31,9 +31,9 @@ use Rattle.ps_checker.proofs.Places.{weight_at, item_weight_at, arm_weight_at, p
 use Rattle.ps_checker.proofs.Views.{form_of-For, arm_of-parts, item_of-parts}
 use Rattle.ps_program.specs.declared.place.Place.TheVariants.{Plain}
 use Rattle.ps_typing.proofs.Keeps.{keeps_around, keeps_fields_around, all_keeps_around, all_keeps_fields_around, params_keep_around, params_keep_fields_around}
-use Rattle.ps_checked.specs.inside.Views.{literal_of, groups_of}
+use Rattle.ps_declared.specs.inside.Views.{literal_of, groups_of}
 use Rattle.ps_checker.proofs.Blocks.{stays, unpassed}
-use Rattle.ps_checked.proofs.Declaring.{few, many, count_is}
+use Rattle.ps_declared.proofs.Declaring.{few, many, count_is}
 use Rattle.ps_tree.specs.declared.rough.RoughItem.{out-RoughItem}
 use Rattle.ps_checked.specs.inside.Parts.{this, meets, want_of, check_double}
 use Rattle.ps_checker.proofs.Meeting.{fails_unmet, fails_met, as_met}

@@ -9,7 +9,7 @@ use Rattle.ps_scope.specs.Content.{names_of}
 use Rattle.ps_typing.specs.Checking.{Gives, check_all, check_written, check_each, check_args, check_arms, checkers, elements}
 use Rattle.ps_checked.specs.inside.Links.{check_links}
 use Rattle.ps_checked.specs.inside.Weights.{weight, weight_all, weight_if_any, weight_arms, weight_arm, weight_written, weight_item, weight_link, weight_links}
-use Rattle.ps_checked.specs.inside.Views.{maybe_lent}
+use Rattle.ps_declared.specs.inside.Views.{maybe_lent}
 use Rattle.ps_checker.proofs.After.{after, after_as, after_nodes, after_arms}
 use Rattle.ps_checker.proofs.checker.Checker.+clause.Given as goal
 

@@ -1,0 +1,4 @@
+pub mod ClassMeant
+pub mod Declaring
+pub mod FieldNames
+pub mod Steps
