@@ -11,6 +11,7 @@ pub mod fits;
 pub mod head;
 pub mod items;
 pub mod link;
+pub mod literals;
 pub mod loops;
 pub mod single;
 pub mod triple;

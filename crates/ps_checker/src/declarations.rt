@@ -9,12 +9,12 @@ ghost use Rattle.ps_declared.specs.inside.Views.{literal_of};
 
 use crate::checker::Checker;
 use ps_base::ty::Ty;
+use ps_checked::literals::{parameters, procedure, type_of};
 use ps_checked::single::Single;
 use ps_checked::wanted::Wanted;
 use ps_declared::clause::Clause;
-use ps_declared::declarators::declarators;
+use ps_declared::declarators::{MOST, declarators};
 use ps_declared::fault::CheckFault;
-use ps_declared::literals::{MOST, parameters, procedure, type_of};
 use ps_declared::looks::{Literal, literal_in};
 use ps_program::form::TreeForm;
 use ps_program::place::Place;

@@ -14,9 +14,8 @@ ghost use Rattle.ps_declared.specs.inside.Meant.{class_meant, class_test};
 ghost use Rattle.ps_declared.specs.inside.Views.{groups_of, group_of};
 
 use crate::clause::Clause;
-use crate::declarators::{self, Declarator, bytes_of, declarators};
+use crate::declarators::{self, Declarator, MOST, bytes_of, declarators};
 use crate::fault::CheckFault;
-use crate::literals::MOST;
 use crate::names::meaning;
 use ps_base::bytes::Bytes;
 use ps_base::line::Line;

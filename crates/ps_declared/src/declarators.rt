@@ -14,6 +14,9 @@ use ps_tree::rough::{Group, Named};
 use ps_type_text::Member;
 use std::alloc::Global;
 
+/// The most parameters of a procedure, and the most fields of a structure.
+pub const MOST: usize = 64;
+
 /// A parameter of a procedure or a field of a structure.
 #[derive(Clone, Copy)]
 pub struct Declarator<'a> {

@@ -9,6 +9,5 @@ pub mod clause;
 pub mod declarators;
 pub mod fault;
 pub mod fields;
-pub mod literals;
 pub mod looks;
 pub mod names;

@@ -11,21 +11,18 @@ ghost use Rattle.ps_declared.specs.inside.Answers.{IsMade, IsMemory};
 ghost use Rattle.ps_declared.specs.inside.Declaring.{AreParams, IsParam, one_param};
 ghost use Rattle.ps_declared.specs.inside.Views.{groups_of, group_of};
 
-use crate::clause::Clause;
-use crate::declarators::{self, Declarator, declarators};
-use crate::fault::CheckFault;
-use crate::looks::Literal;
 use ps_base::line::Line;
 use ps_base::list::List;
 use ps_base::ty::{self, Ty};
+use ps_declared::clause::Clause;
+use ps_declared::declarators::{self, Declarator, declarators};
+use ps_declared::fault::CheckFault;
+use ps_declared::looks::Literal;
 use ps_program::body::{Body, Param};
 use ps_program::form::{Tree, TreeForm};
 use ps_program::place::Place;
 use ps_scope::scope::Scope;
 use std::alloc::Global;
-
-/// The most parameters of a procedure, and the most fields of a structure.
-pub const MOST: usize = 64;
 
 /// The parameters, which are variables of a block of their own. Faults: `Twice`, and `Memory`.
 pub fn parameters(

@@ -3,7 +3,7 @@ use Rattle.ps_program.specs.NodeView.{params_of}
 use Rattle.ps_scope.specs.Content.{names_of}
 use Rattle.ps_typing.specs.Checking.{with_params}
 use Rattle.ps_declared.specs.inside.Views.{groups_of}
-use Rattle.ps_declared.proofs.literals.parameters.Given as goal
+use Rattle.ps_checked.proofs.literals.parameters.Given as goal
 
 -- the parameters that are left, behind those that were made, are all
 abbrev pub invariant-loop-param : goal.invariant-loop-param
