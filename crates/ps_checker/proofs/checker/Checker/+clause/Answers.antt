@@ -12,7 +12,7 @@ use Rattle.ps_typing.specs.Checking.{Gives, Refuses, check, check_form, check_al
 use Rattle.ps_declared.specs.inside.Answers.{IsFault}
 use Rattle.ps_checked.specs.inside.Links.{check_link, check_links}
 use Rattle.ps_checked.specs.inside.Weights.{weight, weight_all, weight_form, weight_if_any, weight_item, weight_written, weight_arm, weight_arms, weight_link, weight_links}
-use Rattle.ps_declared.proofs.Steps.{given, fails_as, fails_first, fails_next, is_fault, made, leads, exits, remade, remade_both, as_wanted, fails_as_wanted}
+use Rattle.ps_declared.proofs.Steps.{given, fails_as, fails_first, fails_next, is_fault, made, leads, exits, no_memory, remade, remade_both, as_wanted, fails_as_wanted}
 use Rattle.ps_base.specs.declared.ty.Signature.{Signature}
 use Rattle.ps_base.proofs.TyLemmas.{ty_view-Proc}
 use Rattle.ps_tree.proofs.PhraseLemmas.{form_of-Sequence, form_of-Write, form_of-Apply, form_of-Elems, form_of-Case, maybe_boxed-back}
@@ -42,6 +42,42 @@ use Rattle.ps_tree.specs.Phrase as form
 use Rattle.ps_program.specs.Node as node
 use Rattle.ps_checker.proofs.checker.Checker.+clause.Goals as goal
 use Rattle.ps_checked.specs.declared.double.Double.TheVariants as double
+
+pub clause-returns-in-Nil : goal.clause-returns-in-Nil
+clause-returns-in-Nil t c = made _ _ _ _ c.new.result (ap (λ f. check_form (names_of c.args.self.now.scope) c.args.rough.now.line (form_of f)) (sym c.deref.ensures ∙ c.in-Nil.is)) c.new.ensures
+
+pub clause-returns-in-Flag : goal.clause-returns-in-Flag
+clause-returns-in-Flag t c = made _ _ _ _ c.new-in-Flag.result (ap (λ f. check_form (names_of c.args.self.now.scope) c.args.rough.now.line (form_of f)) (sym c.deref.ensures ∙ c.in-Flag.is)) c.new-in-Flag.ensures
+
+pub clause-returns-in-Abort : goal.clause-returns-in-Abort
+clause-returns-in-Abort t c = made _ _ _ _ c.new-in-Abort.result (ap (λ f. check_form (names_of c.args.self.now.scope) c.args.rough.now.line (form_of f)) (sym c.deref.ensures ∙ c.in-Abort.is)) c.new-in-Abort.ensures
+
+pub clause-returns-in-Name : goal.clause-returns-in-Name
+clause-returns-in-Name t c = leads _ _ _ _ (ap (λ f. check_form (names_of c.args.self.now.scope) c.args.rough.now.line (form_of f)) (sym c.deref.ensures ∙ c.in-Name.is) ∙ ap (λ name. check_form (names_of c.args.self.now.scope) c.args.rough.now.line (form.Name name)) (sym c.as_slice-in-Name.ensures)) c.used.ensures
+
+pub clause-returns-in-Text : goal.clause-returns-in-Text
+clause-returns-in-Text t c = made _ _ _ _ c.text.result (ap (λ f. check_form (names_of c.args.self.now.scope) c.args.rough.now.line (form_of f)) (sym c.deref.ensures ∙ c.in-Text.is) ∙ ap (λ bytes. check_form (names_of c.args.self.now.scope) c.args.rough.now.line (form.Text bytes)) (sym c.as_slice-in-Text.ensures)) c.text.ensures
+
+pub clause-returns-in-Is : goal.clause-returns-in-Is
+clause-returns-in-Is t c = leads _ _ _ _ (ap (λ f. check_form (names_of c.args.self.now.scope) c.args.rough.now.line (form_of f)) (sym c.deref.ensures ∙ c.in-Is.is) ∙ ap (λ class. check_form (names_of c.args.self.now.scope) c.args.rough.now.line (form.Is (phrase_of c.in-Is.e) (named class) c.in-Is.negated)) (sym c.deref-in-Is.ensures)) c.single-in-Is.ensures
+
+pub clause-returns-in-Structure : goal.clause-returns-in-Structure
+clause-returns-in-Structure t c = leads _ _ _ _ (ap (λ f. check_form (names_of c.args.self.now.scope) c.args.rough.now.line (form_of f)) (sym c.deref.ensures ∙ c.in-Structure.is) ∙ ap (λ name. check_form (names_of c.args.self.now.scope) c.args.rough.now.line (form.Structure (named name) (groups_in (items_of c.in-Structure.fields)))) (sym c.deref-in-Structure.ensures) ∙ ap (λ fields. check_form (names_of c.args.self.now.scope) c.args.rough.now.line (form.Structure (named c.deref-in-Structure.result.now) (groups_in fields))) (sym c.as_slice.ensures)) c.structure.ensures
+
+pub name_applied-returns-in_err-meaning : goal.name_applied-returns-in_err-meaning
+name_applied-returns-in_err-meaning t c = exits c.from_residual.result _ c.in_err-meaning.field-0.0 _ c.from_residual.ensures.1 (no_memory _ _ c.in_err-meaning.ensures)
+
+pub double-returns-in_err-wanted : goal.double-returns-in_err-wanted
+double-returns-in_err-wanted t c = exits c.from_residual-in_err-wanted.result _ c.in_err-wanted.field-0.0 _ c.from_residual-in_err-wanted.ensures.1 (no_memory _ _ c.in_err-wanted.ensures)
+
+pub literal-returns-in_err-params : goal.literal-returns-in_err-params
+literal-returns-in_err-params t c = exits c.from_residual.result _ c.in_err-params.field-0.0 _ c.from_residual.ensures.1 (no_memory _ _ c.in_err-params.ensures)
+
+pub chain-returns-in_err-innermost : goal.chain-returns-in_err-innermost
+chain-returns-in_err-innermost t c = exits c.from_residual-in_err-innermost.result _ c.in_err-innermost.field-0.0 _ c.from_residual-in_err-innermost.ensures.1 (no_memory _ _ c.in_err-innermost.ensures.fault)
+
+pub named_literal-returns-in_err-ty : goal.named_literal-returns-in_err-ty
+named_literal-returns-in_err-ty t c = exits c.from_residual.result _ c.in_err-ty.field-0.0 _ c.from_residual.ensures.1 (no_memory _ _ c.in_err-ty.ensures)
 
 pub clause-returns-in-IfDo : goal.clause-returns-in-IfDo
 clause-returns-in-IfDo t c = leads _ _ _ _ (ap (λ f. check_form (names_of c.args.self.now.scope) c.args.rough.now.line (form_of f)) (sym c.deref.ensures ∙ c.in-IfDo.is)) c.double.ensures
