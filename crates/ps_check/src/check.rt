@@ -27,7 +27,8 @@ use std::alloc::Global;
 
 /// Checks a program: its names, its types and how many slots its bodies need. Answers the typed program, in which each name has
 /// its place, or the first fault in the order of the text, or `Memory` (`docs/language.md`); what was made until then is let go. Of a
-/// sequence each item is let go when it is checked, so that the text's tree and the typed one don't stand beside each other whole.
+/// sequence each item is let go when it is checked, so that the text's tree and the typed one don't stand beside each other whole. Slot
+/// counts are tested before names have their places, which doesn't change them.
 pub fn check(alloc: Global, rough: Rough) -> Result<Program, CheckFault>
     ensures program { IfOk result (λ program. check_program (phrase_of rough) ≡ Typed (body_of program.body)) }
     ensures fault { IfErr result (λ fault. (told : Fault) → fault_of fault ≡ Some told → check_program (phrase_of rough) ≡ Fails told) }
@@ -40,9 +41,11 @@ pub fn check(alloc: Global, rough: Rough) -> Result<Program, CheckFault>
         scope: None,
         line: Line(1),
     };
-    let body = place(alloc, names, body)?;
     match first_complex(alloc, &body)? {
-        None => Ok(Program { body }),
+        None => {
+            let body = place(alloc, names, body)?;
+            Ok(Program { body })
+        }
         Some(Complex { line, count }) => Err(CheckFault::TooComplex { line, count }),
     }
 }

@@ -1,0 +1,27 @@
+-- What the tree of a program comes to: slot counts may be tested before its names have their places.
+use Rattle.std.proofs.Common.{◌≡◌, [], sym, ap, ◌∙◌, None}
+use Rattle.std.specs.Prelude.{Option, List}
+use Rattle.ps_base.specs.TyView.{Void}
+use Rattle.ps_tree.specs.Phrase.{Phrase}
+use Rattle.ps_program.specs.Node.{Node, BodyNode, body}
+use Rattle.ps_type_text.specs.Texts.{Field}
+use Rattle.ps_typing.specs.Fault.{Fault}
+use Rattle.ps_typing.specs.Library.{library_names}
+use Rattle.ps_typing.specs.Names.{Names}
+use Rattle.ps_typing.specs.Checking.{Gives, check, wants}
+use Rattle.ps_typing.specs.Placed.{placed_program}
+use Rattle.ps_typing.specs.Program.{check_program, verdict_of, measured, bodies, first_complex, end_line}
+use Rattle.ps_typing_laws.proofs.SameCounts.{program_complex}
+
+-- a program before its names have places
+abbrev pub unplaced : Node → BodyNode
+unplaced tree = body [] Void tree None (record { 0 = 1 })
+
+pub verdict_is : (p : Phrase) (tree : Node) (names : Names) (fields : List Field) (program : BodyNode) (found : Option Fault)
+    → wants Void (end_line p) (check library_names p) ≡ Gives tree Void names → names.all ≡ fields → program ≡ unplaced tree → first_complex (bodies program) ≡ found
+    → check_program p ≡ measured (placed_program fields program) found
+verdict_is p tree names fields program found is all same complex =
+    ap verdict_of is
+    ∙ ap (λ fs. measured (placed_program fs (unplaced tree)) (first_complex (bodies (placed_program fs (unplaced tree))))) all
+    ∙ ap (λ b. measured (placed_program fields b) (first_complex (bodies (placed_program fields b)))) (sym same)
+    ∙ ap (measured (placed_program fields program)) (program_complex fields program ∙ complex)

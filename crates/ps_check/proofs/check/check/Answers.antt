@@ -1,0 +1,24 @@
+use Rattle.std.proofs.Common.{◌∙◌, ap, sym, None, Some}
+use Rattle.ps_base.specs.TyView.{Void}
+use Rattle.ps_tree.specs.Phrase.{phrase_of}
+use Rattle.ps_program.specs.Node.{body}
+use Rattle.ps_program.specs.NodeView.{node_of, params_of}
+use Rattle.ps_typing.specs.Program.{Typed}
+use Rattle.ps_slots.specs.Complexity.{fault_of}
+use Rattle.ps_check.proofs.Verdicts.{verdict_is}
+use Rattle.ps_check.proofs.check.check.Goals as goal
+
+pub returns-in_ok-body-in-None-clause-program : goal.returns-in_ok-body-in-None-clause-program
+returns-in_ok-body-in-None-clause-program c =
+    verdict_is (phrase_of c.args.rough) (node_of c.in_ok-tree.field-0.tree) c.in_ok-tree.ensures.0 _ _ None c.in_ok-tree.ensures.1
+    c.in_ok-tree.ensures.2
+    (ap (λ ps. body (params_of ps) Void (node_of c.in_ok-tree.field-0.tree) None (record { 0 = 1 })) (c.new-2.ensures ∙ c.new.ensures.items))
+    (c.in_ok-first_complex.ensures ∙ ap fault_of c.in-None.is)
+    ∙ ap Typed (sym c.in_ok-body-in-None.ensures)
+
+pub returns-in-Some-clause-fault : goal.returns-in-Some-clause-fault
+returns-in-Some-clause-fault c told is =
+    verdict_is (phrase_of c.args.rough) (node_of c.in_ok-tree.field-0.tree) c.in_ok-tree.ensures.0 _ _ (Some told) c.in_ok-tree.ensures.1
+    c.in_ok-tree.ensures.2
+    (ap (λ ps. body (params_of ps) Void (node_of c.in_ok-tree.field-0.tree) None (record { 0 = 1 })) (c.new-2.ensures ∙ c.new.ensures.items))
+    (c.in_ok-first_complex.ensures ∙ ap fault_of c.in-Some.is ∙ is)
