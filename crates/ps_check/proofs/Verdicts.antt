@@ -1,21 +1,31 @@
 -- What the tree of a program comes to: slot counts may be tested before its names have their places.
 use Rattle.std.proofs.Common.{◌≡◌, [], sym, ap, ◌∙◌, None}
 use Rattle.std.specs.Prelude.{Option, List}
-use Rattle.ps_base.specs.TyView.{Void}
+use Rattle.ps_base.specs.TyView.{TyView, Void}
+use Rattle.ps_base.specs.declared.line.Line.{Line}
 use Rattle.ps_tree.specs.Phrase.{Phrase}
 use Rattle.ps_program.specs.Node.{Node, BodyNode, body}
 use Rattle.ps_type_text.specs.Texts.{Field}
 use Rattle.ps_typing.specs.Fault.{Fault}
 use Rattle.ps_typing.specs.Library.{library_names}
 use Rattle.ps_typing.specs.Names.{Names}
-use Rattle.ps_typing.specs.Checking.{Gives, check, wants}
+use Rattle.ps_typing.specs.Checking.{Outcome, Gives, Refuses, check, wants, is_same}
 use Rattle.ps_typing.specs.Placed.{placed_program}
 use Rattle.ps_typing.specs.Program.{check_program, verdict_of, measured, bodies, first_complex, end_line}
+use Rattle.ps_checker.proofs.Blocks.{unpassed}
 use Rattle.ps_typing_laws.proofs.SameCounts.{program_complex}
 
 -- a program before its names have places
 abbrev pub unplaced : Node → BodyNode
 unplaced tree = body [] Void tree None (record { 0 = 1 })
+
+-- a clause that is void is the tree that was tested
+abbrev tree_in : Node → Outcome Node → Node
+tree_in other (Gives tree ty names) = tree
+tree_in other (Refuses fault) = other
+
+pub same_tree : (line : Line) (tree other : Node) (ty : TyView) (names last : Names) → wants Void line (Gives tree ty names) ≡ Gives other Void last → tree ≡ other
+same_tree line tree other ty names last is = ap (tree_in other) (unpassed (λ found. is_same found Void) Void line (Gives tree ty names) other Void last is)
 
 pub verdict_is : (p : Phrase) (tree : Node) (names : Names) (fields : List Field) (program : BodyNode) (found : Option Fault)
     → wants Void (end_line p) (check library_names p) ≡ Gives tree Void names → names.all ≡ fields → program ≡ unplaced tree → first_complex (bodies program) ≡ found

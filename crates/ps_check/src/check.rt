@@ -1,4 +1,4 @@
-ghost use Rattle.std.specs.Prelude.{◌≡◌, Some, Option, MatchResult, IfOk, IfErr};
+ghost use Rattle.std.specs.Prelude.{◌≡◌, Some, IfOk, IfErr};
 ghost use Rattle.ps_base.specs.TyView.{Void};
 ghost use Rattle.ps_tree.specs.Phrase.{phrase_of};
 ghost use Rattle.ps_program.specs.NodeView.{body_of};
@@ -9,7 +9,7 @@ ghost use Rattle.ps_typing.specs.Program.{Typed, Fails, check_program, end_line 
 ghost use Rattle.ps_declared.specs.Faults.{fault_of};
 ghost use Rattle.ps_check.specs.inside.Whole.{IsWhole};
 
-use crate::program::program;
+use crate::program::{Measured, program};
 use ps_base::line::Line;
 use ps_base::list::List;
 use ps_base::ty::Ty;
@@ -20,7 +20,7 @@ use ps_names::place;
 use ps_program::body::{Body, Program};
 use ps_program::form::Tree;
 use ps_scope::scope::Scope;
-use ps_slots::{Complex, first_complex};
+use ps_slots::{Complex, Sizes};
 use ps_tree::rough::Rough;
 use ps_type_text::Member;
 use std::alloc::Global;
@@ -33,7 +33,7 @@ pub fn check(alloc: Global, rough: Rough) -> Result<Program, CheckFault>
     ensures program { IfOk result (λ program. check_program (phrase_of rough) ≡ Typed (body_of program.body)) }
     ensures fault { IfErr result (λ fault. (told : Fault) → fault_of fault ≡ Some told → check_program (phrase_of rough) ≡ Fails told) }
 {
-    let Whole { tree, names } = tree_and_names(alloc, rough)?;
+    let Whole { tree, names, sizes } = tree_and_names(alloc, rough)?;
     let body = Body {
         params: List::new(Vec::new(alloc)),
         gives: Ty::Void,
@@ -41,20 +41,21 @@ pub fn check(alloc: Global, rough: Rough) -> Result<Program, CheckFault>
         scope: None,
         line: Line(1),
     };
-    match first_complex(alloc, &body)? {
+    match sizes.first_complex(0, body.line)? {
         None => {
-            let body = place(alloc, names, body)?;
+            let body = place(alloc, names, body, sizes.literal)?;
             Ok(Program { body })
         }
         Some(Complex { line, count }) => Err(CheckFault::TooComplex { line, count }),
     }
 }
 
-/// The tree of a program in which each name is a number, and the names by their numbers.
+/// The tree of a program in which each name is a number, the names by their numbers, and how large the tree is.
 #[derive(Drop)]
 pub(crate) struct Whole {
     pub(crate) tree: Tree,
     pub(crate) names: Vec<Member>,
+    pub(crate) sizes: Sizes,
 }
 
 fn tree_and_names(alloc: Global, rough: Rough) -> Result<Whole, CheckFault>
@@ -63,8 +64,8 @@ fn tree_and_names(alloc: Global, rough: Rough) -> Result<Whole, CheckFault>
     let end = end_line(&rough);
     let scope = Scope::new(alloc)?;
     let mut checker = Checker { alloc, scope };
-    let clause = program(&mut checker, rough)?;
+    let Measured { clause, sizes } = program(&mut checker, rough)?;
     let tree = clause.of_type(end, &Ty::Void)?;
     let names = checker.into_scope().into_locals();
-    Ok(Whole { tree, names })
+    Ok(Whole { tree, names, sizes })
 }

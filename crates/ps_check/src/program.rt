@@ -4,26 +4,47 @@ ghost use Rattle.ps_tree.specs.Phrase as form;
 ghost use Rattle.ps_tree.specs.PhraseLists.{phrases_in};
 ghost use Rattle.ps_scope.specs.Content.{names_of};
 ghost use Rattle.ps_typing.specs.Checking.{check as check_of, check_form, check_all};
-ghost use Rattle.ps_declared.specs.inside.Answers.{IsClause};
-ghost use Rattle.ps_checked.specs.inside.Lists.{AreItems};
+ghost use Rattle.ps_check.specs.inside.Whole.{IsMeasured, AreMeasured};
 
 use ps_base::line::Line;
 use ps_base::ty::Ty;
-use ps_checked::items::{Items, block_of, taken_items};
+use ps_checked::items::{block_of, taken_items};
 use ps_checker::checker::Checker;
 use ps_declared::clause::Clause;
 use ps_declared::fault::CheckFault;
+use ps_program::form::Tree;
+use ps_slots::{Sizes, sizes_of};
 use ps_tree::rough::Rough;
 
-/// Checks a program. The items of its sequence are let go one by one as they are checked, so that their memory serves for the typed tree.
-pub(crate) fn program(checker: &mut Checker, rough: Rough) -> Result<Clause, CheckFault>
-    ensures { IsClause (check_of (names_of checker.old.scope) (phrase_of rough)) result checker.new.scope }
+/// A program that was checked, and how large it is.
+#[derive(Drop)]
+pub(crate) struct Measured {
+    pub(crate) clause: Clause,
+    pub(crate) sizes: Sizes,
+}
+
+/// The items of a program that is a sequence, the type of the last, and how large they are.
+#[derive(Drop)]
+pub(crate) struct MeasuredItems {
+    pub(crate) trees: Vec<Tree>,
+    pub(crate) ty: Ty,
+    pub(crate) sizes: Sizes,
+}
+
+/// Checks a program. The items of its sequence are let go one by one as they are checked, so that their memory serves for the typed
+/// tree; and each is measured while it is still in the processor's cache.
+pub(crate) fn program(checker: &mut Checker, rough: Rough) -> Result<Measured, CheckFault>
+    ensures { IsMeasured (check_of (names_of checker.old.scope) (phrase_of rough)) result checker.new.scope }
 {
     let mut rough = rough;
     let line = rough.line;
     match taken_items(checker.alloc, &mut rough) {
         Some(items) => owned_sequence(checker, line, items),
-        None => checker.clause(&rough),
+        None => {
+            let clause = checker.clause(&rough)?;
+            let sizes = sizes_of(&clause.tree)?;
+            Ok(Measured { clause, sizes })
+        }
     }
 }
 
@@ -32,29 +53,41 @@ fn owned_sequence(
     checker: &mut Checker,
     line: Line,
     items: Vec<Rough>,
-) -> Result<Clause, CheckFault>
-    ensures { IsClause (check_form (names_of checker.old.scope) line (form.Sequence (phrases_in items.items))) result checker.new.scope }
+) -> Result<Measured, CheckFault>
+    ensures { IsMeasured (check_form (names_of checker.old.scope) line (form.Sequence (phrases_in items.items))) result checker.new.scope }
 {
     let block = checker.scope.enter();
-    let Items { trees, ty } = owned_items(checker, line, items)?;
+    let MeasuredItems { trees, ty, sizes } = owned_items(checker, line, items)?;
     checker.scope.leave(block);
-    block_of(checker.alloc, trees, ty)
+    let clause = block_of(checker.alloc, trees, ty)?;
+    let sizes = sizes.in_sequence();
+    Ok(Measured { clause, sizes })
 }
 
 // The items of a sequence, each of which is let go when it is checked.
-fn owned_items(checker: &mut Checker, line: Line, items: Vec<Rough>) -> Result<Items, CheckFault>
-    ensures { AreItems (check_all (names_of checker.old.scope) line types.Void (phrases_in items.items)) result checker.new.scope }
+fn owned_items(
+    checker: &mut Checker,
+    line: Line,
+    items: Vec<Rough>,
+) -> Result<MeasuredItems, CheckFault>
+    ensures { AreMeasured (check_all (names_of checker.old.scope) line types.Void (phrases_in items.items)) result checker.new.scope }
 {
     let mut rest = items;
     rest.reverse();
     let mut trees = Vec::new(checker.alloc);
     let mut last = Ty::Void;
     let mut line = line;
+    let mut sizes = Sizes::none();
     while let Some(item) = rest.pop() {
         let Clause { tree, ty } = checker.item(last, line, &item)?;
+        sizes = sizes.and_item(&tree)?;
         trees.push(tree)?;
         last = ty;
         line = item.line;
     }
-    Ok(Items { trees, ty: last })
+    Ok(MeasuredItems {
+        trees,
+        ty: last,
+        sizes,
+    })
 }

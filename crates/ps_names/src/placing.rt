@@ -1,4 +1,4 @@
-ghost use Rattle.std.specs.Prelude.{◌≡◌, OnOk, IfOk};
+ghost use Rattle.std.specs.Prelude.{◌≡◌, [], ◌∷◌, false, OnOk, IfOk};
 ghost use Rattle.ps_base.specs.List.{items_of};
 ghost use Rattle.ps_type_text.specs.Members.{fields_of};
 ghost use Rattle.ps_program.specs.Node as node;
@@ -6,6 +6,7 @@ ghost use Rattle.ps_base.specs.TyView.{ty_view};
 ghost use Rattle.ps_program.specs.NodeView.{node_of, node_of_form, nodes_in, arm_of, body_of};
 ghost use Rattle.ps_program.specs.inside.PartsView.{arms_in};
 ghost use Rattle.ps_typing.specs.Placed.{placed, placed_all, placed_arms, placed_program};
+ghost use Rattle.ps_typing.specs.Program.{bodies};
 ghost use Rattle.ps_placer.specs.inside.Standing.{Does};
 ghost use Rattle.ps_names.specs.inside.Chains.{is_link as is_link_of, first_or, with_first, placed_parts};
 ghost use Rattle.ps_placer.specs.inside.Params.{text_in};
@@ -24,11 +25,17 @@ use std::alloc::{AllocError, Global};
 use std::mem;
 
 /// A program in which each name has its place, each loop and each scan its locals, and each scope its text. In the program as
-/// it is given, the place of a name is its number among these names.
-pub fn place(alloc: Global, names: Vec<Member>, body: Body) -> Result<Body, AllocError>
+/// it is given, the place of a name is its number among these names; and whether a procedure literal stands in it is told.
+pub fn place(
+    alloc: Global,
+    names: Vec<Member>,
+    body: Body,
+    literal: bool,
+) -> Result<Body, AllocError>
+    requires { literal ≡ false → bodies (body_of body) ≡ body_of body ∷ [] }
     ensures { IfOk result (λ made. body_of made ≡ placed_program (fields_of names.items) (body_of body)) }
 {
-    let survey = surveyed(alloc, &body)?;
+    let survey = surveyed(alloc, &body, literal)?;
     let mut placer = Placer::new(alloc, names, survey);
     let mut body = body;
     place_literal(&mut placer, &mut body)?;

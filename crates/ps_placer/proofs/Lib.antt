@@ -4,3 +4,4 @@ pub mod Choosing
 pub mod Spots
 pub mod Steps
 pub mod Entering
+pub mod Unnested

@@ -96,7 +96,7 @@ parts_marked d (literal n ∷ ps) =
     ∙ ap (join (marks (d + 1) n)) (parts_marked d ps)
 
 -- a clause has its own marks and those of its parts
-marks_is : (d : ℕ) (n : Node) → marks d n ≡ join (marks_alone d n) (marks_parts d (parts_of n))
+pub marks_is : (d : ℕ) (n : Node) → marks d n ≡ join (marks_alone d n) (marks_parts d (parts_of n))
 marks_is d n =
     let parts = parts_of n in
     let found : mentions n ≡ own_mention n ++ joined (map (part_as mentions) parts) = fold_parts (λ clause parts. own_mention clause ++ joined parts) n in

@@ -1,8 +1,9 @@
-ghost use Rattle.std.specs.Prelude.{◌≡◌, ◌+◌, ℕ, OnOk, IfOk, [], ◌∷◌, map};
+ghost use Rattle.std.specs.Prelude.{◌≡◌, ◌+◌, ℕ, false, OnOk, IfOk, [], ◌∷◌, map};
 ghost use Rattle.ps_program.specs.NodeView.{node_of, nodes_in, body_of, params_of};
 ghost use Rattle.ps_program.specs.inside.Listed.{literals_of};
 ghost use Rattle.ps_program.specs.inside.PartsView.{arms_in, further_in};
 ghost use Rattle.ps_typing.specs.Mentions.{number_of, kept_names, is_among, seen, numbers};
+ghost use Rattle.ps_typing.specs.Program.{bodies};
 ghost use Rattle.ps_placer.specs.inside.Marks.{marks, marks_of, marks_in, marks_alone, marks_parts, marks_body, marks_all, marks_arms, least as least_of, is_kept as is_kept_of, join, no_marks};
 
 use crate::table::Table;
@@ -29,12 +30,16 @@ pub fn number(place: Place) -> u32
     }
 }
 
-/// The survey of a program.
-pub fn surveyed(alloc: Global, body: &Body) -> Result<Survey, AllocError>
+/// The survey of a program, of which is told whether a procedure literal stands in it: without one it keeps no name, and isn't gone
+/// over.
+pub fn surveyed(alloc: Global, body: &Body, literal: bool) -> Result<Survey, AllocError>
+    requires { literal ≡ false → bodies (body_of body.now) ≡ body_of body.now ∷ [] }
     ensures { IfOk result (λ made. (k : ℕ) → is_kept_of (marks_of made) k ≡ is_among (kept_names (body_of body.now)) k) }
 {
     let mut survey = Survey::new(alloc);
-    survey.body(body, 0)?;
+    if literal {
+        survey.body(body, 0)?;
+    }
     Ok(survey)
 }
 

@@ -4,4 +4,5 @@
 mod complex;
 mod sizes;
 
-pub use complex::{Complex, first_complex};
+pub use complex::Complex;
+pub use sizes::{Sizes, sizes_of};

@@ -1,12 +1,15 @@
-ghost use Rattle.std.specs.Prelude.{◌≡◌, ◌+◌, ◌≤◌, IfOk};
+ghost use Rattle.std.specs.Prelude.{◌≡◌, ◌+◌, ◌≤◌, ℕ, true, Option, List, length, IfOk};
+ghost use Rattle.ps_base.specs.TyView.{TyView};
+ghost use Rattle.ps_program.specs.Node.{Node, Nodes, Param, body as body_with};
+ghost use Rattle.ps_program.specs.Node as node;
 ghost use Rattle.ps_program.specs.NodeView.{node_of, nodes_in, body_of};
-ghost use Rattle.ps_program.specs.Slots.{own_locals};
 ghost use Rattle.ps_program.specs.inside.Listed.{parts_all};
 ghost use Rattle.ps_program.specs.inside.PartsView.{arms_in, further_in};
 ghost use Rattle.ps_slots.specs.Complexity.{fault_of, IsFirstComplex};
-ghost use Rattle.ps_slots.specs.inside.Sizes.{size, size_of, size_part, size_parts, size_arms, size_alone, as_part, waiting, behind as behind_of, join, nothing};
+ghost use Rattle.ps_slots.specs.inside.Sizes.{size, size_of, size_part, size_parts, size_items, size_arms, size_alone, as_part, waiting, behind as behind_of, join, nothing};
 
 use crate::complex::Complex;
+use ps_base::line::Line;
 use ps_program::body::Body;
 use ps_program::form::{Arm, Tree, TreeForm};
 use ps_program::parts::{Further, Parts};
@@ -15,12 +18,13 @@ use std::alloc::AllocError;
 /// The most slots of a body.
 const MOST_SLOTS: u64 = 512;
 
-/// How large a clause is: how many locals it takes, how deep the stacks grow over it, and the first body in it that is too
-/// complex.
+/// How large a clause is: how many locals it takes, how deep the stacks grow over it, whether a procedure literal stands in it,
+/// and the first body in it that is too complex.
 #[derive(Clone, Copy)]
 pub struct Sizes {
     pub locals: u64,
     pub depth: u64,
+    pub literal: bool,
     pub complex: Option<Complex>,
 }
 
@@ -35,14 +39,44 @@ pub enum Kind {
 
 impl Sizes {
     /// Of no clause at all.
-    fn none() -> Sizes
+    pub fn none() -> Sizes
         ensures { size_of result ≡ nothing }
     {
         Sizes {
             locals: 0,
             depth: 0,
+            literal: false,
             complex: None,
         }
+    }
+
+    /// Of these items of a sequence and, behind them, one more. The fault is that a count is beyond an `u64`.
+    pub fn and_item(self, item: &Tree) -> Result<Sizes, AllocError>
+        ensures { IfOk result (λ all. size_of all ≡ join (size_of self) (size (node_of item.now))) }
+    {
+        self.then(sizes_of(item)?)
+    }
+
+    /// Of the sequence that has items of these sizes.
+    pub fn in_sequence(self) -> Sizes
+        ensures { (scope : Option (List ℕ)) (items : Nodes) → size_of self ≡ size_items items → size_of result ≡ size (node.Block scope items) }
+    {
+        Sizes {
+            depth: self.depth.max(1),
+            ..self
+        }
+    }
+
+    /// The first body with too many slots, of one with so many parameters whose clause has these sizes, and of all in it. The
+    /// fault is that a count is beyond an `u64`.
+    pub fn first_complex(self, params: u64, line: Line) -> Result<Option<Complex>, AllocError>
+        ensures { IfOk result (λ found. (of : List Param) (gives : TyView) (tree : Node) (scope : Option (List ℕ)) → length of ≡ params → size_of self ≡ size tree → IsFirstComplex (body_with of gives tree scope line) found) }
+    {
+        let count = sum(params, sum(self.locals, self.depth)?)?;
+        if count > MOST_SLOTS {
+            return Ok(Some(Complex { line, count }));
+        }
+        Ok(self.complex)
     }
 
     /// Of these and, behind them in the text, others.
@@ -52,6 +86,7 @@ impl Sizes {
         Ok(Sizes {
             locals: sum(self.locals, other.locals)?,
             depth: self.depth.max(other.depth),
+            literal: self.literal || other.literal,
             complex: match self.complex {
                 Some(complex) => Some(complex),
                 None => other.complex,
@@ -60,26 +95,19 @@ impl Sizes {
     }
 }
 
-/// The first body with too many slots, of this and all in it.
+// The first body with too many slots, of this and all in it.
 #[cycle(sizes)]
-pub fn complex_of(body: &Body) -> Result<Option<Complex>, AllocError>
+fn complex_of(body: &Body) -> Result<Option<Complex>, AllocError>
     ensures { IfOk result (λ found. IsFirstComplex (body_of body.now) found) }
 {
     let sizes = sizes_of(&body.tree)?;
-    let params = body.params.len() as u64;
-    let count = sum(params, sum(sizes.locals, sizes.depth)?)?;
-    if count > MOST_SLOTS {
-        return Ok(Some(Complex {
-            line: body.line,
-            count,
-        }));
-    }
-    Ok(sizes.complex)
+    sizes.first_complex(body.params.len() as u64, body.line)
 }
 
+/// The sizes of a clause. The fault is that a count is beyond an `u64`.
 // The first parts are gone into by the loop, since they stand inside one another as far as the text is long.
 #[cycle(sizes)]
-fn sizes_of(tree: &Tree) -> Result<Sizes, AllocError>
+pub fn sizes_of(tree: &Tree) -> Result<Sizes, AllocError>
     ensures { IfOk result (λ made. size_of made ≡ size (node_of tree.now)) }
 {
     let mut rest = tree;
@@ -182,6 +210,7 @@ fn behind(kind: Kind, before: u64, part: Sizes) -> Result<Sizes, AllocError>
     Ok(Sizes {
         locals: part.locals,
         depth: sum(waiting, part.depth)?,
+        literal: part.literal,
         complex: part.complex,
     })
 }
@@ -199,17 +228,19 @@ fn own(tree: &Tree) -> Sizes
     Sizes {
         locals,
         depth: 1,
+        literal: false,
         complex: None,
     }
 }
 
 // Of a literal with this body in it: one word for the value.
 fn literal(complex: Option<Complex>) -> Sizes
-    ensures { size_of result ≡ record { locals = 0; depth = 1; complex = fault_of complex } }
+    ensures { size_of result ≡ record { locals = 0; depth = 1; literal = true; complex = fault_of complex } }
 {
     Sizes {
         locals: 0,
         depth: 1,
+        literal: true,
         complex,
     }
 }

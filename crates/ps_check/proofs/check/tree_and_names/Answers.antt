@@ -1,11 +1,29 @@
-use Rattle.std.proofs.Common.{subst}
+use Rattle.std.proofs.Common.{◌≡◌, ◌∙◌, ap, sym, subst}
+use Rattle.ps_base.specs.TyView.{Void, ty_view}
+use Rattle.ps_program.specs.NodeView.{node_of}
 use Rattle.ps_tree.specs.Phrase.{phrase_of}
-use Rattle.ps_typing.specs.Checking.{check}
+use Rattle.ps_scope.specs.Content.{names_of}
+use Rattle.ps_typing.specs.Checking.{Gives, check, wants}
+use Rattle.ps_typing.specs.Program.{end_line}
 use Rattle.ps_declared.specs.inside.Answers.{IsFault}
 use Rattle.ps_declared.proofs.Steps.{exits, fails_test}
+use Rattle.ps_slots.specs.inside.Sizes.{size}
+use Rattle.ps_check.proofs.Verdicts.{same_tree}
 use Rattle.ps_check.proofs.check.tree_and_names.Goals as goal
 
 pub returns-in_err-clause : goal.returns-in_err-clause
 returns-in_err-clause c =
     exits c.from_residual-in_err-clause.result _ c.in_err-clause.field-0.0 _ c.from_residual-in_err-clause.ensures.1
     (fails_test _ _ _ _ _ (subst (λ n. IsFault (check n (phrase_of c.args.rough)) c.in_err-clause.field-0.0) c.in_ok-scope.ensures c.in_err-clause.ensures))
+
+pub returns : goal.returns
+returns c =
+    let names = names_of c.program.new.checker.scope in
+    let program = phrase_of c.args.rough in
+    let checked = subst (λ n. check n program ≡ Gives (node_of c.in_ok-clause.field-0.clause.tree) (ty_view c.in_ok-clause.field-0.clause.ty) names) c.in_ok-scope.ensures c.in_ok-clause.ensures.0 in
+    let void = c.in_ok-tree.ensures c.program.new.checker.scope in (
+      names,
+      ap (λ o. wants Void (end_line program) o) checked ∙ ap (λ line. wants Void line (Gives (node_of c.in_ok-clause.field-0.clause.tree) (ty_view c.in_ok-clause.field-0.clause.ty) names)) (sym c.end_line-end.ensures) ∙ void,
+      ap (λ s. (names_of s).all) (sym c.into_scope.ensures) ∙ sym c.into_locals-names.ensures,
+      c.in_ok-clause.ensures.1 ∙ ap size (same_tree _ _ _ _ _ _ void),
+    )

@@ -1,14 +1,23 @@
-use Rattle.std.proofs.Common.{rules, ◌∙◌, [], ◌∷◌, ap, sym, refl, subst, arith}
+use Rattle.std.proofs.Common.{rules, ◌≡◌, ◌+◌, ◌∙◌, [], ◌∷◌, ap, sym, refl, subst, arith}
+use Rattle.std.proofs.lemmas.List.{length-map}
+use Rattle.ps_base.specs.List.{items_of}
+use Rattle.ps_base.specs.TyView.{ty_view}
 use Rattle.ps_program.specs.Parts.{operand, label, branch}
-use Rattle.ps_program.specs.NodeView.{node_of, nodes_in}
+use Rattle.ps_program.specs.NodeView.{node_of, nodes_in, param_of, params_of}
 use Rattle.ps_program.specs.inside.Listed.{parts_all, parts_arms}
 use Rattle.ps_program.specs.inside.PartsView.{AreListed, arms_in, further_in}
 use Rattle.ps_program.specs.inside.Weights.{weight_all}
 use Rattle.ps_program.proofs.NodeSteps.{arms_from, weight_at, weight_arm_at}
 use Rattle.ps_program.proofs.PartLemmas.{further_lighter, first_lighter, weight_of_all, weight_of_arms, weight_parts-append}
 use Rattle.ps_slots.specs.inside.Sizes.{size, size_of, size_parts, size_arms, size_alone, behind, join}
-use Rattle.ps_slots.proofs.Sizing.{size_with, size_without, gone, arms_then, arm_more, sized_so}
+use Rattle.ps_slots.proofs.Sizing.{size_with, size_without, gone, arms_then, arm_more, two_parts, three_parts, complex_so, sized_so}
 use Rattle.ps_slots.proofs.sizes.+sizes.Goals as goal
+
+pub complex_of-returns : goal.complex_of-returns
+complex_of-returns t c =
+    let b = c.args.body.now in
+    let params = items_of b.params in
+    complex_so c.first_complex.result (params_of params) (ty_view b.gives) (node_of b.tree) b.scope b.line _ _ (length-map params param_of ∙ sym c.len.ensures) c.in_ok-sizes.ensures c.first_complex.ensures
 
 pub sizes_of-sizes_of_further-requires : goal.sizes_of-sizes_of_further-requires
 sizes_of-sizes_of_further-requires t c = let lighter = further_lighter _ _ _ c.in-Clauses-Some-default.ensures in search (rules, lighter)
@@ -57,6 +66,19 @@ sizes_of_arms-loop-arm-preserved t c =
     let cut = arms_from arms i arm _ c.arm-item.is c.loop-arm-test.true in
     let here = c.in_ok-sizes.ensures ∙ ap (λ ts. join (size_of c.loop-arm.sizes) (size_parts 0 (parts_all label (nodes_in ts)))) c.as_slice.ensures in
     arm_more _ _ _ _ _ _ _ here c.in_ok-sizes-2.ensures (ap (λ rest. join (size_of c.loop-arm.sizes) (size_arms rest)) (sym cut) ∙ c.loop-arm.invariant)
+
+pub sizes_of_further-returns-in_ok-sizes-in-Two : goal.sizes_of_further-returns-in_ok-sizes-in-Two
+sizes_of_further-returns-in_ok-sizes-in-Two t c =
+    sized_so c.then_part-in-Two-2.result _ _ (two_parts _ _ _ _ c.none-none.ensures c.in_ok-sizes-in-Two.ensures ∙ sym (ap (λ f. size_parts c.args.before (further_in f)) c.in-Two.is)) c.then_part-in-Two-2.ensures
+
+pub sizes_of_further-returns-in_ok-sizes-in-TwoBranches : goal.sizes_of_further-returns-in_ok-sizes-in-TwoBranches
+sizes_of_further-returns-in_ok-sizes-in-TwoBranches t c =
+    sized_so c.then_part-in-TwoBranches-2.result _ _ (two_parts _ _ _ _ c.none-none.ensures c.in_ok-sizes-in-TwoBranches.ensures ∙ sym (ap (λ f. size_parts c.args.before (further_in f)) c.in-TwoBranches.is)) c.then_part-in-TwoBranches-2.ensures
+
+pub sizes_of_further-returns-in_ok-sizes-in-Three-2 : goal.sizes_of_further-returns-in_ok-sizes-in-Three-2
+sizes_of_further-returns-in_ok-sizes-in-Three-2 t c =
+    let up : c.args.before + 2 ≡ c.args.before + 1 + 1 = omega arith in
+    sized_so c.then_part-in-Three-3.result _ _ (three_parts _ (size_of c.in_ok-sizes-in-Three.sizes) _ _ _ _ _ c.none-none.ensures c.in_ok-sizes-in-Three.ensures c.in_ok-sizes-in-Three-2.ensures (ap (λ k. behind k (size (node_of c.in-Three.d.now))) up) ∙ sym (ap (λ f. size_parts c.args.before (further_in f)) c.in-Three.is)) c.then_part-in-Three-3.ensures
 
 pub sizes_of_further-then_all-requires : goal.sizes_of_further-then_all-requires
 sizes_of_further-then_all-requires t c = let w = weight_of_all branch (λ n. refl) (nodes_in c.in-Branches.items.now) in search (rules, w)
