@@ -61,10 +61,12 @@ pub(crate) struct Whole {
 fn tree_and_names(alloc: Global, rough: Rough) -> Result<Whole, CheckFault>
     ensures { IsWhole (wants Void (end_line_of (phrase_of rough)) (check_of library_names (phrase_of rough))) result }
 {
+    // Let go last: what the scope let go behind it would be joined with all of its small pieces.
+    let mut rough = rough;
     let end = end_line(&rough);
     let scope = Scope::new(alloc)?;
     let mut checker = Checker { alloc, scope };
-    let Measured { clause, sizes } = program(&mut checker, rough)?;
+    let Measured { clause, sizes } = program(&mut checker, &mut rough)?;
     let tree = clause.of_type(end, &Ty::Void)?;
     let names = checker.into_scope().into_locals();
     Ok(Whole { tree, names, sizes })

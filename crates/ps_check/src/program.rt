@@ -32,16 +32,15 @@ pub(crate) struct MeasuredItems {
 }
 
 /// Checks a program. The items of its sequence are let go one by one as they are checked, so that their memory serves for the typed
-/// tree; and each is measured while it is still in the processor's cache.
-pub(crate) fn program(checker: &mut Checker, rough: Rough) -> Result<Measured, CheckFault>
-    ensures { IsMeasured (check_of (names_of checker.old.scope) (phrase_of rough)) result checker.new.scope }
+/// tree; and each is measured while it is still in the processor's cache. What is left of the program is the caller's to let go.
+pub(crate) fn program(checker: &mut Checker, rough: &mut Rough) -> Result<Measured, CheckFault>
+    ensures { IsMeasured (check_of (names_of checker.old.scope) (phrase_of rough.old)) result checker.new.scope }
 {
-    let mut rough = rough;
     let line = rough.line;
-    match taken_items(checker.alloc, &mut rough) {
+    match taken_items(checker.alloc, rough) {
         Some(items) => owned_sequence(checker, line, items),
         None => {
-            let clause = checker.clause(&rough)?;
+            let clause = checker.clause(rough)?;
             let sizes = sizes_of(&clause.tree)?;
             Ok(Measured { clause, sizes })
         }

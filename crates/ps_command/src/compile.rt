@@ -10,6 +10,7 @@ ghost use Rattle.ps_causes.specs.Source.{IsProgram};
 ghost use Rattle.ps_command.specs.inside.Refusal.{IsChecked, Refuses, RefusesTree};
 
 use crate::source_fault::SourceFault;
+use large_vectors::let_go;
 use ps_base::LONGEST_TEXT;
 use ps_base::code_unit::CodeUnit;
 use ps_built::first_unbuilt_library;
@@ -48,7 +49,7 @@ fn typed(alloc: Global, text: &[u8]) -> Result<Program, SourceFault>
         Ok(rough) => rough,
         Err(fault) => return Err(SourceFault::Parse(fault)),
     };
-    drop(tokens);
+    let_go(tokens);
     checked(alloc, rough)
 }
 

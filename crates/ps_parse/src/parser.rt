@@ -5,6 +5,7 @@ ghost use Rattle.ps_reader.specs.Grammar.{Go, Program};
 ghost use Rattle.ps_reader.specs.inside.Parsing.{AreSound, ReadsClause};
 ghost use Rattle.ps_parse.specs.Program.{ReadsAs, IsParseFault};
 
+use large_vectors::let_go;
 use ps_base::line::Line;
 use ps_clauses::items::items;
 use ps_reader::reader::Reader;
@@ -34,7 +35,9 @@ pub fn parse(alloc: Global, text: &[u8], tokens: &[Token]) -> Result<Rough, Pars
         symbols: &symbols,
         tokens: tokens.len() as u32,
     };
-    program(&reader, &mut 0)
+    let tree = program(&reader, &mut 0);
+    let_go(symbols);
+    tree
 }
 
 #[tactic(auto, using(ps_reader::proofs::Steps::steps))]

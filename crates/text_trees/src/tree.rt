@@ -4,6 +4,7 @@ ghost use Rattle.ps_tree.specs.Phrase.{phrase_of};
 ghost use Rattle.text_trees.specs.Texts.{HasTree, LacksTree};
 
 use crate::fault::TextFault;
+use large_vectors::let_go;
 use ps_base::LONGEST_TEXT;
 use ps_parse::parse;
 use ps_scan::scan;
@@ -22,7 +23,9 @@ pub fn tree_of(alloc: Global, text: &[u8]) -> Result<Rough, TextFault>
         Ok(tokens) => tokens,
         Err(fault) => return Err(TextFault::Scan(fault)),
     };
-    match parse(alloc, text, &tokens) {
+    let tree = parse(alloc, text, &tokens);
+    let_go(tokens);
+    match tree {
         Ok(rough) => Ok(rough),
         Err(fault) => Err(TextFault::Parse(fault)),
     }

@@ -25,8 +25,8 @@ symbols-requires c = omega (arith, c.requires.size, tokens_fit _ 0 _ c.tokens_ar
 pub overflow_cast-reader : goal.overflow_cast-reader
 overflow_cast-reader c = omega (arith, c.requires.size, tokens_fit _ 0 _ c.tokens_are_slices.ensures.slices c.tokens_are_slices.ensures.in_order (omega arith))
 
-pub program-requires : goal.program-requires
-program-requires c = record {
+pub program-tree-requires : goal.program-tree-requires
+program-tree-requires c = record {
   sound = record {
     size = c.requires.size;
     symbols = subst (λ (all : List Symbol). All (IsSound c.args.text.now) all) (sym (c.deref.ensures.value ∙ c.in_ok-symbols.ensures)) (all_sound c.args.text.now None 0 c.args.tokens.now c.tokens_are_slices.ensures.slices);
@@ -42,5 +42,5 @@ read_tokens text tokens to (Err fault) halts = (tt, fault_of_stop text tokens fa
 
 pub returns : goal.returns
 returns c =
-    let both = read_tokens c.args.text.now c.args.tokens.now c.program.new.at c.program.result (subst (λ (all : List Symbol). MatchResult c.program.result (λ made. Continues c.args.text.now (length c.args.tokens.now) all 100 (Go Program) 0 (Give (a_clause (phrase_of made))) c.program.new.at) (λ fault. HaltsWith c.args.text.now (length c.args.tokens.now) all 100 (Go Program) 0 fault)) (c.deref.ensures.value ∙ c.in_ok-symbols.ensures) c.program.ensures) in
+    let both = read_tokens c.args.text.now c.args.tokens.now c.program-tree.new.at c.program-tree.result (subst (λ (all : List Symbol). MatchResult c.program-tree.result (λ made. Continues c.args.text.now (length c.args.tokens.now) all 100 (Go Program) 0 (Give (a_clause (phrase_of made))) c.program-tree.new.at) (λ fault. HaltsWith c.args.text.now (length c.args.tokens.now) all 100 (Go Program) 0 fault)) (c.deref.ensures.value ∙ c.in_ok-symbols.ensures) c.program-tree.ensures) in
     record { tree = both.0; fault = both.1 }
