@@ -54,13 +54,16 @@ impl<T: Named> Log<T> {
         }
     }
 
-    /// These entries.
-    pub fn from_entries(alloc: Global, entries: Vec<T>) -> Result<Log<T>, AllocError>
+    /// These entries, with room for so many before more is taken.
+    pub fn from_entries(alloc: Global, entries: Vec<T>, room: usize) -> Result<Log<T>, AllocError>
     where
         T: Drop,
         ensures { IfOk result (λ made. made ≡ entries.items) }
     {
-        let mut log = Log::new(alloc);
+        let mut log = Log {
+            lines: Vec::with_capacity(alloc, room)?,
+            last: Last::new(alloc),
+        };
         for entry in entries {
             log.push(entry)?;
         }

@@ -12,6 +12,9 @@ use std::alloc::{AllocError, Global};
 use std::marker::Model;
 use std::rc::Rc;
 
+/// For how many names there is room before more is taken: for those of the library, and of a small program.
+const ROOM: usize = 64;
+
 /// The names and fields in scope at a place of a program, and the locals declared so far.
 #[derive(Drop)]
 pub struct Scope {
@@ -59,8 +62,8 @@ impl Scope {
         ensures { IfOk result (λ made. names_of made ≡ library_names) }
     {
         let text = library::error_text(alloc)?;
-        let fields = Log::from_entries(alloc, library::error_fields(alloc, &text)?)?;
-        let names = Log::from_entries(alloc, library::procedures(alloc, text)?)?;
+        let fields = Log::from_entries(alloc, library::error_fields(alloc, &text)?, ROOM)?;
+        let names = Log::from_entries(alloc, library::procedures(alloc, text)?, ROOM)?;
         let names_around = names.len();
         let fields_around = fields.len();
         Ok(Scope {
@@ -68,7 +71,7 @@ impl Scope {
             names_around,
             fields,
             fields_around,
-            locals: Vec::new(alloc),
+            locals: Vec::with_capacity(alloc, ROOM)?,
         })
     }
 
