@@ -9,6 +9,7 @@ ghost use Rattle.ps_checked.specs.inside.Lists.{AreItems};
 
 use ps_base::line::Line;
 use ps_base::ty::Ty;
+use ps_checked::fits::void_before;
 use ps_checked::items::{Items, block_of, taken_items};
 use ps_checker::checker::Checker;
 use ps_declared::clause::Clause;
@@ -51,7 +52,8 @@ fn owned_items(checker: &mut Checker, line: Line, items: Vec<Rough>) -> Result<I
     let mut last = Ty::Void;
     let mut line = line;
     while let Some(item) = rest.pop() {
-        let Clause { tree, ty } = checker.item(last, line, &item)?;
+        void_before(last, line)?;
+        let Clause { tree, ty } = checker.clause(&item)?;
         trees.push(tree)?;
         last = ty;
         line = item.line;
