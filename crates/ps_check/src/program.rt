@@ -8,6 +8,7 @@ ghost use Rattle.ps_check.specs.inside.Whole.{IsMeasured, AreMeasured};
 
 use ps_base::line::Line;
 use ps_base::ty::Ty;
+use ps_checked::fits::void_before;
 use ps_checked::items::{block_of, taken_items};
 use ps_checker::checker::Checker;
 use ps_declared::clause::Clause;
@@ -78,7 +79,8 @@ fn owned_items(
     let mut line = line;
     let mut sizes = Sizes::none();
     while let Some(item) = rest.pop() {
-        let Clause { tree, ty } = checker.item(last, line, &item)?;
+        void_before(last, line)?;
+        let Clause { tree, ty } = checker.clause(&item)?;
         sizes = sizes.and_item(&tree)?;
         trees.push(tree)?;
         last = ty;

@@ -1,3 +1,4 @@
 pub mod Ends
 pub mod LinkSteps
 pub mod Together
+pub mod Voids

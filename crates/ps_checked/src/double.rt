@@ -20,10 +20,15 @@ use ps_program::form::{Tree, TreeForm};
 use std::alloc::Global;
 
 /// A form of which two parts are left to be checked, one after the other.
-#[derive(Drop)]
 pub enum Double {
     IfDo,
     While,
+    /// A loop with its test behind what is done, and nothing behind the test.
+    Repeat,
+    /// The test of such a loop, and what is done behind it.
+    RepeatDo {
+        a: Tree,
+    },
     /// The two clauses behind the test.
     IfElse {
         c: Tree,
@@ -52,6 +57,27 @@ pub enum Double {
     },
 }
 
+impl Drop for Double {
+    fn drop(self) {
+        match self {
+            Double::IfDo => (),
+            Double::While => (),
+            Double::Repeat => (),
+            Double::RepeatDo { a: _ } => (),
+            Double::IfElse { c: _ } => (),
+            Double::Compare(_) => (),
+            Double::Assign {
+                line: _,
+                e_line: _,
+                variable: _,
+            } => (),
+            Double::Fill { l: _, line: _ } => (),
+            Double::Part { s: _, line: _ } => (),
+            Double::Scan { text: _, line: _ } => (),
+        }
+    }
+}
+
 impl Double {
     /// The type that the first part is to have.
     pub fn first(&self) -> Wanted
@@ -60,6 +86,8 @@ impl Double {
         match self {
             Double::IfDo => Wanted::This(Ty::Bool),
             Double::While => Wanted::This(Ty::Bool),
+            Double::Repeat => Wanted::This(Ty::Void),
+            Double::RepeatDo { .. } => Wanted::This(Ty::Bool),
             Double::IfElse { .. } => Wanted::Any,
             Double::Compare(op) => Wanted::Passing(Test::Compared(*op)),
             Double::Assign { .. } => Wanted::Any,
@@ -76,6 +104,8 @@ impl Double {
         match self {
             Double::IfDo => Ok(Wanted::This(Ty::Void)),
             Double::While => Ok(Wanted::This(Ty::Void)),
+            Double::Repeat => Ok(Wanted::This(Ty::Bool)),
+            Double::RepeatDo { .. } => Ok(Wanted::This(Ty::Void)),
             Double::IfElse { .. } => Ok(Wanted::This(first.copy()?)),
             Double::Compare(_) => Ok(Wanted::This(first.copy()?)),
             Double::Assign { .. } => Ok(Wanted::Any),
@@ -95,6 +125,11 @@ impl Double {
         match self {
             Double::IfDo => Clause::new(alloc, TreeForm::IfDo { c: a, a: b }, Ty::Void),
             Double::While => Clause::new(alloc, TreeForm::While { c: a, a: b }, Ty::Void),
+            Double::Repeat => repeated(alloc, a, b),
+            Double::RepeatDo { a: before } => {
+                let form = TreeForm::Repeat { a: before, c: a, b };
+                Clause::new(alloc, form, Ty::Void)
+            }
             Double::IfElse { c } => Clause::new(alloc, TreeForm::IfElse { c, a, b }, ty),
             Double::Compare(op) => {
                 Clause::new(alloc, TreeForm::Compare { op, ty, a, b }, Ty::Bool)
@@ -120,6 +155,14 @@ impl Double {
             Double::Scan { text, line } => scanned(alloc, text, line, a, b),
         }
     }
+}
+
+// A loop with nothing behind its test.
+fn repeated(alloc: Global, a: Tree, c: Tree) -> Result<Clause, CheckFault>
+    ensures { IsMade (node.Repeat (node_of a) (node_of c) node.Empty) types.Void result }
+{
+    let b = Tree::new(alloc, TreeForm::Empty)?;
+    Clause::new(alloc, TreeForm::Repeat { a, c, b }, Ty::Void)
 }
 
 // The scan of a table; its locals are known later.

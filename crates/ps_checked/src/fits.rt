@@ -1,9 +1,11 @@
 ghost use Rattle.std.specs.Prelude.{◌≡◌, not, MatchResult};
 ghost use Rattle.ps_base.specs.TyView.{ty_view};
+ghost use Rattle.ps_program.specs.Node.{Node};
 ghost use Rattle.ps_program.specs.NodeView.{node_of};
 ghost use Rattle.ps_scope.specs.Content.{Content, names_of};
-ghost use Rattle.ps_typing.specs.Checking.{Gives, passes, is_equated, is_ordered, is_comparable, is_writable, is_vector, isnt_void, is_present};
-ghost use Rattle.ps_declared.specs.inside.Answers.{IsClause, IsMemory};
+ghost use Rattle.ps_typing.specs.Checking.{Gives, Outcome, passes, is_equated, is_ordered, is_comparable, is_writable, is_vector, isnt_void, is_present};
+ghost use Rattle.ps_declared.specs.inside.Answers.{IsClause, IsFault, IsMemory};
+ghost use Rattle.ps_checked.specs.inside.Lists.{behind_void};
 ghost use Rattle.ps_checked.specs.inside.Tests.{test_of, wanted_by};
 
 use ps_base::line::Line;
@@ -91,8 +93,8 @@ fn is_equated(ty: &Ty) -> bool
     }
 }
 
-/// Whether a type is that of a clause without a value.
-pub fn is_void(ty: &Ty) -> bool
+// Whether a type is that of a clause without a value.
+fn is_void(ty: &Ty) -> bool
     ensures { not result ≡ isnt_void (ty_view ty.now) }
 {
     match ty {
@@ -104,6 +106,20 @@ pub fn is_void(ty: &Ty) -> bool
         Ty::Vector(_) => false,
         Ty::Proc(_) => false,
     }
+}
+
+/// What another clause follows, on this line, has to be void; else `Mismatch`.
+pub fn void_before(before: Ty, line: Line) -> Result<(), CheckFault>
+    ensures { (next : Outcome Node) → MatchResult result (λ _. behind_void line (ty_view before) next ≡ next) (IsFault (behind_void line (ty_view before) next)) }
+{
+    if is_void(&before) {
+        return Ok(());
+    }
+    Err(CheckFault::Mismatch {
+        line,
+        found: before,
+        wanted: Ty::Void,
+    })
 }
 
 /// Whether a type is int.

@@ -14,13 +14,22 @@ use std::alloc::Global;
 use std::rc::Rc;
 
 /// What takes arguments of given types.
-#[derive(Drop)]
 pub enum Head {
     Call(Tree),
     /// The class of this text.
     Make(Rc<Bytes>),
     /// The procedure of the library with this code.
     Lib(u8),
+}
+
+impl Drop for Head {
+    fn drop(self) {
+        match self {
+            Head::Call(_) => (),
+            Head::Make(_) => (),
+            Head::Lib(_) => (),
+        }
+    }
 }
 
 impl Head {

@@ -11,7 +11,6 @@ ghost use Rattle.ps_declared.specs.inside.Answers.{IsMade, IsMemory};
 ghost use Rattle.ps_declared.specs.inside.Declaring.{AreParams, IsParam, one_param};
 ghost use Rattle.ps_declared.specs.inside.Views.{groups_of, group_of};
 
-use ps_base::line::Line;
 use ps_base::list::List;
 use ps_base::ty::{self, Ty};
 use ps_declared::clause::Clause;

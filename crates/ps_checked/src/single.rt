@@ -21,7 +21,6 @@ use ps_tree::rough::Named;
 use std::alloc::Global;
 
 /// A form of which one part is left to be checked.
-#[derive(Drop)]
 pub enum Single<'a> {
     Not,
     Plus,
@@ -35,6 +34,31 @@ pub enum Single<'a> {
     Joined { joint: Joint, left: Tree },
     /// The subscript of a vector whose elements have this type.
     Element { v: Tree, ty: Ty, line: Line },
+}
+
+impl<'a> Drop for Single<'a> {
+    fn drop(self) {
+        match self {
+            Single::Not => (),
+            Single::Plus => (),
+            Single::Neg(_) => (),
+            Single::Bound { upper: _ } => (),
+            Single::Is {
+                class: _,
+                negated: _,
+            } => (),
+            Single::Initial {
+                name: _,
+                variable: _,
+            } => (),
+            Single::Joined { joint: _, left: _ } => (),
+            Single::Element {
+                v: _,
+                ty: _,
+                line: _,
+            } => (),
+        }
+    }
 }
 
 impl<'a> Single<'a> {

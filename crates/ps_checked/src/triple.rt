@@ -14,6 +14,8 @@ use ps_program::form::Tree;
 #[derive(Clone, Copy)]
 pub enum Triple {
     IfElse,
+    /// A loop with its test between two clauses.
+    Repeat,
     /// The bounds of a vector, and its elements.
     Fill(Line),
 }
@@ -25,6 +27,7 @@ impl Triple {
     {
         match self {
             Triple::IfElse => Wanted::This(Ty::Bool),
+            Triple::Repeat => Wanted::This(Ty::Void),
             Triple::Fill(_) => Wanted::This(Ty::Int),
         }
     }
@@ -35,6 +38,7 @@ impl Triple {
     {
         match self {
             Triple::IfElse => Double::IfElse { c: first },
+            Triple::Repeat => Double::RepeatDo { a: first },
             Triple::Fill(line) => Double::Fill { l: first, line },
         }
     }

@@ -16,7 +16,6 @@ use ps_declared::fault::CheckFault;
 use std::alloc::Global;
 
 /// What type a clause is to have.
-#[derive(Drop)]
 pub enum Wanted {
     /// Any type will do.
     Any,
@@ -24,6 +23,16 @@ pub enum Wanted {
     This(Ty),
     /// One that passes the test.
     Passing(Test),
+}
+
+impl Drop for Wanted {
+    fn drop(self) {
+        match self {
+            Wanted::Any => (),
+            Wanted::This(_) => (),
+            Wanted::Passing(_) => (),
+        }
+    }
 }
 
 impl Wanted {

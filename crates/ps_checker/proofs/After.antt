@@ -188,18 +188,24 @@ arm_typed names t own (form.arm labels a) = typed_bind own _ _ (λ labels same n
 pub type_of : {A : Type 0} (o : Outcome A) (a : A) (ty own : TyView) (n : Names) → o ≡ Gives a ty n → Typed own o → ty ≡ own
 type_of o a ty own n is typed = subst (Typed own) is typed
 
--- what was made, in front of what the rest gives, with this type
-abbrev pub after_as : {A B : Type 0} → TyView → (A → B) → Outcome A → Outcome B
-after_as ty f o = o >>= λ rest last names. Gives (f rest) ty names
+-- the type of the arms that were made, where there are any, else that of the rest
+abbrev pub or_given : TyView → Option TyView → TyView
+or_given last (Some own) = own
+or_given last None = last
 
-pub after_as_one : {A B : Type 0} (ty : TyView) (f g : A → B) (one : A → A) (o : Outcome A) → ((a : A) → f (one a) ≡ g a) → after_as ty f (after_as ty one o) ≡ after_as ty g o
+-- what was made, in front of what the rest gives, with that type
+abbrev pub after_given : {A B : Type 0} → Option TyView → (A → B) → Outcome A → Outcome B
+after_given known f o = o >>= λ rest last names. Gives (f rest) (or_given last known) names
+
+after_given_one : {A B : Type 0} (known : Option TyView) (own : TyView) (f g : A → B) (one : A → A) (o : Outcome A) → or_given own known ≡ own → ((a : A) → f (one a) ≡ g a) → after_given known f (after_given (Some own) one o) ≡ after_given (Some own) g o
 unfolding ◌>>=◌
-after_as_one ty f g one (Gives a t n) same = ap (λ b. Gives b ty n) (same a)
-after_as_one ty f g one (Refuses fault) same = refl
+after_given_one known own f g one (Gives a t n) is same = ap (λ b. Gives b (or_given own known) n) (same a) ∙ ap (λ k. Gives (g a) k n) is
+after_given_one known own f g one (Refuses fault) is same = refl
 
-pub arms_step : (names n : Names) (t own ty : TyView) (made : node.Arm) (a : form.Arm) (rest : form.Arms) → check_arm names t (Some own) a ≡ Gives made ty n → check_arms names t (Some own) (form.more_arms a rest) ≡ after_as own (more_arms made) (check_arms n t (Some own) rest)
-arms_step names n t own ty made a rest is =
-    arms_are names t (Some own) a rest ∙ given _ _ _ _ _ is ∙ ap (λ own. with_arms t rest made own n) (type_of _ _ _ _ _ is (arm_typed names t own a))
+-- an arm is like those before it
+like_given : (names n : Names) (t own : TyView) (known : Option TyView) (made : node.Arm) (a : form.Arm) → check_arm names t known a ≡ Gives made own n → or_given own known ≡ own
+like_given names n t own None made a is = refl
+like_given names n t own (Some k) made a is = sym (type_of _ _ _ _ _ is (arm_typed names t k a))
 
 -- a tree that is pushed
 pub pushed : (done after_it : List Tree) (t : Tree) (o left all : Outcome Nodes) → after_it ≡ done ++ t ∷ [] → left ≡ after (more (node_of t)) o → after (after_nodes done) left ≡ all → after (after_nodes after_it) o ≡ all
@@ -210,39 +216,21 @@ pushed done after_it t o left all is step before =
 pub finished : (done : List Tree) (t : TyView) (n : Names) (left all : Outcome Nodes) → left ≡ Gives none t n → after (after_nodes done) left ≡ all → all ≡ Gives (nodes_in done) t n
 finished done t n left all is before = gives_after (after_nodes done) none t n left all before is ∙ ap (λ (ts : Nodes). Gives ts t n) (nodes_none done)
 
-pub pushed_arm : (own : TyView) (done after_it : List ArmOf) (a : ArmOf) (o left all : Outcome Arms) → after_it ≡ done ++ a ∷ [] → left ≡ after_as own (more_arms (arm_of a)) o → after_as own (after_arms done) left ≡ all → after_as own (after_arms after_it) o ≡ all
-pushed_arm own done after_it a o left all is step before =
-    ap (λ (as_ : List ArmOf). after_as own (after_arms as_) o) is ∙ sym (after_as_one own (after_arms done) (after_arms (done ++ a ∷ [])) (more_arms (arm_of a)) o (arms_push done a)) ∙ ap (after_as own (after_arms done)) (sym step) ∙ before
+-- an arm that is pushed
+pub pushed_arm : (names n : Names) (t own : TyView) (known : Option TyView) (done after_it : List ArmOf) (one : ArmOf) (a : form.Arm) (rest : form.Arms) (left all : Outcome Arms) → after_it ≡ done ++ one ∷ [] → check_arm names t known a ≡ Gives (arm_of one) own n → left ≡ check_arms names t known (form.more_arms a rest) → after_given known (after_arms done) left ≡ all → after_given (Some own) (after_arms after_it) (check_arms n t (Some own) rest) ≡ all
+pushed_arm names n t own known done after_it one a rest left all is made_is left_is before =
+    let step : left ≡ after_given (Some own) (more_arms (arm_of one)) (check_arms n t (Some own) rest) = left_is ∙ arms_are names t known a rest ∙ given _ _ _ _ _ made_is in
+    ap (λ (as_ : List ArmOf). after_given (Some own) (after_arms as_) (check_arms n t (Some own) rest)) is
+    ∙ sym (after_given_one known own (after_arms done) (after_arms (done ++ one ∷ [])) (more_arms (arm_of one)) (check_arms n t (Some own) rest) (like_given names n t own known (arm_of one) a made_is) (arms_push done one))
+    ∙ ap (after_given known (after_arms done)) (sym step) ∙ before
 
-pub finished_arms : (own t : TyView) (done : List ArmOf) (n : Names) (left all : Outcome Arms) → left ≡ Gives no_arms t n → after_as own (after_arms done) left ≡ all → all ≡ Gives (arms_in done) own n
-finished_arms own t done n left all is before = sym before ∙ given left no_arms t n _ is ∙ ap (λ (as_ : Arms). Gives as_ own n) (arms_none done)
+pub first_pushed : (done after_it : List ArmOf) (one : ArmOf) (own : TyView) → after_it ≡ done ++ one ∷ [] → first_type (arms_in after_it) own ≡ Some own
+first_pushed [] after_it one own is = ap (λ (as_ : List ArmOf). first_type (arms_in as_) own) is
+first_pushed (d ∷ done) after_it one own is = ap (λ (as_ : List ArmOf). first_type (arms_in as_) own) is
 
-fault_in : {A : Type 0} → Fault → Outcome A → Fault
-fault_in other (Refuses fault) = fault
-fault_in other (Gives a t n) = other
-
--- the fault of the rest is that of all
-unwrapped : {A B : Type 0} (own : TyView) (g : A → B) (all : Outcome A) (fault : Fault) → after_as own g all ≡ Refuses fault → all ≡ Refuses fault
-unfolding ◌>>=◌ fault_in
-unwrapped own g (Gives a t n) fault is = absurd cc
-unwrapped own g (Refuses own_fault) fault is = ap Refuses (ap (fault_in own_fault) is)
-
-unwrapped_if_any : {A B : Type 0} (own : TyView) (g : A → B) (all : Outcome A) (fault : Option Fault) → Refused (after_as own g all) fault → Refused all fault
-unwrapped_if_any own g all None h = tt
-unwrapped_if_any own g all (Some fault) h = unwrapped own g all fault h
-
-pub fails_in_all : {A B C : Type 0} (own : TyView) (f : A → B) (g : C → B) (o : Outcome A) (all : Outcome C) (fault : CheckFault) → after_as own f o ≡ after_as own g all → IsFault o fault → IsFault all fault
-fails_in_all own f g o all fault is h = record { is = unwrapped_if_any own g all (fault_of fault) (fails_as _ _ fault (sym is) (fails_first o fault _ h)).is }
-
--- arms whose first is this one
-abbrev arms_from_outcome : Arms → Outcome Arms → Arms
-arms_from_outcome other (Gives as_ t n) = as_
-arms_from_outcome other (Refuses fault) = other
-
-pub first_is : (o : Outcome Arms) (a : node.Arm) (own : TyView) (arms : Arms) (n : Names) → (o >>= λ rest last names. Gives (more_arms a rest) own names) ≡ Gives arms own n → first_type arms own ≡ Some own
-unfolding ◌>>=◌
-first_is (Gives rest t m) a own arms n is = ap (λ as_. first_type as_ own) (sym (ap (arms_from_outcome arms) is))
-first_is (Refuses fault) a own arms n is = absurd cc
+-- no arm is left
+pub finished_arms : (known : Option TyView) (done : List ArmOf) (n : Names) (left all : Outcome Arms) → left ≡ Gives no_arms Void n → after_given known (after_arms done) left ≡ all → all ≡ Gives (arms_in done) (or_given Void known) n
+finished_arms known done n left all is before = sym before ∙ given left no_arms Void n _ is ∙ ap (λ (as_ : Arms). Gives as_ (or_given Void known) n) (arms_none done)
 
 -- an arm that is made
 pub arm_made : (labels : ListOf Tree) (a : Tree) (ts : List Tree) → ts ≡ items_of labels → node.arm (nodes_in ts) (node_of a) ≡ arm_of (roll-Arm record { labels = labels; a = a })

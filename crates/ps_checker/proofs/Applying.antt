@@ -84,22 +84,6 @@ not_two names line text (x ∷ []) other = refl
 not_two names line text (x ∷ y ∷ []) other = absurd (other refl)
 not_two names line text (x ∷ y ∷ z ∷ zs) other = refl
 
--- a clause that isn't void
-pub not_void : (t : TyView) → isnt_void t ≡ true → is_same t Void ≡ false
-not_void types.Int is = refl
-not_void types.Bool is = refl
-not_void types.Str is = refl
-not_void types.Pntr is = refl
-not_void types.Void is = absurd cc
-not_void (types.Vector element) is = refl
-not_void (types.Proc ts g) is = refl
-
-pub one_of : (xs : List Rough) (a : Rough) → length xs ≡ 2 → a ≡ get_or xs 0 a → xs ≡ a ∷ get_or xs 1 a ∷ []
-one_of [] a is a_is = absurd (omega (arith, is))
-one_of (x ∷ []) a is a_is = absurd (omega (arith, is))
-one_of (x ∷ y ∷ []) a is a_is = ap (λ r. r ∷ y ∷ []) (sym a_is)
-one_of (x ∷ y ∷ z ∷ zs) a is a_is = absurd (omega (arith, is))
-
 -- a vector at one subscript or more
 pub some_subscripts : (names : Names) (line : Line) (v : Node) (element : TyView) (args : List Rough) (b : Bool) → b ≡ (length args == 0) → b ≡ false → value_applied names line v (types.Vector element) (phrases_in args) (checkers (phrases_in args)) ≡ elements names line v (types.Vector element) (checkers (phrases_in args))
 some_subscripts names line v element [] b is fails = absurd cc

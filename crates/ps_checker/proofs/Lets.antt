@@ -1,11 +1,12 @@
 -- A declaration whose initial clause is a literal, and one whose clause is none.
-use Rattle.std.proofs.Common.{◌≡◌, Bool, Option, Some, None, refl, ap}
+use Rattle.std.proofs.Common.{◌≡◌, ◌+◌, Bool, Option, Some, None, refl, ap}
 use Rattle.ps_base.specs.declared.line.Line.{Line}
 use Rattle.ps_tree.specs.Phrase.{NameAt, Phrase, at}
 use Rattle.ps_tree.specs.Phrase as form
 use Rattle.ps_typing.specs.Names.{Names}
 use Rattle.ps_typing.specs.Checking.{check_form}
 use Rattle.ps_checked.specs.inside.Forms.{check_initial, check_named}
+use Rattle.ps_checked.specs.inside.Weights.{weight}
 use Rattle.ps_declared.specs.inside.Looks.{LiteralAt, literal_in}
 
 abbrev or_other : LiteralAt → Option LiteralAt → LiteralAt
@@ -79,3 +80,38 @@ let_other names line name variable (at (form.Flag a) e_line) is = refl
 let_other names line name variable (at form.Nil e_line) is = refl
 let_other names line name variable (at (form.Bound a b) e_line) is = refl
 let_other names line name variable (at (form.Elems a b c) e_line) is = refl
+
+-- a literal has one clause more than what stands in it
+pub literal_weight : (e : Phrase) (l : LiteralAt) → literal_in e ≡ Some l → weight e ≡ weight l.s + 1
+literal_weight (at (form.Proc params gives s) e_line) l is = ap (λ o. weight (or_other l o).s + 1) is
+literal_weight (at (form.Sequence a) e_line) l is = absurd cc
+literal_weight (at (form.Let a b c) e_line) l is = absurd cc
+literal_weight (at (form.Structure a b) e_line) l is = absurd cc
+literal_weight (at (form.IfDo a b) e_line) l is = absurd cc
+literal_weight (at (form.IfElse a b c) e_line) l is = absurd cc
+literal_weight (at (form.While a b) e_line) l is = absurd cc
+literal_weight (at (form.Repeat a b c) e_line) l is = absurd cc
+literal_weight (at (form.For a b c d e) e_line) l is = absurd cc
+literal_weight (at (form.Case a b c) e_line) l is = absurd cc
+literal_weight (at (form.Write a) e_line) l is = absurd cc
+literal_weight (at form.Abort e_line) l is = absurd cc
+literal_weight (at (form.Vector a b c) e_line) l is = absurd cc
+literal_weight (at (form.Assign a b) e_line) l is = absurd cc
+literal_weight (at (form.Or a b) e_line) l is = absurd cc
+literal_weight (at (form.And a b) e_line) l is = absurd cc
+literal_weight (at (form.Not a) e_line) l is = absurd cc
+literal_weight (at (form.Compare a b c) e_line) l is = absurd cc
+literal_weight (at (form.Is a b c) e_line) l is = absurd cc
+literal_weight (at (form.Join a b) e_line) l is = absurd cc
+literal_weight (at (form.Arith a b c) e_line) l is = absurd cc
+literal_weight (at (form.Plus a) e_line) l is = absurd cc
+literal_weight (at (form.Neg a) e_line) l is = absurd cc
+literal_weight (at (form.Apply a b) e_line) l is = absurd cc
+literal_weight (at (form.Part a b c) e_line) l is = absurd cc
+literal_weight (at (form.Name a) e_line) l is = absurd cc
+literal_weight (at (form.Int a) e_line) l is = absurd cc
+literal_weight (at (form.Text a) e_line) l is = absurd cc
+literal_weight (at (form.Flag a) e_line) l is = absurd cc
+literal_weight (at form.Nil e_line) l is = absurd cc
+literal_weight (at (form.Bound a b) e_line) l is = absurd cc
+literal_weight (at (form.Elems a b c) e_line) l is = absurd cc

@@ -27,24 +27,9 @@ use ps_scope::meaning::{Meaning, Procedure};
 use ps_tree::rough::Rough;
 
 impl Checker {
+    /// What is applied by its name.
     #[cycle(clause)]
-    pub(crate) fn application(
-        &mut self,
-        line: Line,
-        f: &Rough,
-        args: &[Rough],
-    ) -> Result<Clause, CheckFault>
-        ensures { IsClause (check_form (names_of self.old.scope) line (form.Apply (phrase_of f.now) (phrases_in args.now))) result self.new.scope }
-    {
-        match name_in(f) {
-            Some(name) => self.name_applied(line, f.line, name, args),
-            None => self.chain(f, Link::apply(line, args)),
-        }
-    }
-
-    // What is applied by its name.
-    #[cycle(clause)]
-    fn name_applied(
+    pub(crate) fn name_applied(
         &mut self,
         line: Line,
         name_line: Line,
@@ -63,25 +48,18 @@ impl Checker {
                 let head = Head::Make(class.text.clone()?);
                 self.with_args(line, class.fields.as_slice(), args, head, &Ty::Pntr)
             }
-            Some(Meaning::Library(procedure)) => self.library(line, procedure, args),
-        }
-    }
-
-    #[cycle(clause)]
-    fn library(
-        &mut self,
-        line: Line,
-        procedure: Procedure,
-        args: &[Rough],
-    ) -> Result<Clause, CheckFault>
-        ensures { IsClause (check_library (names_of self.old.scope) line (procedure_of procedure) (checkers (phrases_in args.now))) result self.new.scope }
-    {
-        match procedure {
-            Procedure::Plain { code, signature } => {
-                let parameters = signature.parameters.as_slice();
-                self.with_args(line, parameters, args, Head::Lib(code), &signature.gives)
-            }
-            Procedure::Scan { text } => self.scan(line, text, args),
+            Some(Meaning::Library(procedure)) => match procedure {
+                Procedure::Plain { code, signature } => {
+                    let parameters = signature.parameters.as_slice();
+                    self.with_args(line, parameters, args, Head::Lib(code), &signature.gives)
+                }
+                Procedure::Scan { text } => {
+                    if args.len() != 2 {
+                        return Err(CheckFault::NotApplicable { line });
+                    }
+                    self.double(Double::Scan { text, line }, &args[0], &args[1])
+                }
+            },
         }
     }
 
@@ -105,7 +83,12 @@ impl Checker {
                 if args.is_empty() {
                     return Err(CheckFault::NotApplicable { line });
                 }
-                self.subscripts(line, Clause { tree, ty }, args)
+                let mut v = Clause { tree, ty };
+                for arg in args {
+                    let element = subscripted(line, v)?;
+                    v = self.single(element, arg)?;
+                }
+                Ok(v)
             }
             Ty::Pntr => field_of(self.alloc, &self.scope, line, tree, args),
             Ty::Int => Err(CheckFault::NotApplicable { line }),
@@ -129,31 +112,14 @@ impl Checker {
         if types.len() != args.len() {
             return Err(CheckFault::NotApplicable { line });
         }
-        let args = self.arguments(types, args)?;
-        head.clause(self.alloc, line, args, gives.copy()?)
-    }
-
-    // A vector at subscripts, each of which may give a vector for the next.
-    #[cycle(clause)]
-    fn subscripts(&mut self, line: Line, v: Clause, args: &[Rough]) -> Result<Clause, CheckFault>
-        ensures { IsClause (elements (names_of self.old.scope) line (node_of v.tree) (ty_view v.ty) (checkers (phrases_in args.now))) result self.new.scope }
-    {
-        let mut v = v;
-        for arg in args {
-            let element = subscripted(line, v)?;
-            v = self.single(element, arg)?;
+        let mut trees = Vec::new(self.alloc);
+        for i in 0..args.len() {
+            let ty = &types[i];
+            let arg = &args[i];
+            let clause = self.clause(arg)?;
+            let tree = clause.of_type(arg.line, ty)?;
+            trees.push(tree)?;
         }
-        Ok(v)
-    }
-
-    // A scan of a table by a procedure.
-    #[cycle(clause)]
-    fn scan(&mut self, line: Line, text: bool, args: &[Rough]) -> Result<Clause, CheckFault>
-        ensures { IsClause (scan_applied (names_of self.old.scope) line text (checkers (phrases_in args.now))) result self.new.scope }
-    {
-        if args.len() != 2 {
-            return Err(CheckFault::NotApplicable { line });
-        }
-        self.double(Double::Scan { text, line }, &args[0], &args[1])
+        head.clause(self.alloc, line, trees, gives.copy()?)
     }
 }

@@ -6,12 +6,12 @@ ghost use Rattle.ps_tree.specs.PhraseLists.{arms_in as rough_arms_in};
 ghost use Rattle.ps_scope.specs.Content.{names_of};
 ghost use Rattle.ps_typing.specs.Checking.{check_arms};
 ghost use Rattle.ps_declared.specs.inside.Answers.{IsClause, check_unlined};
-ghost use Rattle.ps_checked.specs.inside.Cases.{IsArm, AreArms, AreMoreArms, check_arm};
+ghost use Rattle.ps_checked.specs.inside.Cases.{AreArms};
 
 use crate::checker::Checker;
 use ps_base::list::List;
 use ps_base::ty::Ty;
-use ps_checked::arms::{Arms, Labelled};
+use ps_checked::arms::Arms;
 use ps_checked::fits::Test;
 use ps_checked::wanted::Wanted;
 use ps_declared::clause::Clause;
@@ -36,56 +36,20 @@ impl Checker {
         Clause::new(self.alloc, TreeForm::Case { e, arms, d, ty }, gives)
     }
 
-    // The arms for values of the type.
+    // The arms for values of the type. The clause of each is like those before it, where there are any.
     #[cycle(clause)]
     fn arms(&mut self, ty: &Ty, arms: &[RoughArm]) -> Result<Arms, CheckFault>
         ensures { AreArms (check_arms (names_of self.old.scope) (ty_view ty.now) None (rough_arms_in arms.now)) result self.new.scope }
     {
         let mut made = Vec::new(self.alloc);
-        match arms.split_first() {
-            None => Ok(Arms {
-                arms: made,
-                given: None,
-            }),
-            Some((first, rest)) => {
-                let Labelled { arm, ty: own } = self.arm(ty, first, None)?;
-                made.push(arm)?;
-                self.more_arms(ty, &own, rest, &mut made)?;
-                Ok(Arms {
-                    arms: made,
-                    given: Some(own),
-                })
-            }
-        }
-    }
-
-    // The arms behind the first, whose clause has this type.
-    #[cycle(clause)]
-    fn more_arms(
-        &mut self,
-        ty: &Ty,
-        own: &Ty,
-        arms: &[RoughArm],
-        made: &mut Vec<Arm>,
-    ) -> Result<(), CheckFault>
-        ensures { AreMoreArms (ty_view own.now) (check_arms (names_of self.old.scope) (ty_view ty.now) (Some (ty_view own.now)) (rough_arms_in arms.now)) made.old.items made.new.items result self.new.scope }
-    {
+        let mut given = None;
         for arm in arms {
-            let wanted = own.copy()?;
-            let Labelled { arm, ty: _ } = self.arm(ty, arm, Some(wanted))?;
-            made.push(arm)?;
+            let labels = self.each(ty, arm.labels.as_slice())?;
+            let Clause { tree: a, ty: own } = self.part(&arm.a, Wanted::like(given))?;
+            let labels = List::new(labels);
+            made.push(Arm { labels, a })?;
+            given = Some(own);
         }
-        Ok(())
-    }
-
-    // An arm, whose clause is like those before it, where there are any.
-    #[cycle(clause)]
-    fn arm(&mut self, ty: &Ty, arm: &RoughArm, given: Option<Ty>) -> Result<Labelled, CheckFault>
-        ensures { IsArm (check_arm (names_of self.old.scope) (ty_view ty.now) (option_map ty_view given) (rough_arm_of arm.now)) result self.new.scope }
-    {
-        let labels = List::new(self.each(ty, arm.labels.as_slice())?);
-        let Clause { tree: a, ty } = self.part(&arm.a, Wanted::like(given))?;
-        let arm = Arm { labels, a };
-        Ok(Labelled { arm, ty })
+        Ok(Arms { arms: made, given })
     }
 }

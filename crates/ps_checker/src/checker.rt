@@ -18,7 +18,7 @@ use ps_checked::wanted::Wanted;
 use ps_declared::classes::structure;
 use ps_declared::clause::Clause;
 use ps_declared::fault::CheckFault;
-use ps_declared::looks::{Literal, lent_boxed};
+use ps_declared::looks::{Literal, lent_boxed, literal_in, name_in};
 use ps_declared::names::{text, used};
 use ps_program::form::TreeForm;
 use ps_scope::scope::Scope;
@@ -56,7 +56,13 @@ impl Checker {
     {
         let line = rough.line;
         match &*rough.form {
-            RoughForm::Let { name, variable, e } => self.declaration(name, *variable, e),
+            RoughForm::Let { name, variable, e } => match literal_in(e) {
+                Some(literal) => self.named_literal(name, *variable, literal),
+                None => {
+                    let variable = *variable;
+                    self.single(Single::Initial { name, variable }, e)
+                }
+            },
             RoughForm::Structure { name, fields } => {
                 structure(self.alloc, &mut self.scope, line, name, fields.as_slice())
             }
@@ -67,7 +73,10 @@ impl Checker {
             RoughForm::Flag(value) => Clause::new(self.alloc, TreeForm::Flag(*value), Ty::Bool),
             RoughForm::IfDo { c, a } => self.double(Double::IfDo, c, a),
             RoughForm::While { c, a } => self.double(Double::While, c, a),
-            RoughForm::Repeat { a, c, b } => self.repeat(a, c, lent_boxed(b)),
+            RoughForm::Repeat { a, c, b } => match lent_boxed(b) {
+                Some(b) => self.triple(Triple::Repeat, a, c, b),
+                None => self.double(Double::Repeat, a, c),
+            },
             RoughForm::IfElse { c, a, b } => self.triple(Triple::IfElse, c, a, b),
             RoughForm::For { name, range, s } => self.counted(line, name, range, s),
             RoughForm::Case { e, arms, d } => self.case_of(e, arms.as_slice(), d),
@@ -94,7 +103,10 @@ impl Checker {
             RoughForm::Arith { op, a, b } => {
                 self.chain(a, Link::new(Joint::Arith(*op, line), a, b))
             }
-            RoughForm::Apply { f, args } => self.application(line, f, args.as_slice()),
+            RoughForm::Apply { f, args } => match name_in(f) {
+                Some(name) => self.name_applied(line, f.line, name, args.as_slice()),
+                None => self.chain(f, Link::apply(line, args.as_slice())),
+            },
             RoughForm::Part { s, i, n } => self.chain(s, Link::part(line, s, i, n)),
             RoughForm::Not { e } => self.single(Single::Not, e),
             RoughForm::Plus { e } => self.single(Single::Plus, e),

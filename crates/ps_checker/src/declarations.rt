@@ -21,25 +21,9 @@ use ps_program::place::Place;
 use ps_tree::rough::{Named, Rough};
 
 impl Checker {
-    /// A name that is declared with an initial value.
+    /// A name that is declared with a literal, inside which it is in scope, too.
     #[cycle(clause)]
-    pub(crate) fn declaration(
-        &mut self,
-        name: &Named,
-        variable: bool,
-        e: &Rough,
-    ) -> Result<Clause, CheckFault>
-        ensures { (line : LineAt) → IsClause (check_form (names_of self.old.scope) line (form.Let (named name.now) variable (phrase_of e.now))) result self.new.scope }
-    {
-        match literal_in(e) {
-            Some(literal) => self.named_literal(name, variable, literal),
-            None => self.single(Single::Initial { name, variable }, e),
-        }
-    }
-
-    // The name is in scope inside the literal, too.
-    #[cycle(clause)]
-    fn named_literal(
+    pub(crate) fn named_literal(
         &mut self,
         name: &Named,
         variable: bool,

@@ -27,28 +27,9 @@ impl Checker {
         ensures { AreTrees (check_each (names_of self.old.scope) (ty_view ty.now) (checkers (phrases_in clauses.now))) result self.new.scope }
     {
         let mut trees = Vec::new(self.alloc);
-        for clause in clauses {
-            let wanted = Wanted::This(ty.copy()?);
-            let Clause { tree, ty: _ } = self.part(clause, wanted)?;
-            trees.push(tree)?;
-        }
-        Ok(trees)
-    }
-
-    /// Checks as many arguments as types, of these types.
-    #[cycle(clause)]
-    pub(crate) fn arguments(
-        &mut self,
-        types: &[Ty],
-        args: &[Rough],
-    ) -> Result<Vec<Tree>, CheckFault>
-        requires { length types.now ≡ length args.now }
-        ensures { AreTrees (check_args (names_of self.old.scope) (ty_views types.now) (checkers (phrases_in args.now))) result self.new.scope }
-    {
-        let mut trees = Vec::new(self.alloc);
-        for i in 0..args.len() {
-            let wanted = Wanted::This(types[i].copy()?);
-            let Clause { tree, ty: _ } = self.part(&args[i], wanted)?;
+        for rough in clauses {
+            let clause = self.clause(rough)?;
+            let tree = clause.of_type(rough.line, ty)?;
             trees.push(tree)?;
         }
         Ok(trees)
@@ -60,27 +41,19 @@ impl Checker {
     {
         let mut trees = Vec::new(self.alloc);
         for item in items {
-            let tree = self.written_item(item)?;
+            let Clause { tree: e, ty } = self.part(&item.e, Wanted::Passing(Test::Written))?;
+            let width = lent(&item.w);
+            let Clause { tree: w, ty: width } = self.if_any(width, Ty::Int, TreeForm::Empty)?;
+            let form = TreeForm::Write {
+                e,
+                w,
+                wide: is_int(&width),
+                ty,
+                line: item.line,
+            };
+            let tree = Tree::new(self.alloc, form)?;
             trees.push(tree)?;
         }
         one_or_sequence(self.alloc, trees)
-    }
-
-    #[cycle(clause)]
-    fn written_item(&mut self, item: &RoughItem) -> Result<Tree, CheckFault>
-        ensures { IsOfType types.Void (check_item (names_of self.old.scope) (item_of item.now)) result self.new.scope }
-    {
-        let Clause { tree: e, ty } = self.part(&item.e, Wanted::Passing(Test::Written))?;
-        let Clause { tree: w, ty: width } = self.if_any(lent(&item.w), Ty::Int, TreeForm::Empty)?;
-        let wide = is_int(&width);
-        let line = item.line;
-        let form = TreeForm::Write {
-            e,
-            w,
-            wide,
-            ty,
-            line,
-        };
-        Ok(Tree::new(self.alloc, form)?)
     }
 }

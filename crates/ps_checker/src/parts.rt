@@ -83,21 +83,6 @@ impl Checker {
     }
 
     #[cycle(clause)]
-    pub(crate) fn repeat(
-        &mut self,
-        a: &Rough,
-        c: &Rough,
-        b: Option<&Rough>,
-    ) -> Result<Clause, CheckFault>
-        ensures { IsClause (check_unlined (names_of self.old.scope) (form.Repeat (phrase_of a.now) (phrase_of c.now) (maybe_lent b.entry))) result self.new.scope }
-    {
-        let Clause { tree: a, ty: _ } = self.part(a, Wanted::This(Ty::Void))?;
-        let Clause { tree: c, ty: _ } = self.part(c, Wanted::This(Ty::Bool))?;
-        let Clause { tree: b, ty: _ } = self.if_any(b, Ty::Void, TreeForm::Empty)?;
-        Clause::new(self.alloc, TreeForm::Repeat { a, c, b }, Ty::Void)
-    }
-
-    #[cycle(clause)]
     pub(crate) fn counted(
         &mut self,
         line: Line,

@@ -11,8 +11,8 @@ ghost use Rattle.ps_checked.specs.inside.Lists.{AreItems, behind_void};
 use crate::checker::Checker;
 use ps_base::line::Line;
 use ps_base::ty::Ty;
-use ps_checked::fits::is_void;
-use ps_checked::items::{Items, block_of};
+use ps_checked::fits::void_before;
+use ps_checked::items::block_of;
 use ps_declared::clause::Clause;
 use ps_declared::fault::CheckFault;
 use ps_tree::rough::Rough;
@@ -23,39 +23,17 @@ impl Checker {
         ensures { IsClause (check_form (names_of self.old.scope) line (form.Sequence (phrases_in items.now))) result self.new.scope }
     {
         let block = self.scope.enter();
-        let Items { trees, ty } = self.items(line, items)?;
-        self.scope.leave(block);
-        block_of(self.alloc, trees, ty)
-    }
-
-    #[cycle(clause)]
-    fn items(&mut self, line: Line, items: &[Rough]) -> Result<Items, CheckFault>
-        ensures { AreItems (check_all (names_of self.old.scope) line types.Void (phrases_in items.now)) result self.new.scope }
-    {
         let mut trees = Vec::new(self.alloc);
         let mut before = Ty::Void;
         let mut line = line;
         for item in items {
-            let Clause { tree, ty } = self.item(before, line, item)?;
+            void_before(before, line)?;
+            let Clause { tree, ty } = self.clause(item)?;
             trees.push(tree)?;
             before = ty;
             line = item.line;
         }
-        Ok(Items { trees, ty: before })
-    }
-
-    /// Checks an item of a sequence, behind one on this line of this type, which has to be void.
-    #[cycle(clause)]
-    pub fn item(&mut self, before: Ty, line: Line, item: &Rough) -> Result<Clause, CheckFault>
-        ensures { IsClause (behind_void line (ty_view before) (check_of (names_of self.old.scope) (phrase_of item.now))) result self.new.scope }
-    {
-        if !is_void(&before) {
-            return Err(CheckFault::Mismatch {
-                line,
-                found: before,
-                wanted: Ty::Void,
-            });
-        }
-        self.clause(item)
+        self.scope.leave(block);
+        block_of(self.alloc, trees, before)
     }
 }

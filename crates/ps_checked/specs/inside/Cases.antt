@@ -1,17 +1,14 @@
 -- What the functions of the check do for the arms of a `case`.
-use Rattle.std.specs.Prelude.{◌≡◌, Result, MatchResult, List, Option, option_map}
+use Rattle.std.specs.Prelude.{◌≡◌, Result, MatchResult, Option, option_map}
 use Rattle.ps_base.specs.TyView.{TyView, ty_view}
 use Rattle.ps_tree.specs.Phrase.{Arm, arm}
 use Rattle.ps_program.specs.Node as node
-use Rattle.ps_program.specs.NodeView.{arm_of}
 use Rattle.ps_program.specs.inside.PartsView.{arms_in}
-use Rattle.ps_program.specs.declared.form.Arm.{Arm as ArmOf}
 use Rattle.ps_scope.specs.Content.{Content, names_of}
 use Rattle.ps_typing.specs.Names.{Names}
 use Rattle.ps_typing.specs.Checking.{Outcome, Gives, ◌>>=◌, check, check_each, checkers, line_of, like, first_type}
 use Rattle.ps_declared.specs.declared.fault.CheckFault.{CheckFault}
 use Rattle.ps_checked.specs.declared.arms.Arms.{Arms}
-use Rattle.ps_checked.specs.declared.arms.Labelled.{Labelled}
 use Rattle.ps_declared.specs.inside.Answers.{IsFault}
 
 -- one arm
@@ -19,9 +16,6 @@ abbrev pub check_arm : Names → TyView → Option TyView → Arm → Outcome no
 check_arm names t given (arm labels a) =
     check_each names t (checkers labels) >>= λ labels same names.
     like given (line_of a) (check names a) >>= λ a own names. Gives (node.arm labels a) own names
-
-abbrev pub IsArm : Outcome node.Arm → Result Labelled CheckFault → Content → Type 0
-IsArm outcome result scope = MatchResult result (λ made. outcome ≡ Gives (arm_of made.arm) (ty_view made.ty) (names_of scope)) (IsFault outcome)
 
 -- all arms, and the type of their clauses, where there are any
 abbrev pub AreArms : Outcome node.Arms → Result Arms CheckFault → Content → Type 0
@@ -31,8 +25,3 @@ AreArms outcome result scope =
 abbrev pub all_arms : node.Arms → node.Arms → node.Arms
 all_arms node.no_arms others = others
 all_arms (node.more_arms a as_) others = node.more_arms a (all_arms as_ others)
-
--- the arms that were made, and then those of the rest
-abbrev pub AreMoreArms : TyView → Outcome node.Arms → List ArmOf → List ArmOf → Result (Unit {0}) CheckFault → Content → Type 0
-AreMoreArms own outcome before after result scope =
-    MatchResult result (λ _. (outcome >>= λ rest last names. Gives (all_arms (arms_in before) rest) own names) ≡ Gives (arms_in after) own (names_of scope)) (IsFault outcome)

@@ -1,5 +1,5 @@
 -- What type the parts of a form are to have, and what the form comes to with them: of the forms with one part or two left.
-use Rattle.std.specs.Prelude.{Bool, List, Option, if◌then◌else◌}
+use Rattle.std.specs.Prelude.{if◌then◌else◌}
 use Rattle.ps_base.specs.TyView.{TyView, ty_view}
 use Rattle.ps_base.specs.TyView as types
 use Rattle.ps_base.specs.declared.line.Line.{Line}
@@ -69,6 +69,8 @@ check_single form names e = meets (single_want form) (line_of e) (check names e)
 abbrev pub double_first : Double → Want
 double_first double.IfDo = this types.Bool
 double_first double.While = this types.Bool
+double_first double.Repeat = this types.Void
+double_first (double.RepeatDo a) = this types.Bool
 double_first (double.IfElse c) = any
 double_first (double.Compare op) = passing (test.Compared op)
 double_first (double.Assign line e_line variable) = any
@@ -79,6 +81,8 @@ double_first (double.Scan text line) = this types.Pntr
 abbrev pub double_second : Double → TyView → Want
 double_second double.IfDo t = this types.Void
 double_second double.While t = this types.Void
+double_second double.Repeat t = this types.Bool
+double_second (double.RepeatDo a) t = this types.Void
 double_second (double.IfElse c) t = this t
 double_second (double.Compare op) t = this t
 double_second (double.Assign line e_line variable) t = any
@@ -89,6 +93,8 @@ double_second (double.Scan text line) t = this (caller (if text then types.Str e
 abbrev pub double_made : Double → Node → TyView → Node → TyView → Names → Outcome Node
 double_made double.IfDo c t a s names = Gives (node.IfDo c a) types.Void names
 double_made double.While c t a s names = Gives (node.While c a) types.Void names
+double_made double.Repeat a t c s names = Gives (node.Repeat a c node.Empty) types.Void names
+double_made (double.RepeatDo a) c t b s names = Gives (node.Repeat (node_of a) c b) types.Void names
 double_made (double.IfElse c) a t b s names = Gives (node.IfElse (node_of c) a b) t names
 double_made (double.Compare op) a t b s names = Gives (node.Compare op t a b) types.Bool names
 double_made (double.Assign line e_line variable) x t e s names = assigned line e_line variable (assignment x e) t s names
@@ -104,12 +110,16 @@ check_double form names a b =
 -- three parts: the first, and then two
 abbrev pub triple_first : Triple → Want
 triple_first triple.IfElse = this types.Bool
+triple_first triple.Repeat = this types.Void
 triple_first (triple.Fill line) = this types.Int
 
 abbrev pub triple_rest : Triple → Node → Names → Phrase → Phrase → Outcome Node
 triple_rest triple.IfElse c names a b =
     check names a >>= λ a t names.
     wants t (line_of b) (check names b) >>= λ b s names. Gives (node.IfElse c a b) t names
+triple_rest triple.Repeat a names c b =
+    wants types.Bool (line_of c) (check names c) >>= λ c t names.
+    wants types.Void (line_of b) (check names b) >>= λ b s names. Gives (node.Repeat a c b) types.Void names
 triple_rest (triple.Fill line) l names u e =
     wants types.Int (line_of u) (check names u) >>= λ u t names.
     passes isnt_void types.Bool (line_of e) (check names e) >>= λ e t names. Gives (node.Fill l u e (types.Vector t) line) (types.Vector t) names

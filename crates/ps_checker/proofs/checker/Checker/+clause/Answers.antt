@@ -7,31 +7,35 @@ use Rattle.ps_tree.specs.PhraseLists.{phrases_in, items_in, arms_in as rough_arm
 use Rattle.ps_program.specs.NodeView.{node_of, nodes_in, arm_of as tree_arm_of, params_of}
 use Rattle.ps_scope.specs.Content.{names_of}
 use Rattle.ps_typing.specs.Fault.{Twice, Mismatch, NotApplicable, Limit}
-use Rattle.ps_typing.specs.Names.{Names, behind, declare_local, inside, is_declared}
-use Rattle.ps_typing.specs.Checking.{Gives, Refuses, check, check_form, check_all, check_each, check_args, check_written, check_arms, checkers, wants, value_applied, with_args, ◌>>=◌, like, elements, check_if_any, first_type, types_of, with_params, scan_applied}
+use Rattle.ps_typing.specs.Names.{Names, library, scan, behind, declare_local, inside, is_declared}
+use Rattle.ps_typing.specs.Checking.{Gives, Refuses, check, check_form, check_all, check_each, check_args, check_written, check_arms, checkers, wants, value_applied, with_args, ◌>>=◌, like, name_applied, elements, check_if_any, first_type, types_of, with_params, scan_applied}
 use Rattle.ps_declared.specs.inside.Answers.{IsFault}
 use Rattle.ps_checked.specs.inside.Links.{check_link, check_links}
 use Rattle.ps_checked.specs.inside.Weights.{weight, weight_all, weight_form, weight_if_any, weight_item, weight_written, weight_arm, weight_arms, weight_link, weight_links}
-use Rattle.ps_declared.proofs.Steps.{given, fails_as, fails_first, fails_next, is_fault, made, leads, exits, no_memory, remade, remade_both, as_wanted, fails_as_wanted}
+use Rattle.ps_declared.proofs.Steps.{given, fails_as, fails_first, fails_next, is_fault, made, leads, exits, no_memory, remade, remade_both, as_wanted, fails_as_wanted, fails_test}
 use Rattle.ps_base.specs.declared.ty.Signature.{Signature}
 use Rattle.ps_base.proofs.TyLemmas.{ty_view-Proc}
 use Rattle.ps_tree.proofs.PhraseLemmas.{form_of-Sequence, form_of-Write, form_of-Apply, form_of-Elems, form_of-Case, maybe_boxed-back}
 use Rattle.ps_tree.specs.declared.rough.RoughRange.{out-RoughRange}
 use Rattle.ps_checked.specs.inside.Forms.{check_literal, head_node}
-use Rattle.ps_checker.proofs.After.{after, after_nodes, after_nothing, fails_after, fails_in_all, pushed, finished, pushed_arm, finished_arms, first_is, each_step, args_step, all_is, all_step, written_is, written_step, arms_are, arms_step, arm_made}
-use Rattle.ps_checker.proofs.Applying.{two_of, not_two, not_void, same_number, other_number, no_args, elements_are, some_subscripts}
+use Rattle.ps_checker.proofs.After.{after, after_nodes, after_arms, after_nothing, fails_after, pushed, finished, pushed_arm, first_pushed, finished_arms, or_given, each_step, args_step, all_is, all_step, written_is, written_step, arms_are, arm_made}
+use Rattle.ps_checker.proofs.Applied.{apply_named, apply_other}
+use Rattle.ps_checker.proofs.Applying.{two_of, not_two, same_number, other_number, no_args, elements_are, some_subscripts}
 use Rattle.ps_checked.proofs.LinkSteps.{one_link, one_weight, fails_links, check_links-push, weight_links-push}
-use Rattle.ps_checker.proofs.Lets.{let_literal, let_other}
+use Rattle.ps_checker.proofs.Lets.{let_literal, let_other, literal_weight}
+use Rattle.ps_checker.proofs.Repeats.{repeat_once, repeat_twice}
 use Rattle.ps_program.proofs.NodeLists.{case_is}
 use Rattle.ps_program.specs.inside.PartsView.{arms_in}
 use Rattle.ps_tree.specs.declared.rough.RoughArm.{out-RoughArm}
-use Rattle.ps_checked.specs.inside.Cases.{check_arm, all_arms}
+use Rattle.ps_checked.specs.inside.Cases.{check_arm}
 use Rattle.ps_checked.specs.inside.Lists.{check_item}
 use Rattle.ps_checker.proofs.Places.{weight_at, item_weight_at, arm_weight_at, phrases_from, items_from, arms_from, types_from, phrases_behind, items_behind, arms_behind, empty}
 use Rattle.ps_checker.proofs.Views.{form_of-For, arm_of-parts, item_of-parts}
 use Rattle.ps_program.specs.declared.place.Place.TheVariants.{Plain}
 use Rattle.ps_typing.proofs.Keeps.{keeps_around, keeps_fields_around, all_keeps_around, all_keeps_fields_around, params_keep_around, params_keep_fields_around}
-use Rattle.ps_declared.specs.inside.Views.{literal_of, groups_of}
+use Rattle.ps_declared.specs.inside.Looks.{LiteralAt}
+use Rattle.ps_declared.specs.inside.Views.{literal_of, groups_of, maybe_lent}
+use Rattle.ps_scope.specs.Views.{meaning_of, procedure_of}
 use Rattle.ps_checker.proofs.Blocks.{stays, unpassed}
 use Rattle.ps_declared.proofs.Declaring.{few, many, count_is}
 use Rattle.ps_tree.specs.declared.rough.RoughItem.{out-RoughItem}
@@ -64,6 +68,23 @@ clause-returns-in-Is t c = leads _ _ _ _ (ap (λ f. check_form (names_of c.args.
 pub clause-returns-in-Structure : goal.clause-returns-in-Structure
 clause-returns-in-Structure t c = leads _ _ _ _ (ap (λ f. check_form (names_of c.args.self.now.scope) c.args.rough.now.line (form_of f)) (sym c.deref.ensures ∙ c.in-Structure.is) ∙ ap (λ name. check_form (names_of c.args.self.now.scope) c.args.rough.now.line (form.Structure (named name) (groups_in (items_of c.in-Structure.fields)))) (sym c.deref-in-Structure.ensures) ∙ ap (λ fields. check_form (names_of c.args.self.now.scope) c.args.rough.now.line (form.Structure (named c.deref-in-Structure.result.now) (groups_in fields))) (sym c.as_slice.ensures)) c.structure.ensures
 
+pub clause-returns-in-Some : goal.clause-returns-in-Some
+clause-returns-in-Some t c = leads _ _ _ _ (ap (λ f. check_form (names_of c.args.self.now.scope) c.args.rough.now.line (form_of f)) (sym c.deref.ensures ∙ c.in-Let.is) ∙ ap (λ n. check_form (names_of c.args.self.now.scope) c.args.rough.now.line (form.Let (named n) c.in-Let.variable (phrase_of c.in-Let.e))) (sym c.deref-in-Some.ensures) ∙ let_literal (names_of c.args.self.now.scope) c.args.rough.now.line _ c.in-Let.variable (phrase_of c.in-Let.e) _ (sym c.in-Some.ensures)) c.named_literal.ensures
+
+pub clause-returns-in-None : goal.clause-returns-in-None
+clause-returns-in-None t c = leads _ _ _ _ (ap (λ f. check_form (names_of c.args.self.now.scope) c.args.rough.now.line (form_of f)) (sym c.deref.ensures ∙ c.in-Let.is) ∙ ap (λ n. check_form (names_of c.args.self.now.scope) c.args.rough.now.line (form.Let (named n) c.in-Let.variable (phrase_of c.in-Let.e))) (sym c.deref-in-None.ensures) ∙ let_other (names_of c.args.self.now.scope) c.args.rough.now.line _ c.in-Let.variable (phrase_of c.in-Let.e) (sym c.in-None.ensures)) c.single.ensures
+
+pub clause-single-requires : goal.clause-single-requires
+clause-single-requires t c =
+    let whole = ap (λ f. weight_form (form_of f)) (sym c.deref.ensures ∙ c.in-Let.is) in
+    (omega (arith, c.decreases, whole), tt)
+
+pub clause-named_literal-requires : goal.clause-named_literal-requires
+clause-named_literal-requires t c =
+    let whole = ap (λ f. weight_form (form_of f)) (sym c.deref.ensures ∙ c.in-Let.is) in
+    let literal = literal_weight (phrase_of c.in-Let.e) _ (sym c.in-Some.ensures) in
+    (omega (arith, c.decreases, whole, literal), tt)
+
 pub name_applied-returns-in_err-meaning : goal.name_applied-returns-in_err-meaning
 name_applied-returns-in_err-meaning t c = exits c.from_residual.result _ c.in_err-meaning.field-0.0 _ c.from_residual.ensures.1 (no_memory _ _ c.in_err-meaning.ensures)
 
@@ -86,7 +107,7 @@ pub clause-returns-in-While : goal.clause-returns-in-While
 clause-returns-in-While t c = leads _ _ _ _ (ap (λ f. check_form (names_of c.args.self.now.scope) c.args.rough.now.line (form_of f)) (sym c.deref.ensures ∙ c.in-While.is)) c.double-in-While.ensures
 
 pub clause-returns-in-IfElse : goal.clause-returns-in-IfElse
-clause-returns-in-IfElse t c = leads _ _ _ _ (ap (λ f. check_form (names_of c.args.self.now.scope) c.args.rough.now.line (form_of f)) (sym c.deref.ensures ∙ c.in-IfElse.is)) c.triple.ensures
+clause-returns-in-IfElse t c = leads _ _ _ _ (ap (λ f. check_form (names_of c.args.self.now.scope) c.args.rough.now.line (form_of f)) (sym c.deref.ensures ∙ c.in-IfElse.is)) c.triple-in-IfElse.ensures
 
 pub clause-returns-in-Vector : goal.clause-returns-in-Vector
 clause-returns-in-Vector t c = leads _ _ _ _ (ap (λ f. check_form (names_of c.args.self.now.scope) c.args.rough.now.line (form_of f)) (sym c.deref.ensures ∙ c.in-Vector.is)) c.triple-in-Vector.ensures
@@ -97,11 +118,32 @@ clause-returns-in-Assign t c = leads _ _ _ _ (ap (λ f. check_form (names_of c.a
 pub clause-returns-in-Compare : goal.clause-returns-in-Compare
 clause-returns-in-Compare t c = leads _ _ _ _ (ap (λ f. check_form (names_of c.args.self.now.scope) c.args.rough.now.line (form_of f)) (sym c.deref.ensures ∙ c.in-Compare.is)) c.double-in-Compare.ensures
 
-pub clause-returns-in-Repeat : goal.clause-returns-in-Repeat
-clause-returns-in-Repeat t c = leads _ _ _ _ (ap (λ f. check_form (names_of c.args.self.now.scope) c.args.rough.now.line (form_of f)) (sym c.deref.ensures ∙ c.in-Repeat.is) ∙ ap (λ b. check_form (names_of c.args.self.now.scope) c.args.rough.now.line (form.Repeat (phrase_of c.in-Repeat.a) (phrase_of c.in-Repeat.c) b)) (maybe_boxed-back c.in-Repeat.b ∙ sym c.lent_boxed.ensures)) c.repeat.ensures
+pub clause-returns-in-Some-lent_boxed : goal.clause-returns-in-Some-lent_boxed
+clause-returns-in-Some-lent_boxed t c = leads _ _ _ _ (ap (λ f. check_form (names_of c.args.self.now.scope) c.args.rough.now.line (form_of f)) (sym c.deref.ensures ∙ c.in-Repeat.is) ∙ ap (λ b. check_form (names_of c.args.self.now.scope) c.args.rough.now.line (form.Repeat (phrase_of c.in-Repeat.a) (phrase_of c.in-Repeat.c) b)) (maybe_boxed-back c.in-Repeat.b ∙ sym c.lent_boxed.ensures ∙ ap maybe_lent c.in-Some-lent_boxed.is) ∙ repeat_twice (names_of c.args.self.now.scope) c.args.rough.now.line (phrase_of c.in-Repeat.a) (phrase_of c.in-Repeat.c) (phrase_of c.in-Some-lent_boxed.b.now)) c.triple.ensures
+
+pub clause-returns-in-None-lent_boxed : goal.clause-returns-in-None-lent_boxed
+clause-returns-in-None-lent_boxed t c = leads _ _ _ _ (ap (λ f. check_form (names_of c.args.self.now.scope) c.args.rough.now.line (form_of f)) (sym c.deref.ensures ∙ c.in-Repeat.is) ∙ ap (λ b. check_form (names_of c.args.self.now.scope) c.args.rough.now.line (form.Repeat (phrase_of c.in-Repeat.a) (phrase_of c.in-Repeat.c) b)) (maybe_boxed-back c.in-Repeat.b ∙ sym c.lent_boxed.ensures ∙ ap maybe_lent c.in-None-lent_boxed.is) ∙ repeat_once (names_of c.args.self.now.scope) c.args.rough.now.line (phrase_of c.in-Repeat.a) (phrase_of c.in-Repeat.c)) c.double-in-None-lent_boxed.ensures
+
+pub clause-triple-requires : goal.clause-triple-requires
+clause-triple-requires t c =
+    let whole = ap (λ f. weight_form (form_of f)) (sym c.deref.ensures ∙ c.in-Repeat.is) in
+    let third = ap weight_if_any (maybe_boxed-back c.in-Repeat.b ∙ sym c.lent_boxed.ensures ∙ ap maybe_lent c.in-Some-lent_boxed.is) in
+    (omega (arith, c.decreases, whole, third), tt)
+
+pub clause-double-requires-in-None-lent_boxed : goal.clause-double-requires-in-None-lent_boxed
+clause-double-requires-in-None-lent_boxed t c =
+    let whole = ap (λ f. weight_form (form_of f)) (sym c.deref.ensures ∙ c.in-Repeat.is) in
+    (omega (arith, c.decreases, whole), tt)
 
 pub clause-returns-in-For : goal.clause-returns-in-For
 clause-returns-in-For t c = leads _ _ _ _ (ap (λ f. check_form (names_of c.args.self.now.scope) c.args.rough.now.line (form_of f)) (sym c.deref.ensures ∙ c.in-For.is) ∙ ap (check_form (names_of c.args.self.now.scope) c.args.rough.now.line) (form_of-For c.in-For.name c.in-For.range c.in-For.s) ∙ ap (λ n. check_form (names_of c.args.self.now.scope) c.args.rough.now.line (form.For (named n) (phrase_of (out-RoughRange c.in-For.range.value).a) (phrase_of (out-RoughRange c.in-For.range.value).b) (maybe_in (out-RoughRange c.in-For.range.value).c) (phrase_of c.in-For.s))) (sym c.deref-in-For.ensures) ∙ ap (λ r. check_form (names_of c.args.self.now.scope) c.args.rough.now.line (form.For (named c.deref-in-For.result.now) (phrase_of (out-RoughRange r).a) (phrase_of (out-RoughRange r).b) (maybe_in (out-RoughRange r).c) (phrase_of c.in-For.s))) (sym c.deref-in-For-2.ensures)) c.counted.ensures
+
+pub clause-counted-requires : goal.clause-counted-requires
+clause-counted-requires t c =
+    let range = out-RoughRange c.deref-in-For-2.result.now in
+    let is : form_of c.args.rough.now.form.value ≡ form.For (named c.in-For.name.value) (phrase_of range.a) (phrase_of range.b) (maybe_in range.c) (phrase_of c.in-For.s) = ap form_of (sym c.deref.ensures ∙ c.in-For.is) ∙ form_of-For c.in-For.name c.in-For.range c.in-For.s ∙ ap (λ r. form.For (named c.in-For.name.value) (phrase_of (out-RoughRange r).a) (phrase_of (out-RoughRange r).b) (maybe_in (out-RoughRange r).c) (phrase_of c.in-For.s)) (sym c.deref-in-For-2.ensures) in
+    let whole : weight (phrase_of c.args.rough.now) ≡ weight (phrase_of range.a) + weight (phrase_of range.b) + weight_if_any (maybe_in range.c) + weight (phrase_of c.in-For.s) + 1 = ap (λ f. weight_form f + 1) is in
+    (omega (arith, c.decreases, whole), tt)
 
 pub clause-returns-in-Case : goal.clause-returns-in-Case
 clause-returns-in-Case t c = leads _ _ _ _ (ap (λ f. check_form (names_of c.args.self.now.scope) c.args.rough.now.line (form_of f)) (sym c.deref.ensures ∙ c.in-Case.is) ∙ ap (check_form (names_of c.args.self.now.scope) c.args.rough.now.line) (form_of-Case c.in-Case.e c.in-Case.arms c.in-Case.d) ∙ ap (λ arms. check_form (names_of c.args.self.now.scope) c.args.rough.now.line (form.Case (phrase_of c.in-Case.e) (rough_arms_in arms) (phrase_of c.in-Case.d))) (sym (c.as_slice-in-Case.ensures ∙ ap items_of c.deref-in-Case.ensures))) c.case_of.ensures
@@ -112,17 +154,35 @@ clause-returns-in-Write t c = leads _ _ _ _ (ap (λ f. check_form (names_of c.ar
 pub clause-returns-in-Elems : goal.clause-returns-in-Elems
 clause-returns-in-Elems t c = leads _ _ _ _ (ap (λ f. check_form (names_of c.args.self.now.scope) c.args.rough.now.line (form_of f)) (sym c.deref.ensures ∙ c.in-Elems.is) ∙ ap (check_form (names_of c.args.self.now.scope) c.args.rough.now.line) (form_of-Elems c.in-Elems.l c.in-Elems.ty c.in-Elems.items) ∙ ap (λ ty. check_form (names_of c.args.self.now.scope) c.args.rough.now.line (form.Elems (phrase_of c.in-Elems.l) (ty_view ty) (phrases_in (items_of c.in-Elems.items)))) (sym c.deref-in-Elems.ensures) ∙ ap (λ items. check_form (names_of c.args.self.now.scope) c.args.rough.now.line (form.Elems (phrase_of c.in-Elems.l) (ty_view c.deref-in-Elems.result.now) (phrases_in items))) (sym c.as_slice-in-Elems.ensures)) c.elements.ensures
 
-pub clause-returns-in-Apply : goal.clause-returns-in-Apply
-clause-returns-in-Apply t c = leads _ _ _ _ (ap (λ f. check_form (names_of c.args.self.now.scope) c.args.rough.now.line (form_of f)) (sym c.deref.ensures ∙ c.in-Apply.is) ∙ ap (check_form (names_of c.args.self.now.scope) c.args.rough.now.line) (form_of-Apply c.in-Apply.f c.in-Apply.args) ∙ ap (λ items. check_form (names_of c.args.self.now.scope) c.args.rough.now.line (form.Apply (phrase_of c.in-Apply.f) (phrases_in items))) (sym c.as_slice-in-Apply.ensures)) c.application.ensures
+pub clause-returns-in-Some-name_in : goal.clause-returns-in-Some-name_in
+clause-returns-in-Some-name_in t c = leads _ _ _ _ (ap (λ f. check_form (names_of c.args.self.now.scope) c.args.rough.now.line (form_of f)) (sym c.deref.ensures ∙ c.in-Apply.is) ∙ ap (check_form (names_of c.args.self.now.scope) c.args.rough.now.line) (form_of-Apply c.in-Apply.f c.in-Apply.args) ∙ ap (λ items. check_form (names_of c.args.self.now.scope) c.args.rough.now.line (form.Apply (phrase_of c.in-Apply.f) (phrases_in items))) (sym c.as_slice-in-Some-name_in.ensures) ∙ apply_named (names_of c.args.self.now.scope) c.args.rough.now.line (phrase_of c.in-Apply.f) (phrases_in c.as_slice-in-Some-name_in.result.now) _ (sym c.in-Some-name_in.ensures)) c.name_applied.ensures
+
+pub clause-returns-in-None-name_in : goal.clause-returns-in-None-name_in
+clause-returns-in-None-name_in t c = leads _ _ _ _ (ap (λ f. check_form (names_of c.args.self.now.scope) c.args.rough.now.line (form_of f)) (sym c.deref.ensures ∙ c.in-Apply.is) ∙ ap (check_form (names_of c.args.self.now.scope) c.args.rough.now.line) (form_of-Apply c.in-Apply.f c.in-Apply.args) ∙ ap (λ items. check_form (names_of c.args.self.now.scope) c.args.rough.now.line (form.Apply (phrase_of c.in-Apply.f) (phrases_in items))) (sym c.as_slice-in-None-name_in.ensures) ∙ apply_other (names_of c.args.self.now.scope) c.args.rough.now.line (phrase_of c.in-Apply.f) (phrases_in c.as_slice-in-None-name_in.result.now) (sym c.in-None-name_in.ensures) ∙ sym (c.apply.ensures.link (check (names_of c.args.self.now.scope) (phrase_of c.in-Apply.f)))) c.chain-in-None-name_in.ensures
+
+pub clause-name_applied-requires : goal.clause-name_applied-requires
+clause-name_applied-requires t c =
+    let is : form_of c.args.rough.now.form.value ≡ form.Apply (phrase_of c.in-Apply.f) (phrases_in c.as_slice-in-Some-name_in.result.now) = ap form_of (sym c.deref.ensures ∙ c.in-Apply.is) ∙ form_of-Apply c.in-Apply.f c.in-Apply.args ∙ ap (λ items. form.Apply (phrase_of c.in-Apply.f) (phrases_in items)) (sym c.as_slice-in-Some-name_in.ensures) in
+    let light : weight (phrase_of c.args.rough.now) ≡ weight_form (form.Apply (phrase_of c.in-Apply.f) (phrases_in c.as_slice-in-Some-name_in.result.now)) + 1 = ap (λ f. weight_form f + 1) is in
+    (omega (arith, c.decreases, light), tt)
+
+pub clause-chain-requires-in-None-name_in : goal.clause-chain-requires-in-None-name_in
+clause-chain-requires-in-None-name_in t c =
+    let is : form_of c.args.rough.now.form.value ≡ form.Apply (phrase_of c.in-Apply.f) (phrases_in c.as_slice-in-None-name_in.result.now) = ap form_of (sym c.deref.ensures ∙ c.in-Apply.is) ∙ form_of-Apply c.in-Apply.f c.in-Apply.args ∙ ap (λ items. form.Apply (phrase_of c.in-Apply.f) (phrases_in items)) (sym c.as_slice-in-None-name_in.ensures) in
+    let light : weight (phrase_of c.args.rough.now) ≡ weight_form (form.Apply (phrase_of c.in-Apply.f) (phrases_in c.as_slice-in-None-name_in.result.now)) + 1 = ap (λ f. weight_form f + 1) is in
+    (omega (arith, c.decreases, light, c.apply.ensures.weight), tt)
 
 pub clause-returns-in-Sequence : goal.clause-returns-in-Sequence
 clause-returns-in-Sequence t c = leads _ _ _ _ (ap (λ f. check_form (names_of c.args.self.now.scope) c.args.rough.now.line (form_of f)) (sym c.deref.ensures ∙ c.in-Sequence.is) ∙ ap (check_form (names_of c.args.self.now.scope) c.args.rough.now.line) (form_of-Sequence c.in-Sequence.items) ∙ ap (λ items. check_form (names_of c.args.self.now.scope) c.args.rough.now.line (form.Sequence (phrases_in items))) (sym c.as_slice-in-Sequence.ensures)) c.sequence.ensures
 
-pub clause-returns-in-Let : goal.clause-returns-in-Let
-clause-returns-in-Let t c = leads _ _ _ _ (ap (λ f. check_form (names_of c.args.self.now.scope) c.args.rough.now.line (form_of f)) (sym c.deref.ensures ∙ c.in-Let.is) ∙ ap (λ n. check_form (names_of c.args.self.now.scope) c.args.rough.now.line (form.Let (named n) c.in-Let.variable (phrase_of c.in-Let.e))) (sym c.deref-in-Let.ensures)) (c.declaration.ensures c.args.rough.now.line)
-
 pub clause-returns-in-Proc : goal.clause-returns-in-Proc
 clause-returns-in-Proc t c = leads _ _ _ _ (ap (λ f. check_form (names_of c.args.self.now.scope) c.args.rough.now.line (form_of f)) (sym c.deref.ensures ∙ c.in-Proc.is) ∙ ap (λ params. check_form (names_of c.args.self.now.scope) c.args.rough.now.line (form.Proc (groups_in params) (ty_view c.in-Proc.gives.value) (phrase_of c.in-Proc.s))) (sym c.as_slice-in-Proc.ensures) ∙ ap (λ gives. check_form (names_of c.args.self.now.scope) c.args.rough.now.line (form.Proc (groups_in c.as_slice-in-Proc.result.now) (ty_view gives) (phrase_of c.in-Proc.s))) (sym c.deref-in-Proc.ensures) ∙ ap (check_literal (names_of c.args.self.now.scope)) (sym c.new-in-Proc.ensures)) c.literal.ensures
+
+pub clause-literal-requires : goal.clause-literal-requires
+clause-literal-requires t c =
+    let whole = ap (λ f. weight_form (form_of f)) (sym c.deref.ensures ∙ c.in-Proc.is) in
+    let inside : weight (literal_of c.new-in-Proc.result).s ≡ weight (phrase_of c.in-Proc.s) = ap (λ (l : LiteralAt). weight l.s) c.new-in-Proc.ensures in
+    (omega (arith, c.decreases, whole, inside), tt)
 
 pub clause-returns-in-Or : goal.clause-returns-in-Or
 clause-returns-in-Or t c = leads _ _ _ _ (ap (λ f. check_form (names_of c.args.self.now.scope) c.args.rough.now.line (form_of f)) (sym c.deref.ensures ∙ c.in-Or.is) ∙ sym (c.new-in-Or.ensures.link (check (names_of c.args.self.now.scope) (phrase_of c.in-Or.a)))) c.chain.ensures
@@ -157,12 +217,6 @@ clause-elements-requires t c =
     let light : weight (phrase_of c.args.rough.now) ≡ weight_form (form.Elems (phrase_of c.in-Elems.l) (ty_view c.in-Elems.ty.value) (phrases_in c.as_slice-in-Elems.result.now)) + 1 = ap (λ f. weight_form f + 1) is in
     (omega (arith, c.decreases, light), tt)
 
-pub clause-application-requires : goal.clause-application-requires
-clause-application-requires t c =
-    let is : form_of c.args.rough.now.form.value ≡ form.Apply (phrase_of c.in-Apply.f) (phrases_in c.as_slice-in-Apply.result.now) = ap form_of (sym c.deref.ensures ∙ c.in-Apply.is) ∙ form_of-Apply c.in-Apply.f c.in-Apply.args ∙ ap (λ items. form.Apply (phrase_of c.in-Apply.f) (phrases_in items)) (sym c.as_slice-in-Apply.ensures) in
-    let light : weight (phrase_of c.args.rough.now) ≡ weight_form (form.Apply (phrase_of c.in-Apply.f) (phrases_in c.as_slice-in-Apply.result.now)) + 1 = ap (λ f. weight_form f + 1) is in
-    (omega (arith, c.decreases, light), tt)
-
 pub clause-sequence-requires : goal.clause-sequence-requires
 clause-sequence-requires t c =
     let is : form_of c.args.rough.now.form.value ≡ form.Sequence (phrases_in c.as_slice-in-Sequence.result.now) = ap form_of (sym c.deref.ensures ∙ c.in-Sequence.is) ∙ form_of-Sequence c.in-Sequence.items ∙ ap (λ items. form.Sequence (phrases_in items)) (sym c.as_slice-in-Sequence.ensures) in
@@ -170,7 +224,7 @@ clause-sequence-requires t c =
     (omega (arith, c.decreases, light), tt)
 
 pub clause-returns-in-Not : goal.clause-returns-in-Not
-clause-returns-in-Not t c = leads _ _ _ _ (ap (λ f. check_form (names_of c.args.self.now.scope) c.args.rough.now.line (form_of f)) (sym c.deref.ensures ∙ c.in-Not.is)) c.single.ensures
+clause-returns-in-Not t c = leads _ _ _ _ (ap (λ f. check_form (names_of c.args.self.now.scope) c.args.rough.now.line (form_of f)) (sym c.deref.ensures ∙ c.in-Not.is)) c.single-in-Not.ensures
 
 pub clause-returns-in-Plus : goal.clause-returns-in-Plus
 clause-returns-in-Plus t c = leads _ _ _ _ (ap (λ f. check_form (names_of c.args.self.now.scope) c.args.rough.now.line (form_of f)) (sym c.deref.ensures ∙ c.in-Plus.is)) c.single-in-Plus.ensures
@@ -180,11 +234,6 @@ clause-returns-in-Neg t c = leads _ _ _ _ (ap (λ f. check_form (names_of c.args
 
 pub clause-returns-in-Bound : goal.clause-returns-in-Bound
 clause-returns-in-Bound t c = leads _ _ _ _ (ap (λ f. check_form (names_of c.args.self.now.scope) c.args.rough.now.line (form_of f)) (sym c.deref.ensures ∙ c.in-Bound.is)) c.single-in-Bound.ensures
-
-pub clause-declaration-requires : goal.clause-declaration-requires
-clause-declaration-requires t c =
-    let whole = ap (λ f. weight_form (form_of f)) (sym c.deref.ensures ∙ c.in-Let.is) in
-    (omega (arith, c.decreases, whole), tt)
 
 pub clause-double-requires : goal.clause-double-requires
 clause-double-requires t c =
@@ -206,8 +255,8 @@ clause-double-requires-in-Compare t c =
     let whole = ap (λ f. weight_form (form_of f)) (sym c.deref.ensures ∙ c.in-Compare.is) in
     (omega (arith, c.decreases, whole), tt)
 
-pub clause-triple-requires : goal.clause-triple-requires
-clause-triple-requires t c =
+pub clause-triple-requires-in-IfElse : goal.clause-triple-requires-in-IfElse
+clause-triple-requires-in-IfElse t c =
     let whole = ap (λ f. weight_form (form_of f)) (sym c.deref.ensures ∙ c.in-IfElse.is) in
     (omega (arith, c.decreases, whole), tt)
 
@@ -241,8 +290,8 @@ clause-chain-requires-in-Part t c =
     let whole = ap (λ f. weight_form (form_of f)) (sym c.deref.ensures ∙ c.in-Part.is) in
     (omega (arith, c.decreases, whole, c.part.ensures.weight), tt)
 
-pub clause-single-requires : goal.clause-single-requires
-clause-single-requires t c =
+pub clause-single-requires-in-Not : goal.clause-single-requires-in-Not
+clause-single-requires-in-Not t c =
     let whole = ap (λ f. weight_form (form_of f)) (sym c.deref.ensures ∙ c.in-Not.is) in
     (omega (arith, c.decreases, whole), tt)
 
@@ -265,12 +314,6 @@ pub clause-single-requires-in-Bound : goal.clause-single-requires-in-Bound
 clause-single-requires-in-Bound t c =
     let whole = ap (λ f. weight_form (form_of f)) (sym c.deref.ensures ∙ c.in-Bound.is) in
     (omega (arith, c.decreases, whole), tt)
-
-pub clause-repeat-requires : goal.clause-repeat-requires
-clause-repeat-requires t c =
-    let whole = ap (λ f. weight_form (form_of f)) (sym c.deref.ensures ∙ c.in-Repeat.is) in
-    let third = ap weight_if_any (maybe_boxed-back c.in-Repeat.b ∙ sym c.lent_boxed.ensures) in
-    (omega (arith, c.decreases, whole, third), tt)
 
 pub part-returns-in_err-clause : goal.part-returns-in_err-clause
 part-returns-in_err-clause t c = exits c.from_residual.result _ c.in_err-clause.field-0.0 _ c.from_residual.ensures.1 (fails_unmet _ _ _ _ c.in_err-clause.ensures)
@@ -332,27 +375,6 @@ elements-part-requires t c = (omega (arith, c.decreases), tt)
 pub elements-each-requires : goal.elements-each-requires
 elements-each-requires t c = (omega (arith, c.decreases), tt)
 
-pub repeat-returns-in_err-a : goal.repeat-returns-in_err-a
-repeat-returns-in_err-a t c = exits c.from_residual.result _ c.in_err-a.field-0.0 _ c.from_residual.ensures.1 (fails_first _ _ _ c.in_err-a.ensures)
-
-pub repeat-returns-in_err-c : goal.repeat-returns-in_err-c
-repeat-returns-in_err-c t c = exits c.from_residual-in_err-c.result _ c.in_err-c.field-0.0 _ c.from_residual-in_err-c.ensures.1 (fails_next _ _ _ _ _ _ (c.in_ok-a.ensures) (fails_first _ _ _ c.in_err-c.ensures))
-
-pub repeat-returns-in_err-b : goal.repeat-returns-in_err-b
-repeat-returns-in_err-b t c = exits c.from_residual-in_err-b.result _ c.in_err-b.field-0.0 _ c.from_residual-in_err-b.ensures.1 (fails_next _ _ _ _ _ _ (c.in_ok-a.ensures) (fails_next _ _ _ _ _ _ (c.in_ok-c.ensures) (fails_first _ _ _ c.in_err-b.ensures)))
-
-pub repeat-returns : goal.repeat-returns
-repeat-returns t c = made _ _ _ _ c.new.result (given _ _ _ _ _ (c.in_ok-a.ensures) ∙ given _ _ _ _ _ (c.in_ok-c.ensures) ∙ given _ _ _ _ _ (c.in_ok-b.ensures)) c.new.ensures
-
-pub repeat-part-requires : goal.repeat-part-requires
-repeat-part-requires t c = (omega (arith, c.decreases), tt)
-
-pub repeat-part-requires-2 : goal.repeat-part-requires-2
-repeat-part-requires-2 t c = (omega (arith, c.decreases), tt)
-
-pub repeat-if_any-requires : goal.repeat-if_any-requires
-repeat-if_any-requires t c = (omega (arith, c.decreases), tt)
-
 pub counted-returns-in_err-a : goal.counted-returns-in_err-a
 counted-returns-in_err-a t c = exits c.from_residual.result _ c.in_err-a.field-0.0 _ c.from_residual.ensures.1 (fails_first _ _ _ c.in_err-a.ensures)
 
@@ -388,107 +410,88 @@ counted-if_any-requires t c =
     let third = ap weight_if_any c.lent.ensures in
     (omega (arith, c.decreases, third), tt)
 
-pub each-loop-clause-init : goal.each-loop-clause-init
-each-loop-clause-init t c = ap (λ ts. after (after_nodes ts) (check_each (names_of c.args.self.now.scope) (ty_view c.args.ty.now) (checkers (phrases_in c.args.clauses.now)))) c.new-trees.ensures.items ∙ after_nothing _ _ (λ ts. refl)
+pub each-loop-rough-init : goal.each-loop-rough-init
+each-loop-rough-init t c = ap (λ ts. after (after_nodes ts) (check_each (names_of c.args.self.now.scope) (ty_view c.args.ty.now) (checkers (phrases_in c.args.clauses.now)))) c.new-trees.ensures.items ∙ after_nothing _ _ (λ ts. refl)
+
+pub each-loop-rough-smaller : goal.each-loop-rough-smaller
+each-loop-rough-smaller t c =
+    let below = c.loop-rough-test.true in
+    omega (arith, below)
+
+pub each-clause-requires : goal.each-clause-requires
+each-clause-requires t c =
+    let below = c.loop-rough-test.true in
+    let light : weight (phrase_of c.rough-item.result) ≤ weight_all (phrases_in c.args.clauses.now) = subst (λ r. weight (phrase_of r) ≤ weight_all (phrases_in c.args.clauses.now)) (sym c.rough-item.is) (weight_at c.args.clauses.now c.loop-rough.rough-index _ below) in
+    (omega (arith, c.decreases, light), tt)
+
+pub each-returns-in_err-clause : goal.each-returns-in_err-clause
+each-returns-in_err-clause t c =
+    let below = c.loop-rough-test.true in
+    let cut = phrases_from c.args.clauses.now c.loop-rough.rough-index c.rough-item.result below c.rough-item.is in
+    exits c.from_residual.result _ c.in_err-clause.field-0.0 _ c.from_residual.ensures.1 (fails_after _ _ _ _ c.loop-rough.invariant (fails_as _ _ _ (ap (λ ps. check_each (names_of c.loop-rough.self.scope) (ty_view c.args.ty.now) (checkers ps)) cut) (fails_first _ _ _ (fails_test _ _ _ _ _ c.in_err-clause.ensures))))
 
 pub each-returns-in_err-tree : goal.each-returns-in_err-tree
 each-returns-in_err-tree t c =
-    let below = c.loop-clause-test.true in
-    let cut = phrases_from c.args.clauses.now c.loop-clause.clause-index c.clause-item.result below c.clause-item.is in
-    exits c.from_residual-in_err-tree.result _ c.in_err-tree.field-0.0 _ c.from_residual-in_err-tree.ensures.1 (fails_after _ _ _ _ c.loop-clause.invariant (fails_as _ _ _ (ap (λ ps. check_each (names_of c.loop-clause.self.scope) (ty_view c.args.ty.now) (checkers ps)) cut) (fails_first _ _ _ (fails_met _ _ _ (ap this c.in_ok-copy.ensures) c.in_err-tree.ensures))))
+    let below = c.loop-rough-test.true in
+    let cut = phrases_from c.args.clauses.now c.loop-rough.rough-index c.rough-item.result below c.rough-item.is in
+    exits c.from_residual-in_err-tree.result _ c.in_err-tree.field-0.0 _ c.from_residual-in_err-tree.ensures.1 (fails_after _ _ _ _ c.loop-rough.invariant (fails_as _ _ _ (ap (λ ps. check_each (names_of c.loop-rough.self.scope) (ty_view c.args.ty.now) (checkers ps)) cut) (fails_first _ _ _ (fails_as _ _ _ (ap (wants (ty_view c.args.ty.now) c.rough-item.result.line) c.in_ok-clause.ensures) (c.in_err-tree.ensures c.clause.new.self.scope)))))
 
-pub each-loop-clause-preserved : goal.each-loop-clause-preserved
-each-loop-clause-preserved t c =
-    let below = c.loop-clause-test.true in
-    let cut = phrases_from c.args.clauses.now c.loop-clause.clause-index c.clause-item.result below c.clause-item.is in
-    pushed c.loop-clause.trees.items _ c.in_ok-tree.field-0.tree _ _ _ c.in_ok-push.ensures.items (ap (λ ps. check_each (names_of c.loop-clause.self.scope) (ty_view c.args.ty.now) (checkers ps)) cut ∙ each_step _ _ (ty_view c.args.ty.now) _ _ (phrase_of c.clause-item.result) (phrases_in (drop (c.loop-clause.clause-index + 1) c.args.clauses.now)) (as_met _ _ _ _ _ (ap this c.in_ok-copy.ensures) c.in_ok-tree.ensures)) c.loop-clause.invariant
+pub each-loop-rough-preserved : goal.each-loop-rough-preserved
+each-loop-rough-preserved t c =
+    let below = c.loop-rough-test.true in
+    let cut = phrases_from c.args.clauses.now c.loop-rough.rough-index c.rough-item.result below c.rough-item.is in
+    pushed c.loop-rough.trees.items _ c.in_ok-tree.tree _ _ _ c.in_ok-push.ensures.items (ap (λ ps. check_each (names_of c.loop-rough.self.scope) (ty_view c.args.ty.now) (checkers ps)) cut ∙ each_step _ _ (ty_view c.args.ty.now) _ _ (phrase_of c.rough-item.result) (phrases_in (drop (c.loop-rough.rough-index + 1) c.args.clauses.now)) (ap (wants (ty_view c.args.ty.now) c.rough-item.result.line) c.in_ok-clause.ensures ∙ c.in_ok-tree.ensures c.clause.new.self.scope)) c.loop-rough.invariant
 
 pub each-returns : goal.each-returns
 each-returns t c =
-    let past : length c.args.clauses.now ≤ c.loop-clause.clause-index = search rules in
-    (ty_view c.args.ty.now, finished c.loop-clause.trees.items _ _ _ _ (ap (λ ps. check_each (names_of c.loop-clause.self.scope) (ty_view c.args.ty.now) (checkers ps)) (phrases_behind c.args.clauses.now c.loop-clause.clause-index past)) c.loop-clause.invariant)
-
-pub each-part-requires : goal.each-part-requires
-each-part-requires t c =
-    let below = c.loop-clause-test.true in
-    let light : weight (phrase_of c.clause-item.result) ≤ weight_all (phrases_in c.args.clauses.now) = subst (λ r. weight (phrase_of r) ≤ weight_all (phrases_in c.args.clauses.now)) (sym c.clause-item.is) (weight_at c.args.clauses.now c.loop-clause.clause-index _ below) in
-    (omega (arith, c.decreases, light), tt)
-
-pub arguments-loop-i-init : goal.arguments-loop-i-init
-arguments-loop-i-init t c = ap (λ ts. after (after_nodes ts) (check_args (names_of c.args.self.now.scope) (ty_views c.args.types.now) (checkers (phrases_in c.args.args.now)))) c.new-trees.ensures.items ∙ after_nothing _ _ (λ ts. refl)
-
-pub arguments-returns-in_err-tree : goal.arguments-returns-in_err-tree
-arguments-returns-in_err-tree t c =
-    let below = c.loop-i-test.true in
-    let below_types : c.loop-i.i < length c.args.types.now = let same = c.requires in omega (arith, below, same) in
-    let cut = phrases_from c.args.args.now c.loop-i.i c.index-args-i.result below c.index-args-i.is in
-    let types_cut = types_from c.args.types.now c.loop-i.i c.index-types-i.result below_types c.index-types-i.is in
-    exits c.from_residual-in_err-tree.result _ c.in_err-tree.field-0.0 _ c.from_residual-in_err-tree.ensures.1 (fails_after _ _ _ _ c.loop-i.invariant (fails_as _ _ _ (ap (λ ps. check_args (names_of c.loop-i.self.scope) (ty_views (drop c.loop-i.i c.args.types.now)) (checkers ps)) cut ∙ ap (λ ts. check_args (names_of c.loop-i.self.scope) ts (checkers (form.more (phrase_of c.index-args-i.result) (phrases_in (drop (c.loop-i.i + 1) c.args.args.now))))) types_cut) (fails_first _ _ _ (fails_met _ _ _ (ap this c.in_ok-copy.ensures) c.in_err-tree.ensures))))
-
-pub arguments-loop-i-preserved : goal.arguments-loop-i-preserved
-arguments-loop-i-preserved t c =
-    let below = c.loop-i-test.true in
-    let below_types : c.loop-i.i < length c.args.types.now = let same = c.requires in omega (arith, below, same) in
-    let cut = phrases_from c.args.args.now c.loop-i.i c.index-args-i.result below c.index-args-i.is in
-    let types_cut = types_from c.args.types.now c.loop-i.i c.index-types-i.result below_types c.index-types-i.is in
-    pushed c.loop-i.trees.items _ c.in_ok-tree.field-0.tree _ _ _ c.in_ok-push.ensures.items ((ap (λ ps. check_args (names_of c.loop-i.self.scope) (ty_views (drop c.loop-i.i c.args.types.now)) (checkers ps)) cut ∙ ap (λ ts. check_args (names_of c.loop-i.self.scope) ts (checkers (form.more (phrase_of c.index-args-i.result) (phrases_in (drop (c.loop-i.i + 1) c.args.args.now))))) types_cut) ∙ args_step _ _ (ty_view c.index-types-i.result) _ (ty_views (drop (c.loop-i.i + 1) c.args.types.now)) _ (phrase_of c.index-args-i.result) (phrases_in (drop (c.loop-i.i + 1) c.args.args.now)) (as_met _ _ _ _ _ (ap this c.in_ok-copy.ensures) c.in_ok-tree.ensures)) c.loop-i.invariant
-
-pub arguments-returns : goal.arguments-returns
-arguments-returns t c =
-    let past : length c.args.args.now ≤ c.loop-i.i = search rules in
-    (Void, finished c.loop-i.trees.items _ _ _ _ (ap (λ ps. check_args (names_of c.loop-i.self.scope) (ty_views (drop c.loop-i.i c.args.types.now)) (checkers ps)) (phrases_behind c.args.args.now c.loop-i.i past) ∙ no_args _ _) c.loop-i.invariant)
-
-pub arguments-part-requires : goal.arguments-part-requires
-arguments-part-requires t c =
-    let below = c.loop-i-test.true in
-    let light : weight (phrase_of c.index-args-i.result) ≤ weight_all (phrases_in c.args.args.now) = subst (λ r. weight (phrase_of r) ≤ weight_all (phrases_in c.args.args.now)) (sym c.index-args-i.is) (weight_at c.args.args.now c.loop-i.i _ below) in
-    (omega (arith, c.decreases, light), tt)
+    let past : length c.args.clauses.now ≤ c.loop-rough.rough-index = search rules in
+    (ty_view c.args.ty.now, finished c.loop-rough.trees.items _ _ _ _ (ap (λ ps. check_each (names_of c.loop-rough.self.scope) (ty_view c.args.ty.now) (checkers ps)) (phrases_behind c.args.clauses.now c.loop-rough.rough-index past)) c.loop-rough.invariant)
 
 pub write-loop-item-init : goal.write-loop-item-init
 write-loop-item-init t c = ap (λ ts. after (after_nodes ts) (check_written (names_of c.args.self.now.scope) (items_in c.args.items.now))) c.new-trees.ensures.items ∙ after_nothing _ _ (λ ts. refl)
 
-pub write-written_item-requires : goal.write-written_item-requires
-write-written_item-requires t c =
+pub write-loop-item-smaller : goal.write-loop-item-smaller
+write-loop-item-smaller t c =
     let below = c.loop-item-test.true in
-    let light : weight_item (item_of c.item-item.result) ≤ weight_written (items_in c.args.items.now) = subst (λ r. weight_item (item_of r) ≤ weight_written (items_in c.args.items.now)) (sym c.item-item.is) (item_weight_at c.args.items.now c.loop-item.item-index _ below) in
-    (omega (arith, c.decreases, light), tt)
+    omega (arith, below)
 
-pub write-returns-in_err-tree : goal.write-returns-in_err-tree
-write-returns-in_err-tree t c =
+pub write-part-requires : goal.write-part-requires
+write-part-requires t c =
+    let light : weight_item (item_of c.item-item.result) ≤ weight_written (items_in c.args.items.now) = subst (λ r. weight_item (item_of r) ≤ weight_written (items_in c.args.items.now)) (sym c.item-item.is) (item_weight_at c.args.items.now c.loop-item.item-index _ c.loop-item-test.true) in
+    let whole = ap weight_item (item_of-parts c.item-item.result) in
+    (omega (arith, c.decreases, light, whole), tt)
+
+pub write-if_any-requires : goal.write-if_any-requires
+write-if_any-requires t c =
+    let light : weight_item (item_of c.item-item.result) ≤ weight_written (items_in c.args.items.now) = subst (λ r. weight_item (item_of r) ≤ weight_written (items_in c.args.items.now)) (sym c.item-item.is) (item_weight_at c.args.items.now c.loop-item.item-index _ c.loop-item-test.true) in
+    let whole = ap weight_item (item_of-parts c.item-item.result) in
+    let width = ap weight_if_any c.lent-width.ensures in
+    (omega (arith, c.decreases, light, whole, width), tt)
+
+pub write-returns-in_err-e : goal.write-returns-in_err-e
+write-returns-in_err-e t c =
     let below = c.loop-item-test.true in
     let cut = items_from c.args.items.now c.loop-item.item-index c.item-item.result below c.item-item.is in
-    exits c.from_residual.result _ c.in_err-tree.field-0.0 _ c.from_residual.ensures.1 (fails_first _ _ _ (fails_after _ _ _ _ c.loop-item.invariant (fails_as _ _ _ (ap (check_written (names_of c.loop-item.self.scope)) cut ∙ written_is (names_of c.loop-item.self.scope) (item_of c.item-item.result) (items_in (drop (c.loop-item.item-index + 1) c.args.items.now))) (fails_first _ _ _ c.in_err-tree.ensures))))
+    exits c.from_residual.result _ c.in_err-e.field-0.0 _ c.from_residual.ensures.1 (fails_first _ _ _ (fails_after _ _ _ _ c.loop-item.invariant (fails_as _ _ _ (ap (check_written (names_of c.loop-item.self.scope)) cut ∙ written_is (names_of c.loop-item.self.scope) (item_of c.item-item.result) (items_in (drop (c.loop-item.item-index + 1) c.args.items.now))) (fails_first _ _ _ (fails_as _ _ _ (ap (check_item (names_of c.loop-item.self.scope)) (item_of-parts c.item-item.result)) (fails_first _ _ _ c.in_err-e.ensures))))))
+
+pub write-returns-in_err-w : goal.write-returns-in_err-w
+write-returns-in_err-w t c =
+    let below = c.loop-item-test.true in
+    let cut = items_from c.args.items.now c.loop-item.item-index c.item-item.result below c.item-item.is in
+    exits c.from_residual-in_err-w.result _ c.in_err-w.field-0.0 _ c.from_residual-in_err-w.ensures.1 (fails_first _ _ _ (fails_after _ _ _ _ c.loop-item.invariant (fails_as _ _ _ (ap (check_written (names_of c.loop-item.self.scope)) cut ∙ written_is (names_of c.loop-item.self.scope) (item_of c.item-item.result) (items_in (drop (c.loop-item.item-index + 1) c.args.items.now))) (fails_first _ _ _ (fails_as _ _ _ (ap (check_item (names_of c.loop-item.self.scope)) (item_of-parts c.item-item.result)) (fails_next _ _ _ _ _ _ c.in_ok-e.ensures (fails_first _ _ _ (subst (λ m. IsFault (check_if_any (names_of c.part.new.self.scope) types.Int node.Empty m) c.in_err-w.field-0.0) c.lent-width.ensures c.in_err-w.ensures))))))))
 
 pub write-loop-item-preserved : goal.write-loop-item-preserved
 write-loop-item-preserved t c =
     let below = c.loop-item-test.true in
     let cut = items_from c.args.items.now c.loop-item.item-index c.item-item.result below c.item-item.is in
-    pushed c.loop-item.trees.items _ c.in_ok-tree.tree _ _ _ c.in_ok-push.ensures.items (ap (check_written (names_of c.loop-item.self.scope)) cut ∙ written_step (names_of c.loop-item.self.scope) _ _ _ (item_of c.item-item.result) (items_in (drop (c.loop-item.item-index + 1) c.args.items.now)) c.in_ok-tree.ensures) c.loop-item.invariant
+    let made : check_item (names_of c.loop-item.self.scope) (item_of c.item-item.result) ≡ Gives (node_of c.in_ok-tree.tree) Void (names_of c.if_any.new.self.scope) =
+    ap (check_item (names_of c.loop-item.self.scope)) (item_of-parts c.item-item.result) ∙ given _ _ _ _ _ c.in_ok-e.ensures ∙ given _ _ _ _ _ (subst (λ m. check_if_any (names_of c.part.new.self.scope) types.Int node.Empty m ≡ Gives (node_of c.in_ok-w.field-0.tree) (ty_view c.in_ok-w.field-0.ty) (names_of c.if_any.new.self.scope)) c.lent-width.ensures c.in_ok-w.ensures) ∙ ap (λ b. Gives (node.Write (node_of c.in_ok-e.field-0.tree) (node_of c.in_ok-w.field-0.tree) b (ty_view c.in_ok-e.field-0.ty) (out-RoughItem c.item-item.result).line) Void (names_of c.if_any.new.self.scope)) (sym c.is_int.ensures) ∙ ap (λ t. Gives t Void (names_of c.if_any.new.self.scope)) (sym c.in_ok-tree.ensures) in
+    pushed c.loop-item.trees.items _ c.in_ok-tree.tree _ _ _ c.in_ok-push.ensures.items (ap (check_written (names_of c.loop-item.self.scope)) cut ∙ written_step (names_of c.loop-item.self.scope) _ _ _ (item_of c.item-item.result) (items_in (drop (c.loop-item.item-index + 1) c.args.items.now)) made) c.loop-item.invariant
 
 pub write-returns : goal.write-returns
 write-returns t c =
     let past : length c.args.items.now ≤ c.loop-item.item-index = search rules in
     made _ _ _ _ c.one_or_sequence.result (given _ _ _ _ _ (finished c.loop-item.trees.items _ _ _ _ (ap (check_written (names_of c.loop-item.self.scope)) (items_behind c.args.items.now c.loop-item.item-index past)) c.loop-item.invariant)) c.one_or_sequence.ensures
-
-pub written_item-returns-in_err-e : goal.written_item-returns-in_err-e
-written_item-returns-in_err-e t c = exits c.from_residual.result _ c.in_err-e.field-0.0 _ c.from_residual.ensures.1 (fails_as _ _ _ (ap (check_item (names_of c.args.self.now.scope)) (item_of-parts c.args.item.now)) (fails_first _ _ _ c.in_err-e.ensures))
-
-pub written_item-returns-in_err-w : goal.written_item-returns-in_err-w
-written_item-returns-in_err-w t c = exits c.from_residual-in_err-w.result _ c.in_err-w.field-0.0 _ c.from_residual-in_err-w.ensures.1 (fails_as _ _ _ (ap (check_item (names_of c.args.self.now.scope)) (item_of-parts c.args.item.now)) (fails_next _ _ _ _ _ _ c.in_ok-e.ensures (fails_first _ _ _ (subst (λ m. IsFault (check_if_any (names_of c.part.new.self.scope) types.Int node.Empty m) c.in_err-w.field-0.0) c.lent.ensures c.in_err-w.ensures))))
-
-pub written_item-returns : goal.written_item-returns
-written_item-returns t c = ap (check_item (names_of c.args.self.now.scope)) (item_of-parts c.args.item.now) ∙ given _ _ _ _ _ c.in_ok-e.ensures ∙ given _ _ _ _ _ (subst (λ m. check_if_any (names_of c.part.new.self.scope) types.Int node.Empty m ≡ Gives (node_of c.in_ok-w.field-0.tree) (ty_view c.in_ok-w.field-0.ty) (names_of c.if_any.new.self.scope)) c.lent.ensures c.in_ok-w.ensures) ∙ ap (λ b. Gives (node.Write (node_of c.in_ok-e.field-0.tree) (node_of c.in_ok-w.field-0.tree) b (ty_view c.in_ok-e.field-0.ty) (out-RoughItem c.args.item.now).line) Void (names_of c.if_any.new.self.scope)) (sym c.is_int-wide.ensures) ∙ ap (λ t. Gives t Void (names_of c.if_any.new.self.scope)) (sym c.in_ok-new.ensures)
-
-pub written_item-part-requires : goal.written_item-part-requires
-written_item-part-requires t c =
-    let whole = ap weight_item (item_of-parts c.args.item.now) in
-    (omega (arith, c.decreases, whole), tt)
-
-pub written_item-if_any-requires : goal.written_item-if_any-requires
-written_item-if_any-requires t c =
-    let whole = ap weight_item (item_of-parts c.args.item.now) in
-    let width = ap weight_if_any c.lent.ensures in
-    (omega (arith, c.decreases, whole, width), tt)
 
 pub case_of-returns-in_err-e : goal.case_of-returns-in_err-e
 case_of-returns-in_err-e t c = exits c.from_residual.result _ c.in_err-e.field-0.0 _ c.from_residual.ensures.1 (fails_first _ _ _ c.in_err-e.ensures)
@@ -511,132 +514,115 @@ case_of-arms-requires t c = (omega (arith, c.decreases), tt)
 pub case_of-part-requires-2 : goal.case_of-part-requires-2
 case_of-part-requires-2 t c = (omega (arith, c.decreases), tt)
 
-pub arms-returns-in_err-arm-in-Some : goal.arms-returns-in_err-arm-in-Some
-arms-returns-in_err-arm-in-Some t c = exits c.from_residual.result _ c.in_err-arm-in-Some.field-0.0 _ c.from_residual.ensures.1 (fails_as _ _ _ (ap (λ arms. check_arms (names_of c.args.self.now.scope) (ty_view c.args.ty.now) None (rough_arms_in arms)) c.in-Some.ensures.cases.0 ∙ arms_are _ _ _ _ _) (fails_first _ _ _ c.in_err-arm-in-Some.ensures))
+pub arms-loop-arm-init : goal.arms-loop-arm-init
+arms-loop-arm-init t c = record {
+  arms = ap (λ made. after (after_arms made) (check_arms (names_of c.args.self.now.scope) (ty_view c.args.ty.now) None (rough_arms_in c.args.arms.now))) c.new-made.ensures.items ∙ after_nothing _ _ (λ made. refl);
+  given = ap (λ made. first_type (arms_in made) Void) c.new-made.ensures.items;
+}
 
-pub arms-returns-in_err-more_arms-in-Some : goal.arms-returns-in_err-more_arms-in-Some
-arms-returns-in_err-more_arms-in-Some t c = exits c.from_residual-in_err-more_arms-in-Some.result _ c.in_err-more_arms-in-Some.field-0.0 _ c.from_residual-in_err-more_arms-in-Some.ensures.1 (fails_as _ _ _ (ap (λ arms. check_arms (names_of c.args.self.now.scope) (ty_view c.args.ty.now) None (rough_arms_in arms)) c.in-Some.ensures.cases.0 ∙ arms_are _ _ _ _ _) (fails_next _ _ _ _ _ _ c.in_ok-arm-in-Some.ensures (fails_first _ _ _ c.in_err-more_arms-in-Some.ensures)))
-
-pub arms-returns-in-None : goal.arms-returns-in-None
-arms-returns-in-None t c = (Void, ap (λ arms. check_arms (names_of c.args.self.now.scope) (ty_view c.args.ty.now) None (rough_arms_in arms)) (empty _ c.in-None.ensures.cases) ∙ ap (λ made. Gives (arms_in made) Void (names_of c.args.self.now.scope)) (sym c.new-made.ensures.items), ap (λ made. first_type (arms_in made) Void) c.new-made.ensures.items)
-
-pub arms-returns-in_ok-more_arms-in-Some : goal.arms-returns-in_ok-more_arms-in-Some
-arms-returns-in_ok-more_arms-in-Some t c =
-    let one = c.in_ok-arm-in-Some.field-0.arm in
-    let own = ty_view c.in_ok-arm-in-Some.field-0.ty in
-    let rest = check_arms (names_of c.arm.new.self.scope) (ty_view c.args.ty.now) (Some own) (rough_arms_in c.in-Some.rest.now) in
-    let only : c.push.new.self.items ≡ one ∷ [] = c.in_ok-push-in-Some.ensures.items ∙ ap (λ made. made ++ one ∷ []) c.new-made.ensures.items in
-    let all : (rest >>= λ arms last n. Gives (node.more_arms (tree_arm_of one) arms) own n) ≡ Gives (arms_in c.more_arms.new.made.items) own (names_of c.more_arms.new.self.scope) =
-    subst (λ made. (rest >>= λ arms last n. Gives (all_arms (arms_in made) arms) own n) ≡ Gives (arms_in c.more_arms.new.made.items) own (names_of c.more_arms.new.self.scope)) only c.in_ok-more_arms-in-Some.ensures in
-    (own, (ap (λ arms. check_arms (names_of c.args.self.now.scope) (ty_view c.args.ty.now) None (rough_arms_in arms)) c.in-Some.ensures.cases.0 ∙ arms_are _ _ _ _ _) ∙ given _ _ _ _ _ c.in_ok-arm-in-Some.ensures ∙ all, first_is rest _ _ _ _ all)
-
-pub arms-arm-requires : goal.arms-arm-requires
-arms-arm-requires t c =
-    let whole = ap (λ arms. weight_arms (rough_arms_in arms)) c.in-Some.ensures.cases.0 in
-    (omega (arith, c.decreases, whole), tt)
-
-pub arms-more_arms-requires : goal.arms-more_arms-requires
-arms-more_arms-requires t c =
-    let whole = ap (λ arms. weight_arms (rough_arms_in arms)) c.in-Some.ensures.cases.0 in
-    (omega (arith, c.decreases, whole), tt)
-
-pub more_arms-arm-requires : goal.more_arms-arm-requires
-more_arms-arm-requires t c =
+pub arms-loop-arm-smaller : goal.arms-loop-arm-smaller
+arms-loop-arm-smaller t c =
     let below = c.loop-arm-test.true in
-    let light : weight_arm (arm_of c.arm-item.result) ≤ weight_arms (rough_arms_in c.args.arms.now) = subst (λ r. weight_arm (arm_of r) ≤ weight_arms (rough_arms_in c.args.arms.now)) (sym c.arm-item.is) (arm_weight_at c.args.arms.now c.loop-arm.arm-index _ below) in
-    (omega (arith, c.decreases, light), tt)
+    omega (arith, below)
 
-pub more_arms-returns-in_err-arm : goal.more_arms-returns-in_err-arm
-more_arms-returns-in_err-arm t c =
+pub arms-each-requires : goal.arms-each-requires
+arms-each-requires t c =
+    let light : weight_arm (arm_of c.arm-item.result) ≤ weight_arms (rough_arms_in c.args.arms.now) = subst (λ r. weight_arm (arm_of r) ≤ weight_arms (rough_arms_in c.args.arms.now)) (sym c.arm-item.is) (arm_weight_at c.args.arms.now c.loop-arm.arm-index _ c.loop-arm-test.true) in
+    let is : weight_arm (arm_of c.arm-item.result) ≡ weight_all (phrases_in c.as_slice.result.now) + weight (phrase_of (out-RoughArm c.arm-item.result).a) = ap weight_arm (arm_of-parts c.arm-item.result) ∙ ap (λ labels. weight_all (phrases_in labels) + weight (phrase_of (out-RoughArm c.arm-item.result).a)) (sym c.as_slice.ensures) in
+    (omega (arith, c.decreases, light, is), tt)
+
+pub arms-part-requires : goal.arms-part-requires
+arms-part-requires t c =
+    let light : weight_arm (arm_of c.arm-item.result) ≤ weight_arms (rough_arms_in c.args.arms.now) = subst (λ r. weight_arm (arm_of r) ≤ weight_arms (rough_arms_in c.args.arms.now)) (sym c.arm-item.is) (arm_weight_at c.args.arms.now c.loop-arm.arm-index _ c.loop-arm-test.true) in
+    let is : weight_arm (arm_of c.arm-item.result) ≡ weight_all (phrases_in c.as_slice.result.now) + weight (phrase_of (out-RoughArm c.arm-item.result).a) = ap weight_arm (arm_of-parts c.arm-item.result) ∙ ap (λ labels. weight_all (phrases_in labels) + weight (phrase_of (out-RoughArm c.arm-item.result).a)) (sym c.as_slice.ensures) in
+    (omega (arith, c.decreases, light, is), tt)
+
+pub arms-returns-in_err-labels : goal.arms-returns-in_err-labels
+arms-returns-in_err-labels t c =
     let below = c.loop-arm-test.true in
     let cut = arms_from c.args.arms.now c.loop-arm.arm-index c.arm-item.result below c.arm-item.is in
-    exits c.from_residual-in_err-arm.result _ c.in_err-arm.field-0.0 _ c.from_residual-in_err-arm.ensures.1 (fails_in_all (ty_view c.args.own.now) _ _ _ _ _ c.loop-arm.invariant (fails_as _ _ _ (ap (check_arms (names_of c.loop-arm.self.scope) (ty_view c.args.ty.now) (Some (ty_view c.args.own.now))) cut ∙ arms_are _ _ _ _ _) (fails_first _ _ _ (subst (λ k. IsFault (check_arm (names_of c.loop-arm.self.scope) (ty_view c.args.ty.now) (Some k) (arm_of c.arm-item.result)) c.in_err-arm.field-0.0) c.in_ok-wanted.ensures c.in_err-arm.ensures))))
+    let known = option_map ty_view c.loop-arm.given in
+    let parts = ap (check_arm (names_of c.loop-arm.self.scope) (ty_view c.args.ty.now) known) (arm_of-parts c.arm-item.result) ∙ ap (λ labels. check_arm (names_of c.loop-arm.self.scope) (ty_view c.args.ty.now) known (form.arm (phrases_in labels) (phrase_of (out-RoughArm c.arm-item.result).a))) (sym c.as_slice.ensures) in
+    exits c.from_residual.result _ c.in_err-labels.field-0.0 _ c.from_residual.ensures.1 (fails_as _ _ _ (sym c.loop-arm.invariant.arms) (fails_first _ _ _ (fails_as _ _ _ (ap (check_arms (names_of c.loop-arm.self.scope) (ty_view c.args.ty.now) known) cut ∙ arms_are _ _ _ _ _) (fails_first _ _ _ (fails_as _ _ _ parts (fails_first _ _ _ c.in_err-labels.ensures))))))
 
-pub more_arms-loop-arm-preserved : goal.more_arms-loop-arm-preserved
-more_arms-loop-arm-preserved t c =
+pub arms-returns-in_err-a : goal.arms-returns-in_err-a
+arms-returns-in_err-a t c =
     let below = c.loop-arm-test.true in
     let cut = arms_from c.args.arms.now c.loop-arm.arm-index c.arm-item.result below c.arm-item.is in
-    pushed_arm (ty_view c.args.own.now) c.loop-arm.made.items _ c.in_ok-arm.field-0.arm _ _ _ c.in_ok-push.ensures.items (ap (check_arms (names_of c.loop-arm.self.scope) (ty_view c.args.ty.now) (Some (ty_view c.args.own.now))) cut ∙ arms_step _ _ _ _ _ _ _ _ (subst (λ k. check_arm (names_of c.loop-arm.self.scope) (ty_view c.args.ty.now) (Some k) (arm_of c.arm-item.result) ≡ Gives (tree_arm_of c.in_ok-arm.field-0.arm) (ty_view c.in_ok-arm.field-0.ty) (names_of c.arm.new.self.scope)) c.in_ok-wanted.ensures c.in_ok-arm.ensures)) c.loop-arm.invariant
+    let known = option_map ty_view c.loop-arm.given in
+    let parts = ap (check_arm (names_of c.loop-arm.self.scope) (ty_view c.args.ty.now) known) (arm_of-parts c.arm-item.result) ∙ ap (λ labels. check_arm (names_of c.loop-arm.self.scope) (ty_view c.args.ty.now) known (form.arm (phrases_in labels) (phrase_of (out-RoughArm c.arm-item.result).a))) (sym c.as_slice.ensures) in
+    exits c.from_residual-in_err-a.result _ c.in_err-a.field-0.0 _ c.from_residual-in_err-a.ensures.1 (fails_as _ _ _ (sym c.loop-arm.invariant.arms) (fails_first _ _ _ (fails_as _ _ _ (ap (check_arms (names_of c.loop-arm.self.scope) (ty_view c.args.ty.now) known) cut ∙ arms_are _ _ _ _ _) (fails_first _ _ _ (fails_as _ _ _ parts (fails_next _ _ _ _ _ _ c.in_ok-labels.ensures.1 (fails_first _ _ _ (fails_as _ _ _ (sym (c.like.ensures _ _)) c.in_err-a.ensures))))))))
 
-pub more_arms-returns : goal.more_arms-returns
-more_arms-returns t c =
+pub arms-loop-arm-preserved : goal.arms-loop-arm-preserved
+arms-loop-arm-preserved t c =
+    let below = c.loop-arm-test.true in
+    let cut = arms_from c.args.arms.now c.loop-arm.arm-index c.arm-item.result below c.arm-item.is in
+    let known = option_map ty_view c.loop-arm.given in
+    let parts = ap (check_arm (names_of c.loop-arm.self.scope) (ty_view c.args.ty.now) known) (arm_of-parts c.arm-item.result) ∙ ap (λ labels. check_arm (names_of c.loop-arm.self.scope) (ty_view c.args.ty.now) known (form.arm (phrases_in labels) (phrase_of (out-RoughArm c.arm-item.result).a))) (sym c.as_slice.ensures) in
+    let made = parts ∙ given _ _ _ _ _ c.in_ok-labels.ensures.1 ∙ given _ _ _ _ _ (sym (c.like.ensures _ _) ∙ c.in_ok-a.ensures) ∙ ap (λ a. Gives a (ty_view c.in_ok-a.field-0.ty) (names_of c.part.new.self.scope)) (arm_made c.new-labels.result c.in_ok-a.field-0.tree _ (sym c.new-labels.ensures)) in
+    record {
+      arms = pushed_arm (names_of c.loop-arm.self.scope) _ (ty_view c.args.ty.now) _ known c.loop-arm.made.items _ _ (arm_of c.arm-item.result) (rough_arms_in (drop (c.loop-arm.arm-index + 1) c.args.arms.now)) _ _ c.in_ok-push.ensures.items made (ap (check_arms (names_of c.loop-arm.self.scope) (ty_view c.args.ty.now) known) cut) c.loop-arm.invariant.arms;
+      given = first_pushed c.loop-arm.made.items _ _ _ c.in_ok-push.ensures.items;
+    }
+
+pub arms-returns : goal.arms-returns
+arms-returns t c =
     let past : length c.args.arms.now ≤ c.loop-arm.arm-index = search rules in
-    finished_arms (ty_view c.args.own.now) _ c.loop-arm.made.items _ _ _ (ap (check_arms (names_of c.loop-arm.self.scope) (ty_view c.args.ty.now) (Some (ty_view c.args.own.now))) (arms_behind c.args.arms.now c.loop-arm.arm-index past)) c.loop-arm.invariant
+    let known = option_map ty_view c.loop-arm.given in
+    (or_given Void known, finished_arms known c.loop-arm.made.items _ _ _ (ap (check_arms (names_of c.loop-arm.self.scope) (ty_view c.args.ty.now) known) (arms_behind c.args.arms.now c.loop-arm.arm-index past)) c.loop-arm.invariant.arms, c.loop-arm.invariant.given)
 
-pub arm-returns-in_err-each : goal.arm-returns-in_err-each
-arm-returns-in_err-each t c = exits c.from_residual.result _ c.in_err-each.field-0.0 _ c.from_residual.ensures.1 (fails_as _ _ _ (ap (check_arm (names_of c.args.self.now.scope) (ty_view c.args.ty.now) (option_map ty_view c.args.given)) (arm_of-parts c.args.arm.now) ∙ ap (λ labels. check_arm (names_of c.args.self.now.scope) (ty_view c.args.ty.now) (option_map ty_view c.args.given) (form.arm (phrases_in labels) (phrase_of (out-RoughArm c.args.arm.now).a))) (sym c.as_slice.ensures)) (fails_first _ _ _ c.in_err-each.ensures))
+pub sequence-loop-item-init : goal.sequence-loop-item-init
+sequence-loop-item-init t c = ap (λ ts. after (after_nodes ts) (check_all (names_of c.enter-block.new.self) c.args.line Void (phrases_in c.args.items.now))) c.new-trees.ensures.items ∙ after_nothing _ _ (λ ts. refl)
 
-pub arm-returns-in_err-a : goal.arm-returns-in_err-a
-arm-returns-in_err-a t c = exits c.from_residual-in_err-a.result _ c.in_err-a.field-0.0 _ c.from_residual-in_err-a.ensures.1 (fails_as _ _ _ (ap (check_arm (names_of c.args.self.now.scope) (ty_view c.args.ty.now) (option_map ty_view c.args.given)) (arm_of-parts c.args.arm.now) ∙ ap (λ labels. check_arm (names_of c.args.self.now.scope) (ty_view c.args.ty.now) (option_map ty_view c.args.given) (form.arm (phrases_in labels) (phrase_of (out-RoughArm c.args.arm.now).a))) (sym c.as_slice.ensures)) (fails_next _ _ _ _ _ _ c.in_ok-each.ensures.1 (fails_first _ _ _ (fails_as _ _ _ (sym (c.like.ensures _ _)) c.in_err-a.ensures))))
+pub sequence-loop-item-smaller : goal.sequence-loop-item-smaller
+sequence-loop-item-smaller t c =
+    let below = c.loop-item-test.true in
+    omega (arith, below)
 
-pub arm-returns : goal.arm-returns
-arm-returns t c = (ap (check_arm (names_of c.args.self.now.scope) (ty_view c.args.ty.now) (option_map ty_view c.args.given)) (arm_of-parts c.args.arm.now) ∙ ap (λ labels. check_arm (names_of c.args.self.now.scope) (ty_view c.args.ty.now) (option_map ty_view c.args.given) (form.arm (phrases_in labels) (phrase_of (out-RoughArm c.args.arm.now).a))) (sym c.as_slice.ensures)) ∙ given _ _ _ _ _ c.in_ok-each.ensures.1 ∙ given _ _ _ _ _ (sym (c.like.ensures _ _) ∙ c.in_ok-a.ensures) ∙ ap (λ a. Gives a (ty_view c.in_ok-a.field-0.ty) (names_of c.part.new.self.scope)) (arm_made c.new-labels.result c.in_ok-a.field-0.tree _ (sym c.new-labels.ensures))
-
-pub arm-each-requires : goal.arm-each-requires
-arm-each-requires t c =
-    let is : weight_arm (arm_of c.args.arm.now) ≡ weight_all (phrases_in c.as_slice.result.now) + weight (phrase_of (out-RoughArm c.args.arm.now).a) = ap weight_arm (arm_of-parts c.args.arm.now) ∙ ap (λ labels. weight_all (phrases_in labels) + weight (phrase_of (out-RoughArm c.args.arm.now).a)) (sym c.as_slice.ensures) in
-    (omega (arith, c.decreases, is), tt)
-
-pub arm-part-requires : goal.arm-part-requires
-arm-part-requires t c =
-    let is : weight_arm (arm_of c.args.arm.now) ≡ weight_all (phrases_in c.as_slice.result.now) + weight (phrase_of (out-RoughArm c.args.arm.now).a) = ap weight_arm (arm_of-parts c.args.arm.now) ∙ ap (λ labels. weight_all (phrases_in labels) + weight (phrase_of (out-RoughArm c.args.arm.now).a)) (sym c.as_slice.ensures) in
-    (omega (arith, c.decreases, is), tt)
-
-pub sequence-returns-in_err-trees : goal.sequence-returns-in_err-trees
-sequence-returns-in_err-trees t c = exits c.from_residual.result _ c.in_err-trees.field-0.0 _ c.from_residual.ensures.1 (fails_first _ _ _ (subst (λ n. IsFault (check_all n c.args.line Void (phrases_in c.args.items.now)) c.in_err-trees.field-0.0) c.enter-block.ensures.names c.in_err-trees.ensures))
-
-pub sequence-leave-requires-clause-names : goal.sequence-leave-requires-clause-names
-sequence-leave-requires-clause-names t c = stays _ _ _ _ (all_keeps_around _ _ _ _ _ _ _ c.in_ok-trees.ensures ∙ ap (λ (n : Names). n.around) c.enter-block.ensures.names) c.enter-block.ensures.names_around
-
-pub sequence-leave-requires-clause-fields : goal.sequence-leave-requires-clause-fields
-sequence-leave-requires-clause-fields t c = stays _ _ _ _ (all_keeps_fields_around _ _ _ _ _ _ _ c.in_ok-trees.ensures ∙ ap (λ (n : Names). n.fields_around) c.enter-block.ensures.names) c.enter-block.ensures.fields_around
-
-pub sequence-returns : goal.sequence-returns
-sequence-returns t c = made _ _ _ _ c.block_of.result (given _ _ _ _ _ (ap (λ n. check_all n c.args.line Void (phrases_in c.args.items.now)) (sym c.enter-block.ensures.names) ∙ c.in_ok-trees.ensures) ∙ ap (λ n. Gives (node.Block None (nodes_in c.in_ok-trees.field-0.trees.items)) (ty_view c.in_ok-trees.field-0.ty) n) (sym (c.leave.ensures (names_of c.args.self.now.scope) (all_keeps_around _ _ _ _ _ _ _ c.in_ok-trees.ensures ∙ ap (λ (n : Names). n.around) c.enter-block.ensures.names) (all_keeps_fields_around _ _ _ _ _ _ _ c.in_ok-trees.ensures ∙ ap (λ (n : Names). n.fields_around) c.enter-block.ensures.names) c.enter-block.ensures.names_around c.enter-block.ensures.fields_around))) c.block_of.ensures
-
-pub sequence-items-requires : goal.sequence-items-requires
-sequence-items-requires t c = (omega (arith, c.decreases), tt)
-
-pub items-loop-item-init : goal.items-loop-item-init
-items-loop-item-init t c = ap (λ ts. after (after_nodes ts) (check_all (names_of c.args.self.now.scope) c.args.line Void (phrases_in c.args.items.now))) c.new-trees.ensures.items ∙ after_nothing _ _ (λ ts. refl)
-
-pub items-item-requires : goal.items-item-requires
-items-item-requires t c =
+pub sequence-clause-requires : goal.sequence-clause-requires
+sequence-clause-requires t c =
     let below = c.loop-item-test.true in
     let light : weight (phrase_of c.item-item.result) ≤ weight_all (phrases_in c.args.items.now) = subst (λ r. weight (phrase_of r) ≤ weight_all (phrases_in c.args.items.now)) (sym c.item-item.is) (weight_at c.args.items.now c.loop-item.item-index _ below) in
     (omega (arith, c.decreases, light), tt)
 
-pub items-returns-in_err-tree : goal.items-returns-in_err-tree
-items-returns-in_err-tree t c =
+pub sequence-returns-in_err-void_before : goal.sequence-returns-in_err-void_before
+sequence-returns-in_err-void_before t c =
     let below = c.loop-item-test.true in
     let cut = phrases_from c.args.items.now c.loop-item.item-index c.item-item.result below c.item-item.is in
-    exits c.from_residual.result _ c.in_err-tree.field-0.0 _ c.from_residual.ensures.1 (fails_after _ _ _ _ c.loop-item.invariant (fails_as _ _ _ (ap (check_all (names_of c.loop-item.self.scope) c.loop-item.line (ty_view c.loop-item.before)) cut ∙ all_is (names_of c.loop-item.self.scope) c.loop-item.line (ty_view c.loop-item.before) (phrase_of c.item-item.result) (phrases_in (drop (c.loop-item.item-index + 1) c.args.items.now))) (fails_first _ _ _ c.in_err-tree.ensures)))
+    let rest = phrases_in (drop (c.loop-item.item-index + 1) c.args.items.now) in
+    exits c.from_residual.result _ c.in_err-void_before.field-0.0 _ c.from_residual.ensures.1 (fails_first _ _ _ (fails_as _ _ _ (ap (λ n. check_all n c.args.line Void (phrases_in c.args.items.now)) (sym c.enter-block.ensures.names)) (fails_after _ _ _ _ c.loop-item.invariant (fails_as _ _ _ (ap (check_all (names_of c.loop-item.self.scope) c.loop-item.line (ty_view c.loop-item.before)) cut ∙ all_is (names_of c.loop-item.self.scope) c.loop-item.line (ty_view c.loop-item.before) (phrase_of c.item-item.result) rest) (fails_first _ _ _ (c.in_err-void_before.ensures (check (names_of c.loop-item.self.scope) (phrase_of c.item-item.result))))))))
 
-pub items-loop-item-preserved : goal.items-loop-item-preserved
-items-loop-item-preserved t c =
+pub sequence-returns-in_err-tree : goal.sequence-returns-in_err-tree
+sequence-returns-in_err-tree t c =
     let below = c.loop-item-test.true in
     let cut = phrases_from c.args.items.now c.loop-item.item-index c.item-item.result below c.item-item.is in
-    pushed c.loop-item.trees.items _ c.in_ok-tree.field-0.tree _ _ _ c.in_ok-push.ensures.items (ap (check_all (names_of c.loop-item.self.scope) c.loop-item.line (ty_view c.loop-item.before)) cut ∙ all_step (names_of c.loop-item.self.scope) _ c.loop-item.line (ty_view c.loop-item.before) _ _ (phrase_of c.item-item.result) (phrases_in (drop (c.loop-item.item-index + 1) c.args.items.now)) c.in_ok-tree.ensures) c.loop-item.invariant
+    let rest = phrases_in (drop (c.loop-item.item-index + 1) c.args.items.now) in
+    exits c.from_residual-in_err-tree.result _ c.in_err-tree.field-0.0 _ c.from_residual-in_err-tree.ensures.1 (fails_first _ _ _ (fails_as _ _ _ (ap (λ n. check_all n c.args.line Void (phrases_in c.args.items.now)) (sym c.enter-block.ensures.names)) (fails_after _ _ _ _ c.loop-item.invariant (fails_as _ _ _ (ap (check_all (names_of c.loop-item.self.scope) c.loop-item.line (ty_view c.loop-item.before)) cut ∙ all_is (names_of c.loop-item.self.scope) c.loop-item.line (ty_view c.loop-item.before) (phrase_of c.item-item.result) rest) (fails_first _ _ _ (fails_as _ _ _ (c.in_ok-void_before.ensures _) c.in_err-tree.ensures))))))
 
-pub items-returns : goal.items-returns
-items-returns t c =
+pub sequence-loop-item-preserved : goal.sequence-loop-item-preserved
+sequence-loop-item-preserved t c =
+    let below = c.loop-item-test.true in
+    let cut = phrases_from c.args.items.now c.loop-item.item-index c.item-item.result below c.item-item.is in
+    let rest = phrases_in (drop (c.loop-item.item-index + 1) c.args.items.now) in
+    pushed c.loop-item.trees.items _ c.in_ok-tree.field-0.tree _ _ _ c.in_ok-push.ensures.items (ap (check_all (names_of c.loop-item.self.scope) c.loop-item.line (ty_view c.loop-item.before)) cut ∙ all_step (names_of c.loop-item.self.scope) _ c.loop-item.line (ty_view c.loop-item.before) _ _ (phrase_of c.item-item.result) rest (c.in_ok-void_before.ensures _ ∙ c.in_ok-tree.ensures)) c.loop-item.invariant
+
+pub sequence-leave-requires-clause-names : goal.sequence-leave-requires-clause-names
+sequence-leave-requires-clause-names t c =
     let past : length c.args.items.now ≤ c.loop-item.item-index = search rules in
-    finished c.loop-item.trees.items _ _ _ _ (ap (check_all (names_of c.loop-item.self.scope) c.loop-item.line (ty_view c.loop-item.before)) (phrases_behind c.args.items.now c.loop-item.item-index past)) c.loop-item.invariant
+    let all = finished c.loop-item.trees.items _ _ _ _ (ap (check_all (names_of c.loop-item.self.scope) c.loop-item.line (ty_view c.loop-item.before)) (phrases_behind c.args.items.now c.loop-item.item-index past)) c.loop-item.invariant in
+    stays _ _ _ _ (all_keeps_around _ _ _ _ _ _ _ all ∙ ap (λ (n : Names). n.around) c.enter-block.ensures.names) c.enter-block.ensures.names_around
 
-pub item-returns-then-not-is_void : goal.item-returns-then-not-is_void
-item-returns-then-not-is_void t c = is_fault _ _ (Mismatch c.args.line (ty_view c.args.before) Void) refl (ap (λ b. if b then check (names_of c.args.self.now.scope) (phrase_of c.args.item.now) else Refuses (Mismatch c.args.line (ty_view c.args.before) Void)) (not_void _ (sym c.is_void.ensures ∙ ap not c.if-not-is_void.true)))
+pub sequence-leave-requires-clause-fields : goal.sequence-leave-requires-clause-fields
+sequence-leave-requires-clause-fields t c =
+    let past : length c.args.items.now ≤ c.loop-item.item-index = search rules in
+    let all = finished c.loop-item.trees.items _ _ _ _ (ap (check_all (names_of c.loop-item.self.scope) c.loop-item.line (ty_view c.loop-item.before)) (phrases_behind c.args.items.now c.loop-item.item-index past)) c.loop-item.invariant in
+    stays _ _ _ _ (all_keeps_fields_around _ _ _ _ _ _ _ all ∙ ap (λ (n : Names). n.fields_around) c.enter-block.ensures.names) c.enter-block.ensures.fields_around
 
-pub item-clause-requires : goal.item-clause-requires
-item-clause-requires t c = (omega (arith, c.decreases), tt)
-
-pub declaration-returns-in-Some : goal.declaration-returns-in-Some
-declaration-returns-in-Some t c = λ line. leads _ _ _ _ (let_literal (names_of c.args.self.now.scope) line _ c.args.variable (phrase_of c.args.e.now) _ (sym c.in-Some.ensures)) c.named_literal.ensures
-
-pub declaration-returns-in-None : goal.declaration-returns-in-None
-declaration-returns-in-None t c = λ line. leads _ _ _ _ (let_other (names_of c.args.self.now.scope) line _ c.args.variable (phrase_of c.args.e.now) (sym c.in-None.ensures)) c.single.ensures
-
-pub declaration-single-requires : goal.declaration-single-requires
-declaration-single-requires t c = (omega (arith, c.decreases), tt)
+pub sequence-returns : goal.sequence-returns
+sequence-returns t c =
+    let past : length c.args.items.now ≤ c.loop-item.item-index = search rules in
+    let all = finished c.loop-item.trees.items _ _ _ _ (ap (check_all (names_of c.loop-item.self.scope) c.loop-item.line (ty_view c.loop-item.before)) (phrases_behind c.args.items.now c.loop-item.item-index past)) c.loop-item.invariant in
+    made _ _ _ _ c.block_of.result (given _ _ _ _ _ (ap (λ n. check_all n c.args.line Void (phrases_in c.args.items.now)) (sym c.enter-block.ensures.names) ∙ all) ∙ ap (λ n. Gives (node.Block None (nodes_in c.loop-item.trees.items)) (ty_view c.loop-item.before) n) (sym (c.leave.ensures (names_of c.args.self.now.scope) (all_keeps_around _ _ _ _ _ _ _ all ∙ ap (λ (n : Names). n.around) c.enter-block.ensures.names) (all_keeps_fields_around _ _ _ _ _ _ _ all ∙ ap (λ (n : Names). n.fields_around) c.enter-block.ensures.names) c.enter-block.ensures.names_around c.enter-block.ensures.fields_around))) c.block_of.ensures
 
 pub named_literal-returns-in_err-e : goal.named_literal-returns-in_err-e
 named_literal-returns-in_err-e t c = exits c.from_residual-in_err-e.result _ c.in_err-e.field-0.0 _ c.from_residual-in_err-e.ensures.1 (fails_as _ _ _ (ap (λ b. if b then Refuses (Twice c.args.name.now.line) else (check_literal (declare_local (names_of c.args.self.now.scope) c.args.name.now.name (types.Proc (types_of (groups_in c.args.literal.params.now)) (ty_view c.args.literal.gives.now)) c.args.variable) (literal_of c.args.literal) >>= (λ e t last. Gives (node.Let (Plain (length (names_of c.args.self.now.scope).all)) t e) Void last))) (ap (is_declared (names_of c.args.self.now.scope)) (sym c.as_slice.ensures) ∙ sym c.declares.ensures ∙ c.if-declares.false)) (fails_first _ _ (λ e t last. Gives (node.Let (Plain (length (names_of c.args.self.now.scope).all)) t e) Void last) (subst (λ n. IsFault (check_literal n (literal_of c.args.literal)) c.in_err-e.field-0.0) (c.in_ok-number.ensures.names ∙ ap (λ nm. declare_local (names_of c.args.self.now.scope) nm (ty_view c.in_ok-ty.ty) c.args.variable) c.as_slice-name.ensures ∙ ap (λ k. declare_local (names_of c.args.self.now.scope) c.args.name.now.name k c.args.variable) c.in_ok-ty.ensures) c.in_err-e.ensures)))
@@ -726,26 +712,29 @@ link-double-requires t c =
     let whole = ap weight_link c.in-Part.is in
     (omega (arith, c.decreases, whole), tt)
 
-pub application-name_applied-requires : goal.application-name_applied-requires
-application-name_applied-requires t c = (omega (arith, c.decreases), tt)
-
-pub application-chain-requires : goal.application-chain-requires
-application-chain-requires t c = (omega (arith, c.decreases, c.apply.ensures.weight), tt)
-
 pub name_applied-apply-requires : goal.name_applied-apply-requires
 name_applied-apply-requires t c = (omega (arith, c.decreases), tt)
 
 pub name_applied-with_args-requires : goal.name_applied-with_args-requires
 name_applied-with_args-requires t c = (omega (arith, c.decreases), tt)
 
-pub name_applied-library-requires : goal.name_applied-library-requires
-name_applied-library-requires t c = (omega (arith, c.decreases), tt)
+pub name_applied-with_args-requires-in-Plain : goal.name_applied-with_args-requires-in-Plain
+name_applied-with_args-requires-in-Plain t c = (omega (arith, c.decreases), tt)
 
-pub library-with_args-requires : goal.library-with_args-requires
-library-with_args-requires t c = (omega (arith, c.decreases), tt)
+pub name_applied-returns-then-args-ne2 : goal.name_applied-returns-then-args-ne2
+name_applied-returns-then-args-ne2 t c =
+    let meant : option_map meaning_of c.in_ok-meaning.field-0 ≡ Some (library (scan c.in-Scan.text)) = search rules in
+    is_fault _ _ (NotApplicable c.args.line) refl (ap (λ m. name_applied (names_of c.args.self.now.scope) c.args.line c.args.name_line m (phrases_in c.args.args.now) (checkers (phrases_in c.args.args.now))) (sym c.in_ok-meaning.ensures ∙ meant) ∙ not_two (names_of c.args.self.now.scope) c.args.line c.in-Scan.text c.args.args.now c.if-args-ne2.true)
 
-pub library-scan-requires : goal.library-scan-requires
-library-scan-requires t c = (omega (arith, c.decreases), tt)
+pub name_applied-returns-else-args-ne2 : goal.name_applied-returns-else-args-ne2
+name_applied-returns-else-args-ne2 t c =
+    let meant : option_map meaning_of c.in_ok-meaning.field-0 ≡ Some (library (scan c.in-Scan.text)) = search rules in
+    leads _ _ _ _ (ap (λ m. name_applied (names_of c.args.self.now.scope) c.args.line c.args.name_line m (phrases_in c.args.args.now) (checkers (phrases_in c.args.args.now))) (sym c.in_ok-meaning.ensures ∙ meant) ∙ ap (λ as_. scan_applied (names_of c.args.self.now.scope) c.args.line c.in-Scan.text (checkers (phrases_in as_))) (two_of _ _ _ c.if-args-ne2.false c.index-args-0.is c.index-args-1.is)) c.double.ensures
+
+pub name_applied-double-requires : goal.name_applied-double-requires
+name_applied-double-requires t c =
+    let light : weight_all (phrases_in c.args.args.now) ≡ weight (phrase_of c.index-args-0.result) + (weight (phrase_of c.index-args-1.result) + 0) = ap (λ as_. weight_all (phrases_in as_)) (two_of _ _ _ c.if-args-ne2.false c.index-args-0.is c.index-args-1.is) in
+    (omega (arith, c.decreases, light), tt)
 
 pub apply-returns-in-Proc : goal.apply-returns-in-Proc
 apply-returns-in-Proc t c =
@@ -755,61 +744,92 @@ apply-returns-in-Proc t c =
     ∙ ap (λ ps. with_args (names_of c.args.self.now.scope) c.args.line (ty_views ps) cs (λ args. node.Call (node_of c.args.f.tree) args c.args.line) (ty_view c.in-Proc.signature.value.gives)) (sym c.as_slice-parameters.ensures)
     ∙ ap (λ (s : Signature). with_args (names_of c.args.self.now.scope) c.args.line (ty_views c.as_slice-parameters.result.now) cs (λ args. node.Call (node_of c.args.f.tree) args c.args.line) (ty_view s.gives)) (sym c.deref-in-Proc.ensures)) c.with_args.ensures
 
-pub apply-returns-else-is_empty : goal.apply-returns-else-is_empty
-apply-returns-else-is_empty t c =
-    leads _ _ _ _ (ap (λ t. value_applied (names_of c.args.self.now.scope) c.args.line (node_of c.args.f.tree) t (phrases_in c.args.args.now) (checkers (phrases_in c.args.args.now))) (ap ty_view c.in-Vector.is)
-    ∙ some_subscripts (names_of c.args.self.now.scope) c.args.line (node_of c.args.f.tree) _ c.args.args.now _ c.is_empty.ensures c.if-is_empty.false
-    ∙ ap (λ t. elements (names_of c.args.self.now.scope) c.args.line (node_of c.args.f.tree) t (checkers (phrases_in c.args.args.now))) (sym (ap ty_view c.in-Vector.is))) c.subscripts.ensures
-
 pub apply-with_args-requires : goal.apply-with_args-requires
 apply-with_args-requires t c = (omega (arith, c.decreases), tt)
 
-pub apply-subscripts-requires : goal.apply-subscripts-requires
-apply-subscripts-requires t c = (omega (arith, c.decreases), tt)
-
-pub with_args-returns-then-types-args : goal.with_args-returns-then-types-args
-with_args-returns-then-types-args t c = is_fault _ _ (NotApplicable c.args.line) refl (other_number (names_of c.args.self.now.scope) c.args.line c.args.types.now c.args.args.now (head_node c.args.head c.args.line) (ty_view c.args.gives.now) c.if-types-args.true)
-
-pub with_args-returns-in_err-args : goal.with_args-returns-in_err-args
-with_args-returns-in_err-args t c = exits c.from_residual.result _ c.in_err-args.field-0.0 _ c.from_residual.ensures.1 (fails_as _ _ _ (same_number (names_of c.args.self.now.scope) c.args.line c.args.types.now c.args.args.now (head_node c.args.head c.args.line) (ty_view c.args.gives.now) c.if-types-args.false) (fails_first _ _ _ c.in_err-args.ensures))
-
-pub with_args-returns : goal.with_args-returns
-with_args-returns t c = made _ _ _ _ c.clause.result (same_number (names_of c.args.self.now.scope) c.args.line c.args.types.now c.args.args.now (head_node c.args.head c.args.line) (ty_view c.args.gives.now) c.if-types-args.false ∙ given _ _ _ _ _ c.in_ok-args.ensures.1) (remade_both _ _ _ _ c.clause.result refl c.in_ok-copy.ensures c.clause.ensures)
-
-pub with_args-arguments-requires : goal.with_args-arguments-requires
-with_args-arguments-requires t c = (omega (arith, c.decreases), c.if-types-args.false)
-
-pub subscripts-returns-in_err-element : goal.subscripts-returns-in_err-element
-subscripts-returns-in_err-element t c =
-    let below = c.loop-arg-test.true in
-    let cut = phrases_from c.args.args.now c.loop-arg.arg-index c.arg-item.result below c.arg-item.is in
-    exits c.from_residual.result _ c.in_err-element.field-0.0 _ c.from_residual.ensures.1 (fails_as _ _ _ (sym c.loop-arg.invariant ∙ ap (λ ps. elements (names_of c.loop-arg.self.scope) c.args.line (node_of c.loop-arg.v.tree) (ty_view c.loop-arg.v.ty) (checkers ps)) cut ∙ elements_are _ _ _ _ _ _) (fails_first _ _ _ (c.in_err-element.ensures (names_of c.loop-arg.self.scope) (phrase_of c.arg-item.result))))
-
-pub subscripts-returns-in_err-v : goal.subscripts-returns-in_err-v
-subscripts-returns-in_err-v t c =
-    let below = c.loop-arg-test.true in
-    let cut = phrases_from c.args.args.now c.loop-arg.arg-index c.arg-item.result below c.arg-item.is in
-    exits c.from_residual-in_err-v.result _ c.in_err-v.field-0.0 _ c.from_residual-in_err-v.ensures.1 (fails_as _ _ _ (sym c.loop-arg.invariant ∙ ap (λ ps. elements (names_of c.loop-arg.self.scope) c.args.line (node_of c.loop-arg.v.tree) (ty_view c.loop-arg.v.ty) (checkers ps)) cut ∙ elements_are _ _ _ _ _ _) (fails_first _ _ _ (fails_as _ _ _ (c.in_ok-element.ensures (names_of c.loop-arg.self.scope) (phrase_of c.arg-item.result)) c.in_err-v.ensures)))
-
-pub subscripts-loop-arg-preserved : goal.subscripts-loop-arg-preserved
-subscripts-loop-arg-preserved t c =
-    let below = c.loop-arg-test.true in
-    let cut = phrases_from c.args.args.now c.loop-arg.arg-index c.arg-item.result below c.arg-item.is in
-    sym (ap (λ ps. elements (names_of c.loop-arg.self.scope) c.args.line (node_of c.loop-arg.v.tree) (ty_view c.loop-arg.v.ty) (checkers ps)) cut ∙ elements_are _ _ _ _ _ _ ∙ given _ _ _ _ _ (c.in_ok-element.ensures (names_of c.loop-arg.self.scope) (phrase_of c.arg-item.result) ∙ c.in_ok-v.ensures)) ∙ c.loop-arg.invariant
-
-pub subscripts-single-requires : goal.subscripts-single-requires
-subscripts-single-requires t c =
+pub apply-single-requires : goal.apply-single-requires
+apply-single-requires t c =
     let below = c.loop-arg-test.true in
     let light : weight (phrase_of c.arg-item.result) ≤ weight_all (phrases_in c.args.args.now) = subst (λ r. weight (phrase_of r) ≤ weight_all (phrases_in c.args.args.now)) (sym c.arg-item.is) (weight_at c.args.args.now c.loop-arg.arg-index _ below) in
     (omega (arith, c.decreases, light), tt)
 
-pub scan-returns-then-args-ne2 : goal.scan-returns-then-args-ne2
-scan-returns-then-args-ne2 t c = is_fault _ _ (NotApplicable c.args.line) refl (not_two (names_of c.args.self.now.scope) c.args.line c.args.text c.args.args.now c.if-args-ne2.true)
+pub apply-returns-in_err-element-in-Vector : goal.apply-returns-in_err-element-in-Vector
+apply-returns-in_err-element-in-Vector t c =
+    let below = c.loop-arg-test.true in
+    let cut = phrases_from c.args.args.now c.loop-arg.arg-index c.arg-item.result below c.arg-item.is in
+    exits c.from_residual.result _ c.in_err-element-in-Vector.field-0.0 _ c.from_residual.ensures.1 (fails_as _ _ _ (ap (λ t. value_applied (names_of c.args.self.now.scope) c.args.line (node_of c.args.f.tree) t (phrases_in c.args.args.now) (checkers (phrases_in c.args.args.now))) (ap ty_view c.in-Vector.is) ∙ some_subscripts (names_of c.args.self.now.scope) c.args.line (node_of c.args.f.tree) _ c.args.args.now _ c.is_empty.ensures c.if-is_empty.false ∙ ap (λ t. elements (names_of c.args.self.now.scope) c.args.line (node_of c.args.f.tree) t (checkers (phrases_in c.args.args.now))) (sym (ap ty_view c.in-Vector.is)) ∙ sym c.loop-arg.invariant ∙ ap (λ ps. elements (names_of c.loop-arg.self.scope) c.args.line (node_of c.loop-arg.v.tree) (ty_view c.loop-arg.v.ty) (checkers ps)) cut ∙ elements_are _ _ _ _ _ _) (fails_first _ _ _ (c.in_err-element-in-Vector.ensures (names_of c.loop-arg.self.scope) (phrase_of c.arg-item.result))))
 
-pub scan-returns : goal.scan-returns
-scan-returns t c = leads _ _ _ _ (ap (λ as_. scan_applied (names_of c.args.self.now.scope) c.args.line c.args.text (checkers (phrases_in as_))) (two_of _ _ _ c.if-args-ne2.false c.index-args-0.is c.index-args-1.is)) c.double.ensures
+pub apply-returns-in_err-v-in-Vector : goal.apply-returns-in_err-v-in-Vector
+apply-returns-in_err-v-in-Vector t c =
+    let below = c.loop-arg-test.true in
+    let cut = phrases_from c.args.args.now c.loop-arg.arg-index c.arg-item.result below c.arg-item.is in
+    exits c.from_residual-in_err-v-in-Vector.result _ c.in_err-v-in-Vector.field-0.0 _ c.from_residual-in_err-v-in-Vector.ensures.1 (fails_as _ _ _ (ap (λ t. value_applied (names_of c.args.self.now.scope) c.args.line (node_of c.args.f.tree) t (phrases_in c.args.args.now) (checkers (phrases_in c.args.args.now))) (ap ty_view c.in-Vector.is) ∙ some_subscripts (names_of c.args.self.now.scope) c.args.line (node_of c.args.f.tree) _ c.args.args.now _ c.is_empty.ensures c.if-is_empty.false ∙ ap (λ t. elements (names_of c.args.self.now.scope) c.args.line (node_of c.args.f.tree) t (checkers (phrases_in c.args.args.now))) (sym (ap ty_view c.in-Vector.is)) ∙ sym c.loop-arg.invariant ∙ ap (λ ps. elements (names_of c.loop-arg.self.scope) c.args.line (node_of c.loop-arg.v.tree) (ty_view c.loop-arg.v.ty) (checkers ps)) cut ∙ elements_are _ _ _ _ _ _) (fails_first _ _ _ (fails_as _ _ _ (c.in_ok-element-in-Vector.ensures (names_of c.loop-arg.self.scope) (phrase_of c.arg-item.result)) c.in_err-v-in-Vector.ensures)))
 
-pub scan-double-requires : goal.scan-double-requires
-scan-double-requires t c =
-    let light : weight_all (phrases_in c.args.args.now) ≡ weight (phrase_of c.index-args-0.result) + (weight (phrase_of c.index-args-1.result) + 0) = ap (λ as_. weight_all (phrases_in as_)) (two_of _ _ _ c.if-args-ne2.false c.index-args-0.is c.index-args-1.is) in
+pub apply-loop-arg-init : goal.apply-loop-arg-init
+apply-loop-arg-init t c = refl
+
+pub apply-loop-arg-smaller : goal.apply-loop-arg-smaller
+apply-loop-arg-smaller t c =
+    let below = c.loop-arg-test.true in
+    omega (arith, below)
+
+pub apply-loop-arg-preserved : goal.apply-loop-arg-preserved
+apply-loop-arg-preserved t c =
+    let below = c.loop-arg-test.true in
+    let cut = phrases_from c.args.args.now c.loop-arg.arg-index c.arg-item.result below c.arg-item.is in
+    sym (ap (λ ps. elements (names_of c.loop-arg.self.scope) c.args.line (node_of c.loop-arg.v.tree) (ty_view c.loop-arg.v.ty) (checkers ps)) cut ∙ elements_are _ _ _ _ _ _ ∙ given _ _ _ _ _ (c.in_ok-element-in-Vector.ensures (names_of c.loop-arg.self.scope) (phrase_of c.arg-item.result) ∙ c.in_ok-v-in-Vector.ensures)) ∙ c.loop-arg.invariant
+
+pub apply-returns-after-loop-arg : goal.apply-returns-after-loop-arg
+apply-returns-after-loop-arg t c =
+    let past : length c.args.args.now ≤ c.loop-arg.arg-index = search rules in
+    ap (λ t. value_applied (names_of c.args.self.now.scope) c.args.line (node_of c.args.f.tree) t (phrases_in c.args.args.now) (checkers (phrases_in c.args.args.now))) (ap ty_view c.in-Vector.is) ∙ some_subscripts (names_of c.args.self.now.scope) c.args.line (node_of c.args.f.tree) _ c.args.args.now _ c.is_empty.ensures c.if-is_empty.false ∙ ap (λ t. elements (names_of c.args.self.now.scope) c.args.line (node_of c.args.f.tree) t (checkers (phrases_in c.args.args.now))) (sym (ap ty_view c.in-Vector.is)) ∙ sym c.loop-arg.invariant ∙ ap (λ ps. elements (names_of c.loop-arg.self.scope) c.args.line (node_of c.loop-arg.v.tree) (ty_view c.loop-arg.v.ty) (checkers ps)) (phrases_behind c.args.args.now c.loop-arg.arg-index past)
+
+pub with_args-returns-then-types-args : goal.with_args-returns-then-types-args
+with_args-returns-then-types-args t c = is_fault _ _ (NotApplicable c.args.line) refl (other_number (names_of c.args.self.now.scope) c.args.line c.args.types.now c.args.args.now (head_node c.args.head c.args.line) (ty_view c.args.gives.now) c.if-types-args.true)
+
+pub with_args-loop-i-init : goal.with_args-loop-i-init
+with_args-loop-i-init t c = ap (λ ts. after (after_nodes ts) (check_args (names_of c.args.self.now.scope) (ty_views c.args.types.now) (checkers (phrases_in c.args.args.now)))) c.new-trees.ensures.items ∙ after_nothing _ _ (λ ts. refl)
+
+pub with_args-loop-i-smaller : goal.with_args-loop-i-smaller
+with_args-loop-i-smaller t c =
+    let below = c.loop-i-test.true in
+    omega (arith, below)
+
+pub with_args-clause-requires : goal.with_args-clause-requires
+with_args-clause-requires t c =
+    let below = c.loop-i-test.true in
+    let light : weight (phrase_of c.index-args-i.result) ≤ weight_all (phrases_in c.args.args.now) = subst (λ r. weight (phrase_of r) ≤ weight_all (phrases_in c.args.args.now)) (sym c.index-args-i.is) (weight_at c.args.args.now c.loop-i.i _ below) in
     (omega (arith, c.decreases, light), tt)
+
+pub with_args-returns-in_err-clause : goal.with_args-returns-in_err-clause
+with_args-returns-in_err-clause t c =
+    let below = c.loop-i-test.true in
+    let below_types : c.loop-i.i < length c.args.types.now = let same = c.if-types-args.false in omega (arith, below, same) in
+    let cut = phrases_from c.args.args.now c.loop-i.i c.index-args-i.result below c.index-args-i.is in
+    let types_cut = types_from c.args.types.now c.loop-i.i c.index-types-i.result below_types c.index-types-i.is in
+    let one = ap (λ ps. check_args (names_of c.loop-i.self.scope) (ty_views (drop c.loop-i.i c.args.types.now)) (checkers ps)) cut ∙ ap (λ ts. check_args (names_of c.loop-i.self.scope) ts (checkers (form.more (phrase_of c.index-args-i.result) (phrases_in (drop (c.loop-i.i + 1) c.args.args.now))))) types_cut in
+    exits c.from_residual.result _ c.in_err-clause.field-0.0 _ c.from_residual.ensures.1 (fails_as _ _ _ (same_number (names_of c.args.self.now.scope) c.args.line c.args.types.now c.args.args.now (head_node c.args.head c.args.line) (ty_view c.args.gives.now) c.if-types-args.false) (fails_first _ _ _ (fails_after _ _ _ _ c.loop-i.invariant (fails_as _ _ _ one (fails_first _ _ _ (fails_test _ _ _ _ _ c.in_err-clause.ensures))))))
+
+pub with_args-returns-in_err-tree : goal.with_args-returns-in_err-tree
+with_args-returns-in_err-tree t c =
+    let below = c.loop-i-test.true in
+    let below_types : c.loop-i.i < length c.args.types.now = let same = c.if-types-args.false in omega (arith, below, same) in
+    let cut = phrases_from c.args.args.now c.loop-i.i c.index-args-i.result below c.index-args-i.is in
+    let types_cut = types_from c.args.types.now c.loop-i.i c.index-types-i.result below_types c.index-types-i.is in
+    let one = ap (λ ps. check_args (names_of c.loop-i.self.scope) (ty_views (drop c.loop-i.i c.args.types.now)) (checkers ps)) cut ∙ ap (λ ts. check_args (names_of c.loop-i.self.scope) ts (checkers (form.more (phrase_of c.index-args-i.result) (phrases_in (drop (c.loop-i.i + 1) c.args.args.now))))) types_cut in
+    exits c.from_residual-in_err-tree.result _ c.in_err-tree.field-0.0 _ c.from_residual-in_err-tree.ensures.1 (fails_as _ _ _ (same_number (names_of c.args.self.now.scope) c.args.line c.args.types.now c.args.args.now (head_node c.args.head c.args.line) (ty_view c.args.gives.now) c.if-types-args.false) (fails_first _ _ _ (fails_after _ _ _ _ c.loop-i.invariant (fails_as _ _ _ one (fails_first _ _ _ (fails_as _ _ _ (ap (wants (ty_view c.index-types-i.result) c.index-args-i.result.line) c.in_ok-clause.ensures) (c.in_err-tree.ensures c.clause.new.self.scope)))))))
+
+pub with_args-loop-i-preserved : goal.with_args-loop-i-preserved
+with_args-loop-i-preserved t c =
+    let below = c.loop-i-test.true in
+    let below_types : c.loop-i.i < length c.args.types.now = let same = c.if-types-args.false in omega (arith, below, same) in
+    let cut = phrases_from c.args.args.now c.loop-i.i c.index-args-i.result below c.index-args-i.is in
+    let types_cut = types_from c.args.types.now c.loop-i.i c.index-types-i.result below_types c.index-types-i.is in
+    let one = ap (λ ps. check_args (names_of c.loop-i.self.scope) (ty_views (drop c.loop-i.i c.args.types.now)) (checkers ps)) cut ∙ ap (λ ts. check_args (names_of c.loop-i.self.scope) ts (checkers (form.more (phrase_of c.index-args-i.result) (phrases_in (drop (c.loop-i.i + 1) c.args.args.now))))) types_cut in
+    pushed c.loop-i.trees.items _ c.in_ok-tree.tree _ _ _ c.in_ok-push.ensures.items (one ∙ args_step _ _ (ty_view c.index-types-i.result) _ (ty_views (drop (c.loop-i.i + 1) c.args.types.now)) _ (phrase_of c.index-args-i.result) (phrases_in (drop (c.loop-i.i + 1) c.args.args.now)) (ap (wants (ty_view c.index-types-i.result) c.index-args-i.result.line) c.in_ok-clause.ensures ∙ c.in_ok-tree.ensures c.clause.new.self.scope)) c.loop-i.invariant
+
+pub with_args-returns : goal.with_args-returns
+with_args-returns t c =
+    let past : length c.args.args.now ≤ c.loop-i.i = search rules in
+    let all = finished c.loop-i.trees.items _ _ _ _ (ap (λ ps. check_args (names_of c.loop-i.self.scope) (ty_views (drop c.loop-i.i c.args.types.now)) (checkers ps)) (phrases_behind c.args.args.now c.loop-i.i past) ∙ no_args _ _) c.loop-i.invariant in
+    made _ _ _ _ c.clause-2.result (same_number (names_of c.args.self.now.scope) c.args.line c.args.types.now c.args.args.now (head_node c.args.head c.args.line) (ty_view c.args.gives.now) c.if-types-args.false ∙ given _ _ _ _ _ all) (remade_both _ _ _ _ c.clause-2.result refl c.in_ok-copy.ensures c.clause-2.ensures)
