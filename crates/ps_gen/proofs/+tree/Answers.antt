@@ -1,6 +1,8 @@
 -- What the functions of the cycle put.
 use Rattle.std.proofs.Common.{rules, ◌≡◌, ◌+◌, List, [], ◌∷◌, OnOk, length, length-append, drop, ap, sym, refl, subst, ◌∙◌, arith}
 use Rattle.std.proofs.lemmas.List.{drop_all}
+use Rattle.std.proofs.lemmas.Result.{IfOk-from_err}
+use borrow.Author.Count.{falls}
 use Rattle.std.specs.Borrow.{Bor}
 use Rattle.std.specs.Prelude.{option_map}
 use Rattle.std.specs.Rc.{rc_value}
@@ -11,7 +13,10 @@ use Rattle.ps_base.specs.TyView.{ty_view}
 use Rattle.ps_base.specs.declared.instr.Instr.TheVariants as instr
 use Rattle.ps_program.specs.declared.form.Tree.{Tree}
 use Rattle.ps_program.specs.declared.form.Arm.{out-Arm}
-use Rattle.ps_program.specs.NodeView.{node_of, node_of_form, nodes_in, params_of}
+use Rattle.ps_program.specs.declared.form.Loop.{Loop}
+use Rattle.ps_program.specs.declared.body.Body.{Body}
+use Rattle.ps_program.specs.Node as node
+use Rattle.ps_program.specs.NodeView.{node_of, node_of_form, nodes_in, params_of, body_of}
 use Rattle.ps_program.specs.inside.PartsView.{arms_in}
 use Rattle.ps_program.specs.inside.Weights.{weight, weight_all}
 use Rattle.ps_program.proofs.NodeLists.{block_is, make_is, lib_is, elems_is, call_is, case_is}
@@ -19,7 +24,8 @@ use Rattle.ps_program.proofs.NodeSteps.{nodes_from, arms_from, weight_at, weight
 use Rattle.ps_type_text.specs.Texts.{type_text}
 use Rattle.ps_gen.specs.Emission.{size}
 use Rattle.ps_emitter.specs.Pieces.{state_of, Puts, Opens, ◌▷◌, one, to_behind, Left, LeftOpen}
-use Rattle.ps_gen.specs.inside.Clauses.{clause, clauses, labels_of, arms_of, arm_of, made, behind_of}
+use Rattle.ps_gen.specs.inside.Clauses.{closing, clause, clauses, labels_of, arms_of, arm_of, made, behind_of}
+use Rattle.ps_emitter.specs.Choices as choice
 use Rattle.ps_emitter.specs.Instructions.{naming, jump_of}
 use Rattle.ps_emitter.specs.Chains.{type_in, Chained}
 use Rattle.ps_gen.proofs.Laws.{more_clauses, no_clauses, more_labels, no_labels, more_arms_is, no_arms_is}
@@ -633,3 +639,329 @@ pub tree::form-returns-in-Abort : goal.tree::form-returns-in-Abort
 tree::form-returns-in-Abort t c =
     subst (λ f. OnOk c.put-in-Abort.result (Puts (made (node_of_form f)) (state_of c.args.emitter.now) (state_of c.put-in-Abort.new.self))) (sym c.in-Abort.is ∙ c.deref.ensures)
     c.put-in-Abort.ensures
+
+-- the exits of `?`
+
+pub cases::arm_labels-returns-in_err-holes : goal.cases::arm_labels-returns-in_err-holes
+cases::arm_labels-returns-in_err-holes t c = IfOk-from_err _ _ c.from_residual.ensures.0
+
+pub cases::arm_labels-returns-in_err-past : goal.cases::arm_labels-returns-in_err-past
+cases::arm_labels-returns-in_err-past t c = IfOk-from_err _ _ c.from_residual-in_err-past.ensures.0
+
+pub cases::arm_labels-returns-in_err-chosen : goal.cases::arm_labels-returns-in_err-chosen
+cases::arm_labels-returns-in_err-chosen t c = IfOk-from_err _ _ c.from_residual-in_err-chosen.ensures.0
+
+pub cases::arm_labels-returns-in_err-fill : goal.cases::arm_labels-returns-in_err-fill
+cases::arm_labels-returns-in_err-fill t c = IfOk-from_err _ _ c.from_residual-in_err-fill.ensures.0
+
+pub cases::case-returns-in_err-tree : goal.cases::case-returns-in_err-tree
+cases::case-returns-in_err-tree t c = IfOk-from_err _ _ c.from_residual.ensures.0
+
+pub cases::case-returns-in_err-ends : goal.cases::case-returns-in_err-ends
+cases::case-returns-in_err-ends t c = IfOk-from_err _ _ c.from_residual-in_err-ends.ensures.0
+
+pub cases::case-returns-in_err-put : goal.cases::case-returns-in_err-put
+cases::case-returns-in_err-put t c = IfOk-from_err _ _ c.from_residual-in_err-put.ensures.0
+
+pub cases::case-returns-in_err-tree-2 : goal.cases::case-returns-in_err-tree-2
+cases::case-returns-in_err-tree-2 t c = IfOk-from_err _ _ c.from_residual-in_err-tree-2.ensures.0
+
+pub cases::case-returns-in_err-end : goal.cases::case-returns-in_err-end
+cases::case-returns-in_err-end t c = IfOk-from_err _ _ c.from_residual-in_err-end.ensures.0
+
+pub cases::put_arm-returns-in_err-past : goal.cases::put_arm-returns-in_err-past
+cases::put_arm-returns-in_err-past t c = IfOk-from_err _ _ c.from_residual.ensures.0
+
+pub cases::put_arm-returns-in_err-put : goal.cases::put_arm-returns-in_err-put
+cases::put_arm-returns-in_err-put t c = IfOk-from_err _ _ c.from_residual-in_err-put.ensures.0
+
+pub cases::put_arm-returns-in_err-tree : goal.cases::put_arm-returns-in_err-tree
+cases::put_arm-returns-in_err-tree t c = IfOk-from_err _ _ c.from_residual-in_err-tree.ensures.0
+
+pub cases::put_arm-returns-in_err-out : goal.cases::put_arm-returns-in_err-out
+cases::put_arm-returns-in_err-out t c = IfOk-from_err _ _ c.from_residual-in_err-out.ensures.0
+
+pub cases::put_arm-returns-in_err-next : goal.cases::put_arm-returns-in_err-next
+cases::put_arm-returns-in_err-next t c = IfOk-from_err _ _ c.from_residual-in_err-next.ensures.0
+
+pub cases::put_arm-returns-in_err-overwrite : goal.cases::put_arm-returns-in_err-overwrite
+cases::put_arm-returns-in_err-overwrite t c = IfOk-from_err _ _ c.from_residual-in_err-overwrite.ensures.0
+
+pub cases::put_arms-returns-in_err-end : goal.cases::put_arms-returns-in_err-end
+cases::put_arms-returns-in_err-end t c = IfOk-from_err _ _ c.from_residual.ensures.0
+
+pub cases::put_arms-returns-in_err-push : goal.cases::put_arms-returns-in_err-push
+cases::put_arms-returns-in_err-push t c = IfOk-from_err _ _ c.from_residual-in_err-push.ensures.0
+
+pub cases::put_label-returns-in_err-put : goal.cases::put_label-returns-in_err-put
+cases::put_label-returns-in_err-put t c = IfOk-from_err _ _ c.from_residual.ensures.0
+
+pub cases::put_label-returns-in_err-tree : goal.cases::put_label-returns-in_err-tree
+cases::put_label-returns-in_err-tree t c = IfOk-from_err _ _ c.from_residual-in_err-tree.ensures.0
+
+pub cases::put_label-returns-in_err-put-2 : goal.cases::put_label-returns-in_err-put-2
+cases::put_label-returns-in_err-put-2 t c = IfOk-from_err _ _ c.from_residual-in_err-put-2.ensures.0
+
+pub cases::put_labels-returns-in_err-hole : goal.cases::put_labels-returns-in_err-hole
+cases::put_labels-returns-in_err-hole t c = IfOk-from_err _ _ c.from_residual.ensures.0
+
+pub cases::put_labels-returns-in_err-push : goal.cases::put_labels-returns-in_err-push
+cases::put_labels-returns-in_err-push t c = IfOk-from_err _ _ c.from_residual-in_err-push.ensures.0
+
+pub jumps::block-returns-in_err-enter : goal.jumps::block-returns-in_err-enter
+jumps::block-returns-in_err-enter t c = IfOk-from_err _ _ c.from_residual.ensures.0
+
+pub jumps::block-returns-in_err-all : goal.jumps::block-returns-in_err-all
+jumps::block-returns-in_err-all t c = IfOk-from_err _ _ c.from_residual-in_err-all.ensures.0
+
+pub jumps::for_loop-returns-in_err-limit : goal.jumps::for_loop-returns-in_err-limit
+jumps::for_loop-returns-in_err-limit t c = IfOk-from_err _ _ c.from_residual.ensures.0
+
+pub jumps::for_loop-returns-in_err-step : goal.jumps::for_loop-returns-in_err-step
+jumps::for_loop-returns-in_err-step t c = IfOk-from_err _ _ c.from_residual-in_err-step.ensures.0
+
+pub jumps::for_loop-returns-in_err-take : goal.jumps::for_loop-returns-in_err-take
+jumps::for_loop-returns-in_err-take t c = IfOk-from_err _ _ c.from_residual-in_err-take.ensures.0
+
+pub jumps::for_loop-returns-in_err-take_place : goal.jumps::for_loop-returns-in_err-take_place
+jumps::for_loop-returns-in_err-take_place t c = IfOk-from_err _ _ c.from_residual-in_err-take_place.ensures.0
+
+pub jumps::for_loop-returns-in_err-one_then : goal.jumps::for_loop-returns-in_err-one_then
+jumps::for_loop-returns-in_err-one_then t c = IfOk-from_err _ _ c.from_residual-in_err-one_then.ensures.0
+
+pub jumps::for_loop-returns-in_err-one_then-2 : goal.jumps::for_loop-returns-in_err-one_then-2
+jumps::for_loop-returns-in_err-one_then-2 t c = IfOk-from_err _ _ c.from_residual-in_err-one_then-2.ensures.0
+
+pub jumps::for_loop-returns-in_err-one_then-3 : goal.jumps::for_loop-returns-in_err-one_then-3
+jumps::for_loop-returns-in_err-one_then-3 t c = IfOk-from_err _ _ c.from_residual-in_err-one_then-3.ensures.0
+
+pub jumps::for_turns-returns-in_err-here : goal.jumps::for_turns-returns-in_err-here
+jumps::for_turns-returns-in_err-here t c = IfOk-from_err _ _ c.from_residual.ensures.0
+
+pub jumps::for_turns-returns-in_err-turn : goal.jumps::for_turns-returns-in_err-turn
+jumps::for_turns-returns-in_err-turn t c = IfOk-from_err _ _ c.from_residual-in_err-turn.ensures.0
+
+pub jumps::for_turns-returns-in_err-hole : goal.jumps::for_turns-returns-in_err-hole
+jumps::for_turns-returns-in_err-hole t c = IfOk-from_err _ _ c.from_residual-in_err-hole.ensures.0
+
+pub jumps::for_turns-returns-in_err-enter : goal.jumps::for_turns-returns-in_err-enter
+jumps::for_turns-returns-in_err-enter t c = IfOk-from_err _ _ c.from_residual-in_err-enter.ensures.0
+
+pub jumps::for_turns-returns-in_err-put : goal.jumps::for_turns-returns-in_err-put
+jumps::for_turns-returns-in_err-put t c = IfOk-from_err _ _ c.from_residual-in_err-put.ensures.0
+
+pub jumps::for_turns-returns-in_err-put-2 : goal.jumps::for_turns-returns-in_err-put-2
+jumps::for_turns-returns-in_err-put-2 t c = IfOk-from_err _ _ c.from_residual-in_err-put-2.ensures.0
+
+pub jumps::for_turns-returns-in_err-tree : goal.jumps::for_turns-returns-in_err-tree
+jumps::for_turns-returns-in_err-tree t c = IfOk-from_err _ _ c.from_residual-in_err-tree.ensures.0
+
+pub jumps::for_turns-returns-in_err-leave : goal.jumps::for_turns-returns-in_err-leave
+jumps::for_turns-returns-in_err-leave t c = IfOk-from_err _ _ c.from_residual-in_err-leave.ensures.0
+
+pub jumps::for_turns-returns-in_err-put-3 : goal.jumps::for_turns-returns-in_err-put-3
+jumps::for_turns-returns-in_err-put-3 t c = IfOk-from_err _ _ c.from_residual-in_err-put-3.ensures.0
+
+pub jumps::for_turns-returns-in_err-end : goal.jumps::for_turns-returns-in_err-end
+jumps::for_turns-returns-in_err-end t c = IfOk-from_err _ _ c.from_residual-in_err-end.ensures.0
+
+pub jumps::if_do-returns-in_err-tree : goal.jumps::if_do-returns-in_err-tree
+jumps::if_do-returns-in_err-tree t c = IfOk-from_err _ _ c.from_residual.ensures.0
+
+pub jumps::if_else-returns-in_err-tree : goal.jumps::if_else-returns-in_err-tree
+jumps::if_else-returns-in_err-tree t c = IfOk-from_err _ _ c.from_residual.ensures.0
+
+pub jumps::if_else-returns-in_err-out : goal.jumps::if_else-returns-in_err-out
+jumps::if_else-returns-in_err-out t c = IfOk-from_err _ _ c.from_residual-in_err-out.ensures.0
+
+pub jumps::if_else-returns-in_err-tree-2 : goal.jumps::if_else-returns-in_err-tree-2
+jumps::if_else-returns-in_err-tree-2 t c = IfOk-from_err _ _ c.from_residual-in_err-tree-2.ensures.0
+
+pub jumps::if_else-returns-in_err-end : goal.jumps::if_else-returns-in_err-end
+jumps::if_else-returns-in_err-end t c = IfOk-from_err _ _ c.from_residual-in_err-end.ensures.0
+
+pub jumps::jump_over-returns-in_err-hole : goal.jumps::jump_over-returns-in_err-hole
+jumps::jump_over-returns-in_err-hole t c = IfOk-from_err _ _ c.from_residual.ensures.0
+
+pub jumps::jump_over-returns-in_err-tree : goal.jumps::jump_over-returns-in_err-tree
+jumps::jump_over-returns-in_err-tree t c = IfOk-from_err _ _ c.from_residual-in_err-tree.ensures.0
+
+pub jumps::jump_over-returns-in_err-end : goal.jumps::jump_over-returns-in_err-end
+jumps::jump_over-returns-in_err-end t c = IfOk-from_err _ _ c.from_residual-in_err-end.ensures.0
+
+pub jumps::repeat_loop-returns-in_err-here : goal.jumps::repeat_loop-returns-in_err-here
+jumps::repeat_loop-returns-in_err-here t c = IfOk-from_err _ _ c.from_residual.ensures.0
+
+pub jumps::repeat_loop-returns-in_err-between : goal.jumps::repeat_loop-returns-in_err-between
+jumps::repeat_loop-returns-in_err-between t c = IfOk-from_err _ _ c.from_residual-in_err-between.ensures.0
+
+pub jumps::repeat_loop-returns-in_err-jump_over : goal.jumps::repeat_loop-returns-in_err-jump_over
+jumps::repeat_loop-returns-in_err-jump_over t c = IfOk-from_err _ _ c.from_residual-in_err-jump_over.ensures.0
+
+pub jumps::then_out-returns-in_err-test : goal.jumps::then_out-returns-in_err-test
+jumps::then_out-returns-in_err-test t c = IfOk-from_err _ _ c.from_residual.ensures.0
+
+pub jumps::then_out-returns-in_err-tree : goal.jumps::then_out-returns-in_err-tree
+jumps::then_out-returns-in_err-tree t c = IfOk-from_err _ _ c.from_residual-in_err-tree.ensures.0
+
+pub jumps::then_out-returns-in_err-out : goal.jumps::then_out-returns-in_err-out
+jumps::then_out-returns-in_err-out t c = IfOk-from_err _ _ c.from_residual-in_err-out.ensures.0
+
+pub jumps::then_out-returns-in_err-other : goal.jumps::then_out-returns-in_err-other
+jumps::then_out-returns-in_err-other t c = IfOk-from_err _ _ c.from_residual-in_err-other.ensures.0
+
+pub jumps::then_out-returns-in_err-overwrite : goal.jumps::then_out-returns-in_err-overwrite
+jumps::then_out-returns-in_err-overwrite t c = IfOk-from_err _ _ c.from_residual-in_err-overwrite.ensures.0
+
+pub jumps::while_loop-returns-in_err-here : goal.jumps::while_loop-returns-in_err-here
+jumps::while_loop-returns-in_err-here t c = IfOk-from_err _ _ c.from_residual.ensures.0
+
+pub jumps::while_loop-returns-in_err-clause : goal.jumps::while_loop-returns-in_err-clause
+jumps::while_loop-returns-in_err-clause t c = IfOk-from_err _ _ c.from_residual-in_err-clause.ensures.0
+
+pub jumps::while_loop-returns-in_err-jump_over : goal.jumps::while_loop-returns-in_err-jump_over
+jumps::while_loop-returns-in_err-jump_over t c = IfOk-from_err _ _ c.from_residual-in_err-jump_over.ensures.0
+
+pub literals::procedure-returns-in_err-unit : goal.literals::procedure-returns-in_err-unit
+literals::procedure-returns-in_err-unit t c = IfOk-from_err _ _ c.from_residual.ensures.0
+
+pub literals::unit-returns-in_err-begun : goal.literals::unit-returns-in_err-begun
+literals::unit-returns-in_err-begun t c = IfOk-from_err _ _ c.from_residual.ensures.0
+
+pub literals::unit-returns-in_err-tree : goal.literals::unit-returns-in_err-tree
+literals::unit-returns-in_err-tree t c = IfOk-from_err _ _ c.from_residual-in_err-tree.ensures.0
+
+pub operands::all-returns-in_err-tree : goal.operands::all-returns-in_err-tree
+operands::all-returns-in_err-tree t c = IfOk-from_err _ _ c.from_residual.ensures.0
+
+pub operands::all_then-returns-in_err-all : goal.operands::all_then-returns-in_err-all
+operands::all_then-returns-in_err-all t c = IfOk-from_err _ _ c.from_residual.ensures.0
+
+pub operands::call-returns-in_err-n : goal.operands::call-returns-in_err-n
+operands::call-returns-in_err-n t c = IfOk-from_err _ _ c.from_residual.ensures.0
+
+pub operands::call-returns-in_err-all : goal.operands::call-returns-in_err-all
+operands::call-returns-in_err-all t c = IfOk-from_err _ _ c.from_residual-in_err-all.ensures.0
+
+pub operands::make-returns-in_err-all : goal.operands::make-returns-in_err-all
+operands::make-returns-in_err-all t c = IfOk-from_err _ _ c.from_residual.ensures.0
+
+pub operands::one_named-returns-in_err-tree : goal.operands::one_named-returns-in_err-tree
+operands::one_named-returns-in_err-tree t c = IfOk-from_err _ _ c.from_residual.ensures.0
+
+pub operands::one_then-returns-in_err-tree : goal.operands::one_then-returns-in_err-tree
+operands::one_then-returns-in_err-tree t c = IfOk-from_err _ _ c.from_residual.ensures.0
+
+pub operands::two_then-returns-in_err-tree : goal.operands::two_then-returns-in_err-tree
+operands::two_then-returns-in_err-tree t c = IfOk-from_err _ _ c.from_residual.ensures.0
+
+pub operands::vector_filled-returns-in_err-tree : goal.operands::vector_filled-returns-in_err-tree
+operands::vector_filled-returns-in_err-tree t c = IfOk-from_err _ _ c.from_residual.ensures.0
+
+pub operands::vector_filled-returns-in_err-tree-2 : goal.operands::vector_filled-returns-in_err-tree-2
+operands::vector_filled-returns-in_err-tree-2 t c = IfOk-from_err _ _ c.from_residual-in_err-tree-2.ensures.0
+
+pub operands::vector_filled-returns-in_err-tree-3 : goal.operands::vector_filled-returns-in_err-tree-3
+operands::vector_filled-returns-in_err-tree-3 t c = IfOk-from_err _ _ c.from_residual-in_err-tree-3.ensures.0
+
+pub operands::vector_of-returns-in_err-count : goal.operands::vector_of-returns-in_err-count
+operands::vector_of-returns-in_err-count t c = IfOk-from_err _ _ c.from_residual.ensures.0
+
+pub operands::vector_of-returns-in_err-tree : goal.operands::vector_of-returns-in_err-tree
+operands::vector_of-returns-in_err-tree t c = IfOk-from_err _ _ c.from_residual-in_err-tree.ensures.0
+
+pub operands::vector_of-returns-in_err-all : goal.operands::vector_of-returns-in_err-all
+operands::vector_of-returns-in_err-all t c = IfOk-from_err _ _ c.from_residual-in_err-all.ensures.0
+
+pub scans::scan-returns-in_err-procedure : goal.scans::scan-returns-in_err-procedure
+scans::scan-returns-in_err-procedure t c = IfOk-from_err _ _ c.from_residual.ensures.0
+
+pub scans::scan-returns-in_err-take : goal.scans::scan-returns-in_err-take
+scans::scan-returns-in_err-take t c = IfOk-from_err _ _ c.from_residual-in_err-take.ensures.0
+
+pub scans::scan-returns-in_err-one_then : goal.scans::scan-returns-in_err-one_then
+scans::scan-returns-in_err-one_then t c = IfOk-from_err _ _ c.from_residual-in_err-one_then.ensures.0
+
+pub scans::scan-returns-in_err-one_then-2 : goal.scans::scan-returns-in_err-one_then-2
+scans::scan-returns-in_err-one_then-2 t c = IfOk-from_err _ _ c.from_residual-in_err-one_then-2.ensures.0
+
+pub scans::scan-returns-in_err-zeros : goal.scans::scan-returns-in_err-zeros
+scans::scan-returns-in_err-zeros t c = IfOk-from_err _ _ c.from_residual-in_err-zeros.ensures.0
+
+pub tree::tree-returns-in_err-innermost : goal.tree::tree-returns-in_err-innermost
+tree::tree-returns-in_err-innermost t c = IfOk-from_err _ _ c.from_residual.ensures.0
+
+pub tree::tree-returns-in_err-form : goal.tree::tree-returns-in_err-form
+tree::tree-returns-in_err-form t c = IfOk-from_err _ _ c.from_residual-in_err-form.ensures.0
+
+pub tree::tree-returns-in_err-known : goal.tree::tree-returns-in_err-known
+tree::tree-returns-in_err-known t c = IfOk-from_err _ _ c.from_residual-in_err-known.ensures.0
+
+pub tree::tree-returns-in_err-behind : goal.tree::tree-returns-in_err-behind
+tree::tree-returns-in_err-behind t c = IfOk-from_err _ _ c.from_residual-in_err-behind.ensures.0
+
+-- the loops go forward, and the arms that read behind a box or a count
+
+pub tree::form-returns-in-For : goal.tree::form-returns-in-For
+tree::form-returns-in-For t c =
+    subst (λ f. OnOk c.for_loop.result (Puts (made (node_of_form f)) (state_of c.args.emitter.now) (state_of c.for_loop.new.emitter))) (sym c.in-For.is ∙ c.deref.ensures)
+    (subst (λ it. OnOk c.for_loop.result (Puts (made (node.For it.slot (node_of it.a) (node_of it.b) (node_of it.c) it.scope it.control (node_of it.s) it.line)) (state_of c.args.emitter.now) (state_of c.for_loop.new.emitter))) c.deref-in-For.ensures c.for_loop.ensures)
+
+pub tree::form-returns-in-Text : goal.tree::form-returns-in-Text
+tree::form-returns-in-Text t c =
+    subst (λ f. OnOk c.name.result (Puts (made (node_of_form f)) (state_of c.args.emitter.now) (state_of c.name.new.self))) (sym c.in-Text.is ∙ c.deref.ensures)
+    (subst (λ x. OnOk c.name.result (Puts (naming instr.Text (text x)) (state_of c.args.emitter.now) (state_of c.name.new.self))) c.as_slice.ensures c.name.ensures)
+
+pub tree::form-returns-in-Proc : goal.tree::form-returns-in-Proc
+tree::form-returns-in-Proc t c =
+    subst (λ f. OnOk c.procedure.result (Puts (made (node_of_form f)) (state_of c.args.emitter.now) (state_of c.procedure.new.emitter))) (sym c.in-Proc.is ∙ c.deref.ensures)
+    (subst (λ of. OnOk c.procedure.result (Puts (closing (body_of of)) (state_of c.args.emitter.now) (state_of c.procedure.new.emitter))) c.deref-in-Proc.ensures c.procedure.ensures)
+
+pub tree::behind-returns-in-Is : goal.tree::behind-returns-in-Is
+tree::behind-returns-in-Is t c =
+    subst (λ f. OnOk c.name.result (Puts (behind_of (type_in c.args.known) (node_of_form f)) (state_of c.args.emitter.now) (state_of c.name.new.self))) (sym c.in-Is.is ∙ c.deref.ensures)
+    (subst (λ x. OnOk c.name.result (Puts (naming instr.Is (text x)) (state_of c.args.emitter.now) (state_of c.name.new.self))) (c.as_slice.ensures ∙ c.deref-in-Is.ensures) c.name.ensures)
+
+pub tree::behind-returns-in-Field : goal.tree::behind-returns-in-Field
+tree::behind-returns-in-Field t c =
+    subst (λ f. OnOk c.name-in-Field.result (Puts (behind_of (type_in c.args.known) (node_of_form f)) (state_of c.args.emitter.now) (state_of c.name-in-Field.new.self))) (sym c.in-Field.is ∙ c.deref.ensures)
+    (subst (λ x. OnOk c.name-in-Field.result (Puts (naming (λ k. choice.by_type (ty_view c.in-Field.ty) (instr.FieldM k c.in-Field.index c.in-Field.line) (instr.FieldP k c.in-Field.index c.in-Field.line)) (text x)) (state_of c.args.emitter.now) (state_of c.name-in-Field.new.self))) (c.as_slice-in-Field.ensures ∙ c.deref-in-Field.ensures) c.name-in-Field.ensures)
+
+pub tree::behind-returns-in-SetField : goal.tree::behind-returns-in-SetField
+tree::behind-returns-in-SetField t c =
+    subst (λ f. OnOk c.one_named.result (Puts (behind_of (type_in c.args.known) (node_of_form f)) (state_of c.args.emitter.now) (state_of c.one_named.new.emitter))) (sym c.in-SetField.is ∙ c.deref.ensures)
+    (subst (λ x. OnOk c.one_named.result (Puts (clause (node_of c.in-SetField.e) ▷ naming (λ k. choice.by_type (ty_view c.in-SetField.ty) (instr.SetFieldM k c.in-SetField.index c.in-SetField.line) (instr.SetFieldP k c.in-SetField.index c.in-SetField.line)) (text x)) (state_of c.args.emitter.now) (state_of c.one_named.new.emitter))) (c.as_slice-in-SetField.ensures ∙ c.deref-in-SetField.ensures) c.one_named.ensures)
+
+pub tree::form-for_loop-requires : goal.tree::form-for_loop-requires
+tree::form-for_loop-requires t c =
+    let light = ap (λ f. weight (node_of_form f)) (sym c.deref.ensures ∙ c.in-For.is) in
+    let it = ap (λ (it : Loop). weight (node_of it.a) + weight (node_of it.b) + weight (node_of it.c) + weight (node_of it.s)) c.deref-in-For.ensures in (omega (arith, c.decreases, light, it), tt)
+
+pub tree::form-procedure-requires : goal.tree::form-procedure-requires
+tree::form-procedure-requires t c =
+    let light = ap (λ f. weight (node_of_form f)) (sym c.deref.ensures ∙ c.in-Proc.is) in
+    let body = ap (λ (body : Body). weight (node_of body.tree)) c.deref-in-Proc.ensures in (omega (arith, c.decreases, light, body), tt)
+
+pub cases::put_arms-loop-arm-smaller : goal.cases::put_arms-loop-arm-smaller
+cases::put_arms-loop-arm-smaller t c =
+    falls _ _ c.loop-arm-test.true
+
+pub cases::put_labels-loop-label-smaller : goal.cases::put_labels-loop-label-smaller
+cases::put_labels-loop-label-smaller t c =
+    falls _ _ c.loop-label-test.true
+
+pub operands::all-loop-item-smaller : goal.operands::all-loop-item-smaller
+operands::all-loop-item-smaller t c =
+    falls _ _ c.loop-item-test.true
+
+pub operands::all-offset_bounds-items-item-index : goal.operands::all-offset_bounds-items-item-index
+operands::all-offset_bounds-items-item-index t c =
+    search rules
+
+pub cases::put_arms-offset_bounds-arms-arm-index : goal.cases::put_arms-offset_bounds-arms-arm-index
+cases::put_arms-offset_bounds-arms-arm-index t c =
+    search rules
+
+pub cases::put_labels-offset_bounds-labels-label-index : goal.cases::put_labels-offset_bounds-labels-label-index
+cases::put_labels-offset_bounds-labels-label-index t c =
+    search rules
