@@ -1,8 +1,7 @@
-ghost use Rattle.std.specs.Prelude.{◌+◌, IfOk, OnOk, option_map};
-ghost use Rattle.ps_base.specs.declared.instr.Instr.TheVariants as instr;
+ghost use Rattle.std.specs.Prelude.{OnOk, option_map};
 ghost use Rattle.ps_program.specs.Node as node;
 ghost use Rattle.ps_program.specs.NodeView.{node_of, nodes_in};
-ghost use Rattle.ps_emitter.specs.Pieces.{state_of, Puts, Halfway, ◌▷◌, one, to_behind};
+ghost use Rattle.ps_emitter.specs.Pieces.{state_of, Puts};
 ghost use Rattle.ps_gen.specs.inside.Clauses.{clause, jumping, made, loop};
 
 use crate::operands::{all, one_then, two_then};
@@ -58,23 +57,11 @@ pub(crate) fn if_else(emitter: &mut Emitter, c: &Tree, a: &Tree, b: &Tree) -> Re
     ensures { OnOk result (Puts (made (node.IfElse (node_of c.now) (node_of a.now) (node_of b.now))) (state_of emitter.old) (state_of emitter.new)) }
 {
     tree(emitter, c)?;
-    let out = then_out(emitter, a)?;
-    tree(emitter, b)?;
-    let end = emitter.here()?;
-    emitter.overwrite(out, Instr::Jump { t: end })
-}
-
-// The first of two clauses, and the jump behind the second, whose offset is answered.
-#[cycle(tree)]
-fn then_out(emitter: &mut Emitter, a: &Tree) -> Result<u32, AllocError>
-    ensures { IfOk result (λ out. Halfway (to_behind (λ end. end + 5) (λ t. one (instr.JumpFalse t) ▷ clause (node_of a.now))) (one (instr.Jump 0)) out (state_of emitter.old) (state_of emitter.new)) }
-{
     let test = emitter.hole(Instr::JumpFalse { t: 0 })?;
     tree(emitter, a)?;
-    let out = emitter.hole(Instr::Jump { t: 0 })?;
-    let other = emitter.here()?;
-    emitter.overwrite(test, Instr::JumpFalse { t: other })?;
-    Ok(out)
+    let other = sum(emitter.here()?, 5)?;
+    jump_over(emitter, Forward::Jump, b)?;
+    emitter.overwrite(test, Instr::JumpFalse { t: other })
 }
 
 /// A loop with its test in front.

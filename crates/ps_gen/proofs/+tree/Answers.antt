@@ -1,5 +1,5 @@
 -- What the functions of the cycle put.
-use Rattle.std.proofs.Common.{rules, ◌≡◌, ◌+◌, List, [], ◌∷◌, OnOk, length, length-append, drop, ap, sym, refl, subst, ◌∙◌, arith}
+use Rattle.std.proofs.Common.{rules, ◌≡◌, ◌+◌, List, [], ◌∷◌, OnOk, length, length-append, drop, map, ap, sym, refl, subst, ◌∙◌, arith}
 use Rattle.std.proofs.lemmas.List.{drop_all}
 use Rattle.std.proofs.lemmas.Result.{IfOk-from_err}
 use borrow.Author.Count.{falls}
@@ -7,7 +7,7 @@ use Rattle.std.specs.Borrow.{Bor}
 use Rattle.std.specs.Prelude.{option_map}
 use Rattle.std.specs.Rc.{rc_value}
 use Rattle.ps_base.specs.List.{items_of}
-use Rattle.ps_base.specs.CodeUnit.{text}
+use Rattle.ps_base.specs.CodeUnit.{text, unit, unit_view, constant_view}
 use Rattle.ps_base.specs.Instr.{spelling}
 use Rattle.ps_base.specs.TyView.{ty_view}
 use Rattle.ps_base.specs.declared.instr.Instr.TheVariants as instr
@@ -23,6 +23,8 @@ use Rattle.ps_program.proofs.NodeLists.{block_is, make_is, lib_is, elems_is, cal
 use Rattle.ps_program.proofs.NodeSteps.{nodes_from, arms_from, weight_at, weight_arm_at}
 use Rattle.ps_type_text.specs.Texts.{type_text}
 use Rattle.ps_gen.specs.Emission.{size}
+use Rattle.ps_gen.specs.Units.{row_of}
+use Rattle.ps_gen.specs.inside.Steps.{Ends}
 use Rattle.ps_emitter.specs.Pieces.{state_of, Puts, Opens, ◌▷◌, one, to_behind, Left, LeftOpen}
 use Rattle.ps_gen.specs.inside.Clauses.{closing, clause, clauses, labels_of, arms_of, arm_of, made, behind_of}
 use Rattle.ps_emitter.specs.Choices as choice
@@ -31,7 +33,7 @@ use Rattle.ps_emitter.specs.Chains.{type_in, Chained}
 use Rattle.ps_gen.proofs.Laws.{more_clauses, no_clauses, more_labels, no_labels, more_arms_is, no_arms_is}
 use Rattle.ps_emitter.proofs.ChoiceWidths.{by_type_width}
 use Rattle.ps_emitter.proofs.Putting.{seq, puts_same, followed, behind}
-use Rattle.ps_gen.proofs.Making.{on_ok, if_ok, closing_puts, body_made, entering_is, leaving_is, items_counted, list_named}
+use Rattle.ps_gen.proofs.Making.{on_ok, if_ok, closing_puts, body_made, row_is, entering_is, leaving_is, items_counted, list_named}
 use Rattle.ps_emitter.proofs.Steps.{one_is, single, begun, left_all, left_more, left_none, left_open_all, left_open_more, left_open_none, opened_at, halfway, jump_width, last_is, third_is, seq2, filled_with, no_items}
 use Rattle.ps_gen.proofs.Linking.{linked, made_is, make_weight, elems_weight, lib_weight}
 use Rattle.ps_emitter.proofs.Chaining.{knows_behind, chained_last, chained_weight, call_weight, block_weight, case_weight}
@@ -92,20 +94,16 @@ pub jumps::if_do-returns : goal.jumps::if_do-returns
 jumps::if_do-returns t c = on_ok c.jump_over.result (λ puts. seq c.in_ok-tree.ensures puts) c.jump_over.ensures
 
 pub jumps::if_else-returns : goal.jumps::if_else-returns
+unfolding one
 jumps::if_else-returns t c =
-    let out = c.in_ok-out.ensures in
-    on_ok c.overwrite.result (λ written. seq c.in_ok-tree.ensures (seq out.first
-    (single instr.Jump (λ end. end) (λ n. refl) refl (record { puts = out.second; is = out.is }) c.in_ok-tree-2.ensures c.in_ok-end.ensures refl c.overwrite.ensures.fits written))) c.overwrite.ensures.written
+    let opens = followed (opened_at instr.JumpFalse refl c.in_ok-test.ensures.puts c.in_ok-test.ensures.is (λ n. refl)) c.in_ok-tree-2.ensures in
+    on_ok c.overwrite.result (λ written.
+    let parts = halfway instr.JumpFalse (λ end. end + 5) opens (record { puts = c.in_ok-jump_over.ensures; is = refl }) (c.in_ok-other.ensures ∙ ap (λ n. n + 5) c.in_ok-here.ensures) refl c.overwrite.ensures.fits written in
+    seq c.in_ok-tree.ensures (seq parts.first parts.second)) c.overwrite.ensures.written
 
 pub jumps::jump_over-returns : goal.jumps::jump_over-returns
 jumps::jump_over-returns t c =
     on_ok c.overwrite.result (λ written. single (jump_of c.args.jump) (λ end. end) (jump_width c.args.jump) c.to.ensures c.in_ok-hole.ensures c.in_ok-tree.ensures c.in_ok-end.ensures c.to-2.ensures c.overwrite.ensures.fits written) c.overwrite.ensures.written
-
-pub jumps::then_out-returns : goal.jumps::then_out-returns
-unfolding one
-jumps::then_out-returns t c =
-    halfway instr.JumpFalse (λ end. end + 5) (followed (opened_at instr.JumpFalse refl c.in_ok-test.ensures.puts c.in_ok-test.ensures.is (λ n. refl)) c.in_ok-tree.ensures) c.in_ok-out.ensures
-    (c.in_ok-other.ensures ∙ c.in_ok-out.ensures.puts.long) refl c.overwrite.ensures.fits c.in_ok-overwrite.ensures.written
 
 pub jumps::while_loop-returns : goal.jumps::while_loop-returns
 unfolding one ◌▷◌ to_behind
@@ -136,44 +134,39 @@ scans::scan-returns t c =
     on_ok c.turns.result (λ puts. seq c.in_ok-take.ensures (seq2 _ _ c.in_ok-one_then.ensures (seq2 _ _ (last_is _ (ap instr.SetP c.in_ok-procedure.ensures) c.in_ok-one_then-2.ensures) (seq c.in_ok-zeros.ensures puts)))) c.turns.ensures
 
 pub cases::case-returns : goal.cases::case-returns
-unfolding one ◌▷◌ clause
+unfolding one ◌▷◌ clause arms_of
 cases::case-returns t c =
+    let arms = c.args.arms.now in
     let ty = ty_view c.args.ty.now in
+    let end = drop_all c.loop-arm.arm-index arms c.loop-arm-test.false in
+    let opens = left_open_none (subst (λ ns. LeftOpen instr.Jump (arms_of ty (arms_in ns)) (arms_of ty (arms_in arms)) c.loop-arm.ends.items (state_of c.tree.new.emitter) (state_of c.loop-arm.emitter)) end c.loop-arm.invariant)
+    (no_arms_is ty) (λ t. refl) in
     let last = seq (one_is c.by_type.ensures c.in_ok-put.ensures) c.in_ok-tree-2.ensures in
     on_ok c.fill.result (λ filled.
-    let arms = halfway instr.Jump (λ end. end + 1 + size (node_of c.args.d.now)) c.in_ok-ends.ensures (record { puts = last; is = refl })
-    (omega (arith, c.in_ok-end.ensures, last.long, by_type_width ty instr.DropM instr.DropP refl)) refl c.fill.ensures.fits (filled_with (spelling (instr.Jump c.in_ok-end.end)) (state_of c.tree-2.new.emitter) filled c.as_slice.ensures.value) in
-    seq c.in_ok-tree.ensures (seq arms.first arms.second)) c.fill.ensures.written
+    let parts = halfway instr.Jump (λ end. end + 1 + size (node_of c.args.d.now)) opens (record { puts = last; is = refl })
+    (omega (arith, c.in_ok-end-2.ensures, last.long, by_type_width ty instr.DropM instr.DropP refl)) refl c.fill.ensures.fits (filled_with (spelling (instr.Jump c.in_ok-end-2.end)) (state_of c.tree-2.new.emitter) filled c.as_slice-2.ensures.value) in
+    seq c.in_ok-tree.ensures (seq parts.first parts.second)) c.fill.ensures.written
 
-pub cases::put_arms-loop-arm-init : goal.cases::put_arms-loop-arm-init
-cases::put_arms-loop-arm-init t c = left_open_all c.new-ends.ensures.items
+pub cases::case-loop-arm-init : goal.cases::case-loop-arm-init
+cases::case-loop-arm-init t c = left_open_all c.new-ends.ensures.items
 
-pub cases::put_arms-put_arm-requires : goal.cases::put_arms-put_arm-requires
-cases::put_arms-put_arm-requires t c =
+pub cases::case-put_arm-requires : goal.cases::case-put_arm-requires
+cases::case-put_arm-requires t c =
     let light = weight_arm_at c.args.arms.now c.loop-arm.arm-index c.arm-item.result _ c.arm-item.is c.loop-arm-test.true in
     let labels = ap (λ ts. weight_all (nodes_in ts)) c.as_slice.ensures in
     (omega (arith, c.decreases, light, labels), tt)
 
-pub cases::put_arms-loop-arm-preserved : goal.cases::put_arms-loop-arm-preserved
+pub cases::case-loop-arm-preserved : goal.cases::case-loop-arm-preserved
 unfolding arms_of
-cases::put_arms-loop-arm-preserved t c =
+cases::case-loop-arm-preserved t c =
     let arms = c.args.arms.now in
     let i = c.loop-arm.arm-index in
     let ty = ty_view c.args.ty.now in
     let arm = out-Arm c.arm-item.result in
     let cut = arms_from arms i c.arm-item.result _ c.arm-item.is c.loop-arm-test.true in
-    left_open_more (subst (λ ns. LeftOpen instr.Jump (arms_of ty ns) (arms_of ty (arms_in arms)) c.loop-arm.ends.items (state_of c.args.emitter.now) (state_of c.loop-arm.emitter)) cut c.loop-arm.invariant)
+    left_open_more (subst (λ ns. LeftOpen instr.Jump (arms_of ty ns) (arms_of ty (arms_in arms)) c.loop-arm.ends.items (state_of c.tree.new.emitter) (state_of c.loop-arm.emitter)) cut c.loop-arm.invariant)
     (λ t. more_arms_is ty (nodes_in (items_of arm.labels)) (node_of arm.a) (arms_in (drop (i + 1) arms)) t) (λ t. refl)
     (subst (λ ls. Opens instr.Jump (arm_of ty (nodes_in ls) (node_of arm.a)) (c.in_ok-end.end ∷ []) (state_of c.loop-arm.emitter) (state_of c.put_arm.new.emitter)) c.as_slice.ensures c.in_ok-end.ensures) c.in_ok-push.ensures.items
-
-pub cases::put_arms-returns : goal.cases::put_arms-returns
-unfolding arms_of
-cases::put_arms-returns t c =
-    let arms = c.args.arms.now in
-    let ty = ty_view c.args.ty.now in
-    let end = drop_all c.loop-arm.arm-index arms c.loop-arm-test.false in
-    left_open_none (subst (λ ns. LeftOpen instr.Jump (arms_of ty (arms_in ns)) (arms_of ty (arms_in arms)) c.loop-arm.ends.items (state_of c.args.emitter.now) (state_of c.loop-arm.emitter)) end c.loop-arm.invariant)
-    (no_arms_is ty) (λ t. refl)
 
 pub cases::put_arm-returns : goal.cases::put_arm-returns
 unfolding one
@@ -184,37 +177,33 @@ cases::put_arm-returns t c =
     behind past.first (behind rest.first (opened_at instr.Jump refl rest.second rest.is (λ n. refl)))
 
 pub cases::arm_labels-returns : goal.cases::arm_labels-returns
-unfolding one
+unfolding one labels_of
 cases::arm_labels-returns t c =
-    halfway instr.JumpTrue (λ end. end + 5) c.in_ok-holes.ensures c.in_ok-past.ensures (c.in_ok-chosen.ensures ∙ c.in_ok-past.ensures.puts.long) refl c.fill.ensures.fits
+    let labels = c.args.labels.now in
+    let ty = ty_view c.args.ty.now in
+    let end = drop_all c.loop-label.label-index labels c.loop-label-test.false in
+    let opens = left_open_none (subst (λ ts. LeftOpen instr.JumpTrue (labels_of ty (nodes_in ts)) (labels_of ty (nodes_in labels)) c.loop-label.holes.items (state_of c.args.emitter.now) (state_of c.loop-label.emitter)) end c.loop-label.invariant)
+    (no_labels ty) (λ t. refl) in
+    halfway instr.JumpTrue (λ end. end + 5) opens c.in_ok-past.ensures (c.in_ok-chosen.ensures ∙ c.in_ok-past.ensures.puts.long) refl c.fill.ensures.fits
     (filled_with (spelling (instr.JumpTrue c.in_ok-chosen.chosen)) (state_of c.hole.new.self) c.in_ok-fill.ensures.written c.as_slice.ensures.value)
 
-pub cases::put_labels-loop-label-init : goal.cases::put_labels-loop-label-init
-cases::put_labels-loop-label-init t c = left_open_all c.new-holes.ensures.items
+pub cases::arm_labels-loop-label-init : goal.cases::arm_labels-loop-label-init
+cases::arm_labels-loop-label-init t c = left_open_all c.new-holes.ensures.items
 
-pub cases::put_labels-put_label-requires : goal.cases::put_labels-put_label-requires
-cases::put_labels-put_label-requires t c =
+pub cases::arm_labels-put_label-requires : goal.cases::arm_labels-put_label-requires
+cases::arm_labels-put_label-requires t c =
     let light = weight_at c.args.labels.now c.loop-label.label-index c.label-item.result _ c.label-item.is c.loop-label-test.true in
     (omega (arith, c.decreases, light), tt)
 
-pub cases::put_labels-loop-label-preserved : goal.cases::put_labels-loop-label-preserved
+pub cases::arm_labels-loop-label-preserved : goal.cases::arm_labels-loop-label-preserved
 unfolding labels_of
-cases::put_labels-loop-label-preserved t c =
+cases::arm_labels-loop-label-preserved t c =
     let labels = c.args.labels.now in
     let i = c.loop-label.label-index in
     let ty = ty_view c.args.ty.now in
     let cut = nodes_from labels i c.label-item.result _ c.label-item.is c.loop-label-test.true in
     left_open_more (subst (λ ns. LeftOpen instr.JumpTrue (labels_of ty ns) (labels_of ty (nodes_in labels)) c.loop-label.holes.items (state_of c.args.emitter.now) (state_of c.loop-label.emitter)) cut c.loop-label.invariant)
     (λ t. more_labels ty (node_of c.label-item.result) (nodes_in (drop (i + 1) labels)) t) (λ t. refl) c.in_ok-hole.ensures c.in_ok-push.ensures.items
-
-pub cases::put_labels-returns : goal.cases::put_labels-returns
-unfolding labels_of
-cases::put_labels-returns t c =
-    let labels = c.args.labels.now in
-    let ty = ty_view c.args.ty.now in
-    let end = drop_all c.loop-label.label-index labels c.loop-label-test.false in
-    left_open_none (subst (λ ts. LeftOpen instr.JumpTrue (labels_of ty (nodes_in ts)) (labels_of ty (nodes_in labels)) c.loop-label.holes.items (state_of c.args.emitter.now) (state_of c.loop-label.emitter)) end c.loop-label.invariant)
-    (no_labels ty) (λ t. refl)
 
 pub cases::put_label-returns : goal.cases::put_label-returns
 cases::put_label-returns t c =
@@ -341,18 +330,16 @@ literals::procedure-returns t c = on_ok c.name_unit.result (λ puts. closing_put
 pub literals::unit-returns : goal.literals::unit-returns
 literals::unit-returns t c =
     let body = c.args.body.now in
-    if_ok c.end.result (λ made ends. body_made (params_of (items_of body.params)) (ty_view body.gives) (node_of body.tree) body.scope body.line c.in_ok-begun.ensures c.in_ok-tree.ensures ends) c.end.ensures
-
--- a call of the cycle has less work before it
-
-pub cases::arm_labels-put_labels-requires : goal.cases::arm_labels-put_labels-requires
-cases::arm_labels-put_labels-requires t c = (omega (arith, c.decreases), tt)
+    let e = c.put.new.self in
+    let ends : Ends (ty_view body.gives) c.in_ok-counts.counts (state_of c.tree.new.emitter) (unit_view c.into_unit.result) = record {
+      end = state_of e;
+      puts = one_is (ap instr.Return c.kind_of-k.ensures) c.in_ok-put.ensures;
+      is = c.into_unit.ensures ∙ ap (λ r. unit e.code.items r c.in_ok-frame.frame) (row_is e.constants.items) ∙ ap (unit e.code.items (row_of (map constant_view e.constants.items))) c.in_ok-frame.ensures;
+    } in
+    body_made (params_of (items_of body.params)) (ty_view body.gives) (node_of body.tree) body.scope body.line (c.in_ok-counts.ensures c.new-emitter.ensures) c.in_ok-tree.ensures ends
 
 pub cases::case-tree-requires : goal.cases::case-tree-requires
 cases::case-tree-requires t c = (omega (arith, c.decreases), tt)
-
-pub cases::case-put_arms-requires : goal.cases::case-put_arms-requires
-cases::case-put_arms-requires t c = (omega (arith, c.decreases), tt)
 
 pub cases::case-tree-requires-2 : goal.cases::case-tree-requires-2
 cases::case-tree-requires-2 t c = (omega (arith, c.decreases), tt)
@@ -393,8 +380,8 @@ jumps::if_do-jump_over-requires t c = (omega (arith, c.decreases), tt)
 pub jumps::if_else-tree-requires : goal.jumps::if_else-tree-requires
 jumps::if_else-tree-requires t c = (omega (arith, c.decreases), tt)
 
-pub jumps::if_else-then_out-requires : goal.jumps::if_else-then_out-requires
-jumps::if_else-then_out-requires t c = (omega (arith, c.decreases), tt)
+pub jumps::if_else-jump_over-requires : goal.jumps::if_else-jump_over-requires
+jumps::if_else-jump_over-requires t c = (omega (arith, c.decreases), tt)
 
 pub jumps::if_else-tree-requires-2 : goal.jumps::if_else-tree-requires-2
 jumps::if_else-tree-requires-2 t c = (omega (arith, c.decreases), tt)
@@ -407,9 +394,6 @@ jumps::repeat_loop-jump_over-requires t c = (omega (arith, c.decreases), tt)
 
 pub jumps::repeat_loop-two_then-requires : goal.jumps::repeat_loop-two_then-requires
 jumps::repeat_loop-two_then-requires t c = (omega (arith, c.decreases), tt)
-
-pub jumps::then_out-tree-requires : goal.jumps::then_out-tree-requires
-jumps::then_out-tree-requires t c = (omega (arith, c.decreases), tt)
 
 pub jumps::while_loop-jump_over-requires : goal.jumps::while_loop-jump_over-requires
 jumps::while_loop-jump_over-requires t c = (omega (arith, c.decreases), tt)
@@ -642,33 +626,6 @@ tree::form-returns-in-Abort t c =
 
 -- the exits of `?`
 
-pub cases::arm_labels-returns-in_err-holes : goal.cases::arm_labels-returns-in_err-holes
-cases::arm_labels-returns-in_err-holes t c = IfOk-from_err _ _ c.from_residual.ensures.0
-
-pub cases::arm_labels-returns-in_err-past : goal.cases::arm_labels-returns-in_err-past
-cases::arm_labels-returns-in_err-past t c = IfOk-from_err _ _ c.from_residual-in_err-past.ensures.0
-
-pub cases::arm_labels-returns-in_err-chosen : goal.cases::arm_labels-returns-in_err-chosen
-cases::arm_labels-returns-in_err-chosen t c = IfOk-from_err _ _ c.from_residual-in_err-chosen.ensures.0
-
-pub cases::arm_labels-returns-in_err-fill : goal.cases::arm_labels-returns-in_err-fill
-cases::arm_labels-returns-in_err-fill t c = IfOk-from_err _ _ c.from_residual-in_err-fill.ensures.0
-
-pub cases::case-returns-in_err-tree : goal.cases::case-returns-in_err-tree
-cases::case-returns-in_err-tree t c = IfOk-from_err _ _ c.from_residual.ensures.0
-
-pub cases::case-returns-in_err-ends : goal.cases::case-returns-in_err-ends
-cases::case-returns-in_err-ends t c = IfOk-from_err _ _ c.from_residual-in_err-ends.ensures.0
-
-pub cases::case-returns-in_err-put : goal.cases::case-returns-in_err-put
-cases::case-returns-in_err-put t c = IfOk-from_err _ _ c.from_residual-in_err-put.ensures.0
-
-pub cases::case-returns-in_err-tree-2 : goal.cases::case-returns-in_err-tree-2
-cases::case-returns-in_err-tree-2 t c = IfOk-from_err _ _ c.from_residual-in_err-tree-2.ensures.0
-
-pub cases::case-returns-in_err-end : goal.cases::case-returns-in_err-end
-cases::case-returns-in_err-end t c = IfOk-from_err _ _ c.from_residual-in_err-end.ensures.0
-
 pub cases::put_arm-returns-in_err-past : goal.cases::put_arm-returns-in_err-past
 cases::put_arm-returns-in_err-past t c = IfOk-from_err _ _ c.from_residual.ensures.0
 
@@ -687,12 +644,6 @@ cases::put_arm-returns-in_err-next t c = IfOk-from_err _ _ c.from_residual-in_er
 pub cases::put_arm-returns-in_err-overwrite : goal.cases::put_arm-returns-in_err-overwrite
 cases::put_arm-returns-in_err-overwrite t c = IfOk-from_err _ _ c.from_residual-in_err-overwrite.ensures.0
 
-pub cases::put_arms-returns-in_err-end : goal.cases::put_arms-returns-in_err-end
-cases::put_arms-returns-in_err-end t c = IfOk-from_err _ _ c.from_residual.ensures.0
-
-pub cases::put_arms-returns-in_err-push : goal.cases::put_arms-returns-in_err-push
-cases::put_arms-returns-in_err-push t c = IfOk-from_err _ _ c.from_residual-in_err-push.ensures.0
-
 pub cases::put_label-returns-in_err-put : goal.cases::put_label-returns-in_err-put
 cases::put_label-returns-in_err-put t c = IfOk-from_err _ _ c.from_residual.ensures.0
 
@@ -701,12 +652,6 @@ cases::put_label-returns-in_err-tree t c = IfOk-from_err _ _ c.from_residual-in_
 
 pub cases::put_label-returns-in_err-put-2 : goal.cases::put_label-returns-in_err-put-2
 cases::put_label-returns-in_err-put-2 t c = IfOk-from_err _ _ c.from_residual-in_err-put-2.ensures.0
-
-pub cases::put_labels-returns-in_err-hole : goal.cases::put_labels-returns-in_err-hole
-cases::put_labels-returns-in_err-hole t c = IfOk-from_err _ _ c.from_residual.ensures.0
-
-pub cases::put_labels-returns-in_err-push : goal.cases::put_labels-returns-in_err-push
-cases::put_labels-returns-in_err-push t c = IfOk-from_err _ _ c.from_residual-in_err-push.ensures.0
 
 pub jumps::block-returns-in_err-enter : goal.jumps::block-returns-in_err-enter
 jumps::block-returns-in_err-enter t c = IfOk-from_err _ _ c.from_residual.ensures.0
@@ -768,18 +713,6 @@ jumps::for_turns-returns-in_err-end t c = IfOk-from_err _ _ c.from_residual-in_e
 pub jumps::if_do-returns-in_err-tree : goal.jumps::if_do-returns-in_err-tree
 jumps::if_do-returns-in_err-tree t c = IfOk-from_err _ _ c.from_residual.ensures.0
 
-pub jumps::if_else-returns-in_err-tree : goal.jumps::if_else-returns-in_err-tree
-jumps::if_else-returns-in_err-tree t c = IfOk-from_err _ _ c.from_residual.ensures.0
-
-pub jumps::if_else-returns-in_err-out : goal.jumps::if_else-returns-in_err-out
-jumps::if_else-returns-in_err-out t c = IfOk-from_err _ _ c.from_residual-in_err-out.ensures.0
-
-pub jumps::if_else-returns-in_err-tree-2 : goal.jumps::if_else-returns-in_err-tree-2
-jumps::if_else-returns-in_err-tree-2 t c = IfOk-from_err _ _ c.from_residual-in_err-tree-2.ensures.0
-
-pub jumps::if_else-returns-in_err-end : goal.jumps::if_else-returns-in_err-end
-jumps::if_else-returns-in_err-end t c = IfOk-from_err _ _ c.from_residual-in_err-end.ensures.0
-
 pub jumps::jump_over-returns-in_err-hole : goal.jumps::jump_over-returns-in_err-hole
 jumps::jump_over-returns-in_err-hole t c = IfOk-from_err _ _ c.from_residual.ensures.0
 
@@ -798,21 +731,6 @@ jumps::repeat_loop-returns-in_err-between t c = IfOk-from_err _ _ c.from_residua
 pub jumps::repeat_loop-returns-in_err-jump_over : goal.jumps::repeat_loop-returns-in_err-jump_over
 jumps::repeat_loop-returns-in_err-jump_over t c = IfOk-from_err _ _ c.from_residual-in_err-jump_over.ensures.0
 
-pub jumps::then_out-returns-in_err-test : goal.jumps::then_out-returns-in_err-test
-jumps::then_out-returns-in_err-test t c = IfOk-from_err _ _ c.from_residual.ensures.0
-
-pub jumps::then_out-returns-in_err-tree : goal.jumps::then_out-returns-in_err-tree
-jumps::then_out-returns-in_err-tree t c = IfOk-from_err _ _ c.from_residual-in_err-tree.ensures.0
-
-pub jumps::then_out-returns-in_err-out : goal.jumps::then_out-returns-in_err-out
-jumps::then_out-returns-in_err-out t c = IfOk-from_err _ _ c.from_residual-in_err-out.ensures.0
-
-pub jumps::then_out-returns-in_err-other : goal.jumps::then_out-returns-in_err-other
-jumps::then_out-returns-in_err-other t c = IfOk-from_err _ _ c.from_residual-in_err-other.ensures.0
-
-pub jumps::then_out-returns-in_err-overwrite : goal.jumps::then_out-returns-in_err-overwrite
-jumps::then_out-returns-in_err-overwrite t c = IfOk-from_err _ _ c.from_residual-in_err-overwrite.ensures.0
-
 pub jumps::while_loop-returns-in_err-here : goal.jumps::while_loop-returns-in_err-here
 jumps::while_loop-returns-in_err-here t c = IfOk-from_err _ _ c.from_residual.ensures.0
 
@@ -824,12 +742,6 @@ jumps::while_loop-returns-in_err-jump_over t c = IfOk-from_err _ _ c.from_residu
 
 pub literals::procedure-returns-in_err-unit : goal.literals::procedure-returns-in_err-unit
 literals::procedure-returns-in_err-unit t c = IfOk-from_err _ _ c.from_residual.ensures.0
-
-pub literals::unit-returns-in_err-begun : goal.literals::unit-returns-in_err-begun
-literals::unit-returns-in_err-begun t c = IfOk-from_err _ _ c.from_residual.ensures.0
-
-pub literals::unit-returns-in_err-tree : goal.literals::unit-returns-in_err-tree
-literals::unit-returns-in_err-tree t c = IfOk-from_err _ _ c.from_residual-in_err-tree.ensures.0
 
 pub operands::all-returns-in_err-tree : goal.operands::all-returns-in_err-tree
 operands::all-returns-in_err-tree t c = IfOk-from_err _ _ c.from_residual.ensures.0
@@ -942,12 +854,12 @@ tree::form-procedure-requires t c =
     let light = ap (λ f. weight (node_of_form f)) (sym c.deref.ensures ∙ c.in-Proc.is) in
     let body = ap (λ (body : Body). weight (node_of body.tree)) c.deref-in-Proc.ensures in (omega (arith, c.decreases, light, body), tt)
 
-pub cases::put_arms-loop-arm-smaller : goal.cases::put_arms-loop-arm-smaller
-cases::put_arms-loop-arm-smaller t c =
+pub cases::case-loop-arm-smaller : goal.cases::case-loop-arm-smaller
+cases::case-loop-arm-smaller t c =
     falls _ _ c.loop-arm-test.true
 
-pub cases::put_labels-loop-label-smaller : goal.cases::put_labels-loop-label-smaller
-cases::put_labels-loop-label-smaller t c =
+pub cases::arm_labels-loop-label-smaller : goal.cases::arm_labels-loop-label-smaller
+cases::arm_labels-loop-label-smaller t c =
     falls _ _ c.loop-label-test.true
 
 pub operands::all-loop-item-smaller : goal.operands::all-loop-item-smaller
@@ -958,10 +870,10 @@ pub operands::all-offset_bounds-items-item-index : goal.operands::all-offset_bou
 operands::all-offset_bounds-items-item-index t c =
     search rules
 
-pub cases::put_arms-offset_bounds-arms-arm-index : goal.cases::put_arms-offset_bounds-arms-arm-index
-cases::put_arms-offset_bounds-arms-arm-index t c =
+pub cases::case-offset_bounds-arms-arm-index : goal.cases::case-offset_bounds-arms-arm-index
+cases::case-offset_bounds-arms-arm-index t c =
     search rules
 
-pub cases::put_labels-offset_bounds-labels-label-index : goal.cases::put_labels-offset_bounds-labels-label-index
-cases::put_labels-offset_bounds-labels-label-index t c =
+pub cases::arm_labels-offset_bounds-labels-label-index : goal.cases::arm_labels-offset_bounds-labels-label-index
+cases::arm_labels-offset_bounds-labels-label-index t c =
     search rules
