@@ -42,15 +42,6 @@ pub(crate) fn block(
     leave(emitter, scope)
 }
 
-/// A clause that is done where another is true.
-#[cycle(tree)]
-pub(crate) fn if_do(emitter: &mut Emitter, c: &Tree, a: &Tree) -> Result<(), AllocError>
-    ensures { OnOk result (Puts (made (node.IfDo (node_of c.now) (node_of a.now))) (state_of emitter.old) (state_of emitter.new)) }
-{
-    tree(emitter, c)?;
-    jump_over(emitter, Forward::JumpFalse, a)
-}
-
 /// One of two clauses.
 #[cycle(tree)]
 pub(crate) fn if_else(emitter: &mut Emitter, c: &Tree, a: &Tree, b: &Tree) -> Result<(), AllocError>

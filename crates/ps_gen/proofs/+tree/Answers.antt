@@ -1,5 +1,5 @@
 -- What the functions of the cycle put.
-use Rattle.std.proofs.Common.{rules, ◌≡◌, ◌+◌, List, [], ◌∷◌, OnOk, length, length-append, drop, map, ap, sym, refl, subst, ◌∙◌, arith}
+use Rattle.std.proofs.Common.{rules, ℕ, ◌≡◌, ◌+◌, List, [], ◌∷◌, OnOk, length, length-append, drop, map, ap, sym, refl, subst, ◌∙◌, arith}
 use Rattle.std.proofs.lemmas.List.{drop_all}
 use Rattle.std.proofs.lemmas.Result.{IfOk-from_err}
 use borrow.Author.Count.{falls}
@@ -10,6 +10,7 @@ use Rattle.ps_base.specs.List.{items_of}
 use Rattle.ps_base.specs.CodeUnit.{text, unit, unit_view, constant_view}
 use Rattle.ps_base.specs.Instr.{spelling}
 use Rattle.ps_base.specs.TyView.{ty_view}
+use Rattle.ps_base.specs.declared.instr.Instr.{Instr}
 use Rattle.ps_base.specs.declared.instr.Instr.TheVariants as instr
 use Rattle.ps_program.specs.declared.form.Tree.{Tree}
 use Rattle.ps_program.specs.declared.form.Arm.{out-Arm}
@@ -70,15 +71,6 @@ operands::one_then-returns t c = on_ok c.put.result (λ puts. seq c.in_ok-tree.e
 pub operands::two_then-returns : goal.operands::two_then-returns
 operands::two_then-returns t c = on_ok c.one_then.result (λ puts. seq c.in_ok-tree.ensures puts) c.one_then.ensures
 
-pub operands::one_named-returns : goal.operands::one_named-returns
-operands::one_named-returns t c = on_ok c.name.result (λ puts. seq c.in_ok-tree.ensures puts) c.name.ensures
-
-pub operands::call-returns : goal.operands::call-returns
-operands::call-returns t c = on_ok c.put.result (λ puts. seq c.in_ok-all.ensures (one_is (ap (λ n. instr.Call n c.args.line) c.in_ok-n.ensures) puts)) c.put.ensures
-
-pub operands::make-returns : goal.operands::make-returns
-operands::make-returns t c = on_ok c.name.result (λ puts. seq c.in_ok-all.ensures puts) c.name.ensures
-
 pub operands::vector_filled-returns : goal.operands::vector_filled-returns
 operands::vector_filled-returns t c = on_ok c.name_type.result (λ puts. seq c.in_ok-tree.ensures (seq c.in_ok-tree-2.ensures (seq c.in_ok-tree-3.ensures puts))) c.name_type.ensures
 
@@ -89,9 +81,6 @@ operands::vector_of-returns t c =
 
 pub jumps::block-returns : goal.jumps::block-returns
 jumps::block-returns t c = on_ok c.leave.result (λ puts. seq (entering_is c.boxed_text-scope.ensures c.in_ok-enter.ensures) (seq c.in_ok-all.ensures (leaving_is c.boxed_text-scope.ensures puts))) c.leave.ensures
-
-pub jumps::if_do-returns : goal.jumps::if_do-returns
-jumps::if_do-returns t c = on_ok c.jump_over.result (λ puts. seq c.in_ok-tree.ensures puts) c.jump_over.ensures
 
 pub jumps::if_else-returns : goal.jumps::if_else-returns
 unfolding one
@@ -210,15 +199,16 @@ cases::put_label-returns t c =
     if_ok c.hole.result (λ at hole. behind (one_is c.by_type.ensures c.in_ok-put.ensures) (behind c.in_ok-tree.ensures (behind (one_is c.compare.ensures c.in_ok-put-2.ensures)
     (opened_at instr.JumpTrue refl hole.puts hole.is (λ n. refl))))) c.hole.ensures
 
-pub tree::behind-call-requires : goal.tree::behind-call-requires
-tree::behind-call-requires t c =
+pub tree::behind-all_then-requires : goal.tree::behind-all_then-requires
+tree::behind-all_then-requires t c =
     let whole = ap weight (call_is _ c.in-Call.f c.in-Call.args c.in-Call.line _ (sym c.deref.ensures ∙ c.in-Call.is) c.as_slice-in-Call.ensures) in
     (omega (arith, c.decreases, whole, call_weight (node_of c.in-Call.f) (nodes_in c.as_slice-in-Call.result.now) c.in-Call.line), tt)
 
-pub tree::behind-returns-in-Call : goal.tree::behind-returns-in-Call
-tree::behind-returns-in-Call t c =
+pub tree::behind-returns-in_ok-n-in-Call : goal.tree::behind-returns-in_ok-n-in-Call
+tree::behind-returns-in_ok-n-in-Call t c =
     let is = call_is _ c.in-Call.f c.in-Call.args c.in-Call.line _ (sym c.deref.ensures ∙ c.in-Call.is) c.as_slice-in-Call.ensures in
-    subst (λ n. OnOk c.call.result (Puts (behind_of (type_in c.args.known) n) (state_of c.args.emitter.now) (state_of c.call.new.emitter))) (sym is) c.call.ensures
+    subst (λ n. OnOk c.all_then.result (Puts (behind_of (type_in c.args.known) n) (state_of c.args.emitter.now) (state_of c.all_then.new.emitter))) (sym is)
+    (on_ok c.all_then.result (λ puts. last_is _ (ap (λ n. instr.Call n c.in-Call.line) c.in_ok-n-in-Call.ensures) puts) c.all_then.ensures)
 
 pub tree::form-block-requires : goal.tree::form-block-requires
 tree::form-block-requires t c =
@@ -240,17 +230,16 @@ tree::form-returns-in-Case t c =
     let is = case_is _ c.in-Case.e c.in-Case.arms c.in-Case.d c.in-Case.ty _ (sym c.deref.ensures ∙ c.in-Case.is) c.as_slice-in-Case.ensures in
     subst (λ n. OnOk c.case.result (Puts (made n) (state_of c.args.emitter.now) (state_of c.case.new.emitter))) (sym is) c.case.ensures
 
-pub tree::form-make-requires : goal.tree::form-make-requires
-tree::form-make-requires t c =
+pub tree::form-all-requires : goal.tree::form-all-requires
+tree::form-all-requires t c =
     let whole = ap weight (make_is _ c.in-Make.class c.in-Make.args _ (sym c.deref.ensures ∙ c.in-Make.is) c.as_slice-in-Make.ensures) in
     (omega (arith, c.decreases, whole, make_weight (rc_value c.in-Make.class) (nodes_in c.as_slice-in-Make.result.now)), tt)
 
-pub tree::form-returns-in-Make : goal.tree::form-returns-in-Make
-tree::form-returns-in-Make t c =
+pub tree::form-returns-in_ok-all-in-Make : goal.tree::form-returns-in_ok-all-in-Make
+tree::form-returns-in_ok-all-in-Make t c =
     let is = make_is _ c.in-Make.class c.in-Make.args _ (sym c.deref.ensures ∙ c.in-Make.is) c.as_slice-in-Make.ensures in
-    let class_is : c.as_slice-in-Make-2.result.now ≡ rc_value c.in-Make.class = search rules in
-    subst (λ n. OnOk c.make.result (Puts (made n) (state_of c.args.emitter.now) (state_of c.make.new.emitter))) (sym is)
-    (subst (λ x. OnOk c.make.result (Puts (clauses (nodes_in c.as_slice-in-Make.result.now) ▷ naming instr.Make (text x)) (state_of c.args.emitter.now) (state_of c.make.new.emitter))) class_is c.make.ensures)
+    subst (λ n. OnOk c.name-in-Make.result (Puts (made n) (state_of c.args.emitter.now) (state_of c.name-in-Make.new.self))) (sym is)
+    (on_ok c.name-in-Make.result (λ puts. seq c.in_ok-all-in-Make.ensures (subst (λ x. Puts (naming instr.Make (text x)) (state_of c.all.new.emitter) (state_of c.name-in-Make.new.self)) (c.as_slice-in-Make-2.ensures ∙ c.deref-in-Make.ensures) puts)) c.name-in-Make.ensures)
 
 pub tree::form-vector_of-requires : goal.tree::form-vector_of-requires
 tree::form-vector_of-requires t c =
@@ -371,12 +360,6 @@ jumps::for_loop-for_turns-requires t c = (omega (arith, c.decreases), tt)
 pub jumps::for_turns-tree-requires : goal.jumps::for_turns-tree-requires
 jumps::for_turns-tree-requires t c = (omega (arith, c.decreases), tt)
 
-pub jumps::if_do-tree-requires : goal.jumps::if_do-tree-requires
-jumps::if_do-tree-requires t c = (omega (arith, c.decreases), tt)
-
-pub jumps::if_do-jump_over-requires : goal.jumps::if_do-jump_over-requires
-jumps::if_do-jump_over-requires t c = (omega (arith, c.decreases), tt)
-
 pub jumps::if_else-tree-requires : goal.jumps::if_else-tree-requires
 jumps::if_else-tree-requires t c = (omega (arith, c.decreases), tt)
 
@@ -409,15 +392,6 @@ literals::unit-tree-requires t c = (omega (arith, c.decreases), tt)
 
 pub operands::all_then-all-requires : goal.operands::all_then-all-requires
 operands::all_then-all-requires t c = (omega (arith, c.decreases), tt)
-
-pub operands::call-all-requires : goal.operands::call-all-requires
-operands::call-all-requires t c = (omega (arith, c.decreases), tt)
-
-pub operands::make-all-requires : goal.operands::make-all-requires
-operands::make-all-requires t c = (omega (arith, c.decreases), tt)
-
-pub operands::one_named-tree-requires : goal.operands::one_named-tree-requires
-operands::one_named-tree-requires t c = (omega (arith, c.decreases), tt)
 
 pub operands::one_then-tree-requires : goal.operands::one_then-tree-requires
 operands::one_then-tree-requires t c = (omega (arith, c.decreases), tt)
@@ -467,8 +441,8 @@ tree::behind-one_then-requires-in-Join t c = let light = ap (λ f. weight (node_
 pub tree::behind-two_then-requires : goal.tree::behind-two_then-requires
 tree::behind-two_then-requires t c = let light = ap (λ f. weight (node_of_form f)) (sym c.deref.ensures ∙ c.in-Part.is) in (omega (arith, c.decreases, light), tt)
 
-pub tree::behind-one_named-requires : goal.tree::behind-one_named-requires
-tree::behind-one_named-requires t c = let light = ap (λ f. weight (node_of_form f)) (sym c.deref.ensures ∙ c.in-SetField.is) in (omega (arith, c.decreases, light), tt)
+pub tree::behind-tree-requires : goal.tree::behind-tree-requires
+tree::behind-tree-requires t c = let light = ap (λ f. weight (node_of_form f)) (sym c.deref.ensures ∙ c.in-SetField.is) in (omega (arith, c.decreases, light), tt)
 
 pub tree::behind-one_then-requires-in-Element : goal.tree::behind-one_then-requires-in-Element
 tree::behind-one_then-requires-in-Element t c = let light = ap (λ f. weight (node_of_form f)) (sym c.deref.ensures ∙ c.in-Element.is) in (omega (arith, c.decreases, light), tt)
@@ -476,8 +450,11 @@ tree::behind-one_then-requires-in-Element t c = let light = ap (λ f. weight (no
 pub tree::behind-two_then-requires-in-SetElement : goal.tree::behind-two_then-requires-in-SetElement
 tree::behind-two_then-requires-in-SetElement t c = let light = ap (λ f. weight (node_of_form f)) (sym c.deref.ensures ∙ c.in-SetElement.is) in (omega (arith, c.decreases, light), tt)
 
-pub tree::form-if_do-requires : goal.tree::form-if_do-requires
-tree::form-if_do-requires t c = let light = ap (λ f. weight (node_of_form f)) (sym c.deref.ensures ∙ c.in-IfDo.is) in (omega (arith, c.decreases, light), tt)
+pub tree::form-tree-requires : goal.tree::form-tree-requires
+tree::form-tree-requires t c = let light = ap (λ f. weight (node_of_form f)) (sym c.deref.ensures ∙ c.in-IfDo.is) in (omega (arith, c.decreases, light), tt)
+
+pub tree::form-jump_over-requires : goal.tree::form-jump_over-requires
+tree::form-jump_over-requires t c = let light = ap (λ f. weight (node_of_form f)) (sym c.deref.ensures ∙ c.in-IfDo.is) in (omega (arith, c.decreases, light), tt)
 
 pub tree::form-if_else-requires : goal.tree::form-if_else-requires
 tree::form-if_else-requires t c = let light = ap (λ f. weight (node_of_form f)) (sym c.deref.ensures ∙ c.in-IfElse.is) in (omega (arith, c.decreases, light), tt)
@@ -584,10 +561,10 @@ tree::form-returns-in-Name t c =
     subst (λ f. OnOk c.put-in-Name.result (Puts (made (node_of_form f)) (state_of c.args.emitter.now) (state_of c.put-in-Name.new.self))) (sym c.in-Name.is ∙ c.deref.ensures)
     (on_ok c.put-in-Name.result (λ puts. one_is c.get.ensures puts) c.put-in-Name.ensures)
 
-pub tree::form-returns-in-IfDo : goal.tree::form-returns-in-IfDo
-tree::form-returns-in-IfDo t c =
-    subst (λ f. OnOk c.if_do.result (Puts (made (node_of_form f)) (state_of c.args.emitter.now) (state_of c.if_do.new.emitter))) (sym c.in-IfDo.is ∙ c.deref.ensures)
-    c.if_do.ensures
+pub tree::form-returns-in_ok-tree-in-IfDo : goal.tree::form-returns-in_ok-tree-in-IfDo
+tree::form-returns-in_ok-tree-in-IfDo t c =
+    subst (λ f. OnOk c.jump_over.result (Puts (made (node_of_form f)) (state_of c.args.emitter.now) (state_of c.jump_over.new.emitter))) (sym c.in-IfDo.is ∙ c.deref.ensures)
+    (on_ok c.jump_over.result (λ puts. seq c.in_ok-tree-in-IfDo.ensures puts) c.jump_over.ensures)
 
 pub tree::form-returns-in-IfElse : goal.tree::form-returns-in-IfElse
 tree::form-returns-in-IfElse t c =
@@ -710,9 +687,6 @@ jumps::for_turns-returns-in_err-put-3 t c = IfOk-from_err _ _ c.from_residual-in
 pub jumps::for_turns-returns-in_err-end : goal.jumps::for_turns-returns-in_err-end
 jumps::for_turns-returns-in_err-end t c = IfOk-from_err _ _ c.from_residual-in_err-end.ensures.0
 
-pub jumps::if_do-returns-in_err-tree : goal.jumps::if_do-returns-in_err-tree
-jumps::if_do-returns-in_err-tree t c = IfOk-from_err _ _ c.from_residual.ensures.0
-
 pub jumps::jump_over-returns-in_err-hole : goal.jumps::jump_over-returns-in_err-hole
 jumps::jump_over-returns-in_err-hole t c = IfOk-from_err _ _ c.from_residual.ensures.0
 
@@ -748,18 +722,6 @@ operands::all-returns-in_err-tree t c = IfOk-from_err _ _ c.from_residual.ensure
 
 pub operands::all_then-returns-in_err-all : goal.operands::all_then-returns-in_err-all
 operands::all_then-returns-in_err-all t c = IfOk-from_err _ _ c.from_residual.ensures.0
-
-pub operands::call-returns-in_err-n : goal.operands::call-returns-in_err-n
-operands::call-returns-in_err-n t c = IfOk-from_err _ _ c.from_residual.ensures.0
-
-pub operands::call-returns-in_err-all : goal.operands::call-returns-in_err-all
-operands::call-returns-in_err-all t c = IfOk-from_err _ _ c.from_residual-in_err-all.ensures.0
-
-pub operands::make-returns-in_err-all : goal.operands::make-returns-in_err-all
-operands::make-returns-in_err-all t c = IfOk-from_err _ _ c.from_residual.ensures.0
-
-pub operands::one_named-returns-in_err-tree : goal.operands::one_named-returns-in_err-tree
-operands::one_named-returns-in_err-tree t c = IfOk-from_err _ _ c.from_residual.ensures.0
 
 pub operands::one_then-returns-in_err-tree : goal.operands::one_then-returns-in_err-tree
 operands::one_then-returns-in_err-tree t c = IfOk-from_err _ _ c.from_residual.ensures.0
@@ -839,10 +801,11 @@ tree::behind-returns-in-Field t c =
     subst (λ f. OnOk c.name-in-Field.result (Puts (behind_of (type_in c.args.known) (node_of_form f)) (state_of c.args.emitter.now) (state_of c.name-in-Field.new.self))) (sym c.in-Field.is ∙ c.deref.ensures)
     (subst (λ x. OnOk c.name-in-Field.result (Puts (naming (λ k. choice.by_type (ty_view c.in-Field.ty) (instr.FieldM k c.in-Field.index c.in-Field.line) (instr.FieldP k c.in-Field.index c.in-Field.line)) (text x)) (state_of c.args.emitter.now) (state_of c.name-in-Field.new.self))) (c.as_slice-in-Field.ensures ∙ c.deref-in-Field.ensures) c.name-in-Field.ensures)
 
-pub tree::behind-returns-in-SetField : goal.tree::behind-returns-in-SetField
-tree::behind-returns-in-SetField t c =
-    subst (λ f. OnOk c.one_named.result (Puts (behind_of (type_in c.args.known) (node_of_form f)) (state_of c.args.emitter.now) (state_of c.one_named.new.emitter))) (sym c.in-SetField.is ∙ c.deref.ensures)
-    (subst (λ x. OnOk c.one_named.result (Puts (clause (node_of c.in-SetField.e) ▷ naming (λ k. choice.by_type (ty_view c.in-SetField.ty) (instr.SetFieldM k c.in-SetField.index c.in-SetField.line) (instr.SetFieldP k c.in-SetField.index c.in-SetField.line)) (text x)) (state_of c.args.emitter.now) (state_of c.one_named.new.emitter))) (c.as_slice-in-SetField.ensures ∙ c.deref-in-SetField.ensures) c.one_named.ensures)
+pub tree::behind-returns-in_ok-tree-in-SetField : goal.tree::behind-returns-in_ok-tree-in-SetField
+tree::behind-returns-in_ok-tree-in-SetField t c =
+    let field : ℕ → Instr = λ k. choice.by_type (ty_view c.in-SetField.ty) (instr.SetFieldM k c.in-SetField.index c.in-SetField.line) (instr.SetFieldP k c.in-SetField.index c.in-SetField.line) in
+    subst (λ f. OnOk c.name-in-SetField.result (Puts (behind_of (type_in c.args.known) (node_of_form f)) (state_of c.args.emitter.now) (state_of c.name-in-SetField.new.self))) (sym c.in-SetField.is ∙ c.deref.ensures)
+    (on_ok c.name-in-SetField.result (λ puts. seq c.in_ok-tree-in-SetField.ensures (subst (λ x. Puts (naming field (text x)) (state_of c.tree.new.emitter) (state_of c.name-in-SetField.new.self)) (c.as_slice-in-SetField.ensures ∙ c.deref-in-SetField.ensures) puts)) c.name-in-SetField.ensures)
 
 pub tree::form-for_loop-requires : goal.tree::form-for_loop-requires
 tree::form-for_loop-requires t c =

@@ -14,7 +14,7 @@ abbrev pub decreases-tree::tree : goal.decreases-tree::tree
 decreases-tree::tree l = 12 * weight (node_of l.tree.now) + 3
 
 abbrev pub decreases-tree::form : goal.decreases-tree::form
-decreases-tree::form l = 12 * weight (node_of l.tree.now) + 2
+decreases-tree::form l = 12 * weight (node_of l.it.now) + 2
 
 abbrev pub decreases-tree::behind : goal.decreases-tree::behind
 decreases-tree::behind l = 12 * weight (node_of l.link.now) + 1
@@ -34,15 +34,6 @@ decreases-operands::two_then l = 12 * (weight (node_of l.a.now) + weight (node_o
 abbrev pub decreases-operands::all_then : goal.decreases-operands::all_then
 decreases-operands::all_then l = 12 * weight_all (nodes_in l.items.now) + 5
 
-abbrev pub decreases-operands::one_named : goal.decreases-operands::one_named
-decreases-operands::one_named l = 12 * weight (node_of l.a.now) + 4
-
-abbrev pub decreases-operands::call : goal.decreases-operands::call
-decreases-operands::call l = 12 * weight_all (nodes_in l.args.now) + 5
-
-abbrev pub decreases-operands::make : goal.decreases-operands::make
-decreases-operands::make l = 12 * weight_all (nodes_in l.args.now) + 5
-
 abbrev pub decreases-operands::vector_filled : goal.decreases-operands::vector_filled
 decreases-operands::vector_filled l = 12 * (weight (node_of l.l.now) + weight (node_of l.u.now) + weight (node_of l.e.now)) + 5
 
@@ -51,9 +42,6 @@ decreases-operands::vector_of l = 12 * (weight (node_of l.l.now) + weight_all (n
 
 abbrev pub decreases-jumps::block : goal.decreases-jumps::block
 decreases-jumps::block l = 12 * weight_all (nodes_in l.items.now) + 5
-
-abbrev pub decreases-jumps::if_do : goal.decreases-jumps::if_do
-decreases-jumps::if_do l = 12 * (weight (node_of l.c.now) + weight (node_of l.a.now)) + 5
 
 abbrev pub decreases-jumps::if_else : goal.decreases-jumps::if_else
 decreases-jumps::if_else l = 12 * (weight (node_of l.c.now) + weight (node_of l.a.now) + weight (node_of l.b.now)) + 6
