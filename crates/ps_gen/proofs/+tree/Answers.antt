@@ -1,5 +1,5 @@
 -- What the functions of the cycle put.
-use Rattle.std.proofs.Common.{rules, ℕ, ◌≡◌, ◌+◌, List, [], ◌∷◌, OnOk, length, length-append, drop, map, ap, sym, refl, subst, ◌∙◌, arith}
+use Rattle.std.proofs.Common.{rules, ℕ, ◌≡◌, ◌+◌, ◌-◌, List, [], ◌∷◌, OnOk, length, length-append, drop, map, ap, sym, refl, subst, ◌∙◌, arith}
 use Rattle.std.proofs.lemmas.List.{drop_all}
 use Rattle.std.proofs.lemmas.Result.{IfOk-from_err}
 use borrow.Author.Count.{falls}
@@ -26,7 +26,7 @@ use Rattle.ps_type_text.specs.Texts.{type_text}
 use Rattle.ps_gen.specs.Emission.{size}
 use Rattle.ps_gen.specs.Units.{row_of}
 use Rattle.ps_gen.specs.inside.Steps.{Ends}
-use Rattle.ps_emitter.specs.Pieces.{state_of, Puts, Opens, ◌▷◌, one, to_behind, Left, LeftOpen}
+use Rattle.ps_emitter.specs.Pieces.{state_of, at_end, Puts, Opens, ◌▷◌, one, to_behind, Left, LeftOpen}
 use Rattle.ps_gen.specs.inside.Clauses.{closing, clause, clauses, labels_of, arms_of, arm_of, made, behind_of}
 use Rattle.ps_emitter.specs.Choices as choice
 use Rattle.ps_emitter.specs.Instructions.{naming, jump_of}
@@ -87,7 +87,7 @@ unfolding one
 jumps::if_else-returns t c =
     let opens = followed (opened_at instr.JumpFalse refl c.in_ok-test.ensures.puts c.in_ok-test.ensures.is (λ n. refl)) c.in_ok-tree-2.ensures in
     on_ok c.overwrite.result (λ written.
-    let parts = halfway instr.JumpFalse (λ end. end + 5) opens (record { puts = c.in_ok-jump_over.ensures; is = refl }) (c.in_ok-other.ensures ∙ ap (λ n. n + 5) c.in_ok-here.ensures) refl c.overwrite.ensures.fits written in
+    let parts = halfway instr.JumpFalse (λ end. end + 5) opens (record { puts = c.in_ok-jump_over.ensures; is = refl }) c.in_ok-other.ensures refl c.overwrite.ensures.fits written in
     seq c.in_ok-tree.ensures (seq parts.first parts.second)) c.overwrite.ensures.written
 
 pub jumps::jump_over-returns : goal.jumps::jump_over-returns
@@ -96,15 +96,16 @@ jumps::jump_over-returns t c =
 
 pub jumps::while_loop-returns : goal.jumps::while_loop-returns
 unfolding one ◌▷◌ to_behind
-jumps::while_loop-returns t c = on_ok c.one_then.result (λ puts. begun _ c.in_ok-here.field-0 (seq c.in_ok-jump_over.ensures (last_is _ (ap instr.Again c.in_ok-clause.ensures) puts)) c.in_ok-here.ensures refl) c.one_then.ensures
+jumps::while_loop-returns t c = on_ok c.one_then.result (λ puts. begun _ (at_end (state_of c.args.emitter.now)) (seq c.in_ok-jump_over.ensures (last_is _ (ap instr.Again c.in_ok-clause.ensures) puts)) refl refl) c.one_then.ensures
 
 pub jumps::repeat_loop-returns : goal.jumps::repeat_loop-returns
 unfolding one ◌▷◌ to_behind
-jumps::repeat_loop-returns t c = on_ok c.two_then.result (λ puts. begun _ c.in_ok-here.field-0 (seq c.in_ok-jump_over.ensures (third_is (clause (node_of c.args.a.now)) (clause (node_of c.args.c.now)) (ap instr.Again c.in_ok-between.ensures) puts)) c.in_ok-here.ensures refl) c.two_then.ensures
+jumps::repeat_loop-returns t c = on_ok c.two_then.result (λ puts. begun _ (at_end (state_of c.args.emitter.now)) (seq c.in_ok-jump_over.ensures (third_is (clause (node_of c.args.a.now)) (clause (node_of c.args.c.now)) (ap instr.Again c.in_ok-between.ensures) puts)) refl refl) c.two_then.ensures
 
 pub jumps::for_loop-returns : goal.jumps::for_loop-returns
 jumps::for_loop-returns t c =
-    on_ok c.for_turns.result (λ puts. seq c.in_ok-take.ensures (seq c.in_ok-take_place.ensures (seq2 _ _ c.in_ok-one_then.ensures (seq2 _ _ (last_is _ (ap instr.SetM c.in_ok-limit.ensures) c.in_ok-one_then-2.ensures)
+    let limit : c.in_ok-step.step - 1 ≡ c.args.it.now.slot + 1 = omega (arith, c.in_ok-step.ensures) in
+    on_ok c.for_turns.result (λ puts. seq c.in_ok-take.ensures (seq c.in_ok-take_place.ensures (seq2 _ _ c.in_ok-one_then.ensures (seq2 _ _ (last_is _ (ap instr.SetM limit) c.in_ok-one_then-2.ensures)
     (seq2 _ _ (last_is _ (ap instr.SetM c.in_ok-step.ensures) c.in_ok-one_then-3.ensures) puts))))) c.for_turns.ensures
 
 pub jumps::for_turns-returns : goal.jumps::for_turns-returns
@@ -114,9 +115,9 @@ jumps::for_turns-returns t c =
     let scope = c.text_in-scope.ensures in
     let inner = seq (entering_is scope c.in_ok-enter.ensures) (seq c.in_ok-put.ensures (seq (one_is c.set.ensures c.in_ok-put-2.ensures) (seq c.in_ok-tree.ensures
     (seq (leaving_is scope c.in_ok-leave.ensures) (one_is (ap (instr.ForNext it.slot) c.in_ok-turn.ensures) c.in_ok-put-3.ensures))))) in
-    on_ok c.overwrite.result (λ written. begun _ c.in_ok-here.field-0
+    on_ok c.overwrite.result (λ written. begun _ (at_end (state_of c.args.emitter.now))
     (single (λ n. instr.ForStart it.slot n it.line) (λ end. end) (λ n. refl) refl c.in_ok-hole.ensures inner c.in_ok-end.ensures refl c.overwrite.ensures.fits written)
-    c.in_ok-here.ensures refl) c.overwrite.ensures.written
+    refl refl) c.overwrite.ensures.written
 
 pub scans::scan-returns : goal.scans::scan-returns
 scans::scan-returns t c =
@@ -621,26 +622,14 @@ cases::put_arm-returns-in_err-next t c = IfOk-from_err _ _ c.from_residual-in_er
 pub cases::put_arm-returns-in_err-overwrite : goal.cases::put_arm-returns-in_err-overwrite
 cases::put_arm-returns-in_err-overwrite t c = IfOk-from_err _ _ c.from_residual-in_err-overwrite.ensures.0
 
-pub cases::put_label-returns-in_err-put : goal.cases::put_label-returns-in_err-put
-cases::put_label-returns-in_err-put t c = IfOk-from_err _ _ c.from_residual.ensures.0
-
-pub cases::put_label-returns-in_err-tree : goal.cases::put_label-returns-in_err-tree
-cases::put_label-returns-in_err-tree t c = IfOk-from_err _ _ c.from_residual-in_err-tree.ensures.0
-
-pub cases::put_label-returns-in_err-put-2 : goal.cases::put_label-returns-in_err-put-2
-cases::put_label-returns-in_err-put-2 t c = IfOk-from_err _ _ c.from_residual-in_err-put-2.ensures.0
-
 pub jumps::block-returns-in_err-enter : goal.jumps::block-returns-in_err-enter
 jumps::block-returns-in_err-enter t c = IfOk-from_err _ _ c.from_residual.ensures.0
 
 pub jumps::block-returns-in_err-all : goal.jumps::block-returns-in_err-all
 jumps::block-returns-in_err-all t c = IfOk-from_err _ _ c.from_residual-in_err-all.ensures.0
 
-pub jumps::for_loop-returns-in_err-limit : goal.jumps::for_loop-returns-in_err-limit
-jumps::for_loop-returns-in_err-limit t c = IfOk-from_err _ _ c.from_residual.ensures.0
-
 pub jumps::for_loop-returns-in_err-step : goal.jumps::for_loop-returns-in_err-step
-jumps::for_loop-returns-in_err-step t c = IfOk-from_err _ _ c.from_residual-in_err-step.ensures.0
+jumps::for_loop-returns-in_err-step t c = IfOk-from_err _ _ c.from_residual.ensures.0
 
 pub jumps::for_loop-returns-in_err-take : goal.jumps::for_loop-returns-in_err-take
 jumps::for_loop-returns-in_err-take t c = IfOk-from_err _ _ c.from_residual-in_err-take.ensures.0
@@ -657,11 +646,8 @@ jumps::for_loop-returns-in_err-one_then-2 t c = IfOk-from_err _ _ c.from_residua
 pub jumps::for_loop-returns-in_err-one_then-3 : goal.jumps::for_loop-returns-in_err-one_then-3
 jumps::for_loop-returns-in_err-one_then-3 t c = IfOk-from_err _ _ c.from_residual-in_err-one_then-3.ensures.0
 
-pub jumps::for_turns-returns-in_err-here : goal.jumps::for_turns-returns-in_err-here
-jumps::for_turns-returns-in_err-here t c = IfOk-from_err _ _ c.from_residual.ensures.0
-
 pub jumps::for_turns-returns-in_err-turn : goal.jumps::for_turns-returns-in_err-turn
-jumps::for_turns-returns-in_err-turn t c = IfOk-from_err _ _ c.from_residual-in_err-turn.ensures.0
+jumps::for_turns-returns-in_err-turn t c = IfOk-from_err _ _ c.from_residual.ensures.0
 
 pub jumps::for_turns-returns-in_err-hole : goal.jumps::for_turns-returns-in_err-hole
 jumps::for_turns-returns-in_err-hole t c = IfOk-from_err _ _ c.from_residual-in_err-hole.ensures.0
@@ -696,20 +682,14 @@ jumps::jump_over-returns-in_err-tree t c = IfOk-from_err _ _ c.from_residual-in_
 pub jumps::jump_over-returns-in_err-end : goal.jumps::jump_over-returns-in_err-end
 jumps::jump_over-returns-in_err-end t c = IfOk-from_err _ _ c.from_residual-in_err-end.ensures.0
 
-pub jumps::repeat_loop-returns-in_err-here : goal.jumps::repeat_loop-returns-in_err-here
-jumps::repeat_loop-returns-in_err-here t c = IfOk-from_err _ _ c.from_residual.ensures.0
-
 pub jumps::repeat_loop-returns-in_err-between : goal.jumps::repeat_loop-returns-in_err-between
-jumps::repeat_loop-returns-in_err-between t c = IfOk-from_err _ _ c.from_residual-in_err-between.ensures.0
+jumps::repeat_loop-returns-in_err-between t c = IfOk-from_err _ _ c.from_residual.ensures.0
 
 pub jumps::repeat_loop-returns-in_err-jump_over : goal.jumps::repeat_loop-returns-in_err-jump_over
 jumps::repeat_loop-returns-in_err-jump_over t c = IfOk-from_err _ _ c.from_residual-in_err-jump_over.ensures.0
 
-pub jumps::while_loop-returns-in_err-here : goal.jumps::while_loop-returns-in_err-here
-jumps::while_loop-returns-in_err-here t c = IfOk-from_err _ _ c.from_residual.ensures.0
-
 pub jumps::while_loop-returns-in_err-clause : goal.jumps::while_loop-returns-in_err-clause
-jumps::while_loop-returns-in_err-clause t c = IfOk-from_err _ _ c.from_residual-in_err-clause.ensures.0
+jumps::while_loop-returns-in_err-clause t c = IfOk-from_err _ _ c.from_residual.ensures.0
 
 pub jumps::while_loop-returns-in_err-jump_over : goal.jumps::while_loop-returns-in_err-jump_over
 jumps::while_loop-returns-in_err-jump_over t c = IfOk-from_err _ _ c.from_residual-in_err-jump_over.ensures.0
@@ -840,3 +820,84 @@ cases::case-offset_bounds-arms-arm-index t c =
 pub cases::arm_labels-offset_bounds-labels-label-index : goal.cases::arm_labels-offset_bounds-labels-label-index
 cases::arm_labels-offset_bounds-labels-label-index t c =
     search rules
+
+pub cases::put_label-returns-in_err-put : goal.cases::put_label-returns-in_err-put
+cases::put_label-returns-in_err-put t c = IfOk-from_err _ _ c.from_residual.ensures.0
+
+pub cases::put_label-returns-in_err-tree : goal.cases::put_label-returns-in_err-tree
+cases::put_label-returns-in_err-tree t c = IfOk-from_err _ _ c.from_residual-in_err-tree.ensures.0
+
+pub cases::put_label-returns-in_err-put-2 : goal.cases::put_label-returns-in_err-put-2
+cases::put_label-returns-in_err-put-2 t c = IfOk-from_err _ _ c.from_residual-in_err-put-2.ensures.0
+
+pub cases::case-returns-in_err-tree : goal.cases::case-returns-in_err-tree
+cases::case-returns-in_err-tree t c = IfOk-from_err _ _ c.from_residual.ensures.0
+
+pub cases::case-returns-in_err-end : goal.cases::case-returns-in_err-end
+cases::case-returns-in_err-end t c = IfOk-from_err _ _ c.from_residual-in_err-end.ensures.0
+
+pub cases::case-returns-in_err-push : goal.cases::case-returns-in_err-push
+cases::case-returns-in_err-push t c = IfOk-from_err _ _ c.from_residual-in_err-push.ensures.0
+
+pub cases::case-returns-in_err-put : goal.cases::case-returns-in_err-put
+cases::case-returns-in_err-put t c = IfOk-from_err _ _ c.from_residual-in_err-put.ensures.0
+
+pub cases::case-returns-in_err-tree-2 : goal.cases::case-returns-in_err-tree-2
+cases::case-returns-in_err-tree-2 t c = IfOk-from_err _ _ c.from_residual-in_err-tree-2.ensures.0
+
+pub cases::case-returns-in_err-end-2 : goal.cases::case-returns-in_err-end-2
+cases::case-returns-in_err-end-2 t c = IfOk-from_err _ _ c.from_residual-in_err-end-2.ensures.0
+
+pub cases::arm_labels-returns-in_err-hole : goal.cases::arm_labels-returns-in_err-hole
+cases::arm_labels-returns-in_err-hole t c = IfOk-from_err _ _ c.from_residual.ensures.0
+
+pub cases::arm_labels-returns-in_err-push : goal.cases::arm_labels-returns-in_err-push
+cases::arm_labels-returns-in_err-push t c = IfOk-from_err _ _ c.from_residual-in_err-push.ensures.0
+
+pub cases::arm_labels-returns-in_err-past : goal.cases::arm_labels-returns-in_err-past
+cases::arm_labels-returns-in_err-past t c = IfOk-from_err _ _ c.from_residual-in_err-past.ensures.0
+
+pub cases::arm_labels-returns-in_err-chosen : goal.cases::arm_labels-returns-in_err-chosen
+cases::arm_labels-returns-in_err-chosen t c = IfOk-from_err _ _ c.from_residual-in_err-chosen.ensures.0
+
+pub cases::arm_labels-returns-in_err-fill : goal.cases::arm_labels-returns-in_err-fill
+cases::arm_labels-returns-in_err-fill t c = IfOk-from_err _ _ c.from_residual-in_err-fill.ensures.0
+
+pub jumps::if_else-returns-in_err-tree : goal.jumps::if_else-returns-in_err-tree
+jumps::if_else-returns-in_err-tree t c = IfOk-from_err _ _ c.from_residual.ensures.0
+
+pub jumps::if_else-returns-in_err-test : goal.jumps::if_else-returns-in_err-test
+jumps::if_else-returns-in_err-test t c = IfOk-from_err _ _ c.from_residual-in_err-test.ensures.0
+
+pub jumps::if_else-returns-in_err-tree-2 : goal.jumps::if_else-returns-in_err-tree-2
+jumps::if_else-returns-in_err-tree-2 t c = IfOk-from_err _ _ c.from_residual-in_err-tree-2.ensures.0
+
+pub jumps::if_else-returns-in_err-other : goal.jumps::if_else-returns-in_err-other
+jumps::if_else-returns-in_err-other t c = IfOk-from_err _ _ c.from_residual-in_err-other.ensures.0
+
+pub jumps::if_else-returns-in_err-jump_over : goal.jumps::if_else-returns-in_err-jump_over
+jumps::if_else-returns-in_err-jump_over t c = IfOk-from_err _ _ c.from_residual-in_err-jump_over.ensures.0
+
+pub literals::unit-returns-in_err-counts : goal.literals::unit-returns-in_err-counts
+literals::unit-returns-in_err-counts t c = IfOk-from_err _ _ c.from_residual.ensures.0
+
+pub literals::unit-returns-in_err-tree : goal.literals::unit-returns-in_err-tree
+literals::unit-returns-in_err-tree t c = IfOk-from_err _ _ c.from_residual-in_err-tree.ensures.0
+
+pub literals::unit-returns-in_err-put : goal.literals::unit-returns-in_err-put
+literals::unit-returns-in_err-put t c = IfOk-from_err _ _ c.from_residual-in_err-put.ensures.0
+
+pub literals::unit-returns-in_err-frame : goal.literals::unit-returns-in_err-frame
+literals::unit-returns-in_err-frame t c = IfOk-from_err _ _ c.from_residual-in_err-frame.ensures.0
+
+pub tree::behind-returns-in_err-tree-in-SetField : goal.tree::behind-returns-in_err-tree-in-SetField
+tree::behind-returns-in_err-tree-in-SetField t c = IfOk-from_err _ _ c.from_residual.ensures.0
+
+pub tree::behind-returns-in_err-n-in-Call : goal.tree::behind-returns-in_err-n-in-Call
+tree::behind-returns-in_err-n-in-Call t c = IfOk-from_err _ _ c.from_residual-in_err-n-in-Call.ensures.0
+
+pub tree::form-returns-in_err-tree-in-IfDo : goal.tree::form-returns-in_err-tree-in-IfDo
+tree::form-returns-in_err-tree-in-IfDo t c = IfOk-from_err _ _ c.from_residual.ensures.0
+
+pub tree::form-returns-in_err-all-in-Make : goal.tree::form-returns-in_err-all-in-Make
+tree::form-returns-in_err-all-in-Make t c = IfOk-from_err _ _ c.from_residual-in_err-all-in-Make.ensures.0
