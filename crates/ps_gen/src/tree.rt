@@ -5,7 +5,7 @@ ghost use Rattle.ps_emitter.specs.Pieces.{state_of, Puts};
 ghost use Rattle.ps_gen.specs.inside.Clauses.{clause, behind_of, made};
 
 use crate::cases::case;
-use crate::jumps::{block, for_loop, if_else, jump_over, repeat_loop, while_loop};
+use crate::jumps::{ahead, block, for_loop, if_else, jump_over};
 use crate::literals::procedure;
 use crate::operands::{all, all_then, one_then, two_then, vector_filled, vector_of};
 use crate::scans::scan;
@@ -139,8 +139,16 @@ fn form(emitter: &mut Emitter, it: &Tree) -> Result<(), AllocError>
             jump_over(emitter, Forward::JumpFalse, a)
         }
         TreeForm::IfElse { c, a, b } => if_else(emitter, c, a, b),
-        TreeForm::While { c, a } => while_loop(emitter, c, a),
-        TreeForm::Repeat { a, c, b } => repeat_loop(emitter, a, c, b),
+        TreeForm::While { c, a } => {
+            let clause = ahead(emitter, 5)?;
+            jump_over(emitter, Forward::Jump, a)?;
+            one_then(emitter, c, Instr::Again { t: clause })
+        }
+        TreeForm::Repeat { a, c, b } => {
+            let between = ahead(emitter, 5)?;
+            jump_over(emitter, Forward::Jump, b)?;
+            two_then(emitter, a, c, Instr::Again { t: between })
+        }
         TreeForm::For(it) => for_loop(emitter, it),
         TreeForm::Case { e, arms, d, ty } => case(emitter, e, arms.as_slice(), d, ty),
         TreeForm::Make { class, args } => {

@@ -94,14 +94,6 @@ pub jumps::jump_over-returns : goal.jumps::jump_over-returns
 jumps::jump_over-returns t c =
     on_ok c.overwrite.result (λ written. single (jump_of c.args.jump) (λ end. end) (jump_width c.args.jump) c.to.ensures c.in_ok-hole.ensures c.in_ok-tree.ensures c.in_ok-end.ensures c.to-2.ensures c.overwrite.ensures.fits written) c.overwrite.ensures.written
 
-pub jumps::while_loop-returns : goal.jumps::while_loop-returns
-unfolding one ◌▷◌ to_behind
-jumps::while_loop-returns t c = on_ok c.one_then.result (λ puts. begun _ (at_end (state_of c.args.emitter.now)) (seq c.in_ok-jump_over.ensures (last_is _ (ap instr.Again c.in_ok-clause.ensures) puts)) refl refl) c.one_then.ensures
-
-pub jumps::repeat_loop-returns : goal.jumps::repeat_loop-returns
-unfolding one ◌▷◌ to_behind
-jumps::repeat_loop-returns t c = on_ok c.two_then.result (λ puts. begun _ (at_end (state_of c.args.emitter.now)) (seq c.in_ok-jump_over.ensures (third_is (clause (node_of c.args.a.now)) (clause (node_of c.args.c.now)) (ap instr.Again c.in_ok-between.ensures) puts)) refl refl) c.two_then.ensures
-
 pub jumps::for_loop-returns : goal.jumps::for_loop-returns
 jumps::for_loop-returns t c =
     let limit : c.in_ok-step.step - 1 ≡ c.args.it.now.slot + 1 = omega (arith, c.in_ok-step.ensures) in
@@ -373,18 +365,6 @@ jumps::if_else-tree-requires-2 t c = (omega (arith, c.decreases), tt)
 pub jumps::jump_over-tree-requires : goal.jumps::jump_over-tree-requires
 jumps::jump_over-tree-requires t c = (omega (arith, c.decreases), tt)
 
-pub jumps::repeat_loop-jump_over-requires : goal.jumps::repeat_loop-jump_over-requires
-jumps::repeat_loop-jump_over-requires t c = (omega (arith, c.decreases), tt)
-
-pub jumps::repeat_loop-two_then-requires : goal.jumps::repeat_loop-two_then-requires
-jumps::repeat_loop-two_then-requires t c = (omega (arith, c.decreases), tt)
-
-pub jumps::while_loop-jump_over-requires : goal.jumps::while_loop-jump_over-requires
-jumps::while_loop-jump_over-requires t c = (omega (arith, c.decreases), tt)
-
-pub jumps::while_loop-one_then-requires : goal.jumps::while_loop-one_then-requires
-jumps::while_loop-one_then-requires t c = (omega (arith, c.decreases), tt)
-
 pub literals::procedure-unit-requires : goal.literals::procedure-unit-requires
 literals::procedure-unit-requires t c = (omega (arith, c.decreases), tt)
 
@@ -460,20 +440,11 @@ tree::form-jump_over-requires t c = let light = ap (λ f. weight (node_of_form f
 pub tree::form-if_else-requires : goal.tree::form-if_else-requires
 tree::form-if_else-requires t c = let light = ap (λ f. weight (node_of_form f)) (sym c.deref.ensures ∙ c.in-IfElse.is) in (omega (arith, c.decreases, light), tt)
 
-pub tree::form-while_loop-requires : goal.tree::form-while_loop-requires
-tree::form-while_loop-requires t c = let light = ap (λ f. weight (node_of_form f)) (sym c.deref.ensures ∙ c.in-While.is) in (omega (arith, c.decreases, light), tt)
-
-pub tree::form-repeat_loop-requires : goal.tree::form-repeat_loop-requires
-tree::form-repeat_loop-requires t c = let light = ap (λ f. weight (node_of_form f)) (sym c.deref.ensures ∙ c.in-Repeat.is) in (omega (arith, c.decreases, light), tt)
-
 pub tree::form-vector_filled-requires : goal.tree::form-vector_filled-requires
 tree::form-vector_filled-requires t c = let light = ap (λ f. weight (node_of_form f)) (sym c.deref.ensures ∙ c.in-Fill.is) in (omega (arith, c.decreases, light), tt)
 
 pub tree::form-scan-requires : goal.tree::form-scan-requires
 tree::form-scan-requires t c = let light = ap (λ f. weight (node_of_form f)) (sym c.deref.ensures ∙ c.in-Scan.is) in (omega (arith, c.decreases, light), tt)
-
-pub tree::form-two_then-requires : goal.tree::form-two_then-requires
-tree::form-two_then-requires t c = let light = ap (λ f. weight (node_of_form f)) (sym c.deref.ensures ∙ c.in-Write.is) in (omega (arith, c.decreases, light), tt)
 
 -- the code of each form
 
@@ -572,16 +543,6 @@ tree::form-returns-in-IfElse t c =
     subst (λ f. OnOk c.if_else.result (Puts (made (node_of_form f)) (state_of c.args.emitter.now) (state_of c.if_else.new.emitter))) (sym c.in-IfElse.is ∙ c.deref.ensures)
     c.if_else.ensures
 
-pub tree::form-returns-in-While : goal.tree::form-returns-in-While
-tree::form-returns-in-While t c =
-    subst (λ f. OnOk c.while_loop.result (Puts (made (node_of_form f)) (state_of c.args.emitter.now) (state_of c.while_loop.new.emitter))) (sym c.in-While.is ∙ c.deref.ensures)
-    c.while_loop.ensures
-
-pub tree::form-returns-in-Repeat : goal.tree::form-returns-in-Repeat
-tree::form-returns-in-Repeat t c =
-    subst (λ f. OnOk c.repeat_loop.result (Puts (made (node_of_form f)) (state_of c.args.emitter.now) (state_of c.repeat_loop.new.emitter))) (sym c.in-Repeat.is ∙ c.deref.ensures)
-    c.repeat_loop.ensures
-
 pub tree::form-returns-in-Fill : goal.tree::form-returns-in-Fill
 tree::form-returns-in-Fill t c =
     subst (λ f. OnOk c.vector_filled.result (Puts (made (node_of_form f)) (state_of c.args.emitter.now) (state_of c.vector_filled.new.emitter))) (sym c.in-Fill.is ∙ c.deref.ensures)
@@ -594,8 +555,8 @@ tree::form-returns-in-Scan t c =
 
 pub tree::form-returns-in-Write : goal.tree::form-returns-in-Write
 tree::form-returns-in-Write t c =
-    subst (λ f. OnOk c.two_then.result (Puts (made (node_of_form f)) (state_of c.args.emitter.now) (state_of c.two_then.new.emitter))) (sym c.in-Write.is ∙ c.deref.ensures)
-    (on_ok c.two_then.result (λ puts. third_is _ _ c.write.ensures puts) c.two_then.ensures)
+    subst (λ f. OnOk c.two_then-in-Write.result (Puts (made (node_of_form f)) (state_of c.args.emitter.now) (state_of c.two_then-in-Write.new.emitter))) (sym c.in-Write.is ∙ c.deref.ensures)
+    (on_ok c.two_then-in-Write.result (λ puts. third_is _ _ c.write.ensures puts) c.two_then-in-Write.ensures)
 
 pub tree::form-returns-in-Abort : goal.tree::form-returns-in-Abort
 tree::form-returns-in-Abort t c =
@@ -681,18 +642,6 @@ jumps::jump_over-returns-in_err-tree t c = IfOk-from_err _ _ c.from_residual-in_
 
 pub jumps::jump_over-returns-in_err-end : goal.jumps::jump_over-returns-in_err-end
 jumps::jump_over-returns-in_err-end t c = IfOk-from_err _ _ c.from_residual-in_err-end.ensures.0
-
-pub jumps::repeat_loop-returns-in_err-between : goal.jumps::repeat_loop-returns-in_err-between
-jumps::repeat_loop-returns-in_err-between t c = IfOk-from_err _ _ c.from_residual.ensures.0
-
-pub jumps::repeat_loop-returns-in_err-jump_over : goal.jumps::repeat_loop-returns-in_err-jump_over
-jumps::repeat_loop-returns-in_err-jump_over t c = IfOk-from_err _ _ c.from_residual-in_err-jump_over.ensures.0
-
-pub jumps::while_loop-returns-in_err-clause : goal.jumps::while_loop-returns-in_err-clause
-jumps::while_loop-returns-in_err-clause t c = IfOk-from_err _ _ c.from_residual.ensures.0
-
-pub jumps::while_loop-returns-in_err-jump_over : goal.jumps::while_loop-returns-in_err-jump_over
-jumps::while_loop-returns-in_err-jump_over t c = IfOk-from_err _ _ c.from_residual-in_err-jump_over.ensures.0
 
 pub literals::procedure-returns-in_err-unit : goal.literals::procedure-returns-in_err-unit
 literals::procedure-returns-in_err-unit t c = IfOk-from_err _ _ c.from_residual.ensures.0
@@ -901,3 +850,42 @@ tree::form-returns-in_err-tree-in-IfDo t c = IfOk-from_err _ _ c.from_residual.e
 
 pub tree::form-returns-in_err-all-in-Make : goal.tree::form-returns-in_err-all-in-Make
 tree::form-returns-in_err-all-in-Make t c = IfOk-from_err _ _ c.from_residual-in_err-all-in-Make.ensures.0
+
+pub tree::form-jump_over-requires-in-While : goal.tree::form-jump_over-requires-in-While
+tree::form-jump_over-requires-in-While t c = let light = ap (λ f. weight (node_of_form f)) (sym c.deref.ensures ∙ c.in-While.is) in (omega (arith, c.decreases, light), tt)
+
+pub tree::form-one_then-requires : goal.tree::form-one_then-requires
+tree::form-one_then-requires t c = let light = ap (λ f. weight (node_of_form f)) (sym c.deref.ensures ∙ c.in-While.is) in (omega (arith, c.decreases, light), tt)
+
+pub tree::form-jump_over-requires-in-Repeat : goal.tree::form-jump_over-requires-in-Repeat
+tree::form-jump_over-requires-in-Repeat t c = let light = ap (λ f. weight (node_of_form f)) (sym c.deref.ensures ∙ c.in-Repeat.is) in (omega (arith, c.decreases, light), tt)
+
+pub tree::form-two_then-requires : goal.tree::form-two_then-requires
+tree::form-two_then-requires t c = let light = ap (λ f. weight (node_of_form f)) (sym c.deref.ensures ∙ c.in-Repeat.is) in (omega (arith, c.decreases, light), tt)
+
+pub tree::form-two_then-requires-in-Write : goal.tree::form-two_then-requires-in-Write
+tree::form-two_then-requires-in-Write t c = let light = ap (λ f. weight (node_of_form f)) (sym c.deref.ensures ∙ c.in-Write.is) in (omega (arith, c.decreases, light), tt)
+
+pub tree::form-returns-in_ok-jump_over-in-While : goal.tree::form-returns-in_ok-jump_over-in-While
+unfolding one ◌▷◌ to_behind
+tree::form-returns-in_ok-jump_over-in-While t c =
+    subst (λ f. OnOk c.one_then.result (Puts (made (node_of_form f)) (state_of c.args.emitter.now) (state_of c.one_then.new.emitter))) (sym c.in-While.is ∙ c.deref.ensures)
+    (on_ok c.one_then.result (λ puts. begun _ (at_end (state_of c.args.emitter.now)) (seq c.in_ok-jump_over-in-While.ensures (last_is _ (ap instr.Again c.in_ok-clause-in-While.ensures) puts)) refl refl) c.one_then.ensures)
+
+pub tree::form-returns-in_ok-jump_over-in-Repeat : goal.tree::form-returns-in_ok-jump_over-in-Repeat
+unfolding one ◌▷◌ to_behind
+tree::form-returns-in_ok-jump_over-in-Repeat t c =
+    subst (λ f. OnOk c.two_then.result (Puts (made (node_of_form f)) (state_of c.args.emitter.now) (state_of c.two_then.new.emitter))) (sym c.in-Repeat.is ∙ c.deref.ensures)
+    (on_ok c.two_then.result (λ puts. begun _ (at_end (state_of c.args.emitter.now)) (seq c.in_ok-jump_over-in-Repeat.ensures (third_is (clause (node_of c.in-Repeat.a)) (clause (node_of c.in-Repeat.c)) (ap instr.Again c.in_ok-between-in-Repeat.ensures) puts)) refl refl) c.two_then.ensures)
+
+pub tree::form-returns-in_err-clause-in-While : goal.tree::form-returns-in_err-clause-in-While
+tree::form-returns-in_err-clause-in-While t c = IfOk-from_err _ _ c.from_residual-in_err-clause-in-While.ensures.0
+
+pub tree::form-returns-in_err-jump_over-in-While : goal.tree::form-returns-in_err-jump_over-in-While
+tree::form-returns-in_err-jump_over-in-While t c = IfOk-from_err _ _ c.from_residual-in_err-jump_over-in-While.ensures.0
+
+pub tree::form-returns-in_err-between-in-Repeat : goal.tree::form-returns-in_err-between-in-Repeat
+tree::form-returns-in_err-between-in-Repeat t c = IfOk-from_err _ _ c.from_residual-in_err-between-in-Repeat.ensures.0
+
+pub tree::form-returns-in_err-jump_over-in-Repeat : goal.tree::form-returns-in_err-jump_over-in-Repeat
+tree::form-returns-in_err-jump_over-in-Repeat t c = IfOk-from_err _ _ c.from_residual-in_err-jump_over-in-Repeat.ensures.0
