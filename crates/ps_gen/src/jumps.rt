@@ -1,13 +1,12 @@
-ghost use Rattle.std.specs.Prelude.{◌≡◌, ◌+◌, IfOk, OnOk, option_map};
+ghost use Rattle.std.specs.Prelude.{◌≡◌, ◌+◌, IfOk, OnOk};
 ghost use Rattle.ps_program.specs.Node as node;
-ghost use Rattle.ps_program.specs.NodeView.{node_of, nodes_in};
+ghost use Rattle.ps_program.specs.NodeView.{node_of};
 ghost use Rattle.ps_emitter.specs.Pieces.{state_of, Puts, at_end};
 ghost use Rattle.ps_gen.specs.inside.Clauses.{clause, jumping, made, loop};
 
-use crate::operands::{all, one_then};
-use crate::scopes::{boxed_text, enter, leave, text_in};
+use crate::operands::one_then;
+use crate::scopes::{enter, leave, text_in};
 use crate::tree::tree;
-use ps_base::bytes::Bytes;
 use ps_base::instr::Instr;
 use ps_base::ty::Ty;
 use ps_emitter::choices::set;
@@ -32,21 +31,6 @@ pub(crate) fn jump_over(emitter: &mut Emitter, jump: Forward, a: &Tree) -> Resul
     tree(emitter, a)?;
     let end = emitter.here()?;
     emitter.overwrite(hole, jump.to(end))
-}
-
-/// A sequence.
-#[cycle(tree)]
-pub(crate) fn block(
-    emitter: &mut Emitter,
-    scope: &Option<Box<Bytes>>,
-    items: &[Tree],
-) -> Result<(), AllocError>
-    ensures { OnOk result (Puts (made (node.Block (option_map (λ bytes. bytes.value) scope.now) (nodes_in items.now))) (state_of emitter.old) (state_of emitter.new)) }
-{
-    let scope = boxed_text(scope);
-    enter(emitter, scope)?;
-    all(emitter, items)?;
-    leave(emitter, scope)
 }
 
 /// One of two clauses.

@@ -5,10 +5,11 @@ ghost use Rattle.ps_emitter.specs.Pieces.{state_of, Puts};
 ghost use Rattle.ps_gen.specs.inside.Clauses.{clause, behind_of, made};
 
 use crate::cases::case;
-use crate::jumps::{ahead, block, for_loop, if_else, jump_over};
+use crate::jumps::{ahead, for_loop, if_else, jump_over};
 use crate::literals::procedure;
 use crate::operands::{all, all_then, one_then, two_then, vector_filled, vector_of};
 use crate::scans::scan;
+use crate::scopes::{boxed_text, enter, leave};
 use ps_base::instr::Instr;
 use ps_emitter::choices::{arith, bound, by_type, compare, flag, get, set, write};
 use ps_emitter::emitter::Emitter;
@@ -133,7 +134,12 @@ fn form(emitter: &mut Emitter, it: &Tree) -> Result<(), AllocError>
         TreeForm::Text(bytes) => emitter.name(Naming::Text, bytes.as_slice()),
         TreeForm::Nil => emitter.put(Instr::Nil),
         TreeForm::Name { place, ty } => emitter.put(get(*place, ty)),
-        TreeForm::Block { scope, items } => block(emitter, scope, items.as_slice()),
+        TreeForm::Block { scope, items } => {
+            let scope = boxed_text(scope);
+            enter(emitter, scope)?;
+            all(emitter, items.as_slice())?;
+            leave(emitter, scope)
+        }
         TreeForm::IfDo { c, a } => {
             tree(emitter, c)?;
             jump_over(emitter, Forward::JumpFalse, a)

@@ -79,9 +79,6 @@ operands::vector_of-returns t c =
     let counted = c.in_ok-count.ensures ∙ items_counted c.args.items.now in
     on_ok c.name_type.result (λ puts. seq c.in_ok-tree.ensures (seq c.in_ok-all.ensures (list_named (ty_view c.args.ty.now) c.args.line (text (type_text (ty_view c.args.ty.now))) counted puts))) c.name_type.ensures
 
-pub jumps::block-returns : goal.jumps::block-returns
-jumps::block-returns t c = on_ok c.leave.result (λ puts. seq (entering_is c.boxed_text-scope.ensures c.in_ok-enter.ensures) (seq c.in_ok-all.ensures (leaving_is c.boxed_text-scope.ensures puts))) c.leave.ensures
-
 pub jumps::if_else-returns : goal.jumps::if_else-returns
 unfolding one
 jumps::if_else-returns t c =
@@ -203,15 +200,10 @@ tree::behind-returns-in_ok-n-in-Call t c =
     subst (λ n. OnOk c.all_then.result (Puts (behind_of (type_in c.args.known) n) (state_of c.args.emitter.now) (state_of c.all_then.new.emitter))) (sym is)
     (on_ok c.all_then.result (λ puts. last_is _ (ap (λ n. instr.Call n c.in-Call.line) c.in_ok-n-in-Call.ensures) puts) c.all_then.ensures)
 
-pub tree::form-block-requires : goal.tree::form-block-requires
-tree::form-block-requires t c =
+pub tree::form-all-requires : goal.tree::form-all-requires
+tree::form-all-requires t c =
     let whole = ap weight (block_is _ c.in-Block.scope c.in-Block.items _ (sym c.deref.ensures ∙ c.in-Block.is) c.as_slice-in-Block.ensures) in
     (omega (arith, c.decreases, whole, block_weight (option_map (λ bytes. bytes.value) c.in-Block.scope) (nodes_in c.as_slice-in-Block.result.now)), tt)
-
-pub tree::form-returns-in-Block : goal.tree::form-returns-in-Block
-tree::form-returns-in-Block t c =
-    let is = block_is _ c.in-Block.scope c.in-Block.items _ (sym c.deref.ensures ∙ c.in-Block.is) c.as_slice-in-Block.ensures in
-    subst (λ n. OnOk c.block.result (Puts (made n) (state_of c.args.emitter.now) (state_of c.block.new.emitter))) (sym is) c.block.ensures
 
 pub tree::form-case-requires : goal.tree::form-case-requires
 tree::form-case-requires t c =
@@ -223,8 +215,8 @@ tree::form-returns-in-Case t c =
     let is = case_is _ c.in-Case.e c.in-Case.arms c.in-Case.d c.in-Case.ty _ (sym c.deref.ensures ∙ c.in-Case.is) c.as_slice-in-Case.ensures in
     subst (λ n. OnOk c.case.result (Puts (made n) (state_of c.args.emitter.now) (state_of c.case.new.emitter))) (sym is) c.case.ensures
 
-pub tree::form-all-requires : goal.tree::form-all-requires
-tree::form-all-requires t c =
+pub tree::form-all-requires-in-Make : goal.tree::form-all-requires-in-Make
+tree::form-all-requires-in-Make t c =
     let whole = ap weight (make_is _ c.in-Make.class c.in-Make.args _ (sym c.deref.ensures ∙ c.in-Make.is) c.as_slice-in-Make.ensures) in
     (omega (arith, c.decreases, whole, make_weight (rc_value c.in-Make.class) (nodes_in c.as_slice-in-Make.result.now)), tt)
 
@@ -232,7 +224,7 @@ pub tree::form-returns-in_ok-all-in-Make : goal.tree::form-returns-in_ok-all-in-
 tree::form-returns-in_ok-all-in-Make t c =
     let is = make_is _ c.in-Make.class c.in-Make.args _ (sym c.deref.ensures ∙ c.in-Make.is) c.as_slice-in-Make.ensures in
     subst (λ n. OnOk c.name-in-Make.result (Puts (made n) (state_of c.args.emitter.now) (state_of c.name-in-Make.new.self))) (sym is)
-    (on_ok c.name-in-Make.result (λ puts. seq c.in_ok-all-in-Make.ensures (subst (λ x. Puts (naming instr.Make (text x)) (state_of c.all.new.emitter) (state_of c.name-in-Make.new.self)) (c.as_slice-in-Make-2.ensures ∙ c.deref-in-Make.ensures) puts)) c.name-in-Make.ensures)
+    (on_ok c.name-in-Make.result (λ puts. seq c.in_ok-all-in-Make.ensures (subst (λ x. Puts (naming instr.Make (text x)) (state_of c.all-in-Make.new.emitter) (state_of c.name-in-Make.new.self)) (c.as_slice-in-Make-2.ensures ∙ c.deref-in-Make.ensures) puts)) c.name-in-Make.ensures)
 
 pub tree::form-vector_of-requires : goal.tree::form-vector_of-requires
 tree::form-vector_of-requires t c =
@@ -334,9 +326,6 @@ cases::put_arm-tree-requires t c = (omega (arith, c.decreases), tt)
 
 pub cases::put_label-tree-requires : goal.cases::put_label-tree-requires
 cases::put_label-tree-requires t c = (omega (arith, c.decreases), tt)
-
-pub jumps::block-all-requires : goal.jumps::block-all-requires
-jumps::block-all-requires t c = (omega (arith, c.decreases), tt)
 
 pub jumps::for_loop-one_then-requires : goal.jumps::for_loop-one_then-requires
 jumps::for_loop-one_then-requires t c = (omega (arith, c.decreases), tt)
@@ -582,12 +571,6 @@ cases::put_arm-returns-in_err-next t c = IfOk-from_err _ _ c.from_residual-in_er
 
 pub cases::put_arm-returns-in_err-overwrite : goal.cases::put_arm-returns-in_err-overwrite
 cases::put_arm-returns-in_err-overwrite t c = IfOk-from_err _ _ c.from_residual-in_err-overwrite.ensures.0
-
-pub jumps::block-returns-in_err-enter : goal.jumps::block-returns-in_err-enter
-jumps::block-returns-in_err-enter t c = IfOk-from_err _ _ c.from_residual.ensures.0
-
-pub jumps::block-returns-in_err-all : goal.jumps::block-returns-in_err-all
-jumps::block-returns-in_err-all t c = IfOk-from_err _ _ c.from_residual-in_err-all.ensures.0
 
 pub jumps::for_loop-returns-in_err-step : goal.jumps::for_loop-returns-in_err-step
 jumps::for_loop-returns-in_err-step t c = IfOk-from_err _ _ c.from_residual.ensures.0
@@ -846,7 +829,7 @@ pub tree::behind-returns-in_err-n-in-Call : goal.tree::behind-returns-in_err-n-i
 tree::behind-returns-in_err-n-in-Call t c = IfOk-from_err _ _ c.from_residual-in_err-n-in-Call.ensures.0
 
 pub tree::form-returns-in_err-tree-in-IfDo : goal.tree::form-returns-in_err-tree-in-IfDo
-tree::form-returns-in_err-tree-in-IfDo t c = IfOk-from_err _ _ c.from_residual.ensures.0
+tree::form-returns-in_err-tree-in-IfDo t c = IfOk-from_err _ _ c.from_residual-in_err-tree-in-IfDo.ensures.0
 
 pub tree::form-returns-in_err-all-in-Make : goal.tree::form-returns-in_err-all-in-Make
 tree::form-returns-in_err-all-in-Make t c = IfOk-from_err _ _ c.from_residual-in_err-all-in-Make.ensures.0
@@ -889,3 +872,15 @@ tree::form-returns-in_err-between-in-Repeat t c = IfOk-from_err _ _ c.from_resid
 
 pub tree::form-returns-in_err-jump_over-in-Repeat : goal.tree::form-returns-in_err-jump_over-in-Repeat
 tree::form-returns-in_err-jump_over-in-Repeat t c = IfOk-from_err _ _ c.from_residual-in_err-jump_over-in-Repeat.ensures.0
+
+pub tree::form-returns-in_ok-all-in-Block : goal.tree::form-returns-in_ok-all-in-Block
+tree::form-returns-in_ok-all-in-Block t c =
+    let is = block_is _ c.in-Block.scope c.in-Block.items _ (sym c.deref.ensures ∙ c.in-Block.is) c.as_slice-in-Block.ensures in
+    subst (λ n. OnOk c.leave.result (Puts (made n) (state_of c.args.emitter.now) (state_of c.leave.new.emitter))) (sym is)
+    (on_ok c.leave.result (λ puts. seq (entering_is c.boxed_text-scope.ensures c.in_ok-enter-in-Block.ensures) (seq c.in_ok-all-in-Block.ensures (leaving_is c.boxed_text-scope.ensures puts))) c.leave.ensures)
+
+pub tree::form-returns-in_err-enter-in-Block : goal.tree::form-returns-in_err-enter-in-Block
+tree::form-returns-in_err-enter-in-Block t c = IfOk-from_err _ _ c.from_residual.ensures.0
+
+pub tree::form-returns-in_err-all-in-Block : goal.tree::form-returns-in_err-all-in-Block
+tree::form-returns-in_err-all-in-Block t c = IfOk-from_err _ _ c.from_residual-in_err-all-in-Block.ensures.0

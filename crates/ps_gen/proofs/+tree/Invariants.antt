@@ -40,9 +40,6 @@ decreases-operands::vector_filled l = 12 * (weight (node_of l.l.now) + weight (n
 abbrev pub decreases-operands::vector_of : goal.decreases-operands::vector_of
 decreases-operands::vector_of l = 12 * (weight (node_of l.l.now) + weight_all (nodes_in l.items.now)) + 5
 
-abbrev pub decreases-jumps::block : goal.decreases-jumps::block
-decreases-jumps::block l = 12 * weight_all (nodes_in l.items.now) + 5
-
 abbrev pub decreases-jumps::if_else : goal.decreases-jumps::if_else
 decreases-jumps::if_else l = 12 * (weight (node_of l.c.now) + weight (node_of l.a.now) + weight (node_of l.b.now)) + 6
 
