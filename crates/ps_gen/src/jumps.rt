@@ -1,12 +1,13 @@
-ghost use Rattle.std.specs.Prelude.{◌≡◌, ◌+◌, IfOk, OnOk};
+ghost use Rattle.std.specs.Prelude.{◌≡◌, ◌+◌, IfOk, OnOk, option_map};
 ghost use Rattle.ps_program.specs.Node as node;
-ghost use Rattle.ps_program.specs.NodeView.{node_of};
+ghost use Rattle.ps_program.specs.NodeView.{node_of, nodes_in};
 ghost use Rattle.ps_emitter.specs.Pieces.{state_of, Puts, at_end};
 ghost use Rattle.ps_gen.specs.inside.Clauses.{clause, jumping, made, loop};
 
-use crate::operands::one_then;
-use crate::scopes::{enter, leave, text_in};
+use crate::operands::{all, one_then, two_then};
+use crate::scopes::{boxed_text, enter, leave, text_in};
 use crate::tree::tree;
+use ps_base::bytes::Bytes;
 use ps_base::instr::Instr;
 use ps_base::ty::Ty;
 use ps_emitter::choices::set;
@@ -15,8 +16,8 @@ use ps_emitter::forward::Forward;
 use ps_program::form::{Loop, Tree};
 use std::alloc::AllocError;
 
-/// The offset so many bytes behind what was made so far.
-pub(crate) fn ahead(emitter: &Emitter, bytes: u32) -> Result<u32, AllocError>
+// The offset so many bytes behind what was made so far.
+fn ahead(emitter: &Emitter, bytes: u32) -> Result<u32, AllocError>
     ensures { IfOk result (λ at. at ≡ at_end (state_of emitter.now) + bytes) }
 {
     sum(emitter.here()?, bytes)
@@ -33,6 +34,21 @@ pub(crate) fn jump_over(emitter: &mut Emitter, jump: Forward, a: &Tree) -> Resul
     emitter.overwrite(hole, jump.to(end))
 }
 
+/// A sequence.
+#[cycle(tree)]
+pub(crate) fn block(
+    emitter: &mut Emitter,
+    scope: &Option<Box<Bytes>>,
+    items: &[Tree],
+) -> Result<(), AllocError>
+    ensures { OnOk result (Puts (made (node.Block (option_map (λ bytes. bytes.value) scope.now) (nodes_in items.now))) (state_of emitter.old) (state_of emitter.new)) }
+{
+    let scope = boxed_text(scope);
+    enter(emitter, scope)?;
+    all(emitter, items)?;
+    leave(emitter, scope)
+}
+
 /// One of two clauses.
 #[cycle(tree)]
 pub(crate) fn if_else(emitter: &mut Emitter, c: &Tree, a: &Tree, b: &Tree) -> Result<(), AllocError>
@@ -44,6 +60,31 @@ pub(crate) fn if_else(emitter: &mut Emitter, c: &Tree, a: &Tree, b: &Tree) -> Re
     let other = ahead(emitter, 5)?;
     jump_over(emitter, Forward::Jump, b)?;
     emitter.overwrite(test, Instr::JumpFalse { t: other })
+}
+
+/// A loop with its test in front.
+#[cycle(tree)]
+pub(crate) fn while_loop(emitter: &mut Emitter, c: &Tree, a: &Tree) -> Result<(), AllocError>
+    ensures { OnOk result (Puts (made (node.While (node_of c.now) (node_of a.now))) (state_of emitter.old) (state_of emitter.new)) }
+{
+    let clause = ahead(emitter, 5)?;
+    jump_over(emitter, Forward::Jump, a)?;
+    one_then(emitter, c, Instr::Again { t: clause })
+}
+
+/// A loop with its test between two clauses.
+#[cycle(tree)]
+pub(crate) fn repeat_loop(
+    emitter: &mut Emitter,
+    a: &Tree,
+    c: &Tree,
+    b: &Tree,
+) -> Result<(), AllocError>
+    ensures { OnOk result (Puts (made (node.Repeat (node_of a.now) (node_of c.now) (node_of b.now))) (state_of emitter.old) (state_of emitter.new)) }
+{
+    let between = ahead(emitter, 5)?;
+    jump_over(emitter, Forward::Jump, b)?;
+    two_then(emitter, a, c, Instr::Again { t: between })
 }
 
 /// A loop over ints.

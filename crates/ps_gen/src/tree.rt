@@ -5,11 +5,10 @@ ghost use Rattle.ps_emitter.specs.Pieces.{state_of, Puts};
 ghost use Rattle.ps_gen.specs.inside.Clauses.{clause, behind_of, made};
 
 use crate::cases::case;
-use crate::jumps::{ahead, for_loop, if_else, jump_over};
+use crate::jumps::{block, for_loop, if_else, jump_over, repeat_loop, while_loop};
 use crate::literals::procedure;
 use crate::operands::{all, all_then, one_then, two_then, vector_filled, vector_of};
 use crate::scans::scan;
-use crate::scopes::{boxed_text, enter, leave};
 use ps_base::instr::Instr;
 use ps_emitter::choices::{arith, bound, by_type, compare, flag, get, set, write};
 use ps_emitter::emitter::Emitter;
@@ -134,27 +133,14 @@ fn form(emitter: &mut Emitter, it: &Tree) -> Result<(), AllocError>
         TreeForm::Text(bytes) => emitter.name(Naming::Text, bytes.as_slice()),
         TreeForm::Nil => emitter.put(Instr::Nil),
         TreeForm::Name { place, ty } => emitter.put(get(*place, ty)),
-        TreeForm::Block { scope, items } => {
-            let scope = boxed_text(scope);
-            enter(emitter, scope)?;
-            all(emitter, items.as_slice())?;
-            leave(emitter, scope)
-        }
+        TreeForm::Block { scope, items } => block(emitter, scope, items.as_slice()),
         TreeForm::IfDo { c, a } => {
             tree(emitter, c)?;
             jump_over(emitter, Forward::JumpFalse, a)
         }
         TreeForm::IfElse { c, a, b } => if_else(emitter, c, a, b),
-        TreeForm::While { c, a } => {
-            let clause = ahead(emitter, 5)?;
-            jump_over(emitter, Forward::Jump, a)?;
-            one_then(emitter, c, Instr::Again { t: clause })
-        }
-        TreeForm::Repeat { a, c, b } => {
-            let between = ahead(emitter, 5)?;
-            jump_over(emitter, Forward::Jump, b)?;
-            two_then(emitter, a, c, Instr::Again { t: between })
-        }
+        TreeForm::While { c, a } => while_loop(emitter, c, a),
+        TreeForm::Repeat { a, c, b } => repeat_loop(emitter, a, c, b),
         TreeForm::For(it) => for_loop(emitter, it),
         TreeForm::Case { e, arms, d, ty } => case(emitter, e, arms.as_slice(), d, ty),
         TreeForm::Make { class, args } => {

@@ -79,6 +79,9 @@ operands::vector_of-returns t c =
     let counted = c.in_ok-count.ensures ∙ items_counted c.args.items.now in
     on_ok c.name_type.result (λ puts. seq c.in_ok-tree.ensures (seq c.in_ok-all.ensures (list_named (ty_view c.args.ty.now) c.args.line (text (type_text (ty_view c.args.ty.now))) counted puts))) c.name_type.ensures
 
+pub jumps::block-returns : goal.jumps::block-returns
+jumps::block-returns t c = on_ok c.leave.result (λ puts. seq (entering_is c.boxed_text-scope.ensures c.in_ok-enter.ensures) (seq c.in_ok-all.ensures (leaving_is c.boxed_text-scope.ensures puts))) c.leave.ensures
+
 pub jumps::if_else-returns : goal.jumps::if_else-returns
 unfolding one
 jumps::if_else-returns t c =
@@ -90,6 +93,14 @@ jumps::if_else-returns t c =
 pub jumps::jump_over-returns : goal.jumps::jump_over-returns
 jumps::jump_over-returns t c =
     on_ok c.overwrite.result (λ written. single (jump_of c.args.jump) (λ end. end) (jump_width c.args.jump) c.to.ensures c.in_ok-hole.ensures c.in_ok-tree.ensures c.in_ok-end.ensures c.to-2.ensures c.overwrite.ensures.fits written) c.overwrite.ensures.written
+
+pub jumps::while_loop-returns : goal.jumps::while_loop-returns
+unfolding one ◌▷◌ to_behind
+jumps::while_loop-returns t c = on_ok c.one_then.result (λ puts. begun _ (at_end (state_of c.args.emitter.now)) (seq c.in_ok-jump_over.ensures (last_is _ (ap instr.Again c.in_ok-clause.ensures) puts)) refl refl) c.one_then.ensures
+
+pub jumps::repeat_loop-returns : goal.jumps::repeat_loop-returns
+unfolding one ◌▷◌ to_behind
+jumps::repeat_loop-returns t c = on_ok c.two_then.result (λ puts. begun _ (at_end (state_of c.args.emitter.now)) (seq c.in_ok-jump_over.ensures (third_is (clause (node_of c.args.a.now)) (clause (node_of c.args.c.now)) (ap instr.Again c.in_ok-between.ensures) puts)) refl refl) c.two_then.ensures
 
 pub jumps::for_loop-returns : goal.jumps::for_loop-returns
 jumps::for_loop-returns t c =
@@ -200,10 +211,15 @@ tree::behind-returns-in_ok-n-in-Call t c =
     subst (λ n. OnOk c.all_then.result (Puts (behind_of (type_in c.args.known) n) (state_of c.args.emitter.now) (state_of c.all_then.new.emitter))) (sym is)
     (on_ok c.all_then.result (λ puts. last_is _ (ap (λ n. instr.Call n c.in-Call.line) c.in_ok-n-in-Call.ensures) puts) c.all_then.ensures)
 
-pub tree::form-all-requires : goal.tree::form-all-requires
-tree::form-all-requires t c =
+pub tree::form-block-requires : goal.tree::form-block-requires
+tree::form-block-requires t c =
     let whole = ap weight (block_is _ c.in-Block.scope c.in-Block.items _ (sym c.deref.ensures ∙ c.in-Block.is) c.as_slice-in-Block.ensures) in
     (omega (arith, c.decreases, whole, block_weight (option_map (λ bytes. bytes.value) c.in-Block.scope) (nodes_in c.as_slice-in-Block.result.now)), tt)
+
+pub tree::form-returns-in-Block : goal.tree::form-returns-in-Block
+tree::form-returns-in-Block t c =
+    let is = block_is _ c.in-Block.scope c.in-Block.items _ (sym c.deref.ensures ∙ c.in-Block.is) c.as_slice-in-Block.ensures in
+    subst (λ n. OnOk c.block.result (Puts (made n) (state_of c.args.emitter.now) (state_of c.block.new.emitter))) (sym is) c.block.ensures
 
 pub tree::form-case-requires : goal.tree::form-case-requires
 tree::form-case-requires t c =
@@ -215,8 +231,8 @@ tree::form-returns-in-Case t c =
     let is = case_is _ c.in-Case.e c.in-Case.arms c.in-Case.d c.in-Case.ty _ (sym c.deref.ensures ∙ c.in-Case.is) c.as_slice-in-Case.ensures in
     subst (λ n. OnOk c.case.result (Puts (made n) (state_of c.args.emitter.now) (state_of c.case.new.emitter))) (sym is) c.case.ensures
 
-pub tree::form-all-requires-in-Make : goal.tree::form-all-requires-in-Make
-tree::form-all-requires-in-Make t c =
+pub tree::form-all-requires : goal.tree::form-all-requires
+tree::form-all-requires t c =
     let whole = ap weight (make_is _ c.in-Make.class c.in-Make.args _ (sym c.deref.ensures ∙ c.in-Make.is) c.as_slice-in-Make.ensures) in
     (omega (arith, c.decreases, whole, make_weight (rc_value c.in-Make.class) (nodes_in c.as_slice-in-Make.result.now)), tt)
 
@@ -224,7 +240,7 @@ pub tree::form-returns-in_ok-all-in-Make : goal.tree::form-returns-in_ok-all-in-
 tree::form-returns-in_ok-all-in-Make t c =
     let is = make_is _ c.in-Make.class c.in-Make.args _ (sym c.deref.ensures ∙ c.in-Make.is) c.as_slice-in-Make.ensures in
     subst (λ n. OnOk c.name-in-Make.result (Puts (made n) (state_of c.args.emitter.now) (state_of c.name-in-Make.new.self))) (sym is)
-    (on_ok c.name-in-Make.result (λ puts. seq c.in_ok-all-in-Make.ensures (subst (λ x. Puts (naming instr.Make (text x)) (state_of c.all-in-Make.new.emitter) (state_of c.name-in-Make.new.self)) (c.as_slice-in-Make-2.ensures ∙ c.deref-in-Make.ensures) puts)) c.name-in-Make.ensures)
+    (on_ok c.name-in-Make.result (λ puts. seq c.in_ok-all-in-Make.ensures (subst (λ x. Puts (naming instr.Make (text x)) (state_of c.all.new.emitter) (state_of c.name-in-Make.new.self)) (c.as_slice-in-Make-2.ensures ∙ c.deref-in-Make.ensures) puts)) c.name-in-Make.ensures)
 
 pub tree::form-vector_of-requires : goal.tree::form-vector_of-requires
 tree::form-vector_of-requires t c =
@@ -327,6 +343,9 @@ cases::put_arm-tree-requires t c = (omega (arith, c.decreases), tt)
 pub cases::put_label-tree-requires : goal.cases::put_label-tree-requires
 cases::put_label-tree-requires t c = (omega (arith, c.decreases), tt)
 
+pub jumps::block-all-requires : goal.jumps::block-all-requires
+jumps::block-all-requires t c = (omega (arith, c.decreases), tt)
+
 pub jumps::for_loop-one_then-requires : goal.jumps::for_loop-one_then-requires
 jumps::for_loop-one_then-requires t c = (omega (arith, c.decreases), tt)
 
@@ -353,6 +372,18 @@ jumps::if_else-tree-requires-2 t c = (omega (arith, c.decreases), tt)
 
 pub jumps::jump_over-tree-requires : goal.jumps::jump_over-tree-requires
 jumps::jump_over-tree-requires t c = (omega (arith, c.decreases), tt)
+
+pub jumps::repeat_loop-jump_over-requires : goal.jumps::repeat_loop-jump_over-requires
+jumps::repeat_loop-jump_over-requires t c = (omega (arith, c.decreases), tt)
+
+pub jumps::repeat_loop-two_then-requires : goal.jumps::repeat_loop-two_then-requires
+jumps::repeat_loop-two_then-requires t c = (omega (arith, c.decreases), tt)
+
+pub jumps::while_loop-jump_over-requires : goal.jumps::while_loop-jump_over-requires
+jumps::while_loop-jump_over-requires t c = (omega (arith, c.decreases), tt)
+
+pub jumps::while_loop-one_then-requires : goal.jumps::while_loop-one_then-requires
+jumps::while_loop-one_then-requires t c = (omega (arith, c.decreases), tt)
 
 pub literals::procedure-unit-requires : goal.literals::procedure-unit-requires
 literals::procedure-unit-requires t c = (omega (arith, c.decreases), tt)
@@ -429,11 +460,20 @@ tree::form-jump_over-requires t c = let light = ap (λ f. weight (node_of_form f
 pub tree::form-if_else-requires : goal.tree::form-if_else-requires
 tree::form-if_else-requires t c = let light = ap (λ f. weight (node_of_form f)) (sym c.deref.ensures ∙ c.in-IfElse.is) in (omega (arith, c.decreases, light), tt)
 
+pub tree::form-while_loop-requires : goal.tree::form-while_loop-requires
+tree::form-while_loop-requires t c = let light = ap (λ f. weight (node_of_form f)) (sym c.deref.ensures ∙ c.in-While.is) in (omega (arith, c.decreases, light), tt)
+
+pub tree::form-repeat_loop-requires : goal.tree::form-repeat_loop-requires
+tree::form-repeat_loop-requires t c = let light = ap (λ f. weight (node_of_form f)) (sym c.deref.ensures ∙ c.in-Repeat.is) in (omega (arith, c.decreases, light), tt)
+
 pub tree::form-vector_filled-requires : goal.tree::form-vector_filled-requires
 tree::form-vector_filled-requires t c = let light = ap (λ f. weight (node_of_form f)) (sym c.deref.ensures ∙ c.in-Fill.is) in (omega (arith, c.decreases, light), tt)
 
 pub tree::form-scan-requires : goal.tree::form-scan-requires
 tree::form-scan-requires t c = let light = ap (λ f. weight (node_of_form f)) (sym c.deref.ensures ∙ c.in-Scan.is) in (omega (arith, c.decreases, light), tt)
+
+pub tree::form-two_then-requires : goal.tree::form-two_then-requires
+tree::form-two_then-requires t c = let light = ap (λ f. weight (node_of_form f)) (sym c.deref.ensures ∙ c.in-Write.is) in (omega (arith, c.decreases, light), tt)
 
 -- the code of each form
 
@@ -532,6 +572,16 @@ tree::form-returns-in-IfElse t c =
     subst (λ f. OnOk c.if_else.result (Puts (made (node_of_form f)) (state_of c.args.emitter.now) (state_of c.if_else.new.emitter))) (sym c.in-IfElse.is ∙ c.deref.ensures)
     c.if_else.ensures
 
+pub tree::form-returns-in-While : goal.tree::form-returns-in-While
+tree::form-returns-in-While t c =
+    subst (λ f. OnOk c.while_loop.result (Puts (made (node_of_form f)) (state_of c.args.emitter.now) (state_of c.while_loop.new.emitter))) (sym c.in-While.is ∙ c.deref.ensures)
+    c.while_loop.ensures
+
+pub tree::form-returns-in-Repeat : goal.tree::form-returns-in-Repeat
+tree::form-returns-in-Repeat t c =
+    subst (λ f. OnOk c.repeat_loop.result (Puts (made (node_of_form f)) (state_of c.args.emitter.now) (state_of c.repeat_loop.new.emitter))) (sym c.in-Repeat.is ∙ c.deref.ensures)
+    c.repeat_loop.ensures
+
 pub tree::form-returns-in-Fill : goal.tree::form-returns-in-Fill
 tree::form-returns-in-Fill t c =
     subst (λ f. OnOk c.vector_filled.result (Puts (made (node_of_form f)) (state_of c.args.emitter.now) (state_of c.vector_filled.new.emitter))) (sym c.in-Fill.is ∙ c.deref.ensures)
@@ -544,8 +594,8 @@ tree::form-returns-in-Scan t c =
 
 pub tree::form-returns-in-Write : goal.tree::form-returns-in-Write
 tree::form-returns-in-Write t c =
-    subst (λ f. OnOk c.two_then-in-Write.result (Puts (made (node_of_form f)) (state_of c.args.emitter.now) (state_of c.two_then-in-Write.new.emitter))) (sym c.in-Write.is ∙ c.deref.ensures)
-    (on_ok c.two_then-in-Write.result (λ puts. third_is _ _ c.write.ensures puts) c.two_then-in-Write.ensures)
+    subst (λ f. OnOk c.two_then.result (Puts (made (node_of_form f)) (state_of c.args.emitter.now) (state_of c.two_then.new.emitter))) (sym c.in-Write.is ∙ c.deref.ensures)
+    (on_ok c.two_then.result (λ puts. third_is _ _ c.write.ensures puts) c.two_then.ensures)
 
 pub tree::form-returns-in-Abort : goal.tree::form-returns-in-Abort
 tree::form-returns-in-Abort t c =
@@ -571,6 +621,12 @@ cases::put_arm-returns-in_err-next t c = IfOk-from_err _ _ c.from_residual-in_er
 
 pub cases::put_arm-returns-in_err-overwrite : goal.cases::put_arm-returns-in_err-overwrite
 cases::put_arm-returns-in_err-overwrite t c = IfOk-from_err _ _ c.from_residual-in_err-overwrite.ensures.0
+
+pub jumps::block-returns-in_err-enter : goal.jumps::block-returns-in_err-enter
+jumps::block-returns-in_err-enter t c = IfOk-from_err _ _ c.from_residual.ensures.0
+
+pub jumps::block-returns-in_err-all : goal.jumps::block-returns-in_err-all
+jumps::block-returns-in_err-all t c = IfOk-from_err _ _ c.from_residual-in_err-all.ensures.0
 
 pub jumps::for_loop-returns-in_err-step : goal.jumps::for_loop-returns-in_err-step
 jumps::for_loop-returns-in_err-step t c = IfOk-from_err _ _ c.from_residual.ensures.0
@@ -625,6 +681,18 @@ jumps::jump_over-returns-in_err-tree t c = IfOk-from_err _ _ c.from_residual-in_
 
 pub jumps::jump_over-returns-in_err-end : goal.jumps::jump_over-returns-in_err-end
 jumps::jump_over-returns-in_err-end t c = IfOk-from_err _ _ c.from_residual-in_err-end.ensures.0
+
+pub jumps::repeat_loop-returns-in_err-between : goal.jumps::repeat_loop-returns-in_err-between
+jumps::repeat_loop-returns-in_err-between t c = IfOk-from_err _ _ c.from_residual.ensures.0
+
+pub jumps::repeat_loop-returns-in_err-jump_over : goal.jumps::repeat_loop-returns-in_err-jump_over
+jumps::repeat_loop-returns-in_err-jump_over t c = IfOk-from_err _ _ c.from_residual-in_err-jump_over.ensures.0
+
+pub jumps::while_loop-returns-in_err-clause : goal.jumps::while_loop-returns-in_err-clause
+jumps::while_loop-returns-in_err-clause t c = IfOk-from_err _ _ c.from_residual.ensures.0
+
+pub jumps::while_loop-returns-in_err-jump_over : goal.jumps::while_loop-returns-in_err-jump_over
+jumps::while_loop-returns-in_err-jump_over t c = IfOk-from_err _ _ c.from_residual-in_err-jump_over.ensures.0
 
 pub literals::procedure-returns-in_err-unit : goal.literals::procedure-returns-in_err-unit
 literals::procedure-returns-in_err-unit t c = IfOk-from_err _ _ c.from_residual.ensures.0
@@ -829,58 +897,7 @@ pub tree::behind-returns-in_err-n-in-Call : goal.tree::behind-returns-in_err-n-i
 tree::behind-returns-in_err-n-in-Call t c = IfOk-from_err _ _ c.from_residual-in_err-n-in-Call.ensures.0
 
 pub tree::form-returns-in_err-tree-in-IfDo : goal.tree::form-returns-in_err-tree-in-IfDo
-tree::form-returns-in_err-tree-in-IfDo t c = IfOk-from_err _ _ c.from_residual-in_err-tree-in-IfDo.ensures.0
+tree::form-returns-in_err-tree-in-IfDo t c = IfOk-from_err _ _ c.from_residual.ensures.0
 
 pub tree::form-returns-in_err-all-in-Make : goal.tree::form-returns-in_err-all-in-Make
 tree::form-returns-in_err-all-in-Make t c = IfOk-from_err _ _ c.from_residual-in_err-all-in-Make.ensures.0
-
-pub tree::form-jump_over-requires-in-While : goal.tree::form-jump_over-requires-in-While
-tree::form-jump_over-requires-in-While t c = let light = ap (λ f. weight (node_of_form f)) (sym c.deref.ensures ∙ c.in-While.is) in (omega (arith, c.decreases, light), tt)
-
-pub tree::form-one_then-requires : goal.tree::form-one_then-requires
-tree::form-one_then-requires t c = let light = ap (λ f. weight (node_of_form f)) (sym c.deref.ensures ∙ c.in-While.is) in (omega (arith, c.decreases, light), tt)
-
-pub tree::form-jump_over-requires-in-Repeat : goal.tree::form-jump_over-requires-in-Repeat
-tree::form-jump_over-requires-in-Repeat t c = let light = ap (λ f. weight (node_of_form f)) (sym c.deref.ensures ∙ c.in-Repeat.is) in (omega (arith, c.decreases, light), tt)
-
-pub tree::form-two_then-requires : goal.tree::form-two_then-requires
-tree::form-two_then-requires t c = let light = ap (λ f. weight (node_of_form f)) (sym c.deref.ensures ∙ c.in-Repeat.is) in (omega (arith, c.decreases, light), tt)
-
-pub tree::form-two_then-requires-in-Write : goal.tree::form-two_then-requires-in-Write
-tree::form-two_then-requires-in-Write t c = let light = ap (λ f. weight (node_of_form f)) (sym c.deref.ensures ∙ c.in-Write.is) in (omega (arith, c.decreases, light), tt)
-
-pub tree::form-returns-in_ok-jump_over-in-While : goal.tree::form-returns-in_ok-jump_over-in-While
-unfolding one ◌▷◌ to_behind
-tree::form-returns-in_ok-jump_over-in-While t c =
-    subst (λ f. OnOk c.one_then.result (Puts (made (node_of_form f)) (state_of c.args.emitter.now) (state_of c.one_then.new.emitter))) (sym c.in-While.is ∙ c.deref.ensures)
-    (on_ok c.one_then.result (λ puts. begun _ (at_end (state_of c.args.emitter.now)) (seq c.in_ok-jump_over-in-While.ensures (last_is _ (ap instr.Again c.in_ok-clause-in-While.ensures) puts)) refl refl) c.one_then.ensures)
-
-pub tree::form-returns-in_ok-jump_over-in-Repeat : goal.tree::form-returns-in_ok-jump_over-in-Repeat
-unfolding one ◌▷◌ to_behind
-tree::form-returns-in_ok-jump_over-in-Repeat t c =
-    subst (λ f. OnOk c.two_then.result (Puts (made (node_of_form f)) (state_of c.args.emitter.now) (state_of c.two_then.new.emitter))) (sym c.in-Repeat.is ∙ c.deref.ensures)
-    (on_ok c.two_then.result (λ puts. begun _ (at_end (state_of c.args.emitter.now)) (seq c.in_ok-jump_over-in-Repeat.ensures (third_is (clause (node_of c.in-Repeat.a)) (clause (node_of c.in-Repeat.c)) (ap instr.Again c.in_ok-between-in-Repeat.ensures) puts)) refl refl) c.two_then.ensures)
-
-pub tree::form-returns-in_err-clause-in-While : goal.tree::form-returns-in_err-clause-in-While
-tree::form-returns-in_err-clause-in-While t c = IfOk-from_err _ _ c.from_residual-in_err-clause-in-While.ensures.0
-
-pub tree::form-returns-in_err-jump_over-in-While : goal.tree::form-returns-in_err-jump_over-in-While
-tree::form-returns-in_err-jump_over-in-While t c = IfOk-from_err _ _ c.from_residual-in_err-jump_over-in-While.ensures.0
-
-pub tree::form-returns-in_err-between-in-Repeat : goal.tree::form-returns-in_err-between-in-Repeat
-tree::form-returns-in_err-between-in-Repeat t c = IfOk-from_err _ _ c.from_residual-in_err-between-in-Repeat.ensures.0
-
-pub tree::form-returns-in_err-jump_over-in-Repeat : goal.tree::form-returns-in_err-jump_over-in-Repeat
-tree::form-returns-in_err-jump_over-in-Repeat t c = IfOk-from_err _ _ c.from_residual-in_err-jump_over-in-Repeat.ensures.0
-
-pub tree::form-returns-in_ok-all-in-Block : goal.tree::form-returns-in_ok-all-in-Block
-tree::form-returns-in_ok-all-in-Block t c =
-    let is = block_is _ c.in-Block.scope c.in-Block.items _ (sym c.deref.ensures ∙ c.in-Block.is) c.as_slice-in-Block.ensures in
-    subst (λ n. OnOk c.leave.result (Puts (made n) (state_of c.args.emitter.now) (state_of c.leave.new.emitter))) (sym is)
-    (on_ok c.leave.result (λ puts. seq (entering_is c.boxed_text-scope.ensures c.in_ok-enter-in-Block.ensures) (seq c.in_ok-all-in-Block.ensures (leaving_is c.boxed_text-scope.ensures puts))) c.leave.ensures)
-
-pub tree::form-returns-in_err-enter-in-Block : goal.tree::form-returns-in_err-enter-in-Block
-tree::form-returns-in_err-enter-in-Block t c = IfOk-from_err _ _ c.from_residual.ensures.0
-
-pub tree::form-returns-in_err-all-in-Block : goal.tree::form-returns-in_err-all-in-Block
-tree::form-returns-in_err-all-in-Block t c = IfOk-from_err _ _ c.from_residual-in_err-all-in-Block.ensures.0

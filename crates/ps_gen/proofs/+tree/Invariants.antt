@@ -40,8 +40,17 @@ decreases-operands::vector_filled l = 12 * (weight (node_of l.l.now) + weight (n
 abbrev pub decreases-operands::vector_of : goal.decreases-operands::vector_of
 decreases-operands::vector_of l = 12 * (weight (node_of l.l.now) + weight_all (nodes_in l.items.now)) + 5
 
+abbrev pub decreases-jumps::block : goal.decreases-jumps::block
+decreases-jumps::block l = 12 * weight_all (nodes_in l.items.now) + 5
+
 abbrev pub decreases-jumps::if_else : goal.decreases-jumps::if_else
 decreases-jumps::if_else l = 12 * (weight (node_of l.c.now) + weight (node_of l.a.now) + weight (node_of l.b.now)) + 6
+
+abbrev pub decreases-jumps::while_loop : goal.decreases-jumps::while_loop
+decreases-jumps::while_loop l = 12 * (weight (node_of l.c.now) + weight (node_of l.a.now)) + 5
+
+abbrev pub decreases-jumps::repeat_loop : goal.decreases-jumps::repeat_loop
+decreases-jumps::repeat_loop l = 12 * (weight (node_of l.a.now) + weight (node_of l.c.now) + weight (node_of l.b.now)) + 6
 
 abbrev pub decreases-jumps::for_loop : goal.decreases-jumps::for_loop
 decreases-jumps::for_loop l = 12 * (weight (node_of l.it.now.a) + weight (node_of l.it.now.b) + weight (node_of l.it.now.c) + weight (node_of l.it.now.s)) + 7
