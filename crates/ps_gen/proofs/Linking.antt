@@ -9,33 +9,39 @@ use Rattle.ps_program.specs.Parts.{operand}
 use Rattle.ps_program.specs.inside.Weights.{weight, weight_all}
 use Rattle.ps_program.proofs.PartLemmas.{weight_is, weight_of_all}
 use Rattle.ps_emitter.specs.Giving.{type_of}
-use Rattle.ps_emitter.specs.Pieces.{Same, ◌▷◌, one}
+use Rattle.ps_emitter.specs.Pieces.{Piece, Same, ◌▷◌, one}
 use Rattle.ps_gen.specs.inside.Clauses.{clause, clauses, behind_of, made}
 use Rattle.ps_emitter.specs.Chains.{first_part, called}
 use Rattle.ps_gen.proofs.Laws.{set_name, let_name, and_is, or_is, not_is, neg_is, plus_is, arith_is, compare_is, is_is, join_is, part_is, field_is, set_field_is, element_is, set_element_is, bound_is, call_is, int_is, flag_is, text_is, nil_is, name_is, class_is, empty_is, block_is, if_do_is, if_else_is, while_is, repeat_is, for_is, case_is, make_is, fill_is, elems_is, proc_is, lib_is, scan_is, write_is, abort_is}
 use Rattle.ps_emitter.proofs.Chaining.{some_is, called_references}
 
+no_first : {f : Node} → None ≡ Some f → ⊥
+no_first is = cc is
+
+put_first : (p whole : Piece) {e g : Node} → Some e ≡ Some g → Same (clause e ▷ p) whole → Same (clause g ▷ p) whole
+put_first p whole is same = subst (λ x. Same (clause x ▷ p) whole) (some_is is) same
+
 -- a clause is its first part and what stands behind it
 pub linked : (before : TyView) (n f : Node) → first_part n ≡ Some f → called before ≡ called (type_of f) → Same (clause f ▷ behind_of before n) (clause n)
-linked before (node.SetName place ty e) g is knows = subst (λ x. Same (clause x ▷ behind_of before (node.SetName place ty e)) (clause (node.SetName place ty e))) (some_is is) (set_name place ty e)
-linked before (node.Let place ty e) g is knows = subst (λ x. Same (clause x ▷ behind_of before (node.Let place ty e)) (clause (node.Let place ty e))) (some_is is) (let_name place ty e)
-linked before (node.And a b) g is knows = subst (λ x. Same (clause x ▷ behind_of before (node.And a b)) (clause (node.And a b))) (some_is is) (and_is a b)
-linked before (node.Or a b) g is knows = subst (λ x. Same (clause x ▷ behind_of before (node.Or a b)) (clause (node.Or a b))) (some_is is) (or_is a b)
-linked before (node.Not e) g is knows = subst (λ x. Same (clause x ▷ behind_of before (node.Not e)) (clause (node.Not e))) (some_is is) (not_is e)
-linked before (node.Neg e line) g is knows = subst (λ x. Same (clause x ▷ behind_of before (node.Neg e line)) (clause (node.Neg e line))) (some_is is) (neg_is e line)
-linked before (node.Plus e) g is knows = subst (λ x. Same (clause x ▷ behind_of before (node.Plus e)) (clause (node.Plus e))) (some_is is) (plus_is e)
-linked before (node.Arith op a b line) g is knows = subst (λ x. Same (clause x ▷ behind_of before (node.Arith op a b line)) (clause (node.Arith op a b line))) (some_is is) (arith_is op a b line)
-linked before (node.Compare op ty a b) g is knows = subst (λ x. Same (clause x ▷ behind_of before (node.Compare op ty a b)) (clause (node.Compare op ty a b))) (some_is is) (compare_is op ty a b)
-linked before (node.Is e class) g is knows = subst (λ x. Same (clause x ▷ behind_of before (node.Is e class)) (clause (node.Is e class))) (some_is is) (is_is e class)
-linked before (node.Join a b line) g is knows = subst (λ x. Same (clause x ▷ behind_of before (node.Join a b line)) (clause (node.Join a b line))) (some_is is) (join_is a b line)
-linked before (node.Part a i n line) g is knows = subst (λ x. Same (clause x ▷ behind_of before (node.Part a i n line)) (clause (node.Part a i n line))) (some_is is) (part_is a i n line)
-linked before (node.Field e class index ty line) g is knows = subst (λ x. Same (clause x ▷ behind_of before (node.Field e class index ty line)) (clause (node.Field e class index ty line))) (some_is is) (field_is e class index ty line)
-linked before (node.SetField p class index ty e line) g is knows = subst (λ x. Same (clause x ▷ behind_of before (node.SetField p class index ty e line)) (clause (node.SetField p class index ty e line))) (some_is is) (set_field_is p class index ty e line)
-linked before (node.Element v i ty line) g is knows = subst (λ x. Same (clause x ▷ behind_of before (node.Element v i ty line)) (clause (node.Element v i ty line))) (some_is is) (element_is v i ty line)
-linked before (node.SetElement v i e ty line) g is knows = subst (λ x. Same (clause x ▷ behind_of before (node.SetElement v i e ty line)) (clause (node.SetElement v i e ty line))) (some_is is) (set_element_is v i e ty line)
-linked before (node.Bound v upper) g is knows = subst (λ x. Same (clause x ▷ behind_of before (node.Bound v upper)) (clause (node.Bound v upper))) (some_is is) (bound_is v upper)
-linked before (node.Call f args line) g is knows = subst (λ x. Same (clause x ▷ behind_of before (node.Call f args line)) (clause (node.Call f args line))) (some_is is) (subst (λ k. Same (clause f ▷ (clauses args ▷ one (instr.Call k line))) (clause (node.Call f args line))) (called_references (type_of f) before (ap (λ x. called (type_of x)) (some_is is) ∙ sym knows)) (call_is f args line))
-linked before _ g is knows = absurd (cc is)
+linked before (node.SetName place ty e) g is knows = put_first _ _ is (set_name place ty e)
+linked before (node.Let place ty e) g is knows = put_first _ _ is (let_name place ty e)
+linked before (node.And a b) g is knows = put_first _ _ is (and_is a b)
+linked before (node.Or a b) g is knows = put_first _ _ is (or_is a b)
+linked before (node.Not e) g is knows = put_first _ _ is (not_is e)
+linked before (node.Neg e line) g is knows = put_first _ _ is (neg_is e line)
+linked before (node.Plus e) g is knows = put_first _ _ is (plus_is e)
+linked before (node.Arith op a b line) g is knows = put_first _ _ is (arith_is op a b line)
+linked before (node.Compare op ty a b) g is knows = put_first _ _ is (compare_is op ty a b)
+linked before (node.Is e class) g is knows = put_first _ _ is (is_is e class)
+linked before (node.Join a b line) g is knows = put_first _ _ is (join_is a b line)
+linked before (node.Part a i n line) g is knows = put_first _ _ is (part_is a i n line)
+linked before (node.Field e class index ty line) g is knows = put_first _ _ is (field_is e class index ty line)
+linked before (node.SetField p class index ty e line) g is knows = put_first _ _ is (set_field_is p class index ty e line)
+linked before (node.Element v i ty line) g is knows = put_first _ _ is (element_is v i ty line)
+linked before (node.SetElement v i e ty line) g is knows = put_first _ _ is (set_element_is v i e ty line)
+linked before (node.Bound v upper) g is knows = put_first _ _ is (bound_is v upper)
+linked before (node.Call f args line) g is knows = put_first _ _ is (subst (λ k. Same (clause f ▷ (clauses args ▷ one (instr.Call k line))) (clause (node.Call f args line))) (called_references (type_of f) before (ap (λ x. called (type_of x)) (some_is is) ∙ sym knows)) (call_is f args line))
+linked before _ g is knows = absurd (no_first is)
 
 -- a clause without a first part is made of its own pieces
 pub made_is : (n : Node) → first_part n ≡ None → Same (made n) (clause n)
@@ -61,7 +67,7 @@ made_is (node.Lib code args line) is = lib_is code args line
 made_is (node.Scan string a f q s line) is = scan_is string a f q s line
 made_is (node.Write e w wide ty line) is = write_is e w wide ty line
 made_is (node.Abort line) is = abort_is line
-made_is _ is = absurd (cc is)
+made_is _ is = absurd (no_first (sym is))
 
 pub make_weight : (class : List ℕ) (args : Nodes) → weight (node.Make class args) ≡ 1 + weight_all args
 make_weight class args = let all = weight_of_all operand (λ n. refl) args in omega (arith, weight_is (node.Make class args))

@@ -4,7 +4,7 @@ use Rattle.std.proofs.lemmas.List.{append-nil}
 use Rattle.std.specs.List.{AllByRecursion}
 use Rattle.ps_base.specs.TyView.{TyView}
 use Rattle.ps_program.specs.declared.body.Param.{Param as ParamOf}
-use Rattle.ps_program.specs.declared.place.Place.TheVariants.{Plain, Kept}
+use Rattle.ps_program.specs.declared.place.Place.TheVariants.{Kept}
 use Rattle.ps_program.specs.Node.{BodyNode, Param, Node, body}
 use Rattle.ps_program.specs.NodeView.{params_of, param_of, nodes_in}
 use Rattle.ps_typing.specs.Placing.{is_number}
@@ -55,6 +55,10 @@ pub if_ok : {A B : Type 0} (r : Result A B) {P Q : A → Type 0} → ((x : A) �
 if_ok (Ok made) step is = step made is
 if_ok (Err fault) step is = is
 
+pub all_if_ok : {A B : Type 0} (r : Result A B) {P Q R S : A → Type 0} → ((x : A) → P x → Q x → R x → S x) → IfOk r P → IfOk r Q → IfOk r R → IfOk r S
+all_if_ok (Ok made) step p q r = step made p q r
+all_if_ok (Err fault) step p q r = p
+
 -- the constants of a unit
 pub row_is : (xs : List Constant) → constants_view xs ≡ row_of (map constant_view xs)
 unfolding constants_view
@@ -63,9 +67,9 @@ row_is (x ∷ xs) = ap (λ rest. constant_then (constant_view x) rest) (row_is x
 
 -- parameters
 
-pub kept_number : (ty : TyView) (nums refs u i : ℕ) {a b c : State} → is_number ty ≡ true → Puts (one (instr.GetM nums)) a b → Puts (one (instr.KeepM u i)) b c → Puts (keep_one (record { ty = ty; place = Kept u i }) nums refs) a c
+pub kept_number : (param : Param) (nums refs u i : ℕ) {a b c : State} → param.place ≡ Kept u i → is_number param.ty ≡ true → Puts (one (instr.GetM nums)) a b → Puts (one (instr.KeepM u i)) b c → Puts (keep_one param nums refs) a c
 unfolding ◌▷◌ one
-kept_number ty nums refs u i is get keep = puts_same (record {
+kept_number param nums refs u i {a} {b} {c} kept is get keep = subst (λ place. Puts (keep_one (record { ty = param.ty; place = place }) nums refs) a c) (sym kept) (puts_same (record {
   ends = λ at. omega arith;
   names = λ k. refl;
   constants = refl;
@@ -73,11 +77,11 @@ kept_number ty nums refs u i is get keep = puts_same (record {
   refs = refl;
   literals = refl;
   instrs = λ at k. sym (ap (λ c. if c then instr.GetM nums ∷ instr.KeepM u i ∷ [] else (instr.GetP refs ∷ instr.KeepP u i ∷ [])) is);
-}) (seq get keep)
+}) (seq get keep))
 
-pub kept_reference : (ty : TyView) (nums refs u i : ℕ) {a b c : State} → is_number ty ≡ false → Puts (one (instr.GetP refs)) a b → Puts (one (instr.KeepP u i)) b c → Puts (keep_one (record { ty = ty; place = Kept u i }) nums refs) a c
+pub kept_reference : (param : Param) (nums refs u i : ℕ) {a b c : State} → param.place ≡ Kept u i → is_number param.ty ≡ false → Puts (one (instr.GetP refs)) a b → Puts (one (instr.KeepP u i)) b c → Puts (keep_one param nums refs) a c
 unfolding ◌▷◌ one
-kept_reference ty nums refs u i is get keep = puts_same (record {
+kept_reference param nums refs u i {a} {b} {c} kept is get keep = subst (λ place. Puts (keep_one (record { ty = param.ty; place = place }) nums refs) a c) (sym kept) (puts_same (record {
   ends = λ at. omega arith;
   names = λ k. refl;
   constants = refl;
@@ -85,19 +89,7 @@ kept_reference ty nums refs u i is get keep = puts_same (record {
   refs = refl;
   literals = refl;
   instrs = λ at k. sym (ap (λ c. if c then instr.GetM nums ∷ instr.KeepM u i ∷ [] else (instr.GetP refs ∷ instr.KeepP u i ∷ [])) is);
-}) (seq get keep)
-
-pub not_kept : (param : Param) (slot nums refs : ℕ) (a : State) → param.place ≡ Plain slot → Puts (keep_one param nums refs) a a
-unfolding empty
-not_kept param slot nums refs a is = subst (λ place. Puts (keep_one (record { ty = param.ty; place = place }) nums refs) a a) (sym is) (puts_same (record {
-  ends = λ at. omega arith;
-  names = λ k. refl;
-  constants = refl;
-  nums = refl;
-  refs = refl;
-  literals = refl;
-  instrs = λ at k. elim (is_number param.ty) as (λ c. ◌≡◌ {A = List Instr} [] (if c then [] else [])) [ true ↦ refl | false ↦ refl ];
-}) (nothing a))
+}) (seq get keep))
 
 pub more_kept : (param : Param) (params : List Param) (nums refs : ℕ) → Same (keep_one param nums refs ▷ keeping params (nums + one_on true param.ty) (refs + one_on false param.ty)) (keeping (param ∷ params) nums refs)
 unfolding ◌▷◌ keeping

@@ -5,7 +5,7 @@ ghost use Rattle.ps_program.specs.Node as node;
 ghost use Rattle.ps_program.specs.NodeView.{node_of, nodes_in};
 ghost use Rattle.ps_program.specs.inside.PartsView.{arms_in};
 ghost use Rattle.ps_emitter.specs.Pieces.{state_of, Puts, Opens, Halfway, one, to_behind};
-ghost use Rattle.ps_gen.specs.inside.Clauses.{labels_of, arms_of, label_of, arm_of, made};
+ghost use Rattle.ps_gen.specs.inside.Clauses.{labels_of, label_of, arm_of, made};
 
 use crate::tree::tree;
 use ps_base::instr::Instr;
@@ -28,26 +28,18 @@ pub(crate) fn case(
     ensures { OnOk result (Puts (made (node.Case (node_of e.now) (arms_in arms.now) (node_of d.now) (ty_view ty.now))) (state_of emitter.old) (state_of emitter.new)) }
 {
     tree(emitter, e)?;
-    let ends = put_arms(emitter, arms, ty)?;
+    let mut ends = Vec::new(emitter.alloc);
+    for arm in arms {
+        let end = put_arm(emitter, arm.labels.as_slice(), &arm.a, ty)?;
+        ends.push(end)?;
+    }
     emitter.put(by_type(ty, Instr::DropM, Instr::DropP))?;
     tree(emitter, d)?;
     let end = emitter.here()?;
     emitter.fill(ends.as_slice(), Instr::Jump { t: end })
 }
 
-// The arms, without the targets of the jumps to the end, whose offsets are answered.
-#[cycle(tree)]
-fn put_arms(emitter: &mut Emitter, arms: &[Arm], ty: &Ty) -> Result<Vec<u32>, AllocError>
-    ensures { IfOk result (λ ends. Opens instr.Jump (arms_of (ty_view ty.now) (arms_in arms.now)) ends.items (state_of emitter.old) (state_of emitter.new)) }
-{
-    let mut ends = Vec::new(emitter.alloc);
-    for arm in arms {
-        let end = put_arm(emitter, arm.labels.as_slice(), &arm.a, ty)?;
-        ends.push(end)?;
-    }
-    Ok(ends)
-}
-
+// An arm, without the target of the jump to the end, whose offset is answered.
 #[cycle(tree)]
 fn put_arm(emitter: &mut Emitter, labels: &[Tree], a: &Tree, ty: &Ty) -> Result<u32, AllocError>
     ensures { IfOk result (λ out. Opens instr.Jump (arm_of (ty_view ty.now) (nodes_in labels.now) (node_of a.now)) (out ∷ []) (state_of emitter.old) (state_of emitter.new)) }
@@ -66,26 +58,18 @@ fn put_arm(emitter: &mut Emitter, labels: &[Tree], a: &Tree, ty: &Ty) -> Result<
 fn arm_labels(emitter: &mut Emitter, labels: &[Tree], ty: &Ty) -> Result<u32, AllocError>
     ensures { IfOk result (λ past. Halfway (to_behind (λ end. end + 5) (labels_of (ty_view ty.now) (nodes_in labels.now))) (one (instr.Jump 0)) past (state_of emitter.old) (state_of emitter.new)) }
 {
-    let holes = put_labels(emitter, labels, ty)?;
+    let mut holes = Vec::new(emitter.alloc);
+    for label in labels {
+        let hole = put_label(emitter, label, ty)?;
+        holes.push(hole)?;
+    }
     let past = emitter.hole(Instr::Jump { t: 0 })?;
     let chosen = emitter.here()?;
     emitter.fill(holes.as_slice(), Instr::JumpTrue { t: chosen })?;
     Ok(past)
 }
 
-// The tests of the labels, without the targets of their jumps, whose offsets are answered.
-#[cycle(tree)]
-fn put_labels(emitter: &mut Emitter, labels: &[Tree], ty: &Ty) -> Result<Vec<u32>, AllocError>
-    ensures { IfOk result (λ holes. Opens instr.JumpTrue (labels_of (ty_view ty.now) (nodes_in labels.now)) holes.items (state_of emitter.old) (state_of emitter.new)) }
-{
-    let mut holes = Vec::new(emitter.alloc);
-    for label in labels {
-        let hole = put_label(emitter, label, ty)?;
-        holes.push(hole)?;
-    }
-    Ok(holes)
-}
-
+// The test of a label, without the target of its jump, whose offset is answered.
 #[cycle(tree)]
 fn put_label(emitter: &mut Emitter, label: &Tree, ty: &Ty) -> Result<u32, AllocError>
     ensures { IfOk result (λ hole. Opens instr.JumpTrue (label_of (ty_view ty.now) (node_of label.now)) (hole ∷ []) (state_of emitter.old) (state_of emitter.new)) }

@@ -1,8 +1,7 @@
-ghost use Rattle.std.specs.Prelude.{◌+◌, IfOk, OnOk, option_map};
-ghost use Rattle.ps_base.specs.declared.instr.Instr.TheVariants as instr;
+ghost use Rattle.std.specs.Prelude.{◌≡◌, ◌+◌, IfOk, OnOk, option_map};
 ghost use Rattle.ps_program.specs.Node as node;
 ghost use Rattle.ps_program.specs.NodeView.{node_of, nodes_in};
-ghost use Rattle.ps_emitter.specs.Pieces.{state_of, Puts, Halfway, ◌▷◌, one, to_behind};
+ghost use Rattle.ps_emitter.specs.Pieces.{state_of, Puts, at_end};
 ghost use Rattle.ps_gen.specs.inside.Clauses.{clause, jumping, made, loop};
 
 use crate::operands::{all, one_then, two_then};
@@ -16,6 +15,13 @@ use ps_emitter::emitter::{Emitter, sum};
 use ps_emitter::forward::Forward;
 use ps_program::form::{Loop, Tree};
 use std::alloc::AllocError;
+
+// The offset so many bytes behind what was made so far.
+fn ahead(emitter: &Emitter, bytes: u32) -> Result<u32, AllocError>
+    ensures { IfOk result (λ at. at ≡ at_end (state_of emitter.now) + bytes) }
+{
+    sum(emitter.here()?, bytes)
+}
 
 /// A jump over a clause.
 #[cycle(tree)]
@@ -43,38 +49,17 @@ pub(crate) fn block(
     leave(emitter, scope)
 }
 
-/// A clause that is done where another is true.
-#[cycle(tree)]
-pub(crate) fn if_do(emitter: &mut Emitter, c: &Tree, a: &Tree) -> Result<(), AllocError>
-    ensures { OnOk result (Puts (made (node.IfDo (node_of c.now) (node_of a.now))) (state_of emitter.old) (state_of emitter.new)) }
-{
-    tree(emitter, c)?;
-    jump_over(emitter, Forward::JumpFalse, a)
-}
-
 /// One of two clauses.
 #[cycle(tree)]
 pub(crate) fn if_else(emitter: &mut Emitter, c: &Tree, a: &Tree, b: &Tree) -> Result<(), AllocError>
     ensures { OnOk result (Puts (made (node.IfElse (node_of c.now) (node_of a.now) (node_of b.now))) (state_of emitter.old) (state_of emitter.new)) }
 {
     tree(emitter, c)?;
-    let out = then_out(emitter, a)?;
-    tree(emitter, b)?;
-    let end = emitter.here()?;
-    emitter.overwrite(out, Instr::Jump { t: end })
-}
-
-// The first of two clauses, and the jump behind the second, whose offset is answered.
-#[cycle(tree)]
-fn then_out(emitter: &mut Emitter, a: &Tree) -> Result<u32, AllocError>
-    ensures { IfOk result (λ out. Halfway (to_behind (λ end. end + 5) (λ t. one (instr.JumpFalse t) ▷ clause (node_of a.now))) (one (instr.Jump 0)) out (state_of emitter.old) (state_of emitter.new)) }
-{
     let test = emitter.hole(Instr::JumpFalse { t: 0 })?;
     tree(emitter, a)?;
-    let out = emitter.hole(Instr::Jump { t: 0 })?;
-    let other = emitter.here()?;
-    emitter.overwrite(test, Instr::JumpFalse { t: other })?;
-    Ok(out)
+    let other = ahead(emitter, 5)?;
+    jump_over(emitter, Forward::Jump, b)?;
+    emitter.overwrite(test, Instr::JumpFalse { t: other })
 }
 
 /// A loop with its test in front.
@@ -82,7 +67,7 @@ fn then_out(emitter: &mut Emitter, a: &Tree) -> Result<u32, AllocError>
 pub(crate) fn while_loop(emitter: &mut Emitter, c: &Tree, a: &Tree) -> Result<(), AllocError>
     ensures { OnOk result (Puts (made (node.While (node_of c.now) (node_of a.now))) (state_of emitter.old) (state_of emitter.new)) }
 {
-    let clause = sum(emitter.here()?, 5)?;
+    let clause = ahead(emitter, 5)?;
     jump_over(emitter, Forward::Jump, a)?;
     one_then(emitter, c, Instr::Again { t: clause })
 }
@@ -97,7 +82,7 @@ pub(crate) fn repeat_loop(
 ) -> Result<(), AllocError>
     ensures { OnOk result (Puts (made (node.Repeat (node_of a.now) (node_of c.now) (node_of b.now))) (state_of emitter.old) (state_of emitter.new)) }
 {
-    let between = sum(emitter.here()?, 5)?;
+    let between = ahead(emitter, 5)?;
     jump_over(emitter, Forward::Jump, b)?;
     two_then(emitter, a, c, Instr::Again { t: between })
 }
@@ -107,8 +92,8 @@ pub(crate) fn repeat_loop(
 pub(crate) fn for_loop(emitter: &mut Emitter, it: &Loop) -> Result<(), AllocError>
     ensures { OnOk result (Puts (made (node.For it.now.slot (node_of it.now.a) (node_of it.now.b) (node_of it.now.c) it.now.scope it.now.control (node_of it.now.s) it.now.line)) (state_of emitter.old) (state_of emitter.new)) }
 {
-    let limit = sum(it.slot, 1)?;
     let step = sum(it.slot, 2)?;
+    let limit = step - 1;
     emitter.take(3, 0)?;
     emitter.take_place(it.control, &Ty::Int)?;
     one_then(emitter, &it.a, Instr::SetM { s: it.slot })?;
@@ -123,7 +108,7 @@ fn for_turns(emitter: &mut Emitter, it: &Loop) -> Result<(), AllocError>
 {
     let (s, line) = (it.slot, it.line);
     let scope = text_in(&it.scope);
-    let turn = sum(emitter.here()?, 13)?;
+    let turn = ahead(emitter, 13)?;
     let hole = emitter.hole(Instr::ForStart { s, t: 0, line })?;
     enter(emitter, scope)?;
     emitter.put(Instr::GetM { s })?;

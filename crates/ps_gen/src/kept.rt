@@ -1,12 +1,10 @@
 ghost use Rattle.std.specs.Prelude.{◌≡◌, true, false, IfOk, OnOk};
-ghost use Rattle.ps_base.specs.TyView.{ty_view};
 ghost use Rattle.ps_program.specs.NodeView.{param_of, params_of};
 ghost use Rattle.ps_typing.specs.Locals.{taken_by_params};
 ghost use Rattle.ps_emitter.specs.Pieces.{state_of, Puts};
 ghost use Rattle.ps_gen.specs.inside.Clauses.{keeping, keep_one};
 
 use ps_base::instr::Instr;
-use ps_base::ty::Ty;
 use ps_emitter::choices::is_number;
 use ps_emitter::emitter::{Emitter, sum};
 use ps_emitter::frame::Counts;
@@ -36,25 +34,14 @@ fn keep(emitter: &mut Emitter, param: &Param, nums: u32, refs: u32) -> Result<()
 {
     match param.place {
         Place::Plain { .. } => Ok(()),
-        Place::Kept { up, slot } => keep_at(emitter, &param.ty, up, slot, nums, refs),
-    }
-}
-
-fn keep_at(
-    emitter: &mut Emitter,
-    ty: &Ty,
-    u: u32,
-    i: u32,
-    nums: u32,
-    refs: u32,
-) -> Result<(), AllocError>
-    ensures { OnOk result (Puts (keep_one (record { ty = ty_view ty.now; place = Place.Kept u i }) nums refs) (state_of emitter.old) (state_of emitter.new)) }
-{
-    if is_number(ty) {
-        emitter.put(Instr::GetM { s: nums })?;
-        emitter.put(Instr::KeepM { u, i })
-    } else {
-        emitter.put(Instr::GetP { s: refs })?;
-        emitter.put(Instr::KeepP { u, i })
+        Place::Kept { up: u, slot: i } => {
+            if is_number(&param.ty) {
+                emitter.put(Instr::GetM { s: nums })?;
+                emitter.put(Instr::KeepM { u, i })
+            } else {
+                emitter.put(Instr::GetP { s: refs })?;
+                emitter.put(Instr::KeepP { u, i })
+            }
+        }
     }
 }

@@ -9,7 +9,10 @@ ghost use Rattle.ps_gen.specs.inside.Steps.{IsUnit};
 use crate::begun::begin;
 use crate::tree::tree;
 use ps_base::code_unit::CodeUnit;
+use ps_base::instr::Instr;
+use ps_emitter::choices::kind_of;
 use ps_emitter::emitter::Emitter;
+use ps_emitter::frame::frame;
 use ps_program::body::Body;
 use std::alloc::{AllocError, Global};
 
@@ -27,7 +30,11 @@ pub(crate) fn procedure(emitter: &mut Emitter, body: &Body) -> Result<(), AllocE
 pub(crate) fn unit(alloc: Global, body: &Body) -> Result<CodeUnit, AllocError>
     ensures { IfOk result (λ made. IsUnit (body_of body.now) (unit_view made)) }
 {
-    let mut begun = begin(alloc, body)?;
-    tree(&mut begun.emitter, &body.tree)?;
-    begun.end(&body.gives)
+    let mut emitter = Emitter::new(alloc);
+    let counts = begin(&mut emitter, body)?;
+    tree(&mut emitter, &body.tree)?;
+    let k = kind_of(&body.gives);
+    emitter.put(Instr::Return { k })?;
+    let frame = frame(counts, emitter.nums, emitter.refs)?;
+    Ok(emitter.into_unit(frame))
 }

@@ -1,12 +1,7 @@
-ghost use Rattle.std.specs.Prelude.{◌≡◌, OnOk};
-ghost use Rattle.ps_base.specs.CodeUnit.{text};
+ghost use Rattle.std.specs.Prelude.{OnOk};
 ghost use Rattle.ps_base.specs.TyView.{ty_view};
-ghost use Rattle.ps_base.specs.declared.instr.Instr.TheVariants as instr;
 ghost use Rattle.ps_program.specs.Node as node;
 ghost use Rattle.ps_program.specs.NodeView.{node_of, nodes_in};
-ghost use Rattle.ps_emitter.specs.Choices.{reference_arguments};
-ghost use Rattle.ps_emitter.specs.Chains.{type_in};
-ghost use Rattle.ps_emitter.specs.Instructions.{naming, named_by};
 ghost use Rattle.ps_emitter.specs.Pieces.{state_of, Puts, ◌▷◌, one};
 ghost use Rattle.ps_gen.specs.inside.Clauses.{clause, clauses, made};
 
@@ -15,7 +10,6 @@ use ps_base::instr::Instr;
 use ps_base::line::Line;
 use ps_base::ty::Ty;
 use ps_emitter::emitter::{Emitter, number};
-use ps_emitter::known::Known;
 use ps_emitter::naming::Naming;
 use ps_program::form::Tree;
 use std::alloc::AllocError;
@@ -65,44 +59,6 @@ pub(crate) fn all_then(
 {
     all(emitter, items)?;
     emitter.put(instr)
-}
-
-/// A clause, and behind it an instruction that names a text.
-#[cycle(tree)]
-pub(crate) fn one_named(
-    emitter: &mut Emitter,
-    a: &Tree,
-    it: Naming,
-    bytes: &[u8],
-) -> Result<(), AllocError>
-    ensures { OnOk result (Puts (clause (node_of a.now) ▷ naming (named_by it.entry) (text bytes.now)) (state_of emitter.old) (state_of emitter.new)) }
-{
-    tree(emitter, a)?;
-    emitter.name(it, bytes)
-}
-
-/// The arguments of a call, and the call.
-#[cycle(tree)]
-pub(crate) fn call(
-    emitter: &mut Emitter,
-    args: &[Tree],
-    known: Known,
-    line: Line,
-) -> Result<(), AllocError>
-    ensures { OnOk result (Puts (clauses (nodes_in args.now) ▷ one (instr.Call (reference_arguments (type_in known.entry)) line)) (state_of emitter.old) (state_of emitter.new)) }
-{
-    let n = known.references()?;
-    all(emitter, args)?;
-    emitter.put(Instr::Call { n, line })
-}
-
-/// A new structure.
-#[cycle(tree)]
-pub(crate) fn make(emitter: &mut Emitter, args: &[Tree], class: &[u8]) -> Result<(), AllocError>
-    ensures { OnOk result (Puts (clauses (nodes_in args.now) ▷ naming instr.Make (text class.now)) (state_of emitter.old) (state_of emitter.new)) }
-{
-    all(emitter, args)?;
-    emitter.name(Naming::Make, class)
 }
 
 /// A vector that is filled.

@@ -5,11 +5,9 @@ ghost use Rattle.ps_emitter.specs.Pieces.{state_of, Puts};
 ghost use Rattle.ps_gen.specs.inside.Clauses.{clause, behind_of, made};
 
 use crate::cases::case;
-use crate::jumps::{block, for_loop, if_do, if_else, jump_over, repeat_loop, while_loop};
+use crate::jumps::{block, for_loop, if_else, jump_over, repeat_loop, while_loop};
 use crate::literals::procedure;
-use crate::operands::{
-    all_then, call, make, one_named, one_then, two_then, vector_filled, vector_of,
-};
+use crate::operands::{all, all_then, one_then, two_then, vector_filled, vector_of};
 use crate::scans::scan;
 use ps_base::instr::Instr;
 use ps_emitter::choices::{arith, bound, by_type, compare, flag, get, set, write};
@@ -82,7 +80,8 @@ fn behind(emitter: &mut Emitter, link: &Tree, known: Known) -> Result<(), AllocE
                 ty,
                 line: *line,
             };
-            one_named(emitter, e, it, class.as_slice())
+            tree(emitter, e)?;
+            emitter.name(it, class.as_slice())
         }
         TreeForm::Element { i, ty, line, .. } => {
             let (m, p) = (Instr::ElemM { line: *line }, Instr::ElemP { line: *line });
@@ -94,7 +93,10 @@ fn behind(emitter: &mut Emitter, link: &Tree, known: Known) -> Result<(), AllocE
             two_then(emitter, i, e, by_type(ty, m, p))
         }
         TreeForm::Bound { upper, .. } => emitter.put(bound(*upper)),
-        TreeForm::Call { args, line, .. } => call(emitter, args.as_slice(), known, *line),
+        TreeForm::Call { args, line, .. } => {
+            let n = known.references()?;
+            all_then(emitter, args.as_slice(), Instr::Call { n, line: *line })
+        }
         TreeForm::Int(_)
         | TreeForm::Flag(_)
         | TreeForm::Text(_)
@@ -122,23 +124,29 @@ fn behind(emitter: &mut Emitter, link: &Tree, known: Known) -> Result<(), AllocE
 
 // The code of a clause that has no such first part.
 #[cycle(tree)]
-fn form(emitter: &mut Emitter, tree: &Tree) -> Result<(), AllocError>
-    ensures { OnOk result (Puts (made (node_of tree.now)) (state_of emitter.old) (state_of emitter.new)) }
+fn form(emitter: &mut Emitter, it: &Tree) -> Result<(), AllocError>
+    ensures { OnOk result (Puts (made (node_of it.now)) (state_of emitter.old) (state_of emitter.new)) }
 {
-    match &*tree.form {
+    match &*it.form {
         TreeForm::Int(v) => emitter.put(Instr::Int { v: *v }),
         TreeForm::Flag(b) => emitter.put(flag(*b)),
         TreeForm::Text(bytes) => emitter.name(Naming::Text, bytes.as_slice()),
         TreeForm::Nil => emitter.put(Instr::Nil),
         TreeForm::Name { place, ty } => emitter.put(get(*place, ty)),
         TreeForm::Block { scope, items } => block(emitter, scope, items.as_slice()),
-        TreeForm::IfDo { c, a } => if_do(emitter, c, a),
+        TreeForm::IfDo { c, a } => {
+            tree(emitter, c)?;
+            jump_over(emitter, Forward::JumpFalse, a)
+        }
         TreeForm::IfElse { c, a, b } => if_else(emitter, c, a, b),
         TreeForm::While { c, a } => while_loop(emitter, c, a),
         TreeForm::Repeat { a, c, b } => repeat_loop(emitter, a, c, b),
         TreeForm::For(it) => for_loop(emitter, it),
         TreeForm::Case { e, arms, d, ty } => case(emitter, e, arms.as_slice(), d, ty),
-        TreeForm::Make { class, args } => make(emitter, args.as_slice(), class.as_slice()),
+        TreeForm::Make { class, args } => {
+            all(emitter, args.as_slice())?;
+            emitter.name(Naming::Make, class.as_slice())
+        }
         TreeForm::Fill { l, u, e, ty, line } => vector_filled(emitter, l, u, e, ty, *line),
         TreeForm::Elems { l, items, ty, line } => {
             vector_of(emitter, l, items.as_slice(), ty, *line)

@@ -1,31 +1,40 @@
 -- What the functions of the cycle put.
-use Rattle.std.proofs.Common.{rules, ◌≡◌, ◌+◌, List, [], ◌∷◌, OnOk, length, length-append, drop, ap, sym, refl, subst, ◌∙◌, arith}
+use Rattle.std.proofs.Common.{rules, ℕ, ◌≡◌, ◌+◌, ◌-◌, List, [], ◌∷◌, OnOk, length, length-append, drop, map, ap, sym, refl, subst, ◌∙◌, arith}
 use Rattle.std.proofs.lemmas.List.{drop_all}
+use Rattle.std.proofs.lemmas.Result.{IfOk-from_err}
+use borrow.Author.Count.{falls}
 use Rattle.std.specs.Borrow.{Bor}
 use Rattle.std.specs.Prelude.{option_map}
 use Rattle.std.specs.Rc.{rc_value}
 use Rattle.ps_base.specs.List.{items_of}
-use Rattle.ps_base.specs.CodeUnit.{text}
+use Rattle.ps_base.specs.CodeUnit.{text, unit, unit_view, constant_view}
 use Rattle.ps_base.specs.Instr.{spelling}
 use Rattle.ps_base.specs.TyView.{ty_view}
+use Rattle.ps_base.specs.declared.instr.Instr.{Instr}
 use Rattle.ps_base.specs.declared.instr.Instr.TheVariants as instr
 use Rattle.ps_program.specs.declared.form.Tree.{Tree}
 use Rattle.ps_program.specs.declared.form.Arm.{out-Arm}
-use Rattle.ps_program.specs.NodeView.{node_of, node_of_form, nodes_in, params_of}
+use Rattle.ps_program.specs.declared.form.Loop.{Loop}
+use Rattle.ps_program.specs.declared.body.Body.{Body}
+use Rattle.ps_program.specs.Node as node
+use Rattle.ps_program.specs.NodeView.{node_of, node_of_form, nodes_in, params_of, body_of}
 use Rattle.ps_program.specs.inside.PartsView.{arms_in}
 use Rattle.ps_program.specs.inside.Weights.{weight, weight_all}
 use Rattle.ps_program.proofs.NodeLists.{block_is, make_is, lib_is, elems_is, call_is, case_is}
 use Rattle.ps_program.proofs.NodeSteps.{nodes_from, arms_from, weight_at, weight_arm_at}
 use Rattle.ps_type_text.specs.Texts.{type_text}
 use Rattle.ps_gen.specs.Emission.{size}
-use Rattle.ps_emitter.specs.Pieces.{state_of, Puts, Opens, ◌▷◌, one, to_behind, Left, LeftOpen}
-use Rattle.ps_gen.specs.inside.Clauses.{clause, clauses, labels_of, arms_of, arm_of, made, behind_of}
+use Rattle.ps_gen.specs.Units.{row_of}
+use Rattle.ps_gen.specs.inside.Steps.{Ends}
+use Rattle.ps_emitter.specs.Pieces.{state_of, at_end, Puts, Opens, ◌▷◌, one, to_behind, Left, LeftOpen}
+use Rattle.ps_gen.specs.inside.Clauses.{closing, clause, clauses, labels_of, arms_of, arm_of, made, behind_of}
+use Rattle.ps_emitter.specs.Choices as choice
 use Rattle.ps_emitter.specs.Instructions.{naming, jump_of}
 use Rattle.ps_emitter.specs.Chains.{type_in, Chained}
 use Rattle.ps_gen.proofs.Laws.{more_clauses, no_clauses, more_labels, no_labels, more_arms_is, no_arms_is}
 use Rattle.ps_emitter.proofs.ChoiceWidths.{by_type_width}
 use Rattle.ps_emitter.proofs.Putting.{seq, puts_same, followed, behind}
-use Rattle.ps_gen.proofs.Making.{on_ok, if_ok, closing_puts, body_made, entering_is, leaving_is, items_counted, list_named}
+use Rattle.ps_gen.proofs.Making.{on_ok, if_ok, closing_puts, body_made, row_is, entering_is, leaving_is, items_counted, list_named}
 use Rattle.ps_emitter.proofs.Steps.{one_is, single, begun, left_all, left_more, left_none, left_open_all, left_open_more, left_open_none, opened_at, halfway, jump_width, last_is, third_is, seq2, filled_with, no_items}
 use Rattle.ps_gen.proofs.Linking.{linked, made_is, make_weight, elems_weight, lib_weight}
 use Rattle.ps_emitter.proofs.Chaining.{knows_behind, chained_last, chained_weight, call_weight, block_weight, case_weight}
@@ -62,15 +71,6 @@ operands::one_then-returns t c = on_ok c.put.result (λ puts. seq c.in_ok-tree.e
 pub operands::two_then-returns : goal.operands::two_then-returns
 operands::two_then-returns t c = on_ok c.one_then.result (λ puts. seq c.in_ok-tree.ensures puts) c.one_then.ensures
 
-pub operands::one_named-returns : goal.operands::one_named-returns
-operands::one_named-returns t c = on_ok c.name.result (λ puts. seq c.in_ok-tree.ensures puts) c.name.ensures
-
-pub operands::call-returns : goal.operands::call-returns
-operands::call-returns t c = on_ok c.put.result (λ puts. seq c.in_ok-all.ensures (one_is (ap (λ n. instr.Call n c.args.line) c.in_ok-n.ensures) puts)) c.put.ensures
-
-pub operands::make-returns : goal.operands::make-returns
-operands::make-returns t c = on_ok c.name.result (λ puts. seq c.in_ok-all.ensures puts) c.name.ensures
-
 pub operands::vector_filled-returns : goal.operands::vector_filled-returns
 operands::vector_filled-returns t c = on_ok c.name_type.result (λ puts. seq c.in_ok-tree.ensures (seq c.in_ok-tree-2.ensures (seq c.in_ok-tree-3.ensures puts))) c.name_type.ensures
 
@@ -82,36 +82,30 @@ operands::vector_of-returns t c =
 pub jumps::block-returns : goal.jumps::block-returns
 jumps::block-returns t c = on_ok c.leave.result (λ puts. seq (entering_is c.boxed_text-scope.ensures c.in_ok-enter.ensures) (seq c.in_ok-all.ensures (leaving_is c.boxed_text-scope.ensures puts))) c.leave.ensures
 
-pub jumps::if_do-returns : goal.jumps::if_do-returns
-jumps::if_do-returns t c = on_ok c.jump_over.result (λ puts. seq c.in_ok-tree.ensures puts) c.jump_over.ensures
-
 pub jumps::if_else-returns : goal.jumps::if_else-returns
+unfolding one
 jumps::if_else-returns t c =
-    let out = c.in_ok-out.ensures in
-    on_ok c.overwrite.result (λ written. seq c.in_ok-tree.ensures (seq out.first
-    (single instr.Jump (λ end. end) (λ n. refl) refl (record { puts = out.second; is = out.is }) c.in_ok-tree-2.ensures c.in_ok-end.ensures refl c.overwrite.ensures.fits written))) c.overwrite.ensures.written
+    let opens = followed (opened_at instr.JumpFalse refl c.in_ok-test.ensures.puts c.in_ok-test.ensures.is (λ n. refl)) c.in_ok-tree-2.ensures in
+    on_ok c.overwrite.result (λ written.
+    let parts = halfway instr.JumpFalse (λ end. end + 5) opens (record { puts = c.in_ok-jump_over.ensures; is = refl }) c.in_ok-other.ensures refl c.overwrite.ensures.fits written in
+    seq c.in_ok-tree.ensures (seq parts.first parts.second)) c.overwrite.ensures.written
 
 pub jumps::jump_over-returns : goal.jumps::jump_over-returns
 jumps::jump_over-returns t c =
     on_ok c.overwrite.result (λ written. single (jump_of c.args.jump) (λ end. end) (jump_width c.args.jump) c.to.ensures c.in_ok-hole.ensures c.in_ok-tree.ensures c.in_ok-end.ensures c.to-2.ensures c.overwrite.ensures.fits written) c.overwrite.ensures.written
 
-pub jumps::then_out-returns : goal.jumps::then_out-returns
-unfolding one
-jumps::then_out-returns t c =
-    halfway instr.JumpFalse (λ end. end + 5) (followed (opened_at instr.JumpFalse refl c.in_ok-test.ensures.puts c.in_ok-test.ensures.is (λ n. refl)) c.in_ok-tree.ensures) c.in_ok-out.ensures
-    (c.in_ok-other.ensures ∙ c.in_ok-out.ensures.puts.long) refl c.overwrite.ensures.fits c.in_ok-overwrite.ensures.written
-
 pub jumps::while_loop-returns : goal.jumps::while_loop-returns
 unfolding one ◌▷◌ to_behind
-jumps::while_loop-returns t c = on_ok c.one_then.result (λ puts. begun _ c.in_ok-here.field-0 (seq c.in_ok-jump_over.ensures (last_is _ (ap instr.Again c.in_ok-clause.ensures) puts)) c.in_ok-here.ensures refl) c.one_then.ensures
+jumps::while_loop-returns t c = on_ok c.one_then.result (λ puts. begun _ (at_end (state_of c.args.emitter.now)) (seq c.in_ok-jump_over.ensures (last_is _ (ap instr.Again c.in_ok-clause.ensures) puts)) refl refl) c.one_then.ensures
 
 pub jumps::repeat_loop-returns : goal.jumps::repeat_loop-returns
 unfolding one ◌▷◌ to_behind
-jumps::repeat_loop-returns t c = on_ok c.two_then.result (λ puts. begun _ c.in_ok-here.field-0 (seq c.in_ok-jump_over.ensures (third_is (clause (node_of c.args.a.now)) (clause (node_of c.args.c.now)) (ap instr.Again c.in_ok-between.ensures) puts)) c.in_ok-here.ensures refl) c.two_then.ensures
+jumps::repeat_loop-returns t c = on_ok c.two_then.result (λ puts. begun _ (at_end (state_of c.args.emitter.now)) (seq c.in_ok-jump_over.ensures (third_is (clause (node_of c.args.a.now)) (clause (node_of c.args.c.now)) (ap instr.Again c.in_ok-between.ensures) puts)) refl refl) c.two_then.ensures
 
 pub jumps::for_loop-returns : goal.jumps::for_loop-returns
 jumps::for_loop-returns t c =
-    on_ok c.for_turns.result (λ puts. seq c.in_ok-take.ensures (seq c.in_ok-take_place.ensures (seq2 _ _ c.in_ok-one_then.ensures (seq2 _ _ (last_is _ (ap instr.SetM c.in_ok-limit.ensures) c.in_ok-one_then-2.ensures)
+    let limit : c.in_ok-step.step - 1 ≡ c.args.it.now.slot + 1 = omega (arith, c.in_ok-step.ensures) in
+    on_ok c.for_turns.result (λ puts. seq c.in_ok-take.ensures (seq c.in_ok-take_place.ensures (seq2 _ _ c.in_ok-one_then.ensures (seq2 _ _ (last_is _ (ap instr.SetM limit) c.in_ok-one_then-2.ensures)
     (seq2 _ _ (last_is _ (ap instr.SetM c.in_ok-step.ensures) c.in_ok-one_then-3.ensures) puts))))) c.for_turns.ensures
 
 pub jumps::for_turns-returns : goal.jumps::for_turns-returns
@@ -121,53 +115,48 @@ jumps::for_turns-returns t c =
     let scope = c.text_in-scope.ensures in
     let inner = seq (entering_is scope c.in_ok-enter.ensures) (seq c.in_ok-put.ensures (seq (one_is c.set.ensures c.in_ok-put-2.ensures) (seq c.in_ok-tree.ensures
     (seq (leaving_is scope c.in_ok-leave.ensures) (one_is (ap (instr.ForNext it.slot) c.in_ok-turn.ensures) c.in_ok-put-3.ensures))))) in
-    on_ok c.overwrite.result (λ written. begun _ c.in_ok-here.field-0
+    on_ok c.overwrite.result (λ written. begun _ (at_end (state_of c.args.emitter.now))
     (single (λ n. instr.ForStart it.slot n it.line) (λ end. end) (λ n. refl) refl c.in_ok-hole.ensures inner c.in_ok-end.ensures refl c.overwrite.ensures.fits written)
-    c.in_ok-here.ensures refl) c.overwrite.ensures.written
+    refl refl) c.overwrite.ensures.written
 
 pub scans::scan-returns : goal.scans::scan-returns
 scans::scan-returns t c =
     on_ok c.turns.result (λ puts. seq c.in_ok-take.ensures (seq2 _ _ c.in_ok-one_then.ensures (seq2 _ _ (last_is _ (ap instr.SetP c.in_ok-procedure.ensures) c.in_ok-one_then-2.ensures) (seq c.in_ok-zeros.ensures puts)))) c.turns.ensures
 
 pub cases::case-returns : goal.cases::case-returns
-unfolding one ◌▷◌ clause
+unfolding one ◌▷◌ clause arms_of
 cases::case-returns t c =
+    let arms = c.args.arms.now in
     let ty = ty_view c.args.ty.now in
+    let end = drop_all c.loop-arm.arm-index arms c.loop-arm-test.false in
+    let opens = left_open_none (subst (λ ns. LeftOpen instr.Jump (arms_of ty (arms_in ns)) (arms_of ty (arms_in arms)) c.loop-arm.ends.items (state_of c.tree.new.emitter) (state_of c.loop-arm.emitter)) end c.loop-arm.invariant)
+    (no_arms_is ty) (λ t. refl) in
     let last = seq (one_is c.by_type.ensures c.in_ok-put.ensures) c.in_ok-tree-2.ensures in
     on_ok c.fill.result (λ filled.
-    let arms = halfway instr.Jump (λ end. end + 1 + size (node_of c.args.d.now)) c.in_ok-ends.ensures (record { puts = last; is = refl })
-    (omega (arith, c.in_ok-end.ensures, last.long, by_type_width ty instr.DropM instr.DropP refl)) refl c.fill.ensures.fits (filled_with (spelling (instr.Jump c.in_ok-end.end)) (state_of c.tree-2.new.emitter) filled c.as_slice.ensures.value) in
-    seq c.in_ok-tree.ensures (seq arms.first arms.second)) c.fill.ensures.written
+    let parts = halfway instr.Jump (λ end. end + 1 + size (node_of c.args.d.now)) opens (record { puts = last; is = refl })
+    (omega (arith, c.in_ok-end-2.ensures, last.long, by_type_width ty instr.DropM instr.DropP refl)) refl c.fill.ensures.fits (filled_with (spelling (instr.Jump c.in_ok-end-2.end)) (state_of c.tree-2.new.emitter) filled c.as_slice-2.ensures.value) in
+    seq c.in_ok-tree.ensures (seq parts.first parts.second)) c.fill.ensures.written
 
-pub cases::put_arms-loop-arm-init : goal.cases::put_arms-loop-arm-init
-cases::put_arms-loop-arm-init t c = left_open_all c.new-ends.ensures.items
+pub cases::case-loop-arm-init : goal.cases::case-loop-arm-init
+cases::case-loop-arm-init t c = left_open_all c.new-ends.ensures.items
 
-pub cases::put_arms-put_arm-requires : goal.cases::put_arms-put_arm-requires
-cases::put_arms-put_arm-requires t c =
+pub cases::case-put_arm-requires : goal.cases::case-put_arm-requires
+cases::case-put_arm-requires t c =
     let light = weight_arm_at c.args.arms.now c.loop-arm.arm-index c.arm-item.result _ c.arm-item.is c.loop-arm-test.true in
     let labels = ap (λ ts. weight_all (nodes_in ts)) c.as_slice.ensures in
     (omega (arith, c.decreases, light, labels), tt)
 
-pub cases::put_arms-loop-arm-preserved : goal.cases::put_arms-loop-arm-preserved
+pub cases::case-loop-arm-preserved : goal.cases::case-loop-arm-preserved
 unfolding arms_of
-cases::put_arms-loop-arm-preserved t c =
+cases::case-loop-arm-preserved t c =
     let arms = c.args.arms.now in
     let i = c.loop-arm.arm-index in
     let ty = ty_view c.args.ty.now in
     let arm = out-Arm c.arm-item.result in
     let cut = arms_from arms i c.arm-item.result _ c.arm-item.is c.loop-arm-test.true in
-    left_open_more (subst (λ ns. LeftOpen instr.Jump (arms_of ty ns) (arms_of ty (arms_in arms)) c.loop-arm.ends.items (state_of c.args.emitter.now) (state_of c.loop-arm.emitter)) cut c.loop-arm.invariant)
+    left_open_more (subst (λ ns. LeftOpen instr.Jump (arms_of ty ns) (arms_of ty (arms_in arms)) c.loop-arm.ends.items (state_of c.tree.new.emitter) (state_of c.loop-arm.emitter)) cut c.loop-arm.invariant)
     (λ t. more_arms_is ty (nodes_in (items_of arm.labels)) (node_of arm.a) (arms_in (drop (i + 1) arms)) t) (λ t. refl)
     (subst (λ ls. Opens instr.Jump (arm_of ty (nodes_in ls) (node_of arm.a)) (c.in_ok-end.end ∷ []) (state_of c.loop-arm.emitter) (state_of c.put_arm.new.emitter)) c.as_slice.ensures c.in_ok-end.ensures) c.in_ok-push.ensures.items
-
-pub cases::put_arms-returns : goal.cases::put_arms-returns
-unfolding arms_of
-cases::put_arms-returns t c =
-    let arms = c.args.arms.now in
-    let ty = ty_view c.args.ty.now in
-    let end = drop_all c.loop-arm.arm-index arms c.loop-arm-test.false in
-    left_open_none (subst (λ ns. LeftOpen instr.Jump (arms_of ty (arms_in ns)) (arms_of ty (arms_in arms)) c.loop-arm.ends.items (state_of c.args.emitter.now) (state_of c.loop-arm.emitter)) end c.loop-arm.invariant)
-    (no_arms_is ty) (λ t. refl)
 
 pub cases::put_arm-returns : goal.cases::put_arm-returns
 unfolding one
@@ -178,22 +167,27 @@ cases::put_arm-returns t c =
     behind past.first (behind rest.first (opened_at instr.Jump refl rest.second rest.is (λ n. refl)))
 
 pub cases::arm_labels-returns : goal.cases::arm_labels-returns
-unfolding one
+unfolding one labels_of
 cases::arm_labels-returns t c =
-    halfway instr.JumpTrue (λ end. end + 5) c.in_ok-holes.ensures c.in_ok-past.ensures (c.in_ok-chosen.ensures ∙ c.in_ok-past.ensures.puts.long) refl c.fill.ensures.fits
+    let labels = c.args.labels.now in
+    let ty = ty_view c.args.ty.now in
+    let end = drop_all c.loop-label.label-index labels c.loop-label-test.false in
+    let opens = left_open_none (subst (λ ts. LeftOpen instr.JumpTrue (labels_of ty (nodes_in ts)) (labels_of ty (nodes_in labels)) c.loop-label.holes.items (state_of c.args.emitter.now) (state_of c.loop-label.emitter)) end c.loop-label.invariant)
+    (no_labels ty) (λ t. refl) in
+    halfway instr.JumpTrue (λ end. end + 5) opens c.in_ok-past.ensures (c.in_ok-chosen.ensures ∙ c.in_ok-past.ensures.puts.long) refl c.fill.ensures.fits
     (filled_with (spelling (instr.JumpTrue c.in_ok-chosen.chosen)) (state_of c.hole.new.self) c.in_ok-fill.ensures.written c.as_slice.ensures.value)
 
-pub cases::put_labels-loop-label-init : goal.cases::put_labels-loop-label-init
-cases::put_labels-loop-label-init t c = left_open_all c.new-holes.ensures.items
+pub cases::arm_labels-loop-label-init : goal.cases::arm_labels-loop-label-init
+cases::arm_labels-loop-label-init t c = left_open_all c.new-holes.ensures.items
 
-pub cases::put_labels-put_label-requires : goal.cases::put_labels-put_label-requires
-cases::put_labels-put_label-requires t c =
+pub cases::arm_labels-put_label-requires : goal.cases::arm_labels-put_label-requires
+cases::arm_labels-put_label-requires t c =
     let light = weight_at c.args.labels.now c.loop-label.label-index c.label-item.result _ c.label-item.is c.loop-label-test.true in
     (omega (arith, c.decreases, light), tt)
 
-pub cases::put_labels-loop-label-preserved : goal.cases::put_labels-loop-label-preserved
+pub cases::arm_labels-loop-label-preserved : goal.cases::arm_labels-loop-label-preserved
 unfolding labels_of
-cases::put_labels-loop-label-preserved t c =
+cases::arm_labels-loop-label-preserved t c =
     let labels = c.args.labels.now in
     let i = c.loop-label.label-index in
     let ty = ty_view c.args.ty.now in
@@ -201,29 +195,21 @@ cases::put_labels-loop-label-preserved t c =
     left_open_more (subst (λ ns. LeftOpen instr.JumpTrue (labels_of ty ns) (labels_of ty (nodes_in labels)) c.loop-label.holes.items (state_of c.args.emitter.now) (state_of c.loop-label.emitter)) cut c.loop-label.invariant)
     (λ t. more_labels ty (node_of c.label-item.result) (nodes_in (drop (i + 1) labels)) t) (λ t. refl) c.in_ok-hole.ensures c.in_ok-push.ensures.items
 
-pub cases::put_labels-returns : goal.cases::put_labels-returns
-unfolding labels_of
-cases::put_labels-returns t c =
-    let labels = c.args.labels.now in
-    let ty = ty_view c.args.ty.now in
-    let end = drop_all c.loop-label.label-index labels c.loop-label-test.false in
-    left_open_none (subst (λ ts. LeftOpen instr.JumpTrue (labels_of ty (nodes_in ts)) (labels_of ty (nodes_in labels)) c.loop-label.holes.items (state_of c.args.emitter.now) (state_of c.loop-label.emitter)) end c.loop-label.invariant)
-    (no_labels ty) (λ t. refl)
-
 pub cases::put_label-returns : goal.cases::put_label-returns
 cases::put_label-returns t c =
     if_ok c.hole.result (λ at hole. behind (one_is c.by_type.ensures c.in_ok-put.ensures) (behind c.in_ok-tree.ensures (behind (one_is c.compare.ensures c.in_ok-put-2.ensures)
     (opened_at instr.JumpTrue refl hole.puts hole.is (λ n. refl))))) c.hole.ensures
 
-pub tree::behind-call-requires : goal.tree::behind-call-requires
-tree::behind-call-requires t c =
+pub tree::behind-all_then-requires : goal.tree::behind-all_then-requires
+tree::behind-all_then-requires t c =
     let whole = ap weight (call_is _ c.in-Call.f c.in-Call.args c.in-Call.line _ (sym c.deref.ensures ∙ c.in-Call.is) c.as_slice-in-Call.ensures) in
     (omega (arith, c.decreases, whole, call_weight (node_of c.in-Call.f) (nodes_in c.as_slice-in-Call.result.now) c.in-Call.line), tt)
 
-pub tree::behind-returns-in-Call : goal.tree::behind-returns-in-Call
-tree::behind-returns-in-Call t c =
+pub tree::behind-returns-in_ok-n-in-Call : goal.tree::behind-returns-in_ok-n-in-Call
+tree::behind-returns-in_ok-n-in-Call t c =
     let is = call_is _ c.in-Call.f c.in-Call.args c.in-Call.line _ (sym c.deref.ensures ∙ c.in-Call.is) c.as_slice-in-Call.ensures in
-    subst (λ n. OnOk c.call.result (Puts (behind_of (type_in c.args.known) n) (state_of c.args.emitter.now) (state_of c.call.new.emitter))) (sym is) c.call.ensures
+    subst (λ n. OnOk c.all_then.result (Puts (behind_of (type_in c.args.known) n) (state_of c.args.emitter.now) (state_of c.all_then.new.emitter))) (sym is)
+    (on_ok c.all_then.result (λ puts. last_is _ (ap (λ n. instr.Call n c.in-Call.line) c.in_ok-n-in-Call.ensures) puts) c.all_then.ensures)
 
 pub tree::form-block-requires : goal.tree::form-block-requires
 tree::form-block-requires t c =
@@ -245,17 +231,16 @@ tree::form-returns-in-Case t c =
     let is = case_is _ c.in-Case.e c.in-Case.arms c.in-Case.d c.in-Case.ty _ (sym c.deref.ensures ∙ c.in-Case.is) c.as_slice-in-Case.ensures in
     subst (λ n. OnOk c.case.result (Puts (made n) (state_of c.args.emitter.now) (state_of c.case.new.emitter))) (sym is) c.case.ensures
 
-pub tree::form-make-requires : goal.tree::form-make-requires
-tree::form-make-requires t c =
+pub tree::form-all-requires : goal.tree::form-all-requires
+tree::form-all-requires t c =
     let whole = ap weight (make_is _ c.in-Make.class c.in-Make.args _ (sym c.deref.ensures ∙ c.in-Make.is) c.as_slice-in-Make.ensures) in
     (omega (arith, c.decreases, whole, make_weight (rc_value c.in-Make.class) (nodes_in c.as_slice-in-Make.result.now)), tt)
 
-pub tree::form-returns-in-Make : goal.tree::form-returns-in-Make
-tree::form-returns-in-Make t c =
+pub tree::form-returns-in_ok-all-in-Make : goal.tree::form-returns-in_ok-all-in-Make
+tree::form-returns-in_ok-all-in-Make t c =
     let is = make_is _ c.in-Make.class c.in-Make.args _ (sym c.deref.ensures ∙ c.in-Make.is) c.as_slice-in-Make.ensures in
-    let class_is : c.as_slice-in-Make-2.result.now ≡ rc_value c.in-Make.class = search rules in
-    subst (λ n. OnOk c.make.result (Puts (made n) (state_of c.args.emitter.now) (state_of c.make.new.emitter))) (sym is)
-    (subst (λ x. OnOk c.make.result (Puts (clauses (nodes_in c.as_slice-in-Make.result.now) ▷ naming instr.Make (text x)) (state_of c.args.emitter.now) (state_of c.make.new.emitter))) class_is c.make.ensures)
+    subst (λ n. OnOk c.name-in-Make.result (Puts (made n) (state_of c.args.emitter.now) (state_of c.name-in-Make.new.self))) (sym is)
+    (on_ok c.name-in-Make.result (λ puts. seq c.in_ok-all-in-Make.ensures (subst (λ x. Puts (naming instr.Make (text x)) (state_of c.all.new.emitter) (state_of c.name-in-Make.new.self)) (c.as_slice-in-Make-2.ensures ∙ c.deref-in-Make.ensures) puts)) c.name-in-Make.ensures)
 
 pub tree::form-vector_of-requires : goal.tree::form-vector_of-requires
 tree::form-vector_of-requires t c =
@@ -335,18 +320,16 @@ literals::procedure-returns t c = on_ok c.name_unit.result (λ puts. closing_put
 pub literals::unit-returns : goal.literals::unit-returns
 literals::unit-returns t c =
     let body = c.args.body.now in
-    if_ok c.end.result (λ made ends. body_made (params_of (items_of body.params)) (ty_view body.gives) (node_of body.tree) body.scope body.line c.in_ok-begun.ensures c.in_ok-tree.ensures ends) c.end.ensures
-
--- a call of the cycle has less work before it
-
-pub cases::arm_labels-put_labels-requires : goal.cases::arm_labels-put_labels-requires
-cases::arm_labels-put_labels-requires t c = (omega (arith, c.decreases), tt)
+    let e = c.put.new.self in
+    let ends : Ends (ty_view body.gives) c.in_ok-counts.counts (state_of c.tree.new.emitter) (unit_view c.into_unit.result) = record {
+      end = state_of e;
+      puts = one_is (ap instr.Return c.kind_of-k.ensures) c.in_ok-put.ensures;
+      is = c.into_unit.ensures ∙ ap (λ r. unit e.code.items r c.in_ok-frame.frame) (row_is e.constants.items) ∙ ap (unit e.code.items (row_of (map constant_view e.constants.items))) c.in_ok-frame.ensures;
+    } in
+    body_made (params_of (items_of body.params)) (ty_view body.gives) (node_of body.tree) body.scope body.line (c.in_ok-counts.ensures c.new-emitter.ensures) c.in_ok-tree.ensures ends
 
 pub cases::case-tree-requires : goal.cases::case-tree-requires
 cases::case-tree-requires t c = (omega (arith, c.decreases), tt)
-
-pub cases::case-put_arms-requires : goal.cases::case-put_arms-requires
-cases::case-put_arms-requires t c = (omega (arith, c.decreases), tt)
 
 pub cases::case-tree-requires-2 : goal.cases::case-tree-requires-2
 cases::case-tree-requires-2 t c = (omega (arith, c.decreases), tt)
@@ -378,17 +361,11 @@ jumps::for_loop-for_turns-requires t c = (omega (arith, c.decreases), tt)
 pub jumps::for_turns-tree-requires : goal.jumps::for_turns-tree-requires
 jumps::for_turns-tree-requires t c = (omega (arith, c.decreases), tt)
 
-pub jumps::if_do-tree-requires : goal.jumps::if_do-tree-requires
-jumps::if_do-tree-requires t c = (omega (arith, c.decreases), tt)
-
-pub jumps::if_do-jump_over-requires : goal.jumps::if_do-jump_over-requires
-jumps::if_do-jump_over-requires t c = (omega (arith, c.decreases), tt)
-
 pub jumps::if_else-tree-requires : goal.jumps::if_else-tree-requires
 jumps::if_else-tree-requires t c = (omega (arith, c.decreases), tt)
 
-pub jumps::if_else-then_out-requires : goal.jumps::if_else-then_out-requires
-jumps::if_else-then_out-requires t c = (omega (arith, c.decreases), tt)
+pub jumps::if_else-jump_over-requires : goal.jumps::if_else-jump_over-requires
+jumps::if_else-jump_over-requires t c = (omega (arith, c.decreases), tt)
 
 pub jumps::if_else-tree-requires-2 : goal.jumps::if_else-tree-requires-2
 jumps::if_else-tree-requires-2 t c = (omega (arith, c.decreases), tt)
@@ -401,9 +378,6 @@ jumps::repeat_loop-jump_over-requires t c = (omega (arith, c.decreases), tt)
 
 pub jumps::repeat_loop-two_then-requires : goal.jumps::repeat_loop-two_then-requires
 jumps::repeat_loop-two_then-requires t c = (omega (arith, c.decreases), tt)
-
-pub jumps::then_out-tree-requires : goal.jumps::then_out-tree-requires
-jumps::then_out-tree-requires t c = (omega (arith, c.decreases), tt)
 
 pub jumps::while_loop-jump_over-requires : goal.jumps::while_loop-jump_over-requires
 jumps::while_loop-jump_over-requires t c = (omega (arith, c.decreases), tt)
@@ -419,15 +393,6 @@ literals::unit-tree-requires t c = (omega (arith, c.decreases), tt)
 
 pub operands::all_then-all-requires : goal.operands::all_then-all-requires
 operands::all_then-all-requires t c = (omega (arith, c.decreases), tt)
-
-pub operands::call-all-requires : goal.operands::call-all-requires
-operands::call-all-requires t c = (omega (arith, c.decreases), tt)
-
-pub operands::make-all-requires : goal.operands::make-all-requires
-operands::make-all-requires t c = (omega (arith, c.decreases), tt)
-
-pub operands::one_named-tree-requires : goal.operands::one_named-tree-requires
-operands::one_named-tree-requires t c = (omega (arith, c.decreases), tt)
 
 pub operands::one_then-tree-requires : goal.operands::one_then-tree-requires
 operands::one_then-tree-requires t c = (omega (arith, c.decreases), tt)
@@ -477,8 +442,8 @@ tree::behind-one_then-requires-in-Join t c = let light = ap (λ f. weight (node_
 pub tree::behind-two_then-requires : goal.tree::behind-two_then-requires
 tree::behind-two_then-requires t c = let light = ap (λ f. weight (node_of_form f)) (sym c.deref.ensures ∙ c.in-Part.is) in (omega (arith, c.decreases, light), tt)
 
-pub tree::behind-one_named-requires : goal.tree::behind-one_named-requires
-tree::behind-one_named-requires t c = let light = ap (λ f. weight (node_of_form f)) (sym c.deref.ensures ∙ c.in-SetField.is) in (omega (arith, c.decreases, light), tt)
+pub tree::behind-tree-requires : goal.tree::behind-tree-requires
+tree::behind-tree-requires t c = let light = ap (λ f. weight (node_of_form f)) (sym c.deref.ensures ∙ c.in-SetField.is) in (omega (arith, c.decreases, light), tt)
 
 pub tree::behind-one_then-requires-in-Element : goal.tree::behind-one_then-requires-in-Element
 tree::behind-one_then-requires-in-Element t c = let light = ap (λ f. weight (node_of_form f)) (sym c.deref.ensures ∙ c.in-Element.is) in (omega (arith, c.decreases, light), tt)
@@ -486,8 +451,11 @@ tree::behind-one_then-requires-in-Element t c = let light = ap (λ f. weight (no
 pub tree::behind-two_then-requires-in-SetElement : goal.tree::behind-two_then-requires-in-SetElement
 tree::behind-two_then-requires-in-SetElement t c = let light = ap (λ f. weight (node_of_form f)) (sym c.deref.ensures ∙ c.in-SetElement.is) in (omega (arith, c.decreases, light), tt)
 
-pub tree::form-if_do-requires : goal.tree::form-if_do-requires
-tree::form-if_do-requires t c = let light = ap (λ f. weight (node_of_form f)) (sym c.deref.ensures ∙ c.in-IfDo.is) in (omega (arith, c.decreases, light), tt)
+pub tree::form-tree-requires : goal.tree::form-tree-requires
+tree::form-tree-requires t c = let light = ap (λ f. weight (node_of_form f)) (sym c.deref.ensures ∙ c.in-IfDo.is) in (omega (arith, c.decreases, light), tt)
+
+pub tree::form-jump_over-requires : goal.tree::form-jump_over-requires
+tree::form-jump_over-requires t c = let light = ap (λ f. weight (node_of_form f)) (sym c.deref.ensures ∙ c.in-IfDo.is) in (omega (arith, c.decreases, light), tt)
 
 pub tree::form-if_else-requires : goal.tree::form-if_else-requires
 tree::form-if_else-requires t c = let light = ap (λ f. weight (node_of_form f)) (sym c.deref.ensures ∙ c.in-IfElse.is) in (omega (arith, c.decreases, light), tt)
@@ -594,10 +562,10 @@ tree::form-returns-in-Name t c =
     subst (λ f. OnOk c.put-in-Name.result (Puts (made (node_of_form f)) (state_of c.args.emitter.now) (state_of c.put-in-Name.new.self))) (sym c.in-Name.is ∙ c.deref.ensures)
     (on_ok c.put-in-Name.result (λ puts. one_is c.get.ensures puts) c.put-in-Name.ensures)
 
-pub tree::form-returns-in-IfDo : goal.tree::form-returns-in-IfDo
-tree::form-returns-in-IfDo t c =
-    subst (λ f. OnOk c.if_do.result (Puts (made (node_of_form f)) (state_of c.args.emitter.now) (state_of c.if_do.new.emitter))) (sym c.in-IfDo.is ∙ c.deref.ensures)
-    c.if_do.ensures
+pub tree::form-returns-in_ok-tree-in-IfDo : goal.tree::form-returns-in_ok-tree-in-IfDo
+tree::form-returns-in_ok-tree-in-IfDo t c =
+    subst (λ f. OnOk c.jump_over.result (Puts (made (node_of_form f)) (state_of c.args.emitter.now) (state_of c.jump_over.new.emitter))) (sym c.in-IfDo.is ∙ c.deref.ensures)
+    (on_ok c.jump_over.result (λ puts. seq c.in_ok-tree-in-IfDo.ensures puts) c.jump_over.ensures)
 
 pub tree::form-returns-in-IfElse : goal.tree::form-returns-in-IfElse
 tree::form-returns-in-IfElse t c =
@@ -633,3 +601,303 @@ pub tree::form-returns-in-Abort : goal.tree::form-returns-in-Abort
 tree::form-returns-in-Abort t c =
     subst (λ f. OnOk c.put-in-Abort.result (Puts (made (node_of_form f)) (state_of c.args.emitter.now) (state_of c.put-in-Abort.new.self))) (sym c.in-Abort.is ∙ c.deref.ensures)
     c.put-in-Abort.ensures
+
+-- the exits of `?`
+
+pub cases::put_arm-returns-in_err-past : goal.cases::put_arm-returns-in_err-past
+cases::put_arm-returns-in_err-past t c = IfOk-from_err _ _ c.from_residual.ensures.0
+
+pub cases::put_arm-returns-in_err-put : goal.cases::put_arm-returns-in_err-put
+cases::put_arm-returns-in_err-put t c = IfOk-from_err _ _ c.from_residual-in_err-put.ensures.0
+
+pub cases::put_arm-returns-in_err-tree : goal.cases::put_arm-returns-in_err-tree
+cases::put_arm-returns-in_err-tree t c = IfOk-from_err _ _ c.from_residual-in_err-tree.ensures.0
+
+pub cases::put_arm-returns-in_err-out : goal.cases::put_arm-returns-in_err-out
+cases::put_arm-returns-in_err-out t c = IfOk-from_err _ _ c.from_residual-in_err-out.ensures.0
+
+pub cases::put_arm-returns-in_err-next : goal.cases::put_arm-returns-in_err-next
+cases::put_arm-returns-in_err-next t c = IfOk-from_err _ _ c.from_residual-in_err-next.ensures.0
+
+pub cases::put_arm-returns-in_err-overwrite : goal.cases::put_arm-returns-in_err-overwrite
+cases::put_arm-returns-in_err-overwrite t c = IfOk-from_err _ _ c.from_residual-in_err-overwrite.ensures.0
+
+pub jumps::block-returns-in_err-enter : goal.jumps::block-returns-in_err-enter
+jumps::block-returns-in_err-enter t c = IfOk-from_err _ _ c.from_residual.ensures.0
+
+pub jumps::block-returns-in_err-all : goal.jumps::block-returns-in_err-all
+jumps::block-returns-in_err-all t c = IfOk-from_err _ _ c.from_residual-in_err-all.ensures.0
+
+pub jumps::for_loop-returns-in_err-step : goal.jumps::for_loop-returns-in_err-step
+jumps::for_loop-returns-in_err-step t c = IfOk-from_err _ _ c.from_residual.ensures.0
+
+pub jumps::for_loop-returns-in_err-take : goal.jumps::for_loop-returns-in_err-take
+jumps::for_loop-returns-in_err-take t c = IfOk-from_err _ _ c.from_residual-in_err-take.ensures.0
+
+pub jumps::for_loop-returns-in_err-take_place : goal.jumps::for_loop-returns-in_err-take_place
+jumps::for_loop-returns-in_err-take_place t c = IfOk-from_err _ _ c.from_residual-in_err-take_place.ensures.0
+
+pub jumps::for_loop-returns-in_err-one_then : goal.jumps::for_loop-returns-in_err-one_then
+jumps::for_loop-returns-in_err-one_then t c = IfOk-from_err _ _ c.from_residual-in_err-one_then.ensures.0
+
+pub jumps::for_loop-returns-in_err-one_then-2 : goal.jumps::for_loop-returns-in_err-one_then-2
+jumps::for_loop-returns-in_err-one_then-2 t c = IfOk-from_err _ _ c.from_residual-in_err-one_then-2.ensures.0
+
+pub jumps::for_loop-returns-in_err-one_then-3 : goal.jumps::for_loop-returns-in_err-one_then-3
+jumps::for_loop-returns-in_err-one_then-3 t c = IfOk-from_err _ _ c.from_residual-in_err-one_then-3.ensures.0
+
+pub jumps::for_turns-returns-in_err-turn : goal.jumps::for_turns-returns-in_err-turn
+jumps::for_turns-returns-in_err-turn t c = IfOk-from_err _ _ c.from_residual.ensures.0
+
+pub jumps::for_turns-returns-in_err-hole : goal.jumps::for_turns-returns-in_err-hole
+jumps::for_turns-returns-in_err-hole t c = IfOk-from_err _ _ c.from_residual-in_err-hole.ensures.0
+
+pub jumps::for_turns-returns-in_err-enter : goal.jumps::for_turns-returns-in_err-enter
+jumps::for_turns-returns-in_err-enter t c = IfOk-from_err _ _ c.from_residual-in_err-enter.ensures.0
+
+pub jumps::for_turns-returns-in_err-put : goal.jumps::for_turns-returns-in_err-put
+jumps::for_turns-returns-in_err-put t c = IfOk-from_err _ _ c.from_residual-in_err-put.ensures.0
+
+pub jumps::for_turns-returns-in_err-put-2 : goal.jumps::for_turns-returns-in_err-put-2
+jumps::for_turns-returns-in_err-put-2 t c = IfOk-from_err _ _ c.from_residual-in_err-put-2.ensures.0
+
+pub jumps::for_turns-returns-in_err-tree : goal.jumps::for_turns-returns-in_err-tree
+jumps::for_turns-returns-in_err-tree t c = IfOk-from_err _ _ c.from_residual-in_err-tree.ensures.0
+
+pub jumps::for_turns-returns-in_err-leave : goal.jumps::for_turns-returns-in_err-leave
+jumps::for_turns-returns-in_err-leave t c = IfOk-from_err _ _ c.from_residual-in_err-leave.ensures.0
+
+pub jumps::for_turns-returns-in_err-put-3 : goal.jumps::for_turns-returns-in_err-put-3
+jumps::for_turns-returns-in_err-put-3 t c = IfOk-from_err _ _ c.from_residual-in_err-put-3.ensures.0
+
+pub jumps::for_turns-returns-in_err-end : goal.jumps::for_turns-returns-in_err-end
+jumps::for_turns-returns-in_err-end t c = IfOk-from_err _ _ c.from_residual-in_err-end.ensures.0
+
+pub jumps::jump_over-returns-in_err-hole : goal.jumps::jump_over-returns-in_err-hole
+jumps::jump_over-returns-in_err-hole t c = IfOk-from_err _ _ c.from_residual.ensures.0
+
+pub jumps::jump_over-returns-in_err-tree : goal.jumps::jump_over-returns-in_err-tree
+jumps::jump_over-returns-in_err-tree t c = IfOk-from_err _ _ c.from_residual-in_err-tree.ensures.0
+
+pub jumps::jump_over-returns-in_err-end : goal.jumps::jump_over-returns-in_err-end
+jumps::jump_over-returns-in_err-end t c = IfOk-from_err _ _ c.from_residual-in_err-end.ensures.0
+
+pub jumps::repeat_loop-returns-in_err-between : goal.jumps::repeat_loop-returns-in_err-between
+jumps::repeat_loop-returns-in_err-between t c = IfOk-from_err _ _ c.from_residual.ensures.0
+
+pub jumps::repeat_loop-returns-in_err-jump_over : goal.jumps::repeat_loop-returns-in_err-jump_over
+jumps::repeat_loop-returns-in_err-jump_over t c = IfOk-from_err _ _ c.from_residual-in_err-jump_over.ensures.0
+
+pub jumps::while_loop-returns-in_err-clause : goal.jumps::while_loop-returns-in_err-clause
+jumps::while_loop-returns-in_err-clause t c = IfOk-from_err _ _ c.from_residual.ensures.0
+
+pub jumps::while_loop-returns-in_err-jump_over : goal.jumps::while_loop-returns-in_err-jump_over
+jumps::while_loop-returns-in_err-jump_over t c = IfOk-from_err _ _ c.from_residual-in_err-jump_over.ensures.0
+
+pub literals::procedure-returns-in_err-unit : goal.literals::procedure-returns-in_err-unit
+literals::procedure-returns-in_err-unit t c = IfOk-from_err _ _ c.from_residual.ensures.0
+
+pub operands::all-returns-in_err-tree : goal.operands::all-returns-in_err-tree
+operands::all-returns-in_err-tree t c = IfOk-from_err _ _ c.from_residual.ensures.0
+
+pub operands::all_then-returns-in_err-all : goal.operands::all_then-returns-in_err-all
+operands::all_then-returns-in_err-all t c = IfOk-from_err _ _ c.from_residual.ensures.0
+
+pub operands::one_then-returns-in_err-tree : goal.operands::one_then-returns-in_err-tree
+operands::one_then-returns-in_err-tree t c = IfOk-from_err _ _ c.from_residual.ensures.0
+
+pub operands::two_then-returns-in_err-tree : goal.operands::two_then-returns-in_err-tree
+operands::two_then-returns-in_err-tree t c = IfOk-from_err _ _ c.from_residual.ensures.0
+
+pub operands::vector_filled-returns-in_err-tree : goal.operands::vector_filled-returns-in_err-tree
+operands::vector_filled-returns-in_err-tree t c = IfOk-from_err _ _ c.from_residual.ensures.0
+
+pub operands::vector_filled-returns-in_err-tree-2 : goal.operands::vector_filled-returns-in_err-tree-2
+operands::vector_filled-returns-in_err-tree-2 t c = IfOk-from_err _ _ c.from_residual-in_err-tree-2.ensures.0
+
+pub operands::vector_filled-returns-in_err-tree-3 : goal.operands::vector_filled-returns-in_err-tree-3
+operands::vector_filled-returns-in_err-tree-3 t c = IfOk-from_err _ _ c.from_residual-in_err-tree-3.ensures.0
+
+pub operands::vector_of-returns-in_err-count : goal.operands::vector_of-returns-in_err-count
+operands::vector_of-returns-in_err-count t c = IfOk-from_err _ _ c.from_residual.ensures.0
+
+pub operands::vector_of-returns-in_err-tree : goal.operands::vector_of-returns-in_err-tree
+operands::vector_of-returns-in_err-tree t c = IfOk-from_err _ _ c.from_residual-in_err-tree.ensures.0
+
+pub operands::vector_of-returns-in_err-all : goal.operands::vector_of-returns-in_err-all
+operands::vector_of-returns-in_err-all t c = IfOk-from_err _ _ c.from_residual-in_err-all.ensures.0
+
+pub scans::scan-returns-in_err-procedure : goal.scans::scan-returns-in_err-procedure
+scans::scan-returns-in_err-procedure t c = IfOk-from_err _ _ c.from_residual.ensures.0
+
+pub scans::scan-returns-in_err-take : goal.scans::scan-returns-in_err-take
+scans::scan-returns-in_err-take t c = IfOk-from_err _ _ c.from_residual-in_err-take.ensures.0
+
+pub scans::scan-returns-in_err-one_then : goal.scans::scan-returns-in_err-one_then
+scans::scan-returns-in_err-one_then t c = IfOk-from_err _ _ c.from_residual-in_err-one_then.ensures.0
+
+pub scans::scan-returns-in_err-one_then-2 : goal.scans::scan-returns-in_err-one_then-2
+scans::scan-returns-in_err-one_then-2 t c = IfOk-from_err _ _ c.from_residual-in_err-one_then-2.ensures.0
+
+pub scans::scan-returns-in_err-zeros : goal.scans::scan-returns-in_err-zeros
+scans::scan-returns-in_err-zeros t c = IfOk-from_err _ _ c.from_residual-in_err-zeros.ensures.0
+
+pub tree::tree-returns-in_err-innermost : goal.tree::tree-returns-in_err-innermost
+tree::tree-returns-in_err-innermost t c = IfOk-from_err _ _ c.from_residual.ensures.0
+
+pub tree::tree-returns-in_err-form : goal.tree::tree-returns-in_err-form
+tree::tree-returns-in_err-form t c = IfOk-from_err _ _ c.from_residual-in_err-form.ensures.0
+
+pub tree::tree-returns-in_err-known : goal.tree::tree-returns-in_err-known
+tree::tree-returns-in_err-known t c = IfOk-from_err _ _ c.from_residual-in_err-known.ensures.0
+
+pub tree::tree-returns-in_err-behind : goal.tree::tree-returns-in_err-behind
+tree::tree-returns-in_err-behind t c = IfOk-from_err _ _ c.from_residual-in_err-behind.ensures.0
+
+-- the loops go forward, and the arms that read behind a box or a count
+
+pub tree::form-returns-in-For : goal.tree::form-returns-in-For
+tree::form-returns-in-For t c =
+    subst (λ f. OnOk c.for_loop.result (Puts (made (node_of_form f)) (state_of c.args.emitter.now) (state_of c.for_loop.new.emitter))) (sym c.in-For.is ∙ c.deref.ensures)
+    (subst (λ it. OnOk c.for_loop.result (Puts (made (node.For it.slot (node_of it.a) (node_of it.b) (node_of it.c) it.scope it.control (node_of it.s) it.line)) (state_of c.args.emitter.now) (state_of c.for_loop.new.emitter))) c.deref-in-For.ensures c.for_loop.ensures)
+
+pub tree::form-returns-in-Text : goal.tree::form-returns-in-Text
+tree::form-returns-in-Text t c =
+    subst (λ f. OnOk c.name.result (Puts (made (node_of_form f)) (state_of c.args.emitter.now) (state_of c.name.new.self))) (sym c.in-Text.is ∙ c.deref.ensures)
+    (subst (λ x. OnOk c.name.result (Puts (naming instr.Text (text x)) (state_of c.args.emitter.now) (state_of c.name.new.self))) c.as_slice.ensures c.name.ensures)
+
+pub tree::form-returns-in-Proc : goal.tree::form-returns-in-Proc
+tree::form-returns-in-Proc t c =
+    subst (λ f. OnOk c.procedure.result (Puts (made (node_of_form f)) (state_of c.args.emitter.now) (state_of c.procedure.new.emitter))) (sym c.in-Proc.is ∙ c.deref.ensures)
+    (subst (λ of. OnOk c.procedure.result (Puts (closing (body_of of)) (state_of c.args.emitter.now) (state_of c.procedure.new.emitter))) c.deref-in-Proc.ensures c.procedure.ensures)
+
+pub tree::behind-returns-in-Is : goal.tree::behind-returns-in-Is
+tree::behind-returns-in-Is t c =
+    subst (λ f. OnOk c.name.result (Puts (behind_of (type_in c.args.known) (node_of_form f)) (state_of c.args.emitter.now) (state_of c.name.new.self))) (sym c.in-Is.is ∙ c.deref.ensures)
+    (subst (λ x. OnOk c.name.result (Puts (naming instr.Is (text x)) (state_of c.args.emitter.now) (state_of c.name.new.self))) (c.as_slice.ensures ∙ c.deref-in-Is.ensures) c.name.ensures)
+
+pub tree::behind-returns-in-Field : goal.tree::behind-returns-in-Field
+tree::behind-returns-in-Field t c =
+    subst (λ f. OnOk c.name-in-Field.result (Puts (behind_of (type_in c.args.known) (node_of_form f)) (state_of c.args.emitter.now) (state_of c.name-in-Field.new.self))) (sym c.in-Field.is ∙ c.deref.ensures)
+    (subst (λ x. OnOk c.name-in-Field.result (Puts (naming (λ k. choice.by_type (ty_view c.in-Field.ty) (instr.FieldM k c.in-Field.index c.in-Field.line) (instr.FieldP k c.in-Field.index c.in-Field.line)) (text x)) (state_of c.args.emitter.now) (state_of c.name-in-Field.new.self))) (c.as_slice-in-Field.ensures ∙ c.deref-in-Field.ensures) c.name-in-Field.ensures)
+
+pub tree::behind-returns-in_ok-tree-in-SetField : goal.tree::behind-returns-in_ok-tree-in-SetField
+tree::behind-returns-in_ok-tree-in-SetField t c =
+    let field : ℕ → Instr = λ k. choice.by_type (ty_view c.in-SetField.ty) (instr.SetFieldM k c.in-SetField.index c.in-SetField.line) (instr.SetFieldP k c.in-SetField.index c.in-SetField.line) in
+    subst (λ f. OnOk c.name-in-SetField.result (Puts (behind_of (type_in c.args.known) (node_of_form f)) (state_of c.args.emitter.now) (state_of c.name-in-SetField.new.self))) (sym c.in-SetField.is ∙ c.deref.ensures)
+    (on_ok c.name-in-SetField.result (λ puts. seq c.in_ok-tree-in-SetField.ensures (subst (λ x. Puts (naming field (text x)) (state_of c.tree.new.emitter) (state_of c.name-in-SetField.new.self)) (c.as_slice-in-SetField.ensures ∙ c.deref-in-SetField.ensures) puts)) c.name-in-SetField.ensures)
+
+pub tree::form-for_loop-requires : goal.tree::form-for_loop-requires
+tree::form-for_loop-requires t c =
+    let light = ap (λ f. weight (node_of_form f)) (sym c.deref.ensures ∙ c.in-For.is) in
+    let it = ap (λ (it : Loop). weight (node_of it.a) + weight (node_of it.b) + weight (node_of it.c) + weight (node_of it.s)) c.deref-in-For.ensures in (omega (arith, c.decreases, light, it), tt)
+
+pub tree::form-procedure-requires : goal.tree::form-procedure-requires
+tree::form-procedure-requires t c =
+    let light = ap (λ f. weight (node_of_form f)) (sym c.deref.ensures ∙ c.in-Proc.is) in
+    let body = ap (λ (body : Body). weight (node_of body.tree)) c.deref-in-Proc.ensures in (omega (arith, c.decreases, light, body), tt)
+
+pub cases::case-loop-arm-smaller : goal.cases::case-loop-arm-smaller
+cases::case-loop-arm-smaller t c =
+    falls _ _ c.loop-arm-test.true
+
+pub cases::arm_labels-loop-label-smaller : goal.cases::arm_labels-loop-label-smaller
+cases::arm_labels-loop-label-smaller t c =
+    falls _ _ c.loop-label-test.true
+
+pub operands::all-loop-item-smaller : goal.operands::all-loop-item-smaller
+operands::all-loop-item-smaller t c =
+    falls _ _ c.loop-item-test.true
+
+pub operands::all-offset_bounds-items-item-index : goal.operands::all-offset_bounds-items-item-index
+operands::all-offset_bounds-items-item-index t c =
+    search rules
+
+pub cases::case-offset_bounds-arms-arm-index : goal.cases::case-offset_bounds-arms-arm-index
+cases::case-offset_bounds-arms-arm-index t c =
+    search rules
+
+pub cases::arm_labels-offset_bounds-labels-label-index : goal.cases::arm_labels-offset_bounds-labels-label-index
+cases::arm_labels-offset_bounds-labels-label-index t c =
+    search rules
+
+pub cases::put_label-returns-in_err-put : goal.cases::put_label-returns-in_err-put
+cases::put_label-returns-in_err-put t c = IfOk-from_err _ _ c.from_residual.ensures.0
+
+pub cases::put_label-returns-in_err-tree : goal.cases::put_label-returns-in_err-tree
+cases::put_label-returns-in_err-tree t c = IfOk-from_err _ _ c.from_residual-in_err-tree.ensures.0
+
+pub cases::put_label-returns-in_err-put-2 : goal.cases::put_label-returns-in_err-put-2
+cases::put_label-returns-in_err-put-2 t c = IfOk-from_err _ _ c.from_residual-in_err-put-2.ensures.0
+
+pub cases::case-returns-in_err-tree : goal.cases::case-returns-in_err-tree
+cases::case-returns-in_err-tree t c = IfOk-from_err _ _ c.from_residual.ensures.0
+
+pub cases::case-returns-in_err-end : goal.cases::case-returns-in_err-end
+cases::case-returns-in_err-end t c = IfOk-from_err _ _ c.from_residual-in_err-end.ensures.0
+
+pub cases::case-returns-in_err-push : goal.cases::case-returns-in_err-push
+cases::case-returns-in_err-push t c = IfOk-from_err _ _ c.from_residual-in_err-push.ensures.0
+
+pub cases::case-returns-in_err-put : goal.cases::case-returns-in_err-put
+cases::case-returns-in_err-put t c = IfOk-from_err _ _ c.from_residual-in_err-put.ensures.0
+
+pub cases::case-returns-in_err-tree-2 : goal.cases::case-returns-in_err-tree-2
+cases::case-returns-in_err-tree-2 t c = IfOk-from_err _ _ c.from_residual-in_err-tree-2.ensures.0
+
+pub cases::case-returns-in_err-end-2 : goal.cases::case-returns-in_err-end-2
+cases::case-returns-in_err-end-2 t c = IfOk-from_err _ _ c.from_residual-in_err-end-2.ensures.0
+
+pub cases::arm_labels-returns-in_err-hole : goal.cases::arm_labels-returns-in_err-hole
+cases::arm_labels-returns-in_err-hole t c = IfOk-from_err _ _ c.from_residual.ensures.0
+
+pub cases::arm_labels-returns-in_err-push : goal.cases::arm_labels-returns-in_err-push
+cases::arm_labels-returns-in_err-push t c = IfOk-from_err _ _ c.from_residual-in_err-push.ensures.0
+
+pub cases::arm_labels-returns-in_err-past : goal.cases::arm_labels-returns-in_err-past
+cases::arm_labels-returns-in_err-past t c = IfOk-from_err _ _ c.from_residual-in_err-past.ensures.0
+
+pub cases::arm_labels-returns-in_err-chosen : goal.cases::arm_labels-returns-in_err-chosen
+cases::arm_labels-returns-in_err-chosen t c = IfOk-from_err _ _ c.from_residual-in_err-chosen.ensures.0
+
+pub cases::arm_labels-returns-in_err-fill : goal.cases::arm_labels-returns-in_err-fill
+cases::arm_labels-returns-in_err-fill t c = IfOk-from_err _ _ c.from_residual-in_err-fill.ensures.0
+
+pub jumps::if_else-returns-in_err-tree : goal.jumps::if_else-returns-in_err-tree
+jumps::if_else-returns-in_err-tree t c = IfOk-from_err _ _ c.from_residual.ensures.0
+
+pub jumps::if_else-returns-in_err-test : goal.jumps::if_else-returns-in_err-test
+jumps::if_else-returns-in_err-test t c = IfOk-from_err _ _ c.from_residual-in_err-test.ensures.0
+
+pub jumps::if_else-returns-in_err-tree-2 : goal.jumps::if_else-returns-in_err-tree-2
+jumps::if_else-returns-in_err-tree-2 t c = IfOk-from_err _ _ c.from_residual-in_err-tree-2.ensures.0
+
+pub jumps::if_else-returns-in_err-other : goal.jumps::if_else-returns-in_err-other
+jumps::if_else-returns-in_err-other t c = IfOk-from_err _ _ c.from_residual-in_err-other.ensures.0
+
+pub jumps::if_else-returns-in_err-jump_over : goal.jumps::if_else-returns-in_err-jump_over
+jumps::if_else-returns-in_err-jump_over t c = IfOk-from_err _ _ c.from_residual-in_err-jump_over.ensures.0
+
+pub literals::unit-returns-in_err-counts : goal.literals::unit-returns-in_err-counts
+literals::unit-returns-in_err-counts t c = IfOk-from_err _ _ c.from_residual.ensures.0
+
+pub literals::unit-returns-in_err-tree : goal.literals::unit-returns-in_err-tree
+literals::unit-returns-in_err-tree t c = IfOk-from_err _ _ c.from_residual-in_err-tree.ensures.0
+
+pub literals::unit-returns-in_err-put : goal.literals::unit-returns-in_err-put
+literals::unit-returns-in_err-put t c = IfOk-from_err _ _ c.from_residual-in_err-put.ensures.0
+
+pub literals::unit-returns-in_err-frame : goal.literals::unit-returns-in_err-frame
+literals::unit-returns-in_err-frame t c = IfOk-from_err _ _ c.from_residual-in_err-frame.ensures.0
+
+pub tree::behind-returns-in_err-tree-in-SetField : goal.tree::behind-returns-in_err-tree-in-SetField
+tree::behind-returns-in_err-tree-in-SetField t c = IfOk-from_err _ _ c.from_residual.ensures.0
+
+pub tree::behind-returns-in_err-n-in-Call : goal.tree::behind-returns-in_err-n-in-Call
+tree::behind-returns-in_err-n-in-Call t c = IfOk-from_err _ _ c.from_residual-in_err-n-in-Call.ensures.0
+
+pub tree::form-returns-in_err-tree-in-IfDo : goal.tree::form-returns-in_err-tree-in-IfDo
+tree::form-returns-in_err-tree-in-IfDo t c = IfOk-from_err _ _ c.from_residual.ensures.0
+
+pub tree::form-returns-in_err-all-in-Make : goal.tree::form-returns-in_err-all-in-Make
+tree::form-returns-in_err-all-in-Make t c = IfOk-from_err _ _ c.from_residual-in_err-all-in-Make.ensures.0

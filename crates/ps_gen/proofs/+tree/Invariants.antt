@@ -14,7 +14,7 @@ abbrev pub decreases-tree::tree : goal.decreases-tree::tree
 decreases-tree::tree l = 12 * weight (node_of l.tree.now) + 3
 
 abbrev pub decreases-tree::form : goal.decreases-tree::form
-decreases-tree::form l = 12 * weight (node_of l.tree.now) + 2
+decreases-tree::form l = 12 * weight (node_of l.it.now) + 2
 
 abbrev pub decreases-tree::behind : goal.decreases-tree::behind
 decreases-tree::behind l = 12 * weight (node_of l.link.now) + 1
@@ -34,15 +34,6 @@ decreases-operands::two_then l = 12 * (weight (node_of l.a.now) + weight (node_o
 abbrev pub decreases-operands::all_then : goal.decreases-operands::all_then
 decreases-operands::all_then l = 12 * weight_all (nodes_in l.items.now) + 5
 
-abbrev pub decreases-operands::one_named : goal.decreases-operands::one_named
-decreases-operands::one_named l = 12 * weight (node_of l.a.now) + 4
-
-abbrev pub decreases-operands::call : goal.decreases-operands::call
-decreases-operands::call l = 12 * weight_all (nodes_in l.args.now) + 5
-
-abbrev pub decreases-operands::make : goal.decreases-operands::make
-decreases-operands::make l = 12 * weight_all (nodes_in l.args.now) + 5
-
 abbrev pub decreases-operands::vector_filled : goal.decreases-operands::vector_filled
 decreases-operands::vector_filled l = 12 * (weight (node_of l.l.now) + weight (node_of l.u.now) + weight (node_of l.e.now)) + 5
 
@@ -52,14 +43,8 @@ decreases-operands::vector_of l = 12 * (weight (node_of l.l.now) + weight_all (n
 abbrev pub decreases-jumps::block : goal.decreases-jumps::block
 decreases-jumps::block l = 12 * weight_all (nodes_in l.items.now) + 5
 
-abbrev pub decreases-jumps::if_do : goal.decreases-jumps::if_do
-decreases-jumps::if_do l = 12 * (weight (node_of l.c.now) + weight (node_of l.a.now)) + 5
-
 abbrev pub decreases-jumps::if_else : goal.decreases-jumps::if_else
 decreases-jumps::if_else l = 12 * (weight (node_of l.c.now) + weight (node_of l.a.now) + weight (node_of l.b.now)) + 6
-
-abbrev pub decreases-jumps::then_out : goal.decreases-jumps::then_out
-decreases-jumps::then_out l = 12 * weight (node_of l.a.now) + 4
 
 abbrev pub decreases-jumps::while_loop : goal.decreases-jumps::while_loop
 decreases-jumps::while_loop l = 12 * (weight (node_of l.c.now) + weight (node_of l.a.now)) + 5
@@ -76,17 +61,11 @@ decreases-jumps::for_turns l = 12 * weight (node_of l.it.now.s) + 5
 abbrev pub decreases-cases::case : goal.decreases-cases::case
 decreases-cases::case l = 12 * (weight (node_of l.e.now) + weight_arms (arms_in l.arms.now) + weight (node_of l.d.now)) + 9
 
-abbrev pub decreases-cases::put_arms : goal.decreases-cases::put_arms
-decreases-cases::put_arms l = 12 * weight_arms (arms_in l.arms.now) + 8
-
 abbrev pub decreases-cases::put_arm : goal.decreases-cases::put_arm
 decreases-cases::put_arm l = 12 * (weight_all (nodes_in l.labels.now) + weight (node_of l.a.now)) + 7
 
 abbrev pub decreases-cases::arm_labels : goal.decreases-cases::arm_labels
 decreases-cases::arm_labels l = 12 * weight_all (nodes_in l.labels.now) + 6
-
-abbrev pub decreases-cases::put_labels : goal.decreases-cases::put_labels
-decreases-cases::put_labels l = 12 * weight_all (nodes_in l.labels.now) + 5
 
 abbrev pub decreases-cases::put_label : goal.decreases-cases::put_label
 decreases-cases::put_label l = 12 * weight (node_of l.label.now) + 4
@@ -103,11 +82,11 @@ decreases-literals::unit l = 12 * weight (node_of l.body.now.tree) + 5
 abbrev pub invariant-operands::all-loop-item : goal.invariant-operands::all-loop-item
 invariant-operands::all-loop-item l = Left (clauses (nodes_in (drop l.item-index l.items))) (clauses (nodes_in l.items)) (state_of l.fn.emitter) (state_of l.emitter)
 
-abbrev pub invariant-cases::put_arms-loop-arm : goal.invariant-cases::put_arms-loop-arm
-invariant-cases::put_arms-loop-arm l = LeftOpen instr.Jump (arms_of (ty_view l.ty) (arms_in (drop l.arm-index l.arms))) (arms_of (ty_view l.ty) (arms_in l.arms)) l.ends.items (state_of l.fn.emitter) (state_of l.emitter)
+abbrev pub invariant-cases::case-loop-arm : goal.invariant-cases::case-loop-arm
+invariant-cases::case-loop-arm l = LeftOpen instr.Jump (arms_of (ty_view l.ty) (arms_in (drop l.arm-index l.arms))) (arms_of (ty_view l.ty) (arms_in l.arms)) l.ends.items (state_of l.initial.emitter) (state_of l.emitter)
 
-abbrev pub invariant-cases::put_labels-loop-label : goal.invariant-cases::put_labels-loop-label
-invariant-cases::put_labels-loop-label l = LeftOpen instr.JumpTrue (labels_of (ty_view l.ty) (nodes_in (drop l.label-index l.labels))) (labels_of (ty_view l.ty) (nodes_in l.labels)) l.holes.items (state_of l.fn.emitter) (state_of l.emitter)
+abbrev pub invariant-cases::arm_labels-loop-label : goal.invariant-cases::arm_labels-loop-label
+invariant-cases::arm_labels-loop-label l = LeftOpen instr.JumpTrue (labels_of (ty_view l.ty) (nodes_in (drop l.label-index l.labels))) (labels_of (ty_view l.ty) (nodes_in l.labels)) l.holes.items (state_of l.fn.emitter) (state_of l.emitter)
 
 -- a part of the tree whose code stands, and the links around it
 abbrev pub invariant-tree::tree-loop-link : goal.invariant-tree::tree-loop-link
