@@ -15,13 +15,12 @@ use Rattle.ps_base.specs.declared.list.List.{List as ListOf}
 use Rattle.ps_program.proofs.NodeLists.{arm_of-parts}
 use Rattle.ps_program.specs.declared.form.Arm.{Arm as ArmOf, Arm-F, roll-Arm, out-roll-Arm}
 use Rattle.ps_program.specs.declared.form.Tree.{Tree}
-use Rattle.ps_typing.specs.Fault.{Fault, Mismatch}
+use Rattle.ps_typing.specs.Fault.{Mismatch}
 use Rattle.ps_typing.specs.Names.{Names}
 use Rattle.ps_typing.specs.Checking.{Outcome, Gives, Refuses, ◌>>=◌, Checker, check, check_all, check_arms, check_each, check_args, check_written, checkers, check_if_any, is_same, is_writable, is_present, first_type, like, line_of, passes, wants}
 use Rattle.ps_typing.proofs.SameTypes.{same_is_equal}
 use Rattle.ps_declared.specs.declared.fault.CheckFault.{CheckFault}
-use Rattle.ps_declared.specs.Faults.{fault_of}
-use Rattle.ps_declared.specs.inside.Answers.{Refused, IsFault}
+use Rattle.ps_declared.specs.inside.Answers.{IsFault}
 use Rattle.ps_checked.specs.inside.Cases.{check_arm, all_arms}
 use Rattle.ps_checked.specs.inside.Lists.{behind_void, check_item}
 use Rattle.ps_declared.proofs.Steps.{given, fails_as, fails_first}

@@ -1,5 +1,5 @@
 -- An application of a name, and of what is none.
-use Rattle.std.proofs.Common.{◌≡◌, ℕ, List, Option, Some, None, ap}
+use Rattle.std.proofs.Common.{◌≡◌, ℕ, List, Some, None, ap}
 use Rattle.ps_base.specs.declared.line.Line.{Line}
 use Rattle.ps_tree.specs.Phrase.{Phrase, Phrases}
 use Rattle.ps_tree.specs.Phrase as form

@@ -1,6 +1,6 @@
-ghost use Rattle.std.specs.Prelude.{◌≡◌, option_map, Some, None};
+ghost use Rattle.std.specs.Prelude.{None};
 ghost use Rattle.ps_base.specs.TyView.{ty_view};
-ghost use Rattle.ps_tree.specs.Phrase.{phrase_of, arm_of as rough_arm_of};
+ghost use Rattle.ps_tree.specs.Phrase.{phrase_of};
 ghost use Rattle.ps_tree.specs.Phrase as form;
 ghost use Rattle.ps_tree.specs.PhraseLists.{arms_in as rough_arms_in};
 ghost use Rattle.ps_scope.specs.Content.{names_of};

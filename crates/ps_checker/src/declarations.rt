@@ -1,8 +1,5 @@
-ghost use Rattle.ps_base.specs.declared.line.Line.{Line as LineAt};
-ghost use Rattle.ps_tree.specs.Phrase.{phrase_of, named};
-ghost use Rattle.ps_tree.specs.Phrase as form;
+ghost use Rattle.ps_tree.specs.Phrase.{named};
 ghost use Rattle.ps_scope.specs.Content.{names_of};
-ghost use Rattle.ps_typing.specs.Checking.{check_form};
 ghost use Rattle.ps_declared.specs.inside.Answers.{IsClause};
 ghost use Rattle.ps_checked.specs.inside.Forms.{check_literal, check_named};
 ghost use Rattle.ps_declared.specs.inside.Views.{literal_of};
@@ -10,15 +7,14 @@ ghost use Rattle.ps_declared.specs.inside.Views.{literal_of};
 use crate::checker::Checker;
 use ps_base::ty::Ty;
 use ps_checked::literals::{parameters, procedure, type_of};
-use ps_checked::single::Single;
 use ps_checked::wanted::Wanted;
 use ps_declared::clause::Clause;
 use ps_declared::declarators::{MOST, declarators};
 use ps_declared::fault::CheckFault;
-use ps_declared::looks::{Literal, literal_in};
+use ps_declared::looks::Literal;
 use ps_program::form::TreeForm;
 use ps_program::place::Place;
-use ps_tree::rough::{Named, Rough};
+use ps_tree::rough::Named;
 
 impl Checker {
     /// A name that is declared with a literal, inside which it is in scope, too.

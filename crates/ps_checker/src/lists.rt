@@ -1,13 +1,10 @@
-ghost use Rattle.std.specs.Prelude.{◌≡◌, length};
-ghost use Rattle.ps_base.specs.TyView.{ty_view, ty_views};
-ghost use Rattle.ps_tree.specs.Phrase.{item_of};
+ghost use Rattle.ps_base.specs.TyView.{ty_view};
 ghost use Rattle.ps_tree.specs.Phrase as form;
 ghost use Rattle.ps_tree.specs.PhraseLists.{phrases_in, items_in};
 ghost use Rattle.ps_scope.specs.Content.{names_of};
-ghost use Rattle.ps_typing.specs.Checking.{check_each, check_args, checkers};
-ghost use Rattle.ps_base.specs.TyView as types;
-ghost use Rattle.ps_declared.specs.inside.Answers.{IsClause, IsOfType, check_unlined};
-ghost use Rattle.ps_checked.specs.inside.Lists.{AreTrees, check_item};
+ghost use Rattle.ps_typing.specs.Checking.{check_each, checkers};
+ghost use Rattle.ps_declared.specs.inside.Answers.{IsClause, check_unlined};
+ghost use Rattle.ps_checked.specs.inside.Lists.{AreTrees};
 
 use crate::checker::Checker;
 use ps_base::ty::Ty;

@@ -1,4 +1,3 @@
-ghost use Rattle.std.specs.Prelude.{◌≡◌};
 ghost use Rattle.ps_base.specs.TyView.{ty_view};
 ghost use Rattle.ps_tree.specs.Phrase.{phrase_of, named};
 ghost use Rattle.ps_tree.specs.Phrase as form;
@@ -6,9 +5,8 @@ ghost use Rattle.ps_tree.specs.PhraseLists.{phrases_in, maybe_in};
 ghost use Rattle.ps_tree.specs.declared.rough.RoughRange.{out-RoughRange};
 ghost use Rattle.ps_scope.specs.Content.{names_of};
 ghost use Rattle.ps_typing.specs.Checking.{check_form};
-ghost use Rattle.ps_declared.specs.inside.Answers.{IsClause, check_unlined};
+ghost use Rattle.ps_declared.specs.inside.Answers.{IsClause};
 ghost use Rattle.ps_checked.specs.inside.Parts.{check_single, check_double, check_triple};
-ghost use Rattle.ps_declared.specs.inside.Views.{maybe_lent};
 
 use crate::checker::Checker;
 use ps_base::line::Line;

@@ -1,12 +1,8 @@
-ghost use Rattle.ps_base.specs.TyView.{ty_view};
-ghost use Rattle.ps_base.specs.TyView as types;
-ghost use Rattle.ps_tree.specs.Phrase.{phrase_of};
 ghost use Rattle.ps_tree.specs.Phrase as form;
 ghost use Rattle.ps_tree.specs.PhraseLists.{phrases_in};
 ghost use Rattle.ps_scope.specs.Content.{names_of};
-ghost use Rattle.ps_typing.specs.Checking.{check as check_of, check_form, check_all};
+ghost use Rattle.ps_typing.specs.Checking.{check_form};
 ghost use Rattle.ps_declared.specs.inside.Answers.{IsClause};
-ghost use Rattle.ps_checked.specs.inside.Lists.{AreItems, behind_void};
 
 use crate::checker::Checker;
 use ps_base::line::Line;

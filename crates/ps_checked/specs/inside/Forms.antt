@@ -1,5 +1,5 @@
 -- What the functions of the check do for single forms.
-use Rattle.std.specs.Prelude.{Bool, List}
+use Rattle.std.specs.Prelude.{Bool}
 use Rattle.ps_base.specs.TyView.{TyView}
 use Rattle.ps_base.specs.TyView as types
 use Rattle.ps_base.specs.declared.line.Line.{Line}
@@ -8,9 +8,9 @@ use Rattle.ps_program.specs.Node.{Node, Nodes}
 use Rattle.ps_program.specs.Node as node
 use Rattle.ps_program.specs.NodeView.{node_of}
 use Rattle.std.specs.Rc.{rc_value}
-use Rattle.ps_typing.specs.Names.{Names, Procedure, plain, scan}
+use Rattle.ps_typing.specs.Names.{Names}
 use Rattle.ps_typing.specs.Fault.{NotApplicable}
-use Rattle.ps_typing.specs.Checking.{Outcome, Gives, Refuses, ◌>>=◌, Checker, check, line_of, wants, passes, isnt_void, introduced, literal, named_literal, with_args, scan_applied}
+use Rattle.ps_typing.specs.Checking.{Outcome, Gives, Refuses, ◌>>=◌, check, line_of, wants, passes, isnt_void, introduced, literal, named_literal}
 use Rattle.ps_checked.specs.declared.head.Head.{Head}
 use Rattle.ps_checked.specs.declared.head.Head.TheVariants as head
 use Rattle.ps_declared.specs.inside.Looks.{LiteralAt}
@@ -34,7 +34,3 @@ head_node (head.Lib code) line args = node.Lib code args line
 abbrev pub check_element : Names → Line → Node → TyView → Phrase → Outcome Node
 check_element names line v (types.Vector element) i = wants types.Int (line_of i) (check names i) >>= λ i int names. Gives (node.Element v i element line) element names
 check_element names line v _ i = Refuses (NotApplicable line)
-
-abbrev pub check_library : Names → Line → Procedure → List Checker → Outcome Node
-check_library names line (plain code params gives) args = with_args names line params args (λ args. node.Lib code args line) gives
-check_library names line (scan text) args = scan_applied names line text args

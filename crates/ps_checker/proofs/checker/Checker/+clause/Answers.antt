@@ -1,12 +1,12 @@
-use Rattle.std.proofs.Common.{◌≡◌, ◌≤◌, ◌<◌, ◌+◌, ◌∙◌, ap, sym, refl, subst, rules, arith, false, Some, None, [], ◌∷◌, ◌++◌, length, drop, not}
+use Rattle.std.proofs.Common.{◌≡◌, ◌≤◌, ◌<◌, ◌+◌, ◌∙◌, ap, sym, refl, subst, rules, arith, false, Some, None, [], length, drop}
 use Rattle.std.specs.Prelude.{option_map, if◌then◌else◌, pos}
 use Rattle.ps_base.specs.List.{items_of}
 use Rattle.ps_base.specs.TyView.{Void, ty_view, ty_views}
 use Rattle.ps_tree.specs.Phrase.{named, phrase_of, form_of, item_of, arm_of, groups_in}
 use Rattle.ps_tree.specs.PhraseLists.{phrases_in, items_in, arms_in as rough_arms_in, maybe_in}
-use Rattle.ps_program.specs.NodeView.{node_of, nodes_in, arm_of as tree_arm_of, params_of}
+use Rattle.ps_program.specs.NodeView.{node_of, nodes_in, params_of}
 use Rattle.ps_scope.specs.Content.{names_of}
-use Rattle.ps_typing.specs.Fault.{Twice, Mismatch, NotApplicable, Limit}
+use Rattle.ps_typing.specs.Fault.{Twice, NotApplicable, Limit}
 use Rattle.ps_typing.specs.Names.{Names, library, scan, behind, declare_local, inside, is_declared}
 use Rattle.ps_typing.specs.Checking.{Gives, Refuses, check, check_form, check_all, check_each, check_args, check_written, check_arms, checkers, wants, value_applied, with_args, ◌>>=◌, like, name_applied, elements, check_if_any, first_type, types_of, with_params, scan_applied}
 use Rattle.ps_declared.specs.inside.Answers.{IsFault}
@@ -29,13 +29,13 @@ use Rattle.ps_program.specs.inside.PartsView.{arms_in}
 use Rattle.ps_tree.specs.declared.rough.RoughArm.{out-RoughArm}
 use Rattle.ps_checked.specs.inside.Cases.{check_arm}
 use Rattle.ps_checked.specs.inside.Lists.{check_item}
-use Rattle.ps_checker.proofs.Places.{weight_at, item_weight_at, arm_weight_at, phrases_from, items_from, arms_from, types_from, phrases_behind, items_behind, arms_behind, empty}
+use Rattle.ps_checker.proofs.Places.{weight_at, item_weight_at, arm_weight_at, phrases_from, items_from, arms_from, types_from, phrases_behind, items_behind, arms_behind}
 use Rattle.ps_checker.proofs.Views.{form_of-For, arm_of-parts, item_of-parts}
 use Rattle.ps_program.specs.declared.place.Place.TheVariants.{Plain}
 use Rattle.ps_typing.proofs.Keeps.{keeps_around, keeps_fields_around, all_keeps_around, all_keeps_fields_around, params_keep_around, params_keep_fields_around}
 use Rattle.ps_declared.specs.inside.Looks.{LiteralAt}
 use Rattle.ps_declared.specs.inside.Views.{literal_of, groups_of, maybe_lent}
-use Rattle.ps_scope.specs.Views.{meaning_of, procedure_of}
+use Rattle.ps_scope.specs.Views.{meaning_of}
 use Rattle.ps_checker.proofs.Blocks.{stays, unpassed}
 use Rattle.ps_declared.proofs.Declaring.{few, many, count_is}
 use Rattle.ps_tree.specs.declared.rough.RoughItem.{out-RoughItem}
