@@ -1,7 +1,6 @@
 ghost use Rattle.std.specs.Prelude.{◌≡◌, ◌++◌, map, MatchResult, IfErr, OnOk};
 ghost use Rattle.ps_base.specs.TyView.{ty_views};
-ghost use Rattle.ps_tree.specs.Phrase.{groups_in, group_of as names_of_group, names_in};
-ghost use Rattle.ps_base.specs.TyView.{ty_view};
+ghost use Rattle.ps_tree.specs.Phrase.{groups_in, group_of as names_of_group};
 ghost use Rattle.ps_type_text.specs.Members.{fields_of};
 ghost use Rattle.ps_typing.specs.Checking.{types_of, field_of};
 ghost use Rattle.ps_declared.specs.inside.Answers.{IsMemory};

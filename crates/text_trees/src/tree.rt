@@ -1,5 +1,4 @@
 ghost use Rattle.std.specs.Prelude.{IfOk, IfErr};
-ghost use Rattle.ps_scan.specs.Tokens.{HasTokens};
 ghost use Rattle.ps_tree.specs.Phrase.{phrase_of};
 ghost use Rattle.text_trees.specs.Texts.{HasTree, LacksTree};
 
