@@ -11,10 +11,10 @@ pub returns : goal.returns
 returns c =
     let of = body_of c.args.body.now in
     elim c.if-literal.branch [
-      then-literal+in_ok-body w ↦
-        λ k. ap (λ s. is_kept (marks_of s) k) w.survey-is
-        ∙ ap (λ m. is_kept m k) (w.in_ok-body.ensures ∙ ap (λ m. join m (marks_body 0 of)) c.new-survey.ensures ∙ none_join (marks_body 0 of))
-        ∙ kept_names_is of k
-    | else-literal w ↦
-        λ k. ap (λ s. is_kept (marks_of s) k) w.survey-is ∙ ap (λ m. is_kept m k) c.new-survey.ensures ∙ keeps_nothing of (c.requires w.if-literal.false) k
+      | then-literal+in_ok-body w ↦
+          λ k. ap (λ s. is_kept (marks_of s) k) w.survey-is
+          ∙ ap (λ m. is_kept m k) (w.in_ok-body.ensures ∙ ap (λ m. join m (marks_body 0 of)) c.new-survey.ensures ∙ none_join (marks_body 0 of))
+          ∙ kept_names_is of k
+      | else-literal w ↦
+          λ k. ap (λ s. is_kept (marks_of s) k) w.survey-is ∙ ap (λ m. is_kept m k) c.new-survey.ensures ∙ keeps_nothing of (c.requires w.if-literal.false) k
     ]
