@@ -3,11 +3,10 @@
 ghost use Rattle.ps_tree.specs.Phrase.{phrase_of};
 ghost use Rattle.ps_reader.specs.Grammar.{Go, Chain, Relative, Compared, Factor, operand};
 ghost use Rattle.ps_reader.specs.inside.Parsing.{AreSound, ReadsClause};
-ghost use Rattle.ps_clauses.specs.inside.Clauses.{behind_relation, behind_is};
+ghost use Rattle.ps_clauses.specs.inside.Clauses.{behind_is};
 
 use crate::primaries::application;
 use ps_base::line::Line;
-use ps_base::operator::Relation;
 use ps_reader::reader::Reader;
 use ps_symbols::kind::{Kind, Level, Relating};
 use ps_tree::build::{compare, is_of, join, negation, not, plus};
@@ -71,26 +70,12 @@ fn compared(reader: &Reader, at: &mut usize, room: u32) -> Result<Rough, ParseFa
     };
     let line = sign.token.line;
     match relating {
-        Relating::Compares(op) => compares(reader, at, room, left, op, line),
+        Relating::Compares(op) => {
+            let right = chain(reader, at, room, Level::Sum)?;
+            compare(reader.alloc, op, left, right, line)
+        }
         Relating::IsOf { negated } => is_class(reader, at, room, left, negated, line),
     }
-}
-
-/// What stands behind the sign of a comparison on the line.
-#[cycle(parsing)]
-fn compares(
-    reader: &Reader,
-    at: &mut usize,
-    room: u32,
-    left: Rough,
-    op: Relation,
-    line: Line,
-) -> Result<Rough, ParseFault>
-    requires sound { AreSound reader.now }
-    ensures { ReadsClause reader.now room (behind_relation (phrase_of left) op line) at.old result at.new }
-{
-    let right = chain(reader, at, room, Level::Sum)?;
-    compare(reader.alloc, op, left, right, line)
 }
 
 /// The class that stands behind an `is` or `isnt` on the line.
