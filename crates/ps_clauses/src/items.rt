@@ -3,7 +3,7 @@
 ghost use Rattle.std.specs.Prelude.{◌≡◌};
 ghost use Rattle.ps_tree.specs.Phrase.{none};
 ghost use Rattle.ps_tree.specs.PhraseLists.{phrases_in};
-ghost use Rattle.ps_reader.specs.Grammar.{Go, Item, Items, MoreItems, Literal, let_item, procedure_item};
+ghost use Rattle.ps_reader.specs.Grammar.{Go, Item, Items, MoreItems, Literal, let_item};
 ghost use Rattle.ps_reader.specs.inside.Parsing.{AreSound, Does, ReadsClause};
 ghost use Rattle.ps_clauses.specs.inside.Clauses.{makes_variable};
 
@@ -57,7 +57,11 @@ fn item(reader: &Reader, at: &mut usize, room: u32) -> Result<Rough, ParseFault>
     match reader.kind_at(*at) {
         Kind::Let => let_item(reader, at, room),
         Kind::Structure => reader.structure_item(at, room),
-        Kind::Procedure => procedure_item(reader, at, room),
+        Kind::Procedure => {
+            let (line, name) = reader.name_behind(at, Kind::Procedure)?;
+            let e = literal(reader, at, room, line)?;
+            let_of(reader.alloc, name, false, e, line)
+        }
         _ => clause(reader, at, room),
     }
 }
@@ -85,16 +89,6 @@ fn makes_variable(mark: Kind) -> Option<bool>
         Kind::Becomes => Some(true),
         _ => None,
     }
-}
-
-#[cycle(parsing)]
-fn procedure_item(reader: &Reader, at: &mut usize, room: u32) -> Result<Rough, ParseFault>
-    requires sound { AreSound reader.now }
-    ensures { ReadsClause reader.now room (procedure_item reader.now.text.now) at.old result at.new }
-{
-    let (line, name) = reader.name_behind(at, Kind::Procedure)?;
-    let e = literal(reader, at, room, line)?;
-    let_of(reader.alloc, name, false, e, line)
 }
 
 /// A procedure behind its `proc` on the line, or behind its name.

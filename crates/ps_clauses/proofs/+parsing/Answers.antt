@@ -7,7 +7,7 @@ use Rattle.ps_tree.specs.Phrase as form
 use Rattle.ps_tree.specs.Composing.{and_item}
 use Rattle.ps_reader.specs.Grammar.{Rule, a_clause, an_item, the_clause, the_item, Give, Go, Then, Binding, Literal, Step, Cases, MoreElements, MoreWritten, Written, MoreItems, MoreChain, Items, a_clause_inside, opened, skip, give, clause_of, with_clause, line_at}
 use Rattle.ps_reader.specs.inside.Stopping.{HaltsWith}
-use Rattle.ps_reader.proofs.Steps.{on, nearer, took, missing, by_row, behind_first, began, otherwise, unmoved, same, failed, tail, built}
+use Rattle.ps_reader.proofs.Steps.{on, nearer, took, missing, by_row, behind_first, began, otherwise, unmoved, same, failed, tail, built, took_name}
 use Rattle.ps_reader.proofs.Rows.{opens, goes_as, goes_by, halts_by}
 use Rattle.ps_clauses.proofs.Rows.{items_other, item_other, choice_other, cases_other, width_other, written_other, assignment_other, relative_other, applied_other, arguments_other, second_argument_other, clause_opens, item_stands, primary_as, operated, not_operated, compares_there, is_there, not_related, no_sign, passed, labels_list, arguments_list, elements_list, between_optional, step_optional, binds, binds_not, phrases_begin, phrases_again, phrases_first, arms_begin, arms_again, items_begin, written_again}
 use Rattle.ps_clauses.proofs.+parsing.Goals as goal
@@ -150,24 +150,10 @@ items::item-returns-in-Let t c = tail _ _ _ c.let_item.ensures ((goes_as c.kind_
 pub items::item-returns-in-Structure : goal.items::item-returns-in-Structure
 items::item-returns-in-Structure t c = tail _ _ _ c.structure_item.ensures ((goes_as c.kind_at.ensures c.in-Structure.is refl))
 
-pub items::item-returns-in-Procedure : goal.items::item-returns-in-Procedure
-items::item-returns-in-Procedure t c = tail _ _ _ c.procedure_item.ensures ((goes_as c.kind_at.ensures c.in-Procedure.is refl))
-
 pub items::item-returns-in_default : goal.items::item-returns-in_default
 items::item-returns-in_default t c =
     tail _ _ _ c.clause.ensures ((goes_by c.kind_at.ensures (ap Some
     (item_other _ _ c.in_default.not-Let c.in_default.not-Structure c.in_default.not-Procedure))))
-
-pub items::procedure_item-returns-in_err-line : goal.items::procedure_item-returns-in_err-line
-items::procedure_item-returns-in_err-line t c = failed _ _ c.from_residual.ensures.1 (c.in_err-line.ensures c.args.room procedure_name)
-
-pub items::procedure_item-returns-in_err-e : goal.items::procedure_item-returns-in_err-e
-items::procedure_item-returns-in_err-e t c =
-    failed _ _ c.from_residual-in_err-e.ensures.1 (((c.in_ok-line.ensures c.args.room procedure_name)).halts _ (HaltsWith.in_first c.in_err-e.ensures))
-
-pub items::procedure_item-returns : goal.items::procedure_item-returns
-items::procedure_item-returns t c =
-    built _ c.let_of.ensures.made c.let_of.ensures.fault (on (c.in_ok-line.ensures c.args.room procedure_name) (behind_first c.in_ok-e.ensures))
 
 pub items::literal-returns-in_err-params : goal.items::literal-returns-in_err-params
 items::literal-returns-in_err-params t c = failed _ _ c.from_residual.ensures.1 (HaltsWith.in_part refl (c.in_err-params.ensures (procedure_body c.args.line)))
@@ -261,10 +247,6 @@ operators::compared-returns-in_err-left t c = failed _ _ c.from_residual.ensures
 
 pub operators::compared-returns-in_default : goal.operators::compared-returns-in_default
 operators::compared-returns-in_default t c = on (by_row refl) (on (behind_first c.in_ok-left.ensures) (not_related c.in_default.ensures))
-
-pub operators::compared-returns-in-IsOf : goal.operators::compared-returns-in-IsOf
-operators::compared-returns-in-IsOf t c =
-    tail _ _ _ c.is_class.ensures (on (by_row refl) (on (behind_first c.in_ok-left.ensures) (is_there c.in-Some.ensures c.in-IsOf.is)))
 
 pub operators::factor-returns-in_err-e : goal.operators::factor-returns-in_err-e
 operators::factor-returns-in_err-e t c = failed _ _ c.from_residual.ensures.1 (((began c.in-Some.ensures refl)).halts _ (HaltsWith.in_first c.in_err-e.ensures))
@@ -420,7 +402,7 @@ writing::writing-returns-in_err-word t c = failed _ _ c.from_residual.ensures.1 
 pub writing::writing-loop-items-init : goal.writing::writing-loop-items-init
 writing::writing-loop-items-init t c =
     on (took c.in_ok-word.ensures) (items_begin (λ all. Then (Go Written) (λ one. Go (MoreWritten (line_at c.in_ok-word.word) (and_item all
-    (the_item one))))) c.in_ok-items.ensures.items)
+    (the_item one))))) c.new-items.ensures.items)
 
 pub writing::writing-returns-in_err-item : goal.writing::writing-returns-in_err-item
 writing::writing-returns-in_err-item t c =
@@ -443,11 +425,6 @@ writing::writing-returns-in_default t c =
 pub writing::written-returns-in_err-e : goal.writing::written-returns-in_err-e
 writing::written-returns-in_err-e t c = failed _ _ c.from_residual.ensures.1 ((by_row refl).halts _ (HaltsWith.in_first c.in_err-e.ensures))
 
-pub writing::written-returns-in_default : goal.writing::written-returns-in_default
-writing::written-returns-in_default t c =
-    on (by_row refl) (on (behind_first c.in_ok-e.ensures) (on (otherwise c.in_default.ensures refl (λ k not. ap Some (width_other _ k not))) (same (ap (λ
-    (i : WriteItem). Give (an_item i)) (sym c.unpadded.ensures)))))
-
 pub writing::written-returns-in_err-w : goal.writing::written-returns-in_err-w
 writing::written-returns-in_err-w t c =
     failed _ _ c.from_residual-in_err-w.ensures.1 ((on (by_row refl) (on (behind_first c.in_ok-e.ensures) (began c.in-Some.ensures refl))).halts _
@@ -456,7 +433,7 @@ writing::written-returns-in_err-w t c =
 pub writing::written-returns : goal.writing::written-returns
 writing::written-returns t c =
     on (by_row refl) (on (behind_first c.in_ok-e.ensures) (on (began c.in-Some.ensures refl) (on (behind_first c.in_ok-w.ensures) (same (ap (λ
-    (i : WriteItem). Give (an_item i)) (sym c.item_of.ensures))))))
+    (i : WriteItem). Give (an_item i)) (sym c.item_of-2.ensures))))))
 
 pub cases::choosing-returns-in_err-word : goal.cases::choosing-returns-in_err-word
 cases::choosing-returns-in_err-word t c = failed _ _ c.from_residual.ensures.1 (c.in_err-word.ensures _)
@@ -523,9 +500,6 @@ items::let_item-returns-in_err-e t c = failed _ _ c.from_residual-in_err-e.ensur
 
 pub items::let_item-returns : goal.items::let_item-returns
 items::let_item-returns t c = built _ c.let_of.ensures.made c.let_of.ensures.fault (on (c.in_ok-line.ensures c.args.room let_name) (on (binds c.kind_at-mark.ensures c.makes_variable.ensures c.in-Some.is) (c.in_ok-e.ensures _)))
-
-pub operators::compared-returns-in_err-right-in-Compares : goal.operators::compared-returns-in_err-right-in-Compares
-operators::compared-returns-in_err-right-in-Compares t c = failed _ _ c.from_residual-in_err-right-in-Compares.ensures.1 ((on (by_row refl) (on (behind_first c.in_ok-left.ensures) (compares_there c.in-Some.ensures c.in-Compares.is))).halts _ (HaltsWith.in_first c.in_err-right-in-Compares.ensures))
 
 pub operators::compared-returns-in_ok-right-in-Compares : goal.operators::compared-returns-in_ok-right-in-Compares
 operators::compared-returns-in_ok-right-in-Compares t c = built _ c.compare.ensures.made c.compare.ensures.fault (on (on (by_row refl) (on (behind_first c.in_ok-left.ensures) (compares_there c.in-Some.ensures c.in-Compares.is))) (behind_first c.in_ok-right-in-Compares.ensures))
@@ -643,9 +617,6 @@ items::item-let_item-requires t c = (omega (arith, c.decreases), c.requires.soun
 pub items::item-structure_item-requires : goal.items::item-structure_item-requires
 items::item-structure_item-requires t c = c.requires
 
-pub items::item-procedure_item-requires : goal.items::item-procedure_item-requires
-items::item-procedure_item-requires t c = (omega (arith, c.decreases), c.requires.sound)
-
 pub items::item-clause-requires : goal.items::item-clause-requires
 items::item-clause-requires t c = (omega (arith, c.decreases), c.requires.sound)
 
@@ -663,12 +634,6 @@ items::literal-after-requires t c = (omega (arith, c.decreases), c.requires.soun
 
 pub items::optional_item-item-requires : goal.items::optional_item-item-requires
 items::optional_item-item-requires t c = (omega (arith, c.decreases), c.requires.sound)
-
-pub items::procedure_item-name_behind-requires : goal.items::procedure_item-name_behind-requires
-items::procedure_item-name_behind-requires t c = c.requires
-
-pub items::procedure_item-literal-requires : goal.items::procedure_item-literal-requires
-items::procedure_item-literal-requires t c = (omega (arith, c.decreases), c.requires.sound)
 
 pub loops::counting-name_behind-requires : goal.loops::counting-name_behind-requires
 loops::counting-name_behind-requires t c = c.requires
@@ -717,9 +682,6 @@ operators::compared-chain-requires t c = (omega (arith, c.decreases), c.requires
 
 pub operators::compared-relation-requires : goal.operators::compared-relation-requires
 operators::compared-relation-requires t c = c.requires
-
-pub operators::compared-is_class-requires : goal.operators::compared-is_class-requires
-operators::compared-is_class-requires t c = c.requires
 
 pub operators::factor-accept-requires : goal.operators::factor-accept-requires
 operators::factor-accept-requires t c = c.requires
@@ -909,3 +871,33 @@ primaries::arguments-more_clauses-requires t c = (omega (arith, c.decreases), c.
 
 pub primaries::arguments-take-requires-2 : goal.primaries::arguments-take-requires-2
 primaries::arguments-take-requires-2 t c = c.requires
+
+pub items::item-returns-in_err-line-in-Procedure : goal.items::item-returns-in_err-line-in-Procedure
+items::item-returns-in_err-line-in-Procedure t c = failed _ _ c.from_residual.ensures.1 ((goes_as c.kind_at.ensures c.in-Procedure.is refl).halts _ (c.in_err-line-in-Procedure.ensures c.args.room procedure_name))
+
+pub items::item-returns-in_err-e-in-Procedure : goal.items::item-returns-in_err-e-in-Procedure
+items::item-returns-in_err-e-in-Procedure t c = failed _ _ c.from_residual-in_err-e-in-Procedure.ensures.1 ((on (goes_as c.kind_at.ensures c.in-Procedure.is refl) (c.in_ok-line-in-Procedure.ensures c.args.room procedure_name)).halts _ (HaltsWith.in_first c.in_err-e-in-Procedure.ensures))
+
+pub items::item-returns-in_ok-e-in-Procedure : goal.items::item-returns-in_ok-e-in-Procedure
+items::item-returns-in_ok-e-in-Procedure t c = built _ c.let_of.ensures.made c.let_of.ensures.fault (on (goes_as c.kind_at.ensures c.in-Procedure.is refl) (on (c.in_ok-line-in-Procedure.ensures c.args.room procedure_name) (behind_first c.in_ok-e-in-Procedure.ensures)))
+
+pub items::item-name_behind-requires : goal.items::item-name_behind-requires
+items::item-name_behind-requires t c = c.requires
+
+pub items::item-literal-requires : goal.items::item-literal-requires
+items::item-literal-requires t c = (omega (arith, c.decreases), c.requires.sound)
+
+pub operators::compared-returns-in_err-right-in-Compares : goal.operators::compared-returns-in_err-right-in-Compares
+operators::compared-returns-in_err-right-in-Compares t c = failed _ _ c.from_residual-in_err-right-in-Compares.ensures.1 ((on (by_row refl) (on (behind_first c.in_ok-left.ensures) (compares_there c.in-Some.ensures c.in-Compares.is))).halts _ (HaltsWith.in_first c.in_err-right-in-Compares.ensures))
+
+pub operators::compared-returns-in_err-class-in-IsOf : goal.operators::compared-returns-in_err-class-in-IsOf
+operators::compared-returns-in_err-class-in-IsOf t c = failed _ _ c.from_residual-in_err-class-in-IsOf.ensures.1 ((on (by_row refl) (on (behind_first c.in_ok-left.ensures) (is_there c.in-Some.ensures c.in-IsOf.is))).halts _ (c.in_err-class-in-IsOf.ensures _ _))
+
+pub operators::compared-returns-in_ok-class-in-IsOf : goal.operators::compared-returns-in_ok-class-in-IsOf
+operators::compared-returns-in_ok-class-in-IsOf t c = built _ c.is_of.ensures.made c.is_of.ensures.fault (on (on (by_row refl) (on (behind_first c.in_ok-left.ensures) (is_there c.in-Some.ensures c.in-IsOf.is))) (took_name (λ name. give (form.Is (phrase_of c.in_ok-left.left) name c.in-IsOf.negated) (line_at c.in-Some.sign)) c.in_ok-class-in-IsOf.ensures))
+
+pub operators::compared-name-requires : goal.operators::compared-name-requires
+operators::compared-name-requires t c = c.requires
+
+pub writing::written-returns-in_default : goal.writing::written-returns-in_default
+writing::written-returns-in_default t c = on (by_row refl) (on (behind_first c.in_ok-e.ensures) (on (otherwise c.in_default.ensures refl (λ k not. ap Some (width_other _ k not))) (same (ap (λ (i : WriteItem). Give (an_item i)) (sym c.item_of.ensures)))))

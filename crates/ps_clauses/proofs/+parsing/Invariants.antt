@@ -64,9 +64,6 @@ decreases-items::literal l = work l.room 2
 abbrev pub decreases-items::optional_item : goal.decreases-items::optional_item
 decreases-items::optional_item l = work l.room 5
 
-abbrev pub decreases-items::procedure_item : goal.decreases-items::procedure_item
-decreases-items::procedure_item l = work l.room 3
-
 abbrev pub decreases-loops::counting : goal.decreases-loops::counting
 decreases-loops::counting l = work l.room 2
 
