@@ -1,5 +1,5 @@
 -- How the parser's calls follow the rows of the grammar.
-use Rattle.std.proofs.Common.{◌≡◌, ℕ, List, [], ◌∷◌, ◌++◌, Bool, Option, Some, None, option_map, refl, sym, subst, ap, ◌∙◌}
+use Rattle.std.proofs.Common.{◌≡◌, ℕ, List, [], ◌∷◌, ◌++◌, Bool, Option, Some, None, option_map, slice_get, refl, sym, subst, ap, ◌∙◌}
 use Rattle.ps_base.specs.TyView.{TyView}
 use Rattle.ps_base.specs.declared.line.Line.{Line}
 use Rattle.ps_symbols.specs.declared.kind.Kind.{Kind}
@@ -18,18 +18,20 @@ use Rattle.ps_tree.specs.Phrase.{Phrase, Phrases, none, more, MaybePhrase, absen
 use Rattle.ps_tree.specs.Phrase as form
 use Rattle.ps_tree.specs.PhraseLists.{phrases_in, arms_in, items_in}
 use Rattle.ps_tree.specs.Composing.{and_arm, and_item, and_then}
-use Rattle.ps_reader.specs.Grammar.{Application, Between, Body, Clause, Compared, Comparison, Factor, Give, Go, Items, Labels, MoreArguments, MoreChain, MoreElements, Primary, Rule, SecondArgument, Step, Test, Until, a_clause, a_clause_inside, an_item, applied, arguments, assignment, between, binding, cases, choice, clause_of, comparison, factor, give, inside, items, items_end, labels, line_at, line_in, more_arguments, more_chain, more_elements, more_written, one_item, opened, operand, primary, relative, second_argument, skip, step, until, width, with_clause}
+use Rattle.ps_reader.specs.Grammar.{Application, Between, Binding, Body, Clause, Compared, Comparison, Factor, Give, Go, Items, Labels, MoreArguments, MoreChain, MoreElements, Primary, Rule, SecondArgument, Step, Test, Until, a_clause, a_clause_inside, an_item, applied, arguments, assignment, between, binding, bound, cases, choice, clause_of, comparison, factor, give, inside, items, items_end, labels, line_at, line_in, more_arguments, more_chain, more_elements, more_written, one_item, opened, operand, primary, relative, second_argument, skip, step, until, width, with_clause}
 use Rattle.ps_reader.specs.Reading.{kind_at}
+use Rattle.ps_reader.specs.Faults.{unexpected}
+use Rattle.ps_tree.specs.declared.fault.ParseFault.{ParseFault}
 use Rattle.ps_base.specs.declared.operator.Relation.{Relation}
 use Rattle.ps_symbols.specs.declared.kind.Relating.TheVariants.{Compares, IsOf}
 use Rattle.ps_tree.specs.Composing.{joined}
 use Rattle.ps_reader.specs.declared.reader.Reader.{Reader}
 use Rattle.ps_reader.specs.inside.Parsing.{Accepts, IsOther, Stands, StandsForNone}
-use Rattle.ps_clauses.specs.inside.Clauses.{IsList, IsOptional, an_arm, behind_is, behind_labels, behind_relation}
-use Rattle.ps_reader.specs.inside.Stopping.{Continues}
+use Rattle.ps_clauses.specs.inside.Clauses.{IsList, IsOptional, an_arm, behind_is, behind_labels, behind_relation, makes_variable}
+use Rattle.ps_reader.specs.inside.Stopping.{Continues, HaltsWith}
 use Rattle.ps_tree.proofs.PhraseLemmas.{phrases_in-append, arms_in-append, items_in-append}
 use Rattle.ps_reader.proofs.Steps.{on, by_row, took, stood, began, otherwise, same}
-use Rattle.ps_reader.proofs.Rows.{goes_by}
+use Rattle.ps_reader.proofs.Rows.{goes_by, halts_by}
 
 -- where the kinds that a part asks for aren't there
 
@@ -43,10 +45,10 @@ item_other text kind.Structure not_Let not_Structure not_Procedure = absurd (not
 item_other text kind.Procedure not_Let not_Structure not_Procedure = absurd (not_Procedure refl)
 item_other text _ not_Let not_Structure not_Procedure = refl
 
-pub binding_other : (line : Line) (name : NameAt) (k : Kind) → (k ≡ kind.Equals → ⊥) → (k ≡ kind.Becomes → ⊥) → binding line name k ≡ None
-binding_other line name kind.Equals not_Equals not_Becomes = absurd (not_Equals refl)
-binding_other line name kind.Becomes not_Equals not_Becomes = absurd (not_Becomes refl)
-binding_other line name _ not_Equals not_Becomes = refl
+pub binding_as : (line : Line) (name : NameAt) (k : Kind) → binding line name k ≡ option_map (λ variable. bound k variable line name) (makes_variable k)
+binding_as line name kind.Equals = refl
+binding_as line name kind.Becomes = refl
+binding_as line name _ = refl
 
 pub choice_other : (line : Line) (c : Phrase) (k : Kind) → (k ≡ kind.Do → ⊥) → (k ≡ kind.Then → ⊥) → choice line c k ≡ None
 choice_other line c kind.Do not_Do not_Then = absurd (not_Do refl)
@@ -131,6 +133,18 @@ module _ {text : List ℕ} {count : ℕ} {symbols : List Symbol} where
       → stands ≡ begins_item found → Continues text count symbols room (Go (Items line before)) from (items line before stands) from
   item_stands {line = line} {before = before} {found = found} here stands is = goes_by here (ap (λ (b : Bool). Some (items line before b)) (sym is))
 
+  -- a mark stands behind the name of a `let`
+  pub binds : {room from : ℕ} {line : Line} {name : NameAt} {found : Kind} {variable : Option Bool} {v : Bool} → found ≡ kind_at symbols from
+      → variable ≡ makes_variable found → variable ≡ Some v → Continues text count symbols room (Go (Binding line name)) from (bound found v line name) from
+  binds {line = line} {name = name} {found = found} here is some = goes_by here (binding_as line name found ∙ ap (option_map (λ (v : Bool). bound
+      found v line name)) (sym is ∙ some))
+
+  pub binds_not : {room from : ℕ} {line : Line} {name : NameAt} {found : Kind} {variable : Option Bool} {fault : ParseFault} → found ≡ kind_at symbols from
+      → variable ≡ makes_variable found → variable ≡ None → fault ≡ unexpected text count (slice_get symbols from)
+      → HaltsWith text count symbols room (Go (Binding line name)) from fault
+  binds_not {line = line} {name = name} {found = found} here is neither = halts_by here (binding_as line name found ∙ ap (option_map (λ (v : Bool). bound
+      found v line name)) (sym is ∙ neither))
+
   -- a loop goes on with what it has made
   pub phrases_begin : {room from : ℕ} (next : Phrases → Rule) {made : List Rough} → made ≡ [] → Continues text count symbols room (next none) from (next
       (phrases_in made)) from
@@ -149,9 +163,11 @@ module _ {text : List ℕ} {count : ℕ} {symbols : List Symbol} where
       (arms_in made)) from
   arms_begin next is = same (ap (λ (made : List RoughArm). next (arms_in made)) (sym is))
 
-  pub arms_again : {room from : ℕ} (next : Arms → Rule) (before : List RoughArm) (last : RoughArm) {made : List RoughArm} → made ≡ before ++ last ∷ []
-      → Continues text count symbols room (next (and_arm (arms_in before) (arm_of last))) from (next (arms_in made)) from
-  arms_again next before last is = same (ap next (sym (ap arms_in is ∙ arms_in-append before last)))
+  pub arms_again : {room from : ℕ} (next : Arms → Rule) (before : List RoughArm) (last : RoughArm) {one : Arm} {made : List RoughArm}
+      → arm_of last ≡ one → made ≡ before ++ last ∷ [] → Continues text count symbols room (next (and_arm (arms_in before) one)) from (next
+      (arms_in made)) from
+  arms_again next before last one is = same (ap (λ (a : Arm). next (and_arm (arms_in before) a)) (sym one) ∙ ap next (sym
+      (ap arms_in is ∙ arms_in-append before last)))
 
   pub written_again : {room from : ℕ} (next : WriteItems → Rule) (before : List RoughItem) (last : RoughItem) {made : List RoughItem}
       → made ≡ before ++ last ∷ [] → Continues text count symbols room (next (and_item (items_in before) (item_of last))) from (next (items_in made)) from

@@ -3,7 +3,7 @@
 ghost use Rattle.ps_symbols.specs.declared.symbol.Symbol.{Symbol};
 ghost use Rattle.ps_tree.specs.Phrase.{Phrases, MaybePhrase, phrase_of, none, more};
 ghost use Rattle.ps_tree.specs.PhraseLists.{phrases_in, maybe_in};
-ghost use Rattle.ps_reader.specs.Grammar.{Made, Part, Rule, a_clause, Go, Clause, Choice, opened, condition, procedure, filling, expression};
+ghost use Rattle.ps_reader.specs.Grammar.{Made, Part, Rule, a_clause, Go, Clause, opened, condition, procedure, filling, expression};
 ghost use Rattle.ps_reader.specs.inside.Parsing.{AreSound, Does, ReadsClause};
 ghost use Rattle.ps_clauses.specs.inside.Clauses.{IsList, IsOptional, behind};
 
@@ -12,7 +12,6 @@ use crate::items::literal;
 use crate::loops::{counting, repeating, repetition};
 use crate::operators::chain;
 use crate::writing::writing;
-use ps_base::line::Line;
 use ps_reader::reader::Reader;
 use ps_symbols::kind::{Kind, Level, Opening, opening_of};
 use ps_symbols::symbol::Symbol;
@@ -113,30 +112,15 @@ fn condition(reader: &Reader, at: &mut usize, room: u32) -> Result<Rough, ParseF
     ensures { ReadsClause reader.now room condition at.old result at.new }
 {
     let (word, c) = after(reader, at, room, Kind::If)?;
-    choice(reader, at, room, word.token.line, c)
-}
-
-/// What stands behind the condition of an `if` on the line.
-#[cycle(parsing)]
-fn choice(
-    reader: &Reader,
-    at: &mut usize,
-    room: u32,
-    line: Line,
-    c: Rough,
-) -> Result<Rough, ParseFault>
-    requires sound { AreSound reader.now }
-    ensures { ReadsClause reader.now room (Go (Choice line (phrase_of c))) at.old result at.new }
-{
     match reader.kind_at(*at) {
         Kind::Do => {
             let (_, a) = after(reader, at, room, Kind::Do)?;
-            if_do(reader.alloc, c, a, line)
+            if_do(reader.alloc, c, a, word.token.line)
         }
         Kind::Then => {
             let (_, a) = after(reader, at, room, Kind::Then)?;
             let (_, b) = after(reader, at, room, Kind::Else)?;
-            if_else(reader.alloc, c, a, b, line)
+            if_else(reader.alloc, c, a, b, word.token.line)
         }
         _ => Err(reader.unexpected(*at)),
     }

@@ -1,9 +1,11 @@
 //! Items: the declarations, and sequences of items.
 
-ghost use Rattle.ps_tree.specs.Phrase.{named, none};
+ghost use Rattle.std.specs.Prelude.{◌≡◌};
+ghost use Rattle.ps_tree.specs.Phrase.{none};
 ghost use Rattle.ps_tree.specs.PhraseLists.{phrases_in};
-ghost use Rattle.ps_reader.specs.Grammar.{Go, Item, Items, MoreItems, Literal, let_item, procedure_item, bound};
+ghost use Rattle.ps_reader.specs.Grammar.{Go, Item, Items, MoreItems, Literal, let_item};
 ghost use Rattle.ps_reader.specs.inside.Parsing.{AreSound, Does, ReadsClause};
+ghost use Rattle.ps_clauses.specs.inside.Clauses.{makes_variable};
 
 use crate::clauses::{after, clause};
 use ps_base::line::Line;
@@ -11,7 +13,7 @@ use ps_reader::reader::Reader;
 use ps_symbols::kind::{Kind, begins_item};
 use ps_tree::build::{let_of, proc_of, sequence};
 use ps_tree::fault::ParseFault;
-use ps_tree::rough::{Named, Rough};
+use ps_tree::rough::Rough;
 
 /// The items of a sequence that begins on the line.
 #[cycle(parsing)]
@@ -55,7 +57,11 @@ fn item(reader: &Reader, at: &mut usize, room: u32) -> Result<Rough, ParseFault>
     match reader.kind_at(*at) {
         Kind::Let => let_item(reader, at, room),
         Kind::Structure => reader.structure_item(at, room),
-        Kind::Procedure => procedure_item(reader, at, room),
+        Kind::Procedure => {
+            let (line, name) = reader.name_behind(at, Kind::Procedure)?;
+            let e = literal(reader, at, room, line)?;
+            let_of(reader.alloc, name, false, e, line)
+        }
         _ => clause(reader, at, room),
     }
 }
@@ -66,39 +72,23 @@ fn let_item(reader: &Reader, at: &mut usize, room: u32) -> Result<Rough, ParseFa
     ensures { ReadsClause reader.now room (let_item reader.now.text.now) at.old result at.new }
 {
     let (line, name) = reader.name_behind(at, Kind::Let)?;
-    match reader.kind_at(*at) {
-        Kind::Equals => bound(reader, at, room, Kind::Equals, false, line, name),
-        Kind::Becomes => bound(reader, at, room, Kind::Becomes, true, line, name),
-        _ => Err(reader.unexpected(*at)),
-    }
-}
-
-/// What a name on the line stands for, behind the mark.
-#[cycle(parsing)]
-fn bound(
-    reader: &Reader,
-    at: &mut usize,
-    room: u32,
-    mark: Kind,
-    variable: bool,
-    line: Line,
-    name: Named,
-) -> Result<Rough, ParseFault>
-    requires sound { AreSound reader.now }
-    ensures { ReadsClause reader.now room (bound mark variable line (named name)) at.old result at.new }
-{
+    let mark = reader.kind_at(*at);
+    let Some(variable) = makes_variable(mark) else {
+        return Err(reader.unexpected(*at));
+    };
     let (_, e) = after(reader, at, room, mark)?;
     let_of(reader.alloc, name, variable, e, line)
 }
 
-#[cycle(parsing)]
-fn procedure_item(reader: &Reader, at: &mut usize, room: u32) -> Result<Rough, ParseFault>
-    requires sound { AreSound reader.now }
-    ensures { ReadsClause reader.now room (procedure_item reader.now.text.now) at.old result at.new }
+/// Whether the mark behind the name of a `let` makes a variable of it, if it is one of the two.
+fn makes_variable(mark: Kind) -> Option<bool>
+    ensures { result ≡ makes_variable mark }
 {
-    let (line, name) = reader.name_behind(at, Kind::Procedure)?;
-    let e = literal(reader, at, room, line)?;
-    let_of(reader.alloc, name, false, e, line)
+    match mark {
+        Kind::Equals => Some(false),
+        Kind::Becomes => Some(true),
+        _ => None,
+    }
 }
 
 /// A procedure behind its `proc` on the line, or behind its name.

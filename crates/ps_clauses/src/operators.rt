@@ -1,13 +1,9 @@
 //! Operators between operands, and signs before them.
 
-ghost use Rattle.ps_tree.specs.Phrase.{phrase_of};
 ghost use Rattle.ps_reader.specs.Grammar.{Go, Chain, Relative, Compared, Factor, operand};
 ghost use Rattle.ps_reader.specs.inside.Parsing.{AreSound, ReadsClause};
-ghost use Rattle.ps_clauses.specs.inside.Clauses.{behind_relation, behind_is};
 
 use crate::primaries::application;
-use ps_base::line::Line;
-use ps_base::operator::Relation;
 use ps_reader::reader::Reader;
 use ps_symbols::kind::{Kind, Level, Relating};
 use ps_tree::build::{compare, is_of, join, negation, not, plus};
@@ -59,7 +55,7 @@ fn relative(reader: &Reader, at: &mut usize, room: u32) -> Result<Rough, ParseFa
     not(reader.alloc, e, mark.token.line)
 }
 
-/// A sum, and what it is compared with, if anything.
+/// A sum, and what it is compared with, or the class that it is asked for, if anything.
 #[cycle(parsing)]
 fn compared(reader: &Reader, at: &mut usize, room: u32) -> Result<Rough, ParseFault>
     requires sound { AreSound reader.now }
@@ -71,42 +67,15 @@ fn compared(reader: &Reader, at: &mut usize, room: u32) -> Result<Rough, ParseFa
     };
     let line = sign.token.line;
     match relating {
-        Relating::Compares(op) => compares(reader, at, room, left, op, line),
-        Relating::IsOf { negated } => is_class(reader, at, room, left, negated, line),
+        Relating::Compares(op) => {
+            let right = chain(reader, at, room, Level::Sum)?;
+            compare(reader.alloc, op, left, right, line)
+        }
+        Relating::IsOf { negated } => {
+            let class = reader.name(at)?;
+            is_of(reader.alloc, left, class, negated, line)
+        }
     }
-}
-
-/// What stands behind the sign of a comparison on the line.
-#[cycle(parsing)]
-fn compares(
-    reader: &Reader,
-    at: &mut usize,
-    room: u32,
-    left: Rough,
-    op: Relation,
-    line: Line,
-) -> Result<Rough, ParseFault>
-    requires sound { AreSound reader.now }
-    ensures { ReadsClause reader.now room (behind_relation (phrase_of left) op line) at.old result at.new }
-{
-    let right = chain(reader, at, room, Level::Sum)?;
-    compare(reader.alloc, op, left, right, line)
-}
-
-/// The class that stands behind an `is` or `isnt` on the line.
-fn is_class(
-    reader: &Reader,
-    at: &mut usize,
-    room: u32,
-    left: Rough,
-    negated: bool,
-    line: Line,
-) -> Result<Rough, ParseFault>
-    requires sound { AreSound reader.now }
-    ensures { ReadsClause reader.now room (behind_is reader.now.text.now (phrase_of left) negated line) at.old result at.new }
-{
-    let class = reader.name(at)?;
-    is_of(reader.alloc, left, class, negated, line)
 }
 
 #[cycle(parsing)]

@@ -1,7 +1,7 @@
 //! Primaries, and what they are applied to.
 
-ghost use Rattle.ps_tree.specs.Phrase.{phrase_of, none, more};
-ghost use Rattle.ps_reader.specs.Grammar.{Made, Go, Rule, a_clause, Application, Arguments, SecondArgument, MoreArguments, Primary, block, bound_of, elements};
+ghost use Rattle.ps_tree.specs.Phrase.{phrase_of};
+ghost use Rattle.ps_reader.specs.Grammar.{Made, Go, Rule, a_clause, Application, Arguments, Primary, block, bound_of, elements};
 ghost use Rattle.ps_reader.specs.inside.Parsing.{AreSound, Does, ReadsClause};
 ghost use Rattle.ps_clauses.specs.inside.Clauses.{in_brackets};
 
@@ -43,41 +43,11 @@ fn arguments(
         return apply(reader.alloc, f, Vec::new(reader.alloc), line);
     }
     let first = clause(reader, at, room)?;
-    second_argument(reader, at, room, line, f, first)
-}
-
-#[cycle(parsing)]
-fn second_argument(
-    reader: &Reader,
-    at: &mut usize,
-    room: u32,
-    line: Line,
-    f: Rough,
-    first: Rough,
-) -> Result<Rough, ParseFault>
-    requires sound { AreSound reader.now }
-    ensures { ReadsClause reader.now room (Go (SecondArgument line (phrase_of f) (phrase_of first))) at.old result at.new }
-{
     if let Some(_) = reader.accept(at, Kind::Bar) {
         let n = clause(reader, at, room)?;
         reader.take(at, Kind::CloseRound)?;
         return part_of(reader.alloc, f, first, n, line);
     }
-    more_arguments(reader, at, room, line, f, first)
-}
-
-#[cycle(parsing)]
-fn more_arguments(
-    reader: &Reader,
-    at: &mut usize,
-    room: u32,
-    line: Line,
-    f: Rough,
-    first: Rough,
-) -> Result<Rough, ParseFault>
-    requires sound { AreSound reader.now }
-    ensures { ReadsClause reader.now room (Go (MoreArguments line (phrase_of f) (more (phrase_of first) none))) at.old result at.new }
-{
     let all = more_clauses(reader, at, room, first)?;
     reader.take(at, Kind::CloseRound)?;
     apply(reader.alloc, f, all, line)

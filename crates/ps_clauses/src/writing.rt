@@ -1,8 +1,6 @@
 //! The `write`, with its items.
 
-ghost use Rattle.std.specs.Prelude.{◌≡◌};
-ghost use Rattle.ps_tree.specs.Phrase.{absent, item, phrase_of, item_of};
-ghost use Rattle.ps_reader.specs.Grammar.{line_in, Go, Written, writing};
+ghost use Rattle.ps_reader.specs.Grammar.{Go, Written, writing};
 ghost use Rattle.ps_reader.specs.inside.Parsing.{AreSound, ReadsClause};
 ghost use Rattle.ps_clauses.specs.inside.Clauses.{ReadsItem};
 
@@ -19,7 +17,7 @@ pub(crate) fn writing(reader: &Reader, at: &mut usize, room: u32) -> Result<Roug
     ensures { ReadsClause reader.now room writing at.old result at.new }
 {
     let word = reader.take(at, Kind::Write)?;
-    let mut items = Vec::with_capacity(reader.alloc, 1)?;
+    let mut items = Vec::new(reader.alloc);
     loop {
         let item = written(reader, at, room)?;
         items.push(item)?;
@@ -37,16 +35,9 @@ fn written(reader: &Reader, at: &mut usize, room: u32) -> Result<RoughItem, Pars
 {
     let e = clause(reader, at, room)?;
     let Some(mark) = reader.accept(at, Kind::Colon) else {
-        return Ok(unpadded(e));
+        let line = e.line;
+        return Ok(item_of(e, None, line));
     };
     let w = clause(reader, at, room)?;
     Ok(item_of(e, Some(w), mark.token.line))
-}
-
-/// An item without a width.
-fn unpadded(e: Rough) -> RoughItem
-    ensures { item_of result ≡ item (phrase_of e) absent (line_in (phrase_of e)) }
-{
-    let line = e.line;
-    item_of(e, None, line)
 }

@@ -4,12 +4,12 @@ use Rattle.ps_base.specs.declared.line.Line.{Line}
 use Rattle.ps_symbols.specs.declared.kind.Kind.TheVariants as kind
 use Rattle.ps_tree.specs.Phrase.{Phrase, NameAt, GroupAt, Arm, no_arms, none, more, WriteItem, phrase_of}
 use Rattle.ps_tree.specs.Phrase as form
-use Rattle.ps_tree.specs.Composing.{and_arm, and_item}
+use Rattle.ps_tree.specs.Composing.{and_item}
 use Rattle.ps_reader.specs.Grammar.{Rule, a_clause, an_item, the_clause, the_item, Give, Go, Then, Binding, Literal, Step, Cases, MoreElements, MoreWritten, Written, MoreItems, MoreChain, Items, a_clause_inside, opened, skip, give, clause_of, with_clause, line_at}
 use Rattle.ps_reader.specs.inside.Stopping.{HaltsWith}
-use Rattle.ps_reader.proofs.Steps.{on, nearer, took, missing, by_row, behind_first, began, otherwise, unmoved, same, failed, tail, built}
+use Rattle.ps_reader.proofs.Steps.{on, nearer, took, missing, by_row, behind_first, began, otherwise, unmoved, same, failed, tail, built, took_name}
 use Rattle.ps_reader.proofs.Rows.{opens, goes_as, goes_by, halts_by}
-use Rattle.ps_clauses.proofs.Rows.{items_other, item_other, binding_other, choice_other, cases_other, width_other, written_other, assignment_other, relative_other, applied_other, arguments_other, second_argument_other, clause_opens, item_stands, primary_as, operated, not_operated, compares_there, is_there, not_related, no_sign, passed, labels_list, arguments_list, elements_list, between_optional, step_optional, phrases_begin, phrases_again, phrases_first, arms_begin, arms_again, items_begin, written_again}
+use Rattle.ps_clauses.proofs.Rows.{items_other, item_other, choice_other, cases_other, width_other, written_other, assignment_other, relative_other, applied_other, arguments_other, second_argument_other, clause_opens, item_stands, primary_as, operated, not_operated, compares_there, is_there, not_related, no_sign, passed, labels_list, arguments_list, elements_list, between_optional, step_optional, binds, binds_not, phrases_begin, phrases_again, phrases_first, arms_begin, arms_again, items_begin, written_again}
 use Rattle.ps_clauses.proofs.+parsing.Goals as goal
 
 -- what stands behind the name of a `let`, of a procedure and of a `for`
@@ -30,72 +30,64 @@ procedure_body line params gives = skip kind.Semicolon (with_clause (λ s. give 
 abbrev each_type : Line → Phrase → TyView → Rule
 each_type line l t = skip kind.OpenSquare (with_clause (λ first. Go (MoreElements line l t (more first none))))
 
-pub cases::arm-returns-in_err-first-clause-reads : goal.cases::arm-returns-in_err-first-clause-reads
-cases::arm-returns-in_err-first-clause-reads t c = λ line e before. failed _ _ c.from_residual.ensures.1 (HaltsWith.in_first c.in_err-first.ensures)
-
-pub cases::arm-returns-in_err-labels-clause-reads : goal.cases::arm-returns-in_err-labels-clause-reads
-cases::arm-returns-in_err-labels-clause-reads t c =
-    λ line e before. failed _ _ c.from_residual-in_err-labels.ensures.1 (((behind_first c.in_ok-first.ensures)).halts _
-    (c.in_err-labels.ensures _ _ labels_list))
-
-pub cases::arm-returns-in_err-a-clause-reads : goal.cases::arm-returns-in_err-a-clause-reads
-cases::arm-returns-in_err-a-clause-reads t c =
-    λ line e before. failed _ _ c.from_residual-in_err-a.ensures.1 ((on (behind_first c.in_ok-first.ensures)
-    (c.in_ok-labels.ensures _ _ labels_list)).halts _ (c.in_err-a.ensures _))
-
-pub cases::arm-returns-in_err-take-clause-reads : goal.cases::arm-returns-in_err-take-clause-reads
-cases::arm-returns-in_err-take-clause-reads t c =
-    λ line e before. failed _ _ c.from_residual-in_err-take.ensures.1 ((on (behind_first c.in_ok-first.ensures) (on
-    (c.in_ok-labels.ensures _ _ labels_list) (c.in_ok-a.ensures _))).halts _ (missing c.in_err-take.ensures))
-
-pub cases::arm-returns-clause-reads : goal.cases::arm-returns-clause-reads
-cases::arm-returns-clause-reads t c =
-    λ line e before. on (behind_first c.in_ok-first.ensures) (on (c.in_ok-labels.ensures _ _ labels_list) (on (c.in_ok-a.ensures _) (on
-    (took c.in_ok-take.ensures) (same (ap (λ (a : Arm). Go (Cases line e (and_arm before a))) (sym c.arm_of.ensures))))))
-
-pub cases::arm-returns-clause-fewer : goal.cases::arm-returns-clause-fewer
-cases::arm-returns-clause-fewer t c =
-    nearer c.in_ok-take.ensures (omega (
-      arith,
-      c.in_ok-first.ensures.forward,
-      (c.in_ok-labels.ensures _ _
-          (labels_list {line = c.in_ok-first.first.line} {e = phrase_of c.in_ok-first.first} {before = no_arms})).forward,
-      (c.in_ok-a.ensures
-          (λ symbol made. Go Written)).forward,
-    )) (omega arith)
-
-pub cases::cases-loop-at-init : goal.cases::cases-loop-at-init
-cases::cases-loop-at-init t c = arms_begin (λ all. Go (Cases c.args.line (phrase_of c.args.e) all)) c.new-arms.ensures.items
-
-pub cases::cases-returns-in_err-d : goal.cases::cases-returns-in_err-d
-cases::cases-returns-in_err-d t c =
-    failed _ _ c.from_residual.ensures.1 ((on c.loop-at.invariant (began c.in-Some.ensures refl)).halts _ (c.in_err-d.ensures _))
-
-pub cases::cases-returns-in-Some : goal.cases::cases-returns-in-Some
-cases::cases-returns-in-Some t c =
-    built _ c.case_of.ensures.made c.case_of.ensures.fault (on c.loop-at.invariant (on (began c.in-Some.ensures refl) (c.in_ok-d.ensures _)))
-
-pub cases::cases-returns-in_err-one : goal.cases::cases-returns-in_err-one
-cases::cases-returns-in_err-one t c =
-    failed _ _ c.from_residual-in_err-one.ensures.1 ((on c.loop-at.invariant (otherwise c.in_default.ensures refl (λ k not. ap Some
-    (cases_other _ _ _ k not)))).halts _ (c.in_err-one.ensures.reads _ _ _))
-
-pub cases::cases-loop-at-smaller : goal.cases::cases-loop-at-smaller
-cases::cases-loop-at-smaller t c = omega (arith, c.in_ok-one.ensures.fewer, c.in_default.ensures.stays)
-
-pub cases::cases-loop-at-preserved : goal.cases::cases-loop-at-preserved
-cases::cases-loop-at-preserved t c =
-    on c.loop-at.invariant (on (otherwise c.in_default.ensures refl (λ k not. ap Some (cases_other _ _ _ k not))) (on (c.in_ok-one.ensures.reads _ _ _)
-    (arms_again (λ all. Go (Cases c.args.line (phrase_of c.args.e) all)) _ _ c.in_ok-push.ensures.items)))
-
 pub cases::choosing-returns-in_err-word : goal.cases::choosing-returns-in_err-word
 cases::choosing-returns-in_err-word t c = failed _ _ c.from_residual.ensures.1 (c.in_err-word.ensures _)
 
 pub cases::choosing-returns-in_err-take : goal.cases::choosing-returns-in_err-take
-cases::choosing-returns-in_err-take t c = failed _ _ c.from_residual-in_err-take.ensures.1 (((c.in_ok-word.ensures _)).halts _ (missing c.in_err-take.ensures))
+cases::choosing-returns-in_err-take t c =
+    failed _ _ c.from_residual-in_err-take.ensures.1 ((c.in_ok-word.ensures _).halts _ (missing c.in_err-take.ensures))
 
-pub cases::choosing-returns : goal.cases::choosing-returns
-cases::choosing-returns t c = tail _ _ _ c.cases.ensures (on (c.in_ok-word.ensures _) (took c.in_ok-take.ensures))
+pub cases::choosing-loop-at-init : goal.cases::choosing-loop-at-init
+cases::choosing-loop-at-init t c =
+    on (c.in_ok-word.ensures _) (on (took c.in_ok-take.ensures) (arms_begin (λ all. Go (Cases (line_at c.in_ok-word.word) (phrase_of c.in_ok-word.e)
+    all)) c.new-arms.ensures.items))
+
+pub cases::choosing-returns-in_err-d : goal.cases::choosing-returns-in_err-d
+cases::choosing-returns-in_err-d t c =
+    failed _ _ c.from_residual-in_err-d.ensures.1 ((on c.loop-at.invariant (began c.in-Some.ensures refl)).halts _ (c.in_err-d.ensures _))
+
+pub cases::choosing-returns-in-Some : goal.cases::choosing-returns-in-Some
+cases::choosing-returns-in-Some t c =
+    built _ c.case_of.ensures.made c.case_of.ensures.fault (on c.loop-at.invariant (on (began c.in-Some.ensures refl) (c.in_ok-d.ensures _)))
+
+pub cases::choosing-returns-in_err-first : goal.cases::choosing-returns-in_err-first
+cases::choosing-returns-in_err-first t c =
+    failed _ _ c.from_residual-in_err-first.ensures.1 ((on c.loop-at.invariant (otherwise c.in_default.ensures refl (λ k not. ap Some (cases_other _ _
+    _ k not)))).halts _ (HaltsWith.in_first c.in_err-first.ensures))
+
+pub cases::choosing-returns-in_err-labels : goal.cases::choosing-returns-in_err-labels
+cases::choosing-returns-in_err-labels t c =
+    failed _ _ c.from_residual-in_err-labels.ensures.1 ((on c.loop-at.invariant (on (otherwise c.in_default.ensures refl (λ k not. ap Some
+    (cases_other _ _ _ k not))) (behind_first c.in_ok-first.ensures))).halts _ (c.in_err-labels.ensures _ _ labels_list))
+
+pub cases::choosing-returns-in_err-a : goal.cases::choosing-returns-in_err-a
+cases::choosing-returns-in_err-a t c =
+    failed _ _ c.from_residual-in_err-a.ensures.1 ((on c.loop-at.invariant (on (otherwise c.in_default.ensures refl (λ k not. ap Some (cases_other _ _
+    _ k not))) (on (behind_first c.in_ok-first.ensures) (c.in_ok-labels.ensures _ _ labels_list)))).halts _ (c.in_err-a.ensures _))
+
+pub cases::choosing-returns-in_err-take-2 : goal.cases::choosing-returns-in_err-take-2
+cases::choosing-returns-in_err-take-2 t c =
+    failed _ _ c.from_residual-in_err-take-2.ensures.1 ((on c.loop-at.invariant (on (otherwise c.in_default.ensures refl (λ k not. ap Some
+    (cases_other _ _ _ k not))) (on (behind_first c.in_ok-first.ensures) (on (c.in_ok-labels.ensures _ _ labels_list) (c.in_ok-a.ensures _))))).halts
+    _ (missing c.in_err-take-2.ensures))
+
+pub cases::choosing-loop-at-preserved : goal.cases::choosing-loop-at-preserved
+cases::choosing-loop-at-preserved t c =
+    on c.loop-at.invariant (on (otherwise c.in_default.ensures refl (λ k not. ap Some (cases_other _ _ _ k not))) (on (behind_first
+    c.in_ok-first.ensures) (on (c.in_ok-labels.ensures _ _ labels_list) (on (c.in_ok-a.ensures _) (on (took c.in_ok-take-2.ensures) (arms_again (λ
+    all. Go (Cases (line_at c.in_ok-word.word) (phrase_of c.in_ok-word.e) all)) _ _ c.arm_of.ensures c.in_ok-push.ensures.items))))))
+
+pub cases::choosing-loop-at-smaller : goal.cases::choosing-loop-at-smaller
+cases::choosing-loop-at-smaller t c =
+    nearer c.in_ok-take-2.ensures (omega (
+      arith,
+      c.in_default.ensures.stays,
+      c.in_ok-first.ensures.forward,
+      (c.in_ok-labels.ensures _ _ (labels_list
+          {line = c.in_ok-first.first.line} {e = phrase_of c.in_ok-first.first} {before = no_arms})).forward,
+      (c.in_ok-a.ensures (λ symbol made. Go
+          Written)).forward,
+    )) (omega arith)
 
 pub clauses::after-returns-in_err-symbol : goal.clauses::after-returns-in_err-symbol
 clauses::after-returns-in_err-symbol t c = λ next. failed _ _ c.from_residual.ensures.1 (missing c.in_err-symbol.ensures)
@@ -107,43 +99,12 @@ clauses::after-returns-in_err-e t c =
 pub clauses::after-returns : goal.clauses::after-returns
 clauses::after-returns t c = λ next. on (took c.in_ok-symbol.ensures) (behind_first c.in_ok-e.ensures)
 
-pub clauses::choice-returns-in_err-a-in-Do : goal.clauses::choice-returns-in_err-a-in-Do
-clauses::choice-returns-in_err-a-in-Do t c =
-    failed _ _ c.from_residual.ensures.1 (((goes_as c.kind_at.ensures c.in-Do.is refl)).halts _ (c.in_err-a-in-Do.ensures _))
-
-pub clauses::choice-returns-in_err-a-in-Then : goal.clauses::choice-returns-in_err-a-in-Then
-clauses::choice-returns-in_err-a-in-Then t c =
-    failed _ _ c.from_residual-in_err-a-in-Then.ensures.1 (((goes_as c.kind_at.ensures c.in-Then.is refl)).halts _ (c.in_err-a-in-Then.ensures _))
-
-pub clauses::choice-returns-in_err-b-in-Then : goal.clauses::choice-returns-in_err-b-in-Then
-clauses::choice-returns-in_err-b-in-Then t c =
-    failed _ _ c.from_residual-in_err-b-in-Then.ensures.1 ((on (goes_as c.kind_at.ensures c.in-Then.is refl) (c.in_ok-a-in-Then.ensures _)).halts _
-    (c.in_err-b-in-Then.ensures _))
-
-pub clauses::choice-returns-in_ok-a-in-Do : goal.clauses::choice-returns-in_ok-a-in-Do
-clauses::choice-returns-in_ok-a-in-Do t c =
-    built _ c.if_do.ensures.made c.if_do.ensures.fault (on (goes_as c.kind_at.ensures c.in-Do.is refl) (c.in_ok-a-in-Do.ensures _))
-
-pub clauses::choice-returns-in_ok-b-in-Then : goal.clauses::choice-returns-in_ok-b-in-Then
-clauses::choice-returns-in_ok-b-in-Then t c =
-    built _ c.if_else.ensures.made c.if_else.ensures.fault (on (goes_as c.kind_at.ensures c.in-Then.is refl) (on (c.in_ok-a-in-Then.ensures _)
-    (c.in_ok-b-in-Then.ensures _)))
-
-pub clauses::choice-returns-in_default : goal.clauses::choice-returns-in_default
-clauses::choice-returns-in_default t c = halts_by c.kind_at.ensures (choice_other _ _ _ c.in_default.not-Do c.in_default.not-Then) c.unexpected.ensures
-
 pub clauses::clause-returns : goal.clauses::clause-returns
 clauses::clause-returns t c =
     opens c.args.reader.now.text.now c.args.reader.now.tokens c.args.reader.now.symbols.now (λ made. a_clause
     (phrase_of made)) _ c.args.room _ _ _ a_clause_inside (opened c.args.reader.now.text.now c.in-Some.opening) c.opened.ensures (omega
     (arith, c.if-room-eq0.false))
     (clause_opens c.args.reader.now.text.now c.args.reader.now.symbols.now _ c.kind_at.ensures c.opening_of.ensures c.in-Some.is)
-
-pub clauses::condition-returns-in_err-word : goal.clauses::condition-returns-in_err-word
-clauses::condition-returns-in_err-word t c = failed _ _ c.from_residual.ensures.1 (c.in_err-word.ensures _)
-
-pub clauses::condition-returns : goal.clauses::condition-returns
-clauses::condition-returns t c = tail _ _ _ c.choice.ensures ((c.in_ok-word.ensures _))
 
 pub clauses::expression-returns-in_err-left : goal.clauses::expression-returns-in_err-left
 clauses::expression-returns-in_err-left t c = failed _ _ c.from_residual.ensures.1 (HaltsWith.in_first c.in_err-left.ensures)
@@ -177,7 +138,8 @@ clauses::filling-returns t c =
     built _ c.vector_of.ensures.made c.vector_of.ensures.fault (on (c.in_ok-word.ensures _) (on (c.in_ok-u.ensures _) (c.in_ok-e.ensures _)))
 
 pub clauses::more_clauses-loop-at-init : goal.clauses::more_clauses-loop-at-init
-clauses::more_clauses-loop-at-init t c = λ part rest list. phrases_first (λ all. Go (part all)) _ _ c.in_ok-clauses.ensures.items c.in_ok-push.ensures.items
+clauses::more_clauses-loop-at-init t c =
+    λ part rest list. phrases_first (λ all. Go (part all)) _ _ c.in_ok-clauses.ensures.items c.in_ok-push.ensures.items
 
 pub clauses::more_clauses-returns-in_err-e : goal.clauses::more_clauses-returns-in_err-e
 clauses::more_clauses-returns-in_err-e t c =
@@ -211,6 +173,38 @@ clauses::procedure-returns-in_err-word t c = failed _ _ c.from_residual.ensures.
 
 pub clauses::procedure-returns : goal.clauses::procedure-returns
 clauses::procedure-returns t c = tail _ _ _ c.literal.ensures ((took c.in_ok-word.ensures))
+
+pub clauses::condition-returns-in_err-word : goal.clauses::condition-returns-in_err-word
+clauses::condition-returns-in_err-word t c = failed _ _ c.from_residual.ensures.1 (c.in_err-word.ensures _)
+
+pub clauses::condition-returns-in_err-a-in-Do : goal.clauses::condition-returns-in_err-a-in-Do
+clauses::condition-returns-in_err-a-in-Do t c =
+    failed _ _ c.from_residual-in_err-a-in-Do.ensures.1 ((on (c.in_ok-word.ensures _) (goes_as c.kind_at.ensures c.in-Do.is refl)).halts _
+    (c.in_err-a-in-Do.ensures _))
+
+pub clauses::condition-returns-in_err-a-in-Then : goal.clauses::condition-returns-in_err-a-in-Then
+clauses::condition-returns-in_err-a-in-Then t c =
+    failed _ _ c.from_residual-in_err-a-in-Then.ensures.1 ((on (c.in_ok-word.ensures _) (goes_as c.kind_at.ensures c.in-Then.is refl)).halts _
+    (c.in_err-a-in-Then.ensures _))
+
+pub clauses::condition-returns-in_err-b-in-Then : goal.clauses::condition-returns-in_err-b-in-Then
+clauses::condition-returns-in_err-b-in-Then t c =
+    failed _ _ c.from_residual-in_err-b-in-Then.ensures.1 ((on (c.in_ok-word.ensures _) (on (goes_as c.kind_at.ensures c.in-Then.is refl)
+    (c.in_ok-a-in-Then.ensures _))).halts _ (c.in_err-b-in-Then.ensures _))
+
+pub clauses::condition-returns-in_ok-a-in-Do : goal.clauses::condition-returns-in_ok-a-in-Do
+clauses::condition-returns-in_ok-a-in-Do t c =
+    built _ c.if_do.ensures.made c.if_do.ensures.fault (on (c.in_ok-word.ensures _) (on (goes_as c.kind_at.ensures c.in-Do.is refl)
+    (c.in_ok-a-in-Do.ensures _)))
+
+pub clauses::condition-returns-in_ok-b-in-Then : goal.clauses::condition-returns-in_ok-b-in-Then
+clauses::condition-returns-in_ok-b-in-Then t c =
+    built _ c.if_else.ensures.made c.if_else.ensures.fault (on (c.in_ok-word.ensures _) (on (goes_as c.kind_at.ensures c.in-Then.is refl) (on
+    (c.in_ok-a-in-Then.ensures _) (c.in_ok-b-in-Then.ensures _))))
+
+pub clauses::condition-returns-in_default : goal.clauses::condition-returns-in_default
+clauses::condition-returns-in_default t c =
+    (c.in_ok-word.ensures _).halts _ (halts_by c.kind_at.ensures (choice_other _ _ _ c.in_default.not-Do c.in_default.not-Then) c.unexpected.ensures)
 
 pub items::items-loop-items-init : goal.items::items-loop-items-init
 items::items-loop-items-init t c = phrases_begin (λ all. Go (Items c.args.line all)) c.new-items.ensures.items
@@ -248,58 +242,57 @@ items::item-returns-in-Let t c = tail _ _ _ c.let_item.ensures ((goes_as c.kind_
 pub items::item-returns-in-Structure : goal.items::item-returns-in-Structure
 items::item-returns-in-Structure t c = tail _ _ _ c.structure_item.ensures ((goes_as c.kind_at.ensures c.in-Structure.is refl))
 
-pub items::item-returns-in-Procedure : goal.items::item-returns-in-Procedure
-items::item-returns-in-Procedure t c = tail _ _ _ c.procedure_item.ensures ((goes_as c.kind_at.ensures c.in-Procedure.is refl))
-
 pub items::item-returns-in_default : goal.items::item-returns-in_default
 items::item-returns-in_default t c =
     tail _ _ _ c.clause.ensures ((goes_by c.kind_at.ensures (ap Some
     (item_other _ _ c.in_default.not-Let c.in_default.not-Structure c.in_default.not-Procedure))))
 
-pub items::let_item-returns-in_err-line : goal.items::let_item-returns-in_err-line
-items::let_item-returns-in_err-line t c = failed _ _ c.from_residual.ensures.1 (c.in_err-line.ensures c.args.room let_name)
+pub items::item-returns-in_err-line-in-Procedure : goal.items::item-returns-in_err-line-in-Procedure
+items::item-returns-in_err-line-in-Procedure t c =
+    failed _ _ c.from_residual.ensures.1 ((goes_as c.kind_at.ensures c.in-Procedure.is refl).halts _ (c.in_err-line-in-Procedure.ensures c.args.room
+    procedure_name))
 
-pub items::let_item-returns-in-Equals : goal.items::let_item-returns-in-Equals
-items::let_item-returns-in-Equals t c =
-    tail _ _ _ c.bound.ensures (on (c.in_ok-line.ensures c.args.room let_name) (goes_as c.kind_at.ensures c.in-Equals.is refl))
+pub items::item-returns-in_err-e-in-Procedure : goal.items::item-returns-in_err-e-in-Procedure
+items::item-returns-in_err-e-in-Procedure t c =
+    failed _ _ c.from_residual-in_err-e-in-Procedure.ensures.1 ((on (goes_as c.kind_at.ensures c.in-Procedure.is refl)
+    (c.in_ok-line-in-Procedure.ensures c.args.room procedure_name)).halts _ (HaltsWith.in_first c.in_err-e-in-Procedure.ensures))
 
-pub items::let_item-returns-in-Becomes : goal.items::let_item-returns-in-Becomes
-items::let_item-returns-in-Becomes t c =
-    tail _ _ _ c.bound-in-Becomes.ensures (on (c.in_ok-line.ensures c.args.room let_name) (goes_as c.kind_at.ensures c.in-Becomes.is refl))
-
-pub items::let_item-returns-in_default : goal.items::let_item-returns-in_default
-items::let_item-returns-in_default t c =
-    ((c.in_ok-line.ensures c.args.room let_name)).halts _ (halts_by c.kind_at.ensures
-    (binding_other _ _ _ c.in_default.not-Equals c.in_default.not-Becomes) c.unexpected.ensures)
-
-pub items::bound-returns-in_err-e : goal.items::bound-returns-in_err-e
-items::bound-returns-in_err-e t c = failed _ _ c.from_residual.ensures.1 (c.in_err-e.ensures _)
-
-pub items::bound-returns : goal.items::bound-returns
-items::bound-returns t c = built _ c.let_of.ensures.made c.let_of.ensures.fault ((c.in_ok-e.ensures _))
-
-pub items::procedure_item-returns-in_err-line : goal.items::procedure_item-returns-in_err-line
-items::procedure_item-returns-in_err-line t c = failed _ _ c.from_residual.ensures.1 (c.in_err-line.ensures c.args.room procedure_name)
-
-pub items::procedure_item-returns-in_err-e : goal.items::procedure_item-returns-in_err-e
-items::procedure_item-returns-in_err-e t c =
-    failed _ _ c.from_residual-in_err-e.ensures.1 (((c.in_ok-line.ensures c.args.room procedure_name)).halts _ (HaltsWith.in_first c.in_err-e.ensures))
-
-pub items::procedure_item-returns : goal.items::procedure_item-returns
-items::procedure_item-returns t c =
-    built _ c.let_of.ensures.made c.let_of.ensures.fault (on (c.in_ok-line.ensures c.args.room procedure_name) (behind_first c.in_ok-e.ensures))
+pub items::item-returns-in_ok-e-in-Procedure : goal.items::item-returns-in_ok-e-in-Procedure
+items::item-returns-in_ok-e-in-Procedure t c =
+    built _ c.let_of.ensures.made c.let_of.ensures.fault (on (goes_as c.kind_at.ensures c.in-Procedure.is refl) (on (c.in_ok-line-in-Procedure.ensures
+    c.args.room procedure_name) (behind_first c.in_ok-e-in-Procedure.ensures)))
 
 pub items::literal-returns-in_err-params : goal.items::literal-returns-in_err-params
-items::literal-returns-in_err-params t c = failed _ _ c.from_residual.ensures.1 (HaltsWith.in_part refl (c.in_err-params.ensures (procedure_body c.args.line)))
+items::literal-returns-in_err-params t c =
+    failed _ _ c.from_residual.ensures.1 (HaltsWith.in_part refl (c.in_err-params.ensures (procedure_body c.args.line)))
 
 pub items::literal-returns-in_err-s : goal.items::literal-returns-in_err-s
 items::literal-returns-in_err-s t c =
-    failed _ _ c.from_residual-in_err-s.ensures.1 ((on (by_row refl) (c.in_ok-params.ensures (procedure_body c.args.line))).halts _ (c.in_err-s.ensures _))
+    failed _ _ c.from_residual-in_err-s.ensures.1 ((on (by_row refl) (c.in_ok-params.ensures (procedure_body c.args.line))).halts _
+    (c.in_err-s.ensures _))
 
 pub items::literal-returns : goal.items::literal-returns
 items::literal-returns t c =
     built _ c.proc_of.ensures.made c.proc_of.ensures.fault (on (by_row refl) (on (c.in_ok-params.ensures (procedure_body c.args.line))
     (c.in_ok-s.ensures _)))
+
+pub items::let_item-returns-in_err-line : goal.items::let_item-returns-in_err-line
+items::let_item-returns-in_err-line t c = failed _ _ c.from_residual.ensures.1 (c.in_err-line.ensures c.args.room let_name)
+
+pub items::let_item-returns-in_default : goal.items::let_item-returns-in_default
+items::let_item-returns-in_default t c =
+    (c.in_ok-line.ensures c.args.room let_name).halts _ (binds_not c.kind_at-mark.ensures c.makes_variable.ensures c.in_default.is
+    c.unexpected.ensures)
+
+pub items::let_item-returns-in_err-e : goal.items::let_item-returns-in_err-e
+items::let_item-returns-in_err-e t c =
+    failed _ _ c.from_residual-in_err-e.ensures.1 ((on (c.in_ok-line.ensures c.args.room let_name) (binds c.kind_at-mark.ensures
+    c.makes_variable.ensures c.in-Some.is)).halts _ (c.in_err-e.ensures _))
+
+pub items::let_item-returns : goal.items::let_item-returns
+items::let_item-returns t c =
+    built _ c.let_of.ensures.made c.let_of.ensures.fault (on (c.in_ok-line.ensures c.args.room let_name) (on (binds c.kind_at-mark.ensures
+    c.makes_variable.ensures c.in-Some.is) (c.in_ok-e.ensures _)))
 
 pub loops::counting-returns-in_err-line : goal.loops::counting-returns-in_err-line
 loops::counting-returns-in_err-line t c = failed _ _ c.from_residual.ensures.1 (c.in_err-line.ensures c.args.room for_name)
@@ -310,7 +303,8 @@ loops::counting-returns-in_err-a t c =
 
 pub loops::counting-returns-in_err-b : goal.loops::counting-returns-in_err-b
 loops::counting-returns-in_err-b t c =
-    failed _ _ c.from_residual-in_err-b.ensures.1 ((on (c.in_ok-line.ensures c.args.room for_name) (c.in_ok-a.ensures _)).halts _ (c.in_err-b.ensures _))
+    failed _ _ c.from_residual-in_err-b.ensures.1 ((on (c.in_ok-line.ensures c.args.room for_name) (c.in_ok-a.ensures _)).halts _ (c.in_err-b.ensures
+    _))
 
 pub loops::counting-returns-in_err-c : goal.loops::counting-returns-in_err-c
 loops::counting-returns-in_err-c t c =
@@ -319,8 +313,8 @@ loops::counting-returns-in_err-c t c =
 
 pub loops::counting-returns-in_err-s : goal.loops::counting-returns-in_err-s
 loops::counting-returns-in_err-s t c =
-    failed _ _ c.from_residual-in_err-s.ensures.1 ((on (c.in_ok-line.ensures c.args.room for_name) (on (c.in_ok-a.ensures _) (on (c.in_ok-b.ensures _) (on
-    (c.in_ok-c.ensures _ _ step_optional) (by_row refl))))).halts _ (c.in_err-s.ensures _))
+    failed _ _ c.from_residual-in_err-s.ensures.1 ((on (c.in_ok-line.ensures c.args.room for_name) (on (c.in_ok-a.ensures _) (on (c.in_ok-b.ensures _)
+    (on (c.in_ok-c.ensures _ _ step_optional) (by_row refl))))).halts _ (c.in_err-s.ensures _))
 
 pub loops::counting-returns : goal.loops::counting-returns
 loops::counting-returns t c =
@@ -332,8 +326,8 @@ loops::repeating-returns-in_err-word t c = failed _ _ c.from_residual.ensures.1 
 
 pub loops::repeating-returns-in_err-c : goal.loops::repeating-returns-in_err-c
 loops::repeating-returns-in_err-c t c =
-    failed _ _ c.from_residual-in_err-c.ensures.1 ((on (c.in_ok-word.ensures _) (on (passed c.args.reader.now _ c.accept.ensures) (by_row refl))).halts _
-    (c.in_err-c.ensures _))
+    failed _ _ c.from_residual-in_err-c.ensures.1 ((on (c.in_ok-word.ensures _) (on (passed c.args.reader.now _ c.accept.ensures) (by_row
+    refl))).halts _ (c.in_err-c.ensures _))
 
 pub loops::repeating-returns-in_err-b : goal.loops::repeating-returns-in_err-b
 loops::repeating-returns-in_err-b t c =
@@ -382,25 +376,34 @@ operators::compared-returns-in_err-left t c = failed _ _ c.from_residual.ensures
 pub operators::compared-returns-in_default : goal.operators::compared-returns-in_default
 operators::compared-returns-in_default t c = on (by_row refl) (on (behind_first c.in_ok-left.ensures) (not_related c.in_default.ensures))
 
-pub operators::compared-returns-in-Compares : goal.operators::compared-returns-in-Compares
-operators::compared-returns-in-Compares t c =
-    tail _ _ _ c.compares.ensures (on (by_row refl) (on (behind_first c.in_ok-left.ensures) (compares_there c.in-Some.ensures c.in-Compares.is)))
+pub operators::compared-returns-in_ok-right-in-Compares : goal.operators::compared-returns-in_ok-right-in-Compares
+operators::compared-returns-in_ok-right-in-Compares t c =
+    built _ c.compare.ensures.made c.compare.ensures.fault (on (on (by_row refl) (on (behind_first c.in_ok-left.ensures) (compares_there
+    c.in-Some.ensures c.in-Compares.is))) (behind_first c.in_ok-right-in-Compares.ensures))
 
-pub operators::compared-returns-in-IsOf : goal.operators::compared-returns-in-IsOf
-operators::compared-returns-in-IsOf t c =
-    tail _ _ _ c.is_class.ensures (on (by_row refl) (on (behind_first c.in_ok-left.ensures) (is_there c.in-Some.ensures c.in-IsOf.is)))
+pub operators::compared-returns-in_err-right-in-Compares : goal.operators::compared-returns-in_err-right-in-Compares
+operators::compared-returns-in_err-right-in-Compares t c =
+    failed _ _ c.from_residual-in_err-right-in-Compares.ensures.1 ((on (by_row refl) (on (behind_first c.in_ok-left.ensures) (compares_there
+    c.in-Some.ensures c.in-Compares.is))).halts _ (HaltsWith.in_first c.in_err-right-in-Compares.ensures))
 
-pub operators::compares-returns-in_err-right : goal.operators::compares-returns-in_err-right
-operators::compares-returns-in_err-right t c = failed _ _ c.from_residual.ensures.1 (HaltsWith.in_first c.in_err-right.ensures)
+pub operators::compared-returns-in_err-class-in-IsOf : goal.operators::compared-returns-in_err-class-in-IsOf
+operators::compared-returns-in_err-class-in-IsOf t c =
+    failed _ _ c.from_residual-in_err-class-in-IsOf.ensures.1 ((on (by_row refl) (on (behind_first c.in_ok-left.ensures) (is_there c.in-Some.ensures
+    c.in-IsOf.is))).halts _ (c.in_err-class-in-IsOf.ensures _ _))
 
-pub operators::compares-returns : goal.operators::compares-returns
-operators::compares-returns t c = built _ c.compare.ensures.made c.compare.ensures.fault ((behind_first c.in_ok-right.ensures))
+pub operators::compared-returns-in_ok-class-in-IsOf : goal.operators::compared-returns-in_ok-class-in-IsOf
+operators::compared-returns-in_ok-class-in-IsOf t c =
+    built _ c.is_of.ensures.made c.is_of.ensures.fault (on (on (by_row refl) (on (behind_first c.in_ok-left.ensures) (is_there c.in-Some.ensures
+    c.in-IsOf.is))) (took_name (λ name. give (form.Is (phrase_of c.in_ok-left.left) name c.in-IsOf.negated) (line_at c.in-Some.sign))
+    c.in_ok-class-in-IsOf.ensures))
 
 pub operators::factor-returns-in_err-e : goal.operators::factor-returns-in_err-e
-operators::factor-returns-in_err-e t c = failed _ _ c.from_residual.ensures.1 (((began c.in-Some.ensures refl)).halts _ (HaltsWith.in_first c.in_err-e.ensures))
+operators::factor-returns-in_err-e t c =
+    failed _ _ c.from_residual.ensures.1 (((began c.in-Some.ensures refl)).halts _ (HaltsWith.in_first c.in_err-e.ensures))
 
 pub operators::factor-returns-in-Some : goal.operators::factor-returns-in-Some
-operators::factor-returns-in-Some t c = built _ c.plus.ensures.made c.plus.ensures.fault (on (began c.in-Some.ensures refl) (behind_first c.in_ok-e.ensures))
+operators::factor-returns-in-Some t c =
+    built _ c.plus.ensures.made c.plus.ensures.fault (on (began c.in-Some.ensures refl) (behind_first c.in_ok-e.ensures))
 
 pub operators::factor-returns-in_err-e-2 : goal.operators::factor-returns-in_err-e-2
 operators::factor-returns-in_err-e-2 t c =
@@ -416,7 +419,8 @@ pub operators::factor-returns : goal.operators::factor-returns
 operators::factor-returns t c = tail _ _ _ c.application-2.ensures ((no_sign c.in_default.ensures c.in_default-accept.ensures))
 
 pub operators::relative-returns-in_default : goal.operators::relative-returns-in_default
-operators::relative-returns-in_default t c = tail _ _ _ c.compared.ensures ((otherwise c.in_default.ensures refl (λ k not. ap Some (relative_other k not))))
+operators::relative-returns-in_default t c =
+    tail _ _ _ c.compared.ensures ((otherwise c.in_default.ensures refl (λ k not. ap Some (relative_other k not))))
 
 pub operators::relative-returns-in_err-e : goal.operators::relative-returns-in_err-e
 operators::relative-returns-in_err-e t c =
@@ -426,7 +430,8 @@ pub operators::relative-returns : goal.operators::relative-returns
 operators::relative-returns t c = built _ c.not.ensures.made c.not.ensures.fault (on (began c.in-Some.ensures refl) (behind_first c.in_ok-e.ensures))
 
 pub primaries::application-returns-in_err-made : goal.primaries::application-returns-in_err-made
-primaries::application-returns-in_err-made t c = failed _ _ c.from_residual.ensures.1 ((by_row refl).halts _ (HaltsWith.in_first c.in_err-made.ensures))
+primaries::application-returns-in_err-made t c =
+    failed _ _ c.from_residual.ensures.1 ((by_row refl).halts _ (HaltsWith.in_first c.in_err-made.ensures))
 
 pub primaries::application-loop-mark-init : goal.primaries::application-loop-mark-init
 primaries::application-loop-mark-init t c = on (by_row refl) (behind_first c.in_ok-made.ensures)
@@ -444,50 +449,6 @@ primaries::application-returns-in_err-made-2 t c =
 
 pub primaries::application-returns : goal.primaries::application-returns
 primaries::application-returns t c = on c.loop-mark.invariant (otherwise c.in_default.ensures refl (λ k not. ap Some (applied_other _ k not)))
-
-pub primaries::arguments-returns-in-Some : goal.primaries::arguments-returns-in-Some
-primaries::arguments-returns-in-Some t c =
-    built _ c.apply.ensures.made c.apply.ensures.fault (on (began c.in-Some.ensures refl) (phrases_begin (λ all. give (form.Apply
-    (phrase_of c.args.f) all) c.args.line) c.new.ensures.items))
-
-pub primaries::arguments-returns-in_err-first : goal.primaries::arguments-returns-in_err-first
-primaries::arguments-returns-in_err-first t c =
-    failed _ _ c.from_residual.ensures.1 (((otherwise c.in_default.ensures refl (λ k not. ap Some (arguments_other _ _ k not)))).halts _
-    (HaltsWith.in_first c.in_err-first.ensures))
-
-pub primaries::arguments-returns : goal.primaries::arguments-returns
-primaries::arguments-returns t c =
-    tail _ _ _ c.second_argument.ensures (on (otherwise c.in_default.ensures refl (λ k not. ap Some (arguments_other _ _ k not)))
-    (behind_first c.in_ok-first.ensures))
-
-pub primaries::second_argument-returns-in_err-n : goal.primaries::second_argument-returns-in_err-n
-primaries::second_argument-returns-in_err-n t c =
-    failed _ _ c.from_residual.ensures.1 (((began c.in-Some.ensures refl)).halts _ (HaltsWith.in_first c.in_err-n.ensures))
-
-pub primaries::second_argument-returns-in_err-take : goal.primaries::second_argument-returns-in_err-take
-primaries::second_argument-returns-in_err-take t c =
-    failed _ _ c.from_residual-in_err-take.ensures.1 ((on (began c.in-Some.ensures refl) (behind_first c.in_ok-n.ensures)).halts _
-    (missing c.in_err-take.ensures))
-
-pub primaries::second_argument-returns-in-Some : goal.primaries::second_argument-returns-in-Some
-primaries::second_argument-returns-in-Some t c =
-    built _ c.part_of.ensures.made c.part_of.ensures.fault (on (began c.in-Some.ensures refl) (on (behind_first c.in_ok-n.ensures)
-    (took c.in_ok-take.ensures)))
-
-pub primaries::second_argument-returns : goal.primaries::second_argument-returns
-primaries::second_argument-returns t c =
-    tail _ _ _ c.more_arguments.ensures ((otherwise c.in_default.ensures refl (λ k not. ap Some (second_argument_other _ _ _ k not))))
-
-pub primaries::more_arguments-returns-in_err-all : goal.primaries::more_arguments-returns-in_err-all
-primaries::more_arguments-returns-in_err-all t c = failed _ _ c.from_residual.ensures.1 (c.in_err-all.ensures _ _ arguments_list)
-
-pub primaries::more_arguments-returns-in_err-take : goal.primaries::more_arguments-returns-in_err-take
-primaries::more_arguments-returns-in_err-take t c =
-    failed _ _ c.from_residual-in_err-take.ensures.1 (((c.in_ok-all.ensures _ _ arguments_list)).halts _ (missing c.in_err-take.ensures))
-
-pub primaries::more_arguments-returns : goal.primaries::more_arguments-returns
-primaries::more_arguments-returns t c =
-    built _ c.apply.ensures.made c.apply.ensures.fault (on (c.in_ok-all.ensures _ _ arguments_list) (took c.in_ok-take.ensures))
 
 pub primaries::primary-returns-in-Name : goal.primaries::primary-returns-in-Name
 primaries::primary-returns-in-Name t c =
@@ -555,10 +516,12 @@ pub primaries::bound_of_vector-returns-in_err-word : goal.primaries::bound_of_ve
 primaries::bound_of_vector-returns-in_err-word t c = failed _ _ c.from_residual.ensures.1 (missing c.in_err-word.ensures)
 
 pub primaries::bound_of_vector-returns-in_err-e : goal.primaries::bound_of_vector-returns-in_err-e
-primaries::bound_of_vector-returns-in_err-e t c = failed _ _ c.from_residual-in_err-e.ensures.1 (((took c.in_ok-word.ensures)).halts _ (c.in_err-e.ensures _))
+primaries::bound_of_vector-returns-in_err-e t c =
+    failed _ _ c.from_residual-in_err-e.ensures.1 (((took c.in_ok-word.ensures)).halts _ (c.in_err-e.ensures _))
 
 pub primaries::bound_of_vector-returns : goal.primaries::bound_of_vector-returns
-primaries::bound_of_vector-returns t c = built _ c.bound_of.ensures.made c.bound_of.ensures.fault (on (took c.in_ok-word.ensures) (c.in_ok-e.ensures _))
+primaries::bound_of_vector-returns t c =
+    built _ c.bound_of.ensures.made c.bound_of.ensures.fault (on (took c.in_ok-word.ensures) (c.in_ok-e.ensures _))
 
 pub primaries::elements-returns-in_err-mark : goal.primaries::elements-returns-in_err-mark
 primaries::elements-returns-in_err-mark t c = failed _ _ c.from_residual.ensures.1 (c.in_err-mark.ensures _)
@@ -588,13 +551,58 @@ primaries::elements-returns t c =
     built _ c.elems.ensures.made c.elems.ensures.fault (on (c.in_ok-mark.ensures _) (on (c.in_ok-ty.ensures (each_type c.in_ok-mark.mark.token.line
     (phrase_of c.in_ok-mark.l))) (on (c.in_ok-first.ensures _) (on (c.in_ok-all.ensures _ _ elements_list) (took c.in_ok-take.ensures)))))
 
+pub primaries::arguments-returns-in-Some : goal.primaries::arguments-returns-in-Some
+primaries::arguments-returns-in-Some t c =
+    built _ c.apply.ensures.made c.apply.ensures.fault (on (began c.in-Some.ensures refl) (phrases_begin (λ all. give (form.Apply (phrase_of c.args.f)
+    all) c.args.line) c.new.ensures.items))
+
+pub primaries::arguments-returns-in_err-first : goal.primaries::arguments-returns-in_err-first
+primaries::arguments-returns-in_err-first t c =
+    failed _ _ c.from_residual.ensures.1 ((otherwise c.in_default.ensures refl (λ k not. ap Some (arguments_other _ _ k not))).halts _
+    (HaltsWith.in_first c.in_err-first.ensures))
+
+pub primaries::arguments-returns-in_err-n : goal.primaries::arguments-returns-in_err-n
+primaries::arguments-returns-in_err-n t c =
+    failed _ _ c.from_residual-in_err-n.ensures.1 ((on (on (otherwise c.in_default.ensures refl (λ k not. ap Some (arguments_other _ _ k not)))
+    (behind_first c.in_ok-first.ensures)) (began c.in-Some-accept.ensures refl)).halts _ (HaltsWith.in_first c.in_err-n.ensures))
+
+pub primaries::arguments-returns-in_err-take : goal.primaries::arguments-returns-in_err-take
+primaries::arguments-returns-in_err-take t c =
+    failed _ _ c.from_residual-in_err-take.ensures.1 ((on (on (on (otherwise c.in_default.ensures refl (λ k not. ap Some (arguments_other _ _ k not)))
+    (behind_first c.in_ok-first.ensures)) (began c.in-Some-accept.ensures refl)) (behind_first c.in_ok-n.ensures)).halts _ (missing
+    c.in_err-take.ensures))
+
+pub primaries::arguments-returns-in-Some-accept : goal.primaries::arguments-returns-in-Some-accept
+primaries::arguments-returns-in-Some-accept t c =
+    built _ c.part_of.ensures.made c.part_of.ensures.fault (on (on (on (otherwise c.in_default.ensures refl (λ k not. ap Some (arguments_other _ _ k
+    not))) (behind_first c.in_ok-first.ensures)) (began c.in-Some-accept.ensures refl)) (on (behind_first c.in_ok-n.ensures) (took
+    c.in_ok-take.ensures)))
+
+pub primaries::arguments-returns-in_err-all : goal.primaries::arguments-returns-in_err-all
+primaries::arguments-returns-in_err-all t c =
+    failed _ _ c.from_residual-in_err-all.ensures.1 ((on (on (otherwise c.in_default.ensures refl (λ k not. ap Some (arguments_other _ _ k not)))
+    (behind_first c.in_ok-first.ensures)) (otherwise c.in_default-accept.ensures refl (λ k not. ap Some (second_argument_other _ _ _ k not)))).halts _
+    (c.in_err-all.ensures _ _ arguments_list))
+
+pub primaries::arguments-returns-in_err-take-2 : goal.primaries::arguments-returns-in_err-take-2
+primaries::arguments-returns-in_err-take-2 t c =
+    failed _ _ c.from_residual-in_err-take-2.ensures.1 ((on (on (otherwise c.in_default.ensures refl (λ k not. ap Some (arguments_other _ _ k not)))
+    (behind_first c.in_ok-first.ensures)) (on (otherwise c.in_default-accept.ensures refl (λ k not. ap Some (second_argument_other _ _ _ k not)))
+    (c.in_ok-all.ensures _ _ arguments_list))).halts _ (missing c.in_err-take-2.ensures))
+
+pub primaries::arguments-returns : goal.primaries::arguments-returns
+primaries::arguments-returns t c =
+    built _ c.apply-2.ensures.made c.apply-2.ensures.fault (on (on (on (otherwise c.in_default.ensures refl (λ k not. ap Some (arguments_other _ _ k
+    not))) (behind_first c.in_ok-first.ensures)) (on (otherwise c.in_default-accept.ensures refl (λ k not. ap Some (second_argument_other _ _ _ k
+    not))) (c.in_ok-all.ensures _ _ arguments_list))) (took c.in_ok-take-2.ensures))
+
 pub writing::writing-returns-in_err-word : goal.writing::writing-returns-in_err-word
 writing::writing-returns-in_err-word t c = failed _ _ c.from_residual.ensures.1 (missing c.in_err-word.ensures)
 
 pub writing::writing-loop-items-init : goal.writing::writing-loop-items-init
 writing::writing-loop-items-init t c =
     on (took c.in_ok-word.ensures) (items_begin (λ all. Then (Go Written) (λ one. Go (MoreWritten (line_at c.in_ok-word.word) (and_item all
-    (the_item one))))) c.in_ok-items.ensures.items)
+    (the_item one))))) c.new-items.ensures.items)
 
 pub writing::writing-returns-in_err-item : goal.writing::writing-returns-in_err-item
 writing::writing-returns-in_err-item t c =
@@ -617,11 +625,6 @@ writing::writing-returns-in_default t c =
 pub writing::written-returns-in_err-e : goal.writing::written-returns-in_err-e
 writing::written-returns-in_err-e t c = failed _ _ c.from_residual.ensures.1 ((by_row refl).halts _ (HaltsWith.in_first c.in_err-e.ensures))
 
-pub writing::written-returns-in_default : goal.writing::written-returns-in_default
-writing::written-returns-in_default t c =
-    on (by_row refl) (on (behind_first c.in_ok-e.ensures) (on (otherwise c.in_default.ensures refl (λ k not. ap Some (width_other _ k not))) (same (ap (λ
-    (i : WriteItem). Give (an_item i)) (sym c.unpadded.ensures)))))
-
 pub writing::written-returns-in_err-w : goal.writing::written-returns-in_err-w
 writing::written-returns-in_err-w t c =
     failed _ _ c.from_residual-in_err-w.ensures.1 ((on (by_row refl) (on (behind_first c.in_ok-e.ensures) (began c.in-Some.ensures refl))).halts _
@@ -630,30 +633,14 @@ writing::written-returns-in_err-w t c =
 pub writing::written-returns : goal.writing::written-returns
 writing::written-returns t c =
     on (by_row refl) (on (behind_first c.in_ok-e.ensures) (on (began c.in-Some.ensures refl) (on (behind_first c.in_ok-w.ensures) (same (ap (λ
-    (i : WriteItem). Give (an_item i)) (sym c.item_of.ensures))))))
+    (i : WriteItem). Give (an_item i)) (sym c.item_of-2.ensures))))))
+
+pub writing::written-returns-in_default : goal.writing::written-returns-in_default
+writing::written-returns-in_default t c =
+    on (by_row refl) (on (behind_first c.in_ok-e.ensures) (on (otherwise c.in_default.ensures refl (λ k not. ap Some (width_other _ k not))) (same (ap
+    (λ (i : WriteItem). Give (an_item i)) (sym c.item_of.ensures)))))
 
 -- a call of the cycle has less work before it, and each call reads a text whose symbols are sound
-
-pub cases::arm-clause-requires : goal.cases::arm-clause-requires
-cases::arm-clause-requires t c = (omega (arith, c.decreases), c.requires.sound)
-
-pub cases::arm-more_clauses-requires : goal.cases::arm-more_clauses-requires
-cases::arm-more_clauses-requires t c = (omega (arith, c.decreases), c.requires.sound)
-
-pub cases::arm-after-requires : goal.cases::arm-after-requires
-cases::arm-after-requires t c = (omega (arith, c.decreases), c.requires.sound)
-
-pub cases::arm-take-requires : goal.cases::arm-take-requires
-cases::arm-take-requires t c = c.requires
-
-pub cases::cases-accept-requires : goal.cases::cases-accept-requires
-cases::cases-accept-requires t c = c.requires
-
-pub cases::cases-after-requires : goal.cases::cases-after-requires
-cases::cases-after-requires t c = (omega (arith, c.decreases), c.requires.sound)
-
-pub cases::cases-arm-requires : goal.cases::cases-arm-requires
-cases::cases-arm-requires t c = (omega (arith, c.decreases), c.requires.sound)
 
 pub cases::choosing-after-requires : goal.cases::choosing-after-requires
 cases::choosing-after-requires t c = (omega (arith, c.decreases), c.requires.sound)
@@ -661,26 +648,29 @@ cases::choosing-after-requires t c = (omega (arith, c.decreases), c.requires.sou
 pub cases::choosing-take-requires : goal.cases::choosing-take-requires
 cases::choosing-take-requires t c = c.requires
 
-pub cases::choosing-cases-requires : goal.cases::choosing-cases-requires
-cases::choosing-cases-requires t c = (omega (arith, c.decreases), c.requires.sound)
+pub cases::choosing-accept-requires : goal.cases::choosing-accept-requires
+cases::choosing-accept-requires t c = c.requires
+
+pub cases::choosing-after-requires-in-Some : goal.cases::choosing-after-requires-in-Some
+cases::choosing-after-requires-in-Some t c = (omega (arith, c.decreases), c.requires.sound)
+
+pub cases::choosing-clause-requires : goal.cases::choosing-clause-requires
+cases::choosing-clause-requires t c = (omega (arith, c.decreases), c.requires.sound)
+
+pub cases::choosing-more_clauses-requires : goal.cases::choosing-more_clauses-requires
+cases::choosing-more_clauses-requires t c = (omega (arith, c.decreases), c.requires.sound)
+
+pub cases::choosing-after-requires-in-loop-at : goal.cases::choosing-after-requires-in-loop-at
+cases::choosing-after-requires-in-loop-at t c = (omega (arith, c.decreases), c.requires.sound)
+
+pub cases::choosing-take-requires-in-loop-at : goal.cases::choosing-take-requires-in-loop-at
+cases::choosing-take-requires-in-loop-at t c = c.requires
 
 pub clauses::after-take-requires : goal.clauses::after-take-requires
 clauses::after-take-requires t c = c.requires
 
 pub clauses::after-clause-requires : goal.clauses::after-clause-requires
 clauses::after-clause-requires t c = (omega (arith, c.decreases), c.requires.sound)
-
-pub clauses::choice-after-requires : goal.clauses::choice-after-requires
-clauses::choice-after-requires t c = (omega (arith, c.decreases), c.requires.sound)
-
-pub clauses::choice-after-requires-in-Then : goal.clauses::choice-after-requires-in-Then
-clauses::choice-after-requires-in-Then t c = (omega (arith, c.decreases), c.requires.sound)
-
-pub clauses::choice-after-requires-in-Then-2 : goal.clauses::choice-after-requires-in-Then-2
-clauses::choice-after-requires-in-Then-2 t c = (omega (arith, c.decreases), c.requires.sound)
-
-pub clauses::choice-unexpected-requires : goal.clauses::choice-unexpected-requires
-clauses::choice-unexpected-requires t c = c.requires.sound
 
 pub clauses::clause-unexpected-requires : goal.clauses::clause-unexpected-requires
 clauses::clause-unexpected-requires t c = c.requires.sound
@@ -690,12 +680,6 @@ clauses::clause-too_nested-requires t c = c.requires.sound
 
 pub clauses::clause-opened-requires : goal.clauses::clause-opened-requires
 clauses::clause-opened-requires t c = (omega (arith, c.decreases), c.requires.sound)
-
-pub clauses::condition-after-requires : goal.clauses::condition-after-requires
-clauses::condition-after-requires t c = (omega (arith, c.decreases), c.requires.sound)
-
-pub clauses::condition-choice-requires : goal.clauses::condition-choice-requires
-clauses::condition-choice-requires t c = (omega (arith, c.decreases), c.requires.sound)
 
 pub clauses::expression-chain-requires : goal.clauses::expression-chain-requires
 clauses::expression-chain-requires t c = (omega (arith, c.decreases), c.requires.sound)
@@ -720,6 +704,33 @@ clauses::more_clauses-accept-requires t c = c.requires
 
 pub clauses::more_clauses-clause-requires : goal.clauses::more_clauses-clause-requires
 clauses::more_clauses-clause-requires t c = (omega (arith, c.decreases), c.requires.sound)
+
+pub clauses::optional-accept-requires : goal.clauses::optional-accept-requires
+clauses::optional-accept-requires t c = c.requires
+
+pub clauses::optional-clause-requires : goal.clauses::optional-clause-requires
+clauses::optional-clause-requires t c = (omega (arith, c.decreases), c.requires.sound)
+
+pub clauses::procedure-take-requires : goal.clauses::procedure-take-requires
+clauses::procedure-take-requires t c = c.requires
+
+pub clauses::procedure-literal-requires : goal.clauses::procedure-literal-requires
+clauses::procedure-literal-requires t c = (omega (arith, c.decreases), c.requires.sound)
+
+pub clauses::condition-after-requires : goal.clauses::condition-after-requires
+clauses::condition-after-requires t c = (omega (arith, c.decreases), c.requires.sound)
+
+pub clauses::condition-after-requires-in-Do : goal.clauses::condition-after-requires-in-Do
+clauses::condition-after-requires-in-Do t c = (omega (arith, c.decreases), c.requires.sound)
+
+pub clauses::condition-after-requires-in-Then : goal.clauses::condition-after-requires-in-Then
+clauses::condition-after-requires-in-Then t c = (omega (arith, c.decreases), c.requires.sound)
+
+pub clauses::condition-after-requires-in-Then-2 : goal.clauses::condition-after-requires-in-Then-2
+clauses::condition-after-requires-in-Then-2 t c = (omega (arith, c.decreases), c.requires.sound)
+
+pub clauses::condition-unexpected-requires : goal.clauses::condition-unexpected-requires
+clauses::condition-unexpected-requires t c = c.requires.sound
 
 pub clauses::opened-condition-requires : goal.clauses::opened-condition-requires
 clauses::opened-condition-requires t c = (omega (arith, c.decreases), c.requires.sound)
@@ -751,20 +762,14 @@ clauses::opened-filling-requires t c = (omega (arith, c.decreases), c.requires.s
 pub clauses::opened-expression-requires : goal.clauses::opened-expression-requires
 clauses::opened-expression-requires t c = (omega (arith, c.decreases), c.requires.sound)
 
-pub clauses::optional-accept-requires : goal.clauses::optional-accept-requires
-clauses::optional-accept-requires t c = c.requires
+pub items::items-optional_item-requires : goal.items::items-optional_item-requires
+items::items-optional_item-requires t c = (omega (arith, c.decreases), c.requires.sound)
 
-pub clauses::optional-clause-requires : goal.clauses::optional-clause-requires
-clauses::optional-clause-requires t c = (omega (arith, c.decreases), c.requires.sound)
+pub items::items-accept-requires : goal.items::items-accept-requires
+items::items-accept-requires t c = c.requires
 
-pub clauses::procedure-take-requires : goal.clauses::procedure-take-requires
-clauses::procedure-take-requires t c = c.requires
-
-pub clauses::procedure-literal-requires : goal.clauses::procedure-literal-requires
-clauses::procedure-literal-requires t c = (omega (arith, c.decreases), c.requires.sound)
-
-pub items::bound-after-requires : goal.items::bound-after-requires
-items::bound-after-requires t c = (omega (arith, c.decreases), c.requires.sound)
+pub items::optional_item-item-requires : goal.items::optional_item-item-requires
+items::optional_item-item-requires t c = (omega (arith, c.decreases), c.requires.sound)
 
 pub items::item-let_item-requires : goal.items::item-let_item-requires
 items::item-let_item-requires t c = (omega (arith, c.decreases), c.requires.sound)
@@ -772,29 +777,14 @@ items::item-let_item-requires t c = (omega (arith, c.decreases), c.requires.soun
 pub items::item-structure_item-requires : goal.items::item-structure_item-requires
 items::item-structure_item-requires t c = c.requires
 
-pub items::item-procedure_item-requires : goal.items::item-procedure_item-requires
-items::item-procedure_item-requires t c = (omega (arith, c.decreases), c.requires.sound)
-
 pub items::item-clause-requires : goal.items::item-clause-requires
 items::item-clause-requires t c = (omega (arith, c.decreases), c.requires.sound)
 
-pub items::items-optional_item-requires : goal.items::items-optional_item-requires
-items::items-optional_item-requires t c = (omega (arith, c.decreases), c.requires.sound)
+pub items::item-name_behind-requires : goal.items::item-name_behind-requires
+items::item-name_behind-requires t c = c.requires
 
-pub items::items-accept-requires : goal.items::items-accept-requires
-items::items-accept-requires t c = c.requires
-
-pub items::let_item-name_behind-requires : goal.items::let_item-name_behind-requires
-items::let_item-name_behind-requires t c = c.requires
-
-pub items::let_item-bound-requires : goal.items::let_item-bound-requires
-items::let_item-bound-requires t c = (omega (arith, c.decreases), c.requires.sound)
-
-pub items::let_item-bound-requires-in-Becomes : goal.items::let_item-bound-requires-in-Becomes
-items::let_item-bound-requires-in-Becomes t c = (omega (arith, c.decreases), c.requires.sound)
-
-pub items::let_item-unexpected-requires : goal.items::let_item-unexpected-requires
-items::let_item-unexpected-requires t c = c.requires.sound
+pub items::item-literal-requires : goal.items::item-literal-requires
+items::item-literal-requires t c = (omega (arith, c.decreases), c.requires.sound)
 
 pub items::literal-signature-requires : goal.items::literal-signature-requires
 items::literal-signature-requires t c = c.requires
@@ -802,14 +792,14 @@ items::literal-signature-requires t c = c.requires
 pub items::literal-after-requires : goal.items::literal-after-requires
 items::literal-after-requires t c = (omega (arith, c.decreases), c.requires.sound)
 
-pub items::optional_item-item-requires : goal.items::optional_item-item-requires
-items::optional_item-item-requires t c = (omega (arith, c.decreases), c.requires.sound)
+pub items::let_item-name_behind-requires : goal.items::let_item-name_behind-requires
+items::let_item-name_behind-requires t c = c.requires
 
-pub items::procedure_item-name_behind-requires : goal.items::procedure_item-name_behind-requires
-items::procedure_item-name_behind-requires t c = c.requires
+pub items::let_item-unexpected-requires : goal.items::let_item-unexpected-requires
+items::let_item-unexpected-requires t c = c.requires.sound
 
-pub items::procedure_item-literal-requires : goal.items::procedure_item-literal-requires
-items::procedure_item-literal-requires t c = (omega (arith, c.decreases), c.requires.sound)
+pub items::let_item-after-requires : goal.items::let_item-after-requires
+items::let_item-after-requires t c = (omega (arith, c.decreases), c.requires.sound)
 
 pub loops::counting-name_behind-requires : goal.loops::counting-name_behind-requires
 loops::counting-name_behind-requires t c = c.requires
@@ -859,14 +849,11 @@ operators::compared-chain-requires t c = (omega (arith, c.decreases), c.requires
 pub operators::compared-relation-requires : goal.operators::compared-relation-requires
 operators::compared-relation-requires t c = c.requires
 
-pub operators::compared-compares-requires : goal.operators::compared-compares-requires
-operators::compared-compares-requires t c = (omega (arith, c.decreases), c.requires.sound)
+pub operators::compared-chain-requires-in-Compares : goal.operators::compared-chain-requires-in-Compares
+operators::compared-chain-requires-in-Compares t c = (omega (arith, c.decreases), c.requires.sound)
 
-pub operators::compared-is_class-requires : goal.operators::compared-is_class-requires
-operators::compared-is_class-requires t c = c.requires
-
-pub operators::compares-chain-requires : goal.operators::compares-chain-requires
-operators::compares-chain-requires t c = (omega (arith, c.decreases), c.requires.sound)
+pub operators::compared-name-requires : goal.operators::compared-name-requires
+operators::compared-name-requires t c = c.requires
 
 pub operators::factor-accept-requires : goal.operators::factor-accept-requires
 operators::factor-accept-requires t c = c.requires
@@ -901,57 +888,6 @@ primaries::application-accept-requires t c = c.requires
 pub primaries::application-arguments-requires : goal.primaries::application-arguments-requires
 primaries::application-arguments-requires t c = (omega (arith, c.decreases), c.requires.sound)
 
-pub primaries::arguments-accept-requires : goal.primaries::arguments-accept-requires
-primaries::arguments-accept-requires t c = c.requires
-
-pub primaries::arguments-clause-requires : goal.primaries::arguments-clause-requires
-primaries::arguments-clause-requires t c = (omega (arith, c.decreases), c.requires.sound)
-
-pub primaries::arguments-second_argument-requires : goal.primaries::arguments-second_argument-requires
-primaries::arguments-second_argument-requires t c = (omega (arith, c.decreases), c.requires.sound)
-
-pub primaries::block-take-requires : goal.primaries::block-take-requires
-primaries::block-take-requires t c = c.requires
-
-pub primaries::block-items-requires : goal.primaries::block-items-requires
-primaries::block-items-requires t c = (omega (arith, c.decreases), c.requires.sound)
-
-pub primaries::block-take-requires-2 : goal.primaries::block-take-requires-2
-primaries::block-take-requires-2 t c = c.requires
-
-pub primaries::bound_of_vector-take-requires : goal.primaries::bound_of_vector-take-requires
-primaries::bound_of_vector-take-requires t c = c.requires
-
-pub primaries::bound_of_vector-bracketed-requires : goal.primaries::bound_of_vector-bracketed-requires
-primaries::bound_of_vector-bracketed-requires t c = (omega (arith, c.decreases), c.requires.sound)
-
-pub primaries::bracketed-after-requires : goal.primaries::bracketed-after-requires
-primaries::bracketed-after-requires t c = (omega (arith, c.decreases), c.requires.sound)
-
-pub primaries::bracketed-take-requires : goal.primaries::bracketed-take-requires
-primaries::bracketed-take-requires t c = c.requires
-
-pub primaries::elements-after-requires : goal.primaries::elements-after-requires
-primaries::elements-after-requires t c = (omega (arith, c.decreases), c.requires.sound)
-
-pub primaries::elements-element_type-requires : goal.primaries::elements-element_type-requires
-primaries::elements-element_type-requires t c = c.requires
-
-pub primaries::elements-after-requires-2 : goal.primaries::elements-after-requires-2
-primaries::elements-after-requires-2 t c = (omega (arith, c.decreases), c.requires.sound)
-
-pub primaries::elements-more_clauses-requires : goal.primaries::elements-more_clauses-requires
-primaries::elements-more_clauses-requires t c = (omega (arith, c.decreases), c.requires.sound)
-
-pub primaries::elements-take-requires : goal.primaries::elements-take-requires
-primaries::elements-take-requires t c = c.requires
-
-pub primaries::more_arguments-more_clauses-requires : goal.primaries::more_arguments-more_clauses-requires
-primaries::more_arguments-more_clauses-requires t c = (omega (arith, c.decreases), c.requires.sound)
-
-pub primaries::more_arguments-take-requires : goal.primaries::more_arguments-take-requires
-primaries::more_arguments-take-requires t c = c.requires
-
 pub primaries::primary-unexpected-requires : goal.primaries::primary-unexpected-requires
 primaries::primary-unexpected-requires t c = c.requires.sound
 
@@ -982,17 +918,62 @@ primaries::primary-bound_of_vector-requires t c = (omega (arith, c.decreases), c
 pub primaries::primary-elements-requires : goal.primaries::primary-elements-requires
 primaries::primary-elements-requires t c = (omega (arith, c.decreases), c.requires.sound)
 
-pub primaries::second_argument-accept-requires : goal.primaries::second_argument-accept-requires
-primaries::second_argument-accept-requires t c = c.requires
+pub primaries::bracketed-after-requires : goal.primaries::bracketed-after-requires
+primaries::bracketed-after-requires t c = (omega (arith, c.decreases), c.requires.sound)
 
-pub primaries::second_argument-clause-requires : goal.primaries::second_argument-clause-requires
-primaries::second_argument-clause-requires t c = (omega (arith, c.decreases), c.requires.sound)
+pub primaries::bracketed-take-requires : goal.primaries::bracketed-take-requires
+primaries::bracketed-take-requires t c = c.requires
 
-pub primaries::second_argument-take-requires : goal.primaries::second_argument-take-requires
-primaries::second_argument-take-requires t c = c.requires
+pub primaries::block-take-requires : goal.primaries::block-take-requires
+primaries::block-take-requires t c = c.requires
 
-pub primaries::second_argument-more_arguments-requires : goal.primaries::second_argument-more_arguments-requires
-primaries::second_argument-more_arguments-requires t c = (omega (arith, c.decreases), c.requires.sound)
+pub primaries::block-items-requires : goal.primaries::block-items-requires
+primaries::block-items-requires t c = (omega (arith, c.decreases), c.requires.sound)
+
+pub primaries::block-take-requires-2 : goal.primaries::block-take-requires-2
+primaries::block-take-requires-2 t c = c.requires
+
+pub primaries::bound_of_vector-take-requires : goal.primaries::bound_of_vector-take-requires
+primaries::bound_of_vector-take-requires t c = c.requires
+
+pub primaries::bound_of_vector-bracketed-requires : goal.primaries::bound_of_vector-bracketed-requires
+primaries::bound_of_vector-bracketed-requires t c = (omega (arith, c.decreases), c.requires.sound)
+
+pub primaries::elements-after-requires : goal.primaries::elements-after-requires
+primaries::elements-after-requires t c = (omega (arith, c.decreases), c.requires.sound)
+
+pub primaries::elements-element_type-requires : goal.primaries::elements-element_type-requires
+primaries::elements-element_type-requires t c = c.requires
+
+pub primaries::elements-after-requires-2 : goal.primaries::elements-after-requires-2
+primaries::elements-after-requires-2 t c = (omega (arith, c.decreases), c.requires.sound)
+
+pub primaries::elements-more_clauses-requires : goal.primaries::elements-more_clauses-requires
+primaries::elements-more_clauses-requires t c = (omega (arith, c.decreases), c.requires.sound)
+
+pub primaries::elements-take-requires : goal.primaries::elements-take-requires
+primaries::elements-take-requires t c = c.requires
+
+pub primaries::arguments-accept-requires : goal.primaries::arguments-accept-requires
+primaries::arguments-accept-requires t c = c.requires
+
+pub primaries::arguments-clause-requires : goal.primaries::arguments-clause-requires
+primaries::arguments-clause-requires t c = (omega (arith, c.decreases), c.requires.sound)
+
+pub primaries::arguments-accept-requires-2 : goal.primaries::arguments-accept-requires-2
+primaries::arguments-accept-requires-2 t c = c.requires
+
+pub primaries::arguments-clause-requires-in-Some-accept : goal.primaries::arguments-clause-requires-in-Some-accept
+primaries::arguments-clause-requires-in-Some-accept t c = (omega (arith, c.decreases), c.requires.sound)
+
+pub primaries::arguments-take-requires : goal.primaries::arguments-take-requires
+primaries::arguments-take-requires t c = c.requires
+
+pub primaries::arguments-more_clauses-requires : goal.primaries::arguments-more_clauses-requires
+primaries::arguments-more_clauses-requires t c = (omega (arith, c.decreases), c.requires.sound)
+
+pub primaries::arguments-take-requires-2 : goal.primaries::arguments-take-requires-2
+primaries::arguments-take-requires-2 t c = c.requires
 
 pub writing::writing-take-requires : goal.writing::writing-take-requires
 writing::writing-take-requires t c = c.requires

@@ -1,10 +1,10 @@
 use Rattle.std.proofs.Common.{ℕ, ◌+◌, ◌-◌, ◌*◌, length}
 use Rattle.ps_symbols.specs.declared.kind.Level.{Level}
 use Rattle.ps_symbols.specs.declared.kind.Level.TheVariants.{Disjunction, Conjunction, Sum, Product}
-use Rattle.ps_tree.specs.Phrase.{Phrases, none, no_arms, more, phrase_of}
+use Rattle.ps_tree.specs.Phrase.{Phrases, none, more, phrase_of}
 use Rattle.ps_tree.specs.PhraseLists.{phrases_in, arms_in, items_in}
 use Rattle.ps_tree.specs.Composing.{and_item}
-use Rattle.ps_reader.specs.Grammar.{Part, Rule, Go, Then, Application, Applied, Items, Cases, Chain, MoreChain, MoreWritten, Written, the_item, writing, line_at}
+use Rattle.ps_reader.specs.Grammar.{Part, Rule, Go, Then, Application, Applied, Items, Cases, Chain, MoreChain, MoreWritten, Written, the_item, choosing, writing, line_at}
 use Rattle.ps_reader.specs.inside.Parsing.{GoesOn}
 use Rattle.ps_clauses.specs.inside.Clauses.{IsList}
 use Rattle.ps_clauses.proofs.+parsing.Given as goal
@@ -19,26 +19,17 @@ rank_of Sum = 13
 rank_of Conjunction = 18
 rank_of Disjunction = 20
 
-abbrev pub decreases-cases::arm : goal.decreases-cases::arm
-decreases-cases::arm l = work l.room 2
-
-abbrev pub decreases-cases::cases : goal.decreases-cases::cases
-decreases-cases::cases l = work l.room 3
-
 abbrev pub decreases-cases::choosing : goal.decreases-cases::choosing
-decreases-cases::choosing l = work l.room 4
+decreases-cases::choosing l = work l.room 2
 
 abbrev pub decreases-clauses::after : goal.decreases-clauses::after
 decreases-clauses::after l = work l.room 1
-
-abbrev pub decreases-clauses::choice : goal.decreases-clauses::choice
-decreases-clauses::choice l = work l.room 2
 
 abbrev pub decreases-clauses::clause : goal.decreases-clauses::clause
 decreases-clauses::clause l = work l.room 0
 
 abbrev pub decreases-clauses::condition : goal.decreases-clauses::condition
-decreases-clauses::condition l = work l.room 3
+decreases-clauses::condition l = work l.room 2
 
 abbrev pub decreases-clauses::expression : goal.decreases-clauses::expression
 decreases-clauses::expression l = work l.room 22
@@ -58,9 +49,6 @@ decreases-clauses::optional l = work l.room 1
 abbrev pub decreases-clauses::procedure : goal.decreases-clauses::procedure
 decreases-clauses::procedure l = work l.room 3
 
-abbrev pub decreases-items::bound : goal.decreases-items::bound
-decreases-items::bound l = work l.room 2
-
 abbrev pub decreases-items::item : goal.decreases-items::item
 decreases-items::item l = work l.room 4
 
@@ -68,16 +56,13 @@ abbrev pub decreases-items::items : goal.decreases-items::items
 decreases-items::items l = work l.room 6
 
 abbrev pub decreases-items::let_item : goal.decreases-items::let_item
-decreases-items::let_item l = work l.room 3
+decreases-items::let_item l = work l.room 2
 
 abbrev pub decreases-items::literal : goal.decreases-items::literal
 decreases-items::literal l = work l.room 2
 
 abbrev pub decreases-items::optional_item : goal.decreases-items::optional_item
 decreases-items::optional_item l = work l.room 5
-
-abbrev pub decreases-items::procedure_item : goal.decreases-items::procedure_item
-decreases-items::procedure_item l = work l.room 3
 
 abbrev pub decreases-loops::counting : goal.decreases-loops::counting
 decreases-loops::counting l = work l.room 2
@@ -94,9 +79,6 @@ decreases-operators::chain l = work l.room (rank_of l.level + 1)
 abbrev pub decreases-operators::compared : goal.decreases-operators::compared
 decreases-operators::compared l = work l.room 16
 
-abbrev pub decreases-operators::compares : goal.decreases-operators::compares
-decreases-operators::compares l = work l.room 15
-
 abbrev pub decreases-operators::factor : goal.decreases-operators::factor
 decreases-operators::factor l = work l.room 10
 
@@ -110,7 +92,7 @@ abbrev pub decreases-primaries::application : goal.decreases-primaries::applicat
 decreases-primaries::application l = work l.room 9
 
 abbrev pub decreases-primaries::arguments : goal.decreases-primaries::arguments
-decreases-primaries::arguments l = work l.room 4
+decreases-primaries::arguments l = work l.room 2
 
 abbrev pub decreases-primaries::block : goal.decreases-primaries::block
 decreases-primaries::block l = work l.room 7
@@ -124,14 +106,8 @@ decreases-primaries::bracketed l = work l.room 2
 abbrev pub decreases-primaries::elements : goal.decreases-primaries::elements
 decreases-primaries::elements l = work l.room 2
 
-abbrev pub decreases-primaries::more_arguments : goal.decreases-primaries::more_arguments
-decreases-primaries::more_arguments l = work l.room 2
-
 abbrev pub decreases-primaries::primary : goal.decreases-primaries::primary
 decreases-primaries::primary l = work l.room 8
-
-abbrev pub decreases-primaries::second_argument : goal.decreases-primaries::second_argument
-decreases-primaries::second_argument l = work l.room 3
 
 abbrev pub decreases-writing::writing : goal.decreases-writing::writing
 decreases-writing::writing l = work l.room 2
@@ -139,11 +115,11 @@ decreases-writing::writing l = work l.room 2
 abbrev pub decreases-writing::written : goal.decreases-writing::written
 decreases-writing::written l = work l.room 1
 
-abbrev pub invariant-cases::cases-loop-at : goal.invariant-cases::cases-loop-at
-invariant-cases::cases-loop-at l = GoesOn l.reader l.room (Go (Cases l.line (phrase_of l.e) no_arms)) l.fn.at (Go (Cases l.line (phrase_of l.e) (arms_in l.arms.items))) l.at
+abbrev pub invariant-cases::choosing-loop-at : goal.invariant-cases::choosing-loop-at
+invariant-cases::choosing-loop-at l = GoesOn l.reader l.room choosing l.fn.at (Go (Cases (line_at l.word) (phrase_of l.e) (arms_in l.arms.items))) l.at
 
-abbrev pub decreases-cases::cases-loop-at : goal.decreases-cases::cases-loop-at
-decreases-cases::cases-loop-at l = length l.reader.symbols.now - l.at
+abbrev pub decreases-cases::choosing-loop-at : goal.decreases-cases::choosing-loop-at
+decreases-cases::choosing-loop-at l = length l.reader.symbols.now - l.at
 
 abbrev pub invariant-clauses::more_clauses-loop-at : goal.invariant-clauses::more_clauses-loop-at
 invariant-clauses::more_clauses-loop-at l = (part : Phrases → Part) (rest : Phrases → Rule) → IsList l.reader.text.now part rest → GoesOn l.reader l.room (Go (part (more (phrase_of l.fn.first) none))) l.fn.at (Go (part (phrases_in l.clauses.items))) l.at

@@ -1,5 +1,5 @@
 -- What the private contracts of the parser say: pieces of clauses, and what stands behind them.
-use Rattle.std.specs.Prelude.{◌≡◌, ◌≢◌, ℕ, List, Bool, false, Some}
+use Rattle.std.specs.Prelude.{◌≡◌, ◌≢◌, ℕ, List, Bool, true, false, Option, Some, None}
 use Rattle.std.specs.declared.result.Result.{Result}
 use Rattle.ps_base.specs.declared.line.Line.{Line}
 use Rattle.ps_base.specs.declared.operator.Relation.{Relation}
@@ -33,6 +33,12 @@ behind_relation left op line = clause_of (Go (Chain Sum)) (λ right. give (form.
 
 abbrev pub behind_is : List ℕ → Phrase → Bool → Line → Rule
 behind_is text left negated line = Take kind.Name (λ name. give (form.Is left (name_at text name) negated) line)
+
+-- whether the mark behind the name of a `let` makes a variable of it; none where it is neither of the two
+abbrev pub makes_variable : Kind → Option Bool
+makes_variable kind.Equals = Some false
+makes_variable kind.Becomes = Some true
+makes_variable _ = None
 
 -- an arm of a `case` behind those before it, and the further ones
 abbrev pub an_arm : Line → Phrase → Arms → Rule
