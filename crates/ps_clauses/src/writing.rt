@@ -17,7 +17,7 @@ pub(crate) fn writing(reader: &Reader, at: &mut usize, room: u32) -> Result<Roug
     ensures { ReadsClause reader.now room writing at.old result at.new }
 {
     let word = reader.take(at, Kind::Write)?;
-    let mut items = Vec::new(reader.alloc);
+    let mut items = Vec::with_capacity(reader.alloc, 1)?;
     loop {
         let item = written(reader, at, room)?;
         items.push(item)?;

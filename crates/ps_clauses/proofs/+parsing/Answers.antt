@@ -602,7 +602,7 @@ writing::writing-returns-in_err-word t c = failed _ _ c.from_residual.ensures.1 
 pub writing::writing-loop-items-init : goal.writing::writing-loop-items-init
 writing::writing-loop-items-init t c =
     on (took c.in_ok-word.ensures) (items_begin (λ all. Then (Go Written) (λ one. Go (MoreWritten (line_at c.in_ok-word.word) (and_item all
-    (the_item one))))) c.new-items.ensures.items)
+    (the_item one))))) c.in_ok-items.ensures.items)
 
 pub writing::writing-returns-in_err-item : goal.writing::writing-returns-in_err-item
 writing::writing-returns-in_err-item t c =
