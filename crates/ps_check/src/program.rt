@@ -74,7 +74,7 @@ fn owned_items(
 {
     let mut rest = items;
     rest.reverse();
-    let mut trees = Vec::new(checker.alloc);
+    let mut trees = Vec::with_capacity(checker.alloc, 1)?;
     let mut last = Ty::Void;
     let mut line = line;
     let mut sizes = Sizes::none();

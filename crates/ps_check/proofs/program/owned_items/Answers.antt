@@ -14,14 +14,14 @@ use Rattle.ps_check.proofs.program.owned_items.Goals as goal
 
 pub loop-item-init : goal.loop-item-init
 loop-item-init c = record {
-  checked = ap (λ ts. after (after_nodes ts) (check_all (names_of c.args.checker.now.scope) c.args.line Void (phrases_in (reverse c.reverse.new.self.items)))) c.new-trees.ensures.items ∙ after_nothing _ _ (λ ts. refl);
-  sized = c.none-sizes.ensures ∙ ap (λ ts. size_items (nodes_in ts)) (sym c.new-trees.ensures.items);
+  checked = ap (λ ts. after (after_nodes ts) (check_all (names_of c.args.checker.now.scope) c.args.line Void (phrases_in (reverse c.reverse.new.self.items)))) c.in_ok-trees.ensures.items ∙ after_nothing _ _ (λ ts. refl);
+  sized = c.none-sizes.ensures ∙ ap (λ ts. size_items (nodes_in ts)) (sym c.in_ok-trees.ensures.items);
 }
 
 pub returns-in_err-void_before : goal.returns-in_err-void_before
 returns-in_err-void_before c =
     let cut = next_taken c.loop-item.rest.items c.pop.new.self.items c.in-Some.item c.in-Some.ensures.items in
-    exits c.from_residual.result _ c.in_err-void_before.field-0.0 _ c.from_residual.ensures.1
+    exits c.from_residual-in_err-void_before.result _ c.in_err-void_before.field-0.0 _ c.from_residual-in_err-void_before.ensures.1
     (fails_as _ _ _ (sym (ap (check_all (names_of c.args.checker.now.scope) c.args.line Void) (all_left c.args.items.items c.reverse.new.self.items c.reverse.ensures.items)))
     (fails_after _ _ _ _ c.loop-item.invariant.checked
     (fails_as _ _ _ (ap (check_all (names_of c.loop-item.checker.scope) c.loop-item.line (ty_view c.loop-item.last)) cut ∙ all_is (names_of c.loop-item.checker.scope) c.loop-item.line (ty_view c.loop-item.last) (phrase_of c.in-Some.item) (phrases_in (reverse c.pop.new.self.items)))
