@@ -48,6 +48,7 @@ pub fn listed(
     let items = List::new(items);
     let ty = ty::vector_of(alloc, element.copy()?)?;
     let gives = ty.copy()?;
+    let ty = Box::new(alloc, ty)?;
     Clause::new(alloc, TreeForm::Elems { l, items, ty, line }, gives)
 }
 

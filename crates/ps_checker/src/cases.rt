@@ -33,6 +33,7 @@ impl Checker {
         let Arms { arms, given } = self.arms(&ty, arms)?;
         let Clause { tree: d, ty: gives } = self.part(d, Wanted::like(given))?;
         let arms = List::new(arms);
+        let ty = Box::new(self.alloc, ty)?;
         Clause::new(self.alloc, TreeForm::Case { e, arms, d, ty }, gives)
     }
 

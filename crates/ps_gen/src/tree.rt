@@ -69,9 +69,9 @@ fn behind(emitter: &mut Emitter, link: &Tree, known: Known) -> Result<(), AllocE
         }
         TreeForm::SetField {
             class,
-            index,
             ty,
             e,
+            index,
             line,
             ..
         } => {

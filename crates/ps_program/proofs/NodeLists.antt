@@ -53,10 +53,10 @@ make_is form class args ts form_is ts_is =
     let row = row_of (code.Make class args) in
     ap node_of_form form_is ∙ ap (node.Make (rc_value class)) (rows row.0 row.1 ∙ ap nodes_in (items_hidden-the_row-Tree-0 args.vec ∙ sym ts_is))
 
-pub elems_is : (form : TreeForm) (l : Tree) (items : ListOf Tree) (ty : Ty) (line : Line) (ts : List Tree) → form ≡ code.Elems l items ty line → ts ≡ items_of items → node_of_form form ≡ node.Elems (node_of l) (nodes_in ts) (ty_view ty) line
+pub elems_is : (form : TreeForm) (l : Tree) (items : ListOf Tree) (ty : Box Ty Global) (line : Line) (ts : List Tree) → form ≡ code.Elems l items ty line → ts ≡ items_of items → node_of_form form ≡ node.Elems (node_of l) (nodes_in ts) (ty_view ty.value) line
 elems_is form l items ty line ts form_is ts_is =
     let row = row_of (code.Elems l items ty line) in
-    ap node_of_form form_is ∙ ap (λ (ns : Nodes). node.Elems (node_of l) ns (ty_view ty) line) (rows row.0 row.1 ∙ ap nodes_in (items_hidden-the_row-Tree-0 items.vec ∙ sym ts_is))
+    ap node_of_form form_is ∙ ap (λ (ns : Nodes). node.Elems (node_of l) ns (ty_view ty.value) line) (rows row.0 row.1 ∙ ap nodes_in (items_hidden-the_row-Tree-0 items.vec ∙ sym ts_is))
 
 pub call_is : (form : TreeForm) (f : Tree) (args : ListOf Tree) (line : Line) (ts : List Tree) → form ≡ code.Call f args line → ts ≡ items_of args → node_of_form form ≡ node.Call (node_of f) (nodes_in ts) line
 call_is form f args line ts form_is ts_is =
@@ -68,10 +68,10 @@ lib_is form k args line ts form_is ts_is =
     let row = row_of (code.Lib k args line) in
     ap node_of_form form_is ∙ ap (λ (ns : Nodes). node.Lib k ns line) (rows row.0 row.1 ∙ ap nodes_in (items_hidden-the_row-Tree-0 args.vec ∙ sym ts_is))
 
-pub case_is : (form : TreeForm) (e : Tree) (arms : ListOf ArmOf) (d : Tree) (ty : Ty) (ts : List ArmOf) → form ≡ code.Case e arms d ty → ts ≡ items_of arms → node_of_form form ≡ node.Case (node_of e) (arms_in ts) (node_of d) (ty_view ty)
+pub case_is : (form : TreeForm) (e : Tree) (arms : ListOf ArmOf) (d : Tree) (ty : Box Ty Global) (ts : List ArmOf) → form ≡ code.Case e arms d ty → ts ≡ items_of arms → node_of_form form ≡ node.Case (node_of e) (arms_in ts) (node_of d) (ty_view ty.value)
 case_is form e arms d ty ts form_is ts_is =
     let row = arms_row_of (code.Case e arms d ty) in
-    ap node_of_form form_is ∙ ap (λ (a : Arms). node.Case (node_of e) a (node_of d) (ty_view ty)) (arm_rows row.0 row.1 ∙ ap arms_in (items_hidden-the_row-Arm-1 arms.vec ∙ sym ts_is))
+    ap node_of_form form_is ∙ ap (λ (a : Arms). node.Case (node_of e) a (node_of d) (ty_view ty.value)) (arm_rows row.0 row.1 ∙ ap arms_in (items_hidden-the_row-Arm-1 arms.vec ∙ sym ts_is))
 
 -- the labels of an arm, and its clause
 pub arm_of-parts : (a : ArmOf) → arm_of a ≡ arm (nodes_in (items_of (out-Arm a).labels)) (node_of (out-Arm a).a)

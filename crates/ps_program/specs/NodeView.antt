@@ -36,7 +36,7 @@ abbrev mutual
   node_of_form (code.While' p c q a) = node.While (node_of_form c) (node_of_form a)
   node_of_form (code.Repeat' p a q c r b) = node.Repeat (node_of_form a) (node_of_form c) (node_of_form b)
   node_of_form (code.For' o slot p a q b r c scope control t s line) = node.For slot (node_of_form a) (node_of_form b) (node_of_form c) scope control (node_of_form s) line
-  node_of_form (code.Case' p e shape arms q d ty) = node.Case (node_of_form e) (arms_of arms) (node_of_form d) (ty_view ty)
+  node_of_form (code.Case' p e shape arms q d ty) = node.Case (node_of_form e) (arms_of arms) (node_of_form d) (ty_view ty.value)
   node_of_form (code.And' p a q b) = node.And (node_of_form a) (node_of_form b)
   node_of_form (code.Or' p a q b) = node.Or (node_of_form a) (node_of_form b)
   node_of_form (code.Not' p e) = node.Not (node_of_form e)
@@ -49,9 +49,9 @@ abbrev mutual
   node_of_form (code.Part' p a q i r n line) = node.Part (node_of_form a) (node_of_form i) (node_of_form n) line
   node_of_form (code.Make' class shape args) = node.Make (rc_value class) (nodes_of args)
   node_of_form (code.Field' p e class index ty line) = node.Field (node_of_form e) (rc_value class) index (ty_view ty) line
-  node_of_form (code.SetField' p e class index ty q x line) = node.SetField (node_of_form e) (rc_value class) index (ty_view ty) (node_of_form x) line
+  node_of_form (code.SetField' p e class ty q x index line) = node.SetField (node_of_form e) (rc_value class) index (ty_view ty) (node_of_form x) line
   node_of_form (code.Fill' p l q u r e ty line) = node.Fill (node_of_form l) (node_of_form u) (node_of_form e) (ty_view ty) line
-  node_of_form (code.Elems' p l shape items ty line) = node.Elems (node_of_form l) (nodes_of items) (ty_view ty) line
+  node_of_form (code.Elems' p l shape items ty line) = node.Elems (node_of_form l) (nodes_of items) (ty_view ty.value) line
   node_of_form (code.Element' p v q i ty line) = node.Element (node_of_form v) (node_of_form i) (ty_view ty) line
   node_of_form (code.SetElement' p v q i r e ty line) = node.SetElement (node_of_form v) (node_of_form i) (node_of_form e) (ty_view ty) line
   node_of_form (code.Bound' p v upper) = node.Bound (node_of_form v) upper

@@ -19,7 +19,8 @@ pub struct Tree {
 }
 
 /// What a typed clause is made of. A tree has one for each operator and each operand of a text, and all are as large as the
-/// largest: so none has more than 56 bytes. Types and class texts are shared, since a text may mention one very often.
+/// largest: so none has more than 48 bytes of fields, for which the types of `Case` and `Elems` are in boxes of their own and
+/// the small fields stand side by side. Types and class texts are shared, since a text may mention one very often.
 #[cycle(tree)]
 pub enum TreeForm {
     Int(i32),
@@ -76,7 +77,7 @@ pub enum TreeForm {
         e: Tree,
         arms: List<Arm>,
         d: Tree,
-        ty: Ty,
+        ty: Box<Ty>,
     },
     And {
         a: Tree,
@@ -138,9 +139,9 @@ pub enum TreeForm {
     SetField {
         p: Tree,
         class: Rc<Bytes>,
-        index: u32,
         ty: Ty,
         e: Tree,
+        index: u32,
         line: Line,
     },
     /// A vector of the type, from `l` to `u`, filled with `e`.
@@ -155,7 +156,7 @@ pub enum TreeForm {
     Elems {
         l: Tree,
         items: List<Tree>,
-        ty: Ty,
+        ty: Box<Ty>,
         line: Line,
     },
     /// The element of `v` at `i`, which is of the type.
@@ -281,9 +282,9 @@ impl TreeForm {
             } => Some(TreeForm::SetField {
                 p: e,
                 class,
-                index,
                 ty,
                 e: value,
+                index,
                 line,
             }),
             _ => None,
@@ -371,9 +372,9 @@ impl Drop for TreeForm {
                 TreeForm::SetField {
                     p: _,
                     class: _,
-                    index: _,
                     ty: _,
                     e: _,
+                    index: _,
                     line: _,
                 } => return,
                 TreeForm::Fill {

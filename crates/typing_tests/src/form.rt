@@ -184,15 +184,14 @@ fn ty_of(form: &TreeForm) -> Option<&Ty> {
         TreeForm::Name { ty, .. }
         | TreeForm::SetName { ty, .. }
         | TreeForm::Let { ty, .. }
-        | TreeForm::Case { ty, .. }
         | TreeForm::Compare { ty, .. }
         | TreeForm::Field { ty, .. }
         | TreeForm::SetField { ty, .. }
         | TreeForm::Fill { ty, .. }
-        | TreeForm::Elems { ty, .. }
         | TreeForm::Element { ty, .. }
         | TreeForm::SetElement { ty, .. }
         | TreeForm::Write { ty, .. } => Some(ty),
+        TreeForm::Case { ty, .. } | TreeForm::Elems { ty, .. } => Some(ty),
         _ => None,
     }
 }

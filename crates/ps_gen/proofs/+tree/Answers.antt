@@ -224,11 +224,13 @@ tree::form-returns-in-Block t c =
 pub tree::form-case-requires : goal.tree::form-case-requires
 tree::form-case-requires t c =
     let whole = ap weight (case_is _ c.in-Case.e c.in-Case.arms c.in-Case.d c.in-Case.ty _ (sym c.deref.ensures ∙ c.in-Case.is) c.as_slice-in-Case.ensures) in
-    (omega (arith, c.decreases, whole, case_weight (node_of c.in-Case.e) (arms_in c.as_slice-in-Case.result.now) (node_of c.in-Case.d) (ty_view c.in-Case.ty)), tt)
+    (omega (arith, c.decreases, whole, case_weight (node_of c.in-Case.e) (arms_in c.as_slice-in-Case.result.now) (node_of c.in-Case.d) (ty_view c.in-Case.ty.value)), tt)
 
 pub tree::form-returns-in-Case : goal.tree::form-returns-in-Case
 tree::form-returns-in-Case t c =
-    let is = case_is _ c.in-Case.e c.in-Case.arms c.in-Case.d c.in-Case.ty _ (sym c.deref.ensures ∙ c.in-Case.is) c.as_slice-in-Case.ensures in
+    let arms = arms_in c.as_slice-in-Case.result.now in
+    let is = case_is _ c.in-Case.e c.in-Case.arms c.in-Case.d c.in-Case.ty _ (sym c.deref.ensures ∙ c.in-Case.is) c.as_slice-in-Case.ensures
+    ∙ ap (λ ty. node.Case (node_of c.in-Case.e) arms (node_of c.in-Case.d) (ty_view ty)) (sym c.deref-in-Case.ensures) in
     subst (λ n. OnOk c.case.result (Puts (made n) (state_of c.args.emitter.now) (state_of c.case.new.emitter))) (sym is) c.case.ensures
 
 pub tree::form-all-requires : goal.tree::form-all-requires
@@ -245,11 +247,13 @@ tree::form-returns-in_ok-all-in-Make t c =
 pub tree::form-vector_of-requires : goal.tree::form-vector_of-requires
 tree::form-vector_of-requires t c =
     let whole = ap weight (elems_is _ c.in-Elems.l c.in-Elems.items c.in-Elems.ty c.in-Elems.line _ (sym c.deref.ensures ∙ c.in-Elems.is) c.as_slice-in-Elems.ensures) in
-    (omega (arith, c.decreases, whole, elems_weight (node_of c.in-Elems.l) (nodes_in c.as_slice-in-Elems.result.now) (ty_view c.in-Elems.ty) c.in-Elems.line), tt)
+    (omega (arith, c.decreases, whole, elems_weight (node_of c.in-Elems.l) (nodes_in c.as_slice-in-Elems.result.now) (ty_view c.in-Elems.ty.value) c.in-Elems.line), tt)
 
 pub tree::form-returns-in-Elems : goal.tree::form-returns-in-Elems
 tree::form-returns-in-Elems t c =
-    let is = elems_is _ c.in-Elems.l c.in-Elems.items c.in-Elems.ty c.in-Elems.line _ (sym c.deref.ensures ∙ c.in-Elems.is) c.as_slice-in-Elems.ensures in
+    let items = nodes_in c.as_slice-in-Elems.result.now in
+    let is = elems_is _ c.in-Elems.l c.in-Elems.items c.in-Elems.ty c.in-Elems.line _ (sym c.deref.ensures ∙ c.in-Elems.is) c.as_slice-in-Elems.ensures
+    ∙ ap (λ ty. node.Elems (node_of c.in-Elems.l) items (ty_view ty) c.in-Elems.line) (sym c.deref-in-Elems.ensures) in
     subst (λ n. OnOk c.vector_of.result (Puts (made n) (state_of c.args.emitter.now) (state_of c.vector_of.new.emitter))) (sym is) c.vector_of.ensures
 
 pub tree::form-all_then-requires : goal.tree::form-all_then-requires

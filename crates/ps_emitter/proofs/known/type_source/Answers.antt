@@ -20,4 +20,4 @@ pub returns-in-Case : goal.returns-in-Case
 returns-in-Case c =
     let is = case_is _ c.in-Case.e c.in-Case.arms c.in-Case.d c.in-Case.ty _ (sym c.deref.ensures ∙ c.in-Case.is) refl in
     let whole = ap weight is in
-    (ap type_of is, omega (arith, whole, case_weight (node_of c.in-Case.e) (arms_in (items_of c.in-Case.arms)) (node_of c.in-Case.d) (ty_view c.in-Case.ty)))
+    (ap type_of is, omega (arith, whole, case_weight (node_of c.in-Case.e) (arms_in (items_of c.in-Case.arms)) (node_of c.in-Case.d) (ty_view c.in-Case.ty.value)))

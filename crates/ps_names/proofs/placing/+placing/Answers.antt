@@ -294,7 +294,7 @@ place_parts-place_block-requires t c =
 pub place_parts-place_case-requires : goal.place_parts-place_case-requires
 place_parts-place_case-requires t c =
     let arms = arms_in (items_of c.in-Case.arms) in
-    let is = weight_is (node.Case (node_of c.in-Case.e) arms (node_of c.in-Case.d) (ty_view c.in-Case.ty)) in
+    let is = weight_is (node.Case (node_of c.in-Case.e) arms (node_of c.in-Case.d) (ty_view c.in-Case.ty.value)) in
     let sum = weight_parts-append (parts_arms arms) (branch (node_of c.in-Case.d) ∷ []) in
     let all = weight_of_arms arms in
     case_falls _ _ c.in-Case.e _ c.in-Case.arms _ c.in-Case.d _ t c.decreases (case_is _ c.in-Case.e c.in-Case.arms c.in-Case.d c.in-Case.ty _ c.in-Case.is refl) c.in-Case.e-is c.in-Case.arms-is c.in-Case.d-is (omega (arith, all, sum, is))
@@ -398,7 +398,7 @@ place_parts-place_triple-requires-in-SetElement t c =
 pub place_parts-place_with_all-requires : goal.place_parts-place_with_all-requires
 place_parts-place_with_all-requires t c =
     let all = weight_of_all operand (λ n. refl) (nodes_in (items_of c.in-Elems.items)) in
-    let is = weight_is (node.Elems (node_of c.in-Elems.l) (nodes_in (items_of c.in-Elems.items)) (ty_view c.in-Elems.ty) c.in-Elems.line) in
+    let is = weight_is (node.Elems (node_of c.in-Elems.l) (nodes_in (items_of c.in-Elems.items)) (ty_view c.in-Elems.ty.value) c.in-Elems.line) in
     with_all_falls _ _ c.in-Elems.l _ c.in-Elems.items _ t c.decreases (elems_is _ c.in-Elems.l c.in-Elems.items c.in-Elems.ty c.in-Elems.line _ c.in-Elems.is refl) c.in-Elems.l-is c.in-Elems.items-is (omega (arith, all, is))
 
 pub place_parts-returns-in-And : goal.place_parts-returns-in-And
@@ -435,7 +435,7 @@ pub place_parts-returns-in-Case : goal.place_parts-returns-in-Case
 unfolding ◌>>=◌ then_give out-TreeForm denote.Hole.Carrier.out
 place_parts-returns-in-Case t c =
     let is : c.args.form.now ≡ code.Case c.in-Case.e c.in-Case.arms c.in-Case.d c.in-Case.ty = c.in-Case.is in
-    formed_to placed_parts _ (λ (x : Case). node.Case x.tested.first x.tested.arms x.last (ty_view c.in-Case.ty)) _ _ _ (code.Case c.place_case.new.e c.place_case.new.arms c.place_case.new.d c.in-Case.ty) _ _ _ c.place_case.result (at_three case_does _ _ _ _ _ _ _ _ _ c.place_case.result c.in-Case.e-is c.in-Case.arms-is c.in-Case.d-is c.place_case.ensures)
+    formed_to placed_parts _ (λ (x : Case). node.Case x.tested.first x.tested.arms x.last (ty_view c.in-Case.ty.value)) _ _ _ (code.Case c.place_case.new.e c.place_case.new.arms c.place_case.new.d c.in-Case.ty) _ _ _ c.place_case.result (at_three case_does _ _ _ _ _ _ _ _ _ c.place_case.result c.in-Case.e-is c.in-Case.arms-is c.in-Case.d-is c.place_case.ensures)
     (case_is _ c.in-Case.e c.in-Case.arms c.in-Case.d c.in-Case.ty _ is refl) (λ around locals. refl) (case_is (code.Case c.place_case.new.e c.place_case.new.arms c.place_case.new.d c.in-Case.ty) c.place_case.new.e c.place_case.new.arms c.place_case.new.d c.in-Case.ty (items_of c.place_case.new.arms) refl refl) (rw is)
 
 pub place_parts-returns-in-Compare : goal.place_parts-returns-in-Compare
@@ -454,7 +454,7 @@ pub place_parts-returns-in-Elems : goal.place_parts-returns-in-Elems
 unfolding ◌>>=◌ then_give out-TreeForm denote.Hole.Carrier.out
 place_parts-returns-in-Elems t c =
     let is : c.args.form.now ≡ code.Elems c.in-Elems.l c.in-Elems.items c.in-Elems.ty c.in-Elems.line = c.in-Elems.is in
-    formed_to placed_parts _ (λ (x : WithAll). node.Elems x.first x.items (ty_view c.in-Elems.ty) c.in-Elems.line) _ _ _ (code.Elems c.place_with_all.new.first c.place_with_all.new.items c.in-Elems.ty c.in-Elems.line) _ _ _ c.place_with_all.result (at_two with_all_does _ _ _ _ _ _ _ c.place_with_all.result c.in-Elems.l-is c.in-Elems.items-is c.place_with_all.ensures)
+    formed_to placed_parts _ (λ (x : WithAll). node.Elems x.first x.items (ty_view c.in-Elems.ty.value) c.in-Elems.line) _ _ _ (code.Elems c.place_with_all.new.first c.place_with_all.new.items c.in-Elems.ty c.in-Elems.line) _ _ _ c.place_with_all.result (at_two with_all_does _ _ _ _ _ _ _ c.place_with_all.result c.in-Elems.l-is c.in-Elems.items-is c.place_with_all.ensures)
     (elems_is _ c.in-Elems.l c.in-Elems.items c.in-Elems.ty c.in-Elems.line _ is refl) (λ around locals. refl) (elems_is (code.Elems c.place_with_all.new.first c.place_with_all.new.items c.in-Elems.ty c.in-Elems.line) c.place_with_all.new.first c.place_with_all.new.items c.in-Elems.ty c.in-Elems.line (items_of c.place_with_all.new.items) refl refl) (rw is)
 
 pub place_parts-returns-in-Fill : goal.place_parts-returns-in-Fill
@@ -567,7 +567,7 @@ place_parts-returns-in-SetElement t c =
 pub place_parts-returns-in-SetField : goal.place_parts-returns-in-SetField
 unfolding ◌>>=◌ then_give out-TreeForm denote.Hole.Carrier.out
 place_parts-returns-in-SetField t c =
-    let is : c.args.form.now ≡ code.SetField c.in-SetField.p c.in-SetField.class c.in-SetField.index c.in-SetField.ty c.in-SetField.e c.in-SetField.line = c.in-SetField.is in
+    let is : c.args.form.now ≡ code.SetField c.in-SetField.p c.in-SetField.class c.in-SetField.ty c.in-SetField.e c.in-SetField.index c.in-SetField.line = c.in-SetField.is in
     formed placed_parts _ (λ (x : Pair). node.SetField x.first (rc_value c.in-SetField.class) c.in-SetField.index (ty_view c.in-SetField.ty) x.second c.in-SetField.line) _ _ _ _ _ _ c.place_pair-in-SetField.result (at_two pair_does _ _ _ _ _ _ _ c.place_pair-in-SetField.result c.in-SetField.p-is c.in-SetField.e-is c.place_pair-in-SetField.ensures) (ap node_of_form is) (λ around locals. refl) (rw is)
 
 pub place_parts-returns-in-SetName : goal.place_parts-returns-in-SetName

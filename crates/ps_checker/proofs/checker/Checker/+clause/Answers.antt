@@ -503,7 +503,7 @@ pub case_of-returns-in_err-d : goal.case_of-returns-in_err-d
 case_of-returns-in_err-d t c = exits c.from_residual-in_err-d.result _ c.in_err-d.field-0.0 _ c.from_residual-in_err-d.ensures.1 (fails_next _ _ _ _ _ _ (c.in_ok-e.ensures) (fails_next _ _ _ _ _ _ (c.in_ok-arms.ensures.1) (fails_first _ _ _ (subst (λ g. IsFault (like g c.args.d.now.line (check (names_of c.arms.new.self.scope) (phrase_of c.args.d.now))) c.in_err-d.field-0.0) (sym c.in_ok-arms.ensures.2) (fails_as _ _ _ (sym (c.like.ensures _ _)) c.in_err-d.ensures)))))
 
 pub case_of-returns : goal.case_of-returns
-case_of-returns t c = made _ _ _ _ c.new.result (given _ _ _ _ _ (c.in_ok-e.ensures) ∙ given _ _ _ _ _ (c.in_ok-arms.ensures.1) ∙ given _ _ _ _ _ (subst (λ g. like g c.args.d.now.line (check (names_of c.arms.new.self.scope) (phrase_of c.args.d.now)) ≡ Gives (node_of c.in_ok-d.field-0.tree) (ty_view c.in_ok-d.field-0.ty) (names_of c.part-2.new.self.scope)) (sym c.in_ok-arms.ensures.2) (sym (c.like.ensures _ _) ∙ c.in_ok-d.ensures))) (remade _ _ _ c.new.result (case_is _ c.in_ok-e.field-0.tree _ c.in_ok-d.field-0.tree c.in_ok-e.field-0.ty c.in_ok-arms.field-0.arms.items refl (sym c.new-arms.ensures)) c.new.ensures)
+case_of-returns t c = made _ _ _ _ c.new-2.result (given _ _ _ _ _ (c.in_ok-e.ensures) ∙ given _ _ _ _ _ (c.in_ok-arms.ensures.1) ∙ given _ _ _ _ _ (subst (λ g. like g c.args.d.now.line (check (names_of c.arms.new.self.scope) (phrase_of c.args.d.now)) ≡ Gives (node_of c.in_ok-d.field-0.tree) (ty_view c.in_ok-d.field-0.ty) (names_of c.part-2.new.self.scope)) (sym c.in_ok-arms.ensures.2) (sym (c.like.ensures _ _) ∙ c.in_ok-d.ensures))) (remade _ _ _ c.new-2.result (case_is _ c.in_ok-e.field-0.tree _ c.in_ok-d.field-0.tree c.in_ok-ty.ty c.in_ok-arms.field-0.arms.items refl (sym c.new-arms.ensures) ∙ ap (λ ty. node.Case (node_of c.in_ok-e.field-0.tree) (arms_in c.in_ok-arms.field-0.arms.items) (node_of c.in_ok-d.field-0.tree) (ty_view ty)) c.in_ok-ty.ensures.ok) c.new-2.ensures)
 
 pub case_of-part-requires : goal.case_of-part-requires
 case_of-part-requires t c = (omega (arith, c.decreases), tt)
