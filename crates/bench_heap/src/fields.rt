@@ -1,5 +1,5 @@
 //! Structures of int fields.
-ghost use Rattle.std.specs.Prelude.{◌≡◌, IfOk, IfSome, OnOk};
+ghost use Rattle.std.specs.Prelude.{IfOk, IfSome};
 ghost use Rattle.swizzle.specs.Heap.{IsHeld, Stands};
 ghost use Rattle.swizzle.specs.Text.{text_at};
 ghost use Rattle.heap_texts.specs.Texts.{HoldsText};

@@ -1,6 +1,6 @@
 //! Vectors of ints: their number words, and their elements.
-ghost use Rattle.std.specs.Prelude.{◌<◌, IfOk, IfSome, OnOk};
-ghost use Rattle.swizzle.specs.Heap.{IsHeld, Stands, header_at};
+ghost use Rattle.std.specs.Prelude.{◌<◌, IfOk, IfSome};
+ghost use Rattle.swizzle.specs.Heap.{IsHeld, Stands};
 ghost use Rattle.heap_texts.specs.Texts.{HoldsText};
 ghost use Rattle.bench_heap.specs.Scene.{AreHeld, AreLong};
 

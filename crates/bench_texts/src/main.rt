@@ -2,8 +2,7 @@
 //! second a number of comparisons.
 #![tactic(auto)]
 
-ghost use Rattle.std.specs.Prelude.{◌≡◌, IfOk};
-ghost use Rattle.swizzle.specs.Heap.{IsHeld, header_at};
+ghost use Rattle.std.specs.Prelude.{IfOk};
 ghost use Rattle.heap_texts.specs.Texts.{HoldsText, StillTexts};
 
 use anyhow::{Context, Result, bail};

@@ -1,5 +1,5 @@
 //! Places of fields that were looked up before.
-ghost use Rattle.std.specs.Prelude.{◌≡◌, ◌<◌, ◌≤◌, ℕ, IfOk, IfSome, List, Some};
+ghost use Rattle.std.specs.Prelude.{◌≡◌, ◌<◌, ◌≤◌, IfOk, IfSome, List, Some};
 ghost use Rattle.swizzle.specs.Heap.{Heap, IsHeld, header_at};
 ghost use Rattle.swizzle.specs.Reading.{TextsStay};
 ghost use Rattle.swizzle.specs.Text.{text_at};

@@ -1,5 +1,5 @@
 //! The shape of a vector, as it is read of its object.
-ghost use Rattle.std.specs.Prelude.{◌≡◌, ◌+ℤ◌, ◌-ℤ◌, ◌+◌, ◌<◌, ◌≤◌, ◌^◌, pos, true, false, if◌then◌else◌, length, IfSome, MatchOption, OnOk, Some, None};
+ghost use Rattle.std.specs.Prelude.{◌≡◌, ◌+ℤ◌, ◌-ℤ◌, ◌+◌, ◌<◌, ◌^◌, pos, true, false, if◌then◌else◌, length, OnOk, Some, None};
 ghost use Rattle.ps_meaning.specs.Objects.{is_vector as is_vector_of, place_of};
 ghost use Rattle.ps_meaning.specs.Operators.{is_int};
 ghost use Rattle.swizzle.specs.Heap.{IsHeld};

@@ -1,10 +1,9 @@
 //! The calls on a world.
-ghost use Rattle.std.specs.Prelude.{◌≡◌, IfOk, IfSome, OnOk};
+ghost use Rattle.std.specs.Prelude.{IfOk, IfSome, OnOk};
 ghost use Rattle.swizzle.specs.Heap.{IsHeld, Stands};
 ghost use Rattle.swizzle.specs.Text.{text_at};
 ghost use Rattle.heap_texts.specs.Texts.{HoldsText};
 ghost use Rattle.heap_places.specs.Places.{IsNear};
-ghost use Rattle.heap_places.specs.Filling.{AreNear};
 ghost use Rattle.heap_ops.specs.Structures.{IsNamed};
 ghost use Rattle.heap_ops.specs.Layouts.{AreSo};
 ghost use Rattle.heap_ops_tests.specs.World.{IsReady};

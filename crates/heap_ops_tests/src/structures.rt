@@ -1,5 +1,5 @@
 //! Structures: what is made, what is told of them, and what is refused.
-ghost use Rattle.std.specs.Prelude.{◌≡◌, true, OnOk};
+ghost use Rattle.std.specs.Prelude.{true, OnOk};
 ghost use Rattle.heap_ops_tests.specs.World.{IsReady};
 
 use crate::calls::{Class, Of, Seen, To, bend, get, is_of, put_word, refer, set, structure, text};

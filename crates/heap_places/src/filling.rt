@@ -1,4 +1,4 @@
-ghost use Rattle.std.specs.Prelude.{◌≡◌, ◌≢◌, ◌+◌, ◌-◌, ◌<◌, ◌^◌, min, [], ◌∷◌, length, replicate, MatchResult};
+ghost use Rattle.std.specs.Prelude.{◌≡◌, ◌≢◌, ◌+◌, ◌-◌, ◌<◌, ◌^◌, [], ◌∷◌, length, replicate, MatchResult};
 ghost use Rattle.swizzle.specs.Objects.{size_of};
 ghost use Rattle.swizzle.specs.Heap.{IsFull, IsHeld, IsMade, Stands};
 ghost use Rattle.heap_texts.specs.Texts.{wanted_of};

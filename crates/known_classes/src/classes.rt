@@ -1,5 +1,5 @@
 //! All that is known of classes.
-ghost use Rattle.std.specs.Prelude.{◌≡◌, IfOk};
+ghost use Rattle.std.specs.Prelude.{IfOk};
 ghost use Rattle.swizzle.specs.Heap.{Heap};
 ghost use Rattle.proc_values.specs.Loaded.{CodeStays};
 ghost use Rattle.known_classes.specs.Classes.{IsRight};

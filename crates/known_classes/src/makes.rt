@@ -1,8 +1,8 @@
 //! Classes by which structures were made before.
-ghost use Rattle.std.specs.Prelude.{◌≡◌, ◌<◌, ◌≤◌, ◌+◌, ◌^◌, ◌/◌, ◌%◌, ◌==◌, ℕ, IfOk, IfSome, List, true, false, length};
+ghost use Rattle.std.specs.Prelude.{◌≡◌, ◌<◌, ◌+◌, ◌^◌, ◌/◌, ◌%◌, ◌==◌, IfOk, IfSome, length};
 ghost use Rattle.swizzle.specs.Heap.{Heap, IsHeld, header_at};
 ghost use Rattle.swizzle.specs.Text.{text_at};
-ghost use Rattle.text_forms.specs.Forms.{forms_of, rows_of, one_more};
+ghost use Rattle.text_forms.specs.Forms.{forms_of, rows_of};
 ghost use Rattle.known_classes.specs.Known.{IsTextOf};
 ghost use Rattle.known_classes.specs.Made.{AreMarked, AreSo, IsKnown, IsSo};
 ghost use Rattle.known_classes.specs.inside.Counting.{CountsField};

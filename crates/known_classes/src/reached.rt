@@ -1,6 +1,6 @@
 //! Fields of structures, reached by what is known of them alone. Where one isn't reached so, nothing is done; it is then to be read or written by
 //! `access`, which also finds the traps.
-ghost use Rattle.std.specs.Prelude.{◌≡◌, ℕ, false, true, IfSome, List, MatchOption, Some};
+ghost use Rattle.std.specs.Prelude.{◌≡◌, false, true, IfSome, List, MatchOption, Some};
 ghost use Rattle.ps_base.specs.CodeUnit.{ConstantsView};
 ghost use Rattle.obj_layout.specs.declared.reference.Reference.{Reference};
 ghost use Rattle.text_forms.specs.Forms.{is_number_form};

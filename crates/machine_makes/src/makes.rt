@@ -1,5 +1,5 @@
 //! Structures made of what is pushed.
-ghost use Rattle.std.specs.Prelude.{◌≡◌, ◌+◌, ◌^◌, ◌<◌, ◌≤◌, ℕ, IfSome, MatchOption, OnSome, drop, length};
+ghost use Rattle.std.specs.Prelude.{◌≡◌, ◌+◌, ◌<◌, ◌≤◌, ℕ, IfSome, MatchOption, OnSome, drop, length};
 ghost use Rattle.obj_layout.specs.declared.kind.Kind.TheVariants.{Text};
 ghost use Rattle.swizzle.specs.Reading.{LeavesOutside};
 ghost use Rattle.ps_stepping.specs.Objects.{make_structure as make_structure_of};

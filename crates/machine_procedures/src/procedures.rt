@@ -1,5 +1,4 @@
 //! The instruction that makes a procedure.
-ghost use Rattle.std.specs.Prelude.{◌≡◌};
 ghost use Rattle.swizzle.specs.Heap.{IsHeld};
 ghost use Rattle.swizzle.specs.Reading.{LeavesOutside};
 ghost use Rattle.ps_stepping.specs.Procedures.{closure as closure_of};

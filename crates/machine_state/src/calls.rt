@@ -1,5 +1,5 @@
 //! Calls: the body that runs waits, and another one begins.
-ghost use Rattle.std.specs.Prelude.{◌≡◌, ◌+◌, ◌<◌, ◌≤◌, length, true, vec_len, IfSome, List, ℕ};
+ghost use Rattle.std.specs.Prelude.{◌≡◌, ◌+◌, ◌<◌, ◌≤◌, length, true, vec_len, IfSome, List};
 ghost use Rattle.obj_layout.specs.declared.reference.Reference.{Reference};
 ghost use Rattle.ps_meaning.specs.Evaluation.{most_calls};
 ghost use Rattle.ps_stepping.specs.Config.{Config};

@@ -1,5 +1,4 @@
 //! Coming back to a body that waits.
-ghost use Rattle.std.specs.Prelude.{◌≡◌};
 ghost use Rattle.ps_stepping.specs.Machine.{returned as returned_of};
 ghost use Rattle.machine_state.specs.Calling.{Resumes};
 ghost use Rattle.machine_state.specs.Holding.{IsSound};

@@ -1,5 +1,5 @@
 //! The scope of the body that runs.
-ghost use Rattle.std.specs.Prelude.{◌≡◌, List};
+ghost use Rattle.std.specs.Prelude.{List};
 ghost use Rattle.obj_layout.specs.declared.reference.Reference.{Reference};
 ghost use Rattle.ps_stepping.specs.Config.{Config};
 ghost use Rattle.paired_ops.specs.World.{DenotesScopeIn};

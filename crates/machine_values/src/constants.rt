@@ -1,4 +1,4 @@
-ghost use Rattle.std.specs.Prelude.{◌≡◌, IfSome, OnSome, Some};
+ghost use Rattle.std.specs.Prelude.{IfSome, OnSome, Some};
 ghost use Rattle.obj_layout.specs.declared.kind.Kind.TheVariants.{Text};
 ghost use Rattle.swizzle.specs.Reading.{LeavesOutside};
 ghost use Rattle.swizzle.specs.Text.{text_at};

@@ -1,4 +1,4 @@
-ghost use Rattle.std.specs.Prelude.{◌≡◌, IfSome, OnSome};
+ghost use Rattle.std.specs.Prelude.{IfSome, OnSome};
 ghost use Rattle.obj_layout.specs.declared.kind.Kind.TheVariants.{Text};
 ghost use Rattle.swizzle.specs.Heap.{IsHeld};
 ghost use Rattle.machine_state.specs.Holding.{IsHolding, IsSound};

@@ -1,5 +1,5 @@
 //! Units of code, loaded and read.
-ghost use Rattle.std.specs.Prelude.{◌≡◌, ℕ, List, IfOk, OnOk};
+ghost use Rattle.std.specs.Prelude.{ℕ, List, IfOk, OnOk};
 ghost use Rattle.ps_base.specs.CodeUnit.{ConstantsView, unit, unit_view};
 ghost use Rattle.ps_base.specs.declared.code_unit.Frame.{Frame};
 ghost use Rattle.obj_layout.specs.declared.reference.Reference.{Reference};

@@ -1,5 +1,5 @@
 //! Units of code: the frame of one, and the units among its constants.
-ghost use Rattle.std.specs.Prelude.{◌≡◌, ◌+◌, ◌/◌, ◌%◌, ◌^◌, ℕ, List, IfSome, OnSome};
+ghost use Rattle.std.specs.Prelude.{◌≡◌, ◌/◌, ◌%◌, ◌^◌, ℕ, List, IfSome, OnSome};
 ghost use Rattle.ps_base.specs.CodeUnit.{ConstantsView, unit};
 ghost use Rattle.ps_base.specs.declared.code_unit.Frame.{Frame as Numbers};
 ghost use Rattle.obj_layout.specs.declared.reference.Reference.{Reference};

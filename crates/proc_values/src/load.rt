@@ -2,11 +2,10 @@ ghost use Rattle.std.specs.Prelude.{◌≡◌, ◌+◌, ◌*◌, ◌<◌, ◌^�
 ghost use Rattle.ps_base.specs.CodeUnit.{constant_view, constants_view, unit_view};
 ghost use Rattle.ps_base.specs.List.{items_of};
 ghost use Rattle.obj_area.specs.Words.{AreBytes};
-ghost use Rattle.swizzle.specs.Heap.{IsHeld, IsMade, IsFull, Stands, header_at, object_at, with_object, with_ref};
+ghost use Rattle.swizzle.specs.Heap.{IsHeld, Stands, header_at, object_at, with_object, with_ref};
 ghost use Rattle.obj_layout.specs.declared.reference.Reference.TheVariants.{Local};
-ghost use Rattle.swizzle.specs.Objects.{size_of};
-ghost use Rattle.heap_texts.specs.Texts.{MakesText, wanted_of};
-ghost use Rattle.proc_values.specs.Units.{Loads, frame_word, code_object, constant_place, constants_places};
+ghost use Rattle.heap_texts.specs.Texts.{MakesText};
+ghost use Rattle.proc_values.specs.Units.{Loads, frame_word, constant_place, constants_places};
 ghost use Rattle.proc_values.specs.Units.{constant_words, constants_words};
 ghost use Rattle.proc_values.specs.Loaded.{IsFitFrame, IsFitUnit, AreFitConstants, IsFitConstant};
 ghost use Rattle.proc_values.specs.inside.Loading.{LoadsConstant, LoadsConstants, AreLoaded, AreHeld, MakesBlank, MakesCode};

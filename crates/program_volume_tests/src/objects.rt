@@ -1,6 +1,6 @@
 //! A run over a volume that keeps an object.
 
-ghost use Rattle.std.specs.Prelude.{◌≡◌, IfSome, OnOk, true};
+ghost use Rattle.std.specs.Prelude.{◌≡◌, IfSome, true};
 ghost use Rattle.obj_layout.specs.Stored.{IsHeaded};
 
 use crate::commands::{RUN, SUM, answer_over, is_unwritten};

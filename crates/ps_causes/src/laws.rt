@@ -1,5 +1,5 @@
 //! Laws of the answers. `host` is the host that was handed in, and `back` the one that comes back.
-ghost use Rattle.std.specs.Prelude.{◌≡◌, ◌≤◌, ◌<◌, List, ℕ, Option, Some, None, [], length};
+ghost use Rattle.std.specs.Prelude.{◌≡◌, ◌≤◌, ◌<◌, List, ℕ, Some, None, [], length};
 ghost use Rattle.ps_program.specs.Node.{BodyNode};
 ghost use Rattle.ps_base.specs.declared.line.Line.{Line};
 ghost use Rattle.ps_outside.specs.Outside.{Rose};

@@ -3,13 +3,12 @@ use Rattle.std.proofs.Common.{◌≡◌, Bool, true, false, List, [], ◌∷◌,
 use Rattle.std.specs.Prelude.{nat_lt, if◌then◌else◌}
 use Rattle.std.specs.List.{AllByRecursion}
 use Rattle.std.proofs.lemmas.Bool.{ltb-false}
-use Rattle.ps_program.specs.Node.{Param, Node, Nodes, none, more, Arms, no_arms, more_arms, arm, BodyNode, body}
+use Rattle.ps_program.specs.Node.{Node, Nodes, none, more, Arms, no_arms, more_arms, arm, BodyNode, body}
 use Rattle.ps_program.specs.Node as node
 use Rattle.ps_program.specs.Parts.{Part, operand, label, branch, literal, fold_all, fold_arms}
 use Rattle.ps_program.specs.Slots.{slot_count}
 use Rattle.ps_typing.specs.Fault.{TooComplex}
-use Rattle.ps_typing.specs.Program.{most_slots, bodies_of, own_body, bodies, line_of_body, first_complex}
-use Rattle.ps_typing_laws.proofs.Tracked.{bodies_in}
+use Rattle.ps_typing.specs.Program.{most_slots, bodies_of, bodies, line_of_body, first_complex, bodies_with, bodies_in}
 use Rattle.ps_soundness.specs.Valued.{IsValued}
 use Rattle.ps_soundness.specs.Shapes.{type_of_body}
 use Rattle.ps_soundness.proofs.Sequences.{all_left, all_right}
@@ -56,10 +55,10 @@ module _ (P : BodyNode → Type 0) where
   Found parts = All (bodies_of parts)
 
   abbrev parts_in : (List BodyNode → Part (List BodyNode)) → Nodes → List (Part (List BodyNode))
-  parts_in as_part ts = fold_all (λ clause parts. own_body clause ++ bodies_of parts) as_part ts
+  parts_in as_part ts = fold_all bodies_with as_part ts
 
   abbrev arms_in : Arms → List (Part (List BodyNode))
-  arms_in arms = fold_arms (λ clause parts. own_body clause ++ bodies_of parts) arms
+  arms_in arms = fold_arms bodies_with arms
 
   mutual
     inside : (t : Node) → All (bodies_in t) → InPart t

@@ -1,4 +1,4 @@
-ghost use Rattle.std.specs.Prelude.{◌≡◌, ◌≤◌, ◌+◌, ◌*◌, [], List, ℕ, length, IfOk, true};
+ghost use Rattle.std.specs.Prelude.{◌≡◌, ◌*◌, [], List, ℕ, true};
 ghost use Rattle.ps_base.specs.CodeUnit.{unit_view};
 ghost use Rattle.ps_program.specs.Node.{BodyNode};
 ghost use Rattle.ps_outside.specs.Outside.{LeavesSame};

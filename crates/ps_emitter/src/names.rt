@@ -1,5 +1,5 @@
 ghost use Rattle.std.specs.Prelude.{◌≡◌, OnOk, IfOk};
-ghost use Rattle.ps_base.specs.CodeUnit.{text, literal, constant_view, unit_view};
+ghost use Rattle.ps_base.specs.CodeUnit.{text, literal, unit_view};
 ghost use Rattle.ps_base.specs.TyView.{ty_view};
 ghost use Rattle.ps_type_text.specs.Texts.{type_text as type_text_of};
 ghost use Rattle.ps_emitter.specs.Choices.{set as set_of};

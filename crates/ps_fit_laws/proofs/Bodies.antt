@@ -4,20 +4,14 @@ use Rattle.std.specs.List.{AllByRecursion}
 use Rattle.ps_tree.specs.Phrase.{Phrase}
 use Rattle.ps_program.specs.Node.{Node, Nodes, none, more, Arms, no_arms, more_arms, arm, BodyNode, body}
 use Rattle.ps_program.specs.Node as node
-use Rattle.ps_program.specs.Parts.{Part, operand, label, branch, literal, fold, fold_all, fold_arms}
-use Rattle.ps_typing.specs.Program.{Typed, check_program, bodies, bodies_of, own_body}
+use Rattle.ps_program.specs.Parts.{Part, operand, label, branch, literal, fold_all, fold_arms}
+use Rattle.ps_typing.specs.Program.{Typed, check_program, bodies, bodies_of, bodies_with, bodies_in}
 use Rattle.ps_leaf_laws.specs.Leaves.{LeavesFit}
 use Rattle.ps_fit_laws.specs.Fitting.{Fits, AllFit, ArmsFit, FitsBody, TakesAndGivesValues}
 use Rattle.ps_fit_laws.proofs.OfProgram.{typed_fits}
 
 abbrev AreValued : List BodyNode → Type 0
 AreValued found = AllByRecursion TakesAndGivesValues found
-
-abbrev own : Node → List (Part (List BodyNode)) → List BodyNode
-own clause parts = own_body clause ++ bodies_of parts
-
-abbrev in_clause : Node → List BodyNode
-in_clause = fold own
 
 -- what is found in parts
 abbrev IsValuedPart : Part (List BodyNode) → Type 0
@@ -46,34 +40,34 @@ in_parts (label found ∷ rest) h = both found _ h.0 (in_parts rest h.1)
 in_parts (branch found ∷ rest) h = both found _ h.0 (in_parts rest h.1)
 in_parts (literal found ∷ rest) h = both found _ h.0 (in_parts rest h.1)
 
-one : (a : Node) → AreValued (in_clause a) → AreValued (in_clause a ++ [])
-one a h = both (in_clause a) [] h tt
+one : (a : Node) → AreValued (bodies_in a) → AreValued (bodies_in a ++ [])
+one a h = both (bodies_in a) [] h tt
 
-two : (a b : Node) → AreValued (in_clause a) → AreValued (in_clause b) → AreValued (in_clause a ++ (in_clause b ++ []))
-two a b h k = both (in_clause a) _ h (one b k)
+two : (a b : Node) → AreValued (bodies_in a) → AreValued (bodies_in b) → AreValued (bodies_in a ++ (bodies_in b ++ []))
+two a b h k = both (bodies_in a) _ h (one b k)
 
-three : (a b c : Node) → AreValued (in_clause a) → AreValued (in_clause b) → AreValued (in_clause c) →
-    AreValued (in_clause a ++ (in_clause b ++ (in_clause c ++ [])))
-three a b c h k l = both (in_clause a) _ h (two b c k l)
+three : (a b c : Node) → AreValued (bodies_in a) → AreValued (bodies_in b) → AreValued (bodies_in c) →
+    AreValued (bodies_in a ++ (bodies_in b ++ (bodies_in c ++ [])))
+three a b c h k l = both (bodies_in a) _ h (two b c k l)
 
 -- lists whose items are parts of one sort
 abbrev Keeps : (List BodyNode → Part (List BodyNode)) → Type 0
 Keeps as_part = (found : List BodyNode) → AreValued found → IsValuedPart (as_part found)
 
 mutual
-  valued : (tree : Node) → Fits tree → AreValued (in_clause tree)
+  valued : (tree : Node) → Fits tree → AreValued (bodies_in tree)
   valued (node.SetName place ty e) h = one e (valued e h)
   valued (node.Let place ty e) h = one e (valued e h)
-  valued (node.Block scope items) h = in_parts (fold_all own branch items) (all_valued branch (λ found h. h) items h)
+  valued (node.Block scope items) h = in_parts (fold_all bodies_with branch items) (all_valued branch (λ found h. h) items h)
   valued (node.IfDo c a) h = two c a (valued c h.0) (valued a h.1)
   valued (node.IfElse c a b) h = three c a b (valued c h.0) (valued a h.1) (valued b h.2)
   valued (node.While c a) h = two c a (valued c h.0) (valued a h.1)
   valued (node.Repeat a c b) h = three a c b (valued a h.0) (valued c h.1) (valued b h.2)
   valued (node.For slot a b c scope control s line) h =
-      both (in_clause a) _ (valued a h.0) (three b c s (valued b h.1) (valued c h.2) (valued s h.3))
+      both (bodies_in a) _ (valued a h.0) (three b c s (valued b h.1) (valued c h.2) (valued s h.3))
   valued (node.Case e arms d ty) h =
-      both (in_clause e) _ (valued e h.0) (in_parts (fold_arms own arms ++ branch (in_clause d) ∷ [])
-      (both_parts (fold_arms own arms) _ (arms_valued arms h.1) (valued d h.2, tt)))
+      both (bodies_in e) _ (valued e h.0) (in_parts (fold_arms bodies_with arms ++ branch (bodies_in d) ∷ [])
+      (both_parts (fold_arms bodies_with arms) _ (arms_valued arms h.1) (valued d h.2, tt)))
   valued (node.And a b) h = two a b (valued a h.0) (valued b h.1)
   valued (node.Or a b) h = two a b (valued a h.0) (valued b h.1)
   valued (node.Not e) h = one e (valued e h)
@@ -84,32 +78,32 @@ mutual
   valued (node.Is e class) h = one e (valued e h.1)
   valued (node.Join a b line) h = two a b (valued a h.0) (valued b h.1)
   valued (node.Part a i n line) h = three a i n (valued a h.0) (valued i h.1) (valued n h.2)
-  valued (node.Make class args) h = in_parts (fold_all own operand args) (all_valued operand (λ found h. h) args h.1)
+  valued (node.Make class args) h = in_parts (fold_all bodies_with operand args) (all_valued operand (λ found h. h) args h.1)
   valued (node.Field e class index ty line) h = one e (valued e h.1)
   valued (node.SetField p class index ty e line) h = two p e (valued p h.1) (valued e h.2)
   valued (node.Fill l u e ty line) h = three l u e (valued l h.0) (valued u h.1) (valued e h.2)
   valued (node.Elems l items ty line) h =
-      both (in_clause l) _ (valued l h.1) (in_parts (fold_all own operand items) (all_valued operand (λ found h. h) items h.2))
+      both (bodies_in l) _ (valued l h.1) (in_parts (fold_all bodies_with operand items) (all_valued operand (λ found h. h) items h.2))
   valued (node.Element v i ty line) h = two v i (valued v h.0) (valued i h.1)
   valued (node.SetElement v i e ty line) h = three v i e (valued v h.0) (valued i h.1) (valued e h.2)
   valued (node.Bound v upper) h = one v (valued v h)
-  valued (node.Lib code args line) h = in_parts (fold_all own operand args) (all_valued operand (λ found h. h) args h)
+  valued (node.Lib code args line) h = in_parts (fold_all bodies_with operand args) (all_valued operand (λ found h. h) args h)
   valued (node.Write e w wide ty line) h = two e w (valued e h.0) (valued w h.1)
   valued (node.Proc (body params gives tree scope line)) h = (h.0, one tree (valued tree h.1))
   valued (node.Call f args line) h =
-      both (in_clause f) _ (valued f h.0) (in_parts (fold_all own operand args) (all_valued operand (λ found h. h) args h.1))
+      both (bodies_in f) _ (valued f h.0) (in_parts (fold_all bodies_with operand args) (all_valued operand (λ found h. h) args h.1))
   valued (node.Scan text a f q s line) h = two a f (valued a h.0) (valued f h.1)
   valued _ h = tt
 
   all_valued : (as_part : List BodyNode → Part (List BodyNode)) → Keeps as_part → (items : Nodes) → AllFit items →
-      AreValuedParts (fold_all own as_part items)
+      AreValuedParts (fold_all bodies_with as_part items)
   all_valued as_part keeps none h = tt
-  all_valued as_part keeps (more first rest) h = (keeps (in_clause first) (valued first h.0), all_valued as_part keeps rest h.1)
+  all_valued as_part keeps (more first rest) h = (keeps (bodies_in first) (valued first h.0), all_valued as_part keeps rest h.1)
 
-  arms_valued : (arms : Arms) → ArmsFit arms → AreValuedParts (fold_arms own arms)
+  arms_valued : (arms : Arms) → ArmsFit arms → AreValuedParts (fold_arms bodies_with arms)
   arms_valued no_arms h = tt
   arms_valued (more_arms (arm labels a) rest) h =
-      both_parts (fold_all own label labels) _ (all_valued label (λ found h. h) labels h.0) (valued a h.1, arms_valued rest h.2)
+      both_parts (fold_all bodies_with label labels) _ (all_valued label (λ found h. h) labels h.0) (valued a h.1, arms_valued rest h.2)
 
 bodies_valued : (program : BodyNode) → FitsBody program → AreValued (bodies program)
 bodies_valued (body params gives tree scope line) h = (h.0, valued tree h.1)

@@ -4,8 +4,8 @@ use Rattle.std.specs.List.{AllByRecursion}
 use Rattle.ps_base.specs.declared.instr.Instr.{Instr}
 use Rattle.ps_program.specs.Node.{Node, Nodes, none, more, Arms, no_arms, more_arms, arm, BodyNode, body}
 use Rattle.ps_program.specs.Node as node
-use Rattle.ps_program.specs.Parts.{Part, operand, label, branch, literal, fold, fold_all, fold_arms}
-use Rattle.ps_typing.specs.Program.{bodies, bodies_of, own_body}
+use Rattle.ps_program.specs.Parts.{Part, operand, label, branch, literal, fold_all, fold_arms}
+use Rattle.ps_typing.specs.Program.{bodies, bodies_of, bodies_with, bodies_in}
 use Rattle.ps_gen.specs.Units.{HasUnit}
 use Rattle.ps_emitter.specs.Pieces.{AreInstrs}
 use Rattle.ps_emitter.proofs.Spelled.{all-append}
@@ -29,9 +29,6 @@ first_of xs ys are = first_all AreInstrs xs ys are
 
 rest_of : (xs ys : List (List Instr)) → Fit (xs ++ ys) → Fit ys
 rest_of xs ys are = rest_all AreInstrs xs ys are
-
-abbrev told : Node → List BodyNode
-told n = fold (λ clause parts. own_body clause ++ bodies_of parts) n
 
 abbrev Has : List BodyNode → Type 0
 Has xs = AllByRecursion HasUnit xs
@@ -64,59 +61,59 @@ behind : (la lns : List (List Instr)) (a ns : List BodyNode) → (Fit la → Has
 behind la lns a ns f g are = all-append HasUnit a ns (f (first_of la lns are)) (g (rest_of la lns are))
 
 mutual
-  told_units : (n : Node) → Fit (literals_in n) → Has (told n)
-  told_units (node.SetName place ty e) are = one (told e) (told_units e are)
-  told_units (node.Let place ty e) are = one (told e) (told_units e are)
+  told_units : (n : Node) → Fit (literals_in n) → Has (bodies_in n)
+  told_units (node.SetName place ty e) are = one (bodies_in e) (told_units e are)
+  told_units (node.Let place ty e) are = one (bodies_in e) (told_units e are)
   told_units (node.Block scope items) are = all_units branch (λ found ps. refl) items are
-  told_units (node.IfDo c a) are = pair (literals_in c) (literals_in a) (told c) (told a) (λ h. told_units c h) (λ h. told_units a h) are
+  told_units (node.IfDo c a) are = pair (literals_in c) (literals_in a) (bodies_in c) (bodies_in a) (λ h. told_units c h) (λ h. told_units a h) are
   told_units (node.IfElse c a b) are =
-      triple (literals_in c) (literals_in a) (literals_in b) (told c) (told a) (told b) (λ h. told_units c h) (λ h. told_units a h)
+      triple (literals_in c) (literals_in a) (literals_in b) (bodies_in c) (bodies_in a) (bodies_in b) (λ h. told_units c h) (λ h. told_units a h)
       (λ h. told_units b h) are
-  told_units (node.While c a) are = two (told c) (told a) (told_units c (rest_of (literals_in a) (literals_in c) are)) (told_units a (first_of (literals_in a) (literals_in c) are))
+  told_units (node.While c a) are = two (bodies_in c) (bodies_in a) (told_units c (rest_of (literals_in a) (literals_in c) are)) (told_units a (first_of (literals_in a) (literals_in c) are))
   told_units (node.Repeat a c b) are =
       let r = rest_of (literals_in b) (literals_in a ++ literals_in c) are in
-      three (told a) (told c) (told b) (told_units a (first_of (literals_in a) (literals_in c) r)) (told_units c (rest_of (literals_in a) (literals_in c) r))
+      three (bodies_in a) (bodies_in c) (bodies_in b) (told_units a (first_of (literals_in a) (literals_in c) r)) (told_units c (rest_of (literals_in a) (literals_in c) r))
       (told_units b (first_of (literals_in b) (literals_in a ++ literals_in c) are))
   told_units (node.For slot a b c scope control s line) are =
-      all-append HasUnit (told a) (told b ++ (told c ++ (told s ++ []))) (told_units a (first_of (literals_in a) (literals_in b ++ (literals_in c ++ literals_in s)) are))
-      (triple (literals_in b) (literals_in c) (literals_in s) (told b) (told c) (told s) (λ h. told_units b h) (λ h. told_units c h)
+      all-append HasUnit (bodies_in a) (bodies_in b ++ (bodies_in c ++ (bodies_in s ++ []))) (told_units a (first_of (literals_in a) (literals_in b ++ (literals_in c ++ literals_in s)) are))
+      (triple (literals_in b) (literals_in c) (literals_in s) (bodies_in b) (bodies_in c) (bodies_in s) (λ h. told_units b h) (λ h. told_units c h)
       (λ h. told_units s h) (rest_of (literals_in a) (literals_in b ++ (literals_in c ++ literals_in s)) are))
   told_units (node.Case e arms d ty) are =
       let r = rest_of (literals_in e) (literals_in_arms arms ++ literals_in d) are in
-      all-append HasUnit (told e) _ (told_units e (first_of (literals_in e) (literals_in_arms arms ++ literals_in d) are))
-      (parts_two (fold_arms (λ clause parts. own_body clause ++ bodies_of parts) arms) (branch (told d) ∷ [])
-      (arms_units arms (first_of (literals_in_arms arms) (literals_in d) r)) (one (told d) (told_units d (rest_of (literals_in_arms arms) (literals_in d) r))))
-  told_units (node.And a b) are = pair (literals_in a) (literals_in b) (told a) (told b) (λ h. told_units a h) (λ h. told_units b h) are
-  told_units (node.Or a b) are = pair (literals_in a) (literals_in b) (told a) (told b) (λ h. told_units a h) (λ h. told_units b h) are
-  told_units (node.Not e) are = one (told e) (told_units e are)
-  told_units (node.Neg e line) are = one (told e) (told_units e are)
-  told_units (node.Plus e) are = one (told e) (told_units e are)
-  told_units (node.Arith op a b line) are = pair (literals_in a) (literals_in b) (told a) (told b) (λ h. told_units a h) (λ h. told_units b h) are
-  told_units (node.Compare op ty a b) are = pair (literals_in a) (literals_in b) (told a) (told b) (λ h. told_units a h) (λ h. told_units b h) are
-  told_units (node.Is e class) are = one (told e) (told_units e are)
-  told_units (node.Join a b line) are = pair (literals_in a) (literals_in b) (told a) (told b) (λ h. told_units a h) (λ h. told_units b h) are
+      all-append HasUnit (bodies_in e) _ (told_units e (first_of (literals_in e) (literals_in_arms arms ++ literals_in d) are))
+      (parts_two (fold_arms bodies_with arms) (branch (bodies_in d) ∷ [])
+      (arms_units arms (first_of (literals_in_arms arms) (literals_in d) r)) (one (bodies_in d) (told_units d (rest_of (literals_in_arms arms) (literals_in d) r))))
+  told_units (node.And a b) are = pair (literals_in a) (literals_in b) (bodies_in a) (bodies_in b) (λ h. told_units a h) (λ h. told_units b h) are
+  told_units (node.Or a b) are = pair (literals_in a) (literals_in b) (bodies_in a) (bodies_in b) (λ h. told_units a h) (λ h. told_units b h) are
+  told_units (node.Not e) are = one (bodies_in e) (told_units e are)
+  told_units (node.Neg e line) are = one (bodies_in e) (told_units e are)
+  told_units (node.Plus e) are = one (bodies_in e) (told_units e are)
+  told_units (node.Arith op a b line) are = pair (literals_in a) (literals_in b) (bodies_in a) (bodies_in b) (λ h. told_units a h) (λ h. told_units b h) are
+  told_units (node.Compare op ty a b) are = pair (literals_in a) (literals_in b) (bodies_in a) (bodies_in b) (λ h. told_units a h) (λ h. told_units b h) are
+  told_units (node.Is e class) are = one (bodies_in e) (told_units e are)
+  told_units (node.Join a b line) are = pair (literals_in a) (literals_in b) (bodies_in a) (bodies_in b) (λ h. told_units a h) (λ h. told_units b h) are
   told_units (node.Part a i n line) are =
-      triple (literals_in a) (literals_in i) (literals_in n) (told a) (told i) (told n) (λ h. told_units a h) (λ h. told_units i h)
+      triple (literals_in a) (literals_in i) (literals_in n) (bodies_in a) (bodies_in i) (bodies_in n) (λ h. told_units a h) (λ h. told_units i h)
       (λ h. told_units n h) are
   told_units (node.Make class args) are = all_units operand (λ found ps. refl) args are
-  told_units (node.Field e class index ty line) are = one (told e) (told_units e are)
-  told_units (node.SetField p class index ty e line) are = pair (literals_in p) (literals_in e) (told p) (told e) (λ h. told_units p h) (λ h. told_units e h) are
+  told_units (node.Field e class index ty line) are = one (bodies_in e) (told_units e are)
+  told_units (node.SetField p class index ty e line) are = pair (literals_in p) (literals_in e) (bodies_in p) (bodies_in e) (λ h. told_units p h) (λ h. told_units e h) are
   told_units (node.Fill l u e ty line) are =
-      triple (literals_in l) (literals_in u) (literals_in e) (told l) (told u) (told e) (λ h. told_units l h) (λ h. told_units u h)
+      triple (literals_in l) (literals_in u) (literals_in e) (bodies_in l) (bodies_in u) (bodies_in e) (λ h. told_units l h) (λ h. told_units u h)
       (λ h. told_units e h) are
   told_units (node.Elems l items ty line) are =
-      behind (literals_in l) (literals_in_all items) (told l) _ (λ h. told_units l h) (λ h. all_units operand (λ found ps. refl) items h) are
-  told_units (node.Element v i ty line) are = pair (literals_in v) (literals_in i) (told v) (told i) (λ h. told_units v h) (λ h. told_units i h) are
+      behind (literals_in l) (literals_in_all items) (bodies_in l) _ (λ h. told_units l h) (λ h. all_units operand (λ found ps. refl) items h) are
+  told_units (node.Element v i ty line) are = pair (literals_in v) (literals_in i) (bodies_in v) (bodies_in i) (λ h. told_units v h) (λ h. told_units i h) are
   told_units (node.SetElement v i e ty line) are =
-      triple (literals_in v) (literals_in i) (literals_in e) (told v) (told i) (told e) (λ h. told_units v h) (λ h. told_units i h)
+      triple (literals_in v) (literals_in i) (literals_in e) (bodies_in v) (bodies_in i) (bodies_in e) (λ h. told_units v h) (λ h. told_units i h)
       (λ h. told_units e h) are
-  told_units (node.Bound v upper) are = one (told v) (told_units v are)
-  told_units (node.Proc (body params gives tree scope line)) are = (are.0, one (told tree) (told_units tree are.1))
+  told_units (node.Bound v upper) are = one (bodies_in v) (told_units v are)
+  told_units (node.Proc (body params gives tree scope line)) are = (are.0, one (bodies_in tree) (told_units tree are.1))
   told_units (node.Call f args line) are =
-      behind (literals_in f) (literals_in_all args) (told f) _ (λ h. told_units f h) (λ h. all_units operand (λ found ps. refl) args h) are
+      behind (literals_in f) (literals_in_all args) (bodies_in f) _ (λ h. told_units f h) (λ h. all_units operand (λ found ps. refl) args h) are
   told_units (node.Lib code args line) are = all_units operand (λ found ps. refl) args are
-  told_units (node.Scan string a f q s line) are = pair (literals_in a) (literals_in f) (told a) (told f) (λ h. told_units a h) (λ h. told_units f h) are
-  told_units (node.Write e w wide ty line) are = pair (literals_in e) (literals_in w) (told e) (told w) (λ h. told_units e h) (λ h. told_units w h) are
+  told_units (node.Scan string a f q s line) are = pair (literals_in a) (literals_in f) (bodies_in a) (bodies_in f) (λ h. told_units a h) (λ h. told_units f h) are
+  told_units (node.Write e w wide ty line) are = pair (literals_in e) (literals_in w) (bodies_in e) (bodies_in w) (λ h. told_units e h) (λ h. told_units w h) are
   told_units (node.Int v) are = tt
   told_units (node.Flag b) are = tt
   told_units (node.Text bytes) are = tt
@@ -127,22 +124,21 @@ mutual
   told_units (node.Abort line) are = tt
 
   all_units : (as_part : List BodyNode → Part (List BodyNode)) → ((found : List BodyNode) (ps : List (Part (List BodyNode))) → bodies_of (as_part found ∷ ps) ≡ found ++ bodies_of ps) →
-      (ns : Nodes) → Fit (literals_in_all ns) → Has (bodies_of (fold_all (λ clause parts. own_body clause ++ bodies_of parts) as_part ns))
+      (ns : Nodes) → Fit (literals_in_all ns) → Has (bodies_of (fold_all bodies_with as_part ns))
   all_units as_part is none are = tt
   all_units as_part is (more n ns) are =
-      let rest = fold_all (λ clause parts. own_body clause ++ bodies_of parts) as_part ns in
-      subst (λ xs. Has xs) (sym (is (told n) rest))
-      (all-append HasUnit (told n) (bodies_of rest) (told_units n (first_of (literals_in n) (literals_in_all ns) are))
+      let rest = fold_all bodies_with as_part ns in
+      subst (λ xs. Has xs) (sym (is (bodies_in n) rest))
+      (all-append HasUnit (bodies_in n) (bodies_of rest) (told_units n (first_of (literals_in n) (literals_in_all ns) are))
       (all_units as_part is ns (rest_of (literals_in n) (literals_in_all ns) are)))
 
-  arms_units : (arms : Arms) → Fit (literals_in_arms arms) → Has (bodies_of (fold_arms (λ clause parts. own_body clause ++ bodies_of parts) arms))
+  arms_units : (arms : Arms) → Fit (literals_in_arms arms) → Has (bodies_of (fold_arms bodies_with arms))
   arms_units no_arms are = tt
   arms_units (more_arms (arm labels a) rest) are =
-      let g : Node → List (Part (List BodyNode)) → List BodyNode = λ clause parts. own_body clause ++ bodies_of parts in
       let r = rest_of (literals_in_all labels) (literals_in a ++ literals_in_arms rest) are in
-      parts_two (fold_all g label labels) (branch (told a) ∷ fold_arms g rest)
+      parts_two (fold_all bodies_with label labels) (branch (bodies_in a) ∷ fold_arms bodies_with rest)
       (all_units label (λ found ps. refl) labels (first_of (literals_in_all labels) (literals_in a ++ literals_in_arms rest) are))
-      (all-append HasUnit (told a) (bodies_of (fold_arms g rest)) (told_units a (first_of (literals_in a) (literals_in_arms rest) r))
+      (all-append HasUnit (bodies_in a) (bodies_of (fold_arms bodies_with rest)) (told_units a (first_of (literals_in a) (literals_in_arms rest) r))
       (arms_units rest (rest_of (literals_in a) (literals_in_arms rest) r)))
 
 -- each body of a body, itself first

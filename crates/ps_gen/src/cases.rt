@@ -1,4 +1,4 @@
-ghost use Rattle.std.specs.Prelude.{◌≡◌, ◌+◌, [], ◌∷◌, IfOk, OnOk};
+ghost use Rattle.std.specs.Prelude.{◌+◌, [], ◌∷◌, IfOk, OnOk};
 ghost use Rattle.ps_base.specs.TyView.{ty_view};
 ghost use Rattle.ps_base.specs.declared.instr.Instr.TheVariants as instr;
 ghost use Rattle.ps_program.specs.Node as node;

@@ -1,20 +1,16 @@
 -- A program in which no literal stands keeps no name: all its names are mentioned inside as many literals as they are declared in.
-use Rattle.std.proofs.Common.{◌≡◌, ◌≤◌, ℕ, zero, suc, ◌+◌, max, nat_eq, nat_lt, Bool, true, false, Option, Some, None, List, [], ◌∷◌, ◌++◌, length, map, refl, sym, ap, ◌∙◌, arith, if◌then◌else◌}
-use Rattle.ps_program.specs.Node.{Node, Nodes, none, more, Arm, arm, Arms, no_arms, more_arms, BodyNode, body}
+use Rattle.std.proofs.Common.{◌≡◌, ◌≤◌, ℕ, zero, suc, ◌+◌, nat_eq, nat_lt, Bool, true, false, Option, Some, None, List, [], ◌∷◌, ◌++◌, length, map, refl, sym, ap, ◌∙◌, arith, if◌then◌else◌}
+use Rattle.ps_program.specs.Node.{Node, Nodes, none, more, arm, Arms, no_arms, more_arms, BodyNode, body}
 use Rattle.ps_program.specs.Node as node
-use Rattle.ps_program.specs.Parts.{Part, operand, label, branch, literal, fold}
+use Rattle.ps_program.specs.Parts.{Part, operand, label, branch, literal}
 use Rattle.ps_program.specs.inside.Listed.{parts_all, parts_arms, parts_of, part_as}
 use Rattle.ps_program.specs.inside.Weights.{weight, weight_parts}
 use Rattle.ps_program.proofs.PartLemmas.{fold_parts, weight_is}
-use Rattle.ps_typing.specs.Mentions.{number_of, seen, own_mention, mentions, kept_names, is_among}
-use Rattle.ps_typing.specs.Program.{bodies, bodies_of, own_body}
+use Rattle.ps_typing.specs.Mentions.{number_of, own_mention, kept_names, is_among}
+use Rattle.ps_typing.specs.Program.{bodies, bodies_of, own_body, bodies_with, bodies_in}
 use Rattle.ps_placer.specs.inside.Marks.{deepest, marks, marks_parts, marks_body, no_marks, is_deeper, is_kept}
 use Rattle.ps_placer.proofs.Marking.{marks_is}
 use Rattle.ps_placer.proofs.Keeping.{kept_names_is}
-
--- the bodies of the literals of a clause, with those in them
-abbrev bodies_in : Node → List BodyNode
-bodies_in = fold (λ clause parts. own_body clause ++ bodies_of parts)
 
 module _ {A : Type 0} where
   front_empty : (xs ys : List A) → xs ++ ys ≡ [] → xs ≡ []
@@ -94,7 +90,7 @@ parts_outside most each (literal n ∷ ps) light plain free k = absurd (omega (a
 outside : (most : ℕ) (n : Node) → weight n ≤ most → bodies_in n ≡ [] → (k : ℕ) → (marks 0 n).mentioned k ≡ 0
 outside zero n light free k = absurd (omega (arith, weight_is n, light))
 outside (suc most) n light free k =
-    let found : bodies_in n ≡ own_body n ++ bodies_of (map (part_as bodies_in) (parts_of n)) = fold_parts (λ clause parts. own_body clause ++ bodies_of parts) n in
+    let found : bodies_in n ≡ own_body n ++ bodies_of (map (part_as bodies_in) (parts_of n)) = fold_parts bodies_with n in
     let whole = sym found ∙ free in
     let own = own_outside n k in
     let parts = parts_outside most (outside most) (parts_of n) (omega (arith, weight_is n, light)) (among_parts n (front_empty (own_body n) _ whole)) (back_empty (own_body n) _ whole) k in

@@ -1,4 +1,4 @@
-ghost use Rattle.std.specs.Prelude.{◌≡◌, ◌+◌, ◌++◌, ℕ, [], ◌∷◌, map, OnOk, IfOk};
+ghost use Rattle.std.specs.Prelude.{◌≡◌, ◌+◌, ◌++◌, [], ◌∷◌, map, OnOk, IfOk};
 ghost use Rattle.ps_base.specs.List.{items_of};
 ghost use Rattle.ps_base.specs.TyView.{ty_view};
 ghost use Rattle.ps_type_text.specs.Members.{field_of, fields_of};

@@ -1,12 +1,10 @@
 ghost use Rattle.std.specs.Prelude.{◌≡◌, map, reverse, take, codes, IfOk};
-ghost use Rattle.std.specs.Rc.{rc_value};
-ghost use Rattle.ps_base.specs.List.{items_of};
 ghost use Rattle.ps_base.specs.TyView.{ty_view, ty_views};
 ghost use Rattle.ps_base.specs.TyView as view;
 ghost use Rattle.ps_typing.specs.Library.{procedures, error_class, three};
 ghost use Rattle.ps_typing.specs.Names.{class, library};
 ghost use Rattle.ps_typing.specs.Names as names;
-ghost use Rattle.ps_scope.specs.Views.{field_of, class_of, procedure_of};
+ghost use Rattle.ps_scope.specs.Views.{field_of};
 ghost use Rattle.ps_scope.specs.Content.{declared_of};
 ghost use Rattle.ps_scope.specs.inside.Declarations.{declared_routine, error_fields, types_in, simple_view};
 

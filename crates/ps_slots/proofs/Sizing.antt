@@ -4,10 +4,10 @@ use Rattle.std.specs.Borrow.{Bor}
 use Rattle.ps_program.specs.declared.form.Tree.{Tree}
 use Rattle.ps_program.specs.declared.parts.Further.{Further}
 use Rattle.ps_program.specs.declared.parts.Further.TheVariants.{OneBranch, TwoBranches}
-use Rattle.ps_program.specs.Node.{Param, Node, Nodes, none, more, Arm, arm, Arms, no_arms, more_arms, BodyNode, body}
+use Rattle.ps_program.specs.Node.{Param, Node, Nodes, none, more, arm, Arms, no_arms, more_arms, BodyNode, body}
 use Rattle.ps_program.specs.Node as node
 use Rattle.ps_program.specs.NodeView.{node_of, nodes_in}
-use Rattle.ps_program.specs.Parts.{Part, operand, label, branch, literal, fold}
+use Rattle.ps_program.specs.Parts.{Part, operand, label, branch, literal}
 use Rattle.ps_program.specs.Slots.{locals, depth, own_locals, sum_of, reaches}
 use Rattle.ps_program.specs.inside.Listed.{parts_all, parts_arms, parts_of, part_as, literals_of}
 use Rattle.ps_program.specs.inside.PartsView.{AreListed, first_as, further_in}
@@ -18,9 +18,9 @@ use Rattle.ps_base.specs.declared.line.Line.{Line}
 use Rattle.ps_slots.specs.Complexity.{IsFirstComplex}
 use Rattle.ps_slots.specs.declared.complex.Complex.{Complex}
 use Rattle.ps_slots.specs.declared.sizes.Sizes.{Sizes}
-use Rattle.ps_slots.specs.inside.Sizes.{Extent, size_of, nothing, or_else, join, bodies_in, are_any, literal_in, complex_in, size, behind, size_part, size_parts, size_items, size_arms, size_alone}
+use Rattle.ps_slots.specs.inside.Sizes.{Extent, size_of, nothing, or_else, join, are_any, literal_in, complex_in, size, behind, size_part, size_parts, size_items, size_arms, size_alone}
 use Rattle.ps_typing.specs.Fault.{Fault}
-use Rattle.ps_typing.specs.Program.{first_complex, bodies_of, own_body}
+use Rattle.ps_typing.specs.Program.{first_complex, bodies_of, own_body, bodies_with, bodies_in}
 
 -- sizes, joined
 
@@ -109,7 +109,7 @@ size_is n free =
     let parts = parts_of n in
     let sum : locals n ≡ own_locals n + sum_of (map (part_as locals) parts) = fold_parts (λ clause parts. own_locals clause + sum_of parts) n in
     let reach : depth n ≡ reaches 0 (map (part_as depth) parts) = fold_parts (λ clause parts. reaches 0 parts) n in
-    let found : bodies_in n ≡ own_body n ++ bodies_of (map (part_as bodies_in) parts) = fold_parts (λ clause parts. own_body clause ++ bodies_of parts) n in
+    let found : bodies_in n ≡ own_body n ++ bodies_of (map (part_as bodies_in) parts) = fold_parts bodies_with n in
     let behind_own = found ∙ ap (λ own. own ++ bodies_of (map (part_as bodies_in) parts)) (own_is n ∙ free) in
     same _ _ (omega (arith, parts_locals 0 parts)) (omega (arith, parts_depth 0 parts))
     (ap are_any behind_own ∙ parts_literal 0 parts) (ap first_complex behind_own ∙ parts_complex 0 parts)

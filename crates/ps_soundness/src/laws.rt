@@ -1,8 +1,8 @@
-ghost use Rattle.std.specs.Prelude.{◌≡◌, ℕ, List, Some};
+ghost use Rattle.std.specs.Prelude.{ℕ, List, Some};
 ghost use Rattle.ps_base.specs.TyView.{TyView};
-ghost use Rattle.ps_program.specs.Node.{Node, BodyNode};
+ghost use Rattle.ps_program.specs.Node.{Node};
 ghost use Rattle.ps_type_text.specs.Texts.{Field};
-ghost use Rattle.ps_typing.specs.WellTyped.{Env, Free, IsTyped, IsWellTyped};
+ghost use Rattle.ps_typing.specs.WellTyped.{Env, Free, IsTyped};
 ghost use Rattle.ps_meaning.specs.Meaning.{Frame, State};
 ghost use Rattle.ps_meaning.specs.Evaluation.{Context, eval};
 ghost use Rattle.ps_meaning.specs.Calls.{context};

@@ -28,9 +28,17 @@ abbrev pub own_body : Node → List BodyNode
 own_body (node.Proc of) = of ∷ []
 own_body _ = []
 
+-- of a clause whose parts have these bodies in them
+abbrev pub bodies_with : Node → List (Part (List BodyNode)) → List BodyNode
+bodies_with clause parts = own_body clause ++ bodies_of parts
+
+-- the bodies of the literals of a clause, with those in them
+abbrev pub bodies_in : Node → List BodyNode
+bodies_in = fold bodies_with
+
 -- the bodies in a body, itself first, in the order of their first tokens
 abbrev pub bodies : BodyNode → List BodyNode
-bodies (body params gives tree scope line) = body params gives tree scope line ∷ fold (λ clause parts. own_body clause ++ bodies_of parts) tree
+bodies (body params gives tree scope line) = body params gives tree scope line ∷ bodies_in tree
 
 abbrev pub line_of_body : BodyNode → Line
 line_of_body (body params gives tree scope line) = line

@@ -12,7 +12,7 @@ use Rattle.ps_typing.specs.Mentions.{numbers, common}
 use Rattle.ps_typing.specs.Placing.{Locals, Around, place_of, inside}
 use Rattle.ps_typing.specs.Placed.{then_give, ◌>>=◌, placed, placed_all, placed_arms, placed_literal, placed_program, with_params}
 use Rattle.ps_typing.specs.Fault.{Fault, TooComplex}
-use Rattle.ps_typing.specs.Program.{bodies_of, own_body, bodies, line_of_body, first_complex, most_slots}
+use Rattle.ps_typing.specs.Program.{bodies_of, own_body, bodies, line_of_body, first_complex, most_slots, bodies_with, bodies_in}
 use Rattle.ps_typing_laws.specs.Counted.{measure}
 
 -- parts of the same kinds, of which this is so
@@ -170,9 +170,9 @@ parts_measures [] (q ∷ qs) h = absurd h
 parts_measures (p ∷ ps) [] h = absurd h
 
 same_inside : (around : Around) (l : Locals) (tree : Node) →
-    SameMeasures (fold (λ clause parts. own_body clause ++ bodies_of parts) (placed around l tree).of)
-    (fold (λ clause parts. own_body clause ++ bodies_of parts) tree)
-same_inside = same (λ clause parts. own_body clause ++ bodies_of parts) SameMeasures
+    SameMeasures (bodies_in (placed around l tree).of)
+    (bodies_in tree)
+same_inside = same bodies_with SameMeasures
     (λ around l tree ps qs h. joined_measures (own_body (placed around l tree).of) (own_body tree) (bodies_of ps) (bodies_of qs)
     (same_own_body around l tree) (parts_measures ps qs h))
 
@@ -181,7 +181,7 @@ unfolding then_give ◌>>=◌
 same_bodies around l (body params gives_ tree scope line) =
     let within = inside around (common (numbers params) around.kept) in
     let own = with_params params (record { nums = 0; refs = 0; of = l.of }) in
-    ap (λ m. m ∷ map measure (fold (λ clause parts. own_body clause ++ bodies_of parts) (placed within own tree).of))
+    ap (λ m. m ∷ map measure (bodies_in (placed within own tree).of))
     (same_measure around l (body params gives_ tree scope line))
     ∙ ap (λ ms. measure (body params gives_ tree scope line) ∷ ms) (same_inside within own tree)
 

@@ -9,12 +9,12 @@ use Rattle.ps_program.specs.declared.place.Place.{Place}
 use Rattle.ps_program.specs.declared.place.Place.TheVariants.{Plain, Kept}
 use Rattle.ps_program.specs.Node.{Param, Node, Nodes, none, more, Arms, no_arms, more_arms, arm, BodyNode, body}
 use Rattle.ps_program.specs.Node as node
-use Rattle.ps_program.specs.Parts.{Part, operand, label, branch, literal, fold}
+use Rattle.ps_program.specs.Parts.{Part, operand, label, branch, literal}
 use Rattle.ps_program.specs.Slots.{sum_of, own_locals, locals}
 use Rattle.ps_program.specs.inside.Listed.{parts_of, parts_all, parts_arms, part_as}
 use Rattle.ps_program.proofs.PartLemmas.{fold_parts}
 use Rattle.ps_typing.specs.Placing.{is_number}
-use Rattle.ps_typing.specs.Program.{bodies_of, own_body, bodies}
+use Rattle.ps_typing.specs.Program.{bodies_of, own_body, bodies, bodies_with, bodies_in}
 use Rattle.ps_typing.specs.WellTyped.{Some_is, Env, Free, IsLocal, IsAt, next_slot, behind_one, with_local, Claim, ◌has◌, all_have, arms_have, Arguments, Rule, Declares, Takes, IsTyped, AreTyped, AreItems, IsBody, IsWellTyped}
 use Rattle.ps_typing.specs.WellTyped as typed
 use Rattle.ps_typing.specs.Locals.{one_on, taken_on, own_taken, taken_in, taken_by_params, locals_on}
@@ -53,9 +53,6 @@ sum_is f (operand c ∷ rest) = ap (λ n. f c + n) (sum_is f rest)
 sum_is f (label c ∷ rest) = ap (λ n. f c + n) (sum_is f rest)
 sum_is f (branch c ∷ rest) = ap (λ n. f c + n) (sum_is f rest)
 sum_is f (literal c ∷ rest) = sum_is f rest
-
-abbrev pub bodies_in : Node → List BodyNode
-bodies_in = fold (λ clause parts. own_body clause ++ bodies_of parts)
 
 slots_each : (P : Slot → Type 0) (parts : List (Part Node)) → Each (λ (n : Node). Each P (slots_in n)) (evaluated parts) →
     Each P (slots_of_parts (map (part_as slots_in) parts))
@@ -147,7 +144,7 @@ whole free between free' tree trees are own h =
       refs = omega arith;
       few = omega arith;
       slots = subst (Each (Below free')) (sym (fold_parts (λ clause parts. own_slots clause ++ slots_of_parts parts) tree)) slots;
-      bodies = subst (Each IsCounted) (sym (fold_parts (λ clause parts. own_body clause ++ bodies_of parts) tree)) bodies;
+      bodies = subst (Each IsCounted) (sym (fold_parts bodies_with tree)) bodies;
     }
 
 -- clauses one after the other

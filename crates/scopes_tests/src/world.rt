@@ -1,9 +1,7 @@
 //! An area with the text of a scope and the scope, or two of them.
-ghost use Rattle.std.specs.Prelude.{◌≡◌, ◌≤◌, ◌^◌, IfOk, IfSome, OnOk};
+ghost use Rattle.std.specs.Prelude.{◌≤◌, ◌^◌, IfOk, IfSome, OnOk};
 ghost use Rattle.swizzle.specs.Heap.{IsHeld, Stands};
 ghost use Rattle.heap_texts.specs.Texts.{HoldsText};
-ghost use Rattle.heap_places.specs.Places.{IsNear};
-ghost use Rattle.heap_ops.specs.Layouts.{AreSo};
 ghost use Rattle.scopes_tests.specs.World.{IsReady};
 
 use crate::ended::Ended;

@@ -1,9 +1,9 @@
-ghost use Rattle.std.specs.Prelude.{◌≡◌, ◌++◌, OnOk, IfErr, List, ℕ};
+ghost use Rattle.std.specs.Prelude.{◌≡◌, ◌++◌, OnOk, IfErr};
 ghost use Rattle.obj_layout.specs.declared.vault.VaultFault.TheVariants as vault_fault;
 ghost use Rattle.ps_meaning.specs.Event.{report_of, Trapped, OutOfTurns, trap_number as number_of};
 ghost use Rattle.ps_meaning.specs.Meaning.{in_places};
 ghost use Rattle.vault_output.specs.Sending.{Sends};
-ghost use Rattle.machine_state.specs.Stepped.{end_of, item_text, text_of, IsItem};
+ghost use Rattle.machine_state.specs.Stepped.{end_of, text_of, IsItem};
 ghost use Rattle.stack_machine.specs.inside.Blanks.{blanks_of};
 ghost use Rattle.ps_port.specs.Telling.{joined};
 

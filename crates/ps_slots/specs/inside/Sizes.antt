@@ -1,8 +1,8 @@
 -- How large a clause is: its locals and its depth, whether a literal stands in it, and the first body in it that is too complex.
 -- Of clauses one behind the other the locals are added, and of the depths the greatest counts.
-use Rattle.std.specs.Prelude.{ℕ, ◌+◌, max, Bool, true, false, ◌||◌, Option, Some, None, List, [], ◌∷◌, ◌++◌}
+use Rattle.std.specs.Prelude.{ℕ, ◌+◌, max, Bool, true, false, ◌||◌, Option, Some, None, List, [], ◌∷◌}
 use Rattle.ps_program.specs.Node.{Node, Nodes, none, more, arm, Arms, no_arms, more_arms, BodyNode}
-use Rattle.ps_program.specs.Parts.{Part, operand, label, branch, literal, fold}
+use Rattle.ps_program.specs.Parts.{Part, operand, label, branch, literal}
 use Rattle.ps_program.specs.Slots.{own_locals, locals, depth}
 use Rattle.ps_program.specs.inside.Listed.{parts_all}
 use Rattle.ps_slots.specs.declared.sizes.Sizes.{Sizes}
@@ -10,7 +10,7 @@ use Rattle.ps_slots.specs.declared.sizes.Kind.{Kind}
 use Rattle.ps_slots.specs.declared.sizes.Kind.TheVariants.{Operands, Labels, Branches}
 use Rattle.ps_slots.specs.Complexity.{fault_of}
 use Rattle.ps_typing.specs.Fault.{Fault}
-use Rattle.ps_typing.specs.Program.{first_complex, bodies_of, own_body}
+use Rattle.ps_typing.specs.Program.{first_complex, bodies_in}
 
 -- as a clause has it
 pub record Extent : Type 0 where
@@ -31,10 +31,6 @@ nothing = record { locals = 0; depth = 0; literal = false; complex = None }
 
 abbrev pub join : Extent → Extent → Extent
 join a b = record { locals = a.locals + b.locals; depth = max a.depth b.depth; literal = a.literal || b.literal; complex = or_else a.complex b.complex }
-
--- the bodies of the literals of a clause, with those in them
-abbrev pub bodies_in : Node → List BodyNode
-bodies_in = fold (λ clause parts. own_body clause ++ bodies_of parts)
 
 abbrev pub are_any : List BodyNode → Bool
 are_any [] = false
