@@ -1,9 +1,6 @@
 pub mod After
-pub mod Applied
 pub mod Applying
 pub mod Blocks
-pub mod Lets
 pub mod Meeting
 pub mod Places
-pub mod Repeats
 pub mod Views

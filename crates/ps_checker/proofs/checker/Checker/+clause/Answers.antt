@@ -3,87 +3,142 @@ use Rattle.std.specs.Prelude.{option_map, if◌then◌else◌, pos}
 use Rattle.ps_base.specs.List.{items_of}
 use Rattle.ps_base.specs.TyView.{Void, ty_view, ty_views}
 use Rattle.ps_tree.specs.Phrase.{named, phrase_of, form_of, item_of, arm_of, groups_in}
-use Rattle.ps_tree.specs.PhraseLists.{phrases_in, items_in, arms_in as rough_arms_in, maybe_in}
+use Rattle.ps_tree.specs.PhraseLists.{phrases_in, items_in, arms_in as rough_arms_in}
 use Rattle.ps_program.specs.NodeView.{node_of, nodes_in, params_of}
 use Rattle.ps_scope.specs.Content.{names_of}
 use Rattle.ps_typing.specs.Fault.{Twice, NotApplicable, Limit}
 use Rattle.ps_typing.specs.Names.{Names, library, scan, behind, declare_local, inside, is_declared}
-use Rattle.ps_typing.specs.Checking.{Gives, Refuses, check, check_form, check_all, check_each, check_args, check_written, check_arms, checkers, wants, value_applied, with_args, ◌>>=◌, like, name_applied, elements, check_if_any, first_type, types_of, with_params, scan_applied}
+use Rattle.ps_typing.specs.Checking.{Gives, Refuses, check, check_all, check_each, check_args, check_written, check_arms, checkers, wants, value_applied, with_args, ◌>>=◌, like, name_applied, elements, check_if_any, first_type, types_of, with_params, scan_applied}
 use Rattle.ps_declared.specs.inside.Answers.{IsFault}
 use Rattle.ps_checked.specs.inside.Links.{check_link, check_links}
-use Rattle.ps_checked.specs.inside.Weights.{weight, weight_all, weight_form, weight_if_any, weight_item, weight_written, weight_arm, weight_arms, weight_link, weight_links}
+use Rattle.ps_checked.specs.inside.Weights.{weight, weight_all, weight_if_any, weight_item, weight_written, weight_arm, weight_arms, weight_link, weight_links}
 use Rattle.ps_declared.proofs.Steps.{given, fails_as, fails_first, fails_next, is_fault, made, leads, exits, no_memory, remade, remade_both, as_wanted, fails_as_wanted, fails_test}
 use Rattle.ps_base.specs.declared.ty.Signature.{Signature}
 use Rattle.ps_base.proofs.TyLemmas.{ty_view-Proc}
-use Rattle.ps_tree.proofs.PhraseLemmas.{form_of-Sequence, form_of-Write, form_of-Apply, form_of-Elems, form_of-Case, maybe_boxed-back}
-use Rattle.ps_tree.specs.declared.rough.RoughRange.{out-RoughRange}
 use Rattle.ps_checked.specs.inside.Forms.{check_literal, head_node}
 use Rattle.ps_checker.proofs.After.{after, after_nodes, after_arms, after_nothing, fails_after, pushed, finished, pushed_arm, first_pushed, finished_arms, or_given, each_step, args_step, all_is, all_step, written_is, written_step, arms_are, arm_made}
-use Rattle.ps_checker.proofs.Applied.{apply_named, apply_other}
 use Rattle.ps_checker.proofs.Applying.{two_of, not_two, same_number, other_number, no_args, elements_are, some_subscripts}
 use Rattle.ps_checked.proofs.LinkSteps.{one_link, one_weight, fails_links, check_links-push, weight_links-push}
-use Rattle.ps_checker.proofs.Lets.{let_literal, let_other, literal_weight}
-use Rattle.ps_checker.proofs.Repeats.{repeat_once, repeat_twice}
 use Rattle.ps_program.proofs.NodeLists.{case_is}
 use Rattle.ps_program.specs.inside.PartsView.{arms_in}
 use Rattle.ps_tree.specs.declared.rough.RoughArm.{out-RoughArm}
 use Rattle.ps_checked.specs.inside.Cases.{check_arm}
 use Rattle.ps_checked.specs.inside.Lists.{check_item}
 use Rattle.ps_checker.proofs.Places.{weight_at, item_weight_at, arm_weight_at, phrases_from, items_from, arms_from, types_from, phrases_behind, items_behind, arms_behind}
-use Rattle.ps_checker.proofs.Views.{form_of-For, arm_of-parts, item_of-parts}
+use Rattle.ps_checker.proofs.Views.{arm_of-parts, item_of-parts}
+use Rattle.ps_steps.specs.inside.Steps.{check_step, weight_step}
 use Rattle.ps_program.specs.declared.place.Place.TheVariants.{Plain}
 use Rattle.ps_typing.proofs.Keeps.{keeps_around, keeps_fields_around, all_keeps_around, all_keeps_fields_around, params_keep_around, params_keep_fields_around}
-use Rattle.ps_declared.specs.inside.Looks.{LiteralAt}
-use Rattle.ps_declared.specs.inside.Views.{literal_of, groups_of, maybe_lent}
+use Rattle.ps_declared.specs.inside.Views.{literal_of, groups_of}
 use Rattle.ps_scope.specs.Views.{meaning_of}
 use Rattle.ps_checker.proofs.Blocks.{stays, unpassed}
 use Rattle.ps_declared.proofs.Declaring.{few, many, count_is}
 use Rattle.ps_tree.specs.declared.rough.RoughItem.{out-RoughItem}
-use Rattle.ps_checked.specs.inside.Parts.{this, meets, want_of, check_double}
+use Rattle.ps_checked.specs.inside.Parts.{this, meets, want_of}
 use Rattle.ps_checker.proofs.Meeting.{fails_unmet, fails_met, as_met}
 use Rattle.ps_base.specs.TyView as types
 use Rattle.ps_tree.specs.Phrase as form
 use Rattle.ps_program.specs.Node as node
 use Rattle.ps_checker.proofs.checker.Checker.+clause.Goals as goal
-use Rattle.ps_checked.specs.declared.double.Double.TheVariants as double
 
-pub clause-returns-in-Nil : goal.clause-returns-in-Nil
-clause-returns-in-Nil t c = made _ _ _ _ c.new.result (ap (λ f. check_form (names_of c.args.self.now.scope) c.args.rough.now.line (form_of f)) (sym c.deref.ensures ∙ c.in-Nil.is)) c.new.ensures
+pub clause-returns-in-Leaf : goal.clause-returns-in-Leaf
+clause-returns-in-Leaf t c = leads _ _ _ _ (sym c.step_of.ensures.step ∙ ap (λ s. check_step s (names_of c.args.self.now.scope)) c.in-Leaf.is) c.clause.ensures
 
-pub clause-returns-in-Flag : goal.clause-returns-in-Flag
-clause-returns-in-Flag t c = made _ _ _ _ c.new-in-Flag.result (ap (λ f. check_form (names_of c.args.self.now.scope) c.args.rough.now.line (form_of f)) (sym c.deref.ensures ∙ c.in-Flag.is)) c.new-in-Flag.ensures
-
-pub clause-returns-in-Abort : goal.clause-returns-in-Abort
-clause-returns-in-Abort t c = made _ _ _ _ c.new-in-Abort.result (ap (λ f. check_form (names_of c.args.self.now.scope) c.args.rough.now.line (form_of f)) (sym c.deref.ensures ∙ c.in-Abort.is)) c.new-in-Abort.ensures
-
-pub clause-returns-in-Name : goal.clause-returns-in-Name
-clause-returns-in-Name t c = leads _ _ _ _ (ap (λ f. check_form (names_of c.args.self.now.scope) c.args.rough.now.line (form_of f)) (sym c.deref.ensures ∙ c.in-Name.is) ∙ ap (λ name. check_form (names_of c.args.self.now.scope) c.args.rough.now.line (form.Name name)) (sym c.as_slice-in-Name.ensures)) c.used.ensures
-
-pub clause-returns-in-Text : goal.clause-returns-in-Text
-clause-returns-in-Text t c = made _ _ _ _ c.text.result (ap (λ f. check_form (names_of c.args.self.now.scope) c.args.rough.now.line (form_of f)) (sym c.deref.ensures ∙ c.in-Text.is) ∙ ap (λ bytes. check_form (names_of c.args.self.now.scope) c.args.rough.now.line (form.Text bytes)) (sym c.as_slice-in-Text.ensures)) c.text.ensures
-
-pub clause-returns-in-Is : goal.clause-returns-in-Is
-clause-returns-in-Is t c = leads _ _ _ _ (ap (λ f. check_form (names_of c.args.self.now.scope) c.args.rough.now.line (form_of f)) (sym c.deref.ensures ∙ c.in-Is.is) ∙ ap (λ class. check_form (names_of c.args.self.now.scope) c.args.rough.now.line (form.Is (phrase_of c.in-Is.e) (named class) c.in-Is.negated)) (sym c.deref-in-Is.ensures)) c.single-in-Is.ensures
-
-pub clause-returns-in-Structure : goal.clause-returns-in-Structure
-clause-returns-in-Structure t c = leads _ _ _ _ (ap (λ f. check_form (names_of c.args.self.now.scope) c.args.rough.now.line (form_of f)) (sym c.deref.ensures ∙ c.in-Structure.is) ∙ ap (λ name. check_form (names_of c.args.self.now.scope) c.args.rough.now.line (form.Structure (named name) (groups_in (items_of c.in-Structure.fields)))) (sym c.deref-in-Structure.ensures) ∙ ap (λ fields. check_form (names_of c.args.self.now.scope) c.args.rough.now.line (form.Structure (named c.deref-in-Structure.result.now) (groups_in fields))) (sym c.as_slice.ensures)) c.structure.ensures
-
-pub clause-returns-in-Some : goal.clause-returns-in-Some
-clause-returns-in-Some t c = leads _ _ _ _ (ap (λ f. check_form (names_of c.args.self.now.scope) c.args.rough.now.line (form_of f)) (sym c.deref.ensures ∙ c.in-Let.is) ∙ ap (λ n. check_form (names_of c.args.self.now.scope) c.args.rough.now.line (form.Let (named n) c.in-Let.variable (phrase_of c.in-Let.e))) (sym c.deref-in-Some.ensures) ∙ let_literal (names_of c.args.self.now.scope) c.args.rough.now.line _ c.in-Let.variable (phrase_of c.in-Let.e) _ (sym c.in-Some.ensures)) c.named_literal.ensures
-
-pub clause-returns-in-None : goal.clause-returns-in-None
-clause-returns-in-None t c = leads _ _ _ _ (ap (λ f. check_form (names_of c.args.self.now.scope) c.args.rough.now.line (form_of f)) (sym c.deref.ensures ∙ c.in-Let.is) ∙ ap (λ n. check_form (names_of c.args.self.now.scope) c.args.rough.now.line (form.Let (named n) c.in-Let.variable (phrase_of c.in-Let.e))) (sym c.deref-in-None.ensures) ∙ let_other (names_of c.args.self.now.scope) c.args.rough.now.line _ c.in-Let.variable (phrase_of c.in-Let.e) (sym c.in-None.ensures)) c.single.ensures
+pub clause-returns-in-Single : goal.clause-returns-in-Single
+clause-returns-in-Single t c = leads _ _ _ _ (sym c.step_of.ensures.step ∙ ap (λ s. check_step s (names_of c.args.self.now.scope)) c.in-Single.is) c.single.ensures
 
 pub clause-single-requires : goal.clause-single-requires
 clause-single-requires t c =
-    let whole = ap (λ f. weight_form (form_of f)) (sym c.deref.ensures ∙ c.in-Let.is) in
-    (omega (arith, c.decreases, whole), tt)
+    let light = ap weight_step c.in-Single.is in
+    (omega (arith, c.decreases, c.step_of.ensures.lighter, light), tt)
+
+pub clause-returns-in-Double : goal.clause-returns-in-Double
+clause-returns-in-Double t c = leads _ _ _ _ (sym c.step_of.ensures.step ∙ ap (λ s. check_step s (names_of c.args.self.now.scope)) c.in-Double.is) c.double.ensures
+
+pub clause-double-requires : goal.clause-double-requires
+clause-double-requires t c =
+    let light = ap weight_step c.in-Double.is in
+    (omega (arith, c.decreases, c.step_of.ensures.lighter, light), tt)
+
+pub clause-returns-in-Triple : goal.clause-returns-in-Triple
+clause-returns-in-Triple t c = leads _ _ _ _ (sym c.step_of.ensures.step ∙ ap (λ s. check_step s (names_of c.args.self.now.scope)) c.in-Triple.is) c.triple.ensures
+
+pub clause-triple-requires : goal.clause-triple-requires
+clause-triple-requires t c =
+    let light = ap weight_step c.in-Triple.is in
+    (omega (arith, c.decreases, c.step_of.ensures.lighter, light), tt)
+
+pub clause-returns-in-Link : goal.clause-returns-in-Link
+clause-returns-in-Link t c = leads _ _ _ _ (sym c.step_of.ensures.step ∙ ap (λ s. check_step s (names_of c.args.self.now.scope)) c.in-Link.is) c.chain.ensures
+
+pub clause-chain-requires : goal.clause-chain-requires
+clause-chain-requires t c =
+    let light = ap weight_step c.in-Link.is in
+    (omega (arith, c.decreases, c.step_of.ensures.lighter, light), tt)
+
+pub clause-returns-in-Literal : goal.clause-returns-in-Literal
+clause-returns-in-Literal t c = leads _ _ _ _ (sym c.step_of.ensures.step ∙ ap (λ s. check_step s (names_of c.args.self.now.scope)) c.in-Literal.is) c.literal.ensures
+
+pub clause-literal-requires : goal.clause-literal-requires
+clause-literal-requires t c =
+    let light = ap weight_step c.in-Literal.is in
+    (omega (arith, c.decreases, c.step_of.ensures.lighter, light), tt)
+
+pub clause-returns-in-Named : goal.clause-returns-in-Named
+clause-returns-in-Named t c = leads _ _ _ _ (sym c.step_of.ensures.step ∙ ap (λ s. check_step s (names_of c.args.self.now.scope)) c.in-Named.is) c.named_literal.ensures
 
 pub clause-named_literal-requires : goal.clause-named_literal-requires
 clause-named_literal-requires t c =
-    let whole = ap (λ f. weight_form (form_of f)) (sym c.deref.ensures ∙ c.in-Let.is) in
-    let literal = literal_weight (phrase_of c.in-Let.e) _ (sym c.in-Some.ensures) in
-    (omega (arith, c.decreases, whole, literal), tt)
+    let light = ap weight_step c.in-Named.is in
+    (omega (arith, c.decreases, c.step_of.ensures.lighter, light), tt)
+
+pub clause-returns-in-Counted : goal.clause-returns-in-Counted
+clause-returns-in-Counted t c = leads _ _ _ _ (sym c.step_of.ensures.step ∙ ap (λ s. check_step s (names_of c.args.self.now.scope)) c.in-Counted.is) c.counted.ensures
+
+pub clause-counted-requires : goal.clause-counted-requires
+clause-counted-requires t c =
+    let light = ap weight_step c.in-Counted.is in
+    (omega (arith, c.decreases, c.step_of.ensures.lighter, light), tt)
+
+pub clause-returns-in-Case : goal.clause-returns-in-Case
+clause-returns-in-Case t c = leads _ _ _ _ (sym c.step_of.ensures.step ∙ ap (λ s. check_step s (names_of c.args.self.now.scope)) c.in-Case.is) c.case_of.ensures
+
+pub clause-case_of-requires : goal.clause-case_of-requires
+clause-case_of-requires t c =
+    let light = ap weight_step c.in-Case.is in
+    (omega (arith, c.decreases, c.step_of.ensures.lighter, light), tt)
+
+pub clause-returns-in-Write : goal.clause-returns-in-Write
+clause-returns-in-Write t c = leads _ _ _ _ (sym c.step_of.ensures.step ∙ ap (λ s. check_step s (names_of c.args.self.now.scope)) c.in-Write.is) c.write.ensures
+
+pub clause-write-requires : goal.clause-write-requires
+clause-write-requires t c =
+    let light = ap weight_step c.in-Write.is in
+    (omega (arith, c.decreases, c.step_of.ensures.lighter, light), tt)
+
+pub clause-returns-in-Elements : goal.clause-returns-in-Elements
+clause-returns-in-Elements t c = leads _ _ _ _ (sym c.step_of.ensures.step ∙ ap (λ s. check_step s (names_of c.args.self.now.scope)) c.in-Elements.is) c.elements.ensures
+
+pub clause-elements-requires : goal.clause-elements-requires
+clause-elements-requires t c =
+    let light = ap weight_step c.in-Elements.is in
+    (omega (arith, c.decreases, c.step_of.ensures.lighter, light), tt)
+
+pub clause-returns-in-Applied : goal.clause-returns-in-Applied
+clause-returns-in-Applied t c = leads _ _ _ _ (sym c.step_of.ensures.step ∙ ap (λ s. check_step s (names_of c.args.self.now.scope)) c.in-Applied.is) c.name_applied.ensures
+
+pub clause-name_applied-requires : goal.clause-name_applied-requires
+clause-name_applied-requires t c =
+    let light = ap weight_step c.in-Applied.is in
+    (omega (arith, c.decreases, c.step_of.ensures.lighter, light), tt)
+
+pub clause-returns-in-Sequence : goal.clause-returns-in-Sequence
+clause-returns-in-Sequence t c = leads _ _ _ _ (sym c.step_of.ensures.step ∙ ap (λ s. check_step s (names_of c.args.self.now.scope)) c.in-Sequence.is) c.sequence.ensures
+
+pub clause-sequence-requires : goal.clause-sequence-requires
+clause-sequence-requires t c =
+    let light = ap weight_step c.in-Sequence.is in
+    (omega (arith, c.decreases, c.step_of.ensures.lighter, light), tt)
 
 pub name_applied-returns-in_err-meaning : goal.name_applied-returns-in_err-meaning
 name_applied-returns-in_err-meaning t c = exits c.from_residual.result _ c.in_err-meaning.field-0.0 _ c.from_residual.ensures.1 (no_memory _ _ c.in_err-meaning.ensures)
@@ -99,221 +154,6 @@ chain-returns-in_err-innermost t c = exits c.from_residual-in_err-innermost.resu
 
 pub named_literal-returns-in_err-ty : goal.named_literal-returns-in_err-ty
 named_literal-returns-in_err-ty t c = exits c.from_residual.result _ c.in_err-ty.field-0.0 _ c.from_residual.ensures.1 (no_memory _ _ c.in_err-ty.ensures)
-
-pub clause-returns-in-IfDo : goal.clause-returns-in-IfDo
-clause-returns-in-IfDo t c = leads _ _ _ _ (ap (λ f. check_form (names_of c.args.self.now.scope) c.args.rough.now.line (form_of f)) (sym c.deref.ensures ∙ c.in-IfDo.is)) c.double.ensures
-
-pub clause-returns-in-While : goal.clause-returns-in-While
-clause-returns-in-While t c = leads _ _ _ _ (ap (λ f. check_form (names_of c.args.self.now.scope) c.args.rough.now.line (form_of f)) (sym c.deref.ensures ∙ c.in-While.is)) c.double-in-While.ensures
-
-pub clause-returns-in-IfElse : goal.clause-returns-in-IfElse
-clause-returns-in-IfElse t c = leads _ _ _ _ (ap (λ f. check_form (names_of c.args.self.now.scope) c.args.rough.now.line (form_of f)) (sym c.deref.ensures ∙ c.in-IfElse.is)) c.triple-in-IfElse.ensures
-
-pub clause-returns-in-Vector : goal.clause-returns-in-Vector
-clause-returns-in-Vector t c = leads _ _ _ _ (ap (λ f. check_form (names_of c.args.self.now.scope) c.args.rough.now.line (form_of f)) (sym c.deref.ensures ∙ c.in-Vector.is)) c.triple-in-Vector.ensures
-
-pub clause-returns-in-Assign : goal.clause-returns-in-Assign
-clause-returns-in-Assign t c = leads _ _ _ _ (ap (λ f. check_form (names_of c.args.self.now.scope) c.args.rough.now.line (form_of f)) (sym c.deref.ensures ∙ c.in-Assign.is) ∙ ap (λ v. check_double (double.Assign c.args.rough.now.line c.in-Assign.e.line v) (names_of c.args.self.now.scope) (phrase_of c.in-Assign.x) (phrase_of c.in-Assign.e)) (sym c.can_be_assigned-variable.ensures)) c.double-in-Assign.ensures
-
-pub clause-returns-in-Compare : goal.clause-returns-in-Compare
-clause-returns-in-Compare t c = leads _ _ _ _ (ap (λ f. check_form (names_of c.args.self.now.scope) c.args.rough.now.line (form_of f)) (sym c.deref.ensures ∙ c.in-Compare.is)) c.double-in-Compare.ensures
-
-pub clause-returns-in-Some-lent_boxed : goal.clause-returns-in-Some-lent_boxed
-clause-returns-in-Some-lent_boxed t c = leads _ _ _ _ (ap (λ f. check_form (names_of c.args.self.now.scope) c.args.rough.now.line (form_of f)) (sym c.deref.ensures ∙ c.in-Repeat.is) ∙ ap (λ b. check_form (names_of c.args.self.now.scope) c.args.rough.now.line (form.Repeat (phrase_of c.in-Repeat.a) (phrase_of c.in-Repeat.c) b)) (maybe_boxed-back c.in-Repeat.b ∙ sym c.lent_boxed.ensures ∙ ap maybe_lent c.in-Some-lent_boxed.is) ∙ repeat_twice (names_of c.args.self.now.scope) c.args.rough.now.line (phrase_of c.in-Repeat.a) (phrase_of c.in-Repeat.c) (phrase_of c.in-Some-lent_boxed.b.now)) c.triple.ensures
-
-pub clause-returns-in-None-lent_boxed : goal.clause-returns-in-None-lent_boxed
-clause-returns-in-None-lent_boxed t c = leads _ _ _ _ (ap (λ f. check_form (names_of c.args.self.now.scope) c.args.rough.now.line (form_of f)) (sym c.deref.ensures ∙ c.in-Repeat.is) ∙ ap (λ b. check_form (names_of c.args.self.now.scope) c.args.rough.now.line (form.Repeat (phrase_of c.in-Repeat.a) (phrase_of c.in-Repeat.c) b)) (maybe_boxed-back c.in-Repeat.b ∙ sym c.lent_boxed.ensures ∙ ap maybe_lent c.in-None-lent_boxed.is) ∙ repeat_once (names_of c.args.self.now.scope) c.args.rough.now.line (phrase_of c.in-Repeat.a) (phrase_of c.in-Repeat.c)) c.double-in-None-lent_boxed.ensures
-
-pub clause-triple-requires : goal.clause-triple-requires
-clause-triple-requires t c =
-    let whole = ap (λ f. weight_form (form_of f)) (sym c.deref.ensures ∙ c.in-Repeat.is) in
-    let third = ap weight_if_any (maybe_boxed-back c.in-Repeat.b ∙ sym c.lent_boxed.ensures ∙ ap maybe_lent c.in-Some-lent_boxed.is) in
-    (omega (arith, c.decreases, whole, third), tt)
-
-pub clause-double-requires-in-None-lent_boxed : goal.clause-double-requires-in-None-lent_boxed
-clause-double-requires-in-None-lent_boxed t c =
-    let whole = ap (λ f. weight_form (form_of f)) (sym c.deref.ensures ∙ c.in-Repeat.is) in
-    (omega (arith, c.decreases, whole), tt)
-
-pub clause-returns-in-For : goal.clause-returns-in-For
-clause-returns-in-For t c = leads _ _ _ _ (ap (λ f. check_form (names_of c.args.self.now.scope) c.args.rough.now.line (form_of f)) (sym c.deref.ensures ∙ c.in-For.is) ∙ ap (check_form (names_of c.args.self.now.scope) c.args.rough.now.line) (form_of-For c.in-For.name c.in-For.range c.in-For.s) ∙ ap (λ n. check_form (names_of c.args.self.now.scope) c.args.rough.now.line (form.For (named n) (phrase_of (out-RoughRange c.in-For.range.value).a) (phrase_of (out-RoughRange c.in-For.range.value).b) (maybe_in (out-RoughRange c.in-For.range.value).c) (phrase_of c.in-For.s))) (sym c.deref-in-For.ensures) ∙ ap (λ r. check_form (names_of c.args.self.now.scope) c.args.rough.now.line (form.For (named c.deref-in-For.result.now) (phrase_of (out-RoughRange r).a) (phrase_of (out-RoughRange r).b) (maybe_in (out-RoughRange r).c) (phrase_of c.in-For.s))) (sym c.deref-in-For-2.ensures)) c.counted.ensures
-
-pub clause-counted-requires : goal.clause-counted-requires
-clause-counted-requires t c =
-    let range = out-RoughRange c.deref-in-For-2.result.now in
-    let is : form_of c.args.rough.now.form.value ≡ form.For (named c.in-For.name.value) (phrase_of range.a) (phrase_of range.b) (maybe_in range.c) (phrase_of c.in-For.s) = ap form_of (sym c.deref.ensures ∙ c.in-For.is) ∙ form_of-For c.in-For.name c.in-For.range c.in-For.s ∙ ap (λ r. form.For (named c.in-For.name.value) (phrase_of (out-RoughRange r).a) (phrase_of (out-RoughRange r).b) (maybe_in (out-RoughRange r).c) (phrase_of c.in-For.s)) (sym c.deref-in-For-2.ensures) in
-    let whole : weight (phrase_of c.args.rough.now) ≡ weight (phrase_of range.a) + weight (phrase_of range.b) + weight_if_any (maybe_in range.c) + weight (phrase_of c.in-For.s) + 1 = ap (λ f. weight_form f + 1) is in
-    (omega (arith, c.decreases, whole), tt)
-
-pub clause-returns-in-Case : goal.clause-returns-in-Case
-clause-returns-in-Case t c = leads _ _ _ _ (ap (λ f. check_form (names_of c.args.self.now.scope) c.args.rough.now.line (form_of f)) (sym c.deref.ensures ∙ c.in-Case.is) ∙ ap (check_form (names_of c.args.self.now.scope) c.args.rough.now.line) (form_of-Case c.in-Case.e c.in-Case.arms c.in-Case.d) ∙ ap (λ arms. check_form (names_of c.args.self.now.scope) c.args.rough.now.line (form.Case (phrase_of c.in-Case.e) (rough_arms_in arms) (phrase_of c.in-Case.d))) (sym (c.as_slice-in-Case.ensures ∙ ap items_of c.deref-in-Case.ensures))) c.case_of.ensures
-
-pub clause-returns-in-Write : goal.clause-returns-in-Write
-clause-returns-in-Write t c = leads _ _ _ _ (ap (λ f. check_form (names_of c.args.self.now.scope) c.args.rough.now.line (form_of f)) (sym c.deref.ensures ∙ c.in-Write.is) ∙ ap (check_form (names_of c.args.self.now.scope) c.args.rough.now.line) (form_of-Write c.in-Write.items) ∙ ap (λ items. check_form (names_of c.args.self.now.scope) c.args.rough.now.line (form.Write (items_in items))) (sym c.as_slice-in-Write.ensures)) c.write.ensures
-
-pub clause-returns-in-Elems : goal.clause-returns-in-Elems
-clause-returns-in-Elems t c = leads _ _ _ _ (ap (λ f. check_form (names_of c.args.self.now.scope) c.args.rough.now.line (form_of f)) (sym c.deref.ensures ∙ c.in-Elems.is) ∙ ap (check_form (names_of c.args.self.now.scope) c.args.rough.now.line) (form_of-Elems c.in-Elems.l c.in-Elems.ty c.in-Elems.items) ∙ ap (λ ty. check_form (names_of c.args.self.now.scope) c.args.rough.now.line (form.Elems (phrase_of c.in-Elems.l) (ty_view ty) (phrases_in (items_of c.in-Elems.items)))) (sym c.deref-in-Elems.ensures) ∙ ap (λ items. check_form (names_of c.args.self.now.scope) c.args.rough.now.line (form.Elems (phrase_of c.in-Elems.l) (ty_view c.deref-in-Elems.result.now) (phrases_in items))) (sym c.as_slice-in-Elems.ensures)) c.elements.ensures
-
-pub clause-returns-in-Some-name_in : goal.clause-returns-in-Some-name_in
-clause-returns-in-Some-name_in t c = leads _ _ _ _ (ap (λ f. check_form (names_of c.args.self.now.scope) c.args.rough.now.line (form_of f)) (sym c.deref.ensures ∙ c.in-Apply.is) ∙ ap (check_form (names_of c.args.self.now.scope) c.args.rough.now.line) (form_of-Apply c.in-Apply.f c.in-Apply.args) ∙ ap (λ items. check_form (names_of c.args.self.now.scope) c.args.rough.now.line (form.Apply (phrase_of c.in-Apply.f) (phrases_in items))) (sym c.as_slice-in-Some-name_in.ensures) ∙ apply_named (names_of c.args.self.now.scope) c.args.rough.now.line (phrase_of c.in-Apply.f) (phrases_in c.as_slice-in-Some-name_in.result.now) _ (sym c.in-Some-name_in.ensures)) c.name_applied.ensures
-
-pub clause-returns-in-None-name_in : goal.clause-returns-in-None-name_in
-clause-returns-in-None-name_in t c = leads _ _ _ _ (ap (λ f. check_form (names_of c.args.self.now.scope) c.args.rough.now.line (form_of f)) (sym c.deref.ensures ∙ c.in-Apply.is) ∙ ap (check_form (names_of c.args.self.now.scope) c.args.rough.now.line) (form_of-Apply c.in-Apply.f c.in-Apply.args) ∙ ap (λ items. check_form (names_of c.args.self.now.scope) c.args.rough.now.line (form.Apply (phrase_of c.in-Apply.f) (phrases_in items))) (sym c.as_slice-in-None-name_in.ensures) ∙ apply_other (names_of c.args.self.now.scope) c.args.rough.now.line (phrase_of c.in-Apply.f) (phrases_in c.as_slice-in-None-name_in.result.now) (sym c.in-None-name_in.ensures) ∙ sym (c.apply.ensures.link (check (names_of c.args.self.now.scope) (phrase_of c.in-Apply.f)))) c.chain-in-None-name_in.ensures
-
-pub clause-name_applied-requires : goal.clause-name_applied-requires
-clause-name_applied-requires t c =
-    let is : form_of c.args.rough.now.form.value ≡ form.Apply (phrase_of c.in-Apply.f) (phrases_in c.as_slice-in-Some-name_in.result.now) = ap form_of (sym c.deref.ensures ∙ c.in-Apply.is) ∙ form_of-Apply c.in-Apply.f c.in-Apply.args ∙ ap (λ items. form.Apply (phrase_of c.in-Apply.f) (phrases_in items)) (sym c.as_slice-in-Some-name_in.ensures) in
-    let light : weight (phrase_of c.args.rough.now) ≡ weight_form (form.Apply (phrase_of c.in-Apply.f) (phrases_in c.as_slice-in-Some-name_in.result.now)) + 1 = ap (λ f. weight_form f + 1) is in
-    (omega (arith, c.decreases, light), tt)
-
-pub clause-chain-requires-in-None-name_in : goal.clause-chain-requires-in-None-name_in
-clause-chain-requires-in-None-name_in t c =
-    let is : form_of c.args.rough.now.form.value ≡ form.Apply (phrase_of c.in-Apply.f) (phrases_in c.as_slice-in-None-name_in.result.now) = ap form_of (sym c.deref.ensures ∙ c.in-Apply.is) ∙ form_of-Apply c.in-Apply.f c.in-Apply.args ∙ ap (λ items. form.Apply (phrase_of c.in-Apply.f) (phrases_in items)) (sym c.as_slice-in-None-name_in.ensures) in
-    let light : weight (phrase_of c.args.rough.now) ≡ weight_form (form.Apply (phrase_of c.in-Apply.f) (phrases_in c.as_slice-in-None-name_in.result.now)) + 1 = ap (λ f. weight_form f + 1) is in
-    (omega (arith, c.decreases, light, c.apply.ensures.weight), tt)
-
-pub clause-returns-in-Sequence : goal.clause-returns-in-Sequence
-clause-returns-in-Sequence t c = leads _ _ _ _ (ap (λ f. check_form (names_of c.args.self.now.scope) c.args.rough.now.line (form_of f)) (sym c.deref.ensures ∙ c.in-Sequence.is) ∙ ap (check_form (names_of c.args.self.now.scope) c.args.rough.now.line) (form_of-Sequence c.in-Sequence.items) ∙ ap (λ items. check_form (names_of c.args.self.now.scope) c.args.rough.now.line (form.Sequence (phrases_in items))) (sym c.as_slice-in-Sequence.ensures)) c.sequence.ensures
-
-pub clause-returns-in-Proc : goal.clause-returns-in-Proc
-clause-returns-in-Proc t c = leads _ _ _ _ (ap (λ f. check_form (names_of c.args.self.now.scope) c.args.rough.now.line (form_of f)) (sym c.deref.ensures ∙ c.in-Proc.is) ∙ ap (λ params. check_form (names_of c.args.self.now.scope) c.args.rough.now.line (form.Proc (groups_in params) (ty_view c.in-Proc.gives.value) (phrase_of c.in-Proc.s))) (sym c.as_slice-in-Proc.ensures) ∙ ap (λ gives. check_form (names_of c.args.self.now.scope) c.args.rough.now.line (form.Proc (groups_in c.as_slice-in-Proc.result.now) (ty_view gives) (phrase_of c.in-Proc.s))) (sym c.deref-in-Proc.ensures) ∙ ap (check_literal (names_of c.args.self.now.scope)) (sym c.new-in-Proc.ensures)) c.literal.ensures
-
-pub clause-literal-requires : goal.clause-literal-requires
-clause-literal-requires t c =
-    let whole = ap (λ f. weight_form (form_of f)) (sym c.deref.ensures ∙ c.in-Proc.is) in
-    let inside : weight (literal_of c.new-in-Proc.result).s ≡ weight (phrase_of c.in-Proc.s) = ap (λ (l : LiteralAt). weight l.s) c.new-in-Proc.ensures in
-    (omega (arith, c.decreases, whole, inside), tt)
-
-pub clause-returns-in-Or : goal.clause-returns-in-Or
-clause-returns-in-Or t c = leads _ _ _ _ (ap (λ f. check_form (names_of c.args.self.now.scope) c.args.rough.now.line (form_of f)) (sym c.deref.ensures ∙ c.in-Or.is) ∙ sym (c.new-in-Or.ensures.link (check (names_of c.args.self.now.scope) (phrase_of c.in-Or.a)))) c.chain.ensures
-
-pub clause-returns-in-And : goal.clause-returns-in-And
-clause-returns-in-And t c = leads _ _ _ _ (ap (λ f. check_form (names_of c.args.self.now.scope) c.args.rough.now.line (form_of f)) (sym c.deref.ensures ∙ c.in-And.is) ∙ sym (c.new-in-And.ensures.link (check (names_of c.args.self.now.scope) (phrase_of c.in-And.a)))) c.chain-in-And.ensures
-
-pub clause-returns-in-Join : goal.clause-returns-in-Join
-clause-returns-in-Join t c = leads _ _ _ _ (ap (λ f. check_form (names_of c.args.self.now.scope) c.args.rough.now.line (form_of f)) (sym c.deref.ensures ∙ c.in-Join.is) ∙ sym (c.new-in-Join.ensures.link (check (names_of c.args.self.now.scope) (phrase_of c.in-Join.a)))) c.chain-in-Join.ensures
-
-pub clause-returns-in-Arith : goal.clause-returns-in-Arith
-clause-returns-in-Arith t c = leads _ _ _ _ (ap (λ f. check_form (names_of c.args.self.now.scope) c.args.rough.now.line (form_of f)) (sym c.deref.ensures ∙ c.in-Arith.is) ∙ sym (c.new-in-Arith.ensures.link (check (names_of c.args.self.now.scope) (phrase_of c.in-Arith.a)))) c.chain-in-Arith.ensures
-
-pub clause-returns-in-Part : goal.clause-returns-in-Part
-clause-returns-in-Part t c = leads _ _ _ _ (ap (λ f. check_form (names_of c.args.self.now.scope) c.args.rough.now.line (form_of f)) (sym c.deref.ensures ∙ c.in-Part.is) ∙ sym (c.part.ensures.link (check (names_of c.args.self.now.scope) (phrase_of c.in-Part.s)))) c.chain-in-Part.ensures
-
-pub clause-case_of-requires : goal.clause-case_of-requires
-clause-case_of-requires t c =
-    let is : form_of c.args.rough.now.form.value ≡ form.Case (phrase_of c.in-Case.e) (rough_arms_in c.as_slice-in-Case.result.now) (phrase_of c.in-Case.d) = ap form_of (sym c.deref.ensures ∙ c.in-Case.is) ∙ form_of-Case c.in-Case.e c.in-Case.arms c.in-Case.d ∙ ap (λ arms. form.Case (phrase_of c.in-Case.e) (rough_arms_in arms) (phrase_of c.in-Case.d)) (sym (c.as_slice-in-Case.ensures ∙ ap items_of c.deref-in-Case.ensures)) in
-    let light : weight (phrase_of c.args.rough.now) ≡ weight_form (form.Case (phrase_of c.in-Case.e) (rough_arms_in c.as_slice-in-Case.result.now) (phrase_of c.in-Case.d)) + 1 = ap (λ f. weight_form f + 1) is in
-    (omega (arith, c.decreases, light), tt)
-
-pub clause-write-requires : goal.clause-write-requires
-clause-write-requires t c =
-    let is : form_of c.args.rough.now.form.value ≡ form.Write (items_in c.as_slice-in-Write.result.now) = ap form_of (sym c.deref.ensures ∙ c.in-Write.is) ∙ form_of-Write c.in-Write.items ∙ ap (λ items. form.Write (items_in items)) (sym c.as_slice-in-Write.ensures) in
-    let light : weight (phrase_of c.args.rough.now) ≡ weight_form (form.Write (items_in c.as_slice-in-Write.result.now)) + 1 = ap (λ f. weight_form f + 1) is in
-    (omega (arith, c.decreases, light), tt)
-
-pub clause-elements-requires : goal.clause-elements-requires
-clause-elements-requires t c =
-    let is : form_of c.args.rough.now.form.value ≡ form.Elems (phrase_of c.in-Elems.l) (ty_view c.in-Elems.ty.value) (phrases_in c.as_slice-in-Elems.result.now) = ap form_of (sym c.deref.ensures ∙ c.in-Elems.is) ∙ form_of-Elems c.in-Elems.l c.in-Elems.ty c.in-Elems.items ∙ ap (λ items. form.Elems (phrase_of c.in-Elems.l) (ty_view c.in-Elems.ty.value) (phrases_in items)) (sym c.as_slice-in-Elems.ensures) in
-    let light : weight (phrase_of c.args.rough.now) ≡ weight_form (form.Elems (phrase_of c.in-Elems.l) (ty_view c.in-Elems.ty.value) (phrases_in c.as_slice-in-Elems.result.now)) + 1 = ap (λ f. weight_form f + 1) is in
-    (omega (arith, c.decreases, light), tt)
-
-pub clause-sequence-requires : goal.clause-sequence-requires
-clause-sequence-requires t c =
-    let is : form_of c.args.rough.now.form.value ≡ form.Sequence (phrases_in c.as_slice-in-Sequence.result.now) = ap form_of (sym c.deref.ensures ∙ c.in-Sequence.is) ∙ form_of-Sequence c.in-Sequence.items ∙ ap (λ items. form.Sequence (phrases_in items)) (sym c.as_slice-in-Sequence.ensures) in
-    let light : weight (phrase_of c.args.rough.now) ≡ weight_form (form.Sequence (phrases_in c.as_slice-in-Sequence.result.now)) + 1 = ap (λ f. weight_form f + 1) is in
-    (omega (arith, c.decreases, light), tt)
-
-pub clause-returns-in-Not : goal.clause-returns-in-Not
-clause-returns-in-Not t c = leads _ _ _ _ (ap (λ f. check_form (names_of c.args.self.now.scope) c.args.rough.now.line (form_of f)) (sym c.deref.ensures ∙ c.in-Not.is)) c.single-in-Not.ensures
-
-pub clause-returns-in-Plus : goal.clause-returns-in-Plus
-clause-returns-in-Plus t c = leads _ _ _ _ (ap (λ f. check_form (names_of c.args.self.now.scope) c.args.rough.now.line (form_of f)) (sym c.deref.ensures ∙ c.in-Plus.is)) c.single-in-Plus.ensures
-
-pub clause-returns-in-Neg : goal.clause-returns-in-Neg
-clause-returns-in-Neg t c = leads _ _ _ _ (ap (λ f. check_form (names_of c.args.self.now.scope) c.args.rough.now.line (form_of f)) (sym c.deref.ensures ∙ c.in-Neg.is)) c.single-in-Neg.ensures
-
-pub clause-returns-in-Bound : goal.clause-returns-in-Bound
-clause-returns-in-Bound t c = leads _ _ _ _ (ap (λ f. check_form (names_of c.args.self.now.scope) c.args.rough.now.line (form_of f)) (sym c.deref.ensures ∙ c.in-Bound.is)) c.single-in-Bound.ensures
-
-pub clause-double-requires : goal.clause-double-requires
-clause-double-requires t c =
-    let whole = ap (λ f. weight_form (form_of f)) (sym c.deref.ensures ∙ c.in-IfDo.is) in
-    (omega (arith, c.decreases, whole), tt)
-
-pub clause-double-requires-in-While : goal.clause-double-requires-in-While
-clause-double-requires-in-While t c =
-    let whole = ap (λ f. weight_form (form_of f)) (sym c.deref.ensures ∙ c.in-While.is) in
-    (omega (arith, c.decreases, whole), tt)
-
-pub clause-double-requires-in-Assign : goal.clause-double-requires-in-Assign
-clause-double-requires-in-Assign t c =
-    let whole = ap (λ f. weight_form (form_of f)) (sym c.deref.ensures ∙ c.in-Assign.is) in
-    (omega (arith, c.decreases, whole), tt)
-
-pub clause-double-requires-in-Compare : goal.clause-double-requires-in-Compare
-clause-double-requires-in-Compare t c =
-    let whole = ap (λ f. weight_form (form_of f)) (sym c.deref.ensures ∙ c.in-Compare.is) in
-    (omega (arith, c.decreases, whole), tt)
-
-pub clause-triple-requires-in-IfElse : goal.clause-triple-requires-in-IfElse
-clause-triple-requires-in-IfElse t c =
-    let whole = ap (λ f. weight_form (form_of f)) (sym c.deref.ensures ∙ c.in-IfElse.is) in
-    (omega (arith, c.decreases, whole), tt)
-
-pub clause-triple-requires-in-Vector : goal.clause-triple-requires-in-Vector
-clause-triple-requires-in-Vector t c =
-    let whole = ap (λ f. weight_form (form_of f)) (sym c.deref.ensures ∙ c.in-Vector.is) in
-    (omega (arith, c.decreases, whole), tt)
-
-pub clause-chain-requires : goal.clause-chain-requires
-clause-chain-requires t c =
-    let whole = ap (λ f. weight_form (form_of f)) (sym c.deref.ensures ∙ c.in-Or.is) in
-    (omega (arith, c.decreases, whole, c.new-in-Or.ensures.weight), tt)
-
-pub clause-chain-requires-in-And : goal.clause-chain-requires-in-And
-clause-chain-requires-in-And t c =
-    let whole = ap (λ f. weight_form (form_of f)) (sym c.deref.ensures ∙ c.in-And.is) in
-    (omega (arith, c.decreases, whole, c.new-in-And.ensures.weight), tt)
-
-pub clause-chain-requires-in-Join : goal.clause-chain-requires-in-Join
-clause-chain-requires-in-Join t c =
-    let whole = ap (λ f. weight_form (form_of f)) (sym c.deref.ensures ∙ c.in-Join.is) in
-    (omega (arith, c.decreases, whole, c.new-in-Join.ensures.weight), tt)
-
-pub clause-chain-requires-in-Arith : goal.clause-chain-requires-in-Arith
-clause-chain-requires-in-Arith t c =
-    let whole = ap (λ f. weight_form (form_of f)) (sym c.deref.ensures ∙ c.in-Arith.is) in
-    (omega (arith, c.decreases, whole, c.new-in-Arith.ensures.weight), tt)
-
-pub clause-chain-requires-in-Part : goal.clause-chain-requires-in-Part
-clause-chain-requires-in-Part t c =
-    let whole = ap (λ f. weight_form (form_of f)) (sym c.deref.ensures ∙ c.in-Part.is) in
-    (omega (arith, c.decreases, whole, c.part.ensures.weight), tt)
-
-pub clause-single-requires-in-Not : goal.clause-single-requires-in-Not
-clause-single-requires-in-Not t c =
-    let whole = ap (λ f. weight_form (form_of f)) (sym c.deref.ensures ∙ c.in-Not.is) in
-    (omega (arith, c.decreases, whole), tt)
-
-pub clause-single-requires-in-Plus : goal.clause-single-requires-in-Plus
-clause-single-requires-in-Plus t c =
-    let whole = ap (λ f. weight_form (form_of f)) (sym c.deref.ensures ∙ c.in-Plus.is) in
-    (omega (arith, c.decreases, whole), tt)
-
-pub clause-single-requires-in-Neg : goal.clause-single-requires-in-Neg
-clause-single-requires-in-Neg t c =
-    let whole = ap (λ f. weight_form (form_of f)) (sym c.deref.ensures ∙ c.in-Neg.is) in
-    (omega (arith, c.decreases, whole), tt)
-
-pub clause-single-requires-in-Is : goal.clause-single-requires-in-Is
-clause-single-requires-in-Is t c =
-    let whole = ap (λ f. weight_form (form_of f)) (sym c.deref.ensures ∙ c.in-Is.is) in
-    (omega (arith, c.decreases, whole), tt)
-
-pub clause-single-requires-in-Bound : goal.clause-single-requires-in-Bound
-clause-single-requires-in-Bound t c =
-    let whole = ap (λ f. weight_form (form_of f)) (sym c.deref.ensures ∙ c.in-Bound.is) in
-    (omega (arith, c.decreases, whole), tt)
 
 pub part-returns-in_err-clause : goal.part-returns-in_err-clause
 part-returns-in_err-clause t c = exits c.from_residual.result _ c.in_err-clause.field-0.0 _ c.from_residual.ensures.1 (fails_unmet _ _ _ _ c.in_err-clause.ensures)

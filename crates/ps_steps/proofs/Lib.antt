@@ -1,0 +1,4 @@
+pub mod Applied
+pub mod Lets
+pub mod Loops
+pub mod Repeats
