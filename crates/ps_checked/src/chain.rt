@@ -10,20 +10,30 @@ use crate::link::{Joint, Link};
 use ps_declared::fault::CheckFault;
 use ps_declared::looks::name_in;
 use ps_tree::rough::{Rough, RoughForm};
+use std::alloc::Global;
 
-/// Goes down the left operands of a chain, and keeps the links on the way. What is applied by its name has no left operand. The only
+/// The links of a chain, the last first, and its innermost left operand.
+#[derive(Drop)]
+pub struct Chain<'a> {
+    pub links: Vec<Link<'a>>,
+    pub innermost: &'a Rough,
+}
+
+/// The links of a chain, of which the last is known and what stands before it. What is applied by its name has no left operand. The only
 /// fault is `Memory`.
-pub fn gather<'a>(links: &mut Vec<Link<'a>>, left: &'a Rough) -> Result<&'a Rough, CheckFault>
-    ensures chain { IfOk result (λ innermost. (names : Names) → check_links links.new.items (check_of names (phrase_of innermost.now)) ≡ check_links links.old.items (check_of names (phrase_of left.now))) }
-    ensures lighter { IfOk result (λ innermost. weight_links links.new.items + weight (phrase_of innermost.now) ≤ weight_links links.old.items + weight (phrase_of left.now)) }
+pub fn gather<'a>(alloc: Global, last: Link<'a>, left: &'a Rough) -> Result<Chain<'a>, CheckFault>
+    ensures chain { IfOk result (λ chain. (names : Names) → check_links chain.links.items (check_of names (phrase_of chain.innermost.now)) ≡ check_link last.entry (check_of names (phrase_of left.now))) }
+    ensures lighter { IfOk result (λ chain. weight_links chain.links.items + weight (phrase_of chain.innermost.now) ≤ weight_link last.entry + weight (phrase_of left.now)) }
     ensures fault { IfErr result IsMemory }
 {
-    let mut rest = left;
-    while let Some((link, inner)) = link_of(rest) {
+    let mut links = Vec::new(alloc);
+    links.push(last)?;
+    let mut innermost = left;
+    while let Some((link, inner)) = link_of(innermost) {
         links.push(link)?;
-        rest = inner;
+        innermost = inner;
     }
-    Ok(rest)
+    Ok(Chain { links, innermost })
 }
 
 // The last link of a chain and what stands before it, where a clause is a chain.

@@ -6,15 +6,16 @@ ghost use Rattle.ps_program.specs.Node as node;
 ghost use Rattle.ps_program.specs.Node.{body};
 ghost use Rattle.ps_program.specs.NodeView.{node_of, params_of};
 ghost use Rattle.ps_scope.specs.Content.{names_of};
-ghost use Rattle.ps_typing.specs.Checking.{with_params, types_of};
-ghost use Rattle.ps_declared.specs.inside.Answers.{IsMade, IsMemory};
+ghost use Rattle.ps_typing.specs.Checking.{Gives, with_params, types_of};
+ghost use Rattle.ps_declared.specs.inside.Answers.{IsFault, IsMade, IsMemory};
 ghost use Rattle.ps_declared.specs.inside.Declaring.{AreParams, IsParam, one_param};
-ghost use Rattle.ps_declared.specs.inside.Views.{groups_of, group_of};
+ghost use Rattle.ps_declared.specs.inside.Views.{groups_of, group_of, literal_of};
+ghost use Rattle.ps_checked.specs.inside.Forms.{opened as opened_of};
 
 use ps_base::list::List;
 use ps_base::ty::{self, Ty};
 use ps_declared::clause::Clause;
-use ps_declared::declarators::{self, Declarator, declarators};
+use ps_declared::declarators::{self, Declarator, MOST, declarators};
 use ps_declared::fault::CheckFault;
 use ps_declared::looks::Literal;
 use ps_program::body::{Body, Param};
@@ -23,8 +24,36 @@ use ps_program::place::Place;
 use ps_scope::scope::Scope;
 use std::alloc::Global;
 
-/// The parameters, which are variables of a block of their own. Faults: `Twice`, and `Memory`.
-pub fn parameters(
+/// The parameters of a literal, one by one, and as the variables that they are.
+#[derive(Drop)]
+pub struct Opened<'a> {
+    pub params: Vec<Declarator<'a>>,
+    pub places: Vec<Param>,
+}
+
+/// The parameters of a literal, which are variables of the block that was gone into for them. Faults: `Limit` where there are more than
+/// 64, `Twice`, and `Memory`.
+pub fn open<'a>(
+    alloc: Global,
+    scope: &mut Scope,
+    literal: Literal<'a>,
+) -> Result<Opened<'a>, CheckFault>
+    ensures { MatchResult result (λ made. (groups_of made.params.items ≡ groups_in literal.entry.params.now) × (opened_of (names_of scope.old) (literal_of literal.entry) ≡ Gives (params_of made.places.items) types.Void (names_of scope.new))) (IsFault (opened_of (names_of scope.old) (literal_of literal.entry))) }
+{
+    let params = declarators(alloc, literal.params)?;
+    if params.len() > MOST {
+        let count = params.len();
+        return Err(CheckFault::Limit {
+            line: literal.line,
+            count,
+        });
+    }
+    let places = parameters(alloc, scope, params.as_slice())?;
+    Ok(Opened { params, places })
+}
+
+// The parameters, which are variables of a block of their own. Faults: `Twice`, and `Memory`.
+fn parameters(
     alloc: Global,
     scope: &mut Scope,
     params: &[Declarator],

@@ -1,12 +1,14 @@
 -- Where a block ends, what was around it is still there.
-use Rattle.std.proofs.Common.{◌≡◌, ◌≤◌, ℕ, Bool, true, false, List, ◌++◌, length, length-append, arith, ap}
+use Rattle.std.proofs.Common.{◌≡◌, ◌≤◌, ℕ, Bool, true, false, List, [], ◌++◌, length, length-append, nat_lt, arith, ap}
 use Rattle.std.specs.Prelude.{if◌then◌else◌}
 use Rattle.ps_base.specs.TyView.{TyView}
 use Rattle.ps_base.specs.declared.line.Line.{Line}
-use Rattle.ps_program.specs.Node.{Node}
-use Rattle.ps_typing.specs.Fault.{Mismatch}
+use Rattle.ps_program.specs.Node.{Node, Param}
+use Rattle.ps_typing.specs.Fault.{Limit, Mismatch}
 use Rattle.ps_typing.specs.Names.{Names}
-use Rattle.ps_typing.specs.Checking.{Outcome, Gives, Refuses, passes}
+use Rattle.ps_typing.specs.Checking.{Outcome, Gives, Refuses, passes, with_params}
+use Rattle.ps_declared.specs.inside.Looks.{LiteralAt}
+use Rattle.ps_checked.specs.inside.Forms.{opened}
 
 pub stays : {A : Type 0} (block : ℕ) (last here around : List A) → last ≡ here ++ around → block ≡ length around → block ≤ length last
 stays block last here around is at =
@@ -26,3 +28,11 @@ unpassed test wanted line (Gives a k m) tree ty n is = by_test (test k) is
     by_test true same = same
     by_test false same = absurd cc
 unpassed test wanted line (Refuses fault) tree ty n is = absurd cc
+
+-- the parameters of a literal that are not too many
+pub few_opened : (own : Names) (l : LiteralAt) (made : List Param) (t : TyView) (n : Names) → opened own l ≡ Gives made t n → with_params own [] l.params ≡ Gives made t n
+few_opened own l made t n is = by_test (nat_lt 64 (length l.params)) is
+  where
+    by_test : (b : Bool) → (if b then Refuses (Limit l.line (length l.params)) else with_params own [] l.params) ≡ Gives made t n → with_params own [] l.params ≡ Gives made t n
+    by_test true same = absurd cc
+    by_test false same = same

@@ -8,7 +8,7 @@ ghost use Rattle.ps_checked.specs.inside.Links.{check_link};
 
 use crate::checker::Checker;
 use ps_base::ty::Ty;
-use ps_checked::chain::gather;
+use ps_checked::chain::{Chain, gather};
 use ps_checked::double::Double;
 use ps_checked::link::Link;
 use ps_checked::single::Single;
@@ -22,9 +22,8 @@ impl Checker {
     pub(crate) fn chain(&mut self, left: &Rough, last: Link) -> Result<Clause, CheckFault>
         ensures { IsClause (check_link last.entry (check_of (names_of self.old.scope) (phrase_of left.now))) result self.new.scope }
     {
-        let mut links = Vec::new(self.alloc);
-        links.push(last)?;
-        let innermost = gather(&mut links, left)?;
+        let Chain { links, innermost } = gather(self.alloc, last, left)?;
+        let mut links = links;
         let mut chain = self.clause(innermost)?;
         while let Some(link) = links.pop() {
             chain = self.link(link, chain)?;

@@ -6,10 +6,9 @@ ghost use Rattle.ps_declared.specs.inside.Views.{literal_of};
 
 use crate::checker::Checker;
 use ps_base::ty::Ty;
-use ps_checked::literals::{parameters, procedure, type_of};
+use ps_checked::literals::{Opened, open, procedure, type_of};
 use ps_checked::wanted::Wanted;
 use ps_declared::clause::Clause;
-use ps_declared::declarators::{MOST, declarators};
 use ps_declared::fault::CheckFault;
 use ps_declared::looks::Literal;
 use ps_program::form::TreeForm;
@@ -43,14 +42,8 @@ impl Checker {
     pub(crate) fn literal(&mut self, literal: Literal) -> Result<Clause, CheckFault>
         ensures { IsClause (check_literal (names_of self.old.scope) (literal_of literal.entry)) result self.new.scope }
     {
-        let line = literal.line;
-        let params = declarators(self.alloc, literal.params)?;
-        if params.len() > MOST {
-            let count = params.len();
-            return Err(CheckFault::Limit { line, count });
-        }
         let block = self.scope.enter();
-        let places = parameters(self.alloc, &mut self.scope, params.as_slice())?;
+        let Opened { params, places } = open(self.alloc, &mut self.scope, literal)?;
         let wanted = Wanted::This(literal.gives.copy()?);
         let Clause { tree: s, ty: _ } = self.part(literal.s, wanted)?;
         self.scope.leave(block);

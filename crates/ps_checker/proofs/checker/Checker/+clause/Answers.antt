@@ -6,19 +6,19 @@ use Rattle.ps_tree.specs.Phrase.{named, phrase_of, form_of, item_of, arm_of, gro
 use Rattle.ps_tree.specs.PhraseLists.{phrases_in, items_in, arms_in as rough_arms_in}
 use Rattle.ps_program.specs.NodeView.{node_of, nodes_in, params_of}
 use Rattle.ps_scope.specs.Content.{names_of}
-use Rattle.ps_typing.specs.Fault.{Twice, NotApplicable, Limit}
+use Rattle.ps_typing.specs.Fault.{Twice, NotApplicable}
 use Rattle.ps_typing.specs.Names.{Names, library, scan, behind, declare_local, inside, is_declared}
-use Rattle.ps_typing.specs.Checking.{Gives, Refuses, check, check_all, check_each, check_args, check_written, check_arms, checkers, wants, value_applied, with_args, ◌>>=◌, like, name_applied, elements, check_if_any, first_type, types_of, with_params, scan_applied}
+use Rattle.ps_typing.specs.Checking.{Gives, Refuses, check, check_all, check_each, check_args, check_written, check_arms, checkers, wants, value_applied, with_args, ◌>>=◌, like, name_applied, elements, check_if_any, first_type, types_of, scan_applied}
 use Rattle.ps_declared.specs.inside.Answers.{IsFault}
 use Rattle.ps_checked.specs.inside.Links.{check_link, check_links}
 use Rattle.ps_checked.specs.inside.Weights.{weight, weight_all, weight_if_any, weight_item, weight_written, weight_arm, weight_arms, weight_link, weight_links}
 use Rattle.ps_declared.proofs.Steps.{given, fails_as, fails_first, fails_next, is_fault, made, leads, exits, no_memory, remade, remade_both, as_wanted, fails_as_wanted, fails_test}
 use Rattle.ps_base.specs.declared.ty.Signature.{Signature}
 use Rattle.ps_base.proofs.TyLemmas.{ty_view-Proc}
-use Rattle.ps_checked.specs.inside.Forms.{check_literal, head_node}
+use Rattle.ps_checked.specs.inside.Forms.{check_literal, head_node, opened}
 use Rattle.ps_checker.proofs.After.{after, after_nodes, after_arms, after_nothing, fails_after, pushed, finished, pushed_arm, first_pushed, finished_arms, or_given, each_step, args_step, all_is, all_step, written_is, written_step, arms_are, arm_made}
 use Rattle.ps_checker.proofs.Applying.{two_of, not_two, same_number, other_number, no_args, elements_are, some_subscripts}
-use Rattle.ps_checked.proofs.LinkSteps.{one_link, one_weight, fails_links, check_links-push, weight_links-push}
+use Rattle.ps_checked.proofs.LinkSteps.{fails_links, check_links-push, weight_links-push}
 use Rattle.ps_program.proofs.NodeLists.{case_is}
 use Rattle.ps_program.specs.inside.PartsView.{arms_in}
 use Rattle.ps_tree.specs.declared.rough.RoughArm.{out-RoughArm}
@@ -31,8 +31,7 @@ use Rattle.ps_program.specs.declared.place.Place.TheVariants.{Plain}
 use Rattle.ps_typing.proofs.Keeps.{keeps_around, keeps_fields_around, all_keeps_around, all_keeps_fields_around, params_keep_around, params_keep_fields_around}
 use Rattle.ps_declared.specs.inside.Views.{literal_of, groups_of}
 use Rattle.ps_scope.specs.Views.{meaning_of}
-use Rattle.ps_checker.proofs.Blocks.{stays, unpassed}
-use Rattle.ps_declared.proofs.Declaring.{few, many, count_is}
+use Rattle.ps_checker.proofs.Blocks.{few_opened, stays, unpassed}
 use Rattle.ps_tree.specs.declared.rough.RoughItem.{out-RoughItem}
 use Rattle.ps_checked.specs.inside.Parts.{this, meets, want_of}
 use Rattle.ps_checker.proofs.Meeting.{fails_unmet, fails_met, as_met}
@@ -146,11 +145,8 @@ name_applied-returns-in_err-meaning t c = exits c.from_residual.result _ c.in_er
 pub double-returns-in_err-wanted : goal.double-returns-in_err-wanted
 double-returns-in_err-wanted t c = exits c.from_residual-in_err-wanted.result _ c.in_err-wanted.field-0.0 _ c.from_residual-in_err-wanted.ensures.1 (no_memory _ _ c.in_err-wanted.ensures)
 
-pub literal-returns-in_err-params : goal.literal-returns-in_err-params
-literal-returns-in_err-params t c = exits c.from_residual.result _ c.in_err-params.field-0.0 _ c.from_residual.ensures.1 (no_memory _ _ c.in_err-params.ensures)
-
-pub chain-returns-in_err-innermost : goal.chain-returns-in_err-innermost
-chain-returns-in_err-innermost t c = exits c.from_residual-in_err-innermost.result _ c.in_err-innermost.field-0.0 _ c.from_residual-in_err-innermost.ensures.1 (no_memory _ _ c.in_err-innermost.ensures.fault)
+pub chain-returns-in_err-links : goal.chain-returns-in_err-links
+chain-returns-in_err-links t c = exits c.from_residual.result _ c.in_err-links.field-0.0 _ c.from_residual.ensures.1 (no_memory _ _ c.in_err-links.ensures.fault)
 
 pub named_literal-returns-in_err-ty : goal.named_literal-returns-in_err-ty
 named_literal-returns-in_err-ty t c = exits c.from_residual.result _ c.in_err-ty.field-0.0 _ c.from_residual.ensures.1 (no_memory _ _ c.in_err-ty.ensures)
@@ -473,45 +469,38 @@ named_literal-returns t c = made _ _ _ _ c.new.result ((ap (λ b. if b then Refu
 pub named_literal-literal-requires : goal.named_literal-literal-requires
 named_literal-literal-requires t c = (omega (arith, c.decreases), tt)
 
-pub literal-returns-then-len-gt-MOST : goal.literal-returns-then-len-gt-MOST
-literal-returns-then-len-gt-MOST t c =
-    let at : c.len.result ≡ length c.in_ok-params.params.items = search rules in
-    let counted : c.len-count.result ≡ length c.in_ok-params.params.items = search rules in
-    fails_first _ _ (λ made t own. wants (ty_view c.args.literal.gives.now) c.args.literal.s.now.line (check own (phrase_of c.args.literal.s.now)) >>= λ s t last. Gives (node.Proc (node.body made (ty_view c.args.literal.gives.now) s None c.args.literal.line)) (types.Proc (types_of (groups_in c.args.literal.params.now)) (ty_view c.args.literal.gives.now)) (behind (names_of c.args.self.now.scope) last)) (is_fault _ _ (Limit c.args.literal.line (length (groups_in c.args.literal.params.now))) (ap (λ k. Some (Limit c.args.literal.line k)) (count_is c.in_ok-params.params.items _ _ c.in_ok-params.ensures counted)) (ap (λ b. if b then Refuses (Limit c.args.literal.line (length (groups_in c.args.literal.params.now))) else with_params (inside (names_of c.args.self.now.scope)) [] (groups_in c.args.literal.params.now)) (many c.in_ok-params.params.items _ _ c.in_ok-params.ensures at c.if-len-gt-MOST.true)))
-
-pub literal-returns-in_err-places : goal.literal-returns-in_err-places
-literal-returns-in_err-places t c = exits c.from_residual-in_err-places.result _ c.in_err-places.field-0.0 _ c.from_residual-in_err-places.ensures.1 (fails_first _ _ (λ made t own. wants (ty_view c.args.literal.gives.now) c.args.literal.s.now.line (check own (phrase_of c.args.literal.s.now)) >>= λ s t last. Gives (node.Proc (node.body made (ty_view c.args.literal.gives.now) s None c.args.literal.line)) (types.Proc (types_of (groups_in c.args.literal.params.now)) (ty_view c.args.literal.gives.now)) (behind (names_of c.args.self.now.scope) last)) (fails_as _ _ _ ((ap (λ b. if b then Refuses (Limit c.args.literal.line (length (groups_in c.args.literal.params.now))) else with_params (inside (names_of c.args.self.now.scope)) [] (groups_in c.args.literal.params.now)) (few c.in_ok-params.params.items _ _ c.in_ok-params.ensures (let at : c.len.result ≡ length c.in_ok-params.params.items = search rules in at) c.if-len-gt-MOST.false)) ∙ ap (with_params (inside (names_of c.args.self.now.scope)) []) (sym (ap groups_of c.as_slice.ensures.value ∙ c.in_ok-params.ensures))) (subst (λ n. IsFault (with_params n [] (groups_of c.as_slice.result.now)) c.in_err-places.field-0.0) c.enter-block.ensures.names c.in_err-places.ensures)))
+pub literal-returns-in_err-params : goal.literal-returns-in_err-params
+literal-returns-in_err-params t c = exits c.from_residual.result _ c.in_err-params.field-0.0 _ c.from_residual.ensures.1 (fails_first _ _ (λ made t own. wants (ty_view c.args.literal.gives.now) c.args.literal.s.now.line (check own (phrase_of c.args.literal.s.now)) >>= λ s t last. Gives (node.Proc (node.body made (ty_view c.args.literal.gives.now) s None c.args.literal.line)) (types.Proc (types_of (groups_in c.args.literal.params.now)) (ty_view c.args.literal.gives.now)) (behind (names_of c.args.self.now.scope) last)) (subst (λ n. IsFault (opened n (literal_of c.args.literal)) c.in_err-params.field-0.0) c.enter-block.ensures.names c.in_err-params.ensures))
 
 pub literal-returns-in_err-s : goal.literal-returns-in_err-s
-literal-returns-in_err-s t c = exits c.from_residual-in_err-s.result _ c.in_err-s.field-0.0 _ c.from_residual-in_err-s.ensures.1 (fails_next _ _ _ _ (λ made t own. wants (ty_view c.args.literal.gives.now) c.args.literal.s.now.line (check own (phrase_of c.args.literal.s.now)) >>= λ s t last. Gives (node.Proc (node.body made (ty_view c.args.literal.gives.now) s None c.args.literal.line)) (types.Proc (types_of (groups_in c.args.literal.params.now)) (ty_view c.args.literal.gives.now)) (behind (names_of c.args.self.now.scope) last)) _ ((ap (λ b. if b then Refuses (Limit c.args.literal.line (length (groups_in c.args.literal.params.now))) else with_params (inside (names_of c.args.self.now.scope)) [] (groups_in c.args.literal.params.now)) (few c.in_ok-params.params.items _ _ c.in_ok-params.ensures (let at : c.len.result ≡ length c.in_ok-params.params.items = search rules in at) c.if-len-gt-MOST.false)) ∙ ap (with_params (inside (names_of c.args.self.now.scope)) []) (sym (ap groups_of c.as_slice.ensures.value ∙ c.in_ok-params.ensures)) ∙ (subst (λ n. with_params n [] (groups_of c.as_slice.result.now) ≡ Gives (params_of c.in_ok-places.places.items) Void (names_of c.parameters.new.scope)) c.enter-block.ensures.names c.in_ok-places.ensures)) (fails_first _ _ _ (fails_met _ _ _ (ap this c.in_ok-copy.ensures) c.in_err-s.ensures)))
+literal-returns-in_err-s t c = exits c.from_residual-in_err-s.result _ c.in_err-s.field-0.0 _ c.from_residual-in_err-s.ensures.1 (fails_next _ _ _ _ (λ made t own. wants (ty_view c.args.literal.gives.now) c.args.literal.s.now.line (check own (phrase_of c.args.literal.s.now)) >>= λ s t last. Gives (node.Proc (node.body made (ty_view c.args.literal.gives.now) s None c.args.literal.line)) (types.Proc (types_of (groups_in c.args.literal.params.now)) (ty_view c.args.literal.gives.now)) (behind (names_of c.args.self.now.scope) last)) _ (subst (λ n. opened n (literal_of c.args.literal) ≡ Gives (params_of c.in_ok-params.field-0.places.items) Void (names_of c.open.new.scope)) c.enter-block.ensures.names c.in_ok-params.ensures.1) (fails_first _ _ _ (fails_met _ _ _ (ap this c.in_ok-copy.ensures) c.in_err-s.ensures)))
 
 pub literal-leave-requires-clause-names : goal.literal-leave-requires-clause-names
-literal-leave-requires-clause-names t c = stays _ _ _ _ (keeps_around _ (phrase_of c.args.literal.s.now) _ _ _ (unpassed _ _ _ _ _ _ _ (as_met _ _ _ _ _ (ap this c.in_ok-copy.ensures) c.in_ok-s.ensures)) ∙ params_keep_around (inside (names_of c.args.self.now.scope)) [] (groups_of c.as_slice.result.now) _ _ _ (subst (λ n. with_params n [] (groups_of c.as_slice.result.now) ≡ Gives (params_of c.in_ok-places.places.items) Void (names_of c.parameters.new.scope)) c.enter-block.ensures.names c.in_ok-places.ensures)) c.enter-block.ensures.names_around
+literal-leave-requires-clause-names t c = stays _ _ _ _ (keeps_around _ (phrase_of c.args.literal.s.now) _ _ _ (unpassed _ _ _ _ _ _ _ (as_met _ _ _ _ _ (ap this c.in_ok-copy.ensures) c.in_ok-s.ensures)) ∙ params_keep_around (inside (names_of c.args.self.now.scope)) [] (groups_in c.args.literal.params.now) _ _ _ (few_opened (inside (names_of c.args.self.now.scope)) (literal_of c.args.literal) _ _ _ (subst (λ n. opened n (literal_of c.args.literal) ≡ Gives (params_of c.in_ok-params.field-0.places.items) Void (names_of c.open.new.scope)) c.enter-block.ensures.names c.in_ok-params.ensures.1))) c.enter-block.ensures.names_around
 
 pub literal-leave-requires-clause-fields : goal.literal-leave-requires-clause-fields
-literal-leave-requires-clause-fields t c = stays _ _ _ _ (keeps_fields_around _ (phrase_of c.args.literal.s.now) _ _ _ (unpassed _ _ _ _ _ _ _ (as_met _ _ _ _ _ (ap this c.in_ok-copy.ensures) c.in_ok-s.ensures)) ∙ params_keep_fields_around (inside (names_of c.args.self.now.scope)) [] (groups_of c.as_slice.result.now) _ _ _ (subst (λ n. with_params n [] (groups_of c.as_slice.result.now) ≡ Gives (params_of c.in_ok-places.places.items) Void (names_of c.parameters.new.scope)) c.enter-block.ensures.names c.in_ok-places.ensures)) c.enter-block.ensures.fields_around
+literal-leave-requires-clause-fields t c = stays _ _ _ _ (keeps_fields_around _ (phrase_of c.args.literal.s.now) _ _ _ (unpassed _ _ _ _ _ _ _ (as_met _ _ _ _ _ (ap this c.in_ok-copy.ensures) c.in_ok-s.ensures)) ∙ params_keep_fields_around (inside (names_of c.args.self.now.scope)) [] (groups_in c.args.literal.params.now) _ _ _ (few_opened (inside (names_of c.args.self.now.scope)) (literal_of c.args.literal) _ _ _ (subst (λ n. opened n (literal_of c.args.literal) ≡ Gives (params_of c.in_ok-params.field-0.places.items) Void (names_of c.open.new.scope)) c.enter-block.ensures.names c.in_ok-params.ensures.1))) c.enter-block.ensures.fields_around
 
 pub literal-returns : goal.literal-returns
-literal-returns t c = made _ _ _ _ c.procedure.result (given _ _ _ _ (λ made t own. wants (ty_view c.args.literal.gives.now) c.args.literal.s.now.line (check own (phrase_of c.args.literal.s.now)) >>= λ s t last. Gives (node.Proc (node.body made (ty_view c.args.literal.gives.now) s None c.args.literal.line)) (types.Proc (types_of (groups_in c.args.literal.params.now)) (ty_view c.args.literal.gives.now)) (behind (names_of c.args.self.now.scope) last)) ((ap (λ b. if b then Refuses (Limit c.args.literal.line (length (groups_in c.args.literal.params.now))) else with_params (inside (names_of c.args.self.now.scope)) [] (groups_in c.args.literal.params.now)) (few c.in_ok-params.params.items _ _ c.in_ok-params.ensures (let at : c.len.result ≡ length c.in_ok-params.params.items = search rules in at) c.if-len-gt-MOST.false)) ∙ ap (with_params (inside (names_of c.args.self.now.scope)) []) (sym (ap groups_of c.as_slice.ensures.value ∙ c.in_ok-params.ensures)) ∙ (subst (λ n. with_params n [] (groups_of c.as_slice.result.now) ≡ Gives (params_of c.in_ok-places.places.items) Void (names_of c.parameters.new.scope)) c.enter-block.ensures.names c.in_ok-places.ensures)) ∙ given _ _ _ _ _ (as_met _ _ _ _ _ (ap this c.in_ok-copy.ensures) c.in_ok-s.ensures) ∙ ap (λ n. Gives (node.Proc (node.body (params_of c.in_ok-places.places.items) (ty_view c.args.literal.gives.now) (node_of c.in_ok-s.field-0.tree) None c.args.literal.line)) (types.Proc (types_of (groups_in c.args.literal.params.now)) (ty_view c.args.literal.gives.now)) n) (sym (c.leave.ensures (names_of c.args.self.now.scope) (keeps_around _ (phrase_of c.args.literal.s.now) _ _ _ (unpassed _ _ _ _ _ _ _ (as_met _ _ _ _ _ (ap this c.in_ok-copy.ensures) c.in_ok-s.ensures)) ∙ params_keep_around (inside (names_of c.args.self.now.scope)) [] (groups_of c.as_slice.result.now) _ _ _ (subst (λ n. with_params n [] (groups_of c.as_slice.result.now) ≡ Gives (params_of c.in_ok-places.places.items) Void (names_of c.parameters.new.scope)) c.enter-block.ensures.names c.in_ok-places.ensures)) (keeps_fields_around _ (phrase_of c.args.literal.s.now) _ _ _ (unpassed _ _ _ _ _ _ _ (as_met _ _ _ _ _ (ap this c.in_ok-copy.ensures) c.in_ok-s.ensures)) ∙ params_keep_fields_around (inside (names_of c.args.self.now.scope)) [] (groups_of c.as_slice.result.now) _ _ _ (subst (λ n. with_params n [] (groups_of c.as_slice.result.now) ≡ Gives (params_of c.in_ok-places.places.items) Void (names_of c.parameters.new.scope)) c.enter-block.ensures.names c.in_ok-places.ensures)) c.enter-block.ensures.names_around c.enter-block.ensures.fields_around))) (remade_both _ _ _ _ c.procedure.result refl (ap (λ gs. types.Proc (types_of gs) (ty_view c.args.literal.gives.now)) (ap groups_of c.as_slice-2.ensures.value ∙ c.in_ok-params.ensures)) c.procedure.ensures)
+literal-returns t c = made _ _ _ _ c.procedure.result (given _ _ _ _ (λ made t own. wants (ty_view c.args.literal.gives.now) c.args.literal.s.now.line (check own (phrase_of c.args.literal.s.now)) >>= λ s t last. Gives (node.Proc (node.body made (ty_view c.args.literal.gives.now) s None c.args.literal.line)) (types.Proc (types_of (groups_in c.args.literal.params.now)) (ty_view c.args.literal.gives.now)) (behind (names_of c.args.self.now.scope) last)) (subst (λ n. opened n (literal_of c.args.literal) ≡ Gives (params_of c.in_ok-params.field-0.places.items) Void (names_of c.open.new.scope)) c.enter-block.ensures.names c.in_ok-params.ensures.1) ∙ given _ _ _ _ _ (as_met _ _ _ _ _ (ap this c.in_ok-copy.ensures) c.in_ok-s.ensures) ∙ ap (λ n. Gives (node.Proc (node.body (params_of c.in_ok-params.field-0.places.items) (ty_view c.args.literal.gives.now) (node_of c.in_ok-s.field-0.tree) None c.args.literal.line)) (types.Proc (types_of (groups_in c.args.literal.params.now)) (ty_view c.args.literal.gives.now)) n) (sym (c.leave.ensures (names_of c.args.self.now.scope) (keeps_around _ (phrase_of c.args.literal.s.now) _ _ _ (unpassed _ _ _ _ _ _ _ (as_met _ _ _ _ _ (ap this c.in_ok-copy.ensures) c.in_ok-s.ensures)) ∙ params_keep_around (inside (names_of c.args.self.now.scope)) [] (groups_in c.args.literal.params.now) _ _ _ (few_opened (inside (names_of c.args.self.now.scope)) (literal_of c.args.literal) _ _ _ (subst (λ n. opened n (literal_of c.args.literal) ≡ Gives (params_of c.in_ok-params.field-0.places.items) Void (names_of c.open.new.scope)) c.enter-block.ensures.names c.in_ok-params.ensures.1))) (keeps_fields_around _ (phrase_of c.args.literal.s.now) _ _ _ (unpassed _ _ _ _ _ _ _ (as_met _ _ _ _ _ (ap this c.in_ok-copy.ensures) c.in_ok-s.ensures)) ∙ params_keep_fields_around (inside (names_of c.args.self.now.scope)) [] (groups_in c.args.literal.params.now) _ _ _ (few_opened (inside (names_of c.args.self.now.scope)) (literal_of c.args.literal) _ _ _ (subst (λ n. opened n (literal_of c.args.literal) ≡ Gives (params_of c.in_ok-params.field-0.places.items) Void (names_of c.open.new.scope)) c.enter-block.ensures.names c.in_ok-params.ensures.1))) c.enter-block.ensures.names_around c.enter-block.ensures.fields_around))) (remade_both _ _ _ _ c.procedure.result refl (ap (λ gs. types.Proc (types_of gs) (ty_view c.args.literal.gives.now)) (ap groups_of c.as_slice.ensures.value ∙ c.in_ok-params.ensures.0)) c.procedure.ensures)
 
 pub literal-part-requires : goal.literal-part-requires
 literal-part-requires t c = (omega (arith, c.decreases), tt)
 
 pub chain-returns-in_err-chain : goal.chain-returns-in_err-chain
-chain-returns-in_err-chain t c = exits c.from_residual-in_err-chain.result _ c.in_err-chain.field-0.0 _ c.from_residual-in_err-chain.ensures.1 (fails_as _ _ _ (sym (c.in_ok-innermost.ensures.chain (names_of c.args.self.now.scope) ∙ one_link c.new-links.result.items c.push.new.self.items c.args.last (check (names_of c.args.self.now.scope) (phrase_of c.args.left.now)) c.new-links.ensures.items c.in_ok-push.ensures.items)) (fails_links c.gather.new.links.items _ _ c.in_err-chain.ensures))
+chain-returns-in_err-chain t c = exits c.from_residual-in_err-chain.result _ c.in_err-chain.field-0.0 _ c.from_residual-in_err-chain.ensures.1 (fails_as _ _ _ (sym (c.in_ok-links.ensures.chain (names_of c.args.self.now.scope))) (fails_links c.in_ok-links.field-0.links.items _ _ c.in_err-chain.ensures))
 
 pub chain-link-requires : goal.chain-link-requires
 chain-link-requires t c =
-    let all : weight_links c.push.new.self.items ≡ weight_link c.args.last = one_weight c.new-links.result.items c.push.new.self.items c.args.last c.new-links.ensures.items c.in_ok-push.ensures.items in
-    let gathered = c.in_ok-innermost.ensures.lighter in
+    let gathered = c.in_ok-links.ensures.lighter in
     let left = c.loop-link.invariant.lighter in
     let popped : weight_links c.loop-link.links.items ≡ weight_links c.pop.new.self.items + weight_link c.in-Some.link = ap weight_links c.in-Some.ensures.items ∙ weight_links-push c.pop.new.self.items c.in-Some.link in
-    (omega (arith, c.decreases, all, gathered, left, popped), tt)
+    (omega (arith, c.decreases, gathered, left, popped), tt)
 
 pub chain-returns-in_err-chain-2 : goal.chain-returns-in_err-chain-2
 chain-returns-in_err-chain-2 t c =
     let here : check_links c.pop.new.self.items (check_link c.in-Some.link (Gives (node_of c.loop-link.chain.tree) (ty_view c.loop-link.chain.ty) (names_of c.loop-link.self.scope))) ≡ check_links c.loop-link.links.items (Gives (node_of c.loop-link.chain.tree) (ty_view c.loop-link.chain.ty) (names_of c.loop-link.self.scope)) = sym (check_links-push c.pop.new.self.items c.in-Some.link (Gives (node_of c.loop-link.chain.tree) (ty_view c.loop-link.chain.ty) (names_of c.loop-link.self.scope))) ∙ ap (λ ls. check_links ls (Gives (node_of c.loop-link.chain.tree) (ty_view c.loop-link.chain.ty) (names_of c.loop-link.self.scope))) (sym c.in-Some.ensures.items) in
-    exits c.from_residual-in_err-chain-2.result _ c.in_err-chain-2.field-0.0 _ c.from_residual-in_err-chain-2.ensures.1 (fails_as _ _ _ (sym (here ∙ c.loop-link.invariant.chain ∙ ap (check_links c.gather.new.links.items) (sym c.in_ok-chain.ensures) ∙ c.in_ok-innermost.ensures.chain (names_of c.args.self.now.scope) ∙ one_link c.new-links.result.items c.push.new.self.items c.args.last (check (names_of c.args.self.now.scope) (phrase_of c.args.left.now)) c.new-links.ensures.items c.in_ok-push.ensures.items)) (fails_links c.pop.new.self.items _ _ c.in_err-chain-2.ensures))
+    exits c.from_residual-in_err-chain-2.result _ c.in_err-chain-2.field-0.0 _ c.from_residual-in_err-chain-2.ensures.1 (fails_as _ _ _ (sym (here ∙ c.loop-link.invariant.chain ∙ ap (check_links c.in_ok-links.field-0.links.items) (sym c.in_ok-chain.ensures) ∙ c.in_ok-links.ensures.chain (names_of c.args.self.now.scope))) (fails_links c.pop.new.self.items _ _ c.in_err-chain-2.ensures))
 
 pub chain-loop-link-preserved : goal.chain-loop-link-preserved
 chain-loop-link-preserved t c =
