@@ -5,10 +5,12 @@ ghost use Rattle.ps_tree.specs.Phrase.{phrase_of};
 ghost use Rattle.ps_tree.specs.Phrase as form;
 ghost use Rattle.ps_tree.specs.PhraseLists.{phrases_in};
 ghost use Rattle.ps_program.specs.Node as node;
-ghost use Rattle.ps_program.specs.NodeView.{nodes_in};
-ghost use Rattle.ps_typing.specs.Checking.{together};
+ghost use Rattle.ps_program.specs.NodeView.{node_of, nodes_in};
+ghost use Rattle.ps_scope.specs.Content.{Content, names_of};
+ghost use Rattle.ps_typing.specs.Checking.{Gives, together, wants};
 ghost use Rattle.ps_typing.specs.Program.{end_line as end_line_of};
 ghost use Rattle.ps_declared.specs.inside.Answers.{IsMade};
+ghost use Rattle.ps_checked.specs.inside.Lists.{IsPushed};
 
 use ps_base::line::Line;
 use ps_base::list::List;
@@ -19,13 +21,6 @@ use ps_program::form::{Tree, TreeForm};
 use ps_tree::rough::{Rough, RoughForm};
 use std::alloc::Global;
 use std::mem;
-
-/// The items of a sequence, and the type of the last; where there is none, of none.
-#[derive(Drop)]
-pub struct Items {
-    pub trees: Vec<Tree>,
-    pub ty: Ty,
-}
 
 /// The items of a program that is a sequence, which is left empty.
 pub fn taken_items(alloc: Global, program: &mut Rough) -> Option<Vec<Rough>>
@@ -72,4 +67,18 @@ pub fn one_or_sequence(alloc: Global, mut items: Vec<Tree>) -> Result<Clause, Ch
         Some(tree) => Ok(Clause { tree, ty: Ty::Void }),
         None => unreachable!(),
     }
+}
+
+/// Puts the tree of a clause on this line behind others, where its type is this one; else `Mismatch`. The only other fault is `Memory`.
+pub fn push_typed(
+    trees: &mut Vec<Tree>,
+    clause: Clause,
+    line: Line,
+    ty: &Ty,
+) -> Result<(), CheckFault>
+    ensures { (scope : Content) → IsPushed (ty_view ty.now) (wants (ty_view ty.now) line (Gives (node_of clause.tree) (ty_view clause.ty) (names_of scope))) trees.old.items trees.new.items result scope }
+{
+    let tree = clause.of_type(line, ty)?;
+    trees.push(tree)?;
+    Ok(())
 }

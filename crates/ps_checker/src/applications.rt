@@ -12,6 +12,7 @@ use ps_base::line::Line;
 use ps_base::ty::Ty;
 use ps_checked::double::Double;
 use ps_checked::head::Head;
+use ps_checked::items::push_typed;
 use ps_checked::vectors::subscripted;
 use ps_declared::clause::Clause;
 use ps_declared::fault::CheckFault;
@@ -111,8 +112,7 @@ impl Checker {
             let ty = &types[i];
             let arg = &args[i];
             let clause = self.clause(arg)?;
-            let tree = clause.of_type(arg.line, ty)?;
-            trees.push(tree)?;
+            push_typed(&mut trees, clause, arg.line, ty)?;
         }
         head.clause(self.alloc, line, trees, gives.copy()?)
     }

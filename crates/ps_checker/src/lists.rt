@@ -9,7 +9,7 @@ ghost use Rattle.ps_checked.specs.inside.Lists.{AreTrees};
 use crate::checker::Checker;
 use ps_base::ty::Ty;
 use ps_checked::fits::{Test, is_int};
-use ps_checked::items::one_or_sequence;
+use ps_checked::items::{one_or_sequence, push_typed};
 use ps_checked::wanted::Wanted;
 use ps_declared::clause::Clause;
 use ps_declared::fault::CheckFault;
@@ -26,8 +26,7 @@ impl Checker {
         let mut trees = Vec::new(self.alloc);
         for rough in clauses {
             let clause = self.clause(rough)?;
-            let tree = clause.of_type(rough.line, ty)?;
-            trees.push(tree)?;
+            push_typed(&mut trees, clause, rough.line, ty)?;
         }
         Ok(trees)
     }

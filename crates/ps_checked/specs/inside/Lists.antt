@@ -1,12 +1,12 @@
 -- What the functions of the check do for lists of clauses.
-use Rattle.std.specs.Prelude.{◌≡◌, Result, MatchResult, if◌then◌else◌}
+use Rattle.std.specs.Prelude.{◌≡◌, List, [], ◌∷◌, ◌++◌, Result, MatchResult, if◌then◌else◌}
 use Rattle.ps_base.specs.TyView.{TyView, ty_view}
 use Rattle.ps_base.specs.TyView as types
 use Rattle.ps_base.specs.declared.line.Line.{Line}
 use Rattle.ps_tree.specs.Phrase.{WriteItem, item}
 use Rattle.ps_program.specs.Node.{Node, Nodes}
 use Rattle.ps_program.specs.Node as node
-use Rattle.ps_program.specs.NodeView.{nodes_in}
+use Rattle.ps_program.specs.NodeView.{node_of, nodes_in}
 use Rattle.ps_program.specs.declared.form.Tree.{Tree}
 use Rattle.std.specs.declared.alloc.Global.{Global}
 use Rattle.std.specs.declared.vec.Vec.{Vec}
@@ -15,16 +15,15 @@ use Rattle.ps_typing.specs.Names.{Names}
 use Rattle.ps_typing.specs.Fault.{Mismatch}
 use Rattle.ps_typing.specs.Checking.{Outcome, Gives, Refuses, ◌>>=◌, check, check_if_any, line_of, passes, is_same, is_writable, is_present}
 use Rattle.ps_declared.specs.declared.fault.CheckFault.{CheckFault}
-use Rattle.ps_checked.specs.declared.items.Items.{Items}
 use Rattle.ps_declared.specs.inside.Answers.{IsFault}
 
 -- the trees of some clauses, whatever type the last of them has
 abbrev pub AreTrees : Outcome Nodes → Result (Vec Tree Global) CheckFault → Content → Type 0
 AreTrees outcome result scope = MatchResult result (λ trees. (ty : TyView) × (outcome ≡ Gives (nodes_in trees.items) ty (names_of scope))) (IsFault outcome)
 
--- the trees of the items of a sequence, and the type of the last
-abbrev pub AreItems : Outcome Nodes → Result Items CheckFault → Content → Type 0
-AreItems outcome result scope = MatchResult result (λ items. outcome ≡ Gives (nodes_in items.trees.items) (ty_view items.ty) (names_of scope)) (IsFault outcome)
+-- the tree of a clause of this type is put behind those of others
+abbrev pub IsPushed : TyView → Outcome Node → List Tree → List Tree → Result (Unit {0}) CheckFault → Content → Type 0
+IsPushed ty outcome before after result scope = MatchResult result (λ _. (tree : Tree) × (after ≡ before ++ tree ∷ []) × (outcome ≡ Gives (node_of tree) ty (names_of scope))) (IsFault outcome)
 
 -- a clause behind one on this line of this type, which has to be void
 abbrev pub behind_void : Line → TyView → Outcome Node → Outcome Node

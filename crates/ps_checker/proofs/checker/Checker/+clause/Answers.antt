@@ -266,17 +266,17 @@ each-returns-in_err-clause t c =
     let cut = phrases_from c.args.clauses.now c.loop-rough.rough-index c.rough-item.result below c.rough-item.is in
     exits c.from_residual.result _ c.in_err-clause.field-0.0 _ c.from_residual.ensures.1 (fails_after _ _ _ _ c.loop-rough.invariant (fails_as _ _ _ (ap (λ ps. check_each (names_of c.loop-rough.self.scope) (ty_view c.args.ty.now) (checkers ps)) cut) (fails_first _ _ _ (fails_test _ _ _ _ _ c.in_err-clause.ensures))))
 
-pub each-returns-in_err-tree : goal.each-returns-in_err-tree
-each-returns-in_err-tree t c =
+pub each-returns-in_err-push_typed : goal.each-returns-in_err-push_typed
+each-returns-in_err-push_typed t c =
     let below = c.loop-rough-test.true in
     let cut = phrases_from c.args.clauses.now c.loop-rough.rough-index c.rough-item.result below c.rough-item.is in
-    exits c.from_residual-in_err-tree.result _ c.in_err-tree.field-0.0 _ c.from_residual-in_err-tree.ensures.1 (fails_after _ _ _ _ c.loop-rough.invariant (fails_as _ _ _ (ap (λ ps. check_each (names_of c.loop-rough.self.scope) (ty_view c.args.ty.now) (checkers ps)) cut) (fails_first _ _ _ (fails_as _ _ _ (ap (wants (ty_view c.args.ty.now) c.rough-item.result.line) c.in_ok-clause.ensures) (c.in_err-tree.ensures c.clause.new.self.scope)))))
+    exits c.from_residual-in_err-push_typed.result _ c.in_err-push_typed.field-0.0 _ c.from_residual-in_err-push_typed.ensures.1 (fails_after _ _ _ _ c.loop-rough.invariant (fails_as _ _ _ (ap (λ ps. check_each (names_of c.loop-rough.self.scope) (ty_view c.args.ty.now) (checkers ps)) cut) (fails_first _ _ _ (fails_as _ _ _ (ap (wants (ty_view c.args.ty.now) c.rough-item.result.line) c.in_ok-clause.ensures) (c.in_err-push_typed.ensures c.clause.new.self.scope)))))
 
 pub each-loop-rough-preserved : goal.each-loop-rough-preserved
 each-loop-rough-preserved t c =
     let below = c.loop-rough-test.true in
     let cut = phrases_from c.args.clauses.now c.loop-rough.rough-index c.rough-item.result below c.rough-item.is in
-    pushed c.loop-rough.trees.items _ c.in_ok-tree.tree _ _ _ c.in_ok-push.ensures.items (ap (λ ps. check_each (names_of c.loop-rough.self.scope) (ty_view c.args.ty.now) (checkers ps)) cut ∙ each_step _ _ (ty_view c.args.ty.now) _ _ (phrase_of c.rough-item.result) (phrases_in (drop (c.loop-rough.rough-index + 1) c.args.clauses.now)) (ap (wants (ty_view c.args.ty.now) c.rough-item.result.line) c.in_ok-clause.ensures ∙ c.in_ok-tree.ensures c.clause.new.self.scope)) c.loop-rough.invariant
+    pushed c.loop-rough.trees.items _ (c.in_ok-push_typed.ensures c.clause.new.self.scope).0 _ _ _ (c.in_ok-push_typed.ensures c.clause.new.self.scope).1 (ap (λ ps. check_each (names_of c.loop-rough.self.scope) (ty_view c.args.ty.now) (checkers ps)) cut ∙ each_step _ _ (ty_view c.args.ty.now) _ _ (phrase_of c.rough-item.result) (phrases_in (drop (c.loop-rough.rough-index + 1) c.args.clauses.now)) (ap (wants (ty_view c.args.ty.now) c.rough-item.result.line) c.in_ok-clause.ensures ∙ (c.in_ok-push_typed.ensures c.clause.new.self.scope).2)) c.loop-rough.invariant
 
 pub each-returns : goal.each-returns
 each-returns t c =
@@ -639,14 +639,14 @@ with_args-returns-in_err-clause t c =
     let one = ap (λ ps. check_args (names_of c.loop-i.self.scope) (ty_views (drop c.loop-i.i c.args.types.now)) (checkers ps)) cut ∙ ap (λ ts. check_args (names_of c.loop-i.self.scope) ts (checkers (form.more (phrase_of c.index-args-i.result) (phrases_in (drop (c.loop-i.i + 1) c.args.args.now))))) types_cut in
     exits c.from_residual.result _ c.in_err-clause.field-0.0 _ c.from_residual.ensures.1 (fails_as _ _ _ (same_number (names_of c.args.self.now.scope) c.args.line c.args.types.now c.args.args.now (head_node c.args.head c.args.line) (ty_view c.args.gives.now) c.if-types-args.false) (fails_first _ _ _ (fails_after _ _ _ _ c.loop-i.invariant (fails_as _ _ _ one (fails_first _ _ _ (fails_test _ _ _ _ _ c.in_err-clause.ensures))))))
 
-pub with_args-returns-in_err-tree : goal.with_args-returns-in_err-tree
-with_args-returns-in_err-tree t c =
+pub with_args-returns-in_err-push_typed : goal.with_args-returns-in_err-push_typed
+with_args-returns-in_err-push_typed t c =
     let below = c.loop-i-test.true in
     let below_types : c.loop-i.i < length c.args.types.now = let same = c.if-types-args.false in omega (arith, below, same) in
     let cut = phrases_from c.args.args.now c.loop-i.i c.index-args-i.result below c.index-args-i.is in
     let types_cut = types_from c.args.types.now c.loop-i.i c.index-types-i.result below_types c.index-types-i.is in
     let one = ap (λ ps. check_args (names_of c.loop-i.self.scope) (ty_views (drop c.loop-i.i c.args.types.now)) (checkers ps)) cut ∙ ap (λ ts. check_args (names_of c.loop-i.self.scope) ts (checkers (form.more (phrase_of c.index-args-i.result) (phrases_in (drop (c.loop-i.i + 1) c.args.args.now))))) types_cut in
-    exits c.from_residual-in_err-tree.result _ c.in_err-tree.field-0.0 _ c.from_residual-in_err-tree.ensures.1 (fails_as _ _ _ (same_number (names_of c.args.self.now.scope) c.args.line c.args.types.now c.args.args.now (head_node c.args.head c.args.line) (ty_view c.args.gives.now) c.if-types-args.false) (fails_first _ _ _ (fails_after _ _ _ _ c.loop-i.invariant (fails_as _ _ _ one (fails_first _ _ _ (fails_as _ _ _ (ap (wants (ty_view c.index-types-i.result) c.index-args-i.result.line) c.in_ok-clause.ensures) (c.in_err-tree.ensures c.clause.new.self.scope)))))))
+    exits c.from_residual-in_err-push_typed.result _ c.in_err-push_typed.field-0.0 _ c.from_residual-in_err-push_typed.ensures.1 (fails_as _ _ _ (same_number (names_of c.args.self.now.scope) c.args.line c.args.types.now c.args.args.now (head_node c.args.head c.args.line) (ty_view c.args.gives.now) c.if-types-args.false) (fails_first _ _ _ (fails_after _ _ _ _ c.loop-i.invariant (fails_as _ _ _ one (fails_first _ _ _ (fails_as _ _ _ (ap (wants (ty_view c.index-types-i.result) c.index-args-i.result.line) c.in_ok-clause.ensures) (c.in_err-push_typed.ensures c.clause.new.self.scope)))))))
 
 pub with_args-loop-i-preserved : goal.with_args-loop-i-preserved
 with_args-loop-i-preserved t c =
@@ -655,7 +655,7 @@ with_args-loop-i-preserved t c =
     let cut = phrases_from c.args.args.now c.loop-i.i c.index-args-i.result below c.index-args-i.is in
     let types_cut = types_from c.args.types.now c.loop-i.i c.index-types-i.result below_types c.index-types-i.is in
     let one = ap (λ ps. check_args (names_of c.loop-i.self.scope) (ty_views (drop c.loop-i.i c.args.types.now)) (checkers ps)) cut ∙ ap (λ ts. check_args (names_of c.loop-i.self.scope) ts (checkers (form.more (phrase_of c.index-args-i.result) (phrases_in (drop (c.loop-i.i + 1) c.args.args.now))))) types_cut in
-    pushed c.loop-i.trees.items _ c.in_ok-tree.tree _ _ _ c.in_ok-push.ensures.items (one ∙ args_step _ _ (ty_view c.index-types-i.result) _ (ty_views (drop (c.loop-i.i + 1) c.args.types.now)) _ (phrase_of c.index-args-i.result) (phrases_in (drop (c.loop-i.i + 1) c.args.args.now)) (ap (wants (ty_view c.index-types-i.result) c.index-args-i.result.line) c.in_ok-clause.ensures ∙ c.in_ok-tree.ensures c.clause.new.self.scope)) c.loop-i.invariant
+    pushed c.loop-i.trees.items _ (c.in_ok-push_typed.ensures c.clause.new.self.scope).0 _ _ _ (c.in_ok-push_typed.ensures c.clause.new.self.scope).1 (one ∙ args_step _ _ (ty_view c.index-types-i.result) _ (ty_views (drop (c.loop-i.i + 1) c.args.types.now)) _ (phrase_of c.index-args-i.result) (phrases_in (drop (c.loop-i.i + 1) c.args.args.now)) (ap (wants (ty_view c.index-types-i.result) c.index-args-i.result.line) c.in_ok-clause.ensures ∙ (c.in_ok-push_typed.ensures c.clause.new.self.scope).2)) c.loop-i.invariant
 
 pub with_args-returns : goal.with_args-returns
 with_args-returns t c =
