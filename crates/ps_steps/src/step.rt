@@ -93,7 +93,7 @@ pub fn step_of<'a>(scope: &Scope, rough: &'a Rough) -> Step<'a>
         RoughForm::Or { a, b } => Step::Link(Link::new(Joint::Or, a, b), a),
         RoughForm::And { a, b } => Step::Link(Link::new(Joint::And, a, b), a),
         RoughForm::Join { a, b } => Step::Link(Link::new(Joint::Join(line), a, b), a),
-        RoughForm::Arith { op, a, b } => { Step::Link(Link::new(Joint::Arith(*op, line), a, b), a) }
+        RoughForm::Arith { op, a, b } => Step::Link(Link::new(Joint::Arith(*op, line), a, b), a),
         RoughForm::Part { s, i, n } => Step::Link(Link::part(line, s, i, n), s),
         RoughForm::Apply { f, args } => match name_in(f) {
             Some(name) => Step::Applied(line, f.line, name, args.as_slice()),
