@@ -13,7 +13,7 @@ use crate::program::{Measured, program};
 use ps_base::line::Line;
 use ps_base::list::List;
 use ps_base::ty::Ty;
-use ps_checked::items::end_line;
+use ps_checked::items::{end_line, taken_items};
 use ps_checker::checker::Checker;
 use ps_declared::fault::CheckFault;
 use ps_names::place;
@@ -61,12 +61,14 @@ pub(crate) struct Whole {
 fn tree_and_names(alloc: Global, rough: Rough) -> Result<Whole, CheckFault>
     ensures { IsWhole (wants Void (end_line_of (phrase_of rough)) (check_of library_names (phrase_of rough))) result }
 {
-    // Let go last: what the scope let go behind it would be joined with all of its small pieces.
     let mut rough = rough;
+    let line = rough.line;
     let end = end_line(&rough);
+    // Let go last: what the scope let go behind them would be joined with all of their small pieces.
+    let mut items = taken_items(alloc, &mut rough);
     let scope = Scope::new(alloc)?;
     let mut checker = Checker { alloc, scope };
-    let Measured { clause, sizes } = program(&mut checker, &mut rough)?;
+    let Measured { clause, sizes } = program(&mut checker, line, &rough, &mut items)?;
     let tree = clause.of_type(end, &Ty::Void)?;
     let names = checker.into_scope().into_locals();
     Ok(Whole { tree, names, sizes })

@@ -4,12 +4,12 @@ ghost use Rattle.ps_tree.specs.Phrase as form;
 ghost use Rattle.ps_tree.specs.PhraseLists.{phrases_in};
 ghost use Rattle.ps_scope.specs.Content.{names_of};
 ghost use Rattle.ps_typing.specs.Checking.{check as check_of, check_form, check_all};
-ghost use Rattle.ps_check.specs.inside.Whole.{IsMeasured, AreMeasured};
+ghost use Rattle.ps_check.specs.inside.Whole.{IsMeasured, AreMeasured, taken_from};
 
 use ps_base::line::Line;
 use ps_base::ty::Ty;
 use ps_checked::fits::void_before;
-use ps_checked::items::{block_of, taken_items};
+use ps_checked::items::block_of;
 use ps_checker::checker::Checker;
 use ps_declared::clause::Clause;
 use ps_declared::fault::CheckFault;
@@ -32,13 +32,18 @@ pub(crate) struct MeasuredItems {
     pub(crate) sizes: Sizes,
 }
 
-/// Checks a program. The items of its sequence are let go one by one as they are checked, so that their memory serves for the typed
-/// tree; and each is measured while it is still in the processor's cache. What is left of the program is the caller's to let go.
-pub(crate) fn program(checker: &mut Checker, rough: &mut Rough) -> Result<Measured, CheckFault>
-    ensures { IsMeasured (check_of (names_of checker.old.scope) (phrase_of rough.old)) result checker.new.scope }
+/// Checks a program on this line. The items of its sequence, where it is one, were taken out of it; they are let go one by one as they are
+/// checked, so that their memory serves for the typed tree, and each is measured while it is still in the processor's cache. What a fault
+/// leaves of them is the caller's to let go.
+pub(crate) fn program(
+    checker: &mut Checker,
+    line: Line,
+    rough: &Rough,
+    items: &mut Option<Vec<Rough>>,
+) -> Result<Measured, CheckFault>
+    ensures { IsMeasured (check_of (names_of checker.old.scope) (taken_from line (phrase_of rough.now) items.old)) result checker.new.scope }
 {
-    let line = rough.line;
-    match taken_items(checker.alloc, rough) {
+    match items {
         Some(items) => owned_sequence(checker, line, items),
         None => {
             let clause = checker.clause(rough)?;
@@ -52,9 +57,9 @@ pub(crate) fn program(checker: &mut Checker, rough: &mut Rough) -> Result<Measur
 fn owned_sequence(
     checker: &mut Checker,
     line: Line,
-    items: Vec<Rough>,
+    items: &mut Vec<Rough>,
 ) -> Result<Measured, CheckFault>
-    ensures { IsMeasured (check_form (names_of checker.old.scope) line (form.Sequence (phrases_in items.items))) result checker.new.scope }
+    ensures { IsMeasured (check_form (names_of checker.old.scope) line (form.Sequence (phrases_in items.old.items))) result checker.new.scope }
 {
     let block = checker.scope.enter();
     let MeasuredItems { trees, ty, sizes } = owned_items(checker, line, items)?;
@@ -68,11 +73,10 @@ fn owned_sequence(
 fn owned_items(
     checker: &mut Checker,
     line: Line,
-    items: Vec<Rough>,
+    rest: &mut Vec<Rough>,
 ) -> Result<MeasuredItems, CheckFault>
-    ensures { AreMeasured (check_all (names_of checker.old.scope) line types.Void (phrases_in items.items)) result checker.new.scope }
+    ensures { AreMeasured (check_all (names_of checker.old.scope) line types.Void (phrases_in rest.old.items)) result checker.new.scope }
 {
-    let mut rest = items;
     rest.reverse();
     let mut trees = Vec::with_capacity(checker.alloc, 1)?;
     let mut last = Ty::Void;

@@ -22,7 +22,7 @@ pub returns-in_err-void_before : goal.returns-in_err-void_before
 returns-in_err-void_before c =
     let cut = next_taken c.loop-item.rest.items c.pop.new.self.items c.in-Some.item c.in-Some.ensures.items in
     exits c.from_residual-in_err-void_before.result _ c.in_err-void_before.field-0.0 _ c.from_residual-in_err-void_before.ensures.1
-    (fails_as _ _ _ (sym (ap (check_all (names_of c.args.checker.now.scope) c.args.line Void) (all_left c.args.items.items c.reverse.new.self.items c.reverse.ensures.items)))
+    (fails_as _ _ _ (sym (ap (check_all (names_of c.args.checker.now.scope) c.args.line Void) (all_left c.args.rest.now.items c.reverse.new.self.items c.reverse.ensures.items)))
     (fails_after _ _ _ _ c.loop-item.invariant.checked
     (fails_as _ _ _ (ap (check_all (names_of c.loop-item.checker.scope) c.loop-item.line (ty_view c.loop-item.last)) cut ∙ all_is (names_of c.loop-item.checker.scope) c.loop-item.line (ty_view c.loop-item.last) (phrase_of c.in-Some.item) (phrases_in (reverse c.pop.new.self.items)))
     (fails_first _ _ _ (c.in_err-void_before.ensures (check (names_of c.loop-item.checker.scope) (phrase_of c.in-Some.item)))))))
@@ -31,7 +31,7 @@ pub returns-in_err-tree : goal.returns-in_err-tree
 returns-in_err-tree c =
     let cut = next_taken c.loop-item.rest.items c.pop.new.self.items c.in-Some.item c.in-Some.ensures.items in
     exits c.from_residual-in_err-tree.result _ c.in_err-tree.field-0.0 _ c.from_residual-in_err-tree.ensures.1
-    (fails_as _ _ _ (sym (ap (check_all (names_of c.args.checker.now.scope) c.args.line Void) (all_left c.args.items.items c.reverse.new.self.items c.reverse.ensures.items)))
+    (fails_as _ _ _ (sym (ap (check_all (names_of c.args.checker.now.scope) c.args.line Void) (all_left c.args.rest.now.items c.reverse.new.self.items c.reverse.ensures.items)))
     (fails_after _ _ _ _ c.loop-item.invariant.checked
     (fails_as _ _ _ (ap (check_all (names_of c.loop-item.checker.scope) c.loop-item.line (ty_view c.loop-item.last)) cut ∙ all_is (names_of c.loop-item.checker.scope) c.loop-item.line (ty_view c.loop-item.last) (phrase_of c.in-Some.item) (phrases_in (reverse c.pop.new.self.items)))
     (fails_first _ _ _ (fails_as _ _ _ (c.in_ok-void_before.ensures _) c.in_err-tree.ensures)))))
@@ -49,7 +49,7 @@ loop-item-preserved c =
 pub returns : goal.returns
 returns c =
     let empty : length c.loop-item.rest.items ≡ 0 = omega (arith, c.in_default.ensures.cases.0, c.loop-item.rest.ok.0) in (
-      sym (ap (check_all (names_of c.args.checker.now.scope) c.args.line Void) (all_left c.args.items.items c.reverse.new.self.items c.reverse.ensures.items))
+      sym (ap (check_all (names_of c.args.checker.now.scope) c.args.line Void) (all_left c.args.rest.now.items c.reverse.new.self.items c.reverse.ensures.items))
           ∙ finished c.loop-item.trees.items _ _ _ _ (ap (check_all (names_of c.loop-item.checker.scope) c.loop-item.line (ty_view c.loop-item.last)) (none_left c.loop-item.rest.items empty)) c.loop-item.invariant.checked,
       c.loop-item.invariant.sized,
     )
