@@ -1,14 +1,14 @@
-//! Reads the text of a file, checks it, and tells what the check comes to: `typed`, or the number and line of its first fault.
+//! Reads the text of a file, checks it, and tells what the check returns: `typed`, or the number and line of its first fault.
 //! For the time and the memory that it takes.
 #![tactic(auto)]
 
 use anyhow::Result;
+use parsed_texts::{TextFault, tree_of};
 use ps_check::check::check;
 use ps_port::{DirShelf, Shelf};
 use ps_tree::rough::Rough;
 use std::alloc::Global;
 use std::env;
-use text_trees::{TextFault, tree_of};
 
 fn main(rt: HostRuntime) -> Result<()> {
     let told = match named(&rt) {

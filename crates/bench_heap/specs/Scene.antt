@@ -1,8 +1,8 @@
 -- What is read again and again.
 use Rattle.std.specs.Prelude.{◌≤◌}
-use Rattle.swizzle.specs.Heap.{Heap, IsHeld, header_at}
-use Rattle.swizzle.specs.Text.{text_at}
-use Rattle.heap_texts.specs.Texts.{HoldsText}
+use Rattle.proc_values.specs.swizzle.Heap.{Heap, IsHeld, header_at}
+use Rattle.proc_values.specs.swizzle.Text.{text_at}
+use Rattle.proc_values.specs.heap_texts.Texts.{HoldsText}
 use Rattle.heap_ops.specs.Structures.{IsNamed}
 use Rattle.bench_heap.specs.declared.pair.Pair.{Pair}
 use Rattle.bench_heap.specs.declared.fields.Scene.{Scene}

@@ -1,16 +1,16 @@
 //! The code of a turn of `while i < 7 do i := i + 7`, instruction by instruction.
 ghost use Rattle.std.specs.Prelude.{IfOk};
-ghost use Rattle.swizzle.specs.Heap.{IsHeld, Stands};
+ghost use Rattle.proc_values.specs.swizzle.Heap.{IsHeld, Stands};
 ghost use Rattle.bench_heap.specs.Scene.{AreHeld};
 
 use crate::pair::{Pair, pick};
 use anyhow::{Result, bail};
-use obj_layout::kind::Kind;
+use memory_vault::obj_layout::kind::Kind;
 use proc_values::reading::instr_at;
+use proc_values::swizzle::fault::SwizzleFault;
+use proc_values::swizzle::swizzle::Swizzle;
 use ps_base::instr::Instr;
 use std::alloc::Global;
-use swizzle::fault::SwizzleFault;
-use swizzle::swizzle::Swizzle;
 
 // `get.m`, `int`, `lt.m`, `again`, `get.m`, `int`, `add` and `set.m`.
 const TURN: [u8; 36] = [
@@ -18,7 +18,7 @@ const TURN: [u8; 36] = [
     8, 3, 0, 0, 0,
 ];
 
-/// An instruction's operands, added up, and the offset behind it.
+/// An instruction's operands, added up, and the offset after it.
 #[derive(Clone, Copy)]
 struct Step {
     sum: u32,

@@ -1,23 +1,23 @@
 //! Structures of int fields.
 ghost use Rattle.std.specs.Prelude.{IfOk, IfSome};
-ghost use Rattle.swizzle.specs.Heap.{IsHeld, Stands};
-ghost use Rattle.swizzle.specs.Text.{text_at};
-ghost use Rattle.heap_texts.specs.Texts.{HoldsText};
+ghost use Rattle.proc_values.specs.swizzle.Heap.{IsHeld, Stands};
+ghost use Rattle.proc_values.specs.swizzle.Text.{text_at};
+ghost use Rattle.proc_values.specs.heap_texts.Texts.{HoldsText};
 ghost use Rattle.heap_ops.specs.Structures.{IsNamed};
 ghost use Rattle.bench_heap.specs.Scene.{AreHeld, IsSet};
 
 use crate::pair::{Pair, pick};
 use anyhow::{Result, bail};
+use heap_ops::heap_places::filling::make_repeated;
+use heap_ops::heap_places::value::Value;
 use heap_ops::structures::get_field;
-use heap_places::filling::make_repeated;
-use heap_places::value::Value;
-use heap_texts::make::make_text;
+use memory_vault::obj_layout::kind::Kind;
 use memory_vault::silent::SilentVault;
-use obj_layout::kind::Kind;
+use proc_values::heap_texts::make::make_text;
+use proc_values::swizzle::fault::SwizzleFault;
+use proc_values::swizzle::swizzle::Swizzle;
+use proc_values::text_forms::forms::{Located, locate};
 use std::alloc::{AllocError, Global};
-use swizzle::fault::SwizzleFault;
-use swizzle::swizzle::Swizzle;
-use text_forms::forms::{Located, locate};
 
 /// Room for two structures of some thousand fields, and for the text of their class.
 const WORDS: u32 = 100_000;
@@ -26,7 +26,6 @@ const WORDS: u32 = 100_000;
 #[derive(Drop)]
 struct Scene {
     sw: Swizzle,
-    vault: SilentVault,
     class: u32,
     pair: Pair,
     located: Located,
@@ -84,7 +83,6 @@ fn make_scene(alloc: Global, fields: u32) -> Result<Scene>
     };
     Ok(Scene {
         sw,
-        vault: SilentVault { asked: 0 },
         class,
         pair,
         located,
@@ -107,7 +105,7 @@ fn read_field(scene: &mut Scene, sum: u64) -> Option<i32>
     let object = Some(pick(&scene.sw, scene.pair, sum));
     match get_field(
         &mut scene.sw,
-        &mut scene.vault,
+        &mut SilentVault { asked: 0 },
         object,
         scene.class,
         scene.located,

@@ -1,19 +1,19 @@
 //! Vectors of ints: their number words, and their elements.
 ghost use Rattle.std.specs.Prelude.{◌<◌, IfOk, IfSome};
-ghost use Rattle.swizzle.specs.Heap.{IsHeld, Stands};
-ghost use Rattle.heap_texts.specs.Texts.{HoldsText};
+ghost use Rattle.proc_values.specs.swizzle.Heap.{IsHeld, Stands};
+ghost use Rattle.proc_values.specs.heap_texts.Texts.{HoldsText};
 ghost use Rattle.bench_heap.specs.Scene.{AreHeld, AreLong};
 
 use crate::pair::{Pair, pick};
 use anyhow::{Result, bail};
+use heap_ops::heap_places::value::Value;
 use heap_ops::vectors::{get_element, make_vector};
-use heap_places::value::Value;
-use heap_texts::fault::OpFault;
-use heap_texts::make::make_text;
 use memory_vault::silent::SilentVault;
+use proc_values::heap_texts::fault::OpFault;
+use proc_values::heap_texts::make::make_text;
+use proc_values::swizzle::fault::SwizzleFault;
+use proc_values::swizzle::swizzle::Swizzle;
 use std::alloc::Global;
-use swizzle::fault::SwizzleFault;
-use swizzle::swizzle::Swizzle;
 
 /// Room for two vectors and the text of their type.
 const WORDS: u32 = 100_000;
@@ -22,7 +22,6 @@ const WORDS: u32 = 100_000;
 #[derive(Drop)]
 struct Scene {
     sw: Swizzle,
-    vault: SilentVault,
     pair: Pair,
 }
 
@@ -60,8 +59,7 @@ fn make_scene(alloc: Global, size: u32) -> Result<Scene>
     let Ok(pair) = two_sevens(&mut sw, ty, size) else {
         bail!("no such vectors");
     };
-    let vault = SilentVault { asked: 0 };
-    Ok(Scene { sw, vault, pair })
+    Ok(Scene { sw, pair })
 }
 
 /// Number words of vectors of so many elements, all 7, added up. Each tells which one is read next.
@@ -104,7 +102,7 @@ fn read_element(scene: &mut Scene, sum: u64, at: i32) -> Option<i32>
     ensures { IfSome result (λ value. AreHeld scene.new.sw scene.new.pair) }
 {
     let vector = pick(&scene.sw, scene.pair, sum);
-    match get_element(&mut scene.sw, &mut scene.vault, vector, at) {
+    match get_element(&mut scene.sw, &mut SilentVault { asked: 0 }, vector, at) {
         Ok(Value::Num(value)) => Some(value),
         _ => None,
     }

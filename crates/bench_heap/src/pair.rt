@@ -1,8 +1,8 @@
 //! Two objects that calls go to in turn, so that nothing is left over from the call before.
-ghost use Rattle.swizzle.specs.Heap.{IsHeld};
+ghost use Rattle.proc_values.specs.swizzle.Heap.{IsHeld};
 ghost use Rattle.bench_heap.specs.Scene.{AreHeld};
 
-use swizzle::swizzle::Swizzle;
+use proc_values::swizzle::swizzle::Swizzle;
 
 #[derive(Clone, Copy)]
 pub struct Pair {

@@ -9,13 +9,13 @@ use ps_base::code_unit::{CodeUnit, Constant, Frame};
 use ps_base::instr::Instr;
 use ps_base::line::Line;
 use ps_base::list::List;
-use ps_code::encode::encode;
 use stack_machine::RunEnd;
 use stack_machine::load::{load, machine};
+use stack_machine::ps_code::encode::encode;
 use stack_machine::run::run;
+use stack_machine::vault_output::Output;
 use std::alloc::{AllocError, Global};
 use std::env;
-use vault_output::Output;
 
 /// The most bytes that the output and its records may take.
 const ROOM: u64 = 4_096;
@@ -23,7 +23,7 @@ const ROOM: u64 = 4_096;
 /// The words of the area.
 const WORDS: u32 = 8_192;
 
-// Instructions one behind the other.
+// Instructions one after the other.
 fn code_of(alloc: Global, instrs: &[Instr]) -> Result<Vec<u8>, AllocError> {
     let mut code = Vec::new(alloc);
     for instr in instrs {
@@ -46,7 +46,7 @@ fn frame(num_params: u16) -> Frame {
 
 const LINE: Line = Line(1);
 
-// The loop: a jump to the test, at 25, and at 5 the clause. Behind the loop the local is written.
+// The loop: a jump to the test, at 25, and at 5 the clause. After the loop the local is written.
 fn loop_code(turns: i32) -> [Instr; 12] {
     [
         Instr::Jump { t: 25 },

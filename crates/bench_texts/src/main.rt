@@ -3,16 +3,16 @@
 #![tactic(auto)]
 
 ghost use Rattle.std.specs.Prelude.{IfOk};
-ghost use Rattle.heap_texts.specs.Texts.{HoldsText, StillTexts};
+ghost use Rattle.text_ops.specs.heap_texts.Texts.{HoldsText, StillTexts};
 
 use anyhow::{Context, Result, bail};
-use heap_texts::make::make_text;
 use std::alloc::{AllocError, Global};
 use std::cmp::Ordering;
 use std::env;
-use swizzle::fault::SwizzleFault;
-use swizzle::swizzle::Swizzle;
+use text_ops::heap_texts::make::make_text;
 use text_ops::operators::{compare, join};
+use text_ops::swizzle::fault::SwizzleFault;
+use text_ops::swizzle::swizzle::Swizzle;
 
 /// Room for four texts of the greatest length.
 const WORDS: u32 = 33_000;

@@ -1,11 +1,11 @@
 //! The program of a text searched for the first call of the library that isn't built.
 
+use parsed_texts::tree_of;
 use ps_base::line::Line;
 use ps_built::first_unbuilt_library;
 use ps_check::check::check;
 use ps_tree::rough::Rough;
 use table_rows::Buffer;
-use text_trees::tree_of;
 
 /// Tells the line of the first call of the library in the program of a text that isn't built, as `line` and its number, or `none`.
 pub fn put_library_found(out: &mut Buffer, text: &[u8]) {

@@ -8,7 +8,7 @@ use crate::finding::{put_library_found, put_library_in_chain};
 use anyhow::Result;
 use table_rows::{Buffer, Tables};
 
-// Programs, each behind the line of the first call of the library that isn't built, or `none`.
+// Programs, each after the line of the first call of the library that isn't built, or `none`.
 const CALLS: [&str; 3] = ["calls.rows", "calls_inside_forms.rows", "built_calls.rows"];
 
 // Chains as long as a text may be, which are searched without a turn inside a turn.

@@ -1,20 +1,20 @@
 -- Closures that are made, and the slots of one that are read.
 use Rattle.std.proofs.Common.{inr, ◌≡◌, ℕ, ◌<◌, set, replicate, Option, Some, None, refl, ap, arith}
 use Rattle.std.specs.Prelude.{Result, Ok, Err, IfOk, IfErr, OnOk}
-use Rattle.ps_outside.specs.Outside.{Outside}
-use Rattle.obj_layout.specs.Stored.{Space}
-use Rattle.obj_layout.specs.declared.kind.Kind.TheVariants.{Closure}
-use Rattle.obj_layout.specs.declared.reference.Reference.{Reference}
-use Rattle.obj_layout.specs.declared.reference.Reference.TheVariants.{Nil, Pid, Local}
-use Rattle.swizzle.specs.declared.fault.SwizzleFault.{SwizzleFault}
-use Rattle.swizzle.specs.Objects.{Object}
-use Rattle.swizzle.specs.Heap.{Heap, IsHeap, IsHeld, IsMade, top_of, header_at, ref_at, with_ref, reference_to, blank}
-use Rattle.swizzle.specs.Joint.{shown_at, name_of}
-use Rattle.swizzle.specs.Changes.{Touched}
-use Rattle.swizzle.specs.Touch.{Denotes, Keeps, IsNear, IsTouchCall, IsTouchFault}
-use Rattle.swizzle.specs.Reading.{joint}
-use Rattle.swizzle.proofs.NameLaws.{name-not_nil}
-use Rattle.swizzle.proofs.ReadingLaws.{fails-touch}
+use Rattle.heap_places.specs.ps_outside.Outside.{Outside}
+use Rattle.heap_places.specs.obj_layout.Stored.{Space}
+use Rattle.heap_places.specs.obj_layout.declared.kind.Kind.TheVariants.{Closure}
+use Rattle.heap_places.specs.obj_layout.declared.reference.Reference.{Reference}
+use Rattle.heap_places.specs.obj_layout.declared.reference.Reference.TheVariants.{Nil, Pid, Local}
+use Rattle.heap_places.specs.swizzle.declared.fault.SwizzleFault.{SwizzleFault}
+use Rattle.heap_places.specs.swizzle.Objects.{Object}
+use Rattle.heap_places.specs.swizzle.Heap.{Heap, IsHeap, IsHeld, IsMade, top_of, header_at, ref_at, with_ref, reference_to, blank}
+use Rattle.heap_places.specs.swizzle.Joint.{shown_at, name_of}
+use Rattle.heap_places.specs.swizzle.Changes.{Touched}
+use Rattle.heap_places.specs.swizzle.Touch.{Denotes, Keeps, IsNear, IsTouchCall, IsTouchFault}
+use Rattle.heap_places.specs.swizzle.Reading.{joint}
+use Rattle.heap_places.proofs.of_swizzle.NameLaws.{name-not_nil}
+use Rattle.heap_places.proofs.of_swizzle.ReadingLaws.{fails-touch}
 use Rattle.heap_places.proofs.PlaceLaws.{refs_below, reads-slot, denotes-slot}
 use Rattle.heap_places.proofs.FillingLaws.{roomy-held, made-ref}
 use Rattle.closures.specs.Closures.{closure_damage, closure_of}

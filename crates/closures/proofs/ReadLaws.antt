@@ -1,9 +1,9 @@
 -- A closure that was made, as it is read.
-use Rattle.std.proofs.Common.{◌≡◌, ℕ, Option, Some, None, IfSome, refl, sym, ap, ◌∙◌}
-use Rattle.swizzle.specs.Heap.{Heap, IsHeld, IsMade}
-use Rattle.swizzle.specs.Joint.{Shown, shown, shown_at, name_of}
-use Rattle.swizzle.specs.Touch.{Denotes}
-use Rattle.swizzle.proofs.MadeLaws.{made-object, made-other}
+use Rattle.std.proofs.Common.{◌≡◌, ℕ, Option, Some, None, IfSome, sym, ap}
+use Rattle.heap_places.specs.swizzle.Heap.{Heap, IsHeld, IsMade}
+use Rattle.heap_places.specs.swizzle.Joint.{Shown, shown, shown_at, name_of}
+use Rattle.heap_places.specs.swizzle.Touch.{Denotes}
+use Rattle.heap_places.proofs.of_swizzle.MadeLaws.{made-object, made-other}
 use Rattle.heap_places.specs.Shapes.{slot_of, shape_damage}
 use Rattle.closures.specs.Closures.{closure_damage, closure_of}
 

@@ -2,15 +2,15 @@
 use Rattle.std.proofs.Common.{inl, inr, ◌≡◌, ◌≢◌, ℕ, length, Bool, true, false, nat_eq, None, refl, sym, ap, ◌∙◌, arith}
 use Rattle.std.proofs.lemmas.Bool.{cases_eq}
 use Rattle.std.proofs.lemmas.Grind.{common_steps}
-use Rattle.obj_layout.specs.Kind.{kind_number}
-use Rattle.obj_layout.specs.Stored.{damage}
-use Rattle.obj_layout.specs.declared.kind.Kind.{Kind}
-use Rattle.obj_layout.specs.declared.vault.VaultFault.TheVariants.{Damaged}
-use Rattle.swizzle.specs.declared.fault.SwizzleFault.{SwizzleFault}
-use Rattle.swizzle.specs.declared.fault.SwizzleFault.TheVariants.{Vault}
-use Rattle.swizzle.specs.Heap.{Heap, IsHeap, IsHeld, header_at}
-use Rattle.swizzle.specs.Joint.{Shown, shown_at}
-use Rattle.swizzle.proofs.NameLaws.{shown-counts}
+use Rattle.heap_places.specs.obj_layout.Kind.{kind_number}
+use Rattle.heap_places.specs.obj_layout.Stored.{damage}
+use Rattle.heap_places.specs.obj_layout.declared.kind.Kind.{Kind}
+use Rattle.heap_places.specs.obj_layout.declared.vault.VaultFault.TheVariants.{Damaged}
+use Rattle.heap_places.specs.swizzle.declared.fault.SwizzleFault.{SwizzleFault}
+use Rattle.heap_places.specs.swizzle.declared.fault.SwizzleFault.TheVariants.{Vault}
+use Rattle.heap_places.specs.swizzle.Heap.{Heap, IsHeap, IsHeld, header_at}
+use Rattle.heap_places.specs.swizzle.Joint.{Shown, shown_at}
+use Rattle.heap_places.proofs.of_swizzle.NameLaws.{shown-counts}
 use Rattle.heap_places.specs.Shapes.{shape_damage}
 use Rattle.heap_places.specs.Places.{NamesDamage}
 use Rattle.heap_places.proofs.PlaceLaws.{names-damage}

@@ -1,2 +1,8 @@
 pub mod Closures
 pub mod inside
+pub use Rattle.heap_places.specs.text_forms as text_forms
+pub use Rattle.heap_places.specs.ps_outside as ps_outside
+pub use Rattle.heap_places.specs.obj_layout as obj_layout
+pub use Rattle.heap_places.specs.swizzle as swizzle
+pub use Rattle.heap_places.specs.heap_texts as heap_texts
+pub use Rattle.heap_places.specs as heap_places

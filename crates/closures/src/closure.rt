@@ -1,14 +1,14 @@
 ghost use Rattle.std.specs.Prelude.{◌≡◌, ◌<◌, IfSome, MatchResult, OnOk};
-ghost use Rattle.swizzle.specs.Heap.{IsFull, IsHeld, IsMade, Stands};
+ghost use Rattle.heap_places.specs.swizzle.Heap.{IsFull, IsHeld, IsMade, Stands};
 ghost use Rattle.closures.specs.Closures.{TellsCode, TellsScope, closure_of};
 ghost use Rattle.closures.specs.inside.Opening.{OpensSlot};
 
 use crate::shape::{other_kind, test_shape};
+use heap_places::obj_layout::kind::Kind;
+use heap_places::obj_layout::vault::Vault;
 use heap_places::places::damaged;
-use obj_layout::kind::Kind;
-use obj_layout::vault::Vault;
-use swizzle::fault::SwizzleFault;
-use swizzle::swizzle::Swizzle;
+use heap_places::swizzle::fault::SwizzleFault;
+use heap_places::swizzle::swizzle::Swizzle;
 
 // The slots of a closure.
 const CODE: u32 = 0;

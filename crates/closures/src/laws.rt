@@ -1,8 +1,8 @@
 //! What was made is read. The functions here do nothing: each states a law.
 ghost use Rattle.std.specs.Prelude.{◌≡◌, ℕ, Option, IfSome, None, Some};
-ghost use Rattle.swizzle.specs.Heap.{Heap, IsHeld, IsMade};
-ghost use Rattle.swizzle.specs.Joint.{shown_at};
-ghost use Rattle.swizzle.specs.Touch.{Denotes};
+ghost use Rattle.heap_places.specs.swizzle.Heap.{Heap, IsHeld, IsMade};
+ghost use Rattle.heap_places.specs.swizzle.Joint.{shown_at};
+ghost use Rattle.heap_places.specs.swizzle.Touch.{Denotes};
 ghost use Rattle.heap_places.specs.Shapes.{slot_of};
 ghost use Rattle.closures.specs.Closures.{closure_damage, closure_of};
 

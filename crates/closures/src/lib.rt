@@ -4,3 +4,6 @@
 pub mod closure;
 pub mod laws;
 pub mod shape;
+
+pub use heap_places;
+pub use heap_places::{heap_texts, obj_layout, swizzle, text_forms};

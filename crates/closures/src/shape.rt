@@ -1,17 +1,17 @@
 //! Tests of what an object is, and the damage of one that is another.
 ghost use Rattle.std.specs.Prelude.{◌≡◌, None, MatchResult};
-ghost use Rattle.obj_layout.specs.Kind.{kind_number};
-ghost use Rattle.obj_layout.specs.declared.vault.VaultFault.TheVariants.{Damaged};
-ghost use Rattle.swizzle.specs.declared.fault.SwizzleFault.TheVariants.{Vault as InVault};
-ghost use Rattle.swizzle.specs.Heap.{IsHeld, header_at};
-ghost use Rattle.swizzle.specs.Joint.{shown_at};
+ghost use Rattle.heap_places.specs.obj_layout.Kind.{kind_number};
+ghost use Rattle.heap_places.specs.obj_layout.declared.vault.VaultFault.TheVariants.{Damaged};
+ghost use Rattle.heap_places.specs.swizzle.declared.fault.SwizzleFault.TheVariants.{Vault as InVault};
+ghost use Rattle.heap_places.specs.swizzle.Heap.{IsHeld, header_at};
+ghost use Rattle.heap_places.specs.swizzle.Joint.{shown_at};
 ghost use Rattle.heap_places.specs.Places.{NamesDamage};
 ghost use Rattle.heap_places.specs.Shapes.{shape_damage};
 
+use heap_places::obj_layout::kind::Kind;
 use heap_places::places::damaged;
-use obj_layout::kind::Kind;
-use swizzle::fault::SwizzleFault;
-use swizzle::swizzle::Swizzle;
+use heap_places::swizzle::fault::SwizzleFault;
+use heap_places::swizzle::swizzle::Swizzle;
 
 /// The fault of an object that isn't of the kind that was wanted: the number of its kind, and of that one, at its PID.
 #[inline(never)]

@@ -2,9 +2,9 @@
 ghost use Rattle.std.specs.Prelude.{◌≤◌, ◌^◌};
 
 use crate::scene::{Ended, code, scope, store_of};
+use closures::swizzle::swizzle::Swizzle;
 use std::alloc::Global;
 use std::test::Fail;
-use swizzle::swizzle::Swizzle;
 
 // A row: the objects of the store from word 1 on, the PID of the one that is taken for a closure, and what its code and its scope must be.
 struct Forged {
@@ -248,7 +248,7 @@ const FORGED: [Forged; 17] = [
     },
 ];
 
-// Room for the objects of a row. What is taken for a closure comes first, to index 1, and what is read of it behind that.
+// Room for the objects of a row. What is taken for a closure comes first, to index 1, and what is read of it after that.
 const WORDS: u32 = 40;
 
 // Whether the closure of a PID has this code in an area of so many words, and nothing is assigned there.

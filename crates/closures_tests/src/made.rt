@@ -1,12 +1,12 @@
 //! A closure as it lies in the area, and what is read of it.
 ghost use Rattle.std.specs.Prelude.{◌≤◌, ◌^◌, IfOk};
-ghost use Rattle.swizzle.specs.Heap.{IsHeld};
+ghost use Rattle.closures.specs.swizzle.Heap.{IsHeld};
 
 use crate::scene::{Area, Ended, end_of, made};
 use closures::closure::{code_of, scope_of};
+use memory_vault::obj_layout::kind::Kind;
+use memory_vault::obj_layout::reference::Reference;
 use memory_vault::silent::SilentVault;
-use obj_layout::kind::Kind;
-use obj_layout::reference::Reference;
 use std::alloc::Global;
 use std::test::Fail;
 

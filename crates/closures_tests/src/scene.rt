@@ -1,15 +1,15 @@
 //! Stores of objects, and the closures that are fetched of them into an area.
 ghost use Rattle.std.specs.Prelude.{◌≡◌, ◌≤◌, ◌^◌, true, IfOk, IfSome, OnOk};
-ghost use Rattle.swizzle.specs.Heap.{IsHeld, Stands};
+ghost use Rattle.closures.specs.swizzle.Heap.{IsHeld, Stands};
 
 use closures::closure::{code_of, make_closure, scope_of};
+use closures::swizzle::fault::SwizzleFault;
+use closures::swizzle::swizzle::Swizzle;
 use memory_vault::memory::MemoryVault;
-use obj_layout::kind::Kind;
-use obj_layout::vault::VaultFault;
+use memory_vault::obj_layout::kind::Kind;
+use memory_vault::obj_layout::vault::VaultFault;
 use std::alloc::Global;
 use std::test::Fail;
-use swizzle::fault::SwizzleFault;
-use swizzle::swizzle::Swizzle;
 
 /// What a call ended in that gave nothing.
 #[derive(Clone, Copy, PartialEq, Eq, Debug)]
@@ -39,7 +39,7 @@ const PIDS: u64 = 1 << 63;
 // The most words of a store of the tests.
 const MOST_WORDS: usize = 1 << 10;
 
-/// A store with these objects from word 1 on, one behind the other.
+/// A store with these objects from word 1 on, one after the other.
 pub fn store_of(alloc: Global, objects: &[&[u64]]) -> Result<MemoryVault, Fail>
     ensures { IfOk result (λ vault. vault.alive ≡ true) }
 {
@@ -99,7 +99,7 @@ pub struct Area {
     pub closure: Result<u32, Ended>,
 }
 
-/// A closure in an area of so many words, behind a code object of six words and, where the closure has one, a scope of seven.
+/// A closure in an area of so many words, after a code object of six words and, where the closure has one, a scope of seven.
 pub fn made(alloc: Global, words: u32, scoped: bool) -> Result<Area, Fail>
     requires low { 5 ≤ words }
     requires high { words ≤ 2 ^ 25 }
@@ -110,7 +110,7 @@ pub fn made(alloc: Global, words: u32, scoped: bool) -> Result<Area, Fail>
     Ok(Area { sw, closure })
 }
 
-// The closure behind its parts, or the end of making it.
+// The closure after its parts, or the end of making it.
 fn made_in(sw: &mut Swizzle, scoped: bool) -> Result<Result<u32, Ended>, Fail>
     ensures { IfOk result (λ closure. IfOk closure (IsHeld sw.new)) }
 {

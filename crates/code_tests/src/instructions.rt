@@ -2,12 +2,12 @@
 
 use ps_base::instr::Instr;
 use ps_base::line::Line;
-use ps_cases::find::{find_code, find_name};
 use ps_code::decode::decode;
 use ps_code::encode::encode;
+use ps_code::ps_cases::find::{find_code, find_name};
 use ps_code::table::rows;
 
-// Whether the instruction with this spelling stands at the front of the bytes.
+// Whether the instruction with this spelling stands at the start of the bytes.
 fn begins_with(bytes: &[u8], spelling: &[u8]) -> bool {
     let Some((instr, width)) = decode(bytes) else {
         return false;
@@ -60,7 +60,7 @@ fn instructions_have_their_spelling(rt: HostRuntime) {
     }
 }
 
-// `int 3`, `dup.m`, `drop.m`, `write.i`, `return`, one behind the other.
+// `int 3`, `dup.m`, `drop.m`, `write.i`, `return`, one after the other.
 #[test]
 fn a_code_is_read_one_by_one(rt: HostRuntime) {
     let spellings: [&[u8]; 5] = [

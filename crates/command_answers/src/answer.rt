@@ -6,7 +6,7 @@ use std::alloc::{AllocError, Global};
 /// The name of a text of the shelf, and the text.
 pub type Text<'a> = (&'a str, &'a [u8]);
 
-/// What a command came to: its status, and the host behind it.
+/// What a command returned: its status, and the host after it.
 pub struct Answer {
     status: u8,
     host: MemoryHost,
@@ -36,7 +36,7 @@ impl Answer {
         self.status
     }
 
-    /// All the bytes told.
+    /// All the bytes output.
     pub fn told(&self) -> &[u8] {
         self.host.told_bytes()
     }
@@ -46,7 +46,7 @@ impl Answer {
         self.status == status && self.told() == told
     }
 
-    /// The host behind the command.
+    /// The host after the command.
     pub fn host(&self) -> &MemoryHost {
         &self.host
     }

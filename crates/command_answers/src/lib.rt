@@ -7,4 +7,6 @@ mod volume;
 
 pub use answer::{Answer, Text};
 pub use command::Command;
+pub use memory_host;
+pub use ps_command::{obj_layout, obj_store};
 pub use volume::{host_of, new_volume, volume_host};

@@ -1,10 +1,10 @@
 -- An object stays where a text is made.
 use Rattle.std.proofs.Common.{ℕ, List, Ok, Err, sym, subst}
 use Rattle.std.specs.Prelude.{Result}
-use Rattle.swizzle.specs.declared.fault.SwizzleFault.{SwizzleFault}
-use Rattle.swizzle.specs.Heap.{Heap, IsHeld}
-use Rattle.swizzle.proofs.MadeLaws.{made-other}
-use Rattle.heap_texts.specs.Texts.{MakesText, text_object}
+use Rattle.proc_values.specs.swizzle.declared.fault.SwizzleFault.{SwizzleFault}
+use Rattle.proc_values.specs.swizzle.Heap.{Heap, IsHeld}
+use Rattle.proc_values.proofs.of_swizzle.MadeLaws.{made-other}
+use Rattle.proc_values.specs.heap_texts.Texts.{MakesText, text_object}
 
 pub still-held : (old new : Heap) (bytes : List ℕ) (result : Result ℕ SwizzleFault) (object : ℕ)
     → MakesText old new bytes result → IsHeld old object → IsHeld new object

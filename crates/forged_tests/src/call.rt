@@ -38,7 +38,7 @@ const OPERATIONS: [(&[u8], Operation); 11] = [
     (b"instruction", Operation::Instr),
 ];
 
-/// A call: what is done, the PID of the object, which comes first, the words behind it, and the text in the next line.
+/// A call: what is done, the PID of the object, which comes first, the words after it, and the text in the next line.
 #[derive(Clone, Copy)]
 pub struct Call<'a> {
     pub operation: Operation,

@@ -1,7 +1,7 @@
-use heap_texts::fault::OpFault;
-use obj_layout::vault::VaultFault;
+use memory_vault::obj_layout::vault::VaultFault;
+use proc_values::heap_texts::fault::OpFault;
+use proc_values::swizzle::fault::SwizzleFault;
 use row_words::put_number;
-use swizzle::fault::SwizzleFault;
 use table_rows::Buffer;
 
 /// Tells what a call ended in that gave nothing.

@@ -2,10 +2,10 @@
 //! `data/`. The program works out each of their rows, and tells how many hold, and of each other one what was found.
 //!
 //! A table is a file of rows as `table_rows` reads them. A row whose head is `names` has one field with lines `NAME = WORDS`: each name stands for
-//! these words in the rows behind it. The head of any other row says what is forged, and its fields are:
+//! these words in the rows after it. The head of any other row says what is forged, and its fields are:
 //!
-//! - The objects of the store from word 1 on, one behind the other, each in a line: its words, or a name. A word is a sum of parts with `+` between.
-//!   A part is a number, in decimal or behind `0x` in hex, or `many`, which is 1 in the upper half of a word, or `N*many`, which is so many times that,
+//! - The objects of the store from word 1 on, one after the other, each in a line: its words, or a name. A word is a sum of parts with `+` between.
+//!   A part is a number, in decimal or after `0x` in hex, or `many`, which is 1 in the upper half of a word, or `N*many`, which is so many times that,
 //!   or `pid`, which is the word of a reference without the PID. `COUNT:WORD` is so many of a word. So a structure with one reference has the first
 //!   word `2+many`, and a text of three bytes the third word `2+3*many`.
 //! - The call: what is done with the object of a PID, which is fetched first. It is one of those below.
@@ -34,7 +34,7 @@
 //! - `no field`: the class names no such field, or the value is none of its form, so that no call was made.
 //! - `no pid`: it is no PID, so that no call was made.
 //!
-//! Where objects are noted as assigned then, the line `assigned COUNT` stands behind the answer.
+//! Where objects are noted as assigned then, the line `assigned COUNT` stands after the answer.
 #![tactic(auto)]
 
 mod call;

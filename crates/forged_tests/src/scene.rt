@@ -1,29 +1,29 @@
 //! Stores of forged objects, and the calls on what is fetched of them into an area.
 ghost use Rattle.std.specs.Prelude.{◌≡◌, true, None, IfOk, IfSome, OnOk};
-ghost use Rattle.swizzle.specs.Heap.{IsHeld};
-ghost use Rattle.swizzle.specs.Text.{text_at};
-ghost use Rattle.heap_texts.specs.Texts.{HoldsText};
-ghost use Rattle.heap_places.specs.Places.{IsNear, fit_damage};
+ghost use Rattle.proc_values.specs.swizzle.Heap.{IsHeld};
+ghost use Rattle.proc_values.specs.swizzle.Text.{text_at};
+ghost use Rattle.proc_values.specs.heap_texts.Texts.{HoldsText};
+ghost use Rattle.heap_ops.specs.heap_places.Places.{IsNear, fit_damage};
 ghost use Rattle.heap_ops.specs.Structures.{IsNamed};
 
 use crate::call::{Call, Operation};
 use crate::ended::{put_fault, put_no_field, put_refusal};
 use crate::value::{put_value, value_of};
+use heap_ops::heap_places::places::find_misfit;
+use heap_ops::heap_places::value::Value;
 use heap_ops::structures::{get_field, is_class, set_field};
 use heap_ops::vectors::{get_element, high, low, set_element};
-use heap_places::places::find_misfit;
-use heap_places::value::Value;
-use heap_texts::fault::OpFault;
-use heap_texts::make::make_text;
 use memory_vault::memory::MemoryVault;
-use obj_layout::kind::Kind;
+use memory_vault::obj_layout::kind::Kind;
+use proc_values::heap_texts::fault::OpFault;
+use proc_values::heap_texts::make::make_text;
 use proc_values::reading::{constant, instr_at};
+use proc_values::swizzle::fault::SwizzleFault;
+use proc_values::swizzle::swizzle::Swizzle;
+use proc_values::text_forms::forms::{Form, Located, locate};
 use row_words::{index_of, int_of};
 use std::alloc::Global;
-use swizzle::fault::SwizzleFault;
-use swizzle::swizzle::Swizzle;
 use table_rows::Buffer;
-use text_forms::forms::{Form, Located, locate};
 
 // One more than the greatest PID.
 const PIDS: u64 = 1 << 63;
@@ -97,7 +97,7 @@ fn put_called(
     }
 }
 
-// A word, and a number behind it.
+// A word, and a number after it.
 fn put_counted(out: &mut Buffer, word: &str, number: u32) {
     out.put(word);
     out.number(u64::from(number));

@@ -5,9 +5,9 @@ use crate::call::Call;
 use crate::scene::{put_answer, store_of};
 use anyhow::Result;
 use memory_vault::memory::MemoryVault;
+use proc_values::swizzle::swizzle::Swizzle;
 use row_words::{area_of, words_of};
 use std::alloc::Global;
-use swizzle::swizzle::Swizzle;
 use table_rows::{Buffer, Row, Tables};
 
 /// The head of a row that names words.

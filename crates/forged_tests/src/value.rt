@@ -1,4 +1,4 @@
-use heap_places::value::Value;
+use heap_ops::heap_places::value::Value;
 use row_words::{Words, index_of, int_of};
 use table_rows::Buffer;
 

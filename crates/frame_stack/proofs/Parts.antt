@@ -1,4 +1,4 @@
--- Words of bodies that lie one behind the other, parted at the first word of the one that runs.
+-- Words of bodies that lie one after the other, parted at the first word of the one that runs.
 use Rattle.std.proofs.Common.{◌≡◌, ℕ, ◌+◌, ◌-◌, ◌≤◌, List, ◌++◌, length, take, drop, sym, ap, ◌∙◌, arith}
 use Rattle.std.proofs.Math.Seq.{take-add}
 use Rattle.std.proofs.lemmas.List.{drop-take, take-take, take-append-le, length-take-le, length-drop}
@@ -15,7 +15,7 @@ closed {W} xs first count dead few many fits =
     ∙ ap (λ (ys : List W). take (count - dead) ys) (sym (drop-take low count xs) ∙ ap (λ (n : ℕ). drop low (take n xs)) (omega (arith, many)))
     ∙ ap (λ (n : ℕ). take (count - dead) (drop n (take first xs))) (omega (arith, long))
 
--- the words below some on top of the last body, with others behind
+-- the words below some on top of the last body, with others after
 pub opened : {W : Type 0} (xs more filled : List W) (n first args : ℕ) → filled ≡ xs ++ more → n ≡ length xs → first + args ≤ length xs
     → take (n - args) filled ≡ take first xs ++ take (length (drop first xs) - args) (drop first xs)
 opened {W} xs more filled n first args is count fits =

@@ -2,7 +2,7 @@
 use Rattle.std.specs.Prelude.{ℕ, List, refl}
 use Rattle.std.specs.Coded.{Coded, code_by, coded×, coded_list, coded_ℕ}
 
--- The words of the bodies that wait, one body behind the other; those of the body that runs; and how many words that one may have in the memory
+-- The words of the bodies that wait, one body after the other; those of the body that runs; and how many words that one may have in the memory
 -- that there is.
 pub record Frames (W : Type 0) : Type 0 where
   pub below : List W

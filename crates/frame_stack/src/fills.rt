@@ -1,7 +1,7 @@
 //! Words that are filled up with blanks.
 ghost use Rattle.std.specs.Prelude.{◌≡◌, ◌+◌, ◌≤◌, ◌++◌, replicate, vec_len, vec_capacity};
 
-// Puts so many blanks behind words, where there is room for them. Mostly they are few.
+// Puts so many blanks after words, where there is room for them. Mostly they are few.
 #[inline(always)]
 pub(crate) fn fill<W: Copy + Drop>(words: &mut Vec<W>, count: usize, blank: W)
     requires { vec_len words.old + count ≤ vec_capacity words.old }

@@ -4,7 +4,7 @@ use crate::fills::fill;
 use std::alloc::{AllocError, Global};
 use std::marker::Model;
 
-/// The words of bodies that call one another, one body behind the other. The last body runs; its words begin at `first`.
+/// The words of bodies that call one another, one body after the other. The last body runs; its words begin at `first`.
 #[derive(Drop)]
 pub struct FrameStack<W> {
     words: Vec<W>,

@@ -6,7 +6,7 @@ use std::alloc::Global;
 use std::process::Abort;
 use std::test::Fail;
 
-// What stands before, a piece so many times, what stands behind, and how many instructions that has.
+// What stands before, a piece so many times, what stands after, and how many instructions that has.
 static CHAINS: [(&str, &str, u32, &str, usize); 7] = [
     // `int 1`, `int 2; add` for each, `write.i` and `return`.
     ("write 1", " + 2", 100_000, "", 200_003),

@@ -1,15 +1,15 @@
 //! The unit of a text, as lines of text: each instruction by its name and its operands, then the constants and the frame.
 
 use crate::buffer::Buffer;
+use parsed_texts::{TextFault, tree_of};
 use ps_base::code_unit::{CodeUnit, Constant};
 use ps_check::check::check;
-use ps_code::decode::decode;
-use ps_code::table::rows;
 use ps_gen::generate::generate;
+use ps_gen::ps_code::decode::decode;
+use ps_gen::ps_code::table::rows;
 use ps_tree::rough::Rough;
 use std::alloc::Global;
 use std::test::Fail;
-use text_trees::{TextFault, tree_of};
 
 /// The unit of a text that fits the typing rules.
 pub fn unit_of(alloc: Global, text: &[u8]) -> Result<CodeUnit, Fail> {
@@ -47,13 +47,13 @@ pub fn count_of(unit: &CodeUnit) -> Result<usize, Fail> {
 /// The most units of a text that is listed.
 const MOST_UNITS: usize = 100;
 
-/// What the text of a program comes to.
+/// What the text of a program returns.
 pub fn listed(alloc: Global, text: &[u8]) -> Result<String, Fail> {
     let unit = unit_of(alloc, text)?;
     let mut out = Buffer::new(alloc);
     let mut units = Vec::new(alloc);
     units.push(&unit)?;
-    // The literals of a unit are listed behind it.
+    // The literals of a unit are listed after it.
     for _ in 0..MOST_UNITS {
         if units.is_empty() {
             break;

@@ -1,5 +1,5 @@
 //! Texts, and for each the unit that the rules of the code give, worked out by hand: its instructions, its constants in quotes
-//! or `#` for a literal, the locals of its frame, and behind it the units of its literals.
+//! or `#` for a literal, the locals of its frame, and after it the units of its literals.
 
 use crate::listing::listed;
 use std::alloc::Global;

@@ -1,10 +1,10 @@
 ghost use Rattle.std.specs.Prelude.{◌≤◌, ◌^◌, IfOk, IfSome};
-ghost use Rattle.heap_texts.specs.Texts.{HoldsText, StillTexts};
+ghost use Rattle.heap_ops.specs.heap_texts.Texts.{HoldsText, StillTexts};
 
-use heap_texts::make::make_text;
+use heap_ops::heap_texts::make::make_text;
+use heap_ops::swizzle::fault::SwizzleFault;
+use heap_ops::swizzle::swizzle::Swizzle;
 use std::alloc::Global;
-use swizzle::fault::SwizzleFault;
-use swizzle::swizzle::Swizzle;
 
 /// Room for the type's text and a vector.
 pub const WORDS: u32 = 60;

@@ -1,13 +1,13 @@
 //! What is found of the rows.
-ghost use Rattle.swizzle.specs.Heap.{IsHeld};
-ghost use Rattle.heap_texts.specs.Texts.{HoldsText};
+ghost use Rattle.heap_ops.specs.swizzle.Heap.{IsHeld};
+ghost use Rattle.heap_ops.specs.heap_texts.Texts.{HoldsText};
 
 use crate::area::{WORDS, area_with};
 use crate::near::near;
 use crate::told::{put_assigned, put_fault, put_value, put_vector};
 use crate::vectors::{got, put, repeated, vector_of};
+use heap_ops::swizzle::swizzle::Swizzle;
 use row_words::{Words, parted};
-use swizzle::swizzle::Swizzle;
 use table_rows::Buffer;
 
 /// Tells what is found of these lines: the text of a type, a vector, and a call if there is one.

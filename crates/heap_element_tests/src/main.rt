@@ -19,7 +19,7 @@
 //! - `value VALUE`, where a value may also be `object INDEX`.
 //! - `trapped TRAP`, `damaged AT FOUND WANTED`, `full TOP WANTED SIZE`, or `refused FAULT` by the store for another reason.
 //!
-//! Where objects are noted as assigned then, a line `assigned OBJECT ..` stands behind, with `vector` or the index for each.
+//! Where objects are noted as assigned then, a line `assigned OBJECT ..` stands after, with `vector` or the index for each.
 #![tactic(auto)]
 
 mod area;

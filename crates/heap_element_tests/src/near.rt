@@ -1,14 +1,14 @@
 //! Values that denote no object but the type's text.
 ghost use Rattle.std.specs.Prelude.{IfSome};
-ghost use Rattle.heap_texts.specs.Texts.{HoldsText};
-ghost use Rattle.heap_places.specs.Places.{IsNear};
-ghost use Rattle.heap_places.specs.Filling.{AreNear};
+ghost use Rattle.heap_ops.specs.heap_texts.Texts.{HoldsText};
+ghost use Rattle.heap_ops.specs.heap_places.Places.{IsNear};
+ghost use Rattle.heap_ops.specs.heap_places.Filling.{AreNear};
 
 use crate::value::value_of;
-use heap_places::value::Value;
+use heap_ops::heap_places::value::Value;
+use heap_ops::swizzle::swizzle::Swizzle;
 use row_words::Words;
 use std::alloc::Global;
-use swizzle::swizzle::Swizzle;
 
 /// The value that a word spells, where the object that it denotes, if it denotes one, is this text.
 pub fn near(sw: &Swizzle, text: u32, word: &[u8]) -> Option<Value>
@@ -33,7 +33,7 @@ pub fn all_near(alloc: Global, sw: &Swizzle, text: u32, words: Words<'_>) -> Opt
     Some(list)
 }
 
-// Puts such a value behind the others.
+// Puts such a value after the others.
 #[tactic(auto, using(crate::proofs::NearLaws::near_more))]
 fn add_near(list: &mut Vec<Value>, sw: &Swizzle, text: u32, word: &[u8]) -> Option<()>
     requires text { HoldsText sw.now text }

@@ -1,15 +1,15 @@
 //! What was found, told as a text.
-ghost use Rattle.swizzle.specs.Heap.{IsHeld};
+ghost use Rattle.heap_ops.specs.swizzle.Heap.{IsHeld};
 
 use crate::value::TEXT_AT;
-use heap_places::value::Value;
-use heap_texts::fault::OpFault;
-use obj_layout::header::Header;
-use obj_layout::kind::Kind;
-use obj_layout::reference::Reference;
-use obj_layout::vault::VaultFault;
-use swizzle::fault::SwizzleFault;
-use swizzle::swizzle::Swizzle;
+use heap_ops::heap_places::value::Value;
+use heap_ops::heap_texts::fault::OpFault;
+use heap_ops::swizzle::fault::SwizzleFault;
+use heap_ops::swizzle::swizzle::Swizzle;
+use memory_vault::obj_layout::header::Header;
+use memory_vault::obj_layout::kind::Kind;
+use memory_vault::obj_layout::reference::Reference;
+use memory_vault::obj_layout::vault::VaultFault;
 use table_rows::Buffer;
 
 /// Tells a vector as it lies: its references and its number words, and before them its header where it isn't that of a new vector.
@@ -37,7 +37,7 @@ fn put_header(out: &mut Buffer, header: Header) {
     }
 }
 
-// A word, and a number in hex behind it.
+// A word, and a number in hex after it.
 fn put_hex(out: &mut Buffer, word: &str, number: u64) {
     out.put(word);
     out.hex(number);
@@ -100,7 +100,7 @@ fn put_refusal(out: &mut Buffer, refused: VaultFault) {
     }
 }
 
-/// Tells behind the rest which objects are noted as assigned, where there are any.
+/// Tells after the rest which objects are noted as assigned, where there are any.
 pub fn put_assigned(out: &mut Buffer, assigned: &[u32], vector: u32) {
     if assigned.is_empty() {
         return;

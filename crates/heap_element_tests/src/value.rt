@@ -1,4 +1,4 @@
-use heap_places::value::Value;
+use heap_ops::heap_places::value::Value;
 use row_words::int_of;
 
 /// The index of the type's text, which is the first object of the area.

@@ -1,19 +1,19 @@
 //! Vectors that are made, what is read of them and written to them, and their words.
 ghost use Rattle.std.specs.Prelude.{IfOk, IfSome, OnOk};
-ghost use Rattle.swizzle.specs.Heap.{IsHeld};
-ghost use Rattle.heap_texts.specs.Texts.{HoldsText, StillTexts};
-ghost use Rattle.heap_places.specs.Places.{IsNear};
-ghost use Rattle.heap_places.specs.Filling.{AreNear};
+ghost use Rattle.heap_ops.specs.swizzle.Heap.{IsHeld};
+ghost use Rattle.heap_ops.specs.heap_texts.Texts.{HoldsText, StillTexts};
+ghost use Rattle.heap_ops.specs.heap_places.Places.{IsNear};
+ghost use Rattle.heap_ops.specs.heap_places.Filling.{AreNear};
 
 use crate::area::{Area, WORDS, area_with};
 use crate::near::all_near;
+use heap_ops::heap_places::value::Value;
+use heap_ops::heap_texts::fault::OpFault;
+use heap_ops::swizzle::swizzle::Swizzle;
 use heap_ops::vectors::{get_element, make_list, make_vector, set_element};
-use heap_places::value::Value;
-use heap_texts::fault::OpFault;
 use memory_vault::silent::SilentVault;
 use row_words::Words;
 use std::alloc::Global;
-use swizzle::swizzle::Swizzle;
 
 /// A vector of one value so many times.
 pub fn repeated(sw: &mut Swizzle, ty: u32, low: i32, high: i32, fill: Value) -> Result<u32, OpFault>

@@ -2,14 +2,14 @@
 use Rattle.std.proofs.Common.{inl, inr, ◌≡◌, ◌≢◌, ℕ, List, get_or, set, refl, sym, ap, ◌∙◌, subst, Option, Some, Bool, true, false, if◌then◌else◌}
 use Rattle.std.proofs.lemmas.Slice.Eq.{bytes_eq-Decides}
 use Rattle.std.proofs.lemmas.Map.Text.{is_eq-slice_cmp}
-use Rattle.ps_base.specs.declared.trap.Trap.TheVariants as trap
-use Rattle.obj_layout.specs.declared.kind.Kind.TheVariants as kind
-use Rattle.obj_layout.specs.declared.reference.Reference as reference
-use Rattle.swizzle.specs.Joint.{Shown}
+use Rattle.proc_values.specs.ps_base.declared.trap.Trap.TheVariants as trap
+use Rattle.proc_values.specs.obj_layout.declared.kind.Kind.TheVariants as kind
+use Rattle.proc_values.specs.obj_layout.declared.reference.Reference as reference
+use Rattle.proc_values.specs.swizzle.Joint.{Shown}
 use Rattle.heap_ops.specs.Structures.{IsOfClass, IsOfOther}
-use Rattle.ps_meaning.specs.Values.{Value, Pointer, Nothing}
-use Rattle.ps_meaning.specs.Texts.{Yields, Fails, is_same_text}
-use Rattle.ps_meaning.specs.Objects.{Heap, Object, Structure, Elements, Scope, object_at, is_class, is_of, field_of, fields_in, with_field, with_object}
+use Rattle.proc_values.specs.ps_meaning.Values.{Value, Pointer, Nothing}
+use Rattle.proc_values.specs.ps_meaning.Texts.{Yields, Fails, is_same_text}
+use Rattle.proc_values.specs.ps_meaning.Objects.{Heap, Object, Structure, Elements, Scope, object_at, is_class, is_of, field_of, fields_in, with_field, with_object}
 use Rattle.heap_meaning.specs.Standing.{Seen, Pairing, IsStructure, IsLike, Both, Stands, IsOne}
 use Rattle.heap_meaning.proofs.PlaceLaws.{structure-class}
 

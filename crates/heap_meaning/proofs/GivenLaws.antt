@@ -1,21 +1,21 @@
 -- A field of a structure that stands for one of the meaning: what is read of it, what is written to it, and that it isn't damaged.
 use Rattle.std.proofs.Common.{arith, ◌≡◌, ℕ, suc, ◌+◌, List, [], ◌∷◌, get_or, set, slice_set, refl, sym, ap, ◌∙◌, subst, Option, Some, None, if◌then◌else◌}
-use Rattle.obj_layout.specs.declared.kind.Kind.TheVariants as kind
-use Rattle.swizzle.specs.Heap.{Heap, IsHeap, IsHeld, reference_to}
-use Rattle.swizzle.specs.Joint.{Shown, Joint, shown_at, name_at, name_of}
-use Rattle.swizzle.specs.Changes.{ChangedAt}
-use Rattle.swizzle.proofs.JointLaws.{joint-num, joint-ref}
-use Rattle.text_forms.specs.declared.forms.Form.{Form}
-use Rattle.text_forms.specs.declared.forms.Form.TheVariants as form
-use Rattle.text_forms.specs.declared.forms.Located.{Located}
-use Rattle.text_forms.specs.Forms.{forms_of, form_in, before_in, rows_of, located_in, located_as, is_number_form}
-use Rattle.heap_places.specs.Shapes.{word_in}
-use Rattle.heap_places.specs.Words.{int_word, flag_word, word_damage}
-use Rattle.heap_places.specs.Places as places
-use Rattle.heap_places.specs.declared.value.Value as code
-use Rattle.heap_places.specs.declared.value.Value.TheVariants as held
+use Rattle.proc_values.specs.obj_layout.declared.kind.Kind.TheVariants as kind
+use Rattle.proc_values.specs.swizzle.Heap.{Heap, IsHeap, IsHeld, reference_to}
+use Rattle.proc_values.specs.swizzle.Joint.{Shown, Joint, shown_at, name_at, name_of}
+use Rattle.proc_values.specs.swizzle.Changes.{ChangedAt}
+use Rattle.proc_values.proofs.of_swizzle.JointLaws.{joint-num, joint-ref}
+use Rattle.proc_values.specs.text_forms.declared.forms.Form.{Form}
+use Rattle.proc_values.specs.text_forms.declared.forms.Form.TheVariants as form
+use Rattle.proc_values.specs.text_forms.declared.forms.Located.{Located}
+use Rattle.proc_values.specs.text_forms.Forms.{forms_of, form_in, before_in, rows_of, located_in, located_as, is_number_form}
+use Rattle.heap_ops.specs.heap_places.Shapes.{word_in}
+use Rattle.heap_ops.specs.heap_places.Words.{int_word, flag_word, word_damage}
+use Rattle.heap_ops.specs.heap_places.Places as places
+use Rattle.heap_ops.specs.heap_places.declared.value.Value as code
+use Rattle.heap_ops.specs.heap_places.declared.value.Value.TheVariants as held
 use Rattle.heap_ops.specs.Structures.{structure_damage}
-use Rattle.ps_meaning.specs.Values.{Value, Nothing}
+use Rattle.proc_values.specs.ps_meaning.Values.{Value, Nothing}
 use Rattle.heap_meaning.specs.Standing.{Seen, Pairing, StandsFor, IsWordOf, IsStructure}
 use Rattle.heap_meaning.specs.Denoting.{IsFor}
 use Rattle.heap_meaning.proofs.StandingLaws.{IsNumber, read-word}

@@ -1,29 +1,29 @@
 -- What is so of objects that stand for others: their shape, and the values of their places.
 use Rattle.std.proofs.Common.{arith, ◌≡◌, ℕ, suc, ◌+◌, List, [], ◌∷◌, ◌++◌, length, get_or, slice_index, refl, sym, ap, ◌∙◌, subst, Some, None, if◌then◌else◌}
 use Rattle.std.proofs.lemmas.Bool.{eq-eqb}
-use Rattle.obj_layout.specs.Kind.{kind_number}
-use Rattle.obj_layout.specs.declared.kind.Kind.{Kind}
-use Rattle.obj_layout.specs.declared.kind.Kind.TheVariants as kind
-use Rattle.obj_layout.specs.declared.reference.Reference as reference
-use Rattle.obj_layout.specs.declared.reference.Reference.TheVariants as name
-use Rattle.swizzle.specs.Heap.{Heap}
-use Rattle.swizzle.specs.Joint.{Shown}
-use Rattle.text_forms.specs.declared.forms.Form.{Form}
-use Rattle.text_forms.specs.declared.forms.Form.TheVariants as form
-use Rattle.text_forms.specs.Forms.{forms_of, form_in, before_in, rows_of, is_number_form}
-use Rattle.heap_places.specs.Shapes.{IsText, slot_of, word_in, shape_damage}
-use Rattle.heap_places.specs.Words.{word_damage}
-use Rattle.heap_places.specs.Places.{Holds}
-use Rattle.heap_places.specs.declared.value.Value as code
-use Rattle.heap_places.specs.declared.value.Value.TheVariants as held
-use Rattle.ps_meaning.specs.Values.{Value, Num, Flag, Text, Nil, Pointer, Vector, Procedure, Nothing}
+use Rattle.proc_values.specs.obj_layout.Kind.{kind_number}
+use Rattle.proc_values.specs.obj_layout.declared.kind.Kind.{Kind}
+use Rattle.proc_values.specs.obj_layout.declared.kind.Kind.TheVariants as kind
+use Rattle.proc_values.specs.obj_layout.declared.reference.Reference as reference
+use Rattle.proc_values.specs.obj_layout.declared.reference.Reference.TheVariants as name
+use Rattle.proc_values.specs.swizzle.Heap.{Heap}
+use Rattle.proc_values.specs.swizzle.Joint.{Shown}
+use Rattle.proc_values.specs.text_forms.declared.forms.Form.{Form}
+use Rattle.proc_values.specs.text_forms.declared.forms.Form.TheVariants as form
+use Rattle.proc_values.specs.text_forms.Forms.{forms_of, form_in, before_in, rows_of, is_number_form}
+use Rattle.heap_ops.specs.heap_places.Shapes.{IsText, slot_of, word_in, shape_damage}
+use Rattle.heap_ops.specs.heap_places.Words.{word_damage}
+use Rattle.heap_ops.specs.heap_places.Places.{Holds}
+use Rattle.heap_ops.specs.heap_places.declared.value.Value as code
+use Rattle.heap_ops.specs.heap_places.declared.value.Value.TheVariants as held
+use Rattle.proc_values.specs.ps_meaning.Values.{Value, Num, Flag, Text, Nil, Pointer, Vector, Procedure, Nothing}
 use Rattle.heap_meaning.specs.Standing.{Seen, Pairing, StandsFor, IsWordOf, AreFor, IsAs, IsStructure, IsOne}
 use Rattle.heap_meaning.specs.Denoting.{IsFor}
 use Rattle.heap_meaning.proofs.StandingLaws.{IsNumber, read-reference, read-word}
 
 -- a name is that of one text
 pub text-one : (seen : Seen) (n : reference.Reference) (a b : List ℕ) → IsOne seen → IsText seen n a → IsText seen n b → a ≡ b
-text-one seen n a b one s t = sym s.bytes_are ∙ ap Rattle.heap_places.specs.Shapes.shown_text (one n s.it t.it s.there t.there) ∙ t.bytes_are
+text-one seen n a b one s t = sym s.bytes_are ∙ ap Rattle.heap_ops.specs.heap_places.Shapes.shown_text (one n s.it t.it s.there t.there) ∙ t.bytes_are
 
 -- the rows are as long as the forms say
 pub are-refs : (seen : Seen) (pair : Pairing) (forms : List Form) (ns : List reference.Reference) (words : List ℕ) (vs : List Value) → AreFor seen pair forms ns words vs → length ns ≡ (rows_of forms).refs
@@ -128,7 +128,7 @@ name-read heap seen pair it index (held.Ref to) v h s = record { name = slot_of 
 name-read heap seen pair it index (held.Num z) v h s = absurd h
 name-read heap seen pair it index (held.Flag b) v h s = absurd h
 
--- words behind the first ones
+-- words after the first ones
 get-behind : (front words : List ℕ) (k : ℕ) → slice_index (front ++ words) (length front + k) ≡ slice_index words k
 get-behind [] words k = let e : 0 + k ≡ k = omega arith in ap (slice_index words) e
 get-behind (w ∷ ws) words k =

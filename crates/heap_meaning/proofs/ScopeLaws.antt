@@ -1,20 +1,20 @@
 -- A scope that stands for one of the meaning: its shape, what is read of its names, what is written to them, and one that is made.
 use Rattle.std.proofs.Common.{arith, ◌≡◌, ℕ, suc, ◌+◌, List, [], ◌∷◌, length, map, replicate, get_or, set, slice_set, refl, sym, ap, ◌∙◌, subst, Option, Some, None, if◌then◌else◌}
-use Rattle.obj_layout.specs.declared.kind.Kind.TheVariants as kind
-use Rattle.obj_layout.specs.declared.reference.Reference as reference
-use Rattle.obj_layout.specs.declared.reference.Reference.TheVariants as name
-use Rattle.swizzle.specs.Heap.{Heap, reference_to}
-use Rattle.swizzle.specs.Joint.{Shown, name_of}
-use Rattle.text_forms.specs.declared.forms.Form.{Form}
-use Rattle.text_forms.specs.declared.forms.Form.TheVariants as form
-use Rattle.text_forms.specs.Forms.{forms_of, form_in, before_in, rows_of, is_number_form}
-use Rattle.heap_places.specs.Shapes.{word_in, slot_of, shape_damage}
-use Rattle.heap_places.specs.Words.{int_in, flag_in, int_word, flag_word, word_damage}
-use Rattle.heap_places.specs.Places.{Holds}
-use Rattle.heap_places.specs.declared.value.Value as code
-use Rattle.heap_places.specs.declared.value.Value.TheVariants as held
-use Rattle.ps_meaning.specs.Values.{Value, Nothing}
-use Rattle.ps_meaning.specs.Scopes.{first_value}
+use Rattle.proc_values.specs.obj_layout.declared.kind.Kind.TheVariants as kind
+use Rattle.proc_values.specs.obj_layout.declared.reference.Reference as reference
+use Rattle.proc_values.specs.obj_layout.declared.reference.Reference.TheVariants as name
+use Rattle.proc_values.specs.swizzle.Heap.{Heap, reference_to}
+use Rattle.proc_values.specs.swizzle.Joint.{Shown, name_of}
+use Rattle.proc_values.specs.text_forms.declared.forms.Form.{Form}
+use Rattle.proc_values.specs.text_forms.declared.forms.Form.TheVariants as form
+use Rattle.proc_values.specs.text_forms.Forms.{forms_of, form_in, before_in, rows_of, is_number_form}
+use Rattle.heap_ops.specs.heap_places.Shapes.{word_in, slot_of, shape_damage}
+use Rattle.heap_ops.specs.heap_places.Words.{int_in, flag_in, int_word, flag_word, word_damage}
+use Rattle.heap_ops.specs.heap_places.Places.{Holds}
+use Rattle.heap_ops.specs.heap_places.declared.value.Value as code
+use Rattle.heap_ops.specs.heap_places.declared.value.Value.TheVariants as held
+use Rattle.proc_values.specs.ps_meaning.Values.{Value, Nothing}
+use Rattle.proc_values.specs.ps_meaning.Scopes.{first_value}
 use Rattle.heap_meaning.specs.Standing.{Seen, Pairing, StandsFor, IsWordOf, AreFor, IsScope}
 use Rattle.heap_meaning.specs.Denoting.{IsFor}
 use Rattle.heap_meaning.proofs.StandingLaws.{IsNumber, read-reference, read-word, write-reference, write-word}
@@ -22,7 +22,7 @@ use Rattle.heap_meaning.proofs.PlaceLaws.{shape, are-refs, are-words, word-fits,
 use Rattle.heap_meaning.proofs.WriteLaws.{set-behind}
 use Rattle.heap_meaning.proofs.GivenLaws.{shown_with, IsStored}
 
--- the index of a name's place in its row: behind the home, or behind the text and the parent
+-- the index of a name's place in its row: after the home, or after the text and the parent
 abbrev pub index_behind : Form → ℕ → ℕ
 index_behind f n = if is_number_form f then 1 + n else 2 + n
 

@@ -1,21 +1,21 @@
 -- The pairing goes through readings, writes and new objects.
 use Rattle.std.proofs.Common.{arith, inl, inr, ◌≡◌, ◌≢◌, ℕ, zero, suc, ◌+◌, List, [], ◌∷◌, ◌++◌, length, get_or, set, slice_index, slice_set, replicate, refl, sym, ap, ◌∙◌, subst, Option, Some, None}
 use Rattle.std.proofs.lemmas.Bool.{cases_eq}
-use Rattle.obj_layout.specs.declared.kind.Kind.{Kind}
-use Rattle.obj_layout.specs.declared.kind.Kind.TheVariants as kind
-use Rattle.obj_layout.specs.declared.reference.Reference as reference
-use Rattle.obj_layout.specs.declared.reference.Reference.TheVariants as name
-use Rattle.swizzle.specs.Joint.{Shown}
-use Rattle.swizzle.specs.Changes.{Within, ChangedAt}
-use Rattle.swizzle.proofs.NameLaws.{names-decided}
-use Rattle.text_forms.specs.declared.forms.Form.{Form}
-use Rattle.text_forms.specs.declared.forms.Form.TheVariants as form
-use Rattle.text_forms.specs.Forms.{forms_of, element_of, form_in, before_in}
-use Rattle.heap_places.specs.Shapes.{IsText}
-use Rattle.ps_base.specs.CodeUnit as units
-use Rattle.ps_base.specs.CodeUnit.{UnitView, ConstantView, ConstantsView}
-use Rattle.ps_meaning.specs.Values.{Value, Num, Flag, Text, Nil, Pointer, Vector, Procedure, Nothing, as_written, as_compiled}
-use Rattle.ps_meaning.specs.Objects.{Heap, Object, Structure, Elements, Scope, object_at, with_object, with_new, new_number}
+use Rattle.proc_values.specs.obj_layout.declared.kind.Kind.{Kind}
+use Rattle.proc_values.specs.obj_layout.declared.kind.Kind.TheVariants as kind
+use Rattle.proc_values.specs.obj_layout.declared.reference.Reference as reference
+use Rattle.proc_values.specs.obj_layout.declared.reference.Reference.TheVariants as name
+use Rattle.proc_values.specs.swizzle.Joint.{Shown}
+use Rattle.proc_values.specs.swizzle.Changes.{Within, ChangedAt}
+use Rattle.proc_values.proofs.of_swizzle.NameLaws.{names-decided}
+use Rattle.proc_values.specs.text_forms.declared.forms.Form.{Form}
+use Rattle.proc_values.specs.text_forms.declared.forms.Form.TheVariants as form
+use Rattle.proc_values.specs.text_forms.Forms.{forms_of, element_of, form_in, before_in}
+use Rattle.heap_ops.specs.heap_places.Shapes.{IsText}
+use Rattle.proc_values.specs.ps_base.CodeUnit as units
+use Rattle.proc_values.specs.ps_base.CodeUnit.{UnitView, ConstantView, ConstantsView}
+use Rattle.proc_values.specs.ps_meaning.Values.{Value, Num, Flag, Text, Nil, Pointer, Vector, Procedure, Nothing, as_written, as_compiled}
+use Rattle.proc_values.specs.ps_meaning.Objects.{Heap, Object, Structure, Elements, Scope, object_at, with_object, with_new, new_number}
 use Rattle.heap_meaning.specs.Units.{IsUnitSeen, AreSeen, IsConstantSeen}
 use Rattle.heap_meaning.specs.Standing.{Seen, Pairing, IsKindOf, StandsForScope, IsClosure, StandsFor, IsWordOf, AreFor, IsAs, IsLike, Both, Stands, IsOne, with_pair}
 

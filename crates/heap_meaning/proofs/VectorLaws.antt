@@ -3,21 +3,21 @@ use Rattle.std.proofs.Common.{arith, ◌≡◌, ℕ, suc, ◌+◌, ◌<◌, ◌^
 use Rattle.std.specs.Prelude.{◌-ℤ◌}
 use Rattle.std.proofs.lemmas.Bool.{eq-eqb, ltb-true}
 use Rattle.std.proofs.lemmas.List.{length-set}
-use Rattle.obj_layout.specs.Stored.{damage}
-use Rattle.obj_layout.specs.declared.kind.Kind.TheVariants as kind
-use Rattle.swizzle.specs.Heap.{Heap, reference_to}
-use Rattle.swizzle.specs.Joint.{Shown, name_of}
-use Rattle.text_forms.specs.declared.forms.Form.{Form}
-use Rattle.text_forms.specs.declared.forms.Form.TheVariants as form
-use Rattle.text_forms.specs.Forms.{element_of, form_in, before_in, rows_of, is_number_form}
-use Rattle.heap_places.specs.Shapes.{word_in}
-use Rattle.heap_places.specs.Words.{int_in, int_word, flag_word}
-use Rattle.heap_places.specs.Places as places
-use Rattle.heap_places.specs.declared.value.Value as code
-use Rattle.heap_places.specs.declared.value.Value.TheVariants as held
+use Rattle.proc_values.specs.obj_layout.Stored.{damage}
+use Rattle.proc_values.specs.obj_layout.declared.kind.Kind.TheVariants as kind
+use Rattle.proc_values.specs.swizzle.Heap.{Heap, reference_to}
+use Rattle.proc_values.specs.swizzle.Joint.{Shown, name_of}
+use Rattle.proc_values.specs.text_forms.declared.forms.Form.{Form}
+use Rattle.proc_values.specs.text_forms.declared.forms.Form.TheVariants as form
+use Rattle.proc_values.specs.text_forms.Forms.{element_of, form_in, before_in, rows_of, is_number_form}
+use Rattle.heap_ops.specs.heap_places.Shapes.{word_in}
+use Rattle.heap_ops.specs.heap_places.Words.{int_in, int_word, flag_word}
+use Rattle.heap_ops.specs.heap_places.Places as places
+use Rattle.heap_ops.specs.heap_places.declared.value.Value as code
+use Rattle.heap_ops.specs.heap_places.declared.value.Value.TheVariants as held
 use Rattle.heap_ops.specs.Vectors.{count_of, low_of, index_of, vector_damage, subscript, of_bounds}
-use Rattle.ps_meaning.specs.Values.{Value, Nothing}
-use Rattle.ps_meaning.specs.Objects.{is_vector, place_of, place_from}
+use Rattle.proc_values.specs.ps_meaning.Values.{Value, Nothing}
+use Rattle.proc_values.specs.ps_meaning.Objects.{is_vector, place_of, place_from}
 use Rattle.heap_meaning.specs.Standing.{Seen, Pairing, IsWordOf, IsAs, IsVector}
 use Rattle.heap_meaning.specs.Denoting.{IsFor}
 use Rattle.heap_meaning.proofs.StandingLaws.{IsNumber}

@@ -1,19 +1,19 @@
 -- Writing a place of an object that stands for another, and making one.
 use Rattle.std.proofs.Common.{arith, ◌≡◌, ℕ, zero, suc, ◌+◌, ◌<◌, ℤ, List, [], ◌∷◌, ◌++◌, length, map, set, slice_set, replicate, refl, sym, ap, ◌∙◌, Option, Some, Bool, true, false}
-use Rattle.obj_layout.specs.declared.kind.Kind.{Kind}
-use Rattle.obj_layout.specs.declared.reference.Reference as reference
-use Rattle.obj_layout.specs.declared.reference.Reference.TheVariants as name
-use Rattle.swizzle.specs.Heap.{Heap, reference_to}
-use Rattle.swizzle.specs.Joint.{Shown, shown, name_of}
-use Rattle.text_forms.specs.declared.forms.Form.{Form}
-use Rattle.text_forms.specs.declared.forms.Form.TheVariants as form
-use Rattle.text_forms.specs.Forms.{form_in, before_in, rows_of}
-use Rattle.heap_places.specs.Shapes.{IsText}
-use Rattle.heap_places.specs.Words.{int_in, flag_in, int_word, flag_word}
-use Rattle.heap_places.specs.Filling.{refs_of, words_of, first_words, filled}
-use Rattle.heap_places.specs.declared.value.Value as code
-use Rattle.heap_places.specs.declared.value.Value.TheVariants as held
-use Rattle.ps_meaning.specs.Values.{Value, Num, Flag, Text, Nil, Pointer, Vector, Procedure, Nothing}
+use Rattle.proc_values.specs.obj_layout.declared.kind.Kind.{Kind}
+use Rattle.proc_values.specs.obj_layout.declared.reference.Reference as reference
+use Rattle.proc_values.specs.obj_layout.declared.reference.Reference.TheVariants as name
+use Rattle.proc_values.specs.swizzle.Heap.{Heap, reference_to}
+use Rattle.proc_values.specs.swizzle.Joint.{Shown, shown, name_of}
+use Rattle.proc_values.specs.text_forms.declared.forms.Form.{Form}
+use Rattle.proc_values.specs.text_forms.declared.forms.Form.TheVariants as form
+use Rattle.proc_values.specs.text_forms.Forms.{form_in, before_in, rows_of}
+use Rattle.heap_ops.specs.heap_places.Shapes.{IsText}
+use Rattle.heap_ops.specs.heap_places.Words.{int_in, flag_in, int_word, flag_word}
+use Rattle.heap_ops.specs.heap_places.Filling.{refs_of, words_of, first_words, filled}
+use Rattle.heap_ops.specs.heap_places.declared.value.Value as code
+use Rattle.heap_ops.specs.heap_places.declared.value.Value.TheVariants as held
+use Rattle.proc_values.specs.ps_meaning.Values.{Value, Num, Flag, Text, Nil, Pointer, Vector, Procedure, Nothing}
 use Rattle.heap_meaning.specs.Standing.{Seen, Pairing, StandsFor, IsWordOf, AreFor, IsAs}
 use Rattle.heap_meaning.proofs.StandingLaws.{IsNumber, write-reference, write-word}
 
@@ -36,7 +36,7 @@ as-written_name seen pair it of text first forms vs n m v a is s = record {
   are = write-reference seen pair forms a.names a.words vs n m v a.are is s;
 }
 
--- words behind the first ones
+-- words after the first ones
 pub set-behind : (front words : List ℕ) (k w : ℕ) → slice_set (front ++ words) (length front + k) w ≡ front ++ slice_set words k w
 set-behind [] words k w = let e : 0 + k ≡ k = omega arith in ap (λ (i : ℕ). slice_set words i w) e
 set-behind (x ∷ xs) words k w =

@@ -1,11 +1,11 @@
 -- Values in code, whose objects lie in the area, denote values of the meaning.
 use Rattle.std.specs.Prelude.{◌≡◌, ℕ, Option}
-use Rattle.obj_layout.specs.declared.reference.Reference as reference
-use Rattle.swizzle.specs.Heap.{Heap}
-use Rattle.swizzle.specs.Touch.{Denotes}
-use Rattle.heap_places.specs.declared.value.Value as code
-use Rattle.heap_places.specs.declared.value.Value.TheVariants as held
-use Rattle.ps_meaning.specs.Values.{Value, Num, Flag}
+use Rattle.proc_values.specs.obj_layout.declared.reference.Reference as reference
+use Rattle.proc_values.specs.swizzle.Heap.{Heap}
+use Rattle.proc_values.specs.swizzle.Touch.{Denotes}
+use Rattle.heap_ops.specs.heap_places.declared.value.Value as code
+use Rattle.heap_ops.specs.heap_places.declared.value.Value.TheVariants as held
+use Rattle.proc_values.specs.ps_meaning.Values.{Value, Num, Flag}
 use Rattle.heap_meaning.specs.Standing.{Seen, Pairing, StandsForScope, StandsFor}
 
 -- an object of the area, or none, by a name that stands for a value

@@ -1,8 +1,8 @@
 -- The names of the heap's objects in a row, each at its number. A heap's numbers are those of its objects in the order in which they came, so that
 -- a row of names is a pairing that grows at its end.
 use Rattle.std.specs.Prelude.{◌≡◌, ℕ, zero, suc, List, [], ◌∷◌, ◌++◌, length, Option, Some, None}
-use Rattle.obj_layout.specs.declared.reference.Reference as reference
-use Rattle.ps_meaning.specs.Objects.{Heap}
+use Rattle.proc_values.specs.obj_layout.declared.reference.Reference as reference
+use Rattle.proc_values.specs.ps_meaning.Objects.{Heap}
 use Rattle.heap_meaning.specs.Standing.{Seen, Pairing, Stands}
 
 -- the name at a number

@@ -2,20 +2,20 @@
 -- name goes with which number. A text is a value, and its object stands for its bytes; so is a procedure, whose object stands for its unit of code
 -- and the scope that it was made in.
 use Rattle.std.specs.Prelude.{◌≡◌, ◌⊎◌, ℕ, ℤ, true, List, [], ◌∷◌, ◌++◌, length, replicate, Option, Some, None}
-use Rattle.ps_base.specs.CodeUnit.{UnitView}
-use Rattle.obj_layout.specs.declared.kind.Kind.{Kind}
-use Rattle.obj_layout.specs.declared.kind.Kind.TheVariants as kind
-use Rattle.obj_layout.specs.declared.reference.Reference as reference
-use Rattle.obj_layout.specs.declared.reference.Reference.TheVariants as name
-use Rattle.swizzle.specs.Joint.{Shown}
-use Rattle.text_forms.specs.declared.forms.Form.{Form}
-use Rattle.text_forms.specs.declared.forms.Form.TheVariants as form
-use Rattle.text_forms.specs.Forms.{forms_of, element_of}
-use Rattle.heap_places.specs.Words.{int_in, flag_in}
-use Rattle.heap_places.specs.Shapes.{IsText}
+use Rattle.proc_values.specs.ps_base.CodeUnit.{UnitView}
+use Rattle.proc_values.specs.obj_layout.declared.kind.Kind.{Kind}
+use Rattle.proc_values.specs.obj_layout.declared.kind.Kind.TheVariants as kind
+use Rattle.proc_values.specs.obj_layout.declared.reference.Reference as reference
+use Rattle.proc_values.specs.obj_layout.declared.reference.Reference.TheVariants as name
+use Rattle.proc_values.specs.swizzle.Joint.{Shown}
+use Rattle.proc_values.specs.text_forms.declared.forms.Form.{Form}
+use Rattle.proc_values.specs.text_forms.declared.forms.Form.TheVariants as form
+use Rattle.proc_values.specs.text_forms.Forms.{forms_of, element_of}
+use Rattle.heap_ops.specs.heap_places.Words.{int_in, flag_in}
+use Rattle.heap_ops.specs.heap_places.Shapes.{IsText}
 use Rattle.proc_values.specs.Loaded.{IsFitUnit}
-use Rattle.ps_meaning.specs.Values.{Value, Num, Flag, Text, Nil, Pointer, Vector, Procedure, as_compiled}
-use Rattle.ps_meaning.specs.Objects.{Heap, Object, Structure, Elements, Scope, object_at, is_vector}
+use Rattle.proc_values.specs.ps_meaning.Values.{Value, Num, Flag, Text, Nil, Pointer, Vector, Procedure, as_compiled}
+use Rattle.proc_values.specs.ps_meaning.Objects.{Heap, Object, Structure, Elements, Scope, object_at, is_vector}
 use Rattle.heap_meaning.specs.Units.{IsUnitSeen}
 
 -- what is seen: which object a name has

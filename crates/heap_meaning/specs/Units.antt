@@ -1,15 +1,15 @@
 -- Units of code that are seen: the code object of a unit, and the objects of its constants.
 use Rattle.std.specs.Prelude.{◌≡◌, ℕ, List, [], ◌∷◌, take, drop, slice_index}
-use Rattle.ps_base.specs.CodeUnit.{UnitView, unit, ConstantView, text, literal, ConstantsView, no_constants, constant_then}
-use Rattle.ps_base.specs.declared.code_unit.Frame.{Frame}
-use Rattle.obj_area.specs.Words.{bytes_of}
-use Rattle.obj_layout.specs.declared.kind.Kind.TheVariants as kind
-use Rattle.obj_layout.specs.declared.reference.Reference.{Reference}
-use Rattle.swizzle.specs.Joint.{Shown}
-use Rattle.heap_places.specs.Shapes.{IsText}
+use Rattle.proc_values.specs.ps_base.CodeUnit.{UnitView, unit, ConstantView, text, literal, ConstantsView, no_constants, constant_then}
+use Rattle.proc_values.specs.ps_base.declared.code_unit.Frame.{Frame}
+use Rattle.proc_values.specs.obj_area.Words.{bytes_of}
+use Rattle.proc_values.specs.obj_layout.declared.kind.Kind.TheVariants as kind
+use Rattle.proc_values.specs.obj_layout.declared.reference.Reference.{Reference}
+use Rattle.proc_values.specs.swizzle.Joint.{Shown}
+use Rattle.heap_ops.specs.heap_places.Shapes.{IsText}
 use Rattle.proc_values.specs.Units.{frame_word}
 
--- the bytes of a code object: those of its number words behind its home and its frame
+-- the bytes of a code object: those of its number words after its home and its frame
 abbrev pub shown_code : Shown → List ℕ
 shown_code it = take it.bytes (drop 16 (bytes_of it.nums))
 

@@ -3,25 +3,25 @@ use Rattle.std.proofs.Common.{inl, inr, ◌≡◌, ◌≢◌, ℕ, ◌+◌, List
 use Rattle.std.specs.Prelude.{Ok, Err}
 use Rattle.std.proofs.lemmas.Bool.{cases_eq}
 use Rattle.std.proofs.lemmas.Grind.{common_steps}
-use Rattle.ps_outside.specs.Outside.{Outside, SameContents}
-use Rattle.obj_layout.specs.Stored.{Space, Damage, damage}
-use Rattle.obj_layout.specs.Kind.{kind_number}
-use Rattle.obj_layout.specs.declared.kind.Kind.TheVariants.{Text, Structure}
-use Rattle.obj_layout.specs.declared.header.Header.{Header}
-use Rattle.obj_layout.specs.declared.reference.Reference.{Reference}
-use Rattle.obj_layout.specs.declared.reference.Reference.TheVariants as reference
-use Rattle.obj_layout.specs.declared.vault.VaultFault.TheVariants.{Damaged}
-use Rattle.swizzle.specs.declared.fault.SwizzleFault.{SwizzleFault}
-use Rattle.swizzle.specs.declared.fault.SwizzleFault.TheVariants.{Vault}
-use Rattle.swizzle.specs.Heap.{Heap, IsHeap, IsHeld, Stands, header_at}
-use Rattle.swizzle.specs.Joint.{Shown, shown_at, name_by}
-use Rattle.swizzle.specs.Changes.{Within}
-use Rattle.swizzle.specs.Text.{text_at}
-use Rattle.swizzle.specs.Touch.{Keeps}
-use Rattle.swizzle.specs.Reading.{joint}
-use Rattle.swizzle.proofs.NameLaws.{shown-counts, name-pid, name-none}
-use Rattle.swizzle.proofs.ReadingLaws.{reads-none, texts-kept}
-use Rattle.text_forms.specs.declared.forms.Rows.{Rows}
+use Rattle.heap_places.specs.ps_outside.Outside.{Outside, SameContents}
+use Rattle.heap_places.specs.obj_layout.Stored.{Space, Damage, damage}
+use Rattle.heap_places.specs.obj_layout.Kind.{kind_number}
+use Rattle.heap_places.specs.obj_layout.declared.kind.Kind.TheVariants.{Text, Structure}
+use Rattle.heap_places.specs.obj_layout.declared.header.Header.{Header}
+use Rattle.heap_places.specs.obj_layout.declared.reference.Reference.{Reference}
+use Rattle.heap_places.specs.obj_layout.declared.reference.Reference.TheVariants as reference
+use Rattle.heap_places.specs.obj_layout.declared.vault.VaultFault.TheVariants.{Damaged}
+use Rattle.heap_places.specs.swizzle.declared.fault.SwizzleFault.{SwizzleFault}
+use Rattle.heap_places.specs.swizzle.declared.fault.SwizzleFault.TheVariants.{Vault}
+use Rattle.heap_places.specs.swizzle.Heap.{Heap, IsHeap, IsHeld, Stands, header_at}
+use Rattle.heap_places.specs.swizzle.Joint.{Shown, shown_at, name_by}
+use Rattle.heap_places.specs.swizzle.Changes.{Within}
+use Rattle.heap_places.specs.swizzle.Text.{text_at}
+use Rattle.heap_places.specs.swizzle.Touch.{Keeps}
+use Rattle.heap_places.specs.swizzle.Reading.{joint}
+use Rattle.heap_places.proofs.of_swizzle.NameLaws.{shown-counts, name-pid, name-none}
+use Rattle.heap_places.proofs.of_swizzle.ReadingLaws.{reads-none, texts-kept}
+use Rattle.heap_places.specs.text_forms.declared.forms.Rows.{Rows}
 use Rattle.heap_places.specs.Shapes.{slot_of, IsText, shape_damage}
 use Rattle.heap_places.specs.Places.{FirstText, NamesDamage, TouchesText}
 use Rattle.heap_places.proofs.PlaceLaws.{names-damage}

@@ -1,31 +1,32 @@
--- A field, behind the class of its object.
+-- A field, after the class of its object.
 use Rattle.std.proofs.Common.{Bool, true, false, unwrap_or, inl, inr, ◌≡◌, ℕ, suc, ◌+◌, ◌<◌, ◌≤◌, ◌^◌, List, [], ◌∷◌, Option, Some, None, IfSome, refl, sym, ap, ◌∙◌, arith, add-one, subst}
 use Rattle.std.specs.Prelude.{Result, Ok, Err, OnOk}
-use Rattle.ps_outside.specs.Outside.{Outside}
-use Rattle.obj_layout.specs.Stored.{Space}
-use Rattle.obj_layout.specs.declared.reference.Reference as reference
-use Rattle.obj_layout.specs.declared.reference.Reference.TheVariants.{Pid}
-use Rattle.obj_layout.specs.Reference.{IsReference}
-use Rattle.swizzle.specs.declared.fault.SwizzleFault.{SwizzleFault}
-use Rattle.swizzle.specs.declared.fault.SwizzleFault.TheVariants.{AreaFull, Vault}
-use Rattle.swizzle.specs.Objects.{Object}
-use Rattle.swizzle.specs.Heap.{Heap, IsHeap, IsHeld, Stands, object_at, header_at, ref_at, local_of, nothing}
-use Rattle.swizzle.specs.Joint.{Shown, shown_at, name_of}
-use Rattle.swizzle.specs.Touch.{Keeps, IsTouchFault}
-use Rattle.swizzle.specs.Reading.{joint, Reads}
-use Rattle.swizzle.proofs.ObjectLaws.{split, AreReferences-at}
-use Rattle.swizzle.proofs.HeapLaws.{local-is}
-use Rattle.swizzle.proofs.KeptLaws.{held_is}
-use Rattle.swizzle.proofs.NameLaws.{shown-counts}
-use Rattle.swizzle.proofs.ReadingLaws.{reads-then, fails-then}
-use Rattle.text_forms.specs.declared.forms.Form.{Form}
-use Rattle.text_forms.specs.declared.forms.Form.TheVariants.{Number, Flag, Reference}
-use Rattle.text_forms.specs.declared.forms.Rows.{Rows}
-use Rattle.text_forms.specs.declared.forms.Located.{Located}
-use Rattle.text_forms.specs.Forms.{forms_of, count_in}
-use Rattle.text_forms.proofs.Places.{place-within}
-use Rattle.heap_texts.specs.declared.fault.OpFault.{OpFault}
-use Rattle.heap_texts.specs.declared.fault.OpFault.TheVariants as op
+use Rattle.heap_places.specs.ps_outside.Outside.{Outside}
+use Rattle.heap_places.specs.obj_layout.Stored.{Space}
+use Rattle.heap_places.specs.obj_layout.declared.reference.Reference as reference
+use Rattle.heap_places.specs.obj_layout.declared.reference.Reference.TheVariants.{Pid}
+use Rattle.heap_places.specs.obj_layout.Reference.{IsReference}
+use Rattle.heap_places.specs.swizzle.declared.fault.SwizzleFault.{SwizzleFault}
+use Rattle.heap_places.specs.swizzle.declared.fault.SwizzleFault.TheVariants.{AreaFull, Vault}
+use Rattle.heap_places.specs.swizzle.Objects.{Object}
+use Rattle.heap_places.specs.swizzle.Heap.{Heap, IsHeap, IsHeld, Stands, object_at, header_at, ref_at, local_of, nothing}
+use Rattle.heap_places.specs.swizzle.Joint.{Shown, shown_at, name_of}
+use Rattle.heap_places.specs.swizzle.Touch.{Keeps, IsTouchFault}
+use Rattle.heap_places.specs.swizzle.Reading.{joint, Reads}
+use Rattle.heap_places.proofs.of_swizzle.ObjectLaws.{split, AreReferences-at}
+use Rattle.heap_places.proofs.of_swizzle.HeapLaws.{local-is}
+use Rattle.heap_places.proofs.of_swizzle.KeptLaws.{held_is}
+use Rattle.heap_places.proofs.of_swizzle.NameLaws.{shown-counts}
+use Rattle.heap_places.proofs.of_swizzle.DamageLaws.{passes-same, reports-same}
+use Rattle.heap_places.proofs.of_swizzle.ReadingLaws.{reads-then, fails-then}
+use Rattle.heap_places.specs.text_forms.declared.forms.Form.{Form}
+use Rattle.heap_places.specs.text_forms.declared.forms.Form.TheVariants.{Number, Flag, Reference}
+use Rattle.heap_places.specs.text_forms.declared.forms.Rows.{Rows}
+use Rattle.heap_places.specs.text_forms.declared.forms.Located.{Located}
+use Rattle.heap_places.specs.text_forms.Forms.{forms_of, count_in}
+use Rattle.heap_places.proofs.of_text_forms.Places.{place-within}
+use Rattle.heap_places.specs.heap_texts.declared.fault.OpFault.{OpFault}
+use Rattle.heap_places.specs.heap_texts.declared.fault.OpFault.TheVariants as op
 use Rattle.heap_places.specs.declared.value.Value.{Value}
 use Rattle.heap_places.specs.declared.value.Value.TheVariants.{Num, Flag as Truth, Ref}
 use Rattle.heap_places.specs.Shapes.{slot_of, word_in}
@@ -173,12 +174,17 @@ fetch-fault old mid a b at slot names (AreaFull top wanted size) h held same rea
         pid,
         slot-pid old mid at slot pid same t.3.1,
         away,
-        λ words stored. t.3.3 words
+        passes-same a b pid reads.outside.contents t.3.3,
+        λ words stored. t.3.4 words
             (record { space = stored.space; is = reads.outside.contents.kept stored.space stored.is; has = stored.has }),
       ),
     )
-fetch-fault old mid a b at slot names (Vault refused) h held same reads t =
-    (t.0, slot-pid old mid at slot t.0 same t.1, away-before old mid t.0 reads.keeps h (pid-from mid at slot t.0 h held t.1) t.2, t.3)
+fetch-fault old mid a b at slot names (Vault refused) h held same reads t = (
+  t.0,
+  slot-pid old mid at slot t.0 same t.1,
+  away-before old mid t.0 reads.keeps h (pid-from mid at slot t.0 h held t.1) t.2,
+  reports-same a b t.0 refused reads.outside.contents t.3,
+)
 
 pub damage-at : (old mid : Heap) (at index : ℕ) (f : Form) (fault : SwizzleFault) → Keeps old mid → IsHeld old at → shown_at mid at ≡ shown_at old at
     → NamesDamage mid at (word_damage f (word_in (shown_at mid at) index)) fault
@@ -198,6 +204,7 @@ gets-fault old mid new a b c object at text l fault h o held reads =
       mid = mid;
       heap = h;
       keeps = o.reads.keeps;
+      grows = λ n it j. same-before mid a b o.reads.outside.contents n it (o.reads.grows n it j);
       class = class-grows (joint mid b) (joint mid a) (shown_at old at) text (same-before mid a b o.reads.outside.contents) o.fields.class;
       shape = o.fields.shape;
       why = elim (now.1) [
@@ -233,7 +240,7 @@ opens-damaged old new a b object at text rows is fault e held answered told dama
     let kept = damage-kept old new at (structure_damage (shown_at old at) rows) fault t.1.keeps there
     (subst (λ (it : Shown). NamesDamage new at (structure_damage it rows) fault) stays.shown_as damaged) in
     subst (λ (x : Option ℕ). OpensFields old new a b x text rows (Err (op.Swizzle fault))) (sym e)
-    (fails-damage a b _ _ _ fault t.1.outside kept.2, inr (t.1.keeps, t.0, kept))
+    (fails-damage a b _ _ _ fault t.1.outside kept.2, inr (t.1.keeps, t.1.grows, t.0, kept))
 
 -- no object was lost, unless the store refused one
 pub opens-stands : (old new : Heap) (a b : Outside Space) (object : Option ℕ) (text : List ℕ) (rows : Rows) (fault : OpFault)

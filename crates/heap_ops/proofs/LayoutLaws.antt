@@ -1,11 +1,11 @@
 -- Entries that are so.
 use Rattle.std.proofs.Common.{inl, inr, ◌≡◌, ℕ, zero, suc, ◌<◌, ◌≤◌, ◌^◌, ◌⊎◌, List, [], ◌∷◌, length, set, replicate, get_or, take, ◌++◌, Some, sym, ap, ◌∙◌, arith, subst}
-use Rattle.swizzle.specs.Heap.{Heap, IsHeap, IsHeld, object_at, header_at}
-use Rattle.swizzle.specs.Text.{text_at}
-use Rattle.swizzle.specs.Reading.{TextsStay}
-use Rattle.swizzle.proofs.ObjectLaws.{split}
-use Rattle.swizzle.proofs.KeptLaws.{held_is}
-use Rattle.text_forms.specs.Forms.{forms_of, located_in}
+use Rattle.heap_places.specs.swizzle.Heap.{Heap, IsHeap, IsHeld, object_at, header_at}
+use Rattle.heap_places.specs.swizzle.Text.{text_at}
+use Rattle.heap_places.specs.swizzle.Reading.{TextsStay}
+use Rattle.heap_places.proofs.of_swizzle.ObjectLaws.{split}
+use Rattle.heap_places.proofs.of_swizzle.KeptLaws.{held_is}
+use Rattle.heap_places.specs.text_forms.Forms.{forms_of, located_in}
 use Rattle.heap_ops.specs.declared.layouts.Entry.{Entry}
 use Rattle.heap_ops.specs.Layouts.{IsSo, AreSo}
 
@@ -49,7 +49,7 @@ known_so heap entries index class field entry so below found same number some = 
       ∙ is.place
 ]
 
--- entries that were put behind none
+-- entries that were put after none
 pub fresh_so : (heap : Heap) (items before : List Entry) (n : ℕ) (entry : Entry) → before ≡ [] → entry.class ≡ 0
     → items ≡ take 256 before ++ replicate n entry → AreSo heap items
 fresh_so heap items before n entry empty none is =

@@ -1,10 +1,10 @@
 -- A vector that was made is there.
-use Rattle.std.proofs.Common.{◌≡◌, ℕ, ℤ, Bool, true, false, List, Some, Ok, Err}
+use Rattle.std.proofs.Common.{ℕ, ℤ, Bool, true, false, List, Some, Ok, Err}
 use Rattle.std.specs.Prelude.{Result, IfOk}
-use Rattle.obj_layout.specs.declared.kind.Kind.TheVariants.{Vector}
-use Rattle.swizzle.specs.Heap.{Heap, IsHeld}
-use Rattle.swizzle.proofs.MadeLaws.{made-held}
-use Rattle.heap_texts.specs.declared.fault.OpFault.{OpFault}
+use Rattle.heap_places.specs.obj_layout.declared.kind.Kind.TheVariants.{Vector}
+use Rattle.heap_places.specs.swizzle.Heap.{Heap, IsHeld}
+use Rattle.heap_places.proofs.of_swizzle.MadeLaws.{made-held}
+use Rattle.heap_places.specs.heap_texts.declared.fault.OpFault.{OpFault}
 use Rattle.heap_places.specs.declared.value.Value.{Value}
 use Rattle.heap_places.specs.Filling.{filled}
 use Rattle.heap_ops.specs.Vectors.{MakesVector}

@@ -1,25 +1,17 @@
 -- The shape of a vector, and what is wrong with one.
-use Rattle.std.proofs.Common.{arith, inl, inr, ◌≡◌, ◌≢◌, ℕ, ◌<◌, ◌≤◌, ◌^◌, ◌-◌, ◌==◌, ℤ, pos, List, [], ◌∷◌, length, refl, sym, ap, ◌∙◌, subst, Option, Some, None, unwrap_or, Bool, true, false, nat_eq, w32, w64, to_z, of_z, if◌then◌else◌, Ok, Err}
+use Rattle.std.proofs.Common.{arith, inl, inr, ◌≡◌, ℕ, ◌<◌, ◌^◌, ◌-◌, ℤ, pos, length, refl, sym, ap, ◌∙◌, subst, Option, Some, None, unwrap_or, Bool, true, false, nat_eq, w32, to_z, of_z, if◌then◌else◌}
 use Rattle.std.specs.Prelude.{negsuc}
 use Rattle.std.proofs.lemmas.Bool.{cases_lt, eq-eqb}
 use Rattle.std.proofs.lemmas.Int.{to_z-of_z}
 use mir.Val.{SFits}
-use Rattle.ps_outside.specs.Outside.{Outside}
-use Rattle.ps_meaning.specs.Objects.{is_vector}
-use Rattle.obj_layout.specs.Kind.{kind_number}
-use Rattle.obj_layout.specs.Stored.{Space, Damage, damage}
-use Rattle.obj_layout.specs.declared.kind.Kind.TheVariants.{Vector}
-use Rattle.obj_layout.specs.declared.vault.VaultFault.TheVariants.{Damaged}
-use Rattle.swizzle.specs.declared.fault.SwizzleFault.{SwizzleFault}
-use Rattle.swizzle.specs.declared.fault.SwizzleFault.TheVariants.{Vault}
-use Rattle.swizzle.specs.Heap.{Heap, IsHeap, IsHeld, header_at}
-use Rattle.swizzle.specs.Joint.{Shown, shown_at}
-use Rattle.text_forms.specs.declared.forms.Form.{Form}
-use Rattle.text_forms.specs.Forms.{is_number_form}
+use Rattle.heap_places.specs.ps_meaning.Objects.{is_vector}
+use Rattle.heap_places.specs.obj_layout.Stored.{damage}
+use Rattle.heap_places.specs.swizzle.Joint.{Shown}
+use Rattle.heap_places.specs.text_forms.declared.forms.Form.{Form}
+use Rattle.heap_places.specs.text_forms.Forms.{is_number_form}
 use Rattle.heap_places.specs.Shapes.{word_in}
 use Rattle.heap_places.specs.Words.{int_in}
 use Rattle.heap_places.proofs.WordLaws.{int-low, int-mid, int-high}
-use Rattle.heap_ops.specs.declared.shape.Shape.{Shape}
 use Rattle.heap_ops.specs.Vectors.{count_of, low_of, of_bounds, vector_damage, IsShaped}
 
 -- An int that a word stands for has 32 bits.

@@ -1,28 +1,28 @@
 -- A vector that was read by the text of its type.
-use Rattle.std.proofs.Common.{arith, inl, inr, ◌≡◌, ◌≢◌, ℕ, suc, ◌+◌, ◌*◌, ◌<◌, ℤ, pos, List, [], ◌∷◌, ◌++◌, take, drop, length, refl, sym, ap, ◌∙◌, subst, Option, Some, None, Bool, true, false, nat_lt, if◌then◌else◌, Ok, Err}
+use Rattle.std.proofs.Common.{arith, inl, inr, ◌≡◌, ◌≢◌, ℕ, ◌*◌, ◌<◌, ℤ, pos, List, take, drop, refl, sym, ap, ◌∙◌, subst, Some, None, Bool, true, false, nat_lt, if◌then◌else◌, Ok, Err}
 use Rattle.std.specs.Prelude.{negsuc, ◌-ℤ◌}
 use Rattle.std.proofs.lemmas.Bool.{ltb-true}
-use Rattle.ps_outside.specs.Outside.{Outside}
-use Rattle.ps_meaning.specs.Objects.{place_of, place_from}
-use Rattle.obj_area.specs.Words.{bytes_of}
-use Rattle.obj_layout.specs.Stored.{Space}
-use Rattle.obj_layout.specs.declared.kind.Kind.{Kind}
-use Rattle.obj_layout.specs.declared.kind.Kind.TheVariants.{Text, Vector}
-use Rattle.obj_layout.specs.declared.reference.Reference as reference
-use Rattle.swizzle.specs.declared.fault.SwizzleFault.{SwizzleFault}
-use Rattle.swizzle.specs.Objects.{words_before}
-use Rattle.swizzle.specs.Heap.{Heap, IsHeap, IsHeld, object_at, header_at}
-use Rattle.swizzle.specs.Joint.{Shown, shown_at}
-use Rattle.swizzle.specs.Changes.{Within}
-use Rattle.swizzle.specs.Text.{text_at}
-use Rattle.swizzle.specs.Touch.{Keeps}
-use Rattle.swizzle.specs.Reading.{joint, Reads}
-use Rattle.swizzle.proofs.ReadingLaws.{reads-then, fails-then}
-use Rattle.text_forms.specs.declared.forms.Form.{Form}
-use Rattle.text_forms.specs.declared.forms.Form.TheVariants as form
-use Rattle.text_forms.specs.declared.forms.Form.TheVariants.{Number, Reference}
-use Rattle.text_forms.specs.Forms.{element_of}
-use Rattle.heap_texts.specs.declared.fault.OpFault.TheVariants as op
+use Rattle.heap_places.specs.ps_outside.Outside.{Outside}
+use Rattle.heap_places.specs.ps_meaning.Objects.{place_of, place_from}
+use Rattle.heap_places.specs.obj_area.Words.{bytes_of}
+use Rattle.heap_places.specs.obj_layout.Stored.{Space}
+use Rattle.heap_places.specs.obj_layout.declared.kind.Kind.{Kind}
+use Rattle.heap_places.specs.obj_layout.declared.kind.Kind.TheVariants.{Vector}
+use Rattle.heap_places.specs.obj_layout.declared.reference.Reference as reference
+use Rattle.heap_places.specs.swizzle.declared.fault.SwizzleFault.{SwizzleFault}
+use Rattle.heap_places.specs.swizzle.Objects.{words_before}
+use Rattle.heap_places.specs.swizzle.Heap.{Heap, IsHeap, IsHeld, object_at, header_at}
+use Rattle.heap_places.specs.swizzle.Joint.{Shown, shown_at}
+use Rattle.heap_places.specs.swizzle.Changes.{Within}
+use Rattle.heap_places.specs.swizzle.Text.{text_at}
+use Rattle.heap_places.specs.swizzle.Touch.{Keeps}
+use Rattle.heap_places.specs.swizzle.Reading.{joint, Reads}
+use Rattle.heap_places.proofs.of_swizzle.ReadingLaws.{reads-then, fails-then}
+use Rattle.heap_places.specs.text_forms.declared.forms.Form.{Form}
+use Rattle.heap_places.specs.text_forms.declared.forms.Form.TheVariants as form
+use Rattle.heap_places.specs.text_forms.declared.forms.Form.TheVariants.{Number, Reference}
+use Rattle.heap_places.specs.text_forms.Forms.{element_of}
+use Rattle.heap_places.specs.heap_texts.declared.fault.OpFault.TheVariants as op
 use Rattle.heap_places.specs.Shapes.{slot_of, IsText}
 use Rattle.heap_places.specs.Places.{FirstText, HasPlace, HasRow, Holds, IsNear, NamesDamage, ReadsPlace, touched_by, fit_damage, assigned_value}
 use Rattle.heap_places.specs.declared.value.Value.{Value}
@@ -172,6 +172,7 @@ fails-element old mid new a b c at n z shape fault h held s place r =
         n = n;
         heap = h;
         keeps = s.1.reads.keeps;
+        grows = λ name it seen. same-before mid a b s.1.reads.outside.contents name it (s.1.reads.grows name it seen);
         is = type-grows (joint mid b) (joint mid a) it text (same-before mid a b s.1.reads.outside.contents) s.1.is;
         place = the-subscript it shape text z s.2 of ∙ place;
         why = elim (typed.1) [
@@ -187,7 +188,7 @@ refuses old mid a b at z shape v fault held s none names =
     let of = s.3 in
     let kept = damage-kept old mid at (fit_damage shape.form v) fault s.1.reads.keeps held names in (
       fails-damage a b _ _ _ fault s.1.reads.outside kept.2,
-      inr (s.0, s.1.reads.keeps, s.1.is, ap (λ (f : Form). fitted f v) (sym of) ∙ none, subst (λ (f : Form). NamesDamage old at (fit_damage f v) fault) of kept),
+      inr (s.0, s.1.reads.keeps, s.1.reads.grows, s.1.is, ap (λ (f : Form). fitted f v) (sym of) ∙ none, subst (λ (f : Form). NamesDamage old at (fit_damage f v) fault) of kept),
     )
 
 pub sets : (old mid new : Heap) (a b : Outside Space) (at n : ℕ) (z : ℤ) (shape : Shape) (v w : Value) → IsHeap mid → IsHeld old at → ReadsShape old mid a b at (Ok shape) → place_of shape.low shape.count z ≡ Some n → fitted shape.form v ≡ Some w

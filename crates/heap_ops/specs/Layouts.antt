@@ -1,9 +1,9 @@
 -- Places of classes that were looked up before.
 use Rattle.std.specs.Prelude.{◌≡◌, ◌⊎◌, List, [], ◌∷◌, Some}
-use Rattle.obj_layout.specs.declared.kind.Kind.TheVariants.{Text}
-use Rattle.swizzle.specs.Heap.{Heap, IsHeld, header_at}
-use Rattle.swizzle.specs.Text.{text_at}
-use Rattle.text_forms.specs.Forms.{forms_of, located_in}
+use Rattle.heap_places.specs.obj_layout.declared.kind.Kind.TheVariants.{Text}
+use Rattle.heap_places.specs.swizzle.Heap.{Heap, IsHeld, header_at}
+use Rattle.heap_places.specs.swizzle.Text.{text_at}
+use Rattle.heap_places.specs.text_forms.Forms.{forms_of, located_in}
 use Rattle.heap_ops.specs.declared.layouts.Entry.{Entry}
 
 -- What an entry says is so of the area: its class is a text, and names this place. An entry of class 0 says nothing.

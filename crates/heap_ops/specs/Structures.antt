@@ -2,22 +2,23 @@
 use Rattle.std.specs.Prelude.{◌≡◌, ◌≢◌, ◌⊎◌, ℕ, suc, ◌+◌, Bool, true, false, List, [], ◌∷◌, ◌++◌, Option, Some, None, Result, Ok, Err}
 use Rattle.ps_base.specs.declared.trap.Trap.{Trap}
 use Rattle.ps_base.specs.declared.trap.Trap.TheVariants as trap
-use Rattle.ps_outside.specs.Outside.{Outside}
-use Rattle.obj_layout.specs.Stored.{Space, Damage}
-use Rattle.obj_layout.specs.declared.kind.Kind.TheVariants.{Structure}
-use Rattle.obj_layout.specs.declared.reference.Reference as reference
-use Rattle.swizzle.specs.declared.fault.SwizzleFault.{SwizzleFault}
-use Rattle.swizzle.specs.Heap.{Heap, IsHeap, ref_at}
-use Rattle.swizzle.specs.Joint.{Shown, shown_at}
-use Rattle.swizzle.specs.Reading.{joint, Reads, FailsReading}
-use Rattle.swizzle.specs.Touch.{Keeps, IsTouchFault}
-use Rattle.text_forms.specs.declared.forms.Form.{Form}
-use Rattle.text_forms.specs.declared.forms.Form.TheVariants.{Reference}
-use Rattle.text_forms.specs.declared.forms.Rows.{Rows}
-use Rattle.text_forms.specs.declared.forms.Located.{Located}
-use Rattle.text_forms.specs.Forms.{forms_of, located_in}
-use Rattle.heap_texts.specs.declared.fault.OpFault.{OpFault}
-use Rattle.heap_texts.specs.declared.fault.OpFault.TheVariants as op
+use Rattle.heap_places.specs.ps_outside.Outside.{Outside}
+use Rattle.heap_places.specs.obj_layout.Stored.{Space, Damage}
+use Rattle.heap_places.specs.obj_layout.declared.kind.Kind.TheVariants.{Structure}
+use Rattle.heap_places.specs.obj_layout.declared.reference.Reference as reference
+use Rattle.heap_places.specs.swizzle.declared.fault.SwizzleFault.{SwizzleFault}
+use Rattle.heap_places.specs.swizzle.Heap.{Heap, IsHeap, ref_at}
+use Rattle.heap_places.specs.swizzle.Joint.{Shown, shown_at}
+use Rattle.heap_places.specs.swizzle.Changes.{Within}
+use Rattle.heap_places.specs.swizzle.Reading.{joint, Reads, FailsReading}
+use Rattle.heap_places.specs.swizzle.Touch.{Keeps, IsTouchFault}
+use Rattle.heap_places.specs.text_forms.declared.forms.Form.{Form}
+use Rattle.heap_places.specs.text_forms.declared.forms.Form.TheVariants.{Reference}
+use Rattle.heap_places.specs.text_forms.declared.forms.Rows.{Rows}
+use Rattle.heap_places.specs.text_forms.declared.forms.Located.{Located}
+use Rattle.heap_places.specs.text_forms.Forms.{forms_of, located_in}
+use Rattle.heap_places.specs.heap_texts.declared.fault.OpFault.{OpFault}
+use Rattle.heap_places.specs.heap_texts.declared.fault.OpFault.TheVariants as op
 use Rattle.heap_places.specs.declared.value.Value.{Value}
 use Rattle.heap_places.specs.Shapes.{slot_of, word_in, IsText, shape_damage}
 use Rattle.heap_places.specs.Words.{word_damage}
@@ -37,8 +38,8 @@ abbrev pub class_of : Shown → List reference.Reference
 class_of it = slot_of it 0 ∷ []
 
 -- why the class of an object can't be told: it is a structure, and what it refers to first is no text or couldn't be fetched
-abbrev pub FailsClass : Heap → Heap → Outside Space → ℕ → SwizzleFault → Type 0
-FailsClass old new before at fault = ((shown_at old at).kind ≡ Structure) × (NoText old new at fault ⊎ IsTouchFault old before (ref_at old at 0) fault)
+abbrev pub FailsClass : Heap → Heap → Outside Space → Outside Space → ℕ → SwizzleFault → Type 0
+FailsClass old new before after at fault = ((shown_at old at).kind ≡ Structure) × (NoText old new before after at fault ⊎ IsTouchFault old before (ref_at old at 0) fault)
 
 -- Whether a value denotes a structure of the class: nil does not.
 abbrev pub TellsClass : Heap → Heap → Outside Space → Outside Space → Option ℕ → List ℕ → Result Bool SwizzleFault → Type 0
@@ -48,7 +49,7 @@ TellsClass old new before after (Some at) text (Ok true) = IsOfClass (joint new 
     × Reads old new before after (class_of (shown_at old at))
 TellsClass old new before after (Some at) text (Ok false) = IsOfOther (joint new after) (shown_at old at) text
     × Reads old new before after (class_of (shown_at old at))
-TellsClass old new before after (Some at) text (Err fault) = FailsReading before after fault × FailsClass old new before at fault
+TellsClass old new before after (Some at) text (Err fault) = FailsReading before after fault × FailsClass old new before after at fault
 
 -- a place that the class's text names
 abbrev pub IsNamed : List ℕ → Located → Type 0
@@ -72,8 +73,8 @@ pub record HasFields (old new : Heap) (after : Outside Space) (at : ℕ) (text :
 -- Why a field can't be reached: its object's class can't be told, or the object hasn't the shape of its class.
 abbrev pub FailsFields : Heap → Heap → Outside Space → Outside Space → ℕ → List ℕ → Rows → SwizzleFault → Type 0
 FailsFields old new before after at text rows fault =
-    FailsClass old new before at fault
-    ⊎ (Keeps old new × IsOfClass (joint new after) (shown_at old at) text × NamesDamage old at (structure_damage (shown_at old at) rows) fault)
+    FailsClass old new before after at fault
+    ⊎ (Keeps old new × Within (joint old before) (joint new after) × IsOfClass (joint new after) (shown_at old at) text × NamesDamage old at (structure_damage (shown_at old at) rows) fault)
 
 -- Why the value of a field can't be told, when its object was read as one of the class: its word stands for none, or its object couldn't be
 -- fetched.
@@ -81,6 +82,7 @@ pub record FailsValue (old : Heap) (before : Outside Space) (at : ℕ) (text : L
   pub mid : Heap
   pub heap : IsHeap mid
   pub keeps : Keeps old mid
+  pub grows : Within (joint old before) (joint mid before)
   pub class : IsOfClass (joint mid before) (shown_at old at) text
   pub shape : structure_damage (shown_at old at) rows ≡ None
   pub why : NamesDamage old at (word_damage form (word_in (shown_at old at) index)) fault
@@ -98,7 +100,7 @@ GetsField old new before after (Some at) text l (Err (op.Swizzle fault)) =
     FailsReading before after fault
     × (FailsFields old new before after at text l.rows fault ⊎ FailsValue old before at text l.rows l.place.form (suc l.place.index) fault)
 
--- A field was written: behind a reading that found the object to be of the class, the value stands there, and the object is assigned.
+-- A field was written: after a reading that found the object to be of the class, the value stands there, and the object is assigned.
 pub record WritesField (old new : Heap) (before after : Outside Space) (at : ℕ) (text : List ℕ) (l : Located) (v : Value) : Type 0 where
   pub mid : Heap
   pub heap : IsHeap mid

@@ -1,27 +1,29 @@
 -- Vectors: their bounds, and their elements.
-use Rattle.std.specs.Prelude.{◌≡◌, ◌≢◌, ◌⊎◌, ℕ, suc, ◌+◌, ◌-◌, ◌^◌, ℤ, pos, ◌+ℤ◌, ◌-ℤ◌, Bool, true, false, List, [], ◌∷◌, ◌++◌, length, if◌then◌else◌, nat_eq, Option, Some, None, unwrap_or, Result, Ok, Err}
+use Rattle.std.specs.Prelude.{◌≡◌, ◌⊎◌, ℕ, ◌+◌, ◌-◌, ◌^◌, ℤ, pos, ◌+ℤ◌, ◌-ℤ◌, Bool, true, false, List, [], ◌∷◌, ◌++◌, length, if◌then◌else◌, nat_eq, Option, Some, None, unwrap_or, Result, Ok, Err}
+use Rattle.ps_base.specs.Limits.{most_elements}
 use Rattle.ps_base.specs.declared.trap.Trap.{Trap}
 use Rattle.ps_base.specs.declared.trap.Trap.TheVariants as trap
-use Rattle.ps_meaning.specs.Objects.{place_of, is_vector}
-use Rattle.ps_outside.specs.Outside.{Outside}
-use Rattle.obj_layout.specs.Kind.{kind_number}
-use Rattle.obj_layout.specs.Stored.{Space, Damage, damage}
-use Rattle.obj_layout.specs.declared.kind.Kind.TheVariants.{Vector}
-use Rattle.obj_layout.specs.declared.reference.Reference as reference
-use Rattle.swizzle.specs.declared.fault.SwizzleFault.{SwizzleFault}
-use Rattle.swizzle.specs.Heap.{Heap, IsHeap, header_at, ref_at}
-use Rattle.swizzle.specs.Joint.{Shown, shown_at}
-use Rattle.swizzle.specs.Reading.{joint, Reads, FailsReading}
-use Rattle.swizzle.specs.Touch.{Keeps, IsTouchFault}
-use Rattle.text_forms.specs.declared.forms.Form.{Form}
-use Rattle.text_forms.specs.declared.forms.Form.TheVariants.{Reference}
-use Rattle.text_forms.specs.declared.forms.Form.TheVariants as form
-use Rattle.text_forms.specs.Forms.{element_of, is_number_form}
-use Rattle.heap_texts.specs.declared.fault.OpFault.{OpFault}
-use Rattle.heap_texts.specs.declared.fault.OpFault.TheVariants as op
+use Rattle.heap_places.specs.ps_meaning.Objects.{place_of, is_vector}
+use Rattle.heap_places.specs.ps_outside.Outside.{Outside}
+use Rattle.heap_places.specs.obj_layout.Kind.{kind_number}
+use Rattle.heap_places.specs.obj_layout.Stored.{Space, Damage, damage}
+use Rattle.heap_places.specs.obj_layout.declared.kind.Kind.TheVariants.{Vector}
+use Rattle.heap_places.specs.obj_layout.declared.reference.Reference as reference
+use Rattle.heap_places.specs.swizzle.declared.fault.SwizzleFault.{SwizzleFault}
+use Rattle.heap_places.specs.swizzle.Heap.{Heap, IsHeap, ref_at}
+use Rattle.heap_places.specs.swizzle.Joint.{Shown, shown_at}
+use Rattle.heap_places.specs.swizzle.Changes.{Within}
+use Rattle.heap_places.specs.swizzle.Reading.{joint, Reads, FailsReading}
+use Rattle.heap_places.specs.swizzle.Touch.{Keeps, IsTouchFault}
+use Rattle.heap_places.specs.text_forms.declared.forms.Form.{Form}
+use Rattle.heap_places.specs.text_forms.declared.forms.Form.TheVariants.{Reference}
+use Rattle.heap_places.specs.text_forms.declared.forms.Form.TheVariants as form
+use Rattle.heap_places.specs.text_forms.Forms.{element_of, is_number_form}
+use Rattle.heap_places.specs.heap_texts.declared.fault.OpFault.{OpFault}
+use Rattle.heap_places.specs.heap_texts.declared.fault.OpFault.TheVariants as op
 use Rattle.heap_places.specs.declared.value.Value.{Value}
 use Rattle.heap_places.specs.declared.value.Value.TheVariants.{Num, Flag, Ref}
-use Rattle.ps_meaning.specs.Values.{number_of, is_one}
+use Rattle.heap_places.specs.ps_meaning.Values.{number_of, is_one}
 use Rattle.heap_places.specs.Shapes.{slot_of, word_in, IsText}
 use Rattle.heap_places.specs.Words.{int_in, word_damage}
 use Rattle.heap_places.specs.Places.{Holds, touched_by, NoText, NamesDamage, FailsFetch, fit_damage, assigned_value}
@@ -43,10 +45,10 @@ index_of form n = if is_number_form form then 2 + n else 1 + n
 
 abbrev pub of_bounds : Option ℤ → ℕ → ℕ → Option Damage
 of_bounds None word count = damage word (2 ^ 31)
-of_bounds (Some low) word count = if is_vector low count then None else damage count (2 ^ 20)
+of_bounds (Some low) word count = if is_vector low count then None else damage count most_elements
 
 -- The first of these that isn't so of a vector whose elements are of this form: the other row holds nothing more, the lower bound is an int, it
--- has 1 to 2^20 elements and its upper bound is an int.
+-- has 1 to `most_elements` elements and its upper bound is an int.
 unfoldable pub vector_damage : Shown → Form → Option Damage
 vector_damage it form =
     let rest = if is_number_form form then length it.refs else length it.nums in
@@ -71,9 +73,10 @@ kind_damage it = if nat_eq (kind_number it.kind) 3 then None else damage (kind_n
 abbrev pub FailsVector : Heap → Heap → Outside Space → Outside Space → ℕ → SwizzleFault → Type 0
 FailsVector old new before after at fault =
     NamesDamage old at (kind_damage (shown_at old at)) fault
-    ⊎ (((shown_at old at).kind ≡ Vector) × (NoText old new at fault ⊎ IsTouchFault old before (ref_at old at 0) fault))
+    ⊎ (((shown_at old at).kind ≡ Vector) × (NoText old new before after at fault ⊎ IsTouchFault old before (ref_at old at 0) fault))
     ⊎ (((shown_at old at).kind ≡ Vector)
-    × Keeps old new × ((text : List ℕ) × IsText (joint new after) (slot_of (shown_at old at) 0) text × NamesDamage old at (vector_damage (shown_at old at) (element_of text)) fault))
+    × Keeps old new × Within (joint old before) (joint new after)
+    × ((text : List ℕ) × IsText (joint new after) (slot_of (shown_at old at) 0) text × NamesDamage old at (vector_damage (shown_at old at) (element_of text)) fault))
 
 -- A vector was read as one whose type has this text.
 pub record ReadsVector (old new : Heap) (before after : Outside Space) (at : ℕ) (text : List ℕ) : Type 0 where
@@ -127,6 +130,7 @@ pub record FailsElement (old : Heap) (before : Outside Space) (at : ℕ) (z : �
   pub n : ℕ
   pub heap : IsHeap mid
   pub keeps : Keeps old mid
+  pub grows : Within (joint old before) (joint mid before)
   pub is : IsOfType (joint mid before) (shown_at old at) text
   pub place : subscript (shown_at old at) text z ≡ Some n
   pub why : NamesDamage old at (word_damage (element_of text) (word_in (shown_at old at) (index_of (element_of text) n))) fault
@@ -158,7 +162,7 @@ fitted form.Flag (Flag b) = Some (Flag b)
 fitted Reference (Ref to) = Some (Ref to)
 fitted _ _ = None
 
--- An element was written: behind a reading of the vector the value stands there, and the vector is assigned.
+-- An element was written: after a reading of the vector the value stands there, and the vector is assigned.
 pub record WritesElement (old new : Heap) (before after : Outside Space) (at : ℕ) (z : ℤ) (v : Value) : Type 0 where
   pub mid : Heap
   pub text : List ℕ
@@ -177,7 +181,8 @@ SetsElement old new before after at z v (Err (op.Trap t)) = IsBoundsTrap old new
 SetsElement old new before after at z v (Err (op.Swizzle fault)) =
     FailsReading before after fault
     × (FailsVector old new before after at fault
-    ⊎ ((text : List ℕ) × Keeps old new × IsOfType (joint new after) (shown_at old at) text × (fitted (element_of text) v ≡ None) × NamesDamage old at (fit_damage (element_of text) v) fault))
+    ⊎ ((text : List ℕ) × Keeps old new × Within (joint old before) (joint new after) × IsOfType (joint new after) (shown_at old at) text
+    × (fitted (element_of text) v ≡ None) × NamesDamage old at (fit_damage (element_of text) v) fault))
 
 -- A vector was made, or its bounds are none of a vector, or there was no room for it.
 abbrev pub MakesVector : Heap → Heap → ℕ → ℤ → List Value → Bool → Result ℕ OpFault → Type 0

@@ -1,15 +1,15 @@
 //! Places of fields that were looked up before.
 ghost use Rattle.std.specs.Prelude.{◌≡◌, ◌<◌, ◌≤◌, IfOk, IfSome, List, Some};
-ghost use Rattle.swizzle.specs.Heap.{Heap, IsHeld, header_at};
-ghost use Rattle.swizzle.specs.Reading.{TextsStay};
-ghost use Rattle.swizzle.specs.Text.{text_at};
-ghost use Rattle.text_forms.specs.Forms.{forms_of, located_in};
+ghost use Rattle.heap_places.specs.swizzle.Heap.{Heap, IsHeld, header_at};
+ghost use Rattle.heap_places.specs.swizzle.Reading.{TextsStay};
+ghost use Rattle.heap_places.specs.swizzle.Text.{text_at};
+ghost use Rattle.heap_places.specs.text_forms.Forms.{forms_of, located_in};
 ghost use Rattle.heap_ops.specs.Layouts.{AreSo, IsSo};
 
-use obj_layout::kind::Kind;
+use heap_places::obj_layout::kind::Kind;
+use heap_places::swizzle::swizzle::Swizzle;
+use heap_places::text_forms::forms::{Form, Located, Place, Rows, locate};
 use std::alloc::{AllocError, Global};
-use swizzle::swizzle::Swizzle;
-use text_forms::forms::{Form, Located, Place, Rows, locate};
 
 /// A place of a class that was looked up: the class by the index of its text, and the field by its number. Class 0 stands for no entry.
 #[derive(Clone, Copy)]

@@ -1,22 +1,22 @@
 //! The shape of a vector, as it is read of its object.
 ghost use Rattle.std.specs.Prelude.{◌≡◌, ◌+ℤ◌, ◌-ℤ◌, ◌+◌, ◌<◌, ◌^◌, pos, true, false, if◌then◌else◌, length, OnOk, Some, None};
-ghost use Rattle.ps_meaning.specs.Objects.{is_vector as is_vector_of, place_of};
-ghost use Rattle.ps_meaning.specs.Operators.{is_int};
-ghost use Rattle.swizzle.specs.Heap.{IsHeld};
-ghost use Rattle.swizzle.specs.Joint.{shown_at};
-ghost use Rattle.text_forms.specs.Forms.{is_number_form};
+ghost use Rattle.heap_places.specs.ps_meaning.Objects.{is_vector as is_vector_of, place_of};
+ghost use Rattle.heap_places.specs.ps_meaning.Operators.{is_int};
+ghost use Rattle.heap_places.specs.swizzle.Heap.{IsHeld};
+ghost use Rattle.heap_places.specs.swizzle.Joint.{shown_at};
+ghost use Rattle.heap_places.specs.text_forms.Forms.{is_number_form};
 ghost use Rattle.heap_places.specs.Shapes.{word_in};
 ghost use Rattle.heap_ops.specs.Vectors.{count_of, index_of, fitted, FindsShape, ReadsShape};
 
+use heap_places::obj_layout::kind::Kind;
+use heap_places::obj_layout::vault::Vault;
 use heap_places::places::{Misfit, damaged};
+use heap_places::swizzle::fault::SwizzleFault;
+use heap_places::swizzle::swizzle::Swizzle;
+use heap_places::text_forms::forms::{Form, element_form};
 use heap_places::texts::first_text;
 use heap_places::value::Value;
 use heap_places::words::int_of_word;
-use obj_layout::kind::Kind;
-use obj_layout::vault::Vault;
-use swizzle::fault::SwizzleFault;
-use swizzle::swizzle::Swizzle;
-use text_forms::forms::{Form, element_form};
 
 const MOST_ELEMENTS: u64 = 1 << 20;
 

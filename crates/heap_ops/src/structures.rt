@@ -1,7 +1,7 @@
 ghost use Rattle.std.specs.Prelude.{◌≡◌, ◌≢◌, Some, None, true, false, OnOk, IfSome, MatchResult};
-ghost use Rattle.swizzle.specs.Heap.{IsHeld, Stands, header_at};
-ghost use Rattle.swizzle.specs.Text.{text_at};
-ghost use Rattle.swizzle.specs.Joint.{shown_at};
+ghost use Rattle.heap_places.specs.swizzle.Heap.{IsHeld, Stands, header_at};
+ghost use Rattle.heap_places.specs.swizzle.Text.{text_at};
+ghost use Rattle.heap_places.specs.swizzle.Joint.{shown_at};
 ghost use Rattle.heap_places.specs.Places.{IsNear, NamesDamage, fit_damage};
 ghost use Rattle.heap_places.specs.Filling.{AreNear, Fills};
 ghost use Rattle.heap_ops.specs.Structures.{TellsClass, IsNamed, GetsField, SetsField, structure_damage};
@@ -9,16 +9,16 @@ ghost use Rattle.heap_ops.specs.Outcomes.{UnlessFault};
 ghost use Rattle.heap_ops.specs.inside.Opening.{OpensFields};
 
 use heap_places::filling::make_filled;
+use heap_places::heap_texts::fault::OpFault;
+use heap_places::obj_layout::kind::Kind;
+use heap_places::obj_layout::vault::Vault;
 use heap_places::places::{damaged, read_place, write_place};
+use heap_places::swizzle::fault::SwizzleFault;
+use heap_places::swizzle::swizzle::Swizzle;
+use heap_places::text_forms::forms::{Located, Place, Rows};
 use heap_places::texts::first_text;
 use heap_places::value::Value;
-use heap_texts::fault::OpFault;
-use obj_layout::kind::Kind;
-use obj_layout::vault::Vault;
 use ps_base::trap::Trap;
-use swizzle::fault::SwizzleFault;
-use swizzle::swizzle::Swizzle;
-use text_forms::forms::{Located, Place, Rows};
 
 /// Makes a structure of a class, which is a text, with the values of its fields in their order. AreaFull exactly where there is no room for its
 /// words; then the area stays.

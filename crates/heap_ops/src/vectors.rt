@@ -1,6 +1,6 @@
 ghost use Rattle.std.specs.Prelude.{◌≡◌, ◌-ℤ◌, length, replicate, None, OnOk};
-ghost use Rattle.ps_meaning.specs.Objects.{is_vector as is_vector_of, count_from};
-ghost use Rattle.swizzle.specs.Heap.{IsHeld, Stands};
+ghost use Rattle.heap_places.specs.ps_meaning.Objects.{is_vector as is_vector_of, count_from};
+ghost use Rattle.heap_places.specs.swizzle.Heap.{IsHeld, Stands};
 ghost use Rattle.heap_places.specs.Places.{IsNear, NamesDamage, fit_damage};
 ghost use Rattle.heap_places.specs.Filling.{AreNear};
 ghost use Rattle.heap_ops.specs.Outcomes.{UnlessFault};
@@ -8,15 +8,15 @@ ghost use Rattle.heap_ops.specs.Vectors.{fitted, MakesVector, TellsLow, TellsHig
 
 use crate::shape::{fit, index, is_vector, place, read_shape, upper};
 use heap_places::filling::{make_filled, make_repeated};
+use heap_places::heap_texts::fault::OpFault;
+use heap_places::obj_layout::kind::Kind;
+use heap_places::obj_layout::vault::Vault;
 use heap_places::places::{damaged, find_misfit, read_place, write_place};
+use heap_places::swizzle::fault::SwizzleFault;
+use heap_places::swizzle::swizzle::Swizzle;
+use heap_places::text_forms::forms::{Form, Place};
 use heap_places::value::Value;
-use heap_texts::fault::OpFault;
-use obj_layout::kind::Kind;
-use obj_layout::vault::Vault;
 use ps_base::trap::Trap;
-use swizzle::fault::SwizzleFault;
-use swizzle::swizzle::Swizzle;
-use text_forms::forms::{Form, Place};
 
 /// Makes a vector of a type, which is a text, whose elements from `low` to `high` all are `fill`. Trap Bounds exactly where `high` is below
 /// `low` or there would be more than 1,048,576 elements. AreaFull exactly where there is no room for its words; then the area stays.

@@ -1,11 +1,10 @@
 -- What stays where the area is changed.
 use Rattle.std.proofs.Common.{ℕ, List, ◌∙◌}
 use Rattle.std.specs.Prelude.{Result, Ok, Err}
-use Rattle.swizzle.specs.declared.fault.SwizzleFault.{SwizzleFault}
-use Rattle.swizzle.specs.Heap.{Heap, Stands}
-use Rattle.swizzle.proofs.StandLaws.{stands-new, stands-same}
-use Rattle.heap_texts.specs.Texts.{MakesText, HoldsText}
-use Rattle.memory_vault.specs.declared.silent.SilentVault.{SilentVault}
+use Rattle.heap_ops.specs.swizzle.declared.fault.SwizzleFault.{SwizzleFault}
+use Rattle.heap_ops.specs.swizzle.Heap.{Heap, Stands}
+use Rattle.heap_ops.proofs.of_swizzle.StandLaws.{stands-new, stands-same}
+use Rattle.heap_ops.specs.heap_texts.Texts.{MakesText, HoldsText}
 use Rattle.heap_ops_tests.specs.declared.world.World.{World}
 use Rattle.heap_ops_tests.specs.World.{IsReady}
 
@@ -17,8 +16,8 @@ pub text_stands : (old new : Heap) (at : ℕ) → Stands old new → HoldsText o
 text_stands old new at stands t = let s = stands at t.held in record { held = s.held; kind = s.kind ∙ t.kind }
 
 -- the area of a world has changed
-pub ready_still : (w : World) (sw : Heap) (vault : SilentVault) → IsReady w → Stands w.sw sw → IsReady (record w { sw = sw; vault = vault })
-ready_still w sw vault r stands = record {
+pub ready_still : (w : World) (sw : Heap) → IsReady w → Stands w.sw sw → IsReady (record w { sw = sw })
+ready_still w sw r stands = record {
   own = text_stands w.sw sw w.own stands r.own;
   equal = text_stands w.sw sw w.equal stands r.equal;
   other = text_stands w.sw sw w.other stands r.other;

@@ -1,6 +1,6 @@
 -- What the tests begin with.
-use Rattle.swizzle.specs.Heap.{IsHeld}
-use Rattle.heap_texts.specs.Texts.{HoldsText}
+use Rattle.heap_ops.specs.swizzle.Heap.{IsHeld}
+use Rattle.heap_ops.specs.heap_texts.Texts.{HoldsText}
 use Rattle.heap_ops_tests.specs.declared.world.World.{World}
 
 -- the texts of the classes, a text that is none, and the object lie in the area

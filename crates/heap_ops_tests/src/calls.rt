@@ -1,28 +1,28 @@
 //! The calls on a world.
 ghost use Rattle.std.specs.Prelude.{IfOk, IfSome, OnOk};
-ghost use Rattle.swizzle.specs.Heap.{IsHeld, Stands};
-ghost use Rattle.swizzle.specs.Text.{text_at};
-ghost use Rattle.heap_texts.specs.Texts.{HoldsText};
-ghost use Rattle.heap_places.specs.Places.{IsNear};
+ghost use Rattle.heap_ops.specs.swizzle.Heap.{IsHeld, Stands};
+ghost use Rattle.heap_ops.specs.swizzle.Text.{text_at};
+ghost use Rattle.heap_ops.specs.heap_texts.Texts.{HoldsText};
+ghost use Rattle.heap_ops.specs.heap_places.Places.{IsNear};
 ghost use Rattle.heap_ops.specs.Structures.{IsNamed};
 ghost use Rattle.heap_ops.specs.Layouts.{AreSo};
 ghost use Rattle.heap_ops_tests.specs.World.{IsReady};
 
 use crate::world::World;
+use heap_ops::heap_places::places::find_misfit;
+use heap_ops::heap_places::value::Value;
+use heap_ops::heap_texts::fault::OpFault;
+use heap_ops::heap_texts::make::make_text;
 use heap_ops::layouts::Layouts;
 use heap_ops::structures::{get_field, is_class, make_structure, set_field};
-use heap_places::places::find_misfit;
-use heap_places::value::Value;
-use heap_texts::fault::OpFault;
-use heap_texts::make::make_text;
+use heap_ops::swizzle::fault::SwizzleFault;
+use heap_ops::swizzle::swizzle::Swizzle;
+use heap_ops::text_forms::forms::{Located, Place, locate};
+use memory_vault::obj_layout::kind::Kind;
+use memory_vault::obj_layout::reference::Reference;
 use memory_vault::silent::SilentVault;
-use obj_layout::kind::Kind;
-use obj_layout::reference::Reference;
 use std::alloc::Global;
 use std::test::Fail;
-use swizzle::fault::SwizzleFault;
-use swizzle::swizzle::Swizzle;
-use text_forms::forms::{Located, Place, locate};
 
 /// One of the classes.
 #[derive(Clone, Copy)]
@@ -101,7 +101,6 @@ impl World {
         match made(&mut sw) {
             Ok(at) => Ok(World {
                 sw,
-                vault: SilentVault { asked: 0 },
                 own: at.0,
                 equal: at.1,
                 other: at.2,
@@ -213,7 +212,13 @@ pub fn get(world: &mut World, of: Of, class: Class, field: u32) -> Result<Seen, 
     let Some(located) = place(&world.sw, class, field) else {
         return Ok(Seen::NoField);
     };
-    match get_field(&mut world.sw, &mut world.vault, object, class, located) {
+    match get_field(
+        &mut world.sw,
+        &mut SilentVault { asked: 0 },
+        object,
+        class,
+        located,
+    ) {
         Ok(value) => Ok(world.seen(value)),
         Err(OpFault::Trap(trap)) => Ok(Seen::Trap(trap as u32)),
         Err(OpFault::Swizzle(fault)) => Err(fault),
@@ -242,7 +247,7 @@ pub fn set(
     }
     match set_field(
         &mut world.sw,
-        &mut world.vault,
+        &mut SilentVault { asked: 0 },
         object,
         class,
         located,
@@ -261,7 +266,7 @@ pub fn is_of(world: &mut World, of: Of, class: Class) -> Result<bool, SwizzleFau
 {
     let class = world.class(class);
     let object = world.denoted(of);
-    is_class(&mut world.sw, &mut world.vault, object, class)
+    is_class(&mut world.sw, &mut SilentVault { asked: 0 }, object, class)
 }
 
 /// Makes the object one of so many references and words, by hand. False where there is no room.

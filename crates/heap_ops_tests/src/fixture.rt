@@ -1,20 +1,20 @@
 //! Areas with the text of a type, the vectors that are made there, and what is read of them.
 ghost use Rattle.std.specs.Prelude.{◌≤◌, ◌^◌, IfOk, OnOk};
-ghost use Rattle.swizzle.specs.Heap.{IsHeld};
-ghost use Rattle.heap_texts.specs.Texts.{HoldsText, StillTexts};
-ghost use Rattle.heap_places.specs.Places.{IsNear};
-ghost use Rattle.heap_places.specs.Filling.{AreNear};
+ghost use Rattle.heap_ops.specs.swizzle.Heap.{IsHeld};
+ghost use Rattle.heap_ops.specs.heap_texts.Texts.{HoldsText, StillTexts};
+ghost use Rattle.heap_ops.specs.heap_places.Places.{IsNear};
+ghost use Rattle.heap_ops.specs.heap_places.Filling.{AreNear};
 
+use heap_ops::heap_places::value::Value;
+use heap_ops::heap_texts::fault::OpFault;
+use heap_ops::heap_texts::make::make_text;
+use heap_ops::swizzle::fault::SwizzleFault;
+use heap_ops::swizzle::swizzle::Swizzle;
 use heap_ops::vectors::{get_element, high, low, make_list, make_vector};
-use heap_places::value::Value;
-use heap_texts::fault::OpFault;
-use heap_texts::make::make_text;
 use memory_vault::silent::SilentVault;
 use std::alloc::Global;
 use std::process::Abort;
 use std::test::Fail;
-use swizzle::fault::SwizzleFault;
-use swizzle::swizzle::Swizzle;
 
 /// Room for the type's text and a vector.
 pub const WORDS: u32 = 60;
@@ -26,7 +26,7 @@ pub const SEVEN: Value = Value::Num(7);
 
 pub const NIL: Value = Value::Ref(None);
 
-/// What a vector of an area with six words that are taken comes to.
+/// What a vector of an area with six words that are taken returns.
 #[derive(Clone, Copy)]
 pub enum Top {
     /// It is made, and the area ends here.
@@ -93,7 +93,7 @@ pub fn sevens(alloc: Global, sw: &Swizzle, count: u32) -> Result<Vec<Value>, Fai
     Ok(list)
 }
 
-// Puts a seven behind the others.
+// Puts a seven after the others.
 #[tactic(auto, using(crate::proofs::NearLaws::near_more))]
 fn add_seven(list: &mut Vec<Value>, sw: &Swizzle) -> Result<(), Fail>
     requires { AreNear sw.now list.old.items }
@@ -157,7 +157,7 @@ fn ends_so(made: Result<u32, OpFault>, end: u32, top: Top) -> bool {
     }
 }
 
-/// A vector of ints that all are one value: the words of the area, its bounds, the value, and what it comes to.
+/// A vector of ints that all are one value: the words of the area, its bounds, the value, and what it returns.
 pub struct Filled(pub u32, pub i32, pub i32, pub Value, pub Top);
 
 fn is_filled(alloc: Global, row: &Filled) -> Result<bool, Fail> {
@@ -175,7 +175,7 @@ pub fn assert_filled(rt: &impl Abort, alloc: Global, rows: &[Filled]) -> Result<
     Ok(())
 }
 
-/// A list of sevens: the words of the area, its lower bound, how many they are, and what it comes to.
+/// A list of sevens: the words of the area, its lower bound, how many they are, and what it returns.
 pub struct List(pub u32, pub i32, pub u32, pub Top);
 
 fn is_list(alloc: Global, row: &List) -> Result<bool, Fail> {

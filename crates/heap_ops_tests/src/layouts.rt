@@ -1,13 +1,13 @@
 //! Places of fields, looked up again and again.
 ghost use Rattle.std.specs.Prelude.{◌≡◌, true};
-ghost use Rattle.heap_texts.specs.Texts.{HoldsText};
+ghost use Rattle.heap_ops.specs.heap_texts.Texts.{HoldsText};
 ghost use Rattle.heap_ops.specs.Layouts.{AreSo};
 
 use crate::calls::{found, text};
 use heap_ops::layouts::Layouts;
+use heap_ops::swizzle::swizzle::Swizzle;
+use heap_ops::text_forms::forms::{Form, Place};
 use std::test::Fail;
-use swizzle::swizzle::Swizzle;
-use text_forms::forms::{Form, Place};
 
 fn place(form: Form, index: u32) -> Option<Place> {
     Some(Place { form, index })

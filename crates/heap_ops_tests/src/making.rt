@@ -1,13 +1,13 @@
 //! Bounds of vectors of one value and of lists at their edges.
-ghost use Rattle.swizzle.specs.Heap.{IsHeld};
+ghost use Rattle.heap_ops.specs.swizzle.Heap.{IsHeld};
 
 use crate::fixture::{
     Filled, List, SEVEN, Top, WORDS, area_with, assert_filled, assert_lists, lower, repeated, upper,
 };
-use heap_places::value::Value;
+use heap_ops::heap_places::value::Value;
+use heap_ops::swizzle::swizzle::Swizzle;
 use std::alloc::Global;
 use std::test::Fail;
-use swizzle::swizzle::Swizzle;
 
 const ZERO: Value = Value::Num(0);
 

@@ -4,15 +4,15 @@ ghost use Rattle.heap_ops_tests.specs.World.{IsReady};
 
 use crate::calls::{Class, Of, Seen, To, bend, get, is_of, put_word, refer, set, structure, text};
 use crate::world::World;
-use heap_places::value::Value;
-use obj_layout::kind::Kind;
-use obj_layout::reference::Reference;
-use obj_layout::vault::VaultFault;
+use heap_ops::heap_places::value::Value;
+use heap_ops::swizzle::fault::SwizzleFault;
+use heap_ops::swizzle::swizzle::Swizzle;
+use memory_vault::obj_layout::kind::Kind;
+use memory_vault::obj_layout::reference::Reference;
+use memory_vault::obj_layout::vault::VaultFault;
 use std::alloc::Global;
 use std::process::Abort;
 use std::test::Fail;
-use swizzle::fault::SwizzleFault;
-use swizzle::swizzle::Swizzle;
 
 // A call on a world.
 #[derive(Clone, Copy)]
@@ -96,7 +96,7 @@ fn assert_held(rt: &impl Abort, alloc: Global, rows: &[Row]) -> Result<(), Fail>
     Ok(())
 }
 
-// That the references of the object are its name and nil, behind its class.
+// That the references of the object are its name and nil, after its class.
 fn lies_in_references(world: &World) -> bool
     requires { IsReady world.now }
 {
@@ -106,7 +106,7 @@ fn lies_in_references(world: &World) -> bool
         && world.slot(2) == Some(Reference::Nil)
 }
 
-// That its words are its age and its flag, behind its home.
+// That its words are its age and its flag, after its home.
 fn lies_in_words(world: &World) -> bool
     requires { IsReady world.now }
 {

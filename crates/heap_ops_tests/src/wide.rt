@@ -1,14 +1,14 @@
 //! Vectors of the most elements, and what a full area answers.
-ghost use Rattle.swizzle.specs.Heap.{IsHeld};
+ghost use Rattle.heap_ops.specs.swizzle.Heap.{IsHeld};
 
 use crate::fixture::{
     Filled, List, NIL, SEVEN, Top, WIDE, area_with, assert_filled, assert_lists, got, near,
     repeated,
 };
-use heap_places::value::Value;
+use heap_ops::heap_places::value::Value;
+use heap_ops::swizzle::swizzle::Swizzle;
 use std::alloc::Global;
 use std::test::Fail;
-use swizzle::swizzle::Swizzle;
 
 // The text of the type of a vector, its bounds, and the value of its elements.
 struct Longest<'a>(&'a [u8], i32, i32, Value);

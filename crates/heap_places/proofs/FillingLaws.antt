@@ -4,20 +4,20 @@ use Rattle.std.specs.Prelude.{Result, Ok, Err, IfOk}
 use Rattle.std.proofs.lemmas.Int.{to_z-of_z}
 use mir.Val.{SFits}
 use Rattle.std.proofs.lemmas.List.{set-append_right, drop_more, drop_all}
-use Rattle.obj_layout.specs.declared.kind.Kind.{Kind}
-use Rattle.obj_layout.specs.declared.reference.Reference.{Reference}
-use Rattle.obj_layout.specs.declared.reference.Reference.TheVariants.{Nil, Local}
-use Rattle.text_forms.specs.declared.forms.Rows.{Rows}
-use Rattle.swizzle.specs.declared.fault.SwizzleFault.{SwizzleFault}
-use Rattle.swizzle.specs.declared.fault.SwizzleFault.TheVariants.{AreaFull}
-use Rattle.swizzle.specs.Objects.{Object, IsFit, size_of, size_of_all, replace_from}
-use Rattle.swizzle.specs.Heap.{Heap, IsHeap, IsHeld, IsMade, IsFull, Stands, object_at, header_at, top_of, with_object, with_new, with_num, with_ref, reference_to, blank}
-use Rattle.swizzle.specs.Joint.{shown_at}
-use Rattle.swizzle.proofs.ObjectLaws.{here, elsewhere, split}
-use Rattle.swizzle.proofs.KeptLaws.{held_is}
-use Rattle.swizzle.proofs.NameLaws.{shown-counts}
-use Rattle.swizzle.proofs.StandLaws.{stands-new}
-use Rattle.swizzle.proofs.JointLaws.{held-top, object-top}
+use Rattle.heap_texts.specs.obj_layout.declared.kind.Kind.{Kind}
+use Rattle.heap_texts.specs.obj_layout.declared.reference.Reference.{Reference}
+use Rattle.heap_texts.specs.obj_layout.declared.reference.Reference.TheVariants.{Nil, Local}
+use Rattle.heap_texts.specs.text_forms.declared.forms.Rows.{Rows}
+use Rattle.heap_texts.specs.swizzle.declared.fault.SwizzleFault.{SwizzleFault}
+use Rattle.heap_texts.specs.swizzle.declared.fault.SwizzleFault.TheVariants.{AreaFull}
+use Rattle.heap_texts.specs.swizzle.Objects.{Object, IsFit, size_of, size_of_all, replace_from}
+use Rattle.heap_texts.specs.swizzle.Heap.{Heap, IsHeap, IsHeld, IsMade, IsFull, Stands, object_at, header_at, top_of, with_object, with_new, with_num, with_ref, reference_to, blank}
+use Rattle.heap_texts.specs.swizzle.Joint.{shown_at}
+use Rattle.heap_texts.proofs.of_swizzle.ObjectLaws.{here, elsewhere, split}
+use Rattle.heap_texts.proofs.of_swizzle.KeptLaws.{held_is}
+use Rattle.heap_texts.proofs.of_swizzle.NameLaws.{shown-counts}
+use Rattle.heap_texts.proofs.of_swizzle.StandLaws.{stands-new}
+use Rattle.heap_texts.proofs.of_swizzle.JointLaws.{held-top, object-top}
 use Rattle.heap_texts.specs.Texts.{wanted_of}
 use Rattle.heap_places.specs.declared.value.Value.{Value}
 use Rattle.heap_places.specs.declared.value.Value.TheVariants.{Num, Flag, Ref}

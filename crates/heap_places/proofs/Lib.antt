@@ -2,3 +2,6 @@ pub mod WordLaws
 pub mod PlaceLaws
 pub mod TouchedLaws
 pub mod FillingLaws
+pub use Rattle.heap_texts.proofs.of_text_forms as of_text_forms
+pub use Rattle.heap_texts.proofs.of_swizzle as of_swizzle
+pub use Rattle.heap_texts.proofs as of_heap_texts

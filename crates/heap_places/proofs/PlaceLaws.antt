@@ -1,21 +1,21 @@
 -- Places of objects of the area, and touches for them.
 use Rattle.std.proofs.Common.{Bool, ℤ, ◌^◌, ◌≡◌, ℕ, ◌<◌, [], ◌∷◌, length, Option, None, sym, ap, ◌∙◌, arith, subst}
 use Rattle.std.specs.Prelude.{Ok}
-use Rattle.ps_outside.specs.Outside.{Outside}
-use Rattle.obj_layout.specs.Stored.{Space, Damage, damage}
-use Rattle.obj_layout.specs.declared.vault.VaultFault.TheVariants.{Damaged, Device, Output, Full}
-use Rattle.obj_layout.specs.declared.reference.Reference.{Reference}
-use Rattle.text_forms.specs.declared.forms.Form.{Form}
-use Rattle.text_forms.specs.declared.forms.Form.TheVariants as form
-use Rattle.swizzle.specs.declared.fault.SwizzleFault.{SwizzleFault}
-use Rattle.swizzle.specs.declared.fault.SwizzleFault.TheVariants.{Vault}
-use Rattle.swizzle.specs.Heap.{Heap, IsHeap, IsHeld, Stands, top_of, object_at, header_at, ref_at}
-use Rattle.swizzle.specs.Joint.{shown_at, name_of}
-use Rattle.swizzle.specs.Changes.{Touched}
-use Rattle.swizzle.specs.Touch.{Denotes, Keeps, IsNear, IsTouchCall}
-use Rattle.swizzle.specs.Reading.{joint, Reads, LeavesOutside, FailsReading}
-use Rattle.swizzle.proofs.NameLaws.{shown-counts, names_at}
-use Rattle.swizzle.proofs.ReadingLaws.{reads-touch}
+use Rattle.heap_texts.specs.ps_outside.Outside.{Outside}
+use Rattle.heap_texts.specs.obj_layout.Stored.{Space, Damage, damage}
+use Rattle.heap_texts.specs.obj_layout.declared.vault.VaultFault.TheVariants.{Damaged, Device, Output, Full}
+use Rattle.heap_texts.specs.obj_layout.declared.reference.Reference.{Reference}
+use Rattle.heap_texts.specs.text_forms.declared.forms.Form.{Form}
+use Rattle.heap_texts.specs.text_forms.declared.forms.Form.TheVariants as form
+use Rattle.heap_texts.specs.swizzle.declared.fault.SwizzleFault.{SwizzleFault}
+use Rattle.heap_texts.specs.swizzle.declared.fault.SwizzleFault.TheVariants.{Vault}
+use Rattle.heap_texts.specs.swizzle.Heap.{Heap, IsHeap, IsHeld, Stands, top_of, object_at, header_at, ref_at}
+use Rattle.heap_texts.specs.swizzle.Joint.{shown_at, name_of}
+use Rattle.heap_texts.specs.swizzle.Changes.{Touched}
+use Rattle.heap_texts.specs.swizzle.Touch.{Denotes, Keeps, IsNear, IsTouchCall}
+use Rattle.heap_texts.specs.swizzle.Reading.{joint, Reads, LeavesOutside, FailsReading}
+use Rattle.heap_texts.proofs.of_swizzle.NameLaws.{shown-counts, names_at}
+use Rattle.heap_texts.proofs.of_swizzle.ReadingLaws.{reads-touch}
 use Rattle.heap_places.specs.declared.value.Value.TheVariants.{Ref}
 use Rattle.heap_places.specs.Words.{int_in, flag_in, word_damage, unless}
 use Rattle.heap_places.specs.Shapes.{slot_of, word_in}

@@ -2,27 +2,27 @@
 use Rattle.std.proofs.Common.{sym, take, drop, ◌*◌, inl, inr, ◌≡◌, ◌≢◌, ℕ, true, false, nat_eq, Option, Some, None, refl, ap, ◌∙◌, arith, subst}
 use Rattle.std.specs.Prelude.{Ok, Err}
 use Rattle.std.proofs.lemmas.List.{get_or_past}
-use Rattle.ps_outside.specs.Outside.{Outside}
-use Rattle.obj_area.specs.Words.{bytes_of}
-use Rattle.obj_layout.specs.Stored.{Space}
-use Rattle.obj_layout.specs.Kind.{kind_number}
-use Rattle.obj_layout.specs.declared.kind.Kind.{Kind}
-use Rattle.obj_layout.specs.declared.kind.Kind.TheVariants.{Text}
-use Rattle.obj_layout.specs.declared.reference.Reference.{Reference}
-use Rattle.obj_layout.specs.declared.reference.Reference.TheVariants.{Nil, Pid, Local}
-use Rattle.obj_layout.specs.declared.vault.VaultFault.TheVariants.{Damaged}
-use Rattle.obj_layout.proofs.HeaderLaws.{kind_number-injective}
-use Rattle.swizzle.specs.declared.fault.SwizzleFault.{SwizzleFault}
-use Rattle.swizzle.specs.declared.fault.SwizzleFault.TheVariants.{Vault}
-use Rattle.swizzle.specs.Objects.{words_before}
-use Rattle.swizzle.specs.Heap.{Heap, IsHeap, IsHeld, top_of, header_at, ref_at}
-use Rattle.swizzle.specs.Joint.{shown_at, name_of}
-use Rattle.swizzle.specs.Changes.{Touched}
-use Rattle.swizzle.specs.Text.{text_at}
-use Rattle.swizzle.specs.Touch.{Denotes, Keeps, IsNear, IsTouchCall}
-use Rattle.swizzle.specs.Reading.{joint}
-use Rattle.swizzle.proofs.NameLaws.{shown-counts, name-not_nil}
-use Rattle.swizzle.proofs.ReadingLaws.{leaves-none, leaves-touch}
+use Rattle.heap_texts.specs.ps_outside.Outside.{Outside}
+use Rattle.heap_texts.specs.obj_area.Words.{bytes_of}
+use Rattle.heap_texts.specs.obj_layout.Stored.{Space}
+use Rattle.heap_texts.specs.obj_layout.Kind.{kind_number}
+use Rattle.heap_texts.specs.obj_layout.declared.kind.Kind.{Kind}
+use Rattle.heap_texts.specs.obj_layout.declared.kind.Kind.TheVariants.{Text}
+use Rattle.heap_texts.specs.obj_layout.declared.reference.Reference.{Reference}
+use Rattle.heap_texts.specs.obj_layout.declared.reference.Reference.TheVariants.{Nil, Pid, Local}
+use Rattle.heap_texts.specs.obj_layout.declared.vault.VaultFault.TheVariants.{Damaged}
+use Rattle.heap_texts.proofs.of_obj_layout.HeaderLaws.{kind_number-injective}
+use Rattle.heap_texts.specs.swizzle.declared.fault.SwizzleFault.{SwizzleFault}
+use Rattle.heap_texts.specs.swizzle.declared.fault.SwizzleFault.TheVariants.{Vault}
+use Rattle.heap_texts.specs.swizzle.Objects.{words_before}
+use Rattle.heap_texts.specs.swizzle.Heap.{Heap, IsHeap, IsHeld, top_of, header_at, ref_at}
+use Rattle.heap_texts.specs.swizzle.Joint.{shown_at, name_of}
+use Rattle.heap_texts.specs.swizzle.Changes.{Touched}
+use Rattle.heap_texts.specs.swizzle.Text.{text_at}
+use Rattle.heap_texts.specs.swizzle.Touch.{Denotes, Keeps, IsNear, IsTouchCall}
+use Rattle.heap_texts.specs.swizzle.Reading.{joint}
+use Rattle.heap_texts.proofs.of_swizzle.NameLaws.{shown-counts, name-not_nil}
+use Rattle.heap_texts.proofs.of_swizzle.ReadingLaws.{leaves-none, leaves-touch}
 use Rattle.heap_places.specs.Shapes.{slot_of, IsText}
 use Rattle.heap_places.specs.Places.{FirstText, TouchesText}
 use Rattle.heap_places.proofs.PlaceLaws.{slot-name, reads-slot, denotes-slot, fails-damage}
@@ -59,16 +59,16 @@ text-there old new a b at text to is denotes keeps touched near call kind =
 
 -- it refers to what is no text
 pub text-other : (old new : Heap) (a b : Outside Space) (at other number : ℕ) (to : Option ℕ) (fault : SwizzleFault) → to ≡ Some other
-    → Denotes new to (name_of old (ref_at old at 0)) → Keeps old new → IsTouchCall old new a b (Ok to)
-    → nat_eq (kind_number (header_at new other).kind) 1 ≡ false → number ≡ kind_number (header_at new other).kind
+    → Denotes new to (name_of old (ref_at old at 0)) → Keeps old new → Touched (joint old a) (joint new b) (name_of old (ref_at old at 0))
+    → IsTouchCall old new a b (Ok to) → nat_eq (kind_number (header_at new other).kind) 1 ≡ false → number ≡ kind_number (header_at new other).kind
     → fault ≡ Vault (Damaged (header_at new other).pid number 1)
     → TouchesText old new a b at (Err fault)
-text-other old new a b at other number to fault some denotes keeps call kind is named =
+text-other old new a b at other number to fault some denotes keeps touched call kind is named =
     let seen : Denotes new (Some other) (name_of old (ref_at old at 0)) = subst (λ (t : Option ℕ). Denotes new t (name_of old (ref_at old at 0))) some
     denotes in
     let all = named ∙ ap (λ (n : ℕ). Vault (Damaged (header_at new other).pid n 1)) is in (
       fails-damage a b (header_at new other).pid number 1 fault (leaves-touch old new a b (Ok to) call) named,
-      inl (inr (other, denotes-slot old new at 0 (Some other) seen, kinds-differ (header_at new other).kind Text kind, keeps, all)),
+      inl (inr (other, denotes-slot old new at 0 (Some other) seen, kinds-differ (header_at new other).kind Text kind, keeps, touched.grows, all)),
     )
 
 ref-nil : (heap : Heap) (r : Reference) → name_of heap r ≡ Nil → r ≡ Nil

@@ -1,12 +1,12 @@
--- Values one behind another in the rows of a new object.
+-- Values one after another in the rows of a new object.
 use Rattle.std.specs.Prelude.{ℕ, ℤ, ◌+◌, List, [], ◌∷◌, ◌++◌, length, Option, Some, None, Result, Ok, Err}
-use Rattle.obj_layout.specs.declared.kind.Kind.{Kind}
-use Rattle.obj_layout.specs.declared.reference.Reference.{Reference}
-use Rattle.obj_layout.specs.declared.reference.Reference.TheVariants.{Local}
-use Rattle.swizzle.specs.declared.fault.SwizzleFault.{SwizzleFault}
-use Rattle.swizzle.specs.Objects.{Object}
+use Rattle.heap_texts.specs.obj_layout.declared.kind.Kind.{Kind}
+use Rattle.heap_texts.specs.obj_layout.declared.reference.Reference.{Reference}
+use Rattle.heap_texts.specs.obj_layout.declared.reference.Reference.TheVariants.{Local}
+use Rattle.heap_texts.specs.swizzle.declared.fault.SwizzleFault.{SwizzleFault}
+use Rattle.heap_texts.specs.swizzle.Objects.{Object}
 use Rattle.heap_texts.specs.Texts.{wanted_of}
-use Rattle.swizzle.specs.Heap.{Heap, IsMade, IsFull, reference_to, blank}
+use Rattle.heap_texts.specs.swizzle.Heap.{Heap, IsMade, IsFull, reference_to, blank}
 use Rattle.heap_places.specs.declared.value.Value.{Value}
 use Rattle.heap_places.specs.declared.value.Value.TheVariants.{Num, Flag, Ref}
 use Rattle.heap_places.specs.Words.{int_word, flag_word}
@@ -36,7 +36,7 @@ abbrev pub first_words : Option ℤ → List ℕ
 first_words None = 0 ∷ []
 first_words (Some low) = 0 ∷ int_word low ∷ []
 
--- a new object that refers to a text, and has these values behind
+-- a new object that refers to a text, and has these values after
 unfoldable pub filled : Kind → ℕ → Option ℤ → List Value → Object
 filled kind text low values = record (blank kind (1 + length (refs_of values)) (length (first_words low) + length (words_of values)) 0) {
   refs = Local text ∷ refs_of values;

@@ -1,21 +1,23 @@
 -- Values in places: what is read of a place, what is written to it, and why a reading fails.
 use Rattle.std.specs.Prelude.{◌≡◌, ◌≢◌, ◌⊎◌, ℕ, ◌+◌, ◌<◌, ◌≤◌, List, [], ◌∷◌, length, Option, Some, None, Result, Ok, Err}
-use Rattle.ps_outside.specs.Outside.{Outside}
-use Rattle.obj_layout.specs.Kind.{kind_number}
-use Rattle.obj_layout.specs.Stored.{Space, Damage, damage}
-use Rattle.obj_layout.specs.Stored.{Holds as Stored}
-use Rattle.obj_layout.specs.declared.kind.Kind.TheVariants.{Text}
-use Rattle.obj_layout.specs.declared.reference.Reference.{Reference}
-use Rattle.obj_layout.specs.declared.reference.Reference.TheVariants.{Nil, Pid}
-use Rattle.obj_layout.specs.declared.vault.VaultFault.TheVariants.{Damaged}
-use Rattle.text_forms.specs.declared.forms.Form.{Form}
-use Rattle.text_forms.specs.declared.forms.Form.TheVariants as form
-use Rattle.swizzle.specs.declared.fault.SwizzleFault.{SwizzleFault}
-use Rattle.swizzle.specs.declared.fault.SwizzleFault.TheVariants.{AreaFull, Vault}
-use Rattle.swizzle.specs.Heap.{Heap, IsHeld, top_of, local_of, header_at, ref_at, with_num, with_ref, with_mark, reference_to}
-use Rattle.swizzle.specs.Joint.{Shown, shown_at}
-use Rattle.swizzle.specs.Touch.{Denotes, Keeps, IsTouchFault}
-use Rattle.swizzle.specs.Reading.{Reads, FailsReading}
+use Rattle.heap_texts.specs.ps_outside.Outside.{Outside}
+use Rattle.heap_texts.specs.obj_layout.Kind.{kind_number}
+use Rattle.heap_texts.specs.obj_layout.Stored.{Space, Damage, damage}
+use Rattle.heap_texts.specs.obj_layout.Stored.{Holds as Stored}
+use Rattle.heap_texts.specs.obj_layout.declared.kind.Kind.TheVariants.{Text}
+use Rattle.heap_texts.specs.obj_layout.declared.reference.Reference.{Reference}
+use Rattle.heap_texts.specs.obj_layout.declared.reference.Reference.TheVariants.{Nil, Pid}
+use Rattle.heap_texts.specs.obj_layout.declared.vault.VaultFault.TheVariants.{Damaged}
+use Rattle.heap_texts.specs.text_forms.declared.forms.Form.{Form}
+use Rattle.heap_texts.specs.text_forms.declared.forms.Form.TheVariants as form
+use Rattle.heap_texts.specs.swizzle.declared.fault.SwizzleFault.{SwizzleFault}
+use Rattle.heap_texts.specs.swizzle.declared.fault.SwizzleFault.TheVariants.{AreaFull, Vault}
+use Rattle.heap_texts.specs.swizzle.Heap.{Heap, IsHeld, top_of, local_of, header_at, ref_at, with_num, with_ref, with_mark, reference_to}
+use Rattle.heap_texts.specs.swizzle.Joint.{Shown, shown_at}
+use Rattle.heap_texts.specs.swizzle.Touch.{Denotes, Keeps, IsTouchFault}
+use Rattle.heap_texts.specs.swizzle.Changes.{Within}
+use Rattle.heap_texts.specs.swizzle.Damaged.{PassesVault, ReportsDamage}
+use Rattle.heap_texts.specs.swizzle.Reading.{joint, Reads, FailsReading}
 use Rattle.heap_places.specs.declared.places.Misfit.{Misfit}
 use Rattle.heap_places.specs.declared.value.Value.{Value}
 use Rattle.heap_places.specs.declared.value.Value.TheVariants.{Num, Flag, Ref}
@@ -74,14 +76,15 @@ touched_by it _ index = []
 abbrev pub NamesDamage : Heap → ℕ → Option Damage → SwizzleFault → Type 0
 NamesDamage heap at damaged fault = (d : Damage) × (damaged ≡ Some d) × (fault ≡ Vault (Damaged (header_at heap at).pid d.found d.wanted))
 
--- Why the object of a name couldn't be fetched, after others may have come: it is stored, and there was no room for it, or the store refused it
--- or gave no object.
+-- Why the object of a name couldn't be fetched, after others may have come: it is stored, passes the store's tests, and there was no room for
+-- it; or the store refused it or gave no object, and the numbers are those of the first test that failed.
 abbrev pub FailsFetch : Heap → Outside Space → Reference → SwizzleFault → Type 0
 FailsFetch old before name (AreaFull top wanted size) =
     (top_of old ≤ top) × (size ≡ old.size) × (size < top + wanted)
-    × ((pid : ℕ) × (name ≡ Pid pid) × (local_of old pid ≡ None) × ((words : List ℕ) → Stored before pid words → length words ≡ wanted))
+    × ((pid : ℕ) × (name ≡ Pid pid) × (local_of old pid ≡ None) × PassesVault before pid
+    × ((words : List ℕ) → Stored before pid words → length words ≡ wanted))
 FailsFetch old before name (Vault refused) =
-    (pid : ℕ) × (name ≡ Pid pid) × (local_of old pid ≡ None) × ((at found wanted : ℕ) → refused ≡ Damaged at found wanted → at ≡ pid)
+    (pid : ℕ) × (name ≡ Pid pid) × (local_of old pid ≡ None) × ReportsDamage before pid refused
 
 -- A place was read, or its object couldn't be fetched, or its word stands for no value of the form.
 abbrev pub ReadsPlace : Heap → Heap → Outside Space → Outside Space → ℕ → Form → ℕ → Result Value SwizzleFault → Type 0
@@ -100,16 +103,16 @@ pub record FirstText (old new : Heap) (before after : Outside Space) (at text : 
   pub reads : Reads old new before after (slot_of (shown_at old at) 0 ∷ [])
 
 -- what stands in the place of a text
-abbrev pub NoText : Heap → Heap → ℕ → SwizzleFault → Type 0
-NoText old new at fault =
+abbrev pub NoText : Heap → Heap → Outside Space → Outside Space → ℕ → SwizzleFault → Type 0
+NoText old new before after at fault =
     ((slot_of (shown_at old at) 0 ≡ Nil) × (fault ≡ Vault (Damaged (header_at old at).pid 0 1)))
     ⊎ ((other : ℕ) × Denotes new (Some other) (slot_of (shown_at old at) 0) × ((header_at new other).kind ≢ Text)
-    × Keeps old new × (fault ≡ Vault (Damaged (header_at new other).pid (kind_number (header_at new other).kind) 1)))
+    × Keeps old new × Within (joint old before) (joint new after) × (fault ≡ Vault (Damaged (header_at new other).pid (kind_number (header_at new other).kind) 1)))
 
 abbrev pub TouchesText : Heap → Heap → Outside Space → Outside Space → ℕ → Result ℕ SwizzleFault → Type 0
 TouchesText old new before after at (Ok text) = FirstText old new before after at text
 TouchesText old new before after at (Err fault) =
-    FailsReading before after fault × (NoText old new at fault ⊎ IsTouchFault old before (ref_at old at 0) fault)
+    FailsReading before after fault × (NoText old new before after at fault ⊎ IsTouchFault old before (ref_at old at 0) fault)
 
 -- what a test in code found, as damage
 abbrev pub misfit_view : Option Misfit → Option Damage

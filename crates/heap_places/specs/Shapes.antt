@@ -1,13 +1,13 @@
 -- What is seen of an object: its slots and words, its shape, and the text that it refers to first.
 use Rattle.std.specs.Prelude.{◌≡◌, ℕ, List, length, take, drop, get_or, slice_index, nat_eq, if◌then◌else◌, Option, None}
-use Rattle.obj_area.specs.Words.{bytes_of}
-use Rattle.obj_layout.specs.Kind.{kind_number}
-use Rattle.obj_layout.specs.Stored.{Damage, damage}
-use Rattle.obj_layout.specs.declared.kind.Kind.{Kind}
-use Rattle.obj_layout.specs.declared.kind.Kind.TheVariants.{Text}
-use Rattle.obj_layout.specs.declared.reference.Reference.{Reference}
-use Rattle.obj_layout.specs.declared.reference.Reference.TheVariants.{Nil}
-use Rattle.swizzle.specs.Joint.{Shown}
+use Rattle.heap_texts.specs.obj_area.Words.{bytes_of}
+use Rattle.heap_texts.specs.obj_layout.Kind.{kind_number}
+use Rattle.heap_texts.specs.obj_layout.Stored.{Damage, damage}
+use Rattle.heap_texts.specs.obj_layout.declared.kind.Kind.{Kind}
+use Rattle.heap_texts.specs.obj_layout.declared.kind.Kind.TheVariants.{Text}
+use Rattle.heap_texts.specs.obj_layout.declared.reference.Reference.{Reference}
+use Rattle.heap_texts.specs.obj_layout.declared.reference.Reference.TheVariants.{Nil}
+use Rattle.heap_texts.specs.swizzle.Joint.{Shown}
 
 -- the name in a slot
 abbrev pub slot_of : Shown → ℕ → Reference

@@ -1,8 +1,8 @@
 -- The words that ints and bools are stored as.
 use Rattle.std.specs.Prelude.{ℕ, ◌-◌, ◌^◌, ◌==◌, ℤ, pos, negsuc, Bool, true, false, nat_lt, if◌then◌else◌, Option, Some, None}
-use Rattle.obj_layout.specs.Stored.{Damage, damage}
-use Rattle.text_forms.specs.declared.forms.Form.{Form}
-use Rattle.text_forms.specs.declared.forms.Form.TheVariants.{Number, Flag, Reference}
+use Rattle.heap_texts.specs.obj_layout.Stored.{Damage, damage}
+use Rattle.heap_texts.specs.text_forms.declared.forms.Form.{Form}
+use Rattle.heap_texts.specs.text_forms.declared.forms.Form.TheVariants.{Number, Flag, Reference}
 
 -- an int in two's complement of 64 bits
 unfoldable pub int_word : ℤ → ℕ

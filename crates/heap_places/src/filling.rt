@@ -1,6 +1,6 @@
 ghost use Rattle.std.specs.Prelude.{◌≡◌, ◌≢◌, ◌+◌, ◌-◌, ◌<◌, ◌^◌, [], ◌∷◌, length, replicate, MatchResult};
-ghost use Rattle.swizzle.specs.Objects.{size_of};
-ghost use Rattle.swizzle.specs.Heap.{IsFull, IsHeld, IsMade, Stands};
+ghost use Rattle.heap_texts.specs.swizzle.Objects.{size_of};
+ghost use Rattle.heap_texts.specs.swizzle.Heap.{IsFull, IsHeld, IsMade, Stands};
 ghost use Rattle.heap_texts.specs.Texts.{wanted_of};
 ghost use Rattle.heap_places.specs.Filling.{AreNear, Fills, first_words};
 ghost use Rattle.heap_places.specs.Places.{IsNear, with_value};
@@ -9,12 +9,12 @@ ghost use Rattle.heap_places.specs.inside.Laying.{HasRows, behind, index_in, roo
 use crate::places::lay_value;
 use crate::value::Value;
 use crate::words::word_of_int;
-use obj_layout::kind::Kind;
-use swizzle::fault::SwizzleFault;
-use swizzle::swizzle::Swizzle;
-use text_forms::forms::Rows;
+use heap_texts::obj_layout::kind::Kind;
+use heap_texts::swizzle::fault::SwizzleFault;
+use heap_texts::swizzle::swizzle::Swizzle;
+use heap_texts::text_forms::forms::Rows;
 
-/// Makes an object of a kind that refers to a text first, and then has these values: ints and bools among its number words, behind its home and,
+/// Makes an object of a kind that refers to a text first, and then has these values: ints and bools among its number words, after its home and,
 /// where there is one, a lower bound; the others among its references; each in their order. AreaFull exactly where there is no room for its
 /// words; then the area stays. The cost is in line with its words.
 pub fn make_filled(
@@ -92,7 +92,7 @@ fn words_wanted(low: Option<i32>, count: usize) -> u32
     }
 }
 
-// Where the first value of each row stands: behind the text, and behind the home and the lower bound.
+// Where the first value of each row stands: after the text, and after the home and the lower bound.
 fn first_rows(low: Option<i32>) -> Rows
     ensures refs { result.refs ≡ 1 }
     ensures nums { result.nums ≡ length (first_words low) }

@@ -6,3 +6,6 @@ pub mod places;
 pub mod texts;
 pub mod value;
 pub mod words;
+
+pub use heap_texts;
+pub use heap_texts::{obj_layout, swizzle, text_forms};

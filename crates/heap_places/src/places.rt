@@ -1,16 +1,16 @@
 ghost use Rattle.std.specs.Prelude.{◌≡◌, ◌<◌, length, MatchResult, OnOk};
-ghost use Rattle.swizzle.specs.Heap.{IsHeld, Stands, header_at};
-ghost use Rattle.swizzle.specs.Joint.{shown_at};
+ghost use Rattle.heap_texts.specs.swizzle.Heap.{IsHeld, Stands, header_at};
+ghost use Rattle.heap_texts.specs.swizzle.Joint.{shown_at};
 ghost use Rattle.heap_places.specs.Places.{HasPlace, HasRow, Holds, IsNear, NamesDamage, ReadsPlace, assigned_value, fit_damage, misfit_view, with_value};
 ghost use Rattle.heap_places.specs.Shapes.{word_in};
 ghost use Rattle.heap_places.specs.Words.{word_damage};
 
 use crate::value::Value;
 use crate::words::{flag_of_word, int_of_word, word_of_flag, word_of_int};
-use obj_layout::vault::{Vault, VaultFault};
-use swizzle::fault::SwizzleFault;
-use swizzle::swizzle::Swizzle;
-use text_forms::forms::{Form, Place};
+use heap_texts::obj_layout::vault::{Vault, VaultFault};
+use heap_texts::swizzle::fault::SwizzleFault;
+use heap_texts::swizzle::swizzle::Swizzle;
+use heap_texts::text_forms::forms::{Form, Place};
 
 /// What was tested and didn't hold: a number, and its bound.
 #[derive(Clone, Copy, PartialEq, Eq, Debug)]

@@ -1,12 +1,12 @@
 ghost use Rattle.std.specs.Prelude.{◌≡◌, OnOk};
-ghost use Rattle.swizzle.specs.Heap.{IsHeld};
+ghost use Rattle.heap_texts.specs.swizzle.Heap.{IsHeld};
 ghost use Rattle.heap_places.specs.Places.{TouchesText};
 
 use crate::places::damaged;
-use obj_layout::kind::Kind;
-use obj_layout::vault::Vault;
-use swizzle::fault::SwizzleFault;
-use swizzle::swizzle::Swizzle;
+use heap_texts::obj_layout::kind::Kind;
+use heap_texts::obj_layout::vault::Vault;
+use heap_texts::swizzle::fault::SwizzleFault;
+use heap_texts::swizzle::swizzle::Swizzle;
 
 /// The text that an object refers to first: that of a structure's class, of a scope, or of a vector's type. It is fetched where it isn't in the
 /// area. Damaged exactly where the object refers to none, at the object's PID with 0 and 1, or to what is no text, at the PID of that with the

@@ -1,11 +1,11 @@
 -- The object of a text: what it is made of, and that its bytes are those of the text.
 use Rattle.std.proofs.Common.{Result, Ok, Err, IfOk, subst, ◌≡◌, ℕ, zero, suc, ◌+◌, ◌-◌, ◌*◌, ◌<◌, ◌≤◌, ◌^◌, List, [], ◌∷◌, ◌++◌, length, drop, replicate, refl, sym, ap, ◌∙◌, arith}
 use Rattle.std.proofs.lemmas.List.{append-nil, drop_all, drop-replicate, length-replicate, take-replicate}
-use Rattle.obj_area.specs.Area.{words_spanned}
-use Rattle.obj_area.specs.Words.{bytes_of, words_of, overwritten, AreBytes}
-use Rattle.obj_area.proofs.WordLaws.{bytes_of-words_in, overwritten-inside, words_in-zeros, words_of-append, words_of-zeros, words_of-nil}
-use Rattle.obj_layout.specs.declared.kind.Kind.TheVariants.{Text}
-use Rattle.obj_layout.specs.declared.header.Header.{Header}
+use Rattle.swizzle.specs.obj_area.Area.{words_spanned}
+use Rattle.swizzle.specs.obj_area.Words.{bytes_of, words_of, overwritten, AreBytes}
+use Rattle.swizzle.proofs.of_obj_area.WordLaws.{bytes_of-words_in, overwritten-inside, words_in-zeros, words_of-append, words_of-zeros, words_of-nil}
+use Rattle.swizzle.specs.obj_layout.declared.kind.Kind.TheVariants.{Text}
+use Rattle.swizzle.specs.obj_layout.declared.header.Header.{Header}
 use Rattle.swizzle.specs.Objects.{Object, IsFit, size_of}
 use Rattle.swizzle.specs.Heap.{Heap, IsMade}
 use Rattle.swizzle.specs.Reading.{TextsStay}
@@ -57,7 +57,7 @@ text_of-text_object bytes good h =
     let fit = IsFit-blank_text (length bytes) h in
     text-written o 0 bytes fit good (omega arith) ∙ whole (text_of o) bytes (length-text o fit)
 
--- its number words: 0 for its home, and the bytes with zeros behind them to the end of the last word
+-- its number words: 0 for its home, and the bytes with zeros after them to the end of the last word
 
 zeros_are_bytes : (n : ℕ) → AreBytes (replicate n 0)
 zeros_are_bytes zero k = omega arith

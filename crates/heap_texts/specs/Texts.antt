@@ -1,7 +1,7 @@
 -- Texts as objects, and operations that make one.
 use Rattle.std.specs.Prelude.{◌≡◌, ℕ, ◌+◌, ◌-◌, ◌^◌, min, List, length, Result, Ok, Err}
-use Rattle.obj_area.specs.Area.{words_spanned}
-use Rattle.obj_layout.specs.declared.kind.Kind.TheVariants.{Text}
+use Rattle.swizzle.specs.obj_area.Area.{words_spanned}
+use Rattle.swizzle.specs.obj_layout.declared.kind.Kind.TheVariants.{Text}
 use Rattle.swizzle.specs.declared.fault.SwizzleFault.{SwizzleFault}
 use Rattle.swizzle.specs.Objects.{Object}
 use Rattle.swizzle.specs.Heap.{Heap, IsHeld, IsMade, IsFull, header_at, blank}

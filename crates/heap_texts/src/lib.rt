@@ -3,3 +3,7 @@
 
 pub mod fault;
 pub mod make;
+
+pub use ps_meaning::text_forms;
+pub use swizzle;
+pub use swizzle::obj_layout;

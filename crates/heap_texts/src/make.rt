@@ -1,8 +1,8 @@
 ghost use Rattle.std.specs.Prelude.{◌≡◌, ◌+◌};
 ghost use Rattle.heap_texts.specs.Texts.{MakesBlankText, MakesText, text_nums, wanted_of};
 
-use obj_layout::kind::Kind;
 use swizzle::fault::SwizzleFault;
+use swizzle::obj_layout::kind::Kind;
 use swizzle::swizzle::Swizzle;
 
 /// Makes the object of a text. AreaFull exactly where there is no room for its words, five and one for each eight bytes or part of them; then

@@ -1,11 +1,11 @@
 -- Entries that are so.
 use Rattle.std.proofs.Common.{inl, inr, ◌≡◌, ℕ, zero, suc, ◌<◌, ◌⊎◌, List, [], ◌∷◌, length, set, replicate, get_or, take, ◌++◌, Option, Some, None, IfSome, sym, ap, ◌∙◌, arith, subst}
-use Rattle.swizzle.specs.Heap.{Heap, IsHeld, header_at}
-use Rattle.swizzle.specs.Text.{text_at}
-use Rattle.obj_layout.specs.declared.kind.Kind.TheVariants.{Text}
-use Rattle.text_forms.specs.Forms.{forms_of, located_in}
+use Rattle.paired_ops.specs.swizzle.Heap.{Heap, IsHeld, header_at}
+use Rattle.paired_ops.specs.swizzle.Text.{text_at}
+use Rattle.paired_ops.specs.obj_layout.declared.kind.Kind.TheVariants.{Text}
+use Rattle.paired_ops.specs.text_forms.Forms.{forms_of, located_in}
 use Rattle.known_classes.specs.declared.known.KnownField.{KnownField}
-use Rattle.proc_values.specs.Loaded.{CodeStays}
+use Rattle.paired_ops.specs.proc_values.Loaded.{CodeStays}
 use Rattle.known_classes.specs.Known.{IsSo, AreSo, IsKnown}
 use Rattle.known_classes.proofs.TextOf.{text-same, text-kept, code-same}
 
@@ -55,7 +55,7 @@ module _ (here : Heap) where
     | inr is ↦ record { code_is = of; constant_is = same; field_is = number; so = is }
   ]
 
-  -- entries that were put behind none
+  -- entries that were put after none
   pub fresh-so : (items before : List KnownField) (n : ℕ) (known : KnownField) → before ≡ [] → known.text ≡ 0 → items ≡ take 128 before ++ replicate n known
       → AreSo here items
   fresh-so items before n known empty none is =

@@ -1,26 +1,26 @@
 -- Fields that are reached by what is known of them.
 use Rattle.std.proofs.Common.{◌≡◌, ℕ, ◌+◌, ◌<◌, ◌^◌, List, refl, sym, ap, ◌∙◌, subst, Option, Some, Bool, false}
-use Rattle.heap_places.specs.declared.value.Value.TheVariants as held
-use Rattle.text_forms.specs.declared.forms.Form.TheVariants as form
-use Rattle.text_forms.specs.declared.forms.Form.{Form}
-use Rattle.obj_layout.specs.declared.reference.Reference as reference
-use Rattle.swizzle.specs.Heap as area
-use Rattle.swizzle.specs.Heap.{IsHeap, IsHeld, header_at, object_at, ref_at}
-use Rattle.swizzle.specs.Joint.{shown_at}
-use Rattle.swizzle.specs.Text.{text_at}
-use Rattle.text_forms.specs.Forms.{forms_of, located_in, is_number_form}
-use Rattle.heap_places.specs.Places.{HasPlace, HasRow, Holds, assigned_value}
-use Rattle.heap_places.specs.declared.value.Value as given_value
-use Rattle.ps_meaning.specs.Values.{Value, Text}
-use Rattle.ps_meaning.specs.Objects.{Heap}
-use Rattle.heap_meaning.proofs.GivenLaws.{field-read, shown_with, field-written}
-use Rattle.heap_meaning.proofs.GivenLaws as given
+use Rattle.paired_ops.specs.heap_places.declared.value.Value.TheVariants as held
+use Rattle.paired_ops.specs.text_forms.declared.forms.Form.TheVariants as form
+use Rattle.paired_ops.specs.text_forms.declared.forms.Form.{Form}
+use Rattle.paired_ops.specs.obj_layout.declared.reference.Reference as reference
+use Rattle.paired_ops.specs.swizzle.Heap as area
+use Rattle.paired_ops.specs.swizzle.Heap.{IsHeap, IsHeld, header_at, object_at, ref_at}
+use Rattle.paired_ops.specs.swizzle.Joint.{shown_at}
+use Rattle.paired_ops.specs.swizzle.Text.{text_at}
+use Rattle.paired_ops.specs.text_forms.Forms.{forms_of, located_in, is_number_form}
+use Rattle.paired_ops.specs.heap_places.Places.{HasPlace, HasRow, Holds, assigned_value}
+use Rattle.paired_ops.specs.heap_places.declared.value.Value as given_value
+use Rattle.paired_ops.specs.ps_meaning.Values.{Value, Text}
+use Rattle.paired_ops.specs.ps_meaning.Objects.{Heap}
+use Rattle.paired_ops.proofs.of_heap_meaning.GivenLaws.{field-read, shown_with, field-written}
+use Rattle.paired_ops.proofs.of_heap_meaning.GivenLaws as given
 use Rattle.known_classes.proofs.Fields.{IsStructureOf, structure-of, field-got, field-set, there-place, there-index, there-row}
 use Rattle.paired_ops.specs.World.{IsWorld, DenotesIn}
 use Rattle.paired_ops.specs.Operands.{IsForIn, IsOfForm}
 use Rattle.paired_ops.proofs.ValueLaws.{denotes-text}
-use Rattle.ps_base.specs.CodeUnit.{ConstantsView}
-use Rattle.proc_values.specs.Loaded.{constant_numbered}
+use Rattle.paired_ops.specs.ps_base.CodeUnit.{ConstantsView}
+use Rattle.paired_ops.specs.proc_values.Loaded.{constant_numbered}
 use Rattle.known_classes.specs.declared.known.KnownField.{KnownField}
 use Rattle.known_classes.specs.Known.{HasConstants, IsKnown}
 use Rattle.known_classes.proofs.TextOf.{row-text}

@@ -1,31 +1,31 @@
 -- Fields of a structure that refers to the text of its class: what is read and what is written are those of the meaning's.
 use Rattle.std.proofs.Common.{◌≡◌, ℕ, suc, ◌+◌, ◌<◌, ◌^◌, List, length, get_or, set, refl, sym, ap, ◌∙◌, subst, Option, Some, true, nat_eq, add-one, arith}
 use Rattle.std.specs.Prelude.{Ok}
-use Rattle.obj_layout.specs.Kind.{kind_number}
-use Rattle.obj_layout.specs.declared.kind.Kind.TheVariants as kind
-use Rattle.obj_layout.specs.declared.reference.Reference as reference
-use Rattle.swizzle.specs.Heap as area
-use Rattle.swizzle.specs.Heap.{IsHeap, IsHeld, header_at, object_at, ref_at}
-use Rattle.swizzle.specs.Joint.{Shown, shown_at, name_at, name_of}
-use Rattle.swizzle.specs.Text.{text_at}
-use Rattle.text_forms.specs.declared.forms.Located.{Located}
-use Rattle.text_forms.specs.Forms.{forms_of, located_in}
-use Rattle.heap_places.specs.Shapes.{IsText, slot_of}
-use Rattle.heap_places.specs.Places.{HasPlace, HasRow, Holds, assigned_value}
-use Rattle.heap_places.specs.declared.value.Value as code
-use Rattle.heap_places.proofs.PlaceLaws.{slot-name, refs_below}
-use Rattle.heap_places.proofs.TouchedLaws.{kinds-same}
-use Rattle.heap_ops.specs.Structures.{IsNamed}
-use Rattle.heap_ops.proofs.ClassLaws.{shaped}
-use Rattle.heap_ops.proofs.FieldLaws.{IsReached, place-there, row-there, index-fits}
-use Rattle.ps_meaning.specs.Values.{Value, Text, Pointer, Nothing}
-use Rattle.ps_meaning.specs.Objects as meaning
-use Rattle.ps_meaning.specs.Objects.{Heap, Structure, with_object}
-use Rattle.heap_meaning.specs.Paired.{paired}
-use Rattle.heap_meaning.proofs.PlaceLaws.{text-one}
-use Rattle.heap_meaning.proofs.FieldLaws.{field-is, field-put}
-use Rattle.heap_meaning.proofs.GivenLaws.{field-read, shown_with, field-written}
-use Rattle.heap_meaning.proofs.GivenLaws as given
+use Rattle.paired_ops.specs.obj_layout.Kind.{kind_number}
+use Rattle.paired_ops.specs.obj_layout.declared.kind.Kind.TheVariants as kind
+use Rattle.paired_ops.specs.obj_layout.declared.reference.Reference as reference
+use Rattle.paired_ops.specs.swizzle.Heap as area
+use Rattle.paired_ops.specs.swizzle.Heap.{IsHeap, IsHeld, header_at, object_at, ref_at}
+use Rattle.paired_ops.specs.swizzle.Joint.{Shown, shown_at, name_at, name_of}
+use Rattle.paired_ops.specs.swizzle.Text.{text_at}
+use Rattle.paired_ops.specs.text_forms.declared.forms.Located.{Located}
+use Rattle.paired_ops.specs.text_forms.Forms.{forms_of, located_in}
+use Rattle.paired_ops.specs.heap_places.Shapes.{IsText, slot_of}
+use Rattle.paired_ops.specs.heap_places.Places.{HasPlace, HasRow, Holds, assigned_value}
+use Rattle.paired_ops.specs.heap_places.declared.value.Value as code
+use Rattle.paired_ops.proofs.of_heap_places.PlaceLaws.{slot-name, refs_below}
+use Rattle.paired_ops.proofs.of_heap_places.TouchedLaws.{kinds-same}
+use Rattle.paired_ops.specs.heap_ops.Structures.{IsNamed}
+use Rattle.paired_ops.proofs.of_heap_ops.ClassLaws.{shaped}
+use Rattle.paired_ops.proofs.of_heap_ops.FieldLaws.{IsReached, place-there, row-there, index-fits}
+use Rattle.paired_ops.specs.ps_meaning.Values.{Value, Text, Pointer, Nothing}
+use Rattle.paired_ops.specs.ps_meaning.Objects as meaning
+use Rattle.paired_ops.specs.ps_meaning.Objects.{Heap, Structure, with_object}
+use Rattle.paired_ops.specs.heap_meaning.Paired.{paired}
+use Rattle.paired_ops.proofs.of_heap_meaning.PlaceLaws.{text-one}
+use Rattle.paired_ops.proofs.of_heap_meaning.FieldLaws.{field-is, field-put}
+use Rattle.paired_ops.proofs.of_heap_meaning.GivenLaws.{field-read, shown_with, field-written}
+use Rattle.paired_ops.proofs.of_heap_meaning.GivenLaws as given
 use Rattle.paired_ops.specs.World.{IsWorld, DenotesIn, alone, Answers, Writes}
 use Rattle.paired_ops.specs.Operands.{IsForIn, IsOfForm}
 use Rattle.paired_ops.proofs.WorldLaws.{alone-one}

@@ -1,17 +1,17 @@
 -- Entries of classes that are so.
 use Rattle.std.proofs.Common.{inl, inr, ◌≡◌, ℕ, zero, suc, ◌<◌, ◌⊎◌, List, [], ◌∷◌, length, set, replicate, get_or, take, ◌++◌, sym, ap, ◌∙◌, arith, subst}
 use Rattle.std.proofs.lemmas.List.{get_or_default}
-use Rattle.swizzle.specs.Heap.{Heap, IsHeld, header_at}
-use Rattle.swizzle.specs.Text.{text_at}
-use Rattle.obj_layout.specs.declared.kind.Kind.TheVariants.{Text}
-use Rattle.text_forms.specs.Forms.{forms_of, rows_of}
+use Rattle.paired_ops.specs.swizzle.Heap.{Heap, IsHeld, header_at}
+use Rattle.paired_ops.specs.swizzle.Text.{text_at}
+use Rattle.paired_ops.specs.obj_layout.declared.kind.Kind.TheVariants.{Text}
+use Rattle.paired_ops.specs.text_forms.Forms.{forms_of, rows_of}
 use Rattle.known_classes.specs.declared.makes.FieldRows.{FieldRows}
 use Rattle.known_classes.specs.declared.makes.KnownMake.{KnownMake}
 use Rattle.known_classes.specs.Known.{IsTextOf}
 use Rattle.known_classes.specs.Made.{AreMarked, IsSo, AreSo}
 use Rattle.known_classes.specs.declared.classes.KnownClasses.{KnownClasses}
 use Rattle.known_classes.specs.Classes.{IsRight}
-use Rattle.proc_values.specs.Loaded.{CodeStays}
+use Rattle.paired_ops.specs.proc_values.Loaded.{CodeStays}
 use Rattle.known_classes.proofs.TextOf.{text-same, text-kept, code-same}
 use Rattle.known_classes.proofs.Entries.{all-stay}
 
@@ -76,7 +76,7 @@ module _ (here : Heap) where
       the-make entries index (get_or items index usual) so inside
       (ap (λ (xs : List KnownMake). get_or xs index usual) same ∙ get_or_default entries index usual (get_or items index usual) inside) some
 
-  -- entries that were put behind none
+  -- entries that were put after none
   pub fresh-makes : (items before : List KnownMake) (n : ℕ) (known : KnownMake) → before ≡ [] → known.text ≡ 0 → items ≡ take 64 before ++ replicate n known
       → AreSo here items
   fresh-makes items before n known empty none is =

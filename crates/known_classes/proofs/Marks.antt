@@ -1,13 +1,13 @@
 -- Fields that are counted one by one, with the bits that tell which are bools.
 use Rattle.std.proofs.Common.{◌≡◌, ℕ, ◌+◌, ◌-◌, ◌*◌, ◌/◌, ◌%◌, ◌^◌, ◌<◌, ◌≤◌, true, false, List, [], ◌∷◌, ◌++◌, length, refl, sym, ap, ◌∙◌, subst, arith, add-one, append_assoc, length-append}
 use Rattle.std.proofs.Math.Nat.{pow-suc, add-mul-div_right, add-mul-mod_self_right, div-mul-le_self}
-use Rattle.text_forms.specs.declared.forms.Form.{Form}
-use Rattle.text_forms.specs.declared.forms.Form.TheVariants.{Number, Flag, Reference}
-use Rattle.text_forms.specs.declared.forms.Rows.{Rows}
-use Rattle.text_forms.specs.Forms.{forms_of, forms_from, form_here, rows_of, one_more}
-use Rattle.text_forms.specs.Steps.{behind_first, is_field}
-use Rattle.text_forms.proofs.Places.{rows_of-last}
-use Rattle.text_forms.proofs.Passing.{Passed, forms-first, a_field, all_passed, all_counted}
+use Rattle.paired_ops.specs.text_forms.declared.forms.Form.{Form}
+use Rattle.paired_ops.specs.text_forms.declared.forms.Form.TheVariants.{Number, Flag, Reference}
+use Rattle.paired_ops.specs.text_forms.declared.forms.Rows.{Rows}
+use Rattle.paired_ops.specs.text_forms.Forms.{forms_of, forms_from, form_here, rows_of, one_more}
+use Rattle.paired_ops.specs.text_forms.Steps.{behind_first, is_field}
+use Rattle.paired_ops.proofs.of_text_forms.Places.{rows_of-last}
+use Rattle.paired_ops.proofs.of_text_forms.Passing.{Passed, forms-first, a_field, all_passed, all_counted}
 use Rattle.known_classes.specs.declared.makes.FieldRows.{FieldRows}
 use Rattle.known_classes.specs.Made.{AreMarked}
 use Rattle.known_classes.specs.inside.Counting.{marked_with}

@@ -1,17 +1,17 @@
 -- The text constants of a code object, and those of the units that it is of.
 use Rattle.std.proofs.Common.{inl, inr, ◌≡◌, ℕ, zero, suc, List, [], ◌∷◌, get_or, Some, refl, sym, ap, ◌∙◌, subst}
-use Rattle.ps_base.specs.CodeUnit.{ConstantView, ConstantsView, unit, text, literal, no_constants, constant_then}
-use Rattle.obj_layout.specs.declared.kind.Kind.TheVariants.{Text, Code}
-use Rattle.obj_layout.specs.declared.reference.Reference.{Reference}
-use Rattle.obj_layout.specs.declared.reference.Reference.TheVariants.{Nil}
-use Rattle.swizzle.specs.Heap.{Heap, IsHeap, IsHeld, header_at}
-use Rattle.swizzle.specs.Joint.{Shown, shown_at}
-use Rattle.swizzle.specs.Text.{text_at}
-use Rattle.swizzle.specs.Touch.{Denotes}
-use Rattle.swizzle.proofs.NameLaws.{name_at-injective, name-not_nil}
-use Rattle.heap_places.specs.Shapes.{slot_of}
-use Rattle.proc_values.specs.Loaded.{CodeStays, IsText, IsConstant, IsUnit, AreNamed, constant_numbered}
-use Rattle.proc_values.proofs.StayLaws.{constant-stays}
+use Rattle.paired_ops.specs.ps_base.CodeUnit.{ConstantView, ConstantsView, unit, text, literal, no_constants, constant_then}
+use Rattle.paired_ops.specs.obj_layout.declared.kind.Kind.TheVariants.{Text, Code}
+use Rattle.paired_ops.specs.obj_layout.declared.reference.Reference.{Reference}
+use Rattle.paired_ops.specs.obj_layout.declared.reference.Reference.TheVariants.{Nil}
+use Rattle.paired_ops.specs.swizzle.Heap.{Heap, IsHeap, IsHeld, header_at}
+use Rattle.paired_ops.specs.swizzle.Joint.{Shown, shown_at}
+use Rattle.paired_ops.specs.swizzle.Text.{text_at}
+use Rattle.paired_ops.specs.swizzle.Touch.{Denotes}
+use Rattle.paired_ops.proofs.of_swizzle.NameLaws.{name_at-injective, name-not_nil}
+use Rattle.paired_ops.specs.heap_places.Shapes.{slot_of}
+use Rattle.paired_ops.specs.proc_values.Loaded.{CodeStays, IsText, IsConstant, IsUnit, AreNamed, constant_numbered}
+use Rattle.paired_ops.proofs.of_proc_values.StayLaws.{constant-stays}
 use Rattle.known_classes.specs.Known.{HasConstants, IsTextOf}
 
 -- the constant that a text is, which the name of this number denotes

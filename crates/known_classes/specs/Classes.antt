@@ -1,5 +1,5 @@
 -- All that is known of classes.
-use Rattle.swizzle.specs.Heap.{Heap}
+use Rattle.paired_ops.specs.swizzle.Heap.{Heap}
 use Rattle.known_classes.specs.declared.classes.KnownClasses.{KnownClasses}
 use Rattle.known_classes.specs.Known.{AreSo}
 use Rattle.known_classes.specs.Made.{AreSo as AreMade}

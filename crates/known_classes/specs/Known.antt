@@ -1,15 +1,15 @@
 -- Fields of classes that were looked up before, and what is so of them as long as texts and code stay.
 use Rattle.std.specs.Prelude.{◌≡◌, ◌⊎◌, ℕ, List, [], ◌∷◌, Some}
-use Rattle.ps_base.specs.CodeUnit.{ConstantsView, unit}
-use Rattle.ps_base.specs.declared.code_unit.Frame.{Frame}
-use Rattle.obj_layout.specs.declared.kind.Kind.TheVariants.{Text, Code}
-use Rattle.swizzle.specs.Heap.{Heap, IsHeld, header_at}
-use Rattle.swizzle.specs.Joint.{shown_at}
-use Rattle.swizzle.specs.Text.{text_at}
-use Rattle.swizzle.specs.Touch.{Denotes}
-use Rattle.text_forms.specs.Forms.{forms_of, located_in}
-use Rattle.heap_places.specs.Shapes.{slot_of}
-use Rattle.proc_values.specs.Loaded.{IsText, IsUnit}
+use Rattle.paired_ops.specs.ps_base.CodeUnit.{ConstantsView, unit}
+use Rattle.paired_ops.specs.ps_base.declared.code_unit.Frame.{Frame}
+use Rattle.paired_ops.specs.obj_layout.declared.kind.Kind.TheVariants.{Text, Code}
+use Rattle.paired_ops.specs.swizzle.Heap.{Heap, IsHeld, header_at}
+use Rattle.paired_ops.specs.swizzle.Joint.{shown_at}
+use Rattle.paired_ops.specs.swizzle.Text.{text_at}
+use Rattle.paired_ops.specs.swizzle.Touch.{Denotes}
+use Rattle.paired_ops.specs.text_forms.Forms.{forms_of, located_in}
+use Rattle.paired_ops.specs.heap_places.Shapes.{slot_of}
+use Rattle.paired_ops.specs.proc_values.Loaded.{IsText, IsUnit}
 use Rattle.known_classes.specs.declared.known.KnownField.{KnownField}
 
 -- the code object of a unit with these constants begins there

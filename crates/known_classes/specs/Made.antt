@@ -1,10 +1,10 @@
 -- Classes by which structures were made before, and what is so of them as long as texts and code stay.
 use Rattle.std.specs.Prelude.{◌≡◌, ◌⊎◌, ℕ, ◌/◌, ◌%◌, List, [], ◌∷◌}
-use Rattle.swizzle.specs.Heap.{Heap}
-use Rattle.swizzle.specs.Text.{text_at}
-use Rattle.text_forms.specs.declared.forms.Form.{Form}
-use Rattle.text_forms.specs.declared.forms.Form.TheVariants.{Number, Flag, Reference}
-use Rattle.text_forms.specs.Forms.{forms_of, rows_of}
+use Rattle.paired_ops.specs.swizzle.Heap.{Heap}
+use Rattle.paired_ops.specs.swizzle.Text.{text_at}
+use Rattle.paired_ops.specs.text_forms.declared.forms.Form.{Form}
+use Rattle.paired_ops.specs.text_forms.declared.forms.Form.TheVariants.{Number, Flag, Reference}
+use Rattle.paired_ops.specs.text_forms.Forms.{forms_of, rows_of}
 use Rattle.known_classes.specs.declared.makes.KnownMake.{KnownMake}
 use Rattle.known_classes.specs.Known.{IsTextOf}
 

@@ -1,16 +1,16 @@
 -- Fields of structures that are reached by what is known of them.
 use Rattle.std.specs.Prelude.{◌≡◌, ℕ, ℤ, Bool, List, Some}
-use Rattle.ps_base.specs.CodeUnit.{ConstantsView, text}
-use Rattle.obj_layout.specs.declared.reference.Reference.{Reference}
-use Rattle.swizzle.specs.Heap as area
-use Rattle.text_forms.specs.declared.forms.Form.{Form}
-use Rattle.text_forms.specs.Forms.{forms_of, form_in, is_number_form}
-use Rattle.heap_places.specs.declared.value.Value as code
-use Rattle.proc_values.specs.Loaded.{constant_numbered}
-use Rattle.ps_meaning.specs.Objects.{Heap, field_of, with_field}
-use Rattle.ps_meaning.specs.Texts.{Yields}
-use Rattle.ps_meaning.specs.Values.{Value, Num, Pointer}
-use Rattle.ps_meaning.specs.Evaluation.{kept_as}
+use Rattle.paired_ops.specs.ps_base.CodeUnit.{ConstantsView, text}
+use Rattle.paired_ops.specs.obj_layout.declared.reference.Reference.{Reference}
+use Rattle.paired_ops.specs.swizzle.Heap as area
+use Rattle.paired_ops.specs.text_forms.declared.forms.Form.{Form}
+use Rattle.paired_ops.specs.text_forms.Forms.{forms_of, form_in, is_number_form}
+use Rattle.paired_ops.specs.heap_places.declared.value.Value as code
+use Rattle.paired_ops.specs.proc_values.Loaded.{constant_numbered}
+use Rattle.paired_ops.specs.ps_meaning.Objects.{Heap, field_of, with_field}
+use Rattle.paired_ops.specs.ps_meaning.Texts.{Yields}
+use Rattle.paired_ops.specs.ps_meaning.Values.{Value, Num, Pointer}
+use Rattle.paired_ops.specs.ps_meaning.Evaluation.{kept_as}
 use Rattle.paired_ops.specs.World.{Stands}
 use Rattle.paired_ops.specs.Operands.{IsForIn, IsOfForm}
 

@@ -1,12 +1,12 @@
 -- Structures that refer to the very text by which their class is named.
 use Rattle.std.specs.Prelude.{◌≡◌, ℕ, List, Option}
-use Rattle.obj_layout.specs.declared.kind.Kind.TheVariants.{Structure}
-use Rattle.obj_layout.specs.declared.reference.Reference.{Reference}
-use Rattle.obj_layout.specs.declared.reference.Reference.TheVariants.{Local}
-use Rattle.swizzle.specs.Heap as area
-use Rattle.swizzle.specs.Heap.{header_at, ref_at}
-use Rattle.ps_meaning.specs.Objects.{Heap}
-use Rattle.ps_meaning.specs.Values.{Value}
+use Rattle.paired_ops.specs.obj_layout.declared.kind.Kind.TheVariants.{Structure}
+use Rattle.paired_ops.specs.obj_layout.declared.reference.Reference.{Reference}
+use Rattle.paired_ops.specs.obj_layout.declared.reference.Reference.TheVariants.{Local}
+use Rattle.paired_ops.specs.swizzle.Heap as area
+use Rattle.paired_ops.specs.swizzle.Heap.{header_at, ref_at}
+use Rattle.paired_ops.specs.ps_meaning.Objects.{Heap}
+use Rattle.paired_ops.specs.ps_meaning.Values.{Value}
 use Rattle.paired_ops.specs.World.{IsWorld, DenotesIn}
 
 -- The area stands for a heap, and an object of it, or none, denotes a value.

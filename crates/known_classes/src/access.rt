@@ -1,30 +1,30 @@
 //! Fields of structures that refer to the very text by which their class is named: no text is read, and nothing of the shape.
 ghost use Rattle.std.specs.Prelude.{◌≡◌, ℕ, List, IfSome, Some, true, false};
-ghost use Rattle.obj_layout.specs.declared.reference.Reference.{Reference};
-ghost use Rattle.swizzle.specs.Heap.{IsHeld, Stands as AllStand, header_at};
-ghost use Rattle.swizzle.specs.Joint.{shown_at};
-ghost use Rattle.swizzle.specs.Reading.{LeavesOutside};
-ghost use Rattle.swizzle.specs.Text.{text_at};
-ghost use Rattle.text_forms.specs.Forms.{forms_of, located_in};
-ghost use Rattle.heap_places.specs.Places.{HasPlace, Holds, IsNear};
-ghost use Rattle.heap_ops.specs.Outcomes.{UnlessFault};
-ghost use Rattle.heap_ops.specs.Structures.{IsNamed};
-ghost use Rattle.ps_meaning.specs.Objects as meaning;
-ghost use Rattle.ps_meaning.specs.Values as meant;
+ghost use Rattle.paired_ops.specs.obj_layout.declared.reference.Reference.{Reference};
+ghost use Rattle.paired_ops.specs.swizzle.Heap.{IsHeld, Stands as AllStand, header_at};
+ghost use Rattle.paired_ops.specs.swizzle.Joint.{shown_at};
+ghost use Rattle.paired_ops.specs.swizzle.Reading.{LeavesOutside};
+ghost use Rattle.paired_ops.specs.swizzle.Text.{text_at};
+ghost use Rattle.paired_ops.specs.text_forms.Forms.{forms_of, located_in};
+ghost use Rattle.paired_ops.specs.heap_places.Places.{HasPlace, Holds, IsNear};
+ghost use Rattle.paired_ops.specs.heap_ops.Outcomes.{UnlessFault};
+ghost use Rattle.paired_ops.specs.heap_ops.Structures.{IsNamed};
+ghost use Rattle.paired_ops.specs.ps_meaning.Objects as meaning;
+ghost use Rattle.paired_ops.specs.ps_meaning.Values as meant;
 ghost use Rattle.paired_ops.specs.World.{IsWorld, DenotesIn, Answers, Writes};
 ghost use Rattle.paired_ops.specs.Operands.{IsForIn, IsOfForm};
 ghost use Rattle.known_classes.specs.Reading.{IsThere, RefersTo};
 
-use heap_places::places::write_place;
-use heap_places::value::Value;
-use heap_places::words::{flag_of_word, int_of_word};
-use heap_texts::fault::OpFault;
-use obj_layout::kind::Kind;
-use obj_layout::reference::Reference;
-use obj_layout::vault::Vault;
+use paired_ops::heap_places::places::write_place;
+use paired_ops::heap_places::value::Value;
+use paired_ops::heap_places::words::{flag_of_word, int_of_word};
+use paired_ops::heap_texts::fault::OpFault;
+use paired_ops::obj_layout::kind::Kind;
+use paired_ops::obj_layout::reference::Reference;
+use paired_ops::obj_layout::vault::Vault;
 use paired_ops::structures;
-use swizzle::swizzle::Swizzle;
-use text_forms::forms::{Form, Located, Place};
+use paired_ops::swizzle::swizzle::Swizzle;
+use paired_ops::text_forms::forms::{Form, Located, Place};
 
 /// The value of a field of what a value denotes, as `paired_ops` has it. Where the structure refers to the text that is the class here, it costs no
 /// more for a long text than for a short one.

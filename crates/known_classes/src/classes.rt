@@ -1,7 +1,7 @@
 //! All that is known of classes.
 ghost use Rattle.std.specs.Prelude.{IfOk};
-ghost use Rattle.swizzle.specs.Heap.{Heap};
-ghost use Rattle.proc_values.specs.Loaded.{CodeStays};
+ghost use Rattle.paired_ops.specs.swizzle.Heap.{Heap};
+ghost use Rattle.paired_ops.specs.proc_values.Loaded.{CodeStays};
 ghost use Rattle.known_classes.specs.Classes.{IsRight};
 ghost use Rattle.known_classes.specs.declared.classes.KnownClasses as declared;
 

@@ -1,19 +1,19 @@
 //! Fields of classes that were looked up before.
 ghost use Rattle.std.specs.Prelude.{◌≡◌, ◌<◌, ℕ, IfOk, IfSome, List, Some};
-ghost use Rattle.ps_base.specs.CodeUnit.{ConstantsView, text};
-ghost use Rattle.swizzle.specs.Heap.{Heap, IsHeap, IsHeld, header_at};
-ghost use Rattle.swizzle.specs.Text.{text_at};
-ghost use Rattle.proc_values.specs.Loaded.{CodeStays, constant_numbered};
+ghost use Rattle.paired_ops.specs.ps_base.CodeUnit.{ConstantsView, text};
+ghost use Rattle.paired_ops.specs.swizzle.Heap.{Heap, IsHeap, IsHeld, header_at};
+ghost use Rattle.paired_ops.specs.swizzle.Text.{text_at};
+ghost use Rattle.paired_ops.specs.proc_values.Loaded.{CodeStays, constant_numbered};
 ghost use Rattle.known_classes.specs.Known.{AreSo, HasConstants, IsKnown, IsSo, IsTextOf};
 ghost use Rattle.known_classes.specs.Reading.{IsThere};
 ghost use Rattle.known_classes.specs.declared.known.KnownField as declared;
 
 use crate::access::refers_to;
-use obj_layout::kind::Kind;
-use obj_layout::reference::Reference;
+use paired_ops::obj_layout::kind::Kind;
+use paired_ops::obj_layout::reference::Reference;
+use paired_ops::swizzle::swizzle::Swizzle;
+use paired_ops::text_forms::forms::{Form, Located, Place, Rows};
 use std::alloc::{AllocError, Global};
-use swizzle::swizzle::Swizzle;
-use text_forms::forms::{Form, Located, Place, Rows};
 
 /// Where a field of a class lies. The class is a constant of a code object, by its number, and so is the field. The text has the bytes of the
 /// class: it is one to which structures of the class refer. Text 0 stands for no entry.

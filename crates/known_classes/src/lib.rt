@@ -7,3 +7,6 @@ pub mod classes;
 pub mod known;
 pub mod makes;
 pub mod reached;
+
+pub use paired_ops;
+pub use paired_ops::{heap_ops, heap_places, heap_texts, obj_layout, proc_values, swizzle};

@@ -1,17 +1,17 @@
 //! Classes by which structures were made before.
 ghost use Rattle.std.specs.Prelude.{◌≡◌, ◌<◌, ◌+◌, ◌^◌, ◌/◌, ◌%◌, ◌==◌, IfOk, IfSome, length};
-ghost use Rattle.swizzle.specs.Heap.{Heap, IsHeld, header_at};
-ghost use Rattle.swizzle.specs.Text.{text_at};
-ghost use Rattle.text_forms.specs.Forms.{forms_of, rows_of};
+ghost use Rattle.paired_ops.specs.swizzle.Heap.{Heap, IsHeld, header_at};
+ghost use Rattle.paired_ops.specs.swizzle.Text.{text_at};
+ghost use Rattle.paired_ops.specs.text_forms.Forms.{forms_of, rows_of};
 ghost use Rattle.known_classes.specs.Known.{IsTextOf};
 ghost use Rattle.known_classes.specs.Made.{AreMarked, AreSo, IsKnown, IsSo};
 ghost use Rattle.known_classes.specs.inside.Counting.{CountsField};
 
-use obj_layout::kind::Kind;
+use paired_ops::obj_layout::kind::Kind;
+use paired_ops::swizzle::swizzle::Swizzle;
+use paired_ops::text_forms::forms::{Form, Rows};
+use paired_ops::text_forms::steps::{first_field, form_here, is_field, next_field};
 use std::alloc::{AllocError, Global};
-use swizzle::swizzle::Swizzle;
-use text_forms::forms::{Form, Rows};
-use text_forms::steps::{first_field, form_here, is_field, next_field};
 
 /// Which of the fields of a class that are numbers are bools: a bit for each, the lowest for the first.
 #[derive(Clone, Copy)]
@@ -70,7 +70,7 @@ impl FlagSet {
         self.bits % 2 == 1
     }
 
-    /// The set of the fields behind the first.
+    /// The set of the fields after the first.
     #[inline(always)]
     pub fn behind(self) -> FlagSet
         ensures { result.bits ≡ self.bits / 2 }
@@ -80,7 +80,7 @@ impl FlagSet {
         }
     }
 
-    // With the field behind so many others.
+    // With the field after so many others.
     fn with(self, count: u32) -> FlagSet
         requires few { count < 64 }
         requires below { self.bits < 2 ^ count }

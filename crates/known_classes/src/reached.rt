@@ -1,14 +1,14 @@
 //! Fields of structures, reached by what is known of them alone. Where one isn't reached so, nothing is done; it is then to be read or written by
 //! `access`, which also finds the traps.
 ghost use Rattle.std.specs.Prelude.{◌≡◌, false, true, IfSome, List, MatchOption, Some};
-ghost use Rattle.ps_base.specs.CodeUnit.{ConstantsView};
-ghost use Rattle.obj_layout.specs.declared.reference.Reference.{Reference};
-ghost use Rattle.text_forms.specs.Forms.{is_number_form};
-ghost use Rattle.swizzle.specs.Heap as area;
-ghost use Rattle.swizzle.specs.Heap.{Stands as AllStand, IsHeld};
-ghost use Rattle.heap_places.specs.Places.{IsNear};
-ghost use Rattle.ps_meaning.specs.Objects as meaning;
-ghost use Rattle.ps_meaning.specs.Values as meant;
+ghost use Rattle.paired_ops.specs.ps_base.CodeUnit.{ConstantsView};
+ghost use Rattle.paired_ops.specs.obj_layout.declared.reference.Reference.{Reference};
+ghost use Rattle.paired_ops.specs.text_forms.Forms.{is_number_form};
+ghost use Rattle.paired_ops.specs.swizzle.Heap as area;
+ghost use Rattle.paired_ops.specs.swizzle.Heap.{Stands as AllStand, IsHeld};
+ghost use Rattle.paired_ops.specs.heap_places.Places.{IsNear};
+ghost use Rattle.paired_ops.specs.ps_meaning.Objects as meaning;
+ghost use Rattle.paired_ops.specs.ps_meaning.Values as meant;
 ghost use Rattle.paired_ops.specs.World.{IsWorld, DenotesIn};
 ghost use Rattle.paired_ops.specs.Operands.{IsForIn, IsOfForm};
 ghost use Rattle.known_classes.specs.Known.{AreSo, HasConstants};
@@ -17,10 +17,10 @@ ghost use Rattle.known_classes.specs.Reading.{IsThere};
 
 use crate::access::{peek_place, refers_to};
 use crate::known::KnownFields;
-use heap_places::places::write_place;
-use heap_places::value::Value;
-use swizzle::swizzle::Swizzle;
-use text_forms::forms::{Form, Place};
+use paired_ops::heap_places::places::write_place;
+use paired_ops::heap_places::value::Value;
+use paired_ops::swizzle::swizzle::Swizzle;
+use paired_ops::text_forms::forms::{Form, Place};
 
 /// The value in a field of a structure: the field of this number of the class that is the constant of a number of a code object. None where nothing is known
 /// of it, where the structure doesn't refer to the known text, or where the field names an object that may have to be fetched.

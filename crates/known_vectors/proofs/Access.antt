@@ -6,34 +6,34 @@ use Rattle.std.proofs.lemmas.Bool.{ltb-true, and_parts}
 use Rattle.std.proofs.Common.{zero, ◌^◌, pos, negsuc, nat_lt, true, ◌≤◌, arith, inl, inr, ◌≡◌, ℕ, suc, ◌<◌, ℤ, List, [], ◌∷◌, length, get_or, set, sym, ap, ◌∙◌, subst, Option, Some, None}
 use Rattle.std.specs.Prelude.{Ok, Err, ◌+ℤ◌, Bool, if◌then◌else◌}
 use Rattle.ps_base.specs.declared.trap.Trap.TheVariants as trap
-use Rattle.ps_outside.specs.Outside.{Outside}
-use Rattle.obj_layout.specs.Stored.{Space}
-use Rattle.obj_layout.specs.declared.kind.Kind.TheVariants as kind
-use Rattle.obj_layout.specs.declared.reference.Reference as reference
-use Rattle.swizzle.specs.declared.fault.SwizzleFault.{SwizzleFault}
-use Rattle.swizzle.specs.Heap as area
-use Rattle.swizzle.specs.Heap.{IsHeap, IsHeld}
-use Rattle.swizzle.specs.Joint.{Shown, shown_at, name_at}
-use Rattle.text_forms.specs.declared.forms.Form.{Form}
-use Rattle.text_forms.specs.declared.forms.Form.TheVariants as form
-use Rattle.text_forms.specs.Forms.{element_of, is_number_form}
-use Rattle.heap_places.specs.Words.{word_damage}
-use Rattle.heap_places.specs.Shapes.{word_in, slot_of}
-use Rattle.heap_places.specs.Places.{HasPlace, HasRow, Holds, ReadsPlace, touched_by, assigned_value}
-use Rattle.heap_places.specs.declared.value.Value as code
-use Rattle.heap_places.specs.declared.value.Value.TheVariants as held
-use Rattle.heap_ops.specs.declared.shape.Shape.{Shape}
-use Rattle.heap_ops.specs.Vectors.{index_of, IsShaped, ReadsShape}
-use Rattle.heap_ops.proofs.VectorLaws.{element-place}
-use Rattle.heap_ops.proofs.LayoutLaws.{held-from}
-use Rattle.ps_meaning.specs.Operators.{is_int}
-use Rattle.ps_meaning.specs.Values.{Value, Vector, Nothing}
-use Rattle.ps_meaning.specs.Texts.{Fails, Yields}
-use Rattle.ps_meaning.specs.Objects.{Heap, Object, Elements, object_at, is_vector, place_of, found_at, put_at, with_object, with_element}
-use Rattle.ps_meaning.specs.Objects as meaning
-use Rattle.heap_meaning.specs.Paired.{paired}
-use Rattle.heap_meaning.proofs.GivenLaws.{shown_with}
-use Rattle.heap_meaning.proofs.VectorLaws.{low-is, is-long, vector-shape, below-count, element-read, element-written}
+use Rattle.paired_ops.specs.ps_outside.Outside.{Outside}
+use Rattle.paired_ops.specs.obj_layout.Stored.{Space}
+use Rattle.paired_ops.specs.obj_layout.declared.kind.Kind.TheVariants as kind
+use Rattle.paired_ops.specs.obj_layout.declared.reference.Reference as reference
+use Rattle.paired_ops.specs.swizzle.declared.fault.SwizzleFault.{SwizzleFault}
+use Rattle.paired_ops.specs.swizzle.Heap as area
+use Rattle.paired_ops.specs.swizzle.Heap.{IsHeap, IsHeld}
+use Rattle.paired_ops.specs.swizzle.Joint.{Shown, shown_at, name_at}
+use Rattle.paired_ops.specs.text_forms.declared.forms.Form.{Form}
+use Rattle.paired_ops.specs.text_forms.declared.forms.Form.TheVariants as form
+use Rattle.paired_ops.specs.text_forms.Forms.{element_of, is_number_form}
+use Rattle.paired_ops.specs.heap_places.Words.{word_damage}
+use Rattle.paired_ops.specs.heap_places.Shapes.{word_in, slot_of}
+use Rattle.paired_ops.specs.heap_places.Places.{HasPlace, HasRow, Holds, ReadsPlace, touched_by, assigned_value}
+use Rattle.paired_ops.specs.heap_places.declared.value.Value as code
+use Rattle.paired_ops.specs.heap_places.declared.value.Value.TheVariants as held
+use Rattle.paired_ops.specs.heap_ops.declared.shape.Shape.{Shape}
+use Rattle.paired_ops.specs.heap_ops.Vectors.{index_of, IsShaped, ReadsShape}
+use Rattle.paired_ops.proofs.of_heap_ops.VectorLaws.{element-place}
+use Rattle.paired_ops.proofs.of_heap_ops.LayoutLaws.{held-from}
+use Rattle.paired_ops.specs.ps_meaning.Operators.{is_int}
+use Rattle.paired_ops.specs.ps_meaning.Values.{Value, Vector, Nothing}
+use Rattle.paired_ops.specs.ps_meaning.Texts.{Fails, Yields}
+use Rattle.paired_ops.specs.ps_meaning.Objects.{Heap, Object, Elements, object_at, is_vector, place_of, found_at, put_at, with_object, with_element}
+use Rattle.paired_ops.specs.ps_meaning.Objects as meaning
+use Rattle.paired_ops.specs.heap_meaning.Paired.{paired}
+use Rattle.paired_ops.proofs.of_heap_meaning.GivenLaws.{shown_with}
+use Rattle.paired_ops.proofs.of_heap_meaning.VectorLaws.{low-is, is-long, vector-shape, below-count, element-read, element-written}
 use Rattle.paired_ops.specs.World.{IsWorld, DenotesIn, alone, Stands, Answers, Writes}
 use Rattle.paired_ops.specs.Operands.{IsForIn, IsOfForm, form_in}
 use Rattle.paired_ops.proofs.WorldLaws.{reads-stands}
@@ -201,7 +201,7 @@ learned old new before after of names at id shape now w v r =
     let read : shape.low ≡ v.low = r.2.low_is ∙ low-is (alone old) (paired names) it v.ty v.low v.elements v.is in
     let low : to_z w32 (of_z w32 shape.low) ≡ v.low = int-same shape.low (ap is_int read ∙ int-read v.is.bound v.low v.is.bound_is) ∙ read in
     let form : shape.form ≡ element_of v.ty = r.3 ∙ ap element_of (sym same) in
-    let count : shape.count ≡ length v.elements = r.2.count_is ∙ ap (λ (f : Form). Rattle.heap_ops.specs.Vectors.count_of it f) form ∙ (is-long (alone old) (paired names) it v.ty v.low v.elements v.is).count in (
+    let count : shape.count ≡ length v.elements = r.2.count_is ∙ ap (λ (f : Form). Rattle.paired_ops.specs.heap_ops.Vectors.count_of it f) form ∙ (is-long (alone old) (paired names) it v.ty v.low v.elements v.is).count in (
       record { ty = v.ty; elements = v.elements; means = v.means ∙ ap (λ (l : ℤ). Some (Elements v.ty l v.elements)) (sym low); form = form; count = count },
       reads-stands old new before after (slot_of it 0 ∷ []) of names r.1.reads (type-known old of names at id v, tt) w,
     )

@@ -1,9 +1,9 @@
 -- Entries that are so.
 use Rattle.std.proofs.Common.{inl, inr, ◌≡◌, ℕ, zero, suc, ◌<◌, ◌≤◌, ◌⊎◌, List, [], ◌∷◌, length, set, replicate, get_or, take, ◌++◌, Some, sym, ap, ◌∙◌, arith, subst}
-use Rattle.obj_layout.specs.declared.reference.Reference.{Reference}
-use Rattle.swizzle.specs.Heap as area
-use Rattle.ps_meaning.specs.Values.{Vector}
-use Rattle.ps_meaning.specs.Objects.{Heap}
+use Rattle.paired_ops.specs.obj_layout.declared.reference.Reference.{Reference}
+use Rattle.paired_ops.specs.swizzle.Heap as area
+use Rattle.paired_ops.specs.ps_meaning.Values.{Vector}
+use Rattle.paired_ops.specs.ps_meaning.Objects.{Heap}
 use Rattle.paired_ops.specs.World.{Carries}
 use Rattle.known_vectors.specs.declared.known.KnownVector.{KnownVector}
 use Rattle.known_vectors.specs.Known.{IsKnownAs, IsSo, AreSo, AllLast, SaysNothing}
@@ -48,7 +48,7 @@ module _ (here : area.Heap) (of : Heap) (names : List Reference) where
     | inr is ↦ (same, is)
   ]
 
-  -- entries that were put behind none
+  -- entries that were put after none
   pub fresh-so : (items before : List KnownVector) (n : ℕ) (known : KnownVector) → before ≡ [] → SaysNothing known → items ≡ take 64 before ++ replicate n known → AreSo here of names items
   fresh-so items before n known empty none is =
       let all : items ≡ replicate n known = is ∙ ap (λ (x : List KnownVector). take 64 x ++ replicate n known) empty in

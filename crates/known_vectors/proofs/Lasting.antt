@@ -1,13 +1,13 @@
 -- Vectors last, whatever is made and written.
 use Rattle.std.proofs.Common.{◌≡◌, ℕ, zero, suc, ℤ, Bool, true, false, List, [], ◌∷◌, length, set, Option, Some, None, refl, sym, ap, ◌∙◌, subst, if◌then◌else◌}
 use Rattle.std.proofs.lemmas.List.{length-set}
-use Rattle.ps_meaning.specs.Values.{Value, Num, Flag, Text, Nil, Pointer, Vector, Procedure, Nothing}
-use Rattle.ps_meaning.specs.Texts.{Yields, Fails}
-use Rattle.ps_meaning.specs.Objects.{Heap, Object, Structure, Elements, Scope, object_at, with_object, with_new, is_of, fields_in, with_field, with_element, put_at, place_of, low_in, elements_in, type_in}
-use Rattle.ps_meaning.specs.Objects.{kept_as}
-use Rattle.ps_meaning.specs.Scopes.{with_name, with_name_in, scope_out}
-use Rattle.ps_meaning.specs.Meaning.{with_kept_name}
-use Rattle.text_forms.specs.Forms.{forms_of, form_in}
+use Rattle.paired_ops.specs.ps_meaning.Values.{Value, Num, Flag, Text, Nil, Pointer, Vector, Procedure, Nothing}
+use Rattle.paired_ops.specs.ps_meaning.Texts.{Yields, Fails}
+use Rattle.paired_ops.specs.ps_meaning.Objects.{Heap, Object, Structure, Elements, Scope, object_at, with_object, with_new, is_of, fields_in, with_field, with_element, put_at, place_of, low_in, elements_in, type_in}
+use Rattle.paired_ops.specs.ps_meaning.Objects.{kept_as}
+use Rattle.paired_ops.specs.ps_meaning.Scopes.{with_name, with_name_in, scope_out}
+use Rattle.paired_ops.specs.ps_meaning.Meaning.{with_kept_name}
+use Rattle.paired_ops.specs.text_forms.Forms.{forms_of, form_in}
 use Rattle.known_vectors.specs.Known.{AllLast}
 
 pub all-same : (of : Heap) → AllLast of of

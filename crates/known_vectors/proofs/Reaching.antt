@@ -6,33 +6,33 @@ use Rattle.std.proofs.lemmas.Grind.{common_steps}
 use Rattle.std.proofs.Common.{◌≡◌, ◌≢◌, ℕ, ◌+◌, ◌-◌, ◌%◌, ◌<◌, ◌^◌, ℤ, pos, negsuc, Bool, true, false, List, length, get_or, Option, Some, None}
 use Rattle.std.proofs.Common.{unwrap_or, inl, inr, refl, sym, ap, ◌∙◌, subst, arith}
 use Rattle.std.specs.Prelude.{Ok}
-use Rattle.obj_layout.specs.Stored.{damage}
-use Rattle.obj_layout.specs.declared.reference.Reference.{Reference}
-use Rattle.obj_layout.specs.declared.reference.Reference.TheVariants as reference
-use Rattle.obj_layout.specs.declared.kind.Kind.TheVariants as kind
-use Rattle.swizzle.specs.Objects.{Object}
-use Rattle.swizzle.specs.Heap as area
-use Rattle.swizzle.specs.Heap.{IsHeap, IsHeld, header_at, ref_at, num_at, reference_to, nothing}
-use Rattle.swizzle.specs.Joint.{shown_at, name_at, name_of}
-use Rattle.swizzle.specs.Touch.{Denotes}
-use Rattle.swizzle.proofs.NameLaws.{shown-counts}
-use Rattle.text_forms.specs.declared.forms.Form.{Form}
-use Rattle.text_forms.specs.declared.forms.Form.TheVariants as form
-use Rattle.text_forms.specs.Forms.{is_number_form}
-use Rattle.heap_places.specs.Words.{int_in, flag_in, word_damage, unless}
-use Rattle.heap_places.specs.Shapes.{slot_of, word_in}
-use Rattle.heap_places.specs.Places.{HasPlace, HasRow, Holds, assigned_value}
-use Rattle.heap_places.specs.declared.value.Value as code
-use Rattle.heap_places.specs.declared.value.Value.TheVariants as held
-use Rattle.heap_places.proofs.PlaceLaws.{slot-name, nums_below, refs_below}
-use Rattle.heap_places.proofs.WordLaws.{int-low, int-mid, int-high}
+use Rattle.paired_ops.specs.obj_layout.Stored.{damage}
+use Rattle.paired_ops.specs.obj_layout.declared.reference.Reference.{Reference}
+use Rattle.paired_ops.specs.obj_layout.declared.reference.Reference.TheVariants as reference
+use Rattle.paired_ops.specs.obj_layout.declared.kind.Kind.TheVariants as kind
+use Rattle.paired_ops.specs.swizzle.Objects.{Object}
+use Rattle.paired_ops.specs.swizzle.Heap as area
+use Rattle.paired_ops.specs.swizzle.Heap.{IsHeap, IsHeld, header_at, ref_at, num_at, reference_to, nothing}
+use Rattle.paired_ops.specs.swizzle.Joint.{shown_at, name_at, name_of}
+use Rattle.paired_ops.specs.swizzle.Touch.{Denotes}
+use Rattle.paired_ops.proofs.of_swizzle.NameLaws.{shown-counts}
+use Rattle.paired_ops.specs.text_forms.declared.forms.Form.{Form}
+use Rattle.paired_ops.specs.text_forms.declared.forms.Form.TheVariants as form
+use Rattle.paired_ops.specs.text_forms.Forms.{is_number_form}
+use Rattle.paired_ops.specs.heap_places.Words.{int_in, flag_in, word_damage, unless}
+use Rattle.paired_ops.specs.heap_places.Shapes.{slot_of, word_in}
+use Rattle.paired_ops.specs.heap_places.Places.{HasPlace, HasRow, Holds, assigned_value}
+use Rattle.paired_ops.specs.heap_places.declared.value.Value as code
+use Rattle.paired_ops.specs.heap_places.declared.value.Value.TheVariants as held
+use Rattle.paired_ops.proofs.of_heap_places.PlaceLaws.{slot-name, nums_below, refs_below}
+use Rattle.paired_ops.proofs.of_heap_places.WordLaws.{int-low, int-mid, int-high}
 use Rattle.paired_ops.proofs.FormLaws.{int-read}
-use Rattle.heap_ops.specs.Vectors.{index_of}
-use Rattle.heap_meaning.proofs.VectorLaws.{below-count}
-use Rattle.ps_meaning.specs.Values.{Value, Num, Flag, Text, Nil, Pointer, Vector, Procedure, Nothing, word_of, number_of}
-use Rattle.ps_meaning.specs.Texts.{Yields}
-use Rattle.ps_meaning.specs.Objects.{Heap, with_element}
-use Rattle.ps_meaning.specs.Objects as meaning
+use Rattle.paired_ops.specs.heap_ops.Vectors.{index_of}
+use Rattle.paired_ops.proofs.of_heap_meaning.VectorLaws.{below-count}
+use Rattle.paired_ops.specs.ps_meaning.Values.{Value, Num, Flag, Text, Nil, Pointer, Vector, Procedure, Nothing, word_of, number_of}
+use Rattle.paired_ops.specs.ps_meaning.Texts.{Yields}
+use Rattle.paired_ops.specs.ps_meaning.Objects.{Heap, with_element}
+use Rattle.paired_ops.specs.ps_meaning.Objects as meaning
 use Rattle.paired_ops.specs.World.{IsWorld, DenotesIn, Writes}
 use Rattle.paired_ops.specs.Operands.{IsForIn, IsOfForm}
 use Rattle.paired_ops.proofs.ReadLaws.{VectorAt}
@@ -43,7 +43,7 @@ use Rattle.known_vectors.specs.Reached.{Reaches, IsVectorOf, HasNumber, HasRefer
 use Rattle.known_vectors.proofs.Access.{int-same, the-vector, known-small, known-place, known-refs, known-value, known-sound, known-row, known-written}
 use Rattle.known_vectors.proofs.Entries.{said}
 
--- numbers stand behind two words, references behind one
+-- numbers stand after two words, references after one
 pub number-index : (f : Form) (n : ℕ) → is_number_form f ≡ true → index_of f n ≡ 2 + n
 number-index form.Number n is = refl
 number-index form.Flag n is = refl

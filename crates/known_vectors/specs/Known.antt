@@ -1,11 +1,11 @@
 -- Vectors that were looked up before, and what is so of them as long as vectors last.
 use Rattle.std.specs.Prelude.{◌≡◌, ◌⊎◌, ℕ, ℤ, List, [], ◌∷◌, length, Some, Result, Ok, Err}
-use Rattle.obj_layout.specs.declared.reference.Reference.{Reference}
-use Rattle.swizzle.specs.Heap as area
-use Rattle.text_forms.specs.Forms.{element_of}
-use Rattle.heap_texts.specs.declared.fault.OpFault.{OpFault}
-use Rattle.ps_meaning.specs.Values.{Value, Vector}
-use Rattle.ps_meaning.specs.Objects.{Heap, Elements, object_at}
+use Rattle.paired_ops.specs.obj_layout.declared.reference.Reference.{Reference}
+use Rattle.paired_ops.specs.swizzle.Heap as area
+use Rattle.paired_ops.specs.text_forms.Forms.{element_of}
+use Rattle.paired_ops.specs.heap_texts.declared.fault.OpFault.{OpFault}
+use Rattle.paired_ops.specs.ps_meaning.Values.{Value, Vector}
+use Rattle.paired_ops.specs.ps_meaning.Objects.{Heap, Elements, object_at}
 use Rattle.paired_ops.specs.World.{IsWorld, DenotesIn, Stands}
 use Rattle.known_vectors.specs.declared.known.KnownVector.{KnownVector}
 

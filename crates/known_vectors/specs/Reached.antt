@@ -1,16 +1,16 @@
 -- Elements that are reached by what is known of their vector alone: what is read of them, and what is written to them.
 use Rattle.std.specs.Prelude.{◌≡◌, ◌⊎◌, ℕ, ◌+◌, ◌*◌, ◌/◌, ◌%◌, ◌^◌, ◌<◌, ℤ, Bool, true, false, List, length, get_or, Option, Some}
-use Rattle.obj_layout.specs.declared.reference.Reference.{Reference}
-use Rattle.obj_layout.specs.declared.reference.Reference.TheVariants.{Pid}
-use Rattle.text_forms.specs.declared.forms.Form.{Form}
-use Rattle.text_forms.specs.Forms.{is_number_form}
-use Rattle.text_forms.specs.Forms.{element_of as form_of}
-use Rattle.swizzle.specs.Heap as area
-use Rattle.swizzle.specs.Heap.{ref_at}
-use Rattle.ps_meaning.specs.Texts.{Yields}
-use Rattle.ps_meaning.specs.Values.{Value, Num, Vector, word_of}
-use Rattle.ps_meaning.specs.Objects.{Heap, Elements, object_at, place_of, element_of, with_element}
-use Rattle.ps_meaning.specs.Evaluation.{kept_as}
+use Rattle.paired_ops.specs.obj_layout.declared.reference.Reference.{Reference}
+use Rattle.paired_ops.specs.obj_layout.declared.reference.Reference.TheVariants.{Pid}
+use Rattle.paired_ops.specs.text_forms.declared.forms.Form.{Form}
+use Rattle.paired_ops.specs.text_forms.Forms.{is_number_form}
+use Rattle.paired_ops.specs.text_forms.Forms.{element_of as form_of}
+use Rattle.paired_ops.specs.swizzle.Heap as area
+use Rattle.paired_ops.specs.swizzle.Heap.{ref_at}
+use Rattle.paired_ops.specs.ps_meaning.Texts.{Yields}
+use Rattle.paired_ops.specs.ps_meaning.Values.{Value, Num, Vector, word_of}
+use Rattle.paired_ops.specs.ps_meaning.Objects.{Heap, Elements, object_at, place_of, element_of, with_element}
+use Rattle.paired_ops.specs.ps_meaning.Evaluation.{kept_as}
 use Rattle.paired_ops.specs.World.{DenotesIn, Stands}
 use Rattle.known_vectors.specs.declared.known.KnownVector.{KnownVector}
 

@@ -1,26 +1,26 @@
 //! Elements of a vector that is known: no text is read, and nothing of its shape.
 ghost use Rattle.std.specs.Prelude.{◌≡◌, ℕ, List, Some};
-ghost use Rattle.obj_layout.specs.declared.reference.Reference.{Reference};
-ghost use Rattle.swizzle.specs.Heap.{Stands as AllStand};
-ghost use Rattle.swizzle.specs.Reading.{LeavesOutside};
-ghost use Rattle.heap_places.specs.Places.{IsNear};
-ghost use Rattle.heap_ops.specs.Outcomes.{UnlessFault};
-ghost use Rattle.ps_meaning.specs.Objects as meaning;
-ghost use Rattle.ps_meaning.specs.Objects.{place_of};
-ghost use Rattle.ps_meaning.specs.Values as meant;
+ghost use Rattle.paired_ops.specs.obj_layout.declared.reference.Reference.{Reference};
+ghost use Rattle.paired_ops.specs.swizzle.Heap.{Stands as AllStand};
+ghost use Rattle.paired_ops.specs.swizzle.Reading.{LeavesOutside};
+ghost use Rattle.paired_ops.specs.heap_places.Places.{IsNear};
+ghost use Rattle.paired_ops.specs.heap_ops.Outcomes.{UnlessFault};
+ghost use Rattle.paired_ops.specs.ps_meaning.Objects as meaning;
+ghost use Rattle.paired_ops.specs.ps_meaning.Objects.{place_of};
+ghost use Rattle.paired_ops.specs.ps_meaning.Values as meant;
 ghost use Rattle.paired_ops.specs.World.{IsWorld, DenotesIn, Answers, Writes};
 ghost use Rattle.paired_ops.specs.Operands.{IsForIn, IsOfForm, form_in};
 ghost use Rattle.known_vectors.specs.Known.{IsKnownAs, IsRight};
 
 use crate::known::KnownVector;
-use heap_ops::shape::{Shape, index, place};
-use heap_places::places::{read_place, write_place};
-use heap_places::value::Value;
-use heap_texts::fault::OpFault;
-use obj_layout::vault::Vault;
+use paired_ops::heap_ops::shape::{Shape, index, place};
+use paired_ops::heap_places::places::{read_place, write_place};
+use paired_ops::heap_places::value::Value;
+use paired_ops::heap_texts::fault::OpFault;
+use paired_ops::obj_layout::vault::Vault;
+use paired_ops::swizzle::swizzle::Swizzle;
+use paired_ops::text_forms::forms::Place;
 use ps_base::trap::Trap;
-use swizzle::swizzle::Swizzle;
-use text_forms::forms::Place;
 
 // The place of a subscript, from 0; None where it is outside.
 #[inline(always)]

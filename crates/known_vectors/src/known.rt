@@ -1,22 +1,22 @@
 //! What vectors were found to be.
 ghost use Rattle.std.specs.Prelude.{◌≡◌, ◌<◌, ◌≤◌, ℕ, IfOk, IfSome, List, Some};
-ghost use Rattle.obj_layout.specs.declared.reference.Reference.{Reference};
-ghost use Rattle.swizzle.specs.Heap as area;
-ghost use Rattle.swizzle.specs.Heap.{IsHeld};
-ghost use Rattle.swizzle.specs.Reading.{LeavesOutside};
-ghost use Rattle.heap_ops.specs.Outcomes.{UnlessFault};
-ghost use Rattle.ps_meaning.specs.Objects as meaning;
-ghost use Rattle.ps_meaning.specs.Values as meant;
+ghost use Rattle.paired_ops.specs.obj_layout.declared.reference.Reference.{Reference};
+ghost use Rattle.paired_ops.specs.swizzle.Heap as area;
+ghost use Rattle.paired_ops.specs.swizzle.Heap.{IsHeld};
+ghost use Rattle.paired_ops.specs.swizzle.Reading.{LeavesOutside};
+ghost use Rattle.paired_ops.specs.heap_ops.Outcomes.{UnlessFault};
+ghost use Rattle.paired_ops.specs.ps_meaning.Objects as meaning;
+ghost use Rattle.paired_ops.specs.ps_meaning.Values as meant;
 ghost use Rattle.paired_ops.specs.World.{IsWorld, DenotesIn};
 ghost use Rattle.known_vectors.specs.Known.{AreSo, IsSo, IsThere, Finds};
 ghost use Rattle.known_vectors.specs.Reached.{entry_place};
 
-use heap_ops::shape::read_shape;
-use heap_texts::fault::OpFault;
-use obj_layout::vault::Vault;
+use paired_ops::heap_ops::shape::read_shape;
+use paired_ops::heap_texts::fault::OpFault;
+use paired_ops::obj_layout::vault::Vault;
+use paired_ops::swizzle::swizzle::Swizzle;
+use paired_ops::text_forms::forms::Form;
 use std::alloc::{AllocError, Global};
-use swizzle::swizzle::Swizzle;
-use text_forms::forms::Form;
 
 /// What a vector was found to be: its object's index in the area, the form of its elements, its lower bound, and how many elements it has. Index
 /// 0 stands for no entry, and such a one has no element, so that none is found for nil.

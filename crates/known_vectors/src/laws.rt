@@ -1,9 +1,9 @@
 ghost use Rattle.std.specs.Prelude.{◌≡◌, ℕ, ℤ, List};
-ghost use Rattle.obj_layout.specs.declared.reference.Reference.{Reference};
-ghost use Rattle.swizzle.specs.Heap as area;
-ghost use Rattle.ps_meaning.specs.Objects.{Heap, Object, with_new, with_field, with_element};
-ghost use Rattle.ps_meaning.specs.Texts.{Yields};
-ghost use Rattle.ps_meaning.specs.Values.{Value};
+ghost use Rattle.paired_ops.specs.obj_layout.declared.reference.Reference.{Reference};
+ghost use Rattle.paired_ops.specs.swizzle.Heap as area;
+ghost use Rattle.paired_ops.specs.ps_meaning.Objects.{Heap, Object, with_new, with_field, with_element};
+ghost use Rattle.paired_ops.specs.ps_meaning.Texts.{Yields};
+ghost use Rattle.paired_ops.specs.ps_meaning.Values.{Value};
 ghost use Rattle.paired_ops.specs.World.{Carries};
 ghost use Rattle.known_vectors.specs.Known.{AllLast, AreSo};
 ghost use Rattle.known_vectors.specs.declared.known.KnownVector.{KnownVector};

@@ -1,15 +1,15 @@
 //! Elements of vectors whose entries stand in their places, reached by these alone. Where one isn't reached so, nothing is done; it is then to be
 //! read or written by `elements`, which also finds the trap of a subscript.
 ghost use Rattle.std.specs.Prelude.{◌≡◌, ◌≢◌, ◌<◌, ℕ, ℤ, Bool, Option, false, true, IfSome, List, MatchOption, Some};
-ghost use Rattle.obj_layout.specs.declared.reference.Reference.{Reference};
-ghost use Rattle.text_forms.specs.Forms.{is_number_form};
-ghost use Rattle.swizzle.specs.Heap as area;
-ghost use Rattle.swizzle.specs.Heap.{Stands as AllStand, IsHeld, header_at, with_num};
-ghost use Rattle.heap_places.specs.Places.{IsNear, assigned_value, with_value};
-ghost use Rattle.heap_places.specs.Words.{int_in, flag_in};
-ghost use Rattle.ps_meaning.specs.Objects as meaning;
-ghost use Rattle.ps_meaning.specs.Values as meant;
-ghost use Rattle.ps_meaning.specs.Values.{number_of};
+ghost use Rattle.paired_ops.specs.obj_layout.declared.reference.Reference.{Reference};
+ghost use Rattle.paired_ops.specs.text_forms.Forms.{is_number_form};
+ghost use Rattle.paired_ops.specs.swizzle.Heap as area;
+ghost use Rattle.paired_ops.specs.swizzle.Heap.{Stands as AllStand, IsHeld, header_at, with_num};
+ghost use Rattle.paired_ops.specs.heap_places.Places.{IsNear, assigned_value, with_value};
+ghost use Rattle.paired_ops.specs.heap_places.Words.{int_in, flag_in};
+ghost use Rattle.paired_ops.specs.ps_meaning.Objects as meaning;
+ghost use Rattle.paired_ops.specs.ps_meaning.Values as meant;
+ghost use Rattle.paired_ops.specs.ps_meaning.Values.{number_of};
 ghost use Rattle.paired_ops.specs.World.{IsWorld, DenotesIn};
 ghost use Rattle.paired_ops.specs.Operands.{IsForIn, IsOfForm};
 ghost use Rattle.known_vectors.specs.Known.{AreRight, AreSo};
@@ -17,12 +17,12 @@ ghost use Rattle.known_vectors.specs.Reached.{Reaches, ReachesNoNumber, ReachesN
 
 use crate::elements::subscript;
 use crate::known::{KnownVectors, index_of};
-use heap_places::places::write_place;
-use heap_places::value::Value;
-use heap_places::words::{word_of_flag, word_of_int};
-use obj_layout::reference::Reference;
-use swizzle::swizzle::Swizzle;
-use text_forms::forms::Form;
+use paired_ops::heap_places::places::write_place;
+use paired_ops::heap_places::value::Value;
+use paired_ops::heap_places::words::{word_of_flag, word_of_int};
+use paired_ops::obj_layout::reference::Reference;
+use paired_ops::swizzle::swizzle::Swizzle;
+use paired_ops::text_forms::forms::Form;
 
 // One more than the greatest half of a word.
 const HALF: u64 = 1 << 32;

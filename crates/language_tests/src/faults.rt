@@ -1,11 +1,11 @@
 //! The first fault of a text, as a line of text.
 
+use parsed_texts::{TextFault, tree_of};
 use ps_base::line::Line;
 use ps_tree::fault::ParseFault;
 use row_words::parted;
 use std::alloc::Global;
 use table_rows::Buffer;
-use text_trees::{TextFault, tree_of};
 
 /// Tells the first fault of a text as its number, `@` and its line, and the token that is unexpected where one is; or `none`.
 pub fn put_fault(out: &mut Buffer, text: &[u8]) {
@@ -56,7 +56,7 @@ pub fn put_faults_at_the_limit(out: &mut Buffer, count: usize, parts: &[u8]) {
     put_fault_of_levels(out, count.saturating_add(1), parts);
 }
 
-// A text of so many levels. Its parts, which `#` stands between, are its start, the front of each level, what stands in the middle, the back of each level, and its
+// A text of so many levels. Its parts, which `#` stands between, are its start, the prefix of each level, what stands in the middle, the back of each level, and its
 // end.
 fn nested(alloc: Global, count: usize, parts: &[u8]) -> Buffer {
     let (start, parts) = parted(parts, b'#');

@@ -5,13 +5,13 @@ use ps_base::bytes::Bytes;
 use ps_base::line::Line;
 use ps_base::operator::{Operator, Relation};
 use ps_base::ty::Ty;
-use ps_symbols::kind::Operation;
 use ps_tree::build::{
     apply, arm_of, assign, bound_of, case_of, compare, elems, for_of, form_at, group_of, if_do,
     if_else, is_of, item_of, join, let_of, name_of, negation, not, part_of, plus, proc_of,
     procedure_type, repeat_of, sequence, structure_of, vector_of, vector_type, while_of, write_of,
 };
 use ps_tree::fault::ParseFault;
+use ps_tree::ps_symbols::kind::Operation;
 use ps_tree::rough::{Group, Named, Rough, RoughArm, RoughForm, RoughItem};
 use std::alloc::{AllocError, Global};
 use table_rows::Buffer;

@@ -17,11 +17,11 @@ use table_rows::{Buffer, Row, Tables};
 enum Kind {
     /// Texts, each with its tree.
     Trees,
-    /// Texts, each behind its first fault.
+    /// Texts, each after its first fault.
     Faults,
     /// The forms of the tree, each with the tree that is made.
     Forms,
-    /// Texts of one form inside itself, each behind the most levels that are read.
+    /// Texts of one form inside itself, each after the most levels that are read.
     Nestings,
     /// Texts of many levels or many links, each with its fault.
     Levels,

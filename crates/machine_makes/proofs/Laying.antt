@@ -1,10 +1,10 @@
 -- The fields of a class that were laid out, and those that are left.
 use Rattle.std.proofs.Common.{◌≡◌, ℕ, ◌<◌, ◌≤◌, true, false, List, [], ◌∷◌}
 use Rattle.std.proofs.Common.{◌++◌, length, sym, ap, ◌∙◌, append_assoc, append-nil, length-append, arith}
-use Rattle.text_forms.specs.declared.forms.Form.{Form}
-use Rattle.text_forms.specs.Forms.{forms_of, forms_from, form_here}
-use Rattle.text_forms.specs.Steps.{behind_first, is_field}
-use Rattle.text_forms.proofs.Passing.{forms-first, a_field, no_field}
+use Rattle.machine_values.specs.text_forms.declared.forms.Form.{Form}
+use Rattle.machine_values.specs.text_forms.Forms.{forms_of, forms_from, form_here}
+use Rattle.machine_values.specs.text_forms.Steps.{behind_first, is_field}
+use Rattle.machine_values.proofs.of_text_forms.Passing.{forms-first, a_field, no_field}
 
 pub none-laid : (text rest : List ℕ) → rest ≡ behind_first 40 text → forms_from true rest ≡ forms_of text
 none-laid text rest is = ap (forms_from true) is ∙ sym (forms-first text)

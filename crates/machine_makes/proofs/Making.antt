@@ -6,26 +6,26 @@ use Rattle.std.specs.declared.vec.Vec.{Vec}
 use Rattle.std.specs.declared.alloc.Global.{Global}
 use Rattle.std.proofs.lemmas.List.{take_all, drop_all, take_more, drop_more, drop-set}
 use Rattle.std.proofs.lemmas.List.{reverse-append, get_or-map, length-map, length-set, map-set, set-get_or}
-use Rattle.obj_layout.specs.declared.reference.Reference.{Reference}
-use Rattle.swizzle.specs.Heap as area
-use Rattle.text_forms.specs.declared.forms.Form.{Form}
-use Rattle.text_forms.specs.declared.forms.Form.TheVariants as form
-use Rattle.text_forms.specs.Forms.{is_number_form}
-use Rattle.heap_places.specs.declared.value.Value as code
-use Rattle.heap_places.specs.declared.value.Value.TheVariants as held
-use Rattle.heap_places.specs.Places.{IsNear}
-use Rattle.heap_places.specs.Filling.{AreNear}
-use Rattle.ps_meaning.specs.Values.{Value, Num}
-use Rattle.ps_meaning.specs.Evaluation.{kept_as}
-use Rattle.ps_stepping.specs.Config.{Config}
-use Rattle.ps_stepping.specs.Steps.{Step, Stuck, pop_num_of, pop_num, pop_ref_of}
-use Rattle.ps_stepping.specs.Objects.{pop_fields}
-use Rattle.paired_ops.specs.Operands.{IsForIn, IsOfForm, AreForIn}
-use Rattle.machine_state.specs.declared.machine.Machine.{Machine}
-use Rattle.machine_state.specs.Holding.{HeldBy, IsHolding, IsSound, most_values}
-use Rattle.machine_state.proofs.Rows.{row_length}
-use Rattle.machine_state.proofs.Popping.{refs_taken}
-use Rattle.machine_state.specs.inside.Taking.{PopsNum}
+use Rattle.machine_values.specs.obj_layout.declared.reference.Reference.{Reference}
+use Rattle.machine_values.specs.swizzle.Heap as area
+use Rattle.machine_values.specs.text_forms.declared.forms.Form.{Form}
+use Rattle.machine_values.specs.text_forms.declared.forms.Form.TheVariants as form
+use Rattle.machine_values.specs.text_forms.Forms.{is_number_form}
+use Rattle.machine_values.specs.heap_places.declared.value.Value as code
+use Rattle.machine_values.specs.heap_places.declared.value.Value.TheVariants as held
+use Rattle.machine_values.specs.heap_places.Places.{IsNear}
+use Rattle.machine_values.specs.heap_places.Filling.{AreNear}
+use Rattle.machine_values.specs.ps_meaning.Values.{Value, Num}
+use Rattle.machine_values.specs.ps_meaning.Evaluation.{kept_as}
+use Rattle.machine_values.specs.ps_stepping.Config.{Config}
+use Rattle.machine_values.specs.ps_stepping.Steps.{Step, Stuck, pop_num_of, pop_num, pop_ref_of}
+use Rattle.machine_values.specs.ps_stepping.Objects.{pop_fields}
+use Rattle.machine_values.specs.paired_ops.Operands.{IsForIn, IsOfForm, AreForIn}
+use Rattle.machine_values.specs.machine_state.declared.machine.Machine.{Machine}
+use Rattle.machine_values.specs.machine_state.Holding.{HeldBy, IsHolding, IsSound, most_values}
+use Rattle.machine_values.proofs.of_machine_state.Rows.{row_length}
+use Rattle.machine_values.proofs.of_machine_state.Popping.{refs_taken}
+use Rattle.machine_values.specs.machine_state.inside.Taking.{PopsNum}
 use Rattle.machine_makes.specs.inside.Making.{form_of, forms_in, pop_formed, GivesFormed, PopsFormed, PopsBack, PopsFields}
 
 -- the first of some fields is popped before the others
@@ -264,6 +264,6 @@ are-near here names [] (k ∷ ks) vs are = absurd are
 are-near here names (f ∷ fs) [] vs are = absurd are
 are-near here names (f ∷ fs) (k ∷ ks) [] are = absurd are
 
--- where the machine held a configuration, it holds one behind the pops, and the values lie in its area
+-- where the machine held a configuration, it holds one after the pops, and the values lie in its area
 pub values-near : (forms : List Form) (old new : Machine) → PopsFields forms old new true → IsHolding old → AreNear new.sw new.values.items
 values-near forms old new p h = let g = p.gives h.1.names h.0 h.1.held in are-near new.sw h.1.names forms new.values.items g.1 g.4

@@ -5,33 +5,33 @@ use Rattle.std.specs.Prelude.{reverse, replicate, vec_capacity, Result}
 use Rattle.std.specs.declared.vec.Vec.{Vec}
 use Rattle.std.specs.declared.alloc.Global.{Global}
 use Rattle.std.proofs.lemmas.List.{length-replicate, reverse-append, replicate_more}
-use Rattle.obj_layout.specs.declared.reference.Reference.{Reference}
-use Rattle.swizzle.specs.Heap as area
-use Rattle.swizzle.specs.Heap.{IsHeap}
-use Rattle.swizzle.specs.Text.{text_at}
-use Rattle.text_forms.specs.declared.forms.Form.{Form}
-use Rattle.text_forms.specs.declared.forms.Form.TheVariants as form
-use Rattle.text_forms.specs.Forms.{element_of, is_number_form}
-use Rattle.heap_places.specs.declared.value.Value as code
-use Rattle.heap_places.specs.Filling.{AreNear}
-use Rattle.heap_texts.specs.declared.fault.OpFault.{OpFault}
+use Rattle.machine_values.specs.obj_layout.declared.reference.Reference.{Reference}
+use Rattle.machine_values.specs.swizzle.Heap as area
+use Rattle.machine_values.specs.swizzle.Heap.{IsHeap}
+use Rattle.machine_values.specs.swizzle.Text.{text_at}
+use Rattle.machine_values.specs.text_forms.declared.forms.Form.{Form}
+use Rattle.machine_values.specs.text_forms.declared.forms.Form.TheVariants as form
+use Rattle.machine_values.specs.text_forms.Forms.{element_of, is_number_form}
+use Rattle.machine_values.specs.heap_places.declared.value.Value as code
+use Rattle.machine_values.specs.heap_places.Filling.{AreNear}
+use Rattle.machine_values.specs.heap_texts.declared.fault.OpFault.{OpFault}
 use Rattle.ps_base.specs.declared.line.Line.{Line}
-use Rattle.ps_meaning.specs.Objects.{Heap, vector_of}
-use Rattle.ps_meaning.specs.Values.{Value, Num, Text, Vector}
-use Rattle.ps_meaning.specs.Evaluation.{kept_as, kept_elements}
-use Rattle.ps_stepping.specs.Config.{Config}
-use Rattle.ps_stepping.specs.Steps.{Step, pop_num, pop_num_of, pop_ref_of, attempted}
-use Rattle.ps_stepping.specs.Objects.{pop_fields, pop_nums, pop_refs, make, when_number, when_reference, list_num, list_ref}
-use Rattle.paired_ops.specs.World.{IsWorld, DenotesIn, Makes}
-use Rattle.paired_ops.specs.Operands.{AreForIn}
-use Rattle.machine_state.specs.declared.machine.Machine.{Machine}
-use Rattle.machine_state.specs.declared.stepped.Stepped.{Stepped}
-use Rattle.machine_state.specs.declared.stepped.Stepped.TheVariants.{Damaged}
-use Rattle.machine_state.specs.Holding.{IsHolding, IsSound, most_values}
-use Rattle.machine_state.specs.Stepped.{Takes}
-use Rattle.machine_state.specs.inside.Taking.{PopsNum}
+use Rattle.machine_values.specs.ps_meaning.Objects.{Heap, vector_of}
+use Rattle.machine_values.specs.ps_meaning.Values.{Value, Num, Text, Vector}
+use Rattle.machine_values.specs.ps_meaning.Evaluation.{kept_as, kept_elements}
+use Rattle.machine_values.specs.ps_stepping.Config.{Config}
+use Rattle.machine_values.specs.ps_stepping.Steps.{Step, pop_num, pop_num_of, pop_ref_of, attempted}
+use Rattle.machine_values.specs.ps_stepping.Objects.{pop_fields, pop_nums, pop_refs, make, when_number, when_reference, list_num, list_ref}
+use Rattle.machine_values.specs.paired_ops.World.{IsWorld, DenotesIn, Makes}
+use Rattle.machine_values.specs.paired_ops.Operands.{AreForIn}
+use Rattle.machine_values.specs.machine_state.declared.machine.Machine.{Machine}
+use Rattle.machine_values.specs.machine_state.declared.stepped.Stepped.{Stepped}
+use Rattle.machine_values.specs.machine_state.declared.stepped.Stepped.TheVariants.{Damaged}
+use Rattle.machine_values.specs.machine_state.Holding.{IsHolding, IsSound, most_values}
+use Rattle.machine_values.specs.machine_state.Stepped.{Takes}
+use Rattle.machine_values.specs.machine_state.inside.Taking.{PopsNum}
 use Rattle.machine_values.specs.Constants.{ReadsConstant}
-use Rattle.machine_values.specs.Giving.{GivesObject}
+use Rattle.machine_values.specs.Giving.{GivesObject, vectors}
 use Rattle.machine_makes.specs.inside.Making.{form_of, forms_in, make_list, MakesList, PopsFields}
 use Rattle.machine_values.proofs.ConstantReads.{constant-then}
 use Rattle.machine_values.proofs.Ending.{comes-behind, denoted-there}
@@ -123,7 +123,7 @@ module _ (ty n : ℕ) (f : Form) (line : Line) (old : Machine) (w : Vec code.Val
             (attempted line (vector_of text low g.1) (λ object. make Vector object i.0)) (l.taken.area ∙ q.area)
             (elements-popped c (then-low text line) ∙ g.2 (then-low text line)
             ∙ i.1 (λ z e. attempted line (vector_of text z g.1) (λ object. make Vector object e)))
-            (give.does last.sw names i.0 Vector (vector_of text low g.1) i.2
+            (give.does last.sw names i.0 Vector (vector_of text low g.1) vectors i.2
             (did heap names text g.1 i.2.world (denoted-there old.sw last.sw names (Some ty) (Text text) (l.taken.area ∙ q.area) d) are));
       }
 

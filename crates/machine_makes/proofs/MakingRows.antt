@@ -1,48 +1,48 @@
 -- Structures of a known class, made at once of the tops of the stacks.
 use Rattle.std.proofs.Common.{◌≡◌, ℕ, suc, ◌+◌, ◌<◌, ◌≤◌, ℤ, List, [], ◌∷◌, ◌++◌, length, reverse, take, drop, Option, Some, None, refl, sym, ap, ◌∙◌, subst, arith, append-nil, length-drop}
 use Rattle.std.specs.Prelude.{Result, Ok, Err, OnOk}
-use Rattle.frame_stack.specs.Frames.{Frames}
+use Rattle.machine_values.specs.frame_stack.Frames.{Frames}
 use Rattle.ps_base.specs.CodeUnit.{ConstantView}
 use Rattle.ps_base.specs.declared.line.Line.{Line}
-use Rattle.obj_layout.specs.declared.kind.Kind.TheVariants as kind
-use Rattle.obj_layout.specs.declared.reference.Reference.{Reference}
-use Rattle.swizzle.specs.declared.fault.SwizzleFault.{SwizzleFault}
-use Rattle.swizzle.specs.Heap as area
-use Rattle.swizzle.specs.Heap.{IsHeap}
-use Rattle.swizzle.specs.Text.{text_at}
-use Rattle.text_forms.specs.declared.forms.Form.{Form}
-use Rattle.text_forms.specs.declared.forms.Rows.{Rows}
-use Rattle.text_forms.specs.Forms.{forms_of, rows_of}
-use Rattle.heap_texts.specs.declared.fault.OpFault.{OpFault}
-use Rattle.heap_texts.specs.declared.fault.OpFault.TheVariants as op
-use Rattle.heap_places.specs.declared.value.Value as code
-use Rattle.heap_places.specs.Filling.{refs_of, words_of, filled, filled_words, Fills, AreNear}
-use Rattle.ps_meaning.specs.Texts.{Yields}
-use Rattle.ps_meaning.specs.Objects.{Structure}
-use Rattle.ps_meaning.specs.Values.{Value, Pointer, Text}
-use Rattle.ps_stepping.specs.Config.{Config, constants_in}
-use Rattle.ps_stepping.specs.Steps.{Step, text_in}
-use Rattle.ps_stepping.specs.Objects.{pop_fields, make, make_structure}
-use Rattle.paired_ops.specs.World.{IsWorld, DenotesIn, Makes}
-use Rattle.paired_ops.specs.Operands.{AreForIn}
-use Rattle.paired_ops.proofs.ValueLaws.{denotes-text}
-use Rattle.paired_ops.proofs.MadeLaws.{makes-structure}
-use Rattle.paired_ops.proofs.TextLaws.{full-short}
-use Rattle.heap_places.proofs.FillingLaws.{rows-length}
-use Rattle.known_classes.specs.Made.{AreMarked}
-use Rattle.text_forms.specs.declared.forms.Form.TheVariants as form
-use Rattle.proc_values.specs.Loaded.{constant_numbered}
-use Rattle.known_classes.specs.declared.makes.KnownMake.{KnownMake}
-use Rattle.machine_state.specs.declared.machine.Machine.{Machine}
-use Rattle.machine_state.specs.declared.stepped.Stepped.{Stepped}
-use Rattle.machine_state.specs.declared.stepped.Stepped.TheVariants.{Damaged}
-use Rattle.machine_state.specs.Holding.{HeldBy, IsHolding, IsSound, IsRow, IsRefRow, AreDenoted}
-use Rattle.machine_state.specs.Stepped.{Takes, Does}
-use Rattle.machine_state.proofs.Rows.{row_length}
-use Rattle.machine_state.proofs.RefRows.{ref_length}
-use Rattle.machine_state.specs.Holding.{HeldIn}
-use Rattle.machine_state.specs.Waiting.{AreWaiting}
-use Rattle.machine_values.specs.Giving.{GivesObject}
+use Rattle.machine_values.specs.obj_layout.declared.kind.Kind.TheVariants as kind
+use Rattle.machine_values.specs.obj_layout.declared.reference.Reference.{Reference}
+use Rattle.machine_values.specs.swizzle.declared.fault.SwizzleFault.{SwizzleFault}
+use Rattle.machine_values.specs.swizzle.Heap as area
+use Rattle.machine_values.specs.swizzle.Heap.{IsHeap}
+use Rattle.machine_values.specs.swizzle.Text.{text_at}
+use Rattle.machine_values.specs.text_forms.declared.forms.Form.{Form}
+use Rattle.machine_values.specs.text_forms.declared.forms.Rows.{Rows}
+use Rattle.machine_values.specs.text_forms.Forms.{forms_of, rows_of}
+use Rattle.machine_values.specs.heap_texts.declared.fault.OpFault.{OpFault}
+use Rattle.machine_values.specs.heap_texts.declared.fault.OpFault.TheVariants as op
+use Rattle.machine_values.specs.heap_places.declared.value.Value as code
+use Rattle.machine_values.specs.heap_places.Filling.{refs_of, words_of, filled, filled_words, Fills, AreNear}
+use Rattle.machine_values.specs.ps_meaning.Texts.{Yields}
+use Rattle.machine_values.specs.ps_meaning.Objects.{Structure}
+use Rattle.machine_values.specs.ps_meaning.Values.{Value, Pointer, Text}
+use Rattle.machine_values.specs.ps_stepping.Config.{Config, constants_in}
+use Rattle.machine_values.specs.ps_stepping.Steps.{Step, text_in}
+use Rattle.machine_values.specs.ps_stepping.Objects.{pop_fields, make, make_structure}
+use Rattle.machine_values.specs.paired_ops.World.{IsWorld, DenotesIn, Makes}
+use Rattle.machine_values.specs.paired_ops.Operands.{AreForIn}
+use Rattle.machine_values.proofs.of_paired_ops.ValueLaws.{denotes-text}
+use Rattle.machine_values.proofs.of_paired_ops.MadeLaws.{makes-structure}
+use Rattle.machine_values.proofs.of_paired_ops.TextLaws.{full-short}
+use Rattle.machine_values.proofs.of_heap_places.FillingLaws.{rows-length}
+use Rattle.machine_values.specs.known_classes.Made.{AreMarked}
+use Rattle.machine_values.specs.text_forms.declared.forms.Form.TheVariants as form
+use Rattle.machine_values.specs.proc_values.Loaded.{constant_numbered}
+use Rattle.machine_values.specs.known_classes.declared.makes.KnownMake.{KnownMake}
+use Rattle.machine_values.specs.machine_state.declared.machine.Machine.{Machine}
+use Rattle.machine_values.specs.machine_state.declared.stepped.Stepped.{Stepped}
+use Rattle.machine_values.specs.machine_state.declared.stepped.Stepped.TheVariants.{Damaged}
+use Rattle.machine_values.specs.machine_state.Holding.{HeldBy, IsHolding, IsSound, IsRow, IsRefRow, AreDenoted}
+use Rattle.machine_values.specs.machine_state.Stepped.{Takes, Does}
+use Rattle.machine_values.proofs.of_machine_state.Rows.{row_length}
+use Rattle.machine_values.proofs.of_machine_state.RefRows.{ref_length}
+use Rattle.machine_values.specs.machine_state.Holding.{HeldIn}
+use Rattle.machine_values.specs.machine_state.Waiting.{AreWaiting}
+use Rattle.machine_values.specs.Giving.{GivesObject, structures}
 use Rattle.machine_values.specs.Constants.{KnowsMake}
 use Rattle.machine_makes.specs.inside.Rows.{row_values, named, AreInts, whole_of}
 use Rattle.machine_values.proofs.ConstantReads.{text-known}
@@ -53,12 +53,12 @@ use Rattle.machine_makes.proofs.RowLaws.{codes, means, same-refs, same-words, ar
 filled-same : (class : ℕ) (xs ys : List code.Value) → refs_of xs ≡ refs_of ys → words_of xs ≡ words_of ys → filled kind.Structure class None xs ≡ filled kind.Structure class None ys
 unfolding filled
 filled-same class xs ys refs words =
-    ap (λ (rs : List Reference). record (Rattle.swizzle.specs.Heap.blank kind.Structure (1 + length rs) (1 + length (words_of xs)) 0) {
-      refs = Rattle.obj_layout.specs.declared.reference.Reference.TheVariants.Local class ∷ rs;
+    ap (λ (rs : List Reference). record (Rattle.machine_values.specs.swizzle.Heap.blank kind.Structure (1 + length rs) (1 + length (words_of xs)) 0) {
+      refs = Rattle.machine_values.specs.obj_layout.declared.reference.Reference.TheVariants.Local class ∷ rs;
       nums = 0 ∷ words_of xs;
     }) refs
-    ∙ ap (λ (ns : List ℕ). record (Rattle.swizzle.specs.Heap.blank kind.Structure (1 + length (refs_of ys)) (1 + length ns) 0) {
-      refs = Rattle.obj_layout.specs.declared.reference.Reference.TheVariants.Local class ∷ refs_of ys;
+    ∙ ap (λ (ns : List ℕ). record (Rattle.machine_values.specs.swizzle.Heap.blank kind.Structure (1 + length (refs_of ys)) (1 + length ns) 0) {
+      refs = Rattle.machine_values.specs.obj_layout.declared.reference.Reference.TheVariants.Local class ∷ refs_of ys;
       nums = 0 ∷ ns;
     }) words
 
@@ -68,17 +68,17 @@ wanted-same xs ys refs words = ap (λ (rs : List Reference). 4 + (1 + length rs)
 
 fills-same : (old new : area.Heap) (class : ℕ) (xs ys : List code.Value) (r : Result ℕ SwizzleFault) → refs_of xs ≡ refs_of ys → words_of xs ≡ words_of ys
     → Fills old new kind.Structure class None xs r → Fills old new kind.Structure class None ys r
-fills-same old new class xs ys (Ok at) refs words f = subst (λ (o : Rattle.swizzle.specs.Objects.Object). Rattle.swizzle.specs.Heap.IsMade old new at o) (filled-same class xs ys refs words) f
+fills-same old new class xs ys (Ok at) refs words f = subst (λ (o : Rattle.machine_values.specs.swizzle.Objects.Object). Rattle.machine_values.specs.swizzle.Heap.IsMade old new at o) (filled-same class xs ys refs words) f
 fills-same old new class xs ys (Err fault) refs words f =
-    subst (λ (n : ℕ). Rattle.swizzle.specs.Heap.IsFull old new (Rattle.heap_texts.specs.Texts.wanted_of n) fault) (wanted-same xs ys refs words) f
+    subst (λ (n : ℕ). Rattle.machine_values.specs.swizzle.Heap.IsFull old new (Rattle.machine_values.specs.heap_texts.Texts.wanted_of n) fault) (wanted-same xs ys refs words) f
 
-full-of : (old new : area.Heap) (of : Rattle.ps_meaning.specs.Objects.Heap) (names : List Reference) (cs : List code.Value) (bytes : List ℕ) (vs : List Value) (fault : SwizzleFault)
+full-of : (old new : area.Heap) (of : Rattle.machine_values.specs.ps_meaning.Objects.Heap) (names : List Reference) (cs : List code.Value) (bytes : List ℕ) (vs : List Value) (fault : SwizzleFault)
     → Fills old new kind.Structure 0 None cs (Err fault) → length cs ≡ length vs → Makes old new of names Pointer (Yields (Structure bytes vs)) (Err (op.Swizzle fault))
 unfolding filled_words
 full-of old new of names cs bytes vs fault full long = (
   Structure bytes vs,
   refl,
-  full-short old new (filled_words None cs) (Rattle.ps_meaning.specs.Weights.own_weight (Structure bytes vs)) fault full (omega (arith, rows-length cs, long)),
+  full-short old new (filled_words None cs) (Rattle.machine_values.specs.ps_meaning.Weights.own_weight (Structure bytes vs)) fault full (omega (arith, rows-length cs, long)),
 )
 
 codes-long : (fs : List Form) (xs : List ℤ) (ys : List ℕ) (vs : List Value) → (rows_of fs).nums ≡ length xs → (rows_of fs).refs ≡ length ys → length ys ≡ length vs
@@ -93,8 +93,8 @@ codes-long (form.Number ∷ fs) [] ys vs n w v = absurd (omega (arith, n))
 codes-long (form.Flag ∷ fs) (x ∷ xs) ys vs n w v = ap suc (codes-long fs xs ys vs (omega (arith, n)) w v)
 codes-long (form.Flag ∷ fs) [] ys vs n w v = absurd (omega (arith, n))
 
-makes-of : (old new : area.Heap) (of : Rattle.ps_meaning.specs.Objects.Heap) (names : List Reference) (class : ℕ) (fs : List Form) (bits : ℕ) (xs : List ℤ) (ys : List ℕ) (vs : List Value)
-    (bytes : List ℕ) (r : Result ℕ SwizzleFault) → IsHeap old → Rattle.swizzle.specs.Heap.IsHeld old class → OnOk r (AreInts xs) → AreDenoted old names ys vs
+makes-of : (old new : area.Heap) (of : Rattle.machine_values.specs.ps_meaning.Objects.Heap) (names : List Reference) (class : ℕ) (fs : List Form) (bits : ℕ) (xs : List ℤ) (ys : List ℕ) (vs : List Value)
+    (bytes : List ℕ) (r : Result ℕ SwizzleFault) → IsHeap old → Rattle.machine_values.specs.swizzle.Heap.IsHeld old class → OnOk r (AreInts xs) → AreDenoted old names ys vs
     → (rows_of fs).nums ≡ length xs → (rows_of fs).refs ≡ length ys → AreMarked bits fs → Fills old new kind.Structure class None (row_values bits xs ys) r → IsWorld old of names
     → DenotesIn old names (Some class) (Text bytes) → forms_of bytes ≡ fs → Makes old new of names Pointer (Yields (Structure bytes (means fs xs vs))) (whole_of r)
 makes-of old new of names class fs bits xs ys vs bytes (Ok at) heap held ints denoted n w marked f world d same =
@@ -156,7 +156,7 @@ module _ (k : ℕ) (m : Machine) (known : KnownMake) (knows : KnowsMake k m know
       abbrev popped : Machine
       popped = record m { sw = now; nums = left_nums; refs = left_refs }
 
-      -- the machine stood for this configuration behind the pops, but for its area
+      -- the machine stood for this configuration after the pops, but for its area
       stands-behind : (names : List Reference) (c : Config) (nums : List ℤ) (refs : List Value) → HeldBy names m c
           → IsRow (take i m.nums.own) m.frame.nums nums c.locals.nums → IsRefRow m.sw names (take j m.refs.own) m.frame.refs refs c.locals.refs
           → HeldIn m.sw names popped (record c { nums = nums; refs = refs })
@@ -206,7 +206,7 @@ module _ (k : ℕ) (m : Machine) (known : KnownMake) (knows : KnowsMake k m know
           ∙ ap (λ (us : List Value). next us d) (append-nil vs) in
           let made_of = makes-of m.sw now c.store.heap names known.text (forms_of class) bits xs ys tops.tops class made heap is.class.held ints tops.are n w is.marked fills
           h.world (denotes-text m.sw names known.text class is.class.held is.class.kind refl) refl in
-          let g = give.does m.sw names d Pointer (Yields (Structure class vs)) (stands-behind names c left.0 tops.rest h left.2 tops.row)
+          let g = give.does m.sw names d Pointer (Yields (Structure class vs)) structures (stands-behind names c left.0 tops.rest h left.2 tops.row)
           (subst (λ (x : Result ℕ OpFault). Makes m.sw now c.store.heap names Pointer (Yields (Structure class vs)) x) (sym same_whole) made_of) in (
             g.0,
             subst (λ (s : Step). Does s r new) (sym (named-class names c h ∙ pops)) g.1,

@@ -4,31 +4,31 @@ use Rattle.std.specs.Prelude.{reverse, vec_capacity, Result}
 use Rattle.std.specs.declared.vec.Vec.{Vec}
 use Rattle.std.specs.declared.alloc.Global.{Global}
 use Rattle.std.proofs.lemmas.List.{length-reverse}
-use Rattle.obj_layout.specs.declared.reference.Reference.{Reference}
-use Rattle.swizzle.specs.Heap as area
-use Rattle.swizzle.specs.Heap.{IsHeap}
-use Rattle.swizzle.specs.Text.{text_at}
-use Rattle.text_forms.specs.declared.forms.Form.{Form}
-use Rattle.text_forms.specs.Forms.{forms_of}
-use Rattle.heap_places.specs.declared.value.Value as code
-use Rattle.heap_texts.specs.declared.fault.OpFault.{OpFault}
+use Rattle.machine_values.specs.obj_layout.declared.reference.Reference.{Reference}
+use Rattle.machine_values.specs.swizzle.Heap as area
+use Rattle.machine_values.specs.swizzle.Heap.{IsHeap}
+use Rattle.machine_values.specs.swizzle.Text.{text_at}
+use Rattle.machine_values.specs.text_forms.declared.forms.Form.{Form}
+use Rattle.machine_values.specs.text_forms.Forms.{forms_of}
+use Rattle.machine_values.specs.heap_places.declared.value.Value as code
+use Rattle.machine_values.specs.heap_texts.declared.fault.OpFault.{OpFault}
 use Rattle.ps_base.specs.declared.line.Line.{Line}
-use Rattle.ps_meaning.specs.Texts.{Yields}
-use Rattle.ps_meaning.specs.Objects.{Heap, Structure}
-use Rattle.ps_meaning.specs.Values.{Value, Text, Pointer}
-use Rattle.ps_stepping.specs.Config.{Config}
-use Rattle.ps_stepping.specs.Steps.{Step}
-use Rattle.ps_stepping.specs.Objects.{pop_fields, make, make_structure}
-use Rattle.paired_ops.specs.World.{IsWorld, DenotesIn, Makes}
-use Rattle.paired_ops.specs.Operands.{AreForIn}
-use Rattle.paired_ops.proofs.ValueLaws.{text-denoted}
-use Rattle.machine_state.specs.declared.machine.Machine.{Machine}
-use Rattle.machine_state.specs.declared.stepped.Stepped.{Stepped}
-use Rattle.machine_state.specs.declared.stepped.Stepped.TheVariants.{Damaged}
-use Rattle.machine_state.specs.Holding.{IsHolding, IsSound, most_values}
-use Rattle.machine_state.specs.Stepped.{Takes}
+use Rattle.machine_values.specs.ps_meaning.Texts.{Yields}
+use Rattle.machine_values.specs.ps_meaning.Objects.{Heap, Structure}
+use Rattle.machine_values.specs.ps_meaning.Values.{Value, Text, Pointer}
+use Rattle.machine_values.specs.ps_stepping.Config.{Config}
+use Rattle.machine_values.specs.ps_stepping.Steps.{Step}
+use Rattle.machine_values.specs.ps_stepping.Objects.{pop_fields, make, make_structure}
+use Rattle.machine_values.specs.paired_ops.World.{IsWorld, DenotesIn, Makes}
+use Rattle.machine_values.specs.paired_ops.Operands.{AreForIn}
+use Rattle.machine_values.proofs.of_paired_ops.ValueLaws.{text-denoted}
+use Rattle.machine_values.specs.machine_state.declared.machine.Machine.{Machine}
+use Rattle.machine_values.specs.machine_state.declared.stepped.Stepped.{Stepped}
+use Rattle.machine_values.specs.machine_state.declared.stepped.Stepped.TheVariants.{Damaged}
+use Rattle.machine_values.specs.machine_state.Holding.{IsHolding, IsSound, most_values}
+use Rattle.machine_values.specs.machine_state.Stepped.{Takes}
 use Rattle.machine_values.specs.Constants.{ReadsConstant}
-use Rattle.machine_values.specs.Giving.{GivesObject}
+use Rattle.machine_values.specs.Giving.{GivesObject, structures}
 use Rattle.machine_makes.specs.inside.Making.{form_of, forms_in, PopsFields}
 use Rattle.machine_values.proofs.ConstantReads.{constant-then}
 use Rattle.machine_values.proofs.Ending.{comes-behind, denoted-there}
@@ -100,5 +100,5 @@ module _ (k class : ℕ) (old mid : Machine) (w : Vec code.Value Global) (p : Re
         (subst (λ (xs : List code.Value). AreForIn popped.sw names (forms_in laid) xs g.1) (sym same) g.4) in
         comes-behind r mid.sw popped.sw new (then-made c text) (make Pointer (Structure text g.1) g.0) q.area
         (then-popped names text d c ∙ g.2 (λ fields e. make Pointer (Structure text fields) e))
-        (give.does popped.sw names g.0 Pointer (Yields (Structure text g.1)) g.3
+        (give.does popped.sw names g.0 Pointer (Yields (Structure text g.1)) structures g.3
         (did heap names text g.1 g.3.world (denoted-there mid.sw popped.sw names (Some class) (Text text) q.area d) are)))

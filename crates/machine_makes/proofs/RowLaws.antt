@@ -2,27 +2,27 @@
 use Rattle.std.proofs.Common.{◌≡◌, ℕ, zero, suc, ◌/◌, ◌%◌, ◌<◌, ◌≤◌, ◌==◌, true, false, ℤ, List, [], ◌∷◌, ◌++◌, length, reverse, take, drop, Some, refl, sym, ap, ◌∙◌, subst, arith, append_assoc, append-nil}
 use Rattle.std.specs.Prelude.{if◌then◌else◌}
 use Rattle.std.proofs.lemmas.List.{reverse-append, reverse-reverse, drop-append-le, take-append-drop, get_or-take, length-take-le}
-use Rattle.obj_layout.specs.declared.reference.Reference.{Reference}
-use Rattle.swizzle.specs.Heap as area
-use Rattle.swizzle.specs.Heap.{reference_to}
-use Rattle.text_forms.specs.declared.forms.Form.{Form}
-use Rattle.text_forms.specs.declared.forms.Form.TheVariants as form
-use Rattle.text_forms.specs.declared.forms.Rows.{Rows}
-use Rattle.text_forms.specs.Forms.{rows_of, one_more}
-use Rattle.text_forms.proofs.Places.{rows_of-last}
-use Rattle.heap_places.specs.declared.value.Value as code
-use Rattle.heap_places.specs.declared.value.Value.TheVariants as held
-use Rattle.heap_places.specs.Words.{int_word, flag_word}
-use Rattle.heap_places.specs.Filling.{refs_of, words_of, AreNear}
-use Rattle.ps_meaning.specs.Values.{Value, Num, is_one}
-use Rattle.ps_meaning.specs.Evaluation.{kept_as}
-use Rattle.ps_stepping.specs.Config.{Config}
-use Rattle.ps_stepping.specs.Steps.{Step, Stuck, pop_num_of, pop_ref_of}
-use Rattle.ps_stepping.specs.Objects.{pop_fields}
-use Rattle.paired_ops.specs.World.{DenotesIn}
-use Rattle.paired_ops.specs.Operands.{AreForIn}
-use Rattle.known_classes.specs.Made.{AreMarked}
-use Rattle.machine_state.specs.Holding.{object_in, AreDenoted, IsRow, IsRefRow}
+use Rattle.machine_values.specs.obj_layout.declared.reference.Reference.{Reference}
+use Rattle.machine_values.specs.swizzle.Heap as area
+use Rattle.machine_values.specs.swizzle.Heap.{reference_to}
+use Rattle.machine_values.specs.text_forms.declared.forms.Form.{Form}
+use Rattle.machine_values.specs.text_forms.declared.forms.Form.TheVariants as form
+use Rattle.machine_values.specs.text_forms.declared.forms.Rows.{Rows}
+use Rattle.machine_values.specs.text_forms.Forms.{rows_of, one_more}
+use Rattle.machine_values.proofs.of_text_forms.Places.{rows_of-last}
+use Rattle.machine_values.specs.heap_places.declared.value.Value as code
+use Rattle.machine_values.specs.heap_places.declared.value.Value.TheVariants as held
+use Rattle.machine_values.specs.heap_places.Words.{int_word, flag_word}
+use Rattle.machine_values.specs.heap_places.Filling.{refs_of, words_of, AreNear}
+use Rattle.machine_values.specs.ps_meaning.Values.{Value, Num, is_one}
+use Rattle.machine_values.specs.ps_meaning.Evaluation.{kept_as}
+use Rattle.machine_values.specs.ps_stepping.Config.{Config}
+use Rattle.machine_values.specs.ps_stepping.Steps.{Step, Stuck, pop_num_of, pop_ref_of}
+use Rattle.machine_values.specs.ps_stepping.Objects.{pop_fields}
+use Rattle.machine_values.specs.paired_ops.World.{DenotesIn}
+use Rattle.machine_values.specs.paired_ops.Operands.{AreForIn}
+use Rattle.machine_values.specs.known_classes.Made.{AreMarked}
+use Rattle.machine_values.specs.machine_state.Holding.{object_in, AreDenoted, IsRow, IsRefRow}
 use Rattle.machine_makes.specs.inside.Rows.{kept, kept_one, named, row_values, AreInts}
 
 -- the values in code of fields of these forms, taken from the two rows

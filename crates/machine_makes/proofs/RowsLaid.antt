@@ -1,24 +1,24 @@
--- Rows of a new structure that are laid one behind the other.
+-- Rows of a new structure that are laid one after the other.
 use Rattle.std.proofs.Common.{◌≡◌, ℕ, suc, ◌+◌, ◌-◌, ◌/◌, ◌%◌, ◌^◌, ◌<◌, ◌≤◌, ◌==◌, true, false, ℤ, List, [], ◌∷◌, ◌++◌, length, drop, get_or, slice_index_or, Option, Some, None, refl, sym, ap, ◌∙◌, subst, arith, add-one, drop-cons}
 use Rattle.std.specs.Prelude.{if◌then◌else◌, Ok, Err}
 use Rattle.std.proofs.Common.{inl, inr}
 use Rattle.std.proofs.lemmas.Bool.{cases_lt}
 use Rattle.std.proofs.lemmas.List.{get_or_default}
-use Rattle.obj_layout.specs.declared.kind.Kind.TheVariants as kind
-use Rattle.obj_layout.specs.declared.reference.Reference.TheVariants.{Local}
-use Rattle.swizzle.specs.declared.fault.SwizzleFault.{SwizzleFault}
-use Rattle.swizzle.specs.Objects.{Object}
-use Rattle.swizzle.specs.Heap.{Heap, IsHeld, IsMade, IsFull, Stands, header_at, with_num, with_ref, reference_to, blank}
-use Rattle.text_forms.specs.declared.forms.Rows.{Rows}
-use Rattle.heap_places.specs.declared.value.Value as code
-use Rattle.heap_places.specs.declared.value.Value.TheVariants as held
-use Rattle.heap_places.specs.Places.{with_value}
-use Rattle.heap_places.specs.Filling.{refs_of, words_of, Fills, AreNear}
-use Rattle.heap_places.specs.inside.Laying.{index_in, behind, rows_in, roomy, with_values}
-use Rattle.heap_places.proofs.FillingLaws.{IsLaying, rows-length, laying-more, filled-made, full-roomy, roomy-held, roomy-no_low}
-use Rattle.ps_meaning.specs.Operators.{is_int}
-use Rattle.ps_meaning.specs.Values.{is_one}
-use Rattle.machine_state.specs.Holding.{object_in}
+use Rattle.machine_values.specs.obj_layout.declared.kind.Kind.TheVariants as kind
+use Rattle.machine_values.specs.obj_layout.declared.reference.Reference.TheVariants.{Local}
+use Rattle.machine_values.specs.swizzle.declared.fault.SwizzleFault.{SwizzleFault}
+use Rattle.machine_values.specs.swizzle.Objects.{Object}
+use Rattle.machine_values.specs.swizzle.Heap.{Heap, IsHeld, IsMade, IsFull, Stands, header_at, with_num, with_ref, reference_to, blank}
+use Rattle.machine_values.specs.text_forms.declared.forms.Rows.{Rows}
+use Rattle.machine_values.specs.heap_places.declared.value.Value as code
+use Rattle.machine_values.specs.heap_places.declared.value.Value.TheVariants as held
+use Rattle.machine_values.specs.heap_places.Places.{with_value}
+use Rattle.machine_values.specs.heap_places.Filling.{refs_of, words_of, Fills, AreNear}
+use Rattle.machine_values.specs.heap_places.inside.Laying.{index_in, behind, rows_in, roomy, with_values}
+use Rattle.machine_values.proofs.of_heap_places.FillingLaws.{IsLaying, rows-length, laying-more, filled-made, full-roomy, roomy-held, roomy-no_low}
+use Rattle.machine_values.specs.ps_meaning.Operators.{is_int}
+use Rattle.machine_values.specs.ps_meaning.Values.{is_one}
+use Rattle.machine_values.specs.machine_state.Holding.{object_in}
 use Rattle.machine_makes.specs.inside.Rows.{kept, kept_one, kept_word, named, row_values, AreInts}
 use Rattle.machine_makes.proofs.RowLaws.{named-words, named-long, kept-refs, kept-long, by-bit}
 
@@ -28,7 +28,7 @@ rows_at refs nums = record { refs = refs; nums = nums }
 
 -- a number goes into the row of numbers
 word-kept : (now : Heap) (at bits : ℕ) (z : ℤ) (r n : ℕ) → with_num now at n (kept_word bits z) ≡ with_value now at (index_in (rows_at r n) (kept_one bits z)) (kept_one bits z)
-word-kept now at bits z r n = elim (bits % 2 == 1) as (λ b. with_num now at n (if b then Rattle.heap_places.specs.Words.flag_word (is_one z) else Rattle.heap_places.specs.Words.int_word z)
+word-kept now at bits z r n = elim (bits % 2 == 1) as (λ b. with_num now at n (if b then Rattle.machine_values.specs.heap_places.Words.flag_word (is_one z) else Rattle.machine_values.specs.heap_places.Words.int_word z)
     ≡ with_value now at (index_in (rows_at r n) (if b then held.Flag (is_one z) else held.Num z)) (if b then held.Flag (is_one z) else held.Num z)) [ true ↦ refl | false ↦ refl ]
 
 behind-kept : (bits : ℕ) (z : ℤ) (r n : ℕ) → rows_at r (1 + n) ≡ behind (rows_at r n) (kept_one bits z)
@@ -155,7 +155,7 @@ module _ (start now : Heap) (at slot i : ℕ) (refs : List ℕ) (word : ℕ) (l 
   here = subst (λ (ws : List ℕ). IsLaying (with_values start at (rows_at 1 1) (named refs)) now at (rows_at slot 1) (named ws))
       (at-drop-refs refs i word below ∙ ap (λ (x : ℕ). x ∷ drop (i + 1) refs) (sym is)) l.laying
 
-  pub refs-near : Rattle.heap_places.specs.Places.IsNear now (held.Ref (object_in word))
+  pub refs-near : Rattle.machine_values.specs.heap_places.Places.IsNear now (held.Ref (object_in word))
   refs-near = here.near.0
 
   pub refs-below : slot < (header_at now at).refs

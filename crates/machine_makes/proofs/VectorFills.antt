@@ -2,30 +2,30 @@
 use Rattle.std.proofs.Common.{◌≡◌, ℕ, ℤ, List, Some, sym, ap, ◌∙◌, subst}
 use Rattle.std.specs.Prelude.{Result}
 use Rattle.ps_base.specs.declared.line.Line.{Line}
-use Rattle.obj_layout.specs.declared.reference.Reference.{Reference}
-use Rattle.text_forms.specs.declared.forms.Form.{Form}
-use Rattle.text_forms.specs.Forms.{element_of}
-use Rattle.swizzle.specs.Heap as area
-use Rattle.swizzle.specs.Heap.{IsHeap}
-use Rattle.swizzle.specs.Text.{text_at}
-use Rattle.heap_places.specs.declared.value.Value as code
-use Rattle.heap_texts.specs.declared.fault.OpFault.{OpFault}
-use Rattle.ps_meaning.specs.Objects.{Heap, filled_vector}
-use Rattle.ps_meaning.specs.Values.{Value, Text, Vector}
-use Rattle.ps_stepping.specs.Config.{Config}
-use Rattle.ps_stepping.specs.Steps.{Step, Stuck, attempted, pop_num, pop_two, with_text}
-use Rattle.ps_stepping.specs.Objects.{make}
-use Rattle.paired_ops.specs.World.{IsWorld, DenotesIn, Makes}
-use Rattle.paired_ops.specs.Operands.{IsForIn, IsOfForm}
-use Rattle.paired_ops.proofs.ValueLaws.{text-denoted}
-use Rattle.machine_state.specs.declared.machine.Machine.{Machine}
-use Rattle.machine_state.specs.declared.stepped.Stepped.{Stepped}
-use Rattle.machine_state.specs.declared.stepped.Stepped.TheVariants.{Damaged}
-use Rattle.machine_state.specs.Holding.{HeldBy, IsHolding}
-use Rattle.machine_state.specs.Stepped.{Takes}
-use Rattle.machine_state.specs.inside.Taking.{Taken}
+use Rattle.machine_values.specs.obj_layout.declared.reference.Reference.{Reference}
+use Rattle.machine_values.specs.text_forms.declared.forms.Form.{Form}
+use Rattle.machine_values.specs.text_forms.Forms.{element_of}
+use Rattle.machine_values.specs.swizzle.Heap as area
+use Rattle.machine_values.specs.swizzle.Heap.{IsHeap}
+use Rattle.machine_values.specs.swizzle.Text.{text_at}
+use Rattle.machine_values.specs.heap_places.declared.value.Value as code
+use Rattle.machine_values.specs.heap_texts.declared.fault.OpFault.{OpFault}
+use Rattle.machine_values.specs.ps_meaning.Objects.{Heap, filled_vector}
+use Rattle.machine_values.specs.ps_meaning.Values.{Value, Text, Vector}
+use Rattle.machine_values.specs.ps_stepping.Config.{Config}
+use Rattle.machine_values.specs.ps_stepping.Steps.{Step, Stuck, attempted, pop_num, pop_two, with_text}
+use Rattle.machine_values.specs.ps_stepping.Objects.{make}
+use Rattle.machine_values.specs.paired_ops.World.{IsWorld, DenotesIn, Makes}
+use Rattle.machine_values.specs.paired_ops.Operands.{IsForIn, IsOfForm}
+use Rattle.machine_values.proofs.of_paired_ops.ValueLaws.{text-denoted}
+use Rattle.machine_values.specs.machine_state.declared.machine.Machine.{Machine}
+use Rattle.machine_values.specs.machine_state.declared.stepped.Stepped.{Stepped}
+use Rattle.machine_values.specs.machine_state.declared.stepped.Stepped.TheVariants.{Damaged}
+use Rattle.machine_values.specs.machine_state.Holding.{HeldBy, IsHolding}
+use Rattle.machine_values.specs.machine_state.Stepped.{Takes}
+use Rattle.machine_values.specs.machine_state.inside.Taking.{Taken}
 use Rattle.machine_values.specs.Constants.{ReadsConstant}
-use Rattle.machine_values.specs.Giving.{GivesObject}
+use Rattle.machine_values.specs.Giving.{GivesObject, vectors}
 use Rattle.machine_values.proofs.ConstantReads.{constant-then}
 use Rattle.machine_values.proofs.Ending.{Comes, comes-behind, denoted-there}
 
@@ -42,7 +42,7 @@ other-row k ty f when next old mid p holding heap is misfits =
     constant-then k ty (λ c text. when (element_of text) (next c text)) old mid mid Damaged p holding p.sound
     (λ names c text h d. (tt, ap (λ (x : Form). when x (next c text)) (type-form mid.sw names ty text f heap is d) ∙ misfits (next c text)))
 
--- what the instruction does behind the value
+-- what the instruction does after the value
 abbrev pub filling : Line → List ℕ → Value → Config → Step
 filling line text v c = pop_two c (λ low high d. attempted line (filled_vector text low high v) (λ object. make Vector object d))
 
@@ -70,4 +70,4 @@ fill-comes line ty f popped middle last high h_place low l_place same_high same_
     (attempted line (filled_vector text low high v) (λ object. make Vector object j.0)) area_is
     (i.1 (λ b d. pop_num d (λ a e. attempted line (filled_vector text a b v) (λ object. make Vector object e)))
     ∙ j.1 (λ a e. attempted line (filled_vector text a high v) (λ object. make Vector object e)))
-    (give.does last.sw names j.0 Vector (filled_vector text low high v) j.2 made_so)
+    (give.does last.sw names j.0 Vector (filled_vector text low high v) vectors j.2 made_so)

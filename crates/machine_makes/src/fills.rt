@@ -1,20 +1,20 @@
 //! Instructions that make a vector whose elements are all the same.
-ghost use Rattle.swizzle.specs.Reading.{LeavesOutside};
-ghost use Rattle.ps_stepping.specs.Objects.{fill_num as fill_num_of, fill_ref as fill_ref_of};
-ghost use Rattle.machine_state.specs.Holding.{IsHolding, IsSound};
-ghost use Rattle.machine_state.specs.Stepped.{UnlessDamaged, Takes};
+ghost use Rattle.machine_values.specs.swizzle.Reading.{LeavesOutside};
+ghost use Rattle.machine_values.specs.ps_stepping.Objects.{fill_num as fill_num_of, fill_ref as fill_ref_of};
+ghost use Rattle.machine_values.specs.machine_state.Holding.{IsHolding, IsSound};
+ghost use Rattle.machine_values.specs.machine_state.Stepped.{UnlessDamaged, Takes};
 
-use heap_ops::shape::is_number;
-use machine_state::{Machine, Stepped};
 use machine_values::constants::text_constant;
 use machine_values::forms::kept_as;
 use machine_values::gives::give_object;
+use machine_values::heap_ops::shape::is_number;
+use machine_values::machine_state::{Machine, Stepped};
+use machine_values::obj_layout::vault::Vault;
+use machine_values::paired_ops::Value;
+use machine_values::paired_ops::vectors::make_vector;
 use machine_values::pops::{pop_any, pop_int};
-use obj_layout::vault::Vault;
-use paired_ops::Value;
-use paired_ops::vectors::make_vector;
+use machine_values::text_forms::forms::element_form;
 use ps_base::line::Line;
-use text_forms::forms::element_form;
 
 /// Pops a number, an upper bound below it and a lower bound below that, and pushes a new vector whose elements all are the number; its type is the
 /// text constant of number k. Trap Bounds where no vector has such bounds; damaged where the elements of the type are references.

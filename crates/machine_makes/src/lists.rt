@@ -1,21 +1,21 @@
 //! Vectors made of what is pushed.
-ghost use Rattle.swizzle.specs.Heap.{IsHeld};
-ghost use Rattle.swizzle.specs.Reading.{LeavesOutside};
-ghost use Rattle.ps_stepping.specs.Objects.{list_num as list_num_of, list_ref as list_ref_of};
-ghost use Rattle.machine_state.specs.Holding.{IsHolding, IsSound};
-ghost use Rattle.machine_state.specs.Stepped.{UnlessDamaged, Takes};
+ghost use Rattle.machine_values.specs.swizzle.Heap.{IsHeld};
+ghost use Rattle.machine_values.specs.swizzle.Reading.{LeavesOutside};
+ghost use Rattle.machine_values.specs.ps_stepping.Objects.{list_num as list_num_of, list_ref as list_ref_of};
+ghost use Rattle.machine_values.specs.machine_state.Holding.{IsHolding, IsSound};
+ghost use Rattle.machine_values.specs.machine_state.Stepped.{UnlessDamaged, Takes};
 ghost use Rattle.machine_makes.specs.inside.Making.{MakesList};
 
 use crate::values::{lay_elements, pop_values};
-use heap_ops::shape::is_number;
-use machine_state::stacks::pop_num;
-use machine_state::{Machine, Stepped};
 use machine_values::constants::text_constant;
 use machine_values::gives::give_object;
-use obj_layout::vault::Vault;
-use paired_ops::vectors;
+use machine_values::heap_ops::shape::is_number;
+use machine_values::machine_state::stacks::pop_num;
+use machine_values::machine_state::{Machine, Stepped};
+use machine_values::obj_layout::vault::Vault;
+use machine_values::paired_ops::vectors;
+use machine_values::text_forms::forms::{Form, element_form};
 use ps_base::line::Line;
-use text_forms::forms::{Form, element_form};
 
 /// Pops n numbers, the last first, and a lower bound below them; makes a vector of them, whose type is the text constant of number k, and pushes
 /// it. Damaged where the type's elements are references.

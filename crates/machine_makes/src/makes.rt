@@ -1,25 +1,25 @@
 //! Structures made of what is pushed.
 ghost use Rattle.std.specs.Prelude.{◌≡◌, ◌+◌, ◌<◌, ◌≤◌, ℕ, IfSome, MatchOption, OnSome, drop, length};
-ghost use Rattle.obj_layout.specs.declared.kind.Kind.TheVariants.{Text};
-ghost use Rattle.swizzle.specs.Reading.{LeavesOutside};
-ghost use Rattle.ps_stepping.specs.Objects.{make_structure as make_structure_of};
-ghost use Rattle.machine_state.specs.Holding.{IsHolding, IsSound};
-ghost use Rattle.machine_state.specs.Stepped.{UnlessDamaged, Takes};
+ghost use Rattle.machine_values.specs.obj_layout.declared.kind.Kind.TheVariants.{Text};
+ghost use Rattle.machine_values.specs.swizzle.Reading.{LeavesOutside};
+ghost use Rattle.machine_values.specs.ps_stepping.Objects.{make_structure as make_structure_of};
+ghost use Rattle.machine_values.specs.machine_state.Holding.{IsHolding, IsSound};
+ghost use Rattle.machine_values.specs.machine_state.Stepped.{UnlessDamaged, Takes};
 ghost use Rattle.machine_values.specs.Constants.{KnowsMake, ReadsConstant};
 ghost use Rattle.machine_values.specs.Popping.{IsKind};
 ghost use Rattle.machine_makes.specs.inside.Rows.{whole_of};
 
 use crate::rows::make_rows;
 use crate::values::{lay_fields, pop_values};
-use known_classes::makes::KnownMake;
-use machine_state::{Machine, Stepped};
 use machine_values::constants::text_constant;
 use machine_values::gives::give_object;
-use obj_layout::vault::Vault;
-use paired_ops::{OpFault, structures};
+use machine_values::known_classes::makes::KnownMake;
+use machine_values::machine_state::{Machine, Stepped};
+use machine_values::obj_layout::vault::Vault;
+use machine_values::paired_ops::{OpFault, structures};
+use machine_values::swizzle::fault::SwizzleFault;
+use machine_values::text_forms::forms::Rows;
 use ps_base::line::Line;
-use swizzle::fault::SwizzleFault;
-use text_forms::forms::Rows;
 
 // The line of an operation that has no trap.
 const NO_LINE: Line = Line(0);

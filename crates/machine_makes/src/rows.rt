@@ -1,18 +1,18 @@
 //! Structures made at once of the words on the tops of the two stacks.
 ghost use Rattle.std.specs.Prelude.{◌≡◌, ◌+◌, ◌<◌, ◌≤◌, ◌^◌, None, OnOk, length, true};
-ghost use Rattle.swizzle.specs.Heap.{IsHeld, Stands, header_at};
-ghost use Rattle.heap_places.specs.Filling.{AreNear, Fills};
-ghost use Rattle.heap_places.specs.inside.Laying.{with_values};
-ghost use Rattle.ps_meaning.specs.Operators.{is_int};
+ghost use Rattle.machine_values.specs.swizzle.Heap.{IsHeld, Stands, header_at};
+ghost use Rattle.machine_values.specs.heap_places.Filling.{AreNear, Fills};
+ghost use Rattle.machine_values.specs.heap_places.inside.Laying.{with_values};
+ghost use Rattle.machine_values.specs.ps_meaning.Operators.{is_int};
 ghost use Rattle.machine_makes.specs.inside.Rows.{AreInts, kept, kept_word, named, row_values};
 
-use heap_places::words::{word_of_flag, word_of_int};
-use known_classes::makes::FlagSet;
-use machine_state::jumps::is_one;
-use machine_state::stacks::object;
-use obj_layout::kind::Kind;
-use swizzle::fault::SwizzleFault;
-use swizzle::swizzle::Swizzle;
+use machine_values::heap_places::words::{word_of_flag, word_of_int};
+use machine_values::known_classes::makes::FlagSet;
+use machine_values::machine_state::jumps::is_one;
+use machine_values::machine_state::stacks::object;
+use machine_values::obj_layout::kind::Kind;
+use machine_values::swizzle::fault::SwizzleFault;
+use machine_values::swizzle::swizzle::Swizzle;
 
 /// Makes a structure of a class, which is a text, of the numbers and the references of its fields, each in their order. AreaFull exactly where there
 /// is no room for its words; then the area stays. The cost is in line with its words.
@@ -42,7 +42,7 @@ pub(crate) fn make_rows(
     Ok(made)
 }
 
-// Lays references into an object, behind its class.
+// Lays references into an object, after its class.
 #[inline(always)]
 fn lay_refs(sw: &mut Swizzle, into: u32, refs: &[u32])
     requires held { IsHeld sw.old into }
@@ -60,7 +60,7 @@ fn lay_refs(sw: &mut Swizzle, into: u32, refs: &[u32])
     }
 }
 
-// Lays numbers into an object with so many references, behind its home.
+// Lays numbers into an object with so many references, after its home.
 #[inline(always)]
 fn lay_nums(sw: &mut Swizzle, into: u32, refs: u32, flags: FlagSet, nums: &[i32])
     requires held { IsHeld sw.old into }

@@ -1,20 +1,20 @@
 //! The values that an object is made of: laid out in the machine, one of each form, and then popped into their places.
 ghost use Rattle.std.specs.Prelude.{◌≡◌, ◌≤◌, ◌<◌, ◌++◌, ◌∷◌, [], true, false, length, map, replicate, slice_index_or, vec_capacity};
-ghost use Rattle.swizzle.specs.Heap.{IsHeld, header_at};
-ghost use Rattle.swizzle.specs.Text.{text_at};
-ghost use Rattle.text_forms.specs.Forms.{forms_of};
-ghost use Rattle.heap_places.specs.declared.value.Value as code;
-ghost use Rattle.machine_state.specs.Holding.{IsSound, most_values};
+ghost use Rattle.machine_values.specs.swizzle.Heap.{IsHeld, header_at};
+ghost use Rattle.machine_values.specs.swizzle.Text.{text_at};
+ghost use Rattle.machine_values.specs.text_forms.Forms.{forms_of};
+ghost use Rattle.machine_values.specs.heap_places.declared.value.Value as code;
+ghost use Rattle.machine_values.specs.machine_state.Holding.{IsSound, most_values};
 ghost use Rattle.machine_makes.specs.inside.Making.{form_of as form_of_value, forms_in, PopsFormed, PopsFields};
 
-use machine_state::stacks::{object, pop_num, pop_ref};
-use machine_state::{MOST_VALUES, Machine};
 use machine_values::forms::kept_as;
-use obj_layout::kind::Kind;
-use paired_ops::Value;
-use swizzle::swizzle::Swizzle;
-use text_forms::forms::Form;
-use text_forms::steps::{first_field, form_here, is_field, next_field};
+use machine_values::machine_state::stacks::{object, pop_num, pop_ref};
+use machine_values::machine_state::{MOST_VALUES, Machine};
+use machine_values::obj_layout::kind::Kind;
+use machine_values::paired_ops::Value;
+use machine_values::swizzle::swizzle::Swizzle;
+use machine_values::text_forms::forms::Form;
+use machine_values::text_forms::steps::{first_field, form_here, is_field, next_field};
 
 // A value of a form.
 #[inline(always)]

@@ -2,30 +2,30 @@
 use Rattle.std.proofs.Common.{◌≡◌, ℕ, ℤ, true, false, List, Option, Some, ap, ◌∙◌, subst}
 use Rattle.std.specs.Prelude.{Result}
 use Rattle.ps_base.specs.declared.line.Line.{Line}
-use Rattle.obj_layout.specs.declared.reference.Reference.{Reference}
-use Rattle.text_forms.specs.declared.forms.Form.{Form}
-use Rattle.text_forms.specs.declared.forms.Located.{Located}
-use Rattle.text_forms.specs.Forms.{forms_of, form_in, located_in, is_number_form}
-use Rattle.swizzle.specs.Heap as area
-use Rattle.heap_places.specs.declared.value.Value as code
-use Rattle.heap_places.specs.declared.value.Value.TheVariants as held
-use Rattle.heap_texts.specs.declared.fault.OpFault.{OpFault}
-use Rattle.heap_ops.specs.Outcomes.{UnlessFault}
-use Rattle.heap_meaning.proofs.GivenLaws.{located-at}
-use Rattle.ps_meaning.specs.Evaluation.{kept_as}
-use Rattle.ps_meaning.specs.Objects.{Heap, with_field}
-use Rattle.ps_meaning.specs.Values.{Value, Text, Num}
-use Rattle.ps_stepping.specs.Config.{Config}
-use Rattle.ps_stepping.specs.Steps.{Step, attempted, pop_num, pop_ref}
-use Rattle.ps_stepping.specs.Objects.{when_number, when_reference, pop_object, changed, set_field_num, set_field_ref}
-use Rattle.paired_ops.specs.World.{IsWorld, DenotesIn, Writes}
-use Rattle.paired_ops.specs.Operands.{IsForIn}
-use Rattle.known_vectors.proofs.Lasting.{last-field}
-use Rattle.machine_state.specs.declared.machine.Machine.{Machine}
-use Rattle.machine_state.specs.declared.stepped.Stepped.{Stepped}
-use Rattle.machine_state.specs.Holding.{IsHolding}
-use Rattle.machine_state.specs.Stepped.{Takes, UnlessDamaged}
-use Rattle.machine_state.specs.inside.Taking.{Taken}
+use Rattle.machine_values.specs.obj_layout.declared.reference.Reference.{Reference}
+use Rattle.machine_values.specs.text_forms.declared.forms.Form.{Form}
+use Rattle.machine_values.specs.text_forms.declared.forms.Located.{Located}
+use Rattle.machine_values.specs.text_forms.Forms.{forms_of, form_in, located_in, is_number_form}
+use Rattle.machine_values.specs.swizzle.Heap as area
+use Rattle.machine_values.specs.heap_places.declared.value.Value as code
+use Rattle.machine_values.specs.heap_places.declared.value.Value.TheVariants as held
+use Rattle.machine_values.specs.heap_texts.declared.fault.OpFault.{OpFault}
+use Rattle.machine_values.specs.heap_ops.Outcomes.{UnlessFault}
+use Rattle.machine_values.proofs.of_heap_meaning.GivenLaws.{located-at}
+use Rattle.machine_values.specs.ps_meaning.Evaluation.{kept_as}
+use Rattle.machine_values.specs.ps_meaning.Objects.{Heap, with_field}
+use Rattle.machine_values.specs.ps_meaning.Values.{Value, Text, Num}
+use Rattle.machine_values.specs.ps_stepping.Config.{Config}
+use Rattle.machine_values.specs.ps_stepping.Steps.{Step, attempted, pop_num, pop_ref}
+use Rattle.machine_values.specs.ps_stepping.Objects.{when_number, when_reference, pop_object, changed, set_field_num, set_field_ref}
+use Rattle.machine_values.specs.paired_ops.World.{IsWorld, DenotesIn, Writes}
+use Rattle.machine_values.specs.paired_ops.Operands.{IsForIn}
+use Rattle.machine_values.proofs.of_known_vectors.Lasting.{last-field}
+use Rattle.machine_values.specs.machine_state.declared.machine.Machine.{Machine}
+use Rattle.machine_values.specs.machine_state.declared.stepped.Stepped.{Stepped}
+use Rattle.machine_values.specs.machine_state.Holding.{IsHolding}
+use Rattle.machine_values.specs.machine_state.Stepped.{Takes, UnlessDamaged}
+use Rattle.machine_values.specs.machine_state.inside.Taking.{Taken}
 use Rattle.machine_values.specs.Constants.{FindsField}
 use Rattle.machine_values.specs.Popping.{PopsObject, PopsAny}
 use Rattle.machine_values.specs.Giving.{Changes}

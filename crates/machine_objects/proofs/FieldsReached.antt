@@ -4,47 +4,47 @@ use Rattle.std.proofs.Common.{length-append, refl, sym, ap, ◌∙◌, subst, ar
 use Rattle.std.specs.Prelude.{IfSome, MatchOption}
 use Rattle.std.proofs.lemmas.List.{take_all, take_more, length-take-le}
 use Rattle.ps_base.specs.declared.line.Line.{Line}
-use Rattle.obj_layout.specs.declared.reference.Reference.{Reference}
-use Rattle.text_forms.specs.declared.forms.Form.{Form}
-use Rattle.swizzle.specs.Heap as area
-use Rattle.swizzle.specs.Heap.{IsHeap}
-use Rattle.ps_meaning.specs.Texts.{Attempt, Yields}
-use Rattle.ps_meaning.specs.Values.{Value, Num, word_of}
-use Rattle.ps_meaning.specs.Objects.{Heap}
-use Rattle.ps_meaning.specs.Evaluation.{kept_as}
-use Rattle.ps_meaning.specs.Meaning.{on_heap}
-use Rattle.ps_stepping.specs.Config.{Config}
-use Rattle.ps_stepping.specs.Steps.{Step, on, attempted, put_num, push_num, push_ref, pop_num, pop_ref, pop_num_of, pop_ref_of}
-use Rattle.ps_stepping.specs.Objects.{when_number, when_reference, changed}
-use Rattle.paired_ops.specs.World.{IsWorld, DenotesIn}
-use Rattle.machine_state.specs.declared.machine.Machine.{Machine}
-use Rattle.machine_state.specs.declared.stepped.Stepped.{Stepped}
-use Rattle.machine_state.specs.Holding.{Holds, HeldBy, IsHolding, IsSound, object_in}
-use Rattle.machine_state.specs.Stepped.{Takes, Does}
-use Rattle.machine_state.specs.inside.Taking.{HasTop, HasTwo, HasTopRef, PopsNum, PopsRef, TakesRef}
-use Rattle.machine_state.specs.declared.stepped.Stepped.TheVariants.{Quiet}
-use Rattle.machine_state.proofs.Popping.{pushes_num}
-use Rattle.machine_state.proofs.RefRows.{ref_pop}
-use Rattle.machine_state.proofs.Words.{named-back}
+use Rattle.machine_values.specs.obj_layout.declared.reference.Reference.{Reference}
+use Rattle.machine_values.specs.text_forms.declared.forms.Form.{Form}
+use Rattle.machine_values.specs.swizzle.Heap as area
+use Rattle.machine_values.specs.swizzle.Heap.{IsHeap}
+use Rattle.machine_values.specs.ps_meaning.Texts.{Attempt, Yields}
+use Rattle.machine_values.specs.ps_meaning.Values.{Value, Num, word_of}
+use Rattle.machine_values.specs.ps_meaning.Objects.{Heap}
+use Rattle.machine_values.specs.ps_meaning.Evaluation.{kept_as}
+use Rattle.machine_values.specs.ps_meaning.Meaning.{on_heap}
+use Rattle.machine_values.specs.ps_stepping.Config.{Config}
+use Rattle.machine_values.specs.ps_stepping.Steps.{Step, on, attempted, put_num, push_num, push_ref, pop_num, pop_ref, pop_num_of, pop_ref_of}
+use Rattle.machine_values.specs.ps_stepping.Objects.{when_number, when_reference, changed}
+use Rattle.machine_values.specs.paired_ops.World.{IsWorld, DenotesIn}
+use Rattle.machine_values.specs.machine_state.declared.machine.Machine.{Machine}
+use Rattle.machine_values.specs.machine_state.declared.stepped.Stepped.{Stepped}
+use Rattle.machine_values.specs.machine_state.Holding.{Holds, HeldBy, IsHolding, IsSound, object_in}
+use Rattle.machine_values.specs.machine_state.Stepped.{Takes, Does}
+use Rattle.machine_values.specs.machine_state.inside.Taking.{HasTop, HasTwo, HasTopRef, PopsNum, PopsRef, TakesRef}
+use Rattle.machine_values.specs.machine_state.declared.stepped.Stepped.TheVariants.{Quiet}
+use Rattle.machine_values.proofs.of_machine_state.Popping.{pushes_num}
+use Rattle.machine_values.proofs.of_machine_state.RefRows.{ref_pop}
+use Rattle.machine_values.proofs.of_machine_state.Words.{named-back}
 use Rattle.machine_values.specs.Reaching.{HasTwoRefs, Puts}
-use Rattle.machine_state.proofs.Carrying.{held-more, sound-kept, size-behind}
+use Rattle.machine_values.proofs.of_machine_state.Carrying.{held-more, sound-kept, size-behind}
 use Rattle.machine_values.proofs.Ending.{denoted-there}
 use Rattle.machine_values.proofs.FieldReads.{number-row, reference-row}
 use Rattle.ps_base.specs.CodeUnit.{ConstantView, ConstantsView, text}
-use Rattle.text_forms.specs.Forms.{forms_of, form_in}
-use Rattle.ps_stepping.specs.Config.{constants_in, constant_at}
-use Rattle.ps_stepping.specs.Steps.{text_in}
-use Rattle.ps_stepping.specs.Objects.{pop_object, object_of, field_num, field_ref, set_field_num, set_field_ref}
-use Rattle.ps_meaning.specs.Objects.{field_of, with_field}
-use Rattle.ps_meaning.specs.Values.{Pointer}
-use Rattle.heap_places.specs.declared.value.Value as code
-use Rattle.heap_places.specs.declared.value.Value.TheVariants as held
-use Rattle.text_forms.specs.declared.forms.Form.TheVariants as form
-use Rattle.paired_ops.specs.Operands.{IsForIn, IsOfForm}
-use Rattle.known_classes.specs.Known.{AreSo, HasConstants}
-use Rattle.known_classes.specs.Reading.{IsThere}
-use Rattle.known_classes.specs.Reached.{HasValue, PutsValue, number_kept}
-use Rattle.known_vectors.proofs.Lasting.{last-field}
+use Rattle.machine_values.specs.text_forms.Forms.{forms_of, form_in}
+use Rattle.machine_values.specs.ps_stepping.Config.{constants_in, constant_at}
+use Rattle.machine_values.specs.ps_stepping.Steps.{text_in}
+use Rattle.machine_values.specs.ps_stepping.Objects.{pop_object, object_of, field_num, field_ref, set_field_num, set_field_ref}
+use Rattle.machine_values.specs.ps_meaning.Objects.{field_of, with_field}
+use Rattle.machine_values.specs.ps_meaning.Values.{Pointer}
+use Rattle.machine_values.specs.heap_places.declared.value.Value as code
+use Rattle.machine_values.specs.heap_places.declared.value.Value.TheVariants as held
+use Rattle.machine_values.specs.text_forms.declared.forms.Form.TheVariants as form
+use Rattle.machine_values.specs.paired_ops.Operands.{IsForIn, IsOfForm}
+use Rattle.machine_values.specs.known_classes.Known.{AreSo, HasConstants}
+use Rattle.machine_values.specs.known_classes.Reading.{IsThere}
+use Rattle.machine_values.specs.known_classes.Reached.{HasValue, PutsValue, number_kept}
+use Rattle.machine_values.proofs.of_known_vectors.Lasting.{last-field}
 use Rattle.machine_objects.specs.inside.Fielding.{HasOnTop, ReadsField, number_for_one, reference_for_one, without_both, without_refs}
 use Rattle.machine_values.proofs.ConstantReads.{same-constant, constants-of}
 

@@ -1,20 +1,20 @@
 -- What is read of a vector that was popped.
 use Rattle.std.proofs.Common.{ℕ, List, Some}
 use Rattle.std.specs.Prelude.{Result}
-use Rattle.obj_layout.specs.declared.reference.Reference.{Reference}
-use Rattle.swizzle.specs.Heap as area
-use Rattle.heap_texts.specs.declared.fault.OpFault.{OpFault}
-use Rattle.heap_ops.specs.Outcomes.{UnlessFault}
-use Rattle.ps_meaning.specs.Texts.{Attempt}
-use Rattle.ps_meaning.specs.Objects.{Heap}
-use Rattle.ps_meaning.specs.Values.{Vector}
-use Rattle.paired_ops.specs.World.{IsWorld, DenotesIn, Answers}
-use Rattle.known_vectors.specs.declared.known.KnownVector.{KnownVector}
-use Rattle.known_vectors.specs.Known.{IsKnownAs}
-use Rattle.machine_state.specs.declared.machine.Machine.{Machine}
-use Rattle.machine_state.specs.declared.stepped.Stepped.{Stepped}
-use Rattle.machine_state.specs.Holding.{IsHolding}
-use Rattle.machine_state.specs.Stepped.{UnlessDamaged}
+use Rattle.machine_values.specs.obj_layout.declared.reference.Reference.{Reference}
+use Rattle.machine_values.specs.swizzle.Heap as area
+use Rattle.machine_values.specs.heap_texts.declared.fault.OpFault.{OpFault}
+use Rattle.machine_values.specs.heap_ops.Outcomes.{UnlessFault}
+use Rattle.machine_values.specs.ps_meaning.Texts.{Attempt}
+use Rattle.machine_values.specs.ps_meaning.Objects.{Heap}
+use Rattle.machine_values.specs.ps_meaning.Values.{Vector}
+use Rattle.machine_values.specs.paired_ops.World.{IsWorld, DenotesIn, Answers}
+use Rattle.machine_values.specs.known_vectors.declared.known.KnownVector.{KnownVector}
+use Rattle.machine_values.specs.known_vectors.Known.{IsKnownAs}
+use Rattle.machine_values.specs.machine_state.declared.machine.Machine.{Machine}
+use Rattle.machine_values.specs.machine_state.declared.stepped.Stepped.{Stepped}
+use Rattle.machine_values.specs.machine_state.Holding.{IsHolding}
+use Rattle.machine_values.specs.machine_state.Stepped.{UnlessDamaged}
 use Rattle.machine_values.specs.Popping.{PopsVector}
 use Rattle.machine_values.specs.Elements.{PopsKnown}
 use Rattle.machine_values.proofs.FieldReads.{read-done, unless-damaged}

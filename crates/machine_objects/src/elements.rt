@@ -1,22 +1,22 @@
 //! Instructions that write an element of a vector.
 ghost use Rattle.std.specs.Prelude.{◌≡◌};
-ghost use Rattle.swizzle.specs.Reading.{LeavesOutside};
-ghost use Rattle.ps_stepping.specs.Objects.{set_element_num as set_element_num_of, set_element_ref as set_element_ref_of};
-ghost use Rattle.machine_state.specs.Holding.{IsHolding, IsSound};
-ghost use Rattle.machine_state.specs.Stepped.{UnlessDamaged, Takes};
+ghost use Rattle.machine_values.specs.swizzle.Reading.{LeavesOutside};
+ghost use Rattle.machine_values.specs.ps_stepping.Objects.{set_element_num as set_element_num_of, set_element_ref as set_element_ref_of};
+ghost use Rattle.machine_values.specs.machine_state.Holding.{IsHolding, IsSound};
+ghost use Rattle.machine_values.specs.machine_state.Stepped.{UnlessDamaged, Takes};
 ghost use Rattle.machine_values.specs.Elements.{trap_in, trapped_in};
 
-use heap_ops::shape::is_number;
-use known_vectors::elements::{get_element, set_element};
-use machine_state::ends::trapped;
-use machine_state::{Machine, Stepped};
 use machine_values::forms::kept_as;
 use machine_values::gives::done;
+use machine_values::heap_ops::shape::is_number;
 use machine_values::known::pop_known;
+use machine_values::known_vectors::elements::{get_element, set_element};
+use machine_values::machine_state::ends::trapped;
+use machine_values::machine_state::{Machine, Stepped};
+use machine_values::obj_layout::vault::Vault;
+use machine_values::paired_ops::{OpFault, Value};
 use machine_values::pops::{pop_any, pop_int};
 use machine_values::reaching::{drop_number, drop_reference, write_number, write_reference};
-use obj_layout::vault::Vault;
-use paired_ops::{OpFault, Value};
 use ps_base::line::Line;
 
 /// Pops a number, a subscript and a vector, and writes the number as the element there. Trap Bounds for a subscript outside the vector; damaged

@@ -2,19 +2,21 @@
 //! done here; where it isn't, nothing is changed, and the instruction takes its operands from the stacks one by one.
 ghost use Rattle.std.specs.Prelude.{◌≡◌, IfSome, false, true};
 ghost use Rattle.ps_base.specs.declared.line.Line.{Line};
-ghost use Rattle.ps_stepping.specs.Config.{Config};
-ghost use Rattle.ps_stepping.specs.Objects.{field_num as field_num_of, set_field_num as set_field_num_of, set_field_ref as set_field_ref_of};
-ghost use Rattle.machine_state.specs.Holding.{Holds, IsHolding, IsSound};
-ghost use Rattle.machine_state.specs.Stepped.{Takes};
-ghost use Rattle.machine_state.specs.inside.Taking.{TakesRef};
+ghost use Rattle.machine_values.specs.ps_stepping.Config.{Config};
+ghost use Rattle.machine_values.specs.ps_stepping.Objects.{field_num as field_num_of, set_field_num as set_field_num_of, set_field_ref as set_field_ref_of};
+ghost use Rattle.machine_values.specs.machine_state.Holding.{Holds, IsHolding, IsSound};
+ghost use Rattle.machine_values.specs.machine_state.Stepped.{Takes};
+ghost use Rattle.machine_values.specs.machine_state.inside.Taking.{TakesRef};
 ghost use Rattle.machine_objects.specs.inside.Fielding.{HasOnTop, ReadsField, number_for_one, reference_for_one, without_both, without_refs};
 ghost use Rattle.machine_values.specs.Reaching.{Puts};
 
-use known_classes::reached::{set_number, set_reference, value_at};
-use machine_state::stacks::{object, pop_num, pop_ref, push_num, put_ref, top_num, top_ref};
-use machine_state::{Machine, Stepped};
+use machine_values::known_classes::reached::{set_number, set_reference, value_at};
+use machine_values::machine_state::stacks::{
+    object, pop_num, pop_ref, push_num, put_ref, top_num, top_ref,
+};
+use machine_values::machine_state::{Machine, Stepped};
+use machine_values::paired_ops::Value;
 use machine_values::reaching::top_two_refs;
-use paired_ops::Value;
 
 // The value in a field of the structure on top.
 #[inline(always)]

@@ -1,32 +1,32 @@
 //! Instructions over structures.
-ghost use Rattle.swizzle.specs.Reading.{LeavesOutside};
-ghost use Rattle.ps_meaning.specs.Values.{Nil};
-ghost use Rattle.ps_stepping.specs.Steps.{push_ref as push_ref_of};
-ghost use Rattle.ps_stepping.specs.Objects.{compare_objects as compare_objects_of, is_of_class as is_of_class_of, field_num as field_num_of, field_ref as field_ref_of, set_field_num as set_field_num_of, set_field_ref as set_field_ref_of};
-ghost use Rattle.machine_state.specs.Holding.{IsHolding, IsSound};
-ghost use Rattle.machine_state.specs.Stepped.{UnlessDamaged, Takes};
+ghost use Rattle.machine_values.specs.swizzle.Reading.{LeavesOutside};
+ghost use Rattle.machine_values.specs.ps_meaning.Values.{Nil};
+ghost use Rattle.machine_values.specs.ps_stepping.Steps.{push_ref as push_ref_of};
+ghost use Rattle.machine_values.specs.ps_stepping.Objects.{compare_objects as compare_objects_of, is_of_class as is_of_class_of, field_num as field_num_of, field_ref as field_ref_of, set_field_num as set_field_num_of, set_field_ref as set_field_ref_of};
+ghost use Rattle.machine_values.specs.machine_state.Holding.{IsHolding, IsSound};
+ghost use Rattle.machine_values.specs.machine_state.Stepped.{UnlessDamaged, Takes};
 ghost use Rattle.std.specs.Prelude.{◌≡◌};
-ghost use Rattle.ps_meaning.specs.Values as meant;
-ghost use Rattle.ps_meaning.specs.Evaluation.{object_relation};
-ghost use Rattle.ps_meaning.specs.Objects.{is_one_object};
+ghost use Rattle.machine_values.specs.ps_meaning.Values as meant;
+ghost use Rattle.machine_values.specs.ps_meaning.Evaluation.{object_relation};
+ghost use Rattle.machine_values.specs.ps_meaning.Objects.{is_one_object};
 
 use crate::fielding::{
     drop_both, drop_refs, field_number, field_reference, put_number, put_reference, write_number,
     write_reference,
 };
-use heap_ops::shape::is_number;
-use known_classes::access::{get_field, set_field};
-use machine_state::stacks::{push_num, push_ref};
-use machine_state::values::number;
-use machine_state::{Machine, Stepped};
 use machine_values::constants::{field_at, text_constant};
 use machine_values::forms::kept_as;
 use machine_values::gives::{done, give_number, give_reference};
+use machine_values::heap_ops::shape::is_number;
+use machine_values::known_classes::access::{get_field, set_field};
+use machine_values::machine_state::stacks::{push_num, push_ref};
+use machine_values::machine_state::values::number;
+use machine_values::machine_state::{Machine, Stepped};
+use machine_values::obj_layout::vault::Vault;
+use machine_values::paired_ops::Value;
+use machine_values::paired_ops::structures::is_class;
+use machine_values::paired_ops::values::is_one;
 use machine_values::pops::{pop_any, pop_denoting, pop_int, pop_object};
-use obj_layout::vault::Vault;
-use paired_ops::Value;
-use paired_ops::structures::is_class;
-use paired_ops::values::is_one;
 use ps_base::line::Line;
 use ps_base::operator::Relation;
 

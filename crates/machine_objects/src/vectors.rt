@@ -1,18 +1,18 @@
 //! Instructions over vectors.
-ghost use Rattle.swizzle.specs.Reading.{LeavesOutside};
-ghost use Rattle.ps_meaning.specs.Objects.{low_of, high_of};
-ghost use Rattle.ps_stepping.specs.Objects.{element_num as element_num_of, element_ref as element_ref_of, bound as bound_of};
-ghost use Rattle.machine_state.specs.Holding.{IsHolding, IsSound};
-ghost use Rattle.machine_state.specs.Stepped.{UnlessDamaged, Takes};
+ghost use Rattle.machine_values.specs.swizzle.Reading.{LeavesOutside};
+ghost use Rattle.machine_values.specs.ps_meaning.Objects.{low_of, high_of};
+ghost use Rattle.machine_values.specs.ps_stepping.Objects.{element_num as element_num_of, element_ref as element_ref_of, bound as bound_of};
+ghost use Rattle.machine_values.specs.machine_state.Holding.{IsHolding, IsSound};
+ghost use Rattle.machine_values.specs.machine_state.Stepped.{UnlessDamaged, Takes};
 
-use known_vectors::elements::get_element;
-use machine_state::{Machine, Stepped};
 use machine_values::gives::{give_bound, give_number, give_reference};
 use machine_values::known::pop_known;
+use machine_values::known_vectors::elements::get_element;
+use machine_values::machine_state::{Machine, Stepped};
+use machine_values::obj_layout::vault::Vault;
+use machine_values::paired_ops::vectors;
 use machine_values::pops::{pop_int, pop_vector};
 use machine_values::reaching::{put_number, put_reference, reached_number, reached_reference};
-use obj_layout::vault::Vault;
-use paired_ops::vectors;
 use ps_base::line::Line;
 
 /// Pops a subscript and a vector, and pushes its element, which is an int or a bool.

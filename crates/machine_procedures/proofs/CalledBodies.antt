@@ -5,27 +5,27 @@ use Rattle.std.proofs.lemmas.Bool.{eqb-true, eq-eqb}
 use Rattle.ps_base.specs.CodeUnit.{UnitView, unit, ConstantsView}
 use Rattle.ps_base.specs.declared.code_unit.Frame.{Frame}
 use Rattle.ps_base.specs.declared.line.Line.{Line}
-use Rattle.obj_layout.specs.declared.kind.Kind.TheVariants as kind
-use Rattle.obj_layout.specs.declared.reference.Reference.{Reference}
-use Rattle.swizzle.specs.Heap as area
-use Rattle.swizzle.specs.Heap.{IsHeap, IsHeld, header_at}
-use Rattle.proc_values.specs.declared.reading.CodePlace.{CodePlace}
-use Rattle.proc_values.specs.Loaded.{IsUnit, IsFitUnit}
-use Rattle.proc_values.specs.Reading.{IsPlaceOf}
-use Rattle.proc_values.proofs.ReadLaws.{unit-place}
-use Rattle.proc_values.proofs.StayLaws.{unit-stays}
-use Rattle.ps_meaning.specs.Objects.{Heap}
-use Rattle.ps_meaning.specs.Values.{Value, Num, Flag, Text, Nil, Pointer, Vector, Procedure, Nothing, as_compiled, as_written}
-use Rattle.ps_stepping.specs.Config.{Config, frame_in, frame_words}
-use Rattle.ps_stepping.specs.Steps.{Step, Stuck}
-use Rattle.ps_stepping.specs.Objects.{pop_nums}
-use Rattle.ps_stepping.specs.Procedures.{call, called, takes_refs, unit_called}
-use Rattle.paired_ops.specs.World.{IsWorld, DenotesIn, DenotesScopeIn}
-use Rattle.paired_ops.specs.Operands.{IsOfSort, IsSorted}
-use Rattle.paired_ops.specs.declared.values.Sort.{Sort}
-use Rattle.paired_ops.specs.declared.values.Sort.TheVariants as sort
-use Rattle.paired_ops.proofs.RewriteLaws.{stands-then}
-use Rattle.paired_ops.proofs.ValueLaws.{none-nil}
+use Rattle.paired_procedures.specs.obj_layout.declared.kind.Kind.TheVariants as kind
+use Rattle.paired_procedures.specs.obj_layout.declared.reference.Reference.{Reference}
+use Rattle.paired_procedures.specs.swizzle.Heap as area
+use Rattle.paired_procedures.specs.swizzle.Heap.{IsHeap, IsHeld, header_at}
+use Rattle.paired_procedures.specs.proc_values.declared.reading.CodePlace.{CodePlace}
+use Rattle.paired_procedures.specs.proc_values.Loaded.{IsUnit, IsFitUnit}
+use Rattle.paired_procedures.specs.proc_values.Reading.{IsPlaceOf}
+use Rattle.paired_procedures.proofs.of_proc_values.ReadLaws.{unit-place}
+use Rattle.paired_procedures.proofs.of_proc_values.StayLaws.{unit-stays}
+use Rattle.machine_state.specs.ps_meaning.Objects.{Heap}
+use Rattle.machine_state.specs.ps_meaning.Values.{Value, Num, Flag, Text, Nil, Pointer, Vector, Procedure, Nothing, as_compiled, as_written}
+use Rattle.machine_state.specs.ps_stepping.Config.{Config, frame_in, frame_words}
+use Rattle.machine_state.specs.ps_stepping.Steps.{Step, Stuck}
+use Rattle.machine_state.specs.ps_stepping.Objects.{pop_nums}
+use Rattle.machine_state.specs.ps_stepping.Procedures.{call, called, takes_refs, unit_called}
+use Rattle.paired_procedures.specs.paired_ops.World.{IsWorld, DenotesIn, DenotesScopeIn}
+use Rattle.paired_procedures.specs.paired_ops.Operands.{IsOfSort, IsSorted}
+use Rattle.paired_procedures.specs.paired_ops.declared.values.Sort.{Sort}
+use Rattle.paired_procedures.specs.paired_ops.declared.values.Sort.TheVariants as sort
+use Rattle.paired_procedures.proofs.of_paired_ops.RewriteLaws.{stands-then}
+use Rattle.paired_procedures.proofs.of_paired_ops.ValueLaws.{none-nil}
 use Rattle.paired_procedures.specs.Procedures.{AnswersCode, AnswersScope}
 use Rattle.machine_state.specs.declared.body.Body.{Body}
 use Rattle.machine_state.specs.declared.machine.Machine.{Machine}
@@ -116,7 +116,7 @@ module _ (old mid : area.Heap) (at code : ℕ) where
   Coded = (of : Heap) (names : List Reference) (u : UnitView) (round : Option ℕ) → IsWorld old of names
       → DenotesIn old names (Some at) (Procedure (as_compiled u) round) → AnswersCode old mid of names u (Ok code)
 
-  -- the object is still there behind the reading of its code
+  -- the object is still there after the reading of its code
   pub still-there : IsThere old at → Coded → IsThere mid at
   still-there t coded =
       let a = coded t.of t.names t.unit t.scope t.world t.denotes in

@@ -2,16 +2,16 @@
 use Rattle.std.proofs.Common.{◌≡◌, ℕ, zero, suc, List, Option, Some, None, refl, sym, ap, ◌∙◌, subst}
 use Rattle.ps_base.specs.CodeUnit.{UnitView, unit, ConstantView, text, literal, ConstantsView, no_constants, constant_then}
 use Rattle.ps_base.specs.declared.code_unit.Frame.{Frame}
-use Rattle.obj_layout.specs.declared.reference.Reference.{Reference}
-use Rattle.swizzle.specs.Heap as area
-use Rattle.swizzle.specs.Heap.{IsHeap, IsHeld}
-use Rattle.proc_values.specs.Loaded.{IsUnit, IsFitUnit, constant_numbered}
-use Rattle.ps_meaning.specs.Objects.{Heap}
-use Rattle.ps_meaning.specs.Values.{Text}
-use Rattle.ps_stepping.specs.Config.{Config, constants_in, constant_at}
-use Rattle.ps_stepping.specs.Steps.{Step, Stuck, text_in, with_text}
-use Rattle.ps_stepping.specs.Procedures.{procedure_of, closure}
-use Rattle.paired_ops.specs.World.{IsWorld, DenotesIn, Stands}
+use Rattle.paired_procedures.specs.obj_layout.declared.reference.Reference.{Reference}
+use Rattle.paired_procedures.specs.swizzle.Heap as area
+use Rattle.paired_procedures.specs.swizzle.Heap.{IsHeap, IsHeld}
+use Rattle.paired_procedures.specs.proc_values.Loaded.{IsUnit, IsFitUnit, constant_numbered}
+use Rattle.machine_state.specs.ps_meaning.Objects.{Heap}
+use Rattle.machine_state.specs.ps_meaning.Values.{Text}
+use Rattle.machine_state.specs.ps_stepping.Config.{Config, constants_in, constant_at}
+use Rattle.machine_state.specs.ps_stepping.Steps.{Step, Stuck, text_in, with_text}
+use Rattle.machine_state.specs.ps_stepping.Procedures.{procedure_of, closure}
+use Rattle.paired_procedures.specs.paired_ops.World.{IsWorld, DenotesIn, Stands}
 use Rattle.paired_procedures.specs.Units.{AnswersText, AnswersLiteral}
 use Rattle.machine_state.specs.declared.machine.Machine.{Machine}
 use Rattle.machine_state.specs.declared.stepped.Stepped.{Stepped}
@@ -30,7 +30,7 @@ ends of old new r sound holding comes = record {
   does = λ c h. (comes h.names c h.held).1;
 }
 
--- behind a part that kept the area's size, and led to another step that is the same
+-- after a part that kept the area's size, and led to another step that is the same
 pub comes-behind : (old mid new : Machine) (r : Stepped) (s t : Step) → mid.sw.size ≡ old.sw.size → s ≡ t → Comes mid new r t → Comes old new r s
 comes-behind old mid new r s t size same k = (size-behind r old.sw mid.sw new.sw size k.0, subst (λ (x : Step). Does x r new) (sym same) k.1)
 
@@ -91,7 +91,7 @@ module _ (m : Machine) (now : area.Heap) (k : ℕ) where
   still : Kept → (names : List Reference) (c : Config) → HeldBy names m c → Stands m.sw now c.store.heap names
   still kept names c h = stands-of kept c.unit h.unit_is c.store.heap names h.world
 
-  -- behind the reading of a constant the machine still stands for a configuration
+  -- after the reading of a constant the machine still stands for a configuration
   pub constant-holding : IsHolding m → IsHeap now → Kept → IsHolding (record m { sw = now })
   constant-holding h heap kept = (
     h.0,

@@ -1,18 +1,18 @@
 -- The current scope of a machine, and what becomes of it.
 use Rattle.std.proofs.Common.{◌≡◌, ℕ, List, [], Option, Some, None, refl, ap, ◌∙◌}
 use Rattle.std.specs.Prelude.{IfSome, Ok}
-use Rattle.obj_layout.specs.declared.reference.Reference.{Reference}
-use Rattle.swizzle.specs.Heap as area
-use Rattle.swizzle.specs.Heap.{IsHeap, IsHeld}
-use Rattle.swizzle.specs.declared.fault.SwizzleFault.{SwizzleFault}
-use Rattle.heap_ops.specs.declared.layouts.Layouts.{Layouts}
-use Rattle.heap_ops.specs.Layouts.{AreSo as AreLaid}
-use Rattle.ps_meaning.specs.Objects.{Heap, Object}
-use Rattle.ps_meaning.specs.Scopes.{scope_at}
-use Rattle.ps_stepping.specs.Config.{Config}
-use Rattle.ps_stepping.specs.Steps.{on}
-use Rattle.ps_stepping.specs.Procedures.{leave_scope, of_scope}
-use Rattle.paired_ops.specs.World.{IsWorld, DenotesScopeIn}
+use Rattle.paired_procedures.specs.obj_layout.declared.reference.Reference.{Reference}
+use Rattle.paired_procedures.specs.swizzle.Heap as area
+use Rattle.paired_procedures.specs.swizzle.Heap.{IsHeap, IsHeld}
+use Rattle.paired_procedures.specs.swizzle.declared.fault.SwizzleFault.{SwizzleFault}
+use Rattle.paired_procedures.specs.heap_ops.declared.layouts.Layouts.{Layouts}
+use Rattle.paired_procedures.specs.heap_ops.Layouts.{AreSo as AreLaid}
+use Rattle.machine_state.specs.ps_meaning.Objects.{Heap, Object}
+use Rattle.machine_state.specs.ps_meaning.Scopes.{scope_at}
+use Rattle.machine_state.specs.ps_stepping.Config.{Config}
+use Rattle.machine_state.specs.ps_stepping.Steps.{on}
+use Rattle.machine_state.specs.ps_stepping.Procedures.{leave_scope, of_scope}
+use Rattle.paired_procedures.specs.paired_ops.World.{IsWorld, DenotesScopeIn}
 use Rattle.paired_procedures.specs.Scopes.{AnswersParent}
 use Rattle.paired_procedures.proofs.ScopeLaws.{nil-scope}
 use Rattle.machine_state.specs.declared.machine.Machine.{Machine}

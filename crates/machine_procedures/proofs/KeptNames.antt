@@ -1,31 +1,31 @@
 -- Names of scopes that a machine reads and writes.
 use Rattle.std.proofs.Common.{◌≡◌, ℕ, ℤ, Bool, List, [], Option, Some, None, refl, sym, ap, ◌∙◌, arith}
 use Rattle.std.specs.Prelude.{Result, Ok, Err}
-use Rattle.obj_layout.specs.declared.reference.Reference.{Reference}
-use Rattle.swizzle.specs.Heap as area
-use Rattle.swizzle.specs.Heap.{IsHeap}
-use Rattle.swizzle.specs.declared.fault.SwizzleFault.{SwizzleFault}
-use Rattle.text_forms.specs.declared.forms.Form.{Form}
-use Rattle.text_forms.specs.declared.forms.Form.TheVariants as form
-use Rattle.text_forms.specs.Forms.{forms_of, form_in}
-use Rattle.heap_ops.specs.declared.layouts.Layouts.{Layouts}
-use Rattle.heap_ops.specs.Layouts.{AreSo as AreLaid}
-use Rattle.heap_places.specs.declared.value.Value as code
-use Rattle.heap_places.specs.declared.value.Value.TheVariants as held
-use Rattle.ps_meaning.specs.Objects.{Heap, Object, Structure, Elements, Scope}
-use Rattle.ps_meaning.specs.Scopes.{scope_at, scope_out}
-use Rattle.ps_meaning.specs.Meaning.{on_heap, kept_name, with_kept_name}
-use Rattle.ps_meaning.specs.Values.{Value, Num, Flag, word_of, number_of}
-use Rattle.ps_meaning.specs.Values as value
-use Rattle.ps_stepping.specs.Config.{Config}
-use Rattle.ps_stepping.specs.Steps.{Step, Stuck, push_num, push_ref}
-use Rattle.ps_stepping.specs.Objects.{changed, when_number, when_reference}
-use Rattle.ps_stepping.specs.Procedures.{of_scope, kept_num, kept_ref, keep_num, keep_ref}
-use Rattle.paired_ops.specs.World.{IsWorld, DenotesScopeIn}
-use Rattle.paired_ops.specs.Operands.{IsForIn, IsOfForm}
+use Rattle.paired_procedures.specs.obj_layout.declared.reference.Reference.{Reference}
+use Rattle.paired_procedures.specs.swizzle.Heap as area
+use Rattle.paired_procedures.specs.swizzle.Heap.{IsHeap}
+use Rattle.paired_procedures.specs.swizzle.declared.fault.SwizzleFault.{SwizzleFault}
+use Rattle.machine_state.specs.text_forms.declared.forms.Form.{Form}
+use Rattle.machine_state.specs.text_forms.declared.forms.Form.TheVariants as form
+use Rattle.machine_state.specs.text_forms.Forms.{forms_of, form_in}
+use Rattle.paired_procedures.specs.heap_ops.declared.layouts.Layouts.{Layouts}
+use Rattle.paired_procedures.specs.heap_ops.Layouts.{AreSo as AreLaid}
+use Rattle.paired_procedures.specs.heap_places.declared.value.Value as code
+use Rattle.paired_procedures.specs.heap_places.declared.value.Value.TheVariants as held
+use Rattle.machine_state.specs.ps_meaning.Objects.{Heap, Object, Structure, Elements, Scope}
+use Rattle.machine_state.specs.ps_meaning.Scopes.{scope_at, scope_out}
+use Rattle.machine_state.specs.ps_meaning.Meaning.{on_heap, kept_name, with_kept_name}
+use Rattle.machine_state.specs.ps_meaning.Values.{Value, Num, Flag, word_of, number_of}
+use Rattle.machine_state.specs.ps_meaning.Values as value
+use Rattle.machine_state.specs.ps_stepping.Config.{Config}
+use Rattle.machine_state.specs.ps_stepping.Steps.{Step, Stuck, push_num, push_ref}
+use Rattle.machine_state.specs.ps_stepping.Objects.{changed, when_number, when_reference}
+use Rattle.machine_state.specs.ps_stepping.Procedures.{of_scope, kept_num, kept_ref, keep_num, keep_ref}
+use Rattle.paired_procedures.specs.paired_ops.World.{IsWorld, DenotesScopeIn}
+use Rattle.paired_procedures.specs.paired_ops.Operands.{IsForIn, IsOfForm}
 use Rattle.paired_procedures.specs.Scopes.{HasName, IsOfRow, IsInt, ReadsKept, WritesKept}
 use Rattle.paired_procedures.proofs.ScopeLaws.{out-none}
-use Rattle.known_vectors.proofs.Lasting.{last-name}
+use Rattle.machine_state.proofs.of_known_vectors.Lasting.{last-name}
 use Rattle.machine_state.specs.declared.machine.Machine.{Machine}
 use Rattle.machine_state.specs.declared.stepped.Stepped.{Stepped}
 use Rattle.machine_state.specs.declared.stepped.Stepped.TheVariants.{Quiet, Damaged}

@@ -3,27 +3,28 @@ use Rattle.std.proofs.Common.{ℕ, ◌+◌, ◌<◌, ◌≤◌, Bool, List, [], 
 use Rattle.std.specs.Prelude.{Result, Ok, Err, if◌then◌else◌}
 use Rattle.std.proofs.lemmas.Bool.{lt-ltb, le-ltb}
 use Rattle.ps_base.specs.CodeUnit.{UnitView}
-use Rattle.obj_layout.specs.declared.reference.Reference.{Reference}
-use Rattle.swizzle.specs.Heap as area
-use Rattle.swizzle.specs.Heap.{IsHeap}
-use Rattle.swizzle.specs.declared.fault.SwizzleFault.{SwizzleFault}
-use Rattle.proc_values.specs.Loaded.{IsUnit, IsFitUnit}
-use Rattle.ps_meaning.specs.Values.{Text, Procedure, as_compiled}
-use Rattle.ps_meaning.specs.Objects.{Heap, new_number}
-use Rattle.ps_meaning.specs.Scopes.{new_scope}
-use Rattle.ps_meaning.specs.Meaning.{and_object, and_closure}
-use Rattle.ps_meaning.specs.Weights.{own_weight, closure_weight}
-use Rattle.ps_stepping.specs.Config.{Config, frame_words, frame_in}
-use Rattle.ps_stepping.specs.Steps.{Stuck, on, push_ref}
-use Rattle.paired_ops.specs.World.{IsWorld, DenotesIn, DenotesScopeIn}
+use Rattle.paired_procedures.specs.obj_layout.declared.reference.Reference.{Reference}
+use Rattle.paired_procedures.specs.swizzle.Heap as area
+use Rattle.paired_procedures.specs.swizzle.Heap.{IsHeap}
+use Rattle.paired_procedures.specs.swizzle.declared.fault.SwizzleFault.{SwizzleFault}
+use Rattle.paired_procedures.specs.proc_values.Loaded.{IsUnit, IsFitUnit}
+use Rattle.machine_state.specs.ps_meaning.Values.{Text, Procedure, as_compiled}
+use Rattle.machine_state.specs.ps_meaning.Objects.{Heap, new_number}
+use Rattle.machine_state.specs.ps_meaning.Scopes.{new_scope}
+use Rattle.machine_state.specs.ps_meaning.Meaning.{and_object, and_closure}
+use Rattle.machine_state.specs.ps_meaning.Weights.{own_weight, closure_weight}
+use Rattle.machine_state.specs.ps_stepping.Config.{Config, frame_words, frame_in}
+use Rattle.machine_state.specs.ps_stepping.Steps.{Stuck, on, push_ref}
+use Rattle.paired_procedures.specs.paired_ops.World.{IsWorld, DenotesIn, DenotesScopeIn}
 use Rattle.paired_procedures.specs.Scopes.{MakesScope}
 use Rattle.paired_procedures.specs.Procedures.{MakesProcedure}
-use Rattle.known_vectors.proofs.Lasting.{all-same, last-new}
+use Rattle.machine_state.proofs.of_known_vectors.Lasting.{all-same, last-new}
 use Rattle.machine_state.specs.declared.machine.Machine.{Machine}
 use Rattle.machine_state.specs.declared.stepped.Stepped.{Stepped}
 use Rattle.machine_state.specs.declared.stepped.Stepped.TheVariants.{Quiet, Breaks, Damaged}
 use Rattle.machine_state.specs.Calling.{Enters}
 use Rattle.machine_state.specs.Holding.{IsSound}
+use Rattle.machine_state.specs.Full.{a_scope, a_procedure}
 use Rattle.machine_state.specs.inside.Taking.{TakesRef}
 use Rattle.machine_state.proofs.Carrying.{held-more, size-behind, short-full}
 use Rattle.machine_state.proofs.Popping.{refs_taken}
@@ -69,7 +70,8 @@ module _ (m : Machine) (now : area.Heap) (within : Option ℕ) (in_it : IsCurren
             (
               record c { store = and_object object c.store; scope = Some (new_number c.store.heap) },
               refl,
-              short-full m.sw now (own_weight object) c.store.counted fault short h.counted,
+              short-full m.sw now c.store (record c { store = and_object object c.store; scope = Some (new_number c.store.heap) }) (own_weight object) fault
+                  (a_scope object refl refl) short h.counted,
             ),
           );
     }
@@ -109,7 +111,7 @@ module _ (m : Machine) (now : area.Heap) (within : Option ℕ) (in_it : IsCurren
               next,
               ap (λ (b : Bool). if b then on next else Stuck)
                   (lt-ltb ((frame_in c.unit).refs + length c.refs) frame_words (omega (arith, room, refs_taken m c names h))),
-              short-full m.sw now closure_weight c.store.counted fault short h.counted,
+              short-full m.sw now c.store next closure_weight fault (a_procedure refl refl) short h.counted,
             ),
           );
     }

@@ -3,24 +3,24 @@ use Rattle.std.proofs.Common.{◌≡◌, ℕ, ◌%◌, ◌/◌, ◌^◌, List, [
 use Rattle.std.specs.Prelude.{slice_index}
 use Rattle.ps_base.specs.CodeUnit.{UnitView, unit, ConstantView, text, literal, ConstantsView, no_constants, constant_then}
 use Rattle.ps_base.specs.declared.code_unit.Frame.{Frame}
-use Rattle.obj_layout.specs.declared.kind.Kind.{Kind}
-use Rattle.obj_layout.specs.declared.kind.Kind.TheVariants as kind
-use Rattle.obj_layout.specs.declared.reference.Reference.{Reference}
-use Rattle.swizzle.specs.Heap as area
-use Rattle.swizzle.specs.Heap.{IsHeap, header_at}
-use Rattle.swizzle.specs.Joint.{Shown, shown_at}
-use Rattle.heap_places.specs.Shapes as shapes
-use Rattle.proc_values.specs.Units.{frame_word}
-use Rattle.proc_values.specs.Loaded.{IsFitFrame, IsFitUnit, AreFitConstants, IsFitConstant}
-use Rattle.proc_values.proofs.StayLaws.{frame-nums, frame-refs, frame-num_params, frame-ref_params}
-use Rattle.heap_meaning.specs.Units.{shown_code, IsUnitSeen, AreSeen, IsConstantSeen}
-use Rattle.heap_meaning.specs.Standing.{StandsForScope}
-use Rattle.heap_meaning.specs.Paired.{paired}
-use Rattle.ps_meaning.specs.Objects.{Heap}
-use Rattle.ps_meaning.specs.Values.{Value, Num, Flag, Text, Nil, Pointer, Vector, Procedure, Nothing, as_compiled, as_written}
-use Rattle.paired_ops.specs.World.{alone, IsWorld, DenotesIn}
-use Rattle.paired_ops.proofs.WorldLaws.{alone-one, seen-at}
-use Rattle.paired_ops.proofs.ValueLaws.{some-not_nil, text-denoted, pointer-denoted, vector-denoted, procedure-denoted}
+use Rattle.paired_procedures.specs.obj_layout.declared.kind.Kind.{Kind}
+use Rattle.paired_procedures.specs.obj_layout.declared.kind.Kind.TheVariants as kind
+use Rattle.paired_procedures.specs.obj_layout.declared.reference.Reference.{Reference}
+use Rattle.paired_procedures.specs.swizzle.Heap as area
+use Rattle.paired_procedures.specs.swizzle.Heap.{IsHeap, header_at}
+use Rattle.paired_procedures.specs.swizzle.Joint.{Shown, shown_at}
+use Rattle.paired_procedures.specs.heap_places.Shapes as shapes
+use Rattle.paired_procedures.specs.proc_values.Units.{frame_word}
+use Rattle.paired_procedures.specs.proc_values.Loaded.{IsFitFrame, IsFitUnit, AreFitConstants, IsFitConstant}
+use Rattle.paired_procedures.proofs.of_proc_values.StayLaws.{frame-nums, frame-refs, frame-num_params, frame-ref_params}
+use Rattle.paired_procedures.specs.heap_meaning.Units.{shown_code, IsUnitSeen, AreSeen, IsConstantSeen}
+use Rattle.paired_procedures.specs.heap_meaning.Standing.{StandsForScope}
+use Rattle.paired_procedures.specs.heap_meaning.Paired.{paired}
+use Rattle.machine_state.specs.ps_meaning.Objects.{Heap}
+use Rattle.machine_state.specs.ps_meaning.Values.{Value, Num, Flag, Text, Nil, Pointer, Vector, Procedure, Nothing, as_compiled, as_written}
+use Rattle.paired_procedures.specs.paired_ops.World.{alone, IsWorld, DenotesIn}
+use Rattle.paired_procedures.proofs.of_paired_ops.WorldLaws.{alone-one, seen-at}
+use Rattle.paired_procedures.proofs.of_paired_ops.ValueLaws.{some-not_nil, text-denoted, pointer-denoted, vector-denoted, procedure-denoted}
 
 -- a frame goes by its word
 frame-one : (f g : Frame) → IsFitFrame f → IsFitFrame g → frame_word f ≡ frame_word g → f ≡ g
@@ -72,11 +72,11 @@ module _ (here : area.Heap) (of : Heap) (names : List Reference) (heap : IsHeap 
   scope-one n None None i j = refl
   scope-one n None (Some b) i j = absurd (no-name n i j.1.it j.1.there)
     where
-      no-name : (m : Reference) → m ≡ Rattle.obj_layout.specs.declared.reference.Reference.TheVariants.Nil → (it : Shown) → alone here m it → ⊥
+      no-name : (m : Reference) → m ≡ Rattle.paired_procedures.specs.obj_layout.declared.reference.Reference.TheVariants.Nil → (it : Shown) → alone here m it → ⊥
       no-name m nil it s = let a = seen-at here m it s in some-not_nil here names a.at (record { name = m; denotes = (a.held, sym a.name_is); stands = nil })
   scope-one n (Some a) None i j = absurd (no-name n j i.1.it i.1.there)
     where
-      no-name : (m : Reference) → m ≡ Rattle.obj_layout.specs.declared.reference.Reference.TheVariants.Nil → (it : Shown) → alone here m it → ⊥
+      no-name : (m : Reference) → m ≡ Rattle.paired_procedures.specs.obj_layout.declared.reference.Reference.TheVariants.Nil → (it : Shown) → alone here m it → ⊥
       no-name m nil it s = let a = seen-at here m it s in some-not_nil here names a.at (record { name = m; denotes = (a.held, sym a.name_is); stands = nil })
   scope-one n (Some a) (Some b) i j = ap Some (world.row.stands.one_number n a b i.0 j.0)
 

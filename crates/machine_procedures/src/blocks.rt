@@ -1,16 +1,16 @@
 //! Instructions that enter scopes and leave them.
 ghost use Rattle.std.specs.Prelude.{◌≡◌};
-ghost use Rattle.swizzle.specs.Heap.{IsHeld, header_at};
-ghost use Rattle.swizzle.specs.Reading.{LeavesOutside};
-ghost use Rattle.ps_stepping.specs.Procedures.{enter_scope as enter_scope_of, leave_scope as leave_scope_of};
+ghost use Rattle.paired_procedures.specs.swizzle.Heap.{IsHeld, header_at};
+ghost use Rattle.paired_procedures.specs.swizzle.Reading.{LeavesOutside};
+ghost use Rattle.machine_state.specs.ps_stepping.Procedures.{enter_scope as enter_scope_of, leave_scope as leave_scope_of};
 ghost use Rattle.machine_state.specs.Holding.{IsHolding, IsSound};
 ghost use Rattle.machine_state.specs.Stepped.{Takes, UnlessDamaged};
 ghost use Rattle.machine_procedures.specs.inside.Making.{MakesScopeOf};
 
 use machine_state::scopes::{scope, set_scope};
 use machine_state::{Machine, Stepped};
-use obj_layout::kind::Kind;
-use obj_layout::vault::Vault;
+use paired_procedures::obj_layout::kind::Kind;
+use paired_procedures::obj_layout::vault::Vault;
 use paired_procedures::scope::{make_scope, parent_of};
 use paired_procedures::unit::text_of;
 

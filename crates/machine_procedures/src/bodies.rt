@@ -1,24 +1,24 @@
 //! The bodies of procedures.
 ghost use Rattle.std.specs.Prelude.{◌≡◌, ℕ, IfSome, List, MatchOption, Option, OnSome, Some};
 ghost use Rattle.ps_base.specs.CodeUnit.{UnitView};
-ghost use Rattle.obj_layout.specs.declared.reference.Reference.{Reference};
-ghost use Rattle.swizzle.specs.Heap.{IsHeld};
-ghost use Rattle.swizzle.specs.Reading.{LeavesOutside};
-ghost use Rattle.ps_meaning.specs.Objects as meaning;
-ghost use Rattle.ps_meaning.specs.Values as meant;
-ghost use Rattle.paired_ops.specs.World.{DenotesIn, IsWorld};
+ghost use Rattle.paired_procedures.specs.obj_layout.declared.reference.Reference.{Reference};
+ghost use Rattle.paired_procedures.specs.swizzle.Heap.{IsHeld};
+ghost use Rattle.paired_procedures.specs.swizzle.Reading.{LeavesOutside};
+ghost use Rattle.machine_state.specs.ps_meaning.Objects as meaning;
+ghost use Rattle.machine_state.specs.ps_meaning.Values as meant;
+ghost use Rattle.paired_procedures.specs.paired_ops.World.{DenotesIn, IsWorld};
 ghost use Rattle.machine_state.specs.Holding.{IsHolding, IsSound, object_in};
 ghost use Rattle.machine_procedures.specs.inside.Bodies.{AnswersBody, FindsBody, FindsPlace, IsBelow, IsCalled, IsNotCalled, IsThere, KeepsBody, StandsAt};
 
 use machine_state::calls::fits;
 use machine_state::stacks::{object, word};
 use machine_state::{Body, KnownProcedure, Machine};
-use obj_layout::vault::Vault;
-use paired_ops::values::{Sort, sort_of};
+use paired_procedures::obj_layout::vault::Vault;
+use paired_procedures::paired_ops::values::{Sort, sort_of};
+use paired_procedures::proc_values::reading::code_place;
 use paired_procedures::procedure::{code_of, scope_of};
+use paired_procedures::swizzle::swizzle::Swizzle;
 use paired_procedures::unit::frame_of;
-use proc_values::reading::code_place;
-use swizzle::swizzle::Swizzle;
 
 /// The place of what is known of the procedure that a word names, or none.
 #[inline(always)]

@@ -1,7 +1,7 @@
 //! The instruction that calls a procedure.
 ghost use Rattle.std.specs.Prelude.{◌+◌, ◌<◌, length};
-ghost use Rattle.swizzle.specs.Reading.{LeavesOutside};
-ghost use Rattle.ps_stepping.specs.Procedures.{call as call_of};
+ghost use Rattle.paired_procedures.specs.swizzle.Reading.{LeavesOutside};
+ghost use Rattle.machine_state.specs.ps_stepping.Procedures.{call as call_of};
 ghost use Rattle.machine_state.specs.Calling.{body_at};
 ghost use Rattle.machine_state.specs.Holding.{IsHolding, IsSound};
 ghost use Rattle.machine_state.specs.Stepped.{Takes, UnlessDamaged};
@@ -10,7 +10,7 @@ ghost use Rattle.machine_procedures.specs.inside.Bodies.{CallsWith, HasFit, IsBe
 use crate::bodies::{known_place, learn};
 use machine_state::calls::{call_body, ref_below, ref_params_at};
 use machine_state::{Machine, Stepped};
-use obj_layout::vault::Vault;
+use paired_procedures::obj_layout::vault::Vault;
 use ps_base::line::Line;
 
 /// Calls the procedure below so many references on top, which are arguments, with as many numbers on top as it takes. Damaged where there is no

@@ -1,16 +1,16 @@
 //! What is kept under a name of a scope some levels out.
 ghost use Rattle.std.specs.Prelude.{OnSome};
-ghost use Rattle.swizzle.specs.Reading.{LeavesOutside};
-ghost use Rattle.heap_places.specs.Places.{IsNear};
+ghost use Rattle.paired_procedures.specs.swizzle.Reading.{LeavesOutside};
+ghost use Rattle.paired_procedures.specs.heap_places.Places.{IsNear};
 ghost use Rattle.paired_procedures.specs.Scopes.{IsInt};
 ghost use Rattle.machine_state.specs.Holding.{IsHolding, IsSound};
 ghost use Rattle.machine_state.specs.Stepped.{UnlessDamaged};
 ghost use Rattle.machine_procedures.specs.inside.Names.{ReadsName, WritesName};
 
-use heap_places::value::Value;
 use machine_state::scopes::scope;
 use machine_state::{Machine, Stepped};
-use obj_layout::vault::Vault;
+use paired_procedures::heap_places::value::Value;
+use paired_procedures::obj_layout::vault::Vault;
 use paired_procedures::scope::{get_kept, set_kept};
 
 /// What is kept under the name of this number of the scope so many levels out; None where there is none.

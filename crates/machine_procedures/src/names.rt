@@ -1,15 +1,15 @@
 //! Instructions over names that are kept in scopes.
-ghost use Rattle.swizzle.specs.Reading.{LeavesOutside};
-ghost use Rattle.ps_stepping.specs.Procedures.{keep_num as keep_num_of, keep_ref as keep_ref_of, kept_num as kept_num_of, kept_ref as kept_ref_of};
+ghost use Rattle.paired_procedures.specs.swizzle.Reading.{LeavesOutside};
+ghost use Rattle.machine_state.specs.ps_stepping.Procedures.{keep_num as keep_num_of, keep_ref as keep_ref_of, kept_num as kept_num_of, kept_ref as kept_ref_of};
 ghost use Rattle.machine_state.specs.Holding.{IsHolding, IsSound};
 ghost use Rattle.machine_state.specs.Stepped.{Takes, UnlessDamaged};
 
 use crate::levels::{read_name, write_name};
-use heap_places::value::Value;
 use machine_state::stacks::{object, pop_num, pop_ref, push_num, push_ref};
 use machine_state::values::number;
 use machine_state::{Machine, Stepped};
-use obj_layout::vault::Vault;
+use paired_procedures::heap_places::value::Value;
+use paired_procedures::obj_layout::vault::Vault;
 
 /// Pushes the int or the bool that is kept under the name of this number of the scope so many levels out. Damaged where there is no such scope, its text
 /// has no such name, the name keeps a reference, or the stack is full.

@@ -1,7 +1,7 @@
 //! The instruction that makes a procedure.
-ghost use Rattle.swizzle.specs.Heap.{IsHeld};
-ghost use Rattle.swizzle.specs.Reading.{LeavesOutside};
-ghost use Rattle.ps_stepping.specs.Procedures.{closure as closure_of};
+ghost use Rattle.paired_procedures.specs.swizzle.Heap.{IsHeld};
+ghost use Rattle.paired_procedures.specs.swizzle.Reading.{LeavesOutside};
+ghost use Rattle.machine_state.specs.ps_stepping.Procedures.{closure as closure_of};
 ghost use Rattle.machine_state.specs.Holding.{IsHolding, IsSound};
 ghost use Rattle.machine_state.specs.Stepped.{Takes, UnlessDamaged};
 ghost use Rattle.machine_procedures.specs.inside.Making.{MakesProcedureOf};
@@ -9,7 +9,7 @@ ghost use Rattle.machine_procedures.specs.inside.Making.{MakesProcedureOf};
 use machine_state::scopes::scope;
 use machine_state::stacks::push_ref;
 use machine_state::{FRAME_WORDS, Machine, Stepped};
-use obj_layout::vault::Vault;
+use paired_procedures::obj_layout::vault::Vault;
 use paired_procedures::procedure::make_procedure;
 use paired_procedures::unit::literal_of;
 

@@ -2,20 +2,20 @@
 use Rattle.std.proofs.Common.{◌≡◌, ℕ, zero, suc, ◌+◌, ◌-◌, ◌<◌, ◌≤◌, ℤ, pos, List, [], ◌∷◌, ◌++◌, length, drop, get_or, refl, sym, ap, ◌∙◌, subst, arith, length-append, append_assoc}
 use Rattle.std.specs.Prelude.{reverse, replicate}
 use Rattle.std.proofs.lemmas.List.{append-nil, reverse-append, reverse-reverse, length-reverse, drop-append-le, get_or_append_left, get_or-replicate, length-replicate, drop_all}
-use Rattle.obj_layout.specs.declared.reference.Reference.{Reference}
-use Rattle.swizzle.specs.Heap as area
-use Rattle.ps_meaning.specs.Values.{Value, Nil}
+use Rattle.known_classes.specs.obj_layout.declared.reference.Reference.{Reference}
+use Rattle.known_classes.specs.swizzle.Heap as area
+use Rattle.ps_stepping.specs.ps_meaning.Values.{Value, Nil}
 use Rattle.ps_stepping.specs.Config.{Config}
 use Rattle.ps_stepping.specs.Steps.{Step, Stuck, pop_num_of, pop_ref_of}
 use Rattle.ps_stepping.specs.Objects.{pop_nums, pop_refs}
-use Rattle.paired_ops.specs.World.{DenotesIn}
+use Rattle.known_classes.specs.paired_ops.World.{DenotesIn}
 use Rattle.machine_state.specs.Rows.{IsRow, IsRefRow, AreDenoted, object_in}
 
 -- the items above some of a row, the top first
 pushed-above : {W : Type 0} (size : ℕ) (low own : List W) → size ≤ length low → reverse (drop size (low ++ own)) ≡ reverse own ++ reverse (drop size low)
 pushed-above {W} size low own room = ap (λ (xs : List W). reverse xs) (drop-append-le size low own room) ∙ reverse-append (drop size low) own
 
--- the first of some, put before others behind the rest
+-- the first of some, put before others after the rest
 one-more : {W : Type 0} (y : W) (ys acc : List W) → reverse ys ++ (y ∷ acc) ≡ reverse (y ∷ ys) ++ acc
 one-more {W} y ys acc = sym (ap (λ (zs : List W). zs ++ acc) (reverse-append (y ∷ []) ys) ∙ append_assoc (reverse ys) (y ∷ []) acc)
 
@@ -55,7 +55,7 @@ too-few-nums (suc n) acc c next few = of c.nums refl (λ z d low. too-few-nums n
     of [] is others = refl
     of (z ∷ zs) is others = others z (record c { nums = zs }) (let long = ap length is in omega (arith, few, long))
 
--- with blanks behind them they are the locals of the body that is called
+-- with blanks after them they are the locals of the body that is called
 args-read : (own : List ℤ) (k slot : ℕ) (d : ℤ) → slot < length own + k → get_or own slot (pos 0) ≡ get_or (own ++ replicate k (pos 0)) slot d
 args-read [] k slot d below = sym (get_or-replicate k slot (pos 0) d (omega arith))
 args-read (z ∷ zs) k zero d below = refl
@@ -97,7 +97,7 @@ too-few-refs (suc n) acc c next few = of c.refs refl (λ v d low. too-few-refs n
     of (v ∷ vs) is others = others v (record c { refs = vs }) (let long = ap length is in omega (arith, few, long))
 
 module _ (here : area.Heap) (names : List Reference) where
-  -- what is denoted by some words, and by others behind them
+  -- what is denoted by some words, and by others after them
   denoted-split : (ws us : List ℕ) (vs : List Value) → AreDenoted here names (ws ++ us) vs
       → (a : List Value) × (b : List Value) × (vs ≡ a ++ b) × AreDenoted here names ws a × AreDenoted here names us b
   denoted-split [] us vs d = ([], vs, refl, tt, d)
@@ -172,7 +172,7 @@ module _ (here : area.Heap) (names : List Reference) where
       top-of (v ∷ vs) d = (v, vs, refl, d.0, d.1)
 
   module _ (nil : DenotesIn here names (object_in 0) Nil) where
-    -- with nils behind them they are the locals of the body that is called
+    -- with nils after them they are the locals of the body that is called
     refs-read : (own : List ℕ) (vs : List Value) (k slot d : ℕ) → AreDenoted here names own vs → slot < length own + k
         → DenotesIn here names (object_in (get_or (own ++ replicate k 0) slot d)) (get_or vs slot Nil)
     refs-read [] [] k slot d are below = subst (λ (x : ℕ). DenotesIn here names (object_in x) Nil) (sym (get_or-replicate k slot 0 d (omega arith))) nil

@@ -1,7 +1,7 @@
 -- A function that first takes something from the stacks, and then does what another does.
 use Rattle.std.proofs.Common.{◌≡◌, ℕ, ℤ, List, Option, Some, None, sym, ap, ◌∙◌, subst}
-use Rattle.swizzle.specs.Heap as area
-use Rattle.ps_meaning.specs.Values.{Value}
+use Rattle.known_classes.specs.swizzle.Heap as area
+use Rattle.ps_stepping.specs.ps_meaning.Values.{Value}
 use Rattle.ps_stepping.specs.Config.{Config}
 use Rattle.ps_stepping.specs.Machine.{Step, pop_num_of, pop_num, pop_ref_of, pop_ref, pop_width}
 use Rattle.machine_state.specs.declared.machine.Machine.{Machine}
@@ -12,7 +12,7 @@ use Rattle.machine_state.specs.Stepped.{Takes, Does, KeepsSize}
 use Rattle.machine_state.specs.inside.Taking.{Taken, TakenRef, TakesTwo, TakesRef, HasTop, HasTopRef, ReadsRef}
 
 module _ (old mid new : Machine) (r : Stepped) where
-  -- behind what was taken
+  -- after what was taken
   pub taken-then : {T : Type 0} (taking : Config → (T → Config → Step) → Step) (t : T) (next : T → Config → Step) → Taken taking old mid (Some t) → Takes (next t) mid new r → Takes (λ c. taking c next) old new r
   taken-then taking t next p q = record {
     sound = q.sound;

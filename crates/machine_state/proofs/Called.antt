@@ -4,11 +4,11 @@ use Rattle.std.specs.Prelude.{All, replicate, nat_eq, ◌⊎◌}
 use Rattle.std.proofs.lemmas.Bool.{eqb-true, eqb-false}
 use Rattle.std.proofs.lemmas.List.{get_or-set_same, get_or-set_other, get_or-replicate, length-set, length-replicate}
 use Rattle.ps_base.specs.CodeUnit.{UnitView}
-use Rattle.obj_layout.specs.declared.reference.Reference.{Reference}
-use Rattle.swizzle.specs.Heap as area
-use Rattle.proc_values.proofs.StayLaws.{unit-stays}
-use Rattle.ps_meaning.specs.Values.{Procedure, as_compiled}
-use Rattle.paired_ops.specs.World.{Carries}
+use Rattle.known_classes.specs.obj_layout.declared.reference.Reference.{Reference}
+use Rattle.known_classes.specs.swizzle.Heap as area
+use Rattle.known_classes.proofs.of_proc_values.StayLaws.{unit-stays}
+use Rattle.ps_stepping.specs.ps_meaning.Values.{Procedure, as_compiled}
+use Rattle.known_classes.specs.paired_ops.World.{Carries}
 use Rattle.machine_state.specs.declared.body.Body.{Body}
 use Rattle.machine_state.specs.declared.known.KnownProcedure.{KnownProcedure}
 use Rattle.machine_state.specs.Known.{IsBody, IsKnown, SaysSo, AreKnown}

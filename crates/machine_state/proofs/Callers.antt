@@ -3,11 +3,11 @@ use Rattle.std.proofs.Common.{◌≡◌, ℕ, zero, suc, ◌+◌, ◌*◌, ◌-�
 use Rattle.std.specs.Prelude.{All, sum_by}
 use Rattle.std.proofs.lemmas.List.{get_or_append_left}
 use Rattle.std.proofs.lemmas.List.Sums.{sum_by_push, sum_by-cons}
-use Rattle.obj_layout.specs.declared.reference.Reference.{Reference}
-use Rattle.swizzle.specs.Heap as area
-use Rattle.proc_values.proofs.StayLaws.{unit-stays}
+use Rattle.known_classes.specs.obj_layout.declared.reference.Reference.{Reference}
+use Rattle.known_classes.specs.swizzle.Heap as area
+use Rattle.known_classes.proofs.of_proc_values.StayLaws.{unit-stays}
 use Rattle.ps_stepping.specs.Config.{Caller, frame_words}
-use Rattle.paired_ops.specs.World.{Carries}
+use Rattle.known_classes.specs.paired_ops.World.{Carries}
 use Rattle.machine_state.specs.declared.caller.Caller as in_code
 use Rattle.machine_state.specs.Waiting.{IsWaiting, Last, AreWaiting, IsFramed}
 use Rattle.machine_state.proofs.RefRows.{row_more}
@@ -42,7 +42,7 @@ module _ (here : area.Heap) (names : List Reference) where
       let long : length callers ≡ length (top.below ++ top.last ∷ []) = ap length top.callers_are in
       omega (arith, below, long, length-append top.below (top.last ∷ []))
 
--- of two lists that are the same, with one item behind each, the items are the same
+-- of two lists that are the same, with one item after each, the items are the same
 pub ends-same : {X : Type 0} (xs ys : List X) (x y : X) → xs ++ x ∷ [] ≡ ys ++ y ∷ [] → (xs ≡ ys) × (x ≡ y)
 ends-same [] [] x y e = (refl, cc)
 ends-same [] (b ∷ ys) x y e = absurd (let long = ap length e in omega (arith, long, length-append ys (y ∷ [])))

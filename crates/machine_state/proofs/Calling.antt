@@ -1,4 +1,4 @@
--- The step of a call, and what the machine holds behind it.
+-- The step of a call, and what the machine holds after it.
 use Rattle.std.proofs.Common.{◌≡◌, ℕ, suc, ◌+◌, ◌-◌, ◌<◌, ◌≤◌, ℤ, pos, Bool, true, false, List, [], ◌∷◌, ◌++◌, length, take, drop, get_or, Option, Some, None, refl, sym, ap, ◌∙◌, subst, arith, length-append}
 use Rattle.std.specs.Prelude.{nat_lt, replicate, if◌then◌else◌}
 use Rattle.std.proofs.lemmas.Bool.{lt-ltb, le-ltb}
@@ -7,17 +7,17 @@ use Rattle.ps_base.specs.CodeUnit.{UnitView}
 use Rattle.ps_base.specs.declared.code_unit.Frame.{Frame}
 use Rattle.ps_base.specs.declared.line.Line.{Line}
 use Rattle.ps_base.specs.declared.trap.Trap.TheVariants.{TooDeep}
-use Rattle.obj_layout.specs.declared.reference.Reference.{Reference}
-use Rattle.swizzle.specs.Heap as area
-use Rattle.ps_meaning.specs.Event.{Trapped, OutOfTurns, Turn}
-use Rattle.ps_meaning.specs.Evaluation.{most_calls}
-use Rattle.ps_meaning.specs.Meaning.{Store, with_turns, spent}
-use Rattle.ps_meaning.specs.Values.{Value, Nil}
+use Rattle.known_classes.specs.obj_layout.declared.reference.Reference.{Reference}
+use Rattle.known_classes.specs.swizzle.Heap as area
+use Rattle.ps_stepping.specs.ps_meaning.Event.{Trapped, OutOfTurns, Turn}
+use Rattle.ps_stepping.specs.ps_meaning.Evaluation.{most_calls}
+use Rattle.ps_stepping.specs.ps_meaning.Meaning.{Store, with_turns, spent}
+use Rattle.ps_stepping.specs.ps_meaning.Values.{Value, Nil}
 use Rattle.ps_stepping.specs.Config.{Config, Caller}
 use Rattle.ps_stepping.specs.Steps.{Step, Goes, Stops, Stuck}
 use Rattle.ps_stepping.specs.Objects.{pop_nums}
 use Rattle.ps_stepping.specs.Procedures.{waiting, body_of_call, in_turn, called}
-use Rattle.paired_ops.specs.World.{DenotesIn, DenotesScopeIn}
+use Rattle.known_classes.specs.paired_ops.World.{DenotesIn, DenotesScopeIn}
 use Rattle.machine_state.specs.declared.body.Body.{Body}
 use Rattle.machine_state.specs.declared.caller.Caller as in_code
 use Rattle.machine_state.specs.declared.machine.Machine.{Machine}
@@ -74,7 +74,7 @@ module _ (m : Machine) (names : List Reference) (c : Config) (h : HeldBy names m
     pub many : length (drop (at + 1) m.refs.own) ≡ refs
     many = omega (arith, refs_are, length-drop (at + 1) m.refs.own)
 
-    -- the step behind the references
+    -- the step after the references
     pub behind-refs : call_popped refs nums line of scope c
         ≡ pop_nums nums [] (record c { refs = under.rest }) (λ zs e. called (length e.callers) line of scope zs under.args e)
     behind-refs =

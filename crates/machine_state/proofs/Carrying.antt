@@ -1,26 +1,27 @@
 -- What a machine stands for, as its area changes by operations.
-use Rattle.std.proofs.Common.{◌≡◌, ℕ, ◌+◌, ◌*◌, ◌<◌, ◌≤◌, List, Some, refl, sym, ap, ◌∙◌, subst, arith}
-use Rattle.obj_layout.specs.declared.reference.Reference.{Reference}
-use Rattle.swizzle.specs.Heap as area
-use Rattle.swizzle.specs.Heap.{IsHeap, top_of}
-use Rattle.swizzle.specs.Reading.{TextsStay}
-use Rattle.swizzle.specs.declared.fault.SwizzleFault.{SwizzleFault}
-use Rattle.heap_ops.proofs.LayoutLaws.{stay_so}
+use Rattle.std.proofs.Common.{inl, inr, ◌≡◌, ℕ, ◌+◌, ◌*◌, ◌<◌, ◌≤◌, List, Some, refl, sym, ap, ◌∙◌, subst, arith}
+use Rattle.known_classes.specs.obj_layout.declared.reference.Reference.{Reference}
+use Rattle.known_classes.specs.swizzle.Heap as area
+use Rattle.known_classes.specs.swizzle.Heap.{IsHeap, top_of}
+use Rattle.known_classes.specs.swizzle.Reading.{TextsStay}
+use Rattle.known_classes.specs.swizzle.declared.fault.SwizzleFault.{SwizzleFault}
+use Rattle.known_classes.proofs.of_heap_ops.LayoutLaws.{stay_so}
 use Rattle.known_classes.proofs.MakesSo.{right-stays}
-use Rattle.proc_values.proofs.StayLaws.{unit-stays}
+use Rattle.known_classes.proofs.of_proc_values.StayLaws.{unit-stays}
 use Rattle.known_vectors.specs.Known.{AllLast}
 use Rattle.known_vectors.proofs.Lasting.{all-same}
 use Rattle.known_vectors.proofs.Entries.{all-stay}
-use Rattle.ps_meaning.specs.Values.{Text}
-use Rattle.ps_meaning.specs.Meaning.{Store}
+use Rattle.ps_stepping.specs.ps_meaning.Values.{Text}
+use Rattle.ps_stepping.specs.ps_meaning.Meaning.{Store}
 use Rattle.ps_stepping.specs.Config.{Config}
-use Rattle.paired_ops.specs.World.{IsWorld, Carries, IsShort, Stands}
-use Rattle.paired_ops.proofs.ValueLaws.{text-denoted, denotes-text}
+use Rattle.known_classes.specs.paired_ops.World.{IsWorld, AreWords, Carries, IsShort, Stands}
+use Rattle.known_classes.proofs.of_paired_ops.ValueLaws.{text-denoted, denotes-text}
 use Rattle.machine_state.specs.declared.machine.Machine.{Machine}
 use Rattle.machine_state.specs.declared.stepped.Stepped.{Stepped}
 use Rattle.machine_state.specs.declared.stepped.Stepped.TheVariants.{Quiet, Turns, Writes, Halts, Breaks, Damaged}
 use Rattle.machine_state.specs.Holding.{HeldBy, HeldIn, IsSound}
-use Rattle.machine_state.specs.Stepped.{IsFull, KeepsSize}
+use Rattle.machine_state.specs.Full.{Makes, a_text, a_structure, a_vector, a_scope, a_procedure, LacksRoom, IsFull}
+use Rattle.machine_state.specs.Stepped.{KeepsSize}
 use Rattle.machine_state.proofs.RefRows.{row_more}
 use Rattle.machine_state.proofs.Callers.{all-waiting}
 use Rattle.machine_state.proofs.Called.{known-more}
@@ -54,7 +55,7 @@ held-more here now names more weight m c store heap k last h world counted turns
   counted = counted;
 }
 
--- behind an operation that read, the machine stands for the same configuration
+-- after an operation that read, the machine stands for the same configuration
 pub read-holds : (m : Machine) (now : area.Heap) (names : List Reference) (c : Config) → IsHeap now → HeldBy names m c → Stands m.sw now c.store.heap names → HeldBy names (record m { sw = now }) c
 read-holds m now names c heap h s =
     let counted = h.counted in
@@ -74,19 +75,40 @@ sound-kept m now sound = record {
   waiting = sound.waiting;
 }
 
--- where there was no room, the counted bytes would have passed the area
-pub short-full : (here now : area.Heap) (weight counted : ℕ) (fault : SwizzleFault) → IsShort here now weight fault → 8 * top_of here ≤ counted → IsFull now (counted + weight) fault
-short-full here now weight counted fault s low =
-    let same : here.size ≡ now.size = ap (λ (a : area.Heap). a.size) (sym s.stays) in
-    record {
-      top = top_of here;
-      wanted = s.wanted;
-      fault_is = s.fault_is ∙ ap (λ (n : ℕ). Rattle.swizzle.specs.declared.fault.SwizzleFault.TheVariants.AreaFull (top_of here) s.wanted n) same;
-      full = subst (λ (n : ℕ). n < top_of here + s.wanted) same s.full;
-      passed = let full = s.full in let words = s.words in omega (arith, full, words, low, same);
-    }
+-- what was made is counted
+pub makes-counted : (before : Store) (next : Config) (weight : ℕ) → Makes before next weight → next.store.counted ≡ before.counted + weight
+makes-counted before next weight (a_text top store) = ap (λ (s : Store). s.counted) store
+makes-counted before next weight (a_structure object top store) = ap (λ (s : Store). s.counted) store
+makes-counted before next weight (a_vector object top store) = ap (λ (s : Store). s.counted) store
+makes-counted before next weight (a_scope object scope store) = ap (λ (s : Store). s.counted) store
+makes-counted before next weight (a_procedure top store) = ap (λ (s : Store). s.counted) store
 
--- a size that is kept behind an operation that kept it
+-- the words of an object are within its bytes
+words-counted : (wanted weight : ℕ) → AreWords wanted weight → 8 * wanted ≤ weight
+words-counted wanted weight (inl same) = omega (arith, same)
+words-counted wanted weight (inr most) = most.1
+
+-- where there is no room, the words of the area and those wanted are counted after the step
+pub no-room-counted : (next : Config) (top wanted size : ℕ) → LacksRoom next top wanted size → 8 * (top + wanted) ≤ next.store.counted
+no-room-counted next top wanted size none =
+    let count = makes-counted none.before next none.weight none.makes in
+    let counted = none.counted in
+    let words = words-counted wanted none.weight none.words in
+    omega (arith, count, counted, words)
+
+pub short-full : (here now : area.Heap) (before : Store) (next : Config) (weight : ℕ) (fault : SwizzleFault) → Makes before next weight → IsShort here now weight fault
+    → 8 * top_of here ≤ before.counted → IsFull now next fault
+short-full here now before next weight fault makes s low = subst (λ (a : area.Heap). IsFull a next fault) (sym s.stays) (record {
+  wanted = s.wanted;
+  fault_is = s.fault_is;
+  room = room;
+  passed = let all = no-room-counted next (top_of here) s.wanted here.size room in let full = s.full in omega (arith, all, full);
+})
+  where
+    room : LacksRoom next (top_of here) s.wanted here.size
+    room = record { before = before; weight = weight; makes = makes; counted = low; words = s.words; full = s.full }
+
+-- a size that is kept after an operation that kept it
 pub size-behind : (r : Stepped) (a b c : area.Heap) → b.size ≡ a.size → KeepsSize r b c → KeepsSize r a c
 size-behind Quiet a b c same k = k ∙ same
 size-behind Turns a b c same k = k ∙ same

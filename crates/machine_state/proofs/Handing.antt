@@ -7,7 +7,7 @@ use Rattle.std.proofs.lemmas.Bool.{and_parts, eqb-true, ltb-false}
 use Rattle.std.proofs.lemmas.List.Sums.{sum_by_push}
 use Rattle.frame_stack.specs.Frames.{Frames}
 use Rattle.ps_base.specs.declared.code_unit.Frame.{Frame}
-use Rattle.ps_meaning.specs.Evaluation.{most_calls}
+use Rattle.ps_stepping.specs.ps_meaning.Evaluation.{most_calls}
 use Rattle.ps_stepping.specs.Config.{frame_words}
 use Rattle.ps_stepping.specs.Procedures.{takes_refs}
 use Rattle.machine_state.specs.declared.caller.Caller as in_code

@@ -4,10 +4,10 @@ use Rattle.std.specs.Prelude.{if◌then◌else◌}
 use Rattle.std.proofs.lemmas.Bool.{lt-ltb}
 use Rattle.ps_base.specs.declared.line.Line.{Line}
 use Rattle.ps_base.specs.declared.trap.Trap.TheVariants.{Bounds}
-use Rattle.ps_meaning.specs.Event.{Event, Turn, Trapped, outputs}
-use Rattle.ps_meaning.specs.Meaning.{Store, with_turns, spent}
-use Rattle.ps_meaning.specs.Operators.{is_same}
-use Rattle.ps_meaning.specs.Evaluation.{goes_on}
+use Rattle.ps_stepping.specs.ps_meaning.Event.{Event, Turn, Trapped, outputs}
+use Rattle.ps_stepping.specs.ps_meaning.Meaning.{Store, with_turns, spent}
+use Rattle.ps_stepping.specs.ps_meaning.Operators.{is_same}
+use Rattle.ps_stepping.specs.ps_meaning.Evaluation.{goes_on}
 use Rattle.ps_stepping.specs.Config.{Config}
 use Rattle.ps_stepping.specs.Machine.{Goes, Stops, Stuck, on, forward, turn_to, started}
 use Rattle.machine_state.specs.declared.machine.Machine.{Machine}

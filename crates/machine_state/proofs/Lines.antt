@@ -5,7 +5,7 @@ use Rattle.std.proofs.lemmas.List.{drop_all, drop-drop, length-drop}
 use Rattle.std.proofs.lemmas.Bool.{le-leb, lt-leb, eq-eqb, eqb-true}
 use Rattle.std.proofs.Math.Dec.{leb-suc-suc}
 use lib.Dec.{leb}
-use Rattle.ps_meaning.specs.Texts.{line_of, behind_line, is_at_end}
+use Rattle.ps_stepping.specs.ps_meaning.Texts.{line_of, behind_line, is_at_end}
 
 -- a line is the first of its bytes
 pub line-is : (bytes : List ℕ) → take (length (line_of bytes)) bytes ≡ line_of bytes
@@ -28,7 +28,7 @@ line-within (byte ∷ bytes) = of (nat_eq byte 10) (line-within bytes)
     of true low = omega arith
     of false low = omega (arith, low)
 
--- behind it stands its newline, or nothing
+-- after it stands its newline, or nothing
 pub behind-is : (bytes : List ℕ) → behind_line bytes ≡ drop (length (line_of bytes) + 1) bytes
 unfolding line_of behind_line
 behind-is [] = refl
@@ -49,7 +49,7 @@ is-other a b other = of (nat_eq a b) refl
     of true is = absurd (other (eqb-true a b is))
     of false is = is
 
--- a line goes on behind a byte that is no newline, and ends at one that is
+-- a line goes on after a byte that is no newline, and ends at one that is
 pub line-goes : (bytes : List ℕ) (k d : ℕ) → k < length bytes → get_or bytes k d ≢ 10
     → length (line_of (drop k bytes)) ≡ length (line_of (drop (k + 1) bytes)) + 1
 unfolding line_of
@@ -70,12 +70,12 @@ line-ends [] k d low is = absurd (omega arith)
 line-ends (byte ∷ bytes) zero d low is = ap (λ (b : Bool). length (if b then [] else byte ∷ line_of bytes)) (eq-eqb byte 10 is)
 line-ends (byte ∷ bytes) (suc k) d low is = line-ends bytes k d (omega arith) is
 
--- behind all bytes there is no line
+-- after all bytes there is no line
 pub no-line : (bytes : List ℕ) (k : ℕ) → length bytes ≤ k → length (line_of (drop k bytes)) ≡ 0
 unfolding line_of
 no-line bytes k low = ap (λ (xs : List ℕ). length (line_of xs)) (drop_all k bytes low)
 
--- what is left behind the bytes that were read, and the line behind them
+-- what is left behind the bytes that were read, and the line after them
 pub left-behind : (bytes : List ℕ) (read count : ℕ) → read + count < length bytes → count ≡ length (line_of (drop read bytes)) → drop (read + count + 1) bytes ≡ behind_line (drop read bytes)
 left-behind bytes read count more is =
     let same : read + count + 1 ≡ read + (length (line_of (drop read bytes)) + 1) = omega (arith, is) in

@@ -5,13 +5,13 @@ use Rattle.std.proofs.lemmas.List.{take_all, take_more, take-take, set_split, dr
 use Rattle.std.proofs.lemmas.Bool.{lt-ltb, le-ltb}
 use Rattle.ps_base.specs.declared.line.Line.{Line}
 use Rattle.ps_base.specs.declared.code_unit.Frame.{Frame}
-use Rattle.obj_layout.specs.declared.reference.Reference.{Reference}
-use Rattle.ps_meaning.specs.Operators.{Answer}
-use Rattle.ps_meaning.specs.Meaning.{with_local}
-use Rattle.ps_meaning.specs.Values.{Value, number_of}
+use Rattle.known_classes.specs.obj_layout.declared.reference.Reference.{Reference}
+use Rattle.ps_stepping.specs.ps_meaning.Operators.{Answer}
+use Rattle.ps_stepping.specs.ps_meaning.Meaning.{with_local}
+use Rattle.ps_stepping.specs.ps_meaning.Values.{Value, number_of}
 use Rattle.ps_stepping.specs.Config.{Config, frame_words, frame_in}
 use Rattle.ps_stepping.specs.Machine.{Step, Goes, Stuck, pop_num_of, pop_num, pop_ref_of, pop_ref, pop_two, put_num, push_num, push_ref, answered, two_nums, test, on, is_num_slot, is_ref_slot, with_num, with_ref}
-use Rattle.paired_ops.specs.World.{DenotesIn}
+use Rattle.known_classes.specs.paired_ops.World.{DenotesIn}
 use Rattle.frame_stack.specs.Frames.{Frames}
 use Rattle.machine_state.specs.Waiting.{AreWaiting}
 use Rattle.machine_state.specs.declared.machine.Machine.{Machine}

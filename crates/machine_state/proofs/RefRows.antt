@@ -3,11 +3,11 @@ use Rattle.std.proofs.Common.{◌≡◌, ℕ, suc, ◌+◌, ◌-◌, ◌<◌, �
 use Rattle.std.specs.Prelude.{reverse, nat_eq, if◌then◌else◌}
 use Rattle.std.proofs.lemmas.List.{get_or_append_left, get_or-set_same, get_or-set_other, length-set, drop-set-lt, length-reverse, drop_all}
 use Rattle.std.proofs.lemmas.Bool.{eqb-true, eqb-false}
-use Rattle.obj_layout.specs.declared.reference.Reference.{Reference}
-use Rattle.swizzle.specs.Heap as area
-use Rattle.ps_meaning.specs.Values.{Value}
-use Rattle.ps_meaning.specs.Meaning.{with_local}
-use Rattle.paired_ops.specs.World.{DenotesIn}
+use Rattle.known_classes.specs.obj_layout.declared.reference.Reference.{Reference}
+use Rattle.known_classes.specs.swizzle.Heap as area
+use Rattle.ps_stepping.specs.ps_meaning.Values.{Value}
+use Rattle.ps_stepping.specs.ps_meaning.Meaning.{with_local}
+use Rattle.known_classes.specs.paired_ops.World.{DenotesIn}
 use Rattle.machine_state.specs.Holding.{IsRefRow, AreDenoted, object_in}
 use Rattle.machine_state.proofs.Rows.{pushed_more}
 

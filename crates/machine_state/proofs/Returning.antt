@@ -7,15 +7,15 @@ use Rattle.std.proofs.lemmas.List.{append-nil}
 use Rattle.frame_stack.specs.Frames.{Frames}
 use Rattle.std.proofs.Math.Seq.{drop-append_seam, take-append_seam}
 use Rattle.std.proofs.lemmas.List.Sums.{sum_by_push}
-use Rattle.obj_layout.specs.declared.reference.Reference.{Reference}
-use Rattle.ps_meaning.specs.Evaluation.{most_calls}
+use Rattle.known_classes.specs.obj_layout.declared.reference.Reference.{Reference}
+use Rattle.ps_stepping.specs.ps_meaning.Evaluation.{most_calls}
 use Rattle.ps_stepping.specs.Config.{Config, Caller, frame_words}
-use Rattle.ps_meaning.specs.Event.{Done}
+use Rattle.ps_stepping.specs.ps_meaning.Event.{Done}
 use Rattle.ps_stepping.specs.Machine.{resumed, come_back, returned}
 use Rattle.ps_stepping.specs.Procedures.{num_back, ref_back}
 use Rattle.ps_stepping.specs.Steps.{Step, Stops, pop_num, pop_ref, push_num, push_ref}
-use Rattle.swizzle.specs.Heap as area
-use Rattle.paired_ops.specs.World.{DenotesIn}
+use Rattle.known_classes.specs.swizzle.Heap as area
+use Rattle.known_classes.specs.paired_ops.World.{DenotesIn}
 use Rattle.machine_state.specs.declared.caller.Caller as in_code
 use Rattle.machine_state.specs.declared.machine.Machine.{Machine}
 use Rattle.machine_state.specs.declared.stepped.Stepped.{Stepped}
@@ -103,7 +103,7 @@ module _ (m : Machine) (names : List Reference) (c : Config) (h : HeldBy names m
               },
             )
 
--- the others are in order behind the last of some
+-- the others are in order after the last of some
 module _ (callers : Vec in_code.Caller Global) (nums : Frames ℤ) (refs : Frames ℕ) (sound : IsOrderly callers nums refs) (w : in_code.Caller) (ws : List in_code.Caller)
     (split : callers.items ≡ ws ++ w ∷ []) where
   all-framed : All IsFramed (ws ++ w ∷ [])

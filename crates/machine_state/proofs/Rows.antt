@@ -3,7 +3,7 @@ use Rattle.std.proofs.Common.{◌≡◌, ℕ, ◌+◌, ◌-◌, ◌<◌, ◌≤�
 use Rattle.std.specs.Prelude.{reverse, nat_eq, if◌then◌else◌}
 use Rattle.std.proofs.lemmas.List.{reverse-append, drop-append-le, get_or_append_left, get_or-set_same, get_or-set_other, length-set, drop-set-lt, length-reverse, drop_all}
 use Rattle.std.proofs.lemmas.Bool.{eqb-true, eqb-false}
-use Rattle.ps_meaning.specs.Meaning.{with_local}
+use Rattle.ps_stepping.specs.ps_meaning.Meaning.{with_local}
 use Rattle.machine_state.specs.Holding.{IsRow}
 
 -- the words that are pushed, the top first

@@ -1,11 +1,11 @@
 -- Words that name objects.
 use Rattle.std.proofs.Common.{◌≡◌, ℕ, zero, suc, List, Option, Some, None, refl, arith, rules}
-use Rattle.obj_layout.specs.declared.reference.Reference.{Reference}
-use Rattle.swizzle.specs.Heap as area
-use Rattle.swizzle.specs.Heap.{IsHeap}
-use Rattle.ps_meaning.specs.Values.{Value, Nil}
-use Rattle.paired_ops.specs.World.{DenotesIn, DenotesScopeIn}
-use Rattle.heap_ops.proofs.LayoutLaws.{held-from}
+use Rattle.known_classes.specs.obj_layout.declared.reference.Reference.{Reference}
+use Rattle.known_classes.specs.swizzle.Heap as area
+use Rattle.known_classes.specs.swizzle.Heap.{IsHeap}
+use Rattle.ps_stepping.specs.ps_meaning.Values.{Value, Nil}
+use Rattle.known_classes.specs.paired_ops.World.{DenotesIn, DenotesScopeIn}
+use Rattle.known_classes.proofs.of_heap_ops.LayoutLaws.{held-from}
 use Rattle.machine_state.specs.Holding.{object_in, word_of}
 
 -- the word of an object names it

@@ -2,15 +2,15 @@
 use Rattle.std.specs.Prelude.{◌≡◌, ℕ, Bool, true, false, List, [], ◌∷◌, length, slice_index_or, Option, Some, None}
 use Rattle.ps_base.specs.CodeUnit.{UnitView}
 use Rattle.ps_base.specs.declared.line.Line.{Line}
-use Rattle.obj_layout.specs.declared.reference.Reference.{Reference}
-use Rattle.swizzle.specs.Heap as area
-use Rattle.ps_meaning.specs.Values.{Value}
+use Rattle.known_classes.specs.obj_layout.declared.reference.Reference.{Reference}
+use Rattle.known_classes.specs.swizzle.Heap as area
+use Rattle.ps_stepping.specs.ps_meaning.Values.{Value}
 use Rattle.ps_stepping.specs.Config.{Caller, Config}
 use Rattle.ps_stepping.specs.Machine.{resumed}
 use Rattle.ps_stepping.specs.Steps.{Step, Stuck, pop_ref}
 use Rattle.ps_stepping.specs.Objects.{pop_nums, pop_refs}
 use Rattle.ps_stepping.specs.Procedures.{called}
-use Rattle.paired_ops.specs.World.{DenotesIn, DenotesScopeIn}
+use Rattle.known_classes.specs.paired_ops.World.{DenotesIn, DenotesScopeIn}
 use Rattle.machine_state.specs.declared.body.Body.{Body}
 use Rattle.machine_state.specs.declared.known.KnownProcedure.{KnownProcedure}
 use Rattle.machine_state.specs.declared.machine.Machine.{Machine}

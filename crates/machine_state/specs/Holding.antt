@@ -1,19 +1,19 @@
 -- A machine in code, whose objects lie in an area, and the configuration that it stands for under a row of names.
 use Rattle.std.specs.Prelude.{◌≡◌, ℕ, ◌≤◌, ◌*◌, ℤ, List, length, vec_capacity}
 use Rattle.ps_base.specs.declared.code_unit.Frame.{Frame}
-use Rattle.obj_layout.specs.declared.reference.Reference.{Reference}
-use Rattle.swizzle.specs.Heap as area
-use Rattle.swizzle.specs.Heap.{top_of}
-use Rattle.heap_ops.specs.declared.layouts.Layouts.{Layouts}
-use Rattle.heap_ops.specs.Layouts.{AreSo as AreLaid}
+use Rattle.known_classes.specs.obj_layout.declared.reference.Reference.{Reference}
+use Rattle.known_classes.specs.swizzle.Heap as area
+use Rattle.known_classes.specs.swizzle.Heap.{top_of}
+use Rattle.known_classes.specs.heap_ops.declared.layouts.Layouts.{Layouts}
+use Rattle.known_classes.specs.heap_ops.Layouts.{AreSo as AreLaid}
 use Rattle.known_classes.specs.declared.classes.KnownClasses.{KnownClasses}
 use Rattle.known_classes.specs.Classes.{IsRight}
 use Rattle.known_vectors.specs.declared.known.KnownVector.{KnownVector}
 use Rattle.known_vectors.specs.Known.{AreSo as AreKnown}
-use Rattle.proc_values.specs.declared.reading.CodePlace.{CodePlace}
-use Rattle.proc_values.specs.Loaded.{IsUnit, IsFitUnit, IsUnitPlace}
+use Rattle.known_classes.specs.proc_values.declared.reading.CodePlace.{CodePlace}
+use Rattle.known_classes.specs.proc_values.Loaded.{IsUnit, IsFitUnit, IsUnitPlace}
 use Rattle.ps_stepping.specs.Config.{Config, frame_words, frame_in}
-use Rattle.paired_ops.specs.World.{IsWorld, DenotesScopeIn}
+use Rattle.known_classes.specs.paired_ops.World.{IsWorld, DenotesScopeIn}
 use Rattle.machine_state.specs.declared.machine.Machine.{Machine}
 use Rattle.machine_state.specs.declared.caller.Caller.{Caller}
 use Rattle.machine_state.specs.declared.known.KnownProcedure.{KnownProcedure}

@@ -1,13 +1,13 @@
 -- Bodies of procedures, and what is known of procedures that were called before.
 use Rattle.std.specs.Prelude.{◌≡◌, ◌⊎◌, ℕ, true, All, List, Option, Some}
 use Rattle.ps_base.specs.CodeUnit.{UnitView}
-use Rattle.obj_layout.specs.declared.reference.Reference.{Reference}
-use Rattle.swizzle.specs.Heap as area
-use Rattle.proc_values.specs.Loaded.{IsUnit, IsFitUnit, IsUnitPlace}
-use Rattle.ps_meaning.specs.Values.{Procedure, as_compiled}
+use Rattle.known_classes.specs.obj_layout.declared.reference.Reference.{Reference}
+use Rattle.known_classes.specs.swizzle.Heap as area
+use Rattle.known_classes.specs.proc_values.Loaded.{IsUnit, IsFitUnit, IsUnitPlace}
+use Rattle.ps_stepping.specs.ps_meaning.Values.{Procedure, as_compiled}
 use Rattle.ps_stepping.specs.Config.{frame_in}
 use Rattle.ps_stepping.specs.Procedures.{takes_refs}
-use Rattle.paired_ops.specs.World.{DenotesIn, DenotesScopeIn}
+use Rattle.known_classes.specs.paired_ops.World.{DenotesIn, DenotesScopeIn}
 use Rattle.machine_state.specs.declared.body.Body.{Body}
 use Rattle.machine_state.specs.declared.known.KnownProcedure.{KnownProcedure}
 use Rattle.machine_state.specs.Rows.{object_in}

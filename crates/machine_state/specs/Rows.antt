@@ -1,9 +1,9 @@
 -- Words on the stacks of a machine in code, and what they stand for under a row of names.
 use Rattle.std.specs.Prelude.{◌≡◌, ℕ, zero, suc, ◌<◌, ◌≤◌, ℤ, List, [], ◌∷◌, length, reverse, drop, slice_index_or, Option, Some, None}
-use Rattle.obj_layout.specs.declared.reference.Reference.{Reference}
-use Rattle.swizzle.specs.Heap as area
-use Rattle.ps_meaning.specs.Values.{Value}
-use Rattle.paired_ops.specs.World.{DenotesIn}
+use Rattle.known_classes.specs.obj_layout.declared.reference.Reference.{Reference}
+use Rattle.known_classes.specs.swizzle.Heap as area
+use Rattle.ps_stepping.specs.ps_meaning.Values.{Value}
+use Rattle.known_classes.specs.paired_ops.World.{DenotesIn}
 
 -- what a word on the stack of references names: 0 is none, and any other the object of the area that begins there
 abbrev pub object_in : ℕ → Option ℕ

@@ -1,15 +1,13 @@
 -- What a step in code answers of the step of the definition.
-use Rattle.std.specs.Prelude.{◌≡◌, ℕ, ◌<◌, ◌+◌, ◌*◌, List, [], ◌∷◌}
+use Rattle.std.specs.Prelude.{◌≡◌, ℕ, List, [], ◌∷◌}
 use Rattle.std.specs.Fmt.{signed_decimal}
-use Rattle.obj_layout.specs.declared.kind.Kind.TheVariants.{Text}
-use Rattle.swizzle.specs.Heap as area
-use Rattle.swizzle.specs.Heap.{IsHeld, header_at}
-use Rattle.swizzle.specs.Text.{text_at}
-use Rattle.swizzle.specs.declared.fault.SwizzleFault.{SwizzleFault}
-use Rattle.swizzle.specs.declared.fault.SwizzleFault.TheVariants.{AreaFull}
-use Rattle.ps_meaning.specs.Event.{End, Done, Trapped, OutOfTurns, Event, Turn, outputs}
-use Rattle.ps_meaning.specs.Values.{flag_text}
-use Rattle.ps_meaning.specs.Meaning.{some_out, in_places}
+use Rattle.known_classes.specs.obj_layout.declared.kind.Kind.TheVariants.{Text}
+use Rattle.known_classes.specs.swizzle.Heap as area
+use Rattle.known_classes.specs.swizzle.Heap.{IsHeld, header_at}
+use Rattle.known_classes.specs.swizzle.Text.{text_at}
+use Rattle.ps_stepping.specs.ps_meaning.Event.{End, Done, Trapped, OutOfTurns, Event, Turn, outputs}
+use Rattle.ps_stepping.specs.ps_meaning.Values.{flag_text}
+use Rattle.ps_stepping.specs.ps_meaning.Meaning.{some_out, in_places}
 use Rattle.ps_stepping.specs.Config.{Config}
 use Rattle.ps_stepping.specs.Machine.{Step, Goes, Stops, Stuck, Steps}
 use Rattle.machine_state.specs.declared.machine.Machine.{Machine}
@@ -21,6 +19,7 @@ use Rattle.machine_state.specs.declared.stepped.Stepped.TheVariants.{Quiet, Turn
 use Rattle.machine_state.specs.declared.run_end.RunEnd.{RunEnd}
 use Rattle.machine_state.specs.declared.run_end.RunEnd.TheVariants as in_code
 use Rattle.machine_state.specs.Holding.{Holds, IsSound}
+use Rattle.machine_state.specs.Full.{IsFull}
 
 abbrev pub end_of : RunEnd → End
 end_of in_code.Done = Done
@@ -45,22 +44,14 @@ IsItem here _ = Unit {0}
 abbrev pub text_of : area.Heap → Writing → List ℕ
 text_of here w = in_places w.width (item_text here w.item)
 
--- There was no room in the area, and so many counted bytes pass it.
-pub record IsFull (here : area.Heap) (counted : ℕ) (fault : SwizzleFault) : Type 0 where
-  pub top : ℕ
-  pub wanted : ℕ
-  pub fault_is : fault ≡ AreaFull top wanted here.size
-  pub full : here.size < top + wanted
-  pub passed : 8 * here.size < counted
-
 -- The step is what was answered, with the write, the end or the fault that the machine names. Where the run goes on, the machine holds the next
--- configuration; where the area was full, the bytes that would be counted then pass it.
+-- configuration; where the area is full, there is no room in it for what the step makes, and what lies in it is what the machine held.
 abbrev pub Does : Step → Stepped → Machine → Type 0
 Does s Quiet m = (events : List Event) × (next : Config) × (s ≡ Goes events next) × (outputs events ≡ []) × Holds m next
 Does s Turns m = (next : Config) × (s ≡ Goes (Turn next.store.counted ∷ []) next) × Holds m next
 Does s Writes m = (next : Config) × (s ≡ Goes (some_out (text_of m.sw m.writing) next.store.counted) next) × IsItem m.sw m.writing.item × Holds m next
 Does s Halts m = s ≡ Stops (end_of m.end)
-Does s Breaks m = (next : Config) × (s ≡ Goes [] next) × IsFull m.sw next.store.counted m.fault
+Does s Breaks m = (next : Config) × (s ≡ Goes [] next) × IsFull m.sw next m.fault
 Does s Damaged m = s ≡ Stuck
 
 -- the area keeps its size, where it is still of use

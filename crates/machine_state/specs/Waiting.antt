@@ -3,12 +3,12 @@ use Rattle.std.specs.Prelude.{◌≡◌, ◌+◌, ◌*◌, ℕ, ◌<◌, ◌≤�
 use Rattle.std.specs.declared.alloc.Global.{Global}
 use Rattle.std.specs.declared.vec.Vec.{Vec}
 use Rattle.frame_stack.specs.Frames.{Frames}
-use Rattle.obj_layout.specs.declared.reference.Reference.{Reference}
-use Rattle.swizzle.specs.Heap as area
-use Rattle.proc_values.specs.Loaded.{IsUnit, IsFitUnit, IsUnitPlace}
-use Rattle.ps_meaning.specs.Evaluation.{most_calls}
+use Rattle.known_classes.specs.obj_layout.declared.reference.Reference.{Reference}
+use Rattle.known_classes.specs.swizzle.Heap as area
+use Rattle.known_classes.specs.proc_values.Loaded.{IsUnit, IsFitUnit, IsUnitPlace}
+use Rattle.ps_stepping.specs.ps_meaning.Evaluation.{most_calls}
 use Rattle.ps_stepping.specs.Config.{Caller, frame_words, frame_in}
-use Rattle.paired_ops.specs.World.{DenotesScopeIn}
+use Rattle.known_classes.specs.paired_ops.World.{DenotesScopeIn}
 use Rattle.machine_state.specs.declared.caller.Caller as in_code
 use Rattle.machine_state.specs.Rows.{IsRow, IsRefRow, object_in}
 

@@ -1,4 +1,4 @@
-use proc_values::reading::CodePlace;
+use known_classes::proc_values::reading::CodePlace;
 use ps_base::code_unit::Frame;
 
 /// A body that is called: its code object with the place of its bytes and its frame, and the scope that its procedure was made in,

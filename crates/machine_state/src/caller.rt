@@ -1,4 +1,4 @@
-use proc_values::reading::CodePlace;
+use known_classes::proc_values::reading::CodePlace;
 use ps_base::code_unit::Frame;
 
 /// A body that waits for a call to come back: its code object with the place of its bytes and its frame, the offset at which it goes on, its scope,

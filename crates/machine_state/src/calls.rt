@@ -1,7 +1,7 @@
 //! Calls: the body that runs waits, and another one begins.
 ghost use Rattle.std.specs.Prelude.{◌≡◌, ◌+◌, ◌<◌, ◌≤◌, length, true, vec_len, IfSome, List};
-ghost use Rattle.obj_layout.specs.declared.reference.Reference.{Reference};
-ghost use Rattle.ps_meaning.specs.Evaluation.{most_calls};
+ghost use Rattle.known_classes.specs.obj_layout.declared.reference.Reference.{Reference};
+ghost use Rattle.ps_stepping.specs.ps_meaning.Evaluation.{most_calls};
 ghost use Rattle.ps_stepping.specs.Config.{Config};
 ghost use Rattle.ps_stepping.specs.Procedures.{takes_refs as takes_refs_of};
 ghost use Rattle.machine_state.specs.Calling.{body_at, Calls, HasBelow};

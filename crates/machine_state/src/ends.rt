@@ -1,6 +1,6 @@
 //! Where a run ends.
 ghost use Rattle.std.specs.Prelude.{◌≡◌};
-ghost use Rattle.ps_meaning.specs.Event.{Trapped};
+ghost use Rattle.ps_stepping.specs.ps_meaning.Event.{Trapped};
 ghost use Rattle.ps_stepping.specs.Machine.{Stops};
 ghost use Rattle.machine_state.specs.Holding.{IsSound};
 ghost use Rattle.machine_state.specs.declared.run_end.RunEnd.TheVariants as in_code;

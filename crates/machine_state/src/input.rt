@@ -1,5 +1,5 @@
 ghost use Rattle.std.specs.Prelude.{◌≡◌, length};
-ghost use Rattle.ps_meaning.specs.Texts.{line_of, behind_line, is_at_end as is_at_end_of};
+ghost use Rattle.ps_stepping.specs.ps_meaning.Texts.{line_of, behind_line, is_at_end as is_at_end_of};
 
 use std::marker::Model;
 
@@ -46,7 +46,7 @@ impl Input {
         left.split_at(line_length(left)).0
     }
 
-    /// Reads a line of so many bytes, and the newline behind it.
+    /// Reads a line of so many bytes, and the newline after it.
     pub fn pass_line(&mut self, count: usize)
         requires { count ≡ length (line_of self.old) }
         ensures { self.new ≡ behind_line self.old }

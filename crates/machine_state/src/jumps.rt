@@ -1,6 +1,6 @@
 ghost use Rattle.std.specs.Prelude.{◌≡◌, if◌then◌else◌};
-ghost use Rattle.ps_meaning.specs.Meaning.{spent};
-ghost use Rattle.ps_meaning.specs.Values.{is_one as is_one_of};
+ghost use Rattle.ps_stepping.specs.ps_meaning.Meaning.{spent};
+ghost use Rattle.ps_stepping.specs.ps_meaning.Values.{is_one as is_one_of};
 ghost use Rattle.ps_stepping.specs.Machine.{on, forward as forward_of, back as back_of, turn_to as turn_to_of, pop_num as pop_num_of};
 ghost use Rattle.machine_state.specs.Holding.{IsSound};
 ghost use Rattle.machine_state.specs.Stepped.{Takes};
@@ -19,7 +19,7 @@ pub fn is_one(z: i32) -> bool
     z > 0
 }
 
-/// Goes on quietly behind the instruction.
+/// Goes on quietly after the instruction.
 #[inline(always)]
 pub fn quiet(m: &Machine) -> Stepped
     requires { IsSound m.now }
@@ -29,7 +29,7 @@ pub fn quiet(m: &Machine) -> Stepped
     Stepped::Quiet
 }
 
-/// Goes on at an offset behind that of the instruction itself.
+/// Goes on at an offset after that of the instruction itself.
 #[inline(always)]
 pub fn forward(m: &mut Machine, own: u32, to: u32) -> Stepped
     requires { IsSound m.old }

@@ -1,11 +1,11 @@
 //! Procedures that were called before.
 ghost use Rattle.std.specs.Prelude.{◌≡◌, ◌<◌, length, slice_index_or, IfSome, List};
-ghost use Rattle.obj_layout.specs.declared.reference.Reference.{Reference};
-ghost use Rattle.swizzle.specs.Heap as area;
+ghost use Rattle.known_classes.specs.obj_layout.declared.reference.Reference.{Reference};
+ghost use Rattle.known_classes.specs.swizzle.Heap as area;
 ghost use Rattle.machine_state.specs.Known.{AreKnown, IsKnown};
 
 use crate::body::Body;
-use proc_values::reading::CodePlace;
+use known_classes::proc_values::reading::CodePlace;
 use ps_base::code_unit::Frame;
 
 /// A procedure that was called: its object's index in the area, and its body, whose frame fits on the stacks. Index 0 stands for no entry.

@@ -22,8 +22,13 @@ pub mod writes;
 
 pub use body::Body;
 pub use caller::Caller;
+pub use frame_stack;
 pub use input::Input;
 pub use known::{KnownProcedure, KnownProcedures};
+pub use known_classes;
+pub use known_classes::{heap_ops, heap_places, heap_texts, obj_layout, paired_ops, swizzle};
+pub use known_vectors;
 pub use machine::{ALL_WORDS, FRAME_WORDS, MOST_CALLERS, MOST_VALUES, Machine};
+pub use ps_stepping::{ps_code, text_forms};
 pub use run_end::RunEnd;
 pub use stepped::{Item, Stepped, Writing};

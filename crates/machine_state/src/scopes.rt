@@ -1,8 +1,8 @@
 //! The scope of the body that runs.
 ghost use Rattle.std.specs.Prelude.{List};
-ghost use Rattle.obj_layout.specs.declared.reference.Reference.{Reference};
+ghost use Rattle.known_classes.specs.obj_layout.declared.reference.Reference.{Reference};
 ghost use Rattle.ps_stepping.specs.Config.{Config};
-ghost use Rattle.paired_ops.specs.World.{DenotesScopeIn};
+ghost use Rattle.known_classes.specs.paired_ops.World.{DenotesScopeIn};
 ghost use Rattle.machine_state.specs.Calling.{Enters};
 ghost use Rattle.machine_state.specs.Holding.{HeldBy, IsSound};
 

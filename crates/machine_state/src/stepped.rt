@@ -1,4 +1,4 @@
-/// What a step came to. A write is left to the caller, and the other steps tell nothing. What a write writes, where the run ended and why an object
+/// What a step returned. A write is left to the caller, and the other steps tell nothing. What a write writes, where the run ended and why an object
 /// couldn't be made stand in the machine.
 #[derive(Clone, Copy)]
 pub enum Stepped {
@@ -6,7 +6,7 @@ pub enum Stepped {
     Quiet,
     /// The run goes on, into another turn.
     Turns,
-    /// The run goes on behind the machine's write.
+    /// The run goes on after the machine's write.
     Writes,
     /// The run is at the machine's end.
     Halts,

@@ -2,14 +2,14 @@
 use Rattle.std.proofs.Common.{◌≡◌, ℕ, Bool, true, false, List, [], ◌∷◌, refl, sym, ap, ◌∙◌, subst}
 use Rattle.ps_base.specs.declared.line.Line.{Line}
 use Rattle.ps_base.specs.declared.trap.Trap.TheVariants.{NoInput}
-use Rattle.obj_layout.specs.declared.reference.Reference.{Reference}
-use Rattle.swizzle.specs.Heap as area
-use Rattle.ps_meaning.specs.Meaning.{on_input}
-use Rattle.ps_meaning.specs.Texts.{Attempt, Fails, line_of, behind_line, line_read, string_of, is_at_end}
-use Rattle.ps_stepping.specs.Config.{Config}
-use Rattle.ps_stepping.specs.Objects.{holding}
-use Rattle.machine_state.specs.declared.machine.Machine.{Machine}
-use Rattle.machine_state.specs.Holding.{HeldBy, HeldIn, IsSound}
+use Rattle.machine_values.specs.obj_layout.declared.reference.Reference.{Reference}
+use Rattle.machine_values.specs.swizzle.Heap as area
+use Rattle.machine_values.specs.ps_meaning.Meaning.{on_input}
+use Rattle.machine_values.specs.ps_meaning.Texts.{Attempt, Fails, line_of, behind_line, line_read, string_of, is_at_end}
+use Rattle.machine_values.specs.ps_stepping.Config.{Config}
+use Rattle.machine_values.specs.ps_stepping.Objects.{holding}
+use Rattle.machine_values.specs.machine_state.declared.machine.Machine.{Machine}
+use Rattle.machine_values.specs.machine_state.Holding.{HeldBy, HeldIn, IsSound}
 
 -- at the end there is no line
 pub none-read : (input : List ℕ) → is_at_end input ≡ true → line_read input ≡ Fails NoInput
@@ -23,7 +23,7 @@ line-read [] is = absurd (cc)
 line-read (byte ∷ bytes) is = refl
 
 module _ (m : Machine) (now : area.Heap) (input : List ℕ) where
-  -- the machine behind a line, in an area that changed since
+  -- the machine after a line, in an area that changed since
   abbrev pub behind : Machine
   behind = record m { sw = now; input = input }
 

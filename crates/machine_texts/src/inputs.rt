@@ -1,24 +1,24 @@
 //! The library's functions over the input.
 ghost use Rattle.std.specs.Prelude.{List};
-ghost use Rattle.obj_area.specs.Words.{AreBytes};
-ghost use Rattle.obj_layout.specs.declared.reference.Reference.{Reference};
-ghost use Rattle.ps_meaning.specs.Objects as meaning;
-ghost use Rattle.ps_meaning.specs.Texts.{string_of};
-ghost use Rattle.ps_stepping.specs.Objects.{read_line as read_line_of, at_end as at_end_of};
-ghost use Rattle.paired_ops.specs.World.{IsWorld, MakesText};
-ghost use Rattle.machine_state.specs.Holding.{IsHolding, IsSound};
-ghost use Rattle.machine_state.specs.Stepped.{Takes};
+ghost use Rattle.machine_values.specs.obj_area.Words.{AreBytes};
+ghost use Rattle.machine_values.specs.obj_layout.declared.reference.Reference.{Reference};
+ghost use Rattle.machine_values.specs.ps_meaning.Objects as meaning;
+ghost use Rattle.machine_values.specs.ps_meaning.Texts.{string_of};
+ghost use Rattle.machine_values.specs.ps_stepping.Objects.{read_line as read_line_of, at_end as at_end_of};
+ghost use Rattle.machine_values.specs.paired_ops.World.{IsWorld, MakesText};
+ghost use Rattle.machine_values.specs.machine_state.Holding.{IsHolding, IsSound};
+ghost use Rattle.machine_values.specs.machine_state.Stepped.{Takes};
 
-use heap_texts::make::make_text;
-use machine_state::ends::trapped;
-use machine_state::stacks::push_num;
-use machine_state::values::number;
-use machine_state::{Machine, Stepped};
 use machine_values::gives::give_text;
-use paired_ops::OpFault;
+use machine_values::heap_texts::make::make_text;
+use machine_values::machine_state::ends::trapped;
+use machine_values::machine_state::stacks::push_num;
+use machine_values::machine_state::values::number;
+use machine_values::machine_state::{Machine, Stepped};
+use machine_values::paired_ops::OpFault;
+use machine_values::swizzle::swizzle::Swizzle;
 use ps_base::line::Line;
 use ps_base::trap::Trap;
-use swizzle::swizzle::Swizzle;
 
 /// The most bytes of a string.
 const MOST_BYTES: usize = 65_535;

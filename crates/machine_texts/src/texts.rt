@@ -1,24 +1,24 @@
 //! Instructions over strings.
-ghost use Rattle.machine_state.specs.Holding.{IsHolding, IsSound};
-ghost use Rattle.machine_state.specs.Stepped.{UnlessDamaged, Takes};
+ghost use Rattle.machine_values.specs.machine_state.Holding.{IsHolding, IsSound};
+ghost use Rattle.machine_values.specs.machine_state.Stepped.{UnlessDamaged, Takes};
 ghost use Rattle.std.specs.Prelude.{◌≡◌, ℕ, List};
-ghost use Rattle.ps_meaning.specs.Texts.{order_of};
-ghost use Rattle.ps_meaning.specs.Evaluation.{text_relation};
-ghost use Rattle.ps_stepping.specs.Config.{constants_in, constant_at};
-ghost use Rattle.ps_stepping.specs.Machine.{push_text as push_text_of, write_text as write_text_of};
-ghost use Rattle.ps_stepping.specs.Objects.{join as join_of, part as part_of, int_text as int_text_of, text_length as text_length_of, compare_texts as compare_texts_of, library as library_of};
-ghost use Rattle.swizzle.specs.Reading.{LeavesOutside};
+ghost use Rattle.machine_values.specs.ps_meaning.Texts.{order_of};
+ghost use Rattle.machine_values.specs.ps_meaning.Evaluation.{text_relation};
+ghost use Rattle.machine_values.specs.ps_stepping.Config.{constants_in, constant_at};
+ghost use Rattle.machine_values.specs.ps_stepping.Machine.{push_text as push_text_of, write_text as write_text_of};
+ghost use Rattle.machine_values.specs.ps_stepping.Objects.{join as join_of, part as part_of, int_text as int_text_of, text_length as text_length_of, compare_texts as compare_texts_of, library as library_of};
+ghost use Rattle.machine_values.specs.swizzle.Reading.{LeavesOutside};
 
 use crate::inputs::{at_end, read_line};
-use machine_state::stacks::{push_num, push_ref};
-use machine_state::values::number;
-use machine_state::writes::written;
-use machine_state::{Item, Machine, Stepped};
 use machine_values::constants::text_constant;
 use machine_values::gives::give_text;
+use machine_values::machine_state::stacks::{push_num, push_ref};
+use machine_values::machine_state::values::number;
+use machine_values::machine_state::writes::written;
+use machine_values::machine_state::{Item, Machine, Stepped};
+use machine_values::obj_layout::vault::Vault;
+use machine_values::paired_ops::texts;
 use machine_values::pops::{pop_int, pop_text, take_width};
-use obj_layout::vault::Vault;
-use paired_ops::texts;
 use ps_base::line::Line;
 use ps_base::operator::Relation;
 use std::cmp::Ordering;
@@ -58,7 +58,7 @@ pub fn library(m: &mut Machine, code: u32, line: Line) -> Stepped
     }
 }
 
-/// Pops two texts, and pushes the one behind the other.
+/// Pops two texts, and pushes the one after the other.
 #[inline]
 pub fn join(m: &mut Machine, line: Line) -> Stepped
     requires sound { IsSound m.old }

@@ -5,31 +5,31 @@ use Rattle.std.proofs.lemmas.List.{get_or-reverse, get_or-drop}
 use Rattle.std.proofs.Common.{length-drop}
 use Rattle.std.proofs.lemmas.List.{length-reverse}
 use Rattle.ps_base.specs.CodeUnit.{ConstantView, ConstantsView, text}
-use Rattle.obj_layout.specs.declared.reference.Reference.{Reference}
-use Rattle.text_forms.specs.declared.forms.Form.{Form}
-use Rattle.text_forms.specs.declared.forms.Located.{Located}
-use Rattle.text_forms.specs.Forms.{forms_of, form_in, located_in, located_as}
-use Rattle.swizzle.specs.Heap as area
-use Rattle.swizzle.specs.Heap.{IsHeap, IsHeld}
-use Rattle.swizzle.specs.Text.{text_at}
-use Rattle.heap_ops.specs.Structures.{IsNamed}
-use Rattle.obj_layout.specs.declared.kind.Kind.TheVariants as kind
-use Rattle.ps_meaning.specs.Values.{Value, Text}
-use Rattle.ps_stepping.specs.Config.{Config, constants_in}
-use Rattle.ps_stepping.specs.Steps.{text_in}
-use Rattle.ps_stepping.specs.Objects.{when_number, when_reference}
-use Rattle.paired_ops.specs.World.{DenotesIn}
-use Rattle.paired_ops.proofs.ValueLaws.{text-denoted, denotes-text}
-use Rattle.known_classes.specs.declared.known.KnownField.{KnownField}
-use Rattle.known_classes.specs.declared.known.KnownFields.{KnownFields}
-use Rattle.known_classes.specs.declared.classes.KnownClasses.{KnownClasses}
-use Rattle.known_classes.specs.Known.{AreSo, IsKnown, IsSo}
-use Rattle.known_classes.specs.declared.makes.KnownMakes.{KnownMakes}
-use Rattle.known_classes.specs.Known.{IsTextOf}
-use Rattle.known_classes.specs.Made.{AreSo as AreMade}
-use Rattle.known_classes.specs.Classes.{IsRight}
-use Rattle.known_classes.specs.Reading.{IsThere}
-use Rattle.known_classes.proofs.TextOf.{text-of}
+use Rattle.machine_state.specs.obj_layout.declared.reference.Reference.{Reference}
+use Rattle.machine_state.specs.text_forms.declared.forms.Form.{Form}
+use Rattle.machine_state.specs.text_forms.declared.forms.Located.{Located}
+use Rattle.machine_state.specs.text_forms.Forms.{forms_of, form_in, located_in, located_as}
+use Rattle.machine_state.specs.swizzle.Heap as area
+use Rattle.machine_state.specs.swizzle.Heap.{IsHeap, IsHeld}
+use Rattle.machine_state.specs.swizzle.Text.{text_at}
+use Rattle.machine_state.specs.heap_ops.Structures.{IsNamed}
+use Rattle.machine_state.specs.obj_layout.declared.kind.Kind.TheVariants as kind
+use Rattle.machine_state.specs.ps_meaning.Values.{Value, Text}
+use Rattle.machine_state.specs.ps_stepping.Config.{Config, constants_in}
+use Rattle.machine_state.specs.ps_stepping.Steps.{text_in}
+use Rattle.machine_state.specs.ps_stepping.Objects.{when_number, when_reference}
+use Rattle.machine_state.specs.paired_ops.World.{DenotesIn}
+use Rattle.machine_state.proofs.of_paired_ops.ValueLaws.{text-denoted, denotes-text}
+use Rattle.machine_state.specs.known_classes.declared.known.KnownField.{KnownField}
+use Rattle.machine_state.specs.known_classes.declared.known.KnownFields.{KnownFields}
+use Rattle.machine_state.specs.known_classes.declared.classes.KnownClasses.{KnownClasses}
+use Rattle.machine_state.specs.known_classes.Known.{AreSo, IsKnown, IsSo}
+use Rattle.machine_state.specs.known_classes.declared.makes.KnownMakes.{KnownMakes}
+use Rattle.machine_state.specs.known_classes.Known.{IsTextOf}
+use Rattle.machine_state.specs.known_classes.Made.{AreSo as AreMade}
+use Rattle.machine_state.specs.known_classes.Classes.{IsRight}
+use Rattle.machine_state.specs.known_classes.Reading.{IsThere}
+use Rattle.machine_state.proofs.of_known_classes.TextOf.{text-of}
 use Rattle.machine_state.specs.declared.machine.Machine.{Machine}
 use Rattle.machine_state.specs.Holding.{HeldBy, IsHolding, IsSound, AreDenoted, object_in}
 use Rattle.machine_values.specs.Constants.{StillHolds, ReadsConstant, FindsField, KnowsField, MeetsField}

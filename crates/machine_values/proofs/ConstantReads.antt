@@ -3,22 +3,22 @@ use Rattle.std.proofs.Common.{◌≡◌, ◌≢◌, ℕ, zero, suc, List, Option
 use Rattle.std.specs.Prelude.{Result, Ok, Err}
 use Rattle.ps_base.specs.CodeUnit.{UnitView, unit, ConstantView, text, literal, ConstantsView, no_constants, constant_then}
 use Rattle.ps_base.specs.declared.code_unit.Frame.{Frame}
-use Rattle.obj_layout.specs.declared.kind.Kind.TheVariants as kind
-use Rattle.obj_layout.specs.declared.reference.Reference.{Reference}
-use Rattle.swizzle.specs.Heap as area
-use Rattle.swizzle.specs.Heap.{IsHeap, IsHeld, header_at}
-use Rattle.swizzle.specs.Text.{text_at}
-use Rattle.swizzle.specs.declared.fault.SwizzleFault.{SwizzleFault}
-use Rattle.proc_values.specs.Loaded.{IsUnit, IsConstant, constant_numbered}
-use Rattle.ps_meaning.specs.Values.{Text}
-use Rattle.ps_meaning.specs.Objects.{Heap}
-use Rattle.ps_stepping.specs.Config.{Config, constants_in, constant_at}
-use Rattle.ps_stepping.specs.Steps.{Step, Stuck, text_in, with_text, push_ref}
-use Rattle.ps_stepping.specs.Machine.{push_text}
-use Rattle.paired_ops.specs.World.{IsWorld, DenotesIn, Stands}
-use Rattle.paired_ops.specs.Code.{AnswersConstant, DenotesConstant}
-use Rattle.known_classes.specs.Known.{HasConstants, IsTextOf}
-use Rattle.known_classes.proofs.TextOf.{row-text}
+use Rattle.machine_state.specs.obj_layout.declared.kind.Kind.TheVariants as kind
+use Rattle.machine_state.specs.obj_layout.declared.reference.Reference.{Reference}
+use Rattle.machine_state.specs.swizzle.Heap as area
+use Rattle.machine_state.specs.swizzle.Heap.{IsHeap, IsHeld, header_at}
+use Rattle.machine_state.specs.swizzle.Text.{text_at}
+use Rattle.machine_state.specs.swizzle.declared.fault.SwizzleFault.{SwizzleFault}
+use Rattle.machine_state.specs.proc_values.Loaded.{IsUnit, IsConstant, constant_numbered}
+use Rattle.machine_state.specs.ps_meaning.Values.{Text}
+use Rattle.machine_state.specs.ps_meaning.Objects.{Heap}
+use Rattle.machine_state.specs.ps_stepping.Config.{Config, constants_in, constant_at}
+use Rattle.machine_state.specs.ps_stepping.Steps.{Step, Stuck, text_in, with_text, push_ref}
+use Rattle.machine_state.specs.ps_stepping.Machine.{push_text}
+use Rattle.machine_state.specs.paired_ops.World.{IsWorld, DenotesIn, Stands}
+use Rattle.machine_state.specs.paired_ops.Code.{AnswersConstant, DenotesConstant}
+use Rattle.machine_state.specs.known_classes.Known.{HasConstants, IsTextOf}
+use Rattle.machine_state.proofs.of_known_classes.TextOf.{row-text}
 use Rattle.machine_state.specs.declared.machine.Machine.{Machine}
 use Rattle.machine_state.specs.Holding.{HeldBy, IsHolding, IsSound}
 use Rattle.machine_values.specs.Constants.{StillHolds, ReadsConstant}

@@ -4,28 +4,28 @@ use Rattle.std.proofs.Common.{length-append, refl, sym, ap, ◌∙◌, subst, ar
 use Rattle.std.specs.Prelude.{IfSome, MatchOption}
 use Rattle.std.proofs.lemmas.List.{take_all, take_more, length-take-le}
 use Rattle.ps_base.specs.declared.line.Line.{Line}
-use Rattle.obj_layout.specs.declared.reference.Reference.{Reference}
-use Rattle.text_forms.specs.declared.forms.Form.{Form}
-use Rattle.text_forms.specs.Forms.{element_of}
-use Rattle.swizzle.specs.Heap as area
-use Rattle.swizzle.specs.Heap.{IsHeap}
-use Rattle.ps_meaning.specs.Texts.{Attempt}
-use Rattle.ps_meaning.specs.Values.{Value, Num, Vector, word_of}
-use Rattle.ps_meaning.specs.Objects.{Heap, Object, with_element}
-use Rattle.ps_meaning.specs.Objects.{element_of as element_at}
-use Rattle.ps_meaning.specs.Evaluation.{kept_as}
-use Rattle.ps_meaning.specs.Meaning.{on_heap}
-use Rattle.ps_stepping.specs.Config.{Config}
-use Rattle.ps_stepping.specs.Steps.{Step, on, attempted, put_num, push_num, push_ref, pop_num, pop_ref, pop_num_of, pop_ref_of}
-use Rattle.ps_stepping.specs.Objects.{element_num, element_ref, set_element_num, set_element_ref, type_of, type_of_object, of_type, pop_vector}
-use Rattle.ps_stepping.specs.Objects.{when_number, when_reference, changed}
-use Rattle.paired_ops.specs.World.{IsWorld, DenotesIn}
-use Rattle.known_vectors.specs.Known.{AreRight}
-use Rattle.known_vectors.specs.Known.{AreSo as AreKnown}
-use Rattle.known_vectors.specs.Reached.{HasNumber, HasReference, number_kept}
-use Rattle.known_vectors.specs.Reached.{Puts as PutsElement}
-use Rattle.known_vectors.proofs.Lasting.{last-element}
-use Rattle.known_vectors.proofs.Reaching.{only-vector}
+use Rattle.machine_state.specs.obj_layout.declared.reference.Reference.{Reference}
+use Rattle.machine_state.specs.text_forms.declared.forms.Form.{Form}
+use Rattle.machine_state.specs.text_forms.Forms.{element_of}
+use Rattle.machine_state.specs.swizzle.Heap as area
+use Rattle.machine_state.specs.swizzle.Heap.{IsHeap}
+use Rattle.machine_state.specs.ps_meaning.Texts.{Attempt}
+use Rattle.machine_state.specs.ps_meaning.Values.{Value, Num, Vector, word_of}
+use Rattle.machine_state.specs.ps_meaning.Objects.{Heap, Object, with_element}
+use Rattle.machine_state.specs.ps_meaning.Objects.{element_of as element_at}
+use Rattle.machine_state.specs.ps_meaning.Evaluation.{kept_as}
+use Rattle.machine_state.specs.ps_meaning.Meaning.{on_heap}
+use Rattle.machine_state.specs.ps_stepping.Config.{Config}
+use Rattle.machine_state.specs.ps_stepping.Steps.{Step, on, attempted, put_num, push_num, push_ref, pop_num, pop_ref, pop_num_of, pop_ref_of}
+use Rattle.machine_state.specs.ps_stepping.Objects.{element_num, element_ref, set_element_num, set_element_ref, type_of, type_of_object, of_type, pop_vector}
+use Rattle.machine_state.specs.ps_stepping.Objects.{when_number, when_reference, changed}
+use Rattle.machine_state.specs.paired_ops.World.{IsWorld, DenotesIn}
+use Rattle.machine_state.specs.known_vectors.Known.{AreRight}
+use Rattle.machine_state.specs.known_vectors.Known.{AreSo as AreKnown}
+use Rattle.machine_state.specs.known_vectors.Reached.{HasNumber, HasReference, number_kept}
+use Rattle.machine_state.specs.known_vectors.Reached.{Puts as PutsElement}
+use Rattle.machine_state.proofs.of_known_vectors.Lasting.{last-element}
+use Rattle.machine_state.proofs.of_known_vectors.Reaching.{only-vector}
 use Rattle.machine_state.specs.declared.machine.Machine.{Machine}
 use Rattle.machine_state.specs.declared.stepped.Stepped.{Stepped}
 use Rattle.machine_state.specs.Holding.{Holds, HeldBy, IsHolding, IsSound, object_in}
@@ -59,7 +59,7 @@ takes-same of other old new r same t = record {
       (t.does c h);
 }
 
--- behind an element that was written there is what is left
+-- after an element that was written there is what is left
 pub takes-left : (of : Line → Config → Step) (left : Config → Step) (line : Line) (old mid new : Machine) (r : Stepped) → Puts of left old mid
     → Takes left mid new r → Takes (of line) old new r
 takes-left of left line old mid new r p t = record {

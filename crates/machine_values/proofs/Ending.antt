@@ -1,19 +1,19 @@
 -- What an instruction takes, from what it comes to in each configuration that the machine holds.
 use Rattle.std.proofs.Common.{◌≡◌, ℕ, List, Option, Some, None, sym, subst}
-use Rattle.obj_layout.specs.declared.reference.Reference.{Reference}
-use Rattle.swizzle.specs.Heap as area
-use Rattle.ps_meaning.specs.Values.{Value, Vector}
-use Rattle.ps_meaning.specs.Objects.{Heap, Object, Structure, Elements, Scope, object_at, type_in}
-use Rattle.ps_stepping.specs.Objects.{type_of, type_of_object}
-use Rattle.ps_stepping.specs.Config.{Config}
-use Rattle.ps_stepping.specs.Steps.{Step}
-use Rattle.paired_ops.specs.World.{DenotesIn}
+use Rattle.machine_state.specs.obj_layout.declared.reference.Reference.{Reference}
+use Rattle.machine_state.specs.swizzle.Heap as area
+use Rattle.machine_state.specs.ps_meaning.Values.{Value, Vector}
+use Rattle.machine_state.specs.ps_meaning.Objects.{Heap, Object, Structure, Elements, Scope, object_at, type_in}
+use Rattle.machine_state.specs.ps_stepping.Objects.{type_of, type_of_object}
+use Rattle.machine_state.specs.ps_stepping.Config.{Config}
+use Rattle.machine_state.specs.ps_stepping.Steps.{Step}
+use Rattle.machine_state.specs.paired_ops.World.{DenotesIn}
 use Rattle.machine_state.specs.declared.machine.Machine.{Machine}
 use Rattle.machine_state.specs.declared.stepped.Stepped.{Stepped}
 use Rattle.machine_state.specs.Holding.{HeldBy, IsHolding, IsSound}
 use Rattle.machine_state.specs.Stepped.{Takes, Does, KeepsSize}
 
--- what an answer comes to: the size is kept, and the step is what was answered
+-- what an answer returns: the size is kept, and the step is what was answered
 abbrev pub Comes : Stepped → area.Heap → Machine → Step → Type 0
 Comes r here new s = KeepsSize r here new.sw × Does s r new
 
@@ -24,7 +24,7 @@ ends of old new r sound holding comes = record {
   does = λ c h. (comes h.names c h.held).1;
 }
 
--- behind parts that left the area as it was, and led to another step that is the same
+-- after parts that left the area as it was, and led to another step that is the same
 pub comes-behind : (r : Stepped) (here mid : area.Heap) (new : Machine) (s t : Step) → mid ≡ here → s ≡ t → Comes r mid new t → Comes r here new s
 comes-behind r here mid new s t same is k = (subst (λ (a : area.Heap). KeepsSize r a new.sw) same k.0, subst (λ (x : Step). Does x r new) (sym is) k.1)
 

@@ -3,26 +3,26 @@ use Rattle.std.proofs.Common.{◌≡◌, ℕ, true, false, List, Option, Some, N
 use Rattle.std.specs.Prelude.{Result, Ok, Err}
 use Rattle.ps_base.specs.CodeUnit.{ConstantView}
 use Rattle.ps_base.specs.declared.line.Line.{Line}
-use Rattle.obj_layout.specs.declared.reference.Reference.{Reference}
-use Rattle.text_forms.specs.declared.forms.Form.{Form}
-use Rattle.text_forms.specs.declared.forms.Form.TheVariants as form
-use Rattle.text_forms.specs.declared.forms.Located.{Located}
-use Rattle.text_forms.specs.Forms.{forms_of, form_in, located_in, is_number_form}
-use Rattle.swizzle.specs.Heap as area
-use Rattle.swizzle.specs.Heap.{IsHeap}
-use Rattle.heap_places.specs.declared.value.Value as code
-use Rattle.heap_texts.specs.declared.fault.OpFault.{OpFault}
-use Rattle.heap_texts.specs.declared.fault.OpFault.TheVariants as op
-use Rattle.heap_ops.specs.Outcomes.{UnlessFault}
-use Rattle.heap_meaning.proofs.GivenLaws.{located-at}
-use Rattle.ps_meaning.specs.Texts.{Attempt}
-use Rattle.ps_meaning.specs.Objects.{Heap, field_of}
-use Rattle.ps_meaning.specs.Values.{Value, Text, word_of}
-use Rattle.ps_stepping.specs.Config.{Config}
-use Rattle.ps_stepping.specs.Steps.{Step, Stuck, text_in, with_text, attempted, push_num, push_ref}
-use Rattle.ps_stepping.specs.Objects.{when_number, when_reference, pop_object, field_num, field_ref}
-use Rattle.paired_ops.specs.World.{IsWorld, DenotesIn, Answers, Writes}
-use Rattle.paired_ops.specs.Operands.{IsForIn, IsOfForm}
+use Rattle.machine_state.specs.obj_layout.declared.reference.Reference.{Reference}
+use Rattle.machine_state.specs.text_forms.declared.forms.Form.{Form}
+use Rattle.machine_state.specs.text_forms.declared.forms.Form.TheVariants as form
+use Rattle.machine_state.specs.text_forms.declared.forms.Located.{Located}
+use Rattle.machine_state.specs.text_forms.Forms.{forms_of, form_in, located_in, is_number_form}
+use Rattle.machine_state.specs.swizzle.Heap as area
+use Rattle.machine_state.specs.swizzle.Heap.{IsHeap}
+use Rattle.machine_state.specs.heap_places.declared.value.Value as code
+use Rattle.machine_state.specs.heap_texts.declared.fault.OpFault.{OpFault}
+use Rattle.machine_state.specs.heap_texts.declared.fault.OpFault.TheVariants as op
+use Rattle.machine_state.specs.heap_ops.Outcomes.{UnlessFault}
+use Rattle.machine_state.proofs.of_heap_meaning.GivenLaws.{located-at}
+use Rattle.machine_state.specs.ps_meaning.Texts.{Attempt}
+use Rattle.machine_state.specs.ps_meaning.Objects.{Heap, field_of}
+use Rattle.machine_state.specs.ps_meaning.Values.{Value, Text, word_of}
+use Rattle.machine_state.specs.ps_stepping.Config.{Config}
+use Rattle.machine_state.specs.ps_stepping.Steps.{Step, Stuck, text_in, with_text, attempted, push_num, push_ref}
+use Rattle.machine_state.specs.ps_stepping.Objects.{when_number, when_reference, pop_object, field_num, field_ref}
+use Rattle.machine_state.specs.paired_ops.World.{IsWorld, DenotesIn, Answers, Writes}
+use Rattle.machine_state.specs.paired_ops.Operands.{IsForIn, IsOfForm}
 use Rattle.machine_state.specs.declared.machine.Machine.{Machine}
 use Rattle.machine_state.specs.declared.stepped.Stepped.{Stepped}
 use Rattle.machine_state.specs.declared.stepped.Stepped.TheVariants.{Quiet, Turns, Writes as WritesOut, Halts, Breaks, Damaged}

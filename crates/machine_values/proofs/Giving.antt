@@ -1,36 +1,37 @@
--- How an instruction ends behind an operation on objects.
-use Rattle.std.proofs.Common.{◌≡◌, ℕ, ◌<◌, ◌≤◌, Bool, true, false, ℤ, List, [], length, Option, Some, refl, sym, ap, ◌∙◌, subst, arith}
+-- How an instruction ends after an operation on objects.
+use Rattle.std.proofs.Common.{◌≡◌, ℕ, ◌<◌, ◌≤◌, Bool, true, false, ℤ, List, [], ◌∷◌, length, Option, Some, refl, sym, ap, ◌∙◌, subst, arith}
 use Rattle.std.specs.Prelude.{Ok, Err}
 use Rattle.ps_base.specs.declared.line.Line.{Line}
-use Rattle.obj_layout.specs.declared.reference.Reference.{Reference}
-use Rattle.swizzle.specs.Heap as area
-use Rattle.swizzle.specs.Heap.{IsHeap}
-use Rattle.text_forms.specs.declared.forms.Form.{Form}
-use Rattle.text_forms.specs.declared.forms.Form.TheVariants as form
-use Rattle.heap_places.specs.declared.value.Value as code
-use Rattle.heap_places.specs.declared.value.Value.TheVariants as held
-use Rattle.heap_texts.specs.declared.fault.OpFault.{OpFault}
-use Rattle.heap_texts.specs.declared.fault.OpFault.TheVariants as op
-use Rattle.ps_meaning.specs.Values.{Value, Text, Num, Flag, word_of, number_of}
-use Rattle.ps_meaning.specs.Values as value
-use Rattle.ps_meaning.specs.Texts.{Attempt, Yields}
-use Rattle.ps_meaning.specs.Objects.{Heap, Object, new_number}
-use Rattle.ps_meaning.specs.Meaning.{and_text, and_object, on_heap}
-use Rattle.ps_meaning.specs.Weights.{text_weight, own_weight}
-use Rattle.ps_stepping.specs.Config.{Config, frame_words}
-use Rattle.ps_stepping.specs.Steps.{Step, Stuck, attempted, push_num, push_ref}
-use Rattle.ps_stepping.specs.Objects.{make_text, make, changed, when_number, when_reference}
-use Rattle.paired_ops.specs.World.{Answers, Writes, Makes, MakesText}
-use Rattle.paired_ops.specs.Operands.{IsForIn, IsOfForm}
+use Rattle.machine_state.specs.obj_layout.declared.reference.Reference.{Reference}
+use Rattle.machine_state.specs.swizzle.Heap as area
+use Rattle.machine_state.specs.swizzle.Heap.{IsHeap}
+use Rattle.machine_state.specs.text_forms.declared.forms.Form.{Form}
+use Rattle.machine_state.specs.text_forms.declared.forms.Form.TheVariants as form
+use Rattle.machine_state.specs.heap_places.declared.value.Value as code
+use Rattle.machine_state.specs.heap_places.declared.value.Value.TheVariants as held
+use Rattle.machine_state.specs.heap_texts.declared.fault.OpFault.{OpFault}
+use Rattle.machine_state.specs.heap_texts.declared.fault.OpFault.TheVariants as op
+use Rattle.machine_state.specs.ps_meaning.Values.{Value, Text, Num, Flag, word_of, number_of}
+use Rattle.machine_state.specs.ps_meaning.Values as value
+use Rattle.machine_state.specs.ps_meaning.Texts.{Attempt, Yields}
+use Rattle.machine_state.specs.ps_meaning.Objects.{Heap, Object, new_number}
+use Rattle.machine_state.specs.ps_meaning.Meaning.{and_text, and_object, on_heap}
+use Rattle.machine_state.specs.ps_meaning.Weights.{text_weight, own_weight}
+use Rattle.machine_state.specs.ps_stepping.Config.{Config, frame_words}
+use Rattle.machine_state.specs.ps_stepping.Steps.{Step, Stuck, attempted, push_num, push_ref}
+use Rattle.machine_state.specs.ps_stepping.Objects.{make_text, make, changed, when_number, when_reference}
+use Rattle.machine_state.specs.paired_ops.World.{Answers, Writes, Makes, MakesText}
+use Rattle.machine_state.specs.paired_ops.Operands.{IsForIn, IsOfForm}
 use Rattle.machine_state.specs.declared.machine.Machine.{Machine}
 use Rattle.machine_state.specs.declared.stepped.Stepped.{Stepped}
 use Rattle.machine_state.specs.declared.stepped.Stepped.TheVariants.{Quiet, Damaged}
+use Rattle.machine_state.specs.Full as no_room
 use Rattle.machine_state.specs.Stepped.{Does, KeepsSize, Takes}
 use Rattle.machine_state.specs.inside.Taking.{TakesRef}
 use Rattle.machine_state.specs.Holding.{HeldIn}
-use Rattle.machine_values.specs.Giving.{failed_of, failed_in}
-use Rattle.known_vectors.specs.Known.{AllLast}
-use Rattle.known_vectors.proofs.Lasting.{all-same, last-new}
+use Rattle.machine_values.specs.Giving.{failed_of, failed_in, IsNaming, structures, vectors}
+use Rattle.machine_state.specs.known_vectors.Known.{AllLast}
+use Rattle.machine_state.proofs.of_known_vectors.Lasting.{all-same, last-new}
 use Rattle.machine_state.proofs.Carrying.{held-more, size-behind}
 use Rattle.machine_values.proofs.Carrying.{fails-push}
 
@@ -180,14 +181,19 @@ module _ (line : Line) (m : Machine) (heap : IsHeap m.sw) (here : area.Heap) (na
       → MakesText here m.sw c.store.heap names attempt (Err fault) → KeepsSize (failed_of fault full) here m.sw × Does (attempted line attempt (λ bytes. make_text bytes c)) (failed_of fault full) (failed_in fault line full m)
   text-fails (op.Trap trap) full attempt is_full has_room made = (tt, ap (λ (a : Attempt (List ℕ)). attempted line a (λ bytes. make_text bytes c)) made)
   text-fails (op.Swizzle fault) full attempt is_full has_room made =
-      let f = fails-push m here names c (Text made.0) (and_text made.0 c.store) (text_weight made.0) fault line full h made.2 refl is_full has_room in
+      let f = fails-push m here names c (Text made.0) (and_text made.0 c.store) (text_weight made.0) fault line full h made.2 (no_room.a_text refl refl) is_full has_room in
       (f.0, subst (λ (a : Attempt (List ℕ)). Does (attempted line a (λ bytes. make_text bytes c)) (failed_of (op.Swizzle fault) full) (failed_in (op.Swizzle fault) line full m)) (sym made.1) f.1)
 
-  pub object-fails : (fault : OpFault) (full : Bool) (denoting : ℕ → Value) (attempt : Attempt Object) → (full ≡ true → frame_words ≤ length m.refs.own) → (full ≡ false → length m.refs.own < frame_words)
+  makes-named : (object : Object) (denoting : ℕ → Value) → IsNaming denoting
+      → no_room.Makes c.store (record c { store = and_object object c.store; refs = denoting (new_number c.store.heap) ∷ c.refs }) (own_weight object)
+  makes-named object denoting structures = no_room.a_structure object refl refl
+  makes-named object denoting vectors = no_room.a_vector object refl refl
+
+  pub object-fails : (fault : OpFault) (full : Bool) (denoting : ℕ → Value) (attempt : Attempt Object) → IsNaming denoting → (full ≡ true → frame_words ≤ length m.refs.own) → (full ≡ false → length m.refs.own < frame_words)
       → Makes here m.sw c.store.heap names denoting attempt (Err fault) → KeepsSize (failed_of fault full) here m.sw × Does (attempted line attempt (λ object. make denoting object c)) (failed_of fault full) (failed_in fault line full m)
-  object-fails (op.Trap trap) full denoting attempt is_full has_room made = (tt, ap (λ (a : Attempt Object). attempted line a (λ object. make denoting object c)) made)
-  object-fails (op.Swizzle fault) full denoting attempt is_full has_room made =
-      let f = fails-push m here names c (denoting (new_number c.store.heap)) (and_object made.0 c.store) (own_weight made.0) fault line full h made.2 refl is_full has_room in
+  object-fails (op.Trap trap) full denoting attempt naming is_full has_room made = (tt, ap (λ (a : Attempt Object). attempted line a (λ object. make denoting object c)) made)
+  object-fails (op.Swizzle fault) full denoting attempt naming is_full has_room made =
+      let f = fails-push m here names c (denoting (new_number c.store.heap)) (and_object made.0 c.store) (own_weight made.0) fault line full h made.2 (makes-named made.0 denoting naming) is_full has_room in
       (f.0, subst (λ (a : Attempt Object). Does (attempted line a (λ object. make denoting object c)) (failed_of (op.Swizzle fault) full) (failed_in (op.Swizzle fault) line full m)) (sym made.1) f.1)
 
   pub read-fails : (fault : OpFault) (is : code.Value → Value → Type 0) (attempt : Attempt Value) (next : Value → Step) → Answers here m.sw is c.store.heap names attempt (Err fault)

@@ -1,26 +1,26 @@
 -- What is popped of the stack of references, by its sort.
 use Rattle.std.proofs.Common.{◌≡◌, ◌≢◌, ℕ, List, Option, Some, None, refl, sym, ap, ◌∙◌, subst}
 use Rattle.std.specs.Prelude.{IfSome, OnSome, ℤ}
-use Rattle.obj_layout.specs.declared.reference.Reference.{Reference}
-use Rattle.swizzle.specs.Heap as area
-use Rattle.swizzle.specs.Heap.{IsHeap, IsHeld, header_at}
-use Rattle.ps_meaning.specs.Values.{Value, Num, Flag, Text, Nil, Pointer, Vector, Procedure, Nothing}
-use Rattle.ps_stepping.specs.Config.{Config}
-use Rattle.ps_stepping.specs.Steps.{Step, Stuck, pop_num, pop_ref, text_of}
-use Rattle.ps_stepping.specs.Machine.{pop_width}
-use Rattle.ps_stepping.specs.Objects.{object_of, denoting_of, type_of, type_of_object, of_type}
-use Rattle.paired_ops.specs.World.{DenotesIn}
-use Rattle.paired_ops.specs.Operands.{IsOfSort, IsSorted, IsByObject}
-use Rattle.paired_ops.specs.declared.values.Sort.{Sort}
-use Rattle.paired_ops.specs.declared.values.Sort.TheVariants as sort
-use Rattle.paired_ops.proofs.ReadLaws.{vector-at}
-use Rattle.paired_ops.proofs.ValueLaws.{vector-denoted}
+use Rattle.machine_state.specs.obj_layout.declared.reference.Reference.{Reference}
+use Rattle.machine_state.specs.swizzle.Heap as area
+use Rattle.machine_state.specs.swizzle.Heap.{IsHeap, IsHeld, header_at}
+use Rattle.machine_state.specs.ps_meaning.Values.{Value, Num, Flag, Text, Nil, Pointer, Vector, Procedure, Nothing}
+use Rattle.machine_state.specs.ps_stepping.Config.{Config}
+use Rattle.machine_state.specs.ps_stepping.Steps.{Step, Stuck, pop_num, pop_ref, text_of}
+use Rattle.machine_state.specs.ps_stepping.Machine.{pop_width}
+use Rattle.machine_state.specs.ps_stepping.Objects.{object_of, denoting_of, type_of, type_of_object, of_type}
+use Rattle.machine_state.specs.paired_ops.World.{DenotesIn}
+use Rattle.machine_state.specs.paired_ops.Operands.{IsOfSort, IsSorted, IsByObject}
+use Rattle.machine_state.specs.paired_ops.declared.values.Sort.{Sort}
+use Rattle.machine_state.specs.paired_ops.declared.values.Sort.TheVariants as sort
+use Rattle.machine_state.proofs.of_paired_ops.ReadLaws.{vector-at}
+use Rattle.machine_state.proofs.of_paired_ops.ValueLaws.{vector-denoted}
 use Rattle.machine_state.specs.declared.machine.Machine.{Machine}
 use Rattle.machine_state.specs.Holding.{IsHolding, object_in}
 use Rattle.machine_state.specs.inside.Taking.{Taken, TakenRef, PopsNum, PopsWidth}
 use Rattle.machine_values.specs.Popping.{PopsText, PopsAny, PopsObject, PopsDenoting, PopsVector}
 
--- behind what was taken the machine still stands for a configuration
+-- after what was taken the machine still stands for a configuration
 pub taken-holding : {T : Type 0} (taking : Config → (T → Config → Step) → Step) (old new : Machine) (t : T) → Taken taking old new (Some t) → IsHolding old → IsHolding new
 taken-holding taking old new t p h = let g = p.gives h.1.names h.0 h.1.held in (g.0, record { names = h.1.names; held = g.2 })
 

@@ -2,31 +2,31 @@
 use Rattle.std.proofs.Common.{◌≡◌, ℕ, ℤ, false, List, Option, Some, None, refl, sym, ap, ◌∙◌, subst}
 use Rattle.std.specs.Prelude.{Result, Ok, Err, length}
 use Rattle.ps_base.specs.declared.line.Line.{Line}
-use Rattle.obj_layout.specs.declared.reference.Reference.{Reference}
-use Rattle.text_forms.specs.declared.forms.Form.{Form}
-use Rattle.text_forms.specs.declared.forms.Form.TheVariants as form
-use Rattle.text_forms.specs.Forms.{element_of, is_number_form}
-use Rattle.swizzle.specs.Heap as area
-use Rattle.swizzle.specs.Heap.{IsHeap, IsHeld}
-use Rattle.heap_places.specs.declared.value.Value as code
-use Rattle.heap_places.specs.declared.value.Value.TheVariants as held
-use Rattle.heap_places.specs.Places.{IsNear}
-use Rattle.heap_texts.specs.declared.fault.OpFault.{OpFault}
-use Rattle.heap_texts.specs.declared.fault.OpFault.TheVariants as op
-use Rattle.ps_meaning.specs.Texts.{Attempt, Yields, Fails}
-use Rattle.ps_meaning.specs.Objects.{Heap, Object, with_element, vector_in, low_in, type_in, elements_in, place_of, found_at, put_at}
-use Rattle.ps_meaning.specs.Objects.{element_of as element_at}
-use Rattle.ps_meaning.specs.Values.{Value, Vector}
-use Rattle.ps_stepping.specs.Config.{Config}
-use Rattle.ps_stepping.specs.Steps.{Step, Stuck, attempted, pop_num}
-use Rattle.ps_stepping.specs.Objects.{pop_vector, changed}
-use Rattle.paired_ops.specs.World.{IsWorld, DenotesIn, Answers, Writes}
-use Rattle.paired_ops.specs.Operands.{IsForIn, IsOfForm, form_in}
-use Rattle.known_vectors.specs.declared.known.KnownVector.{KnownVector}
-use Rattle.known_vectors.specs.declared.known.KnownVectors.{KnownVectors}
-use Rattle.known_vectors.specs.Known.{IsKnownAs, IsThere, IsRight, Finds}
-use Rattle.known_vectors.specs.Known.{AreSo as AreKnown}
-use Rattle.known_vectors.proofs.Lasting.{last-element}
+use Rattle.machine_state.specs.obj_layout.declared.reference.Reference.{Reference}
+use Rattle.machine_state.specs.text_forms.declared.forms.Form.{Form}
+use Rattle.machine_state.specs.text_forms.declared.forms.Form.TheVariants as form
+use Rattle.machine_state.specs.text_forms.Forms.{element_of, is_number_form}
+use Rattle.machine_state.specs.swizzle.Heap as area
+use Rattle.machine_state.specs.swizzle.Heap.{IsHeap, IsHeld}
+use Rattle.machine_state.specs.heap_places.declared.value.Value as code
+use Rattle.machine_state.specs.heap_places.declared.value.Value.TheVariants as held
+use Rattle.machine_state.specs.heap_places.Places.{IsNear}
+use Rattle.machine_state.specs.heap_texts.declared.fault.OpFault.{OpFault}
+use Rattle.machine_state.specs.heap_texts.declared.fault.OpFault.TheVariants as op
+use Rattle.machine_state.specs.ps_meaning.Texts.{Attempt, Yields, Fails}
+use Rattle.machine_state.specs.ps_meaning.Objects.{Heap, Object, with_element, vector_in, low_in, type_in, elements_in, place_of, found_at, put_at}
+use Rattle.machine_state.specs.ps_meaning.Objects.{element_of as element_at}
+use Rattle.machine_state.specs.ps_meaning.Values.{Value, Vector}
+use Rattle.machine_state.specs.ps_stepping.Config.{Config}
+use Rattle.machine_state.specs.ps_stepping.Steps.{Step, Stuck, attempted, pop_num}
+use Rattle.machine_state.specs.ps_stepping.Objects.{pop_vector, changed}
+use Rattle.machine_state.specs.paired_ops.World.{IsWorld, DenotesIn, Answers, Writes}
+use Rattle.machine_state.specs.paired_ops.Operands.{IsForIn, IsOfForm, form_in}
+use Rattle.machine_state.specs.known_vectors.declared.known.KnownVector.{KnownVector}
+use Rattle.machine_state.specs.known_vectors.declared.known.KnownVectors.{KnownVectors}
+use Rattle.machine_state.specs.known_vectors.Known.{IsKnownAs, IsThere, IsRight, Finds}
+use Rattle.machine_state.specs.known_vectors.Known.{AreSo as AreKnown}
+use Rattle.machine_state.proofs.of_known_vectors.Lasting.{last-element}
 use Rattle.machine_state.specs.declared.machine.Machine.{Machine}
 use Rattle.machine_state.specs.declared.stepped.Stepped.{Stepped}
 use Rattle.machine_state.specs.declared.stepped.Stepped.TheVariants.{Quiet, Turns, Writes as Telling, Halts, Breaks, Damaged}
@@ -126,7 +126,7 @@ popped-there old mid vector q h =
     let v = q.gives h.1.names h.0 h.1.held in
     record { of = v.0.store.heap; names = h.1.names; id = v.1; world = v.5.world; denotes = v.6; so = v.5.known_are }
 
--- behind parts that kept the area's size
+-- after parts that kept the area's size
 pub comes-sized : (r : Stepped) (here mid : area.Heap) (new : Machine) (s t : Step) → mid.size ≡ here.size → s ≡ t → Comes r mid new t
     → Comes r here new s
 comes-sized r here mid new s t same is k = (size-behind r here mid new.sw same k.0, subst (λ (x : Step). Does x r new) (sym is) k.1)
@@ -174,7 +174,7 @@ of-reference form.Reference to is = tt
 of-reference form.Number to is = absurd (cc)
 of-reference form.Flag to is = absurd (cc)
 
--- what the instruction does behind the value, which its row keeps and wants so
+-- what the instruction does after the value, which its row keeps and wants so
 abbrev pub element-set : Line → (Form → Value) → (Form → Step → Step) → Config → Step
 element-set line kept when c = pop_num c (λ i d. pop_vector d
     (λ ty v e. attempted line (with_element e.store.heap v i (kept (element_of ty))) (λ heap. when (element_of ty) (changed heap e))))

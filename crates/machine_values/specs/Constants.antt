@@ -1,19 +1,19 @@
 -- What the text constant of a number is to a machine.
 use Rattle.std.specs.Prelude.{◌≡◌, ℕ, List, Option, Some, None}
 use Rattle.ps_base.specs.CodeUnit.{text}
-use Rattle.obj_layout.specs.declared.reference.Reference.{Reference}
-use Rattle.text_forms.specs.declared.forms.Located.{Located}
-use Rattle.text_forms.specs.Forms.{forms_of, form_in, located_in}
-use Rattle.ps_meaning.specs.Values.{Value, Text}
-use Rattle.ps_stepping.specs.Config.{Config, constants_in, constant_at}
-use Rattle.ps_stepping.specs.Steps.{Step, Stuck, with_text}
-use Rattle.ps_stepping.specs.Objects.{when_number, when_reference}
-use Rattle.paired_ops.specs.World.{DenotesIn}
+use Rattle.machine_state.specs.obj_layout.declared.reference.Reference.{Reference}
+use Rattle.machine_state.specs.text_forms.declared.forms.Located.{Located}
+use Rattle.machine_state.specs.text_forms.Forms.{forms_of, form_in, located_in}
+use Rattle.machine_state.specs.ps_meaning.Values.{Value, Text}
+use Rattle.machine_state.specs.ps_stepping.Config.{Config, constants_in, constant_at}
+use Rattle.machine_state.specs.ps_stepping.Steps.{Step, Stuck, with_text}
+use Rattle.machine_state.specs.ps_stepping.Objects.{when_number, when_reference}
+use Rattle.machine_state.specs.paired_ops.World.{DenotesIn}
 use Rattle.machine_state.specs.declared.machine.Machine.{Machine}
-use Rattle.known_classes.specs.declared.known.KnownField.{KnownField}
-use Rattle.known_classes.specs.declared.makes.KnownMake.{KnownMake}
-use Rattle.known_classes.specs.Known.{IsKnown}
-use Rattle.known_classes.specs.Made.{IsKnown as IsKnownMake}
+use Rattle.machine_state.specs.known_classes.declared.known.KnownField.{KnownField}
+use Rattle.machine_state.specs.known_classes.declared.makes.KnownMake.{KnownMake}
+use Rattle.machine_state.specs.known_classes.Known.{IsKnown}
+use Rattle.machine_state.specs.known_classes.Made.{IsKnown as IsKnownMake}
 use Rattle.machine_state.specs.Holding.{HeldBy, IsSound}
 
 -- The machine still stands for the configuration, in an area of the same size, and what denoted a value denotes it still.

@@ -1,19 +1,19 @@
 -- A vector whose elements are read and written.
 use Rattle.std.specs.Prelude.{◌≡◌, ℕ, List, Option, Some, None, Result, Ok, Err}
-use Rattle.obj_layout.specs.declared.reference.Reference.{Reference}
-use Rattle.text_forms.specs.Forms.{element_of}
-use Rattle.heap_places.specs.declared.value.Value as code
-use Rattle.heap_texts.specs.declared.fault.OpFault.{OpFault}
-use Rattle.heap_texts.specs.declared.fault.OpFault.TheVariants as op
+use Rattle.machine_state.specs.obj_layout.declared.reference.Reference.{Reference}
+use Rattle.machine_state.specs.text_forms.Forms.{element_of}
+use Rattle.machine_state.specs.heap_places.declared.value.Value as code
+use Rattle.machine_state.specs.heap_texts.declared.fault.OpFault.{OpFault}
+use Rattle.machine_state.specs.heap_texts.declared.fault.OpFault.TheVariants as op
 use Rattle.ps_base.specs.declared.line.Line.{Line}
-use Rattle.ps_meaning.specs.Values.{Value, Vector}
-use Rattle.ps_stepping.specs.Config.{Config}
-use Rattle.ps_stepping.specs.Steps.{Step, Stuck}
-use Rattle.ps_stepping.specs.Objects.{pop_vector}
-use Rattle.paired_ops.specs.World.{DenotesIn}
-use Rattle.paired_ops.specs.Operands.{form_in}
-use Rattle.known_vectors.specs.declared.known.KnownVector.{KnownVector}
-use Rattle.known_vectors.specs.Known.{IsKnownAs}
+use Rattle.machine_state.specs.ps_meaning.Values.{Value, Vector}
+use Rattle.machine_state.specs.ps_stepping.Config.{Config}
+use Rattle.machine_state.specs.ps_stepping.Steps.{Step, Stuck}
+use Rattle.machine_state.specs.ps_stepping.Objects.{pop_vector}
+use Rattle.machine_state.specs.paired_ops.World.{DenotesIn}
+use Rattle.machine_state.specs.paired_ops.Operands.{form_in}
+use Rattle.machine_state.specs.known_vectors.declared.known.KnownVector.{KnownVector}
+use Rattle.machine_state.specs.known_vectors.Known.{IsKnownAs}
 use Rattle.machine_state.specs.declared.machine.Machine.{Machine}
 use Rattle.machine_state.specs.declared.stepped.Stepped.{Stepped}
 use Rattle.machine_state.specs.declared.stepped.Stepped.TheVariants.{Halts, Damaged}

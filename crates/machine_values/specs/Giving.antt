@@ -1,36 +1,36 @@
 -- How an instruction ends that did an operation on objects of the area: the machine still stands for the configuration before the operation but for
 -- its area, which stood for it before.
 use Rattle.std.specs.Prelude.{◌≡◌, ℕ, ℤ, Bool, true, false, List, Result, Some}
-use Rattle.obj_layout.specs.declared.reference.Reference.{Reference}
-use Rattle.swizzle.specs.Heap as area
-use Rattle.text_forms.specs.declared.forms.Form.{Form}
-use Rattle.heap_places.specs.declared.value.Value as code
-use Rattle.heap_texts.specs.declared.fault.OpFault.{OpFault}
-use Rattle.heap_texts.specs.declared.fault.OpFault.TheVariants as op
+use Rattle.machine_state.specs.obj_layout.declared.reference.Reference.{Reference}
+use Rattle.machine_state.specs.swizzle.Heap as area
+use Rattle.machine_state.specs.text_forms.declared.forms.Form.{Form}
+use Rattle.machine_state.specs.heap_places.declared.value.Value as code
+use Rattle.machine_state.specs.heap_texts.declared.fault.OpFault.{OpFault}
+use Rattle.machine_state.specs.heap_texts.declared.fault.OpFault.TheVariants as op
 use Rattle.ps_base.specs.declared.line.Line.{Line}
-use Rattle.ps_meaning.specs.Values.{Value, word_of}
-use Rattle.ps_meaning.specs.Texts.{Attempt, Yields}
-use Rattle.ps_meaning.specs.Objects.{Heap, Object}
-use Rattle.ps_stepping.specs.Config.{Config}
-use Rattle.ps_stepping.specs.Steps.{attempted, push_num, push_ref}
-use Rattle.ps_stepping.specs.Objects.{make, make_text, changed, when_number, when_reference}
-use Rattle.paired_ops.specs.World.{Answers, Writes, Makes, MakesText}
-use Rattle.paired_ops.specs.Operands.{IsForIn, IsOfForm}
+use Rattle.machine_state.specs.ps_meaning.Values.{Value, Pointer, Vector, word_of}
+use Rattle.machine_state.specs.ps_meaning.Texts.{Attempt, Yields}
+use Rattle.machine_state.specs.ps_meaning.Objects.{Heap, Object}
+use Rattle.machine_state.specs.ps_stepping.Config.{Config}
+use Rattle.machine_state.specs.ps_stepping.Steps.{attempted, push_num, push_ref}
+use Rattle.machine_state.specs.ps_stepping.Objects.{make, make_text, changed, when_number, when_reference}
+use Rattle.machine_state.specs.paired_ops.World.{Answers, Writes, Makes, MakesText}
+use Rattle.machine_state.specs.paired_ops.Operands.{IsForIn, IsOfForm}
 use Rattle.machine_state.specs.declared.machine.Machine.{Machine}
 use Rattle.machine_state.specs.declared.stepped.Stepped.{Stepped}
 use Rattle.machine_state.specs.declared.stepped.Stepped.TheVariants.{Halts, Breaks, Damaged}
 use Rattle.machine_state.specs.declared.run_end.RunEnd.TheVariants as in_code
-use Rattle.known_vectors.specs.Known.{AllLast}
+use Rattle.machine_state.specs.known_vectors.Known.{AllLast}
 use Rattle.machine_state.specs.Holding.{HeldIn, IsSound}
 use Rattle.machine_state.specs.Stepped.{Does, KeepsSize, ended}
 
--- what an operation that failed comes to: its trap, or there was no room in the area, or not even on the stack
+-- what an operation that failed returns: its trap, or there was no room in the area, or not even on the stack
 abbrev pub failed_of : OpFault → Bool → Stepped
 failed_of (op.Trap trap) full = Halts
 failed_of (op.Swizzle fault) true = Damaged
 failed_of (op.Swizzle fault) false = Breaks
 
--- the machine behind it
+-- the machine after it
 abbrev pub failed_in : OpFault → Line → Bool → Machine → Machine
 failed_in (op.Trap trap) line full m = ended (in_code.Trapped trap line) m
 failed_in (op.Swizzle fault) line true m = m
@@ -42,6 +42,11 @@ pub record GivesBound (old new : Machine) (answer : Stepped) (bound : Result ℤ
   pub does : (here : area.Heap) (names : List Reference) (c : Config) (wanted : ℤ) → HeldIn here names old c
       → Answers here old.sw (λ z w. z ≡ w) c.store.heap names (Yields wanted) bound → KeepsSize answer here new.sw × Does (push_num wanted c) answer new
 
+-- how a new object is named: as a structure or as a vector
+pub data IsNaming : (ℕ → Value) → Type 0 where
+  structures : IsNaming Pointer
+  vectors : IsNaming Vector
+
 module _ (line : Line) (old new : Machine) (answer : Stepped) where
   pub record GivesText (made : Result ℕ OpFault) : Type 0 where
     pub sound : IsSound new
@@ -50,7 +55,7 @@ module _ (line : Line) (old new : Machine) (answer : Stepped) where
 
   pub record GivesObject (made : Result ℕ OpFault) : Type 0 where
     pub sound : IsSound new
-    pub does : (here : area.Heap) (names : List Reference) (c : Config) (denoting : ℕ → Value) (attempt : Attempt Object) → HeldIn here names old c
+    pub does : (here : area.Heap) (names : List Reference) (c : Config) (denoting : ℕ → Value) (attempt : Attempt Object) → IsNaming denoting → HeldIn here names old c
         → Makes here old.sw c.store.heap names denoting attempt made → KeepsSize answer here new.sw × Does (attempted line attempt (λ object. make denoting object c)) answer new
 
   pub record GivesNumber (got : Result code.Value OpFault) : Type 0 where

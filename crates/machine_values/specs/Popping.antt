@@ -1,15 +1,15 @@
 -- What is popped of the stack of references, where it is of the kind that an instruction wants.
 use Rattle.std.specs.Prelude.{◌≡◌, ℕ, ◌<◌, List, Option, Some, None, IfSome, length}
-use Rattle.obj_layout.specs.declared.reference.Reference.{Reference}
-use Rattle.obj_layout.specs.declared.kind.Kind.{Kind}
-use Rattle.swizzle.specs.Heap as area
-use Rattle.swizzle.specs.Heap.{IsHeld, header_at}
-use Rattle.ps_meaning.specs.Values.{Value, Text, Vector}
-use Rattle.ps_stepping.specs.Config.{Config, frame_words}
-use Rattle.ps_stepping.specs.Steps.{Step, Stuck, pop_ref, pop_text}
-use Rattle.ps_stepping.specs.Objects.{pop_object, pop_denoting, pop_vector, type_of}
-use Rattle.paired_ops.specs.World.{DenotesIn}
-use Rattle.paired_ops.specs.Operands.{IsByObject}
+use Rattle.machine_state.specs.obj_layout.declared.reference.Reference.{Reference}
+use Rattle.machine_state.specs.obj_layout.declared.kind.Kind.{Kind}
+use Rattle.machine_state.specs.swizzle.Heap as area
+use Rattle.machine_state.specs.swizzle.Heap.{IsHeld, header_at}
+use Rattle.machine_state.specs.ps_meaning.Values.{Value, Text, Vector}
+use Rattle.machine_state.specs.ps_stepping.Config.{Config, frame_words}
+use Rattle.machine_state.specs.ps_stepping.Steps.{Step, Stuck, pop_ref, pop_text}
+use Rattle.machine_state.specs.ps_stepping.Objects.{pop_object, pop_denoting, pop_vector, type_of}
+use Rattle.machine_state.specs.paired_ops.World.{DenotesIn}
+use Rattle.machine_state.specs.paired_ops.Operands.{IsByObject}
 use Rattle.machine_state.specs.declared.machine.Machine.{Machine}
 use Rattle.machine_state.specs.Holding.{HeldBy, IsSound}
 

@@ -1,12 +1,12 @@
 -- Elements that are reached by what stands on top of the two stacks.
 use Rattle.std.specs.Prelude.{◌≡◌, ℕ, ℤ, List, ◌∷◌, Option}
-use Rattle.obj_layout.specs.declared.reference.Reference.{Reference}
+use Rattle.machine_state.specs.obj_layout.declared.reference.Reference.{Reference}
 use Rattle.ps_base.specs.declared.line.Line.{Line}
-use Rattle.ps_meaning.specs.Values.{Value}
-use Rattle.ps_stepping.specs.Config.{Config}
-use Rattle.ps_stepping.specs.Steps.{Step, on, push_num, push_ref, pop_num, pop_ref}
-use Rattle.ps_stepping.specs.Objects.{element_ref}
-use Rattle.paired_ops.specs.World.{DenotesIn}
+use Rattle.machine_state.specs.ps_meaning.Values.{Value}
+use Rattle.machine_state.specs.ps_stepping.Config.{Config}
+use Rattle.machine_state.specs.ps_stepping.Steps.{Step, on, push_num, push_ref, pop_num, pop_ref}
+use Rattle.machine_state.specs.ps_stepping.Objects.{element_ref}
+use Rattle.machine_state.specs.paired_ops.World.{DenotesIn}
 use Rattle.machine_state.specs.declared.machine.Machine.{Machine}
 use Rattle.machine_state.specs.Holding.{Holds, HeldBy, IsSound, object_in}
 

@@ -1,20 +1,20 @@
 ghost use Rattle.std.specs.Prelude.{IfSome, OnSome, Some};
-ghost use Rattle.obj_layout.specs.declared.kind.Kind.TheVariants.{Text};
-ghost use Rattle.swizzle.specs.Reading.{LeavesOutside};
-ghost use Rattle.swizzle.specs.Text.{text_at};
-ghost use Rattle.heap_ops.specs.Structures.{IsNamed};
-ghost use Rattle.known_classes.specs.Reading.{IsThere};
+ghost use Rattle.machine_state.specs.obj_layout.declared.kind.Kind.TheVariants.{Text};
+ghost use Rattle.machine_state.specs.swizzle.Reading.{LeavesOutside};
+ghost use Rattle.machine_state.specs.swizzle.Text.{text_at};
+ghost use Rattle.machine_state.specs.heap_ops.Structures.{IsNamed};
+ghost use Rattle.machine_state.specs.known_classes.Reading.{IsThere};
 ghost use Rattle.machine_state.specs.Holding.{IsHolding, IsSound};
 ghost use Rattle.machine_values.specs.Constants.{ReadsConstant, FindsField, KnowsField, MeetsField};
 ghost use Rattle.machine_values.specs.Popping.{IsKind};
 
-use known_classes::known::KnownField;
 use machine_state::Machine;
+use machine_state::known_classes::known::KnownField;
+use machine_state::obj_layout::kind::Kind;
+use machine_state::obj_layout::vault::Vault;
+use machine_state::paired_ops::code::constant;
 use machine_state::stacks::object;
-use obj_layout::kind::Kind;
-use obj_layout::vault::Vault;
-use paired_ops::code::constant;
-use text_forms::forms::{Located, locate};
+use machine_state::text_forms::forms::{Located, locate};
 
 /// The object of the text constant of this number of the code; None where the code has none.
 #[inline]

@@ -1,15 +1,15 @@
 ghost use Rattle.std.specs.Prelude.{◌≡◌, true, List, Some};
-ghost use Rattle.obj_layout.specs.declared.reference.Reference.{Reference};
-ghost use Rattle.swizzle.specs.Heap.{Heap};
-ghost use Rattle.heap_places.specs.Places.{IsNear};
-ghost use Rattle.text_forms.specs.Forms.{is_number_form};
-ghost use Rattle.ps_meaning.specs.Values.{Num};
-ghost use Rattle.ps_meaning.specs.Evaluation.{kept_as as kept_as_of};
-ghost use Rattle.paired_ops.specs.Operands.{IsForIn, IsOfForm};
+ghost use Rattle.machine_state.specs.obj_layout.declared.reference.Reference.{Reference};
+ghost use Rattle.machine_state.specs.swizzle.Heap.{Heap};
+ghost use Rattle.machine_state.specs.heap_places.Places.{IsNear};
+ghost use Rattle.machine_state.specs.text_forms.Forms.{is_number_form};
+ghost use Rattle.machine_state.specs.ps_meaning.Values.{Num};
+ghost use Rattle.machine_state.specs.ps_meaning.Evaluation.{kept_as as kept_as_of};
+ghost use Rattle.machine_state.specs.paired_ops.Operands.{IsForIn, IsOfForm};
 
 use machine_state::jumps::is_one;
-use paired_ops::Value;
-use text_forms::forms::Form;
+use machine_state::paired_ops::Value;
+use machine_state::text_forms::forms::Form;
 
 /// The value of a number where a place of this form holds it.
 #[inline(always)]

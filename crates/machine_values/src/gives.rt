@@ -1,12 +1,12 @@
 ghost use Rattle.machine_state.specs.Holding.{IsSound};
 ghost use Rattle.std.specs.Prelude.{◌≡◌, ◌≤◌, ◌<◌, length, true, false};
-ghost use Rattle.ps_stepping.specs.Config.{frame_words};
+ghost use Rattle.machine_state.specs.ps_stepping.Config.{frame_words};
 ghost use Rattle.machine_values.specs.Giving.{failed_of, failed_in, GivesBound, GivesText, GivesObject, GivesNumber, GivesReference, Changes};
 
 use machine_state::ends::trapped;
+use machine_state::paired_ops::{OpFault, Value};
 use machine_state::stacks::{push_num, push_ref};
 use machine_state::{FRAME_WORDS, Machine, Stepped};
-use paired_ops::{OpFault, Value};
 use ps_base::line::Line;
 
 // Whether the stack of references has no room.
@@ -112,7 +112,7 @@ pub fn give_reference(m: &mut Machine, got: Result<Value, OpFault>, line: Line) 
     }
 }
 
-/// Goes on behind what was written, or ends in the operation's trap.
+/// Goes on after what was written, or ends in the operation's trap.
 #[inline(always)]
 pub fn done(m: &mut Machine, written: Result<(), OpFault>, line: Line) -> Stepped
     requires { IsSound m.old }

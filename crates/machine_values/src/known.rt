@@ -1,14 +1,14 @@
 //! Vectors that are popped with what they are known to be.
 ghost use Rattle.std.specs.Prelude.{IfSome, OnSome};
-ghost use Rattle.swizzle.specs.Reading.{LeavesOutside};
-ghost use Rattle.known_vectors.specs.Known.{IsRight};
+ghost use Rattle.machine_state.specs.swizzle.Reading.{LeavesOutside};
+ghost use Rattle.machine_state.specs.known_vectors.Known.{IsRight};
 ghost use Rattle.machine_state.specs.Holding.{IsHolding, IsSound};
 ghost use Rattle.machine_values.specs.Elements.{PopsKnown};
 
 use crate::pops::pop_vector;
-use known_vectors::known::KnownVector;
 use machine_state::Machine;
-use obj_layout::vault::Vault;
+use machine_state::known_vectors::known::KnownVector;
+use machine_state::obj_layout::vault::Vault;
 
 /// Pops a vector, and looks up what it is; None where there is none on top.
 #[inline(always)]

@@ -8,3 +8,9 @@ pub mod gives;
 pub mod known;
 pub mod pops;
 pub mod reaching;
+
+pub use machine_state;
+pub use machine_state::{
+    heap_ops, heap_places, heap_texts, known_classes, known_vectors, obj_layout, paired_ops,
+    swizzle, text_forms,
+};

@@ -1,13 +1,13 @@
 ghost use Rattle.std.specs.Prelude.{IfSome, OnSome};
-ghost use Rattle.obj_layout.specs.declared.kind.Kind.TheVariants.{Text};
-ghost use Rattle.swizzle.specs.Heap.{IsHeld};
+ghost use Rattle.machine_state.specs.obj_layout.declared.kind.Kind.TheVariants.{Text};
+ghost use Rattle.machine_state.specs.swizzle.Heap.{IsHeld};
 ghost use Rattle.machine_state.specs.Holding.{IsHolding, IsSound};
 ghost use Rattle.machine_state.specs.inside.Taking.{PopsNum, PopsWidth};
 ghost use Rattle.machine_values.specs.Popping.{PopsText, PopsAny, PopsObject, PopsDenoting, PopsVector, IsKind};
 
 use machine_state::Machine;
+use machine_state::paired_ops::values::{Sort, sort_of};
 use machine_state::stacks::{object, pop_num, pop_ref, pop_width};
-use paired_ops::values::{Sort, sort_of};
 
 /// Pops a number.
 #[inline(always)]

@@ -2,14 +2,14 @@
 //! done here; where it isn't, nothing is changed, and the instruction takes its operands from the stacks one by one.
 ghost use Rattle.std.specs.Prelude.{◌≡◌, IfSome, false, true};
 ghost use Rattle.ps_base.specs.declared.line.Line.{Line};
-ghost use Rattle.ps_stepping.specs.Config.{Config};
-ghost use Rattle.ps_stepping.specs.Objects.{element_num as element_num_of, set_element_num as set_element_num_of, set_element_ref as set_element_ref_of};
+ghost use Rattle.machine_state.specs.ps_stepping.Config.{Config};
+ghost use Rattle.machine_state.specs.ps_stepping.Objects.{element_num as element_num_of, set_element_num as set_element_num_of, set_element_ref as set_element_ref_of};
 ghost use Rattle.machine_state.specs.Holding.{Holds, IsHolding, IsSound};
 ghost use Rattle.machine_state.specs.Stepped.{Takes};
 ghost use Rattle.machine_state.specs.inside.Taking.{TakesRef};
 ghost use Rattle.machine_values.specs.Reaching.{HasTwoRefs, ReadsReference, Puts, number_for_two, reference_for_two, without_number, without_reference};
 
-use known_vectors::reached::{number_at, reference_at, set_number, set_reference};
+use machine_state::known_vectors::reached::{number_at, reference_at, set_number, set_reference};
 use machine_state::stacks::{
     object, pop_num, pop_ref, put_num, put_ref, top_num, top_ref, top_two,
 };

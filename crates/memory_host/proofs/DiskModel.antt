@@ -3,7 +3,7 @@ use Rattle.std.proofs.Common.{◌≡◌, ◌⊎◌, inl, inr, ⊎_elim, ℕ, ◌
 use Rattle.std.proofs.lemmas.List.{get_or-take, get_or-drop, ext_get_or, length-replicate}
 use Rattle.memory_host.specs.declared.memory_host.Act.{Act}
 use Rattle.memory_host.specs.declared.memory_host.Act.TheVariants.{Looked, Told, Wrote, Synced}
-use Rattle.ps_outside.specs.Outside.{After}
+use Rattle.ps_port.specs.ps_outside.Outside.{After}
 use Rattle.ps_port.specs.Disk.{written, IsOutside, Torn}
 use Rattle.memory_host.specs.Memory.{Event, Memory, outside_of, AllPast, contents_after, ImageStep, IsImage, FitsAct, AllFit, filled, filled_step, past}
 use Rattle.ps_port.specs.DiskLaws.{length-written, written_elsewhere}
@@ -24,7 +24,7 @@ torn_left synced ranges at count old new is torn = record {
   elsewhere = λ k lt out. torn.elsewhere k (let a = is.no_shorter in omega arith) out.0 ∙ is.elsewhere k lt out.1;
 }
 
--- and each image behind it comes from one before it: the range is put back, and the end is cut
+-- and each image after it comes from one before it: the range is put back, and the end is cut
 module _ (synced : List ℕ) (ranges : List (ℕ × ℕ)) (at count : ℕ) (new : List ℕ) (is : IsLeft synced ((at, count) ∷ ranges) new) where
   piece : List ℕ
   piece = take count (drop at synced)

@@ -5,11 +5,11 @@ use Rattle.std.proofs.lemmas.List.{append-nil, reverse-append, take_at, drop_at,
 use Rattle.memory_host.specs.declared.memory_host.Act.{Act}
 use Rattle.memory_host.specs.declared.memory_host.Act.TheVariants.{Looked, Told, Wrote, Synced}
 use Rattle.memory_host.specs.declared.memory_host.Call.{Call}
-use Rattle.ps_outside.specs.Outside.{Outside, Along, Leaves, LeavesSame, Telling, TellsNothing, TellsFront, AddsFront}
+use Rattle.ps_port.specs.ps_outside.Outside.{Outside, Along, Leaves, LeavesSame, Telling, TellsNothing, TellsPrefix, AddsPrefix}
 use Rattle.ps_port.specs.Disk.{Torn, written}
 use Rattle.memory_host.specs.Memory.{Event, Memory, content_step, contents_after, told_step, told_after, ImageStep, IsImage, past, AllPast, filled, filled_step, after_call, after_counts, outside_of, told_at, contents_of, IsImageAt, MayLeave, IsDurable, FitsAct, taken}
 use Rattle.memory_host.specs.MemoryView.{events_of}
-use Rattle.ps_outside.proofs.Moments.{along_weaker}
+use Rattle.ps_port.proofs.of_ps_outside.Moments.{along_weaker}
 use Rattle.ps_port.specs.DiskLaws.{torn_none, written_torn}
 use Rattle.memory_host.specs.MemoryLaw.{contents_image}
 use Rattle.std.proofs.lemmas.List.Sums.{sum_by-cons, fold_push, sum_by-take-drop}
@@ -176,11 +176,11 @@ contents_now host all = ap (λ (es : List Event). contents_after host.first es) 
 pub told_now : (host : Memory) → AllPast host.clock host.events → told_after host.events ≡ told_at host host.clock
 told_now host all = ap told_after (sym (past_all host.clock host.clock host.events all (omega arith)))
 
--- a call that tells a front of the whole
-pub cuts : (host new : Memory) (front rest whole : List ℕ) → front ++ rest ≡ whole → Telling (outside_of host) (outside_of new) (λ told. (told ≡ told_at host host.clock) ⊎ (told ≡ told_at host host.clock ++ front)) → TellsFront (outside_of host) (outside_of new) whole
+-- a call that tells a prefix of the whole
+pub cuts : (host new : Memory) (front rest whole : List ℕ) → front ++ rest ≡ whole → Telling (outside_of host) (outside_of new) (λ told. (told ≡ told_at host host.clock) ⊎ (told ≡ told_at host host.clock ++ front)) → TellsPrefix (outside_of host) (outside_of new) whole
 cuts host new front rest whole split telling = along_weaker telling at
   where
-    at : (told : List ℕ) → (told ≡ told_at host host.clock) ⊎ (told ≡ told_at host host.clock ++ front) → AddsFront ((outside_of host).told host.clock) whole told
+    at : (told : List ℕ) → (told ≡ told_at host host.clock) ⊎ (told ≡ told_at host host.clock ++ front) → AddsPrefix ((outside_of host).told host.clock) whole told
     at told (inl same) = record { front = []; is_front = record { rest = whole; whole_is = refl }; adds = record { before = told_at host host.clock; was_told = refl; bytes_are = same ∙ sym (append-nil (told_at host host.clock)) } }
     at told (inr more) = record { front = front; is_front = record { rest = rest; whole_is = sym split }; adds = record { before = told_at host host.clock; was_told = refl; bytes_are = more } }
 

@@ -3,7 +3,7 @@ use Rattle.std.specs.Prelude.{◌≡◌, ℕ, ◌+◌, ◌-◌, ◌/◌, ◌^◌
 use Rattle.std.specs.List.{list_any}
 use Rattle.memory_host.specs.declared.memory_host.Act.{Act}
 use Rattle.memory_host.specs.declared.memory_host.Act.TheVariants.{Looked, Told, Wrote, Synced}
-use Rattle.ps_outside.specs.Outside.{Outside, After, next_count, counted}
+use Rattle.ps_port.specs.ps_outside.Outside.{Outside, After, next_count, counted}
 use Rattle.ps_port.specs.Disk.{written, Torn}
 
 -- a call that is kept: its number, what it did, and the bytes that it wrote or told
@@ -134,7 +134,7 @@ is_told Told = true
 is_told (Wrote at done) = false
 is_told (Synced done) = false
 
--- the counts behind a call
+-- the counts after a call
 abbrev pub after_counts : Memory → Act → Bool → Memory
 after_counts host act failed = record host {
   clock = next_count host.clock;
@@ -143,13 +143,13 @@ after_counts host act failed = record host {
   output_faults = counted (failed && is_told act) host.output_faults;
 }
 
--- the host behind a call that is kept
+-- the host after a call that is kept
 abbrev pub after_call : Memory → Act → List ℕ → Bool → Memory
 after_call host act bytes failed = record (after_counts host act failed) {
   events = record { number = host.clock; act = act; bytes = bytes } ∷ host.events;
 }
 
--- The host behind a call that does this with these bytes, and fails or not. Where there is no room for its record it fails and does nothing.
+-- The host after a call that does this with these bytes, and fails or not. Where there is no room for its record it fails and does nothing.
 abbrev pub after_acting : Memory → Act → List ℕ → Bool → Memory
 after_acting host act bytes failed = if has_room host (length bytes) then after_call host act bytes failed else after_counts host act true
 

@@ -1,5 +1,5 @@
 ghost use Rattle.std.specs.Prelude.{◌≡◌, ℕ, ◌+◌, ◌*◌, ◌≤◌, ◌<◌, ◌⊎◌, ◌/◌, drop, ◌++◌, [], ◌∷◌, true, false, List, length, take, vec_capacity, vec_len, if◌then◌else◌, OnOk, OnErr, IfOk, is_err, not, ◌&&◌, ◌||◌, sum_by, reverse, nat_lt};
-ghost use Rattle.ps_outside.specs.Outside.{Outside, After, Leaves, LeavesSame, SameContents, Telling, TellsNothing, Rose, IsDeviceCall, TellsFront, ToldAll, IsPutCall, counted};
+ghost use Rattle.ps_port.specs.ps_outside.Outside.{Outside, After, Leaves, LeavesSame, SameContents, Telling, TellsNothing, Rose, IsDeviceCall, TellsPrefix, ToldAll, IsPutCall, counted};
 ghost use Rattle.ps_port.specs.Disk.{Written, Torn, written};
 ghost use Rattle.memory_host.specs.Memory.{fresh, is_to_fail, has_room, is_told, after_call, after_counts, contents_of, content_step, outside_of, told_at, told_step, FitsAct, MayLeave, IsDurable, IsImageAt, ImageStep, filled, filled_step, past, after_acting, call_fails, share, is_write, writes_of};
 ghost use Rattle.memory_host.specs.MemoryView.{events_of};
@@ -121,7 +121,7 @@ impl MemoryHost {
         &self.contents
     }
 
-    /// All the bytes told.
+    /// All the bytes output.
     pub fn told_bytes(&self) -> &[u8]
         ensures { result.now ≡ told_at self.now self.now.clock }
     {
@@ -323,7 +323,7 @@ impl Host for MemoryHost {
     /// Where it is to fail, it tells the first half of the bytes, rounded down; where there is no room
     /// for its record, none.
     fn put(&mut self, from: &[u8]) -> Result<(), HostFailed>
-        ensures cut { TellsFront (outside_of self.old) (outside_of self.new) from.now }
+        ensures cut { TellsPrefix (outside_of self.old) (outside_of self.new) from.now }
         ensures all { OnOk result (ToldAll (outside_of self.old) (outside_of self.new) from.now) }
         ensures calm { OnOk result (self.new.output_faults ≡ self.old.output_faults) }
         ensures call { IsPutCall (outside_of self.old) (outside_of self.new) result }
@@ -359,7 +359,7 @@ fn push_call(log: &mut Vec<Call>, call: Call)
     }
 }
 
-// Puts bytes in the place of those that are there, and behind the end, where there is memory for them.
+// Puts bytes in the place of those that are there, and after the end, where there is memory for them.
 fn overwrite(bytes: &mut Vec<u8>, at: usize, from: &[u8])
     requires within { at ≤ vec_len bytes.old }
     requires taken { vec_len bytes.old + length from.now ≤ vec_capacity bytes.old }
@@ -436,7 +436,7 @@ fn replay_call(
     Ok(())
 }
 
-// Puts bytes in the place of those that are there, or behind the end.
+// Puts bytes in the place of those that are there, or after the end.
 fn place(bytes: &mut Vec<u8>, at: usize, from: &[u8]) -> Result<(), AllocError>
     ensures { OnOk result (bytes.new.items ≡ written at from.now bytes.old.items) }
 {
@@ -446,7 +446,7 @@ fn place(bytes: &mut Vec<u8>, at: usize, from: &[u8]) -> Result<(), AllocError>
     Ok(())
 }
 
-// What a call does to the contents and to the bytes told.
+// What a call does to the contents and to the bytes output.
 fn act_on(act: Act, contents: &mut Vec<u8>, told: &mut Vec<u8>, bytes: &[u8])
     requires within { FitsAct act (length contents.old.items) }
     requires contents_taken { vec_len contents.old + length bytes.now ≤ vec_capacity contents.old }

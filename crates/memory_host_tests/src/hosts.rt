@@ -30,7 +30,7 @@ fn make(host: &mut MemoryHost, call: Call<'_>) -> Result<(), HostFailed> {
     }
 }
 
-// What a call changes: all the bytes told, or the contents.
+// What a call changes: all the bytes output, or the contents.
 fn seen<'a>(host: &'a MemoryHost, call: Call<'_>) -> &'a [u8] {
     match call {
         Call::Put(_) => host.told_bytes(),

@@ -5,17 +5,13 @@ use Rattle.obj_layout.specs.declared.header.Header.{Header}
 use Rattle.obj_layout.specs.declared.header.LayoutFault.{LayoutFault}
 use Rattle.obj_layout.specs.Header.{HasFitFields, HasFitLengths, header_fault, header_words, object_length}
 use Rattle.obj_layout.specs.Stored.{damage_at, length_in, of_length, of_words}
-use Rattle.obj_layout.proofs.HeaderLaws.{kind_number-lt}
+use Rattle.obj_layout.proofs.HeaderLaws.{length_spelled}
 use Rattle.memory_vault.specs.Tested.{IsTested}
 
 -- where four words stand there, they and their length are tested
 four_stand : (words : List ℕ) (pid : ℕ) (wanted : Option ℕ) → 1 ≤ pid → pid + 4 ≤ length words
     → damage_at words pid wanted ≡ of_words pid (length words) (take 4 (drop pid words)) (header_fault (take 4 (drop pid words))) wanted
 four_stand words pid wanted low high = grind (arith, nat_tests)
-
--- the words of a header tell its object's length
-length_spelled : (header : Header) → HasFitFields header → length_in (header_words header) ≡ object_length header
-length_spelled header fields = let kind = kind_number-lt header.kind in omega (arith, fields.flags, fields.nums, kind)
 
 -- an object that isn't damaged by its length ends within the words, and is as long as is wanted
 length_fits : (pid used long : ℕ) (wanted : Option ℕ) → of_length pid used long wanted ≡ None → (pid + long ≤ used) × IfSome wanted (λ count. long ≡ count)

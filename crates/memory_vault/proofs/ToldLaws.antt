@@ -2,16 +2,16 @@
 use Rattle.std.proofs.Common.{◌≡◌, ℕ, ◌-◌, ◌≤◌, List, ◌++◌, length, take, drop, Ok, refl, sym, ap, ◌∙◌, subst, arith, length-append}
 use Rattle.std.proofs.lemmas.List.{take-append-le, take-append-drop, take_all}
 use Rattle.std.proofs.Math.Seq.{take-append-add}
-use Rattle.ps_outside.specs.Outside.{AddsFront, TellsFront, ToldAll}
+use Rattle.obj_layout.specs.ps_outside.Outside.{AddsPrefix, TellsPrefix, ToldAll}
 use Rattle.obj_layout.specs.Storing.{Puts}
 use Rattle.memory_vault.specs.Memory.{Memory, HadTold, outside_of}
 
 abbrev more : Memory → List ℕ → Memory
 more memory bytes = record memory { told = memory.told ++ bytes }
 
--- at each moment of a put a front of its bytes was told
+-- at each moment of a put a prefix of its bytes was told
 put_front : (old : Memory) (bytes : List ℕ) (m : ℕ) (told : List ℕ) → length old.told ≤ m → HadTold (more old bytes) m told
-    → AddsFront (HadTold old (length old.told)) bytes told
+    → AddsPrefix (HadTold old (length old.told)) bytes told
 put_front old bytes m told from is =
     let count = m - length old.told in
     record {
@@ -24,7 +24,7 @@ put_front old bytes m told from is =
       };
     }
 
-tells_front : (old : Memory) (bytes : List ℕ) → TellsFront (outside_of old) (outside_of (more old bytes)) bytes
+tells_front : (old : Memory) (bytes : List ℕ) → TellsPrefix (outside_of old) (outside_of (more old bytes)) bytes
 tells_front old bytes = record {
   later = omega (arith, length-append old.told bytes);
   kept = λ m told past is. is ∙ sym (take-append-le m old.told bytes past);

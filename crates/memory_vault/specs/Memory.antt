@@ -1,6 +1,6 @@
 -- A vault in memory: what it keeps, and what is seen of it.
 use Rattle.std.specs.Prelude.{◌≡◌, ℕ, ◌-◌, ◌^◌, min, max, Bool, true, false, nat_le, List, [], length, take, Option, Some, None, Result, Ok, Err}
-use Rattle.ps_outside.specs.Outside.{Outside, next_count}
+use Rattle.obj_layout.specs.ps_outside.Outside.{Outside, next_count}
 use Rattle.obj_layout.specs.declared.vault.VaultFault.{VaultFault}
 use Rattle.obj_layout.specs.declared.vault.VaultFault.TheVariants.{Device, Output, Full, Damaged}
 use Rattle.obj_layout.specs.Stored.{Space, IsSpace}
@@ -17,7 +17,7 @@ pub record Memory : Type 0 where
   pub calls : ℕ
   pub device_faults : ℕ
   pub output_faults : ℕ
-  -- the number of the first device call that fails, as each behind it does; the calls are counted from 0
+  -- the number of the first device call that fails, as each after it does; the calls are counted from 0
   pub failing : Option ℕ
   -- no call has answered a fault
   pub alive : Bool

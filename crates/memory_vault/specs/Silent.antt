@@ -1,5 +1,5 @@
 -- An outside that tells nothing of itself.
-use Rattle.ps_outside.specs.Outside.{Outside}
+use Rattle.obj_layout.specs.ps_outside.Outside.{Outside}
 
 abbrev pub nothing_told : {X : Type 0} → Outside X
 nothing_told = record {

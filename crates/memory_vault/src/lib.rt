@@ -4,3 +4,5 @@
 pub mod memory;
 mod objects;
 pub mod silent;
+
+pub use obj_layout;

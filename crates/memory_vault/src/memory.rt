@@ -1,4 +1,4 @@
-ghost use Rattle.std.specs.Prelude.{◌≡◌, ◌<◌, ◌≤◌, ◌+◌, ◌^◌, ◌⊎◌, ◌∷◌, [], Some, Ok, Err, true, IfOk, IfErr, length, if◌then◌else◌};
+ghost use Rattle.std.specs.Prelude.{◌≡◌, ◌<◌, ◌≤◌, ◌+◌, ◌^◌, ◌⊎◌, ◌∷◌, [], Some, Ok, Err, true, false, IfOk, IfErr, OnErr, length, if◌then◌else◌};
 ghost use Rattle.obj_layout.specs.Stored.{damage_at, appended, overwritten, directed};
 ghost use Rattle.obj_layout.specs.declared.vault.VaultFault.TheVariants.{Device, Full};
 ghost use Rattle.memory_vault.specs.Memory.{fresh, fails_from, answered, with_space};
@@ -137,6 +137,7 @@ impl MemoryVault {
         ensures answer { result ≡ (if fails_from self.old.calls self.old.failing then Err Device else Ok tt) }
         ensures after { self.new ≡ answered result self.old }
         ensures counts { self.old.device_faults ≤ self.new.device_faults }
+        ensures dead { OnErr result (self.new.alive ≡ false) }
     {
         let fails = fails_from(self.calls, self.failing);
         self.calls = self.calls.saturating_add(1);
@@ -154,6 +155,7 @@ impl MemoryVault {
         ensures fault { IfErr result (λ fault. (fault ≡ Device) ⊎ IsDamageAt pid (damage_at self.old.space.words pid wanted) fault) }
         ensures after { self.new ≡ answered result self.old }
         ensures counts { self.old.device_faults ≤ self.new.device_faults }
+        ensures dead { OnErr result (self.new.alive ≡ false) }
     {
         self.call()?;
         match object_at(&self.words, pid, wanted) {
@@ -172,6 +174,7 @@ impl MemoryVault {
             × (self.old.room < length self.old.space.words + wanted))) }
         ensures after { self.new ≡ answered result self.old }
         ensures counts { self.old.device_faults ≤ self.new.device_faults }
+        ensures dead { OnErr result (self.new.alive ≡ false) }
     {
         self.call()?;
         let used = self.words.len() as u64;
@@ -186,7 +189,7 @@ impl MemoryVault {
         Ok(used)
     }
 
-    // Holds these words behind its own.
+    // Holds these words after its own.
     fn extend(&mut self, words: &[u64])
         requires { length self.old.space.words + length words.now ≤ self.old.room }
         ensures after { self.new ≡ with_space (appended words.now self.old.space) self.old }
@@ -252,7 +255,10 @@ impl Vault for MemoryVault {
     }
 
     fn overwrite(&mut self, pid: u64, words: &[u64]) -> Result<(), VaultFault> {
-        let _header = self.object(pid, Some(words.len() as u64))?;
+        let _header = match self.object(pid, Some(words.len() as u64)) {
+            Ok(header) => header,
+            Err(fault) => return Err(fault),
+        };
         self.sound();
         self.replace(pid, words);
         Ok(())

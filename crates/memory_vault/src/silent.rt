@@ -1,10 +1,22 @@
+ghost use Rattle.std.specs.Prelude.{◌≡◌, ◌≤◌};
+
 use obj_layout::vault::{Vault, VaultFault};
 
-/// A vault that tells nothing: it answers each object as damaged, has room for none, and can be told anything.
+/// A vault that tells nothing: it answers each object as damaged, has room for none, and can be told anything. It is alive until an object is asked
+/// for or given.
 #[derive(Drop)]
 pub struct SilentVault {
-    /// How many objects were asked for.
+    /// How many objects were asked for or given.
     pub asked: u64,
+}
+
+impl SilentVault {
+    // Counts an object that is asked for or given.
+    fn ask(&mut self)
+        ensures { 1 ≤ self.new.asked }
+    {
+        self.asked = self.asked.saturating_add(1);
+    }
 }
 
 impl Vault for SilentVault {
@@ -13,7 +25,7 @@ impl Vault for SilentVault {
 
     ghost outside = { λ vault. nothing_told };
 
-    ghost alive = { λ vault. Unit {0} };
+    ghost alive = { λ vault. vault.asked ≡ 0 };
 
     ghost used_words = { λ vault. 1 };
 
@@ -22,7 +34,7 @@ impl Vault for SilentVault {
     ghost directory_at = { λ vault. 0 };
 
     fn length(&mut self, pid: u64) -> Result<u32, VaultFault> {
-        self.asked = self.asked.saturating_add(1);
+        self.ask();
         Err(VaultFault::Damaged {
             at: pid,
             found: pid,
@@ -31,7 +43,7 @@ impl Vault for SilentVault {
     }
 
     fn fetch(&mut self, pid: u64, into: &mut [u64]) -> Result<(), VaultFault> {
-        self.asked = self.asked.saturating_add(1);
+        self.ask();
         Err(VaultFault::Damaged {
             at: pid,
             found: pid,
@@ -40,6 +52,7 @@ impl Vault for SilentVault {
     }
 
     fn append(&mut self, words: &[u64]) -> Result<u64, VaultFault> {
+        self.ask();
         Err(VaultFault::Full {
             used: 1,
             wanted: words.len() as u64,
@@ -48,6 +61,7 @@ impl Vault for SilentVault {
     }
 
     fn overwrite(&mut self, pid: u64, words: &[u64]) -> Result<(), VaultFault> {
+        self.ask();
         Err(VaultFault::Damaged {
             at: pid,
             found: pid,
@@ -76,7 +90,7 @@ impl Vault for SilentVault {
     }
 
     fn is_alive(&self) -> bool {
-        true
+        self.asked == 0
     }
 
     ghost space = { λ vault space is. absurd is };

@@ -1,6 +1,6 @@
 -- No object is there, and what is left of the store's images is left of the device's.
 use Rattle.std.proofs.Common.{ℕ, List, []}
-use Rattle.ps_outside.specs.Outside.{Outside, LeavesSame}
+use Rattle.obj_layout.specs.ps_outside.Outside.{Outside, LeavesSame}
 use Rattle.obj_layout.specs.Stored.{Space}
 use Rattle.no_store.specs.NoObjects.{outside_of, HoldsNothing}
 

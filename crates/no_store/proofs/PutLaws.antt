@@ -2,14 +2,14 @@
 use Rattle.std.proofs.Common.{◌≡◌, ℕ, List}
 use Rattle.std.specs.Prelude.{Result, Ok}
 use Rattle.ps_port.specs.Telling.{TellsAll}
-use Rattle.ps_outside.specs.Outside.{Outside, TellsFront, ToldAll, IsPutCall}
+use Rattle.obj_layout.specs.ps_outside.Outside.{Outside, TellsPrefix, ToldAll, IsPutCall}
 use Rattle.obj_layout.specs.Storing.{Puts}
 use Rattle.no_store.specs.NoObjects.{outside_of}
 use Rattle.no_store.proofs.HoldingLaws.{images-left}
 
 module _ (a b : Outside (List ℕ)) (bytes : List ℕ) where
   -- all of it was told
-  pub puts-all : {T U E : Type 0} (done : T) (r : Result U E) → TellsFront a b bytes → ToldAll a b bytes → b.output_faults ≡ a.output_faults → IsPutCall a b r →
+  pub puts-all : {T U E : Type 0} (done : T) (r : Result U E) → TellsPrefix a b bytes → ToldAll a b bytes → b.output_faults ≡ a.output_faults → IsPutCall a b r →
       Puts {T = T} (outside_of a) (outside_of b) bytes (Ok done)
   puts-all done r front all calm call = record {
     told = front;

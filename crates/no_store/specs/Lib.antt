@@ -1,1 +1,2 @@
 pub mod NoObjects
+pub use Rattle.obj_layout.specs as obj_layout

@@ -1,6 +1,6 @@
 -- A store that holds no object, and tells by a host.
 use Rattle.std.specs.Prelude.{ℕ, List}
-use Rattle.ps_outside.specs.Outside.{Outside}
+use Rattle.obj_layout.specs.ps_outside.Outside.{Outside}
 use Rattle.obj_layout.specs.Stored.{Space, Holds}
 
 -- What is seen of a store without objects. It tells what its host tells, and counts what that counts; and it holds nothing. What a crash may leave of

@@ -5,4 +5,5 @@ mod laws;
 mod vault;
 
 pub use laws::{what_is_left_of_the_device, what_is_put_is_told};
+pub use obj_layout;
 pub use vault::NoStore;

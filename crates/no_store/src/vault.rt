@@ -1,11 +1,11 @@
-ghost use Rattle.std.specs.Prelude.{◌≡◌, true};
+ghost use Rattle.std.specs.Prelude.{◌≡◌, true, false};
 ghost use Rattle.obj_layout.specs.declared.vault.VaultFault.TheVariants.{Damaged};
 ghost use Rattle.no_store.specs.NoObjects.{outside_of, HoldsNothing};
 
 use obj_layout::vault::{Vault, VaultFault};
 use ps_port::Host;
 
-/// A vault that holds no object and has room for none, over a host that takes what is told. Each object that is asked of it is damaged,
+/// A vault that holds no object and has room for none, over a host that takes what is output. Each object that is asked of it is damaged,
 /// since no PID is below its one used word. After any fault it isn't alive.
 #[derive(Drop)]
 pub struct NoStore<H> {
@@ -22,7 +22,7 @@ impl<H: Host> NoStore<H> {
         NoStore { host, alive: true }
     }
 
-    /// The host that takes what is told.
+    /// The host that takes what is output.
     pub fn host(&self) -> &H
         ensures { result.now ≡ self.now.host }
     {
@@ -44,6 +44,7 @@ impl<H: Host> NoStore<H> {
     // A PID at which there is no object: there is but word 0.
     fn refuse(&mut self, pid: u64) -> VaultFault
         ensures host { self.new.host ≡ self.old.host }
+        ensures dead { self.new.alive ≡ false }
         ensures damaged { result ≡ Damaged pid pid 1 }
     {
         self.alive = false;
@@ -63,9 +64,10 @@ impl<H: Host> Vault for NoStore<H> {
 
     ghost alive = { λ vault. vault.alive ≡ true };
 
+    // Word 0 alone, which is no object's.
     ghost used_words = { λ vault. 1 };
 
-    ghost most_words = { λ vault. 1 };
+    ghost most_words = { λ vault. 0 };
 
     ghost directory_at = { λ vault. 0 };
 
@@ -82,7 +84,7 @@ impl<H: Host> Vault for NoStore<H> {
         Err(VaultFault::Full {
             used: 1,
             wanted: words.len() as u64,
-            capacity: 1,
+            capacity: 0,
         })
     }
 
@@ -109,7 +111,7 @@ impl<H: Host> Vault for NoStore<H> {
     }
 
     fn capacity(&self) -> u64 {
-        1
+        0
     }
 
     fn directory(&self) -> u64 {

@@ -1,10 +1,10 @@
 //! No object is there.
 ghost use Rattle.std.specs.Prelude.{◌≡◌, true, IfOk};
-ghost use Rattle.obj_layout.specs.Stored.{IsHeaded};
+ghost use Rattle.no_store.specs.obj_layout.Stored.{IsHeaded};
 
 use memory_host::MemoryHost;
 use no_store::NoStore;
-use obj_layout::vault::{Vault, VaultFault};
+use no_store::obj_layout::vault::{Vault, VaultFault};
 use std::alloc::{AllocError, Global};
 use std::test::Fail;
 
@@ -37,7 +37,7 @@ fn fetch(vault: &mut NoStore<MemoryHost>, pid: u64, into: &mut [u64]) -> Result<
 fn begins_with_no_object(rt: HostRuntime) -> Result<(), Fail> {
     let vault = store(rt.alloc())?;
     assert_eq!(rt; vault.used(), 1);
-    assert_eq!(rt; vault.capacity(), 1);
+    assert_eq!(rt; vault.capacity(), 0);
     assert_eq!(rt; vault.directory(), 0);
     assert!(rt; vault.is_alive());
     Ok(())
@@ -84,7 +84,7 @@ fn none_is_stored(rt: HostRuntime) -> Result<(), Fail> {
     let full = VaultFault::Full {
         used: 1,
         wanted: 5,
-        capacity: 1,
+        capacity: 0,
     };
     assert_eq!(rt; vault.append(&text()), Err(full));
     assert!(rt; !vault.is_alive());

@@ -3,10 +3,10 @@ ghost use Rattle.std.specs.Prelude.{◌≡◌, true};
 
 use memory_host::MemoryHost;
 use no_store::NoStore;
-use obj_layout::vault::{Vault, VaultFault};
+use no_store::obj_layout::vault::{Vault, VaultFault};
 use std::test::Fail;
 
-/// What is put behind one another, the answer, and all the bytes told then. Call 2 of the host is to fail, and tells the first half.
+/// What is put after one another, the answer, and all the bytes output then. Call 2 of the host is to fail, and tells the first half.
 const PUTS: [(&[&[u8]], Result<(), VaultFault>, &[u8]); 6] = [
     (&[], Ok(()), b""),
     (&[b""], Ok(()), b""),

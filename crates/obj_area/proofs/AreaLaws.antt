@@ -290,7 +290,7 @@ pub words_at-with_bytes_after : (area : AreaView) (at : ℕ) (bytes : List ℕ) 
 words_at-with_bytes_after area at bytes other count fits given there above =
     words_at-kept area at bytes other count fits there (ap (take (8 * count)) (overwritten-after (bytes_of area.words) (8 * (at - 1)) bytes (8 * (other - 1)) (bytes-inside area at (length bytes) given) (omega (arith, given.placed))))
 
--- the written words: the bytes, and behind them what stood there
+-- the written words: the bytes, and after them what stood there
 pub words_at-with_bytes : (area : AreaView) (at : ℕ) (bytes : List ℕ) (count : ℕ) → IsGivenOut area at count → length bytes ≤ 8 * count → words_at (with_bytes area at bytes) at count ≡ words_of (bytes ++ drop (length bytes) (bytes_at area at (8 * count)))
 words_at-with_bytes area at bytes count given h =
     let old = bytes_of area.words in

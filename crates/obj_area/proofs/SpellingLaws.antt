@@ -1,4 +1,4 @@
--- What the reads and writes of words in bytes come to, in the form that `byteorder` and a range of a slice give.
+-- What the reads and writes of words in bytes return, in the form that `byteorder` and a range of a slice give.
 use Rattle.std.proofs.Common.{◌≡◌, ℕ, ◌+◌, ◌-◌, ◌*◌, ◌^◌, ◌<◌, ◌≤◌, List, [], ◌++◌, length, take, drop, set, slice_index, sym, ap, ◌∙◌, arith, length-drop}
 use Rattle.std.proofs.lemmas.List.{drop-drop, length-take-le, append-nil, ext_get_or, take_all, drop_all, drop-take, get_or-take, get_or-drop}
 use Rattle.std.specs.List.{flat_map}

@@ -174,7 +174,7 @@ words_of-append xs ys whole =
     let rest = drop_at xs ys (8 * m) whole in
     ap (λ (n : ℕ). words_in n (xs ++ ys)) count ∙ words_in-add m (length ys / 8) (xs ++ ys) ∙ rw (first, rest) refl
 
--- words of zero come behind the others
+-- words of zero come after the others
 pub words_of-zeros : (bs : List ℕ) (n : ℕ) → AreWhole bs → words_of (bs ++ replicate (8 * n) 0) ≡ words_of bs ++ replicate n 0
 unfolding words_of
 words_of-zeros bs n whole =
@@ -183,7 +183,7 @@ words_of-zeros bs n whole =
     words_of-append bs (replicate (8 * n) 0) whole
     ∙ ap (λ (r : List ℕ). words_of bs ++ r) (ap (λ (m : ℕ). words_in m (replicate (8 * n) 0)) count ∙ words_in-zeros n)
 
--- the front of the bytes spells the front of the words
+-- the prefix of the bytes spells the prefix of the words
 pub words_of-take : (k : ℕ) (bs : List ℕ) → 8 * k ≤ length bs → words_of (take (8 * k) bs) ≡ take k (words_of bs)
 words_of-take k bs h =
     let long = length-take-le (8 * k) bs h in
@@ -201,7 +201,7 @@ words_of-drop k bs h =
     sym (drop_at (words_of (take (8 * k) bs)) (words_of (drop (8 * k) bs)) k count)
     ∙ ap (drop k) (sym (words_of-append (take (8 * k) bs) (drop (8 * k) bs) whole) ∙ ap words_of (take-append-drop (8 * k) bs))
 
--- where the others fit, the front and the back stay
+-- where the others fit, the prefix and the back stay
 pub overwritten-inside : {X : Type 0} (items : List X) (place : ℕ) (others : List X) → place + length others ≤ length items → overwritten items place others ≡ take place items ++ (others ++ drop (place + length others) items)
 overwritten-inside items place others h =
     let front = length-take-le place items (omega arith) in

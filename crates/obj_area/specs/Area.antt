@@ -71,6 +71,6 @@ bytes_from area place count = take count (drop place (bytes_of area.words))
 abbrev pub with_bytes_from : AreaView → ℕ → List ℕ → AreaView
 with_bytes_from area place bytes = record area { words = words_of (overwritten (bytes_of area.words) place bytes) }
 
--- the byte behind so many ones of the words from this one on
+-- the byte after so many ones of the words from this one on
 abbrev pub byte_place : ℕ → ℕ → ℕ
 byte_place at skip = 8 * (at - 1) + skip

@@ -126,7 +126,7 @@ impl Area {
         spelling::bytes_from(&self.bytes, at as usize - 1, len as usize)
     }
 
-    /// The same bytes, to be written. All other bytes of the area stay, also those behind them in their
+    /// The same bytes, to be written. All other bytes of the area stay, also those after them in their
     /// last word.
     pub fn bytes_mut(&mut self, at: u32, len: u32) -> &mut [u8]
         requires { IsGivenOut self.old at (words_spanned len) }
@@ -137,7 +137,7 @@ impl Area {
         spelling::bytes_from_mut(&mut self.bytes, at as usize - 1, len as usize)
     }
 
-    /// Writes `from` over the bytes of the words from `at` on, behind the first `skip` ones. All other bytes stay.
+    /// Writes `from` over the bytes of the words from `at` on, after the first `skip` ones. All other bytes stay.
     pub fn write_bytes(&mut self, at: u32, skip: u32, from: &[u8])
         requires { IsGivenOut self.old at (words_spanned (skip + length from.now)) }
         ensures { self.new ≡ with_bytes_from self.old (byte_place at skip) from.now }
@@ -146,7 +146,7 @@ impl Area {
         spelling::write_bytes(&mut self.bytes, start, from);
     }
 
-    /// Copies `len` bytes from behind the first `from_skip` ones of the words from `from` on to behind the first `to_skip` ones of those from
+    /// Copies `len` bytes from after the first `from_skip` ones of the words from `from` on to after the first `to_skip` ones of those from
     /// `to` on. The two may overlap.
     pub fn copy_bytes(&mut self, from: u32, from_skip: u32, to: u32, to_skip: u32, len: u32)
         requires from { IsGivenOut self.old from (words_spanned (from_skip + len)) }

@@ -5,7 +5,8 @@ use Rattle.obj_layout.specs.declared.kind.Kind.{Kind}
 use Rattle.obj_layout.specs.declared.kind.Kind.TheVariants.{Text, Structure, Vector, Scope, Closure, Code, Table, Node, Directory}
 use Rattle.obj_layout.specs.declared.header.Header.{Header}
 use Rattle.obj_layout.specs.Kind.{kind_number, kind_numbered}
-use Rattle.obj_layout.specs.Header.{HasFitFields, HasFitLengths, header_words, header_fault, fault_of, length_fault}
+use Rattle.obj_layout.specs.Header.{HasFitFields, HasFitLengths, header_words, header_fault, fault_of, length_fault, object_length}
+use Rattle.obj_layout.specs.Stored.{length_in}
 
 -- a kind is what its number stands for
 pub kind_numbered-kind_number : (kind : Kind) → kind_numbered (kind_number kind) ≡ Some kind
@@ -102,3 +103,7 @@ header_fault-header_words h fields lengths =
     let nums : (h.nums + 2 ^ 32 * h.bytes) % 2 ^ 32 ≡ h.nums = omega (arith, fields.nums) in
     let bytes : (h.nums + 2 ^ 32 * h.bytes) / 2 ^ 32 ≡ h.bytes = omega (arith, fields.nums) in
     same_fault number spare refs nums bytes ∙ fault_of-kind h.kind h.refs h.nums h.bytes ∙ length_fault-none h.refs h.nums h.bytes lengths.bytes lengths.words
+
+-- the words of a header tell its object's length
+pub length_spelled : (header : Header) → HasFitFields header → length_in (header_words header) ≡ object_length header
+length_spelled header fields = let kind = kind_number-lt header.kind in omega (arith, fields.flags, fields.nums, kind)

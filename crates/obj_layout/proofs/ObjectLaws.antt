@@ -49,7 +49,7 @@ Cuts-unique at words (o ∷ os) (p ∷ ps) c d =
     let others = Cuts-unique (at + length o.words) c.2.0 os ps c.2.2 cut in
     same_objects o p os ps (c.0 ∙ sym d.0) first others
 
--- objects behind objects
+-- objects after objects
 pub Cuts-append : (at : ℕ) (xs ys : List ℕ) (os ps : List Placed) → Cuts at xs os → Cuts (at + length xs) ys ps → Cuts at (xs ++ ys) (os ++ ps)
 Cuts-append at xs ys [] ps c d =
     let none : length xs ≡ 0 = ap length c in

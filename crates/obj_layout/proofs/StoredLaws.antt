@@ -16,7 +16,7 @@ HasObject-one space pid xs ys h k =
     let here : IsAmong (placed pid xs) k.objects = subst (IsAmong (placed pid xs)) same h.among in
     ap (λ (o : Placed). o.words) (Cuts-map 1 rest k.objects (placed pid xs) (placed pid ys) k.cut.1 here k.among refl)
 
--- An object of a space lies behind word 0 and within the space's words.
+-- An object of a space lies after word 0 and within the space's words.
 pub record IsWithin (used pid : ℕ) (words : List ℕ) : Type 0 where
   pub low : 1 ≤ pid
   pub high : pid + length words ≤ used

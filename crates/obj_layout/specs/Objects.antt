@@ -1,5 +1,6 @@
 -- What each kind of object holds, and the objects of a space: they follow one another and fill it.
 use Rattle.std.specs.Prelude.{◌≡◌, ℕ, ◌+◌, ◌-◌, ◌*◌, ◌/◌, ◌≤◌, ◌⊎◌, List, [], ◌∷◌, ◌++◌, length, take, drop}
+use Rattle.ps_base.specs.Limits.{most_databases, most_elements}
 use Rattle.obj_layout.specs.declared.kind.Kind.{Kind}
 use Rattle.obj_layout.specs.declared.kind.Kind.TheVariants.{Text, Structure, Vector, Scope, Closure, Code, Table, Node, Directory}
 use Rattle.obj_layout.specs.declared.header.Header.{Header}
@@ -68,10 +69,10 @@ counts_of (directory databases) = counts (3 * databases) 1 0
 
 -- a vector has an element, and code its type text
 abbrev pub IsAllowed : Contents → Type 0
-IsAllowed (vector_of_references elements) = (1 ≤ elements) × (elements ≤ 1048576)
-IsAllowed (vector_of_numbers elements) = (1 ≤ elements) × (elements ≤ 1048576)
+IsAllowed (vector_of_references elements) = (1 ≤ elements) × (elements ≤ most_elements)
+IsAllowed (vector_of_numbers elements) = (1 ≤ elements) × (elements ≤ most_elements)
 IsAllowed (code constants bytes) = 1 ≤ constants
-IsAllowed (directory databases) = (1 ≤ databases) × (databases ≤ 256)
+IsAllowed (directory databases) = (1 ≤ databases) × (databases ≤ most_databases)
 IsAllowed _ = Unit {0}
 
 -- the counts of a header are those of some contents of its kind
@@ -95,7 +96,7 @@ pub record Placed : Type 0 where
   pub pid : ℕ
   pub words : List ℕ
 
--- words from an index on are these objects, one behind the other
+-- words from an index on are these objects, one after the other
 abbrev pub Cuts : ℕ → List ℕ → List Placed → Type 0
 Cuts at words [] = words ≡ []
 Cuts at words (object ∷ others) =

@@ -87,6 +87,13 @@ damage_at words pid wanted =
     (if nat_lt used (pid + 4) then damage (pid + 4) used else of_words pid used header (header_fault header) wanted)
     else damage pid used
 
+-- What stands at a PID, whatever stands elsewhere: the length that the header there gives, and so many words.
+abbrev pub length_there : ℕ → Space → ℕ
+length_there pid space = length_in (take 4 (drop pid space.words))
+
+abbrev pub words_there : ℕ → ℕ → Space → List ℕ
+words_there pid count space = take count (drop pid space.words)
+
 -- the words of a space with these from a place on
 abbrev pub with_words : List ℕ → ℕ → List ℕ → List ℕ
 with_words words at put = take at words ++ (put ++ drop (at + length put) words)

@@ -1,6 +1,7 @@
 -- What each call of a store says of the outside.
-use Rattle.std.specs.Prelude.{◌≡◌, ◌≢◌, ◌⊎◌, ℕ, ◌+◌, ◌*◌, ◌/◌, ◌≤◌, List, Option, Some, None, Result, Err, OnOk}
-use Rattle.ps_outside.specs.Outside.{Outside, Leaves, LeavesSame, SameContents, TellsNothing, TellsFront, ToldAll, Rose, seen_as}
+use Rattle.std.specs.Prelude.{◌≡◌, ◌≢◌, ◌⊎◌, ℕ, ◌+◌, ◌*◌, ◌/◌, ◌≤◌, List, Option, Some, None, Result, Err, OnOk, OnErr}
+use Rattle.ps_outside.specs.Outside.{Outside, Leaves, LeavesSame, SameContents, TellsNothing, TellsPrefix, ToldAll, Rose, seen_as}
+use Rattle.ps_outside.specs.Past.{KeepsPast}
 use Rattle.obj_layout.specs.declared.vault.VaultFault.{VaultFault}
 use Rattle.obj_layout.specs.declared.vault.VaultFault.TheVariants.{Device, Output, Full, Damaged}
 use Rattle.obj_layout.specs.Stored.{Space, damage_at, without_file}
@@ -24,6 +25,8 @@ pub record IsStoreCall {T : Type 0} (old new : Outside Space) (most : ℕ) (resu
 pub record IsStagingCall {T : Type 0} (old new : Outside Space) (most : ℕ) (result : Result T VaultFault) : Type 0 where
   pub told : TellsNothing old new
   pub images : LeavesSame (unfiled old) (unfiled new)
+  -- what a crash could leave at the moments that have been stays, file and all
+  pub past : KeepsPast old new
   pub counts : old.device_faults ≤ new.device_faults
   pub output : new.output_faults ≡ old.output_faults
   pub cause : result ≡ Err Device → Rose old.device_faults new.device_faults
@@ -44,6 +47,10 @@ NeverDamaged result = (at found bound : ℕ) → result ≢ Err (Damaged at foun
 abbrev pub NeverFull : {T : Type 0} → Result T VaultFault → Type 0
 NeverFull result = (used wanted capacity : ℕ) → result ≢ Err (Full used wanted capacity)
 
+-- after a fault no call may be made
+abbrev pub DeadIfErr : {T : Type 0} → Type 0 → Result T VaultFault → Type 0
+DeadIfErr alive result = OnErr result (alive → ⊥)
+
 -- what is held afterwards is what was held, after a step
 pub record Becomes (old new : Outside Space) (step : Space → Space) : Type 0 where
   pub told : (space : Space) → old.contents space → new.contents (step space)
@@ -52,6 +59,7 @@ pub record Becomes (old new : Outside Space) (step : Space → Space) : Type 0 w
 -- All that was staged is kept whole, or none of it, in whatever file: at each moment, and after an answer all of it, where a content is told.
 pub record Settles {T : Type 0} (old new : Outside Space) (most : ℕ) (step : Space → Space) (result : Result T VaultFault) : Type 0 where
   pub told : TellsNothing old new
+  pub past : KeepsPast old new
   pub images : Leaves (unfiled old) (unfiled new) (λ space. (unfiled old).images old.clock space ⊎ ((before : Space) × old.contents before × (step before ≡ space)))
   pub durable : OnOk result ((before space : Space) → old.contents before → (unfiled new).images new.clock space → new.contents space)
   pub counts : old.device_faults ≤ new.device_faults
@@ -60,9 +68,9 @@ pub record Settles {T : Type 0} (old new : Outside Space) (most : ℕ) (step : S
   pub other : result ≢ Err Output
   pub calls : OnOk result (new.device_calls ≤ old.device_calls + most)
 
--- Bytes are told: a front of them at each moment, and after an answer all of them.
+-- Bytes are told: a prefix of them at each moment, and after an answer all of them.
 pub record Puts {T : Type 0} (old new : Outside Space) (bytes : List ℕ) (result : Result T VaultFault) : Type 0 where
-  pub told : TellsFront old new bytes
+  pub told : TellsPrefix old new bytes
   pub all : OnOk result (ToldAll old new bytes)
   pub images : LeavesSame old new
   pub contents : SameContents old new

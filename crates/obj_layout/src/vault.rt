@@ -1,7 +1,7 @@
 ghost use Rattle.std.specs.Prelude.{◌≡◌, ◌+◌, ◌≤◌, ◌<◌, ◌^◌, ◌↔◌, ℕ, List, length, Some, None, true, IfOk, OnOk, Err, drop};
 ghost use Rattle.ps_outside.specs.Outside.{Outside, SameContents};
-ghost use Rattle.obj_layout.specs.Stored.{Space, IsSpace, Holds, IsHeaded, appended, overwritten, directed};
-ghost use Rattle.obj_layout.specs.Storing.{IsStoreCall, IsStagingCall, TestsObject, NeverDamaged, NeverFull, Becomes, Settles, Puts, reading, writing, settling};
+ghost use Rattle.obj_layout.specs.Stored.{Space, IsSpace, Holds, IsHeaded, length_there, words_there, appended, overwritten, directed};
+ghost use Rattle.obj_layout.specs.Storing.{IsStoreCall, IsStagingCall, TestsObject, NeverDamaged, NeverFull, DeadIfErr, Becomes, Settles, Puts, reading, writing, settling};
 
 /// Why a vault didn't answer. After any fault the vault isn't alive.
 #[derive(Clone, Copy, PartialEq, Eq, Debug)]
@@ -26,7 +26,7 @@ pub enum VaultFault {
 
 /// A store of objects under their PIDs, with the output. An object's PID is the index of its first word.
 pub trait Vault {
-    /// What is seen of it: what is told, what a crash may leave, what is held, and the counts of its faults and of its device calls.
+    /// What is seen of it: what is output, what a crash may leave, what is held, and the counts of its faults and of its device calls.
     ghost outside: { Self → Outside Space };
 
     /// Its calls may be made.
@@ -38,29 +38,34 @@ pub trait Vault {
 
     ghost directory_at: { Self → ℕ };
 
-    /// How many words the object has, its header included.
+    /// How many words the object has, its header included. It goes by what stands at the PID alone: whether the rest of the space is cut into
+    /// objects changes nothing.
     fn length(&mut self, pid: u64) -> Result<u32, VaultFault>
         requires alive { alive self.old }
         ensures told { IfOk result (λ count. (words : List ℕ) → Holds (outside self.old) pid words → length words ≡ count) }
+        ensures stands { IfOk result (λ count. (space : Space) → (outside self.old).contents space → length_there pid space ≡ count) }
         ensures tested { TestsObject (outside self.old) pid None result }
         ensures call { IsStoreCall (outside self.old) (outside self.new) 2 result }
         ensures same { SameContents (outside self.old) (outside self.new) }
         ensures full { NeverFull result }
         ensures numbers { (used_words self.new ≡ used_words self.old) × (directory_at self.new ≡ directory_at self.old) × (most_words self.new ≡ most_words self.old) }
-        ensures alive { OnOk result (alive self.new) };
+        ensures alive { OnOk result (alive self.new) }
+        ensures dead { DeadIfErr (alive self.new) result };
 
-    /// Gives the words of the object.
+    /// Gives the words of the object, those that stand at the PID.
     fn fetch(&mut self, pid: u64, into: &mut [u64]) -> Result<(), VaultFault>
         requires alive { alive self.old }
         requires fits { (words : List ℕ) → Holds (outside self.old) pid words → length words ≡ length into.old }
         ensures told { OnOk result ((words : List ℕ) → Holds (outside self.old) pid words → words ≡ into.new) }
+        ensures stands { OnOk result ((space : Space) → (outside self.old).contents space → words_there pid (length into.old) space ≡ into.new) }
         ensures headed { OnOk result (IsHeaded into.new) }
         ensures tested { TestsObject (outside self.old) pid (Some (length into.old)) result }
         ensures call { IsStoreCall (outside self.old) (outside self.new) (reading (length into.old)) result }
         ensures same { SameContents (outside self.old) (outside self.new) }
         ensures full { NeverFull result }
         ensures numbers { (used_words self.new ≡ used_words self.old) × (directory_at self.new ≡ directory_at self.old) × (most_words self.new ≡ most_words self.old) }
-        ensures alive { OnOk result (alive self.new) };
+        ensures alive { OnOk result (alive self.new) }
+        ensures dead { DeadIfErr (alive self.new) result };
 
     /// Stores a new object. Its PID is the number of used words before.
     fn append(&mut self, words: &[u64]) -> Result<u64, VaultFault>
@@ -75,7 +80,8 @@ pub trait Vault {
         ensures sound { NeverDamaged result }
         ensures used { OnOk result (used_words self.new ≡ used_words self.old + length words.now) }
         ensures numbers { (directory_at self.new ≡ directory_at self.old) × (most_words self.new ≡ most_words self.old) }
-        ensures alive { OnOk result (alive self.new) };
+        ensures alive { OnOk result (alive self.new) }
+        ensures dead { DeadIfErr (alive self.new) result };
 
     /// Puts these words in place of the object's.
     fn overwrite(&mut self, pid: u64, words: &[u64]) -> Result<(), VaultFault>
@@ -86,7 +92,8 @@ pub trait Vault {
         ensures call { IsStagingCall (outside self.old) (outside self.new) (writing (length words.now)) result }
         ensures full { NeverFull result }
         ensures numbers { (used_words self.new ≡ used_words self.old) × (directory_at self.new ≡ directory_at self.old) × (most_words self.new ≡ most_words self.old) }
-        ensures alive { OnOk result (alive self.new) };
+        ensures alive { OnOk result (alive self.new) }
+        ensures dead { DeadIfErr (alive self.new) result };
 
     /// Keeps all that was stored, with this directory: at every moment a crash leaves all of it or none.
     fn settle(&mut self, directory: u64) -> Result<(), VaultFault>
@@ -98,7 +105,8 @@ pub trait Vault {
         ensures sound { NeverDamaged result }
         ensures directory { OnOk result (directory_at self.new ≡ directory) }
         ensures numbers { (used_words self.new ≡ used_words self.old) × (most_words self.new ≡ most_words self.old) }
-        ensures alive { OnOk result (alive self.new) };
+        ensures alive { OnOk result (alive self.new) }
+        ensures dead { DeadIfErr (alive self.new) result };
 
     /// Tells these bytes.
     fn put(&mut self, bytes: &[u8]) -> Result<(), VaultFault>
@@ -107,7 +115,8 @@ pub trait Vault {
         ensures full { NeverFull result }
         ensures sound { NeverDamaged result }
         ensures numbers { (used_words self.new ≡ used_words self.old) × (directory_at self.new ≡ directory_at self.old) × (most_words self.new ≡ most_words self.old) }
-        ensures alive { OnOk result (alive self.new) };
+        ensures alive { OnOk result (alive self.new) }
+        ensures dead { DeadIfErr (alive self.new) result };
 
     /// How many words are used, word 0 included.
     fn used(&self) -> u64

@@ -2,7 +2,7 @@
 use Rattle.std.proofs.Common.{◌≡◌, ◌⊎◌, inl, inr, ℕ, ◌+◌, ◌<◌, ◌≤◌, Bool, List, ◌++◌, length, get_or, take, drop, sym, ◌∙◌, ap, subst, arith, length-append, length-take, length-drop, []}
 use Rattle.std.proofs.lemmas.Grind.{same_number_lists}
 use Rattle.std.proofs.lemmas.List.{append_assoc, get_or-append_right, get_or_append_left}
-use Rattle.ps_outside.specs.Outside.{Outside}
+use Rattle.obj_layout.specs.ps_outside.Outside.{Outside}
 use Rattle.ps_port.specs.Disk.{written}
 use Rattle.ps_port.specs.DiskLaws.{written_elsewhere, length-written}
 use Rattle.shadow_volume.specs.Found.{Held}

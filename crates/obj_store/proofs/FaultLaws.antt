@@ -1,13 +1,15 @@
 -- What the faults of a store say.
 use Rattle.std.proofs.Common.{◌≡◌, inl, inr, ℕ, ◌+◌, ◌<◌, Bool, List, Option, Some, ◌∙◌, arith, Result, Ok, Err, refl}
-use Rattle.ps_outside.specs.Outside.{Outside, Rose}
+use Rattle.obj_layout.specs.ps_outside.Outside.{Outside, Rose}
+use Rattle.obj_layout.specs.ps_outside.Past.{KeepsPast}
+use Rattle.obj_layout.proofs.of_ps_outside.PastMoments.{past_as}
 use Rattle.shadow_volume.specs.Standing.{seen}
 use Rattle.shadow_volume.specs.declared.note.Committed.{Committed}
 use Rattle.obj_layout.specs.declared.vault.VaultFault.{VaultFault}
 use Rattle.obj_layout.specs.declared.vault.VaultFault.TheVariants.{Device, Output, Full, Damaged}
 use Rattle.obj_layout.specs.Stored.{Space}
 use Rattle.obj_layout.specs.Storing.{TestsObject, IsStagingCall}
-use Rattle.obj_store.specs.Spaces.{spaces}
+use Rattle.obj_store.specs.Spaces.{spaces, space_filed}
 use Rattle.obj_store.specs.Staging.{Stages}
 use Rattle.obj_store.specs.Tested.{IsObjectFault, IsAppendFault}
 use Rattle.obj_store.proofs.SettleLaws.{same_images}
@@ -33,11 +35,12 @@ tests_fault {T = T} old new pid wanted fault (inr tells) = record {
 }
 
 -- calls that stage are those of a store
-module _ {T : Type 0} (used next most : ℕ) (p q : Committed) (s t : List Bool) (a b : Outside (List ℕ)) (stages : Stages (seen p s a) (seen q t b) most) where
+module _ {T : Type 0} (used next most : ℕ) (p q : Committed) (s t : List Bool) (a b : Outside (List ℕ)) (past : KeepsPast a b) (stages : Stages (seen p s a) (seen q t b) most) where
   pub store_call : (value : T) → IsStagingCall (spaces used p s a) (spaces next q t b) most (Ok value)
   store_call value = record {
     told = stages.told;
     images = same_images used next p q s t a b stages.images;
+    past = past_as a b space_filed past;
     counts = stages.counts;
     output = stages.output;
     cause = λ e. absurd (cc);
@@ -49,6 +52,7 @@ module _ {T : Type 0} (used next most : ℕ) (p q : Committed) (s t : List Bool)
   object_call pid wanted fault is = record {
     told = stages.told;
     images = same_images used next p q s t a b stages.images;
+    past = past_as a b space_filed past;
     counts = stages.counts;
     output = stages.output;
     cause = λ e. cause e is;
@@ -68,6 +72,7 @@ module _ {T : Type 0} (used next most : ℕ) (p q : Committed) (s t : List Bool)
   append_call wanted capacity fault is = record {
     told = stages.told;
     images = same_images used next p q s t a b stages.images;
+    past = past_as a b space_filed past;
     counts = stages.counts;
     output = stages.output;
     cause = λ e. cause e is;

@@ -1,7 +1,7 @@
 -- The objects of a space are where their PIDs say.
 use Rattle.std.proofs.Common.{◌≡◌, ℕ, ◌+◌, ◌-◌, ◌++◌, List, length, take, drop, sym, ap, ◌∙◌, arith, Option}
 use Rattle.std.proofs.lemmas.List.{take-append-le, take-append-drop, drop-drop}
-use Rattle.ps_outside.specs.Outside.{Outside}
+use Rattle.obj_layout.specs.ps_outside.Outside.{Outside}
 use Rattle.obj_layout.specs.declared.header.Header.{Header}
 use Rattle.obj_layout.specs.Header.{HasFitFields, header_words, object_length}
 use Rattle.obj_layout.specs.Objects.{Placed}

@@ -1,6 +1,6 @@
 -- What is left of a store is left of its host.
 use Rattle.std.proofs.Common.{◌≡◌, ℕ, Bool, List, refl, subst, ap}
-use Rattle.ps_outside.specs.Outside.{Outside, LeavesSame}
+use Rattle.obj_layout.specs.ps_outside.Outside.{Outside, LeavesSame}
 use Rattle.ps_port.specs.Telling.{TellsAll}
 use Rattle.std.specs.Prelude.{Ok}
 use Rattle.shadow_volume.specs.declared.note.Committed.{Committed}

@@ -1,7 +1,7 @@
 -- An attached store holds what is committed in the file.
 use Rattle.std.proofs.Common.{◌≡◌, ℕ, ◌-◌, ◌*◌, ◌≤◌, Bool, List, length, take, drop, replicate, refl, sym, ◌∙◌, ap, arith, length-take, length-drop, Option, Some, []}
 use Rattle.std.specs.Option.{option_map}
-use Rattle.ps_outside.specs.Outside.{Outside, After}
+use Rattle.obj_layout.specs.ps_outside.Outside.{Outside, After}
 use Rattle.shadow_volume.specs.Layout.{half_at, half_pages, pages_of_words}
 use Rattle.shadow_volume.specs.Found.{Held}
 use Rattle.shadow_volume.specs.Standing.{IsFit, Says, held_in, with_zeros, seen, staged_in}

@@ -1,7 +1,7 @@
 -- Words that are read page by page.
 use Rattle.std.proofs.Common.{◌≡◌, ◌⊎◌, inl, inr, ℕ, ◌+◌, ◌-◌, ◌*◌, ◌/◌, ◌<◌, ◌≤◌, min, max, Bool, List, length, get_or, drop, ◌∙◌, ap, arith, Option, Some}
 use Rattle.std.proofs.lemmas.List.{get_or-take, get_or-drop}
-use Rattle.ps_outside.specs.Outside.{Outside, SameContents}
+use Rattle.obj_layout.specs.ps_outside.Outside.{Outside, SameContents}
 use Rattle.shadow_volume.specs.Found.{Held}
 use Rattle.shadow_volume.specs.Standing.{seen, staged_in}
 use Rattle.shadow_volume.specs.Staging.{page_of}

@@ -4,13 +4,15 @@ use Rattle.std.specs.Option.{option_map}
 use Rattle.std.proofs.lemmas.Option.{same_Some}
 use Rattle.std.proofs.lemmas.Grind.{same_number_lists}
 use Rattle.std.proofs.lemmas.List.{get_or-take, get_or_append_left, length-take-le}
-use Rattle.ps_outside.specs.Outside.{Outside, After, Leaves, LeavesSame}
+use Rattle.obj_layout.specs.ps_outside.Outside.{Outside, After, Leaves, LeavesSame}
+use Rattle.obj_layout.specs.ps_outside.Past.{KeepsPast}
+use Rattle.obj_layout.proofs.of_ps_outside.PastMoments.{past_as}
 use Rattle.shadow_volume.specs.Layout.{half_pages, pages_of_words}
 use Rattle.shadow_volume.specs.Found.{Held}
 use Rattle.shadow_volume.specs.Standing.{seen, staged_in, saved, with_zeros, held_in}
 use Rattle.shadow_volume.specs.Switching.{Switches, Was, switched}
 use Rattle.shadow_volume.specs.declared.note.Committed.{Committed}
-use Rattle.ps_port.specs.declared.host.HostFailed.{HostFailed}
+use Rattle.shadow_volume.specs.declared.volume.VolumeFault.{VolumeFault}
 use Rattle.shadow_volume.proofs.Switched.{next_fit}
 use Rattle.obj_layout.specs.declared.vault.VaultFault.TheVariants.{Device}
 use Rattle.obj_layout.specs.Stored.{Space, directed, without_file}
@@ -174,12 +176,13 @@ switched_order used directory p q order some below is = subst (λ (c : Committed
   within = order.within;
 })
 
-pub switch_settles : (used directory : ℕ) (p q : Committed) (s t : List Bool) (a b : Outside (List ℕ)) → IsInOrder used p → IsInOrder used q →
-    Switches {T = Unit {0}} {E = HostFailed} (seen p s a) (seen q t b) p.pages used directory (Ok tt) →
+pub switch_settles : (used directory : ℕ) (p q : Committed) (s t : List Bool) (a b : Outside (List ℕ)) → IsInOrder used p → IsInOrder used q → KeepsPast a b →
+    Switches {T = Unit {0}} {E = VolumeFault} (seen p s a) (seen q t b) p.pages used directory (Ok tt) →
     Settles {T = Unit {0}} (spaces used p s a) (spaces used q t b) (settling used) (directed directory) (Ok tt)
-switch_settles used directory p q s t a b order order_next is = record {
+switch_settles used directory p q s t a b order order_next past is = record {
   told = is.works.told;
   images = switch_images used directory p q s t a b order order_next is.images;
+  past = past_as a b space_filed past;
   durable = λ before space told. switch_durable used directory p q s t a b order order_next is.holds is.stays is.kept space;
   counts = is.works.counts;
   output = is.works.output;
@@ -188,12 +191,13 @@ switch_settles used directory p q s t a b order order_next is = record {
   calls = is.calls;
 }
 
-pub switch_fails : (used directory : ℕ) (p q : Committed) (s t : List Bool) (a b : Outside (List ℕ)) (fault : HostFailed) → IsInOrder used p → IsInOrder used q →
-    Switches {T = Unit {0}} {E = HostFailed} (seen p s a) (seen q t b) p.pages used directory (Err fault) →
+pub switch_fails : (used directory : ℕ) (p q : Committed) (s t : List Bool) (a b : Outside (List ℕ)) (fault : VolumeFault) → IsInOrder used p → IsInOrder used q → KeepsPast a b →
+    Switches {T = Unit {0}} {E = VolumeFault} (seen p s a) (seen q t b) p.pages used directory (Err fault) →
     Settles {T = Unit {0}} (spaces used p s a) (spaces used q t b) (settling used) (directed directory) (Err Device)
-switch_fails used directory p q s t a b fault order order_next is = record {
+switch_fails used directory p q s t a b fault order order_next past is = record {
   told = is.works.told;
   images = switch_images used directory p q s t a b order order_next is.images;
+  past = past_as a b space_filed past;
   durable = tt;
   counts = is.works.counts;
   output = is.works.output;

@@ -5,7 +5,7 @@ use Rattle.std.proofs.lemmas.Option.{same_Some}
 use Rattle.std.proofs.lemmas.Grind.{same_number_lists}
 use Rattle.std.proofs.lemmas.List.{get_or-take, get_or-drop}
 use Rattle.std.proofs.lemmas.List.FromFn.{get_or-map-range_with_len}
-use Rattle.ps_outside.specs.Outside.{Outside, SameContents}
+use Rattle.obj_layout.specs.ps_outside.Outside.{Outside, SameContents}
 use Rattle.shadow_volume.specs.Found.{Held}
 use Rattle.shadow_volume.specs.Standing.{seen, staged_in}
 use Rattle.shadow_volume.specs.declared.note.Committed.{Committed}

@@ -21,7 +21,7 @@ word_read bytes index n fits is =
     sym (mod-eq_of_lt fits)
     ∙ ap (λ (m : ℕ). m % 2 ^ 64) (is ∙ ap (λ (xs : List ℕ). little_number 8 xs) (take_all (length bytes - 8 * index) (drop (8 * index) bytes) (omega (arith, length-drop (8 * index) bytes))))
 
--- the rest of a list, with eight bytes in front of it written
+-- the rest of a list, with eight bytes before it written
 whole_put : (page part : List ℕ) (at word : ℕ) → at + 8 ≤ length page → part ≡ little_bytes 8 word ++ drop 8 (take (length page - at) (drop at page)) →
     take at page ++ (part ++ drop (length page - at) (drop at page)) ≡ written at (little_bytes 8 word) page
 whole_put page part at word within is =

@@ -3,8 +3,8 @@ use Rattle.std.proofs.Common.{◌≡◌, ◌⊎◌, inl, inr, ℕ, ◌+◌, ◌-
 use Rattle.std.specs.Option.{option_map}
 use Rattle.std.proofs.lemmas.Option.{same_Some}
 use Rattle.std.proofs.lemmas.List.{get_or_past}
-use Rattle.ps_outside.specs.Outside.{Outside, After, LeavesSame, SameContents, IsDeviceCall}
-use Rattle.ps_outside.proofs.Moments.{along_then, along_now, same_as}
+use Rattle.obj_layout.specs.ps_outside.Outside.{Outside, After, LeavesSame, SameContents, IsDeviceCall}
+use Rattle.obj_layout.proofs.of_ps_outside.Moments.{along_then, along_now, same_as}
 use Rattle.ps_port.specs.Disk.{written, IsOutside}
 use Rattle.ps_port.specs.DiskLaws.{written_elsewhere, length-written}
 use Rattle.shadow_volume.specs.Layout.{half_pages}
@@ -108,7 +108,7 @@ turns_then a b c one two whole first next joins = record {
       (start.0, start.1, joins start.0 mid.0 after start.2 mid.2);
 }
 
--- words behind words
+-- words after words
 pub puts_join : (low mid high at : ℕ) (put : List ℕ) (x y z : Held) → low ≤ mid → mid ≤ high → HoldsPut low mid at put x y → HoldsPut mid high at put y z → HoldsPut low high at put x z
 puts_join low mid high at put x y z up on first next = record {
   note = next.note ∙ first.note;
@@ -185,7 +185,7 @@ pub on_ok_two : {T E P Q R : Type 0} (r : Result T E) → (P → Q → R) → On
 on_ok_two (Ok x) f p q = f p q
 on_ok_two (Err e) f p q = tt
 
--- a step behind calls that only look
+-- a step after calls that only look
 pub turns_looks : (p q : Committed) (s t : List Bool) (a b : Outside (List ℕ)) (c : Outside (Option Held)) (step : Held → Held → Type 0) → q ≡ p → t ≡ s → SameContents a b →
     Turns (seen q t b) c step → Turns (seen p s a) c step
 turns_looks p q s t a b c step is_q is_t same turns = record {

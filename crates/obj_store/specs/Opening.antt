@@ -1,6 +1,6 @@
 -- What attaching a store says.
 use Rattle.std.specs.Prelude.{◌≡◌, ℕ, true, List}
-use Rattle.ps_outside.specs.Outside.{Outside, Settles, After}
+use Rattle.obj_layout.specs.ps_outside.Outside.{Outside, SettlesFrom, After}
 use Rattle.shadow_volume.specs.Standing.{held_in}
 use Rattle.shadow_volume.specs.Attaching.{Looks, IsFound}
 use Rattle.obj_layout.specs.Stored.{Space}
@@ -11,10 +11,11 @@ use Rattle.obj_store.specs.Store.{Store, outside_of}
 abbrev pub IsSpaceOf : List ℕ → Space → Type 0
 IsSpaceOf bytes space = IsSpaceIn (held_in bytes) space
 
--- An attached store: it was only looked at, a crash leaves what was looked at, its calls may be made, and it holds what is committed.
+-- An attached store: it was only looked at, a crash leaves what was looked at, from a moment on before which nothing was told, its calls may be made,
+-- and it holds what is committed.
 pub record IsOpened {H : Type 0} (outside : H → Outside (List ℕ)) (old : Outside (List ℕ)) (store : Store H) : Type 0 where
   pub looks : Looks old (outside store.host) 6
-  pub settles : Settles old (outside store.host)
+  pub settles : SettlesFrom old (outside store.host)
   pub found : (bytes : List ℕ) → old.contents bytes → IsFound store.committed bytes
   pub live : store.live ≡ true
   pub used : store.used ≡ store.committed.note.used

@@ -2,7 +2,7 @@
 use Rattle.std.specs.Prelude.{◌≡◌, ℕ, ◌*◌, ◌%◌, ◌^◌, ◌≤◌, Bool, List, [], map, Option, Some, None}
 use Rattle.std.specs.List.{range_with_len}
 use Rattle.std.specs.Option.{option_map}
-use Rattle.ps_outside.specs.Outside.{Outside, After, seen_as}
+use Rattle.obj_layout.specs.ps_outside.Outside.{Outside, After, seen_as}
 use Rattle.shadow_volume.specs.Layout.{number_at, capacity_of}
 use Rattle.shadow_volume.specs.Found.{Held}
 use Rattle.shadow_volume.specs.Standing.{seen, held_in, IsFit}

@@ -1,6 +1,6 @@
 -- What the calls that stage pages say.
 use Rattle.std.specs.Prelude.{◌≡◌, ℕ, ◌+◌, ◌<◌, ◌≤◌, Bool, true, false, List, slice_index_or, Option, Some}
-use Rattle.ps_outside.specs.Outside.{Outside, LeavesSame, TellsNothing}
+use Rattle.obj_layout.specs.ps_outside.Outside.{Outside, LeavesSame, TellsNothing}
 use Rattle.shadow_volume.specs.Found.{Held}
 
 -- Calls of the device, so many at most, that tell nothing and leave what a crash may leave.

@@ -1,6 +1,6 @@
 -- A store of objects over a volume, as contracts see it.
 use Rattle.std.specs.Prelude.{◌≡◌, ℕ, ◌-◌, ◌^◌, min, max, Bool, true, List}
-use Rattle.ps_outside.specs.Outside.{Outside}
+use Rattle.obj_layout.specs.ps_outside.Outside.{Outside}
 use Rattle.shadow_volume.specs.Layout.{capacity_of, pages_of_words}
 use Rattle.shadow_volume.specs.Standing.{IsAlive}
 use Rattle.shadow_volume.specs.Staging.{HasPages}

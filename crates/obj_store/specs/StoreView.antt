@@ -1,6 +1,6 @@
 -- How the fields of an `ObjStore` are seen, and what is so of them.
 use Rattle.std.specs.Prelude.{ℕ, List}
-use Rattle.ps_outside.specs.Outside.{Outside}
+use Rattle.obj_layout.specs.ps_outside.Outside.{Outside}
 use Rattle.obj_store.specs.Store.{Store, IsKept}
 use Rattle.obj_store.specs.declared.store.ObjStore.TheInside.{Inside}
 

@@ -1,6 +1,6 @@
 -- The tests of an object, and what they answer.
 use Rattle.std.specs.Prelude.{◌≡◌, ◌⊎◌, ℕ, ◌+◌, ◌<◌, ◌≤◌, List, length, take, drop, Option, Some, None, IfSome}
-use Rattle.ps_outside.specs.Outside.{Outside, Rose}
+use Rattle.obj_layout.specs.ps_outside.Outside.{Outside, Rose}
 use Rattle.obj_layout.specs.declared.header.Header.{Header}
 use Rattle.obj_layout.specs.declared.vault.VaultFault.{VaultFault}
 use Rattle.obj_layout.specs.declared.vault.VaultFault.TheVariants.{Device, Full, Damaged}

@@ -1,7 +1,7 @@
 //! What is seen of a store is what is seen of its host.
 
 ghost use Rattle.std.specs.Prelude.{ℕ, List, Ok, Result};
-ghost use Rattle.ps_outside.specs.Outside.{TellsFront, LeavesSame};
+ghost use Rattle.obj_layout.specs.ps_outside.Outside.{TellsPrefix, LeavesSame};
 ghost use Rattle.ps_port.specs.Telling.{TellsAll};
 ghost use Rattle.obj_layout.specs.Storing.{Puts};
 ghost use Rattle.obj_layout.specs.declared.vault.VaultFault.{VaultFault};
@@ -9,12 +9,12 @@ ghost use Rattle.obj_store.specs.Store.{Store, outside_of};
 
 use ps_port::Host;
 
-/// Bytes that were put to a store, by one call or by several, were told by its host: a front of them at each moment, and all of them
+/// Bytes that were put to a store, by one call or by several, were told by its host: a prefix of them at each moment, and all of them
 /// after an answer; and then no fault of the output was counted.
 pub fn what_is_put_is_told<H: Host>()
     ensures front { (a b : Store H) (bytes : List ℕ) (result : Result (Unit {0}) VaultFault)
         → Puts (outside_of H.outside a) (outside_of H.outside b) bytes result
-        → TellsFront (H.outside a.host) (H.outside b.host) bytes }
+        → TellsPrefix (H.outside a.host) (H.outside b.host) bytes }
     ensures all { (a b : Store H) (bytes : List ℕ)
         → Puts {T = Unit {0}} (outside_of H.outside a) (outside_of H.outside b) bytes (Ok tt)
         → TellsAll (H.outside a.host) (H.outside b.host) bytes }

@@ -10,4 +10,6 @@ mod words;
 mod writing;
 
 pub use laws::{what_is_left_of_the_device, what_is_put_is_told};
+pub use obj_layout;
+pub use shadow_volume;
 pub use store::ObjStore;

@@ -1,13 +1,14 @@
 //! The objects of a volume: how they are tested, read, appended and written over.
 
 ghost use Rattle.std.specs.Prelude.{◌≡◌, ◌≢◌, ◌⊎◌, ℕ, ◌+◌, ◌*◌, ◌/◌, ◌<◌, ◌≤◌, ◌^◌, List, length, take, drop, Option, Some, None, MatchOption, IfOk, IfErr, OnOk};
-ghost use Rattle.ps_outside.specs.Outside.{Rose};
+ghost use Rattle.obj_layout.specs.ps_outside.Outside.{Rose};
+ghost use Rattle.obj_layout.specs.ps_outside.Past.{KeepsPast};
 ghost use Rattle.shadow_volume.specs.Attaching.{Looks};
 ghost use Rattle.shadow_volume.specs.Layout.{capacity_of, pages_of_words};
 ghost use Rattle.shadow_volume.specs.Standing.{IsAlive, seen};
 ghost use Rattle.shadow_volume.specs.Staging.{HasPages};
 ghost use Rattle.obj_layout.specs.Header.{HasFitFields, HasFitLengths, header_fault, header_words, object_length};
-ghost use Rattle.obj_layout.specs.Stored.{Space, Holds, IsHeaded, of_header, of_length, of_words, damage, appended, overwritten};
+ghost use Rattle.obj_layout.specs.Stored.{length_there, Space, Holds, IsHeaded, of_header, of_length, of_words, damage, appended, overwritten};
 ghost use Rattle.obj_layout.specs.Storing.{Becomes, reading, writing};
 ghost use Rattle.obj_store.specs.Spaces.{IsInOrder, spaces};
 ghost use Rattle.obj_store.specs.Tested.{Fits, TellsDamage, HasFour, IsObjectFault, IsAppendFault, IsObjectHeader, IsWhole, IsDamageAt};
@@ -134,6 +135,7 @@ pub fn length_at<H: Host>(volume: &mut Volume<H>, used: u64, pid: u64) -> Result
     requires alive { IsAlive volume.old.live volume.old.committed volume.old.staged.items (H.outside volume.old.host) }
     requires order { IsInOrder used volume.old.committed }
     ensures told { IfOk result (λ count. (words : List ℕ) → Holds (spaces used volume.old.committed volume.old.staged.items (H.outside volume.old.host)) pid words → length words ≡ count) }
+    ensures stands { IfOk result (λ count. (space : Space) → (spaces used volume.old.committed volume.old.staged.items (H.outside volume.old.host)).contents space → length_there pid space ≡ count) }
     ensures sound { OnOk result (IsWhole (spaces used volume.old.committed volume.old.staged.items (H.outside volume.old.host)) pid None) }
     ensures fault { IfErr result (IsObjectFault (spaces used volume.old.committed volume.old.staged.items (H.outside volume.old.host))
         (spaces used volume.new.committed volume.new.staged.items (H.outside volume.new.host)) pid None) }
@@ -189,7 +191,7 @@ pub fn fetch_at<H: Host>(
     }
 }
 
-/// Stores a new object behind the used words.
+/// Stores a new object after the used words.
 pub fn append_at<H: Host>(
     volume: &mut Volume<H>,
     used: u64,
@@ -201,6 +203,7 @@ pub fn append_at<H: Host>(
     ensures becomes { OnOk result (Becomes (spaces used volume.old.committed volume.old.staged.items (H.outside volume.old.host))
         (spaces (used + length words.now) volume.new.committed volume.new.staged.items (H.outside volume.new.host)) (appended words.now)) }
     ensures fault { IfErr result (IsAppendFault (H.outside volume.old.host) (H.outside volume.new.host) used (length words.now) (capacity_of volume.old.committed.pages)) }
+    ensures past { KeepsPast (H.outside volume.old.host) (H.outside volume.new.host) }
     ensures stages { Stages (seen volume.old.committed volume.old.staged.items (H.outside volume.old.host)) (seen volume.new.committed volume.new.staged.items (H.outside volume.new.host))
         (writing (length words.now)) }
     ensures committed { volume.new.committed ≡ volume.old.committed }
@@ -238,6 +241,7 @@ pub fn overwrite_at<H: Host>(
     ensures sound { OnOk result (IsWhole (spaces used volume.old.committed volume.old.staged.items (H.outside volume.old.host)) pid (Some (length words.now))) }
     ensures fault { IfErr result (IsObjectFault (spaces used volume.old.committed volume.old.staged.items (H.outside volume.old.host))
         (spaces used volume.new.committed volume.new.staged.items (H.outside volume.new.host)) pid (Some (length words.now))) }
+    ensures past { KeepsPast (H.outside volume.old.host) (H.outside volume.new.host) }
     ensures stages { Stages (seen volume.old.committed volume.old.staged.items (H.outside volume.old.host)) (seen volume.new.committed volume.new.staged.items (H.outside volume.new.host))
         (writing (length words.now)) }
     ensures committed { volume.new.committed ≡ volume.old.committed }

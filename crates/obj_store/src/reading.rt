@@ -1,7 +1,7 @@
 //! Words of a volume, read page by page.
 
 ghost use Rattle.std.specs.Prelude.{◌≡◌, ◌⊎◌, ℕ, ◌+◌, ◌-◌, ◌*◌, ◌/◌, ◌^◌, ◌<◌, ◌≤◌, List, length, slice_index, Some, false, OnOk, OnErr};
-ghost use Rattle.ps_outside.specs.Outside.{Rose};
+ghost use Rattle.obj_layout.specs.ps_outside.Outside.{Rose};
 ghost use Rattle.shadow_volume.specs.Layout.{half_pages, capacity_of};
 ghost use Rattle.shadow_volume.specs.Found.{Held};
 ghost use Rattle.shadow_volume.specs.Standing.{IsAlive, seen};
@@ -10,9 +10,9 @@ ghost use Rattle.obj_store.specs.Spaces.{word_at};
 ghost use Rattle.obj_store.specs.Words.{HoldsRead};
 
 use crate::words::{PAGE_WORDS, take_words};
-use ps_port::{Host, HostFailed};
-use shadow_volume::Volume;
+use ps_port::Host;
 use shadow_volume::layout::{PAGE_BYTES, logical_pages};
+use shadow_volume::{Volume, VolumeFault};
 
 /// Reads those words that stand in a page, of words that lie from `at` on.
 fn read_part<H: Host>(
@@ -20,7 +20,7 @@ fn read_part<H: Host>(
     page: u32,
     at: u64,
     into: &mut [u64],
-) -> Result<(), HostFailed>
+) -> Result<(), VolumeFault>
     requires alive { IsAlive volume.old.live volume.old.committed volume.old.staged.items (H.outside volume.old.host) }
     requires page { page < half_pages volume.old.committed.pages }
     requires small { at + length into.old < 2 ^ 64 }
@@ -44,7 +44,7 @@ pub fn read_words<H: Host>(
     volume: &mut Volume<H>,
     at: u64,
     into: &mut [u64],
-) -> Result<(), HostFailed>
+) -> Result<(), VolumeFault>
     requires alive { IsAlive volume.old.live volume.old.committed volume.old.staged.items (H.outside volume.old.host) }
     requires within { at + length into.old ≤ capacity_of volume.old.committed.pages }
     ensures read { OnOk result ((held : Held) → (seen volume.old.committed volume.old.staged.items (H.outside volume.old.host)).contents (Some held) →

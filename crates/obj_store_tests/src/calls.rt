@@ -4,8 +4,8 @@ ghost use Rattle.std.specs.Prelude.{◌≡◌, OnOk, true};
 
 use crate::objects::{fetch, left, new_store, page_of_text, text};
 use memory_host::MemoryHost;
-use obj_layout::vault::{Vault, VaultFault};
 use obj_store::ObjStore;
+use obj_store::obj_layout::vault::{Vault, VaultFault};
 use std::alloc::Global;
 
 // A new store holds nothing, in a volume of 32 pages.
@@ -135,7 +135,7 @@ fn fill(store: &mut ObjStore<MemoryHost>) -> Result<u64, VaultFault>
     Ok(store.used())
 }
 
-// The store is full behind these objects.
+// The store is full after these objects.
 fn is_full(store: &mut ObjStore<MemoryHost>) -> bool
     requires { store.old.live ≡ true }
 {

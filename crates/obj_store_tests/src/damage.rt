@@ -1,12 +1,12 @@
 //! Each test of an object, in order.
 
 ghost use Rattle.std.specs.Prelude.{◌≡◌, IfSome, OnOk, true};
-ghost use Rattle.obj_layout.specs.Stored.{IsHeaded};
+ghost use Rattle.obj_store.specs.obj_layout.Stored.{IsHeaded};
 
 use crate::objects::{new_store, short_text, text};
 use memory_host::MemoryHost;
-use obj_layout::vault::{Vault, VaultFault};
 use obj_store::ObjStore;
+use obj_store::obj_layout::vault::{Vault, VaultFault};
 use std::alloc::Global;
 
 /// What is wrong in a store of two texts of six words: the home of each text, a PID, the number that is tested, and its bound.

@@ -1,12 +1,12 @@
 //! Stores to be tested, and objects to be stored.
 
 ghost use Rattle.std.specs.Prelude.{◌≡◌, IfSome, OnOk, true};
-ghost use Rattle.obj_layout.specs.Stored.{IsHeaded};
+ghost use Rattle.obj_store.specs.obj_layout.Stored.{IsHeaded};
 
 use memory_host::MemoryHost;
-use obj_layout::vault::{Vault, VaultFault};
 use obj_store::ObjStore;
-use shadow_volume::format;
+use obj_store::obj_layout::vault::{Vault, VaultFault};
+use obj_store::shadow_volume::format;
 use std::alloc::{AllocError, Global};
 
 /// The room of a host: bytes and records of its calls.

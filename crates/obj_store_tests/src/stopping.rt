@@ -4,8 +4,8 @@ ghost use Rattle.std.specs.Prelude.{◌≡◌, OnOk, true};
 
 use crate::objects::{fetch, left, new_file, new_store, page_of_text, store_in, store_over, text};
 use memory_host::MemoryHost;
-use obj_layout::vault::{Vault, VaultFault};
 use obj_store::ObjStore;
+use obj_store::obj_layout::vault::{Vault, VaultFault};
 use std::alloc::Global;
 use std::test::Fail;
 

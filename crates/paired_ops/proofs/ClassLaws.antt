@@ -2,32 +2,32 @@
 use Rattle.std.proofs.Common.{arith, inl, inr, ◌⊎◌, ◌≡◌, ◌≢◌, ℕ, suc, ◌+◌, List, [], ◌∷◌, get_or, refl, sym, ap, ◌∙◌, subst, Option, Some, None, Bool, true, false}
 use Rattle.std.specs.Prelude.{Result, Ok, Err}
 use Rattle.ps_base.specs.declared.trap.Trap.TheVariants as trap
-use Rattle.ps_outside.specs.Outside.{Outside}
-use Rattle.obj_layout.specs.Stored.{Space}
-use Rattle.obj_layout.specs.declared.kind.Kind.{Kind}
-use Rattle.obj_layout.specs.declared.kind.Kind.TheVariants as kind
-use Rattle.obj_layout.specs.declared.reference.Reference as reference
-use Rattle.obj_layout.specs.declared.reference.Reference.TheVariants as name
-use Rattle.swizzle.specs.declared.fault.SwizzleFault.{SwizzleFault}
-use Rattle.swizzle.specs.Heap as area
-use Rattle.swizzle.specs.Heap.{IsHeap, IsHeld, header_at, ref_at}
-use Rattle.swizzle.specs.Joint.{Shown, shown_at}
-use Rattle.swizzle.specs.Touch.{Keeps, IsTouchFault}
-use Rattle.swizzle.specs.Reading.{joint, AreKnown, LeavesOutside}
-use Rattle.text_forms.specs.declared.forms.Form.{Form}
-use Rattle.text_forms.specs.declared.forms.Form.TheVariants as form
-use Rattle.text_forms.specs.declared.forms.Located.{Located}
-use Rattle.text_forms.specs.Forms.{forms_of, form_in, before_in, located_in}
-use Rattle.heap_texts.specs.declared.fault.OpFault.{OpFault}
-use Rattle.heap_texts.specs.declared.fault.OpFault.TheVariants as op
-use Rattle.heap_places.specs.Shapes.{IsText, slot_of, word_in}
-use Rattle.heap_places.specs.Words.{word_damage}
-use Rattle.heap_places.specs.Places.{NoText, touched_by}
-use Rattle.heap_places.specs.declared.value.Value as code
-use Rattle.heap_ops.specs.Structures.{IsOfOther, TellsClass, GetsField, FailsFields, FailsValue, structure_damage}
-use Rattle.ps_meaning.specs.Values.{Value, Num, Flag, Text, Nil, Pointer, Vector, Procedure, Nothing}
-use Rattle.ps_meaning.specs.Texts.{Attempt, Yields, Fails, is_same_text}
-use Rattle.ps_meaning.specs.Objects.{Heap, Object, Structure, object_at, is_class, is_of, field_of}
+use Rattle.text_ops.specs.ps_outside.Outside.{Outside}
+use Rattle.text_ops.specs.obj_layout.Stored.{Space}
+use Rattle.text_ops.specs.obj_layout.declared.kind.Kind.{Kind}
+use Rattle.text_ops.specs.obj_layout.declared.kind.Kind.TheVariants as kind
+use Rattle.text_ops.specs.obj_layout.declared.reference.Reference as reference
+use Rattle.text_ops.specs.obj_layout.declared.reference.Reference.TheVariants as name
+use Rattle.text_ops.specs.swizzle.declared.fault.SwizzleFault.{SwizzleFault}
+use Rattle.text_ops.specs.swizzle.Heap as area
+use Rattle.text_ops.specs.swizzle.Heap.{IsHeap, IsHeld, header_at, ref_at}
+use Rattle.text_ops.specs.swizzle.Joint.{Shown, shown_at}
+use Rattle.text_ops.specs.swizzle.Touch.{Keeps, IsTouchFault}
+use Rattle.text_ops.specs.swizzle.Reading.{joint, AreKnown, LeavesOutside}
+use Rattle.text_ops.specs.text_forms.declared.forms.Form.{Form}
+use Rattle.text_ops.specs.text_forms.declared.forms.Form.TheVariants as form
+use Rattle.text_ops.specs.text_forms.declared.forms.Located.{Located}
+use Rattle.text_ops.specs.text_forms.Forms.{forms_of, form_in, before_in, located_in}
+use Rattle.text_ops.specs.heap_texts.declared.fault.OpFault.{OpFault}
+use Rattle.text_ops.specs.heap_texts.declared.fault.OpFault.TheVariants as op
+use Rattle.heap_meaning.specs.heap_places.Shapes.{IsText, slot_of, word_in}
+use Rattle.heap_meaning.specs.heap_places.Words.{word_damage}
+use Rattle.heap_meaning.specs.heap_places.Places.{NoText, touched_by}
+use Rattle.heap_meaning.specs.heap_places.declared.value.Value as code
+use Rattle.heap_meaning.specs.heap_ops.Structures.{IsOfOther, TellsClass, GetsField, FailsFields, FailsValue, structure_damage}
+use Rattle.text_ops.specs.ps_meaning.Values.{Value, Num, Flag, Text, Nil, Pointer, Vector, Procedure, Nothing}
+use Rattle.text_ops.specs.ps_meaning.Texts.{Attempt, Yields, Fails, is_same_text}
+use Rattle.text_ops.specs.ps_meaning.Objects.{Heap, Object, Structure, object_at, is_class, is_of, field_of}
 use Rattle.heap_meaning.specs.Standing.{Seen, Pairing, StandsFor, IsAs, IsStructure}
 use Rattle.heap_meaning.specs.Paired.{paired}
 use Rattle.heap_meaning.proofs.StandingLaws.{read-reference}
@@ -102,11 +102,11 @@ other-class old new after of names at id text h keeps s (inr t) =
     ∙ other-text s.class text (λ e. t.2 (sym (class-is old new after of names at id (t.0) h keeps s (t.1)) ∙ e))
 
 -- Nothing fails.
-no-class_fault : (old new : area.Heap) (before : Outside Space) (of : Heap) (names : List reference.Reference) (at id : ℕ) (fault : SwizzleFault)
+no-class_fault : (old new : area.Heap) (before after : Outside Space) (of : Heap) (names : List reference.Reference) (at id : ℕ) (fault : SwizzleFault)
     → IsHeap old → IsHeap new → StructureAt old of names at id
-    → NoText old new at fault ⊎ IsTouchFault old before (ref_at old at 0) fault → ⊥
-no-class_fault old new before of names at id fault h now s (inl none) = no-text old new at s.class fault now (class-text old of names at id s) none
-no-class_fault old new before of names at id fault h now s (inr touch) = no-touch old before at 0 fault h (class-known old of names at id s) touch
+    → NoText old new before after at fault ⊎ IsTouchFault old before (ref_at old at 0) fault → ⊥
+no-class_fault old new before after of names at id fault h now s (inl none) = no-text old new before after at s.class fault now (class-text old of names at id s) none
+no-class_fault old new before after of names at id fault h now s (inr touch) = no-touch old before at 0 fault h (class-known old of names at id s) touch
 
 -- What `is` answers.
 pub tells-ok : (old new : area.Heap) (before after : Outside Space) (of : Heap) (names : List reference.Reference) (at id : ℕ) (text : List ℕ)
@@ -139,7 +139,7 @@ pub told-fault : (old new : area.Heap) (before after : Outside Space) (of : Heap
 told-fault old new before after of names at text o fault h now w k d t =
     let p = structure-value old names at o h d k in
     let s = structure-at old of names at (p.0) h w (pointer-denoted old names at (p.0) h (subst (DenotesIn old names (Some at)) (p.1) d)) in
-    no-class_fault old new before of names at (p.0) fault h now s (t.1.1)
+    no-class_fault old new before after of names at (p.0) fault h now s (t.1.1)
 
 pub class-leaves : (old new : area.Heap) (before after : Outside Space) (at : ℕ) (text : List ℕ) (r : Result Bool SwizzleFault)
     → TellsClass old new before after (Some at) text r → LeavesOutside before after
@@ -202,7 +202,7 @@ other-field old new before after of names at text l attempt (Ok v) ne e g = absu
 other-field old new before after of names at text l attempt (Err (op.Trap t)) ne e g = e ∙ ap Fails (sym (g.0))
 other-field old new before after of names at text l attempt (Err (op.Swizzle fault)) ne e g =
     elim (g.1) [
-      | inl fields ↦ elim fields [ inl c ↦ absurd (ne (c.0)) | inr d ↦ absurd (ne (d.1.kind)) ]
+      | inl fields ↦ elim fields [ inl c ↦ absurd (ne (c.0)) | inr d ↦ absurd (ne (d.2.kind)) ]
       | inr v ↦ absurd (ne (v.class.kind))
     ]
 
@@ -211,11 +211,11 @@ pub no-fields_fault : (old new : area.Heap) (before after : Outside Space) (of :
     (text : List ℕ) (n : ℕ) (l : Located) (fault : SwizzleFault) → IsHeap old → IsHeap new → StructureAt old of names at id
     → located_in (forms_of text) n ≡ Some l → FailsFields old new before after at text l.rows fault → ⊥
 no-fields_fault old new before after of names at id text n l fault h now s is (inl c) =
-    no-class_fault old new before of names at id fault h now s (c.1)
+    no-class_fault old new before after of names at id fault h now s (c.1)
 no-fields_fault old new before after of names at id text n l fault h now s is (inr d) =
-    let f = field-at old of names at id text s (class-is old new after of names at id text now (d.0) s (d.1.class)) in
+    let f = field-at old of names at id text s (class-is old new after of names at id text now (d.0) s (d.2.class)) in
     no-damage old at (structure_damage (shown_at old at) l.rows) fault
-    (given.no-damage (alone old) (paired names) (shown_at old at) text s.fields n l f.is is) (d.2)
+    (given.no-damage (alone old) (paired names) (shown_at old at) text s.fields n l f.is is) (d.3)
 
 no-value_fault : (old : area.Heap) (before : Outside Space) (of : Heap) (names : List reference.Reference) (at id : ℕ) (text : List ℕ) (n : ℕ)
     (l : Located) (fault : SwizzleFault) → IsHeap old → StructureAt old of names at id → located_in (forms_of text) n ≡ Some l

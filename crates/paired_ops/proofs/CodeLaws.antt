@@ -1,30 +1,30 @@
 -- Units that were loaded, and their constants.
-use Rattle.swizzle.specs.declared.fault.SwizzleFault.TheVariants.{AreaFull}
+use Rattle.text_ops.specs.swizzle.declared.fault.SwizzleFault.TheVariants.{AreaFull}
 use Rattle.std.proofs.Common.{get_or, arith, inl, inr, ◌⊎◌, ◌≡◌, ℕ, zero, suc, ◌+◌, ◌*◌, ◌<◌, List, [], ◌∷◌, refl, sym, ap, ◌∙◌, subst, Option, Some, None}
 use Rattle.std.specs.Prelude.{Result, Ok, Err, IfOk, OnOk}
 use Rattle.ps_base.specs.CodeUnit.{UnitView, unit, ConstantView, text, literal, ConstantsView, no_constants, constant_then}
 use Rattle.ps_base.specs.declared.code_unit.Frame.{Frame}
-use Rattle.ps_outside.specs.Outside.{Outside}
-use Rattle.obj_layout.specs.Stored.{Space}
-use Rattle.obj_layout.specs.declared.reference.Reference as reference
-use Rattle.obj_layout.specs.declared.reference.Reference.TheVariants as name
-use Rattle.swizzle.specs.declared.fault.SwizzleFault.{SwizzleFault}
-use Rattle.swizzle.specs.Objects.{size_of, size_of_all}
-use Rattle.swizzle.specs.Heap as area
-use Rattle.swizzle.specs.Heap.{IsHeap, IsHeld, header_at, object_at, ref_at, top_of}
-use Rattle.swizzle.specs.Joint.{shown_at, name_of}
-use Rattle.swizzle.specs.Reading.{LeavesOutside}
-use Rattle.swizzle.proofs.ObjectLaws.{size_of_all-append}
-use Rattle.heap_places.specs.Shapes.{slot_of}
-use Rattle.heap_places.proofs.PlaceLaws.{slot-name}
-use Rattle.heap_texts.specs.Texts.{wanted_of}
-use Rattle.proc_values.specs.Units.{unit_objects, Loads, count_of}
-use Rattle.proc_values.specs.Reading.{HasConstant, GivesConstant}
-use Rattle.proc_values.specs.Loaded.{IsUnit, IsFitUnit, IsConstant, AreNamed, constant_numbered}
-use Rattle.proc_values.proofs.UnitLaws.{size-unit}
-use Rattle.proc_values.proofs.LoadedLaws.{loaded-is}
-use Rattle.proc_values.proofs.StayLaws.{keeps-load, unit-has, constant-read}
-use Rattle.ps_meaning.specs.Objects.{Heap}
+use Rattle.text_ops.specs.ps_outside.Outside.{Outside}
+use Rattle.text_ops.specs.obj_layout.Stored.{Space}
+use Rattle.text_ops.specs.obj_layout.declared.reference.Reference as reference
+use Rattle.text_ops.specs.obj_layout.declared.reference.Reference.TheVariants as name
+use Rattle.text_ops.specs.swizzle.declared.fault.SwizzleFault.{SwizzleFault}
+use Rattle.text_ops.specs.swizzle.Objects.{size_of, size_of_all}
+use Rattle.text_ops.specs.swizzle.Heap as area
+use Rattle.text_ops.specs.swizzle.Heap.{IsHeap, IsHeld, header_at, object_at, ref_at, top_of}
+use Rattle.text_ops.specs.swizzle.Joint.{shown_at, name_of}
+use Rattle.text_ops.specs.swizzle.Reading.{LeavesOutside}
+use Rattle.text_ops.proofs.of_swizzle.ObjectLaws.{size_of_all-append}
+use Rattle.heap_meaning.specs.heap_places.Shapes.{slot_of}
+use Rattle.heap_meaning.proofs.of_heap_places.PlaceLaws.{slot-name}
+use Rattle.text_ops.specs.heap_texts.Texts.{wanted_of}
+use Rattle.heap_meaning.specs.proc_values.Units.{unit_objects, Loads, count_of}
+use Rattle.heap_meaning.specs.proc_values.Reading.{HasConstant, GivesConstant}
+use Rattle.heap_meaning.specs.proc_values.Loaded.{IsUnit, IsFitUnit, IsConstant, AreNamed, constant_numbered}
+use Rattle.heap_meaning.proofs.of_proc_values.UnitLaws.{size-unit}
+use Rattle.heap_meaning.proofs.of_proc_values.LoadedLaws.{loaded-is}
+use Rattle.heap_meaning.proofs.of_proc_values.StayLaws.{keeps-load, unit-has, constant-read}
+use Rattle.text_ops.specs.ps_meaning.Objects.{Heap}
 use Rattle.paired_ops.specs.World.{IsWorld, alone, Stands}
 use Rattle.paired_ops.specs.Code.{unit_weight, LoadsUnit, DenotesConstant, AnswersConstant}
 use Rattle.paired_ops.proofs.WorldLaws.{no-names, keeps-carries, keeps-world, reads-stands, seen-held}

@@ -3,35 +3,35 @@ use Rattle.std.proofs.Common.{w32, to_z, of_z, zero, ◌^◌, negsuc, nat_lt, ar
 use Rattle.std.proofs.lemmas.Int.{ints, to_z-of_z}
 use Rattle.std.proofs.lemmas.Bool.{ltb-true, and_parts}
 use Rattle.std.specs.Prelude.{Result, Ok, Err, ◌+ℤ◌, ◌-ℤ◌}
-use Rattle.ps_outside.specs.Outside.{Outside}
-use Rattle.obj_layout.specs.Stored.{Space, damage}
-use Rattle.obj_layout.specs.Kind.{kind_number}
-use Rattle.obj_layout.specs.declared.kind.Kind.{Kind}
-use Rattle.obj_layout.specs.declared.kind.Kind.TheVariants as kind
-use Rattle.obj_layout.specs.declared.reference.Reference as reference
-use Rattle.swizzle.specs.declared.fault.SwizzleFault.{SwizzleFault}
-use Rattle.swizzle.specs.Heap as area
-use Rattle.swizzle.specs.Heap.{IsHeap, IsHeld, header_at, ref_at}
-use Rattle.swizzle.specs.Joint.{Shown, shown_at}
-use Rattle.swizzle.specs.Text.{text_at}
-use Rattle.swizzle.specs.Touch.{Keeps, IsTouchFault}
-use Rattle.swizzle.specs.Reading.{joint, AreKnown, LeavesOutside}
-use Rattle.text_forms.specs.declared.forms.Form.{Form}
-use Rattle.text_forms.specs.declared.forms.Form.TheVariants as form
-use Rattle.text_forms.specs.Forms.{element_of, before_in}
-use Rattle.heap_texts.specs.declared.fault.OpFault.{OpFault}
-use Rattle.heap_texts.specs.declared.fault.OpFault.TheVariants as op
-use Rattle.heap_places.specs.Shapes.{IsText, slot_of, word_in}
-use Rattle.heap_places.specs.Words.{word_damage}
-use Rattle.heap_places.specs.Places.{assigned_value, Holds, FirstText, TouchesText, NoText, touched_by}
-use Rattle.heap_places.specs.declared.value.Value as code
-use Rattle.heap_places.proofs.TouchedLaws.{text-seen}
-use Rattle.heap_ops.specs.Vectors.{count_of, index_of, kind_damage, vector_damage, subscript, fitted, FailsVector, FailsElement, TellsLow, TellsHigh, GetsElement, SetsElement}
-use Rattle.ps_meaning.specs.Operators.{is_int}
-use Rattle.ps_meaning.specs.Values.{Value, Vector, Nothing}
-use Rattle.ps_meaning.specs.Texts.{Yields, Fails}
-use Rattle.ps_meaning.specs.Objects.{Heap, Object, Elements, object_at, is_vector, place_of, low_in, elements_in, type_in, found_at, put_at, with_object, with_element}
-use Rattle.ps_meaning.specs.Objects as meaning
+use Rattle.text_ops.specs.ps_outside.Outside.{Outside}
+use Rattle.text_ops.specs.obj_layout.Stored.{Space, damage}
+use Rattle.text_ops.specs.obj_layout.Kind.{kind_number}
+use Rattle.text_ops.specs.obj_layout.declared.kind.Kind.{Kind}
+use Rattle.text_ops.specs.obj_layout.declared.kind.Kind.TheVariants as kind
+use Rattle.text_ops.specs.obj_layout.declared.reference.Reference as reference
+use Rattle.text_ops.specs.swizzle.declared.fault.SwizzleFault.{SwizzleFault}
+use Rattle.text_ops.specs.swizzle.Heap as area
+use Rattle.text_ops.specs.swizzle.Heap.{IsHeap, IsHeld, header_at, ref_at}
+use Rattle.text_ops.specs.swizzle.Joint.{Shown, shown_at}
+use Rattle.text_ops.specs.swizzle.Text.{text_at}
+use Rattle.text_ops.specs.swizzle.Touch.{Keeps, IsTouchFault}
+use Rattle.text_ops.specs.swizzle.Reading.{joint, AreKnown, LeavesOutside}
+use Rattle.text_ops.specs.text_forms.declared.forms.Form.{Form}
+use Rattle.text_ops.specs.text_forms.declared.forms.Form.TheVariants as form
+use Rattle.text_ops.specs.text_forms.Forms.{element_of, before_in}
+use Rattle.text_ops.specs.heap_texts.declared.fault.OpFault.{OpFault}
+use Rattle.text_ops.specs.heap_texts.declared.fault.OpFault.TheVariants as op
+use Rattle.heap_meaning.specs.heap_places.Shapes.{IsText, slot_of, word_in}
+use Rattle.heap_meaning.specs.heap_places.Words.{word_damage}
+use Rattle.heap_meaning.specs.heap_places.Places.{assigned_value, Holds, FirstText, TouchesText, NoText, touched_by}
+use Rattle.heap_meaning.specs.heap_places.declared.value.Value as code
+use Rattle.heap_meaning.proofs.of_heap_places.TouchedLaws.{text-seen}
+use Rattle.heap_meaning.specs.heap_ops.Vectors.{count_of, index_of, kind_damage, vector_damage, subscript, fitted, FailsVector, FailsElement, TellsLow, TellsHigh, GetsElement, SetsElement}
+use Rattle.text_ops.specs.ps_meaning.Operators.{is_int}
+use Rattle.text_ops.specs.ps_meaning.Values.{Value, Vector, Nothing}
+use Rattle.text_ops.specs.ps_meaning.Texts.{Yields, Fails}
+use Rattle.text_ops.specs.ps_meaning.Objects.{Heap, Object, Elements, object_at, is_vector, place_of, low_in, elements_in, type_in, found_at, put_at, with_object, with_element}
+use Rattle.text_ops.specs.ps_meaning.Objects as meaning
 use Rattle.heap_meaning.specs.Standing.{Seen, Pairing, StandsFor, IsWordOf, IsVector}
 use Rattle.heap_meaning.specs.Paired.{paired}
 use Rattle.heap_meaning.proofs.StandingLaws.{IsNumber, read-word}
@@ -85,16 +85,16 @@ form-told old new before after of names at id text f h w v t e =
     )
 
 -- Nothing fails.
-no-type_fault : (old new : area.Heap) (before : Outside Space) (of : Heap) (names : List reference.Reference) (at id : ℕ) (fault : SwizzleFault)
+no-type_fault : (old new : area.Heap) (before after : Outside Space) (of : Heap) (names : List reference.Reference) (at id : ℕ) (fault : SwizzleFault)
     → IsHeap old → IsHeap new → VectorAt old of names at id
-    → NoText old new at fault ⊎ IsTouchFault old before (ref_at old at 0) fault → ⊥
-no-type_fault old new before of names at id fault h now v (inl none) = no-text old new at v.ty fault now (type-text old of names at id v) none
-no-type_fault old new before of names at id fault h now v (inr touch) = no-touch old before at 0 fault h (type-known old of names at id v) touch
+    → NoText old new before after at fault ⊎ IsTouchFault old before (ref_at old at 0) fault → ⊥
+no-type_fault old new before after of names at id fault h now v (inl none) = no-text old new before after at v.ty fault now (type-text old of names at id v) none
+no-type_fault old new before after of names at id fault h now v (inr touch) = no-touch old before at 0 fault h (type-known old of names at id v) touch
 
 pub form-fault : (old new : area.Heap) (before after : Outside Space) (of : Heap) (names : List reference.Reference) (at id : ℕ)
     (fault : SwizzleFault) → IsHeap old → IsHeap new → VectorAt old of names at id
     → TouchesText old new before after at (Err fault) → ⊥
-form-fault old new before after of names at id fault h now v t = no-type_fault old new before of names at id fault h now v (t.1)
+form-fault old new before after of names at id fault h now v t = no-type_fault old new before after of names at id fault h now v (t.1)
 
 no-kind_damage : (it : Shown) → it.kind ≡ kind.Vector → kind_damage it ≡ None
 no-kind_damage it is = ap (λ (k : Kind). if nat_eq (kind_number k) 3 then None else damage (kind_number k) 3) is
@@ -105,12 +105,12 @@ pub no-vector_fault : (old new : area.Heap) (before after : Outside Space) (of :
 no-vector_fault old new before after of names at id fault h now v (inl d) =
     no-damage old at (kind_damage (shown_at old at)) fault (no-kind_damage (shown_at old at) v.is.rows.kind_is) d
 no-vector_fault old new before after of names at id fault h now v (inr (inl t)) =
-    no-type_fault old new before of names at id fault h now v (t.1)
+    no-type_fault old new before after of names at id fault h now v (t.1)
 no-vector_fault old new before after of names at id fault h now v (inr (inr d)) =
-    let same = type-is old new after of names at id (d.2.0) now (d.1) v (d.2.1) in
-    no-damage old at (vector_damage (shown_at old at) (element_of (d.2.0))) fault
+    let same = type-is old new after of names at id (d.3.0) now (d.1) v (d.3.1) in
+    no-damage old at (vector_damage (shown_at old at) (element_of (d.3.0))) fault
     (ap (λ (t : List ℕ). vector_damage (shown_at old at) (element_of t)) (sym same)
-    ∙ vector-shape (alone old) (paired names) (shown_at old at) v.ty v.low v.elements v.is) (d.2.2)
+    ∙ vector-shape (alone old) (paired names) (shown_at old at) v.ty v.low v.elements v.is) (d.3.2)
 
 -- Bounds.
 
@@ -325,9 +325,9 @@ writes-element old new before after of names at id z y c e (Err (op.Swizzle faul
     elim (g.1) [
       | inl d ↦ no-vector_fault old new before after of names at id fault h now v d
       | inr d ↦
-          let same = type-is old new after of names at id (d.0) now (d.1) v (d.2.type) in
+          let same = type-is old new after of names at id (d.0) now (d.1) v (d.3.type) in
           let shaped : IsOfForm (element_of v.ty) c = subst (λ (f : Form). IsOfForm f c) (form-is old of names at id v) form in
-          let bad : Some c ≡ None = sym (form-fitted (element_of v.ty) c shaped) ∙ ap (λ (t : List ℕ). fitted (element_of t) c) same ∙ d.3 in
+          let bad : Some c ≡ None = sym (form-fitted (element_of v.ty) c shaped) ∙ ap (λ (t : List ℕ). fitted (element_of t) c) same ∙ d.4 in
           absurd (cc)
     ]
 

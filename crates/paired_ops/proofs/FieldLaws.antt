@@ -2,27 +2,27 @@
 use Rattle.std.proofs.Common.{inl, inr, ◌≡◌, ◌≢◌, ℕ, suc, List, [], ◌∷◌, set, refl, sym, ap, ◌∙◌, subst, Option, Some, None}
 use Rattle.std.specs.Prelude.{Result, Ok, Err}
 use Rattle.ps_base.specs.declared.trap.Trap.TheVariants as trap
-use Rattle.ps_outside.specs.Outside.{Outside}
-use Rattle.obj_layout.specs.Stored.{Space}
-use Rattle.obj_layout.specs.declared.kind.Kind.{Kind}
-use Rattle.obj_layout.specs.declared.kind.Kind.TheVariants as kind
-use Rattle.obj_layout.specs.declared.reference.Reference as reference
-use Rattle.swizzle.specs.Heap as area
-use Rattle.swizzle.specs.Heap.{IsHeap, IsHeld, header_at}
-use Rattle.swizzle.specs.Joint.{Shown, shown_at}
-use Rattle.swizzle.specs.Text.{HasBytes}
-use Rattle.swizzle.specs.Reading.{LeavesOutside}
-use Rattle.text_forms.specs.declared.forms.Located.{Located}
-use Rattle.text_forms.specs.Forms.{forms_of, located_in}
-use Rattle.heap_texts.specs.declared.fault.OpFault.{OpFault}
-use Rattle.heap_texts.specs.declared.fault.OpFault.TheVariants as op
-use Rattle.heap_places.specs.Shapes.{slot_of}
-use Rattle.heap_places.specs.declared.value.Value as code
-use Rattle.heap_places.specs.declared.value.Value.TheVariants as held
-use Rattle.heap_ops.specs.Structures.{SetsField}
-use Rattle.ps_meaning.specs.Values.{Value, Num, Flag, Text, Nil, Pointer, Vector, Procedure, Nothing}
-use Rattle.ps_meaning.specs.Texts.{Attempt, Fails}
-use Rattle.ps_meaning.specs.Objects.{Heap, Structure, with_object, with_field}
+use Rattle.text_ops.specs.ps_outside.Outside.{Outside}
+use Rattle.text_ops.specs.obj_layout.Stored.{Space}
+use Rattle.text_ops.specs.obj_layout.declared.kind.Kind.{Kind}
+use Rattle.text_ops.specs.obj_layout.declared.kind.Kind.TheVariants as kind
+use Rattle.text_ops.specs.obj_layout.declared.reference.Reference as reference
+use Rattle.text_ops.specs.swizzle.Heap as area
+use Rattle.text_ops.specs.swizzle.Heap.{IsHeap, IsHeld, header_at}
+use Rattle.text_ops.specs.swizzle.Joint.{Shown, shown_at}
+use Rattle.text_ops.specs.swizzle.Text.{HasBytes}
+use Rattle.text_ops.specs.swizzle.Reading.{LeavesOutside}
+use Rattle.text_ops.specs.text_forms.declared.forms.Located.{Located}
+use Rattle.text_ops.specs.text_forms.Forms.{forms_of, located_in}
+use Rattle.text_ops.specs.heap_texts.declared.fault.OpFault.{OpFault}
+use Rattle.text_ops.specs.heap_texts.declared.fault.OpFault.TheVariants as op
+use Rattle.heap_meaning.specs.heap_places.Shapes.{slot_of}
+use Rattle.heap_meaning.specs.heap_places.declared.value.Value as code
+use Rattle.heap_meaning.specs.heap_places.declared.value.Value.TheVariants as held
+use Rattle.heap_meaning.specs.heap_ops.Structures.{SetsField}
+use Rattle.text_ops.specs.ps_meaning.Values.{Value, Num, Flag, Text, Nil, Pointer, Vector, Procedure, Nothing}
+use Rattle.text_ops.specs.ps_meaning.Texts.{Attempt, Fails}
+use Rattle.text_ops.specs.ps_meaning.Objects.{Heap, Structure, with_object, with_field}
 use Rattle.heap_meaning.specs.Standing.{IsStructure}
 use Rattle.heap_meaning.specs.Paired.{paired}
 use Rattle.heap_meaning.proofs.FieldLaws.{field-put, no-field_put}
@@ -54,7 +54,7 @@ other-put : (old new : area.Heap) (before after : Outside Space) (names : List r
 other-put old new before after names at text l c attempt (Ok done) ne e g = absurd (ne (g.fields.class.kind))
 other-put old new before after names at text l c attempt (Err (op.Trap t)) ne e g = e ∙ ap Fails (sym (g.0))
 other-put old new before after names at text l c attempt (Err (op.Swizzle fault)) ne e g =
-    elim (g.1) [ inl k ↦ absurd (ne (k.0)) | inr d ↦ absurd (ne (d.1.kind)) ]
+    elim (g.1) [ inl k ↦ absurd (ne (k.0)) | inr d ↦ absurd (ne (d.2.kind)) ]
 
 pointer-put : (old new : area.Heap) (before after : Outside Space) (of : Heap) (names : List reference.Reference) (at id : ℕ) (text : List ℕ)
     (n : ℕ) (l : Located) (c : code.Value) (v : Value) (result : Result (Unit {0}) OpFault) → IsHeap old → IsHeap new → IsWorld old of names

@@ -1,22 +1,22 @@
 -- Values in code that places of a form hold.
 use Rattle.std.proofs.Common.{false, arith, inl, inr, ◌≡◌, ℕ, zero, suc, ◌-◌, ◌^◌, ℤ, pos, negsuc, List, [], ◌∷◌, length, replicate, refl, sym, ap, ◌∙◌, subst, Option, Some, None, true}
 use Rattle.std.proofs.lemmas.Bool.{cases_lt, ltb-true, lt-ltb}
-use Rattle.obj_layout.specs.declared.reference.Reference as reference
-use Rattle.swizzle.specs.Heap as area
-use Rattle.swizzle.specs.Heap.{reference_to}
-use Rattle.swizzle.specs.Joint.{Shown, name_of}
-use Rattle.swizzle.specs.Touch.{Denotes}
-use Rattle.text_forms.specs.declared.forms.Form.{Form}
-use Rattle.text_forms.specs.declared.forms.Form.TheVariants as form
-use Rattle.heap_places.specs.Words.{int_in, int_word, flag_in, word_damage}
-use Rattle.heap_places.specs.Shapes.{word_in}
-use Rattle.heap_places.specs.Places.{Holds, fit_damage}
-use Rattle.heap_places.specs.declared.value.Value as code
-use Rattle.heap_places.specs.declared.value.Value.TheVariants as held
-use Rattle.heap_places.proofs.WordLaws.{int-low, int-mid, int-high}
-use Rattle.heap_ops.specs.Vectors.{fitted}
-use Rattle.ps_meaning.specs.Operators.{is_int}
-use Rattle.ps_meaning.specs.Values.{Value, Num, Flag, Text, Nil, Pointer, Vector, Procedure, Nothing}
+use Rattle.text_ops.specs.obj_layout.declared.reference.Reference as reference
+use Rattle.text_ops.specs.swizzle.Heap as area
+use Rattle.text_ops.specs.swizzle.Heap.{reference_to}
+use Rattle.text_ops.specs.swizzle.Joint.{Shown, name_of}
+use Rattle.text_ops.specs.swizzle.Touch.{Denotes}
+use Rattle.text_ops.specs.text_forms.declared.forms.Form.{Form}
+use Rattle.text_ops.specs.text_forms.declared.forms.Form.TheVariants as form
+use Rattle.heap_meaning.specs.heap_places.Words.{int_in, int_word, flag_in, word_damage}
+use Rattle.heap_meaning.specs.heap_places.Shapes.{word_in}
+use Rattle.heap_meaning.specs.heap_places.Places.{Holds, fit_damage}
+use Rattle.heap_meaning.specs.heap_places.declared.value.Value as code
+use Rattle.heap_meaning.specs.heap_places.declared.value.Value.TheVariants as held
+use Rattle.heap_meaning.proofs.of_heap_places.WordLaws.{int-low, int-mid, int-high}
+use Rattle.heap_meaning.specs.heap_ops.Vectors.{fitted}
+use Rattle.text_ops.specs.ps_meaning.Operators.{is_int}
+use Rattle.text_ops.specs.ps_meaning.Values.{Value, Num, Flag, Text, Nil, Pointer, Vector, Procedure, Nothing}
 use Rattle.heap_meaning.specs.Standing.{StandsFor}
 use Rattle.heap_meaning.specs.Paired.{paired}
 use Rattle.heap_meaning.proofs.WriteLaws.{AreOf}

@@ -4,38 +4,38 @@ use Rattle.std.proofs.lemmas.Bool.{lt-ltb}
 use Rattle.std.proofs.Common.{arith, w32, ◌^◌, negsuc, ◌≡◌, ℕ, zero, suc, ◌*◌, ℤ, pos, List, [], ◌∷◌, length, get_or, replicate, refl, sym, ap, ◌∙◌, subst, Option, Some, None, Bool, true, false}
 use Rattle.std.specs.Prelude.{Result, Ok, Err, ◌-ℤ◌}
 use Rattle.std.proofs.lemmas.List.{length-replicate}
-use Rattle.obj_layout.specs.declared.kind.Kind.{Kind}
-use Rattle.obj_layout.specs.declared.kind.Kind.TheVariants as kind
-use Rattle.obj_layout.specs.declared.reference.Reference as reference
-use Rattle.obj_layout.specs.declared.reference.Reference.TheVariants as name
-use Rattle.swizzle.specs.declared.fault.SwizzleFault.{SwizzleFault}
-use Rattle.swizzle.specs.Objects as area_objects
-use Rattle.swizzle.specs.Objects.{size_of}
-use Rattle.swizzle.specs.Heap as area
-use Rattle.swizzle.specs.Heap.{IsHeap, IsHeld, IsInside, IsMade, IsFull, header_at, object_at, top_of, with_new}
-use Rattle.swizzle.specs.Joint.{shown, shown_at, name_at, name_by, name_of}
-use Rattle.swizzle.specs.Changes.{ChangedAt}
-use Rattle.swizzle.specs.Touch.{Denotes}
-use Rattle.swizzle.proofs.NameLaws.{name-none}
-use Rattle.swizzle.proofs.JointLaws.{name-fresh, joint-made}
-use Rattle.swizzle.proofs.MadeLaws.{made-held, made-object}
-use Rattle.text_forms.specs.Forms.{forms_of, element_of}
-use Rattle.heap_texts.specs.declared.fault.OpFault.{OpFault}
-use Rattle.heap_texts.specs.declared.fault.OpFault.TheVariants as op
-use Rattle.heap_places.specs.Shapes.{IsText}
-use Rattle.heap_places.specs.Words.{int_word}
-use Rattle.heap_places.specs.Places.{IsNear}
-use Rattle.heap_places.specs.Filling.{refs_of, AreNear, filled, filled_words, Fills}
-use Rattle.heap_places.specs.declared.value.Value as code
-use Rattle.heap_places.specs.declared.value.Value.TheVariants as held
-use Rattle.heap_places.proofs.FillingLaws.{rows-length, near-repeated}
-use Rattle.heap_ops.specs.Vectors.{MakesVector}
-use Rattle.ps_meaning.specs.Operators.{is_int}
-use Rattle.ps_meaning.specs.Values.{Value, Text, Pointer, Vector}
-use Rattle.ps_meaning.specs.Texts.{Yields}
-use Rattle.ps_meaning.specs.Objects.{Heap, Object, Structure, Elements, new_number, is_vector, is_made, vector_of, filled_vector, count_from}
-use Rattle.ps_meaning.specs.Objects as meaning
-use Rattle.ps_meaning.specs.Weights.{own_weight}
+use Rattle.text_ops.specs.obj_layout.declared.kind.Kind.{Kind}
+use Rattle.text_ops.specs.obj_layout.declared.kind.Kind.TheVariants as kind
+use Rattle.text_ops.specs.obj_layout.declared.reference.Reference as reference
+use Rattle.text_ops.specs.obj_layout.declared.reference.Reference.TheVariants as name
+use Rattle.text_ops.specs.swizzle.declared.fault.SwizzleFault.{SwizzleFault}
+use Rattle.text_ops.specs.swizzle.Objects as area_objects
+use Rattle.text_ops.specs.swizzle.Objects.{size_of}
+use Rattle.text_ops.specs.swizzle.Heap as area
+use Rattle.text_ops.specs.swizzle.Heap.{IsHeap, IsHeld, IsInside, IsMade, IsFull, header_at, object_at, top_of, with_new}
+use Rattle.text_ops.specs.swizzle.Joint.{shown, shown_at, name_at, name_by, name_of}
+use Rattle.text_ops.specs.swizzle.Changes.{ChangedAt}
+use Rattle.text_ops.specs.swizzle.Touch.{Denotes}
+use Rattle.text_ops.proofs.of_swizzle.NameLaws.{name-none}
+use Rattle.text_ops.proofs.of_swizzle.JointLaws.{name-fresh, joint-made}
+use Rattle.text_ops.proofs.of_swizzle.MadeLaws.{made-held, made-object}
+use Rattle.text_ops.specs.text_forms.Forms.{forms_of, element_of}
+use Rattle.text_ops.specs.heap_texts.declared.fault.OpFault.{OpFault}
+use Rattle.text_ops.specs.heap_texts.declared.fault.OpFault.TheVariants as op
+use Rattle.heap_meaning.specs.heap_places.Shapes.{IsText}
+use Rattle.heap_meaning.specs.heap_places.Words.{int_word}
+use Rattle.heap_meaning.specs.heap_places.Places.{IsNear}
+use Rattle.heap_meaning.specs.heap_places.Filling.{refs_of, AreNear, filled, filled_words, Fills}
+use Rattle.heap_meaning.specs.heap_places.declared.value.Value as code
+use Rattle.heap_meaning.specs.heap_places.declared.value.Value.TheVariants as held
+use Rattle.heap_meaning.proofs.of_heap_places.FillingLaws.{rows-length, near-repeated}
+use Rattle.heap_meaning.specs.heap_ops.Vectors.{MakesVector}
+use Rattle.text_ops.specs.ps_meaning.Operators.{is_int}
+use Rattle.text_ops.specs.ps_meaning.Values.{Value, Text, Pointer, Vector}
+use Rattle.text_ops.specs.ps_meaning.Texts.{Yields}
+use Rattle.text_ops.specs.ps_meaning.Objects.{Heap, Object, Structure, Elements, new_number, is_vector, is_made, vector_of, filled_vector, count_from}
+use Rattle.text_ops.specs.ps_meaning.Objects as meaning
+use Rattle.text_ops.specs.ps_meaning.Weights.{own_weight}
 use Rattle.heap_meaning.specs.Standing.{StandsFor, IsKindOf, IsLike}
 use Rattle.heap_meaning.specs.Paired.{name_in, paired, and_name}
 use Rattle.heap_meaning.proofs.StandingLaws.{Pairs, like-more}

@@ -1,27 +1,27 @@
 -- Objects of the area that stand for objects of the heap, and why nothing that is read of them fails.
 use Rattle.std.proofs.Common.{ℤ, arith, inl, inr, ◌⊎◌, ◌≡◌, ℕ, List, get_or, refl, sym, ap, ◌∙◌, subst, Option, Some, None}
-use Rattle.ps_outside.specs.Outside.{Outside}
-use Rattle.obj_layout.specs.Stored.{Space, Damage}
-use Rattle.obj_layout.specs.declared.kind.Kind.{Kind}
-use Rattle.obj_layout.specs.declared.kind.Kind.TheVariants as kind
-use Rattle.obj_layout.specs.declared.reference.Reference as reference
-use Rattle.obj_layout.specs.declared.reference.Reference.TheVariants as name
-use Rattle.swizzle.specs.declared.fault.SwizzleFault.{SwizzleFault}
-use Rattle.swizzle.specs.declared.fault.SwizzleFault.TheVariants.{AreaFull, Vault}
-use Rattle.swizzle.specs.Heap as area
-use Rattle.swizzle.specs.Heap.{IsHeap, IsHeld, header_at, ref_at, local_of}
-use Rattle.swizzle.specs.Joint.{Shown, shown_at, name_at, name_of}
-use Rattle.swizzle.specs.Changes.{IsKnown}
-use Rattle.swizzle.specs.Touch.{Keeps, IsTouchFault}
-use Rattle.swizzle.specs.Reading.{joint}
-use Rattle.swizzle.proofs.NameLaws.{not_away}
-use Rattle.swizzle.proofs.TouchLaws.{keeps-refl}
-use Rattle.heap_places.specs.Shapes.{IsText, slot_of}
-use Rattle.heap_places.specs.Places.{NoText, FailsFetch, NamesDamage}
-use Rattle.heap_places.proofs.PlaceLaws.{slot-name}
-use Rattle.text_forms.specs.declared.forms.Form.{Form}
-use Rattle.ps_meaning.specs.Values.{Value, Num, Flag, Text, Nil, Pointer, Vector, Procedure, Nothing, as_written, as_compiled}
-use Rattle.ps_meaning.specs.Objects.{Heap, Object, Structure, Elements, Scope, object_at}
+use Rattle.text_ops.specs.ps_outside.Outside.{Outside}
+use Rattle.text_ops.specs.obj_layout.Stored.{Space, Damage}
+use Rattle.text_ops.specs.obj_layout.declared.kind.Kind.{Kind}
+use Rattle.text_ops.specs.obj_layout.declared.kind.Kind.TheVariants as kind
+use Rattle.text_ops.specs.obj_layout.declared.reference.Reference as reference
+use Rattle.text_ops.specs.obj_layout.declared.reference.Reference.TheVariants as name
+use Rattle.text_ops.specs.swizzle.declared.fault.SwizzleFault.{SwizzleFault}
+use Rattle.text_ops.specs.swizzle.declared.fault.SwizzleFault.TheVariants.{AreaFull, Vault}
+use Rattle.text_ops.specs.swizzle.Heap as area
+use Rattle.text_ops.specs.swizzle.Heap.{IsHeap, IsHeld, header_at, ref_at, local_of}
+use Rattle.text_ops.specs.swizzle.Joint.{Shown, shown_at, name_at, name_of}
+use Rattle.text_ops.specs.swizzle.Changes.{IsKnown}
+use Rattle.text_ops.specs.swizzle.Touch.{Keeps, IsTouchFault}
+use Rattle.text_ops.specs.swizzle.Reading.{joint}
+use Rattle.text_ops.proofs.of_swizzle.NameLaws.{not_away}
+use Rattle.text_ops.proofs.of_swizzle.TouchLaws.{keeps-refl}
+use Rattle.heap_meaning.specs.heap_places.Shapes.{IsText, slot_of}
+use Rattle.heap_meaning.specs.heap_places.Places.{NoText, FailsFetch, NamesDamage}
+use Rattle.heap_meaning.proofs.of_heap_places.PlaceLaws.{slot-name}
+use Rattle.text_ops.specs.text_forms.declared.forms.Form.{Form}
+use Rattle.text_ops.specs.ps_meaning.Values.{Value, Num, Flag, Text, Nil, Pointer, Vector, Procedure, Nothing, as_written, as_compiled}
+use Rattle.text_ops.specs.ps_meaning.Objects.{Heap, Object, Structure, Elements, Scope, object_at}
 use Rattle.heap_meaning.specs.Standing.{StandsFor, IsAs, IsStructure, IsVector, IsLike}
 use Rattle.heap_meaning.specs.Paired.{paired}
 use Rattle.heap_meaning.proofs.StandingLaws.{text-more, as-more}
@@ -128,10 +128,10 @@ no-fetch here before n (AreaFull top wanted size) h k t = known-near here n (t.3
 no-fetch here before n (Vault refused) h k t = known-near here n (t.0) h k (t.1) (t.2)
 
 -- What refers to a text refers to one.
-pub no-text : (old new : area.Heap) (at : ℕ) (text : List ℕ) (fault : SwizzleFault) → IsHeap new
-    → IsText (alone old) (slot_of (shown_at old at) 0) text → NoText old new at fault → ⊥
-no-text old new at text fault h t (inl nil) = nil-unseen old t.it (subst (λ (n : reference.Reference). alone old n t.it) (nil.0) t.there)
-no-text old new at text fault h t (inr o) =
+pub no-text : (old new : area.Heap) (before after : Outside Space) (at : ℕ) (text : List ℕ) (fault : SwizzleFault) → IsHeap new
+    → IsText (alone old) (slot_of (shown_at old at) 0) text → NoText old new before after at fault → ⊥
+no-text old new before after at text fault h t (inl nil) = nil-unseen old t.it (subst (λ (n : reference.Reference). alone old n t.it) (nil.0) t.there)
+no-text old new before after at text fault h t (inr o) =
     let n = slot_of (shown_at old at) 0 in
     let seen = keeps-within old new (o.3) n t.it t.there in
     let is = seen-is new (o.0) n t.it h (o.1.0) (o.1.1) seen in

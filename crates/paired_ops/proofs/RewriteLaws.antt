@@ -2,31 +2,31 @@
 use Rattle.std.proofs.Common.{arith, inl, inr, ◌≡◌, ℕ, ◌+◌, ◌*◌, List, [], ◌∷◌, ◌++◌, set, slice_set, refl, sym, ap, ◌∙◌, subst, Bool, true, false, if◌then◌else◌}
 use Rattle.std.proofs.lemmas.Bool.{cases_eq}
 use Rattle.std.proofs.lemmas.List.{map-set}
-use Rattle.obj_layout.specs.declared.reference.Reference as reference
-use Rattle.swizzle.specs.Objects as area_objects
-use Rattle.swizzle.specs.Objects.{size_of, size_of_all, replace_from}
-use Rattle.swizzle.specs.Heap as area
-use Rattle.swizzle.specs.Heap.{IsHeap, IsHeld, header_at, object_at, top_of, reference_to, is_assigned, flagged, with_mark}
-use Rattle.swizzle.specs.Joint.{Shown, shown, shown_at, name_at, name_of}
-use Rattle.swizzle.specs.Changes.{Within, ChangedAt}
-use Rattle.swizzle.specs.Text.{HasBytes}
-use Rattle.swizzle.proofs.ObjectLaws.{here, elsewhere}
-use Rattle.swizzle.proofs.HeapLaws.{held-replaced, size-replaced}
-use Rattle.swizzle.proofs.KeptLaws.{held_is}
-use Rattle.swizzle.proofs.JointLaws.{IsLike, like_long, object-replaced, name-replaced, joint-replaced}
-use Rattle.heap_places.specs.Words.{int_word, flag_word}
-use Rattle.heap_places.specs.Places.{with_value, assigned_value}
-use Rattle.heap_places.specs.declared.value.Value as code
-use Rattle.heap_places.specs.declared.value.Value.TheVariants as held
-use Rattle.ps_meaning.specs.Values.{Value}
-use Rattle.ps_meaning.specs.Objects.{Heap, Object, with_object}
+use Rattle.text_ops.specs.obj_layout.declared.reference.Reference as reference
+use Rattle.text_ops.specs.swizzle.Objects as area_objects
+use Rattle.text_ops.specs.swizzle.Objects.{size_of, size_of_all, replace_from}
+use Rattle.text_ops.specs.swizzle.Heap as area
+use Rattle.text_ops.specs.swizzle.Heap.{IsHeap, IsHeld, header_at, object_at, top_of, reference_to, is_assigned, flagged, with_mark}
+use Rattle.text_ops.specs.swizzle.Joint.{Shown, shown, shown_at, name_at, name_of}
+use Rattle.text_ops.specs.swizzle.Changes.{Within, ChangedAt}
+use Rattle.text_ops.specs.swizzle.Text.{HasBytes}
+use Rattle.text_ops.proofs.of_swizzle.ObjectLaws.{here, elsewhere}
+use Rattle.text_ops.proofs.of_swizzle.HeapLaws.{held-replaced, size-replaced}
+use Rattle.text_ops.proofs.of_swizzle.KeptLaws.{held_is}
+use Rattle.text_ops.proofs.of_swizzle.JointLaws.{IsLike, like_long, object-replaced, name-replaced, joint-replaced}
+use Rattle.heap_meaning.specs.heap_places.Words.{int_word, flag_word}
+use Rattle.heap_meaning.specs.heap_places.Places.{with_value, assigned_value}
+use Rattle.heap_meaning.specs.heap_places.declared.value.Value as code
+use Rattle.heap_meaning.specs.heap_places.declared.value.Value.TheVariants as held
+use Rattle.text_ops.specs.ps_meaning.Values.{Value}
+use Rattle.text_ops.specs.ps_meaning.Objects.{Heap, Object, with_object}
 use Rattle.heap_meaning.specs.Standing as standing
 use Rattle.heap_meaning.specs.Paired.{paired}
 use Rattle.heap_meaning.proofs.StandingLaws.{IsFixed, not-fixed, fixed-changed, kinds-changed, like-more}
 use Rattle.heap_meaning.proofs.PairedLaws.{row-written}
 use Rattle.heap_meaning.proofs.GivenLaws.{shown_with}
-use Rattle.proc_values.specs.Loaded.{CodeStays}
-use Rattle.proc_values.proofs.StayLaws.{code-other}
+use Rattle.heap_meaning.specs.proc_values.Loaded.{CodeStays}
+use Rattle.heap_meaning.proofs.of_proc_values.StayLaws.{code-other}
 use Rattle.paired_ops.specs.World.{alone, Carries, Stands}
 use Rattle.paired_ops.specs.Operands.{IsForIn}
 use Rattle.paired_ops.proofs.WorldLaws.{seen-at, seen-held, alone-one, Passes, carries-value, carries-scope}
@@ -83,7 +83,7 @@ value-shown mid at index (held.Ref to) =
     ap (λ (rs : List reference.Reference). record (shown_at mid at) { refs = rs })
     (map-set (name_of mid) (object_at mid at).refs index (reference_to to))
 
--- the mark behind it
+-- the mark after it
 marked : (mid : area.Heap) (at : ℕ) (o : area_objects.Object) (it : Shown) (b : Bool) → IsHeap mid → IsHeld mid at → IsLike (object_at mid at) o
     → shown (name_of mid) o ≡ it
     → Rewritten mid (if b then area.with_object mid at o else record (area.with_object mid at o) {

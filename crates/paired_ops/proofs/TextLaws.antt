@@ -1,32 +1,33 @@
 -- New texts, and what the operators on texts answer.
-use Rattle.std.proofs.Common.{arith, ◌≡◌, ℕ, ◌+◌, ◌*◌, ◌<◌, ◌≤◌, ◌^◌, List, [], ◌∷◌, ◌++◌, length, refl, sym, ap, ◌∙◌, subst, Bool, true, false, if◌then◌else◌}
+use Rattle.std.proofs.Common.{arith, inr, inl, ◌≡◌, ℕ, ◌+◌, ◌*◌, ◌<◌, ◌≤◌, ◌^◌, List, [], ◌∷◌, ◌++◌, length, refl, sym, ap, ◌∙◌, subst, Bool, true, false, if◌then◌else◌}
 use Rattle.std.specs.Fmt.{signed_decimal}
 use Rattle.std.proofs.lemmas.Fmt.{IsAscii-signed}
 use lib.Signed.{mag}
 use Rattle.std.specs.Prelude.{ℤ, Result, Ok, Err, take, drop, pos, suc, zero, negsuc, nat_lt}
-use Rattle.obj_area.specs.Words.{AreBytes}
-use Rattle.obj_area.proofs.WordLaws.{AreBytes-take, AreBytes-drop}
+use Rattle.text_ops.specs.obj_area.Words.{AreBytes}
+use Rattle.text_ops.proofs.of_obj_area.WordLaws.{AreBytes-take, AreBytes-drop}
 use Rattle.ps_base.specs.declared.trap.Trap.TheVariants as trap
-use Rattle.obj_layout.specs.declared.reference.Reference as reference
-use Rattle.swizzle.specs.declared.fault.SwizzleFault.{SwizzleFault}
-use Rattle.swizzle.specs.Objects.{Object, size_of, size_of_all}
-use Rattle.swizzle.specs.Heap as area
-use Rattle.swizzle.specs.Heap.{IsHeap, IsHeld, IsMade, IsFull, header_at, object_at, top_of, with_new}
-use Rattle.swizzle.specs.Text.{text_of, text_at}
-use Rattle.swizzle.specs.Touch.{Keeps}
-use Rattle.swizzle.proofs.ObjectLaws.{size_of_all-append, split}
-use Rattle.swizzle.proofs.KeptLaws.{held_is}
-use Rattle.swizzle.proofs.MadeLaws.{made-held, made-object}
-use Rattle.heap_texts.specs.Texts.{text_object, text_nums, wanted_of, GivesText}
-use Rattle.heap_texts.specs.Texts as made
-use Rattle.heap_texts.specs.declared.fault.OpFault.{OpFault}
-use Rattle.heap_texts.specs.declared.fault.OpFault.TheVariants as op
-use Rattle.ps_meaning.specs.Texts.{Attempt, Yields, Fails, join_of, part_of, is_string}
-use Rattle.ps_meaning.specs.Objects.{Heap}
-use Rattle.ps_meaning.specs.Weights.{text_weight}
-use Rattle.proc_values.proofs.StayLaws.{keeps-before}
-use Rattle.proc_values.proofs.WrittenLaws.{text-of_text}
-use Rattle.paired_ops.specs.World.{IsWorld, IsShort, IsNewText, MakesText}
+use Rattle.text_ops.specs.obj_layout.declared.reference.Reference as reference
+use Rattle.text_ops.specs.swizzle.declared.fault.SwizzleFault.{SwizzleFault}
+use Rattle.text_ops.specs.swizzle.Objects.{Object, size_of, size_of_all}
+use Rattle.text_ops.specs.swizzle.Heap as area
+use Rattle.text_ops.specs.swizzle.Heap.{IsHeap, IsHeld, IsMade, IsFull, header_at, object_at, top_of, with_new}
+use Rattle.text_ops.specs.swizzle.Text.{text_of, text_at}
+use Rattle.text_ops.specs.swizzle.Touch.{Keeps}
+use Rattle.text_ops.proofs.of_swizzle.ObjectLaws.{size_of_all-append, split}
+use Rattle.text_ops.proofs.of_swizzle.KeptLaws.{held_is}
+use Rattle.text_ops.proofs.of_swizzle.MadeLaws.{made-held, made-object}
+use Rattle.text_ops.specs.heap_texts.Texts.{text_object, text_nums, wanted_of, GivesText}
+use Rattle.text_ops.specs.heap_texts.Texts as made
+use Rattle.text_ops.specs.heap_texts.declared.fault.OpFault.{OpFault}
+use Rattle.text_ops.specs.heap_texts.declared.fault.OpFault.TheVariants as op
+use Rattle.text_ops.specs.ps_meaning.Texts.{Attempt, Yields, Fails, join_of, part_of, is_string}
+use Rattle.text_ops.specs.ps_meaning.Objects.{Heap}
+use Rattle.text_ops.specs.ps_meaning.Weights.{text_weight}
+use Rattle.heap_meaning.proofs.of_proc_values.StayLaws.{keeps-before}
+use Rattle.heap_meaning.proofs.of_proc_values.WrittenLaws.{text-of_text}
+use Rattle.std.proofs.lemmas.Bool.{cases_lt}
+use Rattle.paired_ops.specs.World.{IsWorld, AreWords, IsShort, IsNewText, MakesText}
 use Rattle.paired_ops.proofs.WorldLaws.{keeps-carries, keeps-world}
 use Rattle.paired_ops.proofs.ValueLaws.{denotes-text, text-bytes}
 
@@ -38,14 +39,21 @@ made-keeps old new at o h m = subst (Keeps old) (sym m.made) (keeps-before old (
 pub made-top : (old new : area.Heap) (at : ℕ) (o : Object) → IsMade old new at o → top_of new ≡ top_of old + size_of o
 made-top old new at o m = ap top_of m.made ∙ omega (arith, size_of_all-append old.objects (o ∷ []))
 
+-- the words that are wanted, with the greatest number of 32 bits at most
+words-wanted : (words weight : ℕ) → 8 * words ≡ weight → AreWords (wanted_of words) weight
+words-wanted words weight are = elim (cases_lt words (2 ^ 32)) [
+  | inl lt ↦ inl (omega (arith, are, lt))
+  | inr ge ↦ inr (omega (arith, ge), omega (arith, are, ge))
+]
+
 -- There was no room for an object of so many words.
-pub full-short : (old new : area.Heap) (words weight : ℕ) (fault : SwizzleFault) → IsFull old new (wanted_of words) fault → 8 * words ≤ weight
+pub full-short : (old new : area.Heap) (words weight : ℕ) (fault : SwizzleFault) → IsFull old new (wanted_of words) fault → 8 * words ≡ weight
     → IsShort old new weight fault
-full-short old new words weight fault full le = record {
+full-short old new words weight fault full are = record {
   wanted = wanted_of words;
   fault_is = full.fault_is;
   full = full.full;
-  words = omega (arith, le);
+  words = words-wanted words weight are;
   stays = full.stays;
 }
 
@@ -113,7 +121,7 @@ part-good text bytes (pos (suc before)) (pos count) g e = of (nat_lt (length tex
     of false q = let same : take count (drop before text) ≡ bytes = cc in
         subst AreBytes same (AreBytes-take count (drop before text) (AreBytes-drop before text g))
 
--- One text behind the other.
+-- One text after the other.
 pub joins : (old new : area.Heap) (of : Heap) (names : List reference.Reference) (a b : ℕ) (v w : List ℕ) (result : Result ℕ OpFault) → IsHeap old
     → IsWorld old of names
     → text_at old a ≡ v → text_at old b ≡ w → GivesText old new (join_of (text_at old a) (text_at old b)) result

@@ -3,23 +3,23 @@ use Rattle.std.proofs.Common.{arith, inl, inr, ◌≡◌, ◌≢◌, ℕ, ◌*�
 use Rattle.std.specs.Prelude.{take, drop}
 use Rattle.std.specs.Option.{option_eq}
 use Rattle.std.proofs.lemmas.Bool.{eq-eqb, cases_eq}
-use Rattle.obj_area.specs.Words.{AreBytes, bytes_of}
-use Rattle.obj_area.proofs.WordLaws.{AreBytes-take, AreBytes-drop}
-use Rattle.obj_area.proofs.AreaLaws.{AreBytes-bytes_of}
-use Rattle.obj_layout.specs.declared.kind.Kind.{Kind}
-use Rattle.obj_layout.specs.declared.kind.Kind.TheVariants as kind
-use Rattle.obj_layout.specs.declared.reference.Reference as reference
-use Rattle.obj_layout.specs.declared.reference.Reference.TheVariants as name
-use Rattle.swizzle.specs.Objects.{words_before}
-use Rattle.swizzle.specs.Heap as area
-use Rattle.swizzle.specs.Heap.{IsHeap, IsHeld, header_at, object_at}
-use Rattle.swizzle.specs.Joint.{Shown, shown_at, name_at}
-use Rattle.swizzle.specs.Text.{text_at}
-use Rattle.swizzle.proofs.NameLaws.{name-not_nil, name_at-injective}
-use Rattle.heap_places.specs.Shapes.{shown_text}
+use Rattle.text_ops.specs.obj_area.Words.{AreBytes, bytes_of}
+use Rattle.text_ops.proofs.of_obj_area.WordLaws.{AreBytes-take, AreBytes-drop}
+use Rattle.text_ops.proofs.of_obj_area.AreaLaws.{AreBytes-bytes_of}
+use Rattle.text_ops.specs.obj_layout.declared.kind.Kind.{Kind}
+use Rattle.text_ops.specs.obj_layout.declared.kind.Kind.TheVariants as kind
+use Rattle.text_ops.specs.obj_layout.declared.reference.Reference as reference
+use Rattle.text_ops.specs.obj_layout.declared.reference.Reference.TheVariants as name
+use Rattle.text_ops.specs.swizzle.Objects.{words_before}
+use Rattle.text_ops.specs.swizzle.Heap as area
+use Rattle.text_ops.specs.swizzle.Heap.{IsHeap, IsHeld, header_at, object_at}
+use Rattle.text_ops.specs.swizzle.Joint.{Shown, shown_at, name_at}
+use Rattle.text_ops.specs.swizzle.Text.{text_at}
+use Rattle.text_ops.proofs.of_swizzle.NameLaws.{name-not_nil, name_at-injective}
+use Rattle.heap_meaning.specs.heap_places.Shapes.{shown_text}
 use Rattle.ps_base.specs.CodeUnit.{UnitView}
-use Rattle.ps_meaning.specs.Values.{Value, Num, Flag, Text, Nil, Pointer, Vector, Procedure, Nothing, Routine, as_written, as_compiled}
-use Rattle.ps_meaning.specs.Objects.{Heap, is_one_object}
+use Rattle.text_ops.specs.ps_meaning.Values.{Value, Num, Flag, Text, Nil, Pointer, Vector, Procedure, Nothing, Routine, as_written, as_compiled}
+use Rattle.text_ops.specs.ps_meaning.Objects.{Heap, is_one_object}
 use Rattle.heap_meaning.specs.Standing.{IsKindOf, StandsFor, IsClosure}
 use Rattle.heap_meaning.specs.Paired.{paired}
 use Rattle.paired_ops.specs.World.{IsWorld, alone, DenotesIn}

@@ -1,22 +1,22 @@
 -- The area alone: what is seen of it, and what becomes of the world as objects stay where they are.
 use Rattle.std.proofs.Common.{arith, inl, inr, ◌≡◌, ℕ, ◌+◌, ◌*◌, List, [], ◌∷◌, refl, sym, ◌∙◌, subst, Option, Some, None}
-use Rattle.ps_outside.specs.Outside.{Outside}
-use Rattle.obj_layout.specs.Stored.{Space}
-use Rattle.obj_layout.specs.declared.reference.Reference as reference
-use Rattle.swizzle.specs.Heap as area
-use Rattle.swizzle.specs.Heap.{IsHeap, IsHeld, top_of}
-use Rattle.swizzle.specs.Joint.{Shown, InArea, shown_at, name_at}
-use Rattle.swizzle.specs.Changes.{Within}
-use Rattle.swizzle.specs.Touch.{Denotes, Keeps}
-use Rattle.swizzle.specs.Reading.{joint, AreKnown, AreNear, Reads}
-use Rattle.swizzle.proofs.NameLaws.{Joint-one, not_away}
-use Rattle.ps_meaning.specs.Values.{Value}
-use Rattle.ps_meaning.specs.Objects.{Heap}
+use Rattle.text_ops.specs.ps_outside.Outside.{Outside}
+use Rattle.text_ops.specs.obj_layout.Stored.{Space}
+use Rattle.text_ops.specs.obj_layout.declared.reference.Reference as reference
+use Rattle.text_ops.specs.swizzle.Heap as area
+use Rattle.text_ops.specs.swizzle.Heap.{IsHeap, IsHeld, top_of}
+use Rattle.text_ops.specs.swizzle.Joint.{Shown, InArea, shown_at, name_at}
+use Rattle.text_ops.specs.swizzle.Changes.{Within}
+use Rattle.text_ops.specs.swizzle.Touch.{Denotes, Keeps}
+use Rattle.text_ops.specs.swizzle.Reading.{joint, AreKnown, AreNear, Reads}
+use Rattle.text_ops.proofs.of_swizzle.NameLaws.{Joint-one, not_away}
+use Rattle.text_ops.specs.ps_meaning.Values.{Value}
+use Rattle.text_ops.specs.ps_meaning.Objects.{Heap}
 use Rattle.heap_meaning.specs.Standing.{IsOne}
 use Rattle.heap_meaning.specs.Paired.{paired}
 use Rattle.heap_meaning.proofs.StandingLaws.{Fixed, Kinds, Pairs, stands-more, scope-more}
 use Rattle.heap_meaning.proofs.PairedLaws.{row-within}
-use Rattle.proc_values.proofs.StayLaws.{keeps-code}
+use Rattle.heap_meaning.proofs.of_proc_values.StayLaws.{keeps-code}
 use Rattle.paired_ops.specs.World.{IsWorld, alone, DenotesIn, DenotesScopeIn, Carries, Stands}
 
 -- What is seen of the area alone is an object there.
@@ -105,7 +105,7 @@ keeps-passes old new keeps =
       kinds = λ n it s. record { it = it; there = grows n it s; kind_is = refl };
     }
 
--- So it is where objects stay, whatever came behind them.
+-- So it is where objects stay, whatever came after them.
 pub keeps-carries : (old new : area.Heap) (names more : List reference.Reference) (weight : ℕ) → Keeps old new
     → Pairs (paired names) (paired more) → 8 * top_of new ≡ 8 * top_of old + weight → Carries old new names more weight
 keeps-carries old new names more weight keeps pairs top = record {

@@ -1,16 +1,16 @@
 -- Units of code in the area: loaded, and their constants read.
 use Rattle.std.specs.Prelude.{◌≡◌, ℕ, ◌+◌, ◌*◌, ◌<◌, ◌≤◌, List, [], Result, Ok, Err, Some, None}
 use Rattle.ps_base.specs.CodeUnit.{UnitView, ConstantView, text, literal, ConstantsView}
-use Rattle.obj_layout.specs.declared.reference.Reference as reference
-use Rattle.swizzle.specs.Heap as area
-use Rattle.swizzle.specs.Heap.{top_of}
-use Rattle.swizzle.specs.declared.fault.SwizzleFault.{SwizzleFault}
-use Rattle.swizzle.specs.declared.fault.SwizzleFault.TheVariants.{AreaFull}
-use Rattle.proc_values.specs.Units.{unit_words}
-use Rattle.proc_values.specs.Reading.{IsDamaged}
-use Rattle.proc_values.specs.Loaded.{IsUnit, IsFitUnit, IsConstant, constant_numbered}
-use Rattle.ps_meaning.specs.Values.{Text}
-use Rattle.ps_meaning.specs.Objects.{Heap}
+use Rattle.text_ops.specs.obj_layout.declared.reference.Reference as reference
+use Rattle.text_ops.specs.swizzle.Heap as area
+use Rattle.text_ops.specs.swizzle.Heap.{top_of}
+use Rattle.text_ops.specs.swizzle.declared.fault.SwizzleFault.{SwizzleFault}
+use Rattle.text_ops.specs.swizzle.declared.fault.SwizzleFault.TheVariants.{AreaFull}
+use Rattle.heap_meaning.specs.proc_values.Units.{unit_words}
+use Rattle.heap_meaning.specs.proc_values.Reading.{IsDamaged}
+use Rattle.heap_meaning.specs.proc_values.Loaded.{IsUnit, IsFitUnit, IsConstant, constant_numbered}
+use Rattle.text_ops.specs.ps_meaning.Values.{Text}
+use Rattle.text_ops.specs.ps_meaning.Objects.{Heap}
 use Rattle.paired_ops.specs.World.{IsWorld, DenotesIn, Carries}
 
 -- how many bytes the objects of a unit have

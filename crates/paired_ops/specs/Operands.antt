@@ -1,17 +1,17 @@
 -- Operands: objects of the area, and values in code, that denote values of the meaning.
 use Rattle.std.specs.Prelude.{◌≡◌, ℕ, true, List, [], ◌∷◌, Option, Some, None}
-use Rattle.obj_layout.specs.declared.kind.Kind.TheVariants as kind
-use Rattle.obj_layout.specs.declared.reference.Reference as reference
-use Rattle.swizzle.specs.Heap as area
-use Rattle.swizzle.specs.Heap.{header_at}
-use Rattle.text_forms.specs.declared.forms.Form.{Form}
-use Rattle.text_forms.specs.declared.forms.Form.TheVariants as form
-use Rattle.heap_places.specs.declared.value.Value as code
-use Rattle.heap_places.specs.declared.value.Value.TheVariants as held
-use Rattle.text_forms.specs.Forms.{element_of}
-use Rattle.ps_meaning.specs.Operators.{is_int}
-use Rattle.ps_meaning.specs.Objects.{Heap, object_at, type_in}
-use Rattle.ps_meaning.specs.Values.{Value, Text, Nil, Pointer, Vector, Procedure}
+use Rattle.text_ops.specs.obj_layout.declared.kind.Kind.TheVariants as kind
+use Rattle.text_ops.specs.obj_layout.declared.reference.Reference as reference
+use Rattle.text_ops.specs.swizzle.Heap as area
+use Rattle.text_ops.specs.swizzle.Heap.{header_at}
+use Rattle.text_ops.specs.text_forms.declared.forms.Form.{Form}
+use Rattle.text_ops.specs.text_forms.declared.forms.Form.TheVariants as form
+use Rattle.heap_meaning.specs.heap_places.declared.value.Value as code
+use Rattle.heap_meaning.specs.heap_places.declared.value.Value.TheVariants as held
+use Rattle.text_ops.specs.text_forms.Forms.{element_of}
+use Rattle.text_ops.specs.ps_meaning.Operators.{is_int}
+use Rattle.text_ops.specs.ps_meaning.Objects.{Heap, object_at, type_in}
+use Rattle.text_ops.specs.ps_meaning.Values.{Value, Text, Nil, Pointer, Vector, Procedure}
 use Rattle.heap_meaning.specs.Paired.{paired}
 use Rattle.heap_meaning.specs.Denoting.{IsFor}
 use Rattle.paired_ops.specs.World.{alone}

@@ -1,18 +1,18 @@
 -- The area as the meaning sees it: a heap under a row of names. All its objects are in the area, whatever else the outside holds.
-use Rattle.std.specs.Prelude.{◌≡◌, ℕ, ◌+◌, ◌*◌, ◌<◌, ◌≤◌, List, Option, Some, Result, Ok, Err}
-use Rattle.obj_layout.specs.declared.reference.Reference as reference
-use Rattle.swizzle.specs.Heap as area
-use Rattle.swizzle.specs.Heap.{top_of}
-use Rattle.swizzle.specs.Joint.{Shown, Joint}
-use Rattle.swizzle.specs.declared.fault.SwizzleFault.{SwizzleFault}
-use Rattle.swizzle.specs.declared.fault.SwizzleFault.TheVariants.{AreaFull}
-use Rattle.heap_texts.specs.declared.fault.OpFault.{OpFault}
-use Rattle.heap_texts.specs.declared.fault.OpFault.TheVariants as op
-use Rattle.proc_values.specs.Loaded.{CodeStays}
-use Rattle.ps_meaning.specs.Values.{Value, Text}
-use Rattle.ps_meaning.specs.Texts.{Attempt, Yields, Fails}
-use Rattle.ps_meaning.specs.Objects.{Heap, Object, with_new, new_number}
-use Rattle.ps_meaning.specs.Weights.{own_weight, text_weight}
+use Rattle.std.specs.Prelude.{◌≡◌, ◌⊎◌, ℕ, ◌+◌, ◌-◌, ◌*◌, ◌^◌, ◌<◌, ◌≤◌, List, Option, Some, Result, Ok, Err}
+use Rattle.text_ops.specs.obj_layout.declared.reference.Reference as reference
+use Rattle.text_ops.specs.swizzle.Heap as area
+use Rattle.text_ops.specs.swizzle.Heap.{top_of}
+use Rattle.text_ops.specs.swizzle.Joint.{Shown, Joint}
+use Rattle.text_ops.specs.swizzle.declared.fault.SwizzleFault.{SwizzleFault}
+use Rattle.text_ops.specs.swizzle.declared.fault.SwizzleFault.TheVariants.{AreaFull}
+use Rattle.text_ops.specs.heap_texts.declared.fault.OpFault.{OpFault}
+use Rattle.text_ops.specs.heap_texts.declared.fault.OpFault.TheVariants as op
+use Rattle.heap_meaning.specs.proc_values.Loaded.{CodeStays}
+use Rattle.text_ops.specs.ps_meaning.Values.{Value, Text}
+use Rattle.text_ops.specs.ps_meaning.Texts.{Attempt, Yields, Fails}
+use Rattle.text_ops.specs.ps_meaning.Objects.{Heap, Object, with_new, new_number}
+use Rattle.text_ops.specs.ps_meaning.Weights.{own_weight, text_weight}
 use Rattle.heap_meaning.specs.Paired.{paired, StandsRow}
 use Rattle.heap_meaning.specs.Denoting.{DenotesValue, DenotesScope}
 
@@ -32,6 +32,10 @@ DenotesIn here names to v = DenotesValue here (alone here) (paired names) to v
 abbrev pub DenotesScopeIn : area.Heap → List reference.Reference → Option ℕ → Option ℕ → Type 0
 DenotesScopeIn here names to scope = DenotesScope here (alone here) (paired names) to scope
 
+-- An object of so many bytes has so many words; where they are more than the greatest number of 32 bits, that one stands for them.
+abbrev pub AreWords : ℕ → ℕ → Type 0
+AreWords wanted weight = (8 * wanted ≡ weight) ⊎ ((wanted ≡ 2 ^ 32 - 1) × (8 * wanted ≤ weight))
+
 module _ (old new : area.Heap) where
   -- What denoted a value or a scope denotes it still, code stays where it is, and the objects made have so many bytes.
   pub record Carries (names more : List reference.Reference) (weight : ℕ) : Type 0 where
@@ -46,12 +50,12 @@ module _ (old new : area.Heap) where
     pub world : IsWorld new of names
     pub carries : Carries names names 0
 
-  -- there was no room for an object of so many bytes, and the area stays
+  -- there was no room for an object of so many bytes, with the words that it has, and the area stays
   pub record IsShort (weight : ℕ) (fault : SwizzleFault) : Type 0 where
     pub wanted : ℕ
     pub fault_is : fault ≡ AreaFull (top_of old) wanted old.size
     pub full : old.size < top_of old + wanted
-    pub words : 8 * wanted ≤ weight
+    pub words : AreWords wanted weight
     pub stays : new ≡ old
 
   -- An operation that reads: it gives what stands for what the meaning's yields, or ends in its trap.

@@ -2,20 +2,20 @@
 ghost use Rattle.std.specs.Prelude.{ℕ, List, IfOk, OnOk};
 ghost use Rattle.ps_base.specs.CodeUnit.{ConstantsView, unit, unit_view};
 ghost use Rattle.ps_base.specs.declared.code_unit.Frame.{Frame};
-ghost use Rattle.obj_layout.specs.declared.reference.Reference.{Reference};
-ghost use Rattle.swizzle.specs.Heap.{IsHeld};
-ghost use Rattle.swizzle.specs.Reading.{LeavesOutside};
-ghost use Rattle.proc_values.specs.Loaded.{IsUnit};
-ghost use Rattle.ps_meaning.specs.Objects as meaning;
+ghost use Rattle.text_ops.specs.obj_layout.declared.reference.Reference.{Reference};
+ghost use Rattle.text_ops.specs.swizzle.Heap.{IsHeld};
+ghost use Rattle.text_ops.specs.swizzle.Reading.{LeavesOutside};
+ghost use Rattle.heap_meaning.specs.proc_values.Loaded.{IsUnit};
+ghost use Rattle.text_ops.specs.ps_meaning.Objects as meaning;
 ghost use Rattle.paired_ops.specs.World.{IsWorld, Stands};
 ghost use Rattle.paired_ops.specs.Code.{LoadsUnit, AnswersConstant};
 
-use obj_layout::vault::Vault;
-use proc_values::load::load_unit;
-use proc_values::reading;
+use heap_meaning::proc_values::load::load_unit;
+use heap_meaning::proc_values::reading;
 use ps_base::code_unit::CodeUnit;
-use swizzle::fault::SwizzleFault;
-use swizzle::swizzle::Swizzle;
+use text_ops::obj_layout::vault::Vault;
+use text_ops::swizzle::fault::SwizzleFault;
+use text_ops::swizzle::swizzle::Swizzle;
 
 /// Makes the objects of a unit, those of its constants first, and answers its code object. AreaFull exactly where there is no room for all of
 /// them; those before the one that didn't fit stay until `reset`.

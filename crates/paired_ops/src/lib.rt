@@ -8,5 +8,7 @@ pub mod texts;
 pub mod values;
 pub mod vectors;
 
-pub use heap_places::value::Value;
-pub use heap_texts::fault::OpFault;
+pub use heap_meaning::heap_places::value::Value;
+pub use heap_meaning::{heap_ops, heap_places, proc_values};
+pub use text_ops::heap_texts::fault::OpFault;
+pub use text_ops::{heap_texts, obj_layout, swizzle, text_forms};

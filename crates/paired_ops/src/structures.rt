@@ -1,27 +1,27 @@
 //! The operators on structures.
 ghost use Rattle.std.specs.Prelude.{◌≡◌, ℕ, List, IfSome, Some};
-ghost use Rattle.obj_layout.specs.declared.reference.Reference.{Reference};
-ghost use Rattle.swizzle.specs.Heap.{IsHeld, Stands as AllStand, header_at};
-ghost use Rattle.swizzle.specs.Reading.{LeavesOutside};
-ghost use Rattle.swizzle.specs.Text.{text_at};
-ghost use Rattle.text_forms.specs.Forms.{forms_of, located_in};
-ghost use Rattle.heap_places.specs.Places.{IsNear};
-ghost use Rattle.heap_places.specs.Filling.{AreNear};
-ghost use Rattle.heap_ops.specs.Outcomes.{UnlessFault};
-ghost use Rattle.heap_ops.specs.Structures.{IsNamed};
-ghost use Rattle.ps_meaning.specs.Objects as meaning;
-ghost use Rattle.ps_meaning.specs.Texts.{Yields};
-ghost use Rattle.ps_meaning.specs.Values as meant;
+ghost use Rattle.text_ops.specs.obj_layout.declared.reference.Reference.{Reference};
+ghost use Rattle.text_ops.specs.swizzle.Heap.{IsHeld, Stands as AllStand, header_at};
+ghost use Rattle.text_ops.specs.swizzle.Reading.{LeavesOutside};
+ghost use Rattle.text_ops.specs.swizzle.Text.{text_at};
+ghost use Rattle.text_ops.specs.text_forms.Forms.{forms_of, located_in};
+ghost use Rattle.heap_meaning.specs.heap_places.Places.{IsNear};
+ghost use Rattle.heap_meaning.specs.heap_places.Filling.{AreNear};
+ghost use Rattle.heap_meaning.specs.heap_ops.Outcomes.{UnlessFault};
+ghost use Rattle.heap_meaning.specs.heap_ops.Structures.{IsNamed};
+ghost use Rattle.text_ops.specs.ps_meaning.Objects as meaning;
+ghost use Rattle.text_ops.specs.ps_meaning.Texts.{Yields};
+ghost use Rattle.text_ops.specs.ps_meaning.Values as meant;
 ghost use Rattle.paired_ops.specs.World.{IsWorld, DenotesIn, Answers, Writes, Makes};
 ghost use Rattle.paired_ops.specs.Operands.{IsForIn, IsOfForm, AreForIn};
 
-use heap_ops::structures;
-use heap_places::value::Value;
-use heap_texts::fault::OpFault;
-use obj_layout::kind::Kind;
-use obj_layout::vault::Vault;
-use swizzle::swizzle::Swizzle;
-use text_forms::forms::Located;
+use heap_meaning::heap_ops::structures;
+use heap_meaning::heap_places::value::Value;
+use text_ops::heap_texts::fault::OpFault;
+use text_ops::obj_layout::kind::Kind;
+use text_ops::obj_layout::vault::Vault;
+use text_ops::swizzle::swizzle::Swizzle;
+use text_ops::text_forms::forms::Located;
 
 /// Makes a structure of a class, which is a text, with the values of its fields in their order. AreaFull exactly where there is no room for its
 /// words; then the area stays.

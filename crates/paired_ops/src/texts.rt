@@ -1,20 +1,20 @@
 //! The operators on strings, over texts of the area.
 ghost use Rattle.std.specs.Prelude.{◌≡◌, ◌<◌, ◌^◌, List, length, ℕ, Some};
 ghost use Rattle.std.specs.Fmt.{signed_decimal};
-ghost use Rattle.obj_layout.specs.declared.reference.Reference.{Reference};
-ghost use Rattle.swizzle.specs.Heap.{IsHeld, header_at};
-ghost use Rattle.ps_meaning.specs.Objects as meaning;
-ghost use Rattle.ps_meaning.specs.Texts.{Yields, join_of, part_of, order_of};
-ghost use Rattle.ps_meaning.specs.Values as meant;
+ghost use Rattle.text_ops.specs.obj_layout.declared.reference.Reference.{Reference};
+ghost use Rattle.text_ops.specs.swizzle.Heap.{IsHeld, header_at};
+ghost use Rattle.text_ops.specs.ps_meaning.Objects as meaning;
+ghost use Rattle.text_ops.specs.ps_meaning.Texts.{Yields, join_of, part_of, order_of};
+ghost use Rattle.text_ops.specs.ps_meaning.Values as meant;
 ghost use Rattle.paired_ops.specs.World.{IsWorld, DenotesIn, MakesText};
 
-use heap_texts::fault::OpFault;
-use obj_layout::kind::Kind;
 use std::cmp::Ordering;
-use swizzle::swizzle::Swizzle;
+use text_ops::heap_texts::fault::OpFault;
+use text_ops::obj_layout::kind::Kind;
 use text_ops::operators;
+use text_ops::swizzle::swizzle::Swizzle;
 
-/// One text behind the other, as a new text. TooLong where together they have more than 65,535 bytes, else AreaFull where there is no room for
+/// One text after the other, as a new text. TooLong where together they have more than 65,535 bytes, else AreaFull where there is no room for
 /// it; then the area stays.
 #[inline]
 pub fn join(sw: &mut Swizzle, a: u32, b: u32) -> Result<u32, OpFault>
@@ -74,7 +74,7 @@ pub fn length(sw: &Swizzle, text: u32) -> u32
     bytes(sw, text).len() as u32
 }
 
-/// How two texts compare: byte by byte, the first difference decides, and a proper front is less.
+/// How two texts compare: byte by byte, the first difference decides, and a proper prefix is less.
 #[inline]
 pub fn compare(sw: &Swizzle, a: u32, b: u32) -> Ordering
     requires a_held { IsHeld sw.now a }

@@ -1,15 +1,15 @@
 //! What an object of the area, or none, denotes.
 ghost use Rattle.std.specs.Prelude.{◌≡◌, List, IfSome};
-ghost use Rattle.obj_layout.specs.declared.reference.Reference.{Reference};
-ghost use Rattle.swizzle.specs.Heap.{IsHeld};
-ghost use Rattle.ps_meaning.specs.Objects.{is_one_object};
-ghost use Rattle.ps_meaning.specs.Objects as meaning;
-ghost use Rattle.ps_meaning.specs.Values as meant;
+ghost use Rattle.text_ops.specs.obj_layout.declared.reference.Reference.{Reference};
+ghost use Rattle.text_ops.specs.swizzle.Heap.{IsHeld};
+ghost use Rattle.text_ops.specs.ps_meaning.Objects.{is_one_object};
+ghost use Rattle.text_ops.specs.ps_meaning.Objects as meaning;
+ghost use Rattle.text_ops.specs.ps_meaning.Values as meant;
 ghost use Rattle.paired_ops.specs.World.{IsWorld, DenotesIn};
 ghost use Rattle.paired_ops.specs.Operands.{IsOfSort, IsSorted, IsByObject};
 
-use obj_layout::kind::Kind;
-use swizzle::swizzle::Swizzle;
+use text_ops::obj_layout::kind::Kind;
+use text_ops::swizzle::swizzle::Swizzle;
 
 /// What an object is, or none.
 #[derive(Clone, Copy, PartialEq, Eq, Debug)]

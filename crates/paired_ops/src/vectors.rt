@@ -1,25 +1,25 @@
 //! The operators on vectors.
 ghost use Rattle.std.specs.Prelude.{◌≡◌, ℕ, List, length, replicate, Some};
-ghost use Rattle.obj_layout.specs.declared.reference.Reference.{Reference};
-ghost use Rattle.swizzle.specs.Heap.{IsHeld, Stands as AllStand};
-ghost use Rattle.swizzle.specs.Reading.{LeavesOutside};
-ghost use Rattle.text_forms.specs.Forms.{element_of};
-ghost use Rattle.heap_places.specs.Places.{IsNear};
-ghost use Rattle.heap_places.specs.Filling.{AreNear};
-ghost use Rattle.heap_ops.specs.Outcomes.{UnlessFault};
-ghost use Rattle.ps_meaning.specs.Objects as meaning;
-ghost use Rattle.ps_meaning.specs.Texts.{Yields};
-ghost use Rattle.ps_meaning.specs.Values as meant;
+ghost use Rattle.text_ops.specs.obj_layout.declared.reference.Reference.{Reference};
+ghost use Rattle.text_ops.specs.swizzle.Heap.{IsHeld, Stands as AllStand};
+ghost use Rattle.text_ops.specs.swizzle.Reading.{LeavesOutside};
+ghost use Rattle.text_ops.specs.text_forms.Forms.{element_of};
+ghost use Rattle.heap_meaning.specs.heap_places.Places.{IsNear};
+ghost use Rattle.heap_meaning.specs.heap_places.Filling.{AreNear};
+ghost use Rattle.heap_meaning.specs.heap_ops.Outcomes.{UnlessFault};
+ghost use Rattle.text_ops.specs.ps_meaning.Objects as meaning;
+ghost use Rattle.text_ops.specs.ps_meaning.Texts.{Yields};
+ghost use Rattle.text_ops.specs.ps_meaning.Values as meant;
 ghost use Rattle.paired_ops.specs.World.{IsWorld, DenotesIn, Answers, Writes, Makes};
 ghost use Rattle.paired_ops.specs.Operands.{IsForIn, IsOfForm, AreForIn, form_in};
 
-use heap_ops::vectors;
-use heap_places::texts::first_text;
-use heap_places::value::Value;
-use heap_texts::fault::OpFault;
-use obj_layout::vault::Vault;
-use swizzle::swizzle::Swizzle;
-use text_forms::forms::{Form, element_form};
+use heap_meaning::heap_ops::vectors;
+use heap_meaning::heap_places::texts::first_text;
+use heap_meaning::heap_places::value::Value;
+use text_ops::heap_texts::fault::OpFault;
+use text_ops::obj_layout::vault::Vault;
+use text_ops::swizzle::swizzle::Swizzle;
+use text_ops::text_forms::forms::{Form, element_form};
 
 /// Makes a vector of a type, which is a text, whose elements from `low` to `high` all are `fill`. Trap Bounds exactly where `high` is below
 /// `low` or there would be more than 1,048,576 elements. AreaFull exactly where there is no room for its words; then the area stays.

@@ -3,15 +3,15 @@ use Rattle.std.proofs.Common.{arith, ◌≡◌, ℕ, zero, suc, ◌/◌, ◌%◌
 use Rattle.std.specs.Prelude.{Ok}
 use Rattle.ps_base.specs.CodeUnit.{UnitView, unit, ConstantView, text, literal, ConstantsView, no_constants, constant_then}
 use Rattle.ps_base.specs.declared.code_unit.Frame.{Frame}
-use Rattle.obj_layout.specs.declared.kind.Kind.{Kind}
-use Rattle.obj_layout.specs.declared.kind.Kind.TheVariants as kind
-use Rattle.swizzle.specs.Objects.{HasRoomForBytes}
-use Rattle.swizzle.specs.Heap.{Heap, IsHeap, IsHeld, header_at, object_at, num_at}
-use Rattle.swizzle.proofs.ObjectLaws.{split}
-use Rattle.swizzle.proofs.KeptLaws.{held_is}
-use Rattle.proc_values.specs.Units.{frame_word}
-use Rattle.proc_values.specs.Loaded.{IsUnit, IsConstant, IsFitUnit, AreFitConstants, IsFitConstant, constant_numbered}
-use Rattle.proc_values.proofs.StayLaws.{frame-nums, frame-refs, frame-num_params, frame-ref_params}
+use Rattle.paired_ops.specs.obj_layout.declared.kind.Kind.{Kind}
+use Rattle.paired_ops.specs.obj_layout.declared.kind.Kind.TheVariants as kind
+use Rattle.paired_ops.specs.swizzle.Objects.{HasRoomForBytes}
+use Rattle.paired_ops.specs.swizzle.Heap.{Heap, IsHeap, IsHeld, header_at, object_at, num_at}
+use Rattle.paired_ops.proofs.of_swizzle.ObjectLaws.{split}
+use Rattle.paired_ops.proofs.of_swizzle.KeptLaws.{held_is}
+use Rattle.paired_ops.specs.proc_values.Units.{frame_word}
+use Rattle.paired_ops.specs.proc_values.Loaded.{IsUnit, IsConstant, IsFitUnit, AreFitConstants, IsFitConstant, constant_numbered}
+use Rattle.paired_ops.proofs.of_proc_values.StayLaws.{frame-nums, frame-refs, frame-num_params, frame-ref_params}
 use Rattle.paired_ops.specs.Code.{DenotesConstant, AnswersConstant}
 use Rattle.paired_procedures.specs.Units.{AnswersLiteral, AnswersText}
 

@@ -1,41 +1,41 @@
 -- What is kept under the names of scopes: read, and written.
 use Rattle.std.proofs.Common.{ℤ, inl, inr, ◌≡◌, ℕ, ◌+◌, List, [], ◌∷◌, length, get_or, set, refl, sym, ap, ◌∙◌, subst, Bool, true, false, Option, Some, None, nat_eq, if◌then◌else◌}
 use Rattle.std.specs.Prelude.{Result, Ok, Err, OnOk}
-use Rattle.ps_outside.specs.Outside.{Outside}
-use Rattle.obj_layout.specs.Kind.{kind_number}
-use Rattle.obj_layout.specs.Stored.{Space, damage}
-use Rattle.obj_layout.specs.declared.kind.Kind.{Kind}
-use Rattle.obj_layout.specs.declared.kind.Kind.TheVariants as kind
-use Rattle.obj_layout.specs.declared.reference.Reference as reference
-use Rattle.obj_layout.specs.declared.reference.Reference.TheVariants as name
-use Rattle.swizzle.specs.declared.fault.SwizzleFault.{SwizzleFault}
-use Rattle.swizzle.specs.Heap as area
-use Rattle.swizzle.specs.Heap.{IsHeap, IsHeld, header_at, reference_to, Stands as AllStand}
-use Rattle.swizzle.specs.Joint.{Shown, shown_at, name_at}
-use Rattle.swizzle.specs.Touch.{Keeps}
-use Rattle.swizzle.specs.Reading.{joint, LeavesOutside}
-use Rattle.text_forms.specs.declared.forms.Form.{Form}
-use Rattle.text_forms.specs.declared.forms.Form.TheVariants as form
-use Rattle.text_forms.specs.declared.forms.Located.{Located}
-use Rattle.text_forms.specs.Forms.{forms_of, form_in, before_in, rows_of, located_in, located_as}
-use Rattle.heap_places.specs.Shapes.{IsText, slot_of, word_in}
-use Rattle.heap_places.specs.Words.{flag_in, flag_word, word_damage}
-use Rattle.heap_places.proofs.PlaceLaws.{stands_then}
-use Rattle.heap_places.specs.Places.{Holds, NamesDamage, touched_by, fit_damage}
-use Rattle.heap_places.specs.declared.value.Value as code
-use Rattle.heap_places.specs.declared.value.Value.TheVariants as held
-use Rattle.heap_ops.specs.Vectors.{fitted}
+use Rattle.paired_ops.specs.ps_outside.Outside.{Outside}
+use Rattle.paired_ops.specs.obj_layout.Kind.{kind_number}
+use Rattle.paired_ops.specs.obj_layout.Stored.{Space, damage}
+use Rattle.paired_ops.specs.obj_layout.declared.kind.Kind.{Kind}
+use Rattle.paired_ops.specs.obj_layout.declared.kind.Kind.TheVariants as kind
+use Rattle.paired_ops.specs.obj_layout.declared.reference.Reference as reference
+use Rattle.paired_ops.specs.obj_layout.declared.reference.Reference.TheVariants as name
+use Rattle.paired_ops.specs.swizzle.declared.fault.SwizzleFault.{SwizzleFault}
+use Rattle.paired_ops.specs.swizzle.Heap as area
+use Rattle.paired_ops.specs.swizzle.Heap.{IsHeap, IsHeld, header_at, reference_to, Stands as AllStand}
+use Rattle.paired_ops.specs.swizzle.Joint.{Shown, shown_at, name_at}
+use Rattle.paired_ops.specs.swizzle.Touch.{Keeps}
+use Rattle.paired_ops.specs.swizzle.Reading.{joint, LeavesOutside}
+use Rattle.paired_ops.specs.text_forms.declared.forms.Form.{Form}
+use Rattle.paired_ops.specs.text_forms.declared.forms.Form.TheVariants as form
+use Rattle.paired_ops.specs.text_forms.declared.forms.Located.{Located}
+use Rattle.paired_ops.specs.text_forms.Forms.{forms_of, form_in, before_in, rows_of, located_in, located_as}
+use Rattle.scopes.specs.heap_places.Shapes.{IsText, slot_of, word_in}
+use Rattle.scopes.specs.heap_places.Words.{flag_in, flag_word, word_damage}
+use Rattle.scopes.proofs.of_heap_places.PlaceLaws.{stands_then}
+use Rattle.scopes.specs.heap_places.Places.{Holds, NamesDamage, touched_by, fit_damage}
+use Rattle.scopes.specs.heap_places.declared.value.Value as code
+use Rattle.scopes.specs.heap_places.declared.value.Value.TheVariants as held
+use Rattle.scopes.specs.heap_ops.Vectors.{fitted}
 use Rattle.scopes.specs.Names as names_of
 use Rattle.scopes.specs.Names.{kind_damage, damage_by, scope_damage, name_damage, index_of, FailsName, FailsKept, GetsKept, SetsKept}
-use Rattle.ps_meaning.specs.Operators.{is_int}
-use Rattle.ps_meaning.specs.Values.{Value, Num, Flag, Text, Nil, Pointer, Vector, Procedure, Nothing, number_of, is_one}
-use Rattle.ps_meaning.specs.Objects.{Heap, Object, Scope, object_at, with_object, value_at, kept_as}
-use Rattle.ps_meaning.specs.Scopes.{scope_at, scope_out, names_in, name_in, with_name, with_name_in}
-use Rattle.heap_meaning.specs.Standing.{StandsFor, IsScope}
-use Rattle.heap_meaning.specs.Paired.{paired}
-use Rattle.heap_meaning.proofs.StandingLaws.{like-more}
-use Rattle.heap_meaning.proofs.GivenLaws.{IsAt, located-at, shown_with, IsStored}
-use Rattle.heap_meaning.proofs.ScopeLaws.{index_behind, scope-shape, scope-name, scope-read, scope-fits, scope-written}
+use Rattle.paired_ops.specs.ps_meaning.Operators.{is_int}
+use Rattle.paired_ops.specs.ps_meaning.Values.{Value, Num, Flag, Text, Nil, Pointer, Vector, Procedure, Nothing, number_of, is_one}
+use Rattle.paired_ops.specs.ps_meaning.Objects.{Heap, Object, Scope, object_at, with_object, value_at, kept_as}
+use Rattle.paired_ops.specs.ps_meaning.Scopes.{scope_at, scope_out, names_in, name_in, with_name, with_name_in}
+use Rattle.paired_ops.specs.heap_meaning.Standing.{StandsFor, IsScope}
+use Rattle.paired_ops.specs.heap_meaning.Paired.{paired}
+use Rattle.paired_ops.proofs.of_heap_meaning.StandingLaws.{like-more}
+use Rattle.paired_ops.proofs.of_heap_meaning.GivenLaws.{IsAt, located-at, shown_with, IsStored}
+use Rattle.paired_ops.proofs.of_heap_meaning.ScopeLaws.{index_behind, scope-shape, scope-name, scope-read, scope-fits, scope-written}
 use Rattle.paired_ops.specs.World.{IsWorld, alone, Stands}
 use Rattle.paired_ops.specs.Operands.{IsForIn, IsOfForm}
 use Rattle.paired_ops.proofs.WorldLaws.{keeps-passes, reads-stands}
@@ -195,12 +195,12 @@ module _ (mid : area.Heap) (before : Outside Space) (of : Heap) (names : List re
       absurd (no-damage mid at (kind_damage (shown_at mid at)) fault
       (ap (λ (k : Kind). if nat_eq (kind_number k) 4 then None else damage (kind_number k) 4) s.is.kind_is) d)
   not-found new after fault now (inr (inl t)) =
-      absurd (elim t.1 [ inl none ↦ no-text mid new at s.text fault now first-text none | inr touch ↦ no-touch mid before at 0 fault h text-known touch ])
+      absurd (elim t.1 [ inl none ↦ no-text mid new before after at s.text fault now first-text none | inr touch ↦ no-touch mid before at 0 fault h text-known touch ])
   not-found new after fault now (inr (inr y)) =
-      let same = text-same new after y.2.0 now y.1 y.2.1 in
+      let same = text-same new after y.3.0 now y.1 y.3.1 in
       cases (form_in (forms_of s.text) which) refl
       (subst (λ (t : List ℕ). NamesDamage mid at (damage_by (shown_at mid at) which (length (forms_of t)) (located_as (forms_of t) which (form_in (forms_of t) which))) fault)
-      (sym same) y.2.2)
+      (sym same) y.3.2)
     where
       cases : (f : Option Form) → form_in (forms_of s.text) which ≡ f
           → NamesDamage mid at (damage_by (shown_at mid at) which (length (forms_of s.text)) (located_as (forms_of s.text) which f)) fault

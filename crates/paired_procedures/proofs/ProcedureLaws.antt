@@ -3,33 +3,33 @@ use Rattle.std.proofs.Common.{arith, inl, inr, ◌≡◌, ℕ, zero, suc, ◌*�
 use Rattle.std.specs.Prelude.{Result, Ok, Err, IfOk, MatchResult}
 use Rattle.ps_base.specs.CodeUnit as units
 use Rattle.ps_base.specs.CodeUnit.{UnitView}
-use Rattle.ps_outside.specs.Outside.{Outside}
-use Rattle.obj_layout.specs.Stored.{Space}
-use Rattle.obj_layout.specs.declared.kind.Kind.TheVariants as kind
-use Rattle.obj_layout.specs.declared.reference.Reference as reference
-use Rattle.obj_layout.specs.declared.reference.Reference.TheVariants as name
-use Rattle.swizzle.specs.declared.fault.SwizzleFault.{SwizzleFault}
-use Rattle.swizzle.specs.Objects as area_objects
-use Rattle.swizzle.specs.Objects.{size_of}
-use Rattle.swizzle.specs.Heap as area
-use Rattle.swizzle.specs.Heap.{IsHeap, IsHeld, IsInside, IsMade, IsFull, header_at, top_of, reference_to}
-use Rattle.swizzle.specs.Joint.{Shown, shown, shown_at, name_at, name_by, name_of}
-use Rattle.swizzle.specs.Changes.{ChangedAt}
-use Rattle.swizzle.specs.Touch.{Denotes, Keeps}
-use Rattle.swizzle.specs.Reading.{LeavesOutside}
-use Rattle.swizzle.proofs.NameLaws.{name-none, name-not_nil}
-use Rattle.swizzle.proofs.JointLaws.{joint-made}
-use Rattle.swizzle.proofs.MadeLaws.{made-held, made-object}
-use Rattle.heap_places.specs.Shapes.{slot_of}
-use Rattle.proc_values.specs.Loaded.{IsUnit, IsFitUnit}
-use Rattle.closures.specs.Closures.{closure_of, closure_damage, IsOther, TellsCode, TellsScope}
-use Rattle.ps_meaning.specs.Objects.{Heap}
-use Rattle.ps_meaning.specs.Weights.{closure_weight}
-use Rattle.heap_meaning.specs.Standing.{StandsForScope, IsClosure}
-use Rattle.heap_meaning.specs.Units.{IsUnitSeen}
-use Rattle.heap_meaning.specs.Paired.{paired}
-use Rattle.heap_meaning.proofs.StandingLaws.{unit-more, scope-more, closure-more}
-use Rattle.heap_meaning.proofs.PlaceLaws.{shape}
+use Rattle.paired_ops.specs.ps_outside.Outside.{Outside}
+use Rattle.paired_ops.specs.obj_layout.Stored.{Space}
+use Rattle.paired_ops.specs.obj_layout.declared.kind.Kind.TheVariants as kind
+use Rattle.paired_ops.specs.obj_layout.declared.reference.Reference as reference
+use Rattle.paired_ops.specs.obj_layout.declared.reference.Reference.TheVariants as name
+use Rattle.paired_ops.specs.swizzle.declared.fault.SwizzleFault.{SwizzleFault}
+use Rattle.paired_ops.specs.swizzle.Objects as area_objects
+use Rattle.paired_ops.specs.swizzle.Objects.{size_of}
+use Rattle.paired_ops.specs.swizzle.Heap as area
+use Rattle.paired_ops.specs.swizzle.Heap.{IsHeap, IsHeld, IsInside, IsMade, IsFull, header_at, top_of, reference_to}
+use Rattle.paired_ops.specs.swizzle.Joint.{Shown, shown, shown_at, name_at, name_by, name_of}
+use Rattle.paired_ops.specs.swizzle.Changes.{ChangedAt}
+use Rattle.paired_ops.specs.swizzle.Touch.{Denotes, Keeps}
+use Rattle.paired_ops.specs.swizzle.Reading.{LeavesOutside}
+use Rattle.paired_ops.proofs.of_swizzle.NameLaws.{name-none, name-not_nil}
+use Rattle.paired_ops.proofs.of_swizzle.JointLaws.{joint-made}
+use Rattle.paired_ops.proofs.of_swizzle.MadeLaws.{made-held, made-object}
+use Rattle.scopes.specs.heap_places.Shapes.{slot_of}
+use Rattle.paired_ops.specs.proc_values.Loaded.{IsUnit, IsFitUnit}
+use Rattle.scopes.specs.closures.Closures.{closure_of, closure_damage, IsOther, TellsCode, TellsScope}
+use Rattle.paired_ops.specs.ps_meaning.Objects.{Heap}
+use Rattle.paired_ops.specs.ps_meaning.Weights.{closure_weight}
+use Rattle.paired_ops.specs.heap_meaning.Standing.{StandsForScope, IsClosure}
+use Rattle.paired_ops.specs.heap_meaning.Units.{IsUnitSeen}
+use Rattle.paired_ops.specs.heap_meaning.Paired.{paired}
+use Rattle.paired_ops.proofs.of_heap_meaning.StandingLaws.{unit-more, scope-more, closure-more}
+use Rattle.paired_ops.proofs.of_heap_meaning.PlaceLaws.{shape}
 use Rattle.paired_ops.specs.World.{IsWorld, alone, DenotesScopeIn}
 use Rattle.paired_ops.proofs.WorldLaws.{seen-is, keeps-within, keeps-passes, keeps-carries, keeps-world, reads-stands}
 use Rattle.paired_ops.proofs.ValueLaws.{nil-unseen, ProcedureAt}
@@ -118,7 +118,7 @@ pub makes-procedure : (old new : area.Heap) (of : Heap) (names : List reference.
     → MatchResult result (λ at. IsMade old new at (closure_of code scope)) (λ fault. IsFull old new 7 fault) → MakesProcedure old new of names u within result
 makes-procedure old new of names code scope u within (Ok at) h w held there is fit d m = new-procedure old new of names code at scope u within h w held there is fit d m
 makes-procedure old new of names code scope u within (Err fault) h w held there is fit d full =
-    record { wanted = 7; fault_is = full.fault_is; full = full.full; words = omega arith; stays = full.stays }
+    record { wanted = 7; fault_is = full.fault_is; full = full.full; words = inl refl; stays = full.stays }
 
 -- A closure that is read.
 
@@ -162,12 +162,12 @@ module _ (old new : area.Heap) (before after : Outside Space) (of : Heap) (names
   kind-there : (n : reference.Reference) (it : Shown) (other : ℕ) → Keeps old new → alone old n it → Denotes new (Some other) n → it.kind ≡ (header_at new other).kind
   kind-there n it other keeps s d = ap (λ (x : Shown). x.kind) (seen-is new other n it now d.0 d.1 (keeps-within old new keeps n it s))
 
-  no-other_code : (fault : SwizzleFault) → IsOther old new at 0 kind.Code fault → ⊥
+  no-other_code : (fault : SwizzleFault) → IsOther old new before after at 0 kind.Code fault → ⊥
   no-other_code fault o =
       let c = code-there (slot_of (shown_at old at) 0) u code-is in
       o.2 (sym (kind-there (slot_of (shown_at old at) 0) c.it o.0 o.3 c.there o.1) ∙ c.kind_is)
 
-  no-other_scope : (fault : SwizzleFault) → IsOther old new at 1 kind.Scope fault → ⊥
+  no-other_scope : (fault : SwizzleFault) → IsOther old new before after at 1 kind.Scope fault → ⊥
   no-other_scope fault o = cases within scope-is
     where
       cases : (s : Option ℕ) → StandsForScope (alone old) (paired names) (slot_of (shown_at old at) 1) s → ⊥

@@ -3,38 +3,38 @@ use Rattle.std.proofs.Common.{arith, inl, inr, ◌≡◌, ℕ, zero, suc, ◌+�
 use Rattle.std.specs.Prelude.{Result, Ok, Err, IfOk, OnOk}
 use Rattle.std.proofs.lemmas.Bool.{eq-eqb}
 use Rattle.std.proofs.lemmas.List.{length-map}
-use Rattle.ps_outside.specs.Outside.{Outside}
-use Rattle.obj_layout.specs.Kind.{kind_number}
-use Rattle.obj_layout.specs.Stored.{Space, Damage, damage}
-use Rattle.obj_layout.specs.declared.kind.Kind.TheVariants as kind
-use Rattle.obj_layout.specs.declared.reference.Reference as reference
-use Rattle.obj_layout.specs.declared.reference.Reference.TheVariants as name
-use Rattle.swizzle.specs.declared.fault.SwizzleFault.{SwizzleFault}
-use Rattle.swizzle.specs.Objects.{size_of}
-use Rattle.swizzle.specs.Heap as area
-use Rattle.swizzle.specs.Heap.{IsHeap, IsHeld, IsInside, header_at, reference_to}
-use Rattle.swizzle.specs.Joint.{Shown, shown, shown_at, name_at, name_of}
-use Rattle.swizzle.specs.Touch.{Keeps}
-use Rattle.swizzle.specs.Reading.{joint, AreKnown, LeavesOutside}
-use Rattle.swizzle.specs.Text.{text_at}
-use Rattle.swizzle.proofs.NameLaws.{name-not_nil, shown-counts}
-use Rattle.swizzle.proofs.MadeLaws.{made-held}
-use Rattle.text_forms.specs.Forms.{forms_of, rows_of}
-use Rattle.text_forms.proofs.Places.{counted}
-use Rattle.heap_places.specs.Shapes.{IsText, slot_of}
-use Rattle.heap_places.specs.Places.{NamesDamage}
+use Rattle.paired_ops.specs.ps_outside.Outside.{Outside}
+use Rattle.paired_ops.specs.obj_layout.Kind.{kind_number}
+use Rattle.paired_ops.specs.obj_layout.Stored.{Space, Damage, damage}
+use Rattle.paired_ops.specs.obj_layout.declared.kind.Kind.TheVariants as kind
+use Rattle.paired_ops.specs.obj_layout.declared.reference.Reference as reference
+use Rattle.paired_ops.specs.obj_layout.declared.reference.Reference.TheVariants as name
+use Rattle.paired_ops.specs.swizzle.declared.fault.SwizzleFault.{SwizzleFault}
+use Rattle.paired_ops.specs.swizzle.Objects.{size_of}
+use Rattle.paired_ops.specs.swizzle.Heap as area
+use Rattle.paired_ops.specs.swizzle.Heap.{IsHeap, IsHeld, IsInside, header_at, reference_to}
+use Rattle.paired_ops.specs.swizzle.Joint.{Shown, shown, shown_at, name_at, name_of}
+use Rattle.paired_ops.specs.swizzle.Touch.{Keeps}
+use Rattle.paired_ops.specs.swizzle.Reading.{joint, AreKnown, LeavesOutside}
+use Rattle.paired_ops.specs.swizzle.Text.{text_at}
+use Rattle.paired_ops.proofs.of_swizzle.NameLaws.{name-not_nil, shown-counts}
+use Rattle.paired_ops.proofs.of_swizzle.MadeLaws.{made-held}
+use Rattle.paired_ops.specs.text_forms.Forms.{forms_of, rows_of}
+use Rattle.paired_ops.proofs.of_text_forms.Places.{counted}
+use Rattle.scopes.specs.heap_places.Shapes.{IsText, slot_of}
+use Rattle.scopes.specs.heap_places.Places.{NamesDamage}
 use Rattle.scopes.specs.Making as making
 use Rattle.scopes.specs.Making.{scope_object, scope_words}
 use Rattle.scopes.specs.Way.{way_damage, TellsParent, LeadsOver, end_of, GoesOut}
 use Rattle.scopes.proofs.WayLaws.{not-damaged}
-use Rattle.ps_meaning.specs.Values.{Value, Text}
-use Rattle.ps_meaning.specs.Objects.{Heap, Object, Structure, Elements, Scope, object_at}
-use Rattle.ps_meaning.specs.Scopes.{first_value, new_scope, scope_at, parent_in, scope_out}
-use Rattle.ps_meaning.specs.Weights.{own_weight}
-use Rattle.heap_meaning.specs.Standing.{IsKindOf, StandsForScope, IsScope, IsLike}
-use Rattle.heap_meaning.specs.Paired.{paired}
-use Rattle.heap_meaning.proofs.StandingLaws.{scope-more}
-use Rattle.heap_meaning.proofs.ScopeLaws.{scope-parent, first-are}
+use Rattle.paired_ops.specs.ps_meaning.Values.{Value, Text}
+use Rattle.paired_ops.specs.ps_meaning.Objects.{Heap, Object, Structure, Elements, Scope, object_at}
+use Rattle.paired_ops.specs.ps_meaning.Scopes.{first_value, new_scope, scope_at, parent_in, scope_out}
+use Rattle.paired_ops.specs.ps_meaning.Weights.{own_weight}
+use Rattle.paired_ops.specs.heap_meaning.Standing.{IsKindOf, StandsForScope, IsScope, IsLike}
+use Rattle.paired_ops.specs.heap_meaning.Paired.{paired}
+use Rattle.paired_ops.proofs.of_heap_meaning.StandingLaws.{scope-more}
+use Rattle.paired_ops.proofs.of_heap_meaning.ScopeLaws.{scope-parent, first-are}
 use Rattle.paired_ops.specs.World.{IsWorld, alone, DenotesIn, DenotesScopeIn}
 use Rattle.paired_ops.proofs.WorldLaws.{seen-held, alone-one, joint-held, keeps-within, keeps-passes, keeps-world, reads-stands}
 use Rattle.paired_ops.proofs.ValueLaws.{nil-unseen}
@@ -124,7 +124,7 @@ makes-of old new of names text parent bytes round (Err fault) h w held there dt 
   wanted = scope_words (rows_of (forms_of bytes));
   fault_is = full.fault_is;
   full = full.full;
-  words = omega (arith, words-weight bytes round);
+  words = inl (words-weight bytes round);
   stays = full.stays;
 }
 

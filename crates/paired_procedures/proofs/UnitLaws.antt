@@ -2,20 +2,20 @@
 use Rattle.std.proofs.Common.{arith, ◌≡◌, ℕ, ◌*◌, List, [], ◌∷◌, length, take, drop, refl, sym, ap, ◌∙◌, subst, Some}
 use Rattle.ps_base.specs.CodeUnit as units
 use Rattle.ps_base.specs.CodeUnit.{UnitView, ConstantView, ConstantsView}
-use Rattle.obj_area.specs.Words.{bytes_of}
-use Rattle.obj_layout.specs.declared.kind.Kind.{Kind}
-use Rattle.obj_layout.specs.declared.kind.Kind.TheVariants as kind
-use Rattle.obj_layout.specs.declared.reference.Reference as reference
-use Rattle.swizzle.specs.Objects.{words_before}
-use Rattle.swizzle.specs.Heap.{Heap, IsHeap, header_at, object_at}
-use Rattle.swizzle.specs.Joint.{Shown, shown_at, name_at}
-use Rattle.swizzle.specs.Text.{text_at}
-use Rattle.swizzle.specs.Touch.{Denotes}
-use Rattle.swizzle.proofs.NameLaws.{shown-counts, name_at-injective}
-use Rattle.heap_places.specs.Shapes as shapes
-use Rattle.proc_values.specs.Units.{count_of}
-use Rattle.proc_values.specs.Loaded.{IsUnit, AreNamed, IsConstant}
-use Rattle.heap_meaning.specs.Units.{shown_code, IsCodeOf, IsUnitSeen, AreSeen, IsConstantSeen}
+use Rattle.paired_ops.specs.obj_area.Words.{bytes_of}
+use Rattle.paired_ops.specs.obj_layout.declared.kind.Kind.{Kind}
+use Rattle.paired_ops.specs.obj_layout.declared.kind.Kind.TheVariants as kind
+use Rattle.paired_ops.specs.obj_layout.declared.reference.Reference as reference
+use Rattle.paired_ops.specs.swizzle.Objects.{words_before}
+use Rattle.paired_ops.specs.swizzle.Heap.{Heap, IsHeap, header_at, object_at}
+use Rattle.paired_ops.specs.swizzle.Joint.{Shown, shown_at, name_at}
+use Rattle.paired_ops.specs.swizzle.Text.{text_at}
+use Rattle.paired_ops.specs.swizzle.Touch.{Denotes}
+use Rattle.paired_ops.proofs.of_swizzle.NameLaws.{shown-counts, name_at-injective}
+use Rattle.scopes.specs.heap_places.Shapes as shapes
+use Rattle.paired_ops.specs.proc_values.Units.{count_of}
+use Rattle.paired_ops.specs.proc_values.Loaded.{IsUnit, AreNamed, IsConstant}
+use Rattle.paired_ops.specs.heap_meaning.Units.{shown_code, IsCodeOf, IsUnitSeen, AreSeen, IsConstantSeen}
 use Rattle.paired_ops.specs.World.{alone}
 use Rattle.paired_ops.proofs.WorldLaws.{seen-at, seen-held}
 use Rattle.paired_ops.proofs.ValueLaws.{shown-bytes}

@@ -1,14 +1,14 @@
 -- What becomes of the area where procedures are made and taken apart. A procedure has no number in the heap.
 use Rattle.std.specs.Prelude.{ℕ, List, Option, Some, Result, Ok, Err}
 use Rattle.ps_base.specs.CodeUnit.{UnitView}
-use Rattle.obj_layout.specs.declared.reference.Reference as reference
-use Rattle.swizzle.specs.Heap as area
-use Rattle.swizzle.specs.Heap.{IsHeld}
-use Rattle.swizzle.specs.declared.fault.SwizzleFault.{SwizzleFault}
-use Rattle.proc_values.specs.Loaded.{IsUnit, IsFitUnit}
-use Rattle.ps_meaning.specs.Values.{Procedure, as_compiled}
-use Rattle.ps_meaning.specs.Objects.{Heap}
-use Rattle.ps_meaning.specs.Weights.{closure_weight}
+use Rattle.paired_ops.specs.obj_layout.declared.reference.Reference as reference
+use Rattle.paired_ops.specs.swizzle.Heap as area
+use Rattle.paired_ops.specs.swizzle.Heap.{IsHeld}
+use Rattle.paired_ops.specs.swizzle.declared.fault.SwizzleFault.{SwizzleFault}
+use Rattle.paired_ops.specs.proc_values.Loaded.{IsUnit, IsFitUnit}
+use Rattle.paired_ops.specs.ps_meaning.Values.{Procedure, as_compiled}
+use Rattle.paired_ops.specs.ps_meaning.Objects.{Heap}
+use Rattle.paired_ops.specs.ps_meaning.Weights.{closure_weight}
 use Rattle.paired_ops.specs.World.{IsWorld, DenotesIn, DenotesScopeIn, Carries, Stands, IsShort}
 
 module _ (old new : area.Heap) where

@@ -1,21 +1,21 @@
 -- What becomes of the area where scopes are made and left, and their names read and written.
 use Rattle.std.specs.Prelude.{◌≡◌, ℕ, true, List, Option, Some, None, Result, Ok, Err}
-use Rattle.obj_layout.specs.declared.reference.Reference as reference
-use Rattle.obj_layout.specs.declared.vault.VaultFault.TheVariants.{Damaged}
-use Rattle.swizzle.specs.Heap as area
-use Rattle.swizzle.specs.declared.fault.SwizzleFault.{SwizzleFault}
-use Rattle.swizzle.specs.declared.fault.SwizzleFault.TheVariants.{Vault}
-use Rattle.text_forms.specs.declared.forms.Form.{Form}
-use Rattle.text_forms.specs.declared.forms.Form.TheVariants as form
-use Rattle.text_forms.specs.Forms.{forms_of, form_in}
-use Rattle.heap_places.specs.declared.value.Value as code
-use Rattle.heap_places.specs.declared.value.Value.TheVariants as held
-use Rattle.ps_meaning.specs.Operators.{is_int}
-use Rattle.ps_meaning.specs.Values.{Value}
-use Rattle.ps_meaning.specs.Objects.{Heap, Object, Scope, with_new, new_number}
-use Rattle.ps_meaning.specs.Scopes.{scope_at, scope_out}
-use Rattle.ps_meaning.specs.Meaning.{kept_name, with_kept_name}
-use Rattle.ps_meaning.specs.Weights.{own_weight}
+use Rattle.paired_ops.specs.obj_layout.declared.reference.Reference as reference
+use Rattle.paired_ops.specs.obj_layout.declared.vault.VaultFault.TheVariants.{Damaged}
+use Rattle.paired_ops.specs.swizzle.Heap as area
+use Rattle.paired_ops.specs.swizzle.declared.fault.SwizzleFault.{SwizzleFault}
+use Rattle.paired_ops.specs.swizzle.declared.fault.SwizzleFault.TheVariants.{Vault}
+use Rattle.paired_ops.specs.text_forms.declared.forms.Form.{Form}
+use Rattle.paired_ops.specs.text_forms.declared.forms.Form.TheVariants as form
+use Rattle.paired_ops.specs.text_forms.Forms.{forms_of, form_in}
+use Rattle.scopes.specs.heap_places.declared.value.Value as code
+use Rattle.scopes.specs.heap_places.declared.value.Value.TheVariants as held
+use Rattle.paired_ops.specs.ps_meaning.Operators.{is_int}
+use Rattle.paired_ops.specs.ps_meaning.Values.{Value}
+use Rattle.paired_ops.specs.ps_meaning.Objects.{Heap, Object, Scope, with_new, new_number}
+use Rattle.paired_ops.specs.ps_meaning.Scopes.{scope_at, scope_out}
+use Rattle.paired_ops.specs.ps_meaning.Meaning.{kept_name, with_kept_name}
+use Rattle.paired_ops.specs.ps_meaning.Weights.{own_weight}
 use Rattle.paired_ops.specs.World.{IsWorld, DenotesScopeIn, Carries, Stands, IsShort}
 use Rattle.paired_ops.specs.Operands.{IsForIn, IsOfForm}
 

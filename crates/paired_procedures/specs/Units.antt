@@ -1,10 +1,10 @@
 -- Units and texts among the constants of a unit.
 use Rattle.std.specs.Prelude.{◌≡◌, ℕ, List, Option, Some, None}
 use Rattle.ps_base.specs.CodeUnit.{UnitView, ConstantsView, text, literal}
-use Rattle.obj_layout.specs.declared.reference.Reference.{Reference}
-use Rattle.swizzle.specs.Heap as area
-use Rattle.proc_values.specs.Loaded.{IsUnit, IsFitUnit, constant_numbered}
-use Rattle.ps_meaning.specs.Values.{Text}
+use Rattle.paired_ops.specs.obj_layout.declared.reference.Reference.{Reference}
+use Rattle.paired_ops.specs.swizzle.Heap as area
+use Rattle.paired_ops.specs.proc_values.Loaded.{IsUnit, IsFitUnit, constant_numbered}
+use Rattle.paired_ops.specs.ps_meaning.Values.{Text}
 use Rattle.paired_ops.specs.World.{DenotesIn}
 
 -- The constant of this number is a unit, and this is its code object; or it is none, be it a text or be there none.

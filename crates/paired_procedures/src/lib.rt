@@ -5,3 +5,7 @@
 pub mod procedure;
 pub mod scope;
 pub mod unit;
+
+pub use paired_ops;
+pub use paired_ops::{obj_layout, proc_values, swizzle};
+pub use scopes::{heap_ops, heap_places};

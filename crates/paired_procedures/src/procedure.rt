@@ -1,19 +1,19 @@
 //! Procedures as values: made of a unit of code and a scope, and taken apart again.
 ghost use Rattle.std.specs.Prelude.{ℕ, List, Option, IfOk, IfSome, OnOk, Some};
 ghost use Rattle.ps_base.specs.CodeUnit.{UnitView};
-ghost use Rattle.obj_layout.specs.declared.reference.Reference.{Reference};
-ghost use Rattle.proc_values.specs.Loaded.{IsFitUnit, IsUnit};
-ghost use Rattle.swizzle.specs.Heap.{IsHeld, Stands as AllStand};
-ghost use Rattle.swizzle.specs.Reading.{LeavesOutside};
-ghost use Rattle.ps_meaning.specs.Objects as meaning;
-ghost use Rattle.ps_meaning.specs.Values as meant;
+ghost use Rattle.paired_ops.specs.obj_layout.declared.reference.Reference.{Reference};
+ghost use Rattle.paired_ops.specs.proc_values.Loaded.{IsFitUnit, IsUnit};
+ghost use Rattle.paired_ops.specs.swizzle.Heap.{IsHeld, Stands as AllStand};
+ghost use Rattle.paired_ops.specs.swizzle.Reading.{LeavesOutside};
+ghost use Rattle.paired_ops.specs.ps_meaning.Objects as meaning;
+ghost use Rattle.paired_ops.specs.ps_meaning.Values as meant;
 ghost use Rattle.paired_ops.specs.World.{DenotesIn, DenotesScopeIn, IsWorld};
 ghost use Rattle.paired_procedures.specs.Procedures.{AnswersCode, AnswersScope, MakesProcedure};
 
-use closures::closure;
-use obj_layout::vault::Vault;
-use swizzle::fault::SwizzleFault;
-use swizzle::swizzle::Swizzle;
+use paired_ops::obj_layout::vault::Vault;
+use paired_ops::swizzle::fault::SwizzleFault;
+use paired_ops::swizzle::swizzle::Swizzle;
+use scopes::closures::closure;
 
 /// Makes the procedure of a unit whose code object is given, in a scope, or in none. AreaFull exactly where there is no room for its words; then
 /// the area stays.

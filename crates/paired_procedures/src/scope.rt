@@ -1,25 +1,25 @@
 //! Scopes: made, left, and their names read and written.
 ghost use Rattle.std.specs.Prelude.{◌≡◌, ℕ, List, Option, IfOk, IfSome, OnOk, Some};
-ghost use Rattle.obj_layout.specs.declared.reference.Reference.{Reference};
-ghost use Rattle.swizzle.specs.Heap.{IsHeld, Stands as AllStand, header_at};
-ghost use Rattle.swizzle.specs.Reading.{LeavesOutside};
-ghost use Rattle.swizzle.specs.Touch.{Keeps};
-ghost use Rattle.heap_ops.specs.Layouts.{AreSo};
-ghost use Rattle.heap_places.specs.Places.{IsNear};
-ghost use Rattle.ps_meaning.specs.Objects as meaning;
-ghost use Rattle.ps_meaning.specs.Scopes.{new_scope};
-ghost use Rattle.ps_meaning.specs.Values as meant;
+ghost use Rattle.paired_ops.specs.obj_layout.declared.reference.Reference.{Reference};
+ghost use Rattle.paired_ops.specs.swizzle.Heap.{IsHeld, Stands as AllStand, header_at};
+ghost use Rattle.paired_ops.specs.swizzle.Reading.{LeavesOutside};
+ghost use Rattle.paired_ops.specs.swizzle.Touch.{Keeps};
+ghost use Rattle.scopes.specs.heap_ops.Layouts.{AreSo};
+ghost use Rattle.scopes.specs.heap_places.Places.{IsNear};
+ghost use Rattle.paired_ops.specs.ps_meaning.Objects as meaning;
+ghost use Rattle.paired_ops.specs.ps_meaning.Scopes.{new_scope};
+ghost use Rattle.paired_ops.specs.ps_meaning.Values as meant;
 ghost use Rattle.paired_ops.specs.Operands.{IsForIn};
 ghost use Rattle.paired_ops.specs.World.{DenotesIn, DenotesScopeIn, IsWorld};
 ghost use Rattle.paired_procedures.specs.Scopes.{AnswersOut, AnswersParent, IsInt, MakesScope, ReadsKept, WritesKept};
 
-use heap_ops::layouts::Layouts;
-use heap_places::value::Value;
-use obj_layout::kind::Kind;
-use obj_layout::vault::Vault;
+use paired_ops::obj_layout::kind::Kind;
+use paired_ops::obj_layout::vault::Vault;
+use paired_ops::swizzle::fault::SwizzleFault;
+use paired_ops::swizzle::swizzle::Swizzle;
+use scopes::heap_ops::layouts::Layouts;
+use scopes::heap_places::value::Value;
 use scopes::{making, names as kept, way};
-use swizzle::fault::SwizzleFault;
-use swizzle::swizzle::Swizzle;
 
 /// Makes a scope of a text inside another one, or inside none. AreaFull exactly where there is no room for its words; then the area stays.
 #[inline]

@@ -2,19 +2,19 @@
 ghost use Rattle.std.specs.Prelude.{◌≡◌, ◌/◌, ◌%◌, ◌^◌, ℕ, List, IfSome, OnSome};
 ghost use Rattle.ps_base.specs.CodeUnit.{ConstantsView, unit};
 ghost use Rattle.ps_base.specs.declared.code_unit.Frame.{Frame as Numbers};
-ghost use Rattle.obj_layout.specs.declared.reference.Reference.{Reference};
-ghost use Rattle.proc_values.specs.Loaded.{IsFitUnit, IsUnit};
-ghost use Rattle.swizzle.specs.Heap.{IsHeld, header_at};
-ghost use Rattle.swizzle.specs.Reading.{LeavesOutside};
-ghost use Rattle.ps_meaning.specs.Objects as meaning;
+ghost use Rattle.paired_ops.specs.obj_layout.declared.reference.Reference.{Reference};
+ghost use Rattle.paired_ops.specs.proc_values.Loaded.{IsFitUnit, IsUnit};
+ghost use Rattle.paired_ops.specs.swizzle.Heap.{IsHeld, header_at};
+ghost use Rattle.paired_ops.specs.swizzle.Reading.{LeavesOutside};
+ghost use Rattle.paired_ops.specs.ps_meaning.Objects as meaning;
 ghost use Rattle.paired_ops.specs.World.{IsWorld, Stands};
 ghost use Rattle.paired_procedures.specs.Units.{AnswersLiteral, AnswersText};
 
-use obj_layout::kind::Kind;
-use obj_layout::vault::Vault;
 use paired_ops::code::constant;
+use paired_ops::obj_layout::kind::Kind;
+use paired_ops::obj_layout::vault::Vault;
+use paired_ops::swizzle::swizzle::Swizzle;
 use ps_base::code_unit::Frame;
-use swizzle::swizzle::Swizzle;
 
 /// The frame of a unit whose code object is given.
 #[inline]

@@ -1,10 +1,10 @@
 //! What a program is printed as.
 
 use anyhow::{Result, bail};
+use parsed_texts::{TextFault, tree_of};
 use ps_print::print::print;
 use std::alloc::Global;
 use std::fmt::Write;
-use text_trees::{TextFault, tree_of};
 
 fn printed(alloc: Global, text: &[u8]) -> Result<Vec<u8>> {
     match tree_of(alloc, text) {

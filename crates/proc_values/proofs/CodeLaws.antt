@@ -3,19 +3,19 @@ use Rattle.std.proofs.Common.{◌≡◌, ℕ, suc, ◌+◌, ◌<◌, ◌≤◌, 
 use Rattle.ps_base.specs.CodeUnit.{ConstantsView, constants_view}
 use Rattle.ps_base.specs.declared.code_unit.Constant.{Constant}
 use Rattle.ps_base.specs.declared.code_unit.Frame.{Frame}
-use Rattle.obj_area.specs.Area.{words_spanned}
-use Rattle.obj_layout.specs.declared.kind.Kind.TheVariants.{Code}
-use Rattle.obj_layout.specs.declared.reference.Reference.{Reference}
-use Rattle.swizzle.specs.declared.fault.SwizzleFault.{SwizzleFault}
-use Rattle.swizzle.specs.Objects.{Object, size_of}
-use Rattle.swizzle.specs.Heap.{Heap, IsHeap, IsHeld, IsMade, IsFull, blank, top_of, object_at, header_at, with_new, with_object, with_num}
-use Rattle.swizzle.specs.Text.{with_bytes_at, with_text}
-use Rattle.swizzle.proofs.JointLaws.{held-top, object-top}
+use Rattle.heap_texts.specs.obj_area.Area.{words_spanned}
+use Rattle.heap_texts.specs.obj_layout.declared.kind.Kind.TheVariants.{Code}
+use Rattle.heap_texts.specs.obj_layout.declared.reference.Reference.{Reference}
+use Rattle.heap_texts.specs.swizzle.declared.fault.SwizzleFault.{SwizzleFault}
+use Rattle.heap_texts.specs.swizzle.Objects.{Object, size_of}
+use Rattle.heap_texts.specs.swizzle.Heap.{Heap, IsHeap, IsHeld, IsMade, IsFull, blank, top_of, object_at, header_at, with_new, with_object, with_num}
+use Rattle.heap_texts.specs.swizzle.Text.{with_bytes_at, with_text}
+use Rattle.heap_texts.proofs.of_swizzle.JointLaws.{held-top, object-top}
 use Rattle.heap_texts.specs.Texts.{wanted_of}
 use Rattle.proc_values.specs.Units.{code_nums, code_object, frame_word, constants_objects, constants_places, constants_words}
 use Rattle.proc_values.specs.inside.Loading.{AreLoaded}
 use Rattle.proc_values.proofs.UnitLaws.{count-view, count-le, length-places, size-constants, size-code}
-use Rattle.swizzle.proofs.MadeLaws.{object-new}
+use Rattle.heap_texts.proofs.of_swizzle.MadeLaws.{object-new}
 use Rattle.proc_values.proofs.LoadLaws.{top-all}
 
 -- What is known where the constants were loaded.

@@ -6,8 +6,8 @@ use Rattle.ps_base.specs.CodeUnit.{literal, constant_view, constants_view, unit_
 use Rattle.ps_base.specs.List.{items_of}
 use Rattle.ps_base.specs.declared.code_unit.CodeUnit.{CodeUnit}
 use Rattle.ps_base.specs.declared.code_unit.Constant.{Constant, Text}
-use Rattle.obj_area.specs.Words.{AreBytes}
-use Rattle.swizzle.specs.declared.fault.SwizzleFault.{SwizzleFault}
+use Rattle.heap_texts.specs.obj_area.Words.{AreBytes}
+use Rattle.heap_texts.specs.swizzle.declared.fault.SwizzleFault.{SwizzleFault}
 use Rattle.proc_values.specs.Loaded.{IsFitFrame, IsFitUnit, AreFitConstants, IsFitConstant}
 use Rattle.proc_values.proofs.UnitLaws.{constants_from, view_text}
 

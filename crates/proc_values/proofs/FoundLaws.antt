@@ -3,12 +3,12 @@ use Rattle.std.proofs.Common.{◌≡◌, ℕ, zero, suc, ◌+◌, List, [], ◌�
 use Rattle.std.proofs.lemmas.List.{append-nil}
 use Rattle.ps_base.specs.CodeUnit.{unit, ConstantView, text, literal, ConstantsView, no_constants, constant_then}
 use Rattle.ps_base.specs.declared.code_unit.Frame.{Frame}
-use Rattle.obj_layout.specs.declared.reference.Reference.{Reference}
-use Rattle.obj_layout.specs.declared.reference.Reference.TheVariants.{Nil, Pid, Local}
-use Rattle.swizzle.specs.Objects.{Object, size_of, size_of_all, find_from}
-use Rattle.swizzle.specs.Heap.{Heap, IsHeld, found, with_new}
-use Rattle.swizzle.proofs.ObjectLaws.{here, elsewhere, size_of_all-append}
-use Rattle.swizzle.proofs.HeapLaws.{held-new}
+use Rattle.heap_texts.specs.obj_layout.declared.reference.Reference.{Reference}
+use Rattle.heap_texts.specs.obj_layout.declared.reference.Reference.TheVariants.{Nil, Pid, Local}
+use Rattle.heap_texts.specs.swizzle.Objects.{Object, size_of, size_of_all, find_from}
+use Rattle.heap_texts.specs.swizzle.Heap.{Heap, IsHeld, found, with_new}
+use Rattle.heap_texts.proofs.of_swizzle.ObjectLaws.{here, elsewhere, size_of_all-append}
+use Rattle.heap_texts.proofs.of_swizzle.HeapLaws.{held-new}
 use Rattle.heap_texts.specs.Texts.{text_object}
 use Rattle.proc_values.specs.Units.{code_object, unit_objects, constants_objects, constant_objects, constants_places, constant_place, constant_words, unit_place}
 use Rattle.proc_values.specs.inside.Loading.{AreLoaded, AreHeld}

@@ -4,14 +4,14 @@ use Rattle.std.proofs.lemmas.Bool.{cases_eq}
 use Rattle.std.proofs.lemmas.List.{append-nil, drop_all, get_or-append-add, set-append_right}
 use Rattle.ps_base.specs.CodeUnit.{ConstantView, ConstantsView, constant_then, constant_view, constants_view}
 use Rattle.ps_base.specs.declared.code_unit.Constant.{Constant}
-use Rattle.obj_layout.specs.declared.reference.Reference.{Reference}
-use Rattle.obj_layout.specs.declared.reference.Reference.TheVariants.{Nil, Local}
-use Rattle.swizzle.specs.Objects.{Object, size_of, find_from, replace_from}
-use Rattle.swizzle.specs.Heap.{Heap, IsHeap, IsHeld, object_at, header_at, with_object, with_ref}
-use Rattle.swizzle.proofs.ObjectLaws.{here, elsewhere, split}
-use Rattle.swizzle.proofs.HeapLaws.{held-replaced, first_is, behind_is}
-use Rattle.swizzle.proofs.KeptLaws.{held_is}
-use Rattle.swizzle.proofs.JointLaws.{object-replaced}
+use Rattle.heap_texts.specs.obj_layout.declared.reference.Reference.{Reference}
+use Rattle.heap_texts.specs.obj_layout.declared.reference.Reference.TheVariants.{Nil, Local}
+use Rattle.heap_texts.specs.swizzle.Objects.{Object, size_of, find_from, replace_from}
+use Rattle.heap_texts.specs.swizzle.Heap.{Heap, IsHeap, IsHeld, object_at, header_at, with_object, with_ref}
+use Rattle.heap_texts.proofs.of_swizzle.ObjectLaws.{here, elsewhere, split}
+use Rattle.heap_texts.proofs.of_swizzle.HeapLaws.{held-replaced, first_is, behind_is}
+use Rattle.heap_texts.proofs.of_swizzle.KeptLaws.{held_is}
+use Rattle.heap_texts.proofs.of_swizzle.JointLaws.{object-replaced}
 use Rattle.proc_values.specs.Units.{constants_places, constant_place, constant_words}
 use Rattle.proc_values.specs.inside.Loading.{AreHeld}
 use Rattle.proc_values.proofs.UnitLaws.{constants_from}

@@ -1,4 +1,4 @@
--- Objects that are made one behind the other.
+-- Objects that are made one after the other.
 use Rattle.std.proofs.Common.{◌≡◌, ℕ, ◌+◌, ◌<◌, ◌≤◌, List, [], ◌∷◌, ◌++◌, length, drop, get_or, refl, sym, ap, ◌∙◌, subst, arith, append_assoc}
 use Rattle.std.specs.Prelude.{Result, Ok, Err}
 use Rattle.std.specs.Result.{IsErrAnd}
@@ -8,11 +8,11 @@ use Rattle.ps_base.specs.CodeUnit.{UnitView, unit, ConstantView, text, literal, 
 use Rattle.ps_base.specs.declared.code_unit.CodeUnit.{CodeUnit}
 use Rattle.ps_base.specs.declared.code_unit.Constant.{Constant, Text}
 use Rattle.ps_base.specs.declared.code_unit.Frame.{Frame}
-use Rattle.swizzle.specs.declared.fault.SwizzleFault.{SwizzleFault}
-use Rattle.swizzle.specs.declared.fault.SwizzleFault.TheVariants.{AreaFull}
-use Rattle.swizzle.specs.Objects.{Object, size_of, size_of_all}
-use Rattle.swizzle.specs.Heap.{Heap, IsFull, top_of}
-use Rattle.swizzle.proofs.ObjectLaws.{size_of_all-append}
+use Rattle.heap_texts.specs.swizzle.declared.fault.SwizzleFault.{SwizzleFault}
+use Rattle.heap_texts.specs.swizzle.declared.fault.SwizzleFault.TheVariants.{AreaFull}
+use Rattle.heap_texts.specs.swizzle.Objects.{Object, size_of, size_of_all}
+use Rattle.heap_texts.specs.swizzle.Heap.{Heap, IsFull, top_of}
+use Rattle.heap_texts.proofs.of_swizzle.ObjectLaws.{size_of_all-append}
 use Rattle.heap_texts.specs.Texts.{MakesText, text_object, wanted_of}
 use Rattle.proc_values.specs.Units.{code_object, constants_objects, constant_objects, constants_places, constant_place, constant_words, unit_objects, unit_place, with_all, IsCut, Loads}
 use Rattle.proc_values.specs.inside.Loading.{SoFar, LoadsConstant, own_object, MakesCode}
@@ -27,7 +27,7 @@ all-then heap os ps = ap (λ (all : List Object). record heap { objects = all })
 pub top-all : (heap : Heap) (os : List Object) → top_of (with_all heap os) ≡ top_of heap + size_of_all os
 top-all heap os = omega (arith, size_of_all-append heap.objects os)
 
--- behind those that were made
+-- after those that were made
 pub made-then : (old mid new : Heap) (os ps : List Object) → mid ≡ with_all old os → new ≡ with_all mid ps → new ≡ with_all old (os ++ ps)
 made-then old mid new os ps e f = f ∙ ap (λ (h : Heap). with_all h ps) e ∙ all-then old os ps
 
@@ -113,7 +113,7 @@ sofar-ended old new all xs i at h s =
     let whole : all ≡ s.done = s.all_is ∙ ap (λ (os : List Object). s.done ++ os) none ∙ append-nil s.done in
     s.made ∙ ap (with_all old) (sym whole)
 
--- The unit: its constants, and behind them its code object.
+-- The unit: its constants, and after them its code object.
 pub unit-cut : (old new : Heap) (code : List ℕ) (cs : ConstantsView) (frame : Frame) (fault : SwizzleFault)
     → IsCut old new (constants_objects (top_of old) cs) fault → Loads old new (unit code cs frame) (Err fault)
 unfolding unit_objects

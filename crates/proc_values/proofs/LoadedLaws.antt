@@ -4,12 +4,12 @@ use Rattle.std.specs.Prelude.{Result, Ok, Err, IfOk}
 use Rattle.std.proofs.lemmas.List.{append-nil}
 use Rattle.ps_base.specs.CodeUnit.{UnitView, unit, ConstantView, text, literal, ConstantsView, no_constants, constant_then}
 use Rattle.ps_base.specs.declared.code_unit.Frame.{Frame}
-use Rattle.obj_layout.specs.declared.reference.Reference.{Reference}
-use Rattle.swizzle.specs.declared.fault.SwizzleFault.{SwizzleFault}
-use Rattle.swizzle.specs.Objects.{Object}
-use Rattle.swizzle.specs.Heap.{Heap, IsHeld, found, object_at, nothing, top_of}
-use Rattle.swizzle.specs.Joint.{name_of, shown_at}
-use Rattle.swizzle.specs.Text.{text_of}
+use Rattle.heap_texts.specs.obj_layout.declared.reference.Reference.{Reference}
+use Rattle.heap_texts.specs.swizzle.declared.fault.SwizzleFault.{SwizzleFault}
+use Rattle.heap_texts.specs.swizzle.Objects.{Object}
+use Rattle.heap_texts.specs.swizzle.Heap.{Heap, IsHeld, found, object_at, nothing, top_of}
+use Rattle.heap_texts.specs.swizzle.Joint.{name_of, shown_at}
+use Rattle.heap_texts.specs.swizzle.Text.{text_of}
 use Rattle.heap_texts.specs.Texts.{text_object}
 use Rattle.proc_values.specs.Units.{code_object, count_of, unit_objects, constants_objects, constant_objects, constants_places, constant_place, constant_words, unit_place, Loads}
 use Rattle.proc_values.specs.Loaded.{IsText, IsCode, IsUnit, AreNamed, IsConstant, IsFitUnit, AreFitConstants, IsFitConstant}

@@ -1,18 +1,18 @@
 -- The constants of a code object, and the place of its bytes.
 use Rattle.std.proofs.Common.{◌≡◌, ◌≢◌, ℕ, ◌+◌, ◌<◌, ◌^◌, ◌∷◌, length, sym, ap, ◌∙◌, subst, Some, arith}
 use Rattle.ps_base.specs.CodeUnit.{UnitView, unit}
-use Rattle.obj_layout.specs.declared.header.Header.{Header}
-use Rattle.obj_layout.specs.declared.kind.Kind.TheVariants.{Code}
-use Rattle.obj_layout.specs.declared.reference.Reference.{Reference}
-use Rattle.obj_layout.specs.declared.reference.Reference.TheVariants.{Nil}
-use Rattle.swizzle.specs.Objects.{IsFit, size_of, size_of_all}
-use Rattle.swizzle.specs.Heap.{Heap, IsHeap, IsHeld, object_at, header_at, ref_at}
-use Rattle.swizzle.specs.Joint.{name_of}
-use Rattle.swizzle.specs.Touch.{Denotes}
-use Rattle.swizzle.proofs.ObjectLaws.{Split, split, size_of_all-append}
-use Rattle.swizzle.proofs.KeptLaws.{held_is}
-use Rattle.swizzle.proofs.TextLaws.{length-text}
-use Rattle.swizzle.proofs.NameLaws.{name-not_nil}
+use Rattle.heap_texts.specs.obj_layout.declared.header.Header.{Header}
+use Rattle.heap_texts.specs.obj_layout.declared.kind.Kind.TheVariants.{Code}
+use Rattle.heap_texts.specs.obj_layout.declared.reference.Reference.{Reference}
+use Rattle.heap_texts.specs.obj_layout.declared.reference.Reference.TheVariants.{Nil}
+use Rattle.heap_texts.specs.swizzle.Objects.{size_of, size_of_all}
+use Rattle.heap_texts.specs.swizzle.Heap.{Heap, IsHeap, IsHeld, object_at, header_at, ref_at}
+use Rattle.heap_texts.specs.swizzle.Joint.{name_of}
+use Rattle.heap_texts.specs.swizzle.Touch.{Denotes}
+use Rattle.heap_texts.proofs.of_swizzle.ObjectLaws.{Split, split, size_of_all-append}
+use Rattle.heap_texts.proofs.of_swizzle.KeptLaws.{held_is}
+use Rattle.heap_texts.proofs.of_swizzle.TextLaws.{length-text}
+use Rattle.heap_texts.proofs.of_swizzle.NameLaws.{name-not_nil}
 use Rattle.proc_values.specs.declared.reading.CodePlace.{CodePlace}
 use Rattle.proc_values.specs.Loaded.{IsUnit, IsUnitPlace}
 use Rattle.proc_values.specs.Reading.{HasConstant, IsPlaceOf}

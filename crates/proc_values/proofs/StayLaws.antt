@@ -4,20 +4,20 @@ use Rattle.std.specs.Prelude.{Result, Ok, Err, take, drop, slice_index}
 use Rattle.std.proofs.lemmas.Bool.{cases_eq}
 use Rattle.ps_base.specs.CodeUnit.{UnitView, unit, ConstantView, text, literal, ConstantsView, no_constants, constant_then}
 use Rattle.ps_base.specs.declared.code_unit.Frame.{Frame}
-use Rattle.obj_area.specs.Words.{bytes_of}
-use Rattle.obj_layout.specs.declared.reference.Reference.{Reference}
-use Rattle.obj_layout.specs.declared.reference.Reference.TheVariants.{Nil}
-use Rattle.swizzle.specs.declared.fault.SwizzleFault.{SwizzleFault}
-use Rattle.swizzle.specs.Objects.{Object, size_of, words_before, find_from}
-use Rattle.swizzle.specs.Heap.{Heap, IsHeap, IsHeld, object_at, header_at, nothing, ref_at, top_of, Stands, with_object}
-use Rattle.swizzle.specs.Joint.{Shown, shown, name_at, name_by, name_of, shown_at}
-use Rattle.swizzle.specs.Text.{HasBytes, text_at}
-use Rattle.swizzle.specs.Touch.{Denotes, Stays, Keeps}
-use Rattle.swizzle.proofs.ObjectLaws.{here, elsewhere, size_of_all-append}
-use Rattle.swizzle.proofs.HeapLaws.{first_is, behind_is, held-replaced}
-use Rattle.swizzle.proofs.KeptLaws.{held_is}
-use Rattle.swizzle.proofs.JointLaws.{IsLike, like_long, object-replaced_other, name-replaced, shown-replaced_other}
-use Rattle.swizzle.proofs.NameLaws.{names_kept, name_at-injective, names_at, shown-same}
+use Rattle.heap_texts.specs.obj_area.Words.{bytes_of}
+use Rattle.heap_texts.specs.obj_layout.declared.reference.Reference.{Reference}
+use Rattle.heap_texts.specs.obj_layout.declared.reference.Reference.TheVariants.{Nil}
+use Rattle.heap_texts.specs.swizzle.declared.fault.SwizzleFault.{SwizzleFault}
+use Rattle.heap_texts.specs.swizzle.Objects.{Object, size_of, words_before, find_from}
+use Rattle.heap_texts.specs.swizzle.Heap.{Heap, IsHeap, IsHeld, object_at, header_at, nothing, ref_at, top_of, Stands, with_object}
+use Rattle.heap_texts.specs.swizzle.Joint.{Shown, shown, name_at, name_by, name_of, shown_at}
+use Rattle.heap_texts.specs.swizzle.Text.{HasBytes, text_at}
+use Rattle.heap_texts.specs.swizzle.Touch.{Denotes, Stays, Keeps}
+use Rattle.heap_texts.proofs.of_swizzle.ObjectLaws.{here, elsewhere, size_of_all-append}
+use Rattle.heap_texts.proofs.of_swizzle.HeapLaws.{first_is, behind_is, held-replaced}
+use Rattle.heap_texts.proofs.of_swizzle.KeptLaws.{held_is}
+use Rattle.heap_texts.proofs.of_swizzle.JointLaws.{IsLike, like_long, object-replaced_other, name-replaced, shown-replaced_other}
+use Rattle.heap_texts.proofs.of_swizzle.NameLaws.{names_kept, name_at-injective, names_at, shown-same}
 use Rattle.proc_values.specs.Units.{count_of, frame_word, unit_objects, with_all, Loads}
 use Rattle.proc_values.specs.Reading.{HasConstant}
 use Rattle.proc_values.specs.Loaded.{IsText, IsCode, IsUnit, AreNamed, IsConstant, CodeStays, constant_numbered, IsFitFrame}
@@ -93,7 +93,7 @@ code-other heap at new held none like j there bytes =
       nums = ap (λ (x : Object). x.header.nums) same;
     }
 
--- Objects that come behind the others.
+-- Objects that come after the others.
 
 find-before : (at : ℕ) (os ps : List Object) (i : ℕ) (o : Object) → find_from at os i ≡ Some o → find_from at (os ++ ps) i ≡ Some o
 find-before at [] ps i o e = absurd (cc)

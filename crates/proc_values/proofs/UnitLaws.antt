@@ -9,9 +9,9 @@ use Rattle.std.specs.declared.alloc.Global.{Global}
 use Rattle.ps_base.specs.declared.code_unit.CodeUnit.{CodeUnit}
 use Rattle.ps_base.specs.declared.code_unit.Constant.{Constant, Text, Unit}
 use Rattle.ps_base.specs.declared.code_unit.Frame.{Frame}
-use Rattle.obj_layout.specs.declared.reference.Reference.{Reference}
-use Rattle.swizzle.specs.Objects.{size_of, size_of_all}
-use Rattle.swizzle.proofs.ObjectLaws.{size_of_all-append}
+use Rattle.heap_texts.specs.obj_layout.declared.reference.Reference.{Reference}
+use Rattle.heap_texts.specs.swizzle.Objects.{size_of, size_of_all}
+use Rattle.heap_texts.proofs.of_swizzle.ObjectLaws.{size_of_all-append}
 use Rattle.heap_texts.specs.Texts.{text_nums, text_object}
 use Rattle.proc_values.specs.Units.{code_nums, code_object, count_of, unit_objects, constants_objects, constant_objects, constants_places, unit_words, constants_words, constant_words, constant_place, unit_place}
 

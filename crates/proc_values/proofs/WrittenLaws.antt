@@ -2,16 +2,16 @@
 use Rattle.std.proofs.Common.{◌≡◌, ℕ, zero, suc, ◌+◌, ◌*◌, ◌<◌, ◌≤◌, ◌^◌, List, [], ◌∷◌, ◌++◌, length, take, drop, replicate, slice_index, refl, sym, ap, ◌∙◌, arith}
 use Rattle.std.proofs.lemmas.List.{length-replicate, length-take-le, take_at, drop_at}
 use Rattle.ps_base.specs.declared.code_unit.Frame.{Frame}
-use Rattle.obj_area.specs.Area.{words_spanned}
-use Rattle.obj_area.specs.Words.{bytes_of, words_of, AreWords, AreBytes, overwritten}
-use Rattle.obj_area.specs.inside.Bytes.{AreWhole}
-use Rattle.obj_area.proofs.WordLaws.{overwritten-inside, bytes_of-append, length-bytes_of, words_of-append, words_of-bytes_of, bytes_of-words_of}
-use Rattle.obj_area.proofs.AreaLaws.{length-overwritten, AreBytes-bytes_of, AreBelow-overwritten}
-use Rattle.obj_layout.specs.declared.kind.Kind.TheVariants.{Code}
-use Rattle.obj_layout.specs.declared.reference.Reference.{Reference}
-use Rattle.swizzle.specs.Objects.{Object}
-use Rattle.swizzle.specs.Heap.{blank}
-use Rattle.swizzle.specs.Text.{first_byte, text_of, with_bytes_at}
+use Rattle.heap_texts.specs.obj_area.Area.{words_spanned}
+use Rattle.heap_texts.specs.obj_area.Words.{bytes_of, words_of, AreWords, AreBytes, overwritten}
+use Rattle.heap_texts.specs.obj_area.inside.Bytes.{AreWhole}
+use Rattle.heap_texts.proofs.of_obj_area.WordLaws.{overwritten-inside, bytes_of-append, length-bytes_of, words_of-append, words_of-bytes_of, bytes_of-words_of}
+use Rattle.heap_texts.proofs.of_obj_area.AreaLaws.{length-overwritten, AreBytes-bytes_of, AreBelow-overwritten}
+use Rattle.heap_texts.specs.obj_layout.declared.kind.Kind.TheVariants.{Code}
+use Rattle.heap_texts.specs.obj_layout.declared.reference.Reference.{Reference}
+use Rattle.heap_texts.specs.swizzle.Objects.{Object}
+use Rattle.heap_texts.specs.swizzle.Heap.{blank}
+use Rattle.heap_texts.specs.swizzle.Text.{first_byte, text_of, with_bytes_at}
 use Rattle.heap_texts.specs.Texts.{blank_text, text_nums, text_object}
 use Rattle.proc_values.specs.Units.{code_nums, code_object, frame_word}
 use Rattle.proc_values.specs.Loaded.{IsFitFrame}

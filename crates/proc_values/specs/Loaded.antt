@@ -2,13 +2,13 @@
 use Rattle.std.specs.Prelude.{◌≡◌, ℕ, zero, suc, ◌+◌, ◌<◌, ◌^◌, List, [], ◌∷◌, length, Option, Some, None}
 use Rattle.ps_base.specs.CodeUnit.{UnitView, unit, ConstantView, text, literal, ConstantsView, no_constants, constant_then}
 use Rattle.ps_base.specs.declared.code_unit.Frame.{Frame}
-use Rattle.obj_area.specs.Words.{AreBytes}
-use Rattle.obj_layout.specs.declared.kind.Kind.TheVariants.{Text, Code}
-use Rattle.obj_layout.specs.declared.reference.Reference.{Reference}
-use Rattle.swizzle.specs.Heap.{Heap, IsHeld, header_at, num_at}
-use Rattle.swizzle.specs.Joint.{shown_at}
-use Rattle.swizzle.specs.Text.{HasBytes, text_at}
-use Rattle.swizzle.specs.Touch.{Denotes, Stays}
+use Rattle.heap_texts.specs.obj_area.Words.{AreBytes}
+use Rattle.heap_texts.specs.obj_layout.declared.kind.Kind.TheVariants.{Text, Code}
+use Rattle.heap_texts.specs.obj_layout.declared.reference.Reference.{Reference}
+use Rattle.heap_texts.specs.swizzle.Heap.{Heap, IsHeld, header_at, num_at}
+use Rattle.heap_texts.specs.swizzle.Joint.{shown_at}
+use Rattle.heap_texts.specs.swizzle.Text.{HasBytes, text_at}
+use Rattle.heap_texts.specs.swizzle.Touch.{Denotes, Stays}
 use Rattle.proc_values.specs.Units.{count_of, frame_word}
 use Rattle.proc_values.specs.declared.reading.CodePlace.{CodePlace}
 
@@ -43,7 +43,7 @@ unfoldable mutual
   IsConstant heap at (text bytes) = IsText heap at bytes
   IsConstant heap at (literal code) = IsUnit heap at code
 
--- where the bytes of a unit's code lie, whose code object begins there: behind its header, its constants, its home and its frame
+-- where the bytes of a unit's code lie, whose code object begins there: after its header, its constants, its home and its frame
 abbrev pub IsUnitPlace : ℕ → UnitView → CodePlace → Type 0
 IsUnitPlace at (unit code constants frame) place = (place.first ≡ at + 6 + count_of constants) × (place.count ≡ length code)
 

@@ -1,16 +1,16 @@
--- A unit of code as objects: those of its constants one behind the other, and behind them the code object, which refers to them.
+-- A unit of code as objects: those of its constants one after the other, and after them the code object, which refers to them.
 use Rattle.std.specs.Prelude.{◌≡◌, ℕ, ◌+◌, ◌*◌, ◌<◌, ◌^◌, List, [], ◌∷◌, ◌++◌, length, Result, Ok, Err}
 use Rattle.ps_base.specs.CodeUnit.{UnitView, unit, ConstantView, text, literal, ConstantsView, no_constants, constant_then}
 use Rattle.ps_base.specs.declared.code_unit.Frame.{Frame}
-use Rattle.obj_area.specs.Area.{words_spanned}
-use Rattle.obj_layout.specs.declared.kind.Kind.TheVariants.{Code}
-use Rattle.obj_layout.specs.declared.reference.Reference.{Reference}
-use Rattle.obj_layout.specs.declared.reference.Reference.TheVariants.{Local}
-use Rattle.swizzle.specs.declared.fault.SwizzleFault.{SwizzleFault}
-use Rattle.swizzle.specs.declared.fault.SwizzleFault.TheVariants.{AreaFull}
-use Rattle.swizzle.specs.Objects.{Object, size_of}
-use Rattle.swizzle.specs.Heap.{Heap, top_of, blank}
-use Rattle.swizzle.specs.Text.{with_bytes_at}
+use Rattle.heap_texts.specs.obj_area.Area.{words_spanned}
+use Rattle.heap_texts.specs.obj_layout.declared.kind.Kind.TheVariants.{Code}
+use Rattle.heap_texts.specs.obj_layout.declared.reference.Reference.{Reference}
+use Rattle.heap_texts.specs.obj_layout.declared.reference.Reference.TheVariants.{Local}
+use Rattle.heap_texts.specs.swizzle.declared.fault.SwizzleFault.{SwizzleFault}
+use Rattle.heap_texts.specs.swizzle.declared.fault.SwizzleFault.TheVariants.{AreaFull}
+use Rattle.heap_texts.specs.swizzle.Objects.{Object, size_of}
+use Rattle.heap_texts.specs.swizzle.Heap.{Heap, top_of, blank}
+use Rattle.heap_texts.specs.swizzle.Text.{with_bytes_at}
 use Rattle.heap_texts.specs.Texts.{text_object, text_nums, wanted_of}
 
 -- the frame as one word, 16 bits each from the low end: number locals, reference locals, number parameters, reference parameters
@@ -47,7 +47,7 @@ unfoldable mutual
   constant_objects at (text bytes) = text_object bytes ∷ []
   constant_objects at (literal code) = unit_objects at code
 
-  -- the references to the constants: to a text, and to the code object behind the objects of its own constants
+  -- the references to the constants: to a text, and to the code object after the objects of its own constants
   pub constants_places : ℕ → ConstantsView → List Reference
   constants_places at no_constants = []
   constants_places at (constant_then first rest) = Local (constant_place at first) ∷ constants_places (at + constant_words first) rest
@@ -72,7 +72,7 @@ unfoldable mutual
   constant_words (text bytes) = 4 + text_nums (length bytes)
   constant_words (literal code) = unit_words code
 
--- the heap with these objects behind its own
+-- the heap with these objects after its own
 abbrev pub with_all : Heap → List Object → Heap
 with_all heap objects = record heap { objects = heap.objects ++ objects }
 

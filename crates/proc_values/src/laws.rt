@@ -2,10 +2,10 @@
 ghost use Rattle.std.specs.Prelude.{◌≡◌, ℕ, ◌/◌, ◌%◌, ◌^◌, List, Result, Ok, Some};
 ghost use Rattle.ps_base.specs.CodeUnit.{UnitView, unit, ConstantView, ConstantsView};
 ghost use Rattle.ps_base.specs.declared.code_unit.Frame.{Frame};
-ghost use Rattle.swizzle.specs.Heap.{Heap, IsHeap, object_at, ref_at, top_of};
-ghost use Rattle.swizzle.specs.Joint.{name_of};
-ghost use Rattle.swizzle.specs.Touch.{Denotes, Keeps};
-ghost use Rattle.swizzle.specs.declared.fault.SwizzleFault.{SwizzleFault};
+ghost use Rattle.heap_texts.specs.swizzle.Heap.{Heap, IsHeap, object_at, ref_at, top_of};
+ghost use Rattle.heap_texts.specs.swizzle.Joint.{name_of};
+ghost use Rattle.heap_texts.specs.swizzle.Touch.{Denotes, Keeps};
+ghost use Rattle.heap_texts.specs.swizzle.declared.fault.SwizzleFault.{SwizzleFault};
 ghost use Rattle.proc_values.specs.Units.{Loads, constants_places, frame_word};
 ghost use Rattle.proc_values.specs.Reading.{HasConstant};
 ghost use Rattle.proc_values.specs.Loaded.{IsUnit, IsConstant, IsFitUnit, IsFitFrame, CodeStays, constant_numbered};

@@ -1,9 +1,9 @@
 ghost use Rattle.std.specs.Prelude.{◌≡◌, ◌+◌, ◌*◌, ◌<◌, ◌^◌, length, IfOk, OnOk};
 ghost use Rattle.ps_base.specs.CodeUnit.{constant_view, constants_view, unit_view};
 ghost use Rattle.ps_base.specs.List.{items_of};
-ghost use Rattle.obj_area.specs.Words.{AreBytes};
-ghost use Rattle.swizzle.specs.Heap.{IsHeld, Stands, header_at, object_at, with_object, with_ref};
-ghost use Rattle.obj_layout.specs.declared.reference.Reference.TheVariants.{Local};
+ghost use Rattle.heap_texts.specs.obj_area.Words.{AreBytes};
+ghost use Rattle.heap_texts.specs.swizzle.Heap.{IsHeld, Stands, header_at, object_at, with_object, with_ref};
+ghost use Rattle.heap_texts.specs.obj_layout.declared.reference.Reference.TheVariants.{Local};
 ghost use Rattle.heap_texts.specs.Texts.{MakesText};
 ghost use Rattle.proc_values.specs.Units.{Loads, frame_word, constant_place, constants_places};
 ghost use Rattle.proc_values.specs.Units.{constant_words, constants_words};
@@ -12,10 +12,10 @@ ghost use Rattle.proc_values.specs.inside.Loading.{LoadsConstant, LoadsConstants
 
 use crate::words::{code_nums, words_of_constant, words_of_constants};
 use heap_texts::make::make_text;
-use obj_layout::kind::Kind;
+use heap_texts::obj_layout::kind::Kind;
+use heap_texts::swizzle::fault::SwizzleFault;
+use heap_texts::swizzle::swizzle::Swizzle;
 use ps_base::code_unit::{CodeUnit, Constant, Frame};
-use swizzle::fault::SwizzleFault;
-use swizzle::swizzle::Swizzle;
 
 /// Makes the objects of a unit, those of its constants first, and answers its code object (`docs/formats.md`). AreaFull exactly where there is
 /// no room for the next object, whose words are answered, at most 2^32 - 1; the objects before it stay until `reset`. The recursion is as deep
@@ -54,7 +54,7 @@ fn is_frame(frame: Frame)
     let _ = frame;
 }
 
-// Makes the objects of these constants, one behind the other.
+// Makes the objects of these constants, one after the other.
 #[cycle(loading)]
 fn load_constants(sw: &mut Swizzle, constants: &[Constant]) -> Result<(), SwizzleFault>
     ensures loads { LoadsConstants sw.old sw.new (constants_view constants.now) result }
@@ -164,7 +164,7 @@ fn link(sw: &mut Swizzle, code: u32, first: u32, constants: &[Constant])
     }
 }
 
-// Makes a slot refer to the constant whose objects lie from an index on, and answers the index behind them.
+// Makes a slot refer to the constant whose objects lie from an index on, and answers the index after them.
 fn link_one(sw: &mut Swizzle, code: u32, slot: u32, at: u32, constant: &Constant) -> u32
     requires held { IsHeld sw.old code }
     requires below { slot < (header_at sw.old code).refs }

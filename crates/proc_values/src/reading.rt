@@ -1,18 +1,18 @@
 ghost use Rattle.std.specs.Prelude.{◌≡◌, ◌<◌, ◌^◌, ◌↔◌, true, length, OnOk};
-ghost use Rattle.obj_layout.specs.declared.kind.Kind.TheVariants.{Code};
-ghost use Rattle.swizzle.specs.Heap.{IsHeld};
-ghost use Rattle.swizzle.specs.Heap.{header_at};
-ghost use Rattle.swizzle.specs.Text.{text_at};
+ghost use Rattle.heap_texts.specs.obj_layout.declared.kind.Kind.TheVariants.{Code};
+ghost use Rattle.heap_texts.specs.swizzle.Heap.{IsHeld};
+ghost use Rattle.heap_texts.specs.swizzle.Heap.{header_at};
+ghost use Rattle.heap_texts.specs.swizzle.Text.{text_at};
 ghost use Rattle.proc_values.specs.Reading.{HasConstant, GivesConstant, GivesInstr, IsInstrIn, IsPlaceOf, IsDamaged};
-ghost use Rattle.obj_layout.specs.declared.vault.VaultFault.TheVariants.{Damaged};
-ghost use Rattle.swizzle.specs.declared.fault.SwizzleFault.TheVariants.{Vault as InVault};
+ghost use Rattle.heap_texts.specs.obj_layout.declared.vault.VaultFault.TheVariants.{Damaged};
+ghost use Rattle.heap_texts.specs.swizzle.declared.fault.SwizzleFault.TheVariants.{Vault as InVault};
 
-use obj_layout::kind::Kind;
-use obj_layout::vault::{Vault, VaultFault};
+use heap_texts::obj_layout::kind::Kind;
+use heap_texts::obj_layout::vault::{Vault, VaultFault};
+use heap_texts::swizzle::fault::SwizzleFault;
+use heap_texts::swizzle::swizzle::Swizzle;
 use ps_base::instr::Instr;
 use ps_code::decode::decode;
-use swizzle::fault::SwizzleFault;
-use swizzle::swizzle::Swizzle;
 
 /// The object of a constant of a code object. It is fetched where it isn't in the area. Damaged, at the code object's PID, exactly where the
 /// object is no code (found its kind, wanted 6), has no such constant (found the index, wanted their count), or has nil there (found 0,
@@ -44,7 +44,7 @@ pub fn constant<V: Vault>(
     }
 }
 
-/// The instruction at an offset of a code object, and the offset behind it. Damaged, at the object's PID, exactly where the object is no code
+/// The instruction at an offset of a code object, and the offset after it. Damaged, at the object's PID, exactly where the object is no code
 /// (found its kind, wanted 6), or no instruction is spelled there (found the offset, wanted how many bytes the code has).
 #[inline]
 pub fn instr_at(sw: &Swizzle, code: u32, at: u32) -> Result<(Instr, u32), SwizzleFault>
@@ -80,7 +80,7 @@ pub fn code_place(sw: &Swizzle, code: u32) -> CodePlace
     }
 }
 
-/// The instruction at an offset of a code object whose bytes lie in a known place, and the offset behind it; None exactly where no instruction is
+/// The instruction at an offset of a code object whose bytes lie in a known place, and the offset after it; None exactly where no instruction is
 /// spelled there. The object isn't looked at.
 #[inline(always)]
 pub fn instr_within(sw: &Swizzle, code: u32, place: CodePlace, at: u32) -> Option<(Instr, u32)>
@@ -98,7 +98,7 @@ fn is_code(kind: Kind) -> bool
     kind == Kind::Code
 }
 
-// The instruction that is spelled at an offset of the bytes, and the offset behind it.
+// The instruction that is spelled at an offset of the bytes, and the offset after it.
 #[inline(always)]
 fn instr_in(bytes: &[u8], at: u32) -> Option<(Instr, u32)>
     requires { length bytes.now < 2 ^ 32 }

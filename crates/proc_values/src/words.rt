@@ -1,6 +1,6 @@
 //! How many words the objects of a unit have.
 ghost use Rattle.std.specs.Prelude.{◌≡◌, ◌+◌, ◌<◌, ◌^◌};
-ghost use Rattle.obj_area.specs.Area.{words_spanned as spanned};
+ghost use Rattle.heap_texts.specs.obj_area.Area.{words_spanned as spanned};
 ghost use Rattle.ps_base.specs.CodeUnit.{constant_view, constants_view, unit_view};
 ghost use Rattle.heap_texts.specs.Texts.{text_nums};
 ghost use Rattle.proc_values.specs.Units.{code_nums as code_nums_of, unit_words, constants_words, constant_words};

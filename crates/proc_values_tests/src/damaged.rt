@@ -1,14 +1,14 @@
 //! What is no code, and what isn't there.
 
-ghost use Rattle.swizzle.specs.Heap.{IsHeld};
+ghost use Rattle.proc_values.specs.swizzle.Heap.{IsHeld};
 
 use crate::sample::{loaded, read, with_code};
-use obj_layout::kind::Kind;
-use obj_layout::vault::VaultFault;
+use memory_vault::obj_layout::kind::Kind;
+use memory_vault::obj_layout::vault::VaultFault;
 use proc_values::reading::instr_at;
+use proc_values::swizzle::fault::SwizzleFault;
+use proc_values::swizzle::swizzle::Swizzle;
 use std::test::Fail;
-use swizzle::fault::SwizzleFault;
-use swizzle::swizzle::Swizzle;
 
 fn damaged(found: u64, wanted: u64) -> SwizzleFault {
     SwizzleFault::Vault(VaultFault::Damaged {

@@ -1,8 +1,8 @@
 //! An area that has room for all of a unit, or for less.
 
 use crate::sample::tried;
+use proc_values::swizzle::fault::SwizzleFault;
 use std::test::Fail;
-use swizzle::fault::SwizzleFault;
 
 #[test]
 fn takes_the_last_word(rt: HostRuntime) -> Result<(), Fail> {

@@ -1,15 +1,15 @@
 //! What a loaded unit is, and what is read of it.
 
-ghost use Rattle.swizzle.specs.Heap.{IsHeld};
+ghost use Rattle.proc_values.specs.swizzle.Heap.{IsHeld};
 
 use crate::sample::{INNER, OUTER, counts, has, loaded, outer, read, refers_to, worked_out};
-use obj_layout::kind::Kind;
+use memory_vault::obj_layout::kind::Kind;
 use proc_values::load::load_unit;
 use proc_values::reading::instr_at;
+use proc_values::swizzle::swizzle::Swizzle;
 use ps_base::code_unit::CodeUnit;
 use ps_base::instr::Instr;
 use std::test::Fail;
-use swizzle::swizzle::Swizzle;
 
 const OUTER_WORDS: [u64; 5] = [
     0,
@@ -96,7 +96,7 @@ fn loads_behind_what_is_there(rt: HostRuntime) -> Result<(), Fail> {
     Ok(())
 }
 
-// The text that an instruction names, and the offset behind it.
+// The text that an instruction names, and the offset after it.
 fn text_named(sw: &Swizzle, code: u32, at: u32) -> Option<(u32, u32)>
     requires { IsHeld sw.now code }
 {
@@ -106,7 +106,7 @@ fn text_named(sw: &Swizzle, code: u32, at: u32) -> Option<(u32, u32)>
     }
 }
 
-// The offset behind an instruction.
+// The offset after an instruction.
 fn next(sw: &Swizzle, code: u32, at: u32) -> Option<u32>
     requires { IsHeld sw.now code }
 {

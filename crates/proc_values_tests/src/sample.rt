@@ -1,19 +1,19 @@
 //! A unit with two texts and a literal, which has a text of its own; and what can be asked of an object.
 ghost use Rattle.std.specs.Prelude.{◌≤◌, ◌^◌, IfOk, OnOk};
-ghost use Rattle.swizzle.specs.Heap.{IsHeld};
+ghost use Rattle.proc_values.specs.swizzle.Heap.{IsHeld};
 
+use memory_vault::obj_layout::kind::Kind;
+use memory_vault::obj_layout::reference::Reference;
 use memory_vault::silent::SilentVault;
-use obj_layout::kind::Kind;
-use obj_layout::reference::Reference;
 use proc_values::load::load_unit;
 use proc_values::reading::constant;
+use proc_values::swizzle::fault::SwizzleFault;
+use proc_values::swizzle::swizzle::Swizzle;
 use ps_base::bytes::Bytes;
 use ps_base::code_unit::{CodeUnit, Constant, Frame};
 use ps_base::list::List;
 use std::alloc::{AllocError, Global};
 use std::test::Fail;
-use swizzle::fault::SwizzleFault;
-use swizzle::swizzle::Swizzle;
 
 /// `text 0; closure 1; text 2; return 0`, in 20 bytes.
 pub const OUTER: [u8; 20] = [4, 0, 0, 0, 0, 60, 1, 0, 0, 0, 4, 2, 0, 0, 0, 62, 0, 0, 0, 0];
@@ -27,7 +27,7 @@ pub fn bytes(alloc: Global, from: &[u8]) -> Result<Bytes, AllocError> {
     Ok(Bytes::new(items))
 }
 
-// Puts a text behind the constants.
+// Puts a text after the constants.
 fn push_text(alloc: Global, constants: &mut Vec<Constant>, text: &[u8]) -> Result<(), AllocError> {
     constants.push(Constant::Text(bytes(alloc, text)?))?;
     Ok(())
@@ -92,7 +92,7 @@ fn inner(alloc: Global) -> Result<CodeUnit, AllocError> {
     with_texts(alloc, &INNER, &[b"x"], frame)
 }
 
-// Puts the constants of the outer unit behind one another.
+// Puts the constants of the outer unit after one another.
 fn push_outer(alloc: Global, constants: &mut Vec<Constant>) -> Result<(), AllocError> {
     push_text(alloc, constants, b"ab")?;
     constants.push(Constant::of_unit(alloc, inner(alloc)?)?)?;
@@ -125,7 +125,7 @@ pub fn loaded(alloc: Global, words: u32) -> Result<Swizzle, Fail>
     }
 }
 
-/// What the outer unit is answered in an area of so many words, and the top behind that.
+/// What the outer unit is answered in an area of so many words, and the top after that.
 pub fn tried(alloc: Global, words: u32) -> Result<(Option<SwizzleFault>, u32), Fail>
     requires low { 5 ≤ words }
     requires high { words ≤ 2 ^ 25 }

@@ -2,7 +2,7 @@ use command_answers::{Answer, Text, host_of, new_volume};
 use std::alloc::{AllocError, Global};
 use table_rows::Row;
 
-/// The name of a row's program, behind its other words.
+/// The name of a row's program, after its other words.
 const PROGRAM: &str = "x.ps";
 
 /// The name of a row's input.
@@ -24,7 +24,7 @@ impl Commands {
         })
     }
 
-    /// The status that a row's command gets, and behind it what it tells.
+    /// The status that a row's command gets, and after it what it tells.
     pub fn answer(&self, row: &Row) -> Result<Vec<u8>, AllocError> {
         let words = self.words(row)?;
         let program = (PROGRAM, row.field(0));
@@ -47,7 +47,7 @@ impl Commands {
         Answer::of(self.alloc, words, texts, host)
     }
 
-    // The words of the head behind the status, and the program's name.
+    // The words of the head after the status, and the program's name.
     fn words(&self, row: &Row) -> Result<Vec<String>, AllocError> {
         let mut words = Vec::new(self.alloc);
         for word in row.head.split(|byte| *byte == b' ').skip(1) {

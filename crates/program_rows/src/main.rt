@@ -2,7 +2,7 @@
 //! one what was found.
 //!
 //! The head of a row is the status, and the words of the command before the program's name, which is `x.ps`. Its fields are the
-//! program, what is told, and the input `in`, where there is one. The volume is a new one of 32 pages.
+//! program, what is output, and the input `in`, where there is one. The volume is a new one of 32 pages.
 #![tactic(auto)]
 
 mod answer;

@@ -27,7 +27,7 @@ pub fn is_limit(alloc: Global, text: Result<Vec<u8>, AllocError>, limit: &Limit)
     }
 }
 
-/// So many declarations, each with a `;` behind it.
+/// So many declarations, each with a `;` after it.
 pub fn declarations(alloc: Global, count: usize) -> Result<Vec<u8>, AllocError> {
     let mut text = Vec::new(alloc);
     for place in 0..count {
@@ -181,7 +181,7 @@ fn other_words_are_no_command(rt: HostRuntime) {
     }
 }
 
-// The name of the only text, that text as a part that is repeated, the calls that fail, what is told
+// The name of the only text, that text as a part that is repeated, the calls that fail, what is output
 // for `z.ps` and the status.
 type Fault<'a> = (&'a str, &'a [u8], usize, &'a [u64], &'a [u8], u8);
 

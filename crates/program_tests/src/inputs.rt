@@ -35,14 +35,14 @@ impl Reading<'_> {
     }
 }
 
-// So many bytes, and what stands behind them.
+// So many bytes, and what stands after them.
 fn bytes(alloc: Global, count: usize, behind: &[u8]) -> Result<Vec<u8>, AllocError> {
     let mut text = vec![in alloc; b'a'; count]?;
     text.extend_from_slice(behind)?;
     Ok(text)
 }
 
-// How many bytes the first line has, and what stands behind them; what a program that reads two lines tells, and its status.
+// How many bytes the first line has, and what stands after them; what a program that reads two lines tells, and its status.
 static LONG: [(usize, &[u8], &str, u8); 5] = [
     (65_535, b"\nnext", "65535 next", 0),
     (65_536, b"\nnext", "trap 10 at line 1\n", 3),

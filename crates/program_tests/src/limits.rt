@@ -62,7 +62,7 @@ fn procedures_declare_names_to_the_limit(rt: HostRuntime) {
     }
 }
 
-// So many ones, written one by one: 14 bytes of code for each, and 5 behind the last.
+// So many ones, written one by one: 14 bytes of code for each, and 5 after the last.
 fn ones(alloc: Global, count: usize) -> Result<Vec<u8>, AllocError> {
     let mut text = Vec::from_slice(alloc, b"write 1")?;
     for _ in 1..count {
@@ -106,7 +106,7 @@ fn code_and_strings_fill_an_area(rt: HostRuntime) -> Result<(), Fail> {
     Ok(())
 }
 
-// Whether a string at the widest gets as many bytes told.
+// Whether a string at the widest gets as many bytes output.
 fn is_widest(alloc: Global) -> Result<bool, AllocError> {
     let mut told = vec![in alloc; b' '; 65_534]?;
     told.push(b'x')?;

@@ -1,7 +1,7 @@
 //! The commands that the tests make.
 
+use command_answers::memory_host::MemoryHost;
 use command_answers::{Answer, Command, host_of};
-use memory_host::MemoryHost;
 use std::alloc::{AllocError, Global};
 
 /// A run of a sum.

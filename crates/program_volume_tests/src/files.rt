@@ -21,7 +21,7 @@ fn opened(alloc: Global, count: usize) -> Result<Vec<u8>, AllocError> {
     Ok(bytes)
 }
 
-// How many bytes a file has whose gate is open, where it has any; and what is told.
+// How many bytes a file has whose gate is open, where it has any; and what is output.
 struct Short(usize, &'static [u8]);
 
 static SHORT: [Short; 4] = [
@@ -45,7 +45,7 @@ fn a_short_file_is_no_volume(rt: HostRuntime) {
     }
 }
 
-// A byte of a volume of 32 pages, what stands there instead, what is told, and the status.
+// A byte of a volume of 32 pages, what stands there instead, what is output, and the status.
 struct Forged(usize, u8, &'static [u8], u8);
 
 static FORGED: [Forged; 12] = [

@@ -1,4 +1,4 @@
-//! Tests of the program over its volume: how it is made, attached and left, and what is told where there is none.
+//! Tests of the program over its volume: how it is made, attached and left, and what is output where there is none.
 #![tactic(auto)]
 
 #[cfg(test)]

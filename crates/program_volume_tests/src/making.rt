@@ -2,7 +2,7 @@
 
 use crate::commands::{RUN, SUM, answer_over, format};
 use command_answers::Answer;
-use memory_host::MemoryHost;
+use command_answers::memory_host::MemoryHost;
 use std::alloc::{AllocError, Global};
 
 /// How many bytes a volume of 32 pages has.

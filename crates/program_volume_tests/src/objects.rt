@@ -1,13 +1,13 @@
 //! A run over a volume that keeps an object.
 
 ghost use Rattle.std.specs.Prelude.{◌≡◌, IfSome, true};
-ghost use Rattle.obj_layout.specs.Stored.{IsHeaded};
+ghost use Rattle.command_answers.specs.obj_layout.Stored.{IsHeaded};
 
 use crate::commands::{RUN, SUM, answer_over, is_unwritten};
+use command_answers::memory_host::MemoryHost;
+use command_answers::obj_layout::vault::{Vault, VaultFault};
+use command_answers::obj_store::ObjStore;
 use command_answers::volume_host;
-use memory_host::MemoryHost;
-use obj_layout::vault::{Vault, VaultFault};
-use obj_store::ObjStore;
 use std::alloc::Global;
 
 /// A text of eight bytes, in six words.

@@ -1,3 +1,4 @@
+pub mod Limits
 pub mod List
 pub mod Instr
 pub mod CodeUnit

@@ -1,10 +1,12 @@
-//! The types that the layers share: lines, traps, types, operators, and the
-//! instructions and units of its code.
+//! What the layers share: lines, traps, types, operators, the instructions and units of its code,
+//! and the limits.
 #![tactic(auto)]
 
 pub mod bytes;
 pub mod code_unit;
 pub mod instr;
+pub mod large_vectors;
+pub mod laws;
 pub mod line;
 pub mod list;
 pub mod operator;

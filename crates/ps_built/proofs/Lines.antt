@@ -12,7 +12,7 @@ pub or_none : (a : Option Line) → or_else a None ≡ a
 or_none (Some line) = refl
 or_none None = refl
 
--- one clause more of what was gone into: what stands behind its first part is put before what was behind it
+-- one clause more of what was gone into: what stands after its first part is put before what was after it
 pub gone_into : (a b p behind new whole : Option Line) → or_else a b ≡ p → new ≡ or_else b behind → or_else p behind ≡ whole → or_else a new ≡ whole
 gone_into a b p behind new whole parts new_is whole_is =
     ap (or_else a) new_is ∙ sym (first_of_three a b behind) ∙ ap (λ (o : Option Line). or_else o behind) parts ∙ whole_is

@@ -29,7 +29,7 @@ pub fn first_unbuilt_library(program: &Program) -> Option<Line>
 }
 
 // The first parts are gone into by the loop, since they stand inside one another as far as the text is long, and so are bodies of literals;
-// what stands behind is looked through before.
+// what stands after is looked through before.
 #[cycle(library)]
 fn library_in(tree: &Tree) -> Option<Line>
     ensures { result ≡ library_in_of (node_of tree.now) }
@@ -57,7 +57,7 @@ fn library_in(tree: &Tree) -> Option<Line>
     }
 }
 
-// The first in the parts behind the first part.
+// The first in the parts after the first part.
 #[cycle(library)]
 fn in_further(further: Further) -> Option<Line>
     ensures { result ≡ library_in_parts (further_in further.entry) }

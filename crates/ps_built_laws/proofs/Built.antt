@@ -1,18 +1,18 @@
 -- A clause without calls of the library that aren't built has none in its parts.
 use Rattle.std.proofs.Common.{◌≡◌, ℕ, ◌||◌, List, [], ◌∷◌, map, inl, sym, inr, ◌∙◌, true, subst}
 use Rattle.std.specs.Prelude.{◌⊎◌, None, Some, not, nat_eq}
-use Rattle.ps_base.specs.TyView.{TyView}
-use Rattle.ps_base.specs.declared.line.Line.{Line}
-use Rattle.ps_program.specs.Node.{Node, Nodes, none, more}
-use Rattle.ps_program.specs.Node as node
-use Rattle.ps_program.specs.Parts.{Part, operand, label, branch, literal}
-use Rattle.ps_program.specs.inside.Listed.{parts_of, part_as}
-use Rattle.ps_program.proofs.PartLemmas.{fold_parts}
-use Rattle.ps_type_text.specs.Texts.{Field}
-use Rattle.ps_typing.specs.WellTyped.{Claim, Rule}
+use Rattle.ps_built.specs.ps_base.TyView.{TyView}
+use Rattle.ps_built.specs.ps_base.declared.line.Line.{Line}
+use Rattle.ps_built.specs.ps_program.Node.{Node, Nodes, none, more}
+use Rattle.ps_built.specs.ps_program.Node as node
+use Rattle.ps_built.specs.ps_program.Parts.{Part, operand, label, branch, literal}
+use Rattle.ps_built.specs.ps_program.inside.Listed.{parts_of, part_as}
+use Rattle.ps_built.proofs.of_ps_program.PartLemmas.{fold_parts}
+use Rattle.ps_typing_laws.specs.ps_type_text.Texts.{Field}
+use Rattle.ps_typing_laws.specs.ps_typing.WellTyped.{Claim, Rule}
 use Rattle.ps_typing_laws.specs.Counted.{Each}
 use Rattle.ps_typing_laws.proofs.Tracked.{evaluated, clauses_of, parts_named}
-use Rattle.ps_soundness.specs.Running.{IsRunLibrary}
+use Rattle.ps_fit_laws.specs.ps_soundness.Running.{IsRunLibrary}
 use Rattle.ps_built.specs.First.{or_else, line_if}
 use Rattle.ps_built.specs.Library.{is_built, own_library, first_of, library_in}
 use Rattle.ps_built_laws.proofs.Tests.{both, not_so, yes_of, either, one_of}

@@ -1,26 +1,26 @@
 -- A numbered tree runs inside its scopes when its names have their places.
 use Rattle.std.proofs.Common.{◌≡◌, ℕ, ◌+◌, List, [], ◌∷◌, map, inl, inr, refl, sym, subst}
 use Rattle.std.specs.Prelude.{Option, Some, None}
-use Rattle.ps_base.specs.TyView.{TyView}
-use Rattle.ps_base.specs.TyView as types
-use Rattle.ps_base.specs.declared.line.Line.{Line}
-use Rattle.ps_program.specs.declared.place.Place.{Place}
-use Rattle.ps_program.specs.declared.place.Place.TheVariants.{Plain}
-use Rattle.ps_program.specs.Node.{Param, Node, Nodes, body}
-use Rattle.ps_program.specs.Node as node
-use Rattle.ps_type_text.specs.Texts.{Field}
-use Rattle.ps_typing.specs.Mentions.{common, numbers}
-use Rattle.ps_typing.specs.Placing.{Locals, Around, with_declared, place_of, scope_text, inside}
-use Rattle.ps_typing.specs.Placing as placing
-use Rattle.ps_typing.specs.Placed.{then_give, ◌>>=◌, placed, placed_all, with_params}
-use Rattle.ps_typing.specs.WellTyped.{Claim}
+use Rattle.ps_built.specs.ps_base.TyView.{TyView}
+use Rattle.ps_built.specs.ps_base.TyView as types
+use Rattle.ps_built.specs.ps_base.declared.line.Line.{Line}
+use Rattle.ps_built.specs.ps_program.declared.place.Place.{Place}
+use Rattle.ps_built.specs.ps_program.declared.place.Place.TheVariants.{Plain}
+use Rattle.ps_built.specs.ps_program.Node.{Param, Node, Nodes, body}
+use Rattle.ps_built.specs.ps_program.Node as node
+use Rattle.ps_typing_laws.specs.ps_type_text.Texts.{Field}
+use Rattle.ps_typing_laws.specs.ps_typing.Mentions.{common, numbers}
+use Rattle.ps_typing_laws.specs.ps_typing.Placing.{Locals, Around, with_declared, place_of, scope_text, inside}
+use Rattle.ps_typing_laws.specs.ps_typing.Placing as placing
+use Rattle.ps_typing_laws.specs.ps_typing.Placed.{then_give, ◌>>=◌, placed, placed_all, with_params}
+use Rattle.ps_typing_laws.specs.ps_typing.WellTyped.{Claim}
 use Rattle.ps_typing_laws.specs.Counted.{Each}
 use Rattle.ps_typing_laws.proofs.Numbered.{Entry, entry, IsIn, HasType, Params, Numbered, AllNumbered, ItemsNumbered}
 use Rattle.ps_typing_laws.proofs.Numbered as num
 use Rattle.ps_typing_laws.proofs.RulePlaced.{placed_claims, rule_placed}
 use Rattle.ps_typing_laws.proofs.Scopes.{opened}
 use Rattle.ps_typing_laws.proofs.Tracked.{clauses_of}
-use Rattle.ps_soundness.specs.Running.{IsPlace, ArePlaces, RunsIn, AllRunIn, BodyRuns}
+use Rattle.ps_fit_laws.specs.ps_soundness.Running.{IsPlace, ArePlaces, RunsIn, AllRunIn, BodyRuns}
 use Rattle.ps_fit_laws.specs.Fitting.{Fits, AllFit}
 use Rattle.ps_fit_laws.proofs.ByCheck.{AllNamed}
 use Rattle.ps_built.specs.First.{or_else}

@@ -1,23 +1,23 @@
 -- A text that is a program without calls of the library that aren't built runs.
 use Rattle.std.proofs.Common.{◌≡◌, ℕ, List, [], subst}
 use Rattle.std.specs.Prelude.{Option, Some, None}
-use Rattle.ps_base.specs.TyView as types
-use Rattle.ps_base.specs.declared.line.Line.{Line}
-use Rattle.ps_tree.specs.Phrase.{Phrase}
-use Rattle.ps_program.specs.Node.{Node, BodyNode, body}
-use Rattle.ps_type_text.specs.Texts.{Field}
-use Rattle.ps_typing.specs.Library.{library_names}
-use Rattle.ps_typing.specs.Mentions.{mentions, declarations, kept_of}
-use Rattle.ps_typing.specs.Placed.{placed_program, no_locals, then_give, ◌>>=◌}
-use Rattle.ps_typing.specs.Checking.{Outcome, Gives, Refuses, check}
-use Rattle.ps_typing.specs.Items.{LetsAreItems}
-use Rattle.ps_typing.specs.Fault.{Fault}
-use Rattle.ps_typing.specs.Program.{Typed, first_complex, bodies, measured, verdict_of, check_program, end_line}
+use Rattle.ps_built.specs.ps_base.TyView as types
+use Rattle.ps_built.specs.ps_base.declared.line.Line.{Line}
+use Rattle.ps_typing_laws.specs.ps_tree.Phrase.{Phrase}
+use Rattle.ps_built.specs.ps_program.Node.{Node, BodyNode, body}
+use Rattle.ps_typing_laws.specs.ps_type_text.Texts.{Field}
+use Rattle.ps_typing_laws.specs.ps_typing.Library.{library_names}
+use Rattle.ps_typing_laws.specs.ps_typing.Mentions.{mentions, declarations, kept_of}
+use Rattle.ps_typing_laws.specs.ps_typing.Placed.{placed_program, no_locals, then_give, ◌>>=◌}
+use Rattle.ps_typing_laws.specs.ps_typing.Checking.{Outcome, Gives, Refuses, check}
+use Rattle.ps_typing_laws.specs.ps_typing.Items.{LetsAreItems}
+use Rattle.ps_typing_laws.specs.ps_typing.Fault.{Fault}
+use Rattle.ps_typing_laws.specs.ps_typing.Program.{Typed, first_complex, bodies, measured, verdict_of, check_program, end_line}
 use Rattle.ps_typing_laws.proofs.Numbered.{Numbered}
 use Rattle.ps_typing_laws.proofs.ByCheck as numbered
 use Rattle.ps_typing_laws.proofs.OfProgram.{library_known as library_numbered}
-use Rattle.ps_soundness.specs.Running.{BodyRuns}
-use Rattle.ps_leaf_laws.specs.Leaves.{LeavesFit}
+use Rattle.ps_fit_laws.specs.ps_soundness.Running.{BodyRuns}
+use Rattle.ps_fit_laws.specs.ps_leaf_laws.Leaves.{LeavesFit}
 use Rattle.ps_fit_laws.specs.Fitting.{Fits, FitsBody}
 use Rattle.ps_fit_laws.proofs.ByCheck as fitting
 use Rattle.ps_fit_laws.proofs.OfProgram.{library_known as library_fits, typed_fits}

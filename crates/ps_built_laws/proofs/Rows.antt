@@ -1,20 +1,20 @@
 -- A text with a procedure that assigns to a name outside it, and the program that it is, which runs.
 use Rattle.std.proofs.Common.{◌≡◌, ℕ, List, [], true, false, refl}
 use Rattle.std.specs.Prelude.{None, Some, codes}
-use Rattle.ps_base.specs.TyView as types
-use Rattle.ps_base.specs.declared.line.Line.{Line}
-use Rattle.ps_tree.specs.Phrase.{NameAt, Phrase, at, none, more}
-use Rattle.ps_tree.specs.Phrase as form
-use Rattle.ps_program.specs.declared.place.Place.{Place}
-use Rattle.ps_program.specs.declared.place.Place.TheVariants.{Plain, Kept}
-use Rattle.ps_program.specs.Node.{BodyNode, body}
-use Rattle.ps_program.specs.Node as node
-use Rattle.ps_typing.specs.Checking as checking
-use Rattle.ps_typing.specs.Items.{LetsAreItems}
-use Rattle.ps_typing.specs.Placed as placed
-use Rattle.ps_typing.specs.Program.{Typed, check_program}
-use Rattle.ps_soundness.specs.Running.{BodyRuns, RunsIn}
-use Rattle.ps_leaf_laws.specs.Leaves.{LeavesFit}
+use Rattle.ps_built.specs.ps_base.TyView as types
+use Rattle.ps_built.specs.ps_base.declared.line.Line.{Line}
+use Rattle.ps_typing_laws.specs.ps_tree.Phrase.{NameAt, Phrase, at, none, more}
+use Rattle.ps_typing_laws.specs.ps_tree.Phrase as form
+use Rattle.ps_built.specs.ps_program.declared.place.Place.{Place}
+use Rattle.ps_built.specs.ps_program.declared.place.Place.TheVariants.{Plain, Kept}
+use Rattle.ps_built.specs.ps_program.Node.{BodyNode, body}
+use Rattle.ps_built.specs.ps_program.Node as node
+use Rattle.ps_typing_laws.specs.ps_typing.Checking as checking
+use Rattle.ps_typing_laws.specs.ps_typing.Items.{LetsAreItems}
+use Rattle.ps_typing_laws.specs.ps_typing.Placed as placed
+use Rattle.ps_typing_laws.specs.ps_typing.Program.{Typed, check_program}
+use Rattle.ps_fit_laws.specs.ps_soundness.Running.{BodyRuns, RunsIn}
+use Rattle.ps_fit_laws.specs.ps_leaf_laws.Leaves.{LeavesFit}
 use Rattle.ps_built.specs.Library.{first_unbuilt_library}
 use Rattle.ps_built_laws.proofs.OfProgram.{program_runs}
 

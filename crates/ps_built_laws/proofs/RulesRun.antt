@@ -1,14 +1,14 @@
 -- A clause with a rule runs inside scopes where its parts do.
 use Rattle.std.proofs.Common.{◌≡◌, List, [], ◌∷◌, ◌++◌}
 use Rattle.std.specs.Prelude.{Some, None}
-use Rattle.ps_base.specs.TyView.{TyView, TyViews}
-use Rattle.ps_program.specs.Node.{Node, Nodes, none, more, Arms, no_arms, more_arms, arm}
-use Rattle.ps_type_text.specs.Texts.{Field}
-use Rattle.ps_typing.specs.WellTyped.{Claim, ◌has◌, all_have, arms_have, Arguments, Rule}
-use Rattle.ps_typing.specs.WellTyped as rule
+use Rattle.ps_built.specs.ps_base.TyView.{TyView, TyViews}
+use Rattle.ps_built.specs.ps_program.Node.{Node, Nodes, none, more, Arms, no_arms, more_arms, arm}
+use Rattle.ps_typing_laws.specs.ps_type_text.Texts.{Field}
+use Rattle.ps_typing_laws.specs.ps_typing.WellTyped.{Claim, ◌has◌, all_have, arms_have, Arguments, Rule}
+use Rattle.ps_typing_laws.specs.ps_typing.WellTyped as rule
 use Rattle.ps_typing_laws.specs.Counted.{Each}
 use Rattle.ps_typing_laws.proofs.Tracked.{clauses_of}
-use Rattle.ps_soundness.specs.Running.{RunsIn, AllRunIn, ArmsRunIn}
+use Rattle.ps_fit_laws.specs.ps_soundness.Running.{RunsIn, AllRunIn, ArmsRunIn}
 use Rattle.ps_fit_laws.specs.Fitting.{Fits, AllFit, ArmsFit}
 use Rattle.ps_built.specs.Library.{own_library}
 use Rattle.ps_built_laws.proofs.Built.{run_code}

@@ -2,15 +2,15 @@
 use Rattle.std.proofs.Common.{◌≡◌, ℕ, ◌+◌, List, [], ◌∷◌, map, inl, inr, arith, refl, sym, ap, ◌∙◌, subst}
 use Rattle.std.specs.Prelude.{zero, suc, Option, Some, None, nat_eq, codes}
 use Rattle.std.proofs.lemmas.Bool.{eqb-true}
-use Rattle.ps_base.specs.TyView.{TyView}
-use Rattle.ps_program.specs.declared.place.Place.{Place}
-use Rattle.ps_program.specs.declared.place.Place.TheVariants.{Plain, Kept}
-use Rattle.ps_type_text.specs.Texts.{Field, class_text, IsName, is_name_byte}
-use Rattle.ps_typing.specs.Placing.{position, next_position, found_at, field_at}
-use Rattle.ps_typing.specs.WellTyped.{At, IsOfType}
+use Rattle.ps_built.specs.ps_base.TyView.{TyView}
+use Rattle.ps_built.specs.ps_program.declared.place.Place.{Place}
+use Rattle.ps_built.specs.ps_program.declared.place.Place.TheVariants.{Plain, Kept}
+use Rattle.ps_typing_laws.specs.ps_type_text.Texts.{Field, class_text, IsName, is_name_byte}
+use Rattle.ps_typing_laws.specs.ps_typing.Placing.{position, next_position, found_at, field_at}
+use Rattle.ps_typing_laws.specs.ps_typing.WellTyped.{At, IsOfType}
 use Rattle.ps_typing_laws.proofs.Numbered.{HasType}
 use Rattle.ps_typing_laws.proofs.Scopes.{by_test, found_here, found_further}
-use Rattle.ps_soundness.specs.Running.{IsPlace, IsScopeText}
+use Rattle.ps_fit_laws.specs.ps_soundness.Running.{IsPlace, IsScopeText}
 use Rattle.ps_fit_laws.proofs.ByCheck.{AllNamed}
 
 -- the names of scopes that keep the names with these numbers

@@ -2,7 +2,7 @@
 use Rattle.std.proofs.Common.{◌≡◌, ℕ, Bool, true, false, ◌||◌, inl, inr, refl}
 use Rattle.std.proofs.lemmas.Bool.{eqb-true}
 use Rattle.std.specs.Prelude.{◌⊎◌, Option, Some, None, not, nat_eq}
-use Rattle.ps_base.specs.declared.line.Line.{Line}
+use Rattle.ps_built.specs.ps_base.declared.line.Line.{Line}
 use Rattle.ps_built.specs.First.{or_else, line_if}
 
 pub both : (a b : Option Line) → or_else a b ≡ None → (a ≡ None) × (b ≡ None)

@@ -1,12 +1,12 @@
 //! What is so of every program of which all runs.
 
 ghost use Rattle.std.specs.Prelude.{◌≡◌, None, []};
-ghost use Rattle.ps_tree.specs.Phrase.{Phrase};
-ghost use Rattle.ps_program.specs.Node.{BodyNode};
-ghost use Rattle.ps_typing.specs.Items.{LetsAreItems};
-ghost use Rattle.ps_typing.specs.Program.{Typed, check_program};
-ghost use Rattle.ps_soundness.specs.Running.{BodyRuns};
-ghost use Rattle.ps_leaf_laws.specs.Leaves.{LeavesFit};
+ghost use Rattle.ps_typing_laws.specs.ps_tree.Phrase.{Phrase};
+ghost use Rattle.ps_built.specs.ps_program.Node.{BodyNode};
+ghost use Rattle.ps_typing_laws.specs.ps_typing.Items.{LetsAreItems};
+ghost use Rattle.ps_typing_laws.specs.ps_typing.Program.{Typed, check_program};
+ghost use Rattle.ps_fit_laws.specs.ps_soundness.Running.{BodyRuns};
+ghost use Rattle.ps_fit_laws.specs.ps_leaf_laws.Leaves.{LeavesFit};
 ghost use Rattle.ps_built.specs.Library.{first_unbuilt_library};
 
 /// A text whose leaves fit and whose `let`s are items of sequences, as in every tree of the grammar, is a program of which all runs, with procedures,

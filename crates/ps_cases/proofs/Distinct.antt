@@ -62,7 +62,7 @@ position_is p xs k x at passes alone =
     let same = alone n (get_or xs n x) (slice_get-get_or xs n x less) passes_there in
     first ∙ ap Some same
 
--- the row behind a key
+-- the row after a key
 row_at : {X A : Type 0} (f : X → A) (xs : List X) (k : ℕ) (key : A) → slice_get (map f xs) k ≡ Some key → (x : X) × (slice_get xs k ≡ Some x) × (f x ≡ key)
 row_at f [] k key at = absurd (cc)
 row_at f (x ∷ xs) zero key at = (x, refl, cc)

@@ -1,30 +1,30 @@
 -- What the causes of an answer exclude.
 use Rattle.std.proofs.Common.{◌≡◌, ℕ, Bool, ◌<◌, ◌≤◌, inl, inr, List, [], length, Some, None, Option, refl, sym, ap, ◌∙◌, subst, arith}
-use Rattle.ps_outside.specs.Outside.{Outside, Rose}
-use Rattle.ps_base.specs.declared.TheConstants.{LONGEST_TEXT}
-use Rattle.ps_program.specs.Node.{BodyNode}
-use Rattle.ps_base.specs.declared.line.Line.{Line}
-use Rattle.ps_scan.specs.declared.token.Token.{Token}
-use Rattle.ps_scan.specs.Fault as scanning
-use Rattle.ps_scan.proofs.Laws.{same_tokens, same_fault, never_both}
-use Rattle.ps_tree.specs.Phrase.{Phrase}
-use Rattle.ps_tree.specs.declared.fault.ParseFault.{ParseFault}
-use Rattle.ps_tree.specs.Fault as parsing
+use Rattle.ps_port.specs.ps_outside.Outside.{Outside, Rose}
+use Rattle.ps_meaning.specs.ps_base.Limits.{most_text_bytes as LONGEST_TEXT}
+use Rattle.ps_built.specs.ps_program.Node.{BodyNode}
+use Rattle.ps_meaning.specs.ps_base.declared.line.Line.{Line}
+use Rattle.ps_words.specs.ps_scan.declared.token.Token.{Token}
+use Rattle.ps_words.specs.ps_scan.Fault as scanning
+use Rattle.ps_words.proofs.of_ps_scan.Laws.{same_tokens, same_fault, never_both}
+use Rattle.ps_parse.specs.ps_tree.Phrase.{Phrase}
+use Rattle.ps_parse.specs.ps_tree.declared.fault.ParseFault.{ParseFault}
+use Rattle.ps_parse.specs.ps_tree.Fault as parsing
 use Rattle.ps_parse.specs.Program.{ReadsAs, IsParseFault}
 use Rattle.ps_parse.proofs.Unique.{one_tree}
 use Rattle.ps_parse.proofs.Faults.{no_fault_of_tree, one_fault}
 use Rattle.ps_built.specs.Library.{first_unbuilt_library}
-use Rattle.ps_typing.specs.Fault.{Fault}
-use Rattle.ps_typing.specs.Program.{Verdict, check_program, Typed, Fails}
-use Rattle.shadow_volume.specs.Found.{Held, Found, no_volume, damaged, damage, found_in}
-use Rattle.shadow_volume.specs.Found as found
-use Rattle.shadow_volume.specs.Making.{IsNone}
-use Rattle.shadow_volume.specs.declared.finding.Damage.{Damage}
-use Rattle.shadow_volume.specs.declared.finding.OpenFault.{OpenFault}
-use Rattle.shadow_volume.specs.declared.finding.OpenFault.TheVariants as cause
+use Rattle.ps_meaning.specs.ps_typing.Fault.{Fault}
+use Rattle.ps_meaning.specs.ps_typing.Program.{Verdict, check_program, Typed, Fails}
+use Rattle.ps_volumes.specs.shadow_volume.Found.{Held, Found, no_volume, damaged, damage, found_in}
+use Rattle.ps_volumes.specs.shadow_volume.Found as found
+use Rattle.ps_volumes.specs.shadow_volume.Making.{IsNone}
+use Rattle.ps_volumes.specs.shadow_volume.declared.finding.Damage.{Damage}
+use Rattle.ps_volumes.specs.shadow_volume.declared.finding.OpenFault.{OpenFault}
+use Rattle.ps_volumes.specs.shadow_volume.declared.finding.OpenFault.TheVariants as cause
 use Rattle.ps_words.specs.Words.{RunOf, CommandOf, a_run, a_volume}
-use Rattle.ps_reports.specs.Reports.{usage_line, memory_line, unreadable_line, too_long_line, fault_line, not_a_volume_line, damaged_line, already_line}
-use Rattle.ps_reports.specs.Answering.{Answers, whole, cut}
+use Rattle.ps_volumes.specs.ps_reports.Reports.{usage_line, memory_line, unreadable_line, too_long_line, fault_line, not_a_volume_line, damaged_line, already_line}
+use Rattle.ps_volumes.specs.ps_reports.Answering.{Answers, whole, cut}
 use Rattle.ps_volumes.specs.Attaching.{HasVolume, KeepsVolume, IsWhyNone, line_of as line_of_cause, status_of as status_of_cause}
 use Rattle.ps_volumes.specs.Making.{IsMakingDue, IsOpen}
 use Rattle.ps_volumes.specs.Making as making
@@ -141,23 +141,23 @@ none_or_open : (content : List ℕ) → IsNone content → IsOpen content → �
 none_or_open content (inl short) opens = let long = opens.long in omega arith
 none_or_open content (inr shut) opens = shut opens.opened
 
-module _ (asked : Option CommandOf) (holds : List ℕ → List ℕ → Type 0) (lacks : List ℕ → Type 0) (failed : Type 0) (old new : Outside (List ℕ)) where
+module _ (asked : Option CommandOf) (holds : List ℕ → List ℕ → Type 0) (lacks may_fail : List ℕ → Type 0) (failed : Type 0) (old new : Outside (List ℕ)) where
   abbrev Dues : List ℕ → ℕ → Type 0
-  Dues bytes status = Due asked holds lacks failed old new bytes status
+  Dues bytes status = Due asked holds lacks may_fail failed old new bytes status
 
   -- a fault of the device was counted
   abbrev Faulted : Type 0
   Faulted = Rose old.device_faults new.device_faults
 
-  own_at : (read : List ℕ → Type 0) (by : Type 0) (told bytes : List ℕ) (due status : ℕ) → told ≡ bytes → due ≡ status → Gets read failed by told due bytes status
-  own_at read by told bytes due status one two = subst (λ (bs : List ℕ). Gets read failed by told due bs status) one (subst (λ (n : ℕ). Gets read failed by told due told n) two Gets.own)
+  own_at : (read : List ℕ → Type 0) (by : Type 0) (told bytes : List ℕ) (due status : ℕ) → told ≡ bytes → due ≡ status → Gets read may_fail failed by told due bytes status
+  own_at read by told bytes due status one two = subst (λ (bs : List ℕ). Gets read may_fail failed by told due bs status) one (subst (λ (n : ℕ). Gets read may_fail failed by told due told n) two Gets.own)
 
   pub no_command : (bytes : List ℕ) (status : ℕ) → asked ≡ None → Dues bytes status → (bytes ≡ usage_line) × (status ≡ 1)
   no_command bytes status none (Due.no_command is left) = (refl, refl)
-  no_command bytes status none (Due.unreadable {run = run} is rose left) = absurd (not_both asked (a_run run) none is)
+  no_command bytes status none (Due.unreadable {run = run} is may rose left) = absurd (not_both asked (a_run run) none is)
   no_command bytes status none (Due.too_long {run = run} is gives left) = absurd (not_both asked (a_run run) none is)
   no_command bytes status none (Due.refused {run = run} is gives fault left) = absurd (not_both asked (a_run run) none is)
-  no_command bytes status none (Due.no_input {run = run} is gives named rose left) = absurd (not_both asked (a_run run) none is)
+  no_command bytes status none (Due.no_input {run = run} is gives named may rose left) = absurd (not_both asked (a_run run) none is)
   no_command bytes status none (Due.long_input {run = run} is gives named long left) = absurd (not_both asked (a_run run) none is)
   no_command bytes status none (Due.no_memory {run = run} is left) = absurd (not_both asked (a_run run) none is)
   no_command bytes status none (Due.unattached {run = run} input is gives given why left) = absurd (not_both asked (a_run run) none is)
@@ -167,10 +167,10 @@ module _ (asked : Option CommandOf) (holds : List ℕ → List ℕ → Type 0) (
   -- the cases of a command that is a run
   record Cases (P : List ℕ → ℕ → Type 0) (run : RunOf) : Type 0 where
     memory : P memory_line 5
-    unread : failed → P (unreadable_line run.file) 7
+    unread : may_fail run.file → failed → P (unreadable_line run.file) 7
     long : (size : ℕ) → GivesTooLong (holds run.file) (lacks run.file) size → P (too_long_line run.file size) 13
     refused : (text stage : List ℕ) (number : ℕ) (line : Line) → Gives (holds run.file) (lacks run.file) text → IsSourceFault text stage number line → P (fault_line run.file stage number line) 2
-    no_input : (program : BodyNode) (name : List ℕ) → GivesProgram holds lacks run program → run.input ≡ Some name → failed → P (unreadable_line name) 7
+    no_input : (program : BodyNode) (name : List ℕ) → GivesProgram holds lacks run program → run.input ≡ Some name → may_fail name → failed → P (unreadable_line name) 7
     long_input : (program : BodyNode) (name : List ℕ) (size : ℕ) → GivesProgram holds lacks run program → run.input ≡ Some name → GivesTooLong (holds name) (lacks name) size → P (too_long_line name size) 13
     unattached : (program : BodyNode) (input : List ℕ) (cause : OpenFault) → GivesProgram holds lacks run program → GivesInput holds lacks run.input input → IsWhyNone old new cause →
         P (line_of_cause cause) (status_of_cause cause)
@@ -179,12 +179,12 @@ module _ (asked : Option CommandOf) (holds : List ℕ → List ℕ → Type 0) (
 
   by_cases : (P : List ℕ → ℕ → Type 0) (run : RunOf) (bytes : List ℕ) (status : ℕ) → asked ≡ Some (a_run run) → Cases P run → Dues bytes status → P bytes status
   by_cases P run bytes status is cases (Due.no_command none left) = absurd (not_both asked (a_run run) none is)
-  by_cases P run bytes status is cases (Due.unreadable {run = r} is' rose left) = (subst (Cases P) (same_run asked run r is is') cases).unread rose
+  by_cases P run bytes status is cases (Due.unreadable {run = r} is' may rose left) = (subst (Cases P) (same_run asked run r is is') cases).unread may rose
   by_cases P run bytes status is cases (Due.too_long {run = r} {size = size} is' gives left) = (subst (Cases P) (same_run asked run r is is') cases).long size gives
   by_cases P run bytes status is cases (Due.refused {run = r} {text = text} {stage = stage} {number = number} {line = line} is' gives fault left) =
       (subst (Cases P) (same_run asked run r is is') cases).refused text stage number line gives fault
-  by_cases P run bytes status is cases (Due.no_input {run = r} {program = program} {name = name} is' gives named rose left) =
-      (subst (Cases P) (same_run asked run r is is') cases).no_input program name gives named rose
+  by_cases P run bytes status is cases (Due.no_input {run = r} {program = program} {name = name} is' gives named may rose left) =
+      (subst (Cases P) (same_run asked run r is is') cases).no_input program name gives named may rose
   by_cases P run bytes status is cases (Due.long_input {run = r} {program = program} {name = name} {size = size} is' gives named long left) =
       (subst (Cases P) (same_run asked run r is is') cases).long_input program name size gives named long
   by_cases P run bytes status is cases (Due.no_memory is' left) = cases.memory
@@ -194,9 +194,9 @@ module _ (asked : Option CommandOf) (holds : List ℕ → List ℕ → Type 0) (
       (subst (Cases P) (same_run asked run r is is') cases).ran program input bytes status gives given comes kept
   by_cases P run bytes status is cases (Due.making {pages = pages} is' due) = absurd (run_or_volume asked run pages is is')
 
-  -- over a volume that is told nothing but the device or want of memory comes in the way
+  -- over a volume that is output nothing but the device or want of memory comes in the way
   over_a_volume : (run : RunOf) (input : List ℕ) (program : BodyNode) (why : OpenFault) → IsWhyNone old new why → (content : List ℕ) → old.contents content → HasVolume content →
-      GetsRun run input program failed Faulted (line_of_cause why) (status_of_cause why)
+      GetsRun run input program may_fail failed Faulted (line_of_cause why) (status_of_cause why)
   over_a_volume run input program cause.Device none content told has = GetsRun.no_device (none.device refl)
   over_a_volume run input program (cause.NotAVolume size gate) none content told has = absurd (a_volume_or_none (found_in content) _ _ _ size gate has.found (none.found content told))
   over_a_volume run input program (cause.Damaged at found wanted) none content told has =
@@ -205,7 +205,7 @@ module _ (asked : Option CommandOf) (holds : List ℕ → List ℕ → Type 0) (
 
   -- the line of a file that is no volume, and of a damaged one
   over_none : (read : List ℕ → Type 0) (why : OpenFault) → IsWhyNone old new why → (content : List ℕ) (size gate : ℕ) → old.contents content → found_in content ≡ no_volume size gate →
-      Gets read failed Faulted (not_a_volume_line size gate) 9 (line_of_cause why) (status_of_cause why)
+      Gets read may_fail failed Faulted (not_a_volume_line size gate) 9 (line_of_cause why) (status_of_cause why)
   over_none read cause.Device none content size gate told is = Gets.no_device (none.device refl)
   over_none read (cause.NotAVolume s g) none content size gate told is =
       let e : no_volume size gate ≡ no_volume s g = sym is ∙ none.found content told in
@@ -217,7 +217,7 @@ module _ (asked : Option CommandOf) (holds : List ℕ → List ℕ → Type 0) (
   over_none read cause.Memory none content size gate told is = Gets.no_memory
 
   over_damaged : (read : List ℕ → Type 0) (why : OpenFault) → IsWhyNone old new why → (content : List ℕ) (at found wanted : ℕ) → old.contents content →
-      found_in content ≡ damaged (damage at found wanted) → Gets read failed Faulted (damaged_line at found wanted) 10 (line_of_cause why) (status_of_cause why)
+      found_in content ≡ damaged (damage at found wanted) → Gets read may_fail failed Faulted (damaged_line at found wanted) 10 (line_of_cause why) (status_of_cause why)
   over_damaged read cause.Device none content at found wanted told is = Gets.no_device (none.device refl)
   over_damaged read (cause.NotAVolume s g) none content at found wanted told is =
       absurd (let e : damaged (damage at found wanted) ≡ no_volume s g = sym is ∙ none.found content told in cc)
@@ -234,10 +234,10 @@ module _ (asked : Option CommandOf) (holds : List ℕ → List ℕ → Type 0) (
   of_making : (P : List ℕ → ℕ → Type 0) (pages : ℕ) (bytes : List ℕ) (status : ℕ) → asked ≡ Some (a_volume pages) →
       ((p : ℕ) (bs : List ℕ) (n : ℕ) → IsMakingDue p old new bs n → P bs n) → Dues bytes status → P bytes status
   of_making P pages bytes status is made (Due.no_command none left) = absurd (not_both asked (a_volume pages) none is)
-  of_making P pages bytes status is made (Due.unreadable {run = run} is' rose left) = absurd (run_or_volume asked run pages is' is)
+  of_making P pages bytes status is made (Due.unreadable {run = run} is' may rose left) = absurd (run_or_volume asked run pages is' is)
   of_making P pages bytes status is made (Due.too_long {run = run} is' gives left) = absurd (run_or_volume asked run pages is' is)
   of_making P pages bytes status is made (Due.refused {run = run} is' gives fault left) = absurd (run_or_volume asked run pages is' is)
-  of_making P pages bytes status is made (Due.no_input {run = run} is' gives named rose left) = absurd (run_or_volume asked run pages is' is)
+  of_making P pages bytes status is made (Due.no_input {run = run} is' gives named may rose left) = absurd (run_or_volume asked run pages is' is)
   of_making P pages bytes status is made (Due.long_input {run = run} is' gives named long left) = absurd (run_or_volume asked run pages is' is)
   of_making P pages bytes status is made (Due.no_memory {run = run} is' left) = absurd (run_or_volume asked run pages is' is)
   of_making P pages bytes status is made (Due.unattached {run = run} input is' gives given why left) = absurd (run_or_volume asked run pages is' is)
@@ -265,13 +265,13 @@ module _ (asked : Option CommandOf) (holds : List ℕ → List ℕ → Type 0) (
       kept_of p bs n (making.there_is_one opened keeps) = GetsOrFails.own
 
   pub lacked_name : (run : RunOf) (bytes : List ℕ) (status : ℕ) → asked ≡ Some (a_run run) → lacks run.file → Dues bytes status →
-      Gets (λ name. name ≡ run.file) failed ⊥ (unreadable_line run.file) 7 bytes status
-  lacked_name run bytes status is lacking due = by_cases (λ bs n. Gets (λ name. name ≡ run.file) failed ⊥ (unreadable_line run.file) 7 bs n) run bytes status is record {
+      Gets (λ name. name ≡ run.file) may_fail failed ⊥ (unreadable_line run.file) 7 bytes status
+  lacked_name run bytes status is lacking due = by_cases (λ bs n. Gets (λ name. name ≡ run.file) may_fail failed ⊥ (unreadable_line run.file) 7 bs n) run bytes status is record {
     memory = Gets.no_memory;
-    unread = λ rose. Gets.own;
+    unread = λ may rose. Gets.own;
     long = λ size gives. absurd (gives.there lacking);
     refused = λ text stage number line gives fault. absurd (gives.there lacking);
-    no_input = λ program name g named rose. absurd (g.gives.there lacking);
+    no_input = λ program name g named may rose. absurd (g.gives.there lacking);
     long_input = λ program name size g named long. absurd (g.gives.there lacking);
     unattached = λ program input why g given none. absurd (g.gives.there lacking);
     ran = λ program input bs n g given comes kept. absurd (g.gives.there lacking);
@@ -297,30 +297,30 @@ module _ (asked : Option CommandOf) (holds : List ℕ → List ℕ → Type 0) (
     same_given program other prog g = one_program text other program (subst (λ (t : List ℕ). IsProgram t other) (g.gives.given text held) g.is) prog
 
     pub first_fault_is_told : (stage : List ℕ) (number : ℕ) (line : Line) (bytes : List ℕ) (status : ℕ) → length text ≤ LONGEST_TEXT → IsSourceFault text stage number line → Dues bytes status →
-        Gets (λ name. name ≡ run.file) failed ⊥ (fault_line run.file stage number line) 2 bytes status
+        Gets (λ name. name ≡ run.file) may_fail failed ⊥ (fault_line run.file stage number line) 2 bytes status
     first_fault_is_told stage number line bytes status short fault due =
-        by_cases (λ bs n. Gets (λ name. name ≡ run.file) failed ⊥ (fault_line run.file stage number line) 2 bs n) run bytes status is record {
+        by_cases (λ bs n. Gets (λ name. name ≡ run.file) may_fail failed ⊥ (fault_line run.file stage number line) 2 bs n) run bytes status is record {
           memory = Gets.no_memory;
-          unread = λ rose. Gets.unreadable refl rose;
+          unread = λ may rose. Gets.unreadable refl may rose;
           long = λ size gives. absurd (not_long size short gives);
           refused = λ other stage' number' line' gives fault'.
               let one = one_source_fault text stage stage' number number' line line' fault (subst (λ (t : List ℕ). IsSourceFault t stage' number' line') (gives.given text held) fault') in
               own_at _ _ _ _ _ _ (same_line run.file stage stage' number number' line line' one) refl;
-          no_input = λ program name g named rose. absurd (no_program program stage number line fault g);
+          no_input = λ program name g named may rose. absurd (no_program program stage number line fault g);
           long_input = λ program name size g named long. absurd (no_program program stage number line fault g);
           unattached = λ program input why g given none. absurd (no_program program stage number line fault g);
           ran = λ program input bs n g given comes kept. absurd (no_program program stage number line fault g);
         } due
 
     pub long_text : (bytes : List ℕ) (status : ℕ) → LONGEST_TEXT < length text → Dues bytes status →
-        Gets (λ name. name ≡ run.file) failed ⊥ (too_long_line run.file (length text)) 13 bytes status
+        Gets (λ name. name ≡ run.file) may_fail failed ⊥ (too_long_line run.file (length text)) 13 bytes status
     long_text bytes status long due =
-        by_cases (λ bs n. Gets (λ name. name ≡ run.file) failed ⊥ (too_long_line run.file (length text)) 13 bs n) run bytes status is record {
+        by_cases (λ bs n. Gets (λ name. name ≡ run.file) may_fail failed ⊥ (too_long_line run.file (length text)) 13 bs n) run bytes status is record {
           memory = Gets.no_memory;
-          unread = λ rose. Gets.unreadable refl rose;
+          unread = λ may rose. Gets.unreadable refl may rose;
           long = λ size gives. own_at _ _ _ _ _ _ (ap (λ (n : ℕ). too_long_line run.file n) (sym (gives.given text held))) refl;
           refused = λ other stage number line gives fault. absurd (not_short other long gives);
-          no_input = λ program name g named rose. absurd (not_short g.text long g.gives);
+          no_input = λ program name g named may rose. absurd (not_short g.text long g.gives);
           long_input = λ program name size g named too_long. absurd (not_short g.text long g.gives);
           unattached = λ program input why g given none. absurd (not_short g.text long g.gives);
           ran = λ program input bs n g given comes kept. absurd (not_short g.text long g.gives);
@@ -338,13 +338,13 @@ module _ (asked : Option CommandOf) (holds : List ℕ → List ℕ → Type 0) (
           let few = h.1 in let many = long.long in let e = long.given input h.0 in omega arith
 
       pub program_is_run : (input content bytes : List ℕ) (status : ℕ) → HoldsInput holds run.input input → old.contents content → HasVolume content → Dues bytes status →
-          GetsRun run input program failed Faulted bytes status
-      program_is_run input content bytes status has told has_one due = by_cases (λ bs n. GetsRun run input program failed Faulted bs n) run bytes status is record {
+          GetsRun run input program may_fail failed Faulted bytes status
+      program_is_run input content bytes status has told has_one due = by_cases (λ bs n. GetsRun run input program may_fail failed Faulted bs n) run bytes status is record {
         memory = GetsRun.no_memory;
-        unread = λ rose. GetsRun.unreadable IsRead.text rose;
+        unread = λ may rose. GetsRun.unreadable IsRead.text may rose;
         long = λ size gives. absurd (not_long size short gives);
         refused = λ other stage number line gives fault. absurd (no_refusal program other stage number line prog gives fault);
-        no_input = λ other name g named rose. GetsRun.unreadable (IsRead.input named) rose;
+        no_input = λ other name g named may rose. GetsRun.unreadable (IsRead.input named) may rose;
         long_input = λ other name size g named long. absurd (no_long_input run.input input name size named has long);
         unattached = λ other read why g given none. over_a_volume run input program why none content told has_one;
         ran = λ other read bs n g given comes kept. GetsRun.own (subst (λ (p : BodyNode). RunsTo run input p bs n) (same_given program other prog g)
@@ -353,27 +353,27 @@ module _ (asked : Option CommandOf) (holds : List ℕ → List ℕ → Type 0) (
 
       -- where no volume is told
       module _ (input content : List ℕ) (has : HoldsInput holds run.input input) (told : old.contents content) where
-        not_over : (line : List ℕ) (number : ℕ) (bytes : List ℕ) (status : ℕ) → ((why : OpenFault) → IsWhyNone old new why → Gets (IsRead run) failed Faulted line number (line_of_cause why) (status_of_cause why))
-            → (HasVolume content → ⊥) → Dues bytes status → Gets (IsRead run) failed Faulted line number bytes status
-        not_over line number bytes status by none due = by_cases (λ bs n. Gets (IsRead run) failed Faulted line number bs n) run bytes status is record {
+        not_over : (line : List ℕ) (number : ℕ) (bytes : List ℕ) (status : ℕ) → ((why : OpenFault) → IsWhyNone old new why → Gets (IsRead run) may_fail failed Faulted line number (line_of_cause why) (status_of_cause why))
+            → (HasVolume content → ⊥) → Dues bytes status → Gets (IsRead run) may_fail failed Faulted line number bytes status
+        not_over line number bytes status by none due = by_cases (λ bs n. Gets (IsRead run) may_fail failed Faulted line number bs n) run bytes status is record {
           memory = Gets.no_memory;
-          unread = λ rose. Gets.unreadable IsRead.text rose;
+          unread = λ may rose. Gets.unreadable IsRead.text may rose;
           long = λ size gives. absurd (not_long size short gives);
           refused = λ other stage number line gives fault. absurd (no_refusal program other stage number line prog gives fault);
-          no_input = λ other name g named rose. Gets.unreadable (IsRead.input named) rose;
+          no_input = λ other name g named may rose. Gets.unreadable (IsRead.input named) may rose;
           long_input = λ other name size g named long. absurd (no_long_input run.input input name size named has long);
           unattached = λ other read why g given is_why. by why is_why;
           ran = λ other read bs n g given comes kept. absurd (none (kept.found content told));
         } due
 
         pub no_volume_refused : (size gate : ℕ) (bytes : List ℕ) (status : ℕ) → found_in content ≡ no_volume size gate → Dues bytes status →
-            Gets (IsRead run) failed Faulted (not_a_volume_line size gate) 9 bytes status
+            Gets (IsRead run) may_fail failed Faulted (not_a_volume_line size gate) 9 bytes status
         no_volume_refused size gate bytes status found due =
             not_over (not_a_volume_line size gate) 9 bytes status (λ why none. over_none (IsRead run) why none content size gate told found)
             (λ has_one. a_volume_or_none (found_in content) _ _ _ size gate has_one.found found) due
 
         pub damaged_refused : (at number wanted : ℕ) (bytes : List ℕ) (status : ℕ) → found_in content ≡ damaged (damage at number wanted) → Dues bytes status →
-            Gets (IsRead run) failed Faulted (damaged_line at number wanted) 10 bytes status
+            Gets (IsRead run) may_fail failed Faulted (damaged_line at number wanted) 10 bytes status
         damaged_refused at number wanted bytes status found due =
             not_over (damaged_line at number wanted) 10 bytes status (λ why none. over_damaged (IsRead run) why none content at number wanted told found)
             (λ has_one. a_volume_or_damaged (found_in content) _ _ _ (damage at number wanted) has_one.found found) due
@@ -385,13 +385,13 @@ module _ (asked : Option CommandOf) (holds : List ℕ → List ℕ → Type 0) (
         given_here : (input : List ℕ) → GivesInput holds lacks run.input input → Gives (holds name) (lacks name) input
         given_here input given = subst (λ (n : Option (List ℕ)). GivesInput holds lacks n input) named given
 
-        pub lacked_input : (bytes : List ℕ) (status : ℕ) → lacks name → Dues bytes status → Gets (IsRead run) failed ⊥ (unreadable_line name) 7 bytes status
-        lacked_input bytes status lacking due = by_cases (λ bs n. Gets (IsRead run) failed ⊥ (unreadable_line name) 7 bs n) run bytes status is record {
+        pub lacked_input : (bytes : List ℕ) (status : ℕ) → lacks name → Dues bytes status → Gets (IsRead run) may_fail failed ⊥ (unreadable_line name) 7 bytes status
+        lacked_input bytes status lacking due = by_cases (λ bs n. Gets (IsRead run) may_fail failed ⊥ (unreadable_line name) 7 bs n) run bytes status is record {
           memory = Gets.no_memory;
-          unread = λ rose. Gets.unreadable IsRead.text rose;
+          unread = λ may rose. Gets.unreadable IsRead.text may rose;
           long = λ size gives. absurd (not_long size short gives);
           refused = λ other stage number line gives fault. absurd (no_refusal program other stage number line prog gives fault);
-          no_input = λ other name' g named' rose. Gets.unreadable (IsRead.input named') rose;
+          no_input = λ other name' g named' may rose. Gets.unreadable (IsRead.input named') may rose;
           long_input = λ other name' size g named' long. absurd (long.there (subst lacks (sym (same_name name' named')) lacking));
           unattached = λ other read why g given none. absurd ((given_here read given).there lacking);
           ran = λ other read bs n g given comes kept. absurd ((given_here read given).there lacking);
@@ -408,13 +408,13 @@ module _ (asked : Option CommandOf) (holds : List ℕ → List ℕ → Type 0) (
             ap (λ (n : ℕ). too_long_line name n) (sym (here.given input has)) ∙ ap (λ (n : List ℕ). too_long_line n size) (sym same)
 
         pub long_input : (input bytes : List ℕ) (status : ℕ) → holds name input → LONGEST_TEXT < length input → Dues bytes status →
-            Gets (IsRead run) failed ⊥ (too_long_line name (length input)) 13 bytes status
-        long_input input bytes status has many due = by_cases (λ bs n. Gets (IsRead run) failed ⊥ (too_long_line name (length input)) 13 bs n) run bytes status is record {
+            Gets (IsRead run) may_fail failed ⊥ (too_long_line name (length input)) 13 bytes status
+        long_input input bytes status has many due = by_cases (λ bs n. Gets (IsRead run) may_fail failed ⊥ (too_long_line name (length input)) 13 bs n) run bytes status is record {
           memory = Gets.no_memory;
-          unread = λ rose. Gets.unreadable IsRead.text rose;
+          unread = λ may rose. Gets.unreadable IsRead.text may rose;
           long = λ size gives. absurd (not_long size short gives);
           refused = λ other stage number line gives fault. absurd (no_refusal program other stage number line prog gives fault);
-          no_input = λ other name' g named' rose. Gets.unreadable (IsRead.input named') rose;
+          no_input = λ other name' g named' may rose. Gets.unreadable (IsRead.input named') may rose;
           long_input = λ other name' size g named' long. own_at _ _ _ _ _ _ (size_told input name' size has (same_name name' named') long) refl;
           unattached = λ other read why g given none. absurd (not_given input read has many (given_here read given));
           ran = λ other read bs n g given comes kept. absurd (not_given input read has many (given_here read given));

@@ -1,19 +1,19 @@
 -- Which text is a program, and where the first fault of one that isn't stands.
 use Rattle.std.specs.Prelude.{◌≡◌, ℕ, List, Some, None, codes}
-use Rattle.ps_base.specs.declared.line.Line.{Line}
-use Rattle.ps_scan.specs.declared.token.Token.{Token}
-use Rattle.ps_scan.specs.declared.fault.ScanFault.{ScanFault}
-use Rattle.ps_scan.specs.Tokens.{HasTokens, HasFault}
-use Rattle.ps_scan.specs.Fault as scanning
-use Rattle.ps_tree.specs.declared.fault.ParseFault.{ParseFault}
-use Rattle.ps_tree.specs.Phrase.{Phrase}
+use Rattle.ps_meaning.specs.ps_base.declared.line.Line.{Line}
+use Rattle.ps_words.specs.ps_scan.declared.token.Token.{Token}
+use Rattle.ps_words.specs.ps_scan.declared.fault.ScanFault.{ScanFault}
+use Rattle.ps_words.specs.ps_scan.Tokens.{HasTokens, HasFault}
+use Rattle.ps_words.specs.ps_scan.Fault as scanning
+use Rattle.ps_parse.specs.ps_tree.declared.fault.ParseFault.{ParseFault}
+use Rattle.ps_parse.specs.ps_tree.Phrase.{Phrase}
 use Rattle.ps_parse.specs.Program.{ReadsAs, IsParseFault}
-use Rattle.ps_tree.specs.Fault as parsing
+use Rattle.ps_parse.specs.ps_tree.Fault as parsing
 use Rattle.ps_built.specs.Library.{first_unbuilt_library}
-use Rattle.ps_program.specs.Node.{BodyNode}
-use Rattle.ps_typing.specs.Fault.{Fault}
-use Rattle.ps_typing.specs.Fault as fault
-use Rattle.ps_typing.specs.Program.{check_program, Typed, Fails}
+use Rattle.ps_built.specs.ps_program.Node.{BodyNode}
+use Rattle.ps_meaning.specs.ps_typing.Fault.{Fault}
+use Rattle.ps_meaning.specs.ps_typing.Fault as fault
+use Rattle.ps_meaning.specs.ps_typing.Program.{check_program, Typed, Fails}
 
 -- The text has these tokens, they read as a tree, and it is typed: this program, each of whose calls of the library is built.
 pub record IsProgram (text : List ℕ) (program : BodyNode) : Type 0 where
@@ -43,7 +43,7 @@ line_of (fault.NotApplicable line) = line
 line_of (fault.Limit line count) = line
 line_of (fault.TooComplex line count) = line
 
--- The first fault of a tree in the check, with its number and its line. A call of a library procedure that isn't built yet is one behind all
+-- The first fault of a tree in the check, with its number and its line. A call of a library procedure that isn't built yet is one after all
 -- typing rules.
 pub data IsCheckFault (phrase : Phrase) : ℕ → Line → Type 0 where
   mistyped : {fault : Fault} → check_program phrase ≡ Fails fault → IsCheckFault phrase (number_of fault) (line_of fault)

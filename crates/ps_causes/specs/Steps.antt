@@ -1,14 +1,15 @@
 -- What each step of a command answers, where the steps before it went well.
 use Rattle.std.specs.Prelude.{◌⊎◌, ℕ, List}
-use Rattle.ps_base.specs.declared.line.Line.{Line}
-use Rattle.ps_program.specs.Node.{BodyNode}
-use Rattle.ps_outside.specs.Outside.{Outside}
+use Rattle.ps_meaning.specs.ps_base.declared.line.Line.{Line}
+use Rattle.ps_built.specs.ps_program.Node.{BodyNode}
+use Rattle.ps_port.specs.ps_outside.Outside.{Outside}
+use Rattle.ps_port.specs.Telling.{LeavesDevice}
 use Rattle.ps_port.specs.declared.shelf.ShelfFault.{ShelfFault}
 use Rattle.ps_port.specs.declared.shelf.ShelfFault.TheVariants.{Failed, TooLong, Memory}
 use Rattle.ps_words.specs.Words.{RunOf}
-use Rattle.ps_reports.specs.Reports.{memory_line, unreadable_line, too_long_line, fault_line}
-use Rattle.ps_reports.specs.Answering.{Answers}
-use Rattle.ps_volumes.specs.Attaching.{Keeps, KeepsVolume, IsUnattached}
+use Rattle.ps_volumes.specs.ps_reports.Reports.{memory_line, unreadable_line, too_long_line, fault_line}
+use Rattle.ps_volumes.specs.ps_reports.Answering.{Answers}
+use Rattle.ps_volumes.specs.Attaching.{KeepsVolume, IsUnattached}
 use Rattle.ps_causes.specs.Source.{IsSourceFault}
 use Rattle.ps_causes.specs.Command.{RunsTo}
 
@@ -38,8 +39,8 @@ pub record AnswersRun (old new : Outside (List ℕ)) (run : RunOf) (input : List
   pub comes : RunsTo run input program bytes status
   pub answers : Answers old new bytes status answered
 
--- it ran over a volume, or there was no memory, or no volume; and the device was left as it is
+-- it ran over a volume; or there was no memory, before the device was called; or there was no volume. The device was left as it is.
 pub data ProgramWhy (old new : Outside (List ℕ)) (run : RunOf) (input : List ℕ) (program : BodyNode) (answered : ℕ) : Type 0 where
   ran : AnswersRun old new run input program answered → KeepsVolume old new → ProgramWhy old new run input program answered
-  no_memory : Answers old new memory_line 5 answered → Keeps old new → ProgramWhy old new run input program answered
+  no_memory : Answers old new memory_line 5 answered → LeavesDevice old new → ProgramWhy old new run input program answered
   no_volume : IsUnattached old new answered → ProgramWhy old new run input program answered

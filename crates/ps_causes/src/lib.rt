@@ -9,3 +9,9 @@ pub use laws::{
     long_text_is_refused, no_command_gets_usage, no_volume_is_refused, output_fault_gets_8,
     program_excludes_fault, program_is_run, volume_is_made, volume_there_is_kept,
 };
+pub use ps_built;
+pub use ps_parse;
+pub use ps_volumes;
+pub use ps_volumes::{obj_store, ps_reports};
+pub use ps_words;
+pub use ps_words::ps_scan;

@@ -1,4 +1,4 @@
--- What the tree of a program comes to: slot counts may be tested before its names have their places.
+-- What the tree of a program returns: slot counts may be tested before its names have their places.
 use Rattle.std.proofs.Common.{◌≡◌, [], sym, ap, ◌∙◌, None}
 use Rattle.std.specs.Prelude.{Option, List}
 use Rattle.ps_base.specs.TyView.{TyView, Void}
@@ -6,12 +6,12 @@ use Rattle.ps_base.specs.declared.line.Line.{Line}
 use Rattle.ps_tree.specs.Phrase.{Phrase}
 use Rattle.ps_program.specs.Node.{Node, BodyNode, body}
 use Rattle.ps_type_text.specs.Texts.{Field}
-use Rattle.ps_typing.specs.Fault.{Fault}
-use Rattle.ps_typing.specs.Library.{library_names}
-use Rattle.ps_typing.specs.Names.{Names}
-use Rattle.ps_typing.specs.Checking.{Outcome, Gives, Refuses, check, wants, is_same}
-use Rattle.ps_typing.specs.Placed.{placed_program}
-use Rattle.ps_typing.specs.Program.{check_program, verdict_of, measured, bodies, first_complex, end_line}
+use Rattle.ps_slots.specs.ps_typing.Fault.{Fault}
+use Rattle.ps_slots.specs.ps_typing.Library.{library_names}
+use Rattle.ps_slots.specs.ps_typing.Names.{Names}
+use Rattle.ps_slots.specs.ps_typing.Checking.{Outcome, Gives, Refuses, check, wants, is_same}
+use Rattle.ps_slots.specs.ps_typing.Placed.{placed_program}
+use Rattle.ps_slots.specs.ps_typing.Program.{check_program, verdict_of, measured, bodies, first_complex, end_line}
 use Rattle.ps_checker.proofs.Blocks.{unpassed}
 use Rattle.ps_typing_laws.proofs.SameCounts.{program_complex}
 

@@ -2,24 +2,24 @@ ghost use Rattle.std.specs.Prelude.{◌≡◌, Some, IfOk, IfErr};
 ghost use Rattle.ps_base.specs.TyView.{Void};
 ghost use Rattle.ps_tree.specs.Phrase.{phrase_of};
 ghost use Rattle.ps_program.specs.NodeView.{body_of};
-ghost use Rattle.ps_typing.specs.Fault.{Fault};
-ghost use Rattle.ps_typing.specs.Library.{library_names};
-ghost use Rattle.ps_typing.specs.Checking.{check as check_of, wants};
-ghost use Rattle.ps_typing.specs.Program.{Typed, Fails, check_program, end_line as end_line_of};
-ghost use Rattle.ps_declared.specs.Faults.{fault_of};
+ghost use Rattle.ps_slots.specs.ps_typing.Fault.{Fault};
+ghost use Rattle.ps_slots.specs.ps_typing.Library.{library_names};
+ghost use Rattle.ps_slots.specs.ps_typing.Checking.{check as check_of, wants};
+ghost use Rattle.ps_slots.specs.ps_typing.Program.{Typed, Fails, check_program, end_line as end_line_of};
+ghost use Rattle.ps_checker.specs.ps_declared.Faults.{fault_of};
 ghost use Rattle.ps_check.specs.inside.Whole.{IsWhole};
 
 use crate::program::{Measured, program};
 use ps_base::line::Line;
 use ps_base::list::List;
 use ps_base::ty::Ty;
-use ps_checked::items::{end_line, taken_items};
 use ps_checker::checker::Checker;
-use ps_declared::fault::CheckFault;
+use ps_checker::ps_checked::items::{end_line, taken_items};
+use ps_checker::ps_declared::fault::CheckFault;
+use ps_checker::ps_scope::scope::Scope;
 use ps_names::place;
 use ps_program::body::{Body, Program};
 use ps_program::form::Tree;
-use ps_scope::scope::Scope;
 use ps_slots::{Complex, Sizes};
 use ps_tree::rough::Rough;
 use ps_type_text::Member;
@@ -64,7 +64,7 @@ fn tree_and_names(alloc: Global, rough: Rough) -> Result<Whole, CheckFault>
     let mut rough = rough;
     let line = rough.line;
     let end = end_line(&rough);
-    // Let go last: what the scope let go behind them would be joined with all of their small pieces.
+    // Let go last: what the scope let go after them would be joined with all of their small pieces.
     let mut items = taken_items(alloc, &mut rough);
     let scope = Scope::new(alloc)?;
     let mut checker = Checker { alloc, scope };

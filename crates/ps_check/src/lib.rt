@@ -5,3 +5,5 @@
 
 pub mod check;
 mod program;
+
+pub use ps_checker::ps_declared;

@@ -3,7 +3,7 @@ use Rattle.std.proofs.Common.{◌≡◌, ◌≤◌, ◌<◌, ◌-◌, ℕ, suc, 
 use Rattle.ps_base.specs.declared.line.Line.{Line}
 use Rattle.ps_tree.specs.PhraseLists.{phrases_in}
 use Rattle.ps_tree.specs.declared.rough.Rough.{Rough}
-use Rattle.ps_typing.specs.Program.{last_line}
+use Rattle.ps_declared.specs.ps_typing.Program.{last_line}
 
 -- the line of the last item
 pub last_is : (line : Line) (items : List Rough) (d : Rough) → 1 ≤ length items → last_line line (phrases_in items) ≡ (get_or items (length items - 1) d).line

@@ -3,8 +3,8 @@ use Rattle.std.proofs.Common.{◌≡◌, ◌≤◌, ◌+◌, ℕ, List, [], ◌�
 use Rattle.ps_tree.specs.Phrase.{phrase_of}
 use Rattle.ps_tree.specs.declared.rough.Rough.{Rough}
 use Rattle.ps_program.specs.Node.{Node}
-use Rattle.ps_typing.specs.Names.{Names}
-use Rattle.ps_typing.specs.Checking.{Outcome, check}
+use Rattle.ps_declared.specs.ps_typing.Names.{Names}
+use Rattle.ps_declared.specs.ps_typing.Checking.{Outcome, check}
 use Rattle.ps_declared.specs.declared.fault.CheckFault.{CheckFault}
 use Rattle.ps_checked.specs.declared.link.Link.{Link}
 use Rattle.ps_checked.specs.declared.link.Link.TheVariants as link
@@ -13,7 +13,7 @@ use Rattle.ps_checked.specs.inside.Links.{check_link, check_links}
 use Rattle.ps_checked.specs.inside.Weights.{weight, weight_link, weight_links}
 use Rattle.ps_declared.proofs.Steps.{fails_first, fails_test}
 
--- a link behind the innermost comes first
+-- a link after the innermost comes first
 pub check_links-push : (links : List Link) (last : Link) (o : Outcome Node) → check_links (links ++ last ∷ []) o ≡ check_links links (check_link last o)
 check_links-push [] last o = refl
 check_links-push (l ∷ links) last o = ap (check_link l) (check_links-push links last o)

@@ -3,7 +3,7 @@ use Rattle.std.proofs.Common.{◌≡◌, ◌≢◌, List, [], ◌∷◌, None, l
 use Rattle.ps_program.specs.Node as node
 use Rattle.ps_program.specs.NodeView.{nodes_in}
 use Rattle.ps_program.specs.declared.form.Tree.{Tree}
-use Rattle.ps_typing.specs.Checking.{together}
+use Rattle.ps_declared.specs.ps_typing.Checking.{together}
 
 pub several : (ts : List Tree) → length ts ≢ 1 → node.Block None (nodes_in ts) ≡ together (nodes_in ts)
 several [] other = refl

@@ -2,7 +2,7 @@
 use Rattle.std.proofs.Common.{◌≡◌, true, false, refl}
 use Rattle.ps_base.specs.TyView.{TyView, Void}
 use Rattle.ps_base.specs.TyView as types
-use Rattle.ps_typing.specs.Checking.{isnt_void, is_same}
+use Rattle.ps_declared.specs.ps_typing.Checking.{isnt_void, is_same}
 
 pub not_void : (t : TyView) → isnt_void t ≡ true → is_same t Void ≡ false
 not_void types.Int is = refl

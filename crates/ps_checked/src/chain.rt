@@ -1,7 +1,7 @@
 ghost use Rattle.std.specs.Prelude.{◌≡◌, ◌+◌, ◌≤◌, IfOk, IfErr, IfSome};
 ghost use Rattle.ps_tree.specs.Phrase.{phrase_of};
-ghost use Rattle.ps_typing.specs.Names.{Names};
-ghost use Rattle.ps_typing.specs.Checking.{check as check_of};
+ghost use Rattle.ps_declared.specs.ps_typing.Names.{Names};
+ghost use Rattle.ps_declared.specs.ps_typing.Checking.{check as check_of};
 ghost use Rattle.ps_declared.specs.inside.Answers.{IsMemory};
 ghost use Rattle.ps_checked.specs.inside.Links.{check_link, check_links};
 ghost use Rattle.ps_checked.specs.inside.Weights.{weight, weight_link, weight_links};

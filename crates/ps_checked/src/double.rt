@@ -1,7 +1,7 @@
 ghost use Rattle.std.specs.Prelude.{◌≡◌, MatchResult};
 ghost use Rattle.ps_base.specs.TyView.{ty_view};
 ghost use Rattle.ps_program.specs.NodeView.{node_of};
-ghost use Rattle.ps_scope.specs.Content.{Content, names_of};
+ghost use Rattle.ps_declared.specs.ps_scope.Content.{Content, names_of};
 ghost use Rattle.ps_base.specs.TyView as types;
 ghost use Rattle.ps_program.specs.Node as node;
 ghost use Rattle.ps_declared.specs.inside.Answers.{IsClause, IsMade, IsMemory};
@@ -23,13 +23,13 @@ use std::alloc::Global;
 pub enum Double {
     IfDo,
     While,
-    /// A loop with its test behind what is done, and nothing behind the test.
+    /// A loop with its test after what is done, and nothing after the test.
     Repeat,
-    /// The test of such a loop, and what is done behind it.
+    /// The test of such a loop, and what is done after it.
     RepeatDo {
         a: Tree,
     },
-    /// The two clauses behind the test.
+    /// The two clauses after the test.
     IfElse {
         c: Tree,
     },
@@ -157,7 +157,7 @@ impl Double {
     }
 }
 
-// A loop with nothing behind its test.
+// A loop with nothing after its test.
 fn repeated(alloc: Global, a: Tree, c: Tree) -> Result<Clause, CheckFault>
     ensures { IsMade (node.Repeat (node_of a) (node_of c) node.Empty) types.Void result }
 {

@@ -6,9 +6,9 @@ ghost use Rattle.ps_tree.specs.Phrase as form;
 ghost use Rattle.ps_tree.specs.PhraseLists.{phrases_in};
 ghost use Rattle.ps_program.specs.Node as node;
 ghost use Rattle.ps_program.specs.NodeView.{node_of, nodes_in};
-ghost use Rattle.ps_scope.specs.Content.{Content, names_of};
-ghost use Rattle.ps_typing.specs.Checking.{Gives, together, wants};
-ghost use Rattle.ps_typing.specs.Program.{end_line as end_line_of};
+ghost use Rattle.ps_declared.specs.ps_scope.Content.{Content, names_of};
+ghost use Rattle.ps_declared.specs.ps_typing.Checking.{Gives, together, wants};
+ghost use Rattle.ps_declared.specs.ps_typing.Program.{end_line as end_line_of};
 ghost use Rattle.ps_declared.specs.inside.Answers.{IsMade};
 ghost use Rattle.ps_checked.specs.inside.Lists.{IsPushed};
 
@@ -69,7 +69,7 @@ pub fn one_or_sequence(alloc: Global, mut items: Vec<Tree>) -> Result<Clause, Ch
     }
 }
 
-/// Puts the tree of a clause on this line behind others, where its type is this one; else `Mismatch`. The only other fault is `Memory`.
+/// Puts the tree of a clause on this line after others, where its type is this one; else `Mismatch`. The only other fault is `Memory`.
 pub fn push_typed(
     trees: &mut Vec<Tree>,
     clause: Clause,

@@ -1,6 +1,6 @@
 //! What the check makes of clauses that were checked: of what type they have to be, and the clause of a form with its parts.
 //!
-//! Nothing here goes into a clause of the text: `ps_check` does, and hands in what came of it.
+//! Nothing here goes into a clause of the text: `ps_checker` does, and hands in what came of it.
 #![tactic(auto)]
 
 pub mod arms;
@@ -17,3 +17,6 @@ pub mod single;
 pub mod triple;
 pub mod vectors;
 pub mod wanted;
+
+pub use ps_declared;
+pub use ps_declared::ps_scope;

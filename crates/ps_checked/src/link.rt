@@ -2,7 +2,7 @@ ghost use Rattle.std.specs.Prelude.{◌≡◌, ◌+◌};
 ghost use Rattle.ps_tree.specs.Phrase.{phrase_of};
 ghost use Rattle.ps_tree.specs.PhraseLists.{phrases_in};
 ghost use Rattle.ps_program.specs.Node.{Node};
-ghost use Rattle.ps_typing.specs.Checking.{Outcome};
+ghost use Rattle.ps_declared.specs.ps_typing.Checking.{Outcome};
 ghost use Rattle.ps_checked.specs.inside.Weights.{weight, weight_all, weight_link};
 ghost use Rattle.ps_base.specs.TyView.{ty_view};
 ghost use Rattle.ps_program.specs.NodeView.{node_of};
@@ -55,7 +55,7 @@ impl Joint {
     }
 }
 
-/// A link of a chain: what comes behind a left operand.
+/// A link of a chain: what comes after a left operand.
 #[derive(Clone, Copy)]
 pub enum Link<'a> {
     /// An operator and its right operand; the left one begins on the line.

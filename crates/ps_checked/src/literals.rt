@@ -5,8 +5,8 @@ ghost use Rattle.ps_tree.specs.Phrase.{groups_in};
 ghost use Rattle.ps_program.specs.Node as node;
 ghost use Rattle.ps_program.specs.Node.{body};
 ghost use Rattle.ps_program.specs.NodeView.{node_of, params_of};
-ghost use Rattle.ps_scope.specs.Content.{names_of};
-ghost use Rattle.ps_typing.specs.Checking.{Gives, with_params, types_of};
+ghost use Rattle.ps_declared.specs.ps_scope.Content.{names_of};
+ghost use Rattle.ps_declared.specs.ps_typing.Checking.{Gives, with_params, types_of};
 ghost use Rattle.ps_declared.specs.inside.Answers.{IsFault, IsMade, IsMemory};
 ghost use Rattle.ps_declared.specs.inside.Declaring.{AreParams, IsParam, one_param};
 ghost use Rattle.ps_declared.specs.inside.Views.{groups_of, group_of, literal_of};
@@ -18,10 +18,10 @@ use ps_declared::clause::Clause;
 use ps_declared::declarators::{self, Declarator, MOST, declarators};
 use ps_declared::fault::CheckFault;
 use ps_declared::looks::Literal;
+use ps_declared::ps_scope::scope::Scope;
 use ps_program::body::{Body, Param};
 use ps_program::form::{Tree, TreeForm};
 use ps_program::place::Place;
-use ps_scope::scope::Scope;
 use std::alloc::Global;
 
 /// The parameters of a literal, one by one, and as the variables that they are.

@@ -1,7 +1,7 @@
 ghost use Rattle.std.specs.Prelude.{◌≡◌};
 ghost use Rattle.ps_base.specs.TyView.{ty_view};
 ghost use Rattle.ps_program.specs.NodeView.{node_of};
-ghost use Rattle.ps_scope.specs.Content.{names_of};
+ghost use Rattle.ps_declared.specs.ps_scope.Content.{names_of};
 ghost use Rattle.ps_declared.specs.inside.Answers.{IsClause};
 ghost use Rattle.ps_checked.specs.inside.Parts.{want_of, single_want, single_made};
 
@@ -15,8 +15,8 @@ use ps_declared::classes::class_tested;
 use ps_declared::clause::Clause;
 use ps_declared::fault::CheckFault;
 use ps_declared::names::introduced;
+use ps_declared::ps_scope::scope::Scope;
 use ps_program::form::{Tree, TreeForm};
-use ps_scope::scope::Scope;
 use ps_tree::rough::Named;
 use std::alloc::Global;
 
@@ -28,7 +28,7 @@ pub enum Single<'a> {
     Bound { upper: bool },
     /// Whether an object is of the class, or isn't.
     Is { class: &'a Named, negated: bool },
-    /// The initial value of a name, which is in scope behind it.
+    /// The initial value of a name, which is in scope after it.
     Initial { name: &'a Named, variable: bool },
     /// The right operand.
     Joined { joint: Joint, left: Tree },

@@ -1,7 +1,7 @@
 ghost use Rattle.std.specs.Prelude.{◌≡◌};
 ghost use Rattle.ps_program.specs.NodeView.{node_of};
 ghost use Rattle.ps_tree.specs.Phrase.{Phrase};
-ghost use Rattle.ps_typing.specs.Names.{Names};
+ghost use Rattle.ps_declared.specs.ps_typing.Names.{Names};
 ghost use Rattle.ps_checked.specs.inside.Parts.{want_of, triple_first, triple_rest, check_double};
 
 use crate::double::Double;
@@ -32,7 +32,7 @@ impl Triple {
         }
     }
 
-    /// The form behind its first part.
+    /// The form after its first part.
     pub fn rest(self, first: Tree) -> Double
         ensures { (names : Names) (a : Phrase) (b : Phrase) → check_double result names a b ≡ triple_rest self (node_of first) names a b }
     {

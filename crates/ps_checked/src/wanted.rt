@@ -3,8 +3,8 @@ ghost use Rattle.ps_base.specs.TyView.{ty_view};
 ghost use Rattle.ps_base.specs.declared.line.Line.{Line as LineAt};
 ghost use Rattle.ps_program.specs.Node.{Node};
 ghost use Rattle.ps_program.specs.NodeView.{node_of};
-ghost use Rattle.ps_scope.specs.Content.{Content, names_of};
-ghost use Rattle.ps_typing.specs.Checking.{Gives, Outcome, like};
+ghost use Rattle.ps_declared.specs.ps_scope.Content.{Content, names_of};
+ghost use Rattle.ps_declared.specs.ps_typing.Checking.{Gives, Outcome, like};
 ghost use Rattle.ps_declared.specs.inside.Answers.{IsClause};
 ghost use Rattle.ps_checked.specs.inside.Parts.{meets, want_of};
 

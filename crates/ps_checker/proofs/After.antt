@@ -15,17 +15,17 @@ use Rattle.ps_base.specs.declared.list.List.{List as ListOf}
 use Rattle.ps_program.proofs.NodeLists.{arm_of-parts}
 use Rattle.ps_program.specs.declared.form.Arm.{Arm as ArmOf, Arm-F, roll-Arm, out-roll-Arm}
 use Rattle.ps_program.specs.declared.form.Tree.{Tree}
-use Rattle.ps_typing.specs.Fault.{Mismatch}
-use Rattle.ps_typing.specs.Names.{Names}
-use Rattle.ps_typing.specs.Checking.{Outcome, Gives, Refuses, ◌>>=◌, Checker, check, check_all, check_arms, check_each, check_args, check_written, checkers, check_if_any, is_same, is_writable, is_present, first_type, like, line_of, passes, wants}
-use Rattle.ps_typing.proofs.SameTypes.{same_is_equal}
-use Rattle.ps_declared.specs.declared.fault.CheckFault.{CheckFault}
-use Rattle.ps_declared.specs.inside.Answers.{IsFault}
-use Rattle.ps_checked.specs.inside.Cases.{check_arm, all_arms}
-use Rattle.ps_checked.specs.inside.Lists.{behind_void, check_item}
-use Rattle.ps_declared.proofs.Steps.{given, fails_as, fails_first}
+use Rattle.ps_steps.specs.ps_typing.Fault.{Mismatch}
+use Rattle.ps_steps.specs.ps_typing.Names.{Names}
+use Rattle.ps_steps.specs.ps_typing.Checking.{Outcome, Gives, Refuses, ◌>>=◌, Checker, check, check_all, check_arms, check_each, check_args, check_written, checkers, check_if_any, is_same, is_writable, is_present, first_type, like, line_of, passes, wants}
+use Rattle.ps_steps.proofs.of_ps_typing.SameTypes.{same_is_equal}
+use Rattle.ps_steps.specs.ps_declared.declared.fault.CheckFault.{CheckFault}
+use Rattle.ps_steps.specs.ps_declared.inside.Answers.{IsFault}
+use Rattle.ps_steps.specs.ps_checked.inside.Cases.{check_arm, all_arms}
+use Rattle.ps_steps.specs.ps_checked.inside.Lists.{behind_void, check_item}
+use Rattle.ps_steps.proofs.of_ps_declared.Steps.{given, fails_as, fails_first}
 
--- what was made, in front of what the rest gives
+-- what was made, before what the rest gives
 abbrev pub after : {A B : Type 0} → (A → B) → Outcome A → Outcome B
 after f o = o >>= λ rest ty names. Gives (f rest) ty names
 
@@ -55,14 +55,14 @@ pub arms_none : (done : List ArmOf) → after_arms done no_arms ≡ arms_in done
 arms_none [] = refl
 arms_none (d ∷ done) = ap (λ (as_ : Arms). more_arms (arm_of d) as_) (arms_none done)
 
--- nothing in front
+-- nothing before it
 pub after_nothing : {A : Type 0} (f : A → A) (o : Outcome A) → ((a : A) → f a ≡ a) → after f o ≡ o
 unfolding ◌>>=◌
 after_nothing f (Gives a t n) same = ap (λ a. Gives a t n) (same a)
 after_nothing f (Refuses fault) same = refl
 
 module _ {A B : Type 0} where
-  -- one more in front
+  -- one more at the start
   pub after_one : (f g : A → B) (one : A → A) (o : Outcome A) → ((a : A) → f (one a) ≡ g a) → after f (after one o) ≡ after g o
   unfolding ◌>>=◌
   after_one f g one (Gives a t n) same = ap (λ b. Gives b t n) (same a)
@@ -192,7 +192,7 @@ abbrev pub or_given : TyView → Option TyView → TyView
 or_given last (Some own) = own
 or_given last None = last
 
--- what was made, in front of what the rest gives, with that type
+-- what was made, before what the rest gives, with that type
 abbrev pub after_given : {A B : Type 0} → Option TyView → (A → B) → Outcome A → Outcome B
 after_given known f o = o >>= λ rest last names. Gives (f rest) (or_given last known) names
 

@@ -13,10 +13,10 @@ use Rattle.ps_tree.specs.PhraseLists.{phrases_in}
 use Rattle.ps_tree.specs.declared.rough.Rough.{Rough}
 use Rattle.ps_program.specs.Node.{Node, Nodes, none}
 use Rattle.ps_program.specs.Node as node
-use Rattle.ps_typing.specs.Fault.{NotApplicable}
-use Rattle.ps_typing.specs.Names.{Names}
-use Rattle.ps_typing.specs.Checking.{Outcome, Gives, Refuses, ◌>>=◌, Checker, check, check_args, checkers, count_types, elements, line_of, wants, value_applied, with_args, scan_applied}
-use Rattle.ps_checked.specs.inside.Forms.{check_element}
+use Rattle.ps_steps.specs.ps_typing.Fault.{NotApplicable}
+use Rattle.ps_steps.specs.ps_typing.Names.{Names}
+use Rattle.ps_steps.specs.ps_typing.Checking.{Outcome, Gives, Refuses, ◌>>=◌, Checker, check, check_args, checkers, count_types, elements, line_of, wants, value_applied, with_args, scan_applied}
+use Rattle.ps_steps.specs.ps_checked.inside.Forms.{check_element}
 
 counted_types : (ts : List Ty) → count_types (ty_views ts) ≡ length ts
 counted_types [] = refl

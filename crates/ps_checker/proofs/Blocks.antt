@@ -4,11 +4,11 @@ use Rattle.std.specs.Prelude.{if◌then◌else◌}
 use Rattle.ps_base.specs.TyView.{TyView}
 use Rattle.ps_base.specs.declared.line.Line.{Line}
 use Rattle.ps_program.specs.Node.{Node, Param}
-use Rattle.ps_typing.specs.Fault.{Limit, Mismatch}
-use Rattle.ps_typing.specs.Names.{Names}
-use Rattle.ps_typing.specs.Checking.{Outcome, Gives, Refuses, passes, with_params}
-use Rattle.ps_declared.specs.inside.Looks.{LiteralAt}
-use Rattle.ps_checked.specs.inside.Forms.{opened}
+use Rattle.ps_steps.specs.ps_typing.Fault.{Limit, Mismatch}
+use Rattle.ps_steps.specs.ps_typing.Names.{Names}
+use Rattle.ps_steps.specs.ps_typing.Checking.{Outcome, Gives, Refuses, passes, with_params}
+use Rattle.ps_steps.specs.ps_declared.inside.Looks.{LiteralAt}
+use Rattle.ps_steps.specs.ps_checked.inside.Forms.{opened}
 
 pub stays : {A : Type 0} (block : ℕ) (last here around : List A) → last ≡ here ++ around → block ≡ length around → block ≤ length last
 stays block last here around is at =

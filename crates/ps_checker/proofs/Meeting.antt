@@ -3,12 +3,12 @@ use Rattle.std.proofs.Common.{◌≡◌, subst}
 use Rattle.ps_base.specs.TyView.{TyView}
 use Rattle.ps_base.specs.declared.line.Line.{Line}
 use Rattle.ps_program.specs.Node.{Node}
-use Rattle.ps_typing.specs.Names.{Names}
-use Rattle.ps_typing.specs.Checking.{Outcome, Gives}
-use Rattle.ps_declared.specs.declared.fault.CheckFault.{CheckFault}
-use Rattle.ps_declared.specs.inside.Answers.{IsFault}
-use Rattle.ps_checked.specs.inside.Parts.{Want, any, this, passing, meets}
-use Rattle.ps_declared.proofs.Steps.{fails_test}
+use Rattle.ps_steps.specs.ps_typing.Names.{Names}
+use Rattle.ps_steps.specs.ps_typing.Checking.{Outcome, Gives}
+use Rattle.ps_steps.specs.ps_declared.declared.fault.CheckFault.{CheckFault}
+use Rattle.ps_steps.specs.ps_declared.inside.Answers.{IsFault}
+use Rattle.ps_steps.specs.ps_checked.inside.Parts.{Want, any, this, passing, meets}
+use Rattle.ps_steps.proofs.of_ps_declared.Steps.{fails_test}
 
 -- the fault of a clause is that of the clause with its type
 pub fails_unmet : (want : Want) (line : Line) (o : Outcome Node) (fault : CheckFault) → IsFault o fault → IsFault (meets want line o) fault

@@ -9,7 +9,7 @@ use Rattle.ps_tree.specs.declared.rough.RoughArm.{RoughArm}
 use Rattle.ps_tree.specs.declared.rough.RoughItem.{RoughItem}
 use Rattle.ps_tree.specs.Phrase.{more, more_items, more_arms, none, no_items, no_arms, phrase_of, item_of, arm_of}
 use Rattle.ps_tree.specs.PhraseLists.{phrases_in, items_in, arms_in}
-use Rattle.ps_checked.specs.inside.Weights.{weight, weight_all, weight_item, weight_written, weight_arm, weight_arms}
+use Rattle.ps_steps.specs.ps_checked.inside.Weights.{weight, weight_all, weight_item, weight_written, weight_arm, weight_arms}
 
 -- a clause of a list weighs no more than the list
 pub weight_at : (clauses : List Rough) (i : ℕ) (d : Rough) → i < length clauses → weight (phrase_of (get_or clauses i d)) ≤ weight_all (phrases_in clauses)
@@ -43,7 +43,7 @@ arms_from arms i one below is = ap arms_in (drop-cons arms i one below) ∙ ap (
 pub types_from : (types : List Ty) (i : ℕ) (one : Ty) → i < length types → one ≡ get_or types i one → ty_views (drop i types) ≡ ty.more (ty_view one) (ty_views (drop (i + 1) types))
 types_from types i one below is = ap ty_views (drop-cons types i one below) ∙ ap (λ t. ty.more (ty_view t) (ty_views (drop (suc i) types))) (sym is) ∙ ap (λ k. ty.more (ty_view one) (ty_views (drop k types))) (up i)
 
--- behind the last there is none
+-- after the last there is none
 pub phrases_behind : (clauses : List Rough) (i : ℕ) → length clauses ≤ i → phrases_in (drop i clauses) ≡ none
 phrases_behind clauses i past = ap phrases_in (drop_all i clauses past)
 

@@ -1,24 +1,24 @@
 ghost use Rattle.ps_base.specs.TyView.{ty_view, ty_views};
 ghost use Rattle.ps_tree.specs.PhraseLists.{phrases_in};
 ghost use Rattle.ps_program.specs.NodeView.{node_of};
-ghost use Rattle.ps_scope.specs.Content.{names_of};
-ghost use Rattle.ps_typing.specs.Names.{meant};
-ghost use Rattle.ps_typing.specs.Checking.{checkers, value_applied, name_applied as name_applied_of, with_args as with_args_of};
-ghost use Rattle.ps_declared.specs.inside.Answers.{IsClause};
-ghost use Rattle.ps_checked.specs.inside.Forms.{head_node};
+ghost use Rattle.ps_steps.specs.ps_scope.Content.{names_of};
+ghost use Rattle.ps_steps.specs.ps_typing.Names.{meant};
+ghost use Rattle.ps_steps.specs.ps_typing.Checking.{checkers, value_applied, name_applied as name_applied_of, with_args as with_args_of};
+ghost use Rattle.ps_steps.specs.ps_declared.inside.Answers.{IsClause};
+ghost use Rattle.ps_steps.specs.ps_checked.inside.Forms.{head_node};
 
 use crate::checker::Checker;
 use ps_base::line::Line;
 use ps_base::ty::Ty;
-use ps_checked::double::Double;
-use ps_checked::head::Head;
-use ps_checked::items::push_typed;
-use ps_checked::vectors::subscripted;
-use ps_declared::clause::Clause;
-use ps_declared::fault::CheckFault;
-use ps_declared::fields::field_of;
-use ps_declared::names::{meaning, value_of};
-use ps_scope::meaning::{Meaning, Procedure};
+use ps_steps::ps_checked::double::Double;
+use ps_steps::ps_checked::head::Head;
+use ps_steps::ps_checked::items::push_typed;
+use ps_steps::ps_checked::vectors::subscripted;
+use ps_steps::ps_declared::clause::Clause;
+use ps_steps::ps_declared::fault::CheckFault;
+use ps_steps::ps_declared::fields::field_of;
+use ps_steps::ps_declared::names::{meaning, value_of};
+use ps_steps::ps_scope::meaning::{Meaning, Procedure};
 use ps_tree::rough::Rough;
 
 impl Checker {

@@ -3,20 +3,20 @@ ghost use Rattle.ps_base.specs.TyView.{ty_view};
 ghost use Rattle.ps_tree.specs.Phrase.{phrase_of};
 ghost use Rattle.ps_tree.specs.Phrase as form;
 ghost use Rattle.ps_tree.specs.PhraseLists.{arms_in as rough_arms_in};
-ghost use Rattle.ps_scope.specs.Content.{names_of};
-ghost use Rattle.ps_typing.specs.Checking.{check_arms};
-ghost use Rattle.ps_declared.specs.inside.Answers.{IsClause, check_unlined};
-ghost use Rattle.ps_checked.specs.inside.Cases.{AreArms};
+ghost use Rattle.ps_steps.specs.ps_scope.Content.{names_of};
+ghost use Rattle.ps_steps.specs.ps_typing.Checking.{check_arms};
+ghost use Rattle.ps_steps.specs.ps_declared.inside.Answers.{IsClause, check_unlined};
+ghost use Rattle.ps_steps.specs.ps_checked.inside.Cases.{AreArms};
 
 use crate::checker::Checker;
 use ps_base::list::List;
 use ps_base::ty::Ty;
-use ps_checked::arms::Arms;
-use ps_checked::fits::Test;
-use ps_checked::wanted::Wanted;
-use ps_declared::clause::Clause;
-use ps_declared::fault::CheckFault;
 use ps_program::form::{Arm, TreeForm};
+use ps_steps::ps_checked::arms::Arms;
+use ps_steps::ps_checked::fits::Test;
+use ps_steps::ps_checked::wanted::Wanted;
+use ps_steps::ps_declared::clause::Clause;
+use ps_steps::ps_declared::fault::CheckFault;
 use ps_tree::rough::{Rough, RoughArm};
 
 impl Checker {

@@ -1,19 +1,19 @@
 ghost use Rattle.ps_base.specs.TyView.{ty_view};
 ghost use Rattle.ps_tree.specs.Phrase.{phrase_of};
 ghost use Rattle.ps_program.specs.NodeView.{node_of};
-ghost use Rattle.ps_scope.specs.Content.{names_of};
-ghost use Rattle.ps_typing.specs.Checking.{Gives, check as check_of};
-ghost use Rattle.ps_declared.specs.inside.Answers.{IsClause};
-ghost use Rattle.ps_checked.specs.inside.Links.{check_link};
+ghost use Rattle.ps_steps.specs.ps_scope.Content.{names_of};
+ghost use Rattle.ps_steps.specs.ps_typing.Checking.{Gives, check as check_of};
+ghost use Rattle.ps_steps.specs.ps_declared.inside.Answers.{IsClause};
+ghost use Rattle.ps_steps.specs.ps_checked.inside.Links.{check_link};
 
 use crate::checker::Checker;
 use ps_base::ty::Ty;
-use ps_checked::chain::{Chain, gather};
-use ps_checked::double::Double;
-use ps_checked::link::Link;
-use ps_checked::single::Single;
-use ps_declared::clause::Clause;
-use ps_declared::fault::CheckFault;
+use ps_steps::ps_checked::chain::{Chain, gather};
+use ps_steps::ps_checked::double::Double;
+use ps_steps::ps_checked::link::Link;
+use ps_steps::ps_checked::single::Single;
+use ps_steps::ps_declared::clause::Clause;
+use ps_steps::ps_declared::fault::CheckFault;
 use ps_tree::rough::Rough;
 
 impl Checker {

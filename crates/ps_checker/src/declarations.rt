@@ -1,18 +1,18 @@
 ghost use Rattle.ps_tree.specs.Phrase.{named};
-ghost use Rattle.ps_scope.specs.Content.{names_of};
-ghost use Rattle.ps_declared.specs.inside.Answers.{IsClause};
-ghost use Rattle.ps_checked.specs.inside.Forms.{check_literal, check_named};
-ghost use Rattle.ps_declared.specs.inside.Views.{literal_of};
+ghost use Rattle.ps_steps.specs.ps_scope.Content.{names_of};
+ghost use Rattle.ps_steps.specs.ps_declared.inside.Answers.{IsClause};
+ghost use Rattle.ps_steps.specs.ps_checked.inside.Forms.{check_literal, check_named};
+ghost use Rattle.ps_steps.specs.ps_declared.inside.Views.{literal_of};
 
 use crate::checker::Checker;
 use ps_base::ty::Ty;
-use ps_checked::literals::{Opened, open, procedure, type_of};
-use ps_checked::wanted::Wanted;
-use ps_declared::clause::Clause;
-use ps_declared::fault::CheckFault;
-use ps_declared::looks::Literal;
 use ps_program::form::TreeForm;
 use ps_program::place::Place;
+use ps_steps::ps_checked::literals::{Opened, open, procedure, type_of};
+use ps_steps::ps_checked::wanted::Wanted;
+use ps_steps::ps_declared::clause::Clause;
+use ps_steps::ps_declared::fault::CheckFault;
+use ps_steps::ps_declared::looks::Literal;
 use ps_tree::rough::Named;
 
 impl Checker {

@@ -12,3 +12,5 @@ mod declarations;
 mod lists;
 mod parts;
 mod sequences;
+
+pub use ps_steps::{ps_checked, ps_declared, ps_scope};

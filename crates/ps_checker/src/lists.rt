@@ -1,20 +1,20 @@
 ghost use Rattle.ps_base.specs.TyView.{ty_view};
 ghost use Rattle.ps_tree.specs.Phrase as form;
 ghost use Rattle.ps_tree.specs.PhraseLists.{phrases_in, items_in};
-ghost use Rattle.ps_scope.specs.Content.{names_of};
-ghost use Rattle.ps_typing.specs.Checking.{check_each, checkers};
-ghost use Rattle.ps_declared.specs.inside.Answers.{IsClause, check_unlined};
-ghost use Rattle.ps_checked.specs.inside.Lists.{AreTrees};
+ghost use Rattle.ps_steps.specs.ps_scope.Content.{names_of};
+ghost use Rattle.ps_steps.specs.ps_typing.Checking.{check_each, checkers};
+ghost use Rattle.ps_steps.specs.ps_declared.inside.Answers.{IsClause, check_unlined};
+ghost use Rattle.ps_steps.specs.ps_checked.inside.Lists.{AreTrees};
 
 use crate::checker::Checker;
 use ps_base::ty::Ty;
-use ps_checked::fits::{Test, is_int};
-use ps_checked::items::{one_or_sequence, push_typed};
-use ps_checked::wanted::Wanted;
-use ps_declared::clause::Clause;
-use ps_declared::fault::CheckFault;
-use ps_declared::looks::lent;
 use ps_program::form::{Tree, TreeForm};
+use ps_steps::ps_checked::fits::{Test, is_int};
+use ps_steps::ps_checked::items::{one_or_sequence, push_typed};
+use ps_steps::ps_checked::wanted::Wanted;
+use ps_steps::ps_declared::clause::Clause;
+use ps_steps::ps_declared::fault::CheckFault;
+use ps_steps::ps_declared::looks::lent;
 use ps_tree::rough::{Rough, RoughItem};
 
 impl Checker {

@@ -3,25 +3,25 @@ ghost use Rattle.ps_tree.specs.Phrase.{phrase_of, named};
 ghost use Rattle.ps_tree.specs.Phrase as form;
 ghost use Rattle.ps_tree.specs.PhraseLists.{phrases_in, maybe_in};
 ghost use Rattle.ps_tree.specs.declared.rough.RoughRange.{out-RoughRange};
-ghost use Rattle.ps_scope.specs.Content.{names_of};
-ghost use Rattle.ps_typing.specs.Checking.{check_form};
-ghost use Rattle.ps_declared.specs.inside.Answers.{IsClause};
-ghost use Rattle.ps_checked.specs.inside.Parts.{check_single, check_double, check_triple};
+ghost use Rattle.ps_steps.specs.ps_scope.Content.{names_of};
+ghost use Rattle.ps_steps.specs.ps_typing.Checking.{check_form};
+ghost use Rattle.ps_steps.specs.ps_declared.inside.Answers.{IsClause};
+ghost use Rattle.ps_steps.specs.ps_checked.inside.Parts.{check_single, check_double, check_triple};
 
 use crate::checker::Checker;
 use ps_base::line::Line;
 use ps_base::ty::Ty;
-use ps_checked::double::Double;
-use ps_checked::loops::loop_of;
-use ps_checked::single::Single;
-use ps_checked::triple::Triple;
-use ps_checked::vectors::listed;
-use ps_checked::wanted::Wanted;
-use ps_declared::clause::Clause;
-use ps_declared::fault::CheckFault;
-use ps_declared::looks::lent;
 use ps_program::form::{Loop, TreeForm};
 use ps_program::place::Place;
+use ps_steps::ps_checked::double::Double;
+use ps_steps::ps_checked::loops::loop_of;
+use ps_steps::ps_checked::single::Single;
+use ps_steps::ps_checked::triple::Triple;
+use ps_steps::ps_checked::vectors::listed;
+use ps_steps::ps_checked::wanted::Wanted;
+use ps_steps::ps_declared::clause::Clause;
+use ps_steps::ps_declared::fault::CheckFault;
+use ps_steps::ps_declared::looks::lent;
 use ps_tree::rough::{Named, Rough, RoughRange};
 
 impl Checker {

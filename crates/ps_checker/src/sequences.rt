@@ -1,16 +1,16 @@
 ghost use Rattle.ps_tree.specs.Phrase as form;
 ghost use Rattle.ps_tree.specs.PhraseLists.{phrases_in};
-ghost use Rattle.ps_scope.specs.Content.{names_of};
-ghost use Rattle.ps_typing.specs.Checking.{check_form};
-ghost use Rattle.ps_declared.specs.inside.Answers.{IsClause};
+ghost use Rattle.ps_steps.specs.ps_scope.Content.{names_of};
+ghost use Rattle.ps_steps.specs.ps_typing.Checking.{check_form};
+ghost use Rattle.ps_steps.specs.ps_declared.inside.Answers.{IsClause};
 
 use crate::checker::Checker;
 use ps_base::line::Line;
 use ps_base::ty::Ty;
-use ps_checked::fits::void_before;
-use ps_checked::items::block_of;
-use ps_declared::clause::Clause;
-use ps_declared::fault::CheckFault;
+use ps_steps::ps_checked::fits::void_before;
+use ps_steps::ps_checked::items::block_of;
+use ps_steps::ps_declared::clause::Clause;
+use ps_steps::ps_declared::fault::CheckFault;
 use ps_tree::rough::Rough;
 
 impl Checker {

@@ -2,18 +2,18 @@
 use Rattle.std.proofs.Common.{◌≡◌, ℕ, List, [], ◌∷◌, ◌++◌, Bool, Option, Some, None, option_map, slice_get, refl, sym, subst, ap, ◌∙◌}
 use Rattle.ps_base.specs.TyView.{TyView}
 use Rattle.ps_base.specs.declared.line.Line.{Line}
-use Rattle.ps_symbols.specs.declared.kind.Kind.{Kind}
-use Rattle.ps_symbols.specs.declared.kind.Kind.TheVariants as kind
-use Rattle.ps_symbols.specs.declared.kind.Level.{Level}
-use Rattle.ps_symbols.specs.declared.kind.Operation.{Operation}
-use Rattle.ps_symbols.specs.declared.kind.Opening.{Opening}
-use Rattle.ps_symbols.specs.declared.kind.Relating.{Relating}
-use Rattle.ps_symbols.specs.declared.kind.Start.{Start}
+use Rattle.ps_tree.specs.ps_symbols.declared.kind.Kind.{Kind}
+use Rattle.ps_tree.specs.ps_symbols.declared.kind.Kind.TheVariants as kind
+use Rattle.ps_tree.specs.ps_symbols.declared.kind.Level.{Level}
+use Rattle.ps_tree.specs.ps_symbols.declared.kind.Operation.{Operation}
+use Rattle.ps_tree.specs.ps_symbols.declared.kind.Opening.{Opening}
+use Rattle.ps_tree.specs.ps_symbols.declared.kind.Relating.{Relating}
+use Rattle.ps_tree.specs.ps_symbols.declared.kind.Start.{Start}
 use Rattle.ps_tree.specs.declared.rough.Rough.{Rough}
 use Rattle.ps_tree.specs.declared.rough.RoughArm.{RoughArm}
 use Rattle.ps_tree.specs.declared.rough.RoughItem.{RoughItem}
-use Rattle.ps_symbols.specs.declared.symbol.Symbol.{Symbol}
-use Rattle.ps_symbols.specs.Kinds.{operation_of, relating_of, begins_item, opening_of, start_of}
+use Rattle.ps_tree.specs.ps_symbols.declared.symbol.Symbol.{Symbol}
+use Rattle.ps_tree.specs.ps_symbols.Kinds.{operation_of, relating_of, begins_item, opening_of, start_of}
 use Rattle.ps_tree.specs.Phrase.{Phrase, Phrases, none, more, MaybePhrase, absent, Arms, no_arms, Arm, WriteItem, WriteItems, no_items, more_items, item, GroupAt, NameAt, at, phrase_of, item_of, arm_of, group_of, groups_in, names_in, of_type}
 use Rattle.ps_tree.specs.Phrase as form
 use Rattle.ps_tree.specs.PhraseLists.{phrases_in, arms_in, items_in}
@@ -23,7 +23,7 @@ use Rattle.ps_reader.specs.Reading.{kind_at}
 use Rattle.ps_reader.specs.Faults.{unexpected}
 use Rattle.ps_tree.specs.declared.fault.ParseFault.{ParseFault}
 use Rattle.ps_base.specs.declared.operator.Relation.{Relation}
-use Rattle.ps_symbols.specs.declared.kind.Relating.TheVariants.{Compares, IsOf}
+use Rattle.ps_tree.specs.ps_symbols.declared.kind.Relating.TheVariants.{Compares, IsOf}
 use Rattle.ps_tree.specs.Composing.{joined}
 use Rattle.ps_reader.specs.declared.reader.Reader.{Reader}
 use Rattle.ps_reader.specs.inside.Parsing.{Accepts, IsOther, Stands, StandsForNone}
@@ -133,7 +133,7 @@ module _ {text : List ℕ} {count : ℕ} {symbols : List Symbol} where
       → stands ≡ begins_item found → Continues text count symbols room (Go (Items line before)) from (items line before stands) from
   item_stands {line = line} {before = before} {found = found} here stands is = goes_by here (ap (λ (b : Bool). Some (items line before b)) (sym is))
 
-  -- a mark stands behind the name of a `let`
+  -- a mark stands after the name of a `let`
   pub binds : {room from : ℕ} {line : Line} {name : NameAt} {found : Kind} {variable : Option Bool} {v : Bool} → found ≡ kind_at symbols from
       → variable ≡ makes_variable found → variable ≡ Some v → Continues text count symbols room (Go (Binding line name)) from (bound found v line name) from
   binds {line = line} {name = name} {found = found} here is some = goes_by here (binding_as line name found ∙ ap (option_map (λ (v : Bool). bound
@@ -193,7 +193,7 @@ module _ {text : List ℕ} where
       (form.Elems l t all) line))
   elements_list = record { comma = λ all. refl; other = λ all k not. ap Some (more_elements_other _ _ _ all k not) }
 
-  -- the parts that are a clause behind a word, if it stands there
+  -- the parts that are a clause after a word, if it stands there
   pub between_optional : {line : Line} {a c : Phrase} → IsOptional text kind.Do (Between line a c) (λ b. give (form.Repeat a c b) line)
   between_optional = record { symbol = refl; there = refl; other = λ k not. ap Some (between_other _ _ _ k not) }
 
@@ -215,7 +215,7 @@ module _ {reader : Reader} where
       (Go Application) p) (sym (minus.stays ∙ plus.stays)) (by_row (ap Some (factor_other (kind_at reader.symbols.now from) (plus.other refl) (subst (λ
       (p : ℕ). kind_at reader.symbols.now p ≡ kind.Minus → ⊥) plus.stays (minus.other refl)))))
 
-  -- an operator of the level stands behind an operand, or none
+  -- an operator of the level stands after an operand, or none
   pub operated : {room from to : ℕ} {level : Level} {left : Phrase} {operation : Operation} {mark : Symbol} → Stands reader (operation_of level) from
       (operation, mark) to → Continues reader.text.now reader.tokens reader.symbols.now room (Go (MoreChain level left)) from (clause_of (Go
       (operand level)) (λ right. Go (MoreChain level (joined operation left right (line_at mark))))) to
@@ -228,7 +228,7 @@ module _ {reader : Reader} where
       (MoreChain level left)) from (Give (a_clause left)) p) (sym stands.stays) (by_row (ap (λ (o : Option Operation). Some (more_chain level left
       (kind_at reader.symbols.now from) o)) stands.none))
 
-  -- a comparison stands behind a sum, or the question for a class, or none
+  -- a comparison stands after a sum, or the question for a class, or none
   related : {room from to : ℕ} {left : Phrase} {relating : Relating} {mark : Symbol} → Stands reader relating_of from (relating, mark) to →
       (how : Relating) → relating ≡ how → Continues reader.text.now reader.tokens reader.symbols.now room (Go (Comparison left)) from
       (comparison reader.text.now left mark.kind (Some how)) from

@@ -5,9 +5,9 @@ ghost use Rattle.ps_reader.specs.inside.Parsing.{AreSound, ReadsClause};
 
 use crate::clauses::{after, clause, more_clauses};
 use ps_reader::reader::Reader;
-use ps_symbols::kind::Kind;
 use ps_tree::build::{arm_of, case_of};
 use ps_tree::fault::ParseFault;
+use ps_tree::ps_symbols::kind::Kind;
 use ps_tree::rough::Rough;
 
 /// The `case`: its arms, as long as no `default` stands in their place, and the clause of that.

@@ -1,6 +1,6 @@
 //! Clauses, by the token that opens each.
 
-ghost use Rattle.ps_symbols.specs.declared.symbol.Symbol.{Symbol};
+ghost use Rattle.ps_tree.specs.ps_symbols.declared.symbol.Symbol.{Symbol};
 ghost use Rattle.ps_tree.specs.Phrase.{Phrases, MaybePhrase, phrase_of, none, more};
 ghost use Rattle.ps_tree.specs.PhraseLists.{phrases_in, maybe_in};
 ghost use Rattle.ps_reader.specs.Grammar.{Made, Part, Rule, a_clause, Go, Clause, opened, condition, procedure, filling, expression};
@@ -13,10 +13,10 @@ use crate::loops::{counting, repeating, repetition};
 use crate::operators::chain;
 use crate::writing::writing;
 use ps_reader::reader::Reader;
-use ps_symbols::kind::{Kind, Level, Opening, opening_of};
-use ps_symbols::symbol::Symbol;
 use ps_tree::build::{assign, if_do, if_else, vector_of};
 use ps_tree::fault::ParseFault;
+use ps_tree::ps_symbols::kind::{Kind, Level, Opening, opening_of};
+use ps_tree::ps_symbols::symbol::Symbol;
 use ps_tree::rough::Rough;
 
 #[cycle(parsing)]
@@ -52,7 +52,7 @@ fn opened(reader: &Reader, at: &mut usize, room: u32, opening: Opening) -> Resul
     }
 }
 
-/// A symbol of the kind, and the clause behind it.
+/// A symbol of the kind, and the clause after it.
 #[cycle(parsing)]
 pub(crate) fn after(
     reader: &Reader,
@@ -68,7 +68,7 @@ pub(crate) fn after(
     Ok((symbol, e))
 }
 
-/// The clause behind a symbol of the kind, if one stands at the place.
+/// The clause after a symbol of the kind, if one stands at the place.
 #[cycle(parsing)]
 pub(crate) fn optional(
     reader: &Reader,

@@ -10,9 +10,9 @@ ghost use Rattle.ps_clauses.specs.inside.Clauses.{makes_variable};
 use crate::clauses::{after, clause};
 use ps_base::line::Line;
 use ps_reader::reader::Reader;
-use ps_symbols::kind::{Kind, begins_item};
 use ps_tree::build::{let_of, proc_of, sequence};
 use ps_tree::fault::ParseFault;
+use ps_tree::ps_symbols::kind::{Kind, begins_item};
 use ps_tree::rough::Rough;
 
 /// The items of a sequence that begins on the line.
@@ -80,7 +80,7 @@ fn let_item(reader: &Reader, at: &mut usize, room: u32) -> Result<Rough, ParseFa
     let_of(reader.alloc, name, variable, e, line)
 }
 
-/// Whether the mark behind the name of a `let` makes a variable of it, if it is one of the two.
+/// Whether the mark after the name of a `let` makes a variable of it, if it is one of the two.
 fn makes_variable(mark: Kind) -> Option<bool>
     ensures { result ≡ makes_variable mark }
 {
@@ -91,7 +91,7 @@ fn makes_variable(mark: Kind) -> Option<bool>
     }
 }
 
-/// A procedure behind its `proc` on the line, or behind its name.
+/// A procedure after its `proc` on the line, or after its name.
 #[cycle(parsing)]
 pub(crate) fn literal(
     reader: &Reader,

@@ -1,7 +1,7 @@
 //! Reads clauses and items by the grammar, each from its first symbol on.
 //!
 //! Each function reads those symbols that are one part of the grammar: from the place on, which
-//! moves behind them. `room` is how many clauses and types may still stand inside one another.
+//! moves after them. `room` is how many clauses and types may still stand inside one another.
 #![tactic(auto, using(ps_reader::proofs::Steps::steps))]
 
 mod cases;

@@ -5,9 +5,9 @@ ghost use Rattle.ps_reader.specs.inside.Parsing.{AreSound, ReadsClause};
 
 use crate::clauses::{after, optional};
 use ps_reader::reader::Reader;
-use ps_symbols::kind::Kind;
 use ps_tree::build::{for_of, repeat_of, while_of};
 use ps_tree::fault::ParseFault;
+use ps_tree::ps_symbols::kind::Kind;
 use ps_tree::rough::Rough;
 
 #[cycle(parsing)]

@@ -5,9 +5,9 @@ ghost use Rattle.ps_reader.specs.inside.Parsing.{AreSound, ReadsClause};
 
 use crate::primaries::application;
 use ps_reader::reader::Reader;
-use ps_symbols::kind::{Kind, Level, Relating};
 use ps_tree::build::{compare, is_of, join, negation, not, plus};
 use ps_tree::fault::ParseFault;
+use ps_tree::ps_symbols::kind::{Kind, Level, Relating};
 use ps_tree::rough::Rough;
 
 /// Operands with the operators of a level between them.

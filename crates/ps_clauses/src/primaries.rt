@@ -9,9 +9,9 @@ use crate::clauses::{after, clause, more_clauses};
 use crate::items::items;
 use ps_base::line::Line;
 use ps_reader::reader::Reader;
-use ps_symbols::kind::{Kind, Start, start_of};
 use ps_tree::build::{apply, bound_of, elems, part_of};
 use ps_tree::fault::ParseFault;
+use ps_tree::ps_symbols::kind::{Kind, Start, start_of};
 use ps_tree::rough::Rough;
 
 /// A primary, and what it is applied to.
@@ -27,7 +27,7 @@ pub(crate) fn application(reader: &Reader, at: &mut usize, room: u32) -> Result<
     Ok(made)
 }
 
-/// What stands behind a bracket on the line that follows `f`.
+/// What stands after a bracket on the line that follows `f`.
 #[cycle(parsing)]
 fn arguments(
     reader: &Reader,

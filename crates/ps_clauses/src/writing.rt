@@ -6,9 +6,9 @@ ghost use Rattle.ps_clauses.specs.inside.Clauses.{ReadsItem};
 
 use crate::clauses::clause;
 use ps_reader::reader::Reader;
-use ps_symbols::kind::Kind;
 use ps_tree::build::{item_of, write_of};
 use ps_tree::fault::ParseFault;
+use ps_tree::ps_symbols::kind::Kind;
 use ps_tree::rough::{Rough, RoughItem};
 
 #[cycle(parsing)]

@@ -1,15 +1,15 @@
--- What stands at the front of the bytes that were read.
+-- What stands at the start of the bytes that were read.
 use Rattle.std.proofs.Common.{◌≡◌, ℕ, ◌≤◌, List, ◌∷◌, ◌++◌, length, drop, Option, Some, None, IfSome, MatchOption, sym, ap, subst, ◌∙◌, arith, length-append}
 use Rattle.ps_base.specs.declared.instr.Instr.{Instr}
 use Rattle.ps_base.specs.Instr.{words, parts_of, spelling, width_of, IsInstr}
 use Rattle.ps_base.proofs.Spellings.{length-words, length-spelling}
 use Rattle.ps_code.specs.Codes.{IsCode, operand_count}
-use Rattle.ps_code.specs.inside.Fronts.{IsShort, IsFront}
+use Rattle.ps_code.specs.inside.Fronts.{IsShort, IsPrefix}
 use Rattle.ps_code.proofs.Makers.{counted, coded, one_front}
 
--- what a row answers at a code and the bytes behind it
+-- what a row answers at a code and the bytes after it
 abbrev Answers : ℕ → List ℕ → Option (Instr × ℕ) → Type 0
-Answers code rest answer = MatchOption answer (IsShort code rest) (λ x. IsFront code rest x)
+Answers code rest answer = MatchOption answer (IsShort code rest) (λ x. IsPrefix code rest x)
 
 pub front_found : (code : ℕ) (rest : List ℕ) (answer : Option (Instr × ℕ)) → Answers code rest answer → IfSome answer (λ x. code ∷ rest ≡ spelling x.0 ++ drop x.1 (code ∷ rest))
 front_found code rest None is = tt
@@ -30,7 +30,7 @@ pub front_fits : (code : ℕ) (rest : List ℕ) (answer : Option (Instr × ℕ))
 front_fits code rest None is = tt
 front_fits code rest (Some x) is = is.2
 
--- the one instruction that is spelled at the front is answered
+-- the one instruction that is spelled at the start is answered
 pub front_is : (code : ℕ) (rest : List ℕ) (answer : Option (Instr × ℕ)) → Answers code rest answer → (i : Instr) (after : List ℕ) → IsInstr i → code ∷ rest ≡ spelling i ++ after → answer ≡ Some (i, width_of i)
 front_is code rest None none i after is_instr e =
     let same : code ≡ (parts_of i).code = cc in

@@ -1,4 +1,4 @@
--- An instruction from its code and its operands, and so what two spellings of one front are.
+-- An instruction from its code and its operands, and so what two spellings of one prefix are.
 use Rattle.std.proofs.Common.{◌≡◌, ℕ, ◌^◌, ◌<◌, List, [], ◌∷◌, ◌++◌, length, take, drop, get_or, refl, sym, ap, ◌∙◌, arith, lit≤, append_assoc, ◌-◌}
 use Rattle.std.specs.Prelude.{slice_index}
 use Rattle.std.specs.List.{AllByRecursion}
@@ -55,7 +55,7 @@ words_front (x ∷ x2 ∷ xs) (y ∷ y2 ∷ ys) a b long small_xs small_ys e =
     let rest = words_front (x2 ∷ xs) (y2 ∷ ys) a b (omega arith) small_xs.1 small_ys.1 first.1 in
     (cc, rest.1)
 
--- the front of a spelling is no other spelling
+-- the prefix of a spelling is no other spelling
 pub one_front : (i j : Instr) (a b : List ℕ) → IsInstr i → IsInstr j → spelling i ++ a ≡ spelling j ++ b → (i ≡ j) × (a ≡ b)
 one_front i j a b fits_i fits_j e =
     let same_code : (parts_of i).code ≡ (parts_of j).code = cc in

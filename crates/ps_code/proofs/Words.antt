@@ -8,7 +8,7 @@ use Rattle.byteorder.specs.Endian.{little_number, little_bytes}
 use Rattle.ps_base.specs.Instr.{word}
 use Rattle.ps_base.proofs.Spellings.{length-word}
 
--- a word behind what was written before
+-- a word after what was written before
 pub next_word : (front old into new w : List ℕ) (n m : ℕ) → length front ≡ n → n ≤ m → into ≡ front ++ drop n old → new ≡ (take n into ++ w) ++ drop m into → new ≡ (front ++ w) ++ drop m old
 next_word front old into new w n m long less before after =
     let whole : take n into ≡ front = ap (take n) before ∙ take_at front (drop n old) n long in

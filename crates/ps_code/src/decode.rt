@@ -1,7 +1,7 @@
 ghost use Rattle.std.specs.Prelude.{◌≡◌, ℕ, ◌<◌, ◌≤◌, ◌+◌, List, [], ◌∷◌, ◌++◌, drop, length, Some, IfSome, MatchOption};
 ghost use Rattle.ps_base.specs.declared.instr.Instr.{Instr};
 ghost use Rattle.ps_base.specs.Instr.{word, spelling, width_of, IsInstr};
-ghost use Rattle.ps_code.specs.inside.Fronts.{IsShort, IsFront};
+ghost use Rattle.ps_code.specs.inside.Fronts.{IsShort, IsPrefix};
 
 use crate::table::instructions;
 use byteorder::{ByteOrder, LittleEndian};
@@ -82,7 +82,7 @@ macro_rules! take_each {
     };
 }
 
-/// The instruction whose spelling stands at the front of the bytes, and how many bytes it has.
+/// The instruction whose spelling stands at the start of the bytes, and how many bytes it has.
 /// `None` where no spelling stands there.
 #[inline(always)]
 pub fn decode(bytes: &[u8]) -> Option<(Instr, usize)>
@@ -102,7 +102,7 @@ pub fn decode(bytes: &[u8]) -> Option<(Instr, usize)>
 
 #[inline(always)]
 fn take_row(code: u8, rest: &[u8]) -> Option<(Instr, usize)>
-    ensures { MatchOption result (IsShort code rest.now) (λ x. IsFront code rest.now x) }
+    ensures { MatchOption result (IsShort code rest.now) (λ x. IsPrefix code rest.now x) }
 {
     instructions!(take_each code rest)
 }

@@ -49,7 +49,7 @@ macro_rules! put_each {
     };
 }
 
-/// Writes the spelling of the instruction to the front of the buffer, and answers how many bytes
+/// Writes the spelling of the instruction to the prefix of the buffer, and answers how many bytes
 /// it has. The rest of the buffer stays.
 pub fn encode(instr: Instr, into: &mut [u8; 17]) -> usize
     ensures written { into.new ≡ spelling instr ++ drop result into.old }

@@ -7,7 +7,7 @@ use crate::decode::decode;
 use crate::encode::encode;
 use ps_base::instr::Instr;
 
-/// No spelling is the front of another's, and no two instructions have the same one.
+/// No spelling is the prefix of another's, and no two instructions have the same one.
 #[tactic(auto, using(crate::proofs::Makers::one_front))]
 pub fn no_spelling_begins_another()
     ensures { (i j : Instr) (a b : List ℕ) → IsInstr i → IsInstr j → spelling i ++ a ≡ spelling j ++ b →
@@ -21,7 +21,7 @@ pub fn codes_count_operands()
     ensures operands { (i : Instr) → length (parts_of i).operands ≡ operand_count (parts_of i).code }
 {}
 
-/// What was written is read back, whatever stands behind it in the buffer.
+/// What was written is read back, whatever stands after it in the buffer.
 pub fn written_is_read(instr: Instr, buffer: &mut [u8; 17]) -> Option<(Instr, usize)>
     ensures { result ≡ Some (instr, width_of instr) }
 {

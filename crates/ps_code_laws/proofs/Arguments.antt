@@ -3,20 +3,20 @@ use Rattle.std.proofs.Common.{◌≡◌, ℕ, suc, ◌+◌, ℤ, pos, List, [], 
 use Rattle.std.specs.Prelude.{get_or, if◌then◌else◌}
 use Rattle.std.specs.List.{AllByRecursion}
 use Rattle.std.proofs.Math.ListN.{get_or-map}
-use Rattle.ps_base.specs.TyView.{TyView, TyViews}
-use Rattle.ps_base.specs.TyView as types
-use Rattle.ps_program.specs.Node.{Param}
+use Rattle.ps_gen.specs.ps_base.TyView.{TyView, TyViews}
+use Rattle.ps_gen.specs.ps_base.TyView as types
+use Rattle.ps_gen.specs.ps_program.Node.{Param}
 use Rattle.ps_type_text.specs.Texts.{Field}
-use Rattle.ps_typing.specs.Placing.{is_number}
-use Rattle.ps_typing.specs.Locals.{one_on, taken_by_params}
-use Rattle.ps_emitter.specs.Choices as choice
+use Rattle.ps_typing_laws.specs.ps_typing.Placing.{is_number}
+use Rattle.ps_typing_laws.specs.ps_typing.Locals.{one_on, taken_by_params}
+use Rattle.ps_gen.specs.ps_emitter.Choices as choice
 use Rattle.ps_soundness.specs.Valued.{AllValued}
 use Rattle.ps_soundness.specs.Shapes.{AreOf}
-use Rattle.ps_typing.specs.WellTyped.{types_of_params}
-use Rattle.ps_meaning.specs.Values.{Value, Num, Nil, word_of}
-use Rattle.ps_meaning.specs.Objects.{Heap}
-use Rattle.ps_meaning.specs.Meaning.{Frame, Store}
-use Rattle.ps_meaning.specs.Frames.{stands_on, arguments_on}
+use Rattle.ps_typing_laws.specs.ps_typing.WellTyped.{types_of_params}
+use Rattle.ps_stepping.specs.ps_meaning.Values.{Value, Num, Nil, word_of}
+use Rattle.ps_stepping.specs.ps_meaning.Objects.{Heap}
+use Rattle.ps_stepping.specs.ps_meaning.Meaning.{Frame, Store}
+use Rattle.ps_stepping.specs.ps_meaning.Frames.{stands_on, arguments_on}
 use Rattle.ps_stepping.specs.Config.{Config}
 use Rattle.ps_stepping.specs.Machine.{Step}
 use Rattle.ps_stepping.specs.Objects.{pop_nums, pop_refs}

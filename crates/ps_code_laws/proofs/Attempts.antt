@@ -1,16 +1,16 @@
 -- Instructions that may trap, and those that push a value of a type: what the machine does is what is meant.
 use Rattle.std.proofs.Common.{◌≡◌, ℕ, ℤ, List, ◌∷◌, ◌++◌, Option, Some, refl, ap, ◌∙◌}
-use Rattle.ps_base.specs.TyView.{TyView}
-use Rattle.ps_base.specs.TyView as types
-use Rattle.ps_base.specs.CodeUnit.{ConstantView, text}
-use Rattle.ps_base.specs.declared.line.Line.{Line}
-use Rattle.text_forms.specs.Classes.{form_of_type}
-use Rattle.ps_meaning.specs.Values.{Value, Num, Text, Nil, Pointer, word_of}
-use Rattle.ps_meaning.specs.Texts.{Attempt, Yields, Fails}
-use Rattle.ps_meaning.specs.Objects.{Heap, Object, new_number}
-use Rattle.ps_meaning.specs.Meaning.{Frame, Store, State, Meaning, give, stop, attempt, with_heap, put_heap, made, made_text, and_object, and_text}
-use Rattle.ps_meaning.specs.Evaluation.{kept_as}
-use Rattle.ps_emitter.specs.Choices as choice
+use Rattle.ps_gen.specs.ps_base.TyView.{TyView}
+use Rattle.ps_gen.specs.ps_base.TyView as types
+use Rattle.ps_gen.specs.ps_base.CodeUnit.{ConstantView, text}
+use Rattle.ps_gen.specs.ps_base.declared.line.Line.{Line}
+use Rattle.ps_stepping.specs.text_forms.Classes.{form_of_type}
+use Rattle.ps_stepping.specs.ps_meaning.Values.{Value, Num, Text, Nil, Pointer, word_of}
+use Rattle.ps_stepping.specs.ps_meaning.Texts.{Attempt, Yields, Fails}
+use Rattle.ps_stepping.specs.ps_meaning.Objects.{Heap, Object, new_number}
+use Rattle.ps_stepping.specs.ps_meaning.Meaning.{Frame, Store, State, Meaning, give, stop, attempt, with_heap, put_heap, made, made_text, and_object, and_text}
+use Rattle.ps_stepping.specs.ps_meaning.Evaluation.{kept_as}
+use Rattle.ps_gen.specs.ps_emitter.Choices as choice
 use Rattle.ps_stepping.specs.Config.{Config, constants_in, constant_at}
 use Rattle.ps_stepping.specs.Machine.{Step, on, push_num, push_ref}
 use Rattle.ps_stepping.specs.Steps.{text_in, with_text, attempted}

@@ -1,21 +1,21 @@
 -- A body's beginning: the arguments that its scope keeps are copied there.
 use Rattle.std.proofs.Common.{◌≡◌, ℕ, ◌+◌, ◌<◌, ◌≤◌, Bool, true, false, List, [], ◌∷◌, ◌++◌, Some, sym, ◌∙◌, subst, arith}
 use Rattle.std.specs.Prelude.{if◌then◌else◌}
-use Rattle.ps_base.specs.TyView.{TyView}
-use Rattle.ps_base.specs.TyView as types
-use Rattle.ps_base.specs.CodeUnit.{UnitView}
-use Rattle.ps_base.specs.declared.instr.Instr.TheVariants as instr
-use Rattle.ps_program.specs.declared.place.Place.TheVariants.{Plain, Kept}
-use Rattle.ps_program.specs.Node.{Param}
+use Rattle.ps_gen.specs.ps_base.TyView.{TyView}
+use Rattle.ps_gen.specs.ps_base.TyView as types
+use Rattle.ps_gen.specs.ps_base.CodeUnit.{UnitView}
+use Rattle.ps_gen.specs.ps_base.declared.instr.Instr.TheVariants as instr
+use Rattle.ps_gen.specs.ps_program.declared.place.Place.TheVariants.{Plain, Kept}
+use Rattle.ps_gen.specs.ps_program.Node.{Param}
 use Rattle.ps_type_text.specs.Texts.{Field}
-use Rattle.ps_typing.specs.Placing.{is_number}
-use Rattle.ps_typing.specs.Locals.{one_on, taken_by_params}
-use Rattle.ps_typing.specs.WellTyped.{Env, Free, Local, behind_one, types_of_params, Takes}
-use Rattle.ps_typing.specs.WellTyped as typed
-use Rattle.ps_meaning.specs.Values.{Value, Nothing, word_of}
-use Rattle.ps_meaning.specs.Objects.{Heap}
-use Rattle.ps_meaning.specs.Meaning.{Frame, give, ◌>>=◌, set}
-use Rattle.ps_meaning.specs.Frames.{arguments_on, keep, keep_all}
+use Rattle.ps_typing_laws.specs.ps_typing.Placing.{is_number}
+use Rattle.ps_typing_laws.specs.ps_typing.Locals.{one_on, taken_by_params}
+use Rattle.ps_typing_laws.specs.ps_typing.WellTyped.{Env, Free, Local, behind_one, types_of_params, Takes}
+use Rattle.ps_typing_laws.specs.ps_typing.WellTyped as typed
+use Rattle.ps_stepping.specs.ps_meaning.Values.{Value, Nothing, word_of}
+use Rattle.ps_stepping.specs.ps_meaning.Objects.{Heap}
+use Rattle.ps_stepping.specs.ps_meaning.Meaning.{Frame, give, ◌>>=◌, set}
+use Rattle.ps_stepping.specs.ps_meaning.Frames.{arguments_on, keep, keep_all}
 use Rattle.ps_gen.specs.Units.{kept_at, keeps, size_keeps}
 use Rattle.ps_stepping.specs.Config.{frame_in}
 use Rattle.ps_soundness.specs.Running.{ArePlaces}
@@ -71,7 +71,7 @@ keep_leads told wholes {params = params} takes locals args places turns heap are
   holds = holds_keep_all Fits params args literals;
 }
 
--- the locals of the next parameter and of those behind it are among those of the body
+-- the locals of the next parameter and of those after it are among those of the body
 room_next : (number : Bool) (free : Free) (nums refs n r : ℕ) → free.nums + ((if number then 1 else 0) + n) ≤ nums →
     free.refs + ((if number then 0 else 1) + r) ≤ refs →
     ((if number then record free { nums = free.nums + 1 } else record free { refs = free.refs + 1 }).nums + n ≤ nums)
@@ -108,7 +108,7 @@ module _ (w : Way) where
         ((does_set_kept_ref w n (p + 5) 0 position v ref there keep_at).by nums refs f s (less_room w 0 1 nums refs (omega arith) room) since reach));
   }
 
-  -- which it stands in by its type; those behind it follow
+  -- which it stands in by its type; those after it follow
   abbrev KeptAhead : Bool → ℕ → ℕ → List Param → Free → Type 0
   KeptAhead number p position rest free =
       Ahead w.unit p (if number then kept_at (Kept 0 position) (instr.GetM free.nums) (λ u i. instr.KeepM u i) ++ keeps rest (free.nums + 1) free.refs

@@ -1,25 +1,25 @@
 -- Bodies do what they mean, inside any bodies that wait, and so does a program.
 use Rattle.std.proofs.Common.{◌≡◌, ℕ, zero, suc, ◌+◌, ◌≤◌, List, [], ◌∷◌, ◌++◌, length, Option, Some, None, refl, sym, ◌∙◌, subst, append_assoc, append-nil, arith}
 use Rattle.std.specs.List.{AllByRecursion}
-use Rattle.ps_base.specs.TyView.{TyView, TyViews}
-use Rattle.ps_base.specs.TyView as types
-use Rattle.ps_base.specs.CodeUnit.{UnitView}
-use Rattle.ps_base.specs.declared.line.Line.{Line}
-use Rattle.ps_base.specs.declared.instr.Instr.TheVariants as instr
-use Rattle.ps_program.specs.Node.{Param, Node, BodyNode, body}
+use Rattle.ps_gen.specs.ps_base.TyView.{TyView, TyViews}
+use Rattle.ps_gen.specs.ps_base.TyView as types
+use Rattle.ps_gen.specs.ps_base.CodeUnit.{UnitView}
+use Rattle.ps_gen.specs.ps_base.declared.line.Line.{Line}
+use Rattle.ps_gen.specs.ps_base.declared.instr.Instr.TheVariants as instr
+use Rattle.ps_gen.specs.ps_program.Node.{Param, Node, BodyNode, body}
 use Rattle.ps_type_text.specs.Texts.{Field}
-use Rattle.ps_typing.specs.Program.{bodies, first_complex}
-use Rattle.ps_typing.specs.WellTyped.{types_of_params, IsBody, IsWellTyped}
-use Rattle.ps_typing.specs.WellTyped as typed
-use Rattle.ps_meaning.specs.Objects.{Heap}
-use Rattle.ps_meaning.specs.Weights.{code_weight}
-use Rattle.ps_meaning.specs.Event.{End, Event, Finish, Done}
-use Rattle.ps_meaning.specs.Values.{Value}
-use Rattle.ps_meaning.specs.Meaning.{Frame, Store, State, Outcome, Value_is, Ends, give, after, ◌>>=◌}
-use Rattle.ps_meaning.specs.Frames.{arguments_on, frame_of_call, keep_all}
-use Rattle.ps_meaning.specs.Calls.{body_meant, context}
-use Rattle.ps_meaning.specs.Runs.{fresh_frame, fresh_store, fresh_state, outcome_of, all_events, run_events}
-use Rattle.ps_emitter.specs.Choices as choice
+use Rattle.ps_typing_laws.specs.ps_typing.Program.{bodies, first_complex}
+use Rattle.ps_typing_laws.specs.ps_typing.WellTyped.{types_of_params, IsBody, IsWellTyped}
+use Rattle.ps_typing_laws.specs.ps_typing.WellTyped as typed
+use Rattle.ps_stepping.specs.ps_meaning.Objects.{Heap}
+use Rattle.ps_stepping.specs.ps_meaning.Weights.{code_weight}
+use Rattle.ps_stepping.specs.ps_meaning.Event.{End, Event, Finish, Done}
+use Rattle.ps_stepping.specs.ps_meaning.Values.{Value}
+use Rattle.ps_stepping.specs.ps_meaning.Meaning.{Frame, Store, State, Outcome, Value_is, Ends, give, after, ◌>>=◌}
+use Rattle.ps_stepping.specs.ps_meaning.Frames.{arguments_on, frame_of_call, keep_all}
+use Rattle.ps_stepping.specs.ps_meaning.Calls.{body_meant, context}
+use Rattle.ps_stepping.specs.ps_meaning.Runs.{fresh_frame, fresh_store, fresh_state, outcome_of, all_events, run_events}
+use Rattle.ps_gen.specs.ps_emitter.Choices as choice
 use Rattle.ps_gen.specs.Units.{HasUnit, unit_of}
 use Rattle.ps_stepping.specs.Config.{frame_words, Caller, Config, code_in, frame_in, IsAt, start}
 use Rattle.ps_stepping.specs.Machine.{Step, Goes, Stops, act, Steps, at_instruction, resumed}

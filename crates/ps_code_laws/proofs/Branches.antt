@@ -1,14 +1,14 @@
 -- The arms of a `case`: the labels are compared with a value that waits on the stack of its type.
 use Rattle.std.proofs.Common.{◌≡◌, ℕ, ◌+◌, ◌<◌, ◌≤◌, ℤ, Bool, true, false, List, [], ◌∷◌, ◌++◌, length, refl, sym, ◌∙◌, length-append, arith}
-use Rattle.ps_base.specs.TyView.{TyView}
-use Rattle.ps_base.specs.TyView as types
-use Rattle.ps_base.specs.declared.operator.Relation.TheVariants as relation
-use Rattle.ps_base.specs.declared.instr.Instr.TheVariants as instr
-use Rattle.ps_meaning.specs.Values.{Value, Flag, number_of, word_of, is_one}
-use Rattle.ps_meaning.specs.Objects.{Heap}
-use Rattle.ps_meaning.specs.Meaning.{Frame, Store, State, Outcome, Value_is, Ends, Meaning, give, after, ◌>>=◌, choose}
-use Rattle.ps_meaning.specs.Evaluation.{is_equal}
-use Rattle.ps_emitter.specs.Choices as choice
+use Rattle.ps_gen.specs.ps_base.TyView.{TyView}
+use Rattle.ps_gen.specs.ps_base.TyView as types
+use Rattle.ps_gen.specs.ps_base.declared.operator.Relation.TheVariants as relation
+use Rattle.ps_gen.specs.ps_base.declared.instr.Instr.TheVariants as instr
+use Rattle.ps_stepping.specs.ps_meaning.Values.{Value, Flag, number_of, word_of, is_one}
+use Rattle.ps_stepping.specs.ps_meaning.Objects.{Heap}
+use Rattle.ps_stepping.specs.ps_meaning.Meaning.{Frame, Store, State, Outcome, Value_is, Ends, Meaning, give, after, ◌>>=◌, choose}
+use Rattle.ps_stepping.specs.ps_meaning.Evaluation.{is_equal}
+use Rattle.ps_gen.specs.ps_emitter.Choices as choice
 use Rattle.ps_stepping.specs.Config.{code_in, IsAt}
 use Rattle.ps_stepping.specs.Machine.{on, act}
 use Rattle.ps_soundness.specs.Shapes.{IsOf, Grows}
@@ -142,7 +142,7 @@ module _ (w : Way) where
   two_refs_few : (ty : TyView) (v : Value) → length (refs_left ty v ++ refs_left ty v) ≤ 2
   two_refs_few ty v = let a = refs_few ty v in let b = length-append (refs_left ty v) (refs_left ty v) in omega arith
 
-  -- a label and those behind it, and then what follows
+  -- a label and those after it, and then what follows
   pub does_label : {n : Origin} {t ty : TyView} → IsCompared relation.Equal ty → (need nl p q chosen k : ℕ) (v : Value) (label rest : Meaning)
       (next : Value → Meaning) → 2 + nl ≤ need → IsOf n.heap ty v → Leads n n.known ty label →
       IsAt (code_in w.unit) p (choice.by_type ty instr.DupM instr.DupP) → Does w n [] [] label ty nl (p + 1) q →

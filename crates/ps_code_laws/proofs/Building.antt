@@ -2,26 +2,26 @@
 use Rattle.std.proofs.Common.{◌≡◌, ℕ, ◌+◌, ◌<◌, ◌≤◌, Bool, true, false, List, [], ◌∷◌, ◌++◌, length, Option, Some, None, inl, inr, refl, sym, ◌∙◌, ap, subst, arith as by_arith}
 use Rattle.std.specs.Prelude.{if◌then◌else◌}
 use Rattle.std.specs.List.{AllByRecursion}
-use Rattle.ps_base.specs.TyView.{TyView, TyViews}
-use Rattle.ps_base.specs.TyView as types
-use Rattle.ps_base.specs.declared.line.Line.{Line}
-use Rattle.ps_program.specs.declared.place.Place.{Place}
-use Rattle.ps_program.specs.declared.place.Place.TheVariants.{Plain, Kept}
-use Rattle.ps_program.specs.Node.{Param, Node, Nodes, none, more, Arms, no_arms, more_arms, arm, BodyNode, body}
-use Rattle.ps_program.specs.Node as node
-use Rattle.ps_typing.specs.Names.{lookup, plain, library}
-use Rattle.ps_typing.specs.Library.{procedures}
+use Rattle.ps_gen.specs.ps_base.TyView.{TyView, TyViews}
+use Rattle.ps_gen.specs.ps_base.TyView as types
+use Rattle.ps_gen.specs.ps_base.declared.line.Line.{Line}
+use Rattle.ps_gen.specs.ps_program.declared.place.Place.{Place}
+use Rattle.ps_gen.specs.ps_program.declared.place.Place.TheVariants.{Plain, Kept}
+use Rattle.ps_gen.specs.ps_program.Node.{Param, Node, Nodes, none, more, Arms, no_arms, more_arms, arm, BodyNode, body}
+use Rattle.ps_gen.specs.ps_program.Node as node
+use Rattle.ps_typing_laws.specs.ps_typing.Names.{lookup, plain, library}
+use Rattle.ps_typing_laws.specs.ps_typing.Library.{procedures}
 use Rattle.ps_type_text.specs.Texts.{Field}
-use Rattle.ps_typing.specs.Placing.{is_number}
-use Rattle.ps_typing.specs.WellTyped.{At, IsOfType, Some_is, Env, Free, Local, IsLocal, IsAt, behind_one, with_local, with_scopes, and_kept, Claim, ◌has◌, all_have, arms_have, behind_loop, types_of_fields, types_of_params, IsClass, Arguments, Rule, Opens, Declares, IsTyped, AreTyped, AreItems}
-use Rattle.ps_typing.specs.WellTyped as typed
+use Rattle.ps_typing_laws.specs.ps_typing.Placing.{is_number}
+use Rattle.ps_typing_laws.specs.ps_typing.WellTyped.{At, IsOfType, Some_is, Env, Free, Local, IsLocal, IsAt, behind_one, with_local, with_scopes, and_kept, Claim, ◌has◌, all_have, arms_have, behind_loop, types_of_fields, types_of_params, IsClass, Arguments, Rule, Opens, Declares, IsTyped, AreTyped, AreItems}
+use Rattle.ps_typing_laws.specs.ps_typing.WellTyped as typed
 use Rattle.ps_typing_laws.specs.Counted.{Each}
 use Rattle.ps_typing_laws.proofs.Tracked.{limit, Grows, tree_grows, LocalsBelow, locals_grow, declared, track, track_all, track_items, all_grows}
-use Rattle.ps_meaning.specs.Objects.{Heap}
-use Rattle.ps_meaning.specs.Values.{Num}
-use Rattle.ps_meaning.specs.Evaluation.{eval}
-use Rattle.ps_meaning.specs.Meaning.{Outcome, Value_is, Ends}
-use Rattle.ps_meaning.specs.Calls.{context}
+use Rattle.ps_stepping.specs.ps_meaning.Objects.{Heap}
+use Rattle.ps_stepping.specs.ps_meaning.Values.{Num}
+use Rattle.ps_stepping.specs.ps_meaning.Evaluation.{eval}
+use Rattle.ps_stepping.specs.ps_meaning.Meaning.{Outcome, Value_is, Ends}
+use Rattle.ps_stepping.specs.ps_meaning.Calls.{context}
 use Rattle.ps_soundness.specs.Running.{IsPlace, HasAsMany, RunsIn, AllRunIn, IsRunLibrary}
 use Rattle.ps_soundness.specs.Free.{AllBelow}
 use Rattle.ps_soundness.specs.Valued.{IsValued, AllValued}
@@ -67,7 +67,7 @@ slot_by_kind nums refs slot ty free below n r (of_num is) =
 slot_by_kind nums refs slot ty free below n r (of_ref is) =
     let b : slot < free.refs = subst (λ (stack : Bool). slot < limit stack free) (ref_is is) below in on_refs is (omega by_arith)
 
--- the free slots behind a clause are among the locals
+-- the free slots after a clause are among the locals
 pub record Within (nums refs : ℕ) (free : Free) : Type 0 where
   pub nums_are : free.nums ≤ nums
   pub refs_are : free.refs ≤ refs
@@ -87,7 +87,7 @@ all_below free (local ∷ locals) h =
 are_below : (env : Env) (free : Free) → LocalsBelow env free → AllBelow env.locals free
 are_below env free h = all_below free env.locals h
 
--- however many turns may be left and calls are round it, and from each heap on, a clause comes to a value of its type
+-- however many turns may be left and calls are round it, and from each heap on, a clause yields a value of its type
 inside_comes : (heap : Heap) (wholes : List (List Field)) (env : Env) (ty : TyView) (o : Outcome) → ComesToInside heap wholes env ty o →
     Comes heap (stand (Some wholes) env) ty o
 inside_comes heap wholes env ty (Value_is v f s) h =
@@ -341,7 +341,7 @@ module _ (told : Told) (nums refs : ℕ) where
   literal_sounds {env = env} {free = free} wholes declares te runs at below n depth heap =
       literal_sound told wholes declares te runs at (are_below env free below) heap
 
-  -- what is behind the locals in scope isn't named
+  -- what is after the locals in scope isn't named
   behind_unnamed : (x : ℕ) (env : Env) (free : Free) → LocalsBelow env free → free.nums ≤ x → Unnamed x env
   behind_unnamed x env free below le ty found is =
       let b : x < free.nums = subst (λ (stack : Bool). x < limit stack free) is (below x ty found) in absurd (omega by_arith)

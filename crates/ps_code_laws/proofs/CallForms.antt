@@ -1,18 +1,18 @@
 -- A call: its arguments are taken from the stacks, the depth is tested and a turn taken, and the body that is called begins. What it comes to is what
--- the call comes to, behind which the frame is the caller's again.
+-- the call comes to, after which the frame is the caller's again.
 use Rattle.std.proofs.Common.{◌≡◌, ℕ, ◌+◌, ◌≤◌, ℤ, Bool, true, false, not, ◌&&◌, List, [], ◌∷◌, ◌++◌, length, map, Option, refl, ap, ◌∙◌, arith, eq-eqb}
 use Rattle.std.specs.Prelude.{nat_eq, nat_lt, if◌then◌else◌}
 use Rattle.std.proofs.lemmas.Bool.{le-ltb}
-use Rattle.ps_base.specs.TyView.{TyView}
-use Rattle.ps_base.specs.declared.line.Line.{Line}
-use Rattle.ps_base.specs.declared.instr.Instr.TheVariants as instr
-use Rattle.ps_program.specs.Node.{Param, Node, body}
-use Rattle.ps_typing.specs.Locals.{locals_on, taken_by_params}
-use Rattle.ps_typing.specs.WellTyped.{types_of_params}
-use Rattle.ps_meaning.specs.Values.{Value, Procedure, as_written, word_of}
-use Rattle.ps_meaning.specs.Objects.{Heap}
-use Rattle.ps_meaning.specs.Meaning.{Frame, Store, Outcome, Value_is, Ends, back_to}
-use Rattle.ps_meaning.specs.Frames.{arguments_on}
+use Rattle.ps_gen.specs.ps_base.TyView.{TyView}
+use Rattle.ps_gen.specs.ps_base.declared.line.Line.{Line}
+use Rattle.ps_gen.specs.ps_base.declared.instr.Instr.TheVariants as instr
+use Rattle.ps_gen.specs.ps_program.Node.{Param, Node, body}
+use Rattle.ps_typing_laws.specs.ps_typing.Locals.{locals_on, taken_by_params}
+use Rattle.ps_typing_laws.specs.ps_typing.WellTyped.{types_of_params}
+use Rattle.ps_stepping.specs.ps_meaning.Values.{Value, Procedure, as_written, word_of}
+use Rattle.ps_stepping.specs.ps_meaning.Objects.{Heap}
+use Rattle.ps_stepping.specs.ps_meaning.Meaning.{Frame, Store, Outcome, Value_is, Ends, back_to}
+use Rattle.ps_stepping.specs.ps_meaning.Frames.{arguments_on}
 use Rattle.ps_gen.specs.Units.{frame_of, unit_of}
 use Rattle.ps_stepping.specs.Config.{frame_words, Caller, frame_in}
 use Rattle.ps_stepping.specs.Steps.{Stuck}
@@ -75,7 +75,7 @@ module _ (w : Way) where
       w.Holds (resumed caller (nums_left gives v ++ caller.nums) (refs_left gives v ++ caller.refs) w.callers (compiled_store s.store)) s.events
   Returned caller gives (Ends e s) = w.Final e s.store.counted s.events
 
-  -- behind a call the frame is the caller's
+  -- after a call the frame is the caller's
   pub back_behind : (p : ℕ) (nums : List ℤ) (refs : List Value) (gives : TyView) (f : Frame) (store : Store) (o : Outcome) →
       Comes w (p + 9) nums refs gives (back_to f o) → Returned (waiting (place w (p + 9) nums refs f store)) gives o
   unfolding back_to

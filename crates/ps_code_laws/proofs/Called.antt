@@ -1,36 +1,36 @@
 -- A body that is called does what it means: its scope is made, the arguments that it keeps are moved there, its clause runs, and it comes back. By
 -- induction on the turns that may be left.
 use Rattle.std.proofs.Common.{◌≡◌, ℕ, ◌+◌, ◌≤◌, Bool, true, false, List, [], ◌∷◌, ◌++◌, length, Option, Some, None, refl, sym, ap, subst, arith}
-use Rattle.ps_base.specs.TyView.{TyView, TyViews}
-use Rattle.ps_base.specs.TyView as types
-use Rattle.ps_base.specs.CodeUnit.{text as text_of}
-use Rattle.ps_base.specs.Instr.{spelled}
-use Rattle.ps_base.specs.declared.line.Line.{Line}
-use Rattle.ps_base.specs.declared.code_unit.Frame.{Frame as Frames}
-use Rattle.ps_base.specs.declared.instr.Instr.{Instr}
-use Rattle.ps_base.specs.declared.instr.Instr.TheVariants as instr
-use Rattle.ps_program.specs.declared.place.Place.{Place}
-use Rattle.ps_program.specs.declared.place.Place.TheVariants.{Plain, Kept}
-use Rattle.ps_program.specs.Node.{Param, Node, BodyNode, body}
+use Rattle.ps_gen.specs.ps_base.TyView.{TyView, TyViews}
+use Rattle.ps_gen.specs.ps_base.TyView as types
+use Rattle.ps_gen.specs.ps_base.CodeUnit.{text as text_of}
+use Rattle.ps_gen.specs.ps_base.Instr.{spelled}
+use Rattle.ps_gen.specs.ps_base.declared.line.Line.{Line}
+use Rattle.ps_gen.specs.ps_base.declared.code_unit.Frame.{Frame as Frames}
+use Rattle.ps_gen.specs.ps_base.declared.instr.Instr.{Instr}
+use Rattle.ps_gen.specs.ps_base.declared.instr.Instr.TheVariants as instr
+use Rattle.ps_gen.specs.ps_program.declared.place.Place.{Place}
+use Rattle.ps_gen.specs.ps_program.declared.place.Place.TheVariants.{Plain, Kept}
+use Rattle.ps_gen.specs.ps_program.Node.{Param, Node, BodyNode, body}
 use Rattle.std.specs.Prelude.{if◌then◌else◌}
-use Rattle.ps_program.specs.Slots.{depth, reaches}
+use Rattle.ps_gen.specs.ps_program.Slots.{depth, reaches}
 use Rattle.ps_type_text.specs.Texts.{Field}
-use Rattle.ps_typing.specs.Placing.{is_number}
-use Rattle.ps_typing.specs.Locals.{taken_by_params}
-use Rattle.ps_typing.specs.WellTyped.{Env, Free, types_of_params, Takes, IsTyped, IsBody}
-use Rattle.ps_typing.specs.WellTyped as typed
+use Rattle.ps_typing_laws.specs.ps_typing.Placing.{is_number}
+use Rattle.ps_typing_laws.specs.ps_typing.Locals.{taken_by_params}
+use Rattle.ps_typing_laws.specs.ps_typing.WellTyped.{Env, Free, types_of_params, Takes, IsTyped, IsBody}
+use Rattle.ps_typing_laws.specs.ps_typing.WellTyped as typed
 use Rattle.ps_typing_laws.specs.Counted.{IsCounted}
 use Rattle.ps_typing_laws.proofs.Tracked.{params_tracked, LocalsBelow, track, track_body, limit_is}
-use Rattle.ps_program.specs.Parts.{Part as PartOf}
-use Rattle.ps_program.proofs.PartLemmas.{fold_parts}
-use Rattle.ps_meaning.specs.Values.{Value}
-use Rattle.ps_meaning.specs.Objects.{Heap, with_new, new_number}
-use Rattle.ps_meaning.specs.Scopes.{new_scope}
-use Rattle.ps_meaning.specs.Meaning.{Frame, State, Outcome, Value_is, Ends, after, ◌>>=◌, enter, back_in, scoped, and_object}
-use Rattle.ps_meaning.specs.Frames.{arguments_on, frame_of_call, keep_all}
-use Rattle.ps_meaning.specs.Evaluation.{eval}
-use Rattle.ps_meaning.specs.Calls.{body_meant, context}
-use Rattle.ps_emitter.specs.Choices as choice
+use Rattle.ps_gen.specs.ps_program.Parts.{Part as PartOf}
+use Rattle.ps_gen.proofs.of_ps_program.PartLemmas.{fold_parts}
+use Rattle.ps_stepping.specs.ps_meaning.Values.{Value}
+use Rattle.ps_stepping.specs.ps_meaning.Objects.{Heap, with_new, new_number}
+use Rattle.ps_stepping.specs.ps_meaning.Scopes.{new_scope}
+use Rattle.ps_stepping.specs.ps_meaning.Meaning.{Frame, State, Outcome, Value_is, Ends, after, ◌>>=◌, enter, back_in, scoped, and_object}
+use Rattle.ps_stepping.specs.ps_meaning.Frames.{arguments_on, frame_of_call, keep_all}
+use Rattle.ps_stepping.specs.ps_meaning.Evaluation.{eval}
+use Rattle.ps_stepping.specs.ps_meaning.Calls.{body_meant, context}
+use Rattle.ps_gen.specs.ps_emitter.Choices as choice
 use Rattle.ps_gen.specs.Emission.{size, emit}
 use Rattle.ps_gen.specs.Units.{kept_at, size_kept_at, keeps, size_keeps, body_instrs, type_constant, constants, frame_of, unit_of}
 use Rattle.ps_gen.proofs.Widths.{widths}
@@ -96,7 +96,7 @@ module _ (v : Way) where
     nums_taken : taken_by_params true params ≤ (frame_in v.unit).nums
     refs_taken : taken_by_params false params ≤ (frame_in v.unit).refs
 
-  -- behind its scope, a body keeps its arguments and does what its clause means
+  -- after its scope, a body keeps its arguments and does what its clause means
   clause_does : (told : Told) {wholes first : List (List Field)} {params : List Param} {tree : Node} {gives : TyView}
       (h : Inside wholes first params tree gives) (turns : ℕ) → Entered v turns → (heap : Heap) (args : List Value) →
       ValuesOf heap (types_of_params params) args → AreLiterals Fits args → (p k : ℕ) (behind_it : List Instr) →

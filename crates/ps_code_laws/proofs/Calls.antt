@@ -1,27 +1,27 @@
 -- A call does what it means, where the body that is called does what it means with a turn less.
 use Rattle.std.proofs.Common.{◌≡◌, ℕ, zero, suc, ◌+◌, ◌<◌, ◌≤◌, ℤ, pos, Bool, true, false, List, [], ◌∷◌, ◌++◌, length, map, Option, refl, sym, ap, ◌∙◌, subst, append-nil, arith}
 use Rattle.std.specs.Prelude.{get_or, nat_lt, if◌then◌else◌}
-use Rattle.ps_base.specs.TyView.{TyView, TyViews}
-use Rattle.ps_base.specs.TyView as types
-use Rattle.ps_base.specs.declared.line.Line.{Line}
-use Rattle.ps_base.specs.declared.trap.Trap.TheVariants.{TooDeep}
-use Rattle.ps_base.specs.declared.instr.Instr.{Instr}
-use Rattle.ps_base.specs.declared.instr.Instr.TheVariants as instr
-use Rattle.ps_program.specs.Node.{Param, Node, BodyNode, body}
-use Rattle.ps_program.specs.Slots.{slot_count}
+use Rattle.ps_gen.specs.ps_base.TyView.{TyView, TyViews}
+use Rattle.ps_gen.specs.ps_base.TyView as types
+use Rattle.ps_gen.specs.ps_base.declared.line.Line.{Line}
+use Rattle.ps_gen.specs.ps_base.declared.trap.Trap.TheVariants.{TooDeep}
+use Rattle.ps_gen.specs.ps_base.declared.instr.Instr.{Instr}
+use Rattle.ps_gen.specs.ps_base.declared.instr.Instr.TheVariants as instr
+use Rattle.ps_gen.specs.ps_program.Node.{Param, Node, BodyNode, body}
+use Rattle.ps_gen.specs.ps_program.Slots.{slot_count}
 use Rattle.ps_type_text.specs.Texts.{Field}
-use Rattle.ps_typing.specs.Locals.{locals_on, taken_by_params}
-use Rattle.ps_typing.specs.WellTyped.{types_of_params, IsBody}
+use Rattle.ps_typing_laws.specs.ps_typing.Locals.{locals_on, taken_by_params}
+use Rattle.ps_typing_laws.specs.ps_typing.WellTyped.{types_of_params, IsBody}
 use Rattle.ps_typing_laws.specs.Counted.{IsCounted}
 use Rattle.ps_typing_laws.proofs.Tracked.{track_body}
-use Rattle.ps_meaning.specs.Event.{Turn, Trapped}
-use Rattle.ps_meaning.specs.Values.{Value, Num, Nil, Procedure, as_written, word_of}
-use Rattle.ps_meaning.specs.Objects.{Heap}
-use Rattle.ps_meaning.specs.Meaning.{Frame, Store, State, stop, after, ◌>>=◌, choose, back_to, in_frame, with_turns, turned, spent, take_turn}
-use Rattle.ps_meaning.specs.Evaluation.{most_calls, call_meant}
-use Rattle.ps_meaning.specs.Frames.{arguments_on, frame_of_call}
-use Rattle.ps_meaning.specs.Calls.{body_meant, call_within, context}
-use Rattle.ps_emitter.specs.Choices as choice
+use Rattle.ps_stepping.specs.ps_meaning.Event.{Turn, Trapped}
+use Rattle.ps_stepping.specs.ps_meaning.Values.{Value, Num, Nil, Procedure, as_written, word_of}
+use Rattle.ps_stepping.specs.ps_meaning.Objects.{Heap}
+use Rattle.ps_stepping.specs.ps_meaning.Meaning.{Frame, Store, State, stop, after, ◌>>=◌, choose, back_to, in_frame, with_turns, turned, spent, take_turn}
+use Rattle.ps_stepping.specs.ps_meaning.Evaluation.{most_calls, call_meant}
+use Rattle.ps_stepping.specs.ps_meaning.Frames.{arguments_on, frame_of_call}
+use Rattle.ps_stepping.specs.ps_meaning.Calls.{body_meant, call_within, context}
+use Rattle.ps_gen.specs.ps_emitter.Choices as choice
 use Rattle.ps_gen.specs.Units.{unit_of}
 use Rattle.ps_stepping.specs.Config.{frame_words, Caller, Config, code_in, IsAt}
 use Rattle.ps_stepping.specs.Steps.{Stops}
@@ -88,7 +88,7 @@ module _ (w : Way) where
       ∙ ap (made (λ slot. word_of (get_or (arguments_on true params args) slot (Num (pos 0))))
       (λ slot. compiled (get_or (arguments_on false params args) slot Nil))) same
 
-  -- behind the test of the depth: where a turn is left it is taken, and the body begins
+  -- after the test of the depth: where a turn is left it is taken, and the body begins
   call_goes : (m turns p : ℕ) (i : Instr) (before : Config) (params : List Param) (gives : TyView) (tree : Node)
       (text : Option (List ℕ)) (line : Line) (scope : Option ℕ) (args : List Value) (nums : List ℤ) (refs : List Value) (f : Frame)
       (s : State) → turns ≤ suc m → Enters m → before.store.counted ≡ s.store.counted → IsAt (code_in before.unit) before.at i →

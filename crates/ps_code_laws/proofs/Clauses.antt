@@ -1,23 +1,23 @@
 -- The typed clauses that run, without their environments: what a machine with so many locals on each stack needs to know of them.
 use Rattle.std.proofs.Common.{◌≡◌, ℕ, ◌+◌, ◌<◌, ◌≤◌, ℤ, Bool, true, false, List, [], ◌∷◌, Option, Some, None}
-use Rattle.ps_base.specs.TyView.{TyView, TyViews}
-use Rattle.ps_base.specs.TyView as types
-use Rattle.ps_base.specs.declared.line.Line.{Line}
-use Rattle.ps_base.specs.declared.operator.Operator.{Operator}
-use Rattle.ps_base.specs.declared.operator.Relation.{Relation}
-use Rattle.ps_base.specs.declared.operator.Relation.TheVariants as relation
-use Rattle.ps_program.specs.declared.place.Place.{Place}
-use Rattle.ps_program.specs.declared.place.Place.TheVariants.{Plain, Kept}
-use Rattle.ps_program.specs.Node.{Param, Node, Nodes, none, more, Arms, no_arms, more_arms, arm, BodyNode, body}
-use Rattle.ps_program.specs.Node as node
-use Rattle.ps_typing.specs.Checking.{is_equated, is_ordered, is_comparable, is_writable}
+use Rattle.ps_gen.specs.ps_base.TyView.{TyView, TyViews}
+use Rattle.ps_gen.specs.ps_base.TyView as types
+use Rattle.ps_gen.specs.ps_base.declared.line.Line.{Line}
+use Rattle.ps_gen.specs.ps_base.declared.operator.Operator.{Operator}
+use Rattle.ps_gen.specs.ps_base.declared.operator.Relation.{Relation}
+use Rattle.ps_gen.specs.ps_base.declared.operator.Relation.TheVariants as relation
+use Rattle.ps_gen.specs.ps_program.declared.place.Place.{Place}
+use Rattle.ps_gen.specs.ps_program.declared.place.Place.TheVariants.{Plain, Kept}
+use Rattle.ps_gen.specs.ps_program.Node.{Param, Node, Nodes, none, more, Arms, no_arms, more_arms, arm, BodyNode, body}
+use Rattle.ps_gen.specs.ps_program.Node as node
+use Rattle.ps_typing_laws.specs.ps_typing.Checking.{is_equated, is_ordered, is_comparable, is_writable}
 use Rattle.ps_type_text.specs.Texts.{Field, class_text, IsNamed}
-use Rattle.ps_typing.specs.WellTyped.{At, IsOfType, types_of_params}
-use Rattle.ps_meaning.specs.Operators.{is_int}
-use Rattle.ps_meaning.specs.Objects.{Heap}
-use Rattle.ps_meaning.specs.Values.{Value}
-use Rattle.ps_meaning.specs.Evaluation.{eval, eval_all}
-use Rattle.ps_meaning.specs.Calls.{context}
+use Rattle.ps_typing_laws.specs.ps_typing.WellTyped.{At, IsOfType, types_of_params}
+use Rattle.ps_stepping.specs.ps_meaning.Operators.{is_int}
+use Rattle.ps_stepping.specs.ps_meaning.Objects.{Heap}
+use Rattle.ps_stepping.specs.ps_meaning.Values.{Value}
+use Rattle.ps_stepping.specs.ps_meaning.Evaluation.{eval, eval_all}
+use Rattle.ps_stepping.specs.ps_meaning.Calls.{context}
 use Rattle.ps_soundness.specs.Running.{IsScopeText, HasField}
 use Rattle.ps_soundness.specs.Shapes.{IsOf}
 use Rattle.ps_soundness.specs.Valued.{IsValued}
@@ -61,11 +61,11 @@ pub record IsLoop (nums slot : ℕ) (b c s : Node) : Type 0 where
   pub keeps_limit : Keeps (slot + 1) s
   pub keeps_step : Keeps (slot + 2) s
 
--- however many turns may be left and calls are round it, and from each heap on, a clause comes to a value of its type
+-- however many turns may be left and calls are round it, and from each heap on, a clause yields a value of its type
 abbrev pub Sounds : Standing → Standing → Node → TyView → Type 0
 Sounds first last t ty = (n depth : ℕ) (heap : Heap) → Sound heap first last ty (eval (context n depth) t)
 
--- what a loop by `for` keeps of what is known, and of what is known behind a turn
+-- what a loop by `for` keeps of what is known, and of what is known after a turn
 pub record KeepsTypes (known own : Standing) (slot : ℕ) : Type 0 where
   pub spares : (at : ℕ) → slot ≤ at → Spares known at
   pub counts : (z : ℤ) → Settable own known (Plain slot) z
@@ -204,12 +204,12 @@ mutual
     a_line : {known : Standing} {line : Line} → Clause nums refs known (node.Lib 9 none line) types.Str
     at_eof : {known : Standing} {line : Line} → Clause nums refs known (node.Lib 10 none line) types.Bool
 
-  -- a clause that comes to a value of its type, and whose bodies fit
+  -- a clause that yields a value of its type, and whose bodies fit
   pub data Part (nums refs : ℕ) : Standing → Node → TyView → Type 0 where
     that : {known : Standing} {t : Node} {ty : TyView} → Clause nums refs known t ty → Sounds known known t ty → BodiesAre Fits IsValued t →
         Part nums refs known t ty
 
-  -- the items of a sequence behind one of this type; a name is in scope behind its clause
+  -- the items of a sequence after one of this type; a name is in scope after its clause
   pub data Items (nums refs : ℕ) : Standing → TyView → Nodes → TyView → Type 0 where
     at_end : {known : Standing} {ty : TyView} → Items nums refs known ty none ty
     an_item : {known next : Standing} {item : Node} {rest : Nodes} {of ty : TyView} → Clause nums refs known item of →
@@ -241,7 +241,7 @@ sounds_in (that h sounds fit) = sounds
 pub bodies_in : {nums refs : ℕ} {known : Standing} {t : Node} {ty : TyView} → Part nums refs known t ty → BodiesAre Fits IsValued t
 bodies_in (that h sounds fit) = fit
 
--- Items: what is known behind them, that they come to a value of their type, and that their bodies fit.
+-- Items: what is known after them, that they yield a value of their type, and that their bodies fit.
 pub behind_items : {nums refs : ℕ} {known : Standing} {before ty : TyView} {ts : Nodes} → Items nums refs known before ts ty → Standing
 behind_items (at_end {known = known}) = known
 behind_items (an_item first sounds fit rest) = behind_items rest

@@ -1,15 +1,15 @@
 -- Comparing two values of a type: what the machine's instruction for the type tells is what is meant.
 use Rattle.std.proofs.Common.{◌≡◌, ℕ, ◌+◌, ℤ, Bool, List, ◌∷◌, ◌++◌, refl, ap, ◌∙◌}
-use Rattle.ps_base.specs.TyView.{TyView}
-use Rattle.ps_base.specs.Instr.{width_of}
-use Rattle.ps_base.specs.declared.operator.Relation.{Relation}
-use Rattle.ps_base.specs.declared.operator.Relation.TheVariants as relation
-use Rattle.ps_meaning.specs.Operators.{relation_of}
-use Rattle.ps_meaning.specs.Values.{Value, Text, Nil, Pointer, Vector, number_of, word_of}
-use Rattle.ps_meaning.specs.Objects.{Heap}
-use Rattle.ps_meaning.specs.Meaning.{Frame, Store}
-use Rattle.ps_meaning.specs.Evaluation.{text_relation, compares}
-use Rattle.ps_emitter.specs.Choices as choice
+use Rattle.ps_gen.specs.ps_base.TyView.{TyView}
+use Rattle.ps_gen.specs.ps_base.Instr.{width_of}
+use Rattle.ps_gen.specs.ps_base.declared.operator.Relation.{Relation}
+use Rattle.ps_gen.specs.ps_base.declared.operator.Relation.TheVariants as relation
+use Rattle.ps_stepping.specs.ps_meaning.Operators.{relation_of}
+use Rattle.ps_stepping.specs.ps_meaning.Values.{Value, Text, Nil, Pointer, Vector, number_of, word_of}
+use Rattle.ps_stepping.specs.ps_meaning.Objects.{Heap}
+use Rattle.ps_stepping.specs.ps_meaning.Meaning.{Frame, Store}
+use Rattle.ps_stepping.specs.ps_meaning.Evaluation.{text_relation, compares}
+use Rattle.ps_gen.specs.ps_emitter.Choices as choice
 use Rattle.ps_stepping.specs.Config.{Config}
 use Rattle.ps_stepping.specs.Machine.{Step, on, push_num, act}
 use Rattle.ps_stepping.specs.Objects.{denoting_of}

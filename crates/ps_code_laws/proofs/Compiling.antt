@@ -3,21 +3,21 @@ use Rattle.std.proofs.Common.{◌≡◌, ℕ, zero, suc, ◌+◌, ℤ, pos, ◌+
 use Rattle.std.specs.Prelude.{◌*◌, not, if◌then◌else◌}
 use Rattle.std.proofs.Math.ListN.{get_or-map}
 use Rattle.std.proofs.lemmas.List.{length-map, map-append, map-set}
-use Rattle.ps_base.specs.declared.trap.Trap.{Trap}
-use Rattle.ps_base.specs.declared.trap.Trap.TheVariants as trap
-use Rattle.ps_base.specs.declared.operator.Relation.{Relation}
-use Rattle.ps_base.specs.declared.operator.Relation.TheVariants as relation
-use Rattle.text_forms.specs.declared.forms.Form.{Form}
-use Rattle.text_forms.specs.declared.forms.Form.TheVariants as form
-use Rattle.text_forms.specs.Forms.{forms_of, form_in, element_of}
-use Rattle.ps_meaning.specs.Texts.{Attempt, Yields, Fails}
-use Rattle.ps_meaning.specs.Values.{Value, Num, Flag, Nil, Pointer, Vector, Procedure, Nothing, word_of, is_one, flag_of}
-use Rattle.ps_meaning.specs.Objects.{Heap, Object, Structure, Elements, Scope, object_at, with_object, with_new, new_number, value_at, kept_as, is_of, is_class, fields_in, field_of, with_field, place_of, is_vector, is_made, vector_of, count_from, filled_vector, low_in, elements_in, type_in, vector_in, found_at, put_at, with_element, low_of, high_of, is_one_object}
-use Rattle.ps_meaning.specs.Objects.{element_of as element_at}
-use Rattle.ps_meaning.specs.Scopes.{first_value, new_scope, scope_at, parent_in, names_in, scope_out, name_in, with_name_in, with_name}
-use Rattle.ps_meaning.specs.Weights.{own_weight}
-use Rattle.ps_meaning.specs.Meaning.{Store, and_object, kept_name, with_kept_name}
-use Rattle.ps_meaning.specs.Evaluation.{kept_elements, kept_all, object_relation}
+use Rattle.ps_gen.specs.ps_base.declared.trap.Trap.{Trap}
+use Rattle.ps_gen.specs.ps_base.declared.trap.Trap.TheVariants as trap
+use Rattle.ps_gen.specs.ps_base.declared.operator.Relation.{Relation}
+use Rattle.ps_gen.specs.ps_base.declared.operator.Relation.TheVariants as relation
+use Rattle.ps_stepping.specs.text_forms.declared.forms.Form.{Form}
+use Rattle.ps_stepping.specs.text_forms.declared.forms.Form.TheVariants as form
+use Rattle.ps_stepping.specs.text_forms.Forms.{forms_of, form_in, element_of}
+use Rattle.ps_stepping.specs.ps_meaning.Texts.{Attempt, Yields, Fails}
+use Rattle.ps_stepping.specs.ps_meaning.Values.{Value, Num, Flag, Nil, Pointer, Vector, Procedure, Nothing, word_of, is_one, flag_of}
+use Rattle.ps_stepping.specs.ps_meaning.Objects.{Heap, Object, Structure, Elements, Scope, object_at, with_object, with_new, new_number, value_at, kept_as, is_of, is_class, fields_in, field_of, with_field, place_of, is_vector, is_made, vector_of, count_from, filled_vector, low_in, elements_in, type_in, vector_in, found_at, put_at, with_element, low_of, high_of, is_one_object}
+use Rattle.ps_stepping.specs.ps_meaning.Objects.{element_of as element_at}
+use Rattle.ps_stepping.specs.ps_meaning.Scopes.{first_value, new_scope, scope_at, parent_in, names_in, scope_out, name_in, with_name_in, with_name}
+use Rattle.ps_stepping.specs.ps_meaning.Weights.{own_weight}
+use Rattle.ps_stepping.specs.ps_meaning.Meaning.{Store, and_object, kept_name, with_kept_name}
+use Rattle.ps_stepping.specs.ps_meaning.Evaluation.{kept_elements, kept_all, object_relation}
 use Rattle.ps_code_laws.specs.Compiled.{compiled, compiled_all, compiled_object, compiled_heap, compiled_store}
 
 -- Numbers, flags and texts are as they were.

@@ -2,21 +2,21 @@
 use Rattle.std.proofs.Common.{◌≡◌, ℕ, zero, suc, ◌+◌, ◌<◌, ◌≤◌, ℤ, Bool, true, false, List, [], ◌∷◌, ◌++◌, length, Option, refl, sym, ap, ◌∙◌, subst, append_assoc, append-nil, length-append, arith}
 use Rattle.std.specs.Prelude.{nat_lt, nat_eq, if◌then◌else◌}
 use Rattle.std.proofs.lemmas.Bool.{lt-ltb}
-use Rattle.ps_base.specs.TyView.{TyView}
-use Rattle.ps_base.specs.TyView as types
-use Rattle.ps_base.specs.CodeUnit.{UnitView}
-use Rattle.ps_base.specs.Instr.{width_of}
-use Rattle.ps_base.specs.declared.line.Line.{Line}
-use Rattle.ps_base.specs.declared.trap.Trap.TheVariants.{TooLong}
-use Rattle.ps_base.specs.declared.instr.Instr.{Instr}
-use Rattle.ps_base.specs.declared.instr.Instr.TheVariants as instr
-use Rattle.ps_program.specs.declared.place.Place.TheVariants.{Plain}
-use Rattle.ps_meaning.specs.Operators.{Answer, Gives, Traps}
-use Rattle.ps_meaning.specs.Event.{End, Trapped, Event, Turn, OutOfTurns}
-use Rattle.ps_meaning.specs.Values.{Value, Nothing, word_of, is_one, flag_of}
-use Rattle.ps_meaning.specs.Meaning.{Frame, Store, State, Outcome, Value_is, Ends, Meaning, give, stop, after, ◌>>=◌, choose, answer, some_out, emit, in_places, is_width, written, with_turns, turned, spent, take_turn, with_local, get, set}
-use Rattle.ps_meaning.specs.Objects.{Heap}
-use Rattle.ps_meaning.specs.Evaluation.{while_turns}
+use Rattle.ps_gen.specs.ps_base.TyView.{TyView}
+use Rattle.ps_gen.specs.ps_base.TyView as types
+use Rattle.ps_gen.specs.ps_base.CodeUnit.{UnitView}
+use Rattle.ps_gen.specs.ps_base.Instr.{width_of}
+use Rattle.ps_gen.specs.ps_base.declared.line.Line.{Line}
+use Rattle.ps_gen.specs.ps_base.declared.trap.Trap.TheVariants.{TooLong}
+use Rattle.ps_gen.specs.ps_base.declared.instr.Instr.{Instr}
+use Rattle.ps_gen.specs.ps_base.declared.instr.Instr.TheVariants as instr
+use Rattle.ps_gen.specs.ps_program.declared.place.Place.TheVariants.{Plain}
+use Rattle.ps_stepping.specs.ps_meaning.Operators.{Answer, Gives, Traps}
+use Rattle.ps_stepping.specs.ps_meaning.Event.{End, Trapped, Event, Turn, OutOfTurns}
+use Rattle.ps_stepping.specs.ps_meaning.Values.{Value, Nothing, word_of, is_one, flag_of}
+use Rattle.ps_stepping.specs.ps_meaning.Meaning.{Frame, Store, State, Outcome, Value_is, Ends, Meaning, give, stop, after, ◌>>=◌, choose, answer, some_out, emit, in_places, is_width, written, with_turns, turned, spent, take_turn, with_local, get, set}
+use Rattle.ps_stepping.specs.ps_meaning.Objects.{Heap}
+use Rattle.ps_stepping.specs.ps_meaning.Evaluation.{while_turns}
 use Rattle.ps_soundness.specs.Shapes.{IsOf, IsTypedHeap, Grows}
 use Rattle.ps_soundness.proofs.Growing.{grows_not, grows_then}
 use Rattle.ps_soundness.proofs.Combining.{Standing, IsStanding, Sound, sound_then}
@@ -91,7 +91,7 @@ pub record IsSince (n : Origin) (f : Frame) (s : State) : Type 0 where
   pub are : IsStanding s.store.heap f n.known
   pub held : InFrame Fits f × InHeap Fits s.store.heap
 
--- behind a part
+-- after a part
 abbrev pub after_it : Origin → Heap → Standing → Origin
 after_it n heap last = record { turns = n.turns; heap = heap; known = last }
 
@@ -105,7 +105,7 @@ since_more {n = n} {s = s} {heap = heap} le g h = record {
   held = h.held;
 }
 
--- What a part comes to that is of a type: the turns have fallen, the heap has grown and is typed, what is known behind it is so, and each procedure that
+-- What a part comes to that is of a type: the turns have fallen, the heap has grown and is typed, what is known after it is so, and each procedure that
 -- is held fits.
 pub record IsLeft (n : Origin) (last : Standing) (ty : TyView) (v : Value) (f : Frame) (s : State) : Type 0 where
   pub few : s.store.turns ≤ n.turns
@@ -124,7 +124,7 @@ pub since_left : (n : Origin) (last : Standing) (ty : TyView) (v : Value) (f : F
     IsSince (after_it n s.store.heap last) f s
 since_left n last ty v f s left = record { few = left.few; grows = grows_not s.store.heap; typed = left.typed; are = left.are; held = left.held }
 
--- a part that takes turns alone, and comes to a value of a type
+-- a part that takes turns alone, and yields a value of a type
 pub record Leads (n : Origin) (last : Standing) (ty : TyView) (a : Meaning) : Type 0 where
   pub falls : Falling a
   pub sound : Sound n.heap n.known last ty a
@@ -175,7 +175,7 @@ module _ (w : Way) where
   abbrev pub place : ℕ → List ℤ → List Value → Frame → Store → Config
   place at nums refs f store = standing w.unit w.callers at nums refs f store
 
-  -- where the run stands behind a clause of this type that came to this
+  -- where the run stands after a clause of this type that came to this
   abbrev pub Comes : ℕ → List ℤ → List Value → TyView → Outcome → Type 0
   Comes k nums refs ty (Value_is v f s) = w.Holds (place k (nums_left ty v ++ nums) (refs_left ty v ++ refs) f s.store) s.events
   Comes k nums refs ty (Ends e s) = w.Final e s.store.counted s.events
@@ -581,7 +581,7 @@ module _ (w : Way) where
     by = λ nums refs f s room since reach. quiet (instr.Again to) at (if_false (is_one (word_of v)) _ _ is) reach;
   }
 
-  -- The test from p on, the clause from `to` on up to p, and the end of the loop behind the test.
+  -- The test from p on, the clause from `to` on up to p, and the end of the loop after the test.
   pub does_while : (n : Origin) (need nc na p q to : ℕ) (test clause : Meaning) → nc ≤ need → na ≤ need → Leads n n.known types.Bool test →
       Leads n n.known types.Void clause → Does n [] [] test types.Bool nc p q → Does n [] [] clause types.Void na to p → to < q →
       IsAt (code_in w.unit) q (instr.Again to) → (m : ℕ) (heap : Heap) → m ≤ n.turns → Grows n.heap heap →

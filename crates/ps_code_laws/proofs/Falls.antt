@@ -1,22 +1,22 @@
 -- The turns that are left never rise.
 use Rattle.std.proofs.Common.{ℕ, zero, suc, ◌+◌, ◌≤◌, ℤ, pos, ◌+ℤ◌, Bool, true, false, List, [], ◌∷◌, Option, Some, None, arith}
 use Rattle.std.specs.Prelude.{nat_eq, nat_lt, if◌then◌else◌}
-use Rattle.ps_base.specs.TyView.{TyView}
-use Rattle.ps_base.specs.TyView as types
-use Rattle.ps_base.specs.declared.line.Line.{Line}
-use Rattle.ps_program.specs.declared.place.Place.{Place}
-use Rattle.ps_program.specs.declared.place.Place.TheVariants.{Plain, Kept}
-use Rattle.ps_program.specs.Node.{Param, Node, Nodes, none, more, Arms, no_arms, more_arms, arm, BodyNode, body}
-use Rattle.ps_program.specs.Node as node
-use Rattle.ps_meaning.specs.Operators.{Answer, Gives, Traps, is_same}
-use Rattle.ps_meaning.specs.Event.{End}
-use Rattle.ps_meaning.specs.Values.{Value, Num, Flag, Text, Nil, Pointer, Vector, Procedure, Nothing, as_written, word_of, flag_of}
-use Rattle.ps_meaning.specs.Texts.{Attempt, Yields, Fails, line_read, behind_line}
-use Rattle.ps_meaning.specs.Objects.{Heap, Object}
-use Rattle.ps_meaning.specs.Meaning.{Frame, State, Outcome, Value_is, Ends, Meaning, give, stop, after, ◌>>=◌, choose, answer, attempt, with_heap, put_heap, made, made_text, made_procedure, with_input, put_input, enter, back_in, back_to, scoped, in_scope, in_frame, emit, in_places, is_width, written, with_turns, turned, take_turn, unbuilt, get, set}
-use Rattle.ps_meaning.specs.Frames.{frame_of_call, keep, keep_all}
-use Rattle.ps_meaning.specs.Calls.{body_meant, call_within, context}
-use Rattle.ps_meaning.specs.Evaluation.{Context, while_turns, Counting, goes_on, in_turn, for_turns, for_loop, for_meant, is_equal, make_meant, most_calls, call_meant, read_line, at_end, lib_meant, eval, eval_all, eval_each, eval_arms, eval_labels}
+use Rattle.ps_gen.specs.ps_base.TyView.{TyView}
+use Rattle.ps_gen.specs.ps_base.TyView as types
+use Rattle.ps_gen.specs.ps_base.declared.line.Line.{Line}
+use Rattle.ps_gen.specs.ps_program.declared.place.Place.{Place}
+use Rattle.ps_gen.specs.ps_program.declared.place.Place.TheVariants.{Plain, Kept}
+use Rattle.ps_gen.specs.ps_program.Node.{Param, Node, Nodes, none, more, Arms, no_arms, more_arms, arm, BodyNode, body}
+use Rattle.ps_gen.specs.ps_program.Node as node
+use Rattle.ps_stepping.specs.ps_meaning.Operators.{Answer, Gives, Traps, is_same}
+use Rattle.ps_stepping.specs.ps_meaning.Event.{End}
+use Rattle.ps_stepping.specs.ps_meaning.Values.{Value, Num, Flag, Text, Nil, Pointer, Vector, Procedure, Nothing, as_written, word_of, flag_of}
+use Rattle.ps_stepping.specs.ps_meaning.Texts.{Attempt, Yields, Fails, line_read, behind_line}
+use Rattle.ps_stepping.specs.ps_meaning.Objects.{Heap, Object}
+use Rattle.ps_stepping.specs.ps_meaning.Meaning.{Frame, State, Outcome, Value_is, Ends, Meaning, give, stop, after, ◌>>=◌, choose, answer, attempt, with_heap, put_heap, made, made_text, made_procedure, with_input, put_input, enter, back_in, back_to, scoped, in_scope, in_frame, emit, in_places, is_width, written, with_turns, turned, take_turn, unbuilt, get, set}
+use Rattle.ps_stepping.specs.ps_meaning.Frames.{frame_of_call, keep, keep_all}
+use Rattle.ps_stepping.specs.ps_meaning.Calls.{body_meant, call_within, context}
+use Rattle.ps_stepping.specs.ps_meaning.Evaluation.{Context, while_turns, Counting, goes_on, in_turn, for_turns, for_loop, for_meant, is_equal, make_meant, most_calls, call_meant, read_line, at_end, lib_meant, eval, eval_all, eval_each, eval_arms, eval_labels}
 
 abbrev pub Falls : ℕ → Outcome → Type 0
 Falls n (Value_is v f s) = s.store.turns ≤ n

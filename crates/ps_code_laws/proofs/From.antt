@@ -1,15 +1,15 @@
 -- What code does from locals of which something is so.
 use Rattle.std.proofs.Common.{ℕ, ◌≤◌, ℤ, List, ◌++◌}
-use Rattle.ps_base.specs.TyView.{TyView}
-use Rattle.ps_meaning.specs.Values.{Value}
-use Rattle.ps_meaning.specs.Objects.{Heap}
-use Rattle.ps_meaning.specs.Meaning.{Frame, State, Outcome, Value_is, Ends, Meaning, after, ◌>>=◌}
+use Rattle.ps_gen.specs.ps_base.TyView.{TyView}
+use Rattle.ps_stepping.specs.ps_meaning.Values.{Value}
+use Rattle.ps_stepping.specs.ps_meaning.Objects.{Heap}
+use Rattle.ps_stepping.specs.ps_meaning.Meaning.{Frame, State, Outcome, Value_is, Ends, Meaning, after, ◌>>=◌}
 use Rattle.ps_soundness.specs.Shapes.{IsOf, Grows}
 use Rattle.ps_soundness.proofs.Combining.{Standing}
 use Rattle.ps_code_laws.specs.Meets.{nums_left, refs_left}
 use Rattle.ps_code_laws.proofs.Doing.{Origin, IsSince, since_more, after_it, Behind, since_left, Leads, leads_left, Way, place, Comes, Room, Does, less_room}
 
--- what is so of a value and the locals behind a clause that has one
+-- what is so of a value and the locals after a clause that has one
 abbrev pub On : (Value → Frame → Type 0) → Outcome → Type 0
 On Is (Value_is v f s) = Is v f
 On Is (Ends e s) = Unit {0}

@@ -1,13 +1,13 @@
 -- What each typed clause that runs in some scopes gives is of a type that has values, or void, where its names and its bodies are of such types.
 use Rattle.std.proofs.Common.{◌≡◌, ℕ, List, [], ◌∷◌, ◌++◌, Some, inl, inr, sym, subst, append_assoc}
 use Rattle.std.specs.List.{AllByRecursion}
-use Rattle.ps_base.specs.TyView.{TyView, TyViews}
-use Rattle.ps_program.specs.Node.{Node, Nodes, none, more, Arms, no_arms, more_arms, arm}
+use Rattle.ps_gen.specs.ps_base.TyView.{TyView, TyViews}
+use Rattle.ps_gen.specs.ps_program.Node.{Node, Nodes, none, more, Arms, no_arms, more_arms, arm}
 use Rattle.ps_type_text.specs.Texts.{Field}
-use Rattle.ps_typing.specs.Names.{lookup, plain, library}
-use Rattle.ps_typing.specs.Library.{procedures}
-use Rattle.ps_typing.specs.WellTyped.{Env, Free, behind_one, with_local, Claim, ◌has◌, all_have, arms_have, At, IsOfType, Arguments, Rule, Declares, IsTyped, AreTyped, AreItems}
-use Rattle.ps_typing.specs.WellTyped as typed
+use Rattle.ps_typing_laws.specs.ps_typing.Names.{lookup, plain, library}
+use Rattle.ps_typing_laws.specs.ps_typing.Library.{procedures}
+use Rattle.ps_typing_laws.specs.ps_typing.WellTyped.{Env, Free, behind_one, with_local, Claim, ◌has◌, all_have, arms_have, At, IsOfType, Arguments, Rule, Declares, IsTyped, AreTyped, AreItems}
+use Rattle.ps_typing_laws.specs.ps_typing.WellTyped as typed
 use Rattle.ps_typing_laws.specs.Counted.{Each}
 use Rattle.ps_soundness.specs.Valued.{IsValued, IsGiven}
 use Rattle.ps_soundness.specs.Running.{RunsIn, AllRunIn, ArmsRunIn, IsRunLibrary}

@@ -1,15 +1,15 @@
 -- The arguments of a body that is called: they stand in the first locals of their stacks, in their order.
 use Rattle.std.proofs.Common.{◌≡◌, ℕ, ◌+◌, pos, Bool, true, false, List, [], ◌∷◌, ◌++◌, length, refl, sym, ap, ◌∙◌, subst, append_assoc, length-append}
 use Rattle.std.specs.Prelude.{get_or, not, if◌then◌else◌}
-use Rattle.ps_base.specs.TyView.{TyView}
-use Rattle.ps_program.specs.Node.{Param, body}
-use Rattle.ps_typing.specs.Placing.{is_number}
-use Rattle.ps_typing.specs.WellTyped.{Env, Free, Local, next_slot, behind_one, types_of_params, Takes}
-use Rattle.ps_typing.specs.WellTyped as typed
-use Rattle.ps_meaning.specs.Values.{Value, Num, Nil}
-use Rattle.ps_meaning.specs.Objects.{Heap}
-use Rattle.ps_meaning.specs.Meaning.{Frame, local_of}
-use Rattle.ps_meaning.specs.Frames.{arguments_on, frame_of_call}
+use Rattle.ps_gen.specs.ps_base.TyView.{TyView}
+use Rattle.ps_gen.specs.ps_program.Node.{Param, body}
+use Rattle.ps_typing_laws.specs.ps_typing.Placing.{is_number}
+use Rattle.ps_typing_laws.specs.ps_typing.WellTyped.{Env, Free, Local, next_slot, behind_one, types_of_params, Takes}
+use Rattle.ps_typing_laws.specs.ps_typing.WellTyped as typed
+use Rattle.ps_stepping.specs.ps_meaning.Values.{Value, Num, Nil}
+use Rattle.ps_stepping.specs.ps_meaning.Objects.{Heap}
+use Rattle.ps_stepping.specs.ps_meaning.Meaning.{Frame, local_of}
+use Rattle.ps_stepping.specs.ps_meaning.Frames.{arguments_on, frame_of_call}
 use Rattle.ps_soundness.specs.Shapes.{IsOf, AreLocals}
 use Rattle.ps_soundness.proofs.Calling.{ValuesOf}
 

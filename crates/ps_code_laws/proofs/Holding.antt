@@ -1,26 +1,26 @@
 -- What a clause comes to holds literals alone, where what it begins with does.
 use Rattle.std.proofs.Common.{ℕ, zero, suc, ◌+◌, ℤ, pos, ◌+ℤ◌, Bool, true, false, List, [], ◌∷◌, Option, Some, None}
 use Rattle.std.specs.Prelude.{nat_eq, nat_lt, get_or, if◌then◌else◌}
-use Rattle.ps_base.specs.TyView.{TyView}
-use Rattle.ps_base.specs.TyView as types
-use Rattle.ps_base.specs.declared.line.Line.{Line}
-use Rattle.text_forms.specs.Forms.{forms_of, form_in, element_of}
+use Rattle.ps_gen.specs.ps_base.TyView.{TyView}
+use Rattle.ps_gen.specs.ps_base.TyView as types
+use Rattle.ps_gen.specs.ps_base.declared.line.Line.{Line}
+use Rattle.ps_stepping.specs.text_forms.Forms.{forms_of, form_in, element_of}
 use Rattle.ps_type_text.specs.Texts.{type_text}
-use Rattle.ps_program.specs.declared.place.Place.{Place}
-use Rattle.ps_program.specs.declared.place.Place.TheVariants.{Plain, Kept}
-use Rattle.ps_program.specs.Node.{Param, Node, Nodes, none, more, Arms, no_arms, more_arms, arm, BodyNode, body}
-use Rattle.ps_program.specs.Node as node
-use Rattle.ps_typing.specs.Placing.{is_number}
-use Rattle.ps_meaning.specs.Operators.{Answer, Gives, Traps, is_same}
-use Rattle.ps_meaning.specs.Event.{End}
-use Rattle.ps_meaning.specs.Values.{Value, Num, Flag, Text, Nil, Pointer, Vector, Procedure, Nothing, as_written, word_of, flag_of}
-use Rattle.ps_meaning.specs.Texts.{Attempt, Yields, Fails, line_read, behind_line}
-use Rattle.ps_meaning.specs.Objects.{Heap, Object, Structure, type_in, vector_in}
-use Rattle.ps_meaning.specs.Scopes.{new_scope}
-use Rattle.ps_meaning.specs.Meaning.{Frame, State, Outcome, Value_is, Ends, Meaning, give, stop, after, ◌>>=◌, choose, answer, attempt, with_heap, put_heap, made, made_text, made_procedure, with_input, put_input, enter, back_in, back_to, scoped, in_scope, in_frame, emit, in_places, is_width, written, with_turns, turned, take_turn, with_local, unbuilt, get, set}
-use Rattle.ps_meaning.specs.Frames.{stands_on, arguments_on, frame_of_call, keep, keep_all}
-use Rattle.ps_meaning.specs.Calls.{body_meant, call_within, context}
-use Rattle.ps_meaning.specs.Evaluation.{Context, while_turns, Counting, goes_on, in_turn, for_turns, for_loop, for_meant, kept_all, is_equal, make_meant, elements_meant, most_calls, call_meant, read_line, at_end, lib_meant, eval, eval_all, eval_each, eval_arms, eval_labels}
+use Rattle.ps_gen.specs.ps_program.declared.place.Place.{Place}
+use Rattle.ps_gen.specs.ps_program.declared.place.Place.TheVariants.{Plain, Kept}
+use Rattle.ps_gen.specs.ps_program.Node.{Param, Node, Nodes, none, more, Arms, no_arms, more_arms, arm, BodyNode, body}
+use Rattle.ps_gen.specs.ps_program.Node as node
+use Rattle.ps_typing_laws.specs.ps_typing.Placing.{is_number}
+use Rattle.ps_stepping.specs.ps_meaning.Operators.{Answer, Gives, Traps, is_same}
+use Rattle.ps_stepping.specs.ps_meaning.Event.{End}
+use Rattle.ps_stepping.specs.ps_meaning.Values.{Value, Num, Flag, Text, Nil, Pointer, Vector, Procedure, Nothing, as_written, word_of, flag_of}
+use Rattle.ps_stepping.specs.ps_meaning.Texts.{Attempt, Yields, Fails, line_read, behind_line}
+use Rattle.ps_stepping.specs.ps_meaning.Objects.{Heap, Object, Structure, type_in, vector_in}
+use Rattle.ps_stepping.specs.ps_meaning.Scopes.{new_scope}
+use Rattle.ps_stepping.specs.ps_meaning.Meaning.{Frame, State, Outcome, Value_is, Ends, Meaning, give, stop, after, ◌>>=◌, choose, answer, attempt, with_heap, put_heap, made, made_text, made_procedure, with_input, put_input, enter, back_in, back_to, scoped, in_scope, in_frame, emit, in_places, is_width, written, with_turns, turned, take_turn, with_local, unbuilt, get, set}
+use Rattle.ps_stepping.specs.ps_meaning.Frames.{stands_on, arguments_on, frame_of_call, keep, keep_all}
+use Rattle.ps_stepping.specs.ps_meaning.Calls.{body_meant, call_within, context}
+use Rattle.ps_stepping.specs.ps_meaning.Evaluation.{Context, while_turns, Counting, goes_on, in_turn, for_turns, for_loop, for_meant, kept_all, is_equal, make_meant, elements_meant, most_calls, call_meant, read_line, at_end, lib_meant, eval, eval_all, eval_each, eval_arms, eval_labels}
 use Rattle.ps_soundness.specs.Valued.{IsValued}
 use Rattle.ps_code_laws.specs.Literals.{BodiesAre, BodyIs, AllBodiesAre, ArmsBodiesAre}
 use Rattle.ps_code_laws.proofs.Literals.{IsLiteral, AreLiterals, InObject, InHeap, InFrame, OnYield, in_kept_name, in_kept, in_kept_all, in_kept_elements, in_first, in_field, in_with_field, in_vector_of, in_filled, in_element, in_with_element, in_with_kept_name, in_with_new, in_row}

@@ -3,11 +3,11 @@ use Rattle.std.proofs.Common.{◌≡◌, ℕ, Bool, true, false, List, [], ◌�
 use Rattle.std.specs.Prelude.{if◌then◌else◌}
 use Rattle.std.specs.Str.{bytes_eq}
 use Rattle.std.specs.List.{AllByRecursion}
-use Rattle.ps_base.specs.TyView.{TyView, TyViews}
-use Rattle.ps_base.specs.TyView as types
-use Rattle.ps_typing.specs.Names.{Declared, lookup, plain, library}
-use Rattle.ps_typing.specs.Names as names
-use Rattle.ps_typing.specs.Library.{procedures}
+use Rattle.ps_gen.specs.ps_base.TyView.{TyView, TyViews}
+use Rattle.ps_gen.specs.ps_base.TyView as types
+use Rattle.ps_typing_laws.specs.ps_typing.Names.{Declared, lookup, plain, library}
+use Rattle.ps_typing_laws.specs.ps_typing.Names as names
+use Rattle.ps_typing_laws.specs.ps_typing.Library.{procedures}
 
 abbrev Says : names.Meaning → Type 0
 Says (library (plain code params gives)) =

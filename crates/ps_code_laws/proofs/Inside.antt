@@ -3,12 +3,12 @@ use Rattle.std.proofs.Common.{◌≡◌, Bool, true, false, List, [], ◌∷◌,
 use Rattle.std.specs.Prelude.{nat_lt, if◌then◌else◌}
 use Rattle.std.specs.List.{AllByRecursion}
 use Rattle.std.proofs.lemmas.Bool.{ltb-false}
-use Rattle.ps_program.specs.Node.{Node, Nodes, none, more, Arms, no_arms, more_arms, arm, BodyNode, body}
-use Rattle.ps_program.specs.Node as node
-use Rattle.ps_program.specs.Parts.{Part, operand, label, branch, literal, fold_all, fold_arms}
-use Rattle.ps_program.specs.Slots.{slot_count}
-use Rattle.ps_typing.specs.Fault.{TooComplex}
-use Rattle.ps_typing.specs.Program.{most_slots, bodies_of, bodies, line_of_body, first_complex, bodies_with, bodies_in}
+use Rattle.ps_gen.specs.ps_program.Node.{Node, Nodes, none, more, Arms, no_arms, more_arms, arm, BodyNode, body}
+use Rattle.ps_gen.specs.ps_program.Node as node
+use Rattle.ps_gen.specs.ps_program.Parts.{Part, operand, label, branch, literal, fold_all, fold_arms}
+use Rattle.ps_gen.specs.ps_program.Slots.{slot_count}
+use Rattle.ps_typing_laws.specs.ps_typing.Fault.{TooComplex}
+use Rattle.ps_typing_laws.specs.ps_typing.Program.{most_slots, bodies_of, bodies, line_of_body, first_complex, bodies_with, bodies_in}
 use Rattle.ps_soundness.specs.Valued.{IsValued}
 use Rattle.ps_soundness.specs.Shapes.{type_of_body}
 use Rattle.ps_soundness.proofs.Sequences.{all_left, all_right}
@@ -135,7 +135,7 @@ module _ (P : BodyNode → Type 0) where
   pub bodies_inside : (of : BodyNode) → All (bodies of) → BodyIs P AnyType of
   bodies_inside (body params gives tree scope line) h = (h.0, inside tree h.1)
 
--- a body that isn't too complex, and those behind it
+-- a body that isn't too complex, and those after it
 not_complex : (b : BodyNode) (rest : List BodyNode) (is : Bool) → nat_lt most_slots (slot_count b) ≡ is →
     (if is then Some (TooComplex (line_of_body b) (slot_count b)) else first_complex rest) ≡ None →
     (nat_lt most_slots (slot_count b) ≡ false) × (first_complex rest ≡ None)

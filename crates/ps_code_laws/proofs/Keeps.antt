@@ -1,25 +1,25 @@
 -- A clause leaves each local of the number stack alone that it can't name: one below the free slots, and not that of a name in scope.
 use Rattle.std.proofs.Common.{◌≡◌, ℕ, zero, suc, ◌+◌, ◌<◌, ℤ, pos, ◌+ℤ◌, Bool, true, false, List, [], ◌∷◌, ◌++◌, Option, Some, None, inl, inr, refl, sym, ap, ◌∙◌, subst, arith, ne_eqb}
 use Rattle.std.specs.Prelude.{nat_eq, nat_lt, if◌then◌else◌}
-use Rattle.ps_base.specs.TyView.{TyView, TyViews}
-use Rattle.ps_base.specs.TyView as types
-use Rattle.ps_base.specs.declared.line.Line.{Line}
-use Rattle.ps_program.specs.declared.place.Place.{Place}
-use Rattle.ps_program.specs.declared.place.Place.TheVariants.{Plain, Kept}
-use Rattle.ps_program.specs.Node.{Node, Nodes, none, more, Arms, no_arms, more_arms, arm, BodyNode}
-use Rattle.ps_program.specs.Node as node
-use Rattle.ps_typing.specs.Placing.{is_number}
-use Rattle.ps_typing.specs.WellTyped.{Some_is, Env, Free, IsLocal, Claim, ◌has◌, all_have, arms_have, behind_loop, Rule, Opens, Declares, IsTyped, AreTyped, AreItems, Arguments}
-use Rattle.ps_typing.specs.WellTyped as typed
+use Rattle.ps_gen.specs.ps_base.TyView.{TyView, TyViews}
+use Rattle.ps_gen.specs.ps_base.TyView as types
+use Rattle.ps_gen.specs.ps_base.declared.line.Line.{Line}
+use Rattle.ps_gen.specs.ps_program.declared.place.Place.{Place}
+use Rattle.ps_gen.specs.ps_program.declared.place.Place.TheVariants.{Plain, Kept}
+use Rattle.ps_gen.specs.ps_program.Node.{Node, Nodes, none, more, Arms, no_arms, more_arms, arm, BodyNode}
+use Rattle.ps_gen.specs.ps_program.Node as node
+use Rattle.ps_typing_laws.specs.ps_typing.Placing.{is_number}
+use Rattle.ps_typing_laws.specs.ps_typing.WellTyped.{Some_is, Env, Free, IsLocal, Claim, ◌has◌, all_have, arms_have, behind_loop, Rule, Opens, Declares, IsTyped, AreTyped, AreItems, Arguments}
+use Rattle.ps_typing_laws.specs.ps_typing.WellTyped as typed
 use Rattle.ps_typing_laws.specs.Counted.{Each}
 use Rattle.ps_typing_laws.proofs.Tracked.{Grows, tree_grows, LocalsBelow, locals_grow, declared, track, track_all, all_grows}
-use Rattle.ps_meaning.specs.Operators.{Answer, Gives, Traps, neg_of, arith_of, is_same}
-use Rattle.ps_meaning.specs.Values.{Value, Num, Flag, Text, Nil, Pointer, Vector, Procedure, Nothing, as_written, word_of, flag_of, shown}
-use Rattle.ps_meaning.specs.Texts.{Attempt, Yields, Fails, line_read, behind_line}
-use Rattle.ps_meaning.specs.Objects.{Heap, Object}
-use Rattle.ps_meaning.specs.Meaning.{Frame, Store, State, Outcome, Value_is, Ends, Meaning, give, stop, after, ◌>>=◌, choose, answer, attempt, with_heap, put_heap, made, made_text, made_procedure, with_input, put_input, enter, back_in, back_to, scoped, in_scope, in_frame, emit, in_places, is_width, written, turned, spent, take_turn, with_local, unbuilt, get, set}
-use Rattle.ps_meaning.specs.Frames.{frame_of_call}
-use Rattle.ps_meaning.specs.Evaluation.{Context, while_turns, Counting, goes_on, in_turn, for_turns, for_loop, for_meant, is_equal, make_meant, most_calls, call_meant, read_line, at_end, lib_meant, eval, eval_all, eval_each, eval_arms, eval_labels}
+use Rattle.ps_stepping.specs.ps_meaning.Operators.{Answer, Gives, Traps, neg_of, arith_of, is_same}
+use Rattle.ps_stepping.specs.ps_meaning.Values.{Value, Num, Flag, Text, Nil, Pointer, Vector, Procedure, Nothing, as_written, word_of, flag_of, shown}
+use Rattle.ps_stepping.specs.ps_meaning.Texts.{Attempt, Yields, Fails, line_read, behind_line}
+use Rattle.ps_stepping.specs.ps_meaning.Objects.{Heap, Object}
+use Rattle.ps_stepping.specs.ps_meaning.Meaning.{Frame, Store, State, Outcome, Value_is, Ends, Meaning, give, stop, after, ◌>>=◌, choose, answer, attempt, with_heap, put_heap, made, made_text, made_procedure, with_input, put_input, enter, back_in, back_to, scoped, in_scope, in_frame, emit, in_places, is_width, written, turned, spent, take_turn, with_local, unbuilt, get, set}
+use Rattle.ps_stepping.specs.ps_meaning.Frames.{frame_of_call}
+use Rattle.ps_stepping.specs.ps_meaning.Evaluation.{Context, while_turns, Counting, goes_on, in_turn, for_turns, for_loop, for_meant, is_equal, make_meant, most_calls, call_meant, read_line, at_end, lib_meant, eval, eval_all, eval_each, eval_arms, eval_labels}
 
 -- the local has the value that it had
 abbrev pub Same : ℕ → Frame → Outcome → Type 0

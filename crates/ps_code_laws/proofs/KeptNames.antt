@@ -1,20 +1,20 @@
 -- A name that a scope keeps, in the machine's heap: its place is found there, and what is read and written there is what is meant, compiled.
 use Rattle.std.proofs.Common.{◌≡◌, ℕ, List, set, Option, Some, sym, ap, ◌∙◌}
 use Rattle.std.specs.Prelude.{codes}
-use Rattle.ps_base.specs.TyView.{TyView}
-use Rattle.text_forms.specs.declared.forms.Form.{Form}
-use Rattle.text_forms.specs.Forms.{forms_of, form_in}
-use Rattle.text_forms.specs.Classes.{form_of_type}
-use Rattle.text_forms.proofs.ClassForms.{class-told}
+use Rattle.ps_gen.specs.ps_base.TyView.{TyView}
+use Rattle.ps_stepping.specs.text_forms.declared.forms.Form.{Form}
+use Rattle.ps_stepping.specs.text_forms.Forms.{forms_of, form_in}
+use Rattle.ps_stepping.specs.text_forms.Classes.{form_of_type}
+use Rattle.ps_stepping.proofs.of_text_forms.ClassForms.{class-told}
 use Rattle.ps_type_text.specs.Texts.{Field, class_text}
-use Rattle.ps_meaning.specs.Values.{Value, Num, word_of}
-use Rattle.ps_meaning.specs.Objects.{Heap, Object, Scope, object_at, with_object, kept_as}
-use Rattle.ps_meaning.specs.Scopes.{scope_at, scope_out, with_name_in, with_name}
-use Rattle.ps_meaning.specs.Meaning.{with_kept_name}
+use Rattle.ps_stepping.specs.ps_meaning.Values.{Value, Num, word_of}
+use Rattle.ps_stepping.specs.ps_meaning.Objects.{Heap, Object, Scope, object_at, with_object, kept_as}
+use Rattle.ps_stepping.specs.ps_meaning.Scopes.{scope_at, scope_out, with_name_in, with_name}
+use Rattle.ps_stepping.specs.ps_meaning.Meaning.{with_kept_name}
 use Rattle.ps_stepping.specs.Steps.{Step}
 use Rattle.ps_stepping.specs.Objects.{when_number, when_reference}
 use Rattle.ps_stepping.specs.Procedures.{of_scope}
-use Rattle.ps_typing.specs.WellTyped.{At, IsOfType}
+use Rattle.ps_typing_laws.specs.ps_typing.WellTyped.{At, IsOfType}
 use Rattle.ps_soundness.specs.Shapes.{IsScopeAt}
 use Rattle.ps_soundness.proofs.Fields.{form_at}
 use Rattle.ps_soundness.proofs.Scopes.{front_at, IsFound, IsName}

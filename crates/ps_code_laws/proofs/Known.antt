@@ -1,8 +1,8 @@
 -- What is known of the scopes round a clause.
 use Rattle.std.proofs.Common.{◌≡◌, ℕ, List, [], ◌∷◌, Some}
-use Rattle.ps_base.specs.TyView.{TyView}
+use Rattle.ps_gen.specs.ps_base.TyView.{TyView}
 use Rattle.ps_type_text.specs.Texts.{Field}
-use Rattle.ps_typing.specs.WellTyped.{At, IsOfType}
+use Rattle.ps_typing_laws.specs.ps_typing.WellTyped.{At, IsOfType}
 use Rattle.ps_soundness.proofs.Combining.{Standing}
 
 -- A name of this type that a scope round a clause keeps: it has had its declaration, or it is the next of the current scope.

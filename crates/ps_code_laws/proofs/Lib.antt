@@ -36,3 +36,5 @@ pub mod Called
 pub mod Inside
 pub mod Bodies
 mod Rows
+pub use Rattle.ps_typing_laws.proofs as of_ps_typing_laws
+pub use Rattle.ps_stepping.proofs as of_ps_stepping

@@ -2,18 +2,18 @@
 -- are in its locals, in its heap and in its values.
 use Rattle.std.proofs.Common.{ℕ, zero, suc, ℤ, Bool, true, false, List, [], ◌∷◌, length, map, set, Option, Some, None}
 use Rattle.std.specs.Prelude.{nat_eq, if◌then◌else◌}
-use Rattle.ps_base.specs.declared.trap.Trap.{Trap}
-use Rattle.text_forms.specs.declared.forms.Form.{Form}
-use Rattle.text_forms.specs.declared.forms.Form.TheVariants as form
-use Rattle.text_forms.specs.Forms.{forms_of, form_in, element_of}
-use Rattle.ps_program.specs.Node.{BodyNode}
-use Rattle.ps_meaning.specs.Values.{Value, Nil, Pointer, Vector}
-use Rattle.ps_meaning.specs.Texts.{Attempt, Yields, Fails}
-use Rattle.ps_meaning.specs.Objects.{Heap, Object, Structure, Elements, Scope, object_at, with_object, with_new, value_at, kept_as, is_of, fields_in, field_of, with_field, is_vector, is_made, vector_of, filled_vector, low_in, elements_in, type_in, vector_in, found_at, put_at, with_element}
-use Rattle.ps_meaning.specs.Objects.{element_of as element_at}
-use Rattle.ps_meaning.specs.Scopes.{first_value, scope_at, names_in, scope_out, name_in, with_name_in, with_name}
-use Rattle.ps_meaning.specs.Meaning.{Frame, with_local, kept_name, with_kept_name}
-use Rattle.ps_meaning.specs.Evaluation.{kept_all, kept_elements}
+use Rattle.ps_gen.specs.ps_base.declared.trap.Trap.{Trap}
+use Rattle.ps_stepping.specs.text_forms.declared.forms.Form.{Form}
+use Rattle.ps_stepping.specs.text_forms.declared.forms.Form.TheVariants as form
+use Rattle.ps_stepping.specs.text_forms.Forms.{forms_of, form_in, element_of}
+use Rattle.ps_gen.specs.ps_program.Node.{BodyNode}
+use Rattle.ps_stepping.specs.ps_meaning.Values.{Value, Nil, Pointer, Vector}
+use Rattle.ps_stepping.specs.ps_meaning.Texts.{Attempt, Yields, Fails}
+use Rattle.ps_stepping.specs.ps_meaning.Objects.{Heap, Object, Structure, Elements, Scope, object_at, with_object, with_new, value_at, kept_as, is_of, fields_in, field_of, with_field, is_vector, is_made, vector_of, filled_vector, low_in, elements_in, type_in, vector_in, found_at, put_at, with_element}
+use Rattle.ps_stepping.specs.ps_meaning.Objects.{element_of as element_at}
+use Rattle.ps_stepping.specs.ps_meaning.Scopes.{first_value, scope_at, names_in, scope_out, name_in, with_name_in, with_name}
+use Rattle.ps_stepping.specs.ps_meaning.Meaning.{Frame, with_local, kept_name, with_kept_name}
+use Rattle.ps_stepping.specs.ps_meaning.Evaluation.{kept_all, kept_elements}
 use Rattle.ps_soundness.proofs.Fields.{all_set, all_same}
 use Rattle.ps_code_laws.specs.Literals.{ValueIs, ValuesAre, ObjectIs, HeapIs, FrameIs}
 

@@ -1,24 +1,24 @@
 -- Loops by `for`: the machine reads the limit and the step from their locals at each turn, and nothing but the loop sets them.
 use Rattle.std.proofs.Common.{◌≡◌, ℕ, zero, suc, ◌+◌, ◌<◌, ◌≤◌, ℤ, pos, ◌+ℤ◌, Bool, true, false, List, [], ◌∷◌, Option, Some, None, refl, sym, ap, ◌∙◌, subst, arith, eq-eqb}
 use Rattle.std.specs.Prelude.{nat_eq}
-use Rattle.ps_base.specs.TyView.{TyView}
-use Rattle.ps_base.specs.TyView as types
-use Rattle.ps_base.specs.CodeUnit.{text}
-use Rattle.ps_base.specs.Instr.{width_of}
-use Rattle.ps_base.specs.declared.line.Line.{Line}
-use Rattle.ps_base.specs.declared.trap.Trap.TheVariants.{Bounds}
-use Rattle.ps_base.specs.declared.instr.Instr.{Instr}
-use Rattle.ps_base.specs.declared.instr.Instr.TheVariants as instr
-use Rattle.ps_program.specs.declared.place.Place.{Place}
-use Rattle.ps_program.specs.declared.place.Place.TheVariants.{Plain, Kept}
+use Rattle.ps_gen.specs.ps_base.TyView.{TyView}
+use Rattle.ps_gen.specs.ps_base.TyView as types
+use Rattle.ps_gen.specs.ps_base.CodeUnit.{text}
+use Rattle.ps_gen.specs.ps_base.Instr.{width_of}
+use Rattle.ps_gen.specs.ps_base.declared.line.Line.{Line}
+use Rattle.ps_gen.specs.ps_base.declared.trap.Trap.TheVariants.{Bounds}
+use Rattle.ps_gen.specs.ps_base.declared.instr.Instr.{Instr}
+use Rattle.ps_gen.specs.ps_base.declared.instr.Instr.TheVariants as instr
+use Rattle.ps_gen.specs.ps_program.declared.place.Place.{Place}
+use Rattle.ps_gen.specs.ps_program.declared.place.Place.TheVariants.{Plain, Kept}
 use Rattle.ps_type_text.specs.Texts.{Field}
-use Rattle.ps_typing.specs.WellTyped.{At as IsNth, IsOfType}
-use Rattle.ps_meaning.specs.Operators.{is_int, is_same}
-use Rattle.ps_meaning.specs.Objects.{Heap}
-use Rattle.ps_meaning.specs.Event.{Trapped}
-use Rattle.ps_meaning.specs.Values.{Value, Num, Nothing, word_of}
-use Rattle.ps_meaning.specs.Meaning.{Frame, Store, State, Outcome, Value_is, Ends, Meaning, give, stop, after, ◌>>=◌, choose, in_scope, with_turns, spent, take_turn, with_local, set}
-use Rattle.ps_meaning.specs.Evaluation.{Counting, goes_on, in_turn, for_turns, for_loop, for_meant}
+use Rattle.ps_typing_laws.specs.ps_typing.WellTyped.{At as IsNth, IsOfType}
+use Rattle.ps_stepping.specs.ps_meaning.Operators.{is_int, is_same}
+use Rattle.ps_stepping.specs.ps_meaning.Objects.{Heap}
+use Rattle.ps_stepping.specs.ps_meaning.Event.{Trapped}
+use Rattle.ps_stepping.specs.ps_meaning.Values.{Value, Num, Nothing, word_of}
+use Rattle.ps_stepping.specs.ps_meaning.Meaning.{Frame, Store, State, Outcome, Value_is, Ends, Meaning, give, stop, after, ◌>>=◌, choose, in_scope, with_turns, spent, take_turn, with_local, set}
+use Rattle.ps_stepping.specs.ps_meaning.Evaluation.{Counting, goes_on, in_turn, for_turns, for_loop, for_meant}
 use Rattle.ps_stepping.specs.Config.{Config, code_in, constants_in, constant_at, frame_in, IsAt}
 use Rattle.ps_stepping.specs.Machine.{turn_to, started, counted, act}
 use Rattle.ps_code_laws.specs.Compiled.{compiled_store}
@@ -156,7 +156,7 @@ module _ (w : Way) where
           (counted_is z nums refs f s.store is ∙ if_false (goes_on limit step_by (z +ℤ step_by)) _ _ on_it) reach;
     }
 
-    -- a turn, and those behind it
+    -- a turn, and those after it
     turn_does : (m : ℕ) (heap : Heap) (z : ℤ) → m ≤ n.turns → Grows n.heap heap → is_int z ≡ true → Turns m →
         From w (since m heap n.known) (At z) [] [] (in_turn loop clause z >>= λ v.
         choose (goes_on limit step_by (z +ℤ step_by))

@@ -1,13 +1,13 @@
 -- In a typed program whose bodies fit, each name that is mentioned is of a type that has values: so is each that is declared, from the outermost scope in.
 use Rattle.std.proofs.Common.{◌≡◌, ℕ, List, [], ◌∷◌, ◌++◌, Option, Some, None, inl, inr, sym, subst}
-use Rattle.ps_base.specs.TyView.{TyView, TyViews}
-use Rattle.ps_program.specs.declared.place.Place.{Place}
-use Rattle.ps_program.specs.declared.place.Place.TheVariants.{Plain, Kept}
-use Rattle.ps_program.specs.Node.{Param, Node, Nodes, none, more, Arms, no_arms, more_arms, arm, BodyNode, body}
-use Rattle.ps_program.specs.Node as node
+use Rattle.ps_gen.specs.ps_base.TyView.{TyView, TyViews}
+use Rattle.ps_gen.specs.ps_program.declared.place.Place.{Place}
+use Rattle.ps_gen.specs.ps_program.declared.place.Place.TheVariants.{Plain, Kept}
+use Rattle.ps_gen.specs.ps_program.Node.{Param, Node, Nodes, none, more, Arms, no_arms, more_arms, arm, BodyNode, body}
+use Rattle.ps_gen.specs.ps_program.Node as node
 use Rattle.ps_type_text.specs.Texts.{Field}
-use Rattle.ps_typing.specs.WellTyped.{Env, Free, behind_one, with_local, with_scopes, Claim, ◌has◌, all_have, arms_have, At, IsOfType, types_of_params, Arguments, Rule, Opens, Declares, Takes, IsTyped, AreTyped, AreItems, IsBody}
-use Rattle.ps_typing.specs.WellTyped as typed
+use Rattle.ps_typing_laws.specs.ps_typing.WellTyped.{Env, Free, behind_one, with_local, with_scopes, Claim, ◌has◌, all_have, arms_have, At, IsOfType, types_of_params, Arguments, Rule, Opens, Declares, Takes, IsTyped, AreTyped, AreItems, IsBody}
+use Rattle.ps_typing_laws.specs.ps_typing.WellTyped as typed
 use Rattle.ps_typing_laws.specs.Counted.{Each}
 use Rattle.ps_soundness.specs.Valued.{IsValued, AllValued}
 use Rattle.ps_soundness.specs.Running.{RunsIn, AllRunIn, BodyRuns}

@@ -1,16 +1,16 @@
 -- Operands, one after the other, and what is done with their values.
 use Rattle.std.proofs.Common.{◌≡◌, ℕ, ◌+◌, ◌≤◌, ℤ, List, [], ◌∷◌, ◌++◌, length, ap, subst, length-append, arith as by_arith}
-use Rattle.ps_base.specs.TyView.{TyView}
-use Rattle.ps_base.specs.Instr.{width_of}
-use Rattle.ps_base.specs.declared.instr.Instr.{Instr}
-use Rattle.ps_program.specs.Node.{Node}
-use Rattle.ps_program.specs.Parts.{Part}
-use Rattle.ps_program.specs.Slots.{reaches}
-use Rattle.ps_meaning.specs.Values.{Value}
-use Rattle.ps_meaning.specs.Objects.{Heap}
-use Rattle.ps_meaning.specs.Meaning.{Meaning, ◌>>=◌}
-use Rattle.ps_meaning.specs.Evaluation.{Context, eval}
-use Rattle.ps_meaning.specs.Calls.{context}
+use Rattle.ps_gen.specs.ps_base.TyView.{TyView}
+use Rattle.ps_gen.specs.ps_base.Instr.{width_of}
+use Rattle.ps_gen.specs.ps_base.declared.instr.Instr.{Instr}
+use Rattle.ps_gen.specs.ps_program.Node.{Node}
+use Rattle.ps_gen.specs.ps_program.Parts.{Part}
+use Rattle.ps_gen.specs.ps_program.Slots.{reaches}
+use Rattle.ps_stepping.specs.ps_meaning.Values.{Value}
+use Rattle.ps_stepping.specs.ps_meaning.Objects.{Heap}
+use Rattle.ps_stepping.specs.ps_meaning.Meaning.{Meaning, ◌>>=◌}
+use Rattle.ps_stepping.specs.ps_meaning.Evaluation.{Context, eval}
+use Rattle.ps_stepping.specs.ps_meaning.Calls.{context}
 use Rattle.ps_stepping.specs.Config.{code_in, frame_in, IsAt}
 use Rattle.ps_soundness.specs.Shapes.{IsOf, Grows}
 use Rattle.ps_soundness.proofs.Growing.{grows_then, of_kept}
@@ -60,7 +60,7 @@ module _ (w : Way) where
       Does w n bn br m ty need p' k
   from_place {n = n} {bn = bn} {br = br} {m = m} {ty = ty} {need = need} {k = k} p p' e d = subst (λ (q : ℕ). Does w n bn br m ty need q k) e d
 
-  -- behind an instruction of this width
+  -- after an instruction of this width
   pub next_of : (p n : ℕ) (i : Instr) (is : List Instr) → width_of i ≡ n → Ahead w.unit p (i ∷ is) → Ahead w.unit (p + n) is
   next_of p n i is e h = ahead_at w.unit (p + width_of i) (p + n) is (ap (λ k. p + k) e) h.1
 

@@ -3,23 +3,23 @@ use Rattle.std.proofs.Common.{◌≡◌, ℕ, zero, suc, ◌+◌, ℤ, true, fal
 use Rattle.std.specs.Prelude.{reverse}
 use Rattle.std.specs.List.{AllByRecursion}
 use Rattle.std.proofs.lemmas.List.{reverse-append}
-use Rattle.ps_base.specs.TyView.{TyView}
-use Rattle.ps_base.specs.TyView as types
-use Rattle.ps_base.specs.CodeUnit.{text}
-use Rattle.ps_base.specs.declared.line.Line.{Line}
-use Rattle.ps_base.specs.declared.instr.Instr.{Instr}
-use Rattle.ps_base.specs.declared.instr.Instr.TheVariants as instr
+use Rattle.ps_gen.specs.ps_base.TyView.{TyView}
+use Rattle.ps_gen.specs.ps_base.TyView as types
+use Rattle.ps_gen.specs.ps_base.CodeUnit.{text}
+use Rattle.ps_gen.specs.ps_base.declared.line.Line.{Line}
+use Rattle.ps_gen.specs.ps_base.declared.instr.Instr.{Instr}
+use Rattle.ps_gen.specs.ps_base.declared.instr.Instr.TheVariants as instr
 use Rattle.ps_type_text.specs.Texts.{Field, class_text, IsNamed}
-use Rattle.text_forms.specs.declared.forms.Form.{Form}
-use Rattle.text_forms.specs.declared.forms.Form.TheVariants as form
-use Rattle.text_forms.specs.Forms.{forms_of, element_of}
-use Rattle.text_forms.specs.Classes.{form_of_type, form_of_field}
-use Rattle.text_forms.proofs.ClassForms.{class-told}
-use Rattle.ps_meaning.specs.Values.{Value, Num, Flag, Pointer, Vector, word_of}
-use Rattle.ps_meaning.specs.Objects.{Heap, Structure, vector_of}
-use Rattle.ps_meaning.specs.Meaning.{Frame, Store, made}
-use Rattle.ps_meaning.specs.Evaluation.{kept_as, kept_all, kept_elements, make_meant, elements_meant}
-use Rattle.ps_emitter.specs.Choices as choice
+use Rattle.ps_stepping.specs.text_forms.declared.forms.Form.{Form}
+use Rattle.ps_stepping.specs.text_forms.declared.forms.Form.TheVariants as form
+use Rattle.ps_stepping.specs.text_forms.Forms.{forms_of, element_of}
+use Rattle.ps_stepping.specs.text_forms.Classes.{form_of_type, form_of_field}
+use Rattle.ps_stepping.proofs.of_text_forms.ClassForms.{class-told}
+use Rattle.ps_stepping.specs.ps_meaning.Values.{Value, Num, Flag, Pointer, Vector, word_of}
+use Rattle.ps_stepping.specs.ps_meaning.Objects.{Heap, Structure, vector_of}
+use Rattle.ps_stepping.specs.ps_meaning.Meaning.{Frame, Store, made}
+use Rattle.ps_stepping.specs.ps_meaning.Evaluation.{kept_as, kept_all, kept_elements, make_meant, elements_meant}
+use Rattle.ps_gen.specs.ps_emitter.Choices as choice
 use Rattle.ps_stepping.specs.Config.{Config, constants_in, constant_at}
 use Rattle.ps_stepping.specs.Machine.{Step, act}
 use Rattle.ps_stepping.specs.Steps.{pop_num, attempted}

@@ -3,19 +3,19 @@ use Rattle.std.proofs.Common.{ℕ, ◌^◌, ◌<◌, FitsSigned, w32, List, [], 
 use Rattle.std.specs.List.{AllByRecursion}
 use Rattle.std.specs.Prelude.{codes}
 use Rattle.std.proofs.lemmas.Int.{fits_signed_from_abs}
-use Rattle.ps_base.specs.TyView.{TyView}
-use Rattle.ps_base.specs.TyView as types
-use Rattle.ps_base.specs.declared.line.Line.{Line}
-use Rattle.ps_program.specs.declared.place.Place.TheVariants.{Plain, Kept}
-use Rattle.ps_program.specs.Node.{Node, more, none, BodyNode, body}
-use Rattle.ps_program.specs.Node as node
+use Rattle.ps_gen.specs.ps_base.TyView.{TyView}
+use Rattle.ps_gen.specs.ps_base.TyView as types
+use Rattle.ps_gen.specs.ps_base.declared.line.Line.{Line}
+use Rattle.ps_gen.specs.ps_program.declared.place.Place.TheVariants.{Plain, Kept}
+use Rattle.ps_gen.specs.ps_program.Node.{Node, more, none, BodyNode, body}
+use Rattle.ps_gen.specs.ps_program.Node as node
 use Rattle.ps_type_text.specs.Texts.{Field, class_text, is_name_byte}
-use Rattle.ps_typing.specs.WellTyped.{IsTyped, IsWellTyped}
-use Rattle.ps_typing.specs.WellTyped as typed
-use Rattle.ps_meaning.specs.Weights.{code_weight}
+use Rattle.ps_typing_laws.specs.ps_typing.WellTyped.{IsTyped, IsWellTyped}
+use Rattle.ps_typing_laws.specs.ps_typing.WellTyped as typed
+use Rattle.ps_stepping.specs.ps_meaning.Weights.{code_weight}
 use Rattle.ps_soundness.specs.Running.{IsScopeText, BodyRuns}
 use Rattle.ps_soundness.proofs.Telling.{Told}
-use Rattle.ps_meaning.specs.Runs.{fresh_store, run_events}
+use Rattle.ps_stepping.specs.ps_meaning.Runs.{fresh_store, run_events}
 use Rattle.ps_gen.specs.Units.{HasUnit, unit_of}
 use Rattle.ps_stepping.specs.Config.{start}
 use Rattle.ps_stepping.specs.Machine.{Runs}

@@ -1,19 +1,19 @@
 -- Instructions over scopes do what is meant by the clauses that they stand for, and so do those that make a procedure and read the input.
 use Rattle.std.proofs.Common.{◌≡◌, ℕ, ◌+◌, List, [], ◌∷◌, Option, Some, refl, ap, ◌∙◌, subst}
-use Rattle.ps_base.specs.TyView.{TyView, TyViews}
-use Rattle.ps_base.specs.TyView as types
-use Rattle.ps_base.specs.CodeUnit.{ConstantView, text, literal}
-use Rattle.ps_base.specs.declared.line.Line.{Line}
-use Rattle.ps_base.specs.declared.instr.Instr.TheVariants as instr
-use Rattle.ps_program.specs.declared.place.Place.TheVariants.{Kept}
-use Rattle.ps_program.specs.Node.{BodyNode}
+use Rattle.ps_gen.specs.ps_base.TyView.{TyView, TyViews}
+use Rattle.ps_gen.specs.ps_base.TyView as types
+use Rattle.ps_gen.specs.ps_base.CodeUnit.{ConstantView, text, literal}
+use Rattle.ps_gen.specs.ps_base.declared.line.Line.{Line}
+use Rattle.ps_gen.specs.ps_base.declared.instr.Instr.TheVariants as instr
+use Rattle.ps_gen.specs.ps_program.declared.place.Place.TheVariants.{Kept}
+use Rattle.ps_gen.specs.ps_program.Node.{BodyNode}
 use Rattle.ps_type_text.specs.Texts.{Field}
-use Rattle.ps_meaning.specs.Values.{Value, Procedure, as_written, word_of, number_of}
-use Rattle.ps_meaning.specs.Texts.{line_read, behind_line, is_at_end}
-use Rattle.ps_meaning.specs.Objects.{Heap, new_number}
-use Rattle.ps_meaning.specs.Scopes.{new_scope}
-use Rattle.ps_meaning.specs.Meaning.{Frame, Store, State, give, after, ◌>>=◌, made_text, made_procedure, with_input, put_input, enter, on_input, and_object, and_closure, kept_name, get, set}
-use Rattle.ps_meaning.specs.Evaluation.{read_line, at_end}
+use Rattle.ps_stepping.specs.ps_meaning.Values.{Value, Procedure, as_written, word_of, number_of}
+use Rattle.ps_stepping.specs.ps_meaning.Texts.{line_read, behind_line, is_at_end}
+use Rattle.ps_stepping.specs.ps_meaning.Objects.{Heap, new_number}
+use Rattle.ps_stepping.specs.ps_meaning.Scopes.{new_scope}
+use Rattle.ps_stepping.specs.ps_meaning.Meaning.{Frame, Store, State, give, after, ◌>>=◌, made_text, made_procedure, with_input, put_input, enter, on_input, and_object, and_closure, kept_name, get, set}
+use Rattle.ps_stepping.specs.ps_meaning.Evaluation.{read_line, at_end}
 use Rattle.ps_gen.specs.Units.{unit_of}
 use Rattle.ps_stepping.specs.Config.{constants_in, constant_at}
 use Rattle.ps_stepping.specs.Machine.{Step, on, push_num, push_ref}

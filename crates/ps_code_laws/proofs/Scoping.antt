@@ -1,15 +1,15 @@
 -- A clause in a scope of its own: the scope is made and entered, the clause's code runs, and the scope round it is the current one again.
 use Rattle.std.proofs.Common.{◌≡◌, ℕ, ◌+◌, ℤ, List, [], ◌∷◌, ◌++◌, map, Option, Some, sym, ap, ◌∙◌, subst, arith}
-use Rattle.ps_base.specs.TyView.{TyView}
-use Rattle.ps_base.specs.CodeUnit.{text}
-use Rattle.ps_base.specs.declared.instr.Instr.TheVariants as instr
-use Rattle.text_forms.specs.Forms.{forms_of}
+use Rattle.ps_gen.specs.ps_base.TyView.{TyView}
+use Rattle.ps_gen.specs.ps_base.CodeUnit.{text}
+use Rattle.ps_gen.specs.ps_base.declared.instr.Instr.TheVariants as instr
+use Rattle.ps_stepping.specs.text_forms.Forms.{forms_of}
 use Rattle.ps_type_text.specs.Texts.{Field}
-use Rattle.ps_typing.specs.WellTyped.{Local}
-use Rattle.ps_meaning.specs.Values.{Value}
-use Rattle.ps_meaning.specs.Objects.{Heap, Object, Structure, Elements, Scope, object_at, with_new, new_number}
-use Rattle.ps_meaning.specs.Scopes.{first_value, new_scope, scope_at}
-use Rattle.ps_meaning.specs.Meaning.{Frame, Store, State, Outcome, Value_is, Ends, Meaning, after, ◌>>=◌, enter, back_in, scoped, and_object}
+use Rattle.ps_typing_laws.specs.ps_typing.WellTyped.{Local}
+use Rattle.ps_stepping.specs.ps_meaning.Values.{Value}
+use Rattle.ps_stepping.specs.ps_meaning.Objects.{Heap, Object, Structure, Elements, Scope, object_at, with_new, new_number}
+use Rattle.ps_stepping.specs.ps_meaning.Scopes.{first_value, new_scope, scope_at}
+use Rattle.ps_stepping.specs.ps_meaning.Meaning.{Frame, Store, State, Outcome, Value_is, Ends, Meaning, after, ◌>>=◌, enter, back_in, scoped, and_object}
 use Rattle.ps_stepping.specs.Config.{constants_in, constant_at}
 use Rattle.ps_stepping.specs.Machine.{Step, on, act}
 use Rattle.ps_stepping.specs.Procedures.{of_scope}

@@ -2,38 +2,38 @@
 use Rattle.std.proofs.Common.{◌≡◌, ℕ, ◌+◌, ◌<◌, ◌≤◌, ℤ, Bool, true, false, not, List, [], ◌∷◌, ◌++◌, length, Option, Some, None, refl, sym, ap, ◌∙◌, subst, append_assoc, length-append, pos, arith as by_arith}
 use Rattle.std.specs.List.{AllByRecursion}
 use Rattle.std.specs.Fmt.{signed_decimal}
-use Rattle.ps_base.specs.TyView.{TyView, TyViews}
-use Rattle.ps_base.specs.TyView as types
-use Rattle.ps_base.specs.CodeUnit.{ConstantView, text as text_of, literal as literal_of}
-use Rattle.ps_base.specs.Instr.{width_of}
-use Rattle.ps_base.specs.declared.line.Line.{Line}
-use Rattle.ps_base.specs.declared.trap.Trap.TheVariants.{Abort as Aborted}
-use Rattle.ps_base.specs.declared.operator.Operator.{Operator}
-use Rattle.ps_base.specs.declared.operator.Operator.TheVariants as operator
-use Rattle.ps_base.specs.declared.operator.Relation.{Relation}
-use Rattle.ps_base.specs.declared.operator.Relation.TheVariants as relation
-use Rattle.ps_base.specs.declared.instr.Instr.TheVariants as instr
-use Rattle.ps_program.specs.declared.place.Place.{Place}
-use Rattle.ps_program.specs.declared.place.Place.TheVariants.{Plain, Kept}
-use Rattle.ps_program.specs.Node.{Node, Nodes, none, more, Arms, no_arms, more_arms, arm, BodyNode, body}
-use Rattle.ps_program.specs.Node as node
-use Rattle.ps_program.specs.Parts.{Part, operand, label, branch, fold_all, fold_arms}
-use Rattle.ps_program.specs.Slots.{reaches, depth}
-use Rattle.ps_typing.specs.Checking.{isnt_void}
-use Rattle.ps_meaning.specs.Operators.{neg_of, arith_of}
+use Rattle.ps_gen.specs.ps_base.TyView.{TyView, TyViews}
+use Rattle.ps_gen.specs.ps_base.TyView as types
+use Rattle.ps_gen.specs.ps_base.CodeUnit.{ConstantView, text as text_of, literal as literal_of}
+use Rattle.ps_gen.specs.ps_base.Instr.{width_of}
+use Rattle.ps_gen.specs.ps_base.declared.line.Line.{Line}
+use Rattle.ps_gen.specs.ps_base.declared.trap.Trap.TheVariants.{Abort as Aborted}
+use Rattle.ps_gen.specs.ps_base.declared.operator.Operator.{Operator}
+use Rattle.ps_gen.specs.ps_base.declared.operator.Operator.TheVariants as operator
+use Rattle.ps_gen.specs.ps_base.declared.operator.Relation.{Relation}
+use Rattle.ps_gen.specs.ps_base.declared.operator.Relation.TheVariants as relation
+use Rattle.ps_gen.specs.ps_base.declared.instr.Instr.TheVariants as instr
+use Rattle.ps_gen.specs.ps_program.declared.place.Place.{Place}
+use Rattle.ps_gen.specs.ps_program.declared.place.Place.TheVariants.{Plain, Kept}
+use Rattle.ps_gen.specs.ps_program.Node.{Node, Nodes, none, more, Arms, no_arms, more_arms, arm, BodyNode, body}
+use Rattle.ps_gen.specs.ps_program.Node as node
+use Rattle.ps_gen.specs.ps_program.Parts.{Part, operand, label, branch, fold_all, fold_arms}
+use Rattle.ps_gen.specs.ps_program.Slots.{reaches, depth}
+use Rattle.ps_typing_laws.specs.ps_typing.Checking.{isnt_void}
+use Rattle.ps_stepping.specs.ps_meaning.Operators.{neg_of, arith_of}
 use Rattle.ps_soundness.specs.Shapes.{IsOf, AreOf, Grows}
 use Rattle.ps_soundness.proofs.Growing.{grows_not, grows_then, of_kept}
 use Rattle.ps_soundness.proofs.Combining.{Standing, sound_then}
-use Rattle.ps_meaning.specs.Objects.{Heap}
-use Rattle.ps_meaning.specs.Event.{Trapped}
-use Rattle.ps_meaning.specs.Values.{Value, Num, Flag, Text, Nil, Procedure, Nothing, as_written, number_of, word_of, flag_of, bytes_of, shown}
-use Rattle.ps_meaning.specs.Meaning.{Frame, Store, State, Meaning, give, after, ◌>>=◌, choose, answer, made_text, made_procedure, written, and_closure, set}
-use Rattle.ps_meaning.specs.Evaluation.{compares, join_meant, part_meant, make_meant, elements_meant, fill_meant, set_field_meant, element_meant, set_element_meant, call_meant, eval, eval_all, eval_each, eval_arms, eval_labels}
-use Rattle.ps_emitter.specs.Choices as choice
+use Rattle.ps_stepping.specs.ps_meaning.Objects.{Heap}
+use Rattle.ps_stepping.specs.ps_meaning.Event.{Trapped}
+use Rattle.ps_stepping.specs.ps_meaning.Values.{Value, Num, Flag, Text, Nil, Procedure, Nothing, as_written, number_of, word_of, flag_of, bytes_of, shown}
+use Rattle.ps_stepping.specs.ps_meaning.Meaning.{Frame, Store, State, Meaning, give, after, ◌>>=◌, choose, answer, made_text, made_procedure, written, and_closure, set}
+use Rattle.ps_stepping.specs.ps_meaning.Evaluation.{compares, join_meant, part_meant, make_meant, elements_meant, fill_meant, set_field_meant, element_meant, set_element_meant, call_meant, eval, eval_all, eval_each, eval_arms, eval_labels}
+use Rattle.ps_gen.specs.ps_emitter.Choices as choice
 use Rattle.ps_type_text.specs.Texts.{Field, type_text}
 use Rattle.ps_gen.specs.Emission.{items_in, size, size_all, size_arms, size_labels, count, count_all, count_arms, emit, emit_all, emit_arms, emit_labels}
 use Rattle.ps_gen.specs.Units.{unit_of, constants, constants_of_all, constants_of_arms}
-use Rattle.ps_emitter.proofs.ChoiceWidths.{width_arith, width_compare, width_by_type}
+use Rattle.ps_gen.proofs.of_ps_emitter.ChoiceWidths.{width_arith, width_compare, width_by_type}
 use Rattle.ps_gen.proofs.Widths.{width_arms, width_labels, count_of_all, count_of_arms}
 use Rattle.ps_stepping.specs.Config.{constants_in, constant_at}
 use Rattle.ps_stepping.specs.Machine.{on, answered, push_text, act}
@@ -869,7 +869,7 @@ module _ (w : Way) where
         (does_all (after_it n new next) entered (at + size t) (k + count t) need (before + 1) u tail (omega by_arith) (after_clause w.unit t at k _ h)
         (names_behind w.unit t k _ names)))
 
-    -- the arms, over the value that waits; behind them the default
+    -- the arms, over the value that waits; after them the default
     does_arms : (n : Origin) (entered : Entered w n.turns) (at k need before end : ℕ) {value ty : TyView} {arms : Arms} → IsCompared relation.Equal value →
         (v : Value) (default : Meaning)
         (others : List (Part ℕ)) → ArmsAre (nums_of w) (refs_of w) n.known value arms ty → IsOf n.heap value v →

@@ -1,12 +1,12 @@
--- Instructions that stand one behind the other in the code of a unit, and constants that stand among its constants.
+-- Instructions that stand one after the other in the code of a unit, and constants that stand among its constants.
 use Rattle.std.proofs.Common.{◌≡◌, ℕ, ◌+◌, List, [], ◌∷◌, ◌++◌, length, drop, Some, refl, sym, ap, ◌∙◌, subst, arith, suc, drop-drop, append-nil}
 use Rattle.std.specs.List.{AllByRecursion}
-use Rattle.ps_base.specs.CodeUnit.{UnitView, unit, ConstantView}
-use Rattle.ps_base.specs.Instr.{spelling, spelled, width_of, IsInstr}
-use Rattle.ps_base.specs.declared.instr.Instr.{Instr}
-use Rattle.ps_base.specs.declared.code_unit.Frame.{Frame}
-use Rattle.ps_base.proofs.Spellings.{length-spelling}
-use Rattle.ps_program.specs.Node.{Node, Nodes}
+use Rattle.ps_gen.specs.ps_base.CodeUnit.{UnitView, unit, ConstantView}
+use Rattle.ps_gen.specs.ps_base.Instr.{spelling, spelled, width_of, IsInstr}
+use Rattle.ps_gen.specs.ps_base.declared.instr.Instr.{Instr}
+use Rattle.ps_gen.specs.ps_base.declared.code_unit.Frame.{Frame}
+use Rattle.ps_gen.proofs.of_ps_base.Spellings.{length-spelling}
+use Rattle.ps_gen.specs.ps_program.Node.{Node, Nodes}
 use Rattle.ps_gen.specs.Emission.{size, size_all, count, emit, emit_all}
 use Rattle.ps_gen.specs.Units.{constants, row_of}
 use Rattle.ps_gen.proofs.Widths.{widths, width_emit, width_all, count_constants}
@@ -44,7 +44,7 @@ pub named_behind : (u : UnitView) (k l : ℕ) (xs ys : List ConstantView) → k 
 named_behind u k l [] ys e h = named_at u k l ys (omega arith) h
 named_behind u k l (x ∷ xs) ys e h = named_behind u (k + 1) l xs ys (omega arith) h.1
 
--- behind a clause
+-- after a clause
 pub after_clause : (u : UnitView) (t : Node) (at k : ℕ) (ys : List Instr) → Ahead u at (emit t at k ++ ys) → Ahead u (at + size t) ys
 after_clause u t at k ys h = behind u at (at + size t) (emit t at k) ys (ap (λ n. at + n) (width_emit t at k)) h
 

@@ -1,22 +1,22 @@
 -- A clause leaves the scope that it stands in: each scope that is entered is left again, and a call comes back to its own frame.
 use Rattle.std.proofs.Common.{◌≡◌, ◌∙◌, refl, ℕ, zero, suc, ◌+◌, ℤ, pos, ◌+ℤ◌, Bool, true, false, List, [], ◌∷◌, Option, Some, None}
 use Rattle.std.specs.Prelude.{nat_eq, nat_lt, if◌then◌else◌}
-use Rattle.ps_base.specs.TyView.{TyView}
-use Rattle.ps_base.specs.TyView as types
-use Rattle.ps_base.specs.declared.line.Line.{Line}
-use Rattle.ps_program.specs.declared.place.Place.{Place}
-use Rattle.ps_program.specs.declared.place.Place.TheVariants.{Plain, Kept}
-use Rattle.ps_program.specs.Node.{Node, Nodes, none, more, Arms, no_arms, more_arms, arm, BodyNode}
-use Rattle.ps_program.specs.Node as node
-use Rattle.ps_typing.specs.Placing.{is_number}
-use Rattle.ps_meaning.specs.Operators.{Answer, Gives, Traps, is_same}
-use Rattle.ps_meaning.specs.Event.{End}
-use Rattle.ps_meaning.specs.Values.{Value, Num, Flag, Text, Nil, Pointer, Vector, Procedure, Nothing, as_written, word_of, flag_of}
-use Rattle.ps_meaning.specs.Texts.{Attempt, Yields, Fails, line_read, behind_line}
-use Rattle.ps_meaning.specs.Objects.{Heap, Object}
-use Rattle.ps_meaning.specs.Meaning.{Frame, State, Outcome, Value_is, Ends, Meaning, give, stop, after, ◌>>=◌, choose, answer, attempt, with_heap, put_heap, made, made_text, made_procedure, with_input, put_input, enter, back_in, back_to, scoped, in_scope, in_frame, emit, in_places, is_width, written, with_turns, turned, take_turn, with_local, unbuilt, get, set}
-use Rattle.ps_meaning.specs.Frames.{frame_of_call}
-use Rattle.ps_meaning.specs.Evaluation.{Context, while_turns, Counting, goes_on, in_turn, for_turns, for_loop, for_meant, is_equal, make_meant, most_calls, call_meant, read_line, at_end, lib_meant, eval, eval_all, eval_each, eval_arms, eval_labels}
+use Rattle.ps_gen.specs.ps_base.TyView.{TyView}
+use Rattle.ps_gen.specs.ps_base.TyView as types
+use Rattle.ps_gen.specs.ps_base.declared.line.Line.{Line}
+use Rattle.ps_gen.specs.ps_program.declared.place.Place.{Place}
+use Rattle.ps_gen.specs.ps_program.declared.place.Place.TheVariants.{Plain, Kept}
+use Rattle.ps_gen.specs.ps_program.Node.{Node, Nodes, none, more, Arms, no_arms, more_arms, arm, BodyNode}
+use Rattle.ps_gen.specs.ps_program.Node as node
+use Rattle.ps_typing_laws.specs.ps_typing.Placing.{is_number}
+use Rattle.ps_stepping.specs.ps_meaning.Operators.{Answer, Gives, Traps, is_same}
+use Rattle.ps_stepping.specs.ps_meaning.Event.{End}
+use Rattle.ps_stepping.specs.ps_meaning.Values.{Value, Num, Flag, Text, Nil, Pointer, Vector, Procedure, Nothing, as_written, word_of, flag_of}
+use Rattle.ps_stepping.specs.ps_meaning.Texts.{Attempt, Yields, Fails, line_read, behind_line}
+use Rattle.ps_stepping.specs.ps_meaning.Objects.{Heap, Object}
+use Rattle.ps_stepping.specs.ps_meaning.Meaning.{Frame, State, Outcome, Value_is, Ends, Meaning, give, stop, after, ◌>>=◌, choose, answer, attempt, with_heap, put_heap, made, made_text, made_procedure, with_input, put_input, enter, back_in, back_to, scoped, in_scope, in_frame, emit, in_places, is_width, written, with_turns, turned, take_turn, with_local, unbuilt, get, set}
+use Rattle.ps_stepping.specs.ps_meaning.Frames.{frame_of_call}
+use Rattle.ps_stepping.specs.ps_meaning.Evaluation.{Context, while_turns, Counting, goes_on, in_turn, for_turns, for_loop, for_meant, is_equal, make_meant, most_calls, call_meant, read_line, at_end, lib_meant, eval, eval_all, eval_each, eval_arms, eval_labels}
 
 abbrev pub IsIn : Option ℕ → Outcome → Type 0
 IsIn scope (Value_is v f s) = f.scope ≡ scope
@@ -118,7 +118,7 @@ stays_put_input : (input : List ℕ) → Stays (put_input input)
 unfolding put_input
 stays_put_input input f s = refl
 
--- behind a scope, and behind a call
+-- after a scope, and after a call
 in_back_in : (scope : Option ℕ) (o : Outcome) → IsIn scope (back_in scope o)
 unfolding back_in
 in_back_in scope (Value_is v f s) = refl

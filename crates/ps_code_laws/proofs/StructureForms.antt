@@ -1,17 +1,17 @@
 -- Instructions over structures do what is meant by the clauses that they stand for.
 use Rattle.std.proofs.Common.{◌≡◌, ℕ, ◌+◌, Bool, List, [], ◌∷◌, ◌++◌, Option, Some, sym, ap, ◌∙◌}
-use Rattle.ps_base.specs.TyView.{TyView}
-use Rattle.ps_base.specs.TyView as types
-use Rattle.ps_base.specs.CodeUnit.{text}
-use Rattle.ps_base.specs.declared.line.Line.{Line}
-use Rattle.ps_base.specs.declared.instr.Instr.TheVariants as instr
-use Rattle.text_forms.specs.declared.forms.Form.{Form}
-use Rattle.text_forms.specs.Forms.{forms_of, form_in}
-use Rattle.ps_meaning.specs.Values.{Value, Num, Flag, number_of, word_of}
-use Rattle.ps_meaning.specs.Objects.{is_class, field_of, with_field}
-use Rattle.ps_meaning.specs.Meaning.{give, with_heap, put_heap}
-use Rattle.ps_meaning.specs.Evaluation.{kept_as, field_meant, set_field_meant}
-use Rattle.ps_emitter.specs.Choices as choice
+use Rattle.ps_gen.specs.ps_base.TyView.{TyView}
+use Rattle.ps_gen.specs.ps_base.TyView as types
+use Rattle.ps_gen.specs.ps_base.CodeUnit.{text}
+use Rattle.ps_gen.specs.ps_base.declared.line.Line.{Line}
+use Rattle.ps_gen.specs.ps_base.declared.instr.Instr.TheVariants as instr
+use Rattle.ps_stepping.specs.text_forms.declared.forms.Form.{Form}
+use Rattle.ps_stepping.specs.text_forms.Forms.{forms_of, form_in}
+use Rattle.ps_stepping.specs.ps_meaning.Values.{Value, Num, Flag, number_of, word_of}
+use Rattle.ps_stepping.specs.ps_meaning.Objects.{is_class, field_of, with_field}
+use Rattle.ps_stepping.specs.ps_meaning.Meaning.{give, with_heap, put_heap}
+use Rattle.ps_stepping.specs.ps_meaning.Evaluation.{kept_as, field_meant, set_field_meant}
+use Rattle.ps_gen.specs.ps_emitter.Choices as choice
 use Rattle.ps_stepping.specs.Config.{constants_in, constant_at}
 use Rattle.ps_stepping.specs.Machine.{Step, push_num}
 use Rattle.ps_stepping.specs.Objects.{when_number, when_reference}

@@ -1,13 +1,13 @@
 -- Instructions over texts do what is meant by the clauses that they stand for.
 use Rattle.std.proofs.Common.{ℕ, ◌+◌, pos, [], ◌∷◌, length}
 use Rattle.std.specs.Fmt.{signed_decimal}
-use Rattle.ps_base.specs.TyView as types
-use Rattle.ps_base.specs.declared.line.Line.{Line}
-use Rattle.ps_base.specs.declared.instr.Instr.TheVariants as instr
-use Rattle.ps_meaning.specs.Values.{Value, Num, Text, word_of, bytes_of}
-use Rattle.ps_meaning.specs.Texts.{join_of, part_of}
-use Rattle.ps_meaning.specs.Meaning.{give, made_text}
-use Rattle.ps_meaning.specs.Evaluation.{join_meant, part_meant}
+use Rattle.ps_gen.specs.ps_base.TyView as types
+use Rattle.ps_gen.specs.ps_base.declared.line.Line.{Line}
+use Rattle.ps_gen.specs.ps_base.declared.instr.Instr.TheVariants as instr
+use Rattle.ps_stepping.specs.ps_meaning.Values.{Value, Num, Text, word_of, bytes_of}
+use Rattle.ps_stepping.specs.ps_meaning.Texts.{join_of, part_of}
+use Rattle.ps_stepping.specs.ps_meaning.Meaning.{give, made_text}
+use Rattle.ps_stepping.specs.ps_meaning.Evaluation.{join_meant, part_meant}
 use Rattle.ps_soundness.specs.Shapes.{IsOf}
 use Rattle.ps_code_laws.specs.Compiled.{compiled}
 use Rattle.ps_code_laws.proofs.Doing.{Origin, Way, Does, does_meant, push_goes}

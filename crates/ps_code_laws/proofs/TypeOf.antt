@@ -1,8 +1,8 @@
 -- The type that the generator takes for what a clause gives is the clause's.
 use Rattle.std.proofs.Common.{◌≡◌, ℕ, refl, ap, ◌∙◌}
-use Rattle.ps_base.specs.TyView.{TyView}
-use Rattle.ps_program.specs.Node.{Node, Nodes}
-use Rattle.ps_emitter.specs.Giving.{result_of, type_of, type_of_last}
+use Rattle.ps_gen.specs.ps_base.TyView.{TyView}
+use Rattle.ps_gen.specs.ps_program.Node.{Node, Nodes}
+use Rattle.ps_gen.specs.ps_emitter.Giving.{result_of, type_of, type_of_last}
 use Rattle.ps_soundness.proofs.Combining.{Standing}
 use Rattle.ps_code_laws.proofs.Clauses.{Clause, Items}
 use Rattle.ps_code_laws.proofs.Clauses as clause

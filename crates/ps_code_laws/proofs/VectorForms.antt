@@ -1,20 +1,20 @@
 -- Instructions over vectors do what is meant by the clauses that they stand for.
 use Rattle.std.proofs.Common.{◌≡◌, ℕ, ◌+◌, ℤ, Bool, true, false, List, [], ◌∷◌, ◌++◌, Option, Some, refl, sym, ap, ◌∙◌}
-use Rattle.ps_base.specs.TyView.{TyView}
-use Rattle.ps_base.specs.TyView as types
-use Rattle.ps_base.specs.CodeUnit.{text}
-use Rattle.ps_base.specs.declared.line.Line.{Line}
-use Rattle.ps_base.specs.declared.instr.Instr.TheVariants as instr
+use Rattle.ps_gen.specs.ps_base.TyView.{TyView}
+use Rattle.ps_gen.specs.ps_base.TyView as types
+use Rattle.ps_gen.specs.ps_base.CodeUnit.{text}
+use Rattle.ps_gen.specs.ps_base.declared.line.Line.{Line}
+use Rattle.ps_gen.specs.ps_base.declared.instr.Instr.TheVariants as instr
 use Rattle.ps_type_text.specs.Texts.{type_text}
-use Rattle.text_forms.specs.declared.forms.Form.{Form}
-use Rattle.text_forms.specs.Forms.{element_of}
-use Rattle.text_forms.proofs.ClassForms.{element-told}
-use Rattle.ps_meaning.specs.Values.{Value, Num, Vector, word_of}
-use Rattle.ps_meaning.specs.Objects.{Heap, filled_vector, vector_in, type_in, with_element, low_of, high_of}
-use Rattle.ps_meaning.specs.Objects.{element_of as element_at}
-use Rattle.ps_meaning.specs.Meaning.{give, with_heap, put_heap, made}
-use Rattle.ps_meaning.specs.Evaluation.{kept_as, fill_meant, element_meant, set_element_meant, bound_meant}
-use Rattle.ps_emitter.specs.Choices as choice
+use Rattle.ps_stepping.specs.text_forms.declared.forms.Form.{Form}
+use Rattle.ps_stepping.specs.text_forms.Forms.{element_of}
+use Rattle.ps_stepping.proofs.of_text_forms.ClassForms.{element-told}
+use Rattle.ps_stepping.specs.ps_meaning.Values.{Value, Num, Vector, word_of}
+use Rattle.ps_stepping.specs.ps_meaning.Objects.{Heap, filled_vector, vector_in, type_in, with_element, low_of, high_of}
+use Rattle.ps_stepping.specs.ps_meaning.Objects.{element_of as element_at}
+use Rattle.ps_stepping.specs.ps_meaning.Meaning.{give, with_heap, put_heap, made}
+use Rattle.ps_stepping.specs.ps_meaning.Evaluation.{kept_as, fill_meant, element_meant, set_element_meant, bound_meant}
+use Rattle.ps_gen.specs.ps_emitter.Choices as choice
 use Rattle.ps_stepping.specs.Config.{constants_in, constant_at}
 use Rattle.ps_stepping.specs.Machine.{Step, push_num}
 use Rattle.ps_stepping.specs.Objects.{when_number, when_reference, type_of_object, type_of, of_type}

@@ -1,9 +1,9 @@
 -- What the machine holds for what the meaning holds: each procedure is the unit of its body, and all else stays.
 use Rattle.std.specs.Prelude.{List, map}
 use Rattle.ps_gen.specs.Units.{unit_of}
-use Rattle.ps_meaning.specs.Values.{Value, Procedure, Routine, as_written, as_compiled, word_of}
-use Rattle.ps_meaning.specs.Objects.{Heap, Object, Structure, Elements, Scope}
-use Rattle.ps_meaning.specs.Meaning.{Frame, Store}
+use Rattle.ps_stepping.specs.ps_meaning.Values.{Value, Procedure, Routine, as_written, as_compiled, word_of}
+use Rattle.ps_stepping.specs.ps_meaning.Objects.{Heap, Object, Structure, Elements, Scope}
+use Rattle.ps_stepping.specs.ps_meaning.Meaning.{Frame, Store}
 use Rattle.ps_stepping.specs.Config.{Locals}
 
 unfoldable pub compiled_routine : Routine → Routine

@@ -1,14 +1,14 @@
 -- The bodies of a program: those of its procedure literals, and of the literals inside them. What a run of it holds has no other procedures.
 use Rattle.std.specs.Prelude.{ℕ, ◌≤◌, List}
 use Rattle.std.specs.List.{AllByRecursion}
-use Rattle.ps_base.specs.TyView.{TyView}
-use Rattle.ps_program.specs.Node.{Node, Nodes, none, more, Arms, no_arms, more_arms, arm, BodyNode, body}
-use Rattle.ps_program.specs.Node as node
-use Rattle.ps_program.specs.Slots.{slot_count}
+use Rattle.ps_gen.specs.ps_base.TyView.{TyView}
+use Rattle.ps_gen.specs.ps_program.Node.{Node, Nodes, none, more, Arms, no_arms, more_arms, arm, BodyNode, body}
+use Rattle.ps_gen.specs.ps_program.Node as node
+use Rattle.ps_gen.specs.ps_program.Slots.{slot_count}
 use Rattle.ps_type_text.specs.Texts.{Field}
-use Rattle.ps_meaning.specs.Values.{Value, Procedure, as_written}
-use Rattle.ps_meaning.specs.Objects.{Heap, Object, Structure, Elements, Scope}
-use Rattle.ps_meaning.specs.Meaning.{Frame}
+use Rattle.ps_stepping.specs.ps_meaning.Values.{Value, Procedure, as_written}
+use Rattle.ps_stepping.specs.ps_meaning.Objects.{Heap, Object, Structure, Elements, Scope}
+use Rattle.ps_stepping.specs.ps_meaning.Meaning.{Frame}
 use Rattle.ps_soundness.specs.Valued.{IsValued}
 use Rattle.ps_soundness.specs.Shapes.{type_of_body}
 use Rattle.ps_gen.specs.Units.{HasUnit}

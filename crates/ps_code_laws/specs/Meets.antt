@@ -1,16 +1,16 @@
 -- What the machine is to do with a body that is called, inside any bodies that wait: what the body means.
 use Rattle.std.specs.Prelude.{◌≡◌, ℕ, ◌+◌, ◌<◌, ◌≤◌, ℤ, List, [], ◌∷◌, ◌++◌, length, Option}
-use Rattle.ps_base.specs.TyView.{TyView}
-use Rattle.ps_base.specs.TyView as types
-use Rattle.ps_base.specs.CodeUnit.{UnitView}
-use Rattle.ps_program.specs.Node.{Param, BodyNode, body}
+use Rattle.ps_gen.specs.ps_base.TyView.{TyView}
+use Rattle.ps_gen.specs.ps_base.TyView as types
+use Rattle.ps_gen.specs.ps_base.CodeUnit.{UnitView}
+use Rattle.ps_gen.specs.ps_program.Node.{Param, BodyNode, body}
 use Rattle.ps_type_text.specs.Texts.{Field}
-use Rattle.ps_meaning.specs.Values.{Value, word_of}
-use Rattle.ps_meaning.specs.Event.{Event, Finish, Done}
-use Rattle.ps_meaning.specs.Meaning.{Frame, Store, State, Outcome, Value_is, Ends}
-use Rattle.ps_meaning.specs.Frames.{frame_of_call}
-use Rattle.ps_meaning.specs.Calls.{body_meant, context}
-use Rattle.ps_meaning.specs.Objects.{Heap}
+use Rattle.ps_stepping.specs.ps_meaning.Values.{Value, word_of}
+use Rattle.ps_stepping.specs.ps_meaning.Event.{Event, Finish, Done}
+use Rattle.ps_stepping.specs.ps_meaning.Meaning.{Frame, Store, State, Outcome, Value_is, Ends}
+use Rattle.ps_stepping.specs.ps_meaning.Frames.{frame_of_call}
+use Rattle.ps_stepping.specs.ps_meaning.Calls.{body_meant, context}
+use Rattle.ps_stepping.specs.ps_meaning.Objects.{Heap}
 use Rattle.ps_soundness.specs.Shapes.{IsOf, AreScopes, IsTypedHeap}
 use Rattle.ps_gen.specs.Units.{unit_of}
 use Rattle.ps_stepping.specs.Config.{frame_words, Caller, Config, frame_in}
@@ -51,7 +51,7 @@ ComesBack c events [] gives v store = Finishes c (events ++ Finish Done store.co
 ComesBack c events (caller ∷ callers) gives v store =
     Reaches c events (resumed caller (nums_left gives v ++ caller.nums) (refs_left gives v ++ caller.refs) callers (compiled_store store))
 
--- The machine goes on from here, where these events have been, with those that are told behind them: back with the value, or to
+-- The machine goes on from here, where these events have been, with those that are output after them: back with the value, or to
 -- the end.
 abbrev pub Follows : Config → List Event → List Caller → TyView → Outcome → Type 0
 Follows c so_far callers gives (Value_is v frame state) =

@@ -2,12 +2,12 @@
 
 ghost use Rattle.std.specs.Prelude.{◌≡◌, ℕ, List, [], None};
 ghost use Rattle.std.specs.List.{AllByRecursion};
-ghost use Rattle.ps_program.specs.Node.{BodyNode};
+ghost use Rattle.ps_gen.specs.ps_program.Node.{BodyNode};
 ghost use Rattle.ps_type_text.specs.Texts.{Field};
-ghost use Rattle.ps_typing.specs.Program.{bodies, first_complex};
-ghost use Rattle.ps_typing.specs.WellTyped.{IsBody, IsWellTyped};
-ghost use Rattle.ps_meaning.specs.Runs.{fresh_store, run_events};
-ghost use Rattle.ps_meaning.specs.Weights.{code_weight};
+ghost use Rattle.ps_typing_laws.specs.ps_typing.Program.{bodies, first_complex};
+ghost use Rattle.ps_typing_laws.specs.ps_typing.WellTyped.{IsBody, IsWellTyped};
+ghost use Rattle.ps_stepping.specs.ps_meaning.Runs.{fresh_store, run_events};
+ghost use Rattle.ps_stepping.specs.ps_meaning.Weights.{code_weight};
 ghost use Rattle.ps_soundness.specs.Running.{BodyRuns};
 ghost use Rattle.ps_soundness.specs.Shapes.{type_of_body};
 ghost use Rattle.ps_soundness.specs.Valued.{IsValued};

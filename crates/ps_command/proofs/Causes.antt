@@ -1,29 +1,28 @@
 -- Why each answer of a command comes.
 use Rattle.std.proofs.Common.{◌≡◌, ℕ, ◌≤◌, ◌↔◌, inl, inr, List, [], Option, Some, None, refl, sym, ap, ◌∙◌, subst, arith}
 use Rattle.std.specs.Prelude.{Result, Ok, Err, IsErrOf, codes}
-use Rattle.ps_base.specs.declared.TheConstants.{LONGEST_TEXT}
+use Rattle.ps_base.specs.Limits.{most_text_bytes as LONGEST_TEXT}
 use Rattle.ps_program.specs.Node.{BodyNode}
 use Rattle.ps_base.specs.declared.line.Line.{Line}
-use Rattle.ps_outside.specs.Outside.{Rose, Outside}
+use Rattle.ps_port.specs.ps_outside.Outside.{Rose, Outside}
 use Rattle.ps_port.specs.Texts.{TooLongFor}
 use Rattle.ps_port.specs.declared.shelf.ShelfFault.{ShelfFault}
 use Rattle.ps_port.specs.declared.shelf.ShelfFault.TheVariants.{Failed, TooLong, Memory}
-use Rattle.ps_scan.specs.Fault as scanning
+use Rattle.ps_causes.specs.ps_scan.Fault as scanning
 use Rattle.ps_tree.specs.Fault as parsing
-use Rattle.ps_typing.specs.Fault.{Fault}
-use Rattle.ps_typing.specs.Fault as fault
-use Rattle.ps_declared.specs.declared.fault.CheckFault.{CheckFault}
-use Rattle.ps_declared.specs.declared.fault.CheckFault.TheVariants.{Unknown, Twice, Mismatch, NotAssignable, NotApplicable, Limit, TooComplex, Memory as NoMemory}
-use Rattle.ps_declared.specs.Faults as checking
+use Rattle.ps_causes.specs.ps_typing.Fault.{Fault}
+use Rattle.ps_causes.specs.ps_typing.Fault as fault
+use Rattle.ps_check.specs.ps_declared.declared.fault.CheckFault.{CheckFault}
+use Rattle.ps_check.specs.ps_declared.declared.fault.CheckFault.TheVariants.{Unknown, Twice, Mismatch, NotAssignable, NotApplicable, Limit, TooComplex, Memory as NoMemory}
+use Rattle.ps_check.specs.ps_declared.Faults as checking
 use Rattle.ps_command.specs.declared.source_fault.SourceFault.{SourceFault}
 use Rattle.ps_command.specs.declared.source_fault.SourceFault.TheVariants as source
 use Rattle.ps_port.specs.Telling.{LeavesDevice}
-use Rattle.ps_words.specs.Words.{RunOf, CommandOf, a_run, a_volume}
-use Rattle.ps_reports.specs.Reports.{usage_line, memory_line, fault_line}
-use Rattle.ps_reports.specs.Answering.{Answers}
-use Rattle.ps_volumes.specs.Attaching.{Keeps}
-use Rattle.ps_volumes.specs.Making.{Makes}
-use Rattle.ps_volumes.proofs.Settled.{device_kept}
+use Rattle.ps_causes.specs.ps_words.Words.{RunOf, CommandOf, a_run, a_volume}
+use Rattle.ps_causes.specs.ps_reports.Reports.{usage_line, memory_line, fault_line}
+use Rattle.ps_causes.specs.ps_reports.Answering.{Answers}
+use Rattle.ps_causes.specs.ps_volumes.Making.{Makes}
+use Rattle.ps_causes.proofs.of_ps_volumes.Settled.{device_kept}
 use Rattle.ps_causes.specs.Source.{IsProgram, IsSourceFault, in_scan, in_parse, in_check}
 use Rattle.ps_causes.specs.Source as told
 use Rattle.ps_causes.specs.Command.{Gives, GivesTooLong, GivesInput, GivesProgram, Due, Why, LeavesAsAsked}
@@ -90,27 +89,28 @@ module _ (old new : Outside (List ℕ)) where
   left_none : (asked : Option CommandOf) → asked ≡ None → LeavesDevice old new → LeavesAsAsked asked old new
   left_none asked none left = subst (λ (a : Option CommandOf). LeavesAsAsked a old new) (sym none) (device_kept old new left)
 
-  module _ (holds : List ℕ → List ℕ → Type 0) (lacks : List ℕ → Type 0) (failed : Type 0) where
-    pub why_usage : (asked : Option CommandOf) (answered : ℕ) → asked ≡ None → Whole usage_line 1 answered → LeavesDevice old new → Why old new asked holds lacks failed answered
+  module _ (holds : List ℕ → List ℕ → Type 0) (lacks may_fail : List ℕ → Type 0) (failed : Type 0) where
+    pub why_usage : (asked : Option CommandOf) (answered : ℕ) → asked ≡ None → Whole usage_line 1 answered → LeavesDevice old new → Why old new asked holds lacks may_fail failed answered
     why_usage asked answered none a left = record { bytes = _; status = 1; due = Due.no_command none left; answers = a; device = left_none asked none left }
 
     -- a volume was to be made
-    pub why_making : (asked : Option CommandOf) (pages answered : ℕ) → asked ≡ Some (a_volume pages) → Makes pages old new answered → Why old new asked holds lacks failed answered
+    pub why_making : (asked : Option CommandOf) (pages answered : ℕ) → asked ≡ Some (a_volume pages) → Makes pages old new answered → Why old new asked holds lacks may_fail failed answered
     why_making asked pages answered is makes = record {
       bytes = makes.bytes;
       status = makes.status;
       due = Due.making is makes.due;
       answers = makes.answers;
-      device = subst (λ (a : Option CommandOf). LeavesAsAsked a old new) (sym is) makes.any_moment;
+      device = subst (λ (a : Option CommandOf). LeavesAsAsked a old new) (sym is) (makes.any_moment, makes.gate);
     }
 
     -- a run was read in other words
-    pub why_of_run : (asked : Option CommandOf) (run : RunOf) (answered : ℕ) → asked ≡ Some (a_run run) → Why old new (Some (a_run run)) holds lacks failed answered →
-        Why old new asked holds lacks failed answered
-    why_of_run asked run answered is why = subst (λ (a : Option CommandOf). Why old new a holds lacks failed answered) (sym is) why
+    pub why_of_run : (asked : Option CommandOf) (run : RunOf) (answered : ℕ) → asked ≡ Some (a_run run) → Why old new (Some (a_run run)) holds lacks may_fail failed answered →
+        Why old new asked holds lacks may_fail failed answered
+    why_of_run asked run answered is why = subst (λ (a : Option CommandOf). Why old new a holds lacks may_fail failed answered) (sym is) why
 
-    pub why_no_memory : (run : RunOf) (answered : ℕ) → Whole memory_line 5 answered → Keeps old new → Why old new (Some (a_run run)) holds lacks failed answered
-    why_no_memory run answered a keeps = record { bytes = _; status = 5; due = Due.no_memory refl keeps; answers = a; device = keeps }
+    pub why_no_memory : (run : RunOf) (answered : ℕ) → Whole memory_line 5 answered → LeavesDevice old new → Why old new (Some (a_run run)) holds lacks may_fail failed answered
+    why_no_memory run answered a left =
+        record { bytes = _; status = 5; due = Due.no_memory refl left; answers = a; device = device_kept old new left }
 
     too_long_is_other : (size : ℕ) → TooLong size ≡ Failed → ⊥
     too_long_is_other size e = cc
@@ -121,32 +121,32 @@ module _ (old new : Outside (List ℕ)) where
     gives_too_long name size lacking long = record { there = λ l. too_long_is_other size (lacking l); given = long.1; long = long.0 }
 
     -- the text wasn't given
-    pub why_unread : (run : RunOf) (fault : ShelfFault) (answered : ℕ) → (fault ≡ Failed → failed) → (lacks run.file → fault ≡ Failed) → TooLongFor LONGEST_TEXT (holds run.file) fault → UnreadWhy old new run.file fault answered → LeavesDevice old new → Why old new (Some (a_run run)) holds lacks failed answered
-    why_unread run Failed answered rose lacking long a left =
-        record { bytes = _; status = 7; due = Due.unreadable refl (rose refl) left; answers = a; device = device_kept old new left }
-    why_unread run (TooLong size) answered rose lacking long a left =
+    pub why_unread : (run : RunOf) (fault : ShelfFault) (answered : ℕ) → (fault ≡ Failed → may_fail run.file) → (fault ≡ Failed → failed) → (lacks run.file → fault ≡ Failed) → TooLongFor LONGEST_TEXT (holds run.file) fault → UnreadWhy old new run.file fault answered → LeavesDevice old new → Why old new (Some (a_run run)) holds lacks may_fail failed answered
+    why_unread run Failed answered may rose lacking long a left =
+        record { bytes = _; status = 7; due = Due.unreadable refl (may refl) (rose refl) left; answers = a; device = device_kept old new left }
+    why_unread run (TooLong size) answered may rose lacking long a left =
         record { bytes = _; status = 13; due = Due.too_long refl (gives_too_long run.file size lacking long) left; answers = a; device = device_kept old new left }
-    why_unread run Memory answered rose lacking long a left = why_no_memory run answered a (device_kept old new left)
+    why_unread run Memory answered may rose lacking long a left = why_no_memory run answered a left
 
     -- the text is refused
-    pub why_refused : (run : RunOf) (text : List ℕ) (answered : ℕ) → Gives (holds run.file) (lacks run.file) text → RefusalWhy old new run.file text answered → LeavesDevice old new → Why old new (Some (a_run run)) holds lacks failed answered
+    pub why_refused : (run : RunOf) (text : List ℕ) (answered : ℕ) → Gives (holds run.file) (lacks run.file) text → RefusalWhy old new run.file text answered → LeavesDevice old new → Why old new (Some (a_run run)) holds lacks may_fail failed answered
     why_refused run text answered gives (inl a) left =
         record { bytes = _; status = 2; due = Due.refused refl gives a.fault left; answers = a.answers; device = device_kept old new left }
-    why_refused run text answered gives (inr a) left = why_no_memory run answered a (device_kept old new left)
+    why_refused run text answered gives (inr a) left = why_no_memory run answered a left
 
     -- the input wasn't given
-    pub why_no_input : (run : RunOf) (program : BodyNode) (name : List ℕ) (fault : ShelfFault) (answered : ℕ) → GivesProgram holds lacks run program → run.input ≡ Some name → (fault ≡ Failed → failed) → (lacks name → fault ≡ Failed) → TooLongFor LONGEST_TEXT (holds name) fault → UnreadWhy old new name fault answered → LeavesDevice old new → Why old new (Some (a_run run)) holds lacks failed answered
-    why_no_input run program name Failed answered gives is rose lacking long a left =
-        record { bytes = _; status = 7; due = Due.no_input refl gives is (rose refl) left; answers = a; device = device_kept old new left }
-    why_no_input run program name (TooLong size) answered gives is rose lacking long a left =
+    pub why_no_input : (run : RunOf) (program : BodyNode) (name : List ℕ) (fault : ShelfFault) (answered : ℕ) → GivesProgram holds lacks run program → run.input ≡ Some name → (fault ≡ Failed → may_fail name) → (fault ≡ Failed → failed) → (lacks name → fault ≡ Failed) → TooLongFor LONGEST_TEXT (holds name) fault → UnreadWhy old new name fault answered → LeavesDevice old new → Why old new (Some (a_run run)) holds lacks may_fail failed answered
+    why_no_input run program name Failed answered gives is may rose lacking long a left =
+        record { bytes = _; status = 7; due = Due.no_input refl gives is (may refl) (rose refl) left; answers = a; device = device_kept old new left }
+    why_no_input run program name (TooLong size) answered gives is may rose lacking long a left =
         record { bytes = _; status = 13; due = Due.long_input refl gives is (gives_too_long name size lacking long) left; answers = a; device = device_kept old new left }
-    why_no_input run program name Memory answered gives is rose lacking long a left = why_no_memory run answered a (device_kept old new left)
+    why_no_input run program name Memory answered gives is may rose lacking long a left = why_no_memory run answered a left
 
     -- the program was run, or there was no volume
-    pub why_ran : (run : RunOf) (input : List ℕ) (program : BodyNode) (answered : ℕ) → GivesProgram holds lacks run program → GivesInput holds lacks run.input input → ProgramWhy old new run input program answered → Why old new (Some (a_run run)) holds lacks failed answered
+    pub why_ran : (run : RunOf) (input : List ℕ) (program : BodyNode) (answered : ℕ) → GivesProgram holds lacks run program → GivesInput holds lacks run.input input → ProgramWhy old new run input program answered → Why old new (Some (a_run run)) holds lacks may_fail failed answered
     why_ran run input program answered gives given (steps.ran a kept) =
         record { bytes = a.bytes; status = a.status; due = Due.ran refl gives given a.comes kept; answers = a.answers; device = kept.keeps }
-    why_ran run input program answered gives given (steps.no_memory a keeps) = why_no_memory run answered a keeps
+    why_ran run input program answered gives given (steps.no_memory a left) = why_no_memory run answered a left
     why_ran run input program answered gives given (steps.no_volume none) = record {
       bytes = _;
       status = _;
@@ -178,13 +178,16 @@ module _ (holds holds' : List ℕ → List ℕ → Type 0) (lacks lacks' : List 
   input_on None bytes g = g
   input_on (Some name) bytes g = gives_on name bytes g
 
-  module _ (old new : Outside (List ℕ)) (asked : Option CommandOf) (failed failed' : Type 0) (so : failed → failed') where
-    due_on : (bytes : List ℕ) (status : ℕ) → Due asked holds lacks failed old new bytes status → Due asked holds' lacks' failed' old new bytes status
+  -- and each name that may fail on one may fail on the other
+  module _ (may_fail may_fail' : List ℕ → Type 0) (may_too : (q : List ℕ) → may_fail q → may_fail' q) (old new : Outside (List ℕ)) (asked : Option CommandOf)
+      (failed failed' : Type 0) (so : failed → failed') where
+    due_on : (bytes : List ℕ) (status : ℕ) → Due asked holds lacks may_fail failed old new bytes status → Due asked holds' lacks' may_fail' failed' old new bytes status
     due_on bytes status (Due.no_command is left) = Due.no_command is left
-    due_on bytes status (Due.unreadable is rose left) = Due.unreadable is (so rose) left
+    due_on bytes status (Due.unreadable {run = run} is may rose left) = Due.unreadable is (may_too run.file may) (so rose) left
     due_on bytes status (Due.too_long {run = run} {size = size} is g left) = Due.too_long is (too_long_on run.file size g) left
     due_on bytes status (Due.refused {run = run} {text = text} is g fault left) = Due.refused is (gives_on run.file text g) fault left
-    due_on bytes status (Due.no_input {run = run} {program = program} is g named rose left) = Due.no_input is (program_on run program g) named (so rose) left
+    due_on bytes status (Due.no_input {run = run} {program = program} {name = name} is g named may rose left) =
+        Due.no_input is (program_on run program g) named (may_too name may) (so rose) left
     due_on bytes status (Due.long_input {run = run} {program = program} {name = name} {size = size} is g named long left) =
         Due.long_input is (program_on run program g) named (too_long_on name size long) left
     due_on bytes status (Due.no_memory is left) = Due.no_memory is left
@@ -195,7 +198,7 @@ module _ (holds holds' : List ℕ → List ℕ → Type 0) (lacks lacks' : List 
     due_on bytes status (Due.making is due) = Due.making is due
 
     -- so an answer over the second shelf is one over the first
-    pub why_on : (answered : ℕ) → Why old new asked holds lacks failed answered → Why old new asked holds' lacks' failed' answered
+    pub why_on : (answered : ℕ) → Why old new asked holds lacks may_fail failed answered → Why old new asked holds' lacks' may_fail' failed' answered
     why_on answered why = record {
       bytes = why.bytes;
       status = why.status;
@@ -204,7 +207,7 @@ module _ (holds holds' : List ℕ → List ℕ → Type 0) (lacks lacks' : List 
       device = why.device;
     }
 
--- what rose behind a call that counted rose from its beginning
+-- what rose after a call that counted rose from its beginning
 pub rose_from : (before middle after : ℕ) → before ≤ middle → Rose middle after → Rose before after
 rose_from before middle after counted (inl less) = inl (omega (arith, less, counted))
 rose_from before middle after counted (inr last) = inr last

@@ -5,46 +5,49 @@ use Rattle.std.specs.List.{AllByRecursion}
 use Rattle.std.proofs.lemmas.List.{reverse-append, append-nil}
 use Rattle.ps_base.specs.CodeUnit.{UnitView, unit_view}
 use Rattle.ps_base.specs.declared.code_unit.CodeUnit.{CodeUnit}
-use Rattle.ps_port.specs.Telling.{TellsAll, FailsBehind}
+use Rattle.ps_port.specs.Telling.{TellsAll, FailsAfter}
 use Rattle.ps_port.proofs.Telling.{all_then, fails_then, fails_more}
-use Rattle.ps_outside.specs.Outside.{Outside, LeavesSame, TellsNothing}
-use Rattle.obj_store.specs.Store.{Store, outside_of}
-use Rattle.obj_store.proofs.LeftLaws.{device_left}
-use Rattle.proc_values.specs.Units.{unit_words}
+use Rattle.ps_port.specs.ps_outside.Outside.{Outside, LeavesSame, TellsNothing}
+use Rattle.ps_causes.specs.obj_store.Store.{Store, outside_of}
+use Rattle.ps_causes.proofs.of_obj_store.LeftLaws.{device_left}
+use Rattle.ps_unit_weights.specs.proc_values.Units.{unit_words}
 use Rattle.ps_program.specs.Node.{BodyNode, body}
 use Rattle.ps_program.specs.Slots.{slot_count}
-use Rattle.ps_typing.specs.WellTyped.{IsWellTyped}
-use Rattle.ps_typing_laws.specs.Counted.{IsCounted}
-use Rattle.ps_typing_laws.proofs.Tracked.{program_counted}
-use Rattle.ps_meaning.specs.Event.{End, Done, Event, Finish, outputs, output_of, report_of, status_of}
-use Rattle.ps_meaning.specs.Meaning.{Outcome, Value_is, Ends}
-use Rattle.ps_meaning.specs.Runs.{run_events, run_end, outcome_of, all_events, end_reached, fresh_store}
-use Rattle.ps_meaning.specs.Weights.{code_weight}
-use Rattle.ps_typing.specs.Program.{bodies, first_complex}
-use Rattle.ps_soundness.specs.Running.{BodyRuns}
-use Rattle.ps_soundness.specs.Shapes.{type_of_body}
-use Rattle.ps_soundness.specs.Valued.{IsValued}
-use Rattle.ps_gen.specs.Units.{unit_of, frame_of, HasUnit}
-use Rattle.ps_stepping.specs.Config.{Config, start, frame_in}
-use Rattle.ps_stepping.specs.Machine.{Stops, Steps, Runs}
-use Rattle.ps_stepping.specs.Path.{Reaches}
-use Rattle.ps_stepping.proofs.Paths.{on_the_way, stops_at_the_end, is_never_stuck, front_on_the_way}
-use Rattle.ps_stepping.proofs.Following.{follow}
-use Rattle.machine_state.specs.declared.machine.Machine.{Machine}
-use Rattle.machine_state.specs.declared.run_end.RunEnd.{RunEnd}
-use Rattle.machine_state.specs.Holding.{Holds}
-use Rattle.machine_state.specs.Stepped.{end_of}
+use Rattle.ps_causes.specs.ps_typing.WellTyped.{IsWellTyped}
+use Rattle.ps_code_laws.specs.ps_typing_laws.Counted.{IsCounted}
+use Rattle.ps_code_laws.proofs.of_ps_typing_laws.Tracked.{program_counted}
+use Rattle.ps_causes.specs.ps_meaning.Event.{End, Done, Event, Finish, outputs, output_of, report_of, status_of}
+use Rattle.ps_causes.specs.ps_meaning.Meaning.{Outcome, Value_is, Ends}
+use Rattle.ps_causes.specs.ps_meaning.Runs.{run_events, run_end, outcome_of, all_events, end_reached, fresh_store}
+use Rattle.ps_causes.specs.ps_meaning.Weights.{code_weight}
+use Rattle.ps_causes.specs.ps_typing.Program.{bodies, first_complex}
+use Rattle.ps_code_laws.specs.ps_soundness.Running.{BodyRuns}
+use Rattle.ps_code_laws.specs.ps_soundness.Shapes.{type_of_body}
+use Rattle.ps_code_laws.specs.ps_soundness.Valued.{IsValued}
+use Rattle.ps_unit_weights.specs.ps_gen.Units.{unit_of, frame_of, HasUnit}
+use Rattle.ps_code_laws.specs.ps_stepping.Config.{Config, start, frame_in}
+use Rattle.ps_code_laws.specs.ps_stepping.Machine.{Stops, Steps, Runs}
+use Rattle.ps_code_laws.specs.ps_stepping.Path.{Reaches}
+use Rattle.ps_code_laws.proofs.of_ps_stepping.Paths.{on_the_way, stops_at_the_end, is_never_stuck, front_on_the_way}
+use Rattle.ps_code_laws.proofs.of_ps_stepping.Following.{follow}
+use Rattle.stack_machine.specs.machine_state.declared.machine.Machine.{Machine}
+use Rattle.stack_machine.specs.machine_state.declared.run_end.RunEnd.{RunEnd}
+use Rattle.stack_machine.specs.machine_state.Holding.{Holds}
+use Rattle.stack_machine.specs.machine_state.Stepped.{end_of}
+use Rattle.stack_machine.proofs.of_machine_state.Carrying.{no-room-counted}
 use Rattle.stack_machine.specs.declared.run.RunFault.{RunFault}
 use Rattle.stack_machine.specs.declared.run.RunFault.TheVariants.{Damaged, Full, Output}
-use Rattle.stack_machine.specs.Loaded.{IsFrame, IsLoaded, HasNoRoom}
+use Rattle.stack_machine.specs.declared.load.NoRoom.{NoRoom}
+use Rattle.stack_machine.specs.Loaded.{IsFrame, IsLoaded, HasNoRoom, RunsAs, itself, LoadsUnit, Loads}
+use Rattle.stack_machine.specs.Loaded as load
 use Rattle.stack_machine.specs.Ran as vault
 use Rattle.stack_machine.specs.Ran.{Ran, ended, damaged, full, cut, report_cut}
 use Rattle.stack_machine.proofs.Counting.{next_counted}
-use Rattle.ps_words.specs.Words.{RunOf}
-use Rattle.ps_reports.specs.Answering.{Answers, whole}
-use Rattle.ps_reports.specs.Answering as answers
-use Rattle.ps_reports.specs.Reports.{area_full_line}
-use Rattle.ps_reports.proofs.Behind.{behind_nothing}
+use Rattle.ps_causes.specs.ps_words.Words.{RunOf}
+use Rattle.ps_causes.specs.ps_reports.Answering.{Answers, whole}
+use Rattle.ps_causes.specs.ps_reports.Answering as answers
+use Rattle.ps_causes.specs.ps_reports.Reports.{area_full_line}
+use Rattle.ps_causes.proofs.of_ps_reports.Behind.{behind_nothing}
 use Rattle.ps_causes.specs.Command.{area_size, FillsArea, its_end, area_full}
 use Rattle.ps_causes.specs.Steps.{AnswersRun}
 use Rattle.ps_command.specs.inside.Steps.{IsRunnable, IsReady, begin}
@@ -54,7 +57,7 @@ outputs-append : (xs ys : List Event) → outputs (xs ++ ys) ≡ outputs xs ++ o
 outputs-append [] ys = refl
 outputs-append (x ∷ xs) ys = ap (λ (bs : List ℕ). output_of x ++ bs) (outputs-append xs ys) ∙ sym (append_assoc (output_of x) (outputs xs) (outputs ys))
 
--- all that is told of events and of the end behind them
+-- all that is told of events and of the end after them
 told_to_the_end : (total events : List Event) (e : End) (count : ℕ) → total ≡ events ++ Finish e count ∷ [] → outputs total ≡ outputs events ++ report_of e
 told_to_the_end total events e count is = ap outputs is ∙ outputs-append events (Finish e count ∷ []) ∙ ap (λ (bs : List ℕ). outputs events ++ bs) (append-nil (report_of e))
 
@@ -89,6 +92,16 @@ pub has_frame : (unit : CodeUnit) (program : BodyNode) → IsRunnable unit progr
 has_frame unit program r =
     subst (λ (u : UnitView). IsFrame (frame_in u)) (sym r.unit_is) (subst IsFrame (sym (frame_in_unit program)) (frame_is program (first_counted program r.typed) (first_fits program r.simple)))
 
+-- a unit whose frame fits is loaded itself
+itself_run : (u run : UnitView) → IsFrame (frame_in u) → RunsAs u run → run ≡ u
+itself_run u run fits (itself is) = refl
+itself_run u run fits (load.damaged is_too_large) = absurd (is_too_large fits)
+
+pub loads_itself : (u : UnitView) (turns : ℕ) (input : List ℕ) (old new : Machine) (answer : Result (Unit {0}) NoRoom) → IsFrame (frame_in u)
+    → Loads u turns input old new answer → LoadsUnit u turns input old new answer
+loads_itself u turns input old new answer fits l =
+    subst (λ (run : UnitView). LoadsUnit run turns input old new answer) (itself_run u l.run fits l.chosen) l.loads
+
 -- what the laws say of each program
 abbrev pub AreRun : Type 0
 AreRun = (program : BodyNode) (turns : ℕ) (input : List ℕ) → IsWellTyped program → BodyRuns [] program
@@ -122,6 +135,7 @@ module _ (unit : CodeUnit) (run : RunOf) (input : List ℕ) (program : BodyNode)
       let first = next_counted (run_events run.turns input program) (begin run input program) [] runs in
       let short = none.full in
       let passed = none.passed in
+      let within = none.within in
       let counts = first.3 in (
         record {
           next = first.0;
@@ -129,6 +143,7 @@ module _ (unit : CodeUnit) (run : RunOf) (input : List ℕ) (program : BodyNode)
           events_are = first.2;
           passed = omega (arith, whole, passed, weighs, counts);
           short = omega (arith, whole, short);
+          within = omega (arith, within, weighs, counts);
         },
         whole,
       )
@@ -141,11 +156,11 @@ module _ {H : Type 0} (outside : H → Outside (List ℕ)) (a b : Store H) where
   abbrev new : Outside (List ℕ)
   new = outside b.host
 
-  -- what was told by the store was told by its host
+  -- what was output by the store was told by its host
   host_told : (bytes : List ℕ) → vault.TellsAll (outside_of outside a) (outside_of outside b) bytes → TellsAll old new bytes
   host_told bytes is = record { front = is.first.told; all = is.all; calm = is.calm }
 
-  host_failed : (bytes : List ℕ) → vault.FailsBehind (outside_of outside a) (outside_of outside b) bytes → FailsBehind old new bytes
+  host_failed : (bytes : List ℕ) → vault.FailsAfter (outside_of outside a) (outside_of outside b) bytes → FailsAfter old new bytes
   host_failed bytes is = record { front = is.first.told; counts = is.counts; rose = is.rose }
 
   -- and what a crash may leave of the store it leaves of the device
@@ -159,7 +174,7 @@ module _ {H : Type 0} (outside : H → Outside (List ℕ)) (a b : Store H) where
     abbrev RanTo : Result RunEnd RunFault → Type 0
     RanTo answer = Ran (outside_of outside a) (outside_of outside b) [] m.sw.size (begin run input program) answer
 
-    -- nothing was owed, and this was answered
+    -- nothing was pending, and this was answered
     pub ran_is : (owed : List ℕ) (given answer : Result RunEnd RunFault) → owed ≡ [] → given ≡ answer
         → Ran (outside_of outside a) (outside_of outside b) owed m.sw.size (begin run input program) given → RanTo answer
     ran_is owed given answer none is ran =
@@ -194,25 +209,27 @@ module _ {H : Type 0} (outside : H → Outside (List ℕ)) (a b : Store H) where
           answers = subst (λ (n : ℕ). Answers old new (outputs total) (status_of (run_end run.turns input program)) n) (sym status) (whole all);
         }
 
-    -- where the output failed it was behind a front of it
-    failed_in : FailsBehind old new (outputs total) → AnswersRun old new run input program 8
+    -- where the output failed it was after a prefix of it
+    failed_in : FailsAfter old new (outputs total) → AnswersRun old new run input program 8
     failed_in fails = record { bytes = outputs total; status = status_of (run_end run.turns input program); comes = its_end; answers = answers.cut fails }
 
     pub front_told : RanTo (Err Output) → AnswersRun old new run input program 8
     front_told (cut {events = events} {last = last} way fails) =
         let front = front_on_the_way total (begin run input program) last events r.runs way in
         let is : outputs total ≡ outputs events ++ outputs front.0 = ap outputs front.1 ∙ outputs-append events front.0 in
-        failed_in (subst (λ (bs : List ℕ). FailsBehind old new bs) (sym is) (fails_more old new (outputs events) (outputs front.0) (host_failed (outputs events) fails)))
+        failed_in (subst (λ (bs : List ℕ). FailsAfter old new bs) (sym is) (fails_more old new (outputs events) (outputs front.0) (host_failed (outputs events) fails)))
     front_told (report_cut {events = events} {last = last} e way s fails) =
-        failed_in (subst (λ (bs : List ℕ). FailsBehind old new bs) (sym (told_to_the_end total events (end_of e) last.store.counted (ended_by events last (end_of e) way s)))
+        failed_in (subst (λ (bs : List ℕ). FailsAfter old new bs) (sym (told_to_the_end total events (end_of e) last.store.counted (ended_by events last (end_of e) way s)))
         (host_failed (outputs events ++ report_of (end_of e)) fails))
 
     -- where the area was full, the next event counts more than it has
     pub fills : (top wanted size : ℕ) → RanTo (Err (Full top wanted size)) → (before : List Event) × FillsArea run input program before top wanted × TellsAll old new (outputs before) × (size ≡ area_size run)
-    fills top wanted size (full {events = events} {last = last} {next = next} way s short passed tells) =
+    fills top wanted size (full {events = events} {last = last} {next = next} way s none passed tells) =
         let behind = follow total last next events [] (on_the_way total (begin run input program) last [] events r.runs way) s in
         let first = next_counted total next (events ++ []) behind in
         let area = r.area in
+        let short = none.full in
+        let within = no-room-counted next top wanted m.sw.size none in
         let counts = first.3 in (
           events,
           record {
@@ -221,12 +238,13 @@ module _ {H : Type 0} (outside : H → Outside (List ℕ)) (a b : Store H) where
             events_are = first.2 ∙ ap (λ (es : List Event). es ++ first.0 ∷ first.1) (append-nil events);
             passed = omega (arith, area, passed, counts);
             short = omega (arith, area, short);
+            within = omega (arith, within, counts);
           },
           host_told (outputs events) tells,
           area,
         )
 
--- and the line behind it
+-- and the line after it
 pub full_told : (old mid new : Outside (List ℕ)) (run : RunOf) (input : List ℕ) (program : BodyNode) (before : List Event) (top wanted size answered : ℕ)
     → FillsArea run input program before top wanted → size ≡ area_size run → TellsAll old mid (outputs before) → Answers mid new (area_full_line top wanted size) 11 answered
     → AnswersRun old new run input program answered
@@ -241,7 +259,7 @@ full_told old mid new run input program before top wanted size answered fills is
     behind n (answers.whole all) = answers.whole (all_then old mid new (outputs before) (area_full_line top wanted (area_size run)) first all)
     behind n (answers.cut fails) = answers.cut (fails_then old mid new (outputs before) (area_full_line top wanted (area_size run)) first fails)
 
--- What a run comes to behind calls that told nothing.
+-- What a run comes to after calls that told nothing.
 pub run_behind : (old mid new : Outside (List ℕ)) (run : RunOf) (input : List ℕ) (program : BodyNode) (answered : ℕ) → TellsNothing old mid → mid.output_faults ≡ old.output_faults
     → AnswersRun mid new run input program answered → AnswersRun old new run input program answered
 run_behind old mid new run input program answered nothing calm is = record {

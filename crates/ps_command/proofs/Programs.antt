@@ -8,17 +8,17 @@ use Rattle.ps_base.specs.CodeUnit.{unit_view}
 use Rattle.ps_base.specs.declared.code_unit.CodeUnit.{CodeUnit}
 use Rattle.ps_program.specs.Node.{Node, BodyNode, body}
 use Rattle.ps_program.specs.Slots.{slot_count}
-use Rattle.ps_typing.specs.Fault.{Fault, TooComplex}
-use Rattle.ps_typing.specs.Library.{library_names}
-use Rattle.ps_typing.specs.Placed.{placed_program}
-use Rattle.ps_typing.specs.Checking.{Outcome, Gives, Refuses, check, wants}
-use Rattle.ps_typing.specs.Program.{end_line, most_slots, bodies, first_complex, line_of_body, Typed, Fails, measured, verdict_of}
-use Rattle.ps_typing_laws.proofs.OfProgram.{program_typed}
+use Rattle.ps_causes.specs.ps_typing.Fault.{Fault, TooComplex}
+use Rattle.ps_causes.specs.ps_typing.Library.{library_names}
+use Rattle.ps_causes.specs.ps_typing.Placed.{placed_program}
+use Rattle.ps_causes.specs.ps_typing.Checking.{Outcome, Gives, Refuses, check, wants}
+use Rattle.ps_causes.specs.ps_typing.Program.{end_line, most_slots, bodies, first_complex, line_of_body, Typed, Fails, measured, verdict_of}
+use Rattle.ps_code_laws.proofs.of_ps_typing_laws.OfProgram.{program_typed}
 use Rattle.ps_text_laws.proofs.LetsRead.{lets_are_items}
-use Rattle.ps_leaf_laws.proofs.LeavesRead.{leaves_fit}
-use Rattle.ps_fit_laws.proofs.Bodies.{program_bodies_valued}
+use Rattle.ps_built_laws.proofs.of_ps_leaf_laws.LeavesRead.{leaves_fit}
+use Rattle.ps_built_laws.proofs.of_ps_fit_laws.Bodies.{program_bodies_valued}
 use Rattle.ps_built_laws.proofs.OfProgram.{program_runs}
-use Rattle.ps_gen.specs.Units.{unit_of, HasUnit}
+use Rattle.ps_unit_weights.specs.ps_gen.Units.{unit_of, HasUnit}
 use Rattle.ps_causes.specs.Source.{IsProgram}
 use Rattle.ps_command.specs.inside.Steps.{IsRunnable}
 

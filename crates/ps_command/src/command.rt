@@ -1,22 +1,22 @@
 ghost use Rattle.std.specs.Prelude.{◌≡◌, ◌≤◌, Some, option_map, List, ℕ};
-ghost use Rattle.ps_outside.specs.Outside.{Rose};
+ghost use Rattle.ps_port.specs.ps_outside.Outside.{Rose};
 ghost use Rattle.ps_program.specs.Node.{BodyNode};
 ghost use Rattle.ps_port.specs.Telling.{LeavesDevice};
 ghost use Rattle.ps_causes.specs.Command.{Gives, GivesProgram, Why};
 ghost use Rattle.ps_command.specs.inside.Refusal.{Refuses};
 ghost use Rattle.ps_causes.specs.Steps.{RefusalWhy, UnreadWhy};
 ghost use Rattle.ps_command.specs.inside.Steps.{IsRunnable};
-ghost use Rattle.ps_words.specs.Reading.{run_in, IsArea};
-ghost use Rattle.ps_words.specs.Words.{words_of, command_of, a_run};
+ghost use Rattle.ps_causes.specs.ps_words.Reading.{run_in, IsArea};
+ghost use Rattle.ps_causes.specs.ps_words.Words.{words_of, command_of, a_run};
 
 use crate::compile::compile;
 use crate::execute::run_program;
 use crate::source_fault::SourceFault;
 use ps_base::code_unit::CodeUnit;
+use ps_causes::ps_reports::report;
+use ps_causes::ps_volumes::make_volume;
+use ps_causes::ps_words::{Command, RunWords, read_words};
 use ps_port::{Host, Shelf, ShelfFault};
-use ps_reports::report;
-use ps_volumes::make_volume;
-use ps_words::{Command, RunWords, read_words};
 use std::alloc::Global;
 
 /// Does all that the program does with these words, the ones after its name: reads and runs the text
@@ -28,7 +28,7 @@ pub fn psalgol<H: Host, S: Shelf>(
     host: H,
     shelf: &mut S,
 ) -> (u8, H)
-    ensures why { Why (H.outside host) (H.outside result.1) (command_of (words_of words.now)) (S.holds shelf.old) (S.lacks shelf.old) (Rose (S.faults shelf.old) (S.faults shelf.new)) result.0 }
+    ensures why { Why (H.outside host) (H.outside result.1) (command_of (words_of words.now)) (S.holds shelf.old) (S.lacks shelf.old) (S.may_fail shelf.old) (Rose (S.faults shelf.old) (S.faults shelf.new)) result.0 }
     ensures shelf_counts { S.faults shelf.old ≤ S.faults shelf.new }
 {
     match read_words(words) {
@@ -48,7 +48,7 @@ pub fn psalgol<H: Host, S: Shelf>(
 
 fn run_file<H: Host, S: Shelf>(alloc: Global, run: &RunWords, host: H, shelf: &mut S) -> (u8, H)
     requires { IsArea (run_in run.now) }
-    ensures why { Why (H.outside host) (H.outside result.1) (Some (a_run (run_in run.now))) (S.holds shelf.old) (S.lacks shelf.old) (Rose (S.faults shelf.old) (S.faults shelf.new)) result.0 }
+    ensures why { Why (H.outside host) (H.outside result.1) (Some (a_run (run_in run.now))) (S.holds shelf.old) (S.lacks shelf.old) (S.may_fail shelf.old) (Rose (S.faults shelf.old) (S.faults shelf.new)) result.0 }
     ensures shelf_counts { S.faults shelf.old ≤ S.faults shelf.new }
 {
     let mut text = Vec::new(alloc);
@@ -71,7 +71,7 @@ fn run_text<H: Host, S: Shelf>(
 ) -> (u8, H)
     requires area { IsArea (run_in run.now) }
     requires gives { Gives (S.holds shelf.old run.now.file.now) (S.lacks shelf.old run.now.file.now) text.now }
-    ensures why { Why (H.outside host) (H.outside result.1) (Some (a_run (run_in run.now))) (S.holds shelf.old) (S.lacks shelf.old) (Rose (S.faults shelf.old) (S.faults shelf.new)) result.0 }
+    ensures why { Why (H.outside host) (H.outside result.1) (Some (a_run (run_in run.now))) (S.holds shelf.old) (S.lacks shelf.old) (S.may_fail shelf.old) (Rose (S.faults shelf.old) (S.faults shelf.new)) result.0 }
     ensures shelf_counts { S.faults shelf.old ≤ S.faults shelf.new }
 {
     match compile(alloc, text) {
@@ -93,7 +93,7 @@ fn run_unit<H: Host, S: Shelf>(
 ) -> (u8, H)
     requires area { IsArea (run_in run.now) }
     requires program { (program : BodyNode) × IsRunnable unit program × GivesProgram (S.holds shelf.old) (S.lacks shelf.old) (run_in run.now) program }
-    ensures why { Why (H.outside host) (H.outside result.1) (Some (a_run (run_in run.now))) (S.holds shelf.old) (S.lacks shelf.old) (Rose (S.faults shelf.old) (S.faults shelf.new)) result.0 }
+    ensures why { Why (H.outside host) (H.outside result.1) (Some (a_run (run_in run.now))) (S.holds shelf.old) (S.lacks shelf.old) (S.may_fail shelf.old) (Rose (S.faults shelf.old) (S.faults shelf.new)) result.0 }
     ensures shelf_counts { S.faults shelf.old ≤ S.faults shelf.new }
 {
     match run.input {
@@ -113,7 +113,7 @@ fn run_reading<H: Host, S: Shelf>(
     requires area { IsArea (run_in run.now) }
     requires name { option_map (λ name. name.now) run.now.input ≡ Some name.now }
     requires program { (program : BodyNode) × IsRunnable unit program × GivesProgram (S.holds shelf.old) (S.lacks shelf.old) (run_in run.now) program }
-    ensures why { Why (H.outside host) (H.outside result.1) (Some (a_run (run_in run.now))) (S.holds shelf.old) (S.lacks shelf.old) (Rose (S.faults shelf.old) (S.faults shelf.new)) result.0 }
+    ensures why { Why (H.outside host) (H.outside result.1) (Some (a_run (run_in run.now))) (S.holds shelf.old) (S.lacks shelf.old) (S.may_fail shelf.old) (Rose (S.faults shelf.old) (S.faults shelf.new)) result.0 }
     ensures shelf_counts { S.faults shelf.old ≤ S.faults shelf.new }
 {
     let mut input = Vec::new(alloc);

@@ -1,32 +1,32 @@
 ghost use Rattle.std.specs.Prelude.{◌≡◌, ◌*◌, [], List, ℕ, true};
 ghost use Rattle.ps_base.specs.CodeUnit.{unit_view};
 ghost use Rattle.ps_program.specs.Node.{BodyNode};
-ghost use Rattle.ps_outside.specs.Outside.{LeavesSame};
-ghost use Rattle.ps_meaning.specs.Event.{status_of};
-ghost use Rattle.machine_state.specs.Stepped.{end_of};
+ghost use Rattle.ps_port.specs.ps_outside.Outside.{LeavesSame};
+ghost use Rattle.ps_port.specs.Telling.{LeavesDevice};
+ghost use Rattle.ps_causes.specs.ps_meaning.Event.{status_of};
+ghost use Rattle.stack_machine.specs.machine_state.Stepped.{end_of};
 ghost use Rattle.stack_machine.specs.Loaded.{IsNew, IsRoomy, Loads};
-ghost use Rattle.ps_words.specs.Words.{RunOf};
-ghost use Rattle.ps_words.specs.Reading.{run_in, IsArea};
-ghost use Rattle.ps_reports.specs.Answering.{Answers};
-ghost use Rattle.ps_reports.specs.Reports.{memory_line};
-ghost use Rattle.ps_volumes.specs.Attaching.{Keeps};
+ghost use Rattle.ps_causes.specs.ps_words.Words.{RunOf};
+ghost use Rattle.ps_causes.specs.ps_words.Reading.{run_in, IsArea};
+ghost use Rattle.ps_causes.specs.ps_reports.Answering.{Answers};
+ghost use Rattle.ps_causes.specs.ps_reports.Reports.{memory_line};
 ghost use Rattle.ps_causes.specs.Command.{area_size};
 ghost use Rattle.ps_causes.specs.Steps.{AnswersRun, ProgramWhy};
 ghost use Rattle.ps_command.specs.inside.Steps.{IsRunnable, IsReady};
 
-use obj_store::ObjStore;
 use ps_base::code_unit::CodeUnit;
+use ps_causes::obj_store::ObjStore;
+use ps_causes::ps_reports::{OUTPUT_FAULT, report};
+use ps_causes::ps_volumes::{Unattached, attached};
+use ps_causes::ps_words::RunWords;
 use ps_code_laws::program_runs_as_meant;
 use ps_port::Host;
-use ps_reports::{OUTPUT_FAULT, report};
 use ps_unit_weights::units_weigh_as_counted;
-use ps_volumes::{Unattached, attached};
-use ps_words::RunWords;
-use stack_machine::load::{LoadFault, load, machine};
+use stack_machine::load::{NoRoom, load, machine};
 use stack_machine::run::{RunFault, run};
+use stack_machine::vault_output::Output;
 use stack_machine::{Machine, RunEnd};
 use std::alloc::{AllocError, Global};
-use vault_output::Output;
 
 /// Runs the unit of a program over an input and the volume of the host, and answers the status beside the host. All memory is taken here, before the
 /// first event.
@@ -56,7 +56,7 @@ pub fn run_program<H: Host>(
 // Tells that there was no memory.
 fn no_memory<H: Host>(host: H) -> (u8, H)
     ensures answers { Answers (H.outside host) (H.outside result.1) memory_line 5 result.0 }
-    ensures keeps { Keeps (H.outside host) (H.outside result.1) }
+    ensures device { LeavesDevice (H.outside host) (H.outside result.1) }
 {
     let mut host = host;
     let status = report::no_memory(&mut host);
@@ -84,17 +84,16 @@ fn run_attached<H: Host>(
     let mut m = m;
     match loaded(&mut m, unit, words.turns, input) {
         Ok(()) => run_loaded(m, output, store),
-        Err(LoadFault::Full { top, wanted, size }) => {
+        Err(short) => {
             let mut host = store.release();
-            let status = report::area_full(&mut host, top, wanted, size);
+            let status = report::area_full(&mut host, short.top, short.wanted, short.size);
             (status, host)
         }
-        Err(LoadFault::Damaged) => unreachable!(),
     }
 }
 
 // Puts the unit into the machine, and lets it go: the code is run from the area.
-fn loaded(m: &mut Machine, unit: CodeUnit, turns: u64, input: Vec<u8>) -> Result<(), LoadFault>
+fn loaded(m: &mut Machine, unit: CodeUnit, turns: u64, input: Vec<u8>) -> Result<(), NoRoom>
     requires { IsRoomy m.old }
     ensures { Loads (unit_view unit) turns input.items m.old m.new result }
 {

@@ -10,3 +10,5 @@ mod execute;
 mod source_fault;
 
 pub use command::psalgol;
+pub use ps_causes::obj_store;
+pub use stack_machine::obj_layout;

@@ -2,8 +2,8 @@ ghost use Rattle.std.specs.Prelude.{◌≡◌};
 ghost use Rattle.ps_command.specs.inside.Refusal.{stage_of, number_of, line_of_fault};
 
 use ps_base::line::Line;
-use ps_declared::fault::CheckFault;
-use ps_scan::ScanFault;
+use ps_causes::ps_scan::ScanFault;
+use ps_check::ps_declared::fault::CheckFault;
 use ps_tree::fault::ParseFault;
 
 /// Why a text is no program, by the stage that found it. Want of memory may come in any stage.

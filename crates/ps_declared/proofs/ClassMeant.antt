@@ -5,9 +5,9 @@ use Rattle.ps_base.specs.TyView.{TyView, TyViews}
 use Rattle.ps_base.specs.TyView as types
 use Rattle.ps_tree.specs.Phrase.{NameAt}
 use Rattle.ps_program.specs.Node.{Node}
-use Rattle.ps_typing.specs.Fault.{Unknown}
-use Rattle.ps_typing.specs.Names.{Names, Meaning, local, class, library}
-use Rattle.ps_typing.specs.Checking.{Gives, Refuses, is_of}
+use Rattle.ps_scope.specs.ps_typing.Fault.{Unknown}
+use Rattle.ps_scope.specs.ps_typing.Names.{Names, Meaning, local, class, library}
+use Rattle.ps_scope.specs.ps_typing.Checking.{Gives, Refuses, is_of}
 use Rattle.ps_declared.specs.inside.Meant.{class_meant, class_test}
 
 text_in : List ℕ → Option Meaning → List ℕ

@@ -15,9 +15,9 @@ use Rattle.ps_type_text.specs.Texts.{Field}
 use Rattle.ps_type_text.specs.Members.{fields_of}
 use Rattle.ps_type_text.specs.Members as members
 use Rattle.ps_type_text.specs.declared.classes.Member.{Member}
-use Rattle.ps_typing.specs.Fault.{Twice}
-use Rattle.ps_typing.specs.Names.{Names, declare_local, declare_field, is_declared, is_field_declared}
-use Rattle.ps_typing.specs.Checking.{◌>>=◌, types_of, field_of, with_params, with_fields}
+use Rattle.ps_scope.specs.ps_typing.Fault.{Twice}
+use Rattle.ps_scope.specs.ps_typing.Names.{Names, declare_local, declare_field, is_declared, is_field_declared}
+use Rattle.ps_scope.specs.ps_typing.Checking.{◌>>=◌, types_of, field_of, with_params, with_fields}
 use Rattle.ps_declared.specs.declared.declarators.Declarator.{Declarator}
 use Rattle.ps_declared.specs.inside.Declaring.{one_param, one_field}
 use Rattle.ps_declared.specs.inside.Views.{group_of, groups_of}

@@ -3,7 +3,7 @@ use Rattle.std.proofs.Common.{◌≡◌, Bool, false, List, [], ◌∷◌, None,
 use Rattle.std.specs.Bool.{◌==◌}
 use Rattle.ps_tree.specs.PhraseLists.{phrases_in}
 use Rattle.ps_tree.specs.declared.rough.Rough.{Rough}
-use Rattle.ps_typing.specs.Checking.{field_name}
+use Rattle.ps_scope.specs.ps_typing.Checking.{field_name}
 
 pub several : (only : Rough) (rest : List Rough) (b : Bool) → b ≡ (length rest == 0) → b ≡ false → field_name (phrases_in (only ∷ rest)) ≡ None
 several only [] b is fails = absurd cc

@@ -6,10 +6,10 @@ use Rattle.ps_base.specs.TyView.{TyView, Void, ty_view}
 use Rattle.ps_base.specs.declared.line.Line.{Line}
 use Rattle.ps_program.specs.Node.{Node}
 use Rattle.ps_program.specs.NodeView.{node_of}
-use Rattle.ps_typing.specs.Fault.{Fault, Mismatch, NotAssignable}
-use Rattle.ps_typing.specs.Names.{Names}
-use Rattle.ps_typing.specs.Checking.{Outcome, Gives, Refuses, ◌>>=◌, passes, wants, is_same, assigned}
-use Rattle.ps_typing.proofs.SameTypes.{same_is_equal, equal_is_same}
+use Rattle.ps_scope.specs.ps_typing.Fault.{Fault, Mismatch, NotAssignable}
+use Rattle.ps_scope.specs.ps_typing.Names.{Names}
+use Rattle.ps_scope.specs.ps_typing.Checking.{Outcome, Gives, Refuses, ◌>>=◌, passes, wants, is_same, assigned}
+use Rattle.ps_scope.proofs.of_ps_typing.SameTypes.{same_is_equal, equal_is_same}
 use Rattle.ps_declared.specs.Faults.{fault_of}
 use Rattle.ps_declared.specs.declared.clause.Clause.{Clause}
 use Rattle.ps_declared.specs.declared.fault.CheckFault.{CheckFault}
@@ -78,7 +78,7 @@ same a b r says holds = equal_is_same a b (says.0 (subst IsTrue (sym holds) refl
 pub not_same : (a b : TyView) (r : Bool) → (IsTrue r → a ≡ b) × (a ≡ b → IsTrue r) → r ≡ false → is_same a b ≡ false
 not_same a b r says fails = true_or_false (is_same a b) (λ holds. never (subst IsTrue fails (says.1 (same_is_equal a b holds))))
 
--- a clause with its tree and its type, and these names behind it
+-- a clause with its tree and its type, and these names after it
 abbrev pub IsClauseAt : Outcome Node → Result Clause CheckFault → Names → Type 0
 IsClauseAt o result names = MatchResult result (λ clause. o ≡ Gives (node_of clause.tree) (ty_view clause.ty) names) (IsFault o)
 

@@ -1,7 +1,7 @@
 ghost use Rattle.ps_base.specs.TyView.{ty_view};
 ghost use Rattle.ps_program.specs.NodeView.{node_of, node_of_form};
 ghost use Rattle.ps_scope.specs.Content.{Content, names_of};
-ghost use Rattle.ps_typing.specs.Checking.{Gives, wants};
+ghost use Rattle.ps_scope.specs.ps_typing.Checking.{Gives, wants};
 ghost use Rattle.ps_declared.specs.inside.Answers.{IsMade, IsOfType};
 
 use crate::fault::CheckFault;

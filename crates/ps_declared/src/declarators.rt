@@ -2,7 +2,7 @@ ghost use Rattle.std.specs.Prelude.{◌≡◌, ◌++◌, map, MatchResult, IfErr
 ghost use Rattle.ps_base.specs.TyView.{ty_views};
 ghost use Rattle.ps_tree.specs.Phrase.{groups_in, group_of as names_of_group};
 ghost use Rattle.ps_type_text.specs.Members.{fields_of};
-ghost use Rattle.ps_typing.specs.Checking.{types_of, field_of};
+ghost use Rattle.ps_scope.specs.ps_typing.Checking.{types_of, field_of};
 ghost use Rattle.ps_declared.specs.inside.Answers.{IsMemory};
 ghost use Rattle.ps_declared.specs.inside.Views.{groups_of};
 

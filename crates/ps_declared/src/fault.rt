@@ -22,7 +22,7 @@ pub enum CheckFault {
     NotApplicable { line: Line },
     /// A structure has more than 64 fields, or a procedure more than 64 parameters: so many.
     Limit { line: Line, count: usize },
-    /// A body needs more than 512 slots: so many. It is the fault behind all others.
+    /// A body needs more than 512 slots: so many. It is the fault after all others.
     TooComplex { line: Line, count: u64 },
     /// There was no memory for the tree, or no number left for a further name.
     Memory,

@@ -4,7 +4,7 @@ ghost use Rattle.ps_tree.specs.PhraseLists.{phrases_in};
 ghost use Rattle.ps_program.specs.Node as node;
 ghost use Rattle.ps_program.specs.NodeView.{node_of};
 ghost use Rattle.ps_scope.specs.Content.{names_of};
-ghost use Rattle.ps_typing.specs.Checking.{field as field_of_value, field_name as field_name_of};
+ghost use Rattle.ps_scope.specs.ps_typing.Checking.{field as field_of_value, field_name as field_name_of};
 ghost use Rattle.ps_declared.specs.inside.Answers.{IsClause, IsMade};
 ghost use Rattle.ps_declared.specs.inside.Views.{name_at};
 

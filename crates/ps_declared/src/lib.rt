@@ -11,3 +11,5 @@ pub mod fault;
 pub mod fields;
 pub mod looks;
 pub mod names;
+
+pub use ps_scope;

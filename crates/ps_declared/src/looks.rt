@@ -3,7 +3,7 @@ ghost use Rattle.std.specs.Borrow.{Bor};
 ghost use Rattle.ps_base.specs.TyView.{ty_view};
 ghost use Rattle.ps_tree.specs.Phrase.{phrase_of, groups_in};
 ghost use Rattle.ps_tree.specs.PhraseLists.{maybe_in};
-ghost use Rattle.ps_typing.specs.Checking.{name_in as name_in_of};
+ghost use Rattle.ps_scope.specs.ps_typing.Checking.{name_in as name_in_of};
 ghost use Rattle.ps_declared.specs.inside.Looks.{literal_in as literal_in_of};
 ghost use Rattle.ps_declared.specs.inside.Views.{literal_of, maybe_lent};
 

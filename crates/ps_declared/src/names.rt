@@ -7,8 +7,8 @@ ghost use Rattle.ps_program.specs.Node as node;
 ghost use Rattle.ps_program.specs.NodeView.{node_of};
 ghost use Rattle.ps_scope.specs.Content.{names_of};
 ghost use Rattle.ps_scope.specs.Views.{meaning_of};
-ghost use Rattle.ps_typing.specs.Names.{meant};
-ghost use Rattle.ps_typing.specs.Checking.{used as used_of, introduced as introduced_of};
+ghost use Rattle.ps_scope.specs.ps_typing.Names.{meant};
+ghost use Rattle.ps_scope.specs.ps_typing.Checking.{used as used_of, introduced as introduced_of};
 ghost use Rattle.ps_declared.specs.inside.Answers.{IsClause, IsMade, IsMemory};
 
 use crate::clause::Clause;
@@ -66,7 +66,7 @@ pub fn text(alloc: Global, bytes: &[u8]) -> Result<Clause, CheckFault>
     Clause::new(alloc, TreeForm::Text(bytes), Ty::Str)
 }
 
-/// A name that is declared behind its initial value, of this type. Faults: `Twice` where the block declares it already, and `Memory`.
+/// A name that is declared after its initial value, of this type. Faults: `Twice` where the block declares it already, and `Memory`.
 pub fn introduced(
     alloc: Global,
     scope: &mut Scope,

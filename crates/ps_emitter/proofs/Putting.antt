@@ -1,4 +1,4 @@
--- Pieces put one behind the other, and holes in them filled.
+-- Pieces put one after the other, and holes in them filled.
 use Rattle.std.proofs.Common.{◌≡◌, ℕ, ◌+◌, List, [], ◌∷◌, ◌++◌, length, refl, sym, ap, subst, ◌∙◌, arith, append_assoc, length-append}
 use Rattle.std.proofs.lemmas.List.{append-nil}
 use Rattle.std.specs.List.{AllByRecursion}
@@ -8,7 +8,7 @@ use Rattle.ps_base.proofs.Spellings.{length-spelling}
 use Rattle.ps_emitter.specs.Pieces.{AreInstrs, State, Shape, Piece, Puts, Opens, Same, join, ◌▷◌, one, at_end, next, filled, fill, to_behind, bytes_alone}
 use Rattle.ps_emitter.proofs.Spelled.{spelled-append, all-append, over_at, filled-append}
 
--- where a piece begins behind another
+-- where a piece begins after another
 begins : (q : Piece) (s : Shape) (a b : State) → at_end b ≡ s.ends (at_end a) → next b ≡ s.names (next a) → q.instrs (at_end b) (next b) ≡ q.instrs (s.ends (at_end a)) (s.names (next a))
 begins q s a b long counted = ap (λ n. q.instrs n (next b)) long ∙ ap (λ n. q.instrs (s.ends (at_end a)) n) counted
 
@@ -106,7 +106,7 @@ followed {jump} {p} {q} {holes} {a} {b} {c} x y = subst (λ hs. Opens jump (λ t
 pub behind : {jump : ℕ → Instr} {p : Piece} {q : ℕ → Piece} {holes : List ℕ} {a b c : State} → Puts p a b → Opens jump q holes b c → Opens jump (λ t. p ▷ q t) holes a c
 behind {jump} x y = both (whole jump x) y
 
--- all holes are filled, also where more code stands behind the piece
+-- all holes are filled, also where more code stands after the piece
 filled_at : {jump : ℕ → Instr} {p : ℕ → Piece} {holes : List ℕ} {a b : State} (t : ℕ) → Opens jump p holes a b → (post : List ℕ) → filled (spelling (jump t)) holes (b.code ++ post) ≡ (a.code ++ spelled ((p t).instrs (at_end a) (next a))) ++ post
 filled_at {jump} {p} {holes} {a} {b} t x post =
     let ps : ℕ → List ℕ = λ t. spelled ((p t).instrs (at_end a) (next a)) in

@@ -30,6 +30,6 @@ pub filled-append : (bytes holes others code : List ℕ) → filled bytes (holes
 filled-append bytes [] others code = refl
 filled-append bytes (hole ∷ holes) others code = filled-append bytes holes others (over hole bytes code)
 
--- what a buffer has at its front
+-- what a buffer has at its start
 pub front_is : (new front old : List ℕ) (n : ℕ) → new ≡ front ++ drop n old → n ≡ length front → take n new ≡ front
 front_is new front old n whole long = ap (take n) whole ∙ take_at front (drop n old) n (sym long)

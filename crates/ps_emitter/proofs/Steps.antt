@@ -28,7 +28,7 @@ named_width (name.SetField index ty line) c = by_type_width (ty_view ty.now) (in
 named_width (name.Fill ty line) c = by_type_width (element_of (ty_view ty.now)) (instr.FillM c line) (instr.FillP c line) refl ∙ sym (by_type_width (element_of (ty_view ty.now)) (instr.FillM 0 line) (instr.FillP 0 line) refl)
 named_width (name.List ty count line) c = by_type_width (element_of (ty_view ty.now)) (instr.ListM c count line) (instr.ListP c count line) refl ∙ sym (by_type_width (element_of (ty_view ty.now)) (instr.ListM 0 count line) (instr.ListP 0 count line) refl)
 
--- an instruction that names the constant behind it
+-- an instruction that names the constant after it
 pub named : (it : Naming) {i : Instr} {x y : ConstantView} {k : ℕ} {a b c : State} → i ≡ named_by it k → k ≡ next a → Puts (one i) a b → y ≡ x → Puts (constant y) b c → Puts (naming (named_by it) x) a c
 unfolding ◌▷◌ one constant naming
 named it {i} {x} {y} {k} {a} {b} {c} i_is k_is puts same adds_same =
@@ -122,7 +122,7 @@ left_open_none {jump} {rest} {all} {holes} {a} {b} left same shape = subst (λ h
 pub opened_at : (jump : ℕ → Instr) {a b : State} {i : Instr} {at : ℕ} → i ≡ jump 0 → Puts (one i) a b → at ≡ at_end a → ((n : ℕ) → width_of (jump n) ≡ width_of (jump 0)) → Opens jump (λ t. one (jump t)) (at ∷ []) a b
 opened_at jump {a} {b} {i} {at} i_is puts at_is same = subst (λ k. Opens jump (λ t. one (jump t)) (k ∷ []) a b) (sym at_is) (opened jump (one_is i_is puts) same)
 
--- a piece with one hole is closed behind the jump that follows it, whose own target is missing
+-- a piece with one hole is closed after the jump that follows it, whose own target is missing
 pub halfway : (jump : ℕ → Instr) {p : ℕ → Piece} {q : Piece} {a b c d : State} {holes : List ℕ} {at t : ℕ} {last : Instr} (behind : ℕ → ℕ) → Opens jump p holes a b → Hole q at b c → t ≡ behind (at_end b) → last ≡ jump t → IsInstr last → d ≡ fill (spelling last) holes c →
     Halfway (to_behind behind p) q at a d
 halfway jump {p} {q} {a} {b} {c} {d} {holes} {at} {t} {last} behind opens hole t_is last_is fits new = record {
@@ -146,7 +146,7 @@ last_is p {i} {j} {a} {b} is puts = subst (λ x. Puts (p ▷ one x) a b) is puts
 pub third_is : (p q : Piece) {i j : Instr} {a b : State} → i ≡ j → Puts (p ▷ (q ▷ one i)) a b → Puts (p ▷ (q ▷ one j)) a b
 third_is p q {i} {j} {a} {b} is puts = subst (λ x. Puts (p ▷ (q ▷ one x)) a b) is puts
 
--- a piece behind two
+-- a piece after two
 pub seq2 : (p q : Piece) {r : Piece} {a b c : State} → Puts (p ▷ q) a b → Puts r b c → Puts (p ▷ (q ▷ r)) a c
 unfolding ◌▷◌
 seq2 p q {r} {a} {b} {c} x y =

@@ -39,7 +39,7 @@ abbrev pub Chained : Node → List (Bor Tree) → Node → Type 0
 Chained whole [] inner = whole ≡ inner
 Chained whole (link ∷ links) inner = (whole ≡ node_of link.now) × ((f : Node) × (first_part whole ≡ Some f) × Chained f links inner)
 
--- the type of what a link gives, behind a first part of this type
+-- the type of what a link gives, after a first part of this type
 abbrev pub type_behind : TyView → Node → TyView
 type_behind before (node.Call f args line) = result_of before
 type_behind before (node.Field e class index ty line) = ty

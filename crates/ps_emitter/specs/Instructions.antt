@@ -43,7 +43,7 @@ named_by (name.SetField index ty line) c = choice.by_type (ty_view ty.now) (inst
 named_by (name.Fill ty line) c = choice.by_type (element_of (ty_view ty.now)) (instr.FillM c line) (instr.FillP c line)
 named_by (name.List ty count line) c = choice.by_type (element_of (ty_view ty.now)) (instr.ListM c count line) (instr.ListP c count line)
 
--- the code of a scan behind its table and its procedure
+-- the code of a scan after its table and its procedure
 abbrev pub turns : Bool → ℕ → ℕ → Line → Piece
 turns string q s line =
     from_begin (λ begin. to_behind (λ end. end) (λ t. one (choice.scan string q s t line) ▷ (one (instr.Call (if string then 2 else 1) line) ▷ one (instr.ScanMore s begin)))) ▷ one (instr.GetM s)

@@ -1,5 +1,5 @@
--- Pieces of code, one behind the other. What was made of a body so far is a state: its bytes, its constants, and the locals taken
--- so far. A piece puts instructions, constants and locals behind it.
+-- Pieces of code, one after the other. What was made of a body so far is a state: its bytes, its constants, and the locals taken
+-- so far. A piece puts instructions, constants and locals after it.
 use Rattle.std.specs.Prelude.{◌≡◌, ℕ, ◌+◌, List, [], ◌∷◌, ◌++◌, length, map, take, drop}
 use Rattle.std.specs.List.{AllByRecursion}
 use Rattle.ps_base.specs.Instr.{spelled, spelling, width_of, IsInstr}
@@ -114,7 +114,7 @@ pub record Same (p q : Piece) : Type 0 where
   pub literals : p.shape.literals ≡ q.shape.literals
   pub instrs : (at k : ℕ) → p.instrs at k ≡ q.instrs at k
 
--- a piece whose offset is known, and such a piece behind another
+-- a piece whose offset is known, and such a piece after another
 pub record Hole (p : Piece) (at : ℕ) (a b : State) : Type 0 where
   pub puts : Puts p a b
   pub is : at ≡ at_end a

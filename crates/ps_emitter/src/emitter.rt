@@ -86,7 +86,7 @@ impl Emitter {
         Ok(())
     }
 
-    /// The offset behind what was made so far.
+    /// The offset after what was made so far.
     pub fn here(&self) -> Result<u32, AllocError>
         ensures { IfOk result (λ at. at ≡ at_end (state_of self.now)) }
     {

@@ -84,7 +84,7 @@ impl<'a> Known<'a> {
     }
 }
 
-/// What is known of the type of what a clause gives. The only fault is that it is found behind too many calls to be counted.
+/// What is known of the type of what a clause gives. The only fault is that it is found after too many calls to be counted.
 pub fn known_of(tree: &Tree) -> Result<Known, AllocError>
     ensures { IfOk result (λ known. called (type_in known) ≡ called (type_of (node_of tree.now))) }
 {

@@ -1,6 +1,6 @@
 //! The code of one body while it is made: its instructions, its constants, and how many locals it takes.
 //!
-//! An `Emitter` puts one behind the other, and writes the targets of jumps over those that are there. Beside it stand the choices among
+//! An `Emitter` puts one after the other, and writes the targets of jumps over those that are there. Beside it stand the choices among
 //! instructions, what is known of the type of a value that is called, and the way down a chain of first parts.
 #![tactic(auto)]
 
@@ -14,3 +14,5 @@ pub mod naming;
 pub mod signature;
 pub mod spine;
 pub mod turns;
+
+pub use ps_code;

@@ -1,11 +1,11 @@
 -- Each body in a body that fits takes and gives values.
 use Rattle.std.proofs.Common.{◌≡◌, List, [], ◌∷◌, ◌++◌}
 use Rattle.std.specs.List.{AllByRecursion}
-use Rattle.ps_tree.specs.Phrase.{Phrase}
-use Rattle.ps_program.specs.Node.{Node, Nodes, none, more, Arms, no_arms, more_arms, arm, BodyNode, body}
-use Rattle.ps_program.specs.Node as node
-use Rattle.ps_program.specs.Parts.{Part, operand, label, branch, literal, fold_all, fold_arms}
-use Rattle.ps_typing.specs.Program.{Typed, check_program, bodies, bodies_of, bodies_with, bodies_in}
+use Rattle.ps_leaf_laws.specs.ps_tree.Phrase.{Phrase}
+use Rattle.ps_leaf_laws.specs.ps_program.Node.{Node, Nodes, none, more, Arms, no_arms, more_arms, arm, BodyNode, body}
+use Rattle.ps_leaf_laws.specs.ps_program.Node as node
+use Rattle.ps_leaf_laws.specs.ps_program.Parts.{Part, operand, label, branch, literal, fold_all, fold_arms}
+use Rattle.ps_leaf_laws.specs.ps_typing.Program.{Typed, check_program, bodies, bodies_of, bodies_with, bodies_in}
 use Rattle.ps_leaf_laws.specs.Leaves.{LeavesFit}
 use Rattle.ps_fit_laws.specs.Fitting.{Fits, AllFit, ArmsFit, FitsBody, TakesAndGivesValues}
 use Rattle.ps_fit_laws.proofs.OfProgram.{typed_fits}

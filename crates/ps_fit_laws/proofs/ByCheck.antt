@@ -5,21 +5,22 @@ use Rattle.std.specs.Prelude.{Option, Some, None, if◌then◌else◌, nat_lt, n
 use Rattle.std.specs.Str.{bytes_eq}
 use Rattle.std.proofs.lemmas.Bool.{eqb-true}
 use Rattle.std.proofs.lemmas.List.{append_assoc, length-append}
-use Rattle.ps_base.specs.TyView.{TyView, TyViews}
-use Rattle.ps_base.specs.TyView as types
-use Rattle.ps_base.specs.declared.line.Line.{Line}
-use Rattle.ps_tree.specs.Phrase.{NameAt, GroupAt, Phrase, at, Form, Phrases, none, more, MaybePhrase, absent, present, Arm, arm, Arms, no_arms, more_arms, WriteItem, item, WriteItems, no_items, more_items}
-use Rattle.ps_tree.specs.Phrase as form
-use Rattle.ps_program.specs.declared.place.Place.TheVariants.{Plain}
-use Rattle.ps_program.specs.Assigning.{assignment}
-use Rattle.ps_program.specs.Node.{Param, Node, Nodes, body}
-use Rattle.ps_program.specs.Node as node
-use Rattle.ps_type_text.specs.Texts.{Field, class_text, IsName, IsNamed}
-use Rattle.ps_typing.specs.Names.{plain, scan, Meaning, local, class, library, Names, Declared, FieldOf, lookup, lookup_field, meant, field_meant, is_declared, is_field_declared, declare, declare_local, declare_field, inside, behind}
-use Rattle.ps_typing.specs.Checking.{Outcome, Gives, Refuses, ◌>>=◌, passes, wants, is_same, is_vector, is_equated, is_writable, is_comparable, isnt_void, is_present, line_of, name_in, introduced, types_of, field_of, with_fields, structure, most, used, with_params, parameters, is_of, assigned, field_at, field, field_name, together, Checker, like, check_each, check_args, count_types, with_args, elements, value_applied, scan_applied, name_applied, applied, literal, named_literal, first_type, check, check_form, checkers, check_if_any, check_arms, check_all, check_written}
-use Rattle.ps_typing.specs.WellTyped.{At, IsOfType, types_of_fields, types_of_params}
-use Rattle.ps_soundness.specs.Valued.{IsValued, IsGiven, AllValued}
-use Rattle.ps_soundness.specs.Running.{IsClassText, HasField, AreAsMany, HasAsMany}
+use Rattle.ps_leaf_laws.specs.ps_base.Limits.{most_fields, most_parameters}
+use Rattle.ps_leaf_laws.specs.ps_base.TyView.{TyView, TyViews}
+use Rattle.ps_leaf_laws.specs.ps_base.TyView as types
+use Rattle.ps_leaf_laws.specs.ps_base.declared.line.Line.{Line}
+use Rattle.ps_leaf_laws.specs.ps_tree.Phrase.{NameAt, GroupAt, Phrase, at, Form, Phrases, none, more, MaybePhrase, absent, present, Arm, arm, Arms, no_arms, more_arms, WriteItem, item, WriteItems, no_items, more_items}
+use Rattle.ps_leaf_laws.specs.ps_tree.Phrase as form
+use Rattle.ps_leaf_laws.specs.ps_program.declared.place.Place.TheVariants.{Plain}
+use Rattle.ps_leaf_laws.specs.ps_program.Assigning.{assignment}
+use Rattle.ps_leaf_laws.specs.ps_program.Node.{Param, Node, Nodes, body}
+use Rattle.ps_leaf_laws.specs.ps_program.Node as node
+use Rattle.ps_leaf_laws.specs.ps_type_text.Texts.{Field, class_text, IsName, IsNamed}
+use Rattle.ps_leaf_laws.specs.ps_typing.Names.{plain, scan, Meaning, local, class, library, Names, Declared, FieldOf, lookup, lookup_field, meant, field_meant, is_declared, is_field_declared, declare, declare_local, declare_field, inside, behind}
+use Rattle.ps_leaf_laws.specs.ps_typing.Checking.{Outcome, Gives, Refuses, ◌>>=◌, passes, wants, is_same, is_vector, is_equated, is_writable, is_comparable, isnt_void, is_present, line_of, name_in, introduced, types_of, field_of, with_fields, structure, used, with_params, parameters, is_of, assigned, field_at, field, field_name, together, Checker, like, check_each, check_args, count_types, with_args, elements, value_applied, scan_applied, name_applied, applied, literal, named_literal, first_type, check, check_form, checkers, check_if_any, check_arms, check_all, check_written}
+use Rattle.ps_leaf_laws.specs.ps_typing.WellTyped.{At, IsOfType, types_of_fields, types_of_params}
+use Rattle.ps_leaf_laws.specs.ps_soundness.Valued.{IsValued, IsGiven, AllValued}
+use Rattle.ps_leaf_laws.specs.ps_soundness.Running.{IsClassText, HasField, AreAsMany, HasAsMany}
 use Rattle.ps_leaf_laws.specs.Leaves.{AreGroups, LeavesFit, LeavesFitIn, LeavesFitInAll, LeavesFitInMaybe, LeavesFitInArms, LeavesFitInWritten}
 use Rattle.ps_fit_laws.specs.Fitting.{Fits, AllFit, ArmsFit}
 
@@ -53,7 +54,7 @@ pub record Known (names : Names) : Type 0 where
   pub fields : (name : List ℕ) (f : FieldOf) → field_meant names name ≡ Some f → HasField f.class f.index f.ty
   pub named : AllNamed names.all
 
--- what is given is such, and the names behind it are known
+-- what is given is such, and the names after it are known
 pub record Fine {A : Type 0} (P : A → Type 0) (of : A) (after : Names) : Type 0 where
   pub fits : P of
   pub known : Known after
@@ -96,7 +97,7 @@ wanted : {B : Type 0} {Q : B → Type 0} (t : TyView) (line : Line) (o : Outcome
     ((tree : Node) (ty : TyView) (names : Names) → Fits tree → Known names → Sound Q (then_ tree ty names)) → Sound Q (wants t line o >>= then_)
 wanted t line o then_ h after = tested _ t line o then_ h after
 
--- a lookup in a list with one more in front
+-- a lookup in a list with one more at the start
 pub lookup_more : (P : Meaning → Type 0) (d : Declared) (ds : List Declared) (name : List ℕ) (meaning : Meaning) → P d.meaning →
     (lookup ds name ≡ Some meaning → P meaning) → lookup (d ∷ ds) name ≡ Some meaning → P meaning
 lookup_more P d ds name meaning here there is =
@@ -205,7 +206,7 @@ sound_structure names line name groups is are k =
       class = record { name = name.name; fields = all; named = named; text_is = refl; valued = valued };
       types_are = field_types groups;
     } in
-    by_test (Sound Fits) (nat_lt most (length groups)) _ _ (λ many. refuses) (λ few.
+    by_test (Sound Fits) (nat_lt most_fields (length groups)) _ _ (λ many. refuses) (λ few.
     by_test (Sound Fits) (is_declared names name.name) _ _ (λ twice. refuses) (λ once.
     sound_with_fields (declare names name.name (class text (types_of groups))) text 0 groups
     (are_fields name.name all [] groups 0 named valued refl refl) (known_declared names name.name (class text (types_of groups)) has k)))
@@ -341,7 +342,7 @@ sound_params names made (group ∷ groups) so_far are k =
 
 sound_parameters : (names : Names) (line : Line) (groups : List GroupAt) → AreGroups groups → Known names →
     Sound AreParams (parameters names line groups)
-sound_parameters names line groups are k = by_test (Sound AreParams) (nat_lt most (length groups)) _ _ (λ many. refuses)
+sound_parameters names line groups are k = by_test (Sound AreParams) (nat_lt most_parameters (length groups)) _ _ (λ many. refuses)
     (λ few. sound_params (inside names) [] groups tt are (known_inside names k))
 
 sound_literal : (names : Names) (line : Line) (groups : List GroupAt) (ty : TyView) (s_line : Line) (check_s : Names → Outcome Node) →

@@ -1,19 +1,19 @@
 -- The program that a tree is fits, where the leaves of the tree do.
 use Rattle.std.proofs.Common.{◌≡◌, ℕ, Bool, true, false, ◌&&◌, List, [], ◌∷◌, inl, inr, refl, subst}
 use Rattle.std.specs.Prelude.{Option, Some, None, codes}
-use Rattle.ps_base.specs.TyView.{TyView}
-use Rattle.ps_base.specs.TyView as types
-use Rattle.ps_tree.specs.Phrase.{Phrase}
-use Rattle.ps_program.specs.Node.{Node, BodyNode, body}
-use Rattle.ps_type_text.specs.Texts.{IsName, IsNamed, is_name_byte}
-use Rattle.ps_typing.specs.Names.{Meaning, class, Declared, FieldOf, lookup, lookup_field}
-use Rattle.ps_typing.specs.Library.{library_names, procedures, error_fields, error_class, three}
-use Rattle.ps_typing.specs.Placed.{placed_program}
-use Rattle.ps_typing.specs.Checking.{Outcome, Gives, Refuses, check}
-use Rattle.ps_typing.specs.Fault.{Fault}
-use Rattle.ps_typing.specs.Program.{Typed, measured, first_complex, bodies, verdict_of, check_program, end_line}
-use Rattle.ps_typing.specs.WellTyped.{At, IsOfType}
-use Rattle.ps_soundness.specs.Running.{IsClassText, HasField}
+use Rattle.ps_leaf_laws.specs.ps_base.TyView.{TyView}
+use Rattle.ps_leaf_laws.specs.ps_base.TyView as types
+use Rattle.ps_leaf_laws.specs.ps_tree.Phrase.{Phrase}
+use Rattle.ps_leaf_laws.specs.ps_program.Node.{Node, BodyNode, body}
+use Rattle.ps_leaf_laws.specs.ps_type_text.Texts.{IsName, IsNamed, is_name_byte}
+use Rattle.ps_leaf_laws.specs.ps_typing.Names.{Meaning, class, Declared, FieldOf, lookup, lookup_field}
+use Rattle.ps_leaf_laws.specs.ps_typing.Library.{library_names, procedures, error_fields, error_class, three}
+use Rattle.ps_leaf_laws.specs.ps_typing.Placed.{placed_program}
+use Rattle.ps_leaf_laws.specs.ps_typing.Checking.{Outcome, Gives, Refuses, check}
+use Rattle.ps_leaf_laws.specs.ps_typing.Fault.{Fault}
+use Rattle.ps_leaf_laws.specs.ps_typing.Program.{Typed, measured, first_complex, bodies, verdict_of, check_program, end_line}
+use Rattle.ps_leaf_laws.specs.ps_typing.WellTyped.{At, IsOfType}
+use Rattle.ps_leaf_laws.specs.ps_soundness.Running.{IsClassText, HasField}
 use Rattle.ps_leaf_laws.specs.Leaves.{LeavesFit}
 use Rattle.ps_fit_laws.specs.Fitting.{Fits, FitsBody}
 use Rattle.ps_fit_laws.proofs.PlacedFits.{program_fits}

@@ -1,16 +1,16 @@
 -- A clause that fits still fits when its names are placed: only places and the texts of scopes are others.
 use Rattle.std.proofs.Common.{◌≡◌, List, [], ◌∷◌, map, refl, ap, subst}
-use Rattle.ps_base.specs.TyView.{TyViews}
-use Rattle.ps_base.specs.TyView as types
-use Rattle.ps_program.specs.declared.place.Place.{Place}
-use Rattle.ps_program.specs.Node.{Param, Node, Nodes, none, more, Arms, no_arms, more_arms, arm, BodyNode, body}
-use Rattle.ps_program.specs.Node as node
-use Rattle.ps_type_text.specs.Texts.{Field}
-use Rattle.ps_typing.specs.Placing.{Locals, Around}
-use Rattle.ps_typing.specs.Placed.{then_give, ◌>>=◌, placed, placed_all, placed_arms, placed_literal, placed_program}
-use Rattle.ps_typing.specs.WellTyped.{types_of_params}
-use Rattle.ps_soundness.specs.Valued.{IsValued}
-use Rattle.ps_soundness.specs.Running.{AreAsMany, HasAsMany}
+use Rattle.ps_leaf_laws.specs.ps_base.TyView.{TyViews}
+use Rattle.ps_leaf_laws.specs.ps_base.TyView as types
+use Rattle.ps_leaf_laws.specs.ps_program.declared.place.Place.{Place}
+use Rattle.ps_leaf_laws.specs.ps_program.Node.{Param, Node, Nodes, none, more, Arms, no_arms, more_arms, arm, BodyNode, body}
+use Rattle.ps_leaf_laws.specs.ps_program.Node as node
+use Rattle.ps_leaf_laws.specs.ps_type_text.Texts.{Field}
+use Rattle.ps_leaf_laws.specs.ps_typing.Placing.{Locals, Around}
+use Rattle.ps_leaf_laws.specs.ps_typing.Placed.{then_give, ◌>>=◌, placed, placed_all, placed_arms, placed_literal, placed_program}
+use Rattle.ps_leaf_laws.specs.ps_typing.WellTyped.{types_of_params}
+use Rattle.ps_leaf_laws.specs.ps_soundness.Valued.{IsValued}
+use Rattle.ps_leaf_laws.specs.ps_soundness.Running.{AreAsMany, HasAsMany}
 use Rattle.ps_fit_laws.specs.Fitting.{Fits, AllFit, ArmsFit, FitsBody}
 
 -- as many clauses as before

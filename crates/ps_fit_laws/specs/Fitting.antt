@@ -1,13 +1,13 @@
 -- Typed trees whose leaves are ints and strings, whose classes have names of a text and the fields that are named, and whose bodies take and give
 -- values.
 use Rattle.std.specs.Prelude.{◌≡◌, true}
-use Rattle.ps_program.specs.Node.{Node, Nodes, none, more, Arms, no_arms, more_arms, arm, BodyNode, body}
-use Rattle.ps_program.specs.Node as node
-use Rattle.ps_meaning.specs.Operators.{is_int}
-use Rattle.ps_meaning.specs.Texts.{is_string}
-use Rattle.ps_soundness.specs.Valued.{IsValued}
-use Rattle.ps_soundness.specs.Shapes.{type_of_body}
-use Rattle.ps_soundness.specs.Running.{IsClassText, HasField, HasAsMany}
+use Rattle.ps_leaf_laws.specs.ps_program.Node.{Node, Nodes, none, more, Arms, no_arms, more_arms, arm, BodyNode, body}
+use Rattle.ps_leaf_laws.specs.ps_program.Node as node
+use Rattle.ps_leaf_laws.specs.ps_meaning.Operators.{is_int}
+use Rattle.ps_leaf_laws.specs.ps_meaning.Texts.{is_string}
+use Rattle.ps_leaf_laws.specs.ps_soundness.Valued.{IsValued}
+use Rattle.ps_leaf_laws.specs.ps_soundness.Shapes.{type_of_body}
+use Rattle.ps_leaf_laws.specs.ps_soundness.Running.{IsClassText, HasField, HasAsMany}
 
 -- what a body takes and gives are values
 abbrev pub TakesAndGivesValues : BodyNode → Type 0

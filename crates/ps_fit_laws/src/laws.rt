@@ -1,10 +1,10 @@
 ghost use Rattle.std.specs.Prelude.{◌≡◌};
-ghost use Rattle.ps_tree.specs.Phrase.{Phrase};
-ghost use Rattle.ps_program.specs.Node.{BodyNode};
+ghost use Rattle.ps_leaf_laws.specs.ps_tree.Phrase.{Phrase};
+ghost use Rattle.ps_leaf_laws.specs.ps_program.Node.{BodyNode};
 ghost use Rattle.std.specs.List.{AllByRecursion};
-ghost use Rattle.ps_typing.specs.Program.{Typed, bodies, check_program};
-ghost use Rattle.ps_soundness.specs.Shapes.{type_of_body};
-ghost use Rattle.ps_soundness.specs.Valued.{IsValued};
+ghost use Rattle.ps_leaf_laws.specs.ps_typing.Program.{Typed, bodies, check_program};
+ghost use Rattle.ps_leaf_laws.specs.ps_soundness.Shapes.{type_of_body};
+ghost use Rattle.ps_leaf_laws.specs.ps_soundness.Valued.{IsValued};
 ghost use Rattle.ps_leaf_laws.specs.Leaves.{LeavesFit};
 ghost use Rattle.ps_fit_laws.specs.Fitting.{FitsBody};
 

@@ -5,7 +5,7 @@ use Rattle.ps_base.specs.declared.instr.Instr.{Instr}
 use Rattle.ps_program.specs.Node.{Node, Nodes, none, more, Arms, no_arms, more_arms, arm, BodyNode, body}
 use Rattle.ps_program.specs.Node as node
 use Rattle.ps_program.specs.Parts.{Part, operand, label, branch, literal, fold_all, fold_arms}
-use Rattle.ps_typing.specs.Program.{bodies, bodies_of, bodies_with, bodies_in}
+use Rattle.ps_emitter.specs.ps_typing.Program.{bodies, bodies_of, bodies_with, bodies_in}
 use Rattle.ps_gen.specs.Units.{HasUnit}
 use Rattle.ps_emitter.specs.Pieces.{AreInstrs}
 use Rattle.ps_emitter.proofs.Spelled.{all-append}

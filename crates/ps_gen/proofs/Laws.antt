@@ -16,7 +16,7 @@ use Rattle.ps_program.specs.Node.{Node, Nodes, none, more, Arms, no_arms, more_a
 use Rattle.ps_program.specs.Node as node
 use Rattle.ps_program.specs.Parts.{Part, operand, label, branch, fold_all, fold_arms}
 use Rattle.ps_program.specs.Slots.{sum_of}
-use Rattle.ps_typing.specs.Locals.{own_taken, taken_in}
+use Rattle.ps_emitter.specs.ps_typing.Locals.{own_taken, taken_in}
 use Rattle.ps_emitter.specs.Giving.{type_of, element_of}
 use Rattle.ps_emitter.specs.Choices as choice
 use Rattle.ps_emitter.proofs.ChoiceWidths.{by_type_width, width_flag, width_arith, width_compare, width_write, width_bound, width_scan}

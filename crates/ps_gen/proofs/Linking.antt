@@ -1,4 +1,4 @@
--- A clause is made of its first part and what stands behind it, or of its own pieces.
+-- A clause is made of its first part and what stands after it, or of its own pieces.
 use Rattle.std.proofs.Common.{◌≡◌, ℕ, ◌+◌, List, Some, None, refl, sym, ap, subst, ◌∙◌, arith}
 use Rattle.ps_base.specs.TyView.{TyView}
 use Rattle.ps_base.specs.declared.line.Line.{Line}
@@ -21,7 +21,7 @@ no_first is = cc is
 put_first : (p whole : Piece) {e g : Node} → Some e ≡ Some g → Same (clause e ▷ p) whole → Same (clause g ▷ p) whole
 put_first p whole is same = subst (λ x. Same (clause x ▷ p) whole) (some_is is) same
 
--- a clause is its first part and what stands behind it
+-- a clause is its first part and what stands after it
 pub linked : (before : TyView) (n f : Node) → first_part n ≡ Some f → called before ≡ called (type_of f) → Same (clause f ▷ behind_of before n) (clause n)
 linked before (node.SetName place ty e) g is knows = put_first _ _ is (set_name place ty e)
 linked before (node.Let place ty e) g is knows = put_first _ _ is (let_name place ty e)

@@ -7,8 +7,8 @@ use Rattle.ps_program.specs.declared.body.Param.{Param as ParamOf}
 use Rattle.ps_program.specs.declared.place.Place.TheVariants.{Kept}
 use Rattle.ps_program.specs.Node.{BodyNode, Param, Node, body}
 use Rattle.ps_program.specs.NodeView.{params_of, param_of, nodes_in}
-use Rattle.ps_typing.specs.Placing.{is_number}
-use Rattle.ps_typing.specs.Locals.{one_on, taken_in, taken_by_params}
+use Rattle.ps_emitter.specs.ps_typing.Placing.{is_number}
+use Rattle.ps_emitter.specs.ps_typing.Locals.{one_on, taken_in, taken_by_params}
 use Rattle.ps_gen.specs.inside.Steps.{IsUnit, IsBegun, Ends}
 use Rattle.ps_emitter.specs.declared.frame.Counts.{Counts}
 use Rattle.ps_base.specs.CodeUnit.{ConstantView, text, constant_then, constant_view, constants_view, literal, UnitView, unit}

@@ -12,10 +12,10 @@ use Rattle.ps_program.specs.declared.place.Place.{Place}
 use Rattle.ps_program.specs.declared.place.Place.TheVariants.{Plain, Kept}
 use Rattle.ps_program.specs.Node.{Param, Node, Nodes, none, more, Arms, no_arms, more_arms, arm, BodyNode, body}
 use Rattle.ps_program.specs.Node as node
-use Rattle.ps_type_text.specs.Texts.{type_text}
-use Rattle.ps_typing.specs.Placing.{is_number}
-use Rattle.ps_typing.specs.WellTyped.{types_of_params}
-use Rattle.ps_typing.specs.Locals.{locals_on, taken_by_params}
+use Rattle.ps_emitter.specs.ps_type_text.Texts.{type_text}
+use Rattle.ps_emitter.specs.ps_typing.Placing.{is_number}
+use Rattle.ps_emitter.specs.ps_typing.WellTyped.{types_of_params}
+use Rattle.ps_emitter.specs.ps_typing.Locals.{locals_on, taken_by_params}
 use Rattle.ps_emitter.specs.Choices as choice
 use Rattle.ps_gen.specs.Emission.{size_entered, count_scope, entered, emit}
 
@@ -28,7 +28,7 @@ abbrev pub size_kept_at : Place → ℕ
 size_kept_at (Plain slot) = 0
 size_kept_at (Kept up position) = 14
 
--- the parameters behind so many on each stack
+-- the parameters after so many on each stack
 abbrev pub keeps : List Param → ℕ → ℕ → List Instr
 keeps [] nums refs = []
 keeps (param ∷ rest) nums refs =
@@ -39,7 +39,7 @@ abbrev pub size_keeps : List Param → ℕ
 size_keeps [] = 0
 size_keeps (param ∷ rest) = size_kept_at param.place + size_keeps rest
 
--- Constant 0 is the type of the procedure. The clause's own begin behind it and the scope's.
+-- Constant 0 is the type of the procedure. The clause's own begin after it and the scope's.
 abbrev pub body_instrs : List Param → TyView → Node → Option (List ℕ) → List Instr
 body_instrs params gives tree scope =
     entered scope 1 ++ (keeps params 0 0 ++ (emit tree (size_entered scope + size_keeps params) (1 + count_scope scope) ++ instr.Return (choice.kind_of gives) ∷ []))

@@ -2,7 +2,7 @@ ghost use Rattle.std.specs.Prelude.{◌≡◌, IfOk};
 ghost use Rattle.ps_base.specs.CodeUnit.{unit_view};
 ghost use Rattle.ps_program.specs.NodeView.{body_of};
 ghost use Rattle.std.specs.List.{AllByRecursion};
-ghost use Rattle.ps_typing.specs.Program.{bodies};
+ghost use Rattle.ps_emitter.specs.ps_typing.Program.{bodies};
 ghost use Rattle.ps_gen.specs.Units.{unit_of, HasUnit};
 
 use crate::literals::unit;

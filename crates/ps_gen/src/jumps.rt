@@ -16,7 +16,7 @@ use ps_emitter::forward::Forward;
 use ps_program::form::{Loop, Tree};
 use std::alloc::AllocError;
 
-// The offset so many bytes behind what was made so far.
+// The offset so many bytes after what was made so far.
 fn ahead(emitter: &Emitter, bytes: u32) -> Result<u32, AllocError>
     ensures { IfOk result (λ at. at ≡ at_end (state_of emitter.now) + bytes) }
 {
@@ -62,7 +62,7 @@ pub(crate) fn if_else(emitter: &mut Emitter, c: &Tree, a: &Tree, b: &Tree) -> Re
     emitter.overwrite(test, Instr::JumpFalse { t: other })
 }
 
-/// A loop with its test in front.
+/// A loop with its test at the start.
 #[cycle(tree)]
 pub(crate) fn while_loop(emitter: &mut Emitter, c: &Tree, a: &Tree) -> Result<(), AllocError>
     ensures { OnOk result (Puts (made (node.While (node_of c.now) (node_of a.now))) (state_of emitter.old) (state_of emitter.new)) }

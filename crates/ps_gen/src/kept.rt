@@ -1,6 +1,6 @@
 ghost use Rattle.std.specs.Prelude.{◌≡◌, true, false, IfOk, OnOk};
 ghost use Rattle.ps_program.specs.NodeView.{param_of, params_of};
-ghost use Rattle.ps_typing.specs.Locals.{taken_by_params};
+ghost use Rattle.ps_emitter.specs.ps_typing.Locals.{taken_by_params};
 ghost use Rattle.ps_emitter.specs.Pieces.{state_of, Puts};
 ghost use Rattle.ps_gen.specs.inside.Clauses.{keeping, keep_one};
 

@@ -1,6 +1,6 @@
 //! The code of a typed program: the unit of each body.
 //!
-//! `generate` is the whole of it. It goes over the tree once, and puts the instructions of each clause behind those before it.
+//! `generate` is the whole of it. It goes over the tree once, and puts the instructions of each clause after those before it.
 #![tactic(auto)]
 
 mod begun;
@@ -13,3 +13,5 @@ mod operands;
 mod scans;
 mod scopes;
 mod tree;
+
+pub use ps_emitter::ps_code;

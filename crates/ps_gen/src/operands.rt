@@ -14,7 +14,7 @@ use ps_emitter::naming::Naming;
 use ps_program::form::Tree;
 use std::alloc::AllocError;
 
-/// Clauses, one behind the other.
+/// Clauses, one after the other.
 #[cycle(tree)]
 pub(crate) fn all(emitter: &mut Emitter, items: &[Tree]) -> Result<(), AllocError>
     ensures { OnOk result (Puts (clauses (nodes_in items.now)) (state_of emitter.old) (state_of emitter.new)) }
@@ -25,7 +25,7 @@ pub(crate) fn all(emitter: &mut Emitter, items: &[Tree]) -> Result<(), AllocErro
     Ok(())
 }
 
-/// A clause, and behind it an instruction.
+/// A clause, and after it an instruction.
 #[cycle(tree)]
 pub(crate) fn one_then(emitter: &mut Emitter, a: &Tree, instr: Instr) -> Result<(), AllocError>
     ensures { OnOk result (Puts (clause (node_of a.now) ▷ one instr) (state_of emitter.old) (state_of emitter.new)) }
@@ -34,7 +34,7 @@ pub(crate) fn one_then(emitter: &mut Emitter, a: &Tree, instr: Instr) -> Result<
     emitter.put(instr)
 }
 
-/// Two clauses, and behind them an instruction.
+/// Two clauses, and after them an instruction.
 #[cycle(tree)]
 pub(crate) fn two_then(
     emitter: &mut Emitter,
@@ -48,7 +48,7 @@ pub(crate) fn two_then(
     one_then(emitter, b, instr)
 }
 
-/// Clauses, and behind them an instruction.
+/// Clauses, and after them an instruction.
 #[cycle(tree)]
 pub(crate) fn all_then(
     emitter: &mut Emitter,

@@ -35,7 +35,7 @@ pub(crate) fn tree(emitter: &mut Emitter, tree: &Tree) -> Result<(), AllocError>
     Ok(())
 }
 
-// The code of a link behind its first part.
+// The code of a link after its first part.
 #[cycle(tree)]
 fn behind(emitter: &mut Emitter, link: &Tree, known: Known) -> Result<(), AllocError>
     ensures { OnOk result (Puts (behind_of (type_in known.entry) (node_of link.now)) (state_of emitter.old) (state_of emitter.new)) }

@@ -3,7 +3,7 @@ use Rattle.std.proofs.Common.{◌≡◌, ℕ, List, [], ◌∷◌, false, refl}
 use Rattle.std.specs.Prelude.{codes}
 use Rattle.ps_base.specs.TyView as ty
 use Rattle.ps_base.specs.declared.operator.Operator.TheVariants as arith
-use Rattle.ps_scan.specs.Tokens.{line_of}
+use Rattle.ps_tree.specs.ps_scan.Tokens.{line_of}
 use Rattle.ps_tree.specs.Phrase.{NameAt, GroupAt, Phrase, at, Form, Phrases, none, more, absent, present, no_arms, more_arms, arm, item, no_items, more_items}
 use Rattle.ps_tree.specs.Phrase as form
 use Rattle.ps_layout.specs.Lexemes.{text_of}
@@ -23,7 +23,7 @@ procedure_printed : printed (p (form.Sequence (more (p (form.Let (name (codes "f
 unfolding text_of
 procedure_printed = refl
 
--- the `repeat` without `do` stands in brackets in front of one
+-- the `repeat` without `do` stands in brackets before one
 loop_printed : printed (p (form.Sequence (more (p (form.While (p (form.IfDo (n (codes "x")) (p (form.Repeat (n (codes "a")) (n (codes "b")) absent)))) (p (form.Sequence none)))) none))) ≡ codes "while if x do (repeat a while b) do {};\n"
 unfolding text_of
 loop_printed = refl

@@ -1,5 +1,5 @@
 -- How a tree is laid out as a text that a person can read: blocks in braces, each item on a line of
--- its own with a `;` behind it, one blank round operators, and brackets where the grammar needs them.
+-- its own with a `;` after it, one blank round operators, and brackets where the grammar needs them.
 use Rattle.std.specs.Prelude.{ℕ, ◌+◌, nat_abs, List, [], ◌∷◌, ◌++◌, Bool, true, false, nat_lt, slice_get, if◌then◌else◌}
 use Rattle.std.specs.Option.{unwrap_or}
 use Rattle.ps_base.specs.TyView.{TyView, TyViews}
@@ -8,12 +8,12 @@ use Rattle.ps_base.specs.declared.operator.Operator.{Operator}
 use Rattle.ps_base.specs.declared.operator.Operator.TheVariants as arith
 use Rattle.ps_base.specs.declared.operator.Relation.{Relation}
 use Rattle.ps_base.specs.declared.operator.Relation.TheVariants as order
-use Rattle.ps_scan.specs.declared.token.TokenKind.{TokenKind}
-use Rattle.ps_scan.specs.declared.token.TokenKind.TheVariants.{Word, Mark}
-use Rattle.ps_scan.specs.declared.token.TokenKind.TheVariants as scanned
-use Rattle.ps_scan.specs.Names.{reserved_words, marks}
-use Rattle.ps_scan.specs.declared.word.TheConstants as word
-use Rattle.ps_scan.specs.declared.mark.TheConstants as mark
+use Rattle.ps_tree.specs.ps_scan.declared.token.TokenKind.{TokenKind}
+use Rattle.ps_tree.specs.ps_scan.declared.token.TokenKind.TheVariants.{Word, Mark}
+use Rattle.ps_tree.specs.ps_scan.declared.token.TokenKind.TheVariants as scanned
+use Rattle.ps_tree.specs.ps_scan.Names.{reserved_words, marks}
+use Rattle.ps_tree.specs.ps_scan.declared.word.TheConstants as word
+use Rattle.ps_tree.specs.ps_scan.declared.mark.TheConstants as mark
 use Rattle.ps_tree.specs.Phrase.{NameAt, GroupAt, Phrase, at, Form, Phrases, none, more, MaybePhrase, absent, present, Arm, Arms, no_arms, more_arms, arm, WriteItem, item, WriteItems, no_items, more_items}
 use Rattle.ps_tree.specs.Phrase as form
 use Rattle.ps_layout.specs.Lexemes.{Gap, nothing, blank, newline, Lexeme, printed as printed_as}
@@ -36,7 +36,7 @@ the_mark gap place = lexeme gap (Mark place) (name_at marks place)
 abbrev pub name_lexeme : Gap → List ℕ → Lexeme
 name_lexeme gap name = lexeme gap scanned.Name name
 
--- brackets, commas and semicolons stand without a blank behind what they follow
+-- brackets, commas and semicolons stand without a blank after what they follow
 abbrev pub open_round : Gap → Lexeme
 open_round gap = the_mark gap mark.OPEN_ROUND
 
@@ -59,7 +59,7 @@ do_word = the_word blank word.DO
 abbrev pub in_brackets : Gap → List Lexeme → List Lexeme
 in_brackets gap inner = open_round gap ∷ (inner ++ close_round ∷ [])
 
--- the type of a result behind its arrow; a procedure without a result has none
+-- the type of a result after its arrow; a procedure without a result has none
 abbrev pub behind_arrow : TyView → List Lexeme → List Lexeme
 behind_arrow ty.Void shown = []
 behind_arrow _ shown = the_mark blank mark.ARROW ∷ shown
@@ -166,8 +166,8 @@ tightness _ = loosest
 abbrev pub is_looser : Form → Tightness → Bool
 is_looser f needed = nat_lt (number_of (tightness f)) (number_of needed)
 
--- what stands behind a clause, where it could be read as part of it: `do` behind a `repeat` that has
--- none, `,` behind a `write`, and `:` behind one whose last item has no width
+-- what stands after a clause, where it could be read as part of it: `do` after a `repeat` that has
+-- none, `,` after a `write`, and `:` after one whose last item has no width
 pub data Behind : Type 0 where
   other : Behind
   before_do : Behind
@@ -186,7 +186,7 @@ is_taken before_comma (form.Write items) = true
 is_taken before_colon (form.Write items) = ends_open items
 is_taken _ _ = false
 
--- what stands behind an item that is followed by these, or by what is behind them all
+-- what stands after an item that is followed by these, or by what is after them all
 abbrev pub behind_clause : Behind → Phrases → Behind
 behind_clause last none = last
 behind_clause last (more first rest) = before_comma
@@ -227,7 +227,7 @@ becomes false = the_mark blank mark.EQUALS
 becomes true = the_mark blank mark.BECOMES
 
 abbrev mutual
-  -- a form at this indentation, in front of what stands behind it, where the gap stands before it;
+  -- a form at this indentation, before what stands after it, where the gap stands before it;
   -- `procedure` stands for a `let` of a procedure
   pub form_lexemes : ℕ → Behind → Gap → Form → List Lexeme
   form_lexemes n behind gap (form.Sequence items) = block_lexemes n gap items
@@ -286,7 +286,7 @@ abbrev mutual
       the_mark gap mark.AT ∷ (clause_lexemes n other nothing l ++ the_word blank word.OF ∷ (type_lexemes blank t ++ the_mark blank mark.OPEN_SQUARE
       ∷ (clauses_lexemes n nothing other items ++ the_mark nothing mark.CLOSE_SQUARE ∷ [])))
 
-  -- a clause; what would take what stands behind it stands in brackets
+  -- a clause; what would take what stands after it stands in brackets
   pub clause_lexemes : ℕ → Behind → Gap → Phrase → List Lexeme
   clause_lexemes n behind gap (at f line) =
       if is_taken behind f then in_brackets gap (form_lexemes n other nothing f) else form_lexemes n behind gap f
@@ -302,12 +302,12 @@ abbrev mutual
       the_mark gap mark.OPEN_CURLY ∷ (clause_lexemes (n + 2) other (newline (n + 2)) first ++ semicolon ∷ (lines_lexemes (n + 2) rest
       ++ the_mark (newline n) mark.CLOSE_CURLY ∷ []))
 
-  -- the items behind the first of a block, each on a line of its own with a `;` behind it
+  -- the items after the first of a block, each on a line of its own with a `;` after it
   pub lines_lexemes : ℕ → Phrases → List Lexeme
   lines_lexemes n none = []
   lines_lexemes n (more first rest) = clause_lexemes n other (newline n) first ++ semicolon ∷ lines_lexemes n rest
 
-  -- clauses with commas between them; behind the last there is this
+  -- clauses with commas between them; after the last there is this
   pub clauses_lexemes : ℕ → Gap → Behind → Phrases → List Lexeme
   clauses_lexemes n gap last none = []
   clauses_lexemes n gap last (more first rest) = clause_lexemes n (behind_clause last rest) gap first ++ more_clauses_lexemes n last rest

@@ -1,6 +1,6 @@
--- A text as it is printed: lexemes, each behind a gap.
+-- A text as it is printed: lexemes, each after a gap.
 use Rattle.std.specs.Prelude.{ℕ, List, [], ◌∷◌, ◌++◌, replicate}
-use Rattle.ps_scan.specs.declared.token.TokenKind.{TokenKind}
+use Rattle.ps_tree.specs.ps_scan.declared.token.TokenKind.{TokenKind}
 
 -- what stands before a lexeme: nothing, one blank, or a newline and so many blanks
 pub data Gap : Type 0 where

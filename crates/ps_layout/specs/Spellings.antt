@@ -15,6 +15,6 @@ escaped_byte byte =
     else (if byte == 34 then 39 ∷ 34 ∷ []
     else byte ∷ [])))
 
--- a string that spells these bytes, behind a quote and before one
+-- a string that spells these bytes, after a quote and before one
 abbrev pub string_text : List ℕ → List ℕ
 string_text bytes = 34 ∷ (flat_map escaped_byte bytes ++ 34 ∷ [])

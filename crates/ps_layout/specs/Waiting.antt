@@ -1,8 +1,8 @@
 -- What is still to be printed, as lexemes, and how much it is.
 use Rattle.std.specs.Prelude.{◌≡◌, ℕ, ◌+◌, ◌<◌, Bool, true, false, List, [], ◌∷◌, ◌++◌, reverse}
 use Rattle.ps_base.specs.TyView.{ty_view, ty_views}
-use Rattle.ps_scan.specs.declared.word.TheConstants as word
-use Rattle.ps_scan.specs.declared.token.TokenKind.TheVariants as scanned
+use Rattle.ps_tree.specs.ps_scan.declared.word.TheConstants as word
+use Rattle.ps_tree.specs.ps_scan.declared.token.TokenKind.TheVariants as scanned
 use Rattle.ps_tree.specs.Phrase.{NameAt, Phrase, at, Form, Sequence, none, form_of, phrase_of, arm_of, item_of, of_type, names_in, groups_in}
 use Rattle.ps_tree.specs.Phrase as form
 use Rattle.ps_tree.specs.PhraseLists.{phrases_in, arms_in, items_in}
@@ -140,7 +140,7 @@ abbrev pub is_empty_program : Phrase → Bool
 is_empty_program (at (Sequence none) line) = true
 is_empty_program _ = false
 
--- After a step the text, and what is then still to be printed behind it, are what they were together.
+-- After a step the text, and what is then still to be printed after it, are what they were together.
 pub record Prints (text : List ℕ) (old : List Piece) (text' : List ℕ) (new : List Piece) : Type 0 where
   pub same : text' ++ text_of (lexemes_of new) ≡ text ++ text_of (lexemes_of old)
   pub lighter : weight_of new < weight_of old

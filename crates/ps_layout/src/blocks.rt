@@ -6,7 +6,7 @@ ghost use Rattle.ps_layout.specs.Waiting.{waiting, AddsForm};
 
 use crate::pending::Pending;
 use crate::piece::{Gap, Piece, Spot, deeper};
-use ps_scan::mark;
+use ps_tree::ps_scan::mark;
 use ps_tree::rough::Rough;
 use std::alloc::AllocError;
 

@@ -10,7 +10,7 @@ ghost use Rattle.ps_layout.specs.Waiting.{waiting, Adds, AddsForm, let_lexemes, 
 use crate::pending::Pending;
 use crate::piece::{Gap, Piece, Spot};
 use ps_base::ty::Ty;
-use ps_scan::{mark, word};
+use ps_tree::ps_scan::{mark, word};
 use ps_tree::rough::{Group, Named, Rough, RoughForm};
 use std::alloc::AllocError;
 

@@ -13,7 +13,7 @@ use crate::piece::{Gap, Piece, Spot, Tightness};
 use crate::statements::{
     put_assign, put_case, put_conditional, put_for, put_if_else, put_repeat, put_write,
 };
-use ps_scan::{mark, word};
+use ps_tree::ps_scan::{mark, word};
 use ps_tree::rough::RoughForm;
 use std::alloc::AllocError;
 

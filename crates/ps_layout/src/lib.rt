@@ -8,3 +8,5 @@ mod operators;
 pub mod pending;
 pub mod piece;
 mod statements;
+
+pub use ps_tree::ps_scan;

@@ -13,7 +13,7 @@ use crate::pending::Pending;
 use crate::piece::{Behind, Gap, Piece, Spot, Tightness};
 use ps_base::operator::{Operator, Relation};
 use ps_base::ty::Ty;
-use ps_scan::{mark, word};
+use ps_tree::ps_scan::{mark, word};
 use ps_tree::rough::{Named, Rough};
 use std::alloc::AllocError;
 

@@ -16,8 +16,8 @@ pub enum Gap {
     Newline(usize),
 }
 
-/// What stands behind a clause, where it could be read as part of it: `do` behind a `repeat` that
-/// has none, `,` behind a `write`, and `:` behind one whose last item has no width.
+/// What stands after a clause, where it could be read as part of it: `do` after a `repeat` that
+/// has none, `,` after a `write`, and `:` after one whose last item has no width.
 #[derive(Clone, Copy)]
 pub enum Behind {
     Other,
@@ -54,7 +54,7 @@ impl Tightness {
     }
 }
 
-/// Where something is printed: how far the lines inside it stand to the right, what stands behind
+/// Where something is printed: how far the lines inside it stand to the right, what stands after
 /// it, and the gap before it.
 #[derive(Clone, Copy)]
 pub struct Spot {
@@ -75,7 +75,7 @@ impl Spot {
         }
     }
 
-    /// That of what stands inside, behind a blank and before this.
+    /// That of what stands inside, after a blank and before this.
     pub fn before(self, behind: Behind) -> Spot
         ensures { result ≡ record { indent = self.indent; behind = behind; gap = Gap.Blank } }
     {
@@ -86,14 +86,14 @@ impl Spot {
         }
     }
 
-    /// That of what stands at the end, behind a blank.
+    /// That of what stands at the end, after a blank.
     pub fn last(self) -> Spot
         ensures { result ≡ record { indent = self.indent; behind = self.behind; gap = Gap.Blank } }
     {
         self.before(self.behind)
     }
 
-    /// That of what stands inside, right behind a bracket or a mark.
+    /// That of what stands inside, right after a bracket or a mark.
     pub fn glued(self) -> Spot
         ensures { result ≡ record { indent = self.indent; behind = Behind.Other; gap = Gap.Nothing } }
     {
@@ -119,34 +119,34 @@ pub enum Piece<'a> {
     Text(Gap, &'a [u8]),
     /// A form without brackets round it.
     Form(Spot, &'a RoughForm),
-    /// A clause, in brackets where it would take what stands behind it.
+    /// A clause, in brackets where it would take what stands after it.
     Clause(Spot, &'a Rough),
     /// An operand, in brackets where it binds looser than this.
     Operand(Tightness, usize, Gap, &'a Rough),
     /// Items of a block or a program, each on a line of its own.
     Lines(usize, &'a [Rough]),
-    /// Clauses with commas between them; the spot is that of the first, but behind the last.
+    /// Clauses with commas between them; the spot is that of the first, but after the last.
     Clauses(Spot, &'a [Rough]),
-    /// Clauses behind others, each behind a comma.
+    /// Clauses after others, each after a comma.
     MoreClauses(usize, Behind, &'a [Rough]),
     /// Arms of a `case`.
     Arms(usize, &'a [RoughArm]),
     Arm(usize, &'a RoughArm),
     /// Items of a `write`.
     Items(usize, Behind, &'a [RoughItem]),
-    /// Items behind others, each behind a comma.
+    /// Items after others, each after a comma.
     MoreItems(usize, Behind, &'a [RoughItem]),
     Item(usize, Behind, &'a RoughItem),
     Type(Gap, &'a Ty),
     /// The types of parameters.
     Types(&'a [Ty]),
-    /// Types behind others, each behind a comma.
+    /// Types after others, each after a comma.
     MoreTypes(&'a [Ty]),
-    /// The type of a result, behind its arrow.
+    /// The type of a result, after its arrow.
     Gives(&'a Ty),
     /// The parameters of a procedure, or the fields of a structure.
     Groups(&'a [Group]),
-    /// Names that share this type with one before them, and groups behind them, each behind a
+    /// Names that share this type with one before them, and groups after them, each after a
     /// semicolon.
     MoreGroups(&'a Ty, &'a [Named], &'a [Group]),
     /// A parameter or a field, with its type.

@@ -10,7 +10,7 @@ ghost use Rattle.ps_layout.specs.Waiting.{waiting, gap_of, behind_of, Adds, Adds
 
 use crate::pending::Pending;
 use crate::piece::{Behind, Gap, Piece, Spot, Tightness, deeper};
-use ps_scan::{mark, word};
+use ps_tree::ps_scan::{mark, word};
 use ps_tree::rough::{Named, Rough, RoughArm, RoughItem, RoughRange};
 use std::alloc::AllocError;
 

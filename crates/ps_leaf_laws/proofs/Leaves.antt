@@ -4,21 +4,21 @@ use Rattle.std.specs.List.{AllPass}
 use Rattle.std.proofs.lemmas.Bool.Decides.{nat_tests}
 use Rattle.std.proofs.lemmas.List.Elements.{All-head, All-tail, All-get_or}
 use Rattle.std.proofs.lemmas.Option.{slice_get_within, get_or_from_slice_get}
-use Rattle.ps_scan.specs.declared.token.Token.{Token}
-use Rattle.ps_scan.specs.declared.token.TokenKind.{TokenKind}
-use Rattle.ps_scan.specs.declared.token.TokenKind.TheVariants as scanned
-use Rattle.ps_scan.specs.Class as scan
-use Rattle.ps_scan.specs.Tokens.{HasTokens, IsSpelled, slice_of, int_value, spelled}
-use Rattle.ps_scan.proofs.Scanning.{all_tokens}
-use Rattle.ps_symbols.specs.declared.kind.Kind.{Kind}
-use Rattle.ps_symbols.specs.declared.kind.Kind.TheVariants as kind
-use Rattle.ps_symbols.specs.declared.symbol.Symbol.{Symbol}
-use Rattle.ps_symbols.specs.Kinds.{kind_of}
-use Rattle.ps_symbols.specs.Symbols.{symbols}
-use Rattle.ps_symbols.proofs.SymbolLemmas.{leaf, not_word, not_mark, all_symbols}
-use Rattle.ps_type_text.specs.Texts.{IsName, is_name_byte}
-use Rattle.ps_meaning.specs.Operators.{is_int}
-use Rattle.ps_meaning.specs.Texts.{is_string}
+use Rattle.ps_parse.specs.ps_scan.declared.token.Token.{Token}
+use Rattle.ps_parse.specs.ps_scan.declared.token.TokenKind.{TokenKind}
+use Rattle.ps_parse.specs.ps_scan.declared.token.TokenKind.TheVariants as scanned
+use Rattle.ps_parse.specs.ps_scan.Class as scan
+use Rattle.ps_parse.specs.ps_scan.Tokens.{HasTokens, IsSpelled, slice_of, int_value, spelled}
+use Rattle.ps_parse.proofs.of_ps_scan.Scanning.{all_tokens}
+use Rattle.ps_parse.specs.ps_symbols.declared.kind.Kind.{Kind}
+use Rattle.ps_parse.specs.ps_symbols.declared.kind.Kind.TheVariants as kind
+use Rattle.ps_parse.specs.ps_symbols.declared.symbol.Symbol.{Symbol}
+use Rattle.ps_parse.specs.ps_symbols.Kinds.{kind_of}
+use Rattle.ps_parse.specs.ps_symbols.Symbols.{symbols}
+use Rattle.ps_parse.proofs.of_ps_symbols.SymbolLemmas.{leaf, not_word, not_mark, all_symbols}
+use Rattle.ps_soundness.specs.ps_type_text.Texts.{IsName, is_name_byte}
+use Rattle.ps_soundness.specs.ps_meaning.Operators.{is_int}
+use Rattle.ps_soundness.specs.ps_meaning.Texts.{is_string}
 
 -- what is so of the bytes of a token of this kind
 abbrev pub FitsAs : List ℕ → Kind → Token → Type 0

@@ -1,43 +1,43 @@
 -- In what the grammar reads each leaf fits, where the symbols fit.
 use Rattle.std.proofs.Common.{ℕ, Bool, true, false, List, [], ◌∷◌, ◌++◌, subst}
 use Rattle.std.specs.Prelude.{Option, Some, None, option_map}
-use Rattle.ps_base.specs.TyView.{TyView, TyViews, and_type}
-use Rattle.ps_base.specs.TyView as types
-use Rattle.ps_base.specs.declared.line.Line.{Line}
-use Rattle.ps_symbols.specs.declared.kind.Kind.{Kind}
-use Rattle.ps_symbols.specs.declared.kind.Kind.TheVariants as kind
-use Rattle.ps_symbols.specs.declared.kind.Level.{Level}
-use Rattle.ps_symbols.specs.declared.kind.Level.TheVariants.{Disjunction, Conjunction, Sum, Product}
-use Rattle.ps_symbols.specs.declared.kind.Operation.{Operation}
-use Rattle.ps_symbols.specs.declared.kind.Operation.TheVariants as operation
-use Rattle.ps_symbols.specs.declared.kind.Opening.{Opening}
-use Rattle.ps_symbols.specs.declared.kind.Opening.TheVariants as opening
-use Rattle.ps_symbols.specs.declared.kind.Relating.{Relating}
-use Rattle.ps_symbols.specs.declared.kind.Relating.TheVariants.{Compares, IsOf}
-use Rattle.ps_symbols.specs.declared.kind.Start.{Start}
-use Rattle.ps_symbols.specs.declared.kind.Start.TheVariants as start
-use Rattle.ps_symbols.specs.declared.kind.TypeStart.{TypeStart}
-use Rattle.ps_symbols.specs.declared.kind.TypeStart.TheVariants as typed
-use Rattle.ps_symbols.specs.declared.symbol.Symbol.{Symbol}
-use Rattle.ps_symbols.specs.Kinds.{operation_of, relating_of, begins_item, begins_type, opening_of, start_of, type_start_of}
-use Rattle.ps_tree.specs.Phrase.{NameAt, GroupAt, Phrase, Phrases, none, more, Arms, no_arms, more_arms, arm, WriteItem, item, WriteItems, no_items, more_items}
-use Rattle.ps_tree.specs.Composing.{and_then, and_arm, and_item, joined}
-use Rattle.ps_reader.specs.Grammar.{Made, a_clause, Part, Nested, a_clause_inside, a_type_inside, Rule, Give, Take, Go, Open, Then}
-use Rattle.ps_reader.specs.Grammar.{the_clause, the_type, the_types, the_groups, the_item}
-use Rattle.ps_reader.specs.Grammar as grammar
-use Rattle.ps_reader.specs.Reading.{Reads, kind_at}
-use Rattle.ps_reader.specs.Reading as reading
+use Rattle.ps_parse.specs.ps_base.TyView.{TyView, TyViews, and_type}
+use Rattle.ps_parse.specs.ps_base.TyView as types
+use Rattle.ps_parse.specs.ps_base.declared.line.Line.{Line}
+use Rattle.ps_parse.specs.ps_symbols.declared.kind.Kind.{Kind}
+use Rattle.ps_parse.specs.ps_symbols.declared.kind.Kind.TheVariants as kind
+use Rattle.ps_parse.specs.ps_symbols.declared.kind.Level.{Level}
+use Rattle.ps_parse.specs.ps_symbols.declared.kind.Level.TheVariants.{Disjunction, Conjunction, Sum, Product}
+use Rattle.ps_parse.specs.ps_symbols.declared.kind.Operation.{Operation}
+use Rattle.ps_parse.specs.ps_symbols.declared.kind.Operation.TheVariants as operation
+use Rattle.ps_parse.specs.ps_symbols.declared.kind.Opening.{Opening}
+use Rattle.ps_parse.specs.ps_symbols.declared.kind.Opening.TheVariants as opening
+use Rattle.ps_parse.specs.ps_symbols.declared.kind.Relating.{Relating}
+use Rattle.ps_parse.specs.ps_symbols.declared.kind.Relating.TheVariants.{Compares, IsOf}
+use Rattle.ps_parse.specs.ps_symbols.declared.kind.Start.{Start}
+use Rattle.ps_parse.specs.ps_symbols.declared.kind.Start.TheVariants as start
+use Rattle.ps_parse.specs.ps_symbols.declared.kind.TypeStart.{TypeStart}
+use Rattle.ps_parse.specs.ps_symbols.declared.kind.TypeStart.TheVariants as typed
+use Rattle.ps_parse.specs.ps_symbols.declared.symbol.Symbol.{Symbol}
+use Rattle.ps_parse.specs.ps_symbols.Kinds.{operation_of, relating_of, begins_item, begins_type, opening_of, start_of, type_start_of}
+use Rattle.ps_parse.specs.ps_tree.Phrase.{NameAt, GroupAt, Phrase, Phrases, none, more, Arms, no_arms, more_arms, arm, WriteItem, item, WriteItems, no_items, more_items}
+use Rattle.ps_parse.specs.ps_tree.Composing.{and_then, and_arm, and_item, joined}
+use Rattle.ps_parse.specs.ps_reader.Grammar.{Made, a_clause, Part, Nested, a_clause_inside, a_type_inside, Rule, Give, Take, Go, Open, Then}
+use Rattle.ps_parse.specs.ps_reader.Grammar.{the_clause, the_type, the_types, the_groups, the_item}
+use Rattle.ps_parse.specs.ps_reader.Grammar as grammar
+use Rattle.ps_parse.specs.ps_reader.Reading.{Reads, kind_at}
+use Rattle.ps_parse.specs.ps_reader.Reading as reading
 use Rattle.ps_parse.specs.Program.{ReadsAs}
-use Rattle.ps_scan.specs.declared.token.Token.{Token}
-use Rattle.ps_scan.specs.Tokens.{HasTokens}
-use Rattle.ps_symbols.specs.Symbols.{symbols}
-use Rattle.ps_type_text.specs.Texts.{IsName}
+use Rattle.ps_parse.specs.ps_scan.declared.token.Token.{Token}
+use Rattle.ps_parse.specs.ps_scan.Tokens.{HasTokens}
+use Rattle.ps_parse.specs.ps_symbols.Symbols.{symbols}
+use Rattle.ps_soundness.specs.ps_type_text.Texts.{IsName}
 use Rattle.ps_soundness.specs.Valued.{IsValued, IsGiven, AllValued}
 use Rattle.ps_soundness.proofs.Valued.{given_by}
 use Rattle.ps_leaf_laws.specs.Leaves.{AreGroups, LeavesFit, LeavesFitInAll, LeavesFitInMaybe, LeavesFitInArms, LeavesFitInWritten}
 use Rattle.ps_leaf_laws.proofs.Leaves.{FitsAs, AllFit, symbols_fit}
 
--- what is so of what a part gives, and of what it goes on behind
+-- what is so of what a part gives, and of what it goes on after
 abbrev PartGives : Part → Made → Type 0
 PartGives grammar.Written made = LeavesFitInWritten (more_items (the_item made) no_items)
 PartGives (grammar.Width e) made = LeavesFitInWritten (more_items (the_item made) no_items)
@@ -129,7 +129,7 @@ module _ (text : List ℕ) where
   GoodRow None Is = Unit {0}
   GoodRow (Some rule) Is = Good rule Is
 
-  -- The rows of the grammar: each is good where what its part goes on behind fits.
+  -- The rows of the grammar: each is good where what its part goes on after fits.
   good_ending : (all : Phrase) (kind : Kind) → LeavesFit all → GoodRow (grammar.ending all kind) (λ made. LeavesFit (the_clause made))
   good_ending all kind.Question ok = λ s _. (ok, λ m h. h)
   good_ending all kind.EndOfText ok = ok

@@ -1,7 +1,7 @@
 ghost use Rattle.std.specs.Prelude.{ℕ, List};
-ghost use Rattle.ps_scan.specs.declared.token.Token.{Token};
-ghost use Rattle.ps_scan.specs.Tokens.{HasTokens};
-ghost use Rattle.ps_tree.specs.Phrase.{Phrase};
+ghost use Rattle.ps_parse.specs.ps_scan.declared.token.Token.{Token};
+ghost use Rattle.ps_parse.specs.ps_scan.Tokens.{HasTokens};
+ghost use Rattle.ps_parse.specs.ps_tree.Phrase.{Phrase};
 ghost use Rattle.ps_parse.specs.Program.{ReadsAs};
 ghost use Rattle.ps_leaf_laws.specs.Leaves.{LeavesFit};
 

@@ -1,5 +1,5 @@
 ghost use Rattle.std.specs.Prelude.{◌≡◌, ◌∷◌, ◌++◌, [], map, flat_map, replicate, OnOk};
-ghost use Rattle.ps_scan.specs.Names.{reserved_words, marks};
+ghost use Rattle.ps_layout.specs.ps_scan.Names.{reserved_words, marks};
 ghost use Rattle.ps_layout.specs.Lexemes.{gap_bytes};
 ghost use Rattle.ps_layout.specs.Spellings.{int_text, string_text, escaped_byte};
 ghost use Rattle.ps_layout.specs.Layout.{name_at};
@@ -7,7 +7,7 @@ ghost use Rattle.ps_layout.specs.Waiting.{gap_of};
 
 use itoa::Buffer;
 use ps_layout::piece::Gap;
-use ps_scan::{mark, word};
+use ps_layout::ps_scan::{mark, word};
 use std::alloc::AllocError;
 
 /// Writes what stands before a lexeme, and its spelling.

@@ -87,7 +87,7 @@ impl<T: Named> Log<T> {
         }
     }
 
-    /// Whether there is an entry of the name behind so many.
+    /// Whether there is an entry of the name after so many.
     pub fn has_behind(&self, count: usize, name: &[u8]) -> bool
         requires { count ≤ length self.now }
         ensures { result ≡ is_some (first_named T.name (reverse (drop count self.now)) name.now) }
@@ -98,7 +98,7 @@ impl<T: Named> Log<T> {
         }
     }
 
-    /// Puts the entry behind the others. A refusal leaves them as they were.
+    /// Puts the entry after the others. A refusal leaves them as they were.
     pub fn push(&mut self, entry: T) -> Result<(), AllocError>
     where
         T: Drop,

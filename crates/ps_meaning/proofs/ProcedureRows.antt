@@ -8,10 +8,10 @@ use Rattle.ps_base.specs.TyView as ty
 use Rattle.ps_base.specs.declared.trap.Trap.TheVariants as trap
 use Rattle.ps_base.specs.declared.operator.Operator.TheVariants.{Add, Sub}
 use Rattle.ps_base.specs.declared.operator.Relation.TheVariants.{Equal}
-use Rattle.ps_program.specs.declared.place.Place.{Place}
-use Rattle.ps_program.specs.declared.place.Place.TheVariants.{Plain, Kept}
-use Rattle.ps_program.specs.Node.{Param, Node, Nodes, none, more, BodyNode, body}
-use Rattle.ps_program.specs.Node as node
+use Rattle.ps_typing.specs.ps_program.declared.place.Place.{Place}
+use Rattle.ps_typing.specs.ps_program.declared.place.Place.TheVariants.{Plain, Kept}
+use Rattle.ps_typing.specs.ps_program.Node.{Param, Node, Nodes, none, more, BodyNode, body}
+use Rattle.ps_typing.specs.ps_program.Node as node
 use Rattle.ps_meaning.specs.Event.{Event, Out, Finish, Done, Trapped, OutOfTurns}
 use Rattle.ps_meaning.specs.Texts.{Yields, Fails, line_of, behind_line, line_read}
 use Rattle.ps_meaning.specs.Objects.{vector_of, with_element}

@@ -9,9 +9,9 @@ use Rattle.ps_base.specs.declared.trap.Trap.TheVariants as trap
 use Rattle.ps_base.specs.declared.trap.Trap.TheVariants.{Overflow, ZeroDivisor, Bounds, Abort as Aborted, TooLong}
 use Rattle.ps_base.specs.declared.operator.Operator.TheVariants.{Add, Div, Rem}
 use Rattle.ps_base.specs.declared.operator.Relation.TheVariants.{Less}
-use Rattle.ps_program.specs.declared.place.Place.TheVariants.{Plain}
-use Rattle.ps_program.specs.Node.{Node, Nodes, none, more, Arms, no_arms, more_arms, arm, BodyNode, body}
-use Rattle.ps_program.specs.Node as node
+use Rattle.ps_typing.specs.ps_program.declared.place.Place.TheVariants.{Plain}
+use Rattle.ps_typing.specs.ps_program.Node.{Node, Nodes, none, more, Arms, no_arms, more_arms, arm, BodyNode, body}
+use Rattle.ps_typing.specs.ps_program.Node as node
 use Rattle.ps_meaning.specs.Event.{Event, End, Out, Turn, Finish, Done, Trapped, OutOfTurns}
 use Rattle.ps_meaning.specs.Meaning.{give, stop, after, ◌>>=◌, answer, attempt, with_heap, put_heap, made, made_text, emit, written, take_turn, get, set, choose}
 use Rattle.ps_meaning.specs.Weights.{text_weight, code_weight}

@@ -1,6 +1,6 @@
 -- What a body does that is called.
 use Rattle.std.specs.Prelude.{ℕ, zero, suc, List}
-use Rattle.ps_program.specs.Node.{BodyNode, body}
+use Rattle.ps_typing.specs.ps_program.Node.{BodyNode, body}
 use Rattle.ps_meaning.specs.Values.{Value}
 use Rattle.ps_meaning.specs.Event.{OutOfTurns}
 use Rattle.ps_meaning.specs.Meaning.{Meaning, stop, ◌>>=◌, in_scope, take_turn}

@@ -1,10 +1,10 @@
--- The meaning of each clause. A clause goes from left to right, and an operation's own tests come behind all its operands.
+-- The meaning of each clause. A clause goes from left to right, and an operation's own tests come after all its operands.
 use Rattle.std.specs.Prelude.{ℕ, zero, suc, ◌+◌, ℤ, pos, negsuc, ◌+ℤ◌, Bool, true, false, not, ◌&&◌, int_le, nat_eq, nat_lt, List, [], ◌∷◌, length, map, Option, Some, None, if◌then◌else◌}
 use Rattle.std.specs.Fmt.{signed_decimal}
 use Rattle.std.specs.Ordering.{is_eq, is_lt, is_gt}
 use Rattle.ps_base.specs.TyView.{TyView}
 use Rattle.ps_base.specs.TyView as ty
-use Rattle.ps_type_text.specs.Texts.{type_text}
+use Rattle.ps_typing.specs.ps_type_text.Texts.{type_text}
 use Rattle.text_forms.specs.declared.forms.Form.{Form}
 use Rattle.text_forms.specs.Forms.{forms_of, form_in, element_of}
 use Rattle.ps_base.specs.declared.line.Line.{Line}
@@ -12,14 +12,15 @@ use Rattle.ps_base.specs.declared.trap.Trap.TheVariants as trap
 use Rattle.ps_base.specs.declared.trap.Trap.TheVariants.{Bounds, TooDeep, Abort}
 use Rattle.ps_base.specs.declared.operator.Relation.{Relation}
 use Rattle.ps_base.specs.declared.operator.Relation.TheVariants.{Equal, NotEqual, Less, LessEqual, Greater, GreaterEqual}
-use Rattle.ps_program.specs.declared.place.Place.{Place}
-use Rattle.ps_program.specs.declared.place.Place.TheVariants.{Plain}
-use Rattle.ps_program.specs.Node.{Node, Nodes, none, more, Arms, no_arms, more_arms, arm, BodyNode}
-use Rattle.ps_program.specs.Node as node
+use Rattle.ps_typing.specs.ps_program.declared.place.Place.{Place}
+use Rattle.ps_typing.specs.ps_program.declared.place.Place.TheVariants.{Plain}
+use Rattle.ps_typing.specs.ps_program.Node.{Node, Nodes, none, more, Arms, no_arms, more_arms, arm, BodyNode}
+use Rattle.ps_typing.specs.ps_program.Node as node
 use Rattle.ps_meaning.specs.Operators.{is_int, is_same, neg_of, arith_of, relation_of}
 use Rattle.ps_meaning.specs.Event.{Trapped, OutOfTurns}
 use Rattle.ps_meaning.specs.Values.{Value, Num, Flag, Text, Nil, Pointer, Vector, Procedure, Nothing, as_written, word_of, flag_of, bytes_of, shown}
 use Rattle.ps_meaning.specs.Texts.{join_of, part_of, order_of, line_read, behind_line, is_at_end}
+pub use Rattle.ps_base.specs.Limits.{most_calls}
 pub use Rattle.ps_meaning.specs.Objects.{kept_as}
 use Rattle.ps_meaning.specs.Objects.{Structure, is_class, field_of, with_field, vector_of, filled_vector, vector_in, type_in, with_element, low_of, high_of, is_one_object}
 use Rattle.ps_meaning.specs.Objects.{element_of as element_at}
@@ -60,7 +61,7 @@ goes_on limit step z = is_int z && (if is_up step then int_le z limit else int_l
 abbrev pub in_turn : Counting → Meaning → ℤ → Meaning
 in_turn loop clause z = in_scope loop.scope (set loop.control ty.Int (Num z) >>= λ u. clause)
 
--- A turn with this number as the control, and the turns behind it, where the loop goes on. Where the bound is 0 no turn is left.
+-- A turn with this number as the control, and the turns after it, where the loop goes on. Where the bound is 0 no turn is left.
 unfoldable pub for_turns : ℕ → Counting → Meaning → ℤ → Meaning
 for_turns zero loop clause z = stop OutOfTurns
 for_turns (suc n) loop clause z =
@@ -151,10 +152,7 @@ compares op _ v w = object_relation op v w
 abbrev pub is_equal : TyView → Value → Value → Bool
 is_equal ty v w = compares Equal ty v w
 
--- Calls. At most so many are inside one another, and this is tested before a call takes its turn. Behind it the frame is the one before.
-abbrev pub most_calls : ℕ
-most_calls = 2000
-
+-- Calls. At most `most_calls` are inside one another, and this is tested before a call takes its turn; after it the frame is the one before.
 -- No typed program calls what is no procedure: each name that a body can mention has its value when the body is called.
 unfoldable pub call_meant : Context → Line → Value → List Value → Meaning
 call_meant c line (Procedure (as_written of) scope) args =

@@ -1,9 +1,9 @@
 -- What a body that is called begins with: its frame, and the arguments that its scope keeps.
 use Rattle.std.specs.Prelude.{ℕ, pos, Bool, true, false, not, if◌then◌else◌, List, [], ◌∷◌, get_or, Option}
 use Rattle.ps_base.specs.TyView.{TyView}
-use Rattle.ps_program.specs.declared.place.Place.{Place}
-use Rattle.ps_program.specs.declared.place.Place.TheVariants.{Plain, Kept}
-use Rattle.ps_program.specs.Node.{Param, BodyNode, body}
+use Rattle.ps_typing.specs.ps_program.declared.place.Place.{Place}
+use Rattle.ps_typing.specs.ps_program.declared.place.Place.TheVariants.{Plain, Kept}
+use Rattle.ps_typing.specs.ps_program.Node.{Param, BodyNode, body}
 use Rattle.ps_typing.specs.Placing.{is_number}
 use Rattle.ps_meaning.specs.Values.{Value, Num, Nil, Nothing}
 use Rattle.ps_meaning.specs.Meaning.{Meaning, Frame, give, ◌>>=◌, set}

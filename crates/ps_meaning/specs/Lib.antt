@@ -11,3 +11,7 @@ pub mod Frames
 pub mod Evaluation
 pub mod Calls
 pub mod Runs
+pub use Rattle.ps_base.specs as ps_base
+pub use Rattle.ps_typing.specs.ps_program as ps_program
+pub use Rattle.text_forms.specs as text_forms
+pub use Rattle.ps_typing.specs as ps_typing

@@ -1,11 +1,12 @@
 -- What a clause does: from the locals and the state that it finds to a value, or to the end of the run.
 use Rattle.std.specs.Prelude.{ℕ, zero, suc, ◌+◌, ◌-◌, ◌^◌, ℤ, pos, negsuc, Bool, true, false, List, [], ◌∷◌, ◌++◌, length, replicate, nat_eq, nat_lt, Option, Some, None, if◌then◌else◌}
+use Rattle.ps_base.specs.Limits.{most_width}
 use Rattle.ps_base.specs.TyView.{TyView}
 use Rattle.ps_base.specs.declared.line.Line.{Line}
 use Rattle.ps_base.specs.declared.trap.Trap.TheVariants.{TooLong}
-use Rattle.ps_program.specs.declared.place.Place.{Place}
-use Rattle.ps_program.specs.declared.place.Place.TheVariants.{Plain, Kept}
-use Rattle.ps_program.specs.Node.{BodyNode}
+use Rattle.ps_typing.specs.ps_program.declared.place.Place.{Place}
+use Rattle.ps_typing.specs.ps_program.declared.place.Place.TheVariants.{Plain, Kept}
+use Rattle.ps_typing.specs.ps_program.Node.{BodyNode}
 use Rattle.ps_typing.specs.Placing.{is_number}
 use Rattle.ps_meaning.specs.Values.{Value, Num, Text, Procedure, Nothing, as_written}
 use Rattle.ps_meaning.specs.Operators.{Answer, Gives, Traps}
@@ -34,7 +35,7 @@ pub record State : Type 0 where
   pub events : List Event
   pub store : Store
 
--- what a clause comes to: a value, or the end of the run
+-- what a clause returns: a value, or the end of the run
 pub data Outcome : Type 0 where
   Value_is : (value : Value) (frame : Frame) (state : State) → Outcome
   Ends : (end_of_run : End) (state : State) → Outcome
@@ -132,7 +133,7 @@ unfoldable pub back_to : Frame → Outcome → Outcome
 back_to own (Value_is v frame state) = Value_is v own state
 back_to own (Ends e state) = Ends e state
 
--- inside a new scope of this text; behind it the scope is the one before
+-- inside a new scope of this text; after it the scope is the one before
 unfoldable pub scoped : List ℕ → Meaning → Meaning
 scoped text meant frame state = back_in frame.scope ((enter text >>= λ u. meant) frame state)
 
@@ -141,7 +142,7 @@ abbrev pub in_scope : Option (List ℕ) → Meaning → Meaning
 in_scope None meant = meant
 in_scope (Some text) meant = scoped text meant
 
--- in another frame; behind it the frame is the one before
+-- in another frame; after it the frame is the one before
 unfoldable pub in_frame : Frame → Meaning → Meaning
 in_frame other meant frame state = back_to frame (meant other state)
 
@@ -166,10 +167,10 @@ abbrev pub in_places : Option ℤ → List ℕ → List ℕ
 in_places None text = text
 in_places (Some width) text = replicate (blanks_before width (length text)) 32 ++ text
 
--- a width is at most as great as the longest text is long
+-- a width is at most `most_width`
 abbrev pub is_width : Option ℤ → Bool
 is_width None = true
-is_width (Some (pos width)) = nat_lt width (2 ^ 16)
+is_width (Some (pos width)) = nat_lt width (most_width + 1)
 is_width (Some (negsuc width)) = true
 
 -- writes a text; the width is tested before anything is written

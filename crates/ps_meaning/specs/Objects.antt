@@ -2,6 +2,7 @@
 use Rattle.std.specs.Prelude.{ℕ, zero, suc, ◌^◌, ℤ, pos, negsuc, ◌+ℤ◌, ◌-ℤ◌, Bool, true, false, ◌&&◌, nat_lt, nat_eq, if◌then◌else◌, List, [], ◌∷◌, ◌++◌, length, get_or, set, replicate, Option, Some, None}
 use Rattle.text_forms.specs.declared.forms.Form.{Form}
 use Rattle.text_forms.specs.declared.forms.Form.TheVariants as form
+use Rattle.ps_base.specs.Limits.{most_elements}
 use Rattle.ps_base.specs.declared.trap.Trap.TheVariants as trap
 use Rattle.ps_meaning.specs.Operators.{is_int}
 use Rattle.ps_meaning.specs.Texts.{Attempt, Yields, Fails, is_same_text}
@@ -93,10 +94,10 @@ place_from (negsuc n) count = None
 abbrev pub place_of : ℤ → ℕ → ℤ → Option ℕ
 place_of low count at = place_from (at -ℤ low) count
 
--- A vector has 1 to 1,048,576 elements, and its upper bound is an int.
+-- A vector has 1 to `most_elements` elements, and its upper bound is an int.
 abbrev pub is_vector : ℤ → ℕ → Bool
 is_vector low zero = false
-is_vector low (suc n) = nat_lt n (2 ^ 20) && is_int (low +ℤ pos n)
+is_vector low (suc n) = nat_lt n most_elements && is_int (low +ℤ pos n)
 
 abbrev pub is_made : Bool → Object → Attempt Object
 is_made true object = Yields object

@@ -1,6 +1,6 @@
 -- The events of a run of a program, and its end.
 use Rattle.std.specs.Prelude.{ℕ, pos, List, [], ◌∷◌, ◌++◌, None}
-use Rattle.ps_program.specs.Node.{BodyNode, body}
+use Rattle.ps_typing.specs.ps_program.Node.{BodyNode, body}
 use Rattle.ps_meaning.specs.Values.{Num, Nil}
 use Rattle.ps_meaning.specs.Weights.{code_weight}
 use Rattle.ps_meaning.specs.Event.{End, Done, Event, Finish}

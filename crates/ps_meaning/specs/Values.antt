@@ -5,7 +5,7 @@ use Rattle.std.specs.Fmt.{signed_decimal}
 use Rattle.ps_base.specs.TyView.{TyView}
 use Rattle.ps_base.specs.TyView as ty
 use Rattle.ps_base.specs.CodeUnit.{UnitView}
-use Rattle.ps_program.specs.Node.{BodyNode}
+use Rattle.ps_typing.specs.ps_program.Node.{BodyNode}
 
 -- What a procedure does: a body as it is written, or the unit of code that one was made into. The meaning makes and calls procedures as they are
 -- written, and the machine that steps through units those that are compiled.

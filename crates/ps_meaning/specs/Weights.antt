@@ -2,10 +2,10 @@
 use Rattle.std.specs.Prelude.{ℕ, ◌+◌, ◌*◌, ◌/◌, List, [], ◌∷◌, length, Option, Some, None}
 use Rattle.ps_base.specs.TyView.{TyView}
 use Rattle.ps_base.specs.TyView as types
-use Rattle.ps_type_text.specs.Texts.{type_text}
-use Rattle.ps_program.specs.Node.{Param, Node, BodyNode, body}
-use Rattle.ps_program.specs.Node as node
-use Rattle.ps_program.specs.Parts.{Part, operand, label, branch, literal, fold}
+use Rattle.ps_typing.specs.ps_type_text.Texts.{type_text}
+use Rattle.ps_typing.specs.ps_program.Node.{Param, Node, BodyNode, body}
+use Rattle.ps_typing.specs.ps_program.Node as node
+use Rattle.ps_typing.specs.ps_program.Parts.{Part, operand, label, branch, literal, fold}
 use Rattle.ps_typing.specs.WellTyped.{types_of_params}
 use Rattle.ps_meaning.specs.Objects.{Object, Structure, Elements, Scope}
 

@@ -2,3 +2,5 @@
 #![tactic(auto)]
 
 pub mod operators;
+
+pub use text_forms;

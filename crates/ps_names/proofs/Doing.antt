@@ -13,8 +13,8 @@ use Rattle.ps_program.proofs.NodeLists.{arm_of-parts}
 use Rattle.ps_program.specs.Node.{Node, Nodes, none, more, Arm, arm, Arms, no_arms, more_arms}
 use Rattle.ps_program.specs.NodeView.{node_of, nodes_in, arm_of}
 use Rattle.ps_program.specs.inside.PartsView.{arms_in}
-use Rattle.ps_typing.specs.Placing.{Around, Locals}
-use Rattle.ps_typing.specs.Placed.{Given, ◌>>=◌, then_give, placed, placed_all, placed_arms}
+use Rattle.ps_placer.specs.ps_typing.Placing.{Around, Locals}
+use Rattle.ps_placer.specs.ps_typing.Placed.{Given, ◌>>=◌, then_give, placed, placed_all, placed_arms}
 use Rattle.ps_placer.specs.declared.placer.Placer.{Placer}
 use Rattle.ps_placer.specs.inside.Standing.{Stands, Does}
 use Rattle.ps_names.specs.inside.Clauses.{placed_arm}
@@ -49,7 +49,7 @@ pub on_ok : (r : Made) {P Q : Type 0} → (P → Q) → OnOk r P → OnOk r Q
 on_ok (Ok done) step is = step is
 on_ok (Err fault) step is = is
 
--- lists, from their fronts
+-- lists, from their start
 
 and_node : Nodes → Node → Nodes
 and_node none n = more n none

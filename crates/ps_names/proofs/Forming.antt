@@ -19,9 +19,9 @@ use Rattle.ps_program.specs.inside.PartsView.{arms_in}
 use Rattle.ps_program.specs.Node as node
 use Rattle.ps_program.specs.inside.Weights.{weight, weight_all, weight_arms}
 use Rattle.ps_program.proofs.PartLemmas.{weight_is}
-use Rattle.ps_typing.specs.Mentions.{number_of}
-use Rattle.ps_typing.specs.Placing.{Around, Locals, with_declared, place_of}
-use Rattle.ps_typing.specs.Placed.{Given, then_give, placed, placed_all, placed_literal}
+use Rattle.ps_placer.specs.ps_typing.Mentions.{number_of}
+use Rattle.ps_placer.specs.ps_typing.Placing.{Around, Locals, with_declared, place_of}
+use Rattle.ps_placer.specs.ps_typing.Placed.{Given, then_give, placed, placed_all, placed_literal}
 use Rattle.ps_placer.specs.declared.placer.Placer.{Placer}
 use Rattle.ps_placer.specs.inside.Standing.{Stands, Does}
 use Rattle.ps_names.specs.inside.Clauses.{loop_of, Pair, Triple, WithAll, Case, Block, Named, Scan, pair, named, scan_of, placed_assigned, placed_declared, placed_scan, placed_pair, placed_triple, placed_with_all, placed_case, placed_block}

@@ -5,8 +5,8 @@ use Rattle.ps_program.specs.Node as node
 use Rattle.ps_program.specs.Parts.{operand}
 use Rattle.ps_program.specs.inside.Weights.{weight, weight_all}
 use Rattle.ps_program.proofs.PartLemmas.{weight_is, weight_of_all}
-use Rattle.ps_typing.specs.Placing.{Around, Locals}
-use Rattle.ps_typing.specs.Placed.{Given, gives, ◌>>=◌, then_give, placed}
+use Rattle.ps_placer.specs.ps_typing.Placing.{Around, Locals}
+use Rattle.ps_placer.specs.ps_typing.Placed.{Given, gives, ◌>>=◌, then_give, placed}
 use Rattle.ps_placer.specs.declared.placer.Placer.{Placer}
 use Rattle.ps_placer.specs.inside.Standing.{Stands, Does}
 use Rattle.ps_names.specs.inside.Chains.{is_link, first_or, with_first, rewound, placed_parts, rises, weight_placed, Rises}

@@ -7,9 +7,9 @@ use Rattle.ps_type_text.specs.Members.{fields_of}
 use Rattle.ps_program.specs.declared.place.Place.{Place}
 use Rattle.ps_program.specs.Node.{Param, Node, Nodes, BodyNode, body}
 use Rattle.ps_program.specs.Node as node
-use Rattle.ps_typing.specs.Mentions.{number_of, numbers, common}
-use Rattle.ps_typing.specs.Placing.{Around, Locals, with_declared, place_of, scope_text, inside, declared}
-use Rattle.ps_typing.specs.Placed.{◌>>=◌, then_give, placed, placed_all, placed_literal, with_params}
+use Rattle.ps_placer.specs.ps_typing.Mentions.{number_of, numbers, common}
+use Rattle.ps_placer.specs.ps_typing.Placing.{Around, Locals, with_declared, place_of, scope_text, inside, declared}
+use Rattle.ps_placer.specs.ps_typing.Placed.{◌>>=◌, then_give, placed, placed_all, placed_literal, with_params}
 use Rattle.ps_placer.specs.declared.placer.Placer.{Placer}
 use Rattle.ps_placer.specs.declared.placer.Outer.{Outer}
 use Rattle.ps_placer.specs.inside.Marks.{marks_of, is_kept}

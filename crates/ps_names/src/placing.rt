@@ -5,8 +5,8 @@ ghost use Rattle.ps_program.specs.Node as node;
 ghost use Rattle.ps_base.specs.TyView.{ty_view};
 ghost use Rattle.ps_program.specs.NodeView.{node_of, node_of_form, nodes_in, arm_of, body_of};
 ghost use Rattle.ps_program.specs.inside.PartsView.{arms_in};
-ghost use Rattle.ps_typing.specs.Placed.{placed, placed_all, placed_arms, placed_program};
-ghost use Rattle.ps_typing.specs.Program.{bodies};
+ghost use Rattle.ps_placer.specs.ps_typing.Placed.{placed, placed_all, placed_arms, placed_program};
+ghost use Rattle.ps_placer.specs.ps_typing.Program.{bodies};
 ghost use Rattle.ps_placer.specs.inside.Standing.{Does};
 ghost use Rattle.ps_names.specs.inside.Chains.{is_link as is_link_of, first_or, with_first, placed_parts};
 ghost use Rattle.ps_placer.specs.inside.Params.{text_in};
@@ -73,7 +73,7 @@ fn place_chain(placer: &mut Placer, tree: &mut Tree) -> Result<(), AllocError>
     Ok(())
 }
 
-// The parts of a clause, but those of a link behind its first.
+// The parts of a clause, but those of a link after its first.
 #[cycle(placing)]
 fn place_parts(placer: &mut Placer, form: &mut TreeForm) -> Result<(), AllocError>
     ensures { OnOk result (Does (λ around locals. placed_parts around locals (node_of_form form.old)) placer.old (node_of_form form.new) placer.new) }

@@ -1,6 +1,7 @@
 -- How one call after another goes along the moments.
 use Rattle.std.proofs.Common.{◌⊎◌, inl, inr, ⊎_elim, ℕ, ◌≤◌, List, arith, ◌≡◌, refl, subst}
-use Rattle.ps_outside.specs.Outside.{Along, Outside, Leaves, LeavesSame, SameContents, Settles, After, seen_as}
+use Rattle.ps_outside.specs.Outside.{Along, Outside, Leaves, LeavesSame, SameContents, TellsNothing, SettlesFrom, After, seen_as}
+use Rattle.ps_outside.specs.Past.{KeepsTold}
 
 either : (m n : ℕ) → (m ≤ n) ⊎ (n ≤ m)
 either m n = grind arith
@@ -47,19 +48,37 @@ along_as {X = X} {Y = Y} {old = old} {new = new} means Q is holds = record {
 pub same_as : {X Y : Type 0} (a b : Outside X) (means : X → Y) → LeavesSame a b → LeavesSame (seen_as means a) (seen_as means b)
 same_as {X = X} {Y = Y} a b means is = along_as means (λ (y : Y). After (a.images a.clock) (λ (x : X) (z : Y). means x ≡ z) y) is (λ x was. record { from = x; was = was; by = refl })
 
--- a sync that succeeds settles, and the calls behind it that only read leave it so
-pub settles_by : {X : Type 0} (a b c : Outside X) → LeavesSame a b → SameContents a b → ((x : X) → b.images b.clock x → b.contents x) → LeavesSame b c → Settles a c
-settles_by a b c first same durable next = record {
+-- a sync that succeeds settles, and the calls after it that only read leave it so
+pub settles_by : {X : Type 0} (a b c : Outside X) → LeavesSame a b → SameContents a b → TellsNothing a b → ((x : X) → b.images b.clock x → b.contents x) → LeavesSame b c → TellsNothing b c → SettlesFrom a c
+settles_by a b c first same silent durable next still = record {
   since = b.clock;
   from = first.later;
   until = next.later;
   settled = λ m x from until is. same.no_other x (durable x (next.each m x from until is));
+  untold = λ m bytes from until is. silent.each m bytes from until (still.no_other m bytes until is);
 }
 
-pub settles_as : {X Y : Type 0} (a b : Outside X) (means : X → Y) → Settles a b → Settles (seen_as means a) (seen_as means b)
+pub settles_as : {X Y : Type 0} (a b : Outside X) (means : X → Y) → SettlesFrom a b → SettlesFrom (seen_as means a) (seen_as means b)
 settles_as a b means is = record {
   since = is.since;
   from = is.from;
   until = is.until;
   settled = λ m y from until after. record { from = after.from; was = is.settled m after.from from until after.was; by = after.by };
+  untold = is.untold;
 }
+
+-- and so do calls that leave what is told of the moments before
+pub settles_then : {X : Type 0} (a b c : Outside X) → SettlesFrom a b → LeavesSame b c → KeepsTold b c → SettlesFrom a c
+settles_then a b c is next told =
+    let until = is.until in
+    let later = next.later in
+    record {
+      since = is.since;
+      from = is.from;
+      until = omega arith;
+      settled = λ m x from upto at. ⊎_elim
+          (λ early. is.settled m x from early (next.no_other m x early at))
+          (λ late. is.settled b.clock x until (omega arith) (next.each m x late upto at))
+          (either m b.clock);
+      untold = λ m bytes from upto at. is.untold m bytes from upto (told.no_other m bytes (let high = is.until in omega arith) at);
+    }

@@ -1,16 +1,16 @@
--- For each rule there is a word of tokens that closes it, in front of a token that no repetition takes.
+-- For each rule there is a word of tokens that closes it, before a token that no repetition takes.
 use Rattle.std.proofs.Common.{◌≡◌, ℕ, suc, ◌+◌, List, [], ◌∷◌, ◌++◌, Bool, false, Option, Some, None, slice_get, refl, ap, ◌∙◌, arith}
 use Rattle.ps_base.specs.TyView.{TyView, TyViews}
 use Rattle.ps_base.specs.declared.line.Line.{Line}
-use Rattle.ps_symbols.specs.declared.kind.Kind.{Kind}
-use Rattle.ps_symbols.specs.declared.kind.Kind.TheVariants as kind
-use Rattle.ps_symbols.specs.declared.kind.Kind.TheVariants.{Int, Do}
-use Rattle.ps_symbols.specs.declared.kind.Level.{Level}
-use Rattle.ps_symbols.specs.declared.kind.Level.TheVariants.{Disjunction, Conjunction, Sum, Product}
-use Rattle.ps_symbols.specs.declared.kind.Operation.{Operation}
-use Rattle.ps_symbols.specs.declared.kind.Relating.{Relating}
-use Rattle.ps_symbols.specs.declared.symbol.Symbol.{Symbol}
-use Rattle.ps_symbols.specs.Kinds.{operation_of, relating_of, begins_item}
+use Rattle.ps_tree.specs.ps_symbols.declared.kind.Kind.{Kind}
+use Rattle.ps_tree.specs.ps_symbols.declared.kind.Kind.TheVariants as kind
+use Rattle.ps_tree.specs.ps_symbols.declared.kind.Kind.TheVariants.{Int, Do}
+use Rattle.ps_tree.specs.ps_symbols.declared.kind.Level.{Level}
+use Rattle.ps_tree.specs.ps_symbols.declared.kind.Level.TheVariants.{Disjunction, Conjunction, Sum, Product}
+use Rattle.ps_tree.specs.ps_symbols.declared.kind.Operation.{Operation}
+use Rattle.ps_tree.specs.ps_symbols.declared.kind.Relating.{Relating}
+use Rattle.ps_tree.specs.ps_symbols.declared.symbol.Symbol.{Symbol}
+use Rattle.ps_tree.specs.ps_symbols.Kinds.{operation_of, relating_of, begins_item}
 use Rattle.ps_tree.specs.Phrase.{GroupAt, Phrase, Phrases, Arms, WriteItems}
 use Rattle.ps_tree.specs.Phrase as form
 use Rattle.ps_reader.specs.Grammar.{Made, a_clause, Part, Nested, a_clause_inside, a_type_inside, Rule, Give, Take, Go, Open, Then, Clause, Type_, Program, Ending, Ended, Items, MoreItems, Item, Binding, Literal, Parameters, Groups, MoreGroups, NextGroup, Result, ParameterTypes, MoreTypes, Choice, Until, Test, Between, Step, Body, Cases, Labels, Written, Width, MoreWritten, Assignment, Chain, MoreChain, Relative, Compared, Comparison, Factor, Application, Applied, Arguments, SecondArgument, MoreArguments, Primary, MoreElements, give, inside, row, items, items_end, more_written, assignment, more_chain, comparison, applied}
@@ -34,7 +34,7 @@ pub data Closer : Kind → Type 0 where
   word_closes : Closer kind.End
   end_closes : Closer kind.EndOfText
 
--- those behind the items of a block or of a program
+-- those after the items of a block or of a program
 pub data ItemsCloser : Kind → Type 0 where
   curly_behind : ItemsCloser kind.CloseCurly
   word_behind : ItemsCloser kind.End
@@ -46,17 +46,17 @@ pub data IsEnd : Kind → Type 0 where
 pub data IsRound : Kind → Type 0 where
   is_round : IsRound kind.CloseRound
 
--- the first token of a word, or what stands behind an empty one
+-- the first token of a word, or what stands after an empty one
 abbrev pub first_of : List Kind → Kind → Kind
 first_of [] follow = follow
 first_of (first ∷ word) follow = first
 
--- the symbols from one place to the other are of the kinds of the word, and the kind stands behind them
+-- the symbols from one place to the other are of the kinds of the word, and the kind stands after them
 pub data Spells (symbols : List Symbol) : ℕ → List Kind → ℕ → Kind → Type 0 where
   no_more : {from : ℕ} {follow : Kind} → kind_at symbols from ≡ follow → Spells symbols from [] from follow
   one_more : {from next to : ℕ} {kind follow : Kind} {word : List Kind} {symbol : Symbol} → slice_get symbols from ≡ Some symbol → symbol.kind ≡ kind → next ≡ from + 1 → Spells symbols next word to follow → Spells symbols from (kind ∷ word) to follow
 
--- whatever its tokens are, the word is read by the rule in front of this kind
+-- whatever its tokens are, the word is read by the rule before this kind
 pub data Closes (text : List ℕ) : Kind → Rule → List Kind → Type 0 where
   given : {follow : Kind} {made : Made} → Closes text follow (Give made) []
   taken : {follow kind : Kind} {next : Symbol → Rule} {word : List Kind} → ((symbol : Symbol) → Closes text follow (next symbol) word) → Closes text follow (Take kind next) (kind ∷ word)
@@ -157,7 +157,7 @@ an_int_type = kind.IntType ∷ []
 abbrev pub a_name : List Kind
 a_name = kind.Name ∷ []
 
--- the word that closes a clause and a type, and the kinds in front of which it does
+-- the word that closes a clause and a type, and the kinds before which it does
 abbrev pub word_inside : Nested → List Kind
 word_inside a_clause_inside = an_int
 word_inside a_type_inside = an_int_type
@@ -166,7 +166,7 @@ abbrev pub FitsInside : Nested → Kind → Type 0
 FitsInside a_clause_inside follow = Closer follow
 FitsInside a_type_inside follow = Unit {0}
 
--- the word that closes a part, and the kinds in front of which it does
+-- the word that closes a part, and the kinds before which it does
 abbrev pub word_of : Part → List Kind
 word_of Program = []
 word_of (Ending all) = []

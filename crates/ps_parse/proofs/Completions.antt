@@ -3,22 +3,22 @@ use Rattle.std.proofs.Common.{◌≡◌, ℕ, suc, ◌+◌, ◌<◌, ◌≤◌, 
 use Rattle.std.proofs.Math.Nat.{eq-or-lt_of_le}
 use Rattle.std.proofs.lemmas.List.{length-take-le}
 use Rattle.ps_base.specs.declared.line.Line.{Line}
-use Rattle.ps_scan.specs.Tokens.{line_of}
-use Rattle.ps_scan.specs.declared.token.TokenKind.TheVariants as scanned
-use Rattle.ps_symbols.specs.declared.kind.Kind.{Kind}
-use Rattle.ps_symbols.specs.declared.kind.Kind.TheVariants as kind
-use Rattle.ps_symbols.specs.declared.kind.Kind.TheVariants.{Int, EndOfText}
-use Rattle.ps_symbols.specs.declared.kind.Level.{Level}
-use Rattle.ps_symbols.specs.declared.kind.Level.TheVariants.{Disjunction, Conjunction, Sum, Product}
-use Rattle.ps_symbols.specs.declared.kind.Opening.{Opening}
-use Rattle.ps_symbols.specs.declared.kind.Opening.TheVariants as opening
-use Rattle.ps_symbols.specs.declared.kind.Operation.{Operation}
-use Rattle.ps_symbols.specs.declared.kind.Relating.{Relating}
-use Rattle.ps_symbols.specs.declared.kind.Relating.TheVariants.{Compares, IsOf}
-use Rattle.ps_symbols.specs.declared.kind.TypeStart.{TypeStart}
-use Rattle.ps_symbols.specs.declared.kind.TypeStart.TheVariants as typed
-use Rattle.ps_symbols.specs.declared.symbol.Symbol.{Symbol}
-use Rattle.ps_symbols.specs.Kinds.{operation_of, relating_of, begins_item, begins_type, opening_of, type_start_of}
+use Rattle.ps_reader.specs.ps_scan.Tokens.{line_of}
+use Rattle.ps_reader.specs.ps_scan.declared.token.TokenKind.TheVariants as scanned
+use Rattle.ps_tree.specs.ps_symbols.declared.kind.Kind.{Kind}
+use Rattle.ps_tree.specs.ps_symbols.declared.kind.Kind.TheVariants as kind
+use Rattle.ps_tree.specs.ps_symbols.declared.kind.Kind.TheVariants.{Int, EndOfText}
+use Rattle.ps_tree.specs.ps_symbols.declared.kind.Level.{Level}
+use Rattle.ps_tree.specs.ps_symbols.declared.kind.Level.TheVariants.{Disjunction, Conjunction, Sum, Product}
+use Rattle.ps_tree.specs.ps_symbols.declared.kind.Opening.{Opening}
+use Rattle.ps_tree.specs.ps_symbols.declared.kind.Opening.TheVariants as opening
+use Rattle.ps_tree.specs.ps_symbols.declared.kind.Operation.{Operation}
+use Rattle.ps_tree.specs.ps_symbols.declared.kind.Relating.{Relating}
+use Rattle.ps_tree.specs.ps_symbols.declared.kind.Relating.TheVariants.{Compares, IsOf}
+use Rattle.ps_tree.specs.ps_symbols.declared.kind.TypeStart.{TypeStart}
+use Rattle.ps_tree.specs.ps_symbols.declared.kind.TypeStart.TheVariants as typed
+use Rattle.ps_tree.specs.ps_symbols.declared.symbol.Symbol.{Symbol}
+use Rattle.ps_tree.specs.ps_symbols.Kinds.{operation_of, relating_of, begins_item, begins_type, opening_of, type_start_of}
 use Rattle.ps_tree.specs.Phrase.{Phrase, Phrases}
 use Rattle.ps_reader.specs.Grammar.{Made, a_clause, all_groups, the_clause, Part, Nested, a_clause_inside, a_type_inside, Rule, Give, Take, Go, Open, Then, Clause, Program, Ending, Ended, Items, MoreItems, Item, Binding, Literal, Parameters, Groups, MoreGroups, NextGroup, Result, ParameterTypes, MoreTypes, Choice, Until, Test, Between, Step, Body, Cases, Labels, Written, Width, MoreWritten, Assignment, Chain, MoreChain, Relative, Compared, Comparison, Factor, Application, Applied, Arguments, SecondArgument, MoreArguments, Primary, MoreElements, inside, row, ending, ended, items, parameters, parameter_types, more_chain, comparison, opened, typed_as}
 use Rattle.ps_parse.specs.Program.{BeginsProgram, CanStand}
@@ -45,7 +45,7 @@ relation_real : (found : Kind) {relating : Relating} → relating_of found ≡ S
 relation_real EndOfText is = absurd (cc)
 relation_real _ is = refl
 
--- a rule of the grammar, the word that closes it, and the kind in front of which it does
+-- a rule of the grammar, the word that closes it, and the kind before which it does
 pub data Sound : Kind → Rule → List Kind → Type 0 where
   give : {follow : Kind} {made : Made} → Sound follow (Give made) []
   take_one : {follow kind : Kind} {next : Symbol → Rule} {word : List Kind} → real kind ≡ true → ((symbol : Symbol) → Sound follow (next symbol) word) → Sound follow (Take kind next) (kind ∷ word)
@@ -249,7 +249,7 @@ pub row_sound : (follow : Kind) (text : List ℕ) (part : Part) (found : Kind) {
 row_sound follow text part found fits is = subst (λ (o : Option Rule). RowIsSound follow o) is (rows_sound follow text part found fits)
 
 -- the reading of a rule from one place on comes to the other. A part of which nothing has been read
--- there is not chosen yet, since other symbols may stand behind that place.
+-- there is not chosen yet, since other symbols may stand after that place.
 pub data Reaches (text : List ℕ) (symbols : List Symbol) : Rule → ℕ → ℕ → Type 0 where
   arrived : {rule : Rule} {from : ℕ} → Reaches text symbols rule from from
   behind_token : {from place : ℕ} {kind : Kind} {next : Symbol → Rule} {symbol : Symbol} → slice_get symbols from ≡ Some symbol → symbol.kind ≡ kind → Reaches text symbols (next symbol) (from + 1) place → Reaches text symbols (Take kind next) from place
@@ -262,7 +262,7 @@ pub data Reaches (text : List ℕ) (symbols : List Symbol) : Rule → ℕ → �
 abbrev AgreeBefore : List Symbol → List Symbol → ℕ → Type 0
 AgreeBefore symbols other place = (i : ℕ) → i < place → slice_get symbols i ≡ slice_get other i
 
--- whatever agrees with the symbols before a place, and spells the word there in front of the kind, is
+-- whatever agrees with the symbols before a place, and spells the word there before the kind, is
 -- read by the rule
 abbrev Completes : List ℕ → List Symbol → Kind → Rule → ℕ → ℕ → List Kind → Type 0
 Completes text symbols follow rule from place word = (other : List Symbol) (to : ℕ) → AgreeBefore symbols other place → Spells other place word to follow → Readable text other rule from to
@@ -293,7 +293,7 @@ module _ {text : List ℕ} {symbols : List Symbol} where
   next_reaches : {nesting from middle place : ℕ} {first : Rule} {next : Made → Rule} {one : Made} → Reads text symbols nesting first from one middle → Reaches text symbols first from middle → Reaches text symbols (next one) middle place → Reaches text symbols (Then first next) from place
   next_reaches first its_end more = elim (eq-or-lt_of_le (reaches_forward more)) [ inl same ↦ Reaches.in_first (reaches_to same its_end) | inr before ↦ Reaches.in_next first before more ]
 
-  -- a reading comes to its end
+  -- a reading reaches its end
   read_reaches : {nesting from to : ℕ} {rule : Rule} {made : Made} → Reads text symbols nesting rule from made to → Reaches text symbols rule from to
   read_reaches gives = Reaches.arrived
   read_reaches (takes found is more) = Reaches.behind_token found is (read_reaches more)
@@ -467,7 +467,7 @@ module _ (text : List ℕ) (symbols : List Symbol) (from : ℕ) (symbol : Symbol
   inside_passes nested is = subst (λ (o : Option Rule). Passes o) is (nested_passes nested)
 
 module _ {text : List ℕ} {symbols : List Symbol} where
-  -- a reading that fails for want of room comes behind the token that opens the clause or the type
+  -- a reading that fails for want of room comes after the token that opens the clause or the type
   pub reaches_behind : {room : ℕ} {rule : Rule} {from place : ℕ} → Fails text symbols true room rule from place → Reaches text symbols rule from (place + 1)
   reaches_behind (Fails.no_room {from = from} {nested = nested} {symbol = symbol} found is) = nested_reaches (ap (λ (o : Option Symbol). inside text nested (kind_of_next o)) found ∙ is) (inside_passes text symbols from symbol found nested is)
   reaches_behind (Fails.behind_token found is more) = Reaches.behind_token found is (reaches_behind more)

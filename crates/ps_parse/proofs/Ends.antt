@@ -2,15 +2,15 @@
 use Rattle.std.proofs.Common.{◌≡◌, ◌≢◌, ℕ, zero, suc, ◌+◌, ◌≤◌, List, [], ◌∷◌, Bool, true, false, cond, Option, Some, None, length, slice_get, unwrap_or, refl, sym, ap, ◌∙◌, arith}
 use Rattle.std.specs.List.{All}
 use Rattle.std.proofs.lemmas.List.Elements.{All-nil, All-cons, All-head, All-tail, All-append}
-use Rattle.ps_scan.specs.declared.token.Token.{Token}
-use Rattle.ps_scan.specs.declared.token.TokenKind.{TokenKind}
-use Rattle.ps_scan.specs.declared.token.TokenKind.TheVariants as scanned
-use Rattle.ps_symbols.specs.declared.kind.Kind.{Kind}
-use Rattle.ps_symbols.specs.declared.kind.Kind.TheVariants as kind
-use Rattle.ps_symbols.specs.declared.kind.TheConstants.{WORDS, MARKS}
-use Rattle.ps_symbols.specs.declared.symbol.Symbol.{Symbol}
-use Rattle.ps_symbols.specs.Kinds.{kind_of}
-use Rattle.ps_symbols.specs.Symbols.{breaks, semicolon_behind, symbol, between, symbols_behind}
+use Rattle.ps_reader.specs.ps_scan.declared.token.Token.{Token}
+use Rattle.ps_reader.specs.ps_scan.declared.token.TokenKind.{TokenKind}
+use Rattle.ps_reader.specs.ps_scan.declared.token.TokenKind.TheVariants as scanned
+use Rattle.ps_tree.specs.ps_symbols.declared.kind.Kind.{Kind}
+use Rattle.ps_tree.specs.ps_symbols.declared.kind.Kind.TheVariants as kind
+use Rattle.ps_tree.specs.ps_symbols.declared.kind.TheConstants.{WORDS, MARKS}
+use Rattle.ps_tree.specs.ps_symbols.declared.symbol.Symbol.{Symbol}
+use Rattle.ps_tree.specs.ps_symbols.Kinds.{kind_of}
+use Rattle.ps_tree.specs.ps_symbols.Symbols.{breaks, semicolon_behind, symbol, between, symbols_behind}
 use Rattle.ps_tree.specs.Phrase.{Phrase}
 use Rattle.ps_reader.specs.Grammar.{Made, a_clause, the_clause, Rule, Give, Take, Go, Then, Program, Ending, Ended, ending, ended}
 use Rattle.ps_parse.specs.Program.{CanStand}

@@ -2,8 +2,8 @@
 use Rattle.std.proofs.Common.{◌≡◌, ◌≢◌, ℕ, suc, ◌+◌, List, Bool, true, false, Some, None, slice_get, sym, subst, ap}
 use Rattle.ps_tree.specs.declared.fault.ParseFault.{ParseFault}
 use Rattle.ps_tree.specs.declared.fault.ParseFault.TheVariants.{TooNested, Memory}
-use Rattle.ps_symbols.specs.declared.kind.Kind.{Kind}
-use Rattle.ps_symbols.specs.declared.symbol.Symbol.{Symbol}
+use Rattle.ps_tree.specs.ps_symbols.declared.kind.Kind.{Kind}
+use Rattle.ps_tree.specs.ps_symbols.declared.symbol.Symbol.{Symbol}
 use Rattle.ps_reader.specs.Grammar.{Made, Part, Nested, Rule, Take, Go, Open, Then, inside, row}
 use Rattle.ps_reader.specs.Faults.{unexpected}
 use Rattle.ps_reader.specs.Reading.{kind_at, Reads, gives, takes, goes, opens, joins, Opens}

@@ -4,17 +4,17 @@ use Rattle.std.proofs.lemmas.Option.{slice_get_within}
 use Rattle.std.proofs.lemmas.List.{take-append-drop, take-take, append_assoc}
 use Rattle.std.proofs.lemmas.Bool.{cases_order}
 use Rattle.std.proofs.Math.Nat.{eq-or-lt_of_le}
-use Rattle.ps_scan.specs.declared.token.Token.{Token}
+use Rattle.ps_reader.specs.ps_scan.declared.token.Token.{Token}
 use Rattle.ps_tree.specs.declared.fault.ParseFault.{ParseFault}
 use Rattle.ps_tree.specs.declared.fault.ParseFault.TheVariants.{TooNested, Memory}
-use Rattle.ps_symbols.specs.declared.symbol.Symbol.{Symbol}
+use Rattle.ps_tree.specs.ps_symbols.declared.symbol.Symbol.{Symbol}
 use Rattle.ps_tree.specs.Phrase.{Phrase}
 use Rattle.ps_reader.specs.Grammar.{Made, a_clause, Rule, Go, Program}
 use Rattle.ps_parse.specs.Program.{BeginsProgram, CanStand, ReadsAs, IsTooDeep, IsUnexpected, IsTooNested, IsParseFault, unexpected_at, too_nested_at}
 use Rattle.ps_reader.specs.Faults.{unexpected}
 use Rattle.ps_reader.specs.Reading.{Reads, takes, goes, opens, joins, Opens}
 use Rattle.ps_reader.specs.inside.Stopping.{HaltsWith}
-use Rattle.ps_symbols.specs.Symbols.{symbols as read_as}
+use Rattle.ps_tree.specs.ps_symbols.Symbols.{symbols as read_as}
 use Rattle.ps_parse.proofs.Unique.{unique, some_same, reads_as, reads_from}
 use Rattle.ps_parse.proofs.Failures.{Fails, IsFaultAt, fails_of, unread, no_deeper, opens_as, opens_from}
 use Rattle.ps_parse.proofs.Prefixes.{forward, fails_within, no_continuation}
@@ -38,7 +38,7 @@ module _ {text : List ℕ} {symbols : List Symbol} where
   not_zeroth (Opens.in_first more) = not_zeroth more
   not_zeroth (Opens.in_next first more) = not_zeroth more
 
-  -- what is read in spite of a failure goes behind its place
+  -- what is read in spite of a failure goes after its place
   fails_before : {deep : Bool} {room : ℕ} {rule : Rule} {from place : ℕ} → Fails text symbols deep room rule from place → {nesting : ℕ} {made : Made} {to : ℕ} → Reads text symbols nesting rule from made to → place ≤ to
   fails_before (Fails.wrong_token wrong) read = forward read
   fails_before (Fails.no_part none) read = forward read
@@ -106,7 +106,7 @@ no_fault_of_tree text tokens tree fault reads (unexpected_at place is) =
     elim (eq-or-lt_of_le is.within) [ inl last ↦ is.at_end last 100 tree reads.program | inr before ↦ is.here before (drop (place + 1) (read_as tokens), (All-drop CanStand (place + 1) (read_as tokens) (symbols_stand None 0 tokens), (100, (tree, subst (λ (all : List Symbol). Reads text all 100 (Go Program) 0 (a_clause tree) (length all)) (sym (take-append-drop (place + 1) (read_as tokens))) reads.program)))) ]
 no_fault_of_tree text tokens tree fault reads (too_nested_at place symbol found is) = no_deeper reads.program is.too_deep.opens
 
--- a front of what begins a program begins one
+-- a prefix of what begins a program begins one
 begins_less : (text : List ℕ) (symbols : List Symbol) → All CanStand symbols → (shorter longer : ℕ) → shorter ≤ longer → BeginsProgram text (take longer symbols) → BeginsProgram text (take shorter symbols)
 begins_less text symbols stand shorter longer less begins =
     let front = take-take shorter longer symbols less in

@@ -1,7 +1,7 @@
--- A reading looks at no symbol behind the one at its end, and a failure at none behind its place.
+-- A reading looks at no symbol after the one at its end, and a failure at none after its place.
 use Rattle.std.proofs.Common.{◌≡◌, ◌≢◌, ℕ, zero, suc, ◌+◌, ◌<◌, ◌≤◌, List, [], ◌∷◌, ◌++◌, Bool, false, Option, length, take, slice_get, refl, sym, ap, ◌∙◌, arith}
 use Rattle.std.proofs.lemmas.Option.{slice_get_within}
-use Rattle.ps_symbols.specs.declared.symbol.Symbol.{Symbol}
+use Rattle.ps_tree.specs.ps_symbols.declared.symbol.Symbol.{Symbol}
 use Rattle.ps_reader.specs.Grammar.{Made, Part, Nested, Rule, Go, Program, inside, row}
 use Rattle.ps_parse.specs.Program.{BeginsProgram}
 use Rattle.ps_reader.specs.Faults.{unexpected}
@@ -96,7 +96,7 @@ slice_get-take-append (x ∷ xs) ys zero i before fits = absurd (omega (arith, b
 slice_get-take-append (x ∷ xs) ys (suc n) zero before fits = refl
 slice_get-take-append (x ∷ xs) ys (suc n) (suc i) before fits = slice_get-take-append xs ys n i (omega (arith, before)) (omega (arith, fits))
 
--- what fails by a symbol begins no program up to that symbol and with it: nothing behind it matters
+-- what fails by a symbol begins no program up to that symbol and with it: nothing after it matters
 pub no_continuation : (text : List ℕ) (symbols : List Symbol) (room place : ℕ) → Fails text symbols false room (Go Program) 0 place → place < length symbols → BeginsProgram text (take (place + 1) symbols) → ⊥
 no_continuation text symbols room place fails inside begins =
     unread (fails_alike fails λ i before. slice_get-take-append symbols begins.0 (place + 1) i (omega (arith, before)) (omega (arith, inside))) begins.1.1.1.1

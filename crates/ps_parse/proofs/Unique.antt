@@ -1,12 +1,12 @@
 -- A text is read in one way.
 use Rattle.std.proofs.Common.{◌≡◌, ℕ, List, Option, Some, refl, sym, subst, ap}
-use Rattle.ps_scan.specs.declared.token.Token.{Token}
-use Rattle.ps_symbols.specs.declared.symbol.Symbol.{Symbol}
+use Rattle.ps_reader.specs.ps_scan.declared.token.Token.{Token}
+use Rattle.ps_tree.specs.ps_symbols.declared.symbol.Symbol.{Symbol}
 use Rattle.ps_tree.specs.Phrase.{Phrase}
 use Rattle.ps_reader.specs.Grammar.{Made, the_clause, Rule}
 use Rattle.ps_reader.specs.Reading.{Reads, gives, takes, goes, opens, joins}
 use Rattle.ps_parse.specs.Program.{IsProgram, ReadsAs}
-use Rattle.ps_symbols.specs.Symbols.{symbols as read_as}
+use Rattle.ps_tree.specs.ps_symbols.Symbols.{symbols as read_as}
 
 pub some_same : {A : Type 0} {o : Option A} {a b : A} → o ≡ Some a → o ≡ Some b → a ≡ b
 some_same is was = cc

@@ -1,1 +1,6 @@
 pub mod Program
+pub use Rattle.ps_base.specs as ps_base
+pub use Rattle.ps_reader.specs.ps_scan as ps_scan
+pub use Rattle.ps_tree.specs.ps_symbols as ps_symbols
+pub use Rattle.ps_tree.specs as ps_tree
+pub use Rattle.ps_reader.specs as ps_reader

@@ -1,8 +1,8 @@
 //! What is so of every text, whatever the parser does.
 
 ghost use Rattle.std.specs.Prelude.{◌≡◌, ℕ, List};
-ghost use Rattle.ps_scan.specs.declared.token.Token.{Token};
-ghost use Rattle.ps_symbols.specs.Symbols.{symbols};
+ghost use Rattle.ps_reader.specs.ps_scan.declared.token.Token.{Token};
+ghost use Rattle.ps_tree.specs.ps_symbols.Symbols.{symbols};
 ghost use Rattle.ps_tree.specs.declared.fault.ParseFault.{ParseFault};
 ghost use Rattle.ps_tree.specs.Phrase.{Phrase};
 ghost use Rattle.ps_parse.specs.Program.{IsProgram, ReadsAs, IsParseFault};

@@ -6,3 +6,4 @@ mod parser;
 
 pub use laws::{fault_is_unique, tree_excludes_fault, tree_is_unique};
 pub use parser::parse;
+pub use ps_reader::ps_scan;

@@ -1,18 +1,19 @@
 ghost use Rattle.std.specs.Prelude.{◌≢◌, ◌≤◌, length, IfOk, IfErr};
-ghost use Rattle.ps_scan.specs.Tokens.{HasTokens};
+ghost use Rattle.ps_base.specs.Limits.{most_nested, most_text_bytes};
+ghost use Rattle.ps_reader.specs.ps_scan.Tokens.{HasTokens};
 ghost use Rattle.ps_tree.specs.Phrase.{phrase_of};
 ghost use Rattle.ps_reader.specs.Grammar.{Go, Program};
 ghost use Rattle.ps_reader.specs.inside.Parsing.{AreSound, ReadsClause};
 ghost use Rattle.ps_parse.specs.Program.{ReadsAs, IsParseFault};
 
-use large_vectors::let_go;
+use ps_base::large_vectors::let_go;
 use ps_base::line::Line;
 use ps_clauses::items::items;
+use ps_reader::ps_scan::{Token, tokens_are_slices};
 use ps_reader::reader::Reader;
-use ps_scan::{LONGEST_TEXT, Token, tokens_are_slices};
-use ps_symbols::kind::Kind;
-use ps_symbols::symbol::symbols;
 use ps_tree::fault::ParseFault;
+use ps_tree::ps_symbols::kind::Kind;
+use ps_tree::ps_symbols::symbol::symbols;
 use ps_tree::rough::Rough;
 use std::alloc::Global;
 
@@ -22,7 +23,7 @@ const DEEPEST: u32 = 100;
 /// The tree of a text of at most 1,048,576 bytes from the tokens that `scan` answers for it, or the
 /// first fault in it (`docs/language.md`).
 pub fn parse(alloc: Global, text: &[u8], tokens: &[Token]) -> Result<Rough, ParseFault>
-    requires size { length text.now ≤ LONGEST_TEXT }
+    requires size { length text.now ≤ most_text_bytes }
     requires tokens_of_text { HasTokens text.now tokens.now }
     ensures tree { IfOk result (λ rough. ReadsAs text.now tokens.now (phrase_of rough)) }
     ensures fault { IfErr result (λ fault. fault ≢ ParseFault.Memory → IsParseFault text.now tokens.now fault) }
@@ -43,7 +44,7 @@ pub fn parse(alloc: Global, text: &[u8], tokens: &[Token]) -> Result<Rough, Pars
 #[tactic(auto, using(ps_reader::proofs::Steps::steps))]
 fn program(reader: &Reader, at: &mut usize) -> Result<Rough, ParseFault>
     requires sound { AreSound reader.now }
-    ensures { ReadsClause reader.now 100 (Go Program) at.old result at.new }
+    ensures { ReadsClause reader.now most_nested (Go Program) at.old result at.new }
 {
     let all = items(reader, at, DEEPEST, Line(1))?;
     match reader.kind_at(*at) {

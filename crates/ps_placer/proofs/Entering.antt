@@ -41,7 +41,7 @@ kept_inside : (around : Around) (names : List ℕ) → (inside around names).kep
 kept_inside around [] = refl
 kept_inside around (k ∷ ks) = refl
 
--- behind the scope
+-- after the scope
 pub left : (names : List ℕ) (old new last then_ : Placer) (outer : Outer) (around : Around) (locals behind : Locals) → Enters names old new outer → Stands old around locals → Stands last (inside around names) behind → Leaves outer last then_ → Stands then_ around behind
 left names old new last then_ outer around locals behind enters stands within leaves =
     let inner = entered names old new outer around locals enters stands in

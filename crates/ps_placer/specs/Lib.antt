@@ -1,1 +1,2 @@
 pub mod inside
+pub use Rattle.ps_typing.specs as ps_typing

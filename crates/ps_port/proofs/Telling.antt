@@ -1,35 +1,35 @@
--- How what is told in parts is told as a whole.
+-- How what is output in parts is told as a whole.
 use Rattle.std.proofs.Common.{Bor, zero, suc, ◌+◌, ◌<◌, ◌≡◌, ℕ, ◌≤◌, ◌⊎◌, List, [], ◌∷◌, ◌++◌, length, drop, get_or, refl, sym, ◌∙◌, ap, subst, append_assoc, arith, ⊎_elim}
 use Rattle.std.specs.Prelude.{Result, Ok, Err, IsErr, OnOk}
 use Rattle.std.proofs.lemmas.List.{append-nil}
-use Rattle.ps_outside.specs.Outside.{Outside, IsFront, Adds, AddsFront, TellsFront, ToldAll, IsPutCall, Rose}
+use Rattle.ps_outside.specs.Outside.{Outside, IsPrefix, Adds, AddsPrefix, TellsPrefix, ToldAll, IsPutCall, Rose}
 use Rattle.ps_outside.proofs.Moments.{along_none, along_then, along_now}
 use Rattle.ps_port.specs.declared.host.HostFailed.{HostFailed}
-use Rattle.ps_port.specs.Telling.{joined, TellsAll, FailsBehind, TellsOrFails, LeavesDevice}
+use Rattle.ps_port.specs.Telling.{joined, TellsAll, FailsAfter, TellsOrFails, LeavesDevice}
 
 either : (m n : ℕ) → (m ≤ n) ⊎ (n ≤ m)
 either m n = grind arith
 
--- a front of some of the whole is a front of the whole
-front_more : (front some rest : List ℕ) → IsFront front some → IsFront front (some ++ rest)
+-- a prefix of some of the whole is a prefix of the whole
+front_more : (front some rest : List ℕ) → IsPrefix front some → IsPrefix front (some ++ rest)
 front_more front some rest is = record { rest = is.rest ++ rest; whole_is = ap (λ (xs : List ℕ). xs ++ rest) is.whole_is ∙ append_assoc front is.rest rest }
 
--- behind some, a front of the rest makes a front of the whole
-front_behind : (done front rest : List ℕ) → IsFront front rest → IsFront (done ++ front) (done ++ rest)
+-- after some, a prefix of the rest makes a prefix of the whole
+front_behind : (done front rest : List ℕ) → IsPrefix front rest → IsPrefix (done ++ front) (done ++ rest)
 front_behind done front rest is = record { rest = is.rest; whole_is = ap (λ (xs : List ℕ). done ++ xs) is.whole_is ∙ sym (append_assoc done front is.rest) }
 
--- what was told more, in two steps
+-- what was output more, in two steps
 adds_then : (told_first told_next : List ℕ → Type 0) (xs ys bytes : List ℕ) → ((b : List ℕ) → told_next b → Adds told_first xs b) → Adds told_next ys bytes → Adds told_first (xs ++ ys) bytes
 adds_then told_first told_next xs ys bytes step last =
     let one = step last.before last.was_told in
     record { before = one.before; was_told = one.was_told; bytes_are = last.bytes_are ∙ ap (λ (b : List ℕ). b ++ ys) one.bytes_are ∙ append_assoc one.before xs ys }
 
--- a front of the first part is told at a moment, also of the whole
-adds_front_more : (told_before : List ℕ → Type 0) (some rest bytes : List ℕ) → AddsFront told_before some bytes → AddsFront told_before (some ++ rest) bytes
+-- a prefix of the first part is told at a moment, also of the whole
+adds_front_more : (told_before : List ℕ → Type 0) (some rest bytes : List ℕ) → AddsPrefix told_before some bytes → AddsPrefix told_before (some ++ rest) bytes
 adds_front_more told_before some rest bytes is = record { front = is.front; is_front = front_more is.front some rest is.is_front; adds = is.adds }
 
--- a front of the second part is told behind all of the first
-adds_front_then : (told_first told_next : List ℕ → Type 0) (xs ys bytes : List ℕ) → ((b : List ℕ) → told_next b → Adds told_first xs b) → AddsFront told_next ys bytes → AddsFront told_first (xs ++ ys) bytes
+-- a prefix of the second part is told after all of the first
+adds_front_then : (told_first told_next : List ℕ → Type 0) (xs ys bytes : List ℕ) → ((b : List ℕ) → told_next b → Adds told_first xs b) → AddsPrefix told_next ys bytes → AddsPrefix told_first (xs ++ ys) bytes
 adds_front_then told_first told_next xs ys bytes step is = record {
   front = xs ++ is.front;
   is_front = front_behind xs is.front ys is.is_front;
@@ -40,12 +40,12 @@ adds_front_then told_first told_next xs ys bytes step is = record {
 adds_nil : (told_before : List ℕ → Type 0) (bytes : List ℕ) → told_before bytes → Adds told_before [] bytes
 adds_nil told_before bytes was = record { before = bytes; was_told = was; bytes_are = sym (append-nil bytes) }
 
-adds_front_nil : (told_before : List ℕ → Type 0) (whole bytes : List ℕ) → told_before bytes → AddsFront told_before whole bytes
+adds_front_nil : (told_before : List ℕ → Type 0) (whole bytes : List ℕ) → told_before bytes → AddsPrefix told_before whole bytes
 adds_front_nil told_before whole bytes was = record { front = []; is_front = record { rest = whole; whole_is = refl }; adds = adds_nil told_before bytes was }
 
 module _ {X : Type 0} where
-  -- where no call was made, nothing was told, which is a front of anything
-  pub front_of_none : (a : Outside X) (whole : List ℕ) → TellsFront a a whole
+  -- where no call was made, nothing was told, which is a prefix of anything
+  pub front_of_none : (a : Outside X) (whole : List ℕ) → TellsPrefix a a whole
   front_of_none a whole = record {
     later = omega arith;
     kept = λ m bytes past is. is;
@@ -53,8 +53,8 @@ module _ {X : Type 0} where
     each = λ m bytes from until is. adds_front_nil (a.told a.clock) whole bytes (let now : m ≡ a.clock = omega arith in subst (λ (t : ℕ). a.told t bytes) now is);
   }
 
-  -- a front of the first part is a front of the whole
-  front_of_more : (a b : Outside X) (xs ys : List ℕ) → TellsFront a b xs → TellsFront a b (xs ++ ys)
+  -- a prefix of the first part is a prefix of the whole
+  front_of_more : (a b : Outside X) (xs ys : List ℕ) → TellsPrefix a b xs → TellsPrefix a b (xs ++ ys)
   front_of_more a b xs ys is = record {
     later = is.later;
     kept = is.kept;
@@ -62,8 +62,8 @@ module _ {X : Type 0} where
     each = λ m bytes from until at. adds_front_more (a.told a.clock) xs ys bytes (is.each m bytes from until at);
   }
 
-  -- all of the first part, and then a front of the second
-  front_then : (a b c : Outside X) (xs ys : List ℕ) → TellsFront a b xs → ToldAll a b xs → TellsFront b c ys → TellsFront a c (xs ++ ys)
+  -- all of the first part, and then a prefix of the second
+  front_then : (a b c : Outside X) (xs ys : List ℕ) → TellsPrefix a b xs → ToldAll a b xs → TellsPrefix b c ys → TellsPrefix a c (xs ++ ys)
   front_then a b c xs ys first all next = record {
     later = let one = first.later in let two = next.later in omega arith;
     kept = λ m bytes past is. next.kept m bytes (let one = first.later in omega arith) (first.kept m bytes past is);
@@ -104,7 +104,7 @@ module _ {X : Type 0} where
   }
 
   -- all of the first part was told, and the output failed in the second
-  pub fails_then : (a b c : Outside X) (xs ys : List ℕ) → TellsAll a b xs → FailsBehind b c ys → FailsBehind a c (xs ++ ys)
+  pub fails_then : (a b c : Outside X) (xs ys : List ℕ) → TellsAll a b xs → FailsAfter b c ys → FailsAfter a c (xs ++ ys)
   fails_then a b c xs ys is next = record {
     front = front_then a b c xs ys is.front is.all next.front;
     counts = subst (λ (n : ℕ). n ≤ c.output_faults) is.calm next.counts;
@@ -112,17 +112,17 @@ module _ {X : Type 0} where
   }
 
   -- the output failed in the first part of a whole
-  pub fails_more : (a b : Outside X) (xs ys : List ℕ) → FailsBehind a b xs → FailsBehind a b (xs ++ ys)
+  pub fails_more : (a b : Outside X) (xs ys : List ℕ) → FailsAfter a b xs → FailsAfter a b (xs ++ ys)
   fails_more a b xs ys is = record { front = front_of_more a b xs ys is.front; counts = is.counts; rose = is.rose }
 
-  -- what a call of `put` comes to
-  pub put_tells : (a b : Outside X) (bytes : List ℕ) (r : Result Unit HostFailed) → TellsFront a b bytes → OnOk r (ToldAll a b bytes) →
+  -- what a call of `put` returns
+  pub put_tells : (a b : Outside X) (bytes : List ℕ) (r : Result Unit HostFailed) → TellsPrefix a b bytes → OnOk r (ToldAll a b bytes) →
       OnOk r (b.output_faults ≡ a.output_faults) → IsPutCall a b r → TellsOrFails a b bytes r
   put_tells a b bytes (Ok x) cut all calm call = record { front = cut; all = all; calm = calm }
   put_tells a b bytes (Err e) cut all calm call = record { front = cut; counts = call.counts; rose = call.cause }
 
   -- a failure that is handed on
-  pub failed : {A : Type 0} (a b : Outside X) (whole : List ℕ) (r : Result A HostFailed) → IsErr r → FailsBehind a b whole → TellsOrFails a b whole r
+  pub failed : {A : Type 0} (a b : Outside X) (whole : List ℕ) (r : Result A HostFailed) → IsErr r → FailsAfter a b whole → TellsOrFails a b whole r
   failed a b whole (Ok x) is fails = absurd (cc)
   failed a b whole (Err e) is fails = fails
 
@@ -147,9 +147,9 @@ module _ {X : Type 0} where
   }
 
   -- The output failed in the next of the rest: then it failed in the whole.
-  pub so_far_fails : (a b c : Outside X) (whole rest bytes left : List ℕ) → SoFar a b whole rest → FailsBehind b c bytes → rest ≡ bytes ++ left → FailsBehind a c whole
+  pub so_far_fails : (a b c : Outside X) (whole rest bytes left : List ℕ) → SoFar a b whole rest → FailsAfter b c bytes → rest ≡ bytes ++ left → FailsAfter a c whole
   so_far_fails a b c whole rest bytes left so next split =
-      subst (λ (xs : List ℕ). FailsBehind a c xs) (sym (so.whole_is ∙ ap (λ (xs : List ℕ). so.done ++ xs) split))
+      subst (λ (xs : List ℕ). FailsAfter a c xs) (sym (so.whole_is ∙ ap (λ (xs : List ℕ). so.done ++ xs) split))
       (fails_then a b c so.done (bytes ++ left) so.tells (fails_more b c bytes left next))
 
   -- Where no rest is left, the whole was told.
@@ -162,7 +162,7 @@ joined-drop [] i d below = absurd (omega arith)
 joined-drop (part ∷ parts) zero d below = refl
 joined-drop (part ∷ parts) (suc i) d below = joined-drop parts i d (omega arith)
 
--- of the pieces from one on: that piece, and those behind it
+-- of the pieces from one on: that piece, and those after it
 pub joined-next : (parts : List (Bor (List ℕ))) (i : ℕ) (d : Bor (List ℕ)) → i < length parts → joined (drop i parts) ≡ (get_or parts i d).now ++ joined (drop (i + 1) parts)
 joined-next parts i d below =
     let next : suc i ≡ i + 1 = omega arith in

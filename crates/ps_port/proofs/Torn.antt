@@ -1,4 +1,4 @@
--- What stays of bytes behind a write, whole or torn.
+-- What stays of bytes after a write, whole or torn.
 use Rattle.std.proofs.Common.{◌≡◌, ◌⊎◌, inl, inr, ℕ, ◌+◌, ◌<◌, ◌≤◌, List, [], ◌∷◌, ◌++◌, length, get_or, take, drop, sym, ◌∙◌, ap, refl, arith, length-drop, length-take}
 use Rattle.std.proofs.lemmas.List.{same_lists, get_or-take, get_or-drop, get_or_default, take_at, drop_at, length-take-le, append_assoc, get_or_at}
 use Rattle.ps_port.specs.Disk.{written, IsOutside, Torn}

@@ -4,7 +4,7 @@ use Rattle.std.proofs.Common.{inl, inr, get_or, ◌∙◌, ap, arith, length-app
 use Rattle.std.proofs.lemmas.List.{get_or-append_right, get_or_append_left, get_or-drop, get_or-take}
 use Rattle.ps_port.specs.Disk.{written, IsOutside, Torn}
 
--- how long bytes are behind a write
+-- how long bytes are after a write
 pub length-written : (at : ℕ) (bytes old : List ℕ) → length (written at bytes old) + 0 ≡ length (take at old) + length bytes + length (drop (at + length bytes) old)
 length-written at bytes old = omega (arith, length-append (take at old ++ bytes) (drop (at + length bytes) old), length-append (take at old) bytes)
 

@@ -3,7 +3,7 @@ use Rattle.std.specs.Prelude.{◌≡◌, ℕ, ◌<◌, ◌≤◌, List, length}
 use Rattle.ps_port.specs.declared.shelf.ShelfFault.{ShelfFault}
 use Rattle.ps_port.specs.declared.shelf.ShelfFault.TheVariants.{Failed, TooLong, Memory}
 
--- each text that is told is this one
+-- each text that is output is this one
 abbrev pub IsTextOf : (List ℕ → Type 0) → List ℕ → Type 0
 IsTextOf holds bytes = (text : List ℕ) → holds text → bytes ≡ text
 

@@ -1,4 +1,5 @@
 ghost use Rattle.std.specs.Prelude.{◌≡◌, ℕ, ◌<◌, ◌≤◌, ◌+◌, length, vec_len, OnOk, IfOk, IfErr, IfSome};
+ghost use Rattle.ps_base.specs.Limits.{most_text_bytes};
 ghost use Rattle.ps_port.specs.declared.shelf.ShelfFault.TheVariants.{Failed};
 ghost use Rattle.ps_outside.specs.Outside.{next_count};
 ghost use Rattle.ps_port.specs.Texts.{TooLongFor};
@@ -43,6 +44,8 @@ impl<R: Files + Clone + Drop> Shelf for DirShelf<R> {
 
     ghost lacks = { λ shelf name. ⊥ };
 
+    ghost may_fail = { λ shelf name. Unit {0} };
+
     ghost faults = { λ shelf. shelf.faults };
 
     /// It fails where there is no file of this name, where it is a folder or can't be read, and where it
@@ -79,8 +82,8 @@ fn read_file<R: Files>(
     into: &mut Vec<u8>,
 ) -> Result<(), ShelfFault>
     requires { vec_len into.old ≡ 0 }
-    ensures short { OnOk result (vec_len into.new ≤ LONGEST_TEXT) }
-    ensures long { IfErr result (λ fault. TooLongFor LONGEST_TEXT (λ text. ⊥) fault) }
+    ensures short { OnOk result (vec_len into.new ≤ most_text_bytes) }
+    ensures long { IfErr result (λ fault. TooLongFor most_text_bytes (λ text. ⊥) fault) }
 {
     match fs::open(rt, name) {
         Ok(mut file) => read_text(&mut file, buffer, into),
@@ -96,8 +99,8 @@ pub fn read_text<F: Read>(
     into: &mut Vec<u8>,
 ) -> Result<(), ShelfFault>
     requires { vec_len into.old ≡ 0 }
-    ensures short { OnOk result (vec_len into.new ≤ LONGEST_TEXT) }
-    ensures long { IfErr result (λ fault. TooLongFor LONGEST_TEXT (λ text. ⊥) fault) }
+    ensures short { OnOk result (vec_len into.new ≤ most_text_bytes) }
+    ensures long { IfErr result (λ fault. TooLongFor most_text_bytes (λ text. ⊥) fault) }
 {
     let mut length = 0u64;
     for _ in 0..u64::MAX {
@@ -124,7 +127,7 @@ pub fn read_text<F: Read>(
 
 // Keeps some more bytes of a text, in no more memory than the longest text takes.
 fn keep(into: &mut Vec<u8>, bytes: &[u8]) -> Result<(), AllocError>
-    requires { vec_len into.old + length bytes.now ≤ LONGEST_TEXT }
+    requires { vec_len into.old + length bytes.now ≤ most_text_bytes }
     ensures { OnOk result (vec_len into.new ≡ vec_len into.old + length bytes.now) }
 {
     let wanted = into.len() + bytes.len();

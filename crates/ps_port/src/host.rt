@@ -1,5 +1,5 @@
 ghost use Rattle.std.specs.Prelude.{◌≡◌, ℕ, ◌+◌, ◌≤◌, List, length, take, drop, OnOk, OnErr, IfOk};
-ghost use Rattle.ps_outside.specs.Outside.{Outside, After, Leaves, LeavesSame, SameContents, IsDeviceCall, TellsFront, ToldAll, IsPutCall};
+ghost use Rattle.ps_outside.specs.Outside.{Outside, After, Leaves, LeavesSame, SameContents, IsDeviceCall, TellsPrefix, ToldAll, IsPutCall};
 ghost use Rattle.ps_port.specs.Disk.{Written, written, Torn};
 
 /// A call of a host failed. Why is counted by the host: a failed `put` raises its `output_faults`, and a call of the device that failed its
@@ -46,9 +46,9 @@ pub trait Host {
         ensures images { LeavesSame (outside self.old) (outside self.new) }
         ensures call { IsDeviceCall (outside self.old) (outside self.new) result };
 
-    /// Tells the bytes, all of them where it answers Ok, and then no fault is counted. After a refusal a front of them was told.
+    /// Tells the bytes, all of them where it answers Ok, and then no fault is counted. After a refusal a prefix of them was told.
     fn put(&mut self, from: &[u8]) -> Result<(), HostFailed>
-        ensures cut { TellsFront (outside self.old) (outside self.new) from.now }
+        ensures cut { TellsPrefix (outside self.old) (outside self.new) from.now }
         ensures all { OnOk result (ToldAll (outside self.old) (outside self.new) from.now) }
         ensures calm { OnOk result ((outside self.new).output_faults ≡ (outside self.old).output_faults) }
         ensures call { IsPutCall (outside self.old) (outside self.new) result };

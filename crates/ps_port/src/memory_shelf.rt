@@ -1,4 +1,5 @@
 ghost use Rattle.std.specs.Prelude.{◌≡◌, ℕ, ◌≤◌, ◌↔◌, List, [], None, OnOk, OnErr, IfErr, IsErrOf, vec_len};
+ghost use Rattle.ps_base.specs.Limits.{most_text_bytes};
 ghost use Rattle.ps_port.specs.declared.shelf.ShelfFault.TheVariants.{Failed};
 ghost use Rattle.ps_outside.specs.Outside.{Rose, counted};
 ghost use Rattle.ps_port.specs.Texts.{IsTextOf, TooLongFor};
@@ -51,20 +52,23 @@ impl Shelf for MemoryShelf {
 
     ghost lacks = { LacksText };
 
+    ghost may_fail = { LacksText };
+
     ghost faults = { λ shelf. shelf.faults };
 
     /// It fails exactly where no text has that name.
     fn text(&mut self, name: &str, into: &mut Vec<u8>) -> Result<(), ShelfFault>
         ensures given { OnOk result (IsTextOf (HoldsText self.old name.now) into.new.items) }
-        ensures short { OnOk result (vec_len into.new ≤ LONGEST_TEXT) }
-        ensures long { IfErr result (λ fault. TooLongFor LONGEST_TEXT (HoldsText self.old name.now) fault) }
+        ensures short { OnOk result (vec_len into.new ≤ most_text_bytes) }
+        ensures long { IfErr result (λ fault. TooLongFor most_text_bytes (HoldsText self.old name.now) fault) }
         ensures lacking { LacksText self.old name.now → IsErrOf result Failed }
+        ensures named { IsErrOf result Failed → LacksText self.old name.now }
         ensures cause { IsErrOf result Failed → Rose self.old.faults self.new.faults }
         ensures counts { self.old.faults ≤ self.new.faults }
         ensures emptied { OnErr result (into.new.items ≡ []) }
         ensures holds_on { (q t : List ℕ) → HoldsText self.new q t ↔ HoldsText self.old q t }
         ensures lacks_on { (q : List ℕ) → LacksText self.new q ↔ LacksText self.old q }
-        ensures held { IsErrOf result Failed → LacksText self.old name.now }
+        ensures may_fail_on { (q : List ℕ) → LacksText self.new q ↔ LacksText self.old q }
         ensures counted { self.new.faults ≡ counted (is_lacking self.old name.now) self.old.faults }
     {
         into.clear();

@@ -10,7 +10,7 @@ pub fn piece<H: Host>(host: &mut H, bytes: &[u8]) -> Result<(), HostFailed>
     host.put(bytes)
 }
 
-/// Tells pieces one after the other. Where the output fails, no piece behind is told.
+/// Tells pieces one after the other. Where the output fails, no piece after is told.
 pub fn pieces<H: Host>(host: &mut H, parts: &[&[u8]]) -> Result<(), HostFailed>
     ensures tells { TellsOrFails (H.outside host.old) (H.outside host.new) (joined parts.now) result }
     ensures device { LeavesDevice (H.outside host.old) (H.outside host.new) }

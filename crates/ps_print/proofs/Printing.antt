@@ -3,12 +3,12 @@ use Rattle.std.proofs.Common.{◌≡◌, ℕ, true, false, List, [], ◌∷◌, 
 use Rattle.std.specs.Prelude.{Result, Ok, Err, OnOk}
 use Rattle.ps_tree.specs.Phrase.{Phrase, at}
 use Rattle.ps_tree.specs.Phrase as form
-use Rattle.ps_layout.specs.Lexemes.{Lexeme, nothing, blank, gap_bytes, text_of}
-use Rattle.ps_layout.specs.Layout.{other, disjunction, conjunction, negation, sum, product, application, left_of, right_of, semicolon, becomes, is_word, sign_of_relation, sign_of_operator, clause_lexemes, operand_lexemes, lines_lexemes, layout, printed}
-use Rattle.ps_layout.specs.Weights.{weight}
-use Rattle.ps_layout.specs.declared.piece.Piece.{Piece}
-use Rattle.ps_layout.specs.Waiting.{piece_lexemes, piece_weight, lexemes_of, is_empty_program, Adds, AddsPiece, Prints}
-use Rattle.ps_layout.proofs.Printing.{printed_is}
+use Rattle.ps_type_pieces.specs.ps_layout.Lexemes.{Lexeme, nothing, blank, gap_bytes, text_of}
+use Rattle.ps_type_pieces.specs.ps_layout.Layout.{other, disjunction, conjunction, negation, sum, product, application, left_of, right_of, semicolon, becomes, is_word, sign_of_relation, sign_of_operator, clause_lexemes, operand_lexemes, lines_lexemes, layout, printed}
+use Rattle.ps_type_pieces.specs.ps_layout.Weights.{weight}
+use Rattle.ps_type_pieces.specs.ps_layout.declared.piece.Piece.{Piece}
+use Rattle.ps_type_pieces.specs.ps_layout.Waiting.{piece_lexemes, piece_weight, lexemes_of, is_empty_program, Adds, AddsPiece, Prints}
+use Rattle.ps_type_pieces.proofs.of_ps_layout.Printing.{printed_is}
 
 -- a lexeme is written where it stood first
 pub prints_lexeme : {A E : Type 0} (text text' : List ℕ) (piece : Piece) (old : List Piece) (lexeme : Lexeme) (result : Result A E) → piece_lexemes piece ≡ lexeme ∷ [] → piece_weight piece ≡ 1 → OnOk result (text' ≡ text ++ (gap_bytes lexeme.gap ++ lexeme.spelling)) → OnOk result (Prints text (piece ∷ old) text' old)

@@ -1,8 +1,8 @@
 -- What the views of arms, of items of a `write` and of clauses say of them.
 use Rattle.std.proofs.Common.{◌≡◌, Bool, true, false, not, List, [], ◌∷◌, ◌++◌, ◌==◌, length, refl, sym, ap, ◌∙◌, rules, tests}
 use Rattle.std.specs.Option.{is_some}
-use Rattle.ps_base.specs.List.{items_of}
-use Rattle.ps_base.specs.declared.line.Line.{Line}
+use Rattle.ps_type_pieces.specs.ps_base.List.{items_of}
+use Rattle.ps_type_pieces.specs.ps_base.declared.line.Line.{Line}
 use Rattle.ps_tree.specs.declared.rough.Rough.{Rough}
 use Rattle.ps_tree.specs.declared.rough.RoughArm.{RoughArm, out-RoughArm}
 use Rattle.ps_tree.specs.declared.rough.RoughItem.{RoughItem, out-RoughItem}
@@ -13,9 +13,9 @@ use Rattle.ps_tree.specs.Phrase.{at, named, form_of, phrase_of, arm, arm_of, Wri
 use Rattle.ps_tree.specs.Phrase as form
 use Rattle.ps_tree.specs.PhraseLists.{phrases_in, items_in, maybe_in}
 use Rattle.ps_tree.proofs.PhraseLemmas.{rows}
-use Rattle.ps_layout.specs.Lexemes.{nothing}
-use Rattle.ps_layout.specs.Layout.{other, before_do, before_comma, before_colon, is_taken, loosest, tightness, ends_open, form_lexemes, layout}
-use Rattle.ps_layout.specs.Waiting.{is_empty_program}
+use Rattle.ps_type_pieces.specs.ps_layout.Lexemes.{nothing}
+use Rattle.ps_type_pieces.specs.ps_layout.Layout.{other, before_do, before_comma, before_colon, is_taken, loosest, tightness, ends_open, form_lexemes, layout}
+use Rattle.ps_type_pieces.specs.ps_layout.Waiting.{is_empty_program}
 
 pub arm_of-parts : (a : RoughArm) → arm_of a ≡ arm (phrases_in (items_of (out-RoughArm a).labels)) (phrase_of (out-RoughArm a).a)
 unfolding out-RoughArm denote.Hole.Carrier.out
@@ -60,7 +60,7 @@ layout_of-form (code.Sequence' shape items) line is_not = absurd (no_sequence sh
 layout_of-form (code.For' _ _ (struct-RoughRange _ _ _ _ _ _ _) _ _ _) line is_not = refl
 layout_of-form _ line is_not = refl
 
--- what isn't taken by what may stand behind it
+-- what isn't taken by what may stand after it
 pub takes_no_do : (whole : RoughForm) → ((a : _) (c : _) (b : _) → whole ≡ code.Repeat a c b → ⊥) → false ≡ is_taken before_do (form_of whole)
 takes_no_do (code.Repeat' p a a_line q c c_line b) is_not = absurd (is_not _ _ _ (sym (roll-out-RoughForm (code.Repeat' p a a_line q c c_line b)) ∙ ap roll-RoughForm (code.outs-Repeat' p a a_line q c c_line b) ∙ code.rolls-Repeat _ _ _))
 takes_no_do (code.For' _ _ (struct-RoughRange _ _ _ _ _ _ _) _ _ _) is_not = refl

@@ -1,18 +1,18 @@
 ghost use Rattle.std.specs.Prelude.{◌≡◌, ◌+◌, true, OnOk};
 ghost use Rattle.ps_tree.specs.Phrase.{form_of, phrase_of};
 ghost use Rattle.ps_tree.specs.PhraseLists.{items_in};
-ghost use Rattle.ps_layout.specs.Lexemes.{nothing};
-ghost use Rattle.ps_layout.specs.Layout.{other, before_do, before_comma, before_colon, clause_lexemes, operand_lexemes, form_lexemes, in_brackets, number_of, tightness as tightness_in, is_looser, is_taken, ends_open};
-ghost use Rattle.ps_layout.specs.Weights.{weight, weight_form};
-ghost use Rattle.ps_layout.specs.Waiting.{waiting, gap_of, behind_of, tightness_of, Adds};
+ghost use Rattle.ps_type_pieces.specs.ps_layout.Lexemes.{nothing};
+ghost use Rattle.ps_type_pieces.specs.ps_layout.Layout.{other, before_do, before_comma, before_colon, clause_lexemes, operand_lexemes, form_lexemes, in_brackets, number_of, tightness as tightness_in, is_looser, is_taken, ends_open};
+ghost use Rattle.ps_type_pieces.specs.ps_layout.Weights.{weight, weight_form};
+ghost use Rattle.ps_type_pieces.specs.ps_layout.Waiting.{waiting, gap_of, behind_of, tightness_of, Adds};
 
-use ps_layout::pending::Pending;
-use ps_layout::piece::{Behind, Gap, Piece, Spot, Tightness};
-use ps_scan::mark;
+use ps_tree::ps_scan::mark;
 use ps_tree::rough::{Rough, RoughForm, RoughItem};
+use ps_type_pieces::ps_layout::pending::Pending;
+use ps_type_pieces::ps_layout::piece::{Behind, Gap, Piece, Spot, Tightness};
 use std::alloc::AllocError;
 
-/// A clause; what would take what stands behind it stands in brackets.
+/// A clause; what would take what stands after it stands in brackets.
 pub fn put_clause<'a>(
     pending: &mut Pending<'a>,
     spot: Spot,
@@ -63,7 +63,7 @@ fn put_bracketed<'a>(
     ])
 }
 
-// Whether a form would take what stands behind it.
+// Whether a form would take what stands after it.
 fn is_taken(behind: Behind, form: &RoughForm) -> bool
     ensures { result ≡ is_taken (behind_of behind) (form_of form.now) }
 {

@@ -2,15 +2,15 @@ ghost use Rattle.std.specs.Prelude.{◌≡◌, ◌+◌, ◌∷◌, ◌++◌, OnO
 ghost use Rattle.ps_tree.specs.Phrase.{phrase_of, arm_of, item_of};
 ghost use Rattle.ps_tree.specs.Phrase as phrase;
 ghost use Rattle.ps_tree.specs.PhraseLists.{phrases_in, arms_in, items_in};
-ghost use Rattle.ps_layout.specs.Lexemes.{blank};
-ghost use Rattle.ps_layout.specs.Layout.{before_colon, colon, behind_item, clause_lexemes, arms_lexemes, arm_lexemes, items_lexemes, more_items_lexemes, item_lexemes};
-ghost use Rattle.ps_layout.specs.Weights.{weight, weight_arms, weight_arm, weight_items, weight_item};
-ghost use Rattle.ps_layout.specs.Waiting.{waiting, gap_of, behind_of, Adds};
+ghost use Rattle.ps_type_pieces.specs.ps_layout.Lexemes.{blank};
+ghost use Rattle.ps_type_pieces.specs.ps_layout.Layout.{before_colon, colon, behind_item, clause_lexemes, arms_lexemes, arm_lexemes, items_lexemes, more_items_lexemes, item_lexemes};
+ghost use Rattle.ps_type_pieces.specs.ps_layout.Weights.{weight, weight_arms, weight_arm, weight_items, weight_item};
+ghost use Rattle.ps_type_pieces.specs.ps_layout.Waiting.{waiting, gap_of, behind_of, Adds};
 
-use ps_layout::pending::Pending;
-use ps_layout::piece::{Behind, Gap, Piece, Spot};
-use ps_scan::mark;
+use ps_tree::ps_scan::mark;
 use ps_tree::rough::{Rough, RoughArm, RoughItem};
+use ps_type_pieces::ps_layout::pending::Pending;
+use ps_type_pieces::ps_layout::piece::{Behind, Gap, Piece, Spot};
 use std::alloc::AllocError;
 
 // The arms of a `case`, each on a line of its own.
@@ -101,7 +101,7 @@ pub(crate) fn put_more_items<'a>(
     }
 }
 
-// What stands behind an item before these.
+// What stands after an item before these.
 fn behind_item(last: Behind, rest: &[RoughItem]) -> Behind
     ensures { behind_of result ≡ behind_item (behind_of last) (items_in rest.now) }
 {

@@ -1,14 +1,14 @@
 ghost use Rattle.std.specs.Prelude.{◌≡◌, OnOk};
 ghost use Rattle.ps_tree.specs.Phrase.{phrase_of};
 ghost use Rattle.ps_tree.specs.PhraseLists.{phrases_in};
-ghost use Rattle.ps_layout.specs.Layout.{behind_clause, program_lexemes, lines_lexemes, clauses_lexemes, more_clauses_lexemes};
-ghost use Rattle.ps_layout.specs.Weights.{weight_all};
-ghost use Rattle.ps_layout.specs.Waiting.{waiting, gap_of, behind_of, Adds};
+ghost use Rattle.ps_type_pieces.specs.ps_layout.Layout.{behind_clause, program_lexemes, lines_lexemes, clauses_lexemes, more_clauses_lexemes};
+ghost use Rattle.ps_type_pieces.specs.ps_layout.Weights.{weight_all};
+ghost use Rattle.ps_type_pieces.specs.ps_layout.Waiting.{waiting, gap_of, behind_of, Adds};
 
-use ps_layout::pending::Pending;
-use ps_layout::piece::{Behind, Gap, Piece, Spot};
-use ps_scan::mark;
+use ps_tree::ps_scan::mark;
 use ps_tree::rough::Rough;
+use ps_type_pieces::ps_layout::pending::Pending;
+use ps_type_pieces::ps_layout::piece::{Behind, Gap, Piece, Spot};
 use std::alloc::AllocError;
 
 /// The items of a program, which stand without braces.
@@ -93,7 +93,7 @@ pub(crate) fn put_more_clauses<'a>(
     }
 }
 
-// What stands behind an item before these.
+// What stands after an item before these.
 fn behind_clause(last: Behind, rest: &[Rough]) -> Behind
     ensures { behind_of result ≡ behind_clause (behind_of last) (phrases_in rest.now) }
 {

@@ -1,20 +1,20 @@
 ghost use Rattle.std.specs.Prelude.{◌≡◌, ◌<◌, ◌∷◌, [], ◌++◌, IfOk, OnOk};
 ghost use Rattle.ps_tree.specs.Phrase.{phrase_of};
-ghost use Rattle.ps_layout.specs.Lexemes.{text_of};
-ghost use Rattle.ps_layout.specs.Layout.{layout, printed};
-ghost use Rattle.ps_layout.specs.Weights.{weight};
-ghost use Rattle.ps_layout.specs.Waiting.{waiting, lexemes_of, is_empty_program, Adds, Prints};
+ghost use Rattle.ps_type_pieces.specs.ps_layout.Lexemes.{text_of};
+ghost use Rattle.ps_type_pieces.specs.ps_layout.Layout.{layout, printed};
+ghost use Rattle.ps_type_pieces.specs.ps_layout.Weights.{weight};
+ghost use Rattle.ps_type_pieces.specs.ps_layout.Waiting.{waiting, lexemes_of, is_empty_program, Adds, Prints};
 
 use crate::clauses::{put_clause, put_operand};
 use crate::items::{put_arm, put_arms, put_item, put_items, put_more_items};
 use crate::lines::{put_clauses, put_lines, put_more_clauses, put_program};
-use ps_layout::forms::put_form;
-use ps_layout::pending::Pending;
-use ps_layout::piece::{Behind, Gap, Piece, Spot};
 use ps_lexemes::writer::{
     write_end, write_int, write_mark, write_spelling, write_string, write_word,
 };
 use ps_tree::rough::{Rough, RoughForm};
+use ps_type_pieces::ps_layout::forms::put_form;
+use ps_type_pieces::ps_layout::pending::Pending;
+use ps_type_pieces::ps_layout::piece::{Behind, Gap, Piece, Spot};
 use ps_type_pieces::types::{
     put_gives, put_groups, put_heading, put_more_groups, put_more_types, put_named, put_type,
     put_types,

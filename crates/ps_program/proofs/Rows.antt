@@ -20,7 +20,7 @@ written e = node.Write e node.Empty false ty.Int (record { 0 = 1 })
 abbrev program : Nodes → BodyNode
 program items = body [] ty.Void (node.Block None items) None (record { 0 = 1 })
 
--- `write 1`: the item, and the width that isn't there behind it
+-- `write 1`: the item, and the width that isn't there after it
 written_one : slot_count (program (more (written (node.Int (pos 1))) none)) ≡ 2
 written_one = refl
 
@@ -32,11 +32,11 @@ two_names = refl
 sums : depth (node.Arith Add (node.Int (pos 1)) (node.Arith Add (node.Int (pos 1)) (node.Int (pos 1)) (record { 0 = 1 })) (record { 0 = 1 })) ≡ 3
 sums = refl
 
--- `for i = 1 to 1 do {}`: a control, three for the loop, and what is done behind three operands
+-- `for i = 1 to 1 do {}`: a control, three for the loop, and what is done after three operands
 counted : slot_count (program (more (node.For 0 (node.Int (pos 1)) (node.Int (pos 1)) (node.Int (pos 1)) None (Plain 0) (node.Block None none) (record { 0 = 1 })) none)) ≡ 8
 counted = refl
 
--- `case 1 of 1 + 1 : 1; default : 1`: a label behind two
+-- `case 1 of 1 + 1 : 1; default : 1`: a label after two
 cases : depth (node.Case (node.Int (pos 1)) (more_arms (arm (more (node.Arith Add (node.Int (pos 1)) (node.Int (pos 1)) (record { 0 = 1 })) none) (node.Int (pos 1))) no_arms) (node.Int (pos 1)) ty.Int) ≡ 4
 cases = refl
 

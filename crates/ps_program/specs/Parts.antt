@@ -4,7 +4,7 @@ use Rattle.std.specs.Prelude.{List, [], ◌∷◌, ◌++◌}
 use Rattle.ps_program.specs.Node.{Node, Nodes, none, more, Arm, arm, Arms, no_arms, more_arms, body}
 use Rattle.ps_program.specs.Node as node
 
--- An operand waits on a stack while those behind it are evaluated. A label is compared with a value that waits. Of branches
+-- An operand waits on a stack while those after it are evaluated. A label is compared with a value that waits. Of branches
 -- one is the whole when it is evaluated, and nothing waits. The clause of a procedure literal is evaluated elsewhere.
 pub data Part (A : Type 0) : Type 0 where
   operand : (of : A) → Part A

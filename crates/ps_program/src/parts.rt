@@ -18,7 +18,7 @@ pub enum Parts<'a> {
     Literal(&'a Body),
 }
 
-/// The parts of a clause behind its first.
+/// The parts of a clause after its first.
 #[derive(Clone, Copy)]
 pub enum Further<'a> {
     Nothing,

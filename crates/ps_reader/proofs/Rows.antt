@@ -6,14 +6,14 @@ use Rattle.ps_base.proofs.TyLemmas.{ty_views-append}
 use Rattle.ps_base.specs.declared.ty.Ty.{Ty}
 use Rattle.ps_tree.specs.declared.fault.ParseFault.{ParseFault}
 use Rattle.ps_tree.specs.declared.fault.ParseFault.TheVariants.{TooNested, Memory}
-use Rattle.ps_symbols.specs.declared.kind.Kind.{Kind}
-use Rattle.ps_symbols.specs.declared.kind.Kind.TheVariants as kind
-use Rattle.ps_symbols.specs.declared.kind.TypeStart.{TypeStart}
+use Rattle.ps_tree.specs.ps_symbols.declared.kind.Kind.{Kind}
+use Rattle.ps_tree.specs.ps_symbols.declared.kind.Kind.TheVariants as kind
+use Rattle.ps_tree.specs.ps_symbols.declared.kind.TypeStart.{TypeStart}
 use Rattle.ps_tree.specs.declared.rough.Group.{Group}
 use Rattle.ps_tree.specs.declared.rough.Named.{Named}
 use Rattle.std.proofs.lemmas.List.{append_assoc, append-nil}
-use Rattle.ps_symbols.specs.declared.symbol.Symbol.{Symbol}
-use Rattle.ps_symbols.specs.Kinds.{begins_type, type_start_of}
+use Rattle.ps_tree.specs.ps_symbols.declared.symbol.Symbol.{Symbol}
+use Rattle.ps_tree.specs.ps_symbols.Kinds.{begins_type, type_start_of}
 use Rattle.ps_tree.specs.Phrase.{GroupAt, NameAt, group_of, groups_in, names_in, of_type}
 use Rattle.ps_reader.specs.Grammar.{Give, Go, Groups, Made, MoreGroups, Nested, Open, ParameterTypes, Parameters, Part, Rule, a_clause_inside, a_type, a_type_inside, all_groups, all_types, inside, more_groups, more_types, next_group, parameter_types, parameters, result, row, typed_as}
 use Rattle.ps_reader.specs.Reading.{kind_at, kind_of_next, Reads}
@@ -107,7 +107,7 @@ module _ {text : List ℕ} {count : ℕ} {symbols : List Symbol} where
   pub groups_again : {room from : ℕ} (next : List GroupAt → Rule) (before : List Group) (last : Group) {first : GroupAt} {others : List GroupAt} {made : List Group} → group_of last ≡ first ∷ others → made ≡ before ++ last ∷ [] → Continues text count symbols room (next ((groups_in before ++ first ∷ []) ++ others)) from (next (groups_in made)) from
   groups_again next before last {first = first} {others = others} group is = same (ap next (append_assoc (groups_in before) (first ∷ []) others ∙ ap (λ (all : List GroupAt). groups_in before ++ all) (sym group) ∙ sym (ap groups_in is ∙ groups_in-append before last)))
 
-  -- behind the first name of a group there are no further ones yet
+  -- after the first name of a group there are no further ones yet
   pub further : {room from : ℕ} (t : TyView) (before : List GroupAt) (none_yet : List Named) → none_yet ≡ [] → Continues text count symbols room (Go (MoreGroups t before)) from (Go (MoreGroups t (before ++ names_in t none_yet))) from
   further t before none_yet is = same (ap (λ (all : List GroupAt). Go (MoreGroups t all)) (sym (ap (λ (names : List Named). before ++ names_in t names) is ∙ append-nil before)))
 

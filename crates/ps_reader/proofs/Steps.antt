@@ -6,9 +6,9 @@ use Rattle.ps_tree.specs.declared.fault.ParseFault.TheVariants.{Memory}
 use Rattle.ps_tree.specs.declared.rough.Rough.{Rough}
 use Rattle.ps_tree.specs.declared.rough.Named.{Named}
 use Rattle.ps_tree.specs.Phrase.{Phrase, NameAt, phrase_of, named}
-use Rattle.ps_symbols.specs.declared.kind.Kind.{Kind}
-use Rattle.ps_symbols.specs.declared.kind.Kind.TheVariants as kind
-use Rattle.ps_symbols.specs.declared.symbol.Symbol.{Symbol}
+use Rattle.ps_tree.specs.ps_symbols.declared.kind.Kind.{Kind}
+use Rattle.ps_tree.specs.ps_symbols.declared.kind.Kind.TheVariants as kind
+use Rattle.ps_tree.specs.ps_symbols.declared.symbol.Symbol.{Symbol}
 use Rattle.ps_reader.specs.declared.reader.Reader.{Reader}
 use Rattle.ps_reader.specs.Grammar.{Made, a_clause, Part, Rule, Give, Take, Go, Then, name_at, row}
 use Rattle.ps_reader.specs.Reading.{kind_at, kind_of_next, Reads}
@@ -62,7 +62,7 @@ module _ {text : List ℕ} {count : ℕ} {symbols : List Symbol} where
   built (Ok made) is memory goes = on goes (same (ap (λ (t : Phrase). Give (a_clause t)) (sym is)))
   built (Err fault) is memory goes = HaltsWith.out_of_memory memory
 
-  -- a call at the end reads what stands first, and what is asked for behind it stands there
+  -- a call at the end reads what stands first, and what is asked for after it stands there
   pub tail_first : {A : Type 0} (view : A → Made) (next : Made → Rule) (to : ℕ) {room from at : ℕ} {rule first : Rule} (result : Result A ParseFault) → MatchResult result (λ made. Continues text count symbols room first at (Give (view made)) to) (λ fault. HaltsWith text count symbols room first at fault) → Continues text count symbols room rule from (Then first next) at → MatchResult result (λ made. Continues text count symbols room rule from (next (view made)) to) (λ fault. HaltsWith text count symbols room rule from fault)
   tail_first view next to (Ok made) does goes = on goes (behind_first does)
   tail_first view next to (Err fault) does goes = goes.halts fault (HaltsWith.in_first does)
@@ -75,7 +75,7 @@ module _ {reader : Reader} where
   pub missing : {room from : ℕ} {kind : Kind} {next : Symbol → Rule} {fault : ParseFault} → IsMissing reader kind from fault → Halts reader room (Take kind next) from fault
   missing none = HaltsWith.wrong_token none.other none.is
 
-  -- behind a token there are fewer symbols left
+  -- after a token there are fewer symbols left
   pub nearer : {from place to later : ℕ} {kind : Kind} {symbol : Symbol} → Taken reader kind place symbol to → from ≤ place → to ≤ later → length reader.symbols.now - later < length reader.symbols.now - from
   nearer {place = place} {symbol = symbol} taken first last = let w = slice_get_within reader.symbols.now place symbol taken.here in omega (arith, first, w, taken.at, last)
 

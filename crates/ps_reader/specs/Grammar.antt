@@ -5,21 +5,21 @@ use Rattle.ps_base.specs.TyView.{TyView, TyViews, and_type}
 use Rattle.ps_base.specs.TyView as ty
 use Rattle.ps_base.specs.declared.line.Line.{Line}
 use Rattle.ps_scan.specs.Tokens.{slice_of, int_value, spelled, line_of}
-use Rattle.ps_symbols.specs.declared.kind.Kind.{Kind}
-use Rattle.ps_symbols.specs.declared.kind.Kind.TheVariants as kind
-use Rattle.ps_symbols.specs.declared.kind.Level.{Level}
-use Rattle.ps_symbols.specs.declared.kind.Level.TheVariants.{Disjunction, Conjunction, Sum, Product}
-use Rattle.ps_symbols.specs.declared.kind.Operation.{Operation}
-use Rattle.ps_symbols.specs.declared.kind.Opening.{Opening}
-use Rattle.ps_symbols.specs.declared.kind.Opening.TheVariants as opening
-use Rattle.ps_symbols.specs.declared.kind.Relating.{Relating}
-use Rattle.ps_symbols.specs.declared.kind.Relating.TheVariants.{Compares, IsOf}
-use Rattle.ps_symbols.specs.declared.kind.Start.{Start}
-use Rattle.ps_symbols.specs.declared.kind.Start.TheVariants as start
-use Rattle.ps_symbols.specs.declared.kind.TypeStart.{TypeStart}
-use Rattle.ps_symbols.specs.declared.kind.TypeStart.TheVariants as typed
-use Rattle.ps_symbols.specs.declared.symbol.Symbol.{Symbol}
-use Rattle.ps_symbols.specs.Kinds.{operation_of, relating_of, begins_item, begins_type, opening_of, start_of, type_start_of}
+use Rattle.ps_tree.specs.ps_symbols.declared.kind.Kind.{Kind}
+use Rattle.ps_tree.specs.ps_symbols.declared.kind.Kind.TheVariants as kind
+use Rattle.ps_tree.specs.ps_symbols.declared.kind.Level.{Level}
+use Rattle.ps_tree.specs.ps_symbols.declared.kind.Level.TheVariants.{Disjunction, Conjunction, Sum, Product}
+use Rattle.ps_tree.specs.ps_symbols.declared.kind.Operation.{Operation}
+use Rattle.ps_tree.specs.ps_symbols.declared.kind.Opening.{Opening}
+use Rattle.ps_tree.specs.ps_symbols.declared.kind.Opening.TheVariants as opening
+use Rattle.ps_tree.specs.ps_symbols.declared.kind.Relating.{Relating}
+use Rattle.ps_tree.specs.ps_symbols.declared.kind.Relating.TheVariants.{Compares, IsOf}
+use Rattle.ps_tree.specs.ps_symbols.declared.kind.Start.{Start}
+use Rattle.ps_tree.specs.ps_symbols.declared.kind.Start.TheVariants as start
+use Rattle.ps_tree.specs.ps_symbols.declared.kind.TypeStart.{TypeStart}
+use Rattle.ps_tree.specs.ps_symbols.declared.kind.TypeStart.TheVariants as typed
+use Rattle.ps_tree.specs.ps_symbols.declared.symbol.Symbol.{Symbol}
+use Rattle.ps_tree.specs.ps_symbols.Kinds.{operation_of, relating_of, begins_item, begins_type, opening_of, start_of, type_start_of}
 use Rattle.ps_tree.specs.Phrase.{NameAt, GroupAt, Phrase, at, Phrases, none, more, MaybePhrase, absent, present, Arms, no_arms, arm, WriteItem, item, WriteItems, no_items, more_items}
 use Rattle.ps_tree.specs.Phrase as form
 use Rattle.ps_tree.specs.Composing.{and_then, and_arm, and_item, joined}
@@ -33,7 +33,7 @@ pub data Made : Type 0 where
   all_groups : (groups : List GroupAt) → Made
   an_item : (one : WriteItem) → Made
 
--- the parts of a program. A part that goes on behind something that has been read names it.
+-- the parts of a program. A part that goes on after something that has been read names it.
 pub data Part : Type 0 where
   Program : Part
   Ending : (all : Phrase) → Part
@@ -194,7 +194,7 @@ binding line name kind.Equals = Some (bound kind.Equals false line name)
 binding line name kind.Becomes = Some (bound kind.Becomes true line name)
 binding line name _ = None
 
--- a procedure behind its `proc`, or behind its name: "(" [ groups ] [ "->" type ] ")" ";" clause
+-- a procedure after its `proc`, or after its name: "(" [ groups ] [ "->" type ] ")" ";" clause
 abbrev pub literal : Line → Rule
 literal line = skip kind.OpenRound (Then (Go Parameters) (λ params. type_of (Go Result) (λ gives. skip kind.CloseRound (skip kind.Semicolon (with_clause (λ s. give (form.Proc (the_groups params) gives s) line))))))
 

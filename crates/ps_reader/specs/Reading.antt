@@ -1,15 +1,15 @@
 -- How a text is read by the grammar, and how deep its clauses and types stand inside one another.
 use Rattle.std.specs.Prelude.{◌≡◌, ℕ, suc, ◌+◌, ◌<◌, List, length, Option, Some, None, slice_get}
-use Rattle.ps_symbols.specs.declared.kind.Kind.{Kind}
-use Rattle.ps_symbols.specs.declared.kind.Kind.TheVariants.{EndOfText}
-use Rattle.ps_symbols.specs.declared.symbol.Symbol.{Symbol}
+use Rattle.ps_tree.specs.ps_symbols.declared.kind.Kind.{Kind}
+use Rattle.ps_tree.specs.ps_symbols.declared.kind.Kind.TheVariants.{EndOfText}
+use Rattle.ps_tree.specs.ps_symbols.declared.symbol.Symbol.{Symbol}
 use Rattle.ps_reader.specs.Grammar.{Made, Part, Nested, Rule, Give, Take, Go, Open, Then, inside, row}
 
 abbrev pub kind_of_next : Option Symbol → Kind
 kind_of_next (Some symbol) = symbol.kind
 kind_of_next None = EndOfText
 
--- the kind of the symbol at this place; behind the last there is the end of the text
+-- the kind of the symbol at this place; after the last there is the end of the text
 abbrev pub kind_at : List Symbol → ℕ → Kind
 kind_at symbols place = kind_of_next (slice_get symbols place)
 

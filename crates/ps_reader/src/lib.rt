@@ -3,3 +3,5 @@
 #![tactic(auto)]
 
 pub mod reader;
+
+pub use ps_scan;

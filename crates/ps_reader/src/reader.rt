@@ -1,6 +1,7 @@
 ghost use Rattle.std.specs.Prelude.{◌≡◌, ◌≤◌, ℕ, length, slice_get, IsSome, MatchResult};
+ghost use Rattle.ps_base.specs.Limits.{most_text_bytes};
 ghost use Rattle.ps_base.specs.declared.line.Line.{Line};
-ghost use Rattle.ps_symbols.specs.Kinds.{operation_of, relating_of};
+ghost use Rattle.ps_tree.specs.ps_symbols.Kinds.{operation_of, relating_of};
 ghost use Rattle.ps_scan.specs.Tokens.{IsToken, newlines};
 ghost use Rattle.ps_tree.specs.Phrase.{NameAt, named};
 ghost use Rattle.ps_reader.specs.Faults.{end_line, unexpected};
@@ -14,14 +15,13 @@ mod types;
 
 use ps_base::bytes::Bytes;
 use ps_base::line::Line;
-use ps_scan::LONGEST_TEXT;
-use ps_symbols::kind::{Kind, Level, Operation, Relating, operation_of, relating_of};
-use ps_symbols::symbol::Symbol;
 use ps_tree::fault::ParseFault;
+use ps_tree::ps_symbols::kind::{Kind, Level, Operation, Relating, operation_of, relating_of};
+use ps_tree::ps_symbols::symbol::Symbol;
 use ps_tree::rough::Named;
 use std::alloc::Global;
 
-/// The symbols of a text, of which each method reads some: from a place on, which moves behind
+/// The symbols of a text, of which each method reads some: from a place on, which moves after
 /// them. `room` is how many clauses and types may still stand inside one another.
 #[derive(Drop)]
 pub struct Reader<'a> {
@@ -40,7 +40,7 @@ impl<'a> Reader<'a> {
         self.symbols.get(at).copied()
     }
 
-    /// The kind of the symbol at the place; behind the last there is the end of the text.
+    /// The kind of the symbol at the place; after the last there is the end of the text.
     pub fn kind_at(&self, at: usize) -> Kind
         ensures { result ≡ kind_at self.now.symbols.now at }
     {
@@ -149,7 +149,7 @@ impl<'a> Reader<'a> {
         self.spelled(symbol)
     }
 
-    /// Takes a word, and the name behind it: the line of the word, and the name.
+    /// Takes a word, and the name after it: the line of the word, and the name.
     pub fn name_behind(&self, at: &mut usize, word: Kind) -> Result<(Line, Named), ParseFault>
         requires sound { AreSound self.now }
         ensures { (room : ℕ) (next : Line → NameAt → Rule) → Does self.now room (word_and_name self.now.text.now word next) at.old result (λ made. next made.0 (named made.1)) at.new }
@@ -174,7 +174,7 @@ impl<'a> Reader<'a> {
 
 /// The line of a text's last byte, where a newline belongs to the line that it ends.
 fn end_line(text: &[u8]) -> Line
-    requires { length text.now ≤ LONGEST_TEXT }
+    requires { length text.now ≤ most_text_bytes }
     ensures { result ≡ end_line text.now }
 {
     let before = text.split_at(text.len().saturating_sub(1)).0;

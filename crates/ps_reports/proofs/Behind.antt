@@ -1,8 +1,8 @@
--- What is told behind calls that told nothing.
+-- What is told after calls that told nothing.
 use Rattle.std.proofs.Common.{◌≡◌, ℕ, List, [], refl, sym}
 use Rattle.std.proofs.lemmas.List.{append-nil}
-use Rattle.ps_outside.specs.Outside.{Outside, TellsNothing, Adds, AddsFront}
-use Rattle.ps_outside.proofs.Moments.{along_weaker, along_now}
+use Rattle.ps_port.specs.ps_outside.Outside.{Outside, TellsNothing, Adds, AddsPrefix}
+use Rattle.ps_port.proofs.of_ps_outside.Moments.{along_weaker, along_now}
 use Rattle.ps_port.specs.Telling.{TellsAll}
 use Rattle.ps_port.proofs.Telling.{all_then, fails_then}
 use Rattle.ps_reports.specs.Answering.{Answers, whole, cut}
@@ -19,7 +19,7 @@ module _ (old mid : Outside (List ℕ)) (nothing : TellsNothing old mid) (calm :
     calm = calm;
   }
 
-  -- so an answer behind is an answer of the whole way
+  -- so an answer after is an answer of the whole way
   pub behind_nothing : (new : Outside (List ℕ)) (due : List ℕ) (status answered : ℕ) → Answers mid new due status answered → Answers old new due status answered
   behind_nothing new due status answered (whole all) = whole (all_then old mid new [] due told_none all)
   behind_nothing new due status answered (cut fails) = cut (fails_then old mid new [] due told_none fails)

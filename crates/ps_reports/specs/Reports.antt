@@ -1,6 +1,6 @@
 -- The report lines of what ends a command but for the ends of a program.
 use Rattle.std.specs.Prelude.{ℕ, List, ◌++◌, codes, decimal}
-use Rattle.ps_base.specs.declared.TheConstants.{LONGEST_TEXT}
+use Rattle.ps_base.specs.Limits.{most_text_bytes}
 use Rattle.ps_base.specs.declared.line.Line.{Line}
 
 abbrev pub usage_line : List ℕ
@@ -13,7 +13,7 @@ abbrev pub unreadable_line : List ℕ → List ℕ
 unreadable_line file = codes "cannot read " ++ (file ++ codes "\n")
 
 abbrev pub too_long_line : List ℕ → ℕ → List ℕ
-too_long_line file length = file ++ (codes ": " ++ (decimal length ++ (codes " bytes, at most " ++ (decimal LONGEST_TEXT ++ codes "\n"))))
+too_long_line file length = file ++ (codes ": " ++ (decimal length ++ (codes " bytes, at most " ++ (decimal most_text_bytes ++ codes "\n"))))
 
 -- the stage that found the fault is `scan`, `parse` or `check`
 abbrev pub fault_line : List ℕ → List ℕ → ℕ → Line → List ℕ

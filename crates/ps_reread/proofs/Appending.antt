@@ -1,7 +1,7 @@
 -- One more at the end, and then the rest: lists of clauses, of arms and of items without their lines.
 use Rattle.std.proofs.Common.{◌≡◌, refl, ap}
-use Rattle.ps_tree.specs.Phrase.{Phrase, Phrases, none, more, Arm, Arms, no_arms, more_arms, WriteItem, WriteItems, no_items, more_items}
-use Rattle.ps_tree.specs.Composing.{and_then, and_arm, and_item}
+use Rattle.ps_layout.specs.ps_tree.Phrase.{Phrase, Phrases, none, more, Arm, Arms, no_arms, more_arms, WriteItem, WriteItems, no_items, more_items}
+use Rattle.ps_layout.specs.ps_tree.Composing.{and_then, and_arm, and_item}
 use Rattle.ps_reread.specs.Bare.{bare, bare_all, bare_arm, bare_arms, bare_item, bare_items}
 
 abbrev pub append : Phrases → Phrases → Phrases

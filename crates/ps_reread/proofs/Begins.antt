@@ -1,16 +1,16 @@
 -- How a clause begins, and what doesn't begin one.
 use Rattle.std.proofs.Common.{◌≡◌, ◌≢◌, ℕ, suc, ◌+◌, List, [], ◌∷◌, Bool, true, false, Option, Some, None, is_some, option_map, nat_lt, refl, ap}
-use Rattle.ps_base.specs.declared.line.Line.{Line}
-use Rattle.ps_symbols.specs.declared.kind.Kind.{Kind}
-use Rattle.ps_symbols.specs.declared.kind.Kind.TheVariants as kind
-use Rattle.ps_symbols.specs.declared.kind.Level.TheVariants.{Disjunction}
-use Rattle.ps_symbols.specs.declared.kind.Opening.{Opening}
-use Rattle.ps_symbols.specs.declared.symbol.Symbol.{Symbol}
-use Rattle.ps_symbols.specs.Kinds.{opening_of, begins_item}
-use Rattle.ps_tree.specs.Phrase.{NameAt, Phrase, at, Form, Phrases, none, more, absent, Arms}
-use Rattle.ps_tree.specs.Phrase as form
-use Rattle.ps_reader.specs.Grammar.{Made, a_clause, Rule, Go, Clause, a_clause_inside, Chain, Primary, SecondArgument, Labels, inside, row, opened, expression, arguments, cases, one_item, between, with_clause, give}
-use Rattle.ps_reader.specs.Reading.{kind_at, Reads, gives, takes, goes, opens, joins}
+use Rattle.ps_layout.specs.ps_base.declared.line.Line.{Line}
+use Rattle.ps_layout.specs.ps_symbols.declared.kind.Kind.{Kind}
+use Rattle.ps_layout.specs.ps_symbols.declared.kind.Kind.TheVariants as kind
+use Rattle.ps_layout.specs.ps_symbols.declared.kind.Level.TheVariants.{Disjunction}
+use Rattle.ps_layout.specs.ps_symbols.declared.kind.Opening.{Opening}
+use Rattle.ps_layout.specs.ps_symbols.declared.symbol.Symbol.{Symbol}
+use Rattle.ps_layout.specs.ps_symbols.Kinds.{opening_of, begins_item}
+use Rattle.ps_layout.specs.ps_tree.Phrase.{NameAt, Phrase, at, Form, Phrases, none, more, absent, Arms}
+use Rattle.ps_layout.specs.ps_tree.Phrase as form
+use Rattle.ps_parse.specs.ps_reader.Grammar.{Made, a_clause, Rule, Go, Clause, a_clause_inside, Chain, Primary, SecondArgument, Labels, inside, row, opened, expression, arguments, cases, one_item, between, with_clause, give}
+use Rattle.ps_parse.specs.ps_reader.Reading.{kind_at, Reads, gives, takes, goes, opens, joins}
 use Rattle.ps_layout.specs.Lexemes.{Gap, Lexeme}
 use Rattle.ps_layout.specs.Layout.{Tightness, number_of, Behind, before_do, in_brackets, close_round, loosest, disjunction, primary}
 use Rattle.ps_layout.specs.Layout as layout
@@ -30,8 +30,8 @@ pub record Begins (text : List ℕ) (symbols : List Symbol) (room : ℕ) (from :
   pub read : Reads text symbols room rule from (a_clause again) to
   pub same : bare again ≡ bare p
 
--- a form that binds so tight is read in front of what is above it, and a clause in front of what
--- stands behind it
+-- a form that binds so tight is read before what is above it, and a clause before what
+-- stands after it
 abbrev pub By : List ℕ → List Symbol → ℕ → Behind → ℕ → Phrase → ℕ → Tightness → Type 0
 By text symbols room behind from p to loosest = InFront behind (kind_at symbols to) → Begins text symbols room from p to
 By text symbols room behind from p to t = Above t (kind_at symbols to) → Leads text symbols room t from p to

@@ -2,14 +2,14 @@
 -- text that is printed: with brackets where they are needed and nowhere else.
 use Rattle.std.proofs.Common.{◌≡◌, ◌≢◌, ℕ, suc, ◌≤◌, pos, List, [], ◌∷◌, length, Bool, true, false}
 use Rattle.std.specs.List.{AllPass}
-use Rattle.ps_base.specs.TyView.{TyView, TyViews}
-use Rattle.ps_base.specs.TyView as ty
-use Rattle.ps_base.specs.declared.line.Line.{Line}
-use Rattle.ps_base.specs.declared.operator.Operator.{Operator}
-use Rattle.ps_base.specs.declared.operator.Relation.{Relation}
-use Rattle.ps_scan.specs.Tokens.{IsName}
-use Rattle.ps_tree.specs.Phrase.{NameAt, GroupAt, Phrase, at, Form, Phrases, none, more, absent, present, Arm, Arms, no_arms, more_arms, arm, WriteItem, item, WriteItems, no_items, more_items}
-use Rattle.ps_tree.specs.Phrase as form
+use Rattle.ps_layout.specs.ps_base.TyView.{TyView, TyViews}
+use Rattle.ps_layout.specs.ps_base.TyView as ty
+use Rattle.ps_layout.specs.ps_base.declared.line.Line.{Line}
+use Rattle.ps_layout.specs.ps_base.declared.operator.Operator.{Operator}
+use Rattle.ps_layout.specs.ps_base.declared.operator.Relation.{Relation}
+use Rattle.ps_parse.specs.ps_scan.Tokens.{IsName}
+use Rattle.ps_layout.specs.ps_tree.Phrase.{NameAt, GroupAt, Phrase, at, Form, Phrases, none, more, absent, present, Arm, Arms, no_arms, more_arms, arm, WriteItem, item, WriteItems, no_items, more_items}
+use Rattle.ps_layout.specs.ps_tree.Phrase as form
 use Rattle.ps_reread.specs.Spelled.{can_be_spelled}
 use Rattle.ps_layout.specs.Layout.{Behind, other, before_do, before_colon, is_taken, behind_clause, behind_item, Tightness, is_looser, left_of, right_of, disjunction, conjunction, negation, comparison, sum, product, application}
 use Rattle.ps_layout.specs.Waiting.{is_procedure}
@@ -37,7 +37,7 @@ pub data AreGroups (room : ℕ) : List GroupAt → Type 0 where
   more_groups : {group : GroupAt} {groups : List GroupAt} → IsType room group.ty → IsName group.name.name → AreGroups room groups → AreGroups room (group ∷ groups)
 
 mutual
-  -- a clause in front of what stands behind it; in brackets where it would take that
+  -- a clause before what stands after it; in brackets where it would take that
   pub data IsClause : ℕ → Behind → Phrase → Type 0 where
     plain : {room : ℕ} {behind : Behind} {f : Form} {line : Line} → is_taken behind f ≡ false → IsForm room behind f → IsClause (suc room) behind (at f line)
     kept : {room : ℕ} {behind : Behind} {f : Form} {line : Line} → is_taken behind f ≡ true → IsForm room other f → IsClause (suc (suc room)) behind (at f line)
@@ -81,7 +81,7 @@ mutual
     bound : {room : ℕ} {behind : Behind} {upper : Bool} {e : Phrase} → IsClause room other e → IsForm room behind (form.Bound upper e)
     elems : {room : ℕ} {behind : Behind} {l first : Phrase} {t : TyView} {rest : Phrases} → IsClause room other l → IsType room t → AreClauses room other (more first rest) → IsForm room behind (form.Elems l t (more first rest))
 
-  -- clauses with commas between them; behind the last stands this
+  -- clauses with commas between them; after the last stands this
   pub data AreClauses : ℕ → Behind → Phrases → Type 0 where
     no_clauses : {room : ℕ} {last : Behind} → AreClauses room last none
     more_clauses : {room : ℕ} {last : Behind} {first : Phrase} {rest : Phrases} → IsClause room (behind_clause last rest) first → AreClauses room last rest → AreClauses room last (more first rest)

@@ -1,16 +1,16 @@
 -- From how tight a form binds to how tight its place asks for: the parts of the grammar between.
 use Rattle.std.proofs.Common.{◌≡◌, ℕ, List, Bool, true, false, Option, Some, None, IsSome, option_map, nat_lt, refl, sym, subst, ap}
-use Rattle.ps_symbols.specs.declared.kind.Kind.{Kind}
-use Rattle.ps_symbols.specs.declared.kind.Kind.TheVariants as kind
-use Rattle.ps_symbols.specs.declared.kind.Level.TheVariants.{Disjunction, Conjunction, Sum, Product}
-use Rattle.ps_symbols.specs.declared.kind.Opening.TheVariants as opening
-use Rattle.ps_symbols.specs.declared.kind.Operation.{Operation}
-use Rattle.ps_symbols.specs.declared.kind.Relating.{Relating}
-use Rattle.ps_symbols.specs.declared.symbol.Symbol.{Symbol}
-use Rattle.ps_symbols.specs.Kinds.{operation_of, relating_of, opening_of, start_of}
-use Rattle.ps_tree.specs.Phrase.{Phrase}
-use Rattle.ps_reader.specs.Grammar.{Made, a_clause, Part, Rule, Give, Go, Then, Clause, Chain, MoreChain, Relative, Compared, Factor, Application, Applied, Primary, row, relative, factor, applied, more_chain, comparison}
-use Rattle.ps_reader.specs.Reading.{kind_at, Reads, gives, goes, joins}
+use Rattle.ps_layout.specs.ps_symbols.declared.kind.Kind.{Kind}
+use Rattle.ps_layout.specs.ps_symbols.declared.kind.Kind.TheVariants as kind
+use Rattle.ps_layout.specs.ps_symbols.declared.kind.Level.TheVariants.{Disjunction, Conjunction, Sum, Product}
+use Rattle.ps_layout.specs.ps_symbols.declared.kind.Opening.TheVariants as opening
+use Rattle.ps_layout.specs.ps_symbols.declared.kind.Operation.{Operation}
+use Rattle.ps_layout.specs.ps_symbols.declared.kind.Relating.{Relating}
+use Rattle.ps_layout.specs.ps_symbols.declared.symbol.Symbol.{Symbol}
+use Rattle.ps_layout.specs.ps_symbols.Kinds.{operation_of, relating_of, opening_of, start_of}
+use Rattle.ps_layout.specs.ps_tree.Phrase.{Phrase}
+use Rattle.ps_parse.specs.ps_reader.Grammar.{Made, a_clause, Part, Rule, Give, Go, Then, Clause, Chain, MoreChain, Relative, Compared, Factor, Application, Applied, Primary, row, relative, factor, applied, more_chain, comparison}
+use Rattle.ps_parse.specs.ps_reader.Reading.{kind_at, Reads, gives, goes, joins}
 use Rattle.ps_layout.specs.Layout.{Tightness, number_of, loosest, disjunction, conjunction, negation, sum, product, signed, application, primary}
 use Rattle.ps_layout.specs.Layout as tight
 use Rattle.ps_reread.specs.Bare.{bare}

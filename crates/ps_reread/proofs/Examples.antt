@@ -1,11 +1,11 @@
 -- The definitions on a small text.
 use Rattle.std.proofs.Common.{◌≡◌, ℕ, true, false, List, [], ◌∷◌, ◌++◌, refl, codes}
-use Rattle.ps_scan.specs.declared.mark.TheConstants.{COLON, BECOMES, EQUALS, SEMICOLON, MINUS, GREATER, OPEN_ROUND}
-use Rattle.ps_scan.specs.declared.word.TheConstants.{LET, WRITE}
-use Rattle.ps_scan.specs.declared.token.TokenKind.{TokenKind}
-use Rattle.ps_scan.specs.declared.token.TokenKind.TheVariants.{Name, Int, Text, Word, Mark}
-use Rattle.ps_scan.specs.Class.{is_name_byte}
-use Rattle.ps_scan.specs.Tokens.{token_at}
+use Rattle.ps_parse.specs.ps_scan.declared.mark.TheConstants.{COLON, BECOMES, EQUALS, SEMICOLON, MINUS, GREATER, OPEN_ROUND}
+use Rattle.ps_parse.specs.ps_scan.declared.word.TheConstants.{LET, WRITE}
+use Rattle.ps_parse.specs.ps_scan.declared.token.TokenKind.{TokenKind}
+use Rattle.ps_parse.specs.ps_scan.declared.token.TokenKind.TheVariants.{Name, Int, Text, Word, Mark}
+use Rattle.ps_parse.specs.ps_scan.Class.{is_name_byte}
+use Rattle.ps_parse.specs.ps_scan.Tokens.{token_at}
 use Rattle.ps_layout.specs.Lexemes.{Gap, nothing, blank, newline, Lexeme, text_of, printed}
 use Rattle.ps_reread.specs.Printable.{tokens_of, neighbours_pass, may_follow}
 use Rattle.ps_reread.specs.Lines.{goes_on}

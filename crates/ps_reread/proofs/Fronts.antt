@@ -1,15 +1,15 @@
--- What stands behind a clause, and that no part of an expression goes on with it.
+-- What stands after a clause, and that no part of an expression goes on with it.
 use Rattle.std.proofs.Common.{◌≡◌, Bool, true, false, None, refl, ap}
-use Rattle.ps_symbols.specs.declared.kind.Kind.{Kind}
-use Rattle.ps_symbols.specs.declared.kind.Kind.TheVariants as kind
-use Rattle.ps_symbols.specs.declared.kind.Level.TheVariants.{Disjunction, Conjunction, Sum, Product}
-use Rattle.ps_symbols.specs.Kinds.{operation_of, relating_of}
-use Rattle.ps_tree.specs.Phrase.{Phrase}
-use Rattle.ps_reader.specs.Grammar.{Give, a_clause, assignment}
+use Rattle.ps_layout.specs.ps_symbols.declared.kind.Kind.{Kind}
+use Rattle.ps_layout.specs.ps_symbols.declared.kind.Kind.TheVariants as kind
+use Rattle.ps_layout.specs.ps_symbols.declared.kind.Level.TheVariants.{Disjunction, Conjunction, Sum, Product}
+use Rattle.ps_layout.specs.ps_symbols.Kinds.{operation_of, relating_of}
+use Rattle.ps_layout.specs.ps_tree.Phrase.{Phrase}
+use Rattle.ps_parse.specs.ps_reader.Grammar.{Give, a_clause, assignment}
 use Rattle.ps_layout.specs.Layout.{Behind, other, before_do, before_comma, before_colon, disjunction}
 use Rattle.ps_reread.proofs.Climb.{Above, above_signed, above_product, above_sum, above_comparison, above_negation, above_conjunction, above_disjunction, opens_arguments}
 
--- the kinds that can stand behind a clause and that no clause goes on with
+-- the kinds that can stand after a clause and that no clause goes on with
 abbrev pub closes : Kind → Bool
 closes kind.Then = true
 closes kind.Else = true
@@ -28,7 +28,7 @@ closes kind.Question = true
 closes kind.EndOfText = true
 closes _ = false
 
--- this is of the kind that stands behind
+-- this is of the kind that stands after
 pub data InFront : Behind → Kind → Type 0 where
   of_do : {k : Kind} → k ≡ kind.Do → InFront before_do k
   of_comma : {k : Kind} → k ≡ kind.Comma → InFront before_comma k

@@ -1,35 +1,35 @@
 -- Every tree that the grammar gives is canonical.
 use Rattle.std.proofs.Common.{◌≡◌, ℕ, suc, ◌+◌, List, Bool, true, false, Option, Some, None, option_map, refl, ap, ◌∙◌, subst, arith}
-use Rattle.ps_base.specs.TyView.{TyView}
-use Rattle.ps_base.specs.declared.line.Line.{Line}
-use Rattle.ps_scan.specs.declared.token.Token.{Token}
-use Rattle.ps_scan.specs.Tokens.{line_of, HasTokens, IsName}
-use Rattle.ps_symbols.specs.declared.kind.Kind.{Kind}
-use Rattle.ps_symbols.specs.declared.kind.Kind.TheVariants as kind
-use Rattle.ps_symbols.specs.declared.kind.Level.{Level}
-use Rattle.ps_symbols.specs.declared.kind.Level.TheVariants.{Disjunction, Conjunction, Sum, Product}
-use Rattle.ps_symbols.specs.declared.kind.Opening.{Opening}
-use Rattle.ps_symbols.specs.declared.kind.Opening.TheVariants as opening
-use Rattle.ps_symbols.specs.declared.kind.Relating.{Relating}
-use Rattle.ps_symbols.specs.declared.kind.Relating.TheVariants.{Compares, IsOf}
-use Rattle.ps_symbols.specs.declared.kind.TypeStart.{TypeStart}
-use Rattle.ps_symbols.specs.declared.kind.TypeStart.TheVariants as typed
-use Rattle.ps_symbols.specs.declared.symbol.Symbol.{Symbol}
-use Rattle.ps_symbols.specs.Kinds.{operation_of, relating_of, begins_item, begins_type, opening_of, type_start_of}
-use Rattle.ps_tree.specs.Phrase.{NameAt, GroupAt, Phrase, at, Phrases, none, more, MaybePhrase, absent, present, Arms, WriteItems, no_items, more_items}
-use Rattle.ps_tree.specs.Phrase as form
-use Rattle.ps_reader.specs.Grammar
-use Rattle.ps_reader.specs.Grammar.{Made, a_clause, Part, Program, Ending, Ended, Items, MoreItems, Item, Binding, Literal, Parameters, Groups, MoreGroups, NextGroup, Result, ParameterTypes, MoreTypes, Choice, Until, Test, Between, Step, Body, Cases, Labels, Written, Width, MoreWritten, Assignment, Chain, MoreChain, Relative, Compared, Comparison, Factor, Application, Applied, Arguments, SecondArgument, MoreArguments, Primary, MoreElements, Rule, Give, Take, Go, Then, Clause, Type_, a_clause_inside, a_type_inside, the_clause, the_type, the_types, the_groups, the_item, inside, row, opened, typed_as}
-use Rattle.ps_reader.specs.Reading.{kind_at, kind_of_next, Reads, gives, takes, goes, opens, joins}
+use Rattle.ps_layout.specs.ps_base.TyView.{TyView}
+use Rattle.ps_layout.specs.ps_base.declared.line.Line.{Line}
+use Rattle.ps_parse.specs.ps_scan.declared.token.Token.{Token}
+use Rattle.ps_parse.specs.ps_scan.Tokens.{line_of, HasTokens, IsName}
+use Rattle.ps_layout.specs.ps_symbols.declared.kind.Kind.{Kind}
+use Rattle.ps_layout.specs.ps_symbols.declared.kind.Kind.TheVariants as kind
+use Rattle.ps_layout.specs.ps_symbols.declared.kind.Level.{Level}
+use Rattle.ps_layout.specs.ps_symbols.declared.kind.Level.TheVariants.{Disjunction, Conjunction, Sum, Product}
+use Rattle.ps_layout.specs.ps_symbols.declared.kind.Opening.{Opening}
+use Rattle.ps_layout.specs.ps_symbols.declared.kind.Opening.TheVariants as opening
+use Rattle.ps_layout.specs.ps_symbols.declared.kind.Relating.{Relating}
+use Rattle.ps_layout.specs.ps_symbols.declared.kind.Relating.TheVariants.{Compares, IsOf}
+use Rattle.ps_layout.specs.ps_symbols.declared.kind.TypeStart.{TypeStart}
+use Rattle.ps_layout.specs.ps_symbols.declared.kind.TypeStart.TheVariants as typed
+use Rattle.ps_layout.specs.ps_symbols.declared.symbol.Symbol.{Symbol}
+use Rattle.ps_layout.specs.ps_symbols.Kinds.{operation_of, relating_of, begins_item, begins_type, opening_of, type_start_of}
+use Rattle.ps_layout.specs.ps_tree.Phrase.{NameAt, GroupAt, Phrase, at, Phrases, none, more, MaybePhrase, absent, present, Arms, WriteItems, no_items, more_items}
+use Rattle.ps_layout.specs.ps_tree.Phrase as form
+use Rattle.ps_parse.specs.ps_reader.Grammar
+use Rattle.ps_parse.specs.ps_reader.Grammar.{Made, a_clause, Part, Program, Ending, Ended, Items, MoreItems, Item, Binding, Literal, Parameters, Groups, MoreGroups, NextGroup, Result, ParameterTypes, MoreTypes, Choice, Until, Test, Between, Step, Body, Cases, Labels, Written, Width, MoreWritten, Assignment, Chain, MoreChain, Relative, Compared, Comparison, Factor, Application, Applied, Arguments, SecondArgument, MoreArguments, Primary, MoreElements, Rule, Give, Take, Go, Then, Clause, Type_, a_clause_inside, a_type_inside, the_clause, the_type, the_types, the_groups, the_item, inside, row, opened, typed_as}
+use Rattle.ps_parse.specs.ps_reader.Reading.{kind_at, kind_of_next, Reads, gives, takes, goes, opens, joins}
 use Rattle.ps_parse.specs.Program.{IsProgram}
-use Rattle.ps_symbols.specs.Symbols.{symbols as symbols_of}
+use Rattle.ps_layout.specs.ps_symbols.Symbols.{symbols as symbols_of}
 use Rattle.ps_layout.specs.Layout.{Behind, other, before_do, before_comma, before_colon, is_taken, ends_open, Tightness, disjunction, conjunction, negation, sum, product, signed, application, primary}
 use Rattle.ps_layout.specs.Layout as tight
 use Rattle.ps_reread.proofs.Canonical.{IsType, AreTypes, IsResult, AreGroups, IsClause, IsOperand, IsForm, AreClauses, AreArms, AreItems, IsWritten, AreItemsOf, IsItem}
 use Rattle.ps_reread.proofs.Leaves.{IsLeaf, AreLeaves, leaves}
 use Rattle.ps_reread.proofs.Making.{whole, lower, bracket, expression_clause, IsProcedure, procedure, procedure_clause, procedure_item, let_item, one_more_item, one_more_type, one_more_group, one_more_clause, one_more_written, ends_alike, has_clause, has_item, has_one_more, has_one_more_item, one_more_arm, written_clause, elements_operand, IsSequence, sequence, block_operand}
 
--- what a clause that ends in front of this kind has behind it
+-- what a clause that ends before this kind has after it
 abbrev behind_of : Kind → Behind
 behind_of kind.Do = before_do
 behind_of kind.Comma = before_comma
@@ -59,7 +59,7 @@ data Sort : Type 0 where
   of_result : Sort
   of_groups : Sort
 
--- what has been read in front of this kind is canonical
+-- what has been read before this kind is canonical
 abbrev Fits : ℕ → Sort → Kind → Made → Type 0
 Fits room of_clause k made = IsClause room (behind_of k) (the_clause made)
 Fits room in_clause k made = IsClause (suc room) (behind_of k) (the_clause made)
@@ -117,7 +117,7 @@ sort_of (MoreArguments line f before) = of_operand application
 sort_of Primary = of_operand primary
 sort_of (MoreElements line l t before) = of_operand primary
 
--- what has been read before a part is canonical, in front of the kind at which the part begins
+-- what has been read before a part is canonical, before the kind at which the part begins
 abbrev Needs : ℕ → Part → Kind → Type 0
 Needs room (Ending all) k = behind_of k ≡ other → IsSequence room (line_of 1) all
 Needs room (Ended all) k = IsSequence room (line_of 1) all
@@ -163,7 +163,7 @@ abbrev RowIsTyped : List ℕ → ℕ → Kind → Sort → Option Rule → Type 
 RowIsTyped text room k sort None = Unit {0}
 RowIsTyped text room k sort (Some rule) = Typed text room k rule sort
 
--- the kind in front of which a clause stands is that of the token taken next
+-- the kind before which a clause stands is that of the token taken next
 front : {k found : Kind} {room : ℕ} {p : Phrase} → k ≡ found → IsClause room (behind_of k) p → IsClause room (behind_of found) p
 front {room = room} {p = p} same = subst (λ (k : Kind). IsClause room (behind_of k) p) same
 

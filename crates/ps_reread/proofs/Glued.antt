@@ -1,13 +1,13 @@
--- What bytes glued behind a run, a string or a mark leave as it is.
+-- What bytes glued after a run, a string or a mark leave as it is.
 use Rattle.std.proofs.Common.{◌≡◌, ℕ, ◌+◌, Bool, true, false, not, cond, ◌&&◌, List, [], ◌∷◌, ◌++◌, length, Option, Some, None, refl, sym, ap, ◌∙◌, arith}
 use Rattle.std.specs.List.{list_all, prefix_len, take_while, AllPass}
 use Rattle.std.proofs.lemmas.List.{take_at}
 use Rattle.std.proofs.lemmas.List.Elements.{All-head, All-tail}
-use Rattle.ps_scan.specs.declared.class.Inner.{Inner}
-use Rattle.ps_scan.specs.declared.class.Inner.TheVariants.{Plain, Apostrophe}
-use Rattle.ps_scan.specs.Class.{inner_of, escaped}
-use Rattle.ps_scan.specs.Piece.{Quoted, Closes, StaysOpen, HasBadByte, HasBadEscape, spells, quoted, behind_apostrophe}
-use Rattle.ps_scan.proofs.Closing.{quoted_plain, quoted_apostrophe, quoted_quote, quoted_newline, quoted_other, escape_some, escape_none}
+use Rattle.ps_parse.specs.ps_scan.declared.class.Inner.{Inner}
+use Rattle.ps_parse.specs.ps_scan.declared.class.Inner.TheVariants.{Plain, Apostrophe}
+use Rattle.ps_parse.specs.ps_scan.Class.{inner_of, escaped}
+use Rattle.ps_parse.specs.ps_scan.Piece.{Quoted, Closes, StaysOpen, HasBadByte, HasBadEscape, spells, quoted, behind_apostrophe}
+use Rattle.ps_parse.proofs.of_ps_scan.Closing.{quoted_plain, quoted_apostrophe, quoted_quote, quoted_newline, quoted_other, escape_some, escape_none}
 use Rattle.ps_reread.specs.Printable.{first_passes}
 
 pub both : (a b : Bool) → (a && b) ≡ true → (a ≡ true) × (b ≡ true)
@@ -39,7 +39,7 @@ run_length p (x ∷ xs) ys pass ends =
 pub run_is : (p : ℕ → Bool) (xs ys : List ℕ) → list_all p xs ≡ true → first_passes (λ b. not (p b)) ys ≡ true → take_while p (xs ++ ys) ≡ xs
 run_is p xs ys pass ends = take_at xs ys (prefix_len p (xs ++ ys)) (sym (run_length p xs ys pass ends))
 
--- a string that closes does so whatever stands behind it
+-- a string that closes does so whatever stands after it
 ClosesToo : Quoted → Quoted → Type 0
 ClosesToo one other = (bytes : List ℕ) (n : ℕ) → one ≡ Closes bytes n → other ≡ Closes bytes n
 

@@ -1,13 +1,13 @@
 -- The first of the lexemes that stand somewhere.
 use Rattle.std.proofs.Common.{◌≡◌, ℕ, ◌+◌, List, [], ◌∷◌, Some, slice_get, refl}
-use Rattle.ps_scan.specs.Tokens.{slice_of}
-use Rattle.ps_symbols.specs.declared.symbol.Symbol.{Symbol}
-use Rattle.ps_symbols.specs.Kinds.{kind_of}
-use Rattle.ps_reader.specs.Reading.{kind_at}
+use Rattle.ps_parse.specs.ps_scan.Tokens.{slice_of}
+use Rattle.ps_layout.specs.ps_symbols.declared.symbol.Symbol.{Symbol}
+use Rattle.ps_layout.specs.ps_symbols.Kinds.{kind_of}
+use Rattle.ps_parse.specs.ps_reader.Reading.{kind_at}
 use Rattle.ps_layout.specs.Lexemes.{Lexeme}
 use Rattle.ps_reread.proofs.Standing.{Stands, first_kind}
 
--- a lexeme at a place, and what stands behind it
+-- a lexeme at a place, and what stands after it
 pub record Head (text : List ℕ) (symbols : List Symbol) (from : ℕ) (lexeme : Lexeme) (rest : List Lexeme) (to : ℕ) : Type 0 where
   pub symbol : Symbol
   pub here : slice_get symbols from ≡ Some symbol

@@ -5,21 +5,21 @@ use Rattle.std.specs.List.{AllPass}
 use Rattle.std.proofs.lemmas.Bool.Decides.{nat_tests}
 use Rattle.std.proofs.lemmas.List.Elements.{All-nil, All-cons, All-get_or}
 use Rattle.std.proofs.lemmas.Option.{slice_get_within, get_or_from_slice_get}
-use Rattle.ps_scan.specs.declared.class.Inner.{Inner}
-use Rattle.ps_scan.specs.declared.class.Inner.TheVariants.{Plain, Apostrophe}
-use Rattle.ps_scan.specs.declared.token.Token.{Token}
-use Rattle.ps_scan.specs.declared.token.TokenKind.{TokenKind}
-use Rattle.ps_scan.specs.declared.token.TokenKind.TheVariants as scanned
-use Rattle.ps_scan.specs.Class.{inner_of, escaped}
-use Rattle.ps_scan.specs.Piece.{Quoted, Closes, StaysOpen, HasBadByte, HasBadEscape, spells, bytes_of, quoted, behind_apostrophe}
-use Rattle.ps_scan.specs.Tokens.{HasTokens, IsToken, IsSpelled, IsName, slice_of, int_value, spelled}
-use Rattle.ps_scan.proofs.Scanning.{all_tokens}
-use Rattle.ps_symbols.specs.declared.kind.Kind.{Kind}
-use Rattle.ps_symbols.specs.declared.kind.Kind.TheVariants as kind
-use Rattle.ps_symbols.specs.declared.symbol.Symbol.{Symbol}
-use Rattle.ps_symbols.specs.Kinds.{kind_of}
-use Rattle.ps_symbols.specs.Symbols.{semicolon_behind, symbol, symbols}
-use Rattle.ps_symbols.proofs.SymbolLemmas.{leaf, not_word, not_mark, all_symbols}
+use Rattle.ps_parse.specs.ps_scan.declared.class.Inner.{Inner}
+use Rattle.ps_parse.specs.ps_scan.declared.class.Inner.TheVariants.{Plain, Apostrophe}
+use Rattle.ps_parse.specs.ps_scan.declared.token.Token.{Token}
+use Rattle.ps_parse.specs.ps_scan.declared.token.TokenKind.{TokenKind}
+use Rattle.ps_parse.specs.ps_scan.declared.token.TokenKind.TheVariants as scanned
+use Rattle.ps_parse.specs.ps_scan.Class.{inner_of, escaped}
+use Rattle.ps_parse.specs.ps_scan.Piece.{Quoted, Closes, StaysOpen, HasBadByte, HasBadEscape, spells, bytes_of, quoted, behind_apostrophe}
+use Rattle.ps_parse.specs.ps_scan.Tokens.{HasTokens, IsToken, IsSpelled, IsName, slice_of, int_value, spelled}
+use Rattle.ps_parse.proofs.of_ps_scan.Scanning.{all_tokens}
+use Rattle.ps_layout.specs.ps_symbols.declared.kind.Kind.{Kind}
+use Rattle.ps_layout.specs.ps_symbols.declared.kind.Kind.TheVariants as kind
+use Rattle.ps_layout.specs.ps_symbols.declared.symbol.Symbol.{Symbol}
+use Rattle.ps_layout.specs.ps_symbols.Kinds.{kind_of}
+use Rattle.ps_layout.specs.ps_symbols.Symbols.{semicolon_behind, symbol, symbols}
+use Rattle.ps_layout.proofs.of_ps_symbols.SymbolLemmas.{leaf, not_word, not_mark, all_symbols}
 use Rattle.ps_reread.specs.Spelled.{can_be_spelled}
 
 -- a byte that a string spells can be spelled

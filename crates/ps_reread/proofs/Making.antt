@@ -1,18 +1,18 @@
 -- What canonical parts make as the grammar puts them together.
 use Rattle.std.proofs.Common.{◌≡◌, ℕ, suc, ◌≤◌, List, [], ◌∷◌, ◌++◌, Bool, true, false, nat_lt, refl, ◌∙◌, arith}
 use Rattle.std.proofs.lemmas.Bool.Decides.{nat_tests}
-use Rattle.ps_base.specs.TyView.{TyView, TyViews, and_type}
-use Rattle.ps_base.specs.declared.line.Line.{Line}
-use Rattle.ps_scan.specs.Tokens.{IsName}
-use Rattle.ps_tree.specs.Phrase.{NameAt, GroupAt, Phrase, at, Form, Phrases, none, more, MaybePhrase, absent, present, Arms, no_arms, more_arms, arm, WriteItem, item, WriteItems, no_items, more_items}
-use Rattle.ps_tree.specs.Phrase as form
-use Rattle.ps_tree.specs.Composing.{and_then, and_arm, and_item}
+use Rattle.ps_layout.specs.ps_base.TyView.{TyView, TyViews, and_type}
+use Rattle.ps_layout.specs.ps_base.declared.line.Line.{Line}
+use Rattle.ps_parse.specs.ps_scan.Tokens.{IsName}
+use Rattle.ps_layout.specs.ps_tree.Phrase.{NameAt, GroupAt, Phrase, at, Form, Phrases, none, more, MaybePhrase, absent, present, Arms, no_arms, more_arms, arm, WriteItem, item, WriteItems, no_items, more_items}
+use Rattle.ps_layout.specs.ps_tree.Phrase as form
+use Rattle.ps_layout.specs.ps_tree.Composing.{and_then, and_arm, and_item}
 use Rattle.ps_layout.specs.Layout.{Behind, other, before_do, before_comma, before_colon, is_taken, ends_open, Tightness, number_of, tightness, is_looser, disjunction, primary}
 use Rattle.ps_layout.specs.Waiting.{is_procedure}
 use Rattle.ps_reread.proofs.Canonical.{IsType, AreTypes, IsResult, AreGroups, IsClause, IsOperand, IsForm, AreClauses, AreArms, AreItems, IsWritten, AreItemsOf, IsItem}
 use Rattle.ps_reread.proofs.Weakening.{grow_result, grow_groups, grow_clause, grow_form, unbracketed, rebehind}
 
--- the forms that might take what stands behind them
+-- the forms that might take what stands after them
 abbrev pub can_take : Form → Bool
 can_take (form.Repeat a c absent) = true
 can_take (form.Write items) = true
@@ -45,7 +45,7 @@ pub bracket : {room : ℕ} {needed : Tightness} {p : Phrase} → IsClause room o
 bracket {needed = needed} (IsClause.plain {f = f} taken form) = loosened (is_looser f needed) refl form
 bracket (IsClause.kept taken form) = absurd (cc)
 
--- an expression takes nothing, and is the same whatever stands behind it
+-- an expression takes nothing, and is the same whatever stands after it
 before_any : {room : ℕ} {f : Form} (behind : Behind) → IsForm room other f → is_looser f disjunction ≡ false → IsForm room behind f
 before_any behind (IsForm.or a b) is = IsForm.or a b
 before_any behind (IsForm.and a b) is = IsForm.and a b
@@ -78,7 +78,7 @@ pub expression_clause : {room : ℕ} {p : Phrase} (behind : Behind) → IsOperan
 expression_clause behind (IsOperand.tight {f = f} is form) = whole (takes_nothing f is) (before_any behind form is)
 expression_clause behind (IsOperand.loose {f = f} is form) = unbracketed (is_taken behind f) refl form (λ is. rebehind behind form is)
 
--- a procedure, in front of what stands behind it
+-- a procedure, before what stands after it
 pub data IsProcedure (room : ℕ) (behind : Behind) : Phrase → Type 0 where
   procedure : {params : List GroupAt} {gives : TyView} {s : Phrase} {line : Line} → AreGroups room params → IsResult room gives → IsClause room behind s → IsProcedure room behind (at (form.Proc params gives s) line)
 
@@ -120,7 +120,7 @@ pub one_more_group : {room : ℕ} {before : List GroupAt} (group : GroupAt) → 
 one_more_group group AreGroups.no_groups t name = AreGroups.more_groups t name AreGroups.no_groups
 one_more_group group (AreGroups.more_groups first named groups) t name = AreGroups.more_groups first named (one_more_group group groups t name)
 
--- what stood at the end stands in front of a comma when one more follows
+-- what stood at the end stands before a comma when one more follows
 pub one_more_clause : {room : ℕ} {last : Behind} {before : Phrases} {one : Phrase} → AreClauses room before_comma before → IsClause room last one → AreClauses room last (and_then before one)
 one_more_clause AreClauses.no_clauses one = AreClauses.more_clauses one AreClauses.no_clauses
 one_more_clause (AreClauses.more_clauses {rest = none} first rest) one = AreClauses.more_clauses first (AreClauses.more_clauses one AreClauses.no_clauses)

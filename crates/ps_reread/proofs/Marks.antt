@@ -1,27 +1,27 @@
--- What may stand glued behind a mark, and a mark behind what.
+-- What may stand glued after a mark, and a mark after what.
 use Rattle.std.proofs.Common.{◌≡◌, ℕ, ◌==◌, Bool, true, false, not, ◌&&◌, ◌||◌, IsTrue, List, [], ◌∷◌, ◌++◌, Option, Some, None, refl, sym, subst, arith}
 use Rattle.std.specs.Option.{is_none}
 use Rattle.std.specs.List.{list_all, list_any}
 use Rattle.std.specs.Char.{is_ascii_digit, is_ascii_alphabetic}
 use Rattle.std.proofs.lemmas.Bool.Decides.{nat_tests}
 use Rattle.std.proofs.lemmas.List.Elements.{All-head}
-use Rattle.ps_scan.specs.declared.mark.TheConstants.{OPEN_ROUND, CLOSE_ROUND, OPEN_SQUARE, CLOSE_SQUARE, OPEN_CURLY, CLOSE_CURLY, COMMA, SEMICOLON, COLON, DOUBLE_COLON, BECOMES, EQUALS, TILDE, NOT_EQUALS, LESS, LESS_OR_EQUAL, GREATER, GREATER_OR_EQUAL, PLUS, MINUS, CONCATENATE, TIMES, ARROW, AT, QUESTION, BAR}
-use Rattle.ps_scan.specs.declared.token.TokenKind.{TokenKind}
-use Rattle.ps_scan.specs.declared.token.TokenKind.TheVariants.{Name, Int, Text, Word, Mark}
-use Rattle.ps_scan.specs.Class.{is_name_byte}
-use Rattle.ps_scan.specs.Names.{marks, mark_place}
-use Rattle.ps_scan.proofs.Named.{named_fails}
-use Rattle.ps_scan.specs.Tokens.{IsSpelled}
+use Rattle.ps_parse.specs.ps_scan.declared.mark.TheConstants.{OPEN_ROUND, CLOSE_ROUND, OPEN_SQUARE, CLOSE_SQUARE, OPEN_CURLY, CLOSE_CURLY, COMMA, SEMICOLON, COLON, DOUBLE_COLON, BECOMES, EQUALS, TILDE, NOT_EQUALS, LESS, LESS_OR_EQUAL, GREATER, GREATER_OR_EQUAL, PLUS, MINUS, CONCATENATE, TIMES, ARROW, AT, QUESTION, BAR}
+use Rattle.ps_parse.specs.ps_scan.declared.token.TokenKind.{TokenKind}
+use Rattle.ps_parse.specs.ps_scan.declared.token.TokenKind.TheVariants.{Name, Int, Text, Word, Mark}
+use Rattle.ps_parse.specs.ps_scan.Class.{is_name_byte}
+use Rattle.ps_parse.specs.ps_scan.Names.{marks, mark_place}
+use Rattle.ps_parse.proofs.of_ps_scan.Named.{named_fails}
+use Rattle.ps_parse.specs.ps_scan.Tokens.{IsSpelled}
 use Rattle.ps_layout.specs.Lexemes.{Gap, nothing, blank, newline, Lexeme}
 use Rattle.ps_reread.specs.Printable.{ends_before, first_passes, is_mark, may_follow_glued, may_follow}
 use Rattle.ps_reread.proofs.Glued.{both, not_false}
 use Rattle.ps_reread.proofs.Pieces.{word_begins, mark_name_is, spelled_nonempty}
 
--- behind these marks each byte may stand
+-- after these marks each byte may stand
 pub lone_marks : (byte : ℕ) → list_all (λ place. ends_before (Mark place) byte) (OPEN_ROUND ∷ CLOSE_ROUND ∷ OPEN_SQUARE ∷ CLOSE_SQUARE ∷ OPEN_CURLY ∷ CLOSE_CURLY ∷ COMMA ∷ SEMICOLON ∷ DOUBLE_COLON ∷ BECOMES ∷ EQUALS ∷ NOT_EQUALS ∷ LESS_OR_EQUAL ∷ GREATER_OR_EQUAL ∷ CONCATENATE ∷ TIMES ∷ ARROW ∷ AT ∷ QUESTION ∷ BAR ∷ []) ≡ true
 lone_marks byte = refl
 
--- and behind the others each but the second byte of a mark that begins so
+-- and after the others each but the second byte of a mark that begins so
 pub colon_ends : (byte : ℕ) → (58 == byte) ≡ false → (61 == byte) ≡ false → ends_before (Mark COLON) byte ≡ true
 colon_ends byte a b = rw (a, b) refl
 
@@ -51,7 +51,7 @@ marks_apart = refl
 mark_apart : (spelling : List ℕ) (place : ℕ) → mark_place spelling ≡ Some place → begins_apart spelling ≡ true
 mark_apart spelling place found = not_false (begins_apart spelling) (named_fails (λ n. not (begins_apart n)) marks spelling place marks_apart found)
 
--- so a mark may stand glued behind a name, a word, an int and a string
+-- so a mark may stand glued after a name, a word, an int and a string
 first_of_any : (spelling : List ℕ) → first_passes (λ byte. true) spelling ≡ true
 first_of_any [] = refl
 first_of_any (byte ∷ bytes) = refl
@@ -103,7 +103,7 @@ mark_ends : (name : List ℕ) (place byte : ℕ) → mark_place name ≡ Some pl
 mark_ends name place byte found other =
     subst (λ n. is_none (mark_place (n ++ byte ∷ [])) ≡ true) (sym (mark_name_is name place found)) (none_longer name byte place _ found other refl)
 
--- so a name, a word, an int and a string may stand glued behind a mark
+-- so a name, a word, an int and a string may stand glued after a mark
 letter_no_second : (byte : ℕ) → is_ascii_alphabetic byte ≡ true → is_second byte ≡ false
 unfolding is_second
 letter_no_second byte first = grind (arith, nat_tests)

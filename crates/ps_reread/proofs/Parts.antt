@@ -1,10 +1,10 @@
--- The parts of a printed text: what is so of two lists of lexemes is so of both behind one another.
+-- The parts of a printed text: what is so of two lists of lexemes is so of both after one another.
 use Rattle.std.proofs.Common.{◌≡◌, ℕ, zero, suc, ◌+◌, Bool, true, false, ◌&&◌, IsTrue, List, [], ◌∷◌, ◌++◌, length, drop, Some, refl, sym, ap, ◌∙◌, arith, append_assoc, length-append, slice_get}
 use Rattle.std.specs.List.{AllByRecursion}
 use Rattle.std.proofs.lemmas.List.{drop_at}
 use Rattle.std.proofs.lemmas.List.Sums.{sum_by-cons}
-use Rattle.ps_scan.specs.declared.token.Token.{Token}
-use Rattle.ps_scan.specs.Tokens.{token_at, slice_of, IsSpelled}
+use Rattle.ps_parse.specs.ps_scan.declared.token.Token.{Token}
+use Rattle.ps_parse.specs.ps_scan.Tokens.{token_at, slice_of, IsSpelled}
 use Rattle.ps_layout.specs.Lexemes.{Lexeme, gap_bytes, text_of, printed}
 use Rattle.ps_reread.specs.Printable.{gap_lines, tokens_of, first_passes, may_follow, neighbours_pass, last_passes, lines_of, token_behind, IsPrintable, AreSpelledBy}
 use Rattle.ps_layout.proofs.Printing.{printed_is}
@@ -30,7 +30,7 @@ none_length : length (text_of []) ≡ 0
 unfolding text_of
 none_length = refl
 
--- the tokens behind others
+-- the tokens after others
 pub tokens_append : (at line : ℕ) (front back : List Lexeme) → tokens_of at line (front ++ back) ≡ tokens_of at line front ++ tokens_of (at + length (text_of front)) (line + lines_of front) back
 unfolding tokens_of
 tokens_append at line [] back =

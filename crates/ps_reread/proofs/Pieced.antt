@@ -1,14 +1,14 @@
--- Lexemes laid out one behind the other: each is spelled as it should be, none changes the one before
+-- Lexemes laid out one after the other: each is spelled as it should be, none changes the one before
 -- it, and no `;` is read at a newline.
 use Rattle.std.proofs.Common.{◌≡◌, ℕ, Bool, true, false, not, ◌&&◌, List, [], ◌∷◌, ◌++◌, Some, refl, sym, subst, ap, ◌∙◌}
 use Rattle.std.proofs.lemmas.List.{append_assoc}
-use Rattle.ps_scan.specs.declared.mark.TheConstants as mark
-use Rattle.ps_scan.specs.declared.token.TokenKind.{TokenKind}
-use Rattle.ps_scan.specs.declared.token.TokenKind.TheVariants.{Mark}
-use Rattle.ps_scan.specs.Names.{mark_place}
-use Rattle.ps_scan.specs.Tokens.{IsSpelled}
-use Rattle.ps_symbols.specs.Kinds.{kind_of}
-use Rattle.ps_symbols.specs.Newline.{can_end, can_continue}
+use Rattle.ps_parse.specs.ps_scan.declared.mark.TheConstants as mark
+use Rattle.ps_parse.specs.ps_scan.declared.token.TokenKind.{TokenKind}
+use Rattle.ps_parse.specs.ps_scan.declared.token.TokenKind.TheVariants.{Mark}
+use Rattle.ps_parse.specs.ps_scan.Names.{mark_place}
+use Rattle.ps_parse.specs.ps_scan.Tokens.{IsSpelled}
+use Rattle.ps_layout.specs.ps_symbols.Kinds.{kind_of}
+use Rattle.ps_layout.specs.ps_symbols.Newline.{can_end, can_continue}
 use Rattle.ps_layout.specs.Lexemes.{Gap, nothing, blank, newline, Lexeme}
 use Rattle.ps_reread.specs.Printable.{IsPrintable, is_mark, first_passes, may_follow, may_follow_glued, ends_before, neighbours_pass, mark_name}
 use Rattle.ps_reread.specs.Lines.{goes_on, goes_on_over}
@@ -54,7 +54,7 @@ pub data Admits (l : Lexeme) : Width → Gap → Type 0 where
   under : {width : Width} {n : ℕ} → can_end (kind_of l.what) ≡ false → Admits l width (newline n)
   close : {width : Width} → ((what : TokenKind) (spelling : List ℕ) → IsSpelled what spelling → Starts width what → first_passes (ends_before l.what) spelling ≡ true) → Admits l width nothing
 
--- what may stand behind an end
+-- what may stand after an end
 pub record Follows (ls : List Lexeme) : Type 0 where
   pub free : (l : Lexeme) → Ends l.what → IsSpelled l.what l.spelling → first_passes (may_follow l) ls ≡ true
   pub over : (l : Lexeme) → Ends l.what → first_passes (goes_on l) ls ≡ true
@@ -122,7 +122,7 @@ blank_follows l ls is = record { free = λ x ends spelled. ap (λ (g : Gap). may
 pub rest_nothing : Rest []
 rest_nothing = record { good = λ tail good follows. good; follows = λ tail follows. follows }
 
--- one part, and what stands behind its end
+-- one part, and what stands after its end
 pub piece_then : {width : Width} {gap : Gap} {ls more : List Lexeme} → Piece width gap ls → Rest more → Piece width gap (ls ++ more)
 piece_then {ls = ls} {more = more} piece rest = record { good = λ tail good follows. good_as (sym (append_assoc ls more tail)) (piece.good (more ++ tail) (rest.good tail good follows) (rest.follows tail follows)); begins = λ tail. begins_as (sym (append_assoc ls more tail)) (piece.begins (more ++ tail)) }
 
@@ -133,15 +133,15 @@ rest_then {ls = ls} {more = more} one rest = record { good = λ tail good follow
 pub piece_word : {width inner : Width} {gap after : Gap} {ls : List Lexeme} (l : Lexeme) → IsSpelled l.what l.spelling → Starts width l.what → l.gap ≡ gap → Admits l inner after → Piece inner after ls → Piece width gap (l ∷ ls)
 piece_word {gap = gap} {ls = ls} l spelled starts is admits piece = record { good = λ tail good follows. good_cons l (ls ++ tail) spelled (admitted_free l (ls ++ tail) admits (piece.begins tail)) (admitted_over l (ls ++ tail) admits (piece.begins tail)) (piece.good tail good follows); begins = λ tail. begins_with l (ls ++ tail) spelled starts gap is }
 
--- a lexeme that ends as well, and what stands behind it
+-- a lexeme that ends as well, and what stands after it
 pub piece_leaf : {width : Width} {gap : Gap} {ls : List Lexeme} (l : Lexeme) → IsSpelled l.what l.spelling → Starts width l.what → Ends l.what → l.gap ≡ gap → Rest ls → Piece width gap (l ∷ ls)
 piece_leaf {gap = gap} {ls = ls} l spelled starts ends is rest = record { good = λ tail good follows. let f = rest.follows tail follows in good_cons l (ls ++ tail) spelled (f.free l ends spelled) (f.over l ends) (rest.good tail good follows); begins = λ tail. begins_with l (ls ++ tail) spelled starts gap is }
 
--- a lexeme behind an end, with a blank before it, and a part that it admits
+-- a lexeme after an end, with a blank before it, and a part that it admits
 pub rest_word : {inner : Width} {after : Gap} {ls : List Lexeme} (l : Lexeme) → IsSpelled l.what l.spelling → l.gap ≡ blank → Admits l inner after → Piece inner after ls → Rest (l ∷ ls)
 rest_word {ls = ls} l spelled is admits piece = record { good = λ tail good follows. good_cons l (ls ++ tail) spelled (admitted_free l (ls ++ tail) admits (piece.begins tail)) (admitted_over l (ls ++ tail) admits (piece.begins tail)) (piece.good tail good follows); follows = λ tail follows. blank_follows l (ls ++ tail) is }
 
--- a lexeme behind an end, with a blank before it, that ends as well
+-- a lexeme after an end, with a blank before it, that ends as well
 pub rest_leaf : {ls : List Lexeme} (l : Lexeme) → IsSpelled l.what l.spelling → l.gap ≡ blank → Ends l.what → Rest ls → Rest (l ∷ ls)
 rest_leaf {ls = ls} l spelled is ends rest = record { good = λ tail good follows. let f = rest.follows tail follows in good_cons l (ls ++ tail) spelled (f.free l ends spelled) (f.over l ends) (rest.good tail good follows); follows = λ tail follows. blank_follows l (ls ++ tail) is }
 
@@ -247,7 +247,7 @@ piece_as {width} {gap} same = subst (λ (ls : List Lexeme). Piece width gap ls) 
 pub rest_as : {ls other : List Lexeme} → ls ≡ other → Rest ls → Rest other
 rest_as same = subst (λ (ls : List Lexeme). Rest ls) same
 
--- behind a gap anything may begin a part
+-- after a gap anything may begin a part
 pub piece_apart : {inner : Width} {after : Gap} {ls : List Lexeme} (l : Lexeme) → IsSpelled l.what l.spelling → l.gap ≡ blank → Admits l inner after → Piece inner after ls → Piece any blank (l ∷ ls)
 piece_apart {ls = ls} l spelled is admits piece = record { good = λ tail good follows. good_cons l (ls ++ tail) spelled (admitted_free l (ls ++ tail) admits (piece.begins tail)) (admitted_over l (ls ++ tail) admits (piece.begins tail)) (piece.good tail good follows); begins = λ tail. apart is }
 

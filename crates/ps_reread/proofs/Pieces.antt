@@ -5,17 +5,17 @@ use Rattle.std.specs.List.{list_all, list_any}
 use Rattle.std.specs.Char.{is_ascii_digit, is_ascii_alphabetic}
 use Rattle.std.proofs.lemmas.Bool.{le-leb}
 use Rattle.std.proofs.lemmas.Bool.Decides.{nat_tests}
-use Rattle.ps_base.specs.declared.line.Line.{Line}
-use Rattle.ps_scan.specs.declared.class.Class.{Class}
-use Rattle.ps_scan.specs.declared.class.Class.TheVariants.{Letter, Digit}
-use Rattle.ps_scan.specs.declared.piece.Piece.{Piece}
-use Rattle.ps_scan.specs.declared.token.TokenKind.{TokenKind}
-use Rattle.ps_scan.specs.declared.token.TokenKind.TheVariants.{Name, Int, Text, Word, Mark}
-use Rattle.ps_scan.specs.Class.{class_of, is_name_byte, decimal}
-use Rattle.ps_scan.specs.Names.{reserved_words, marks, word_place, mark_place}
-use Rattle.ps_scan.specs.Piece.{quoted, bytes_of, word_or_name, int, string, double_mark_here, single_mark, mark, piece_of, first_piece}
-use Rattle.ps_scan.specs.Tokens.{IsName, IsInt, IsString, IsSpelled}
-use Rattle.ps_scan.proofs.Named.{named_at, named_fails}
+use Rattle.ps_layout.specs.ps_base.declared.line.Line.{Line}
+use Rattle.ps_parse.specs.ps_scan.declared.class.Class.{Class}
+use Rattle.ps_parse.specs.ps_scan.declared.class.Class.TheVariants.{Letter, Digit}
+use Rattle.ps_parse.specs.ps_scan.declared.piece.Piece.{Piece}
+use Rattle.ps_parse.specs.ps_scan.declared.token.TokenKind.{TokenKind}
+use Rattle.ps_parse.specs.ps_scan.declared.token.TokenKind.TheVariants.{Name, Int, Text, Word, Mark}
+use Rattle.ps_parse.specs.ps_scan.Class.{class_of, is_name_byte, decimal}
+use Rattle.ps_parse.specs.ps_scan.Names.{reserved_words, marks, word_place, mark_place}
+use Rattle.ps_parse.specs.ps_scan.Piece.{quoted, bytes_of, word_or_name, int, string, double_mark_here, single_mark, mark, piece_of, first_piece}
+use Rattle.ps_parse.specs.ps_scan.Tokens.{IsName, IsInt, IsString, IsSpelled}
+use Rattle.ps_parse.proofs.of_ps_scan.Named.{named_at, named_fails}
 use Rattle.ps_reread.specs.Printable.{ends_before, first_passes, mark_name}
 use Rattle.ps_reread.proofs.Glued.{both, not_false, all_passes, run_is, closes_too}
 

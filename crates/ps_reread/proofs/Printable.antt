@@ -3,16 +3,16 @@
 use Rattle.std.proofs.Common.{◌≡◌, ℕ, ◌+◌, Bool, true, false, nat_lt, List, [], ◌∷◌, ◌++◌, refl, sym, subst, ap, ◌∙◌}
 use Rattle.std.specs.Prelude.{if◌then◌else◌, codes}
 use Rattle.std.proofs.lemmas.List.{append_assoc}
-use Rattle.ps_base.specs.TyView.{TyView, TyViews}
-use Rattle.ps_base.specs.declared.operator.Operator.TheVariants as arith
-use Rattle.ps_base.specs.declared.operator.Relation.{Relation}
-use Rattle.ps_base.specs.declared.operator.Relation.TheVariants as order
-use Rattle.ps_scan.specs.declared.mark.TheConstants as mark
-use Rattle.ps_scan.specs.declared.word.TheConstants as word
-use Rattle.ps_scan.specs.declared.token.TokenKind.TheVariants as scanned
-use Rattle.ps_scan.specs.Tokens.{IsSpelled, IsName}
-use Rattle.ps_tree.specs.Phrase.{NameAt, GroupAt, Phrase, at, Form, Phrases, none, more, absent, present, Arm, Arms, no_arms, more_arms, arm, WriteItem, item, WriteItems, no_items, more_items}
-use Rattle.ps_tree.specs.Phrase as form
+use Rattle.ps_layout.specs.ps_base.TyView.{TyView, TyViews}
+use Rattle.ps_layout.specs.ps_base.declared.operator.Operator.TheVariants as arith
+use Rattle.ps_layout.specs.ps_base.declared.operator.Relation.{Relation}
+use Rattle.ps_layout.specs.ps_base.declared.operator.Relation.TheVariants as order
+use Rattle.ps_parse.specs.ps_scan.declared.mark.TheConstants as mark
+use Rattle.ps_parse.specs.ps_scan.declared.word.TheConstants as word
+use Rattle.ps_parse.specs.ps_scan.declared.token.TokenKind.TheVariants as scanned
+use Rattle.ps_parse.specs.ps_scan.Tokens.{IsSpelled, IsName}
+use Rattle.ps_layout.specs.ps_tree.Phrase.{NameAt, GroupAt, Phrase, at, Form, Phrases, none, more, absent, present, Arm, Arms, no_arms, more_arms, arm, WriteItem, item, WriteItems, no_items, more_items}
+use Rattle.ps_layout.specs.ps_tree.Phrase as form
 use Rattle.ps_layout.specs.Lexemes.{Gap, nothing, blank, newline, Lexeme}
 use Rattle.ps_reread.specs.Printable.{first_passes, may_follow}
 use Rattle.ps_reread.specs.Lines.{goes_on}
@@ -39,7 +39,7 @@ close_glues = lone_glues mark.CLOSE_ROUND (codes ")") refl
 open_glues : Glues (open_round nothing)
 open_glues = lone_glues mark.OPEN_ROUND (codes "(") refl
 
--- what stands in brackets: nothing, or a part glued to the bracket or behind a blank
+-- what stands in brackets: nothing, or a part glued to the bracket or after a blank
 data Inner : List Lexeme → Type 0 where
   empty : Inner []
   part : {ls : List Lexeme} → Piece any nothing ls → Inner ls
@@ -68,7 +68,7 @@ is_shown shown is.pntr = refl
 is_shown shown (is.vector e) = refl
 is_shown shown (is.proc ps g) = refl
 
--- what stands behind the types or the groups in brackets: an arrow and a type, or nothing
+-- what stands after the types or the groups in brackets: an arrow and a type, or nothing
 data BehindArrow : List Lexeme → Type 0 where
   no_arrow : BehindArrow []
   an_arrow : {ls : List Lexeme} → Piece any blank ls → Rest ls → BehindArrow ls
@@ -263,7 +263,7 @@ mutual
       let l = lines_piece others n k in
       (n, piece_as (sym (append_assoc (clause_lexemes n other (newline n) first) (semicolon ∷ lines_lexemes n rest) (the_mark (newline k) mark.CLOSE_CURLY ∷ []))) (piece_then (sequence_item_piece one n (newline n)) (rest_glued semicolon semicolon_glues (under refl) l.1)))
 
--- the last items of a program, behind a `;`
+-- the last items of a program, after a `;`
 record Closing (ls : List Lexeme) : Type 0 where
   pub good : Good ls
   pub free : first_passes (may_follow semicolon) ls ≡ true

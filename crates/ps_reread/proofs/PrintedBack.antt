@@ -1,18 +1,18 @@
 -- Whatever text has a tree, what it is printed as is read as that tree but for lines.
 use Rattle.std.proofs.Common.{◌≡◌, ℕ, suc, ◌+◌, List, [], ◌∷◌, length, Bool, Some, slice_get, refl, sym, subst, ap, ◌∙◌, arith}
 use Rattle.std.proofs.lemmas.Option.{slice_get_past}
-use Rattle.ps_scan.specs.declared.token.Token.{Token}
-use Rattle.ps_scan.specs.Tokens.{line_of}
-use Rattle.ps_symbols.specs.declared.kind.Kind.{Kind}
-use Rattle.ps_symbols.specs.declared.kind.Kind.TheVariants as kind
-use Rattle.ps_symbols.specs.declared.symbol.Symbol.{Symbol}
-use Rattle.ps_symbols.specs.Kinds.{kind_of, begins_item}
-use Rattle.ps_tree.specs.Phrase.{Phrase, Phrases, none, more, at}
-use Rattle.ps_tree.specs.Phrase as form
-use Rattle.ps_reader.specs.Grammar as grammar
-use Rattle.ps_reader.specs.Grammar.{a_clause, Go, Program}
-use Rattle.ps_reader.specs.Reading.{kind_at, kind_of_next, Reads, gives, takes, goes, joins}
-use Rattle.ps_symbols.specs.Symbols.{symbol, symbols}
+use Rattle.ps_parse.specs.ps_scan.declared.token.Token.{Token}
+use Rattle.ps_parse.specs.ps_scan.Tokens.{line_of}
+use Rattle.ps_layout.specs.ps_symbols.declared.kind.Kind.{Kind}
+use Rattle.ps_layout.specs.ps_symbols.declared.kind.Kind.TheVariants as kind
+use Rattle.ps_layout.specs.ps_symbols.declared.symbol.Symbol.{Symbol}
+use Rattle.ps_layout.specs.ps_symbols.Kinds.{kind_of, begins_item}
+use Rattle.ps_layout.specs.ps_tree.Phrase.{Phrase, Phrases, none, more, at}
+use Rattle.ps_layout.specs.ps_tree.Phrase as form
+use Rattle.ps_parse.specs.ps_reader.Grammar as grammar
+use Rattle.ps_parse.specs.ps_reader.Grammar.{a_clause, Go, Program}
+use Rattle.ps_parse.specs.ps_reader.Reading.{kind_at, kind_of_next, Reads, gives, takes, goes, joins}
+use Rattle.ps_layout.specs.ps_symbols.Symbols.{symbol, symbols}
 use Rattle.ps_reread.specs.Bare.{bare_all}
 use Rattle.ps_layout.specs.Layout.{semicolon, other, clause_lexemes, lines_lexemes, program_lexemes, printed}
 use Rattle.ps_layout.specs.Lexemes.{nothing, Lexeme}

@@ -1,30 +1,30 @@
 -- A canonical tree, as it is laid out, is read as it was but for lines, with nothing deeper inside it.
 use Rattle.std.proofs.Common.{◌≡◌, ◌≢◌, ℕ, ◌+◌, pos, List, [], ◌∷◌, ◌++◌, Bool, true, false, Some, None, refl, sym, subst, ap, ◌∙◌}
 use Rattle.std.specs.Prelude.{if◌then◌else◌, drop, option_map}
-use Rattle.ps_base.specs.TyView.{TyView}
-use Rattle.ps_base.specs.declared.line.Line.{Line}
-use Rattle.ps_base.specs.declared.operator.Operator.TheVariants as arith
-use Rattle.ps_base.specs.declared.operator.Relation.{Relation}
-use Rattle.ps_base.specs.declared.operator.Relation.TheVariants as order
-use Rattle.ps_scan.specs.Tokens.{slice_of, line_of, int_value, spelled}
-use Rattle.ps_scan.specs.Class as class
-use Rattle.ps_scan.specs.Piece.{quoted, bytes_of}
-use Rattle.ps_scan.specs.declared.mark.TheConstants as mark
-use Rattle.ps_scan.specs.declared.word.TheConstants as word
-use Rattle.ps_symbols.specs.declared.kind.Kind.{Kind}
-use Rattle.ps_symbols.specs.declared.kind.Kind.TheVariants as kind
-use Rattle.ps_symbols.specs.declared.kind.Level.TheVariants.{Disjunction, Conjunction, Sum, Product}
-use Rattle.ps_symbols.specs.declared.kind.Operation.{Operation}
-use Rattle.ps_symbols.specs.declared.kind.Operation.TheVariants as operation
-use Rattle.ps_symbols.specs.declared.kind.Relating.TheVariants.{Compares, IsOf}
-use Rattle.ps_symbols.specs.declared.symbol.Symbol.{Symbol}
-use Rattle.ps_symbols.specs.Kinds.{kind_of, operation_of, relating_of, begins_item}
-use Rattle.ps_tree.specs.Phrase.{NameAt, GroupAt, Phrase, at, Form, Phrases, none, more, absent, present, Arm, Arms, no_arms, more_arms, arm, WriteItem, item, WriteItems, no_items, more_items}
-use Rattle.ps_tree.specs.Phrase as form
-use Rattle.ps_reader.specs.Grammar as grammar
-use Rattle.ps_tree.specs.Composing.{and_then, and_arm, and_item, joined}
-use Rattle.ps_reader.specs.Grammar.{Made, a_clause, an_item, Part, Rule, Give, Take, Go, Open, Then, Clause, a_clause_inside, Items, MoreItems, Item, Literal, Until, Cases, Labels, Width, Written, MoreWritten, Chain, MoreChain, Application, Applied, MoreArguments, MoreElements, Primary, inside, row, skip, with_clause, clause_of, give, line_in}
-use Rattle.ps_reader.specs.Reading.{kind_at, Reads, gives, takes, goes, joins}
+use Rattle.ps_layout.specs.ps_base.TyView.{TyView}
+use Rattle.ps_layout.specs.ps_base.declared.line.Line.{Line}
+use Rattle.ps_layout.specs.ps_base.declared.operator.Operator.TheVariants as arith
+use Rattle.ps_layout.specs.ps_base.declared.operator.Relation.{Relation}
+use Rattle.ps_layout.specs.ps_base.declared.operator.Relation.TheVariants as order
+use Rattle.ps_parse.specs.ps_scan.Tokens.{slice_of, line_of, int_value, spelled}
+use Rattle.ps_parse.specs.ps_scan.Class as class
+use Rattle.ps_parse.specs.ps_scan.Piece.{quoted, bytes_of}
+use Rattle.ps_parse.specs.ps_scan.declared.mark.TheConstants as mark
+use Rattle.ps_parse.specs.ps_scan.declared.word.TheConstants as word
+use Rattle.ps_layout.specs.ps_symbols.declared.kind.Kind.{Kind}
+use Rattle.ps_layout.specs.ps_symbols.declared.kind.Kind.TheVariants as kind
+use Rattle.ps_layout.specs.ps_symbols.declared.kind.Level.TheVariants.{Disjunction, Conjunction, Sum, Product}
+use Rattle.ps_layout.specs.ps_symbols.declared.kind.Operation.{Operation}
+use Rattle.ps_layout.specs.ps_symbols.declared.kind.Operation.TheVariants as operation
+use Rattle.ps_layout.specs.ps_symbols.declared.kind.Relating.TheVariants.{Compares, IsOf}
+use Rattle.ps_layout.specs.ps_symbols.declared.symbol.Symbol.{Symbol}
+use Rattle.ps_layout.specs.ps_symbols.Kinds.{kind_of, operation_of, relating_of, begins_item}
+use Rattle.ps_layout.specs.ps_tree.Phrase.{NameAt, GroupAt, Phrase, at, Form, Phrases, none, more, absent, present, Arm, Arms, no_arms, more_arms, arm, WriteItem, item, WriteItems, no_items, more_items}
+use Rattle.ps_layout.specs.ps_tree.Phrase as form
+use Rattle.ps_parse.specs.ps_reader.Grammar as grammar
+use Rattle.ps_layout.specs.ps_tree.Composing.{and_then, and_arm, and_item, joined}
+use Rattle.ps_parse.specs.ps_reader.Grammar.{Made, a_clause, an_item, Part, Rule, Give, Take, Go, Open, Then, Clause, a_clause_inside, Items, MoreItems, Item, Literal, Until, Cases, Labels, Width, Written, MoreWritten, Chain, MoreChain, Application, Applied, MoreArguments, MoreElements, Primary, inside, row, skip, with_clause, clause_of, give, line_in}
+use Rattle.ps_parse.specs.ps_reader.Reading.{kind_at, Reads, gives, takes, goes, joins}
 use Rattle.ps_layout.specs.Lexemes.{Gap, nothing, blank, newline, Lexeme}
 use Rattle.ps_layout.specs.Layout.{lexeme, the_word, the_mark, name_lexeme, open_round, close_round, comma, semicolon, colon, do_word, in_brackets, type_lexemes, groups_lexemes, heading_lexemes, behind_arrow, becomes, is_word, flag_word, bound_word, sign_of_relation, sign_of_operator, Tightness, number_of, tightness, left_of, right_of, is_looser, disjunction, conjunction, negation, sum, product, signed, application, primary, Behind, other, before_do, before_comma, before_colon, is_taken, ends_open, behind_clause, behind_item, form_lexemes, clause_lexemes, operand_lexemes, block_lexemes, lines_lexemes, clauses_lexemes, more_clauses_lexemes, arms_lexemes, arm_lexemes, items_lexemes, more_items_lexemes, item_lexemes}
 use Rattle.ps_layout.specs.Layout as layout
@@ -181,7 +181,7 @@ not_before_comma behind items closed same = absurd (let taken = ap (λ (b : Behi
 not_before_colon : (behind : Behind) (e : Phrase) (line : Line) → is_taken behind (form.Write (more_items (item e absent line) no_items)) ≡ false → behind ≢ before_colon
 not_before_colon behind e line closed same = absurd (let taken = ap (λ (b : Behind). is_taken b (form.Write (more_items (item e absent line) no_items))) same in cc)
 
--- where an item has no width, no colon stands behind it
+-- where an item has no width, no colon stands after it
 pub data IsShut (behind : Behind) : WriteItem → Type 0 where
   shut : {e : Phrase} {line : Line} → behind ≢ before_colon → IsShut behind (item e absent line)
   shut_wide : {e w : Phrase} {line : Line} → IsShut behind (item e (present w) line)
@@ -212,7 +212,7 @@ pub record OneWritten (text : List ℕ) (symbols : List Symbol) (room : ℕ) (fr
   pub read : Reads text symbols room (Go Written) from (an_item again) to
   pub same : bare_item again ≡ bare_item one
 
--- the items of a sequence, from one place on, behind those before
+-- the items of a sequence, from one place on, after those before
 pub record SequenceRead (text : List ℕ) (symbols : List Symbol) (room : ℕ) (line : Line) (from : ℕ) (before ps : Phrases) (to : ℕ) : Type 0 where
   pub all : Phrases
   pub read : Reads text symbols room (Go (Items line before)) from (a_clause (at (form.Sequence all) line)) to
@@ -225,7 +225,7 @@ pub record ItemRead (text : List ℕ) (symbols : List Symbol) (room : ℕ) (from
   pub begins : begins_item (kind_at symbols from) ≡ true
   pub same : bare again ≡ bare p
 
--- behind the first of a list there is a comma, or what stands behind the list
+-- after the first of a list there is a comma, or what stands after the list
 pub data ListEnd (closing : Kind) : Kind → Type 0 where
   by_comma : {k : Kind} → k ≡ kind.Comma → ListEnd closing k
   by_close : {k : Kind} → k ≡ closing → ListEnd closing k
@@ -258,7 +258,7 @@ module _ {text : List ℕ} {symbols : List Symbol} where
   product_goes : {room from middle to : ℕ} {a b : Phrase} {sign : Lexeme} {rest : List Lexeme} {end : ℕ} (op : Operation) → operation_of Product (kind_of sign.what) ≡ Some op → (left : Leads text symbols room product from a middle) → (o : Head text symbols middle sign rest end) → (right : Rereads text symbols room (Go grammar.Factor) (middle + 1) b to) → (made : Made) (last : ℕ) → Reads text symbols room (Go (MoreChain Product (joined op left.again right.again o.symbol.token.line))) to made last → Reads text symbols room (Go (Chain Product)) from made last
   product_goes {sign = sign} op is left o right made last deeper = left.lead made last (goes (ap (λ (k : Kind). Some (grammar.more_chain Product left.again k (operation_of Product k))) o.kind ∙ ap (λ (op : _). Some (grammar.more_chain Product left.again (kind_of sign.what) op)) is) (takes o.here o.is (joins right.read deeper)))
 
-  -- a procedure behind its first word
+  -- a procedure after its first word
   literal_reads : {room : ℕ} {behind : Behind} {params : List GroupAt} {g : TyView} {s : Phrase} (n : ℕ) → AreGroups room params → IsResult room g → ((start end : ℕ) → Stands text symbols start (clause_lexemes n behind blank s) end → InFront behind (kind_at symbols end) → Rereads text symbols room Clause start s end) → (line other_line : Line) (from to : ℕ) → Stands text symbols from (heading_lexemes params g ++ clause_lexemes n behind blank s) to → InFront behind (kind_at symbols to) → Rereads text symbols room (Go (Literal line)) from (at (form.Proc params g s) other_line) to
   literal_reads {behind = behind} {params = params} {g = g} {s = s} n pp gg reads line other_line from to st front =
       let c = cut (heading_lexemes params g) (clause_lexemes n behind blank s) st in
@@ -583,7 +583,7 @@ module _ {text : List ℕ} {symbols : List Symbol} where
         let r = listed others (λ (before : Phrases). MoreElements q l'.again t before) (λ before. refl) (more a'.again none) n w.0 v.0 w.2 (of_other (ap closes e.kind)) in
         record { again = at (form.Elems l'.again t r.all) q; lead = give_back (goes (ap (λ (k : Kind). row text Primary k) h.kind) (takes h.here h.is (joins l'.read (takes o.here o.is (joins y (takes b.here b.is (joins a'.read (r.lead _ _ (goes (ap (λ (k : Kind). Some (grammar.more_elements q l'.again t r.all k)) e.kind) (takes e.here e.is (gives_at (ended e.more)))))))))))); same = alike2 (λ (x : Phrase) (all : Phrases). F (form.Elems x t all)) l'.same (r.same ∙ ap (λ (p : Phrase). more p (bare_all rest)) a'.same) }
 
-    -- what stands behind the first of a list with commas
+    -- what stands after the first of a list with commas
     listed : {room : ℕ} {last : Behind} {ps : Phrases} → AreClauses room last ps → (part : Phrases → Part) → ((before : Phrases) → row text (part before) kind.Comma ≡ Some (skip kind.Comma (with_clause (λ one. Go (part (and_then before one)))))) → (before : Phrases) (n from to : ℕ) → Stands text symbols from (more_clauses_lexemes n last ps) to → InFront last (kind_at symbols to) → Listed text symbols room part from before ps to
     listed is.no_clauses part at_comma before n from to Stands.no_more front = record { all = before; lead = λ made end deeper. deeper; same = sym (append_none (bare_all before)) }
     listed (is.more_clauses {last = last} {first = first} {rest = rest} one others) part at_comma before n from to st front =

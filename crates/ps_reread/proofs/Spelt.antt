@@ -7,10 +7,10 @@ use Rattle.std.proofs.lemmas.Bool.Decides.{nat_tests}
 use Rattle.std.proofs.lemmas.Fmt.{decimal_by_steps}
 use Rattle.std.proofs.lemmas.List.Elements.{All-nil, All-cons, All-push}
 use Rattle.std.proofs.lemmas.List.Sums.{fold_push}
-use Rattle.ps_scan.specs.declared.class.Inner.TheVariants.{Plain}
-use Rattle.ps_scan.specs.Class.{inner_of, escaped, decimal}
-use Rattle.ps_scan.specs.Piece.{Closes, spells, quoted, behind_apostrophe, bytes_of}
-use Rattle.ps_scan.proofs.Closing.{quoted_plain}
+use Rattle.ps_parse.specs.ps_scan.declared.class.Inner.TheVariants.{Plain}
+use Rattle.ps_parse.specs.ps_scan.Class.{inner_of, escaped, decimal}
+use Rattle.ps_parse.specs.ps_scan.Piece.{Closes, spells, quoted, behind_apostrophe, bytes_of}
+use Rattle.ps_parse.proofs.of_ps_scan.Closing.{quoted_plain}
 use Rattle.ps_layout.specs.Spellings.{int_text, escaped_byte, string_text}
 use Rattle.ps_reread.specs.Spelled.{SpellsInt, can_be_spelled, SpellsString}
 use Rattle.ps_reread.proofs.Glued.{both}

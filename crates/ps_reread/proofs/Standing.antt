@@ -1,9 +1,9 @@
 -- Lexemes as they stand among the symbols of a text.
 use Rattle.std.proofs.Common.{◌≡◌, ℕ, ◌+◌, List, [], ◌∷◌, ◌++◌, Some, slice_get, ap, ◌∙◌}
-use Rattle.ps_scan.specs.Tokens.{slice_of}
-use Rattle.ps_symbols.specs.declared.symbol.Symbol.{Symbol}
-use Rattle.ps_symbols.specs.Kinds.{kind_of}
-use Rattle.ps_reader.specs.Reading.{kind_at, kind_of_next}
+use Rattle.ps_parse.specs.ps_scan.Tokens.{slice_of}
+use Rattle.ps_layout.specs.ps_symbols.declared.symbol.Symbol.{Symbol}
+use Rattle.ps_layout.specs.ps_symbols.Kinds.{kind_of}
+use Rattle.ps_parse.specs.ps_reader.Reading.{kind_at, kind_of_next}
 use Rattle.ps_layout.specs.Lexemes.{Lexeme}
 
 -- the symbols from one place to the other are the lexemes, in kind and in spelling

@@ -2,19 +2,19 @@
 use Rattle.std.proofs.Common.{◌≡◌, ℕ, zero, suc, ◌+◌, ◌-◌, Bool, true, List, [], ◌∷◌, ◌++◌, length, take, drop, replicate, refl, sym, ap, ◌∙◌, subst, arith, append_assoc}
 use Rattle.std.specs.List.{AllByRecursion}
 use Rattle.std.proofs.lemmas.List.{take_at, drop_at, drop-drop}
-use Rattle.ps_scan.specs.declared.piece.Piece.{Piece}
-use Rattle.ps_scan.specs.declared.piece.Piece.TheVariants.{End, Blank, Newline}
-use Rattle.ps_scan.specs.declared.token.Token.{Token}
-use Rattle.ps_scan.specs.declared.token.TokenKind.{TokenKind}
-use Rattle.ps_scan.specs.Class.{class_of}
-use Rattle.ps_scan.specs.Piece.{piece_of, first_piece}
-use Rattle.ps_scan.specs.Tokens.{line_of, piece_at, token_at, slice_of, Scans, HasTokens, IsSpelled}
+use Rattle.ps_parse.specs.ps_scan.declared.piece.Piece.{Piece}
+use Rattle.ps_parse.specs.ps_scan.declared.piece.Piece.TheVariants.{End, Blank, Newline}
+use Rattle.ps_parse.specs.ps_scan.declared.token.Token.{Token}
+use Rattle.ps_parse.specs.ps_scan.declared.token.TokenKind.{TokenKind}
+use Rattle.ps_parse.specs.ps_scan.Class.{class_of}
+use Rattle.ps_parse.specs.ps_scan.Piece.{piece_of, first_piece}
+use Rattle.ps_parse.specs.ps_scan.Tokens.{line_of, piece_at, token_at, slice_of, Scans, HasTokens, IsSpelled}
 use Rattle.ps_layout.specs.Lexemes.{Gap, nothing, blank, newline, Lexeme, gap_bytes, text_of, printed}
 use Rattle.ps_reread.specs.Printable.{gap_lines, tokens_of, ends_before, first_passes, may_follow_glued, may_follow, neighbours_pass, IsPrintable, AreSpelledBy}
 use Rattle.ps_reread.proofs.Glued.{both}
 use Rattle.ps_reread.proofs.Pieces.{token_here, spelled_nonempty, ends_before_blank, ends_before_newline}
 
--- the text behind its first bytes
+-- the text after its first bytes
 pub behind : (text : List ℕ) (at : ℕ) (xs ys : List ℕ) → drop at text ≡ xs ++ ys → drop (at + length xs) text ≡ ys
 behind text at xs ys here = sym (drop-drop (length xs) at text) ∙ ap (drop (length xs)) here ∙ drop_at xs ys (length xs) refl
 
@@ -74,7 +74,7 @@ ends_here lexeme [] spelled follows = ends_before_newline lexeme.what
 ends_here lexeme (next ∷ lexemes) spelled follows =
     next_ends lexeme.what next.gap next.spelling (text_of lexemes) (some_bytes next.what next.spelling spelled.0) follows
 
--- a lexeme, and those behind it
+-- a lexeme, and those after it
 pub text_behind : (text : List ℕ) (at : ℕ) (lexeme : Lexeme) (lexemes : List Lexeme) (tail : List ℕ) → drop at text ≡ text_of (lexeme ∷ lexemes) ++ tail → drop at text ≡ gap_bytes lexeme.gap ++ (lexeme.spelling ++ (text_of lexemes ++ tail))
 unfolding text_of
 text_behind text at lexeme lexemes tail here =

@@ -1,17 +1,17 @@
 -- A type, and groups, as they are laid out are read as they were.
 use Rattle.std.proofs.Common.{◌≡◌, ℕ, ◌+◌, List, [], ◌∷◌, ◌++◌, Bool, true, false, Option, Some, None, is_some, option_map, refl, sym, subst, ap, ◌∙◌}
 use Rattle.std.proofs.lemmas.List.{append-nil, append_assoc}
-use Rattle.ps_base.specs.TyView.{TyView, TyViews, and_type}
-use Rattle.ps_base.specs.TyView as ty
-use Rattle.ps_scan.specs.Tokens.{line_of}
-use Rattle.ps_scan.specs.declared.mark.TheConstants as mark
-use Rattle.ps_symbols.specs.declared.kind.Kind.{Kind}
-use Rattle.ps_symbols.specs.declared.kind.Kind.TheVariants as kind
-use Rattle.ps_symbols.specs.declared.symbol.Symbol.{Symbol}
-use Rattle.ps_symbols.specs.Kinds.{begins_type, type_start_of}
-use Rattle.ps_tree.specs.Phrase.{GroupAt}
-use Rattle.ps_reader.specs.Grammar.{Made, a_type, all_types, all_groups, Rule, Give, Go, Type_, a_type_inside, typed_as, Parameters, MoreGroups, Result, ParameterTypes, MoreTypes, inside, name_at, parameters, parameter_types, more_types, more_groups, result}
-use Rattle.ps_reader.specs.Reading.{kind_at, Reads, gives, takes, goes, opens, joins}
+use Rattle.ps_layout.specs.ps_base.TyView.{TyView, TyViews, and_type}
+use Rattle.ps_layout.specs.ps_base.TyView as ty
+use Rattle.ps_parse.specs.ps_scan.Tokens.{line_of}
+use Rattle.ps_parse.specs.ps_scan.declared.mark.TheConstants as mark
+use Rattle.ps_layout.specs.ps_symbols.declared.kind.Kind.{Kind}
+use Rattle.ps_layout.specs.ps_symbols.declared.kind.Kind.TheVariants as kind
+use Rattle.ps_layout.specs.ps_symbols.declared.symbol.Symbol.{Symbol}
+use Rattle.ps_layout.specs.ps_symbols.Kinds.{begins_type, type_start_of}
+use Rattle.ps_layout.specs.ps_tree.Phrase.{GroupAt}
+use Rattle.ps_parse.specs.ps_reader.Grammar.{Made, a_type, all_types, all_groups, Rule, Give, Go, Type_, a_type_inside, typed_as, Parameters, MoreGroups, Result, ParameterTypes, MoreTypes, inside, name_at, parameters, parameter_types, more_types, more_groups, result}
+use Rattle.ps_parse.specs.ps_reader.Reading.{kind_at, Reads, gives, takes, goes, opens, joins}
 use Rattle.ps_layout.specs.Lexemes.{Gap, nothing, blank, Lexeme}
 use Rattle.ps_layout.specs.Layout.{the_mark, name_lexeme, type_lexemes, types_lexemes, more_types_lexemes, behind_arrow, groups_lexemes, more_groups_lexemes, close_round}
 use Rattle.ps_reread.specs.Bare.{bare_group, bare_groups}
@@ -20,7 +20,7 @@ use Rattle.ps_reread.proofs.Canonical as is
 use Rattle.ps_reread.proofs.Standing.{Stands, cut}
 use Rattle.ps_reread.proofs.Heads.{head, ended}
 
--- what stands behind the types between brackets: an arrow or a closing bracket
+-- what stands after the types between brackets: an arrow or a closing bracket
 pub data ClosesTypes : Kind → Type 0 where
   arrow : {k : Kind} → k ≡ kind.Arrow → ClosesTypes k
   round : {k : Kind} → k ≡ kind.CloseRound → ClosesTypes k

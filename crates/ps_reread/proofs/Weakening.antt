@@ -1,10 +1,10 @@
 -- What is canonical with some room is canonical with more; and what stood in brackets is canonical
--- without them, whatever stands behind it then.
+-- without them, whatever stands after it then.
 use Rattle.std.proofs.Common.{◌≡◌, ◌≢◌, ℕ, suc, List, Bool, true, false, refl}
-use Rattle.ps_base.specs.TyView.{TyView, TyViews}
-use Rattle.ps_base.specs.declared.line.Line.{Line}
-use Rattle.ps_tree.specs.Phrase.{GroupAt, Phrase, at, Form, Phrases, none, more, absent, present, Arms, WriteItem, item, WriteItems, no_items, more_items}
-use Rattle.ps_tree.specs.Phrase as form
+use Rattle.ps_layout.specs.ps_base.TyView.{TyView, TyViews}
+use Rattle.ps_layout.specs.ps_base.declared.line.Line.{Line}
+use Rattle.ps_layout.specs.ps_tree.Phrase.{GroupAt, Phrase, at, Form, Phrases, none, more, absent, present, Arms, WriteItem, item, WriteItems, no_items, more_items}
+use Rattle.ps_layout.specs.ps_tree.Phrase as form
 use Rattle.ps_layout.specs.Layout.{Behind, other, before_do, before_comma, before_colon, is_taken, Tightness}
 use Rattle.ps_reread.proofs.Canonical.{IsType, AreTypes, IsResult, AreGroups, IsClause, IsOperand, IsForm, AreClauses, AreArms, AreItems, IsWritten, AreItemsOf, IsItem}
 
@@ -98,7 +98,7 @@ mutual
   grow_item (IsItem.a_procedure name params gives s) = IsItem.a_procedure name (grow_groups params) (grow_result gives) (grow_clause s)
   grow_item (IsItem.a_structure name fields) = IsItem.a_structure name (grow_groups fields)
 
--- what stood in brackets stands in its own where it would take what stands behind it
+-- what stood in brackets stands in its own where it would take what stands after it
 pub unbracketed : {room : ℕ} {behind : Behind} {f : Form} {line : Line} (taken : Bool) → is_taken behind f ≡ taken → IsForm room other f → (is_taken behind f ≡ false → IsForm (suc room) behind f) → IsClause (suc (suc room)) behind (at f line)
 unbracketed true is bracketed bare = IsClause.kept is bracketed
 unbracketed false is bracketed bare = IsClause.plain is (bare is)

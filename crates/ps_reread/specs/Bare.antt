@@ -1,9 +1,9 @@
 -- A tree without its lines: two trees are the same but for lines where these are equal.
 use Rattle.std.specs.Prelude.{List, [], ◌∷◌}
-use Rattle.ps_base.specs.declared.line.Line.{Line}
-use Rattle.ps_scan.specs.Tokens.{line_of}
-use Rattle.ps_tree.specs.Phrase.{NameAt, GroupAt, Phrase, at, Form, Phrases, none, more, MaybePhrase, absent, present, Arm, Arms, no_arms, more_arms, arm, WriteItem, item, WriteItems, no_items, more_items}
-use Rattle.ps_tree.specs.Phrase as form
+use Rattle.ps_layout.specs.ps_base.declared.line.Line.{Line}
+use Rattle.ps_parse.specs.ps_scan.Tokens.{line_of}
+use Rattle.ps_layout.specs.ps_tree.Phrase.{NameAt, GroupAt, Phrase, at, Form, Phrases, none, more, MaybePhrase, absent, present, Arm, Arms, no_arms, more_arms, arm, WriteItem, item, WriteItems, no_items, more_items}
+use Rattle.ps_layout.specs.ps_tree.Phrase as form
 
 abbrev first_line : Line
 first_line = line_of 1

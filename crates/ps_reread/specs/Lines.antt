@@ -1,11 +1,11 @@
 -- Where the newlines of a printed text may stand, so that no `;` is read at them.
 use Rattle.std.specs.Prelude.{ℕ, ◌+◌, Bool, true, not, ◌&&◌, List, [], ◌∷◌}
-use Rattle.ps_scan.specs.declared.token.Token.{Token}
-use Rattle.ps_scan.specs.declared.token.TokenKind.{TokenKind}
-use Rattle.ps_symbols.specs.declared.symbol.Symbol.{Symbol}
-use Rattle.ps_symbols.specs.Kinds.{kind_of}
-use Rattle.ps_symbols.specs.Newline.{can_end, can_continue}
-use Rattle.ps_symbols.specs.Symbols.{symbol}
+use Rattle.ps_parse.specs.ps_scan.declared.token.Token.{Token}
+use Rattle.ps_parse.specs.ps_scan.declared.token.TokenKind.{TokenKind}
+use Rattle.ps_layout.specs.ps_symbols.declared.symbol.Symbol.{Symbol}
+use Rattle.ps_layout.specs.ps_symbols.Kinds.{kind_of}
+use Rattle.ps_layout.specs.ps_symbols.Newline.{can_end, can_continue}
+use Rattle.ps_layout.specs.ps_symbols.Symbols.{symbol}
 use Rattle.ps_layout.specs.Lexemes.{Gap, nothing, blank, newline, Lexeme}
 
 -- no `;` is read between these two: no newline stands between them, or the first can't end a clause,

@@ -3,12 +3,12 @@ use Rattle.std.specs.Prelude.{◌≡◌, ℕ, ◌+◌, Bool, true, false, not, �
 use Rattle.std.specs.Option.{is_none, unwrap_or}
 use Rattle.std.specs.List.{AllByRecursion, sum_by}
 use Rattle.std.specs.Char.{is_ascii_digit}
-use Rattle.ps_scan.specs.declared.token.Token.{Token}
-use Rattle.ps_scan.specs.declared.token.TokenKind.{TokenKind}
-use Rattle.ps_scan.specs.declared.token.TokenKind.TheVariants.{Name, Int, Text, Word, Mark}
-use Rattle.ps_scan.specs.Class.{is_name_byte}
-use Rattle.ps_scan.specs.Names.{marks, mark_place}
-use Rattle.ps_scan.specs.Tokens.{token_at, slice_of, IsSpelled}
+use Rattle.ps_parse.specs.ps_scan.declared.token.Token.{Token}
+use Rattle.ps_parse.specs.ps_scan.declared.token.TokenKind.{TokenKind}
+use Rattle.ps_parse.specs.ps_scan.declared.token.TokenKind.TheVariants.{Name, Int, Text, Word, Mark}
+use Rattle.ps_parse.specs.ps_scan.Class.{is_name_byte}
+use Rattle.ps_parse.specs.ps_scan.Names.{marks, mark_place}
+use Rattle.ps_parse.specs.ps_scan.Tokens.{token_at, slice_of, IsSpelled}
 use Rattle.ps_layout.specs.Lexemes.{Gap, nothing, blank, newline, Lexeme, gap_bytes, text_of}
 
 -- how many newlines a gap has
@@ -34,7 +34,7 @@ first_passes test (x ∷ xs) = test x
 abbrev pub mark_name : ℕ → List ℕ
 mark_name place = unwrap_or (slice_get marks place) []
 
--- a token of this kind stays as it is where this byte stands right behind it
+-- a token of this kind stays as it is where this byte stands right after it
 abbrev pub ends_before : TokenKind → ℕ → Bool
 ends_before Name byte = not (is_name_byte byte)
 ends_before Int byte = not (is_ascii_digit byte)
@@ -49,7 +49,7 @@ is_mark Text = false
 is_mark (Word place) = false
 is_mark (Mark place) = true
 
--- a lexeme may stand behind another: there is a gap, or its first byte leaves the other as it is
+-- a lexeme may stand after another: there is a gap, or its first byte leaves the other as it is
 abbrev pub may_follow_glued : Gap → TokenKind → List ℕ → Bool
 may_follow_glued nothing what spelling = first_passes (ends_before what) spelling
 may_follow_glued blank what spelling = true
@@ -86,7 +86,7 @@ AreSpelledBy text (token ∷ tokens) (lexeme ∷ lexemes) =
 abbrev pub lines_of : List Lexeme → ℕ
 lines_of lexemes = sum_by (λ lexeme. gap_lines lexeme.gap) lexemes
 
--- the token of a lexeme of a printed text that stands behind these
+-- the token of a lexeme of a printed text that stands after these
 abbrev pub token_behind : List Lexeme → Lexeme → Token
 token_behind front lexeme =
     token_at lexeme.what (1 + lines_of front + gap_lines lexeme.gap) (length (text_of front) + length (gap_bytes lexeme.gap)) (length lexeme.spelling)

@@ -1,10 +1,10 @@
 -- A printed text is read as the tree that was printed, but for lines.
 use Rattle.std.specs.Prelude.{◌≡◌, ℕ, List}
-use Rattle.ps_scan.specs.declared.token.Token.{Token}
-use Rattle.ps_scan.specs.Tokens.{HasTokens}
-use Rattle.ps_tree.specs.Phrase.{Phrase}
+use Rattle.ps_parse.specs.ps_scan.declared.token.Token.{Token}
+use Rattle.ps_parse.specs.ps_scan.Tokens.{HasTokens}
+use Rattle.ps_layout.specs.ps_tree.Phrase.{Phrase}
 use Rattle.ps_parse.specs.Program.{IsProgram}
-use Rattle.ps_symbols.specs.Symbols.{symbols}
+use Rattle.ps_layout.specs.ps_symbols.Symbols.{symbols}
 use Rattle.ps_layout.specs.Layout.{printed}
 use Rattle.ps_reread.specs.Bare.{bare}
 

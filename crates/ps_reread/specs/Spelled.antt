@@ -1,8 +1,8 @@
 -- The spelling of an int and of a string.
 use Rattle.std.specs.Prelude.{◌≡◌, ℕ, ◌==◌, ◌||◌, ◌&&◌, Bool, nat_le, List, drop}
-use Rattle.ps_scan.specs.Class.{decimal}
-use Rattle.ps_scan.specs.Piece.{quoted, bytes_of}
-use Rattle.ps_scan.specs.Tokens.{IsInt, IsString}
+use Rattle.ps_parse.specs.ps_scan.Class.{decimal}
+use Rattle.ps_parse.specs.ps_scan.Piece.{quoted, bytes_of}
+use Rattle.ps_parse.specs.ps_scan.Tokens.{IsInt, IsString}
 
 -- the spelling of an int, of this value
 pub record SpellsInt (value : ℕ) (spelling : List ℕ) : Type 0 where

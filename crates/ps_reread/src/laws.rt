@@ -2,10 +2,10 @@
 
 ghost use Rattle.std.specs.Prelude.{◌≡◌, ℕ, ◌≤◌, true, not, IsTrue, List, ◌∷◌, ◌++◌, length, Some, slice_get};
 ghost use Rattle.std.specs.List.{list_all};
-ghost use Rattle.ps_scan.specs.declared.token.Token.{Token};
-ghost use Rattle.ps_scan.specs.Tokens.{HasTokens, IsSpelled, slice_of};
-ghost use Rattle.ps_tree.specs.Phrase.{Phrase};
-ghost use Rattle.ps_symbols.specs.Symbols.{symbol, symbols};
+ghost use Rattle.ps_parse.specs.ps_scan.declared.token.Token.{Token};
+ghost use Rattle.ps_parse.specs.ps_scan.Tokens.{HasTokens, IsSpelled, slice_of};
+ghost use Rattle.ps_layout.specs.ps_tree.Phrase.{Phrase};
+ghost use Rattle.ps_layout.specs.ps_symbols.Symbols.{symbol, symbols};
 ghost use Rattle.ps_layout.specs.Lexemes.{Lexeme, printed};
 ghost use Rattle.ps_reread.specs.Printable.{IsPrintable, tokens_of, token_behind, AreSpelledBy, is_mark, first_passes, last_passes, may_follow, neighbours_pass};
 ghost use Rattle.ps_reread.specs.Lines.{goes_on, one_for_one};

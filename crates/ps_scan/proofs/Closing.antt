@@ -1,4 +1,4 @@
--- A string that closes does so within the text, and what stands behind it doesn't matter.
+-- A string that closes does so within the text, and what stands after it doesn't matter.
 use Rattle.std.proofs.Common.{◌≡◌, ℕ, ◌+◌, ◌≤◌, ◌==◌, false, List, [], ◌∷◌, length, take, Option, Some, None, sym, ◌∙◌, ap, refl, arith, subst}
 use Rattle.ps_scan.specs.declared.class.Inner.{Inner}
 use Rattle.ps_scan.specs.declared.class.Inner.TheVariants.{Plain, Apostrophe}
@@ -67,7 +67,7 @@ EndsWithin rest StaysOpen = Unit {0}
 EndsWithin rest (HasBadByte byte) = Unit {0}
 EndsWithin rest (HasBadEscape byte) = Unit {0}
 
--- the same behind an apostrophe, which is counted
+-- the same after an apostrophe, which is counted
 record ClosesBehind (rest bytes : List ℕ) (n : ℕ) : Type 0 where
   within : n ≤ 1 + length rest
   alone : (m : ℕ) × (n ≡ 1 + m) × (behind_apostrophe (take m rest) ≡ Closes bytes n) × (newlines (take m rest) ≡ 0)

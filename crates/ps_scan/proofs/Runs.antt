@@ -4,7 +4,7 @@ use Rattle.std.specs.List.{prefix_len, AllPass, take_while}
 use Rattle.std.proofs.lemmas.List.Sums.{prefix_len_passes}
 use Rattle.std.proofs.lemmas.List.Folds.{length-prefix_len}
 
--- each element of the run at the front passes the test
+-- each element of the run at the start passes the test
 pub run_passes : (p : ℕ → Bool) (xs run : List ℕ) → run ≡ take_while p xs → AllPass p run
 run_passes p xs run same = λ k d below.
     let size : length run ≡ prefix_len p xs = ap length same ∙ length-prefix_len p xs in

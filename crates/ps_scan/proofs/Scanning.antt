@@ -30,7 +30,7 @@ is_token text at line what n here on_line =
       spelling = subst (λ k. IsSpelled what (take k (drop at text))) (sym size) fits.spelling;
     }
 
--- the line behind each piece
+-- the line after each piece
 pub line_behind_blank : (text : List ℕ) (at line : ℕ) → piece_at text at line ≡ Blank → line ≡ line_number text at → line ≡ line_number text (at + 1)
 line_behind_blank text at line here on_line =
     omega (arith, on_line, line_number-add text at 1, blank_fits (line_of line) (drop at text) here)

@@ -21,14 +21,14 @@ use Rattle.ps_scan.proofs.Runs.{run_passes}
 use Rattle.ps_scan.proofs.Lines.{take_behind, no_newline_more, no_newline_first, newline_first, no_newline_in_name, no_newline_in_digits, no_newline_in_comment}
 use Rattle.ps_scan.proofs.Closing.{closes_within}
 
--- so many bytes at the front of the rest are spelled as a token of this kind
+-- so many bytes at the start of the rest are spelled as a token of this kind
 pub record Fits (what : TokenKind) (rest : List ℕ) (n : ℕ) : Type 0 where
   pub nonempty : 1 ≤ n
   pub within : n ≤ length rest
   pub one_line : newlines (take n rest) ≡ 0
   pub spelling : IsSpelled what (take n rest)
 
--- so many bytes at the front of the rest, at least one and on one line
+-- so many bytes at the start of the rest, at least one and on one line
 pub record IsOnLine (rest : List ℕ) (n : ℕ) : Type 0 where
   pub nonempty : 1 ≤ n
   pub within : n ≤ length rest
@@ -43,7 +43,7 @@ FitsPiece rest (Piece.Comment n) = IsOnLine rest n
 FitsPiece rest (Piece.Token what n) = Fits what rest n
 FitsPiece rest (Fault fault) = Unit {0}
 
--- a run that is not empty, at the front of the rest
+-- a run that is not empty, at the start of the rest
 record IsRun (p : ℕ → Bool) (rest run : List ℕ) : Type 0 where
   nonempty : 1 ≤ length run
   within : length run ≤ length rest

@@ -29,7 +29,7 @@ prepend_more bytes n byte taken StaysOpen = refl
 prepend_more bytes n byte taken (HasBadByte bad) = refl
 prepend_more bytes n byte taken (HasBadEscape bad) = refl
 
--- up to this place behind its opening quote a string has spelled these bytes
+-- up to this place after its opening quote a string has spelled these bytes
 pub record SoFar (whole : List ℕ) (at : ℕ) (bytes : List ℕ) : Type 0 where
   pub onwards : quoted whole ≡ prepend bytes at (quoted (drop at whole))
 

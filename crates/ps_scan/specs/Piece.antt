@@ -3,6 +3,7 @@
 use Rattle.std.specs.Prelude.{ℕ, ◌+◌, ◌==◌, not, nat_le, List, [], ◌∷◌, length, Option, Some, None, if◌then◌else◌}
 use Rattle.std.specs.List.{take_while}
 use Rattle.std.specs.Char.{is_ascii_digit}
+use Rattle.ps_base.specs.Limits.{most_name_bytes, most_string_bytes}
 use Rattle.ps_base.specs.declared.line.Line.{Line}
 use Rattle.ps_scan.specs.declared.class.Class.{Class}
 use Rattle.ps_scan.specs.declared.class.Class.TheVariants.{Letter, Digit}
@@ -15,7 +16,7 @@ use Rattle.ps_scan.specs.declared.token.TokenKind.TheVariants.{Name, Int, Text, 
 use Rattle.ps_scan.specs.Class.{class_of, is_name_byte, inner_of, escaped, decimal}
 use Rattle.ps_scan.specs.Names.{word_place, mark_place}
 
--- how a string goes on behind its opening quote: it closes, with the bytes that it spells and the
+-- how a string goes on after its opening quote: it closes, with the bytes that it spells and the
 -- number of bytes up to and with the closing quote; or it stays open; or a byte in it is bad
 pub data Quoted : Type 0 where
   Closes : List ℕ → ℕ → Quoted
@@ -38,7 +39,7 @@ bytes_of (HasBadByte byte) = []
 bytes_of (HasBadEscape byte) = []
 
 unfoldable mutual
-  -- the bytes behind an opening quote
+  -- the bytes after an opening quote
   pub quoted : List ℕ → Quoted
   quoted [] = StaysOpen
   quoted (byte ∷ rest) =
@@ -50,7 +51,7 @@ unfoldable mutual
         | Inner.Other ↦ HasBadByte byte
       ]
 
-  -- the bytes behind an apostrophe in a string
+  -- the bytes after an apostrophe in a string
   pub behind_apostrophe : List ℕ → Quoted
   behind_apostrophe [] = StaysOpen
   behind_apostrophe (byte ∷ rest) =
@@ -67,7 +68,7 @@ comment bytes = take_while (λ byte. not (byte == 10)) bytes
 unfoldable pub word_or_name : Line → List ℕ → Option ℕ → Piece
 word_or_name line run (Some place) = Piece.Token (Word place) (length run)
 word_or_name line run None =
-    if nat_le (length run) 64 then Piece.Token Name (length run) else Fault (NameTooLong line (length run))
+    if nat_le (length run) most_name_bytes then Piece.Token Name (length run) else Fault (NameTooLong line (length run))
 
 -- a run of digits
 unfoldable pub int : Line → List ℕ → Piece
@@ -77,7 +78,7 @@ int line digits =
 -- a string, whose opening quote is one byte more
 unfoldable pub string : Line → Quoted → Piece
 string line (Closes bytes n) =
-    if nat_le (length bytes) 65535 then Piece.Token Text (1 + n) else Fault (StringTooLong line (length bytes))
+    if nat_le (length bytes) most_string_bytes then Piece.Token Text (1 + n) else Fault (StringTooLong line (length bytes))
 string line StaysOpen = Fault (OpenString line)
 string line (HasBadByte byte) = Fault (BadByte line byte)
 string line (HasBadEscape byte) = Fault (BadEscape line byte)
@@ -100,7 +101,7 @@ mark line byte (Some place) single = Piece.Token (Mark place) 2
 mark line byte None (Some place) = Piece.Token (Mark place) 1
 mark line byte None None = Fault (BadByte line byte)
 
--- what begins with this byte of this class, where the rest stands behind it
+-- what begins with this byte of this class, where the rest stands after it
 unfoldable pub piece_of : Class → Line → ℕ → List ℕ → Piece
 piece_of Class.Blank line byte rest = Piece.Blank
 piece_of Class.Newline line byte rest = Piece.Newline

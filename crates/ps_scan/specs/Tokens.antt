@@ -2,6 +2,7 @@
 use Rattle.std.specs.Prelude.{◌≡◌, ℕ, ◌+◌, ◌-◌, ◌<◌, ◌≤◌, ◌==◌, IsTrue, List, [], ◌∷◌, length, take, drop, count_by, slice_range, slice_get, slice_index, Some, None}
 use Rattle.std.specs.List.{AllPass}
 use Rattle.std.specs.Char.{is_ascii_digit, is_ascii_alphabetic}
+use Rattle.ps_base.specs.Limits.{most_name_bytes, most_string_bytes}
 use Rattle.ps_base.specs.declared.line.Line.{Line}
 use Rattle.ps_scan.specs.declared.fault.ScanFault.{ScanFault}
 use Rattle.ps_scan.specs.declared.piece.Piece.{Piece}
@@ -67,7 +68,7 @@ spelled text token = bytes_of (quoted (drop 1 (slice_of text token)))
 pub record IsName (slice : List ℕ) : Type 0 where
   pub begins : IsTrue (is_ascii_alphabetic (slice_index slice 0))
   pub goes_on : AllPass is_name_byte slice
-  pub size : (1 ≤ length slice) × (length slice ≤ 64)
+  pub size : (1 ≤ length slice) × (length slice ≤ most_name_bytes)
   pub free : word_place slice ≡ None
 
 -- one or more digits, whose value is at most 2147483647
@@ -80,7 +81,7 @@ pub record IsInt (slice : List ℕ) : Type 0 where
 pub record IsString (slice : List ℕ) : Type 0 where
   pub begins : slice_get slice 0 ≡ Some 34
   pub closes : quoted (drop 1 slice) ≡ Closes (bytes_of (quoted (drop 1 slice))) (length slice - 1)
-  pub fits : length (bytes_of (quoted (drop 1 slice))) ≤ 65535
+  pub fits : length (bytes_of (quoted (drop 1 slice))) ≤ most_string_bytes
 
 -- how many newlines these bytes have
 unfoldable pub newlines : List ℕ → ℕ

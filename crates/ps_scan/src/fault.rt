@@ -15,7 +15,7 @@ pub enum ScanFault {
     OpenString { line: Line },
     /// An int above 2147483647.
     IntTooLarge { line: Line },
-    /// A byte that stands behind `'` in a string and makes no escape with it.
+    /// A byte that stands after `'` in a string and makes no escape with it.
     BadEscape { line: Line, byte: u8 },
     /// A name of more than 64 bytes.
     NameTooLong { line: Line, length: u32 },

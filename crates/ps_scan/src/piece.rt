@@ -1,6 +1,7 @@
 ghost use Rattle.std.specs.Prelude.{◌≡◌, ◌≤◌, ◌==◌, length, drop, not};
 ghost use Rattle.std.specs.List.{take_while, AllPass, prefix_len};
 ghost use Rattle.std.specs.Char.{is_ascii_digit};
+ghost use Rattle.ps_base.specs.Limits.{most_text_bytes};
 ghost use Rattle.ps_scan.specs.Class.{is_name_byte};
 ghost use Rattle.ps_scan.specs.declared.piece.Piece.TheVariants.{Comment};
 ghost use Rattle.ps_scan.specs.Names.{word_place};
@@ -13,7 +14,6 @@ use crate::number::{LARGEST_INT, decimal_of};
 use crate::quoted::string_piece;
 use crate::token::TokenKind;
 use crate::word::word_place;
-use ps_base::LONGEST_TEXT;
 use ps_base::line::Line;
 
 /// The most bytes that a name may have.
@@ -32,7 +32,7 @@ pub enum Piece {
 
 /// What the text begins with from the place on, which is on the line.
 pub fn piece_at(text: &[u8], at: usize, line: Line) -> Piece
-    requires size { length text.now ≤ LONGEST_TEXT }
+    requires size { length text.now ≤ most_text_bytes }
     requires place { at ≤ length text.now }
     ensures { result ≡ first_piece line (drop at text.now) }
 {
@@ -41,7 +41,7 @@ pub fn piece_at(text: &[u8], at: usize, line: Line) -> Piece
 
 #[tactic(auto, unfolding(crate::specs::Piece::first_piece, crate::specs::Piece::piece_of))]
 fn first_piece(rest: &[u8], line: Line) -> Piece
-    requires { length rest.now ≤ LONGEST_TEXT }
+    requires { length rest.now ≤ most_text_bytes }
     ensures { result ≡ first_piece line rest.now }
 {
     let Some(&byte) = rest.first() else {
@@ -59,7 +59,7 @@ fn first_piece(rest: &[u8], line: Line) -> Piece
 }
 
 fn comment(rest: &[u8]) -> Piece
-    requires { length rest.now ≤ LONGEST_TEXT }
+    requires { length rest.now ≤ most_text_bytes }
     ensures { result ≡ Comment (length (comment rest.now)) }
 {
     Piece::Comment {
@@ -103,7 +103,7 @@ fn digits_length(rest: &[u8]) -> usize
 
 #[tactic(auto, unfolding(crate::specs::Piece::word_or_name))]
 fn word_or_name(run: &[u8], line: Line) -> Piece
-    requires { length run.now ≤ LONGEST_TEXT }
+    requires { length run.now ≤ most_text_bytes }
     ensures { result ≡ word_or_name line run.now (word_place run.now) }
 {
     let length = run.len() as u32;
@@ -117,7 +117,7 @@ fn word_or_name(run: &[u8], line: Line) -> Piece
 
 #[tactic(auto, unfolding(crate::specs::Piece::int))]
 fn int(digits: &[u8], line: Line) -> Piece
-    requires size { length digits.now ≤ LONGEST_TEXT }
+    requires size { length digits.now ≤ most_text_bytes }
     requires digits { AllPass is_ascii_digit digits.now }
     ensures { result ≡ int line digits.now }
 {

@@ -1,4 +1,5 @@
 ghost use Rattle.std.specs.Prelude.{◌≡◌, ◌+◌, ◌-◌, ◌≤◌, ℕ, List, ◌∷◌, length, IfOk};
+ghost use Rattle.ps_base.specs.Limits.{most_text_bytes};
 ghost use Rattle.ps_scan.specs.Piece.{quoted, behind_apostrophe, string, bytes_of, Closes};
 ghost use Rattle.ps_scan.specs.inside.Strings.{goes_on, IsWithin};
 
@@ -6,7 +7,6 @@ use crate::class::{Inner, escaped, inner_of};
 use crate::fault::ScanFault;
 use crate::piece::Piece;
 use crate::token::TokenKind;
-use ps_base::LONGEST_TEXT;
 use ps_base::line::Line;
 use std::alloc::{AllocError, Global};
 
@@ -54,9 +54,9 @@ fn behind_apostrophe(rest: &[u8]) -> Inside
     }
 }
 
-/// The piece of a text that a string is, from the bytes behind its opening quote.
+/// The piece of a text that a string is, from the bytes after its opening quote.
 pub fn string_piece(rest: &[u8], line: Line) -> Piece
-    requires { length rest.now ≤ LONGEST_TEXT }
+    requires { length rest.now ≤ most_text_bytes }
     ensures { result ≡ string line (quoted rest.now) }
 {
     let mut at = 0;
@@ -91,7 +91,7 @@ fn closed_string(spelled: u32, taken: u32, line: Line) -> Piece
     }
 }
 
-/// The bytes that a closed string spells, from the bytes behind its opening quote.
+/// The bytes that a closed string spells, from the bytes after its opening quote.
 pub fn spelled_behind_quote(alloc: Global, rest: &[u8]) -> Result<Vec<u8>, AllocError>
     requires { quoted rest.now ≡ Closes (bytes_of (quoted rest.now)) (length rest.now) }
     ensures { IfOk result (λ bytes. bytes.items ≡ bytes_of (quoted rest.now)) }

@@ -1,4 +1,5 @@
 ghost use Rattle.std.specs.Prelude.{◌≡◌, ◌≢◌, ◌+◌, ◌^◌, ◌<◌, ◌≤◌, length, All, IfOk, IfErr, List, ℕ};
+ghost use Rattle.ps_base.specs.Limits.{most_text_bytes};
 ghost use Rattle.ps_scan.specs.declared.fault.ScanFault.{ScanFault};
 ghost use Rattle.ps_scan.specs.declared.token.Token.{Token};
 ghost use Rattle.ps_scan.specs.Tokens.{HasTokens, HasFault, token_at, IsToken, IsInOrder, StandsAt};
@@ -6,14 +7,13 @@ ghost use Rattle.ps_scan.specs.Tokens.{HasTokens, HasFault, token_at, IsToken, I
 use crate::fault::ScanFault;
 use crate::piece::{Piece, piece_at};
 use crate::token::{Token, TokenKind};
-use ps_base::LONGEST_TEXT;
 use ps_base::line::Line;
 use std::alloc::Global;
 
 /// The tokens of a text of at most 1,048,576 bytes, in order, or the first fault in it. `Memory`
 /// is answered where there is none for the tokens, 16 bytes each.
 pub fn scan(alloc: Global, text: &[u8]) -> Result<Vec<Token>, ScanFault>
-    requires { length text.now ≤ LONGEST_TEXT }
+    requires { length text.now ≤ most_text_bytes }
     ensures tokens { IfOk result (λ tokens. HasTokens text.now tokens.items) }
     ensures slices { IfOk result (λ tokens. All (IsToken text.now) tokens.items) }
     ensures in_order { IfOk result (λ tokens. IsInOrder 0 tokens.items) }

@@ -201,7 +201,7 @@ impl Scope {
     }
 }
 
-// The number of a local behind so many.
+// The number of a local after so many.
 fn number_of(count: usize) -> Result<u32, AllocError>
     ensures { IfOk result (λ number. number ≡ count) }
 {

@@ -1,1 +1,2 @@
 pub mod Sizing
+pub use Rattle.ps_typing.proofs as of_ps_typing

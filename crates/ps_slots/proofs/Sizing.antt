@@ -188,7 +188,7 @@ arm_more d labels a rest here done whole here_is done_is whole_is =
 pub part_more : (d done p rest whole : Extent) → done ≡ join d p → join d (join p rest) ≡ whole → join done rest ≡ whole
 part_more d done p rest whole done_is whole_is = ap (λ s. join s rest) done_is ∙ join_assoc d p rest ∙ whole_is
 
--- two parts, and three, behind nothing
+-- two parts, and three, after nothing
 pub two_parts : (empty s p q : Extent) → empty ≡ nothing → s ≡ join empty p → join s q ≡ join p (join q nothing)
 two_parts empty s p q none_is s_is = ap (λ t. join t q) (s_is ∙ ap (λ t. join t p) none_is ∙ nothing_join p) ∙ ap (join p) (sym (join_nothing q))
 

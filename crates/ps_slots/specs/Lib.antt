@@ -1,2 +1,3 @@
 pub mod Complexity
 pub mod inside
+pub use Rattle.ps_typing.specs as ps_typing

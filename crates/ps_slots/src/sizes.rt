@@ -50,7 +50,7 @@ impl Sizes {
         }
     }
 
-    /// Of these items of a sequence and, behind them, one more. The fault is that a count is beyond an `u64`.
+    /// Of these items of a sequence and, after them, one more. The fault is that a count is beyond an `u64`.
     pub fn and_item(self, item: &Tree) -> Result<Sizes, AllocError>
         ensures { IfOk result (λ all. size_of all ≡ join (size_of self) (size (node_of item.now))) }
     {
@@ -79,7 +79,7 @@ impl Sizes {
         Ok(self.complex)
     }
 
-    /// Of these and, behind them in the text, others.
+    /// Of these and, after them in the text, others.
     fn then(self, other: Sizes) -> Result<Sizes, AllocError>
         ensures { IfOk result (λ both. size_of both ≡ join (size_of self) (size_of other)) }
     {
@@ -130,7 +130,7 @@ pub fn sizes_of(tree: &Tree) -> Result<Sizes, AllocError>
     }
 }
 
-// Of the parts behind so many.
+// Of the parts after so many.
 #[cycle(sizes)]
 fn sizes_of_further(before: u64, further: Further) -> Result<Sizes, AllocError>
     requires { before ≤ 1 }
@@ -175,7 +175,7 @@ fn sizes_of_arms(arms: &[Arm]) -> Result<Sizes, AllocError>
     Ok(sizes)
 }
 
-// Of these and, behind them, the trees of a list.
+// Of these and, after them, the trees of a list.
 #[cycle(sizes)]
 fn then_all(sizes: Sizes, kind: Kind, before: u64, items: &[Tree]) -> Result<Sizes, AllocError>
     ensures { IfOk result (λ made. size_of made ≡ join (size_of sizes) (size_parts before (parts_all (as_part kind) (nodes_in items.now)))) }
@@ -189,7 +189,7 @@ fn then_all(sizes: Sizes, kind: Kind, before: u64, items: &[Tree]) -> Result<Siz
     Ok(sizes)
 }
 
-// Of these and, behind them, a part.
+// Of these and, after them, a part.
 #[cycle(sizes)]
 fn then_part(sizes: Sizes, kind: Kind, before: u64, part: &Tree) -> Result<Sizes, AllocError>
     ensures { IfOk result (λ made. size_of made ≡ join (size_of sizes) (size_part before (as_part kind (node_of part.now)))) }
@@ -198,7 +198,7 @@ fn then_part(sizes: Sizes, kind: Kind, before: u64, part: &Tree) -> Result<Sizes
     sizes.then(behind(kind, before, part)?)
 }
 
-// Of a part behind what waits there.
+// Of a part after what waits there.
 fn behind(kind: Kind, before: u64, part: Sizes) -> Result<Sizes, AllocError>
     ensures { IfOk result (λ made. size_of made ≡ behind_of (waiting kind before) (size_of part)) }
 {

@@ -1,13 +1,13 @@
 -- Bodies that are called answer: by induction on the turns that may be left.
 use Rattle.std.proofs.Common.{◌≡◌, ℕ, zero, suc, ◌+◌, pos, Bool, true, false, List, [], ◌∷◌, ◌++◌, length, Option, Some, None, refl, sym, ap, ◌∙◌, subst, append_assoc, length-append}
 use Rattle.std.specs.Prelude.{get_or, not, if◌then◌else◌}
-use Rattle.ps_base.specs.TyView.{TyView, TyViews}
-use Rattle.ps_base.specs.TyView as types
-use Rattle.ps_program.specs.Node.{Param, Node, BodyNode, body}
+use Rattle.ps_meaning.specs.ps_base.TyView.{TyView, TyViews}
+use Rattle.ps_meaning.specs.ps_base.TyView as types
+use Rattle.ps_meaning.specs.ps_program.Node.{Param, Node, BodyNode, body}
 use Rattle.ps_type_text.specs.Texts.{Field}
-use Rattle.ps_typing.specs.Placing.{is_number}
-use Rattle.ps_typing.specs.WellTyped.{Env, Free, Local, next_slot, behind_one, types_of_params, Takes, IsTyped, IsBody}
-use Rattle.ps_typing.specs.WellTyped as typed
+use Rattle.ps_meaning.specs.ps_typing.Placing.{is_number}
+use Rattle.ps_meaning.specs.ps_typing.WellTyped.{Env, Free, Local, next_slot, behind_one, types_of_params, Takes, IsTyped, IsBody}
+use Rattle.ps_meaning.specs.ps_typing.WellTyped as typed
 use Rattle.ps_meaning.specs.Values.{Value, Num, Nil}
 use Rattle.ps_meaning.specs.Objects.{Heap}
 use Rattle.ps_meaning.specs.Meaning.{Frame, State, Outcome, Value_is, Ends, stop, local_of}
@@ -126,7 +126,7 @@ taken_is (body params gives tree text line) ps g e = cc
 given_is : (of : BodyNode) (ps : TyViews) (g : TyView) → types.Proc ps g ≡ type_of_body of → g ≡ given of
 given_is (body params gives tree text line) ps g e = cc
 
--- What is known of a body that is called: the locals where its clause begins, and what it comes to.
+-- What is known of a body that is called: the locals where its clause begins, and what it returns.
 record Called (of : BodyNode) (wholes scopes : List (List Field)) : Type 0 where
   locals : List Local
   are_locals : (heap : Heap) (scope : Option ℕ) (args : List Value) → ValuesOf heap (taken of) args →

@@ -1,14 +1,14 @@
--- What calls come to, and the names that scopes keep.
+-- What calls return, and the names that scopes keep.
 use Rattle.std.proofs.Common.{◌≡◌, ℕ, Bool, true, false, List, [], ◌∷◌, length, Option, Some, None, refl, sym, subst, if◌then◌else◌}
 use Rattle.std.specs.Prelude.{nat_lt, codes}
-use Rattle.ps_base.specs.TyView.{TyView, TyViews}
-use Rattle.ps_base.specs.TyView as types
-use Rattle.ps_base.specs.declared.line.Line.{Line}
-use Rattle.ps_base.specs.declared.trap.Trap.TheVariants.{TooLong}
+use Rattle.ps_meaning.specs.ps_base.TyView.{TyView, TyViews}
+use Rattle.ps_meaning.specs.ps_base.TyView as types
+use Rattle.ps_meaning.specs.ps_base.declared.line.Line.{Line}
+use Rattle.ps_meaning.specs.ps_base.declared.trap.Trap.TheVariants.{TooLong}
 use Rattle.ps_type_text.specs.Texts.{Field, class_text, IsNamed}
-use Rattle.ps_program.specs.Node.{Param, Node, BodyNode, body}
-use Rattle.ps_program.specs.declared.place.Place.TheVariants.{Kept}
-use Rattle.ps_typing.specs.WellTyped.{Local, At, IsOfType, and_kept, types_of_params, IsBody}
+use Rattle.ps_meaning.specs.ps_program.Node.{Param, Node, BodyNode, body}
+use Rattle.ps_meaning.specs.ps_program.declared.place.Place.TheVariants.{Kept}
+use Rattle.ps_meaning.specs.ps_typing.WellTyped.{Local, At, IsOfType, and_kept, types_of_params, IsBody}
 use Rattle.ps_meaning.specs.Values.{Value, Procedure, as_written}
 use Rattle.ps_meaning.specs.Texts.{Yields, Fails, is_string, line_of, line_read, behind_line}
 use Rattle.ps_meaning.specs.Objects.{Heap, with_new, new_number}
@@ -37,7 +37,7 @@ values_kept heap new g types.none (v ∷ vs) h = absurd h
 values_kept heap new g (types.more t ts) [] h = absurd h
 values_kept heap new g (types.more t ts) (v ∷ vs) h = (of_kept heap new g t v h.0, values_kept heap new g ts vs h.1)
 
--- Bodies that are called answer: with values of their parameters' types they come to a value of the type that they give.
+-- Bodies that are called answer: with values of their parameters' types they yield a value of the type that they give.
 pub record Answers (call : BodyNode → List Value → Meaning) : Type 0 where
   pub answers : (of : BodyNode) (scope : Option ℕ) (args : List Value) (ps : TyViews) (g : TyView) (state : State) → IsTypedHeap state.store.heap →
       IsProcedure state.store.heap (types.Proc ps g) of scope → ValuesOf state.store.heap ps args →

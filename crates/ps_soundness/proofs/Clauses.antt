@@ -1,16 +1,16 @@
--- A clause of a type comes to a value of the type.
+-- A clause of a type yields a value of the type.
 use Rattle.std.proofs.Common.{◌≡◌, ℕ, List, [], ◌∷◌, Option, Some, None, refl, sym, subst, arith}
 use Rattle.std.specs.Prelude.{codes}
-use Rattle.ps_base.specs.TyView.{TyView}
-use Rattle.ps_base.specs.TyView as types
-use Rattle.ps_base.specs.declared.line.Line.{Line}
-use Rattle.ps_program.specs.declared.place.Place.{Place}
-use Rattle.ps_program.specs.declared.place.Place.TheVariants.{Plain, Kept}
-use Rattle.ps_program.specs.Node.{Node, Nodes, none, more, body}
-use Rattle.ps_program.specs.Node as node
+use Rattle.ps_meaning.specs.ps_base.TyView.{TyView}
+use Rattle.ps_meaning.specs.ps_base.TyView as types
+use Rattle.ps_meaning.specs.ps_base.declared.line.Line.{Line}
+use Rattle.ps_meaning.specs.ps_program.declared.place.Place.{Place}
+use Rattle.ps_meaning.specs.ps_program.declared.place.Place.TheVariants.{Plain, Kept}
+use Rattle.ps_meaning.specs.ps_program.Node.{Node, Nodes, none, more, body}
+use Rattle.ps_meaning.specs.ps_program.Node as node
 use Rattle.ps_type_text.specs.Texts.{Field, class_text}
-use Rattle.ps_typing.specs.WellTyped.{Env, Free, Local, Claim, behind_loop, with_scopes, types_of_params, Declares, IsTyped, AreTyped, AreItems}
-use Rattle.ps_typing.specs.WellTyped as typed
+use Rattle.ps_meaning.specs.ps_typing.WellTyped.{Env, Free, Local, Claim, behind_loop, with_scopes, types_of_params, Declares, IsTyped, AreTyped, AreItems}
+use Rattle.ps_meaning.specs.ps_typing.WellTyped as typed
 use Rattle.ps_meaning.specs.Values.{Value, Num, Nothing}
 use Rattle.ps_meaning.specs.Objects.{Heap}
 use Rattle.ps_meaning.specs.Meaning.{Frame, State, Outcome, Value_is, Ends, Meaning}
@@ -28,7 +28,7 @@ use Rattle.ps_soundness.proofs.Sequences.{AreSound}
 use Rattle.ps_soundness.proofs.Declaring.{Climbs, declared_climbs, climbs, climbs_all, below_climbs, declared_below, declared_over, declared_less, scope_same, sound_set_local, declared_sound, sound_let, literal_sound}
 use Rattle.ps_soundness.proofs.Rules.{rule_sound}
 
--- a loop by `for` takes three free slots, and what is known behind a turn is known before it
+-- a loop by `for` takes three free slots, and what is known after a turn is known before it
 sound_loop : {env : Env} {own : Standing} (free : Free) (control : Place) (wholes : Option (List (List Field))) (c : Context) (heap : Heap) (slot : ℕ)
     (from to by s : Node) (scope : Option (List ℕ)) (line : Line) → slot ≡ free.nums → AllBelow env.locals free →
     ((new : Heap) (frame : Frame) → IsStanding new frame own → IsStanding new frame (stand wholes env)) →
@@ -67,7 +67,7 @@ turns_scoped told wholes text opened declares at below h z is new =
     sound_opened text opened (λ inside g.
     sound_then (declared_sound told (Some (opened.fields ∷ wholes)) declares at below inside (Num z) is) (λ h2 u g2 is_done. h h2))
 
--- free slots behind the three of a loop, behind its start, limit and step, and in what is repeated
+-- free slots after the three of a loop, after its start, limit and step, and in what is repeated
 in_loop : (env : Env) (free : Free) → AllBelow env.locals free → AllBelow env.locals (behind_loop free)
 in_loop env free below = below_climbs free (behind_loop free) env.locals (record { nums = omega arith; refs = omega arith }) below
 

@@ -1,11 +1,11 @@
 -- Meanings that come to values of a type where the heap and the locals in scope are typed, and how they combine.
 use Rattle.std.proofs.Common.{◌≡◌, ℕ, zero, suc, ℤ, Bool, true, false, List, [], Option, Some, None, refl, sym, subst, if◌then◌else◌}
-use Rattle.ps_base.specs.TyView.{TyView}
-use Rattle.ps_base.specs.TyView as types
-use Rattle.ps_base.specs.declared.line.Line.{Line}
-use Rattle.ps_program.specs.declared.place.Place.TheVariants.{Plain}
+use Rattle.ps_meaning.specs.ps_base.TyView.{TyView}
+use Rattle.ps_meaning.specs.ps_base.TyView as types
+use Rattle.ps_meaning.specs.ps_base.declared.line.Line.{Line}
+use Rattle.ps_meaning.specs.ps_program.declared.place.Place.TheVariants.{Plain}
 use Rattle.ps_type_text.specs.Texts.{Field}
-use Rattle.ps_typing.specs.WellTyped.{Some_is, Env, Local, IsLocal}
+use Rattle.ps_meaning.specs.ps_typing.WellTyped.{Some_is, Env, Local, IsLocal}
 use Rattle.ps_meaning.specs.Operators.{Answer, Gives, Traps}
 use Rattle.ps_meaning.specs.Event.{End, Trapped}
 use Rattle.ps_meaning.specs.Values.{Value, Num, Nothing}
@@ -60,7 +60,7 @@ abbrev pub Comes : Heap → Standing → TyView → Outcome → Type 0
 Comes heap known ty (Value_is v frame state) = IsDone heap known ty v frame state
 Comes heap known ty (Ends e state) = Grows heap state.store.heap × IsTypedHeap state.store.heap
 
--- From each state whose heap has grown from this one, where the first is known, a meaning comes to a value of the type, and then the last is.
+-- From each state whose heap has grown from this one, where the first is known, a meaning yields a value of the type, and then the last is.
 pub record Sound (heap : Heap) (first last : Standing) (ty : TyView) (m : Meaning) : Type 0 where
   pub runs : (frame : Frame) (state : State) → Grows heap state.store.heap → IsTypedHeap state.store.heap → IsStanding state.store.heap frame first →
       Comes state.store.heap last ty (m frame state)
@@ -76,7 +76,7 @@ comes_narrow heap wide last ty (Value_is v frame state) k h =
     record { grows = h.grows; typed = h.typed; are = k state.store.heap frame h.are; value = h.value }
 comes_narrow heap wide last ty (Ends e state) k h = h
 
--- less is known behind it
+-- less is known after it
 pub narrowed : {heap : Heap} {first wide last : Standing} {ty : TyView} {m : Meaning} →
     ((new : Heap) (frame : Frame) → IsStanding new frame wide → IsStanding new frame last) → Sound heap first wide ty m → Sound heap first last ty m
 narrowed {wide = wide} {last = last} {ty = ty} {m = m} k h = record {
@@ -225,7 +225,7 @@ pub sound_written : {heap : Heap} {known : Standing} (line : Line) (width : Opti
 unfolding written
 sound_written line width bytes = sound_either (is_width width) (sound_emit (in_places width bytes)) (sound_stop _)
 
--- what is held behind a turn has the heap that was there
+-- what is held after a turn has the heap that was there
 abbrev HasHeap : Heap → Option Store → Type 0
 HasHeap heap None = Unit {0}
 HasHeap heap (Some store) = store.heap ≡ heap

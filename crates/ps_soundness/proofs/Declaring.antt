@@ -1,16 +1,16 @@
 -- Free slots only grow from clause to clause, and a name that is declared takes one that no local in scope has.
 use Rattle.std.proofs.Common.{◌≡◌, ℕ, ◌+◌, ◌<◌, ◌≤◌, Bool, true, false, List, [], ◌∷◌, ◌++◌, length, Option, Some, None, inl, inr, refl, sym, subst, arith}
 use Rattle.std.specs.Prelude.{if◌then◌else◌}
-use Rattle.ps_base.specs.TyView.{TyView}
-use Rattle.ps_base.specs.TyView as types
-use Rattle.ps_program.specs.declared.place.Place.{Place}
-use Rattle.ps_program.specs.declared.place.Place.TheVariants.{Plain, Kept}
-use Rattle.ps_program.specs.Node.{Node, Nodes, BodyNode, body}
-use Rattle.ps_program.specs.Node as node
+use Rattle.ps_meaning.specs.ps_base.TyView.{TyView}
+use Rattle.ps_meaning.specs.ps_base.TyView as types
+use Rattle.ps_meaning.specs.ps_program.declared.place.Place.{Place}
+use Rattle.ps_meaning.specs.ps_program.declared.place.Place.TheVariants.{Plain, Kept}
+use Rattle.ps_meaning.specs.ps_program.Node.{Node, Nodes, BodyNode, body}
+use Rattle.ps_meaning.specs.ps_program.Node as node
 use Rattle.ps_type_text.specs.Texts.{Field}
-use Rattle.ps_typing.specs.Placing.{is_number}
-use Rattle.ps_typing.specs.WellTyped.{At, IsOfType, Env, Free, Local, Claim, next_slot, behind_one, and_kept, types_of_params, Declares, IsTyped, AreTyped, AreItems, IsBody}
-use Rattle.ps_typing.specs.WellTyped as typed
+use Rattle.ps_meaning.specs.ps_typing.Placing.{is_number}
+use Rattle.ps_meaning.specs.ps_typing.WellTyped.{At, IsOfType, Env, Free, Local, Claim, next_slot, behind_one, and_kept, types_of_params, Declares, IsTyped, AreTyped, AreItems, IsBody}
+use Rattle.ps_meaning.specs.ps_typing.WellTyped as typed
 use Rattle.ps_meaning.specs.Values.{Value, Procedure, as_written}
 use Rattle.ps_meaning.specs.Objects.{Heap}
 use Rattle.ps_meaning.specs.Meaning.{Frame, Meaning, ◌>>=◌, made_procedure, frame_with, set}
@@ -98,7 +98,7 @@ declared_below (typed.as_local {env = env} {free = free} {slot = slot} {ty = ty}
     (below_one free (is_number ty) slot e, below_climbs free (behind_one ty free) env.locals (climbs_one free (is_number ty)) below)
 declared_below (typed.as_kept name scopes is) below = below
 
--- the locals that were in scope before are typed where those in scope behind are
+-- the locals that were in scope before are typed where those in scope after are
 pub declared_over : {env with_name : Env} {free behind : Free} {place : Place} {ty : TyView} → Declares env free place ty with_name behind →
     (heap : Heap) (frame : Frame) → AreLocals heap frame with_name.locals → AreLocals heap frame env.locals
 declared_over (typed.as_local e) heap frame h = h.1
@@ -109,7 +109,7 @@ around_less : (heap : Heap) (scope : Option ℕ) (wholes : Option (List (List Fi
 around_less heap scope None fields next scopes h = tt
 around_less heap scope (Some wholes) fields next scopes h = scopes_less heap scope wholes fields next scopes h
 
--- what is known before a name is declared is known behind it
+-- what is known before a name is declared is known after it
 pub declared_less : {env with_name : Env} {free behind : Free} {place : Place} {ty : TyView} (wholes : Option (List (List Field))) →
     Declares env free place ty with_name behind → (heap : Heap) (frame : Frame) → IsStanding heap frame (stand wholes with_name) →
     IsStanding heap frame (stand wholes env)
@@ -163,7 +163,7 @@ declared_sound told None (typed.as_kept name scopes is) at below heap v h = absu
 declared_sound told (Some wholes) (typed.as_kept {position = position} {ty = ty} name scopes is) at below heap v h =
     declare_kept told wholes position name ty v scopes is at h
 
--- and the names behind it
+-- and the names after it
 pub sound_let : (told : Told) (wholes : Option (List (List Field))) {env with_name : Env} {free behind : Free} {place : Place} {ty last : TyView}
     {e : Meaning} {next : Value → Meaning} {heap : Heap} →
     Declares env free place ty with_name behind → IsPlace wholes place ty → AllBelow env.locals free →

@@ -1,14 +1,14 @@
 -- Fields and elements: the texts of objects tell the types of their places, and a value of a type is kept as it is.
 use Rattle.std.proofs.Common.{◌≡◌, ℕ, zero, suc, ◌<◌, true, false, List, [], ◌∷◌, map, length, get_or, set, replicate, Option, Some, inl, inr, refl, sym, ap, ◌∙◌, subst, arith}
 use Rattle.std.specs.List.{AllByRecursion}
-use Rattle.ps_base.specs.TyView.{TyView}
-use Rattle.ps_base.specs.TyView as types
+use Rattle.ps_meaning.specs.ps_base.TyView.{TyView}
+use Rattle.ps_meaning.specs.ps_base.TyView as types
 use Rattle.ps_type_text.specs.Texts.{Field, type_text, class_text, IsNamed}
-use Rattle.text_forms.specs.declared.forms.Form.{Form}
-use Rattle.text_forms.specs.Classes.{form_of_type, form_of_field}
-use Rattle.text_forms.specs.Forms.{forms_of, form_in, element_of}
-use Rattle.text_forms.proofs.ClassForms.{class-told, element-told}
-use Rattle.ps_typing.specs.WellTyped.{At, IsOfType}
+use Rattle.ps_meaning.specs.text_forms.declared.forms.Form.{Form}
+use Rattle.ps_meaning.specs.text_forms.Classes.{form_of_type, form_of_field}
+use Rattle.ps_meaning.specs.text_forms.Forms.{forms_of, form_in, element_of}
+use Rattle.ps_meaning.proofs.of_text_forms.ClassForms.{class-told, element-told}
+use Rattle.ps_meaning.specs.ps_typing.WellTyped.{At, IsOfType}
 use Rattle.ps_meaning.specs.Values.{Value, Num, Flag}
 use Rattle.ps_meaning.specs.Objects.{Heap, value_at}
 use Rattle.ps_meaning.specs.Evaluation.{kept_as, kept_all, kept_elements}

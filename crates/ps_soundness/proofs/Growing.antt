@@ -1,12 +1,12 @@
 -- A heap that grows: an object more, or another value in a place of one. Values keep their types, and a typed heap stays typed.
 use Rattle.std.proofs.Common.{◌≡◌, ◌⊎◌, ℕ, zero, suc, true, List, [], ◌∷◌, ◌++◌, set, Option, Some, None, inl, inr, refl, sym, ap, ◌∙◌, subst}
 use Rattle.std.specs.List.{AllByRecursion}
-use Rattle.ps_base.specs.TyView.{TyView}
-use Rattle.ps_base.specs.TyView as types
+use Rattle.ps_meaning.specs.ps_base.TyView.{TyView}
+use Rattle.ps_meaning.specs.ps_base.TyView as types
 use Rattle.std.specs.Prelude.{codes}
-use Rattle.ps_program.specs.Node.{BodyNode}
+use Rattle.ps_meaning.specs.ps_program.Node.{BodyNode}
 use Rattle.ps_type_text.specs.Texts.{Field, type_text, class_text}
-use Rattle.ps_typing.specs.WellTyped.{Local}
+use Rattle.ps_meaning.specs.ps_typing.WellTyped.{Local}
 use Rattle.ps_meaning.specs.Values.{Value, Num, Flag, Text, Nil, Pointer, Vector, Procedure, as_written, Nothing}
 use Rattle.ps_meaning.specs.Objects.{Heap, Object, Structure, Elements, Scope, object_at, with_object, with_new, new_number}
 use Rattle.ps_meaning.specs.Meaning.{Frame, local_of}

@@ -1,11 +1,11 @@
 -- Loops leave the locals in scope typed: what is repeated does, and the three numbers of a loop by `for` lie in free slots.
 use Rattle.std.proofs.Common.{◌≡◌, ℕ, zero, suc, ◌+◌, ◌≤◌, ℤ, pos, ◌+ℤ◌, Bool, true, false, List, Option, refl, arith}
 use Rattle.std.specs.Prelude.{◌&&◌, int_le, if◌then◌else◌}
-use Rattle.ps_base.specs.TyView.{TyView}
-use Rattle.ps_base.specs.TyView as types
-use Rattle.ps_base.specs.declared.line.Line.{Line}
-use Rattle.ps_program.specs.declared.place.Place.{Place}
-use Rattle.ps_program.specs.declared.place.Place.TheVariants.{Plain}
+use Rattle.ps_meaning.specs.ps_base.TyView.{TyView}
+use Rattle.ps_meaning.specs.ps_base.TyView as types
+use Rattle.ps_meaning.specs.ps_base.declared.line.Line.{Line}
+use Rattle.ps_meaning.specs.ps_program.declared.place.Place.{Place}
+use Rattle.ps_meaning.specs.ps_program.declared.place.Place.TheVariants.{Plain}
 use Rattle.ps_meaning.specs.Operators.{is_int, is_same}
 use Rattle.ps_meaning.specs.Event.{OutOfTurns}
 use Rattle.ps_meaning.specs.Values.{Value, Num, Nothing, word_of, flag_of}
@@ -35,7 +35,7 @@ goes_on_int limit step z e = first_true (is_int z) (if is_up step then int_le z 
 abbrev pub Settable : Standing → Standing → Place → ℤ → Type 0
 Settable first last place z = (heap : Heap) → Sound heap first last types.Void (set place types.Int (Num z))
 
--- a turn of a loop, from each heap on: what is known behind it
+-- a turn of a loop, from each heap on: what is known after it
 abbrev pub Turns : Standing → Standing → Option (List ℕ) → Place → Meaning → Type 0
 Turns known own scope control clause =
     (z : ℤ) → is_int z ≡ true → (heap : Heap) → Sound heap known own types.Void (in_scope scope (set control types.Int (Num z) >>= λ u. clause))

@@ -2,11 +2,11 @@
 use Rattle.std.proofs.Common.{◌≡◌, ℕ, ◌<◌, ℤ, pos, negsuc, ◌+ℤ◌, ◌-ℤ◌, Bool, true, false, List, length, set, replicate, Option, Some, None, refl, sym, ap, ◌∙◌, subst, length-set, ltb-true}
 use Rattle.std.specs.Prelude.{nat_lt, if◌then◌else◌}
 use Rattle.std.specs.List.{AllByRecursion}
-use Rattle.ps_base.specs.TyView.{TyView}
-use Rattle.ps_base.specs.TyView as types
-use Rattle.ps_base.specs.declared.trap.Trap.TheVariants.{WrongClass}
+use Rattle.ps_meaning.specs.ps_base.TyView.{TyView}
+use Rattle.ps_meaning.specs.ps_base.TyView as types
+use Rattle.ps_meaning.specs.ps_base.declared.trap.Trap.TheVariants.{WrongClass}
 use Rattle.ps_type_text.specs.Texts.{type_text}
-use Rattle.text_forms.specs.Forms.{forms_of, form_in, element_of}
+use Rattle.ps_meaning.specs.text_forms.Forms.{forms_of, form_in, element_of}
 use Rattle.ps_meaning.specs.Operators.{is_int}
 use Rattle.ps_meaning.specs.Texts.{Yields, Fails, is_same_text}
 use Rattle.ps_meaning.specs.Values.{Value, Nil, Pointer, Vector, Nothing}

@@ -9,10 +9,10 @@ use Rattle.std.specs.declared.cmp.Ordering.TheVariants.{Less, Equal, Greater}
 use Rattle.std.proofs.lemmas.Map.Lookups.{exact_bytes}
 use Rattle.std.proofs.lemmas.Int.{rem_below, ints}
 use Rattle.std.proofs.lemmas.Fmt.{length_signed_le}
-use Rattle.ps_base.specs.declared.trap.Trap.{Trap}
-use Rattle.ps_base.specs.declared.trap.Trap.TheVariants.{Overflow, ZeroDivisor, TooLong, Substring}
-use Rattle.ps_base.specs.declared.operator.Operator.{Operator}
-use Rattle.ps_base.specs.declared.operator.Operator.TheVariants.{Add, Sub, Mul, Div, Rem}
+use Rattle.ps_meaning.specs.ps_base.declared.trap.Trap.{Trap}
+use Rattle.ps_meaning.specs.ps_base.declared.trap.Trap.TheVariants.{Overflow, ZeroDivisor, TooLong, Substring}
+use Rattle.ps_meaning.specs.ps_base.declared.operator.Operator.{Operator}
+use Rattle.ps_meaning.specs.ps_base.declared.operator.Operator.TheVariants.{Add, Sub, Mul, Div, Rem}
 use Rattle.ps_meaning.specs.Operators.{Answer, Gives, Traps, is_int, in_range, is_same, neg_of, arith_of}
 use Rattle.ps_meaning.specs.Texts.{Attempt, Yields, Fails, is_string, join_of, part_of, order_of, is_same_text}
 use Rattle.ps_meaning.specs.Objects.{is_vector}

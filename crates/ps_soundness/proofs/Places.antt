@@ -1,10 +1,10 @@
 -- Locals of a frame: what a new value in a slot leaves, and what it gives.
 use Rattle.std.proofs.Common.{◌≡◌, ◌⊎◌, ℕ, ◌<◌, ◌≤◌, Bool, true, false, List, [], ◌∷◌, inl, inr, refl, sym, ap, ◌∙◌, subst, arith, eq-eqb, eqb-true}
 use Rattle.std.specs.Prelude.{nat_eq, if◌then◌else◌}
-use Rattle.ps_base.specs.TyView.{TyView}
-use Rattle.ps_base.specs.TyView as types
-use Rattle.ps_typing.specs.Placing.{is_number}
-use Rattle.ps_typing.specs.WellTyped.{Some_is, Local, Free, IsLocal, next_slot}
+use Rattle.ps_meaning.specs.ps_base.TyView.{TyView}
+use Rattle.ps_meaning.specs.ps_base.TyView as types
+use Rattle.ps_meaning.specs.ps_typing.Placing.{is_number}
+use Rattle.ps_meaning.specs.ps_typing.WellTyped.{Some_is, Local, Free, IsLocal, next_slot}
 use Rattle.ps_meaning.specs.Values.{Value, Num, Flag, Text, Nil, Pointer, Vector, Procedure, as_written, Nothing}
 use Rattle.ps_meaning.specs.Objects.{Heap, Object, Elements}
 use Rattle.ps_meaning.specs.Meaning.{Frame, with_local, local_of, frame_with}

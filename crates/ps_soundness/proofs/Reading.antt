@@ -2,10 +2,10 @@
 use Rattle.std.proofs.Common.{◌≡◌, ◌⊎◌, ℕ, ◌+◌, ◌-◌, Bool, true, false, true≢false, List, [], ◌∷◌, ◌++◌, length, inl, inr, refl, sym, ap, ◌∙◌, subst, append_assoc, arith, eq-eqb, ne_eqb}
 use Rattle.std.specs.Prelude.{nat_eq, codes, if◌then◌else◌}
 use Rattle.std.specs.List.{AllByRecursion}
-use Rattle.ps_base.specs.TyView.{TyView, TyViews, none, more}
-use Rattle.ps_base.specs.TyView as types
+use Rattle.ps_meaning.specs.ps_base.TyView.{TyView, TyViews, none, more}
+use Rattle.ps_meaning.specs.ps_base.TyView as types
 use Rattle.ps_type_text.specs.Texts.{type_text, result_text, parameters_text, further_text, Field, field_text, fields_text, further_fields, class_text, is_name_byte, IsName, IsNamed}
-use Rattle.ps_typing.specs.WellTyped.{types_of_fields}
+use Rattle.ps_meaning.specs.ps_typing.WellTyped.{types_of_fields}
 use Rattle.ps_soundness.proofs.Telling.{Told}
 
 abbrev one_if : Bool → ℕ
@@ -91,7 +91,7 @@ mutual
       none_of_two mark (codes ",") (type_text t ++ further_text ts) a.comma
       (none_of_two mark (type_text t) (further_text ts) (type_has_none mark a t) (further_have_none mark a ts))
 
--- how many brackets stand open behind a text
+-- how many brackets stand open after a text
 abbrev moved : ℕ → ℕ → ℕ
 moved depth b = if nat_eq b 40 then depth + 1 else if nat_eq b 41 then depth - 1 else depth
 
@@ -139,7 +139,7 @@ mutual
   further_closed none depth = refl
   further_closed (more t ts) depth = closed_two (type_text t) (further_text ts) (type_closed t) (further_closed ts) depth
 
--- no type stands behind an opening bracket at the end of another
+-- no type stands after an opening bracket at the end of another
 not_behind_bracket : (t other : TyView) (front : List ℕ) → type_text t ≡ front ++ (40 ∷ type_text other) → ⊥
 not_behind_bracket t other front e =
     let whole = sym (type_closed t 0) ∙ ap (level 0) e ∙ level-append 0 front (40 ∷ type_text other) ∙ type_closed other (level 0 front + 1) in
@@ -157,7 +157,7 @@ record Both (xs ys ps qs : List ℕ) : Type 0 where
   front : xs ≡ ys
   rest : ps ≡ qs
 
--- what stands before the first mark is the same, and so is what stands behind it
+-- what stands before the first mark is the same, and so is what stands after it
 parted : (mark : ℕ) (xs ys ps qs : List ℕ) → count mark xs ≡ 0 → count mark ys ≡ 0 → xs ++ (mark ∷ ps) ≡ ys ++ (mark ∷ qs) → Both xs ys ps qs
 parted mark [] [] ps qs h k e = record { front = refl; rest = ap behind e }
 parted mark [] (y ∷ ys) ps qs h k e = absurd (counted mark y ys (sym (ap first e)) k)
@@ -178,7 +178,7 @@ goes_on mark b xs ys ps qs g = record { tail = g.tail; front = ap (λ (l : List 
 goes_from : (mark b c : ℕ) (xs ys ps qs : List ℕ) → b ≡ c → Goes mark xs ys ps qs → Goes mark (b ∷ xs) (c ∷ ys) ps qs
 goes_from mark b c xs ys ps qs e g = subst (λ (n : ℕ). Goes mark (b ∷ xs) (n ∷ ys) ps qs) e (goes_on mark b xs ys ps qs g)
 
--- where two texts with marks behind them are the same: the marks stand at one place, or one of the texts goes on
+-- where two texts with marks after them are the same: the marks stand at one place, or one of the texts goes on
 abbrev Meets : ℕ → ℕ → List ℕ → List ℕ → List ℕ → List ℕ → Type 0
 Meets mark other xs ys ps qs = ((xs ≡ ys) × (mark ≡ other) × (ps ≡ qs)) ⊎ (Goes mark xs ys ps (other ∷ qs) ⊎ Goes other ys xs qs (mark ∷ ps))
 
@@ -222,7 +222,7 @@ further_count (field ∷ fields) rest =
     let others = further_count fields rest in
     omega arith
 
--- what stands behind the blank of the first field
+-- what stands after the blank of the first field
 abbrev behind_field : Field → List Field → List ℕ
 behind_field field fields = field.name ++ (further_fields fields ++ codes ")")
 
@@ -257,7 +257,7 @@ nothing_behind mark front tail e = has_mark mark [] front tail e refl
 tail_has_none : (mark other : ℕ) (xs front tail : List ℕ) → xs ≡ front ++ (other ∷ tail) → count mark xs ≡ 0 → count mark tail ≡ 0
 tail_has_none mark other xs front tail e h = let whole = ap (count mark) e ∙ count-append mark front (other ∷ tail) in omega arith
 
--- behind the blank of a field no bracket opens before a semicolon
+-- after the blank of a field no bracket opens before a semicolon
 no_bracket : (name : List ℕ) (fields : List Field) (front rest : List ℕ) → IsName name → count 59 front ≡ 0 →
     name ++ (further_fields fields ++ codes ")") ≡ front ++ (40 ∷ rest) → ⊥
 unfolding is_name_byte

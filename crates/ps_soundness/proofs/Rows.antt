@@ -1,10 +1,10 @@
 -- Values of types, typed heaps and texts of classes, computed.
 use Rattle.std.proofs.Common.{◌≡◌, ℕ, zero, suc, ◌^◌, List, [], ◌∷◌, inl, inr, refl, subst, pos, negsuc, true}
 use Rattle.std.specs.Prelude.{codes}
-use Rattle.ps_base.specs.TyView as types
+use Rattle.ps_meaning.specs.ps_base.TyView as types
 use Rattle.ps_type_text.specs.Texts.{Field, class_text, IsNamed, is_name_byte}
-use Rattle.ps_program.specs.Node.{none, more}
-use Rattle.ps_program.specs.Node as node
+use Rattle.ps_meaning.specs.ps_program.Node.{none, more}
+use Rattle.ps_meaning.specs.ps_program.Node as node
 use Rattle.ps_meaning.specs.Values.{Num, Flag, Text, Nil, Pointer, Vector, Nothing}
 use Rattle.ps_meaning.specs.Objects.{Heap, Object, Structure, Elements}
 use Rattle.ps_soundness.specs.Running.{IsClassText, HasField, HasAsMany, Runs}

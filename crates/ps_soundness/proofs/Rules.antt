@@ -1,15 +1,15 @@
--- A clause by a rule comes to a value of its type where its parts do.
+-- A clause by a rule yields a value of its type where its parts do.
 use Rattle.std.proofs.Common.{◌≡◌, ℕ, ◌+◌, Bool, true, false, not, List, [], ◌∷◌, length, Option, Some, None, refl, sym, ap, ◌∙◌, subst, arith}
 use Rattle.std.specs.Prelude.{if◌then◌else◌}
-use Rattle.ps_base.specs.TyView.{TyView, TyViews}
-use Rattle.ps_base.specs.TyView as types
-use Rattle.ps_base.specs.declared.line.Line.{Line}
-use Rattle.ps_program.specs.Node.{Node, Nodes}
-use Rattle.ps_program.specs.Node as node
+use Rattle.ps_meaning.specs.ps_base.TyView.{TyView, TyViews}
+use Rattle.ps_meaning.specs.ps_base.TyView as types
+use Rattle.ps_meaning.specs.ps_base.declared.line.Line.{Line}
+use Rattle.ps_meaning.specs.ps_program.Node.{Node, Nodes}
+use Rattle.ps_meaning.specs.ps_program.Node as node
 use Rattle.ps_type_text.specs.Texts.{Field, type_text}
-use Rattle.text_forms.specs.Forms.{forms_of, form_in, element_of}
-use Rattle.ps_typing.specs.WellTyped.{Local, Claim, ◌has◌, arms_have, types_of_fields, IsClass, Rule, Arguments}
-use Rattle.ps_typing.specs.WellTyped as typed
+use Rattle.ps_meaning.specs.text_forms.Forms.{forms_of, form_in, element_of}
+use Rattle.ps_meaning.specs.ps_typing.WellTyped.{Local, Claim, ◌has◌, arms_have, types_of_fields, IsClass, Rule, Arguments}
+use Rattle.ps_meaning.specs.ps_typing.WellTyped as typed
 use Rattle.ps_meaning.specs.Operators.{is_int, neg_of, arith_of}
 use Rattle.ps_meaning.specs.Texts.{is_string, join_of, part_of}
 use Rattle.ps_meaning.specs.Values.{Value, Num, Flag, Text, Nil, Pointer, Vector, word_of, flag_of, bytes_of, shown}

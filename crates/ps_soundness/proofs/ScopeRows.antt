@@ -1,15 +1,15 @@
 -- Scopes and procedures of a typed heap, and a program with both, computed.
 use Rattle.std.proofs.Common.{ℕ, zero, suc, List, [], ◌∷◌, Some, None, inl, inr, refl, subst, pos, false}
 use Rattle.std.specs.Prelude.{codes}
-use Rattle.ps_base.specs.TyView.{TyView}
-use Rattle.ps_base.specs.TyView as types
-use Rattle.ps_base.specs.declared.line.Line.{Line}
-use Rattle.ps_program.specs.declared.place.Place.TheVariants.{Plain, Kept}
-use Rattle.ps_program.specs.Node.{Param, Node, none, more, BodyNode, body}
-use Rattle.ps_program.specs.Node as node
+use Rattle.ps_meaning.specs.ps_base.TyView.{TyView}
+use Rattle.ps_meaning.specs.ps_base.TyView as types
+use Rattle.ps_meaning.specs.ps_base.declared.line.Line.{Line}
+use Rattle.ps_meaning.specs.ps_program.declared.place.Place.TheVariants.{Plain, Kept}
+use Rattle.ps_meaning.specs.ps_program.Node.{Param, Node, none, more, BodyNode, body}
+use Rattle.ps_meaning.specs.ps_program.Node as node
 use Rattle.ps_type_text.specs.Texts.{Field, class_text, IsNamed, is_name_byte}
-use Rattle.ps_typing.specs.WellTyped.{Env, Free, IsTyped, IsBody}
-use Rattle.ps_typing.specs.WellTyped as typed
+use Rattle.ps_meaning.specs.ps_typing.WellTyped.{Env, Free, IsTyped, IsBody}
+use Rattle.ps_meaning.specs.ps_typing.WellTyped as typed
 use Rattle.ps_meaning.specs.Values.{Num, Nil, Procedure, as_written}
 use Rattle.ps_meaning.specs.Objects.{Object, Scope}
 use Rattle.ps_meaning.specs.Meaning.{Frame, State}

@@ -1,31 +1,31 @@
 -- Scopes of a typed heap: what their names hold, what a new value of a name leaves, and a new scope.
 use Rattle.std.proofs.Common.{◌≡◌, ◌⊎◌, ℕ, zero, suc, pos, true, false, List, [], ◌∷◌, ◌++◌, map, length, set, Option, Some, inl, inr, refl, sym, ap, ◌∙◌, subst, arith}
 use Rattle.std.specs.Prelude.{codes}
-use Rattle.ps_base.specs.TyView.{TyView}
-use Rattle.ps_base.specs.TyView as types
+use Rattle.ps_meaning.specs.ps_base.TyView.{TyView}
+use Rattle.ps_meaning.specs.ps_base.TyView as types
 use Rattle.ps_type_text.specs.Texts.{Field, class_text, IsNamed}
-use Rattle.text_forms.specs.declared.forms.Form.{Form}
-use Rattle.text_forms.specs.Classes.{form_of_type, form_of_field}
-use Rattle.text_forms.specs.Forms.{forms_of, form_in}
-use Rattle.text_forms.proofs.ClassForms.{class-told}
-use Rattle.ps_typing.specs.WellTyped.{At, IsOfType}
+use Rattle.ps_meaning.specs.text_forms.declared.forms.Form.{Form}
+use Rattle.ps_meaning.specs.text_forms.Classes.{form_of_type, form_of_field}
+use Rattle.ps_meaning.specs.text_forms.Forms.{forms_of, form_in}
+use Rattle.ps_meaning.proofs.of_text_forms.ClassForms.{class-told}
+use Rattle.ps_meaning.specs.ps_typing.WellTyped.{At, IsOfType}
 use Rattle.ps_meaning.specs.Values.{Value, Num, Flag, Text, Nil, Pointer, Vector, Procedure, as_written, Nothing}
 use Rattle.ps_meaning.specs.Objects.{Heap, Object, Scope, object_at, with_object, with_new, new_number, value_at, kept_as}
 use Rattle.ps_meaning.specs.Scopes.{first_value, new_scope, scope_at, parent_in, names_in, scope_out, name_in, with_name_in, with_name}
 use Rattle.ps_meaning.specs.Meaning.{kept_name, with_kept_name}
-use Rattle.ps_soundness.specs.Shapes.{IsOf, is_given, HasValue, HaveValues, IsFront, IsScopeAt, AreScopes, AreNames, IsTypedHeap, StayGiven, Grows}
+use Rattle.ps_soundness.specs.Shapes.{IsOf, is_given, HasValue, HaveValues, IsPrefix, IsScopeAt, AreScopes, AreNames, IsTypedHeap, StayGiven, Grows}
 use Rattle.ps_soundness.proofs.Telling.{Told}
 use Rattle.ps_soundness.proofs.Growing.{grows_new, grows_set, at_new, typed_new, typed_with, of_kept, names_kept, scopes_kept}
 use Rattle.ps_soundness.proofs.Fields.{form_at, kept_by_type}
 
 -- Names of the types of the first ones of others.
-pub front_less : (fields : List Field) (next : Field) (whole : List Field) → IsFront (fields ++ next ∷ []) whole → IsFront fields whole
+pub front_less : (fields : List Field) (next : Field) (whole : List Field) → IsPrefix (fields ++ next ∷ []) whole → IsPrefix fields whole
 front_less [] next whole h = tt
 front_less (field ∷ fields) next [] h = absurd h
 front_less (field ∷ fields) next (other ∷ others) h = (h.0, front_less fields next others h.1)
 
-pub front_more : (fields : List Field) (next : Field) (whole : List Field) → IsFront fields whole → At (IsOfType next.ty) whole (length fields) →
-    IsFront (fields ++ next ∷ []) whole
+pub front_more : (fields : List Field) (next : Field) (whole : List Field) → IsPrefix fields whole → At (IsOfType next.ty) whole (length fields) →
+    IsPrefix (fields ++ next ∷ []) whole
 front_more [] next [] h at = absurd at
 front_more [] next (other ∷ others) h (inl at) = (sym at.1, tt)
 front_more [] next (other ∷ others) h (inr at) = absurd (let e = at.1 in omega arith)
@@ -34,7 +34,7 @@ front_more (field ∷ fields) next (other ∷ others) h (inl at) = absurd (let e
 front_more (field ∷ fields) next (other ∷ others) h (inr (before, e, at)) =
     (h.0, front_more fields next others h.1 (subst (At (IsOfType next.ty) others) (let same : before ≡ length fields = omega arith in same) at))
 
-pub front_at : (fields whole : List Field) (position : ℕ) (ty : TyView) → IsFront fields whole → At (IsOfType ty) fields position →
+pub front_at : (fields whole : List Field) (position : ℕ) (ty : TyView) → IsPrefix fields whole → At (IsOfType ty) fields position →
     At (IsOfType ty) whole position
 front_at [] whole position ty front h = absurd h
 front_at (field ∷ fields) [] position ty front h = absurd front
@@ -102,7 +102,7 @@ pub given_then : (heap now : Heap) (ty : TyView) (old v : Value) → Holds heap 
 given_then heap now ty old v holds is given = given_as heap ty old v holds (has_value now ty v is) given
 
 -- The name at a position.
-name_value : (heap : Heap) (fields whole : List Field) (names : List Value) (position : ℕ) (ty : TyView) → IsFront fields whole →
+name_value : (heap : Heap) (fields whole : List Field) (names : List Value) (position : ℕ) (ty : TyView) → IsPrefix fields whole →
     AreNames heap whole names →
     HaveValues fields names → At (IsOfType ty) fields position → IsOf heap ty (value_at names position)
 name_value heap [] whole names position ty front are have at = absurd at
@@ -148,7 +148,7 @@ stay_set (old ∷ vs) zero v h = (h, stay_same vs)
 stay_set (old ∷ vs) (suc position) v h = (λ e. e, stay_set vs position v h)
 
 -- the next name has its value
-have_next : (heap : Heap) (fields whole : List Field) (next : Field) (names : List Value) (v : Value) → IsFront (fields ++ next ∷ []) whole →
+have_next : (heap : Heap) (fields whole : List Field) (next : Field) (names : List Value) (v : Value) → IsPrefix (fields ++ next ∷ []) whole →
     AreNames heap whole names → HaveValues fields names → HasValue next.ty v → HaveValues (fields ++ next ∷ []) (set names (length fields) v)
 have_next heap [] [] next names v front are have h = absurd front
 have_next heap [] (other ∷ others) next [] v front are have h = absurd are
@@ -177,7 +177,7 @@ pub record IsName (heap : Heap) (scope : Option ℕ) (up position : ℕ) (ty : T
   pub names : List Value
   pub at_scope : IsFound heap scope up whole names
   pub fields : List Field
-  pub front : IsFront fields whole
+  pub front : IsPrefix fields whole
   pub have : HaveValues fields names
   pub at : At (IsOfType ty) fields position
 

@@ -4,16 +4,16 @@ use Rattle.std.specs.Prelude.{if◌then◌else◌}
 use Rattle.std.specs.Str.{bytes_eq}
 use Rattle.std.specs.List.{AllByRecursion}
 use Rattle.std.specs.Fmt.{signed_decimal}
-use Rattle.ps_base.specs.TyView.{TyView, TyViews}
-use Rattle.ps_base.specs.TyView as types
-use Rattle.ps_base.specs.declared.line.Line.{Line}
+use Rattle.ps_meaning.specs.ps_base.TyView.{TyView, TyViews}
+use Rattle.ps_meaning.specs.ps_base.TyView as types
+use Rattle.ps_meaning.specs.ps_base.declared.line.Line.{Line}
 use Rattle.ps_type_text.specs.Texts.{Field}
-use Rattle.ps_program.specs.Node.{Nodes, none, more, Arms, no_arms, more_arms, arm}
-use Rattle.ps_typing.specs.Names.{Declared, lookup, plain, library}
-use Rattle.ps_typing.specs.Names as names
-use Rattle.ps_typing.specs.Library.{procedures}
-use Rattle.ps_typing.specs.WellTyped.{Local, Claim, ◌has◌, all_have, arms_have, Arguments}
-use Rattle.ps_typing.specs.WellTyped as typed
+use Rattle.ps_meaning.specs.ps_program.Node.{Nodes, none, more, Arms, no_arms, more_arms, arm}
+use Rattle.ps_meaning.specs.ps_typing.Names.{Declared, lookup, plain, library}
+use Rattle.ps_meaning.specs.ps_typing.Names as names
+use Rattle.ps_meaning.specs.ps_typing.Library.{procedures}
+use Rattle.ps_meaning.specs.ps_typing.WellTyped.{Local, Claim, ◌has◌, all_have, arms_have, Arguments}
+use Rattle.ps_meaning.specs.ps_typing.WellTyped as typed
 use Rattle.ps_meaning.specs.Operators.{is_int}
 use Rattle.ps_meaning.specs.Texts.{is_string}
 use Rattle.ps_meaning.specs.Values.{Value, Num, Flag, Text, word_of, flag_of, bytes_of}
@@ -27,7 +27,7 @@ use Rattle.ps_soundness.proofs.Growing.{grows_not, grows_then, of_kept}
 use Rattle.ps_soundness.proofs.Calling.{ValuesOf, AreCalls, sound_read_line, sound_at_end}
 use Rattle.ps_soundness.proofs.Combining.{Standing, Sound, sound_then, sound_give, sound_made_text, sound_choose}
 
--- a clause that runs comes to a value of the type that it is to have, from each heap on
+-- a clause that runs yields a value of the type that it is to have, from each heap on
 abbrev pub SoundClaim : Standing → Claim → Type 0
 SoundClaim known claim =
     RunsIn known.wholes claim.clause → (c : Context) → AreCalls known.wholes c → (heap : Heap) → Sound heap known known claim.ty (eval c claim.clause)

@@ -1,6 +1,6 @@
 -- What the laws on the texts of types and classes say, as the proofs take it.
 use Rattle.std.proofs.Common.{◌≡◌, ℕ, List}
-use Rattle.ps_base.specs.TyView.{TyView}
+use Rattle.ps_meaning.specs.ps_base.TyView.{TyView}
 use Rattle.ps_type_text.specs.Texts.{Field, type_text, class_text, IsNamed}
 
 pub record Told : Type 0 where

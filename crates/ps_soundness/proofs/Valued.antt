@@ -1,17 +1,17 @@
 -- What each typed clause that runs gives is of a type that has values, or void.
 use Rattle.std.proofs.Common.{◌≡◌, ◌⊎◌, ℕ, true, List, [], ◌∷◌, Some, inl, inr, sym, subst}
 use Rattle.std.specs.List.{AllByRecursion}
-use Rattle.ps_base.specs.TyView.{TyView, TyViews}
-use Rattle.ps_base.specs.TyView as types
-use Rattle.ps_program.specs.declared.place.Place.{Place}
-use Rattle.ps_program.specs.declared.place.Place.TheVariants.{Plain, Kept}
-use Rattle.ps_program.specs.Node.{Node, Nodes}
+use Rattle.ps_meaning.specs.ps_base.TyView.{TyView, TyViews}
+use Rattle.ps_meaning.specs.ps_base.TyView as types
+use Rattle.ps_meaning.specs.ps_program.declared.place.Place.{Place}
+use Rattle.ps_meaning.specs.ps_program.declared.place.Place.TheVariants.{Plain, Kept}
+use Rattle.ps_meaning.specs.ps_program.Node.{Node, Nodes}
 use Rattle.ps_type_text.specs.Texts.{Field}
-use Rattle.ps_typing.specs.Checking.{isnt_void}
-use Rattle.ps_typing.specs.Names.{lookup, plain, library}
-use Rattle.ps_typing.specs.Library.{procedures}
-use Rattle.ps_typing.specs.WellTyped.{Some_is, Env, Free, Local, IsLocal, Claim, ◌has◌, arms_have, At, IsOfType, Rule, Declares, IsTyped, AreTyped, AreItems}
-use Rattle.ps_typing.specs.WellTyped as typed
+use Rattle.ps_meaning.specs.ps_typing.Checking.{isnt_void}
+use Rattle.ps_meaning.specs.ps_typing.Names.{lookup, plain, library}
+use Rattle.ps_meaning.specs.ps_typing.Library.{procedures}
+use Rattle.ps_meaning.specs.ps_typing.WellTyped.{Some_is, Env, Free, Local, IsLocal, Claim, ◌has◌, arms_have, At, IsOfType, Rule, Declares, IsTyped, AreTyped, AreItems}
+use Rattle.ps_meaning.specs.ps_typing.WellTyped as typed
 use Rattle.ps_soundness.specs.Valued.{IsValued, IsGiven}
 use Rattle.ps_soundness.specs.Running.{HasField, Runs, AllRun}
 use Rattle.ps_soundness.proofs.Sequences.{all_right, library_says}

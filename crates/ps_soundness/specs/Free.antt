@@ -1,6 +1,6 @@
 -- The locals in scope lie below the next free slots.
 use Rattle.std.specs.Prelude.{◌<◌, List, [], ◌∷◌}
-use Rattle.ps_typing.specs.WellTyped.{Env, Free, Local, next_slot}
+use Rattle.ps_meaning.specs.ps_typing.WellTyped.{Env, Free, Local, next_slot}
 
 abbrev pub AllBelow : List Local → Free → Type 0
 AllBelow [] free = Unit {0}

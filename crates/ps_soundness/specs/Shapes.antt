@@ -2,12 +2,12 @@
 -- that its text names.
 use Rattle.std.specs.Prelude.{◌≡◌, ◌⊎◌, ℕ, ℤ, Bool, true, false, List, [], ◌∷◌, length, codes, Option, Some}
 use Rattle.std.specs.List.{AllByRecursion}
-use Rattle.ps_base.specs.TyView.{TyView}
-use Rattle.ps_base.specs.TyView as types
-use Rattle.text_forms.specs.Classes.{form_of_type}
-use Rattle.ps_program.specs.Node.{BodyNode, body}
+use Rattle.ps_meaning.specs.ps_base.TyView.{TyView}
+use Rattle.ps_meaning.specs.ps_base.TyView as types
+use Rattle.ps_meaning.specs.text_forms.Classes.{form_of_type}
+use Rattle.ps_meaning.specs.ps_program.Node.{BodyNode, body}
 use Rattle.ps_type_text.specs.Texts.{Field, type_text, class_text, IsNamed}
-use Rattle.ps_typing.specs.WellTyped.{Env, Local, IsBody, types_of_params}
+use Rattle.ps_meaning.specs.ps_typing.WellTyped.{Env, Local, IsBody, types_of_params}
 use Rattle.ps_meaning.specs.Operators.{is_int}
 use Rattle.ps_meaning.specs.Texts.{is_string}
 use Rattle.ps_meaning.specs.Values.{Value, Num, Flag, Text, Nil, Pointer, Vector, Procedure, as_written, Nothing}
@@ -50,10 +50,10 @@ HaveValues (field ∷ fields) (v ∷ vs) = HasValue field.ty v × HaveValues fie
 HaveValues (field ∷ fields) [] = ⊥
 
 -- names of the types of the first ones of others
-abbrev pub IsFront : List Field → List Field → Type 0
-IsFront [] whole = Unit {0}
-IsFront (field ∷ fields) (other ∷ others) = (field.ty ≡ other.ty) × IsFront fields others
-IsFront (field ∷ fields) [] = ⊥
+abbrev pub IsPrefix : List Field → List Field → Type 0
+IsPrefix [] whole = Unit {0}
+IsPrefix (field ∷ fields) (other ∷ others) = (field.ty ≡ other.ty) × IsPrefix fields others
+IsPrefix (field ∷ fields) [] = ⊥
 
 -- a scope that keeps all of these names, of which the first have had their declarations
 pub record IsScopeAt (heap : Heap) (scope : Option ℕ) (whole fields : List Field) : Type 0 where
@@ -63,7 +63,7 @@ pub record IsScopeAt (heap : Heap) (scope : Option ℕ) (whole fields : List Fie
   pub names : List Value
   pub is : object_at heap id ≡ Some (Scope (class_text (codes "scope") whole) parent names)
   pub named : IsNamed (codes "scope") whole
-  pub front : IsFront fields whole
+  pub front : IsPrefix fields whole
   pub have : HaveValues fields names
 
 -- The scopes from one outward, innermost first: all the names of each, and those that have had their declarations.

@@ -1,6 +1,6 @@
 -- Types of which there are values in a place: void isn't one. It only stands in such a type as what a procedure gives.
-use Rattle.ps_base.specs.TyView.{TyView, TyViews}
-use Rattle.ps_base.specs.TyView as types
+use Rattle.ps_meaning.specs.ps_base.TyView.{TyView, TyViews}
+use Rattle.ps_meaning.specs.ps_base.TyView as types
 
 abbrev mutual
   pub IsValued : TyView → Type 0

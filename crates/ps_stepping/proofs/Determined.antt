@@ -1,6 +1,6 @@
 -- A configuration has one step.
 use Rattle.std.proofs.Common.{◌≡◌, ℕ, List, sym, ap, ◌∙◌, refl}
-use Rattle.ps_base.specs.declared.instr.Instr.{Instr}
+use Rattle.ps_code.specs.ps_base.declared.instr.Instr.{Instr}
 use Rattle.ps_code.proofs.Makers.{one_front}
 use Rattle.ps_stepping.specs.Config.{Config, code_in, IsAt}
 use Rattle.ps_stepping.specs.Machine.{Step, act, Steps, at_instruction, at_nothing}

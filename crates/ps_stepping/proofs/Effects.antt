@@ -1,20 +1,21 @@
 -- Each instruction that has a step takes from the stacks and leaves on them what the table says.
-use Rattle.std.proofs.Common.{◌≡◌, ℕ, zero, suc, ◌+◌, ℤ, Bool, List, ◌∷◌, length, Option, Some, None, refl, ap, arith}
+use Rattle.std.proofs.Common.{◌≡◌, ℕ, zero, suc, ◌+◌, ◌≤◌, ℤ, Bool, List, [], ◌∷◌, length, Option, Some, None, refl, ap, arith}
 use Rattle.std.specs.Prelude.{◌⊎◌, ◌+ℤ◌, pos, not, nat_lt, if◌then◌else◌}
-use Rattle.ps_base.specs.CodeUnit.{ConstantView, text, literal}
-use Rattle.ps_base.specs.declared.line.Line.{Line}
-use Rattle.ps_base.specs.declared.instr.Instr.{Instr}
-use Rattle.ps_base.specs.declared.instr.Instr.TheVariants.{Int, True, False, Text, GetM, GetP, SetM, SetP, Jump, JumpFalse, Again, And, Or, Not, Neg, Add, Sub, Mul, Div, Rem, EqM, NeM, LtM, LeM, GtM, GeM, Return, WriteI, WriteB, WriteT, ForStart, ForNext, DupM, DupP, DropM, DropP, JumpTrue}
-use Rattle.ps_base.specs.declared.trap.Trap.TheVariants.{TooLong, Bounds}
+use Rattle.ps_code.specs.ps_base.CodeUnit.{ConstantView, text, literal}
+use Rattle.ps_code.specs.ps_base.declared.line.Line.{Line}
+use Rattle.ps_code.specs.ps_base.declared.instr.Instr.{Instr}
+use Rattle.ps_code.specs.ps_base.declared.instr.Instr.TheVariants.{Int, True, False, Text, GetM, GetP, SetM, SetP, Jump, JumpFalse, Again, And, Or, Not, Neg, Add, Sub, Mul, Div, Rem, EqM, NeM, LtM, LeM, GtM, GeM, Return, WriteI, WriteB, WriteT, ForStart, ForNext, DupM, DupP, DropM, DropP, JumpTrue}
+use Rattle.ps_code.specs.ps_base.declared.trap.Trap.TheVariants.{TooLong, Bounds}
 use Rattle.ps_meaning.specs.Evaluation.{goes_on}
 use Rattle.ps_meaning.specs.Operators.{Answer, Gives, Traps, is_same}
 use Rattle.ps_meaning.specs.Event.{Event, Trapped}
-use Rattle.ps_meaning.specs.Values.{number_of, is_one}
+use Rattle.ps_meaning.specs.Values.{Value, number_of, is_one}
 use Rattle.ps_meaning.specs.Meaning.{Store, spent, is_width, some_out, in_places}
-use Rattle.ps_stepping.specs.Config.{frame_words, Config, frame_in, constant_at, constants_in}
-use Rattle.ps_stepping.specs.Machine.{Step, Goes, Stops, Stuck, on, is_num_slot, is_ref_slot, with_num, with_ref, put_num, push_num, push_ref, pop_num, pop_text, forward, turn_to, back, answered, one_num, two_nums, test, written, write_num, write_text, push_text, started, for_start, counted, for_next, returned, acts, behind, act}
-use Rattle.ps_stepping.specs.Effects.{Effect, moves, either, by_name, nums, refs, both, nothing, taken_or_left, width_and, effect_of, Moved, HasEffect}
-use Rattle.ps_stepping.proofs.Popping.{Does, does_if, popped_num, popped_ref, popped_text, does_push_ref, does_by_name, moved_on}
+use Rattle.ps_stepping.specs.Config.{frame_words, Caller, Config, frame_in, constant_at, constants_in}
+use Rattle.ps_stepping.specs.Machine.{Step, Goes, Stops, Stuck, on, is_num_slot, is_ref_slot, with_num, with_ref, put_num, push_num, push_ref, pop_num, pop_text, forward, turn_to, back, answered, one_num, two_nums, test, written, write_num, write_text, push_text, started, for_start, counted, for_next, resumed, come_back, returned, acts, behind, act}
+use Rattle.ps_stepping.specs.Procedures.{num_back, ref_back}
+use Rattle.ps_stepping.specs.Effects.{Moves, Effect, moves, either, makes, enters, leaves, given_by, nums, refs, both, nothing, taken_or_left, width_and, effect_of, Moved, HasEffect}
+use Rattle.ps_stepping.proofs.Popping.{Does, does_if, popped_num, popped_ref, popped_text, does_push_ref, moved_on}
 use Rattle.ps_stepping.proofs.ProcedureEffects.{does_on_procedures}
 
 -- nothing is taken, and nothing left
@@ -138,6 +139,37 @@ does_or own t c = popped_num taken_or_left c c (λ z d. if is_one z then forward
     (does_if taken_or_left c (nat_lt own t) (on (record c { at = t })) Stuck (◌⊎◌.inr (record { nums = refl; refs = refl })) tt)
     (◌⊎◌.inl (record { nums = omega (arith, ap length is); refs = refl })))
 
+-- Coming back: what is given is taken from the body's own stacks, and pushed on those of the one that waits.
+
+does_come_back : (given : Moves) (c d : Config) (callers : List Caller) → c.callers ≡ callers → (room : Caller → Step → Step) →
+    (ns : Caller → List ℤ) (vs : Caller → List Value) →
+    ((caller : Caller) (s : Step) → Does (leaves given) c s → Does (leaves given) c (room caller s)) →
+    given.nums_taken ≤ length c.nums → given.refs_taken ≤ length c.refs →
+    ((caller : Caller) → length (ns caller) ≡ length caller.nums + given.nums_left) →
+    ((caller : Caller) → length (vs caller) ≡ length caller.refs + given.refs_left) → Does (leaves given) c (come_back callers room ns vs d)
+does_come_back given c d [] is room ns vs goes own_nums own_refs on_nums on_refs = tt
+does_come_back given c d (caller ∷ callers) is room ns vs goes own_nums own_refs on_nums on_refs =
+    goes caller (on (resumed caller (ns caller) (vs caller) callers d.store))
+    (record { caller = caller; waited = is; own_nums = own_nums; own_refs = own_refs; nums = on_nums caller; refs = on_refs caller })
+
+does_returned : (k : ℕ) (c : Config) → Does (leaves (given_by k)) c (returned k c)
+does_returned zero c =
+    does_come_back (given_by 0) c c c.callers refl (λ caller next. next) (λ caller. caller.nums) (λ caller. caller.refs) (λ caller s h. h)
+    (omega arith) (omega arith) (λ caller. omega arith) (λ caller. omega arith)
+does_returned (suc zero) c =
+    let e = leaves (given_by 1) in
+    popped_num e c c (λ z d. come_back d.callers num_back (λ caller. z ∷ caller.nums) (λ caller. caller.refs) d)
+    (λ z rest is. does_come_back (given_by 1) c (record c { nums = rest }) c.callers refl num_back (λ caller. z ∷ caller.nums) (λ caller. caller.refs)
+    (λ caller s h. does_if e c (nat_lt ((frame_in caller.unit).nums + length caller.nums) frame_words) s Stuck h tt)
+    (omega (arith, ap length is)) (omega arith) (λ caller. omega arith) (λ caller. omega arith))
+does_returned (suc (suc zero)) c =
+    let e = leaves (given_by 2) in
+    popped_ref e c c (λ v d. come_back d.callers ref_back (λ caller. caller.nums) (λ caller. v ∷ caller.refs) d)
+    (λ v rest is. does_come_back (given_by 2) c (record c { refs = rest }) c.callers refl ref_back (λ caller. caller.nums) (λ caller. v ∷ caller.refs)
+    (λ caller s h. does_if e c (nat_lt ((frame_in caller.unit).refs + length caller.refs) frame_words) s Stuck h tt)
+    (omega arith) (omega (arith, ap length is)) (λ caller. omega arith) (λ caller. omega arith))
+does_returned (suc (suc (suc n))) c = tt
+
 does : (i : Instr) (own : ℕ) (c : Config) → Does (effect_of i) c (acts i own c)
 does (Int v) own c = does_push_num c v
 does True own c = does_push_num c (pos 1)
@@ -178,7 +210,7 @@ does LtM own c = does_test c _
 does LeM own c = does_test c _
 does GtM own c = does_test c _
 does GeM own c = does_test c _
-does (Return k) own c = does_by_name c (returned k c)
+does (Return k) own c = does_returned k c
 does (WriteI w line) own c = does_write_num w c line _
 does (WriteB w line) own c = does_write_num w c line _
 does (WriteT w line) own c = does_write_text w c line
@@ -198,7 +230,11 @@ same_lengths : (e : Effect) (i : Instr) (c x : Config) → HasEffect e (behind i
 same_lengths (moves m) i c x h = record { nums = h.nums; refs = h.refs }
 same_lengths (either m n) i c x (◌⊎◌.inl h) = ◌⊎◌.inl (record { nums = h.nums; refs = h.refs })
 same_lengths (either m n) i c x (◌⊎◌.inr h) = ◌⊎◌.inr (record { nums = h.nums; refs = h.refs })
-same_lengths by_name i c x h = tt
+same_lengths (makes k) i c x h = record { class = h.class; named = h.named; moved = record { nums = h.moved.nums; refs = h.moved.refs } }
+same_lengths (enters n) i c x h =
+    record { caller = h.caller; waits = h.waits; taken = h.taken; nums = h.nums; refs = h.refs; own_nums = h.own_nums; own_refs = h.own_refs }
+same_lengths (leaves given) i c x h =
+    record { caller = h.caller; waited = h.waited; own_nums = h.own_nums; own_refs = h.own_refs; nums = h.nums; refs = h.refs }
 
 pub has_effect : (i : Instr) (c next : Config) (events : List Event) → act i c ≡ Goes events next → HasEffect (effect_of i) c next
 has_effect i c next events is =

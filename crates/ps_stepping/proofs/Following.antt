@@ -30,7 +30,7 @@ pub never_stuck : (total : List Event) (c : Config) (so_far : List Event) → Ru
 never_stuck total c so_far (goes {next = next} {events = events} s r) t = let both : Goes events next ≡ Stuck = one_step c _ _ s t in cc
 never_stuck total c so_far (stops {e = e} s is) t = let both : Stops e ≡ Stuck = one_step c _ _ s t in cc
 
--- what has happened is the front of all that happens
+-- what has happened is the prefix of all that happens
 pub front_of_run : (total : List Event) (c : Config) (so_far : List Event) → Runs total c so_far → (rest : List Event) × (total ≡ so_far ++ rest)
 front_of_run total c so_far (goes {next = next} {events = events} s r) =
     let more = front_of_run total next (so_far ++ events) r in (events ++ more.0, more.1 ∙ append_assoc so_far events more.0)

@@ -1,27 +1,30 @@
 -- Each instruction over objects takes from the stacks and leaves on them what the table says.
-use Rattle.std.proofs.Common.{◌≡◌, ℕ, zero, suc, ◌+◌, ℤ, List, [], ◌∷◌, length, map, Option, Some, None, refl, ap, arith}
-use Rattle.std.specs.Prelude.{nat_lt}
-use Rattle.ps_base.specs.CodeUnit.{ConstantView, text, literal}
-use Rattle.ps_base.specs.declared.line.Line.{Line}
-use Rattle.ps_base.specs.declared.instr.Instr.{Instr}
-use Rattle.ps_base.specs.declared.instr.Instr.TheVariants as instr
-use Rattle.ps_base.specs.declared.operator.Relation.{Relation}
-use Rattle.ps_base.specs.declared.operator.Relation.TheVariants as relation
-use Rattle.text_forms.specs.declared.forms.Form.{Form}
-use Rattle.text_forms.specs.declared.forms.Form.TheVariants as form
-use Rattle.text_forms.specs.Forms.{forms_of, form_in, element_of}
+use Rattle.std.proofs.Common.{◌≡◌, ℕ, zero, suc, ◌+◌, ℤ, Bool, true, false, List, [], ◌∷◌, ◌++◌, length, map, reverse, Option, Some, None, refl, sym, ap, ◌∙◌, subst, arith, eqb-true}
+use Rattle.std.specs.Prelude.{pos, nat_eq, nat_lt, if◌then◌else◌}
+use Rattle.std.specs.Fmt.{signed_decimal}
+use Rattle.std.proofs.lemmas.List.{reverse-append}
+use Rattle.ps_code.specs.ps_base.CodeUnit.{ConstantView, text, literal}
+use Rattle.ps_code.specs.ps_base.declared.line.Line.{Line}
+use Rattle.ps_code.specs.ps_base.declared.instr.Instr.{Instr}
+use Rattle.ps_code.specs.ps_base.declared.instr.Instr.TheVariants as instr
+use Rattle.ps_code.specs.ps_base.declared.operator.Relation.{Relation}
+use Rattle.ps_code.specs.ps_base.declared.operator.Relation.TheVariants as relation
+use Rattle.ps_meaning.specs.text_forms.declared.forms.Form.{Form}
+use Rattle.ps_meaning.specs.text_forms.declared.forms.Form.TheVariants as form
+use Rattle.ps_meaning.specs.text_forms.declared.forms.Rows.{Rows}
+use Rattle.ps_meaning.specs.text_forms.Forms.{forms_of, form_in, element_of, one_more, rows_of}
 use Rattle.ps_meaning.specs.Evaluation.{kept_as, kept_elements, text_relation, object_relation}
-use Rattle.ps_meaning.specs.Meaning.{Store, and_object, and_text}
-use Rattle.ps_meaning.specs.Texts.{Attempt, Yields, Fails, join_of, part_of}
-use Rattle.ps_meaning.specs.Objects.{Heap, Object, new_number, is_class, field_of, with_field, vector_of, filled_vector, with_element, low_of, high_of}
+use Rattle.ps_meaning.specs.Meaning.{Store, and_object, and_text, on_input}
+use Rattle.ps_meaning.specs.Texts.{Attempt, Yields, Fails, join_of, part_of, line_read, behind_line, is_at_end}
+use Rattle.ps_meaning.specs.Objects.{Heap, Object, Structure, new_number, is_class, field_of, with_field, vector_of, filled_vector, with_element, low_of, high_of}
 use Rattle.ps_meaning.specs.Objects.{element_of as element_at}
 use Rattle.ps_meaning.specs.Values.{Value, Num, word_of, number_of}
 use Rattle.ps_meaning.specs.Values as value
 use Rattle.ps_stepping.specs.Config.{frame_words, Config, frame_in, constant_at, constants_in}
 use Rattle.ps_stepping.specs.Steps.{Step, Stuck, on, put_num, push_num, push_ref, pop_num, pop_two, pop_text, text_in, with_text, attempted}
-use Rattle.ps_stepping.specs.Objects.{holding, changed, make, make_text, join, part, compare_texts, denoting_of, pop_denoting, compare_objects, object_of, pop_object, is_of_class, make_structure, when_number, when_reference, field_num, field_ref, set_field_num, set_field_ref, type_of, of_type, pop_vector, fill_num, fill_ref, pop_nums, pop_refs, list_num, list_ref, element_num, element_ref, set_element_num, set_element_ref, bound, library, acts_on_objects}
-use Rattle.ps_stepping.specs.Effects.{Effect, refs, both, effect_of, HasEffect}
-use Rattle.ps_stepping.proofs.Popping.{Does, does_if, popped_num, popped_ref, popped_text, does_by_name, does_push_ref}
+use Rattle.ps_stepping.specs.Objects.{holding, changed, make, make_text, join, part, compare_texts, denoting_of, pop_denoting, compare_objects, object_of, pop_object, is_of_class, pop_fields, make_structure, when_number, when_reference, field_num, field_ref, set_field_num, set_field_ref, type_of, of_type, pop_vector, fill_num, fill_ref, pop_nums, pop_refs, list_num, list_ref, element_num, element_ref, set_element_num, set_element_ref, bound, read_line, at_end, text_length, int_text, library, acts_on_objects}
+use Rattle.ps_stepping.specs.Effects.{Effect, makes, nums, refs, both, library_effect, effect_of, HasEffect}
+use Rattle.ps_stepping.proofs.Popping.{Does, does_if, popped_num, popped_ref, popped_text, does_push_ref}
 
 -- A structure or nil, nil or any object, and a vector are popped.
 
@@ -72,13 +75,17 @@ does_attempted : {A : Type 0} (e : Effect) (c : Config) (line : Line) (a : Attem
 does_attempted e c line (Yields x) next h = h x
 does_attempted e c line (Fails trap) next h = tt
 
-pub does_with_text : (e : Effect) (c : Config) (k : ℕ) (next : List ℕ → Step) → ((bytes : List ℕ) → Does e c (next bytes)) → Does e c (with_text k c next)
-does_with_text e c k next h = of_constant (constant_at (constants_in c.unit) k)
+does_with_class : (e : Effect) (c : Config) (k : ℕ) (next : List ℕ → Step) →
+    ((bytes : List ℕ) → constant_at (constants_in c.unit) k ≡ Some (text bytes) → Does e c (next bytes)) → Does e c (with_text k c next)
+does_with_class e c k next h = of_constant (constant_at (constants_in c.unit) k) refl
   where
-    of_constant : (constant : Option ConstantView) → Does e c (text_in constant next)
-    of_constant (Some (text bytes)) = h bytes
-    of_constant (Some (literal code)) = tt
-    of_constant None = tt
+    of_constant : (constant : Option ConstantView) → constant_at (constants_in c.unit) k ≡ constant → Does e c (text_in constant next)
+    of_constant (Some (text bytes)) is = h bytes is
+    of_constant (Some (literal code)) is = tt
+    of_constant None is = tt
+
+pub does_with_text : (e : Effect) (c : Config) (k : ℕ) (next : List ℕ → Step) → ((bytes : List ℕ) → Does e c (next bytes)) → Does e c (with_text k c next)
+does_with_text e c k next h = does_with_class e c k next (λ bytes is. h bytes)
 
 pub does_number : (e : Effect) (c : Config) (f : Option Form) (s : Step) → Does e c s → Does e c (when_number f s)
 does_number e c (Some form.Number) s h = h
@@ -228,7 +235,7 @@ does_fill_ref k line c =
     (λ object. does_make e c (record c { nums = left; refs = rest }) value.Vector object
     (λ v store. record { nums = omega (arith, ap length is', ap length is''); refs = omega (arith, ap length is) })))))))
 
-popped_nums : (e : Effect) (n : ℕ) (zs : List ℤ) (c d : Config) (next : List ℤ → Config → Step) →
+pub popped_nums : (e : Effect) (n : ℕ) (zs : List ℤ) (c d : Config) (next : List ℤ → Config → Step) →
     ((ws : List ℤ) (rest : List ℤ) → length d.nums ≡ n + length rest → Does e c (next ws (record d { nums = rest }))) →
     Does e c (pop_nums n zs d next)
 popped_nums e zero zs c d next h = h zs d.nums (omega arith)
@@ -236,7 +243,7 @@ popped_nums e (suc n) zs c d next h =
     popped_num e c d (λ z f. pop_nums n (z ∷ zs) f next)
     (λ z rest is. popped_nums e n (z ∷ zs) c (record d { nums = rest }) next (λ ws left long. h ws left (omega (arith, ap length is, long))))
 
-popped_refs : (e : Effect) (n : ℕ) (vs : List Value) (c d : Config) (next : List Value → Config → Step) →
+pub popped_refs : (e : Effect) (n : ℕ) (vs : List Value) (c d : Config) (next : List Value → Config → Step) →
     ((ws : List Value) (rest : List Value) → length d.refs ≡ n + length rest → Does e c (next ws (record d { refs = rest }))) →
     Does e c (pop_refs n vs d next)
 popped_refs e zero vs c d next h = h vs d.refs (omega arith)
@@ -325,6 +332,97 @@ does_bound of c =
     (λ ty v rest is. ends_num (both 0 1 1 0) c (record c { refs = rest }) (of c.store.heap v)
     (record { nums = omega arith; refs = omega (arith, is) }))
 
+-- the values of so many fields are popped, each from the stack of its form
+popped_fields : (e : Effect) (forms : List Form) (vs : List Value) (c d : Config) (next : List Value → Config → Step) →
+    ((ws : List Value) (zs : List ℤ) (rest : List Value) → length d.nums ≡ (rows_of forms).nums + length zs →
+    length d.refs ≡ (rows_of forms).refs + length rest → Does e c (next ws (record d { nums = zs; refs = rest }))) →
+    Does e c (pop_fields forms vs d next)
+unfolding rows_of
+popped_fields e [] vs c d next h = h vs d.nums d.refs (omega arith) (omega arith)
+popped_fields e (form.Reference ∷ forms) vs c d next h =
+    popped_ref e c d (λ v f. pop_fields forms (v ∷ vs) f next)
+    (λ v rest is. popped_fields e forms (v ∷ vs) c (record d { refs = rest }) next
+    (λ ws zs left on_nums on_refs. h ws zs left on_nums (omega (arith, ap length is, on_refs))))
+popped_fields e (form.Number ∷ forms) vs c d next h =
+    popped_num e c d (λ z f. pop_fields forms (kept_as (Some form.Number) (Num z) ∷ vs) f next)
+    (λ z rest is. popped_fields e forms (kept_as (Some form.Number) (Num z) ∷ vs) c (record d { nums = rest }) next
+    (λ ws zs left on_nums on_refs. h ws zs left (omega (arith, ap length is, on_nums)) on_refs))
+popped_fields e (form.Flag ∷ forms) vs c d next h =
+    popped_num e c d (λ z f. pop_fields forms (kept_as (Some form.Flag) (Num z) ∷ vs) f next)
+    (λ z rest is. popped_fields e forms (kept_as (Some form.Flag) (Num z) ∷ vs) c (record d { nums = rest }) next
+    (λ ws zs left on_nums on_refs. h ws zs left (omega (arith, ap length is, on_nums)) on_refs))
+
+-- places in reverse are as many of each row
+one_behind : (forms : List Form) (f : Form) → rows_of (forms ++ f ∷ []) ≡ rows_of (f ∷ forms)
+unfolding rows_of
+one_behind [] f = refl
+one_behind (form.Reference ∷ forms) form.Reference = ap (one_more form.Reference) (one_behind forms form.Reference)
+one_behind (form.Reference ∷ forms) form.Number = ap (one_more form.Reference) (one_behind forms form.Number)
+one_behind (form.Reference ∷ forms) form.Flag = ap (one_more form.Reference) (one_behind forms form.Flag)
+one_behind (form.Number ∷ forms) form.Reference = ap (one_more form.Number) (one_behind forms form.Reference)
+one_behind (form.Number ∷ forms) form.Number = ap (one_more form.Number) (one_behind forms form.Number)
+one_behind (form.Number ∷ forms) form.Flag = ap (one_more form.Number) (one_behind forms form.Flag)
+one_behind (form.Flag ∷ forms) form.Reference = ap (one_more form.Flag) (one_behind forms form.Reference)
+one_behind (form.Flag ∷ forms) form.Number = ap (one_more form.Flag) (one_behind forms form.Number)
+one_behind (form.Flag ∷ forms) form.Flag = ap (one_more form.Flag) (one_behind forms form.Flag)
+
+rows_in_reverse : (forms : List Form) → rows_of (reverse forms) ≡ rows_of forms
+unfolding rows_of
+rows_in_reverse [] = refl
+rows_in_reverse (f ∷ forms) =
+    ap rows_of (reverse-append (f ∷ []) forms) ∙ one_behind (reverse forms) f ∙ ap (one_more f) (rows_in_reverse forms)
+
+does_make_structure : (k : ℕ) (c : Config) → Does (makes k) c (make_structure k c)
+does_make_structure k c =
+    let e = makes k in
+    does_with_class e c k (λ class. pop_fields (reverse (forms_of class)) [] c (λ fields d. make value.Pointer (Structure class fields) d))
+    (λ class named. popped_fields e (reverse (forms_of class)) [] c c (λ fields d. make value.Pointer (Structure class fields) d)
+    (λ fields zs rest on_nums on_refs.
+    let rows = rows_in_reverse (forms_of class) in
+    let many_nums : (rows_of (reverse (forms_of class))).nums ≡ (rows_of (forms_of class)).nums = ap (λ (r : Rows). r.nums) rows in
+    let many_refs : (rows_of (reverse (forms_of class))).refs ≡ (rows_of (forms_of class)).refs = ap (λ (r : Rows). r.refs) rows in
+    does_make e c (record c { nums = zs; refs = rest }) value.Pointer (Structure class fields)
+    (λ v store. record {
+      class = class;
+      named = named;
+      moved = record { nums = omega (arith, on_nums, many_nums); refs = omega (arith, on_refs, many_refs) };
+    })))
+
+-- The library.
+
+does_read_line : (line : Line) (c : Config) → Does (refs 0 1) c (read_line line c)
+does_read_line line c =
+    let d = holding (on_input (behind_line c.store.input) c.store) c in
+    does_attempted (refs 0 1) c line (line_read c.store.input) (λ bytes. make_text bytes d)
+    (λ bytes. ends_ref (refs 0 1) c (holding (and_text bytes d.store) d) (value.Text bytes) (record { nums = refl; refs = omega arith }))
+
+does_at_end : (c : Config) → Does (nums 0 1) c (at_end c)
+does_at_end c = ends_num (nums 0 1) c c (number_of (is_at_end c.store.input)) (record { nums = omega arith; refs = refl })
+
+does_text_length : (c : Config) → Does (both 0 1 1 0) c (text_length c)
+does_text_length c =
+    popped_text (both 0 1 1 0) c c (λ a d. push_num (pos (length a)) d)
+    (λ a rest is. ends_num (both 0 1 1 0) c (record c { refs = rest }) (pos (length a)) (record { nums = omega arith; refs = omega (arith, is) }))
+
+does_int_text : (c : Config) → Does (both 1 0 0 1) c (int_text c)
+does_int_text c =
+    popped_num (both 1 0 0 1) c c (λ z d. make_text (signed_decimal z) d)
+    (λ z rest is. ends_ref (both 1 0 0 1) c (holding (and_text (signed_decimal z) c.store) (record c { nums = rest })) (value.Text (signed_decimal z))
+    (record { nums = omega (arith, ap length is); refs = omega arith }))
+
+-- where the number of a procedure of the library is this one, its effect is that one's
+at_number : (k n : ℕ) (b : Bool) → nat_eq k n ≡ b → (c : Config) (s t : Step) → Does (library_effect n) c s → Does (library_effect k) c t →
+    Does (library_effect k) c (if b then s else t)
+at_number k n true is c s t h g = subst (λ (m : ℕ). Does (library_effect m) c s) (sym (eqb-true k n is)) h
+at_number k n false is c s t h g = g
+
+does_library : (k : ℕ) (line : Line) (c : Config) → Does (library_effect k) c (library k line c)
+does_library k line c =
+    at_number k 9 (nat_eq k 9) refl c (read_line line c) _ (does_read_line line c)
+    (at_number k 10 (nat_eq k 10) refl c (at_end c) _ (does_at_end c)
+    (at_number k 11 (nat_eq k 11) refl c (text_length c) _ (does_text_length c)
+    (at_number k 12 (nat_eq k 12) refl c (int_text c) Stuck (does_int_text c) tt)))
+
 pub does_on_objects : (i : Instr) (c : Config) → Does (effect_of i) c (acts_on_objects i c)
 does_on_objects instr.Nil c = does_push_ref c value.Nil
 does_on_objects instr.EqP c = does_compare_objects relation.Equal c
@@ -338,7 +436,7 @@ does_on_objects instr.GeT c = does_compare_texts relation.GreaterEqual c
 does_on_objects (instr.Join line) c = does_join line c
 does_on_objects (instr.Part line) c = does_part line c
 does_on_objects (instr.Is k) c = does_is k c
-does_on_objects (instr.Make k) c = does_by_name c (make_structure k c)
+does_on_objects (instr.Make k) c = does_make_structure k c
 does_on_objects (instr.FieldM k i line) c = does_field_num k i line c
 does_on_objects (instr.FieldP k i line) c = does_field_ref k i line c
 does_on_objects (instr.SetFieldM k i line) c = does_set_field_num k i line c
@@ -353,5 +451,5 @@ does_on_objects (instr.SetElemM line) c = does_set_element_num line c
 does_on_objects (instr.SetElemP line) c = does_set_element_ref line c
 does_on_objects instr.Lwb c = does_bound low_of c
 does_on_objects instr.Upb c = does_bound high_of c
-does_on_objects (instr.Lib k line) c = does_by_name c (library k line c)
+does_on_objects (instr.Lib k line) c = does_library k line c
 does_on_objects i c = tt

@@ -1,11 +1,11 @@
 -- Steps over structures, vectors and texts that are computed.
 use Rattle.std.proofs.Common.{◌≡◌, ℕ, ℤ, pos, List, [], ◌∷◌, refl, true, false, None}
 use Rattle.std.specs.Prelude.{codes}
-use Rattle.text_forms.specs.Forms.{forms_of, forms_from, form_here, form_in, begins, element_of, is_text}
-use Rattle.ps_base.specs.CodeUnit.{UnitView, unit, text, no_constants, constant_then}
-use Rattle.ps_base.specs.declared.line.Line.{Line}
-use Rattle.ps_base.specs.declared.trap.Trap.TheVariants as trap
-use Rattle.ps_base.specs.declared.instr.Instr.TheVariants as instr
+use Rattle.ps_meaning.specs.text_forms.Forms.{forms_of, forms_from, form_here, form_in, begins, element_of, is_text}
+use Rattle.ps_code.specs.ps_base.CodeUnit.{UnitView, unit, text, no_constants, constant_then}
+use Rattle.ps_code.specs.ps_base.declared.line.Line.{Line}
+use Rattle.ps_code.specs.ps_base.declared.trap.Trap.TheVariants as trap
+use Rattle.ps_code.specs.ps_base.declared.instr.Instr.TheVariants as instr
 use Rattle.ps_meaning.specs.Event.{Trapped}
 use Rattle.ps_meaning.specs.Objects.{Heap, Structure, Elements, is_class, field_of, with_field, vector_of, filled_vector, with_element, low_of, high_of, is_one_object}
 use Rattle.ps_meaning.specs.Objects.{element_of as element_at}

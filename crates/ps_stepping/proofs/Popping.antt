@@ -6,7 +6,7 @@ use Rattle.ps_meaning.specs.Values.{Value}
 use Rattle.ps_meaning.specs.Values as value
 use Rattle.ps_stepping.specs.Config.{frame_words, Config, frame_in}
 use Rattle.ps_stepping.specs.Steps.{Step, Goes, Stops, Stuck, on, push_ref, pop_num_of, pop_num, pop_ref_of, pop_ref, text_of, pop_text}
-use Rattle.ps_stepping.specs.Effects.{Effect, by_name, refs, HasEffect}
+use Rattle.ps_stepping.specs.Effects.{Effect, refs, HasEffect}
 
 abbrev pub Does : Effect → Config → Step → Type 0
 Does e c (Goes events next) = HasEffect e c next
@@ -16,6 +16,11 @@ Does e c Stuck = Unit {0}
 pub does_if : (e : Effect) (c : Config) (b : Bool) (x y : Step) → Does e c x → Does e c y → Does e c (if b then x else y)
 does_if e c true x y f g = f
 does_if e c false x y f g = g
+
+-- what goes on where a test is true, and is stuck else
+pub does_tested : (e : Effect) (c : Config) (b : Bool) (s : Step) → (b ≡ true → Does e c s) → Does e c (if b then s else Stuck)
+does_tested e c true s h = h refl
+does_tested e c false s h = tt
 
 pub popped_num : (e : Effect) (c d : Config) (next : ℤ → Config → Step) →
     ((z : ℤ) (rest : List ℤ) → d.nums ≡ z ∷ rest → Does e c (next z (record d { nums = rest }))) → Does e c (pop_num d next)
@@ -53,11 +58,6 @@ popped_text e c d next h = popped_ref e c d (λ v d. text_of v d next) (λ v res
     of_value (value.Vector o) rest is = tt
     of_value (value.Procedure b o) rest is = tt
     of_value value.Nothing rest is = tt
-
-pub does_by_name : (c : Config) (s : Step) → Does by_name c s
-does_by_name c (Goes events next) = tt
-does_by_name c (Stops e) = tt
-does_by_name c Stuck = tt
 
 pub moved_on : (e : Effect) (c d : Config) (s : Step) (next : Config) (events : List Event) → ((x : Config) → HasEffect e d x → HasEffect e c x) →
     Does e d s → s ≡ Goes events next → HasEffect e c next

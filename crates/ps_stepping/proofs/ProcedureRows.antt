@@ -1,11 +1,11 @@
 -- Steps over scopes and procedures that are computed.
 use Rattle.std.proofs.Common.{◌≡◌, ℕ, ℤ, pos, List, [], ◌∷◌, refl, true, false, None}
 use Rattle.std.specs.Prelude.{get_or, Option, Some, codes}
-use Rattle.text_forms.specs.Forms.{forms_of, forms_from, form_here, form_in, begins}
-use Rattle.ps_base.specs.CodeUnit.{UnitView, unit, text, literal, no_constants, constant_then}
-use Rattle.ps_base.specs.declared.line.Line.{Line}
-use Rattle.ps_base.specs.declared.trap.Trap.TheVariants as trap
-use Rattle.ps_base.specs.declared.instr.Instr.TheVariants as instr
+use Rattle.ps_meaning.specs.text_forms.Forms.{forms_of, forms_from, form_here, form_in, begins}
+use Rattle.ps_code.specs.ps_base.CodeUnit.{UnitView, unit, text, literal, no_constants, constant_then}
+use Rattle.ps_code.specs.ps_base.declared.line.Line.{Line}
+use Rattle.ps_code.specs.ps_base.declared.trap.Trap.TheVariants as trap
+use Rattle.ps_code.specs.ps_base.declared.instr.Instr.TheVariants as instr
 use Rattle.ps_meaning.specs.Event.{Trapped, OutOfTurns, Turn}
 use Rattle.ps_meaning.specs.Objects.{Heap, Object, Scope}
 use Rattle.ps_meaning.specs.Scopes.{new_scope, scope_out, name_in, with_name}

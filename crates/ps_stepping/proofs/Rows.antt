@@ -1,10 +1,10 @@
 -- Steps that are computed: the machine on worked instructions.
 use Rattle.std.proofs.Common.{◌≡◌, ℕ, ℤ, pos, List, [], ◌∷◌, refl, None}
 use Rattle.std.specs.Prelude.{nat_eq, if◌then◌else◌}
-use Rattle.ps_base.specs.CodeUnit.{UnitView, unit, no_constants}
-use Rattle.ps_base.specs.declared.line.Line.{Line}
-use Rattle.ps_base.specs.declared.trap.Trap.TheVariants.{Bounds}
-use Rattle.ps_base.specs.declared.instr.Instr.TheVariants as instr
+use Rattle.ps_code.specs.ps_base.CodeUnit.{UnitView, unit, no_constants}
+use Rattle.ps_code.specs.ps_base.declared.line.Line.{Line}
+use Rattle.ps_code.specs.ps_base.declared.trap.Trap.TheVariants.{Bounds}
+use Rattle.ps_code.specs.ps_base.declared.instr.Instr.TheVariants as instr
 use Rattle.ps_meaning.specs.Event.{Turn, Trapped, OutOfTurns, Done}
 use Rattle.ps_meaning.specs.Values.{Nil}
 use Rattle.ps_meaning.specs.Meaning.{with_local}
@@ -56,7 +56,7 @@ and_leaves_its_value = refl
 left_operand_stands_below : act (instr.Sub line) (at 10 (pos 2 ∷ pos 7 ∷ []) 2) ≡ on (at 15 (pos 5 ∷ []) 2)
 left_operand_stands_below = refl
 
--- for i = 1 to 3: the first turn begins behind the instruction
+-- for i = 1 to 3: the first turn begins after the instruction
 for_start_takes_a_turn : act (instr.ForStart 0 60 line) (loop 10 (three 1 3 1) 2) ≡ Goes (Turn 0 ∷ []) (loop 23 (three 1 3 1) 1)
 for_start_takes_a_turn = refl
 
@@ -71,7 +71,7 @@ step_is_0 = refl
 for_next_takes_a_turn : act (instr.ForNext 0 23) (loop 51 (three 1 3 1) 2) ≡ Goes (Turn 0 ∷ []) (loop 23 (with_local (three 1 3 1) 0 (pos 2)) 1)
 for_next_takes_a_turn = refl
 
--- for i = 2147483647 to 2147483647: the number behind it is no int
+-- for i = 2147483647 to 2147483647: the number after it is no int
 for_next_ends_at_the_last_int : act (instr.ForNext 0 23) (loop 51 (three 2147483647 2147483647 1) 2) ≡ on (loop 60 (three 2147483647 2147483647 1) 2)
 for_next_ends_at_the_last_int = refl
 

@@ -1,15 +1,16 @@
 -- Where a run of a unit stands, and what is at hand there.
 use Rattle.std.specs.Prelude.{◌≡◌, ℕ, zero, suc, ℤ, pos, List, [], ◌++◌, drop, Option, Some, None}
-use Rattle.ps_base.specs.CodeUnit.{UnitView, unit, ConstantView, ConstantsView, no_constants, constant_then}
-use Rattle.ps_base.specs.Instr.{spelling, IsInstr}
-use Rattle.ps_base.specs.declared.instr.Instr.{Instr}
-use Rattle.ps_base.specs.declared.code_unit.Frame.{Frame}
+use Rattle.ps_code.specs.ps_base.Limits.{most_slots}
+use Rattle.ps_code.specs.ps_base.CodeUnit.{UnitView, unit, ConstantView, ConstantsView, no_constants, constant_then}
+use Rattle.ps_code.specs.ps_base.Instr.{spelling, IsInstr}
+use Rattle.ps_code.specs.ps_base.declared.instr.Instr.{Instr}
+use Rattle.ps_code.specs.ps_base.declared.code_unit.Frame.{Frame}
 use Rattle.ps_meaning.specs.Values.{Value, Nil}
 use Rattle.ps_meaning.specs.Meaning.{Store}
 
--- the most words of one frame on each stack: its locals, and what is pushed above them
+-- the most words of one frame on each stack, its locals and what is pushed above them: as many as the slots of a body
 abbrev pub frame_words : ℕ
-frame_words = 512
+frame_words = most_slots
 
 -- The locals of a body: its ints and bools as numbers, and its references.
 pub record Locals : Type 0 where

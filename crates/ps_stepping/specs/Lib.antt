@@ -5,3 +5,5 @@ pub mod Procedures
 pub mod Machine
 pub mod Path
 pub mod Effects
+pub use Rattle.ps_meaning.specs.text_forms as text_forms
+pub use Rattle.ps_meaning.specs as ps_meaning

@@ -2,14 +2,14 @@
 -- is where what it finds isn't what the instruction wants.
 use Rattle.std.specs.Prelude.{◌≡◌, ℕ, zero, suc, ◌+◌, ℤ, pos, ◌+ℤ◌, not, List, [], ◌∷◌, ◌++◌, nat_lt, Option, Some, None, if◌then◌else◌}
 use Rattle.std.specs.Fmt.{signed_decimal}
-use Rattle.ps_base.specs.CodeUnit.{ConstantView, text, literal}
-use Rattle.ps_base.specs.Instr.{width_of}
-use Rattle.ps_base.specs.declared.line.Line.{Line}
-use Rattle.ps_base.specs.declared.trap.Trap.TheVariants.{Bounds, Abort as Aborted, TooLong}
-use Rattle.ps_base.specs.declared.operator.Operator.TheVariants as operator
-use Rattle.ps_base.specs.declared.operator.Relation.TheVariants as relation
-use Rattle.ps_base.specs.declared.instr.Instr.{Instr}
-use Rattle.ps_base.specs.declared.instr.Instr.TheVariants.{Int, True, False, Text, GetM, GetP, SetM, SetP, Jump, JumpFalse, Again, And, Or, Not, Neg, Add, Sub, Mul, Div, Rem, EqM, NeM, LtM, LeM, GtM, GeM, Return, WriteI, WriteB, WriteT, Abort, ForStart, ForNext, DupM, DupP, DropM, DropP, JumpTrue}
+use Rattle.ps_code.specs.ps_base.CodeUnit.{ConstantView, text, literal}
+use Rattle.ps_code.specs.ps_base.Instr.{width_of}
+use Rattle.ps_code.specs.ps_base.declared.line.Line.{Line}
+use Rattle.ps_code.specs.ps_base.declared.trap.Trap.TheVariants.{Bounds, Abort as Aborted, TooLong}
+use Rattle.ps_code.specs.ps_base.declared.operator.Operator.TheVariants as operator
+use Rattle.ps_code.specs.ps_base.declared.operator.Relation.TheVariants as relation
+use Rattle.ps_code.specs.ps_base.declared.instr.Instr.{Instr}
+use Rattle.ps_code.specs.ps_base.declared.instr.Instr.TheVariants.{Int, True, False, Text, GetM, GetP, SetM, SetP, Jump, JumpFalse, Again, And, Or, Not, Neg, Add, Sub, Mul, Div, Rem, EqM, NeM, LtM, LeM, GtM, GeM, Return, WriteI, WriteB, WriteT, Abort, ForStart, ForNext, DupM, DupP, DropM, DropP, JumpTrue}
 use Rattle.ps_meaning.specs.Operators.{is_same, neg_of, arith_of, relation_of}
 use Rattle.ps_meaning.specs.Event.{End, Done, Trapped, OutOfTurns, Event, Turn, Finish}
 use Rattle.ps_meaning.specs.Values.{Value, number_of, is_one, flag_text, bytes_of}
@@ -93,7 +93,7 @@ returned (suc zero) c = pop_num c (λ z d. come_back d.callers num_back (λ call
 returned (suc (suc zero)) c = pop_ref c (λ v d. come_back d.callers ref_back (λ caller. caller.nums) (λ caller. v ∷ caller.refs) d)
 returned (suc (suc (suc n))) c = Stuck
 
--- What an instruction does whose own offset this is; the configuration stands behind it already. What instructions over
+-- What an instruction does whose own offset this is; the configuration stands after it already. What instructions over
 -- procedures and scopes do, and those over structures, vectors and texts, is stated by themselves.
 abbrev pub acts : Instr → ℕ → Config → Step
 acts (Int v) own c = push_num v c
@@ -136,7 +136,7 @@ acts DropM own c = pop_num c (λ z d. on d)
 acts DropP own c = pop_ref c (λ v d. on d)
 acts i own c = acts_on_procedures i c
 
--- behind an instruction
+-- after an instruction
 abbrev pub behind : Instr → Config → Config
 behind i c = record c { at = c.at + width_of i }
 

@@ -2,14 +2,14 @@
 -- that the instruction wants, it is stuck.
 use Rattle.std.specs.Prelude.{ℕ, zero, suc, ℤ, pos, List, [], ◌∷◌, length, map, reverse, nat_eq, Option, Some, None, if◌then◌else◌}
 use Rattle.std.specs.Fmt.{signed_decimal}
-use Rattle.text_forms.specs.declared.forms.Form.{Form}
-use Rattle.text_forms.specs.declared.forms.Form.TheVariants as form
-use Rattle.text_forms.specs.Forms.{forms_of, form_in, element_of}
-use Rattle.ps_base.specs.declared.line.Line.{Line}
-use Rattle.ps_base.specs.declared.operator.Relation.{Relation}
-use Rattle.ps_base.specs.declared.operator.Relation.TheVariants as relation
-use Rattle.ps_base.specs.declared.instr.Instr.{Instr}
-use Rattle.ps_base.specs.declared.instr.Instr.TheVariants as instr
+use Rattle.ps_meaning.specs.text_forms.declared.forms.Form.{Form}
+use Rattle.ps_meaning.specs.text_forms.declared.forms.Form.TheVariants as form
+use Rattle.ps_meaning.specs.text_forms.Forms.{forms_of, form_in, element_of}
+use Rattle.ps_code.specs.ps_base.declared.line.Line.{Line}
+use Rattle.ps_code.specs.ps_base.declared.operator.Relation.{Relation}
+use Rattle.ps_code.specs.ps_base.declared.operator.Relation.TheVariants as relation
+use Rattle.ps_code.specs.ps_base.declared.instr.Instr.{Instr}
+use Rattle.ps_code.specs.ps_base.declared.instr.Instr.TheVariants as instr
 use Rattle.ps_meaning.specs.Texts.{join_of, part_of, line_read, behind_line, is_at_end}
 use Rattle.ps_meaning.specs.Objects.{Heap, Object, Structure, Elements, object_at, new_number, is_class, field_of, with_field, vector_of, filled_vector, with_element, low_of, high_of}
 use Rattle.ps_meaning.specs.Objects.{element_of as element_at}
@@ -205,7 +205,7 @@ library code line c =
     if nat_eq code 9 then read_line line c else
     (if nat_eq code 10 then at_end c else (if nat_eq code 11 then text_length c else (if nat_eq code 12 then int_text c else Stuck)))
 
--- What an instruction over structures, vectors and texts does; the configuration stands behind it already. All others are stuck here.
+-- What an instruction over structures, vectors and texts does; the configuration stands after it already. All others are stuck here.
 abbrev pub acts_on_objects : Instr → Config → Step
 acts_on_objects instr.Nil c = push_ref value.Nil c
 acts_on_objects instr.EqP c = compare_objects relation.Equal c

@@ -1,12 +1,12 @@
 -- What the machine does with instructions over scopes and procedures. Where what it finds isn't of the kind that the instruction wants, it is stuck.
 use Rattle.std.specs.Prelude.{ℕ, suc, ◌+◌, ℤ, pos, Bool, ◌&&◌, List, [], ◌∷◌, length, get_or, nat_eq, nat_lt, not, Option, Some, None, if◌then◌else◌}
-use Rattle.text_forms.specs.Forms.{forms_of, form_in}
-use Rattle.ps_base.specs.CodeUnit.{UnitView, ConstantView, text, literal}
-use Rattle.ps_base.specs.declared.code_unit.Frame.{Frame}
-use Rattle.ps_base.specs.declared.line.Line.{Line}
-use Rattle.ps_base.specs.declared.trap.Trap.TheVariants.{TooDeep}
-use Rattle.ps_base.specs.declared.instr.Instr.{Instr}
-use Rattle.ps_base.specs.declared.instr.Instr.TheVariants as instr
+use Rattle.ps_meaning.specs.text_forms.Forms.{forms_of, form_in}
+use Rattle.ps_code.specs.ps_base.CodeUnit.{UnitView, ConstantView, text, literal}
+use Rattle.ps_code.specs.ps_base.declared.code_unit.Frame.{Frame}
+use Rattle.ps_code.specs.ps_base.declared.line.Line.{Line}
+use Rattle.ps_code.specs.ps_base.declared.trap.Trap.TheVariants.{TooDeep}
+use Rattle.ps_code.specs.ps_base.declared.instr.Instr.{Instr}
+use Rattle.ps_code.specs.ps_base.declared.instr.Instr.TheVariants as instr
 use Rattle.ps_meaning.specs.Event.{Trapped, OutOfTurns, Turn}
 use Rattle.ps_meaning.specs.Objects.{Object, Scope, new_number}
 use Rattle.ps_meaning.specs.Scopes.{new_scope, scope_at, scope_out}
@@ -77,7 +77,7 @@ takes_refs n frame =
     nat_eq n frame.ref_params && (not (nat_lt frame.refs frame.ref_params) && (not (nat_lt frame.nums frame.num_params)
     && (not (nat_lt frame_words frame.nums) && not (nat_lt frame_words frame.refs))))
 
--- the body that calls, behind its call
+-- the body that calls, after its call
 abbrev pub waiting : Config → Caller
 waiting c = record { unit = c.unit; at = c.at; nums = c.nums; refs = c.refs; locals = c.locals; scope = c.scope }
 
@@ -116,7 +116,7 @@ num_back caller next = if nat_lt ((frame_in caller.unit).nums + length caller.nu
 abbrev pub ref_back : Caller → Step → Step
 ref_back caller next = if nat_lt ((frame_in caller.unit).refs + length caller.refs) frame_words then next else Stuck
 
--- What an instruction over scopes, procedures or objects does; the configuration stands behind it already. All others are stuck here.
+-- What an instruction over scopes, procedures or objects does; the configuration stands after it already. All others are stuck here.
 abbrev pub acts_on_procedures : Instr → Config → Step
 acts_on_procedures (instr.KeptM u i) c = kept_num u i c
 acts_on_procedures (instr.KeptP u i) c = kept_ref u i c

@@ -1,7 +1,7 @@
 -- What a step is, and what instructions do with the two stacks.
 use Rattle.std.specs.Prelude.{ℕ, ◌+◌, ℤ, Bool, List, [], ◌∷◌, length, nat_lt, Option, Some, None, if◌then◌else◌}
-use Rattle.ps_base.specs.CodeUnit.{ConstantView, text, literal}
-use Rattle.ps_base.specs.declared.line.Line.{Line}
+use Rattle.ps_code.specs.ps_base.CodeUnit.{ConstantView, text, literal}
+use Rattle.ps_code.specs.ps_base.declared.line.Line.{Line}
 use Rattle.ps_meaning.specs.Event.{End, Trapped, Event}
 use Rattle.ps_meaning.specs.Operators.{Answer, Gives, Traps}
 use Rattle.ps_meaning.specs.Texts.{Attempt, Yields, Fails}

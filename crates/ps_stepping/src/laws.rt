@@ -1,5 +1,5 @@
 ghost use Rattle.std.specs.Prelude.{◌≡◌, List, [], ◌∷◌, ◌++◌};
-ghost use Rattle.ps_base.specs.declared.instr.Instr.{Instr};
+ghost use Rattle.ps_code.specs.ps_base.declared.instr.Instr.{Instr};
 ghost use Rattle.ps_meaning.specs.Event.{End, Event, Finish};
 ghost use Rattle.ps_stepping.specs.Config.{Config, code_in, IsAt};
 ghost use Rattle.ps_stepping.specs.Effects.{effect_of, HasEffect};
@@ -12,7 +12,7 @@ pub fn step_is_unique()
     ensures step { (c : Config) (s t : Step) → Steps c s → Steps c t → s ≡ t }
 {}
 
-/// From each configuration that a run comes to, the machine comes to an end: it is never stuck. The events from there on are the
+/// From each configuration that a run reaches, the machine reaches an end: it is never stuck. The events from there on are the
 /// rest of the run's.
 pub fn rest_of_a_run()
     ensures ends { (total : List Event) (c last : Config) (before : List Event) → Runs total c [] → Reaches c before last →

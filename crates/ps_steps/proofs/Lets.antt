@@ -3,11 +3,11 @@ use Rattle.std.proofs.Common.{◌≡◌, ◌+◌, Bool, Option, Some, None, refl
 use Rattle.ps_base.specs.declared.line.Line.{Line}
 use Rattle.ps_tree.specs.Phrase.{NameAt, Phrase, at}
 use Rattle.ps_tree.specs.Phrase as form
-use Rattle.ps_typing.specs.Names.{Names}
-use Rattle.ps_typing.specs.Checking.{check_form}
+use Rattle.ps_checked.specs.ps_typing.Names.{Names}
+use Rattle.ps_checked.specs.ps_typing.Checking.{check_form}
 use Rattle.ps_checked.specs.inside.Forms.{check_initial, check_named}
 use Rattle.ps_checked.specs.inside.Weights.{weight}
-use Rattle.ps_declared.specs.inside.Looks.{LiteralAt, literal_in}
+use Rattle.ps_checked.specs.ps_declared.inside.Looks.{LiteralAt, literal_in}
 
 abbrev or_other : LiteralAt → Option LiteralAt → LiteralAt
 or_other other (Some l) = l

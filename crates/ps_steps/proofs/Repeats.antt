@@ -1,10 +1,10 @@
--- A loop whose test stands behind what is done, with and without something behind the test.
+-- A loop whose test stands after what is done, with and without something after the test.
 use Rattle.std.proofs.Common.{◌≡◌, refl}
 use Rattle.ps_base.specs.declared.line.Line.{Line}
 use Rattle.ps_tree.specs.Phrase.{Phrase, absent, present}
 use Rattle.ps_tree.specs.Phrase as form
-use Rattle.ps_typing.specs.Names.{Names}
-use Rattle.ps_typing.specs.Checking.{◌>>=◌, check_form}
+use Rattle.ps_checked.specs.ps_typing.Names.{Names}
+use Rattle.ps_checked.specs.ps_typing.Checking.{◌>>=◌, check_form}
 use Rattle.ps_checked.specs.inside.Parts.{check_double, check_triple}
 use Rattle.ps_checked.specs.declared.double.Double.TheVariants as double
 use Rattle.ps_checked.specs.declared.triple.Triple.TheVariants as triple

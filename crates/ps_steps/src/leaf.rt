@@ -1,15 +1,15 @@
-ghost use Rattle.ps_scope.specs.Content.{names_of};
-ghost use Rattle.ps_declared.specs.inside.Answers.{IsClause};
+ghost use Rattle.ps_checked.specs.ps_scope.Content.{names_of};
+ghost use Rattle.ps_checked.specs.ps_declared.inside.Answers.{IsClause};
 ghost use Rattle.ps_steps.specs.inside.Steps.{check_leaf};
 
 use ps_base::line::Line;
 use ps_base::ty::Ty;
-use ps_declared::classes::structure;
-use ps_declared::clause::Clause;
-use ps_declared::fault::CheckFault;
-use ps_declared::names::{text, used};
+use ps_checked::ps_declared::classes::structure;
+use ps_checked::ps_declared::clause::Clause;
+use ps_checked::ps_declared::fault::CheckFault;
+use ps_checked::ps_declared::names::{text, used};
+use ps_checked::ps_scope::scope::Scope;
 use ps_program::form::TreeForm;
-use ps_scope::scope::Scope;
 use ps_tree::rough::{Group, Named};
 use std::alloc::Global;
 

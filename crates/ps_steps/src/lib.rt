@@ -6,3 +6,6 @@
 
 pub mod leaf;
 pub mod step;
+
+pub use ps_checked;
+pub use ps_checked::{ps_declared, ps_scope};

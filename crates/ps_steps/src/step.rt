@@ -1,7 +1,7 @@
 ghost use Rattle.std.specs.Prelude.{◌≡◌, ◌+◌, ◌≤◌};
 ghost use Rattle.ps_tree.specs.Phrase.{phrase_of};
-ghost use Rattle.ps_scope.specs.Content.{names_of};
-ghost use Rattle.ps_typing.specs.Checking.{check as check_of};
+ghost use Rattle.ps_checked.specs.ps_scope.Content.{names_of};
+ghost use Rattle.ps_checked.specs.ps_typing.Checking.{check as check_of};
 ghost use Rattle.ps_checked.specs.inside.Weights.{weight};
 ghost use Rattle.ps_steps.specs.inside.Steps.{check_step, weight_step};
 
@@ -11,10 +11,10 @@ use ps_base::ty::Ty;
 use ps_checked::assigning::can_be_assigned;
 use ps_checked::double::Double;
 use ps_checked::link::{Joint, Link};
+use ps_checked::ps_declared::looks::{Literal, lent_boxed, literal_in, name_in};
+use ps_checked::ps_scope::scope::Scope;
 use ps_checked::single::Single;
 use ps_checked::triple::Triple;
-use ps_declared::looks::{Literal, lent_boxed, literal_in, name_in};
-use ps_scope::scope::Scope;
 use ps_tree::rough::{Named, Rough, RoughArm, RoughForm, RoughItem, RoughRange};
 
 /// What is to be done for a clause: its form, and the parts that are left to be checked, in their order.
@@ -24,7 +24,7 @@ pub enum Step<'a> {
     Single(Single<'a>, &'a Rough),
     Double(Double, &'a Rough, &'a Rough),
     Triple(Triple, &'a Rough, &'a Rough, &'a Rough),
-    /// The last link of a chain, behind what stands before it.
+    /// The last link of a chain, after what stands before it.
     Link(Link<'a>, &'a Rough),
     Literal(Literal<'a>),
     /// A name that is declared with a literal, as a variable or not.

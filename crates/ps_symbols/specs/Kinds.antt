@@ -42,7 +42,7 @@ operation_of Product kind.Div = Some (operation.Arith arith.Div)
 operation_of Product kind.Rem = Some (operation.Arith arith.Rem)
 operation_of _ _ = None
 
--- what may stand behind a sum: a comparison, or `is` and `isnt`
+-- what may stand after a sum: a comparison, or `is` and `isnt`
 abbrev pub relating_of : Kind → Option Relating
 relating_of kind.Equals = Some (Compares order.Equal)
 relating_of kind.NotEquals = Some (Compares order.NotEqual)

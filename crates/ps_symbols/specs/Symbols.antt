@@ -12,7 +12,7 @@ use Rattle.ps_symbols.specs.Newline.{can_end, can_continue}
 abbrev pub breaks : Token → Token → Bool
 breaks first second = nat_lt first.line.0 second.line.0 && can_end (kind_of first.what) && not (can_continue (kind_of second.what))
 
--- the `;` behind a token, on its line
+-- the `;` after a token, on its line
 abbrev pub semicolon_behind : Token → Token
 semicolon_behind token = record { what = Mark SEMICOLON; line = token.line; from = token.to; to = token.to }
 
@@ -25,7 +25,7 @@ abbrev pub between : Option Token → ℕ → Token → List Symbol
 between None number token = []
 between (Some last) number token = if breaks last token then symbol number (semicolon_behind last) ∷ [] else []
 
--- these tokens as they are read, behind the token before them, where the first has this number
+-- these tokens as they are read, after the token before them, where the first has this number
 unfoldable pub symbols_behind : Option Token → ℕ → List Token → List Symbol
 symbols_behind last number [] = []
 symbols_behind last number (token ∷ tokens) = between last number token ++ symbol number token ∷ symbols_behind (Some token) (number + 1) tokens

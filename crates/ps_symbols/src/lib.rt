@@ -4,3 +4,5 @@
 pub mod kind;
 pub mod newline;
 pub mod symbol;
+
+pub use ps_scan;

@@ -7,7 +7,7 @@ use ps_scan::{Token, TokenKind, mark};
 use std::alloc::{AllocError, Global};
 
 /// A token as the grammar reads it. A `;` that a newline stands for is one too: it has the line of
-/// the token before it and the number of the token behind it.
+/// the token before it and the number of the token after it.
 #[derive(Clone, Copy)]
 pub struct Symbol {
     pub kind: Kind,

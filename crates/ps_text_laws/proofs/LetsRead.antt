@@ -1,39 +1,39 @@
 -- In what the grammar reads each `let` is an item of a sequence.
 use Rattle.std.proofs.Common.{ℕ, Bool, true, false, List, refl, subst}
 use Rattle.std.specs.Prelude.{Option, Some, None, option_map}
-use Rattle.ps_base.specs.TyView.{TyView, TyViews}
-use Rattle.ps_base.specs.declared.line.Line.{Line}
-use Rattle.ps_symbols.specs.declared.kind.Kind.{Kind}
-use Rattle.ps_symbols.specs.declared.kind.Kind.TheVariants as kind
-use Rattle.ps_symbols.specs.declared.kind.Level.{Level}
-use Rattle.ps_symbols.specs.declared.kind.Level.TheVariants.{Disjunction, Conjunction, Sum, Product}
-use Rattle.ps_symbols.specs.declared.kind.Operation.{Operation}
-use Rattle.ps_symbols.specs.declared.kind.Operation.TheVariants as operation
-use Rattle.ps_symbols.specs.declared.kind.Opening.{Opening}
-use Rattle.ps_symbols.specs.declared.kind.Opening.TheVariants as opening
-use Rattle.ps_symbols.specs.declared.kind.Relating.{Relating}
-use Rattle.ps_symbols.specs.declared.kind.Relating.TheVariants.{Compares, IsOf}
-use Rattle.ps_symbols.specs.declared.kind.Start.{Start}
-use Rattle.ps_symbols.specs.declared.kind.Start.TheVariants as start
-use Rattle.ps_symbols.specs.declared.kind.TypeStart.{TypeStart}
-use Rattle.ps_symbols.specs.declared.kind.TypeStart.TheVariants as typed
-use Rattle.ps_symbols.specs.declared.symbol.Symbol.{Symbol}
-use Rattle.ps_symbols.specs.Kinds.{operation_of, relating_of, begins_item, begins_type, opening_of, start_of, type_start_of}
-use Rattle.ps_tree.specs.Phrase.{NameAt, GroupAt, Phrase, at, Form, Phrases, none, more, MaybePhrase, absent, present, Arm, Arms, no_arms, more_arms, arm, WriteItem, item, WriteItems, no_items, more_items}
-use Rattle.ps_tree.specs.Phrase as form
-use Rattle.ps_tree.specs.Composing.{and_then, and_arm, and_item, joined}
-use Rattle.ps_reader.specs.Grammar.{Made, a_clause, Part, Nested, a_clause_inside, a_type_inside, Rule, Give, Take, Go, Open, Then, the_clause, the_item}
-use Rattle.ps_reader.specs.Grammar as grammar
-use Rattle.ps_reader.specs.Reading.{Reads, kind_at}
-use Rattle.ps_reader.specs.Reading as reading
+use Rattle.ps_parse.specs.ps_base.TyView.{TyView, TyViews}
+use Rattle.ps_parse.specs.ps_base.declared.line.Line.{Line}
+use Rattle.ps_parse.specs.ps_symbols.declared.kind.Kind.{Kind}
+use Rattle.ps_parse.specs.ps_symbols.declared.kind.Kind.TheVariants as kind
+use Rattle.ps_parse.specs.ps_symbols.declared.kind.Level.{Level}
+use Rattle.ps_parse.specs.ps_symbols.declared.kind.Level.TheVariants.{Disjunction, Conjunction, Sum, Product}
+use Rattle.ps_parse.specs.ps_symbols.declared.kind.Operation.{Operation}
+use Rattle.ps_parse.specs.ps_symbols.declared.kind.Operation.TheVariants as operation
+use Rattle.ps_parse.specs.ps_symbols.declared.kind.Opening.{Opening}
+use Rattle.ps_parse.specs.ps_symbols.declared.kind.Opening.TheVariants as opening
+use Rattle.ps_parse.specs.ps_symbols.declared.kind.Relating.{Relating}
+use Rattle.ps_parse.specs.ps_symbols.declared.kind.Relating.TheVariants.{Compares, IsOf}
+use Rattle.ps_parse.specs.ps_symbols.declared.kind.Start.{Start}
+use Rattle.ps_parse.specs.ps_symbols.declared.kind.Start.TheVariants as start
+use Rattle.ps_parse.specs.ps_symbols.declared.kind.TypeStart.{TypeStart}
+use Rattle.ps_parse.specs.ps_symbols.declared.kind.TypeStart.TheVariants as typed
+use Rattle.ps_parse.specs.ps_symbols.declared.symbol.Symbol.{Symbol}
+use Rattle.ps_parse.specs.ps_symbols.Kinds.{operation_of, relating_of, begins_item, begins_type, opening_of, start_of, type_start_of}
+use Rattle.ps_parse.specs.ps_tree.Phrase.{NameAt, GroupAt, Phrase, at, Form, Phrases, none, more, MaybePhrase, absent, present, Arm, Arms, no_arms, more_arms, arm, WriteItem, item, WriteItems, no_items, more_items}
+use Rattle.ps_parse.specs.ps_tree.Phrase as form
+use Rattle.ps_parse.specs.ps_tree.Composing.{and_then, and_arm, and_item, joined}
+use Rattle.ps_parse.specs.ps_reader.Grammar.{Made, a_clause, Part, Nested, a_clause_inside, a_type_inside, Rule, Give, Take, Go, Open, Then, the_clause, the_item}
+use Rattle.ps_parse.specs.ps_reader.Grammar as grammar
+use Rattle.ps_parse.specs.ps_reader.Reading.{Reads, kind_at}
+use Rattle.ps_parse.specs.ps_reader.Reading as reading
 use Rattle.ps_parse.specs.Program.{ReadsAs}
-use Rattle.ps_scan.specs.declared.token.Token.{Token}
-use Rattle.ps_typing.specs.Items.{LetsAreItems, LetsStand, LetsStandInAll, LetsStandInMaybe, LetsStandInArms, LetsStandInWritten}
+use Rattle.ps_parse.specs.ps_scan.declared.token.Token.{Token}
+use Rattle.ps_typing_laws.specs.ps_typing.Items.{LetsAreItems, LetsStand, LetsStandInAll, LetsStandInMaybe, LetsStandInArms, LetsStandInWritten}
 
 abbrev Stands : Phrase → Type 0
 Stands clause = LetsStand false clause
 
--- what a part gives, and what is so of what a part goes on behind
+-- what a part gives, and what is so of what a part goes on after
 abbrev PartGives : Part → Made → Type 0
 PartGives grammar.Item made = LetsStand true (the_clause made)
 PartGives (grammar.Binding line name) made = LetsStand true (the_clause made)
@@ -117,7 +117,7 @@ both_joined : (operation : Operation) (a b : Phrase) (line : Line) → Stands a 
 both_joined operation.Or a b line h k = (h, k)
 both_joined other a b line h k = (h, k)
 
--- The rows of the grammar: each is good where what its part goes on behind stands.
+-- The rows of the grammar: each is good where what its part goes on after stands.
 good_ending : (all : Phrase) (kind : Kind) → Stands all → GoodRow (grammar.ending all kind) (λ made. Stands (the_clause made))
 good_ending all kind.Question ok = λ s. (ok, λ m h. h)
 good_ending all kind.EndOfText ok = ok

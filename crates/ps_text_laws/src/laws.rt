@@ -1,13 +1,13 @@
 //! What is so of every text.
 
 ghost use Rattle.std.specs.Prelude.{◌≡◌, ℕ, List};
-ghost use Rattle.ps_scan.specs.declared.token.Token.{Token};
-ghost use Rattle.ps_tree.specs.Phrase.{Phrase};
+ghost use Rattle.ps_parse.specs.ps_scan.declared.token.Token.{Token};
+ghost use Rattle.ps_parse.specs.ps_tree.Phrase.{Phrase};
 ghost use Rattle.ps_parse.specs.Program.{ReadsAs};
-ghost use Rattle.ps_program.specs.Node.{BodyNode};
-ghost use Rattle.ps_typing.specs.Items.{LetsAreItems};
-ghost use Rattle.ps_typing.specs.Program.{Typed, check_program};
-ghost use Rattle.ps_typing.specs.WellTyped.{IsWellTyped};
+ghost use Rattle.ps_typing_laws.specs.ps_program.Node.{BodyNode};
+ghost use Rattle.ps_typing_laws.specs.ps_typing.Items.{LetsAreItems};
+ghost use Rattle.ps_typing_laws.specs.ps_typing.Program.{Typed, check_program};
+ghost use Rattle.ps_typing_laws.specs.ps_typing.WellTyped.{IsWellTyped};
 
 /// In the tree of a text each `let` is an item of a sequence.
 pub fn lets_of_a_text_are_items()

@@ -1,1 +1,2 @@
 pub mod PhraseLemmas
+pub use Rattle.ps_symbols.proofs as of_ps_symbols

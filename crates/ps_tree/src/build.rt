@@ -99,7 +99,7 @@ pub fn while_of(alloc: Global, c: Rough, a: Rough, line: Line) -> Result<Rough, 
     form_at(alloc, form, line)
 }
 
-/// A loop with its test behind each turn, and a clause between the turns, if there is one.
+/// A loop with its test after each turn, and a clause between the turns, if there is one.
 pub fn repeat_of(
     alloc: Global,
     a: Rough,
@@ -274,7 +274,7 @@ pub fn not(alloc: Global, e: Rough, line: Line) -> Result<Rough, ParseFault>
     form_at(alloc, form, line)
 }
 
-/// A clause behind a `+`.
+/// A clause after a `+`.
 pub fn plus(alloc: Global, e: Rough, line: Line) -> Result<Rough, ParseFault>
     ensures made { IfOk result (λ made. phrase_of made ≡ at (form.Plus (phrase_of e)) line) }
     ensures fault { IfErr result (λ fault. fault ≡ Memory) }
@@ -283,7 +283,7 @@ pub fn plus(alloc: Global, e: Rough, line: Line) -> Result<Rough, ParseFault>
     form_at(alloc, form, line)
 }
 
-/// A clause behind a `-`.
+/// A clause after a `-`.
 pub fn negation(alloc: Global, e: Rough, line: Line) -> Result<Rough, ParseFault>
     ensures made { IfOk result (λ made. phrase_of made ≡ at (form.Neg (phrase_of e)) line) }
     ensures fault { IfErr result (λ fault. fault ≡ Memory) }
@@ -292,7 +292,7 @@ pub fn negation(alloc: Global, e: Rough, line: Line) -> Result<Rough, ParseFault
     form_at(alloc, form, line)
 }
 
-/// A clause with arguments in round brackets behind it.
+/// A clause with arguments in round brackets after it.
 pub fn apply(alloc: Global, f: Rough, args: Vec<Rough>, line: Line) -> Result<Rough, ParseFault>
     ensures made { IfOk result (λ made. phrase_of made ≡ at (form.Apply (phrase_of f) (phrases_in args.items)) line) }
     ensures fault { IfErr result (λ fault. fault ≡ Memory) }

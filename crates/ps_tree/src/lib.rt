@@ -6,3 +6,6 @@ mod boxes;
 pub mod build;
 pub mod fault;
 pub mod rough;
+
+pub use ps_symbols;
+pub use ps_symbols::ps_scan;

@@ -178,7 +178,7 @@ pub struct Named {
 }
 
 /// The parameters of a procedure or the fields of a structure that share a type that is written
-/// once: the first of them, and those behind it.
+/// once: the first of them, and those after it.
 pub struct Group {
     pub ty: Ty,
     pub first: Named,

@@ -4,3 +4,5 @@
 #![tactic(auto)]
 
 pub mod types;
+
+pub use ps_layout;

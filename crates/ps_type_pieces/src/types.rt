@@ -10,11 +10,11 @@ ghost use Rattle.ps_layout.specs.Waiting.{waiting, gap_of, Adds};
 use ps_base::ty::Ty;
 use ps_layout::pending::Pending;
 use ps_layout::piece::{Gap, Piece};
-use ps_scan::{mark, word};
+use ps_tree::ps_scan::{mark, word};
 use ps_tree::rough::{Group, Named};
 use std::alloc::AllocError;
 
-/// The pieces of a type, behind the gap: its word, or its mark and its parts. Want of memory leaves any front of them.
+/// The pieces of a type, after the gap: its word, or its mark and its parts. Want of memory leaves any prefix of them.
 pub fn put_type<'a>(pending: &mut Pending<'a>, gap: Gap, ty: &'a Ty) -> Result<(), AllocError>
     ensures { OnOk result (Adds (waiting pending.old) (type_lexemes (gap_of gap) (ty_view ty.now)) (weight_ty (ty_view ty.now)) (waiting pending.new)) }
 {
@@ -78,7 +78,7 @@ pub fn put_types<'a>(pending: &mut Pending<'a>, tys: &'a [Ty]) -> Result<(), All
     }
 }
 
-/// The same behind the first type, each behind a comma.
+/// The same after the first type, each after a comma.
 pub fn put_more_types<'a>(pending: &mut Pending<'a>, tys: &'a [Ty]) -> Result<(), AllocError>
     ensures { OnOk result (Adds (waiting pending.old) (more_types_lexemes (ty_views tys.now)) (weight_tys (ty_views tys.now)) (waiting pending.new)) }
 {
@@ -92,7 +92,7 @@ pub fn put_more_types<'a>(pending: &mut Pending<'a>, tys: &'a [Ty]) -> Result<()
     }
 }
 
-/// The pieces of a result, its type behind its arrow; a procedure without a result has none.
+/// The pieces of a result, its type after its arrow; a procedure without a result has none.
 pub fn put_gives<'a>(pending: &mut Pending<'a>, ty: &'a Ty) -> Result<(), AllocError>
     ensures { OnOk result (Adds (waiting pending.old) (behind_arrow (ty_view ty.now) (type_lexemes blank (ty_view ty.now))) (weight_ty (ty_view ty.now) + 2) (waiting pending.new)) }
 {
@@ -150,7 +150,7 @@ fn put_next_group<'a>(pending: &mut Pending<'a>, groups: &'a [Group]) -> Result<
     }
 }
 
-/// The pieces of a parameter or a field, behind the gap: its type and its name.
+/// The pieces of a parameter or a field, after the gap: its type and its name.
 pub fn put_named<'a>(
     pending: &mut Pending<'a>,
     gap: Gap,

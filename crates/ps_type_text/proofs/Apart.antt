@@ -13,7 +13,7 @@ abbrev behind : List ℕ → List ℕ
 behind [] = []
 behind (byte ∷ bytes) = bytes
 
--- what stands behind the parameters of a procedure begins with `-` or `)`
+-- what stands after the parameters of a procedure begins with `-` or `)`
 abbrev EndsParameters : List ℕ → Type 0
 EndsParameters bytes = (first bytes ≡ 45) ⊎ (first bytes ≡ 41)
 
@@ -46,7 +46,7 @@ results_apart g h xs ys types e =
     let told = types (41 ∷ xs) (41 ∷ ys) (ap behind (ap behind e)) in
     record { same = told.same; rest = ap behind told.rest }
 
--- the texts of the parts of a procedure type behind `proc(`, joined the other way round
+-- the texts of the parts of a procedure type after `proc(`, joined the other way round
 procedure_text : (ps : TyViews) (g : TyView) (xs : List ℕ) → (parameters_text ps ++ (result_text g (type_text g) ++ 41 ∷ [])) ++ xs ≡ parameters_text ps ++ (result_text g (type_text g) ++ (41 ∷ xs))
 procedure_text ps g xs = append_assoc (parameters_text ps) (result_text g (type_text g) ++ 41 ∷ []) xs ∙ ap (λ l. parameters_text ps ++ l) (append_assoc (result_text g (type_text g)) (41 ∷ []) xs)
 
@@ -102,7 +102,7 @@ mutual
 pub same_type_text : (a b : TyView) → type_text a ≡ type_text b → a ≡ b
 same_type_text a b e = (types_apart a b [] [] (append-nil (type_text a) ∙ e ∙ sym (append-nil (type_text b)))).same
 
--- what stands behind a name doesn't begin with a byte of a name
+-- what stands after a name doesn't begin with a byte of a name
 abbrev EndsName : List ℕ → Type 0
 EndsName bytes = is_name_byte (first bytes) ≡ true → ⊥
 

@@ -1,4 +1,4 @@
--- One parameter or field more behind those that were put.
+-- One parameter or field more after those that were put.
 use Rattle.std.proofs.Common.{◌≡◌, ℕ, zero, suc, ◌+◌, ◌<◌, List, [], ◌∷◌, ◌++◌, length, take, slice_index_or, Result, Ok, Err, OnOk, refl, sym, ap, ◌∙◌, append_assoc, append-nil, arith}
 use Rattle.std.specs.Prelude.{codes}
 use Rattle.std.proofs.lemmas.List.{take_more}
@@ -43,7 +43,7 @@ one_parameter place d types old before middle after inside b m a =
     ∙ append_assoc old (parameters_text ps) (comma_at place ++ type_text t)
     ∙ ap (λ l. old ++ l) (sym whole)
 
--- what is put behind what was put before is put behind what stood there at first
+-- what is put after what was put before is put after what stood there at first
 pub behind : {E : Type 0} (r : Result (Unit {0}) E)
     (old before after text : List ℕ) {rest here : List ℕ}
     → before ++ rest ≡ old ++ text → rest ≡ here → OnOk r (after ≡ before ++ here) → OnOk r (after ≡ old ++ text)

@@ -1,3 +1,4 @@
 pub mod Texts
 pub mod Members
 pub mod inside
+pub use Rattle.ps_base.specs as ps_base

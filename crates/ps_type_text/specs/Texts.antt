@@ -5,7 +5,7 @@ use Rattle.std.specs.List.{AllByRecursion}
 use Rattle.ps_base.specs.TyView.{TyView, TyViews, none, more}
 use Rattle.ps_base.specs.TyView as ty
 
--- what a procedure gives, behind its parameters: an arrow and the type, and nothing where it gives nothing
+-- what a procedure gives, after its parameters: an arrow and the type, and nothing where it gives nothing
 abbrev pub result_text : TyView → List ℕ → List ℕ
 result_text ty.Void text = []
 result_text _ text = codes "->" ++ text

@@ -18,7 +18,7 @@ pub fn type_text(alloc: Global, ty: &Ty) -> Result<Bytes, AllocError>
     Ok(Bytes::new(made))
 }
 
-/// Puts the text of a type behind some bytes. Vectors of vectors have no limit, so their elements
+/// Puts the text of a type after some bytes. Vectors of vectors have no limit, so their elements
 /// are reached by a loop.
 #[cycle(putting)]
 pub(crate) fn put_type(ty: &Ty, into: &mut Vec<u8>) -> Result<(), AllocError>

@@ -1,17 +1,18 @@
 -- The check of a clause changes none of the names and fields of the blocks around.
 use Rattle.std.proofs.Common.{◌≡◌, ℕ, Bool, true, false, List, [], ◌∷◌, refl, ◌∙◌, subst}
 use Rattle.std.specs.Prelude.{Option, Some, None, if◌then◌else◌, nat_lt, nat_eq, ◌+◌, length, pos}
-use Rattle.ps_base.specs.TyView.{TyView, TyViews}
-use Rattle.ps_base.specs.TyView as types
-use Rattle.ps_base.specs.declared.line.Line.{Line}
+use Rattle.ps_tree.specs.ps_base.Limits.{most_fields}
+use Rattle.ps_tree.specs.ps_base.TyView.{TyView, TyViews}
+use Rattle.ps_tree.specs.ps_base.TyView as types
+use Rattle.ps_tree.specs.ps_base.declared.line.Line.{Line}
 use Rattle.ps_tree.specs.Phrase.{NameAt, GroupAt, Phrase, at, Form, Phrases, none, more, MaybePhrase, absent, present, Arm, arm, Arms, no_arms, more_arms, WriteItem, item, WriteItems, no_items, more_items}
 use Rattle.ps_tree.specs.Phrase as form
 use Rattle.ps_program.specs.Node.{Param, Node, Nodes, body}
 use Rattle.ps_program.specs.Node as node
 use Rattle.ps_typing.specs.Names.{plain, scan, Meaning, local, class, library, Names, FieldOf, meant, field_meant, is_declared, is_field_declared, declare_local}
-use Rattle.ps_typing.specs.Checking.{Outcome, Gives, Refuses, ◌>>=◌, passes, line_of, name_in, introduced, types_of, with_fields, structure, most, used, with_params, is_of, assigned, field_at, field, field_name, Checker, like, check_each, check_args, count_types, with_args, elements, value_applied, scan_applied, name_applied, applied, literal, named_literal, first_type, check, check_form, checkers, check_if_any, check_arms, check_all, check_written}
+use Rattle.ps_typing.specs.Checking.{Outcome, Gives, Refuses, ◌>>=◌, passes, line_of, name_in, introduced, types_of, with_fields, structure, used, with_params, is_of, assigned, field_at, field, field_name, Checker, like, check_each, check_args, count_types, with_args, elements, value_applied, scan_applied, name_applied, applied, literal, named_literal, first_type, check, check_form, checkers, check_if_any, check_arms, check_all, check_written}
 
--- behind it the names and fields around are the same
+-- after it the names and fields around are the same
 pub record Same (before after : Names) : Type 0 where
   pub around : after.around ≡ before.around
   pub fields_around : after.fields_around ≡ before.fields_around
@@ -46,7 +47,7 @@ unfolding ◌>>=◌
 next (Gives of ty names) k h after = from (k of ty names) h.same.around h.same.fields_around (after of ty names)
 next (Refuses fault) k h after = refuses
 
--- what follows is behind the block
+-- what follows is after the block
 closed : {A B : Type 0} {before : Names} (o : Outcome A) (k : A → TyView → Names → Outcome B) →
     ((of : A) (ty : TyView) (names : Names) → Keeps before (k of ty names)) → Keeps before (o >>= k)
 unfolding ◌>>=◌
@@ -79,7 +80,7 @@ keeps_with_fields names text index (group ∷ groups) =
 
 keeps_structure : (names : Names) (line : Line) (name : NameAt) (fields : List GroupAt) → Keeps names (structure names line name fields)
 keeps_structure names line name fields =
-    either (nat_lt most (length fields)) _ _ refuses (either (is_declared names name.name) _ _ refuses (from _ refl refl (keeps_with_fields _ _ 0 fields)))
+    either (nat_lt most_fields (length fields)) _ _ refuses (either (is_declared names name.name) _ _ refuses (from _ refl refl (keeps_with_fields _ _ 0 fields)))
 
 keeps_used : (line : Line) (names : Names) (meaning : Option Meaning) → Keeps names (used line names meaning)
 keeps_used line names (Some (local number ty variable)) = gives

@@ -1,7 +1,7 @@
 -- How many locals worked clauses take on each stack.
 use Rattle.std.proofs.Common.{◌≡◌, refl, ℕ, pos, None, true, false}
-use Rattle.ps_base.specs.TyView as types
-use Rattle.ps_base.specs.declared.line.Line.{Line}
+use Rattle.ps_tree.specs.ps_base.TyView as types
+use Rattle.ps_tree.specs.ps_base.declared.line.Line.{Line}
 use Rattle.ps_program.specs.declared.place.Place.TheVariants.{Plain}
 use Rattle.ps_program.specs.Node.{Node}
 use Rattle.ps_program.specs.Node as node

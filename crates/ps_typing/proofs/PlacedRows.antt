@@ -1,9 +1,9 @@
 -- The places of worked programs.
 use Rattle.std.proofs.Common.{◌≡◌, refl, ℕ, pos, List, [], ◌∷◌, None, Some}
 use Rattle.std.specs.Prelude.{codes}
-use Rattle.ps_base.specs.TyView.{TyView}
-use Rattle.ps_base.specs.TyView as ty
-use Rattle.ps_base.specs.declared.line.Line.{Line}
+use Rattle.ps_tree.specs.ps_base.TyView.{TyView}
+use Rattle.ps_tree.specs.ps_base.TyView as ty
+use Rattle.ps_tree.specs.ps_base.declared.line.Line.{Line}
 use Rattle.ps_program.specs.declared.place.Place.TheVariants.{Plain, Kept}
 use Rattle.ps_program.specs.Node.{Node, Nodes, none, more, BodyNode, body}
 use Rattle.ps_program.specs.Node as node
@@ -19,7 +19,7 @@ procedure = ty.Proc ty.none ty.Void
 abbrev name : TyView → List ℕ → Field
 name t n = record { ty = t; name = n }
 
--- `let a = 1; let s = "x"; for i = 1 to 2 do a`: a name on each stack, and the control behind the loop's three locals
+-- `let a = 1; let s = "x"; for i = 1 to 2 do a`: a name on each stack, and the control after the loop's three locals
 counted : placed_program (name ty.Int (codes "a") ∷ name ty.Str (codes "s") ∷ name ty.Int (codes "i") ∷ [])
     (body [] ty.Void (node.Block None (more (node.Let (Plain 0) ty.Int (node.Int (pos 1))) (more (node.Let (Plain 1) ty.Str (node.Text (codes "x"))) (more (node.For 0 (node.Int (pos 1)) (node.Int (pos 2)) (node.Int (pos 1)) None (Plain 2) (node.Name (Plain 0) ty.Int) one) none)))) None one)
     ≡ body [] ty.Void (node.Block None (more (node.Let (Plain 0) ty.Int (node.Int (pos 1))) (more (node.Let (Plain 0) ty.Str (node.Text (codes "x"))) (more (node.For 1 (node.Int (pos 1)) (node.Int (pos 2)) (node.Int (pos 1)) None (Plain 4) (node.Name (Plain 0) ty.Int) one) none)))) None one

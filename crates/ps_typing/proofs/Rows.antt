@@ -1,10 +1,10 @@
 -- The programs, or the first faults, of worked trees.
 use Rattle.std.proofs.Common.{◌≡◌, refl, ℕ, pos, List, [], ◌∷◌, None, Some, false, true}
 use Rattle.std.specs.Prelude.{codes, replicate}
-use Rattle.ps_base.specs.TyView.{TyView}
-use Rattle.ps_base.specs.TyView as types
-use Rattle.ps_base.specs.declared.line.Line.{Line}
-use Rattle.ps_base.specs.declared.operator.Operator.TheVariants.{Add}
+use Rattle.ps_tree.specs.ps_base.TyView.{TyView}
+use Rattle.ps_tree.specs.ps_base.TyView as types
+use Rattle.ps_tree.specs.ps_base.declared.line.Line.{Line}
+use Rattle.ps_tree.specs.ps_base.declared.operator.Operator.TheVariants.{Add}
 use Rattle.ps_tree.specs.Phrase.{NameAt, GroupAt, Phrase, at, Form, Phrases, none, more, absent, present, item, no_items, more_items}
 use Rattle.ps_tree.specs.Phrase as form
 use Rattle.ps_program.specs.declared.place.Place.TheVariants.{Plain, Kept}

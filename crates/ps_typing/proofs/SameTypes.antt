@@ -1,7 +1,7 @@
 -- The test of two types decides whether they are the same.
 use Rattle.std.proofs.Common.{◌≡◌, Bool, true, false, ◌&&◌, refl, sym, ap, ◌∙◌}
-use Rattle.ps_base.specs.TyView.{TyView, TyViews}
-use Rattle.ps_base.specs.TyView as types
+use Rattle.ps_tree.specs.ps_base.TyView.{TyView, TyViews}
+use Rattle.ps_tree.specs.ps_base.TyView as types
 use Rattle.ps_typing.specs.Checking.{is_same, are_same}
 
 both : (a b : Bool) → (a && b) ≡ true → (a ≡ true) × (b ≡ true)

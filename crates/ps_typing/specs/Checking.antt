@@ -1,11 +1,12 @@
 -- The typing rules: the typed tree of a clause, or its first fault in the order of the text. A name is a plain place with its
 -- number. The rules stand in the order of the table of the language reference.
 use Rattle.std.specs.Prelude.{ℕ, pos, ◌+◌, Bool, true, false, ◌&&◌, Option, Some, None, List, [], ◌∷◌, ◌++◌, map, length, nat_lt, nat_eq, if◌then◌else◌}
-use Rattle.ps_base.specs.TyView.{TyView, TyViews}
-use Rattle.ps_base.specs.TyView as types
-use Rattle.ps_base.specs.declared.line.Line.{Line}
-use Rattle.ps_base.specs.declared.operator.Relation.{Relation}
-use Rattle.ps_base.specs.declared.operator.Relation.TheVariants.{Equal, NotEqual}
+use Rattle.ps_tree.specs.ps_base.Limits.{most_fields, most_parameters}
+use Rattle.ps_tree.specs.ps_base.TyView.{TyView, TyViews}
+use Rattle.ps_tree.specs.ps_base.TyView as types
+use Rattle.ps_tree.specs.ps_base.declared.line.Line.{Line}
+use Rattle.ps_tree.specs.ps_base.declared.operator.Relation.{Relation}
+use Rattle.ps_tree.specs.ps_base.declared.operator.Relation.TheVariants.{Equal, NotEqual}
 use Rattle.ps_tree.specs.Phrase.{NameAt, GroupAt, Phrase, at, Form, Phrases, none, more, MaybePhrase, absent, present, Arm, arm, Arms, no_arms, more_arms, WriteItem, item, WriteItems, no_items, more_items}
 use Rattle.ps_tree.specs.Phrase as form
 use Rattle.ps_program.specs.declared.place.Place.TheVariants.{Plain}
@@ -17,7 +18,7 @@ use Rattle.ps_typing.specs.Fault.{Fault, Unknown, Twice, Mismatch, NotAssignable
 use Rattle.ps_typing.specs.Names.{plain, scan, Meaning, local, class, library, Names, FieldOf, meant, field_meant, is_declared, is_field_declared, declare, declare_local, declare_field, inside, behind}
 use Rattle.ps_typing.specs.Library.{caller}
 
--- What the check of something gives: it, its type, and the names behind it; or the first fault.
+-- What the check of something gives: it, its type, and the names after it; or the first fault.
 pub data Outcome (A : Type 0) : Type 0 where
   Gives : (of : A) (ty : TyView) (names : Names) → Outcome A
   Refuses : (fault : Fault) → Outcome A
@@ -94,10 +95,6 @@ passes test wanted line (Refuses fault) = Refuses fault
 abbrev pub wants : TyView → Line → Outcome Node → Outcome Node
 wants wanted line clause = passes (λ found. is_same found wanted) wanted line clause
 
--- the most fields and parameters
-abbrev pub most : ℕ
-most = 64
-
 -- `let x = e`: the name is in scope from here on
 abbrev pub introduced : NameAt → Bool → Node → TyView → Names → Outcome Node
 introduced name variable e ty names =
@@ -120,7 +117,7 @@ with_fields names text index (group ∷ groups) =
 
 abbrev pub structure : Names → Line → NameAt → List GroupAt → Outcome Node
 structure names line name fields =
-    if nat_lt most (length fields) then Refuses (Limit line (length fields))
+    if nat_lt most_fields (length fields) then Refuses (Limit line (length fields))
     else (if is_declared names name.name then Refuses (Twice name.line)
     else (let text = class_text name.name (map field_of fields) in
     with_fields (declare names name.name (class text (types_of fields))) text 0 fields))
@@ -141,7 +138,7 @@ with_params names made (group ∷ groups) =
 
 abbrev pub parameters : Names → Line → List GroupAt → Outcome (List Param)
 parameters names line params =
-    if nat_lt most (length params) then Refuses (Limit line (length params)) else with_params (inside names) [] params
+    if nat_lt most_parameters (length params) then Refuses (Limit line (length params)) else with_params (inside names) [] params
 
 -- `e is c`, `e isnt c`
 abbrev pub is_of : NameAt → Bool → Node → Names → Option Meaning → Outcome Node
@@ -391,7 +388,7 @@ abbrev mutual
       like given (line_of a) (check names a) >>= λ a own names.
       check_arms names t (Some own) rest >>= λ rest last names. Gives (node.more_arms (node.arm labels a) rest) own names
 
-  -- The items of a sequence, behind an item on this line of this type: each but the last is void.
+  -- The items of a sequence, after an item on this line of this type: each but the last is void.
   pub check_all : Names → Line → TyView → Phrases → Outcome Nodes
   check_all names line before none = Gives node.none before names
   check_all names line before (more clause rest) =

@@ -1,7 +1,7 @@
 -- Why a tree is no program.
 use Rattle.std.specs.Prelude.{ℕ}
-use Rattle.ps_base.specs.TyView.{TyView}
-use Rattle.ps_base.specs.declared.line.Line.{Line}
+use Rattle.ps_tree.specs.ps_base.TyView.{TyView}
+use Rattle.ps_tree.specs.ps_base.declared.line.Line.{Line}
 
 pub data Fault : Type 0 where
   -- a name, a class or a field isn't in scope

@@ -1,7 +1,7 @@
 -- The library: the names that are declared in a block round the program, which a program may declare anew.
 use Rattle.std.specs.Prelude.{ℕ, List, [], ◌∷◌, true, false, codes}
-use Rattle.ps_base.specs.TyView.{TyView, TyViews, none, more}
-use Rattle.ps_base.specs.TyView as ty
+use Rattle.ps_tree.specs.ps_base.TyView.{TyView, TyViews, none, more}
+use Rattle.ps_tree.specs.ps_base.TyView as ty
 use Rattle.ps_type_text.specs.Texts.{Field, class_text}
 use Rattle.ps_typing.specs.Names.{plain, scan, library, class, Declared, FieldOf, Names}
 

@@ -1,7 +1,7 @@
 -- How many locals a body has on each stack.
 use Rattle.std.specs.Prelude.{ℕ, ◌+◌, Bool, true, false, List, [], ◌∷◌, if◌then◌else◌}
-use Rattle.ps_base.specs.TyView.{TyView}
-use Rattle.ps_base.specs.TyView as types
+use Rattle.ps_tree.specs.ps_base.TyView.{TyView}
+use Rattle.ps_tree.specs.ps_base.TyView as types
 use Rattle.ps_program.specs.declared.place.Place.{Place}
 use Rattle.ps_program.specs.declared.place.Place.TheVariants.{Plain, Kept}
 use Rattle.ps_program.specs.Node.{Param, Node, BodyNode, body}

@@ -1,7 +1,7 @@
 -- What is in scope at a place of a program: names, and names of fields, which have a space of their own.
 use Rattle.std.specs.Prelude.{ℕ, Bool, Option, Some, None, List, [], ◌∷◌, ◌++◌, length, is_some, if◌then◌else◌}
 use Rattle.std.specs.Str.{bytes_eq}
-use Rattle.ps_base.specs.TyView.{TyView, TyViews}
+use Rattle.ps_tree.specs.ps_base.TyView.{TyView, TyViews}
 use Rattle.ps_type_text.specs.Texts.{Field}
 
 -- A library procedure: a plain one has a number, parameters and a result; a scan goes over a table with string keys or int keys.

@@ -1,13 +1,13 @@
 -- A clause in which each name has its place, each loop and each scan its locals, and each scope its text.
 use Rattle.std.specs.Prelude.{◌+◌, List, [], ◌∷◌, map}
-use Rattle.ps_base.specs.TyView as ty
+use Rattle.ps_tree.specs.ps_base.TyView as ty
 use Rattle.ps_program.specs.Node.{Param, Node, Nodes, none, more, Arm, arm, Arms, no_arms, more_arms, BodyNode, body}
 use Rattle.ps_program.specs.Node as node
 use Rattle.ps_type_text.specs.Texts.{Field}
 use Rattle.ps_typing.specs.Mentions.{number_of, numbers, kept_names, common}
 use Rattle.ps_typing.specs.Placing.{Locals, Around, with_name, with_declared, place_of, scope_text, inside, declared}
 
--- what has its places, and the locals behind it
+-- what has its places, and the locals after it
 pub record Given (A : Type 0) : Type 0 where
   pub of : A
   pub locals : Locals
@@ -143,7 +143,7 @@ abbrev mutual
       placed around l1 a >>= λ a l2.
       then_give (more_arms (arm labels a)) (placed_arms around l2 rest)
 
-  -- A body has locals of its own, and a scope where it keeps parameters. Behind a literal the locals are those before it.
+  -- A body has locals of its own, and a scope where it keeps parameters. After a literal the locals are those before it.
   pub placed_literal : Around → Locals → BodyNode → Given BodyNode
   placed_literal around locals (body params gives_ tree scope line) =
       let kept = common (numbers params) around.kept in

@@ -1,7 +1,7 @@
 -- Where the names of a body are kept.
 use Rattle.std.specs.Prelude.{ℕ, ◌+◌, nat_eq, Bool, true, false, List, [], ◌∷◌, map, codes, slice_get, Option, Some, None, if◌then◌else◌}
-use Rattle.ps_base.specs.TyView.{TyView}
-use Rattle.ps_base.specs.TyView as ty
+use Rattle.ps_tree.specs.ps_base.TyView.{TyView}
+use Rattle.ps_tree.specs.ps_base.TyView as ty
 use Rattle.ps_program.specs.declared.place.Place.{Place}
 use Rattle.ps_program.specs.declared.place.Place.TheVariants.{Plain, Kept}
 use Rattle.ps_program.specs.Node.{Node, Nodes, none, more}

@@ -1,7 +1,8 @@
 -- The program that a tree of the grammar is, or its first fault.
 use Rattle.std.specs.Prelude.{ℕ, nat_lt, Option, Some, None, List, [], ◌∷◌, ◌++◌, if◌then◌else◌}
-use Rattle.ps_base.specs.TyView as ty
-use Rattle.ps_base.specs.declared.line.Line.{Line}
+pub use Rattle.ps_tree.specs.ps_base.Limits.{most_slots}
+use Rattle.ps_tree.specs.ps_base.TyView as ty
+use Rattle.ps_tree.specs.ps_base.declared.line.Line.{Line}
 use Rattle.ps_tree.specs.Phrase.{Phrase, at, Phrases, none, more}
 use Rattle.ps_tree.specs.Phrase as form
 use Rattle.ps_program.specs.Node.{Node, BodyNode, body}
@@ -12,10 +13,6 @@ use Rattle.ps_typing.specs.Placed.{placed_program}
 use Rattle.ps_typing.specs.Fault.{Fault, TooComplex}
 use Rattle.ps_typing.specs.Library.{library_names}
 use Rattle.ps_typing.specs.Checking.{Outcome, Gives, Refuses, check, wants, line_of}
-
--- the most slots of a body
-abbrev pub most_slots : ℕ
-most_slots = 512
 
 abbrev pub bodies_of : List (Part (List BodyNode)) → List BodyNode
 bodies_of [] = []

@@ -1,11 +1,11 @@
 -- Which programs are well typed: each clause has the type that its rule says, each place is that of a name in scope, each name
 -- that is declared takes the next slot of its stack or the next field of its scope, and each scope has its text.
 use Rattle.std.specs.Prelude.{◌≡◌, ℕ, ◌+◌, ◌⊎◌, Bool, true, false, Option, Some, None, List, [], ◌∷◌, ◌++◌, length, codes, if◌then◌else◌}
-use Rattle.ps_base.specs.TyView.{TyView, TyViews}
-use Rattle.ps_base.specs.TyView as types
-use Rattle.ps_base.specs.declared.line.Line.{Line}
-use Rattle.ps_base.specs.declared.operator.Operator.{Operator}
-use Rattle.ps_base.specs.declared.operator.Relation.{Relation}
+use Rattle.ps_tree.specs.ps_base.TyView.{TyView, TyViews}
+use Rattle.ps_tree.specs.ps_base.TyView as types
+use Rattle.ps_tree.specs.ps_base.declared.line.Line.{Line}
+use Rattle.ps_tree.specs.ps_base.declared.operator.Operator.{Operator}
+use Rattle.ps_tree.specs.ps_base.declared.operator.Relation.{Relation}
 use Rattle.ps_program.specs.declared.place.Place.{Place}
 use Rattle.ps_program.specs.declared.place.Place.TheVariants.{Plain, Kept}
 use Rattle.ps_program.specs.Node.{Param, Node, Nodes, none, more, Arms, no_arms, more_arms, arm, BodyNode, body}
@@ -164,7 +164,7 @@ pub data Opens : Option (List ℕ) → List (List Field) → List (List Field) �
   scoped : {around : List (List Field)} {first : Field} {rest : List Field} →
       Opens (Some (class_text (codes "scope") (first ∷ rest))) around ([] ∷ around) ((first ∷ rest) ∷ around)
 
--- A name that is declared at this place: the next slot of its stack, or the next field of the innermost scope. Behind it the
+-- A name that is declared at this place: the next slot of its stack, or the next field of the innermost scope. After it the
 -- name is in scope.
 pub data Declares : Env → Free → Place → TyView → Env → Free → Type 0 where
   as_local : {env : Env} {free : Free} {slot : ℕ} {ty : TyView} → slot ≡ next_slot ty free →
@@ -195,7 +195,7 @@ abbrev pub behind_scan : Free → Free
 behind_scan free = record { nums = free.nums + 3; refs = free.refs + 3 }
 
 mutual
-  -- a clause with what is in scope, and the free slots before it and behind it
+  -- a clause with what is in scope, and the free slots before it and after it
   pub data IsTyped : Env → Free → Node → TyView → Free → Type 0 where
     by_rule : {env : Env} {free free' : Free} {clause : Node} {claims : List Claim} {ty : TyView} → Rule clause claims ty →
         AreTyped env free claims free' → IsTyped env free clause ty free'
@@ -225,8 +225,8 @@ mutual
     one_more : {env : Env} {free between free' : Free} {clause : Node} {ty : TyView} {rest : List Claim} →
         IsTyped env free clause ty between → AreTyped env between rest free' → AreTyped env free (clause has ty ∷ rest) free'
 
-  -- The items of a sequence behind an item of this type, and what is in scope at the end: each but the last is void. The name of
-  -- a literal is in scope inside it, any other name behind its initial clause.
+  -- The items of a sequence after an item of this type, and what is in scope at the end: each but the last is void. The name of
+  -- a literal is in scope inside it, any other name after its initial clause.
   pub data AreItems : Env → Free → TyView → Nodes → TyView → Env → Free → Type 0 where
     at_end : {env : Env} {free : Free} {ty : TyView} → AreItems env free ty none ty env free
     a_clause : {env last : Env} {free between free' : Free} {item : Node} {rest : Nodes} {of ty : TyView} →

@@ -1,7 +1,7 @@
 //! What is so of every tree, whatever a checker does.
 
 ghost use Rattle.std.specs.Prelude.{◌≡◌, ◌↔◌, true};
-ghost use Rattle.ps_base.specs.TyView.{TyView};
+ghost use Rattle.ps_tree.specs.ps_base.TyView.{TyView};
 ghost use Rattle.ps_tree.specs.Phrase.{Phrase};
 ghost use Rattle.ps_program.specs.Node.{BodyNode};
 ghost use Rattle.ps_typing.specs.Fault.{Fault};

@@ -7,19 +7,20 @@ use Rattle.std.proofs.Math.Seq.{get_or-append_seam}
 use Rattle.std.proofs.lemmas.Option.{slice_get_read}
 use Rattle.std.proofs.lemmas.Bool.{eqb-true}
 use Rattle.std.proofs.lemmas.List.{append_assoc, append-nil, length-append}
-use Rattle.ps_base.specs.TyView.{TyView, TyViews}
-use Rattle.ps_base.specs.TyView as types
-use Rattle.ps_base.specs.declared.line.Line.{Line}
-use Rattle.ps_tree.specs.Phrase.{NameAt, GroupAt, Phrase, at, Form, Phrases, none, more, MaybePhrase, absent, present, Arm, arm, Arms, no_arms, more_arms, WriteItem, item, WriteItems, no_items, more_items}
-use Rattle.ps_tree.specs.Phrase as form
-use Rattle.ps_program.specs.declared.place.Place.{Place}
-use Rattle.ps_program.specs.declared.place.Place.TheVariants.{Plain}
-use Rattle.ps_program.specs.Assigning.{assignment}
-use Rattle.ps_program.specs.Node.{Param, Node, Nodes, BodyNode, body}
-use Rattle.ps_program.specs.Node as node
-use Rattle.ps_type_text.specs.Texts.{Field, class_text}
+use Rattle.ps_typing.specs.ps_base.Limits.{most_fields, most_parameters}
+use Rattle.ps_typing.specs.ps_base.TyView.{TyView, TyViews}
+use Rattle.ps_typing.specs.ps_base.TyView as types
+use Rattle.ps_typing.specs.ps_base.declared.line.Line.{Line}
+use Rattle.ps_typing.specs.ps_tree.Phrase.{NameAt, GroupAt, Phrase, at, Form, Phrases, none, more, MaybePhrase, absent, present, Arm, arm, Arms, no_arms, more_arms, WriteItem, item, WriteItems, no_items, more_items}
+use Rattle.ps_typing.specs.ps_tree.Phrase as form
+use Rattle.ps_typing.specs.ps_program.declared.place.Place.{Place}
+use Rattle.ps_typing.specs.ps_program.declared.place.Place.TheVariants.{Plain}
+use Rattle.ps_typing.specs.ps_program.Assigning.{assignment}
+use Rattle.ps_typing.specs.ps_program.Node.{Param, Node, Nodes, BodyNode, body}
+use Rattle.ps_typing.specs.ps_program.Node as node
+use Rattle.ps_typing.specs.ps_type_text.Texts.{Field, class_text}
 use Rattle.ps_typing.specs.Names.{plain, scan, Meaning, local, class, library, Names, Declared, FieldOf, lookup, lookup_field, meant, field_meant, is_declared, is_field_declared, declare, declare_local, declare_field, inside, behind}
-use Rattle.ps_typing.specs.Checking.{Outcome, Gives, Refuses, ◌>>=◌, passes, wants, is_same, is_vector, is_equated, is_writable, is_comparable, isnt_void, is_present, line_of, name_in, introduced, types_of, field_of, with_fields, structure, most, used, with_params, parameters, is_of, assigned, field_at, field, field_name, together, Checker, like, check_each, check_args, count_types, with_args, elements, value_applied, scan_applied, name_applied, applied, literal, named_literal, first_type, check, check_form, checkers, check_if_any, check_arms, check_all, check_written}
+use Rattle.ps_typing.specs.Checking.{Outcome, Gives, Refuses, ◌>>=◌, passes, wants, is_same, is_vector, is_equated, is_writable, is_comparable, isnt_void, is_present, line_of, name_in, introduced, types_of, field_of, with_fields, structure, used, with_params, parameters, is_of, assigned, field_at, field, field_name, together, Checker, like, check_each, check_args, count_types, with_args, elements, value_applied, scan_applied, name_applied, applied, literal, named_literal, first_type, check, check_form, checkers, check_if_any, check_arms, check_all, check_written}
 use Rattle.ps_typing.specs.Placing.{field_at as name_at}
 use Rattle.ps_typing.specs.Items.{LetsStand, LetsStandIn, LetsStandInAll, LetsStandInMaybe, LetsStandInArms, LetsStandInWritten}
 use Rattle.ps_typing.specs.WellTyped.{At, Some_is, IsOfType, IsClass, IsField, IsLibrary, types_of_fields, types_of_params, Claim, ◌has◌, all_have, arms_have, Arguments, Rule}
@@ -199,7 +200,7 @@ vector_of : (ty : TyView) → is_vector ty ≡ true → (element : TyView) × (t
 vector_of (types.Vector element) h = (element, refl)
 vector_of ty h = absurd cc
 
--- a lookup in a list with one more in front
+-- a lookup in a list with one more at the start
 pub lookup_more : (P : Meaning → Type 0) (d : Declared) (ds : List Declared) (name : List ℕ) (meaning : Meaning) → P d.meaning →
     (lookup ds name ≡ Some meaning → P meaning) → lookup (d ∷ ds) name ≡ Some meaning → P meaning
 lookup_more P d ds name meaning here there is =
@@ -310,7 +311,7 @@ sound_with_fields names text index (group ∷ groups) h =
 sound_structure : (names : Names) (line : Line) (name : NameAt) (fields : List GroupAt) → Sound Is names (structure names line name fields)
 sound_structure names line name fields =
     let text = class_text name.name (map field_of fields) in
-    by_test (Sound Is names) (nat_lt most (length fields)) _ _ (λ many. refuses) (λ few.
+    by_test (Sound Is names) (nat_lt most_fields (length fields)) _ _ (λ many. refuses) (λ few.
     by_test (Sound Is names) (is_declared names name.name) _ _ (λ twice. refuses) (λ once.
     moved names _ _ refl (λ scope depth k. known_class scope depth names name.name text (types_of fields)
     (name.name, map field_of fields, refl, field_types fields) k)
@@ -513,7 +514,7 @@ sound_params names made (group ∷ groups) =
     (λ once. one_param_more names made group groups _ (sound_params _ _ groups))
 
 sound_parameters : (names : Names) (line : Line) (groups : List GroupAt) → SoundParams (inside names) [] groups (parameters names line groups)
-sound_parameters names line groups = by_test (SoundParams (inside names) [] groups) (nat_lt most (length groups)) _ _ (λ many. record { fine = tt })
+sound_parameters names line groups = by_test (SoundParams (inside names) [] groups) (nat_lt most_parameters (length groups)) _ _ (λ many. record { fine = tt })
     (λ few. sound_params (inside names) [] groups)
 
 next_params : {B : Type 0} {Q : List Field → List Entry → ℕ → ℕ → B → TyView → ℕ → Type 0} {s s' : Names} {groups : List GroupAt}
@@ -599,7 +600,7 @@ sound_assigned line e_line can (node.Field p of index t l) e wanted_ found s n n
     sound_target line e_line can _ wanted_ found s n names _ e f g (λ all scope depth i m j x y. set_field_numbered x y)
 sound_assigned line e_line can other e wanted_ found s n names f g = no_target line e_line can wanted_ found s names
 
--- an item of a sequence: what is known behind it, and how it stands before the others
+-- an item of a sequence: what is known after it, and how it stands before the others
 record FineItem (before : Names) (tree : Node) (ty : TyView) (after : Names) : Type 0 where
   pub grown : Extends before.all after.all
   pub typed : (all : List Field) (scope : List Entry) (depth : ℕ) → Extends after.all all → Known scope depth before →
@@ -715,7 +716,7 @@ sound_named_literal names name variable line groups ty s_line check_s h =
 abbrev Items : TyView → List Field → List Entry → ℕ → ℕ → Nodes → TyView → ℕ → Type 0
 Items before all scope depth n trees ty m = ItemsNumbered all scope depth n before trees ty m
 
--- items behind an item, of which nothing is known at the end
+-- items after an item, of which nothing is known at the end
 record FineItems (before : Names) (of : TyView) (trees : Nodes) (ty : TyView) (after : Names) : Type 0 where
   pub grown : Extends before.all after.all
   pub typed : (all : List Field) (scope : List Entry) (depth : ℕ) → Extends after.all all → Known scope depth before →

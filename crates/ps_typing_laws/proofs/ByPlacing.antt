@@ -3,15 +3,15 @@ use Rattle.std.proofs.Common.{◌≡◌, ℕ, ◌+◌, ◌≤◌, ◌<◌, Bool,
 use Rattle.std.specs.Prelude.{Some, None, nat_lt, map, length}
 use Rattle.std.proofs.lemmas.Bool.{ltb-true, ltb-false}
 use Rattle.std.proofs.lemmas.List.{append_assoc, append-nil, map-append, length-map}
-use Rattle.ps_base.specs.TyView.{TyView, TyViews}
-use Rattle.ps_base.specs.TyView as types
-use Rattle.ps_program.specs.declared.place.Place.{Place}
-use Rattle.ps_program.specs.declared.place.Place.TheVariants.{Plain, Kept}
-use Rattle.ps_program.specs.Node.{Param, Node, Nodes, none, more, BodyNode, body}
-use Rattle.ps_program.specs.Node as node
-use Rattle.ps_program.specs.Parts.{branch}
-use Rattle.ps_program.specs.inside.Listed.{parts_all}
-use Rattle.ps_type_text.specs.Texts.{Field}
+use Rattle.ps_typing.specs.ps_base.TyView.{TyView, TyViews}
+use Rattle.ps_typing.specs.ps_base.TyView as types
+use Rattle.ps_typing.specs.ps_program.declared.place.Place.{Place}
+use Rattle.ps_typing.specs.ps_program.declared.place.Place.TheVariants.{Plain, Kept}
+use Rattle.ps_typing.specs.ps_program.Node.{Param, Node, Nodes, none, more, BodyNode, body}
+use Rattle.ps_typing.specs.ps_program.Node as node
+use Rattle.ps_typing.specs.ps_program.Parts.{branch}
+use Rattle.ps_typing.specs.ps_program.inside.Listed.{parts_all}
+use Rattle.ps_typing.specs.ps_type_text.Texts.{Field}
 use Rattle.ps_typing.specs.Mentions.{Seen, seen, own_mention, own_declared, is_among, common, kept_of, number_of, numbers}
 use Rattle.ps_typing.specs.Placing.{Locals, Around, position, local_of, found_at, with_name, with_declared, place_of, field_at, scope_text, inside}
 use Rattle.ps_typing.specs.Placing as placing
@@ -356,7 +356,7 @@ module _ (names : List Field) (kept : List ℕ) (all_mentioned all_declared : Li
     pub fields_are : last.scopes ≡ fields
     pub same : (j : ℕ) → (j < n) ⊎ (m ≤ j) → local_of out.locals.of j ≡ local_of l.of j
 
-  -- locals that are as they were behind two clauses
+  -- locals that are as they were after two clauses
   same_twice : (n k m j : ℕ) (a b c : ℕ → ℕ) → n ≤ k → k ≤ m → ((i : ℕ) → (i < n) ⊎ (k ≤ i) → b i ≡ a i) → ((i : ℕ) → (i < k) ⊎ (m ≤ i) → c i ≡ b i) →
       (j < n) ⊎ (m ≤ j) → c j ≡ a j
   same_twice n k m j a b c less later first second (inl h) = second j (inl (omega arith)) ∙ first j (inl h)

@@ -4,11 +4,11 @@ use Rattle.std.proofs.Common.{◌≡◌, ℕ, ◌+◌, ◌<◌, Bool, true, fals
 use Rattle.std.specs.Prelude.{if◌then◌else◌, map}
 use Rattle.std.proofs.lemmas.Bool.{eq-eqb, lt-ltb}
 use Rattle.std.proofs.lemmas.List.{append_assoc}
-use Rattle.ps_base.specs.TyView.{TyView}
-use Rattle.ps_program.specs.Node.{Node, Nodes, none, more, Arms, no_arms, more_arms, arm}
-use Rattle.ps_program.specs.Parts.{Part, operand, label, branch, literal, fold}
-use Rattle.ps_program.specs.inside.Listed.{parts_of, parts_all, parts_arms, part_as}
-use Rattle.ps_program.proofs.PartLemmas.{fold_parts}
+use Rattle.ps_typing.specs.ps_base.TyView.{TyView}
+use Rattle.ps_typing.specs.ps_program.Node.{Node, Nodes, none, more, Arms, no_arms, more_arms, arm}
+use Rattle.ps_typing.specs.ps_program.Parts.{Part, operand, label, branch, literal, fold}
+use Rattle.ps_typing.specs.ps_program.inside.Listed.{parts_of, parts_all, parts_arms, part_as}
+use Rattle.ps_typing.proofs.of_ps_program.PartLemmas.{fold_parts}
 use Rattle.ps_typing.specs.Mentions.{Seen, deeper, joined, own_mention, mentions, own_declared, declarations, is_mentioned_deeper, kept_of, is_among}
 use Rattle.ps_typing.specs.WellTyped.{Some_is, Claim, ◌has◌, all_have, arms_have, Arguments, Rule}
 use Rattle.ps_typing.specs.WellTyped as rule

@@ -1,13 +1,13 @@
 -- Why each `let` is to be an item of a sequence: in a tree that no grammar gives, a kept name would have no scope.
 use Rattle.std.proofs.Common.{◌≡◌, refl, pos, List, [], None, true}
 use Rattle.std.specs.Prelude.{codes, ℕ}
-use Rattle.ps_base.specs.TyView as types
-use Rattle.ps_base.specs.declared.line.Line.{Line}
-use Rattle.ps_tree.specs.Phrase.{NameAt, Phrase, at, Form, none, more}
-use Rattle.ps_tree.specs.Phrase as form
-use Rattle.ps_program.specs.declared.place.Place.TheVariants.{Plain}
-use Rattle.ps_program.specs.Node.{body}
-use Rattle.ps_program.specs.Node as node
+use Rattle.ps_typing.specs.ps_base.TyView as types
+use Rattle.ps_typing.specs.ps_base.declared.line.Line.{Line}
+use Rattle.ps_typing.specs.ps_tree.Phrase.{NameAt, Phrase, at, Form, none, more}
+use Rattle.ps_typing.specs.ps_tree.Phrase as form
+use Rattle.ps_typing.specs.ps_program.declared.place.Place.TheVariants.{Plain}
+use Rattle.ps_typing.specs.ps_program.Node.{body}
+use Rattle.ps_typing.specs.ps_program.Node as node
 use Rattle.ps_typing.specs.Placed as placed
 use Rattle.ps_typing.specs.Checking.{◌>>=◌, passes, assigned}
 use Rattle.ps_typing.specs.Program.{Typed, check_program}

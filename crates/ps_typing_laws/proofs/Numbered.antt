@@ -1,13 +1,13 @@
 -- A typed tree whose names are told by their numbers, before they have places.
 use Rattle.std.proofs.Common.{◌≡◌, ℕ, ◌+◌, ◌≤◌, Bool, true, List, [], ◌∷◌, arith}
 use Rattle.std.specs.Prelude.{None, if◌then◌else◌}
-use Rattle.ps_base.specs.TyView.{TyView}
-use Rattle.ps_base.specs.TyView as types
-use Rattle.ps_base.specs.declared.line.Line.{Line}
-use Rattle.ps_program.specs.declared.place.Place.TheVariants.{Plain}
-use Rattle.ps_program.specs.Node.{Param, Node, Nodes, none, more, BodyNode, body}
-use Rattle.ps_program.specs.Node as node
-use Rattle.ps_type_text.specs.Texts.{Field}
+use Rattle.ps_typing.specs.ps_base.TyView.{TyView}
+use Rattle.ps_typing.specs.ps_base.TyView as types
+use Rattle.ps_typing.specs.ps_base.declared.line.Line.{Line}
+use Rattle.ps_typing.specs.ps_program.declared.place.Place.TheVariants.{Plain}
+use Rattle.ps_typing.specs.ps_program.Node.{Param, Node, Nodes, none, more, BodyNode, body}
+use Rattle.ps_typing.specs.ps_program.Node as node
+use Rattle.ps_typing.specs.ps_type_text.Texts.{Field}
 use Rattle.ps_typing.specs.Checking.{isnt_void}
 use Rattle.ps_typing.specs.Library.{caller}
 use Rattle.ps_typing.specs.Placing.{field_at}
@@ -38,7 +38,7 @@ pub data Params (names : List Field) : List Entry → ℕ → ℕ → List Param
       Params names (entry n ty depth ∷ scope) depth (n + 1) rest last n' → Params names scope depth n (record { ty = ty; place = Plain n } ∷ rest) last n'
 
 mutual
-  -- a clause inside so many literals, and the next numbers before it and behind it
+  -- a clause inside so many literals, and the next numbers before it and after it
   pub data Numbered (names : List Field) : List Entry → ℕ → ℕ → Node → TyView → ℕ → Type 0 where
     by_rule : {scope : List Entry} {depth n n' : ℕ} {clause : Node} {claims : List Claim} {ty : TyView} → Rule clause claims ty →
         AllNumbered names scope depth n claims n' → Numbered names scope depth n clause ty n'

@@ -1,10 +1,10 @@
 -- A program that the rules give is well typed.
 use Rattle.std.proofs.Common.{◌≡◌, ℕ, ◌+◌, List, [], ◌∷◌, inl, inr, arith, refl, subst}
 use Rattle.std.specs.Prelude.{Option, Some, None, codes}
-use Rattle.ps_base.specs.TyView as types
-use Rattle.ps_base.specs.declared.line.Line.{Line}
-use Rattle.ps_tree.specs.Phrase.{Phrase}
-use Rattle.ps_program.specs.Node.{Node, BodyNode, body}
+use Rattle.ps_typing.specs.ps_base.TyView as types
+use Rattle.ps_typing.specs.ps_base.declared.line.Line.{Line}
+use Rattle.ps_typing.specs.ps_tree.Phrase.{Phrase}
+use Rattle.ps_typing.specs.ps_program.Node.{Node, BodyNode, body}
 use Rattle.ps_typing.specs.Names.{plain, scan, Meaning, local, class, library, Declared, FieldOf, lookup, lookup_field}
 use Rattle.ps_typing.specs.Library.{library_names, procedures, error_fields}
 use Rattle.ps_typing.specs.Mentions.{Seen, mentions, declarations, kept_of}

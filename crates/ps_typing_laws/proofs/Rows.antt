@@ -1,13 +1,13 @@
 -- Programs in which a name has its place, and the same with another place, which isn't well typed.
 use Rattle.std.proofs.Common.{◌≡◌, ℕ, ◌<◌, List, [], ◌∷◌, inl, inr, arith, refl, sym, ap, ◌∙◌, subst, pos, true, false}
 use Rattle.std.specs.Prelude.{Option, None}
-use Rattle.ps_base.specs.TyView.{TyView}
-use Rattle.ps_base.specs.TyView as types
-use Rattle.ps_base.specs.declared.line.Line.{Line}
-use Rattle.ps_program.specs.declared.place.Place.{Place}
-use Rattle.ps_program.specs.declared.place.Place.TheVariants.{Plain, Kept}
-use Rattle.ps_program.specs.Node.{Node, Nodes, none, more, BodyNode, body}
-use Rattle.ps_program.specs.Node as node
+use Rattle.ps_typing.specs.ps_base.TyView.{TyView}
+use Rattle.ps_typing.specs.ps_base.TyView as types
+use Rattle.ps_typing.specs.ps_base.declared.line.Line.{Line}
+use Rattle.ps_typing.specs.ps_program.declared.place.Place.{Place}
+use Rattle.ps_typing.specs.ps_program.declared.place.Place.TheVariants.{Plain, Kept}
+use Rattle.ps_typing.specs.ps_program.Node.{Node, Nodes, none, more, BodyNode, body}
+use Rattle.ps_typing.specs.ps_program.Node as node
 use Rattle.ps_typing.specs.WellTyped.{Claim, ◌has◌, Env, Free, Some_is, IsLocal, IsAt, Declares, IsTyped, AreTyped, AreItems, IsBody, IsWellTyped, with_local, next_slot, behind_one}
 use Rattle.ps_typing.specs.WellTyped as typed
 
@@ -84,7 +84,7 @@ used_at (typed.a_clause (typed.by_rule (typed.write can) claims) items) = name_o
 differ : (a b : ℕ) → a < b → a ≡ b → ⊥
 differ a b less same = omega arith
 
--- `b` in the slot of `a`, and in the slot behind its own
+-- `b` in the slot of `a`, and in the slot after its own
 b_as_a : IsWellTyped (declared_at (Plain 0) (Plain 0) (Plain 0)) → ⊥
 b_as_a h =
     let a = int_of (items_of h).2 in

@@ -1,10 +1,10 @@
 -- A rule is as good for a clause whose names have places: the parts are placed one after the other.
 use Rattle.std.proofs.Common.{◌≡◌, true, List, [], ◌∷◌, ◌++◌, refl, sym, ap, ◌∙◌, subst}
-use Rattle.ps_base.specs.TyView.{TyView, TyViews}
-use Rattle.ps_base.specs.TyView as types
-use Rattle.ps_base.specs.declared.line.Line.{Line}
-use Rattle.ps_program.specs.Node.{Node, Nodes, none, more, Arms, no_arms, more_arms, arm}
-use Rattle.ps_program.specs.Node as node
+use Rattle.ps_typing.specs.ps_base.TyView.{TyView, TyViews}
+use Rattle.ps_typing.specs.ps_base.TyView as types
+use Rattle.ps_typing.specs.ps_base.declared.line.Line.{Line}
+use Rattle.ps_typing.specs.ps_program.Node.{Node, Nodes, none, more, Arms, no_arms, more_arms, arm}
+use Rattle.ps_typing.specs.ps_program.Node as node
 use Rattle.ps_typing.specs.Checking.{is_equated}
 use Rattle.ps_typing.specs.Placing.{Locals, Around}
 use Rattle.ps_typing.specs.Placed.{Given, gives, then_give, ◌>>=◌, placed, placed_all, placed_arms}

@@ -2,12 +2,12 @@
 use Rattle.std.proofs.Common.{◌≡◌, ℕ, ◌+◌, List, [], ◌∷◌, ◌++◌, refl, sym, ap, ◌∙◌}
 use Rattle.std.specs.Prelude.{Option, Some, None, map, length, nat_lt, if◌then◌else◌}
 use Rattle.std.proofs.lemmas.List.{map-append, length-map}
-use Rattle.ps_base.specs.declared.line.Line.{Line}
-use Rattle.ps_program.specs.Node.{Param, Node, Nodes, none, more, Arms, no_arms, more_arms, arm, BodyNode, body}
-use Rattle.ps_program.specs.Node as node
-use Rattle.ps_program.specs.Parts.{Part, operand, label, branch, literal, fold, fold_all, fold_arms}
-use Rattle.ps_program.specs.Slots.{sum_of, own_locals, locals, reaches, depth, slot_count}
-use Rattle.ps_type_text.specs.Texts.{Field}
+use Rattle.ps_typing.specs.ps_base.declared.line.Line.{Line}
+use Rattle.ps_typing.specs.ps_program.Node.{Param, Node, Nodes, none, more, Arms, no_arms, more_arms, arm, BodyNode, body}
+use Rattle.ps_typing.specs.ps_program.Node as node
+use Rattle.ps_typing.specs.ps_program.Parts.{Part, operand, label, branch, literal, fold, fold_all, fold_arms}
+use Rattle.ps_typing.specs.ps_program.Slots.{sum_of, own_locals, locals, reaches, depth, slot_count}
+use Rattle.ps_typing.specs.ps_type_text.Texts.{Field}
 use Rattle.ps_typing.specs.Mentions.{numbers, common}
 use Rattle.ps_typing.specs.Placing.{Locals, Around, place_of, inside}
 use Rattle.ps_typing.specs.Placed.{then_give, ◌>>=◌, placed, placed_all, placed_arms, placed_literal, placed_program, with_params}

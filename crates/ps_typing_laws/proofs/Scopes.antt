@@ -2,9 +2,9 @@
 use Rattle.std.proofs.Common.{◌≡◌, ℕ, ◌+◌, ◌≤◌, ◌<◌, Bool, true, false, List, [], ◌∷◌, ◌++◌, ◌⊎◌, inl, inr, arith, refl, sym, ap, ◌∙◌, subst}
 use Rattle.std.specs.Prelude.{Some, None, if◌then◌else◌, nat_eq, map, length}
 use Rattle.std.proofs.lemmas.Bool.{eqb-true, eq-eqb}
-use Rattle.ps_base.specs.TyView.{TyView}
-use Rattle.ps_program.specs.declared.place.Place.TheVariants.{Plain, Kept}
-use Rattle.ps_type_text.specs.Texts.{Field}
+use Rattle.ps_typing.specs.ps_base.TyView.{TyView}
+use Rattle.ps_typing.specs.ps_program.declared.place.Place.TheVariants.{Plain, Kept}
+use Rattle.ps_typing.specs.ps_type_text.Texts.{Field}
 use Rattle.ps_typing.specs.Mentions.{is_among, common}
 use Rattle.ps_typing.specs.Placing.{Locals, position, next_position, local_of, found_at, is_number, with_name, field_at, scope_text}
 use Rattle.ps_typing.specs.WellTyped.{At, Free, IsOfType, next_slot, behind_one, Opens, unscoped, scoped}

@@ -1,18 +1,19 @@
--- The free slots behind a clause are those before it and the locals that it takes, and each slot that it names is below them.
+-- The free slots after a clause are those before it and the locals that it takes, and each slot that it names is below them.
 use Rattle.std.proofs.Common.{◌≡◌, ℕ, ◌+◌, ◌≤◌, ◌<◌, Bool, true, false, List, [], ◌∷◌, ◌++◌, inl, inr, arith, refl, sym, ap, ◌∙◌, subst}
 use Rattle.std.specs.Prelude.{Option, if◌then◌else◌, map, length}
 use Rattle.std.proofs.lemmas.List.{append_assoc}
-use Rattle.ps_base.specs.TyView.{TyView}
-use Rattle.ps_base.specs.TyView as types
-use Rattle.ps_base.specs.declared.line.Line.{Line}
-use Rattle.ps_program.specs.declared.place.Place.{Place}
-use Rattle.ps_program.specs.declared.place.Place.TheVariants.{Plain, Kept}
-use Rattle.ps_program.specs.Node.{Param, Node, Nodes, none, more, Arms, no_arms, more_arms, arm, BodyNode, body}
-use Rattle.ps_program.specs.Node as node
-use Rattle.ps_program.specs.Parts.{Part, operand, label, branch, literal}
-use Rattle.ps_program.specs.Slots.{sum_of, own_locals, locals}
-use Rattle.ps_program.specs.inside.Listed.{parts_of, parts_all, parts_arms, part_as}
-use Rattle.ps_program.proofs.PartLemmas.{fold_parts}
+use Rattle.ps_typing.specs.ps_base.TyView.{TyView}
+use Rattle.ps_typing.specs.ps_base.TyView as types
+use Rattle.ps_typing.specs.ps_base.declared.line.Line.{Line}
+use Rattle.ps_typing.specs.ps_program.declared.place.Place.{Place}
+use Rattle.ps_typing.specs.ps_program.declared.place.Place.TheVariants.{Plain, Kept}
+use Rattle.ps_typing.specs.ps_program.Node.{Param, Node, Nodes, none, more, Arms, no_arms, more_arms, arm, BodyNode, body}
+use Rattle.ps_typing.specs.ps_program.Node as node
+use Rattle.ps_typing.specs.ps_program.Parts.{Part, operand, label, branch, literal}
+use Rattle.ps_typing.specs.ps_program.Slots.{sum_of, own_locals, locals}
+use Rattle.ps_typing.specs.ps_program.inside.Listed.{parts_of, parts_all, parts_arms, part_as}
+use Rattle.ps_typing.proofs.of_ps_program.PartLemmas.{fold_parts}
+use Rattle.ps_typing.specs.ps_type_text.Texts.{Field}
 use Rattle.ps_typing.specs.Placing.{is_number}
 use Rattle.ps_typing.specs.Program.{bodies_of, own_body, bodies, bodies_with, bodies_in}
 use Rattle.ps_typing.specs.WellTyped.{Some_is, Env, Free, IsLocal, IsAt, next_slot, behind_one, with_local, Claim, ◌has◌, all_have, arms_have, Arguments, Rule, Declares, Takes, IsTyped, AreTyped, AreItems, IsBody, IsWellTyped}
@@ -89,20 +90,26 @@ limit_grows false free free' g = g.refs
 below_grows : (free free' : Free) (slots : List Slot) → Grows free free' → Each (Below free) slots → Each (Below free') slots
 below_grows free free' slots g h = each_map (Below free) (Below free') slots (λ s b. let l = limit_grows s.is_number free free' g in omega arith) h
 
--- what is so of a clause with these free slots before it and behind it
+-- a body in a typed tree: it is typed itself, and its slots are counted
+pub record Inner (of : BodyNode) : Type 0 where
+  pub around : List (List Field)
+  pub typed : IsBody around of
+  pub counted : IsCounted of
+
+-- what is so of a clause with these free slots before it and after it
 pub record Tracked (free : Free) (tree : Node) (free' : Free) : Type 0 where
   pub nums : free'.nums ≡ free.nums + taken_in true tree
   pub refs : free'.refs ≡ free.refs + taken_in false tree
   pub few : taken_in true tree + taken_in false tree ≤ locals tree
   pub slots : Each (Below free') (slots_in tree)
-  pub bodies : Each IsCounted (bodies_in tree)
+  pub bodies : Each Inner (bodies_in tree)
 
 pub record TrackedAll (free : Free) (trees : List Node) (free' : Free) : Type 0 where
   pub nums : free'.nums ≡ free.nums + total (taken_in true) trees
   pub refs : free'.refs ≡ free.refs + total (taken_in false) trees
   pub few : total (taken_in true) trees + total (taken_in false) trees ≤ total locals trees
   pub slots : Each (λ (n : Node). Each (Below free') (slots_in n)) trees
-  pub bodies : Each (λ (n : Node). Each IsCounted (bodies_in n)) trees
+  pub bodies : Each (λ (n : Node). Each Inner (bodies_in n)) trees
 
 grows_by : (free free' : Free) (n r : ℕ) → free'.nums ≡ free.nums + n → free'.refs ≡ free.refs + r → Grows free free'
 grows_by free free' n r nums refs = record { nums = omega arith; refs = omega arith }
@@ -119,8 +126,8 @@ record Own (free : Free) (tree : Node) (free' : Free) : Type 0 where
   pub refs : free'.refs ≡ free.refs + own_taken false tree
   pub few : own_taken true tree + own_taken false tree ≤ own_locals tree
   pub slots : Each (Below free') (own_slots tree)
-  pub bodies : Each IsCounted (own_body tree)
-  pub inside_bodies : Each (λ (n : Node). Each IsCounted (bodies_in n)) (literals (parts_of tree))
+  pub bodies : Each Inner (own_body tree)
+  pub inside_bodies : Each (λ (n : Node). Each Inner (bodies_in n)) (literals (parts_of tree))
 
 taken_is : (stack : Bool) (tree : Node) → taken_in stack tree ≡ own_taken stack tree + total (taken_in stack) (evaluated (parts_of tree))
 taken_is stack tree = fold_parts (λ clause parts. own_taken stack clause + sum_of parts) tree ∙ ap (λ n. own_taken stack tree + n)
@@ -137,14 +144,14 @@ whole free between free' tree trees are own h =
     let all = locals_are tree ∙ ap (λ (ts : List Node). own_locals tree + total locals ts) are in
     let slots = each_append (Below free') (own_slots tree) _ (below_grows between free' (own_slots tree) (all_grows h) own.slots)
     (slots_each (Below free') (parts_of tree) (subst (Each (λ (n : Node). Each (Below free') (slots_in n))) (sym are) h.slots)) in
-    let bodies = each_append IsCounted (own_body tree) _ own.bodies
-    (bodies_each IsCounted (parts_of tree) (subst (Each (λ (n : Node). Each IsCounted (bodies_in n))) (sym are) h.bodies) own.inside_bodies) in
+    let bodies = each_append Inner (own_body tree) _ own.bodies
+    (bodies_each Inner (parts_of tree) (subst (Each (λ (n : Node). Each Inner (bodies_in n))) (sym are) h.bodies) own.inside_bodies) in
     record {
       nums = omega arith;
       refs = omega arith;
       few = omega arith;
       slots = subst (Each (Below free')) (sym (fold_parts (λ clause parts. own_slots clause ++ slots_of_parts parts) tree)) slots;
-      bodies = subst (Each IsCounted) (sym (fold_parts bodies_with tree)) bodies;
+      bodies = subst (Each Inner) (sym (fold_parts bodies_with tree)) bodies;
     }
 
 -- clauses one after the other
@@ -178,7 +185,7 @@ all_then free between free' trees tree h k = record {
   slots = each_append (λ (n : Node). Each (Below free') (slots_in n)) trees (tree ∷ [])
       (each_map (λ (n : Node). Each (Below between) (slots_in n)) (λ (n : Node). Each (Below free') (slots_in n)) trees
       (λ n b. below_grows between free' (slots_in n) (tree_grows k) b) h.slots) (k.slots, tt);
-  bodies = each_append (λ (n : Node). Each IsCounted (bodies_in n)) trees (tree ∷ []) h.bodies (k.bodies, tt);
+  bodies = each_append (λ (n : Node). Each Inner (bodies_in n)) trees (tree ∷ []) h.bodies (k.bodies, tt);
 }
 
 -- the parts that a rule names
@@ -319,8 +326,8 @@ own_nothing free tree (nums, refs, slots, bodies) literals_are = record {
   refs = omega arith;
   few = omega arith;
   slots = subst (Each (Below free)) (sym slots) tt;
-  bodies = subst (Each IsCounted) (sym bodies) tt;
-  inside_bodies = subst (Each (λ (n : Node). Each IsCounted (bodies_in n))) (sym literals_are) tt;
+  bodies = subst (Each Inner) (sym bodies) tt;
+  inside_bodies = subst (Each (λ (n : Node). Each Inner (bodies_in n))) (sym literals_are) tt;
 }
 
 slot_below : (env : Env) (free : Free) (place : Place) (ty : TyView) → IsAt env place ty → LocalsBelow env free → Each (Below free) (slot_of ty place)
@@ -351,7 +358,7 @@ tree_of (body params gives tree scope line) = tree
 
 pub record BodyTracked (of : BodyNode) : Type 0 where
   pub counted : IsCounted of
-  pub inside_it : Each IsCounted (bodies_in (tree_of of))
+  pub inside_it : Each Inner (bodies_in (tree_of of))
 
 pub limit_is : (free free' : Free) (params : List Param) (tree : Node) (gives : TyView) (scope : Option (List ℕ)) (line : Line) →
     free.nums ≡ 0 + taken_by_params true params → free.refs ≡ 0 + taken_by_params false params → Tracked free tree free' →
@@ -410,7 +417,7 @@ mutual
         inside_bodies = tt;
       })
       (track_all are (locals_grow env free behind grows below))
-  track (typed.literal {free = free} {params = params} {gives = gives} {tree = tree} {scope = scope} {line = line} is_body) below =
+  track (typed.literal {env = env} {free = free} {params = params} {gives = gives} {tree = tree} {scope = scope} {line = line} is_body) below =
       let b = track_body is_body in
       whole free free free (node.Proc (body params gives tree scope line)) [] refl
       (record {
@@ -418,7 +425,7 @@ mutual
         refs = omega arith;
         few = omega arith;
         slots = tt;
-        bodies = (b.counted, tt);
+        bodies = (record { around = env.scopes; typed = is_body; counted = b.counted }, tt);
         inside_bodies =
             (b.inside_it, tt);
       }) (none_tracked free)
@@ -469,5 +476,11 @@ mutual
         inside_it = h.bodies;
       }
 
+-- each body of a typed one, itself and the literals in it
+pub bodies_inner : {around : List (List Field)} {of : BodyNode} → IsBody around of → Each Inner (bodies of)
+bodies_inner {around = around} {of = body params gives tree scope line} is_body =
+    let b = track_body is_body in (record { around = around; typed = is_body; counted = b.counted }, b.inside_it)
+
 pub program_counted : (program : BodyNode) → IsWellTyped program → Each IsCounted (bodies program)
-program_counted (body params gives tree scope line) (p, q, is_body) = let b = track_body is_body in (b.counted, b.inside_it)
+program_counted (body params gives tree scope line) (p, q, is_body) =
+    each_map Inner IsCounted (bodies (body params gives tree scope line)) (λ of h. h.counted) (bodies_inner is_body)

@@ -1,14 +1,14 @@
 -- The slots of a body on each stack, and how many locals each stack has.
 use Rattle.std.specs.Prelude.{ℕ, ◌+◌, ◌<◌, ◌≤◌, Bool, true, false, List, [], ◌∷◌, ◌++◌, if◌then◌else◌}
-use Rattle.ps_base.specs.TyView.{TyView}
-use Rattle.ps_base.specs.TyView as types
-use Rattle.ps_base.specs.declared.line.Line.{Line}
-use Rattle.ps_program.specs.declared.place.Place.{Place}
-use Rattle.ps_program.specs.declared.place.Place.TheVariants.{Plain, Kept}
-use Rattle.ps_program.specs.Node.{Param, Node, BodyNode, body}
-use Rattle.ps_program.specs.Node as node
-use Rattle.ps_program.specs.Parts.{Part, operand, label, branch, literal, fold}
-use Rattle.ps_program.specs.Slots.{sum_of, depth, slot_count}
+use Rattle.ps_typing.specs.ps_base.TyView.{TyView}
+use Rattle.ps_typing.specs.ps_base.TyView as types
+use Rattle.ps_typing.specs.ps_base.declared.line.Line.{Line}
+use Rattle.ps_typing.specs.ps_program.declared.place.Place.{Place}
+use Rattle.ps_typing.specs.ps_program.declared.place.Place.TheVariants.{Plain, Kept}
+use Rattle.ps_typing.specs.ps_program.Node.{Param, Node, BodyNode, body}
+use Rattle.ps_typing.specs.ps_program.Node as node
+use Rattle.ps_typing.specs.ps_program.Parts.{Part, operand, label, branch, literal, fold}
+use Rattle.ps_typing.specs.ps_program.Slots.{sum_of, depth, slot_count}
 use Rattle.ps_typing.specs.Placing.{is_number}
 use Rattle.ps_typing.specs.Locals.{locals_on}
 use Rattle.ps_typing.specs.Program.{line_of_body}

@@ -1,10 +1,10 @@
 //! What is so of every program.
 
 ghost use Rattle.std.specs.Prelude.{◌≡◌, List, map};
-ghost use Rattle.ps_tree.specs.Phrase.{Phrase};
-ghost use Rattle.ps_program.specs.Node.{BodyNode};
+ghost use Rattle.ps_typing.specs.ps_tree.Phrase.{Phrase};
+ghost use Rattle.ps_typing.specs.ps_program.Node.{BodyNode};
 ghost use Rattle.ps_typing.specs.Items.{LetsAreItems};
-ghost use Rattle.ps_type_text.specs.Texts.{Field};
+ghost use Rattle.ps_typing.specs.ps_type_text.Texts.{Field};
 ghost use Rattle.ps_typing.specs.Placed.{placed_program};
 ghost use Rattle.ps_typing.specs.Program.{Typed, bodies, check_program, first_complex};
 ghost use Rattle.ps_typing.specs.WellTyped.{IsWellTyped};

@@ -1,24 +1,24 @@
 -- The objects of a unit weigh no more than what is counted for its body's code: each clause has 31 bytes to spare, and a body and word 0 need 25 of them.
 use Rattle.std.proofs.Common.{◌≡◌, ℕ, ◌+◌, ◌≤◌, Bool, true, false, List, [], ◌∷◌, ◌++◌, length, Option, Some, None, refl, ap, length-append, arith}
 use Rattle.std.specs.Prelude.{◌*◌, ◌/◌, if◌then◌else◌}
-use Rattle.ps_base.specs.TyView.{TyView}
-use Rattle.ps_base.specs.TyView as types
-use Rattle.ps_base.specs.Instr.{width_of, spelling, spelled}
-use Rattle.ps_base.specs.CodeUnit.{ConstantView, text}
-use Rattle.ps_base.specs.declared.line.Line.{Line}
-use Rattle.ps_base.specs.declared.instr.Instr.{Instr}
-use Rattle.ps_base.specs.declared.instr.Instr.TheVariants as instr
-use Rattle.ps_base.proofs.Spellings.{length-spelling}
-use Rattle.ps_program.specs.declared.place.Place.{Place}
-use Rattle.ps_program.specs.declared.place.Place.TheVariants.{Plain, Kept}
-use Rattle.ps_program.specs.Node.{Param, Node, Nodes, none, more, Arms, no_arms, more_arms, arm, BodyNode, body}
-use Rattle.ps_program.specs.Node as node
-use Rattle.ps_program.specs.Parts.{Part, operand, label, branch, literal as own_code, fold_all, fold_arms}
-use Rattle.ps_type_text.specs.Texts.{type_text}
-use Rattle.ps_typing.specs.Placing.{is_number}
-use Rattle.ps_typing.specs.WellTyped.{types_of_params}
-use Rattle.ps_meaning.specs.Weights.{text_weight, scope_weight, head_weight, named_weight, total_of, clause_weight, code_weight}
-use Rattle.ps_emitter.specs.Choices as choice
+use Rattle.proc_values.specs.ps_base.TyView.{TyView}
+use Rattle.proc_values.specs.ps_base.TyView as types
+use Rattle.proc_values.specs.ps_base.Instr.{width_of, spelling, spelled}
+use Rattle.proc_values.specs.ps_base.CodeUnit.{ConstantView, text}
+use Rattle.proc_values.specs.ps_base.declared.line.Line.{Line}
+use Rattle.proc_values.specs.ps_base.declared.instr.Instr.{Instr}
+use Rattle.proc_values.specs.ps_base.declared.instr.Instr.TheVariants as instr
+use Rattle.proc_values.proofs.of_ps_base.Spellings.{length-spelling}
+use Rattle.ps_gen.specs.ps_program.declared.place.Place.{Place}
+use Rattle.ps_gen.specs.ps_program.declared.place.Place.TheVariants.{Plain, Kept}
+use Rattle.ps_gen.specs.ps_program.Node.{Param, Node, Nodes, none, more, Arms, no_arms, more_arms, arm, BodyNode, body}
+use Rattle.ps_gen.specs.ps_program.Node as node
+use Rattle.ps_gen.specs.ps_program.Parts.{Part, operand, label, branch, literal as own_code, fold_all, fold_arms}
+use Rattle.ps_gen.specs.ps_type_text.Texts.{type_text}
+use Rattle.ps_gen.specs.ps_typing.Placing.{is_number}
+use Rattle.ps_gen.specs.ps_typing.WellTyped.{types_of_params}
+use Rattle.proc_values.specs.ps_meaning.Weights.{text_weight, scope_weight, head_weight, named_weight, total_of, clause_weight, code_weight}
+use Rattle.ps_gen.specs.ps_emitter.Choices as choice
 use Rattle.ps_gen.specs.Emission.{size_at, size_entered, size_left, size, size_all, size_arms, size_labels, count_scope, count, count_all, count_arms, entered, emit}
 use Rattle.ps_gen.specs.Units.{kept_at, keeps, size_keeps, body_instrs, scope_constants, row_of, constants, constants_of_all, constants_of_arms, unit_of}
 use Rattle.ps_gen.proofs.Widths.{widths, widths_append, widths_entered, width_emit, count_of_scope, count_constants}
@@ -77,7 +77,7 @@ kept_widths : (place : Place) (push : Instr) (keep : ℕ → ℕ → Instr) → 
 kept_widths (Plain slot) push keep h k = omega arith
 kept_widths (Kept up position) push keep h k = let e = k up position in omega arith
 
--- a parameter that is kept, and those behind it
+-- a parameter that is kept, and those after it
 keep_fits : (param : Param) (nums refs k : ℕ) (on_nums on_refs : List Instr) → widths on_nums ≤ k → widths on_refs ≤ k → (b : Bool) →
     widths (if b then kept_at param.place (instr.GetM nums) (λ u i. instr.KeepM u i) ++ on_nums
     else kept_at param.place (instr.GetP refs) (λ u i. instr.KeepP u i) ++ on_refs) ≤ 14 + k

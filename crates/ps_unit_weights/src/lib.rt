@@ -4,3 +4,4 @@
 mod laws;
 
 pub use laws::units_weigh_as_counted;
+pub use ps_gen;

@@ -1,13 +1,14 @@
 -- What is told where there is no volume, and where one is made.
 use Rattle.std.proofs.Common.{◌≡◌, ℕ, List, [], sym, subst}
-use Rattle.ps_outside.specs.Outside.{Outside, Leaves, TellsNothing, Rose}
-use Rattle.ps_outside.proofs.Moments.{along_then, along_now}
+use Rattle.ps_port.specs.ps_outside.Outside.{Outside, Leaves, TellsNothing, Rose}
+use Rattle.ps_port.proofs.of_ps_outside.Moments.{along_then, along_now}
 use Rattle.ps_port.specs.Telling.{LeavesDevice}
-use Rattle.shadow_volume.specs.Attaching.{IsRefused}
-use Rattle.shadow_volume.specs.Layout.{gate}
-use Rattle.shadow_volume.specs.Making.{IsMaking, IsNew, IsNone, IsCause}
-use Rattle.shadow_volume.specs.declared.finding.OpenFault.{OpenFault}
-use Rattle.shadow_volume.specs.declared.making.FormatFault.TheVariants.{Device, AlreadyVolume}
+use Rattle.obj_store.specs.shadow_volume.Attaching.{IsRefused}
+use Rattle.obj_store.specs.shadow_volume.Layout.{gate as gate_of}
+use Rattle.obj_store.specs.shadow_volume.Making.{IsMaking, IsNew, IsNone, IsCause, ShutsAt, OpensAt}
+use Rattle.obj_store.proofs.of_shadow_volume.Shutting.{shuts_then}
+use Rattle.obj_store.specs.shadow_volume.declared.finding.OpenFault.{OpenFault}
+use Rattle.obj_store.specs.shadow_volume.declared.making.FormatFault.TheVariants.{Device, AlreadyVolume}
 use Rattle.ps_reports.specs.Answering.{Answers, whole}
 use Rattle.ps_reports.specs.Reports.{device_line, already_line}
 use Rattle.ps_reports.proofs.Behind.{told_none, behind_nothing}
@@ -28,14 +29,15 @@ unattached_by old mid new cause answered is answers left = record {
   keeps = keeps_then old mid new (record { images = is.looks.images; contents = λ bytes at. is.looks.same.no_other bytes at }) (device_kept mid new left);
 }
 
-module _ (pages : ℕ) (old mid : Outside (List ℕ)) (any_moment : Leaves old mid (IsMaking old pages)) (told : TellsNothing old mid) (calm : mid.output_faults ≡ old.output_faults) where
-  pub made_by : ((bytes : List ℕ) → old.contents bytes → IsNone bytes) → ((bytes : List ℕ) → mid.contents bytes → IsNew pages bytes × (gate bytes ≡ 1))
+module _ (pages : ℕ) (old mid : Outside (List ℕ)) (any_moment : Leaves old mid (IsMaking old pages)) (gate : ShutsAt pages old mid) (told : TellsNothing old mid) (calm : mid.output_faults ≡ old.output_faults) where
+  pub made_by : OpensAt pages old mid → ((bytes : List ℕ) → old.contents bytes → IsNone bytes) → ((bytes : List ℕ) → mid.contents bytes → IsNew pages bytes × (gate_of bytes ≡ 1))
       → ((image : List ℕ) → mid.images mid.clock image → mid.contents image) → Makes pages old mid 0
-  made_by none contents durable = record {
+  made_by opened none contents durable = record {
     any_moment = any_moment;
+    gate = gate;
     bytes = [];
     status = 0;
-    due = making.made none (record { contents = contents; durable = durable });
+    due = making.made none (record { opened = opened; contents = contents; durable = durable });
     answers = whole (told_none old mid told calm);
   }
 
@@ -46,6 +48,7 @@ module _ (pages : ℕ) (old mid : Outside (List ℕ)) (any_moment : Leaves old m
     pub failed_by : (answered : ℕ) → IsCause old mid Device → Answers mid new device_line 6 answered → Makes pages old new answered
     failed_by answered rose answers = record {
       any_moment = still;
+      gate = shuts_then pages old mid new gate left.images;
       bytes = device_line;
       status = 6;
       due = making.failed (subst (λ (n : ℕ). Rose old.device_faults n) (sym left.faults) rose);
@@ -55,6 +58,7 @@ module _ (pages : ℕ) (old mid : Outside (List ℕ)) (any_moment : Leaves old m
     pub left_by : (g answered : ℕ) → IsCause old mid (AlreadyVolume g) → Answers mid new already_line 14 answered → Makes pages old new answered
     left_by g answered cause answers = record {
       any_moment = still;
+      gate = shuts_then pages old mid new gate left.images;
       bytes = already_line;
       status = 14;
       due = making.there_is_one

@@ -1,29 +1,15 @@
 -- What is left of a device that no call changed.
-use Rattle.std.proofs.Common.{◌≤◌, ◌⊎◌, ⊎_elim, ℕ, List, arith}
-use Rattle.ps_outside.specs.Outside.{Outside, LeavesSame, Settles}
-use Rattle.ps_outside.proofs.Moments.{along_then, along_now}
+use Rattle.std.proofs.Common.{ℕ, List, arith}
+use Rattle.ps_port.specs.ps_outside.Outside.{Outside, LeavesSame, SettlesFrom}
+use Rattle.ps_port.specs.ps_outside.Past.{KeepsTold}
+use Rattle.ps_port.proofs.of_ps_outside.PastMoments.{past_along}
+use Rattle.ps_port.proofs.of_ps_outside.Moments.{along_then, along_now, settles_then}
 use Rattle.ps_port.specs.Telling.{LeavesDevice}
-use Rattle.shadow_volume.specs.Found.{held_at}
+use Rattle.obj_store.specs.shadow_volume.Found.{held_at}
 use Rattle.obj_store.specs.Store.{Store}
 use Rattle.obj_store.specs.Opening.{IsOpened}
+use Rattle.ps_reports.specs.Answering.{Answers, whole, cut}
 use Rattle.ps_volumes.specs.Attaching.{Keeps, KeepsVolume}
-
-either : (m n : ℕ) → (m ≤ n) ⊎ (n ≤ m)
-either m n = grind arith
-
-pub settles_then : {X : Type 0} (a b c : Outside X) → Settles a b → LeavesSame b c → Settles a c
-settles_then a b c is next =
-    let until = is.until in
-    let later = next.later in
-    record {
-      since = is.since;
-      from = is.from;
-      until = omega arith;
-      settled = λ m x from upto at. ⊎_elim
-          (λ early. is.settled m x from early (next.no_other m x early at))
-          (λ late. is.settled b.clock x until (omega arith) (next.each m x late upto at))
-          (either m b.clock);
-    }
 
 pub keeps_then : (a b c : Outside (List ℕ)) → Keeps a b → Keeps b c → Keeps a c
 keeps_then a b c is next = record {
@@ -35,11 +21,16 @@ keeps_then a b c is next = record {
 pub device_kept : (a b : Outside (List ℕ)) → LeavesDevice a b → Keeps a b
 device_kept a b is = record { images = is.images; contents = λ bytes at. is.contents.no_other bytes at }
 
--- The device was left behind an attached store; and at the end a read gives one of what a crash leaves.
+-- what is answered adds nothing to what had been told before
+pub answers_keep : (a b : Outside (List ℕ)) (due : List ℕ) (status answered : ℕ) → Answers a b due status answered → KeepsTold a b
+answers_keep a b due status answered (whole is) = past_along is.front
+answers_keep a b due status answered (cut is) = past_along is.front
+
+-- The device was left behind an attached store, and nothing was added to what had been told before; and at the end a read gives one of what a crash leaves.
 module _ {H : Type 0} (outside : H → Outside (List ℕ)) (old : Outside (List ℕ)) (store : Store H) (new : Outside (List ℕ)) (is : IsOpened outside old store)
-    (left : LeavesSame (outside store.host) new) (is_image : (bytes : List ℕ) → new.contents bytes → new.images new.clock bytes) where
-  settled : Settles old new
-  settled = settles_then old (outside store.host) new is.settles left
+    (left : LeavesSame (outside store.host) new) (told : KeepsTold (outside store.host) new) (is_image : (bytes : List ℕ) → new.contents bytes → new.images new.clock bytes) where
+  settled : SettlesFrom old new
+  settled = settles_then old (outside store.host) new is.settles left told
 
   pub volume_kept : KeepsVolume old new
   volume_kept = record {

@@ -1,10 +1,10 @@
 -- What is left of a device whose volume was attached, or couldn't be.
 use Rattle.std.specs.Prelude.{◌≡◌, ℕ, Bool, List}
-use Rattle.ps_outside.specs.Outside.{Outside, LeavesSame, Settles, Rose}
-use Rattle.shadow_volume.specs.Found.{Held, a_volume, found_in}
-use Rattle.shadow_volume.specs.Attaching.{IsNoVolume}
-use Rattle.shadow_volume.specs.declared.finding.OpenFault.{OpenFault}
-use Rattle.shadow_volume.specs.declared.finding.OpenFault.TheVariants.{Device, NotAVolume, Damaged, Memory}
+use Rattle.ps_port.specs.ps_outside.Outside.{Outside, LeavesSame, SettlesFrom, Rose}
+use Rattle.obj_store.specs.shadow_volume.Found.{Held, a_volume, found_in}
+use Rattle.obj_store.specs.shadow_volume.Attaching.{IsNoVolume}
+use Rattle.obj_store.specs.shadow_volume.declared.finding.OpenFault.{OpenFault}
+use Rattle.obj_store.specs.shadow_volume.declared.finding.OpenFault.TheVariants.{Device, NotAVolume, Damaged, Memory}
 use Rattle.ps_reports.specs.Answering.{Answers}
 use Rattle.ps_reports.specs.Reports.{device_line, not_a_volume_line, damaged_line, memory_line}
 
@@ -20,10 +20,11 @@ pub record Keeps (old new : Outside (List ℕ)) : Type 0 where
   pub images : LeavesSame old new
   pub contents : (bytes : List ℕ) → new.contents bytes → old.contents bytes
 
--- A volume was found in each content at the start, and the device was left as it is; from some moment on a crash leaves only such a content.
+-- A volume was found in each content at the start, and the device was left as it is; from some moment on a crash leaves only such a content, and
+-- before that moment nothing was told.
 pub record KeepsVolume (old new : Outside (List ℕ)) : Type 0 where
   pub keeps : Keeps old new
-  pub settles : Settles old new
+  pub settles : SettlesFrom old new
   pub found : (bytes : List ℕ) → old.contents bytes → HasVolume bytes
 
 -- the report line of what was wrong with the device or with the file on it, and its status

@@ -1,14 +1,16 @@
 -- What is due where a volume is made, and what is left of the device.
 use Rattle.std.specs.Prelude.{◌≡◌, ℕ, ◌≤◌, List, [], length}
-use Rattle.ps_outside.specs.Outside.{Outside, Leaves, Rose}
-use Rattle.shadow_volume.specs.Layout.{gate}
-use Rattle.shadow_volume.specs.Making.{IsMaking, IsNew, IsNone}
+use Rattle.ps_port.specs.ps_outside.Outside.{Outside, Leaves, Rose}
+use Rattle.obj_store.specs.shadow_volume.Layout.{gate}
+use Rattle.obj_store.specs.shadow_volume.Making.{IsMaking, IsNew, IsNone, ShutsAt, OpensAt}
 use Rattle.ps_reports.specs.Answering.{Answers}
 use Rattle.ps_reports.specs.Reports.{device_line, already_line}
 use Rattle.ps_volumes.specs.Attaching.{Keeps}
 
--- The new volume stands there, whole: in what a read gives, and in all that a crash may leave.
-pub record IsMade (pages : ℕ) (new : Outside (List ℕ)) : Type 0 where
+-- The new volume stands there, whole: in what a read gives, and in all that a crash may leave. On the way the gate was shut, from a moment up to which
+-- nothing but byte 0 was written, until the volume stood whole after it.
+pub record IsMade (pages : ℕ) (old new : Outside (List ℕ)) : Type 0 where
+  pub opened : OpensAt pages old new
   pub contents : (bytes : List ℕ) → new.contents bytes → IsNew pages bytes × (gate bytes ≡ 1)
   pub durable : (image : List ℕ) → new.images new.clock image → new.contents image
 
@@ -20,12 +22,15 @@ pub record IsOpen (bytes : List ℕ) : Type 0 where
 -- What is due: nothing where there was no volume and a new one was made; a line where the device failed, and where there is a volume already,
 -- which is left.
 pub data IsMakingDue (pages : ℕ) (old new : Outside (List ℕ)) : List ℕ → ℕ → Type 0 where
-  made : ((bytes : List ℕ) → old.contents bytes → IsNone bytes) → IsMade pages new → IsMakingDue pages old new [] 0
+  made : ((bytes : List ℕ) → old.contents bytes → IsNone bytes) → IsMade pages old new → IsMakingDue pages old new [] 0
   failed : Rose old.device_faults new.device_faults → IsMakingDue pages old new device_line 6
   there_is_one : ((bytes : List ℕ) → old.contents bytes → IsOpen bytes) → Keeps old new → IsMakingDue pages old new already_line 14
 
+-- The volume is made, or why it isn't is told; and how far the making came: nothing but byte 0 was written, or from a moment on the gate is shut, or the
+-- new volume stood whole after it before it was opened.
 pub record Makes (pages : ℕ) (old new : Outside (List ℕ)) (answered : ℕ) : Type 0 where
   pub any_moment : Leaves old new (IsMaking old pages)
+  pub gate : ShutsAt pages old new
   pub bytes : List ℕ
   pub status : ℕ
   pub due : IsMakingDue pages old new bytes status

@@ -7,9 +7,9 @@ ghost use Rattle.obj_store.specs.Opening.{IsOpened};
 ghost use Rattle.ps_volumes.specs.Attaching.{IsUnattached, line_of, status_of};
 
 use obj_store::ObjStore;
+use obj_store::shadow_volume::{OpenFault, Refused};
 use ps_port::Host;
 use ps_reports::report;
-use shadow_volume::{OpenFault, Refused};
 use std::alloc::Global;
 
 /// A host whose volume wasn't attached. Why was told by it, and the status is to be answered.

@@ -6,3 +6,5 @@ pub mod making;
 
 pub use attaching::{Unattached, attached};
 pub use making::make_volume;
+pub use obj_store;
+pub use ps_reports;

@@ -3,9 +3,9 @@
 ghost use Rattle.std.specs.Prelude.{◌≤◌};
 ghost use Rattle.ps_volumes.specs.Making.{Makes};
 
+use obj_store::shadow_volume::{FormatFault, format};
 use ps_port::Host;
 use ps_reports::report;
-use shadow_volume::{FormatFault, format};
 
 /// Makes a volume of so many pages, 32 to 131,072, on the device of a host, and answers the status: 0 where it was made, and nothing is told; 14 where
 /// there is one already, which is left as it is; 6 where the device failed, and what stands there then is no volume, or the old file with any

@@ -42,7 +42,7 @@ default_area = 16384
 abbrev pub default_turns : ℕ
 default_turns = 10 ^ 8
 
--- an option with its value, where the words begin with it, and the words behind
+-- an option with its value, where the words begin with it, and the words after
 pub record OptionTaken : Type 0 where
   pub value : Option (List ℕ)
   pub behind : List (List ℕ)
@@ -78,7 +78,7 @@ run_with (Some area) (Some turns) None file = None
 run_with (Some area) (Some turns) (Some input) None = None
 run_with (Some area) (Some turns) (Some input) (Some file) = Some (record { area = area; turns = turns; input = input; file = file })
 
--- behind the volume: the options in this order, each once at most, and the file
+-- after the volume: the options in this order, each once at most, and the file
 abbrev pub run_of : List (List ℕ) → Option RunOf
 run_of words =
     let area = taken (codes "--area") words in
@@ -86,7 +86,7 @@ run_of words =
     let input = taken (codes "--input") turns.behind in
     run_with (area_given area.value) (turns_given turns.value) (input_given input.value) (file_given input.behind)
 
--- the pages of a new volume, behind the volume: one word, of 1 to 6 digits, from 32 to 131,072
+-- the pages of a new volume, after the volume: one word, of 1 to 6 digits, from 32 to 131,072
 abbrev pub pages_given : List (List ℕ) → Option ℕ
 pages_given [] = None
 pages_given (digits ∷ []) = number_of 6 32 131072 digits
@@ -97,7 +97,7 @@ pub data CommandOf : Type 0 where
   a_run : (run : RunOf) → CommandOf
   a_volume : (pages : ℕ) → CommandOf
 
--- the command of this name, of the words behind the volume
+-- the command of this name, of the words after the volume
 abbrev pub command_named : List ℕ → List (List ℕ) → Option CommandOf
 command_named name words =
     if bytes_eq name (codes "run") then option_map a_run (run_of words)

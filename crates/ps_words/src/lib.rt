@@ -3,4 +3,5 @@
 
 pub mod words;
 
+pub use ps_scan;
 pub use words::{Command, RunWords, read_words};

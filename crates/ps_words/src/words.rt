@@ -32,7 +32,7 @@ pub struct RunWords<'a> {
     pub file: &'a str,
 }
 
-/// An option's value, where the words begin with it, and the words behind.
+/// An option's value, where the words begin with it, and the words after.
 #[derive(Drop)]
 pub(crate) struct OptionTaken<'a> {
     pub value: Option<&'a str>,
@@ -64,7 +64,7 @@ pub fn read_words<'a>(words: &'a [String]) -> Option<Command<'a>>
     }
 }
 
-// The command of this name, of the words behind the volume.
+// The command of this name, of the words after the volume.
 fn read_command<'a>(name: &str, words: &'a [String]) -> Option<Command<'a>>
     ensures command { CommandIs (command_named name.now (words_of words.now)) result }
     ensures within { IfSome result (λ command. IsWithin (command_in command)) }
@@ -99,7 +99,7 @@ fn read_pages(words: &[String]) -> Option<u32>
     }
 }
 
-// The run of the words behind the volume.
+// The run of the words after the volume.
 fn read_run<'a>(words: &'a [String]) -> Option<RunWords<'a>>
     ensures run { RunIs (run_of (words_of words.now)) result }
     ensures area { IfSome result (λ run. IsArea (run_in run)) }
@@ -132,7 +132,7 @@ fn read_run<'a>(words: &'a [String]) -> Option<RunWords<'a>>
     }
 }
 
-// The option of this name, and the words behind it.
+// The option of this name, and the words after it.
 fn taken<'a>(words: &'a [String], name: &str) -> OptionTaken<'a>
     ensures { taken_in result ≡ taken_of name.now (words_of words.now) }
 {

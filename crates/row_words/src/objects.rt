@@ -12,7 +12,7 @@ const PID: u64 = 1 << 63;
 /// The most of a word that are put at once.
 const MOST_TIMES: u64 = 1 << 21;
 
-/// The words of these objects behind word 0: each line has those of one object, or its name. There are none where one is spelled wrong, and
+/// The words of these objects after word 0: each line has those of one object, or its name. There are none where one is spelled wrong, and
 /// where there is no memory.
 pub fn words_of(alloc: Global, names: &[u8], objects: &[u8]) -> Option<Vec<u64>> {
     let mut words = Vec::new(alloc);

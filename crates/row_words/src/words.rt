@@ -58,7 +58,7 @@ pub fn area_of(field: &[u8], otherwise: u32) -> Option<u32> {
     }
 }
 
-/// The number that a word spells, in decimal or behind `0x` in hex.
+/// The number that a word spells, in decimal or after `0x` in hex.
 pub fn number_of(word: &[u8]) -> Option<u64> {
     match word.strip_prefix(b"0x") {
         Some(digits) => u64::from_str_radix(str::from_utf8(digits).ok()?, 16).ok(),
@@ -76,7 +76,7 @@ pub fn int_of(word: &[u8]) -> Option<i32> {
     str::from_utf8(word).ok()?.parse::<i32>().ok()
 }
 
-/// What stands before the first byte of this value, and what stands behind it; all and nothing where there is none.
+/// What stands before the first byte of this value, and what stands after it; all and nothing where there is none.
 pub fn parted(text: &[u8], byte: u8) -> (&[u8], &[u8]) {
     match text.iter().position(|found| *found == byte) {
         Some(at) => (&text[..at], &text[at + 1..]),

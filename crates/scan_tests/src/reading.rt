@@ -1,10 +1,10 @@
 //! A text cut into its tokens.
 
 ghost use Rattle.std.specs.Prelude.{All, IfSome};
-ghost use Rattle.ps_scan.specs.Tokens.{HasTokens, IsToken};
+ghost use Rattle.ps_symbols.specs.ps_scan.Tokens.{HasTokens, IsToken};
 
 use ps_base::LONGEST_TEXT;
-use ps_scan::{Token, scan};
+use ps_symbols::ps_scan::{Token, scan};
 use std::alloc::Global;
 
 /// The tokens of a text, where it is not too long and has no fault of the scanner.

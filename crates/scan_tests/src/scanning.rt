@@ -1,14 +1,14 @@
 //! Texts, and the tokens of each or its first fault.
 
 ghost use Rattle.std.specs.Prelude.{All};
-ghost use Rattle.ps_scan.specs.Tokens.{IsToken};
+ghost use Rattle.ps_symbols.specs.ps_scan.Tokens.{IsToken};
 
 use crate::reading::tokens_of;
 use ps_base::LONGEST_TEXT;
 use ps_base::line::Line;
-use ps_scan::mark::{self, mark_place, marks};
-use ps_scan::word::{self, word_place, words};
-use ps_scan::{ScanFault, Token, TokenKind, int_of, name_of, scan, spell};
+use ps_symbols::ps_scan::mark::{self, mark_place, marks};
+use ps_symbols::ps_scan::word::{self, word_place, words};
+use ps_symbols::ps_scan::{ScanFault, Token, TokenKind, int_of, name_of, scan, spell};
 use std::alloc::Global;
 use std::test::Fail;
 

@@ -3,12 +3,12 @@
 use crate::reading::tokens_of;
 use ps_base::LONGEST_TEXT;
 use ps_base::operator::{Operator, Relation};
-use ps_scan::{TokenKind, mark, word};
 use ps_symbols::kind::{
     Kind, Level, Opening, Operation, Relating, Start, TypeStart, begins_item, begins_type, kind_of,
     opening_of, operation_of, relating_of, start_of, type_start_of,
 };
 use ps_symbols::newline::{can_continue, can_end};
+use ps_symbols::ps_scan::{TokenKind, mark, word};
 use ps_symbols::symbol::{Symbol, symbols};
 use std::alloc::Global;
 

@@ -1,19 +1,19 @@
 -- A new scope, whose first slots are written.
 use Rattle.std.proofs.Common.{◌≡◌, ℕ, suc, ◌+◌, ◌≤◌, ◌^◌, List, ◌∷◌, length, set, replicate, Option, ap, arith, subst}
-use Rattle.obj_layout.specs.Header.{HasFitLengths}
-use Rattle.obj_layout.specs.declared.kind.Kind.TheVariants.{Scope}
-use Rattle.obj_layout.specs.declared.reference.Reference.{Reference}
-use Rattle.obj_layout.specs.declared.reference.Reference.TheVariants.{Nil, Local}
-use Rattle.swizzle.specs.declared.fault.SwizzleFault.{SwizzleFault}
-use Rattle.swizzle.specs.Objects.{Object, size_of, size_of_all}
-use Rattle.swizzle.specs.Heap.{Heap, IsHeap, IsHeld, IsMade, IsFull, object_at, header_at, with_ref, reference_to, blank}
-use Rattle.swizzle.proofs.ObjectLaws.{Split, split, size_of_all-append}
-use Rattle.swizzle.proofs.KeptLaws.{held_is}
-use Rattle.text_forms.specs.declared.forms.Rows.{Rows}
-use Rattle.text_forms.specs.Forms.{forms_of, rows_of}
-use Rattle.text_forms.proofs.Passing.{few}
-use Rattle.text_forms.proofs.Places.{counted}
-use Rattle.heap_places.proofs.FillingLaws.{roomy-held, made-ref}
+use Rattle.closures.specs.obj_layout.Header.{HasFitLengths}
+use Rattle.closures.specs.obj_layout.declared.kind.Kind.TheVariants.{Scope}
+use Rattle.closures.specs.obj_layout.declared.reference.Reference.{Reference}
+use Rattle.closures.specs.obj_layout.declared.reference.Reference.TheVariants.{Nil, Local}
+use Rattle.closures.specs.swizzle.declared.fault.SwizzleFault.{SwizzleFault}
+use Rattle.closures.specs.swizzle.Objects.{Object, size_of, size_of_all}
+use Rattle.closures.specs.swizzle.Heap.{Heap, IsHeap, IsHeld, IsMade, IsFull, object_at, header_at, with_ref, reference_to, blank}
+use Rattle.closures.proofs.of_swizzle.ObjectLaws.{Split, split, size_of_all-append}
+use Rattle.closures.proofs.of_swizzle.KeptLaws.{held_is}
+use Rattle.closures.specs.text_forms.declared.forms.Rows.{Rows}
+use Rattle.closures.specs.text_forms.Forms.{forms_of, rows_of}
+use Rattle.closures.proofs.of_text_forms.Passing.{few}
+use Rattle.closures.proofs.of_text_forms.Places.{counted}
+use Rattle.closures.proofs.of_heap_places.FillingLaws.{roomy-held, made-ref}
 use Rattle.scopes.specs.Making.{scope_object, scope_words}
 
 -- The text of an area names few places.

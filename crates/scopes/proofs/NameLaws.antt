@@ -1,36 +1,36 @@
 -- The place of a name of a scope, and what is read and written there.
 use Rattle.std.proofs.Common.{inl, inr, ◌≡◌, ◌≢◌, ℕ, ◌+◌, ◌<◌, ◌^◌, List, [], ◌∷◌, length, Bool, true, false, nat_eq, Option, Some, None, sym, ap, ◌∙◌, arith, subst, if◌then◌else◌}
 use Rattle.std.specs.Prelude.{Result, Ok, Err, OnOk}
-use Rattle.ps_outside.specs.Outside.{Outside}
-use Rattle.obj_layout.specs.Kind.{kind_number}
-use Rattle.obj_layout.specs.Stored.{Space, Damage, damage}
-use Rattle.obj_layout.specs.declared.kind.Kind.TheVariants.{Text, Scope}
-use Rattle.obj_layout.specs.declared.reference.Reference as reference
-use Rattle.obj_layout.specs.declared.vault.VaultFault.TheVariants.{Damaged}
-use Rattle.swizzle.specs.declared.fault.SwizzleFault.{SwizzleFault}
-use Rattle.swizzle.specs.declared.fault.SwizzleFault.TheVariants.{Vault}
-use Rattle.swizzle.specs.Heap.{Heap, IsHeap, IsHeld, object_at, header_at}
-use Rattle.swizzle.specs.Joint.{Shown, shown_at}
-use Rattle.swizzle.specs.Changes.{Within}
-use Rattle.swizzle.specs.Text.{text_at}
-use Rattle.swizzle.specs.Touch.{Keeps}
-use Rattle.swizzle.specs.Reading.{joint, Reads, TextsStay}
-use Rattle.swizzle.proofs.ObjectLaws.{split}
-use Rattle.swizzle.proofs.KeptLaws.{held_is}
-use Rattle.swizzle.proofs.NameLaws.{shown-counts}
-use Rattle.swizzle.proofs.ReadingLaws.{reads-then, leaves-none, fails-then, texts-kept}
-use Rattle.text_forms.specs.declared.forms.Form.{Form}
-use Rattle.text_forms.specs.declared.forms.Form.TheVariants as form
-use Rattle.text_forms.specs.declared.forms.Rows.{Rows}
-use Rattle.text_forms.specs.declared.forms.Located.{Located}
-use Rattle.text_forms.specs.Forms.{forms_of, rows_of, located_in, count_in}
-use Rattle.text_forms.proofs.Places.{place-within, counted}
-use Rattle.heap_places.specs.declared.value.Value.{Value}
-use Rattle.heap_places.specs.declared.value.Value.TheVariants.{Num, Flag, Ref}
-use Rattle.heap_places.specs.Shapes.{slot_of}
-use Rattle.heap_places.specs.Places.{FirstText, HasPlace, HasRow, Holds, NamesDamage, ReadsPlace, assigned_value, fit_damage, touched_by}
-use Rattle.heap_places.proofs.PlaceLaws.{names-damage, fails-damage}
-use Rattle.heap_places.proofs.TouchedLaws.{kinds-same, text-seen}
+use Rattle.closures.specs.ps_outside.Outside.{Outside}
+use Rattle.closures.specs.obj_layout.Kind.{kind_number}
+use Rattle.closures.specs.obj_layout.Stored.{Space, Damage, damage}
+use Rattle.closures.specs.obj_layout.declared.kind.Kind.TheVariants.{Text, Scope}
+use Rattle.closures.specs.obj_layout.declared.reference.Reference as reference
+use Rattle.closures.specs.obj_layout.declared.vault.VaultFault.TheVariants.{Damaged}
+use Rattle.closures.specs.swizzle.declared.fault.SwizzleFault.{SwizzleFault}
+use Rattle.closures.specs.swizzle.declared.fault.SwizzleFault.TheVariants.{Vault}
+use Rattle.closures.specs.swizzle.Heap.{Heap, IsHeap, IsHeld, object_at, header_at}
+use Rattle.closures.specs.swizzle.Joint.{Shown, shown_at}
+use Rattle.closures.specs.swizzle.Changes.{Within}
+use Rattle.closures.specs.swizzle.Text.{text_at}
+use Rattle.closures.specs.swizzle.Touch.{Keeps}
+use Rattle.closures.specs.swizzle.Reading.{joint, Reads, TextsStay}
+use Rattle.closures.proofs.of_swizzle.ObjectLaws.{split}
+use Rattle.closures.proofs.of_swizzle.KeptLaws.{held_is}
+use Rattle.closures.proofs.of_swizzle.NameLaws.{shown-counts}
+use Rattle.closures.proofs.of_swizzle.ReadingLaws.{reads-then, leaves-none, fails-then, texts-kept}
+use Rattle.closures.specs.text_forms.declared.forms.Form.{Form}
+use Rattle.closures.specs.text_forms.declared.forms.Form.TheVariants as form
+use Rattle.closures.specs.text_forms.declared.forms.Rows.{Rows}
+use Rattle.closures.specs.text_forms.declared.forms.Located.{Located}
+use Rattle.closures.specs.text_forms.Forms.{forms_of, rows_of, located_in, count_in}
+use Rattle.closures.proofs.of_text_forms.Places.{place-within, counted}
+use Rattle.closures.specs.heap_places.declared.value.Value.{Value}
+use Rattle.closures.specs.heap_places.declared.value.Value.TheVariants.{Num, Flag, Ref}
+use Rattle.closures.specs.heap_places.Shapes.{slot_of}
+use Rattle.closures.specs.heap_places.Places.{FirstText, HasPlace, HasRow, Holds, NamesDamage, ReadsPlace, assigned_value, fit_damage, touched_by}
+use Rattle.closures.proofs.of_heap_places.PlaceLaws.{names-damage, fails-damage}
+use Rattle.closures.proofs.of_heap_places.TouchedLaws.{kinds-same, text-seen}
 use Rattle.heap_ops.specs.declared.layouts.Entry.{Entry}
 use Rattle.heap_ops.specs.Layouts.{AreSo}
 use Rattle.heap_ops.specs.Vectors.{fitted}
@@ -141,6 +141,7 @@ gets old mid new a b c at name l (Err fault) h held o read =
         located = l;
         heap = h;
         keeps = o.reads.keeps;
+        grows = λ n it seen. same-before mid a b o.reads.outside.contents n it (o.reads.grows n it seen);
         is = has-grows (joint mid b) (joint mid a) (shown_at old at) o.text name l (same-before mid a b o.reads.outside.contents) o.is;
         why = elim (read.1) [
           | inl damaged ↦ inl (damage-at old mid at k l.place.form fault o.reads.keeps held stays.shown_as damaged)
@@ -178,7 +179,7 @@ pub refuses : (old mid : Heap) (a b : Outside Space) (at name : ℕ) (l : Locate
 refuses old mid a b at name l v fault held o none names =
     let kept = damage-kept old mid at (fit_damage l.place.form v) fault o.reads.keeps held names in (
       fails-damage a b _ _ _ fault o.reads.outside kept.2,
-      inr (record { text = o.text; located = l; keeps = o.reads.keeps; is = o.is; misfit = none; names = kept }),
+      inr (record { text = o.text; located = l; keeps = o.reads.keeps; grows = o.reads.grows; is = o.is; misfit = none; names = kept }),
     )
 
 -- The name is looked for.
@@ -199,7 +200,7 @@ name-damaged old new a b at text name fault held same first names =
     let now = subst (λ (it : Shown). NamesDamage new at (name_damage it (forms_of (text_at new text)) name) fault) shown_as names in
     let kept = damage-kept old new at (name_damage (shown_at old at) (forms_of (text_at new text)) name) fault first.reads.keeps held now in (
       fails-damage a b _ _ _ fault first.reads.outside kept.2,
-      inr (inr (kinds-same (header_at old at).kind Scope same, first.reads.keeps, (text_at new text, text-seen old new a b at text first, kept))),
+      inr (inr (kinds-same (header_at old at).kind Scope same, first.reads.keeps, first.reads.grows, (text_at new text, text-seen old new a b at text first, kept))),
     )
 
 pub opens-none : (old new : Heap) (a b : Outside Space) (at text name : ℕ) (fault : SwizzleFault) → IsHeld old at

@@ -1,8 +1,8 @@
 -- The way out is one.
 use Rattle.std.proofs.Common.{◌≡◌, List, [], ◌∷◌, length, refl, sym, ap, ◌∙◌, subst, arith}
-use Rattle.obj_layout.specs.declared.reference.Reference.{Reference}
-use Rattle.swizzle.specs.Joint.{Shown}
-use Rattle.heap_places.specs.Shapes.{slot_of}
+use Rattle.closures.specs.obj_layout.declared.reference.Reference.{Reference}
+use Rattle.closures.specs.swizzle.Joint.{Shown}
+use Rattle.closures.specs.heap_places.Shapes.{slot_of}
 use Rattle.scopes.specs.Way.{LeadsOver}
 
 pub one-way : (seen : Reference → Shown → Type 0) (name : Reference) (a b : List Reference)

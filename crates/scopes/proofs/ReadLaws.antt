@@ -1,20 +1,20 @@
 -- A scope that was made, as it is read.
 use Rattle.std.proofs.Common.{◌≡◌, ℕ, zero, suc, ◌+◌, ◌∷◌, replicate, get_or, slice_index, true, nat_eq, Option, Some, None, IfSome, refl, sym, ap, ◌∙◌, arith}
-use Rattle.obj_layout.specs.Kind.{kind_number}
-use Rattle.obj_layout.specs.declared.kind.Kind.TheVariants.{Scope}
-use Rattle.obj_layout.specs.declared.reference.Reference.TheVariants.{Nil, Local}
-use Rattle.swizzle.specs.Objects.{Object}
-use Rattle.swizzle.specs.Heap.{Heap, IsHeap, IsHeld, IsMade, header_at, reference_to}
-use Rattle.swizzle.specs.Joint.{shown_at, name_of}
-use Rattle.swizzle.specs.Touch.{Denotes}
-use Rattle.swizzle.proofs.MadeLaws.{made-held, made-object, made-other}
-use Rattle.text_forms.specs.declared.forms.Form.{Form}
-use Rattle.text_forms.specs.declared.forms.Form.TheVariants as form
-use Rattle.text_forms.specs.declared.forms.Rows.{Rows}
-use Rattle.heap_places.specs.Shapes.{slot_of, word_in}
-use Rattle.heap_places.specs.Words.{int_in, flag_in}
-use Rattle.heap_places.specs.Places.{Holds}
-use Rattle.heap_places.proofs.PlaceLaws.{slot-name}
+use Rattle.closures.specs.obj_layout.Kind.{kind_number}
+use Rattle.closures.specs.obj_layout.declared.kind.Kind.TheVariants.{Scope}
+use Rattle.closures.specs.obj_layout.declared.reference.Reference.TheVariants.{Nil, Local}
+use Rattle.closures.specs.swizzle.Objects.{Object}
+use Rattle.closures.specs.swizzle.Heap.{Heap, IsHeap, IsHeld, IsMade, header_at, reference_to}
+use Rattle.closures.specs.swizzle.Joint.{shown_at, name_of}
+use Rattle.closures.specs.swizzle.Touch.{Denotes}
+use Rattle.closures.proofs.of_swizzle.MadeLaws.{made-held, made-object, made-other}
+use Rattle.closures.specs.text_forms.declared.forms.Form.{Form}
+use Rattle.closures.specs.text_forms.declared.forms.Form.TheVariants as form
+use Rattle.closures.specs.text_forms.declared.forms.Rows.{Rows}
+use Rattle.closures.specs.heap_places.Shapes.{slot_of, word_in}
+use Rattle.closures.specs.heap_places.Words.{int_in, flag_in}
+use Rattle.closures.specs.heap_places.Places.{Holds}
+use Rattle.closures.proofs.of_heap_places.PlaceLaws.{slot-name}
 use Rattle.closures.proofs.ShapeLaws as shape
 use Rattle.scopes.specs.Making.{scope_object, first_value}
 use Rattle.scopes.specs.Names.{scope_damage, index_of}

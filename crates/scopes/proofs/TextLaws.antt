@@ -1,18 +1,18 @@
 -- Texts stay as an object that is none is changed.
 use Rattle.std.proofs.Common.{Bool, true, false, ◌≡◌, ◌≢◌, ℕ, ◌∷◌, [], ◌++◌, List, refl, sym, ap, ◌∙◌, subst, if◌then◌else◌}
-use Rattle.obj_layout.specs.declared.kind.Kind.TheVariants.{Text}
-use Rattle.swizzle.specs.Objects.{Object}
-use Rattle.swizzle.specs.Heap.{Heap, IsHeld, object_at, header_at, with_object, with_mark, is_assigned, flagged}
-use Rattle.swizzle.specs.Text.{text_of}
-use Rattle.swizzle.specs.Reading.{TextsStay}
-use Rattle.swizzle.proofs.HeapLaws.{held-replaced}
-use Rattle.swizzle.proofs.KeptLaws.{held_is}
-use Rattle.swizzle.proofs.JointLaws.{IsLike, like_long, object-replaced_other}
-use Rattle.swizzle.proofs.ReadingLaws.{texts-then}
-use Rattle.swizzle.proofs.StandLaws.{like_flags, stands-object}
-use Rattle.heap_places.specs.declared.value.Value.{Value}
-use Rattle.heap_places.specs.declared.value.Value.TheVariants.{Num, Flag, Ref}
-use Rattle.heap_places.specs.Places.{with_value, assigned_value}
+use Rattle.closures.specs.obj_layout.declared.kind.Kind.TheVariants.{Text}
+use Rattle.closures.specs.swizzle.Objects.{Object}
+use Rattle.closures.specs.swizzle.Heap.{Heap, IsHeld, object_at, header_at, with_object, with_mark, is_assigned, flagged}
+use Rattle.closures.specs.swizzle.Text.{text_of}
+use Rattle.closures.specs.swizzle.Reading.{TextsStay}
+use Rattle.closures.proofs.of_swizzle.HeapLaws.{held-replaced}
+use Rattle.closures.proofs.of_swizzle.KeptLaws.{held_is}
+use Rattle.closures.proofs.of_swizzle.JointLaws.{IsLike, like_long, object-replaced_other}
+use Rattle.closures.proofs.of_swizzle.ReadingLaws.{texts-then}
+use Rattle.closures.proofs.of_swizzle.StandLaws.{like_flags, stands-object}
+use Rattle.closures.specs.heap_places.declared.value.Value.{Value}
+use Rattle.closures.specs.heap_places.declared.value.Value.TheVariants.{Num, Flag, Ref}
+use Rattle.closures.specs.heap_places.Places.{with_value, assigned_value}
 
 -- an object that is no text is replaced by one like it
 texts-object : (heap : Heap) (at : ℕ) (o : Object) → IsHeld heap at → (header_at heap at).kind ≢ Text → IsLike (object_at heap at) o

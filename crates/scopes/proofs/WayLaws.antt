@@ -4,25 +4,26 @@ use Rattle.std.specs.Prelude.{Result, Ok, Err, IfOk, IfErr, OnOk, unwrap_or}
 use Rattle.std.proofs.lemmas.Bool.{cases_lt}
 use Rattle.std.proofs.lemmas.Bool.Decides.{nat_tests}
 use Rattle.std.proofs.lemmas.Grind.{common_steps}
-use Rattle.ps_outside.specs.Outside.{Outside, SameContents}
-use Rattle.obj_layout.specs.Kind.{kind_number}
-use Rattle.obj_layout.specs.Stored.{Space, damage}
-use Rattle.obj_layout.specs.declared.reference.Reference.{Reference}
-use Rattle.obj_layout.specs.declared.reference.Reference.TheVariants.{Nil, Local}
-use Rattle.obj_layout.specs.declared.vault.VaultFault.TheVariants.{Damaged}
-use Rattle.swizzle.specs.declared.fault.SwizzleFault.{SwizzleFault}
-use Rattle.swizzle.specs.declared.fault.SwizzleFault.TheVariants.{AreaFull, Vault}
-use Rattle.swizzle.specs.Heap.{Heap, IsHeap, IsHeld, nothing, top_of, header_at, ref_at}
-use Rattle.swizzle.specs.Objects.{Object}
-use Rattle.swizzle.specs.Joint.{Shown, shown_at, name_at, name_of}
-use Rattle.swizzle.specs.Changes.{Within, Touched}
-use Rattle.swizzle.specs.Touch.{Denotes, Keeps, IsNear, IsTouchCall, IsTouchFault}
-use Rattle.swizzle.specs.Reading.{joint}
-use Rattle.swizzle.proofs.NameLaws.{shown-counts, name-not_nil}
-use Rattle.swizzle.proofs.ReadingLaws.{reads-none, reads-then, leaves-then, fails-touch, fails-then}
-use Rattle.heap_places.specs.Shapes.{slot_of}
-use Rattle.heap_places.specs.Places.{NamesDamage, FailsFetch}
-use Rattle.heap_places.proofs.PlaceLaws.{slot-name, refs_below, reads-slot, denotes-slot, names-damage, fails-damage}
+use Rattle.closures.specs.ps_outside.Outside.{Outside, SameContents}
+use Rattle.closures.specs.obj_layout.Kind.{kind_number}
+use Rattle.closures.specs.obj_layout.Stored.{Space, damage}
+use Rattle.closures.specs.obj_layout.declared.reference.Reference.{Reference}
+use Rattle.closures.specs.obj_layout.declared.reference.Reference.TheVariants.{Nil, Local}
+use Rattle.closures.specs.obj_layout.declared.vault.VaultFault.TheVariants.{Damaged}
+use Rattle.closures.specs.swizzle.declared.fault.SwizzleFault.{SwizzleFault}
+use Rattle.closures.specs.swizzle.declared.fault.SwizzleFault.TheVariants.{AreaFull, Vault}
+use Rattle.closures.specs.swizzle.Heap.{Heap, IsHeap, IsHeld, nothing, top_of, header_at, ref_at}
+use Rattle.closures.specs.swizzle.Objects.{Object}
+use Rattle.closures.specs.swizzle.Joint.{Shown, shown_at, name_at, name_of}
+use Rattle.closures.specs.swizzle.Changes.{Within, Touched}
+use Rattle.closures.specs.swizzle.Touch.{Denotes, Keeps, IsNear, IsTouchCall, IsTouchFault}
+use Rattle.closures.specs.swizzle.Reading.{joint, Reads}
+use Rattle.closures.proofs.of_swizzle.DamageLaws.{passes-same, reports-same}
+use Rattle.closures.proofs.of_swizzle.NameLaws.{shown-counts, name-not_nil}
+use Rattle.closures.proofs.of_swizzle.ReadingLaws.{reads-none, reads-then, leaves-then, fails-touch, fails-then}
+use Rattle.closures.specs.heap_places.Shapes.{slot_of}
+use Rattle.closures.specs.heap_places.Places.{NamesDamage, FailsFetch}
+use Rattle.closures.proofs.of_heap_places.PlaceLaws.{slot-name, refs_below, reads-slot, denotes-slot, names-damage, fails-damage}
 use Rattle.heap_ops.proofs.ClassLaws.{pid-kept, same-before}
 use Rattle.heap_ops.proofs.FieldLaws.{fetch-fault}
 use Rattle.scopes.specs.Way.{way_damage, HasParent, TellsParent, IsParent, LeadsOver, end_of, LeadsOut, GoesOut}
@@ -141,6 +142,10 @@ led-further old mid new a b c scope up at parent l p =
 
 -- It ends early.
 
+-- what was read on the way is seen of what the vault held before
+led-seen : (old mid : Heap) (a b : Outside Space) (names : List Reference) → Reads old mid a b names → Within (joint old a) (joint mid a)
+led-seen old mid a b names reads name it seen = same-before mid a b reads.outside.contents name it (reads.grows name it seen)
+
 pub ends-nil : (old mid new : Heap) (a b c : Outside Space) (scope up gone at : ℕ) (fault : SwizzleFault) → IsHeap mid → gone < up
     → LeadsOut old mid a b scope gone at → HasParent mid new b c at None → fault ≡ Vault (Damaged (header_at new at).pid 0 1)
     → GoesOut old new a c scope up (Err fault)
@@ -151,6 +156,7 @@ ends-nil old mid new a b c scope up gone at fault h less l p named =
         mid = mid;
         heap = h;
         keeps = l.reads.keeps;
+        grows = led-seen old mid a b l.parents l.reads;
         parents = l.parents;
         at = at;
         levels = omega (arith, l.levels, less);
@@ -170,10 +176,11 @@ fetch-before mid a b name (AreaFull top wanted size) same f = (
     f.3.0,
     f.3.1,
     f.3.2,
-    λ words stored. f.3.3 words (record { space = stored.space; is = same.kept stored.space stored.is; has = stored.has }),
+    passes-same a b f.3.0 same f.3.3,
+    λ words stored. f.3.4 words (record { space = stored.space; is = same.kept stored.space stored.is; has = stored.has }),
   ),
 )
-fetch-before mid a b name (Vault refused) same f = f
+fetch-before mid a b name (Vault refused) same f = (f.0, f.1, f.2, reports-same a b f.0 refused same f.3)
 
 pub ends-fault : (old mid new : Heap) (a b c : Outside Space) (scope up gone at : ℕ) (fault : SwizzleFault) → IsHeap mid → gone < up
     → LeadsOut old mid a b scope gone at → TellsParent mid new b c at (Err fault) → GoesOut old new a c scope up (Err fault)
@@ -183,6 +190,7 @@ ends-fault old mid new a b c scope up gone at fault h less l t = (
     mid = mid;
     heap = h;
     keeps = l.reads.keeps;
+    grows = led-seen old mid a b l.parents l.reads;
     parents = l.parents;
     at = at;
     levels = omega (arith, l.levels, less);

@@ -1,18 +1,18 @@
 -- New scopes.
 use Rattle.std.specs.Prelude.{ℕ, pos, ◌+◌, ◌∷◌, replicate, false, Option, None, Result, Ok, Err, List}
-use Rattle.obj_layout.specs.declared.kind.Kind.TheVariants.{Scope}
-use Rattle.obj_layout.specs.declared.reference.Reference.TheVariants.{Nil, Local}
-use Rattle.swizzle.specs.declared.fault.SwizzleFault.{SwizzleFault}
-use Rattle.swizzle.specs.Objects.{Object}
-use Rattle.swizzle.specs.Heap.{Heap, IsMade, IsFull, reference_to, blank}
-use Rattle.text_forms.specs.declared.forms.Form.{Form}
-use Rattle.text_forms.specs.declared.forms.Form.TheVariants.{Number, Flag as Truth, Reference}
-use Rattle.text_forms.specs.declared.forms.Rows.{Rows}
-use Rattle.text_forms.specs.Forms.{forms_of, rows_of}
-use Rattle.heap_places.specs.declared.value.Value.{Value}
-use Rattle.heap_places.specs.declared.value.Value.TheVariants.{Num, Flag, Ref}
+use Rattle.closures.specs.obj_layout.declared.kind.Kind.TheVariants.{Scope}
+use Rattle.closures.specs.obj_layout.declared.reference.Reference.TheVariants.{Nil, Local}
+use Rattle.closures.specs.swizzle.declared.fault.SwizzleFault.{SwizzleFault}
+use Rattle.closures.specs.swizzle.Objects.{Object}
+use Rattle.closures.specs.swizzle.Heap.{Heap, IsMade, IsFull, reference_to, blank}
+use Rattle.closures.specs.text_forms.declared.forms.Form.{Form}
+use Rattle.closures.specs.text_forms.declared.forms.Form.TheVariants.{Number, Flag as Truth, Reference}
+use Rattle.closures.specs.text_forms.declared.forms.Rows.{Rows}
+use Rattle.closures.specs.text_forms.Forms.{forms_of, rows_of}
+use Rattle.closures.specs.heap_places.declared.value.Value.{Value}
+use Rattle.closures.specs.heap_places.declared.value.Value.TheVariants.{Num, Flag, Ref}
 
--- A new scope: its text, its parent where it has one, and behind them nil for each name that is no number; behind its home, which is 0, a 0 for
+-- A new scope: its text, its parent where it has one, and after them nil for each name that is no number; after its home, which is 0, a 0 for
 -- each that is.
 unfoldable pub scope_object : ℕ → Option ℕ → Rows → Object
 scope_object names parent rows =

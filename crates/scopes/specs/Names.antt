@@ -1,25 +1,26 @@
 -- The names of scopes: what is read of one, and what is written to it.
 use Rattle.std.specs.Prelude.{◌≡◌, ◌⊎◌, ℕ, ◌+◌, List, [], ◌∷◌, ◌++◌, length, nat_eq, if◌then◌else◌, Option, Some, None, Result, Ok, Err}
-use Rattle.ps_outside.specs.Outside.{Outside}
-use Rattle.obj_layout.specs.Kind.{kind_number}
-use Rattle.obj_layout.specs.Stored.{Space, Damage, damage}
-use Rattle.obj_layout.specs.declared.kind.Kind.TheVariants.{Scope}
-use Rattle.obj_layout.specs.declared.reference.Reference as reference
-use Rattle.swizzle.specs.declared.fault.SwizzleFault.{SwizzleFault}
-use Rattle.swizzle.specs.Heap.{Heap, IsHeap, ref_at}
-use Rattle.swizzle.specs.Joint.{Shown, shown_at}
-use Rattle.swizzle.specs.Reading.{joint, Reads, FailsReading}
-use Rattle.swizzle.specs.Touch.{Keeps, IsTouchFault}
-use Rattle.text_forms.specs.declared.forms.Form.{Form}
-use Rattle.text_forms.specs.declared.forms.Form.TheVariants.{Reference}
-use Rattle.text_forms.specs.declared.forms.Place.{Place}
-use Rattle.text_forms.specs.declared.forms.Rows.{Rows}
-use Rattle.text_forms.specs.declared.forms.Located.{Located}
-use Rattle.text_forms.specs.Forms.{forms_of, located_in, is_number_form}
-use Rattle.heap_places.specs.declared.value.Value.{Value}
-use Rattle.heap_places.specs.Shapes.{slot_of, word_in, IsText, shape_damage}
-use Rattle.heap_places.specs.Words.{word_damage}
-use Rattle.heap_places.specs.Places.{Holds, touched_by, NoText, NamesDamage, FailsFetch, fit_damage, assigned_value}
+use Rattle.closures.specs.ps_outside.Outside.{Outside}
+use Rattle.closures.specs.obj_layout.Kind.{kind_number}
+use Rattle.closures.specs.obj_layout.Stored.{Space, Damage, damage}
+use Rattle.closures.specs.obj_layout.declared.kind.Kind.TheVariants.{Scope}
+use Rattle.closures.specs.obj_layout.declared.reference.Reference as reference
+use Rattle.closures.specs.swizzle.declared.fault.SwizzleFault.{SwizzleFault}
+use Rattle.closures.specs.swizzle.Heap.{Heap, IsHeap, ref_at}
+use Rattle.closures.specs.swizzle.Joint.{Shown, shown_at}
+use Rattle.closures.specs.swizzle.Changes.{Within}
+use Rattle.closures.specs.swizzle.Reading.{joint, Reads, FailsReading}
+use Rattle.closures.specs.swizzle.Touch.{Keeps, IsTouchFault}
+use Rattle.closures.specs.text_forms.declared.forms.Form.{Form}
+use Rattle.closures.specs.text_forms.declared.forms.Form.TheVariants.{Reference}
+use Rattle.closures.specs.text_forms.declared.forms.Place.{Place}
+use Rattle.closures.specs.text_forms.declared.forms.Rows.{Rows}
+use Rattle.closures.specs.text_forms.declared.forms.Located.{Located}
+use Rattle.closures.specs.text_forms.Forms.{forms_of, located_in, is_number_form}
+use Rattle.closures.specs.heap_places.declared.value.Value.{Value}
+use Rattle.closures.specs.heap_places.Shapes.{slot_of, word_in, IsText, shape_damage}
+use Rattle.closures.specs.heap_places.Words.{word_damage}
+use Rattle.closures.specs.heap_places.Places.{Holds, touched_by, NoText, NamesDamage, FailsFetch, fit_damage, assigned_value}
 use Rattle.heap_ops.specs.Vectors.{fitted}
 
 -- the object is no scope
@@ -38,7 +39,7 @@ damage_by it name count (Some located) = scope_damage it located.rows
 unfoldable pub name_damage : Shown → List Form → ℕ → Option Damage
 name_damage it forms name = damage_by it name (length forms) (located_in forms name)
 
--- the index of a name's place in its row: behind the home, or behind the text and the parent
+-- the index of a name's place in its row: after the home, or after the text and the parent
 abbrev pub index_of : Place → ℕ
 index_of place = if is_number_form place.form then 1 + place.index else 2 + place.index
 
@@ -58,8 +59,8 @@ text_of it = slot_of it 0 ∷ []
 abbrev pub FailsName : Heap → Heap → Outside Space → Outside Space → ℕ → ℕ → SwizzleFault → Type 0
 FailsName old new before after at name fault =
     NamesDamage old at (kind_damage (shown_at old at)) fault
-    ⊎ (((shown_at old at).kind ≡ Scope) × (NoText old new at fault ⊎ IsTouchFault old before (ref_at old at 0) fault))
-    ⊎ (((shown_at old at).kind ≡ Scope) × Keeps old new
+    ⊎ (((shown_at old at).kind ≡ Scope) × (NoText old new before after at fault ⊎ IsTouchFault old before (ref_at old at 0) fault))
+    ⊎ (((shown_at old at).kind ≡ Scope) × Keeps old new × Within (joint old before) (joint new after)
     × ((text : List ℕ) × IsText (joint new after) (slot_of (shown_at old at) 0) text
     × NamesDamage old at (name_damage (shown_at old at) (forms_of text) name) fault))
 
@@ -71,6 +72,7 @@ pub record FailsKept (old : Heap) (before : Outside Space) (at name : ℕ) (faul
   pub located : Located
   pub heap : IsHeap mid
   pub keeps : Keeps old mid
+  pub grows : Within (joint old before) (joint mid before)
   pub is : HasName (joint mid before) (shown_at old at) text name located
   pub why : NamesDamage old at (word_damage located.place.form (word_in (shown_at old at) (index_of located.place))) fault
       ⊎ ((located.place.form ≡ Reference) × FailsFetch old before (slot_of (shown_at old at) (index_of located.place)) fault)
@@ -89,7 +91,7 @@ GetsKept old new before after at name (Ok v) = ReadsKept old new before after at
 GetsKept old new before after at name (Err fault) =
     FailsReading before after fault × (FailsName old new before after at name fault ⊎ FailsKept old before at name fault)
 
--- The value of a name was written: behind a reading of the scope's text it stands there, as its form holds it, and the scope is assigned.
+-- The value of a name was written: after a reading of the scope's text it stands there, as its form holds it, and the scope is assigned.
 pub record WritesKept (old new : Heap) (before after : Outside Space) (at name : ℕ) (v : Value) : Type 0 where
   pub mid : Heap
   pub text : List ℕ
@@ -102,10 +104,11 @@ pub record WritesKept (old new : Heap) (before after : Outside Space) (at name :
   pub written : new ≡ assigned_value mid at (index_of located.place) stored
 
 -- The value belongs into the other row.
-pub record RefusesKept (old new : Heap) (after : Outside Space) (at name : ℕ) (v : Value) (fault : SwizzleFault) : Type 0 where
+pub record RefusesKept (old new : Heap) (before after : Outside Space) (at name : ℕ) (v : Value) (fault : SwizzleFault) : Type 0 where
   pub text : List ℕ
   pub located : Located
   pub keeps : Keeps old new
+  pub grows : Within (joint old before) (joint new after)
   pub is : HasName (joint new after) (shown_at old at) text name located
   pub misfit : fitted located.place.form v ≡ None
   pub names : NamesDamage old at (fit_damage located.place.form v) fault
@@ -114,4 +117,4 @@ pub record RefusesKept (old new : Heap) (after : Outside Space) (at name : ℕ) 
 abbrev pub SetsKept : Heap → Heap → Outside Space → Outside Space → ℕ → ℕ → Value → Result (Unit {0}) SwizzleFault → Type 0
 SetsKept old new before after at name v (Ok done) = WritesKept old new before after at name v
 SetsKept old new before after at name v (Err fault) =
-    FailsReading before after fault × (FailsName old new before after at name fault ⊎ RefusesKept old new after at name v fault)
+    FailsReading before after fault × (FailsName old new before after at name fault ⊎ RefusesKept old new before after at name v fault)

@@ -1,17 +1,18 @@
 -- The way out of a scope: from each scope to its parent.
 use Rattle.std.specs.Prelude.{◌≡◌, ◌≢◌, ◌⊎◌, ℕ, ◌<◌, List, [], ◌∷◌, length, nat_eq, nat_lt, if◌then◌else◌, Option, Some, None, Result, Ok, Err}
-use Rattle.ps_outside.specs.Outside.{Outside}
-use Rattle.obj_layout.specs.Kind.{kind_number}
-use Rattle.obj_layout.specs.Stored.{Space, Damage, damage}
-use Rattle.obj_layout.specs.declared.reference.Reference.{Reference}
-use Rattle.obj_layout.specs.declared.reference.Reference.TheVariants.{Nil}
-use Rattle.swizzle.specs.declared.fault.SwizzleFault.{SwizzleFault}
-use Rattle.swizzle.specs.Heap.{Heap, IsHeap, ref_at}
-use Rattle.swizzle.specs.Joint.{Shown, shown_at, name_at}
-use Rattle.swizzle.specs.Touch.{Denotes, Keeps, IsTouchFault}
-use Rattle.swizzle.specs.Reading.{joint, Reads, FailsReading}
-use Rattle.heap_places.specs.Shapes.{slot_of}
-use Rattle.heap_places.specs.Places.{NamesDamage, FailsFetch}
+use Rattle.closures.specs.ps_outside.Outside.{Outside}
+use Rattle.closures.specs.obj_layout.Kind.{kind_number}
+use Rattle.closures.specs.obj_layout.Stored.{Space, Damage, damage}
+use Rattle.closures.specs.obj_layout.declared.reference.Reference.{Reference}
+use Rattle.closures.specs.obj_layout.declared.reference.Reference.TheVariants.{Nil}
+use Rattle.closures.specs.swizzle.declared.fault.SwizzleFault.{SwizzleFault}
+use Rattle.closures.specs.swizzle.Heap.{Heap, IsHeap, ref_at}
+use Rattle.closures.specs.swizzle.Joint.{Shown, shown_at, name_at}
+use Rattle.closures.specs.swizzle.Changes.{Within}
+use Rattle.closures.specs.swizzle.Touch.{Denotes, Keeps, IsTouchFault}
+use Rattle.closures.specs.swizzle.Reading.{joint, Reads, FailsReading}
+use Rattle.closures.specs.heap_places.Shapes.{slot_of}
+use Rattle.closures.specs.heap_places.Places.{NamesDamage, FailsFetch}
 
 -- The first of these that isn't so of an object that the way goes through: it is a scope, and has two references at least.
 unfoldable pub way_damage : Shown → Option Damage
@@ -68,6 +69,7 @@ pub record EndsEarly (old : Heap) (before : Outside Space) (scope up : ℕ) (fau
   pub mid : Heap
   pub heap : IsHeap mid
   pub keeps : Keeps old mid
+  pub grows : Within (joint old before) (joint mid before)
   pub parents : List Reference
   pub at : ℕ
   pub levels : length parents < up

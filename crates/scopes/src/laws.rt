@@ -1,21 +1,21 @@
 //! What was made is read, and the way out is one. The functions here do nothing: each states a law.
 ghost use Rattle.std.specs.Prelude.{◌≡◌, ℕ, List, Option, IfSome, None, Some, length};
-ghost use Rattle.obj_layout.specs.Stored.{Holds};
-ghost use Rattle.obj_layout.specs.declared.reference.Reference.{Reference as Name};
-ghost use Rattle.swizzle.specs.Heap.{Heap, IsHeap, IsHeld, IsMade};
-ghost use Rattle.swizzle.specs.Joint.{shown_at};
-ghost use Rattle.swizzle.specs.Touch.{Denotes};
-ghost use Rattle.swizzle.specs.Reading.{joint};
-ghost use Rattle.text_forms.specs.Forms.{forms_of, located_in, rows_of};
-ghost use Rattle.text_forms.specs.declared.forms.Located.{Located as Found};
-ghost use Rattle.heap_places.specs.Shapes.{slot_of};
-ghost use Rattle.heap_places.specs.Places.{Holds as HoldsValue};
+ghost use Rattle.closures.specs.obj_layout.Stored.{Holds};
+ghost use Rattle.closures.specs.obj_layout.declared.reference.Reference.{Reference as Name};
+ghost use Rattle.closures.specs.swizzle.Heap.{Heap, IsHeap, IsHeld, IsMade};
+ghost use Rattle.closures.specs.swizzle.Joint.{shown_at};
+ghost use Rattle.closures.specs.swizzle.Touch.{Denotes};
+ghost use Rattle.closures.specs.swizzle.Reading.{joint};
+ghost use Rattle.closures.specs.text_forms.Forms.{forms_of, located_in, rows_of};
+ghost use Rattle.closures.specs.text_forms.declared.forms.Located.{Located as Found};
+ghost use Rattle.closures.specs.heap_places.Shapes.{slot_of};
+ghost use Rattle.closures.specs.heap_places.Places.{Holds as HoldsValue};
 ghost use Rattle.scopes.specs.Making.{first_value, scope_object};
 ghost use Rattle.scopes.specs.Names.{index_of, scope_damage};
 ghost use Rattle.scopes.specs.Way.{LeadsOver, way_damage};
 
-use obj_layout::vault::Vault;
-use swizzle::swizzle::Swizzle;
+use closures::obj_layout::vault::Vault;
+use closures::swizzle::swizzle::Swizzle;
 
 /// A scope that was made has the shape that its text tells; its slots denote the text and the parent that it was made of, the way may go through
 /// it, and it keeps 0, false or nil under each name.

@@ -5,3 +5,7 @@ pub mod laws;
 pub mod making;
 pub mod names;
 pub mod way;
+
+pub use closures;
+pub use closures::{heap_places, heap_texts, swizzle};
+pub use heap_ops;

@@ -1,12 +1,12 @@
 ghost use Rattle.std.specs.Prelude.{◌≡◌, IfSome};
-ghost use Rattle.swizzle.specs.Heap.{IsHeld, Stands, header_at};
-ghost use Rattle.swizzle.specs.Text.{text_at};
+ghost use Rattle.closures.specs.swizzle.Heap.{IsHeld, Stands, header_at};
+ghost use Rattle.closures.specs.swizzle.Text.{text_at};
 ghost use Rattle.scopes.specs.Making.{MakesScope};
 
-use obj_layout::kind::Kind;
-use swizzle::fault::SwizzleFault;
-use swizzle::swizzle::Swizzle;
-use text_forms::forms::count_places;
+use closures::obj_layout::kind::Kind;
+use closures::swizzle::fault::SwizzleFault;
+use closures::swizzle::swizzle::Swizzle;
+use closures::text_forms::forms::count_places;
 
 /// Makes the scope of a text under a parent, where there is one: each name that is an int or a bool holds 0, and each other nil. AreaFull exactly
 /// where there is no room for its words; then the area stays.

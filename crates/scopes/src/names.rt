@@ -1,28 +1,28 @@
 ghost use Rattle.std.specs.Prelude.{◌≡◌, ◌+◌, ◌<◌, ◌^◌, length, Ok, IfSome, OnOk};
-ghost use Rattle.obj_layout.specs.declared.vault.VaultFault.TheVariants.{Damaged};
-ghost use Rattle.swizzle.specs.declared.fault.SwizzleFault.TheVariants.{Vault as InVault};
-ghost use Rattle.swizzle.specs.Heap.{IsHeld, Stands, header_at};
-ghost use Rattle.swizzle.specs.Text.{text_at};
-ghost use Rattle.text_forms.specs.Forms.{forms_of};
-ghost use Rattle.swizzle.specs.Joint.{shown_at};
-ghost use Rattle.heap_places.specs.Places.{FirstText, HasPlace, IsNear, ReadsPlace, TouchesText};
+ghost use Rattle.closures.specs.obj_layout.declared.vault.VaultFault.TheVariants.{Damaged};
+ghost use Rattle.closures.specs.swizzle.declared.fault.SwizzleFault.TheVariants.{Vault as InVault};
+ghost use Rattle.closures.specs.swizzle.Heap.{IsHeld, Stands, header_at};
+ghost use Rattle.closures.specs.swizzle.Text.{text_at};
+ghost use Rattle.closures.specs.text_forms.Forms.{forms_of};
+ghost use Rattle.closures.specs.swizzle.Joint.{shown_at};
+ghost use Rattle.closures.specs.heap_places.Places.{FirstText, HasPlace, IsNear, ReadsPlace, TouchesText};
 ghost use Rattle.heap_ops.specs.Layouts.{AreSo};
 ghost use Rattle.scopes.specs.Names.{GetsKept, SetsKept, index_of};
 ghost use Rattle.scopes.specs.inside.Opening.{OpensName};
 
+use closures::heap_places::places::{self, damaged, write_place};
+use closures::heap_places::texts;
+use closures::heap_places::value::Value;
+use closures::obj_layout::kind::Kind;
+use closures::obj_layout::reference::Reference;
+use closures::obj_layout::vault::Vault;
 use closures::shape::{other_kind, test_shape};
+use closures::swizzle::fault::SwizzleFault;
+use closures::swizzle::swizzle::Swizzle;
+use closures::text_forms::forms::{Form, Located, Place, count_places};
 use heap_ops::layouts::Layouts;
 use heap_ops::shape::fit;
 use heap_ops::vectors::misfitting;
-use heap_places::places::{self, damaged, write_place};
-use heap_places::texts;
-use heap_places::value::Value;
-use obj_layout::kind::Kind;
-use obj_layout::reference::Reference;
-use obj_layout::vault::Vault;
-use swizzle::fault::SwizzleFault;
-use swizzle::swizzle::Swizzle;
-use text_forms::forms::{Form, Located, Place, count_places};
 
 /// What a scope keeps under the name of this number, from 0 in the order of its text. A referred object is fetched where it isn't in the area.
 /// Damaged, at the scope's PID, exactly where the object is no scope (found the number of its kind, wanted 4), refers to no text first (as

@@ -1,16 +1,16 @@
 ghost use Rattle.std.specs.Prelude.{◌≡◌, None, Some, IfSome, MatchResult, OnOk};
-ghost use Rattle.swizzle.specs.Heap.{IsHeld};
-ghost use Rattle.swizzle.specs.Joint.{shown_at};
-ghost use Rattle.heap_places.specs.Places.{NamesDamage};
+ghost use Rattle.closures.specs.swizzle.Heap.{IsHeld};
+ghost use Rattle.closures.specs.swizzle.Joint.{shown_at};
+ghost use Rattle.closures.specs.heap_places.Places.{NamesDamage};
 ghost use Rattle.scopes.specs.Way.{GoesOut, HasParent, TellsParent, way_damage};
 
+use closures::heap_places::places::damaged;
+use closures::obj_layout::kind::Kind;
+use closures::obj_layout::reference::Reference;
+use closures::obj_layout::vault::Vault;
 use closures::shape::other_kind;
-use heap_places::places::damaged;
-use obj_layout::kind::Kind;
-use obj_layout::reference::Reference;
-use obj_layout::vault::Vault;
-use swizzle::fault::SwizzleFault;
-use swizzle::swizzle::Swizzle;
+use closures::swizzle::fault::SwizzleFault;
+use closures::swizzle::swizzle::Swizzle;
 
 /// The parent of a scope; None for a scope without one. It is fetched where it isn't in the area, and isn't tested itself. Damaged, at the
 /// object's PID, exactly where it is no scope (found the number of its kind, wanted 4) or has fewer than two references (found their number,

@@ -1,7 +1,7 @@
 -- What the tests begin with.
-use Rattle.swizzle.specs.Heap.{IsHeld}
-use Rattle.heap_texts.specs.Texts.{HoldsText}
-use Rattle.heap_ops.specs.Layouts.{AreSo}
+use Rattle.scopes.specs.swizzle.Heap.{IsHeld}
+use Rattle.scopes.specs.heap_texts.Texts.{HoldsText}
+use Rattle.scopes.specs.heap_ops.Layouts.{AreSo}
 use Rattle.scopes_tests.specs.declared.world.World.{World}
 
 -- the text and the scope lie in the area, and the places that were looked up are so

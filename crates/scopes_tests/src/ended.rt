@@ -1,6 +1,6 @@
-use obj_layout::vault::VaultFault;
+use memory_vault::obj_layout::vault::VaultFault;
 use row_words::put_number;
-use swizzle::fault::SwizzleFault;
+use scopes::swizzle::fault::SwizzleFault;
 use table_rows::Buffer;
 
 /// What a call ended in that gave nothing: a refusal. It is none where no call was made: it is no PID, or the value denotes an object.

@@ -1,12 +1,12 @@
 //! Scopes as they lie in the area.
-ghost use Rattle.heap_texts.specs.Texts.{HoldsText};
+ghost use Rattle.scopes.specs.heap_texts.Texts.{HoldsText};
 
 use crate::ended::put_ended;
 use crate::seen::put_seen;
 use crate::world::{area_with, scoped};
 use anyhow::Result;
 use row_words::area_of;
-use swizzle::swizzle::Swizzle;
+use scopes::swizzle::swizzle::Swizzle;
 use table_rows::{Buffer, Row, Tables};
 
 /// The words of the area where a row says nothing of them.

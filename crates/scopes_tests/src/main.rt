@@ -8,9 +8,9 @@
 //! - What it gives: one of the answers below, or several lines of them.
 //! - Where it is there, `area N`: the words of the area, which are 40 in a table of stores and 60 in `made.rows`.
 //!
-//! In the tables of stores the first field has the objects of the store from word 1 on, one behind the other, each in a line: its words, or a name. A
-//! row whose head is `names` has one field with lines `NAME = WORDS`: each name stands for these words in the rows behind it. A word is a sum of parts
-//! with `+` between. A part is a number, in decimal or behind `0x` in hex, or `many`, which is 1 in the upper half of a word, or `N*many`, which is so
+//! In the tables of stores the first field has the objects of the store from word 1 on, one after the other, each in a line: its words, or a name. A
+//! row whose head is `names` has one field with lines `NAME = WORDS`: each name stands for these words in the rows after it. A word is a sum of parts
+//! with `+` between. A part is a number, in decimal or after `0x` in hex, or `many`, which is 1 in the upper half of a word, or `N*many`, which is so
 //! many times that, or `pid`, which is the word of a reference without the PID. So a scope with two references has the first word `4+2*many`. What is
 //! done is one call with the scope of a PID, which is fetched first:
 //!
@@ -34,7 +34,7 @@
 //! - `damaged AT FOUND WANTED`, `full TOP WANTED SIZE`, or `refused FAULT` by the store for another reason.
 //! - `not called`: it is no PID, or the value denotes an object, so that no call was made.
 //!
-//! Behind the place of a scope that was made, and behind the answers of the steps where none was refused, stands what is seen of the scope:
+//! After the place of a scope that was made, and after the answers of the steps where none was refused, stands what is seen of the scope:
 //! `header KIND BYTES PID CHAIN`, `refs REFERENCE..`, of which each is `nil`, the index of an object or `pid+PID`, `nums WORD..`, and `top INDEX`, the
 //! first free word of the area. Where objects are noted as assigned then, the line `assigned INDEX..` stands last.
 #![tactic(auto)]

@@ -7,7 +7,7 @@ use crate::seen::{put_assigned, put_seen};
 use crate::step::Step;
 use crate::value::put_value;
 use crate::world::World;
-use heap_places::value::Value;
+use scopes::heap_places::value::Value;
 use table_rows::{Buffer, Row, Tables};
 
 /// Compares each row of a file with what its steps give.
@@ -27,7 +27,7 @@ fn put_found(out: &mut Buffer, row: &Row) {
     }
 }
 
-// What each step gives until one is refused, and what is seen of the scope behind them.
+// What each step gives until one is refused, and what is seen of the scope after them.
 fn put_answers(out: &mut Buffer, world: &mut World, steps: &[u8])
     requires { IsReady world.old }
 {

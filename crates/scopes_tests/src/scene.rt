@@ -1,16 +1,16 @@
 //! Stores of objects, and the scopes that are fetched of them into an area.
 ghost use Rattle.std.specs.Prelude.{◌≡◌, true, IfOk, IfSome, OnOk};
-ghost use Rattle.swizzle.specs.Heap.{Heap, IsHeld};
-ghost use Rattle.heap_ops.specs.Layouts.{AreSo};
+ghost use Rattle.scopes.specs.swizzle.Heap.{Heap, IsHeld};
+ghost use Rattle.scopes.specs.heap_ops.Layouts.{AreSo};
 
 use crate::ended::Ended;
-use heap_ops::layouts::Layouts;
-use heap_places::value::Value;
 use memory_vault::memory::MemoryVault;
+use scopes::heap_ops::layouts::Layouts;
+use scopes::heap_places::value::Value;
 use scopes::names::{get_kept, set_kept};
+use scopes::swizzle::swizzle::Swizzle;
 use scopes::way::{parent_of, scope_out};
 use std::alloc::Global;
-use swizzle::swizzle::Swizzle;
 
 // One more than the greatest PID.
 const PIDS: u64 = 1 << 63;

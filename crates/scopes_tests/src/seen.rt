@@ -1,12 +1,12 @@
 //! What is seen of a scope word by word.
-ghost use Rattle.swizzle.specs.Heap.{IsHeld};
+ghost use Rattle.scopes.specs.swizzle.Heap.{IsHeld};
 
-use obj_layout::header::Header;
-use obj_layout::reference::Reference;
-use swizzle::swizzle::Swizzle;
+use memory_vault::obj_layout::header::Header;
+use memory_vault::obj_layout::reference::Reference;
+use scopes::swizzle::swizzle::Swizzle;
 use table_rows::Buffer;
 
-/// Tells the place of a scope, its header, its references and number words as they lie, and what lies behind them.
+/// Tells the place of a scope, its header, its references and number words as they lie, and what lies after them.
 pub fn put_seen(out: &mut Buffer, sw: &Swizzle, scope: u32)
     requires { IsHeld sw.now scope }
 {
@@ -24,7 +24,7 @@ pub fn put_seen(out: &mut Buffer, sw: &Swizzle, scope: u32)
     put_assigned(out, sw);
 }
 
-// A word, and a number behind it.
+// A word, and a number after it.
 fn put_counted(out: &mut Buffer, word: &str, number: u64) {
     out.put(word);
     out.number(number);

@@ -1,6 +1,6 @@
 use crate::value::value_of;
-use heap_places::value::Value;
 use row_words::{Words, index_of};
+use scopes::heap_places::value::Value;
 
 /// What is done with a scope that was made.
 #[derive(Clone, Copy)]

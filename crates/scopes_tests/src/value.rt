@@ -1,5 +1,5 @@
-use heap_places::value::Value;
 use row_words::{Words, index_of, int_of};
+use scopes::heap_places::value::Value;
 use table_rows::Buffer;
 
 /// The value that all words spell that are left, if they spell one.

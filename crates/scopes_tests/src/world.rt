@@ -1,21 +1,21 @@
 //! An area with the text of a scope and the scope, or two of them.
 ghost use Rattle.std.specs.Prelude.{◌≤◌, ◌^◌, IfOk, IfSome, OnOk};
-ghost use Rattle.swizzle.specs.Heap.{IsHeld, Stands};
-ghost use Rattle.heap_texts.specs.Texts.{HoldsText};
+ghost use Rattle.scopes.specs.swizzle.Heap.{IsHeld, Stands};
+ghost use Rattle.scopes.specs.heap_texts.Texts.{HoldsText};
 ghost use Rattle.scopes_tests.specs.World.{IsReady};
 
 use crate::ended::Ended;
-use heap_ops::layouts::Layouts;
-use heap_places::value::Value;
-use heap_texts::make::make_text;
 use memory_vault::silent::SilentVault;
+use scopes::heap_ops::layouts::Layouts;
+use scopes::heap_places::value::Value;
+use scopes::heap_texts::make::make_text;
 use scopes::making::make_scope;
 use scopes::names::{get_kept, set_kept};
+use scopes::swizzle::fault::SwizzleFault;
+use scopes::swizzle::swizzle::Swizzle;
 use std::alloc::Global;
-use swizzle::fault::SwizzleFault;
-use swizzle::swizzle::Swizzle;
 
-/// A text at index 1 and a scope of it behind.
+/// A text at index 1 and a scope of it after.
 #[derive(Drop)]
 pub struct World {
     pub sw: Swizzle,

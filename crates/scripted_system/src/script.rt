@@ -15,7 +15,7 @@ pub enum Step {
     Fails,
 }
 
-/// A system whose calls do one step each, and fail behind the last. It counts the calls, and the bytes
+/// A system whose calls do one step each, and fail after the last. It counts the calls, and the bytes
 /// that were moved.
 #[derive(Clone, Copy)]
 pub struct Script<'a> {

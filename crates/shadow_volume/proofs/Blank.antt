@@ -1,15 +1,15 @@
 -- A volume with no page staged holds what is committed, and zeros to its last page.
-use Rattle.std.proofs.Common.{◌≡◌, ◌⊎◌, inl, inr, ℕ, ◌+◌, ◌-◌, ◌*◌, ◌/◌, ◌<◌, ◌≤◌, Bool, true, false, not, List, ◌++◌, length, get_or, take, drop, replicate, refl, sym, ◌∙◌, ap, subst, arith, length-append, length-drop, length-take, Option, Some}
+use Rattle.std.proofs.Common.{◌≡◌, ◌⊎◌, inl, inr, ℕ, ◌-◌, ◌*◌, ◌/◌, ◌<◌, ◌≤◌, Bool, false, List, ◌++◌, length, get_or, take, drop, replicate, sym, ◌∙◌, ap, arith, length-append, length-drop, length-take, Option, Some}
 use Rattle.std.specs.Option.{option_map}
 use Rattle.std.proofs.lemmas.Grind.{same_number_lists}
 use Rattle.std.proofs.lemmas.List.{get_or-take, get_or-drop, get_or-replicate, length-replicate, get_or-append_right, get_or_append_left, get_or_past}
-use Rattle.ps_outside.specs.Outside.{Outside, After}
+use Rattle.ps_port.specs.ps_outside.Outside.{Outside, After}
 use Rattle.shadow_volume.specs.Layout.{half_at, half_pages, pages_of_words}
 use Rattle.shadow_volume.specs.Found.{Held}
 use Rattle.shadow_volume.specs.Standing.{IsFit, Says, held_in, staged_bytes, staged_byte, staged_in, with_zeros, seen}
 use Rattle.shadow_volume.specs.declared.note.Committed.{Committed}
 use Rattle.shadow_volume.proofs.Halves.{logical_within}
-use Rattle.shadow_volume.proofs.Staying.{committed_held, committed_end, held_says}
+use Rattle.shadow_volume.proofs.Staying.{committed_end, held_says}
 use Rattle.shadow_volume.proofs.Pages.{length_staged, staged_at, byte_committed, byte_blank}
 
 either : (m n : ℕ) → (m < n) ⊎ (n ≤ m)

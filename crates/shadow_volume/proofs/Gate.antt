@@ -1,18 +1,18 @@
--- What writes of a gate, and of what lies behind it, leave.
+-- What writes of a gate, and of what lies after it, leave.
 use Rattle.std.proofs.Common.{◌≡◌, ◌⊎◌, inl, inr, ℕ, ◌+◌, ◌-◌, ◌*◌, ◌<◌, ◌≤◌, List, ◌++◌, length, get_or, take, drop, replicate, refl, sym, ◌∙◌, ap, subst, arith, length-append, length-take}
 use Rattle.std.proofs.lemmas.List.{append_assoc, get_or-append_right, get_or_append_left, get_or-take, length-take-le, get_or-replicate, length-replicate, get_or_past}
 use Rattle.ps_port.specs.Disk.{Torn, written}
 use Rattle.ps_port.specs.DiskLaws.{length-written, torn_none}
 use Rattle.ps_port.proofs.Torn.{same_range, torn_range, written_range}
-use Rattle.ps_outside.specs.Outside.{Outside, Leaves, LeavesSame, After}
-use Rattle.ps_outside.proofs.Moments.{along_then, along_weaker, along_now}
+use Rattle.ps_port.specs.ps_outside.Outside.{Outside, Leaves, LeavesSame, After}
+use Rattle.ps_port.proofs.of_ps_outside.Moments.{along_then, along_weaker, along_now}
 use Rattle.shadow_volume.specs.Layout.{head_bytes, root_bytes}
 use Rattle.shadow_volume.specs.Making.{IsShut, IsBegun, IsNew, IsZeroed, IsPut, IsMaking, empty_note}
 
 either : (m n : ℕ) → (m < n) ⊎ (n ≤ m)
 either m n = grind arith
 
--- a write behind the gate leaves it shut
+-- a write after the gate leaves it shut
 pub shut_stays : (at count : ℕ) (old new : List ℕ) → 1 ≤ at → IsShut old → Torn at count old new → IsShut new
 shut_stays at count old new behind shut torn = record {
   long = let longer = torn.no_shorter in let long = shut.long in omega arith;

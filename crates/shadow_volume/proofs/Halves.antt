@@ -1,5 +1,5 @@
 -- The halves of a volume lie in its pages.
-use Rattle.std.proofs.Common.{◌≡◌, ◌⊎◌, inl, inr, ℕ, ◌+◌, ◌-◌, ◌*◌, ◌/◌, ◌^◌, ◌<◌, ◌≤◌, Bool, true, false, not, refl, arith}
+use Rattle.std.proofs.Common.{◌⊎◌, inl, inr, ℕ, ◌+◌, ◌*◌, ◌^◌, ◌<◌, ◌≤◌, Bool, true, false, not, arith}
 use Rattle.shadow_volume.specs.Layout.{half_pages, half_at, root_at, pages_of_words}
 use Rattle.shadow_volume.specs.Standing.{IsFit}
 use Rattle.shadow_volume.specs.declared.note.Note.{Note}

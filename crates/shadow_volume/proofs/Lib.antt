@@ -7,5 +7,7 @@ pub mod Staying
 pub mod Pages
 pub mod Blank
 pub mod Turning
+pub mod Shutting
+pub mod Synced
 pub mod New
 pub mod Switched

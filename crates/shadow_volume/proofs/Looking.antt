@@ -1,7 +1,7 @@
 -- Calls that only look, one after the other.
-use Rattle.std.proofs.Common.{◌≡◌, ◌⊎◌, inl, inr, ℕ, ◌+◌, ◌<◌, ◌≤◌, Bool, List, Result, refl, sym, ◌∙◌, arith, Option}
-use Rattle.ps_outside.specs.Outside.{Outside, LeavesSame, SameContents, TellsNothing, Settles, IsDeviceCall, Rose}
-use Rattle.ps_outside.proofs.Moments.{along_none, along_then, along_now, same_as}
+use Rattle.std.proofs.Common.{inl, inr, ℕ, ◌+◌, ◌≤◌, Result, refl, ◌∙◌, arith}
+use Rattle.ps_port.specs.ps_outside.Outside.{Outside, LeavesSame, SameContents, IsDeviceCall, Rose}
+use Rattle.ps_port.proofs.of_ps_outside.Moments.{along_none, along_then, along_now}
 use Rattle.shadow_volume.specs.Attaching.{Looks}
 
 pub looks_none : {X : Type 0} (a : Outside X) (n : ℕ) → Looks a a n

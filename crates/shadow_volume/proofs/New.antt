@@ -1,13 +1,11 @@
 -- A new volume is found as one that is empty.
-use Rattle.std.proofs.Common.{◌≡◌, ℕ, ◌+◌, ◌*◌, ◌%◌, ◌==◌, ◌<◌, ◌≤◌, Bool, false, List, length, get_or, take, drop, replicate, refl, sym, ◌∙◌, ap, arith, length-drop, length-take}
+use Rattle.std.proofs.Common.{◌≡◌, ℕ, ◌+◌, ◌*◌, ◌%◌, ◌==◌, ◌<◌, ◌≤◌, false, List, length, get_or, take, drop, replicate, sym, ◌∙◌, ap, arith, length-drop, length-take}
 use Rattle.std.proofs.lemmas.Grind.{same_number_lists}
 use Rattle.std.proofs.lemmas.List.{get_or-take, get_or-drop, get_or-replicate, length-replicate}
-use Rattle.shadow_volume.specs.Layout.{magic, gate, half_pages, half_at, pages_of_words}
-use Rattle.shadow_volume.specs.Found.{Held, Found, a_volume, found_in}
+use Rattle.shadow_volume.specs.Layout.{magic, gate, pages_of_words}
+use Rattle.shadow_volume.specs.Found.{a_volume, found_in}
 use Rattle.shadow_volume.specs.Making.{IsNew, empty_note, empty_held}
 use Rattle.shadow_volume.specs.Standing.{IsFit, Says}
-use Rattle.shadow_volume.specs.declared.note.Note.{Note}
-use Rattle.shadow_volume.specs.declared.note.Committed.{Committed}
 use Rattle.shadow_volume.proofs.Halves.{halves_within}
 use Rattle.shadow_volume.proofs.Numbers.{first_number, second_number, third_number, root_spelled}
 use Rattle.shadow_volume.proofs.Tests.{found_volume}

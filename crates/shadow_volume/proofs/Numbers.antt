@@ -40,7 +40,7 @@ spelled at w x image rest fits e = ap (λ (xs : List ℕ). little_number w xs) e
 behind : (at n : ℕ) (image front rest : List ℕ) → length front ≡ n → drop at image ≡ front ++ rest → drop (at + n) image ≡ rest
 behind at n image front rest size e = sym (drop-drop n at image) ∙ ap (λ (xs : List ℕ). drop n xs) e ∙ drop_at front rest n size
 
--- four numbers, one behind the other
+-- four numbers, one after the other
 module _ (at n : ℕ) (image : List ℕ) (wa wb wc wd a b c d : ℕ) (is : take n (drop at image) ≡ little_bytes wa a ++ (little_bytes wb b ++ (little_bytes wc c ++ little_bytes wd d))) where
   rest : List ℕ
   rest = drop n (drop at image)

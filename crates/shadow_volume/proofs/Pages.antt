@@ -1,17 +1,16 @@
 -- Pages of what is staged: what a read of one gives, and what staging one makes of all.
-use Rattle.std.proofs.Common.{◌≡◌, ◌≢◌, ◌⊎◌, inl, inr, ℕ, ◌+◌, ◌-◌, ◌*◌, ◌/◌, ◌<◌, ◌≤◌, Bool, true, false, not, List, ◌++◌, length, get_or, set, take, drop, map, replicate, refl, sym, ◌∙◌, ap, subst, arith, length-drop, length-take, Option, Some, None, nat_lt, if◌then◌else◌}
-use Rattle.std.specs.List.{range_with_len}
+use Rattle.std.proofs.Common.{◌≡◌, ◌⊎◌, inl, inr, ℕ, ◌+◌, ◌-◌, ◌*◌, ◌/◌, ◌<◌, ◌≤◌, Bool, true, false, not, List, length, get_or, set, take, drop, replicate, refl, sym, ◌∙◌, ap, subst, arith, length-drop, length-take, Option, Some, None, nat_lt, if◌then◌else◌}
 use Rattle.std.specs.Option.{option_map}
 use Rattle.std.proofs.lemmas.Bool.{le-ltb, lt-ltb, ltb-true, ltb-false}
 use Rattle.std.proofs.lemmas.Option.{same_Some}
 use Rattle.std.proofs.lemmas.Grind.{same_number_lists}
 use Rattle.std.proofs.lemmas.List.{get_or-take, get_or-drop, get_or-replicate, length-replicate, get_or-set_same, get_or-set_other, length-set}
 use Rattle.std.proofs.lemmas.List.FromFn.{get_or-map-range_with_len, length-map-range_with_len}
-use Rattle.ps_outside.specs.Outside.{Outside, Leaves, LeavesSame, After}
-use Rattle.ps_outside.proofs.Moments.{along_as, along_now}
+use Rattle.ps_port.specs.ps_outside.Outside.{Outside, Leaves, LeavesSame, After}
+use Rattle.ps_port.proofs.of_ps_outside.Moments.{along_as, along_now}
 use Rattle.ps_port.specs.Disk.{Torn, Written, written, IsOutside}
 use Rattle.ps_port.specs.DiskLaws.{length-written, written_elsewhere}
-use Rattle.shadow_volume.specs.Layout.{half_at, half_pages, root_at, pages_of_words}
+use Rattle.shadow_volume.specs.Layout.{half_at, half_pages, pages_of_words}
 use Rattle.shadow_volume.specs.Found.{Held}
 use Rattle.shadow_volume.specs.Standing.{IsFit, Says, IsAlive, held_in, staged_byte, staged_bytes, staged_in, seen}
 use Rattle.shadow_volume.specs.Staging.{with_page, half_of}

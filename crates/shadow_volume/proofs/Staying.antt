@@ -1,14 +1,13 @@
--- What stays of a volume behind a write elsewhere.
-use Rattle.std.proofs.Common.{◌≡◌, ◌⊎◌, inl, inr, ℕ, ◌+◌, ◌*◌, ◌<◌, ◌≤◌, ◌%◌, ◌==◌, Bool, List, length, get_or, take, drop, refl, sym, ◌∙◌, ap, arith, Option, Some}
-use Rattle.ps_port.specs.Disk.{Torn, IsOutside}
+-- What stays of a volume after a write elsewhere.
+use Rattle.std.proofs.Common.{◌≡◌, ◌⊎◌, inl, inr, ℕ, ◌+◌, ◌*◌, ◌≤◌, ◌%◌, ◌==◌, Bool, List, length, take, drop, sym, ◌∙◌, ap, arith, Some}
+use Rattle.ps_port.specs.Disk.{Torn}
 use Rattle.ps_port.proofs.Torn.{torn_range}
-use Rattle.shadow_volume.specs.Layout.{gate, selects, number_at, root_at, half_at, half_pages, pages_of_words}
-use Rattle.shadow_volume.specs.Found.{Held, Found, found_in, a_volume, held_at}
+use Rattle.shadow_volume.specs.Layout.{root_at, half_at, half_pages, pages_of_words}
+use Rattle.shadow_volume.specs.Found.{Held}
 use Rattle.shadow_volume.specs.Standing.{IsFit, HasHead, HasRoot, Says, held_in, held_of}
-use Rattle.shadow_volume.specs.Attaching.{IsFound}
 use Rattle.shadow_volume.specs.declared.note.Note.{Note}
 use Rattle.shadow_volume.specs.declared.note.Committed.{Committed}
-use Rattle.shadow_volume.proofs.Halves.{logical_within, root_low, half_low, half_high}
+use Rattle.shadow_volume.proofs.Halves.{logical_within, root_low, half_high}
 use Rattle.shadow_volume.proofs.Numbers.{number_torn}
 use Rattle.shadow_volume.proofs.Tests.{found_volume}
 

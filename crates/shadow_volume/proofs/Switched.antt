@@ -1,20 +1,19 @@
 -- A switch as it is seen from above.
-use Rattle.std.proofs.Common.{◌≡◌, ◌⊎◌, inl, inr, ℕ, ◌+◌, ◌*◌, ◌%◌, ◌^◌, ◌<◌, ◌≤◌, Bool, true, false, not, List, length, take, replicate, refl, sym, ◌∙◌, ap, subst, arith, Option, Some}
+use Rattle.std.proofs.Common.{◌≡◌, ◌⊎◌, inl, inr, ℕ, ◌<◌, ◌≤◌, Bool, true, false, List, replicate, refl, sym, ◌∙◌, ap, subst, arith, Option, Some}
 use Rattle.std.specs.Option.{option_map}
 use Rattle.std.proofs.lemmas.List.{length-replicate}
-use Rattle.ps_outside.specs.Outside.{Outside, Leaves, After}
-use Rattle.ps_outside.proofs.Moments.{along_as}
-use Rattle.shadow_volume.specs.Layout.{half_pages, pages_of_words, capacity_of}
+use Rattle.ps_port.specs.ps_outside.Outside.{Outside, Leaves}
+use Rattle.ps_port.proofs.of_ps_outside.Moments.{along_as}
+use Rattle.shadow_volume.specs.Layout.{half_pages, capacity_of}
 use Rattle.shadow_volume.specs.Found.{Held}
-use Rattle.shadow_volume.specs.Standing.{IsFit, Says, IsAlive, held_in, staged_in, seen, saved, next_note, with_zeros}
-use Rattle.shadow_volume.specs.Switching.{IsKept, IsSwitched, IsEither, Was, StaysHeld, switched}
-use Rattle.shadow_volume.specs.declared.note.Note.{Note}
+use Rattle.shadow_volume.specs.Standing.{IsFit, IsAlive, held_in, staged_in, seen, saved, next_note, with_zeros}
+use Rattle.shadow_volume.specs.Switching.{IsSwitched, IsEither, Was, StaysHeld, switched}
 use Rattle.shadow_volume.specs.declared.note.Committed.{Committed}
 use Rattle.shadow_volume.proofs.Staying.{held_says}
 use Rattle.shadow_volume.proofs.Blank.{blank_held}
 
 module _ (a b : Outside (List ℕ)) (committed : Committed) (staged : List Bool) (used directory : ℕ) (fit : IsFit committed.pages (next_note used directory committed.note)) where
-  -- what stands in an image behind the switch
+  -- what stands in an image after the switch
   held_is : (image : List ℕ) (is : IsSwitched a committed staged (next_note used directory committed.note) image) → Some (saved used directory (staged_in committed staged is.from)) ≡ held_in image
   held_is image is =
       ap (λ (xs : List ℕ). Some (record { note = next_note used directory committed.note; bytes = xs })) is.bytes

@@ -1,12 +1,12 @@
 -- What the tests of a volume's file say of it.
-use Rattle.std.proofs.Common.{◌≡◌, ◌≢◌, ◌⊎◌, inl, inr, ℕ, ◌+◌, ◌-◌, ◌*◌, ◌/◌, ◌<◌, ◌≤◌, ◌%◌, ◌==◌, Bool, true, false, List, length, take, drop, slice_index, refl, sym, ◌∙◌, ap, subst, arith, Option, Some, None, if◌then◌else◌, nat_lt, nat_eq}
+use Rattle.std.proofs.Common.{◌≡◌, ◌≢◌, ◌⊎◌, inl, inr, ℕ, ◌+◌, ◌-◌, ◌/◌, ◌<◌, ◌≤◌, ◌%◌, ◌==◌, Bool, true, false, List, length, take, drop, slice_index, refl, sym, ◌∙◌, ap, subst, arith, Option, Some, None, if◌then◌else◌, nat_lt, nat_eq}
 use Rattle.std.proofs.lemmas.Bool.{le-ltb, lt-ltb, ltb-false, eq-eqb, eqb-true}
 use Rattle.std.specs.Option.{option_or}
 use Rattle.shadow_volume.specs.Layout.{magic, number_at, gate, selects, root_at, capacity_of, pages_of_words}
-use Rattle.shadow_volume.specs.Found.{Found, a_volume, no_volume, damaged, found_in, held_at, note_at, damage, behind_head, behind_root, head_damage, root_damage, head_tests, root_tests, wants_equal, wants_between, wants_pages}
-use Rattle.shadow_volume.specs.Standing.{IsFit, HasHead, HasRoot, Says}
+use Rattle.shadow_volume.specs.Found.{a_volume, no_volume, damaged, found_in, held_at, note_at, damage, behind_head, behind_root, head_damage, root_damage, head_tests, root_tests, wants_equal, wants_between, wants_pages}
+use Rattle.shadow_volume.specs.Standing.{IsFit, HasHead, Says}
 use Rattle.shadow_volume.specs.Attaching.{IsFound, IsHead, IsRoot, IsRefusal}
-use Rattle.ps_outside.specs.Outside.{Outside}
+use Rattle.ps_port.specs.ps_outside.Outside.{Outside}
 use Rattle.shadow_volume.specs.declared.finding.OpenFault.{OpenFault}
 use Rattle.shadow_volume.specs.declared.finding.OpenFault.TheVariants.{Device, NotAVolume, Damaged, Memory}
 use Rattle.shadow_volume.proofs.Numbers.{root_read}

@@ -1,23 +1,21 @@
 -- What each step of a switch leaves.
-use Rattle.std.proofs.Common.{◌≡◌, ◌≢◌, ◌⊎◌, inl, inr, ⊎_elim, ℕ, ◌+◌, ◌-◌, ◌*◌, ◌/◌, ◌%◌, ◌^◌, ◌==◌, ◌<◌, ◌≤◌, Bool, true, false, not, List, [], ◌∷◌, length, get_or, take, drop, refl, sym, ◌∙◌, ap, subst, arith, Option, Some, if◌then◌else◌}
-use Rattle.std.specs.Option.{option_map}
+use Rattle.std.proofs.Common.{◌≡◌, ◌⊎◌, inl, inr, ⊎_elim, ℕ, ◌+◌, ◌-◌, ◌*◌, ◌/◌, ◌%◌, ◌^◌, ◌==◌, ◌<◌, ◌≤◌, Bool, true, false, not, List, [], ◌∷◌, length, get_or, take, drop, refl, sym, ◌∙◌, ap, subst, arith, if◌then◌else◌}
 use Rattle.std.proofs.lemmas.List.{get_or-take, get_or-drop}
-use Rattle.ps_outside.specs.Outside.{Outside, Leaves, After}
-use Rattle.ps_outside.proofs.Moments.{along_as, along_then, along_weaker, along_now}
+use Rattle.ps_port.specs.ps_outside.Outside.{Outside, Leaves, After}
+use Rattle.ps_port.proofs.of_ps_outside.Moments.{along_then, along_weaker, along_now}
 use Rattle.ps_port.specs.Disk.{Torn, Written, written, IsOutside}
 use Rattle.ps_port.specs.DiskLaws.{written_torn, written_elsewhere}
 use Rattle.ps_port.proofs.Torn.{written_range, byte_written}
 use Rattle.shadow_volume.specs.Layout.{half_at, half_pages, root_at, root_bytes, selects, pages_of_words}
-use Rattle.shadow_volume.specs.Found.{Held}
-use Rattle.shadow_volume.specs.Standing.{IsFit, HasHead, HasRoot, Says, IsAlive, held_in, staged_byte, staged_bytes, staged_in, seen, saved, next_note, with_zeros}
+use Rattle.shadow_volume.specs.Standing.{IsFit, Says, staged_byte, staged_bytes}
 use Rattle.shadow_volume.specs.Staging.{HasPages}
-use Rattle.shadow_volume.specs.Switching.{IsKept, IsCopied, IsPageCopied, IsPlaced, IsReady, IsRooted, IsSwitched, IsEither, Was}
+use Rattle.shadow_volume.specs.Switching.{IsKept, IsCopied, IsPageCopied, IsPlaced, IsReady, IsRooted, IsSwitched, IsEither}
 use Rattle.shadow_volume.specs.declared.note.Note.{Note}
 use Rattle.shadow_volume.specs.declared.note.Committed.{Committed}
 use Rattle.shadow_volume.proofs.Gate.{written_inside}
 use Rattle.shadow_volume.proofs.Halves.{logical_within, root_low, roots_apart, half_low, half_high, halves_apart}
 use Rattle.shadow_volume.proofs.Numbers.{root_spelled}
-use Rattle.shadow_volume.proofs.Staying.{committed_held, head_stays, root_stays, says_stays, held_says, held_stays}
+use Rattle.shadow_volume.proofs.Staying.{head_stays, root_stays, says_stays, held_stays}
 use Rattle.shadow_volume.proofs.Pages.{same_parts, staged_at, length_staged, byte_staged, byte_committed, put_image}
 
 either : (m n : ℕ) → (m < n) ⊎ (n ≤ m)
@@ -120,7 +118,7 @@ copied_torn committed staged count at size old mid new fit most is low torn = re
         let above = half_low committed.pages second in
         torn.elsewhere (half_at committed.pages second + k) (omega arith) (inr (omega arith))
 
--- The steps behind the copied pages.
+-- The steps after the copied pages.
 module _ (a : Outside (List ℕ)) (committed : Committed) (staged : List Bool) (next : Note) (fit : IsFit committed.pages committed.note) (next_fit : IsFit committed.pages next) where
   most : pages_of_words next.used ≤ half_pages committed.pages
   most = (logical_within (half_pages committed.pages) next.used next_fit.some next_fit.within).1

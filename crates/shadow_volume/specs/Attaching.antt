@@ -1,11 +1,10 @@
 -- What attaching says: that it only looks, and why it found no volume.
 use Rattle.std.specs.Prelude.{◌≡◌, ℕ, ◌+◌, ◌≤◌, Bool, List, Option, replicate, false}
-use Rattle.ps_outside.specs.Outside.{Outside, LeavesSame, SameContents, TellsNothing, Settles, After, Rose}
+use Rattle.ps_port.specs.ps_outside.Outside.{Outside, LeavesSame, SameContents, TellsNothing, SettlesFrom, After, Rose}
 use Rattle.shadow_volume.specs.Layout.{number_at, root_at, half_pages}
-use Rattle.shadow_volume.specs.Found.{Held, Found, a_volume, no_volume, damaged, found_in, held_at, damage, note_at}
+use Rattle.shadow_volume.specs.Found.{Held, a_volume, no_volume, damaged, found_in, held_at, damage, note_at}
 use Rattle.std.specs.Option.{option_map}
 use Rattle.shadow_volume.specs.Standing.{IsAlive, seen, held_in, with_zeros}
-use Rattle.shadow_volume.specs.declared.note.Note.{Note}
 use Rattle.shadow_volume.specs.declared.note.Committed.{Committed}
 use Rattle.shadow_volume.specs.declared.finding.Head.{Head}
 use Rattle.shadow_volume.specs.declared.finding.Root.{Root}
@@ -26,7 +25,7 @@ pub record IsFound (committed : Committed) (bytes : List ℕ) : Type 0 where
   pub volume : found_in bytes ≡ a_volume committed.pages committed.second (held_at committed.pages committed.second bytes)
   pub note : note_at (root_at committed.second) bytes ≡ committed.note
 
--- why there is no volume, for each content that was told
+-- why there is no volume, for each content that was output
 abbrev pub IsNoVolume : OpenFault → List ℕ → Type 0
 IsNoVolume Device bytes = Unit {0}
 IsNoVolume (NotAVolume size gate) bytes = found_in bytes ≡ no_volume size gate
@@ -38,10 +37,11 @@ pub record IsRefusal (old new : Outside (List ℕ)) (fault : OpenFault) : Type 0
   pub device : fault ≡ Device → Rose old.device_faults new.device_faults
   pub found : (bytes : List ℕ) → old.contents bytes → IsNoVolume fault bytes
 
--- An attached volume: it is what was found in each content that was told, nothing is staged, and a crash leaves what was looked at.
+-- An attached volume: it is what was found in each content that was output, nothing is staged, and a crash leaves what was looked at, from a moment on
+-- before which nothing was told.
 pub record IsAttached (old new : Outside (List ℕ)) (lives : Bool) (committed : Committed) (staged : List Bool) : Type 0 where
   pub looks : Looks old new 6
-  pub settles : Settles old new
+  pub settles : SettlesFrom old new
   pub found : (bytes : List ℕ) → old.contents bytes → IsFound committed bytes
   pub blank : staged ≡ replicate (half_pages committed.pages) false
   pub holds : (held : Option Held) → (seen committed staged new).contents held →

@@ -5,7 +5,7 @@ use Rattle.shadow_volume.specs.Layout.{least_bytes, least_pages, most_pages, mag
 use Rattle.shadow_volume.specs.declared.note.Note.{Note}
 use Rattle.shadow_volume.specs.declared.finding.Damage.{Damage}
 
--- what stands in a volume: what its root page says, and the bytes of its logical pages, one page behind the other
+-- what stands in a volume: what its root page says, and the bytes of its logical pages, one page after the other
 pub record Held : Type 0 where
   pub note : Note
   pub bytes : List ℕ

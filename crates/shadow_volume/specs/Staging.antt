@@ -1,5 +1,5 @@
 -- What the calls of a volume make of what is held.
-use Rattle.std.specs.Prelude.{◌≡◌, ◌⊎◌, ℕ, ◌*◌, ◌<◌, ◌≤◌, Bool, true, false, not, List, length, take, drop, slice_index_or, nat_lt, Option, Some, None, if◌then◌else◌}
+use Rattle.std.specs.Prelude.{◌≡◌, ◌⊎◌, ℕ, ◌*◌, ◌<◌, Bool, true, false, not, List, take, drop, slice_index_or, nat_lt, Option, Some, None, if◌then◌else◌}
 use Rattle.ps_port.specs.Disk.{written}
 use Rattle.shadow_volume.specs.Layout.{pages_of_words}
 use Rattle.shadow_volume.specs.Found.{Held}

@@ -1,8 +1,7 @@
 -- What an attached volume knows of its file, and how it is seen from above.
-use Rattle.std.specs.Prelude.{◌≡◌, ℕ, ◌+◌, ◌-◌, ◌*◌, ◌/◌, ◌%◌, ◌^◌, ◌<◌, ◌≤◌, Bool, true, false, not, List, ◌++◌, length, map, take, drop, replicate, slice_index, slice_index_or, nat_lt, Option, Some, None, if◌then◌else◌}
+use Rattle.std.specs.Prelude.{◌≡◌, ℕ, ◌+◌, ◌-◌, ◌*◌, ◌/◌, ◌%◌, ◌^◌, ◌<◌, ◌≤◌, Bool, true, false, not, List, ◌++◌, length, map, take, replicate, slice_index, slice_index_or, nat_lt, Option, Some, None, if◌then◌else◌}
 use Rattle.std.specs.List.{range_with_len}
-use Rattle.std.specs.Option.{option_map}
-use Rattle.ps_outside.specs.Outside.{Outside, After}
+use Rattle.ps_port.specs.ps_outside.Outside.{Outside, After}
 use Rattle.shadow_volume.specs.Layout.{number_at, magic, gate, selects, root_at, half_at, half_pages, capacity_of, pages_of_words}
 use Rattle.shadow_volume.specs.Found.{Held, Found, a_volume, no_volume, damaged, found_in, note_at}
 use Rattle.shadow_volume.specs.declared.note.Note.{Note}

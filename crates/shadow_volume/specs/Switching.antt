@@ -1,7 +1,7 @@
 -- The steps of a switch, and what it leaves.
 use Rattle.std.specs.Prelude.{◌≡◌, ◌⊎◌, ℕ, ◌+◌, ◌*◌, ◌<◌, ◌≤◌, Bool, true, false, not, List, length, take, drop, slice_index, Option, Result, OnOk, OnErr}
 use Rattle.std.specs.Option.{option_map}
-use Rattle.ps_outside.specs.Outside.{Outside, After, Leaves, TellsNothing, Rose}
+use Rattle.ps_port.specs.ps_outside.Outside.{Outside, After, Leaves, TellsNothing, Rose}
 use Rattle.shadow_volume.specs.Layout.{half_at, half_pages, pages_of_words}
 use Rattle.shadow_volume.specs.Found.{Held}
 use Rattle.shadow_volume.specs.Standing.{HasRoot, Says, held_in, staged_byte, staged_bytes, saved, next_note, with_zeros}
@@ -33,7 +33,7 @@ pub record Switches {T E : Type 0} (old new : Outside (Option Held)) (pages used
   pub stays : OnOk result ((found : Option Held) → Was old (λ held. with_zeros pages (saved used directory held)) found → new.contents found)
   pub calls : new.device_calls ≤ old.device_calls + (2 * pages_of_words used + 5)
 
--- what is committed behind it
+-- what is committed after it
 abbrev pub switched : ℕ → ℕ → Committed → Committed
 switched used directory committed = record { pages = committed.pages; second = not committed.second; note = next_note used directory committed.note }
 
@@ -44,7 +44,7 @@ pub record IsKept (outside : Outside (List ℕ)) (committed : Committed) (image 
   pub was : outside.images outside.clock from
   pub held : held_in from ≡ held_in image
 
--- Of the half that isn't selected so many first pages are as they are staged, those behind are as they were, and so is the selected half.
+-- Of the half that isn't selected so many first pages are as they are staged, those after are as they were, and so is the selected half.
 pub record IsCopied (committed : Committed) (staged : List Bool) (count : ℕ) (old new : List ℕ) : Type 0 where
   pub long : 4096 * committed.pages ≤ length old
   pub no_shorter : length old ≤ length new

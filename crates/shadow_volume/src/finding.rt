@@ -1,7 +1,7 @@
 //! The tests of a volume's file, and what is committed in it.
 
 ghost use Rattle.std.specs.Prelude.{◌≡◌, ℕ, ◌+◌, ◌*◌, ◌^◌, ◌<◌, ◌≤◌, List, length, take, drop, slice_index, None, OnOk, IfErr, IfOk, if◌then◌else◌};
-ghost use Rattle.ps_outside.specs.Outside.{Rose, LeavesSame, SameContents, Settles};
+ghost use Rattle.ps_port.specs.ps_outside.Outside.{Rose, LeavesSame, SameContents, SettlesFrom};
 ghost use Rattle.shadow_volume.specs.Layout.{root_at, half_pages, capacity_of, pages_of_words, gate, number_at};
 ghost use Rattle.shadow_volume.specs.Found.{wants_equal, wants_between, wants_pages, head_tests, root_tests, note_at};
 ghost use Rattle.shadow_volume.specs.Standing.{IsFit, HasHead, Says};
@@ -56,7 +56,7 @@ impl From<Damage> for OpenFault {
     }
 }
 
-// The numbers of page 0 behind the gate.
+// The numbers of page 0 after the gate.
 #[derive(Clone, Copy)]
 pub struct Head {
     spelled: u64,
@@ -218,7 +218,7 @@ fn read_root<H: Host>(host: &mut H, second: bool) -> Result<Root, HostFailed>
     Ok(root_of(&bytes))
 }
 
-// What the root page that is selected says, behind page 0 that passed its tests.
+// What the root page that is selected says, after page 0 that passed its tests.
 fn read_committed<H: Host>(host: &mut H, pages: u32) -> Result<Committed, OpenFault>
     requires pages { (32 ≤ pages) × (pages ≤ 131072) }
     requires passed { (bytes : List ℕ) → (H.outside host.old).contents bytes → HasHead pages bytes }
@@ -256,12 +256,12 @@ fn look<H: Host>(host: &mut H) -> Result<Committed, OpenFault>
     read_committed(host, head.pages)
 }
 
-// Looks behind a sync, so that what a crash leaves is what was looked at.
+// Looks after a sync, so that what a crash leaves is what was looked at.
 pub fn find<H: Host>(host: &mut H) -> Result<Committed, OpenFault>
     ensures fit { IfOk result (λ committed. IsFit committed.pages committed.note) }
     ensures commits { IfOk result (λ committed. committed.note.commits < 2 ^ 64) }
     ensures says { IfOk result (λ committed. (bytes : List ℕ) → (H.outside host.old).contents bytes → Says committed bytes) }
-    ensures settles { IfOk result (λ _. Settles (H.outside host.old) (H.outside host.new)) }
+    ensures settles { IfOk result (λ _. SettlesFrom (H.outside host.old) (H.outside host.new)) }
     ensures looks { Looks (H.outside host.old) (H.outside host.new) 6 }
     ensures cause { IfErr result (IsRefusal (H.outside host.old) (H.outside host.new)) }
 {

@@ -1,7 +1,7 @@
 //! The pages of the two halves.
 
 ghost use Rattle.std.specs.Prelude.{◌≡◌, ℕ, ◌+◌, ◌*◌, ◌<◌, ◌≤◌, List, length, take, drop, OnOk, OnErr};
-ghost use Rattle.ps_outside.specs.Outside.{After, Leaves, TellsNothing, IsDeviceCall, Rose};
+ghost use Rattle.ps_port.specs.ps_outside.Outside.{After, Leaves, TellsNothing, IsDeviceCall, Rose};
 ghost use Rattle.ps_port.specs.Disk.{Torn, Written, written};
 ghost use Rattle.shadow_volume.specs.Layout.{half_at, half_pages};
 ghost use Rattle.shadow_volume.specs.Standing.{IsFit};

@@ -8,10 +8,11 @@ pub mod layout;
 pub mod making;
 mod note;
 mod switching;
+mod syncing;
 mod volume;
 
 pub use finding::OpenFault;
 pub use laws::a_new_volume_is_found;
 pub use making::{FormatFault, format};
 pub use note::{Committed, Note};
-pub use volume::{Refused, Volume};
+pub use volume::{Refused, Volume, VolumeFault};

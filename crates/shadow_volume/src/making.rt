@@ -1,18 +1,20 @@
 ghost use Rattle.std.specs.Prelude.{◌≡◌, ◌≢◌, ℕ, ◌+◌, ◌-◌, ◌*◌, ◌^◌, ◌<◌, ◌≤◌, List, [], ◌∷◌, length, take, drop, slice_index, OnOk, IfErr, IfOk, min};
-ghost use Rattle.ps_outside.specs.Outside.{After, Leaves, LeavesSame, SameContents, TellsNothing, Rose};
+ghost use Rattle.ps_port.specs.ps_outside.Outside.{After, Leaves, LeavesSame, SameContents, TellsNothing, Rose};
 ghost use Rattle.ps_port.specs.Disk.{Torn, Written};
 ghost use Rattle.shadow_volume.specs.Layout.{gate, head_bytes, root_bytes};
-ghost use Rattle.shadow_volume.specs.Making.{IsNew, IsMaking, IsCause, IsNone, IsShut, IsBegun, IsPut, IsZeroed, IsGateOf, empty_note};
+ghost use Rattle.shadow_volume.specs.Making.{ShutsGate, OpensGate, IsNew, IsMaking, IsCause, IsNone, IsShut, IsBegun, IsPut, IsZeroed, IsGateOf, empty_note};
 ghost use Rattle.shadow_volume.specs.declared.making.FormatFault.TheVariants.{Device};
 
 use crate::layout::{LEAST_BYTES, MAGIC, PAGE_BYTES};
+use crate::syncing::write_synced;
 use byteorder::{ByteOrder, LittleEndian};
 use ps_port::{Host, HostFailed};
 
 /// Why no volume was made.
 #[derive(Clone, Copy, Debug, PartialEq, Eq)]
 pub enum FormatFault {
-    /// A call of the device failed, and its count of faults rose. The file may be a volume no more, and isn't one yet.
+    /// A call of the device failed, and its count of faults rose. Where that call came before the gate was shut, the file is as it was but for byte 0,
+    /// which may be any; after that its gate is shut; and where the last write or sync failed, the new volume may stand there, whole.
     Device,
     /// The file has 16,384 bytes or more, and byte 0, the gate, is 1. It was left as it is.
     AlreadyVolume { gate: u8 },
@@ -26,20 +28,22 @@ impl From<HostFailed> for FormatFault {
     }
 }
 
-// How many bytes are written at once behind the first four pages.
+// How many bytes are written at once after the first four pages.
 const PIECE_BYTES: usize = 65_536;
 
-// The bytes of page 0 behind the gate, and of a root page, that aren't blank.
+// The bytes of page 0 after the gate, and of a root page, that aren't blank.
 const HEAD_BYTES: usize = 11;
 
 const ROOT_BYTES: usize = 28;
 
 /// Makes a volume of so many pages, 32 to 131,072, without a database. At each moment an image is one from before in which byte 0 may be anything, or
-/// its gate isn't open, or the new volume stands whole in it. A refusal for a volume that is there already leaves all as it was; `docs/formats.md`
-/// has the layout.
+/// its gate isn't open, or the new volume stands whole in it. From its first sync until its last write begins the gate of each image is shut. A
+/// refusal for a volume that is there already leaves all as it was; `docs/formats.md` has the layout.
 pub fn format<H: Host>(host: &mut H, pages: u32) -> Result<(), FormatFault>
     requires { (32 ≤ pages) × (pages ≤ 131072) }
     ensures any_moment { Leaves (H.outside host.old) (H.outside host.new) (IsMaking (H.outside host.old) pages) }
+    ensures gate { ShutsGate H.outside pages host.old host.new }
+    ensures opened { OnOk result (OpensGate H.outside pages host.old host.new) }
     ensures made { OnOk result ((bytes : List ℕ) → (H.outside host.new).contents bytes → IsNew pages bytes × (gate bytes ≡ 1)) }
     ensures durable { OnOk result ((image : List ℕ) → (H.outside host.new).images (H.outside host.new).clock image → (H.outside host.new).contents image) }
     ensures none { OnOk result ((bytes : List ℕ) → (H.outside host.old).contents bytes → IsNone bytes) }
@@ -65,6 +69,7 @@ fn open_gate<H: Host>(host: &mut H) -> Result<Option<u8>, FormatFault>
     ensures counts { (H.outside host.old).device_faults ≤ (H.outside host.new).device_faults }
     ensures output { (H.outside host.new).output_faults ≡ (H.outside host.old).output_faults }
     ensures gate { IfOk result (λ found. (bytes : List ℕ) → (H.outside host.old).contents bytes → IsGateOf bytes found) }
+    ensures calls { (H.outside host.new).device_calls ≤ (H.outside host.old).device_calls + 2 }
     ensures cause { IfErr result (λ fault. (fault ≡ Device) × Rose (H.outside host.old).device_faults (H.outside host.new).device_faults) }
 {
     let size = host.size()?;
@@ -84,16 +89,16 @@ fn open_gate<H: Host>(host: &mut H) -> Result<Option<u8>, FormatFault>
 fn shut<H: Host>(host: &mut H) -> Result<(), HostFailed>
     ensures any_moment { Leaves (H.outside host.old) (H.outside host.new) (After ((H.outside host.old).images (H.outside host.old).clock) (Torn 0 1)) }
     ensures shut { OnOk result ((image : List ℕ) → (H.outside host.new).images (H.outside host.new).clock image → IsShut image) }
+    ensures calls { (H.outside host.new).device_calls ≤ (H.outside host.old).device_calls + 2 }
     ensures told { TellsNothing (H.outside host.old) (H.outside host.new) }
     ensures counts { (H.outside host.old).device_faults ≤ (H.outside host.new).device_faults }
     ensures output { (H.outside host.new).output_faults ≡ (H.outside host.old).output_faults }
     ensures cause { IfErr result (λ _. Rose (H.outside host.old).device_faults (H.outside host.new).device_faults) }
 {
-    host.write_at(0, &[0])?;
-    host.sync()
+    write_synced(host, 0, &[0])
 }
 
-// What stands behind the gate on page 0.
+// What stands after the gate on page 0.
 fn head(pages: u32) -> [u8; HEAD_BYTES]
     ensures is { result ≡ head_bytes pages }
     ensures size { length result ≡ 11 }
@@ -124,7 +129,7 @@ fn blank() -> [u8; PIECE_BYTES]
     [0; PIECE_BYTES]
 }
 
-// Writes the pages of a new volume behind the gate, which stays shut, and lasts.
+// Writes the pages of a new volume after the gate, which stays shut, and lasts.
 fn fill<H: Host>(host: &mut H, pages: u32) -> Result<(), HostFailed>
     requires pages { (32 ≤ pages) × (pages ≤ 131072) }
     requires shut { (image : List ℕ) → (H.outside host.old).images (H.outside host.old).clock image → IsShut image }
@@ -143,7 +148,7 @@ fn fill<H: Host>(host: &mut H, pages: u32) -> Result<(), HostFailed>
     host.sync()
 }
 
-// Writes these bytes from a place on that is no farther than the end, and zeros behind them up to another place.
+// Writes these bytes from a place on that is no farther than the end, and zeros after them up to another place.
 fn part<H: Host>(
     host: &mut H,
     at: u64,
@@ -215,6 +220,7 @@ fn open<H: Host>(host: &mut H, pages: u32) -> Result<(), HostFailed>
     requires pages { 32 ≤ pages }
     requires begun { (image : List ℕ) → (H.outside host.old).images (H.outside host.old).clock image → IsBegun pages image }
     ensures any_moment { Leaves (H.outside host.old) (H.outside host.new) (IsNew pages) }
+    ensures calls { (H.outside host.new).device_calls ≤ (H.outside host.old).device_calls + 2 }
     ensures made { OnOk result ((bytes : List ℕ) → (H.outside host.new).contents bytes → IsNew pages bytes × (gate bytes ≡ 1)) }
     ensures durable { OnOk result ((image : List ℕ) → (H.outside host.new).images (H.outside host.new).clock image → (H.outside host.new).contents image) }
     ensures told { TellsNothing (H.outside host.old) (H.outside host.new) }

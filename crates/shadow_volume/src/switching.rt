@@ -1,7 +1,7 @@
 //! The steps of a switch: the pages, the root page, the selector.
 
 ghost use Rattle.std.specs.Prelude.{◌≡◌, ◌⊎◌, ℕ, ◌+◌, ◌*◌, ◌^◌, ◌<◌, ◌≤◌, Bool, true, not, List, length, take, drop, slice_index_or, OnOk, OnErr, if◌then◌else◌};
-ghost use Rattle.ps_outside.specs.Outside.{After, Leaves, TellsNothing, Rose};
+ghost use Rattle.ps_port.specs.ps_outside.Outside.{After, Leaves, TellsNothing, Rose};
 ghost use Rattle.ps_port.specs.Disk.{Torn, Written};
 ghost use Rattle.shadow_volume.specs.Layout.{half_at, half_pages, root_at, root_bytes, pages_of_words};
 ghost use Rattle.shadow_volume.specs.Standing.{IsAlive, IsFit, Says};
@@ -11,6 +11,7 @@ ghost use Rattle.shadow_volume.specs.Switching.{Works, StaysHeld, IsKept, IsCopi
 use crate::half::{read_half, write_half};
 use crate::layout::{PAGE_BYTES, logical_pages, root_at};
 use crate::note::{Committed, Note};
+use crate::syncing::{sync, write_synced};
 use byteorder::{ByteOrder, LittleEndian};
 use ps_port::{Host, HostFailed};
 
@@ -33,19 +34,6 @@ fn selector_of(second: bool) -> u8
     ensures { result ≡ (if second then 1 else 0) }
 {
     if second { 1 } else { 0 }
-}
-
-// Writes a range and syncs.
-fn write_synced<H: Host>(host: &mut H, at: u64, from: &[u8]) -> Result<(), HostFailed>
-    requires { (bytes : List ℕ) → (H.outside host.old).contents bytes → at ≤ length bytes }
-    ensures images { Leaves (H.outside host.old) (H.outside host.new) (After ((H.outside host.old).images (H.outside host.old).clock) (Torn at (length from.now))) }
-    ensures durable { OnOk result ((image : List ℕ) → (H.outside host.new).images (H.outside host.new).clock image → After ((H.outside host.old).images (H.outside host.old).clock) (Written at from.now) image) }
-    ensures works { Works (H.outside host.old) (H.outside host.new) result }
-    ensures calls { (H.outside host.new).device_calls ≤ (H.outside host.old).device_calls + 2 }
-    ensures stays { OnOk result (StaysHeld (H.outside host.old) (H.outside host.new)) }
-{
-    host.write_at(at, from)?;
-    host.sync()
 }
 
 // Copies a page from the selected half to the other.
@@ -126,10 +114,11 @@ fn prepare<H: Host>(
     ensures stays { OnOk result (StaysHeld (H.outside host.old) (H.outside host.new)) }
 {
     copy_pages(host, committed, staged, count)?;
-    host.sync()
+    sync(host)
 }
 
-// Writes the pages and then the root page that isn't selected, each synced.
+// Writes the pages and then the root page that isn't selected, each synced. The root page could be written before the pages are synced, since
+// nothing is read of it until it is selected; the sync after it has to come before the selector is written.
 fn write_root<H: Host>(
     host: &mut H,
     committed: Committed,

@@ -2,7 +2,8 @@
 
 ghost use Rattle.std.specs.Prelude.{◌≡◌, ℕ, ◌+◌, ◌*◌, ◌<◌, ◌≤◌, List, length, Option, Some, true, false, replicate, slice_set, OnOk, OnErr, IfOk, IfErr};
 ghost use Rattle.std.specs.Option.{option_map};
-ghost use Rattle.ps_outside.specs.Outside.{After, LeavesSame, TellsNothing, TellsFront, ToldAll, IsDeviceCall, IsPutCall, Rose};
+ghost use Rattle.ps_port.specs.ps_outside.Outside.{After, LeavesSame, TellsNothing, TellsPrefix, ToldAll, IsDeviceCall, IsPutCall, Rose};
+ghost use Rattle.ps_port.specs.ps_outside.Past.{KeepsPast};
 ghost use Rattle.shadow_volume.specs.Layout.{half_pages, capacity_of, pages_of_words};
 ghost use Rattle.shadow_volume.specs.Found.{Held};
 ghost use Rattle.shadow_volume.specs.Standing.{IsAlive, seen};
@@ -23,6 +24,13 @@ use std::alloc::Global;
 pub struct Refused<H: Host> {
     pub cause: OpenFault,
     pub host: H,
+}
+
+/// Why a call of a volume failed. After any fault the volume isn't alive.
+#[derive(Clone, Copy, Debug, PartialEq, Eq)]
+pub enum VolumeFault {
+    /// A call of the device failed, and its count of faults rose.
+    Device,
 }
 
 /// A volume over its host: what is committed in it, and which pages are staged, in the half that isn't selected.
@@ -61,7 +69,7 @@ impl<H: Host> Volume<H> {
     }
 
     /// Reads a page as it is staged: what was put last, else what is committed, else zeros. It takes one call of the device at most.
-    pub fn read_page(&mut self, page: u32, into: &mut [u8]) -> Result<(), HostFailed>
+    pub fn read_page(&mut self, page: u32, into: &mut [u8]) -> Result<(), VolumeFault>
         requires alive { IsAlive self.old.live self.old.committed self.old.staged.items (H.outside self.old.host) }
         requires page { page < half_pages self.old.committed.pages }
         requires size { length into.old ≡ 4096 }
@@ -76,9 +84,9 @@ impl<H: Host> Volume<H> {
         match half_of(self.committed, &self.staged, page) {
             Some(half) => match read_half(&mut self.host, self.committed.pages, half, page, into) {
                 Ok(()) => Ok(()),
-                Err(fault) => {
+                Err(_) => {
                     self.live = false;
-                    Err(fault)
+                    Err(VolumeFault::Device)
                 }
             },
             None => {
@@ -88,8 +96,9 @@ impl<H: Host> Volume<H> {
         }
     }
 
-    /// Stages a page, with one call of the device. A crash leaves what it could leave before, and where the call fails, it leaves that too.
-    pub fn put_page(&mut self, page: u32, from: &[u8]) -> Result<(), HostFailed>
+    /// Stages a page, with one call of the device. In what a crash leaves the same volume is found as before, also where the call fails: bytes of the
+    /// half that isn't selected may be others.
+    pub fn put_page(&mut self, page: u32, from: &[u8]) -> Result<(), VolumeFault>
         requires alive { IsAlive self.old.live self.old.committed self.old.staged.items (H.outside self.old.host) }
         requires page { page < half_pages self.old.committed.pages }
         requires size { length from.now ≡ 4096 }
@@ -98,6 +107,7 @@ impl<H: Host> Volume<H> {
         ensures stays { OnOk result ((found : Option Held) → (seen self.old.committed self.old.staged.items (H.outside self.old.host)).contents found →
             (seen self.new.committed self.new.staged.items (H.outside self.new.host)).contents (option_map (with_page page from.now) found)) }
         ensures images { LeavesSame (seen self.old.committed self.old.staged.items (H.outside self.old.host)) (seen self.new.committed self.new.staged.items (H.outside self.new.host)) }
+        ensures past { KeepsPast (H.outside self.old.host) (H.outside self.new.host) }
         ensures call { IsDeviceCall (H.outside self.old.host) (H.outside self.new.host) result }
         ensures committed { self.new.committed ≡ self.old.committed }
         ensures staged { OnOk result (self.new.staged.items ≡ slice_set self.old.staged.items page true) }
@@ -110,21 +120,22 @@ impl<H: Host> Volume<H> {
                 self.staged[page as usize] = true;
                 Ok(())
             }
-            Err(fault) => {
+            Err(_) => {
                 self.live = false;
-                Err(fault)
+                Err(VolumeFault::Device)
             }
         }
     }
 
     /// Commits what is staged, under so many used words and this directory: at each moment a crash leaves what it could leave before, or all of what is
     /// saved now. The pages past the used words are zeros afterwards.
-    pub fn switch(&mut self, used: u64, directory: u64) -> Result<(), HostFailed>
+    pub fn switch(&mut self, used: u64, directory: u64) -> Result<(), VolumeFault>
         requires alive { IsAlive self.old.live self.old.committed self.old.staged.items (H.outside self.old.host) }
         requires used { (1 ≤ used) × (used ≤ capacity_of self.old.committed.pages) }
         requires directory { directory < used }
         requires has { HasPages self.old.committed self.old.staged.items (pages_of_words used) }
         ensures switches { Switches (seen self.old.committed self.old.staged.items (H.outside self.old.host)) (seen self.new.committed self.new.staged.items (H.outside self.new.host)) self.old.committed.pages used directory result }
+        ensures past { KeepsPast (H.outside self.old.host) (H.outside self.new.host) }
         ensures committed { OnOk result (self.new.committed ≡ switched used directory self.old.committed) }
         ensures same { OnErr result (self.new.committed ≡ self.old.committed) }
         ensures blank { OnOk result (self.new.staged.items ≡ replicate (half_pages self.old.committed.pages) false) }
@@ -143,16 +154,16 @@ impl<H: Host> Volume<H> {
                 self.committed.note = next;
                 Ok(())
             }
-            Err(fault) => {
+            Err(_) => {
                 self.live = false;
-                Err(fault)
+                Err(VolumeFault::Device)
             }
         }
     }
 
     /// Tells the bytes, as the host does. It is alive afterwards where it was.
     pub fn put(&mut self, bytes: &[u8]) -> Result<(), HostFailed>
-        ensures cut { TellsFront (H.outside self.old.host) (H.outside self.new.host) bytes.now }
+        ensures cut { TellsPrefix (H.outside self.old.host) (H.outside self.new.host) bytes.now }
         ensures all { OnOk result (ToldAll (H.outside self.old.host) (H.outside self.new.host) bytes.now) }
         ensures calm { OnOk result ((H.outside self.new.host).output_faults ≡ (H.outside self.old.host).output_faults) }
         ensures call { IsPutCall (H.outside self.old.host) (H.outside self.new.host) result }

@@ -2,42 +2,43 @@
 use Rattle.std.proofs.Common.{◌≡◌, ◌⊎◌, inl, inr, ⊎_elim, ℕ, suc, ◌+◌, ◌*◌, ◌-◌, ◌<◌, ◌≤◌, ◌^◌, Bool, true, false, List, [], ◌∷◌, ◌++◌, length, Some, None, refl, sym, ap, ◌∙◌, subst, append_assoc, arith}
 use Rattle.std.specs.Prelude.{Result, Ok, Err}
 use Rattle.std.proofs.lemmas.List.{append-nil}
-use Rattle.ps_outside.specs.Outside.{Outside}
-use Rattle.obj_layout.specs.declared.vault.VaultFault.{VaultFault}
-use Rattle.obj_layout.specs.declared.vault.VaultFault.TheVariants as vault_fault
-use Rattle.obj_layout.specs.Stored.{Space}
-use Rattle.obj_layout.specs.Storing.{Puts}
-use Rattle.swizzle.specs.Reading.{LeavesOutside}
-use Rattle.swizzle.specs.Heap as area
-use Rattle.swizzle.specs.Heap.{IsHeap, object_at}
-use Rattle.swizzle.specs.Text.{text_at}
-use Rattle.swizzle.proofs.KeptLaws.{held_is}
-use Rattle.swizzle.proofs.ObjectLaws.{split}
-use Rattle.swizzle.proofs.TextLaws.{length-text}
-use Rattle.proc_values.specs.Loaded.{IsUnit}
+use Rattle.ps_port.specs.ps_outside.Outside.{Outside}
+use Rattle.vault_output.specs.obj_layout.declared.vault.VaultFault.{VaultFault}
+use Rattle.vault_output.specs.obj_layout.declared.vault.VaultFault.TheVariants as vault_fault
+use Rattle.vault_output.specs.obj_layout.Stored.{Space}
+use Rattle.vault_output.specs.obj_layout.Storing.{Puts}
+use Rattle.machine_procedures.specs.swizzle.Reading.{LeavesOutside}
+use Rattle.machine_procedures.specs.swizzle.Heap as area
+use Rattle.machine_procedures.specs.swizzle.Heap.{IsHeap, object_at, top_of}
+use Rattle.machine_procedures.specs.swizzle.Text.{text_at}
+use Rattle.machine_procedures.proofs.of_swizzle.KeptLaws.{held_is}
+use Rattle.machine_procedures.proofs.of_swizzle.ObjectLaws.{split}
+use Rattle.machine_procedures.proofs.of_swizzle.TextLaws.{length-text}
+use Rattle.machine_procedures.specs.proc_values.Loaded.{IsUnit}
 use Rattle.ps_base.specs.CodeUnit.{UnitView, unit}
-use Rattle.swizzle.specs.declared.fault.SwizzleFault.TheVariants.{AreaFull}
+use Rattle.machine_procedures.specs.swizzle.declared.fault.SwizzleFault.TheVariants.{AreaFull}
 use Rattle.vault_output.specs.Sending.{Sends}
 use Rattle.vault_output.proofs.SendingLaws.{flush-then}
-use Rattle.ps_meaning.specs.Event.{Event, Turn, outputs, output_of, report_of}
-use Rattle.ps_meaning.specs.Meaning.{some_out}
-use Rattle.ps_stepping.specs.Config.{Config, code_in}
-use Rattle.ps_stepping.specs.Machine.{Step, Goes, Stops, Stuck, Steps}
-use Rattle.ps_stepping.specs.Path.{Reaches, no_step, more}
-use Rattle.machine_state.specs.declared.machine.Machine.{Machine}
-use Rattle.machine_state.specs.declared.run_end.RunEnd.{RunEnd}
-use Rattle.machine_state.specs.declared.stepped.Stepped.TheVariants as stepped
-use Rattle.machine_state.specs.Holding.{Holds, IsSound, IsHolding}
-use Rattle.machine_state.specs.Stepped.{text_of, end_of, IsItem, TakesStep}
+use Rattle.machine_procedures.specs.ps_meaning.Event.{Event, Turn, outputs, output_of, report_of}
+use Rattle.machine_procedures.specs.ps_meaning.Meaning.{some_out}
+use Rattle.machine_procedures.specs.ps_stepping.Config.{Config, code_in}
+use Rattle.machine_procedures.specs.ps_stepping.Machine.{Step, Goes, Stops, Stuck, Steps}
+use Rattle.machine_procedures.specs.ps_stepping.Path.{Reaches, no_step, more}
+use Rattle.machine_procedures.specs.machine_state.declared.machine.Machine.{Machine}
+use Rattle.machine_procedures.specs.machine_state.declared.run_end.RunEnd.{RunEnd}
+use Rattle.machine_procedures.specs.machine_state.declared.stepped.Stepped.TheVariants as stepped
+use Rattle.machine_procedures.specs.machine_state.Holding.{Holds, IsSound, IsHolding}
+use Rattle.machine_procedures.specs.machine_state.Full.{LacksRoom}
+use Rattle.machine_procedures.specs.machine_state.Stepped.{text_of, end_of, IsItem, TakesStep}
 use Rattle.stack_machine.specs.declared.run.RunFault.{RunFault}
 use Rattle.stack_machine.specs.declared.run.RunFault.TheVariants as fault
-use Rattle.stack_machine.specs.Ran.{TellsFirst, TellsAll, FailsBehind, Ran, ended, damaged, full, cut, report_cut}
+use Rattle.stack_machine.specs.Ran.{TellsFirst, TellsAll, FailsAfter, Ran, ended, damaged, full, cut, report_cut}
 use Rattle.stack_machine.specs.inside.Advancing.{TellsBut, Advances, SendsOn, advanced_where, Reports, Flushes, BreaksOff, IsNoRoom}
 use Rattle.stack_machine.specs.declared.run.Advanced.TheVariants.{On, Ended, Failed}
 use Rattle.stack_machine.specs.declared.run.Advanced.TheVariants.{Damaged as Stopped, Full as Filled}
 use Rattle.stack_machine.proofs.Telling.{all-then, fails-then, all-puts, fails-puts, all-none, but-leaves, but-then, but-all, but-fails, but-first, leaves-but, leaves-fails}
 use Rattle.stack_machine.proofs.Dispatch.{code_of}
-use Rattle.machine_state.proofs.Callers.{as-many}
+use Rattle.machine_procedures.proofs.of_machine_state.Callers.{as-many}
 use Rattle.stack_machine.proofs.Progress.{Left, left, nearer, IsNearer, by_turns, by_callers, by_bytes}
 
 pub outputs-append : (xs ys : List Event) → outputs (xs ++ ys) ≡ outputs xs ++ outputs ys
@@ -106,7 +107,7 @@ pub holds_on : (old new : Outside Space) (owed left : List ℕ) (m m' : Machine)
 holds_on old new owed left m m' c a = let by = a.by c.0 c.1 in (by.2.1, by.2.3)
 
 -- From each configuration that the first machine holds some steps lead to one that the present machine holds, and what they tell was told but for what
--- is owed.
+-- is pending.
 pub record IsBetween (old now : Outside Space) (owed left : List ℕ) (m m' : Machine) : Type 0 where
   pub sound : IsSound m'
   pub size : m'.sw.size ≡ m.sw.size
@@ -143,10 +144,10 @@ module _ (old now new : Outside Space) (owed left rest : List ℕ) (m m' next : 
       let w = b.way c h in
       let by = a.by w.1 w.3 in
       cut (and_step w.2 (subst (λ (s : Step). Steps w.1 s) by.2.2 by.1))
-      (subst (λ (bs : List ℕ). FailsBehind old new bs) (append_assoc owed (outputs w.0) (outputs by.2.0) ∙ ap (λ (bs : List ℕ). owed ++ bs) (sym (outputs-append w.0 by.2.0)))
+      (subst (λ (bs : List ℕ). FailsAfter old new bs) (append_assoc owed (outputs w.0) (outputs by.2.0) ∙ ap (λ (bs : List ℕ). owed ++ bs) (sym (outputs-append w.0 by.2.0)))
       (but-fails old now new (owed ++ outputs w.0) left (outputs by.2.0) w.4 by.2.3))
 
-  -- what is owed behind a step that told nothing
+  -- what is pending after a step that told nothing
   still_owed : (due : List ℕ) → TellsBut old now due left → TellsBut now new left rest → TellsBut old new due rest
   still_owed due first then = record {
     sent = first.sent ++ then.sent;
@@ -171,14 +172,14 @@ module _ (old now new : Outside Space) (owed left rest : List ℕ) (m m' next : 
         let by = a.by w.1 w.3 in
         let told = still_owed (owed ++ outputs w.0) w.4 by.2.1 in
         report_cut next.end w.2 (subst (λ (s : Step). Steps w.1 s) by.2.0 by.1)
-        (subst (λ (bs : List ℕ). FailsBehind old last bs) (append_assoc owed (outputs w.0) (report_of (end_of next.end))) (but-fails old new last (owed ++ outputs w.0) rest (report_of (end_of next.end)) told report))
+        (subst (λ (bs : List ℕ). FailsAfter old last bs) (append_assoc owed (outputs w.0) (report_of (end_of next.end))) (but-fails old new last (owed ++ outputs w.0) rest (report_of (end_of next.end)) told report))
 
-    -- all that was owed is told
+    -- all that was pending is told
     all_owed : (due : List ℕ) → TellsBut old new due rest → TellsAll new last rest → TellsAll old last due
     all_owed due told all = subst (λ (xs : List ℕ). TellsAll old last xs) (sym told.due_is) (all-then old new last told.sent rest told.tells all)
 
-    fails_owed : (due : List ℕ) → TellsBut old new due rest → FailsBehind new last rest → FailsBehind old last due
-    fails_owed due told fails = subst (λ (xs : List ℕ). FailsBehind old last xs) (sym told.due_is) (fails-then old new last told.sent rest told.tells fails)
+    fails_owed : (due : List ℕ) → TellsBut old new due rest → FailsAfter new last rest → FailsAfter old last due
+    fails_owed due told fails = subst (λ (xs : List ℕ). FailsAfter old last xs) (sym told.due_is) (fails-then old new last told.sent rest told.tells fails)
 
     -- there was no room in the area
     pub between_full : (broke answer : RunFault) → ((top wanted size : ℕ) → next.fault ≡ AreaFull top wanted size → broke ≡ fault.Full top wanted size) → Advances now new left rest m' next Filled
@@ -195,7 +196,7 @@ module _ (old now new : Outside Space) (owed left rest : List ℕ) (m m' next : 
         let passed = by.2.6 in
         ⊎_elim
         (λ all. subst (λ (f : RunFault). Ran old last owed m.sw.size c (Err f)) (sym (all.0 ∙ is))
-        (full w.2 (subst (λ (s : Step). Steps w.1 s) by.2.4 by.1) (subst (λ (n : ℕ). n < top + wanted) b.size low) (subst (λ (n : ℕ). 8 * n < behind.store.counted) b.size passed)
+        (full w.2 (subst (λ (s : Step). Steps w.1 s) by.2.4 by.1) (subst (λ (n : ℕ). LacksRoom behind top wanted n) b.size low) (subst (λ (n : ℕ). 8 * n < behind.store.counted) b.size passed)
         (all_owed (owed ++ outputs w.0) told all.1)))
         (λ fails. subst (λ (f : RunFault). Ran old last owed m.sw.size c (Err f)) (sym fails.0) (cut w.2 (fails_owed (owed ++ outputs w.0) told fails.1)))
         flush
@@ -212,7 +213,7 @@ module _ (old now new : Outside Space) (owed left rest : List ℕ) (m m' next : 
         (λ fails. subst (λ (f : RunFault). Ran old last owed m.sw.size c (Err f)) (sym fails.0) (cut w.2 (fails_owed (owed ++ outputs w.0) told fails.1)))
         breaks
 
--- What a step comes to.
+-- What a step returns.
 module _ (old new : Outside Space) (owed : List ℕ) (m m' : Machine) (quiet : LeavesOutside old new) where
   pub advance_quiet : TakesStep m m' stepped.Quiet → Advances old new owed owed m m' On
   advance_quiet t = record {
@@ -249,11 +250,11 @@ module _ (old new : Outside Space) (owed : List ℕ) (m m' : Machine) (quiet : L
           d.1,
           (
             behind,
-            full.top,
+            top_of m'.sw,
             full.wanted,
-            full.fault_is ∙ ap (λ (n : ℕ). AreaFull full.top full.wanted n) t.size,
+            full.fault_is ∙ ap (λ (n : ℕ). AreaFull (top_of m'.sw) full.wanted n) t.size,
             d.2.1,
-            subst (λ (n : ℕ). n < full.top + full.wanted) t.size full.full,
+            subst (λ (n : ℕ). LacksRoom behind (top_of m'.sw) full.wanted n) t.size full.room,
             subst (λ (n : ℕ). 8 * n < behind.store.counted) t.size full.passed,
             but-leaves old new owed quiet,
           ),
@@ -274,7 +275,7 @@ module _ (old new : Outside Space) (owed : List ℕ) (m m' : Machine) (quiet : L
       size = tt;
       by = λ c h.
           let d = t.does c h in
-          (d.0, d.1, (Turn d.2.0.store.counted ∷ [], d.2.0, d.2.1, subst (λ (bs : List ℕ). FailsBehind old last bs) (sym (append-nil owed)) (leaves-fails old new last owed quiet told)));
+          (d.0, d.1, (Turn d.2.0.store.counted ∷ [], d.2.0, d.2.1, subst (λ (bs : List ℕ). FailsAfter old last bs) (sym (append-nil owed)) (leaves-fails old new last owed quiet told)));
     }
 
     pub advance_wrote : (sent : Bool) → TakesStep m m' stepped.Writes → SendsOn new last (owed ++ text_of m'.sw m'.writing) left sent → Advances old last owed left m m' (advanced_where sent)
@@ -294,16 +295,16 @@ module _ (old new : Outside Space) (owed : List ℕ) (m m' : Machine) (quiet : L
           let d = t.does c h in
           let bytes = text_of m'.sw m'.writing in
           let out = some_out bytes d.2.0.store.counted in
-          (d.0, d.1, (out, d.2.0, d.2.1, subst (λ (bs : List ℕ). FailsBehind old last (owed ++ bs)) (sym (out_told bytes d.2.0.store.counted)) (leaves-fails old new last (owed ++ bytes) quiet told)));
+          (d.0, d.1, (out, d.2.0, d.2.1, subst (λ (bs : List ℕ). FailsAfter old last (owed ++ bs)) (sym (out_told bytes d.2.0.store.counted)) (leaves-fails old new last (owed ++ bytes) quiet told)));
     }
 
--- the report is told with all that is owed
+-- the report is told with all that is pending
 pub reports_all : {T : Type 0} (old now new : Outside Space) (owed left : List ℕ) (e : RunEnd) (done : T) → Sends {T = Unit {0}} old now (owed ++ report_of (end_of e)) left (Ok tt) → Puts now new left (Ok done)
     → TellsAll old new (owed ++ report_of (end_of e))
 reports_all old now new owed left e done sends puts = all-puts old new (owed ++ report_of (end_of e)) done (flush-then old now new (owed ++ report_of (end_of e)) left (Ok done) sends puts)
 
 pub reports_cut : {T : Type 0} (old now new : Outside Space) (owed left : List ℕ) (e : RunEnd) (f : VaultFault) → f ≡ vault_fault.Output → Sends {T = Unit {0}} old now (owed ++ report_of (end_of e)) left (Ok tt)
-    → Puts {T = T} now new left (Err f) → FailsBehind old new (owed ++ report_of (end_of e))
+    → Puts {T = T} now new left (Err f) → FailsAfter old new (owed ++ report_of (end_of e))
 reports_cut old now new owed left e f output sends puts = fails-puts old new (owed ++ report_of (end_of e)) f output (flush-then old now new (owed ++ report_of (end_of e)) left (Err f) sends puts)
 
 -- what a write writes is an item of the machine

@@ -1,9 +1,9 @@
 -- How many bytes are counted at the events of a run that are still to come.
 use Rattle.std.proofs.Common.{◌≡◌, ℕ, ◌≤◌, List, [], ◌∷◌, ◌++◌, refl, ap, ◌∙◌, append_assoc, arith}
 use Rattle.std.proofs.lemmas.List.{append-nil}
-use Rattle.ps_meaning.specs.Event.{Event, Finish, count_of}
-use Rattle.ps_stepping.specs.Config.{Config}
-use Rattle.ps_stepping.specs.Machine.{Runs, goes, stops}
+use Rattle.machine_procedures.specs.ps_meaning.Event.{Event, Finish, count_of}
+use Rattle.machine_procedures.specs.ps_stepping.Config.{Config}
+use Rattle.machine_procedures.specs.ps_stepping.Machine.{Runs, goes, stops}
 use Rattle.stack_machine.proofs.Progress.{nearer}
 
 -- The next event of a run counts no fewer bytes than are counted now.

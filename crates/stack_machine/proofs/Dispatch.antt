@@ -4,19 +4,19 @@ use Rattle.std.specs.Prelude.{Some, None}
 use Rattle.ps_base.specs.CodeUnit.{UnitView, unit}
 use Rattle.ps_base.specs.Instr.{width_of}
 use Rattle.ps_base.specs.declared.instr.Instr.{Instr}
-use Rattle.swizzle.specs.Heap as area
-use Rattle.swizzle.specs.Heap.{IsHeap}
-use Rattle.swizzle.specs.Text.{text_at}
-use Rattle.proc_values.specs.Loaded.{IsUnit}
-use Rattle.proc_values.specs.Reading.{IsInstrIn, IsPlaceOf, IsSpelled}
-use Rattle.proc_values.proofs.ReadLaws.{place-of_unit}
-use Rattle.ps_stepping.specs.Config.{Config, IsAt, code_in}
-use Rattle.ps_stepping.specs.Machine.{Stuck, acts, act, behind, at_instruction, at_nothing}
-use Rattle.machine_state.specs.declared.machine.Machine.{Machine}
-use Rattle.machine_state.specs.declared.stepped.Stepped.{Stepped}
-use Rattle.machine_state.specs.declared.stepped.Stepped.TheVariants.{Damaged}
-use Rattle.machine_state.specs.Holding.{IsSound, IsHolding, Holds}
-use Rattle.machine_state.specs.Stepped.{Takes, TakesStep, Does}
+use Rattle.machine_procedures.specs.swizzle.Heap as area
+use Rattle.machine_procedures.specs.swizzle.Heap.{IsHeap}
+use Rattle.machine_procedures.specs.swizzle.Text.{text_at}
+use Rattle.machine_procedures.specs.proc_values.Loaded.{IsUnit}
+use Rattle.machine_procedures.specs.proc_values.Reading.{IsInstrIn, IsPlaceOf, IsSpelled}
+use Rattle.machine_procedures.proofs.of_proc_values.ReadLaws.{place-of_unit}
+use Rattle.machine_procedures.specs.ps_stepping.Config.{Config, IsAt, code_in}
+use Rattle.machine_procedures.specs.ps_stepping.Machine.{Stuck, acts, act, behind, at_instruction, at_nothing}
+use Rattle.machine_procedures.specs.machine_state.declared.machine.Machine.{Machine}
+use Rattle.machine_procedures.specs.machine_state.declared.stepped.Stepped.{Stepped}
+use Rattle.machine_procedures.specs.machine_state.declared.stepped.Stepped.TheVariants.{Damaged}
+use Rattle.machine_procedures.specs.machine_state.Holding.{IsSound, IsHolding, Holds}
+use Rattle.machine_procedures.specs.machine_state.Stepped.{Takes, TakesStep, Does}
 use Rattle.stack_machine.specs.inside.Acting.{ActsAs}
 
 pub acts_as : {i j : Instr} {own : ℕ} {old new : Machine} {answer : Stepped} → i ≡ j → Takes (acts j own) old new answer → ActsAs i own old new answer
@@ -37,7 +37,7 @@ code_of m c h = unit_code m.sw m.code c.unit h.held.unit_is
 pub placed : (m : Machine) → IsHeap m.sw → IsHolding m → IsPlaceOf m.sw m.code m.place
 placed m heap h = place-of_unit m.sw m.code h.0.unit m.place heap h.1.held.unit_is h.1.held.place_is
 
--- the machine behind the instruction
+-- the machine after the instruction
 holds_behind : (m : Machine) (c : Config) (i : Instr) (next : ℕ) → Holds m c → next ≡ m.at + width_of i → Holds (record m { at = next }) (behind i c)
 holds_behind m c i next h is = let k = h.held in record {
   names = h.names;
@@ -91,7 +91,7 @@ step_nothing m sound is = record {
   does = λ c h. (Stuck, at_nothing (λ i at. is i (m.at + width_of i) (at_machine m c i h at)), refl);
 }
 
--- the step is what the instruction does from behind itself
+-- the step is what the instruction does from after itself
 pub step_acts : (m new : Machine) (i : Instr) (next : ℕ) (answer : Stepped) → IsInstrIn (text_at m.sw m.code) m.at (Some (i, next))
     → ActsAs i m.at (record m { at = next }) new answer → TakesStep m new answer
 step_acts m new i next answer is acting = record {

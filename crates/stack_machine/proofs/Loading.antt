@@ -2,30 +2,40 @@
 use Rattle.std.proofs.Common.{◌≡◌, ℕ, ◌+◌, ◌*◌, ◌<◌, ◌≤◌, ℤ, pos, List, [], ◌∷◌, length, drop, replicate, get_or, Some, None, refl, sym, ap, ◌∙◌, subst, arith, rules}
 use Rattle.std.specs.Prelude.{reverse, vec_len, vec_capacity}
 use Rattle.std.proofs.lemmas.List.{get_or-replicate, drop_all, length-replicate}
-use Rattle.ps_base.specs.CodeUnit.{UnitView, unit}
+use Rattle.ps_base.specs.CodeUnit.{UnitView, unit, no_constants, constants_view}
+use Rattle.ps_base.specs.declared.code_unit.Constant.{Constant}
 use Rattle.ps_base.specs.declared.code_unit.Frame.{Frame}
-use Rattle.obj_layout.specs.declared.reference.Reference.{Reference}
-use Rattle.swizzle.specs.Heap as area
-use Rattle.obj_layout.specs.declared.kind.Kind.TheVariants.{Code}
-use Rattle.swizzle.specs.Heap.{IsHeld, header_at, top_of, fresh_heap}
-use Rattle.heap_ops.specs.Layouts.{AreSo as AreLaid}
-use Rattle.known_classes.specs.Classes.{IsRight}
-use Rattle.known_vectors.specs.Known.{AreSo as AreKnown}
-use Rattle.ps_meaning.specs.Values.{Value, Nil}
-use Rattle.ps_meaning.specs.Runs.{fresh_store}
-use Rattle.ps_stepping.specs.Config.{frame_words, frame_in, start}
-use Rattle.paired_ops.specs.World.{IsWorld, DenotesIn, DenotesScopeIn}
-use Rattle.proc_values.specs.Loaded.{IsUnit, IsUnitPlace}
-use Rattle.paired_ops.specs.Code as code
-use Rattle.paired_ops.specs.Code.{unit_weight}
-use Rattle.swizzle.specs.declared.fault.SwizzleFault.{SwizzleFault}
-use Rattle.swizzle.specs.declared.fault.SwizzleFault.TheVariants.{AreaFull}
-use Rattle.machine_state.specs.declared.machine.Machine.{Machine}
-use Rattle.machine_state.specs.Holding.{IsRow, IsRefRow, AreDenoted, object_in, Holds, IsSound}
-use Rattle.machine_state.specs.Waiting.{IsOrderly}
-use Rattle.machine_state.specs.Known.{AreKnown as AreCalled}
-use Rattle.machine_state.proofs.Words.{nil-denoted}
-use Rattle.stack_machine.specs.Loaded.{IsRoomy, IsFrame, IsLoaded, HasNoRoom, loaded_weight}
+use Rattle.vault_output.specs.obj_layout.declared.reference.Reference.{Reference}
+use Rattle.machine_procedures.specs.swizzle.Heap as area
+use Rattle.vault_output.specs.obj_layout.declared.kind.Kind.TheVariants.{Code}
+use Rattle.machine_procedures.specs.swizzle.Heap.{IsHeld, header_at, top_of, fresh_heap}
+use Rattle.machine_procedures.specs.heap_ops.Layouts.{AreSo as AreLaid}
+use Rattle.machine_procedures.specs.known_classes.Classes.{IsRight}
+use Rattle.machine_procedures.specs.known_vectors.Known.{AreSo as AreKnown}
+use Rattle.machine_procedures.specs.ps_meaning.Values.{Value, Nil}
+use Rattle.machine_procedures.specs.ps_meaning.Runs.{fresh_store}
+use Rattle.machine_procedures.specs.ps_stepping.Config.{frame_words, frame_in, start}
+use Rattle.machine_procedures.specs.paired_ops.World.{IsWorld, DenotesIn, DenotesScopeIn}
+use Rattle.machine_procedures.specs.swizzle.Objects.{size_of}
+use Rattle.machine_procedures.specs.heap_texts.Texts.{wanted_of}
+use Rattle.machine_procedures.specs.proc_values.Units.{IsCut, unit_objects}
+use Rattle.machine_procedures.specs.proc_values.Loaded.{IsUnit, IsUnitPlace}
+use Rattle.machine_procedures.specs.paired_ops.Code as code
+use Rattle.machine_procedures.specs.paired_ops.Code.{unit_weight}
+use Rattle.machine_procedures.specs.swizzle.declared.fault.SwizzleFault.{SwizzleFault}
+use Rattle.machine_procedures.specs.swizzle.declared.fault.SwizzleFault.TheVariants.{AreaFull}
+use Rattle.machine_procedures.specs.machine_state.declared.machine.Machine.{Machine}
+use Rattle.machine_procedures.specs.machine_state.Holding.{IsRow, IsRefRow, AreDenoted, object_in, Holds, IsSound}
+use Rattle.machine_procedures.specs.machine_state.Waiting.{IsOrderly}
+use Rattle.machine_procedures.specs.machine_state.Known.{AreKnown as AreCalled}
+use Rattle.machine_procedures.proofs.of_machine_state.Words.{nil-denoted}
+use Rattle.stack_machine.specs.Loaded.{IsRoomy, IsFrame, IsLoaded, EndsBefore, HasNoRoom, loaded_weight, no_locals}
+
+-- a unit without code and constants
+pub empty_unit : (code : List ℕ) (constants : List Constant) → code ≡ [] → constants ≡ [] → unit code (constants_view constants) no_locals ≡ unit [] no_constants no_locals
+unfolding constants_view
+empty_unit code constants no_bytes none =
+    ap (λ (bytes : List ℕ). unit bytes (constants_view constants) no_locals) no_bytes ∙ ap (λ (cs : List Constant). unit [] (constants_view cs) no_locals) none
 
 -- locals that are 0
 row_of : (count : ℕ) → IsRow (replicate count (pos 0)) count [] (λ slot. pos 0)
@@ -49,6 +59,15 @@ ref_row_of here names count =
       pushed_are = subst (λ (xs : List ℕ). AreDenoted here names xs []) (sym (ap (λ (xs : List ℕ). reverse xs) (drop_all count (replicate count 0) (omega (arith, long))))) tt;
       locals_are = λ slot d below. subst (λ (w : ℕ). DenotesIn here names (object_in w) Nil) (sym (get_or-replicate count slot 0 d below)) (nil-denoted here names);
     }
+
+-- In an empty area the objects that were made begin at word 1.
+ends-before : (u : UnitView) (made : area.Heap) (top wanted size words : ℕ) → IsCut (fresh_heap words) made (unit_objects 1 u) (AreaFull top wanted size)
+    → EndsBefore (unit_objects 1 u) top wanted
+ends-before u made top wanted size words cut =
+    let told : AreaFull top wanted size ≡ AreaFull (top_of made) (wanted_of (size_of cut.next)) made.size = cut.fault_is in
+    let t : top ≡ top_of made = cc in
+    let w : wanted ≡ wanted_of (size_of cut.next) = cc in
+    record { made = cut.front; next = cut.next; rest = cut.rest; objects_are = cut.cut; top_is = t ∙ ap top_of cut.made; wanted_is = w }
 
 module _ (u : UnitView) (turns : ℕ) (input : List ℕ) (old new : Machine) (mid : area.Heap) (frame_is : new.frame ≡ frame_in u) (nums : new.frame.nums ≤ frame_words) (refs : new.frame.refs ≤ frame_words) where
   own_frame : IsFrame (frame_in u)
@@ -102,10 +121,10 @@ pub loaded-held : (here : area.Heap) (at : ℕ) (u : UnitView) → IsUnit here a
 unfolding IsUnit
 loaded-held here at (unit bytes cs frame) is = (is.0.held, is.0.kind)
 
--- there was no room
-pub no-room : (u : UnitView) (old new : Machine) (mid : area.Heap) (top wanted size : ℕ) → IsFrame (frame_in u) → IsRoomy new → mid ≡ fresh_heap old.sw.size
-    → code.HasNoRoom mid u (AreaFull top wanted size) → HasNoRoom u old new top wanted size
-no-room u old new mid top wanted size frame roomy fresh is =
+-- There was no room for all objects of the unit: some were made, and the next one didn't fit.
+pub no-room : (u : UnitView) (old new : Machine) (mid made : area.Heap) (top wanted size : ℕ) → IsFrame (frame_in u) → IsRoomy new → mid ≡ fresh_heap old.sw.size
+    → code.HasNoRoom mid u (AreaFull top wanted size) → IsCut mid made (unit_objects (top_of mid) u) (AreaFull top wanted size) → HasNoRoom u old new top wanted size
+no-room u old new mid made top wanted size frame roomy fresh is cut =
     let told : AreaFull top wanted size ≡ AreaFull is.top is.wanted mid.size = is.fault_is in
     let t : top ≡ is.top = cc in
     let w : wanted ≡ is.wanted = cc in
@@ -119,5 +138,7 @@ no-room u old new mid top wanted size frame roomy fresh is =
       roomy = roomy;
       size_is = s ∙ of_size;
       full = omega (arith, t, w, s, full);
+      ends = ends-before u made top wanted size old.sw.size (subst (λ (h : area.Heap). IsCut h made (unit_objects (top_of h) u) (AreaFull top wanted size)) fresh cut);
+      within = omega (arith, t, w, within, was);
       passed = omega (arith, s, full, within, was);
     }

@@ -13,25 +13,25 @@ use Rattle.ps_base.specs.declared.operator.Relation.{Relation}
 use Rattle.ps_base.specs.declared.operator.Relation.TheVariants as relation
 use Rattle.ps_base.specs.declared.instr.Instr.{Instr}
 use Rattle.ps_base.specs.declared.instr.Instr.TheVariants.{Int, True, False, Text, Nil, GetM, GetP, SetM, SetP, KeptM, KeptP, KeepM, KeepP, Scope, Leave, Jump, JumpFalse, Again, And, Or, Not, Neg, Add, Sub, Mul, Div, Rem, EqM, NeM, LtM, LeM, GtM, GeM, EqP, NeP, EqT, NeT, LtT, LeT, GtT, GeT, Join, Part, Is, Make, FieldM, FieldP, SetFieldM, SetFieldP, FillM, FillP, ListM, ListP, ElemM, ElemP, SetElemM, SetElemP, Lwb, Upb, Closure, Call, Return, Lib, WriteI, WriteB, WriteT, Abort, ForStart, ForNext, ScanT, ScanI, ScanMore, DupM, DupP, DropM, DropP, JumpTrue}
-use Rattle.ps_meaning.specs.Operators.{Answer, Gives, Traps, is_same, neg_of, arith_of, relation_of}
-use Rattle.ps_meaning.specs.Event.{Event, count_of}
-use Rattle.ps_meaning.specs.Values.{Value, Num, as_written, as_compiled, word_of, number_of, is_one, flag_text}
-use Rattle.ps_meaning.specs.Values as value
-use Rattle.ps_meaning.specs.Meaning.{is_width, in_places, some_out, with_turns, on_heap, and_object, and_text, and_closure, on_input, kept_name, with_kept_name}
-use Rattle.ps_meaning.specs.Texts.{Attempt, Yields, Fails, join_of, part_of, line_read, behind_line, is_at_end}
-use Rattle.ps_meaning.specs.Objects.{Heap, Object, Structure, Elements, Scope as ScopeOf, new_number, is_class, field_of, with_field, vector_of, filled_vector, with_element, low_of, high_of}
-use Rattle.ps_meaning.specs.Objects.{element_of as element_at}
-use Rattle.ps_meaning.specs.Scopes.{new_scope, scope_at, scope_out}
-use Rattle.ps_meaning.specs.Evaluation.{most_calls, goes_on, kept_as, kept_elements, text_relation, object_relation}
-use Rattle.text_forms.specs.declared.forms.Form.{Form}
-use Rattle.text_forms.specs.declared.forms.Form.TheVariants as form
-use Rattle.text_forms.specs.Forms.{forms_of, form_in, element_of}
-use Rattle.ps_stepping.specs.Steps.{text_of, text_in, attempted}
-use Rattle.ps_stepping.specs.Objects.{holding, changed, make, make_text, denoting_of, object_of, pop_fields, when_number, when_reference, type_of, of_type, pop_nums, pop_refs, library, read_line, text_length, int_text, join, part, compare_texts, compare_objects, is_of_class, make_structure, field_num, field_ref, set_field_num, set_field_ref, fill_num, fill_ref, list_num, list_ref, element_num, element_ref, set_element_num, set_element_ref, pop_vector}
-use Rattle.ps_stepping.specs.Objects.{bound as bound_of}
-use Rattle.ps_stepping.specs.Procedures.{of_scope, enter_scope, leave_scope, kept_num, kept_ref, keep_num, keep_ref, procedure_of, unit_called, takes_refs, in_turn, call}
-use Rattle.ps_stepping.specs.Config.{Config, Caller, frame_words, code_in, constants_in, frame_in, constant_at}
-use Rattle.ps_stepping.specs.Machine.{Step, Goes, Stops, Stuck, Steps, at_instruction, at_nothing, acts, on, put_num, push_num, push_ref, pop_num_of, pop_ref_of, is_num_slot, is_ref_slot, with_num, with_ref, forward, turn_to, back, answered, test, written, pop_width, push_text, started, counted, come_back, returned}
+use Rattle.machine_procedures.specs.ps_meaning.Operators.{Answer, Gives, Traps, is_same, neg_of, arith_of, relation_of}
+use Rattle.machine_procedures.specs.ps_meaning.Event.{Event, count_of}
+use Rattle.machine_procedures.specs.ps_meaning.Values.{Value, Num, as_written, as_compiled, word_of, number_of, is_one, flag_text}
+use Rattle.machine_procedures.specs.ps_meaning.Values as value
+use Rattle.machine_procedures.specs.ps_meaning.Meaning.{is_width, in_places, some_out, with_turns, on_heap, and_object, and_text, and_closure, on_input, kept_name, with_kept_name}
+use Rattle.machine_procedures.specs.ps_meaning.Texts.{Attempt, Yields, Fails, join_of, part_of, line_read, behind_line, is_at_end}
+use Rattle.machine_procedures.specs.ps_meaning.Objects.{Heap, Object, Structure, Elements, Scope as ScopeOf, new_number, is_class, field_of, with_field, vector_of, filled_vector, with_element, low_of, high_of}
+use Rattle.machine_procedures.specs.ps_meaning.Objects.{element_of as element_at}
+use Rattle.machine_procedures.specs.ps_meaning.Scopes.{new_scope, scope_at, scope_out}
+use Rattle.machine_procedures.specs.ps_meaning.Evaluation.{most_calls, goes_on, kept_as, kept_elements, text_relation, object_relation}
+use Rattle.machine_procedures.specs.text_forms.declared.forms.Form.{Form}
+use Rattle.machine_procedures.specs.text_forms.declared.forms.Form.TheVariants as form
+use Rattle.machine_procedures.specs.text_forms.Forms.{forms_of, form_in, element_of}
+use Rattle.machine_procedures.specs.ps_stepping.Steps.{text_of, text_in, attempted}
+use Rattle.machine_procedures.specs.ps_stepping.Objects.{holding, changed, make, make_text, denoting_of, object_of, pop_fields, when_number, when_reference, type_of, of_type, pop_nums, pop_refs, library, read_line, text_length, int_text, join, part, compare_texts, compare_objects, is_of_class, make_structure, field_num, field_ref, set_field_num, set_field_ref, fill_num, fill_ref, list_num, list_ref, element_num, element_ref, set_element_num, set_element_ref, pop_vector}
+use Rattle.machine_procedures.specs.ps_stepping.Objects.{bound as bound_of}
+use Rattle.machine_procedures.specs.ps_stepping.Procedures.{of_scope, enter_scope, leave_scope, kept_num, kept_ref, keep_num, keep_ref, procedure_of, unit_called, takes_refs, in_turn, call}
+use Rattle.machine_procedures.specs.ps_stepping.Config.{Config, Caller, frame_words, code_in, constants_in, frame_in, constant_at}
+use Rattle.machine_procedures.specs.ps_stepping.Machine.{Step, Goes, Stops, Stuck, Steps, at_instruction, at_nothing, acts, on, put_num, push_num, push_ref, pop_num_of, pop_ref_of, is_num_slot, is_ref_slot, with_num, with_ref, forward, turn_to, back, answered, test, written, pop_width, push_text, started, counted, come_back, returned}
 
 abbrev pub size : Config → ℕ
 size c = length (code_in c.unit)
@@ -76,7 +76,7 @@ lower_fewer b count (Goes events next) few low = let more = low.1 in (low.0, ome
 lower_fewer b count (Stops e) few low = tt
 lower_fewer b count Stuck few low = tt
 
--- the configuration is behind an instruction at this offset of the code
+-- the configuration is after an instruction at this offset of the code
 abbrev Ahead : ℕ → Config → Type 0
 Ahead own c = (own < size c) × (own < c.at)
 

@@ -1,26 +1,26 @@
--- What is told, and what is owed, one call behind another.
+-- What is told, and what is pending, one call after another.
 use Rattle.std.proofs.Common.{◌≡◌, ℕ, ◌+◌, ◌≤◌, ℤ, List, [], ◌++◌, length, replicate, Option, Some, None, refl, sym, ap, ◌∙◌, subst, append_assoc, arith}
 use Rattle.std.specs.Prelude.{Result, Ok, Err}
 use Rattle.std.proofs.lemmas.List.{append-nil}
-use Rattle.ps_outside.specs.Outside.{Outside, Adds, AddsFront, TellsFront, ToldAll, SameContents, Rose}
-use Rattle.ps_outside.proofs.Moments.{along_none, along_then, along_now, along_weaker}
-use Rattle.obj_layout.specs.declared.vault.VaultFault.{VaultFault}
-use Rattle.obj_layout.specs.declared.vault.VaultFault.TheVariants.{Output}
-use Rattle.obj_layout.specs.Stored.{Space}
-use Rattle.obj_layout.specs.Storing.{Puts}
-use Rattle.swizzle.specs.Reading.{LeavesOutside}
+use Rattle.ps_port.specs.ps_outside.Outside.{Outside, Adds, AddsPrefix, TellsPrefix, ToldAll, SameContents, Rose}
+use Rattle.ps_port.proofs.of_ps_outside.Moments.{along_none, along_then, along_now, along_weaker}
+use Rattle.vault_output.specs.obj_layout.declared.vault.VaultFault.{VaultFault}
+use Rattle.vault_output.specs.obj_layout.declared.vault.VaultFault.TheVariants.{Output}
+use Rattle.vault_output.specs.obj_layout.Stored.{Space}
+use Rattle.vault_output.specs.obj_layout.Storing.{Puts}
+use Rattle.machine_procedures.specs.swizzle.Reading.{LeavesOutside}
 use Rattle.vault_output.specs.Sending.{Sends}
 use Rattle.vault_output.proofs.SendingLaws.{sends-more}
-use Rattle.ps_meaning.specs.Meaning.{in_places}
+use Rattle.machine_procedures.specs.ps_meaning.Meaning.{in_places}
 use Rattle.stack_machine.specs.inside.Blanks.{blanks_of}
-use Rattle.stack_machine.specs.Ran.{TellsFirst, TellsAll, FailsBehind}
+use Rattle.stack_machine.specs.Ran.{TellsFirst, TellsAll, FailsAfter}
 use Rattle.stack_machine.specs.inside.Advancing.{TellsBut}
 
 pub placed-is : (width : Option ℤ) (text : List ℕ) → replicate (blanks_of width (length text)) 32 ++ text ≡ in_places width text
 placed-is None text = refl
 placed-is (Some width) text = refl
 
--- one part of what is owed was written
+-- one part of what is pending was written
 pub sends-part : (a b c : Outside Space) (due owed whole part rest left : List ℕ) → Sends {T = Unit {0}} a b due (owed ++ whole) (Ok tt) → whole ≡ part ++ rest
     → Sends {T = Unit {0}} b c (owed ++ part) left (Ok tt) → Sends {T = Unit {0}} a c due (left ++ rest) (Ok tt)
 sends-part a b c due owed whole part rest left first is next =
@@ -40,7 +40,7 @@ fails-part a b c due owed whole part rest left fault first is next =
 adds_none : (told : List ℕ → Type 0) (bytes : List ℕ) → told bytes → Adds told [] bytes
 adds_none told bytes was = record { before = bytes; was_told = was; bytes_are = sym (append-nil bytes) }
 
-front_none : (told : List ℕ → Type 0) (bytes : List ℕ) → told bytes → AddsFront told [] bytes
+front_none : (told : List ℕ → Type 0) (bytes : List ℕ) → told bytes → AddsPrefix told [] bytes
 front_none told bytes was = record { front = []; is_front = record { rest = []; whole_is = refl }; adds = adds_none told bytes was }
 
 adds_then : (first next : List ℕ → Type 0) (xs ys bytes : List ℕ) → ((b : List ℕ) → next b → Adds first xs b) → Adds next ys bytes → Adds first (xs ++ ys) bytes
@@ -52,7 +52,7 @@ adds_then first next xs ys bytes step last =
       bytes_are = last.bytes_are ∙ ap (λ (b : List ℕ). b ++ ys) one.bytes_are ∙ append_assoc one.before xs ys;
     }
 
-front_more : (told : List ℕ → Type 0) (some rest bytes : List ℕ) → AddsFront told some bytes → AddsFront told (some ++ rest) bytes
+front_more : (told : List ℕ → Type 0) (some rest bytes : List ℕ) → AddsPrefix told some bytes → AddsPrefix told (some ++ rest) bytes
 front_more told some rest bytes is = record {
   front = is.front;
   is_front = record {
@@ -62,7 +62,7 @@ front_more told some rest bytes is = record {
   adds = is.adds;
 }
 
-front_then : (first next : List ℕ → Type 0) (xs ys bytes : List ℕ) → ((b : List ℕ) → next b → Adds first xs b) → AddsFront next ys bytes → AddsFront first (xs ++ ys) bytes
+front_then : (first next : List ℕ → Type 0) (xs ys bytes : List ℕ) → ((b : List ℕ) → next b → Adds first xs b) → AddsPrefix next ys bytes → AddsPrefix first (xs ++ ys) bytes
 front_then first next xs ys bytes step is = record {
   front = xs ++ is.front;
   is_front = record {
@@ -78,7 +78,7 @@ rose_from a b c le rose = grind arith
 same_then : (a b c : Outside Space) → SameContents a b → SameContents b c → SameContents a c
 same_then a b c first next = record { kept = λ x is. next.kept x (first.kept x is); no_other = λ x is. first.no_other x (next.no_other x is) }
 
--- A front of the first part, and then of the second where all of the first was told.
+-- A prefix of the first part, and then of the second where all of the first was told.
 pub first-more : (a b : Outside Space) (xs ys : List ℕ) → TellsFirst a b xs → TellsFirst a b (xs ++ ys)
 first-more a b xs ys is = record {
   told = along_weaker is.told (λ (bytes : List ℕ) at. front_more (a.told a.clock) xs ys bytes at);
@@ -107,7 +107,7 @@ all-then a b c xs ys is next = record {
   calm = next.calm ∙ is.calm;
 }
 
-pub fails-then : (a b c : Outside Space) (xs ys : List ℕ) → TellsAll a b xs → FailsBehind b c ys → FailsBehind a c (xs ++ ys)
+pub fails-then : (a b c : Outside Space) (xs ys : List ℕ) → TellsAll a b xs → FailsAfter b c ys → FailsAfter a c (xs ++ ys)
 fails-then a b c xs ys is next =
     let calm = is.calm in
     let counts = next.counts in
@@ -117,7 +117,7 @@ fails-then a b c xs ys is next =
       rose = subst (λ (n : ℕ). Rose n c.output_faults) calm next.rose;
     }
 
-pub fails-more : (a b : Outside Space) (xs ys : List ℕ) → FailsBehind a b xs → FailsBehind a b (xs ++ ys)
+pub fails-more : (a b : Outside Space) (xs ys : List ℕ) → FailsAfter a b xs → FailsAfter a b (xs ++ ys)
 fails-more a b xs ys is = record { first = first-more a b xs ys is.first; counts = is.counts; rose = is.rose }
 
 -- Of one call.
@@ -151,14 +151,14 @@ first-puts a b xs r is = record { told = is.told; images = is.images; contents =
 pub all-puts : {T : Type 0} (a b : Outside Space) (xs : List ℕ) (done : T) → Puts a b xs (Ok done) → TellsAll a b xs
 all-puts a b xs done is = record { first = first-puts a b xs (Ok done) is; all = is.all; calm = is.calm }
 
-pub fails-puts : {T : Type 0} (a b : Outside Space) (xs : List ℕ) (fault : VaultFault) → fault ≡ Output → Puts {T = T} a b xs (Err fault) → FailsBehind a b xs
+pub fails-puts : {T : Type 0} (a b : Outside Space) (xs : List ℕ) (fault : VaultFault) → fault ≡ Output → Puts {T = T} a b xs (Err fault) → FailsAfter a b xs
 fails-puts {T = T} a b xs fault output is = record {
   first = first-puts a b xs (Err fault) is;
   counts = is.counts;
   rose = is.cause (ap (λ (f : VaultFault). Err f) output);
 }
 
--- What is owed.
+-- What is pending.
 pub but-leaves : (a b : Outside Space) (owed : List ℕ) → LeavesOutside a b → TellsBut a b owed owed
 but-leaves a b owed is = record { sent = []; due_is = refl; tells = all-leaves a b is }
 
@@ -173,11 +173,11 @@ but-sends a b due left done is = record {
   tells = all-puts a b is.sent done is.puts;
 }
 
-pub fails-sends : {T : Type 0} (a b : Outside Space) (due left : List ℕ) (fault : VaultFault) → fault ≡ Output → Sends {T = T} a b due left (Err fault) → FailsBehind a b due
+pub fails-sends : {T : Type 0} (a b : Outside Space) (due left : List ℕ) (fault : VaultFault) → fault ≡ Output → Sends {T = T} a b due left (Err fault) → FailsAfter a b due
 fails-sends a b due left fault output is =
-    subst (λ (xs : List ℕ). FailsBehind a b xs) (sym is.due_is) (fails-more a b is.sent is.rest (fails-puts a b is.sent fault output is.puts))
+    subst (λ (xs : List ℕ). FailsAfter a b xs) (sym is.due_is) (fails-more a b is.sent is.rest (fails-puts a b is.sent fault output is.puts))
 
--- all that is owed was put
+-- all that is pending was put
 pub but-puts : {T : Type 0} (a b : Outside Space) (owed left : List ℕ) (done : T) → Puts a b owed (Ok done) → left ≡ [] → TellsBut a b owed left
 but-puts a b owed left done is none = record {
   sent = owed;
@@ -185,7 +185,7 @@ but-puts a b owed left done is none = record {
   tells = all-puts a b owed done is;
 }
 
--- behind it
+-- after it
 but_split : (due sent owed more : List ℕ) → due ≡ sent ++ owed → due ++ more ≡ sent ++ (owed ++ more)
 but_split due sent owed more is = ap (λ (xs : List ℕ). xs ++ more) is ∙ append_assoc sent owed more
 
@@ -203,9 +203,9 @@ pub but-all : (a b c : Outside Space) (due owed more : List ℕ) → TellsBut a 
 but-all a b c due owed more first next =
     subst (λ (xs : List ℕ). TellsAll a c xs) (sym (but_split due first.sent owed more first.due_is)) (all-then a b c first.sent (owed ++ more) first.tells next)
 
-pub but-fails : (a b c : Outside Space) (due owed more : List ℕ) → TellsBut a b due owed → FailsBehind b c (owed ++ more) → FailsBehind a c (due ++ more)
+pub but-fails : (a b c : Outside Space) (due owed more : List ℕ) → TellsBut a b due owed → FailsAfter b c (owed ++ more) → FailsAfter a c (due ++ more)
 but-fails a b c due owed more first next =
-    subst (λ (xs : List ℕ). FailsBehind a c xs) (sym (but_split due first.sent owed more first.due_is)) (fails-then a b c first.sent (owed ++ more) first.tells next)
+    subst (λ (xs : List ℕ). FailsAfter a c xs) (sym (but_split due first.sent owed more first.due_is)) (fails-then a b c first.sent (owed ++ more) first.tells next)
 
 pub but-first : (a b c : Outside Space) (due owed : List ℕ) → TellsBut a b due owed → TellsFirst b c owed → TellsFirst a c due
 but-first a b c due owed first next = subst (λ (xs : List ℕ). TellsFirst a c xs) (sym first.due_is) (first-then a b c first.sent owed first.tells next)
@@ -214,5 +214,5 @@ but-first a b c due owed first next = subst (λ (xs : List ℕ). TellsFirst a c 
 pub leaves-but : (a b c : Outside Space) (due left : List ℕ) → LeavesOutside a b → TellsBut b c due left → TellsBut a c due left
 leaves-but a b c due left quiet next = record { sent = next.sent; due_is = next.due_is; tells = all-then a b c [] next.sent (all-leaves a b quiet) next.tells }
 
-pub leaves-fails : (a b c : Outside Space) (due : List ℕ) → LeavesOutside a b → FailsBehind b c due → FailsBehind a c due
+pub leaves-fails : (a b c : Outside Space) (due : List ℕ) → LeavesOutside a b → FailsAfter b c due → FailsAfter a c due
 leaves-fails a b c due quiet next = fails-then a b c [] due (all-leaves a b quiet) next

@@ -8,5 +8,8 @@ pub mod run;
 mod steps;
 mod tell;
 
-pub use machine_state::{Machine, RunEnd};
+pub use machine_procedures::machine_state::{Machine, RunEnd};
+pub use machine_procedures::ps_code;
 pub use steps::step;
+pub use vault_output;
+pub use vault_output::obj_layout;

@@ -1,32 +1,36 @@
-ghost use Rattle.std.specs.Prelude.{◌≡◌, ◌^◌, ◌+◌, ◌≤◌, [], replicate, pos, IfOk};
-ghost use Rattle.ps_base.specs.CodeUnit.{unit_view};
-ghost use Rattle.ps_stepping.specs.Config.{frame_words};
-ghost use Rattle.machine_state.specs.Waiting.{IsOrderly};
-ghost use Rattle.stack_machine.specs.Loaded.{IsRoomy, IsNew, Loads};
+ghost use Rattle.std.specs.Prelude.{◌≡◌, ◌^◌, ◌+◌, ◌≤◌, [], replicate, pos, true, false, IfOk, IfErr};
+ghost use Rattle.ps_base.specs.CodeUnit.{unit, unit_view, no_constants};
+ghost use Rattle.machine_procedures.specs.ps_stepping.Config.{frame_in, frame_words};
+ghost use Rattle.machine_procedures.specs.swizzle.Heap.{top_of};
+ghost use Rattle.machine_procedures.specs.proc_values.Units.{IsCut, unit_objects};
+ghost use Rattle.machine_procedures.specs.paired_ops.Code as paired;
+ghost use Rattle.machine_procedures.specs.machine_state.Waiting.{IsOrderly};
+ghost use Rattle.stack_machine.specs.Loaded.{IsFrame, IsRoomy, IsNew, Loads, LoadsUnit, no_locals};
 
-use frame_stack::FrameStack;
-use heap_ops::layouts::Layouts;
-use known_classes::classes::KnownClasses;
-use known_vectors::known::KnownVectors;
-use machine_state::{
+use machine_procedures::frame_stack::FrameStack;
+use machine_procedures::heap_ops::layouts::Layouts;
+use machine_procedures::known_classes::classes::KnownClasses;
+use machine_procedures::known_vectors::known::KnownVectors;
+use machine_procedures::machine_state::{
     ALL_WORDS, FRAME_WORDS, Input, Item, KnownProcedures, MOST_CALLERS, MOST_VALUES, Machine,
     RunEnd, Writing,
 };
-use paired_ops::code;
-use proc_values::reading::{CodePlace, code_place};
+use machine_procedures::proc_values::load::load_unit;
+use machine_procedures::proc_values::reading::{CodePlace, code_place};
+use machine_procedures::swizzle::fault::SwizzleFault;
+use machine_procedures::swizzle::swizzle::Swizzle;
+use ps_base::bytes::Bytes;
 use ps_base::code_unit::{CodeUnit, Frame};
+use ps_base::list::List;
 use std::alloc::{AllocError, Global};
-use swizzle::fault::SwizzleFault;
-use swizzle::swizzle::Swizzle;
 
-/// Why a unit wasn't loaded. The machine takes another one behind it.
+/// Why a unit wasn't loaded: the area has no room for it. Its next word, the words of the object that doesn't fit, and the area's size, of which the
+/// first two together are more. The machine takes another unit then.
 #[derive(Clone, Copy, PartialEq, Eq, Debug)]
-pub enum LoadFault {
-    /// The unit's frame has more than 512 locals on one stack.
-    Damaged,
-    /// The area has no room for the unit: its next word, the words of the object that didn't fit, and the area's size, of which the first two
-    /// together are more.
-    Full { top: u32, wanted: u32, size: u32 },
+pub struct NoRoom {
+    pub top: u32,
+    pub wanted: u32,
+    pub size: u32,
 }
 
 // A frame without locals.
@@ -89,37 +93,72 @@ pub fn machine(alloc: Global, words: u32) -> Result<Machine, AllocError>
     })
 }
 
-/// Puts a unit into a machine, at its start, with so many turns and this input. What lay in the area is forgotten in no time that depends on it, and
-/// no memory is taken.
-pub fn load(m: &mut Machine, unit: &CodeUnit, turns: u64, input: Vec<u8>) -> Result<(), LoadFault>
+/// Puts a unit into a machine, at its start, with so many turns and this input. For a unit whose frame has more than 512 locals on one stack it is a
+/// unit without code, so that the first step is damage. What lay in the area is forgotten in no time that depends on it, and no memory is taken.
+pub fn load(m: &mut Machine, unit: &CodeUnit, turns: u64, input: Vec<u8>) -> Result<(), NoRoom>
     requires { IsRoomy m.old }
     ensures { Loads (unit_view unit.now) turns input.items m.old m.new result }
 {
-    let frame = unit.frame;
-    if frame.nums as usize > FRAME_WORDS {
-        return Err(LoadFault::Damaged);
+    if fits(unit.frame) {
+        return load_fitting(m, unit, turns, input);
     }
-    if frame.refs as usize > FRAME_WORDS {
-        return Err(LoadFault::Damaged);
+    let damaged = no_code(*input.allocator());
+    load_fitting(m, &damaged, turns, input)
+}
+
+// Whether a frame has no more locals on a stack than words.
+fn fits(frame: Frame) -> bool
+    ensures fits { result ≡ true → IsFrame frame }
+    ensures is_too_large { result ≡ false → IsFrame frame → ⊥ }
+{
+    frame.nums as usize <= FRAME_WORDS && frame.refs as usize <= FRAME_WORDS
+}
+
+// A unit without code. Takes no memory.
+#[tactic(auto, using(crate::proofs::Loading::empty_unit))]
+fn no_code(alloc: Global) -> CodeUnit
+    ensures { unit_view result ≡ unit [] no_constants no_locals }
+{
+    CodeUnit {
+        code: Bytes::new(Vec::new(alloc)),
+        constants: List::new(Vec::new(alloc)),
+        frame: NO_LOCALS,
     }
+}
+
+// Puts a unit whose frame fits into a machine.
+fn load_fitting(m: &mut Machine, unit: &CodeUnit, turns: u64, input: Vec<u8>) -> Result<(), NoRoom>
+    requires roomy { IsRoomy m.old }
+    requires frame { IsFrame (frame_in (unit_view unit.now)) }
+    ensures { LoadsUnit (unit_view unit.now) turns input.items m.old m.new result }
+{
     m.sw.reset();
     m.classes.clear();
     m.layouts.clear();
     m.vectors.clear();
     m.procedures.clear();
     m.input = Input::new(input);
-    match code::load(&mut m.sw, unit) {
+    match make_objects(&mut m.sw, unit) {
         Ok(code) => {
             m.sw.sound();
             let place = code_place(&m.sw, code);
-            begin(m, code, place, frame, turns);
+            begin(m, code, place, unit.frame, turns);
             Ok(())
         }
-        Err(SwizzleFault::AreaFull { top, wanted, size }) => {
-            Err(LoadFault::Full { top, wanted, size })
-        }
+        Err(SwizzleFault::AreaFull { top, wanted, size }) => Err(NoRoom { top, wanted, size }),
         Err(SwizzleFault::Vault(_)) => unreachable!(),
     }
+}
+
+// Makes the objects of a unit, and answers its code object.
+fn make_objects(sw: &mut Swizzle, unit: &CodeUnit) -> Result<u32, SwizzleFault>
+    ensures loads { paired.LoadsUnit sw.old sw.new (unit_view unit.now) result }
+    ensures cut { IfErr result (λ fault. IsCut sw.old sw.new (unit_objects (top_of sw.old) (unit_view unit.now)) fault) }
+{
+    sw.sound();
+    let loaded = load_unit(sw, unit);
+    sw.sound();
+    loaded
 }
 
 // Stands at the start of a code object with this frame: the locals are 0 and nil, and nothing is pushed.

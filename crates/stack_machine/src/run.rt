@@ -1,18 +1,18 @@
 ghost use Rattle.std.specs.Prelude.{◌≡◌, [], ◌++◌, ℕ};
-ghost use Rattle.swizzle.specs.declared.fault.SwizzleFault.TheVariants.{AreaFull};
-ghost use Rattle.ps_stepping.specs.Config.{Config};
-ghost use Rattle.machine_state.specs.Holding.{Holds, IsHolding, IsSound};
-ghost use Rattle.machine_state.specs.Stepped.{text_of, IsItem};
+ghost use Rattle.machine_procedures.specs.swizzle.declared.fault.SwizzleFault.TheVariants.{AreaFull};
+ghost use Rattle.machine_procedures.specs.ps_stepping.Config.{Config};
+ghost use Rattle.machine_procedures.specs.machine_state.Holding.{Holds, IsHolding, IsSound};
+ghost use Rattle.machine_procedures.specs.machine_state.Stepped.{text_of, IsItem};
 ghost use Rattle.stack_machine.specs.Ran.{Ran};
 ghost use Rattle.stack_machine.specs.inside.Advancing.{Advances, SendsOn, advanced_where, Reports, Flushes, BreaksOff, StaysAlive, IsNoRoom};
 ghost use Rattle.stack_machine.specs.declared.run.RunFault.TheVariants.{Full};
 
 use crate::steps::step;
 use crate::tell;
-use machine_state::{Machine, RunEnd, Stepped};
-use obj_layout::vault::Vault;
-use swizzle::fault::SwizzleFault;
+use machine_procedures::machine_state::{Machine, RunEnd, Stepped};
+use machine_procedures::swizzle::fault::SwizzleFault;
 use vault_output::Output;
+use vault_output::obj_layout::vault::Vault;
 
 /// Why a run broke off before its end.
 #[derive(Clone, Copy, PartialEq, Eq, Debug)]
@@ -41,7 +41,7 @@ enum Advanced {
     Failed,
 }
 
-// One step, and what it writes. What is owed goes out at a turn.
+// One step, and what it writes. What is pending goes out at a turn.
 #[inline(always)]
 fn advance<V: Vault>(m: &mut Machine, vault: &mut V, output: &mut Output) -> Advanced
     requires sound { IsSound m.old }
@@ -68,7 +68,7 @@ fn on_where(sent: bool) -> Advanced
     if sent { Advanced::On } else { Advanced::Failed }
 }
 
-// What is owed goes out at a turn; mostly nothing is. False where the output failed.
+// What is pending goes out at a turn; mostly nothing is. False where the output failed.
 #[inline(always)]
 fn turned<V: Vault>(vault: &mut V, output: &mut Output) -> bool
     requires { V.alive vault.old }
@@ -82,7 +82,7 @@ fn turned<V: Vault>(vault: &mut V, output: &mut Output) -> bool
     let_go(vault, output)
 }
 
-// What is owed goes out. False where the output failed.
+// What is pending goes out. False where the output failed.
 #[inline(never)]
 fn let_go<V: Vault>(vault: &mut V, output: &mut Output) -> bool
     requires { V.alive vault.old }
@@ -121,7 +121,7 @@ fn full(fault: SwizzleFault) -> RunFault
     }
 }
 
-// Tells the report of an end, and all that is owed.
+// Tells the report of an end, and all that is pending.
 fn finish<V: Vault>(vault: &mut V, output: &mut Output, end: RunEnd) -> Result<RunEnd, RunFault>
     requires { V.alive vault.old }
     ensures reports { Reports (V.outside vault.old) (V.outside vault.new) output.old end result }
@@ -136,7 +136,7 @@ fn finish<V: Vault>(vault: &mut V, output: &mut Output, end: RunEnd) -> Result<R
     }
 }
 
-// Tells all that is owed where a run broke off, and answers why; or the output failed.
+// Tells all that is pending where a run broke off, and answers why; or the output failed.
 fn flushed<V: Vault>(vault: &mut V, output: &mut Output, fault: RunFault) -> RunFault
     requires { V.alive vault.old }
     ensures flushes { Flushes (V.outside vault.old) (V.outside vault.new) output.old fault result }
@@ -160,9 +160,9 @@ fn break_off<V: Vault>(vault: &mut V, output: &mut Output) -> RunFault
     RunFault::Damaged
 }
 
-/// Runs a machine to its end, and tells what it writes and the report of its end; what is owed goes out at each turn, where the buffer is full,
+/// Runs a machine to its end, and tells what it writes and the report of its end; what is pending goes out at each turn, where the buffer is full,
 /// and at the end. It takes no memory. Where there is no step the run ends there, and what it wrote was told as far as the vault was alive;
-/// where the area is full, all of it was; and where the output fails it ends there, behind a front of what it would tell. Nothing is owed
+/// where the area is full, all of it was; and where the output fails it ends there, after a prefix of what it would tell. Nothing is pending
 /// then.
 pub fn run<V: Vault>(
     m: &mut Machine,

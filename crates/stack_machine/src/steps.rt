@@ -1,6 +1,6 @@
-ghost use Rattle.swizzle.specs.Reading.{LeavesOutside};
-ghost use Rattle.machine_state.specs.Holding.{IsHolding, IsSound};
-ghost use Rattle.machine_state.specs.Stepped.{TakesStep, UnlessDamaged};
+ghost use Rattle.machine_procedures.specs.swizzle.Reading.{LeavesOutside};
+ghost use Rattle.machine_procedures.specs.machine_state.Holding.{IsHolding, IsSound};
+ghost use Rattle.machine_procedures.specs.machine_state.Stepped.{TakesStep, UnlessDamaged};
 ghost use Rattle.stack_machine.specs.inside.Acting.{ActsAs};
 
 use machine_makes::fills::{fill_num, fill_ref};
@@ -13,22 +13,24 @@ use machine_objects::structures::{
 use machine_objects::vectors::{element_num, element_ref, lower_bound, upper_bound};
 use machine_procedures::blocks::{enter_scope, leave_scope};
 use machine_procedures::calls::call;
-use machine_procedures::names::{keep_num, keep_ref, kept_num, kept_ref};
-use machine_procedures::procedures::closure;
-use machine_state::jumps::{again, and, drop_num, forward, jump_false, jump_true, or};
-use machine_state::loops::{for_next, for_start};
-use machine_state::returns::returned;
-use machine_state::stacks::push_num;
-use machine_state::values::{
+use machine_procedures::machine_state::jumps::{
+    again, and, drop_num, forward, jump_false, jump_true, or,
+};
+use machine_procedures::machine_state::loops::{for_next, for_start};
+use machine_procedures::machine_state::returns::returned;
+use machine_procedures::machine_state::stacks::push_num;
+use machine_procedures::machine_state::values::{
     arith, compare, drop_ref, dup_num, dup_ref, get_num, get_ref, neg, not, set_num, set_ref,
 };
-use machine_state::writes::{abort, write_flag, write_int};
-use machine_state::{Machine, Stepped};
+use machine_procedures::machine_state::writes::{abort, write_flag, write_int};
+use machine_procedures::machine_state::{Machine, Stepped};
+use machine_procedures::names::{keep_num, keep_ref, kept_num, kept_ref};
+use machine_procedures::proc_values::reading::instr_within;
+use machine_procedures::procedures::closure;
 use machine_texts::texts::{compare as compare_texts, join, library, part, push_text, write_text};
-use obj_layout::vault::Vault;
-use proc_values::reading::instr_within;
 use ps_base::instr::Instr;
 use ps_base::operator::{Operator, Relation};
+use vault_output::obj_layout::vault::Vault;
 
 /// Takes one step: does what the instruction at the machine's offset says. Where there is no instruction, or none that the machine can do, it
 /// answers `Damaged`, and the machine is of no use.
@@ -52,7 +54,7 @@ pub fn step<V: Vault>(m: &mut Machine, vault: &mut V) -> Stepped
     }
 }
 
-// Does what an instruction says, whose own offset this is. The machine stands behind it already.
+// Does what an instruction says, whose own offset this is. The machine stands after it already.
 #[inline(always)]
 fn act<V: Vault>(m: &mut Machine, vault: &mut V, own: u32, instr: Instr) -> Stepped
     requires sound { IsSound m.old }

@@ -1,19 +1,19 @@
 ghost use Rattle.std.specs.Prelude.{◌≡◌, ◌++◌, OnOk, IfErr};
-ghost use Rattle.obj_layout.specs.declared.vault.VaultFault.TheVariants as vault_fault;
-ghost use Rattle.ps_meaning.specs.Event.{report_of, Trapped, OutOfTurns, trap_number as number_of};
-ghost use Rattle.ps_meaning.specs.Meaning.{in_places};
+ghost use Rattle.vault_output.specs.obj_layout.declared.vault.VaultFault.TheVariants as vault_fault;
+ghost use Rattle.machine_procedures.specs.ps_meaning.Event.{report_of, Trapped, OutOfTurns, trap_number as number_of};
+ghost use Rattle.machine_procedures.specs.ps_meaning.Meaning.{in_places};
 ghost use Rattle.vault_output.specs.Sending.{Sends};
-ghost use Rattle.machine_state.specs.Stepped.{end_of, text_of, IsItem};
+ghost use Rattle.machine_procedures.specs.machine_state.Stepped.{end_of, text_of, IsItem};
 ghost use Rattle.stack_machine.specs.inside.Blanks.{blanks_of};
 ghost use Rattle.ps_port.specs.Telling.{joined};
 
 use itoa::Buffer;
-use machine_state::{Item, RunEnd, Writing};
-use obj_layout::vault::{Vault, VaultFault};
+use machine_procedures::machine_state::{Item, RunEnd, Writing};
+use machine_procedures::swizzle::swizzle::Swizzle;
 use ps_base::line::Line;
 use ps_base::trap::Trap;
-use swizzle::swizzle::Swizzle;
 use vault_output::Output;
+use vault_output::obj_layout::vault::{Vault, VaultFault};
 
 /// Writes what a write writes. Takes no memory.
 #[inline]
@@ -119,7 +119,7 @@ fn trapped<V: Vault>(
     )
 }
 
-// Writes pieces one behind the other. Where the output fails, no piece behind is written.
+// Writes pieces one after the other. Where the output fails, no piece after is written.
 fn pieces<V: Vault>(output: &mut Output, vault: &mut V, parts: &[&[u8]]) -> Result<(), VaultFault>
     requires { V.alive vault.old }
     ensures sends { Sends (V.outside vault.old) (V.outside vault.new) (output.old ++ joined parts.now) output.new result }

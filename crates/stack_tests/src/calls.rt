@@ -3,12 +3,12 @@
 use crate::outcome::{put_run, put_told};
 use crate::settings::Settings;
 use ps_base::code_unit::CodeUnit;
-use row_words::parted;
 use std::alloc::{AllocError, Global};
 use table_rows::Buffer;
+use unit_rows::row_words::parted;
 use unit_rows::{bytes_of, line_at};
 
-// How many calls the lines of a field name, of which the first one says what the run comes to.
+// How many calls the lines of a field name, of which the first one says what the run returns.
 fn count_of(field: &[u8]) -> u64 {
     let mut count = 0u64;
     for byte in field {
@@ -27,7 +27,7 @@ pub fn put_calls_wanted(out: &mut Buffer, field: &[u8]) {
         out.put("Output");
         put_told_until(out, field, failing, failing.saturating_add(1));
     }
-    // The call behind the last one would fail, and there is none.
+    // The call after the last one would fail, and there is none.
     out.bytes(line_at(field, 0));
     put_told_until(out, field, count, count);
 }

@@ -1,9 +1,9 @@
 use stack_machine::RunEnd;
-use stack_machine::load::LoadFault;
+use stack_machine::load::NoRoom;
 use stack_machine::run::RunFault;
 use table_rows::Buffer;
 
-/// What a run came to: its word, and the numbers behind it.
+/// What a run returned: its word, and the numbers after it.
 #[derive(Clone, Copy)]
 pub struct Came {
     word: &'static str,
@@ -42,12 +42,9 @@ impl Came {
         }
     }
 
-    /// What the loading of a unit came to, where it wasn't loaded.
-    pub fn of_loading(fault: Option<LoadFault>) -> Came {
-        match fault {
-            Some(LoadFault::Full { top, wanted, size }) => Came::full(top, wanted, size),
-            _ => Came::plain("NotLoaded"),
-        }
+    /// What the loading of a unit came to that the area has no room for.
+    pub fn of_loading(none: NoRoom) -> Came {
+        Came::full(none.top, none.wanted, none.size)
     }
 
     /// Tells it in words.

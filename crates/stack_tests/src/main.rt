@@ -4,15 +4,15 @@
 //! A table is a file of rows as `table_rows` reads them. Their codes, constants, bodies and lines are those of `unit_rows`. The first word of a row's head
 //! says what it is:
 //!
-//! - `names`: names of instructions, for the rows behind it.
-//! - `given`: what holds for the rows behind it, constants in its field and settings in the other words of its head.
-//! - `run`: a program, which is run once. Its first field is its code. The second one is what the run comes to, and in the next line all that it tells,
+//! - `names`: names of instructions, for the rows after it.
+//! - `given`: what holds for the rows after it, constants in its field and settings in the other words of its head.
+//! - `run`: a program, which is run once. Its first field is its code. The second one is what the run returns, and in the next line all that it tells,
 //!   where it tells anything. Where the setting `failing` is there, a line `calls N` stands between the two: how many calls the host had.
-//! - `calls`: a program. Its first field is its code. The second one is what the run comes to, and a line for what each call of the host tells. It is run
-//!   once for each of these calls, with that call failing: it must come to `Output` behind the half of that call's bytes, by no further call. And once
-//!   more, with the call behind the last one failing: it must come to what the row says, by exactly these calls.
+//! - `calls`: a program. Its first field is its code. The second one is what the run returns, and a line for what each call of the host tells. It is run
+//!   once for each of these calls, with that call failing: it must come to `Output` after the half of that call's bytes, by no further call. And once
+//!   more, with the call after the last one failing: it must come to what the row says, by exactly these calls.
 //!
-//! A row of the last two kinds may set settings in its head for itself. Behind its second field may stand, each in a field of its own, bodies, and
+//! A row of the last two kinds may set settings in its head for itself. After its second field may stand, each in a field of its own, bodies, and
 //! `input LINE`: the input of a run. Where there is none, it is empty.
 //!
 //! A setting is a word `NAME=NUMBER`: the turns that the program has are `turns` (0 where nothing is said), the words of the area `words` (8192), the
@@ -22,7 +22,7 @@
 //! The file `instructions.rows` has the table of the instructions, as `docs/formats.md` lists them. In these tables each instruction that has a line has
 //! line 7.
 //!
-//! A run comes to `Done`, `Trapped TRAP`, `OutOfTurns`, `Damaged`, `Full TOP WANTED SIZE`, `Output` (it failed) or `NotLoaded`.
+//! A run comes to `Done`, `Trapped TRAP`, `OutOfTurns`, `Damaged`, `Full TOP WANTED SIZE` or `Output` (it failed).
 #![tactic(auto)]
 
 mod calls;

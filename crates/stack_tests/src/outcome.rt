@@ -11,10 +11,10 @@ use ps_base::code_unit::CodeUnit;
 use stack_machine::Machine;
 use stack_machine::load::{load, machine};
 use stack_machine::run::run;
+use stack_machine::vault_output::Output;
 use std::alloc::{AllocError, Global};
 use table_rows::Buffer;
 use unit_rows::put_line;
-use vault_output::Output;
 
 /// The bytes that the host of a test has room for.
 const ROOM: u64 = 262_144;
@@ -98,14 +98,13 @@ fn came_of(
     requires roomy { IsRoomy machine.old }
     requires alive { vault.old.alive ≡ true }
 {
-    let loaded = load(machine, unit, turns, input);
-    let Ok(()) = loaded else {
-        return Came::of_loading(loaded.err());
-    };
-    Came::of_run(run(machine, vault, output))
+    match load(machine, unit, turns, input) {
+        Ok(()) => Came::of_run(run(machine, vault, output)),
+        Err(none) => Came::of_loading(none),
+    }
 }
 
-/// Tells how many calls the host had, where that is asked, and what was told, where anything was: each in a line.
+/// Tells how many calls the host had, where that is asked, and what was output, where anything was: each in a line.
 pub fn put_told(out: &mut Buffer, calls: Option<u64>, told: &[u8]) {
     if let Some(count) = calls {
         out.put("\ncalls ");

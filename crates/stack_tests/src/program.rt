@@ -3,8 +3,8 @@ use crate::outcome::{put_run, put_told};
 use crate::settings::Settings;
 use anyhow::Result;
 use ps_base::code_unit::CodeUnit;
-use row_words::number_of;
 use table_rows::{Buffer, Row};
+use unit_rows::row_words::number_of;
 use unit_rows::{RowKind, Table, bytes_of, line_at, unit_of, word_at};
 
 /// What the field of an input begins with.
@@ -30,7 +30,7 @@ impl<'a> Program<'a> {
         }
     }
 
-    /// Tells what the row wants: what its run comes to, the calls of the host where they are counted, and what it tells.
+    /// Tells what the row wants: what its run returns, the calls of the host where they are counted, and what it tells.
     pub fn put_wanted(self, out: &mut Buffer) {
         let field = self.row.field(1);
         match self.kind {
@@ -87,7 +87,7 @@ impl<'a> Program<'a> {
     }
 }
 
-// Tells the calls, where they are counted, and what is told, which a line spells.
+// Tells the calls, where they are counted, and what is output, which a line spells.
 fn put_line_told(out: &mut Buffer, calls: Option<u64>, line: &[u8]) {
     match bytes_of(out.alloc(), line) {
         Ok(told) => put_told(out, calls, &told),

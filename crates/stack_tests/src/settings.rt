@@ -1,6 +1,6 @@
 use crate::setting::Setting;
 use ps_base::code_unit::Frame;
-use row_words::{number_of, parted};
+use unit_rows::row_words::{number_of, parted};
 
 /// How a unit is run.
 #[derive(Clone, Copy)]
@@ -30,7 +30,7 @@ pub const PLAIN: Settings = Settings {
 };
 
 impl Settings {
-    /// These, but for those that the words behind the first one of a head set.
+    /// These, but for those that the words after the first one of a head set.
     pub fn changed_by(self, head: &[u8]) -> Option<Settings> {
         let mut settings = self;
         let (_, words) = parted(head, b' ');

@@ -6,7 +6,7 @@ use Rattle.obj_area.specs.Words.{AreWords}
 use Rattle.obj_layout.specs.declared.header.Header.{Header}
 use Rattle.obj_layout.specs.declared.reference.Reference.{Reference}
 use Rattle.obj_layout.specs.declared.reference.Reference.TheVariants.{Nil, Pid, Local}
-use Rattle.obj_layout.specs.Header.{header_words, object_length}
+use Rattle.obj_layout.specs.Header.{HasFitFields, header_words, object_length}
 use Rattle.obj_layout.specs.Reference.{IsReference, reference_word, reference_in}
 use Rattle.swizzle.specs.Objects.{Object, size_of, object_words, AreReferences, IsFit, header_in, reference_at, object_in}
 use Rattle.swizzle.specs.Heap.{Heap, IsHeap, IsInside, IsHeld, object_at, header_at, top_of, local_of, nothing, with_new, is_assigned}
@@ -36,7 +36,7 @@ unfolding reference_at
 far_reference w (inl e) fit = inl (ap (λ (n : ℕ). unwrap_or (reference_in n) Nil) e)
 far_reference w (inr h) fit = inr (w - 2 ^ 63, omega arith, omega arith, grind (arith, common_steps))
 
-abbrev AreFarWords : List ℕ → Type 0
+abbrev pub AreFarWords : List ℕ → Type 0
 AreFarWords ws = (k : ℕ) → k < length ws → IsFarWord (slice_index ws k)
 
 far_words : (ws : List ℕ) → AreFarWords ws → AreWords ws → map reference_word (map reference_at ws) ≡ ws
@@ -105,9 +105,13 @@ near_by pid h refs nums = record { header = near_header pid h; refs = refs; nums
 same_near : (pid : ℕ) {h g : Header} (refs : List Reference) (nums : List ℕ) → h ≡ g → near_by pid h refs nums ≡ near_by pid g refs nums
 same_near pid {h} {g} refs nums e = ap (λ (x : Header). near_by pid x refs nums) e
 
-far_header : (words : List ℕ) (header : Header) → IsFar words header → header_in words ≡ header
-far_header words header far =
-    ap header_in (sym (take-append-drop 4 words) ∙ ap (λ (r : List ℕ). r ++ drop 4 words) far.spelled) ∙ header_in-words header (drop 4 words) far.fields
+-- the header that words begin with
+pub header-spelled : (words : List ℕ) (header : Header) → HasFitFields header → take 4 words ≡ header_words header → header_in words ≡ header
+header-spelled words header fields spelled =
+    ap header_in (sym (take-append-drop 4 words) ∙ ap (λ (r : List ℕ). r ++ drop 4 words) spelled) ∙ header_in-words header (drop 4 words) fields
+
+pub far_header : (words : List ℕ) (header : Header) → IsFar words header → header_in words ≡ header
+far_header words header far = header-spelled words header far.fields far.spelled
 
 -- the object's references and numbers, by its header
 abbrev refs_by : List ℕ → Header → List Reference
@@ -124,7 +128,7 @@ object_is : (words : List ℕ) (header : Header) → IsFar words header → obje
 unfolding object_in
 object_is words header far = ap (λ (h : Header). record { header = h; refs = refs_by words h; nums = nums_by words h }) (far_header words header far)
 
-far_refs : (words : List ℕ) (header : Header) → IsFar words header → AreFarWords (take header.refs (drop 4 words))
+pub far_refs : (words : List ℕ) (header : Header) → IsFar words header → AreFarWords (take header.refs (drop 4 words))
 far_refs words header far k below =
     let long : length (take header.refs (drop 4 words)) ≡ header.refs = length-take-le header.refs (drop 4 words) (omega (arith, length-drop 4 words, far.long)) in
     let read : slice_index (take header.refs (drop 4 words)) k ≡ slice_index words (4 + k) = get_or-take header.refs (drop 4 words) k 0 (omega arith) ∙ get_or-drop 4 words k 0 in

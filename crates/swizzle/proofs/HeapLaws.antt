@@ -25,7 +25,7 @@ first_is at p os i o e same =
     let both : Some p ≡ Some o = sym (here i at (Some p) (find_from (at + size_of p) os i) same) ∙ e in
     cc
 
--- the one that was looked for is behind the first
+-- the one that was looked for is after the first
 pub behind_is : (at : ℕ) (p : Object) (os : List Object) (i : ℕ) (o : Object) → find_from at (p ∷ os) i ≡ Some o → i ≢ at → find_from (at + size_of p) os i ≡ Some o
 behind_is at p os i o e apart = sym (elsewhere i at (Some p) (find_from (at + size_of p) os i) apart) ∙ e
 

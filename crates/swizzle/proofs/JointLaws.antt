@@ -56,7 +56,7 @@ shown-replaced_other heap at j new held like ne =
     ap (shown (name_of (with_object heap at new))) same
     ∙ shown-same heap (with_object heap at new) (object_at heap j) (object_at heap j) refl refl refl (names-replaced heap at new (object_at heap j).refs held like)
 
-held-back : (heap : Heap) (at j : ℕ) (new : Object) → IsHeld heap at → size_of new ≡ size_of (object_at heap at) → IsHeld (with_object heap at new) j → IsHeld heap j
+pub held-back : (heap : Heap) (at j : ℕ) (new : Object) → IsHeld heap at → size_of new ≡ size_of (object_at heap at) → IsHeld (with_object heap at new) j → IsHeld heap j
 held-back heap at j new held long now =
     elim (cases_eq j at) [
       | inl there ↦ subst (IsHeld heap) (sym there) held

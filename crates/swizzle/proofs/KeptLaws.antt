@@ -267,7 +267,7 @@ IsFit-blank kind refs nums bytes a b c home lengths room = record {
 one_more : (os : List Object) (new : Object) → words_of_all (os ++ new ∷ []) ≡ words_of_all os ++ object_words new
 one_more os new = words_of_all-append os (new ∷ []) ∙ ap (λ (r : List ℕ). words_of_all os ++ r) (append-nil (object_words new))
 
--- an object that isn't assigned is laid behind the others
+-- an object that isn't assigned is laid after the others
 pub laid : (a : Inside) (new : AreaView) (b : Beside) (heap : Heap) (o : Object) → heap_of a ≡ heap → IsKeptIn a → new.words ≡ a.area.words ++ object_words o → new.size ≡ a.area.size → IsFit o → top_of heap + size_of o ≤ heap.size → is_assigned o ≡ false → (1 ≤ o.header.pid → local_of heap o.header.pid ≡ None) → IsInside heap o
     → b.places ≡ vec_capacity a.assigned → (IsMapped heap.objects heap.size (beside_of a) → IsMapped (heap.objects ++ o ∷ []) heap.size b) → Again new.words new.size a.assigned.items b (with_new heap o)
 laid a new b heap o e kept written size_is fit room plain apart inside places pids_now =

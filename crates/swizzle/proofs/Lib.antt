@@ -13,3 +13,6 @@ pub mod StandLaws
 pub mod FetchedLaws
 pub mod ReadingLaws
 pub mod MadeLaws
+pub mod DamageLaws
+pub use Rattle.obj_area.proofs as of_obj_area
+pub use Rattle.obj_layout.proofs as of_obj_layout

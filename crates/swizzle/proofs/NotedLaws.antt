@@ -151,7 +151,7 @@ noted-replaced os notes at o new n e long same =
           ];
     }
 
--- an object is marked, and comes to the end of the list
+-- an object is marked, and reaches the end of the list
 pub noted-flagged : (os : List Object) (notes : List ℕ) (at : ℕ) (o : Object) → AreNoted os notes → find_from 1 os at ≡ Some o → is_assigned o ≡ false → AreNoted (replace_from 1 os at (flagged o)) (notes ++ at ∷ [])
 noted-flagged os notes at o n e plain =
     let new = flagged o in

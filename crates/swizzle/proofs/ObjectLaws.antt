@@ -62,7 +62,7 @@ object_by h rs ns = record { header = h; refs = rs; nums = ns }
 same_object : (h : Header) (rs ss : List Reference) (ns ms : List ℕ) → rs ≡ ss → ns ≡ ms → object_by h rs ns ≡ object_by h ss ms
 same_object h rs ss ns ms e f = cc
 
--- an object's words, and any behind them, begin with that object
+-- an object's words, and any after them, begin with that object
 pub object_in-words : (o : Object) (rest : List ℕ) → IsFit o → object_in (object_words o ++ rest) ≡ o
 unfolding object_in
 object_in-words o rest fit =

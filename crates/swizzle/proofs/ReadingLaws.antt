@@ -1,22 +1,18 @@
--- Touches one behind another.
-use Rattle.std.proofs.Common.{inl, inr, ◌≡◌, ◌≢◌, ℕ, ◌<◌, ◌≤◌, ◌+◌, ◌-◌, ◌*◌, List, [], ◌∷◌, ◌++◌, refl, sym, ap, ◌∙◌, arith, subst}
-use Rattle.std.specs.Prelude.{Result, Ok, Err, OnOk, take, drop}
-use Rattle.ps_outside.specs.Outside.{Outside, Rose}
-use Rattle.ps_outside.proofs.Moments.{along_none, along_then, along_now}
+-- Touches one after another.
+use Rattle.std.proofs.Common.{inl, inr, ◌≡◌, ◌*◌, List, [], ◌∷◌, ◌++◌, refl, ap, ◌∙◌, arith}
+use Rattle.std.specs.Prelude.{Result, Ok, Err, take, drop}
+use Rattle.obj_layout.specs.ps_outside.Outside.{Outside}
+use Rattle.obj_layout.proofs.of_ps_outside.Moments.{along_none, along_then, along_now}
 use Rattle.obj_area.specs.Words.{bytes_of}
 use Rattle.obj_layout.specs.Stored.{Space}
-use Rattle.obj_layout.specs.declared.kind.Kind.TheVariants.{Text}
 use Rattle.obj_layout.specs.declared.reference.Reference.{Reference}
-use Rattle.obj_layout.specs.declared.vault.VaultFault.TheVariants.{Device}
 use Rattle.swizzle.specs.declared.fault.SwizzleFault.{SwizzleFault}
-use Rattle.swizzle.specs.declared.fault.SwizzleFault.TheVariants.{Vault}
 use Rattle.swizzle.specs.Objects.{words_before}
-use Rattle.swizzle.specs.Heap.{Heap, IsHeld, header_at, top_of}
-use Rattle.swizzle.specs.Joint.{Shown, shown_at}
-use Rattle.swizzle.specs.Changes.{IsKnown, Within, Touched}
-use Rattle.swizzle.specs.Text.{text_at}
-use Rattle.swizzle.specs.Touch.{Keeps, AreFew, IsNear, IsTouchCall}
-use Rattle.swizzle.specs.Reading.{joint, AreKnown, AreNear, LeavesOutside, Reads, FailsReading, TextStays, TextsStay}
+use Rattle.swizzle.specs.Heap.{Heap, top_of}
+use Rattle.swizzle.specs.Joint.{Shown}
+use Rattle.swizzle.specs.Changes.{Within, Touched}
+use Rattle.swizzle.specs.Touch.{Keeps, IsNear, IsTouchCall}
+use Rattle.swizzle.specs.Reading.{joint, AreKnown, AreNear, LeavesOutside, Reads, FailsReading, TextsStay}
 use Rattle.swizzle.proofs.TouchLaws.{keeps-refl, keeps-trans, rose_more}
 
 pub leaves-none : (outside : Outside Space) → LeavesOutside outside outside
@@ -115,7 +111,7 @@ fails-touch old new a b fault call = record {
   full = λ used wanted capacity e. call.full used wanted capacity (ap Err e);
 }
 
--- A reading that failed behind another.
+-- A reading that failed after another.
 pub fails-then : (old new : Heap) (a b c : Outside Space) (names : List Reference) (fault : SwizzleFault) → Reads old new a b names → FailsReading b c fault → FailsReading a c fault
 fails-then old new a b c names fault first second = record {
   outside = leaves-then a b c first.outside second.outside;

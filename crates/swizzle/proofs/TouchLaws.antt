@@ -1,5 +1,5 @@
--- What a touch keeps of the area, and steps behind one another.
-use Rattle.std.proofs.Common.{inl, inr, ◌≡◌, ◌≢◌, ℕ, ◌<◌, List, [], ◌∷◌, map, set, get_or, refl, sym, ap, ◌∙◌, arith, Option, ◌/◌, ◌-◌, ◌≤◌, ◌↔◌, None, Some, ◌+◌, subst}
+-- What a touch keeps of the area, and steps after one another.
+use Rattle.std.proofs.Common.{inl, inr, ◌≡◌, ◌≢◌, ℕ, ◌<◌, List, [], ◌∷◌, map, set, get_or, refl, sym, ap, ◌∙◌, arith, Option, ◌-◌, ◌≤◌, ◌↔◌, None, Some, subst}
 use Rattle.std.proofs.lemmas.Bool.{cases_eq}
 use Rattle.std.proofs.lemmas.List.{map-set, set-get_or, get_or-set_same}
 use Rattle.obj_layout.specs.declared.reference.Reference.{Reference}
@@ -9,8 +9,8 @@ use Rattle.swizzle.specs.Heap.{Heap, IsHeap, IsHeld, object_at, header_at, with_
 use Rattle.swizzle.specs.Joint.{Shown, shown, name_at, name_of, shown_at, Joint, shown_words, name_by}
 use Rattle.swizzle.specs.Changes.{Same, Touched}
 use Rattle.std.specs.Prelude.{Result, Ok, Err, OnOk}
-use Rattle.ps_outside.specs.Outside.{Outside, SameContents, Rose}
-use Rattle.ps_outside.proofs.Moments.{along_none, along_then, along_now}
+use Rattle.obj_layout.specs.ps_outside.Outside.{Outside, SameContents, Rose}
+use Rattle.obj_layout.proofs.of_ps_outside.Moments.{along_none, along_then, along_now}
 use Rattle.obj_layout.specs.Stored.{Space}
 use Rattle.obj_layout.specs.Storing.{IsStoreCall}
 use Rattle.obj_layout.specs.declared.vault.VaultFault.{VaultFault}
@@ -41,7 +41,7 @@ keeps-new heap new h = record {
       };
 }
 
--- Steps behind one another.
+-- Steps after one another.
 
 pub stays-refl : (heap : Heap) (at : ℕ) → IsHeld heap at → Stays heap heap at
 stays-refl heap at held = record { held = held; name = refl; shown_as = refl; flags = refl; refs = refl; nums = refl }

@@ -1,12 +1,9 @@
 -- Objects as a vault gives them, and how they lie in the area.
-use Rattle.std.specs.Prelude.{◌≡◌, ◌⊎◌, ℕ, ◌+◌, ◌<◌, ◌≤◌, ◌^◌, List, length, take, slice_index, Result, Err}
+use Rattle.std.specs.Prelude.{◌≡◌, ◌⊎◌, ℕ, ◌+◌, ◌<◌, ◌≤◌, ◌^◌, List, length, take, slice_index}
 use Rattle.obj_area.specs.Words.{AreWords}
 use Rattle.obj_layout.specs.declared.header.Header.{Header}
 use Rattle.obj_layout.specs.declared.reference.Reference.TheVariants.{Pid}
 use Rattle.obj_layout.specs.Header.{HasFitFields, HasFitLengths, header_words, object_length}
-use Rattle.obj_layout.specs.declared.vault.VaultFault.{VaultFault}
-use Rattle.obj_layout.specs.declared.vault.VaultFault.TheVariants.{Damaged}
-use Rattle.obj_layout.specs.Storing.{NeverFull}
 use Rattle.swizzle.specs.Objects.{Object, HasRoomForBytes, object_in, object_words}
 use Rattle.swizzle.specs.Heap.{Heap, IsHeld}
 use Rattle.swizzle.specs.Joint.{name_at}
@@ -38,7 +35,7 @@ pub record IsLocal (heap : Heap) (pid at : ℕ) : Type 0 where
   pub held : IsHeld heap at
   pub name : name_at heap at ≡ Pid pid
 
--- what lies at the front of a buffer after these words were fetched: the object of this PID, as it lies in the area
+-- what lies at the start of a buffer after these words were fetched: the object of this PID, as it lies in the area
 pub record IsNear (words buffer : List ℕ) (pid : ℕ) (header : Header) : Type 0 where
   pub far : IsFar words header
   pub spelled : buffer ≡ object_words (near pid words)
@@ -49,8 +46,3 @@ pub record IsFetched (holds : ℕ → List ℕ → Type 0) (pid : ℕ) (buffer :
   pub words : List ℕ
   pub told : (list : List ℕ) → holds pid list → list ≡ words
   pub near_is : IsNear words buffer pid header
-
--- Why no object was got: the vault was never full, and a damaged one is the one that was asked for.
-pub record IsStoredFault {T : Type 0} (pid : ℕ) (result : Result T VaultFault) : Type 0 where
-  pub full : NeverFull result
-  pub at_pid : (at found wanted : ℕ) → result ≡ Err (Damaged at found wanted) → at ≡ pid

@@ -8,4 +8,8 @@ pub mod Text
 pub mod Touch
 pub mod Reading
 pub mod Fetched
+pub mod Damaged
 pub mod inside
+pub use Rattle.obj_layout.specs.ps_outside as ps_outside
+pub use Rattle.obj_area.specs as obj_area
+pub use Rattle.obj_layout.specs as obj_layout

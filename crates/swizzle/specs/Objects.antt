@@ -35,12 +35,12 @@ words_before Text = 1
 words_before Code = 2
 words_before _ = 0
 
--- the number words hold those, and the bytes behind them
+-- the number words hold those, and the bytes after them
 abbrev pub HasRoomForBytes : Kind → ℕ → ℕ → Type 0
 HasRoomForBytes kind nums bytes = 8 * words_before kind + bytes ≤ 8 * nums
 
 -- Its parts are as its header says, it has a number word for its home, and the bytes of a text or of code
--- lie in the number words behind the first ones.
+-- lie in the number words after the first ones.
 pub record IsFit (o : Object) : Type 0 where
   pub fields : HasFitFields o.header
   pub lengths : HasFitLengths o.header
@@ -56,7 +56,7 @@ abbrev pub AreFit : List Object → Type 0
 AreFit [] = Unit {0}
 AreFit (o ∷ os) = IsFit o × AreFit os
 
--- the words of objects, one behind the other
+-- the words of objects, one after the other
 abbrev pub words_of_all : List Object → List ℕ
 words_of_all [] = []
 words_of_all (o ∷ os) = object_words o ++ words_of_all os

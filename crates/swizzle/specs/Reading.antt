@@ -1,6 +1,6 @@
--- What reading does, by touches one behind another.
+-- What reading does, by touches one after another.
 use Rattle.std.specs.Prelude.{◌≡◌, ◌≢◌, ◌⊎◌, ℕ, ◌+◌, ◌-◌, ◌*◌, ◌≤◌, List, [], ◌∷◌}
-use Rattle.ps_outside.specs.Outside.{Outside, LeavesSame, SameContents, TellsNothing, Rose}
+use Rattle.obj_layout.specs.ps_outside.Outside.{Outside, LeavesSame, SameContents, TellsNothing, Rose}
 use Rattle.obj_layout.specs.Stored.{Space, Holds}
 use Rattle.obj_layout.specs.declared.reference.Reference.{Reference}
 use Rattle.obj_layout.specs.declared.reference.Reference.TheVariants.{Nil}

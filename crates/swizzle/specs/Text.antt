@@ -1,4 +1,4 @@
--- The bytes of a text or of code: those of its number words behind the first ones.
+-- The bytes of a text or of code: those of its number words after the first ones.
 use Rattle.std.specs.Prelude.{◌≡◌, ◌⊎◌, ℕ, ◌+◌, ◌*◌, List, take, drop}
 use Rattle.obj_area.specs.Words.{bytes_of, words_of, overwritten}
 use Rattle.obj_layout.specs.declared.kind.Kind.{Kind}
@@ -21,7 +21,7 @@ text_of object = take object.header.bytes (drop (first_byte object) (bytes_of ob
 abbrev pub text_at : Heap → ℕ → List ℕ
 text_at heap at = text_of (object_at heap at)
 
--- the object with these bytes over its own, behind the first `start` ones
+-- the object with these bytes over its own, after the first `start` ones
 abbrev pub with_bytes_at : Object → ℕ → List ℕ → Object
 with_bytes_at object start bytes = record object { nums = words_of (overwritten (bytes_of object.nums) (first_byte object + start) bytes) }
 

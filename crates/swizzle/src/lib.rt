@@ -5,3 +5,5 @@ pub mod fault;
 mod fetched;
 pub mod swizzle;
 mod texts;
+
+pub use obj_layout;

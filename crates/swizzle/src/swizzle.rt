@@ -11,7 +11,7 @@ ghost use Rattle.swizzle.specs.Changes.{Touched};
 ghost use Rattle.obj_area.specs.Area.{top_of as area_top};
 ghost use Rattle.swizzle.specs.Kept.{place_of};
 ghost use Rattle.swizzle.specs.Fetched.{IsLocal};
-ghost use Rattle.swizzle.specs.Touch.{Keeps, Denotes, IsNear, IsTouchCall, IsTouchFault};
+ghost use Rattle.swizzle.specs.Touch.{Came, Only, Sound, Keeps, Denotes, IsNear, IsTouchCall, IsTouchFault};
 ghost use Rattle.swizzle.specs.inside.Clearing.{IsUnmarked, IsUnmarkedAll};
 
 use crate::fault::SwizzleFault;
@@ -347,7 +347,7 @@ impl Swizzle {
         self.area.bytes(first, count)
     }
 
-    /// Writes `from` over the bytes of a text or of code, behind the first `start` ones. All else of it stays.
+    /// Writes `from` over the bytes of a text or of code, after the first `start` ones. All else of it stays.
     pub fn write_text(&mut self, object: u32, start: u32, from: &[u8])
         requires held { IsHeld self.old object }
         requires kind { HasBytes (header_at self.old object).kind }
@@ -362,7 +362,7 @@ impl Swizzle {
         self.area.write_bytes(place, start, from);
     }
 
-    /// Copies `count` bytes of the text or code `from`, behind its first `from_start` ones, over those of `to`, behind its first `to_start`
+    /// Copies `count` bytes of the text or code `from`, after its first `from_start` ones, over those of `to`, after its first `to_start`
     /// ones.
     pub fn copy_text(&mut self, from: u32, from_start: u32, to: u32, to_start: u32, count: u32)
         requires from_held { IsHeld self.old from }
@@ -391,7 +391,9 @@ impl Swizzle {
         place(&self.map, pid)
     }
 
-    /// The one object of the area with this PID. It is fetched where it isn't there.
+    /// The one object of the area with this PID. It is fetched where it isn't there. Where the vault's tests refuse it, or its words may not come
+    /// into the area, it is damaged, with the numbers of the first test that failed (`docs/formats.md`). Whether there is room is tested after
+    /// the vault's tests of its header.
     pub fn touch_pid<V: Vault>(&mut self, vault: &mut V, pid: u64) -> Result<u32, SwizzleFault>
         requires alive { V.alive vault.old }
         requires low { 1 ≤ pid }
@@ -399,6 +401,9 @@ impl Swizzle {
         ensures place { IfOk result (IsLocal self.new pid) }
         ensures keeps { OnOk result (Keeps self.old self.new) }
         ensures joint { OnOk result (Touched (Joint self.old (Holds (V.outside vault.old))) (Joint self.new (Holds (V.outside vault.new))) (Reference.Pid pid)) }
+        ensures came { OnOk result (Came self.old self.new (V.outside vault.old) (Reference.Pid pid)) }
+        ensures only { OnOk result (Only self.old self.new (Reference.Pid pid)) }
+        ensures sound { OnOk result (Sound self.old (V.outside vault.old) (Reference.Pid pid)) }
         ensures near { (at : ℕ) → local_of self.old pid ≡ Some at → (self.new ≡ self.old) × (vault.new ≡ vault.old) }
         ensures call { IsTouchCall self.old self.new (V.outside vault.old) (V.outside vault.new) result }
         ensures fault { IfErr result (IsTouchFault self.old (V.outside vault.old) (Reference.Pid pid)) }
@@ -448,6 +453,9 @@ impl Swizzle {
         ensures local { IfOk result (λ to. ref_at self.new object slot ≡ reference_to to) }
         ensures keeps { OnOk result (Keeps self.old self.new) }
         ensures joint { OnOk result (Touched (Joint self.old (Holds (V.outside vault.old))) (Joint self.new (Holds (V.outside vault.new))) (name_of self.old (ref_at self.old object slot))) }
+        ensures came { OnOk result (Came self.old self.new (V.outside vault.old) (ref_at self.old object slot)) }
+        ensures only { OnOk result (Only self.old self.new (ref_at self.old object slot)) }
+        ensures sound { OnOk result (Sound self.old (V.outside vault.old) (ref_at self.old object slot)) }
         ensures still { (to : Option ℕ) → ref_at self.old object slot ≡ reference_to to → (self.new ≡ self.old) × (vault.new ≡ vault.old) }
         ensures near { IsNear self.old (name_of self.old (ref_at self.old object slot)) → (top_of self.new ≡ top_of self.old) × (vault.new ≡ vault.old) }
         ensures call { IsTouchCall self.old self.new (V.outside vault.old) (V.outside vault.new) result }
@@ -564,7 +572,7 @@ fn make_room(buffer: &mut Vec<u64>, count: u32)
     }
 }
 
-// Lays words behind those that are given out.
+// Lays words after those that are given out.
 fn lay(area: &mut Area, words: &[u64], count: u32)
     requires long { length words.now ≡ count }
     requires room { area_top area.old + count ≤ area.old.size }

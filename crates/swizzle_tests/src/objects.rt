@@ -1,9 +1,9 @@
 //! That objects can be made, read and written, and what a full area answers.
 
+use memory_vault::obj_layout::kind::Kind;
+use memory_vault::obj_layout::reference::Reference;
+use memory_vault::obj_layout::vault::VaultFault;
 use memory_vault::silent::SilentVault;
-use obj_layout::kind::Kind;
-use obj_layout::reference::Reference;
-use obj_layout::vault::VaultFault;
 use std::test::Fail;
 use swizzle::fault::SwizzleFault;
 use swizzle::swizzle::Swizzle;

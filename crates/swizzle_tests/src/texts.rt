@@ -1,6 +1,6 @@
 //! That bytes go into texts and code and come out again.
 
-use obj_layout::kind::Kind;
+use memory_vault::obj_layout::kind::Kind;
 use std::test::Fail;
 use swizzle::swizzle::Swizzle;
 

@@ -23,14 +23,14 @@ impl Buffer {
         self.alloc
     }
 
-    /// Puts a text behind the rest.
+    /// Puts a text after the rest.
     pub fn put(&mut self, text: &str) {
         if self.text.push_str(text).is_err() {
             self.failed = true;
         }
     }
 
-    /// Puts the text of these bytes behind the rest.
+    /// Puts the text of these bytes after the rest.
     pub fn bytes(&mut self, bytes: &[u8]) {
         match str::from_utf8(bytes) {
             Ok(text) => self.put(text),
@@ -38,28 +38,28 @@ impl Buffer {
         }
     }
 
-    /// Puts bytes so many times behind the rest.
+    /// Puts bytes so many times after the rest.
     pub fn repeat(&mut self, bytes: &[u8], count: usize) {
         for _ in 0..count {
             self.bytes(bytes);
         }
     }
 
-    /// Puts a number in decimal behind the rest.
+    /// Puts a number in decimal after the rest.
     pub fn number(&mut self, value: u64) {
         if write!(self.text, "{value}").is_err() {
             self.failed = true;
         }
     }
 
-    /// Puts an int in decimal behind the rest.
+    /// Puts an int in decimal after the rest.
     pub fn int(&mut self, value: i32) {
         if write!(self.text, "{value}").is_err() {
             self.failed = true;
         }
     }
 
-    /// Puts a number in hex behind the rest.
+    /// Puts a number in hex after the rest.
     pub fn hex(&mut self, value: u64) {
         if write!(self.text, "{value:x}").is_err() {
             self.failed = true;

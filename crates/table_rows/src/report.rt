@@ -2,7 +2,7 @@ use crate::row::Row;
 use std::alloc::{AllocError, Global};
 use std::io::Error;
 
-/// What the rows of tables came to: how many hold, and a text that says of each other one what was found in place of what.
+/// What the rows of tables returned: how many hold, and a text that says of each other one what was found in place of what.
 #[derive(Drop)]
 pub struct Report {
     held: usize,

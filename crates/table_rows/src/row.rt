@@ -83,7 +83,7 @@ fn row_at(alloc: Global, line: usize, head: &[u8]) -> Result<Row, AllocError> {
     })
 }
 
-// Puts a line behind those of the last field, or begins one with it.
+// Puts a line after those of the last field, or begins one with it.
 fn put_line(alloc: Global, row: &mut Row, text: &[u8], is_new: bool) -> Result<(), AllocError> {
     if is_new {
         row.fields.push(Vec::from_slice(alloc, text)?)?;

@@ -2,8 +2,8 @@
 use Rattle.std.proofs.Common.{◌≡◌, ℕ, ◌==◌, Bool, true, false, if◌then◌else◌, List, [], ◌∷◌, ◌++◌, map, refl, sym, ap, ◌∙◌, append_assoc}
 use Rattle.std.specs.List.{AllByRecursion}
 use Rattle.std.specs.Prelude.{codes}
-use Rattle.ps_base.specs.TyView.{TyView, TyViews, none, more}
-use Rattle.ps_base.specs.TyView as ty
+use Rattle.ps_type_text.specs.ps_base.TyView.{TyView, TyViews, none, more}
+use Rattle.ps_type_text.specs.ps_base.TyView as ty
 use Rattle.ps_type_text.specs.Texts.{type_text, result_text, parameters_text, further_text, Field, field_text, fields_text, further_fields, class_text}
 use Rattle.ps_type_text.specs.Texts.{is_name_byte, IsName, IsNamed}
 use Rattle.text_forms.specs.Forms.{forms_of, forms_from, form_here, begins, element_of, is_text}
@@ -98,7 +98,7 @@ field-told ty.Void name rest = refl
 field-told (ty.Vector element) name rest = refl
 field-told (ty.Proc parameters gives) name rest = refl
 
--- a field, and what stands behind the next semicolon
+-- a field, and what stands after the next semicolon
 one_field : (f : Field) (rest : List ℕ) → IsName f.name → forms_from true (field_text f ++ rest) ≡ form_of_field f ∷ forms_from true (behind_first 59 rest)
 one_field f rest n =
     a_field (field_text f ++ rest) (begun-field f.ty f.name rest)

@@ -96,7 +96,7 @@ fields-first depth bytes left o = (
   },
 )
 
--- a further one stands behind a semicolon, as the first one does
+-- a further one stands after a semicolon, as the first one does
 behind-semicolon : (depth : ℕ) (bytes next : List ℕ) (fs : List Field) → bytes ≡ 59 ∷ next → AllByRecursion (IsProperField depth) fs
     → bytes ≡ further_fields fs ++ codes ")"
     → (gs : List Field) × BeginsField depth next (further_fields gs ++ codes ")") × AllByRecursion (IsProperField depth) gs
@@ -133,7 +133,7 @@ further-field depth bytes next left is o = (
   },
 )
 
--- and behind the last none
+-- and after the last none
 fields-ended : (depth : ℕ) (bytes : List ℕ) (fs : List Field) → NoWord (codes ";") bytes → bytes ≡ further_fields fs ++ codes ")" → bytes ≡ codes ")"
 fields-ended depth bytes [] lacking e = e
 fields-ended depth bytes (f ∷ fs) lacking e = absurd (lacking ((field_text f ++ further_fields fs) ++ codes ")") (record { spelled = e }))

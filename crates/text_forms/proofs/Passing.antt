@@ -11,7 +11,7 @@ use Rattle.text_forms.specs.Steps.{behind_first, is_field}
 use Rattle.text_forms.specs.inside.Steps.{next_place}
 use Rattle.text_forms.proofs.Places.{rows_of-last, counted, place_in, place-last, with_rows, located_by}
 
--- the first field begins behind the bracket, each further one behind a semicolon
+-- the first field begins after the bracket, each further one after a semicolon
 pub forms-first : (text : List ℕ) → forms_of text ≡ forms_from true (behind_first 40 text)
 unfolding forms_of forms_from behind_first
 forms-first [] = refl

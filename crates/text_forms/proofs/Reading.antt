@@ -4,8 +4,8 @@ use Rattle.std.proofs.Common.{Some, None, MatchOption}
 use Rattle.std.specs.Prelude.{codes}
 use Rattle.std.specs.Borrow.{Bor}
 use Rattle.std.proofs.lemmas.List.{append_cancel_left}
-use Rattle.ps_base.specs.TyView.{TyView, TyViews, none, more}
-use Rattle.ps_base.specs.TyView as ty
+use Rattle.ps_type_text.specs.ps_base.TyView.{TyView, TyViews, none, more}
+use Rattle.ps_type_text.specs.ps_base.TyView as ty
 use Rattle.ps_type_text.specs.Texts.{type_text, result_text, parameters_text, further_text}
 use Rattle.text_forms.specs.Strict.{IsValue, AreValues, IsGiven}
 use Rattle.text_forms.proofs.Places.{other_number}
@@ -169,7 +169,7 @@ no-type depth (ty.Vector t) bytes rest star basic proc v e = let bad : true ≡ 
 no-type depth (ty.Proc ps g) bytes rest star basic proc v e =
     proc ((parameters_text ps ++ (result_text g (type_text g) ++ 41 ∷ [])) ++ rest) (record { spelled = e })
 
--- what a procedure gives: nothing, or a value behind an arrow
+-- what a procedure gives: nothing, or a value after an arrow
 data Given (depth : ℕ) (g : TyView) : Type 0 where
   nothing : g ≡ ty.Void → Given depth g
   something : IsValue depth g → ((rest : List ℕ) → closing g rest ≡ 45 ∷ (62 ∷ (type_text g ++ (41 ∷ rest)))) → Given depth g
@@ -309,7 +309,7 @@ first-same depth bytes left o = record {
   };
 }
 
--- a further one stands behind a comma, as the first one does
+-- a further one stands after a comma, as the first one does
 behind-comma : (depth : ℕ) (bytes next rest : List ℕ) (ps : TyViews) (g : TyView) → bytes ≡ 44 ∷ next → AreValues depth ps → IsGiven g (IsValue depth g)
     → bytes ≡ further_text ps ++ closing g rest → (t : TyView) × (ts : TyViews) ×
     (next ≡ type_text t ++ (further_text ts ++ closing g rest)) × IsValue depth t × AreValues depth ts
@@ -349,7 +349,7 @@ further-untyped depth bytes next is lacking rest b =
     let told = behind-comma depth bytes next rest b.parameters b.gives is b.valued b.given b.spelled in
     lacking (further_text told.1 ++ closing b.gives rest) (record { ty = told.0; valued = told.3; spelled = told.2 })
 
--- and behind the last none
+-- and after the last none
 last-parameter : (depth : ℕ) (bytes rest : List ℕ) (ps : TyViews) (g : TyView) → NoWord (codes ",") bytes → IsGiven g (IsValue depth g)
     → bytes ≡ further_text ps ++ closing g rest → BeginsResult depth bytes rest
 last-parameter depth bytes rest none g lacking v e = record { gives = g; given = v; spelled = e }
@@ -361,7 +361,7 @@ last-same depth bytes lacking = record {
   back = λ rest b. record { parameters = none; gives = b.gives; valued = tt; given = b.given; spelled = b.spelled };
 }
 
--- the procedure's type that stands behind the stars
+-- the procedure's type that stands after the stars
 pub depth-less : (depth : ℕ) → (depth ≡ 0 → ⊥) → (bytes inside : List ℕ) → bytes ≡ codes "proc(" ++ inside
     → AreSame (BeginsType depth bytes) (BeginsParameters (depth - 1) inside)
 depth-less zero positive bytes inside is = absurd (positive refl)

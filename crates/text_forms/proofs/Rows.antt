@@ -1,6 +1,6 @@
 -- The forms of texts, computed.
 use Rattle.std.specs.Prelude.{◌≡◌, [], ◌∷◌, refl, codes, Some, None}
-use Rattle.ps_base.specs.TyView as ty
+use Rattle.ps_type_text.specs.ps_base.TyView as ty
 use Rattle.ps_type_text.specs.Texts.{is_name_byte}
 use Rattle.text_forms.specs.Strict.{IsClassText, IsFormAt, of_field, of_element}
 use Rattle.text_forms.specs.declared.forms.Form.TheVariants.{Number, Flag, Reference}
@@ -40,7 +40,7 @@ rows_of_ints : element_of (codes "**int") ≡ Reference
 unfolding element_of is_text
 rows_of_ints = refl
 
--- fields before and behind, and names that begin as a type does
+-- fields before and after, and names that begin as a type does
 between : forms_of (codes "row(pntr before;bool flag;int integer;string intern)") ≡ Reference ∷ Flag ∷ Number ∷ Reference ∷ []
 unfolding forms_of forms_from form_here begins
 between = refl
@@ -60,7 +60,7 @@ unbracketed : forms_of (codes "person;int a;bool b") ≡ []
 unfolding forms_of forms_from form_here begins
 unbracketed = refl
 
--- a text that goes on behind the bracket, and one that ends early
+-- a text that goes on after the bracket, and one that ends early
 further : forms_of (codes "row(int a);int b;") ≡ Number ∷ Number ∷ []
 unfolding forms_of forms_from form_here begins
 further = refl

@@ -1,6 +1,6 @@
 -- What the fields of a class hold, by their types.
-use Rattle.ps_base.specs.TyView.{TyView}
-use Rattle.ps_base.specs.TyView as ty
+use Rattle.ps_type_text.specs.ps_base.TyView.{TyView}
+use Rattle.ps_type_text.specs.ps_base.TyView as ty
 use Rattle.ps_type_text.specs.Texts.{Field}
 use Rattle.text_forms.specs.declared.forms.Form.{Form}
 use Rattle.text_forms.specs.declared.forms.Form.TheVariants.{Number, Flag, Reference}

@@ -15,13 +15,13 @@ begins (c ∷ cs) (b ∷ bs) = if b == c then begins cs bs else false
 unfoldable pub form_here : List ℕ → Form
 form_here bytes = if begins (codes "int ") bytes then Number else (if begins (codes "bool ") bytes then Flag else Reference)
 
--- The forms of the fields from here on. A field begins behind a semicolon; the bracket that closes begins none.
+-- The forms of the fields from here on. A field begins after a semicolon; the bracket that closes begins none.
 unfoldable pub forms_from : Bool → List ℕ → List Form
 forms_from begun [] = []
 forms_from false (b ∷ bs) = forms_from (b == 59) bs
 forms_from true (b ∷ bs) = if b == 41 then [] else form_here (b ∷ bs) ∷ forms_from (b == 59) bs
 
--- The forms of the fields of a class, or of the names of a scope: the first begins behind the opening bracket.
+-- The forms of the fields of a class, or of the names of a scope: the first begins after the opening bracket.
 unfoldable pub forms_of : List ℕ → List Form
 forms_of [] = []
 forms_of (b ∷ bs) = if b == 40 then forms_from true bs else forms_of bs

@@ -2,8 +2,8 @@
 use Rattle.std.specs.Prelude.{◌≡◌, ℕ, zero, suc, true, List, map, Some, slice_index}
 use Rattle.std.specs.Char.{is_ascii_alphabetic}
 use Rattle.std.specs.List.{AllByRecursion}
-use Rattle.ps_base.specs.TyView.{TyView, TyViews, none, more}
-use Rattle.ps_base.specs.TyView as ty
+use Rattle.ps_type_text.specs.ps_base.TyView.{TyView, TyViews, none, more}
+use Rattle.ps_type_text.specs.ps_base.TyView as ty
 use Rattle.ps_type_text.specs.Texts.{type_text, class_text, Field, IsName}
 use Rattle.text_forms.specs.declared.forms.Form.{Form}
 use Rattle.text_forms.specs.Forms.{form_in}

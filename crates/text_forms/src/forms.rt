@@ -101,7 +101,7 @@ pub fn locate(text: &[u8], number: u32) -> Option<Located>
     Some(Located { place, rows })
 }
 
-// The place of this number, where one place more stands behind those that were passed.
+// The place of this number, where one place more stands after those that were passed.
 fn found_with(found: Option<Place>, passed: Rows, form: Form, number: u32) -> Option<Place>
     requires { passed.refs + passed.nums < 2 ^ 32 }
     ensures { result ≡ (if passed.refs + passed.nums == number then Some (next_place form passed) else found) }

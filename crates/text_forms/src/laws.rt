@@ -1,7 +1,7 @@
 //! What is so of every text and of every list of places, whatever the calls do.
 
 ghost use Rattle.std.specs.Prelude.{◌≡◌, ◌≤◌, ◌+◌, ◌↔◌, ℕ, List, length, map, Some, None};
-ghost use Rattle.ps_base.specs.TyView.{TyView, Vector};
+ghost use Rattle.ps_type_text.specs.ps_base.TyView.{TyView, Vector};
 ghost use Rattle.ps_type_text.specs.Texts.{type_text, class_text, Field, IsNamed};
 ghost use Rattle.text_forms.specs.declared.forms.Form.{Form};
 ghost use Rattle.text_forms.specs.declared.forms.Located.{Located};

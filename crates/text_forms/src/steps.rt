@@ -5,7 +5,7 @@ ghost use Rattle.text_forms.specs.Steps.{behind_first, is_field};
 
 use crate::forms::Form;
 
-// The bytes behind the first such mark, none where there is none.
+// The bytes after the first such mark, none where there is none.
 fn behind(bytes: &[u8], mark: u8) -> &[u8]
     ensures found { result.now ≡ behind_first mark bytes.now }
     ensures shorter { length result.now ≤ length bytes.now - 1 }
@@ -18,7 +18,7 @@ fn behind(bytes: &[u8], mark: u8) -> &[u8]
     &[]
 }
 
-/// What stands behind the opening bracket: the first field, if there is one.
+/// What stands after the opening bracket: the first field, if there is one.
 pub fn first_field(text: &[u8]) -> &[u8]
     ensures found { result.now ≡ behind_first 40 text.now }
     ensures shorter { length result.now ≤ length text.now - 1 }
@@ -26,7 +26,7 @@ pub fn first_field(text: &[u8]) -> &[u8]
     behind(text, b'(')
 }
 
-/// What stands behind the next semicolon: a further field, if there is one.
+/// What stands after the next semicolon: a further field, if there is one.
 pub fn next_field(rest: &[u8]) -> &[u8]
     ensures found { result.now ≡ behind_first 59 rest.now }
     ensures shorter { length result.now ≤ length rest.now - 1 }

@@ -80,7 +80,7 @@ fn are_fields(rest: &[u8]) -> bool
     left == b")".as_slice()
 }
 
-// What stands behind a field of a class.
+// What stands after a field of a class.
 fn behind_field(rest: &[u8]) -> Option<&[u8]>
     ensures { Leaves (BeginsField deepest rest.now) result }
 {
@@ -89,7 +89,7 @@ fn behind_field(rest: &[u8]) -> Option<&[u8]>
     behind_name(name)
 }
 
-// What stands behind a name.
+// What stands after a name.
 fn behind_name(rest: &[u8]) -> Option<&[u8]>
     ensures { Leaves (BeginsName rest.now) result }
 {
@@ -99,7 +99,7 @@ fn behind_name(rest: &[u8]) -> Option<&[u8]>
     }
 }
 
-// What stands behind letters, digits and dots.
+// What stands after letters, digits and dots.
 fn behind_name_bytes(rest: &[u8]) -> &[u8]
     ensures { result.now ≡ drop_name rest.now }
 {
@@ -118,7 +118,7 @@ fn is_name_byte(byte: u8) -> bool
     byte.is_ascii_alphanumeric() || byte == b'.'
 }
 
-// What stands behind the type of a value. The recursion is as deep as types of procedures may stand inside one another.
+// What stands after the type of a value. The recursion is as deep as types of procedures may stand inside one another.
 #[cycle(reading)]
 fn behind_type(rest: &[u8], depth: u32) -> Option<&[u8]>
     ensures { Leaves (BeginsType depth rest.now) result }
@@ -134,7 +134,7 @@ fn behind_type(rest: &[u8], depth: u32) -> Option<&[u8]>
     behind_parameters(inside, depth - 1)
 }
 
-// What stands behind the parameters of a procedure, what it gives and the bracket that closes.
+// What stands after the parameters of a procedure, what it gives and the bracket that closes.
 #[cycle(reading)]
 fn behind_parameters(rest: &[u8], depth: u32) -> Option<&[u8]>
     ensures { Leaves (BeginsParameters depth rest.now) result }
@@ -149,7 +149,7 @@ fn behind_parameters(rest: &[u8], depth: u32) -> Option<&[u8]>
     behind_result(left, depth)
 }
 
-// What stands behind what a procedure gives, if anything, and the bracket that closes.
+// What stands after what a procedure gives, if anything, and the bracket that closes.
 #[cycle(reading)]
 fn behind_result(rest: &[u8], depth: u32) -> Option<&[u8]>
     ensures { Leaves (BeginsResult depth rest.now) result }
@@ -162,7 +162,7 @@ fn behind_result(rest: &[u8], depth: u32) -> Option<&[u8]>
     behind_word(left, b")")
 }
 
-// What stands behind the stars of vectors' types.
+// What stands after the stars of vectors' types.
 fn behind_stars(rest: &[u8]) -> &[u8]
     ensures same { (depth : ℕ) → AreSame (BeginsType depth rest.now) (BeginsType depth result.now) }
     ensures no_more { is_star result.now ≡ false }
@@ -174,7 +174,7 @@ fn behind_stars(rest: &[u8]) -> &[u8]
     left
 }
 
-// What stands behind a basic type.
+// What stands after a basic type.
 fn behind_basic(rest: &[u8]) -> Option<&[u8]>
     ensures { Leaves (BeginsBasic rest.now) result }
 {
@@ -190,7 +190,7 @@ fn behind_basic(rest: &[u8]) -> Option<&[u8]>
     behind_word(rest, b"pntr")
 }
 
-// What stands behind this word.
+// What stands after this word.
 fn behind_word<'a>(rest: &'a [u8], word: &[u8]) -> Option<&'a [u8]>
     ensures { Leaves (BeginsWord word.now rest.now) result }
 {

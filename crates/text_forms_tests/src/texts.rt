@@ -29,7 +29,7 @@ fn counts_places(rt: HostRuntime) {
         // Types that are none of the language's.
         (b"row(integer a;boolean b;Int c;int)".as_slice(), 4, 0),
         (b"row(void v;int n)".as_slice(), 1, 1),
-        // No bracket, two of them, none that closes, text behind it.
+        // No bracket, two of them, none that closes, text after it.
         (b"".as_slice(), 0, 0),
         (b"(".as_slice(), 0, 0),
         (b")".as_slice(), 0, 0),

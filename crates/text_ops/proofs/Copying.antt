@@ -5,21 +5,21 @@ use Rattle.std.specs.Result.{IsErrAnd}
 use Rattle.std.proofs.lemmas.Bool.{lt-ltb}
 use Rattle.std.proofs.lemmas.Int.{to_z-of_z}
 use Rattle.std.proofs.lemmas.List.{drop-drop, drop_at, length-replicate, length-take-le, take_at, take_all}
-use Rattle.obj_area.specs.Words.{bytes_of, words_of, overwritten, AreBytes}
-use Rattle.obj_area.proofs.AreaLaws.{length-overwritten, AreBytes-bytes_of, AreBelow-overwritten}
-use Rattle.obj_area.proofs.WordLaws.{bytes_of-words_of, length-bytes_of, overwritten-inside}
-use Rattle.obj_layout.specs.declared.kind.Kind.TheVariants.{Text}
-use Rattle.swizzle.specs.Objects.{Object}
-use Rattle.swizzle.specs.Heap.{Heap, IsFull, IsHeld, IsMade, header_at, object_at}
-use Rattle.swizzle.specs.Text.{HasBytes, first_byte, text_at, with_bytes_at, with_text}
-use Rattle.swizzle.proofs.MadeLaws.{made-held, made-object, made-other, made-text, texts-made}
-use Rattle.swizzle.proofs.TextLaws.{text-bytes}
+use Rattle.heap_texts.specs.obj_area.Words.{bytes_of, words_of, overwritten, AreBytes}
+use Rattle.heap_texts.proofs.of_obj_area.AreaLaws.{length-overwritten, AreBytes-bytes_of, AreBelow-overwritten}
+use Rattle.heap_texts.proofs.of_obj_area.WordLaws.{bytes_of-words_of, length-bytes_of, overwritten-inside}
+use Rattle.heap_texts.specs.obj_layout.declared.kind.Kind.TheVariants.{Text}
+use Rattle.heap_texts.specs.swizzle.Objects.{Object}
+use Rattle.heap_texts.specs.swizzle.Heap.{Heap, IsFull, IsHeld, IsMade, header_at, object_at}
+use Rattle.heap_texts.specs.swizzle.Text.{HasBytes, first_byte, text_at, with_bytes_at, with_text}
+use Rattle.heap_texts.proofs.of_swizzle.MadeLaws.{made-held, made-object, made-other, made-text, texts-made}
+use Rattle.heap_texts.proofs.of_swizzle.TextLaws.{text-bytes}
 use Rattle.ps_base.specs.declared.trap.Trap.TheVariants.{TooLong}
-use Rattle.ps_meaning.specs.Texts.{Attempt, Yields, Fails, join_of, part_of}
+use Rattle.heap_texts.specs.ps_meaning.Texts.{Attempt, Yields, Fails, join_of, part_of}
 use Rattle.heap_texts.specs.Texts.{GivesText, blank_text, text_nums, text_object, wanted_of}
 use Rattle.heap_texts.specs.declared.fault.OpFault.{OpFault}
 use Rattle.heap_texts.specs.declared.fault.OpFault.TheVariants.{Swizzle, Trap}
-use Rattle.swizzle.specs.declared.fault.SwizzleFault.{SwizzleFault}
+use Rattle.heap_texts.specs.swizzle.declared.fault.SwizzleFault.{SwizzleFault}
 
 -- A text of before, beside an object that was made.
 pub record Source (old mid : Heap) (at : ℕ) : Type 0 where

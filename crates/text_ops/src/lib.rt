@@ -3,3 +3,6 @@
 
 pub mod operators;
 mod span;
+
+pub use heap_texts;
+pub use heap_texts::{obj_layout, swizzle, text_forms};

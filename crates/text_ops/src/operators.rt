@@ -1,24 +1,24 @@
 ghost use Rattle.std.specs.Prelude.{◌≡◌, length};
 ghost use Rattle.std.specs.Fmt.{signed_decimal};
-ghost use Rattle.swizzle.specs.Heap.{IsHeld, header_at};
-ghost use Rattle.swizzle.specs.Text.{text_at};
-ghost use Rattle.ps_meaning.specs.Texts.{join_of, part_of, order_of};
+ghost use Rattle.heap_texts.specs.swizzle.Heap.{IsHeld, header_at};
+ghost use Rattle.heap_texts.specs.swizzle.Text.{text_at};
+ghost use Rattle.heap_texts.specs.ps_meaning.Texts.{join_of, part_of, order_of};
 ghost use Rattle.heap_texts.specs.Texts.{GivesText, MakesText};
 
 use crate::span::span_within;
 use heap_texts::fault::OpFault;
 use heap_texts::make::{make_blank_text, make_text};
+use heap_texts::obj_layout::kind::Kind;
+use heap_texts::swizzle::fault::SwizzleFault;
+use heap_texts::swizzle::swizzle::Swizzle;
 use itoa::Buffer;
-use obj_layout::kind::Kind;
 use ps_base::trap::Trap;
 use std::cmp::Ordering;
-use swizzle::fault::SwizzleFault;
-use swizzle::swizzle::Swizzle;
 
 /// The most bytes that a string may have.
 const MOST_BYTES: u64 = 65_535;
 
-/// One text behind the other, as a new text. TooLong where together they have more than 65,535 bytes, else AreaFull where there is no room for
+/// One text after the other, as a new text. TooLong where together they have more than 65,535 bytes, else AreaFull where there is no room for
 /// it; then the area stays.
 pub fn join(sw: &mut Swizzle, a: u32, b: u32) -> Result<u32, OpFault>
     requires a_held { IsHeld sw.old a }
@@ -53,7 +53,7 @@ pub fn part(sw: &mut Swizzle, a: u32, from: i32, count: i32) -> Result<u32, OpFa
     Ok(at)
 }
 
-/// How two texts compare: byte by byte, the first difference decides, and a proper front is less.
+/// How two texts compare: byte by byte, the first difference decides, and a proper prefix is less.
 pub fn compare(sw: &Swizzle, a: u32, b: u32) -> Ordering
     requires a_held { IsHeld sw.now a }
     requires a_text { (header_at sw.now a).kind ≡ Kind.Text }

@@ -1,15 +1,15 @@
 //! Areas with texts that the tests begin with, and what is read of them.
 ghost use Rattle.std.specs.Prelude.{◌≤◌, ◌^◌, IfOk};
-ghost use Rattle.heap_texts.specs.Texts.{HoldsText, StillTexts};
+ghost use Rattle.text_ops.specs.heap_texts.Texts.{HoldsText, StillTexts};
 
-use heap_texts::fault::OpFault;
-use heap_texts::make::make_text;
 use std::alloc::Global;
 use std::cmp::Ordering;
 use std::test::Fail;
-use swizzle::fault::SwizzleFault;
-use swizzle::swizzle::Swizzle;
+use text_ops::heap_texts::fault::OpFault;
+use text_ops::heap_texts::make::make_text;
 use text_ops::operators::{compare, int_text, join, part};
+use text_ops::swizzle::fault::SwizzleFault;
+use text_ops::swizzle::swizzle::Swizzle;
 
 /// An area with two texts.
 #[derive(Drop)]
@@ -51,7 +51,7 @@ fn made(sw: &mut Swizzle, bytes: &[u8]) -> Result<u32, SwizzleFault>
     make_text(sw, bytes)
 }
 
-/// One text behind the other.
+/// One text after the other.
 pub fn joined(sw: &mut Swizzle, a: u32, b: u32) -> Result<u32, OpFault>
     requires a { HoldsText sw.old a }
     requires b { HoldsText sw.old b }

@@ -1,15 +1,15 @@
 //! Texts word by word, and what a full area answers.
-ghost use Rattle.heap_texts.specs.Texts.{HoldsText};
+ghost use Rattle.text_ops.specs.heap_texts.Texts.{HoldsText};
 
 use crate::fixture::{text, word};
-use heap_texts::make::{make_blank_text, make_text};
-use obj_layout::kind::Kind;
 use std::alloc::Global;
 use std::test::Fail;
-use swizzle::fault::SwizzleFault;
-use swizzle::swizzle::Swizzle;
+use text_ops::heap_texts::make::{make_blank_text, make_text};
+use text_ops::obj_layout::kind::Kind;
+use text_ops::swizzle::fault::SwizzleFault;
+use text_ops::swizzle::swizzle::Swizzle;
 
-// Whether these are the first words of a text, and the area ends behind them. The header takes four words.
+// Whether these are the first words of a text, and the area ends after them. The header takes four words.
 fn has_words(sw: &Swizzle, at: u32, words: &[u64]) -> bool
     requires { HoldsText sw.now at }
 {
@@ -23,7 +23,7 @@ fn has_words(sw: &Swizzle, at: u32, words: &[u64]) -> bool
     sw.top() == index.wrapping_add(5)
 }
 
-// A text as it lies: its home, and its bytes, low byte first, with zeros behind them.
+// A text as it lies: its home, and its bytes, low byte first, with zeros after them.
 fn lies_so(sw: &Swizzle, at: u32, bytes: &[u8], words: &[u64]) -> bool
     requires { HoldsText sw.now at }
 {
@@ -84,7 +84,7 @@ fn fills_an_area_to_its_last_word(rt: HostRuntime) -> Result<(), Fail> {
     Ok(())
 }
 
-// That a text of nine bytes is refused behind the first, and one of eight is not.
+// That a text of nine bytes is refused after the first, and one of eight is not.
 fn lacks_a_word(sw: &mut Swizzle) -> bool {
     make_text(sw, b"abcdefghi") == Ok(1)
         && make_text(sw, b"ABCDEFGHI") == full(8, 7, 14)

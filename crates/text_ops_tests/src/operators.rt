@@ -1,13 +1,13 @@
 //! The operators on texts, at their edges.
-ghost use Rattle.heap_texts.specs.Texts.{HoldsText, StillTexts};
+ghost use Rattle.text_ops.specs.heap_texts.Texts.{HoldsText, StillTexts};
 
 use crate::fixture::{TwoTexts, bytes, compared, joined, long, parted, text, told, two_texts};
-use heap_texts::fault::OpFault;
 use std::alloc::Global;
 use std::cmp::Ordering;
 use std::test::Fail;
-use swizzle::fault::SwizzleFault;
-use swizzle::swizzle::Swizzle;
+use text_ops::heap_texts::fault::OpFault;
+use text_ops::swizzle::fault::SwizzleFault;
+use text_ops::swizzle::swizzle::Swizzle;
 
 // What an operation that gives a text ended in.
 #[derive(Clone, Copy, PartialEq, Eq, Debug)]
@@ -27,7 +27,7 @@ fn end_of(fault: OpFault) -> Ended {
     }
 }
 
-// Whether a text with another behind it is the wanted one.
+// Whether a text with another after it is the wanted one.
 fn joins(sw: &mut Swizzle, a: u32, b: u32, wanted: &[u8]) -> bool
     requires a { HoldsText sw.old a }
     requires b { HoldsText sw.old b }

@@ -1,15 +1,15 @@
 //! A text checked, and what is answered as a line of text: the tree of a text that fits, or the fault of one that doesn't.
 
 use crate::show::put_shown;
+use parsed_texts::tree_of;
 use ps_base::line::Line;
 use ps_base::ty::Ty;
 use ps_check::check::check;
-use ps_declared::fault::CheckFault;
+use ps_check::ps_declared::fault::CheckFault;
 use ps_program::body::Body;
 use ps_tree::rough::Rough;
 use ps_type_text::type_text;
 use table_rows::Buffer;
-use text_trees::tree_of;
 
 /// What is told of a text that fits the typing rules.
 #[derive(Clone, Copy)]
@@ -79,7 +79,7 @@ fn put_count(out: &mut Buffer, count: u64) {
     out.number(count);
 }
 
-/// Tells a type behind a word.
+/// Tells a type after a word.
 pub fn put_type(out: &mut Buffer, word: &str, ty: &Ty) {
     out.put(word);
     match type_text(out.alloc(), ty) {

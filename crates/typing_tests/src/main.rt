@@ -19,7 +19,7 @@ use table_rows::{Buffer, Row, Tables};
 enum Kind {
     /// Texts that fit the rules, each with its typed tree.
     Trees,
-    /// Texts that break a rule, each behind its first fault.
+    /// Texts that break a rule, each after its first fault.
     Faults,
     /// Patterns of texts at the limits and far past what has none, each with its fault.
     Patterns,

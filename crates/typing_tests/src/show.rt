@@ -37,7 +37,7 @@ fn put_item<'a>(out: &mut Buffer, pending: &mut Vec<Item<'a>>, item: Item<'a>) {
     }
 }
 
-// Tells the first of these clauses, and leaves those behind it pending.
+// Tells the first of these clauses, and leaves those after it pending.
 fn put_further<'a>(out: &mut Buffer, pending: &mut Vec<Item<'a>>, further: Further<'a>) {
     match further {
         Further::Nothing => {}
@@ -111,7 +111,7 @@ fn put_tree<'a>(out: &mut Buffer, pending: &mut Vec<Item<'a>>, tree: &'a Tree) {
     }
 }
 
-// Tells the bracket and the form that these clauses stand behind.
+// Tells the bracket and the form that these clauses stand after.
 fn put_opened<'a>(
     out: &mut Buffer,
     pending: &mut Vec<Item<'a>>,

@@ -91,7 +91,7 @@ impl<'a> Assembled<'a> {
         self.labels.push(Label { name, place }).ok()
     }
 
-    // Puts the instructions that a name stands for, behind which no word stands.
+    // Puts the instructions that a name stands for, after which no word stands.
     fn put_meaning(&mut self, lexicon: Lexicon<'a>, meaning: &'a [u8], more: &[u8]) -> Option<()> {
         for instruction in meaning.split(|byte| *byte == b';') {
             self.put_instruction(lexicon, instruction)?;
@@ -109,7 +109,7 @@ impl<'a> Assembled<'a> {
         self.put_operands(instruction.operands, statement)
     }
 
-    // Puts the operands of these letters, which are all the words behind the first.
+    // Puts the operands of these letters, which are all the words after the first.
     fn put_operands(&mut self, letters: &[u8], statement: &'a [u8]) -> Option<()> {
         let mut place = 1usize;
         for letter in letters.split(|byte| *byte == b' ') {

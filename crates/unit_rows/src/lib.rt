@@ -2,12 +2,12 @@
 //!
 //! The first word of a row's head says what it is:
 //!
-//! - `names`: its field has lines `NAME = CODE`, and each name stands for these instructions in the rows behind it.
-//! - `given`: what holds for the rows behind it. Its field has a line for each constant: `text LINE` is a text, `unit` is a unit without code, and a line
+//! - `names`: its field has lines `NAME = CODE`, and each name stands for these instructions in the rows after it.
+//! - `given`: what holds for the rows after it. Its field has a line for each constant: `text LINE` is a text, `unit` is a unit without code, and a line
 //!   that begins with `# ` is a note.
-//! - `run` and `calls`: a program, whose code is its first field. Behind it may stand, each in a field of its own, the bodies of its procedures:
-//!   `body NUMS REFS NUM_PARAMS REF_PARAMS`, and in the lines behind it a code. The bodies are the program's first constants, and those that are given
-//!   stand behind them. A body's own constants are those that are given.
+//! - `run` and `calls`: a program, whose code is its first field. After it may stand, each in a field of its own, the bodies of its procedures:
+//!   `body NUMS REFS NUM_PARAMS REF_PARAMS`, and in the lines after it a code. The bodies are the program's first constants, and those that are given
+//!   stand after them. A body's own constants are those that are given.
 //!
 //! A code is instructions, parted by `;` or the end of a line; a line that begins with `#` is a note. An instruction is its name and its operands, by a
 //! table of the instructions: in each line a name, a code and the letters of the operands. An operand is a number or a label, and a statement `NAME:` is
@@ -28,6 +28,7 @@ mod words;
 
 pub use lexicon::Lexicon;
 pub use row_kind::RowKind;
+pub use row_words;
 pub use table::Table;
 pub use text_form::{bytes_of, put_line};
 pub use unit::unit_of;

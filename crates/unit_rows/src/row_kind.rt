@@ -5,7 +5,7 @@ use table_rows::Row;
 pub enum RowKind {
     /// It names instructions.
     Names,
-    /// It says what holds for the rows behind it.
+    /// It says what holds for the rows after it.
     Given,
     /// A program, which is run once.
     Run,

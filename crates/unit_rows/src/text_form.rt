@@ -34,7 +34,7 @@ fn put_all(bytes: &mut Vec<u8>, line: &[u8]) -> Result<(), AllocError> {
     Ok(())
 }
 
-// Puts the bytes of what stands behind a `\`, and answers what stands behind that.
+// Puts the bytes of what stands after a `\`, and answers what stands after that.
 fn put_escaped<'a>(bytes: &mut Vec<u8>, escaped: &'a [u8]) -> Result<&'a [u8], AllocError> {
     match escaped {
         [b'n', behind @ ..] => {

@@ -15,7 +15,7 @@ use table_rows::Row;
 /// What the field of a body begins with.
 const BODY: &[u8] = b"body ";
 
-/// The unit of a row, with this frame and at most so many bytes of its code: its constants are its bodies and the constants of the table behind them.
+/// The unit of a row, with this frame and at most so many bytes of its code: its constants are its bodies and the constants of the table after them.
 pub fn unit_of(
     alloc: Global,
     table: Table<'_>,
@@ -38,7 +38,7 @@ fn unit_with(code: Vec<u8>, constants: Vec<Constant>, frame: Frame) -> CodeUnit 
     }
 }
 
-// The bodies of these fields, and behind them the constants of the table.
+// The bodies of these fields, and after them the constants of the table.
 fn constants_of(alloc: Global, table: Table<'_>, fields: &[Vec<u8>]) -> Result<Vec<Constant>> {
     let mut constants = Vec::new(alloc);
     put_bodies(alloc, table, fields, &mut constants)?;
@@ -93,7 +93,7 @@ fn count_at(head: &[u8], place: usize) -> Option<u16> {
     u16::try_from(number_of(word_at(head, place))?).ok()
 }
 
-// Puts the constants of these lines behind others.
+// Puts the constants of these lines after others.
 fn put_constants(alloc: Global, lines: &[u8], constants: &mut Vec<Constant>) -> Result<()> {
     for line in lines.split(|byte| *byte == b'\n') {
         let (kind, text) = parted(line, b' ');

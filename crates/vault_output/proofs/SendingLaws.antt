@@ -1,9 +1,9 @@
--- Puts and writes, one behind another.
+-- Puts and writes, one after another.
 use Rattle.std.proofs.Common.{◌≡◌, ℕ, ◌+◌, ◌<◌, ◌≤◌, List, [], ◌++◌, take, drop, refl, sym, ◌∙◌, ap, subst, append_assoc, arith}
 use Rattle.std.specs.Prelude.{Result, Ok, Err, OnOk, OnErr, IfErr, ◌≢◌, replicate}
 use Rattle.std.proofs.lemmas.List.{append-nil, take-append-drop, replicate-append-replicate}
-use Rattle.ps_outside.specs.Outside.{Outside, Adds, AddsFront, TellsFront, ToldAll, SameContents, Rose}
-use Rattle.ps_outside.proofs.Moments.{along_none, along_then, along_now, along_weaker}
+use Rattle.obj_layout.specs.ps_outside.Outside.{Outside, Adds, AddsPrefix, TellsPrefix, ToldAll, SameContents, Rose}
+use Rattle.obj_layout.proofs.of_ps_outside.Moments.{along_none, along_then, along_now, along_weaker}
 use Rattle.obj_layout.specs.declared.vault.VaultFault.{VaultFault}
 use Rattle.obj_layout.specs.declared.vault.VaultFault.TheVariants.{Device, Output, Full, Damaged}
 use Rattle.obj_layout.specs.Stored.{Space}
@@ -25,8 +25,8 @@ adds_then first next xs ys bytes step last =
       bytes_are = last.bytes_are ∙ ap (λ (b : List ℕ). b ++ ys) one.bytes_are ∙ append_assoc one.before xs ys;
     }
 
--- a front of the first part is one of the whole
-front_more : (told : List ℕ → Type 0) (some rest bytes : List ℕ) → AddsFront told some bytes → AddsFront told (some ++ rest) bytes
+-- a prefix of the first part is one of the whole
+front_more : (told : List ℕ → Type 0) (some rest bytes : List ℕ) → AddsPrefix told some bytes → AddsPrefix told (some ++ rest) bytes
 front_more told some rest bytes is = record {
   front = is.front;
   is_front = record {
@@ -36,9 +36,9 @@ front_more told some rest bytes is = record {
   adds = is.adds;
 }
 
--- a front of the second part is told behind all of the first
-front_then : (first next : List ℕ → Type 0) (xs ys bytes : List ℕ) → ((b : List ℕ) → next b → Adds first xs b) → AddsFront next ys bytes
-    → AddsFront first (xs ++ ys) bytes
+-- a prefix of the second part is told after all of the first
+front_then : (first next : List ℕ → Type 0) (xs ys bytes : List ℕ) → ((b : List ℕ) → next b → Adds first xs b) → AddsPrefix next ys bytes
+    → AddsPrefix first (xs ++ ys) bytes
 front_then first next xs ys bytes step is = record {
   front = xs ++ is.front;
   is_front = record {
@@ -74,8 +74,8 @@ rose_from a b c le rose = grind arith
 same_then : {X : Type 0} (a b c : Outside X) → SameContents a b → SameContents b c → SameContents a c
 same_then a b c first next = record { kept = λ x is. next.kept x (first.kept x is); no_other = λ x is. first.no_other x (next.no_other x is) }
 
--- all of the first part, and then a front of the second
-tells_then : {X : Type 0} (a b c : Outside X) (xs ys : List ℕ) → TellsFront a b xs → ToldAll a b xs → TellsFront b c ys → TellsFront a c (xs ++ ys)
+-- all of the first part, and then a prefix of the second
+tells_then : {X : Type 0} (a b c : Outside X) (xs ys : List ℕ) → TellsPrefix a b xs → ToldAll a b xs → TellsPrefix b c ys → TellsPrefix a c (xs ++ ys)
 tells_then a b c xs ys first all next =
     along_then
     (along_weaker first (λ (bytes : List ℕ) is. front_more (a.told a.clock) xs ys bytes is))
@@ -93,7 +93,7 @@ calm_then : {T : Type 0} (a b c : ℕ) (result : Result T VaultFault) → b ≡ 
 calm_then a b c (Ok x) first next = next ∙ first
 calm_then a b c (Err fault) first next = next
 
--- a put behind one that was answered
+-- a put after one that was answered
 pub puts-then : {S T : Type 0} (a b c : Outside Space) (xs ys : List ℕ) (done : S) (result : Result T VaultFault)
     → Puts a b xs (Ok done) → Puts b c ys result → Puts a c (xs ++ ys) result
 puts-then a b c xs ys done result first next = record {
@@ -109,7 +109,7 @@ puts-then a b c xs ys done result first next = record {
   calls = next.calls ∙ first.calls;
 }
 
--- what is owed was put, and this is due still
+-- what is pending was put, and this is due still
 pub sends-more : {T : Type 0} (a b c : Outside Space) (due owed sent rest left : List ℕ) (result : Result T VaultFault)
     → Sends {T = Unit {0}} a b due owed (Ok tt) → owed ≡ sent ++ rest → Puts b c sent result → OnOk result (left ≡ rest) → OnErr result (left ≡ [])
     → Sends a c due left result
@@ -123,7 +123,7 @@ sends-more a b c due owed sent rest left result first owed_is next owes lets_go 
   lets_go = lets_go;
 }
 
--- more is due behind
+-- more is due after
 pub sends-behind : (a b : Outside Space) (due owed more : List ℕ) → Sends {T = Unit {0}} a b due owed (Ok tt)
     → Sends {T = Unit {0}} a b (due ++ more) (owed ++ more) (Ok tt)
 sends-behind a b due owed more is = record {
@@ -135,27 +135,27 @@ sends-behind a b due owed more is = record {
   lets_go = tt;
 }
 
--- a write behind a write
+-- a write after a write
 pub sends-then : {T : Type 0} (a b c : Outside Space) (due owed more left : List ℕ) (result : Result T VaultFault)
     → Sends {T = Unit {0}} a b due owed (Ok tt) → Sends b c (owed ++ more) left result → Sends a c (due ++ more) left result
 sends-then a b c due owed more left result first next =
     sends-more a b c (due ++ more) (owed ++ more) next.sent next.rest left result
     (sends-behind a b due owed more first) next.due_is next.puts next.owes next.lets_go
 
--- a flush behind a write
+-- a flush after a write
 pub flush-then : {T : Type 0} (a b c : Outside Space) (due owed : List ℕ) (result : Result T VaultFault)
     → Sends {T = Unit {0}} a b due owed (Ok tt) → Puts b c owed result → Puts a c due result
 flush-then a b c due owed result first next =
     let whole : first.sent ++ owed ≡ due = ap (λ (xs : List ℕ). first.sent ++ xs) first.owes ∙ sym first.due_is in
     subst (λ (xs : List ℕ). Puts a c xs result) whole (puts-then a b c first.sent owed tt result first.puts next)
 
--- what is told is a front of what is due
-pub sends-front : {T : Type 0} (a b : Outside Space) (due owed : List ℕ) (result : Result T VaultFault) → Sends a b due owed result → TellsFront a b due
+-- what is output is a prefix of what is due
+pub sends-front : {T : Type 0} (a b : Outside Space) (due owed : List ℕ) (result : Result T VaultFault) → Sends a b due owed result → TellsPrefix a b due
 sends-front a b due owed result is =
     along_weaker is.puts.told (λ (bytes : List ℕ) at.
-    subst (λ (xs : List ℕ). AddsFront (a.told a.clock) xs bytes) (sym is.due_is) (front_more (a.told a.clock) is.sent is.rest bytes at))
+    subst (λ (xs : List ℕ). AddsPrefix (a.told a.clock) xs bytes) (sym is.due_is) (front_more (a.told a.clock) is.sent is.rest bytes at))
 
--- what is told and what is owed are all that is due
+-- what is output and what is pending are all that is due
 pub sends-all : (a b : Outside Space) (due owed bytes : List ℕ) → Sends {T = Unit {0}} a b due owed (Ok tt) → b.told b.clock bytes
     → Adds (a.told a.clock) due (bytes ++ owed)
 sends-all a b due owed bytes is told =
@@ -179,11 +179,11 @@ only-output (Err Output) device full damaged = refl
 only-output (Err (Full used wanted capacity)) device full damaged = absurd (full used wanted capacity refl)
 only-output (Err (Damaged at found wanted)) device full damaged = absurd (damaged at found wanted refl)
 
--- bytes that are kept are owed, and none was sent
+-- bytes that are kept are pending, and none was sent
 pub sends-kept : (outside : Outside Space) (due owed : List ℕ) → owed ≡ due → Sends {T = Unit {0}} outside outside due owed (Ok tt)
 sends-kept outside due owed is = record { sent = []; rest = due; due_is = refl; puts = puts-none outside; owes = is; lets_go = tt }
 
--- a front of what is left was kept
+-- a prefix of what is left was kept
 pub kept-front : (owed rest front back kept : List ℕ) (n : ℕ) → front ≡ take n rest → back ≡ drop n rest → kept ≡ owed ++ front
     → owed ++ rest ≡ kept ++ back
 kept-front owed rest front back kept n is_front is_back is_kept =

@@ -2,7 +2,7 @@
 use Rattle.std.specs.Prelude.{ℕ, ◌≤◌, List, length, vec_capacity}
 use Rattle.vault_output.specs.declared.output.Output.TheInside.{Inside}
 
--- the bytes that are owed
+-- the bytes that are pending
 abbrev pub owed_of : Inside → List ℕ
 owed_of output = output.bytes.items
 

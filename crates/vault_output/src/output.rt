@@ -11,7 +11,7 @@ use std::marker::Model;
 pub const BUFFER_BYTES: usize = 65_536;
 
 /// The output of a run. What is written is kept until more comes than the buffer holds, and goes on to a vault in pieces of 65,536 bytes.
-/// Contracts see the bytes that are owed: those that were written and not put to the vault yet. It takes all its memory when it is made.
+/// Contracts see the bytes that are pending: those that were written and not put to the vault yet. It takes all its memory when it is made.
 #[derive(Drop)]
 pub struct Output {
     bytes: Vec<u8>,
@@ -30,7 +30,7 @@ impl Model for Output {
 }
 
 impl Output {
-    /// An output that owes nothing.
+    /// An output that has nothing pending.
     pub fn new(alloc: Global) -> Result<Output, AllocError>
         ensures { IfOk result (λ output. output ≡ []) }
     {
@@ -39,7 +39,7 @@ impl Output {
         })
     }
 
-    /// The bytes that are owed.
+    /// The bytes that are pending.
     pub fn owed(&self) -> &[u8]
         ensures owed { result.now ≡ self.now }
         ensures few { length self.now ≤ BUFFER_BYTES }
@@ -47,8 +47,8 @@ impl Output {
         &self.bytes
     }
 
-    /// Writes these bytes behind those that are owed. Full pieces of them go on to the vault once more is due than the buffer holds. After
-    /// the vault's first fault no more is put to it, a front of what was due was told, and nothing is owed.
+    /// Writes these bytes after those that are pending. Full pieces of them go on to the vault once more is due than the buffer holds. After
+    /// the vault's first fault no more is put to it, a prefix of what was due was told, and nothing is pending.
     #[inline]
     pub fn write<V: Vault>(&mut self, vault: &mut V, bytes: &[u8]) -> Result<(), VaultFault>
         requires alive { V.alive vault.old }
@@ -129,7 +129,7 @@ impl Output {
         Ok(())
     }
 
-    /// Puts all that is owed to the vault. Nothing is owed behind it, whatever the vault answers. Where nothing is owed the vault isn't
+    /// Puts all that is pending to the vault. Nothing is pending after it, whatever the vault answers. Where nothing is pending the vault isn't
     /// called.
     pub fn flush<V: Vault>(&mut self, vault: &mut V) -> Result<(), VaultFault>
         requires alive { V.alive vault.old }
@@ -148,7 +148,7 @@ impl Output {
         answer
     }
 
-    /// Lets go what is owed: it will not be told.
+    /// Lets go what is pending: it will not be told.
     pub fn clear(&mut self)
         ensures { self.new ≡ [] }
     {

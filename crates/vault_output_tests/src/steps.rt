@@ -3,11 +3,11 @@ ghost use Rattle.std.specs.Prelude.{◌≡◌, true, IfOk, OnOk};
 
 use memory_host::MemoryHost;
 use no_store::NoStore;
-use obj_layout::vault::VaultFault;
 use std::alloc::{AllocError, Global};
 use vault_output::Output;
+use vault_output::obj_layout::vault::VaultFault;
 
-/// It writes so many bytes, those that `bytes` begins with, or so many spaces, or puts all that is owed.
+/// It writes so many bytes, those that `bytes` begins with, or so many spaces, or puts all that is pending.
 #[derive(Clone, Copy)]
 pub enum Step {
     Write(usize),
@@ -50,7 +50,7 @@ fn take_step(
     }
 }
 
-/// Does steps one behind the other, to the first fault.
+/// Does steps one after the other, to the first fault.
 pub fn run(
     output: &mut Output,
     vault: &mut NoStore<MemoryHost>,
@@ -65,7 +65,7 @@ pub fn run(
     Ok(())
 }
 
-/// All that steps write, one behind the other.
+/// All that steps write, one after the other.
 pub fn written(alloc: Global, bytes: &[u8], steps: &[Step]) -> Result<Vec<u8>, AllocError> {
     let mut whole = Vec::new(alloc);
     for one in steps {

@@ -1,12 +1,12 @@
 -- Words that begin no object at PID 1 hold none.
 use Rattle.std.proofs.Common.{◌≡◌, ℕ, Option, ◌+◌, ◌*◌, ◌^◌, ◌≤◌, List, [], ◌∷◌, length, take, slice_index, refl, sym, ap, ◌∙◌, subst, arith}
 use Rattle.std.proofs.lemmas.List.{take-append-le}
-use Rattle.obj_layout.specs.declared.kind.Kind.{Kind}
-use Rattle.obj_layout.specs.declared.kind.Kind.TheVariants.{Text, Structure, Vector, Scope, Closure, Code, Table, Node, Directory}
-use Rattle.obj_layout.specs.Kind.{kind_number}
-use Rattle.obj_layout.specs.Objects.{Placed, Cuts}
-use Rattle.obj_layout.specs.Stored.{Space, HasObject, Holds}
-use Rattle.obj_layout.proofs.ObjectLaws.{object-long}
+use Rattle.memory_vault.specs.obj_layout.declared.kind.Kind.{Kind}
+use Rattle.memory_vault.specs.obj_layout.declared.kind.Kind.TheVariants.{Text, Structure, Vector, Scope, Closure, Code, Table, Node, Directory}
+use Rattle.memory_vault.specs.obj_layout.Kind.{kind_number}
+use Rattle.memory_vault.specs.obj_layout.Objects.{Placed, Cuts}
+use Rattle.memory_vault.specs.obj_layout.Stored.{Space, HasObject, Holds}
+use Rattle.memory_vault.proofs.of_obj_layout.ObjectLaws.{object-long}
 use Rattle.memory_vault.specs.Memory.{Memory, fresh, outside_of}
 use Rattle.vault_tests.specs.Hostile.{HoldsNothing}
 

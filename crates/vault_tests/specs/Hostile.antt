@@ -1,6 +1,6 @@
 -- A vault that is alive and holds no object.
 use Rattle.std.specs.Prelude.{◌≡◌, ℕ, true, List}
-use Rattle.obj_layout.specs.Stored.{Holds}
+use Rattle.memory_vault.specs.obj_layout.Stored.{Holds}
 use Rattle.memory_vault.specs.Memory.{Memory, outside_of}
 
 pub record HoldsNothing (vault : Memory) : Type 0 where

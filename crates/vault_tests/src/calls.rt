@@ -3,7 +3,7 @@ ghost use Rattle.std.specs.Prelude.{OnOk, true, ◌≡◌};
 
 use crate::objects::{long_text, short_text};
 use memory_vault::memory::MemoryVault;
-use obj_layout::vault::{Vault, VaultFault};
+use memory_vault::obj_layout::vault::{Vault, VaultFault};
 use std::test::Fail;
 
 /// Fetches an object, of which it asks the length before.
@@ -51,7 +51,7 @@ fn holds_the_words_that_it_is_made_of(rt: HostRuntime) -> Result<(), Fail> {
     Ok(())
 }
 
-/// Whether it stores a short text and a long one behind it.
+/// Whether it stores a short text and a long one after it.
 fn stores_two(vault: &mut MemoryVault) -> bool
     requires { vault.old.alive ≡ true }
     ensures { result ≡ true → vault.new.alive ≡ true }
@@ -82,7 +82,7 @@ fn stores_and_gives_objects(rt: HostRuntime) -> Result<(), Fail> {
     Ok(())
 }
 
-/// Whether it stores a third behind them, and puts another long text in place of the second.
+/// Whether it stores a third after them, and puts another long text in place of the second.
 fn overwrites(vault: &mut MemoryVault) -> bool
     requires { vault.old.alive ≡ true }
 {

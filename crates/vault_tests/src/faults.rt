@@ -3,10 +3,10 @@ ghost use Rattle.std.specs.Prelude.{true, ◌≡◌};
 
 use crate::objects::short_text;
 use memory_vault::memory::MemoryVault;
-use obj_layout::vault::{Vault, VaultFault};
+use memory_vault::obj_layout::vault::{Vault, VaultFault};
 use std::test::Fail;
 
-/// Whether it has no room for a second text behind the first.
+/// Whether it has no room for a second text after the first.
 fn is_filled(vault: &mut MemoryVault) -> bool
     requires { vault.old.alive ≡ true }
 {

@@ -4,7 +4,7 @@ ghost use Rattle.vault_tests.specs.Hostile.{HoldsNothing};
 
 use crate::objects::{long_text, short_text};
 use memory_vault::memory::MemoryVault;
-use obj_layout::vault::{Vault, VaultFault};
+use memory_vault::obj_layout::vault::{Vault, VaultFault};
 use std::alloc::{AllocError, Global};
 use std::test::Fail;
 

@@ -1,5 +1,5 @@
 //! Objects to be stored.
-ghost use Rattle.obj_layout.specs.Stored.{IsHeaded};
+ghost use Rattle.memory_vault.specs.obj_layout.Stored.{IsHeaded};
 
 /// A text with no byte, in five words, the last of which is its home.
 pub fn short_text(home: u64) -> [u64; 5]

@@ -1,15 +1,15 @@
--- Worked spaces: objects of few words, one behind the other, and what is seen of them.
+-- Worked spaces: objects of few words, one after the other, and what is seen of them.
 use Rattle.std.proofs.Common.{◌≡◌, ℕ, ◌+◌, ◌*◌, ◌^◌, ◌≤◌, List, [], ◌∷◌, ◌++◌, length, take, refl, arith}
-use Rattle.obj_layout.specs.declared.kind.Kind.{Kind}
-use Rattle.obj_layout.specs.declared.kind.Kind.TheVariants as kind
-use Rattle.obj_layout.specs.declared.reference.Reference.{Reference}
-use Rattle.obj_layout.specs.declared.reference.Reference.TheVariants.{Pid}
-use Rattle.obj_layout.specs.Header.{header_words}
-use Rattle.obj_layout.specs.Objects.{Contents, kind_of, counts, counts_of, IsAllowed, IsObject, Placed, Cuts, HoldsObjects, IsAmong}
-use Rattle.obj_layout.specs.Stored.{Space}
-use Rattle.swizzle.specs.Joint.{Shown, shown_words}
+use Rattle.ps_volumes.specs.obj_layout.declared.kind.Kind.{Kind}
+use Rattle.ps_volumes.specs.obj_layout.declared.kind.Kind.TheVariants as kind
+use Rattle.ps_volumes.specs.obj_layout.declared.reference.Reference.{Reference}
+use Rattle.ps_volumes.specs.obj_layout.declared.reference.Reference.TheVariants.{Pid}
+use Rattle.ps_volumes.specs.obj_layout.Header.{header_words}
+use Rattle.ps_volumes.specs.obj_layout.Objects.{Contents, kind_of, counts, counts_of, IsAllowed, IsObject, Placed, Cuts, HoldsObjects, IsAmong}
+use Rattle.ps_volumes.specs.obj_layout.Stored.{Space}
+use Rattle.heap_meaning.specs.swizzle.Joint.{Shown, shown_words}
 use Rattle.heap_meaning.specs.Standing.{Seen}
-use Rattle.heap_places.specs.Shapes.{IsText, shown_text}
+use Rattle.heap_meaning.specs.heap_places.Shapes.{IsText, shown_text}
 use Rattle.volume_meaning.specs.Space.{IsStored, SeenIn}
 
 -- a reference on a volume

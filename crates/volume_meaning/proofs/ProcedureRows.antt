@@ -3,28 +3,28 @@
 use Rattle.std.proofs.Common.{◌≡◌, ◌≢◌, inl, inr, ℕ, ◌^◌, ◌<◌, FitsSigned, w32, List, [], ◌∷◌, slice_index, refl, sym, ◌∙◌, ap, subst, arith, pos, None}
 use Rattle.std.specs.Prelude.{codes}
 use Rattle.std.proofs.lemmas.Int.{fits_signed_from_abs}
-use Rattle.ps_base.specs.TyView as types
-use Rattle.ps_base.specs.Instr.{word}
-use Rattle.ps_base.specs.CodeUnit.{UnitView, unit, text, ConstantsView, no_constants, constant_then}
-use Rattle.ps_base.specs.declared.code_unit.Frame.{Frame}
-use Rattle.ps_program.specs.Node.{BodyNode, body}
-use Rattle.ps_program.specs.Node as node
-use Rattle.ps_gen.specs.Units.{unit_of}
-use Rattle.obj_layout.specs.declared.kind.Kind.{Kind}
-use Rattle.obj_layout.specs.declared.kind.Kind.TheVariants as kind
-use Rattle.obj_layout.specs.declared.reference.Reference.{Reference}
-use Rattle.obj_layout.specs.declared.reference.Reference.TheVariants.{Nil, Pid}
-use Rattle.obj_layout.specs.Objects.{Placed, IsAmong}
-use Rattle.obj_layout.specs.Objects as contents
-use Rattle.obj_layout.specs.Stored.{Space}
-use Rattle.obj_area.specs.Words.{bytes_of, word_bytes}
-use Rattle.swizzle.specs.Objects.{header_in, reference_at, object_in}
-use Rattle.swizzle.specs.Joint.{Shown, shown_words}
-use Rattle.proc_values.specs.Units.{frame_word}
-use Rattle.proc_values.specs.Loaded.{IsFitUnit}
-use Rattle.text_forms.specs.Forms.{forms_of, forms_from, form_here, begins}
-use Rattle.ps_meaning.specs.Values.{Value, Procedure, as_written}
-use Rattle.ps_meaning.specs.Objects.{Structure}
+use Rattle.ps_port.specs.ps_base.TyView as types
+use Rattle.ps_port.specs.ps_base.Instr.{word}
+use Rattle.ps_port.specs.ps_base.CodeUnit.{UnitView, unit, text, ConstantsView, no_constants, constant_then}
+use Rattle.ps_port.specs.ps_base.declared.code_unit.Frame.{Frame}
+use Rattle.ps_code_laws.specs.ps_program.Node.{BodyNode, body}
+use Rattle.ps_code_laws.specs.ps_program.Node as node
+use Rattle.ps_code_laws.specs.ps_gen.Units.{unit_of}
+use Rattle.ps_volumes.specs.obj_layout.declared.kind.Kind.{Kind}
+use Rattle.ps_volumes.specs.obj_layout.declared.kind.Kind.TheVariants as kind
+use Rattle.ps_volumes.specs.obj_layout.declared.reference.Reference.{Reference}
+use Rattle.ps_volumes.specs.obj_layout.declared.reference.Reference.TheVariants.{Nil, Pid}
+use Rattle.ps_volumes.specs.obj_layout.Objects.{Placed, IsAmong}
+use Rattle.ps_volumes.specs.obj_layout.Objects as contents
+use Rattle.ps_volumes.specs.obj_layout.Stored.{Space}
+use Rattle.heap_meaning.specs.obj_area.Words.{bytes_of, word_bytes}
+use Rattle.heap_meaning.specs.swizzle.Objects.{header_in, reference_at, object_in}
+use Rattle.heap_meaning.specs.swizzle.Joint.{Shown, shown_words}
+use Rattle.heap_meaning.specs.proc_values.Units.{frame_word}
+use Rattle.heap_meaning.specs.proc_values.Loaded.{IsFitUnit}
+use Rattle.ps_code_laws.specs.text_forms.Forms.{forms_of, forms_from, form_here, begins}
+use Rattle.ps_code_laws.specs.ps_meaning.Values.{Value, Procedure, as_written}
+use Rattle.ps_code_laws.specs.ps_meaning.Objects.{Structure}
 use Rattle.ps_code_laws.specs.Compiled.{compiled_routine, compiled_all}
 use Rattle.heap_meaning.specs.Units.{IsUnitSeen, shown_code}
 use Rattle.heap_meaning.specs.Standing.{AreFor, StandsForProcedure}

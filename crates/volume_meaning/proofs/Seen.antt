@@ -1,11 +1,11 @@
 -- What is seen in a space: one object under a name.
 use Rattle.std.proofs.Common.{◌≡◌, ◌≢◌, inl, inr, ℕ, sym, ◌∙◌, ap, subst}
-use Rattle.obj_layout.specs.declared.kind.Kind.TheVariants as kind
-use Rattle.obj_layout.specs.declared.reference.Reference.{Reference}
-use Rattle.obj_layout.specs.declared.reference.Reference.TheVariants.{Pid}
-use Rattle.obj_layout.specs.Stored.{Space, HasObject}
-use Rattle.obj_layout.proofs.StoredLaws.{HasObject-one}
-use Rattle.swizzle.specs.Joint.{Shown, shown_words}
+use Rattle.ps_volumes.specs.obj_layout.declared.kind.Kind.TheVariants as kind
+use Rattle.ps_volumes.specs.obj_layout.declared.reference.Reference.{Reference}
+use Rattle.ps_volumes.specs.obj_layout.declared.reference.Reference.TheVariants.{Pid}
+use Rattle.ps_volumes.specs.obj_layout.Stored.{Space, HasObject}
+use Rattle.ps_volumes.proofs.of_obj_layout.StoredLaws.{HasObject-one}
+use Rattle.heap_meaning.specs.swizzle.Joint.{Shown, shown_words}
 use Rattle.heap_meaning.specs.Standing.{Seen, IsOne}
 use Rattle.volume_meaning.specs.Space.{SeenIn, with_tables}
 

@@ -1,4 +1,4 @@
--- The space of what is held: the words whose spelling stands at the front of the held bytes.
+-- The space of what is held: the words whose spelling stands at the start of the held bytes.
 use Rattle.std.proofs.Common.{◌≡◌, ℕ, zero, suc, ◌*◌, ◌%◌, ◌^◌, ◌<◌, ◌≤◌, Bool, true, false, nat_lt, refl, sym, ◌∙◌, ap, arith, Some}
 use Rattle.std.proofs.Common.{List, [], ◌∷◌, ◌++◌, length, length-append, drop, slice_index}
 use Rattle.std.specs.Prelude.{if◌then◌else◌}
@@ -7,14 +7,14 @@ use Rattle.std.proofs.lemmas.Bool.{ltb-true, false≢true}
 use Rattle.std.proofs.lemmas.List.{get_or_append_left}
 use Rattle.std.proofs.lemmas.List.FromFn.{length-map-range_with_len, get_or-map-range_with_len}
 use Rattle.std.proofs.lemmas.Grind.{same_number_lists}
-use Rattle.obj_area.specs.Words as words
-use Rattle.obj_area.specs.Words.{first_word, bytes_of, AreWords}
-use Rattle.obj_area.proofs.WordLaws as area
-use Rattle.obj_area.proofs.WordLaws.{length-bytes_of}
-use Rattle.shadow_volume.specs.Found.{Held}
-use Rattle.shadow_volume.specs.Standing.{held_in}
-use Rattle.shadow_volume.specs.declared.note.Note.{Note}
-use Rattle.obj_store.specs.Spaces.{word_at, words_of, space_of}
+use Rattle.heap_meaning.specs.obj_area.Words as words
+use Rattle.heap_meaning.specs.obj_area.Words.{first_word, bytes_of, AreWords}
+use Rattle.heap_meaning.proofs.of_obj_area.WordLaws as area
+use Rattle.heap_meaning.proofs.of_obj_area.WordLaws.{length-bytes_of}
+use Rattle.ps_volumes.specs.shadow_volume.Found.{Held}
+use Rattle.ps_volumes.specs.shadow_volume.Standing.{held_in}
+use Rattle.ps_volumes.specs.shadow_volume.declared.note.Note.{Note}
+use Rattle.ps_volumes.specs.obj_store.Spaces.{word_at, words_of, space_of}
 use Rattle.volume_meaning.specs.Space.{holding, spaced, space_in}
 
 -- the word with an index below the spelled ones is one of them

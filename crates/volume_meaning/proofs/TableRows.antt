@@ -1,15 +1,15 @@
 -- A worked table with two ints as keys, under both of which it has one empty table. Its entries stand in the order of their keys, and in no other.
 use Rattle.std.proofs.Common.{◌≡◌, inl, inr, ℕ, List, [], ◌∷◌, refl, arith, pos, Some}
 use Rattle.std.specs.Prelude.{negsuc, ℤ}
-use Rattle.obj_layout.specs.declared.kind.Kind.TheVariants as kind
-use Rattle.obj_layout.specs.declared.reference.Reference.{Reference}
-use Rattle.obj_layout.specs.declared.reference.Reference.TheVariants.{Nil, Pid}
-use Rattle.obj_layout.specs.Objects.{Placed, IsAmong}
-use Rattle.obj_layout.specs.Objects as contents
-use Rattle.obj_layout.specs.Stored.{Space}
-use Rattle.swizzle.specs.Objects.{header_in, reference_at, object_in}
-use Rattle.swizzle.specs.Joint.{Shown, shown_words}
-use Rattle.heap_places.specs.Words.{int_in}
+use Rattle.ps_volumes.specs.obj_layout.declared.kind.Kind.TheVariants as kind
+use Rattle.ps_volumes.specs.obj_layout.declared.reference.Reference.{Reference}
+use Rattle.ps_volumes.specs.obj_layout.declared.reference.Reference.TheVariants.{Nil, Pid}
+use Rattle.ps_volumes.specs.obj_layout.Objects.{Placed, IsAmong}
+use Rattle.ps_volumes.specs.obj_layout.Objects as contents
+use Rattle.ps_volumes.specs.obj_layout.Stored.{Space}
+use Rattle.heap_meaning.specs.swizzle.Objects.{header_in, reference_at, object_in}
+use Rattle.heap_meaning.specs.swizzle.Joint.{Shown, shown_words}
+use Rattle.heap_meaning.specs.heap_places.Words.{int_in}
 use Rattle.heap_meaning.specs.Standing.{IsKindOf}
 use Rattle.heap_meaning.specs.Paired.{paired}
 use Rattle.volume_meaning.specs.Kept.{Entry, by_ints, without_keys}

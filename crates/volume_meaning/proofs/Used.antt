@@ -5,17 +5,17 @@ use Rattle.std.specs.Prelude.{if◌then◌else◌}
 use Rattle.std.specs.List.{AllByRecursion, range_with_len}
 use Rattle.std.proofs.lemmas.List.FromFn.{length-map-range_with_len}
 use Rattle.std.specs.Option.{option_map}
-use Rattle.obj_layout.specs.Stored.{Space, IsSpace}
-use Rattle.shadow_volume.specs.Layout.{number_at, gate, selects, root_at}
-use Rattle.shadow_volume.specs.Found.{Held, no_volume, found_in, note_at, held_at, head_damage, root_damage, behind_head, behind_root}
-use Rattle.shadow_volume.specs.Standing.{held_in, held_of, IsFit}
-use Rattle.shadow_volume.specs.declared.finding.Damage.{Damage}
-use Rattle.shadow_volume.proofs.Tests.{head_passed, root_passed}
-use Rattle.shadow_volume.proofs.Halves.{halves_within}
-use Rattle.obj_store.specs.Spaces.{word_at, words_of, space_of}
+use Rattle.ps_volumes.specs.obj_layout.Stored.{Space, IsSpace}
+use Rattle.ps_volumes.specs.shadow_volume.Layout.{number_at, gate, selects, root_at}
+use Rattle.ps_volumes.specs.shadow_volume.Found.{Held, no_volume, found_in, note_at, held_at, head_damage, root_damage, behind_head, behind_root}
+use Rattle.ps_volumes.specs.shadow_volume.Standing.{held_in, held_of, IsFit}
+use Rattle.ps_volumes.specs.shadow_volume.declared.finding.Damage.{Damage}
+use Rattle.ps_volumes.proofs.of_shadow_volume.Tests.{head_passed, root_passed}
+use Rattle.ps_volumes.proofs.of_shadow_volume.Halves.{halves_within}
+use Rattle.ps_volumes.specs.obj_store.Spaces.{word_at, words_of, space_of}
 use Rattle.volume_meaning.specs.Space.{space_in}
 
--- What is held stands in a half, behind tests that passed.
+-- What is held stands in a half, after tests that passed.
 pub record IsHeldFrom (image : List ℕ) (held : Held) : Type 0 where
   pub pages : ℕ
   pub second : Bool

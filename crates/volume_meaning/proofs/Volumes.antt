@@ -2,20 +2,20 @@
 use Rattle.std.proofs.Common.{◌≡◌, ℕ, ◌≤◌, Bool, List, [], ◌∷◌, length, refl, sym, ◌∙◌, ap, subst, arith, Option, Some, None}
 use Rattle.std.specs.Option.{option_map}
 use Rattle.std.proofs.lemmas.Option.{same_Some}
-use Rattle.ps_outside.specs.Outside.{Outside}
-use Rattle.obj_layout.specs.declared.reference.Reference.{Reference}
-use Rattle.obj_layout.specs.declared.reference.Reference.TheVariants.{Pid}
-use Rattle.obj_layout.specs.Objects.{Placed, HoldsObjects}
-use Rattle.obj_layout.specs.Stored.{Space}
-use Rattle.obj_layout.proofs.StoredLaws.{HasObject-within}
-use Rattle.shadow_volume.specs.Layout.{gate}
-use Rattle.shadow_volume.specs.Found.{Held, Found, a_volume, no_volume, damaged, found_in}
-use Rattle.shadow_volume.specs.Making.{IsNew, empty_held}
-use Rattle.shadow_volume.specs.Standing.{held_in, held_of}
-use Rattle.shadow_volume.proofs.New.{found_new}
+use Rattle.ps_port.specs.ps_outside.Outside.{Outside}
+use Rattle.ps_volumes.specs.obj_layout.declared.reference.Reference.{Reference}
+use Rattle.ps_volumes.specs.obj_layout.declared.reference.Reference.TheVariants.{Pid}
+use Rattle.ps_volumes.specs.obj_layout.Objects.{Placed, HoldsObjects}
+use Rattle.ps_volumes.specs.obj_layout.Stored.{Space}
+use Rattle.ps_volumes.proofs.of_obj_layout.StoredLaws.{HasObject-within}
+use Rattle.ps_volumes.specs.shadow_volume.Layout.{gate}
+use Rattle.ps_volumes.specs.shadow_volume.Found.{Held, Found, a_volume, no_volume, damaged, found_in}
+use Rattle.ps_volumes.specs.shadow_volume.Making.{IsNew, empty_held}
+use Rattle.ps_volumes.specs.shadow_volume.Standing.{held_in, held_of}
+use Rattle.ps_volumes.proofs.of_shadow_volume.New.{found_new}
 use Rattle.heap_meaning.specs.Paired.{paired}
 use Rattle.volume_meaning.specs.Kept.{Database, KeptHeap, AreDatabases}
-use Rattle.obj_store.specs.Spaces.{word_at, words_of, space_of, space_found}
+use Rattle.ps_volumes.specs.obj_store.Spaces.{word_at, words_of, space_of, space_found}
 use Rattle.ps_volumes.specs.Attaching.{KeepsVolume}
 use Rattle.volume_meaning.specs.Space.{space_in, HoldSame, SeenIn}
 use Rattle.volume_meaning.specs.Stands.{IsDirectoryOf, SpaceStands, Stands, StandsSince}

@@ -2,21 +2,21 @@
 -- the structure, or another number of entries of the table, it doesn't.
 use Rattle.std.proofs.Common.{◌≡◌, inl, inr, ℕ, zero, suc, List, [], ◌∷◌, ◌++◌, ◌^◌, refl, sym, ◌∙◌, ap, subst, arith, pos, Some}
 use Rattle.std.specs.Prelude.{codes}
-use Rattle.obj_layout.specs.declared.kind.Kind.TheVariants as kind
-use Rattle.obj_layout.specs.declared.reference.Reference.{Reference}
-use Rattle.obj_layout.specs.declared.reference.Reference.TheVariants.{Nil, Pid}
-use Rattle.obj_layout.specs.Objects.{Placed, IsAmong}
-use Rattle.obj_layout.specs.Objects as contents
-use Rattle.obj_layout.specs.Stored.{Space}
-use Rattle.obj_area.specs.Words.{bytes_of, word_bytes}
-use Rattle.shadow_volume.specs.Standing.{held_in}
-use Rattle.swizzle.specs.Objects.{header_in, reference_at, object_in}
-use Rattle.swizzle.specs.Joint.{Shown, shown_words}
-use Rattle.heap_places.specs.Words.{int_in}
-use Rattle.heap_places.specs.Shapes.{word_in}
-use Rattle.text_forms.specs.Forms.{forms_of, forms_from, form_here, begins}
-use Rattle.ps_meaning.specs.Values.{Num, Text, Pointer}
-use Rattle.ps_meaning.specs.Objects.{Structure}
+use Rattle.ps_volumes.specs.obj_layout.declared.kind.Kind.TheVariants as kind
+use Rattle.ps_volumes.specs.obj_layout.declared.reference.Reference.{Reference}
+use Rattle.ps_volumes.specs.obj_layout.declared.reference.Reference.TheVariants.{Nil, Pid}
+use Rattle.ps_volumes.specs.obj_layout.Objects.{Placed, IsAmong}
+use Rattle.ps_volumes.specs.obj_layout.Objects as contents
+use Rattle.ps_volumes.specs.obj_layout.Stored.{Space}
+use Rattle.heap_meaning.specs.obj_area.Words.{bytes_of, word_bytes}
+use Rattle.ps_volumes.specs.shadow_volume.Standing.{held_in}
+use Rattle.heap_meaning.specs.swizzle.Objects.{header_in, reference_at, object_in}
+use Rattle.heap_meaning.specs.swizzle.Joint.{Shown, shown_words}
+use Rattle.heap_meaning.specs.heap_places.Words.{int_in}
+use Rattle.heap_meaning.specs.heap_places.Shapes.{word_in}
+use Rattle.ps_code_laws.specs.text_forms.Forms.{forms_of, forms_from, form_here, begins}
+use Rattle.ps_code_laws.specs.ps_meaning.Values.{Num, Text, Pointer}
+use Rattle.ps_code_laws.specs.ps_meaning.Objects.{Structure}
 use Rattle.heap_meaning.specs.Standing.{IsKindOf}
 use Rattle.heap_meaning.specs.Paired.{paired}
 use Rattle.volume_meaning.specs.Kept.{by_strings, an_object, a_table, Kept, KeptHeap}
@@ -311,7 +311,7 @@ worked_out = record {
   };
 }
 
--- And so does each image in which the words' spelling is held at the front.
+-- And so does each image in which the words' spelling is held at the start.
 in_images : (image behind : List ℕ) (commits : ℕ)
     → held_in image ≡ Some (holding (record { commits = commits; used = 69; directory = 1 }) (bytes_of (space 1 1).words ++ behind)) → Stands image heap
 unfolding space

@@ -2,8 +2,9 @@
 use Rattle.std.specs.Prelude.{◌≢◌, ℕ, zero, suc, ◌≤◌, ◌<ℤ◌, ℤ, List, [], ◌∷◌, length, Option, Some, None, ◌≡◌}
 use Rattle.std.specs.List.{AllByRecursion}
 use Rattle.std.specs.declared.cmp.Ordering.TheVariants.{Less}
-use Rattle.ps_meaning.specs.Objects.{Object}
-use Rattle.ps_meaning.specs.Texts.{order_of}
+use Rattle.ps_port.specs.ps_base.Limits.{most_databases, most_database_name_bytes, most_password_bytes}
+use Rattle.ps_code_laws.specs.ps_meaning.Objects.{Object}
+use Rattle.ps_code_laws.specs.ps_meaning.Texts.{order_of}
 
 -- Under a key a table has a structure or a table, by its number. Nil is under no key.
 pub record Entry (K : Type 0) : Type 0 where
@@ -50,7 +51,7 @@ name_numbered (d ∷ ds) zero = None
 name_numbered (d ∷ ds) (suc zero) = Some d.name
 name_numbered (d ∷ ds) (suc (suc number)) = name_numbered ds (suc number)
 
--- each key is below those behind it
+-- each key is below those after it
 abbrev pub AreRising : {K : Type 0} → (K → K → Type 0) → List (Entry K) → Type 0
 AreRising below [] = Unit {0}
 AreRising below (e ∷ es) = AllByRecursion (λ later. below e.key later.key) es × AreRising below es
@@ -61,19 +62,19 @@ AreInOrder without_keys = Unit {0}
 AreInOrder (by_strings entries) = AreRising (λ a b. order_of a b ≡ Less) entries
 AreInOrder (by_ints entries) = AreRising (λ a b. a <ℤ b) entries
 
--- a name has 1 to 64 bytes, a password at most 64
+-- a name has a byte, and it and a password have no more than their limits
 pub record IsDatabase (of : Database) : Type 0 where
   pub named : 1 ≤ length of.name
-  pub name : length of.name ≤ 64
-  pub password : length of.password ≤ 64
+  pub name : length of.name ≤ most_database_name_bytes
+  pub password : length of.password ≤ most_password_bytes
 
 -- no two have one name
 abbrev pub AreNamedOnce : List Database → Type 0
 AreNamedOnce [] = Unit {0}
 AreNamedOnce (d ∷ ds) = AllByRecursion (λ other. other.name ≢ d.name) ds × AreNamedOnce ds
 
--- there are at most 256 databases, each with a name of its own
+-- there are at most `most_databases` databases, each with a name of its own
 pub record AreDatabases (databases : List Database) : Type 0 where
-  pub few : length databases ≤ 256
+  pub few : length databases ≤ most_databases
   pub each : AllByRecursion IsDatabase databases
   pub once : AreNamedOnce databases

@@ -2,16 +2,16 @@
 use Rattle.std.specs.Prelude.{◌≡◌, ◌⊎◌, ℕ, ◌^◌, ◌<◌, List, [], take, drop, Option}
 use Rattle.std.specs.List.{AllByRecursion}
 use Rattle.std.specs.Option.{option_map}
-use Rattle.shadow_volume.specs.Found.{Held}
-use Rattle.shadow_volume.specs.Standing.{held_in}
-use Rattle.shadow_volume.specs.declared.note.Note.{Note}
-use Rattle.obj_layout.specs.declared.kind.Kind.TheVariants.{Structure, Table}
-use Rattle.obj_layout.specs.declared.reference.Reference.{Reference}
-use Rattle.obj_layout.specs.declared.reference.Reference.TheVariants.{Pid}
-use Rattle.obj_layout.specs.Stored.{Space, HasObject}
-use Rattle.obj_store.specs.Spaces.{space_of, space_held}
-use Rattle.swizzle.specs.Objects.{header_in}
-use Rattle.swizzle.specs.Joint.{Shown, shown_words}
+use Rattle.ps_volumes.specs.shadow_volume.Found.{Held}
+use Rattle.ps_volumes.specs.shadow_volume.Standing.{held_in}
+use Rattle.ps_volumes.specs.shadow_volume.declared.note.Note.{Note}
+use Rattle.ps_volumes.specs.obj_layout.declared.kind.Kind.TheVariants.{Structure, Table}
+use Rattle.ps_volumes.specs.obj_layout.declared.reference.Reference.{Reference}
+use Rattle.ps_volumes.specs.obj_layout.declared.reference.Reference.TheVariants.{Pid}
+use Rattle.ps_volumes.specs.obj_layout.Stored.{Space, HasObject}
+use Rattle.ps_volumes.specs.obj_store.Spaces.{space_of, space_held}
+use Rattle.heap_meaning.specs.swizzle.Objects.{header_in}
+use Rattle.heap_meaning.specs.swizzle.Joint.{Shown, shown_words}
 use Rattle.heap_meaning.specs.Standing.{Seen}
 
 -- a space of these words

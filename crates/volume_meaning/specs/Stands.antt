@@ -1,17 +1,17 @@
 -- An image of a volume stands for a heap: under a row of names, the PIDs of its things, what is seen in its space is what the heap keeps.
 use Rattle.std.specs.Prelude.{◌≡◌, ℕ, ◌≤◌, List, [], ◌∷◌, Option, Some, None}
 use Rattle.std.specs.List.{AllByRecursion}
-use Rattle.ps_outside.specs.Outside.{Outside}
-use Rattle.obj_layout.specs.declared.kind.Kind.TheVariants as kind
-use Rattle.obj_layout.specs.declared.reference.Reference.{Reference}
-use Rattle.obj_layout.specs.declared.reference.Reference.TheVariants.{Pid}
-use Rattle.obj_layout.specs.Objects.{Placed, HoldsObjects}
-use Rattle.obj_layout.specs.Stored.{Space}
-use Rattle.swizzle.specs.Joint.{Shown}
-use Rattle.heap_places.specs.Shapes.{word_in, IsText}
-use Rattle.ps_gen.specs.Units.{HasUnit}
-use Rattle.ps_meaning.specs.Values.{Value, Procedure, as_written}
-use Rattle.ps_meaning.specs.Objects.{Object, Structure, Elements, Scope}
+use Rattle.ps_port.specs.ps_outside.Outside.{Outside}
+use Rattle.ps_volumes.specs.obj_layout.declared.kind.Kind.TheVariants as kind
+use Rattle.ps_volumes.specs.obj_layout.declared.reference.Reference.{Reference}
+use Rattle.ps_volumes.specs.obj_layout.declared.reference.Reference.TheVariants.{Pid}
+use Rattle.ps_volumes.specs.obj_layout.Objects.{Placed, HoldsObjects}
+use Rattle.ps_volumes.specs.obj_layout.Stored.{Space}
+use Rattle.heap_meaning.specs.swizzle.Joint.{Shown}
+use Rattle.heap_meaning.specs.heap_places.Shapes.{word_in, IsText}
+use Rattle.ps_code_laws.specs.ps_gen.Units.{HasUnit}
+use Rattle.ps_code_laws.specs.ps_meaning.Values.{Value, Procedure, as_written}
+use Rattle.ps_code_laws.specs.ps_meaning.Objects.{Object, Structure, Elements, Scope}
 use Rattle.ps_code_laws.specs.Compiled.{compiled_object}
 use Rattle.ps_code_laws.specs.Literals.{BodyIs}
 use Rattle.heap_meaning.specs.Standing.{Seen, Pairing, IsKindOf, IsLike}

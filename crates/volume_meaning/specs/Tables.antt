@@ -1,17 +1,17 @@
--- What is seen of a table: its nodes, each with an entry, one behind the other.
+-- What is seen of a table: its nodes, each with an entry, one after the other.
 use Rattle.std.specs.Prelude.{◌≡◌, ℕ, zero, suc, ℤ, List, [], ◌∷◌, length, Some}
-use Rattle.obj_layout.specs.declared.kind.Kind.TheVariants as kind
-use Rattle.obj_layout.specs.declared.reference.Reference.{Reference}
-use Rattle.obj_layout.specs.declared.reference.Reference.TheVariants.{Nil}
-use Rattle.swizzle.specs.Joint.{Shown}
-use Rattle.heap_places.specs.Words.{int_in}
-use Rattle.heap_places.specs.Shapes.{slot_of, word_in, IsText}
-use Rattle.ps_meaning.specs.Values.{Pointer}
+use Rattle.ps_volumes.specs.obj_layout.declared.kind.Kind.TheVariants as kind
+use Rattle.ps_volumes.specs.obj_layout.declared.reference.Reference.{Reference}
+use Rattle.ps_volumes.specs.obj_layout.declared.reference.Reference.TheVariants.{Nil}
+use Rattle.heap_meaning.specs.swizzle.Joint.{Shown}
+use Rattle.heap_meaning.specs.heap_places.Words.{int_in}
+use Rattle.heap_meaning.specs.heap_places.Shapes.{slot_of, word_in, IsText}
+use Rattle.ps_code_laws.specs.ps_meaning.Values.{Pointer}
 use Rattle.heap_meaning.specs.Standing.{Seen, Pairing, IsKindOf, StandsFor}
 use Rattle.volume_meaning.specs.Kept.{Entry, Table, without_keys, by_strings, by_ints, AreInOrder}
 use Rattle.volume_meaning.specs.Space.{with_tables}
 
--- A node's key: the text that its third reference names, or the int that its word behind the home spells.
+-- A node's key: the text that its third reference names, or the int that its word after the home spells.
 abbrev pub IsStringKey : Seen → Shown → List ℕ → Type 0
 IsStringKey seen it key = IsText seen (slot_of it 2) key
 
@@ -30,7 +30,7 @@ pub record IsNode {K : Type 0} (seen : Seen) (pair : Pairing) (IsKey : Shown →
   pub is_key : IsKey it entry.key
   pub is_value : StandsFor (with_tables seen) pair value_name (Pointer entry.object)
 
--- from a name on there is a node for each entry, and none behind the last
+-- from a name on there is a node for each entry, and none after the last
 abbrev pub AreNodes : {K : Type 0} → Seen → Pairing → (Shown → K → Type 0) → Reference → List (Entry K) → Type 0
 AreNodes seen pair IsKey n [] = n ≡ Nil
 AreNodes seen pair IsKey n (e ∷ es) =
@@ -42,7 +42,7 @@ AreNodesOf seen pair root without_keys = root ≡ Nil
 AreNodesOf seen pair root (by_strings entries) = AreNodes seen pair (IsStringKey seen) root entries
 AreNodesOf seen pair root (by_ints entries) = AreNodes seen pair IsIntKey root entries
 
--- its number words behind the home: the kind of its keys, and how many entries it has
+-- its number words after the home: the kind of its keys, and how many entries it has
 abbrev pub key_kind : Table → ℕ
 key_kind without_keys = 0
 key_kind (by_strings entries) = 1
@@ -63,7 +63,7 @@ pub record IsTable (seen : Seen) (pair : Pairing) (it : Shown) (table : Table) :
   pub nodes : AreNodesOf seen pair root table
   pub ordered : AreInOrder table
 
--- so many nodes behind a name is this one
+-- so many nodes after a name is this one
 abbrev pub IsBehind : Seen → ℕ → Reference → Reference → Type 0
 IsBehind seen zero from n = from ≡ n
 IsBehind seen (suc count) from n = (it : Shown) × seen from it × (it.kind ≡ kind.Node) × IsBehind seen count (slot_of it 1) n

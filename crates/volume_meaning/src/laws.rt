@@ -1,14 +1,14 @@
 //! Which images stand for which heaps.
 
 ghost use Rattle.std.specs.Prelude.{◌≡◌, ℕ, ◌≤◌, Bool, List, [], ◌++◌, length, Some};
-ghost use Rattle.obj_area.specs.Words.{bytes_of, AreWords};
-ghost use Rattle.obj_layout.specs.Stored.{Space, IsSpace};
-ghost use Rattle.shadow_volume.specs.Layout.{gate};
-ghost use Rattle.shadow_volume.specs.Found.{Held, found_in, a_volume, no_volume, damaged};
-ghost use Rattle.shadow_volume.specs.declared.finding.Damage.{Damage};
-ghost use Rattle.shadow_volume.specs.Making.{IsNew};
-ghost use Rattle.shadow_volume.specs.Standing.{held_in};
-ghost use Rattle.shadow_volume.specs.declared.note.Note.{Note};
+ghost use Rattle.heap_meaning.specs.obj_area.Words.{bytes_of, AreWords};
+ghost use Rattle.ps_volumes.specs.obj_layout.Stored.{Space, IsSpace};
+ghost use Rattle.ps_volumes.specs.shadow_volume.Layout.{gate};
+ghost use Rattle.ps_volumes.specs.shadow_volume.Found.{Held, found_in, a_volume, no_volume, damaged};
+ghost use Rattle.ps_volumes.specs.shadow_volume.declared.finding.Damage.{Damage};
+ghost use Rattle.ps_volumes.specs.shadow_volume.Making.{IsNew};
+ghost use Rattle.ps_volumes.specs.shadow_volume.Standing.{held_in};
+ghost use Rattle.ps_volumes.specs.shadow_volume.declared.note.Note.{Note};
 ghost use Rattle.volume_meaning.specs.Kept.{KeptHeap};
 ghost use Rattle.volume_meaning.specs.Space.{holding, spaced, space_in, HoldSame};
 ghost use Rattle.volume_meaning.specs.Stands.{Stands, StandsSince};

@@ -8,4 +8,6 @@ mod forged;
 #[cfg(test)]
 mod images;
 #[cfg(test)]
+mod order;
+#[cfg(test)]
 mod stopping;

@@ -6,8 +6,7 @@ ghost use Rattle.shadow_volume.specs.Standing.{IsAlive};
 
 use crate::images::{ROOM, host_of, new_file};
 use memory_host::MemoryHost;
-use ps_port::HostFailed;
-use shadow_volume::{Note, OpenFault, Volume, format};
+use shadow_volume::{Note, OpenFault, Volume, VolumeFault, format};
 use std::alloc::Global;
 use std::test::Fail;
 
@@ -49,7 +48,7 @@ const SECOND: Content = Content {
 };
 
 /// The first byte of a page.
-fn first_byte(volume: &mut Volume<MemoryHost>, page: u32) -> Result<u8, HostFailed>
+fn first_byte(volume: &mut Volume<MemoryHost>, page: u32) -> Result<u8, VolumeFault>
     requires alive { IsAlive volume.old.live volume.old.committed volume.old.staged.items (outside_of volume.old.host) }
     requires page { page < 13 }
     ensures alive { OnOk result (IsAlive volume.new.live volume.new.committed volume.new.staged.items (outside_of volume.new.host)) }
@@ -60,7 +59,7 @@ fn first_byte(volume: &mut Volume<MemoryHost>, page: u32) -> Result<u8, HostFail
 }
 
 /// What a volume holds as it is staged.
-fn read(volume: &mut Volume<MemoryHost>) -> Result<Content, HostFailed>
+fn read(volume: &mut Volume<MemoryHost>) -> Result<Content, VolumeFault>
     requires alive { IsAlive volume.old.live volume.old.committed volume.old.staged.items (outside_of volume.old.host) }
 {
     let bytes = [
@@ -82,14 +81,14 @@ fn content_of(alloc: Global, bytes: &[u8]) -> Result<Content, OpenFault> {
     match Volume::attach(alloc, host) {
         Ok(volume) => {
             let mut volume = volume;
-            read(&mut volume).map_err(OpenFault::from)
+            read(&mut volume).map_err(|_| OpenFault::Device)
         }
         Err(refused) => Err(refused.cause),
     }
 }
 
 /// Stages the first three pages and commits them.
-fn change_first(volume: &mut Volume<MemoryHost>) -> Result<(), HostFailed>
+fn change_first(volume: &mut Volume<MemoryHost>) -> Result<(), VolumeFault>
     requires alive { IsAlive volume.old.live volume.old.committed volume.old.staged.items (outside_of volume.old.host) }
     ensures alive { OnOk result (IsAlive volume.new.live volume.new.committed volume.new.staged.items (outside_of volume.new.host)) }
 {
@@ -101,11 +100,11 @@ fn change_first(volume: &mut Volume<MemoryHost>) -> Result<(), HostFailed>
 }
 
 /// Stages the second page alone, and commits the first three, which are committed already.
-fn change_second(volume: &mut Volume<MemoryHost>) -> Result<(), HostFailed>
+fn change_second(volume: &mut Volume<MemoryHost>) -> Result<(), VolumeFault>
     requires alive { IsAlive volume.old.live volume.old.committed volume.old.staged.items (outside_of volume.old.host) }
 {
     if volume.note().used != 1025 {
-        return Err(HostFailed);
+        return Err(VolumeFault::Device);
     }
     let page = [9u8; 4096];
     volume.put_page(1, &page)?;
@@ -211,7 +210,7 @@ fn stands_for(alloc: Global, host: &MemoryHost, old: Content, new: Content, is_m
     !is_made || content_at(alloc, host, host.clock(), 255) == Ok(new)
 }
 
-/// The second change is made, where it is to be made, and then the volume lives. A stop leaves what was there before or behind it.
+/// The second change is made, where it is to be made, and then the volume lives. A stop leaves what was there before or after it.
 fn is_second_change(alloc: Global, volume: Volume<MemoryHost>, is_made: bool) -> bool
     requires alive { IsAlive volume.live volume.committed volume.staged.items (outside_of volume.host) }
 {

@@ -1,12 +1,12 @@
 -- What a slot of a closure denotes.
 use Rattle.std.specs.Prelude.{◌≡◌, ◌⊎◌, ℕ, [], ◌∷◌, Option, Some, None, Result, Ok, Err}
-use Rattle.ps_outside.specs.Outside.{Outside}
-use Rattle.obj_layout.specs.Stored.{Space}
-use Rattle.swizzle.specs.declared.fault.SwizzleFault.{SwizzleFault}
-use Rattle.swizzle.specs.Heap.{Heap, ref_at}
-use Rattle.swizzle.specs.Joint.{shown_at}
-use Rattle.swizzle.specs.Touch.{Denotes, IsTouchFault}
-use Rattle.swizzle.specs.Reading.{Reads, FailsReading}
+use Rattle.heap_places.specs.ps_outside.Outside.{Outside}
+use Rattle.heap_places.specs.obj_layout.Stored.{Space}
+use Rattle.heap_places.specs.swizzle.declared.fault.SwizzleFault.{SwizzleFault}
+use Rattle.heap_places.specs.swizzle.Heap.{Heap, ref_at}
+use Rattle.heap_places.specs.swizzle.Joint.{shown_at}
+use Rattle.heap_places.specs.swizzle.Touch.{Denotes, IsTouchFault}
+use Rattle.heap_places.specs.swizzle.Reading.{Reads, FailsReading}
 use Rattle.heap_places.specs.Shapes.{slot_of}
 use Rattle.heap_places.specs.Places.{NamesDamage}
 use Rattle.closures.specs.Closures.{IsNilSlot, closure_damage}

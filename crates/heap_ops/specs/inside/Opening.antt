@@ -1,13 +1,13 @@
 -- The object of a field, reached by its class and its shape.
 use Rattle.std.specs.Prelude.{◌≡◌, ℕ, List, Option, Some, None, Result, Ok, Err}
-use Rattle.ps_outside.specs.Outside.{Outside}
-use Rattle.obj_layout.specs.Stored.{Space}
-use Rattle.swizzle.specs.Heap.{Heap}
-use Rattle.swizzle.specs.Joint.{shown_at}
-use Rattle.swizzle.specs.Reading.{Reads, FailsReading}
-use Rattle.text_forms.specs.declared.forms.Rows.{Rows}
-use Rattle.heap_texts.specs.declared.fault.OpFault.{OpFault}
-use Rattle.heap_texts.specs.declared.fault.OpFault.TheVariants as op
+use Rattle.heap_places.specs.ps_outside.Outside.{Outside}
+use Rattle.heap_places.specs.obj_layout.Stored.{Space}
+use Rattle.heap_places.specs.swizzle.Heap.{Heap}
+use Rattle.heap_places.specs.swizzle.Joint.{shown_at}
+use Rattle.heap_places.specs.swizzle.Reading.{Reads, FailsReading}
+use Rattle.heap_places.specs.text_forms.declared.forms.Rows.{Rows}
+use Rattle.heap_places.specs.heap_texts.declared.fault.OpFault.{OpFault}
+use Rattle.heap_places.specs.heap_texts.declared.fault.OpFault.TheVariants as op
 use Rattle.heap_ops.specs.Structures.{HasFields, IsFieldTrap, FailsFields, class_of}
 
 -- A value denotes an object of the class with the shape of the class: this one.

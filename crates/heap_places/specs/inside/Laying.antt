@@ -1,11 +1,11 @@
 -- How values are laid into the rows of an object, one by one.
 use Rattle.std.specs.Prelude.{ℕ, ℤ, ◌+◌, ◌≤◌, List, [], ◌∷◌, ◌++◌, length, replicate, Option}
-use Rattle.obj_layout.specs.declared.kind.Kind.{Kind}
-use Rattle.obj_layout.specs.declared.reference.Reference.{Reference}
-use Rattle.obj_layout.specs.declared.reference.Reference.TheVariants.{Nil, Local}
-use Rattle.swizzle.specs.Objects.{Object}
-use Rattle.swizzle.specs.Heap.{Heap, header_at, blank}
-use Rattle.text_forms.specs.declared.forms.Rows.{Rows}
+use Rattle.heap_texts.specs.obj_layout.declared.kind.Kind.{Kind}
+use Rattle.heap_texts.specs.obj_layout.declared.reference.Reference.{Reference}
+use Rattle.heap_texts.specs.obj_layout.declared.reference.Reference.TheVariants.{Nil, Local}
+use Rattle.heap_texts.specs.swizzle.Objects.{Object}
+use Rattle.heap_texts.specs.swizzle.Heap.{Heap, header_at, blank}
+use Rattle.heap_texts.specs.text_forms.declared.forms.Rows.{Rows}
 use Rattle.heap_places.specs.declared.value.Value.{Value}
 use Rattle.heap_places.specs.declared.value.Value.TheVariants.{Num, Flag, Ref}
 use Rattle.heap_places.specs.Places.{with_value}
@@ -21,7 +21,7 @@ index_in next (Num z) = next.nums
 index_in next (Flag b) = next.nums
 index_in next (Ref to) = next.refs
 
--- the indexes behind it
+-- the indexes after it
 abbrev pub behind : Rows → Value → Rows
 behind next (Num z) = record next { nums = 1 + next.nums }
 behind next (Flag b) = record next { nums = 1 + next.nums }

@@ -1,11 +1,11 @@
 -- How the fields of a class are counted, one by one.
 use Rattle.std.specs.Prelude.{◌≡◌, ℕ, ◌+◌, ◌^◌, Option, Some, None}
-use Rattle.text_forms.specs.declared.forms.Form.{Form}
-use Rattle.text_forms.specs.declared.forms.Form.TheVariants.{Flag}
-use Rattle.text_forms.specs.Forms.{one_more}
+use Rattle.paired_ops.specs.text_forms.declared.forms.Form.{Form}
+use Rattle.paired_ops.specs.text_forms.declared.forms.Form.TheVariants.{Flag}
+use Rattle.paired_ops.specs.text_forms.Forms.{one_more}
 use Rattle.known_classes.specs.declared.makes.FieldRows.{FieldRows}
 
--- the bits with the mark of a field of this form, behind so many others among the numbers
+-- the bits with the mark of a field of this form, after so many others among the numbers
 abbrev pub marked_with : ℕ → ℕ → Form → ℕ
 marked_with bits count Flag = bits + 2 ^ count
 marked_with bits count _ = bits

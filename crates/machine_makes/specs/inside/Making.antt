@@ -1,25 +1,25 @@
 -- The values that an object is made of. They are laid out first, one of each form in the order of the object; then values are popped into their
 -- places, the last one first.
 use Rattle.std.specs.Prelude.{◌≡◌, ℕ, ◌≤◌, Bool, true, false, List, [], length, map, reverse, replicate, take, drop, Option, Some, None, IfSome}
-use Rattle.obj_layout.specs.declared.reference.Reference.{Reference}
-use Rattle.text_forms.specs.declared.forms.Form.{Form}
-use Rattle.text_forms.specs.declared.forms.Form.TheVariants as form
-use Rattle.heap_places.specs.declared.value.Value as code
-use Rattle.heap_places.specs.declared.value.Value.TheVariants as held
-use Rattle.text_forms.specs.Forms.{element_of}
+use Rattle.machine_values.specs.obj_layout.declared.reference.Reference.{Reference}
+use Rattle.machine_values.specs.text_forms.declared.forms.Form.{Form}
+use Rattle.machine_values.specs.text_forms.declared.forms.Form.TheVariants as form
+use Rattle.machine_values.specs.heap_places.declared.value.Value as code
+use Rattle.machine_values.specs.heap_places.declared.value.Value.TheVariants as held
+use Rattle.machine_values.specs.text_forms.Forms.{element_of}
 use Rattle.ps_base.specs.declared.line.Line.{Line}
-use Rattle.ps_meaning.specs.Values.{Value, Num, Text, Vector}
-use Rattle.ps_meaning.specs.Objects.{vector_of}
-use Rattle.ps_meaning.specs.Evaluation.{kept_as}
-use Rattle.ps_stepping.specs.Config.{Config}
-use Rattle.ps_stepping.specs.Steps.{Step, Stuck, pop_num, pop_ref, attempted}
-use Rattle.ps_stepping.specs.Objects.{pop_fields, make}
-use Rattle.paired_ops.specs.World.{DenotesIn}
-use Rattle.paired_ops.specs.Operands.{IsForIn, IsOfForm, AreForIn}
-use Rattle.machine_state.specs.declared.machine.Machine.{Machine}
-use Rattle.machine_state.specs.declared.stepped.Stepped.{Stepped}
-use Rattle.machine_state.specs.Holding.{HeldBy, IsSound}
-use Rattle.machine_state.specs.Stepped.{Does, KeepsSize}
+use Rattle.machine_values.specs.ps_meaning.Values.{Value, Num, Text, Vector}
+use Rattle.machine_values.specs.ps_meaning.Objects.{vector_of}
+use Rattle.machine_values.specs.ps_meaning.Evaluation.{kept_as}
+use Rattle.machine_values.specs.ps_stepping.Config.{Config}
+use Rattle.machine_values.specs.ps_stepping.Steps.{Step, Stuck, pop_num, pop_ref, attempted}
+use Rattle.machine_values.specs.ps_stepping.Objects.{pop_fields, make}
+use Rattle.machine_values.specs.paired_ops.World.{DenotesIn}
+use Rattle.machine_values.specs.paired_ops.Operands.{IsForIn, IsOfForm, AreForIn}
+use Rattle.machine_values.specs.machine_state.declared.machine.Machine.{Machine}
+use Rattle.machine_values.specs.machine_state.declared.stepped.Stepped.{Stepped}
+use Rattle.machine_values.specs.machine_state.Holding.{HeldBy, IsSound}
+use Rattle.machine_values.specs.machine_state.Stepped.{Does, KeepsSize}
 
 -- the form of a place that holds such a value
 abbrev pub form_of : code.Value → Form

@@ -1,14 +1,14 @@
 -- The values that a structure is made of at once, as they stand on the tops of the two stacks: each row in the order of its fields.
 use Rattle.std.specs.Prelude.{◌≡◌, ℕ, ◌/◌, ◌%◌, ◌<◌, ◌==◌, true, if◌then◌else◌, ℤ, List, [], ◌∷◌, ◌++◌, length, slice_index_or, Result, Ok, Err}
-use Rattle.swizzle.specs.declared.fault.SwizzleFault.{SwizzleFault}
-use Rattle.heap_texts.specs.declared.fault.OpFault.{OpFault}
-use Rattle.heap_texts.specs.declared.fault.OpFault.TheVariants.{Swizzle}
-use Rattle.heap_places.specs.declared.value.Value as code
-use Rattle.heap_places.specs.declared.value.Value.TheVariants as held
-use Rattle.heap_places.specs.Words.{int_word, flag_word}
-use Rattle.ps_meaning.specs.Operators.{is_int}
-use Rattle.ps_meaning.specs.Values.{is_one}
-use Rattle.machine_state.specs.Holding.{object_in}
+use Rattle.machine_values.specs.swizzle.declared.fault.SwizzleFault.{SwizzleFault}
+use Rattle.machine_values.specs.heap_texts.declared.fault.OpFault.{OpFault}
+use Rattle.machine_values.specs.heap_texts.declared.fault.OpFault.TheVariants.{Swizzle}
+use Rattle.machine_values.specs.heap_places.declared.value.Value as code
+use Rattle.machine_values.specs.heap_places.declared.value.Value.TheVariants as held
+use Rattle.machine_values.specs.heap_places.Words.{int_word, flag_word}
+use Rattle.machine_values.specs.ps_meaning.Operators.{is_int}
+use Rattle.machine_values.specs.ps_meaning.Values.{is_one}
+use Rattle.machine_values.specs.machine_state.Holding.{object_in}
 
 -- a number of a field, where the lowest bit tells whether the field is a bool
 abbrev pub kept_one : ℕ → ℤ → code.Value

@@ -2,16 +2,16 @@
 use Rattle.std.specs.Prelude.{◌≡◌, ℕ, ℤ, List, ◌∷◌, Option, Some}
 use Rattle.ps_base.specs.CodeUnit.{text}
 use Rattle.ps_base.specs.declared.line.Line.{Line}
-use Rattle.obj_layout.specs.declared.reference.Reference.{Reference}
-use Rattle.heap_places.specs.declared.value.Value as code
-use Rattle.ps_meaning.specs.Values.{Value}
-use Rattle.ps_stepping.specs.Config.{Config, constants_in}
-use Rattle.ps_stepping.specs.Steps.{Step, on, push_num, push_ref, pop_num, pop_ref}
-use Rattle.ps_stepping.specs.Objects.{field_ref}
-use Rattle.known_classes.specs.Reached.{HasValue}
-use Rattle.paired_ops.specs.World.{DenotesIn}
-use Rattle.machine_state.specs.declared.machine.Machine.{Machine}
-use Rattle.machine_state.specs.Holding.{HeldBy}
+use Rattle.machine_values.specs.obj_layout.declared.reference.Reference.{Reference}
+use Rattle.machine_values.specs.heap_places.declared.value.Value as code
+use Rattle.machine_values.specs.ps_meaning.Values.{Value}
+use Rattle.machine_values.specs.ps_stepping.Config.{Config, constants_in}
+use Rattle.machine_values.specs.ps_stepping.Steps.{Step, on, push_num, push_ref, pop_num, pop_ref}
+use Rattle.machine_values.specs.ps_stepping.Objects.{field_ref}
+use Rattle.machine_values.specs.known_classes.Reached.{HasValue}
+use Rattle.machine_values.specs.paired_ops.World.{DenotesIn}
+use Rattle.machine_values.specs.machine_state.declared.machine.Machine.{Machine}
+use Rattle.machine_values.specs.machine_state.Holding.{HeldBy}
 
 -- a number, or a reference, in the place of a structure
 abbrev pub number_for_one : ℤ → Config → Step

@@ -2,14 +2,14 @@
 use Rattle.std.specs.Prelude.{◌≡◌, ◌<◌, ℕ, true, false, List, length, Option, Some, None, if◌then◌else◌}
 use Rattle.ps_base.specs.CodeUnit.{UnitView}
 use Rattle.ps_base.specs.declared.line.Line.{Line}
-use Rattle.obj_layout.specs.declared.reference.Reference.{Reference}
-use Rattle.swizzle.specs.Heap as area
-use Rattle.ps_meaning.specs.Objects.{Heap}
-use Rattle.ps_meaning.specs.Values.{Value, Procedure, as_compiled}
-use Rattle.ps_stepping.specs.Config.{Config, frame_in}
-use Rattle.ps_stepping.specs.Steps.{Step, Stuck}
-use Rattle.ps_stepping.specs.Procedures.{call, takes_refs, unit_called}
-use Rattle.paired_ops.specs.World.{DenotesIn, IsWorld, Stands}
+use Rattle.paired_procedures.specs.obj_layout.declared.reference.Reference.{Reference}
+use Rattle.paired_procedures.specs.swizzle.Heap as area
+use Rattle.machine_state.specs.ps_meaning.Objects.{Heap}
+use Rattle.machine_state.specs.ps_meaning.Values.{Value, Procedure, as_compiled}
+use Rattle.machine_state.specs.ps_stepping.Config.{Config, frame_in}
+use Rattle.machine_state.specs.ps_stepping.Steps.{Step, Stuck}
+use Rattle.machine_state.specs.ps_stepping.Procedures.{call, takes_refs, unit_called}
+use Rattle.paired_procedures.specs.paired_ops.World.{DenotesIn, IsWorld, Stands}
 use Rattle.machine_state.specs.declared.body.Body.{Body}
 use Rattle.machine_state.specs.declared.machine.Machine.{Machine}
 use Rattle.machine_state.specs.declared.stepped.Stepped.{Stepped}

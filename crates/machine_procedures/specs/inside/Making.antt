@@ -1,16 +1,16 @@
 -- How an instruction ends that makes a scope or a procedure.
 use Rattle.std.specs.Prelude.{ℕ, List, Some}
 use Rattle.ps_base.specs.CodeUnit.{UnitView}
-use Rattle.obj_layout.specs.declared.reference.Reference.{Reference}
-use Rattle.proc_values.specs.Loaded.{IsUnit, IsFitUnit}
-use Rattle.ps_meaning.specs.Values.{Text, Procedure, as_compiled}
-use Rattle.ps_meaning.specs.Objects.{new_number}
-use Rattle.ps_meaning.specs.Scopes.{new_scope}
-use Rattle.ps_meaning.specs.Meaning.{and_object, and_closure}
-use Rattle.ps_stepping.specs.Config.{Config}
-use Rattle.ps_stepping.specs.Steps.{Step, on, push_ref}
-use Rattle.ps_stepping.specs.Objects.{holding}
-use Rattle.paired_ops.specs.World.{DenotesIn}
+use Rattle.paired_procedures.specs.obj_layout.declared.reference.Reference.{Reference}
+use Rattle.paired_procedures.specs.proc_values.Loaded.{IsUnit, IsFitUnit}
+use Rattle.machine_state.specs.ps_meaning.Values.{Text, Procedure, as_compiled}
+use Rattle.machine_state.specs.ps_meaning.Objects.{new_number}
+use Rattle.machine_state.specs.ps_meaning.Scopes.{new_scope}
+use Rattle.machine_state.specs.ps_meaning.Meaning.{and_object, and_closure}
+use Rattle.machine_state.specs.ps_stepping.Config.{Config}
+use Rattle.machine_state.specs.ps_stepping.Steps.{Step, on, push_ref}
+use Rattle.machine_state.specs.ps_stepping.Objects.{holding}
+use Rattle.paired_procedures.specs.paired_ops.World.{DenotesIn}
 use Rattle.machine_state.specs.declared.machine.Machine.{Machine}
 use Rattle.machine_state.specs.declared.stepped.Stepped.{Stepped}
 use Rattle.machine_state.specs.Holding.{HeldBy, IsSound}
@@ -25,7 +25,7 @@ abbrev pub with_procedure : UnitView → Config → Step
 with_procedure of c = push_ref (Procedure (as_compiled of) c.scope) (holding (and_closure c.store) c)
 
 module _ (old new : Machine) (answer : Stepped) where
-  -- what an answer comes to: the size is kept, and the step is what was answered
+  -- what an answer returns: the size is kept, and the step is what was answered
   abbrev pub Comes : Step → Type 0
   Comes s = KeepsSize answer old.sw new.sw × Does s answer new
 

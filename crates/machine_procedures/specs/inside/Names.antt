@@ -1,17 +1,17 @@
 -- Names of scopes that are read and written.
 use Rattle.std.specs.Prelude.{◌≡◌, ℕ, List, Option, Some, None}
-use Rattle.obj_layout.specs.declared.reference.Reference.{Reference}
-use Rattle.text_forms.specs.declared.forms.Form.{Form}
-use Rattle.text_forms.specs.Forms.{forms_of, form_in}
-use Rattle.heap_places.specs.declared.value.Value as code
-use Rattle.heap_places.specs.declared.value.Value.TheVariants as held
-use Rattle.ps_meaning.specs.Values.{Value}
-use Rattle.ps_meaning.specs.Meaning.{kept_name, with_kept_name}
-use Rattle.ps_stepping.specs.Config.{Config}
-use Rattle.ps_stepping.specs.Steps.{Step, Stuck}
-use Rattle.ps_stepping.specs.Objects.{changed, when_number, when_reference}
-use Rattle.ps_stepping.specs.Procedures.{at_level}
-use Rattle.paired_ops.specs.Operands.{IsForIn, IsOfForm}
+use Rattle.paired_procedures.specs.obj_layout.declared.reference.Reference.{Reference}
+use Rattle.machine_state.specs.text_forms.declared.forms.Form.{Form}
+use Rattle.machine_state.specs.text_forms.Forms.{forms_of, form_in}
+use Rattle.paired_procedures.specs.heap_places.declared.value.Value as code
+use Rattle.paired_procedures.specs.heap_places.declared.value.Value.TheVariants as held
+use Rattle.machine_state.specs.ps_meaning.Values.{Value}
+use Rattle.machine_state.specs.ps_meaning.Meaning.{kept_name, with_kept_name}
+use Rattle.machine_state.specs.ps_stepping.Config.{Config}
+use Rattle.machine_state.specs.ps_stepping.Steps.{Step, Stuck}
+use Rattle.machine_state.specs.ps_stepping.Objects.{changed, when_number, when_reference}
+use Rattle.machine_state.specs.ps_stepping.Procedures.{at_level}
+use Rattle.paired_procedures.specs.paired_ops.Operands.{IsForIn, IsOfForm}
 use Rattle.machine_state.specs.declared.machine.Machine.{Machine}
 use Rattle.machine_state.specs.declared.stepped.Stepped.{Stepped}
 use Rattle.machine_state.specs.Holding.{HeldBy, IsSound}

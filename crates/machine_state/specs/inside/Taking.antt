@@ -1,14 +1,14 @@
 -- What a part of an instruction takes from the machine.
 use Rattle.std.specs.Prelude.{◌≡◌, ℕ, ◌<◌, ℤ, true, false, List, [], ◌∷◌, Option, Some, None, length, IfSome}
-use Rattle.obj_layout.specs.declared.reference.Reference.{Reference}
-use Rattle.ps_meaning.specs.Values.{Value}
+use Rattle.known_classes.specs.obj_layout.declared.reference.Reference.{Reference}
+use Rattle.ps_stepping.specs.ps_meaning.Values.{Value}
 use Rattle.ps_stepping.specs.Config.{Config, frame_words}
 use Rattle.ps_stepping.specs.Machine.{Step, Stuck, pop_num, pop_ref, pop_two, pop_width, is_num_slot, is_ref_slot}
 use Rattle.machine_state.specs.declared.machine.Machine.{Machine}
 use Rattle.machine_state.specs.declared.stepped.Stepped.{Stepped}
 use Rattle.machine_state.specs.Stepped.{Does, KeepsSize}
 use Rattle.machine_state.specs.Holding.{Holds, HeldBy, IsSound, object_in}
-use Rattle.paired_ops.specs.World.{DenotesIn}
+use Rattle.known_classes.specs.paired_ops.World.{DenotesIn}
 
 -- What follows gets the number that was taken and the configuration that the machine holds then; or nothing is there to take.
 abbrev pub Gives : {T : Type 0} → List Reference → ((T → Config → Step) → Step) → Option T → Machine → Type 0
@@ -40,7 +40,7 @@ abbrev pub HasTwo : Config → Option (ℤ × ℤ) → Type 0
 HasTwo c None = (next : ℤ → ℤ → Config → Step) → pop_two c next ≡ Stuck
 HasTwo c (Some p) = (rest : List ℤ) × (c.nums ≡ p.1 ∷ p.0 ∷ rest)
 
--- The function's step behind the pop of two numbers is what was answered.
+-- The function's step after the pop of two numbers is what was answered.
 pub record TakesTwo (of : Config → Step) (old new : Machine) (answer : Stepped) : Type 0 where
   pub sound : IsSound new
   pub size : KeepsSize answer old.sw new.sw

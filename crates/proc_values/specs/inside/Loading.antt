@@ -1,12 +1,12 @@
 -- The steps in which a unit is loaded.
 use Rattle.std.specs.Prelude.{◌≡◌, ℕ, ◌+◌, List, ◌++◌, Result, Ok, Err, get_or}
 use Rattle.ps_base.specs.CodeUnit.{UnitView, unit, ConstantView, ConstantsView}
-use Rattle.obj_layout.specs.declared.kind.Kind.TheVariants.{Code}
-use Rattle.obj_layout.specs.declared.reference.Reference.{Reference}
-use Rattle.obj_layout.specs.declared.reference.Reference.TheVariants.{Nil, Local}
-use Rattle.swizzle.specs.declared.fault.SwizzleFault.{SwizzleFault}
-use Rattle.swizzle.specs.Heap.{Heap, IsHeld, IsMade, IsFull, blank, top_of}
-use Rattle.swizzle.specs.Objects.{Object, size_of}
+use Rattle.heap_texts.specs.obj_layout.declared.kind.Kind.TheVariants.{Code}
+use Rattle.heap_texts.specs.obj_layout.declared.reference.Reference.{Reference}
+use Rattle.heap_texts.specs.obj_layout.declared.reference.Reference.TheVariants.{Nil, Local}
+use Rattle.heap_texts.specs.swizzle.declared.fault.SwizzleFault.{SwizzleFault}
+use Rattle.heap_texts.specs.swizzle.Heap.{Heap, IsHeld, IsMade, IsFull, blank, top_of}
+use Rattle.heap_texts.specs.swizzle.Objects.{Object, size_of}
 use Rattle.heap_texts.specs.Texts.{wanted_of}
 use Rattle.proc_values.specs.Units.{code_nums, code_object, constant_objects, constants_objects, constants_places, constant_place, with_all, IsCut}
 

@@ -9,15 +9,15 @@ use Rattle.ps_tree.specs.Phrase.{Phrase, at, Sequence}
 use Rattle.ps_tree.specs.PhraseLists.{phrases_in}
 use Rattle.ps_program.specs.Node.{Node, Nodes}
 use Rattle.ps_program.specs.NodeView.{node_of, nodes_in}
-use Rattle.ps_scope.specs.Content.{Content, names_of}
+use Rattle.ps_checker.specs.ps_scope.Content.{Content, names_of}
 use Rattle.ps_type_text.specs.Members.{fields_of}
-use Rattle.ps_typing.specs.Names.{Names}
-use Rattle.ps_typing.specs.Checking.{Outcome, Gives}
+use Rattle.ps_slots.specs.ps_typing.Names.{Names}
+use Rattle.ps_slots.specs.ps_typing.Checking.{Outcome, Gives}
 use Rattle.ps_check.specs.declared.check.Whole.{Whole}
 use Rattle.ps_check.specs.declared.program.Measured.{Measured}
 use Rattle.ps_check.specs.declared.program.MeasuredItems.{MeasuredItems}
-use Rattle.ps_declared.specs.declared.fault.CheckFault.{CheckFault}
-use Rattle.ps_declared.specs.inside.Answers.{IsFault}
+use Rattle.ps_checker.specs.ps_declared.declared.fault.CheckFault.{CheckFault}
+use Rattle.ps_checker.specs.ps_declared.inside.Answers.{IsFault}
 use Rattle.ps_slots.specs.inside.Sizes.{size, size_of, size_items}
 
 -- its tree, its names by their numbers, and how large the tree is

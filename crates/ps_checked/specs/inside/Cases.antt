@@ -4,9 +4,9 @@ use Rattle.ps_base.specs.TyView.{TyView, ty_view}
 use Rattle.ps_tree.specs.Phrase.{Arm, arm}
 use Rattle.ps_program.specs.Node as node
 use Rattle.ps_program.specs.inside.PartsView.{arms_in}
-use Rattle.ps_scope.specs.Content.{Content, names_of}
-use Rattle.ps_typing.specs.Names.{Names}
-use Rattle.ps_typing.specs.Checking.{Outcome, Gives, ◌>>=◌, check, check_each, checkers, line_of, like, first_type}
+use Rattle.ps_declared.specs.ps_scope.Content.{Content, names_of}
+use Rattle.ps_declared.specs.ps_typing.Names.{Names}
+use Rattle.ps_declared.specs.ps_typing.Checking.{Outcome, Gives, ◌>>=◌, check, check_each, checkers, line_of, like, first_type}
 use Rattle.ps_declared.specs.declared.fault.CheckFault.{CheckFault}
 use Rattle.ps_checked.specs.declared.arms.Arms.{Arms}
 use Rattle.ps_declared.specs.inside.Answers.{IsFault}

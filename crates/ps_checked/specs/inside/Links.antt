@@ -1,4 +1,4 @@
--- A chain of operators and applications: its links, which come behind its innermost left operand.
+-- A chain of operators and applications: its links, which come after its innermost left operand.
 use Rattle.std.specs.Prelude.{List, [], ◌∷◌}
 use Rattle.ps_base.specs.TyView.{TyView}
 use Rattle.ps_base.specs.TyView as types
@@ -7,7 +7,7 @@ use Rattle.ps_tree.specs.Phrase.{Phrase, Phrases, phrase_of}
 use Rattle.ps_tree.specs.PhraseLists.{phrases_in}
 use Rattle.ps_program.specs.Node.{Node}
 use Rattle.ps_program.specs.Node as node
-use Rattle.ps_typing.specs.Checking.{Outcome, Gives, ◌>>=◌, check, line_of, wants, value_applied, checkers}
+use Rattle.ps_declared.specs.ps_typing.Checking.{Outcome, Gives, ◌>>=◌, check, line_of, wants, value_applied, checkers}
 use Rattle.ps_checked.specs.declared.link.Joint.{Joint}
 use Rattle.ps_checked.specs.declared.link.Joint.TheVariants as joint
 use Rattle.ps_checked.specs.declared.link.Link.{Link}
@@ -25,7 +25,7 @@ joint_node joint.And a b = node.And a b
 joint_node (joint.Join line) a b = node.Join a b line
 joint_node (joint.Arith op line) a b = node.Arith op a b line
 
--- an operator behind a left operand, which begins on this line
+-- an operator after a left operand, which begins on this line
 abbrev pub joined : Joint → Line → Phrase → Outcome Node → Outcome Node
 joined kind left_line right left =
     wants (joint_ty kind) left_line left >>= λ a t names.
@@ -45,7 +45,7 @@ check_link (link.Operator kind left_line right) left = joined kind left_line (ph
 check_link (link.Apply line args) left = applied_to line (phrases_in args.now) left
 check_link (link.Part line left_line i n) left = parted line left_line (phrase_of i.now) (phrase_of n.now) left
 
--- the links of a chain, the outermost first, behind its innermost left operand
+-- the links of a chain, the outermost first, after its innermost left operand
 abbrev pub check_links : List Link → Outcome Node → Outcome Node
 check_links [] innermost = innermost
 check_links (link ∷ links) innermost = check_link link (check_links links innermost)

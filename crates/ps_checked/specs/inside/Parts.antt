@@ -8,9 +8,9 @@ use Rattle.ps_program.specs.Assigning.{assignment}
 use Rattle.ps_program.specs.Node.{Node}
 use Rattle.ps_program.specs.Node as node
 use Rattle.ps_program.specs.NodeView.{node_of}
-use Rattle.ps_typing.specs.Library.{caller}
-use Rattle.ps_typing.specs.Names.{Names, meant}
-use Rattle.ps_typing.specs.Checking.{Outcome, Gives, ◌>>=◌, check, line_of, wants, passes, introduced, is_of, assigned, isnt_void}
+use Rattle.ps_declared.specs.ps_typing.Library.{caller}
+use Rattle.ps_declared.specs.ps_typing.Names.{Names, meant}
+use Rattle.ps_declared.specs.ps_typing.Checking.{Outcome, Gives, ◌>>=◌, check, line_of, wants, passes, introduced, is_of, assigned, isnt_void}
 use Rattle.ps_checked.specs.declared.fits.Test.{Test}
 use Rattle.ps_checked.specs.declared.fits.Test.TheVariants as test
 use Rattle.ps_checked.specs.declared.wanted.Wanted.{Wanted}

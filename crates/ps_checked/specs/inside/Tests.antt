@@ -2,7 +2,7 @@
 use Rattle.std.specs.Prelude.{Bool}
 use Rattle.ps_base.specs.TyView.{TyView}
 use Rattle.ps_base.specs.TyView as types
-use Rattle.ps_typing.specs.Checking.{is_vector, is_equated, is_comparable, is_writable, isnt_void}
+use Rattle.ps_declared.specs.ps_typing.Checking.{is_vector, is_equated, is_comparable, is_writable, isnt_void}
 use Rattle.ps_checked.specs.declared.fits.Test.{Test}
 use Rattle.ps_checked.specs.declared.fits.Test.TheVariants as test
 

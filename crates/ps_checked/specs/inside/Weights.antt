@@ -66,7 +66,7 @@ abbrev mutual
   pub weight_item : WriteItem → ℕ
   weight_item (item e w line) = weight e + weight_if_any w
 
--- what comes behind the left operand of a link
+-- what comes after the left operand of a link
 abbrev pub weight_link : Link → ℕ
 weight_link (link.Operator kind left_line right) = weight (phrase_of right.now)
 weight_link (link.Apply line args) = weight_all (phrases_in args.now)

@@ -1,7 +1,7 @@
 use Rattle.std.proofs.Common.{List, true, false, Some, refl, sym, ap, ◌∙◌, arith}
 use Rattle.ps_base.specs.TyView.{TyView}
 use Rattle.ps_base.specs.declared.line.Line.{Line}
-use Rattle.ps_symbols.specs.declared.kind.Kind.TheVariants as kind
+use Rattle.ps_tree.specs.ps_symbols.declared.kind.Kind.TheVariants as kind
 use Rattle.ps_tree.specs.Phrase.{Phrase, NameAt, GroupAt, Arm, no_arms, none, more, WriteItem, phrase_of}
 use Rattle.ps_tree.specs.Phrase as form
 use Rattle.ps_tree.specs.Composing.{and_item}
@@ -12,7 +12,7 @@ use Rattle.ps_reader.proofs.Rows.{opens, goes_as, goes_by, halts_by}
 use Rattle.ps_clauses.proofs.Rows.{items_other, item_other, choice_other, cases_other, width_other, written_other, assignment_other, relative_other, applied_other, arguments_other, second_argument_other, clause_opens, item_stands, primary_as, operated, not_operated, compares_there, is_there, not_related, no_sign, passed, labels_list, arguments_list, elements_list, between_optional, step_optional, binds, binds_not, phrases_begin, phrases_again, phrases_first, arms_begin, arms_again, items_begin, written_again}
 use Rattle.ps_clauses.proofs.+parsing.Goals as goal
 
--- what stands behind the name of a `let`, of a procedure and of a `for`
+-- what stands after the name of a `let`, of a procedure and of a `for`
 abbrev let_name : Line → NameAt → Rule
 let_name line name = Go (Binding line name)
 
@@ -22,11 +22,11 @@ procedure_name line name = clause_of (Go (Literal line)) (λ e. give (form.Let n
 abbrev for_name : Line → NameAt → Rule
 for_name line name = skip kind.Equals (with_clause (λ a. skip kind.To (with_clause (λ b. Go (Step line name a b)))))
 
--- what stands behind the parameters and the result of a procedure
+-- what stands after the parameters and the result of a procedure
 abbrev procedure_body : Line → List GroupAt → TyView → Rule
 procedure_body line params gives = skip kind.Semicolon (with_clause (λ s. give (form.Proc params gives s) line))
 
--- what stands behind the type of the elements of a vector
+-- what stands after the type of the elements of a vector
 abbrev each_type : Line → Phrase → TyView → Rule
 each_type line l t = skip kind.OpenSquare (with_clause (λ first. Go (MoreElements line l t (more first none))))
 

@@ -1,6 +1,6 @@
 use Rattle.std.proofs.Common.{ℕ, ◌+◌, ◌-◌, ◌*◌, length}
-use Rattle.ps_symbols.specs.declared.kind.Level.{Level}
-use Rattle.ps_symbols.specs.declared.kind.Level.TheVariants.{Disjunction, Conjunction, Sum, Product}
+use Rattle.ps_tree.specs.ps_symbols.declared.kind.Level.{Level}
+use Rattle.ps_tree.specs.ps_symbols.declared.kind.Level.TheVariants.{Disjunction, Conjunction, Sum, Product}
 use Rattle.ps_tree.specs.Phrase.{Phrases, none, more, phrase_of}
 use Rattle.ps_tree.specs.PhraseLists.{phrases_in, arms_in, items_in}
 use Rattle.ps_tree.specs.Composing.{and_item}

@@ -1,19 +1,19 @@
 -- What an answer of the compiler says of the text.
 use Rattle.std.specs.Prelude.{◌≡◌, ◌≢◌, ℕ, List, [], Some, None, Option, codes}
 use Rattle.ps_base.specs.declared.line.Line.{Line}
-use Rattle.ps_scan.specs.declared.token.Token.{Token}
-use Rattle.ps_scan.specs.declared.fault.ScanFault.TheVariants as scan_fault
-use Rattle.ps_scan.specs.Tokens.{HasTokens, HasFault}
-use Rattle.ps_scan.specs.Fault as scanning
+use Rattle.ps_causes.specs.ps_scan.declared.token.Token.{Token}
+use Rattle.ps_causes.specs.ps_scan.declared.fault.ScanFault.TheVariants as scan_fault
+use Rattle.ps_causes.specs.ps_scan.Tokens.{HasTokens, HasFault}
+use Rattle.ps_causes.specs.ps_scan.Fault as scanning
 use Rattle.ps_tree.specs.declared.fault.ParseFault.TheVariants as parse_fault
 use Rattle.ps_tree.specs.Phrase.{Phrase}
-use Rattle.ps_parse.specs.Program.{ReadsAs, IsParseFault}
+use Rattle.ps_causes.specs.ps_parse.Program.{ReadsAs, IsParseFault}
 use Rattle.ps_tree.specs.Fault as parsing
-use Rattle.ps_built.specs.Library.{first_unbuilt_library}
+use Rattle.ps_causes.specs.ps_built.Library.{first_unbuilt_library}
 use Rattle.ps_program.specs.Node.{BodyNode}
-use Rattle.ps_typing.specs.Fault.{Fault}
-use Rattle.ps_typing.specs.Program.{check_program, Typed}
-use Rattle.ps_declared.specs.Faults as checking
+use Rattle.ps_causes.specs.ps_typing.Fault.{Fault}
+use Rattle.ps_causes.specs.ps_typing.Program.{check_program, Typed}
+use Rattle.ps_check.specs.ps_declared.Faults as checking
 use Rattle.ps_causes.specs.Source.{IsCheckFault}
 use Rattle.ps_causes.specs.Source as rules
 use Rattle.ps_command.specs.declared.source_fault.SourceFault.{SourceFault}

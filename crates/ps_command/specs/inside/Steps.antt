@@ -4,19 +4,19 @@ use Rattle.std.specs.List.{AllByRecursion}
 use Rattle.ps_base.specs.CodeUnit.{unit_view}
 use Rattle.ps_base.specs.declared.code_unit.CodeUnit.{CodeUnit}
 use Rattle.ps_program.specs.Node.{BodyNode}
-use Rattle.ps_typing.specs.Program.{bodies, first_complex}
-use Rattle.ps_typing.specs.WellTyped.{IsWellTyped}
-use Rattle.ps_soundness.specs.Running.{BodyRuns}
-use Rattle.ps_soundness.specs.Shapes.{type_of_body}
-use Rattle.ps_soundness.specs.Valued.{IsValued}
-use Rattle.ps_gen.specs.Units.{unit_of, HasUnit}
-use Rattle.ps_words.specs.Words.{RunOf}
-use Rattle.ps_meaning.specs.Runs.{run_events, fresh_store}
-use Rattle.ps_meaning.specs.Weights.{code_weight}
-use Rattle.ps_stepping.specs.Config.{Config, start}
-use Rattle.ps_stepping.specs.Machine.{Runs}
-use Rattle.machine_state.specs.declared.machine.Machine.{Machine}
-use Rattle.machine_state.specs.Holding.{Holds, IsSound}
+use Rattle.ps_causes.specs.ps_typing.Program.{bodies, first_complex}
+use Rattle.ps_causes.specs.ps_typing.WellTyped.{IsWellTyped}
+use Rattle.ps_code_laws.specs.ps_soundness.Running.{BodyRuns}
+use Rattle.ps_code_laws.specs.ps_soundness.Shapes.{type_of_body}
+use Rattle.ps_code_laws.specs.ps_soundness.Valued.{IsValued}
+use Rattle.ps_unit_weights.specs.ps_gen.Units.{unit_of, HasUnit}
+use Rattle.ps_causes.specs.ps_words.Words.{RunOf}
+use Rattle.ps_causes.specs.ps_meaning.Runs.{run_events, fresh_store}
+use Rattle.ps_causes.specs.ps_meaning.Weights.{code_weight}
+use Rattle.ps_code_laws.specs.ps_stepping.Config.{Config, start}
+use Rattle.ps_code_laws.specs.ps_stepping.Machine.{Runs}
+use Rattle.stack_machine.specs.machine_state.declared.machine.Machine.{Machine}
+use Rattle.stack_machine.specs.machine_state.Holding.{Holds, IsSound}
 use Rattle.ps_causes.specs.Command.{area_size}
 
 -- This unit is that of a program that can be run: one that is well typed, of which all runs, each of whose bodies takes and gives values, has slots

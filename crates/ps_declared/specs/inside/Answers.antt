@@ -6,9 +6,9 @@ use Rattle.ps_program.specs.Node.{Node}
 use Rattle.ps_program.specs.NodeView.{node_of}
 use Rattle.ps_tree.specs.Phrase.{Form}
 use Rattle.ps_scope.specs.Content.{Content, names_of}
-use Rattle.ps_typing.specs.Fault.{Fault}
-use Rattle.ps_typing.specs.Names.{Names}
-use Rattle.ps_typing.specs.Checking.{Outcome, Gives, Refuses, check_form}
+use Rattle.ps_scope.specs.ps_typing.Fault.{Fault}
+use Rattle.ps_scope.specs.ps_typing.Names.{Names}
+use Rattle.ps_scope.specs.ps_typing.Checking.{Outcome, Gives, Refuses, check_form}
 use Rattle.ps_declared.specs.Faults.{fault_of}
 use Rattle.ps_declared.specs.declared.clause.Clause.{Clause}
 use Rattle.ps_declared.specs.declared.fault.CheckFault.{CheckFault}
@@ -22,7 +22,7 @@ Refused outcome (Some fault) = outcome ≡ Refuses fault
 pub record IsFault {A : Type 0} (outcome : Outcome A) (fault : CheckFault) : Type 0 where
   pub is : Refused outcome (fault_of fault)
 
--- a clause, with its tree and its type, and the names behind it
+-- a clause, with its tree and its type, and the names after it
 abbrev pub IsClause : Outcome Node → Result Clause CheckFault → Content → Type 0
 IsClause outcome result scope = MatchResult result (λ clause. outcome ≡ Gives (node_of clause.tree) (ty_view clause.ty) (names_of scope)) (IsFault outcome)
 

@@ -11,9 +11,9 @@ use Rattle.ps_program.specs.declared.place.Place.TheVariants.{Plain}
 use Rattle.std.specs.declared.alloc.Global.{Global}
 use Rattle.std.specs.declared.vec.Vec.{Vec}
 use Rattle.ps_scope.specs.Content.{Content, names_of}
-use Rattle.ps_typing.specs.Names.{Names, declare_local, declare_field, is_declared, is_field_declared}
-use Rattle.ps_typing.specs.Fault.{Twice}
-use Rattle.ps_typing.specs.Checking.{Outcome, Gives, Refuses}
+use Rattle.ps_scope.specs.ps_typing.Names.{Names, declare_local, declare_field, is_declared, is_field_declared}
+use Rattle.ps_scope.specs.ps_typing.Fault.{Twice}
+use Rattle.ps_scope.specs.ps_typing.Checking.{Outcome, Gives, Refuses}
 use Rattle.ps_declared.specs.declared.fault.CheckFault.{CheckFault}
 use Rattle.ps_declared.specs.inside.Answers.{IsFault}
 

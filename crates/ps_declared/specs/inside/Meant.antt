@@ -2,7 +2,7 @@
 use Rattle.std.specs.Prelude.{ℕ, Bool, List, Option, Some, None, if◌then◌else◌}
 use Rattle.ps_program.specs.Node.{Node}
 use Rattle.ps_program.specs.Node as node
-use Rattle.ps_typing.specs.Names.{Meaning, class}
+use Rattle.ps_scope.specs.ps_typing.Names.{Meaning, class}
 
 -- a class, where one is meant
 abbrev pub class_meant : Option Meaning → Option Meaning

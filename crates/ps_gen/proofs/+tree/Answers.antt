@@ -22,7 +22,7 @@ use Rattle.ps_program.specs.inside.PartsView.{arms_in}
 use Rattle.ps_program.specs.inside.Weights.{weight, weight_all}
 use Rattle.ps_program.proofs.NodeLists.{block_is, make_is, lib_is, elems_is, call_is, case_is}
 use Rattle.ps_program.proofs.NodeSteps.{nodes_from, arms_from, weight_at, weight_arm_at}
-use Rattle.ps_type_text.specs.Texts.{type_text}
+use Rattle.ps_emitter.specs.ps_type_text.Texts.{type_text}
 use Rattle.ps_gen.specs.Emission.{size}
 use Rattle.ps_gen.specs.Units.{row_of}
 use Rattle.ps_gen.specs.inside.Steps.{Ends}
@@ -758,7 +758,7 @@ tree::tree-returns-in_err-known t c = IfOk-from_err _ _ c.from_residual-in_err-k
 pub tree::tree-returns-in_err-behind : goal.tree::tree-returns-in_err-behind
 tree::tree-returns-in_err-behind t c = IfOk-from_err _ _ c.from_residual-in_err-behind.ensures.0
 
--- the loops go forward, and the arms that read behind a box or a count
+-- the loops go forward, and the arms that read after a box or a count
 
 pub tree::form-returns-in-For : goal.tree::form-returns-in-For
 tree::form-returns-in-For t c =

@@ -9,13 +9,13 @@ use Rattle.ps_base.specs.declared.instr.Instr.TheVariants as instr
 use Rattle.ps_program.specs.declared.place.Place.{Place}
 use Rattle.ps_program.specs.Node.{Param, Node, Nodes, none, more, Arms, no_arms, more_arms, arm, BodyNode, body}
 use Rattle.ps_program.specs.Node as node
-use Rattle.ps_type_text.specs.Texts.{type_text}
-use Rattle.ps_typing.specs.Locals.{taken_in}
+use Rattle.ps_emitter.specs.ps_type_text.Texts.{type_text}
+use Rattle.ps_emitter.specs.ps_typing.Locals.{taken_in}
 use Rattle.ps_emitter.specs.Giving.{element_of}
 use Rattle.ps_emitter.specs.Choices as choice
 use Rattle.ps_gen.specs.Emission.{size, size_all, size_arms, size_labels, size_entered, size_left, count, count_all, count_arms, count_scope, entered, left, items_in, emit, emit_all, emit_arms, emit_labels}
 use Rattle.ps_gen.specs.Units.{constants, constants_of_all, constants_of_arms, scope_constants, unit_of, kept_at, size_kept_at, keeps, size_keeps}
-use Rattle.ps_typing.specs.Placing.{is_number}
+use Rattle.ps_emitter.specs.ps_typing.Placing.{is_number}
 use Rattle.ps_emitter.specs.declared.forward.Forward.{Forward}
 use Rattle.ps_emitter.specs.declared.forward.Forward.TheVariants as forward
 use Rattle.ps_gen.specs.inside.Literals.{literals_in, literals_in_all, literals_in_arms}
@@ -54,7 +54,7 @@ leaving scope = record { shape = record { ends = λ at. at + size_left scope; na
 abbrev pub jumping : Forward → Piece → Piece
 jumping jump p = to_behind (λ end. end) (λ t. one (jump_of jump t) ▷ p)
 
--- the code behind the first part, which is of this type
+-- the code after the first part, which is of this type
 abbrev pub behind_of : TyView → Node → Piece
 behind_of before (node.SetName place ty e) = one (choice.set place ty)
 behind_of before (node.Let place ty e) = one (choice.set place ty) ▷ taking place ty
@@ -76,7 +76,7 @@ behind_of before (node.Bound v upper) = one (choice.bound upper)
 behind_of before (node.Call f args line) = clauses args ▷ one (instr.Call (choice.reference_arguments before) line)
 behind_of before _ = empty
 
--- the code of a `for` behind its limits
+-- the code of a `for` after its limits
 abbrev pub loop : ℕ → Option (List ℕ) → Place → Node → Line → Piece
 loop slot scope control s line =
     from_begin (λ begin. to_behind (λ end. end) (λ t. one (instr.ForStart slot t line) ▷ (entering scope ▷ (one (instr.GetM slot) ▷ (one (choice.set control types.Int) ▷ (clause s ▷ (leaving scope ▷ one (instr.ForNext slot (begin + 13)))))))))
@@ -123,7 +123,7 @@ arm_of ty labels a t =
     to_behind (λ end. end + 5) (labels_of ty labels)
     ▷ (to_behind (λ end. end + 5) (λ next. one (instr.Jump next) ▷ (one (choice.by_type ty instr.DropM instr.DropP) ▷ clause a)) ▷ one (instr.Jump t))
 
--- what keeps the parameters, behind so many on each stack
+-- what keeps the parameters, after so many on each stack
 unfoldable pub keeping : List Param → ℕ → ℕ → Piece
 keeping params nums refs = record { shape = record { ends = λ at. at + size_keeps params; names = λ k. k; constants = []; nums = 0; refs = 0; literals = [] }; instrs = λ at k. keeps params nums refs }
 

@@ -8,7 +8,7 @@ use Rattle.ps_base.specs.declared.instr.Instr.TheVariants as instr
 use Rattle.ps_program.specs.declared.form.Tree.{Tree}
 use Rattle.ps_program.specs.Node.{Param, Node, BodyNode}
 use Rattle.ps_program.specs.Node as node
-use Rattle.ps_typing.specs.Locals.{taken_by_params}
+use Rattle.ps_emitter.specs.ps_typing.Locals.{taken_by_params}
 use Rattle.ps_emitter.specs.Choices as choice
 use Rattle.ps_emitter.specs.Giving.{type_of}
 use Rattle.ps_emitter.specs.Pieces.{State, Puts, AreInstrs, one, constant}
@@ -36,7 +36,7 @@ pub record IsBegun (params : List Param) (gives : TyView) (scope : Option (List 
   pub nums : counts.nums ≡ taken_by_params true params
   pub refs : counts.refs ≡ taken_by_params false params
 
--- the unit that the code of a body ends as, behind that of its clause
+-- the unit that the code of a body ends as, after that of its clause
 pub record Ends (gives : TyView) (counts : Counts) (now : State) (made : UnitView) : Type 0 where
   pub end : State
   pub puts : Puts (one (instr.Return (choice.kind_of gives))) now end

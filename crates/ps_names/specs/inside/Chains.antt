@@ -6,8 +6,8 @@ use Rattle.ps_program.specs.Node as node
 use Rattle.ps_program.specs.inside.Weights.{weight, weight_all}
 use Rattle.ps_placer.specs.declared.placer.Placer.{Placer}
 use Rattle.ps_placer.specs.inside.Standing.{Stands}
-use Rattle.ps_typing.specs.Placing.{Around, Locals}
-use Rattle.ps_typing.specs.Placed.{Given, gives, ◌>>=◌, then_give, placed, placed_all}
+use Rattle.ps_placer.specs.ps_typing.Placing.{Around, Locals}
+use Rattle.ps_placer.specs.ps_typing.Placed.{Given, gives, ◌>>=◌, then_give, placed, placed_all}
 
 -- the operators and what is applied to a value: there may be as many of them as the text is long
 abbrev pub is_link : Node → Bool
@@ -56,7 +56,7 @@ rewound (node.Element v i ty line) x = rewound v (node.Element x i ty line)
 rewound (node.Call f args line) x = rewound f (node.Call x args line)
 rewound _ x = x
 
--- A clause; or of a link what stands behind its first part, which has its places.
+-- A clause; or of a link what stands after its first part, which has its places.
 abbrev pub placed_parts : Around → Locals → Node → Given Node
 placed_parts around locals (node.And a b) = then_give (λ b. node.And a b) (placed around locals b)
 placed_parts around locals (node.Or a b) = then_give (λ b. node.Or a b) (placed around locals b)

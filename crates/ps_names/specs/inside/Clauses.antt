@@ -1,4 +1,4 @@
--- Several clauses, one behind the other.
+-- Several clauses, one after the other.
 use Rattle.std.specs.Prelude.{ℕ, ◌+◌, List, Option}
 use Rattle.ps_base.specs.TyView.{TyView}
 use Rattle.ps_program.specs.declared.form.Loop.{Loop}
@@ -6,9 +6,9 @@ use Rattle.ps_program.specs.declared.place.Place.{Place}
 use Rattle.ps_program.specs.Node.{Node, Nodes, Arm, arm, Arms}
 use Rattle.ps_program.specs.Node as node
 use Rattle.ps_program.specs.NodeView.{node_of}
-use Rattle.ps_typing.specs.Mentions.{common, number_of}
-use Rattle.ps_typing.specs.Placing.{Around, Locals, place_of, scope_text, inside, declared, with_declared}
-use Rattle.ps_typing.specs.Placed.{Given, ◌>>=◌, then_give, placed, placed_all, placed_arms}
+use Rattle.ps_placer.specs.ps_typing.Mentions.{common, number_of}
+use Rattle.ps_placer.specs.ps_typing.Placing.{Around, Locals, place_of, scope_text, inside, declared, with_declared}
+use Rattle.ps_placer.specs.ps_typing.Placed.{Given, ◌>>=◌, then_give, placed, placed_all, placed_arms}
 
 abbrev pub loop_of : Loop → Node
 loop_of it = node.For it.slot (node_of it.a) (node_of it.b) (node_of it.c) it.scope it.control (node_of it.s) it.line

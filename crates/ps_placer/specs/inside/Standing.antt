@@ -80,6 +80,6 @@ pub record Hides (name position : ℕ) (old new : Placer) (before after : List H
   pub found : Sets name (Some (spot old.scopes position)) old.spots new.spots
   pub hidden : after ≡ before ++ record { name = name; spot = value_at old.spots name } ∷ []
 
--- what is done where a clause stands gives what it should, and the placer stands behind it
+-- what is done where a clause stands gives what it should, and the placer stands after it
 pub record Does {A : Type 0} (does : Around → Locals → Given A) (old : Placer) (made : A) (new : Placer) : Type 0 where
   pub at : (around : Around) (locals : Locals) → Stands old around locals → (made ≡ (does around locals).of) × Stands new around (does around locals).locals

@@ -2,14 +2,14 @@
 use Rattle.std.specs.Prelude.{◌≡◌, ◌≢◌, ℕ, ◌+◌, ◌≤◌, List, Bool, true, false, Option, Some, None, length, slice_get, MatchOption, MatchResult}
 use Rattle.std.specs.List.{All}
 use Rattle.std.specs.declared.result.Result.{Result}
+use Rattle.ps_base.specs.Limits.{most_text_bytes}
 use Rattle.ps_base.specs.TyView.{TyView, ty_view}
 use Rattle.ps_base.specs.declared.line.Line.{Line}
 use Rattle.ps_base.specs.declared.ty.Ty.{Ty}
-use Rattle.ps_base.specs.declared.TheConstants.{LONGEST_TEXT}
-use Rattle.ps_symbols.specs.declared.kind.Kind.{Kind}
-use Rattle.ps_symbols.specs.declared.kind.Kind.TheVariants as kind
-use Rattle.ps_symbols.specs.declared.symbol.Symbol.{Symbol}
-use Rattle.ps_symbols.specs.inside.Soundness.{IsSound}
+use Rattle.ps_tree.specs.ps_symbols.declared.kind.Kind.{Kind}
+use Rattle.ps_tree.specs.ps_symbols.declared.kind.Kind.TheVariants as kind
+use Rattle.ps_tree.specs.ps_symbols.declared.symbol.Symbol.{Symbol}
+use Rattle.ps_tree.specs.ps_symbols.inside.Soundness.{IsSound}
 use Rattle.ps_tree.specs.declared.fault.ParseFault.{ParseFault}
 use Rattle.ps_tree.specs.declared.rough.Named.{Named}
 use Rattle.ps_tree.specs.declared.rough.Rough.{Rough}
@@ -22,7 +22,7 @@ use Rattle.ps_reader.specs.Faults.{unexpected}
 use Rattle.ps_reader.specs.inside.Stopping.{Continues, HaltsWith, IsNotAt}
 
 pub record AreSound (reader : Reader) : Type 0 where
-  pub size : length reader.text.now ≤ LONGEST_TEXT
+  pub size : length reader.text.now ≤ most_text_bytes
   pub symbols : All (IsSound reader.text.now) reader.symbols.now
 
 -- the reading goes on as another, or halts with the fault
@@ -43,7 +43,7 @@ ReadsClause reader room rule from result to = Does reader room rule from result 
 abbrev pub ReadsType : Reader → ℕ → Rule → ℕ → Result Ty ParseFault → ℕ → Type 0
 ReadsType reader room rule from result to = Does reader room rule from result (λ made. Give (a_type (ty_view made))) to
 
--- a symbol of the kind stands at the first place, and the second is the one behind it
+-- a symbol of the kind stands at the first place, and the second is the one after it
 pub record Taken (reader : Reader) (kind : Kind) (from : ℕ) (symbol : Symbol) (to : ℕ) : Type 0 where
   pub here : slice_get reader.symbols.now from ≡ Some symbol
   pub is : symbol.kind ≡ kind
@@ -58,7 +58,7 @@ pub record IsMissing (reader : Reader) (kind : Kind) (from : ℕ) (fault : Parse
 abbrev pub Takes : Reader → Kind → ℕ → Result Symbol ParseFault → ℕ → Type 0
 Takes reader kind from result to = MatchResult result (λ symbol. Taken reader kind from symbol to) (λ fault. IsMissing reader kind from fault)
 
--- what is left of the groups behind one of them and behind what separates it from the next one, if there is a next one
+-- what is left of the groups after one of them and after what separates it from the next one, if there is a next one
 abbrev pub next_groups : List GroupAt → Bool → Rule
 next_groups before true = Go (Groups before)
 next_groups before false = Give (all_groups before)
@@ -89,7 +89,7 @@ pub record StandsForNone {A : Type 0} (reader : Reader) (meaning : Kind → Opti
 abbrev pub Finds : {A : Type 0} → Reader → (Kind → Option A) → ℕ → Option (A × Symbol) → ℕ → Type 0
 Finds reader meaning from result to = MatchOption result (StandsForNone reader meaning from to) (λ found. Stands reader meaning from found to)
 
--- a name stands at the first place, and the second is the one behind it
+-- a name stands at the first place, and the second is the one after it
 pub record NameTaken (reader : Reader) (from : ℕ) (name : NameAt) (to : ℕ) : Type 0 where
   pub symbol : Symbol
   pub taken : Taken reader kind.Name from symbol to
@@ -98,7 +98,7 @@ pub record NameTaken (reader : Reader) (from : ℕ) (name : NameAt) (to : ℕ) :
 abbrev pub TakesName : Reader → ℕ → Result Named ParseFault → ℕ → Type 0
 TakesName reader from result to = MatchResult result (λ made. NameTaken reader from (named made) to) (λ fault. (room : ℕ) (next : Symbol → Rule) → Halts reader room (Take kind.Name next) from fault)
 
--- a word and a name behind it, and what is asked for behind them
+-- a word and a name after it, and what is asked for after them
 abbrev pub word_and_name : List ℕ → Kind → (Line → NameAt → Rule) → Rule
 word_and_name text word next = Take word (λ symbol. Take kind.Name (λ name. next (line_at symbol) (name_at text name)))
 
@@ -106,6 +106,6 @@ word_and_name text word next = Take word (λ symbol. Take kind.Name (λ name. ne
 abbrev pub signature : (List GroupAt → TyView → Rule) → Rule
 signature next = skip kind.OpenRound (Then (Go Parameters) (λ params. type_of (Go grammar.Result) (λ gives. skip kind.CloseRound (next (the_groups params) gives))))
 
--- the type of the elements of a vector, behind `of`
+-- the type of the elements of a vector, after `of`
 abbrev pub element_type : (TyView → Rule) → Rule
 element_type next = skip kind.Of (with_type next)

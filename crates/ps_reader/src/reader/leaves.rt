@@ -6,9 +6,9 @@ ghost use Rattle.ps_reader.specs.inside.Parsing.{AreSound, ReadsClause};
 use super::Reader;
 use ps_base::bytes::Bytes;
 use ps_scan::{int_of, spell};
-use ps_symbols::kind::Kind;
 use ps_tree::build::{form_at, name_of};
 use ps_tree::fault::ParseFault;
+use ps_tree::ps_symbols::kind::Kind;
 use ps_tree::rough::{Rough, RoughForm};
 
 #[tactic(auto, using(crate::proofs::Steps::steps))]

@@ -8,9 +8,9 @@ ghost use Rattle.ps_reader.specs.inside.Parsing.{AreSound, Does, ReadsClause, ne
 
 use super::Reader;
 use ps_base::ty::Ty;
-use ps_symbols::kind::{Kind, begins_type};
 use ps_tree::build::{group_of, structure_of};
 use ps_tree::fault::ParseFault;
+use ps_tree::ps_symbols::kind::{Kind, begins_type};
 use ps_tree::rough::{Group, Named, Rough};
 
 #[tactic(auto, using(crate::proofs::Steps::steps))]

@@ -7,13 +7,13 @@ ghost use Rattle.ps_reader.specs.inside.Parsing.{AreSound, Does, ReadsType, elem
 
 use super::Reader;
 use ps_base::ty::Ty;
-use ps_symbols::kind::{Kind, TypeStart, begins_type, type_start_of};
 use ps_tree::build::{procedure_type, vector_type};
 use ps_tree::fault::ParseFault;
+use ps_tree::ps_symbols::kind::{Kind, TypeStart, begins_type, type_start_of};
 
 #[tactic(auto, using(crate::proofs::Steps::steps))]
 impl<'a> Reader<'a> {
-    /// The type of the elements of a vector, behind `of`.
+    /// The type of the elements of a vector, after `of`.
     pub fn element_type(&self, at: &mut usize, room: u32) -> Result<Ty, ParseFault>
         requires sound { AreSound self.now }
         ensures { (next : TyView → Rule) → Does self.now room (element_type next) at.old result (λ made. next (ty_view made)) at.new }
@@ -111,7 +111,7 @@ impl<'a> Reader<'a> {
         Ok(types)
     }
 
-    /// The type behind `->`, or that of a procedure without a result.
+    /// The type after `->`, or that of a procedure without a result.
     #[cycle(types)]
     pub fn result_type(&self, at: &mut usize, room: u32) -> Result<Ty, ParseFault>
         requires sound { AreSound self.now }

@@ -1,5 +1,5 @@
 -- How large a clause is: its locals and its depth, whether a literal stands in it, and the first body in it that is too complex.
--- Of clauses one behind the other the locals are added, and of the depths the greatest counts.
+-- Of clauses one after the other the locals are added, and of the depths the greatest counts.
 use Rattle.std.specs.Prelude.{ℕ, ◌+◌, max, Bool, true, false, ◌||◌, Option, Some, None, List, [], ◌∷◌}
 use Rattle.ps_program.specs.Node.{Node, Nodes, none, more, arm, Arms, no_arms, more_arms, BodyNode}
 use Rattle.ps_program.specs.Parts.{Part, operand, label, branch, literal}
@@ -46,7 +46,7 @@ complex_in n = first_complex (bodies_in n)
 abbrev pub size : Node → Extent
 size n = record { locals = locals n; depth = depth n; literal = literal_in n; complex = complex_in n }
 
--- behind so many words that wait
+-- after so many words that wait
 abbrev pub behind : ℕ → Extent → Extent
 behind waiting s = record s { depth = waiting + s.depth }
 
@@ -71,7 +71,7 @@ as_part Operands n = operand n
 as_part Labels n = label n
 as_part Branches n = branch n
 
--- the sizes of arms: whatever stands before them, labels wait behind two values and clauses behind none
+-- the sizes of arms: whatever stands before them, labels wait after two values and clauses after none
 abbrev pub size_arms : Arms → Extent
 size_arms no_arms = nothing
 size_arms (more_arms (arm labels a) rest) = join (size_parts 0 (parts_all label labels)) (join (size a) (size_arms rest))

@@ -8,10 +8,10 @@ use Rattle.ps_tree.specs.PhraseLists.{phrases_in, items_in, arms_in, maybe_in}
 use Rattle.ps_tree.specs.declared.rough.RoughRange.{out-RoughRange}
 use Rattle.ps_program.specs.Node.{Node}
 use Rattle.ps_program.specs.Node as node
-use Rattle.ps_typing.specs.Names.{Names, meant}
-use Rattle.ps_typing.specs.Checking.{Outcome, Gives, check, check_form, checkers, used, structure, name_applied}
-use Rattle.ps_declared.specs.inside.Answers.{check_unlined}
-use Rattle.ps_declared.specs.inside.Views.{literal_of}
+use Rattle.ps_checked.specs.ps_typing.Names.{Names, meant}
+use Rattle.ps_checked.specs.ps_typing.Checking.{Outcome, Gives, check, check_form, checkers, used, structure, name_applied}
+use Rattle.ps_checked.specs.ps_declared.inside.Answers.{check_unlined}
+use Rattle.ps_checked.specs.ps_declared.inside.Views.{literal_of}
 use Rattle.ps_checked.specs.inside.Forms.{check_literal, check_named}
 use Rattle.ps_checked.specs.inside.Links.{check_link}
 use Rattle.ps_checked.specs.inside.Parts.{check_single, check_double, check_triple}

@@ -1,12 +1,12 @@
 -- The place of a name of a scope.
 use Rattle.std.specs.Prelude.{ℕ, List, Result, Ok, Err}
-use Rattle.ps_outside.specs.Outside.{Outside}
-use Rattle.obj_layout.specs.Stored.{Space}
-use Rattle.swizzle.specs.declared.fault.SwizzleFault.{SwizzleFault}
-use Rattle.swizzle.specs.Heap.{Heap}
-use Rattle.swizzle.specs.Joint.{shown_at}
-use Rattle.swizzle.specs.Reading.{joint, Reads, FailsReading}
-use Rattle.text_forms.specs.declared.forms.Located.{Located}
+use Rattle.closures.specs.ps_outside.Outside.{Outside}
+use Rattle.closures.specs.obj_layout.Stored.{Space}
+use Rattle.closures.specs.swizzle.declared.fault.SwizzleFault.{SwizzleFault}
+use Rattle.closures.specs.swizzle.Heap.{Heap}
+use Rattle.closures.specs.swizzle.Joint.{shown_at}
+use Rattle.closures.specs.swizzle.Reading.{joint, Reads, FailsReading}
+use Rattle.closures.specs.text_forms.declared.forms.Located.{Located}
 use Rattle.scopes.specs.Names.{HasName, FailsName, text_of}
 
 -- A scope was read as one that has the name, by this text.

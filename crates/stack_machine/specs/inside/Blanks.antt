@@ -1,6 +1,6 @@
 -- The blanks before a text.
 use Rattle.std.specs.Prelude.{ℕ, ℤ, Option, Some, None}
-use Rattle.ps_meaning.specs.Meaning.{blanks_before}
+use Rattle.machine_procedures.specs.ps_meaning.Meaning.{blanks_before}
 
 abbrev pub blanks_of : Option ℤ → ℕ → ℕ
 blanks_of None length = 0

@@ -2,8 +2,8 @@
 use Rattle.std.specs.Prelude.{◌≡◌, ℕ, ◌==◌, Bool, false, List, [], ◌∷◌, ◌++◌, Option, MatchOption, codes, slice_index, if◌then◌else◌}
 use Rattle.std.specs.Borrow.{Bor}
 use Rattle.std.specs.List.{AllByRecursion}
-use Rattle.ps_base.specs.TyView.{TyView, TyViews}
-use Rattle.ps_base.specs.TyView as ty
+use Rattle.ps_type_text.specs.ps_base.TyView.{TyView, TyViews}
+use Rattle.ps_type_text.specs.ps_base.TyView as ty
 use Rattle.ps_type_text.specs.Texts.{type_text, result_text, parameters_text, further_text, Field, field_text, fields_text, further_fields, is_name_byte}
 use Rattle.text_forms.specs.Strict.{IsValue, AreValues, IsGiven, IsProper, IsProperField}
 
@@ -16,7 +16,7 @@ pub record IsOnly (P : List ℕ → Type 0) (rest : List ℕ) : Type 0 where
 abbrev pub Leaves : (List ℕ → Type 0) → Option (Bor (List ℕ)) → Type 0
 Leaves P result = MatchOption result ((rest : List ℕ) → P rest → ⊥) (λ r. IsOnly P r.now)
 
--- This word, and what stands behind it.
+-- This word, and what stands after it.
 pub record BeginsWord (word bytes rest : List ℕ) : Type 0 where
   pub spelled : bytes ≡ word ++ rest
 
@@ -25,7 +25,7 @@ pub record AreSame (P Q : List ℕ → Type 0) : Type 0 where
   pub there : (rest : List ℕ) → P rest → Q rest
   pub back : (rest : List ℕ) → Q rest → P rest
 
--- The type of a value, and what stands behind it.
+-- The type of a value, and what stands after it.
 pub record BeginsType (depth : ℕ) (bytes rest : List ℕ) : Type 0 where
   pub ty : TyView
   pub valued : IsValue depth ty
@@ -49,11 +49,11 @@ pub record BeginsBasic (bytes rest : List ℕ) : Type 0 where
   pub basic : IsBasic ty
   pub spelled : bytes ≡ type_text ty ++ rest
 
--- what stands behind the parameters of a procedure, as far as the bracket that closes
+-- what stands after the parameters of a procedure, as far as the bracket that closes
 abbrev pub closing : TyView → List ℕ → List ℕ
 closing gives rest = result_text gives (type_text gives) ++ (41 ∷ rest)
 
--- What a procedure gives, the bracket that closes, and what stands behind it.
+-- What a procedure gives, the bracket that closes, and what stands after it.
 pub record BeginsResult (depth : ℕ) (bytes rest : List ℕ) : Type 0 where
   pub gives : TyView
   pub given : IsGiven gives (IsValue depth gives)
@@ -67,7 +67,7 @@ pub record BeginsParameters (depth : ℕ) (bytes rest : List ℕ) : Type 0 where
   pub given : IsGiven gives (IsValue depth gives)
   pub spelled : bytes ≡ parameters_text parameters ++ closing gives rest
 
--- Further parameters, each behind a comma, then the same.
+-- Further parameters, each after a comma, then the same.
 pub record BeginsFurther (depth : ℕ) (bytes rest : List ℕ) : Type 0 where
   pub parameters : TyViews
   pub gives : TyView
@@ -80,7 +80,7 @@ unfoldable pub drop_name : List ℕ → List ℕ
 drop_name [] = []
 drop_name (b ∷ bs) = if is_name_byte b then drop_name bs else b ∷ bs
 
--- A name, and what stands behind it, which goes on no name.
+-- A name, and what stands after it, which goes on no name.
 pub record BeginsName (bytes rest : List ℕ) : Type 0 where
   pub name : List ℕ
   pub proper : IsProper name

@@ -1,6 +1,6 @@
 use Rattle.std.proofs.Common.{inr, arith, ap}
-use Rattle.swizzle.specs.Objects.{Object}
-use Rattle.swizzle.proofs.MadeLaws.{made-held, made-object}
+use Rattle.proc_values.specs.swizzle.Objects.{Object}
+use Rattle.proc_values.proofs.of_swizzle.MadeLaws.{made-held, made-object}
 use Rattle.bench_heap.proofs.code.turn.Goals as goal
 
 pub write_text-requires-clause-held : goal.write_text-requires-clause-held

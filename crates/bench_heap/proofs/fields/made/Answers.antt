@@ -1,4 +1,4 @@
-use Rattle.heap_texts.proofs.TextObjects.{there-made}
+use Rattle.proc_values.proofs.of_heap_texts.TextObjects.{there-made}
 use Rattle.bench_heap.proofs.fields.made.Goals as goal
 
 pub returns : goal.returns

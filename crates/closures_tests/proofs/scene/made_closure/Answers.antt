@@ -1,4 +1,4 @@
-use Rattle.swizzle.proofs.MadeLaws.{made-held}
+use Rattle.closures.proofs.of_swizzle.MadeLaws.{made-held}
 use Rattle.closures_tests.proofs.scene.made_closure.Goals as goal
 
 pub returns-in-Ok : goal.returns-in-Ok

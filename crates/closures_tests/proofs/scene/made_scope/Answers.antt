@@ -1,4 +1,4 @@
-use Rattle.swizzle.proofs.MadeLaws.{made-held}
+use Rattle.closures.proofs.of_swizzle.MadeLaws.{made-held}
 use Rattle.closures_tests.proofs.scene.made_scope.Goals as goal
 
 pub returns-in-Ok-clause-scope : goal.returns-in-Ok-clause-scope

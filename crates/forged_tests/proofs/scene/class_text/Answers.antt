@@ -1,4 +1,4 @@
-use Rattle.heap_texts.proofs.TextObjects.{there-made}
+use Rattle.proc_values.proofs.of_heap_texts.TextObjects.{there-made}
 use Rattle.forged_tests.proofs.StayLaws.{still-held}
 use Rattle.forged_tests.proofs.scene.class_text.Goals as goal
 

@@ -1,4 +1,4 @@
-use Rattle.heap_texts.proofs.TextObjects.{still-made, there-made}
+use Rattle.heap_ops.proofs.of_heap_texts.TextObjects.{still-made, there-made}
 use Rattle.heap_element_tests.proofs.area.made.Goals as goal
 
 pub returns-clause-there : goal.returns-clause-there

@@ -1,4 +1,4 @@
-use Rattle.heap_places.specs.Filling.{AreNear}
+use Rattle.heap_ops.specs.heap_places.Filling.{AreNear}
 use Rattle.heap_element_tests.proofs.near.all_near.Given as goal
 
 abbrev pub invariant-loop-word : goal.invariant-loop-word

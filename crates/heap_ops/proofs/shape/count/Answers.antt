@@ -1,6 +1,6 @@
 use Rattle.std.proofs.Common.{Bool, ap, sym, ◌∙◌, ◌-◌, ℕ, length, if◌then◌else◌}
-use Rattle.swizzle.specs.Joint.{shown_at}
-use Rattle.swizzle.proofs.NameLaws.{shown-counts}
+use Rattle.heap_places.specs.swizzle.Joint.{shown_at}
+use Rattle.heap_places.proofs.of_swizzle.NameLaws.{shown-counts}
 use Rattle.heap_ops.specs.Vectors.{count_of}
 use Rattle.heap_ops.proofs.shape.count.Goals as goal
 

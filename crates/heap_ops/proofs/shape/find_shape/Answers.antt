@@ -1,11 +1,9 @@
-use Rattle.std.proofs.Common.{Bool, ap, sym, ◌∙◌, ◌≡◌, ◌^◌, ◌<◌, ℕ, ℤ, length, refl, if◌then◌else◌, Some, subst, to_z, of_z, w32}
-use Rattle.ps_meaning.specs.Objects.{is_vector}
-use Rattle.obj_layout.specs.Stored.{damage}
-use Rattle.swizzle.specs.Joint.{Shown, shown_at}
-use Rattle.text_forms.specs.Forms.{is_number_form}
-use Rattle.heap_places.specs.Shapes.{word_in}
+use Rattle.std.proofs.Common.{Bool, ap, sym, ◌∙◌, ◌≡◌, ◌^◌, ℕ, length, refl, if◌then◌else◌, to_z, of_z, w32}
+use Rattle.heap_places.specs.ps_meaning.Objects.{is_vector}
+use Rattle.heap_places.specs.obj_layout.Stored.{damage}
+use Rattle.heap_places.specs.swizzle.Joint.{shown_at}
+use Rattle.heap_places.specs.text_forms.Forms.{is_number_form}
 use Rattle.heap_places.specs.Words.{int_in}
-use Rattle.heap_ops.specs.Vectors.{count_of, IsShaped}
 use Rattle.heap_ops.proofs.ShapeLaws.{not-eq, wrong-rest, wrong-word, wrong-bounds, shaped, long-of, bound-of}
 use Rattle.heap_ops.proofs.shape.find_shape.Goals as goal
 

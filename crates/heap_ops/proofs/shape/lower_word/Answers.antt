@@ -1,7 +1,7 @@
-use Rattle.std.proofs.Common.{sym, ap, arith, ◌≤◌, length}
+use Rattle.std.proofs.Common.{sym, arith, ◌≤◌, length}
 use Rattle.std.proofs.Math.ListN.{get_or-eq_default}
-use Rattle.swizzle.specs.Joint.{shown_at}
-use Rattle.swizzle.proofs.NameLaws.{shown-counts}
+use Rattle.heap_places.specs.swizzle.Joint.{shown_at}
+use Rattle.heap_places.proofs.of_swizzle.NameLaws.{shown-counts}
 use Rattle.heap_ops.proofs.shape.lower_word.Goals as goal
 
 pub returns-then-nums-lt2 : goal.returns-then-nums-lt2

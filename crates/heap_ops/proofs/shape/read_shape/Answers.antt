@@ -1,19 +1,18 @@
-use Rattle.std.proofs.Common.{inl, inr, ◌≡◌, ◌≢◌, ℕ, sym, ap, subst, ◌∙◌, arith, Some, None, false, nat_eq, if◌then◌else◌, Bool}
-use Rattle.obj_layout.specs.Kind.{kind_number}
-use Rattle.obj_layout.specs.Stored.{damage}
-use Rattle.obj_layout.specs.declared.header.Header.{Header}
-use Rattle.obj_layout.specs.declared.vault.VaultFault.TheVariants.{Damaged}
-use Rattle.obj_layout.specs.declared.kind.Kind.TheVariants.{Vector}
-use Rattle.swizzle.specs.declared.fault.SwizzleFault.TheVariants.{Vault}
-use Rattle.swizzle.specs.Heap.{Heap, header_at}
-use Rattle.swizzle.specs.Joint.{Shown, shown_at}
-use Rattle.swizzle.specs.Text.{text_at}
-use Rattle.swizzle.proofs.ReadingLaws.{leaves-none}
-use Rattle.text_forms.specs.declared.forms.Form.{Form}
-use Rattle.text_forms.specs.Forms.{element_of}
+use Rattle.std.proofs.Common.{inl, inr, ◌≡◌, ℕ, sym, ap, subst, ◌∙◌, None, false, nat_eq, if◌then◌else◌, Bool}
+use Rattle.heap_places.specs.obj_layout.Kind.{kind_number}
+use Rattle.heap_places.specs.obj_layout.Stored.{damage}
+use Rattle.heap_places.specs.obj_layout.declared.header.Header.{Header}
+use Rattle.heap_places.specs.obj_layout.declared.vault.VaultFault.TheVariants.{Damaged}
+use Rattle.heap_places.specs.obj_layout.declared.kind.Kind.TheVariants.{Vector}
+use Rattle.heap_places.specs.swizzle.declared.fault.SwizzleFault.TheVariants.{Vault}
+use Rattle.heap_places.specs.swizzle.Heap.{header_at}
+use Rattle.heap_places.specs.swizzle.Joint.{Shown, shown_at}
+use Rattle.heap_places.specs.swizzle.Text.{text_at}
+use Rattle.heap_places.proofs.of_swizzle.ReadingLaws.{leaves-none}
+use Rattle.heap_places.specs.text_forms.Forms.{element_of}
 use Rattle.heap_places.proofs.PlaceLaws.{names-damage, fails-damage}
 use Rattle.heap_places.proofs.TouchedLaws.{kinds-same}
-use Rattle.heap_ops.specs.Vectors.{vector_damage, IsShaped, FindsShape, kind_damage}
+use Rattle.heap_ops.specs.Vectors.{vector_damage, IsShaped, kind_damage}
 use Rattle.heap_ops.proofs.VectorLaws.{read-vector, same-shown, text-of}
 use Rattle.heap_ops.proofs.ClassLaws.{pid-kept}
 use Rattle.heap_ops.proofs.shape.read_shape.Goals as goal
@@ -58,6 +57,7 @@ returns-in-Err-find_shape-clause-read g c =
       inr (inr (
         kind,
         first.reads.keeps,
+        first.reads.grows,
         (
           text_at new c.in-Ok.text,
           text-of old new a b c.args.vector c.in-Ok.text first,

@@ -1,5 +1,5 @@
 use Rattle.std.proofs.Common.{arith}
-use Rattle.swizzle.specs.Text.{text_at}
+use Rattle.heap_places.specs.swizzle.Text.{text_at}
 use Rattle.heap_ops.proofs.FieldLaws.{reached, place-there, index-fits, gets-value, gets-fault}
 use Rattle.heap_ops.proofs.structures.get_field.Goals as goal
 

@@ -1,6 +1,6 @@
 use Rattle.std.proofs.Common.{sym}
-use Rattle.obj_layout.specs.declared.kind.Kind.TheVariants.{Structure}
-use Rattle.swizzle.specs.Heap.{header_at}
+use Rattle.heap_places.specs.obj_layout.declared.kind.Kind.TheVariants.{Structure}
+use Rattle.heap_places.specs.swizzle.Heap.{header_at}
 use Rattle.heap_places.proofs.TouchedLaws.{kinds-same}
 use Rattle.heap_ops.proofs.ClassLaws.{tells-compared}
 use Rattle.heap_ops.proofs.structures.is_of_class.Goals as goal

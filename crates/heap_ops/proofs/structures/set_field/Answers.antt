@@ -1,5 +1,5 @@
 use Rattle.std.proofs.Common.{arith}
-use Rattle.swizzle.specs.Text.{text_at}
+use Rattle.heap_places.specs.swizzle.Text.{text_at}
 use Rattle.heap_places.proofs.PlaceLaws.{stands_then}
 use Rattle.heap_ops.proofs.ClassLaws.{stands-kept}
 use Rattle.heap_ops.proofs.FieldLaws.{reached, row-there, index-fits, sets-value, near-kept, opens-stands}

@@ -1,12 +1,12 @@
 use Rattle.std.proofs.lemmas.Int.{to_z-of_z}
-use Rattle.std.proofs.Common.{w32, inl, ◌≡◌, ℕ, sym, ap, subst, ◌∙◌, Some, Ok, Err}
-use Rattle.ps_meaning.specs.Objects.{place_of}
-use Rattle.swizzle.specs.Joint.{Shown, shown_at}
-use Rattle.heap_places.specs.Places.{HasRow, assigned_value}
+use Rattle.std.proofs.Common.{w32, inl, ℕ, sym, ap, subst, ◌∙◌}
+use Rattle.heap_places.specs.ps_meaning.Objects.{place_of}
+use Rattle.heap_places.specs.swizzle.Joint.{Shown, shown_at}
+use Rattle.heap_places.specs.Places.{HasRow}
 use Rattle.heap_ops.specs.Vectors.{index_of}
 use Rattle.heap_places.proofs.PlaceLaws.{stands_then}
 use Rattle.heap_ops.proofs.ClassLaws.{stands-kept}
-use Rattle.heap_ops.proofs.VectorLaws.{element-row, near-fitted, near-kept, refuses, sets}
+use Rattle.heap_ops.proofs.VectorLaws.{element-row, near-fitted, near-kept, refuses}
 use Rattle.heap_ops.proofs.vectors.set_element.Goals as goal
 
 pub write_place-requires-clause-place : goal.write_place-requires-clause-place

@@ -1,4 +1,4 @@
-use Rattle.heap_places.proofs.FillingLaws.{roomy-held}
+use Rattle.heap_ops.proofs.of_heap_places.FillingLaws.{roomy-held}
 use Rattle.heap_ops_tests.proofs.Staying.{text_stands}
 use Rattle.heap_ops_tests.proofs.calls.bend.Goals as goal
 

@@ -1,4 +1,4 @@
-use Rattle.heap_places.proofs.FillingLaws.{fills-held}
+use Rattle.heap_ops.proofs.of_heap_places.FillingLaws.{fills-held}
 use Rattle.heap_ops_tests.proofs.calls.structure.Goals as goal
 
 pub returns-clause-there : goal.returns-clause-there

@@ -1,4 +1,4 @@
-use Rattle.heap_texts.proofs.TextObjects.{there-made}
+use Rattle.heap_ops.proofs.of_heap_texts.TextObjects.{there-made}
 use Rattle.heap_ops_tests.proofs.Staying.{made_stand}
 use Rattle.heap_ops_tests.proofs.calls.text.Goals as goal
 

@@ -1,6 +1,6 @@
 use Rattle.std.proofs.Common.{ℕ, ◌+◌, ap, arith, rules, w32}
 use mir.Val.{SFits}
-use Rattle.swizzle.specs.Objects.{Object}
+use Rattle.heap_texts.specs.swizzle.Objects.{Object}
 use Rattle.heap_places.proofs.FillingLaws.{roomy-held, roomy-no_low, roomy-some, low-below}
 use Rattle.heap_places.proofs.filling.make_roomy.Goals as goal
 

@@ -1,5 +1,5 @@
 use Rattle.std.proofs.Common.{subst}
-use Rattle.swizzle.specs.Joint.{shown_at}
+use Rattle.heap_texts.specs.swizzle.Joint.{shown_at}
 use Rattle.heap_places.specs.declared.value.Value.{Value}
 use Rattle.heap_places.specs.Places.{HasRow}
 use Rattle.heap_places.proofs.PlaceLaws.{nums_below, refs_below}

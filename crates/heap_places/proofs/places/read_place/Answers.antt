@@ -1,6 +1,6 @@
 use Rattle.std.proofs.Common.{subst}
-use Rattle.text_forms.specs.declared.forms.Form.{Form}
-use Rattle.swizzle.specs.Joint.{shown_at}
+use Rattle.heap_texts.specs.text_forms.declared.forms.Form.{Form}
+use Rattle.heap_texts.specs.swizzle.Joint.{shown_at}
 use Rattle.heap_places.specs.Places.{HasPlace}
 use Rattle.heap_places.proofs.PlaceLaws.{refs_below, reads-reference}
 use Rattle.heap_places.proofs.places.read_place.Goals as goal

@@ -1,9 +1,9 @@
 use Rattle.std.proofs.Common.{ℕ, None, sym, ap, ◌∙◌}
-use Rattle.obj_layout.specs.Kind.{kind_number}
-use Rattle.obj_layout.specs.declared.header.Header.{Header}
-use Rattle.obj_layout.specs.declared.vault.VaultFault.TheVariants.{Damaged}
-use Rattle.swizzle.specs.declared.fault.SwizzleFault.TheVariants.{Vault}
-use Rattle.swizzle.specs.Heap.{header_at}
+use Rattle.heap_texts.specs.obj_layout.Kind.{kind_number}
+use Rattle.heap_texts.specs.obj_layout.declared.header.Header.{Header}
+use Rattle.heap_texts.specs.obj_layout.declared.vault.VaultFault.TheVariants.{Damaged}
+use Rattle.heap_texts.specs.swizzle.declared.fault.SwizzleFault.TheVariants.{Vault}
+use Rattle.heap_texts.specs.swizzle.Heap.{header_at}
 use Rattle.heap_places.proofs.TouchedLaws.{text-none, text-there, text-other, text-nil}
 use Rattle.heap_places.proofs.texts.first_text.Goals as goal
 
@@ -24,7 +24,7 @@ returns-else-is_kind-clause-touched g c =
     let e = c.in-Ok-Some.ensures in
     text-other c.args.sw.now c.touch_slot.new.self (g.V.Vault.outside c.args.vault.now) (g.V.Vault.outside c.touch_slot.new.vault) c.args.object
     c.in-Ok-Some.text c.number-number.result c.in-Ok-Some.field-0
-    c.damaged-in-Ok-Some.result c.in-Ok-Some.field-0-is e.target e.keeps e.call (sym c.is_kind.ensures ∙ c.if-is_kind.false)
+    c.damaged-in-Ok-Some.result c.in-Ok-Some.field-0-is e.target e.keeps e.joint e.call (sym c.is_kind.ensures ∙ c.if-is_kind.false)
     (c.number-number.ensures ∙ ap (λ (h : Header). kind_number h.kind) c.header.ensures.value)
     (c.damaged-in-Ok-Some.ensures ∙ ap (λ (n : ℕ). Vault (Damaged (header_at c.touch_slot.new.self c.in-Ok-Some.text).pid n 1)) c.from.ensures)
 

@@ -1,8 +1,8 @@
 use Rattle.std.proofs.Common.{subst}
-use Rattle.swizzle.specs.Joint.{shown_at}
-use Rattle.text_forms.specs.declared.forms.Form.{Form}
-use Rattle.heap_places.specs.Places.{HasPlace}
-use Rattle.heap_places.proofs.PlaceLaws.{nums_below, refs_below}
+use Rattle.paired_ops.specs.swizzle.Joint.{shown_at}
+use Rattle.paired_ops.specs.text_forms.declared.forms.Form.{Form}
+use Rattle.paired_ops.specs.heap_places.Places.{HasPlace}
+use Rattle.paired_ops.proofs.of_heap_places.PlaceLaws.{nums_below, refs_below}
 use Rattle.known_classes.proofs.access.peek_place.Goals as goal
 
 pub num-requires-clause-below : goal.num-requires-clause-below

@@ -1,5 +1,5 @@
 use Rattle.std.proofs.Common.{sym, ◌∙◌, arith}
-use Rattle.text_forms.proofs.Passing.{room_left}
+use Rattle.paired_ops.proofs.of_text_forms.Passing.{room_left}
 use Rattle.known_classes.proofs.Marks.{none-counted, one-counted, all-known}
 use Rattle.known_classes.proofs.makes.count_fields.Goals as goal
 

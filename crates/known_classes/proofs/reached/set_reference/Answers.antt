@@ -1,5 +1,5 @@
 use Rattle.std.proofs.Common.{false, arith}
-use Rattle.heap_places.specs.declared.value.Value.TheVariants.{Ref}
+use Rattle.paired_ops.specs.heap_places.declared.value.Value.TheVariants.{Ref}
 use Rattle.known_classes.proofs.EntryFields.{entry-row, entry-index, entry-puts, reference-formed}
 use Rattle.known_classes.proofs.reached.set_reference.Goals as goal
 

@@ -1,9 +1,9 @@
 use mir.Syntax.{w32}
 use Rattle.std.proofs.lemmas.Int.{to_z-of_z}
 use Rattle.std.proofs.Common.{ℕ, Ok, Err, sym, ap, ◌∙◌, subst}
-use Rattle.heap_places.specs.Places.{HasPlace, ReadsPlace}
-use Rattle.swizzle.specs.Joint.{shown_at}
-use Rattle.ps_meaning.specs.Objects.{place_of}
+use Rattle.paired_ops.specs.heap_places.Places.{HasPlace, ReadsPlace}
+use Rattle.paired_ops.specs.swizzle.Joint.{shown_at}
+use Rattle.paired_ops.specs.ps_meaning.Objects.{place_of}
 use Rattle.known_vectors.proofs.Access.{the-vector, known-small, known-place, known-got, known-missed, never-fails}
 use Rattle.known_vectors.proofs.elements.get_element.Goals as goal
 

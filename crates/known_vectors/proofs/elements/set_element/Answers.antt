@@ -1,9 +1,9 @@
 use mir.Syntax.{w32}
 use Rattle.std.proofs.lemmas.Int.{to_z-of_z}
 use Rattle.std.proofs.Common.{◌≡◌, ℕ, sym, ap, ◌∙◌, subst}
-use Rattle.heap_places.specs.Places.{HasRow, assigned_value}
-use Rattle.swizzle.specs.Joint.{shown_at}
-use Rattle.ps_meaning.specs.Objects.{place_of}
+use Rattle.paired_ops.specs.heap_places.Places.{HasRow, assigned_value}
+use Rattle.paired_ops.specs.swizzle.Joint.{shown_at}
+use Rattle.paired_ops.specs.ps_meaning.Objects.{place_of}
 use Rattle.known_vectors.proofs.Access.{the-vector, known-small, known-row, known-written, known-unwritten}
 use Rattle.known_vectors.proofs.elements.set_element.Goals as goal
 

@@ -2,8 +2,8 @@ use mir.Syntax.{w32}
 use mir.Val.{to_z, of_z}
 use Rattle.std.proofs.lemmas.Int.{to_z-of_z}
 use Rattle.std.proofs.Common.{◌≡◌, ◌+◌, ◌<◌, true, sym, ap, ◌∙◌, subst, arith, rules}
-use Rattle.swizzle.specs.Heap.{header_at, num_at}
-use Rattle.text_forms.specs.Forms.{is_number_form}
+use Rattle.paired_ops.specs.swizzle.Heap.{header_at, num_at}
+use Rattle.paired_ops.specs.text_forms.Forms.{is_number_form}
 use Rattle.known_vectors.specs.Reached.{HasNumber}
 use Rattle.known_vectors.proofs.Reaching.{other-form, reached-small, reached-held, reached-refs, number-below, number-read}
 use Rattle.known_vectors.proofs.reached.number_at.Goals as goal

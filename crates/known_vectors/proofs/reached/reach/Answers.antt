@@ -1,7 +1,7 @@
 use Rattle.std.proofs.Common.{refl, sym, ap, ◌∙◌, rules}
 use mir.Syntax.{w32}
 use Rattle.std.proofs.lemmas.Int.{to_z-of_z}
-use Rattle.ps_meaning.specs.Objects.{place_of}
+use Rattle.paired_ops.specs.ps_meaning.Objects.{place_of}
 use Rattle.known_vectors.proofs.reached.reach.Goals as goal
 
 pub returns-in-Some : goal.returns-in-Some

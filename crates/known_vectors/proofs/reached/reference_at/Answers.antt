@@ -1,9 +1,9 @@
 use mir.Syntax.{w32}
 use Rattle.std.proofs.lemmas.Int.{to_z-of_z}
 use Rattle.std.proofs.Common.{◌+◌, ◌<◌, Some, None, sym, ap, ◌∙◌, subst, arith}
-use Rattle.swizzle.specs.Heap.{header_at, ref_at}
+use Rattle.paired_ops.specs.swizzle.Heap.{header_at, ref_at}
 use Rattle.known_vectors.specs.Reached.{HasReference}
-use Rattle.text_forms.specs.Forms.{is_number_form}
+use Rattle.paired_ops.specs.text_forms.Forms.{is_number_form}
 use Rattle.known_vectors.proofs.Reaching.{reached-small, reached-held, reference-below, reference-read}
 use Rattle.known_vectors.proofs.reached.reference_at.Goals as goal
 

@@ -2,9 +2,9 @@ use mir.Syntax.{w32}
 use mir.Val.{to_z, of_z}
 use Rattle.std.proofs.lemmas.Int.{to_z-of_z}
 use Rattle.std.proofs.Common.{◌≡◌, ◌+◌, ◌<◌, ℤ, true, List, sym, ap, ◌∙◌, subst, arith, rules}
-use Rattle.obj_layout.specs.declared.reference.Reference.{Reference}
-use Rattle.swizzle.specs.Heap.{Heap, header_at}
-use Rattle.text_forms.specs.Forms.{is_number_form}
+use Rattle.paired_ops.specs.obj_layout.declared.reference.Reference.{Reference}
+use Rattle.paired_ops.specs.swizzle.Heap.{Heap, header_at}
+use Rattle.paired_ops.specs.text_forms.Forms.{is_number_form}
 use Rattle.paired_ops.specs.Operands.{IsForIn, IsOfForm}
 use Rattle.known_vectors.specs.Reached.{Puts, number_kept}
 use Rattle.known_vectors.proofs.Reaching.{number-index, no-reference, reached-small, reached-held, reached-refs, number-below, value-put}

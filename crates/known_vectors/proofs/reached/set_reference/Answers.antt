@@ -1,8 +1,8 @@
 use mir.Syntax.{w32}
 use Rattle.std.proofs.lemmas.Int.{to_z-of_z}
 use Rattle.std.proofs.Common.{◌+◌, false, sym, ap, ◌∙◌, subst, arith}
-use Rattle.heap_places.specs.declared.value.Value.TheVariants.{Ref}
-use Rattle.text_forms.specs.Forms.{is_number_form}
+use Rattle.paired_ops.specs.heap_places.declared.value.Value.TheVariants.{Ref}
+use Rattle.paired_ops.specs.text_forms.Forms.{is_number_form}
 use Rattle.paired_ops.specs.Operands.{IsOfForm}
 use Rattle.known_vectors.specs.Reached.{Puts}
 use Rattle.known_vectors.proofs.Reaching.{reference-index, reached-small, reached-held, reached-row, value-put}

@@ -1,4 +1,4 @@
-use Rattle.heap_places.proofs.PlaceLaws.{stands_then}
+use Rattle.paired_ops.proofs.of_heap_places.PlaceLaws.{stands_then}
 use Rattle.known_vectors.proofs.reached.write_number.Goals as goal
 
 pub returns-clause-stands : goal.returns-clause-stands

@@ -2,17 +2,17 @@ use mir.Syntax.{w32}
 use mir.Val.{to_z, of_z}
 use Rattle.std.proofs.Common.{ℤ, ◌≡◌, true, false, List, Some, rules, subst, ap, ◌∙◌}
 use Rattle.std.specs.Prelude.{ℕ}
-use Rattle.text_forms.specs.declared.forms.Form.{Form}
-use Rattle.text_forms.specs.Forms.{is_number_form, element_of}
-use Rattle.obj_layout.specs.declared.reference.Reference.{Reference}
-use Rattle.swizzle.specs.Heap.{Heap}
-use Rattle.swizzle.specs.Text.{text_at}
-use Rattle.ps_meaning.specs.Evaluation.{kept_as}
-use Rattle.ps_meaning.specs.Values.{Num}
-use Rattle.ps_stepping.specs.Config.{Config}
-use Rattle.ps_stepping.specs.Steps.{Step, pop_num}
-use Rattle.ps_stepping.specs.Objects.{when_number}
-use Rattle.paired_ops.specs.Operands.{IsForIn}
+use Rattle.machine_values.specs.text_forms.declared.forms.Form.{Form}
+use Rattle.machine_values.specs.text_forms.Forms.{is_number_form, element_of}
+use Rattle.machine_values.specs.obj_layout.declared.reference.Reference.{Reference}
+use Rattle.machine_values.specs.swizzle.Heap.{Heap}
+use Rattle.machine_values.specs.swizzle.Text.{text_at}
+use Rattle.machine_values.specs.ps_meaning.Evaluation.{kept_as}
+use Rattle.machine_values.specs.ps_meaning.Values.{Num}
+use Rattle.machine_values.specs.ps_stepping.Config.{Config}
+use Rattle.machine_values.specs.ps_stepping.Steps.{Step, pop_num}
+use Rattle.machine_values.specs.ps_stepping.Objects.{when_number}
+use Rattle.machine_values.specs.paired_ops.Operands.{IsForIn}
 use Rattle.machine_values.proofs.ConstantReads.{constant-then}
 use Rattle.machine_values.proofs.Ending.{comes-behind, denoted-there}
 use Rattle.machine_values.proofs.FieldReads.{number-row, no-number-row, unless-damaged}

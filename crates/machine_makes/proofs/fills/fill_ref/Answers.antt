@@ -2,13 +2,13 @@ use mir.Syntax.{w32}
 use mir.Val.{to_z, of_z}
 use Rattle.std.proofs.Common.{◌≡◌, true, false, List, Some, rules, ap, ◌∙◌}
 use Rattle.std.specs.Prelude.{ℕ}
-use Rattle.text_forms.specs.declared.forms.Form.{Form}
-use Rattle.text_forms.specs.Forms.{is_number_form, element_of}
-use Rattle.swizzle.specs.Text.{text_at}
-use Rattle.heap_places.specs.declared.value.Value.TheVariants as held
-use Rattle.ps_stepping.specs.Config.{Config}
-use Rattle.ps_stepping.specs.Steps.{Step, pop_ref}
-use Rattle.ps_stepping.specs.Objects.{when_reference}
+use Rattle.machine_values.specs.text_forms.declared.forms.Form.{Form}
+use Rattle.machine_values.specs.text_forms.Forms.{is_number_form, element_of}
+use Rattle.machine_values.specs.swizzle.Text.{text_at}
+use Rattle.machine_values.specs.heap_places.declared.value.Value.TheVariants as held
+use Rattle.machine_values.specs.ps_stepping.Config.{Config}
+use Rattle.machine_values.specs.ps_stepping.Steps.{Step, pop_ref}
+use Rattle.machine_values.specs.ps_stepping.Objects.{when_reference}
 use Rattle.machine_values.proofs.ConstantReads.{constant-then}
 use Rattle.machine_values.proofs.Ending.{comes-behind, denoted-there}
 use Rattle.machine_values.proofs.FieldReads.{reference-row, no-reference-row, unless-damaged}

@@ -2,14 +2,14 @@ use mir.Syntax.{w32}
 use mir.Val.{to_z, of_z}
 use Rattle.std.proofs.Common.{◌≡◌, ◌<◌, true, false, ℤ, List, length, map, Some, subst, rules}
 use Rattle.std.specs.Prelude.{ℕ, replicate}
-use Rattle.obj_layout.specs.declared.reference.Reference.{Reference}
-use Rattle.text_forms.specs.Forms.{element_of}
-use Rattle.ps_meaning.specs.Objects.{Heap, vector_of}
-use Rattle.ps_meaning.specs.Values.{Value, Text, Vector}
-use Rattle.paired_ops.specs.World.{IsWorld, DenotesIn, Makes}
-use Rattle.paired_ops.specs.Operands.{AreForIn}
-use Rattle.machine_state.specs.Holding.{most_values}
-use Rattle.machine_state.specs.inside.Taking.{PopsNum}
+use Rattle.machine_values.specs.obj_layout.declared.reference.Reference.{Reference}
+use Rattle.machine_values.specs.text_forms.Forms.{element_of}
+use Rattle.machine_values.specs.ps_meaning.Objects.{Heap, vector_of}
+use Rattle.machine_values.specs.ps_meaning.Values.{Value, Text, Vector}
+use Rattle.machine_values.specs.paired_ops.World.{IsWorld, DenotesIn, Makes}
+use Rattle.machine_values.specs.paired_ops.Operands.{AreForIn}
+use Rattle.machine_values.specs.machine_state.Holding.{most_values}
+use Rattle.machine_values.specs.machine_state.inside.Taking.{PopsNum}
 use Rattle.machine_makes.specs.inside.Making.{form_of, forms_in, PopsFields}
 use Rattle.machine_values.proofs.ConstantReads.{none-there}
 use Rattle.machine_makes.proofs.MakingLists.{too-many-elements, too-few-elements, no-low, list-made, elements-near}

@@ -1,5 +1,5 @@
 use Rattle.std.proofs.Common.{◌≡◌, true, false, ap, ◌∙◌, rules}
-use Rattle.text_forms.specs.Forms.{element_of, is_number_form}
+use Rattle.machine_values.specs.text_forms.Forms.{element_of, is_number_form}
 use Rattle.machine_makes.proofs.MakingLists.{refs-listed, no-refs-listed}
 use Rattle.machine_makes.proofs.lists.list_ref.Goals as goal
 

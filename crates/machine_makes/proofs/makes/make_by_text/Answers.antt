@@ -1,8 +1,8 @@
 use Rattle.std.proofs.Common.{◌≡◌, ◌<◌, true, false, length, map, sym, subst, rules}
-use Rattle.text_forms.specs.Forms.{forms_of}
-use Rattle.swizzle.specs.Text.{text_at}
-use Rattle.heap_places.specs.Filling.{AreNear}
-use Rattle.machine_state.specs.Holding.{most_values}
+use Rattle.machine_values.specs.text_forms.Forms.{forms_of}
+use Rattle.machine_values.specs.swizzle.Text.{text_at}
+use Rattle.machine_values.specs.heap_places.Filling.{AreNear}
+use Rattle.machine_values.specs.machine_state.Holding.{most_values}
 use Rattle.machine_makes.specs.inside.Making.{form_of, forms_in, PopsFields}
 use Rattle.machine_makes.proofs.Making.{values-near}
 use Rattle.machine_makes.proofs.MakingStructures.{too-many-fields, too-few-values, structure-made}

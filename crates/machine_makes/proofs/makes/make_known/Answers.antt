@@ -1,7 +1,7 @@
 use Rattle.std.proofs.Common.{ℕ, ℤ, List, drop, sym, ap, ◌∙◌, subst, arith}
 use Rattle.std.specs.Prelude.{None, OnOk}
-use Rattle.obj_layout.specs.declared.kind.Kind.TheVariants as kind
-use Rattle.heap_places.specs.Filling.{AreNear, Fills}
+use Rattle.machine_values.specs.obj_layout.declared.kind.Kind.TheVariants as kind
+use Rattle.machine_values.specs.heap_places.Filling.{AreNear, Fills}
 use Rattle.machine_makes.specs.inside.Rows.{AreInts, named, row_values}
 use Rattle.machine_makes.proofs.MakingRows.{few-nums, few-refs, tops-near, rows-made}
 use Rattle.machine_makes.proofs.makes.make_known.Goals as goal

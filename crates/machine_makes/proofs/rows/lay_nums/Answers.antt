@@ -1,7 +1,7 @@
 use mir.Syntax.{w32}
 use mir.Val.{to_z, of_z}
 use Rattle.std.proofs.Common.{◌≡◌, ℤ, ◌+◌, pos, true, slice_index_or, refl, ap, ◌∙◌, subst, arith, rules}
-use Rattle.ps_meaning.specs.Operators.{is_int}
+use Rattle.machine_values.specs.ps_meaning.Operators.{is_int}
 use Rattle.machine_makes.specs.inside.Rows.{kept_word}
 use Rattle.std.proofs.lemmas.List.{get_or_default}
 use Rattle.machine_makes.proofs.RowsLaid.{nums-first, nums-more}

@@ -1,7 +1,7 @@
 use Rattle.std.proofs.Common.{◌+◌, length, refl, sym, ap, ◌∙◌, arith}
-use Rattle.swizzle.specs.Objects.{Object}
+use Rattle.machine_values.specs.swizzle.Objects.{Object}
 use Rattle.machine_makes.specs.inside.Rows.{named}
-use Rattle.heap_places.proofs.FillingLaws.{roomy-held, near-all, made-stands}
+use Rattle.machine_values.proofs.of_heap_places.FillingLaws.{roomy-held, near-all, made-stands}
 use Rattle.machine_makes.proofs.RowsLaid.{made-roomy, made-header, made-filled, made-full}
 use Rattle.machine_makes.proofs.rows.make_rows.Goals as goal
 

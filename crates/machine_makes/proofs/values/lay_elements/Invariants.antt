@@ -1,5 +1,5 @@
 use Rattle.std.proofs.Common.{◌≡◌, ◌≤◌, map, replicate, vec_capacity}
-use Rattle.machine_state.specs.Holding.{most_values}
+use Rattle.machine_values.specs.machine_state.Holding.{most_values}
 use Rattle.machine_makes.specs.inside.Making.{form_of as form_of_value}
 use Rattle.machine_makes.proofs.values.lay_elements.Given as goal
 

@@ -1,10 +1,10 @@
 use Rattle.std.proofs.Common.{◌≤◌, true, List, length, map, ap, sym, ◌∙◌, arith, rules}
 use Rattle.std.proofs.lemmas.List.{length-map}
 use Rattle.std.specs.Prelude.{◌++◌}
-use Rattle.heap_places.specs.declared.value.Value as code
-use Rattle.text_forms.specs.Forms.{forms_of, forms_from}
-use Rattle.swizzle.specs.Text.{text_at}
-use Rattle.machine_state.specs.Holding.{most_values}
+use Rattle.machine_values.specs.heap_places.declared.value.Value as code
+use Rattle.machine_values.specs.text_forms.Forms.{forms_of, forms_from}
+use Rattle.machine_values.specs.swizzle.Text.{text_at}
+use Rattle.machine_values.specs.machine_state.Holding.{most_values}
 use Rattle.machine_makes.specs.inside.Making.{form_of as form_of_value}
 use Rattle.machine_makes.proofs.Laying.{none-laid, one-laid, all-laid, more-left}
 use Rattle.machine_makes.proofs.values.lay_fields.Goals as goal

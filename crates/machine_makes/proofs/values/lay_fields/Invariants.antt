@@ -1,7 +1,7 @@
 use Rattle.std.proofs.Common.{◌≡◌, ◌≤◌, ◌++◌, true, length, map, vec_capacity}
-use Rattle.text_forms.specs.Forms.{forms_of, forms_from}
-use Rattle.swizzle.specs.Text.{text_at}
-use Rattle.machine_state.specs.Holding.{most_values}
+use Rattle.machine_values.specs.text_forms.Forms.{forms_of, forms_from}
+use Rattle.machine_values.specs.swizzle.Text.{text_at}
+use Rattle.machine_values.specs.machine_state.Holding.{most_values}
 use Rattle.machine_makes.specs.inside.Making.{form_of as form_of_value}
 use Rattle.machine_makes.proofs.values.lay_fields.Given as goal
 

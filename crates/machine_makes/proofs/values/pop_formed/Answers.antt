@@ -1,12 +1,12 @@
 use mir.Syntax.{w32}
 use mir.Val.{to_z, of_z}
 use Rattle.std.proofs.Common.{◌≡◌, true, ℤ, List, Some, rules, subst}
-use Rattle.obj_layout.specs.declared.reference.Reference.{Reference}
-use Rattle.swizzle.specs.Heap.{Heap}
-use Rattle.text_forms.specs.Forms.{is_number_form}
-use Rattle.ps_meaning.specs.Values.{Num}
-use Rattle.ps_meaning.specs.Evaluation.{kept_as}
-use Rattle.paired_ops.specs.Operands.{IsForIn}
+use Rattle.machine_values.specs.obj_layout.declared.reference.Reference.{Reference}
+use Rattle.machine_values.specs.swizzle.Heap.{Heap}
+use Rattle.machine_values.specs.text_forms.Forms.{is_number_form}
+use Rattle.machine_values.specs.ps_meaning.Values.{Num}
+use Rattle.machine_values.specs.ps_meaning.Evaluation.{kept_as}
+use Rattle.machine_values.specs.paired_ops.Operands.{IsForIn}
 use Rattle.machine_makes.proofs.Making.{number-popped, row-of}
 use Rattle.machine_makes.proofs.values.pop_formed.Goals as goal
 

@@ -1,8 +1,8 @@
 use Rattle.std.proofs.Common.{pos, ◌-◌, ◌<◌, Some, set, ap, subst, arith, rules}
 use Rattle.std.specs.declared.vec.Vec.{Vec}
 use Rattle.std.specs.declared.alloc.Global.{Global}
-use Rattle.heap_places.specs.declared.value.Value as code
-use Rattle.heap_places.specs.declared.value.Value.TheVariants.{Num}
+use Rattle.machine_values.specs.heap_places.declared.value.Value as code
+use Rattle.machine_values.specs.heap_places.declared.value.Value.TheVariants.{Num}
 use Rattle.machine_makes.specs.inside.Making.{PopsFormed}
 use Rattle.machine_values.proofs.ConstantReads.{none-there}
 use Rattle.machine_makes.proofs.Making.{one-popped, none-left}

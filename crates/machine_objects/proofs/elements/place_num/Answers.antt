@@ -1,15 +1,15 @@
 use mir.Syntax.{w32}
 use mir.Val.{to_z, of_z}
 use Rattle.std.proofs.Common.{ℤ, ◌≡◌, true, false, List, Some, rules, subst}
-use Rattle.text_forms.specs.declared.forms.Form.{Form}
-use Rattle.text_forms.specs.Forms.{is_number_form}
-use Rattle.obj_layout.specs.declared.reference.Reference.{Reference}
-use Rattle.swizzle.specs.Heap.{Heap}
-use Rattle.swizzle.proofs.ReadingLaws.{leaves-then}
-use Rattle.ps_meaning.specs.Evaluation.{kept_as}
-use Rattle.ps_meaning.specs.Values.{Num, Value}
-use Rattle.ps_stepping.specs.Objects.{set_element_num, when_number}
-use Rattle.paired_ops.specs.Operands.{IsForIn}
+use Rattle.machine_values.specs.text_forms.declared.forms.Form.{Form}
+use Rattle.machine_values.specs.text_forms.Forms.{is_number_form}
+use Rattle.machine_values.specs.obj_layout.declared.reference.Reference.{Reference}
+use Rattle.machine_values.specs.swizzle.Heap.{Heap}
+use Rattle.machine_values.proofs.of_swizzle.ReadingLaws.{leaves-then}
+use Rattle.machine_values.specs.ps_meaning.Evaluation.{kept_as}
+use Rattle.machine_values.specs.ps_meaning.Values.{Num, Value}
+use Rattle.machine_values.specs.ps_stepping.Objects.{set_element_num, when_number}
+use Rattle.machine_values.specs.paired_ops.Operands.{IsForIn}
 use Rattle.machine_values.proofs.Ending.{ends, comes-behind}
 use Rattle.machine_values.proofs.FieldReads.{number-row, no-number-row}
 use Rattle.machine_values.proofs.VectorWrites.{element-set, element-written, still-so, element-missed}

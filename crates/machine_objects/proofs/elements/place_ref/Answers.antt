@@ -1,10 +1,10 @@
 use mir.Syntax.{w32}
 use mir.Val.{to_z, of_z}
 use Rattle.std.proofs.Common.{◌≡◌, true, false, Some, rules}
-use Rattle.text_forms.specs.Forms.{is_number_form}
-use Rattle.heap_places.specs.declared.value.Value.TheVariants as held
-use Rattle.swizzle.proofs.ReadingLaws.{leaves-then}
-use Rattle.ps_stepping.specs.Objects.{set_element_ref, when_reference}
+use Rattle.machine_values.specs.text_forms.Forms.{is_number_form}
+use Rattle.machine_values.specs.heap_places.declared.value.Value.TheVariants as held
+use Rattle.machine_values.proofs.of_swizzle.ReadingLaws.{leaves-then}
+use Rattle.machine_values.specs.ps_stepping.Objects.{set_element_ref, when_reference}
 use Rattle.machine_values.proofs.Ending.{ends, comes-behind}
 use Rattle.machine_values.proofs.FieldReads.{reference-row, no-reference-row}
 use Rattle.machine_values.proofs.VectorWrites.{element-set, element-written, still-so, element-missed, still-denotes, still-near, of-reference}

@@ -1,9 +1,9 @@
 use mir.Syntax.{w32}
 use mir.Val.{to_z, of_z}
 use Rattle.std.proofs.Common.{◌≡◌, ℤ, sym, subst, rules}
-use Rattle.heap_places.specs.declared.value.Value.TheVariants.{Num, Flag}
-use Rattle.ps_meaning.specs.Values.{number_of}
-use Rattle.ps_stepping.specs.Objects.{field_num}
+use Rattle.machine_values.specs.heap_places.declared.value.Value.TheVariants.{Num, Flag}
+use Rattle.machine_values.specs.ps_meaning.Values.{number_of}
+use Rattle.machine_values.specs.ps_stepping.Objects.{field_num}
 use Rattle.machine_objects.specs.inside.Fielding.{HasOnTop, number_for_one}
 use Rattle.machine_values.proofs.Giving.{int-read, flag-read}
 use Rattle.machine_objects.proofs.FieldsReached.{number-read}

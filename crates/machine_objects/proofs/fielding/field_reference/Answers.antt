@@ -1,5 +1,5 @@
 use Rattle.std.proofs.Common.{subst}
-use Rattle.heap_places.specs.declared.value.Value.TheVariants.{Ref}
+use Rattle.machine_values.specs.heap_places.declared.value.Value.TheVariants.{Ref}
 use Rattle.machine_objects.specs.inside.Fielding.{HasOnTop}
 use Rattle.machine_objects.proofs.FieldsReached.{reference-reads}
 use Rattle.machine_objects.proofs.fielding.field_reference.Goals as goal

@@ -1,8 +1,8 @@
 use mir.Syntax.{w32}
 use mir.Val.{to_z, of_z}
 use Rattle.std.proofs.Common.{◌≡◌, ℤ, subst, rules}
-use Rattle.ps_stepping.specs.Steps.{push_num}
-use Rattle.machine_state.specs.Stepped.{Takes}
+use Rattle.machine_values.specs.ps_stepping.Steps.{push_num}
+use Rattle.machine_values.specs.machine_state.Stepped.{Takes}
 use Rattle.machine_objects.proofs.FieldsReached.{number-for}
 use Rattle.machine_objects.proofs.fielding.put_number.Goals as goal
 

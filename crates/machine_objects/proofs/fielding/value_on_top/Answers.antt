@@ -1,5 +1,5 @@
 use Rattle.std.proofs.Common.{sym, ◌∙◌}
-use Rattle.known_classes.proofs.Entries.{if-held}
+use Rattle.machine_values.proofs.of_known_classes.Entries.{if-held}
 use Rattle.machine_objects.proofs.FieldsReached.{all-known, top-there, has-on-top}
 use Rattle.machine_objects.proofs.fielding.value_on_top.Goals as goal
 

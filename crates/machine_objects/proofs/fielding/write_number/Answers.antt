@@ -1,7 +1,7 @@
 use mir.Syntax.{w32}
 use mir.Val.{to_z, of_z}
 use Rattle.std.proofs.Common.{◌≡◌, ap, sym, ◌∙◌, rules}
-use Rattle.swizzle.specs.Heap.{Heap}
+use Rattle.machine_values.specs.swizzle.Heap.{Heap}
 use Rattle.machine_objects.proofs.FieldsReached.{all-known, top-there, number-stored}
 use Rattle.machine_objects.proofs.fielding.write_number.Goals as goal
 

@@ -1,9 +1,9 @@
 use Rattle.std.proofs.Common.{ℕ, Option, sym, ap, ◌∙◌, subst}
 use Rattle.std.specs.Prelude.{IfSome}
-use Rattle.swizzle.specs.Heap.{Heap, IsHeld}
-use Rattle.known_classes.specs.Reading.{IsThere}
-use Rattle.paired_ops.specs.World.{DenotesIn}
-use Rattle.machine_state.specs.Holding.{object_in}
+use Rattle.machine_values.specs.swizzle.Heap.{Heap, IsHeld}
+use Rattle.machine_values.specs.known_classes.Reading.{IsThere}
+use Rattle.machine_values.specs.paired_ops.World.{DenotesIn}
+use Rattle.machine_values.specs.machine_state.Holding.{object_in}
 use Rattle.machine_values.proofs.Popping.{named-held}
 use Rattle.machine_objects.proofs.FieldsReached.{all-known, lower-there, reference-stored}
 use Rattle.machine_objects.proofs.fielding.write_reference.Goals as goal

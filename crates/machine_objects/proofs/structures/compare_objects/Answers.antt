@@ -1,11 +1,11 @@
 use mir.Syntax.{w32}
 use mir.Val.{to_z, of_z}
 use Rattle.std.proofs.Common.{◌≡◌, Bool, ℤ, rules, subst, ap, sym, ◌∙◌}
-use Rattle.ps_meaning.specs.Values.{number_of}
-use Rattle.ps_meaning.specs.Evaluation.{object_relation}
-use Rattle.ps_stepping.specs.Steps.{push_num}
-use Rattle.ps_stepping.specs.Objects.{compare_objects, pop_denoting}
-use Rattle.machine_state.specs.Stepped.{Takes}
+use Rattle.machine_values.specs.ps_meaning.Values.{number_of}
+use Rattle.machine_values.specs.ps_meaning.Evaluation.{object_relation}
+use Rattle.machine_values.specs.ps_stepping.Steps.{push_num}
+use Rattle.machine_values.specs.ps_stepping.Objects.{compare_objects, pop_denoting}
+use Rattle.machine_values.specs.machine_state.Stepped.{Takes}
 use Rattle.machine_values.proofs.Ending.{ends, comes-behind, denoted-there}
 use Rattle.machine_objects.proofs.structures.compare_objects.Goals as goal
 

@@ -1,4 +1,4 @@
-use Rattle.swizzle.proofs.ReadingLaws.{leaves-none}
+use Rattle.machine_values.proofs.of_swizzle.ReadingLaws.{leaves-none}
 use Rattle.machine_objects.proofs.FieldsReached.{takes-field}
 use Rattle.machine_values.proofs.VectorWrites.{still-so}
 use Rattle.machine_objects.proofs.structures.field_ref.Goals as goal

@@ -1,11 +1,11 @@
 use Rattle.std.proofs.Common.{◌≡◌, true, false, List, rules, subst}
 use Rattle.std.specs.Prelude.{ℕ}
-use Rattle.text_forms.specs.Forms.{is_number_form}
-use Rattle.swizzle.proofs.ReadingLaws.{leaves-then}
-use Rattle.ps_meaning.specs.Objects.{field_of}
-use Rattle.ps_stepping.specs.Config.{Config}
-use Rattle.ps_stepping.specs.Steps.{attempted, push_ref}
-use Rattle.ps_stepping.specs.Objects.{pop_object}
+use Rattle.machine_values.specs.text_forms.Forms.{is_number_form}
+use Rattle.machine_values.proofs.of_swizzle.ReadingLaws.{leaves-then}
+use Rattle.machine_values.specs.ps_meaning.Objects.{field_of}
+use Rattle.machine_values.specs.ps_stepping.Config.{Config}
+use Rattle.machine_values.specs.ps_stepping.Steps.{attempted, push_ref}
+use Rattle.machine_values.specs.ps_stepping.Objects.{pop_object}
 use Rattle.machine_values.specs.Constants.{FindsField}
 use Rattle.machine_values.proofs.ConstantReads.{none-there}
 use Rattle.machine_values.proofs.ClassFields.{popped-there}

@@ -1,16 +1,16 @@
 use mir.Syntax.{w32}
 use mir.Val.{to_z, of_z}
 use Rattle.std.proofs.Common.{◌≡◌, Bool, ℤ, Some, rules, subst, ap, sym, ◌∙◌}
-use Rattle.ps_meaning.specs.Texts.{Yields}
-use Rattle.ps_meaning.specs.Values.{Text, number_of}
-use Rattle.ps_meaning.specs.Objects.{is_class}
-use Rattle.ps_stepping.specs.Steps.{push_num}
-use Rattle.ps_stepping.specs.Objects.{pop_object}
-use Rattle.swizzle.proofs.ReadingLaws.{leaves-then}
-use Rattle.paired_ops.specs.World.{Answers}
-use Rattle.machine_state.specs.Stepped.{Takes}
+use Rattle.machine_values.specs.ps_meaning.Texts.{Yields}
+use Rattle.machine_values.specs.ps_meaning.Values.{Text, number_of}
+use Rattle.machine_values.specs.ps_meaning.Objects.{is_class}
+use Rattle.machine_values.specs.ps_stepping.Steps.{push_num}
+use Rattle.machine_values.specs.ps_stepping.Objects.{pop_object}
+use Rattle.machine_values.proofs.of_swizzle.ReadingLaws.{leaves-then}
+use Rattle.machine_values.specs.paired_ops.World.{Answers}
+use Rattle.machine_values.specs.machine_state.Stepped.{Takes}
 use Rattle.machine_values.proofs.Ending.{comes-behind, denoted-there}
-use Rattle.machine_state.proofs.Carrying.{read-holds, sound-kept, size-behind}
+use Rattle.machine_values.proofs.of_machine_state.Carrying.{read-holds, sound-kept, size-behind}
 use Rattle.machine_values.proofs.Carrying.{never-fails}
 use Rattle.machine_values.proofs.ConstantReads.{constant-then}
 use Rattle.machine_objects.proofs.structures.is_of_class.Goals as goal

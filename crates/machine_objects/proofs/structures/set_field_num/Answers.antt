@@ -1,8 +1,8 @@
 use Rattle.std.proofs.Common.{sym, subst}
-use Rattle.swizzle.proofs.ReadingLaws.{leaves-none}
-use Rattle.ps_stepping.specs.Objects.{set_field_num}
-use Rattle.machine_state.specs.Holding.{IsSound, IsHolding}
-use Rattle.machine_state.specs.Stepped.{Takes}
+use Rattle.machine_values.proofs.of_swizzle.ReadingLaws.{leaves-none}
+use Rattle.machine_values.specs.ps_stepping.Objects.{set_field_num}
+use Rattle.machine_values.specs.machine_state.Holding.{IsSound, IsHolding}
+use Rattle.machine_values.specs.machine_state.Stepped.{Takes}
 use Rattle.machine_values.proofs.ElementsReached.{takes-left}
 use Rattle.machine_values.proofs.VectorWrites.{still-so}
 use Rattle.machine_objects.proofs.structures.set_field_num.Goals as goal

@@ -2,14 +2,14 @@ use mir.Syntax.{w32}
 use mir.Val.{to_z, of_z}
 use Rattle.std.proofs.Common.{ℤ, ◌≡◌, true, false, List, Some, rules, subst}
 use Rattle.std.specs.Prelude.{ℕ}
-use Rattle.text_forms.specs.Forms.{is_number_form, forms_of, form_in}
-use Rattle.obj_layout.specs.declared.reference.Reference.{Reference}
-use Rattle.swizzle.specs.Heap.{Heap}
-use Rattle.ps_meaning.specs.Evaluation.{kept_as}
-use Rattle.ps_meaning.specs.Values.{Num}
-use Rattle.paired_ops.specs.Operands.{IsForIn}
-use Rattle.swizzle.proofs.ReadingLaws.{leaves-then}
-use Rattle.ps_stepping.specs.Config.{Config}
+use Rattle.machine_values.specs.text_forms.Forms.{is_number_form, forms_of, form_in}
+use Rattle.machine_values.specs.obj_layout.declared.reference.Reference.{Reference}
+use Rattle.machine_values.specs.swizzle.Heap.{Heap}
+use Rattle.machine_values.specs.ps_meaning.Evaluation.{kept_as}
+use Rattle.machine_values.specs.ps_meaning.Values.{Num}
+use Rattle.machine_values.specs.paired_ops.Operands.{IsForIn}
+use Rattle.machine_values.proofs.of_swizzle.ReadingLaws.{leaves-then}
+use Rattle.machine_values.specs.ps_stepping.Config.{Config}
 use Rattle.machine_values.specs.Constants.{FindsField}
 use Rattle.machine_values.proofs.ConstantReads.{none-there}
 use Rattle.machine_values.proofs.ClassFields.{popped-there}

@@ -1,9 +1,9 @@
 use Rattle.std.proofs.Common.{◌≡◌, true, false, List, refl, rules, subst}
 use Rattle.std.specs.Prelude.{ℕ}
-use Rattle.text_forms.specs.Forms.{is_number_form}
-use Rattle.heap_places.specs.declared.value.Value.TheVariants as held
-use Rattle.swizzle.proofs.ReadingLaws.{leaves-then}
-use Rattle.ps_stepping.specs.Config.{Config}
+use Rattle.machine_values.specs.text_forms.Forms.{is_number_form}
+use Rattle.machine_values.specs.heap_places.declared.value.Value.TheVariants as held
+use Rattle.machine_values.proofs.of_swizzle.ReadingLaws.{leaves-then}
+use Rattle.machine_values.specs.ps_stepping.Config.{Config}
 use Rattle.machine_values.specs.Constants.{FindsField}
 use Rattle.machine_values.proofs.ConstantReads.{none-there}
 use Rattle.machine_values.proofs.ClassFields.{popped-there}

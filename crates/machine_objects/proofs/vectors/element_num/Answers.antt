@@ -1,9 +1,9 @@
 use mir.Syntax.{w32}
 use mir.Val.{to_z, of_z}
 use Rattle.std.proofs.Common.{◌≡◌, ℤ, subst, rules}
-use Rattle.swizzle.proofs.ReadingLaws.{leaves-none}
-use Rattle.ps_stepping.specs.Objects.{element_num}
-use Rattle.machine_state.specs.Stepped.{Takes}
+use Rattle.machine_values.proofs.of_swizzle.ReadingLaws.{leaves-none}
+use Rattle.machine_values.specs.ps_stepping.Objects.{element_num}
+use Rattle.machine_values.specs.machine_state.Stepped.{Takes}
 use Rattle.machine_values.specs.Reaching.{number_for_two}
 use Rattle.machine_values.proofs.ElementsReached.{takes-same}
 use Rattle.machine_values.proofs.VectorWrites.{still-so}

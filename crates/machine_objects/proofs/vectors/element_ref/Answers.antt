@@ -1,4 +1,4 @@
-use Rattle.swizzle.proofs.ReadingLaws.{leaves-none}
+use Rattle.machine_values.proofs.of_swizzle.ReadingLaws.{leaves-none}
 use Rattle.machine_values.proofs.ElementsReached.{takes-reference}
 use Rattle.machine_values.proofs.VectorWrites.{still-so}
 use Rattle.machine_objects.proofs.vectors.element_ref.Goals as goal

@@ -1,14 +1,14 @@
 use Rattle.std.proofs.Common.{◌≡◌, Some, ap, sym, ◌∙◌, rules}
-use Rattle.text_forms.specs.declared.forms.Form.{Form}
-use Rattle.text_forms.specs.Forms.{element_of}
-use Rattle.swizzle.specs.Heap.{Heap}
-use Rattle.swizzle.proofs.ReadingLaws.{leaves-then}
-use Rattle.ps_meaning.specs.Values.{Vector}
-use Rattle.ps_meaning.specs.Objects.{element_of as element_at}
-use Rattle.ps_stepping.specs.Steps.{attempted, push_ref}
-use Rattle.ps_stepping.specs.Objects.{element_ref, pop_vector, when_reference}
-use Rattle.paired_ops.specs.World.{Answers}
-use Rattle.paired_ops.specs.Operands.{IsForIn, IsOfForm, form_in}
+use Rattle.machine_values.specs.text_forms.declared.forms.Form.{Form}
+use Rattle.machine_values.specs.text_forms.Forms.{element_of}
+use Rattle.machine_values.specs.swizzle.Heap.{Heap}
+use Rattle.machine_values.proofs.of_swizzle.ReadingLaws.{leaves-then}
+use Rattle.machine_values.specs.ps_meaning.Values.{Vector}
+use Rattle.machine_values.specs.ps_meaning.Objects.{element_of as element_at}
+use Rattle.machine_values.specs.ps_stepping.Steps.{attempted, push_ref}
+use Rattle.machine_values.specs.ps_stepping.Objects.{element_ref, pop_vector, when_reference}
+use Rattle.machine_values.specs.paired_ops.World.{Answers}
+use Rattle.machine_values.specs.paired_ops.Operands.{IsForIn, IsOfForm, form_in}
 use Rattle.machine_values.proofs.Ending.{ends}
 use Rattle.machine_objects.proofs.VectorReads.{known-read}
 use Rattle.machine_values.proofs.VectorWrites.{comes-sized}

@@ -1,7 +1,7 @@
-use Rattle.ps_meaning.specs.Values.{Vector}
-use Rattle.ps_meaning.specs.Objects.{low_of}
-use Rattle.ps_stepping.specs.Steps.{push_num}
-use Rattle.ps_stepping.specs.Objects.{bound}
+use Rattle.machine_values.specs.ps_meaning.Values.{Vector}
+use Rattle.machine_values.specs.ps_meaning.Objects.{low_of}
+use Rattle.machine_values.specs.ps_stepping.Steps.{push_num}
+use Rattle.machine_values.specs.ps_stepping.Objects.{bound}
 use Rattle.machine_values.proofs.Ending.{ends, comes-behind}
 use Rattle.machine_objects.proofs.VectorReads.{vector-read}
 use Rattle.machine_objects.proofs.vectors.lower_bound.Goals as goal

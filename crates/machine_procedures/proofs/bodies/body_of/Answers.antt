@@ -1,5 +1,5 @@
 use Rattle.std.proofs.Common.{Some}
-use Rattle.ps_meaning.specs.Values.{Procedure, as_compiled}
+use Rattle.machine_state.specs.ps_meaning.Values.{Procedure, as_compiled}
 use Rattle.machine_procedures.proofs.CalledBodies.{still-there, there-held, code-there, body-told}
 use Rattle.machine_procedures.proofs.bodies.body_of.Goals as goal
 

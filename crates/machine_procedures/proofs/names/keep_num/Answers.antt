@@ -1,7 +1,7 @@
 use mir.Syntax.{w32}
 use mir.Val.{to_z, of_z}
 use Rattle.std.proofs.Common.{◌≡◌, ℤ, rules, subst}
-use Rattle.heap_places.specs.declared.value.Value.TheVariants.{Num}
+use Rattle.paired_procedures.specs.heap_places.declared.value.Value.TheVariants.{Num}
 use Rattle.machine_procedures.specs.inside.Names.{WritesName}
 use Rattle.machine_procedures.proofs.KeptNames.{number-put}
 use Rattle.machine_procedures.proofs.names.keep_num.Goals as goal

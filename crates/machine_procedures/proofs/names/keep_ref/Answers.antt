@@ -1,5 +1,5 @@
 use Rattle.std.proofs.Common.{Option, subst}
-use Rattle.heap_places.specs.declared.value.Value.TheVariants.{Ref}
+use Rattle.paired_procedures.specs.heap_places.declared.value.Value.TheVariants.{Ref}
 use Rattle.machine_procedures.specs.inside.Names.{WritesName}
 use Rattle.machine_procedures.proofs.KeptNames.{reference-put}
 use Rattle.machine_procedures.proofs.names.keep_ref.Goals as goal

@@ -1,9 +1,9 @@
 use mir.Syntax.{w32}
 use mir.Val.{to_z, of_z}
 use Rattle.std.proofs.Common.{◌≡◌, ◌∙◌, ℤ, Some, rules, subst}
-use Rattle.heap_places.specs.declared.value.Value.{Value}
-use Rattle.ps_meaning.specs.Values.{number_of}
-use Rattle.ps_stepping.specs.Steps.{push_num}
+use Rattle.paired_procedures.specs.heap_places.declared.value.Value.{Value}
+use Rattle.machine_state.specs.ps_meaning.Values.{number_of}
+use Rattle.machine_state.specs.ps_stepping.Steps.{push_num}
 use Rattle.machine_state.specs.Stepped.{Takes}
 use Rattle.machine_procedures.specs.inside.Names.{ReadsName}
 use Rattle.machine_procedures.proofs.KeptNames.{int-pushed, flag-pushed, no-number}

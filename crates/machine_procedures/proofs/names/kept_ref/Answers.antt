@@ -1,5 +1,5 @@
 use Rattle.std.proofs.Common.{Some, subst}
-use Rattle.heap_places.specs.declared.value.Value.{Value}
+use Rattle.paired_procedures.specs.heap_places.declared.value.Value.{Value}
 use Rattle.machine_procedures.specs.inside.Names.{ReadsName}
 use Rattle.machine_procedures.proofs.KeptNames.{reference-pushed, no-reference}
 use Rattle.machine_procedures.proofs.names.kept_ref.Goals as goal

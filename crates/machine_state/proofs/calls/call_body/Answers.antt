@@ -1,7 +1,7 @@
 use Rattle.std.proofs.Common.{◌≡◌, suc, ◌+◌, ◌-◌, ◌<◌, ◌≤◌, ap, sym, ◌∙◌, subst, refl, length, vec_len, arith, rules, List, ℕ, ℤ}
-use Rattle.swizzle.specs.Heap as area
+use Rattle.known_classes.specs.swizzle.Heap as area
 use Rattle.ps_stepping.specs.Steps.{Step}
-use Rattle.ps_meaning.specs.Evaluation.{most_calls}
+use Rattle.ps_stepping.specs.ps_meaning.Evaluation.{most_calls}
 use Rattle.machine_state.specs.declared.machine.Machine.{Machine}
 use Rattle.machine_state.specs.Holding.{HeldBy}
 use Rattle.machine_state.specs.Calling.{body_at}

@@ -1,6 +1,6 @@
 use Rattle.std.proofs.Common.{subst, rules}
 use Rattle.ps_stepping.specs.Machine.{with_num}
-use Rattle.swizzle.specs.Heap as area
+use Rattle.known_classes.specs.swizzle.Heap as area
 use Rattle.machine_state.specs.Stepped.{KeepsSize}
 use Rattle.machine_state.specs.inside.Taking.{Becomes}
 use Rattle.machine_state.proofs.loops.back_with.Goals as goal

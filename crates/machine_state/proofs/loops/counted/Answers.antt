@@ -1,6 +1,6 @@
 use Rattle.std.proofs.Common.{◌≡◌, true, Bool, ap, sym, ◌∙◌, rules}
 use Rattle.std.specs.Prelude.{if◌then◌else◌, ◌+ℤ◌, ℤ}
-use Rattle.ps_meaning.specs.Evaluation.{goes_on}
+use Rattle.ps_stepping.specs.ps_meaning.Evaluation.{goes_on}
 use Rattle.machine_state.specs.Stepped.{Takes}
 use Rattle.ps_stepping.specs.Machine.{on, with_num, back, counted}
 use Rattle.machine_state.proofs.Between.{same-step}

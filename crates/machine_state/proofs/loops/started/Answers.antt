@@ -1,6 +1,6 @@
 use Rattle.std.proofs.Common.{◌≡◌, pos, true, false, subst, rules}
-use Rattle.ps_meaning.specs.Operators.{is_same}
-use Rattle.ps_meaning.specs.Evaluation.{goes_on}
+use Rattle.ps_stepping.specs.ps_meaning.Operators.{is_same}
+use Rattle.ps_stepping.specs.ps_meaning.Evaluation.{goes_on}
 use Rattle.machine_state.specs.Stepped.{Does}
 use Rattle.machine_state.proofs.Jumping.{starts_with_turn, starts_past}
 use Rattle.machine_state.proofs.loops.started.Goals as goal

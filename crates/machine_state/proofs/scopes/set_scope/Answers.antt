@@ -1,5 +1,5 @@
 use Rattle.std.proofs.Common.{◌≡◌, refl, subst, sym, ap, ◌∙◌, rules, Option, ℕ}
-use Rattle.paired_ops.specs.World.{DenotesScopeIn}
+use Rattle.known_classes.specs.paired_ops.World.{DenotesScopeIn}
 use Rattle.machine_state.specs.Holding.{object_in}
 use Rattle.machine_state.proofs.Words.{scope-named-back}
 use Rattle.machine_state.proofs.scopes.set_scope.Goals as goal

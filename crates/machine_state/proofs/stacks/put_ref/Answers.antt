@@ -1,5 +1,5 @@
 use Rattle.std.proofs.Common.{[], rules, refl, subst, sym}
-use Rattle.paired_ops.specs.World.{DenotesIn}
+use Rattle.known_classes.specs.paired_ops.World.{DenotesIn}
 use Rattle.machine_state.specs.Holding.{word_of}
 use Rattle.machine_state.proofs.Popping.{pushes_ref}
 use Rattle.machine_state.proofs.Words.{named-back}

@@ -1,6 +1,6 @@
 use Rattle.std.proofs.Common.{[], rules, refl, subst, sym, ap, ◌∙◌}
 use Rattle.ps_stepping.specs.Machine.{with_ref}
-use Rattle.paired_ops.specs.World.{DenotesIn}
+use Rattle.known_classes.specs.paired_ops.World.{DenotesIn}
 use Rattle.machine_state.specs.Holding.{object_in}
 use Rattle.machine_state.proofs.Popping.{sets_ref}
 use Rattle.machine_state.proofs.Words.{named-back}

@@ -1,6 +1,6 @@
 use Rattle.std.proofs.Common.{◌≡◌, rules}
-use Rattle.ps_meaning.specs.Answers.{answer_of}
-use Rattle.ps_meaning.specs.Operators.{arith_of}
+use Rattle.ps_stepping.specs.ps_meaning.Answers.{answer_of}
+use Rattle.ps_stepping.specs.ps_meaning.Operators.{arith_of}
 use Rattle.machine_state.proofs.Popping.{takes_two}
 use Rattle.machine_state.proofs.values.arith.Goals as goal
 

@@ -1,6 +1,6 @@
 use Rattle.std.proofs.Common.{◌≡◌, rules}
-use Rattle.ps_meaning.specs.Operators.{relation_of}
-use Rattle.ps_meaning.specs.Values.{number_of}
+use Rattle.ps_stepping.specs.ps_meaning.Operators.{relation_of}
+use Rattle.ps_stepping.specs.ps_meaning.Values.{number_of}
 use Rattle.ps_stepping.specs.Machine.{put_num}
 use Rattle.machine_state.specs.inside.Taking.{TakesTwo}
 use Rattle.machine_state.proofs.Popping.{tests-two}

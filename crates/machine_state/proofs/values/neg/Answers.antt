@@ -1,6 +1,6 @@
 use Rattle.std.proofs.Common.{rules}
 use Rattle.ps_stepping.specs.Machine.{pop_num, answered}
-use Rattle.ps_meaning.specs.Operators.{neg_of}
+use Rattle.ps_stepping.specs.ps_meaning.Operators.{neg_of}
 use Rattle.machine_state.specs.Stepped.{Takes}
 use Rattle.machine_state.proofs.Between.{taken-then}
 use Rattle.machine_state.proofs.values.neg.Goals as goal

@@ -1,7 +1,7 @@
 use Rattle.std.proofs.Common.{ap, refl, [], rules}
 use Rattle.std.specs.Prelude.{if◌then◌else◌}
 use Rattle.ps_stepping.specs.Machine.{on, with_num, Stuck}
-use Rattle.swizzle.specs.Heap as area
+use Rattle.known_classes.specs.swizzle.Heap as area
 use Rattle.machine_state.specs.inside.Taking.{Becomes}
 use Rattle.machine_state.proofs.Popping.{num_slot}
 use Rattle.machine_state.proofs.values.store_num.Goals as goal

@@ -1,11 +1,11 @@
 use Rattle.std.proofs.Common.{◌≡◌, ◌<◌, ℕ, Bool, true, List, length, refl, sym, ap, ◌∙◌, subst, arith}
 use Rattle.std.specs.Prelude.{if◌then◌else◌, Ok, Err}
-use Rattle.heap_texts.specs.declared.fault.OpFault.TheVariants as op
+use Rattle.machine_values.specs.heap_texts.declared.fault.OpFault.TheVariants as op
 use Rattle.std.proofs.lemmas.Bool.{lt-ltb, le-ltb}
 use Rattle.ps_base.specs.declared.trap.Trap.TheVariants.{TooLong}
-use Rattle.ps_meaning.specs.Texts.{Attempt, Yields, Fails, string_of}
-use Rattle.paired_ops.specs.World.{MakesText}
-use Rattle.paired_ops.proofs.TextLaws.{makes-text, makes-no_text}
+use Rattle.machine_values.specs.ps_meaning.Texts.{Attempt, Yields, Fails, string_of}
+use Rattle.machine_values.specs.paired_ops.World.{MakesText}
+use Rattle.machine_values.proofs.of_paired_ops.TextLaws.{makes-text, makes-no_text}
 use Rattle.machine_texts.proofs.inputs.make_line.Goals as goal
 
 pub returns-in-Ok : goal.returns-in-Ok

@@ -1,10 +1,10 @@
 use Rattle.std.proofs.Common.{◌≡◌, ℕ, List, true, false, sym, ap, ◌∙◌, subst, refl, rules}
-use Rattle.ps_meaning.specs.Meaning.{on_input}
-use Rattle.ps_meaning.specs.Texts.{Attempt, line_of, behind_line, line_read, string_of, is_at_end}
-use Rattle.ps_stepping.specs.Steps.{Step, attempted}
-use Rattle.ps_stepping.specs.Objects.{read_line, make_text, holding}
-use Rattle.paired_ops.specs.World.{MakesText}
-use Rattle.machine_state.specs.Stepped.{Does}
+use Rattle.machine_values.specs.ps_meaning.Meaning.{on_input}
+use Rattle.machine_values.specs.ps_meaning.Texts.{Attempt, line_of, behind_line, line_read, string_of, is_at_end}
+use Rattle.machine_values.specs.ps_stepping.Steps.{Step, attempted}
+use Rattle.machine_values.specs.ps_stepping.Objects.{read_line, make_text, holding}
+use Rattle.machine_values.specs.paired_ops.World.{MakesText}
+use Rattle.machine_values.specs.machine_state.Stepped.{Does}
 use Rattle.machine_values.proofs.Ending.{ends, comes-behind}
 use Rattle.machine_texts.proofs.LinesRead.{none-read, line-read, held-behind}
 use Rattle.machine_texts.proofs.inputs.read_line.Goals as goal

@@ -1,11 +1,11 @@
 use mir.Syntax.{w32}
 use mir.Val.{to_z, of_z}
 use Rattle.std.proofs.Common.{◌≡◌, Bool, ℤ, Some, rules, subst, ap, sym, ◌∙◌}
-use Rattle.ps_meaning.specs.Values.{Text, number_of}
-use Rattle.ps_meaning.specs.Evaluation.{text_relation}
-use Rattle.ps_stepping.specs.Steps.{push_num, pop_text}
-use Rattle.ps_stepping.specs.Objects.{compare_texts}
-use Rattle.machine_state.specs.Stepped.{Takes}
+use Rattle.machine_values.specs.ps_meaning.Values.{Text, number_of}
+use Rattle.machine_values.specs.ps_meaning.Evaluation.{text_relation}
+use Rattle.machine_values.specs.ps_stepping.Steps.{push_num, pop_text}
+use Rattle.machine_values.specs.ps_stepping.Objects.{compare_texts}
+use Rattle.machine_values.specs.machine_state.Stepped.{Takes}
 use Rattle.machine_values.proofs.Ending.{ends, comes-behind, denoted-there}
 use Rattle.machine_texts.proofs.texts.compare.Goals as goal
 

@@ -1,8 +1,8 @@
 use Rattle.std.proofs.Common.{rules}
 use Rattle.std.specs.Fmt.{signed_decimal}
-use Rattle.ps_meaning.specs.Texts.{Yields}
-use Rattle.ps_stepping.specs.Objects.{int_text, make_text}
-use Rattle.paired_ops.specs.World.{MakesText}
+use Rattle.machine_values.specs.ps_meaning.Texts.{Yields}
+use Rattle.machine_values.specs.ps_stepping.Objects.{int_text, make_text}
+use Rattle.machine_values.specs.paired_ops.World.{MakesText}
 use Rattle.machine_values.proofs.Ending.{ends, comes-behind}
 use Rattle.machine_texts.proofs.texts.int_text.Goals as goal
 

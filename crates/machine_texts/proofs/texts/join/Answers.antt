@@ -1,8 +1,8 @@
 use Rattle.std.proofs.Common.{◌∙◌, Some}
-use Rattle.ps_meaning.specs.Texts.{join_of}
-use Rattle.ps_meaning.specs.Values.{Text}
-use Rattle.ps_stepping.specs.Steps.{attempted, pop_text}
-use Rattle.ps_stepping.specs.Objects.{join, make_text}
+use Rattle.machine_values.specs.ps_meaning.Texts.{join_of}
+use Rattle.machine_values.specs.ps_meaning.Values.{Text}
+use Rattle.machine_values.specs.ps_stepping.Steps.{attempted, pop_text}
+use Rattle.machine_values.specs.ps_stepping.Objects.{join, make_text}
 use Rattle.machine_values.proofs.Ending.{ends, comes-behind, denoted-there}
 use Rattle.machine_texts.proofs.texts.join.Goals as goal
 

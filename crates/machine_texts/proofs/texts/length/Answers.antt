@@ -1,9 +1,9 @@
 use mir.Syntax.{w32}
 use mir.Val.{to_z, of_z}
 use Rattle.std.proofs.Common.{◌≡◌, ℕ, ℤ, pos, length, rules, arith, ap, sym, ◌∙◌, subst}
-use Rattle.ps_stepping.specs.Steps.{push_num}
-use Rattle.ps_stepping.specs.Objects.{text_length}
-use Rattle.machine_state.specs.Stepped.{Takes}
+use Rattle.machine_values.specs.ps_stepping.Steps.{push_num}
+use Rattle.machine_values.specs.ps_stepping.Objects.{text_length}
+use Rattle.machine_values.specs.machine_state.Stepped.{Takes}
 use Rattle.machine_values.proofs.Ending.{ends, comes-behind}
 use Rattle.machine_texts.proofs.texts.length.Goals as goal
 

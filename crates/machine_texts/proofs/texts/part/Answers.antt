@@ -1,10 +1,10 @@
 use mir.Syntax.{w32}
 use mir.Val.{to_z, of_z}
 use Rattle.std.proofs.Common.{◌≡◌, ℤ, ◌∙◌, subst, rules}
-use Rattle.ps_meaning.specs.Texts.{part_of}
-use Rattle.ps_stepping.specs.Steps.{attempted, pop_num, pop_text}
-use Rattle.ps_stepping.specs.Objects.{part, make_text}
-use Rattle.paired_ops.specs.World.{MakesText}
+use Rattle.machine_values.specs.ps_meaning.Texts.{part_of}
+use Rattle.machine_values.specs.ps_stepping.Steps.{attempted, pop_num, pop_text}
+use Rattle.machine_values.specs.ps_stepping.Objects.{part, make_text}
+use Rattle.machine_values.specs.paired_ops.World.{MakesText}
 use Rattle.machine_values.proofs.Ending.{ends, comes-behind}
 use Rattle.machine_texts.proofs.texts.part.Goals as goal
 

@@ -1,8 +1,8 @@
 use Rattle.std.proofs.Common.{◌≡◌, ap, ◌∙◌, sym, List, ℕ}
-use Rattle.ps_stepping.specs.Steps.{pop_text}
-use Rattle.ps_stepping.specs.Machine.{write_text, written}
-use Rattle.swizzle.specs.Text.{text_at}
-use Rattle.paired_ops.proofs.ValueLaws.{text-denoted}
+use Rattle.machine_values.specs.ps_stepping.Steps.{pop_text}
+use Rattle.machine_values.specs.ps_stepping.Machine.{write_text, written}
+use Rattle.machine_values.specs.swizzle.Text.{text_at}
+use Rattle.machine_values.proofs.of_paired_ops.ValueLaws.{text-denoted}
 use Rattle.machine_values.proofs.Ending.{ends, comes-behind}
 use Rattle.machine_texts.proofs.texts.write_text.Goals as goal
 

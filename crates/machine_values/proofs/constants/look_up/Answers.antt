@@ -1,5 +1,5 @@
 use Rattle.std.proofs.Common.{ℕ, List, ap, ◌∙◌}
-use Rattle.text_forms.specs.Forms.{forms_of, located_in}
+use Rattle.machine_state.specs.text_forms.Forms.{forms_of, located_in}
 use Rattle.machine_values.proofs.ClassFields.{knows-read, knows-none, knows-holding}
 use Rattle.machine_values.proofs.constants.look_up.Goals as goal
 

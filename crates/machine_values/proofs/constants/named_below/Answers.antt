@@ -1,6 +1,6 @@
 use Rattle.std.proofs.Common.{ℕ, Option, Some, None, IfSome, ◌≡◌, ◌-◌, sym, subst, arith}
-use Rattle.swizzle.specs.Heap.{Heap}
-use Rattle.known_classes.specs.Reading.{IsThere}
+use Rattle.machine_state.specs.swizzle.Heap.{Heap}
+use Rattle.machine_state.specs.known_classes.Reading.{IsThere}
 use Rattle.machine_values.proofs.ClassFields.{word-there}
 use Rattle.machine_values.proofs.constants.named_below.Goals as goal
 

@@ -1,7 +1,7 @@
 use Rattle.std.proofs.Common.{subst}
-use Rattle.ps_stepping.specs.Steps.{attempted}
-use Rattle.ps_stepping.specs.Objects.{changed}
-use Rattle.paired_ops.specs.World.{Writes}
+use Rattle.machine_state.specs.ps_stepping.Steps.{attempted}
+use Rattle.machine_state.specs.ps_stepping.Objects.{changed}
+use Rattle.machine_state.specs.paired_ops.World.{Writes}
 use Rattle.machine_values.proofs.Giving.{written, write-fails, failing}
 use Rattle.machine_values.proofs.gives.done.Goals as goal
 

@@ -1,9 +1,9 @@
 use Rattle.std.proofs.Common.{◌≡◌, subst, rules}
 use Rattle.std.specs.Prelude.{Ok}
 use Rattle.ps_base.specs.declared.line.Line.{Line}
-use Rattle.ps_meaning.specs.Texts.{Yields}
-use Rattle.ps_stepping.specs.Steps.{push_num}
-use Rattle.paired_ops.specs.World.{Answers}
+use Rattle.machine_state.specs.ps_meaning.Texts.{Yields}
+use Rattle.machine_state.specs.ps_stepping.Steps.{push_num}
+use Rattle.machine_state.specs.paired_ops.World.{Answers}
 use Rattle.machine_state.specs.Stepped.{Takes}
 use Rattle.machine_values.proofs.Giving.{bound-given, bound-fails}
 use Rattle.machine_values.proofs.gives.give_bound.Goals as goal

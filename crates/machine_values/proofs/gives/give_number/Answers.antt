@@ -1,10 +1,10 @@
 use Rattle.std.proofs.Common.{◌≡◌, subst, rules}
 use Rattle.std.specs.Prelude.{Ok}
-use Rattle.heap_places.specs.declared.value.Value.TheVariants as held
-use Rattle.ps_meaning.specs.Values.{number_of}
-use Rattle.ps_stepping.specs.Steps.{push_num}
-use Rattle.paired_ops.specs.World.{Answers}
-use Rattle.paired_ops.specs.Operands.{IsForIn, IsOfForm}
+use Rattle.machine_state.specs.heap_places.declared.value.Value.TheVariants as held
+use Rattle.machine_state.specs.ps_meaning.Values.{number_of}
+use Rattle.machine_state.specs.ps_stepping.Steps.{push_num}
+use Rattle.machine_state.specs.paired_ops.World.{Answers}
+use Rattle.machine_state.specs.paired_ops.Operands.{IsForIn, IsOfForm}
 use Rattle.machine_state.specs.Stepped.{Takes}
 use Rattle.machine_values.proofs.Giving.{number-given, int-read, flag-read}
 use Rattle.machine_values.proofs.gives.give_number.Goals as goal

@@ -1,10 +1,10 @@
 use Rattle.std.proofs.Common.{◌≡◌, subst, Some, rules}
 use Rattle.std.specs.Prelude.{Ok}
-use Rattle.heap_places.specs.declared.value.Value.TheVariants as held
-use Rattle.ps_stepping.specs.Steps.{attempted, push_ref}
-use Rattle.ps_stepping.specs.Objects.{when_reference}
-use Rattle.paired_ops.specs.World.{Answers}
-use Rattle.paired_ops.specs.Operands.{IsForIn, IsOfForm}
+use Rattle.machine_state.specs.heap_places.declared.value.Value.TheVariants as held
+use Rattle.machine_state.specs.ps_stepping.Steps.{attempted, push_ref}
+use Rattle.machine_state.specs.ps_stepping.Objects.{when_reference}
+use Rattle.machine_state.specs.paired_ops.World.{Answers}
+use Rattle.machine_state.specs.paired_ops.Operands.{IsForIn, IsOfForm}
 use Rattle.machine_values.proofs.Giving.{reference-given, read-fails, failing}
 use Rattle.machine_values.proofs.gives.give_reference.Goals as goal
 

@@ -1,7 +1,7 @@
 use Rattle.std.proofs.Common.{subst}
-use Rattle.ps_stepping.specs.Steps.{attempted}
-use Rattle.ps_stepping.specs.Objects.{make_text}
-use Rattle.paired_ops.specs.World.{MakesText}
+use Rattle.machine_state.specs.ps_stepping.Steps.{attempted}
+use Rattle.machine_state.specs.ps_stepping.Objects.{make_text}
+use Rattle.machine_state.specs.paired_ops.World.{MakesText}
 use Rattle.machine_values.proofs.Giving.{text-given, text-fails, failing}
 use Rattle.machine_values.proofs.gives.give_text.Goals as goal
 

@@ -1,5 +1,5 @@
 use Rattle.std.proofs.Common.{◌≡◌, ℕ, Option, sym, subst}
-use Rattle.paired_ops.specs.World.{DenotesIn}
+use Rattle.machine_state.specs.paired_ops.World.{DenotesIn}
 use Rattle.machine_values.proofs.pops.pop_any.Goals as goal
 
 pub returns-clause-pops : goal.returns-clause-pops

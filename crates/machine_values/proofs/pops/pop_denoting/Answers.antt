@@ -1,6 +1,6 @@
 use Rattle.std.proofs.Common.{None, sym, subst}
-use Rattle.paired_ops.specs.World.{DenotesIn}
-use Rattle.paired_ops.specs.Operands.{IsOfSort}
+use Rattle.machine_state.specs.paired_ops.World.{DenotesIn}
+use Rattle.machine_state.specs.paired_ops.Operands.{IsOfSort}
 use Rattle.machine_state.specs.Holding.{object_in}
 use Rattle.machine_values.proofs.Popping.{AllSorted, nil-named, nil-denoting, denoting-popped, no-denoting, structure-denoting, vector-denoting, other-denoting}
 use Rattle.machine_values.proofs.pops.pop_denoting.Goals as goal

@@ -1,7 +1,7 @@
 use Rattle.std.proofs.Common.{sym, subst}
-use Rattle.paired_ops.specs.World.{DenotesIn}
+use Rattle.machine_state.specs.paired_ops.World.{DenotesIn}
 use Rattle.machine_state.specs.Holding.{object_in, IsHolding}
-use Rattle.ps_stepping.specs.Steps.{pop_ref}
+use Rattle.machine_state.specs.ps_stepping.Steps.{pop_ref}
 use Rattle.machine_values.proofs.Popping.{AllSorted, vector-answer, no-vector, ref-holding, on-some}
 use Rattle.machine_values.proofs.pops.pop_vector.Goals as goal
 

@@ -1,7 +1,7 @@
 use mir.Syntax.{w32}
 use mir.Val.{to_z, of_z}
 use Rattle.std.proofs.Common.{◌≡◌, ℤ, subst, rules}
-use Rattle.ps_stepping.specs.Steps.{put_num}
+use Rattle.machine_state.specs.ps_stepping.Steps.{put_num}
 use Rattle.machine_state.specs.Stepped.{Takes}
 use Rattle.machine_values.proofs.ElementsReached.{number-in-place}
 use Rattle.machine_values.proofs.reaching.put_number.Goals as goal

@@ -1,7 +1,7 @@
 use mir.Syntax.{w32}
 use mir.Val.{to_z, of_z}
 use Rattle.std.proofs.Common.{◌≡◌, ap, rules}
-use Rattle.swizzle.specs.Heap.{Heap}
+use Rattle.machine_state.specs.swizzle.Heap.{Heap}
 use Rattle.machine_values.proofs.ElementsReached.{all-right, number-put}
 use Rattle.machine_values.proofs.reaching.write_number.Goals as goal
 

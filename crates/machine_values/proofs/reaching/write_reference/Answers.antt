@@ -2,8 +2,8 @@ use mir.Syntax.{w32}
 use mir.Val.{to_z, of_z}
 use Rattle.std.proofs.Common.{◌≡◌, ℕ, Option, sym, ap, subst, rules}
 use Rattle.std.specs.Prelude.{IfSome}
-use Rattle.swizzle.specs.Heap.{Heap, IsHeld}
-use Rattle.paired_ops.specs.World.{DenotesIn}
+use Rattle.machine_state.specs.swizzle.Heap.{Heap, IsHeld}
+use Rattle.machine_state.specs.paired_ops.World.{DenotesIn}
 use Rattle.machine_state.specs.Holding.{object_in}
 use Rattle.machine_values.proofs.Popping.{named-held}
 use Rattle.machine_values.proofs.ElementsReached.{all-right, reference-put}

@@ -1,4 +1,5 @@
 use Rattle.std.proofs.Common.{◌+◌, ◌/◌, ◌≤◌, length, sym, subst, ◌∙◌, arith}
+use Rattle.obj_layout.proofs.of_ps_outside.PastMoments.{past_along, past_then}
 use Rattle.shadow_volume.specs.Standing.{seen}
 use Rattle.shadow_volume.specs.declared.note.Committed.{Committed}
 use Rattle.obj_layout.specs.Stored.{overwritten}
@@ -44,3 +45,9 @@ returns-in-Err-clause-stages g c =
     let z = c.write_words.new.volume in
     stages_then (seen v.committed v.staged.items (o v.host)) (seen w.committed w.staged.items (o w.host)) (seen z.committed z.staged.items (o z.host)) 2 (length c.args.words.now / 256 + 4) (writing (length c.args.words.now))
     (stages_looks v.committed w.committed v.staged.items w.staged.items (o v.host) (o w.host) 2 c.object_at.ensures.looks) c.write_words.ensures.stages (omega arith)
+
+pub returns-in-Ok-clause-past : goal.returns-in-Ok-clause-past
+returns-in-Ok-clause-past g c = past_then (past_along c.object_at.ensures.looks.images) c.write_words.ensures.past
+
+pub returns-in-Err-clause-past : goal.returns-in-Err-clause-past
+returns-in-Err-clause-past g c = past_then (past_along c.object_at.ensures.looks.images) c.write_words.ensures.past

@@ -23,7 +23,7 @@ returns-in-Ok-clause-settles g c =
     let order = c.requires.order in
     let below = c.requires.below in
     let next = switched_order c.args.used c.args.directory v.committed z.committed order (omega arith) below c.in-Ok.ensures.committed in
-    switch_settles c.args.used c.args.directory v.committed z.committed v.staged.items z.staged.items (o v.host) (o z.host) order next c.in-Ok.ensures.switches
+    switch_settles c.args.used c.args.directory v.committed z.committed v.staged.items z.staged.items (o v.host) (o z.host) order next c.switch.ensures.past c.in-Ok.ensures.switches
 
 pub returns-in-Err-clause-settles : goal.returns-in-Err-clause-settles
 returns-in-Err-clause-settles g c =
@@ -32,4 +32,4 @@ returns-in-Err-clause-settles g c =
     let z = c.switch.new.self in
     let order = c.requires.order in
     switch_fails c.args.used c.args.directory v.committed z.committed v.staged.items z.staged.items (o v.host) (o z.host) c.in-Err.field-0 order
-    (subst (λ (k : Committed). IsInOrder c.args.used k) (sym c.in-Err.ensures.same) order) c.in-Err.ensures.switches
+    (subst (λ (k : Committed). IsInOrder c.args.used k) (sym c.in-Err.ensures.same) order) c.switch.ensures.past c.in-Err.ensures.switches

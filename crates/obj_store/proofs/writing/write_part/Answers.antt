@@ -1,5 +1,6 @@
 use Rattle.std.proofs.Common.{◌*◌, ◌+◌, ◌≤◌, max, min, length, arith}
 use Rattle.obj_store.proofs.WriteLaws.{part_turns, on_ok_two, stages_looks, stages_put, stages_then}
+use Rattle.obj_layout.proofs.of_ps_outside.PastMoments.{past_along, past_then}
 use Rattle.shadow_volume.specs.Standing.{seen}
 use Rattle.obj_store.proofs.writing.write_part.Goals as goal
 
@@ -28,3 +29,6 @@ returns-clause-stages g c =
     (stages_looks v.committed w.committed v.staged.items w.staged.items (o v.host) (o w.host) 1 c.read_page.ensures.looks)
     (stages_put c.put_page.result w.committed z.committed w.staged.items z.staged.items (o w.host) (o z.host) c.put_page.ensures.call c.put_page.ensures.images)
     (omega arith)
+
+pub returns-clause-past : goal.returns-clause-past
+returns-clause-past g c = past_then (past_along c.read_page.ensures.looks.images) c.put_page.ensures.past

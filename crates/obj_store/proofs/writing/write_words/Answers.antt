@@ -1,4 +1,5 @@
 use Rattle.std.proofs.Common.{◌∙◌, ◌+◌, ◌-◌, ◌*◌, ◌/◌, ◌^◌, ◌<◌, max, min, length, arith, refl}
+use Rattle.obj_layout.proofs.of_ps_outside.PastMoments.{past_none, past_then}
 use Rattle.shadow_volume.specs.Standing.{seen}
 use Rattle.obj_store.specs.Words.{HoldsPut}
 use Rattle.obj_store.specs.StoreLaws.{capacity_low}
@@ -64,7 +65,11 @@ loop-page-preserved g c =
           one two whole inv.turns c.in_ok-write_part.ensures.turns (λ x y z first next. next_put at (length put) page put x y z starts ends first next);
       stages = stages_then (seen v.committed v.staged.items (o v.host)) (seen w.committed w.staged.items (o w.host)) (seen z.committed z.staged.items (o z.host))
           (2 * (page - at / 512)) 2 _ inv.stages c.write_part.ensures.stages (omega arith);
+      past = past_then inv.past c.write_part.ensures.past;
       committed = c.write_part.ensures.committed ∙ inv.committed;
       marks = marks_then (at / 512) page (page + 1) v.staged.items w.staged.items z.staged.items inv.marks c.in_ok-write_part.ensures.marks;
       alive = c.in_ok-write_part.ensures.alive;
     }
+
+pub returns-in_err-write_part-clause-past : goal.returns-in_err-write_part-clause-past
+returns-in_err-write_part-clause-past g c = past_then c.loop-page.invariant.past c.write_part.ensures.past

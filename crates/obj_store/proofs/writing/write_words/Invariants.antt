@@ -1,6 +1,7 @@
 use Rattle.std.proofs.Common.{◌≡◌, ◌+◌, ◌-◌, ◌*◌, length, max, min}
 use Rattle.shadow_volume.specs.Standing.{IsAlive, seen}
 use Rattle.obj_store.specs.Words.{HoldsPut}
+use Rattle.obj_layout.specs.ps_outside.Past.{KeepsPast}
 use Rattle.obj_store.specs.Staging.{Stages, Turns, Marks}
 use Rattle.obj_store.proofs.writing.write_words.Given as goal
 
@@ -14,6 +15,7 @@ invariant-loop-page g l =
       turns : Turns (seen v.committed v.staged.items (outside v.host)) (seen w.committed w.staged.items (outside w.host))
           (HoldsPut l.fn.at (max l.fn.at (min (l.fn.at + length l.fn.from) (512 * l.page))) l.fn.at l.fn.from);
       stages : Stages (seen v.committed v.staged.items (outside v.host)) (seen w.committed w.staged.items (outside w.host)) (2 * (l.page - l.first));
+      past : KeepsPast (outside v.host) (outside w.host);
       committed : w.committed ≡ v.committed;
       marks : Marks l.first l.page v.staged.items w.staged.items;
       alive : IsAlive w.live w.committed w.staged.items (outside w.host);

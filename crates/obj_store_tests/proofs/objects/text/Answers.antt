@@ -1,5 +1,5 @@
 use Rattle.std.proofs.Common.{refl, arith}
-use Rattle.obj_layout.specs.declared.kind.Kind.TheVariants.{Text}
+use Rattle.obj_store.specs.obj_layout.declared.kind.Kind.TheVariants.{Text}
 use Rattle.obj_store_tests.proofs.objects.text.Goals as goal
 
 pub returns : goal.returns

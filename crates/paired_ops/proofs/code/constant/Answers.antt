@@ -1,6 +1,6 @@
 use Rattle.std.proofs.Common.{sym, subst}
-use Rattle.swizzle.specs.Reading.{LeavesOutside}
-use Rattle.swizzle.proofs.ReadingLaws.{leaves-none}
+use Rattle.text_ops.specs.swizzle.Reading.{LeavesOutside}
+use Rattle.text_ops.proofs.of_swizzle.ReadingLaws.{leaves-none}
 use Rattle.paired_ops.proofs.CodeLaws.{answers-constant, constant-stands, constant-held, constant-leaves}
 use Rattle.paired_ops.proofs.code.constant.Goals as goal
 

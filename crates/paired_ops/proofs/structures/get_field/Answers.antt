@@ -1,4 +1,4 @@
-use Rattle.swizzle.specs.Text.{text_at}
+use Rattle.text_ops.specs.swizzle.Text.{text_at}
 use Rattle.paired_ops.proofs.ValueLaws.{text-denoted}
 use Rattle.paired_ops.proofs.ClassLaws.{answers-field, gets-leaves}
 use Rattle.paired_ops.proofs.structures.get_field.Goals as goal

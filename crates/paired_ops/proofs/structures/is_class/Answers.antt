@@ -1,10 +1,10 @@
 use Rattle.std.proofs.Common.{sym, subst, refl, ◌∙◌, Option, ℕ, List, Some, Ok}
-use Rattle.obj_layout.specs.declared.kind.Kind.TheVariants.{Structure}
-use Rattle.swizzle.specs.Heap.{header_at}
-use Rattle.swizzle.specs.Text.{text_at}
-use Rattle.heap_places.proofs.TouchedLaws.{kinds-same, kinds-differ}
-use Rattle.heap_ops.specs.Structures.{TellsClass}
-use Rattle.ps_meaning.specs.Objects.{is_class}
+use Rattle.text_ops.specs.obj_layout.declared.kind.Kind.TheVariants.{Structure}
+use Rattle.text_ops.specs.swizzle.Heap.{header_at}
+use Rattle.text_ops.specs.swizzle.Text.{text_at}
+use Rattle.heap_meaning.proofs.of_heap_places.TouchedLaws.{kinds-same, kinds-differ}
+use Rattle.heap_meaning.specs.heap_ops.Structures.{TellsClass}
+use Rattle.text_ops.specs.ps_meaning.Objects.{is_class}
 use Rattle.paired_ops.specs.World.{DenotesIn}
 use Rattle.paired_ops.proofs.ValueLaws.{text-denoted}
 use Rattle.paired_ops.proofs.ClassLaws.{told-ok, told-fault, none-value, other-value}

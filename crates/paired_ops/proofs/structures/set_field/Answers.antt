@@ -1,4 +1,4 @@
-use Rattle.swizzle.specs.Text.{text_at}
+use Rattle.text_ops.specs.swizzle.Text.{text_at}
 use Rattle.paired_ops.proofs.ValueLaws.{text-denoted}
 use Rattle.paired_ops.proofs.FormLaws.{form-fits}
 use Rattle.paired_ops.proofs.FieldLaws.{writes-field, sets-leaves}

@@ -1,6 +1,6 @@
 use Rattle.std.proofs.Common.{List, ℕ, ap, ◌∙◌}
-use Rattle.ps_meaning.specs.Texts.{order_of}
-use Rattle.swizzle.specs.Text.{text_at}
+use Rattle.text_ops.specs.ps_meaning.Texts.{order_of}
+use Rattle.text_ops.specs.swizzle.Text.{text_at}
 use Rattle.paired_ops.proofs.ValueLaws.{text-denoted}
 use Rattle.paired_ops.proofs.texts.compare.Goals as goal
 

@@ -1,5 +1,5 @@
-use Rattle.ps_meaning.specs.Values.{Vector}
-use Rattle.ps_meaning.specs.Objects.{low_of}
+use Rattle.text_ops.specs.ps_meaning.Values.{Vector}
+use Rattle.text_ops.specs.ps_meaning.Objects.{low_of}
 use Rattle.paired_ops.proofs.ValueLaws.{vector-denoted}
 use Rattle.paired_ops.proofs.ReadLaws.{vector-at}
 use Rattle.paired_ops.proofs.ElementLaws.{low-told, low-int, bound-told, no-vector_fault}

@@ -1,4 +1,4 @@
-use Rattle.swizzle.proofs.ReadingLaws.{leaves-then}
+use Rattle.paired_ops.proofs.of_swizzle.ReadingLaws.{leaves-then}
 use Rattle.scopes.proofs.NameLaws.{so-kept}
 use Rattle.paired_procedures.proofs.KeptLaws.{no-scope, gets-kept, get-leaves}
 use Rattle.paired_procedures.proofs.scope.get_kept.Goals as goal

@@ -1,4 +1,4 @@
-use Rattle.swizzle.specs.Text.{text_at}
+use Rattle.paired_ops.specs.swizzle.Text.{text_at}
 use Rattle.paired_ops.proofs.ValueLaws.{text-denoted}
 use Rattle.paired_procedures.proofs.ScopeLaws.{makes-scope, scope-held}
 use Rattle.paired_procedures.proofs.scope.make_scope.Goals as goal

@@ -1,6 +1,6 @@
-use Rattle.swizzle.proofs.ReadingLaws.{leaves-then}
-use Rattle.heap_ops.proofs.ClassLaws.{stands-kept}
-use Rattle.heap_ops.proofs.VectorLaws.{near-kept}
+use Rattle.paired_ops.proofs.of_swizzle.ReadingLaws.{leaves-then}
+use Rattle.scopes.proofs.of_heap_ops.ClassLaws.{stands-kept}
+use Rattle.scopes.proofs.of_heap_ops.VectorLaws.{near-kept}
 use Rattle.scopes.proofs.NameLaws.{so-kept}
 use Rattle.paired_procedures.proofs.KeptLaws.{no-scope, out-carries, sets-kept, set-leaves, stand-then}
 use Rattle.paired_procedures.proofs.scope.set_kept.Goals as goal

@@ -2,7 +2,7 @@ use Rattle.std.proofs.Common.{rules, ◌≡◌, ℕ, List, ap, ◌∙◌, subst}
 use Rattle.ps_base.specs.CodeUnit.{constant_view, constants_view, unit_view}
 use Rattle.ps_base.specs.List.{items_of}
 use Rattle.ps_base.specs.declared.code_unit.Constant.{Constant}
-use Rattle.swizzle.specs.Heap.{top_of}
+use Rattle.heap_texts.specs.swizzle.Heap.{top_of}
 use Rattle.proc_values.specs.Units.{Loads, constants_objects, constant_words, unit_words, IsCut, with_all}
 use Rattle.proc_values.specs.inside.Loading.{LoadsConstants}
 use Rattle.proc_values.proofs.UnitLaws.{view_unit, view_words, words_literal, words_at}

@@ -1,7 +1,7 @@
 -- The measures of what goes over a unit, and what the loop keeps.
 use Rattle.std.proofs.Common.{◌+◌, ◌*◌, drop}
 use Rattle.ps_base.specs.CodeUnit.{constant_view, constants_view, unit_view}
-use Rattle.swizzle.specs.Heap.{top_of}
+use Rattle.heap_texts.specs.swizzle.Heap.{top_of}
 use Rattle.proc_values.specs.Units.{constants_objects, unit_words, constants_words, constant_words}
 use Rattle.proc_values.specs.Loaded.{AreFitConstants}
 use Rattle.proc_values.specs.inside.Loading.{SoFar}

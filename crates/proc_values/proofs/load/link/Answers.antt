@@ -1,6 +1,6 @@
 use Rattle.std.proofs.Common.{◌<◌, ap, arith, length, refl}
-use Rattle.swizzle.specs.Heap.{object_at}
-use Rattle.swizzle.specs.Objects.{Object}
+use Rattle.heap_texts.specs.swizzle.Heap.{object_at}
+use Rattle.heap_texts.specs.swizzle.Objects.{Object}
 use Rattle.proc_values.proofs.UnitLaws.{words_from}
 use Rattle.proc_values.proofs.LinkLaws.{linked-none, linked-held, linked-object, linked-there, linked-more, linked-all, refs-long, refs-few}
 use Rattle.proc_values.proofs.load.link.Goals as goal

@@ -1,8 +1,8 @@
 use Rattle.std.proofs.Common.{inr, ◌≡◌, List, length, ap, sym, ◌∙◌, subst, arith}
 use Rattle.ps_base.specs.CodeUnit.{constants_view, unit_view}
 use Rattle.ps_base.specs.declared.code_unit.Constant.{Constant}
-use Rattle.obj_layout.specs.declared.header.Header.{Header}
-use Rattle.swizzle.specs.Heap.{IsMade, with_new, with_num}
+use Rattle.heap_texts.specs.obj_layout.declared.header.Header.{Header}
+use Rattle.heap_texts.specs.swizzle.Heap.{IsMade, with_new, with_num}
 use Rattle.proc_values.specs.Units.{frame_word, code_object, constants_places}
 use Rattle.proc_values.specs.inside.Loading.{AreLoaded, MakesCode}
 use Rattle.proc_values.proofs.FoundLaws.{loaded-held, held-more}

@@ -1,8 +1,8 @@
 use Rattle.std.proofs.Common.{◌∙◌, sym, ℕ, Option, Some, subst}
-use Rattle.swizzle.specs.Heap.{ref_at}
-use Rattle.swizzle.specs.Joint.{name_of}
-use Rattle.swizzle.specs.Touch.{Denotes}
-use Rattle.swizzle.proofs.ReadingLaws.{reads-touch}
+use Rattle.heap_texts.specs.swizzle.Heap.{ref_at}
+use Rattle.heap_texts.specs.swizzle.Joint.{name_of}
+use Rattle.heap_texts.specs.swizzle.Touch.{Denotes}
+use Rattle.heap_texts.proofs.of_swizzle.ReadingLaws.{reads-touch}
 use Rattle.proc_values.specs.Reading.{HasConstant}
 use Rattle.proc_values.proofs.ReadLaws.{has_constant, some_denoted}
 use Rattle.proc_values.proofs.reading.constant.Given

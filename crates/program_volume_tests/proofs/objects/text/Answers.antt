@@ -1,5 +1,5 @@
 use Rattle.std.proofs.Common.{refl, arith}
-use Rattle.obj_layout.specs.declared.kind.Kind.TheVariants.{Text}
+use Rattle.command_answers.specs.obj_layout.declared.kind.Kind.TheVariants.{Text}
 use Rattle.program_volume_tests.proofs.objects.text.Goals as goal
 
 pub returns : goal.returns

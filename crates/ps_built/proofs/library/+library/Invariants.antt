@@ -28,7 +28,7 @@ decreases-in_arms l = 5 * weight_arms (arms_in l.arms.now) + 3
 abbrev pub decreases-in_further : goal.decreases-in_further
 decreases-in_further l = 5 * weight_parts (further_in l.further) + 4
 
--- what stands first in what is left, or else behind it, is the first of all
+-- what stands first in what is left, or else after it, is the first of all
 abbrev pub invariant-library_in-loop-line : goal.invariant-library_in-loop-line
 invariant-library_in-loop-line l = record {
   first : or_else (library_in (node_of l.rest)) l.behind ≡ library_in (node_of l.initial.rest);

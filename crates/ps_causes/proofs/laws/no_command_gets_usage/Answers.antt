@@ -1,7 +1,7 @@
 use Rattle.std.proofs.Common.{None, refl}
-use Rattle.ps_outside.specs.Outside.{Rose}
+use Rattle.ps_port.specs.ps_outside.Outside.{Rose}
 use Rattle.ps_causes.proofs.Converse.{no_command}
 use Rattle.ps_causes.proofs.laws.no_command_gets_usage.Goals as goal
 
 pub returns : goal.returns
-returns g c before after status bytes due = no_command None (g.S.Shelf.holds c.args.shelf.now) (g.S.Shelf.lacks c.args.shelf.now) (Rose before after) (g.H.Host.outside c.args.host.now) (g.H.Host.outside c.args.back.now) bytes status refl due
+returns g c before after status bytes due = no_command None (g.S.Shelf.holds c.args.shelf.now) (g.S.Shelf.lacks c.args.shelf.now) (g.S.Shelf.may_fail c.args.shelf.now) (Rose before after) (g.H.Host.outside c.args.host.now) (g.H.Host.outside c.args.back.now) bytes status refl due

@@ -4,7 +4,7 @@ use Rattle.ps_base.specs.TyView.{Void}
 use Rattle.ps_tree.specs.Phrase.{phrase_of}
 use Rattle.ps_program.specs.Node.{body}
 use Rattle.ps_program.specs.NodeView.{node_of, params_of}
-use Rattle.ps_typing.specs.Program.{Typed}
+use Rattle.ps_slots.specs.ps_typing.Program.{Typed}
 use Rattle.ps_slots.specs.Complexity.{fault_of}
 use Rattle.ps_slots.specs.inside.Sizes.{size_of}
 use Rattle.ps_slots.proofs.Sizing.{without_literals}

@@ -2,11 +2,11 @@ use Rattle.std.proofs.Common.{◌≡◌, ◌∙◌, ap, sym, subst}
 use Rattle.ps_base.specs.TyView.{Void, ty_view}
 use Rattle.ps_program.specs.NodeView.{node_of}
 use Rattle.ps_tree.specs.Phrase.{phrase_of}
-use Rattle.ps_scope.specs.Content.{names_of}
-use Rattle.ps_typing.specs.Checking.{Gives, check, wants}
-use Rattle.ps_typing.specs.Program.{end_line}
-use Rattle.ps_declared.specs.inside.Answers.{IsFault}
-use Rattle.ps_declared.proofs.Steps.{exits, fails_test}
+use Rattle.ps_checker.specs.ps_scope.Content.{names_of}
+use Rattle.ps_slots.specs.ps_typing.Checking.{Gives, check, wants}
+use Rattle.ps_slots.specs.ps_typing.Program.{end_line}
+use Rattle.ps_checker.specs.ps_declared.inside.Answers.{IsFault}
+use Rattle.ps_checker.proofs.of_ps_declared.Steps.{exits, fails_test}
 use Rattle.ps_slots.specs.inside.Sizes.{size}
 use Rattle.ps_check.proofs.Taking.{same_program}
 use Rattle.ps_check.proofs.Verdicts.{same_tree}

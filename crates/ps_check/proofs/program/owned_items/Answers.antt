@@ -3,9 +3,9 @@ use Rattle.ps_base.specs.TyView.{Void, ty_view}
 use Rattle.ps_tree.specs.Phrase.{phrase_of}
 use Rattle.ps_tree.specs.PhraseLists.{phrases_in}
 use Rattle.ps_program.specs.NodeView.{node_of, nodes_in}
-use Rattle.ps_scope.specs.Content.{names_of}
-use Rattle.ps_typing.specs.Checking.{check, check_all}
-use Rattle.ps_declared.proofs.Steps.{exits, fails_as, fails_first}
+use Rattle.ps_checker.specs.ps_scope.Content.{names_of}
+use Rattle.ps_slots.specs.ps_typing.Checking.{check, check_all}
+use Rattle.ps_checker.proofs.of_ps_declared.Steps.{exits, fails_as, fails_first}
 use Rattle.ps_checker.proofs.After.{after, after_nodes, after_nothing, fails_after, pushed, finished, all_is, all_step}
 use Rattle.ps_slots.specs.inside.Sizes.{size, size_items, join}
 use Rattle.ps_slots.proofs.Sizing.{item_more}

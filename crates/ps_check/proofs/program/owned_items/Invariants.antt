@@ -2,8 +2,8 @@ use Rattle.std.proofs.Common.{◌≡◌, length, reverse}
 use Rattle.ps_base.specs.TyView.{Void, ty_view}
 use Rattle.ps_tree.specs.PhraseLists.{phrases_in}
 use Rattle.ps_program.specs.NodeView.{nodes_in}
-use Rattle.ps_scope.specs.Content.{names_of}
-use Rattle.ps_typing.specs.Checking.{check_all}
+use Rattle.ps_checker.specs.ps_scope.Content.{names_of}
+use Rattle.ps_slots.specs.ps_typing.Checking.{check_all}
 use Rattle.ps_checker.proofs.After.{after, after_nodes}
 use Rattle.ps_slots.specs.inside.Sizes.{size_of, size_items}
 use Rattle.ps_check.proofs.program.owned_items.Given as goal

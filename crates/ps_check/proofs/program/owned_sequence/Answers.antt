@@ -3,12 +3,12 @@ use Rattle.ps_base.specs.TyView.{Void, ty_view}
 use Rattle.ps_tree.specs.PhraseLists.{phrases_in}
 use Rattle.ps_program.specs.Node as node
 use Rattle.ps_program.specs.NodeView.{node_of, nodes_in}
-use Rattle.ps_scope.specs.Content.{names_of}
-use Rattle.ps_typing.specs.Names.{Names}
-use Rattle.ps_typing.specs.Checking.{Gives, check_all}
-use Rattle.ps_typing.proofs.Keeps.{all_keeps_around, all_keeps_fields_around}
-use Rattle.ps_declared.specs.inside.Answers.{IsFault}
-use Rattle.ps_declared.proofs.Steps.{exits, fails_first, given}
+use Rattle.ps_checker.specs.ps_scope.Content.{names_of}
+use Rattle.ps_slots.specs.ps_typing.Names.{Names}
+use Rattle.ps_slots.specs.ps_typing.Checking.{Gives, check_all}
+use Rattle.ps_slots.proofs.of_ps_typing.Keeps.{all_keeps_around, all_keeps_fields_around}
+use Rattle.ps_checker.specs.ps_declared.inside.Answers.{IsFault}
+use Rattle.ps_checker.proofs.of_ps_declared.Steps.{exits, fails_first, given}
 use Rattle.ps_slots.specs.inside.Sizes.{size}
 use Rattle.ps_checker.proofs.Blocks.{stays}
 use Rattle.ps_check.proofs.program.owned_sequence.Goals as goal

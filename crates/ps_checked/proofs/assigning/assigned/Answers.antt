@@ -2,9 +2,9 @@ use Rattle.std.proofs.Common.{◌∙◌, ap, refl}
 use Rattle.std.specs.Prelude.{option_map}
 use Rattle.ps_base.specs.TyView.{ty_view}
 use Rattle.ps_program.specs.NodeView.{node_of}
-use Rattle.ps_scope.specs.Content.{names_of}
-use Rattle.ps_typing.specs.Fault.{Mismatch, NotAssignable}
-use Rattle.ps_typing.specs.Checking.{assigned}
+use Rattle.ps_declared.specs.ps_scope.Content.{names_of}
+use Rattle.ps_declared.specs.ps_typing.Fault.{Mismatch, NotAssignable}
+use Rattle.ps_declared.specs.ps_typing.Checking.{assigned}
 use Rattle.ps_declared.proofs.Steps.{is_fault, same, not_same, assigned_to, mismatched, nothing_to_assign, constant_assigned}
 use Rattle.ps_checked.proofs.assigning.assigned.Goals as goal
 

@@ -1,6 +1,6 @@
 use Rattle.std.proofs.Common.{◌≡◌, arith}
 use Rattle.ps_tree.specs.Phrase.{phrase_of}
-use Rattle.ps_typing.specs.Checking.{check}
+use Rattle.ps_declared.specs.ps_typing.Checking.{check}
 use Rattle.ps_checked.specs.inside.Weights.{weight_link, weight_links}
 use Rattle.ps_checked.proofs.LinkSteps.{gathered, gathered_weight, one_link, one_weight}
 use Rattle.ps_checked.proofs.chain.gather.Goals as goal

@@ -4,7 +4,7 @@ use Rattle.ps_tree.specs.Phrase.{form_of, phrase_of}
 use Rattle.ps_tree.specs.PhraseLists.{phrases_in}
 use Rattle.ps_tree.proofs.PhraseLemmas.{form_of-Apply}
 use Rattle.ps_tree.specs.Phrase as form
-use Rattle.ps_typing.specs.Checking.{check, check_form, applied, checkers}
+use Rattle.ps_declared.specs.ps_typing.Checking.{check, check_form, applied, checkers}
 use Rattle.ps_checked.specs.inside.Links.{applied_to}
 use Rattle.ps_checked.specs.inside.Weights.{weight_all, weight_form, weight_link}
 use Rattle.ps_checked.proofs.chain.link_of.Goals as goal

@@ -1,8 +1,8 @@
 use Rattle.std.proofs.Common.{◌∙◌, ap, sym, refl, not}
 use Rattle.std.specs.Prelude.{if◌then◌else◌}
 use Rattle.ps_base.specs.TyView.{Void, ty_view}
-use Rattle.ps_typing.specs.Fault.{Mismatch}
-use Rattle.ps_typing.specs.Checking.{Refuses}
+use Rattle.ps_declared.specs.ps_typing.Fault.{Mismatch}
+use Rattle.ps_declared.specs.ps_typing.Checking.{Refuses}
 use Rattle.ps_declared.proofs.Steps.{is_fault}
 use Rattle.ps_checked.proofs.Voids.{is_void, not_void}
 use Rattle.ps_checked.proofs.fits.void_before.Goals as goal

@@ -3,7 +3,7 @@ use Rattle.ps_tree.specs.Phrase.{at, Sequence, form_of}
 use Rattle.ps_tree.specs.PhraseLists.{phrases_in}
 use Rattle.ps_tree.specs.declared.rough.Rough.{Rough}
 use Rattle.ps_tree.proofs.PhraseLemmas.{form_of-Sequence}
-use Rattle.ps_typing.specs.Program.{end_line}
+use Rattle.ps_declared.specs.ps_typing.Program.{end_line}
 use Rattle.ps_checked.proofs.Ends.{last_is, last_of_none}
 use Rattle.ps_checked.proofs.items.end_line.Goals as goal
 

@@ -1,9 +1,9 @@
 use Rattle.std.proofs.Common.{◌≡◌, ◌∙◌, ap, sym, length, Some, [], rules}
 use Rattle.std.specs.Prelude.{if◌then◌else◌}
 use Rattle.ps_tree.specs.Phrase.{groups_in}
-use Rattle.ps_scope.specs.Content.{names_of}
-use Rattle.ps_typing.specs.Fault.{Limit}
-use Rattle.ps_typing.specs.Checking.{Refuses, with_params}
+use Rattle.ps_declared.specs.ps_scope.Content.{names_of}
+use Rattle.ps_declared.specs.ps_typing.Fault.{Limit}
+use Rattle.ps_declared.specs.ps_typing.Checking.{Refuses, with_params}
 use Rattle.ps_declared.specs.inside.Views.{groups_of}
 use Rattle.ps_declared.proofs.Steps.{exits, fails_as, is_fault}
 use Rattle.ps_declared.proofs.Declaring.{few, many, count_is}

@@ -1,6 +1,6 @@
 use Rattle.std.proofs.Common.{◌≡◌, ◌∙◌, Some, sym, subst}
-use Rattle.ps_reports.specs.Answering.{Answers}
-use Rattle.ps_reports.specs.Reports.{fault_line}
+use Rattle.ps_causes.specs.ps_reports.Answering.{Answers}
+use Rattle.ps_causes.specs.ps_reports.Reports.{fault_line}
 use Rattle.ps_command.specs.inside.Refusal.{number_of, line_of_fault}
 use Rattle.ps_command.proofs.Causes.{fault_told}
 use Rattle.ps_command.proofs.command.refuse.Goals as goal

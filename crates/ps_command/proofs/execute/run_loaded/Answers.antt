@@ -1,9 +1,9 @@
 use Rattle.std.proofs.Common.{◌∙◌, refl, sym, ap, subst}
 use Rattle.std.specs.Prelude.{Err}
-use Rattle.ps_outside.specs.Outside.{LeavesSame}
-use Rattle.ps_outside.proofs.Moments.{along_then, along_now}
-use Rattle.ps_reports.specs.Answering.{Answers}
-use Rattle.ps_reports.specs.Reports.{area_full_line}
+use Rattle.ps_port.specs.ps_outside.Outside.{LeavesSame}
+use Rattle.ps_port.proofs.of_ps_outside.Moments.{along_then, along_now}
+use Rattle.ps_causes.specs.ps_reports.Answering.{Answers}
+use Rattle.ps_causes.specs.ps_reports.Reports.{area_full_line}
 use Rattle.ps_causes.specs.Steps.{AnswersRun}
 use Rattle.ps_command.specs.inside.Steps.{begin}
 use Rattle.ps_command.proofs.Ending.{ran_is, never_damaged, all_told, front_told, fills, full_told, left_by_run}

@@ -1,5 +1,5 @@
-use Rattle.ps_words.specs.Reading.{run_in}
-use Rattle.ps_volumes.proofs.Settled.{volume_kept}
+use Rattle.ps_causes.specs.ps_words.Reading.{run_in}
+use Rattle.ps_causes.proofs.of_ps_volumes.Settled.{answers_keep, volume_kept}
 use Rattle.ps_causes.specs.Steps as steps
 use Rattle.ps_command.proofs.Ending.{run_behind}
 use Rattle.ps_command.proofs.execute.run_program.Goals as goal
@@ -18,7 +18,9 @@ returns-in-Ok-attached g c =
     let input = c.args.input.items in
     let status = c.run_attached.result.0 in
     record {
-      why = λ program r. steps.ran
-          (run_behind old (o store.host) (o back) run input program status is.looks.told is.looks.output (c.run_attached.ensures.ran program r))
-          (volume_kept o old store (o back) is c.run_attached.ensures.left (g.met.H.Host.is_image back));
+      why = λ program r.
+          let ran = c.run_attached.ensures.ran program r in
+          steps.ran (run_behind old (o store.host) (o back) run input program status is.looks.told is.looks.output ran)
+          (volume_kept o old store (o back) is c.run_attached.ensures.left (answers_keep (o store.host) (o back) ran.bytes ran.status status ran.answers)
+          (g.met.H.Host.is_image back));
     }

@@ -7,8 +7,8 @@ use Rattle.ps_program.specs.NodeView.{node_of}
 use Rattle.ps_scope.specs.Content.{names_of}
 use Rattle.ps_scope.specs.Views.{class_of}
 use Rattle.ps_scope.specs.declared.meaning.Class.{Class}
-use Rattle.ps_typing.specs.Fault.{Unknown}
-use Rattle.ps_typing.specs.Names.{meant}
+use Rattle.ps_scope.specs.ps_typing.Fault.{Unknown}
+use Rattle.ps_scope.specs.ps_typing.Names.{meant}
 use Rattle.ps_declared.specs.inside.Meant.{class_meant, class_test}
 use Rattle.ps_declared.proofs.ClassMeant.{a_class, no_class}
 use Rattle.ps_declared.proofs.Steps.{is_fault, made, remade}

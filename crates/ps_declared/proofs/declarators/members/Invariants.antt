@@ -1,6 +1,6 @@
 use Rattle.std.proofs.Common.{◌≡◌, take, map}
 use Rattle.ps_type_text.specs.Members.{fields_of}
-use Rattle.ps_typing.specs.Checking.{field_of}
+use Rattle.ps_scope.specs.ps_typing.Checking.{field_of}
 use Rattle.ps_declared.specs.inside.Views.{groups_of}
 use Rattle.ps_declared.proofs.declarators.members.Given as goal
 

@@ -1,6 +1,6 @@
 use Rattle.std.proofs.Common.{◌≡◌, take}
 use Rattle.ps_base.specs.TyView.{ty_views}
-use Rattle.ps_typing.specs.Checking.{types_of}
+use Rattle.ps_scope.specs.ps_typing.Checking.{types_of}
 use Rattle.ps_declared.specs.inside.Views.{groups_of}
 use Rattle.ps_declared.proofs.declarators.types.Given as goal
 

@@ -1,6 +1,6 @@
 use Rattle.std.proofs.Common.{◌∙◌, ap, sym}
 use Rattle.ps_tree.specs.PhraseLists.{phrases_in}
-use Rattle.ps_typing.specs.Checking.{field_name}
+use Rattle.ps_scope.specs.ps_typing.Checking.{field_name}
 use Rattle.ps_declared.proofs.FieldNames.{several}
 use Rattle.ps_declared.proofs.fields.field_name.Goals as goal
 

@@ -5,9 +5,9 @@ use Rattle.ps_program.specs.Node as node
 use Rattle.ps_program.specs.NodeView.{node_of}
 use Rattle.ps_program.specs.declared.place.Place.TheVariants.{Plain}
 use Rattle.ps_scope.specs.Content.{names_of}
-use Rattle.ps_typing.specs.Fault.{Twice}
-use Rattle.ps_typing.specs.Names.{declare_local, is_declared}
-use Rattle.ps_typing.specs.Checking.{Gives, Refuses}
+use Rattle.ps_scope.specs.ps_typing.Fault.{Twice}
+use Rattle.ps_scope.specs.ps_typing.Names.{declare_local, is_declared}
+use Rattle.ps_scope.specs.ps_typing.Checking.{Gives, Refuses}
 use Rattle.ps_declared.proofs.Steps.{is_fault, made, remade}
 use Rattle.ps_declared.proofs.names.introduced.Goals as goal
 

@@ -3,7 +3,7 @@ use Rattle.ps_base.specs.CodeUnit.{text, constant_view}
 use Rattle.ps_base.specs.TyView.{ty_view}
 use Rattle.ps_base.specs.declared.code_unit.Constant.{Text}
 use Rattle.ps_program.specs.NodeView.{params_of}
-use Rattle.ps_typing.specs.Locals.{taken_by_params}
+use Rattle.ps_emitter.specs.ps_typing.Locals.{taken_by_params}
 use Rattle.ps_emitter.specs.Pieces.{State, state_of, constant, Puts}
 use Rattle.ps_gen.specs.Units.{type_constant}
 use Rattle.ps_gen.specs.inside.Clauses.{keeping}

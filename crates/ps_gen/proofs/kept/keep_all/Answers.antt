@@ -1,7 +1,7 @@
 use Rattle.std.proofs.Common.{◌+◌, true, false, drop, ap, sym, subst, ◌∙◌, arith}
 use Rattle.std.proofs.lemmas.List.{drop_all}
 use Rattle.ps_program.specs.NodeView.{params_of, param_of}
-use Rattle.ps_typing.specs.Locals.{taken_by_params, one_on}
+use Rattle.ps_emitter.specs.ps_typing.Locals.{taken_by_params, one_on}
 use Rattle.ps_emitter.specs.Pieces.{state_of, Left}
 use Rattle.ps_gen.specs.inside.Clauses.{keeping}
 use Rattle.ps_emitter.proofs.Steps.{left_more, left_none}

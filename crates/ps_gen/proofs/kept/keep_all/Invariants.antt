@@ -1,6 +1,6 @@
 use Rattle.std.proofs.Common.{◌≡◌, ◌+◌, true, false, drop}
 use Rattle.ps_program.specs.NodeView.{params_of}
-use Rattle.ps_typing.specs.Locals.{taken_by_params}
+use Rattle.ps_emitter.specs.ps_typing.Locals.{taken_by_params}
 use Rattle.ps_emitter.specs.Pieces.{state_of, Left}
 use Rattle.ps_gen.specs.inside.Clauses.{keeping}
 use Rattle.ps_gen.proofs.kept.keep_all.Given as goal

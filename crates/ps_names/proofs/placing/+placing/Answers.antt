@@ -24,9 +24,9 @@ use Rattle.ps_program.specs.inside.Weights.{weight, weight_all, weight_arms}
 use Rattle.ps_program.proofs.NodeLists.{arm_of-parts, block_is, make_is, lib_is, elems_is, call_is, case_is}
 use Rattle.ps_program.proofs.NodeSteps.{weight_at, weight_arm_at}
 use Rattle.ps_program.proofs.PartLemmas.{weight_is, weight_of_all, weight_of_arms, weight_parts-append}
-use Rattle.ps_typing.specs.Mentions.{numbers}
-use Rattle.ps_typing.specs.Placing.{place_of, scope_text, inside, declared}
-use Rattle.ps_typing.specs.Placed.{◌>>=◌, then_give, placed, placed_all, placed_arms, placed_literal, with_params}
+use Rattle.ps_placer.specs.ps_typing.Mentions.{numbers}
+use Rattle.ps_placer.specs.ps_typing.Placing.{place_of, scope_text, inside, declared}
+use Rattle.ps_placer.specs.ps_typing.Placed.{◌>>=◌, then_give, placed, placed_all, placed_arms, placed_literal, with_params}
 use Rattle.ps_placer.specs.inside.Marks.{marks_of, is_kept}
 use Rattle.ps_placer.specs.inside.Standing.{Stands, Does, Enters, chosen}
 use Rattle.ps_names.specs.inside.Chains.{is_link, placed_parts, weight_placed, weight_arm, Rises}

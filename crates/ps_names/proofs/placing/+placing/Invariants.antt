@@ -4,7 +4,7 @@ use Rattle.ps_base.specs.List.{items_of}
 use Rattle.ps_program.specs.NodeView.{node_of, node_of_form, nodes_in, arm_of}
 use Rattle.ps_program.specs.inside.PartsView.{arms_in}
 use Rattle.ps_program.specs.inside.Weights.{weight, weight_all, weight_arms}
-use Rattle.ps_typing.specs.Placed.{placed_all, placed_arms}
+use Rattle.ps_placer.specs.ps_typing.Placed.{placed_all, placed_arms}
 use Rattle.ps_placer.specs.inside.Standing.{Does}
 use Rattle.ps_names.specs.inside.Chains.{rewound, weight_placed, weight_arm, Rises}
 use Rattle.ps_names.proofs.placing.+placing.Given as goal

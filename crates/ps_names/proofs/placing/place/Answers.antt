@@ -3,9 +3,9 @@ use Rattle.ps_type_text.specs.Members.{fields_of}
 use Rattle.ps_program.specs.Node.{Node, BodyNode}
 use Rattle.ps_program.specs.Node as node
 use Rattle.ps_program.specs.NodeView.{body_of}
-use Rattle.ps_typing.specs.Mentions.{kept_names}
-use Rattle.ps_typing.specs.Placed.{no_locals, then_give}
-use Rattle.ps_typing.specs.Placing.{Around}
+use Rattle.ps_placer.specs.ps_typing.Mentions.{kept_names}
+use Rattle.ps_placer.specs.ps_typing.Placed.{no_locals, then_give}
+use Rattle.ps_placer.specs.ps_typing.Placing.{Around}
 use Rattle.ps_names.proofs.placing.place.Goals as goal
 
 abbrev in_literal : BodyNode → Node → BodyNode

@@ -1,4 +1,4 @@
-use Rattle.ps_symbols.specs.Symbols.{symbols}
+use Rattle.ps_tree.specs.ps_symbols.Symbols.{symbols}
 use Rattle.ps_parse.proofs.Unique.{one_tree_of_all}
 use Rattle.ps_parse.proofs.laws.tree_is_unique.Goals as goal
 

@@ -1,14 +1,14 @@
 use Rattle.std.proofs.Common.{arith, List, None, length, subst, sym, ◌∙◌}
 use Rattle.std.specs.List.{All}
-use Rattle.ps_symbols.specs.declared.symbol.Symbol.{Symbol}
-use Rattle.ps_symbols.specs.inside.Soundness.{IsSound}
+use Rattle.ps_tree.specs.ps_symbols.declared.symbol.Symbol.{Symbol}
+use Rattle.ps_tree.specs.ps_symbols.inside.Soundness.{IsSound}
 use Rattle.ps_reader.specs.inside.Stopping.{HaltsWith, Continues}
 use Rattle.std.specs.Prelude.{ℕ, Result, Ok, Err, IfOk, IfErr, MatchResult, ◌≢◌}
 use Rattle.ps_tree.specs.declared.fault.ParseFault.{ParseFault}
 use Rattle.ps_tree.specs.declared.fault.ParseFault.TheVariants.{Memory}
 use Rattle.ps_tree.specs.declared.rough.Rough.{Rough}
-use Rattle.ps_scan.specs.declared.token.Token.{Token}
-use Rattle.ps_symbols.specs.Symbols.{symbols as read_as}
+use Rattle.ps_reader.specs.ps_scan.declared.token.Token.{Token}
+use Rattle.ps_tree.specs.ps_symbols.Symbols.{symbols as read_as}
 use Rattle.ps_tree.specs.Phrase.{phrase_of}
 use Rattle.ps_parse.specs.Program.{IsParseFault, ReadsAs}
 use Rattle.ps_reader.specs.Reading.{Reads}
@@ -16,7 +16,7 @@ use Rattle.ps_reader.specs.Grammar.{Go, Give, Program, a_clause}
 use Rattle.ps_parse.proofs.Ends.{ends_there, symbols_stand}
 use Rattle.ps_reader.proofs.Steps.{reads_as_this}
 use Rattle.ps_parse.proofs.Faults.{fault_of_stop}
-use Rattle.ps_symbols.proofs.SymbolLemmas.{tokens_fit, all_sound}
+use Rattle.ps_tree.proofs.of_ps_symbols.SymbolLemmas.{tokens_fit, all_sound}
 use Rattle.ps_parse.proofs.parser.parse.Goals as goal
 
 pub symbols-requires : goal.symbols-requires

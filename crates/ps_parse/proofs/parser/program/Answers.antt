@@ -1,6 +1,6 @@
 use Rattle.std.proofs.Common.{◌≡◌, None, refl}
-use Rattle.ps_symbols.specs.declared.kind.Kind.{Kind}
-use Rattle.ps_symbols.specs.declared.kind.Kind.TheVariants as kind
+use Rattle.ps_tree.specs.ps_symbols.declared.kind.Kind.{Kind}
+use Rattle.ps_tree.specs.ps_symbols.declared.kind.Kind.TheVariants as kind
 use Rattle.ps_tree.specs.Phrase.{Phrase}
 use Rattle.ps_reader.specs.Grammar.{ended, ending}
 use Rattle.ps_reader.specs.inside.Stopping.{HaltsWith}

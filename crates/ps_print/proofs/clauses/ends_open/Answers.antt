@@ -1,6 +1,6 @@
 use Rattle.std.proofs.Common.{◌∙◌, ap, sym}
 use Rattle.ps_tree.specs.PhraseLists.{items_in}
-use Rattle.ps_layout.specs.Layout.{ends_open}
+use Rattle.ps_type_pieces.specs.ps_layout.Layout.{ends_open}
 use Rattle.ps_print.proofs.Views.{ends_open_with, other_flag}
 use Rattle.ps_print.proofs.clauses.ends_open.Goals as goal
 

@@ -1,7 +1,7 @@
 use Rattle.std.proofs.Common.{◌≡◌, ◌∙◌, ap, sym}
 use Rattle.ps_tree.specs.Phrase.{Form, Write, form_of}
 use Rattle.ps_tree.specs.PhraseLists.{items_in}
-use Rattle.ps_layout.specs.Layout.{is_taken, before_colon}
+use Rattle.ps_type_pieces.specs.ps_layout.Layout.{is_taken, before_colon}
 use Rattle.ps_tree.proofs.PhraseLemmas.{form_of-Write}
 use Rattle.ps_print.proofs.Views.{takes_no_colon}
 use Rattle.ps_print.proofs.clauses.takes_colon.Goals as goal

@@ -3,11 +3,11 @@ use Rattle.std.specs.Prelude.{OnOk}
 use Rattle.ps_tree.specs.Phrase.{WriteItem, item, item_of, absent, present, phrase_of}
 use Rattle.ps_tree.specs.PhraseLists.{maybe_in}
 use Rattle.ps_tree.specs.declared.rough.RoughItem.{out-RoughItem}
-use Rattle.ps_layout.specs.Layout.{item_lexemes}
-use Rattle.ps_layout.specs.Weights.{weight_item}
-use Rattle.ps_layout.specs.Waiting.{waiting, behind_of, Adds}
+use Rattle.ps_type_pieces.specs.ps_layout.Layout.{item_lexemes}
+use Rattle.ps_type_pieces.specs.ps_layout.Weights.{weight_item}
+use Rattle.ps_type_pieces.specs.ps_layout.Waiting.{waiting, behind_of, Adds}
 use Rattle.ps_print.proofs.Views.{item_of-parts}
-use Rattle.ps_layout.proofs.Printing.{puts_one}
+use Rattle.ps_type_pieces.proofs.of_ps_layout.Printing.{puts_one}
 use Rattle.ps_print.proofs.items.put_item.Goals as goal
 
 pub returns-in-None : goal.returns-in-None

@@ -1,7 +1,7 @@
 use Rattle.std.proofs.Common.{◌≡◌, ◌∙◌, ap, sym}
 use Rattle.ps_tree.specs.Phrase.{Sequence, at, form_of}
 use Rattle.ps_tree.specs.PhraseLists.{phrases_in}
-use Rattle.ps_layout.specs.Waiting.{is_empty_program}
+use Rattle.ps_type_pieces.specs.ps_layout.Waiting.{is_empty_program}
 use Rattle.ps_tree.proofs.PhraseLemmas.{form_of-Sequence}
 use Rattle.ps_print.proofs.Views.{is_empty}
 use Rattle.ps_print.proofs.print.is_empty_program.Goals as goal

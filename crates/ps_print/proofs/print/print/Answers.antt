@@ -1,8 +1,8 @@
 use Rattle.std.proofs.Common.{◌∙◌, ◌++◌, ap, sym}
 use Rattle.ps_tree.specs.Phrase.{phrase_of}
-use Rattle.ps_layout.specs.Waiting.{waiting, lexemes_of}
-use Rattle.ps_layout.specs.Lexemes.{text_of}
-use Rattle.ps_layout.specs.Weights.{weight}
+use Rattle.ps_type_pieces.specs.ps_layout.Waiting.{waiting, lexemes_of}
+use Rattle.ps_type_pieces.specs.ps_layout.Lexemes.{text_of}
+use Rattle.ps_type_pieces.specs.ps_layout.Weights.{weight}
 use Rattle.ps_print.proofs.Printing.{print_made}
 use Rattle.ps_print.proofs.print.print.Goals as goal
 

@@ -3,11 +3,11 @@ use Rattle.ps_tree.specs.Phrase.{Sequence, form_of}
 use Rattle.ps_tree.specs.PhraseLists.{phrases_in}
 use Rattle.ps_tree.proofs.PhraseLemmas.{form_of-Sequence}
 use Rattle.ps_tree.specs.declared.rough.RoughForm.{RoughForm}
-use Rattle.ps_layout.specs.Lexemes.{nothing}
-use Rattle.ps_layout.specs.Layout.{other, form_lexemes}
-use Rattle.ps_layout.specs.Weights.{weight_form}
-use Rattle.ps_layout.specs.Waiting.{waiting}
-use Rattle.ps_layout.proofs.Printing.{puts_one}
+use Rattle.ps_type_pieces.specs.ps_layout.Lexemes.{nothing}
+use Rattle.ps_type_pieces.specs.ps_layout.Layout.{other, form_lexemes}
+use Rattle.ps_type_pieces.specs.ps_layout.Weights.{weight_form}
+use Rattle.ps_type_pieces.specs.ps_layout.Waiting.{waiting}
+use Rattle.ps_type_pieces.proofs.of_ps_layout.Printing.{puts_one}
 use Rattle.ps_print.proofs.Views.{layout_of-form}
 use Rattle.ps_print.proofs.print.put_tree.Goals as goal
 

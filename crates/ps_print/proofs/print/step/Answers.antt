@@ -1,8 +1,8 @@
 use Rattle.std.proofs.Common.{ap}
-use Rattle.ps_scan.specs.declared.token.TokenKind.TheVariants.{Int, Text}
-use Rattle.ps_layout.specs.Layout.{lexeme, the_word, the_mark, name_lexeme}
-use Rattle.ps_layout.specs.Spellings.{int_text, string_text}
-use Rattle.ps_layout.specs.Waiting.{gap_of, waiting, piece_lexemes, piece_weight}
+use Rattle.ps_tree.specs.ps_scan.declared.token.TokenKind.TheVariants.{Int, Text}
+use Rattle.ps_type_pieces.specs.ps_layout.Layout.{lexeme, the_word, the_mark, name_lexeme}
+use Rattle.ps_type_pieces.specs.ps_layout.Spellings.{int_text, string_text}
+use Rattle.ps_type_pieces.specs.ps_layout.Waiting.{gap_of, waiting, piece_lexemes, piece_weight}
 use Rattle.ps_print.proofs.Printing.{prints_lexeme, prints_put}
 use Rattle.ps_print.proofs.print.step.Goals as goal
 

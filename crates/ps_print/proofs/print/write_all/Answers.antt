@@ -1,4 +1,4 @@
-use Rattle.ps_layout.specs.Waiting.{waiting}
+use Rattle.ps_type_pieces.specs.ps_layout.Waiting.{waiting}
 use Rattle.ps_print.proofs.Printing.{all_printed}
 use Rattle.ps_print.proofs.print.write_all.Goals as goal
 

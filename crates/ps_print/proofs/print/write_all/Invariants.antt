@@ -1,7 +1,7 @@
 -- The text so far, and what is still to be printed, are what is printed in all.
 use Rattle.std.proofs.Common.{◌≡◌, ◌++◌}
-use Rattle.ps_layout.specs.Lexemes.{text_of}
-use Rattle.ps_layout.specs.Waiting.{waiting, lexemes_of, weight_of}
+use Rattle.ps_type_pieces.specs.ps_layout.Lexemes.{text_of}
+use Rattle.ps_type_pieces.specs.ps_layout.Waiting.{waiting, lexemes_of, weight_of}
 use Rattle.ps_print.proofs.print.write_all.Given as goal
 
 abbrev pub invariant-loop-piece : goal.invariant-loop-piece

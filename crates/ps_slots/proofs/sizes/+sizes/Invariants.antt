@@ -25,7 +25,7 @@ decreases-sizes_of_arms l = 5 * weight_arms (arms_in l.arms.now) + 3
 abbrev pub decreases-sizes_of_further : goal.decreases-sizes_of_further
 decreases-sizes_of_further l = 5 * weight_parts (further_in l.further) + 4
 
--- what is left and, behind it, what was found make the whole
+-- what is left and, after it, what was found make the whole
 abbrev pub invariant-sizes_of-loop-body : goal.invariant-sizes_of-loop-body
 invariant-sizes_of-loop-body l = record {
   sized : join (size (node_of l.rest)) (size_of l.sizes) ≡ size (node_of l.initial.rest);

@@ -6,10 +6,10 @@ use Rattle.ps_tree.specs.Phrase as form
 use Rattle.ps_tree.specs.PhraseLists.{phrases_in, items_in, arms_in as rough_arms_in, maybe_in}
 use Rattle.ps_tree.proofs.PhraseLemmas.{form_of-Sequence, form_of-Write, form_of-Apply, form_of-Elems, form_of-Case, maybe_boxed-back}
 use Rattle.ps_tree.specs.declared.rough.RoughRange.{out-RoughRange}
-use Rattle.ps_scope.specs.Content.{names_of}
-use Rattle.ps_typing.specs.Checking.{check, check_form}
-use Rattle.ps_declared.specs.inside.Looks.{LiteralAt}
-use Rattle.ps_declared.specs.inside.Views.{literal_of, maybe_lent}
+use Rattle.ps_checked.specs.ps_scope.Content.{names_of}
+use Rattle.ps_checked.specs.ps_typing.Checking.{check, check_form}
+use Rattle.ps_checked.specs.ps_declared.inside.Looks.{LiteralAt}
+use Rattle.ps_checked.specs.ps_declared.inside.Views.{literal_of, maybe_lent}
 use Rattle.ps_checked.specs.inside.Forms.{check_literal}
 use Rattle.ps_checked.specs.inside.Parts.{check_double}
 use Rattle.ps_checked.specs.inside.Weights.{weight, weight_form, weight_if_any}

@@ -2,7 +2,7 @@ use Rattle.std.proofs.Common.{◌≡◌, ◌+◌, ◌∷◌, List, OnOk, refl, r
 use Rattle.ps_base.specs.TyView.{ty_view}
 use Rattle.ps_base.specs.declared.ty.Ty.{Ty}
 use Rattle.ps_base.specs.declared.ty.Ty.TheVariants as code
-use Rattle.ps_scan.specs.declared.mark.TheConstants as mark
+use Rattle.ps_tree.specs.ps_scan.declared.mark.TheConstants as mark
 use Rattle.ps_layout.specs.Lexemes.{Lexeme, blank}
 use Rattle.ps_layout.specs.Layout.{behind_arrow, the_mark, type_lexemes}
 use Rattle.ps_layout.specs.Waiting.{waiting, Adds}

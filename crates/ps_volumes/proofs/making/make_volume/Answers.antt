@@ -1,5 +1,6 @@
 use Rattle.std.proofs.Common.{subst}
-use Rattle.shadow_volume.specs.Making.{IsCause}
+use Rattle.obj_store.specs.shadow_volume.Making.{IsCause}
+use Rattle.obj_store.proofs.of_shadow_volume.Shutting.{shuts_at, opens_at}
 use Rattle.ps_volumes.proofs.Refused.{made_by, failed_by, left_by}
 use Rattle.ps_volumes.proofs.making.make_volume.Goals as goal
 
@@ -7,7 +8,8 @@ pub returns-in-Ok : goal.returns-in-Ok
 returns-in-Ok g c =
     let o = g.H.Host.outside in
     let is = c.in-Ok.ensures in
-    made_by c.args.pages (o c.args.host.now) (o c.format.new.host) is.any_moment is.told is.output is.none is.made is.durable
+    made_by c.args.pages (o c.args.host.now) (o c.format.new.host) is.any_moment (shuts_at o c.args.pages c.args.host.now c.format.new.host is.gate) is.told is.output
+    (opens_at o c.args.pages c.args.host.now c.format.new.host is.opened) is.none is.made is.durable
 
 pub returns-in-Err-Device : goal.returns-in-Err-Device
 returns-in-Err-Device g c =
@@ -15,7 +17,7 @@ returns-in-Err-Device g c =
     let old = o c.args.host.now in
     let mid = o c.format.new.host in
     let is = c.in-Err-Device.ensures in
-    failed_by c.args.pages old mid is.any_moment is.told is.output (o c.device_fault.new.host) c.device_fault.ensures.device c.device_fault.result
+    failed_by c.args.pages old mid is.any_moment (shuts_at o c.args.pages c.args.host.now c.format.new.host is.gate) is.told is.output (o c.device_fault.new.host) c.device_fault.ensures.device c.device_fault.result
     (subst (IsCause old mid) c.in-Err-Device.field-0-is is.cause) c.device_fault.ensures.answers
 
 pub returns-in-Err-AlreadyVolume : goal.returns-in-Err-AlreadyVolume
@@ -24,5 +26,5 @@ returns-in-Err-AlreadyVolume g c =
     let old = o c.args.host.now in
     let mid = o c.format.new.host in
     let is = c.in-Err-AlreadyVolume.ensures in
-    left_by c.args.pages old mid is.any_moment is.told is.output (o c.already_a_volume.new.host) c.already_a_volume.ensures.device c.in-Err-AlreadyVolume.field-0-0
+    left_by c.args.pages old mid is.any_moment (shuts_at o c.args.pages c.args.host.now c.format.new.host is.gate) is.told is.output (o c.already_a_volume.new.host) c.already_a_volume.ensures.device c.in-Err-AlreadyVolume.field-0-0
     c.already_a_volume.result (subst (IsCause old mid) c.in-Err-AlreadyVolume.field-0-is is.cause) c.already_a_volume.ensures.answers

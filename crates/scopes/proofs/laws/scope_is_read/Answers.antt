@@ -1,4 +1,4 @@
-use Rattle.text_forms.specs.Forms.{forms_of, rows_of}
+use Rattle.closures.specs.text_forms.Forms.{forms_of, rows_of}
 use Rattle.scopes.proofs.ReadLaws.{scope-sound, scope-text, scope-parent, scope-way, keeps-first}
 use Rattle.scopes.proofs.laws.scope_is_read.Goals as goal
 

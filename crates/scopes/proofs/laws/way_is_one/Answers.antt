@@ -1,6 +1,6 @@
-use Rattle.obj_layout.specs.Stored.{Holds}
-use Rattle.swizzle.specs.Reading.{joint}
-use Rattle.swizzle.proofs.NameLaws.{Joint-one}
+use Rattle.closures.specs.obj_layout.Stored.{Holds}
+use Rattle.closures.specs.swizzle.Reading.{joint}
+use Rattle.closures.proofs.of_swizzle.NameLaws.{Joint-one}
 use Rattle.scopes.proofs.OneWay.{one-way}
 use Rattle.scopes.proofs.laws.way_is_one.Goals as goal
 

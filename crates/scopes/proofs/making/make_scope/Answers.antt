@@ -1,6 +1,6 @@
 use Rattle.std.proofs.Common.{ℕ, List, ◌+◌, ap, ◌∙◌, arith}
-use Rattle.text_forms.specs.Forms.{forms_of, rows_of}
-use Rattle.swizzle.specs.Text.{text_at}
+use Rattle.closures.specs.text_forms.Forms.{forms_of, rows_of}
+use Rattle.closures.specs.swizzle.Text.{text_at}
 use Rattle.scopes.proofs.MakingLaws.{places-few, scope-lengths, blank-held, scope-made, scope-full}
 use Rattle.scopes.proofs.making.make_scope.Goals as goal
 

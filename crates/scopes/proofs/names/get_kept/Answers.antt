@@ -1,6 +1,6 @@
 use Rattle.std.proofs.Common.{ℕ, inl, sym, subst}
-use Rattle.swizzle.specs.Joint.{shown_at}
-use Rattle.heap_places.specs.Places.{HasPlace, ReadsPlace}
+use Rattle.closures.specs.swizzle.Joint.{shown_at}
+use Rattle.closures.specs.heap_places.Places.{HasPlace, ReadsPlace}
 use Rattle.scopes.proofs.NameLaws.{index-fits, place-there, gets, so-read}
 use Rattle.scopes.proofs.names.get_kept.Goals as goal
 

@@ -1,8 +1,8 @@
 use Rattle.std.proofs.Common.{subst}
-use Rattle.swizzle.specs.Joint.{shown_at}
-use Rattle.text_forms.specs.declared.forms.Form.{Form}
-use Rattle.heap_places.specs.Places.{HasPlace}
-use Rattle.heap_places.proofs.PlaceLaws.{refs_below}
+use Rattle.closures.specs.swizzle.Joint.{shown_at}
+use Rattle.closures.specs.text_forms.declared.forms.Form.{Form}
+use Rattle.closures.specs.heap_places.Places.{HasPlace}
+use Rattle.closures.proofs.of_heap_places.PlaceLaws.{refs_below}
 use Rattle.scopes.proofs.names.near_value.Goals as goal
 
 pub peek-requires-clause-below : goal.peek-requires-clause-below

@@ -1,8 +1,8 @@
 use Rattle.std.proofs.Common.{ℕ, ◌+◌, List, length, ap, ◌∙◌}
-use Rattle.obj_layout.specs.declared.vault.VaultFault.TheVariants.{Damaged}
-use Rattle.swizzle.specs.declared.fault.SwizzleFault.TheVariants.{Vault}
-use Rattle.swizzle.specs.Heap.{header_at}
-use Rattle.text_forms.specs.Forms.{forms_of}
+use Rattle.closures.specs.obj_layout.declared.vault.VaultFault.TheVariants.{Damaged}
+use Rattle.closures.specs.swizzle.declared.fault.SwizzleFault.TheVariants.{Vault}
+use Rattle.closures.specs.swizzle.Heap.{header_at}
+use Rattle.closures.specs.text_forms.Forms.{forms_of}
 use Rattle.scopes.proofs.NameLaws.{names-counted}
 use Rattle.scopes.proofs.names.no_name.Goals as goal
 

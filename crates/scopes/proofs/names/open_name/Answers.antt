@@ -1,9 +1,9 @@
 use Rattle.std.proofs.Common.{ℕ, ◌+◌, ◌≡◌, Option, None, sym, ap, subst, ◌∙◌}
-use Rattle.obj_layout.specs.Stored.{Damage}
-use Rattle.obj_layout.specs.declared.kind.Kind.TheVariants.{Scope}
-use Rattle.swizzle.specs.Joint.{shown_at}
-use Rattle.heap_places.specs.Shapes.{shape_damage}
-use Rattle.heap_places.specs.Places.{NamesDamage}
+use Rattle.closures.specs.obj_layout.Stored.{Damage}
+use Rattle.closures.specs.obj_layout.declared.kind.Kind.TheVariants.{Scope}
+use Rattle.closures.specs.swizzle.Joint.{shown_at}
+use Rattle.closures.specs.heap_places.Shapes.{shape_damage}
+use Rattle.closures.specs.heap_places.Places.{NamesDamage}
 use Rattle.scopes.specs.Names.{scope_damage}
 use Rattle.scopes.proofs.NameLaws.{so-kept, opens, opens-other, opens-none, opens-misshapen}
 use Rattle.scopes.proofs.names.open_name.Goals as goal

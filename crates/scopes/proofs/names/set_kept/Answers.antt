@@ -1,6 +1,6 @@
 use Rattle.std.proofs.Common.{ℕ, inl, sym, subst, ◌∙◌}
-use Rattle.swizzle.specs.Joint.{shown_at}
-use Rattle.heap_places.specs.Places.{HasRow}
+use Rattle.closures.specs.swizzle.Joint.{shown_at}
+use Rattle.closures.specs.heap_places.Places.{HasRow}
 use Rattle.heap_ops.proofs.VectorLaws.{near-kept, near-fitted}
 use Rattle.scopes.proofs.NameLaws.{index-fits, row-there, refuses, so-written}
 use Rattle.scopes.proofs.names.set_kept.Goals as goal

@@ -1,5 +1,5 @@
 use Rattle.std.proofs.Common.{arith, sym, ◌∙◌}
-use Rattle.swizzle.proofs.ReadingLaws.{reads-none}
+use Rattle.closures.proofs.of_swizzle.ReadingLaws.{reads-none}
 use Rattle.scopes.proofs.WayLaws.{not-damaged, parent-near}
 use Rattle.scopes.proofs.way.near_parent.Goals as goal
 

@@ -1,7 +1,7 @@
 use Rattle.std.proofs.Common.{ℕ, sym, ap, ◌∙◌, arith}
-use Rattle.obj_layout.specs.declared.vault.VaultFault.TheVariants.{Damaged}
-use Rattle.swizzle.specs.declared.fault.SwizzleFault.TheVariants.{Vault}
-use Rattle.swizzle.specs.Heap.{header_at}
+use Rattle.closures.specs.obj_layout.declared.vault.VaultFault.TheVariants.{Damaged}
+use Rattle.closures.specs.swizzle.declared.fault.SwizzleFault.TheVariants.{Vault}
+use Rattle.closures.specs.swizzle.Heap.{header_at}
 use Rattle.scopes.proofs.WayLaws.{kind-damaged, refs-damaged, not-damaged}
 use Rattle.scopes.proofs.way.test_way.Goals as goal
 

@@ -1,4 +1,4 @@
-use Rattle.heap_texts.proofs.TextObjects.{there-made}
+use Rattle.scopes.proofs.of_heap_texts.TextObjects.{there-made}
 use Rattle.scopes_tests.proofs.world.made.Goals as goal
 
 pub returns : goal.returns

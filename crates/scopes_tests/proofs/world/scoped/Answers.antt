@@ -1,4 +1,4 @@
-use Rattle.swizzle.proofs.MadeLaws.{made-held}
+use Rattle.scopes.proofs.of_swizzle.MadeLaws.{made-held}
 use Rattle.scopes_tests.proofs.world.scoped.Goals as goal
 
 pub returns-in-Ok-clause-held : goal.returns-in-Ok-clause-held

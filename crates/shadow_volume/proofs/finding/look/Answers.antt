@@ -1,4 +1,4 @@
-use Rattle.std.proofs.Common.{◌≡◌, inl, inr, ℕ, refl, sym, ◌∙◌, Option, Some, None}
+use Rattle.std.proofs.Common.{inl, inr, sym, ◌∙◌}
 use Rattle.shadow_volume.proofs.Tests.{refused_none, refused_head, head_was_read, not_some}
 use Rattle.shadow_volume.proofs.finding.look.Goals.{then-size-lt-LEAST_BYTES-via-then-size-lt-LEAST_BYTES, then-size-lt-LEAST_BYTES-via-else-size-lt-LEAST_BYTES+then-gate-ne1}
 use Rattle.shadow_volume.proofs.finding.look.Goals as goal

@@ -1,6 +1,5 @@
-use Rattle.std.proofs.Common.{◌≡◌, ◌%◌, ℕ, refl, sym, ◌∙◌, ap, nat_eq, Option, Some, None}
+use Rattle.std.proofs.Common.{◌%◌, ℕ, refl, sym, ◌∙◌, ap, nat_eq}
 use Rattle.shadow_volume.specs.Found.{root_tests}
-use Rattle.shadow_volume.specs.declared.finding.Damage.{Damage}
 use Rattle.shadow_volume.proofs.Tests.{refused_root, root_was_passed, not_some}
 use Rattle.shadow_volume.proofs.finding.read_committed.Goals as goal
 

@@ -1,6 +1,6 @@
 use Rattle.std.proofs.Common.{ℕ, [], ◌∷◌, List, ◌∙◌, ap, subst, sym, arith}
 use Rattle.std.proofs.lemmas.Result.{on_ok_weaker}
-use Rattle.ps_outside.proofs.Moments.{along_then, along_weaker, along_now}
+use Rattle.ps_port.proofs.of_ps_outside.Moments.{along_then, along_weaker, along_now}
 use Rattle.ps_port.specs.Disk.{written}
 use Rattle.ps_port.proofs.Torn.{byte_written}
 use Rattle.shadow_volume.specs.Layout.{gate}

@@ -1,5 +1,5 @@
 use Rattle.std.proofs.Common.{◌+◌, ℕ, List, length, subst, sym, refl, ◌∙◌, arith}
-use Rattle.ps_outside.proofs.Moments.{along_then, along_now}
+use Rattle.ps_port.proofs.of_ps_outside.Moments.{along_then, along_now}
 use Rattle.shadow_volume.specs.Making.{IsZeroed}
 use Rattle.shadow_volume.proofs.Gate.{shut_stays, zeroed_more}
 use Rattle.shadow_volume.proofs.making.zeros.Goals as goal

@@ -1,5 +1,5 @@
 use Rattle.std.proofs.Common.{◌≡◌, ℕ, ◌-◌, ◌≤◌, List}
-use Rattle.ps_outside.specs.Outside.{Leaves, TellsNothing, After}
+use Rattle.ps_port.specs.ps_outside.Outside.{Leaves, TellsNothing, After}
 use Rattle.shadow_volume.specs.Making.{IsShut, IsZeroed}
 use Rattle.shadow_volume.proofs.making.zeros.Given as goal
 

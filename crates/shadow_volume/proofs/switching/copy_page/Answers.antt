@@ -1,6 +1,6 @@
 use Rattle.std.proofs.Common.{not, ◌+◌, ◌*◌}
 use Rattle.std.proofs.lemmas.Result.{on_ok_weaker}
-use Rattle.ps_outside.proofs.Moments.{along_then, along_weaker, along_now}
+use Rattle.ps_port.proofs.of_ps_outside.Moments.{along_then, along_weaker, along_now}
 use Rattle.ps_port.specs.DiskLaws.{torn_none}
 use Rattle.shadow_volume.specs.Layout.{half_at}
 use Rattle.shadow_volume.proofs.Turning.{page_copied}

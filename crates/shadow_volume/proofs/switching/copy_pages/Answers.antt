@@ -1,5 +1,5 @@
 use Rattle.std.proofs.Common.{◌<◌, refl, ◌∙◌, arith}
-use Rattle.ps_outside.proofs.Moments.{along_none, along_weaker, along_then, along_now}
+use Rattle.ps_port.proofs.of_ps_outside.Moments.{along_none, along_weaker, along_then, along_now}
 use Rattle.shadow_volume.specs.Layout.{half_pages}
 use Rattle.shadow_volume.proofs.Turning.{kept_now, kept_placed, copied_none, copied_placed}
 use Rattle.shadow_volume.proofs.switching.copy_pages.Goals as goal

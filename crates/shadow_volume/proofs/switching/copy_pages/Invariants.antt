@@ -1,5 +1,5 @@
 use Rattle.std.proofs.Common.{◌≡◌, ◌≤◌, ◌+◌, ◌*◌, List, ℕ}
-use Rattle.ps_outside.specs.Outside.{Leaves, TellsNothing, After}
+use Rattle.ps_port.specs.ps_outside.Outside.{Leaves, TellsNothing, After}
 use Rattle.shadow_volume.specs.Switching.{IsKept, IsCopied, StaysHeld}
 use Rattle.shadow_volume.proofs.switching.copy_pages.Given as goal
 

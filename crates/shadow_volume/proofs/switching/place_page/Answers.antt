@@ -1,5 +1,5 @@
-use Rattle.std.proofs.Common.{true, not, ◌+◌, ◌*◌, refl, subst, sym}
-use Rattle.ps_outside.proofs.Moments.{along_none, along_weaker}
+use Rattle.std.proofs.Common.{not, ◌+◌, ◌*◌}
+use Rattle.ps_port.proofs.of_ps_outside.Moments.{along_none, along_weaker}
 use Rattle.ps_port.specs.DiskLaws.{torn_none}
 use Rattle.shadow_volume.specs.Layout.{half_at}
 use Rattle.shadow_volume.proofs.switching.place_page.Goals as goal

@@ -1,5 +1,5 @@
 use Rattle.std.proofs.lemmas.Result.{on_ok_weaker}
-use Rattle.ps_outside.proofs.Moments.{along_then, along_now}
+use Rattle.ps_port.proofs.of_ps_outside.Moments.{along_then, along_now}
 use Rattle.shadow_volume.proofs.switching.prepare.Goals as goal
 
 pub returns-clause-images : goal.returns-clause-images

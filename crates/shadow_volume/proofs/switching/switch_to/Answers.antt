@@ -1,6 +1,6 @@
-use Rattle.std.proofs.Common.{ℕ, List, arith}
+use Rattle.std.proofs.Common.{arith}
 use Rattle.std.proofs.lemmas.Result.{on_ok_weaker}
-use Rattle.ps_outside.proofs.Moments.{along_weaker}
+use Rattle.ps_port.proofs.of_ps_outside.Moments.{along_weaker}
 use Rattle.std.proofs.Common.{inl}
 use Rattle.shadow_volume.proofs.Turning.{selector_images, selector_switched}
 use Rattle.shadow_volume.proofs.switching.switch_to.Goals as goal

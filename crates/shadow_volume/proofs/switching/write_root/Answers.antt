@@ -1,8 +1,6 @@
-use Rattle.std.proofs.Common.{◌+◌, ◌^◌, ◌<◌, ◌≤◌, ℕ, List, not, subst, sym, arith}
+use Rattle.std.proofs.Common.{◌+◌, ◌^◌, ◌<◌, not, arith}
 use Rattle.std.proofs.lemmas.Result.{on_ok_weaker}
-use Rattle.shadow_volume.specs.Layout.{half_pages, pages_of_words}
-use Rattle.shadow_volume.specs.Staging.{HasPages}
-use Rattle.shadow_volume.proofs.Halves.{logical_within, used_low, root_low}
+use Rattle.shadow_volume.proofs.Halves.{used_low, root_low}
 use Rattle.shadow_volume.proofs.Turning.{root_images, root_rooted}
 use Rattle.shadow_volume.proofs.switching.write_root.Goals as goal
 

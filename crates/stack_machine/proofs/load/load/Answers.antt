@@ -1,65 +1,21 @@
-use Rattle.std.proofs.Common.{◌≡◌, ◌≤◌, List, [], pos, sym, ap, ◌∙◌, subst, replicate, rules, arith}
-use Rattle.ps_base.specs.CodeUnit.{unit_view}
-use Rattle.ps_stepping.specs.Config.{frame_in, frame_words}
-use Rattle.heap_ops.specs.Layouts.{AreSo as AreLaid}
-use Rattle.heap_ops.specs.declared.layouts.Layouts.{Layouts}
-use Rattle.machine_state.specs.declared.known.KnownProcedures.{KnownProcedures}
-use Rattle.machine_state.specs.Known.{AreKnown as AreCalled}
-use Rattle.paired_ops.specs.Code.{IsLoaded, HasNoRoom}
-use Rattle.swizzle.specs.declared.fault.SwizzleFault.TheVariants.{AreaFull}
-use Rattle.known_classes.specs.Classes.{IsRight}
-use Rattle.known_classes.specs.declared.classes.KnownClasses.{KnownClasses}
-use Rattle.obj_layout.specs.declared.reference.Reference.{Reference}
-use Rattle.known_vectors.specs.declared.known.KnownVectors.{KnownVectors}
-use Rattle.known_vectors.specs.Known.{AreSo as AreKnown}
-use Rattle.machine_state.specs.declared.machine.Machine.{Machine}
-use Rattle.stack_machine.specs.Loaded.{IsFrame, IsRoomy}
-use Rattle.proc_values.specs.declared.reading.CodePlace.{CodePlace}
-use Rattle.proc_values.specs.Loaded.{IsUnitPlace}
-use Rattle.proc_values.proofs.ReadLaws.{unit-place}
-use Rattle.stack_machine.proofs.Loading.{begins, loaded-held, no-room}
+use Rattle.std.proofs.Common.{sym, subst, [], arith}
+use Rattle.ps_base.specs.CodeUnit.{UnitView, unit, no_constants, unit_view}
+use Rattle.machine_procedures.specs.ps_stepping.Config.{frame_in}
+use Rattle.stack_machine.specs.Loaded.{IsFrame, LoadsUnit, no_locals, itself, damaged}
 use Rattle.stack_machine.proofs.load.load.Goals as goal
 
-pub returns-in-Ok : goal.returns-in-Ok
-returns-in-Ok c =
-    let b = c.begin.ensures in
-    let u = unit_view c.args.unit.now in
-    let framed : c.begin.new.m.frame ≡ frame_in u = search rules in
-    let nums : c.begin.new.m.frame.nums ≤ frame_words = search (rules, arith) in
-    let refs : c.begin.new.m.frame.refs ≤ frame_words = search (rules, arith) in
-    let loaded : IsLoaded c.reset.new.self c.begin.new.m.sw u c.in-Ok.code = search rules in
-    let so = subst (λ (k : KnownClasses). IsRight c.begin.new.m.sw k) (sym b.classes) (c.clear.ensures c.begin.new.m.sw) in
-    let laid = subst (λ (k : Layouts). AreLaid c.begin.new.m.sw k.entries.items) (sym b.layouts) (c.clear-2.ensures c.begin.new.m.sw) in
-    let none : List Reference = [] in
-    let known = subst (λ (k : KnownVectors). AreKnown c.begin.new.m.sw [] none k.entries.items) (sym b.vectors) (c.clear-3.ensures c.begin.new.m.sw [] none) in
-    let code_is : c.begin.new.m.code ≡ c.in-Ok.code = search rules in
-    let first : IsLoaded c.reset.new.self c.load.new.sw u c.in-Ok.code = search rules in
-    let placed = subst (λ (p : CodePlace). IsUnitPlace c.in-Ok.code u p) (sym b.place) (unit-place c.load.new.sw c.in-Ok.code u c.code_place-place.result c.sound.ensures first.is c.code_place-place.ensures) in
-    let at_is : c.begin.new.m.at ≡ 0 = search rules in
-    let turns_is : c.begin.new.m.turns ≡ c.args.turns = search rules in
-    let nums_are : c.begin.new.m.nums.own ≡ replicate c.begin.new.m.frame.nums (pos 0) = search rules in
-    let refs_are : c.begin.new.m.refs.own ≡ replicate c.begin.new.m.frame.refs 0 = search rules in
-    let scope_is : c.begin.new.m.scope ≡ 0 = search rules in
-    let called = subst (λ (k : KnownProcedures). AreCalled c.begin.new.m.sw none k.entries) (sym b.procedures) (c.clear-4.ensures c.begin.new.m.sw none) in
-    let input_is : c.begin.new.m.input ≡ c.args.input.items = search rules in
-    begins u c.args.turns c.args.input.items c.args.m.now c.begin.new.m c.reset.new.self framed nums refs c.in-Ok.code c.reset.ensures loaded so laid known called b.roomy code_is placed at_is nums_are refs_are turns_is
-    scope_is b.orderly b.callers b.nums_below b.refs_below input_is
+-- a frame without locals fits
+pub load_fitting-requires-2-clause-frame : goal.load_fitting-requires-2-clause-frame
+load_fitting-requires-2-clause-frame c =
+    subst (λ (u : UnitView). IsFrame (frame_in u)) (sym c.no_code-damaged.ensures) (record { nums_fit = omega arith; refs_fit = omega arith })
 
-pub returns-in-Err-AreaFull : goal.returns-in-Err-AreaFull
-returns-in-Err-AreaFull c =
-    let u = unit_view c.args.unit.now in
-    let top = c.in-Err-AreaFull.top in
-    let wanted = c.in-Err-AreaFull.wanted in
-    let size = c.in-Err-AreaFull.size in
-    let frame : IsFrame (frame_in u) = record { nums_fit = search (rules, arith); refs_fit = search (rules, arith) } in
-    let full : HasNoRoom c.reset.new.self u (AreaFull top wanted size) = search rules in
-    let new : Machine = record c.args.m.now { sw = c.load.new.sw; classes = c.clear.new.self; layouts = c.clear-2.new.self; vectors = c.clear-3.new.self; procedures = c.clear-4.new.self; input = c.new.result } in
-    let roomy : IsRoomy new = record { room = c.requires.room; values_room = c.requires.values_room } in
-    let short = no-room u c.args.m.now new c.reset.new.self top wanted size frame roomy c.reset.ensures full in
-    search (rules, short)
+pub returns-then-fits : goal.returns-then-fits
+returns-then-fits c = record { run = unit_view c.args.unit.now; chosen = itself (c.fits.ensures.fits c.if-fits.true); loads = c.load_fitting.ensures }
 
-pub code_place-place-requires-clause-held : goal.code_place-place-requires-clause-held
-code_place-place-requires-clause-held c = (loaded-held c.load.new.sw c.in-Ok.code (unit_view c.args.unit.now) c.in-Ok.ensures.is).0
-
-pub code_place-place-requires-clause-kind : goal.code_place-place-requires-clause-kind
-code_place-place-requires-clause-kind c = (loaded-held c.load.new.sw c.in-Ok.code (unit_view c.args.unit.now) c.in-Ok.ensures.is).1
+pub returns : goal.returns
+returns c = record {
+  run = unit [] no_constants no_locals;
+  chosen = damaged (c.fits.ensures.is_too_large c.if-fits.false);
+  loads = subst (λ (u : UnitView). LoadsUnit u c.args.turns c.args.input.items c.args.m.now c.load_fitting-2.new.m c.load_fitting-2.result)
+      c.no_code-damaged.ensures c.load_fitting-2.ensures;
+}

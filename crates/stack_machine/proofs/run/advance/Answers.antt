@@ -1,4 +1,4 @@
--- What a step comes to.
+-- What a step returns.
 use Rattle.std.proofs.Common.{subst, sym}
 use Rattle.stack_machine.specs.declared.run.Advanced.{Advanced}
 use Rattle.stack_machine.specs.inside.Advancing.{Advances}

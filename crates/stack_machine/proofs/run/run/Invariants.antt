@@ -1,5 +1,5 @@
--- Between two steps: what has happened so far was told, but for what is owed.
-use Rattle.machine_state.specs.Holding.{IsHolding}
+-- Between two steps: what has happened so far was told, but for what is pending.
+use Rattle.machine_procedures.specs.machine_state.Holding.{IsHolding}
 use Rattle.stack_machine.proofs.Between.{IsBetween, left_of}
 use Rattle.stack_machine.proofs.run.run.Given as goal
 

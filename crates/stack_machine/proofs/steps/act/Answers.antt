@@ -1,7 +1,7 @@
 -- An instruction does what the definition says of it.
 use Rattle.std.proofs.Common.{refl, rules}
-use Rattle.ps_stepping.specs.Machine.{push_num}
-use Rattle.machine_state.specs.Stepped.{Takes}
+use Rattle.machine_procedures.specs.ps_stepping.Machine.{push_num}
+use Rattle.machine_procedures.specs.machine_state.Stepped.{Takes}
 use Rattle.stack_machine.proofs.Dispatch.{acts_as, acts_not}
 use Rattle.stack_machine.proofs.steps.act.Goals as goal
 

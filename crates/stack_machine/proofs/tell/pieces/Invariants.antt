@@ -1,4 +1,4 @@
--- The pieces before the next one were written, and the others are owed.
+-- The pieces before the next one were written, and the others are pending.
 use Rattle.std.proofs.Common.{drop, ◌++◌}
 use Rattle.std.specs.Prelude.{Ok}
 use Rattle.ps_port.specs.Telling.{joined}

@@ -3,7 +3,7 @@ use Rattle.std.specs.Prelude.{Err}
 use Rattle.vault_output.specs.Sending.{Sends}
 use Rattle.vault_output.proofs.SendingLaws.{sends-kept, sends-then}
 use Rattle.stack_machine.proofs.Telling.{fails-part, placed-is}
-use Rattle.ps_meaning.specs.Meaning.{in_places}
+use Rattle.machine_procedures.specs.ps_meaning.Meaning.{in_places}
 use Rattle.stack_machine.proofs.tell.placed.Goals as goal
 
 pub returns-in-Ok-clause-sends : goal.returns-in-Ok-clause-sends

@@ -1,6 +1,8 @@
-use Rattle.std.proofs.Common.{◌∙◌, sym}
+use Rattle.std.proofs.Common.{inr, ◌∙◌, sym, ap, Some, Err}
 use Rattle.obj_area.specs.Words.{AreWords}
+use Rattle.swizzle.specs.Damaged.{far_damage}
 use Rattle.swizzle.proofs.FetchedLaws.{near_words}
+use Rattle.swizzle.proofs.DamageLaws.{tested_damage}
 use Rattle.swizzle.proofs.fetched.fetch_near.Goals as goal
 
 pub returns-in-Ok-clause-near : goal.returns-in-Ok-clause-near
@@ -12,3 +14,28 @@ returns-in-Ok-clause-near g c =
       told = c.in_default.ensures.told;
       near_is = record { far = c.in-Ok.ensures.far; spelled = c.lay_header.ensures ∙ sym it.words_are; fits = fit };
     }
+
+pub returns-in-Ok-clause-sound : goal.returns-in-Ok-clause-sound
+returns-in-Ok-clause-sound g c words held = ap far_damage (c.in_default.ensures.told words held) ∙ c.in-Ok.ensures.tested
+
+pub returns-in-Err-clause-fault : goal.returns-in-Err-clause-fault
+returns-in-Err-clause-fault g c = record {
+  full = λ used wanted capacity e. c.in-Err.ensures.full used wanted capacity (ap Err e);
+  damaged = λ at found wanted e.
+      tested_damage (g.V.Vault.outside c.args.vault.now) c.args.pid (Some _) _ c.in-Err.ensures.tested (λ words held. c.requires.fits words held) at found wanted
+      (ap Err e);
+}
+
+pub returns-in-Err-far_header-clause-fault : goal.returns-in-Err-far_header-clause-fault
+returns-in-Err-far_header-clause-fault g c = record {
+  full = λ used wanted capacity e. cc;
+  damaged = λ at found wanted e. (
+    cc,
+    inr (record {
+      words = c.fetch.new.into;
+      headed = c.in_default.ensures.headed;
+      held = c.in_default.ensures.told;
+      why = c.in-Err-far_header.ensures.tested ∙ cc;
+    }),
+  );
+}

@@ -11,7 +11,7 @@ decreases-behind_result l = 3 * l.depth + 1
 abbrev pub decreases-behind_type : goal.decreases-behind_type
 decreases-behind_type l = 3 * l.depth
 
--- behind each parameter stand the further ones
+-- after each parameter stand the further ones
 abbrev pub invariant-behind_parameters-loop-next : goal.invariant-behind_parameters-loop-next
 invariant-behind_parameters-loop-next l = AreSame (BeginsParameters l.depth l.rest) (BeginsFurther l.depth l.left)
 

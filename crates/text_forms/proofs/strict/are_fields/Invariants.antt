@@ -3,7 +3,7 @@ use Rattle.text_forms.specs.Strict.{deepest}
 use Rattle.text_forms.specs.inside.Reading.{AreFields, AreFurther}
 use Rattle.text_forms.proofs.strict.are_fields.Given as goal
 
--- behind each field stand the further ones
+-- after each field stand the further ones
 abbrev pub invariant-loop-next : goal.invariant-loop-next
 invariant-loop-next l = AreFields deepest l.fn.rest ↔ AreFurther deepest l.left
 

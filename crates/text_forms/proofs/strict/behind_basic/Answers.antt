@@ -1,4 +1,4 @@
-use Rattle.ps_base.specs.TyView as ty
+use Rattle.ps_type_text.specs.ps_base.TyView as ty
 use Rattle.text_forms.proofs.Reading.{basic-is, basic-last}
 use Rattle.text_forms.proofs.strict.behind_basic.Goals as goal
 

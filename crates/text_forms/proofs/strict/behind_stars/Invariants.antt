@@ -2,7 +2,7 @@ use Rattle.std.proofs.Common.{ℕ, length}
 use Rattle.text_forms.specs.inside.Reading.{AreSame, BeginsType}
 use Rattle.text_forms.proofs.strict.behind_stars.Given as goal
 
--- behind each star stands what a vector's type goes on with
+-- after each star stands what a vector's type goes on with
 abbrev pub invariant-loop-element : goal.invariant-loop-element
 invariant-loop-element l = (depth : ℕ) → AreSame (BeginsType depth l.rest) (BeginsType depth l.left)
 

@@ -1,6 +1,6 @@
 use Rattle.std.proofs.Common.{◌∙◌, ◌+◌, ℕ, List, refl, ap, arith}
-use Rattle.swizzle.specs.Text.{text_at, with_bytes_at, with_text}
-use Rattle.swizzle.proofs.MadeLaws.{made-text}
+use Rattle.heap_texts.specs.swizzle.Text.{text_at, with_bytes_at, with_text}
+use Rattle.heap_texts.proofs.of_swizzle.MadeLaws.{made-text}
 use Rattle.heap_texts.specs.Texts.{blank_text}
 use Rattle.text_ops.proofs.Copying.{source, target, source_now, target_now, gives_joined, joined, copied, copied_bytes}
 use Rattle.text_ops.proofs.operators.join.Goals as goal

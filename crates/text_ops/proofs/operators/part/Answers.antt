@@ -1,6 +1,6 @@
 use Rattle.std.proofs.Common.{◌∙◌, ℕ, List, take, drop, refl, sym, ap, arith}
-use Rattle.swizzle.specs.Text.{text_at, with_text}
-use Rattle.swizzle.proofs.MadeLaws.{made-text}
+use Rattle.heap_texts.specs.swizzle.Text.{text_at, with_text}
+use Rattle.heap_texts.proofs.of_swizzle.MadeLaws.{made-text}
 use Rattle.heap_texts.specs.Texts.{blank_text}
 use Rattle.text_ops.proofs.Copying.{source, target, gives_full, gives_part, part_long, parted, passed}
 use Rattle.text_ops.proofs.operators.part.Goals as goal

@@ -1,5 +1,5 @@
 use Rattle.std.proofs.Common.{refl, arith}
-use Rattle.obj_layout.specs.declared.kind.Kind.TheVariants.{Text}
+use Rattle.memory_vault.specs.obj_layout.declared.kind.Kind.TheVariants.{Text}
 use Rattle.vault_tests.proofs.objects.short_text.Goals as goal
 
 pub returns : goal.returns

@@ -1,5 +1,5 @@
 use Rattle.std.proofs.Common.{◌≡◌, ℕ, List, length, take, ap, sym, ◌∙◌, arith}
-use Rattle.ps_meaning.specs.Texts.{line_of}
+use Rattle.ps_stepping.specs.ps_meaning.Texts.{line_of}
 use Rattle.machine_state.proofs.Lines.{line-is, line-within}
 use Rattle.machine_state.proofs.input.Input.line.Goals as goal
 

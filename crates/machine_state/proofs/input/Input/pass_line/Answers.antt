@@ -1,6 +1,6 @@
 use Rattle.std.proofs.Common.{◌≡◌, ◌≤◌, ◌+◌, ◌∙◌, ap, sym, ℕ, List, length, drop, arith, rules}
 use Rattle.std.proofs.lemmas.List.{length-drop}
-use Rattle.ps_meaning.specs.Texts.{line_of, behind_line}
+use Rattle.ps_stepping.specs.ps_meaning.Texts.{line_of, behind_line}
 use Rattle.machine_state.proofs.Lines.{line-within, left-behind, nothing-behind}
 use Rattle.machine_state.proofs.input.Input.pass_line.Goals as goal
 

@@ -3,7 +3,7 @@ use Rattle.std.proofs.lemmas.Bool.Decides.{nat_tests}
 use Rattle.std.proofs.lemmas.List.Sums.{fold_push}
 use Rattle.memory_host.specs.declared.memory_host.Act.{Act}
 use Rattle.memory_host.specs.declared.memory_host.Call.{Call}
-use Rattle.ps_outside.specs.Outside.{Leaves, Telling, counted, next_count}
+use Rattle.ps_port.specs.ps_outside.Outside.{Leaves, Telling, counted, next_count}
 use Rattle.memory_host.specs.Memory.{Event, Memory, AllPast, AllFit, FitsAct, IsImageAt, ImageStep, IsDurable, MayLeave, is_told, after_call, outside_of, contents_of, contents_after, content_step, told_at, told_step, told_after, has_room, taken}
 use Rattle.memory_host.specs.MemoryView.{memory_of, events_of}
 use Rattle.memory_host.proofs.MemoryMoments.{events_push, contents_call, told_call, images_call, all_images_call, telling_call, durable_call, past_all, same_memory, twice, content_grows, told_grows, taken_push}

@@ -1,5 +1,5 @@
 use Rattle.std.proofs.Common.{◌≡◌, ◌≤◌, ◌+◌, ◌-◌, ◌^◌, min, Bool, true, rules, refl, sym, subst, ◌∙◌, ap, arith}
-use Rattle.ps_outside.specs.Outside.{LeavesSame, TellsNothing, counted, next_count}
+use Rattle.ps_port.specs.ps_outside.Outside.{LeavesSame, TellsNothing, counted, next_count}
 use Rattle.memory_host.specs.Memory.{Memory, AllPast, is_told, after_counts, outside_of, contents_of}
 use Rattle.memory_host.proofs.MemoryMoments.{contents_refused, images_refused, telling_refused, all_later, same_memory, twice}
 use Rattle.memory_host.proofs.memory_host.MemoryHost.refuse.Goals as goal

@@ -1,5 +1,5 @@
 use Rattle.std.proofs.Common.{◌≡◌, ℕ, sym, ap, subst, refl}
-use Rattle.ps_outside.specs.Outside.{After}
+use Rattle.obj_layout.specs.ps_outside.Outside.{After}
 use Rattle.shadow_volume.specs.declared.note.Note.{Note}
 use Rattle.obj_layout.specs.Stored.{Space}
 use Rattle.obj_store.specs.Spaces.{spaces}

@@ -42,7 +42,7 @@ returns-in-Ok-clause-call g c =
     let next = used + length c.args.words.now in
     let most = writing (length c.args.words.now) in
     subst (λ (s : Store g.row.H.Denot). IsStagingCall {T = ℕ} (outside_of o s) (spaces next z.committed z.staged.items (o z.host)) most (Ok used)) c.self.view_is
-    (store_call {T = ℕ} used next most v.committed z.committed v.staged.items z.staged.items (o v.host) (o z.host) c.append_at.ensures.stages used)
+    (store_call {T = ℕ} used next most v.committed z.committed v.staged.items z.staged.items (o v.host) (o z.host) c.append_at.ensures.past c.append_at.ensures.stages used)
 
 pub returns-in-Err-clause-call : goal.returns-in-Err-clause-call
 returns-in-Err-clause-call g c =
@@ -53,7 +53,7 @@ returns-in-Err-clause-call g c =
     let count = length c.args.words.now in
     let most = writing count in
     subst (λ (s : Store g.row.H.Denot). IsStagingCall {T = ℕ} (outside_of o s) (spaces used z.committed z.staged.items (o z.host)) most (Err c.in-Err.fault)) c.self.view_is
-    (append_call {T = ℕ} used used most v.committed z.committed v.staged.items z.staged.items (o v.host) (o z.host) c.append_at.ensures.stages count (capacity_of v.committed.pages) c.in-Err.fault c.in-Err.ensures.fault)
+    (append_call {T = ℕ} used used most v.committed z.committed v.staged.items z.staged.items (o v.host) (o z.host) c.append_at.ensures.past c.append_at.ensures.stages count (capacity_of v.committed.pages) c.in-Err.fault c.in-Err.ensures.fault)
 
 pub returns-in-Err-clause-full : goal.returns-in-Err-clause-full
 returns-in-Err-clause-full g c = λ u w m e.

@@ -13,7 +13,7 @@ returns-in-Ok-clause-call g c =
     let used = c.self.inside.used in
     let most = writing (length c.args.words.now) in
     subst (λ (s : Store g.row.H.Denot). IsStagingCall {T = Unit {0}} (outside_of o s) (spaces used z.committed z.staged.items (o z.host)) most (Ok tt)) c.self.view_is
-    (store_call {T = Unit {0}} used used most v.committed z.committed v.staged.items z.staged.items (o v.host) (o z.host) c.overwrite_at.ensures.stages tt)
+    (store_call {T = Unit {0}} used used most v.committed z.committed v.staged.items z.staged.items (o v.host) (o z.host) c.overwrite_at.ensures.past c.overwrite_at.ensures.stages tt)
 
 pub returns-in-Err-clause-tested : goal.returns-in-Err-clause-tested
 returns-in-Err-clause-tested g c =
@@ -32,4 +32,4 @@ returns-in-Err-clause-call g c =
     let used = c.self.inside.used in
     let most = writing (length c.args.words.now) in
     subst (λ (s : Store g.row.H.Denot). IsStagingCall {T = Unit {0}} (outside_of o s) (spaces used z.committed z.staged.items (o z.host)) most (Err c.in-Err.fault)) c.self.view_is
-    (object_call {T = Unit {0}} used used most v.committed z.committed v.staged.items z.staged.items (o v.host) (o z.host) c.overwrite_at.ensures.stages c.args.pid (Some (length c.args.words.now)) c.in-Err.fault c.in-Err.ensures.fault)
+    (object_call {T = Unit {0}} used used most v.committed z.committed v.staged.items z.staged.items (o v.host) (o z.host) c.overwrite_at.ensures.past c.overwrite_at.ensures.stages c.args.pid (Some (length c.args.words.now)) c.in-Err.fault c.in-Err.ensures.fault)

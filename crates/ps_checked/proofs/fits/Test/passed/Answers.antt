@@ -1,6 +1,6 @@
 use Rattle.std.proofs.Common.{◌∙◌, ap, sym, refl, Some}
 use Rattle.ps_base.specs.TyView.{ty_view}
-use Rattle.ps_typing.specs.Fault.{Mismatch}
+use Rattle.ps_declared.specs.ps_typing.Fault.{Mismatch}
 use Rattle.ps_checked.specs.inside.Tests.{test_of, wanted_by}
 use Rattle.ps_declared.proofs.Steps.{passed, not_passed, is_fault}
 use Rattle.ps_checked.proofs.fits.Test.passed.Goals as goal

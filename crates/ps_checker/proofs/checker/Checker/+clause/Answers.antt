@@ -5,35 +5,35 @@ use Rattle.ps_base.specs.TyView.{Void, ty_view, ty_views}
 use Rattle.ps_tree.specs.Phrase.{named, phrase_of, form_of, item_of, arm_of, groups_in}
 use Rattle.ps_tree.specs.PhraseLists.{phrases_in, items_in, arms_in as rough_arms_in}
 use Rattle.ps_program.specs.NodeView.{node_of, nodes_in, params_of}
-use Rattle.ps_scope.specs.Content.{names_of}
-use Rattle.ps_typing.specs.Fault.{Twice, NotApplicable}
-use Rattle.ps_typing.specs.Names.{Names, library, scan, behind, declare_local, inside, is_declared}
-use Rattle.ps_typing.specs.Checking.{Gives, Refuses, check, check_all, check_each, check_args, check_written, check_arms, checkers, wants, value_applied, with_args, ◌>>=◌, like, name_applied, elements, check_if_any, first_type, types_of, scan_applied}
-use Rattle.ps_declared.specs.inside.Answers.{IsFault}
-use Rattle.ps_checked.specs.inside.Links.{check_link, check_links}
-use Rattle.ps_checked.specs.inside.Weights.{weight, weight_all, weight_if_any, weight_item, weight_written, weight_arm, weight_arms, weight_link, weight_links}
-use Rattle.ps_declared.proofs.Steps.{given, fails_as, fails_first, fails_next, is_fault, made, leads, exits, no_memory, remade, remade_both, as_wanted, fails_as_wanted, fails_test}
+use Rattle.ps_steps.specs.ps_scope.Content.{names_of}
+use Rattle.ps_steps.specs.ps_typing.Fault.{Twice, NotApplicable}
+use Rattle.ps_steps.specs.ps_typing.Names.{Names, library, scan, behind, declare_local, inside, is_declared}
+use Rattle.ps_steps.specs.ps_typing.Checking.{Gives, Refuses, check, check_all, check_each, check_args, check_written, check_arms, checkers, wants, value_applied, with_args, ◌>>=◌, like, name_applied, elements, check_if_any, first_type, types_of, scan_applied}
+use Rattle.ps_steps.specs.ps_declared.inside.Answers.{IsFault}
+use Rattle.ps_steps.specs.ps_checked.inside.Links.{check_link, check_links}
+use Rattle.ps_steps.specs.ps_checked.inside.Weights.{weight, weight_all, weight_if_any, weight_item, weight_written, weight_arm, weight_arms, weight_link, weight_links}
+use Rattle.ps_steps.proofs.of_ps_declared.Steps.{given, fails_as, fails_first, fails_next, is_fault, made, leads, exits, no_memory, remade, remade_both, as_wanted, fails_as_wanted, fails_test}
 use Rattle.ps_base.specs.declared.ty.Signature.{Signature}
 use Rattle.ps_base.proofs.TyLemmas.{ty_view-Proc}
-use Rattle.ps_checked.specs.inside.Forms.{check_literal, head_node, opened}
+use Rattle.ps_steps.specs.ps_checked.inside.Forms.{check_literal, head_node, opened}
 use Rattle.ps_checker.proofs.After.{after, after_nodes, after_arms, after_nothing, fails_after, pushed, finished, pushed_arm, first_pushed, finished_arms, or_given, each_step, args_step, all_is, all_step, written_is, written_step, arms_are, arm_made}
 use Rattle.ps_checker.proofs.Applying.{two_of, not_two, same_number, other_number, no_args, elements_are, some_subscripts}
-use Rattle.ps_checked.proofs.LinkSteps.{fails_links, check_links-push, weight_links-push}
+use Rattle.ps_steps.proofs.of_ps_checked.LinkSteps.{fails_links, check_links-push, weight_links-push}
 use Rattle.ps_program.proofs.NodeLists.{case_is}
 use Rattle.ps_program.specs.inside.PartsView.{arms_in}
 use Rattle.ps_tree.specs.declared.rough.RoughArm.{out-RoughArm}
-use Rattle.ps_checked.specs.inside.Cases.{check_arm}
-use Rattle.ps_checked.specs.inside.Lists.{check_item}
+use Rattle.ps_steps.specs.ps_checked.inside.Cases.{check_arm}
+use Rattle.ps_steps.specs.ps_checked.inside.Lists.{check_item}
 use Rattle.ps_checker.proofs.Places.{weight_at, item_weight_at, arm_weight_at, phrases_from, items_from, arms_from, types_from, phrases_behind, items_behind, arms_behind}
 use Rattle.ps_checker.proofs.Views.{arm_of-parts, item_of-parts}
 use Rattle.ps_steps.specs.inside.Steps.{check_step, weight_step}
 use Rattle.ps_program.specs.declared.place.Place.TheVariants.{Plain}
-use Rattle.ps_typing.proofs.Keeps.{keeps_around, keeps_fields_around, all_keeps_around, all_keeps_fields_around, params_keep_around, params_keep_fields_around}
-use Rattle.ps_declared.specs.inside.Views.{literal_of, groups_of}
-use Rattle.ps_scope.specs.Views.{meaning_of}
+use Rattle.ps_steps.proofs.of_ps_typing.Keeps.{keeps_around, keeps_fields_around, all_keeps_around, all_keeps_fields_around, params_keep_around, params_keep_fields_around}
+use Rattle.ps_steps.specs.ps_declared.inside.Views.{literal_of, groups_of}
+use Rattle.ps_steps.specs.ps_scope.Views.{meaning_of}
 use Rattle.ps_checker.proofs.Blocks.{few_opened, stays, unpassed}
 use Rattle.ps_tree.specs.declared.rough.RoughItem.{out-RoughItem}
-use Rattle.ps_checked.specs.inside.Parts.{this, meets, want_of}
+use Rattle.ps_steps.specs.ps_checked.inside.Parts.{this, meets, want_of}
 use Rattle.ps_checker.proofs.Meeting.{fails_unmet, fails_met, as_met}
 use Rattle.ps_base.specs.TyView as types
 use Rattle.ps_tree.specs.Phrase as form

@@ -6,12 +6,12 @@ use Rattle.ps_program.specs.NodeView.{node_of}
 use Rattle.ps_tree.specs.Phrase.{phrase_of}
 use Rattle.ps_tree.specs.PhraseLists.{phrases_in, items_in, arms_in as rough_arms_in, maybe_in}
 use Rattle.ps_tree.specs.declared.rough.RoughRange.{out-RoughRange}
-use Rattle.ps_scope.specs.Content.{names_of}
-use Rattle.ps_typing.specs.Checking.{Gives, check_all, check_written, check_each, check_args, check_arms, checkers, elements, first_type}
+use Rattle.ps_steps.specs.ps_scope.Content.{names_of}
+use Rattle.ps_steps.specs.ps_typing.Checking.{Gives, check_all, check_written, check_each, check_args, check_arms, checkers, elements, first_type}
 use Rattle.ps_program.specs.inside.PartsView.{arms_in}
-use Rattle.ps_checked.specs.inside.Links.{check_links}
-use Rattle.ps_checked.specs.inside.Weights.{weight, weight_all, weight_if_any, weight_arms, weight_written, weight_link, weight_links}
-use Rattle.ps_declared.specs.inside.Views.{maybe_lent}
+use Rattle.ps_steps.specs.ps_checked.inside.Links.{check_links}
+use Rattle.ps_steps.specs.ps_checked.inside.Weights.{weight, weight_all, weight_if_any, weight_arms, weight_written, weight_link, weight_links}
+use Rattle.ps_steps.specs.ps_declared.inside.Views.{maybe_lent}
 use Rattle.ps_checker.proofs.After.{after, after_given, after_nodes, after_arms, or_given}
 use Rattle.ps_checker.proofs.checker.Checker.+clause.Given as goal
 
@@ -106,7 +106,7 @@ invariant-arms-loop-arm l = record {
   given : first_type (arms_in l.made.items) (or_given Void (option_map ty_view l.given)) ≡ option_map ty_view l.given;
 }
 
--- the subscripts that are left, behind those that are checked
+-- the subscripts that are left, after those that are checked
 abbrev pub invariant-apply-loop-arg : goal.invariant-apply-loop-arg
 invariant-apply-loop-arg l =
     elements (names_of l.self.scope) l.line (node_of l.v.tree) (ty_view l.v.ty) (checkers (phrases_in (drop l.arg-index l.args)))

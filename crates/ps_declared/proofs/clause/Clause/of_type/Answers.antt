@@ -2,8 +2,8 @@ use Rattle.std.proofs.Common.{◌∙◌, ap, refl, subst, sym, IsTrue, Some}
 use Rattle.ps_base.specs.TyView.{ty_view}
 use Rattle.ps_program.specs.NodeView.{node_of}
 use Rattle.ps_scope.specs.Content.{names_of}
-use Rattle.ps_typing.specs.Fault.{Mismatch}
-use Rattle.ps_typing.specs.Checking.{Gives, is_same}
+use Rattle.ps_scope.specs.ps_typing.Fault.{Mismatch}
+use Rattle.ps_scope.specs.ps_typing.Checking.{Gives, is_same}
 use Rattle.ps_declared.proofs.Steps.{passed, not_passed, is_fault, same, not_same}
 use Rattle.ps_declared.proofs.clause.Clause.of_type.Goals as goal
 

@@ -1,7 +1,7 @@
 use Rattle.std.proofs.Common.{refl, sym, ◌∙◌}
 use denote.Enum.Bare.{differs_false}
-use Rattle.ps_symbols.specs.contracts.kind.Kind.{the_type}
-use Rattle.ps_symbols.specs.inside.Soundness.{IsSound}
+use Rattle.ps_tree.specs.ps_symbols.contracts.kind.Kind.{the_type}
+use Rattle.ps_tree.specs.ps_symbols.inside.Soundness.{IsSound}
 use Rattle.ps_reader.proofs.Places.{at_place}
 use Rattle.ps_reader.proofs.reader.Reader.accept.Goals as goal
 

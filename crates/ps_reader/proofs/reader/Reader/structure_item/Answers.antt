@@ -1,5 +1,5 @@
 use Rattle.ps_base.specs.declared.line.Line.{Line}
-use Rattle.ps_symbols.specs.declared.kind.Kind.TheVariants as kind
+use Rattle.ps_tree.specs.ps_symbols.declared.kind.Kind.TheVariants as kind
 use Rattle.ps_tree.specs.Phrase.{NameAt}
 use Rattle.ps_tree.specs.Phrase as form
 use Rattle.ps_reader.specs.Grammar.{Rule, Go, Then, Parameters, skip, give, the_groups}
@@ -7,7 +7,7 @@ use Rattle.ps_reader.specs.inside.Stopping.{HaltsWith}
 use Rattle.ps_reader.proofs.Steps.{on, took, missing, behind_first, failed, built}
 use Rattle.ps_reader.proofs.reader.Reader.structure_item.Goals as goal
 
--- what stands behind the name of a class
+-- what stands after the name of a class
 abbrev behind : Line → NameAt → Rule
 behind line name = skip kind.OpenRound (Then (Go Parameters) (λ fields. skip kind.CloseRound (give (form.Structure name (the_groups fields)) line)))
 

@@ -1,4 +1,4 @@
-use Rattle.std.proofs.Common.{ℕ, Bool, false, List, length, replicate, refl, ◌∙◌, ap, arith}
+use Rattle.std.proofs.Common.{Bool, false, List, length, replicate, refl, ◌∙◌, ap, arith}
 use Rattle.std.proofs.lemmas.List.{length-replicate}
 use Rattle.shadow_volume.specs.Layout.{half_pages}
 use Rattle.shadow_volume.proofs.Tests.{found_volume}

@@ -1,6 +1,5 @@
-use Rattle.std.proofs.Common.{◌≡◌, ℕ, Bool, List, ◌*◌, take, drop, refl, sym, ◌∙◌, ap, Option, Some, None}
+use Rattle.std.proofs.Common.{Bool, List, sym, ◌∙◌, ap}
 use Rattle.std.proofs.lemmas.Option.{same_Some}
-use Rattle.shadow_volume.specs.Found.{Held}
 use Rattle.shadow_volume.specs.Standing.{staged_in}
 use Rattle.shadow_volume.specs.Staging.{half_of, page_of}
 use Rattle.shadow_volume.proofs.Pages.{read_some, read_none}

@@ -1,6 +1,5 @@
-use Rattle.std.proofs.Common.{ℕ, List, Bool, false, replicate, Option, Some, sym, ◌∙◌, ap, subst}
-use Rattle.ps_outside.specs.Outside.{Leaves}
-use Rattle.shadow_volume.specs.Layout.{half_pages}
+use Rattle.std.proofs.Common.{ℕ, List, Bool, false, replicate, Option, sym, ◌∙◌, subst}
+use Rattle.ps_port.specs.ps_outside.Outside.{Leaves}
 use Rattle.shadow_volume.specs.Found.{Held}
 use Rattle.shadow_volume.specs.Standing.{seen, saved, next_note, with_zeros}
 use Rattle.shadow_volume.specs.Switching.{IsEither, IsSwitched, Was, switched}

@@ -1,4 +1,4 @@
-use Rattle.std.proofs.Common.{◌≡◌, ◌∙◌, ap, arith}
+use Rattle.std.proofs.Common.{◌∙◌, ap, arith}
 use Rattle.swizzle.specs.Objects.{words_before}
 use Rattle.swizzle.specs.Heap.{header_at}
 use Rattle.swizzle.proofs.KeptLaws.{lies_in}

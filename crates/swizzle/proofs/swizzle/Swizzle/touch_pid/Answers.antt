@@ -1,4 +1,4 @@
-use Rattle.std.proofs.Common.{inr, ◌≡◌, ◌<◌, ◌≤◌, ◌+◌, ◌^◌, ◌++◌, ◌∷◌, [], ◌∙◌, ℕ, List, Ok, None, sym, ap, arith, length, vec_capacity, refl, subst}
+use Rattle.std.proofs.Common.{inl, inr, ◌≡◌, ◌<◌, ◌≤◌, ◌+◌, ◌^◌, ◌++◌, ◌∷◌, [], ◌∙◌, ℕ, List, Ok, Err, None, sym, ap, arith, length, vec_capacity, refl, subst}
 use Rattle.std.proofs.lemmas.List.{with_items_is}
 use Rattle.std.specs.Vec.{with_items}
 use Rattle.obj_area.specs.Area.{AreaView}
@@ -6,7 +6,10 @@ use Rattle.obj_layout.specs.declared.header.Header.{Header}
 use Rattle.obj_layout.specs.Stored.{Holds}
 use Rattle.obj_layout.proofs.StoredLaws.{Holds-same}
 use Rattle.swizzle.specs.Objects.{size_of, size_of_all, object_words}
-use Rattle.swizzle.specs.Heap.{Heap, IsHeap, with_new, top_of, local_of, numbered_in}
+use Rattle.obj_layout.specs.declared.reference.Reference.TheVariants.{Pid}
+use Rattle.swizzle.specs.Joint.{name_at}
+use Rattle.swizzle.proofs.JointLaws.{held-cases}
+use Rattle.swizzle.specs.Heap.{Heap, IsHeap, IsHeld, with_new, top_of, local_of, numbered_in}
 use Rattle.swizzle.specs.Kept.{Beside}
 use Rattle.swizzle.specs.View.{beside_of}
 use Rattle.swizzle.specs.Fetched.{near, IsNear, IsLocal}
@@ -15,6 +18,9 @@ use Rattle.swizzle.proofs.PidLaws.{mapped-more, room_to_map}
 use Rattle.swizzle.proofs.KeptLaws.{heap_is, Again, kept_long, laid}
 use Rattle.swizzle.proofs.TouchLaws.{touch-two}
 use Rattle.swizzle.proofs.FetchedLaws.{local-place, Near, near_words, Came, came-place, came-keeps, came-touched, near-pid, near-plain}
+use Rattle.swizzle.specs.Damaged.{IsSound}
+use Rattle.swizzle.proofs.NameLaws.{pid_in}
+use Rattle.swizzle.proofs.DamageLaws.{reports-same, tested_damage}
 use Rattle.swizzle.proofs.swizzle.Swizzle.touch_pid.Given
 use Rattle.swizzle.proofs.swizzle.Swizzle.touch_pid.Goals as goal
 
@@ -29,7 +35,7 @@ returns-then-count-size-clause-fault g c =
       top,
       c.size-size.ensures.size ∙ size,
       omega (arith, c.if-count-size.true, c.size-size.ensures.within, c.top-top.ensures.top, c.size-size.ensures.size),
-      (c.args.pid, refl, sym c.find.ensures ∙ c.in_default.is, c.in-Ok.ensures.told),
+      (c.args.pid, refl, sym c.find.ensures ∙ c.in_default.is, c.in-Ok.ensures.tested.sound, c.in-Ok.ensures.told),
     )
 
 -- the object has so many words as its place has
@@ -145,3 +151,49 @@ returns-clause-call g c =
     c.in-Ok.ensures.call c.in-Ok.ensures.same c.in_default-fetch_near.ensures.call c.fetch_near.ensures.same
     (λ e. absurd (cc)) (λ e. cc) (λ used wanted capacity e. cc)
     (inr (omega (arith, long_enough.1, top), omega (arith, c.in-Ok.ensures.call.calls, c.in_default-fetch_near.ensures.call.calls, top, long)))
+
+pub returns-in-Err-clause-fault : goal.returns-in-Err-clause-fault
+returns-in-Err-clause-fault g c = (
+  c.args.pid,
+  refl,
+  sym c.find.ensures ∙ c.in_default.is,
+  λ at found wanted e. tested_damage (g.V.Vault.outside c.args.vault.now) c.args.pid None _ c.in-Err.ensures.tested tt at found wanted (ap Err e),
+)
+
+pub returns-in-Err-fetch_near-clause-fault : goal.returns-in-Err-fetch_near-clause-fault
+returns-in-Err-fetch_near-clause-fault g c = (
+  c.args.pid,
+  refl,
+  sym c.find.ensures ∙ c.in_default.is,
+  reports-same (g.V.Vault.outside c.args.vault.now) (g.V.Vault.outside c.length.new.self) c.args.pid c.in-Err-fetch_near.fault c.in-Ok.ensures.same
+      c.in-Err-fetch_near.ensures.fault.damaged,
+)
+
+pub returns-clause-came : goal.returns-clause-came
+returns-clause-came g c =
+    let f = c.in_default-fetch_near.ensures.near in
+    let now = c.args.self.now in
+    let new = heap_is c.lay.new.area c.self.inside.assigned.items in
+    let o = near c.args.pid f.words in
+    let count = (fetched_long f.words c.fetch_near.new.buffer c.in-Ok.count c.args.pid c.in_default-fetch_near.field-0 f.near_is (buffer_long g c) c.requires.high).0 in
+    let top : top_of new ≡ top_of now + c.in-Ok.count = ap top_of (made g c).seen ∙ omega (arith, size_of_all-append now.objects (o ∷ []), count) in
+    inr (c.args.pid, refl, away g c, λ words held. omega (arith, top, c.in-Ok.ensures.told words held))
+
+pub returns-clause-only : goal.returns-clause-only
+returns-clause-only g c at held =
+    let f = c.in_default-fetch_near.ensures.near in
+    let now = c.args.self.now in
+    let new = heap_is c.lay.new.area c.self.inside.assigned.items in
+    let place = came-place now new c.args.pid f.words c.requires.low (came g c) in
+    elim (held-cases now (near c.args.pid f.words) at (subst (λ (h : Heap). IsHeld h at) (made g c).seen held)) [
+      | inl was ↦ inl was
+      | inr top ↦ inr (subst (λ (i : ℕ). name_at new i ≡ Pid c.args.pid) (sym top) place.name)
+    ]
+
+pub returns-clause-sound : goal.returns-clause-sound
+unfolding pid_in
+returns-clause-sound g c pid is away = subst (IsSound (g.V.Vault.outside c.args.vault.now)) (ap pid_in is) (record {
+  passes = c.in-Ok.ensures.tested.sound;
+  fits = λ words held. c.in_default-fetch_near.ensures.sound words
+      ((Holds-same (g.V.Vault.outside c.args.vault.now) (g.V.Vault.outside c.length.new.self) c.in-Ok.ensures.same c.args.pid words).1 held);
+})

@@ -1,9 +1,11 @@
-use Rattle.std.proofs.Common.{Some, ◌≡◌, ◌∙◌, sym, ap, subst, arith}
+use Rattle.std.proofs.Common.{inl, inr, refl, set, Some, ◌≡◌, ◌∙◌, sym, ap, subst, arith}
 use Rattle.obj_layout.specs.declared.reference.Reference.TheVariants.{Pid, Local}
 use Rattle.swizzle.specs.Heap.{Heap, top_of, IsHeld, ref_at}
 use Rattle.obj_layout.specs.Stored.{Holds}
 use Rattle.obj_layout.proofs.StoredLaws.{Holds-one}
 use Rattle.swizzle.specs.Joint.{Joint, name_of}
+use Rattle.swizzle.specs.Heap.{object_at}
+use Rattle.swizzle.proofs.JointLaws.{held-back}
 use Rattle.swizzle.specs.Changes.{Same, Touched}
 use Rattle.swizzle.specs.Touch.{Keeps, IsNear}
 use Rattle.swizzle.proofs.TouchLaws.{ref-top, near-local, call-ok, slot_kept, slot_set, keeps-spelled, keeps-trans, joint-spelled, touched-same}
@@ -62,3 +64,23 @@ returns-in-Ok-clause-near g c n =
 
 pub returns-in-Ok-clause-call : goal.returns-in-Ok-clause-call
 returns-in-Ok-clause-call g c = call-ok c.args.self.now c.touch_pid.new.self c.set_ref.new.self _ _ c.in-Ok.at (Some c.in-Ok.at) c.in-Ok.ensures.call (same_top g c)
+
+pub returns-in-Ok-clause-came : goal.returns-in-Ok-clause-came
+returns-in-Ok-clause-came g c = elim (c.in-Ok.ensures.came) [
+  | inl none ↦ inl (same_top g c ∙ none)
+  | inr some ↦ inr (some.0, was g c ∙ some.1, some.2, λ words held. same_top g c ∙ some.3 words held)
+]
+
+pub returns-in-Ok-clause-only : goal.returns-in-Ok-clause-only
+returns-in-Ok-clause-only g c at there =
+    let mid = c.touch_pid.new.self in
+    let o = object_at mid c.args.object in
+    let back = held-back mid c.args.object at (record o { refs = set o.refs c.args.slot (Local c.in-Ok.at) }) (held g c) refl
+    (subst (λ (h : Heap). IsHeld h at) c.set_ref.ensures.written there) in
+    elim (c.in-Ok.ensures.only at back) [
+      | inl before ↦ inl before
+      | inr named ↦ inr (((swizzled g c).objects at back).name ∙ named ∙ sym (was g c))
+    ]
+
+pub returns-in-Ok-clause-sound : goal.returns-in-Ok-clause-sound
+returns-in-Ok-clause-sound g c pid is away = c.in-Ok.ensures.sound pid (sym (was g c) ∙ is) away

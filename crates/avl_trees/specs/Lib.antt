@@ -1,0 +1,4 @@
+pub mod Trees
+pub mod Rising
+pub mod Changes
+pub mod Standing

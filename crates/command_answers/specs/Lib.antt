@@ -1,0 +1,1 @@
+pub use Rattle.ps_command.specs.obj_layout as obj_layout

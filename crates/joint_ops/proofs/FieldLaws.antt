@@ -1,0 +1,250 @@
+-- Fields of structures that are read, whatever the residence of the structure, of its class, and of what the field denotes.
+use Rattle.std.proofs.Common.{arith, inl, inr, ◌≡◌, ◌≢◌, ℕ, suc, ◌+◌, ◌^◌, ◌-◌, ℤ, pos, negsuc, List, [], ◌∷◌, get_or, refl, sym, ap, ◌∙◌, subst, Option, Some, None, true, false}
+use Rattle.std.proofs.lemmas.Bool.{cases_lt, lt-ltb}
+use Rattle.std.specs.Prelude.{Result, Ok, Err}
+use Rattle.heap_meaning.specs.ps_base.declared.trap.Trap.TheVariants as trap
+use Rattle.heap_meaning.specs.ps_outside.Outside.{Outside}
+use Rattle.heap_meaning.specs.obj_layout.Stored.{Space}
+use Rattle.heap_meaning.specs.obj_layout.declared.kind.Kind.TheVariants as kind
+use Rattle.heap_meaning.specs.obj_layout.declared.reference.Reference as reference
+use Rattle.heap_meaning.specs.obj_layout.declared.reference.Reference.TheVariants as name
+use Rattle.heap_meaning.specs.swizzle.declared.fault.SwizzleFault.{SwizzleFault}
+use Rattle.heap_meaning.specs.swizzle.Heap as area
+use Rattle.heap_meaning.specs.swizzle.Heap.{IsHeap, header_at}
+use Rattle.heap_meaning.specs.swizzle.Joint.{Shown, shown_at}
+use Rattle.heap_meaning.specs.swizzle.Changes.{Within}
+use Rattle.heap_meaning.specs.swizzle.Reading.{joint, LeavesOutside}
+use Rattle.heap_meaning.specs.text_forms.declared.forms.Form.{Form}
+use Rattle.heap_meaning.specs.text_forms.declared.forms.Form.TheVariants as form
+use Rattle.heap_meaning.specs.text_forms.declared.forms.Located.{Located}
+use Rattle.heap_meaning.specs.text_forms.Forms.{forms_of, form_in, before_in, located_in}
+use Rattle.heap_meaning.specs.heap_texts.declared.fault.OpFault.{OpFault}
+use Rattle.heap_meaning.specs.heap_texts.declared.fault.OpFault.TheVariants as op
+use Rattle.heap_meaning.specs.heap_places.Shapes.{IsText, slot_of, word_in}
+use Rattle.heap_meaning.specs.heap_places.Words.{int_in, word_damage}
+use Rattle.heap_meaning.specs.heap_places.Places.{Holds, touched_by}
+use Rattle.heap_meaning.specs.heap_places.declared.value.Value as code
+use Rattle.heap_meaning.specs.heap_places.declared.value.Value.TheVariants as held
+use Rattle.heap_meaning.proofs.of_heap_places.WordLaws.{int-low, int-mid, int-high}
+use Rattle.heap_meaning.specs.heap_ops.Structures.{IsOfOther, GetsField, FailsClass, FailsFields, FailsValue, structure_damage}
+use Rattle.heap_meaning.specs.ps_meaning.Operators.{is_int}
+use Rattle.heap_meaning.specs.ps_meaning.Values.{Value, Num, Flag, Text, Nil, Pointer, Vector, Procedure, Nothing}
+use Rattle.heap_meaning.specs.ps_meaning.Texts.{Attempt, Fails}
+use Rattle.heap_meaning.specs.ps_meaning.Objects.{Heap, Object, Structure, object_at, is_of, field_of}
+use Rattle.heap_meaning.specs.Standing.{Seen, Pairing, StandsFor, IsAs, IsStructure}
+use Rattle.heap_meaning.specs.Paired.{paired}
+use Rattle.heap_meaning.proofs.StandingLaws.{read-reference}
+use Rattle.heap_meaning.proofs.FieldLaws.{other-text, field-is, no-field}
+use Rattle.heap_meaning.proofs.GivenLaws.{located-at, field-read, field-fits}
+use Rattle.heap_meaning.proofs.GivenLaws as given
+use Rattle.joint_ops.specs.World.{IsWorld, seen, DenotesIn, IsForIn, IsOfForm, Answers, BreaksAsReading}
+use Rattle.joint_ops.proofs.SeenLaws.{none-nil, some-not_nil, text-denoted, pointer-denoted, vector-denoted, procedure-kind, StructureAt, structure-at, first-text, Known, known-text, known-value, reads-within, as-within, reads-stands, IsCaused, caused-touch, caused-fetch, breaks, text-is, no-text, no-damage, joint-one}
+
+-- what a word stands for is an int
+int-read : (word : ℕ) (z : ℤ) → int_in word ≡ Some z → is_int z ≡ true
+int-read word z e = elim (cases_lt word (2 ^ 31)) [
+  | inl low ↦
+      let same : pos word ≡ z = let both : Some (pos word) ≡ Some z = sym (int-low word low) ∙ e in cc in
+      subst (λ (y : ℤ). is_int y ≡ true) same (lt-ltb word (2 ^ 31) low)
+  | inr ge ↦ elim (cases_lt word (2 ^ 64 - 2 ^ 31)) [
+    | inl mid ↦ let bad : None ≡ Some z = sym (int-mid word ge mid) ∙ e in absurd (cc)
+    | inr high ↦
+        let same : negsuc (2 ^ 64 - 1 - word) ≡ z = let both : Some (negsuc (2 ^ 64 - 1 - word)) ≡ Some z = sym (int-high word high) ∙ e in cc in
+        subst (λ (y : ℤ). is_int y ≡ true) same (lt-ltb (2 ^ 64 - 1 - word) (2 ^ 31) (omega (arith, high)))
+  ]
+]
+
+-- What a place holds is of its form.
+holds-form : (here : area.Heap) (it : Shown) (f : Form) (index : ℕ) (c : code.Value) → Holds here it f index c → IsOfForm f c
+holds-form here it form.Number index (held.Num z) h = int-read (word_in it index) z h
+holds-form here it form.Flag index (held.Flag b) h = tt
+holds-form here it form.Reference index (held.Ref to) h = tt
+holds-form here it form.Number index (held.Flag b) h = absurd h
+holds-form here it form.Number index (held.Ref to) h = absurd h
+holds-form here it form.Flag index (held.Num z) h = absurd h
+holds-form here it form.Flag index (held.Ref to) h = absurd h
+holds-form here it form.Reference index (held.Num z) h = absurd h
+holds-form here it form.Reference index (held.Flag b) h = absurd h
+
+step : (n : ℕ) → suc n ≡ 1 + n
+step n = omega arith
+
+as-slot : (a : Seen) (pair : Pairing) (it : Shown) (of : _) (text : List ℕ) (first : ℕ → List ℕ) (forms : List Form) (vs : List Value)
+    (n : ℕ) → IsAs a pair it of text first forms vs → form_in forms n ≡ Some form.Reference
+    → StandsFor a pair (slot_of it (1 + before_in form.Reference forms n)) (get_or vs n Nothing)
+as-slot a pair it of text first forms vs n s is =
+    let r = read-reference a pair forms s.names s.words vs n s.are is in
+    subst (λ (x : List reference.Reference). StandsFor a pair (get_or x (1 + before_in form.Reference forms n) name.Nil) (get_or vs n Nothing))
+    (sym s.refs)
+    (subst (λ (k : ℕ). StandsFor a pair (get_or (s.text_name ∷ s.names) k name.Nil) (get_or vs n Nothing))
+    (step (before_in form.Reference forms n)) r)
+
+module _ (old new : area.Heap) (before after : Outside Space) (of : Heap) (names : List reference.Reference)
+    (h : IsHeap old) (now : IsHeap new) (w : IsWorld old before of names)
+    (was_one : (a b : Space) → before.contents a → before.contents b → a ≡ b) (is_one : (a b : Space) → after.contents a → after.contents b → a ≡ b) where
+  -- The class of a structure.
+
+  class-text : (at id : ℕ) → (s : StructureAt old before of names at id) → IsText (seen old before) (slot_of (shown_at old at) 0) s.class
+  class-text at id s = first-text (seen old before) (paired names) (shown_at old at) kind.Structure s.class (λ home. home ∷ []) (forms_of s.class) s.fields s.is
+
+  class-known : (at id : ℕ) → StructureAt old before of names at id → Known old before (slot_of (shown_at old at) 0)
+  class-known at id s = known-text old before (slot_of (shown_at old at) 0) s.class (class-text at id s)
+
+  class-is : (at id : ℕ) (text : List ℕ) → Within (joint old before) (joint new after) → (s : StructureAt old before of names at id)
+      → IsText (joint new after) (slot_of (shown_at old at) 0) text → s.class ≡ text
+  class-is at id text grows s t =
+      text-is old new before after (slot_of (shown_at old at) 0) s.class text grows (joint-one new after now is_one) (class-text at id s) t
+
+  other-class : (at id : ℕ) (text : List ℕ) → Within (joint old before) (joint new after) → StructureAt old before of names at id
+      → IsOfOther (joint new after) (shown_at old at) text → is_of (object_at of id) text ≡ false
+  other-class at id text grows s (inl ne) = absurd (ne s.is.kind_is)
+  other-class at id text grows s (inr t) =
+      ap (λ (o : Option Object). is_of o text) s.means
+      ∙ other-text s.class text (λ e. t.2 (sym (class-is at id (t.0) grows s (t.1)) ∙ e))
+
+  -- Fields.
+
+  record FieldAt (at id : ℕ) (text : List ℕ) (fields : List Value) : Type 0 where
+    means : object_at of id ≡ Some (Structure text fields)
+    is : IsStructure (seen old before) (paired names) (shown_at old at) text fields
+
+  field-at : (at id : ℕ) (text : List ℕ) → (s : StructureAt old before of names at id) → s.class ≡ text → FieldAt at id text s.fields
+  field-at at id text s same = record {
+    means = s.means ∙ ap (λ (t : List ℕ). Some (Structure t s.fields)) same;
+    is = subst (λ (t : List ℕ). IsStructure (seen old before) (paired names) (shown_at old at) t s.fields) same s.is;
+  }
+
+  field-slot : (it : Shown) (text : List ℕ) (fields : List Value) (n : ℕ) (l : Located) → IsStructure (seen old before) (paired names) it text fields
+      → located_in (forms_of text) n ≡ Some l → l.place.form ≡ form.Reference → Known old before (slot_of it (suc l.place.index))
+  field-slot it text fields n l s is reference =
+      let at = located-at (forms_of text) n l is in
+      let index : l.place.index ≡ before_in form.Reference (forms_of text) n = at.index_is
+      ∙ ap (λ (f : Form). before_in f (forms_of text) n) reference in
+      known-value old before names (slot_of it (suc l.place.index)) (get_or fields n Nothing)
+      (subst (λ (k : ℕ). StandsFor (seen old before) (paired names) (slot_of it k) (get_or fields n Nothing)) (omega (arith, index))
+      (as-slot (seen old before) (paired names) it kind.Structure text (λ home. home ∷ []) (forms_of text) fields n s (at.form_is ∙ ap Some reference)))
+
+  -- Why it broke off.
+
+  caused-class : (at id : ℕ) (fault : SwizzleFault) → StructureAt old before of names at id → FailsClass old new before after at fault
+      → IsCaused old new before after fault
+  caused-class at id fault s f = elim (f.1) [
+    | inl none ↦ absurd (no-text old new before after at s.class fault now (class-text at id s) none)
+    | inr touch ↦ caused-touch old new before after at 0 fault h (class-known at id s) touch
+  ]
+
+  caused-fields : (at id : ℕ) (text : List ℕ) (n : ℕ) (l : Located) (fault : SwizzleFault) → StructureAt old before of names at id
+      → located_in (forms_of text) n ≡ Some l → FailsFields old new before after at text l.rows fault → IsCaused old new before after fault
+  caused-fields at id text n l fault s is (inl c) = caused-class at id fault s c
+  caused-fields at id text n l fault s is (inr d) =
+      let f = field-at at id text s (class-is at id text (d.1) s (d.2.class)) in
+      absurd (no-damage old at (structure_damage (shown_at old at) l.rows) fault
+      (given.no-damage (seen old before) (paired names) (shown_at old at) text s.fields n l f.is is) (d.3))
+
+  caused-value : (at id : ℕ) (text : List ℕ) (n : ℕ) (l : Located) (fault : SwizzleFault) → StructureAt old before of names at id
+      → located_in (forms_of text) n ≡ Some l → FailsValue old before at text l.rows l.place.form (suc l.place.index) fault
+      → IsCaused old new before after fault
+  caused-value at id text n l fault s is v =
+      let same = text-is old v.mid before before (slot_of (shown_at old at) 0) s.class text v.grows (joint-one v.mid before v.heap was_one)
+      (class-text at id s) (v.class.class) in
+      let f = field-at at id text s same in
+      elim (v.why) [
+        | inl d ↦ absurd (no-damage old at (word_damage l.place.form (word_in (shown_at old at) (suc l.place.index))) fault
+            (field-fits (seen old before) (paired names) (shown_at old at) text s.fields n l f.is is) d)
+        | inr t ↦ caused-fetch old new before after (slot_of (shown_at old at) (suc l.place.index)) fault h
+            (field-slot (shown_at old at) text s.fields n l f.is is (t.0)) (t.1)
+      ]
+
+  abbrev Gives : Attempt Value → Located → Result code.Value OpFault → Type 0
+  Gives attempt l result = Answers old new before after (λ c v. IsOfForm l.place.form c × IsForIn new after names c v) of names attempt result
+
+  -- what the field operations answer to what is no structure
+  other-field : (at : ℕ) (text : List ℕ) (l : Located) (attempt : Attempt Value) (result : Result code.Value OpFault)
+      → (header_at old at).kind ≢ kind.Structure → attempt ≡ Fails trap.WrongClass → GetsField old new before after (Some at) text l result
+      → Gives attempt l result
+  other-field at text l attempt (Ok v) ne e g = absurd (ne (g.0.class.kind))
+  other-field at text l attempt (Err (op.Trap t)) ne e g =
+      (e ∙ ap Fails (sym (g.0)), reads-stands old new before after (slot_of (shown_at old at) 0 ∷ []) of names (g.2) w)
+  other-field at text l attempt (Err (op.Swizzle fault)) ne e g =
+      elim (g.1) [
+        | inl fields ↦ elim fields [ inl c ↦ absurd (ne (c.0)) | inr d ↦ absurd (ne (d.2.kind)) ]
+        | inr v ↦ absurd (ne (v.class.kind))
+      ]
+
+  pointer-field : (at id : ℕ) (text : List ℕ) (n : ℕ) (l : Located) (result : Result code.Value OpFault) → StructureAt old before of names at id
+      → located_in (forms_of text) n ≡ Some l → GetsField old new before after (Some at) text l result → Gives (field_of of (Pointer id) text n) l result
+  pointer-field at id text n l (Ok v) s is g =
+      let it = shown_at old at in
+      let touched = slot_of it 0 ∷ touched_by it l.place.form (suc l.place.index) in
+      let f = field-at at id text s (class-is at id text (g.2.grows) s (g.0.class.class)) in
+      let later = as-within (seen old before) (seen new after) (paired names) it kind.Structure text (λ home. home ∷ []) (forms_of text) s.fields
+      (reads-within old new before after touched (g.2)) f.is in (
+        get_or s.fields n Nothing,
+        field-is of id text s.fields n f.means,
+        (
+          holds-form new it l.place.form (suc l.place.index) v (g.1),
+          field-read new (seen new after) (paired names) it text s.fields n l v later is (g.1),
+        ),
+        reads-stands old new before after touched of names (g.2) w,
+      )
+  pointer-field at id text n l (Err (op.Trap t)) s is g = (
+    no-field of id text n (other-class at id text (g.2.grows) s (g.1)) ∙ ap Fails (sym (g.0)),
+    reads-stands old new before after (slot_of (shown_at old at) 0 ∷ []) of names (g.2) w,
+  )
+  pointer-field at id text n l (Err (op.Swizzle fault)) s is g =
+      breaks old new before after fault (g.0) (elim (g.1) [
+        | inl fields ↦ caused-fields at id text n l fault s is fields
+        | inr v ↦ caused-value at id text n l fault s is v
+      ])
+
+  none-field : (text : List ℕ) (n : ℕ) (l : Located) (result : Result code.Value OpFault) → GetsField old new before after None text l result
+      → Gives (field_of of Nil text n) l result
+  unfolding field_of
+  none-field text n l (Ok v) g = absurd g
+  none-field text n l (Err (op.Trap t)) g = (ap Fails (sym (g.0)), reads-stands old new before after [] of names (g.1) w)
+  none-field text n l (Err (op.Swizzle fault)) g = absurd g
+
+  some-field : (at : ℕ) (text : List ℕ) (n : ℕ) (o : Value) (l : Located) (result : Result code.Value OpFault)
+      → DenotesIn old before names (Some at) o → located_in (forms_of text) n ≡ Some l
+      → GetsField old new before after (Some at) text l result → Gives (field_of of o text n) l result
+  unfolding field_of
+  some-field at text n (Pointer id) l result d is g =
+      pointer-field at id text n l result (structure-at old before of names at id h w (pointer-denoted old before names at id h d)) is g
+  some-field at text n (Text bytes) l result d is g =
+      other-field at text l (Fails trap.WrongClass) result
+      (λ k. let bad : kind.Text ≡ kind.Structure = sym (text-denoted old before names at bytes h d).kind ∙ k in cc) refl g
+  some-field at text n (Vector id) l result d is g =
+      other-field at text l (Fails trap.WrongClass) result
+      (λ k. let bad : kind.Vector ≡ kind.Structure = sym (vector-denoted old before names at id h d).kind ∙ k in cc) refl g
+  some-field at text n Nil l result d is g = absurd (some-not_nil old before names at d)
+  some-field at text n (Num z) l result d is g = absurd (d.stands)
+  some-field at text n (Flag b) l result d is g = absurd (d.stands)
+  some-field at text n (Procedure does scope) l result d is g =
+      other-field at text l (Fails trap.WrongClass) result
+      (λ k. let bad : kind.Closure ≡ kind.Structure = sym (procedure-kind old before names at does scope h d) ∙ k in cc) refl g
+  some-field at text n Nothing l result d is g = absurd (d.stands)
+
+  pub answers-field : (object : Option ℕ) (given_text text : List ℕ) (n : ℕ) (o : Value) (l : Located) (result : Result code.Value OpFault)
+      → given_text ≡ text → DenotesIn old before names object o → located_in (forms_of text) n ≡ Some l
+      → GetsField old new before after object given_text l result → Gives (field_of of o text n) l result
+  answers-field (Some at) given_text text n o l result e d is g =
+      some-field at text n o l result d is (subst (λ (t : List ℕ). GetsField old new before after (Some at) t l result) e g)
+  answers-field None given_text text n o l result e d is g =
+      subst (λ (v : Value). Gives (field_of of v text n) l result) (sym (none-nil old before names o d))
+      (none-field text n l result (subst (λ (t : List ℕ). GetsField old new before after None t l result) e g))
+
+pub gets-leaves : (old new : area.Heap) (before after : Outside Space) (object : Option ℕ) (text : List ℕ) (l : Located)
+    (result : Result code.Value OpFault) → GetsField old new before after object text l result → LeavesOutside before after
+gets-leaves old new before after None text l (Ok v) g = absurd g
+gets-leaves old new before after (Some at) text l (Ok v) g = g.2.outside
+gets-leaves old new before after None text l (Err (op.Trap t)) g = g.1.outside
+gets-leaves old new before after (Some at) text l (Err (op.Trap t)) g = g.2.outside
+gets-leaves old new before after None text l (Err (op.Swizzle fault)) g = absurd g
+gets-leaves old new before after (Some at) text l (Err (op.Swizzle fault)) g = g.0.outside
+
+pub gets-breaks : (old new : area.Heap) (before after : Outside Space) (object : Option ℕ) (text : List ℕ) (l : Located)
+    (result : Result code.Value OpFault) → GetsField old new before after object text l result → BreaksAsReading before after result
+gets-breaks old new before after object text l (Ok v) g = tt
+gets-breaks old new before after object text l (Err (op.Trap t)) g = tt
+gets-breaks old new before after None text l (Err (op.Swizzle fault)) g = absurd g
+gets-breaks old new before after (Some at) text l (Err (op.Swizzle fault)) g = g.0

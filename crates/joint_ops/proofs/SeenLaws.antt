@@ -1,0 +1,346 @@
+-- What is seen of area and vault, and what becomes of it as objects are fetched.
+use Rattle.std.proofs.Common.{arith, inl, inr, ◌⊎◌, ◌≡◌, ℕ, ◌*◌, List, get_or, refl, sym, ap, ◌∙◌, subst, Option, Some, None}
+use Rattle.std.specs.Prelude.{take, drop}
+use Rattle.heap_meaning.specs.ps_outside.Outside.{Outside, SameContents}
+use Rattle.heap_meaning.specs.obj_area.Words.{bytes_of}
+use Rattle.heap_meaning.specs.obj_layout.Stored.{Space, Holds, Damage}
+use Rattle.heap_meaning.proofs.of_obj_layout.StoredLaws.{Holds-one}
+use Rattle.heap_meaning.specs.obj_layout.declared.kind.Kind.{Kind}
+use Rattle.heap_meaning.specs.obj_layout.declared.kind.Kind.TheVariants as kind
+use Rattle.heap_meaning.specs.obj_layout.declared.reference.Reference as reference
+use Rattle.heap_meaning.specs.obj_layout.declared.reference.Reference.TheVariants as name
+use Rattle.heap_meaning.specs.obj_layout.declared.vault.VaultFault.TheVariants.{Device, Output, Full, Damaged}
+use Rattle.heap_meaning.specs.swizzle.declared.fault.SwizzleFault.{SwizzleFault}
+use Rattle.heap_meaning.specs.swizzle.declared.fault.SwizzleFault.TheVariants.{AreaFull, Vault}
+use Rattle.heap_meaning.specs.swizzle.Objects.{words_before}
+use Rattle.heap_meaning.specs.swizzle.Heap as area
+use Rattle.heap_meaning.specs.swizzle.Heap.{IsHeap, IsHeld, top_of, header_at, object_at, ref_at, local_of}
+use Rattle.heap_meaning.specs.swizzle.Joint.{Shown, Joint, shown_at, name_at, name_of}
+use Rattle.heap_meaning.specs.swizzle.Changes.{IsKnown, Within}
+use Rattle.heap_meaning.specs.swizzle.Text.{text_at}
+use Rattle.heap_meaning.specs.swizzle.Touch.{Denotes, Keeps, IsTouchFault}
+use Rattle.heap_meaning.specs.swizzle.Reading.{joint, Reads, FailsReading}
+use Rattle.heap_meaning.proofs.of_swizzle.DamageLaws.{far-held}
+use Rattle.heap_meaning.proofs.of_swizzle.NameLaws.{Joint-one, not_away, name-not_nil, name_at-injective, pid_in}
+use Rattle.heap_meaning.specs.text_forms.declared.forms.Form.{Form}
+use Rattle.heap_meaning.specs.heap_places.Shapes.{IsText, slot_of, shown_text}
+use Rattle.heap_meaning.specs.heap_places.Places.{FailsFetch, NoText, NamesDamage}
+use Rattle.heap_meaning.proofs.of_heap_places.PlaceLaws.{slot-name}
+use Rattle.heap_meaning.proofs.of_proc_values.StayLaws.{keeps-code}
+use Rattle.heap_meaning.specs.ps_meaning.Values.{Value, Num, Flag, Text, Nil, Pointer, Vector, Procedure, Nothing, Routine, as_written, as_compiled}
+use Rattle.heap_meaning.specs.ps_meaning.Objects.{Heap, Object, Structure, Elements, Scope}
+use Rattle.heap_meaning.specs.ps_meaning.Objects as meaning
+use Rattle.heap_meaning.specs.Standing.{Seen, Pairing, IsKindOf, StandsFor, IsAs, IsStructure, IsLike, IsOne}
+use Rattle.heap_meaning.specs.Denoting.{DenotesValue, DenotesScope}
+use Rattle.heap_meaning.specs.Paired.{paired}
+use Rattle.heap_meaning.proofs.StandingLaws.{text-more, as-more, stands-more, scope-more}
+use Rattle.heap_meaning.proofs.PairedLaws.{row-within}
+use Rattle.heap_meaning.proofs.PlaceLaws.{text-one}
+use Rattle.joint_ops.specs.World.{IsStored, IsWorld, seen, DenotesIn, Stands, IsAway, BreaksOff}
+
+-- an object of the area is seen
+pub seen-held : (here : area.Heap) (outside : Outside Space) (at : ℕ) → IsHeld here at → seen here outside (name_at here at) (shown_at here at)
+seen-held here outside at held = inl (record { at = at; held = held; name_is = refl; shown_is = refl })
+
+-- what is seen under the name of an object of the area is what is seen of it, whatever a vault holds
+pub joint-is : (here : area.Heap) (holds : ℕ → List ℕ → Type 0) (at : ℕ) (n : reference.Reference) (it : Shown) → IsHeap here → IsHeld here at
+    → name_at here at ≡ n → Joint here holds n it → it ≡ shown_at here at
+joint-is here holds at n it h held e (inl a) =
+    a.shown_is ∙ ap (shown_at here) (name_at-injective here a.at at h a.held held (sym a.name_is ∙ sym e))
+joint-is here holds at n it h held e (inr v) = absurd (not_away here at v.pid h held (sym v.name_is ∙ sym e) v.away)
+
+pub seen-is : (here : area.Heap) (outside : Outside Space) (at : ℕ) (n : reference.Reference) (it : Shown) → IsHeap here → IsHeld here at
+    → name_at here at ≡ n → seen here outside n it → it ≡ shown_at here at
+seen-is here outside at n it h held e s = joint-is here (IsStored outside) at n it h held e s
+
+-- What may come into the area is held.
+pub seen-joint : (here : area.Heap) (outside : Outside Space) → Within (seen here outside) (joint here outside)
+seen-joint here outside n it (inl a) = inl a
+seen-joint here outside n it (inr v) =
+    inr (record { pid = v.pid; words = v.words; name_is = v.name_is; there = v.there.there; away = v.away; shown_is = v.shown_is })
+
+pub joint-one : (here : area.Heap) (outside : Outside Space) → IsHeap here
+    → ((a b : Space) → outside.contents a → outside.contents b → a ≡ b) → IsOne (joint here outside)
+joint-one here outside h one n a b s t = Joint-one here (Holds outside) n a b h (λ pid x y p q. Holds-one outside pid x y one p q) s t
+
+-- what may come into the area may do so still, where what is held stays
+pub stored-stays : (before after : Outside Space) (pid : ℕ) (words : List ℕ) → SameContents before after → IsStored before pid words
+    → IsStored after pid words
+stored-stays before after pid words same s = record {
+  there = record { space = s.there.space; is = same.kept s.there.space s.there.is; has = s.there.has };
+  header = s.header;
+  far = s.far;
+}
+
+-- A reading loses nothing that is seen.
+pub reads-within : (old new : area.Heap) (before after : Outside Space) (touched : List reference.Reference) → Reads old new before after touched
+    → Within (seen old before) (seen new after)
+unfolding pid_in
+reads-within old new before after touched r n it (inl a) =
+    let stays = r.keeps.objects a.at a.held in
+    inl (record { at = a.at; held = stays.held; name_is = a.name_is ∙ sym stays.name; shown_is = a.shown_is ∙ sym stays.shown_as })
+reads-within old new before after touched r n it (inr v) =
+    let j : joint old before n it = inr (record { pid = v.pid; words = v.words; name_is = v.name_is; there = v.there.there; away = v.away; shown_is = v.shown_is }) in
+    elim (r.grows n it j) [
+      | inl a ↦ inl a
+      | inr w ↦
+          let pids : w.pid ≡ v.pid = ap pid_in (sym w.name_is ∙ v.name_is) in
+          inr (record {
+            pid = v.pid;
+            words = v.words;
+            name_is = v.name_is;
+            there = stored-stays before after v.pid v.words r.outside.contents v.there;
+            away = subst (λ (p : ℕ). local_of new p ≡ None) pids w.away;
+            shown_is = v.shown_is;
+          })
+    ]
+
+-- What denoted a value denotes it still where objects of the area stay and nothing that is seen is lost.
+
+denotes-kept : (old new : area.Heap) (to : Option ℕ) (n : reference.Reference) → Keeps old new → Denotes old to n → Denotes new to n
+denotes-kept old new None n k d = d
+denotes-kept old new (Some at) n k d = let s = k.objects at d.0 in (s.held, s.name ∙ d.1)
+
+pub value-within : (old new : area.Heap) (a b : Seen) (pair : Pairing) (to : Option ℕ) (v : Value) → Keeps old new → Within a b
+    → DenotesValue old a pair to v → DenotesValue new b pair to v
+value-within old new a b pair to v k grows d = record {
+  name = d.name;
+  denotes = denotes-kept old new to d.name k d.denotes;
+  stands = stands-more a b pair pair d.name v (λ n it fixed s. grows n it s) (λ n it s. record { it = it; there = grows n it s; kind_is = refl })
+      (λ n id p. p) d.stands;
+}
+
+pub scope-within : (old new : area.Heap) (a b : Seen) (pair : Pairing) (to scope : Option ℕ) → Keeps old new → Within a b
+    → DenotesScope old a pair to scope → DenotesScope new b pair to scope
+scope-within old new a b pair to scope k grows d = record {
+  name = d.name;
+  denotes = denotes-kept old new to d.name k d.denotes;
+  stands = scope-more a b pair pair d.name scope (λ n it s. record { it = it; there = grows n it s; kind_is = refl }) (λ n id p. p) d.stands;
+}
+
+pub as-within : (a b : Seen) (pair : Pairing) (it : Shown) (of : Kind) (text : List ℕ) (first : ℕ → List ℕ) (forms : List Form) (vs : List Value)
+    → Within a b → IsAs a pair it of text first forms vs → IsAs b pair it of text first forms vs
+as-within a b pair it of text first forms vs grows s =
+    as-more a b pair pair it of text first forms vs (λ n x fixed j. grows n x j)
+    (λ n x j. record { it = x; there = grows n x j; kind_is = refl }) (λ n id p. p) s
+
+-- A reading: the same heap under the same names.
+pub reads-stands : (old new : area.Heap) (before after : Outside Space) (touched : List reference.Reference) (of : Heap)
+    (names : List reference.Reference) → Reads old new before after touched → IsWorld old before of names → Stands old new before after of names
+reads-stands old new before after touched of names r w =
+    let grows = reads-within old new before after touched r in
+    record {
+      world = record { row = row-within (seen old before) (seen new after) of names grows w.row };
+      carries = record {
+        values = λ to v d. value-within old new (seen old before) (seen new after) (paired names) to v r.keeps grows d;
+        scopes = λ to scope d. scope-within old new (seen old before) (seen new after) (paired names) to scope r.keeps grows d;
+        code = keeps-code old new r.keeps;
+        size = r.keeps.size;
+        top = r.keeps.top;
+      };
+    }
+
+-- What objects of the area denote.
+
+-- nothing is seen under nil
+pub nil-unseen : (here : area.Heap) (outside : Outside Space) (it : Shown) → seen here outside name.Nil it → ⊥
+nil-unseen here outside it (inl a) = name-not_nil here a.at (sym a.name_is)
+nil-unseen here outside it (inr v) = let bad : name.Nil ≡ name.Pid v.pid = v.name_is in absurd (cc)
+
+nil-stands : (here : area.Heap) (outside : Outside Space) (names : List reference.Reference) (n : reference.Reference) (v : Value) → n ≡ name.Nil
+    → StandsFor (seen here outside) (paired names) n v → v ≡ Nil
+nil-stands here outside names n Nil e s = refl
+nil-stands here outside names n (Text bytes) e s = absurd (nil-unseen here outside s.it (subst (λ (m : reference.Reference). seen here outside m s.it) e s.there))
+nil-stands here outside names n (Pointer id) e s = absurd (nil-unseen here outside s.1.it (subst (λ (m : reference.Reference). seen here outside m s.1.it) e s.1.there))
+nil-stands here outside names n (Vector id) e s = absurd (nil-unseen here outside s.1.it (subst (λ (m : reference.Reference). seen here outside m s.1.it) e s.1.there))
+nil-stands here outside names n (Num z) e s = absurd s
+nil-stands here outside names n (Flag b) e s = absurd s
+nil-stands here outside names n (Procedure (as_written of) scope) e s = absurd s
+nil-stands here outside names n (Procedure (as_compiled of) scope) e s = absurd (nil-unseen here outside s.it (subst (λ (m : reference.Reference). seen here outside m s.it) e s.there))
+nil-stands here outside names n Nothing e s = absurd s
+
+pub none-nil : (here : area.Heap) (outside : Outside Space) (names : List reference.Reference) (v : Value) → DenotesIn here outside names None v → v ≡ Nil
+none-nil here outside names v d = nil-stands here outside names d.name v d.denotes d.stands
+
+pub some-not_nil : (here : area.Heap) (outside : Outside Space) (names : List reference.Reference) (at : ℕ) → DenotesIn here outside names (Some at) Nil → ⊥
+some-not_nil here outside names at d = name-not_nil here at (d.denotes.1 ∙ d.stands)
+
+kind-at : (here : area.Heap) (outside : Outside Space) (at : ℕ) (n : reference.Reference) (of : Kind) → IsHeap here → IsHeld here at → name_at here at ≡ n
+    → IsKindOf (seen here outside) n of → (header_at here at).kind ≡ of
+kind-at here outside at n of h held e k = sym (ap (λ (x : Shown). x.kind) (seen-is here outside at n k.it h held e k.there)) ∙ k.kind_is
+
+-- an object that denotes a text
+pub record TextAt (here : area.Heap) (at : ℕ) (bytes : List ℕ) : Type 0 where
+  pub held : IsHeld here at
+  pub kind : (header_at here at).kind ≡ kind.Text
+  pub bytes_are : text_at here at ≡ bytes
+
+shown-bytes : (here : area.Heap) (at : ℕ) → (header_at here at).kind ≡ kind.Text → text_at here at ≡ shown_text (shown_at here at)
+shown-bytes here at is = ap (λ (k : Kind). take (header_at here at).bytes (drop (8 * words_before k) (bytes_of (object_at here at).nums))) is
+
+pub text-denoted : (here : area.Heap) (outside : Outside Space) (names : List reference.Reference) (at : ℕ) (bytes : List ℕ) → IsHeap here
+    → DenotesIn here outside names (Some at) (Text bytes) → TextAt here at bytes
+text-denoted here outside names at bytes h d =
+    let t = d.stands in
+    let is = seen-is here outside at d.name t.it h d.denotes.0 d.denotes.1 t.there in
+    let kinds : (header_at here at).kind ≡ kind.Text = sym (ap (λ (x : Shown). x.kind) is) ∙ t.kind in
+    record { held = d.denotes.0; kind = kinds; bytes_are = shown-bytes here at kinds ∙ sym (ap shown_text is) ∙ t.bytes_are }
+
+-- An object that denotes a structure or a vector: its name is paired with the number, and its kind is known.
+pub record ObjectAt (here : area.Heap) (names : List reference.Reference) (at id : ℕ) (of : Kind) : Type 0 where
+  pub held : IsHeld here at
+  pub pair : paired names (name_at here at) id
+  pub kind : (header_at here at).kind ≡ of
+
+object-denoted : (here : area.Heap) (outside : Outside Space) (names : List reference.Reference) (at id : ℕ) (n : reference.Reference) (of : Kind) → IsHeap here
+    → IsHeld here at → name_at here at ≡ n → paired names n id × IsKindOf (seen here outside) n of → ObjectAt here names at id of
+object-denoted here outside names at id n of h held e s = record {
+  held = held;
+  pair = subst (λ (m : reference.Reference). paired names m id) (sym e) s.0;
+  kind = kind-at here outside at n of h held e s.1;
+}
+
+pub pointer-denoted : (here : area.Heap) (outside : Outside Space) (names : List reference.Reference) (at id : ℕ) → IsHeap here
+    → DenotesIn here outside names (Some at) (Pointer id) → ObjectAt here names at id kind.Structure
+pointer-denoted here outside names at id h d = object-denoted here outside names at id d.name kind.Structure h d.denotes.0 d.denotes.1 d.stands
+
+pub vector-denoted : (here : area.Heap) (outside : Outside Space) (names : List reference.Reference) (at id : ℕ) → IsHeap here
+    → DenotesIn here outside names (Some at) (Vector id) → ObjectAt here names at id kind.Vector
+vector-denoted here outside names at id h d = object-denoted here outside names at id d.name kind.Vector h d.denotes.0 d.denotes.1 d.stands
+
+pub procedure-kind : (here : area.Heap) (outside : Outside Space) (names : List reference.Reference) (at : ℕ) (does : Routine) (scope : Option ℕ) → IsHeap here
+    → DenotesIn here outside names (Some at) (Procedure does scope) → (header_at here at).kind ≡ kind.Closure
+procedure-kind here outside names at (as_written of) scope h d = absurd (d.stands)
+procedure-kind here outside names at (as_compiled of) scope h d =
+    let s = d.stands in
+    let is = seen-is here outside at d.name s.it h d.denotes.0 d.denotes.1 s.there in
+    sym (ap (λ (x : Shown). x.kind) is) ∙ s.is.kind_is
+
+-- The object of a pair, on both sides.
+
+pub both-at : (here : area.Heap) (outside : Outside Space) (of : Heap) (names : List reference.Reference) (at id : ℕ) → IsHeap here → IsWorld here outside of names
+    → IsHeld here at → paired names (name_at here at) id
+    → (o : Object) × (meaning.object_at of id ≡ Some o) × IsLike (seen here outside) (paired names) (shown_at here at) o
+both-at here outside of names at id h w held p =
+    let b = w.row.stands.both (name_at here at) id p in (
+      b.object,
+      b.means,
+      subst (λ (it : Shown). IsLike (seen here outside) (paired names) it b.object)
+          (seen-is here outside at (name_at here at) b.it h held refl b.there) b.like,
+    )
+
+pub record StructureAt (here : area.Heap) (outside : Outside Space) (of : Heap) (names : List reference.Reference) (at id : ℕ) : Type 0 where
+  pub held : IsHeld here at
+  pub pair : paired names (name_at here at) id
+  pub class : List ℕ
+  pub fields : List Value
+  pub means : meaning.object_at of id ≡ Some (Structure class fields)
+  pub is : IsStructure (seen here outside) (paired names) (shown_at here at) class fields
+
+pub structure-at : (here : area.Heap) (outside : Outside Space) (of : Heap) (names : List reference.Reference) (at id : ℕ) → IsHeap here
+    → IsWorld here outside of names → ObjectAt here names at id kind.Structure → StructureAt here outside of names at id
+structure-at here outside of names at id h w p = let b = both-at here outside of names at id h w p.held p.pair in cases (b.0) (b.1) (b.2)
+  where
+    cases : (o : Object) → meaning.object_at of id ≡ Some o → IsLike (seen here outside) (paired names) (shown_at here at) o → StructureAt here outside of names at id
+    cases (Structure class fields) means like = record { held = p.held; pair = p.pair; class = class; fields = fields; means = means; is = like }
+    cases (Elements ty low elements) means like = let bad : kind.Structure ≡ kind.Vector = sym p.kind ∙ like.rows.kind_is in absurd (cc)
+    cases (Scope text parent values) means like = let bad : kind.Structure ≡ kind.Scope = sym p.kind ∙ like.kind_is in absurd (cc)
+
+-- The text that such an object refers to first.
+pub first-text : (a : Seen) (pair : Pairing) (it : Shown) (of : Kind) (text : List ℕ) (first : ℕ → List ℕ)
+    (forms : List Form) (vs : List Value) → IsAs a pair it of text first forms vs → IsText a (slot_of it 0) text
+first-text a pair it of text first forms vs s =
+    subst (λ (ns : List reference.Reference). IsText a (get_or ns 0 name.Nil) text) (sym s.refs) s.is_text
+
+-- What a name that stands for a value names is known.
+abbrev pub Known : area.Heap → Outside Space → reference.Reference → Type 0
+Known here outside n = (n ≡ name.Nil) ⊎ IsKnown (seen here outside) n
+
+pub known-text : (here : area.Heap) (outside : Outside Space) (n : reference.Reference) (text : List ℕ) → IsText (seen here outside) n text → Known here outside n
+known-text here outside n text t = inr (record { it = t.it; is = t.there })
+
+pub known-value : (here : area.Heap) (outside : Outside Space) (names : List reference.Reference) (n : reference.Reference) (v : Value)
+    → StandsFor (seen here outside) (paired names) n v → Known here outside n
+known-value here outside names n Nil s = inl s
+known-value here outside names n (Text bytes) s = known-text here outside n bytes s
+known-value here outside names n (Pointer id) s = inr (record { it = s.1.it; is = s.1.there })
+known-value here outside names n (Vector id) s = inr (record { it = s.1.it; is = s.1.there })
+known-value here outside names n (Num z) s = absurd s
+known-value here outside names n (Flag b) s = absurd s
+known-value here outside names n (Procedure (as_written of) scope) s = absurd s
+known-value here outside names n (Procedure (as_compiled of) scope) s = inr (record { it = s.it; is = s.there })
+known-value here outside names n Nothing s = absurd s
+
+-- A known object that isn't in the area is stored.
+away-stored : (old new : area.Heap) (before after : Outside Space) (n : reference.Reference) (pid : ℕ) → IsHeap old → Known old before n → n ≡ name.Pid pid
+    → local_of old pid ≡ None → IsAway old new before after pid
+unfolding pid_in
+away-stored old new before after n pid h (inl nil) e away = let bad : name.Nil ≡ name.Pid pid = sym nil ∙ e in absurd (cc)
+away-stored old new before after n pid h (inr k) e away = elim (k.is) [
+  | inl a ↦ absurd (not_away old a.at pid h a.held (sym e ∙ a.name_is) away)
+  | inr v ↦
+      let pids : v.pid ≡ pid = ap pid_in (sym v.name_is ∙ e) in
+      record { words = v.words; stored = subst (λ (p : ℕ). IsStored before p v.words) pids v.there; away = away }
+]
+
+-- Why an object wasn't got that was known.
+abbrev pub IsCaused : area.Heap → area.Heap → Outside Space → Outside Space → SwizzleFault → Type 0
+IsCaused old new before after (AreaFull top wanted size) = BreaksOff old new before after (AreaFull top wanted size)
+IsCaused old new before after (Vault (Damaged at found wanted)) = ⊥
+IsCaused old new before after (Vault other) = Unit {0}
+
+pub caused-touch : (old new : area.Heap) (before after : Outside Space) (at slot : ℕ) (fault : SwizzleFault) → IsHeap old
+    → Known old before (slot_of (shown_at old at) slot) → IsTouchFault old before (ref_at old at slot) fault → IsCaused old new before after fault
+caused-touch old new before after at slot (AreaFull top wanted size) h k t =
+    let a = away-stored old new before after (slot_of (shown_at old at) slot) (t.3.0) h k (slot-name old at slot ∙ ap (name_of old) (t.3.1)) (t.3.2) in
+    (omega (arith, t.0), t.1, t.2, (t.3.0, a, t.3.4 a.words a.stored.there))
+caused-touch old new before after at slot (Vault Device) h k t = tt
+caused-touch old new before after at slot (Vault Output) h k t = tt
+caused-touch old new before after at slot (Vault (Full used wanted capacity)) h k t = tt
+caused-touch old new before after at slot (Vault (Damaged where_at found wanted)) h k t =
+    let a = away-stored old new before after (slot_of (shown_at old at) slot) (t.0) h k (slot-name old at slot ∙ ap (name_of old) (t.1)) (t.2) in
+    far-held before t.0 (record { found = found; wanted = wanted }) a.words a.stored.header (t.3 where_at found wanted refl).1 a.stored.there a.stored.far
+
+pub caused-fetch : (old new : area.Heap) (before after : Outside Space) (n : reference.Reference) (fault : SwizzleFault) → IsHeap old
+    → Known old before n → FailsFetch old before n fault → IsCaused old new before after fault
+caused-fetch old new before after n (AreaFull top wanted size) h k t =
+    let a = away-stored old new before after n (t.3.0) h k (t.3.1) (t.3.2) in
+    (t.0, t.1, t.2, (t.3.0, a, t.3.4 a.words a.stored.there))
+caused-fetch old new before after n (Vault Device) h k t = tt
+caused-fetch old new before after n (Vault Output) h k t = tt
+caused-fetch old new before after n (Vault (Full used wanted capacity)) h k t = tt
+caused-fetch old new before after n (Vault (Damaged where_at found wanted)) h k t =
+    let a = away-stored old new before after n (t.0) h k (t.1) (t.2) in
+    far-held before t.0 (record { found = found; wanted = wanted }) a.words a.stored.header (t.3 where_at found wanted refl).1 a.stored.there a.stored.far
+
+-- A reading that failed broke off.
+pub breaks : (old new : area.Heap) (before after : Outside Space) (fault : SwizzleFault) → FailsReading before after fault
+    → IsCaused old new before after fault → BreaksOff old new before after fault
+breaks old new before after (AreaFull top wanted size) f caused = caused
+breaks old new before after (Vault Device) f caused = f.cause refl
+breaks old new before after (Vault Output) f caused = f.other refl
+breaks old new before after (Vault (Full used wanted capacity)) f caused = f.full used wanted capacity refl
+breaks old new before after (Vault (Damaged at found wanted)) f caused = caused
+
+-- What was seen under a name is what is seen, where no object was lost.
+
+-- a text
+pub text-is : (old new : area.Heap) (before after : Outside Space) (n : reference.Reference) (text now : List ℕ)
+    → Within (joint old before) (joint new after) → IsOne (joint new after) → IsText (seen old before) n text → IsText (joint new after) n now → text ≡ now
+text-is old new before after n text now grows one t s =
+    text-one (joint new after) n text now one
+    (text-more (seen old before) (joint new after) n text (λ it k there. grows n it (seen-joint old before n it there)) t) s
+
+-- what refers to a text refers to one
+pub no-text : (old new : area.Heap) (before after : Outside Space) (at : ℕ) (text : List ℕ) (fault : SwizzleFault) → IsHeap new
+    → IsText (seen old before) (slot_of (shown_at old at) 0) text → NoText old new before after at fault → ⊥
+no-text old new before after at text fault h t (inl nil) =
+    nil-unseen old before t.it (subst (λ (n : reference.Reference). seen old before n t.it) (nil.0) t.there)
+no-text old new before after at text fault h t (inr o) =
+    let n = slot_of (shown_at old at) 0 in
+    let is = joint-is new (Holds after) (o.0) n t.it h (o.1.0) (o.1.1) (o.4 n t.it (seen-joint old before n t.it t.there)) in
+    o.2 (sym (ap (λ (x : Shown). x.kind) is) ∙ t.kind)
+
+-- nothing is damaged whose damage is none
+pub no-damage : (here : area.Heap) (at : ℕ) (damaged : Option Damage) (fault : SwizzleFault) → damaged ≡ None → NamesDamage here at damaged fault → ⊥
+no-damage here at damaged fault none d = let bad : None ≡ Some (d.0) = sym none ∙ d.1 in absurd (cc)

@@ -1,0 +1,6 @@
+mod Weights
+mod Costs
+mod Checked
+mod PlacedMass
+mod Bytes
+mod OfText

@@ -1,0 +1,1 @@
+pub use Rattle.ps_layout.proofs as of_ps_layout
