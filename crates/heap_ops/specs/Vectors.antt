@@ -7,14 +7,15 @@ use Rattle.heap_places.specs.ps_meaning.Objects.{place_of, is_vector}
 use Rattle.heap_places.specs.ps_outside.Outside.{Outside}
 use Rattle.heap_places.specs.obj_layout.Kind.{kind_number}
 use Rattle.heap_places.specs.obj_layout.Stored.{Space, Damage, damage}
-use Rattle.heap_places.specs.obj_layout.declared.kind.Kind.TheVariants.{Vector}
+use Rattle.heap_places.specs.obj_layout.declared.kind.Kind.TheVariants.{Text, Vector}
 use Rattle.heap_places.specs.obj_layout.declared.reference.Reference as reference
 use Rattle.heap_places.specs.swizzle.declared.fault.SwizzleFault.{SwizzleFault}
-use Rattle.heap_places.specs.swizzle.Heap.{Heap, IsHeap, ref_at}
+use Rattle.heap_places.specs.swizzle.Heap.{Heap, IsHeap, header_at, ref_at}
 use Rattle.heap_places.specs.swizzle.Joint.{Shown, shown_at}
 use Rattle.heap_places.specs.swizzle.Changes.{Within}
 use Rattle.heap_places.specs.swizzle.Reading.{joint, Reads, FailsReading}
-use Rattle.heap_places.specs.swizzle.Touch.{Keeps, IsTouchFault}
+use Rattle.heap_places.specs.swizzle.Text.{text_at}
+use Rattle.heap_places.specs.swizzle.Touch.{Denotes, Keeps, IsTouchFault}
 use Rattle.heap_places.specs.text_forms.declared.forms.Form.{Form}
 use Rattle.heap_places.specs.text_forms.declared.forms.Form.TheVariants.{Reference}
 use Rattle.heap_places.specs.text_forms.declared.forms.Form.TheVariants as form
@@ -99,6 +100,13 @@ abbrev pub ReadsShape : Heap → Heap → Outside Space → Outside Space → �
 ReadsShape old new before after at (Ok shape) =
     (text : List ℕ) × ReadsVector old new before after at text × IsShaped (shown_at old at) shape × (shape.form ≡ element_of text)
 ReadsShape old new before after at (Err fault) = FailsReading before after fault × FailsVector old new before after at fault
+
+-- The text of a vector's type lies in the area, and tells the form of its elements.
+pub record HasType (here : Heap) (at : ℕ) (form : Form) : Type 0 where
+  pub text : ℕ
+  pub denotes : Denotes here (Some text) (slot_of (shown_at here at) 0)
+  pub kind : (header_at here text).kind ≡ Text
+  pub tells : form ≡ element_of (text_at here text)
 
 -- its lower bound
 abbrev pub TellsLow : Heap → Heap → Outside Space → Outside Space → ℕ → Result ℤ SwizzleFault → Type 0

@@ -1,12 +1,12 @@
 //! The shape of a vector, as it is read of its object.
-ghost use Rattle.std.specs.Prelude.{◌≡◌, ◌+ℤ◌, ◌-ℤ◌, ◌+◌, ◌<◌, ◌^◌, pos, true, false, if◌then◌else◌, length, OnOk, Some, None};
+ghost use Rattle.std.specs.Prelude.{◌≡◌, ◌+ℤ◌, ◌-ℤ◌, ◌+◌, ◌<◌, ◌^◌, pos, true, false, if◌then◌else◌, length, IfOk, OnOk, Some, None};
 ghost use Rattle.heap_places.specs.ps_meaning.Objects.{is_vector as is_vector_of, place_of};
 ghost use Rattle.heap_places.specs.ps_meaning.Operators.{is_int};
 ghost use Rattle.heap_places.specs.swizzle.Heap.{IsHeld};
 ghost use Rattle.heap_places.specs.swizzle.Joint.{shown_at};
 ghost use Rattle.heap_places.specs.text_forms.Forms.{is_number_form};
 ghost use Rattle.heap_places.specs.Shapes.{word_in};
-ghost use Rattle.heap_ops.specs.Vectors.{count_of, index_of, fitted, FindsShape, ReadsShape};
+ghost use Rattle.heap_ops.specs.Vectors.{count_of, index_of, fitted, FindsShape, HasType, ReadsShape};
 
 use heap_places::obj_layout::kind::Kind;
 use heap_places::obj_layout::vault::Vault;
@@ -171,6 +171,7 @@ pub fn read_shape<V: Vault>(
     requires alive { V.alive vault.old }
     requires held { IsHeld sw.old vector }
     ensures read { ReadsShape sw.old sw.new (V.outside vault.old) (V.outside vault.new) vector result }
+    ensures typed { IfOk result (λ shape. HasType sw.new vector shape.form) }
     ensures numbers { (V.used_words vault.new ≡ V.used_words vault.old) × (V.directory_at vault.new ≡ V.directory_at vault.old) × (V.most_words vault.new ≡ V.most_words vault.old) }
     ensures alive { OnOk result (V.alive vault.new) }
 {

@@ -1,7 +1,6 @@
 -- Fields of structures that are read, whatever the residence of the structure, of its class, and of what the field denotes.
-use Rattle.std.proofs.Common.{arith, inl, inr, ◌≡◌, ◌≢◌, ℕ, suc, ◌+◌, ◌^◌, ◌-◌, ℤ, pos, negsuc, List, [], ◌∷◌, get_or, refl, sym, ap, ◌∙◌, subst, Option, Some, None, true, false}
-use Rattle.std.proofs.lemmas.Bool.{cases_lt, lt-ltb}
-use Rattle.std.specs.Prelude.{Result, Ok, Err}
+use Rattle.std.proofs.Common.{arith, inl, inr, ◌≡◌, ◌≢◌, ℕ, suc, ◌+◌, List, [], ◌∷◌, get_or, refl, sym, ap, ◌∙◌, subst, Option, Some, None}
+use Rattle.std.specs.Prelude.{Result, Ok, Err, IfOk}
 use Rattle.heap_meaning.specs.ps_base.declared.trap.Trap.TheVariants as trap
 use Rattle.heap_meaning.specs.ps_outside.Outside.{Outside}
 use Rattle.heap_meaning.specs.obj_layout.Stored.{Space}
@@ -12,64 +11,37 @@ use Rattle.heap_meaning.specs.swizzle.declared.fault.SwizzleFault.{SwizzleFault}
 use Rattle.heap_meaning.specs.swizzle.Heap as area
 use Rattle.heap_meaning.specs.swizzle.Heap.{IsHeap, header_at}
 use Rattle.heap_meaning.specs.swizzle.Joint.{Shown, shown_at}
-use Rattle.heap_meaning.specs.swizzle.Changes.{Within}
-use Rattle.heap_meaning.specs.swizzle.Reading.{joint, LeavesOutside}
+use Rattle.heap_meaning.specs.swizzle.Reading.{LeavesOutside}
 use Rattle.heap_meaning.specs.text_forms.declared.forms.Form.{Form}
 use Rattle.heap_meaning.specs.text_forms.declared.forms.Form.TheVariants as form
 use Rattle.heap_meaning.specs.text_forms.declared.forms.Located.{Located}
 use Rattle.heap_meaning.specs.text_forms.Forms.{forms_of, form_in, before_in, located_in}
 use Rattle.heap_meaning.specs.heap_texts.declared.fault.OpFault.{OpFault}
 use Rattle.heap_meaning.specs.heap_texts.declared.fault.OpFault.TheVariants as op
-use Rattle.heap_meaning.specs.heap_places.Shapes.{IsText, slot_of, word_in}
-use Rattle.heap_meaning.specs.heap_places.Words.{int_in, word_damage}
-use Rattle.heap_meaning.specs.heap_places.Places.{Holds, touched_by}
+use Rattle.heap_meaning.specs.heap_places.Shapes.{slot_of, word_in}
+use Rattle.heap_meaning.specs.heap_places.Words.{word_damage}
+use Rattle.heap_meaning.specs.heap_places.Places.{touched_by, IsNear}
 use Rattle.heap_meaning.specs.heap_places.declared.value.Value as code
-use Rattle.heap_meaning.specs.heap_places.declared.value.Value.TheVariants as held
-use Rattle.heap_meaning.proofs.of_heap_places.WordLaws.{int-low, int-mid, int-high}
-use Rattle.heap_meaning.specs.heap_ops.Structures.{IsOfOther, GetsField, FailsClass, FailsFields, FailsValue, structure_damage}
-use Rattle.heap_meaning.specs.ps_meaning.Operators.{is_int}
+use Rattle.heap_meaning.specs.heap_ops.Structures.{GetsField, FailsValue}
 use Rattle.heap_meaning.specs.ps_meaning.Values.{Value, Num, Flag, Text, Nil, Pointer, Vector, Procedure, Nothing}
 use Rattle.heap_meaning.specs.ps_meaning.Texts.{Attempt, Fails}
-use Rattle.heap_meaning.specs.ps_meaning.Objects.{Heap, Object, Structure, object_at, is_of, field_of}
+use Rattle.heap_meaning.specs.ps_meaning.Objects.{Heap, field_of}
 use Rattle.heap_meaning.specs.Standing.{Seen, Pairing, StandsFor, IsAs, IsStructure}
 use Rattle.heap_meaning.specs.Paired.{paired}
 use Rattle.heap_meaning.proofs.StandingLaws.{read-reference}
-use Rattle.heap_meaning.proofs.FieldLaws.{other-text, field-is, no-field}
+use Rattle.heap_meaning.proofs.FieldLaws.{field-is, no-field}
 use Rattle.heap_meaning.proofs.GivenLaws.{located-at, field-read, field-fits}
-use Rattle.heap_meaning.proofs.GivenLaws as given
+use Rattle.heap_meaning.specs.heap_ops.Outcomes.{UnlessFault}
+use Rattle.heap_meaning.specs.swizzle.Touch.{Keeps}
 use Rattle.joint_ops.specs.World.{IsWorld, seen, DenotesIn, IsForIn, IsOfForm, Answers, BreaksAsReading}
-use Rattle.joint_ops.proofs.SeenLaws.{none-nil, some-not_nil, text-denoted, pointer-denoted, vector-denoted, procedure-kind, StructureAt, structure-at, first-text, Known, known-text, known-value, reads-within, as-within, reads-stands, IsCaused, caused-touch, caused-fetch, breaks, text-is, no-text, no-damage, joint-one}
-
--- what a word stands for is an int
-int-read : (word : ℕ) (z : ℤ) → int_in word ≡ Some z → is_int z ≡ true
-int-read word z e = elim (cases_lt word (2 ^ 31)) [
-  | inl low ↦
-      let same : pos word ≡ z = let both : Some (pos word) ≡ Some z = sym (int-low word low) ∙ e in cc in
-      subst (λ (y : ℤ). is_int y ≡ true) same (lt-ltb word (2 ^ 31) low)
-  | inr ge ↦ elim (cases_lt word (2 ^ 64 - 2 ^ 31)) [
-    | inl mid ↦ let bad : None ≡ Some z = sym (int-mid word ge mid) ∙ e in absurd (cc)
-    | inr high ↦
-        let same : negsuc (2 ^ 64 - 1 - word) ≡ z = let both : Some (negsuc (2 ^ 64 - 1 - word)) ≡ Some z = sym (int-high word high) ∙ e in cc in
-        subst (λ (y : ℤ). is_int y ≡ true) same (lt-ltb (2 ^ 64 - 1 - word) (2 ^ 31) (omega (arith, high)))
-  ]
-]
-
--- What a place holds is of its form.
-holds-form : (here : area.Heap) (it : Shown) (f : Form) (index : ℕ) (c : code.Value) → Holds here it f index c → IsOfForm f c
-holds-form here it form.Number index (held.Num z) h = int-read (word_in it index) z h
-holds-form here it form.Flag index (held.Flag b) h = tt
-holds-form here it form.Reference index (held.Ref to) h = tt
-holds-form here it form.Number index (held.Flag b) h = absurd h
-holds-form here it form.Number index (held.Ref to) h = absurd h
-holds-form here it form.Flag index (held.Num z) h = absurd h
-holds-form here it form.Flag index (held.Ref to) h = absurd h
-holds-form here it form.Reference index (held.Num z) h = absurd h
-holds-form here it form.Reference index (held.Flag b) h = absurd h
+use Rattle.joint_ops.proofs.SeenLaws.{none-nil, some-not_nil, text-denoted, pointer-denoted, vector-denoted, procedure-kind, StructureAt, structure-at, Known, known-value, reads-within, as-within, reads-stands, IsCaused, caused-fetch, breaks, text-is, no-damage, joint-one}
+use Rattle.joint_ops.proofs.FormLaws.{holds-form, holds-near}
+use Rattle.joint_ops.proofs.ClassLaws.{class-text, class-is, other-class, field-at, caused-fields}
 
 step : (n : ℕ) → suc n ≡ 1 + n
 step n = omega arith
 
-as-slot : (a : Seen) (pair : Pairing) (it : Shown) (of : _) (text : List ℕ) (first : ℕ → List ℕ) (forms : List Form) (vs : List Value)
+pub as-slot : (a : Seen) (pair : Pairing) (it : Shown) (of : _) (text : List ℕ) (first : ℕ → List ℕ) (forms : List Form) (vs : List Value)
     (n : ℕ) → IsAs a pair it of text first forms vs → form_in forms n ≡ Some form.Reference
     → StandsFor a pair (slot_of it (1 + before_in form.Reference forms n)) (get_or vs n Nothing)
 as-slot a pair it of text first forms vs n s is =
@@ -82,38 +54,6 @@ as-slot a pair it of text first forms vs n s is =
 module _ (old new : area.Heap) (before after : Outside Space) (of : Heap) (names : List reference.Reference)
     (h : IsHeap old) (now : IsHeap new) (w : IsWorld old before of names)
     (was_one : (a b : Space) → before.contents a → before.contents b → a ≡ b) (is_one : (a b : Space) → after.contents a → after.contents b → a ≡ b) where
-  -- The class of a structure.
-
-  class-text : (at id : ℕ) → (s : StructureAt old before of names at id) → IsText (seen old before) (slot_of (shown_at old at) 0) s.class
-  class-text at id s = first-text (seen old before) (paired names) (shown_at old at) kind.Structure s.class (λ home. home ∷ []) (forms_of s.class) s.fields s.is
-
-  class-known : (at id : ℕ) → StructureAt old before of names at id → Known old before (slot_of (shown_at old at) 0)
-  class-known at id s = known-text old before (slot_of (shown_at old at) 0) s.class (class-text at id s)
-
-  class-is : (at id : ℕ) (text : List ℕ) → Within (joint old before) (joint new after) → (s : StructureAt old before of names at id)
-      → IsText (joint new after) (slot_of (shown_at old at) 0) text → s.class ≡ text
-  class-is at id text grows s t =
-      text-is old new before after (slot_of (shown_at old at) 0) s.class text grows (joint-one new after now is_one) (class-text at id s) t
-
-  other-class : (at id : ℕ) (text : List ℕ) → Within (joint old before) (joint new after) → StructureAt old before of names at id
-      → IsOfOther (joint new after) (shown_at old at) text → is_of (object_at of id) text ≡ false
-  other-class at id text grows s (inl ne) = absurd (ne s.is.kind_is)
-  other-class at id text grows s (inr t) =
-      ap (λ (o : Option Object). is_of o text) s.means
-      ∙ other-text s.class text (λ e. t.2 (sym (class-is at id (t.0) grows s (t.1)) ∙ e))
-
-  -- Fields.
-
-  record FieldAt (at id : ℕ) (text : List ℕ) (fields : List Value) : Type 0 where
-    means : object_at of id ≡ Some (Structure text fields)
-    is : IsStructure (seen old before) (paired names) (shown_at old at) text fields
-
-  field-at : (at id : ℕ) (text : List ℕ) → (s : StructureAt old before of names at id) → s.class ≡ text → FieldAt at id text s.fields
-  field-at at id text s same = record {
-    means = s.means ∙ ap (λ (t : List ℕ). Some (Structure t s.fields)) same;
-    is = subst (λ (t : List ℕ). IsStructure (seen old before) (paired names) (shown_at old at) t s.fields) same s.is;
-  }
-
   field-slot : (it : Shown) (text : List ℕ) (fields : List Value) (n : ℕ) (l : Located) → IsStructure (seen old before) (paired names) it text fields
       → located_in (forms_of text) n ≡ Some l → l.place.form ≡ form.Reference → Known old before (slot_of it (suc l.place.index))
   field-slot it text fields n l s is reference =
@@ -124,30 +64,13 @@ module _ (old new : area.Heap) (before after : Outside Space) (of : Heap) (names
       (subst (λ (k : ℕ). StandsFor (seen old before) (paired names) (slot_of it k) (get_or fields n Nothing)) (omega (arith, index))
       (as-slot (seen old before) (paired names) it kind.Structure text (λ home. home ∷ []) (forms_of text) fields n s (at.form_is ∙ ap Some reference)))
 
-  -- Why it broke off.
-
-  caused-class : (at id : ℕ) (fault : SwizzleFault) → StructureAt old before of names at id → FailsClass old new before after at fault
-      → IsCaused old new before after fault
-  caused-class at id fault s f = elim (f.1) [
-    | inl none ↦ absurd (no-text old new before after at s.class fault now (class-text at id s) none)
-    | inr touch ↦ caused-touch old new before after at 0 fault h (class-known at id s) touch
-  ]
-
-  caused-fields : (at id : ℕ) (text : List ℕ) (n : ℕ) (l : Located) (fault : SwizzleFault) → StructureAt old before of names at id
-      → located_in (forms_of text) n ≡ Some l → FailsFields old new before after at text l.rows fault → IsCaused old new before after fault
-  caused-fields at id text n l fault s is (inl c) = caused-class at id fault s c
-  caused-fields at id text n l fault s is (inr d) =
-      let f = field-at at id text s (class-is at id text (d.1) s (d.2.class)) in
-      absurd (no-damage old at (structure_damage (shown_at old at) l.rows) fault
-      (given.no-damage (seen old before) (paired names) (shown_at old at) text s.fields n l f.is is) (d.3))
-
   caused-value : (at id : ℕ) (text : List ℕ) (n : ℕ) (l : Located) (fault : SwizzleFault) → StructureAt old before of names at id
       → located_in (forms_of text) n ≡ Some l → FailsValue old before at text l.rows l.place.form (suc l.place.index) fault
       → IsCaused old new before after fault
   caused-value at id text n l fault s is v =
       let same = text-is old v.mid before before (slot_of (shown_at old at) 0) s.class text v.grows (joint-one v.mid before v.heap was_one)
-      (class-text at id s) (v.class.class) in
-      let f = field-at at id text s same in
+      (class-text old new before after of names h now w was_one is_one at id s) (v.class.class) in
+      let f = field-at old new before after of names h now w was_one is_one at id text s same in
       elim (v.why) [
         | inl d ↦ absurd (no-damage old at (word_damage l.place.form (word_in (shown_at old at) (suc l.place.index))) fault
             (field-fits (seen old before) (paired names) (shown_at old at) text s.fields n l f.is is) d)
@@ -176,7 +99,7 @@ module _ (old new : area.Heap) (before after : Outside Space) (of : Heap) (names
   pointer-field at id text n l (Ok v) s is g =
       let it = shown_at old at in
       let touched = slot_of it 0 ∷ touched_by it l.place.form (suc l.place.index) in
-      let f = field-at at id text s (class-is at id text (g.2.grows) s (g.0.class.class)) in
+      let f = field-at old new before after of names h now w was_one is_one at id text s (class-is old new before after of names h now w was_one is_one at id text (g.2.grows) s (g.0.class.class)) in
       let later = as-within (seen old before) (seen new after) (paired names) it kind.Structure text (λ home. home ∷ []) (forms_of text) s.fields
       (reads-within old new before after touched (g.2)) f.is in (
         get_or s.fields n Nothing,
@@ -188,12 +111,12 @@ module _ (old new : area.Heap) (before after : Outside Space) (of : Heap) (names
         reads-stands old new before after touched of names (g.2) w,
       )
   pointer-field at id text n l (Err (op.Trap t)) s is g = (
-    no-field of id text n (other-class at id text (g.2.grows) s (g.1)) ∙ ap Fails (sym (g.0)),
+    no-field of id text n (other-class old new before after of names h now w was_one is_one at id text (g.2.grows) s (g.1)) ∙ ap Fails (sym (g.0)),
     reads-stands old new before after (slot_of (shown_at old at) 0 ∷ []) of names (g.2) w,
   )
   pointer-field at id text n l (Err (op.Swizzle fault)) s is g =
       breaks old new before after fault (g.0) (elim (g.1) [
-        | inl fields ↦ caused-fields at id text n l fault s is fields
+        | inl fields ↦ caused-fields old new before after of names h now w was_one is_one at id text n l fault s is fields
         | inr v ↦ caused-value at id text n l fault s is v
       ])
 
@@ -248,3 +171,17 @@ gets-breaks old new before after object text l (Ok v) g = tt
 gets-breaks old new before after object text l (Err (op.Trap t)) g = tt
 gets-breaks old new before after None text l (Err (op.Swizzle fault)) g = absurd g
 gets-breaks old new before after (Some at) text l (Err (op.Swizzle fault)) g = g.0
+
+pub gets-near : (old new : area.Heap) (before after : Outside Space) (object : Option ℕ) (text : List ℕ) (l : Located)
+    (result : Result code.Value OpFault) → GetsField old new before after object text l result → IfOk result (IsNear new)
+gets-near old new before after None text l (Ok v) g = absurd g
+gets-near old new before after (Some at) text l (Ok v) g = holds-near new (shown_at old at) l.place.form (suc l.place.index) v (g.1)
+gets-near old new before after object text l (Err fault) g = tt
+
+pub gets-keeps : (old new : area.Heap) (before after : Outside Space) (object : Option ℕ) (text : List ℕ) (l : Located)
+    (result : Result code.Value OpFault) → GetsField old new before after object text l result → UnlessFault result (Keeps old new)
+gets-keeps old new before after None text l (Ok v) g = absurd g
+gets-keeps old new before after (Some at) text l (Ok v) g = g.2.keeps
+gets-keeps old new before after None text l (Err (op.Trap t)) g = g.1.keeps
+gets-keeps old new before after (Some at) text l (Err (op.Trap t)) g = g.2.keeps
+gets-keeps old new before after object text l (Err (op.Swizzle fault)) g = tt

@@ -1,10 +1,11 @@
 -- What is seen of area and vault, and what becomes of it as objects are fetched.
-use Rattle.std.proofs.Common.{arith, inl, inr, ◌⊎◌, ◌≡◌, ℕ, ◌*◌, List, get_or, refl, sym, ap, ◌∙◌, subst, Option, Some, None}
+use Rattle.std.proofs.Common.{ℤ, arith, inl, inr, ◌⊎◌, ◌≡◌, ℕ, ◌*◌, ◌≤◌, List, get_or, refl, sym, ap, ◌∙◌, subst, Option, Some, None}
 use Rattle.std.specs.Prelude.{take, drop}
+use Rattle.heap_meaning.specs.ps_base.CodeUnit.{UnitView}
 use Rattle.heap_meaning.specs.ps_outside.Outside.{Outside, SameContents}
 use Rattle.heap_meaning.specs.obj_area.Words.{bytes_of}
 use Rattle.heap_meaning.specs.obj_layout.Stored.{Space, Holds, Damage}
-use Rattle.heap_meaning.proofs.of_obj_layout.StoredLaws.{Holds-one}
+use Rattle.heap_meaning.proofs.of_obj_layout.StoredLaws.{Holds-one, Holds-low}
 use Rattle.heap_meaning.specs.obj_layout.declared.kind.Kind.{Kind}
 use Rattle.heap_meaning.specs.obj_layout.declared.kind.Kind.TheVariants as kind
 use Rattle.heap_meaning.specs.obj_layout.declared.reference.Reference as reference
@@ -15,28 +16,31 @@ use Rattle.heap_meaning.specs.swizzle.declared.fault.SwizzleFault.TheVariants.{A
 use Rattle.heap_meaning.specs.swizzle.Objects.{words_before}
 use Rattle.heap_meaning.specs.swizzle.Heap as area
 use Rattle.heap_meaning.specs.swizzle.Heap.{IsHeap, IsHeld, top_of, header_at, object_at, ref_at, local_of}
-use Rattle.heap_meaning.specs.swizzle.Joint.{Shown, Joint, shown_at, name_at, name_of}
+use Rattle.heap_meaning.specs.swizzle.Joint.{Shown, InArea, Joint, shown_at, name_at, name_of}
 use Rattle.heap_meaning.specs.swizzle.Changes.{IsKnown, Within}
 use Rattle.heap_meaning.specs.swizzle.Text.{text_at}
 use Rattle.heap_meaning.specs.swizzle.Touch.{Denotes, Keeps, IsTouchFault}
-use Rattle.heap_meaning.specs.swizzle.Reading.{joint, Reads, FailsReading}
+use Rattle.heap_meaning.specs.swizzle.Reading.{joint, Reads, LeavesOutside, FailsReading}
 use Rattle.heap_meaning.proofs.of_swizzle.DamageLaws.{far-held}
 use Rattle.heap_meaning.proofs.of_swizzle.NameLaws.{Joint-one, not_away, name-not_nil, name_at-injective, pid_in}
 use Rattle.heap_meaning.specs.text_forms.declared.forms.Form.{Form}
 use Rattle.heap_meaning.specs.heap_places.Shapes.{IsText, slot_of, shown_text}
 use Rattle.heap_meaning.specs.heap_places.Places.{FailsFetch, NoText, NamesDamage}
 use Rattle.heap_meaning.proofs.of_heap_places.PlaceLaws.{slot-name}
+use Rattle.heap_meaning.proofs.of_swizzle.FetchedLaws.{local-place}
+use Rattle.heap_meaning.proofs.of_swizzle.TouchLaws.{keeps-refl, rose_more}
 use Rattle.heap_meaning.proofs.of_proc_values.StayLaws.{keeps-code}
 use Rattle.heap_meaning.specs.ps_meaning.Values.{Value, Num, Flag, Text, Nil, Pointer, Vector, Procedure, Nothing, Routine, as_written, as_compiled}
 use Rattle.heap_meaning.specs.ps_meaning.Objects.{Heap, Object, Structure, Elements, Scope}
 use Rattle.heap_meaning.specs.ps_meaning.Objects as meaning
-use Rattle.heap_meaning.specs.Standing.{Seen, Pairing, IsKindOf, StandsFor, IsAs, IsStructure, IsLike, IsOne}
+use Rattle.heap_meaning.specs.Units.{IsUnitSeen}
+use Rattle.heap_meaning.specs.Standing.{Seen, Pairing, IsKindOf, StandsFor, IsAs, IsStructure, IsVector, IsLike, IsOne}
 use Rattle.heap_meaning.specs.Denoting.{DenotesValue, DenotesScope}
 use Rattle.heap_meaning.specs.Paired.{paired}
-use Rattle.heap_meaning.proofs.StandingLaws.{text-more, as-more, stands-more, scope-more}
+use Rattle.heap_meaning.proofs.StandingLaws.{Fixed, Kinds, Pairs, text-more, unit-more, as-more, stands-more, scope-more}
 use Rattle.heap_meaning.proofs.PairedLaws.{row-within}
 use Rattle.heap_meaning.proofs.PlaceLaws.{text-one}
-use Rattle.joint_ops.specs.World.{IsStored, IsWorld, seen, DenotesIn, Stands, IsAway, BreaksOff}
+use Rattle.joint_ops.specs.World.{IsStored, IsWorld, seen, DenotesIn, IsUnitIn, Carries, Stands, IsAway, BreaksOff}
 
 -- an object of the area is seen
 pub seen-held : (here : area.Heap) (outside : Outside Space) (at : ℕ) → IsHeld here at → seen here outside (name_at here at) (shown_at here at)
@@ -63,6 +67,10 @@ pub joint-one : (here : area.Heap) (outside : Outside Space) → IsHeap here
     → ((a b : Space) → outside.contents a → outside.contents b → a ≡ b) → IsOne (joint here outside)
 joint-one here outside h one n a b s t = Joint-one here (Holds outside) n a b h (λ pid x y p q. Holds-one outside pid x y one p q) s t
 
+pub seen-one : (here : area.Heap) (outside : Outside Space) → IsHeap here
+    → ((a b : Space) → outside.contents a → outside.contents b → a ≡ b) → IsOne (seen here outside)
+seen-one here outside h one n a b s t = joint-one here outside h one n a b (seen-joint here outside n a s) (seen-joint here outside n b t)
+
 -- what may come into the area may do so still, where what is held stays
 pub stored-stays : (before after : Outside Space) (pid : ℕ) (words : List ℕ) → SameContents before after → IsStored before pid words
     → IsStored after pid words
@@ -72,16 +80,20 @@ stored-stays before after pid words same s = record {
   far = s.far;
 }
 
--- A reading loses nothing that is seen.
-pub reads-within : (old new : area.Heap) (before after : Outside Space) (touched : List reference.Reference) → Reads old new before after touched
-    → Within (seen old before) (seen new after)
+-- What is seen of the area is so still, where its objects stay.
+pub area-stays : (old new : area.Heap) (n : reference.Reference) (it : Shown) → Keeps old new → InArea old n it → InArea new n it
+area-stays old new n it keeps a =
+    let stays = keeps.objects a.at a.held in
+    record { at = a.at; held = stays.held; name_is = a.name_is ∙ sym stays.name; shown_is = a.shown_is ∙ sym stays.shown_as }
+
+-- Where objects of the area stay and none that is held is lost, nothing that is seen is lost: so after a reading.
+pub grows-within : (old new : area.Heap) (before after : Outside Space) → Keeps old new → Within (joint old before) (joint new after)
+    → SameContents before after → Within (seen old before) (seen new after)
 unfolding pid_in
-reads-within old new before after touched r n it (inl a) =
-    let stays = r.keeps.objects a.at a.held in
-    inl (record { at = a.at; held = stays.held; name_is = a.name_is ∙ sym stays.name; shown_is = a.shown_is ∙ sym stays.shown_as })
-reads-within old new before after touched r n it (inr v) =
+grows-within old new before after keeps grows same n it (inl a) = inl (area-stays old new n it keeps a)
+grows-within old new before after keeps grows same n it (inr v) =
     let j : joint old before n it = inr (record { pid = v.pid; words = v.words; name_is = v.name_is; there = v.there.there; away = v.away; shown_is = v.shown_is }) in
-    elim (r.grows n it j) [
+    elim (grows n it j) [
       | inl a ↦ inl a
       | inr w ↦
           let pids : w.pid ≡ v.pid = ap pid_in (sym w.name_is ∙ v.name_is) in
@@ -89,34 +101,72 @@ reads-within old new before after touched r n it (inr v) =
             pid = v.pid;
             words = v.words;
             name_is = v.name_is;
-            there = stored-stays before after v.pid v.words r.outside.contents v.there;
+            there = stored-stays before after v.pid v.words same v.there;
             away = subst (λ (p : ℕ). local_of new p ≡ None) pids w.away;
             shown_is = v.shown_is;
           })
     ]
 
--- What denoted a value denotes it still where objects of the area stay and nothing that is seen is lost.
+pub reads-within : (old new : area.Heap) (before after : Outside Space) (touched : List reference.Reference) → Reads old new before after touched
+    → Within (seen old before) (seen new after)
+reads-within old new before after touched r = grows-within old new before after r.keeps r.grows r.outside.contents
 
-denotes-kept : (old new : area.Heap) (to : Option ℕ) (n : reference.Reference) → Keeps old new → Denotes old to n → Denotes new to n
-denotes-kept old new None n k d = d
-denotes-kept old new (Some at) n k d = let s = k.objects at d.0 in (s.held, s.name ∙ d.1)
+-- What values need to be denoted still: names stay, texts, code and closures stay, and names keep their kinds.
+pub record Passes (old new : area.Heap) (a b : Seen) : Type 0 where
+  pub names : (at : ℕ) → IsHeld old at → IsHeld new at × (name_at new at ≡ name_at old at)
+  pub fixed : Fixed a b
+  pub kinds : Kinds a b
 
-pub value-within : (old new : area.Heap) (a b : Seen) (pair : Pairing) (to : Option ℕ) (v : Value) → Keeps old new → Within a b
-    → DenotesValue old a pair to v → DenotesValue new b pair to v
-value-within old new a b pair to v k grows d = record {
+denotes-passes : (old new : area.Heap) (a b : Seen) (to : Option ℕ) (n : reference.Reference) → Passes old new a b → Denotes old to n → Denotes new to n
+denotes-passes old new a b None n p d = d
+denotes-passes old new a b (Some at) n p d = let now = p.names at d.0 in (now.0, now.1 ∙ d.1)
+
+pub carries-value : (old new : area.Heap) (a b : Seen) (pair more : Pairing) (to : Option ℕ) (v : Value) → Passes old new a b → Pairs pair more
+    → DenotesValue old a pair to v → DenotesValue new b more to v
+carries-value old new a b pair more to v p pairs d = record {
   name = d.name;
-  denotes = denotes-kept old new to d.name k d.denotes;
-  stands = stands-more a b pair pair d.name v (λ n it fixed s. grows n it s) (λ n it s. record { it = it; there = grows n it s; kind_is = refl })
-      (λ n id p. p) d.stands;
+  denotes = denotes-passes old new a b to d.name p d.denotes;
+  stands = stands-more a b pair more d.name v p.fixed p.kinds pairs d.stands;
 }
 
-pub scope-within : (old new : area.Heap) (a b : Seen) (pair : Pairing) (to scope : Option ℕ) → Keeps old new → Within a b
-    → DenotesScope old a pair to scope → DenotesScope new b pair to scope
-scope-within old new a b pair to scope k grows d = record {
+pub carries-scope : (old new : area.Heap) (a b : Seen) (pair more : Pairing) (to scope : Option ℕ) → Passes old new a b → Pairs pair more
+    → DenotesScope old a pair to scope → DenotesScope new b more to scope
+carries-scope old new a b pair more to scope p pairs d = record {
   name = d.name;
-  denotes = denotes-kept old new to d.name k d.denotes;
-  stands = scope-more a b pair pair d.name scope (λ n it s. record { it = it; there = grows n it s; kind_is = refl }) (λ n id p. p) d.stands;
+  denotes = denotes-passes old new a b to d.name p d.denotes;
+  stands = scope-more a b pair more d.name scope p.kinds pairs d.stands;
 }
+
+pub carries-unit : (old new : area.Heap) (before after : Outside Space) (code : ℕ) (u : UnitView)
+    → Passes old new (seen old before) (seen new after) → IsUnitIn old before code u → IsUnitIn new after code u
+carries-unit old new before after code u p i =
+    let now = p.names code i.held in
+    record {
+      held = now.0;
+      is = subst (λ (n : reference.Reference). IsUnitSeen (seen new after) n u) (sym now.1)
+          (unit-more (seen old before) (seen new after) (name_at old code) u p.fixed i.is);
+    }
+
+-- So it is where objects of the area stay and nothing that is seen is lost.
+pub keeps-passes : (old new : area.Heap) (a b : Seen) → Keeps old new → Within a b → Passes old new a b
+keeps-passes old new a b keeps grows = record {
+  names = λ at held. let s = keeps.objects at held in (s.held, s.name);
+  fixed = λ n it k s. grows n it s;
+  kinds = λ n it s. record { it = it; there = grows n it s; kind_is = refl };
+}
+
+pub keeps-carries : (old new : area.Heap) (before after : Outside Space) (names more : List reference.Reference) → Keeps old new
+    → Within (seen old before) (seen new after) → Pairs (paired names) (paired more) → Carries old new before after names more
+keeps-carries old new before after names more keeps grows pairs =
+    let p = keeps-passes old new (seen old before) (seen new after) keeps grows in
+    record {
+      values = λ to v d. carries-value old new (seen old before) (seen new after) (paired names) (paired more) to v p pairs d;
+      scopes = λ to scope d. carries-scope old new (seen old before) (seen new after) (paired names) (paired more) to scope p pairs d;
+      units = λ code u i. carries-unit old new before after code u p i;
+      code = keeps-code old new keeps;
+      size = keeps.size;
+      top = keeps.top;
+    }
 
 pub as-within : (a b : Seen) (pair : Pairing) (it : Shown) (of : Kind) (text : List ℕ) (first : ℕ → List ℕ) (forms : List Form) (vs : List Value)
     → Within a b → IsAs a pair it of text first forms vs → IsAs b pair it of text first forms vs
@@ -124,21 +174,23 @@ as-within a b pair it of text first forms vs grows s =
     as-more a b pair pair it of text first forms vs (λ n x fixed j. grows n x j)
     (λ n x j. record { it = x; there = grows n x j; kind_is = refl }) (λ n id p. p) s
 
--- A reading: the same heap under the same names.
+-- The same heap under the same names, where objects of the area stay and nothing that is seen is lost: so after a reading.
+pub keeps-stands : (old new : area.Heap) (before after : Outside Space) (of : Heap) (names : List reference.Reference) → Keeps old new
+    → Within (seen old before) (seen new after) → IsWorld old before of names → Stands old new before after of names
+keeps-stands old new before after of names keeps grows w = record {
+  world = record { row = row-within (seen old before) (seen new after) of names grows w.row };
+  carries = keeps-carries old new before after names names keeps grows (λ n id p. p);
+}
+
 pub reads-stands : (old new : area.Heap) (before after : Outside Space) (touched : List reference.Reference) (of : Heap)
     (names : List reference.Reference) → Reads old new before after touched → IsWorld old before of names → Stands old new before after of names
 reads-stands old new before after touched of names r w =
-    let grows = reads-within old new before after touched r in
-    record {
-      world = record { row = row-within (seen old before) (seen new after) of names grows w.row };
-      carries = record {
-        values = λ to v d. value-within old new (seen old before) (seen new after) (paired names) to v r.keeps grows d;
-        scopes = λ to scope d. scope-within old new (seen old before) (seen new after) (paired names) to scope r.keeps grows d;
-        code = keeps-code old new r.keeps;
-        size = r.keeps.size;
-        top = r.keeps.top;
-      };
-    }
+    keeps-stands old new before after of names r.keeps (reads-within old new before after touched r) w
+
+-- and where nothing was done
+pub nothing-done : (here : area.Heap) (outside : Outside Space) (of : Heap) (names : List reference.Reference) → IsWorld here outside of names
+    → Stands here here outside outside of names
+nothing-done here outside of names w = keeps-stands here here outside outside of names (keeps-refl here) (λ n it s. s) w
 
 -- What objects of the area denote.
 
@@ -175,7 +227,7 @@ pub record TextAt (here : area.Heap) (at : ℕ) (bytes : List ℕ) : Type 0 wher
   pub kind : (header_at here at).kind ≡ kind.Text
   pub bytes_are : text_at here at ≡ bytes
 
-shown-bytes : (here : area.Heap) (at : ℕ) → (header_at here at).kind ≡ kind.Text → text_at here at ≡ shown_text (shown_at here at)
+pub shown-bytes : (here : area.Heap) (at : ℕ) → (header_at here at).kind ≡ kind.Text → text_at here at ≡ shown_text (shown_at here at)
 shown-bytes here at is = ap (λ (k : Kind). take (header_at here at).bytes (drop (8 * words_before k) (bytes_of (object_at here at).nums))) is
 
 pub text-denoted : (here : area.Heap) (outside : Outside Space) (names : List reference.Reference) (at : ℕ) (bytes : List ℕ) → IsHeap here
@@ -246,6 +298,25 @@ structure-at here outside of names at id h w p = let b = both-at here outside of
     cases (Elements ty low elements) means like = let bad : kind.Structure ≡ kind.Vector = sym p.kind ∙ like.rows.kind_is in absurd (cc)
     cases (Scope text parent values) means like = let bad : kind.Structure ≡ kind.Scope = sym p.kind ∙ like.kind_is in absurd (cc)
 
+pub record VectorAt (here : area.Heap) (outside : Outside Space) (of : Heap) (names : List reference.Reference) (at id : ℕ) : Type 0 where
+  pub held : IsHeld here at
+  pub pair : paired names (name_at here at) id
+  pub ty : List ℕ
+  pub low : ℤ
+  pub elements : List Value
+  pub means : meaning.object_at of id ≡ Some (Elements ty low elements)
+  pub is : IsVector (seen here outside) (paired names) (shown_at here at) ty low elements
+
+pub vector-at : (here : area.Heap) (outside : Outside Space) (of : Heap) (names : List reference.Reference) (at id : ℕ) → IsHeap here
+    → IsWorld here outside of names → ObjectAt here names at id kind.Vector → VectorAt here outside of names at id
+vector-at here outside of names at id h w p = let b = both-at here outside of names at id h w p.held p.pair in cases (b.0) (b.1) (b.2)
+  where
+    cases : (o : Object) → meaning.object_at of id ≡ Some o → IsLike (seen here outside) (paired names) (shown_at here at) o → VectorAt here outside of names at id
+    cases (Structure class fields) means like = let bad : kind.Vector ≡ kind.Structure = sym p.kind ∙ like.kind_is in absurd (cc)
+    cases (Elements ty low elements) means like =
+        record { held = p.held; pair = p.pair; ty = ty; low = low; elements = elements; means = means; is = like }
+    cases (Scope text parent values) means like = let bad : kind.Vector ≡ kind.Scope = sym p.kind ∙ like.kind_is in absurd (cc)
+
 -- The text that such an object refers to first.
 pub first-text : (a : Seen) (pair : Pairing) (it : Shown) (of : Kind) (text : List ℕ) (first : ℕ → List ℕ)
     (forms : List Form) (vs : List Value) → IsAs a pair it of text first forms vs → IsText a (slot_of it 0) text
@@ -271,16 +342,22 @@ known-value here outside names n (Procedure (as_written of) scope) s = absurd s
 known-value here outside names n (Procedure (as_compiled of) scope) s = inr (record { it = s.it; is = s.there })
 known-value here outside names n Nothing s = absurd s
 
--- A known object that isn't in the area is stored.
-away-stored : (old new : area.Heap) (before after : Outside Space) (n : reference.Reference) (pid : ℕ) → IsHeap old → Known old before n → n ≡ name.Pid pid
-    → local_of old pid ≡ None → IsAway old new before after pid
+-- A known object that isn't in the area, even after others may have come, is stored.
+away-stored : (old mid new : area.Heap) (before after : Outside Space) (n : reference.Reference) (pid : ℕ) → IsHeap mid → Keeps old mid
+    → Known old before n → n ≡ name.Pid pid → local_of mid pid ≡ None → IsAway old new before after pid
 unfolding pid_in
-away-stored old new before after n pid h (inl nil) e away = let bad : name.Nil ≡ name.Pid pid = sym nil ∙ e in absurd (cc)
-away-stored old new before after n pid h (inr k) e away = elim (k.is) [
-  | inl a ↦ absurd (not_away old a.at pid h a.held (sym e ∙ a.name_is) away)
+away-stored old mid new before after n pid h keeps (inl nil) e away = let bad : name.Nil ≡ name.Pid pid = sym nil ∙ e in absurd (cc)
+away-stored old mid new before after n pid h keeps (inr k) e away = elim (k.is) [
+  | inl a ↦
+      let stays = keeps.objects a.at a.held in
+      absurd (not_away mid a.at pid h stays.held (sym e ∙ a.name_is ∙ sym stays.name) away)
   | inr v ↦
       let pids : v.pid ≡ pid = ap pid_in (sym v.name_is ∙ e) in
-      record { words = v.words; stored = subst (λ (p : ℕ). IsStored before p v.words) pids v.there; away = away }
+      record {
+        words = v.words;
+        stored = subst (λ (p : ℕ). IsStored before p v.words) pids v.there;
+        away = subst (λ (p : ℕ). local_of old p ≡ None) pids v.away;
+      }
 ]
 
 -- Why an object wasn't got that was known.
@@ -292,26 +369,31 @@ IsCaused old new before after (Vault other) = Unit {0}
 pub caused-touch : (old new : area.Heap) (before after : Outside Space) (at slot : ℕ) (fault : SwizzleFault) → IsHeap old
     → Known old before (slot_of (shown_at old at) slot) → IsTouchFault old before (ref_at old at slot) fault → IsCaused old new before after fault
 caused-touch old new before after at slot (AreaFull top wanted size) h k t =
-    let a = away-stored old new before after (slot_of (shown_at old at) slot) (t.3.0) h k (slot-name old at slot ∙ ap (name_of old) (t.3.1)) (t.3.2) in
+    let a = away-stored old old new before after (slot_of (shown_at old at) slot) (t.3.0) h (keeps-refl old) k (slot-name old at slot ∙ ap (name_of old) (t.3.1)) (t.3.2) in
     (omega (arith, t.0), t.1, t.2, (t.3.0, a, t.3.4 a.words a.stored.there))
 caused-touch old new before after at slot (Vault Device) h k t = tt
 caused-touch old new before after at slot (Vault Output) h k t = tt
 caused-touch old new before after at slot (Vault (Full used wanted capacity)) h k t = tt
 caused-touch old new before after at slot (Vault (Damaged where_at found wanted)) h k t =
-    let a = away-stored old new before after (slot_of (shown_at old at) slot) (t.0) h k (slot-name old at slot ∙ ap (name_of old) (t.1)) (t.2) in
+    let a = away-stored old old new before after (slot_of (shown_at old at) slot) (t.0) h (keeps-refl old) k (slot-name old at slot ∙ ap (name_of old) (t.1)) (t.2) in
+    far-held before t.0 (record { found = found; wanted = wanted }) a.words a.stored.header (t.3 where_at found wanted refl).1 a.stored.there a.stored.far
+
+-- the same of a fetch after others may have come
+pub caused-later : (old mid new : area.Heap) (before after : Outside Space) (n : reference.Reference) (fault : SwizzleFault) → IsHeap mid → Keeps old mid
+    → Known old before n → FailsFetch mid before n fault → IsCaused old new before after fault
+caused-later old mid new before after n (AreaFull top wanted size) h keeps k t =
+    let a = away-stored old mid new before after n (t.3.0) h keeps k (t.3.1) (t.3.2) in
+    (omega (arith, t.0, keeps.top), t.1 ∙ keeps.size, t.2, (t.3.0, a, t.3.4 a.words a.stored.there))
+caused-later old mid new before after n (Vault Device) h keeps k t = tt
+caused-later old mid new before after n (Vault Output) h keeps k t = tt
+caused-later old mid new before after n (Vault (Full used wanted capacity)) h keeps k t = tt
+caused-later old mid new before after n (Vault (Damaged where_at found wanted)) h keeps k t =
+    let a = away-stored old mid new before after n (t.0) h keeps k (t.1) (t.2) in
     far-held before t.0 (record { found = found; wanted = wanted }) a.words a.stored.header (t.3 where_at found wanted refl).1 a.stored.there a.stored.far
 
 pub caused-fetch : (old new : area.Heap) (before after : Outside Space) (n : reference.Reference) (fault : SwizzleFault) → IsHeap old
     → Known old before n → FailsFetch old before n fault → IsCaused old new before after fault
-caused-fetch old new before after n (AreaFull top wanted size) h k t =
-    let a = away-stored old new before after n (t.3.0) h k (t.3.1) (t.3.2) in
-    (t.0, t.1, t.2, (t.3.0, a, t.3.4 a.words a.stored.there))
-caused-fetch old new before after n (Vault Device) h k t = tt
-caused-fetch old new before after n (Vault Output) h k t = tt
-caused-fetch old new before after n (Vault (Full used wanted capacity)) h k t = tt
-caused-fetch old new before after n (Vault (Damaged where_at found wanted)) h k t =
-    let a = away-stored old new before after n (t.0) h k (t.1) (t.2) in
-    far-held before t.0 (record { found = found; wanted = wanted }) a.words a.stored.header (t.3 where_at found wanted refl).1 a.stored.there a.stored.far
+caused-fetch old new before after n fault h k t = caused-later old old new before after n fault h (keeps-refl old) k t
 
 -- A reading that failed broke off.
 pub breaks : (old new : area.Heap) (before after : Outside Space) (fault : SwizzleFault) → FailsReading before after fault
@@ -321,6 +403,43 @@ breaks old new before after (Vault Device) f caused = f.cause refl
 breaks old new before after (Vault Output) f caused = f.other refl
 breaks old new before after (Vault (Full used wanted capacity)) f caused = f.full used wanted capacity refl
 breaks old new before after (Vault (Damaged at found wanted)) f caused = caused
+
+-- An operation broke off that went on after a reading: so did the whole.
+
+-- a PID that no object of the area has now, none had before others came
+still-away : (old mid : area.Heap) (pid : ℕ) → IsHeap mid → Keeps old mid → 1 ≤ pid → local_of mid pid ≡ None → local_of old pid ≡ None
+still-away old mid pid h keeps low away = cases (local_of old pid) refl
+  where
+    cases : (o : Option ℕ) → local_of old pid ≡ o → local_of old pid ≡ None
+    cases None e = e
+    cases (Some at) e =
+        let l = local-place old pid at low e in
+        let stays = keeps.objects at l.held in
+        absurd (not_away mid at pid h stays.held (sym (stays.name ∙ l.name)) away)
+
+pub breaks-earlier : (old mid new : area.Heap) (start before after : Outside Space) (fault : SwizzleFault) → IsHeap mid → Keeps old mid
+    → LeavesOutside start before → BreaksOff mid new before after fault → BreaksOff old new start after fault
+breaks-earlier old mid new start before after (AreaFull top wanted size) h keeps leaves b =
+    let a = b.3.1 in
+    let back : SameContents before start = record { kept = leaves.contents.no_other; no_other = leaves.contents.kept } in (
+      omega (arith, b.0, keeps.top),
+      b.1 ∙ keeps.size,
+      b.2,
+      (
+        b.3.0,
+        record {
+          words = a.words;
+          stored = stored-stays before start (b.3.0) a.words back a.stored;
+          away = still-away old mid (b.3.0) h keeps (Holds-low before (b.3.0) a.words a.stored.there) a.away;
+        },
+        b.3.2,
+      ),
+    )
+breaks-earlier old mid new start before after (Vault Device) h keeps leaves b =
+    rose_more start.device_faults before.device_faults after.device_faults leaves.counts b
+breaks-earlier old mid new start before after (Vault Output) h keeps leaves b = b
+breaks-earlier old mid new start before after (Vault (Full used wanted capacity)) h keeps leaves b = b
+breaks-earlier old mid new start before after (Vault (Damaged at found wanted)) h keeps leaves b = b
 
 -- What was seen under a name is what is seen, where no object was lost.
 

@@ -1,5 +1,6 @@
 -- Area and vault together as the meaning sees them: a heap under a row of names, whatever the residence of its objects.
 use Rattle.std.specs.Prelude.{◌≡◌, ℕ, true, ◌+◌, ◌<◌, ◌≤◌, List, length, Option, None, Result, Ok, Err}
+use Rattle.heap_meaning.specs.ps_base.CodeUnit.{UnitView}
 use Rattle.heap_meaning.specs.ps_outside.Outside.{Outside, Rose}
 use Rattle.heap_meaning.specs.obj_layout.Stored.{Space, Holds}
 use Rattle.heap_meaning.specs.obj_layout.declared.header.Header.{Header}
@@ -11,8 +12,8 @@ use Rattle.heap_meaning.specs.swizzle.declared.fault.SwizzleFault.{SwizzleFault}
 use Rattle.heap_meaning.specs.swizzle.declared.fault.SwizzleFault.TheVariants.{AreaFull, Vault}
 use Rattle.heap_meaning.specs.swizzle.Fetched.{IsFar}
 use Rattle.heap_meaning.specs.swizzle.Heap as area
-use Rattle.heap_meaning.specs.swizzle.Heap.{top_of, local_of}
-use Rattle.heap_meaning.specs.swizzle.Joint.{Shown, Joint}
+use Rattle.heap_meaning.specs.swizzle.Heap.{IsHeld, top_of, local_of}
+use Rattle.heap_meaning.specs.swizzle.Joint.{Shown, Joint, name_at}
 use Rattle.heap_meaning.specs.swizzle.Reading.{FailsReading}
 use Rattle.heap_meaning.specs.heap_texts.declared.fault.OpFault.{OpFault}
 use Rattle.heap_meaning.specs.heap_texts.declared.fault.OpFault.TheVariants as op
@@ -23,6 +24,7 @@ use Rattle.heap_meaning.specs.ps_meaning.Operators.{is_int}
 use Rattle.heap_meaning.specs.ps_meaning.Values.{Value}
 use Rattle.heap_meaning.specs.ps_meaning.Texts.{Attempt, Yields, Fails}
 use Rattle.heap_meaning.specs.ps_meaning.Objects.{Heap}
+use Rattle.heap_meaning.specs.Units.{IsUnitSeen}
 use Rattle.heap_meaning.specs.Paired.{paired, StandsRow}
 use Rattle.heap_meaning.specs.Denoting.{DenotesValue, DenotesScope, IsFor}
 
@@ -48,6 +50,11 @@ DenotesIn here outside names to v = DenotesValue here (seen here outside) (paire
 abbrev pub DenotesScopeIn : area.Heap → Outside Space → List reference.Reference → Option ℕ → Option ℕ → Type 0
 DenotesScopeIn here outside names to scope = DenotesScope here (seen here outside) (paired names) to scope
 
+-- The code object of a unit lies in the area, wherever the objects of its constants lie.
+pub record IsUnitIn (here : area.Heap) (outside : Outside Space) (code : ℕ) (u : UnitView) : Type 0 where
+  pub held : IsHeld here code
+  pub is : IsUnitSeen (seen here outside) (name_at here code) u
+
 -- a value in code denotes one of the meaning
 abbrev pub IsForIn : area.Heap → Outside Space → List reference.Reference → code.Value → Value → Type 0
 IsForIn here outside names c v = IsFor here (seen here outside) (paired names) c v
@@ -60,10 +67,11 @@ IsOfForm form.Reference (held.Ref to) = Unit {0}
 IsOfForm _ _ = ⊥
 
 module _ (old new : area.Heap) (before after : Outside Space) where
-  -- What denoted a value or a scope denotes it still, and texts and code of the area stay where they are.
+  -- What denoted a value or a scope, or was the code object of a unit, is so still, and texts and code of the area stay where they are.
   pub record Carries (names more : List reference.Reference) : Type 0 where
     pub values : (to : Option ℕ) (v : Value) → DenotesIn old before names to v → DenotesIn new after more to v
     pub scopes : (to scope : Option ℕ) → DenotesScopeIn old before names to scope → DenotesScopeIn new after more to scope
+    pub units : (code : ℕ) (u : UnitView) → IsUnitIn old before code u → IsUnitIn new after code u
     pub code : CodeStays old new
     pub size : new.size ≡ old.size
     pub top : top_of old ≤ top_of new
@@ -94,9 +102,19 @@ module _ (old new : area.Heap) (before after : Outside Space) where
   Answers is of names attempt (Err (op.Trap t)) = (attempt ≡ Fails t) × Stands of names
   Answers is of names attempt (Err (op.Swizzle fault)) = BreaksOff fault
 
+  -- An operation that writes: area and vault stand for the heap that the meaning's yields, or it ends in its trap, or broke off.
+  abbrev pub Writes : Heap → List reference.Reference → Attempt Heap → Result (Unit {0}) OpFault → Type 0
+  Writes of names attempt (Ok done) = (later : Heap) × (attempt ≡ Yields later) × Stands later names
+  Writes of names attempt (Err (op.Trap t)) = (attempt ≡ Fails t) × Stands of names
+  Writes of names attempt (Err (op.Swizzle fault)) = BreaksOff fault
+
 -- An operation that broke off failed as a reading does, whatever is known of the vault: it named the device only where that failed, and never
 -- the output, nor that the vault is full.
 abbrev pub BreaksAsReading : {T : Type 0} → Outside Space → Outside Space → Result T OpFault → Type 0
 BreaksAsReading before after (Ok given) = Unit {0}
 BreaksAsReading before after (Err (op.Trap t)) = Unit {0}
 BreaksAsReading before after (Err (op.Swizzle fault)) = FailsReading before after fault
+
+abbrev pub FailsAsReading : {T : Type 0} → Outside Space → Outside Space → Result T SwizzleFault → Type 0
+FailsAsReading before after (Ok given) = Unit {0}
+FailsAsReading before after (Err fault) = FailsReading before after fault

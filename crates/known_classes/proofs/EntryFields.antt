@@ -1,5 +1,5 @@
 -- Fields that are reached by what is known of them.
-use Rattle.std.proofs.Common.{◌≡◌, ℕ, ◌+◌, ◌<◌, ◌^◌, List, refl, sym, ap, ◌∙◌, subst, Option, Some, Bool, false}
+use Rattle.std.proofs.Common.{◌≡◌, ℕ, ◌+◌, List, refl, sym, ap, ◌∙◌, subst, Option, Some, Bool, false}
 use Rattle.paired_ops.specs.heap_places.declared.value.Value.TheVariants as held
 use Rattle.paired_ops.specs.text_forms.declared.forms.Form.TheVariants as form
 use Rattle.paired_ops.specs.text_forms.declared.forms.Form.{Form}
@@ -9,13 +9,13 @@ use Rattle.paired_ops.specs.swizzle.Heap.{IsHeap, IsHeld, header_at, object_at, 
 use Rattle.paired_ops.specs.swizzle.Joint.{shown_at}
 use Rattle.paired_ops.specs.swizzle.Text.{text_at}
 use Rattle.paired_ops.specs.text_forms.Forms.{forms_of, located_in, is_number_form}
-use Rattle.paired_ops.specs.heap_places.Places.{HasPlace, HasRow, Holds, assigned_value}
+use Rattle.paired_ops.specs.heap_places.Places.{Holds, assigned_value}
 use Rattle.paired_ops.specs.heap_places.declared.value.Value as given_value
 use Rattle.paired_ops.specs.ps_meaning.Values.{Value, Text}
 use Rattle.paired_ops.specs.ps_meaning.Objects.{Heap}
 use Rattle.paired_ops.proofs.of_heap_meaning.GivenLaws.{field-read, shown_with, field-written}
 use Rattle.paired_ops.proofs.of_heap_meaning.GivenLaws as given
-use Rattle.known_classes.proofs.Fields.{IsStructureOf, structure-of, field-got, field-set, there-place, there-index, there-row}
+use Rattle.known_classes.proofs.Fields.{IsStructureOf, structure-of, field-got, field-set}
 use Rattle.paired_ops.specs.World.{IsWorld, DenotesIn}
 use Rattle.paired_ops.specs.Operands.{IsForIn, IsOfForm}
 use Rattle.paired_ops.proofs.ValueLaws.{denotes-text}
@@ -24,26 +24,12 @@ use Rattle.paired_ops.specs.proc_values.Loaded.{constant_numbered}
 use Rattle.known_classes.specs.declared.known.KnownField.{KnownField}
 use Rattle.known_classes.specs.Known.{HasConstants, IsKnown}
 use Rattle.known_classes.proofs.TextOf.{row-text}
-use Rattle.known_classes.specs.Reading.{IsThere, RefersTo}
+use Rattle.known_classes.specs.Reading.{RefersTo}
 use Rattle.known_classes.specs.Reached.{IsFieldOf, HasValue, PutsValue}
 
 -- What is known of a field leads to its value.
-module _ (here : area.Heap) (at code constant field : ℕ) (k : KnownField) (h : IsHeap here) (there : IsThere here (Some at)) (refers : RefersTo here at k.text)
+module _ (here : area.Heap) (at code constant field : ℕ) (k : KnownField) (h : IsHeap here) (refers : RefersTo here at k.text)
     (is : IsKnown here code constant field k) where
-  -- where a field that is known lies
-  pub entry-place : HasPlace (shown_at here at) k.located.place.form (k.located.place.index + 1)
-  entry-place =
-      there-place here (Some at) at k.text k.located h there refl refers is.so.class.held is.so.class.kind (k.field, is.so.place)
-
-  pub entry-index : k.located.place.index + 1 < 2 ^ 32
-  entry-index =
-      there-index here (Some at) at k.text k.located h there refl refers is.so.class.held is.so.class.kind (k.field, is.so.place)
-
-  pub entry-row : (c : given_value.Value) → IsOfForm k.located.place.form c
-      → HasRow (shown_at here at) (k.located.place.index + 1) c
-  entry-row c =
-      there-row here (Some at) at k.text k.located h there refl refers is.so.class.held is.so.class.kind (k.field, is.so.place) c
-
   module _ (of : Heap) (names : List reference.Reference) (row : ConstantsView) (o : Value) (w : IsWorld here of names) (d : DenotesIn here names (Some at) o)
       (u : HasConstants here code row) where
     abbrev class : List ℕ

@@ -12,6 +12,7 @@ use Rattle.paired_ops.proofs.of_swizzle.NameLaws.{name_at-injective, name-not_ni
 use Rattle.paired_ops.specs.heap_places.Shapes.{slot_of}
 use Rattle.paired_ops.specs.proc_values.Loaded.{CodeStays, IsText, IsConstant, IsUnit, AreNamed, constant_numbered}
 use Rattle.paired_ops.proofs.of_proc_values.StayLaws.{constant-stays}
+use Rattle.paired_ops.specs.Code.{IsConstantAt}
 use Rattle.known_classes.specs.Known.{HasConstants, IsTextOf}
 
 -- the constant that a text is, which the name of this number denotes
@@ -67,6 +68,18 @@ text-of here code constant at row u held kinds is =
       held = held;
       kind = kinds;
     }
+
+-- a text to which a code object refers as a constant
+pub of-constant : (here : Heap) (code constant at : ℕ) → IsConstantAt here code constant at → (header_at here at).kind ≡ Text → IsTextOf here code constant at
+of-constant here code constant at c is = record {
+  code_held = c.code_held;
+  code_kind = c.code_kind;
+  named = at;
+  denotes = c.denotes;
+  same = record { held = c.denotes.0; kind = is; bytes_are = refl };
+  held = c.denotes.0;
+  kind = is;
+}
 
 -- code and texts that stay where nothing is changed
 pub code-same : (here : Heap) → CodeStays here here

@@ -4,8 +4,8 @@ ghost use Rattle.paired_ops.specs.ps_base.CodeUnit.{ConstantsView, text};
 ghost use Rattle.paired_ops.specs.swizzle.Heap.{Heap, IsHeap, IsHeld, header_at};
 ghost use Rattle.paired_ops.specs.swizzle.Text.{text_at};
 ghost use Rattle.paired_ops.specs.proc_values.Loaded.{CodeStays, constant_numbered};
+ghost use Rattle.paired_ops.specs.Code.{IsConstantAt};
 ghost use Rattle.known_classes.specs.Known.{AreSo, HasConstants, IsKnown, IsSo, IsTextOf};
-ghost use Rattle.known_classes.specs.Reading.{IsThere};
 ghost use Rattle.known_classes.specs.declared.known.KnownField as declared;
 
 use crate::access::refers_to;
@@ -54,8 +54,11 @@ pub fn what_is_known_stays_so()
     ensures { (old new : Heap) (entries : List declared.KnownField) → AreSo old entries → CodeStays old new → AreSo new entries }
 {}
 
-/// A law: of each unit that a code object is of, the constant of this number is that text.
+/// A law: a text to which a code object refers as a constant is one that it refers to so; and of each unit that a code object is of, the constant of
+/// this number is that text.
 pub fn texts_are_of_units()
+    ensures of_constant { (here : Heap) (code constant at : ℕ) → IsConstantAt here code constant at → (header_at here at).kind ≡ Kind.Text
+        → IsTextOf here code constant at }
     ensures of_unit { (here : Heap) (code constant at : ℕ) (row : ConstantsView) → IsHeap here → HasConstants here code row → IsTextOf here code constant at
         → constant_numbered row constant ≡ Some (text (text_at here at)) }
     ensures of_code { (here : Heap) (code constant at : ℕ) (row : ConstantsView) → HasConstants here code row → IsHeld here at
@@ -124,7 +127,7 @@ impl KnownFields {
     /// What is known of a field, with the text to which this object refers, where that has the bytes of the class; else as it was known.
     #[inline(always)]
     pub fn meet(&mut self, sw: &Swizzle, known: KnownField, object: u32) -> KnownField
-        requires there { IsThere sw.now (Some object) }
+        requires object { IsHeld sw.now object }
         requires held { IsHeld sw.now known.text }
         requires text { (header_at sw.now known.text).kind ≡ Kind.Text }
         ensures known { (code constant field : ℕ) → IsKnown sw.now code constant field known → IsKnown sw.now code constant field result }
@@ -140,7 +143,7 @@ impl KnownFields {
     // Reads to which text the object refers.
     #[inline(never)]
     fn learn(&mut self, sw: &Swizzle, known: KnownField, object: u32) -> KnownField
-        requires there { IsThere sw.now (Some object) }
+        requires object { IsHeld sw.now object }
         requires held { IsHeld sw.now known.text }
         requires text { (header_at sw.now known.text).kind ≡ Kind.Text }
         ensures known { (code constant field : ℕ) → IsKnown sw.now code constant field known → IsKnown sw.now code constant field result }
@@ -167,12 +170,15 @@ impl KnownFields {
 
 // The text of the area to which a structure refers first, if it is one and refers to one.
 fn class_of(sw: &Swizzle, object: u32) -> Option<u32>
-    requires { IsThere sw.now (Some object) }
+    requires { IsHeld sw.now object }
     ensures held { IfSome result (IsHeld sw.now) }
     ensures text { IfSome result (λ text. (header_at sw.now text).kind ≡ Kind.Text) }
 {
     sw.sound();
     if !sw.is_kind(object, Kind::Structure) {
+        return None;
+    }
+    if sw.refs(object) == 0 {
         return None;
     }
     let Reference::Local(text) = sw.peek(object, 0) else {

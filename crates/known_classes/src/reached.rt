@@ -5,17 +5,17 @@ ghost use Rattle.paired_ops.specs.ps_base.CodeUnit.{ConstantsView};
 ghost use Rattle.paired_ops.specs.obj_layout.declared.reference.Reference.{Reference};
 ghost use Rattle.paired_ops.specs.text_forms.Forms.{is_number_form};
 ghost use Rattle.paired_ops.specs.swizzle.Heap as area;
-ghost use Rattle.paired_ops.specs.swizzle.Heap.{Stands as AllStand, IsHeld};
+ghost use Rattle.paired_ops.specs.swizzle.Heap.{IsHeld};
 ghost use Rattle.paired_ops.specs.heap_places.Places.{IsNear};
 ghost use Rattle.paired_ops.specs.ps_meaning.Objects as meaning;
 ghost use Rattle.paired_ops.specs.ps_meaning.Values as meant;
+ghost use Rattle.paired_ops.specs.Lasting.{Lasts};
 ghost use Rattle.paired_ops.specs.World.{IsWorld, DenotesIn};
 ghost use Rattle.paired_ops.specs.Operands.{IsForIn, IsOfForm};
 ghost use Rattle.known_classes.specs.Known.{AreSo, HasConstants};
 ghost use Rattle.known_classes.specs.Reached.{HasValue, PutsValue, number_kept};
-ghost use Rattle.known_classes.specs.Reading.{IsThere};
 
-use crate::access::{peek_place, refers_to};
+use crate::access::{has_field, peek_place, refers_to};
 use crate::known::KnownFields;
 use paired_ops::heap_places::places::write_place;
 use paired_ops::heap_places::value::Value;
@@ -23,7 +23,7 @@ use paired_ops::swizzle::swizzle::Swizzle;
 use paired_ops::text_forms::forms::{Form, Place};
 
 /// The value in a field of a structure: the field of this number of the class that is the constant of a number of a code object. None where nothing is known
-/// of it, where the structure doesn't refer to the known text, or where the field names an object that may have to be fetched.
+/// of it, where the structure doesn't refer to the known text or hasn't the field's place, or where the field names an object that may have to be fetched.
 #[inline(always)]
 pub fn value_at(
     known: &KnownFields,
@@ -33,9 +33,10 @@ pub fn value_at(
     field: u32,
     object: u32,
 ) -> Option<Value>
-    requires there { IsThere sw.now (Some object) }
+    requires held { IsHeld sw.now object }
     requires right { AreSo sw.now known.now.entries.items }
-    ensures { IfSome result (λ k. (of : meaning.Heap) (names : List Reference) (row : ConstantsView) (o : meant.Value) → IsWorld sw.now of names
+    ensures near { IfSome result (IsNear sw.now) }
+    ensures value { IfSome result (λ k. (of : meaning.Heap) (names : List Reference) (row : ConstantsView) (o : meant.Value) → IsWorld sw.now of names
         → HasConstants sw.now code row → DenotesIn sw.now names (Some object) o → HasValue sw.now row constant field of names o k) }
 {
     sw.sound();
@@ -43,6 +44,9 @@ pub fn value_at(
         return None;
     };
     if !refers_to(sw, object, entry.text) {
+        return None;
+    }
+    if !has_field(sw, object, entry.located.place) {
         return None;
     }
     let place = Place {
@@ -53,7 +57,7 @@ pub fn value_at(
 }
 
 /// Writes a number into a field of a structure, and notes the structure as assigned. False where nothing is known of the field, where the structure
-/// doesn't refer to the known text, or where the field holds a reference; then nothing is done.
+/// doesn't refer to the known text or hasn't the field's place, or where the field holds a reference; then nothing is done.
 #[inline(always)]
 pub fn set_number(
     known: &KnownFields,
@@ -64,13 +68,13 @@ pub fn set_number(
     object: u32,
     z: i32,
 ) -> bool
-    requires there { IsThere sw.old (Some object) }
+    requires held { IsHeld sw.old object }
     requires right { AreSo sw.old known.now.entries.items }
     ensures none { result ≡ false → sw.new ≡ sw.old }
     ensures set { result ≡ true → (of : meaning.Heap) (names : List Reference) (row : ConstantsView) (o : meant.Value) → IsWorld sw.old of names
         → HasConstants sw.old code row → DenotesIn sw.old names (Some object) o
         → PutsValue sw.old sw.new row constant field of names o true (number_kept z) }
-    ensures stands { AllStand sw.old sw.new }
+    ensures lasts { Lasts sw.old sw.new }
 {
     sw.sound();
     let Some(entry) = known.entry(code, constant, field) else {
@@ -80,6 +84,9 @@ pub fn set_number(
         return false;
     };
     if !refers_to(sw, object, entry.text) {
+        return false;
+    }
+    if !has_field(sw, object, entry.located.place) {
         return false;
     }
     write_place(sw, object, entry.located.place.index + 1, to);
@@ -97,14 +104,14 @@ pub fn set_reference(
     object: u32,
     to: Option<u32>,
 ) -> bool
-    requires there { IsThere sw.old (Some object) }
+    requires held { IsHeld sw.old object }
     requires right { AreSo sw.old known.now.entries.items }
     requires near { IfSome to (IsHeld sw.old) }
     ensures none { result ≡ false → sw.new ≡ sw.old }
     ensures set { result ≡ true → (of : meaning.Heap) (names : List Reference) (row : ConstantsView) (o v : meant.Value) → IsWorld sw.old of names
         → HasConstants sw.old code row → DenotesIn sw.old names (Some object) o → DenotesIn sw.old names to v
         → PutsValue sw.old sw.new row constant field of names o false (λ form. v) }
-    ensures stands { AllStand sw.old sw.new }
+    ensures lasts { Lasts sw.old sw.new }
 {
     sw.sound();
     let Some(entry) = known.entry(code, constant, field) else {
@@ -114,6 +121,9 @@ pub fn set_reference(
         return false;
     }
     if !refers_to(sw, object, entry.text) {
+        return false;
+    }
+    if !has_field(sw, object, entry.located.place) {
         return false;
     }
     write_place(sw, object, entry.located.place.index + 1, Value::Ref(to));

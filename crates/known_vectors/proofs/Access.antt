@@ -12,14 +12,14 @@ use Rattle.paired_ops.specs.obj_layout.declared.kind.Kind.TheVariants as kind
 use Rattle.paired_ops.specs.obj_layout.declared.reference.Reference as reference
 use Rattle.paired_ops.specs.swizzle.declared.fault.SwizzleFault.{SwizzleFault}
 use Rattle.paired_ops.specs.swizzle.Heap as area
-use Rattle.paired_ops.specs.swizzle.Heap.{IsHeap, IsHeld}
+use Rattle.paired_ops.specs.swizzle.Heap.{IsHeap, IsHeld, header_at}
 use Rattle.paired_ops.specs.swizzle.Joint.{Shown, shown_at, name_at}
 use Rattle.paired_ops.specs.text_forms.declared.forms.Form.{Form}
 use Rattle.paired_ops.specs.text_forms.declared.forms.Form.TheVariants as form
 use Rattle.paired_ops.specs.text_forms.Forms.{element_of, is_number_form}
 use Rattle.paired_ops.specs.heap_places.Words.{word_damage}
 use Rattle.paired_ops.specs.heap_places.Shapes.{word_in, slot_of}
-use Rattle.paired_ops.specs.heap_places.Places.{HasPlace, HasRow, Holds, ReadsPlace, touched_by, assigned_value}
+use Rattle.paired_ops.specs.heap_places.Places.{Holds, IsNear, ReadsPlace, touched_by, assigned_value}
 use Rattle.paired_ops.specs.heap_places.declared.value.Value as code
 use Rattle.paired_ops.specs.heap_places.declared.value.Value.TheVariants as held
 use Rattle.paired_ops.specs.heap_ops.declared.shape.Shape.{Shape}
@@ -34,8 +34,10 @@ use Rattle.paired_ops.specs.ps_meaning.Objects as meaning
 use Rattle.paired_ops.specs.heap_meaning.Paired.{paired}
 use Rattle.paired_ops.proofs.of_heap_meaning.GivenLaws.{shown_with}
 use Rattle.paired_ops.proofs.of_heap_meaning.VectorLaws.{low-is, is-long, vector-shape, below-count, element-read, element-written}
+use Rattle.paired_ops.specs.Lasting.{Lasts}
 use Rattle.paired_ops.specs.World.{IsWorld, DenotesIn, alone, Stands, Answers, Writes}
 use Rattle.paired_ops.specs.Operands.{IsForIn, IsOfForm, form_in}
+use Rattle.paired_ops.proofs.LastingLaws.{keeps-lasts, holds-near}
 use Rattle.paired_ops.proofs.WorldLaws.{reads-stands}
 use Rattle.paired_ops.proofs.FormLaws.{int-read, holds-form, form-stored}
 use Rattle.paired_ops.proofs.ReadLaws.{VectorAt, vector-at, nothing-done, no-touch, no-damage, text-is}
@@ -43,19 +45,16 @@ use Rattle.paired_ops.proofs.ValueLaws.{vector-denoted}
 use Rattle.paired_ops.proofs.ClassLaws.{touched-known}
 use Rattle.paired_ops.proofs.FieldLaws.{kind-with, no-bytes}
 use Rattle.paired_ops.proofs.RewriteLaws.{rewritten, write-stands}
+use Rattle.paired_ops.proofs.WrittenLaws.{written-lasts, element-behind}
 use Rattle.paired_ops.proofs.ElementLaws.{type-text, type-known, form-is, no-vector_fault, element-meant, put-meant, put-some, vector-kept, element-touched, element-fits}
 use Rattle.known_vectors.specs.declared.known.KnownVector.{KnownVector}
-use Rattle.known_vectors.specs.Known.{IsKnownAs, IsSo}
+use Rattle.known_vectors.specs.Known.{IsKnownAs, IsOf, IsSo}
+use Rattle.known_vectors.proofs.Shapes.{int-same, so-known}
 
 -- the vector that a known one is
 pub the-vector : (here : area.Heap) (of : Heap) (names : List reference.Reference) (at id : ℕ) → IsHeap here → IsWorld here of names
     → DenotesIn here names (Some at) (Vector id) → VectorAt here of names at id
 the-vector here of names at id heap world denotes = vector-at here of names at id heap world (vector-denoted here names at id heap denotes)
-
--- a place in a vector is small
-is-small : (low : ℤ) (count n : ℕ) → is_vector low count ≡ true → n < count → n < 2 ^ 20
-is-small low zero n e lt = omega (arith, lt)
-is-small low (suc m) n e lt = let a = ltb-true m (2 ^ 20) (and_parts (nat_lt m (2 ^ 20)) (is_int (low +ℤ pos m)) e).0 in omega (arith, a, lt)
 
 record Agrees (ty : List ℕ) (low : ℤ) (elements : List Value) (known : KnownVector) : Type 0 where
   low_is : known.low ≡ low
@@ -79,21 +78,6 @@ module _ (here : area.Heap) (of : Heap) (names : List reference.Reference) (at i
   abbrev it : Shown
   it = shown_at here at
 
-  shaped : IsShaped it (record { form = element_of v.ty; low = v.low; count = length v.elements })
-  shaped = record {
-    sound = vector-shape (alone here) (paired names) it v.ty v.low v.elements v.is;
-    low_is = sym (low-is (alone here) (paired names) it v.ty v.low v.elements v.is);
-    count_is = sym (is-long (alone here) (paired names) it v.ty v.low v.elements v.is).count;
-    fits = v.is.fits;
-  }
-
-  -- one of numbers refers to the text of its type alone
-  pub known-refs : is_number_form known.form ≡ true → length it.refs ≡ 1
-  known-refs row =
-      let number : is_number_form (element_of v.ty) ≡ true = ap is_number_form (sym a.form_is) ∙ row in
-      sym (ap (λ (b : Bool). if b then length it.refs else length it.nums) number)
-      ∙ (is-long (alone here) (paired names) it v.ty v.low v.elements v.is).rest ∙ ap (λ (b : Bool). if b then 1 else 2) number
-
   same-place : (z : ℤ) → place_of known.low known.count z ≡ place_of v.low (length v.elements) z
   same-place z = ap (λ (l : ℤ). place_of l known.count z) a.low_is ∙ ap (λ (n : ℕ). place_of v.low n z) a.count_is
 
@@ -103,12 +87,6 @@ module _ (here : area.Heap) (of : Heap) (names : List reference.Reference) (at i
 
     below : n < length v.elements
     below = below-count v.low z (length v.elements) n there
-
-    pub known-small : n < 2 ^ 20
-    known-small = is-small v.low (length v.elements) n v.is.fits below
-
-    pub known-place : HasPlace it known.form (index_of known.form n)
-    known-place = subst (λ (f : Form). HasPlace it f (index_of f n)) (sym a.form_is) (element-place it (record { form = element_of v.ty; low = v.low; count = length v.elements }) z n shaped there)
 
     pub known-got : (new : area.Heap) (before after : Outside Space) (c : code.Value) → IsHeap here → IsWorld here of names
         → ReadsPlace here new before after at known.form (index_of known.form n) (Ok c)
@@ -150,20 +128,6 @@ module _ (here : area.Heap) (of : Heap) (names : List reference.Reference) (at i
     known-sound = subst (λ (f : Form). word_damage f (word_in it (index_of f n)) ≡ None) (sym a.form_is)
         (element-fits (alone here) (paired names) it v.ty v.low v.elements n v.is below)
 
-    fits-row : (f : Form) (index : ℕ) (c : code.Value) → IsOfForm f c → HasPlace it f index → HasRow it index c
-    fits-row form.Number index (held.Num y) k h = h
-    fits-row form.Flag index (held.Flag b) k h = h
-    fits-row form.Reference index (held.Ref to) k h = h
-    fits-row form.Number index (held.Flag b) k h = absurd k
-    fits-row form.Number index (held.Ref to) k h = absurd k
-    fits-row form.Flag index (held.Num y) k h = absurd k
-    fits-row form.Flag index (held.Ref to) k h = absurd k
-    fits-row form.Reference index (held.Num y) k h = absurd k
-    fits-row form.Reference index (held.Flag b) k h = absurd k
-
-    pub known-row : (c : code.Value) → IsOfForm known.form c → HasRow it (index_of known.form n) c
-    known-row c k = fits-row known.form (index_of known.form n) c k known-place
-
     pub known-written : (new : area.Heap) (c : code.Value) (e : Value) → IsHeap here → IsWorld here of names → IsOfForm known.form c → IsForIn here names c e
         → new ≡ assigned_value here at (index_of known.form n) c → Writes here new names (with_element of (Vector id) z e) (Ok tt)
     known-written new c e h w fits for written =
@@ -174,7 +138,9 @@ module _ (here : area.Heap) (of : Heap) (names : List reference.Reference) (at i
           with_object of id object,
           put-meant here of names at id z e v ∙ ap (λ (o : Option ℕ). put_at of (Vector id) o e) there ∙ put-some here of names at id n e v,
           write-stands here here new of names at id (shown_with here it index c) object h (nothing-done here of names w) v.held v.pair
-              (no-bytes it.kind kind.Vector v.is.rows.kind_is (λ x. cc) (λ x. cc)) (kind-with here it index c)
+              (written-lasts here new at index c h v.held (no-bytes it.kind kind.Vector v.is.rows.kind_is (λ x. cc) (λ x. cc))
+              (λ x. let bad : kind.Vector ≡ kind.Closure = sym v.is.rows.kind_is ∙ x in cc) (λ x. element-behind (element_of v.ty) n c shape) at_index)
+              (kind-with here it index c)
               (element-written here (alone here) (paired names) it v.ty v.low v.elements n c e v.is below (form-stored here names (element_of v.ty) c e shape for))
               (rewritten here new at index c h v.held at_index),
         )
@@ -186,10 +152,6 @@ module _ (here : area.Heap) (of : Heap) (names : List reference.Reference) (at i
 
     pub known-unwritten : (e : Value) → with_element of (Vector id) z e ≡ Fails trap.Bounds
     known-unwritten e = put-meant here of names at id z e v ∙ ap (λ (o : Option ℕ). put_at of (Vector id) o e) (sym (same-place z) ∙ place)
-
-pub int-same : (z : ℤ) → is_int z ≡ true → to_z w32 (of_z w32 z) ≡ z
-int-same (pos n) e = to_z-of_z w32 (pos n) (record { sfits = ltb-true n (2 ^ 31) e })
-int-same (negsuc n) e = to_z-of_z w32 (negsuc n) (record { sfits = ltb-true n (2 ^ 31) e })
 
 -- What was read of a vector's shape is so.
 pub learned : (old new : area.Heap) (before after : Outside Space) (of : Heap) (names : List reference.Reference) (at id : ℕ) (shape : Shape)
@@ -214,11 +176,29 @@ never-unread old new before after of names at id fault h now v r = no-vector_fau
 pub held-from-one : (here : area.Heap) (at : ℕ) → IsHeap here → IsHeld here at → 1 ≤ at
 held-from-one here at h held = (held-from here at h held).0
 
--- an entry of a vector speaks of the number that the vector goes with
+-- what an entry says of the vector that its object denotes
 pub same-known : (here : area.Heap) (of : Heap) (names : List reference.Reference) (at id : ℕ) (known : KnownVector) → IsHeap here → IsWorld here of names
-    → DenotesIn here names (Some at) (Vector id) → known.vector ≡ at → IsSo here of names known → IsKnownAs of id known
-same-known here of names at id known h w denotes same so =
-    let p = (vector-denoted here names at id h denotes).pair in
-    let q = (vector-denoted here names known.vector so.id h so.denotes).pair in
-    let there = subst (λ (n : ℕ). paired names (name_at here n) so.id) same q in
-    subst (λ (i : ℕ). IsKnownAs of i known) (w.row.stands.one_number (name_at here at) so.id id there p) so.is
+    → DenotesIn here names (Some at) (Vector id) → IsOf here at known → IsKnownAs of id known
+same-known here of names at id known h w denotes is =
+    so-known here known h is.1 of names id
+    (the-vector here of names known.vector id h w (subst (λ (n : ℕ). DenotesIn here names (Some n) (Vector id)) (sym is.0) denotes))
+
+-- An element was written, whatever the area stands for.
+pub element-lasts : (here new : area.Heap) (known : KnownVector) (n : ℕ) (c : code.Value) → IsHeap here → IsSo here known → IsOfForm known.form c
+    → new ≡ assigned_value here known.vector (index_of known.form n) c → Lasts here new
+element-lasts here new known n c h so fits written =
+    written-lasts here new known.vector (index_of known.form n) c h so.held (no-bytes (header_at here known.vector).kind kind.Vector so.kind (λ x. cc) (λ x. cc))
+    (λ x. let bad : kind.Vector ≡ kind.Closure = sym so.kind ∙ x in cc) (λ x. element-behind known.form n c fits) written
+
+-- An element was read, whatever the area stands for.
+pub place-lasts : (old new : area.Heap) (before after : Outside Space) (at : ℕ) (f : Form) (index : ℕ) (c : code.Value)
+    → ReadsPlace old new before after at f index (Ok c) → Lasts old new
+place-lasts old new before after at f index c r = keeps-lasts old new r.1.keeps
+
+pub place-near : (old new : area.Heap) (before after : Outside Space) (at : ℕ) (f : Form) (index : ℕ) (c : code.Value)
+    → ReadsPlace old new before after at f index (Ok c) → IsNear new c
+place-near old new before after at f index c r = holds-near new (shown_at old at) f index c r.0
+
+-- A shape was read, whatever the area stands for.
+pub shape-lasts : (old new : area.Heap) (before after : Outside Space) (at : ℕ) (shape : Shape) → ReadsShape old new before after at (Ok shape) → Lasts old new
+shape-lasts old new before after at shape r = keeps-lasts old new r.1.reads.keeps

@@ -1,4 +1,4 @@
-pub mod Lasting
 pub mod Entries
+pub mod Shapes
 pub mod Access
 pub mod Reaching

@@ -3,7 +3,7 @@ use mir.Syntax.{w32}
 use mir.Val.{to_z, of_z}
 use Rattle.std.proofs.lemmas.Bool.{cases_lt}
 use Rattle.std.proofs.lemmas.Grind.{common_steps}
-use Rattle.std.proofs.Common.{◌≡◌, ◌≢◌, ℕ, ◌+◌, ◌-◌, ◌%◌, ◌<◌, ◌^◌, ℤ, pos, negsuc, Bool, true, false, List, length, get_or, Option, Some, None}
+use Rattle.std.proofs.Common.{◌≡◌, ◌≢◌, ℕ, ◌+◌, ◌-◌, ◌%◌, ◌<◌, ◌^◌, ℤ, pos, negsuc, Bool, true, false, List, length, get_or, Option, Some, None, IfSome, if◌then◌else◌}
 use Rattle.std.proofs.Common.{unwrap_or, inl, inr, refl, sym, ap, ◌∙◌, subst, arith}
 use Rattle.std.specs.Prelude.{Ok}
 use Rattle.paired_ops.specs.obj_layout.Stored.{damage}
@@ -15,7 +15,6 @@ use Rattle.paired_ops.specs.swizzle.Heap as area
 use Rattle.paired_ops.specs.swizzle.Heap.{IsHeap, IsHeld, header_at, ref_at, num_at, reference_to, nothing}
 use Rattle.paired_ops.specs.swizzle.Joint.{shown_at, name_at, name_of}
 use Rattle.paired_ops.specs.swizzle.Touch.{Denotes}
-use Rattle.paired_ops.proofs.of_swizzle.NameLaws.{shown-counts}
 use Rattle.paired_ops.specs.text_forms.declared.forms.Form.{Form}
 use Rattle.paired_ops.specs.text_forms.declared.forms.Form.TheVariants as form
 use Rattle.paired_ops.specs.text_forms.Forms.{is_number_form}
@@ -33,14 +32,16 @@ use Rattle.paired_ops.specs.ps_meaning.Values.{Value, Num, Flag, Text, Nil, Poin
 use Rattle.paired_ops.specs.ps_meaning.Texts.{Yields}
 use Rattle.paired_ops.specs.ps_meaning.Objects.{Heap, with_element}
 use Rattle.paired_ops.specs.ps_meaning.Objects as meaning
+use Rattle.paired_ops.specs.Lasting.{Lasts}
 use Rattle.paired_ops.specs.World.{IsWorld, DenotesIn, Writes}
 use Rattle.paired_ops.specs.Operands.{IsForIn, IsOfForm}
 use Rattle.paired_ops.proofs.ReadLaws.{VectorAt}
 use Rattle.paired_ops.proofs.ValueLaws.{some-not_nil, text-denoted, pointer-denoted, vector-denoted, procedure-kind}
 use Rattle.known_vectors.specs.declared.known.KnownVector.{KnownVector}
-use Rattle.known_vectors.specs.Known.{IsSo, AreSo, AreRight}
+use Rattle.known_vectors.specs.Known.{IsKnownAs, IsSo, AreSo}
 use Rattle.known_vectors.specs.Reached.{Reaches, IsVectorOf, HasNumber, HasReference, Puts}
-use Rattle.known_vectors.proofs.Access.{int-same, the-vector, known-small, known-place, known-refs, known-value, known-sound, known-row, known-written}
+use Rattle.known_vectors.proofs.Shapes.{int-same, so-small, so-place, so-row, so-known}
+use Rattle.known_vectors.proofs.Access.{the-vector, known-value, known-sound, known-written, element-lasts}
 use Rattle.known_vectors.proofs.Entries.{said}
 
 -- numbers stand after two words, references after one
@@ -150,27 +151,30 @@ near-denoted here at slot (Some k) h held is = (
   sym (slot-name here at slot ∙ ap (name_of here) is),
 )
 
+-- A value that a vector denotes is a vector.
+pub vector-value : (here : area.Heap) (names : List Reference) (at : ℕ) (v : Value) → IsHeap here → DenotesIn here names (Some at) v
+    → (header_at here at).kind ≡ kind.Vector → (id : ℕ) × (v ≡ Vector id)
+vector-value here names at (Vector id) h d k = (id, refl)
+vector-value here names at Nil h d k = absurd (some-not_nil here names at d)
+vector-value here names at (Text bytes) h d k = let bad : kind.Text ≡ kind.Vector = sym (text-denoted here names at bytes h d).kind ∙ k in absurd (cc)
+vector-value here names at (Pointer id) h d k = let bad : kind.Structure ≡ kind.Vector = sym (pointer-denoted here names at id h d).kind ∙ k in absurd (cc)
+vector-value here names at (Num z) h d k = absurd (d.stands)
+vector-value here names at (Flag b) h d k = absurd (d.stands)
+vector-value here names at (Procedure does scope) h d k =
+    let bad : kind.Closure ≡ kind.Vector = sym (procedure-kind here names at does scope h d) ∙ k in absurd (cc)
+vector-value here names at Nothing h d k = absurd (d.stands)
+
 -- An object that denotes a vector denotes nothing else.
 pub only-vector : (here : area.Heap) (of : Heap) (names : List Reference) (at id : ℕ) (v : Value) → IsHeap here → IsWorld here of names
     → DenotesIn here names (Some at) (Vector id) → DenotesIn here names (Some at) v → v ≡ Vector id
-only-vector here of names at id (Vector i) h w is d =
-    ap Vector (w.row.stands.one_number (name_at here at) i id (vector-denoted here names at i h d).pair (vector-denoted here names at id h is).pair)
-only-vector here of names at id (Pointer i) h w is d =
-    let bad : kind.Structure ≡ kind.Vector = sym (pointer-denoted here names at i h d).kind ∙ (vector-denoted here names at id h is).kind in absurd (cc)
-only-vector here of names at id (Text bytes) h w is d =
-    let bad : kind.Text ≡ kind.Vector = sym (text-denoted here names at bytes h d).kind ∙ (vector-denoted here names at id h is).kind in absurd (cc)
-only-vector here of names at id Nil h w is d = absurd (some-not_nil here names at d)
-only-vector here of names at id (Num z) h w is d = absurd (d.stands)
-only-vector here of names at id (Flag b) h w is d = absurd (d.stands)
-only-vector here of names at id (Procedure does scope) h w is d =
-    let bad : kind.Closure ≡ kind.Vector = sym (procedure-kind here names at does scope h d) ∙ (vector-denoted here names at id h is).kind in
-    absurd (cc)
-only-vector here of names at id Nothing h w is d = absurd (d.stands)
+only-vector here of names at id v h w is d =
+    let p = vector-value here names at v h d (vector-denoted here names at id h is).kind in
+    p.1 ∙ ap Vector (w.row.stands.one_number (name_at here at) p.0 id
+    (vector-denoted here names at p.0 h (subst (DenotesIn here names (Some at)) p.1 d)).pair (vector-denoted here names at id h is).pair)
 
 -- The entry of a place that is reached says what is so.
-pub reached-so : (here : area.Heap) (of : Heap) (names : List Reference) (entries : List KnownVector) (vector : ℕ) (at : ℤ) → AreSo here of names entries
-    → (r : Reaches entries vector at) → IsSo here of names r.known
-reached-so here of names entries vector at so r = elim (said here of names entries _ r.known so r.within (sym r.stands)) [
+pub reached-so : (here : area.Heap) (entries : List KnownVector) (vector : ℕ) (at : ℤ) → AreSo here entries → (r : Reaches entries vector at) → IsSo here r.known
+reached-so here entries vector at so r = elim (said here entries _ r.known so r.within (sym r.stands)) [
   | inl none ↦
       let below = below-count r.known.low at r.known.count r.place r.place_is in
       let empty = none.1 in
@@ -178,47 +182,94 @@ reached-so here of names entries vector at so r = elim (said here of names entri
   | inr is ↦ is
 ]
 
-module _ (here : area.Heap) (entries : List KnownVector) (vector : ℕ) (at : ℤ) (h : IsHeap here) (r : Reaches entries vector at) where
+module _ (here : area.Heap) (entries : List KnownVector) (vector : ℕ) (at : ℤ) (h : IsHeap here) (r : Reaches entries vector at) (are : AreSo here entries) where
   abbrev known : KnownVector
   known = r.known
 
-  module _ (of : Heap) (names : List Reference) (world : IsWorld here of names) (are : AreSo here of names entries) where
-    so : IsSo here of names known
-    so = reached-so here of names entries vector at are r
+  so : IsSo here known
+  so = reached-so here entries vector at are r
 
-    there : VectorAt here of names known.vector so.id
-    there = the-vector here of names known.vector so.id h world so.denotes
+  placed : HasPlace (shown_at here known.vector) known.form (index_of known.form r.place)
+  placed = so-place here known h so at r.place r.place_is
+
+  pub reached-small : r.place < 2 ^ 20
+  reached-small = so-small here known h so at r.place r.place_is
+
+  pub reached-held : IsHeld here vector
+  reached-held = subst (IsHeld here) r.vector_is so.held
+
+  -- a value of the right form has its place
+  pub reached-row : (c : code.Value) (index : ℕ) → index ≡ index_of known.form r.place → IsOfForm known.form c → HasRow (shown_at here vector) index c
+  reached-row c index is fits =
+      let row = so-row here known h so at r.place r.place_is c fits in
+      subst (λ (n : ℕ). HasRow (shown_at here n) index c) r.vector_is (subst (λ (n : ℕ). HasRow (shown_at here known.vector) n c) (sym is) row)
+
+  pub number-below : is_number_form known.form ≡ true → 2 + r.place < (header_at here vector).nums
+  number-below row = nums_below here vector (2 + r.place) h reached-held
+      (subst (λ (n : ℕ). 2 + r.place < length (shown_at here n).nums) r.vector_is
+      (number-placed here known.vector (2 + r.place) known.form row
+      (subst (HasPlace (shown_at here known.vector) known.form) (number-index known.form r.place row) placed)))
+
+  pub reached-refs : is_number_form known.form ≡ true → 1 ≡ (header_at here vector).refs
+  reached-refs row =
+      subst (λ (n : ℕ). 1 ≡ (header_at here n).refs) r.vector_is
+      (sym (so.refs ∙ ap (λ (b : Bool). if b then 1 else 1 + known.count) row))
+
+  pub reference-below : is_number_form known.form ≡ false → 1 + r.place < (header_at here vector).refs
+  reference-below row = refs_below here vector (1 + r.place) h reached-held
+      (subst (λ (n : ℕ). 1 + r.place < length (shown_at here n).refs) r.vector_is
+      (reference-placed here known.vector (1 + r.place) known.form row
+      (subst (HasPlace (shown_at here known.vector) known.form) (reference-index known.form r.place row) placed)))
+
+  -- a value was written, whatever the area stands for
+  pub reached-lasts : (new : area.Heap) (c : code.Value) (index : ℕ) → index ≡ index_of known.form r.place → IsOfForm known.form c
+      → new ≡ assigned_value here vector index c → Lasts here new
+  reached-lasts new c index place fits written =
+      element-lasts here new known r.place c h so fits
+      (written ∙ ap (λ (n : ℕ). assigned_value here n index c) (sym r.vector_is) ∙ ap (λ (n : ℕ). assigned_value here known.vector n c) place)
+
+  -- what was read lies in the area
+  pub reference-near : (to : Option ℕ) → ref_at here vector (1 + r.place) ≡ reference_to to → IfSome to (IsHeld here)
+  reference-near None read = tt
+  reference-near (Some k) read = (near-denoted here vector (1 + r.place) (Some k) h reached-held read).0
+
+  module _ (of : Heap) (names : List Reference) (v : Value) (world : IsWorld here of names) (denotes : DenotesIn here names (Some vector) v) where
+    number_of_it : (id : ℕ) × (v ≡ Vector id)
+    number_of_it = vector-value here names vector v h denotes (subst (λ (n : ℕ). (header_at here n).kind ≡ kind.Vector) r.vector_is so.kind)
+
+    abbrev id : ℕ
+    id = number_of_it.0
+
+    is_vector_there : DenotesIn here names (Some vector) (Vector id)
+    is_vector_there = subst (DenotesIn here names (Some vector)) number_of_it.1 denotes
+
+    there : VectorAt here of names known.vector id
+    there = the-vector here of names known.vector id h world (subst (λ (n : ℕ). DenotesIn here names (Some n) (Vector id)) (sym r.vector_is) is_vector_there)
+
+    known_is : IsKnownAs of id known
+    known_is = so-known here known h so of names id there
 
     -- it denotes a vector of this row
     vector-of : (number : Bool) → is_number_form known.form ≡ number → IsVectorOf here of names vector number
     vector-of number row = record {
-      id = so.id;
-      denotes = subst (λ (n : ℕ). DenotesIn here names (Some n) (Vector so.id)) r.vector_is so.denotes;
-      ty = so.is.ty;
+      id = id;
+      denotes = is_vector_there;
+      ty = known_is.ty;
       low = known.low;
-      elements = so.is.elements;
-      means = so.is.means;
-      row = ap is_number_form (sym so.is.form) ∙ row;
+      elements = known_is.elements;
+      means = known_is.means;
+      row = ap is_number_form (sym known_is.form) ∙ row;
     }
-
-    small : r.place < 2 ^ 20
-    small = known-small here of names known.vector so.id known there so.is at r.place r.place_is
-
-    placed : HasPlace (shown_at here known.vector) known.form (index_of known.form r.place)
-    placed = known-place here of names known.vector so.id known there so.is at r.place r.place_is
-
-    held-there : IsHeld here vector
-    held-there = subst (IsHeld here) r.vector_is there.held
 
     -- what the place holds is the element
     value-of : (c : code.Value) → Holds here (shown_at here known.vector) known.form (index_of known.form r.place) c
-        → (value : Value) × (meaning.element_of of (Vector so.id) at ≡ Yields value) × IsForIn here names c value
-    value-of = known-value here of names known.vector so.id known there so.is at r.place r.place_is
+        → (value : Value) × (meaning.element_of of (Vector id) at ≡ Yields value) × IsForIn here names c value
+    value-of = known-value here of names known.vector id known there known_is at r.place r.place_is
 
     -- A number was read.
     pub number-read : (f : Form) (word : ℕ) (z : ℤ) → known.form ≡ f → is_number_form f ≡ true → word ≡ num_at here vector (2 + r.place)
         → ((y : ℤ) → int_in word ≡ Some y → z ≡ y) → ((b : Bool) → flag_in word ≡ Some b → z ≡ number_of b) → HasNumber here of names vector at z
-    unfolding vector-of so
+    unfolding vector-of
     number-read f word z is row read int flag = cases f is row
       where
         it : word_in (shown_at here known.vector) (2 + r.place) ≡ word
@@ -226,7 +277,7 @@ module _ (here : area.Heap) (entries : List KnownVector) (vector : ℕ) (at : �
 
         sound : (g : Form) → known.form ≡ g → word_damage g (word_in (shown_at here known.vector) (index_of g r.place)) ≡ None
         sound g e = subst (λ (k : Form). word_damage k (word_in (shown_at here known.vector) (index_of k r.place)) ≡ None) e
-            (known-sound here of names known.vector so.id known there so.is at r.place r.place_is)
+            (known-sound here of names known.vector id known there known_is at r.place r.place_is)
 
         given : (g : Form) (c : code.Value) → known.form ≡ g → is_number_form g ≡ true → ((value : Value) → IsForIn here names c value → word_of value ≡ z)
             → Holds here (shown_at here known.vector) g (index_of g r.place) c → HasNumber here of names vector at z
@@ -246,9 +297,9 @@ module _ (here : area.Heap) (entries : List KnownVector) (vector : ℕ) (at : �
     -- A reference was read.
     pub reference-read : (to : Option ℕ) → known.form ≡ form.Reference → ref_at here vector (1 + r.place) ≡ reference_to to
         → HasReference here of names vector at to
-    unfolding vector-of so
+    unfolding vector-of
     reference-read to is read =
-        let slot = near-denoted here known.vector (1 + r.place) to h there.held (ap (λ (n : ℕ). ref_at here n (1 + r.place)) r.vector_is ∙ read) in
+        let slot = near-denoted here known.vector (1 + r.place) to h so.held (ap (λ (n : ℕ). ref_at here n (1 + r.place)) r.vector_is ∙ read) in
         let v = value-of (held.Ref to) (subst (λ (k : Form). Holds here (shown_at here known.vector) k (index_of k r.place) (held.Ref to)) (sym is) slot) in
         record { it = vector-of false (ap is_number_form is); value = v.0; is = v.1; denoted = v.2 }
 
@@ -257,51 +308,15 @@ module _ (here : area.Heap) (entries : List KnownVector) (vector : ℕ) (at : �
         → index ≡ index_of known.form r.place
         → IsOfForm known.form c → IsForIn here names c (value known.form) → new ≡ assigned_value here vector index c
         → Puts here of names vector at new number value
-    unfolding vector-of so
+    unfolding vector-of
     value-put new number value c index row place fits for written =
         let to : new ≡ assigned_value here known.vector (index_of known.form r.place) c = written
         ∙ ap (λ (n : ℕ). assigned_value here n index c) (sym r.vector_is) ∙ ap (λ (n : ℕ). assigned_value here known.vector n c) place in
-        let w : Writes here new names (with_element of (Vector so.id) at (value known.form)) (Ok tt) =
-        known-written here of names known.vector so.id known there so.is at r.place r.place_is new c (value known.form) h world fits for to in
+        let w : Writes here new names (with_element of (Vector id) at (value known.form)) (Ok tt) =
+        known-written here of names known.vector id known there known_is at r.place r.place_is new c (value known.form) h world fits for to in
         record {
           it = vector-of number row;
           after = w.0;
-          is = ap (λ (k : Form). with_element of (Vector so.id) at (value k)) (sym so.is.form) ∙ w.1;
+          is = ap (λ (k : Form). with_element of (Vector id) at (value k)) (sym known_is.form) ∙ w.1;
           stands = w.2;
         }
-
-  module _ (right : AreRight here entries) where
-    pub reached-small : r.place < 2 ^ 20
-    reached-small = small right.of right.names right.world right.so
-
-    pub reached-held : IsHeld here vector
-    reached-held = held-there right.of right.names right.world right.so
-
-    -- a value of the right form has its place
-    pub reached-row : (c : code.Value) (index : ℕ) → index ≡ index_of known.form r.place → IsOfForm known.form c → HasRow (shown_at here vector) index c
-    reached-row c index is fits =
-        let s = so right.of right.names right.world right.so in
-        let row = known-row here right.of right.names known.vector s.id known
-        (there right.of right.names right.world right.so) s.is at r.place r.place_is c fits in
-        subst (λ (n : ℕ). HasRow (shown_at here n) index c) r.vector_is (subst (λ (n : ℕ). HasRow (shown_at here known.vector) n c) (sym is) row)
-
-    pub number-below : is_number_form known.form ≡ true → 2 + r.place < (header_at here vector).nums
-    number-below row = nums_below here vector (2 + r.place) h reached-held
-        (subst (λ (n : ℕ). 2 + r.place < length (shown_at here n).nums) r.vector_is
-        (number-placed here known.vector (2 + r.place) known.form row
-        (subst (HasPlace (shown_at here known.vector) known.form) (number-index known.form r.place row) (placed right.of right.names right.world right.so))))
-
-    pub reached-refs : is_number_form known.form ≡ true → 1 ≡ (header_at here vector).refs
-    reached-refs row =
-        let s = so right.of right.names right.world right.so in
-        let t = there right.of right.names right.world right.so in
-        let one = known-refs here right.of right.names known.vector s.id known t s.is row in
-        let count = (shown-counts here known.vector h t.held).0 in
-        subst (λ (n : ℕ). 1 ≡ (header_at here n).refs) r.vector_is (omega (arith, one, count))
-
-    pub reference-below : is_number_form known.form ≡ false → 1 + r.place < (header_at here vector).refs
-    reference-below row = refs_below here vector (1 + r.place) h reached-held
-        (subst (λ (n : ℕ). 1 + r.place < length (shown_at here n).refs) r.vector_is
-        (reference-placed here known.vector (1 + r.place) known.form row
-        (subst (HasPlace (shown_at here known.vector) known.form) (reference-index known.form r.place row)
-        (placed right.of right.names right.world right.so))))

@@ -1,16 +1,16 @@
 //! Elements of a vector that is known: no text is read, and nothing of its shape.
-ghost use Rattle.std.specs.Prelude.{◌≡◌, ℕ, List, Some};
+ghost use Rattle.std.specs.Prelude.{◌≡◌, ℕ, List, IfOk, Some};
 ghost use Rattle.paired_ops.specs.obj_layout.declared.reference.Reference.{Reference};
-ghost use Rattle.paired_ops.specs.swizzle.Heap.{Stands as AllStand};
 ghost use Rattle.paired_ops.specs.swizzle.Reading.{LeavesOutside};
 ghost use Rattle.paired_ops.specs.heap_places.Places.{IsNear};
 ghost use Rattle.paired_ops.specs.heap_ops.Outcomes.{UnlessFault};
 ghost use Rattle.paired_ops.specs.ps_meaning.Objects as meaning;
 ghost use Rattle.paired_ops.specs.ps_meaning.Objects.{place_of};
 ghost use Rattle.paired_ops.specs.ps_meaning.Values as meant;
+ghost use Rattle.paired_ops.specs.Lasting.{Lasts};
 ghost use Rattle.paired_ops.specs.World.{IsWorld, DenotesIn, Answers, Writes};
 ghost use Rattle.paired_ops.specs.Operands.{IsForIn, IsOfForm, form_in};
-ghost use Rattle.known_vectors.specs.Known.{IsKnownAs, IsRight};
+ghost use Rattle.known_vectors.specs.Known.{IsSo};
 
 use crate::known::KnownVector;
 use paired_ops::heap_ops::shape::{Shape, index, place};
@@ -44,10 +44,12 @@ pub fn get_element<V: Vault>(
     at: i32,
 ) -> Result<Value, OpFault>
     requires alive { V.alive vault.old }
-    requires right { IsRight sw.old known }
+    requires so { IsSo sw.old known }
     ensures got { (of : meaning.Heap) (names : List Reference) (id : ℕ) → IsWorld sw.old of names
-        → DenotesIn sw.old names (Some known.vector) (meant.Vector id) → IsKnownAs of id known
+        → DenotesIn sw.old names (Some known.vector) (meant.Vector id)
         → Answers sw.old sw.new (λ c v. IsOfForm (form_in of id) c × IsForIn sw.new names c v) of names (meaning.element_of of (meant.Vector id) at) result }
+    ensures near { IfOk result (IsNear sw.new) }
+    ensures lasts { UnlessFault result (Lasts sw.old sw.new) }
     ensures leaves { LeavesOutside (V.outside vault.old) (V.outside vault.new) }
     ensures alive { UnlessFault result (V.alive vault.new) }
 {
@@ -72,13 +74,13 @@ pub fn get_element<V: Vault>(
 /// exactly where the subscript is outside the vector.
 #[inline(always)]
 pub fn set_element(sw: &mut Swizzle, known: KnownVector, at: i32, to: Value) -> Result<(), OpFault>
-    requires right { IsRight sw.old known }
+    requires so { IsSo sw.old known }
     requires near { IsNear sw.old to }
     requires fits { IsOfForm known.form to }
     ensures set { (of : meaning.Heap) (names : List Reference) (id : ℕ) (v : meant.Value) → IsWorld sw.old of names
-        → DenotesIn sw.old names (Some known.vector) (meant.Vector id) → IsKnownAs of id known → IsForIn sw.old names to v
+        → DenotesIn sw.old names (Some known.vector) (meant.Vector id) → IsForIn sw.old names to v
         → Writes sw.old sw.new names (meaning.with_element of (meant.Vector id) at v) result }
-    ensures stands { UnlessFault result (AllStand sw.old sw.new) }
+    ensures lasts { UnlessFault result (Lasts sw.old sw.new) }
 {
     sw.sound();
     let Some(number) = subscript(known, at) else {

@@ -7,8 +7,9 @@ ghost use Rattle.paired_ops.specs.swizzle.Reading.{LeavesOutside};
 ghost use Rattle.paired_ops.specs.heap_ops.Outcomes.{UnlessFault};
 ghost use Rattle.paired_ops.specs.ps_meaning.Objects as meaning;
 ghost use Rattle.paired_ops.specs.ps_meaning.Values as meant;
+ghost use Rattle.paired_ops.specs.Lasting.{Lasts};
 ghost use Rattle.paired_ops.specs.World.{IsWorld, DenotesIn};
-ghost use Rattle.known_vectors.specs.Known.{AreSo, IsSo, IsThere, Finds};
+ghost use Rattle.known_vectors.specs.Known.{AreSo, IsSo, IsOf, Finds};
 ghost use Rattle.known_vectors.specs.Reached.{entry_place};
 
 use paired_ops::heap_ops::shape::read_shape;
@@ -28,7 +29,7 @@ pub struct KnownVector {
     pub count: u32,
 }
 
-/// Vectors that were looked up before. An entry says what is so as long as vectors last; after `reset` of the area the entries are cleared.
+/// Vectors that were looked up before. An entry says what is so as long as objects last; after `reset` of the area the entries are cleared.
 #[derive(Drop)]
 pub struct KnownVectors {
     pub entries: Vec<KnownVector>,
@@ -47,7 +48,7 @@ const NO_ENTRY: KnownVector = KnownVector {
 impl KnownVectors {
     /// Without any vector. This takes memory for 64 entries, once.
     pub fn new(alloc: Global) -> Result<KnownVectors, AllocError>
-        ensures { IfOk result (λ known. (here : area.Heap) (of : meaning.Heap) (names : List Reference) → AreSo here of names known.entries.items) }
+        ensures { IfOk result (λ known. (here : area.Heap) → AreSo here known.entries.items) }
     {
         let mut entries = Vec::with_capacity(alloc, ENTRIES)?;
         entries.resize(ENTRIES, NO_ENTRY)?;
@@ -56,12 +57,12 @@ impl KnownVectors {
 
     /// Forgets all vectors.
     pub fn clear(&mut self)
-        ensures { (here : area.Heap) (of : meaning.Heap) (names : List Reference) → AreSo here of names self.new.entries.items }
+        ensures { (here : area.Heap) → AreSo here self.new.entries.items }
     {
         self.entries.fill(NO_ENTRY);
     }
 
-    /// What a vector is. It is read where it isn't known, and known from then on.
+    /// What a vector is. It is read where it isn't known, and known from then on. It fails where the object is no vector, or is damaged.
     #[inline]
     pub fn look_up<V: Vault>(
         &mut self,
@@ -70,10 +71,13 @@ impl KnownVectors {
         vector: u32,
     ) -> Result<KnownVector, OpFault>
         requires alive { V.alive vault.old }
-        requires there { IsThere sw.old vector self.old.entries.items }
+        requires held { IsHeld sw.old vector }
+        requires so { AreSo sw.old self.old.entries.items }
         ensures finds { (of : meaning.Heap) (names : List Reference) (id : ℕ) → IsWorld sw.old of names
-            → DenotesIn sw.old names (Some vector) (meant.Vector id) → AreSo sw.old of names self.old.entries.items
-            → Finds sw.old sw.new of names id vector self.new.entries.items result }
+            → DenotesIn sw.old names (Some vector) (meant.Vector id) → Finds sw.old sw.new of names id result }
+        ensures known { IfOk result (IsOf sw.new vector) }
+        ensures so { UnlessFault result (AreSo sw.new self.new.entries.items) }
+        ensures lasts { UnlessFault result (Lasts sw.old sw.new) }
         ensures leaves { LeavesOutside (V.outside vault.old) (V.outside vault.new) }
         ensures alive { UnlessFault result (V.alive vault.new) }
     {
@@ -88,8 +92,7 @@ impl KnownVectors {
     #[inline]
     fn find(&self, vector: u32) -> Option<KnownVector>
         requires { 1 ≤ vector }
-        ensures { (here : area.Heap) (of : meaning.Heap) (names : List Reference) → AreSo here of names self.now.entries.items
-            → IfSome result (λ known. (known.vector ≡ vector) × IsSo here of names known) }
+        ensures { (here : area.Heap) → AreSo here self.now.entries.items → IfSome result (IsOf here vector) }
     {
         let index = index_of(vector);
         if index >= self.entries.len() {
@@ -113,9 +116,12 @@ impl KnownVectors {
     ) -> Result<KnownVector, OpFault>
         requires alive { V.alive vault.old }
         requires held { IsHeld sw.old vector }
+        requires so { AreSo sw.old self.old.entries.items }
         ensures finds { (of : meaning.Heap) (names : List Reference) (id : ℕ) → IsWorld sw.old of names
-            → DenotesIn sw.old names (Some vector) (meant.Vector id) → AreSo sw.old of names self.old.entries.items
-            → Finds sw.old sw.new of names id vector self.new.entries.items result }
+            → DenotesIn sw.old names (Some vector) (meant.Vector id) → Finds sw.old sw.new of names id result }
+        ensures known { IfOk result (IsOf sw.new vector) }
+        ensures so { UnlessFault result (AreSo sw.new self.new.entries.items) }
+        ensures lasts { UnlessFault result (Lasts sw.old sw.new) }
         ensures leaves { LeavesOutside (V.outside vault.old) (V.outside vault.new) }
         ensures alive { UnlessFault result (V.alive vault.new) }
     {
@@ -138,8 +144,7 @@ impl KnownVectors {
 
     // Puts an entry in its place.
     fn keep(&mut self, known: KnownVector)
-        ensures { (here : area.Heap) (of : meaning.Heap) (names : List Reference) → AreSo here of names self.old.entries.items
-            → IsSo here of names known → AreSo here of names self.new.entries.items }
+        ensures { (here : area.Heap) → AreSo here self.old.entries.items → IsSo here known → AreSo here self.new.entries.items }
     {
         let index = index_of(known.vector);
         if index < self.entries.len() {

@@ -4,15 +4,16 @@ ghost use Rattle.std.specs.Prelude.{◌≡◌, ◌≢◌, ◌<◌, ℕ, ℤ, Boo
 ghost use Rattle.paired_ops.specs.obj_layout.declared.reference.Reference.{Reference};
 ghost use Rattle.paired_ops.specs.text_forms.Forms.{is_number_form};
 ghost use Rattle.paired_ops.specs.swizzle.Heap as area;
-ghost use Rattle.paired_ops.specs.swizzle.Heap.{Stands as AllStand, IsHeld, header_at, with_num};
+ghost use Rattle.paired_ops.specs.swizzle.Heap.{IsHeld, header_at, with_num};
 ghost use Rattle.paired_ops.specs.heap_places.Places.{IsNear, assigned_value, with_value};
 ghost use Rattle.paired_ops.specs.heap_places.Words.{int_in, flag_in};
 ghost use Rattle.paired_ops.specs.ps_meaning.Objects as meaning;
 ghost use Rattle.paired_ops.specs.ps_meaning.Values as meant;
 ghost use Rattle.paired_ops.specs.ps_meaning.Values.{number_of};
+ghost use Rattle.paired_ops.specs.Lasting.{Lasts};
 ghost use Rattle.paired_ops.specs.World.{IsWorld, DenotesIn};
 ghost use Rattle.paired_ops.specs.Operands.{IsForIn, IsOfForm};
-ghost use Rattle.known_vectors.specs.Known.{AreRight, AreSo};
+ghost use Rattle.known_vectors.specs.Known.{AreSo};
 ghost use Rattle.known_vectors.specs.Reached.{Reaches, ReachesNoNumber, ReachesNoReference, ReachesNoLocal, HasNumber, HasReference, Puts, number_kept};
 
 use crate::elements::subscript;
@@ -71,10 +72,11 @@ fn low_half(word: u64) -> i32
 /// or where the elements are references.
 #[inline(always)]
 pub fn number_at(known: &KnownVectors, sw: &Swizzle, vector: u32, at: i32) -> Option<i32>
-    requires { AreRight sw.now known.now.entries.items }
+    requires { AreSo sw.now known.now.entries.items }
     ensures { MatchOption result
         (ReachesNoNumber known.now.entries.items vector at)
-        (λ z. (of : meaning.Heap) (names : List Reference) → IsWorld sw.now of names → AreSo sw.now of names known.now.entries.items → HasNumber sw.now of names vector at z) }
+        (λ z. IsHeld sw.now vector × ((of : meaning.Heap) (names : List Reference) (v : meant.Value) → IsWorld sw.now of names
+        → DenotesIn sw.now names (Some vector) v → HasNumber sw.now of names vector at z)) }
 {
     sw.sound();
     let Some(found) = reach(known, vector, at) else {
@@ -90,10 +92,11 @@ pub fn number_at(known: &KnownVectors, sw: &Swizzle, vector: u32, at: i32) -> Op
 /// subscript is outside, where the elements are numbers, or where the reference is a PID, whose object is to be looked for.
 #[inline(always)]
 pub fn reference_at(known: &KnownVectors, sw: &Swizzle, vector: u32, at: i32) -> Option<Option<u32>>
-    requires { AreRight sw.now known.now.entries.items }
+    requires { AreSo sw.now known.now.entries.items }
     ensures { MatchOption result
         (ReachesNoLocal sw.now known.now.entries.items vector at)
-        (λ to. (of : meaning.Heap) (names : List Reference) → IsWorld sw.now of names → AreSo sw.now of names known.now.entries.items → HasReference sw.now of names vector at to) }
+        (λ to. IsHeld sw.now vector × IfSome to (IsHeld sw.now) × ((of : meaning.Heap) (names : List Reference) (v : meant.Value) → IsWorld sw.now of names
+        → DenotesIn sw.now names (Some vector) v → HasReference sw.now of names vector at to)) }
 {
     sw.sound();
     let Some(found) = reach(known, vector, at) else {
@@ -144,8 +147,7 @@ fn write_number(sw: &mut Swizzle, vector: u32, index: u32, to: Value)
     requires refs { 1 ≡ (header_at sw.old vector).refs }
     requires below { index < (header_at sw.old vector).nums }
     requires number { (object : Option ℕ) → to ≢ Value.Ref object }
-    ensures written { sw.new ≡ assigned_value sw.old vector index to }
-    ensures stands { AllStand sw.old sw.new }
+    ensures { sw.new ≡ assigned_value sw.old vector index to }
 {
     sw.set_num_behind(vector, 1, index, word_of_number(to));
     sw.mark(vector);
@@ -155,11 +157,12 @@ fn write_number(sw: &mut Swizzle, vector: u32, index: u32, to: Value)
 /// place, where the subscript is outside, or where the elements are references; then nothing is done.
 #[inline(always)]
 pub fn set_number(known: &KnownVectors, sw: &mut Swizzle, vector: u32, at: i32, z: i32) -> bool
-    requires { AreRight sw.old known.now.entries.items }
+    requires { AreSo sw.old known.now.entries.items }
     ensures none { result ≡ false → (sw.new ≡ sw.old) × ReachesNoNumber known.now.entries.items vector at }
-    ensures set { result ≡ true → (of : meaning.Heap) (names : List Reference) → IsWorld sw.old of names → AreSo sw.old of names known.now.entries.items
+    ensures held { result ≡ true → IsHeld sw.old vector }
+    ensures set { result ≡ true → (of : meaning.Heap) (names : List Reference) (w : meant.Value) → IsWorld sw.old of names → DenotesIn sw.old names (Some vector) w
         → Puts sw.old of names vector at sw.new true (number_kept z) }
-    ensures stands { AllStand sw.old sw.new }
+    ensures lasts { Lasts sw.old sw.new }
 {
     sw.sound();
     let Some(found) = reach(known, vector, at) else {
@@ -182,12 +185,13 @@ pub fn set_reference(
     at: i32,
     to: Option<u32>,
 ) -> bool
-    requires right { AreRight sw.old known.now.entries.items }
+    requires so { AreSo sw.old known.now.entries.items }
     requires near { IfSome to (IsHeld sw.old) }
     ensures none { result ≡ false → (sw.new ≡ sw.old) × ReachesNoReference known.now.entries.items vector at }
-    ensures set { result ≡ true → (of : meaning.Heap) (names : List Reference) (v : meant.Value) → IsWorld sw.old of names → AreSo sw.old of names known.now.entries.items
+    ensures held { result ≡ true → IsHeld sw.old vector }
+    ensures set { result ≡ true → (of : meaning.Heap) (names : List Reference) (w v : meant.Value) → IsWorld sw.old of names → DenotesIn sw.old names (Some vector) w
         → DenotesIn sw.old names to v → Puts sw.old of names vector at sw.new false (λ form. v) }
-    ensures stands { AllStand sw.old sw.new }
+    ensures lasts { Lasts sw.old sw.new }
 {
     sw.sound();
     let Some(found) = reach(known, vector, at) else {

@@ -20,7 +20,6 @@ use Rattle.machine_values.specs.ps_stepping.Steps.{Step, attempted, pop_num, pop
 use Rattle.machine_values.specs.ps_stepping.Objects.{when_number, when_reference, pop_object, changed, set_field_num, set_field_ref}
 use Rattle.machine_values.specs.paired_ops.World.{IsWorld, DenotesIn, Writes}
 use Rattle.machine_values.specs.paired_ops.Operands.{IsForIn}
-use Rattle.machine_values.proofs.of_known_vectors.Lasting.{last-field}
 use Rattle.machine_values.specs.machine_state.declared.machine.Machine.{Machine}
 use Rattle.machine_values.specs.machine_state.declared.stepped.Stepped.{Stepped}
 use Rattle.machine_values.specs.machine_state.Holding.{IsHolding}
@@ -59,7 +58,7 @@ module _ (k n class : ℕ) (l : Located) (old mid popped last : Machine) (now : 
         (ap (λ (x : Option Form). when_number x (number-set n line c text x)) (located-at (forms_of text) n l at).form_is ∙ number-row f row (number-set n line c text (Some f))
         ∙ i.1 (λ y e. pop_object e (λ x g. attempted line (with_field g.store.heap x text n (kept_as (Some f) (Num y))) (λ changed_heap. changed changed_heap g)))
         ∙ o.2 (λ x g. attempted line (with_field g.store.heap x text n v) (λ changed_heap. changed changed_heap g)))
-        (give.does last.sw names o.0 a o.3 (λ of done. last-field heap of o.1 v text n done) (did heap names text n o.1 v o.3.world there o.4 at (denotes last.sw names row))))
+        (give.does last.sw names o.0 a o.3 (did heap names text n o.1 v o.3.world there o.4 at (denotes last.sw names row))))
 
     pub number-done : (P : Type 0) (r : Stepped) → UnlessFault done P → UnlessDamaged r P
     number-done P r so =
@@ -87,7 +86,7 @@ module _ (k n class : ℕ) (l : Located) (old mid popped last : Machine) (now : 
         (ap (λ (x : Option Form). when_reference x (reference-set n line c text)) (located-at (forms_of text) n l at).form_is ∙ reference-row f row (reference-set n line c text)
         ∙ i.2 (λ w e. pop_object e (λ x g. attempted line (with_field g.store.heap x text n w) (λ changed_heap. changed changed_heap g)))
         ∙ o.2 (λ x g. attempted line (with_field g.store.heap x text n i.1) (λ changed_heap. changed changed_heap g)))
-        (give.does last.sw names o.0 a o.3 (λ of done. last-field heap of o.1 i.1 text n done) (did heap names text n o.1 i.1 o.3.world there o.4 at denotes)))
+        (give.does last.sw names o.0 a o.3 (did heap names text n o.1 i.1 o.3.world there o.4 at denotes)))
 
     pub reference-done : (P : Type 0) (r : Stepped) → UnlessFault done P → UnlessDamaged r P
     reference-done P r so =

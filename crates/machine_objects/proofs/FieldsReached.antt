@@ -7,7 +7,7 @@ use Rattle.ps_base.specs.declared.line.Line.{Line}
 use Rattle.machine_values.specs.obj_layout.declared.reference.Reference.{Reference}
 use Rattle.machine_values.specs.text_forms.declared.forms.Form.{Form}
 use Rattle.machine_values.specs.swizzle.Heap as area
-use Rattle.machine_values.specs.swizzle.Heap.{IsHeap}
+use Rattle.machine_values.specs.swizzle.Heap.{IsHeap, IsHeld}
 use Rattle.machine_values.specs.ps_meaning.Texts.{Attempt, Yields}
 use Rattle.machine_values.specs.ps_meaning.Values.{Value, Num, word_of}
 use Rattle.machine_values.specs.ps_meaning.Objects.{Heap}
@@ -42,9 +42,8 @@ use Rattle.machine_values.specs.heap_places.declared.value.Value.TheVariants as 
 use Rattle.machine_values.specs.text_forms.declared.forms.Form.TheVariants as form
 use Rattle.machine_values.specs.paired_ops.Operands.{IsForIn, IsOfForm}
 use Rattle.machine_values.specs.known_classes.Known.{AreSo, HasConstants}
-use Rattle.machine_values.specs.known_classes.Reading.{IsThere}
+use Rattle.machine_values.proofs.Popping.{named-held}
 use Rattle.machine_values.specs.known_classes.Reached.{HasValue, PutsValue, number_kept}
-use Rattle.machine_values.proofs.of_known_vectors.Lasting.{last-field}
 use Rattle.machine_objects.specs.inside.Fielding.{HasOnTop, ReadsField, number_for_one, reference_for_one, without_both, without_refs}
 use Rattle.machine_values.proofs.ConstantReads.{same-constant, constants-of}
 
@@ -52,22 +51,16 @@ use Rattle.machine_values.proofs.ConstantReads.{same-constant, constants-of}
 pub all-known : (m : Machine) → IsHolding m → AreSo m.sw m.classes.fields.entries.items
 all-known m h = h.1.held.entries_are.fields
 
--- what the reference on top names denotes a value
-pub top-there : (m : Machine) (w at : ℕ) → IsHolding m → ((c : Config) → Holds m c → HasTopRef m c (Some w)) → object_in w ≡ Some at → IsThere m.sw (Some at)
+-- what the reference on top names lies in the area
+pub top-there : (m : Machine) (w at : ℕ) → IsHolding m → ((c : Config) → Holds m c → HasTopRef m c (Some w)) → object_in w ≡ Some at → IsHeld m.sw at
 top-there m w at h top is =
     let t = top h.0 h.1 in
-    record { of = h.0.store.heap; names = t.3; value = t.0; world = t.4.world; denotes = subst (λ (to : Option ℕ). DenotesIn m.sw t.3 to t.0) is t.5 }
+    named-held m.sw t.3 (Some at) t.0 (subst (λ (to : Option ℕ). DenotesIn m.sw t.3 to t.0) is t.5)
 
-pub lower-there : (m : Machine) (w x at : ℕ) → IsHolding m → ((c : Config) → Holds m c → HasTwoRefs m c (w, x)) → object_in w ≡ Some at → IsThere m.sw (Some at)
+pub lower-there : (m : Machine) (w x at : ℕ) → IsHolding m → ((c : Config) → Holds m c → HasTwoRefs m c (w, x)) → object_in w ≡ Some at → IsHeld m.sw at
 lower-there m w x at h two is =
     let t = two h.0 h.1 in
-    record {
-      of = h.0.store.heap;
-      names = t.names;
-      value = t.lower;
-      world = t.held.world;
-      denotes = subst (λ (to : Option ℕ). DenotesIn m.sw t.names to t.lower) is t.lower_is;
-    }
+    named-held m.sw t.names (Some at) t.lower (subst (λ (to : Option ℕ). DenotesIn m.sw t.names to t.lower) is t.lower_is)
 
 -- The structure on top has a value in its field.
 pub has-on-top : (k n : ℕ) (m : Machine) (w at : ℕ) (value : code.Value) → ((c : Config) → Holds m c → HasTopRef m c (Some w)) → object_in w ≡ Some at
@@ -205,7 +198,7 @@ still-put : (k n : ℕ) (m : Machine) (now : area.Heap) (names : List Reference)
 still-put k n m now names c o number to heap p h =
     let counted = h.counted in
     let top = p.stands.carries.top in
-    held-more m.sw now names names 0 m c (on_heap p.after c.store) heap p.stands.carries (last-field c.store.heap p.after o (to p.form) p.class n p.put) h p.stands.world
+    held-more m.sw now names names 0 m c (on_heap p.after c.store) heap p.stands.carries h p.stands.world
     (omega (arith, counted, top)) refl refl
 
 pub number-stored : (k n : ℕ) (m : Machine) (now : area.Heap) (w at : ℕ) (z y : ℤ) → y ≡ z → IsSound m → IsHeap now → IsHolding m
@@ -219,7 +212,7 @@ number-stored k n m now w at z y kept sound heap holding top top_ref is put = re
       let h = holding.0 in
       let t = top_ref h holding.1 in
       (put h.store.heap t.3 (constants_in h.unit) t.0 t.4.world (constants-of m.sw m.code h.unit t.4.unit_is)
-      (subst (λ (to : Option ℕ). DenotesIn m.sw t.3 to t.0) is t.5)).stands.carries.size;
+      (subst (λ (to : Option ℕ). DenotesIn m.sw t.3 to t.0) is t.5)).stands.carries.lasts.size;
   does = λ c h.
       let u = top c h in
       let t = top_ref c h in
@@ -260,7 +253,7 @@ reference-stored k n m now w x at sound heap holding two is put = record {
       let h = holding.0 in
       let t = two h holding.1 in
       (put h.store.heap t.names (constants_in h.unit) t.lower t.upper t.held.world (constants-of m.sw m.code h.unit t.held.unit_is)
-      (subst (λ (to : Option ℕ). DenotesIn m.sw t.names to t.lower) is t.lower_is) t.upper_is).stands.carries.size;
+      (subst (λ (to : Option ℕ). DenotesIn m.sw t.names to t.lower) is t.lower_is) t.upper_is).stands.carries.lasts.size;
   does = λ c h.
       let t = two c h in
       let u = t.upper in

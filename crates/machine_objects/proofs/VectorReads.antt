@@ -10,7 +10,6 @@ use Rattle.machine_values.specs.ps_meaning.Objects.{Heap}
 use Rattle.machine_values.specs.ps_meaning.Values.{Vector}
 use Rattle.machine_values.specs.paired_ops.World.{IsWorld, DenotesIn, Answers}
 use Rattle.machine_values.specs.known_vectors.declared.known.KnownVector.{KnownVector}
-use Rattle.machine_values.specs.known_vectors.Known.{IsKnownAs}
 use Rattle.machine_values.specs.machine_state.declared.machine.Machine.{Machine}
 use Rattle.machine_values.specs.machine_state.declared.stepped.Stepped.{Stepped}
 use Rattle.machine_values.specs.machine_state.Holding.{IsHolding}
@@ -35,10 +34,10 @@ vector-read is attempt old last now vector got holding q did P r so =
 pub known-read : {A T : Type 0} (is : Heap → List Reference → ℕ → T → A → Type 0) (attempt : Heap → ℕ → Attempt A) (old last : Machine)
     (now : area.Heap) (known : KnownVector) (got : Result T OpFault) → IsHolding old → PopsKnown old last (Some known)
     → ((of : Heap) (names : List Reference) (id : ℕ) → IsWorld last.sw of names → DenotesIn last.sw names (Some known.vector) (Vector id)
-    → IsKnownAs of id known → Answers last.sw now (is of names id) of names (attempt of id) got)
+    → Answers last.sw now (is of names id) of names (attempt of id) got)
     → (P : Type 0) (r : Stepped) → UnlessFault got P → UnlessDamaged r P
 known-read is attempt old last now known got holding q did P r so =
     let names = holding.1.names in
     let v = q.gives names holding.0 holding.1.held in
     let heap = v.0.store.heap in
-    unless-damaged P r (read-done last.sw now (is heap names v.1) heap names (attempt heap v.1) P got (did heap names v.1 v.4.world v.5 v.10) so)
+    unless-damaged P r (read-done last.sw now (is heap names v.1) heap names (attempt heap v.1) P got (did heap names v.1 v.4.world v.5) so)

@@ -141,7 +141,7 @@ module _ (old mid : area.Heap) (at code : ℕ) where
         let m = still-there t coded in
         let a = coded t.of t.names t.unit t.scope t.world t.denotes in
         let b = scoped t.of t.names t.unit t.scope m.world m.denotes in
-        unit-kind new code t.unit (unit-stays mid new code t.unit b.1.carries.code a.is)
+        unit-kind new code t.unit (unit-stays mid new code t.unit b.1.carries.lasts.code a.is)
 
     pub body-told : (place : CodePlace) (frame : Frame) (w : ℕ) → w ≡ word_of within → IsHeap new → Coded → Scoped → IsPlaceOf new code place
         → ((bytes : List ℕ) (row : ConstantsView) (f : Frame) → IsUnit new code (unit bytes row f) → IsFitUnit (unit bytes row f) → frame ≡ f)
@@ -151,7 +151,7 @@ module _ (old mid : area.Heap) (at code : ℕ) where
     body-told place frame w named heap coded scoped lies is of names u round world d =
         let a = coded of names u round world d in
         let b = scoped of names u round a.stands.world (a.stands.carries.values (Some at) (Procedure (as_compiled u) round) d) in
-        let i = unit-stays mid new code u b.1.carries.code a.is in (
+        let i = unit-stays mid new code u b.1.carries.lasts.code a.is in (
           record {
             unit_is = i;
             fit = a.fit;
@@ -263,7 +263,7 @@ module _ (n : ℕ) (m : Machine) where
                 denotes = a.1.carries.values (object_in w) (Procedure (as_compiled p.unit) p.scope) (subst (DenotesIn m.sw names (object_in w)) p.is b.4);
                 body_is = a.0;
                 held = read-holds m now names c heap h a.1;
-                size = a.1.carries.size;
+                size = a.1.carries.lasts.size;
               };
         }
 

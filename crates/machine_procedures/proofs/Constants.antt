@@ -107,7 +107,7 @@ module _ (m : Machine) (now : area.Heap) (k : ℕ) where
       (λ names c h.
       let s = still kept names c h in
       let a = text-given (Some at) given c.unit h.unit_is in
-      comes-behind m (record m { sw = now }) new r (with_text k c (λ bytes. next bytes c)) (next a.0 c) s.carries.size
+      comes-behind m (record m { sw = now }) new r (with_text k c (λ bytes. next bytes c)) (next a.0 c) s.carries.lasts.size
       (ap (λ (o : Option ConstantView). text_in o (λ bytes. next bytes c)) (same-constant (constants_in c.unit) k ∙ a.1))
       (comes names c a.0 (read-holds m now names c heap h s) (a.2 names)))
 
@@ -130,7 +130,7 @@ module _ (m : Machine) (now : area.Heap) (k : ℕ) where
       (λ names c h.
       let s = still kept names c h in
       let a = literal-given (Some at) given c.unit h.unit_is h.fit in
-      comes-behind m (record m { sw = now }) new r (closure k c) (with_procedure a.0 c) s.carries.size
+      comes-behind m (record m { sw = now }) new r (closure k c) (with_procedure a.0 c) s.carries.lasts.size
       (ap (λ (o : Option ConstantView). procedure_of o c) (same-constant (constants_in c.unit) k ∙ a.1))
       (comes names c a.0 (read-holds m now names c heap h s) a.2 a.3))
 

@@ -108,7 +108,7 @@ module _ (m : Machine) (now : area.Heap) (at : ℕ) (holding : IsHolding m) (in_
       ends leave_scope m new Quiet enters.sound holding
       (λ names c h.
       let t = told c.store.heap names c.scope h.world (in_it names c h) in (
-        ap (λ (a : area.Heap). a.size) enters.area ∙ t.stands.carries.size,
+        ap (λ (a : area.Heap). a.size) enters.area ∙ t.stands.carries.lasts.size,
         (
           [],
           record c { scope = t.parent },

@@ -25,7 +25,6 @@ use Rattle.paired_procedures.specs.paired_ops.World.{IsWorld, DenotesScopeIn}
 use Rattle.paired_procedures.specs.paired_ops.Operands.{IsForIn, IsOfForm}
 use Rattle.paired_procedures.specs.Scopes.{HasName, IsOfRow, IsInt, ReadsKept, WritesKept}
 use Rattle.paired_procedures.proofs.ScopeLaws.{out-none}
-use Rattle.machine_state.proofs.of_known_vectors.Lasting.{last-name}
 use Rattle.machine_state.specs.declared.machine.Machine.{Machine}
 use Rattle.machine_state.specs.declared.stepped.Stepped.{Stepped}
 use Rattle.machine_state.specs.declared.stepped.Stepped.TheVariants.{Quiet, Damaged}
@@ -125,7 +124,7 @@ module _ (up name at : ℕ) (m : Machine) (now : area.Heap) (layouts : Layouts) 
           formed = g.2;
           for = g.3;
           held = with-layouts (record m { sw = now }) layouts names c laid (read-holds m now names c heap h g.4);
-          size = g.4.carries.size;
+          size = g.4.carries.lasts.size;
         };
   }
 
@@ -181,9 +180,9 @@ module _ (up name at : ℕ) (m : Machine) (now : area.Heap) (layouts : Layouts) 
         let store = on_heap after c.store in
         let counted = h.counted in
         let top = w.3.carries.top in
-        let held = held-more m.sw now names names 0 m c store heap w.3.carries (last-name c.store.heap c.scope up name v) h w.3.world
+        let held = held-more m.sw now names names 0 m c store heap w.3.carries h w.3.world
         (omega (arith, counted, top)) refl refl in (
-          w.3.carries.size,
+          w.3.carries.lasts.size,
           (
             [],
             record c { store = store },

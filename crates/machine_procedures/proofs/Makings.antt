@@ -18,7 +18,6 @@ use Rattle.machine_state.specs.ps_stepping.Steps.{Stuck, on, push_ref}
 use Rattle.paired_procedures.specs.paired_ops.World.{IsWorld, DenotesIn, DenotesScopeIn}
 use Rattle.paired_procedures.specs.Scopes.{MakesScope}
 use Rattle.paired_procedures.specs.Procedures.{MakesProcedure}
-use Rattle.machine_state.proofs.of_known_vectors.Lasting.{all-same, last-new}
 use Rattle.machine_state.specs.declared.machine.Machine.{Machine}
 use Rattle.machine_state.specs.declared.stepped.Stepped.{Stepped}
 use Rattle.machine_state.specs.declared.stepped.Stepped.TheVariants.{Quiet, Breaks, Damaged}
@@ -47,9 +46,9 @@ module _ (m : Machine) (now : area.Heap) (within : Option ℕ) (in_it : IsCurren
           let counted = h.counted in
           let top = made.carries.top in
           let store = and_object object c.store in
-          let held = held-more m.sw now names made.more (own_weight object) m c store heap made.carries (last-new c.store.heap object) h made.world
+          let held = held-more m.sw now names made.more (own_weight object) m c store heap made.carries h made.world
           (omega (arith, counted, top)) refl refl in (
-            ap (λ (a : area.Heap). a.size) enters.area ∙ made.carries.size,
+            ap (λ (a : area.Heap). a.size) enters.area ∙ made.carries.lasts.size,
             (
               [],
               record c { store = store; scope = Some (new_number c.store.heap) },
@@ -91,9 +90,9 @@ module _ (m : Machine) (now : area.Heap) (within : Option ℕ) (in_it : IsCurren
           let counted = h.counted in
           let top = made.carries.top in
           let store = and_closure c.store in
-          let held = held-more m.sw now names names closure_weight m c store heap made.carries (all-same c.store.heap) h made.world
+          let held = held-more m.sw now names names closure_weight m c store heap made.carries h made.world
           (omega (arith, counted, top)) refl refl in (
-            size-behind r m.sw now new.sw made.carries.size push.size,
+            size-behind r m.sw now new.sw made.carries.lasts.size push.size,
             push.does names (Procedure (as_compiled u) c.scope) (record c { store = store }) held made.denotes,
           );
     }

@@ -16,7 +16,7 @@ use Rattle.machine_state.specs.Known.{IsBody, IsKnown, SaysSo, AreKnown}
 module _ (here now : area.Heap) (names more : List Reference) (weight : ℕ) (k : Carries here now names more weight) where
   body-more : (body : Body) (of : UnitView) (scope : Option ℕ) → IsBody here names body of scope → IsBody now more body of scope
   body-more body of scope b = record {
-    unit_is = unit-stays here now body.code of k.code b.unit_is;
+    unit_is = unit-stays here now body.code of k.lasts.code b.unit_is;
     fit = b.fit;
     place_is = b.place_is;
     frame_is = b.frame_is;

@@ -15,7 +15,7 @@ use Rattle.machine_state.proofs.RefRows.{row_more}
 module _ (here now : area.Heap) (names more : List Reference) (weight : ℕ) (k : Carries here now names more weight) where
   waiting-more : (of : in_code.Caller) (nums : List ℤ) (refs : List ℕ) (c : Caller) → IsWaiting here names of nums refs c → IsWaiting now more of nums refs c
   waiting-more of nums refs c w = record {
-    unit_is = unit-stays here now of.code c.unit k.code w.unit_is;
+    unit_is = unit-stays here now of.code c.unit k.lasts.code w.unit_is;
     fit = w.fit;
     place_is = w.place_is;
     frame_is = w.frame_is;

@@ -8,8 +8,6 @@ use Rattle.known_classes.specs.swizzle.declared.fault.SwizzleFault.{SwizzleFault
 use Rattle.known_classes.proofs.of_heap_ops.LayoutLaws.{stay_so}
 use Rattle.known_classes.proofs.MakesSo.{right-stays}
 use Rattle.known_classes.proofs.of_proc_values.StayLaws.{unit-stays}
-use Rattle.known_vectors.specs.Known.{AllLast}
-use Rattle.known_vectors.proofs.Lasting.{all-same}
 use Rattle.known_vectors.proofs.Entries.{all-stay}
 use Rattle.ps_stepping.specs.ps_meaning.Values.{Text}
 use Rattle.ps_stepping.specs.ps_meaning.Meaning.{Store}
@@ -33,10 +31,10 @@ texts-stay here now names more weight heap k at held kind =
     record { held = t.held; kind = t.kind; bytes = t.bytes_are }
 
 -- What stands for a configuration stands for one with another store, in an area that carries what was denoted.
-pub held-more : (here now : area.Heap) (names more : List Reference) (weight : ℕ) (m : Machine) (c : Config) (store : Store) → IsHeap now → Carries here now names more weight → AllLast c.store.heap store.heap → HeldIn here names m c
+pub held-more : (here now : area.Heap) (names more : List Reference) (weight : ℕ) (m : Machine) (c : Config) (store : Store) → IsHeap now → Carries here now names more weight → HeldIn here names m c
     → IsWorld now store.heap more → 8 * top_of now ≤ store.counted → store.turns ≡ c.store.turns → store.input ≡ c.store.input → HeldIn now more m (record c { store = store })
-held-more here now names more weight m c store heap k last h world counted turns input = record {
-  unit_is = unit-stays here now m.code c.unit k.code h.unit_is;
+held-more here now names more weight m c store heap k h world counted turns input = record {
+  unit_is = unit-stays here now m.code c.unit k.lasts.code h.unit_is;
   fit = h.fit;
   place_is = h.place_is;
   frame_is = h.frame_is;
@@ -48,10 +46,10 @@ held-more here now names more weight m c store heap k last h world counted turns
   input_is = h.input_is ∙ sym input;
   turns_are = turns ∙ h.turns_are;
   world = world;
-  entries_are = right-stays here now m.classes h.entries_are k.code;
+  entries_are = right-stays here now m.classes h.entries_are k.lasts.code;
   layouts_are = stay_so here now m.layouts.entries.items h.layouts_are (texts-stay here now names more weight heap k);
   called_are = known-more here now names more weight k m.procedures.entries h.called_are;
-  known_are = all-stay here now c.store.heap store.heap names more weight k last m.vectors.entries.items h.known_are;
+  known_are = all-stay here now k.lasts m.vectors.entries.items h.known_are;
   counted = counted;
 }
 
@@ -60,7 +58,7 @@ pub read-holds : (m : Machine) (now : area.Heap) (names : List Reference) (c : C
 read-holds m now names c heap h s =
     let counted = h.counted in
     let top = s.carries.top in
-    held-more m.sw now names names 0 m c c.store heap s.carries (all-same c.store.heap) h s.world (omega (arith, counted, top)) refl refl
+    held-more m.sw now names names 0 m c c.store heap s.carries h s.world (omega (arith, counted, top)) refl refl
 
 -- the area is no part of what is said of the stacks
 pub sound-kept : (m : Machine) (now : area.Heap) → IsSound m → IsSound (record m { sw = now })

@@ -42,7 +42,7 @@ pub record Held (names : List Reference) (here : area.Heap) (classes : KnownClas
   pub world : IsWorld here c.store.heap names
   pub entries_are : IsRight here classes
   pub layouts_are : AreLaid here layouts.entries.items
-  pub known_are : AreKnown here c.store.heap names known
+  pub known_are : AreKnown here known
   pub called_are : AreCalled here names procedures
   pub counted : 8 * top_of here ≤ c.store.counted
 

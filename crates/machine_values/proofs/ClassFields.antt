@@ -1,5 +1,5 @@
 -- Fields of classes of the code: what is known of them, and by which text.
-use Rattle.std.proofs.Common.{◌≡◌, ℕ, ◌-◌, ◌<◌, List, [], ◌∷◌, length, reverse, drop, get_or, zero, suc, Option, Some, None, refl, sym, ap, ◌∙◌, subst, arith, inl, inr}
+use Rattle.std.proofs.Common.{◌≡◌, ℕ, ◌-◌, ◌<◌, List, [], ◌∷◌, length, reverse, drop, get_or, zero, suc, Option, Some, None, IfSome, refl, sym, ap, ◌∙◌, subst, arith, inl, inr}
 use Rattle.std.proofs.lemmas.Bool.{cases_lt}
 use Rattle.std.proofs.lemmas.List.{get_or-reverse, get_or-drop}
 use Rattle.std.proofs.Common.{length-drop}
@@ -28,7 +28,7 @@ use Rattle.machine_state.specs.known_classes.declared.makes.KnownMakes.{KnownMak
 use Rattle.machine_state.specs.known_classes.Known.{IsTextOf}
 use Rattle.machine_state.specs.known_classes.Made.{AreSo as AreMade}
 use Rattle.machine_state.specs.known_classes.Classes.{IsRight}
-use Rattle.machine_state.specs.known_classes.Reading.{IsThere}
+use Rattle.machine_values.proofs.Popping.{named-held}
 use Rattle.machine_state.proofs.of_known_classes.TextOf.{text-of}
 use Rattle.machine_state.specs.declared.machine.Machine.{Machine}
 use Rattle.machine_state.specs.Holding.{HeldBy, IsHolding, IsSound, AreDenoted, object_in}
@@ -215,7 +215,7 @@ denoted-at here names (w ∷ ws) (v ∷ vs) (suc i) d are below = denoted-at her
 denoted-at here names [] (v ∷ vs) i d are below = absurd are
 denoted-at here names (w ∷ ws) [] i d are below = absurd are
 
-pub word-there : (m : Machine) (i d : ℕ) → IsHolding m → i < length m.refs.own → IsThere m.sw (object_in (get_or m.refs.own i d))
+pub word-there : (m : Machine) (i d : ℕ) → IsHolding m → i < length m.refs.own → IfSome (object_in (get_or m.refs.own i d)) (IsHeld m.sw)
 word-there m i d h below =
     let names = h.1.names in
     let row = h.1.held.refs_are in
@@ -235,13 +235,7 @@ word-there m i d h below =
           ∙ ap (λ (x : ℕ). get_or words x d) (omega (arith, high)) in
           (at.0, subst (λ (w : ℕ). DenotesIn m.sw names (object_in w) at.0) same at.1)
     ] in
-    record { of = h.0.store.heap; names = names; value = value.0; world = h.1.held.world; denotes = value.1 }
-
--- so does what was popped
-pub popped-there : (mid last : Machine) (object : Option ℕ) → PopsObject mid last (Some object) → IsHolding mid → IsThere last.sw object
-popped-there mid last object q h =
-    let t = q.gives h.1.names h.0 h.1.held in
-    record { of = t.0.store.heap; names = h.1.names; value = t.1; world = t.3.world; denotes = t.4 }
+    named-held m.sw names (object_in (get_or words i d)) value.0 value.1
 
 -- A class was read, and what its text tells is kept.
 pub reads-kept : (k at : ℕ) (old mid : Machine) (makes : KnownMakes) → ReadsConstant k old mid (Some at) → IsHeap mid.sw

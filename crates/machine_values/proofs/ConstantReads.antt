@@ -95,7 +95,7 @@ module _ (m : Machine) (now : area.Heap) (k : ℕ) where
       let s = kept-of kept c.unit h.unit_is c.store.heap names h.world in
       record {
         held = read-holds m now names c heap h s;
-        size = s.carries.size;
+        size = s.carries.lasts.size;
         values = s.carries.values;
       }
 

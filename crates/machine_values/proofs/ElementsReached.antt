@@ -1,5 +1,5 @@
 -- Elements that are reached by what stands on top of the two stacks.
-use Rattle.std.proofs.Common.{◌≡◌, ℕ, ◌+◌, ◌≤◌, ℤ, Bool, true, false, List, [], ◌∷◌, ◌++◌, length, take, get_or, Option, Some, None}
+use Rattle.std.proofs.Common.{◌≡◌, ℕ, zero, suc, ◌+◌, ◌≤◌, ℤ, Bool, true, false, List, [], ◌∷◌, ◌++◌, length, take, get_or, Option, Some, None}
 use Rattle.std.proofs.Common.{length-append, refl, sym, ap, ◌∙◌, subst, arith}
 use Rattle.std.specs.Prelude.{IfSome, MatchOption}
 use Rattle.std.proofs.lemmas.List.{take_all, take_more, length-take-le}
@@ -8,7 +8,7 @@ use Rattle.machine_state.specs.obj_layout.declared.reference.Reference.{Referenc
 use Rattle.machine_state.specs.text_forms.declared.forms.Form.{Form}
 use Rattle.machine_state.specs.text_forms.Forms.{element_of}
 use Rattle.machine_state.specs.swizzle.Heap as area
-use Rattle.machine_state.specs.swizzle.Heap.{IsHeap}
+use Rattle.machine_state.specs.swizzle.Heap.{IsHeap, IsHeld}
 use Rattle.machine_state.specs.ps_meaning.Texts.{Attempt}
 use Rattle.machine_state.specs.ps_meaning.Values.{Value, Num, Vector, word_of}
 use Rattle.machine_state.specs.ps_meaning.Objects.{Heap, Object, with_element}
@@ -19,12 +19,11 @@ use Rattle.machine_state.specs.ps_stepping.Config.{Config}
 use Rattle.machine_state.specs.ps_stepping.Steps.{Step, on, attempted, put_num, push_num, push_ref, pop_num, pop_ref, pop_num_of, pop_ref_of}
 use Rattle.machine_state.specs.ps_stepping.Objects.{element_num, element_ref, set_element_num, set_element_ref, type_of, type_of_object, of_type, pop_vector}
 use Rattle.machine_state.specs.ps_stepping.Objects.{when_number, when_reference, changed}
+use Rattle.machine_state.specs.paired_ops.Lasting.{Lasts}
 use Rattle.machine_state.specs.paired_ops.World.{IsWorld, DenotesIn}
-use Rattle.machine_state.specs.known_vectors.Known.{AreRight}
 use Rattle.machine_state.specs.known_vectors.Known.{AreSo as AreKnown}
 use Rattle.machine_state.specs.known_vectors.Reached.{HasNumber, HasReference, number_kept}
 use Rattle.machine_state.specs.known_vectors.Reached.{Puts as PutsElement}
-use Rattle.machine_state.proofs.of_known_vectors.Lasting.{last-element}
 use Rattle.machine_state.proofs.of_known_vectors.Reaching.{only-vector}
 use Rattle.machine_state.specs.declared.machine.Machine.{Machine}
 use Rattle.machine_state.specs.declared.stepped.Stepped.{Stepped}
@@ -37,6 +36,7 @@ use Rattle.machine_state.proofs.RefRows.{ref_pop}
 use Rattle.machine_state.proofs.Words.{named-back}
 use Rattle.machine_values.specs.Reaching.{HasTwoRefs, ReadsReference, Puts, number_for_two, reference_for_two, without_number, without_reference}
 use Rattle.machine_state.proofs.Carrying.{held-more, sound-kept, size-behind}
+use Rattle.machine_state.proofs.of_known_vectors.Access.{held-from-one}
 use Rattle.machine_values.proofs.Ending.{denoted-there}
 use Rattle.machine_values.proofs.FieldReads.{number-row, reference-row}
 
@@ -46,8 +46,13 @@ if-some P A B None is more = tt
 if-some P A B (Some t) is more = more t is
 
 -- what is known is so of the machine's area
-pub all-right : (m : Machine) → IsHolding m → AreRight m.sw m.vectors.entries.items
-all-right m h = record { of = h.0.store.heap; names = h.1.names; world = h.1.held.world; so = h.1.held.known_are }
+pub all-so : (m : Machine) → IsHolding m → AreKnown m.sw m.vectors.entries.items
+all-so m h = h.1.held.known_are
+
+-- the word of an object of the area names it
+word-named : (here : area.Heap) (w : ℕ) → IsHeap here → IsHeld here w → object_in w ≡ Some w
+word-named here zero heap held = absurd (let one = held-from-one here 0 heap held in omega (arith, one))
+word-named here (suc n) heap held = refl
 
 -- a function whose step is the same takes what the other takes
 pub takes-same : (of other : Config → Step) (old new : Machine) (r : Stepped) → ((c : Config) → Holds old c → of c ≡ other c) → Takes other old new r
@@ -81,13 +86,13 @@ vector-named here of names w id v heap world is d =
 module _ (m : Machine) (w : ℕ) (i at : ℤ) (one : at ≡ i) (heap : IsHeap m.sw) (top : (c : Config) → Holds m c → HasTop c (Some i))
     (top_ref : (c : Config) → Holds m c → HasTopRef m c (Some w)) where
   pub number-reached : (z : ℤ)
-      → ((of : Heap) (names : List Reference) → IsWorld m.sw of names → AreKnown m.sw of names m.vectors.entries.items → HasNumber m.sw of names w at z)
+      → IsHeld m.sw w × ((of : Heap) (names : List Reference) (v : Value) → IsWorld m.sw of names → DenotesIn m.sw names (Some w) v → HasNumber m.sw of names w at z)
       → (line : Line) (c : Config) → Holds m c → element_num line c ≡ number_for_two z c
   number-reached z reached line c h =
       let n = top c h in
       let t = top_ref c h in
       let objects = c.store.heap in
-      let k = subst (λ (n : ℤ). HasNumber m.sw objects t.3 w n z) one (reached objects t.3 t.4.world t.4.known_are) in
+      let k = subst (λ (n : ℤ). HasNumber m.sw objects t.3 w n z) one (reached.1 objects t.3 t.0 t.4.world (subst (λ (o : Option ℕ). DenotesIn m.sw t.3 o t.0) (word-named m.sw w heap reached.0) t.5)) in
       let id = k.it.id in
       let same = vector-named m.sw objects t.3 w id t.0 heap t.4.world k.it.denotes t.5 in
       let e : Config = record c { nums = n.0; refs = t.1 } in
@@ -108,13 +113,14 @@ module _ (m : Machine) (w : ℕ) (i at : ℤ) (one : at ≡ i) (heap : IsHeap m.
       ∙ ap (λ (xs : List ℤ). pop_num_of xs (record c { refs = t.1 }) (λ j g. push_num z g)) n.1)
 
   pub reference-reached : (to : Option ℕ)
-      → ((of : Heap) (names : List Reference) → IsWorld m.sw of names → AreKnown m.sw of names m.vectors.entries.items → HasReference m.sw of names w at to)
+      → IsHeld m.sw w × IfSome to (IsHeld m.sw) × ((of : Heap) (names : List Reference) (v : Value) → IsWorld m.sw of names → DenotesIn m.sw names (Some w) v
+      → HasReference m.sw of names w at to)
       → (c : Config) → Holds m c → ReadsReference m c to
   reference-reached to reached c h =
       let n = top c h in
       let t = top_ref c h in
       let objects = c.store.heap in
-      let k = subst (λ (n : ℤ). HasReference m.sw objects t.3 w n to) one (reached objects t.3 t.4.world t.4.known_are) in
+      let k = subst (λ (n : ℤ). HasReference m.sw objects t.3 w n to) one (reached.2 objects t.3 t.0 t.4.world (subst (λ (o : Option ℕ). DenotesIn m.sw t.3 o t.0) (word-named m.sw w heap reached.0) t.5)) in
       let id = k.it.id in
       let same = vector-named m.sw objects t.3 w id t.0 heap t.4.world k.it.denotes t.5 in
       let e : Config = record c { nums = n.0; refs = t.1 } in
@@ -148,23 +154,23 @@ still-held m now names c w i number value heap k h =
     let counted = h.counted in
     let top = k.stands.carries.top in
     held-more m.sw now names names 0 m c (on_heap k.after c.store) heap k.stands.carries
-    (last-element c.store.heap k.after (Vector k.it.id) (value (element_of k.it.ty)) i k.is) h k.stands.world (omega (arith, counted, top)) refl refl
+    h k.stands.world (omega (arith, counted, top)) refl refl
 
 -- A number was written.
-pub number-put : (m : Machine) (now : area.Heap) (w : ℕ) (i z at y : ℤ) → at ≡ i → y ≡ z → IsSound m → IsHeap m.sw → IsHeap now → IsHolding m
+pub number-put : (m : Machine) (now : area.Heap) (w : ℕ) (i z at y : ℤ) → at ≡ i → y ≡ z → IsSound m → IsHeap m.sw → IsHeap now → Lasts m.sw now → IsHeld m.sw w
     → ((c : Config) → Holds m c → HasTwo c (Some (i, z))) → ((c : Config) → Holds m c → HasTopRef m c (Some w))
-    → ((of : Heap) (names : List Reference) → IsWorld m.sw of names → AreKnown m.sw of names m.vectors.entries.items
+    → ((of : Heap) (names : List Reference) (u : Value) → IsWorld m.sw of names → DenotesIn m.sw names (Some w) u
     → PutsElement m.sw of names w at now true (number_kept y))
     → Puts set_element_num without_number m (record m { sw = now })
-number-put m now w i z at y one kept sound heap still holding two top_ref put = record {
+number-put m now w i z at y one kept sound heap still lasts there two top_ref put = record {
   sound = sound-kept m now sound;
-  size = let h = holding.1.held in (put holding.0.store.heap holding.1.names h.world h.known_are).stands.carries.size;
+  size = lasts.size;
   does = λ c h.
       let n = two c h in
       let t = top_ref c h in
       let objects = c.store.heap in
       let k = subst (λ (n : ℤ). PutsElement m.sw objects t.3 w n now true (number_kept z)) one
-      (subst (λ (x : ℤ). PutsElement m.sw objects t.3 w at now true (number_kept x)) kept (put objects t.3 t.4.world t.4.known_are)) in
+      (subst (λ (x : ℤ). PutsElement m.sw objects t.3 w at now true (number_kept x)) kept (put objects t.3 t.0 t.4.world (subst (λ (o : Option ℕ). DenotesIn m.sw t.3 o t.0) (word-named m.sw w heap there) t.5))) in
       let id = k.it.id in
       let same = vector-named m.sw objects t.3 w id t.0 heap t.4.world k.it.denotes t.5 in
       let e : Config = record c { nums = n.0; refs = t.1 } in
@@ -193,23 +199,22 @@ number-put m now w i z at y one kept sound heap still holding two top_ref put = 
 }
 
 -- A reference was written.
-pub reference-put : (m : Machine) (now : area.Heap) (w x : ℕ) (i at : ℤ) → at ≡ i → IsSound m → IsHeap m.sw → IsHeap now → IsHolding m
+pub reference-put : (m : Machine) (now : area.Heap) (w x : ℕ) (i at : ℤ) → at ≡ i → IsSound m → IsHeap m.sw → IsHeap now → Lasts m.sw now → IsHeld m.sw w
     → ((c : Config) → Holds m c → HasTop c (Some i)) → ((c : Config) → Holds m c → HasTwoRefs m c (w, x))
-    → ((of : Heap) (names : List Reference) (v : Value) → IsWorld m.sw of names → AreKnown m.sw of names m.vectors.entries.items
+    → ((of : Heap) (names : List Reference) (u v : Value) → IsWorld m.sw of names → DenotesIn m.sw names (Some w) u
     → DenotesIn m.sw names (object_in x) v → PutsElement m.sw of names w at now false (λ form. v))
     → Puts set_element_ref without_reference m (record m { sw = now })
-reference-put m now w x i at one sound heap still holding top two put = record {
+reference-put m now w x i at one sound heap still lasts there top two put = record {
   sound = sound-kept m now sound;
-  size =
-      let t = two holding.0 holding.1 in
-      (put holding.0.store.heap t.names t.upper t.held.world t.held.known_are t.upper_is).stands.carries.size;
+  size = lasts.size;
   does = λ c h.
       let n = top c h in
       let t = two c h in
       let objects = c.store.heap in
       let u = t.upper in
       let k = subst (λ (n : ℤ). PutsElement m.sw objects t.names w n now false (λ form. u)) one
-      (put objects t.names u t.held.world t.held.known_are t.upper_is) in
+      (put objects t.names t.lower u t.held.world
+      (subst (λ (o : Option ℕ). DenotesIn m.sw t.names o t.lower) (word-named m.sw w heap there) t.lower_is) t.upper_is) in
       let id = k.it.id in
       let same = vector-named m.sw objects t.names w id t.lower heap t.held.world k.it.denotes t.lower_is in
       let e : Config = record c { nums = n.0; refs = t.rest } in

@@ -30,8 +30,6 @@ use Rattle.machine_state.specs.Stepped.{Does, KeepsSize, Takes}
 use Rattle.machine_state.specs.inside.Taking.{TakesRef}
 use Rattle.machine_state.specs.Holding.{HeldIn}
 use Rattle.machine_values.specs.Giving.{failed_of, failed_in, IsNaming, structures, vectors}
-use Rattle.machine_state.specs.known_vectors.Known.{AllLast}
-use Rattle.machine_state.proofs.of_known_vectors.Lasting.{all-same, last-new}
 use Rattle.machine_state.proofs.Carrying.{held-more, size-behind}
 use Rattle.machine_values.proofs.Carrying.{fails-push}
 
@@ -82,8 +80,8 @@ module _ (line : Line) (m : Machine) (heap : IsHeap m.sw) (here : area.Heap) (na
         let counted = h.counted in
         let top = text.carries.top in
         let store = and_text made.0 c.store in
-        let now = held-more here m.sw names names (text_weight made.0) m c store heap text.carries (all-same c.store.heap) h text.world (omega (arith, counted, top)) refl refl in (
-          size-behind r here m.sw new.sw text.carries.size push.size,
+        let now = held-more here m.sw names names (text_weight made.0) m c store heap text.carries h text.world (omega (arith, counted, top)) refl refl in (
+          size-behind r here m.sw new.sw text.carries.lasts.size push.size,
           subst (λ (a : Attempt (List ℕ)). Does (attempted line a (λ bytes. make_text bytes c)) r new) (sym made.1) (push.does names (Text made.0) (record c { store = store }) now text.denotes),
         )
 
@@ -94,8 +92,8 @@ module _ (line : Line) (m : Machine) (heap : IsHeap m.sw) (here : area.Heap) (na
         let counted = h.counted in
         let top = it.carries.top in
         let store = and_object made.0 c.store in
-        let now = held-more here m.sw names it.more (own_weight made.0) m c store heap it.carries (last-new c.store.heap made.0) h it.world (omega (arith, counted, top)) refl refl in (
-          size-behind r here m.sw new.sw it.carries.size push.size,
+        let now = held-more here m.sw names it.more (own_weight made.0) m c store heap it.carries h it.world (omega (arith, counted, top)) refl refl in (
+          size-behind r here m.sw new.sw it.carries.lasts.size push.size,
           subst (λ (a : Attempt Object). Does (attempted line a (λ object. make denoting object c)) r new) (sym made.1) (push.does it.more (denoting (new_number c.store.heap)) (record c { store = store }) now it.denotes),
         )
 
@@ -108,8 +106,8 @@ module _ (line : Line) (m : Machine) (heap : IsHeap m.sw) (here : area.Heap) (na
         let counted = h.counted in
         let top = stands.carries.top in
         let same = is got.0 got.2.0 got.2.1 in
-        let now = held-more here m.sw names names 0 m c c.store heap stands.carries (all-same c.store.heap) h stands.world (omega (arith, counted, top)) refl refl in (
-          size-behind r here m.sw new.sw stands.carries.size push.size,
+        let now = held-more here m.sw names names 0 m c c.store heap stands.carries h stands.world (omega (arith, counted, top)) refl refl in (
+          size-behind r here m.sw new.sw stands.carries.lasts.size push.size,
           subst (λ (a : Attempt Value). Does (attempted line a (λ w. when_number (Some f) (push_num (word_of w) c))) r new) (sym got.1)
               (subst (λ (s : Step). Does s r new) (sym (same.1 (push_num (word_of got.0) c) ∙ ap (λ (x : ℤ). push_num x c) same.0)) (push.does c (record { names = names; held = now }))),
         )
@@ -121,8 +119,8 @@ module _ (line : Line) (m : Machine) (heap : IsHeap m.sw) (here : area.Heap) (na
         let counted = h.counted in
         let top = stands.carries.top in
         let same : z ≡ wanted = got.2 ∙ (let e : Yields got.0 ≡ Yields wanted = sym got.1 in cc) in
-        let now = held-more here m.sw names names 0 m c c.store heap stands.carries (all-same c.store.heap) h stands.world (omega (arith, counted, top)) refl refl in (
-          size-behind r here m.sw new.sw stands.carries.size push.size,
+        let now = held-more here m.sw names names 0 m c c.store heap stands.carries h stands.world (omega (arith, counted, top)) refl refl in (
+          size-behind r here m.sw new.sw stands.carries.lasts.size push.size,
           subst (λ (x : ℤ). Does (push_num x c) r new) same (push.does c (record { names = names; held = now })),
         )
 
@@ -134,8 +132,8 @@ module _ (line : Line) (m : Machine) (heap : IsHeap m.sw) (here : area.Heap) (na
         let stands = got.3 in
         let counted = h.counted in
         let top = stands.carries.top in
-        let now = held-more here m.sw names names 0 m c c.store heap stands.carries (all-same c.store.heap) h stands.world (omega (arith, counted, top)) refl refl in (
-          size-behind r here m.sw new.sw stands.carries.size push.size,
+        let now = held-more here m.sw names names 0 m c c.store heap stands.carries h stands.world (omega (arith, counted, top)) refl refl in (
+          size-behind r here m.sw new.sw stands.carries.lasts.size push.size,
           subst (λ (a : Attempt Value). Does (attempted line a (λ w. when_reference (Some f) (push_ref w c))) r new) (sym got.1)
               (subst (λ (s : Step). Does s r new) (sym (referred f to got.2.0 (push_ref got.0 c))) (push.does names got.0 c now got.2.1)),
         )
@@ -167,14 +165,14 @@ module _ (line : Line) (m : Machine) (heap : IsHeap m.sw) (here : area.Heap) (na
       of form.Reference (held.Flag b) other is = absurd is
 
   -- what was written
-  pub written : (attempt : Attempt Heap) (unit : Unit {0}) → ((of : Heap) → attempt ≡ Yields of → AllLast c.store.heap of) → Writes here m.sw names attempt (Ok unit) → KeepsSize Quiet here m.sw × Does (attempted line attempt (λ heap. changed heap c)) Quiet m
-  written attempt unit last did =
+  pub written : (attempt : Attempt Heap) (unit : Unit {0}) → Writes here m.sw names attempt (Ok unit) → KeepsSize Quiet here m.sw × Does (attempted line attempt (λ heap. changed heap c)) Quiet m
+  written attempt unit did =
       let stands = did.2 in
       let counted = h.counted in
       let top = stands.carries.top in
       let store = on_heap did.0 c.store in
-      let now = held-more here m.sw names names 0 m c store heap stands.carries (last did.0 did.1) h stands.world (omega (arith, counted, top)) refl refl in
-      (stands.carries.size, ([], record c { store = store }, ap (λ (a : Attempt Heap). attempted line a (λ heap. changed heap c)) did.1, refl, record { names = names; held = now }))
+      let now = held-more here m.sw names names 0 m c store heap stands.carries h stands.world (omega (arith, counted, top)) refl refl in
+      (stands.carries.lasts.size, ([], record c { store = store }, ap (λ (a : Attempt Heap). attempted line a (λ heap. changed heap c)) did.1, refl, record { names = names; held = now }))
 
   -- an operation that failed
   pub text-fails : (fault : OpFault) (full : Bool) (attempt : Attempt (List ℕ)) → (full ≡ true → frame_words ≤ length m.refs.own) → (full ≡ false → length m.refs.own < frame_words)

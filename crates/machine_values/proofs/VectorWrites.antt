@@ -24,9 +24,8 @@ use Rattle.machine_state.specs.paired_ops.World.{IsWorld, DenotesIn, Answers, Wr
 use Rattle.machine_state.specs.paired_ops.Operands.{IsForIn, IsOfForm, form_in}
 use Rattle.machine_state.specs.known_vectors.declared.known.KnownVector.{KnownVector}
 use Rattle.machine_state.specs.known_vectors.declared.known.KnownVectors.{KnownVectors}
-use Rattle.machine_state.specs.known_vectors.Known.{IsKnownAs, IsThere, IsRight, Finds}
+use Rattle.machine_state.specs.known_vectors.Known.{IsOf, Finds}
 use Rattle.machine_state.specs.known_vectors.Known.{AreSo as AreKnown}
-use Rattle.machine_state.proofs.of_known_vectors.Lasting.{last-element}
 use Rattle.machine_state.specs.declared.machine.Machine.{Machine}
 use Rattle.machine_state.specs.declared.stepped.Stepped.{Stepped}
 use Rattle.machine_state.specs.declared.stepped.Stepped.TheVariants.{Quiet, Turns, Writes as Telling, Halts, Breaks, Damaged}
@@ -40,7 +39,7 @@ use Rattle.machine_state.proofs.Carrying.{read-holds, sound-kept, size-behind}
 use Rattle.machine_values.proofs.Ending.{Comes, denoted-there, vector-type}
 
 -- What a vector was found to be that was popped.
-with-vectors : (m : Machine) (vectors : KnownVectors) (names : List Reference) (c : Config) → AreKnown m.sw c.store.heap names vectors.entries.items → HeldBy names m c
+with-vectors : (m : Machine) (vectors : KnownVectors) (names : List Reference) (c : Config) → AreKnown m.sw vectors.entries.items → HeldBy names m c
     → HeldBy names (record m { vectors = vectors }) c
 with-vectors m vectors names c so h = record {
   unit_is = h.unit_is;
@@ -64,7 +63,7 @@ with-vectors m vectors names c so h = record {
 
 module _ (old mid : Machine) (now : area.Heap) (vectors : KnownVectors) (vector : ℕ) (found : Result KnownVector OpFault) (q : PopsVector old mid (Some vector)) (heap : IsHeap now)
     (did : (of : Heap) (names : List Reference) (id : ℕ) → IsWorld mid.sw of names → DenotesIn mid.sw names (Some vector) (Vector id)
-    → AreKnown mid.sw of names mid.vectors.entries.items → Finds mid.sw now of names id vector vectors.entries.items found) where
+    → Finds mid.sw now of names id found) where
   abbrev new : Machine
   new = record mid { sw = now; vectors = vectors }
 
@@ -80,36 +79,32 @@ module _ (old mid : Machine) (now : area.Heap) (vectors : KnownVectors) (vector 
     waiting = s.waiting;
   }
 
-  known-given : (known : KnownVector) → found ≡ Ok known → (names : List Reference) (c : Config) → HeldBy names old c → GivesKnown names c (Some known) old new
-  known-given known is names c h =
-      let v = q.gives names c h in
-      let of = v.0.store.heap in
-      let a = subst (Finds mid.sw now of names v.1 vector vectors.entries.items) is (did of names v.1 v.5.world v.6 v.5.known_are) in
-      let same : form_in of v.1 ≡ known.form = ap (λ (o : Option Object). element_of (type_in o)) a.1.means ∙ sym a.1.form in
-      let typed : element_of v.2 ≡ known.form = ap element_of (sym (vector-type of v.1 v.2 v.4)) ∙ same in (
-        v.0,
-        v.1,
-        v.2,
-        v.3,
-        with-vectors (record mid { sw = now }) vectors names v.0 a.3 (read-holds mid now names v.0 heap v.5 a.2),
-        subst (λ (n : ℕ). DenotesIn now names (Some n) (Vector v.1)) (sym a.0) (a.2.carries.values (Some vector) (Vector v.1) v.6),
-        typed,
-        same,
-        a.2.carries.size ∙ ap (λ (x : area.Heap). x.size) q.area,
-        (λ to w d. a.2.carries.values to w (denoted-there old.sw mid.sw names to w q.area d)),
-        a.1,
-      )
+  module _ (known : KnownVector) (is : found ≡ Ok known) (known_is : IsOf now vector known) (so : AreKnown now vectors.entries.items) where
+    known-given : (names : List Reference) (c : Config) → HeldBy names old c → GivesKnown names c (Some known) old new
+    known-given names c h =
+        let v = q.gives names c h in
+        let of = v.0.store.heap in
+        let a = subst (Finds mid.sw now of names v.1) is (did of names v.1 v.5.world v.6) in
+        let same : form_in of v.1 ≡ known.form = ap (λ (o : Option Object). element_of (type_in o)) a.0.means ∙ sym a.0.form in
+        let typed : element_of v.2 ≡ known.form = ap element_of (sym (vector-type of v.1 v.2 v.4)) ∙ same in (
+          v.0,
+          v.1,
+          v.2,
+          v.3,
+          with-vectors (record mid { sw = now }) vectors names v.0 so (read-holds mid now names v.0 heap v.5 a.1),
+          subst (λ (n : ℕ). DenotesIn now names (Some n) (Vector v.1)) (sym known_is.0) (a.1.carries.values (Some vector) (Vector v.1) v.6),
+          typed,
+          same,
+          a.1.carries.lasts.size ∙ ap (λ (x : area.Heap). x.size) q.area,
+          (λ to w d. a.1.carries.values to w (denoted-there old.sw mid.sw names to w q.area d)),
+          a.0,
+        )
 
-  pub known-popped : (known : KnownVector) → found ≡ Ok known → PopsKnown old new (Some known)
-  known-popped known is = record { sound = new-sound; gives = known-given known is }
+    pub known-popped : PopsKnown old new (Some known)
+    known-popped = record { sound = new-sound; gives = known-given }
 
-  pub known-holding : (known : KnownVector) → found ≡ Ok known → IsHolding old → IsHolding new
-  known-holding known is h = let v = known-given known is h.1.names h.0 h.1.held in (v.0, record { names = h.1.names; held = v.4 })
-
-  pub known-right : (known : KnownVector) → found ≡ Ok known → IsHolding old → IsRight now known
-  known-right known is h =
-      let v = known-given known is h.1.names h.0 h.1.held in
-      record { of = v.0.store.heap; names = h.1.names; world = v.4.world; so = record { id = v.1; denotes = v.5; is = v.10 } }
+    pub known-holding : IsHolding old → IsHolding new
+    known-holding h = let v = known-given h.1.names h.0 h.1.held in (v.0, record { names = h.1.names; held = v.4 })
 
   pub unknown : (fault : OpFault) → found ≡ Err fault → PopsKnown old new None
   unknown fault is = record {
@@ -117,14 +112,12 @@ module _ (old mid : Machine) (now : area.Heap) (vectors : KnownVectors) (vector 
     gives = λ names c h.
         let v = q.gives names c h in
         let of = v.0.store.heap in
-        absurd (subst (Finds mid.sw now of names v.1 vector vectors.entries.items) is (did of names v.1 v.5.world v.6 v.5.known_are));
+        absurd (subst (Finds mid.sw now of names v.1) is (did of names v.1 v.5.world v.6));
   }
 
--- a vector that was popped is there
-pub popped-there : (old mid : Machine) (vector : ℕ) → PopsVector old mid (Some vector) → IsHolding old → IsThere mid.sw vector mid.vectors.entries.items
-popped-there old mid vector q h =
-    let v = q.gives h.1.names h.0 h.1.held in
-    record { of = v.0.store.heap; names = h.1.names; id = v.1; world = v.5.world; denotes = v.6; so = v.5.known_are }
+-- what is known is so where a vector was popped
+pub popped-so : (old mid : Machine) (vector : ℕ) → PopsVector old mid (Some vector) → IsHolding old → AreKnown mid.sw mid.vectors.entries.items
+popped-so old mid vector q h = (q.gives h.1.names h.0 h.1.held).5.known_are
 
 -- after parts that kept the area's size
 pub comes-sized : (r : Stepped) (here mid : area.Heap) (new : Machine) (s t : Step) → mid.size ≡ here.size → s ≡ t → Comes r mid new t
@@ -202,13 +195,12 @@ module _ (line : Line) (kept : Form → Value) (when : Form → Step → Step) (
   -- An element was written.
   module _ (now : area.Heap) (to : code.Value) (done : Result (Unit {0}) OpFault) (denotes : IsForIn last.sw names to (kept known.form))
       (did : (of : Heap) (names : List Reference) (id : ℕ) (v : Value) → IsWorld last.sw of names → DenotesIn last.sw names (Some known.vector) (Vector id)
-      → IsKnownAs of id known → IsForIn last.sw names to v
+      → IsForIn last.sw names to v
       → Writes last.sw now names (with_element of (Vector id) place v) done) where
-    wrote : (d : Config) (id : ℕ) → HeldBy names last d → DenotesIn last.sw names (Some known.vector) (Vector id) → IsKnownAs d.store.heap id known
-        → Writes last.sw now names (with_element d.store.heap (Vector id) at (kept known.form)) done
-    wrote d id held there is =
+    wrote : (d : Config) (id : ℕ) → HeldBy names last d → DenotesIn last.sw names (Some known.vector) (Vector id) → Writes last.sw now names (with_element d.store.heap (Vector id) at (kept known.form)) done
+    wrote d id held there =
         subst (λ (n : ℤ). Writes last.sw now names (with_element d.store.heap (Vector id) n (kept known.form)) done) same
-        (did d.store.heap names id (kept known.form) held.world there is denotes)
+        (did d.store.heap names id (kept known.form) held.world there denotes)
 
     pub element-written : (new : Machine) (r : Stepped) → ((s : Step) → when known.form s ≡ s) → Changes line (record last { sw = now }) new r done
         → Comes r mid.sw new (element-set line kept when c)
@@ -223,13 +215,13 @@ module _ (line : Line) (kept : Form → Value) (when : Form → Step → Step) (
         ∙ v.3 (λ ty w e. attempted line (with_element e.store.heap w at (kept (element_of ty))) (λ of. when (element_of ty) (changed of e)))
         ∙ ap (λ (k : Form). attempted line (with_element heap (Vector v.1) at (kept k)) (λ of. when k (changed of v.0))) v.6
         ∙ attempted-same line a (λ of. when known.form (changed of v.0)) (λ of. changed of v.0) (λ of. fits (changed of v.0)))
-        (give.does last.sw names v.0 a v.4 (λ of done. last-element heap of (Vector v.1) (kept known.form) at done) (wrote v.0 v.1 v.4 v.5 v.10))
+        (give.does last.sw names v.0 a v.4 (wrote v.0 v.1 v.4 v.5))
 
   -- The elements are of the other row, and the subscript was looked for alone.
   pub element-missed : (is : Heap → List Reference → ℕ → code.Value → Value → Type 0) (now : area.Heap) (new : Machine)
       (got : Result code.Value OpFault) (r : Stepped) → ((s : Step) → when known.form s ≡ Stuck) → r ≡ trap_in got → new ≡ trapped_in line got (record last { sw = now })
       → ((of : Heap) (names : List Reference) (id : ℕ) → IsWorld last.sw of names → DenotesIn last.sw names (Some known.vector) (Vector id)
-      → IsKnownAs of id known → Answers last.sw now (is of names id) of names (element_at of (Vector id) place) got)
+      → Answers last.sw now (is of names id) of names (element_at of (Vector id) place) got)
       → Comes r mid.sw new (element-set line kept when c)
   element-missed is now new got r misfits trap left did =
       let y = t.gives names c h in
@@ -237,7 +229,7 @@ module _ (line : Line) (kept : Form → Value) (when : Form → Step → Step) (
       let heap = v.0.store.heap in
       let looked = element_at heap (Vector v.1) at in
       let told = subst (λ (n : ℤ). Answers last.sw now (is heap names v.1) heap names (element_at heap (Vector v.1) n) got) same
-      (did heap names v.1 v.4.world v.5 v.10) in
+      (did heap names v.1 v.4.world v.5) in
       comes-sized r mid.sw last.sw new (element-set line kept when c) (attempted line looked (λ w. Stuck)) size
       (y.1 (λ i d. pop_vector d (λ ty w e. attempted line (with_element e.store.heap w i (kept (element_of ty)))
       (λ of. when (element_of ty) (changed of e))))

@@ -20,7 +20,6 @@ use Rattle.machine_state.specs.declared.machine.Machine.{Machine}
 use Rattle.machine_state.specs.declared.stepped.Stepped.{Stepped}
 use Rattle.machine_state.specs.declared.stepped.Stepped.TheVariants.{Halts, Breaks, Damaged}
 use Rattle.machine_state.specs.declared.run_end.RunEnd.TheVariants as in_code
-use Rattle.machine_state.specs.known_vectors.Known.{AllLast}
 use Rattle.machine_state.specs.Holding.{HeldIn, IsSound}
 use Rattle.machine_state.specs.Stepped.{Does, KeepsSize, ended}
 
@@ -73,4 +72,4 @@ module _ (line : Line) (old new : Machine) (answer : Stepped) where
   pub record Changes (done : Result (Unit {0}) OpFault) : Type 0 where
     pub sound : IsSound new
     pub does : (here : area.Heap) (names : List Reference) (c : Config) (attempt : Attempt Heap) → HeldIn here names old c
-        → ((of : Heap) → attempt ≡ Yields of → AllLast c.store.heap of) → Writes here old.sw names attempt done → KeepsSize answer here new.sw × Does (attempted line attempt (λ heap. changed heap c)) answer new
+        → Writes here old.sw names attempt done → KeepsSize answer here new.sw × Does (attempted line attempt (λ heap. changed heap c)) answer new

@@ -1,9 +1,9 @@
 ghost use Rattle.std.specs.Prelude.{IfSome, OnSome, Some};
 ghost use Rattle.machine_state.specs.obj_layout.declared.kind.Kind.TheVariants.{Text};
+ghost use Rattle.machine_state.specs.swizzle.Heap.{IsHeld};
 ghost use Rattle.machine_state.specs.swizzle.Reading.{LeavesOutside};
 ghost use Rattle.machine_state.specs.swizzle.Text.{text_at};
 ghost use Rattle.machine_state.specs.heap_ops.Structures.{IsNamed};
-ghost use Rattle.machine_state.specs.known_classes.Reading.{IsThere};
 ghost use Rattle.machine_state.specs.Holding.{IsHolding, IsSound};
 ghost use Rattle.machine_values.specs.Constants.{ReadsConstant, FindsField, KnowsField, MeetsField};
 ghost use Rattle.machine_values.specs.Popping.{IsKind};
@@ -130,7 +130,7 @@ fn meet(m: &mut Machine, known: KnownField, below: usize) -> KnownField
 #[inline(always)]
 fn named_below(m: &Machine, below: usize) -> Option<u32>
     requires { IsHolding m.now }
-    ensures { IfSome result (λ at. IsThere m.now.sw (Some at)) }
+    ensures { IfSome result (IsHeld m.now.sw) }
 {
     let count = m.refs.len();
     if count <= below {

@@ -1,7 +1,7 @@
 //! Vectors that are popped with what they are known to be.
 ghost use Rattle.std.specs.Prelude.{IfSome, OnSome};
 ghost use Rattle.machine_state.specs.swizzle.Reading.{LeavesOutside};
-ghost use Rattle.machine_state.specs.known_vectors.Known.{IsRight};
+ghost use Rattle.machine_state.specs.known_vectors.Known.{IsSo};
 ghost use Rattle.machine_state.specs.Holding.{IsHolding, IsSound};
 ghost use Rattle.machine_values.specs.Elements.{PopsKnown};
 
@@ -18,7 +18,7 @@ pub fn pop_known<V: Vault>(m: &mut Machine, vault: &mut V) -> Option<KnownVector
     requires alive { V.alive vault.old }
     ensures pops { PopsKnown m.old m.new result }
     ensures holding { OnSome result (IsHolding m.new) }
-    ensures right { IfSome result (IsRight m.new.sw) }
+    ensures so { IfSome result (IsSo m.new.sw) }
     ensures leaves { LeavesOutside (V.outside vault.old) (V.outside vault.new) }
     ensures alive { OnSome result (V.alive vault.new) }
 {

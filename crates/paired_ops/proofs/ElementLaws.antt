@@ -48,6 +48,7 @@ use Rattle.paired_ops.proofs.ReadLaws.{VectorAt, first-text, Known, known-text, 
 use Rattle.paired_ops.proofs.ClassLaws.{as-slot, touched-known}
 use Rattle.paired_ops.proofs.FieldLaws.{kind-with, no-bytes}
 use Rattle.paired_ops.proofs.RewriteLaws.{rewritten, write-stands, for-carried}
+use Rattle.paired_ops.proofs.WrittenLaws.{written-lasts, element-behind}
 
 -- The type of a vector.
 
@@ -311,7 +312,8 @@ writes-element old new before after of names at id z y c e (Ok done) q h now w v
           ∙ ap (λ (o : Option ℕ). put_at of (Vector id) o e) p.place ∙ put-some old of names at id g.n e v,
       write-stands old mid new of names at id (shown_with mid (shown_at mid at) index c) object g.heap read stays.held
           (subst (λ (m : reference.Reference). paired names m id) (sym stays.name) v.pair)
-          (no-bytes (header_at mid at).kind kind.Vector seen.rows.kind_is (λ x. cc) (λ x. cc))
+          (written-lasts mid new at index c g.heap stays.held (no-bytes (header_at mid at).kind kind.Vector seen.rows.kind_is (λ x. cc) (λ x. cc))
+          (λ x. let bad : kind.Vector ≡ kind.Closure = sym seen.rows.kind_is ∙ x in cc) (λ x. element-behind (element_of v.ty) g.n c shaped) written)
           (kind-with mid (shown_at mid at) index c)
           (element-written mid (alone mid) (paired names) (shown_at mid at) v.ty v.low v.elements g.n c e seen p.below
           (form-stored mid names (element_of v.ty) c e shaped (for-carried old mid names names 0 c e read.carries for)))

@@ -35,6 +35,7 @@ use Rattle.paired_ops.proofs.FormLaws.{form-stored}
 use Rattle.paired_ops.proofs.ReadLaws.{StructureAt, structure-at, as-kept}
 use Rattle.paired_ops.proofs.ClassLaws.{field-at, class-is, class-known, other-class, no-fields_fault}
 use Rattle.paired_ops.proofs.RewriteLaws.{rewritten, write-stands, for-carried}
+use Rattle.paired_ops.proofs.WrittenLaws.{written-lasts}
 
 -- What is written to keeps its kind.
 pub kind-with : (here : area.Heap) (it : Shown) (index : ℕ) (c : code.Value) → (shown_with here it index c).kind ≡ it.kind
@@ -78,7 +79,8 @@ pointer-put old new before after of names at id text n l c v (Ok done) h now w s
       field-put of id text s.fields n v f.means,
       write-stands old mid new of names at id (shown_with mid (shown_at mid at) index c) object g.heap read stays.held
           (subst (λ (m : reference.Reference). paired names m id) (sym stays.name) s.pair)
-          (no-bytes (header_at mid at).kind kind.Structure seen.kind_is (λ e. cc) (λ e. cc))
+          (written-lasts mid new at index c g.heap stays.held (no-bytes (header_at mid at).kind kind.Structure seen.kind_is (λ e. cc) (λ e. cc))
+          (λ e. let bad : kind.Structure ≡ kind.Closure = sym seen.kind_is ∙ e in cc) (λ e. let bad : kind.Structure ≡ kind.Vector = sym seen.kind_is ∙ e in absurd (cc)) g.written)
           (kind-with mid (shown_at mid at) index c)
           (field-written mid (alone mid) (paired names) (shown_at mid at) text s.fields n l c v seen is stored)
           (rewritten mid new at index c g.heap stays.held g.written),

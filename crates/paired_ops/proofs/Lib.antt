@@ -1,3 +1,4 @@
+pub mod LastingLaws
 pub mod WorldLaws
 pub mod ValueLaws
 pub mod TextLaws
@@ -7,8 +8,10 @@ pub mod FormLaws
 pub mod MadeLaws
 pub mod ClassLaws
 pub mod RewriteLaws
+pub mod WrittenLaws
 pub mod FieldLaws
 pub mod ElementLaws
+pub mod StayingLaws
 pub use Rattle.text_ops.proofs.of_text_forms as of_text_forms
 pub use Rattle.text_ops.proofs.of_swizzle as of_swizzle
 pub use Rattle.heap_meaning.proofs.of_heap_places as of_heap_places

@@ -9,7 +9,6 @@ use Rattle.text_ops.specs.swizzle.Heap as area
 use Rattle.text_ops.specs.swizzle.Heap.{IsHeap, IsHeld, header_at, object_at, top_of, reference_to, is_assigned, flagged, with_mark}
 use Rattle.text_ops.specs.swizzle.Joint.{Shown, shown, shown_at, name_at, name_of}
 use Rattle.text_ops.specs.swizzle.Changes.{Within, ChangedAt}
-use Rattle.text_ops.specs.swizzle.Text.{HasBytes}
 use Rattle.text_ops.proofs.of_swizzle.ObjectLaws.{here, elsewhere}
 use Rattle.text_ops.proofs.of_swizzle.HeapLaws.{held-replaced, size-replaced}
 use Rattle.text_ops.proofs.of_swizzle.KeptLaws.{held_is}
@@ -25,8 +24,8 @@ use Rattle.heap_meaning.specs.Paired.{paired}
 use Rattle.heap_meaning.proofs.StandingLaws.{IsFixed, not-fixed, fixed-changed, kinds-changed, like-more}
 use Rattle.heap_meaning.proofs.PairedLaws.{row-written}
 use Rattle.heap_meaning.proofs.GivenLaws.{shown_with}
-use Rattle.heap_meaning.specs.proc_values.Loaded.{CodeStays}
-use Rattle.heap_meaning.proofs.of_proc_values.StayLaws.{code-other}
+use Rattle.paired_ops.specs.Lasting.{Lasts}
+use Rattle.paired_ops.proofs.LastingLaws.{lasts-then}
 use Rattle.paired_ops.specs.World.{alone, Carries, Stands}
 use Rattle.paired_ops.specs.Operands.{IsForIn}
 use Rattle.paired_ops.proofs.WorldLaws.{seen-at, seen-held, alone-one, Passes, carries-value, carries-scope}
@@ -112,10 +111,10 @@ rewritten mid new at index c h there e =
 
 -- The heap with another list of the assigned.
 
-relisted : area.Heap → List ℕ → area.Heap
+unfoldable pub relisted : area.Heap → List ℕ → area.Heap
 relisted heap assigned = record heap { assigned = assigned }
 
-as-relisted : (mid new : area.Heap) (at : ℕ) (it : Shown) → (r : Rewritten mid new at it)
+pub as-relisted : (mid new : area.Heap) (at : ℕ) (it : Shown) → (r : Rewritten mid new at it)
     → new ≡ relisted (area.with_object mid at r.object) new.assigned
 unfolding relisted
 as-relisted mid new at it r =
@@ -169,45 +168,11 @@ rewritten-names mid new at it there r j is =
       name-replaced mid at i r.object there r.like,
     )) j is)
 
-code-relisted : (mid put : area.Heap) (assigned : List ℕ) → CodeStays mid put → CodeStays mid (relisted put assigned)
-unfolding relisted
-code-relisted mid put assigned stays at there bytes =
-    let s = stays at there bytes in
-    record {
-      held = record { object = s.held.object; is = s.held.is };
-      name = s.name;
-      shown_as = s.shown_as;
-      flags = s.flags;
-      refs = s.refs;
-      nums = s.nums;
-    }
-
-pub rewritten-code : (mid new : area.Heap) (at : ℕ) (it : Shown) → IsHeld mid at → (HasBytes (header_at mid at).kind → ⊥)
-    → Rewritten mid new at it → CodeStays mid new
-rewritten-code mid new at it there none r =
-    subst (CodeStays mid) (sym (as-relisted mid new at it r))
-    (code-relisted mid (area.with_object mid at r.object) new.assigned (code-other mid at r.object there none r.like))
-
 pub rewritten-top : (mid new : area.Heap) (at : ℕ) (it : Shown) → IsHeld mid at → Rewritten mid new at it → top_of new ≡ top_of mid
 rewritten-top mid new at it there r =
     ap (λ (os : List area_objects.Object). 1 + size_of_all os) r.objects
     ∙ ap (λ (n : ℕ). 1 + n)
     (size-replaced 1 mid.objects at (object_at mid at) r.object (held_is mid at there) (like_long (object_at mid at) r.object r.like))
-
--- code that stays, and stays again
-code-then : (a b c : area.Heap) → CodeStays a b → CodeStays b c → CodeStays a c
-code-then a b c first second at there bytes =
-    let s = first at there bytes in
-    let t = second at s.held (subst HasBytes (sym (ap (λ (x : Shown). x.kind) s.shown_as)) bytes) in
-    record {
-      held = t.held;
-      name = t.name ∙ s.name;
-      shown_as = t.shown_as ∙ s.shown_as;
-      flags = t.flags ∙ s.flags;
-      refs = t.refs
-          ∙ s.refs;
-      nums = t.nums ∙ s.nums;
-    }
 
 -- what stands, and stands again
 pub stands-then : (a b c : area.Heap) (of now : Heap) (names : List reference.Reference) → Stands a b of names → Stands b c now names
@@ -217,18 +182,17 @@ stands-then a b c of now names s t = record {
   carries = record {
     values = λ to v d. t.carries.values to v (s.carries.values to v d);
     scopes = λ to scope d. t.carries.scopes to scope (s.carries.scopes to scope d);
-    code = code-then a b c s.carries.code t.carries.code;
-    size = t.carries.size ∙ s.carries.size;
+    lasts = lasts-then a b c s.carries.lasts t.carries.lasts;
     top = omega (arith, t.carries.top, s.carries.top);
   };
 }
 
 -- A write on both sides: the area stands for the heap with the other object.
 pub write-stands : (old mid new : area.Heap) (of : Heap) (names : List reference.Reference) (at id : ℕ) (it : Shown) (object : Object)
-    → IsHeap mid → Stands old mid of names → IsHeld mid at → paired names (name_at mid at) id → (HasBytes (header_at mid at).kind → ⊥)
+    → IsHeap mid → Stands old mid of names → IsHeld mid at → paired names (name_at mid at) id → Lasts mid new
     → it.kind ≡ (shown_at mid at).kind → standing.IsLike (alone mid) (paired names) it object → Rewritten mid new at it
     → Stands old new (with_object of id object) names
-write-stands old mid new of names at id it object h s there p none same like r =
+write-stands old mid new of names at id it object h s there p lasts same like r =
     let one = alone-one mid h in
     let seen = seen-held mid at there in
     let changed = rewritten-changed mid new at it h there r in
@@ -244,8 +208,7 @@ write-stands old mid new of names at id it object h s there p none same like r =
       carries = record {
         values = λ to v d. carries-value mid new names names to v passes (λ n i q. q) (s.carries.values to v d);
         scopes = λ to scope d. carries-scope mid new names names to scope passes (λ n i q. q) (s.carries.scopes to scope d);
-        code = code-then old mid new s.carries.code (rewritten-code mid new at it there none r);
-        size = r.size ∙ s.carries.size;
+        lasts = lasts-then old mid new s.carries.lasts lasts;
         top = ap (λ (n : ℕ). 8 * n) (rewritten-top mid new at it there r) ∙ s.carries.top;
       };
     }

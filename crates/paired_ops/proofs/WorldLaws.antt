@@ -16,8 +16,8 @@ use Rattle.heap_meaning.specs.Standing.{IsOne}
 use Rattle.heap_meaning.specs.Paired.{paired}
 use Rattle.heap_meaning.proofs.StandingLaws.{Fixed, Kinds, Pairs, stands-more, scope-more}
 use Rattle.heap_meaning.proofs.PairedLaws.{row-within}
-use Rattle.heap_meaning.proofs.of_proc_values.StayLaws.{keeps-code}
 use Rattle.paired_ops.specs.World.{IsWorld, alone, DenotesIn, DenotesScopeIn, Carries, Stands}
+use Rattle.paired_ops.proofs.LastingLaws.{keeps-lasts}
 
 -- What is seen of the area alone is an object there.
 pub seen-at : (here : area.Heap) (n : reference.Reference) (it : Shown) → alone here n it → InArea here n it
@@ -111,8 +111,7 @@ pub keeps-carries : (old new : area.Heap) (names more : List reference.Reference
 keeps-carries old new names more weight keeps pairs top = record {
   values = λ to v d. carries-value old new names more to v (keeps-passes old new keeps) pairs d;
   scopes = λ to scope d. carries-scope old new names more to scope (keeps-passes old new keeps) pairs d;
-  code = keeps-code old new keeps;
-  size = keeps.size;
+  lasts = keeps-lasts old new keeps;
   top = top;
 }
 

@@ -3,7 +3,11 @@ use Rattle.std.specs.Prelude.{◌≡◌, ℕ, ◌+◌, ◌*◌, ◌<◌, ◌≤�
 use Rattle.ps_base.specs.CodeUnit.{UnitView, ConstantView, text, literal, ConstantsView}
 use Rattle.text_ops.specs.obj_layout.declared.reference.Reference as reference
 use Rattle.text_ops.specs.swizzle.Heap as area
-use Rattle.text_ops.specs.swizzle.Heap.{top_of}
+use Rattle.text_ops.specs.obj_layout.declared.kind.Kind.TheVariants.{Code}
+use Rattle.text_ops.specs.swizzle.Heap.{IsHeld, header_at, top_of}
+use Rattle.text_ops.specs.swizzle.Joint.{shown_at}
+use Rattle.text_ops.specs.swizzle.Touch.{Denotes}
+use Rattle.heap_meaning.specs.heap_places.Shapes.{slot_of}
 use Rattle.text_ops.specs.swizzle.declared.fault.SwizzleFault.{SwizzleFault}
 use Rattle.text_ops.specs.swizzle.declared.fault.SwizzleFault.TheVariants.{AreaFull}
 use Rattle.heap_meaning.specs.proc_values.Units.{unit_words}
@@ -45,6 +49,12 @@ abbrev pub DenotesConstant : area.Heap → ℕ → ConstantView → Type 0
 DenotesConstant here at (text bytes) = IsConstant here at (text bytes)
     × ((names : List reference.Reference) → DenotesIn here names (Some at) (Text bytes))
 DenotesConstant here at (literal u) = IsConstant here at (literal u)
+
+-- A code object refers to this object as its constant of this number.
+pub record IsConstantAt (here : area.Heap) (code index at : ℕ) : Type 0 where
+  pub code_held : IsHeld here code
+  pub code_kind : (header_at here code).kind ≡ Code
+  pub denotes : Denotes here (Some at) (slot_of (shown_at here code) index)
 
 -- The constant of a number of a unit whose code object lies there; the code object is damaged exactly where the unit has no such constant.
 abbrev pub AnswersConstant : area.Heap → area.Heap → ℕ → ConstantsView → ℕ → Result ℕ SwizzleFault → Type 0

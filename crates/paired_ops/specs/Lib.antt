@@ -1,3 +1,4 @@
+pub mod Lasting
 pub mod World
 pub mod Operands
 pub mod Code

@@ -8,13 +8,13 @@ use Rattle.text_ops.specs.swizzle.declared.fault.SwizzleFault.{SwizzleFault}
 use Rattle.text_ops.specs.swizzle.declared.fault.SwizzleFault.TheVariants.{AreaFull}
 use Rattle.text_ops.specs.heap_texts.declared.fault.OpFault.{OpFault}
 use Rattle.text_ops.specs.heap_texts.declared.fault.OpFault.TheVariants as op
-use Rattle.heap_meaning.specs.proc_values.Loaded.{CodeStays}
 use Rattle.text_ops.specs.ps_meaning.Values.{Value, Text}
 use Rattle.text_ops.specs.ps_meaning.Texts.{Attempt, Yields, Fails}
 use Rattle.text_ops.specs.ps_meaning.Objects.{Heap, Object, with_new, new_number}
 use Rattle.text_ops.specs.ps_meaning.Weights.{own_weight, text_weight}
 use Rattle.heap_meaning.specs.Paired.{paired, StandsRow}
 use Rattle.heap_meaning.specs.Denoting.{DenotesValue, DenotesScope}
+use Rattle.paired_ops.specs.Lasting.{Lasts}
 
 -- what is seen of the area alone
 abbrev pub alone : area.Heap → reference.Reference → Shown → Type 0
@@ -37,12 +37,11 @@ abbrev pub AreWords : ℕ → ℕ → Type 0
 AreWords wanted weight = (8 * wanted ≡ weight) ⊎ ((wanted ≡ 2 ^ 32 - 1) × (8 * wanted ≤ weight))
 
 module _ (old new : area.Heap) where
-  -- What denoted a value or a scope denotes it still, code stays where it is, and the objects made have so many bytes.
+  -- What denoted a value or a scope denotes it still, objects last, and those made have so many bytes.
   pub record Carries (names more : List reference.Reference) (weight : ℕ) : Type 0 where
     pub values : (to : Option ℕ) (v : Value) → DenotesIn old names to v → DenotesIn new more to v
     pub scopes : (to scope : Option ℕ) → DenotesScopeIn old names to scope → DenotesScopeIn new more to scope
-    pub code : CodeStays old new
-    pub size : new.size ≡ old.size
+    pub lasts : Lasts old new
     pub top : 8 * top_of new ≡ 8 * top_of old + weight
 
   -- the area stands for this heap now, under the same names, and nothing was made

@@ -7,8 +7,9 @@ ghost use Rattle.text_ops.specs.swizzle.Heap.{IsHeld};
 ghost use Rattle.text_ops.specs.swizzle.Reading.{LeavesOutside};
 ghost use Rattle.heap_meaning.specs.proc_values.Loaded.{IsUnit};
 ghost use Rattle.text_ops.specs.ps_meaning.Objects as meaning;
+ghost use Rattle.paired_ops.specs.Lasting.{Lasts};
 ghost use Rattle.paired_ops.specs.World.{IsWorld, Stands};
-ghost use Rattle.paired_ops.specs.Code.{LoadsUnit, AnswersConstant};
+ghost use Rattle.paired_ops.specs.Code.{LoadsUnit, AnswersConstant, IsConstantAt};
 
 use heap_meaning::proc_values::load::load_unit;
 use heap_meaning::proc_values::reading;
@@ -44,6 +45,8 @@ pub fn constant<V: Vault>(
     ensures stands { (bytes : List ℕ) (constants : ConstantsView) (frame : Frame) → IsUnit sw.old code (unit bytes constants frame)
         → (of : meaning.Heap) (names : List Reference) → IsWorld sw.old of names → Stands sw.old sw.new of names }
     ensures held { IfOk result (IsHeld sw.new) }
+    ensures there { IfOk result (IsConstantAt sw.new code index) }
+    ensures lasts { OnOk result (Lasts sw.old sw.new) }
     ensures leaves { LeavesOutside (V.outside vault.old) (V.outside vault.new) }
     ensures alive { OnOk result (V.alive vault.new) }
 {

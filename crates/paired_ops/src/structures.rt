@@ -1,7 +1,7 @@
 //! The operators on structures.
-ghost use Rattle.std.specs.Prelude.{◌≡◌, ℕ, List, IfSome, Some};
+ghost use Rattle.std.specs.Prelude.{◌≡◌, ℕ, List, IfOk, IfSome, Some};
 ghost use Rattle.text_ops.specs.obj_layout.declared.reference.Reference.{Reference};
-ghost use Rattle.text_ops.specs.swizzle.Heap.{IsHeld, Stands as AllStand, header_at};
+ghost use Rattle.text_ops.specs.swizzle.Heap.{IsHeld, header_at};
 ghost use Rattle.text_ops.specs.swizzle.Reading.{LeavesOutside};
 ghost use Rattle.text_ops.specs.swizzle.Text.{text_at};
 ghost use Rattle.text_ops.specs.text_forms.Forms.{forms_of, located_in};
@@ -12,6 +12,7 @@ ghost use Rattle.heap_meaning.specs.heap_ops.Structures.{IsNamed};
 ghost use Rattle.text_ops.specs.ps_meaning.Objects as meaning;
 ghost use Rattle.text_ops.specs.ps_meaning.Texts.{Yields};
 ghost use Rattle.text_ops.specs.ps_meaning.Values as meant;
+ghost use Rattle.paired_ops.specs.Lasting.{Lasts};
 ghost use Rattle.paired_ops.specs.World.{IsWorld, DenotesIn, Answers, Writes, Makes};
 ghost use Rattle.paired_ops.specs.Operands.{IsForIn, IsOfForm, AreForIn};
 
@@ -32,7 +33,8 @@ pub fn make_structure(sw: &mut Swizzle, class: u32, fields: &[Value]) -> Result<
     ensures made { (of : meaning.Heap) (names : List Reference) (text : List ℕ) (values : List meant.Value) → IsWorld sw.old of names
         → DenotesIn sw.old names (Some class) (meant.Text text) → AreForIn sw.old names (forms_of text) fields.now values
         → Makes sw.old sw.new of names meant.Pointer (Yields (meaning.Structure text values)) result }
-    ensures stands { AllStand sw.old sw.new }
+    ensures held { IfOk result (IsHeld sw.new) }
+    ensures lasts { Lasts sw.old sw.new }
 {
     sw.sound();
     let made = structures::make_structure(sw, class, fields);
@@ -58,6 +60,7 @@ pub fn is_class<V: Vault>(
     ensures told { (of : meaning.Heap) (names : List Reference) (text : List ℕ) (o : meant.Value) → IsWorld sw.old of names
         → DenotesIn sw.old names (Some class) (meant.Text text) → DenotesIn sw.old names object o
         → Answers sw.old sw.new (λ is wanted. is ≡ wanted) of names (Yields (meaning.is_class of o text)) result }
+    ensures lasts { UnlessFault result (Lasts sw.old sw.new) }
     ensures leaves { LeavesOutside (V.outside vault.old) (V.outside vault.new) }
     ensures alive { UnlessFault result (V.alive vault.new) }
 {
@@ -94,6 +97,8 @@ pub fn get_field<V: Vault>(
     ensures got { (of : meaning.Heap) (names : List Reference) (text : List ℕ) (n : ℕ) (o : meant.Value) → IsWorld sw.old of names
         → DenotesIn sw.old names (Some class) (meant.Text text) → DenotesIn sw.old names object o → located_in (forms_of text) n ≡ Some located
         → Answers sw.old sw.new (λ c v. IsOfForm located.place.form c × IsForIn sw.new names c v) of names (meaning.field_of of o text n) result }
+    ensures near { IfOk result (IsNear sw.new) }
+    ensures lasts { UnlessFault result (Lasts sw.old sw.new) }
     ensures leaves { LeavesOutside (V.outside vault.old) (V.outside vault.new) }
     ensures alive { UnlessFault result (V.alive vault.new) }
 {
@@ -125,7 +130,7 @@ pub fn set_field<V: Vault>(
         → IsForIn sw.old names to v → Writes sw.old sw.new names (meaning.with_field of o text n v) result }
     ensures leaves { LeavesOutside (V.outside vault.old) (V.outside vault.new) }
     ensures alive { UnlessFault result (V.alive vault.new) }
-    ensures stands { UnlessFault result (AllStand sw.old sw.new) }
+    ensures lasts { UnlessFault result (Lasts sw.old sw.new) }
 {
     sw.sound();
     let set = structures::set_field(sw, vault, object, class, located, to);

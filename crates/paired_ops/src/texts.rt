@@ -1,11 +1,12 @@
 //! The operators on strings, over texts of the area.
-ghost use Rattle.std.specs.Prelude.{◌≡◌, ◌<◌, ◌^◌, List, length, ℕ, Some};
+ghost use Rattle.std.specs.Prelude.{◌≡◌, ◌<◌, ◌^◌, List, length, ℕ, Some, IfOk};
 ghost use Rattle.std.specs.Fmt.{signed_decimal};
 ghost use Rattle.text_ops.specs.obj_layout.declared.reference.Reference.{Reference};
 ghost use Rattle.text_ops.specs.swizzle.Heap.{IsHeld, header_at};
 ghost use Rattle.text_ops.specs.ps_meaning.Objects as meaning;
 ghost use Rattle.text_ops.specs.ps_meaning.Texts.{Yields, join_of, part_of, order_of};
 ghost use Rattle.text_ops.specs.ps_meaning.Values as meant;
+ghost use Rattle.paired_ops.specs.Lasting.{Lasts};
 ghost use Rattle.paired_ops.specs.World.{IsWorld, DenotesIn, MakesText};
 
 use std::cmp::Ordering;
@@ -22,9 +23,11 @@ pub fn join(sw: &mut Swizzle, a: u32, b: u32) -> Result<u32, OpFault>
     requires a_text { (header_at sw.old a).kind ≡ Kind.Text }
     requires b_held { IsHeld sw.old b }
     requires b_text { (header_at sw.old b).kind ≡ Kind.Text }
-    ensures { (of : meaning.Heap) (names : List Reference) (v w : List ℕ) → IsWorld sw.old of names
+    ensures made { (of : meaning.Heap) (names : List Reference) (v w : List ℕ) → IsWorld sw.old of names
         → DenotesIn sw.old names (Some a) (meant.Text v) → DenotesIn sw.old names (Some b) (meant.Text w)
         → MakesText sw.old sw.new of names (join_of v w) result }
+    ensures held { IfOk result (IsHeld sw.new) }
+    ensures lasts { Lasts sw.old sw.new }
 {
     sw.sound();
     let joined = operators::join(sw, a, b);
@@ -38,8 +41,10 @@ pub fn join(sw: &mut Swizzle, a: u32, b: u32) -> Result<u32, OpFault>
 pub fn part(sw: &mut Swizzle, text: u32, from: i32, count: i32) -> Result<u32, OpFault>
     requires held { IsHeld sw.old text }
     requires text { (header_at sw.old text).kind ≡ Kind.Text }
-    ensures { (of : meaning.Heap) (names : List Reference) (v : List ℕ) → IsWorld sw.old of names
+    ensures made { (of : meaning.Heap) (names : List Reference) (v : List ℕ) → IsWorld sw.old of names
         → DenotesIn sw.old names (Some text) (meant.Text v) → MakesText sw.old sw.new of names (part_of v from count) result }
+    ensures held { IfOk result (IsHeld sw.new) }
+    ensures lasts { Lasts sw.old sw.new }
 {
     sw.sound();
     let cut = operators::part(sw, text, from, count);
@@ -50,7 +55,9 @@ pub fn part(sw: &mut Swizzle, text: u32, from: i32, count: i32) -> Result<u32, O
 /// The shortest decimal text of an int, as a new text. AreaFull where there is no room for it; then the area stays.
 #[inline]
 pub fn int_text(sw: &mut Swizzle, value: i32) -> Result<u32, OpFault>
-    ensures { (of : meaning.Heap) (names : List Reference) → IsWorld sw.old of names → MakesText sw.old sw.new of names (Yields (signed_decimal value)) result }
+    ensures made { (of : meaning.Heap) (names : List Reference) → IsWorld sw.old of names → MakesText sw.old sw.new of names (Yields (signed_decimal value)) result }
+    ensures held { IfOk result (IsHeld sw.new) }
+    ensures lasts { Lasts sw.old sw.new }
 {
     sw.sound();
     match operators::int_text(sw, value) {

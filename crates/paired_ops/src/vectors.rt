@@ -1,7 +1,7 @@
 //! The operators on vectors.
-ghost use Rattle.std.specs.Prelude.{◌≡◌, ℕ, List, length, replicate, Some};
+ghost use Rattle.std.specs.Prelude.{◌≡◌, ℕ, List, length, replicate, IfOk, Some};
 ghost use Rattle.text_ops.specs.obj_layout.declared.reference.Reference.{Reference};
-ghost use Rattle.text_ops.specs.swizzle.Heap.{IsHeld, Stands as AllStand};
+ghost use Rattle.text_ops.specs.swizzle.Heap.{IsHeld};
 ghost use Rattle.text_ops.specs.swizzle.Reading.{LeavesOutside};
 ghost use Rattle.text_ops.specs.text_forms.Forms.{element_of};
 ghost use Rattle.heap_meaning.specs.heap_places.Places.{IsNear};
@@ -10,6 +10,7 @@ ghost use Rattle.heap_meaning.specs.heap_ops.Outcomes.{UnlessFault};
 ghost use Rattle.text_ops.specs.ps_meaning.Objects as meaning;
 ghost use Rattle.text_ops.specs.ps_meaning.Texts.{Yields};
 ghost use Rattle.text_ops.specs.ps_meaning.Values as meant;
+ghost use Rattle.paired_ops.specs.Lasting.{Lasts};
 ghost use Rattle.paired_ops.specs.World.{IsWorld, DenotesIn, Answers, Writes, Makes};
 ghost use Rattle.paired_ops.specs.Operands.{IsForIn, IsOfForm, AreForIn, form_in};
 
@@ -36,7 +37,8 @@ pub fn make_vector(
     ensures made { (of : meaning.Heap) (names : List Reference) (text : List ℕ) (v : meant.Value) → IsWorld sw.old of names
         → DenotesIn sw.old names (Some ty) (meant.Text text) → IsOfForm (element_of text) fill → IsForIn sw.old names fill v
         → Makes sw.old sw.new of names meant.Vector (meaning.filled_vector text low high v) result }
-    ensures stands { AllStand sw.old sw.new }
+    ensures held { IfOk result (IsHeld sw.new) }
+    ensures lasts { Lasts sw.old sw.new }
 {
     sw.sound();
     let made = vectors::make_vector(sw, ty, low, high, fill);
@@ -54,7 +56,8 @@ pub fn make_list(sw: &mut Swizzle, ty: u32, low: i32, items: &[Value]) -> Result
         → DenotesIn sw.old names (Some ty) (meant.Text text)
         → AreForIn sw.old names (replicate (length items.now) (element_of text)) items.now elements
         → Makes sw.old sw.new of names meant.Vector (meaning.vector_of text low elements) result }
-    ensures stands { AllStand sw.old sw.new }
+    ensures held { IfOk result (IsHeld sw.new) }
+    ensures lasts { Lasts sw.old sw.new }
 {
     sw.sound();
     let made = vectors::make_list(sw, ty, low, items);
@@ -70,6 +73,7 @@ pub fn form_of<V: Vault>(sw: &mut Swizzle, vault: &mut V, vector: u32) -> Result
     ensures told { (of : meaning.Heap) (names : List Reference) (id : ℕ) → IsWorld sw.old of names
         → DenotesIn sw.old names (Some vector) (meant.Vector id)
         → Answers sw.old sw.new (λ is wanted. is ≡ wanted) of names (Yields (form_in of id)) result }
+    ensures lasts { UnlessFault result (Lasts sw.old sw.new) }
     ensures leaves { LeavesOutside (V.outside vault.old) (V.outside vault.new) }
     ensures alive { UnlessFault result (V.alive vault.new) }
 {
@@ -90,6 +94,7 @@ pub fn low<V: Vault>(sw: &mut Swizzle, vault: &mut V, vector: u32) -> Result<i32
     ensures told { (of : meaning.Heap) (names : List Reference) (id : ℕ) → IsWorld sw.old of names
         → DenotesIn sw.old names (Some vector) (meant.Vector id)
         → Answers sw.old sw.new (λ z wanted. z ≡ wanted) of names (Yields (meaning.low_of of (meant.Vector id))) result }
+    ensures lasts { UnlessFault result (Lasts sw.old sw.new) }
     ensures leaves { LeavesOutside (V.outside vault.old) (V.outside vault.new) }
     ensures alive { UnlessFault result (V.alive vault.new) }
 {
@@ -110,6 +115,7 @@ pub fn high<V: Vault>(sw: &mut Swizzle, vault: &mut V, vector: u32) -> Result<i3
     ensures told { (of : meaning.Heap) (names : List Reference) (id : ℕ) → IsWorld sw.old of names
         → DenotesIn sw.old names (Some vector) (meant.Vector id)
         → Answers sw.old sw.new (λ z wanted. z ≡ wanted) of names (Yields (meaning.high_of of (meant.Vector id))) result }
+    ensures lasts { UnlessFault result (Lasts sw.old sw.new) }
     ensures leaves { LeavesOutside (V.outside vault.old) (V.outside vault.new) }
     ensures alive { UnlessFault result (V.alive vault.new) }
 {
@@ -135,6 +141,8 @@ pub fn get_element<V: Vault>(
     ensures got { (of : meaning.Heap) (names : List Reference) (id : ℕ) → IsWorld sw.old of names
         → DenotesIn sw.old names (Some vector) (meant.Vector id)
         → Answers sw.old sw.new (λ c v. IsOfForm (form_in of id) c × IsForIn sw.new names c v) of names (meaning.element_of of (meant.Vector id) at) result }
+    ensures near { IfOk result (IsNear sw.new) }
+    ensures lasts { UnlessFault result (Lasts sw.old sw.new) }
     ensures leaves { LeavesOutside (V.outside vault.old) (V.outside vault.new) }
     ensures alive { UnlessFault result (V.alive vault.new) }
 {
@@ -161,7 +169,7 @@ pub fn set_element<V: Vault>(
         → Writes sw.old sw.new names (meaning.with_element of (meant.Vector id) at v) result }
     ensures leaves { LeavesOutside (V.outside vault.old) (V.outside vault.new) }
     ensures alive { UnlessFault result (V.alive vault.new) }
-    ensures stands { UnlessFault result (AllStand sw.old sw.new) }
+    ensures lasts { UnlessFault result (Lasts sw.old sw.new) }
 {
     sw.sound();
     let set = vectors::set_element(sw, vault, vector, at, to);

@@ -1,6 +1,6 @@
 -- What is kept under the names of scopes: read, and written.
 use Rattle.std.proofs.Common.{ℤ, inl, inr, ◌≡◌, ℕ, ◌+◌, List, [], ◌∷◌, length, get_or, set, refl, sym, ap, ◌∙◌, subst, Bool, true, false, Option, Some, None, nat_eq, if◌then◌else◌}
-use Rattle.std.specs.Prelude.{Result, Ok, Err, OnOk}
+use Rattle.std.specs.Prelude.{Result, Ok, Err}
 use Rattle.paired_ops.specs.ps_outside.Outside.{Outside}
 use Rattle.paired_ops.specs.obj_layout.Kind.{kind_number}
 use Rattle.paired_ops.specs.obj_layout.Stored.{Space, damage}
@@ -10,7 +10,7 @@ use Rattle.paired_ops.specs.obj_layout.declared.reference.Reference as reference
 use Rattle.paired_ops.specs.obj_layout.declared.reference.Reference.TheVariants as name
 use Rattle.paired_ops.specs.swizzle.declared.fault.SwizzleFault.{SwizzleFault}
 use Rattle.paired_ops.specs.swizzle.Heap as area
-use Rattle.paired_ops.specs.swizzle.Heap.{IsHeap, IsHeld, header_at, reference_to, Stands as AllStand}
+use Rattle.paired_ops.specs.swizzle.Heap.{IsHeap, IsHeld, header_at, reference_to}
 use Rattle.paired_ops.specs.swizzle.Joint.{Shown, shown_at, name_at}
 use Rattle.paired_ops.specs.swizzle.Touch.{Keeps}
 use Rattle.paired_ops.specs.swizzle.Reading.{joint, LeavesOutside}
@@ -20,7 +20,6 @@ use Rattle.paired_ops.specs.text_forms.declared.forms.Located.{Located}
 use Rattle.paired_ops.specs.text_forms.Forms.{forms_of, form_in, before_in, rows_of, located_in, located_as}
 use Rattle.scopes.specs.heap_places.Shapes.{IsText, slot_of, word_in}
 use Rattle.scopes.specs.heap_places.Words.{flag_in, flag_word, word_damage}
-use Rattle.scopes.proofs.of_heap_places.PlaceLaws.{stands_then}
 use Rattle.scopes.specs.heap_places.Places.{Holds, NamesDamage, touched_by, fit_damage}
 use Rattle.scopes.specs.heap_places.declared.value.Value as code
 use Rattle.scopes.specs.heap_places.declared.value.Value.TheVariants as held
@@ -44,6 +43,7 @@ use Rattle.paired_ops.proofs.FormLaws.{int-back, holds-form, denoted-name}
 use Rattle.paired_ops.proofs.ClassLaws.{touched-known}
 use Rattle.paired_ops.proofs.FieldLaws.{kind-with, no-bytes}
 use Rattle.paired_ops.proofs.RewriteLaws.{rewritten, write-stands, stands-then, for-carried}
+use Rattle.paired_ops.proofs.WrittenLaws.{written-lasts}
 use Rattle.paired_procedures.specs.Scopes.{IsDamage, HasName, IsOfRow, IsInt, IsOut, ReadsKept, WritesKept}
 use Rattle.paired_procedures.proofs.ScopeLaws.{ScopeSeen, ScopeAt, scope-denoted, is-damage}
 
@@ -251,7 +251,8 @@ module _ (mid : area.Heap) (before : Outside Space) (of : Heap) (names : List re
         of_row = fitted-row f c t.stored t.fits;
         stands = write-stands mid t.mid new of names at id (shown_with t.mid (shown_at t.mid at) index t.stored) object t.heap read stays.held
             (subst (λ (m : reference.Reference). paired names m id) (sym stays.name) pair)
-            (no-bytes (header_at t.mid at).kind kind.Scope seen.kind_is (λ e. cc) (λ e. cc))
+            (written-lasts t.mid new at index t.stored t.heap stays.held (no-bytes (header_at t.mid at).kind kind.Scope seen.kind_is (λ e. cc) (λ e. cc))
+            (λ e. let bad : kind.Scope ≡ kind.Closure = sym seen.kind_is ∙ e in cc) (λ e. let bad : kind.Scope ≡ kind.Vector = sym seen.kind_is ∙ e in absurd (cc)) t.written)
             (kind-with t.mid (shown_at t.mid at) index t.stored)
             (subst (λ (k : ℕ). IsScope (alone t.mid) (paired names) (shown_with t.mid (shown_at t.mid at) k t.stored) s.text s.parent (set s.values which (kept_as (Some f) v))) (sym place)
             (scope-written t.mid (alone t.mid) (paired names) (shown_at t.mid at) s.text s.parent s.values which f t.stored (kept_as (Some f) v) seen a.form_is stored))
@@ -370,8 +371,3 @@ set-leaves mid new before after at which c (Err fault) g = g.0.outside
 pub out-carries : (old mid : area.Heap) (of : Heap) (names : List reference.Reference) (within : Option ℕ) (up at : ℕ) (c : code.Value) (v : Value)
     → IsOut old mid of names within up at → IsForIn old names c v → IsForIn mid names c v
 out-carries old mid of names within up at c v out for = for-carried old mid names names 0 c v out.stands.carries for
-
--- Headers that stay, and stay again.
-pub stand-then : (old mid new : area.Heap) → AllStand old mid → (result : Result (Unit {0}) SwizzleFault) → OnOk result (AllStand mid new) → OnOk result (AllStand old new)
-stand-then old mid new first (Ok done) second = stands_then old mid new first second
-stand-then old mid new first (Err fault) second = tt

@@ -1,4 +1,5 @@
 pub mod UnitLaws
+pub mod StayingLaws
 pub mod FrameLaws
 pub mod ProcedureLaws
 pub mod ScopeLaws

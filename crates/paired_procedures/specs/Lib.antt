@@ -1,6 +1,7 @@
 pub mod Units
 pub mod Scopes
 pub mod Procedures
+pub mod Closures
 pub use Rattle.paired_ops.specs.obj_layout as obj_layout
 pub use Rattle.paired_ops.specs.swizzle as swizzle
 pub use Rattle.paired_ops.specs.heap_texts as heap_texts

@@ -1,7 +1,7 @@
 //! Scopes: made, left, and their names read and written.
 ghost use Rattle.std.specs.Prelude.{◌≡◌, ℕ, List, Option, IfOk, IfSome, OnOk, Some};
 ghost use Rattle.paired_ops.specs.obj_layout.declared.reference.Reference.{Reference};
-ghost use Rattle.paired_ops.specs.swizzle.Heap.{IsHeld, Stands as AllStand, header_at};
+ghost use Rattle.paired_ops.specs.swizzle.Heap.{IsHeld, header_at};
 ghost use Rattle.paired_ops.specs.swizzle.Reading.{LeavesOutside};
 ghost use Rattle.paired_ops.specs.swizzle.Touch.{Keeps};
 ghost use Rattle.scopes.specs.heap_ops.Layouts.{AreSo};
@@ -10,6 +10,7 @@ ghost use Rattle.paired_ops.specs.ps_meaning.Objects as meaning;
 ghost use Rattle.paired_ops.specs.ps_meaning.Scopes.{new_scope};
 ghost use Rattle.paired_ops.specs.ps_meaning.Values as meant;
 ghost use Rattle.paired_ops.specs.Operands.{IsForIn};
+ghost use Rattle.paired_ops.specs.Lasting.{Lasts};
 ghost use Rattle.paired_ops.specs.World.{DenotesIn, DenotesScopeIn, IsWorld};
 ghost use Rattle.paired_procedures.specs.Scopes.{AnswersOut, AnswersParent, IsInt, MakesScope, ReadsKept, WritesKept};
 
@@ -31,7 +32,7 @@ pub fn make_scope(sw: &mut Swizzle, text: u32, parent: Option<u32>) -> Result<u3
         → DenotesIn sw.old names (Some text) (meant.Text bytes) → DenotesScopeIn sw.old names parent round
         → MakesScope sw.old sw.new of names (new_scope bytes round) result }
     ensures held { IfOk result (IsHeld sw.new) }
-    ensures stands { AllStand sw.old sw.new }
+    ensures lasts { Lasts sw.old sw.new }
 {
     sw.sound();
     let made = making::make_scope(sw, text, parent);
@@ -51,6 +52,7 @@ pub fn parent_of<V: Vault>(
     ensures told { (of : meaning.Heap) (names : List Reference) (within : Option ℕ) → IsWorld sw.old of names
         → DenotesScopeIn sw.old names (Some scope) within → AnswersParent sw.old sw.new of names within result }
     ensures held { IfOk result (λ to. IfSome to (IsHeld sw.new)) }
+    ensures lasts { OnOk result (Lasts sw.old sw.new) }
     ensures leaves { LeavesOutside (V.outside vault.old) (V.outside vault.new) }
     ensures alive { OnOk result (V.alive vault.new) }
 {
@@ -99,6 +101,8 @@ pub fn get_kept<V: Vault>(
     requires so { AreSo sw.old layouts.old.entries.items }
     ensures got { (of : meaning.Heap) (names : List Reference) (within : Option ℕ) → IsWorld sw.old of names
         → DenotesScopeIn sw.old names (Some scope) within → ReadsKept sw.old sw.new of names within up name result }
+    ensures near { IfOk result (IsNear sw.new) }
+    ensures lasts { OnOk result (Lasts sw.old sw.new) }
     ensures so { OnOk result (AreSo sw.new layouts.new.entries.items) }
     ensures leaves { LeavesOutside (V.outside vault.old) (V.outside vault.new) }
     ensures alive { OnOk result (V.alive vault.new) }
@@ -136,7 +140,7 @@ pub fn set_kept<V: Vault>(
     ensures so { OnOk result (AreSo sw.new layouts.new.entries.items) }
     ensures leaves { LeavesOutside (V.outside vault.old) (V.outside vault.new) }
     ensures alive { OnOk result (V.alive vault.new) }
-    ensures stands { OnOk result (AllStand sw.old sw.new) }
+    ensures lasts { OnOk result (Lasts sw.old sw.new) }
 {
     let at = match scope_out(sw, vault, scope, up) {
         Ok(at) => at,

@@ -7,6 +7,8 @@ ghost use Rattle.paired_ops.specs.proc_values.Loaded.{IsFitUnit, IsUnit};
 ghost use Rattle.paired_ops.specs.swizzle.Heap.{IsHeld, header_at};
 ghost use Rattle.paired_ops.specs.swizzle.Reading.{LeavesOutside};
 ghost use Rattle.paired_ops.specs.ps_meaning.Objects as meaning;
+ghost use Rattle.paired_ops.specs.Code.{IsConstantAt};
+ghost use Rattle.paired_ops.specs.Lasting.{Lasts};
 ghost use Rattle.paired_ops.specs.World.{IsWorld, Stands};
 ghost use Rattle.paired_procedures.specs.Units.{AnswersLiteral, AnswersText};
 
@@ -55,6 +57,9 @@ pub fn literal_of<V: Vault>(sw: &mut Swizzle, vault: &mut V, code: u32, index: u
     ensures stands { (bytes : List ℕ) (row : ConstantsView) (frame : Numbers) → IsUnit sw.old code (unit bytes row frame)
         → (of : meaning.Heap) (names : List Reference) → IsWorld sw.old of names → Stands sw.old sw.new of names }
     ensures held { IfSome result (IsHeld sw.new) }
+    ensures code { IfSome result (λ at. (header_at sw.new at).kind ≡ Kind.Code) }
+    ensures there { IfSome result (IsConstantAt sw.new code index) }
+    ensures lasts { OnSome result (Lasts sw.old sw.new) }
     ensures leaves { LeavesOutside (V.outside vault.old) (V.outside vault.new) }
     ensures alive { OnSome result (V.alive vault.new) }
 {
@@ -79,6 +84,8 @@ pub fn text_of<V: Vault>(sw: &mut Swizzle, vault: &mut V, code: u32, index: u32)
         → (of : meaning.Heap) (names : List Reference) → IsWorld sw.old of names → Stands sw.old sw.new of names }
     ensures held { IfSome result (IsHeld sw.new) }
     ensures text { IfSome result (λ at. (header_at sw.new at).kind ≡ Kind.Text) }
+    ensures there { IfSome result (IsConstantAt sw.new code index) }
+    ensures lasts { OnSome result (Lasts sw.old sw.new) }
     ensures leaves { LeavesOutside (V.outside vault.old) (V.outside vault.new) }
     ensures alive { OnSome result (V.alive vault.new) }
 {

@@ -74,7 +74,7 @@ module _ (u : UnitView) (turns : ℕ) (input : List ℕ) (old new : Machine) (mi
   own_frame = subst IsFrame frame_is (record { nums_fit = nums; refs_fit = refs })
 
   -- the machine begins
-  pub begins : (at : ℕ) → mid ≡ fresh_heap old.sw.size → code.IsLoaded mid new.sw u at → IsRight new.sw new.classes → AreLaid new.sw new.layouts.entries.items → AreKnown new.sw [] [] new.vectors.entries.items → AreCalled new.sw [] new.procedures.entries → IsRoomy new
+  pub begins : (at : ℕ) → mid ≡ fresh_heap old.sw.size → code.IsLoaded mid new.sw u at → IsRight new.sw new.classes → AreLaid new.sw new.layouts.entries.items → AreKnown new.sw new.vectors.entries.items → AreCalled new.sw [] new.procedures.entries → IsRoomy new
       → new.code ≡ at → IsUnitPlace at u new.place → new.at ≡ 0 → new.nums.own ≡ replicate new.frame.nums (pos 0) → new.refs.own ≡ replicate new.frame.refs 0 → new.turns ≡ turns
       → new.scope ≡ 0 → IsOrderly new.callers new.nums new.refs → new.callers.items ≡ [] → new.nums.below ≡ [] → new.refs.below ≡ [] → new.input ≡ input
       → IsLoaded u turns input old new

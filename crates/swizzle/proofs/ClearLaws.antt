@@ -42,7 +42,7 @@ unmarked-again a new rest places heap at w e kept l is written room =
     let word = lies-word_at a.area.words heap at 0 at w l.lies (omega arith) (omega arith) is in
     let odd = is_flag o l.flag in
     rewritten a new rest places heap at 0 at (w - 256) (unflagged o) e kept l.lies written (omega arith) (omega arith)
-    (clear_of_flag o w word (omega arith)) (IsFit-unflagged o l.lies.split.fit) refl refl
+    (clear_of_flag o w word (omega arith)) (IsFit-unflagged o l.lies.split.fit) refl refl refl
     (noted-unflagged heap.objects rest at o l.noted l.lies.is l.flag) room (inside_kept heap at l.lies.heap_is l.held)
 
 pub unmarked-step : (a : Inside) (heap new : Heap) (rest : List ℕ) (at : ℕ) → Last a heap rest at → new ≡ heap_with (replace_from 1 heap.objects at (unflagged (object_at heap at))) heap.size rest → IsUnmarked heap new

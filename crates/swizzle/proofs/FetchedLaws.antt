@@ -92,18 +92,15 @@ AreWords-drop (suc n) [] h k = omega arith
 AreWords-drop (suc n) (w ∷ ws) h k = AreWords-drop n ws (λ j. h (suc j)) k
 
 -- What is known of words that may come into the area.
-pub record Near (words : List ℕ) (header : Header) (pid : ℕ) : Type 0 where
-  pub words_are : object_words (near pid words) ≡ header_words (near_header pid header) ++ drop 4 words
-  pub header_is : (near pid words).header ≡ near_header pid header
-  pub fit : pid < 2 ^ 63 → IsFit (near pid words)
-  pub shown_as : (heap : Heap) → shown_words words ≡ shown (name_of heap) (near pid words)
-  pub inside : (heap : Heap) → IsInside heap (near pid words)
+pub record Near (words : List ℕ) (header : Header) (pid link : ℕ) : Type 0 where
+  pub words_are : object_words (near pid link words) ≡ header_words (near_header pid link header) ++ drop 4 words
+  pub header_is : (near pid link words).header ≡ near_header pid link header
+  pub fit : pid < 2 ^ 63 → link < 2 ^ 64 → IsFit (near pid link words)
+  pub shown_as : (heap : Heap) → shown_words words ≡ shown (name_of heap) (near pid link words)
+  pub inside : (heap : Heap) → IsInside heap (near pid link words)
 
-abbrev near_by : ℕ → Header → List Reference → List ℕ → Object
-near_by pid h refs nums = record { header = near_header pid h; refs = refs; nums = nums }
-
-same_near : (pid : ℕ) {h g : Header} (refs : List Reference) (nums : List ℕ) → h ≡ g → near_by pid h refs nums ≡ near_by pid g refs nums
-same_near pid {h} {g} refs nums e = ap (λ (x : Header). near_by pid x refs nums) e
+abbrev near_by : ℕ → ℕ → Header → List Reference → List ℕ → Object
+near_by pid link h refs nums = record { header = near_header pid link h; refs = refs; nums = nums }
 
 -- the header that words begin with
 pub header-spelled : (words : List ℕ) (header : Header) → HasFitFields header → take 4 words ≡ header_words header → header_in words ≡ header
@@ -120,9 +117,9 @@ refs_by words h = map reference_at (take h.refs (drop 4 words))
 abbrev nums_by : List ℕ → Header → List ℕ
 nums_by words h = take h.nums (drop (4 + h.refs) words)
 
-near_is : (words : List ℕ) (header : Header) (pid : ℕ) → IsFar words header → near pid words ≡ near_by pid header (refs_by words header) (nums_by words header)
+near_is : (words : List ℕ) (header : Header) (pid link : ℕ) → IsFar words header → near pid link words ≡ near_by pid link header (refs_by words header) (nums_by words header)
 unfolding near object_in
-near_is words header pid far = ap (λ (h : Header). near_by pid h (refs_by words h) (nums_by words h)) (far_header words header far)
+near_is words header pid link far = ap (λ (h : Header). near_by pid link h (refs_by words h) (nums_by words h)) (far_header words header far)
 
 object_is : (words : List ℕ) (header : Header) → IsFar words header → object_in words ≡ record { header = header; refs = refs_by words header; nums = nums_by words header }
 unfolding object_in
@@ -134,11 +131,11 @@ far_refs words header far k below =
     let read : slice_index (take header.refs (drop 4 words)) k ≡ slice_index words (4 + k) = get_or-take header.refs (drop 4 words) k 0 (omega arith) ∙ get_or-drop 4 words k 0 in
     subst IsFarWord (sym read) (far.refs k (omega arith))
 
-pub near_words : (words : List ℕ) (header : Header) (pid : ℕ) → IsFar words header → AreWords words → Near words header pid
-near_words words header pid far fit =
+pub near_words : (words : List ℕ) (header : Header) (pid link : ℕ) → IsFar words header → AreWords words → Near words header pid link
+near_words words header pid link far fit =
     let refs_words = take header.refs (drop 4 words) in
     let nums = nums_by words header in
-    let is = near_is words header pid far in
+    let is = near_is words header pid link far in
     let was = object_is words header far in
     let good = AreWords-take header.refs (drop 4 words) (AreWords-drop 4 words fit) in
     let far_ones = far_refs words header far in
@@ -146,13 +143,13 @@ near_words words header pid far fit =
     ap (λ (r : List ℕ). refs_words ++ take header.nums r) (sym (drop-drop header.refs 4 words))
     ∙ ap (λ (r : List ℕ). refs_words ++ r) (take_all header.nums (drop header.refs (drop 4 words)) (omega (arith, length-drop header.refs (drop 4 words), length-drop 4 words, far.long)))
     ∙ take-append-drop header.refs (drop 4 words) in
-    let built : object_words (near_by pid header (refs_by words header) nums) ≡ header_words (near_header pid header) ++ drop 4 words =
-    ap (λ (r : List ℕ). header_words (near_header pid header) ++ (r ++ nums)) (far_words refs_words far_ones good) ∙ ap (λ (r : List ℕ). header_words (near_header pid header) ++ r) split in
+    let built : object_words (near_by pid link header (refs_by words header) nums) ≡ header_words (near_header pid link header) ++ drop 4 words =
+    ap (λ (r : List ℕ). header_words (near_header pid link header) ++ (r ++ nums)) (far_words refs_words far_ones good) ∙ ap (λ (r : List ℕ). header_words (near_header pid link header) ++ r) split in
     record {
       words_are = ap object_words is ∙ built;
       header_is = ap (λ (o : Object). o.header) is;
-      fit = λ low. subst IsFit (sym is) (record {
-        fields = record { flags = omega arith; refs = far.fields.refs; nums = far.fields.nums; bytes = far.fields.bytes; pid = omega arith; chain = omega arith };
+      fit = λ low linked. subst IsFit (sym is) (record {
+        fields = record { flags = omega arith; refs = far.fields.refs; nums = far.fields.nums; bytes = far.fields.bytes; pid = omega arith; chain = linked };
         lengths = record { bytes = far.lengths.bytes; words = far.lengths.words };
         pid = low;
         refs = length-map refs_words reference_at ∙ length-take-le header.refs (drop 4 words) (omega (arith, length-drop 4 words, far.long));
@@ -180,44 +177,44 @@ local-place heap pid at some e =
     record { held = held; name = name-pid (header_at heap at) at (omega arith) ∙ ap (λ (p : ℕ). Pid p) pids }
 
 -- What a fetch did to the heap.
-pub record Came (old new : Heap) (pid : ℕ) (words : List ℕ) : Type 0 where
-  pub is : new ≡ with_new old (near pid words)
+pub record Came (old new : Heap) (pid link : ℕ) (words : List ℕ) : Type 0 where
+  pub is : new ≡ with_new old (near pid link words)
   pub header : Header
-  pub near_words : Near words header pid
+  pub near_words : Near words header pid link
   pub away : local_of old pid ≡ None
   pub good : IsHeap old
 
-near_pid : (pid : ℕ) (words : List ℕ) (header : Header) → Near words header pid → (near pid words).header.pid ≡ pid
-near_pid pid words header n = ap (λ (h : Header). h.pid) n.header_is
+near_pid : (pid link : ℕ) (words : List ℕ) (header : Header) → Near words header pid link → (near pid link words).header.pid ≡ pid
+near_pid pid link words header n = ap (λ (h : Header). h.pid) n.header_is
 
-pub came-place : (old new : Heap) (pid : ℕ) (words : List ℕ) → 1 ≤ pid → Came old new pid words → IsLocal new pid (top_of old)
-came-place old new pid words some c =
-    let o = near pid words in
-    let pids = near_pid pid words c.header c.near_words in
+pub came-place : (old new : Heap) (pid link : ℕ) (words : List ℕ) → 1 ≤ pid → Came old new pid link words → IsLocal new pid (top_of old)
+came-place old new pid link words some c =
+    let o = near pid link words in
+    let pids = near_pid pid link words c.header c.near_words in
     subst (λ (h : Heap). IsLocal h pid (top_of old)) (sym c.is) (record {
       held = held-top old o;
       name = ap (λ (x : Object). name_by x.header (top_of old)) (object-top old o) ∙ name-pid o.header (top_of old) (omega arith) ∙ ap (λ (p : ℕ). Pid p) pids;
     })
 
-pub came-keeps : (old new : Heap) (pid : ℕ) (words : List ℕ) → Came old new pid words → Keeps old new
-came-keeps old new pid words c = subst (Keeps old) (sym c.is) (keeps-new old (near pid words) c.good)
+pub came-keeps : (old new : Heap) (pid link : ℕ) (words : List ℕ) → Came old new pid link words → Keeps old new
+came-keeps old new pid link words c = subst (Keeps old) (sym c.is) (keeps-new old (near pid link words) c.good)
 
-pub came-touched : (old new : Heap) (pid : ℕ) (words : List ℕ) (holds holds_now : ℕ → List ℕ → Type 0) → 1 ≤ pid → Came old new pid words → ((list : List ℕ) → holds pid list → list ≡ words) → ((p : ℕ) (list : List ℕ) → holds_now p list ↔ holds p list) → Touched (Joint old holds) (Joint new holds_now) (Pid pid)
-came-touched old new pid words holds holds_now some c told same =
-    let o = near pid words in
-    let pids = near_pid pid words c.header c.near_words in
+pub came-touched : (old new : Heap) (pid link : ℕ) (words : List ℕ) (holds holds_now : ℕ → List ℕ → Type 0) → 1 ≤ pid → Came old new pid link words → ((list : List ℕ) → holds pid list → list ≡ words) → ((p : ℕ) (list : List ℕ) → holds_now p list ↔ holds p list) → Touched (Joint old holds) (Joint new holds_now) (Pid pid)
+came-touched old new pid link words holds holds_now some c told same =
+    let o = near pid link words in
+    let pids = near_pid pid link words c.header c.near_words in
     subst (λ (h : Heap). Touched (Joint old holds) (Joint h holds_now) (Pid pid)) (sym c.is)
     (joint-fetched old holds holds_now o pid c.good (c.near_words.inside old) some pids c.away same (λ list h. ap shown_words (told list h) ∙ c.near_words.shown_as old))
 
-pub near-pid : (pid : ℕ) (words : List ℕ) (header : Header) → Near words header pid → (near pid words).header.pid ≡ pid
-near-pid pid words header n = near_pid pid words header n
+pub near-pid : (pid link : ℕ) (words : List ℕ) (header : Header) → Near words header pid link → (near pid link words).header.pid ≡ pid
+near-pid pid link words header n = near_pid pid link words header n
 
-pub near-size : (pid : ℕ) (words : List ℕ) (header : Header) → Near words header pid → size_of (near pid words) ≡ object_length header
-near-size pid words header n = ap object_length n.header_is
+pub near-size : (pid link : ℕ) (words : List ℕ) (header : Header) → Near words header pid link → size_of (near pid link words) ≡ object_length header
+near-size pid link words header n = ap object_length n.header_is
 
 assigned_by : Header → Bool
 assigned_by h = h.flags % 2 == 1
 
-pub near-plain : (pid : ℕ) (words : List ℕ) (header : Header) → Near words header pid → is_assigned (near pid words) ≡ false
+pub near-plain : (pid link : ℕ) (words : List ℕ) (header : Header) → Near words header pid link → is_assigned (near pid link words) ≡ false
 unfolding assigned_by
-near-plain pid words header n = ap assigned_by n.header_is
+near-plain pid link words header n = ap assigned_by n.header_is

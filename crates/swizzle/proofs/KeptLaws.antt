@@ -13,11 +13,12 @@ use Rattle.obj_layout.specs.declared.header.Header.{Header}
 use Rattle.obj_area.specs.Area.{AreaView, IsGivenOut, with_word, fresh_area}
 use Rattle.swizzle.specs.Objects.{Object, HasRoomForBytes, size_of, object_words, IsFit, AreReferences, AreFit, words_of_all, size_of_all, objects_of, replace_from}
 use Rattle.swizzle.specs.Heap.{Heap, IsHeap, IsHeld, AreNoted, found, object_at, local_of, nothing, with_object, with_new, top_of, IsInside, is_assigned, flagged, unflagged, reference_to, blank, fresh_heap}
-use Rattle.swizzle.specs.Kept.{Beside, IsKept, IsMapped, heap_from, place_of, with_places}
+use Rattle.swizzle.specs.Mapped.{heap_from}
+use Rattle.swizzle.specs.Kept.{Beside, IsKept, IsMapped, with_places}
 use Rattle.swizzle.specs.View.{heap_of, beside_of, IsKeptIn}
 use Rattle.swizzle.specs.declared.swizzle.Swizzle.TheInside.{Inside}
 use Rattle.swizzle.proofs.HeapLaws.{IsHeap-replaced, IsHeap-new, room-objects}
-use Rattle.swizzle.proofs.PidLaws.{mapped-replaced}
+use Rattle.swizzle.proofs.ChainedLaws.{mapped-replaced, mapped-none}
 use Rattle.swizzle.proofs.NotedLaws.{noted-replaced, noted-new, noted-none, flag_is_not, marked-lt}
 use Rattle.swizzle.proofs.ObjectLaws.{words_of_all-append, objects_of-words, length-words_of_all, Split, split, word_of_object, set_of_object, size_of_all-append}
 
@@ -104,7 +105,7 @@ pub record Again (words : List ℕ) (size : ℕ) (assigned : List ℕ) (b : Besi
   pub kept : IsKept words size assigned b
   pub seen : heap_from words size assigned ≡ heap
 
-again : (os : List Object) (words : List ℕ) (size : ℕ) (assigned : List ℕ) (b : Beside) → words ≡ words_of_all os → IsHeap (heap_with os size assigned) → size ≤ 5 * b.places + 5 → IsMapped os size b → Again words size assigned b (heap_with os size assigned)
+pub again : (os : List Object) (words : List ℕ) (size : ℕ) (assigned : List ℕ) (b : Beside) → words ≡ words_of_all os → IsHeap (heap_with os size assigned) → size ≤ 5 * b.places + 5 → IsMapped os size b → Again words size assigned b (heap_with os size assigned)
 again os words size assigned b e h room pids = record {
   kept = kept_again os words size assigned b e h room pids;
   seen = seen_again os words size assigned h.fit e;
@@ -112,9 +113,9 @@ again os words size assigned b e h room pids = record {
 
 -- the words of an object are written anew, and the list of the assigned may change
 pub relaid : (a : Inside) (new : AreaView) (more : List ℕ) (places : ℕ) (heap : Heap) (at : ℕ) (o : Object) → heap_of a ≡ heap → IsKeptIn a → Lies a.area.words heap at
-    → new.words ≡ words_of_all (replace_from 1 heap.objects at o) → new.size ≡ a.area.size → IsFit o → size_of o ≡ size_of (object_at heap at) → o.header.pid ≡ (object_at heap at).header.pid
+    → new.words ≡ words_of_all (replace_from 1 heap.objects at o) → new.size ≡ a.area.size → IsFit o → size_of o ≡ size_of (object_at heap at) → o.header.pid ≡ (object_at heap at).header.pid → o.header.chain ≡ (object_at heap at).header.chain
     → AreNoted (replace_from 1 heap.objects at o) more → a.area.size ≤ 5 * places + 5 → IsInside heap o → Again new.words new.size more (with_places (beside_of a) places) (heap_with (replace_from 1 heap.objects at o) heap.size more)
-relaid a new more places heap at o e kept l words size_is fit long pid noted room inside =
+relaid a new more places heap at o e kept l words size_is fit long pid link noted room inside =
     let was : a.area.size ≡ heap.size = ap (λ (x : Heap). x.size) e in
     let size : new.size ≡ heap.size = size_is ∙ was in
     let objects : objects_of a.area.words ≡ heap.objects = ap (λ (x : Heap). x.objects) e in
@@ -123,18 +124,18 @@ relaid a new more places heap at o e kept l words size_is fit long pid noted roo
     subst (λ (n : ℕ). IsMapped heap.objects n (beside_of a)) was (subst (λ (os : List Object). IsMapped os a.area.size (beside_of a)) objects kept.pids) in
     let it = again (replace_from 1 heap.objects at o) new.words heap.size more b words
     (IsHeap-replaced heap at (object_at heap at) o more l.heap_is l.is fit long pid noted inside)
-    (omega arith) (mapped-replaced heap.objects heap.size (beside_of a) places at (object_at heap at) o pids l.is long pid) in
+    (omega arith) (mapped-replaced heap.objects heap.size (beside_of a) places at (object_at heap at) o pids l.is long pid link) in
     subst (λ (n : ℕ). Again new.words n more b (heap_with (replace_from 1 heap.objects at o) heap.size more)) (sym size) it
 
 -- one word of it is written
-pub rewritten : (a : Inside) (new : AreaView) (more : List ℕ) (places : ℕ) (heap : Heap) (at k place v : ℕ) (o : Object) → heap_of a ≡ heap → IsKeptIn a → Lies a.area.words heap at → new ≡ with_word a.area place v → place ≡ at + k → k < size_of (object_at heap at) → set (object_words (object_at heap at)) k v ≡ object_words o → IsFit o → size_of o ≡ size_of (object_at heap at) → o.header.pid ≡ (object_at heap at).header.pid → AreNoted (replace_from 1 heap.objects at o) more → a.area.size ≤ 5 * places + 5 → IsInside heap o → Again new.words new.size more (with_places (beside_of a) places) (heap_with (replace_from 1 heap.objects at o) heap.size more)
-rewritten a new more places heap at k place v o e kept l written place_is below set_is fit long pid noted room inside =
+pub rewritten : (a : Inside) (new : AreaView) (more : List ℕ) (places : ℕ) (heap : Heap) (at k place v : ℕ) (o : Object) → heap_of a ≡ heap → IsKeptIn a → Lies a.area.words heap at → new ≡ with_word a.area place v → place ≡ at + k → k < size_of (object_at heap at) → set (object_words (object_at heap at)) k v ≡ object_words o → IsFit o → size_of o ≡ size_of (object_at heap at) → o.header.pid ≡ (object_at heap at).header.pid → o.header.chain ≡ (object_at heap at).header.chain → AreNoted (replace_from 1 heap.objects at o) more → a.area.size ≤ 5 * places + 5 → IsInside heap o → Again new.words new.size more (with_places (beside_of a) places) (heap_with (replace_from 1 heap.objects at o) heap.size more)
+rewritten a new more places heap at k place v o e kept l written place_is below set_is fit long pid link noted room inside =
     let words : new.words ≡ words_of_all (replace_from 1 heap.objects at o) =
     ap (λ (x : AreaView). x.words) written
     ∙ ap (λ (n : ℕ). set a.area.words (n - 1) v) place_is
     ∙ ap (λ (ws : List ℕ). set ws (at + k - 1) v) (sym l.cut)
     ∙ set_of_object heap.objects at k v (object_at heap at) o l.split below set_is in
-    relaid a new more places heap at o e kept l words (ap (λ (x : AreaView). x.size) written) fit long pid noted room inside
+    relaid a new more places heap at o e kept l words (ap (λ (x : AreaView). x.size) written) fit long pid link noted room inside
 
 assigned_by : Header → Bool
 assigned_by h = h.flags % 2 == 1
@@ -151,7 +152,7 @@ relaid_same a new heap at o e kept l words size_is fit head inside =
     let list : a.assigned.items ≡ heap.assigned = ap (λ (x : Heap). x.assigned) e in
     let noted = subst (AreNoted (replace_from 1 heap.objects at o)) (sym list) (noted_still heap at o l.heap_is l.is head) in
     let it = relaid a new a.assigned.items (vec_capacity a.assigned) heap at o e kept l words size_is fit
-    (ap object_length head) (ap (λ (h : Header). h.pid) head) noted kept.for_assigned inside in
+    (ap object_length head) (ap (λ (h : Header). h.pid) head) (ap (λ (h : Header). h.chain) head) noted kept.for_assigned inside in
     subst (λ (xs : List ℕ). Again new.words new.size a.assigned.items (beside_of a) (heap_with (replace_from 1 heap.objects at o) heap.size xs)) list it
 
 pub rewritten_same : (a : Inside) (new : AreaView) (heap : Heap) (at k place v : ℕ) (o : Object) → heap_of a ≡ heap → IsKeptIn a → Lies a.area.words heap at → new ≡ with_word a.area place v → place ≡ at + k → k < size_of (object_at heap at) → set (object_words (object_at heap at)) k v ≡ object_words o → IsFit o → o.header ≡ (object_at heap at).header → IsInside heap o → Again new.words new.size a.assigned.items (beside_of a) (with_object heap at o)
@@ -294,14 +295,9 @@ kept_long a heap e kept =
 abbrev pub heap_is : AreaView → List ℕ → Heap
 heap_is area assigned = heap_from area.words area.size assigned
 
-pub fresh_again : (words : ℕ) (area : AreaView) (assigned : List ℕ) (b : Beside) → area ≡ fresh_area (words + 1) → assigned ≡ [] → b.pairs ≡ [] → words ≤ 2 ^ 25 → words + 1 ≤ 5 * b.places + 5 → words + 1 ≤ 5 * b.pairs_room + 5 → words ≤ b.room → Again area.words area.size assigned b (fresh_heap (words + 1))
-fresh_again words area assigned b e a none h room pairs_room buffer =
-    let pids : IsMapped [] (words + 1) b = record {
-      mapped = λ pid some. ap (λ (q : List (ℕ × ℕ)). place_of q pid) none;
-      counted = ap length none;
-      for_pairs = pairs_room;
-      for_fetch = omega arith;
-    } in
+pub fresh_again : (words : ℕ) (area : AreaView) (assigned : List ℕ) (b : Beside) (buckets : ℕ) → area ≡ fresh_area (words + 1) → assigned ≡ [] → 1 ≤ buckets → b.heads ≡ replicate buckets 0 → words ≤ 2 ^ 25 → words + 1 ≤ 5 * b.places + 5 → words ≤ b.room → Again area.words area.size assigned b (fresh_heap (words + 1))
+fresh_again words area assigned b buckets e a some none h room buffer =
+    let pids : IsMapped [] (words + 1) b = mapped-none buckets (words + 1) b some none (omega arith) in
     let it : Again [] (words + 1) [] b (fresh_heap (words + 1)) = again [] [] (words + 1) [] b refl
     (record { fit = tt; within = omega arith; small = omega arith; one = λ at o is some. absurd (cc); inside = λ at o is slot to r. absurd (cc); noted = noted-none }) room pids in
     subst (λ (x : AreaView). Again x.words x.size assigned b (fresh_heap (words + 1))) (sym e)

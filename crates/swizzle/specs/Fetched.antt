@@ -22,13 +22,13 @@ pub record IsFar (words : List ℕ) (header : Header) : Type 0 where
   pub bytes : HasRoomForBytes header.kind header.nums header.bytes
   pub refs : (slot : ℕ) → slot < header.refs → IsFarWord (slice_index words (4 + slot))
 
--- the header of such an object in the area
-abbrev pub near_header : ℕ → Header → Header
-near_header pid header = record header { flags = 0; pid = pid; chain = 0 }
+-- the header of such an object in the area, with its PID and the object that its chain goes on with
+abbrev pub near_header : ℕ → ℕ → Header → Header
+near_header pid link header = record header { flags = 0; pid = pid; chain = link }
 
 -- the object as it lies in the area
-unfoldable pub near : ℕ → List ℕ → Object
-near pid words = record (object_in words) { header = near_header pid (object_in words).header }
+unfoldable pub near : ℕ → ℕ → List ℕ → Object
+near pid link words = record (object_in words) { header = near_header pid link (object_in words).header }
 
 -- The object of this PID lies there.
 pub record IsLocal (heap : Heap) (pid at : ℕ) : Type 0 where
@@ -36,13 +36,13 @@ pub record IsLocal (heap : Heap) (pid at : ℕ) : Type 0 where
   pub name : name_at heap at ≡ Pid pid
 
 -- what lies at the start of a buffer after these words were fetched: the object of this PID, as it lies in the area
-pub record IsNear (words buffer : List ℕ) (pid : ℕ) (header : Header) : Type 0 where
+pub record IsNear (words buffer : List ℕ) (pid link : ℕ) (header : Header) : Type 0 where
   pub far : IsFar words header
-  pub spelled : buffer ≡ object_words (near pid words)
+  pub spelled : buffer ≡ object_words (near pid link words)
   pub fits : AreWords words
 
 -- What a fetch gave: words of the vault, those that it holds where it tells any.
-pub record IsFetched (holds : ℕ → List ℕ → Type 0) (pid : ℕ) (buffer : List ℕ) (header : Header) : Type 0 where
+pub record IsFetched (holds : ℕ → List ℕ → Type 0) (pid link : ℕ) (buffer : List ℕ) (header : Header) : Type 0 where
   pub words : List ℕ
   pub told : (list : List ℕ) → holds pid list → list ≡ words
-  pub near_is : IsNear words buffer pid header
+  pub near_is : IsNear words buffer pid link header

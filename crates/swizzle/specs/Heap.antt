@@ -92,14 +92,6 @@ abbrev pub sum_of : (Object → ℕ) → List Object → ℕ
 sum_of f [] = 0
 sum_of f (o ∷ os) = f o + sum_of f os
 
--- 1 for an object that has a PID
-abbrev pub numbered_one : Object → ℕ
-numbered_one object = if object.header.pid == 0 then 0 else 1
-
--- how many have a PID
-abbrev pub numbered_in : List Object → ℕ
-numbered_in os = sum_of numbered_one os
-
 -- how many are assigned
 abbrev pub marked_in : List Object → ℕ
 marked_in os = sum_of marked_one os

@@ -8,7 +8,7 @@ abbrev pub heap_of : Inside → Heap
 heap_of a = heap_from a.area.words a.area.size a.assigned.items
 
 abbrev pub beside_of : Inside → Beside
-beside_of a = record { places = vec_capacity a.assigned; pairs = a.map.items; pairs_room = vec_capacity a.map; room = vec_capacity a.buffer }
+beside_of a = record { places = vec_capacity a.assigned; heads = a.map.heads.items; room = vec_capacity a.buffer }
 
 abbrev pub IsKeptIn : Inside → Type 0
 IsKeptIn a = IsKept a.area.words a.area.size a.assigned.items (beside_of a)

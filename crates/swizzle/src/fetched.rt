@@ -15,16 +15,17 @@ use obj_layout::vault::{Vault, VaultFault};
 
 const TOP_BIT: u64 = 1 << 63;
 
-/// Fetches an object into the buffer, and gives it there the header that it has in the area. It is damaged where it has no number word,
+/// Fetches an object into the buffer, and gives it there the header that it has in the area, with this link. It is damaged where it has no number word,
 /// where the bytes of a text or of code don't fit after its first number words, or where a reference is neither nil nor a PID.
 pub fn fetch_near<V: Vault>(
     vault: &mut V,
     pid: u64,
+    link: u32,
     buffer: &mut [u64],
 ) -> Result<Header, VaultFault>
     requires alive { V.alive vault.old }
     requires fits { (words : List ℕ) → Holds (V.outside vault.old) pid words → length words ≡ length buffer.old }
-    ensures near { IfOk result (λ header. IsFetched (Holds (V.outside vault.old)) pid buffer.new header) }
+    ensures near { IfOk result (λ header. IsFetched (Holds (V.outside vault.old)) pid link buffer.new header) }
     ensures call { IsStoreCall (V.outside vault.old) (V.outside vault.new) (reading (length buffer.old)) result }
     ensures same { SameContents (V.outside vault.old) (V.outside vault.new) }
     ensures sound { OnOk result ((words : List ℕ) → Holds (V.outside vault.old) pid words → far_damage words ≡ None) }
@@ -37,7 +38,7 @@ pub fn fetch_near<V: Vault>(
     }
     match far_header(buffer) {
         Ok(header) => {
-            lay_header(buffer, pid, header);
+            lay_header(buffer, pid, link, header);
             Ok(header)
         }
         Err(unfit) => Err(VaultFault::Damaged {
@@ -114,15 +115,15 @@ fn first_near(words: &[u64]) -> Option<u64>
 }
 
 // Writes the header that the object has in the area over its own.
-fn lay_header(buffer: &mut [u64], pid: u64, header: Header)
+fn lay_header(buffer: &mut [u64], pid: u64, link: u32, header: Header)
     requires long { 4 ≤ length buffer.old }
     requires lengths { HasFitLengths header }
-    ensures { buffer.new ≡ header_words (near_header pid header) ++ drop 4 buffer.old }
+    ensures { buffer.new ≡ header_words (near_header pid link header) ++ drop 4 buffer.old }
 {
     let near = Header {
         flags: 0,
         pid,
-        chain: 0,
+        chain: u64::from(link),
         ..header
     };
     let mut words = [0; 4];

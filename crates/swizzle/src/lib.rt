@@ -3,7 +3,9 @@
 
 pub mod fault;
 mod fetched;
+mod headers;
 pub mod swizzle;
 mod texts;
 
 pub use obj_layout;
+pub use pid_map;

@@ -1,27 +1,30 @@
-ghost use Rattle.std.specs.Prelude.{◌≡◌, ◌≢◌, nat_eq, ◌+◌, ◌%◌, ◌^◌, ◌<◌, ◌≤◌, true, false, ℕ, Option, IfOk, IfErr, IfSome, OnOk, MatchResult, ◌++◌, Some, length, take, drop, vec_capacity};
-ghost use Rattle.obj_layout.specs.Header.{HasFitLengths};
+ghost use Rattle.std.specs.Prelude.{◌≡◌, ◌≢◌, nat_eq, ◌+◌, ◌%◌, ◌^◌, ◌<◌, ◌≤◌, true, false, ℕ, Option, None, IfOk, IfErr, IfSome, OnOk, MatchResult, ◌++◌, Some, length, take, drop, vec_capacity};
+ghost use Rattle.obj_layout.specs.Header.{HasFitLengths, object_length};
 ghost use Rattle.obj_layout.specs.Kind.{kind_number};
-ghost use Rattle.obj_layout.specs.Reference.{IsReference};
-ghost use Rattle.swizzle.specs.Objects.{HasRoomForBytes, words_before as before};
+ghost use Rattle.obj_layout.specs.Reference.{IsReference, reference_word};
+ghost use Rattle.swizzle.specs.Objects.{HasRoomForBytes, object_words, words_before as before};
 ghost use Rattle.swizzle.specs.Heap.{IsHeap, IsHeld, IsMade, IsFull, Stands, local_of, fresh_heap, top_of, header_at, ref_at, num_at, with_num, with_ref, with_mark, with_no_marks, blank, reference_to};
 ghost use Rattle.obj_layout.specs.Stored.{Holds};
 ghost use Rattle.swizzle.specs.Joint.{Joint, name_of};
 ghost use Rattle.swizzle.specs.Text.{HasBytes, text_at, with_text};
 ghost use Rattle.swizzle.specs.Changes.{Touched};
+ghost use Rattle.swizzle.specs.Image.{far_object, HasPids};
+ghost use Rattle.swizzle.specs.Numbered.{GivesPid};
 ghost use Rattle.obj_area.specs.Area.{top_of as area_top};
-ghost use Rattle.swizzle.specs.Kept.{place_of};
 ghost use Rattle.swizzle.specs.Fetched.{IsLocal};
 ghost use Rattle.swizzle.specs.Touch.{Came, Only, Sound, Keeps, Denotes, IsNear, IsTouchCall, IsTouchFault};
 ghost use Rattle.swizzle.specs.inside.Clearing.{IsUnmarked, IsUnmarkedAll};
 
 use crate::fault::SwizzleFault;
 use crate::fetched::fetch_near;
+use crate::headers::Headers;
 use crate::texts::{are_bytes, place_of_bytes, words_before};
 use obj_area::area::Area;
 use obj_layout::header::{Header, read_header, write_header};
 use obj_layout::kind::Kind;
 use obj_layout::reference::{Reference, reference_of, word_of};
 use obj_layout::vault::Vault;
+use pid_map::PidMap;
 use std::alloc::{AllocError, Global};
 use std::marker::Model;
 
@@ -30,8 +33,8 @@ pub struct Swizzle {
     area: Area,
     // The objects whose flag bit 0 is set, each once, in the order in which they were marked.
     assigned: Vec<u32>,
-    // The PIDs of the objects that have one, each with its object.
-    map: Vec<(u64, u32)>,
+    // The PIDs of the objects that have one. Its chains lead through the objects.
+    map: PidMap,
     // Where an object is fetched to before it is laid into the area. Its words are taken as they are needed.
     buffer: Vec<u64>,
 }
@@ -60,6 +63,9 @@ impl Model for Swizzle {
 
 const ASSIGNED: u64 = 1 << 8;
 
+// The most buckets of the map of PIDs, four bytes each, which are written when the area is taken.
+const MOST_BUCKETS: u32 = 1 << 15;
+
 impl Swizzle {
     /// A law: what is so of every heap.
     #[inline]
@@ -77,7 +83,7 @@ impl Swizzle {
     {
         let area = Area::new(alloc, words)?;
         let assigned = Vec::with_capacity(alloc, words as usize / 5)?;
-        let map = Vec::with_capacity(alloc, words as usize / 5)?;
+        let map = PidMap::new(alloc, (words / 5).min(MOST_BUCKETS))?;
         let buffer = Vec::with_capacity(alloc, words as usize)?;
         Ok(Swizzle {
             area,
@@ -383,12 +389,76 @@ impl Swizzle {
             .copy_bytes(place, from_start, end, to_start, count);
     }
 
+    /// Gives the object a PID, by which it is found from then on. It has none, and no object of the area has that PID.
+    pub fn give_pid(&mut self, object: u32, pid: u64)
+        requires held { IsHeld self.old object }
+        requires none { (header_at self.old object).pid ≡ 0 }
+        requires low { 1 ≤ pid }
+        requires high { pid < 2 ^ 63 }
+        requires fresh { local_of self.old pid ≡ None }
+        ensures { GivesPid self.old self.new object pid }
+    {
+        let link = self.map.head(pid);
+        let header = Header {
+            pid,
+            chain: u64::from(link),
+            ..self.header(object)
+        };
+        let mut words = [0; 4];
+        write_header(&header, &mut words);
+        self.area.write_words(object, &words);
+        self.map.put(pid, object);
+    }
+
+    // The word of a slot as a vault has it.
+    fn far_word(&self, object: u32, slot: u32) -> u64
+        requires held { IsHeld self.now object }
+        requires below { slot < (header_at self.now object).refs }
+        requires pids { HasPids self.now object }
+        ensures { result ≡ reference_word (name_of self.now (ref_at self.now object slot)) }
+    {
+        self.sound();
+        match self.peek(object, slot) {
+            Reference::Nil => 0,
+            Reference::Pid(pid) => word_of(Reference::Pid(pid)),
+            Reference::Local(to) => word_of(Reference::Pid(self.header(to).pid)),
+        }
+    }
+
+    /// Writes the object's words as a vault has them: without flags, PID and link, and with a PID for each object that it refers to. Each of those has
+    /// one; `into` has as many words as the object.
+    pub fn image(&self, object: u32, into: &mut [u64])
+        requires held { IsHeld self.now object }
+        requires pids { HasPids self.now object }
+        requires long { length into.old ≡ object_length (header_at self.now object) }
+        ensures { into.new ≡ object_words (far_object self.now object) }
+    {
+        self.sound();
+        let header = self.header(object);
+        let far = Header {
+            flags: 0,
+            pid: 0,
+            chain: 0,
+            ..header
+        };
+        let mut words = [0; 4];
+        write_header(&far, &mut words);
+        into[..4].copy_from_slice(&words);
+        for slot in 0..header.refs {
+            into[4 + slot as usize] = self.far_word(object, slot);
+        }
+        self.area.read_words(
+            object + 4 + header.refs,
+            &mut into[4 + header.refs as usize..],
+        );
+    }
+
     // The object with this PID, where it is in the area.
     fn find(&self, pid: u64) -> Option<u32>
         requires { 1 ≤ pid }
         ensures { result ≡ local_of self.now pid }
     {
-        place(&self.map, pid)
+        self.map.find(&Headers { area: &self.area }, pid)
     }
 
     /// The one object of the area with this PID. It is fetched where it isn't there. Where the vault's tests refuse it, or its words may not come
@@ -427,14 +497,12 @@ impl Swizzle {
             });
         }
         make_room(&mut self.buffer, count);
-        if let Err(fault) = fetch_near(vault, pid, &mut self.buffer) {
+        let link = self.map.head(pid);
+        if let Err(fault) = fetch_near(vault, pid, link, &mut self.buffer) {
             return Err(SwizzleFault::Vault(fault));
         }
         lay(&mut self.area, &self.buffer, count);
-        match self.map.push((pid, top)) {
-            Ok(()) => {}
-            Err(_) => unreachable!(),
-        }
+        self.map.put(pid, top);
         Ok(top)
     }
 
@@ -545,18 +613,6 @@ fn denoting(to: Option<u32>) -> Reference
         Some(at) => Reference::Local(at),
         None => Reference::Nil,
     }
-}
-
-// The place of the first pair with this PID.
-fn place(pairs: &[(u64, u32)], pid: u64) -> Option<u32>
-    ensures { result ≡ place_of pairs.now pid }
-{
-    for pair in pairs {
-        if pair.0 == pid {
-            return Some(pair.1);
-        }
-    }
-    None
 }
 
 // Makes the buffer so many words long, without memory.

@@ -1,4 +1,4 @@
-use Rattle.std.proofs.Common.{inl, inr, ◌≡◌, ℕ, sym, ap, subst, ◌∙◌, None, false, nat_eq, if◌then◌else◌, Bool}
+use Rattle.std.proofs.Common.{inl, inr, ◌≡◌, ℕ, sym, ap, subst, ◌∙◌, Some, None, false, nat_eq, if◌then◌else◌, Bool}
 use Rattle.heap_places.specs.obj_layout.Kind.{kind_number}
 use Rattle.heap_places.specs.obj_layout.Stored.{damage}
 use Rattle.heap_places.specs.obj_layout.declared.header.Header.{Header}
@@ -8,6 +8,8 @@ use Rattle.heap_places.specs.swizzle.declared.fault.SwizzleFault.TheVariants.{Va
 use Rattle.heap_places.specs.swizzle.Heap.{header_at}
 use Rattle.heap_places.specs.swizzle.Joint.{Shown, shown_at}
 use Rattle.heap_places.specs.swizzle.Text.{text_at}
+use Rattle.heap_places.specs.swizzle.Touch.{Denotes}
+use Rattle.heap_places.specs.Shapes.{slot_of}
 use Rattle.heap_places.proofs.of_swizzle.ReadingLaws.{leaves-none}
 use Rattle.heap_places.specs.text_forms.Forms.{element_of}
 use Rattle.heap_places.proofs.PlaceLaws.{names-damage, fails-damage}
@@ -66,3 +68,18 @@ returns-in-Err-find_shape-clause-read g c =
         ),
       )),
     )
+
+pub returns-in-Ok-find_shape-clause-typed : goal.returns-in-Ok-find_shape-clause-typed
+returns-in-Ok-find_shape-clause-typed g c =
+    let old = c.args.sw.now in
+    let new = c.first_text.new.sw in
+    let a = g.V.Vault.outside c.args.vault.now in
+    let b = g.V.Vault.outside c.first_text.new.vault in
+    let first = c.in-Ok.ensures.touched in
+    let same = same-shown old new a b c.args.vector c.in-Ok.text c.requires.held first in
+    record {
+      text = c.in-Ok.text;
+      denotes = subst (λ (it : Shown). Denotes new (Some c.in-Ok.text) (slot_of it 0)) (sym same) first.denotes;
+      kind = first.kind;
+      tells = c.in-Ok-find_shape.ensures.1 ∙ c.element_form-form.ensures ∙ ap element_of c.text.ensures.value;
+    }

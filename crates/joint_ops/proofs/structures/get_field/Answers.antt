@@ -1,6 +1,6 @@
 use Rattle.heap_meaning.specs.swizzle.Text.{text_at}
 use Rattle.joint_ops.proofs.SeenLaws.{text-denoted}
-use Rattle.joint_ops.proofs.FieldLaws.{answers-field, gets-breaks, gets-leaves}
+use Rattle.joint_ops.proofs.FieldLaws.{answers-field, gets-breaks, gets-leaves, gets-near, gets-keeps}
 use Rattle.joint_ops.proofs.structures.get_field.Goals as goal
 
 pub returns-clause-got : goal.returns-clause-got
@@ -20,4 +20,14 @@ returns-clause-leaves g c =
 pub returns-clause-fails : goal.returns-clause-fails
 returns-clause-fails g c =
     gets-breaks c.args.sw.now c.get_field-got.new.sw (g.V.Vault.outside c.args.vault.now) (g.V.Vault.outside c.get_field-got.new.vault) c.args.object
+    (text_at c.args.sw.now c.args.class) c.args.located c.get_field-got.result c.get_field-got.ensures.got
+
+pub returns-clause-near : goal.returns-clause-near
+returns-clause-near g c =
+    gets-near c.args.sw.now c.get_field-got.new.sw (g.V.Vault.outside c.args.vault.now) (g.V.Vault.outside c.get_field-got.new.vault) c.args.object
+    (text_at c.args.sw.now c.args.class) c.args.located c.get_field-got.result c.get_field-got.ensures.got
+
+pub returns-clause-keeps : goal.returns-clause-keeps
+returns-clause-keeps g c =
+    gets-keeps c.args.sw.now c.get_field-got.new.sw (g.V.Vault.outside c.args.vault.now) (g.V.Vault.outside c.get_field-got.new.vault) c.args.object
     (text_at c.args.sw.now c.args.class) c.args.located c.get_field-got.result c.get_field-got.ensures.got

@@ -1,5 +1,8 @@
-use Rattle.known_classes.proofs.TextOf.{row-text, text-of}
+use Rattle.known_classes.proofs.TextOf.{of-constant, row-text, text-of}
 use Rattle.known_classes.proofs.known.texts_are_of_units.Goals as goal
+
+pub returns-clause-of_constant : goal.returns-clause-of_constant
+returns-clause-of_constant c = of-constant
 
 pub returns-clause-of_unit : goal.returns-clause-of_unit
 returns-clause-of_unit c = row-text

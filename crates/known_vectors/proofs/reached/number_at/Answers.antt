@@ -27,14 +27,17 @@ num_behind-requires c =
     }
 
 pub returns-in_default-form : goal.returns-in_default-form
-returns-in_default-form c of names world so =
-    let r = c.in-Some.ensures in
-    let here = c.args.sw.now in
-    let z = c.low_half.result in
-    let same : to_z w32 (of_z w32 z) ≡ z = search rules in
-    subst (HasNumber here of names c.args.vector c.args.at) (sym same)
-    (subst (λ at. HasNumber here of names c.args.vector at z) (to_z-of_z w32 c.args.at c.ranges.at)
-    (number-read here _ c.args.vector _ c.sound.ensures r.0 of names world so c.in-Some.found.form c.num_behind.result z r.1
-    (other-form c.in-Some.found.form c.in_default-form.not-Reference)
-    (c.num_behind.ensures ∙ ap (λ n. num_at here c.args.vector (2 + n)) (sym r.2))
-    c.low_half.ensures.int c.low_half.ensures.flag))
+returns-in_default-form c = (
+  reached-held c.args.sw.now _ c.args.vector _ c.sound.ensures c.in-Some.ensures.0 c.requires,
+  λ of names v world denotes.
+      let r = c.in-Some.ensures in
+      let here = c.args.sw.now in
+      let z = c.low_half.result in
+      let same : to_z w32 (of_z w32 z) ≡ z = search rules in
+      subst (HasNumber here of names c.args.vector c.args.at) (sym same)
+      (subst (λ at. HasNumber here of names c.args.vector at z) (to_z-of_z w32 c.args.at c.ranges.at)
+      (number-read here _ c.args.vector _ c.sound.ensures r.0 c.requires of names v world denotes c.in-Some.found.form c.num_behind.result z r.1
+      (other-form c.in-Some.found.form c.in_default-form.not-Reference)
+      (c.num_behind.ensures ∙ ap (λ n. num_at here c.args.vector (2 + n)) (sym r.2))
+      c.low_half.ensures.int c.low_half.ensures.flag)),
+)

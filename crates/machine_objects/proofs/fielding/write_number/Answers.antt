@@ -5,8 +5,8 @@ use Rattle.machine_values.specs.swizzle.Heap.{Heap}
 use Rattle.machine_objects.proofs.FieldsReached.{all-known, top-there, number-stored}
 use Rattle.machine_objects.proofs.fielding.write_number.Goals as goal
 
-pub set_number-written-requires-clause-there : goal.set_number-written-requires-clause-there
-set_number-written-requires-clause-there c =
+pub set_number-written-requires-clause-held : goal.set_number-written-requires-clause-held
+set_number-written-requires-clause-held c =
     top-there c.args.m.now c.in-Some-top_ref.word c.in-Some-object.at c.requires.holding c.in-Some-top_ref.ensures (sym c.object.ensures ∙ c.in-Some-object.is)
 
 pub set_number-written-requires-clause-right : goal.set_number-written-requires-clause-right

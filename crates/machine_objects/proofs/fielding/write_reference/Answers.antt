@@ -1,15 +1,14 @@
 use Rattle.std.proofs.Common.{ℕ, Option, sym, ap, ◌∙◌, subst}
 use Rattle.std.specs.Prelude.{IfSome}
 use Rattle.machine_values.specs.swizzle.Heap.{Heap, IsHeld}
-use Rattle.machine_values.specs.known_classes.Reading.{IsThere}
 use Rattle.machine_values.specs.paired_ops.World.{DenotesIn}
 use Rattle.machine_values.specs.machine_state.Holding.{object_in}
 use Rattle.machine_values.proofs.Popping.{named-held}
 use Rattle.machine_objects.proofs.FieldsReached.{all-known, lower-there, reference-stored}
 use Rattle.machine_objects.proofs.fielding.write_reference.Goals as goal
 
-pub set_reference-written-requires-clause-there : goal.set_reference-written-requires-clause-there
-set_reference-written-requires-clause-there c =
+pub set_reference-written-requires-clause-held : goal.set_reference-written-requires-clause-held
+set_reference-written-requires-clause-held c =
     lower-there c.args.m.now c.in-Some.word c.in-Some.to c.in-Some-object.at c.requires.holding c.in-Some.ensures (sym c.object.ensures ∙ c.in-Some-object.is)
 
 pub set_reference-written-requires-clause-right : goal.set_reference-written-requires-clause-right

@@ -8,7 +8,6 @@ use Rattle.machine_values.specs.ps_stepping.Steps.{attempted, push_ref}
 use Rattle.machine_values.specs.ps_stepping.Objects.{pop_object}
 use Rattle.machine_values.specs.Constants.{FindsField}
 use Rattle.machine_values.proofs.ConstantReads.{none-there}
-use Rattle.machine_values.proofs.ClassFields.{popped-there}
 use Rattle.machine_values.proofs.FieldReads.{no-reference-field, other-reference, field-done, reference-field}
 use Rattle.machine_objects.proofs.structures.find_field_ref.Goals as goal
 
@@ -26,9 +25,6 @@ returns-then-is_number-clause-takes g c =
     let row : is_number_form c.in-Some.located.place.form ≡ true = search rules in
     other-reference c.args.k n c.in-Some.class c.in-Some.located (λ (e : Config) (text : List ℕ). pop_object e (λ v d. attempted line (field_of d.store.heap v text n) (λ w. push_ref w d))) c.args.m.now c.field_at.new.m
     c.in-Some.ensures.finds c.requires.holding row
-
-pub get_field-got-requires-clause-there : goal.get_field-got-requires-clause-there
-get_field-got-requires-clause-there g c = popped-there c.field_at.new.m c.pop_object.new.m c.in-Some-pop_object.object c.in-Some-pop_object.ensures.pops c.in-Some.ensures.holding
 
 pub returns-clause-takes : goal.returns-clause-takes
 returns-clause-takes g c =

@@ -43,7 +43,7 @@ returns-in-Ok-clause-takes g c =
     let answer : is_class heap o.1 text ≡ c.in-Ok.is' = cc in
     comes-behind r mid.sw last.sw new (pop_object conf (λ v d. push_num (number_of (is_class d.store.heap v text)) d)) (push_num c.number.result o.0) q.area
     (o.2 (λ v d. push_num (number_of (is_class d.store.heap v text)) d) ∙ ap (λ (t : Bool). push_num (number_of t) o.0) answer ∙ ap (λ (z : ℤ). push_num z o.0) (sym flag))
-    (size-behind r last.sw now new.sw told.3.carries.size push.size, push.does o.0 (record { names = names; held = read-holds last now names o.0 c.sound.ensures o.3 told.3 })))
+    (size-behind r last.sw now new.sw told.3.carries.lasts.size push.size, push.does o.0 (record { names = names; held = read-holds last now names o.0 c.sound.ensures o.3 told.3 })))
 
 pub returns-in-Err-clause-takes : goal.returns-in-Err-clause-takes
 returns-in-Err-clause-takes g c =

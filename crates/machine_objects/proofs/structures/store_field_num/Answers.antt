@@ -12,7 +12,6 @@ use Rattle.machine_values.proofs.of_swizzle.ReadingLaws.{leaves-then}
 use Rattle.machine_values.specs.ps_stepping.Config.{Config}
 use Rattle.machine_values.specs.Constants.{FindsField}
 use Rattle.machine_values.proofs.ConstantReads.{none-there}
-use Rattle.machine_values.proofs.ClassFields.{popped-there}
 use Rattle.machine_values.proofs.FieldReads.{no-number-field, other-number}
 use Rattle.machine_objects.proofs.FieldWrites.{number-set, number-written, number-done}
 use Rattle.machine_objects.proofs.structures.store_field_num.Goals as goal
@@ -31,9 +30,6 @@ returns-then-not-is_number-clause-takes g c =
     let row : is_number_form c.in-Some.located.place.form ≡ false = search rules in
     other-number c.args.k n c.in-Some.class c.in-Some.located (λ (e : Config) (text : List ℕ). number-set n line e text (form_in (forms_of text) n)) c.args.m.now c.field_at.new.m
     c.in-Some.ensures.finds c.requires.holding row
-
-pub set_field-set-requires-clause-there : goal.set_field-set-requires-clause-there
-set_field-set-requires-clause-there g c = popped-there c.pop_int.new.m c.pop_object.new.m c.in-Some-pop_object.object c.in-Some-pop_object.ensures.pops c.in-Some-pop_int.ensures.holding
 
 pub returns-clause-takes : goal.returns-clause-takes
 returns-clause-takes g c =

@@ -6,7 +6,6 @@ use Rattle.machine_values.proofs.of_swizzle.ReadingLaws.{leaves-then}
 use Rattle.machine_values.specs.ps_stepping.Config.{Config}
 use Rattle.machine_values.specs.Constants.{FindsField}
 use Rattle.machine_values.proofs.ConstantReads.{none-there}
-use Rattle.machine_values.proofs.ClassFields.{popped-there}
 use Rattle.machine_values.proofs.FieldReads.{no-reference-field, other-reference}
 use Rattle.machine_objects.proofs.FieldWrites.{reference-set, reference-written, reference-done}
 use Rattle.machine_objects.proofs.structures.store_field_ref.Goals as goal
@@ -25,9 +24,6 @@ returns-then-is_number-clause-takes g c =
     let row : is_number_form c.in-Some.located.place.form ≡ true = search rules in
     other-reference c.args.k n c.in-Some.class c.in-Some.located (λ (e : Config) (text : List ℕ). reference-set n line e text) c.args.m.now c.field_at.new.m
     c.in-Some.ensures.finds c.requires.holding row
-
-pub set_field-set-requires-clause-there : goal.set_field-set-requires-clause-there
-set_field-set-requires-clause-there g c = popped-there c.pop_any.new.m c.pop_object.new.m c.in-Some-pop_object.object c.in-Some-pop_object.ensures.pops c.in-Some-pop_any.ensures.holding
 
 pub returns-clause-takes : goal.returns-clause-takes
 returns-clause-takes g c =

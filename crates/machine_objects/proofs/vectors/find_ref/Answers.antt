@@ -28,7 +28,7 @@ returns-clause-takes g c =
     let v = q.gives names n.0 n.2 in
     let heap = v.0.store.heap in
     let f = form_in heap v.1 in
-    let did = c.get_element-got.ensures.got heap names v.1 v.4.world v.5 v.10 in
+    let did = c.get_element-got.ensures.got heap names v.1 v.4.world v.5 in
     let got : Answers last.sw now (λ k w. IsOfForm f k × IsForIn now names k w) heap names
     (element_at heap (Vector v.1) at) c.get_element-got.result = search (rules, did) in
     let typed : element_of v.2 ≡ f = v.6 ∙ sym v.7 in

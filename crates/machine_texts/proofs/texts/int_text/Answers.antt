@@ -14,7 +14,7 @@ returns c =
     ends int_text c.args.m.now c.give_text.new.m c.give_text.result c.give_text.ensures.sound c.requires.holding
     (λ names conf h.
     let n = p.gives names conf h in
-    let did = c.int_text-made.ensures n.0.store.heap names n.2.world in
+    let did = c.int_text-made.ensures.made n.0.store.heap names n.2.world in
     let made : MakesText mid.sw c.int_text-made.new.sw n.0.store.heap names (Yields (signed_decimal z)) c.int_text-made.result = search (rules, did) in
     comes-behind c.give_text.result c.args.m.now.sw mid.sw c.give_text.new.m (int_text conf) (make_text (signed_decimal z) n.0) p.area
     (n.1 (λ x d. make_text (signed_decimal x) d))

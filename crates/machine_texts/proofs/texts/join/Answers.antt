@@ -17,7 +17,7 @@ returns c =
     (λ names conf h.
     let b = p.gives names conf h in
     let a = q.gives names b.0 b.3 in
-    let made = c.join-made.ensures a.0.store.heap names a.1 b.1 a.3.world a.4 (denoted-there mid.sw last.sw names (Some c.in-Some.b) (Text b.1) q.area b.4) in
+    let made = c.join-made.ensures.made a.0.store.heap names a.1 b.1 a.3.world a.4 (denoted-there mid.sw last.sw names (Some c.in-Some.b) (Text b.1) q.area b.4) in
     comes-behind c.give_text.result c.args.m.now.sw last.sw c.give_text.new.m (join line conf) (attempted line (join_of a.1 b.1) (λ bytes. make_text bytes a.0)) (q.area ∙ p.area)
     (b.2 (λ y d. pop_text d (λ x e. attempted line (join_of x y) (λ bytes. make_text bytes e))) ∙ a.2 (λ x e. attempted line (join_of x b.1) (λ bytes. make_text bytes e)))
     (c.give_text.ensures.does last.sw names a.0 (join_of a.1 b.1) a.3 made))

@@ -24,7 +24,7 @@ returns c =
     let n = p.gives names conf h in
     let i = q.gives names n.0 n.2 in
     let a = t.gives names i.0 i.2 in
-    let did = c.part-made.ensures a.0.store.heap names a.1 a.3.world a.4 in
+    let did = c.part-made.ensures.made a.0.store.heap names a.1 a.3.world a.4 in
     let made =
     subst (λ (y : ℤ). MakesText last.sw c.part-made.new.sw a.0.store.heap names (part_of a.1 from y) c.part-made.result) same_count
     (subst (λ (x : ℤ). MakesText last.sw c.part-made.new.sw a.0.store.heap names (part_of a.1 x (to_z w32 (of_z w32 count))) c.part-made.result) same_from did) in

@@ -10,8 +10,8 @@ returns-in-Ok c =
     let m = c.args.m.now in
     record {
       sound = c.requires;
-      does = λ here names conf attempt h last did.
-          written c.args.line m c.sound.ensures here names conf h attempt tt last (subst (λ r. Writes here m.sw names attempt r) c.in-Ok.is did);
+      does = λ here names conf attempt h did.
+          written c.args.line m c.sound.ensures here names conf h attempt tt (subst (λ r. Writes here m.sw names attempt r) c.in-Ok.is did);
     }
 
 pub returns-in-Err : goal.returns-in-Err
@@ -19,7 +19,7 @@ returns-in-Err c =
     let m = c.args.m.now in
     record {
       sound = c.failed.ensures.sound;
-      does = λ here names conf attempt h last did.
+      does = λ here names conf attempt h did.
           failing here m c.failed.new.m (attempted c.args.line attempt (λ heap. changed heap conf)) _ c.args.line _ c.failed.result c.failed.ensures.answer c.failed.ensures.left
           (write-fails c.args.line m c.sound.ensures here names conf h _ attempt (λ heap. changed heap conf)
           (subst (λ r. Writes here m.sw names attempt r) c.in-Err.is did));

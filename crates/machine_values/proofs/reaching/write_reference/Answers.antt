@@ -6,11 +6,11 @@ use Rattle.machine_state.specs.swizzle.Heap.{Heap, IsHeld}
 use Rattle.machine_state.specs.paired_ops.World.{DenotesIn}
 use Rattle.machine_state.specs.Holding.{object_in}
 use Rattle.machine_values.proofs.Popping.{named-held}
-use Rattle.machine_values.proofs.ElementsReached.{all-right, reference-put}
+use Rattle.machine_values.proofs.ElementsReached.{all-so, reference-put}
 use Rattle.machine_values.proofs.reaching.write_reference.Goals as goal
 
-pub set_reference-written-requires-clause-right : goal.set_reference-written-requires-clause-right
-set_reference-written-requires-clause-right c = all-right c.args.m.now c.requires.holding
+pub set_reference-written-requires-clause-so : goal.set_reference-written-requires-clause-so
+set_reference-written-requires-clause-so c = all-so c.args.m.now c.requires.holding
 
 pub set_reference-written-requires-clause-near : goal.set_reference-written-requires-clause-near
 set_reference-written-requires-clause-near c =
@@ -30,6 +30,6 @@ returns-clause-puts c put =
     let one : to_z w32 (of_z w32 at) ≡ at = search rules in
     reference-put m c.set_reference-written.new.sw c.in-Some-top_two_refs.vector c.in-Some-top_two_refs.to at _ one c.requires.sound
     c.sound.ensures c.sound-2.ensures
-    c.requires.holding c.in-Some.ensures c.in-Some-top_two_refs.ensures
-    (λ of names v world so d. c.set_reference-written.ensures.set put of names v world so
+    c.set_reference-written.ensures.lasts (c.set_reference-written.ensures.held put) c.in-Some.ensures c.in-Some-top_two_refs.ensures
+    (λ of names u v world mine d. c.set_reference-written.ensures.set put of names u v world mine
     (subst (λ (to : Option ℕ). DenotesIn m.sw names to v) (sym c.object.ensures) d))

@@ -1,6 +1,7 @@
 use Rattle.std.proofs.Common.{sym, subst}
 use Rattle.text_ops.specs.swizzle.Reading.{LeavesOutside}
 use Rattle.text_ops.proofs.of_swizzle.ReadingLaws.{leaves-none}
+use Rattle.paired_ops.proofs.StayingLaws.{constant-lasts, constant-there}
 use Rattle.paired_ops.proofs.CodeLaws.{answers-constant, constant-stands, constant-held, constant-leaves}
 use Rattle.paired_ops.proofs.code.constant.Goals as goal
 
@@ -30,3 +31,15 @@ returns-clause-held g c =
     constant-held c.args.sw.now c.constant-given.new.sw (g.V.Vault.outside c.args.vault.now)
     (g.V.Vault.outside c.constant-given.new.vault) c.args.code c.args.index
     c.constant-given.result c.constant-given.ensures.given
+
+pub returns-clause-lasts : goal.returns-clause-lasts
+returns-clause-lasts g c =
+    constant-lasts c.args.sw.now c.constant-given.new.sw (g.V.Vault.outside c.args.vault.now)
+    (g.V.Vault.outside c.constant-given.new.vault) c.args.code c.args.index
+    c.constant-given.result c.constant-given.ensures.given
+
+pub returns-clause-there : goal.returns-clause-there
+returns-clause-there g c =
+    constant-there c.args.sw.now c.constant-given.new.sw (g.V.Vault.outside c.args.vault.now)
+    (g.V.Vault.outside c.constant-given.new.vault) c.args.code c.args.index
+    c.constant-given.result c.requires.held c.constant-given.ensures.given

@@ -1,6 +1,7 @@
 use Rattle.text_ops.specs.swizzle.Text.{text_at}
 use Rattle.paired_ops.proofs.ValueLaws.{text-denoted}
 use Rattle.paired_ops.proofs.ClassLaws.{answers-field, gets-leaves}
+use Rattle.paired_ops.proofs.StayingLaws.{gets-near, gets-lasts}
 use Rattle.paired_ops.proofs.structures.get_field.Goals as goal
 
 pub returns-clause-got : goal.returns-clause-got
@@ -16,4 +17,14 @@ returns-clause-got g c of names text n o world dc d is =
 pub returns-clause-leaves : goal.returns-clause-leaves
 returns-clause-leaves g c =
     gets-leaves c.args.sw.now c.get_field-got.new.sw (g.V.Vault.outside c.args.vault.now) (g.V.Vault.outside c.get_field-got.new.vault) c.args.object
+    (text_at c.args.sw.now c.args.class) c.args.located c.get_field-got.result c.get_field-got.ensures.got
+
+pub returns-clause-near : goal.returns-clause-near
+returns-clause-near g c =
+    gets-near c.args.sw.now c.get_field-got.new.sw (g.V.Vault.outside c.args.vault.now) (g.V.Vault.outside c.get_field-got.new.vault) c.args.object
+    (text_at c.args.sw.now c.args.class) c.args.located c.get_field-got.result c.get_field-got.ensures.got
+
+pub returns-clause-lasts : goal.returns-clause-lasts
+returns-clause-lasts g c =
+    gets-lasts c.args.sw.now c.get_field-got.new.sw (g.V.Vault.outside c.args.vault.now) (g.V.Vault.outside c.get_field-got.new.vault) c.args.object
     (text_at c.args.sw.now c.args.class) c.args.located c.get_field-got.result c.get_field-got.ensures.got

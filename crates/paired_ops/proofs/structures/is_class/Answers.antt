@@ -9,6 +9,8 @@ use Rattle.paired_ops.specs.World.{DenotesIn}
 use Rattle.paired_ops.proofs.ValueLaws.{text-denoted}
 use Rattle.paired_ops.proofs.ClassLaws.{told-ok, told-fault, none-value, other-value}
 use Rattle.paired_ops.proofs.ReadLaws.{nothing-done}
+use Rattle.paired_ops.proofs.LastingLaws.{lasts-same}
+use Rattle.paired_ops.proofs.StayingLaws.{class-lasts}
 use Rattle.paired_ops.proofs.structures.is_class.Goals as goal
 
 pub returns-in_default-clause-told : goal.returns-in_default-clause-told
@@ -49,3 +51,14 @@ returns-in-Err-clause-told g c of names text o world dc d =
     let kind = kinds-same (header_at old at).kind Structure (sym c.is_kind.ensures ∙ c.if-not-is_kind.false) in
     told-fault old new (g.V.Vault.outside c.args.vault.now) (g.V.Vault.outside c.is_class-told.new.vault) of names at
     (text_at old c.args.class) o c.in-Err.fault c.sound.ensures c.sound-2.ensures world kind mine c.in-Err.ensures.told
+
+pub returns-in_default-clause-lasts : goal.returns-in_default-clause-lasts
+returns-in_default-clause-lasts g c = lasts-same c.args.sw.now c.args.sw.now refl
+
+pub returns-then-not-is_kind-clause-lasts : goal.returns-then-not-is_kind-clause-lasts
+returns-then-not-is_kind-clause-lasts g c = lasts-same c.args.sw.now c.args.sw.now refl
+
+pub returns-in-Ok-clause-lasts : goal.returns-in-Ok-clause-lasts
+returns-in-Ok-clause-lasts g c =
+    class-lasts c.args.sw.now c.is_class-told.new.sw (g.V.Vault.outside c.args.vault.now) (g.V.Vault.outside c.is_class-told.new.vault)
+    (Some c.in-Some.at) (text_at c.args.sw.now c.args.class) c.in-Ok.is' c.in-Ok.ensures.told

@@ -2,6 +2,7 @@ use Rattle.text_ops.specs.swizzle.Text.{text_at}
 use Rattle.paired_ops.proofs.ValueLaws.{text-denoted}
 use Rattle.paired_ops.proofs.FormLaws.{form-fits}
 use Rattle.paired_ops.proofs.FieldLaws.{writes-field, sets-leaves}
+use Rattle.paired_ops.proofs.StayingLaws.{sets-lasts}
 use Rattle.paired_ops.proofs.structures.set_field.Goals as goal
 
 pub set_field-set-requires-clause-fits : goal.set_field-set-requires-clause-fits
@@ -21,3 +22,8 @@ pub returns-clause-leaves : goal.returns-clause-leaves
 returns-clause-leaves g c =
     sets-leaves c.args.sw.now c.set_field-set.new.sw (g.V.Vault.outside c.args.vault.now) (g.V.Vault.outside c.set_field-set.new.vault) c.args.object
     (text_at c.args.sw.now c.args.class) c.args.located c.args.to c.set_field-set.result c.set_field-set.ensures.set
+
+pub returns-clause-lasts : goal.returns-clause-lasts
+returns-clause-lasts g c =
+    sets-lasts c.args.sw.now c.set_field-set.new.sw (g.V.Vault.outside c.args.vault.now) (g.V.Vault.outside c.set_field-set.new.vault) c.args.object
+    (text_at c.args.sw.now c.args.class) c.args.located c.args.to c.set_field-set.result c.requires.held c.set_field-set.ensures.set

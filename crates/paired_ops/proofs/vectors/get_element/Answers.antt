@@ -3,6 +3,7 @@ use Rattle.std.proofs.lemmas.Int.{to_z-of_z}
 use Rattle.paired_ops.proofs.ValueLaws.{vector-denoted}
 use Rattle.paired_ops.proofs.ReadLaws.{vector-at}
 use Rattle.paired_ops.proofs.ElementLaws.{answers-element, element-leaves}
+use Rattle.paired_ops.proofs.StayingLaws.{element-near, element-lasts}
 use Rattle.paired_ops.proofs.vectors.get_element.Goals as goal
 
 pub returns-clause-got : goal.returns-clause-got
@@ -19,4 +20,14 @@ returns-clause-got g c of names id world d =
 pub returns-clause-leaves : goal.returns-clause-leaves
 returns-clause-leaves g c =
     element-leaves c.args.sw.now c.get_element-got.new.sw (g.V.Vault.outside c.args.vault.now)
+    (g.V.Vault.outside c.get_element-got.new.vault) c.args.vector _ c.get_element-got.result c.get_element-got.ensures.got
+
+pub returns-clause-near : goal.returns-clause-near
+returns-clause-near g c =
+    element-near c.args.sw.now c.get_element-got.new.sw (g.V.Vault.outside c.args.vault.now)
+    (g.V.Vault.outside c.get_element-got.new.vault) c.args.vector _ c.get_element-got.result c.get_element-got.ensures.got
+
+pub returns-clause-lasts : goal.returns-clause-lasts
+returns-clause-lasts g c =
+    element-lasts c.args.sw.now c.get_element-got.new.sw (g.V.Vault.outside c.args.vault.now)
     (g.V.Vault.outside c.get_element-got.new.vault) c.args.vector _ c.get_element-got.result c.get_element-got.ensures.got

@@ -3,6 +3,7 @@ use Rattle.std.proofs.lemmas.Int.{to_z-of_z}
 use Rattle.paired_ops.proofs.ValueLaws.{vector-denoted}
 use Rattle.paired_ops.proofs.ReadLaws.{vector-at}
 use Rattle.paired_ops.proofs.ElementLaws.{writes-element, put-leaves}
+use Rattle.paired_ops.proofs.StayingLaws.{put-lasts}
 use Rattle.paired_ops.proofs.vectors.set_element.Goals as goal
 
 pub returns-clause-set : goal.returns-clause-set
@@ -20,3 +21,8 @@ pub returns-clause-leaves : goal.returns-clause-leaves
 returns-clause-leaves g c =
     put-leaves c.args.sw.now c.set_element-set.new.sw (g.V.Vault.outside c.args.vault.now)
     (g.V.Vault.outside c.set_element-set.new.vault) c.args.vector _ c.args.to c.set_element-set.result c.set_element-set.ensures.set
+
+pub returns-clause-lasts : goal.returns-clause-lasts
+returns-clause-lasts g c =
+    put-lasts c.args.sw.now c.set_element-set.new.sw (g.V.Vault.outside c.args.vault.now)
+    (g.V.Vault.outside c.set_element-set.new.vault) c.args.vector _ c.args.to c.set_element-set.result c.requires.held c.set_element-set.ensures.set

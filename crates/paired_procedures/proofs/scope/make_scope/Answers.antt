@@ -1,6 +1,7 @@
 use Rattle.paired_ops.specs.swizzle.Text.{text_at}
 use Rattle.paired_ops.proofs.ValueLaws.{text-denoted}
 use Rattle.paired_procedures.proofs.ScopeLaws.{makes-scope, scope-held}
+use Rattle.paired_procedures.proofs.StayingLaws.{scope-lasts}
 use Rattle.paired_procedures.proofs.scope.make_scope.Goals as goal
 
 pub returns-clause-made : goal.returns-clause-made
@@ -13,3 +14,8 @@ pub returns-clause-held : goal.returns-clause-held
 returns-clause-held c =
     scope-held c.args.sw.now c.make_scope-made.new.sw c.args.text c.args.parent (text_at c.args.sw.now c.args.text) c.make_scope-made.result
     c.make_scope-made.ensures.made
+
+pub returns-clause-lasts : goal.returns-clause-lasts
+returns-clause-lasts c =
+    scope-lasts c.args.sw.now c.make_scope-made.new.sw c.args.text c.args.parent (text_at c.args.sw.now c.args.text) c.make_scope-made.result
+    c.sound.ensures c.make_scope-made.ensures.made

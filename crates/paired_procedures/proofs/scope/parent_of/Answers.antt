@@ -1,4 +1,5 @@
 use Rattle.paired_procedures.proofs.ScopeLaws.{scope-denoted, answers-parent, parent-held, parent-leaves}
+use Rattle.paired_procedures.proofs.StayingLaws.{parent-lasts}
 use Rattle.paired_procedures.proofs.scope.parent_of.Goals as goal
 
 pub returns-clause-told : goal.returns-clause-told
@@ -15,4 +16,9 @@ returns-clause-leaves g c =
 pub returns-clause-held : goal.returns-clause-held
 returns-clause-held g c =
     parent-held c.args.sw.now c.parent_of-told.new.sw (g.V.Vault.outside c.args.vault.now) (g.V.Vault.outside c.parent_of-told.new.vault)
+    c.args.scope c.parent_of-told.result c.parent_of-told.ensures.told
+
+pub returns-clause-lasts : goal.returns-clause-lasts
+returns-clause-lasts g c =
+    parent-lasts c.args.sw.now c.parent_of-told.new.sw (g.V.Vault.outside c.args.vault.now) (g.V.Vault.outside c.parent_of-told.new.vault)
     c.args.scope c.parent_of-told.result c.parent_of-told.ensures.told

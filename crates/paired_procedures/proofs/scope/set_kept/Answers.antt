@@ -1,8 +1,8 @@
 use Rattle.paired_ops.proofs.of_swizzle.ReadingLaws.{leaves-then}
-use Rattle.scopes.proofs.of_heap_ops.ClassLaws.{stands-kept}
 use Rattle.scopes.proofs.of_heap_ops.VectorLaws.{near-kept}
 use Rattle.scopes.proofs.NameLaws.{so-kept}
-use Rattle.paired_procedures.proofs.KeptLaws.{no-scope, out-carries, sets-kept, set-leaves, stand-then}
+use Rattle.paired_procedures.proofs.KeptLaws.{no-scope, out-carries, sets-kept, set-leaves}
+use Rattle.paired_procedures.proofs.StayingLaws.{set-lasts}
 use Rattle.paired_procedures.proofs.scope.set_kept.Goals as goal
 
 pub returns-in-Err-clause-set : goal.returns-in-Err-clause-set
@@ -34,7 +34,8 @@ returns-clause-leaves g c =
     leaves-then (g.V.Vault.outside c.args.vault.now) before after c.in-Ok.ensures.leaves
     (set-leaves c.scope_out.new.sw c.set_kept-set.new.sw before after c.in-Ok.at c.args.name c.args.to c.set_kept-set.result c.set_kept-set.ensures.set)
 
-pub returns-clause-stands : goal.returns-clause-stands
-returns-clause-stands g c =
-    stand-then c.args.sw.now c.scope_out.new.sw c.set_kept-set.new.sw
-    (stands-kept c.args.sw.now c.scope_out.new.sw c.in-Ok.ensures.keeps) c.set_kept-set.result c.set_kept-set.ensures.stands
+pub returns-clause-lasts : goal.returns-clause-lasts
+returns-clause-lasts g c =
+    set-lasts c.args.sw.now c.scope_out.new.sw c.set_kept-set.new.sw (g.V.Vault.outside c.scope_out.new.vault)
+    (g.V.Vault.outside c.set_kept-set.new.vault) c.in-Ok.at c.args.name c.args.to c.set_kept-set.result c.in-Ok.ensures.keeps c.in-Ok.ensures.held
+    c.set_kept-set.ensures.set

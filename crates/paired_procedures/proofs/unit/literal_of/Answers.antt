@@ -13,6 +13,9 @@ returns-in_default-kind g c = record {
       (λ kinds. c.in_default-kind.not-Code (c.kind.ensures ∙ kinds)) (c.in-Ok.ensures.given bytes row frame is);
   stands = c.constant.ensures.stands;
   held = tt;
+  code = tt;
+  there = tt;
+  lasts = tt;
   leaves = c.constant.ensures.leaves;
   alive = tt;
 }

@@ -14,6 +14,8 @@ returns-in_default-kind g c = record {
   stands = c.constant.ensures.stands;
   held = tt;
   text = tt;
+  there = tt;
+  lasts = tt;
   leaves = c.constant.ensures.leaves;
   alive = tt;
 }

@@ -4,5 +4,5 @@ use Rattle.known_vectors.proofs.known.KnownVectors.find.Goals as goal
 
 pub returns-then-known-vector : goal.returns-then-known-vector
 returns-then-known-vector c =
-    λ here of names so. found-so here of names c.args.self.now.entries.items c.index_of-index.result c.args.vector c.index-known.result.now so
+    λ here so. found-so here c.args.self.now.entries.items c.index_of-index.result c.args.vector c.index-known.result.now so
     (omega (arith, c.if-index-len.false, c.len.ensures)) c.index-known.ensures c.if-known-vector.true c.requires

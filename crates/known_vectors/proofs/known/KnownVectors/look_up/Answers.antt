@@ -1,13 +1,19 @@
+use Rattle.std.proofs.Common.{refl}
+use Rattle.paired_ops.proofs.LastingLaws.{lasts-same}
 use Rattle.paired_ops.proofs.ReadLaws.{nothing-done}
-use Rattle.known_vectors.proofs.Access.{the-vector, held-from-one, same-known}
+use Rattle.known_vectors.proofs.Access.{held-from-one, same-known}
 use Rattle.known_vectors.proofs.known.KnownVectors.look_up.Goals as goal
 
 pub find-requires : goal.find-requires
-find-requires g c =
-    let t = c.requires.there in
-    held-from-one c.args.sw.now c.args.vector c.sound.ensures (the-vector c.args.sw.now t.of t.names c.args.vector t.id c.sound.ensures t.world t.denotes).held
+find-requires g c = held-from-one c.args.sw.now c.args.vector c.sound.ensures c.requires.held
 
 pub returns-in-Some-clause-finds : goal.returns-in-Some-clause-finds
-returns-in-Some-clause-finds g c of names id world denotes so =
-    let f = c.in-Some.ensures c.args.sw.now of names so in
-    (f.0, same-known c.args.sw.now of names c.args.vector id c.in-Some.known c.sound.ensures world denotes f.0 f.1, nothing-done c.args.sw.now of names world, so)
+returns-in-Some-clause-finds g c of names id world denotes =
+    let f = c.in-Some.ensures c.args.sw.now c.requires.so in
+    (same-known c.args.sw.now of names c.args.vector id c.in-Some.known c.sound.ensures world denotes f, nothing-done c.args.sw.now of names world)
+
+pub returns-in-Some-clause-known : goal.returns-in-Some-clause-known
+returns-in-Some-clause-known g c = c.in-Some.ensures c.args.sw.now c.requires.so
+
+pub returns-in-Some-clause-lasts : goal.returns-in-Some-clause-lasts
+returns-in-Some-clause-lasts g c = lasts-same c.args.sw.now c.args.sw.now refl

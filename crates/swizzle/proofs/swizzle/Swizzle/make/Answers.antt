@@ -6,7 +6,7 @@ use Rattle.swizzle.specs.Objects.{object_words}
 use Rattle.swizzle.specs.Heap.{Heap, blank, with_new, top_of}
 use Rattle.swizzle.specs.declared.fault.SwizzleFault.TheVariants.{AreaFull}
 use Rattle.swizzle.specs.View.{beside_of}
-use Rattle.swizzle.proofs.PidLaws.{mapped-new}
+use Rattle.swizzle.proofs.ChainedLaws.{mapped-new}
 use Rattle.swizzle.proofs.KeptLaws.{inside_nil, Again, laid, kept_long, written_new, blank_words, IsFit-blank, heap_is}
 use Rattle.swizzle.proofs.StandLaws.{stands-new, stands-same}
 use Rattle.swizzle.proofs.swizzle.Swizzle.make.Goals as goal

@@ -43,7 +43,7 @@ written c =
     rewritten c.self.inside c.set_word.new.self c.push.new.self.items (vec_capacity c.push.new.self) now at 0 _ (c.word-first.result + 256) (flagged o)
     c.self.view_is c.self.invariant l c.set_word.ensures.written (omega arith) (omega arith)
     (set_of_flag o c.word-first.result (lies-word_at _ _ at 0 _ _ l (omega arith) (omega arith) c.word-first.ensures))
-    (IsFit-flagged o l.split.fit c.requires.plain) refl refl
+    (IsFit-flagged o l.split.fit c.requires.plain) refl refl refl
     (subst (AreNoted (replace_from 1 now.objects at (flagged o))) (sym list) noted)
     (omega (arith, c.self.invariant.for_assigned, c.in-Ok.ensures.capacity))
     (inside_kept now at l.heap_is c.requires.held)

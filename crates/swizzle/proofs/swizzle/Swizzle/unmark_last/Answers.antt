@@ -36,7 +36,7 @@ invariant_of-self c =
       cut = k.cut;
       heap = subst (λ (xs : List ℕ). IsHeap (heap_from c.self.inside.area.words c.self.inside.area.size xs)) (sym (same c)) k.heap;
       for_assigned = omega (arith, k.for_assigned, c.in_default.ensures.capacity);
-      pids = record { mapped = k.pids.mapped; counted = k.pids.counted; for_pairs = k.pids.for_pairs; for_fetch = k.pids.for_fetch };
+      pids = record { some = k.pids.some; chained = k.pids.chained; for_fetch = k.pids.for_fetch };
     }
 
 pub returns-in_default-clause-all : goal.returns-in_default-clause-all

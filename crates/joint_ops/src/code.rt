@@ -1,0 +1,60 @@
+//! Units of code, loaded and read.
+ghost use Rattle.std.specs.Prelude.{◌≡◌, ℕ, List, IfOk, OnOk};
+ghost use Rattle.ps_base.specs.CodeUnit.{ConstantsView, unit, unit_view};
+ghost use Rattle.ps_base.specs.declared.code_unit.Frame.{Frame};
+ghost use Rattle.heap_meaning.specs.obj_layout.declared.reference.Reference.{Reference};
+ghost use Rattle.heap_meaning.specs.swizzle.Heap.{IsHeld};
+ghost use Rattle.heap_meaning.specs.swizzle.Reading.{LeavesOutside};
+ghost use Rattle.heap_meaning.specs.swizzle.Touch.{Keeps};
+ghost use Rattle.heap_meaning.specs.ps_meaning.Objects as meaning;
+ghost use Rattle.joint_ops.specs.World.{IsUnitIn, IsWorld, Stands, FailsAsReading};
+ghost use Rattle.joint_ops.specs.Code.{LoadsUnit, AnswersConstant};
+
+use heap_meaning::obj_layout::vault::Vault;
+use heap_meaning::proc_values::load::load_unit;
+use heap_meaning::proc_values::reading;
+use heap_meaning::swizzle::fault::SwizzleFault;
+use heap_meaning::swizzle::swizzle::Swizzle;
+use ps_base::code_unit::CodeUnit;
+
+/// Makes the objects of a unit, those of its constants first, and answers its code object. AreaFull exactly where there is no room for all of
+/// them; those before the one that didn't fit stay until `reset`. The vault is there for the clause alone.
+#[inline]
+pub fn load<V: Vault>(sw: &mut Swizzle, _vault: &V, unit: &CodeUnit) -> Result<u32, SwizzleFault>
+    ensures loaded { LoadsUnit sw.old sw.new (V.outside _vault.now) (unit_view unit.now) result }
+    ensures held { IfOk result (IsHeld sw.new) }
+    ensures keeps { Keeps sw.old sw.new }
+{
+    sw.sound();
+    let loaded = load_unit(sw, unit);
+    sw.sound();
+    loaded
+}
+
+/// The object of a constant of a code object. Of the code object of a unit it is damaged exactly where the unit has no such constant. What isn't in
+/// the area is fetched.
+#[inline]
+pub fn constant<V: Vault>(
+    sw: &mut Swizzle,
+    vault: &mut V,
+    code: u32,
+    index: u32,
+) -> Result<u32, SwizzleFault>
+    requires alive { V.alive vault.old }
+    requires held { IsHeld sw.old code }
+    ensures given { (bytes : List ℕ) (constants : ConstantsView) (frame : Frame) → IsUnitIn sw.old (V.outside vault.old) code (unit bytes constants frame)
+        → AnswersConstant sw.old sw.new (V.outside vault.old) (V.outside vault.new) code constants index result }
+    ensures world { OnOk result ((of : meaning.Heap) (names : List Reference) → IsWorld sw.old (V.outside vault.old) of names
+        → Stands sw.old sw.new (V.outside vault.old) (V.outside vault.new) of names) }
+    ensures keeps { OnOk result (Keeps sw.old sw.new) }
+    ensures held { IfOk result (IsHeld sw.new) }
+    ensures fails { FailsAsReading (V.outside vault.old) (V.outside vault.new) result }
+    ensures leaves { LeavesOutside (V.outside vault.old) (V.outside vault.new) }
+    ensures numbers { (V.used_words vault.new ≡ V.used_words vault.old) × (V.directory_at vault.new ≡ V.directory_at vault.old) × (V.most_words vault.new ≡ V.most_words vault.old) }
+    ensures alive { OnOk result (V.alive vault.new) }
+{
+    sw.sound();
+    let given = reading::constant(sw, vault, code, index);
+    sw.sound();
+    given
+}

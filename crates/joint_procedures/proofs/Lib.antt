@@ -1,0 +1,4 @@
+pub mod FrameLaws
+pub mod ProcedureLaws
+pub mod ScopeLaws
+pub mod KeptLaws

@@ -1,0 +1,23 @@
+use Rattle.std.proofs.Common.{sym, ◌∙◌}
+use Rattle.joint_procedures.proofs.FrameLaws.{text-found, text-other}
+use Rattle.joint_procedures.proofs.unit.text_of.Goals as goal
+
+pub returns-in-Text-clause-given : goal.returns-in-Text-clause-given
+returns-in-Text-clause-given g c bytes row frame is =
+    text-found c.args.sw.now c.constant.new.sw (g.V.Vault.outside c.args.vault.now) (g.V.Vault.outside c.constant.new.vault) c.args.code c.args.index
+    c.in-Ok.at c.sound.ensures row (sym c.kind.ensures ∙ c.in-Text.is) (c.in-Ok.ensures.given bytes row frame is)
+
+pub returns-in_default : goal.returns-in_default
+returns-in_default g c = record {
+  given = λ bytes row frame is. text-other c.args.sw.now c.constant.new.sw (g.V.Vault.outside c.args.vault.now) (g.V.Vault.outside c.constant.new.vault)
+      c.args.code c.args.index c.in-Ok.at c.sound.ensures row (λ kinds. c.in_default.not-Text (c.kind.ensures ∙ kinds))
+      (c.in-Ok.ensures.given bytes row frame is);
+  world = c.in-Ok.ensures.world;
+  keeps = c.in-Ok.ensures.keeps;
+  held = tt;
+  text = tt;
+  fails = tt;
+  leaves = c.in-Ok.ensures.leaves;
+  numbers = c.in-Ok.ensures.numbers;
+  alive = c.in-Ok.ensures.alive;
+}

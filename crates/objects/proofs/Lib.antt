@@ -1,0 +1,3 @@
+pub mod LastingLaws
+pub mod FieldEntries
+pub mod KnownLaws

@@ -1,0 +1,4 @@
+pub mod Lasting
+pub mod Fields
+pub mod Known
+pub mod Inside

@@ -1,0 +1,11 @@
+//! The objects that a program works on, whatever their residence: an area with what was looked up of it, over a vault that objects are fetched from.
+//! Each operation is said as the meaning says it.
+#![tactic(auto)]
+
+mod known;
+mod known_fields;
+pub mod objects;
+mod places;
+
+pub use joint_ops;
+pub use joint_ops::{OpFault, Value, obj_layout, swizzle};

@@ -1,0 +1,2 @@
+pub mod Chains
+pub use Rattle.reaching.specs as reaching

@@ -1,0 +1,6 @@
+pub mod KeyLaws
+pub mod NodeLaws
+pub mod StepLaws
+pub mod TurnLaws
+pub use Rattle.heap_places.proofs as of_heap_places
+pub use Rattle.avl_trees.proofs as of_avl_trees

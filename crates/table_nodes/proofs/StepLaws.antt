@@ -1,0 +1,76 @@
+-- What is known of nodes while a tree of them is changed.
+use Rattle.std.proofs.Common.{◌≡◌, ℕ, List, Option, Some, None, Result, Ok, Err, OnOk, refl, subst}
+use Rattle.heap_places.specs.ps_outside.Outside.{Outside}
+use Rattle.heap_places.specs.obj_layout.Stored.{Space, Holds}
+use Rattle.heap_places.specs.obj_layout.declared.reference.Reference.{Reference}
+use Rattle.heap_places.specs.swizzle.declared.fault.SwizzleFault.{SwizzleFault}
+use Rattle.heap_places.specs.swizzle.Heap.{Heap}
+use Rattle.heap_places.specs.swizzle.Reading.{joint}
+use Rattle.heap_places.proofs.of_swizzle.NameLaws.{Joint-one}
+use Rattle.avl_trees.specs.Trees.{Tree, leaf, node, height}
+use Rattle.avl_trees.specs.Standing.{root_of, row_of, Stands, IsOne, IsWritten}
+use Rattle.avl_trees.proofs.Turning.{set_between, touched}
+use Rattle.table_nodes.specs.Keys.{Keys, order_by}
+use Rattle.table_nodes.specs.Nodes.{Seat, IsSeat, IsNamed, IsLinked, IsSide, Links, with_sides}
+use Rattle.table_nodes.specs.Steps.{I, Place, place, rows_of, IsPlace, AreSides, SetsSides, Holds as Keeps, Answers, Touches}
+use Rattle.table_nodes.proofs.KeyLaws.{total}
+use Rattle.table_nodes.proofs.NodeLaws.{seat_one, joint_one, single_kept, fetch_back}
+
+pub one : (ks : Keys) (p : Place) → IsPlace p → IsOne (rows_of ks p)
+one ks p h n a b k l =
+    let same = Joint-one p.heap (Holds p.outside) n l.it k.it h.heap h.single.one l.there k.there in
+    seat_one ks (joint p.heap p.outside) k.it a b (joint_one p.heap p.outside h.heap h.single) k.is (subst (λ it. IsSeat ks (joint p.heap p.outside) it b) same l.is)
+
+-- the height that was read is that of the tree there
+pub height_is : (ks : Keys) (p : Place) (side : Option ℕ) (h : ℕ) → (side ≡ None → h ≡ 0) → ((at : ℕ) (n : Reference) (row : Seat ks) → side ≡ Some at → IsNamed p.heap at n → rows_of ks p n row → h ≡ row.height)
+    → (t : Tree (I ks)) → Stands (rows_of ks p) t → IsLinked p.heap side (root_of t) → h ≡ height t
+height_is ks p None h none some leaf s e = none refl
+height_is ks p (Some at) h none some leaf s e = absurd e
+height_is ks p None h none some (node l a r) s e = absurd e
+height_is ks p (Some at) h none some (node l a r) s e = some at a.name (row_of l a r) refl e s.0
+
+-- the root of what stands is a side
+pub is_side : (ks : Keys) (p : Place) (t : Tree (I ks)) → Stands (rows_of ks p) t → IsSide ks p.heap p.outside (root_of t)
+is_side ks p leaf s = tt
+is_side ks p (node l a r) s = (row_of l a r, s.0)
+
+pub linked_kept : (a b : Heap) → ((at : ℕ) (n : Reference) → IsNamed a at n → IsNamed b at n) → (side : Option ℕ) (l : Option Reference) → IsLinked a side l → IsLinked b side l
+linked_kept a b f None None m = tt
+linked_kept a b f (Some at) (Some n) m = f at n m
+linked_kept a b f None (Some n) m = m
+linked_kept a b f (Some at) None m = m
+
+pub place_touched : (old new : Place) → Touches old new → IsPlace old → IsPlace new
+place_touched old new g p = record { heap = g.heap; single = single_kept old.outside new.outside g.contents p.single }
+
+pub touches_then : (old mid new : Place) → Touches old mid → Touches mid new → Touches old new
+touches_then old mid new f g = record {
+  rows = λ ks n row h. g.rows ks n row (f.rows ks n row h);
+  nodes = λ at h. g.nodes at (f.nodes at h);
+  named = λ at n h. g.named at n (f.named at n h);
+  heap = g.heap;
+  contents = record { kept = λ x h. g.contents.kept x (f.contents.kept x h); no_other = λ x h. f.contents.no_other x (g.contents.no_other x h) };
+}
+
+-- a node was given its sides
+pub sides_set : (old new : Heap) (outside : Outside Space) (at : ℕ) (left right : Option ℕ) (h : ℕ) → Links old new outside at left right h
+    → ((ks : Keys) (l : Tree (I ks)) (a : I ks) (r : Tree (I ks)) → AreSides ks (place old outside) at left right l a r → h ≡ height (node l a r)) → SetsSides (place old outside) (place new outside) at left right
+sides_set old new outside at left right h w high = record {
+  set = λ ks l a r g.
+      let k = g.given.has in
+      let e = high ks l a r g in
+      let is : with_sides (root_of l) (root_of r) h k.row ≡ row_of l a r = cc (e, k.entry) in
+      let v = w.written ks a.name (root_of l) (root_of r) k.row g.here.single g.name g.left_is g.right_is k.there in
+      set_between (order_by ks) (total ks) (rows_of ks (place old outside)) (rows_of ks (place new outside)) (one ks (place old outside) g.here) l a r g.given (subst (λ row. IsWritten (rows_of ks (place old outside)) a.name row (rows_of ks (place new outside))) is v);
+  here = λ p. record { heap = w.heap; single = p.single };
+  holds = record { nodes = w.nodes; named = w.named };
+}
+
+-- what was answered after touches
+pub answers_touched : (ks : Keys) (old m new : Place) → Touches old m → (is : List (I ks)) (t : Tree (I ks)) (result : Result ℕ SwizzleFault) → Answers ks m new is t result → Answers ks old new is t result
+answers_touched ks old m new grows is t (Ok root) w = record { becomes = touched (rows_of ks old) (rows_of ks m) (rows_of ks new) is t (grows.rows ks) w.becomes; here = w.here; root_is = w.root_is }
+answers_touched ks old m new grows is t (Err fault) w = fetch_back old.outside m.outside fault grows.contents w
+
+pub holds_after : (old m new : Place) → Touches old m → (result : Result ℕ SwizzleFault) → OnOk result (Keeps m.heap new.heap) → OnOk result (Keeps old.heap new.heap)
+holds_after old m new g (Ok root) w = record { nodes = λ at h. w.nodes at (g.nodes at h); named = λ at n h. w.named at n (g.named at n h) }
+holds_after old m new g (Err fault) w = tt

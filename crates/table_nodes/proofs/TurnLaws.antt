@@ -1,0 +1,133 @@
+-- A turn of two nodes, and one of three.
+use Rattle.std.proofs.Common.{ℕ, ◌+◌, ◌≤◌, ◌<◌, ◌∷◌, ◌++◌, Option, Some, Result, arith}
+use Rattle.std.proofs.lemmas.Bool.{lt-ltb, le-ltb}
+use Rattle.heap_places.specs.swizzle.declared.fault.SwizzleFault.{SwizzleFault}
+use Rattle.avl_trees.specs.Trees.{Tree, node, items, height, lean_left, lean_right, lean_inner, lean_outer, balance}
+use Rattle.avl_trees.specs.Standing.{root_of}
+use Rattle.avl_trees.proofs.Turning.{touched}
+use Rattle.avl_trees.proofs.Turns.{given_grown, turned_right, turned_left, turned_inner, turned_outer}
+use Rattle.table_nodes.specs.Keys.{Keys, order_by}
+use Rattle.table_nodes.specs.Nodes.{IsLinked}
+use Rattle.table_nodes.specs.Steps.{I, Place, rows_of, AreSides, AreTurned, AreTurnedOut, StandsAt, SetsSides, TurnsInner, TurnsOuter, TurnsRight, TurnsLeft, Answers, Touches}
+use Rattle.table_nodes.proofs.KeyLaws.{total}
+use Rattle.table_nodes.proofs.StepLaws.{one, linked_kept, place_touched, answers_touched}
+
+pub single_right : (ks : Keys) (old m m1 m2 : Place) (at left : ℕ) (outer inner right : Option ℕ) → Touches old m → SetsSides m m1 at inner right → SetsSides m1 m2 left outer (Some at)
+    → (x : Tree (I ks)) (b : I ks) (y : Tree (I ks)) (a : I ks) (r : Tree (I ks)) → AreSides ks old at (Some left) right (node x b y) a r → height r + 1 < height (node x b y) → height y ≤ height x
+    → IsLinked m.heap outer (root_of x) → IsLinked m.heap inner (root_of y) → StandsAt ks old m2 (items (node x b y) ++ a ∷ items r) (lean_left (node x b y) a r) left
+unfolding lean_left
+single_right ks old m m1 m2 at left outer inner right grows s1 s2 x b y a r g tall ge ox iy =
+    let here = place_touched old m grows g.here in
+    let here1 = s1.here here in
+    let an = grows.named at a.name g.name in
+    let bn = grows.named left b.name g.left_is in
+    let rn = linked_kept old.heap m.heap grows.named right (root_of r) g.right_is in
+    let ox1 = linked_kept m.heap m1.heap s1.holds.named outer (root_of x) ox in
+    rw (le-ltb (height x) (height y) ge) (record {
+      becomes = touched (rows_of ks old) (rows_of ks m) (rows_of ks m2) _ _ (grows.rows ks) (turned_right (order_by ks) (total ks) (rows_of ks m) (rows_of ks m1) (rows_of ks m2) (one ks m here) x b y a r (given_grown (order_by ks) (rows_of ks old) (rows_of ks m) (grows.rows ks) (node x b y) a r g.given)
+          (λ k. s1.set ks y a r (record { given = k; here = here; name = an; left_is = iy; right_is = rn; left_low = omega (arith, g.left_low); right_low = g.right_low }))
+          (λ k. s2.set ks x b (node y a r) (record { given = k; here = here1; name = s1.holds.named left b.name bn; left_is = ox1; right_is = s1.holds.named at a.name an; left_low = omega (arith, g.left_low); right_low = omega (arith, g.left_low) })));
+      here = s2.here here1;
+      root_is = s2.holds.named left b.name (s1.holds.named left b.name bn);
+    })
+
+pub single_left : (ks : Keys) (old m m1 m2 : Place) (at right : ℕ) (left inner outer : Option ℕ) → Touches old m → SetsSides m m1 at left inner → SetsSides m1 m2 right (Some at) outer
+    → (l : Tree (I ks)) (a : I ks) (x : Tree (I ks)) (b : I ks) (y : Tree (I ks)) → AreSides ks old at left (Some right) l a (node x b y) → height l + 1 < height (node x b y) → height x ≤ height y
+    → IsLinked m.heap inner (root_of x) → IsLinked m.heap outer (root_of y) → StandsAt ks old m2 (items l ++ a ∷ items (node x b y)) (lean_right l a (node x b y)) right
+unfolding lean_right
+single_left ks old m m1 m2 at right left inner outer grows s1 s2 l a x b y g tall ge ix oy =
+    let here = place_touched old m grows g.here in
+    let here1 = s1.here here in
+    let an = grows.named at a.name g.name in
+    let bn = grows.named right b.name g.right_is in
+    let ln = linked_kept old.heap m.heap grows.named left (root_of l) g.left_is in
+    let oy1 = linked_kept m.heap m1.heap s1.holds.named outer (root_of y) oy in
+    rw (le-ltb (height y) (height x) ge) (record {
+      becomes = touched (rows_of ks old) (rows_of ks m) (rows_of ks m2) _ _ (grows.rows ks) (turned_left (order_by ks) (total ks) (rows_of ks m) (rows_of ks m1) (rows_of ks m2) (one ks m here) l a x b y (given_grown (order_by ks) (rows_of ks old) (rows_of ks m) (grows.rows ks) l a (node x b y) g.given)
+          (λ k. s1.set ks l a x (record { given = k; here = here; name = an; left_is = ln; right_is = ix; left_low = g.left_low; right_low = omega (arith, g.right_low) }))
+          (λ k. s2.set ks (node l a x) b y (record { given = k; here = here1; name = s1.holds.named right b.name bn; left_is = s1.holds.named at a.name an; right_is = oy1; left_low = omega (arith, g.right_low); right_low = omega (arith, g.right_low) })));
+      here = s2.here here1;
+      root_is = s2.holds.named right b.name (s1.holds.named right b.name bn);
+    })
+
+pub double_inner : (ks : Keys) (old m m1 m2 m3 : Place) (at left middle : ℕ) (outer before after right : Option ℕ) → Touches old m → SetsSides m m1 left outer before → SetsSides m1 m2 at after right → SetsSides m2 m3 middle (Some left) (Some at)
+    → (x : Tree (I ks)) (b : I ks) (u : Tree (I ks)) (c : I ks) (v : Tree (I ks)) (a : I ks) (r : Tree (I ks)) → AreTurned ks old at left outer (Some middle) right x b (node u c v) a r
+    → IsLinked m.heap before (root_of u) → IsLinked m.heap after (root_of v) → StandsAt ks old m3 (items (node x b (node u c v)) ++ a ∷ items r) (lean_inner x b (node u c v) a r) middle
+unfolding lean_inner
+double_inner ks old m m1 m2 m3 at left middle outer before after right grows s1 s2 s3 x b u c v a r g ub vb =
+    let here = place_touched old m grows g.here in
+    let here1 = s1.here here in
+    let here2 = s2.here here1 in
+    let an = grows.named at a.name g.at_is in
+    let bn = grows.named left b.name g.left_is in
+    let cn = grows.named middle c.name g.inner_is in
+    let an1 = s1.holds.named at a.name an in
+    let rn1 = linked_kept m.heap m1.heap s1.holds.named right (root_of r) (linked_kept old.heap m.heap grows.named right (root_of r) g.right_is) in
+    let vb1 = linked_kept m.heap m1.heap s1.holds.named after (root_of v) vb in
+    let cn2 = s2.holds.named middle c.name (s1.holds.named middle c.name cn) in
+    record {
+      becomes = touched (rows_of ks old) (rows_of ks m) (rows_of ks m3) _ _ (grows.rows ks) (turned_inner (order_by ks) (total ks) (rows_of ks m) (rows_of ks m1) (rows_of ks m2) (rows_of ks m3) (one ks m here) (one ks m1 here1) x b u c v a r
+          (given_grown (order_by ks) (rows_of ks old) (rows_of ks m) (grows.rows ks) (node x b (node u c v)) a r g.given)
+          (λ k. s1.set ks x b u (record { given = k; here = here; name = bn; left_is = linked_kept old.heap m.heap grows.named outer (root_of x) g.outer_is; right_is = ub; left_low = omega (arith, g.low, g.lower); right_low = omega (arith, g.low) }))
+          (λ k. s2.set ks v a r (record { given = k; here = here1; name = an1; left_is = vb1; right_is = rn1; left_low = omega (arith, g.low); right_low = omega (arith, g.right_low) }))
+          (λ k. s3.set ks (node x b u) c (node v a r) (record { given = k; here = here2; name = cn2; left_is = s2.holds.named left b.name (s1.holds.named left b.name bn); right_is = s2.holds.named at a.name an1; left_low = omega (arith, g.low, g.lower); right_low = omega (arith, g.low, g.right_low) })));
+      here = s3.here here2;
+      root_is = s3.holds.named middle c.name cn2;
+    }
+
+pub double_outer : (ks : Keys) (old m m1 m2 m3 : Place) (at right middle : ℕ) (left before after outer : Option ℕ) → Touches old m → SetsSides m m1 at left before → SetsSides m1 m2 right after outer → SetsSides m2 m3 middle (Some at) (Some right)
+    → (l : Tree (I ks)) (a : I ks) (u : Tree (I ks)) (c : I ks) (v : Tree (I ks)) (b : I ks) (y : Tree (I ks)) → AreTurnedOut ks old at right left (Some middle) outer l a (node u c v) b y
+    → IsLinked m.heap before (root_of u) → IsLinked m.heap after (root_of v) → StandsAt ks old m3 (items l ++ a ∷ items (node (node u c v) b y)) (lean_outer l a (node u c v) b y) middle
+unfolding lean_outer
+double_outer ks old m m1 m2 m3 at right middle left before after outer grows s1 s2 s3 l a u c v b y g ub vb =
+    let here = place_touched old m grows g.here in
+    let here1 = s1.here here in
+    let here2 = s2.here here1 in
+    let an = grows.named at a.name g.at_is in
+    let bn = grows.named right b.name g.right_is in
+    let cn = grows.named middle c.name g.inner_is in
+    let bn1 = s1.holds.named right b.name bn in
+    let on1 = linked_kept m.heap m1.heap s1.holds.named outer (root_of y) (linked_kept old.heap m.heap grows.named outer (root_of y) g.outer_is) in
+    let vb1 = linked_kept m.heap m1.heap s1.holds.named after (root_of v) vb in
+    let cn2 = s2.holds.named middle c.name (s1.holds.named middle c.name cn) in
+    record {
+      becomes = touched (rows_of ks old) (rows_of ks m) (rows_of ks m3) _ _ (grows.rows ks) (turned_outer (order_by ks) (total ks) (rows_of ks m) (rows_of ks m1) (rows_of ks m2) (rows_of ks m3) (one ks m here) (one ks m1 here1) l a u c v b y
+          (given_grown (order_by ks) (rows_of ks old) (rows_of ks m) (grows.rows ks) l a (node (node u c v) b y) g.given)
+          (λ k. s1.set ks l a u (record { given = k; here = here; name = an; left_is = linked_kept old.heap m.heap grows.named left (root_of l) g.left_is; right_is = ub; left_low = omega (arith, g.left_low); right_low = omega (arith, g.low) }))
+          (λ k. s2.set ks v b y (record { given = k; here = here1; name = bn1; left_is = vb1; right_is = on1; left_low = omega (arith, g.low); right_low = omega (arith, g.low, g.lower) }))
+          (λ k. s3.set ks (node l a u) c (node v b y) (record { given = k; here = here2; name = cn2; left_is = s2.holds.named at a.name (s1.holds.named at a.name an); right_is = s2.holds.named right b.name bn1; left_low = omega (arith, g.low, g.left_low); right_low = omega (arith, g.low, g.lower) })));
+      here = s3.here here2;
+      root_is = s3.holds.named middle c.name cn2;
+    }
+
+pub via_inner : (ks : Keys) (old m new : Place) (at left : ℕ) (outer inner right : Option ℕ) (result : Result ℕ SwizzleFault) → Touches old m → TurnsInner m new at left outer inner right result
+    → (x : Tree (I ks)) (b : I ks) (y : Tree (I ks)) (a : I ks) (r : Tree (I ks)) → AreSides ks old at (Some left) right (node x b y) a r → height r + 1 < height (node x b y) → height x < height y
+    → IsLinked m.heap outer (root_of x) → IsLinked m.heap inner (root_of y) → Answers ks old new (items (node x b y) ++ a ∷ items r) (lean_left (node x b y) a r) result
+unfolding lean_left
+via_inner ks old m new at left outer inner right result grows turns x b y a r g tall lt ox iy =
+    rw (lt-ltb (height x) (height y) lt) (answers_touched ks old m new grows (items (node x b y) ++ a ∷ items r) (lean_inner x b y a r) result
+    (turns ks x b y a r (record { given = given_grown (order_by ks) (rows_of ks old) (rows_of ks m) (grows.rows ks) (node x b y) a r g.given; here = place_touched old m grows g.here; at_is = grows.named at a.name g.name; left_is = grows.named left b.name g.left_is; outer_is = ox; inner_is = iy; right_is = linked_kept old.heap m.heap grows.named right (root_of r) g.right_is; lower = lt; low = omega (arith, g.left_low); right_low = omega (arith, g.left_low) })))
+
+pub via_outer : (ks : Keys) (old m new : Place) (at right : ℕ) (left inner outer : Option ℕ) (result : Result ℕ SwizzleFault) → Touches old m → TurnsOuter m new at right left inner outer result
+    → (l : Tree (I ks)) (a : I ks) (x : Tree (I ks)) (b : I ks) (y : Tree (I ks)) → AreSides ks old at left (Some right) l a (node x b y) → height l + 1 < height (node x b y) → height y < height x
+    → IsLinked m.heap inner (root_of x) → IsLinked m.heap outer (root_of y) → Answers ks old new (items l ++ a ∷ items (node x b y)) (lean_right l a (node x b y)) result
+unfolding lean_right
+via_outer ks old m new at right left inner outer result grows turns l a x b y g tall lt ix oy =
+    rw (lt-ltb (height y) (height x) lt) (answers_touched ks old m new grows (items l ++ a ∷ items (node x b y)) (lean_outer l a x b y) result
+    (turns ks l a x b y (record { given = given_grown (order_by ks) (rows_of ks old) (rows_of ks m) (grows.rows ks) l a (node x b y) g.given; here = place_touched old m grows g.here; at_is = grows.named at a.name g.name; right_is = grows.named right b.name g.right_is; inner_is = ix; outer_is = oy; left_is = linked_kept old.heap m.heap grows.named left (root_of l) g.left_is; lower = lt; low = omega (arith, g.right_low); left_low = omega (arith, g.right_low) })))
+
+pub balanced_right : (ks : Keys) (old new : Place) (at left : ℕ) (right : Option ℕ) (result : Result ℕ SwizzleFault) → TurnsRight old new at left right result → (l : Tree (I ks)) (a : I ks) (r : Tree (I ks)) → AreSides ks old at (Some left) right l a r → height r + 1 < height l
+    → Answers ks old new (items l ++ a ∷ items r) (balance l a r) result
+unfolding balance
+balanced_right ks old new at left right result f l a r g tall = rw (lt-ltb (height r + 1) (height l) tall) (f ks l a r g tall)
+
+pub balanced_left : (ks : Keys) (old new : Place) (at right : ℕ) (left : Option ℕ) (result : Result ℕ SwizzleFault) → TurnsLeft old new at left right result → (l : Tree (I ks)) (a : I ks) (r : Tree (I ks)) → AreSides ks old at left (Some right) l a r → height l + 1 < height r
+    → Answers ks old new (items l ++ a ∷ items r) (balance l a r) result
+unfolding balance
+balanced_left ks old new at right left result f l a r g tall = rw (le-ltb (height r + 1) (height l) (omega arith), lt-ltb (height l + 1) (height r) tall) (f ks l a r g tall)
+
+pub balanced_plain : (ks : Keys) (old new : Place) (at : ℕ) (left right : Option ℕ) → SetsSides old new at left right → (l : Tree (I ks)) (a : I ks) (r : Tree (I ks)) → AreSides ks old at left right l a r → height l ≤ height r + 1 → height r ≤ height l + 1
+    → StandsAt ks old new (items l ++ a ∷ items r) (balance l a r) at
+unfolding balance
+balanced_plain ks old new at left right s l a r g low high =
+    rw (le-ltb (height r + 1) (height l) low, le-ltb (height l + 1) (height r) high) (record { becomes = s.set ks l a r g; here = s.here g.here; root_is = s.holds.named at a.name g.name })

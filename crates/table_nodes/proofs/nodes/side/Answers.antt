@@ -1,0 +1,34 @@
+use Rattle.heap_places.specs.swizzle.Heap.{ref_at}
+use Rattle.heap_places.specs.swizzle.Joint.{name_of}
+use Rattle.table_nodes.proofs.NodeLaws.{seat_at, side_seen, linked_some, linked_none, grows_touch, side_kind, side_row}
+use Rattle.table_nodes.proofs.nodes.side.Goals as goal
+
+pub returns-then-is_node-clause-side : goal.returns-then-is_node-clause-side
+returns-then-is_node-clause-side g c ks n row named r =
+    let s = seat_at ks c.args.sw.now (g.V.Vault.outside c.args.vault.now) c.args.at n row c.sound.ensures named r in
+    linked_some c.touch_slot.new.self c.in-Ok-Some.to (name_of c.args.sw.now (ref_at c.args.sw.now c.args.at c.args.slot)) _ (c.is_node.ensures.yes c.if-is_node.true)
+    (rw c.in-Ok-Some.field-0-is at c.in-Ok-Some.ensures.target)
+    (side_seen ks c.args.sw.now (g.V.Vault.outside c.args.vault.now) c.args.at c.args.slot row c.requires.slot s)
+
+pub returns-then-is_node-clause-grows : goal.returns-then-is_node-clause-grows
+returns-then-is_node-clause-grows g c = grows_touch c.args.sw.now c.touch_slot.new.self (g.V.Vault.outside c.args.vault.now) (g.V.Vault.outside c.touch_slot.new.vault) _ c.sound.ensures c.sound-in-Ok-Some.ensures c.in-Ok-Some.ensures.call.contents c.in-Ok-Some.ensures.keeps c.in-Ok-Some.ensures.joint
+
+pub returns-in-Ok-None-clause-side : goal.returns-in-Ok-None-clause-side
+returns-in-Ok-None-clause-side g c ks n row named r =
+    let s = seat_at ks c.args.sw.now (g.V.Vault.outside c.args.vault.now) c.args.at n row c.sound.ensures named r in
+    linked_none c.touch_slot.new.self (name_of c.args.sw.now (ref_at c.args.sw.now c.args.at c.args.slot)) _ (rw c.in-Ok-None.field-0-is at c.in-Ok-None.ensures.target)
+    (side_seen ks c.args.sw.now (g.V.Vault.outside c.args.vault.now) c.args.at c.args.slot row c.requires.slot s)
+
+pub returns-else-is_node-clause-sound : goal.returns-else-is_node-clause-sound
+returns-else-is_node-clause-sound g c ks n row named r known =
+    let a = g.V.Vault.outside c.args.vault.now in
+    let b = g.V.Vault.outside c.touch_slot.new.vault in
+    let s = seat_at ks c.args.sw.now a c.args.at n row c.sound.ensures named r in
+    let grows = grows_touch c.args.sw.now c.touch_slot.new.self a b _ c.sound.ensures c.sound-in-Ok-Some.ensures c.in-Ok-Some.ensures.call.contents c.in-Ok-Some.ensures.keeps c.in-Ok-Some.ensures.joint in
+    let node = side_kind ks c.args.sw.now c.touch_slot.new.self a b c.in-Ok-Some.to (name_of c.args.sw.now (ref_at c.args.sw.now c.args.at c.args.slot)) _ c.sound-in-Ok-Some.ensures grows
+    (side_row ks c.args.sw.now a _ known) (rw c.in-Ok-Some.field-0-is at c.in-Ok-Some.ensures.target) (side_seen ks c.args.sw.now (g.V.Vault.outside c.args.vault.now) c.args.at c.args.slot row c.requires.slot s) in
+    let yes = c.is_node.ensures.no node in
+    absurd (cc (yes, c.if-is_node.false))
+
+pub returns-in-Ok-None-clause-grows : goal.returns-in-Ok-None-clause-grows
+returns-in-Ok-None-clause-grows g c = grows_touch c.args.sw.now c.touch_slot.new.self (g.V.Vault.outside c.args.vault.now) (g.V.Vault.outside c.touch_slot.new.vault) _ c.sound.ensures c.sound-in-Ok-None.ensures c.in-Ok-None.ensures.call.contents c.in-Ok-None.ensures.keeps c.in-Ok-None.ensures.joint

@@ -1,0 +1,5 @@
+pub mod Keys
+pub mod Nodes
+pub mod Steps
+pub use Rattle.heap_places.specs as heap_places
+pub use Rattle.avl_trees.specs as avl_trees

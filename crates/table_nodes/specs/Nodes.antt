@@ -1,0 +1,111 @@
+-- The nodes of a table's tree: what is seen of one under a name.
+use Rattle.std.specs.Prelude.{◌≡◌, ℕ, zero, suc, List, length, Option, Some, None}
+use Rattle.heap_places.specs.ps_outside.Outside.{Outside, SameContents}
+use Rattle.heap_places.specs.obj_layout.Stored.{Space, Holds}
+use Rattle.heap_places.specs.obj_layout.declared.kind.Kind.TheVariants.{Node}
+use Rattle.heap_places.specs.obj_layout.declared.reference.Reference.{Reference}
+use Rattle.heap_places.specs.obj_layout.declared.reference.Reference.TheVariants.{Nil}
+use Rattle.heap_places.specs.swizzle.declared.fault.SwizzleFault.{SwizzleFault}
+use Rattle.heap_places.specs.swizzle.Heap.{Heap, IsHeap, IsHeld, header_at, ref_at, num_at, reference_to}
+use Rattle.heap_places.specs.swizzle.Joint.{Shown, name_at, name_of}
+use Rattle.heap_places.specs.swizzle.Reading.{joint}
+use Rattle.heap_places.specs.swizzle.Touch.{IsTouchFault}
+use Rattle.heap_places.specs.Shapes.{slot_of, word_in}
+use Rattle.avl_trees.specs.Standing.{Row, Rows, IsWritten}
+use Rattle.table_nodes.specs.Keys.{Keys, KeyOf, Seen, IsKey}
+
+-- the object that a slot names, if it names one
+abbrev pub link_of : Reference → Option Reference
+link_of Nil = None
+link_of n = Some n
+
+abbrev pub Seat : Keys → Type 0
+Seat ks = Row Reference (KeyOf ks) Reference
+
+-- A node has four references, its sides, its key text and its value, and three number words, its home, its int key and its height.
+pub record IsSeat (ks : Keys) (seen : Seen) (it : Shown) (row : Seat ks) : Type 0 where
+  pub kind : it.kind ≡ Node
+  pub refs : length it.refs ≡ 4
+  pub nums : length it.nums ≡ 3
+  pub left : link_of (slot_of it 0) ≡ row.left
+  pub right : link_of (slot_of it 1) ≡ row.right
+  pub key : IsKey ks seen it row.entry.key
+  pub value : slot_of it 3 ≡ row.entry.value
+  pub height : word_in it 2 ≡ row.height
+
+-- What is seen under the name is a node with this row.
+pub record HasNode (ks : Keys) (seen : Seen) (n : Reference) (row : Seat ks) : Type 0 where
+  pub it : Shown
+  pub there : seen n it
+  pub is : IsSeat ks seen it row
+
+-- the rows that area and vault show together
+abbrev pub rows_in : (ks : Keys) → Heap → Outside Space → Rows Reference (KeyOf ks) Reference
+rows_in ks heap outside = HasNode ks (joint heap outside)
+
+-- the vault holds one object at most under a PID
+pub record IsSingle (outside : Outside Space) : Type 0 where
+  pub one : (pid : ℕ) (a b : List ℕ) → Holds outside pid a → Holds outside pid b → a ≡ b
+
+-- an object of the area that has a node's shape
+pub record IsNode (heap : Heap) (at : ℕ) : Type 0 where
+  pub held : IsHeld heap at
+  pub kind : (header_at heap at).kind ≡ Node
+  pub refs : (header_at heap at).refs ≡ 4
+  pub nums : (header_at heap at).nums ≡ 3
+
+-- and its name
+pub record IsNamed (heap : Heap) (at : ℕ) (n : Reference) : Type 0 where
+  pub node : IsNode heap at
+  pub name : name_at heap at ≡ n
+
+-- the node of a side, if there is one, and its name
+abbrev pub IsLinked : Heap → Option ℕ → Option Reference → Type 0
+IsLinked heap None None = Unit {0}
+IsLinked heap (Some at) (Some n) = IsNamed heap at n
+IsLinked heap _ _ = ⊥
+
+-- What a touch leaves: rows stay, and nodes of the area keep their names.
+pub record Grows (old new : Heap) (before after : Outside Space) : Type 0 where
+  pub rows : (ks : Keys) (n : Reference) (row : Seat ks) → rows_in ks old before n row → rows_in ks new after n row
+  pub nodes : (at : ℕ) → IsNode old at → IsNode new at
+  pub named : (at : ℕ) (n : Reference) → IsNamed old at n → IsNamed new at n
+  pub heap : IsHeap new
+  pub contents : SameContents before after
+
+abbrev pub side_of : {K : Type 0} → ℕ → Row Reference K Reference → Option Reference
+side_of zero row = row.left
+side_of (suc n) row = row.right
+
+-- the row with other sides
+abbrev pub with_sides : {K : Type 0} → Option Reference → Option Reference → ℕ → Row Reference K Reference → Row Reference K Reference
+with_sides left right height row = record { left = left; right = right; entry = row.entry; height = height }
+
+-- A node was given other sides and another height.
+pub record Links (old new : Heap) (outside : Outside Space) (at : ℕ) (left right : Option ℕ) (height : ℕ) : Type 0 where
+  pub written : (ks : Keys) (n : Reference) (l r : Option Reference) (row : Seat ks) → IsSingle outside → IsNamed old at n → IsLinked old left l → IsLinked old right r
+      → rows_in ks old outside n row → IsWritten (rows_in ks old outside) n (with_sides l r height row) (rows_in ks new outside)
+  pub nodes : (at : ℕ) → IsNode old at → IsNode new at
+  pub named : (at : ℕ) (n : Reference) → IsNamed old at n → IsNamed new at n
+  pub heap : IsHeap new
+
+-- a slot of an object denotes this object, or none
+abbrev pub IsSlot : Heap → ℕ → ℕ → Option ℕ → Type 0
+IsSlot heap at slot to = name_of heap (ref_at heap at slot) ≡ name_of heap (reference_to to)
+
+-- a node has these sides and this height already
+pub record HasSides (heap : Heap) (at : ℕ) (left right : Option ℕ) (height : ℕ) : Type 0 where
+  pub left_is : IsSlot heap at 0 left
+  pub right_is : IsSlot heap at 1 right
+  pub height_is : num_at heap at 2 ≡ height
+
+-- what a side names is a node that is seen
+abbrev pub IsSide : Keys → Heap → Outside Space → Option Reference → Type 0
+IsSide ks heap outside None = Unit {0}
+IsSide ks heap outside (Some n) = (row : Seat ks) × rows_in ks heap outside n row
+
+-- Why a call on nodes that stand failed: the object of some reference couldn't be fetched.
+pub record IsFetchFault (outside : Outside Space) (fault : SwizzleFault) : Type 0 where
+  pub heap : Heap
+  pub reference : Reference
+  pub is : IsTouchFault heap outside reference fault

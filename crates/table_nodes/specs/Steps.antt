@@ -1,0 +1,110 @@
+-- What a step of a change does to the nodes of a table's tree, in the area and the vault together.
+use Rattle.std.specs.Prelude.{Result, MatchResult, ℕ, ◌≤◌, ◌+◌, ◌<◌, List, ◌∷◌, ◌++◌, Option, Some}
+use Rattle.heap_places.specs.ps_outside.Outside.{Outside}
+use Rattle.heap_places.specs.obj_layout.Stored.{Space}
+use Rattle.heap_places.specs.obj_layout.declared.reference.Reference.{Reference}
+use Rattle.heap_places.specs.swizzle.declared.fault.SwizzleFault.{SwizzleFault}
+use Rattle.heap_places.specs.swizzle.Heap.{Heap, IsHeap}
+use Rattle.avl_trees.specs.Trees.{Tree, height, items, node, lean_inner, lean_outer, lean_left, lean_right, balance}
+use Rattle.avl_trees.specs.Standing.{Item, Rows, Given, Becomes, root_of}
+use Rattle.table_nodes.specs.Keys.{Keys, KeyOf, order_by}
+use Rattle.table_nodes.specs.Nodes.{IsNode, IsNamed, IsLinked, IsSingle, IsFetchFault, Grows, rows_in}
+
+-- the area and what is seen of the outside
+pub record Place : Type 1 where
+  pub heap : Heap
+  pub outside : Outside Space
+
+abbrev pub place : Heap → Outside Space → Place
+place heap outside = record { heap = heap; outside = outside }
+
+abbrev pub rows_of : (ks : Keys) → Place → Rows Reference (KeyOf ks) Reference
+rows_of ks p = rows_in ks p.heap p.outside
+
+pub record IsPlace (p : Place) : Type 0 where
+  pub heap : IsHeap p.heap
+  pub single : IsSingle p.outside
+
+abbrev pub I : Keys → Type 0
+I ks = Item Reference (KeyOf ks) Reference
+
+-- Two trees and a node between them are at these places.
+pub record AreSides (ks : Keys) (p : Place) (at : ℕ) (left right : Option ℕ) (l : Tree (I ks)) (a : I ks) (r : Tree (I ks)) : Type 0 where
+  pub given : Given (order_by ks) (rows_of ks p) l a r
+  pub here : IsPlace p
+  pub name : IsNamed p.heap at a.name
+  pub left_is : IsLinked p.heap left (root_of l)
+  pub right_is : IsLinked p.heap right (root_of r)
+  pub left_low : height l ≤ 200
+  pub right_low : height r ≤ 200
+
+-- The tree stands now, from this place on.
+pub record StandsAt (ks : Keys) (old new : Place) (is : List (I ks)) (t : Tree (I ks)) (root : ℕ) : Type 0 where
+  pub becomes : Becomes (rows_of ks old) (rows_of ks new) is t
+  pub here : IsPlace new
+  pub root_is : IsLinked new.heap (Some root) (root_of t)
+
+-- nodes of the area keep their names
+pub record Holds (old new : Heap) : Type 0 where
+  pub nodes : (at : ℕ) → IsNode old at → IsNode new at
+  pub named : (at : ℕ) (n : Reference) → IsNamed old at n → IsNamed new at n
+
+-- A left side that is higher by two, by its parts, a node, and its right side.
+pub record AreTurned (ks : Keys) (p : Place) (at left : ℕ) (outer inner right : Option ℕ) (x : Tree (I ks)) (b : I ks) (y : Tree (I ks)) (a : I ks) (r : Tree (I ks)) : Type 0 where
+  pub given : Given (order_by ks) (rows_of ks p) (node x b y) a r
+  pub here : IsPlace p
+  pub at_is : IsNamed p.heap at a.name
+  pub left_is : IsNamed p.heap left b.name
+  pub outer_is : IsLinked p.heap outer (root_of x)
+  pub inner_is : IsLinked p.heap inner (root_of y)
+  pub right_is : IsLinked p.heap right (root_of r)
+  pub lower : height x < height y
+  pub low : height y ≤ 199
+  pub right_low : height r ≤ 199
+
+-- the mirror of it
+pub record AreTurnedOut (ks : Keys) (p : Place) (at right : ℕ) (left inner outer : Option ℕ) (l : Tree (I ks)) (a : I ks) (x : Tree (I ks)) (b : I ks) (y : Tree (I ks)) : Type 0 where
+  pub given : Given (order_by ks) (rows_of ks p) l a (node x b y)
+  pub here : IsPlace p
+  pub at_is : IsNamed p.heap at a.name
+  pub right_is : IsNamed p.heap right b.name
+  pub inner_is : IsLinked p.heap inner (root_of x)
+  pub outer_is : IsLinked p.heap outer (root_of y)
+  pub left_is : IsLinked p.heap left (root_of l)
+  pub lower : height y < height x
+  pub low : height x ≤ 199
+  pub left_low : height l ≤ 199
+
+-- What a call that gives a node its sides does.
+pub record SetsSides (old new : Place) (at : ℕ) (left right : Option ℕ) : Type 0 where
+  pub set : (ks : Keys) (l : Tree (I ks)) (a : I ks) (r : Tree (I ks)) → AreSides ks old at left right l a r → Becomes (rows_of ks old) (rows_of ks new) (items l ++ a ∷ items r) (node l a r)
+  pub here : IsPlace old → IsPlace new
+  pub holds : Holds old.heap new.heap
+
+-- The tree stands from the place that was answered on; it isn't damaged.
+abbrev pub Answers : (ks : Keys) → Place → Place → List (I ks) → Tree (I ks) → Result ℕ SwizzleFault → Type 0
+Answers ks old new is t result = MatchResult result (StandsAt ks old new is t) (IsFetchFault old.outside)
+
+abbrev pub TurnsRight : Place → Place → ℕ → ℕ → Option ℕ → Result ℕ SwizzleFault → Type 0
+TurnsRight old new at left right result = (ks : Keys) (l : Tree (I ks)) (a : I ks) (r : Tree (I ks)) → AreSides ks old at (Some left) right l a r → height r + 1 < height l
+    → Answers ks old new (items l ++ a ∷ items r) (lean_left l a r) result
+
+abbrev pub TurnsLeft : Place → Place → ℕ → Option ℕ → ℕ → Result ℕ SwizzleFault → Type 0
+TurnsLeft old new at left right result = (ks : Keys) (l : Tree (I ks)) (a : I ks) (r : Tree (I ks)) → AreSides ks old at left (Some right) l a r → height l + 1 < height r
+    → Answers ks old new (items l ++ a ∷ items r) (lean_right l a r) result
+
+abbrev pub TurnsInner : Place → Place → ℕ → ℕ → Option ℕ → Option ℕ → Option ℕ → Result ℕ SwizzleFault → Type 0
+TurnsInner old new at left outer inner right result = (ks : Keys) (x : Tree (I ks)) (b : I ks) (y : Tree (I ks)) (a : I ks) (r : Tree (I ks)) → AreTurned ks old at left outer inner right x b y a r
+    → Answers ks old new (items (node x b y) ++ a ∷ items r) (lean_inner x b y a r) result
+
+abbrev pub TurnsOuter : Place → Place → ℕ → ℕ → Option ℕ → Option ℕ → Option ℕ → Result ℕ SwizzleFault → Type 0
+TurnsOuter old new at right left inner outer result = (ks : Keys) (l : Tree (I ks)) (a : I ks) (x : Tree (I ks)) (b : I ks) (y : Tree (I ks)) → AreTurnedOut ks old at right left inner outer l a x b y
+    → Answers ks old new (items l ++ a ∷ items (node x b y)) (lean_outer l a x b y) result
+
+abbrev pub Balances : Place → Place → ℕ → Option ℕ → Option ℕ → Result ℕ SwizzleFault → Type 0
+Balances old new at left right result = (ks : Keys) (l : Tree (I ks)) (a : I ks) (r : Tree (I ks)) → AreSides ks old at left right l a r
+    → Answers ks old new (items l ++ a ∷ items r) (balance l a r) result
+
+-- touches lead from one place to the other
+abbrev pub Touches : Place → Place → Type 0
+Touches old new = Grows old.heap new.heap old.outside new.outside
