@@ -7,7 +7,7 @@ use ps_check::check::check;
 use ps_tree::rough::Rough;
 use table_rows::Buffer;
 
-/// Tells the line of the first call of the library in the program of a text that isn't built, as `line` and its number, or `none`.
+/// Writes the line of the first call of the library in the program of a text that isn't built, as `line` and its number, or `none`.
 pub fn put_library_found(out: &mut Buffer, text: &[u8]) {
     match tree_of(out.alloc(), text) {
         Ok(rough) => put_found(out, rough),
@@ -32,7 +32,7 @@ fn put_line(out: &mut Buffer, line: Option<Line>) {
     }
 }
 
-/// Tells the same of the text that is the first of a chain and so many links.
+/// Writes the same of the text that is the first of a chain and so many links.
 pub fn put_library_in_chain(out: &mut Buffer, first: &[u8], link: &[u8], count: usize) {
     let mut text = Buffer::new(out.alloc());
     text.bytes(first);

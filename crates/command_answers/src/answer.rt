@@ -19,7 +19,7 @@ impl Drop for Answer {
 }
 
 impl Answer {
-    /// What these words come to over this host, and a shelf with these texts.
+    /// What these words return over this host, and a shelf with these texts.
     pub fn of(
         alloc: Global,
         words: &[String],
@@ -41,7 +41,7 @@ impl Answer {
         self.host.told_bytes()
     }
 
-    /// Whether this was told, and this is the status.
+    /// Whether this was output, and this is the status.
     pub fn is(&self, told: &[u8], status: u8) -> bool {
         self.status == status && self.told() == told
     }

@@ -12,18 +12,18 @@ pub struct Command<'a> {
 }
 
 impl Command<'_> {
-    /// What it comes to over this host.
+    /// What it returns over this host.
     pub fn over(&self, alloc: Global, host: MemoryHost) -> Result<Answer, AllocError> {
         let words = self.all_words(alloc)?;
         Answer::of(alloc, &words, self.texts, host)
     }
 
-    /// What it comes to over a host with a new volume of 32 pages, whose calls fail as listed.
+    /// What it returns over a host with a new volume of 32 pages, whose calls fail as listed.
     pub fn answer(&self, alloc: Global, failing: &[u64]) -> Result<Answer, AllocError> {
         self.over(alloc, volume_host(alloc, failing)?)
     }
 
-    /// Whether over such a host, this is told and this is the status; not so where there was no memory for the host and the shelf.
+    /// Whether over such a host, this is output and this is the status; not so where there was no memory for the host and the shelf.
     pub fn is_answered(&self, alloc: Global, failing: &[u64], told: &[u8], status: u8) -> bool {
         match self.answer(alloc, failing) {
             Ok(answer) => answer.is(told, status),

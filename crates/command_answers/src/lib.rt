@@ -1,4 +1,4 @@
-//! What commands of the program come to over a host and a shelf in memory, for its tests.
+//! What commands of the program return over a host and a shelf in memory, for its tests.
 #![tactic(auto)]
 
 mod answer;

@@ -5,7 +5,7 @@ use std::alloc::{AllocError, Global};
 /// How many calls of a host don't fail but where they are listed.
 const CALLS: u64 = 1_000_000;
 
-/// The room of a host: for what it is written and told, and for the records of its calls.
+/// The room of a host: for what it is written and output, and for the records of its calls.
 const ROOM: u64 = 16_000_000;
 
 /// A host with these bytes, whose calls fail as listed.

@@ -4,7 +4,7 @@ use proc_values::swizzle::fault::SwizzleFault;
 use row_words::put_number;
 use table_rows::Buffer;
 
-/// Tells what a call ended in that gave nothing.
+/// Writes what a call ended in that gave nothing.
 pub fn put_fault(out: &mut Buffer, fault: OpFault) {
     match fault {
         OpFault::Trap(trap) => {
@@ -15,7 +15,7 @@ pub fn put_fault(out: &mut Buffer, fault: OpFault) {
     }
 }
 
-/// Tells what was refused.
+/// Writes what was refused.
 pub fn put_refusal(out: &mut Buffer, fault: SwizzleFault) {
     match fault {
         SwizzleFault::AreaFull { top, wanted, size } => {
@@ -55,7 +55,7 @@ fn put_other(out: &mut Buffer, refused: VaultFault) {
     }
 }
 
-/// Tells that the class names no such field, or that the value is none of its form: no call was made.
+/// Writes that the class names no such field, or that the value is none of its form: no call was made.
 pub fn put_no_field(out: &mut Buffer) {
     out.put("no field");
 }

@@ -60,7 +60,7 @@ fn fetch(vault: &mut MemoryVault, sw: &mut Swizzle, pid: u64) -> Result<u32, Opt
     }
 }
 
-/// Tells what a call answers on the object of its PID, which is fetched.
+/// Writes what a call answers on the object of its PID, which is fetched.
 pub fn put_answer(out: &mut Buffer, vault: &mut MemoryVault, sw: &mut Swizzle, call: Call<'_>)
     requires { vault.old.alive ≡ true }
 {

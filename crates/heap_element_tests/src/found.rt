@@ -10,7 +10,7 @@ use heap_ops::swizzle::swizzle::Swizzle;
 use row_words::{Words, parted};
 use table_rows::Buffer;
 
-/// Tells what is found of these lines: the text of a type, a vector, and a call if there is one.
+/// Writes what is found of these lines: the text of a type, a vector, and a call if there is one.
 pub fn put_found(out: &mut Buffer, field: &[u8]) {
     let (text, lines) = parted(field, b'\n');
     let (vector, call) = parted(lines, b'\n');

@@ -12,7 +12,7 @@ use memory_vault::obj_layout::reference::Reference;
 use memory_vault::obj_layout::vault::VaultFault;
 use table_rows::Buffer;
 
-/// Tells a vector as it lies: its references and its number words, and before them its header where it isn't that of a new vector.
+/// Writes a vector as it lies: its references and its number words, and before them its header where it isn't that of a new vector.
 pub fn put_vector(out: &mut Buffer, sw: &Swizzle, vector: u32)
     requires { IsHeld sw.now vector }
 {
@@ -52,7 +52,7 @@ fn put_reference(out: &mut Buffer, reference: Reference) {
     }
 }
 
-/// Tells the value of an element.
+/// Writes the value of an element.
 pub fn put_value(out: &mut Buffer, value: Value) {
     out.put("value ");
     match value {
@@ -65,7 +65,7 @@ pub fn put_value(out: &mut Buffer, value: Value) {
     }
 }
 
-/// Tells what a call ended in that gave nothing.
+/// Writes what a call ended in that gave nothing.
 pub fn put_fault(out: &mut Buffer, fault: OpFault) {
     match fault {
         OpFault::Trap(trap) => {
@@ -100,7 +100,7 @@ fn put_refusal(out: &mut Buffer, refused: VaultFault) {
     }
 }
 
-/// Tells after the rest which objects are noted as assigned, where there are any.
+/// Writes after the rest which objects are noted as assigned, where there are any.
 pub fn put_assigned(out: &mut Buffer, assigned: &[u32], vector: u32) {
     if assigned.is_empty() {
         return;

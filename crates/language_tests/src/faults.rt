@@ -7,7 +7,7 @@ use row_words::parted;
 use std::alloc::Global;
 use table_rows::Buffer;
 
-/// Tells the first fault of a text as its number, `@` and its line, and the token that is unexpected where one is; or `none`.
+/// Writes the first fault of a text as its number, `@` and its line, and the token that is unexpected where one is; or `none`.
 pub fn put_fault(out: &mut Buffer, text: &[u8]) {
     match tree_of(out.alloc(), text) {
         Ok(_) => out.put("none"),
@@ -40,7 +40,7 @@ fn put_place(out: &mut Buffer, fault: ParseFault, line: Line) {
     }
 }
 
-/// Tells the fault of a text of so many levels.
+/// Writes the fault of a text of so many levels.
 pub fn put_fault_of_levels(out: &mut Buffer, count: usize, parts: &[u8]) {
     let text = nested(out.alloc(), count, parts);
     match text.told() {
@@ -49,7 +49,7 @@ pub fn put_fault_of_levels(out: &mut Buffer, count: usize, parts: &[u8]) {
     }
 }
 
-/// Tells the faults of a text of so many levels and of one with a level more.
+/// Writes the faults of a text of so many levels and of one with a level more.
 pub fn put_faults_at_the_limit(out: &mut Buffer, count: usize, parts: &[u8]) {
     put_fault_of_levels(out, count, parts);
     out.put(", then ");

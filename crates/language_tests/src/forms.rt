@@ -105,7 +105,7 @@ const FORMS: [(&[u8], Form); 27] = [
     (b"procedure", Form::Kinds(OfKinds::Procedure)),
 ];
 
-/// Tells the form that a row names, made on line 2, as a line of text.
+/// Writes the form that a row names, made on line 2, as a line of text.
 pub fn put_form(out: &mut Buffer, name: &[u8]) {
     match form_called(name) {
         Some(form) => put_made(out, form),

@@ -302,12 +302,12 @@ fn operator_text(op: Operator) -> &'static str {
     }
 }
 
-/// Tells a tree as a line of text: a form's word or sign and `@` and its line, then its parts in brackets.
+/// Writes a tree as a line of text: a form's word or sign and `@` and its line, then its parts in brackets.
 pub fn put_shown(out: &mut Buffer, clause: &Rough) {
     show(out, clause, 1000);
 }
 
-/// Tells the tree of a text, or `?` where it has none.
+/// Writes the tree of a text, or `?` where it has none.
 pub fn put_tree(out: &mut Buffer, text: &[u8]) {
     match tree_of(out.alloc(), text) {
         Ok(clause) => put_shown(out, &clause),

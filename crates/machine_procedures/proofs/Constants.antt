@@ -21,7 +21,7 @@ use Rattle.machine_state.specs.Stepped.{Takes, Does, UnlessDamaged}
 use Rattle.machine_state.proofs.Carrying.{read-holds, sound-kept, size-behind}
 use Rattle.machine_procedures.specs.inside.Making.{Comes, with_procedure}
 
--- what an instruction takes, from what it comes to in each configuration that the machine holds
+-- what an instruction takes, from what it returns in each configuration that the machine holds
 pub ends : (of : Config → Step) (old new : Machine) (r : Stepped) → IsSound new → IsHolding old
     → ((names : List Reference) (c : Config) → HeldBy names old c → Comes old new r (of c)) → Takes of old new r
 ends of old new r sound holding comes = record {

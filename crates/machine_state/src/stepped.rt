@@ -1,4 +1,4 @@
-/// What a step returned. A write is left to the caller, and the other steps tell nothing. What a write writes, where the run ended and why an object
+/// What a step returned. A write is left to the caller, and the other steps output nothing. What a write writes, where the run ended and why an object
 /// couldn't be made stand in the machine.
 #[derive(Clone, Copy)]
 pub enum Stepped {

@@ -1,4 +1,4 @@
--- What an instruction takes, from what it comes to in each configuration that the machine holds.
+-- What an instruction takes, from what it returns in each configuration that the machine holds.
 use Rattle.std.proofs.Common.{◌≡◌, ℕ, List, Option, Some, None, sym, subst}
 use Rattle.machine_state.specs.obj_layout.declared.reference.Reference.{Reference}
 use Rattle.machine_state.specs.swizzle.Heap as area

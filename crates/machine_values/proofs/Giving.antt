@@ -58,7 +58,7 @@ flag-read here names b form.Flag value.Nothing of is = absurd is
 flag-read here names b form.Number v of is = absurd of
 flag-read here names b form.Reference v of is = absurd of
 
--- what an operation that failed comes to is what was answered, and the machine is the one that is left then
+-- what an operation that failed returns is what was answered, and the machine is the one that is left then
 pub failing : (here : area.Heap) (m new : Machine) (s : Step) (fault : OpFault) (line : Line) (full : Bool) (r : Stepped) → r ≡ failed_of fault full → new ≡ failed_in fault line full m
     → KeepsSize (failed_of fault full) here m.sw × Does s (failed_of fault full) (failed_in fault line full m) → KeepsSize r here new.sw × Does s r new
 failing here m new s fault line full r answer left f =

@@ -6,7 +6,7 @@ use Rattle.memory_host.specs.declared.memory_host.Act.TheVariants.{Looked, Told,
 use Rattle.ps_port.specs.ps_outside.Outside.{Outside, After, next_count, counted}
 use Rattle.ps_port.specs.Disk.{written, Torn}
 
--- a call that is kept: its number, what it did, and the bytes that it wrote or told
+-- a call that is kept: its number, what it did, and the bytes that it wrote or output
 pub record Event : Type 0 where
   pub number : ℕ
   pub act : Act
@@ -24,7 +24,7 @@ abbrev pub contents_after : List ℕ → List Event → List ℕ
 contents_after first [] = first
 contents_after first (event ∷ events) = content_step event.act event.bytes (contents_after first events)
 
--- what had been told
+-- what had been output
 abbrev pub told_step : Act → List ℕ → List ℕ → List ℕ
 told_step Looked bytes old = old
 told_step Told bytes old = old ++ bytes
@@ -157,7 +157,7 @@ after_acting host act bytes failed = if has_room host (length bytes) then after_
 abbrev pub call_fails : Memory → ℕ → Bool
 call_fails host count = is_to_fail host || not (has_room host count)
 
--- of so many bytes the next call tells all, or the first half, rounded down, where it is to fail
+-- of so many bytes the next call outputs all, or the first half, rounded down, where it is to fail
 abbrev pub share : Memory → ℕ → ℕ
 share host count = if is_to_fail host then count / 2 else count
 

@@ -12,7 +12,7 @@ use std::alloc::{AllocError, Global};
 use std::cmp::min;
 use std::marker::Model;
 
-/// The bytes of the room that the record of a call takes beside those that it wrote or told.
+/// The bytes of the room that the record of a call takes beside those that it wrote or output.
 const RECORD_BYTES: u64 = 64;
 
 /// What a call did.
@@ -27,7 +27,7 @@ pub enum Act {
     Synced(bool),
 }
 
-/// A call that is kept: its number, what it did, and how many bytes it wrote or told.
+/// A call that is kept: its number, what it did, and how many bytes it wrote or output.
 #[derive(Clone, Copy)]
 pub struct Call {
     number: u64,
@@ -86,7 +86,7 @@ impl Model for MemoryHost {
 impl MemoryHost {
     /// A host with these contents. A call fails where its number, counted from 0, is one of `failing` or
     /// at least `calls`, or where its record passes what is left of the room, which is a number of bytes:
-    /// 64 for a call, and those that it writes or tells.
+    /// 64 for a call, and those that it writes or outputs.
     pub fn new(
         alloc: Global,
         bytes: &[u8],
@@ -320,7 +320,7 @@ impl Host for MemoryHost {
         self.call(Act::Synced(!fails), &[], fails)
     }
 
-    /// Where it is to fail, it tells the first half of the bytes, rounded down; where there is no room
+    /// Where it is to fail, it outputs the first half of the bytes, rounded down; where there is no room
     /// for its record, none.
     fn put(&mut self, from: &[u8]) -> Result<(), HostFailed>
         ensures cut { TellsPrefix (outside_of self.old) (outside_of self.new) from.now }

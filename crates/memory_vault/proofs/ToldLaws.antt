@@ -9,7 +9,7 @@ use Rattle.memory_vault.specs.Memory.{Memory, HadTold, outside_of}
 abbrev more : Memory → List ℕ → Memory
 more memory bytes = record memory { told = memory.told ++ bytes }
 
--- at each moment of a put a prefix of its bytes was told
+-- at each moment of a put a prefix of its bytes was output
 put_front : (old : Memory) (bytes : List ℕ) (m : ℕ) (told : List ℕ) → length old.told ≤ m → HadTold (more old bytes) m told
     → AddsPrefix (HadTold old (length old.told)) bytes told
 put_front old bytes m told from is =
@@ -39,7 +39,7 @@ told_all old bytes = λ told is. record {
   bytes_are = is ∙ take_all _ (old.told ++ bytes) (omega arith);
 }
 
--- what a put tells that is answered
+-- what a put outputs that is answered
 pub puts : (old new : Memory) (bytes : List ℕ) → new ≡ more old bytes → Puts {T = Unit {0}} (outside_of old) (outside_of new) bytes (Ok tt)
 puts old new bytes is = subst (λ (m : Memory). Puts {T = Unit {0}} (outside_of old) (outside_of m) bytes (Ok tt)) (sym is) (record {
   told = tells_front old bytes;

@@ -47,7 +47,7 @@ pub record IsTold (memory : Memory) (space : Space) : Type 0 where
   pub is : memory.space ≡ space
   pub sound : IsSpace (used_of memory) memory.space.directory space
 
--- what had been told at a moment: each byte that is put takes one
+-- what had been output at a moment: each byte that is put takes one
 abbrev pub HadTold : Memory → ℕ → List ℕ → Type 0
 HadTold memory moment bytes = bytes ≡ take moment memory.told
 

@@ -1,4 +1,4 @@
-//! What is told by a vault without objects is told by its host.
+//! What is output by a vault without objects is output by its host.
 
 ghost use Rattle.std.specs.Prelude.{ℕ, List, Ok, Result};
 ghost use Rattle.obj_layout.specs.ps_outside.Outside.{TellsPrefix, LeavesSame};
@@ -9,7 +9,7 @@ ghost use Rattle.no_store.specs.NoObjects.{outside_of};
 
 use ps_port::Host;
 
-/// Bytes that were put to the vault, by one call or by several, were told by the host: a prefix of them at each moment, and all of them
+/// Bytes that were put to the vault, by one call or by several, were output by the host: a prefix of them at each moment, and all of them
 /// after an answer; and then no fault of the host was counted.
 pub fn what_is_put_is_told<H: Host>()
     ensures front { (a b : H) (bytes : List ℕ) (result : Result (Unit {0}) VaultFault)

@@ -1,4 +1,4 @@
-//! What is told goes to the host, in order, and its faults come through.
+//! What is output goes to the host, in order, and its faults come through.
 ghost use Rattle.std.specs.Prelude.{◌≡◌, true};
 
 use memory_host::MemoryHost;
@@ -6,7 +6,7 @@ use no_store::NoStore;
 use no_store::obj_layout::vault::{Vault, VaultFault};
 use std::test::Fail;
 
-/// What is put after one another, the answer, and all the bytes output then. Call 2 of the host is to fail, and tells the first half.
+/// What is put after one another, the answer, and all the bytes output then. Call 2 of the host is to fail, and outputs the first half.
 const PUTS: [(&[&[u8]], Result<(), VaultFault>, &[u8]); 6] = [
     (&[], Ok(()), b""),
     (&[b""], Ok(()), b""),

@@ -10,7 +10,7 @@ use Rattle.obj_layout.specs.Stored.{Space, damage_at, without_file}
 abbrev pub unfiled : Outside Space → Outside Space
 unfiled = seen_as without_file
 
--- A call that reads: it tells nothing, leaves what a crash may leave, fails as the device only where that did, and takes at most so many device
+-- A call that reads: it outputs nothing, leaves what a crash may leave, fails as the device only where that did, and takes at most so many device
 -- calls where it is answered.
 pub record IsStoreCall {T : Type 0} (old new : Outside Space) (most : ℕ) (result : Result T VaultFault) : Type 0 where
   pub told : TellsNothing old new
@@ -68,7 +68,7 @@ pub record Settles {T : Type 0} (old new : Outside Space) (most : ℕ) (step : S
   pub other : result ≢ Err Output
   pub calls : OnOk result (new.device_calls ≤ old.device_calls + most)
 
--- Bytes are told: a prefix of them at each moment, and after an answer all of them.
+-- Bytes are output: a prefix of them at each moment, and after an answer all of them.
 pub record Puts {T : Type 0} (old new : Outside Space) (bytes : List ℕ) (result : Result T VaultFault) : Type 0 where
   pub told : TellsPrefix old new bytes
   pub all : OnOk result (ToldAll old new bytes)

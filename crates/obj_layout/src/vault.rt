@@ -108,7 +108,7 @@ pub trait Vault {
         ensures alive { OnOk result (alive self.new) }
         ensures dead { DeadIfErr (alive self.new) result };
 
-    /// Tells these bytes.
+    /// Writes these bytes.
     fn put(&mut self, bytes: &[u8]) -> Result<(), VaultFault>
         requires alive { alive self.old }
         ensures told { Puts (outside self.old) (outside self.new) bytes.now result }

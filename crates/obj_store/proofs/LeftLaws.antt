@@ -26,7 +26,7 @@ device_left used next p q s t a b is = record {
   each = λ m image from until at. image_back used p s a a.clock image (is.each m (space_filed image) from until (image_seen next q t b m image at));
 }
 
--- all that was put to the store was told by its host
+-- all that was put to the store was output by its host
 pub all_put : {T : Type 0} (used next : ℕ) (p q : Committed) (s t : List Bool) (a b : Outside (List ℕ)) (bytes : List ℕ) (done : T)
     → Puts {T = T} (spaces used p s a) (spaces next q t b) bytes (Ok done) → TellsAll a b bytes
 all_put used next p q s t a b bytes done is = record { front = is.told; all = is.all; calm = is.calm }

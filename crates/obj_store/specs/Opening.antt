@@ -11,7 +11,7 @@ use Rattle.obj_store.specs.Store.{Store, outside_of}
 abbrev pub IsSpaceOf : List ℕ → Space → Type 0
 IsSpaceOf bytes space = IsSpaceIn (held_in bytes) space
 
--- An attached store: it was only looked at, a crash leaves what was looked at, from a moment on before which nothing was told, its calls may be made,
+-- An attached store: it was only looked at, a crash leaves what was looked at, from a moment on before which nothing was output, its calls may be made,
 -- and it holds what is committed.
 pub record IsOpened {H : Type 0} (outside : H → Outside (List ℕ)) (old : Outside (List ℕ)) (store : Store H) : Type 0 where
   pub looks : Looks old (outside store.host) 6

@@ -3,7 +3,7 @@ use Rattle.std.specs.Prelude.{◌≡◌, ℕ, ◌+◌, ◌<◌, ◌≤◌, Bool,
 use Rattle.obj_layout.specs.ps_outside.Outside.{Outside, LeavesSame, TellsNothing}
 use Rattle.shadow_volume.specs.Found.{Held}
 
--- Calls of the device, so many at most, that tell nothing and leave what a crash may leave.
+-- Calls of the device, so many at most, that output nothing and leave what a crash may leave.
 pub record Stages {X : Type 0} (old new : Outside X) (most : ℕ) : Type 0 where
   pub told : TellsNothing old new
   pub images : LeavesSame old new

@@ -9,7 +9,7 @@ ghost use Rattle.obj_store.specs.Store.{Store, outside_of};
 
 use ps_port::Host;
 
-/// Bytes that were put to a store, by one call or by several, were told by its host: a prefix of them at each moment, and all of them
+/// Bytes that were put to a store, by one call or by several, were output by its host: a prefix of them at each moment, and all of them
 /// after an answer; and then no fault of the output was counted.
 pub fn what_is_put_is_told<H: Host>()
     ensures front { (a b : Store H) (bytes : List ℕ) (result : Result (Unit {0}) VaultFault)

@@ -89,7 +89,7 @@ fn are_held(store: &mut ObjStore<MemoryHost>) -> bool
     store.used() == 517 && store.directory() == 511 && fetch(store, 511) == Ok(text(90, 91))
 }
 
-// What was put was told, and a stop leaves what was settled.
+// What was put was output, and a stop leaves what was settled.
 fn are_left(alloc: Global, host: &MemoryHost) -> bool {
     let Some(store) = left(alloc, host, host.clock(), 255) else {
         return false;

@@ -41,7 +41,7 @@ impl Commands {
         self.told(row.number(0), row.field(1))
     }
 
-    // What these words come to over the volume and these texts.
+    // What these words return over the volume and these texts.
     fn answer_to(&self, words: &[String], texts: &[Text<'_>]) -> Result<Answer, AllocError> {
         let host = host_of(self.alloc, &self.volume, &[])?;
         Answer::of(self.alloc, words, texts, host)

@@ -6,7 +6,7 @@ use std::alloc::{AllocError, Global};
 /// The words of a run without options, before the name of its text.
 pub const RUN: &[&str] = &["run", "v.vol"];
 
-/// Whether a run of this text gets this told, and this status.
+/// Whether a run of this text gets this output, and this status.
 pub fn is_answered(alloc: Global, text: &[u8], told: &[u8], status: u8) -> bool {
     let run = Command {
         words: RUN,
@@ -16,7 +16,7 @@ pub fn is_answered(alloc: Global, text: &[u8], told: &[u8], status: u8) -> bool 
     run.is_answered(alloc, &[], told, status)
 }
 
-/// A number of parts that a text is made of, what it gets told, and its status.
+/// A number of parts that a text is made of, what it gets output, and its status.
 pub type Limit = (usize, &'static [u8], u8);
 
 /// Whether the text that is made of so many parts is answered so; not so where there was no memory for it.
@@ -248,7 +248,7 @@ fn long_chains_end_in_an_answer(rt: HostRuntime) {
     assert!(rt; is_limit(rt.alloc(), sum, &(200_000, b"200000", 0)));
 }
 
-// The status for this text, whatever is told.
+// The status for this text, whatever is output.
 fn status_of(alloc: Global, text: &[u8]) -> Option<u8> {
     let run = Command {
         words: RUN,

@@ -6,7 +6,7 @@ use std::alloc::{AllocError, Global};
 /// The words before the program's name, where it reads the file `in`.
 pub const READ: &[&str] = &["run", "v.vol", "--input", "in"];
 
-// A program that reads its input, by these words, and what it gets told.
+// A program that reads its input, by these words, and what it gets output.
 #[derive(Clone, Copy)]
 struct Reading<'a> {
     words: &'a [&'a str],

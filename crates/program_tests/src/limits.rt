@@ -81,7 +81,7 @@ fn string_of(alloc: Global, count: usize) -> Result<Vec<u8>, AllocError> {
     Ok(text)
 }
 
-// Whether a text gets this told and this status in an area of 128 words.
+// Whether a text gets this output and this status in an area of 128 words.
 fn is_answered_in_an_area(alloc: Global, text: &[u8], told: &[u8], status: u8) -> bool {
     let run = Command {
         words: &["run", "v.vol", "--area", "1"],

@@ -23,7 +23,7 @@ pub fn format(pages: &str) -> Command<'_> {
     }
 }
 
-/// What a command comes to over a file of these bytes, by a host whose calls fail as listed.
+/// What a command returns over a file of these bytes, by a host whose calls fail as listed.
 pub fn answer_over(
     alloc: Global,
     command: Command<'_>,

@@ -67,7 +67,7 @@ pub record GivesProgram (holds : List ℕ → List ℕ → Type 0) (lacks : List
   pub is : IsProgram text program
 
 -- What the words ask for, over a shelf that holds these texts, lacks these names, and may fail to read texts of those, and over this device, calls for
--- these bytes to be told and this status to be answered. `failed` says that the shelf's faults rose in this call. A refusal before the volume is
+-- these bytes to be output and this status to be answered. `failed` says that the shelf's faults rose in this call. A refusal before the volume is
 -- attached makes no call of the device, and a run leaves the device as it is.
 pub data Due (asked : Option CommandOf) (holds : List ℕ → List ℕ → Type 0) (lacks may_fail : List ℕ → Type 0) (failed : Type 0) (old new : Outside (List ℕ)) : List ℕ → ℕ → Type 0 where
   -- the words are no command
@@ -134,7 +134,7 @@ pub data GetsOrFails (device_failed : Type 0) (told : List ℕ) (due : ℕ) : Li
   own : GetsOrFails device_failed told due told due
   no_device : device_failed → GetsOrFails device_failed told due device_line 6
 
--- What is due is what the program comes to with this input; or there was no memory; or a name that is read may fail to be, and the shelf's faults
+-- What is due is what the program returns with this input; or there was no memory; or a name that is read may fail to be, and the shelf's faults
 -- rose; or the device failed.
 pub data GetsRun (run : RunOf) (input : List ℕ) (program : BodyNode) (may_fail : List ℕ → Type 0) (failed device_failed : Type 0) : List ℕ → ℕ → Type 0 where
   own : {bytes : List ℕ} {status : ℕ} → RunsTo run input program bytes status → GetsRun run input program may_fail failed device_failed bytes status

@@ -19,7 +19,7 @@ UnreadWhy old new file Failed answered = Answers old new (unreadable_line file) 
 UnreadWhy old new file (TooLong size) answered = Answers old new (too_long_line file size) 13 answered
 UnreadWhy old new file Memory answered = Answers old new memory_line 5 answered
 
--- the first fault of a text is told, and answered
+-- the first fault of a text is output, and answered
 pub record AnswersFault (old new : Outside (List ℕ)) (file text : List ℕ) (answered : ℕ) : Type 0 where
   pub stage : List ℕ
   pub number : ℕ
@@ -32,7 +32,7 @@ abbrev pub RefusalWhy : Outside (List ℕ) → Outside (List ℕ) → List ℕ �
 RefusalWhy old new file text answered =
     AnswersFault old new file text answered ⊎ Answers old new memory_line 5 answered
 
--- what the program comes to with this input is told, and answered
+-- what the program returns with this input is output, and answered
 pub record AnswersRun (old new : Outside (List ℕ)) (run : RunOf) (input : List ℕ) (program : BodyNode) (answered : ℕ) : Type 0 where
   pub bytes : List ℕ
   pub status : ℕ

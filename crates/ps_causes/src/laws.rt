@@ -38,7 +38,7 @@ pub fn first_fault_is_told<H: Host, S: Shelf>(host: &H, back: &H, shelf: &S)
 {}
 
 /// A text that the shelf holds and that is a program is run, where the shelf holds its input too, or it has none, and the host tells of a volume: what
-/// is due is what that program comes to with that input, which is its end, or that its area is full; or there was no memory, or the shelf failed,
+/// is due is what that program returns with that input, which is its end, or that its area is full; or there was no memory, or the shelf failed,
 /// or the device. It is never refused.
 pub fn program_is_run<H: Host, S: Shelf>(host: &H, back: &H, shelf: &S)
     ensures { (before after status : ℕ) (bytes text input : List ℕ) (run : RunOf) (program : BodyNode) → S.holds shelf.now run.file text → length text ≤ LONGEST_TEXT → IsProgram text program → HoldsInput (S.holds shelf.now) run.input input → (content : List ℕ) → (H.outside host.now).contents content → HasVolume content → Due (Some (a_run run)) (S.holds shelf.now) (S.lacks shelf.now) (S.may_fail shelf.now) (Rose before after) (H.outside host.now) (H.outside back.now) bytes status → GetsRun run input program (S.may_fail shelf.now) (Rose before after) (Rose (H.outside host.now).device_faults (H.outside back.now).device_faults) bytes status }
@@ -66,7 +66,7 @@ pub fn damaged_volume_is_refused<H: Host, S: Shelf>(host: &H, back: &H, shelf: &
     ensures { (before after status : ℕ) (bytes text input : List ℕ) (run : RunOf) (program : BodyNode) → S.holds shelf.now run.file text → length text ≤ LONGEST_TEXT → IsProgram text program → HoldsInput (S.holds shelf.now) run.input input → (content : List ℕ) (at found wanted : ℕ) → (H.outside host.now).contents content → found_in content ≡ damaged (damage at found wanted) → Due (Some (a_run run)) (S.holds shelf.now) (S.lacks shelf.now) (S.may_fail shelf.now) (Rose before after) (H.outside host.now) (H.outside back.now) bytes status → Gets (IsRead run) (S.may_fail shelf.now) (Rose before after) (Rose (H.outside host.now).device_faults (H.outside back.now).device_faults) (damaged_line at found wanted) 10 bytes status }
 {}
 
-/// A new volume over a host that tells of a file that is no volume is made: 0, and nothing is told; or the device failed.
+/// A new volume over a host that tells of a file that is no volume is made: 0, and nothing is output; or the device failed.
 pub fn volume_is_made<H: Host, S: Shelf>(host: &H, back: &H, shelf: &S)
     ensures { (before after status pages : ℕ) (bytes content : List ℕ) → (H.outside host.now).contents content → IsNone content → Due (Some (a_volume pages)) (S.holds shelf.now) (S.lacks shelf.now) (S.may_fail shelf.now) (Rose before after) (H.outside host.now) (H.outside back.now) bytes status → GetsOrFails (Rose (H.outside host.now).device_faults (H.outside back.now).device_faults) [] 0 bytes status }
 {}

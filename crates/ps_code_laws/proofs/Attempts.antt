@@ -23,7 +23,7 @@ use Rattle.ps_code_laws.proofs.Clauses.{IsNum, int, bool, IsRef, str, pntr, vect
 use Rattle.ps_code_laws.proofs.Operands.{Stand}
 use Rattle.ps_code_laws.proofs.Doing.{IsQuietly, Way, place, Room, Does, stepped, push_goes, push_ref_goes}
 
--- Meanings that tell nothing.
+-- Meanings that output nothing.
 
 pub quiet_give : (v : Value) → IsQuietly (give v)
 unfolding give

@@ -1,4 +1,4 @@
--- A call: its arguments are taken from the stacks, the depth is tested and a turn taken, and the body that is called begins. What it comes to is what
+-- A call: its arguments are taken from the stacks, the depth is tested and a turn taken, and the body that is called begins. What it returns is what
 -- the call comes to, after which the frame is the caller's again.
 use Rattle.std.proofs.Common.{◌≡◌, ℕ, ◌+◌, ◌≤◌, ℤ, Bool, true, false, not, ◌&&◌, List, [], ◌∷◌, ◌++◌, length, map, Option, refl, ap, ◌∙◌, arith, eq-eqb}
 use Rattle.std.specs.Prelude.{nat_eq, nat_lt, if◌then◌else◌}

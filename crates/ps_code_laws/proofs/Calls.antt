@@ -45,7 +45,7 @@ use Rattle.ps_code_laws.proofs.Arguments.{fields_of, kinds_are, values_by, refer
 
 module _ (w : Way) where
   -- From its first instruction a body that is called does what it means where at most so many turns are left, whatever waits that has room: whatever is
-  -- so of what it comes to is so of where it begins. Its bodies fit, and so do those of its arguments and of the heap.
+  -- so of what it returns is so of where it begins. Its bodies fit, and so do those of its arguments and of the heap.
   abbrev pub Enters : ℕ → Type 0
   Enters n = (caller : Caller) (of : BodyNode) (scope : Option ℕ) (args : List Value) (ps : TyViews) (g : TyView) (s : State) →
       s.store.turns ≤ n → HasRoom (caller ∷ []) → IsTypedHeap s.store.heap → IsProcedure s.store.heap (types.Proc ps g) of scope →

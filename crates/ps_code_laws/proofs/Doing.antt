@@ -32,7 +32,7 @@ use Rattle.ps_code_laws.specs.Literals.{Fits}
 use Rattle.ps_code_laws.proofs.Literals.{IsLiteral, InHeap, InFrame}
 use Rattle.ps_code_laws.proofs.Holding.{Left, Holds, holds_then}
 
--- A run of a unit, inside bodies that wait, that is to come to something: whatever is so of what a step comes to is so of what it
+-- A run of a unit, inside bodies that wait, that is to come to something: whatever is so of what a step returns is so of what it
 -- starts from.
 pub record Way : Type 1 where
   pub unit : UnitView
@@ -105,7 +105,7 @@ since_more {n = n} {s = s} {heap = heap} le g h = record {
   held = h.held;
 }
 
--- What a part comes to that is of a type: the turns have fallen, the heap has grown and is typed, what is known after it is so, and each procedure that
+-- What a part returns that is of a type: the turns have fallen, the heap has grown and is typed, what is known after it is so, and each procedure that
 -- is held fits.
 pub record IsLeft (n : Origin) (last : Standing) (ty : TyView) (v : Value) (f : Frame) (s : State) : Type 0 where
   pub few : s.store.turns ≤ n.turns
@@ -163,7 +163,7 @@ leads_then {n = n} {a = a} {b = b} h k = record {
   holds = holds_then Fits a (λ u. b) h.holds (λ u literal. (k n.heap (grows_not n.heap)).holds);
 }
 
--- nothing is told, and where the run ends nothing is made
+-- nothing is output, and where the run ends nothing is made
 abbrev pub IsQuiet : State → Outcome → Type 0
 IsQuiet old (Value_is v f s) = s.events ≡ old.events
 IsQuiet old (Ends e s) = s ≡ old

@@ -1,4 +1,4 @@
--- What a clause comes to holds literals alone, where what it begins with does.
+-- What a clause returns holds literals alone, where what it begins with does.
 use Rattle.std.proofs.Common.{ℕ, zero, suc, ◌+◌, ℤ, pos, ◌+ℤ◌, Bool, true, false, List, [], ◌∷◌, Option, Some, None}
 use Rattle.std.specs.Prelude.{nat_eq, nat_lt, get_or, if◌then◌else◌}
 use Rattle.ps_gen.specs.ps_base.TyView.{TyView}

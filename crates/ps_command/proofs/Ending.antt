@@ -1,4 +1,4 @@
--- What a run of a program's unit comes to is what the program means.
+-- What a run of a program's unit returns is what the program means.
 use Rattle.std.proofs.Common.{◌≡◌, ℕ, ◌+◌, ◌*◌, ◌≤◌, List, [], ◌∷◌, ◌++◌, reverse, refl, sym, ap, ◌∙◌, subst, append_assoc, arith}
 use Rattle.std.specs.Prelude.{Result, Ok, Err, None}
 use Rattle.std.specs.List.{AllByRecursion}
@@ -156,7 +156,7 @@ module _ {H : Type 0} (outside : H → Outside (List ℕ)) (a b : Store H) where
   abbrev new : Outside (List ℕ)
   new = outside b.host
 
-  -- what was output by the store was told by its host
+  -- what was output by the store was output by its host
   host_told : (bytes : List ℕ) → vault.TellsAll (outside_of outside a) (outside_of outside b) bytes → TellsAll old new bytes
   host_told bytes is = record { front = is.first.told; all = is.all; calm = is.calm }
 
@@ -196,7 +196,7 @@ module _ {H : Type 0} (outside : H → Outside (List ℕ)) (a b : Store H) where
     pub never_damaged : RanTo (Err Damaged) → ⊥
     never_damaged (damaged {events = events} {last = last} way s tells) = is_never_stuck total (begin run input program) last events r.runs way s
 
-    -- where it ended all was told, and the end is the program's
+    -- where it ended all was output, and the end is the program's
     pub all_told : (e : RunEnd) (answered : ℕ) → answered ≡ status_of (end_of e) → RanTo (Ok e) → AnswersRun old new run input program answered
     all_told e answered is_status (ended {events = events} {last = last} way s tells) =
         let is = ended_by events last (end_of e) way s in
@@ -259,7 +259,7 @@ full_told old mid new run input program before top wanted size answered fills is
     behind n (answers.whole all) = answers.whole (all_then old mid new (outputs before) (area_full_line top wanted (area_size run)) first all)
     behind n (answers.cut fails) = answers.cut (fails_then old mid new (outputs before) (area_full_line top wanted (area_size run)) first fails)
 
--- What a run comes to after calls that told nothing.
+-- What a run returns after calls that output nothing.
 pub run_behind : (old mid new : Outside (List ℕ)) (run : RunOf) (input : List ℕ) (program : BodyNode) (answered : ℕ) → TellsNothing old mid → mid.output_faults ≡ old.output_faults
     → AnswersRun mid new run input program answered → AnswersRun old new run input program answered
 run_behind old mid new run input program answered nothing calm is = record {

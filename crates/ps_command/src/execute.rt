@@ -53,7 +53,7 @@ pub fn run_program<H: Host>(
     }
 }
 
-// Tells that there was no memory.
+// Writes that there was no memory.
 fn no_memory<H: Host>(host: H) -> (u8, H)
     ensures answers { Answers (H.outside host) (H.outside result.1) memory_line 5 result.0 }
     ensures device { LeavesDevice (H.outside host) (H.outside result.1) }

@@ -43,13 +43,13 @@ report_of Done = []
 report_of (Trapped trap line) = codes "trap " ++ decimal (trap_number trap) ++ codes " at line " ++ decimal line.0 ++ codes "\n"
 report_of OutOfTurns = codes "out of turns\n"
 
--- what an event tells
+-- what an event outputs
 abbrev pub output_of : Event → List ℕ
 output_of (Out bytes counted) = bytes
 output_of (Turn counted) = []
 output_of (Finish end_of_run counted) = report_of end_of_run
 
--- what events tell, one after the other
+-- what events output, one after the other
 abbrev pub outputs : List Event → List ℕ
 outputs [] = []
 outputs (event ∷ events) = output_of event ++ outputs events

@@ -18,7 +18,7 @@ fresh_store turns input counted = record { turns = turns; heap = []; input = inp
 unfoldable pub fresh_state : ℕ → List ℕ → ℕ → State
 fresh_state turns input counted = record { events = []; store = fresh_store turns input counted }
 
--- What a program comes to that may take this many turns and has this input. Its own code is counted from the start.
+-- What a program returns that may take this many turns and has this input. Its own code is counted from the start.
 unfoldable pub outcome_of : ℕ → List ℕ → BodyNode → Outcome
 outcome_of turns input (body params gives tree scope line) =
     eval (context turns 0) tree fresh_frame (fresh_state turns input (code_weight (body params gives tree scope line)))

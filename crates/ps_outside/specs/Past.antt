@@ -12,6 +12,6 @@ pub record Past {X : Type 0} (before now : ℕ) (old new : ℕ → X → Type 0)
 abbrev pub KeepsPast : {X : Type 0} → Outside X → Outside X → Type 0
 KeepsPast old new = Past old.clock new.clock old.images new.images
 
--- what had been told at each moment that has been
+-- what had been output at each moment that has been
 abbrev pub KeepsTold : {X : Type 0} → Outside X → Outside X → Type 0
 KeepsTold old new = Past old.clock new.clock old.told new.told

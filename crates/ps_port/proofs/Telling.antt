@@ -24,11 +24,11 @@ adds_then told_first told_next xs ys bytes step last =
     let one = step last.before last.was_told in
     record { before = one.before; was_told = one.was_told; bytes_are = last.bytes_are ∙ ap (λ (b : List ℕ). b ++ ys) one.bytes_are ∙ append_assoc one.before xs ys }
 
--- a prefix of the first part is told at a moment, also of the whole
+-- a prefix of the first part is output at a moment, also of the whole
 adds_front_more : (told_before : List ℕ → Type 0) (some rest bytes : List ℕ) → AddsPrefix told_before some bytes → AddsPrefix told_before (some ++ rest) bytes
 adds_front_more told_before some rest bytes is = record { front = is.front; is_front = front_more is.front some rest is.is_front; adds = is.adds }
 
--- a prefix of the second part is told after all of the first
+-- a prefix of the second part is output after all of the first
 adds_front_then : (told_first told_next : List ℕ → Type 0) (xs ys bytes : List ℕ) → ((b : List ℕ) → told_next b → Adds told_first xs b) → AddsPrefix told_next ys bytes → AddsPrefix told_first (xs ++ ys) bytes
 adds_front_then told_first told_next xs ys bytes step is = record {
   front = xs ++ is.front;
@@ -44,7 +44,7 @@ adds_front_nil : (told_before : List ℕ → Type 0) (whole bytes : List ℕ) �
 adds_front_nil told_before whole bytes was = record { front = []; is_front = record { rest = whole; whole_is = refl }; adds = adds_nil told_before bytes was }
 
 module _ {X : Type 0} where
-  -- where no call was made, nothing was told, which is a prefix of anything
+  -- where no call was made, nothing was output, which is a prefix of anything
   pub front_of_none : (a : Outside X) (whole : List ℕ) → TellsPrefix a a whole
   front_of_none a whole = record {
     later = omega arith;
@@ -103,7 +103,7 @@ module _ {X : Type 0} where
     calm = next.calm ∙ is.calm;
   }
 
-  -- all of the first part was told, and the output failed in the second
+  -- all of the first part was output, and the output failed in the second
   pub fails_then : (a b c : Outside X) (xs ys : List ℕ) → TellsAll a b xs → FailsAfter b c ys → FailsAfter a c (xs ++ ys)
   fails_then a b c xs ys is next = record {
     front = front_then a b c xs ys is.front is.all next.front;
@@ -126,8 +126,8 @@ module _ {X : Type 0} where
   failed a b whole (Ok x) is fails = absurd (cc)
   failed a b whole (Err e) is fails = fails
 
-  -- Some of the whole has been told since the first moment, and the rest is still to be told: what stays true
-  -- over any run of calls that tell the whole in parts.
+  -- Some of the whole has been output since the first moment, and the rest is still to be output: what stays true
+  -- over any run of calls that output the whole in parts.
   pub record SoFar (first now : Outside X) (whole rest : List ℕ) : Type 0 where
     pub done : List ℕ
     pub whole_is : whole ≡ done ++ rest
@@ -152,7 +152,7 @@ module _ {X : Type 0} where
       subst (λ (xs : List ℕ). FailsAfter a c xs) (sym (so.whole_is ∙ ap (λ (xs : List ℕ). so.done ++ xs) split))
       (fails_then a b c so.done (bytes ++ left) so.tells (fails_more b c bytes left next))
 
-  -- Where no rest is left, the whole was told.
+  -- Where no rest is left, the whole was output.
   pub so_far_all : (a b : Outside X) (whole rest : List ℕ) → SoFar a b whole rest → rest ≡ [] → TellsAll a b whole
   so_far_all a b whole rest so empty =
       subst (λ (xs : List ℕ). TellsAll a b xs) (sym (so.whole_is ∙ ap (λ (xs : List ℕ). so.done ++ xs) empty ∙ append-nil so.done)) so.tells

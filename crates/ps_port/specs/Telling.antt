@@ -9,7 +9,7 @@ abbrev pub joined : List (Bor (List ℕ)) → List ℕ
 joined [] = []
 joined (part ∷ parts) = part.now ++ joined parts
 
--- The whole was told, and the output didn't fail: the count of its faults stood still.
+-- The whole was output, and the output didn't fail: the count of its faults stood still.
 pub record TellsAll {X : Type 0} (old new : Outside X) (whole : List ℕ) : Type 0 where
   pub front : TellsPrefix old new whole
   pub all : ToldAll old new whole

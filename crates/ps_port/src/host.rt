@@ -8,7 +8,7 @@ ghost use Rattle.ps_port.specs.Disk.{Written, written, Torn};
 pub struct HostFailed;
 
 /// The device and the output as one object, with one clock that each call moves on. What it tells of its content it tells moment by
-/// moment, so that a caller can say what had been told, and what a crash may leave, wherever a run was stopped. The counts stand still at
+/// moment, so that a caller can say what had been output, and what a crash may leave, wherever a run was stopped. The counts stand still at
 /// 2^64 - 1. `docs/formats.md` says what is assumed of a real disk.
 pub trait Host {
     /// What is seen of it: of the device bytes.
@@ -46,7 +46,7 @@ pub trait Host {
         ensures images { LeavesSame (outside self.old) (outside self.new) }
         ensures call { IsDeviceCall (outside self.old) (outside self.new) result };
 
-    /// Tells the bytes, all of them where it answers Ok, and then no fault is counted. After a refusal a prefix of them was told.
+    /// Writes the bytes, all of them where it answers Ok, and then no fault is counted. After a refusal a prefix of them was output.
     fn put(&mut self, from: &[u8]) -> Result<(), HostFailed>
         ensures cut { TellsPrefix (outside self.old) (outside self.new) from.now }
         ensures all { OnOk result (ToldAll (outside self.old) (outside self.new) from.now) }

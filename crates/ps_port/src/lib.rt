@@ -1,4 +1,4 @@
-//! The outside of the system: the host, which is the device and takes what a program tells, and the shelf, which gives
+//! The outside of the system: the host, which is the device and takes what a program outputs, and the shelf, which gives
 //! texts by name. Each is a trait, so that everything above is proved over any host and any shelf;
 //! `FileHost` and `DirShelf` are the edge to the real system, `MemoryShelf` is whole in memory.
 #![tactic(auto)]

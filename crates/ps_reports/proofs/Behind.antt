@@ -1,4 +1,4 @@
--- What is told after calls that told nothing.
+-- What is output after calls that output nothing.
 use Rattle.std.proofs.Common.{◌≡◌, ℕ, List, [], refl, sym}
 use Rattle.std.proofs.lemmas.List.{append-nil}
 use Rattle.ps_port.specs.ps_outside.Outside.{Outside, TellsNothing, Adds, AddsPrefix}
@@ -11,7 +11,7 @@ module _ (old mid : Outside (List ℕ)) (nothing : TellsNothing old mid) (calm :
   no_more : (bytes : List ℕ) → old.told old.clock bytes → Adds (old.told old.clock) [] bytes
   no_more bytes was = record { before = bytes; was_told = was; bytes_are = sym (append-nil bytes) }
 
-  -- all of nothing was told
+  -- all of nothing was output
   pub told_none : TellsAll old mid []
   told_none = record {
     front = along_weaker nothing (λ bytes was. record { front = []; is_front = record { rest = []; whole_is = refl }; adds = no_more bytes was });

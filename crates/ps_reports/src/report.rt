@@ -10,7 +10,7 @@ use ps_port::{Host, tell};
 /// The status where the output failed.
 pub const OUTPUT_FAULT: u8 = 8;
 
-/// Tells the usage line, and answers 1.
+/// Writes the usage line, and answers 1.
 pub fn usage<H: Host>(host: &mut H) -> u8
     ensures answers { Answers (H.outside host.old) (H.outside host.new) usage_line 1 result }
     ensures device { LeavesDevice (H.outside host.old) (H.outside host.new) }
@@ -18,7 +18,7 @@ pub fn usage<H: Host>(host: &mut H) -> u8
     answer(host, &[b"usage: psalgol COMMAND VOLUME WORDS\n"], 1)
 }
 
-/// Tells that there was no memory, and answers 5.
+/// Writes that there was no memory, and answers 5.
 pub fn no_memory<H: Host>(host: &mut H) -> u8
     ensures answers { Answers (H.outside host.old) (H.outside host.new) memory_line 5 result }
     ensures device { LeavesDevice (H.outside host.old) (H.outside host.new) }
@@ -26,7 +26,7 @@ pub fn no_memory<H: Host>(host: &mut H) -> u8
     answer(host, &[b"out of memory\n"], 5)
 }
 
-/// Tells that a text couldn't be read, and answers 7.
+/// Writes that a text couldn't be read, and answers 7.
 pub fn unreadable<H: Host>(host: &mut H, file: &str) -> u8
     ensures answers { Answers (H.outside host.old) (H.outside host.new) (unreadable_line file.now) 7 result }
     ensures device { LeavesDevice (H.outside host.old) (H.outside host.new) }
@@ -34,7 +34,7 @@ pub fn unreadable<H: Host>(host: &mut H, file: &str) -> u8
     answer(host, &[b"cannot read ", file.as_bytes(), b"\n"], 7)
 }
 
-/// Tells how long a text is that is too long, and answers 13.
+/// Writes how long a text is that is too long, and answers 13.
 pub fn too_long<H: Host>(host: &mut H, file: &str, length: u64) -> u8
     ensures answers { Answers (H.outside host.old) (H.outside host.new) (too_long_line file.now length) 13 result }
     ensures device { LeavesDevice (H.outside host.old) (H.outside host.new) }
@@ -51,7 +51,7 @@ pub fn too_long<H: Host>(host: &mut H, file: &str, length: u64) -> u8
     )
 }
 
-/// Tells the first fault of a text: its stage, its number and its line; and answers 2.
+/// Writes the first fault of a text: its stage, its number and its line; and answers 2.
 pub fn fault<H: Host>(host: &mut H, file: &str, stage: &[u8], number: u8, line: Line) -> u8
     ensures answers { Answers (H.outside host.old) (H.outside host.new) (fault_line file.now stage.now number line) 2 result }
     ensures device { LeavesDevice (H.outside host.old) (H.outside host.new) }
@@ -68,7 +68,7 @@ pub fn fault<H: Host>(host: &mut H, file: &str, stage: &[u8], number: u8, line: 
     )
 }
 
-/// Tells that the area was full: its next word, the words of the object that was to be made, and its size; and answers 11.
+/// Writes that the area was full: its next word, the words of the object that was to be made, and its size; and answers 11.
 pub fn area_full<H: Host>(host: &mut H, top: u32, wanted: u32, size: u32) -> u8
     ensures answers { Answers (H.outside host.old) (H.outside host.new) (area_full_line top wanted size) 11 result }
     ensures device { LeavesDevice (H.outside host.old) (H.outside host.new) }
@@ -94,7 +94,7 @@ pub fn area_full<H: Host>(host: &mut H, top: u32, wanted: u32, size: u32) -> u8
     )
 }
 
-/// Tells that the device failed, and answers 6.
+/// Writes that the device failed, and answers 6.
 pub fn device_fault<H: Host>(host: &mut H) -> u8
     ensures answers { Answers (H.outside host.old) (H.outside host.new) device_line 6 result }
     ensures device { LeavesDevice (H.outside host.old) (H.outside host.new) }
@@ -102,7 +102,7 @@ pub fn device_fault<H: Host>(host: &mut H) -> u8
     answer(host, &[b"device fault\n"], 6)
 }
 
-/// Tells that the file is no volume: its size in bytes and its byte 0, 0 where it is empty; and answers 9.
+/// Writes that the file is no volume: its size in bytes and its byte 0, 0 where it is empty; and answers 9.
 pub fn not_a_volume<H: Host>(host: &mut H, size: u64, gate: u8) -> u8
     ensures answers { Answers (H.outside host.old) (H.outside host.new) (not_a_volume_line size gate) 9 result }
     ensures device { LeavesDevice (H.outside host.old) (H.outside host.new) }
@@ -118,7 +118,7 @@ pub fn not_a_volume<H: Host>(host: &mut H, size: u64, gate: u8) -> u8
     )
 }
 
-/// Tells where the volume is damaged: the place in bytes of the number that failed its test, the number, and its bound; and answers 10.
+/// Writes where the volume is damaged: the place in bytes of the number that failed its test, the number, and its bound; and answers 10.
 pub fn damaged<H: Host>(host: &mut H, at: u64, found: u64, wanted: u64) -> u8
     ensures answers { Answers (H.outside host.old) (H.outside host.new) (damaged_line at found wanted) 10 result }
     ensures device { LeavesDevice (H.outside host.old) (H.outside host.new) }
@@ -144,7 +144,7 @@ pub fn damaged<H: Host>(host: &mut H, at: u64, found: u64, wanted: u64) -> u8
     )
 }
 
-/// Tells that there is a volume already, and answers 14.
+/// Writes that there is a volume already, and answers 14.
 pub fn already_a_volume<H: Host>(host: &mut H) -> u8
     ensures answers { Answers (H.outside host.old) (H.outside host.new) already_line 14 result }
     ensures device { LeavesDevice (H.outside host.old) (H.outside host.new) }
@@ -152,7 +152,7 @@ pub fn already_a_volume<H: Host>(host: &mut H) -> u8
     answer(host, &[b"already a volume\n"], 14)
 }
 
-// Tells pieces one after the other, and answers the status.
+// Writes pieces one after the other, and answers the status.
 #[tactic(auto, using(crate::specs::Answering::answering))]
 fn answer<H: Host>(host: &mut H, parts: &[&[u8]], status: u8) -> u8
     ensures answers { Answers (H.outside host.old) (H.outside host.new) (joined parts.now) status result }

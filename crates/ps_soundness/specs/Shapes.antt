@@ -167,7 +167,7 @@ pub record Stays (new : Heap) (id : ℕ) (object : Object) : Type 0 where
 abbrev pub Grows : Heap → Heap → Type 0
 Grows old new = (id : ℕ) (object : Object) → object_at old id ≡ Some object → Stays new id object
 
--- What a clause of a type comes to from a typed state: the heap has grown and is typed, the locals in scope are, and the value is of the type.
+-- What a clause of a type returns from a typed state: the heap has grown and is typed, the locals in scope are, and the value is of the type.
 pub record IsSound (heap : Heap) (env : Env) (ty : TyView) (v : Value) (frame : Frame) (state : State) : Type 0 where
   pub grows : Grows heap state.store.heap
   pub typed : IsTypedHeap state.store.heap

@@ -36,7 +36,7 @@ pub fn attached<H: Host>(alloc: Global, host: H) -> Result<ObjStore<H>, Unattach
     }
 }
 
-// Tells why there is no volume.
+// Writes why there is no volume.
 fn refused<H: Host>(host: &mut H, cause: OpenFault) -> u8
     ensures answers { Answers (H.outside host.old) (H.outside host.new) (line_of cause) (status_of cause) result }
     ensures device { LeavesDevice (H.outside host.old) (H.outside host.new) }

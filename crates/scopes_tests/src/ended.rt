@@ -6,7 +6,7 @@ use table_rows::Buffer;
 /// What a call ended in that gave nothing: a refusal. It is none where no call was made: it is no PID, or the value denotes an object.
 pub type Ended = Option<SwizzleFault>;
 
-/// Tells what a call ended in.
+/// Writes what a call ended in.
 pub fn put_ended(out: &mut Buffer, ended: Ended) {
     match ended {
         Some(SwizzleFault::AreaFull { top, wanted, size }) => {

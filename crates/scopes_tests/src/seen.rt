@@ -6,7 +6,7 @@ use memory_vault::obj_layout::reference::Reference;
 use scopes::swizzle::swizzle::Swizzle;
 use table_rows::Buffer;
 
-/// Tells the place of a scope, its header, its references and number words as they lie, and what lies after them.
+/// Writes the place of a scope, its header, its references and number words as they lie, and what lies after them.
 pub fn put_seen(out: &mut Buffer, sw: &Swizzle, scope: u32)
     requires { IsHeld sw.now scope }
 {
@@ -48,7 +48,7 @@ fn put_reference(out: &mut Buffer, reference: Reference) {
     }
 }
 
-/// Tells in a line which objects are noted as assigned, where there are any.
+/// Writes in a line which objects are noted as assigned, where there are any.
 pub fn put_assigned(out: &mut Buffer, sw: &Swizzle) {
     if sw.assigned().is_empty() {
         return;

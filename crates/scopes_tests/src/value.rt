@@ -15,7 +15,7 @@ pub fn value_of(mut words: Words<'_>) -> Option<Value> {
     }
 }
 
-/// Tells a value.
+/// Writes a value.
 pub fn put_value(out: &mut Buffer, value: Value) {
     out.put("value ");
     match value {

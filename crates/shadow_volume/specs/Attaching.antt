@@ -11,7 +11,7 @@ use Rattle.shadow_volume.specs.declared.finding.Root.{Root}
 use Rattle.shadow_volume.specs.declared.finding.OpenFault.{OpenFault}
 use Rattle.shadow_volume.specs.declared.finding.OpenFault.TheVariants.{Device, NotAVolume, Damaged, Memory}
 
--- Calls that only look, so many of the device at most: nothing is told, and what is held and what a crash may leave stays.
+-- Calls that only look, so many of the device at most: nothing is output, and what is held and what a crash may leave stays.
 pub record Looks {X : Type 0} (old new : Outside X) (most : ℕ) : Type 0 where
   pub told : TellsNothing old new
   pub images : LeavesSame old new
@@ -38,7 +38,7 @@ pub record IsRefusal (old new : Outside (List ℕ)) (fault : OpenFault) : Type 0
   pub found : (bytes : List ℕ) → old.contents bytes → IsNoVolume fault bytes
 
 -- An attached volume: it is what was found in each content that was output, nothing is staged, and a crash leaves what was looked at, from a moment on
--- before which nothing was told.
+-- before which nothing was output.
 pub record IsAttached (old new : Outside (List ℕ)) (lives : Bool) (committed : Committed) (staged : List Bool) : Type 0 where
   pub looks : Looks old new 6
   pub settles : SettlesFrom old new

@@ -8,7 +8,7 @@ use Rattle.shadow_volume.specs.Standing.{HasRoot, Says, held_in, staged_byte, st
 use Rattle.shadow_volume.specs.declared.note.Note.{Note}
 use Rattle.shadow_volume.specs.declared.note.Committed.{Committed}
 
--- Calls of the device that tell nothing, and that fail only where it did.
+-- Calls of the device that output nothing, and that fail only where it did.
 pub record Works {X T E : Type 0} (old new : Outside X) (result : Result T E) : Type 0 where
   pub told : TellsNothing old new
   pub counts : old.device_faults ≤ new.device_faults

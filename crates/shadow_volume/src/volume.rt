@@ -161,7 +161,7 @@ impl<H: Host> Volume<H> {
         }
     }
 
-    /// Tells the bytes, as the host does. It is alive afterwards where it was.
+    /// Writes the bytes, as the host does. It is alive afterwards where it was.
     pub fn put(&mut self, bytes: &[u8]) -> Result<(), HostFailed>
         ensures cut { TellsPrefix (H.outside self.old.host) (H.outside self.new.host) bytes.now }
         ensures all { OnOk result (ToldAll (H.outside self.old.host) (H.outside self.new.host) bytes.now) }

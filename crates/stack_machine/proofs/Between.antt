@@ -106,7 +106,7 @@ comes_nearer old new owed rest m m' heap c a =
 pub holds_on : (old new : Outside Space) (owed left : List ℕ) (m m' : Machine) → IsHolding m → Advances old new owed left m m' On → IsHolding m'
 holds_on old new owed left m m' c a = let by = a.by c.0 c.1 in (by.2.1, by.2.3)
 
--- From each configuration that the first machine holds some steps lead to one that the present machine holds, and what they tell was told but for what
+-- From each configuration that the first machine holds some steps lead to one that the present machine holds, and what they output was output but for what
 -- is pending.
 pub record IsBetween (old now : Outside Space) (owed left : List ℕ) (m m' : Machine) : Type 0 where
   pub sound : IsSound m'
@@ -147,7 +147,7 @@ module _ (old now new : Outside Space) (owed left rest : List ℕ) (m m' next : 
       (subst (λ (bs : List ℕ). FailsAfter old new bs) (append_assoc owed (outputs w.0) (outputs by.2.0) ∙ ap (λ (bs : List ℕ). owed ++ bs) (sym (outputs-append w.0 by.2.0)))
       (but-fails old now new (owed ++ outputs w.0) left (outputs by.2.0) w.4 by.2.3))
 
-  -- what is pending after a step that told nothing
+  -- what is pending after a step that output nothing
   still_owed : (due : List ℕ) → TellsBut old now due left → TellsBut now new left rest → TellsBut old new due rest
   still_owed due first then = record {
     sent = first.sent ++ then.sent;
@@ -156,7 +156,7 @@ module _ (old now new : Outside Space) (owed left rest : List ℕ) (m m' next : 
   }
 
   module _ (last : Outside Space) where
-    -- the run stops, and the report is told, or the output fails in it
+    -- the run stops, and the report is output, or the output fails in it
     pub between_ends : (r : Result RunEnd RunFault) → Advances now new left rest m' next Ended → Reports new last rest next.end r → (c : Config) → Holds m c → Ran old last owed m.sw.size c r
     between_ends (Ok answer) a report c h =
         let w = b.way c h in
@@ -174,7 +174,7 @@ module _ (old now new : Outside Space) (owed left rest : List ℕ) (m m' next : 
         report_cut next.end w.2 (subst (λ (s : Step). Steps w.1 s) by.2.0 by.1)
         (subst (λ (bs : List ℕ). FailsAfter old last bs) (append_assoc owed (outputs w.0) (report_of (end_of next.end))) (but-fails old new last (owed ++ outputs w.0) rest (report_of (end_of next.end)) told report))
 
-    -- all that was pending is told
+    -- all that was pending is output
     all_owed : (due : List ℕ) → TellsBut old new due rest → TellsAll new last rest → TellsAll old last due
     all_owed due told all = subst (λ (xs : List ℕ). TellsAll old last xs) (sym told.due_is) (all-then old new last told.sent rest told.tells all)
 

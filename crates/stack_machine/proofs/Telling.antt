@@ -1,4 +1,4 @@
--- What is told, and what is pending, one call after another.
+-- What is output, and what is pending, one call after another.
 use Rattle.std.proofs.Common.{◌≡◌, ℕ, ◌+◌, ◌≤◌, ℤ, List, [], ◌++◌, length, replicate, Option, Some, None, refl, sym, ap, ◌∙◌, subst, append_assoc, arith}
 use Rattle.std.specs.Prelude.{Result, Ok, Err}
 use Rattle.std.proofs.lemmas.List.{append-nil}
@@ -36,7 +36,7 @@ fails-part a b c due owed whole part rest left fault first is next =
     (ap (λ (xs : List ℕ). owed ++ xs) is ∙ sym (append_assoc owed part rest) ∙ ap (λ (xs : List ℕ). xs ++ rest) next.due_is ∙ append_assoc next.sent next.rest rest)
     next.puts tt next.lets_go
 
--- nothing more than some that had been told
+-- nothing more than some that had been output
 adds_none : (told : List ℕ → Type 0) (bytes : List ℕ) → told bytes → Adds told [] bytes
 adds_none told bytes was = record { before = bytes; was_told = was; bytes_are = sym (append-nil bytes) }
 
@@ -78,7 +78,7 @@ rose_from a b c le rose = grind arith
 same_then : (a b c : Outside Space) → SameContents a b → SameContents b c → SameContents a c
 same_then a b c first next = record { kept = λ x is. next.kept x (first.kept x is); no_other = λ x is. first.no_other x (next.no_other x is) }
 
--- A prefix of the first part, and then of the second where all of the first was told.
+-- A prefix of the first part, and then of the second where all of the first was output.
 pub first-more : (a b : Outside Space) (xs ys : List ℕ) → TellsFirst a b xs → TellsFirst a b (xs ++ ys)
 first-more a b xs ys is = record {
   told = along_weaker is.told (λ (bytes : List ℕ) at. front_more (a.told a.clock) xs ys bytes at);
@@ -162,7 +162,7 @@ fails-puts {T = T} a b xs fault output is = record {
 pub but-leaves : (a b : Outside Space) (owed : List ℕ) → LeavesOutside a b → TellsBut a b owed owed
 but-leaves a b owed is = record { sent = []; due_is = refl; tells = all-leaves a b is }
 
--- nothing was told
+-- nothing was output
 pub but-none : (outside : Outside Space) (owed : List ℕ) → TellsBut outside outside owed owed
 but-none outside owed = record { sent = []; due_is = refl; tells = all-none outside }
 
@@ -210,7 +210,7 @@ but-fails a b c due owed more first next =
 pub but-first : (a b c : Outside Space) (due owed : List ℕ) → TellsBut a b due owed → TellsFirst b c owed → TellsFirst a c due
 but-first a b c due owed first next = subst (λ (xs : List ℕ). TellsFirst a c xs) (sym first.due_is) (first-then a b c first.sent owed first.tells next)
 
--- A call that tells nothing comes before.
+-- A call that outputs nothing comes before.
 pub leaves-but : (a b c : Outside Space) (due left : List ℕ) → LeavesOutside a b → TellsBut b c due left → TellsBut a c due left
 leaves-but a b c due left quiet next = record { sent = next.sent; due_is = next.due_is; tells = all-then a b c [] next.sent (all-leaves a b quiet) next.tells }
 

@@ -6,7 +6,7 @@ ghost use Rattle.machine_procedures.specs.ps_meaning.Event.{Event, count_of};
 ghost use Rattle.machine_procedures.specs.ps_meaning.Meaning.{Store};
 ghost use Rattle.stack_machine.specs.Loaded.{no_locals};
 
-/// A configuration has one step, so what a run comes to is the only thing that it can return.
+/// A configuration has one step, so what a run returns is the only thing that it can return.
 #[tactic(auto, using(crate::proofs::Single::one_step))]
 pub fn one_step()
     ensures { (c : Config) (s t : Step) → Steps c s → Steps c t → s ≡ t }

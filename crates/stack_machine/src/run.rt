@@ -121,7 +121,7 @@ fn full(fault: SwizzleFault) -> RunFault
     }
 }
 
-// Tells the report of an end, and all that is pending.
+// Writes the report of an end, and all that is pending.
 fn finish<V: Vault>(vault: &mut V, output: &mut Output, end: RunEnd) -> Result<RunEnd, RunFault>
     requires { V.alive vault.old }
     ensures reports { Reports (V.outside vault.old) (V.outside vault.new) output.old end result }
@@ -136,7 +136,7 @@ fn finish<V: Vault>(vault: &mut V, output: &mut Output, end: RunEnd) -> Result<R
     }
 }
 
-// Tells all that is pending where a run broke off, and answers why; or the output failed.
+// Writes all that is pending where a run broke off, and answers why; or the output failed.
 fn flushed<V: Vault>(vault: &mut V, output: &mut Output, fault: RunFault) -> RunFault
     requires { V.alive vault.old }
     ensures flushes { Flushes (V.outside vault.old) (V.outside vault.new) output.old fault result }
@@ -162,7 +162,7 @@ fn break_off<V: Vault>(vault: &mut V, output: &mut Output) -> RunFault
 
 /// Runs a machine to its end, and tells what it writes and the report of its end; what is pending goes out at each turn, where the buffer is full,
 /// and at the end. It takes no memory. Where there is no step the run ends there, and what it wrote was told as far as the vault was alive;
-/// where the area is full, all of it was; and where the output fails it ends there, after a prefix of what it would tell. Nothing is pending
+/// where the area is full, all of it was; and where the output fails it ends there, after a prefix of what it would output. Nothing is pending
 /// then.
 pub fn run<V: Vault>(
     m: &mut Machine,

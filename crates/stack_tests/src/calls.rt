@@ -19,7 +19,7 @@ fn count_of(field: &[u8]) -> u64 {
     count
 }
 
-/// Tells what is wanted: where a call fails, an output failure, by no further call, and where none of them does, what the field says, by exactly these
+/// Writes what is wanted: where a call fails, an output failure, by no further call, and where none of them does, what the field says, by exactly these
 /// calls.
 pub fn put_calls_wanted(out: &mut Buffer, field: &[u8]) {
     let count = count_of(field);
@@ -70,7 +70,7 @@ fn front_of(bytes: &[u8], is_half: bool) -> &[u8] {
     front
 }
 
-/// Tells what is found.
+/// Writes what is found.
 pub fn put_calls_found(out: &mut Buffer, settings: Settings, unit: &CodeUnit, field: &[u8]) {
     for failing in 0..=count_of(field) {
         put_run(out, settings, unit, b"", Some(failing));

@@ -47,7 +47,7 @@ impl Came {
         Came::full(none.top, none.wanted, none.size)
     }
 
-    /// Tells it in words.
+    /// Writes it in words.
     pub fn put(self, out: &mut Buffer) {
         out.put(self.word);
         for number in self.numbers {

@@ -1,4 +1,4 @@
-//! Runs of units, and what they come to as a text.
+//! Runs of units, and what they return as a text.
 
 ghost use Rattle.std.specs.Prelude.{◌≡◌, true};
 ghost use Rattle.stack_machine.specs.Loaded.{IsRoomy};
@@ -27,7 +27,7 @@ fn host(alloc: Global, failing: Option<u64>) -> Result<MemoryHost, AllocError> {
     }
 }
 
-/// Tells what a unit comes to and tells, with this input, where this call of the host fails. Where one is to fail, it says as well how many calls the
+/// Writes what a unit returns and tells, with this input, where this call of the host fails. Where one is to fail, it says as well how many calls the
 /// host had.
 pub fn put_run(
     out: &mut Buffer,
@@ -47,7 +47,7 @@ pub fn put_run(
     }
 }
 
-// Tells what a unit comes to with this input, over a new machine.
+// Writes what a unit returns with this input, over a new machine.
 fn put_came(
     out: &mut Buffer,
     settings: Settings,
@@ -63,7 +63,7 @@ fn put_came(
     }
 }
 
-// What a unit comes to with this input, over a new machine.
+// What a unit returns with this input, over a new machine.
 fn came_on(
     alloc: Global,
     settings: Settings,
@@ -86,7 +86,7 @@ fn came_on(
     ))
 }
 
-// What a unit comes to in so many turns, with this input.
+// What a unit returns in so many turns, with this input.
 fn came_of(
     machine: &mut Machine,
     vault: &mut NoStore<MemoryHost>,
@@ -104,7 +104,7 @@ fn came_of(
     }
 }
 
-/// Tells how many calls the host had, where that is asked, and what was output, where anything was: each in a line.
+/// Writes how many calls the host had, where that is asked, and what was output, where anything was: each in a line.
 pub fn put_told(out: &mut Buffer, calls: Option<u64>, told: &[u8]) {
     if let Some(count) = calls {
         out.put("\ncalls ");

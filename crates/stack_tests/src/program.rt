@@ -30,7 +30,7 @@ impl<'a> Program<'a> {
         }
     }
 
-    /// Tells what the row wants: what its run returns, the calls of the host where they are counted, and what it tells.
+    /// Writes what the row wants: what its run returns, the calls of the host where they are counted, and what it outputs.
     pub fn put_wanted(self, out: &mut Buffer) {
         let field = self.row.field(1);
         match self.kind {
@@ -39,7 +39,7 @@ impl<'a> Program<'a> {
         }
     }
 
-    // Tells what this field wants of a program that is run once.
+    // Writes what this field wants of a program that is run once.
     fn put_run_wanted(self, out: &mut Buffer, field: &[u8]) {
         out.bytes(line_at(field, 0));
         match self.settings.failing {
@@ -52,7 +52,7 @@ impl<'a> Program<'a> {
         }
     }
 
-    /// Tells what is found of the row.
+    /// Writes what is found of the row.
     pub fn put_found(self, out: &mut Buffer) -> Result<()> {
         let frame = self.settings.frame();
         let unit = unit_of(out.alloc(), self.table, frame, self.settings.cut, self.row)?;
@@ -60,7 +60,7 @@ impl<'a> Program<'a> {
         Ok(())
     }
 
-    // Tells what is found of its unit.
+    // Writes what is found of its unit.
     fn put_unit(self, out: &mut Buffer, unit: &CodeUnit) {
         match self.kind {
             RowKind::Calls => put_calls_found(out, self.settings, unit, self.row.field(1)),
@@ -68,7 +68,7 @@ impl<'a> Program<'a> {
         }
     }
 
-    // Tells what is found of its unit, which is run once.
+    // Writes what is found of its unit, which is run once.
     fn put_run_found(self, out: &mut Buffer, unit: &CodeUnit) {
         match bytes_of(out.alloc(), self.input()) {
             Ok(input) => put_run(out, self.settings, unit, &input, self.settings.failing),
@@ -87,7 +87,7 @@ impl<'a> Program<'a> {
     }
 }
 
-// Tells the calls, where they are counted, and what is output, which a line spells.
+// Writes the calls, where they are counted, and what is output, which a line spells.
 fn put_line_told(out: &mut Buffer, calls: Option<u64>, line: &[u8]) {
     match bytes_of(out.alloc(), line) {
         Ok(told) => put_told(out, calls, &told),

@@ -28,7 +28,7 @@ abbrev pub AreNear : Heap → List Reference → Type 0
 AreNear heap [] = Unit {0}
 AreNear heap (name ∷ names) = IsNear heap name × AreNear heap names
 
--- Nothing is told, what a crash may leave and what is held stay, and no count sinks.
+-- Nothing is output, what a crash may leave and what is held stay, and no count sinks.
 pub record LeavesOutside (before after : Outside Space) : Type 0 where
   pub told : TellsNothing before after
   pub images : LeavesSame before after

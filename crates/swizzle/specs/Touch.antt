@@ -50,7 +50,7 @@ Came old new outside reference =
 abbrev pub Only : Heap → Heap → Reference → Type 0
 Only old new reference = (at : ℕ) → IsHeld new at → IsHeld old at ⊎ (name_at new at ≡ reference)
 
--- What a touch does to the outside: it tells nothing, leaves what a crash may leave and what is held, fails as the device only where that
+-- What a touch does to the outside: it outputs nothing, leaves what a crash may leave and what is held, fails as the device only where that
 -- did, and where it is answered takes few device calls, by the words of the object that came.
 pub record IsTouchCall {T : Type 0} (old new : Heap) (before after : Outside Space) (result : Result T SwizzleFault) : Type 0 where
   pub told : TellsNothing before after

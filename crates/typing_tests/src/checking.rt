@@ -20,7 +20,7 @@ pub enum Telling {
     Fits,
 }
 
-/// Tells what the check answers on a text.
+/// Writes what the check answers on a text.
 pub fn put_answer(out: &mut Buffer, text: &[u8], telling: Telling) {
     match tree_of(out.alloc(), text) {
         Ok(rough) => put_checked(out, rough, telling),
@@ -79,7 +79,7 @@ fn put_count(out: &mut Buffer, count: u64) {
     out.number(count);
 }
 
-/// Tells a type after a word.
+/// Writes a type after a word.
 pub fn put_type(out: &mut Buffer, word: &str, ty: &Ty) {
     out.put(word);
     match type_text(out.alloc(), ty) {

@@ -10,7 +10,7 @@ use ps_program::form::TreeForm;
 use ps_program::place::Place;
 use table_rows::Buffer;
 
-/// Tells a form: its word, and what it has of a scope, a line, a class, numbers, a place and a type.
+/// Writes a form: its word, and what it has of a scope, a line, a class, numbers, a place and a type.
 pub fn put_form(out: &mut Buffer, form: &TreeForm) {
     out.put(word_of(form));
     put_scope(out, scope_of(form));

@@ -36,7 +36,7 @@ fn put_type(out: &mut Buffer, count: usize) {
     put_pieces(out, b")", count);
 }
 
-/// Tells their tree: a parameter is kept by each literal but the last, which has it in a scope of its own.
+/// Writes their tree: a parameter is kept by each literal but the last, which has it in a scope of its own.
 pub fn put_literal_trees(out: &mut Buffer, count: usize) {
     out.put("(block (let P0:");
     put_type(out, count);

@@ -83,7 +83,7 @@ fn compare_row(tables: &mut Tables, file: &str, row: &Row, kind: Kind) -> Result
     tables.compare_told(file, row, &found, wanted.told().unwrap_or(NOTHING))
 }
 
-// Tells what is found of a row.
+// Writes what is found of a row.
 fn put_found(out: &mut Buffer, row: &Row, kind: Kind) {
     match kind {
         Kind::Trees | Kind::Faults => put_answer(out, row.field(0), Telling::Tree),
@@ -98,7 +98,7 @@ fn put_found(out: &mut Buffer, row: &Row, kind: Kind) {
     }
 }
 
-// Tells what the check answers on a text that was made.
+// Writes what the check answers on a text that was made.
 fn put_answer_on(out: &mut Buffer, text: &Buffer, telling: Telling) {
     match text.told() {
         Some(text) => put_answer(out, text, telling),
@@ -106,7 +106,7 @@ fn put_answer_on(out: &mut Buffer, text: &Buffer, telling: Telling) {
     }
 }
 
-// Tells what a row wants to be found.
+// Writes what a row wants to be found.
 fn put_wanted(out: &mut Buffer, row: &Row, kind: Kind) {
     match kind {
         Kind::Trees | Kind::Patterns => out.bytes(row.field(1)),

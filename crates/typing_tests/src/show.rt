@@ -12,7 +12,7 @@ enum Item<'a> {
     Clauses(Further<'a>),
 }
 
-/// Tells a tree as a line of text: a clause as its form with its places, types and lines, and its parts, in brackets; a place as
+/// Writes a tree as a line of text: a clause as its form with its places, types and lines, and its parts, in brackets; a place as
 /// `P` and its slot, or as `K`, so many scopes outward, and its position.
 pub fn put_shown(out: &mut Buffer, tree: &Tree) {
     let mut pending = Vec::new(out.alloc());
@@ -20,7 +20,7 @@ pub fn put_shown(out: &mut Buffer, tree: &Tree) {
     put_pending(out, &mut pending);
 }
 
-// Tells all that is pending, the last of it first.
+// Writes all that is pending, the last of it first.
 fn put_pending<'a>(out: &mut Buffer, pending: &mut Vec<Item<'a>>) {
     for _ in 0..u32::MAX {
         match pending.pop() {
@@ -37,7 +37,7 @@ fn put_item<'a>(out: &mut Buffer, pending: &mut Vec<Item<'a>>, item: Item<'a>) {
     }
 }
 
-// Tells the first of these clauses, and leaves those after it pending.
+// Writes the first of these clauses, and leaves those after it pending.
 fn put_further<'a>(out: &mut Buffer, pending: &mut Vec<Item<'a>>, further: Further<'a>) {
     match further {
         Further::Nothing => {}
@@ -92,7 +92,7 @@ fn put_clause<'a>(out: &mut Buffer, pending: &mut Vec<Item<'a>>, tree: &'a Tree)
     put_tree(out, pending, tree);
 }
 
-// Tells a clause, but for its parts, which are left pending.
+// Writes a clause, but for its parts, which are left pending.
 fn put_tree<'a>(out: &mut Buffer, pending: &mut Vec<Item<'a>>, tree: &'a Tree) {
     match tree.parts() {
         Parts::Clauses {
@@ -111,7 +111,7 @@ fn put_tree<'a>(out: &mut Buffer, pending: &mut Vec<Item<'a>>, tree: &'a Tree) {
     }
 }
 
-// Tells the bracket and the form that these clauses stand after.
+// Writes the bracket and the form that these clauses stand after.
 fn put_opened<'a>(
     out: &mut Buffer,
     pending: &mut Vec<Item<'a>>,

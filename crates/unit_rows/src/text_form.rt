@@ -77,7 +77,7 @@ fn digit_of(digit: u8) -> u8 {
     }
 }
 
-/// Tells the line of these bytes.
+/// Writes the line of these bytes.
 pub fn put_line(out: &mut Buffer, bytes: &[u8]) {
     let mut last = 0u8;
     let mut count = 0usize;
@@ -92,7 +92,7 @@ pub fn put_line(out: &mut Buffer, bytes: &[u8]) {
     put_bytes(out, last, count);
 }
 
-// Tells so many of a byte.
+// Writes so many of a byte.
 fn put_bytes(out: &mut Buffer, byte: u8, count: usize) {
     if count >= LONG_RUN && is_plain(byte) {
         return put_long_run(out, byte, count);
@@ -102,7 +102,7 @@ fn put_bytes(out: &mut Buffer, byte: u8, count: usize) {
     }
 }
 
-// Tells so many of a byte as their number.
+// Writes so many of a byte as their number.
 fn put_long_run(out: &mut Buffer, byte: u8, count: usize) {
     out.put("\\");
     out.number(count as u64);
@@ -124,7 +124,7 @@ fn put_byte(out: &mut Buffer, byte: u8) {
     }
 }
 
-// Tells a byte by its two digits.
+// Writes a byte by its two digits.
 fn put_in_hex(out: &mut Buffer, byte: u8) {
     out.put(if byte < 16 { "\\x0" } else { "\\x" });
     out.hex(u64::from(byte));

@@ -10,11 +10,11 @@ use Rattle.obj_layout.specs.Stored.{Space}
 use Rattle.obj_layout.specs.Storing.{Puts, NeverFull, NeverDamaged}
 use Rattle.vault_output.specs.Sending.{Sends, left_of}
 
--- nothing more than some that had been told
+-- nothing more than some that had been output
 none_more : (told : List ℕ → Type 0) (bytes : List ℕ) → told bytes → Adds told [] bytes
 none_more told bytes was = record { before = bytes; was_told = was; bytes_are = sym (append-nil bytes) }
 
--- more was told, in two steps
+-- more was output, in two steps
 adds_then : (first next : List ℕ → Type 0) (xs ys bytes : List ℕ) → ((b : List ℕ) → next b → Adds first xs b) → Adds next ys bytes
     → Adds first (xs ++ ys) bytes
 adds_then first next xs ys bytes step last =
@@ -36,7 +36,7 @@ front_more told some rest bytes is = record {
   adds = is.adds;
 }
 
--- a prefix of the second part is told after all of the first
+-- a prefix of the second part is output after all of the first
 front_then : (first next : List ℕ → Type 0) (xs ys bytes : List ℕ) → ((b : List ℕ) → next b → Adds first xs b) → AddsPrefix next ys bytes
     → AddsPrefix first (xs ++ ys) bytes
 front_then first next xs ys bytes step is = record {

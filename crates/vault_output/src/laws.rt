@@ -15,7 +15,7 @@ pub fn what_is_told_and_owed_is_due<V: Vault>()
         → Adds ((V.outside a).told (V.outside a).clock) due (bytes ++ owed) }
 {}
 
-/// At each moment of a write, whatever the answer, a prefix of what was due is told.
+/// At each moment of a write, whatever the answer, a prefix of what was due is output.
 pub fn what_is_told_is_a_front<V: Vault>()
     ensures { (a b : V) (due owed : List ℕ) (result : Result (Unit {0}) VaultFault)
         → Sends (V.outside a) (V.outside b) due owed result → TellsPrefix (V.outside a) (V.outside b) due }

@@ -48,7 +48,7 @@ impl Output {
     }
 
     /// Writes these bytes after those that are pending. Full pieces of them go on to the vault once more is due than the buffer holds. After
-    /// the vault's first fault no more is put to it, a prefix of what was due was told, and nothing is pending.
+    /// the vault's first fault no more is put to it, a prefix of what was due was output, and nothing is pending.
     #[inline]
     pub fn write<V: Vault>(&mut self, vault: &mut V, bytes: &[u8]) -> Result<(), VaultFault>
         requires alive { V.alive vault.old }
@@ -148,7 +148,7 @@ impl Output {
         answer
     }
 
-    /// Lets go what is pending: it will not be told.
+    /// Lets go what is pending: it will not be output.
     pub fn clear(&mut self)
         ensures { self.new ≡ [] }
     {

@@ -1,10 +1,10 @@
-//! Where the host fails, a prefix of what was written is told, and nothing is pending.
+//! Where the host fails, a prefix of what was written is output, and nothing is pending.
 use crate::steps::{Step, many_bytes, run, vault, written};
 use std::test::Fail;
 use vault_output::Output;
 use vault_output::obj_layout::vault::{Vault, VaultFault};
 
-/// Steps, the number of the host's call that fails, and how many bytes are told then: half of a piece after the others.
+/// Steps, the number of the host's call that fails, and how many bytes are output then: half of a piece after the others.
 const ROWS: [(&[Step], u64, usize); 5] = [
     (&[Step::Write(5), Step::Flush], 0, 2),
     (&[Step::Write(65_537)], 0, 32_768),

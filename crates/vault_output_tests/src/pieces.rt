@@ -1,9 +1,9 @@
-//! What is written is told in order, in full pieces, and the rest is pending.
+//! What is written is output in order, in full pieces, and the rest is pending.
 use crate::steps::{Step, many_bytes, run, vault, written};
 use std::test::Fail;
 use vault_output::Output;
 
-/// Steps, how many bytes are told then, by how many calls of the host, and how many are pending.
+/// Steps, how many bytes are output then, by how many calls of the host, and how many are pending.
 const ROWS: [(&[Step], usize, u64, usize); 14] = [
     (&[], 0, 0, 0),
     (&[Step::Write(0)], 0, 0, 0),

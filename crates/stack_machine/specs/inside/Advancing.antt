@@ -19,7 +19,7 @@ use Rattle.stack_machine.specs.declared.run.RunFault.{RunFault}
 use Rattle.stack_machine.specs.declared.run.RunFault.TheVariants.{Damaged, Full, Output}
 use Rattle.stack_machine.specs.Ran.{TellsFirst, TellsAll, FailsAfter}
 
--- Of these bytes the first were told, and the others are pending.
+-- Of these bytes the first were output, and the others are pending.
 pub record TellsBut (old new : Outside Space) (due owed : List ℕ) : Type 0 where
   pub sent : List ℕ
   pub due_is : due ≡ sent ++ owed
@@ -53,7 +53,7 @@ IsNoRoom fault = (top : ℕ) × (wanted : ℕ) × (size : ℕ) × (fault ≡ Are
 module _ (old new : Outside Space) where
   module _ (owed left : List ℕ) where
     -- The step goes on, and tells the outputs of its events after what is pending; or it stops, or there is none, or there was no room in an area of
-    -- this size for the object that it makes, and it tells nothing; or the output failed.
+    -- this size for the object that it makes, and it outputs nothing; or the output failed.
     abbrev pub AdvancesBy : ℕ → Step → Machine → Advanced → Type 0
     AdvancesBy area s m On = (events : List Event) × (next : Config) × (s ≡ Goes events next) × Holds m next × TellsBut old new (owed ++ outputs events) left
     AdvancesBy area s m Ended = (s ≡ Stops (end_of m.end)) × TellsBut old new owed left
@@ -74,17 +74,17 @@ module _ (old new : Outside Space) where
       pub by : (c : Config) → Holds m c → (s : Step) × Steps c s × AdvancesBy m.sw.size s m' answer
 
   module _ (owed : List ℕ) where
-    -- the report of the end was told after what was pending, or the output failed in it
+    -- the report of the end was output after what was pending, or the output failed in it
     abbrev pub Reports : RunEnd → Result RunEnd RunFault → Type 0
     Reports e (Ok answer) = (answer ≡ e) × TellsAll old new (owed ++ report_of (end_of e))
     Reports e (Err Damaged) = ⊥
     Reports e (Err (Full top wanted size)) = ⊥
     Reports e (Err Output) = FailsAfter old new (owed ++ report_of (end_of e))
 
-    -- what was pending was told, and the run broke off for this; or the output failed
+    -- what was pending was output, and the run broke off for this; or the output failed
     abbrev pub Flushes : RunFault → RunFault → Type 0
     Flushes fault answer = ((answer ≡ fault) × TellsAll old new owed) ⊎ ((answer ≡ Output) × FailsAfter old new owed)
 
-    -- a prefix of what was pending was told, and the run broke off as damaged; or the output failed
+    -- a prefix of what was pending was output, and the run broke off as damaged; or the output failed
     abbrev pub BreaksOff : RunFault → Type 0
     BreaksOff answer = ((answer ≡ Damaged) × TellsFirst old new owed) ⊎ ((answer ≡ Output) × FailsAfter old new owed)

@@ -1,4 +1,4 @@
--- The pieces before the next one were told.
+-- The pieces before the next one were output.
 use Rattle.std.proofs.Common.{drop}
 use Rattle.ps_port.specs.Telling.{joined}
 use Rattle.ps_port.proofs.Telling.{SoFar}

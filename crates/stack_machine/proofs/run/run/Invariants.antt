@@ -1,4 +1,4 @@
--- Between two steps: what has happened so far was told, but for what is pending.
+-- Between two steps: what has happened so far was output, but for what is pending.
 use Rattle.machine_procedures.specs.machine_state.Holding.{IsHolding}
 use Rattle.stack_machine.proofs.Between.{IsBetween, left_of}
 use Rattle.stack_machine.proofs.run.run.Given as goal
