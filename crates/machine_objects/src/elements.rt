@@ -16,7 +16,7 @@ use machine_values::machine_state::{Machine, Stepped};
 use machine_values::obj_layout::vault::Vault;
 use machine_values::paired_ops::{OpFault, Value};
 use machine_values::pops::{pop_any, pop_int};
-use machine_values::reaching::{drop_number, drop_reference, write_number, write_reference};
+use machine_values::reached::{drop_number, drop_reference, write_number, write_reference};
 use ps_base::line::Line;
 
 /// Pops a number, a subscript and a vector, and writes the number as the element there. Trap Bounds for a subscript outside the vector; damaged

@@ -16,7 +16,7 @@ use machine_values::machine_state::stacks::{
 };
 use machine_values::machine_state::{Machine, Stepped};
 use machine_values::paired_ops::Value;
-use machine_values::reaching::top_two_refs;
+use machine_values::reached::top_two_refs;
 
 // The value in a field of the structure on top.
 #[inline(always)]

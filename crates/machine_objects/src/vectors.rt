@@ -12,7 +12,7 @@ use machine_values::machine_state::{Machine, Stepped};
 use machine_values::obj_layout::vault::Vault;
 use machine_values::paired_ops::vectors;
 use machine_values::pops::{pop_int, pop_vector};
-use machine_values::reaching::{put_number, put_reference, reached_number, reached_reference};
+use machine_values::reached::{put_number, put_reference, reached_number, reached_reference};
 use ps_base::line::Line;
 
 /// Pops a subscript and a vector, and pushes its element, which is an int or a bool.

@@ -7,7 +7,7 @@ pub mod forms;
 pub mod gives;
 pub mod known;
 pub mod pops;
-pub mod reaching;
+pub mod reached;
 
 pub use machine_state;
 pub use machine_state::{

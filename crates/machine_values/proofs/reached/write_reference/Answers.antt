@@ -7,7 +7,7 @@ use Rattle.machine_state.specs.paired_ops.World.{DenotesIn}
 use Rattle.machine_state.specs.Holding.{object_in}
 use Rattle.machine_values.proofs.Popping.{named-held}
 use Rattle.machine_values.proofs.ElementsReached.{all-so, reference-put}
-use Rattle.machine_values.proofs.reaching.write_reference.Goals as goal
+use Rattle.machine_values.proofs.reached.write_reference.Goals as goal
 
 pub set_reference-written-requires-clause-so : goal.set_reference-written-requires-clause-so
 set_reference-written-requires-clause-so c = all-so c.args.m.now c.requires.holding

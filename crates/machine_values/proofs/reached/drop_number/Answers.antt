@@ -1,5 +1,5 @@
 use Rattle.machine_values.proofs.ElementsReached.{number-dropped}
-use Rattle.machine_values.proofs.reaching.drop_number.Goals as goal
+use Rattle.machine_values.proofs.reached.drop_number.Goals as goal
 
 pub returns : goal.returns
 returns c =

@@ -4,7 +4,7 @@ use Rattle.std.proofs.Common.{◌≡◌, ℤ, subst, rules}
 use Rattle.machine_state.specs.ps_stepping.Steps.{put_num}
 use Rattle.machine_state.specs.Stepped.{Takes}
 use Rattle.machine_values.proofs.ElementsReached.{number-in-place}
-use Rattle.machine_values.proofs.reaching.put_number.Goals as goal
+use Rattle.machine_values.proofs.reached.put_number.Goals as goal
 
 pub returns : goal.returns
 returns c =

@@ -2,7 +2,7 @@ use mir.Syntax.{w32}
 use mir.Val.{to_z, of_z}
 use Rattle.std.proofs.Common.{◌≡◌, rules}
 use Rattle.machine_values.proofs.ElementsReached.{if-some, all-so, reference-reached}
-use Rattle.machine_values.proofs.reaching.reached_reference.Goals as goal
+use Rattle.machine_values.proofs.reached.reached_reference.Goals as goal
 
 pub reference_at-requires : goal.reference_at-requires
 reference_at-requires c = all-so c.args.m.now c.requires

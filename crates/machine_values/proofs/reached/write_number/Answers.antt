@@ -3,7 +3,7 @@ use mir.Val.{to_z, of_z}
 use Rattle.std.proofs.Common.{◌≡◌, ap, rules}
 use Rattle.machine_state.specs.swizzle.Heap.{Heap}
 use Rattle.machine_values.proofs.ElementsReached.{all-so, number-put}
-use Rattle.machine_values.proofs.reaching.write_number.Goals as goal
+use Rattle.machine_values.proofs.reached.write_number.Goals as goal
 
 pub set_number-written-requires : goal.set_number-written-requires
 set_number-written-requires c = all-so c.args.m.now c.requires.holding

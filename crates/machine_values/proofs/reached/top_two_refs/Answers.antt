@@ -1,6 +1,6 @@
 use Rattle.std.proofs.Common.{◌-◌, arith, rules}
 use Rattle.machine_values.proofs.ElementsReached.{two-refs}
-use Rattle.machine_values.proofs.reaching.top_two_refs.Goals as goal
+use Rattle.machine_values.proofs.reached.top_two_refs.Goals as goal
 
 pub returns : goal.returns
 returns c = λ conf h.

@@ -2,7 +2,7 @@ use mir.Syntax.{w32}
 use mir.Val.{to_z, of_z}
 use Rattle.std.proofs.Common.{◌≡◌, rules}
 use Rattle.machine_values.proofs.ElementsReached.{if-some, all-so, number-reached}
-use Rattle.machine_values.proofs.reaching.reached_number.Goals as goal
+use Rattle.machine_values.proofs.reached.reached_number.Goals as goal
 
 pub number_at-requires : goal.number_at-requires
 number_at-requires c = all-so c.args.m.now c.requires

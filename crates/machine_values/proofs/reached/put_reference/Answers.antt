@@ -1,5 +1,5 @@
 use Rattle.machine_values.proofs.ElementsReached.{reference-in-place}
-use Rattle.machine_values.proofs.reaching.put_reference.Goals as goal
+use Rattle.machine_values.proofs.reached.put_reference.Goals as goal
 
 pub returns : goal.returns
 returns c =

@@ -1,5 +1,5 @@
 use Rattle.machine_values.proofs.ElementsReached.{reference-dropped}
-use Rattle.machine_values.proofs.reaching.drop_reference.Goals as goal
+use Rattle.machine_values.proofs.reached.drop_reference.Goals as goal
 
 pub returns : goal.returns
 returns c =
