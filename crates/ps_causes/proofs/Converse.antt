@@ -29,7 +29,7 @@ use Rattle.ps_volumes.specs.Attaching.{HasVolume, KeepsVolume, IsWhyNone, line_o
 use Rattle.ps_volumes.specs.Making.{IsMakingDue, IsOpen}
 use Rattle.ps_volumes.specs.Making as making
 use Rattle.ps_causes.specs.Source.{IsProgram, number_of, line_of, IsCheckFault, mistyped, unbuilt_call, IsSourceFault, in_scan, in_parse, in_check}
-use Rattle.ps_causes.specs.Command.{Gives, GivesTooLong, GivesInput, HoldsInput, GivesProgram, RunsTo, Due, IsRead, Gets, GetsOrFails, GetsRun}
+use Rattle.ps_causes.specs.Command.{Gives, GivesTooLong, GivesInput, HoldsInput, GivesProgram, RunsTo, IsUnread, Unready, Due, IsRead, Gets, GetsOrFails, GetsRun}
 
 not_both : {A : Type 0} (x : Option A) (v : A) → x ≡ None → x ≡ Some v → ⊥
 not_both x v none some = let e : None ≡ Some v = sym none ∙ some in cc
@@ -154,12 +154,7 @@ module _ (asked : Option CommandOf) (holds : List ℕ → List ℕ → Type 0) (
 
   pub no_command : (bytes : List ℕ) (status : ℕ) → asked ≡ None → Dues bytes status → (bytes ≡ usage_line) × (status ≡ 1)
   no_command bytes status none (Due.no_command is left) = (refl, refl)
-  no_command bytes status none (Due.unreadable {run = run} is may rose left) = absurd (not_both asked (a_run run) none is)
-  no_command bytes status none (Due.too_long {run = run} is gives left) = absurd (not_both asked (a_run run) none is)
-  no_command bytes status none (Due.refused {run = run} is gives fault left) = absurd (not_both asked (a_run run) none is)
-  no_command bytes status none (Due.no_input {run = run} is gives named may rose left) = absurd (not_both asked (a_run run) none is)
-  no_command bytes status none (Due.long_input {run = run} is gives named long left) = absurd (not_both asked (a_run run) none is)
-  no_command bytes status none (Due.no_memory {run = run} is left) = absurd (not_both asked (a_run run) none is)
+  no_command bytes status none (Due.unready {run = run} is why left) = absurd (not_both asked (a_run run) none is)
   no_command bytes status none (Due.unattached {run = run} input is gives given why left) = absurd (not_both asked (a_run run) none is)
   no_command bytes status none (Due.ran {run = run} is gives given comes kept) = absurd (not_both asked (a_run run) none is)
   no_command bytes status none (Due.making {pages = pages} is due) = absurd (not_both asked (a_volume pages) none is)
@@ -177,17 +172,18 @@ module _ (asked : Option CommandOf) (holds : List ℕ → List ℕ → Type 0) (
     ran : (program : BodyNode) (input bytes : List ℕ) (status : ℕ) → GivesProgram holds lacks run program → GivesInput holds lacks run.input input → RunsTo run input program bytes status →
         KeepsVolume old new → P bytes status
 
+  of_unready : (P : List ℕ → ℕ → Type 0) (run : RunOf) (bytes : List ℕ) (status : ℕ) → Cases P run → Unready run holds lacks may_fail failed bytes status → P bytes status
+  of_unready P run bytes status cases (Unready.no_text (IsUnread.unreadable may rose)) = cases.unread may rose
+  of_unready P run bytes status cases (Unready.no_text (IsUnread.too_long {size = size} gives)) = cases.long size gives
+  of_unready P run bytes status cases (Unready.refused {text = text} {stage = stage} {number = number} {line = line} gives fault) = cases.refused text stage number line gives fault
+  of_unready P run bytes status cases (Unready.no_input {program = program} {name = name} g named (IsUnread.unreadable may rose)) = cases.no_input program name g named may rose
+  of_unready P run bytes status cases (Unready.no_input {program = program} {name = name} g named (IsUnread.too_long {size = size} long)) =
+      cases.long_input program name size g named long
+  of_unready P run bytes status cases Unready.no_memory = cases.memory
+
   by_cases : (P : List ℕ → ℕ → Type 0) (run : RunOf) (bytes : List ℕ) (status : ℕ) → asked ≡ Some (a_run run) → Cases P run → Dues bytes status → P bytes status
   by_cases P run bytes status is cases (Due.no_command none left) = absurd (not_both asked (a_run run) none is)
-  by_cases P run bytes status is cases (Due.unreadable {run = r} is' may rose left) = (subst (Cases P) (same_run asked run r is is') cases).unread may rose
-  by_cases P run bytes status is cases (Due.too_long {run = r} {size = size} is' gives left) = (subst (Cases P) (same_run asked run r is is') cases).long size gives
-  by_cases P run bytes status is cases (Due.refused {run = r} {text = text} {stage = stage} {number = number} {line = line} is' gives fault left) =
-      (subst (Cases P) (same_run asked run r is is') cases).refused text stage number line gives fault
-  by_cases P run bytes status is cases (Due.no_input {run = r} {program = program} {name = name} is' gives named may rose left) =
-      (subst (Cases P) (same_run asked run r is is') cases).no_input program name gives named may rose
-  by_cases P run bytes status is cases (Due.long_input {run = r} {program = program} {name = name} {size = size} is' gives named long left) =
-      (subst (Cases P) (same_run asked run r is is') cases).long_input program name size gives named long
-  by_cases P run bytes status is cases (Due.no_memory is' left) = cases.memory
+  by_cases P run bytes status is cases (Due.unready {run = r} is' why left) = of_unready P r bytes status (subst (Cases P) (same_run asked run r is is') cases) why
   by_cases P run bytes status is cases (Due.unattached {run = r} {program = program} input {cause = why} is' gives given none left) =
       (subst (Cases P) (same_run asked run r is is') cases).unattached program input why gives given none
   by_cases P run bytes status is cases (Due.ran {run = r} {program = program} {input = input} is' gives given comes kept) =
@@ -234,12 +230,7 @@ module _ (asked : Option CommandOf) (holds : List ℕ → List ℕ → Type 0) (
   of_making : (P : List ℕ → ℕ → Type 0) (pages : ℕ) (bytes : List ℕ) (status : ℕ) → asked ≡ Some (a_volume pages) →
       ((p : ℕ) (bs : List ℕ) (n : ℕ) → IsMakingDue p old new bs n → P bs n) → Dues bytes status → P bytes status
   of_making P pages bytes status is made (Due.no_command none left) = absurd (not_both asked (a_volume pages) none is)
-  of_making P pages bytes status is made (Due.unreadable {run = run} is' may rose left) = absurd (run_or_volume asked run pages is' is)
-  of_making P pages bytes status is made (Due.too_long {run = run} is' gives left) = absurd (run_or_volume asked run pages is' is)
-  of_making P pages bytes status is made (Due.refused {run = run} is' gives fault left) = absurd (run_or_volume asked run pages is' is)
-  of_making P pages bytes status is made (Due.no_input {run = run} is' gives named may rose left) = absurd (run_or_volume asked run pages is' is)
-  of_making P pages bytes status is made (Due.long_input {run = run} is' gives named long left) = absurd (run_or_volume asked run pages is' is)
-  of_making P pages bytes status is made (Due.no_memory {run = run} is' left) = absurd (run_or_volume asked run pages is' is)
+  of_making P pages bytes status is made (Due.unready {run = run} is' why left) = absurd (run_or_volume asked run pages is' is)
   of_making P pages bytes status is made (Due.unattached {run = run} input is' gives given why left) = absurd (run_or_volume asked run pages is' is)
   of_making P pages bytes status is made (Due.ran {run = run} is' gives given comes kept) = absurd (run_or_volume asked run pages is' is)
   of_making P pages bytes status is made (Due.making {pages = p} is' due) = made p bytes status due

@@ -1,5 +1,5 @@
 -- What a command answers, and why.
-use Rattle.std.specs.Prelude.{◌≡◌, ℕ, ◌+◌, ◌*◌, ◌<◌, ◌≤◌, List, [], ◌∷◌, ◌++◌, length, Option, Some, None}
+use Rattle.std.specs.Prelude.{◌≡◌, ℕ, ◌<◌, ◌≤◌, List, [], ◌++◌, length, Option, Some, None, Result}
 use Rattle.ps_meaning.specs.ps_base.Limits.{most_text_bytes as LONGEST_TEXT}
 use Rattle.ps_meaning.specs.ps_base.declared.line.Line.{Line}
 use Rattle.ps_built.specs.ps_program.Node.{BodyNode}
@@ -10,12 +10,15 @@ use Rattle.ps_volumes.specs.shadow_volume.Making.{IsMaking, ShutsAt}
 use Rattle.ps_volumes.specs.shadow_volume.declared.finding.OpenFault.{OpenFault}
 use Rattle.ps_words.specs.Words.{RunOf, CommandOf, a_run, a_volume}
 use Rattle.ps_volumes.specs.ps_reports.Reports.{usage_line, memory_line, unreadable_line, too_long_line, fault_line, area_full_line, device_line}
-use Rattle.ps_volumes.specs.ps_reports.Answering.{Answers}
+use Rattle.ps_volumes.specs.ps_reports.declared.status.Status.{Status}
+use Rattle.ps_volumes.specs.ps_reports.declared.report.Report.{Report}
+use Rattle.ps_volumes.specs.ps_reports.Answering.{Answers, EndsIn}
 use Rattle.ps_volumes.specs.Attaching.{Keeps, KeepsVolume, IsWhyNone, line_of, status_of as status_of_cause}
 use Rattle.ps_volumes.specs.Making.{IsMakingDue}
-use Rattle.ps_meaning.specs.Event.{Event, count_of, outputs, status_of}
+use Rattle.ps_meaning.specs.Event.{Event, outputs, status_of}
 use Rattle.ps_meaning.specs.Runs.{run_events, run_end}
 use Rattle.ps_causes.specs.Source.{IsProgram, IsSourceFault}
+use Rattle.ps_causes.specs.Filling.{area_size, FillsArea}
 
 -- Of one name: the shelf has a text of it, each one that it tells of is this one, and it isn't too long.
 pub record Gives (holds : List ℕ → Type 0) (lacks : Type 0) (text : List ℕ) : Type 0 where
@@ -39,22 +42,7 @@ abbrev pub HoldsInput : (List ℕ → List ℕ → Type 0) → Option (List ℕ)
 HoldsInput holds None input = input ≡ []
 HoldsInput holds (Some name) input = holds name input × (length input ≤ LONGEST_TEXT)
 
--- one more than the words of the area of a run
-abbrev pub area_size : RunOf → ℕ
-area_size run = 128 * run.area + 1
-
--- After these events the area of the program is full: the bytes that are counted at the next event pass it, and the next word and the words of the
--- object that was to be made are more than its size. The meaning counts bytes at events, and no words: so of the two numbers it says that they are
--- within what is counted at the next event. What the object is, and how many words it has, is said of the machine's step.
-pub record FillsArea (run : RunOf) (input : List ℕ) (program : BodyNode) (before : List Event) (top wanted : ℕ) : Type 0 where
-  pub next : Event
-  pub rest : List Event
-  pub events_are : run_events run.turns input program ≡ before ++ next ∷ rest
-  pub passed : 1024 * run.area < count_of next
-  pub short : area_size run < top + wanted
-  pub within : 8 * (top + wanted) ≤ count_of next
-
--- What a program tells in a run with this input, and the status of its end: it reaches its end, or its area is full.
+-- What a program outputs in a run with this input, and the status of its end: it reaches its end, or its area is full.
 pub data RunsTo (run : RunOf) (input : List ℕ) (program : BodyNode) : List ℕ → ℕ → Type 0 where
   its_end : RunsTo run input program (outputs (run_events run.turns input program)) (status_of (run_end run.turns input program))
   area_full : {before : List Event} {top wanted : ℕ} → FillsArea run input program before top wanted →
@@ -66,29 +54,34 @@ pub record GivesProgram (holds : List ℕ → List ℕ → Type 0) (lacks : List
   pub gives : Gives (holds run.file) (lacks run.file) text
   pub is : IsProgram text program
 
+-- Why no text of this name is read: it couldn't be, and the shelf's faults rose in this call; or it is too long.
+pub data IsUnread (holds : List ℕ → Type 0) (lacks may_fail failed : Type 0) (name : List ℕ) : List ℕ → ℕ → Type 0 where
+  unreadable : may_fail → failed → IsUnread holds lacks may_fail failed name (unreadable_line name) 7
+  too_long : {size : ℕ} → GivesTooLong holds lacks size → IsUnread holds lacks may_fail failed name (too_long_line name size) 13
+
+-- Why a run isn't begun: what is due then, and the status.
+pub data Unready (run : RunOf) (holds : List ℕ → List ℕ → Type 0) (lacks may_fail : List ℕ → Type 0) (failed : Type 0) : List ℕ → ℕ → Type 0 where
+  -- its text isn't read
+  no_text : {bytes : List ℕ} {status : ℕ} → IsUnread (holds run.file) (lacks run.file) (may_fail run.file) failed run.file bytes status →
+      Unready run holds lacks may_fail failed bytes status
+  -- the text is no program: its first fault
+  refused : {text stage : List ℕ} {number : ℕ} {line : Line} → Gives (holds run.file) (lacks run.file) text → IsSourceFault text stage number line →
+      Unready run holds lacks may_fail failed (fault_line run.file stage number line) 2
+  -- the text is a program, and its input isn't read
+  no_input : {program : BodyNode} {name bytes : List ℕ} {status : ℕ} → GivesProgram holds lacks run program → run.input ≡ Some name →
+      IsUnread (holds name) (lacks name) (may_fail name) failed name bytes status → Unready run holds lacks may_fail failed bytes status
+  -- there was no memory
+  no_memory : Unready run holds lacks may_fail failed memory_line 5
+
 -- What the words ask for, over a shelf that holds these texts, lacks these names, and may fail to read texts of those, and over this device, calls for
 -- these bytes to be output and this status to be answered. `failed` says that the shelf's faults rose in this call. A refusal before the volume is
 -- attached makes no call of the device, and a run leaves the device as it is.
 pub data Due (asked : Option CommandOf) (holds : List ℕ → List ℕ → Type 0) (lacks may_fail : List ℕ → Type 0) (failed : Type 0) (old new : Outside (List ℕ)) : List ℕ → ℕ → Type 0 where
   -- the words are no command
   no_command : asked ≡ None → LeavesDevice old new → Due asked holds lacks may_fail failed old new usage_line 1
-  -- the text couldn't be read
-  unreadable : {run : RunOf} → asked ≡ Some (a_run run) → may_fail run.file → failed → LeavesDevice old new →
-      Due asked holds lacks may_fail failed old new (unreadable_line run.file) 7
-  -- the text is too long
-  too_long : {run : RunOf} {size : ℕ} → asked ≡ Some (a_run run) → GivesTooLong (holds run.file) (lacks run.file) size → LeavesDevice old new →
-      Due asked holds lacks may_fail failed old new (too_long_line run.file size) 13
-  -- the text is no program: its first fault
-  refused : {run : RunOf} {text stage : List ℕ} {number : ℕ} {line : Line} → asked ≡ Some (a_run run) → Gives (holds run.file) (lacks run.file) text →
-      IsSourceFault text stage number line → LeavesDevice old new → Due asked holds lacks may_fail failed old new (fault_line run.file stage number line) 2
-  -- the text is a program, and its input couldn't be read
-  no_input : {run : RunOf} {program : BodyNode} {name : List ℕ} → asked ≡ Some (a_run run) → GivesProgram holds lacks run program → run.input ≡ Some name →
-      may_fail name → failed → LeavesDevice old new → Due asked holds lacks may_fail failed old new (unreadable_line name) 7
-  -- the text is a program, and its input is too long
-  long_input : {run : RunOf} {program : BodyNode} {name : List ℕ} {size : ℕ} → asked ≡ Some (a_run run) → GivesProgram holds lacks run program →
-      run.input ≡ Some name → GivesTooLong (holds name) (lacks name) size → LeavesDevice old new → Due asked holds lacks may_fail failed old new (too_long_line name size) 13
-  -- there was no memory for a run, before the volume was attached
-  no_memory : {run : RunOf} → asked ≡ Some (a_run run) → LeavesDevice old new → Due asked holds lacks may_fail failed old new memory_line 5
+  -- a run isn't begun
+  unready : {run : RunOf} {bytes : List ℕ} {status : ℕ} → asked ≡ Some (a_run run) → Unready run holds lacks may_fail failed bytes status → LeavesDevice old new →
+      Due asked holds lacks may_fail failed old new bytes status
   -- the program and its input were given, and there is no volume to run over: why. One cause is that there was no memory to attach it.
   unattached : {run : RunOf} {program : BodyNode} (input : List ℕ) {cause : OpenFault} → asked ≡ Some (a_run run) → GivesProgram holds lacks run program →
       GivesInput holds lacks run.input input → IsWhyNone old new cause → Keeps old new →
@@ -108,6 +101,14 @@ LeavesBy (a_volume pages) old new = Leaves old new (IsMaking old pages) × Shuts
 abbrev pub LeavesAsAsked : Option CommandOf → Outside (List ℕ) → Outside (List ℕ) → Type 0
 LeavesAsAsked None old new = Keeps old new
 LeavesAsAsked (Some command) old new = LeavesBy command old new
+
+-- Something is due, the device is left as the command leaves it, and a command that is carried out ends in this status or report.
+pub record WhyEnds (old new : Outside (List ℕ)) (asked : Option CommandOf) (holds : List ℕ → List ℕ → Type 0) (lacks may_fail : List ℕ → Type 0) (failed : Type 0) (end : Result Status Report) : Type 0 where
+  pub bytes : List ℕ
+  pub status : ℕ
+  pub due : Due asked holds lacks may_fail failed old new bytes status
+  pub ends : EndsIn old new bytes status end
+  pub device : LeavesAsAsked asked old new
 
 -- something is due, it is answered, and the device is left as the command leaves it
 pub record Why (old new : Outside (List ℕ)) (asked : Option CommandOf) (holds : List ℕ → List ℕ → Type 0) (lacks may_fail : List ℕ → Type 0) (failed : Type 0) (answered : ℕ) : Type 0 where

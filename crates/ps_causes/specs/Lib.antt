@@ -1,4 +1,5 @@
 pub mod Source
+pub mod Filling
 pub mod Command
 pub mod Steps
 pub use Rattle.ps_words.specs.ps_scan as ps_scan

@@ -1,46 +1,38 @@
--- What each step of a command answers, where the steps before it went well.
-use Rattle.std.specs.Prelude.{◌⊎◌, ℕ, List}
+-- What each step of a command returns, where the steps before it went well.
+use Rattle.std.specs.Prelude.{◌≡◌, ℕ, List, Result, Err}
 use Rattle.ps_meaning.specs.ps_base.declared.line.Line.{Line}
 use Rattle.ps_built.specs.ps_program.Node.{BodyNode}
 use Rattle.ps_port.specs.ps_outside.Outside.{Outside}
-use Rattle.ps_port.specs.Telling.{LeavesDevice}
-use Rattle.ps_port.specs.declared.shelf.ShelfFault.{ShelfFault}
-use Rattle.ps_port.specs.declared.shelf.ShelfFault.TheVariants.{Failed, TooLong, Memory}
 use Rattle.ps_words.specs.Words.{RunOf}
-use Rattle.ps_volumes.specs.ps_reports.Reports.{memory_line, unreadable_line, too_long_line, fault_line}
-use Rattle.ps_volumes.specs.ps_reports.Answering.{Answers}
+use Rattle.ps_volumes.specs.ps_reports.declared.status.Status.{Status}
+use Rattle.ps_volumes.specs.ps_reports.declared.report.Report.{Report}
+use Rattle.ps_volumes.specs.ps_reports.declared.report.Report.TheVariants.{NoMemory}
+use Rattle.ps_volumes.specs.ps_reports.Answering.{EndsIn}
+use Rattle.ps_volumes.specs.ps_reports.Reports.{memory_line, fault_line}
 use Rattle.ps_volumes.specs.Attaching.{KeepsVolume, IsUnattached}
 use Rattle.ps_causes.specs.Source.{IsSourceFault}
-use Rattle.ps_causes.specs.Command.{RunsTo}
+use Rattle.ps_causes.specs.Command.{RunsTo, IsUnread}
 
--- the shelf gave no text
-abbrev pub UnreadWhy : Outside (List ℕ) → Outside (List ℕ) → List ℕ → ShelfFault → ℕ → Type 0
-UnreadWhy old new file Failed answered = Answers old new (unreadable_line file) 7 answered
-UnreadWhy old new file (TooLong size) answered = Answers old new (too_long_line file size) 13 answered
-UnreadWhy old new file Memory answered = Answers old new memory_line 5 answered
-
--- the first fault of a text is output, and answered
-pub record AnswersFault (old new : Outside (List ℕ)) (file text : List ℕ) (answered : ℕ) : Type 0 where
-  pub stage : List ℕ
-  pub number : ℕ
-  pub line : Line
-  pub fault : IsSourceFault text stage number line
-  pub answers : Answers old new (fault_line file stage number line) 2 answered
+-- no text of this name is read, or there was no memory for it
+pub data UnreadWhy (holds : List ℕ → Type 0) (lacks may_fail failed : Type 0) (name : List ℕ) : List ℕ → ℕ → Type 0 where
+  unread : {bytes : List ℕ} {status : ℕ} → IsUnread holds lacks may_fail failed name bytes status → UnreadWhy holds lacks may_fail failed name bytes status
+  no_memory : UnreadWhy holds lacks may_fail failed name memory_line 5
 
 -- the text is no program, or there was no memory to see whether it is
-abbrev pub RefusalWhy : Outside (List ℕ) → Outside (List ℕ) → List ℕ → List ℕ → ℕ → Type 0
-RefusalWhy old new file text answered =
-    AnswersFault old new file text answered ⊎ Answers old new memory_line 5 answered
+pub data RefusalWhy (file text : List ℕ) : List ℕ → ℕ → Type 0 where
+  fault : {stage : List ℕ} {number : ℕ} {line : Line} → IsSourceFault text stage number line → RefusalWhy file text (fault_line file stage number line) 2
+  no_memory : RefusalWhy file text memory_line 5
 
--- what the program returns with this input is output, and answered
-pub record AnswersRun (old new : Outside (List ℕ)) (run : RunOf) (input : List ℕ) (program : BodyNode) (answered : ℕ) : Type 0 where
+-- what the program outputs with this input, and the end in which a run of it ends
+pub record EndsRun (old new : Outside (List ℕ)) (run : RunOf) (input : List ℕ) (program : BodyNode) (end : Result Status Report) : Type 0 where
   pub bytes : List ℕ
   pub status : ℕ
   pub comes : RunsTo run input program bytes status
-  pub answers : Answers old new bytes status answered
+  pub ends : EndsIn old new bytes status end
 
--- it ran over a volume; or there was no memory, before the device was called; or there was no volume. The device was left as it is.
-pub data ProgramWhy (old new : Outside (List ℕ)) (run : RunOf) (input : List ℕ) (program : BodyNode) (answered : ℕ) : Type 0 where
-  ran : AnswersRun old new run input program answered → KeepsVolume old new → ProgramWhy old new run input program answered
-  no_memory : Answers old new memory_line 5 answered → LeavesDevice old new → ProgramWhy old new run input program answered
-  no_volume : IsUnattached old new answered → ProgramWhy old new run input program answered
+-- It ran over a volume, and the device was left as it is; or there was no memory, and nothing was done; or there was no volume.
+pub data ProgramWhy {H : Type 0} (outside : H → Outside (List ℕ)) (old new : H) (run : RunOf) (input : List ℕ) (program : BodyNode) : Result Status Report → Type 0 where
+  ran : {end : Result Status Report} → EndsRun (outside old) (outside new) run input program end → KeepsVolume (outside old) (outside new) →
+      ProgramWhy outside old new run input program end
+  no_memory : new ≡ old → ProgramWhy outside old new run input program (Err NoMemory)
+  no_volume : {report : Report} → IsUnattached (outside old) (outside new) report → ProgramWhy outside old new run input program (Err report)

@@ -8,9 +8,11 @@ use Rattle.ps_base.specs.declared.code_unit.CodeUnit.{CodeUnit}
 use Rattle.ps_port.specs.Telling.{TellsAll, FailsAfter}
 use Rattle.ps_port.proofs.Telling.{all_then, fails_then, fails_more}
 use Rattle.ps_port.specs.ps_outside.Outside.{Outside, LeavesSame, TellsNothing}
+use Rattle.ps_port.specs.ps_outside.Past.{KeepsTold}
+use Rattle.ps_port.proofs.of_ps_outside.PastMoments.{past_along}
 use Rattle.ps_causes.specs.obj_store.Store.{Store, outside_of}
 use Rattle.ps_causes.proofs.of_obj_store.LeftLaws.{device_left}
-use Rattle.ps_unit_weights.specs.proc_values.Units.{unit_words}
+use Rattle.ps_unit_weights.specs.proc_values.Units.{unit_objects, unit_words}
 use Rattle.ps_program.specs.Node.{BodyNode, body}
 use Rattle.ps_program.specs.Slots.{slot_count}
 use Rattle.ps_causes.specs.ps_typing.WellTyped.{IsWellTyped}
@@ -38,19 +40,27 @@ use Rattle.stack_machine.proofs.of_machine_state.Carrying.{no-room-counted}
 use Rattle.stack_machine.specs.declared.run.RunFault.{RunFault}
 use Rattle.stack_machine.specs.declared.run.RunFault.TheVariants.{Damaged, Full, Output}
 use Rattle.stack_machine.specs.declared.load.NoRoom.{NoRoom}
-use Rattle.stack_machine.specs.Loaded.{IsFrame, IsLoaded, HasNoRoom, RunsAs, itself, LoadsUnit, Loads}
+use Rattle.stack_machine.specs.machine_state.Full.{LacksRoom}
+use Rattle.stack_machine.specs.Loaded.{IsFrame, IsLoaded, EndsBefore, HasNoRoom, RunsAs, itself, LoadsUnit, Loads}
 use Rattle.stack_machine.specs.Loaded as load
 use Rattle.stack_machine.specs.Ran as vault
 use Rattle.stack_machine.specs.Ran.{Ran, ended, damaged, full, cut, report_cut}
 use Rattle.stack_machine.proofs.Counting.{next_counted}
 use Rattle.ps_causes.specs.ps_words.Words.{RunOf}
-use Rattle.ps_causes.specs.ps_reports.Answering.{Answers, whole}
+use Rattle.ps_causes.specs.ps_reports.declared.status.Status.{Status}
+use Rattle.ps_causes.specs.ps_reports.declared.status.Status.TheVariants as statuses
+use Rattle.ps_causes.specs.ps_reports.declared.report.Report.{Report}
+use Rattle.ps_causes.specs.ps_reports.declared.report.Report.TheVariants as reports
+use Rattle.ps_causes.specs.ps_reports.Answering.{Answers, whole, EndsIn, reported}
 use Rattle.ps_causes.specs.ps_reports.Answering as answers
+use Rattle.ps_causes.specs.ps_reports.Statuses.{number_of}
 use Rattle.ps_causes.specs.ps_reports.Reports.{area_full_line}
-use Rattle.ps_causes.proofs.of_ps_reports.Behind.{behind_nothing}
-use Rattle.ps_causes.specs.Command.{area_size, FillsArea, its_end, area_full}
-use Rattle.ps_causes.specs.Steps.{AnswersRun}
-use Rattle.ps_command.specs.inside.Steps.{IsRunnable, IsReady, begin}
+use Rattle.ps_causes.proofs.of_ps_reports.Behind.{answers_then, told_none}
+use Rattle.ps_causes.proofs.of_ps_volumes.Settled.{answers_keep}
+use Rattle.ps_causes.specs.Command.{its_end, area_full}
+use Rattle.ps_causes.specs.Filling.{area_size, begin, FillsArea, of_the_unit, of_a_step}
+use Rattle.ps_causes.specs.Steps.{EndsRun}
+use Rattle.ps_command.specs.inside.Steps.{IsRunnable, IsReady}
 use Rattle.ps_command.proofs.Programs.{first_fits}
 
 outputs-append : (xs ys : List Event) → outputs (xs ++ ys) ≡ outputs xs ++ outputs ys
@@ -142,6 +152,7 @@ module _ (unit : CodeUnit) (run : RunOf) (input : List ℕ) (program : BodyNode)
           rest = first.1;
           events_are = first.2;
           passed = omega (arith, whole, passed, weighs, counts);
+          object = of_the_unit refl (subst (λ (u : UnitView). EndsBefore (unit_objects 1 u) top wanted) r.unit_is none.ends);
           short = omega (arith, whole, short);
           within = omega (arith, within, weighs, counts);
         },
@@ -197,23 +208,23 @@ module _ {H : Type 0} (outside : H → Outside (List ℕ)) (a b : Store H) where
     never_damaged (damaged {events = events} {last = last} way s tells) = is_never_stuck total (begin run input program) last events r.runs way s
 
     -- where it ended all was output, and the end is the program's
-    pub all_told : (e : RunEnd) (answered : ℕ) → answered ≡ status_of (end_of e) → RanTo (Ok e) → AnswersRun old new run input program answered
+    pub all_told : (e : RunEnd) (answered : Status) → number_of answered ≡ status_of (end_of e) → RanTo (Ok e) → EndsRun old new run input program (Ok answered)
     all_told e answered is_status (ended {events = events} {last = last} way s tells) =
         let is = ended_by events last (end_of e) way s in
-        let status : answered ≡ status_of (run_end run.turns input program) = is_status ∙ ap status_of (end_is run.turns input program events (end_of e) last.store.counted is) in
+        let status : number_of answered ≡ status_of (run_end run.turns input program) = is_status ∙ ap status_of (end_is run.turns input program events (end_of e) last.store.counted is) in
         let all = subst (λ (bs : List ℕ). TellsAll old new bs) (sym (told_to_the_end total events (end_of e) last.store.counted is)) (host_told (outputs events ++ report_of (end_of e)) tells) in
         record {
           bytes = outputs total;
           status = status_of (run_end run.turns input program);
           comes = its_end;
-          answers = subst (λ (n : ℕ). Answers old new (outputs total) (status_of (run_end run.turns input program)) n) (sym status) (whole all);
+          ends = answers.ended (subst (λ (n : ℕ). Answers old new (outputs total) (status_of (run_end run.turns input program)) n) (sym status) (whole all));
         }
 
     -- where the output failed it was after a prefix of it
-    failed_in : FailsAfter old new (outputs total) → AnswersRun old new run input program 8
-    failed_in fails = record { bytes = outputs total; status = status_of (run_end run.turns input program); comes = its_end; answers = answers.cut fails }
+    failed_in : FailsAfter old new (outputs total) → EndsRun old new run input program (Ok statuses.Output)
+    failed_in fails = record { bytes = outputs total; status = status_of (run_end run.turns input program); comes = its_end; ends = answers.ended (answers.cut fails) }
 
-    pub front_told : RanTo (Err Output) → AnswersRun old new run input program 8
+    pub front_told : RanTo (Err Output) → EndsRun old new run input program (Ok statuses.Output)
     front_told (cut {events = events} {last = last} way fails) =
         let front = front_on_the_way total (begin run input program) last events r.runs way in
         let is : outputs total ≡ outputs events ++ outputs front.0 = ap outputs front.1 ∙ outputs-append events front.0 in
@@ -237,6 +248,7 @@ module _ {H : Type 0} (outside : H → Outside (List ℕ)) (a b : Store H) where
             rest = first.1;
             events_are = first.2 ∙ ap (λ (es : List Event). es ++ first.0 ∷ first.1) (append-nil events);
             passed = omega (arith, area, passed, counts);
+            object = of_a_step way s (subst (λ (n : ℕ). LacksRoom next top wanted n) area none);
             short = omega (arith, area, short);
             within = omega (arith, within, counts);
           },
@@ -244,27 +256,26 @@ module _ {H : Type 0} (outside : H → Outside (List ℕ)) (a b : Store H) where
           area,
         )
 
--- and the line after it
-pub full_told : (old mid new : Outside (List ℕ)) (run : RunOf) (input : List ℕ) (program : BodyNode) (before : List Event) (top wanted size answered : ℕ)
-    → FillsArea run input program before top wanted → size ≡ area_size run → TellsAll old mid (outputs before) → Answers mid new (area_full_line top wanted size) 11 answered
-    → AnswersRun old new run input program answered
-full_told old mid new run input program before top wanted size answered fills is first line = record {
+-- and its report is left
+pub full_told : (old new : Outside (List ℕ)) (run : RunOf) (input : List ℕ) (program : BodyNode) (before : List Event) (top wanted size : ℕ)
+    → FillsArea run input program before top wanted → size ≡ area_size run → TellsAll old new (outputs before) → EndsRun old new run input program (Err (reports.AreaFull top wanted size))
+full_told old new run input program before top wanted size fills is first = record {
   bytes = outputs before ++ area_full_line top wanted (area_size run);
   status = 11;
   comes = area_full fills;
-  answers = behind answered (subst (λ (n : ℕ). Answers mid new (area_full_line top wanted n) 11 answered) is line);
+  ends = subst (λ (n : ℕ). EndsIn old new (outputs before ++ area_full_line top wanted n) 11 (Err (reports.AreaFull top wanted size))) is (reported first);
 }
-  where
-    behind : (n : ℕ) → Answers mid new (area_full_line top wanted (area_size run)) 11 n → Answers old new (outputs before ++ area_full_line top wanted (area_size run)) 11 n
-    behind n (answers.whole all) = answers.whole (all_then old mid new (outputs before) (area_full_line top wanted (area_size run)) first all)
-    behind n (answers.cut fails) = answers.cut (fails_then old mid new (outputs before) (area_full_line top wanted (area_size run)) first fails)
 
--- What a run returns after calls that output nothing.
-pub run_behind : (old mid new : Outside (List ℕ)) (run : RunOf) (input : List ℕ) (program : BodyNode) (answered : ℕ) → TellsNothing old mid → mid.output_faults ≡ old.output_faults
-    → AnswersRun mid new run input program answered → AnswersRun old new run input program answered
-run_behind old mid new run input program answered nothing calm is = record {
-  bytes = is.bytes;
-  status = is.status;
-  comes = is.comes;
-  answers = behind_nothing old mid nothing calm new is.bytes is.status answered is.answers;
-}
+-- What a run ends in after calls that output nothing.
+module _ (old mid new : Outside (List ℕ)) (nothing : TellsNothing old mid) (calm : mid.output_faults ≡ old.output_faults) where
+  ends_behind : (bytes : List ℕ) (status : ℕ) (end : Result Status Report) → EndsIn mid new bytes status end → EndsIn old new bytes status end
+  ends_behind bytes status end (answers.ended is) = answers.ended (answers_then old mid new [] bytes status _ (told_none old mid nothing calm) is)
+  ends_behind bytes status end (reported {before = before} all) = reported (all_then old mid new [] before (told_none old mid nothing calm) all)
+
+  pub run_behind : (run : RunOf) (input : List ℕ) (program : BodyNode) (end : Result Status Report) → EndsRun mid new run input program end → EndsRun old new run input program end
+  run_behind run input program end is = record { bytes = is.bytes; status = is.status; comes = is.comes; ends = ends_behind is.bytes is.status end is.ends }
+
+-- what a command ends in adds nothing to what had been output before it
+pub ends_keep : (a b : Outside (List ℕ)) (bytes : List ℕ) (status : ℕ) (end : Result Status Report) → EndsIn a b bytes status end → KeepsTold a b
+ends_keep a b bytes status end (answers.ended is) = answers_keep a b bytes status _ is
+ends_keep a b bytes status end (reported all) = past_along all.front

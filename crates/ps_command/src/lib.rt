@@ -1,12 +1,13 @@
 //! The commands: a run of a PS-algol text, or a new volume, from the words to the status.
 //!
-//! The way through it is `command::psalgol`, `ps_words::read_words`, `compile::compile`, and then `execute`, which attaches the volume and runs the
-//! machine of stack_machine. `ps_causes` says why each answer comes.
+//! The way through it is `command::psalgol`, `ps_words::read_words`, `prepare::prepare`, which reads and compiles, and then `execute::execute`, which
+//! attaches the volume and runs the machine of stack_machine. `ps_causes` says why each answer comes.
 #![tactic(auto)]
 
 pub mod command;
 mod compile;
 mod execute;
+mod prepare;
 mod source_fault;
 
 pub use command::psalgol;

@@ -2,6 +2,7 @@ ghost use Rattle.std.specs.Prelude.{◌≡◌};
 ghost use Rattle.ps_command.specs.inside.Refusal.{stage_of, number_of, line_of_fault};
 
 use ps_base::line::Line;
+use ps_causes::ps_reports::Stage;
 use ps_causes::ps_scan::ScanFault;
 use ps_check::ps_declared::fault::CheckFault;
 use ps_tree::fault::ParseFault;
@@ -18,16 +19,16 @@ pub enum SourceFault {
 }
 
 impl SourceFault {
-    /// The stage as the report line names it.
-    pub fn stage(&self) -> &'static [u8]
-        ensures { result.now ≡ stage_of self.now }
+    /// The stage that found it; of want of memory it says nothing.
+    pub fn stage(&self) -> Stage
+        ensures { result ≡ stage_of self.now }
     {
         match self {
-            SourceFault::Scan(_) => b"scan",
-            SourceFault::Parse(_) => b"parse",
-            SourceFault::NotBuilt { .. } => b"check",
-            SourceFault::Check(_) => b"check",
-            SourceFault::Memory => b"",
+            SourceFault::Scan(_) => Stage::Scan,
+            SourceFault::Parse(_) => Stage::Parse,
+            SourceFault::NotBuilt { .. } => Stage::Check,
+            SourceFault::Check(_) => Stage::Check,
+            SourceFault::Memory => Stage::Check,
         }
     }
 

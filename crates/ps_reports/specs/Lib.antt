@@ -1,2 +1,4 @@
-pub mod Answering
+pub mod Statuses
 pub mod Reports
+pub mod Reporting
+pub mod Answering

@@ -1,7 +1,9 @@
-//! The report lines of what ends a command but for the ends of a program. Each is output by the host, and the status is answered that stands with it.
-//! `docs/language.md` has the table.
+//! The statuses of the program, and the reports of what ends a command but for the ends of a program: each has a line, which is written by the host, and
+//! a status. `docs/language.md` has the table.
 #![tactic(auto)]
 
 pub mod report;
+pub mod status;
 
-pub use report::OUTPUT_FAULT;
+pub use report::{Report, Stage};
+pub use status::Status;

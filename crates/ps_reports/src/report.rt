@@ -1,41 +1,131 @@
+//! Why a command ends, where it isn't the end of a program.
+ghost use Rattle.std.specs.Prelude.{◌≡◌};
+ghost use Rattle.ps_base.specs.Limits.{most_text_bytes};
 ghost use Rattle.ps_port.specs.Telling.{LeavesDevice, joined};
 ghost use Rattle.ps_reports.specs.Answering.{Answers};
-ghost use Rattle.ps_reports.specs.Reports.{usage_line, memory_line, unreadable_line, too_long_line, fault_line, area_full_line, device_line, not_a_volume_line, damaged_line, already_line};
+ghost use Rattle.ps_reports.specs.Reports.{unreadable_line, too_long_line, fault_line, area_full_line, not_a_volume_line, damaged_line};
+ghost use Rattle.ps_reports.specs.Reporting.{line_of, status_of, name_of};
+ghost use Rattle.ps_reports.specs.Statuses.{number_of};
 
+use crate::status::Status;
 use itoa::Buffer;
 use ps_base::LONGEST_TEXT;
 use ps_base::line::Line;
 use ps_port::{Host, tell};
 
-/// The status where the output failed.
-pub const OUTPUT_FAULT: u8 = 8;
-
-/// Writes the usage line, and answers 1.
-pub fn usage<H: Host>(host: &mut H) -> u8
-    ensures answers { Answers (H.outside host.old) (H.outside host.new) usage_line 1 result }
-    ensures device { LeavesDevice (H.outside host.old) (H.outside host.new) }
-{
-    answer(host, &[b"usage: psalgol COMMAND VOLUME WORDS\n"], 1)
+/// The stage that refused a text.
+#[derive(Clone, Copy)]
+pub enum Stage {
+    Scan,
+    Parse,
+    Check,
 }
 
-/// Writes that there was no memory, and answers 5.
-pub fn no_memory<H: Host>(host: &mut H) -> u8
-    ensures answers { Answers (H.outside host.old) (H.outside host.new) memory_line 5 result }
-    ensures device { LeavesDevice (H.outside host.old) (H.outside host.new) }
-{
-    answer(host, &[b"out of memory\n"], 5)
+impl Stage {
+    /// Its name in the report line.
+    pub fn name(self) -> &'static [u8]
+        ensures { result.now ≡ name_of self }
+    {
+        match self {
+            Stage::Scan => b"scan",
+            Stage::Parse => b"parse",
+            Stage::Check => b"check",
+        }
+    }
 }
 
-/// Writes that a text couldn't be read, and answers 7.
-pub fn unreadable<H: Host>(host: &mut H, file: &str) -> u8
+/// Why a command ends, where it isn't the end of a program (`docs/language.md` has the lines and statuses).
+#[derive(Clone, Copy)]
+pub enum Report<'a> {
+    /// The words are no command.
+    Usage,
+    /// There was no memory.
+    NoMemory,
+    /// The text of this name couldn't be read.
+    Unreadable {
+        file: &'a str,
+    },
+    /// The text of this name has so many bytes, more than a text may have.
+    TooLong {
+        file: &'a str,
+        length: u64,
+    },
+    /// The text of this name is no program: its first fault, by its number in the stage that found it, and its line.
+    Refused {
+        file: &'a str,
+        stage: Stage,
+        number: u8,
+        line: Line,
+    },
+    /// The area is full: its next word, the words of the object that was to be made, and its size in words.
+    AreaFull {
+        top: u32,
+        wanted: u32,
+        size: u32,
+    },
+    /// The device failed.
+    Device,
+    /// The file is no volume: its size in bytes, and its byte 0, which is 0 where it is empty.
+    NotAVolume {
+        size: u64,
+        gate: u8,
+    },
+    /// The volume is damaged: the place in bytes of the number that failed its test, the number, and its bound.
+    Damaged {
+        at: u64,
+        found: u64,
+        wanted: u64,
+    },
+    /// There is a volume already.
+    AlreadyAVolume,
+}
+
+impl Report<'_> {
+    /// Writes its line by the host, and answers the number of its status, or that of `Status::Output` where the output failed.
+    pub fn write<H: Host>(&self, host: &mut H) -> u8
+        ensures answers { Answers (H.outside host.old) (H.outside host.new) (line_of self.now) (number_of (status_of self.now)) result }
+        ensures device { LeavesDevice (H.outside host.old) (H.outside host.new) }
+    {
+        match self {
+            Report::Usage => answer(
+                host,
+                &[b"usage: psalgol COMMAND VOLUME WORDS\n"],
+                Status::Usage,
+            ),
+            Report::NoMemory => answer(host, &[b"out of memory\n"], Status::NoMemory),
+            Report::Unreadable { file } => unreadable(host, file),
+            Report::TooLong { file, length } => too_long(host, file, *length),
+            Report::Refused {
+                file,
+                stage,
+                number,
+                line,
+            } => refused(host, file, stage.name(), *number, *line),
+            Report::AreaFull { top, wanted, size } => area_full(host, *top, *wanted, *size),
+            Report::Device => answer(host, &[b"device fault\n"], Status::Device),
+            Report::NotAVolume { size, gate } => not_a_volume(host, *size, *gate),
+            Report::Damaged { at, found, wanted } => damaged(host, *at, *found, *wanted),
+            Report::AlreadyAVolume => {
+                answer(host, &[b"already a volume\n"], Status::AlreadyAVolume)
+            }
+        }
+    }
+}
+
+// Writes that a text couldn't be read.
+fn unreadable<H: Host>(host: &mut H, file: &str) -> u8
     ensures answers { Answers (H.outside host.old) (H.outside host.new) (unreadable_line file.now) 7 result }
     ensures device { LeavesDevice (H.outside host.old) (H.outside host.new) }
 {
-    answer(host, &[b"cannot read ", file.as_bytes(), b"\n"], 7)
+    answer(
+        host,
+        &[b"cannot read ", file.as_bytes(), b"\n"],
+        Status::Unreadable,
+    )
 }
 
-/// Writes how long a text is that is too long, and answers 13.
-pub fn too_long<H: Host>(host: &mut H, file: &str, length: u64) -> u8
+// Writes how long a text is that is too long.
+fn too_long<H: Host>(host: &mut H, file: &str, length: u64) -> u8
     ensures answers { Answers (H.outside host.old) (H.outside host.new) (too_long_line file.now length) 13 result }
     ensures device { LeavesDevice (H.outside host.old) (H.outside host.new) }
 {
@@ -47,12 +137,12 @@ pub fn too_long<H: Host>(host: &mut H, file: &str, length: u64) -> u8
     answer(
         host,
         &[name, b": ", count, b" bytes, at most ", most, b"\n"],
-        13,
+        Status::TooLong,
     )
 }
 
-/// Writes the first fault of a text: its stage, its number and its line; and answers 2.
-pub fn fault<H: Host>(host: &mut H, file: &str, stage: &[u8], number: u8, line: Line) -> u8
+// Writes the first fault of a text: its stage, its number and its line.
+fn refused<H: Host>(host: &mut H, file: &str, stage: &[u8], number: u8, line: Line) -> u8
     ensures answers { Answers (H.outside host.old) (H.outside host.new) (fault_line file.now stage.now number line) 2 result }
     ensures device { LeavesDevice (H.outside host.old) (H.outside host.new) }
 {
@@ -64,12 +154,12 @@ pub fn fault<H: Host>(host: &mut H, file: &str, stage: &[u8], number: u8, line: 
     answer(
         host,
         &[name, b": ", stage, b" ", number, b" at line ", line, b"\n"],
-        2,
+        Status::Refused,
     )
 }
 
-/// Writes that the area was full: its next word, the words of the object that was to be made, and its size; and answers 11.
-pub fn area_full<H: Host>(host: &mut H, top: u32, wanted: u32, size: u32) -> u8
+// Writes that the area was full: its next word, the words of the object that was to be made, and its size.
+fn area_full<H: Host>(host: &mut H, top: u32, wanted: u32, size: u32) -> u8
     ensures answers { Answers (H.outside host.old) (H.outside host.new) (area_full_line top wanted size) 11 result }
     ensures device { LeavesDevice (H.outside host.old) (H.outside host.new) }
 {
@@ -90,20 +180,12 @@ pub fn area_full<H: Host>(host: &mut H, top: u32, wanted: u32, size: u32) -> u8
             size,
             b" words\n",
         ],
-        11,
+        Status::AreaFull,
     )
 }
 
-/// Writes that the device failed, and answers 6.
-pub fn device_fault<H: Host>(host: &mut H) -> u8
-    ensures answers { Answers (H.outside host.old) (H.outside host.new) device_line 6 result }
-    ensures device { LeavesDevice (H.outside host.old) (H.outside host.new) }
-{
-    answer(host, &[b"device fault\n"], 6)
-}
-
-/// Writes that the file is no volume: its size in bytes and its byte 0, 0 where it is empty; and answers 9.
-pub fn not_a_volume<H: Host>(host: &mut H, size: u64, gate: u8) -> u8
+// Writes that the file is no volume: its size in bytes and its byte 0.
+fn not_a_volume<H: Host>(host: &mut H, size: u64, gate: u8) -> u8
     ensures answers { Answers (H.outside host.old) (H.outside host.new) (not_a_volume_line size gate) 9 result }
     ensures device { LeavesDevice (H.outside host.old) (H.outside host.new) }
 {
@@ -114,12 +196,12 @@ pub fn not_a_volume<H: Host>(host: &mut H, size: u64, gate: u8) -> u8
     answer(
         host,
         &[b"not a volume: ", size, b" bytes, gate ", gate, b"\n"],
-        9,
+        Status::NotAVolume,
     )
 }
 
-/// Writes where the volume is damaged: the place in bytes of the number that failed its test, the number, and its bound; and answers 10.
-pub fn damaged<H: Host>(host: &mut H, at: u64, found: u64, wanted: u64) -> u8
+// Writes where the volume is damaged: the place in bytes of the number that failed its test, the number, and its bound.
+fn damaged<H: Host>(host: &mut H, at: u64, found: u64, wanted: u64) -> u8
     ensures answers { Answers (H.outside host.old) (H.outside host.new) (damaged_line at found wanted) 10 result }
     ensures device { LeavesDevice (H.outside host.old) (H.outside host.new) }
 {
@@ -140,26 +222,18 @@ pub fn damaged<H: Host>(host: &mut H, at: u64, found: u64, wanted: u64) -> u8
             wanted,
             b"\n",
         ],
-        10,
+        Status::Damaged,
     )
 }
 
-/// Writes that there is a volume already, and answers 14.
-pub fn already_a_volume<H: Host>(host: &mut H) -> u8
-    ensures answers { Answers (H.outside host.old) (H.outside host.new) already_line 14 result }
-    ensures device { LeavesDevice (H.outside host.old) (H.outside host.new) }
-{
-    answer(host, &[b"already a volume\n"], 14)
-}
-
-// Writes pieces one after the other, and answers the status.
+// Writes pieces one after the other, and answers the number of the status.
 #[tactic(auto, using(crate::specs::Answering::answering))]
-fn answer<H: Host>(host: &mut H, parts: &[&[u8]], status: u8) -> u8
-    ensures answers { Answers (H.outside host.old) (H.outside host.new) (joined parts.now) status result }
+fn answer<H: Host>(host: &mut H, parts: &[&[u8]], status: Status) -> u8
+    ensures answers { Answers (H.outside host.old) (H.outside host.new) (joined parts.now) (number_of status) result }
     ensures device { LeavesDevice (H.outside host.old) (H.outside host.new) }
 {
     match tell::pieces(host, parts) {
-        Ok(()) => status,
-        Err(_) => OUTPUT_FAULT,
+        Ok(()) => status.number(),
+        Err(_) => Status::Output.number(),
     }
 }

@@ -1,10 +1,13 @@
 -- What is due where a volume is made, and what is left of the device.
-use Rattle.std.specs.Prelude.{◌≡◌, ℕ, ◌≤◌, List, [], length}
-use Rattle.ps_port.specs.ps_outside.Outside.{Outside, Leaves, Rose}
+use Rattle.std.specs.Prelude.{◌≡◌, ℕ, ◌≤◌, List, [], length, Result, Ok, Err}
+use Rattle.ps_port.specs.ps_outside.Outside.{Outside, Leaves, TellsNothing, Rose}
 use Rattle.obj_store.specs.shadow_volume.Layout.{gate}
 use Rattle.obj_store.specs.shadow_volume.Making.{IsMaking, IsNew, IsNone, ShutsAt, OpensAt}
-use Rattle.ps_reports.specs.Answering.{Answers}
+use Rattle.ps_reports.specs.declared.report.Report.{Report}
+use Rattle.ps_reports.specs.Reporting.{line_of}
+use Rattle.ps_reports.specs.Reporting as reported
 use Rattle.ps_reports.specs.Reports.{device_line, already_line}
+use Rattle.ps_reports.specs.Statuses.{number_of}
 use Rattle.ps_volumes.specs.Attaching.{Keeps}
 
 -- The new volume stands there, whole: in what a read gives, and in all that a crash may leave. On the way the gate was shut, from a moment up to which
@@ -26,12 +29,20 @@ pub data IsMakingDue (pages : ℕ) (old new : Outside (List ℕ)) : List ℕ →
   failed : Rose old.device_faults new.device_faults → IsMakingDue pages old new device_line 6
   there_is_one : ((bytes : List ℕ) → old.contents bytes → IsOpen bytes) → Keeps old new → IsMakingDue pages old new already_line 14
 
--- The volume is made, or why it isn't is told; and how far the making came: nothing but byte 0 was written, or from a moment on the gate is shut, or the
--- new volume stood whole after it before it was opened.
-pub record Makes (pages : ℕ) (old new : Outside (List ℕ)) (answered : ℕ) : Type 0 where
+-- the bytes that are due, and the status that stands with them
+abbrev pub bytes_of : Result (Unit {0}) Report → List ℕ
+bytes_of (Ok done) = []
+bytes_of (Err report) = line_of report
+
+abbrev pub status_of : Result (Unit {0}) Report → ℕ
+status_of (Ok done) = 0
+status_of (Err report) = number_of (reported.status_of report)
+
+-- The volume is made, or the report says why it isn't, and nothing was output; and how far the making came: nothing but byte 0 was written, or from a moment
+-- on the gate is shut, or the new volume stood whole after it before it was opened.
+pub record Makes (pages : ℕ) (old new : Outside (List ℕ)) (answer : Result (Unit {0}) Report) : Type 0 where
   pub any_moment : Leaves old new (IsMaking old pages)
   pub gate : ShutsAt pages old new
-  pub bytes : List ℕ
-  pub status : ℕ
-  pub due : IsMakingDue pages old new bytes status
-  pub answers : Answers old new bytes status answered
+  pub told : TellsNothing old new
+  pub calm : new.output_faults ≡ old.output_faults
+  pub due : IsMakingDue pages old new (bytes_of answer) (status_of answer)

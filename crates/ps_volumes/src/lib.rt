@@ -1,4 +1,4 @@
-//! Volumes as commands meet them: one is made, or attached, and where it can't be, the report line is told and the status answered that stands with it.
+//! Volumes as commands meet them: one is made, or attached, and where it can't be, there is a report of why.
 #![tactic(auto)]
 
 pub mod attaching;

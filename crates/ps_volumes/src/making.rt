@@ -5,18 +5,17 @@ ghost use Rattle.ps_volumes.specs.Making.{Makes};
 
 use obj_store::shadow_volume::{FormatFault, format};
 use ps_port::Host;
-use ps_reports::report;
+use ps_reports::Report;
 
-/// Makes a volume of so many pages, 32 to 131,072, on the device of a host, and answers the status: 0 where it was made, and nothing is told; 14 where
-/// there is one already, which is left as it is; 6 where the device failed, and what stands there then is no volume, or the old file with any
-/// byte 0, or the new volume, whole.
-pub fn make_volume<H: Host>(host: &mut H, pages: u32) -> u8
+/// Makes a volume of so many pages, 32 to 131,072, on the device of a host; nothing is output. Where there is one already, it is left as it is; where the
+/// device failed, what stands there then is no volume, or the old file with any byte 0, or the new volume, whole.
+pub fn make_volume<H: Host>(host: &mut H, pages: u32) -> Result<(), Report<'static>>
     requires { (32 ≤ pages) × (pages ≤ 131072) }
     ensures { Makes pages (H.outside host.old) (H.outside host.new) result }
 {
     match format(host, pages) {
-        Ok(()) => 0,
-        Err(FormatFault::Device) => report::device_fault(host),
-        Err(FormatFault::AlreadyVolume { .. }) => report::already_a_volume(host),
+        Ok(()) => Ok(()),
+        Err(FormatFault::Device) => Err(Report::Device),
+        Err(FormatFault::AlreadyVolume { .. }) => Err(Report::AlreadyAVolume),
     }
 }

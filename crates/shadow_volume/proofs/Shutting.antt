@@ -48,6 +48,25 @@ module _ {H : Type 0} (outside : H → Outside (List ℕ)) (pages : ℕ) (old : 
   shuts_at new (making.opened is) = making.opened (opens_at new is)
 
 -- calls that leave the device come after it
+pub opens_then : (pages : ℕ) (a b c : Outside (List ℕ)) → OpensAt pages a b → LeavesSame b c → OpensAt pages a c
+opens_then pages a b c is next =
+    let order = is.order in
+    let until = is.until in
+    let later = next.later in
+    record {
+      shut_from = is.shut_from;
+      shut_until = is.shut_until;
+      from = is.from;
+      order = is.order;
+      until = omega arith;
+      before = λ m image low high at. is.before m image low high (next.no_other m image (omega arith) at);
+      shut = λ m image low high at. is.shut m image low high (next.no_other m image (omega arith) at);
+      opens = λ m image low high at. ⊎_elim
+          (λ early. is.opens m image low early (next.no_other m image early at))
+          (λ late. is.opens b.clock image until (omega arith) (next.each m image late high at))
+          (either m b.clock);
+    }
+
 pub shuts_then : (pages : ℕ) (a b c : Outside (List ℕ)) → ShutsAt pages a b → LeavesSame b c → ShutsAt pages a c
 shuts_then pages a b c (making.not_shut is) next = making.not_shut (along_then is next (along_now is))
 shuts_then pages a b c (making.still_shut is) next =
@@ -63,20 +82,4 @@ shuts_then pages a b c (making.still_shut is) next =
           (λ late. is.shut b.clock image until (omega arith) (next.each m image late high at))
           (either m b.clock);
     })
-shuts_then pages a b c (making.opened is) next =
-    let order = is.order in
-    let until = is.until in
-    let later = next.later in
-    making.opened (record {
-      shut_from = is.shut_from;
-      shut_until = is.shut_until;
-      from = is.from;
-      order = is.order;
-      until = omega arith;
-      before = λ m image low high at. is.before m image low high (next.no_other m image (omega arith) at);
-      shut = λ m image low high at. is.shut m image low high (next.no_other m image (omega arith) at);
-      opens = λ m image low high at. ⊎_elim
-          (λ early. is.opens m image low early (next.no_other m image early at))
-          (λ late. is.opens b.clock image until (omega arith) (next.each m image late high at))
-          (either m b.clock);
-    })
+shuts_then pages a b c (making.opened is) next = making.opened (opens_then pages a b c is next)

@@ -1,5 +1,5 @@
 -- What an answer of the compiler says of the text.
-use Rattle.std.specs.Prelude.{◌≡◌, ◌≢◌, ℕ, List, [], Some, None, Option, codes}
+use Rattle.std.specs.Prelude.{◌≡◌, ◌≢◌, ℕ, List, Some, None, Option}
 use Rattle.ps_base.specs.declared.line.Line.{Line}
 use Rattle.ps_causes.specs.ps_scan.declared.token.Token.{Token}
 use Rattle.ps_causes.specs.ps_scan.declared.fault.ScanFault.TheVariants as scan_fault
@@ -16,6 +16,8 @@ use Rattle.ps_causes.specs.ps_typing.Program.{check_program, Typed}
 use Rattle.ps_check.specs.ps_declared.Faults as checking
 use Rattle.ps_causes.specs.Source.{IsCheckFault}
 use Rattle.ps_causes.specs.Source as rules
+use Rattle.ps_causes.specs.ps_reports.declared.report.Stage.{Stage}
+use Rattle.ps_causes.specs.ps_reports.declared.report.Stage.TheVariants.{Scan, Parse, Check}
 use Rattle.ps_command.specs.declared.source_fault.SourceFault.{SourceFault}
 use Rattle.ps_command.specs.declared.source_fault.SourceFault.TheVariants as source
 
@@ -48,12 +50,12 @@ Refuses text (source.NotBuilt line) = Checked text 8 line
 Refuses text (source.Check fault) = (told : Fault) → checking.fault_of fault ≡ Some told → Checked text (rules.number_of told) (rules.line_of told)
 Refuses text source.Memory = Unit {0}
 
-abbrev pub stage_of : SourceFault → List ℕ
-stage_of (source.Scan fault) = codes "scan"
-stage_of (source.Parse fault) = codes "parse"
-stage_of (source.NotBuilt line) = codes "check"
-stage_of (source.Check fault) = codes "check"
-stage_of source.Memory = []
+abbrev pub stage_of : SourceFault → Stage
+stage_of (source.Scan fault) = Scan
+stage_of (source.Parse fault) = Parse
+stage_of (source.NotBuilt line) = Check
+stage_of (source.Check fault) = Check
+stage_of source.Memory = Check
 
 abbrev pub number_of : SourceFault → Option ℕ
 number_of (source.Scan fault) = scanning.number_of fault

@@ -1,5 +1,5 @@
 -- A program that can be run, and a machine that is ready to run it.
-use Rattle.std.specs.Prelude.{◌≡◌, List, [], ℕ, None}
+use Rattle.std.specs.Prelude.{◌≡◌, List, [], ℕ, Option, Some, None}
 use Rattle.std.specs.List.{AllByRecursion}
 use Rattle.ps_base.specs.CodeUnit.{unit_view}
 use Rattle.ps_base.specs.declared.code_unit.CodeUnit.{CodeUnit}
@@ -11,13 +11,13 @@ use Rattle.ps_code_laws.specs.ps_soundness.Shapes.{type_of_body}
 use Rattle.ps_code_laws.specs.ps_soundness.Valued.{IsValued}
 use Rattle.ps_unit_weights.specs.ps_gen.Units.{unit_of, HasUnit}
 use Rattle.ps_causes.specs.ps_words.Words.{RunOf}
-use Rattle.ps_causes.specs.ps_meaning.Runs.{run_events, fresh_store}
-use Rattle.ps_causes.specs.ps_meaning.Weights.{code_weight}
-use Rattle.ps_code_laws.specs.ps_stepping.Config.{Config, start}
+use Rattle.ps_causes.specs.ps_meaning.Runs.{run_events}
 use Rattle.ps_code_laws.specs.ps_stepping.Machine.{Runs}
 use Rattle.stack_machine.specs.machine_state.declared.machine.Machine.{Machine}
 use Rattle.stack_machine.specs.machine_state.Holding.{Holds, IsSound}
-use Rattle.ps_causes.specs.Command.{area_size}
+use Rattle.ps_causes.specs.Command.{GivesProgram, GivesInput}
+use Rattle.ps_causes.specs.Filling.{area_size, begin}
+use Rattle.ps_causes.specs.Steps.{UnreadWhy}
 
 -- This unit is that of a program that can be run: one that is well typed, of which all runs, each of whose bodies takes and gives values, has slots
 -- enough, and has a unit.
@@ -29,9 +29,17 @@ pub record IsRunnable (unit : CodeUnit) (program : BodyNode) : Type 0 where
   pub units : AllByRecursion HasUnit (bodies program)
   pub unit_is : unit_view unit ≡ unit_of program
 
--- where the program of a run begins
-abbrev pub begin : RunOf → List ℕ → BodyNode → Config
-begin run input program = start (unit_of program) (fresh_store run.turns input (code_weight program))
+-- What was prepared is of the program and the input of a run, as the shelf gives them.
+pub record IsPrepared (holds : List ℕ → List ℕ → Type 0) (lacks : List ℕ → Type 0) (run : RunOf) (unit : CodeUnit) (input : List ℕ) : Type 0 where
+  pub program : BodyNode
+  pub runnable : IsRunnable unit program
+  pub gives : GivesProgram holds lacks run program
+  pub given : GivesInput holds lacks run.input input
+
+-- the input of a run isn't read, or there was no memory for it
+abbrev pub IsInputUnread : (List ℕ → List ℕ → Type 0) → (List ℕ → Type 0) → (List ℕ → Type 0) → Type 0 → Option (List ℕ) → List ℕ → ℕ → Type 0
+IsInputUnread holds lacks may_fail failed None bytes status = ⊥
+IsInputUnread holds lacks may_fail failed (Some name) bytes status = UnreadWhy (holds name) (lacks name) (may_fail name) failed name bytes status
 
 -- The machine is at the start of a program, in the area of the run, with its turns and its input, and from there the program's events come.
 pub record IsReady (run : RunOf) (input : List ℕ) (program : BodyNode) (m : Machine) : Type 0 where

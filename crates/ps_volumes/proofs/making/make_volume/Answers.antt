@@ -9,22 +9,22 @@ returns-in-Ok g c =
     let o = g.H.Host.outside in
     let is = c.in-Ok.ensures in
     made_by c.args.pages (o c.args.host.now) (o c.format.new.host) is.any_moment (shuts_at o c.args.pages c.args.host.now c.format.new.host is.gate) is.told is.output
-    (opens_at o c.args.pages c.args.host.now c.format.new.host is.opened) is.none is.made is.durable
+    (opens_at o c.args.pages c.args.host.now c.format.new.host is.opened) is.none is.made is.durable _
 
 pub returns-in-Err-Device : goal.returns-in-Err-Device
 returns-in-Err-Device g c =
     let o = g.H.Host.outside in
     let old = o c.args.host.now in
-    let mid = o c.format.new.host in
+    let new = o c.format.new.host in
     let is = c.in-Err-Device.ensures in
-    failed_by c.args.pages old mid is.any_moment (shuts_at o c.args.pages c.args.host.now c.format.new.host is.gate) is.told is.output (o c.device_fault.new.host) c.device_fault.ensures.device c.device_fault.result
-    (subst (IsCause old mid) c.in-Err-Device.field-0-is is.cause) c.device_fault.ensures.answers
+    failed_by c.args.pages old new is.any_moment (shuts_at o c.args.pages c.args.host.now c.format.new.host is.gate) is.told is.output
+    (subst (IsCause old new) c.in-Err-Device.field-0-is is.cause)
 
 pub returns-in-Err-AlreadyVolume : goal.returns-in-Err-AlreadyVolume
 returns-in-Err-AlreadyVolume g c =
     let o = g.H.Host.outside in
     let old = o c.args.host.now in
-    let mid = o c.format.new.host in
+    let new = o c.format.new.host in
     let is = c.in-Err-AlreadyVolume.ensures in
-    left_by c.args.pages old mid is.any_moment (shuts_at o c.args.pages c.args.host.now c.format.new.host is.gate) is.told is.output (o c.already_a_volume.new.host) c.already_a_volume.ensures.device c.in-Err-AlreadyVolume.field-0-0
-    c.already_a_volume.result (subst (IsCause old mid) c.in-Err-AlreadyVolume.field-0-is is.cause) c.already_a_volume.ensures.answers
+    left_by c.args.pages old new is.any_moment (shuts_at o c.args.pages c.args.host.now c.format.new.host is.gate) is.told is.output c.in-Err-AlreadyVolume.field-0-0
+    (subst (IsCause old new) c.in-Err-AlreadyVolume.field-0-is is.cause)
