@@ -2,6 +2,7 @@ ghost use Rattle.std.specs.Prelude.{◌≡◌, ◌<◌, IfSome, MatchResult, OnO
 ghost use Rattle.heap_places.specs.swizzle.Heap.{IsFull, IsHeld, IsMade, Stands};
 ghost use Rattle.closures.specs.Closures.{TellsCode, TellsScope, closure_of};
 ghost use Rattle.closures.specs.inside.Opening.{OpensSlot};
+ghost use Rattle.heap_places.specs.obj_layout.Storing.{SameNumbers};
 
 use crate::shape::{other_kind, test_shape};
 use heap_places::obj_layout::kind::Kind;
@@ -42,7 +43,7 @@ pub fn code_of<V: Vault>(sw: &mut Swizzle, vault: &mut V, closure: u32) -> Resul
     requires alive { V.alive vault.old }
     requires held { IsHeld sw.old closure }
     ensures told { TellsCode sw.old sw.new (V.outside vault.old) (V.outside vault.new) closure result }
-    ensures numbers { (V.used_words vault.new ≡ V.used_words vault.old) × (V.directory_at vault.new ≡ V.directory_at vault.old) × (V.most_words vault.new ≡ V.most_words vault.old) }
+    ensures numbers { SameNumbers V.used_words V.directory_at V.most_words vault.old vault.new }
     ensures alive { OnOk result (V.alive vault.new) }
 {
     match open_slot(sw, vault, closure, CODE) {
@@ -68,7 +69,7 @@ pub fn scope_of<V: Vault>(
     requires alive { V.alive vault.old }
     requires held { IsHeld sw.old closure }
     ensures told { TellsScope sw.old sw.new (V.outside vault.old) (V.outside vault.new) closure result }
-    ensures numbers { (V.used_words vault.new ≡ V.used_words vault.old) × (V.directory_at vault.new ≡ V.directory_at vault.old) × (V.most_words vault.new ≡ V.most_words vault.old) }
+    ensures numbers { SameNumbers V.used_words V.directory_at V.most_words vault.old vault.new }
     ensures alive { OnOk result (V.alive vault.new) }
 {
     match open_slot(sw, vault, closure, SCOPE) {
@@ -95,7 +96,7 @@ fn open_slot<V: Vault>(
     requires held { IsHeld sw.old closure }
     requires slot { slot < 2 }
     ensures opened { OpensSlot sw.old sw.new (V.outside vault.old) (V.outside vault.new) closure slot result }
-    ensures numbers { (V.used_words vault.new ≡ V.used_words vault.old) × (V.directory_at vault.new ≡ V.directory_at vault.old) × (V.most_words vault.new ≡ V.most_words vault.old) }
+    ensures numbers { SameNumbers V.used_words V.directory_at V.most_words vault.old vault.new }
     ensures alive { OnOk result (V.alive vault.new) }
 {
     sw.sound();

@@ -7,6 +7,7 @@ ghost use Rattle.heap_places.specs.swizzle.Joint.{shown_at};
 ghost use Rattle.heap_places.specs.text_forms.Forms.{is_number_form};
 ghost use Rattle.heap_places.specs.Shapes.{word_in};
 ghost use Rattle.heap_ops.specs.Vectors.{count_of, index_of, fitted, FindsShape, HasType, ReadsShape};
+ghost use Rattle.heap_places.specs.obj_layout.Storing.{SameNumbers};
 
 use heap_places::obj_layout::kind::Kind;
 use heap_places::obj_layout::vault::Vault;
@@ -172,7 +173,7 @@ pub fn read_shape<V: Vault>(
     requires held { IsHeld sw.old vector }
     ensures read { ReadsShape sw.old sw.new (V.outside vault.old) (V.outside vault.new) vector result }
     ensures typed { IfOk result (λ shape. HasType sw.new vector shape.form) }
-    ensures numbers { (V.used_words vault.new ≡ V.used_words vault.old) × (V.directory_at vault.new ≡ V.directory_at vault.old) × (V.most_words vault.new ≡ V.most_words vault.old) }
+    ensures numbers { SameNumbers V.used_words V.directory_at V.most_words vault.old vault.new }
     ensures alive { OnOk result (V.alive vault.new) }
 {
     if !sw.is_kind(vector, Kind::Vector) {

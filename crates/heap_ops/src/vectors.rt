@@ -5,6 +5,7 @@ ghost use Rattle.heap_places.specs.Places.{IsNear, NamesDamage, fit_damage};
 ghost use Rattle.heap_places.specs.Filling.{AreNear};
 ghost use Rattle.heap_ops.specs.Outcomes.{UnlessFault};
 ghost use Rattle.heap_ops.specs.Vectors.{fitted, MakesVector, TellsLow, TellsHigh, GetsElement, SetsElement};
+ghost use Rattle.heap_places.specs.obj_layout.Storing.{SameNumbers};
 
 use crate::shape::{fit, index, is_vector, place, read_shape, upper};
 use heap_places::filling::{make_filled, make_repeated};
@@ -76,7 +77,7 @@ pub fn low<V: Vault>(sw: &mut Swizzle, vault: &mut V, vector: u32) -> Result<i32
     requires alive { V.alive vault.old }
     requires held { IsHeld sw.old vector }
     ensures told { TellsLow sw.old sw.new (V.outside vault.old) (V.outside vault.new) vector result }
-    ensures numbers { (V.used_words vault.new ≡ V.used_words vault.old) × (V.directory_at vault.new ≡ V.directory_at vault.old) × (V.most_words vault.new ≡ V.most_words vault.old) }
+    ensures numbers { SameNumbers V.used_words V.directory_at V.most_words vault.old vault.new }
     ensures alive { OnOk result (V.alive vault.new) }
 {
     match read_shape(sw, vault, vector) {
@@ -91,7 +92,7 @@ pub fn high<V: Vault>(sw: &mut Swizzle, vault: &mut V, vector: u32) -> Result<i3
     requires alive { V.alive vault.old }
     requires held { IsHeld sw.old vector }
     ensures told { TellsHigh sw.old sw.new (V.outside vault.old) (V.outside vault.new) vector result }
-    ensures numbers { (V.used_words vault.new ≡ V.used_words vault.old) × (V.directory_at vault.new ≡ V.directory_at vault.old) × (V.most_words vault.new ≡ V.most_words vault.old) }
+    ensures numbers { SameNumbers V.used_words V.directory_at V.most_words vault.old vault.new }
     ensures alive { OnOk result (V.alive vault.new) }
 {
     match read_shape(sw, vault, vector) {
@@ -112,7 +113,7 @@ pub fn get_element<V: Vault>(
     requires alive { V.alive vault.old }
     requires held { IsHeld sw.old vector }
     ensures got { GetsElement sw.old sw.new (V.outside vault.old) (V.outside vault.new) vector at result }
-    ensures numbers { (V.used_words vault.new ≡ V.used_words vault.old) × (V.directory_at vault.new ≡ V.directory_at vault.old) × (V.most_words vault.new ≡ V.most_words vault.old) }
+    ensures numbers { SameNumbers V.used_words V.directory_at V.most_words vault.old vault.new }
     ensures alive { UnlessFault result (V.alive vault.new) }
 {
     let shape = match read_shape(sw, vault, vector) {
@@ -147,7 +148,7 @@ pub fn set_element<V: Vault>(
     requires held { IsHeld sw.old vector }
     requires near { IsNear sw.old to }
     ensures set { SetsElement sw.old sw.new (V.outside vault.old) (V.outside vault.new) vector at to result }
-    ensures numbers { (V.used_words vault.new ≡ V.used_words vault.old) × (V.directory_at vault.new ≡ V.directory_at vault.old) × (V.most_words vault.new ≡ V.most_words vault.old) }
+    ensures numbers { SameNumbers V.used_words V.directory_at V.most_words vault.old vault.new }
     ensures alive { UnlessFault result (V.alive vault.new) }
     ensures stands { UnlessFault result (Stands sw.old sw.new) }
 {

@@ -4,6 +4,7 @@ ghost use Rattle.heap_texts.specs.swizzle.Joint.{shown_at};
 ghost use Rattle.heap_places.specs.Places.{HasPlace, HasRow, Holds, IsNear, NamesDamage, ReadsPlace, assigned_value, fit_damage, misfit_view, with_value};
 ghost use Rattle.heap_places.specs.Shapes.{word_in};
 ghost use Rattle.heap_places.specs.Words.{word_damage};
+ghost use Rattle.heap_texts.specs.obj_layout.Storing.{SameNumbers};
 
 use crate::value::Value;
 use crate::words::{flag_of_word, int_of_word, word_of_flag, word_of_int};
@@ -49,7 +50,7 @@ pub fn read_place<V: Vault>(
     requires held { IsHeld sw.old object }
     requires place { HasPlace (shown_at sw.old object) place.form place.index }
     ensures read { ReadsPlace sw.old sw.new (V.outside vault.old) (V.outside vault.new) object place.form place.index result }
-    ensures numbers { (V.used_words vault.new ≡ V.used_words vault.old) × (V.directory_at vault.new ≡ V.directory_at vault.old) × (V.most_words vault.new ≡ V.most_words vault.old) }
+    ensures numbers { SameNumbers V.used_words V.directory_at V.most_words vault.old vault.new }
     ensures alive { OnOk result (V.alive vault.new) }
 {
     sw.sound();

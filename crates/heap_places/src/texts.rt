@@ -1,6 +1,7 @@
 ghost use Rattle.std.specs.Prelude.{◌≡◌, OnOk};
 ghost use Rattle.heap_texts.specs.swizzle.Heap.{IsHeld};
 ghost use Rattle.heap_places.specs.Places.{TouchesText};
+ghost use Rattle.heap_texts.specs.obj_layout.Storing.{SameNumbers};
 
 use crate::places::damaged;
 use heap_texts::obj_layout::kind::Kind;
@@ -20,7 +21,7 @@ pub fn first_text<V: Vault>(
     requires alive { V.alive vault.old }
     requires held { IsHeld sw.old object }
     ensures touched { TouchesText sw.old sw.new (V.outside vault.old) (V.outside vault.new) object result }
-    ensures numbers { (V.used_words vault.new ≡ V.used_words vault.old) × (V.directory_at vault.new ≡ V.directory_at vault.old) × (V.most_words vault.new ≡ V.most_words vault.old) }
+    ensures numbers { SameNumbers V.used_words V.directory_at V.most_words vault.old vault.new }
     ensures alive { OnOk result (V.alive vault.new) }
 {
     sw.sound();

@@ -3,6 +3,7 @@ ghost use Rattle.std.specs.Prelude.{◌≡◌, ℕ, List, IfOk, OnOk};
 ghost use Rattle.ps_base.specs.CodeUnit.{ConstantsView, unit, unit_view};
 ghost use Rattle.ps_base.specs.declared.code_unit.Frame.{Frame};
 ghost use Rattle.heap_meaning.specs.obj_layout.declared.reference.Reference.{Reference};
+ghost use Rattle.heap_meaning.specs.obj_layout.Storing.{SameNumbers};
 ghost use Rattle.heap_meaning.specs.swizzle.Heap.{IsHeld};
 ghost use Rattle.heap_meaning.specs.swizzle.Reading.{LeavesOutside};
 ghost use Rattle.heap_meaning.specs.swizzle.Touch.{Keeps};
@@ -50,7 +51,7 @@ pub fn constant<V: Vault>(
     ensures held { IfOk result (IsHeld sw.new) }
     ensures fails { FailsAsReading (V.outside vault.old) (V.outside vault.new) result }
     ensures leaves { LeavesOutside (V.outside vault.old) (V.outside vault.new) }
-    ensures numbers { (V.used_words vault.new ≡ V.used_words vault.old) × (V.directory_at vault.new ≡ V.directory_at vault.old) × (V.most_words vault.new ≡ V.most_words vault.old) }
+    ensures numbers { SameNumbers V.used_words V.directory_at V.most_words vault.old vault.new }
     ensures alive { OnOk result (V.alive vault.new) }
 {
     sw.sound();

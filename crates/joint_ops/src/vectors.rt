@@ -1,6 +1,7 @@
 //! The operators on vectors.
 ghost use Rattle.std.specs.Prelude.{◌≡◌, ℕ, List, length, replicate, IfOk, Some};
 ghost use Rattle.heap_meaning.specs.obj_layout.declared.reference.Reference.{Reference};
+ghost use Rattle.heap_meaning.specs.obj_layout.Storing.{SameNumbers};
 ghost use Rattle.heap_meaning.specs.swizzle.Heap.{IsHeld, Stands as AllStand};
 ghost use Rattle.heap_meaning.specs.swizzle.Reading.{LeavesOutside};
 ghost use Rattle.heap_meaning.specs.swizzle.Touch.{Keeps};
@@ -90,7 +91,7 @@ pub fn form_of<V: Vault>(sw: &mut Swizzle, vault: &mut V, vector: u32) -> Result
     ensures keeps { UnlessFault result (Keeps sw.old sw.new) }
     ensures fails { BreaksAsReading (V.outside vault.old) (V.outside vault.new) result }
     ensures leaves { LeavesOutside (V.outside vault.old) (V.outside vault.new) }
-    ensures numbers { (V.used_words vault.new ≡ V.used_words vault.old) × (V.directory_at vault.new ≡ V.directory_at vault.old) × (V.most_words vault.new ≡ V.most_words vault.old) }
+    ensures numbers { SameNumbers V.used_words V.directory_at V.most_words vault.old vault.new }
     ensures alive { UnlessFault result (V.alive vault.new) }
 {
     sw.sound();
@@ -113,7 +114,7 @@ pub fn low<V: Vault>(sw: &mut Swizzle, vault: &mut V, vector: u32) -> Result<i32
     ensures keeps { UnlessFault result (Keeps sw.old sw.new) }
     ensures fails { BreaksAsReading (V.outside vault.old) (V.outside vault.new) result }
     ensures leaves { LeavesOutside (V.outside vault.old) (V.outside vault.new) }
-    ensures numbers { (V.used_words vault.new ≡ V.used_words vault.old) × (V.directory_at vault.new ≡ V.directory_at vault.old) × (V.most_words vault.new ≡ V.most_words vault.old) }
+    ensures numbers { SameNumbers V.used_words V.directory_at V.most_words vault.old vault.new }
     ensures alive { UnlessFault result (V.alive vault.new) }
 {
     sw.sound();
@@ -136,7 +137,7 @@ pub fn high<V: Vault>(sw: &mut Swizzle, vault: &mut V, vector: u32) -> Result<i3
     ensures keeps { UnlessFault result (Keeps sw.old sw.new) }
     ensures fails { BreaksAsReading (V.outside vault.old) (V.outside vault.new) result }
     ensures leaves { LeavesOutside (V.outside vault.old) (V.outside vault.new) }
-    ensures numbers { (V.used_words vault.new ≡ V.used_words vault.old) × (V.directory_at vault.new ≡ V.directory_at vault.old) × (V.most_words vault.new ≡ V.most_words vault.old) }
+    ensures numbers { SameNumbers V.used_words V.directory_at V.most_words vault.old vault.new }
     ensures alive { UnlessFault result (V.alive vault.new) }
 {
     sw.sound();
@@ -166,7 +167,7 @@ pub fn get_element<V: Vault>(
     ensures keeps { UnlessFault result (Keeps sw.old sw.new) }
     ensures fails { BreaksAsReading (V.outside vault.old) (V.outside vault.new) result }
     ensures leaves { LeavesOutside (V.outside vault.old) (V.outside vault.new) }
-    ensures numbers { (V.used_words vault.new ≡ V.used_words vault.old) × (V.directory_at vault.new ≡ V.directory_at vault.old) × (V.most_words vault.new ≡ V.most_words vault.old) }
+    ensures numbers { SameNumbers V.used_words V.directory_at V.most_words vault.old vault.new }
     ensures alive { UnlessFault result (V.alive vault.new) }
 {
     sw.sound();
@@ -195,7 +196,7 @@ pub fn set_element<V: Vault>(
     ensures does { SetsElement sw.old sw.new (V.outside vault.old) (V.outside vault.new) vector at to result }
     ensures fails { BreaksAsReading (V.outside vault.old) (V.outside vault.new) result }
     ensures leaves { LeavesOutside (V.outside vault.old) (V.outside vault.new) }
-    ensures numbers { (V.used_words vault.new ≡ V.used_words vault.old) × (V.directory_at vault.new ≡ V.directory_at vault.old) × (V.most_words vault.new ≡ V.most_words vault.old) }
+    ensures numbers { SameNumbers V.used_words V.directory_at V.most_words vault.old vault.new }
     ensures alive { UnlessFault result (V.alive vault.new) }
     ensures stands { UnlessFault result (AllStand sw.old sw.new) }
 {

@@ -1,6 +1,7 @@
 //! Scopes: made, left, and their names read and written.
 ghost use Rattle.std.specs.Prelude.{◌≡◌, ℕ, List, Option, IfOk, IfSome, OnOk, Some};
 ghost use Rattle.joint_ops.specs.obj_layout.declared.reference.Reference.{Reference};
+ghost use Rattle.joint_ops.specs.obj_layout.Storing.{SameNumbers};
 ghost use Rattle.joint_ops.specs.swizzle.Heap.{IsHeld, Stands as AllStand, header_at};
 ghost use Rattle.joint_ops.specs.swizzle.Reading.{LeavesOutside};
 ghost use Rattle.joint_ops.specs.swizzle.Touch.{Keeps};
@@ -61,7 +62,7 @@ pub fn parent_of<V: Vault>(
     ensures keeps { OnOk result (Keeps sw.old sw.new) }
     ensures fails { FailsAsReading (V.outside vault.old) (V.outside vault.new) result }
     ensures leaves { LeavesOutside (V.outside vault.old) (V.outside vault.new) }
-    ensures numbers { (V.used_words vault.new ≡ V.used_words vault.old) × (V.directory_at vault.new ≡ V.directory_at vault.old) × (V.most_words vault.new ≡ V.most_words vault.old) }
+    ensures numbers { SameNumbers V.used_words V.directory_at V.most_words vault.old vault.new }
     ensures alive { OnOk result (V.alive vault.new) }
 {
     sw.sound();
@@ -86,7 +87,7 @@ pub fn scope_out<V: Vault>(
     ensures keeps { OnOk result (Keeps sw.old sw.new) }
     ensures fails { FailsAsReading (V.outside vault.old) (V.outside vault.new) result }
     ensures leaves { LeavesOutside (V.outside vault.old) (V.outside vault.new) }
-    ensures numbers { (V.used_words vault.new ≡ V.used_words vault.old) × (V.directory_at vault.new ≡ V.directory_at vault.old) × (V.most_words vault.new ≡ V.most_words vault.old) }
+    ensures numbers { SameNumbers V.used_words V.directory_at V.most_words vault.old vault.new }
     ensures alive { OnOk result (V.alive vault.new) }
 {
     sw.sound();
@@ -116,7 +117,7 @@ pub fn get_kept<V: Vault>(
     ensures keeps { OnOk result (Keeps sw.old sw.new) }
     ensures fails { FailsAsReading (V.outside vault.old) (V.outside vault.new) result }
     ensures leaves { LeavesOutside (V.outside vault.old) (V.outside vault.new) }
-    ensures numbers { (V.used_words vault.new ≡ V.used_words vault.old) × (V.directory_at vault.new ≡ V.directory_at vault.old) × (V.most_words vault.new ≡ V.most_words vault.old) }
+    ensures numbers { SameNumbers V.used_words V.directory_at V.most_words vault.old vault.new }
     ensures alive { OnOk result (V.alive vault.new) }
 {
     let at = match scope_out(sw, vault, scope, up) {
@@ -153,7 +154,7 @@ pub fn set_kept<V: Vault>(
     ensures does { OnOk result (PutsKept sw.old sw.new name to) }
     ensures fails { FailsAsReading (V.outside vault.old) (V.outside vault.new) result }
     ensures leaves { LeavesOutside (V.outside vault.old) (V.outside vault.new) }
-    ensures numbers { (V.used_words vault.new ≡ V.used_words vault.old) × (V.directory_at vault.new ≡ V.directory_at vault.old) × (V.most_words vault.new ≡ V.most_words vault.old) }
+    ensures numbers { SameNumbers V.used_words V.directory_at V.most_words vault.old vault.new }
     ensures alive { OnOk result (V.alive vault.new) }
     ensures stands { OnOk result (AllStand sw.old sw.new) }
 {

@@ -6,6 +6,10 @@ use Rattle.obj_layout.specs.declared.vault.VaultFault.{VaultFault}
 use Rattle.obj_layout.specs.declared.vault.VaultFault.TheVariants.{Device, Output, Full, Damaged}
 use Rattle.obj_layout.specs.Stored.{Space, damage_at, without_file}
 
+-- What a vault says of itself in numbers stays: its used words, where its directory is, and the most words that it may use.
+abbrev pub SameNumbers : {V : Type 0} → (V → ℕ) → (V → ℕ) → (V → ℕ) → V → V → Type 0
+SameNumbers used directory most old new = (used new ≡ used old) × (directory new ≡ directory old) × (most new ≡ most old)
+
 -- an outside whose images are seen by their words and their directory, whatever their files
 abbrev pub unfiled : Outside Space → Outside Space
 unfiled = seen_as without_file

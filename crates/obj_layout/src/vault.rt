@@ -1,7 +1,7 @@
 ghost use Rattle.std.specs.Prelude.{◌≡◌, ◌+◌, ◌≤◌, ◌<◌, ◌^◌, ◌↔◌, ℕ, List, length, Some, None, true, IfOk, OnOk, Err, drop};
 ghost use Rattle.ps_outside.specs.Outside.{Outside, SameContents};
 ghost use Rattle.obj_layout.specs.Stored.{Space, IsSpace, Holds, IsHeaded, length_there, words_there, appended, overwritten, directed};
-ghost use Rattle.obj_layout.specs.Storing.{IsStoreCall, IsStagingCall, TestsObject, NeverDamaged, NeverFull, DeadIfErr, Becomes, Settles, Puts, reading, writing, settling};
+ghost use Rattle.obj_layout.specs.Storing.{IsStoreCall, IsStagingCall, TestsObject, NeverDamaged, NeverFull, DeadIfErr, Becomes, Settles, Puts, reading, writing, settling, SameNumbers};
 
 /// Why a vault didn't answer. After any fault the vault isn't alive.
 #[derive(Clone, Copy, PartialEq, Eq, Debug)]
@@ -48,7 +48,7 @@ pub trait Vault {
         ensures call { IsStoreCall (outside self.old) (outside self.new) 2 result }
         ensures same { SameContents (outside self.old) (outside self.new) }
         ensures full { NeverFull result }
-        ensures numbers { (used_words self.new ≡ used_words self.old) × (directory_at self.new ≡ directory_at self.old) × (most_words self.new ≡ most_words self.old) }
+        ensures numbers { SameNumbers used_words directory_at most_words self.old self.new }
         ensures alive { OnOk result (alive self.new) }
         ensures dead { DeadIfErr (alive self.new) result };
 
@@ -63,7 +63,7 @@ pub trait Vault {
         ensures call { IsStoreCall (outside self.old) (outside self.new) (reading (length into.old)) result }
         ensures same { SameContents (outside self.old) (outside self.new) }
         ensures full { NeverFull result }
-        ensures numbers { (used_words self.new ≡ used_words self.old) × (directory_at self.new ≡ directory_at self.old) × (most_words self.new ≡ most_words self.old) }
+        ensures numbers { SameNumbers used_words directory_at most_words self.old self.new }
         ensures alive { OnOk result (alive self.new) }
         ensures dead { DeadIfErr (alive self.new) result };
 
@@ -91,7 +91,7 @@ pub trait Vault {
         ensures tested { TestsObject (outside self.old) pid (Some (length words.now)) result }
         ensures call { IsStagingCall (outside self.old) (outside self.new) (writing (length words.now)) result }
         ensures full { NeverFull result }
-        ensures numbers { (used_words self.new ≡ used_words self.old) × (directory_at self.new ≡ directory_at self.old) × (most_words self.new ≡ most_words self.old) }
+        ensures numbers { SameNumbers used_words directory_at most_words self.old self.new }
         ensures alive { OnOk result (alive self.new) }
         ensures dead { DeadIfErr (alive self.new) result };
 
@@ -114,7 +114,7 @@ pub trait Vault {
         ensures told { Puts (outside self.old) (outside self.new) bytes.now result }
         ensures full { NeverFull result }
         ensures sound { NeverDamaged result }
-        ensures numbers { (used_words self.new ≡ used_words self.old) × (directory_at self.new ≡ directory_at self.old) × (most_words self.new ≡ most_words self.old) }
+        ensures numbers { SameNumbers used_words directory_at most_words self.old self.new }
         ensures alive { OnOk result (alive self.new) }
         ensures dead { DeadIfErr (alive self.new) result };
 

@@ -5,6 +5,7 @@ ghost use Rattle.heap_texts.specs.swizzle.Heap.{header_at};
 ghost use Rattle.heap_texts.specs.swizzle.Text.{text_at};
 ghost use Rattle.proc_values.specs.Reading.{HasConstant, GivesConstant, GivesInstr, IsInstrIn, IsPlaceOf, IsDamaged};
 ghost use Rattle.heap_texts.specs.obj_layout.declared.vault.VaultFault.TheVariants.{Damaged};
+ghost use Rattle.heap_texts.specs.obj_layout.Storing.{SameNumbers};
 ghost use Rattle.heap_texts.specs.swizzle.declared.fault.SwizzleFault.TheVariants.{Vault as InVault};
 
 use heap_texts::obj_layout::kind::Kind;
@@ -27,7 +28,7 @@ pub fn constant<V: Vault>(
     requires held { IsHeld sw.old code }
     ensures given { GivesConstant sw.old sw.new (V.outside vault.old) (V.outside vault.new) code index result }
     ensures still { (HasConstant sw.old code index → ⊥) → vault.new ≡ vault.old }
-    ensures numbers { (V.used_words vault.new ≡ V.used_words vault.old) × (V.directory_at vault.new ≡ V.directory_at vault.old) × (V.most_words vault.new ≡ V.most_words vault.old) }
+    ensures numbers { SameNumbers V.used_words V.directory_at V.most_words vault.old vault.new }
     ensures alive { OnOk result (V.alive vault.new) }
 {
     if !is_code(sw.kind(code)) {

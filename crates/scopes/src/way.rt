@@ -3,6 +3,7 @@ ghost use Rattle.closures.specs.swizzle.Heap.{IsHeld};
 ghost use Rattle.closures.specs.swizzle.Joint.{shown_at};
 ghost use Rattle.closures.specs.heap_places.Places.{NamesDamage};
 ghost use Rattle.scopes.specs.Way.{GoesOut, HasParent, TellsParent, way_damage};
+ghost use Rattle.closures.specs.obj_layout.Storing.{SameNumbers};
 
 use closures::heap_places::places::damaged;
 use closures::obj_layout::kind::Kind;
@@ -24,7 +25,7 @@ pub fn parent_of<V: Vault>(
     requires alive { V.alive vault.old }
     requires held { IsHeld sw.old scope }
     ensures told { TellsParent sw.old sw.new (V.outside vault.old) (V.outside vault.new) scope result }
-    ensures numbers { (V.used_words vault.new ≡ V.used_words vault.old) × (V.directory_at vault.new ≡ V.directory_at vault.old) × (V.most_words vault.new ≡ V.most_words vault.old) }
+    ensures numbers { SameNumbers V.used_words V.directory_at V.most_words vault.old vault.new }
     ensures alive { OnOk result (V.alive vault.new) }
 {
     match near_parent(sw, vault, scope) {
@@ -63,7 +64,7 @@ fn find_parent<V: Vault>(
     requires alive { V.alive vault.old }
     requires held { IsHeld sw.old scope }
     ensures told { TellsParent sw.old sw.new (V.outside vault.old) (V.outside vault.new) scope result }
-    ensures numbers { (V.used_words vault.new ≡ V.used_words vault.old) × (V.directory_at vault.new ≡ V.directory_at vault.old) × (V.most_words vault.new ≡ V.most_words vault.old) }
+    ensures numbers { SameNumbers V.used_words V.directory_at V.most_words vault.old vault.new }
     ensures alive { OnOk result (V.alive vault.new) }
 {
     sw.sound();
@@ -105,7 +106,7 @@ pub fn scope_out<V: Vault>(
     requires alive { V.alive vault.old }
     requires held { IsHeld sw.old scope }
     ensures out { GoesOut sw.old sw.new (V.outside vault.old) (V.outside vault.new) scope up result }
-    ensures numbers { (V.used_words vault.new ≡ V.used_words vault.old) × (V.directory_at vault.new ≡ V.directory_at vault.old) × (V.most_words vault.new ≡ V.most_words vault.old) }
+    ensures numbers { SameNumbers V.used_words V.directory_at V.most_words vault.old vault.new }
     ensures alive { OnOk result (V.alive vault.new) }
 {
     let mut at = scope;

@@ -3,7 +3,7 @@ ghost use Rattle.std.specs.Prelude.{◌≡◌, ◌+◌, ◌≤◌, ℕ, List, �
 ghost use Rattle.obj_area.specs.Words.{AreWords};
 ghost use Rattle.obj_layout.specs.ps_outside.Outside.{SameContents};
 ghost use Rattle.obj_layout.specs.Stored.{Holds, IsHeaded, damage};
-ghost use Rattle.obj_layout.specs.Storing.{IsStoreCall, reading};
+ghost use Rattle.obj_layout.specs.Storing.{IsStoreCall, reading, SameNumbers};
 ghost use Rattle.obj_layout.specs.Header.{HasFitFields, HasFitLengths, header_words, object_length};
 ghost use Rattle.swizzle.specs.Damaged.{IsStoredFault, far_damage, near_word};
 ghost use Rattle.swizzle.specs.Fetched.{near_header, IsFar, IsFetched};
@@ -30,7 +30,7 @@ pub fn fetch_near<V: Vault>(
     ensures same { SameContents (V.outside vault.old) (V.outside vault.new) }
     ensures sound { OnOk result ((words : List ℕ) → Holds (V.outside vault.old) pid words → far_damage words ≡ None) }
     ensures fault { IfErr result (IsStoredFault (V.outside vault.old) pid) }
-    ensures numbers { (V.used_words vault.new ≡ V.used_words vault.old) × (V.directory_at vault.new ≡ V.directory_at vault.old) × (V.most_words vault.new ≡ V.most_words vault.old) }
+    ensures numbers { SameNumbers V.used_words V.directory_at V.most_words vault.old vault.new }
     ensures alive { OnOk result (V.alive vault.new) }
 {
     if let Err(fault) = vault.fetch(pid, buffer) {

@@ -5,6 +5,7 @@ ghost use Rattle.obj_layout.specs.Reference.{IsReference, reference_word};
 ghost use Rattle.swizzle.specs.Objects.{HasRoomForBytes, object_words, words_before as before};
 ghost use Rattle.swizzle.specs.Heap.{IsHeap, IsHeld, IsMade, IsFull, Stands, local_of, fresh_heap, top_of, header_at, ref_at, num_at, with_num, with_ref, with_mark, with_no_marks, blank, reference_to};
 ghost use Rattle.obj_layout.specs.Stored.{Holds};
+ghost use Rattle.obj_layout.specs.Storing.{SameNumbers};
 ghost use Rattle.swizzle.specs.Joint.{Joint, name_of};
 ghost use Rattle.swizzle.specs.Text.{HasBytes, text_at, with_text};
 ghost use Rattle.swizzle.specs.Changes.{Touched};
@@ -477,7 +478,7 @@ impl Swizzle {
         ensures near { (at : ℕ) → local_of self.old pid ≡ Some at → (self.new ≡ self.old) × (vault.new ≡ vault.old) }
         ensures call { IsTouchCall self.old self.new (V.outside vault.old) (V.outside vault.new) result }
         ensures fault { IfErr result (IsTouchFault self.old (V.outside vault.old) (Reference.Pid pid)) }
-        ensures numbers { (V.used_words vault.new ≡ V.used_words vault.old) × (V.directory_at vault.new ≡ V.directory_at vault.old) × (V.most_words vault.new ≡ V.most_words vault.old) }
+        ensures numbers { SameNumbers V.used_words V.directory_at V.most_words vault.old vault.new }
         ensures alive { OnOk result (V.alive vault.new) }
     {
         if let Some(at) = self.find(pid) {
@@ -528,7 +529,7 @@ impl Swizzle {
         ensures near { IsNear self.old (name_of self.old (ref_at self.old object slot)) → (top_of self.new ≡ top_of self.old) × (vault.new ≡ vault.old) }
         ensures call { IsTouchCall self.old self.new (V.outside vault.old) (V.outside vault.new) result }
         ensures fault { IfErr result (IsTouchFault self.old (V.outside vault.old) (ref_at self.old object slot)) }
-        ensures numbers { (V.used_words vault.new ≡ V.used_words vault.old) × (V.directory_at vault.new ≡ V.directory_at vault.old) × (V.most_words vault.new ≡ V.most_words vault.old) }
+        ensures numbers { SameNumbers V.used_words V.directory_at V.most_words vault.old vault.new }
         ensures alive { OnOk result (V.alive vault.new) }
     {
         self.sound();
