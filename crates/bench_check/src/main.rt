@@ -3,10 +3,10 @@
 #![tactic(auto)]
 
 use anyhow::Result;
+use parsed_texts::ps_tree::rough::Rough;
 use parsed_texts::{TextFault, tree_of};
 use ps_check::check::check;
 use ps_port::{DirShelf, Shelf};
-use ps_tree::rough::Rough;
 use std::alloc::Global;
 use std::env;
 

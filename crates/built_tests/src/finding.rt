@@ -1,10 +1,10 @@
 //! The program of a text searched for the first call of the library that isn't built.
 
+use parsed_texts::ps_base::line::Line;
+use parsed_texts::ps_tree::rough::Rough;
 use parsed_texts::tree_of;
-use ps_base::line::Line;
 use ps_built::first_unbuilt_library;
 use ps_check::check::check;
-use ps_tree::rough::Rough;
 use table_rows::Buffer;
 
 /// Writes the line of the first call of the library in the program of a text that isn't built, as `line` and its number, or `none`.

@@ -5,7 +5,7 @@
 mod finding;
 
 use crate::finding::{put_library_found, put_library_in_chain};
-use anyhow::Result;
+use table_rows::anyhow::Result;
 use table_rows::{Buffer, Tables};
 
 // Programs, each after the line of the first call of the library that isn't built, or `none`.

@@ -2,7 +2,7 @@ use memory_vault::obj_layout::vault::VaultFault;
 use proc_values::heap_texts::fault::OpFault;
 use proc_values::swizzle::fault::SwizzleFault;
 use row_words::put_number;
-use table_rows::Buffer;
+use row_words::table_rows::Buffer;
 
 /// Writes what a call ended in that gave nothing.
 pub fn put_fault(out: &mut Buffer, fault: OpFault) {

@@ -44,8 +44,8 @@ mod table;
 mod value;
 
 use crate::table::compare_rows;
-use anyhow::Result;
-use table_rows::Tables;
+use row_words::anyhow::Result;
+use row_words::table_rows::Tables;
 
 /// The files of the tables: what is fetched, structures, vectors, code, and vectors that fill an area.
 const TABLES: [&str; 5] = [

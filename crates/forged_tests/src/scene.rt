@@ -21,9 +21,9 @@ use proc_values::reading::{constant, instr_at};
 use proc_values::swizzle::fault::SwizzleFault;
 use proc_values::swizzle::swizzle::Swizzle;
 use proc_values::text_forms::forms::{Form, Located, locate};
+use row_words::table_rows::Buffer;
 use row_words::{index_of, int_of};
 use std::alloc::Global;
-use table_rows::Buffer;
 
 // One more than the greatest PID.
 const PIDS: u64 = 1 << 63;

@@ -3,12 +3,12 @@ ghost use Rattle.std.specs.Prelude.{◌≡◌, true, IfSome};
 
 use crate::call::Call;
 use crate::scene::{put_answer, store_of};
-use anyhow::Result;
 use memory_vault::memory::MemoryVault;
 use proc_values::swizzle::swizzle::Swizzle;
+use row_words::anyhow::Result;
+use row_words::table_rows::{Buffer, Row, Tables};
 use row_words::{area_of, words_of};
 use std::alloc::Global;
-use table_rows::{Buffer, Row, Tables};
 
 /// The head of a row that names words.
 const NAMES: &[u8] = b"names";

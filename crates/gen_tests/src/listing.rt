@@ -1,13 +1,13 @@
 //! The unit of a text, as lines of text: each instruction by its name and its operands, then the constants and the frame.
 
 use crate::buffer::Buffer;
+use parsed_texts::ps_base::code_unit::{CodeUnit, Constant};
+use parsed_texts::ps_tree::rough::Rough;
 use parsed_texts::{TextFault, tree_of};
-use ps_base::code_unit::{CodeUnit, Constant};
 use ps_check::check::check;
 use ps_gen::generate::generate;
 use ps_gen::ps_code::decode::decode;
 use ps_gen::ps_code::table::rows;
-use ps_tree::rough::Rough;
 use std::alloc::Global;
 use std::test::Fail;
 

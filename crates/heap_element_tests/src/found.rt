@@ -7,8 +7,8 @@ use crate::near::near;
 use crate::told::{put_assigned, put_fault, put_value, put_vector};
 use crate::vectors::{got, put, repeated, vector_of};
 use heap_ops::swizzle::swizzle::Swizzle;
+use row_words::table_rows::Buffer;
 use row_words::{Words, parted};
-use table_rows::Buffer;
 
 /// Writes what is found of these lines: the text of a type, a vector, and a call if there is one.
 pub fn put_found(out: &mut Buffer, field: &[u8]) {

@@ -30,8 +30,8 @@ mod value;
 mod vectors;
 
 use crate::found::put_found;
-use anyhow::Result;
-use table_rows::{Buffer, Tables};
+use row_words::anyhow::Result;
+use row_words::table_rows::{Buffer, Tables};
 
 /// The files of the tables: vectors of one value and of lists, and what is read of elements, written to them, and refused.
 const TABLES: [&str; 5] = [

@@ -10,7 +10,7 @@ use memory_vault::obj_layout::header::Header;
 use memory_vault::obj_layout::kind::Kind;
 use memory_vault::obj_layout::reference::Reference;
 use memory_vault::obj_layout::vault::VaultFault;
-use table_rows::Buffer;
+use row_words::table_rows::Buffer;
 
 /// Writes a vector as it lies: its references and its number words, and before them its header where it isn't that of a new vector.
 pub fn put_vector(out: &mut Buffer, sw: &Swizzle, vector: u32)

@@ -1,11 +1,11 @@
 //! The first fault of a text, as a line of text.
 
+use parsed_texts::ps_base::line::Line;
+use parsed_texts::ps_tree::fault::ParseFault;
 use parsed_texts::{TextFault, tree_of};
-use ps_base::line::Line;
-use ps_tree::fault::ParseFault;
 use row_words::parted;
+use row_words::table_rows::Buffer;
 use std::alloc::Global;
-use table_rows::Buffer;
 
 /// Writes the first fault of a text as its number, `@` and its line, and the token that is unexpected where one is; or `none`.
 pub fn put_fault(out: &mut Buffer, text: &[u8]) {

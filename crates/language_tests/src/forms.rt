@@ -1,20 +1,20 @@
 //! Each form of the tree, made of its parts: the clauses `a`, `b`, `c` and `d`, which are names on line 1, and others beside them.
 
 use crate::show::put_shown;
-use ps_base::bytes::Bytes;
-use ps_base::line::Line;
-use ps_base::operator::{Operator, Relation};
-use ps_base::ty::Ty;
-use ps_tree::build::{
+use parsed_texts::ps_base::bytes::Bytes;
+use parsed_texts::ps_base::line::Line;
+use parsed_texts::ps_base::operator::{Operator, Relation};
+use parsed_texts::ps_base::ty::Ty;
+use parsed_texts::ps_tree::build::{
     apply, arm_of, assign, bound_of, case_of, compare, elems, for_of, form_at, group_of, if_do,
     if_else, is_of, item_of, join, let_of, name_of, negation, not, part_of, plus, proc_of,
     procedure_type, repeat_of, sequence, structure_of, vector_of, vector_type, while_of, write_of,
 };
-use ps_tree::fault::ParseFault;
-use ps_tree::ps_symbols::kind::Operation;
-use ps_tree::rough::{Group, Named, Rough, RoughArm, RoughForm, RoughItem};
+use parsed_texts::ps_tree::fault::ParseFault;
+use parsed_texts::ps_tree::ps_symbols::kind::Operation;
+use parsed_texts::ps_tree::rough::{Group, Named, Rough, RoughArm, RoughForm, RoughItem};
+use row_words::table_rows::Buffer;
 use std::alloc::{AllocError, Global};
-use table_rows::Buffer;
 
 const LINE: Line = Line(2);
 

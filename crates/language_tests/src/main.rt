@@ -9,8 +9,8 @@ mod show;
 use crate::faults::{put_fault, put_fault_of_levels, put_faults_at_the_limit};
 use crate::forms::put_form;
 use crate::show::put_tree;
-use anyhow::Result;
-use table_rows::{Buffer, Row, Tables};
+use row_words::anyhow::Result;
+use row_words::table_rows::{Buffer, Row, Tables};
 
 /// What the rows of a table are.
 #[derive(Clone, Copy)]

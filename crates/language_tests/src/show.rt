@@ -1,11 +1,11 @@
 //! The tree of a text as a line of text.
 
+use parsed_texts::ps_base::line::Line;
+use parsed_texts::ps_base::operator::{Operator, Relation};
+use parsed_texts::ps_base::ty::Ty;
+use parsed_texts::ps_tree::rough::{Group, Named, Rough, RoughArm, RoughForm, RoughItem};
 use parsed_texts::{TextFault, tree_of};
-use ps_base::line::Line;
-use ps_base::operator::{Operator, Relation};
-use ps_base::ty::Ty;
-use ps_tree::rough::{Group, Named, Rough, RoughArm, RoughForm, RoughItem};
-use table_rows::Buffer;
+use row_words::table_rows::Buffer;
 
 /// A word or a sign, with its line.
 fn mark(out: &mut Buffer, mark: &str, line: Line) {

@@ -1,11 +1,9 @@
 -- Entries of fields that are so.
 use Rattle.std.proofs.Common.{inl, inr, ◌≡◌, ℕ, zero, suc, ◌<◌, ◌≤◌, ◌⊎◌, List, [], ◌∷◌, length, set, replicate, get_or, take, ◌++◌, sym, ap, ◌∙◌, arith, subst}
-use Rattle.joint_ops.specs.obj_layout.declared.kind.Kind.{Kind}
 use Rattle.joint_ops.specs.obj_layout.declared.kind.Kind.TheVariants.{Text}
 use Rattle.joint_ops.specs.obj_layout.declared.reference.Reference.TheVariants.{Local}
 use Rattle.joint_ops.specs.swizzle.Heap.{Heap, IsHeld, header_at, ref_at}
 use Rattle.joint_ops.specs.swizzle.Joint.{Shown, shown_at, name_of}
-use Rattle.joint_ops.specs.swizzle.Text.{text_at}
 use Rattle.joint_ops.specs.swizzle.Reading.{TextsStay}
 use Rattle.joint_ops.specs.text_forms.Forms.{forms_of, located_in}
 use Rattle.joint_ops.specs.heap_places.Shapes.{slot_of, shown_text}

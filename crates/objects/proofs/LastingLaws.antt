@@ -1,5 +1,5 @@
 -- What stays of the objects of the area.
-use Rattle.std.proofs.Common.{◌≡◌, ℕ, refl, sym, ap, ◌∙◌, subst, Option, Some, None}
+use Rattle.std.proofs.Common.{◌≡◌, ℕ, refl, sym, ap, ◌∙◌, subst}
 use Rattle.joint_ops.specs.swizzle.Heap.{Heap, IsHeld}
 use Rattle.joint_ops.specs.swizzle.Joint.{Shown}
 use Rattle.joint_ops.specs.swizzle.Text.{HasBytes}

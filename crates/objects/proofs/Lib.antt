@@ -1,3 +1,16 @@
 pub mod LastingLaws
 pub mod FieldEntries
+pub mod VectorEntries
+pub mod WrittenLaws
+pub mod ElementLaws
+pub mod BrokenLaws
 pub mod KnownLaws
+pub mod KeptElements
+pub mod NumberLaws
+pub mod ScopeLaws
+pub mod NamedLaws
+pub mod LaterLaws
+pub mod ReachedLaws
+pub mod PuttingLaws
+pub mod MadeLaws
+pub mod ClassLaws

@@ -1,5 +1,5 @@
 -- Fields of structures whose class is a constant of a code object: what is known of them.
-use Rattle.std.specs.Prelude.{◌≡◌, ◌⊎◌, ℕ, ◌<◌, List, [], ◌∷◌, Some}
+use Rattle.std.specs.Prelude.{◌≡◌, ◌⊎◌, ℕ, ◌+◌, ◌<◌, List, [], ◌∷◌, Option, Some}
 use Rattle.joint_ops.specs.obj_layout.declared.kind.Kind.TheVariants.{Text, Code, Structure}
 use Rattle.joint_ops.specs.obj_layout.declared.reference.Reference.TheVariants.{Local}
 use Rattle.joint_ops.specs.swizzle.Heap as area
@@ -9,6 +9,8 @@ use Rattle.joint_ops.specs.swizzle.Text.{text_at}
 use Rattle.joint_ops.specs.swizzle.Touch.{Denotes}
 use Rattle.joint_ops.specs.text_forms.Forms.{forms_of, located_in}
 use Rattle.joint_ops.specs.heap_places.Shapes.{slot_of}
+use Rattle.joint_ops.specs.heap_places.Places.{HasPlace, Holds}
+use Rattle.joint_ops.specs.heap_places.declared.value.Value as code_value
 use Rattle.objects.specs.declared.known_fields.KnownField.{KnownField}
 
 -- a structure that refers to this object of the area first
@@ -45,3 +47,17 @@ pub record IsKnown (here : area.Heap) (code constant field text : ℕ) (known : 
   pub constant_is : known.constant ≡ constant
   pub field_is : known.field ≡ field
   pub so : IsSo here known
+
+-- A structure refers to the text of what is known of a field, and has the field's place.
+pub record IsReached (here : area.Heap) (code constant field at : ℕ) (known : KnownField) : Type 0 where
+  pub refers : RefersTo here at known.text
+  pub is : IsKnown here code constant field known.text known
+  pub place : HasPlace (shown_at here at) known.located.place.form (known.located.place.index + 1)
+
+-- The field of a structure, if it is one, is reached so, and has this value.
+pub record HasReached (here : area.Heap) (code constant field : ℕ) (object : Option ℕ) (value : code_value.Value) : Type 0 where
+  pub at : ℕ
+  pub object_is : object ≡ Some at
+  pub known : KnownField
+  pub reached : IsReached here code constant field at known
+  pub holds : Holds here (shown_at here at) known.located.place.form (known.located.place.index + 1) value

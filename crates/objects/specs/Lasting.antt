@@ -5,6 +5,8 @@ use Rattle.joint_ops.specs.swizzle.Heap.{Heap, IsHeld, header_at}
 use Rattle.joint_ops.specs.swizzle.Heap.{Stands as AllStand}
 use Rattle.joint_ops.specs.swizzle.Joint.{shown_at}
 use Rattle.joint_ops.specs.swizzle.Touch.{Stays}
+use Rattle.joint_ops.specs.heap_texts.declared.fault.OpFault.{OpFault}
+use Rattle.joint_ops.specs.heap_texts.declared.fault.OpFault.TheVariants.{Trap, Swizzle}
 use Rattle.joint_ops.specs.heap_places.Shapes.{slot_of, word_in}
 use Rattle.joint_ops.specs.proc_values.Loaded.{CodeStays}
 
@@ -21,3 +23,8 @@ pub record Lasts (old new : Heap) : Type 0 where
   pub code : CodeStays old new
   pub closures : (at : ℕ) → IsHeld old at → (header_at old at).kind ≡ Closure → Stays old new at
   pub bounds : (at : ℕ) → IsHeld old at → (header_at old at).kind ≡ Vector → KeepsBound old new at
+
+-- whatever stopped an operation, but for a full area or a refusal of the store
+abbrev pub UnlessBroken : OpFault → Type 0 → Type 0
+UnlessBroken (Trap trap) so = so
+UnlessBroken (Swizzle fault) so = Unit {0}

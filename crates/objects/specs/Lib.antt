@@ -1,4 +1,17 @@
 pub mod Lasting
 pub mod Fields
+pub mod Vectors
 pub mod Known
 pub mod Inside
+pub mod Classes
+pub mod Putting
+pub use Rattle.joint_ops.specs.text_forms as text_forms
+pub use Rattle.joint_ops.specs.ps_outside as ps_outside
+pub use Rattle.joint_ops.specs.ps_meaning as ps_meaning
+pub use Rattle.joint_ops.specs.obj_layout as obj_layout
+pub use Rattle.joint_ops.specs.swizzle as swizzle
+pub use Rattle.joint_ops.specs.heap_texts as heap_texts
+pub use Rattle.joint_ops.specs.heap_places as heap_places
+pub use Rattle.joint_ops.specs.heap_ops as heap_ops
+pub use Rattle.joint_ops.specs.proc_values as proc_values
+pub use Rattle.joint_ops.specs as joint_ops

@@ -2,8 +2,10 @@
 //! Each operation is said as the meaning says it.
 #![tactic(auto)]
 
+mod classes;
 mod known;
 mod known_fields;
+mod known_vectors;
 pub mod objects;
 mod places;
 

@@ -8,6 +8,15 @@ ghost use Rattle.joint_ops.specs.ps_meaning.Values as meant;
 ghost use Rattle.joint_ops.specs.World.{DenotesIn, IsWorld};
 ghost use Rattle.joint_ops.specs.Operands.{IsByObject, IsOfSort, IsSorted};
 
+mod fields;
+mod procedures;
+mod residence;
+mod scope_objects;
+mod structures;
+mod texts;
+mod units;
+mod vectors;
+
 use crate::known::Known;
 use joint_ops::obj_layout::vault::Vault;
 use joint_ops::swizzle::swizzle::Swizzle;

@@ -5,4 +5,6 @@ mod fault;
 mod tree;
 
 pub use fault::TextFault;
+pub use ps_base;
+pub use ps_tree;
 pub use tree::tree_of;

@@ -8,8 +8,8 @@
 mod answer;
 
 use answer::Commands;
-use anyhow::Result;
 use table_rows::Tables;
+use table_rows::anyhow::Result;
 
 const FILES: [&str; 36] = [
     "ints.rows",

@@ -7,4 +7,6 @@ pub mod words;
 
 pub use number::put_number;
 pub use objects::words_of;
+pub use table_rows;
+pub use table_rows::anyhow;
 pub use words::{Words, area_of, index_of, int_of, number_of, parted};

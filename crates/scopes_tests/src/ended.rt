@@ -1,7 +1,7 @@
 use memory_vault::obj_layout::vault::VaultFault;
 use row_words::put_number;
+use row_words::table_rows::Buffer;
 use scopes::swizzle::fault::SwizzleFault;
-use table_rows::Buffer;
 
 /// What a call ended in that gave nothing: a refusal. It is none where no call was made: it is no PID, or the value denotes an object.
 pub type Ended = Option<SwizzleFault>;

@@ -5,14 +5,14 @@ use crate::ended::put_ended;
 use crate::scene::{keep, kept, out_of, parent, store_of};
 use crate::seen::put_assigned;
 use crate::value::{put_value, value_of};
-use anyhow::Result;
 use memory_vault::memory::MemoryVault;
+use row_words::anyhow::Result;
+use row_words::table_rows::{Buffer, Row, Tables};
 use row_words::{Words, area_of, index_of, words_of};
 use scopes::heap_ops::layouts::Layouts;
 use scopes::heap_places::value::Value;
 use scopes::swizzle::swizzle::Swizzle;
 use std::alloc::Global;
-use table_rows::{Buffer, Row, Tables};
 
 /// The head of a row that names words.
 const NAMES: &[u8] = b"names";

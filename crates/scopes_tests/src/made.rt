@@ -4,10 +4,10 @@ ghost use Rattle.scopes.specs.heap_texts.Texts.{HoldsText};
 use crate::ended::put_ended;
 use crate::seen::put_seen;
 use crate::world::{area_with, scoped};
-use anyhow::Result;
+use row_words::anyhow::Result;
 use row_words::area_of;
+use row_words::table_rows::{Buffer, Row, Tables};
 use scopes::swizzle::swizzle::Swizzle;
-use table_rows::{Buffer, Row, Tables};
 
 /// The words of the area where a row says nothing of them.
 const WORDS: u32 = 60;

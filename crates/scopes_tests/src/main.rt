@@ -49,8 +49,8 @@ mod step;
 mod value;
 mod world;
 
-use anyhow::Result;
-use table_rows::Tables;
+use row_words::anyhow::Result;
+use row_words::table_rows::Tables;
 
 /// The tables of stores: what scopes keep, what is written to them, and the way out of them.
 const STORES: [&str; 3] = ["kept.rows", "put.rows", "ways.rows"];

@@ -7,11 +7,11 @@ use crate::seen::{put_assigned, put_seen};
 use crate::step::Step;
 use crate::value::put_value;
 use crate::world::World;
+use row_words::table_rows::{Buffer, Row, Tables};
 use scopes::heap_places::value::Value;
-use table_rows::{Buffer, Row, Tables};
 
 /// Compares each row of a file with what its steps give.
-pub fn compare(tables: &mut Tables, file: &str) -> anyhow::Result<()> {
+pub fn compare(tables: &mut Tables, file: &str) -> row_words::anyhow::Result<()> {
     for row in &tables.rows(file)? {
         let mut found = Buffer::new(tables.alloc);
         put_found(&mut found, row);

@@ -3,8 +3,8 @@ ghost use Rattle.scopes.specs.swizzle.Heap.{IsHeld};
 
 use memory_vault::obj_layout::header::Header;
 use memory_vault::obj_layout::reference::Reference;
+use row_words::table_rows::Buffer;
 use scopes::swizzle::swizzle::Swizzle;
-use table_rows::Buffer;
 
 /// Writes the place of a scope, its header, its references and number words as they lie, and what lies after them.
 pub fn put_seen(out: &mut Buffer, sw: &Swizzle, scope: u32)

@@ -1,6 +1,6 @@
+use row_words::table_rows::Buffer;
 use row_words::{Words, index_of, int_of};
 use scopes::heap_places::value::Value;
-use table_rows::Buffer;
 
 /// The value that all words spell that are left, if they spell one.
 pub fn value_of(mut words: Words<'_>) -> Option<Value> {

@@ -4,8 +4,8 @@ use crate::outcome::{put_run, put_told};
 use crate::settings::Settings;
 use ps_base::code_unit::CodeUnit;
 use std::alloc::{AllocError, Global};
-use table_rows::Buffer;
 use unit_rows::row_words::parted;
+use unit_rows::table_rows::Buffer;
 use unit_rows::{bytes_of, line_at};
 
 // How many calls the lines of a field name, of which the first one says what the run returns.

@@ -1,7 +1,7 @@
 use stack_machine::RunEnd;
 use stack_machine::load::NoRoom;
 use stack_machine::run::RunFault;
-use table_rows::Buffer;
+use unit_rows::table_rows::Buffer;
 
 /// What a run returned: its word, and the numbers after it.
 #[derive(Clone, Copy)]

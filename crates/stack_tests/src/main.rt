@@ -34,8 +34,8 @@ mod setting;
 mod settings;
 
 use crate::rows::compare_rows;
-use anyhow::{Context, Result};
-use table_rows::Tables;
+use unit_rows::table_rows::Tables;
+use unit_rows::table_rows::anyhow::{Context, Result};
 
 /// The file of the instructions.
 const INSTRUCTIONS: &str = "instructions.rows";

@@ -13,8 +13,8 @@ use stack_machine::load::{load, machine};
 use stack_machine::run::run;
 use stack_machine::vault_output::Output;
 use std::alloc::{AllocError, Global};
-use table_rows::Buffer;
 use unit_rows::put_line;
+use unit_rows::table_rows::Buffer;
 
 /// The bytes that the host of a test has room for.
 const ROOM: u64 = 262_144;

@@ -1,10 +1,10 @@
 use crate::calls::{put_calls_found, put_calls_wanted};
 use crate::outcome::{put_run, put_told};
 use crate::settings::Settings;
-use anyhow::Result;
 use ps_base::code_unit::CodeUnit;
-use table_rows::{Buffer, Row};
 use unit_rows::row_words::number_of;
+use unit_rows::table_rows::anyhow::Result;
+use unit_rows::table_rows::{Buffer, Row};
 use unit_rows::{RowKind, Table, bytes_of, line_at, unit_of, word_at};
 
 /// What the field of an input begins with.

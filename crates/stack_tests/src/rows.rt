@@ -1,7 +1,7 @@
 use crate::program::Program;
 use crate::settings::{PLAIN, Settings};
-use anyhow::{Context, Result};
-use table_rows::{Buffer, Row, Tables};
+use unit_rows::table_rows::anyhow::{Context, Result};
+use unit_rows::table_rows::{Buffer, Row, Tables};
 use unit_rows::{RowKind, Table};
 
 /// Compares each row of a file with what is found of it.

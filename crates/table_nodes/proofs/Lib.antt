@@ -1,5 +1,13 @@
 pub mod KeyLaws
 pub mod NodeLaws
+pub mod Seeking
+pub mod SoughtLaws
+pub mod MakeLaws
+pub mod MarkingLaws
+pub mod PutLaws
+pub mod FollowLaws
+pub mod Putting
+pub mod Removal
 pub mod StepLaws
 pub mod TurnLaws
 pub use Rattle.heap_places.proofs as of_heap_places

@@ -92,7 +92,7 @@ changed-then a b c n it new f g = record {
   no_more = λ m other ne h. f.no_more m other ne (g.no_more m other ne h);
 }
 
-changed-same : (a b c : Seen) (n : Reference) (it : Shown) → ChangedAt a n it b → Same b c → ChangedAt a n it c
+pub changed-same : (a b c : Seen) (n : Reference) (it : Shown) → ChangedAt a n it b → Same b c → ChangedAt a n it c
 changed-same a b c n it f s = record {
   there = s.grows n it f.there;
   alone = λ other h. f.alone other (s.no_more n other h);
@@ -120,7 +120,7 @@ written_from ks old new n it row one nodes c s =
 
 -- a slot or the height of a node was written
 
-key_like : (ks : Keys) (seen : Seen) (a b : Shown) (key : KeyOf ks) → word_in b 1 ≡ word_in a 1 → slot_of b 2 ≡ slot_of a 2 → IsKey ks seen a key → IsKey ks seen b key
+pub key_like : (ks : Keys) (seen : Seen) (a b : Shown) (key : KeyOf ks) → word_in b 1 ≡ word_in a 1 → slot_of b 2 ≡ slot_of a 2 → IsKey ks seen a key → IsKey ks seen b key
 key_like by_ints seen a b key w s k = ap int_in w ∙ k
 key_like by_texts seen a b key w s k = subst (λ n. IsText seen n key) (sym s) k
 
@@ -192,7 +192,7 @@ link_side heap (Some j) None m = absurd m
 shown_now : (a b : Heap) (outside : Outside Space) (at : ℕ) (it : Shown) → IsHeap b → IsHeld a at → Stands a b → ChangedAt (joint a outside) (name_at a at) it (joint b outside) → shown_at b at ≡ it
 shown_now a b outside at it h held s c = sym (seen_held b (Holds outside) at it h (s at held).held (subst (λ n. joint b outside n it) (sym (name_stands a b s at held)) c.there))
 
-renamed : (a b : Heap) (outside : Outside Space) (m n : Reference) (it : Shown) → m ≡ n → ChangedAt (joint a outside) m it (joint b outside) → ChangedAt (joint a outside) n it (joint b outside)
+pub renamed : (a b : Heap) (outside : Outside Space) (m n : Reference) (it : Shown) → m ≡ n → ChangedAt (joint a outside) m it (joint b outside) → ChangedAt (joint a outside) n it (joint b outside)
 renamed a b outside m n it e c = subst (λ k. ChangedAt (joint a outside) k it (joint b outside)) e c
 
 pub links : (h0 h1 h2 h3 h4 : Heap) (outside : Outside Space) (at : ℕ) (left right : Option ℕ) (height : ℕ) → IsNode h0 at → IsHeap h0 → IsHeap h1 → IsHeap h2 → IsHeap h3 → IsHeap h4

@@ -1,10 +1,10 @@
 -- What is known of nodes while a tree of them is changed.
-use Rattle.std.proofs.Common.{◌≡◌, ℕ, List, Option, Some, None, Result, Ok, Err, OnOk, refl, subst}
+use Rattle.std.proofs.Common.{◌≡◌, ℕ, List, Option, Some, None, Result, Ok, Err, OnOk, IfSome, refl, subst}
 use Rattle.heap_places.specs.ps_outside.Outside.{Outside}
 use Rattle.heap_places.specs.obj_layout.Stored.{Space, Holds}
 use Rattle.heap_places.specs.obj_layout.declared.reference.Reference.{Reference}
 use Rattle.heap_places.specs.swizzle.declared.fault.SwizzleFault.{SwizzleFault}
-use Rattle.heap_places.specs.swizzle.Heap.{Heap}
+use Rattle.heap_places.specs.swizzle.Heap.{Heap, IsHeap}
 use Rattle.heap_places.specs.swizzle.Reading.{joint}
 use Rattle.heap_places.proofs.of_swizzle.NameLaws.{Joint-one}
 use Rattle.avl_trees.specs.Trees.{Tree, leaf, node, height}
@@ -74,3 +74,17 @@ answers_touched ks old m new grows is t (Err fault) w = fetch_back old.outside m
 pub holds_after : (old m new : Place) → Touches old m → (result : Result ℕ SwizzleFault) → OnOk result (Keeps m.heap new.heap) → OnOk result (Keeps old.heap new.heap)
 holds_after old m new g (Ok root) w = record { nodes = λ at h. w.nodes at (g.nodes at h); named = λ at n h. w.named at n (g.named at n h) }
 holds_after old m new g (Err fault) w = tt
+
+-- what is so of each node of a side
+pub side_map : (P Q : ℕ → Type 0) → ((n : ℕ) → P n → Q n) → (side : Option ℕ) → IfSome side P → IfSome side Q
+side_map P Q f None h = tt
+side_map P Q f (Some n) h = f n h
+
+-- nodes that kept their names keep them over a further step
+pub holds_over : {T : Type 0} (old mid new : Heap) → Keeps old mid → (result : Result T SwizzleFault) → OnOk result (Keeps mid new) → OnOk result (Keeps old new)
+holds_over old mid new f (Ok x) g = record { nodes = λ at h. g.nodes at (f.nodes at h); named = λ at n h. g.named at n (f.named at n h) }
+holds_over old mid new f (Err fault) g = tt
+
+-- nothing was touched
+pub touches_none : (p : Place) → IsHeap p.heap → Touches p p
+touches_none p h = record { rows = λ ks n row k. k; nodes = λ at k. k; named = λ at n k. k; heap = h; contents = record { kept = λ x k. k; no_other = λ x k. k } }

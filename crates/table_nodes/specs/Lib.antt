@@ -1,5 +1,11 @@
+pub mod Entering
+pub mod Following
 pub mod Keys
+pub mod Making
 pub mod Nodes
+pub mod Removing
+pub mod Searching
+pub mod Sought
 pub mod Steps
 pub use Rattle.heap_places.specs as heap_places
 pub use Rattle.avl_trees.specs as avl_trees

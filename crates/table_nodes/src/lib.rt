@@ -1,8 +1,16 @@
 //! The nodes of tables' search trees, as objects of the area that are fetched from a vault.
 #![tactic(auto)]
 
+pub mod enter;
+pub mod follow;
+pub mod keys;
+pub mod make;
 pub mod nodes;
+pub mod opening;
+pub mod remove;
+pub mod search;
 mod turns;
 
 pub use avl_trees;
+pub use counted_steps;
 pub use heap_places;

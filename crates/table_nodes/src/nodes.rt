@@ -1,8 +1,11 @@
-ghost use Rattle.std.specs.Prelude.{◌≡◌, ℕ, ◌<◌, ◌≤◌, true, false, None, Some, IfOk, IfErr, IfSome, OnOk};
+ghost use Rattle.std.specs.Prelude.{◌≡◌, ◌⊎◌, ℕ, ◌<◌, ◌≤◌, true, false, None, Some, IfOk, IfErr, IfSome, OnOk};
 ghost use Rattle.heap_places.specs.obj_layout.declared.reference.Reference.{Reference as Name};
-ghost use Rattle.heap_places.specs.swizzle.Heap.{IsHeld};
+ghost use Rattle.heap_places.specs.swizzle.Heap.{IsHeld, IsListed};
+ghost use Rattle.heap_places.specs.swizzle.Touch.{Keeps};
 ghost use Rattle.table_nodes.specs.Nodes.{IsNode, IsNamed, IsLinked, IsSide, IsSlot, HasSides, Seat, Grows, Links, IsFetchFault, rows_in, side_of};
+ghost use Rattle.table_nodes.specs.Entering.{Puts};
 ghost use Rattle.table_nodes.specs.Keys.{Keys};
+ghost use Rattle.table_nodes.specs.Searching.{ReadsValue};
 
 use heap_places::obj_layout::kind::Kind;
 use heap_places::obj_layout::reference::Reference;
@@ -48,6 +51,7 @@ pub fn side<V: Vault>(
     ensures side { (ks : Keys) (n : Name) (row : Seat ks) → IsNamed sw.old at n → rows_in ks sw.old (V.outside vault.old) n row → IfOk result (λ side. IsLinked sw.new side (side_of slot row)) }
     ensures sound { (ks : Keys) (n : Name) (row : Seat ks) → IsNamed sw.old at n → rows_in ks sw.old (V.outside vault.old) n row → IsSide ks sw.old (V.outside vault.old) (side_of slot row) → IfErr result (IsFetchFault (V.outside vault.old)) }
     ensures grows { OnOk result (Grows sw.old sw.new (V.outside vault.old) (V.outside vault.new)) }
+    ensures keeps { OnOk result (Keeps sw.old sw.new) }
     ensures alive { OnOk result (V.alive vault.new) }
 {
     sw.sound();
@@ -68,11 +72,35 @@ pub fn side<V: Vault>(
     }
 }
 
-// Whether a slot of a node denotes this side.
+/// The object of a node's value. It is fetched where it isn't in the area.
+pub fn value<V: Vault>(sw: &mut Swizzle, vault: &mut V, at: u32) -> Result<u32, SwizzleFault>
+    requires alive { V.alive vault.old }
+    requires node { IsNode sw.old at }
+    ensures held { IfOk result (IsHeld sw.new) }
+    ensures read { ReadsValue sw.old sw.new (V.outside vault.old) at result }
+    ensures grows { OnOk result (Grows sw.old sw.new (V.outside vault.old) (V.outside vault.new)) }
+    ensures keeps { OnOk result (Keeps sw.old sw.new) }
+    ensures alive { OnOk result (V.alive vault.new) }
+{
+    sw.sound();
+    match sw.touch_slot(vault, at, 3) {
+        Ok(Some(value)) => {
+            sw.sound();
+            Ok(value)
+        }
+        Ok(None) => {
+            sw.sound();
+            Err(damaged(sw, at, 0, 1))
+        }
+        Err(fault) => Err(fault),
+    }
+}
+
+// Whether a slot of a node denotes this object, or none.
 fn denotes(sw: &Swizzle, at: u32, slot: u32, side: Option<u32>) -> bool
     requires node { IsNode sw.now at }
-    requires slot { slot < 2 }
-    requires side { IfSome side (IsNode sw.now) }
+    requires slot { slot < 4 }
+    requires side { IfSome side (IsHeld sw.now) }
     ensures yes { result ≡ true → IsSlot sw.now at slot side }
     ensures no { result ≡ false → IsSlot sw.now at slot side → ⊥ }
 {
@@ -99,12 +127,43 @@ pub fn link<V: Vault>(
     requires right { IfSome right (IsNode sw.old) }
     ensures linked { Links sw.old sw.new (V.outside vault.now) at left right height }
     ensures still { HasSides sw.old at left right height → sw.new ≡ sw.old }
+    ensures marked { HasSides sw.old at left right height ⊎ IsListed at sw.new.assigned }
 {
     sw.sound();
     if denotes(sw, at, 0, left) && denotes(sw, at, 1, right) && sw.num(at, 2) == height {
         return;
     }
     write_sides(sw, vault, at, left, right, height);
+}
+
+/// Gives a node another value, and notes it as assigned. Where it has that value already, the area stays.
+pub fn put<V: Vault>(sw: &mut Swizzle, vault: &V, at: u32, value: u32)
+    requires node { IsNode sw.old at }
+    requires value { IsHeld sw.old value }
+    ensures put { Puts sw.old sw.new (V.outside vault.now) at value }
+    ensures still { IsSlot sw.old at 3 (Some value) → sw.new ≡ sw.old }
+    ensures marked { IsSlot sw.old at 3 (Some value) ⊎ IsListed at sw.new.assigned }
+{
+    sw.sound();
+    if denotes(sw, at, 3, Some(value)) {
+        return;
+    }
+    write_value(sw, vault, at, value);
+}
+
+// Writes the value of a node, and notes it as assigned.
+fn write_value<V: Vault>(sw: &mut Swizzle, vault: &V, node: u32, value: u32)
+    requires node { IsNode sw.old node }
+    requires value { IsHeld sw.old value }
+    ensures put { Puts sw.old sw.new (V.outside vault.now) node value }
+    ensures marked { IsListed node sw.new.assigned }
+{
+    let _ = vault;
+    sw.sound();
+    sw.set_ref(node, 3, Some(value));
+    sw.sound();
+    sw.mark(node);
+    sw.sound();
 }
 
 // Writes the sides and the height of a node, and notes it as assigned.
@@ -119,7 +178,8 @@ fn write_sides<V: Vault>(
     requires node { IsNode sw.old at }
     requires left { IfSome left (IsNode sw.old) }
     requires right { IfSome right (IsNode sw.old) }
-    ensures { Links sw.old sw.new (V.outside vault.now) at left right height }
+    ensures linked { Links sw.old sw.new (V.outside vault.now) at left right height }
+    ensures marked { IsListed at sw.new.assigned }
 {
     let _ = vault;
     sw.sound();

@@ -1,4 +1,5 @@
 ghost use Rattle.std.specs.Prelude.{◌≡◌, IfOk, IfSome, OnOk, Some};
+ghost use Rattle.heap_places.specs.ps_outside.Outside.{SameContents};
 ghost use Rattle.table_nodes.specs.Nodes.{IsNode};
 ghost use Rattle.table_nodes.specs.Steps.{place, SetsSides, TurnsInner, TurnsRight, TurnsOuter, TurnsLeft, Balances, Holds};
 
@@ -37,6 +38,7 @@ fn turn_right<V: Vault>(
     ensures turned { TurnsRight (place sw.old (V.outside vault.old)) (place sw.new (V.outside vault.new)) at left right result }
     ensures root { IfOk result (IsNode sw.new) }
     ensures held { OnOk result (Holds sw.old sw.new) }
+    ensures contents { OnOk result (SameContents (V.outside vault.old) (V.outside vault.new)) }
     ensures alive { OnOk result (V.alive vault.new) }
 {
     let outer = match side(sw, vault, left, 0) {
@@ -74,6 +76,7 @@ fn turn_inner<V: Vault>(
     ensures turned { TurnsInner (place sw.old (V.outside vault.old)) (place sw.new (V.outside vault.new)) at left outer inner right result }
     ensures root { IfOk result (IsNode sw.new) }
     ensures held { OnOk result (Holds sw.old sw.new) }
+    ensures contents { OnOk result (SameContents (V.outside vault.old) (V.outside vault.new)) }
     ensures alive { OnOk result (V.alive vault.new) }
 {
     let Some(middle) = inner else {
@@ -108,6 +111,7 @@ fn turn_left<V: Vault>(
     ensures turned { TurnsLeft (place sw.old (V.outside vault.old)) (place sw.new (V.outside vault.new)) at left right result }
     ensures root { IfOk result (IsNode sw.new) }
     ensures held { OnOk result (Holds sw.old sw.new) }
+    ensures contents { OnOk result (SameContents (V.outside vault.old) (V.outside vault.new)) }
     ensures alive { OnOk result (V.alive vault.new) }
 {
     let inner = match side(sw, vault, right, 0) {
@@ -145,6 +149,7 @@ fn turn_outer<V: Vault>(
     ensures turned { TurnsOuter (place sw.old (V.outside vault.old)) (place sw.new (V.outside vault.new)) at right left inner outer result }
     ensures root { IfOk result (IsNode sw.new) }
     ensures held { OnOk result (Holds sw.old sw.new) }
+    ensures contents { OnOk result (SameContents (V.outside vault.old) (V.outside vault.new)) }
     ensures alive { OnOk result (V.alive vault.new) }
 {
     let Some(middle) = inner else {
@@ -164,8 +169,8 @@ fn turn_outer<V: Vault>(
     Ok(middle)
 }
 
-// Gives a node these sides, and lets one go up where it is higher by two. Answers the root.
-fn balance<V: Vault>(
+/// Gives a node these sides, and lets one go up where it is higher by two. Answers the root.
+pub fn balance<V: Vault>(
     sw: &mut Swizzle,
     vault: &mut V,
     at: u32,
@@ -179,6 +184,7 @@ fn balance<V: Vault>(
     ensures balanced { Balances (place sw.old (V.outside vault.old)) (place sw.new (V.outside vault.new)) at left right result }
     ensures root { IfOk result (IsNode sw.new) }
     ensures held { OnOk result (Holds sw.old sw.new) }
+    ensures contents { OnOk result (SameContents (V.outside vault.old) (V.outside vault.new)) }
     ensures alive { OnOk result (V.alive vault.new) }
 {
     let before = height(sw, &*vault, left);

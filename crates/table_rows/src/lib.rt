@@ -10,6 +10,7 @@ pub mod report;
 pub mod row;
 pub mod tables;
 
+pub use anyhow;
 pub use buffer::Buffer;
 pub use report::Report;
 pub use row::{Row, rows_of};

@@ -1,15 +1,15 @@
 //! A text checked, and what is answered as a line of text: the tree of a text that fits, or the fault of one that doesn't.
 
 use crate::show::put_shown;
+use parsed_texts::ps_base::line::Line;
+use parsed_texts::ps_base::ty::Ty;
+use parsed_texts::ps_tree::rough::Rough;
 use parsed_texts::tree_of;
-use ps_base::line::Line;
-use ps_base::ty::Ty;
 use ps_check::check::check;
 use ps_check::ps_declared::fault::CheckFault;
 use ps_program::body::Body;
-use ps_tree::rough::Rough;
 use ps_type_text::type_text;
-use table_rows::Buffer;
+use row_words::table_rows::Buffer;
 
 /// What is told of a text that fits the typing rules.
 #[derive(Clone, Copy)]

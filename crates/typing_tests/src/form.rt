@@ -1,14 +1,14 @@
 //! A form of a typed tree as text, but for the clauses in it.
 
 use crate::checking::put_type;
-use ps_base::bytes::Bytes;
-use ps_base::line::Line;
-use ps_base::operator::{Operator, Relation};
-use ps_base::ty::Ty;
+use parsed_texts::ps_base::bytes::Bytes;
+use parsed_texts::ps_base::line::Line;
+use parsed_texts::ps_base::operator::{Operator, Relation};
+use parsed_texts::ps_base::ty::Ty;
 use ps_program::body::Body;
 use ps_program::form::TreeForm;
 use ps_program::place::Place;
-use table_rows::Buffer;
+use row_words::table_rows::Buffer;
 
 /// Writes a form: its word, and what it has of a scope, a line, a class, numbers, a place and a type.
 pub fn put_form(out: &mut Buffer, form: &TreeForm) {

@@ -1,8 +1,8 @@
 //! A text of literals inside one another, which is made with its tree, since each literal has a type as long as those in it.
 
 use crate::patterns::put_pieces;
+use row_words::table_rows::Buffer;
 use std::alloc::Global;
-use table_rows::Buffer;
 
 /// So many literals inside one another, of which the innermost mentions the parameters of all.
 pub fn text_of_literals(alloc: Global, count: usize) -> Buffer {

@@ -11,8 +11,8 @@ mod show;
 use crate::checking::{Telling, put_answer};
 use crate::literals::{put_literal_trees, text_of_literals};
 use crate::patterns::text_of;
-use anyhow::Result;
-use table_rows::{Buffer, Row, Tables};
+use row_words::anyhow::Result;
+use row_words::table_rows::{Buffer, Row, Tables};
 
 /// What the rows of a table are.
 #[derive(Clone, Copy)]

@@ -1,8 +1,8 @@
 //! Texts that repeat their pieces.
 
 use row_words::parted;
+use row_words::table_rows::{Buffer, Row};
 use std::alloc::Global;
-use table_rows::{Buffer, Row};
 
 /// The most pieces of a pattern.
 const MOST_PIECES: usize = 8;

@@ -3,7 +3,7 @@
 use crate::form::put_form;
 use ps_program::form::{Arm, Tree, TreeForm};
 use ps_program::parts::{Further, Parts};
-use table_rows::Buffer;
+use row_words::table_rows::Buffer;
 
 /// What is still to be told.
 #[derive(Clone, Copy)]

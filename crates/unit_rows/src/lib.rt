@@ -29,6 +29,7 @@ mod words;
 pub use lexicon::Lexicon;
 pub use row_kind::RowKind;
 pub use row_words;
+pub use row_words::table_rows;
 pub use table::Table;
 pub use text_form::{bytes_of, put_line};
 pub use unit::unit_of;

@@ -1,4 +1,4 @@
-use table_rows::Row;
+use row_words::table_rows::Row;
 
 /// What a row of a table of units is.
 #[derive(Clone, Copy)]

@@ -1,9 +1,9 @@
 //! Bytes as a line of text: `\n` is the end of a line, `\\` is `\`, `\x` and two digits is the byte of that number in hex, `\` with a number,
 //! `*` and a byte is so many of that byte, and any other byte stands for itself.
 
+use row_words::table_rows::Buffer;
 use row_words::{number_of, parted};
 use std::alloc::{AllocError, Global};
-use table_rows::Buffer;
 
 /// So many equal bytes are written as a number of them.
 const LONG_RUN: usize = 20;

@@ -8,9 +8,9 @@ use anyhow::{Context, Result, bail};
 use ps_base::bytes::Bytes;
 use ps_base::code_unit::{CodeUnit, Constant, Frame};
 use ps_base::list::List;
+use row_words::table_rows::Row;
 use row_words::{number_of, parted};
 use std::alloc::{AllocError, Global};
-use table_rows::Row;
 
 /// What the field of a body begins with.
 const BODY: &[u8] = b"body ";

@@ -6,3 +6,4 @@ mod Cutting
 mod Worked
 mod ProcedureRows
 mod TableRows
+mod UnfitRows

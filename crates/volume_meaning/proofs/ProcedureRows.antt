@@ -24,12 +24,11 @@ use Rattle.heap_meaning.specs.proc_values.Units.{frame_word}
 use Rattle.heap_meaning.specs.proc_values.Loaded.{IsFitUnit}
 use Rattle.ps_code_laws.specs.text_forms.Forms.{forms_of, forms_from, form_here, begins}
 use Rattle.ps_code_laws.specs.ps_meaning.Values.{Value, Procedure, as_written}
-use Rattle.ps_code_laws.specs.ps_meaning.Objects.{Structure}
 use Rattle.ps_code_laws.specs.Compiled.{compiled_routine, compiled_all}
 use Rattle.heap_meaning.specs.Units.{IsUnitSeen, shown_code}
 use Rattle.heap_meaning.specs.Standing.{AreFor, StandsForProcedure}
 use Rattle.heap_meaning.specs.Paired.{paired}
-use Rattle.volume_meaning.specs.Kept.{Thing, an_object}
+use Rattle.heap_fit.specs.database_meaning.Objects.{Object, Structure}
 use Rattle.volume_meaning.specs.Space.{IsStored, SeenIn, with_tables}
 use Rattle.volume_meaning.specs.Stands.{IsThing}
 use Rattle.volume_meaning.proofs.Seen.{seen-one, seen-itself}
@@ -131,8 +130,8 @@ giving n = body [] types.Int (node.Int (pos n)) None (record { 0 = 1 })
 abbrev values : ℕ → List Value
 values n = Procedure (as_written (giving n)) None ∷ []
 
-abbrev holding : ℕ → Thing
-holding n = an_object (Structure (codes "p(proc(->int) f)") (values n))
+abbrev holding : ℕ → Object
+holding n = Structure (codes "p(proc(->int) f)") (values n)
 
 int-fits : (n : ℕ) → n < 2 ^ 31 → FitsSigned w32 (pos n)
 int-fits n low = fits_signed_from_abs w32 (pos n) low

@@ -12,7 +12,7 @@ use Rattle.heap_meaning.specs.swizzle.Joint.{Shown, shown_words}
 use Rattle.heap_meaning.specs.heap_places.Words.{int_in}
 use Rattle.heap_meaning.specs.Standing.{IsKindOf}
 use Rattle.heap_meaning.specs.Paired.{paired}
-use Rattle.volume_meaning.specs.Kept.{Entry, by_ints, without_keys}
+use Rattle.heap_fit.specs.database_meaning.Tables.{Entry, by_ints, without_keys, cardinality}
 use Rattle.volume_meaning.specs.Space.{IsStored, SeenIn, with_tables}
 use Rattle.volume_meaning.specs.Tables.{IsNode, IsIntKey, IsTable}
 use Rattle.volume_meaning.proofs.Cutting.{pid, at, space_with, is-object, Follow, seen-there}
@@ -118,7 +118,7 @@ node-is next word key spelled = record {
 }
 
 two_keys : IsTable (SeenIn space) (paired names) table_shown (by_ints (under (negsuc 0) ∷ under (pos 5) ∷ []))
-unfolding int_in
+unfolding int_in cardinality
 two_keys = record {
   kind_is = refl;
   root = Pid 9;
@@ -138,11 +138,12 @@ two_keys = record {
       ),
     ),
   );
-  ordered = ((omega arith, tt), (tt, tt));
+  ordered = ((refl, tt), (tt, tt));
 }
 
 no_keys : IsTable (SeenIn space) (paired names) empty_shown without_keys
+unfolding cardinality
 no_keys = record { kind_is = refl; root = Nil; home = 1; refs = refl; nums = refl; nodes = refl; ordered = tt }
 
 another_order : IsTable (SeenIn space) (paired names) table_shown (by_ints (under (pos 5) ∷ under (negsuc 0) ∷ [])) → ⊥
-another_order table = let below = table.ordered.0.0 in absurd (omega arith)
+another_order table = let below = table.ordered.0.0 in absurd (cc)

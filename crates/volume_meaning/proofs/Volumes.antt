@@ -1,5 +1,6 @@
 -- Which images stand for which heaps: only those in which a volume is found; and a new volume for the heaps without a database, and no other.
 use Rattle.std.proofs.Common.{◌≡◌, ℕ, ◌≤◌, Bool, List, [], ◌∷◌, length, refl, sym, ◌∙◌, ap, subst, arith, Option, Some, None}
+use Rattle.std.specs.List.{AllByRecursion}
 use Rattle.std.specs.Option.{option_map}
 use Rattle.std.proofs.lemmas.Option.{same_Some}
 use Rattle.ps_port.specs.ps_outside.Outside.{Outside}
@@ -14,7 +15,11 @@ use Rattle.ps_volumes.specs.shadow_volume.Making.{IsNew, empty_held}
 use Rattle.ps_volumes.specs.shadow_volume.Standing.{held_in, held_of}
 use Rattle.ps_volumes.proofs.of_shadow_volume.New.{found_new}
 use Rattle.heap_meaning.specs.Paired.{paired}
-use Rattle.volume_meaning.specs.Kept.{Database, KeptHeap, AreDatabases}
+use Rattle.heap_fit.specs.database_meaning.Databases.{Database, every_root}
+use Rattle.heap_fit.specs.database_meaning.Held.{StoredHeap}
+use Rattle.heap_fit.specs.database_meaning.Same.{IsInHeap}
+use Rattle.heap_fit.specs.database_meaning.reaching.Reaching.{IsIn, at_start, by_step}
+use Rattle.heap_fit.specs.Heaps.{IsFitDatabase, AreNamedOnce, IsFitHeap}
 use Rattle.ps_volumes.specs.obj_store.Spaces.{word_at, words_of, space_of, space_found}
 use Rattle.ps_volumes.specs.Attaching.{KeepsVolume}
 use Rattle.volume_meaning.specs.Space.{space_in, HoldSame, SeenIn}
@@ -31,7 +36,7 @@ volume-of (a_volume pages second held) space is = (pages, second, held, refl)
 volume-of (no_volume size gate) space is = absurd (cc)
 volume-of (damaged damage) space is = absurd (cc)
 
-pub volume-found : (image : List ℕ) (heap : KeptHeap) → Stands image heap → IsFoundIn (found_in image)
+pub volume-found : (image : List ℕ) (heap : StoredHeap) → Stands image heap → IsFoundIn (found_in image)
 unfolding space_in held_in
 volume-found image heap s = volume-of (found_in image) s.space s.found
 
@@ -58,7 +63,7 @@ used-held image held is =
     let some = space.some in
     omega (arith, space.long)
 
-pub stands-held : (image other : List ℕ) (heap : KeptHeap) → HoldSame image other → Stands image heap → Stands other heap
+pub stands-held : (image other : List ℕ) (heap : StoredHeap) → HoldSame image other → Stands image heap → Stands other heap
 unfolding space_in
 stands-held image other heap same s = record {
   space = s.space;
@@ -68,7 +73,7 @@ stands-held image other heap same s = record {
 
 -- What is left of a volume stands for the heap that it stood for.
 
-pub stands-since : (old new : Outside (List ℕ)) (heap : KeptHeap) → KeepsVolume old new → ((bytes : List ℕ) → old.contents bytes → Stands bytes heap)
+pub stands-since : (old new : Outside (List ℕ)) (heap : StoredHeap) → KeepsVolume old new → ((bytes : List ℕ) → old.contents bytes → Stands bytes heap)
     → StandsSince old new heap
 stands-since old new heap kept stood = record {
   since = kept.settles.since;
@@ -77,20 +82,34 @@ stands-since old new heap kept stood = record {
   stands = λ m image from until at. stood image (kept.settles.settled m image from until at);
 }
 
-pub stands-after : (old new : Outside (List ℕ)) (heap : KeptHeap) → KeepsVolume old new → ((bytes : List ℕ) → old.contents bytes → Stands bytes heap) →
+pub stands-after : (old new : Outside (List ℕ)) (heap : StoredHeap) → KeepsVolume old new → ((bytes : List ℕ) → old.contents bytes → Stands bytes heap) →
     (bytes : List ℕ) → new.contents bytes → Stands bytes heap
 stands-after old new heap kept stood bytes at = stood bytes (kept.keeps.contents bytes at)
 
 -- Spaces without a directory.
 
-pub stands-without : (space : Space) (objects : List Placed) (heap : KeptHeap) → HoldsObjects space.words objects → space.directory ≡ 0
-    → heap.databases ≡ [] → SpaceStands space heap
+-- where there is no database nothing is reached, so the heap is fit
+none-reached : (heap : StoredHeap) (id : ℕ) → heap.directory ≡ [] → IsInHeap heap id → ⊥
+unfolding every_root
+none-reached heap id none (at_start x is u) = subst (λ ds. IsIn id (every_root ds)) none is
+none-reached heap id none (by_step x y before is u) = none-reached heap x none before
+
+fit-without : (heap : StoredHeap) → heap.directory ≡ [] → IsFitHeap heap
+fit-without heap none = record {
+  few = omega (arith, ap length none);
+  databases = subst (AllByRecursion (IsFitDatabase heap.objects)) (sym none) tt;
+  once = subst AreNamedOnce (sym none) tt;
+  each = λ id there. absurd (none-reached heap id none there);
+}
+
+pub stands-without : (space : Space) (objects : List Placed) (heap : StoredHeap) → HoldsObjects space.words objects → space.directory ≡ 0
+    → heap.directory ≡ [] → SpaceStands space heap
 stands-without space objects heap cut no_directory no_database = record {
+  fit = fit-without heap no_database;
   objects = objects;
   cut = cut;
   names = [];
   stands = record {
-    databases = subst AreDatabases (sym no_database) (record { few = omega arith; each = tt; once = tt });
     directory = subst (λ (ds : List Database). IsDirectoryOf (SeenIn space) (paired []) space.directory ds) (sym no_database) no_directory;
     both = λ pid id p. absurd (cc);
     one_number = λ pid i j p q. absurd (cc);
@@ -107,8 +126,8 @@ no-database space names (d ∷ ds) none is =
     let pid : space.directory ≡ is.there.pid = cc in
     absurd (omega arith)
 
-pub none-without : (space : Space) (heap : KeptHeap) → space.directory ≡ 0 → SpaceStands space heap → heap.databases ≡ []
-none-without space heap none s = no-database space s.names heap.databases none s.stands.directory
+pub none-without : (space : Space) (heap : StoredHeap) → space.directory ≡ 0 → SpaceStands space heap → heap.directory ≡ []
+none-without space heap none s = no-database space s.names heap.directory none s.stands.directory
 
 -- The space of a new volume: word 0 and no directory.
 
@@ -125,16 +144,16 @@ space-new pages image least most new opened =
     ap (λ (found : Found). option_map (λ (held : Held). space_of held.note.used held) (held_of found)) (found_new pages image least most new opened)
     ∙ ap (λ (s : Space). Some s) space-empty
 
-pub new-stands : (pages : ℕ) (image : List ℕ) (heap : KeptHeap) → 32 ≤ pages → pages ≤ 131072 → IsNew pages image → gate image ≡ 1
-    → heap.databases ≡ [] → Stands image heap
+pub new-stands : (pages : ℕ) (image : List ℕ) (heap : StoredHeap) → 32 ≤ pages → pages ≤ 131072 → IsNew pages image → gate image ≡ 1
+    → heap.directory ≡ [] → Stands image heap
 new-stands pages image heap least most new opened none = record {
   space = empty_space;
   found = space-new pages image least most new opened;
   stands = stands-without empty_space [] heap (omega arith, refl) refl none;
 }
 
-pub new-stands_alone : (pages : ℕ) (image : List ℕ) (heap : KeptHeap) → 32 ≤ pages → pages ≤ 131072 → IsNew pages image → gate image ≡ 1
-    → Stands image heap → heap.databases ≡ []
+pub new-stands_alone : (pages : ℕ) (image : List ℕ) (heap : StoredHeap) → 32 ≤ pages → pages ≤ 131072 → IsNew pages image → gate image ≡ 1
+    → Stands image heap → heap.directory ≡ []
 new-stands_alone pages image heap least most new opened s =
     let same : Some s.space ≡ Some empty_space = sym s.found ∙ space-new pages image least most new opened in
     let is : s.space ≡ empty_space = cc in

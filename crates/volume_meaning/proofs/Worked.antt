@@ -1,6 +1,6 @@
 -- A worked space: a database whose root has one entry, a structure with an int, a string and the root. It stands for its heap. With another home of
 -- the structure, or another number of entries of the table, it doesn't.
-use Rattle.std.proofs.Common.{◌≡◌, inl, inr, ℕ, zero, suc, List, [], ◌∷◌, ◌++◌, ◌^◌, refl, sym, ◌∙◌, ap, subst, arith, pos, Some}
+use Rattle.std.proofs.Common.{◌≡◌, ◌⊎◌, inl, inr, ℕ, zero, suc, List, [], ◌∷◌, ◌++◌, ◌^◌, refl, sym, ◌∙◌, ap, subst, arith, pos, Some}
 use Rattle.std.specs.Prelude.{codes}
 use Rattle.ps_volumes.specs.obj_layout.declared.kind.Kind.TheVariants as kind
 use Rattle.ps_volumes.specs.obj_layout.declared.reference.Reference.{Reference}
@@ -16,10 +16,17 @@ use Rattle.heap_meaning.specs.heap_places.Words.{int_in}
 use Rattle.heap_meaning.specs.heap_places.Shapes.{word_in}
 use Rattle.ps_code_laws.specs.text_forms.Forms.{forms_of, forms_from, form_here, begins}
 use Rattle.ps_code_laws.specs.ps_meaning.Values.{Num, Text, Pointer}
-use Rattle.ps_code_laws.specs.ps_meaning.Objects.{Structure}
 use Rattle.heap_meaning.specs.Standing.{IsKindOf}
 use Rattle.heap_meaning.specs.Paired.{paired}
-use Rattle.volume_meaning.specs.Kept.{by_strings, an_object, a_table, Kept, KeptHeap}
+use Rattle.heap_fit.specs.database_meaning.Tables.{by_strings, cardinality}
+use Rattle.heap_fit.specs.database_meaning.Objects.{Object, Structure, Keyed, next_in}
+use Rattle.heap_fit.specs.database_meaning.Databases.{every_root}
+use Rattle.heap_fit.specs.database_meaning.Held.{StoredHeap, home_at}
+use Rattle.heap_fit.specs.database_meaning.Same.{IsInHeap}
+use Rattle.heap_fit.specs.database_meaning.reaching.Reaching.{IsIn, at_start, by_step}
+use Rattle.heap_fit.specs.ps_soundness.ps_meaning.ps_base.TyView as types
+use Rattle.heap_fit.specs.ps_soundness.ps_type_text.Texts.{Field, IsNamed, is_name_byte}
+use Rattle.heap_fit.specs.Heaps.{at_structure, at_table, IsFitAt, IsFitHeap}
 use Rattle.volume_meaning.specs.Space.{holding, IsStored, SeenIn, with_tables}
 use Rattle.volume_meaning.specs.Tables.{IsTable, IsNodeOf}
 use Rattle.volume_meaning.specs.Stands.{IsThing, IsHome, Both, AreNamed, IsDirectory, StandsUnder, SpaceStands, Stands}
@@ -178,21 +185,80 @@ string-seen home count = seen-in home count 63 string (of_text 2 (0x6968 ∷ [])
 abbrev box_class : List ℕ
 box_class = codes "box(int n;string s;pntr t)"
 
-abbrev root : Kept
-root = record { thing = a_table (by_strings (record { key = codes "k"; object = 1 } ∷ [])); home = Some (codes "c") }
+abbrev box_fields : List Field
+box_fields = record { ty = types.Int; name = codes "n" } ∷ record { ty = types.Str; name = codes "s" } ∷ record { ty = types.Pntr; name = codes "t" } ∷ []
 
-abbrev boxed : Kept
-boxed = record { thing = an_object (Structure box_class (Num (pos 3) ∷ Text (codes "hi") ∷ Pointer 0 ∷ [])); home = Some (codes "c") }
+abbrev root : Object
+root = Keyed (by_strings (record { key = codes "k"; object = 1 } ∷ []))
 
-abbrev heap : KeptHeap
-heap = record { things = root ∷ boxed ∷ []; databases = record { name = codes "c"; password = []; root = 0 } ∷ [] }
+abbrev boxed : Object
+boxed = Structure box_class (Num (pos 3) ∷ Text (codes "hi") ∷ Pointer 0 ∷ [])
+
+abbrev heap : StoredHeap
+heap = record { objects = root ∷ boxed ∷ []; homes = Some 1 ∷ Some 1 ∷ []; directory = record { name = codes "c"; password = []; root = 0 } ∷ [] }
 
 abbrev names : List Reference
 names = Pid 20 ∷ Pid 45 ∷ []
 
+-- The heap is fit: the root has the structure under a string, and the structure an int, a string and the root, which a pntr may name.
+
+class-named : IsNamed (codes "box") box_fields
+unfolding is_name_byte
+class-named = record { class = (refl, (refl, (refl, tt))); each = ((refl, tt), ((refl, tt), ((refl, tt), tt))) }
+
+two : (id : ℕ) → IsInHeap heap id → (id ≡ 0) ⊎ (id ≡ 1)
+unfolding every_root next_in
+two id (at_start x is u) = elim is [ inl e ↦ inl e | inr no_more ↦ absurd no_more ]
+two id (by_step x y before goes u) =
+    elim (two x before) [
+      | inl e ↦ elim (subst (λ k. IsIn id (next_in heap.objects k)) e goes) [ inl f ↦ inr f | inr no_more ↦ absurd no_more ]
+      | inr e ↦ elim (subst (λ k. IsIn id (next_in heap.objects k)) e goes) [ inl f ↦ inl f | inr no_more ↦ absurd no_more ]
+    ]
+
+heap-fits : IsFitHeap heap
+unfolding home_at
+heap-fits = record {
+  few = omega arith;
+  databases = (record { named = omega arith; name = omega arith; password = omega arith; table = by_strings (record { key = codes "k"; object = 1 } ∷ []); root = refl }, tt);
+  once = (tt, tt);
+  each = λ id there. at_each id (two id there);
+}
+  where
+    root-fits : IsFitAt heap 0
+    root-fits = record {
+      object = root;
+      is = refl;
+      fit = (((refl, at_structure box_class (Num (pos 3) ∷ Text (codes "hi") ∷ Pointer 0 ∷ []) refl), tt), (tt, tt));
+      home = 1;
+      home_is = refl;
+      first = omega arith;
+      last = omega arith;
+    }
+
+    box-fits : IsFitAt heap 1
+    box-fits = record {
+      object = boxed;
+      is = refl;
+      fit = record {
+        name = codes "box";
+        fields = box_fields;
+        named = class-named;
+        class_is = refl;
+        are = (refl, (refl, (at_table (by_strings (record { key = codes "k"; object = 1 } ∷ [])) refl, tt)));
+      };
+      home = 1;
+      home_is = refl;
+      first = omega arith;
+      last = omega arith;
+    }
+
+    at_each : (id : ℕ) → (id ≡ 0) ⊎ (id ≡ 1) → IsFitAt heap id
+    at_each id (inl e) = subst (IsFitAt heap) (sym e) root-fits
+    at_each id (inr e) = subst (IsFitAt heap) (sym e) box-fits
+
 -- The space stands for it.
 
-directory-is : IsDirectory (SeenIn (space 1 1)) (paired names) 1 heap.databases
+directory-is : IsDirectory (SeenIn (space 1 1)) (paired names) 1 heap.directory
 unfolding bytes_of word_bytes
 directory-is = record {
   it = directory_shown;
@@ -207,7 +273,7 @@ directory-is = record {
 }
 
 table-is : IsTable (SeenIn (space 1 1)) (paired names) (table_shown 1) (by_strings (record { key = codes "k"; object = 1 } ∷ []))
-unfolding bytes_of word_bytes
+unfolding bytes_of word_bytes cardinality
 table-is = record {
   kind_is = refl;
   root = Pid 28;
@@ -244,7 +310,7 @@ root_as_pntr = record {
   kind_is = refl;
 }
 
-box-is : IsThing (SeenIn (space 1 1)) (paired names) (box_shown 1) boxed.thing
+box-is : IsThing (SeenIn (space 1 1)) (paired names) (box_shown 1) boxed
 unfolding bytes_of word_bytes forms_of forms_from form_here begins int_in
 box-is = (
   record {
@@ -262,14 +328,15 @@ box-is = (
 )
 
 both-are : (n id : ℕ) → paired names (Pid n) id → Both (SeenIn (space 1 1)) heap (paired names) (Pid n) id
+unfolding home_at
 both-are n zero p =
     let same : Pid 20 ≡ Pid n = cc in
     subst (λ (m : Reference). Both (SeenIn (space 1 1)) heap (paired names) m 0) same
-    (record { it = table_shown 1; kept = root; there = table-seen 1 1; means = refl; like = table-is; home = refl })
+    (record { it = table_shown 1; object = root; there = table-seen 1 1; means = refl; like = table-is; home = refl })
 both-are n (suc zero) p =
     let same : Pid 45 ≡ Pid n = cc in
     subst (λ (m : Reference). Both (SeenIn (space 1 1)) heap (paired names) m 1) same
-    (record { it = box_shown 1; kept = boxed; there = box-seen 1 1; means = refl; like = box-is; home = refl })
+    (record { it = box_shown 1; object = boxed; there = box-seen 1 1; means = refl; like = box-is; home = refl })
 both-are n (suc (suc id)) p = absurd (cc)
 
 one-number : (n i j : ℕ) → paired names (Pid n) i → paired names (Pid n) j → i ≡ j
@@ -299,11 +366,11 @@ they-are-apart a b zero (suc (suc j)) n p q h k = absurd (cc)
 worked_out : SpaceStands (space 1 1) heap
 unfolding space
 worked_out = record {
+  fit = heap-fits;
   objects = objects 1 1;
   cut = cut-of (objects 1 1) 1 (they-follow 1 1);
   names = names;
   stands = record {
-    databases = record { few = omega arith; each = (record { named = omega arith; name = omega arith; password = omega arith }, tt); once = (tt, tt) };
     directory = directory-is;
     both = both-are;
     one_number = one-number;
@@ -328,7 +395,7 @@ root-paired : (home count : ℕ) (names : List Reference) → StandsUnder (space
 unfolding space
 root-paired home count names s =
     let same = seen-one (space home count) (Pid 1) s.directory.it directory_shown s.directory.there (directory-seen home count) in
-    (subst (λ (it : Shown). AreNamed (SeenIn (space home count)) (paired names) it.refs heap.databases) same s.directory.names).2.0
+    (subst (λ (it : Shown). AreNamed (SeenIn (space home count)) (paired names) it.refs heap.directory) same s.directory.names).2.0
 
 -- what stands for the root, and for the structure
 table-of : (home count : ℕ) (names : List Reference) → StandsUnder (space home count) heap names
@@ -336,9 +403,9 @@ table-of : (home count : ℕ) (names : List Reference) → StandsUnder (space ho
 table-of home count names s =
     let both = s.both 20 0 (root-paired home count names s) in
     let same = seen-one (space home count) (Pid 20) both.it (table_shown count) both.there (table-seen home count) in
-    let kept : both.kept ≡ root = cc in
-    subst (λ (it : Shown). IsThing (SeenIn (space home count)) (paired names) it root.thing) same
-    (subst (λ (k : Kept). IsThing (SeenIn (space home count)) (paired names) both.it k.thing) kept both.like)
+    let is : both.object ≡ root = cc in
+    subst (λ (it : Shown). IsThing (SeenIn (space home count)) (paired names) it root) same
+    (subst (λ (k : Object). IsThing (SeenIn (space home count)) (paired names) both.it k) is both.like)
 
 box-paired : (home count : ℕ) (names : List Reference) → StandsUnder (space home count) heap names → paired names (Pid 45) 1
 box-paired home count names s =
@@ -351,18 +418,18 @@ box-paired home count names s =
     let value : node.value_name ≡ Pid 45 = cc in
     subst (λ (n : Reference). paired names n 1) value node.is_value.0
 
--- Another home: the structure's word names no database of the directory.
+-- Another home: the structure's word is the number of another database.
 another_home : SpaceStands (space 2 1) heap → ⊥
+unfolding home_at
 another_home s =
     let both = s.stands.both 45 1 (box-paired 2 1 s.names s.stands) in
     let same = seen-one (space 2 1) (Pid 45) both.it (box_shown 2) both.there (box-seen 2 1) in
-    let kept : both.kept ≡ boxed = cc in
-    let home = subst (λ (it : Shown). IsHome heap.databases (word_in it 0) boxed.home) same
-    (subst (λ (k : Kept). IsHome heap.databases (word_in both.it 0) k.home) kept both.home) in
-    cc
+    let home : 2 ≡ 1 = subst (λ (it : Shown). IsHome (word_in it 0) (Some 1)) same both.home in
+    absurd (omega (arith, home))
 
 -- Another number of entries than the table has.
 another_count : SpaceStands (space 1 2) heap → ⊥
+unfolding cardinality
 another_count s =
     let table = table-of 1 2 s.names s.stands in
     let nums : 1 ∷ 1 ∷ 2 ∷ [] ≡ table.home ∷ 1 ∷ 1 ∷ [] = table.nums in

@@ -1,4 +1,4 @@
-pub mod Kept
 pub mod Space
 pub mod Tables
 pub mod Stands
+pub use Rattle.heap_fit.specs as heap_fit

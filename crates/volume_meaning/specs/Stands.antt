@@ -11,12 +11,15 @@ use Rattle.heap_meaning.specs.swizzle.Joint.{Shown}
 use Rattle.heap_meaning.specs.heap_places.Shapes.{word_in, IsText}
 use Rattle.ps_code_laws.specs.ps_gen.Units.{HasUnit}
 use Rattle.ps_code_laws.specs.ps_meaning.Values.{Value, Procedure, as_written}
-use Rattle.ps_code_laws.specs.ps_meaning.Objects.{Object, Structure, Elements, Scope}
+use Rattle.ps_code_laws.specs.ps_meaning.Objects as object
 use Rattle.ps_code_laws.specs.Compiled.{compiled_object}
 use Rattle.ps_code_laws.specs.Literals.{BodyIs}
 use Rattle.heap_meaning.specs.Standing.{Seen, Pairing, IsKindOf, IsLike}
 use Rattle.heap_meaning.specs.Paired.{paired}
-use Rattle.volume_meaning.specs.Kept.{Thing, an_object, a_table, Kept, Database, KeptHeap, kept_in, name_numbered, AreDatabases}
+use Rattle.heap_fit.specs.database_meaning.Objects.{Object, Structure, Elements, Scope, Keyed, object_at}
+use Rattle.heap_fit.specs.database_meaning.Databases.{Database}
+use Rattle.heap_fit.specs.database_meaning.Held.{StoredHeap, home_at}
+use Rattle.heap_fit.specs.Heaps.{IsFitHeap}
 use Rattle.volume_meaning.specs.Space.{SeenIn, space_in, with_tables}
 use Rattle.volume_meaning.specs.Tables.{IsTable, IsNodeOf}
 
@@ -25,29 +28,30 @@ abbrev pub HasUnits : Value → Type 0
 HasUnits (Procedure (as_written of) scope) = BodyIs HasUnit (λ ty. Unit {0}) of
 HasUnits v = Unit {0}
 
-abbrev pub values_of : Object → List Value
-values_of (Structure class fields) = fields
-values_of (Elements ty low elements) = elements
-values_of (Scope text parent names) = names
+-- what is seen is like an object of the heap, whose values are these; each procedure stands there as its unit
+abbrev pub IsObject : Seen → Pairing → Shown → object.Object → List Value → Type 0
+IsObject seen pair it of values = IsLike (with_tables seen) pair it (compiled_object of) × AllByRecursion HasUnits values
 
--- What is seen stands for a thing. A procedure as it is written stands there as its unit.
-abbrev pub IsThing : Seen → Pairing → Shown → Thing → Type 0
-IsThing seen pair it (an_object of) = IsLike (with_tables seen) pair it (compiled_object of) × AllByRecursion HasUnits (values_of of)
-IsThing seen pair it (a_table of) = IsTable seen pair it of
+-- What is seen stands for an object.
+abbrev pub IsThing : Seen → Pairing → Shown → Object → Type 0
+IsThing seen pair it (Structure class fields) = IsObject seen pair it (object.Structure class fields) fields
+IsThing seen pair it (Elements ty low elements) = IsObject seen pair it (object.Elements ty low elements) elements
+IsThing seen pair it (Scope text parent names) = IsObject seen pair it (object.Scope text parent names) names
+IsThing seen pair it (Keyed table) = IsTable seen pair it table
 
 -- a word names a home: the number of its database, or 0 for none
-abbrev pub IsHome : List Database → ℕ → Option (List ℕ) → Type 0
-IsHome databases word None = word ≡ 0
-IsHome databases word (Some name) = name_numbered databases word ≡ Some name
+abbrev pub IsHome : ℕ → Option ℕ → Type 0
+IsHome word None = word ≡ 0
+IsHome word (Some number) = word ≡ number
 
--- the object of a name, and what is kept under the number that goes with it
-pub record Both (seen : Seen) (heap : KeptHeap) (pair : Pairing) (n : Reference) (id : ℕ) : Type 0 where
+-- the object of a name, and that of the id that goes with it
+pub record Both (seen : Seen) (heap : StoredHeap) (pair : Pairing) (n : Reference) (id : ℕ) : Type 0 where
   pub it : Shown
-  pub kept : Kept
+  pub object : Object
   pub there : seen n it
-  pub means : kept_in heap.things id ≡ Some kept
-  pub like : IsThing seen pair it kept.thing
-  pub home : IsHome heap.databases (word_in it 0) kept.home
+  pub means : object_at heap.objects id ≡ Some object
+  pub like : IsThing seen pair it object
+  pub home : IsHome (word_in it 0) (home_at heap.homes id)
 
 -- for each database its name, its password and its root, in their order
 abbrev pub AreNamed : Seen → Pairing → List Reference → List Database → Type 0
@@ -68,32 +72,32 @@ abbrev pub IsDirectoryOf : Seen → Pairing → ℕ → List Database → Type 0
 IsDirectoryOf seen pair pid [] = pid ≡ 0
 IsDirectoryOf seen pair pid (d ∷ ds) = IsDirectory seen pair pid (d ∷ ds)
 
--- A space stands for a heap under a row of names, one for each number; what isn't paired has a name that is no PID. The roots are paired, and so is
--- all that what is paired refers to: so each thing that is reached from the directory is. The pairing is one-to-one, and what is paired is alike.
-pub record StandsUnder (space : Space) (heap : KeptHeap) (names : List Reference) : Type 0 where
-  pub databases : AreDatabases heap.databases
-  pub directory : IsDirectoryOf (SeenIn space) (paired names) space.directory heap.databases
+-- A space stands for a heap under a row of names, one for each id; what isn't paired has a name that is no PID. The roots are paired, and so is
+-- all that what is paired refers to: so each object that is reached from the directory is. The pairing is one-to-one, and what is paired is alike.
+pub record StandsUnder (space : Space) (heap : StoredHeap) (names : List Reference) : Type 0 where
+  pub directory : IsDirectoryOf (SeenIn space) (paired names) space.directory heap.directory
   pub both : (pid id : ℕ) → paired names (Pid pid) id → Both (SeenIn space) heap (paired names) (Pid pid) id
   pub one_number : (pid i j : ℕ) → paired names (Pid pid) i → paired names (Pid pid) j → i ≡ j
   -- no node belongs to two tables
   pub apart : (a b i j : ℕ) (n : Reference) → paired names (Pid a) i → paired names (Pid b) j
       → IsNodeOf (SeenIn space) (Pid a) n → IsNodeOf (SeenIn space) (Pid b) n → a ≡ b
 
--- a space that is cut into objects, and stands for a heap under some row of names
-pub record SpaceStands (space : Space) (heap : KeptHeap) : Type 0 where
+-- a space that is cut into objects, and stands for a fit heap under some row of names
+pub record SpaceStands (space : Space) (heap : StoredHeap) : Type 0 where
+  pub fit : IsFitHeap heap
   pub objects : List Placed
   pub cut : HoldsObjects space.words objects
   pub names : List Reference
   pub stands : StandsUnder space heap names
 
 -- An image of a volume stands for a heap.
-pub record Stands (image : List ℕ) (heap : KeptHeap) : Type 0 where
+pub record Stands (image : List ℕ) (heap : StoredHeap) : Type 0 where
   pub space : Space
   pub found : space_in image ≡ Some space
   pub stands : SpaceStands space heap
 
 -- From some moment of the way on each image that a crash may leave stands for this heap.
-pub record StandsSince (old new : Outside (List ℕ)) (heap : KeptHeap) : Type 0 where
+pub record StandsSince (old new : Outside (List ℕ)) (heap : StoredHeap) : Type 0 where
   pub since : ℕ
   pub from : old.clock ≤ since
   pub until : since ≤ new.clock

@@ -1,5 +1,5 @@
 -- What is seen of a table: its nodes, each with an entry, one after the other.
-use Rattle.std.specs.Prelude.{◌≡◌, ℕ, zero, suc, ℤ, List, [], ◌∷◌, length, Some}
+use Rattle.std.specs.Prelude.{◌≡◌, ℕ, zero, suc, ℤ, List, [], ◌∷◌, Some}
 use Rattle.ps_volumes.specs.obj_layout.declared.kind.Kind.TheVariants as kind
 use Rattle.ps_volumes.specs.obj_layout.declared.reference.Reference.{Reference}
 use Rattle.ps_volumes.specs.obj_layout.declared.reference.Reference.TheVariants.{Nil}
@@ -8,7 +8,7 @@ use Rattle.heap_meaning.specs.heap_places.Words.{int_in}
 use Rattle.heap_meaning.specs.heap_places.Shapes.{slot_of, word_in, IsText}
 use Rattle.ps_code_laws.specs.ps_meaning.Values.{Pointer}
 use Rattle.heap_meaning.specs.Standing.{Seen, Pairing, IsKindOf, StandsFor}
-use Rattle.volume_meaning.specs.Kept.{Entry, Table, without_keys, by_strings, by_ints, AreInOrder}
+use Rattle.heap_fit.specs.database_meaning.Tables.{Entry, Table, without_keys, by_strings, by_ints, cardinality, IsInKeyOrder}
 use Rattle.volume_meaning.specs.Space.{with_tables}
 
 -- A node's key: the text that its third reference names, or the int that its word after the home spells.
@@ -48,11 +48,6 @@ key_kind without_keys = 0
 key_kind (by_strings entries) = 1
 key_kind (by_ints entries) = 2
 
-abbrev pub cardinality : Table → ℕ
-cardinality without_keys = 0
-cardinality (by_strings entries) = length entries
-cardinality (by_ints entries) = length entries
-
 -- What is seen of a table: it refers to its first node, or to none, and its entries are in order.
 pub record IsTable (seen : Seen) (pair : Pairing) (it : Shown) (table : Table) : Type 0 where
   pub kind_is : it.kind ≡ kind.Table
@@ -61,7 +56,7 @@ pub record IsTable (seen : Seen) (pair : Pairing) (it : Shown) (table : Table) :
   pub refs : it.refs ≡ root ∷ []
   pub nums : it.nums ≡ home ∷ key_kind table ∷ cardinality table ∷ []
   pub nodes : AreNodesOf seen pair root table
-  pub ordered : AreInOrder table
+  pub ordered : IsInKeyOrder table
 
 -- so many nodes after a name is this one
 abbrev pub IsBehind : Seen → ℕ → Reference → Reference → Type 0

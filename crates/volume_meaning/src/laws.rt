@@ -9,7 +9,7 @@ ghost use Rattle.ps_volumes.specs.shadow_volume.declared.finding.Damage.{Damage}
 ghost use Rattle.ps_volumes.specs.shadow_volume.Making.{IsNew};
 ghost use Rattle.ps_volumes.specs.shadow_volume.Standing.{held_in};
 ghost use Rattle.ps_volumes.specs.shadow_volume.declared.note.Note.{Note};
-ghost use Rattle.volume_meaning.specs.Kept.{KeptHeap};
+ghost use Rattle.heap_fit.specs.database_meaning.Held.{StoredHeap};
 ghost use Rattle.volume_meaning.specs.Space.{holding, spaced, space_in, HoldSame};
 ghost use Rattle.volume_meaning.specs.Stands.{Stands, StandsSince};
 ghost use Rattle.ps_volumes.specs.Attaching.{KeepsVolume};
@@ -18,21 +18,21 @@ use ps_port::Host;
 
 /// A law: what `format` leaves stands for each heap without a database, and for no other.
 pub fn a_new_volume_stands_for_no_database()
-    ensures stands { (pages : ℕ) (image : List ℕ) (heap : KeptHeap) → 32 ≤ pages → pages ≤ 131072 → IsNew pages image → gate image ≡ 1 →
-        heap.databases ≡ [] → Stands image heap }
-    ensures alone { (pages : ℕ) (image : List ℕ) (heap : KeptHeap) → 32 ≤ pages → pages ≤ 131072 → IsNew pages image → gate image ≡ 1 →
-        Stands image heap → heap.databases ≡ [] }
+    ensures stands { (pages : ℕ) (image : List ℕ) (heap : StoredHeap) → 32 ≤ pages → pages ≤ 131072 → IsNew pages image → gate image ≡ 1 →
+        heap.directory ≡ [] → Stands image heap }
+    ensures alone { (pages : ℕ) (image : List ℕ) (heap : StoredHeap) → 32 ≤ pages → pages ≤ 131072 → IsNew pages image → gate image ≡ 1 →
+        Stands image heap → heap.directory ≡ [] }
 {}
 
 /// A law: an image stands for a heap only where a volume is found in it.
 pub fn what_stands_is_a_volume()
-    ensures { (image : List ℕ) (heap : KeptHeap) → Stands image heap →
+    ensures { (image : List ℕ) (heap : StoredHeap) → Stands image heap →
         (pages : ℕ) × (second : Bool) × (held : Held) × (found_in image ≡ a_volume pages second held) }
 {}
 
 /// A law: images that hold the same, the same used words under the same directory, stand for the same heaps.
 pub fn what_is_held_decides()
-    ensures { (image other : List ℕ) (heap : KeptHeap) → HoldSame image other → Stands image heap → Stands other heap }
+    ensures { (image other : List ℕ) (heap : StoredHeap) → HoldSame image other → Stands image heap → Stands other heap }
 {}
 
 /// A law: where the bytes that are held begin with the spelling of as many words as are used, those are the words of the space.
@@ -49,15 +49,15 @@ pub fn a_space_is_used()
 
 /// A law: a damaged file stands for no heap, and neither does one in which there is no volume.
 pub fn what_is_damaged_stands_for_no_heap()
-    ensures damage { (image : List ℕ) (heap : KeptHeap) (why : Damage) → found_in image ≡ damaged why → Stands image heap → ⊥ }
-    ensures none { (image : List ℕ) (heap : KeptHeap) (size gate : ℕ) → found_in image ≡ no_volume size gate → Stands image heap → ⊥ }
+    ensures damage { (image : List ℕ) (heap : StoredHeap) (why : Damage) → found_in image ≡ damaged why → Stands image heap → ⊥ }
+    ensures none { (image : List ℕ) (heap : StoredHeap) (size gate : ℕ) → found_in image ≡ no_volume size gate → Stands image heap → ⊥ }
 {}
 
 /// A law: where a run left its volume between two states of a host, and what a read gave at the start stood for a heap, from some moment on each image
 /// that a crash may leave stands for it, and so does what a read gives at the end.
 pub fn a_run_leaves_its_heap<H: Host>(host: &H, back: &H)
-    ensures since { (heap : KeptHeap) → KeepsVolume (H.outside host.now) (H.outside back.now) →
+    ensures since { (heap : StoredHeap) → KeepsVolume (H.outside host.now) (H.outside back.now) →
         ((bytes : List ℕ) → (H.outside host.now).contents bytes → Stands bytes heap) → StandsSince (H.outside host.now) (H.outside back.now) heap }
-    ensures after { (heap : KeptHeap) → KeepsVolume (H.outside host.now) (H.outside back.now) →
+    ensures after { (heap : StoredHeap) → KeepsVolume (H.outside host.now) (H.outside back.now) →
         ((bytes : List ℕ) → (H.outside host.now).contents bytes → Stands bytes heap) → (bytes : List ℕ) → (H.outside back.now).contents bytes → Stands bytes heap }
 {}

@@ -1,4 +1,4 @@
-use Rattle.std.proofs.Common.{ℕ, length, ◌<◌, sym, subst, arith}
+use Rattle.std.proofs.Common.{length, ◌<◌, sym, subst, arith}
 use Rattle.joint_ops.specs.swizzle.Joint.{shown_at}
 use Rattle.joint_ops.specs.text_forms.declared.forms.Form.{Form}
 use Rattle.joint_ops.specs.heap_places.Places.{HasPlace}

@@ -5,7 +5,7 @@ use Rattle.avl_trees.proofs.Standing.{stands_grown}
 use Rattle.table_nodes.specs.Nodes.{IsNode}
 use Rattle.table_nodes.specs.Steps.{place, rows_of, AreTurnedOut}
 use Rattle.table_nodes.proofs.NodeLaws.{fetch_back}
-use Rattle.table_nodes.proofs.StepLaws.{is_side, touches_then}
+use Rattle.table_nodes.proofs.StepLaws.{side_map, is_side, touches_then}
 use Rattle.table_nodes.proofs.TurnLaws.{double_outer}
 use Rattle.table_nodes.proofs.turns.turn_outer.Goals as goal
 
@@ -63,3 +63,7 @@ returns-clause-held g c = record {
   nodes = λ at h. c.set_sides-3.ensures.held.nodes _ (c.set_sides-2.ensures.held.nodes _ (c.set_sides.ensures.held.nodes _ (c.in-Ok-side.ensures.grows.nodes _ (c.in-Ok.ensures.grows.nodes _ h))));
   named = λ at n h. c.set_sides-3.ensures.held.named _ _ (c.set_sides-2.ensures.held.named _ _ (c.set_sides.ensures.held.named _ _ (c.in-Ok-side.ensures.grows.named _ _ (c.in-Ok.ensures.grows.named _ _ h))));
 }
+
+pub set_sides-requires-2-clause-right : goal.set_sides-requires-2-clause-right
+set_sides-requires-2-clause-right g c =
+    side_map (IsNode c.args.sw.now) (IsNode c.set_sides.new.sw) (λ n h. c.set_sides.ensures.held.nodes n (c.in-Ok-side.ensures.grows.nodes n (c.in-Ok.ensures.grows.nodes n h))) c.args.outer c.requires.outer

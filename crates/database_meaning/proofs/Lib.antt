@@ -1,0 +1,16 @@
+pub mod HomeLaws
+pub mod CommitLaws
+pub mod StepLaws
+pub mod KeptLaws
+pub mod CallLaws
+pub mod SameLaws
+pub mod EntryLaws
+pub mod TableLaws
+mod Scenes
+mod TableRows
+mod DatabaseRows
+mod CommitRows
+mod HomeRows
+mod CountRows
+mod AskRows
+mod ScanRows

@@ -1,0 +1,142 @@
+-- When a commit is refused, does nothing, or saves; and that a touch counts once.
+use Rattle.std.proofs.Common.{Bool, true, false, inl, inr, ◌≡◌, ◌≢◌, ℕ, ◌+◌, List, [], ◌∷◌, refl, sym, ap, ◌∙◌, Option, Some, None, if◌then◌else◌}
+use Rattle.std.specs.Prelude.{not, ◌&&◌}
+use Rattle.std.proofs.lemmas.Bool.{cases_Bool, true≢false}
+use Rattle.reaching.specs.Reaching.{IsIn, is_in}
+use Rattle.reaching.proofs.Lists.{then_is, in-is_in, not_in}
+use Rattle.database_meaning.specs.Databases.{open_for_writing, is_there}
+use Rattle.database_meaning.specs.Held.{Held, StoredHeap, Place, object_of, home_at, weight_at, touched_once}
+use Rattle.database_meaning.specs.Objects.{object_at}
+use Rattle.database_meaning.specs.Commit.{is_writable, are_writable, is_empty, Decision, NotWritable, NothingToDo, Saves, saved, decision}
+use Rattle.database_meaning.specs.Sound.{HasPlace, IsWritable, IsRefused}
+use Rattle.database_meaning.proofs.HomeLaws.{writable-in}
+
+-- The tests, as Booleans.
+
+all-places : (homes : List (Option ℕ)) (writing : List ℕ) (places : List Place)
+    → ((place : Place) (n : ℕ) → HasPlace place places → home_at homes (object_of place) ≡ Some n → IsIn n writing) → are_writable homes writing places ≡ true
+unfolding are_writable
+all-places homes writing [] w = refl
+all-places homes writing (q ∷ qs) w =
+    then_is (is_writable writing (home_at homes (object_of q))) (are_writable homes writing qs) false (here (home_at homes (object_of q)) refl)
+    ∙ all-places homes writing qs (λ place n h e. w place n (inr h) e)
+  where
+    here : (home : Option ℕ) → home_at homes (object_of q) ≡ home → is_writable writing home ≡ true
+    here None e = refl
+    here (Some n) e = in-is_in n writing (w q n (inl refl) e)
+
+pub all-writable : (h : Held) → IsWritable h → are_writable h.homes (open_for_writing h.openings) h.assigned ≡ true
+all-writable h w = all-places h.homes (open_for_writing h.openings) h.assigned w
+
+record Refusal (homes : List (Option ℕ)) (writing : List ℕ) (places : List Place) : Type 0 where
+  place : Place
+  there : HasPlace place places
+  home : ℕ
+  home_is : home_at homes (object_of place) ≡ Some home
+  closed : IsIn home writing → ⊥
+
+refusing : (homes : List (Option ℕ)) (writing : List ℕ) (places : List Place) → are_writable homes writing places ≡ false → Refusal homes writing places
+unfolding are_writable
+refusing homes writing [] e = absurd (true≢false e)
+refusing homes writing (q ∷ qs) e =
+    elim (cases_Bool (is_writable writing (home_at homes (object_of q)))) [
+      | inl is ↦
+          let r = refusing homes writing qs (sym (then_is (is_writable writing (home_at homes (object_of q))) (are_writable homes writing qs) false is) ∙ e) in
+          record { place = r.place; there = inr r.there; home = r.home; home_is = r.home_is; closed = r.closed }
+      | inr not_open ↦ here (home_at homes (object_of q)) refl not_open
+    ]
+  where
+    here : (home : Option ℕ) → home_at homes (object_of q) ≡ home → is_writable writing home ≡ false → Refusal homes writing (q ∷ qs)
+    here None is bad = absurd (true≢false bad)
+    here (Some n) is bad = record { place = q; there = inl refl; home = n; home_is = is; closed = not_in n writing bad }
+
+-- The decision by its two tests.
+
+first-test : (w b : Bool) (x : StoredHeap) → (if not w then NotWritable else if b then NothingToDo else Saves x) ≡ NotWritable → w ≡ false
+first-test false b x e = refl
+first-test true true x e = absurd (cc)
+first-test true false x e = absurd (cc)
+
+second-test : (w b : Bool) (x : StoredHeap) → (if not w then NotWritable else if b then NothingToDo else Saves x) ≡ NothingToDo → b ≡ true
+second-test false b x e = absurd (cc)
+second-test true true x e = refl
+second-test true false x e = absurd (cc)
+
+third-test : (w b : Bool) (x : StoredHeap) → w ≡ true → (if not w then NotWritable else if b then NothingToDo else Saves x) ≢ NothingToDo
+    → (if not w then NotWritable else if b then NothingToDo else Saves x) ≡ Saves x
+third-test false b x w e = absurd (true≢false (sym w))
+third-test true true x w e = absurd (e refl)
+third-test true false x w e = refl
+
+is_writing : Held → Bool
+is_writing h = are_writable h.homes (open_for_writing h.openings) h.assigned
+
+pub refused-is : (h : Held) → decision h ≡ NotWritable → IsRefused h
+unfolding decision
+refused-is h e =
+    let r = refusing h.homes (open_for_writing h.openings) h.assigned
+    (first-test (are_writable h.homes (open_for_writing h.openings) h.assigned) (is_empty h.assigned && is_empty h.created) (saved h) e) in
+    record { place = r.place; there = r.there; home = r.home; home_is = r.home_is; closed = r.closed }
+
+pub is-refused : (h : Held) → IsRefused h → decision h ≡ NotWritable
+unfolding decision
+is-refused h r =
+    let writing = open_for_writing h.openings in
+    elim (cases_Bool (are_writable h.homes writing h.assigned)) [
+      | inl w ↦ absurd (r.closed (writable-in h.homes writing h.assigned r.place r.home w r.there r.home_is))
+      | inr w ↦ ap (λ b. if not b then NotWritable else if is_empty h.assigned && is_empty h.created then NothingToDo else Saves (saved h)) w
+    ]
+
+both : {A B : Type 0} (xs : List A) (ys : List B) → (is_empty xs && is_empty ys) ≡ true → (xs ≡ []) × (ys ≡ [])
+both [] [] e = (refl, refl)
+both [] (y ∷ ys) e = absurd (true≢false (sym e))
+both (x ∷ xs) ys e = absurd (true≢false (sym e))
+
+pub nothing-is : (h : Held) → decision h ≡ NothingToDo → (h.assigned ≡ []) × (h.created ≡ [])
+unfolding decision
+nothing-is h e =
+    both h.assigned h.created (second-test (are_writable h.homes (open_for_writing h.openings) h.assigned) (is_empty h.assigned && is_empty h.created) (saved h) e)
+
+decide : List Place → List ℕ → Held → Decision
+decide assigned created h = if not (are_writable h.homes (open_for_writing h.openings) assigned) then NotWritable else if is_empty assigned && is_empty created then NothingToDo else Saves (saved h)
+
+pub is-nothing : (h : Held) → (h.assigned ≡ []) × (h.created ≡ []) → decision h ≡ NothingToDo
+unfolding decision decide are_writable
+is-nothing h e =
+    let same : decide h.assigned h.created h ≡ decide [] [] h = ap (λ a. decide a h.created h) e.0 ∙ ap (λ c. decide [] c h) e.1 in
+    same
+
+pub saves-is : (h : Held) → IsWritable h → decision h ≢ NothingToDo → decision h ≡ Saves (saved h)
+unfolding decision
+saves-is h w some = third-test (are_writable h.homes (open_for_writing h.openings) h.assigned) (is_empty h.assigned && is_empty h.created) (saved h) (all-writable h w) some
+
+-- Touching.
+
+touch : Bool → Bool → ℕ → Held → Held
+touch committed before id h = if committed then (if before then h else record h { touched = id ∷ h.touched; counted = h.counted + weight_at (object_at h.objects id) }) else h
+
+pub touched-once : (h : Held) (id : ℕ) → touched_once id (touched_once id h) ≡ touched_once id h
+unfolding touched_once touch
+touched-once h id =
+    let committed = is_there (home_at h.homes id) in
+    let before = is_in id h.touched in
+    elim (cases_Bool committed) [
+      | inr none ↦ ap (touched_once id) (same none before) ∙ refl
+      | inl is ↦ elim (cases_Bool before) [
+        | inl was ↦ ap (touched_once id) (already is was)
+        | inr new ↦ again is new
+      ]
+    ]
+  where
+    same : is_there (home_at h.homes id) ≡ false → (b : Bool) → touched_once id h ≡ h
+    same none b = ap (λ c. touch c (is_in id h.touched) id h) none
+
+    already : is_there (home_at h.homes id) ≡ true → is_in id h.touched ≡ true → touched_once id h ≡ h
+    already is was = ap (λ c. touch c (is_in id h.touched) id h) is ∙ ap (λ b. touch true b id h) was
+
+    again : is_there (home_at h.homes id) ≡ true → is_in id h.touched ≡ false → touched_once id (touched_once id h) ≡ touched_once id h
+    again is new =
+        let first : touched_once id h ≡ touch true false id h = ap (λ c. touch c (is_in id h.touched) id h) is ∙ ap (λ b. touch true b id h) new in
+        let second : touched_once id (touch true false id h) ≡ touch true false id h =
+        ap (λ c. touch c (is_in id (id ∷ h.touched)) id (touch true false id h)) is ∙ ap (λ b. touch true b id (touch true false id h)) (in-is_in id (id ∷ h.touched) (inl refl)) in
+        ap (touched_once id) first ∙ (second ∙ sym first)

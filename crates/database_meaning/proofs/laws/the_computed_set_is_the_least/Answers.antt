@@ -1,0 +1,9 @@
+use Rattle.reaching.proofs.WalkLaws.{least-in, in-least}
+use Rattle.database_meaning.specs.Objects.{next_in}
+use Rattle.database_meaning.specs.Commit.{loose, starts}
+use Rattle.database_meaning.specs.Commit.{newly_reached}
+use Rattle.database_meaning.proofs.laws.the_computed_set_is_the_least.Goals as goal
+
+pub returns : goal.returns
+unfolding newly_reached
+returns c = λ h id. ((λ l. least-in (next_in h.objects) (loose h) (starts h) id l), λ r. in-least (next_in h.objects) (loose h) (starts h) id r)

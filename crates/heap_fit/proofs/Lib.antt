@@ -1,0 +1,3 @@
+pub mod RoundLaws
+pub mod Rows
+mod HeapRows

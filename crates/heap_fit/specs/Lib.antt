@@ -1,0 +1,6 @@
+pub mod Slots
+pub mod Bodies
+pub mod Heaps
+pub mod Laws
+pub use Rattle.ps_soundness.specs as ps_soundness
+pub use Rattle.database_meaning.specs as database_meaning

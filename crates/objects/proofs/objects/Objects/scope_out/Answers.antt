@@ -1,0 +1,10 @@
+use Rattle.objects.proofs.LastingLaws.{keeps-lasts}
+use Rattle.objects.proofs.KnownLaws.{right-stays}
+use Rattle.objects.proofs.objects.Objects.scope_out.Goals as goal
+
+pub invariant_of-self : goal.invariant_of-self
+invariant_of-self g c =
+    right-stays c.self.inside.sw c.scope_out-got.new.sw c.self.inside.known c.self.invariant (keeps-lasts c.self.inside.sw c.scope_out-got.new.sw c.in-Ok.ensures.keeps)
+
+pub invariant_of-self-in-Err : goal.invariant_of-self-in-Err
+invariant_of-self-in-Err g c = c.clear.ensures c.scope_out-got.new.sw

@@ -1,0 +1,4 @@
+use Rattle.objects.proofs.objects.Objects.text_bytes.Goals as goal
+
+pub returns-clause-value : goal.returns-clause-value
+returns-clause-value g c = rw c.self.view_is at c.bytes.ensures.value

@@ -1,0 +1,15 @@
+//! Structures and vectors that a store gives, and what is read of them and written to them, of structures by the constants of a stored code object.
+#![tactic(auto)]
+
+#[cfg(test)]
+mod elements;
+#[cfg(test)]
+mod fields;
+#[cfg(test)]
+mod making;
+#[cfg(test)]
+mod store;
+#[cfg(test)]
+mod turns;
+#[cfg(test)]
+mod vector_store;

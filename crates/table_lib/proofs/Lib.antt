@@ -1,0 +1,6 @@
+pub mod OpenLaws
+pub mod BitLaws
+pub mod RootLaws
+pub mod UseLaws
+pub mod NextLaws
+pub use Rattle.table_nodes.proofs as of_table_nodes

@@ -1,0 +1,32 @@
+-- The tree of a table, from its root on.
+use Rattle.std.proofs.Common.{◌≡◌, ℕ, ◌+◌, ◌*◌, ◌^◌, ◌<◌, length, Option, Some, None, sym, ap, ◌∙◌, subst, arith}
+use Rattle.table_nodes.specs.heap_places.obj_layout.declared.reference.Reference.{Reference}
+use Rattle.table_nodes.specs.heap_places.swizzle.Heap.{Heap, ref_at, num_at}
+use Rattle.table_nodes.specs.avl_trees.Trees.{Tree, items, height, bits, lookup}
+use Rattle.table_nodes.specs.avl_trees.Standing.{root_of, seek, under}
+use Rattle.table_nodes.specs.avl_trees.Rising.{find}
+use Rattle.table_nodes.proofs.of_avl_trees.Heights.{height_bound}
+use Rattle.table_nodes.proofs.of_avl_trees.Ordered.{lookup_items}
+use Rattle.table_nodes.proofs.of_avl_trees.Standing.{parts_of, stands_grown}
+use Rattle.table_nodes.specs.Keys.{Keys, KeyOf, order_by}
+use Rattle.table_nodes.specs.Nodes.{IsLinked}
+use Rattle.table_nodes.specs.Steps.{I, Place, rows_of, Touches}
+use Rattle.table_nodes.specs.Searching.{IsTree}
+use Rattle.table_nodes.proofs.KeyLaws.{total}
+use Rattle.table_lib.specs.Tables.{IsTable}
+
+-- the tree stands from the root that was read
+pub tree_of : (ks : Keys) (old new : Place) (at : ℕ) (t : Tree (I ks)) (root : Option ℕ) → Touches old new → IsTable ks old at t → IsLinked new.heap root (root_of t) → IsTree ks new root t
+tree_of ks old new at t root grows h linked = record { stands = stands_grown (rows_of ks old) (rows_of ks new) (grows.rows ks) t h.stands; root_is = linked; rising = h.rising; balanced = h.balanced; values = h.values }
+
+-- it is lower than the bound that the number of pairs gives
+pub tree_low : (ks : Keys) (p : Place) (at : ℕ) (t : Tree (I ks)) (count bound : ℕ) → IsTable ks p at t → count ≡ num_at p.heap at 2 → count < 2 ^ 64 → bound ≡ 2 * bits count + 2 → height t < bound
+tree_low ks p at t count bound h e small is =
+    let n : length (items t) ≡ count = sym (e ∙ h.count) in
+    let b = height_bound t h.balanced (subst (λ m. m < 2 ^ 64) (sym n) small) in
+    let same : bits (length (items t)) ≡ bits count = ap bits n in
+    omega (arith, b, same, is)
+
+-- what is found in the tree is what is found among its pairs
+pub found_items : (ks : Keys) (key : KeyOf ks) (p : Place) (at : ℕ) (t : Tree (I ks)) → IsTable ks p at t → lookup (seek (order_by ks) key) t ≡ find (seek (order_by ks) key) (items t)
+found_items ks key p at t h = lookup_items (under (order_by ks)) (seek (order_by ks) key) (parts_of (order_by ks) (total ks) key) t h.rising

@@ -1,0 +1,39 @@
+use Rattle.std.proofs.Common.{Option, Ok, subst}
+use Rattle.std.specs.Prelude.{ℕ}
+use Rattle.table_nodes.specs.Keys.{by_ints}
+use Rattle.table_nodes.specs.Steps.{place}
+use Rattle.table_lib.specs.Nexts.{IsIntPair, FindsNode, after_key}
+use Rattle.table_lib.proofs.NextLaws.{pairs_refused, pairs_none, pairs_some, pairs_fault}
+use Rattle.table_nodes.proofs.StepLaws.{touches_then}
+use Rattle.table_lib.proofs.next.next_int.Goals as goal
+
+pub returns-in-Err-clause-next : goal.returns-in-Err-clause-next
+returns-in-Err-clause-next g c =
+    pairs_refused by_ints (IsIntPair c.int_node.new.sw) (place c.args.sw.now (g.V.Vault.outside c.args.vault.now)) (place c.int_node.new.sw (g.V.Vault.outside c.int_node.new.vault)) c.args.table c.args.after c.in-Err.fault c.in-Err.ensures.found
+
+pub returns-in_default-clause-next : goal.returns-in_default-clause-next
+returns-in_default-clause-next g c =
+    let old = place c.args.sw.now (g.V.Vault.outside c.args.vault.now) in
+    let m = place c.int_node.new.sw (g.V.Vault.outside c.int_node.new.vault) in
+    pairs_none by_ints (IsIntPair m.heap) old m c.args.table c.args.after
+    (subst (λ (f : Option ℕ). FindsNode by_ints old m c.args.table (after_key by_ints c.args.after) (Ok f)) c.in_default.is c.in-Ok.ensures.found)
+
+pub returns-in-Ok-int_pair-clause-next : goal.returns-in-Ok-int_pair-clause-next
+returns-in-Ok-int_pair-clause-next g c =
+    let old = place c.args.sw.now (g.V.Vault.outside c.args.vault.now) in
+    let m = place c.int_node.new.sw (g.V.Vault.outside c.int_node.new.vault) in
+    pairs_some by_ints (IsIntPair c.int_pair.new.sw) old m c.args.table c.args.after c.in-Some.node
+    (subst (λ (f : Option ℕ). FindsNode by_ints old m c.args.table (after_key by_ints c.args.after) (Ok f)) c.in-Some.is c.in-Ok.ensures.found)
+    c.in-Ok-int_pair.pair c.in-Ok-int_pair.ensures.read
+
+pub returns-in-Err-int_pair-clause-next : goal.returns-in-Err-int_pair-clause-next
+returns-in-Err-int_pair-clause-next g c =
+    let old = place c.args.sw.now (g.V.Vault.outside c.args.vault.now) in
+    let m = place c.int_node.new.sw (g.V.Vault.outside c.int_node.new.vault) in
+    pairs_fault by_ints (IsIntPair c.int_pair.new.sw) old m c.args.table c.args.after c.in-Some.node c.in-Ok.ensures.grows
+    (subst (λ (f : Option ℕ). FindsNode by_ints old m c.args.table (after_key by_ints c.args.after) (Ok f)) c.in-Some.is c.in-Ok.ensures.found)
+    c.in-Err-int_pair.fault c.in-Err-int_pair.ensures.read
+
+pub returns-in-Ok-int_pair-clause-grows : goal.returns-in-Ok-int_pair-clause-grows
+returns-in-Ok-int_pair-clause-grows g c =
+    touches_then (place c.args.sw.now (g.V.Vault.outside c.args.vault.now)) (place c.int_node.new.sw (g.V.Vault.outside c.int_node.new.vault)) (place c.int_pair.new.sw (g.V.Vault.outside c.int_pair.new.vault)) c.in-Ok.ensures.grows c.in-Ok-int_pair.ensures.grows

@@ -1,0 +1,31 @@
+use Rattle.std.proofs.Common.{ap, sym, ◌∙◌}
+use Rattle.table_nodes.specs.declared.keys.Key.TheVariants.{Text}
+use Rattle.table_nodes.specs.Keys.{by_texts}
+use Rattle.table_nodes.specs.Steps.{place}
+use Rattle.table_nodes.proofs.NodeLaws.{fetch_back}
+use Rattle.table_nodes.proofs.SoughtLaws.{key_held_kept, key_in_kept}
+use Rattle.table_nodes.proofs.StepLaws.{touches_then}
+use Rattle.table_lib.proofs.next.text_pair.Goals as goal
+
+pub returns-in-Err-clause-read : goal.returns-in-Err-clause-read
+returns-in-Err-clause-read g c a named has some = c.in-Err.ensures.read a.name has.row named has.there
+
+pub returns-in-Ok-value-clause-read : goal.returns-in-Ok-value-clause-read
+returns-in-Ok-value-clause-read g c a named has some =
+    let m = c.text_key.new.sw in
+    let new = c.value.new.sw in
+    let read = c.in-Ok-value.ensures.read by_texts a.name has.row (c.in-Ok.ensures.grows.named c.args.node a.name named) (c.in-Ok.ensures.grows.rows by_texts a.name has.row has.there) (λ e. some (ap (λ x. x.value) (sym has.entry) ∙ e)) in (
+      key_held_kept m new (Text c.in-Ok.key) c.in-Ok-value.ensures.keeps c.in-Ok.ensures.held,
+      key_in_kept m new (Text c.in-Ok.key) c.in-Ok-value.ensures.keeps c.in-Ok.ensures.held ∙ (c.in-Ok.ensures.read a.name has.row named has.there ∙ ap (λ x. x.key) has.entry),
+      c.in-Ok-value.ensures.held,
+      read ∙ ap (λ x. x.value) has.entry,
+    )
+
+pub returns-in-Err-value-clause-read : goal.returns-in-Err-value-clause-read
+returns-in-Err-value-clause-read g c a named has some =
+    fetch_back (g.V.Vault.outside c.args.vault.now) (g.V.Vault.outside c.text_key.new.vault) c.in-Err-value.fault c.in-Ok.ensures.grows.contents
+    (c.in-Err-value.ensures.read by_texts a.name has.row (c.in-Ok.ensures.grows.named c.args.node a.name named) (c.in-Ok.ensures.grows.rows by_texts a.name has.row has.there) (λ e. some (ap (λ x. x.value) (sym has.entry) ∙ e)))
+
+pub returns-in-Ok-value-clause-grows : goal.returns-in-Ok-value-clause-grows
+returns-in-Ok-value-clause-grows g c =
+    touches_then (place c.args.sw.now (g.V.Vault.outside c.args.vault.now)) (place c.text_key.new.sw (g.V.Vault.outside c.text_key.new.vault)) (place c.value.new.sw (g.V.Vault.outside c.value.new.vault)) c.in-Ok.ensures.grows c.in-Ok-value.ensures.grows

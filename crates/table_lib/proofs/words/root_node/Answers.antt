@@ -1,0 +1,23 @@
+use Rattle.table_nodes.specs.heap_places.swizzle.Heap.{ref_at}
+use Rattle.table_nodes.specs.heap_places.swizzle.Joint.{name_of}
+use Rattle.table_nodes.specs.avl_trees.Standing.{root_of}
+use Rattle.table_nodes.specs.Steps.{place}
+use Rattle.table_nodes.proofs.NodeLaws.{grows_touch, side_kind, side_row}
+use Rattle.table_nodes.proofs.StepLaws.{is_side}
+use Rattle.table_lib.proofs.words.root_node.Goals as goal
+
+pub returns-then-is_node-clause-grows : goal.returns-then-is_node-clause-grows
+returns-then-is_node-clause-grows g c = grows_touch c.args.sw.now c.touch_slot.new.self (g.V.Vault.outside c.args.vault.now) (g.V.Vault.outside c.touch_slot.new.vault) _ c.sound.ensures c.sound-in-Ok-Some.ensures c.in-Ok-Some.ensures.call.contents c.in-Ok-Some.ensures.keeps c.in-Ok-Some.ensures.joint
+
+pub returns-else-is_node-clause-root : goal.returns-else-is_node-clause-root
+returns-else-is_node-clause-root g c ks t h =
+    let a = g.V.Vault.outside c.args.vault.now in
+    let b = g.V.Vault.outside c.touch_slot.new.vault in
+    let grows = grows_touch c.args.sw.now c.touch_slot.new.self a b _ c.sound.ensures c.sound-in-Ok-Some.ensures c.in-Ok-Some.ensures.call.contents c.in-Ok-Some.ensures.keeps c.in-Ok-Some.ensures.joint in
+    let node = side_kind ks c.args.sw.now c.touch_slot.new.self a b c.in-Ok-Some.root (name_of c.args.sw.now (ref_at c.args.sw.now c.args.at 0)) (root_of t) c.sound-in-Ok-Some.ensures grows
+    (side_row ks c.args.sw.now a (root_of t) (is_side ks (place c.args.sw.now a) t h.stands)) (rw c.in-Ok-Some.field-0-is at c.in-Ok-Some.ensures.target) h.root in
+    let yes = c.is_node.ensures.no node in
+    absurd (cc (yes, c.if-is_node.false))
+
+pub returns-in-Ok-None-clause-grows : goal.returns-in-Ok-None-clause-grows
+returns-in-Ok-None-clause-grows g c = grows_touch c.args.sw.now c.touch_slot.new.self (g.V.Vault.outside c.args.vault.now) (g.V.Vault.outside c.touch_slot.new.vault) _ c.sound.ensures c.sound-in-Ok-None.ensures c.in-Ok-None.ensures.call.contents c.in-Ok-None.ensures.keeps c.in-Ok-None.ensures.joint

@@ -1,0 +1,112 @@
+ghost use Rattle.std.specs.Prelude.{◌≡◌, IfOk, IfSome, OnOk};
+ghost use Rattle.table_nodes.specs.heap_places.swizzle.Heap.{IsHeld};
+ghost use Rattle.table_nodes.specs.heap_places.swizzle.Touch.{Keeps};
+ghost use Rattle.table_nodes.specs.Nodes.{IsNode, Grows};
+ghost use Rattle.table_nodes.specs.Sought.{kind_of};
+ghost use Rattle.table_nodes.specs.Steps.{place};
+ghost use Rattle.table_lib.specs.Operations.{Opens, ReadsRoot, keys_of};
+ghost use Rattle.table_lib.specs.Tables.{IsTableAt, key_number};
+
+use ps_base::trap::Trap;
+use table_nodes::heap_places::heap_texts::fault::OpFault;
+use table_nodes::heap_places::obj_layout::kind::Kind;
+use table_nodes::heap_places::obj_layout::vault::Vault;
+use table_nodes::heap_places::places::damaged;
+use table_nodes::heap_places::swizzle::fault::SwizzleFault;
+use table_nodes::heap_places::swizzle::swizzle::Swizzle;
+use table_nodes::keys::Key;
+use table_nodes::nodes::is_node;
+
+/// A table, and whether it has had keys.
+#[derive(Clone, Copy)]
+pub struct Opened {
+    pub at: u32,
+    pub used: bool,
+}
+
+/// Of which kind keys are.
+#[derive(Clone, Copy)]
+pub enum KeyKind {
+    Ints,
+    Texts,
+}
+
+/// The kind of a key.
+pub fn kind_of_key(key: Key) -> KeyKind
+    ensures { keys_of result ≡ kind_of key }
+{
+    match key {
+        Key::Int(_) => KeyKind::Ints,
+        Key::Text(_) => KeyKind::Texts,
+    }
+}
+
+// The number of a kind of keys.
+fn number_of(kind: KeyKind) -> u64
+    ensures { result ≡ key_number (keys_of kind) }
+{
+    match kind {
+        KeyKind::Texts => 1,
+        KeyKind::Ints => 2,
+    }
+}
+
+/// The table of an operand, for keys of this kind. Nil where there is none, WrongClass where the object is no table, KeyKind where the table
+/// has keys of the other kind.
+pub fn open_table(sw: &Swizzle, keys: KeyKind, table: Option<u32>) -> Result<Opened, OpFault>
+    requires held { IfSome table (IsHeld sw.now) }
+    ensures { Opens (keys_of keys) sw.now table result }
+{
+    let Some(at) = table else {
+        return Err(OpFault::Trap(Trap::Nil));
+    };
+    if sw.kind(at) != Kind::Table {
+        return Err(OpFault::Trap(Trap::WrongClass));
+    }
+    if sw.refs(at) != 1 || sw.nums(at) != 3 {
+        return Err(OpFault::Swizzle(damaged(sw, at, 0, 0)));
+    }
+    let kind = sw.num(at, 1);
+    if kind == 0 {
+        return Ok(Opened { at, used: false });
+    }
+    if kind == number_of(keys) {
+        return Ok(Opened { at, used: true });
+    }
+    if kind < 3 {
+        return Err(OpFault::Trap(Trap::KeyKind));
+    }
+    Err(OpFault::Swizzle(damaged(sw, at, kind, 3)))
+}
+
+/// The node of a table's root. It is fetched where it isn't in the area.
+pub fn root_node<V: Vault>(
+    sw: &mut Swizzle,
+    vault: &mut V,
+    at: u32,
+) -> Result<Option<u32>, SwizzleFault>
+    requires alive { V.alive vault.old }
+    requires table { IsTableAt sw.old at }
+    ensures root { ReadsRoot (place sw.old (V.outside vault.old)) sw.new at result }
+    ensures node { IfOk result (λ root. IfSome root (IsNode sw.new)) }
+    ensures grows { OnOk result (Grows sw.old sw.new (V.outside vault.old) (V.outside vault.new)) }
+    ensures keeps { OnOk result (Keeps sw.old sw.new) }
+    ensures alive { OnOk result (V.alive vault.new) }
+{
+    sw.sound();
+    match sw.touch_slot(vault, at, 0) {
+        Ok(Some(root)) => {
+            sw.sound();
+            if is_node(sw, root) {
+                Ok(Some(root))
+            } else {
+                Err(damaged(sw, root, 0, 0))
+            }
+        }
+        Ok(None) => {
+            sw.sound();
+            Ok(None)
+        }
+        Err(fault) => Err(fault),
+    }
+}

@@ -1,0 +1,113 @@
+-- A node that was made: its row, and what else is seen.
+use Rattle.std.proofs.Common.{◌≡◌, ℕ, zero, suc, ◌-◌, ◌^◌, ℤ, pos, negsuc, true, [], ◌∷◌, Some, refl, sym, ap, ◌∙◌, subst, arith, inl}
+use Rattle.heap_places.specs.ps_outside.Outside.{Outside}
+use Rattle.heap_places.specs.obj_layout.Stored.{Space, Holds}
+use Rattle.heap_places.specs.obj_layout.declared.kind.Kind.TheVariants.{Node}
+use Rattle.heap_places.specs.obj_layout.declared.reference.Reference.{Reference}
+use Rattle.heap_places.specs.obj_layout.declared.reference.Reference.TheVariants.{Nil, Local}
+use Rattle.heap_places.specs.swizzle.Objects.{Object}
+use Rattle.heap_places.specs.swizzle.Heap.{Heap, IsHeap, IsHeld, IsMade, IsInside, top_of, blank, with_ref, with_num, reference_to}
+use Rattle.heap_places.specs.swizzle.Joint.{Shown, Joint, shown, shown_at, name_at, name_of}
+use Rattle.heap_places.specs.swizzle.Changes.{Within, ChangedAt}
+use Rattle.heap_places.specs.swizzle.Reading.{joint}
+use Rattle.heap_places.proofs.of_swizzle.JointLaws.{joint-made, name-fresh}
+use Rattle.heap_places.proofs.of_swizzle.MadeLaws.{made-held, made-object, made-other}
+use Rattle.heap_places.proofs.of_swizzle.of_obj_layout.StoredLaws.{Holds-low}
+use Rattle.std.proofs.lemmas.Bool.{ltb-true}
+use Rattle.heap_places.specs.ps_meaning.Operators.{is_int}
+use Rattle.heap_places.proofs.WordLaws.{int-low, int-high}
+use Rattle.heap_places.proofs.FillingLaws.{made-ref, made-num}
+use Rattle.heap_places.specs.Words.{int_in, int_word}
+use Rattle.table_nodes.specs.declared.keys.Key.{Key}
+use Rattle.table_nodes.specs.declared.keys.Key.TheVariants.{Int, Text}
+use Rattle.table_nodes.specs.Keys.{IsKey}
+use Rattle.table_nodes.specs.Nodes.{IsNode, IsNamed}
+use Rattle.table_nodes.specs.Sought.{kind_of, key_in, IsKeyHeld}
+use Rattle.table_nodes.specs.Making.{with_key}
+use Rattle.table_nodes.specs.Entering.{Makes}
+use Rattle.table_nodes.proofs.NodeLaws.{rows_grow}
+use Rattle.table_nodes.proofs.SoughtLaws.{bytes_shown}
+
+-- the key of a new node, as a reference and as a word
+abbrev pub key_ref : Key → Reference
+key_ref (Int value) = Nil
+key_ref (Text text) = Local text
+
+abbrev pub key_word : Key → ℕ
+key_word (Int value) = int_word value
+key_word (Text text) = 0
+
+abbrev pub node_object : Key → ℕ → Object
+node_object key value = record (blank Node 4 3 0) { refs = Nil ∷ Nil ∷ key_ref key ∷ Local value ∷ []; nums = 0 ∷ key_word key ∷ 1 ∷ [] }
+
+pub node_made : (old mid m1 m2 m3 : Heap) (at value : ℕ) (key : Key) → IsMade old mid at (blank Node 4 3 0) → m1 ≡ with_key mid at key → m2 ≡ with_ref m1 at 3 (reference_to (Some value)) → m3 ≡ with_num m2 at 2 1
+    → IsMade old m3 at (node_object key value)
+node_made old mid m1 m2 m3 at value (Int z) made e1 e2 e3 = made-num old m2 m3 at 2 1 _ (made-ref old m1 m2 at 3 _ (Local value) (made-num old mid m1 at 1 (int_word z) _ made e1) e2) e3
+node_made old mid m1 m2 m3 at value (Text text) made e1 e2 e3 = made-num old m2 m3 at 2 1 _ (made-ref old m1 m2 at 3 _ (Local value) (made-ref old mid m1 at 2 _ (Local text) made e1) e2) e3
+
+-- each reference of it is to an object of before
+same_local : (i j : ℕ) → Local i ≡ Local j → i ≡ j
+same_local i j e = cc
+
+node_inside : (heap : Heap) (key : Key) (value : ℕ) → IsKeyHeld heap key → IsHeld heap value → IsInside heap (node_object key value)
+node_inside heap key value k v zero to e = absurd (cc)
+node_inside heap key value k v (suc zero) to e = absurd (cc)
+node_inside heap (Int z) value k v (suc (suc zero)) to e = absurd (cc)
+node_inside heap (Text text) value k v (suc (suc zero)) to e = subst (IsHeld heap) (same_local text to e) k.held
+node_inside heap key value k v (suc (suc (suc zero))) to e = subst (IsHeld heap) (same_local value to e) v
+node_inside heap key value k v (suc (suc (suc (suc n)))) to e = absurd (cc)
+
+-- An int comes back from the word that it is stored as.
+int_back : (z : ℤ) → is_int z ≡ true → int_in (int_word z) ≡ Some z
+unfolding int_word
+int_back (pos n) e = int-low n (ltb-true n (2 ^ 31) e)
+int_back (negsuc n) e =
+    let lt = ltb-true n (2 ^ 31) e in
+    int-high (2 ^ 64 - 1 - n) (omega (arith, lt)) ∙ ap (λ (k : ℕ). Some (negsuc k)) (omega (arith, lt))
+
+-- the key of the new node
+node_key : (old new : Heap) (outside : Outside Space) (value : ℕ) (key : Key) → IsKeyHeld old key → Within (joint old outside) (joint new outside)
+    → IsKey (kind_of key) (joint new outside) (shown (name_of old) (node_object key value)) (key_in old key)
+node_key old new outside value (Int z) held within = int_back z held
+node_key old new outside value (Text text) held within =
+    record { it = shown_at old text; there = within (name_at old text) (shown_at old text) (inl (record { at = text; held = held.held; name_is = refl; shown_is = refl })); kind = held.kind; bytes_are = bytes_shown old text held.kind }
+
+module _ (old new : Heap) (outside : Outside Space) (at value : ℕ) (key : Key) (h : IsHeap old) (h_new : IsHeap new) (held : IsKeyHeld old key) (v : IsHeld old value) (made : IsMade old new at (node_object key value)) where
+  abbrev pub it : Shown
+  it = shown (name_of old) (node_object key value)
+
+  changed : ChangedAt (joint old outside) (Local at) it (joint new outside)
+  changed = subst (λ n. ChangedAt (joint old outside) (Local n) it (joint new outside)) (sym made.place)
+      (subst (λ m. ChangedAt (joint old outside) (Local (top_of old)) it (joint m outside)) (sym made.made) (joint-made old (Holds outside) (node_object key value) h (node_inside old key value held v) refl (λ pid words there. Holds-low outside pid words there)))
+
+  unseen : (x : Shown) → joint old outside (Local at) x → ⊥
+  unseen x there = name-fresh old (Holds outside) x h (subst (λ n. joint old outside (Local n) x) made.place there)
+
+  within : Within (joint old outside) (joint new outside)
+  within n x there = changed.stays n x (λ e. unseen x (subst (λ m. joint old outside m x) e there)) there
+
+  nodes : (j : ℕ) → IsNode old j → IsNode new j
+  nodes j n = let other = made-other old new at (node_object key value) j made n.held in
+      record { held = other.0; kind = ap (λ x. x.header.kind) other.1 ∙ n.kind; refs = ap (λ x. x.header.refs) other.1 ∙ n.refs; nums = ap (λ x. x.header.nums) other.1 ∙ n.nums }
+
+  name_same : (j : ℕ) → IsHeld old j → name_at new j ≡ name_at old j
+  name_same j n = let other = made-other old new at (node_object key value) j made n in ap (λ x. Rattle.heap_places.specs.swizzle.Joint.name_by x.header j) other.1
+
+  here : IsNamed new at (Local at)
+  here =
+      let o = made-object old new at (node_object key value) made in
+      record {
+        node = record { held = made-held old new at (node_object key value) made; kind = ap (λ x. x.header.kind) o; refs = ap (λ x. x.header.refs) o; nums = ap (λ x. x.header.nums) o };
+        name = ap (λ x. Rattle.heap_places.specs.swizzle.Joint.name_by x.header at) o;
+      }
+
+  pub node_makes : Makes (kind_of key) old new outside at (key_in old key) (name_at old value)
+  node_makes = record {
+    there = record { it = it; there = changed.there; is = record { kind = refl; refs = refl; nums = refl; left = refl; right = refl; key = node_key old new outside value key held within; value = refl; height = refl } };
+    fresh = λ other row r. unseen r.it r.there;
+    rows = λ other. rows_grow other (joint old outside) (joint new outside) within;
+    here = here;
+    nodes = nodes;
+    named = λ j n m. record { node = nodes j m.node; name = name_same j m.node.held ∙ m.name };
+    heap = h_new;
+  }

@@ -1,0 +1,194 @@
+-- A pair is put into the tree of a node.
+use Rattle.std.proofs.Common.{true, false, ◌≡◌, ℕ, ◌<◌, ◌∷◌, ◌++◌, Option, Some, None, Result, Ok, Err, MatchResult, refl, sym, ap, ◌∙◌, subst, arith, inl, inr}
+use Rattle.std.specs.declared.cmp.Ordering.TheVariants.{Less, Equal, Greater}
+use Rattle.heap_places.specs.ps_outside.Outside.{Outside, SameContents}
+use Rattle.heap_places.specs.obj_layout.Stored.{Space}
+use Rattle.heap_places.specs.obj_layout.Stored.{Holds as Stored}
+use Rattle.heap_places.specs.obj_layout.declared.reference.Reference.{Reference}
+use Rattle.heap_places.specs.obj_layout.declared.reference.Reference.TheVariants.{Local}
+use Rattle.heap_places.specs.swizzle.declared.fault.SwizzleFault.{SwizzleFault}
+use Rattle.heap_places.specs.swizzle.Heap.{Heap, IsFull, top_of}
+use Rattle.heap_places.specs.swizzle.Joint.{name_at}
+use Rattle.heap_places.proofs.of_swizzle.JointLaws.{name-fresh}
+use Rattle.avl_trees.specs.Trees.{Tree, leaf, node, height, items, insert, lookup, balance}
+use Rattle.avl_trees.specs.Standing.{Stands, Given, under, root_of, row_of, put, fresh_item, seek, IsWritten}
+use Rattle.avl_trees.proofs.Ordered.{around, all_front, all_back}
+use Rattle.avl_trees.proofs.Standing.{stands_grown}
+use Rattle.avl_trees.proofs.Turning.{touched}
+use Rattle.avl_trees.proofs.Entering.{left_given, left_entered, right_given, right_entered, entered_here, entered_leaf, entered_grown, entered_here_is, entered_left_is, entered_right_is}
+use Rattle.table_nodes.specs.Keys.{Keys, KeyOf, order_by}
+use Rattle.table_nodes.specs.Nodes.{IsNamed, IsLinked, IsFetchFault}
+use Rattle.table_nodes.specs.Steps.{I, Place, place, IsPlace, rows_of, AreSides, StandsAt, Balances, Holds, Touches}
+use Rattle.table_nodes.specs.Searching.{HasValue, IsTree}
+use Rattle.table_nodes.specs.Entering.{Makes, Puts, with_value, IsOpened, Enters, EntersAt, IsEnterFault, IsCountedAt, is_missing, IsNoRoom}
+use Rattle.table_nodes.specs.declared.enter.Entered.{Entered}
+use Rattle.table_nodes.specs.declared.opening.Opened.{Opened}
+use Rattle.table_nodes.proofs.KeyLaws.{total}
+use Rattle.table_nodes.proofs.NodeLaws.{fetch_back}
+use Rattle.table_nodes.proofs.Seeking.{lookup_here, lookup_left, lookup_right}
+use Rattle.table_nodes.proofs.StepLaws.{one, linked_kept, place_touched}
+
+-- a side of a tree is a tree
+module _ (ks : Keys) (old m : Place) (root side : Option ℕ) (grows : Touches old m) (l : Tree (I ks)) (a : I ks) (r : Tree (I ks)) (t : IsTree ks old root (node l a r)) where
+  pub tree_left : IsLinked m.heap side (root_of l) → IsTree ks m side l
+  tree_left e = record {
+    stands = stands_grown (rows_of ks old) (rows_of ks m) (grows.rows ks) l t.stands.1;
+    root_is = e;
+    rising = (around (under (order_by ks)) (items l) a (items r) t.rising).left;
+    balanced = t.balanced.0;
+    values = all_front HasValue (items l) (a ∷ items r) t.values;
+  }
+
+  pub tree_right : IsLinked m.heap side (root_of r) → IsTree ks m side r
+  tree_right e = record {
+    stands = stands_grown (rows_of ks old) (rows_of ks m) (grows.rows ks) r t.stands.2;
+    root_is = e;
+    rising = (around (under (order_by ks)) (items l) a (items r) t.rising).right;
+    balanced = t.balanced.1;
+    values = (all_back HasValue (items l) (a ∷ items r) t.values).1;
+  }
+
+module _ (ks : Keys) (key : KeyOf ks) (value : Reference) where
+  -- the tree with the pair
+  abbrev with_entry : Reference → Tree (I ks) → Tree (I ks)
+  with_entry fresh t = insert (seek (order_by ks) key) (put value) (fresh_item fresh key value) t
+
+  pub put_leaf : (old new : Heap) (outside : Outside Space) (root : Option ℕ) (result : Result ℕ SwizzleFault) → root ≡ None
+      → MatchResult result (λ at. Makes ks old new outside at key value) (λ fault. IsFull old new 11 fault)
+      → (t : Tree (I ks)) → IsPlace (place old outside) → IsTree ks (place old outside) root t → MatchResult result (Enters ks (place old outside) (place new outside) t key value) (IsEnterFault outside)
+  unfolding insert
+  put_leaf old new outside root result e made (node x b y) p h = absurd (subst (λ s. IsLinked old s (Some b.name)) e h.root_is)
+  put_leaf old new outside root (Err fault) e made leaf p h = inr (subst IsNoRoom (sym made.fault_is) (refl, made.full))
+  put_leaf old new outside root (Ok at) e made leaf p h = record {
+    fresh = Local at;
+    is_fresh = made.fresh ks;
+    stands = record {
+      becomes = entered_leaf (order_by ks) (total ks) key value (Local at) (rows_of ks (place old outside)) (rows_of ks (place new outside)) made.there (made.rows ks);
+      here = record { heap = made.heap; single = p.single };
+      root_is = made.here;
+    };
+  }
+
+  module _ (old m m1 m2 : Place) (at h : ℕ) (root : Option ℕ) (opened : Opened) (grows : Touches old m) (p : IsPlace old) (l : Tree (I ks)) (a : I ks) (r : Tree (I ks)) (t : IsTree ks old root (node l a r)) (named : IsNamed old.heap at a.name) (o : IsOpened ks m.heap key l a r opened) where
+    standing : Stands (rows_of ks m) (node l a r)
+    standing = stands_grown (rows_of ks old) (rows_of ks m) (grows.rows ks) (node l a r) t.stands
+
+    here : IsPlace m
+    here = place_touched old m grows p
+
+    pub put_left : (side : ℕ) → Holds m.heap m1.heap → SameContents m.outside m1.outside → ((t : Tree (I ks)) → IsPlace m → IsTree ks m opened.left t → height t < h → Enters ks m m1 t key value side) → (result : Result ℕ SwizzleFault) → Balances m1 m2 at (Some side) opened.right result
+        → h ≡ height (node l a r) → h < 200 → opened.order ≡ Less → MatchResult result (Enters ks old m2 (node l a r) key value) (IsEnterFault old.outside)
+    put_left side holds contents enters result balances hh low less =
+        let e = sym o.order ∙ less in
+        let w = enters l here (tree_left ks old m root opened.left grows l a r t o.left) (omega (arith, hh)) in
+        let grown = entered_grown (order_by ks) (total ks) key value w.fresh l t.balanced.0 in
+        let g = left_given (order_by ks) (total ks) key value w.fresh (rows_of ks m) (rows_of ks m1) (one ks m here) l a r e standing t.rising w.stands.becomes in
+        let sides : AreSides ks m1 at (Some side) opened.right (with_entry w.fresh l) a r = record {
+          given = g;
+          here = w.stands.here;
+          name = holds.named at a.name (grows.named at a.name named);
+          left_is = w.stands.root_is;
+          right_is = linked_kept m.heap m1.heap holds.named opened.right (root_of r) o.right;
+          left_low = omega (arith, grown.high, hh, low);
+          right_low = omega (arith, hh, low);
+        } in
+        go w g result (balances ks _ a r sides)
+      where
+        go : (w : Enters ks m m1 l key value side) → Given (order_by ks) (rows_of ks m1) (with_entry w.fresh l) a r → (result : Result ℕ SwizzleFault)
+            → MatchResult result (StandsAt ks m1 m2 (items (with_entry w.fresh l) ++ a ∷ items r) (balance (with_entry w.fresh l) a r)) (IsFetchFault m1.outside)
+            → MatchResult result (Enters ks old m2 (node l a r) key value) (IsEnterFault old.outside)
+        go w g (Err fault) v = inl (fetch_back old.outside m.outside fault grows.contents (fetch_back m.outside m1.outside fault contents v))
+        go w g (Ok top) v = record {
+          fresh = w.fresh;
+          is_fresh = λ row k. w.is_fresh row (grows.rows ks w.fresh row k);
+          stands = record {
+            becomes = touched (rows_of ks old) (rows_of ks m) (rows_of ks m2) _ _ (grows.rows ks) (left_entered (order_by ks) (total ks) key value w.fresh (rows_of ks m) (rows_of ks m1) (rows_of ks m2) w.is_fresh l a r (sym o.order ∙ less) t.rising w.stands.becomes v.becomes);
+            here = v.here;
+            root_is = subst (λ u. IsLinked m2.heap (Some top) (root_of u)) (sym (entered_left_is (order_by ks) (total ks) key value w.fresh l a r (sym o.order ∙ less))) v.root_is;
+          };
+        }
+
+    pub put_right : (side : ℕ) → Holds m.heap m1.heap → SameContents m.outside m1.outside → ((t : Tree (I ks)) → IsPlace m → IsTree ks m opened.right t → height t < h → Enters ks m m1 t key value side) → (result : Result ℕ SwizzleFault) → Balances m1 m2 at opened.left (Some side) result
+        → h ≡ height (node l a r) → h < 200 → opened.order ≡ Greater → MatchResult result (Enters ks old m2 (node l a r) key value) (IsEnterFault old.outside)
+    put_right side holds contents enters result balances hh low more =
+        let e = sym o.order ∙ more in
+        let w = enters r here (tree_right ks old m root opened.right grows l a r t o.right) (omega (arith, hh)) in
+        let grown = entered_grown (order_by ks) (total ks) key value w.fresh r t.balanced.1 in
+        let g = right_given (order_by ks) (total ks) key value w.fresh (rows_of ks m) (rows_of ks m1) (one ks m here) l a r e standing t.rising w.stands.becomes in
+        let sides : AreSides ks m1 at opened.left (Some side) l a (with_entry w.fresh r) = record {
+          given = g;
+          here = w.stands.here;
+          name = holds.named at a.name (grows.named at a.name named);
+          left_is = linked_kept m.heap m1.heap holds.named opened.left (root_of l) o.left;
+          right_is = w.stands.root_is;
+          left_low = omega (arith, hh, low);
+          right_low = omega (arith, grown.high, hh, low);
+        } in
+        go w g result (balances ks l a _ sides)
+      where
+        go : (w : Enters ks m m1 r key value side) → Given (order_by ks) (rows_of ks m1) l a (with_entry w.fresh r) → (result : Result ℕ SwizzleFault)
+            → MatchResult result (StandsAt ks m1 m2 (items l ++ a ∷ items (with_entry w.fresh r)) (balance l a (with_entry w.fresh r))) (IsFetchFault m1.outside)
+            → MatchResult result (Enters ks old m2 (node l a r) key value) (IsEnterFault old.outside)
+        go w g (Err fault) v = inl (fetch_back old.outside m.outside fault grows.contents (fetch_back m.outside m1.outside fault contents v))
+        go w g (Ok top) v = record {
+          fresh = w.fresh;
+          is_fresh = λ row k. w.is_fresh row (grows.rows ks w.fresh row k);
+          stands = record {
+            becomes = touched (rows_of ks old) (rows_of ks m) (rows_of ks m2) _ _ (grows.rows ks) (right_entered (order_by ks) (total ks) key value w.fresh (rows_of ks m) (rows_of ks m1) (rows_of ks m2) w.is_fresh l a r (sym o.order ∙ more) t.rising w.stands.becomes v.becomes);
+            here = v.here;
+            root_is = subst (λ u. IsLinked m2.heap (Some top) (root_of u)) (sym (entered_right_is (order_by ks) (total ks) key value w.fresh l a r (sym o.order ∙ more))) v.root_is;
+          };
+        }
+
+    pub put_here : (new : Heap) (at_value : ℕ) → name_at m.heap at_value ≡ value → Puts m.heap new m.outside at at_value → opened.order ≡ Equal → Enters ks old (place new m.outside) (node l a r) key value at
+    put_here new at_value is_value puts same =
+        let e = sym o.order ∙ same in
+        let fresh = Local (top_of old.heap) in
+        let w : IsWritten (rows_of ks m) a.name (row_of l (put value a) r) (rows_of ks (place new m.outside)) =
+        subst (λ v. IsWritten (rows_of ks m) a.name (with_value v (row_of l a r)) (rows_of ks (place new m.outside))) is_value (puts.written ks a.name (row_of l a r) here.single (grows.named at a.name named) standing.0) in
+        record {
+          fresh = fresh;
+          is_fresh = λ row k. name-fresh old.heap (Stored old.outside) k.it p.heap k.there;
+          stands = record {
+            becomes = touched (rows_of ks old) (rows_of ks m) (rows_of ks (place new m.outside)) _ _ (grows.rows ks) (entered_here (order_by ks) (total ks) key value fresh (rows_of ks m) (rows_of ks (place new m.outside)) (one ks m here) l a r e standing t.rising w);
+            here = record { heap = puts.heap; single = here.single };
+            root_is = subst (λ u. IsLinked new (Some at) (root_of u)) (sym (entered_here_is (order_by ks) (total ks) key value fresh l a r e)) (puts.named at a.name (grows.named at a.name named));
+          };
+        }
+
+-- Where the root of a tree is.
+pub root_named : (heap : Heap) (root : Option ℕ) (at : ℕ) (n : Reference) → root ≡ Some at → IsLinked heap root (Some n) → IsNamed heap at n
+root_named heap root at n e h = subst (λ s. IsLinked heap s (Some n)) e h
+
+pub no_root : (heap : Heap) (root : Option ℕ) (at : ℕ) → root ≡ Some at → IsLinked heap root None → ⊥
+no_root heap root at e h = subst (λ s. IsLinked heap s None) e h
+
+-- what was entered, under the names of before
+pub entered_as : (ks : Keys) (old new : Place) (root : Option ℕ) (bound : ℕ) (key wanted : KeyOf ks) (value name : Reference) (result : Result Entered SwizzleFault) → key ≡ wanted → value ≡ name
+    → EntersAt ks old new root bound key value result → EntersAt ks old new root bound wanted name result
+entered_as ks old new root bound key wanted value name result e f w = subst (λ v. EntersAt ks old new root bound wanted v result) f (subst (λ k. EntersAt ks old new root bound k value result) e w)
+
+-- Whether the key was new.
+pub counted_leaf : (ks : Keys) (key : KeyOf ks) (p : Place) (root : Option ℕ) → root ≡ None → (t : Tree (I ks)) → IsTree ks p root t → true ≡ is_missing (lookup (seek (order_by ks) key) t)
+unfolding lookup
+counted_leaf ks key p root e leaf h = refl
+counted_leaf ks key p root e (node x b y) h = absurd (subst (λ s. IsLinked p.heap s (Some b.name)) e h.root_is)
+
+module _ (ks : Keys) (key : KeyOf ks) (old m : Place) (root side : Option ℕ) (bound : ℕ) (grows : Touches old m) (x : Tree (I ks)) (b : I ks) (y : Tree (I ks)) (h : IsTree ks old root (node x b y)) (low : bound ≡ height (node x b y)) (wanted : KeyOf ks) (same : wanted ≡ key) (entered : Entered)
+    (counted : IsCountedAt ks m side bound wanted (Ok entered)) where
+  pub counted_left : IsLinked m.heap side (root_of x) → order_by ks key b.entry.key ≡ Less → entered.made ≡ is_missing (lookup (seek (order_by ks) key) (node x b y))
+  counted_left linked less =
+      subst (λ k. entered.made ≡ is_missing (lookup (seek (order_by ks) k) x)) same (counted x (tree_left ks old m root side grows x b y h linked) (omega (arith, low)))
+      ∙ ap is_missing (sym (lookup_left ks key x b y less))
+
+  pub counted_right : IsLinked m.heap side (root_of y) → order_by ks key b.entry.key ≡ Greater → entered.made ≡ is_missing (lookup (seek (order_by ks) key) (node x b y))
+  counted_right linked more =
+      subst (λ k. entered.made ≡ is_missing (lookup (seek (order_by ks) k) y)) same (counted y (tree_right ks old m root side grows x b y h linked) (omega (arith, low)))
+      ∙ ap is_missing (sym (lookup_right ks key x b y more))
+
+pub counted_here : (ks : Keys) (key : KeyOf ks) (x : Tree (I ks)) (b : I ks) (y : Tree (I ks)) → order_by ks key b.entry.key ≡ Equal → false ≡ is_missing (lookup (seek (order_by ks) key) (node x b y))
+counted_here ks key x b y same = ap is_missing (sym (lookup_here ks key x b y same))
+
+pub fault_after : (a b : Outside Space) (fault : SwizzleFault) → SameContents a b → IsEnterFault b fault → IsEnterFault a fault
+fault_after a b fault same (inl w) = inl (fetch_back a b fault same w)
+fault_after a b fault same (inr w) = inr w

@@ -1,0 +1,211 @@
+-- A key is taken out of the tree of a node.
+use Rattle.std.proofs.Common.{true, false, ◌≢◌, ◌≡◌, ℕ, ◌<◌, ◌≤◌, ◌∷◌, ◌++◌, Option, Some, None, Result, Ok, Err, sym, ap, ◌∙◌, subst, arith}
+use Rattle.std.specs.declared.cmp.Ordering.TheVariants.{Less, Equal, Greater}
+use Rattle.heap_places.specs.swizzle.declared.fault.SwizzleFault.{SwizzleFault}
+use Rattle.avl_trees.specs.Trees.{Tree, leaf, node, height, items, balance, least, rest, merge, remove, lookup}
+use Rattle.avl_trees.specs.Standing.{Stands, Given, Becomes, root_of, seek}
+use Rattle.avl_trees.proofs.Balanced.{rest_shrunk, remove_shrunk}
+use Rattle.avl_trees.proofs.Standing.{stands_grown}
+use Rattle.avl_trees.proofs.Turning.{touched}
+use Rattle.avl_trees.proofs.Removing.{taken_here, taken_given, taken_above, merged_left, merged_right, merged_given, merged_both, left_removed_given, left_removed, right_removed_given, right_removed, removed_left_is, removed_right_is, removed_here_is}
+use Rattle.table_nodes.specs.Keys.{Keys, KeyOf, order_by}
+use Rattle.table_nodes.specs.Nodes.{IsNamed, IsLinked, IsFetchFault}
+use Rattle.table_nodes.specs.Steps.{I, Place, IsPlace, rows_of, AreSides, StandsAt, Holds, Touches}
+use Rattle.table_nodes.specs.Searching.{IsTree}
+use Rattle.table_nodes.specs.Entering.{IsOpened, is_missing}
+use Rattle.table_nodes.specs.Removing.{IsGoneAt, IsTaken, Leaves, Merges, Removes}
+use Rattle.table_nodes.specs.declared.opening.Opened.{Opened}
+use Rattle.table_nodes.specs.declared.remove.Least.{Least}
+use Rattle.table_nodes.specs.declared.remove.Removed.{Removed}
+use Rattle.table_nodes.proofs.KeyLaws.{total}
+use Rattle.table_nodes.proofs.NodeLaws.{fetch_back}
+use Rattle.table_nodes.proofs.Putting.{tree_left, tree_right}
+use Rattle.table_nodes.proofs.Seeking.{lookup_here, lookup_left, lookup_right}
+use Rattle.table_nodes.proofs.StepLaws.{one, linked_kept, place_touched}
+
+pub tree_grown : (ks : Keys) (old m : Place) (at : ℕ) (root : Option ℕ) → Touches old m → (l : Tree (I ks)) (a : I ks) (r : Tree (I ks)) → IsNamed old.heap at a.name → IsTree ks old root (node l a r) → IsTree ks m (Some at) (node l a r)
+tree_grown ks old m at root grows l a r named h =
+    record { stands = stands_grown (rows_of ks old) (rows_of ks m) (grows.rows ks) (node l a r) h.stands; root_is = grows.named at a.name named; rising = h.rising; balanced = h.balanced; values = h.values }
+
+-- The least node.
+
+module _ (ks : Keys) where
+  pub least_here : (old m : Place) (at : ℕ) (root right : Option ℕ) → Touches old m → (a : I ks) (r : Tree (I ks)) → IsPlace old → IsTree ks old root (node leaf a r) → IsNamed old.heap at a.name → IsLinked m.heap right (root_of r) → IsTaken ks old m leaf a r (record { node = at; rest = right })
+  unfolding least rest
+  least_here old m at root right grows a r p h name right_is =
+      let w = taken_here (order_by ks) (total ks) (rows_of ks m) a r (stands_grown (rows_of ks old) (rows_of ks m) (grows.rows ks) (node leaf a r) h.stands) in
+      record {
+        taken = record { has = w.has; becomes = touched (rows_of ks old) (rows_of ks m) (rows_of ks m) (items (node leaf a r)) r (grows.rows ks) w.becomes };
+        here = place_touched old m grows p;
+        node_is = grows.named at a.name name;
+        rest_is = right_is;
+      }
+
+  module _ (old m m1 : Place) (at : ℕ) (root right : Option ℕ) (grows : Touches old m) (holds : Holds m.heap m1.heap) (x : Tree (I ks)) (b : I ks) (y : Tree (I ks)) (a : I ks) (r : Tree (I ks)) (p : IsPlace old) (h : IsTree ks old root (node (node x b y) a r))
+      (name : IsNamed old.heap at a.name) (right_is : IsLinked m.heap right (root_of r)) (found : Least) (w : IsTaken ks m m1 x b y found) where
+    stands_m : Stands (rows_of ks m) (node (node x b y) a r)
+    stands_m = stands_grown (rows_of ks old) (rows_of ks m) (grows.rows ks) (node (node x b y) a r) h.stands
+
+    given : Given (order_by ks) (rows_of ks m1) (rest x b y) a r
+    given = taken_given (order_by ks) (total ks) (rows_of ks m) (rows_of ks m1) (one ks m (place_touched old m grows p)) x b y a r stands_m h.rising w.taken
+
+    pub least_sides : height (node (node x b y) a r) < 200 → AreSides ks m1 at found.rest right (rest x b y) a r
+    least_sides low =
+        let s = rest_shrunk x b y h.balanced.0 in
+        record {
+          given = given;
+          here = w.here;
+          name = holds.named at a.name (grows.named at a.name name);
+          left_is = w.rest_is;
+          right_is = linked_kept m.heap m1.heap holds.named right (root_of r) right_is;
+          left_low = omega (arith, s.low, low);
+          right_low = omega (arith, low);
+        }
+
+    pub least_above : (m2 : Place) (top : ℕ) → Holds m1.heap m2.heap → StandsAt ks m1 m2 (items (rest x b y) ++ a ∷ items r) (balance (rest x b y) a r) top → IsTaken ks old m2 (node x b y) a r (record { node = found.node; rest = Some top })
+    unfolding least rest
+    least_above m2 top kept v =
+        let t = taken_above (order_by ks) (total ks) (rows_of ks m) (rows_of ks m1) (rows_of ks m2) (one ks m1 w.here) x b y a r h.rising w.taken given v.becomes in
+        record {
+          taken = record { has = t.has; becomes = touched (rows_of ks old) (rows_of ks m) (rows_of ks m2) _ _ (grows.rows ks) t.becomes };
+          here = v.here;
+          node_is = kept.named found.node (least x b).name w.node_is;
+          rest_is = v.root_is;
+        }
+
+  -- Both sides without the node between them.
+
+  pub merge_left : (old : Place) (left right : Option ℕ) (at : ℕ) → right ≡ None → (l : Tree (I ks)) (a : I ks) (r : Tree (I ks)) → IsPlace old → IsTree ks old (Some at) (node l a r) → IsLinked old.heap left (root_of l) → IsLinked old.heap right (root_of r)
+      → Leaves ks old old (items (node l a r)) (merge l r) left
+  unfolding merge
+  merge_left old left right at none l a leaf p h e f = record { becomes = merged_left (order_by ks) (total ks) (rows_of ks old) l a h.stands; here = p; root_is = e }
+  merge_left old left right at none l a (node x b y) p h e f = absurd (subst (λ s. IsLinked old.heap s (Some b.name)) none f)
+
+  pub merge_right : (old : Place) (left right : Option ℕ) (at above : ℕ) → left ≡ None → right ≡ Some above → (l : Tree (I ks)) (a : I ks) (r : Tree (I ks)) → IsPlace old → IsTree ks old (Some at) (node l a r) → IsLinked old.heap left (root_of l) → IsLinked old.heap right (root_of r)
+      → Leaves ks old old (items (node l a r)) (merge l r) right
+  unfolding merge
+  merge_right old left right at above none some (node u d v) a r p h e f = absurd (subst (λ s. IsLinked old.heap s (Some d.name)) none e)
+  merge_right old left right at above none some leaf a leaf p h e f = absurd (subst (λ s. IsLinked old.heap s None) some f)
+  merge_right old left right at above none some leaf a (node x b y) p h e f = record { becomes = merged_right (order_by ks) (total ks) (rows_of ks old) a x b y h.stands; here = p; root_is = f }
+
+  module _ (old m1 : Place) (at below : ℕ) (holds : Holds old.heap m1.heap) (u : Tree (I ks)) (d : I ks) (v : Tree (I ks)) (a : I ks) (x : Tree (I ks)) (b : I ks) (y : Tree (I ks)) (p : IsPlace old) (h : IsTree ks old (Some at) (node (node u d v) a (node x b y)))
+      (left_is : IsNamed old.heap below d.name) (found : Least) (w : IsTaken ks old m1 x b y found) where
+    pub merge_sides_of : height (node (node u d v) a (node x b y)) ≤ 200 → AreSides ks m1 found.node (Some below) found.rest (node u d v) (least x b) (rest x b y)
+    merge_sides_of low =
+        let s = rest_shrunk x b y h.balanced.1 in
+        record {
+          given = merged_given (order_by ks) (total ks) (rows_of ks old) (rows_of ks m1) (one ks old p) (node u d v) a x b y h.stands h.rising w.taken;
+          here = w.here;
+          name = w.node_is;
+          left_is = holds.named below d.name left_is;
+          right_is = w.rest_is;
+          left_low = omega (arith, low);
+          right_low = omega (arith, s.low, low);
+        }
+
+    pub merge_done : (m2 : Place) (top : ℕ) → StandsAt ks m1 m2 (items (node u d v) ++ least x b ∷ items (rest x b y)) (balance (node u d v) (least x b) (rest x b y)) top
+        → Leaves ks old m2 (items (node (node u d v) a (node x b y))) (merge (node u d v) (node x b y)) (Some top)
+    unfolding merge
+    merge_done m2 top z = record { becomes = merged_both (order_by ks) (total ks) (rows_of ks old) (rows_of ks m1) (rows_of ks m2) u d v a x b y w.taken z.becomes; here = z.here; root_is = z.root_is }
+
+-- A level of the way up.
+
+module _ (ks : Keys) (key : KeyOf ks) where
+  abbrev removed : Tree (I ks) → Tree (I ks)
+  removed t = remove (seek (order_by ks) key) t
+
+  pub remove_leaf : (old : Place) (root : Option ℕ) → root ≡ None → (t : Tree (I ks)) → IsPlace old → IsTree ks old root t → Leaves ks old old (items t) (removed t) None
+  unfolding remove
+  remove_leaf old root e leaf p h = record { becomes = record { stands = tt; stays = λ n row p k. k }; here = p; root_is = tt }
+  remove_leaf old root e (node l a r) p h = absurd (subst (λ s. IsLinked old.heap s (Some a.name)) e h.root_is)
+
+  module _ (old m m1 : Place) (at : ℕ) (root : Option ℕ) (opened : Opened) (grows : Touches old m) (p : IsPlace old) (l : Tree (I ks)) (a : I ks) (r : Tree (I ks)) (h : IsTree ks old root (node l a r)) (name : IsNamed old.heap at a.name) (o : IsOpened ks m.heap key l a r opened) where
+    stands_opened : Stands (rows_of ks m) (node l a r)
+    stands_opened = stands_grown (rows_of ks old) (rows_of ks m) (grows.rows ks) (node l a r) h.stands
+
+    here : IsPlace m
+    here = place_touched old m grows p
+
+    pub left_sides : (side : Option ℕ) → Holds m.heap m1.heap → height (node l a r) < 200 → opened.order ≡ Less → Leaves ks m m1 (items l) (removed l) side → AreSides ks m1 at side opened.right (removed l) a r
+    left_sides side holds low less w =
+        let s = remove_shrunk (seek (order_by ks) key) l h.balanced.0 in
+        record {
+          given = left_removed_given (order_by ks) (total ks) key (rows_of ks m) (rows_of ks m1) (one ks m here) l a r (sym o.order ∙ less) stands_opened h.rising w.becomes;
+          here = w.here;
+          name = holds.named at a.name (grows.named at a.name name);
+          left_is = w.root_is;
+          right_is = linked_kept m.heap m1.heap holds.named opened.right (root_of r) o.right;
+          left_low = omega (arith, s.low, low);
+          right_low = omega (arith, low);
+        }
+
+    pub left_done : (m2 : Place) (side : Option ℕ) (top : ℕ) → opened.order ≡ Less → Leaves ks m m1 (items l) (removed l) side
+        → StandsAt ks m1 m2 (items (removed l) ++ a ∷ items r) (balance (removed l) a r) top → Leaves ks old m2 (items (node l a r)) (removed (node l a r)) (Some top)
+    left_done m2 side top less w v =
+        let e = sym o.order ∙ less in
+        record {
+          becomes = touched (rows_of ks old) (rows_of ks m) (rows_of ks m2) _ _ (grows.rows ks) (left_removed (order_by ks) (total ks) key (rows_of ks m) (rows_of ks m1) (rows_of ks m2) l a r e h.rising w.becomes v.becomes);
+          here = v.here;
+          root_is = subst (λ u. IsLinked m2.heap (Some top) (root_of u)) (sym (removed_left_is (order_by ks) (total ks) key l a r e)) v.root_is;
+        }
+
+    pub right_sides : (side : Option ℕ) → Holds m.heap m1.heap → height (node l a r) < 200 → opened.order ≡ Greater → Leaves ks m m1 (items r) (removed r) side → AreSides ks m1 at opened.left side l a (removed r)
+    right_sides side holds low more w =
+        let s = remove_shrunk (seek (order_by ks) key) r h.balanced.1 in
+        record {
+          given = right_removed_given (order_by ks) (total ks) key (rows_of ks m) (rows_of ks m1) (one ks m here) l a r (sym o.order ∙ more) stands_opened h.rising w.becomes;
+          here = w.here;
+          name = holds.named at a.name (grows.named at a.name name);
+          left_is = linked_kept m.heap m1.heap holds.named opened.left (root_of l) o.left;
+          right_is = w.root_is;
+          left_low = omega (arith, low);
+          right_low = omega (arith, s.low, low);
+        }
+
+    pub right_done : (m2 : Place) (side : Option ℕ) (top : ℕ) → opened.order ≡ Greater → Leaves ks m m1 (items r) (removed r) side
+        → StandsAt ks m1 m2 (items l ++ a ∷ items (removed r)) (balance l a (removed r)) top → Leaves ks old m2 (items (node l a r)) (removed (node l a r)) (Some top)
+    right_done m2 side top more w v =
+        let e = sym o.order ∙ more in
+        record {
+          becomes = touched (rows_of ks old) (rows_of ks m) (rows_of ks m2) _ _ (grows.rows ks) (right_removed (order_by ks) (total ks) key (rows_of ks m) (rows_of ks m1) (rows_of ks m2) l a r e h.rising w.becomes v.becomes);
+          here = v.here;
+          root_is = subst (λ u. IsLinked m2.heap (Some top) (root_of u)) (sym (removed_right_is (order_by ks) (total ks) key l a r e)) v.root_is;
+        }
+
+    pub here_done : (top : Option ℕ) (bound : ℕ) → bound ≡ height (node l a r) → opened.order ≡ Equal → Merges m m1 opened.left opened.right bound (Ok top) → Leaves ks old m1 (items (node l a r)) (removed (node l a r)) top
+    here_done top bound high same merges =
+        let v = merges ks at l a r here (tree_grown ks old m at root grows l a r name h) o.left o.right (omega (arith, high)) in
+        let e = removed_here_is (order_by ks) (total ks) key l a r (sym o.order ∙ same) in
+        record {
+          becomes = touched (rows_of ks old) (rows_of ks m) (rows_of ks m1) _ _ (grows.rows ks) (subst (λ t. Becomes (rows_of ks m) (rows_of ks m1) (items (node l a r)) t) (sym e) v.becomes);
+          here = v.here;
+          root_is = subst (λ u. IsLinked m1.heap top (root_of u)) (sym e) v.root_is;
+        }
+
+    pub here_fault : (fault : SwizzleFault) (bound : ℕ) → bound ≡ height (node l a r) → Merges m m1 opened.left opened.right bound (Err fault) → IsFetchFault old.outside fault
+    here_fault fault bound high merges = fetch_back old.outside m.outside fault grows.contents (merges ks at l a r here (tree_grown ks old m at root grows l a r name h) o.left o.right (omega (arith, high)))
+
+-- what was taken out, by the key of before
+pub removed_as : (ks : Keys) (old new : Place) (root : Option ℕ) (bound : ℕ) (key wanted : KeyOf ks) (result : Result Removed SwizzleFault) → key ≡ wanted → Removes ks old new root bound key result → Removes ks old new root bound wanted result
+removed_as ks old new root bound key wanted result e w = subst (λ k. Removes ks old new root bound k result) e w
+
+-- Whether the tree had the key.
+pub gone_leaf : (ks : Keys) (key : KeyOf ks) (p : Place) (root : Option ℕ) → root ≡ None → (t : Tree (I ks)) → IsTree ks p root t → false ≢ is_missing (lookup (seek (order_by ks) key) t)
+unfolding lookup
+gone_leaf ks key p root e leaf h = λ f. cc
+gone_leaf ks key p root e (node x b y) h = absurd (subst (λ s. IsLinked p.heap s (Some b.name)) e h.root_is)
+
+module _ (ks : Keys) (key : KeyOf ks) (old m : Place) (root side : Option ℕ) (bound : ℕ) (grows : Touches old m) (x : Tree (I ks)) (b : I ks) (y : Tree (I ks)) (h : IsTree ks old root (node x b y)) (low : bound ≡ height (node x b y)) (wanted : KeyOf ks) (same : wanted ≡ key) (removed : Removed)
+    (gone : IsGoneAt ks m side bound wanted (Ok removed)) where
+  pub gone_left : IsLinked m.heap side (root_of x) → order_by ks key b.entry.key ≡ Less → removed.gone ≢ is_missing (lookup (seek (order_by ks) key) (node x b y))
+  gone_left linked less =
+      let below = subst (λ k. removed.gone ≢ is_missing (lookup (seek (order_by ks) k) x)) same (gone x (tree_left ks old m root side grows x b y h linked) (omega (arith, low))) in
+      λ e. below (e ∙ ap is_missing (lookup_left ks key x b y less))
+
+  pub gone_right : IsLinked m.heap side (root_of y) → order_by ks key b.entry.key ≡ Greater → removed.gone ≢ is_missing (lookup (seek (order_by ks) key) (node x b y))
+  gone_right linked more =
+      let below = subst (λ k. removed.gone ≢ is_missing (lookup (seek (order_by ks) k) y)) same (gone y (tree_right ks old m root side grows x b y h linked) (omega (arith, low))) in
+      λ e. below (e ∙ ap is_missing (lookup_right ks key x b y more))
+
+pub gone_here : (ks : Keys) (key : KeyOf ks) (x : Tree (I ks)) (b : I ks) (y : Tree (I ks)) → order_by ks key b.entry.key ≡ Equal → true ≢ is_missing (lookup (seek (order_by ks) key) (node x b y))
+gone_here ks key x b y same = λ e. let f = e ∙ ap is_missing (lookup_here ks key x b y same) in absurd (cc)

@@ -1,0 +1,144 @@
+-- A key is sought, from the root of a tree down.
+use Rattle.std.proofs.Common.{◌≡◌, ◌∷◌, ℕ, ◌+◌, ◌<◌, Option, Some, None, Result, Ok, Err, MatchResult, refl, sym, ◌∙◌, subst, arith, inl, inr}
+use Rattle.std.specs.List.{AllByRecursion}
+use Rattle.std.specs.declared.cmp.Ordering.TheVariants.{Less, Equal, Greater}
+use Rattle.heap_places.specs.swizzle.declared.fault.SwizzleFault.{SwizzleFault}
+use Rattle.heap_places.specs.obj_layout.declared.reference.Reference.{Reference}
+use Rattle.heap_places.specs.swizzle.Heap.{Heap, IsHeld}
+use Rattle.heap_places.specs.swizzle.Joint.{name_at}
+use Rattle.avl_trees.specs.Trees.{Tree, leaf, node, height, items, lookup}
+use Rattle.avl_trees.specs.Standing.{Stands, seek, root_of, row_of}
+use Rattle.avl_trees.proofs.Ordered.{all_front, all_back}
+use Rattle.avl_trees.proofs.Standing.{stands_grown}
+use Rattle.table_nodes.specs.Keys.{Keys, KeyOf, order_by}
+use Rattle.table_nodes.specs.Nodes.{Seat, IsNamed, IsLinked, IsFetchFault}
+use Rattle.table_nodes.specs.Steps.{I, Place, rows_of, Touches}
+use Rattle.table_nodes.specs.Searching.{HasValue, IsTree, looks, value_of, IsObject, ReadsValue, IsStep}
+use Rattle.table_nodes.specs.declared.search.Step.TheVariants.{Found, Down}
+use Rattle.table_nodes.proofs.NodeLaws.{fetch_back}
+
+module _ (ks : Keys) (key : KeyOf ks) where
+  abbrev sought_in : Tree (I ks) → Option (I ks)
+  sought_in t = lookup (seek (order_by ks) key) t
+
+  abbrev looks_in : Tree (I ks) → ℕ
+  looks_in t = looks (seek (order_by ks) key) t
+
+  -- What is sought in a tree is sought in this part of it, which is lower than the bound; so many steps
+  -- were taken before and up to now.
+  pub record Sought (p : Place) (at : Option ℕ) (bound before now : ℕ) (t : Tree (I ks)) : Type 0 where
+    pub part : Tree (I ks)
+    pub looked : before + looks_in t ≡ now + looks_in part
+    pub stands : Stands (rows_of ks p) part
+    pub root_is : IsLinked p.heap at (root_of part)
+    pub same : sought_in part ≡ sought_in t
+    pub lower : height part < bound
+    pub values : AllByRecursion HasValue (items part)
+
+  -- before the first step
+  pub sought_whole : (p : Place) (root : Option ℕ) (bound before : ℕ) (t : Tree (I ks)) → IsTree ks p root t → height t < bound → Sought p root bound before before t
+  sought_whole p root bound before t h low = record { part = t; looked = refl; stands = h.stands; root_is = h.root_is; same = refl; lower = low; values = h.values }
+
+  -- nothing is left
+  pub sought_none : (p : Place) (new : Heap) (bound before now : ℕ) (t : Tree (I ks)) → Sought p None bound before now t → IsObject new None (value_of (sought_in t))
+  unfolding lookup
+  sought_none p new bound before now t s = go s.part s.root_is s.same
+    where
+      go : (part : Tree (I ks)) → IsLinked p.heap None (root_of part) → sought_in part ≡ sought_in t → IsObject new None (value_of (sought_in t))
+      go leaf e f = subst (λ o. IsObject new None (value_of o)) f tt
+      go (node x b y) e f = absurd e
+
+  pub looked_none : (p : Place) (bound before now : ℕ) (t : Tree (I ks)) → Sought p None bound before now t → now ≡ before + looks_in t
+  unfolding looks
+  looked_none p bound before now t s = go s.part s.root_is s.looked
+    where
+      go : (part : Tree (I ks)) → IsLinked p.heap None (root_of part) → before + looks_in t ≡ now + looks_in part → now ≡ before + looks_in t
+      go leaf e f = omega (arith, f)
+      go (node x b y) e f = absurd e
+
+  -- the part at a node
+  pub record AtNode (p : Place) (n bound before now : ℕ) (t : Tree (I ks)) : Type 0 where
+    pub x : Tree (I ks)
+    pub b : I ks
+    pub y : Tree (I ks)
+    pub stands : Stands (rows_of ks p) (node x b y)
+    pub name : IsNamed p.heap n b.name
+    pub same : sought_in (node x b y) ≡ sought_in t
+    pub lower : height (node x b y) < bound
+    pub values : AllByRecursion HasValue (items (node x b y))
+    pub looked : before + looks_in t ≡ now + looks_in (node x b y)
+
+  pub at_node : (p : Place) (n bound before now : ℕ) (t : Tree (I ks)) → Sought p (Some n) bound before now t → AtNode p n bound before now t
+  at_node p n bound before now t s = go s.part s.stands s.root_is s.same s.lower s.values s.looked
+    where
+      go : (part : Tree (I ks)) → Stands (rows_of ks p) part → IsLinked p.heap (Some n) (root_of part) → sought_in part ≡ sought_in t → height part < bound → AllByRecursion HasValue (items part) → before + looks_in t ≡ now + looks_in part → AtNode p n bound before now t
+      go leaf h e f l v k = absurd e
+      go (node x b y) h e f l v k = record { looked = k; x = x; b = b; y = y; stands = h; name = e; same = f; lower = l; values = v }
+
+  pub lookup_here : (x : Tree (I ks)) (b : I ks) (y : Tree (I ks)) → order_by ks key b.entry.key ≡ Equal → sought_in (node x b y) ≡ Some b
+  unfolding lookup
+  lookup_here x b y e = rw e refl
+
+  pub lookup_left : (x : Tree (I ks)) (b : I ks) (y : Tree (I ks)) → order_by ks key b.entry.key ≡ Less → sought_in (node x b y) ≡ sought_in x
+  unfolding lookup
+  lookup_left x b y e = rw e refl
+
+  pub lookup_right : (x : Tree (I ks)) (b : I ks) (y : Tree (I ks)) → order_by ks key b.entry.key ≡ Greater → sought_in (node x b y) ≡ sought_in y
+  unfolding lookup
+  lookup_right x b y e = rw e refl
+
+  looks_here : (x : Tree (I ks)) (b : I ks) (y : Tree (I ks)) → order_by ks key b.entry.key ≡ Equal → looks_in (node x b y) ≡ 1
+  unfolding looks
+  looks_here x b y e = rw e refl
+
+  looks_left : (x : Tree (I ks)) (b : I ks) (y : Tree (I ks)) → order_by ks key b.entry.key ≡ Less → looks_in (node x b y) ≡ 1 + looks_in x
+  unfolding looks
+  looks_left x b y e = rw e refl
+
+  looks_right : (x : Tree (I ks)) (b : I ks) (y : Tree (I ks)) → order_by ks key b.entry.key ≡ Greater → looks_in (node x b y) ≡ 1 + looks_in y
+  unfolding looks
+  looks_right x b y e = rw e refl
+
+  -- the height that was read
+  pub height_read : (p : Place) (n bound before now : ℕ) (t : Tree (I ks)) (s : AtNode p n bound before now t) (h : ℕ) → ((at : ℕ) (k : Reference) (row : Seat ks) → Some n ≡ Some at → IsNamed p.heap at k → rows_of ks p k row → h ≡ row.height) → h ≡ height (node s.x s.b s.y)
+  height_read p n bound before now t s h f = f n s.b.name (row_of s.x s.b s.y) refl s.name s.stands.0
+
+  module _ (p m : Place) (n bound before now : ℕ) (t : Tree (I ks)) (s : AtNode p n bound before now t) (grows : Touches p m) where
+    -- the key was found, and its value read
+    pub sought_found : (new : Place) → IsStep ks m.heap key s.x s.b s.y Found → (result : Result ℕ SwizzleFault) → ReadsValue m.heap new.heap m.outside n result
+        → MatchResult result (λ value. IsHeld new.heap value → IsObject new.heap (Some value) (value_of (sought_in t))) (IsFetchFault p.outside)
+    sought_found new found result reads =
+        let not_nil = (all_back HasValue (items s.x) (s.b ∷ items s.y) s.values).0 in
+        go result (reads ks s.b.name (row_of s.x s.b s.y) (grows.named n s.b.name s.name) (grows.rows ks s.b.name (row_of s.x s.b s.y) s.stands.0) not_nil)
+      where
+        go : (result : Result ℕ SwizzleFault) → MatchResult result (λ value. name_at new.heap value ≡ s.b.entry.value) (IsFetchFault m.outside)
+            → MatchResult result (λ value. IsHeld new.heap value → IsObject new.heap (Some value) (value_of (sought_in t))) (IsFetchFault p.outside)
+        go (Ok value) e = λ held. subst (λ o. IsObject new.heap (Some value) (value_of o)) (sym (lookup_here s.x s.b s.y found) ∙ s.same) (held, e)
+        go (Err fault) w = fetch_back p.outside m.outside fault grows.contents w
+
+    pub looked_found : (later : ℕ) → later ≡ now + 1 → IsStep ks m.heap key s.x s.b s.y Found → later ≡ before + looks_in t
+    looked_found later e found =
+        let one = looks_here s.x s.b s.y found in
+        let all = s.looked in
+        omega (arith, e, one, all)
+
+    -- the search goes on at a side
+    pub sought_down : (later : ℕ) → later ≡ now + 1 → (h : ℕ) (side : Option ℕ) → IsStep ks m.heap key s.x s.b s.y (Down side) → h ≡ height (node s.x s.b s.y) → Sought m side h before later t
+    sought_down later one h side (inl w) e = record {
+      part = s.x;
+      looked = (let more = looks_left s.x s.b s.y w.0 in let all = s.looked in omega (arith, one, more, all));
+      stands = stands_grown (rows_of ks p) (rows_of ks m) (grows.rows ks) s.x s.stands.1;
+      root_is = w.1;
+      same = sym (lookup_left s.x s.b s.y w.0) ∙ s.same;
+      lower = omega (arith, e);
+      values = all_front HasValue (items s.x) (s.b ∷ items s.y) s.values;
+    }
+    sought_down later one h side (inr w) e = record {
+      part = s.y;
+      looked = (let more = looks_right s.x s.b s.y w.0 in let all = s.looked in omega (arith, one, more, all));
+      stands = stands_grown (rows_of ks p) (rows_of ks m) (grows.rows ks) s.y s.stands.2;
+      root_is = w.1;
+      same = sym (lookup_right s.x s.b s.y w.0) ∙ s.same;
+      lower = omega (arith, e);
+      values = (all_back HasValue (items s.x) (s.b ∷ items s.y) s.values).1;
+    }

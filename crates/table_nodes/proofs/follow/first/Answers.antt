@@ -1,0 +1,39 @@
+use Rattle.std.proofs.Common.{Option, Some, ℕ, refl, subst, inl}
+use Rattle.std.specs.declared.cmp.Ordering.TheVariants.{Less}
+use Rattle.heap_places.proofs.of_swizzle.TouchLaws.{keeps-trans}
+use Rattle.avl_trees.specs.Standing.{row_of}
+use Rattle.table_nodes.specs.Steps.{place}
+use Rattle.table_nodes.proofs.NodeLaws.{fetch_back}
+use Rattle.table_nodes.proofs.StepLaws.{is_side, touches_then}
+use Rattle.table_nodes.proofs.FollowLaws.{Following, at_turn, following_none, height_at, following_on}
+use Rattle.table_nodes.proofs.follow.first.Goals as goal
+
+pub returns-in-Err-clause-begins : goal.returns-in-Err-clause-begins
+returns-in-Err-clause-begins g c ks t h low =
+    let now = place c.loop-at.sw (g.V.Vault.outside c.loop-at.vault) in
+    let s = at_turn ks (λ a. Less) now c.in-Some.node c.loop-at.last c.loop-at.bound t (subst (λ (i : Option ℕ). Following ks (λ a. Less) now i c.loop-at.last c.loop-at.bound t) c.in-Some.is (c.loop-at.invariant.begins ks t h low)) in
+    fetch_back (g.V.Vault.outside c.args.vault.now) now.outside c.in-Err.fault c.loop-at.invariant.grows.contents
+    (c.in-Err.ensures.sound ks s.b.name (row_of s.x s.b s.y) s.name s.stands.0 (is_side ks now s.x s.stands.1))
+
+pub loop-at-preserved : goal.loop-at-preserved
+loop-at-preserved g c =
+    let old = place c.args.sw.now (g.V.Vault.outside c.args.vault.now) in
+    let now = place c.loop-at.sw (g.V.Vault.outside c.loop-at.vault) in
+    let m = place c.side.new.sw (g.V.Vault.outside c.side.new.vault) in
+    record {
+      node = c.in-Ok.ensures.held;
+      last = c.in-Ok.ensures.grows.nodes c.in-Some.node (subst (λ (i : Option ℕ). Rattle.std.specs.Prelude.IfSome i (Rattle.table_nodes.specs.Nodes.IsNode now.heap)) c.in-Some.is c.loop-at.invariant.node);
+      keeps = keeps-trans old.heap now.heap m.heap c.loop-at.invariant.keeps c.in-Ok.ensures.keeps;
+      grows = touches_then old now m c.loop-at.invariant.grows c.in-Ok.ensures.grows;
+      alive = c.in-Ok.ensures.alive;
+      begins = λ ks t h low.
+          let s = at_turn ks (λ a. Less) now c.in-Some.node c.loop-at.last c.loop-at.bound t (subst (λ (i : Option ℕ). Following ks (λ a. Less) now i c.loop-at.last c.loop-at.bound t) c.in-Some.is (c.loop-at.invariant.begins ks t h low)) in
+          let e = height_at ks (λ a. Less) now c.in-Some.node c.loop-at.last c.loop-at.bound t s c.height-height.result (c.height-height.ensures.some ks) in
+          following_on ks (λ a. Less) now m c.in-Some.node c.loop-at.last c.loop-at.bound t s c.in-Ok.ensures.grows c.height-height.result (record { last = Some c.in-Some.node; side = c.in-Ok.side })
+          (inl (refl, refl, c.in-Ok.ensures.side ks s.b.name (row_of s.x s.b s.y) s.name s.stands.0)) e;
+    }
+
+pub returns-clause-begins : goal.returns-clause-begins
+returns-clause-begins g c ks t h low =
+    let now = place c.loop-at.sw (g.V.Vault.outside c.loop-at.vault) in
+    following_none ks (λ a. Less) now c.loop-at.last c.loop-at.bound t (subst (λ (i : Option ℕ). Following ks (λ a. Less) now i c.loop-at.last c.loop-at.bound t) c.in_default.is (c.loop-at.invariant.begins ks t h low))

@@ -1,0 +1,50 @@
+use Rattle.std.proofs.Common.{◌≡◌, ◌≢◌, refl, sym, ◌∙◌, arith, inl, inr}
+use Rattle.std.proofs.lemmas.Grind.{common_steps}
+use Rattle.std.specs.declared.cmp.Ordering.TheVariants.{Less}
+use Rattle.avl_trees.specs.Trees.{node}
+use Rattle.avl_trees.specs.Standing.{row_of}
+use Rattle.avl_trees.proofs.Standing.{stands_grown}
+use Rattle.table_nodes.specs.Sought.{kind_of}
+use Rattle.table_nodes.specs.Steps.{place, rows_of}
+use Rattle.table_nodes.proofs.NodeLaws.{fetch_back}
+use Rattle.table_nodes.proofs.StepLaws.{is_side}
+use Rattle.table_nodes.proofs.follow.go_on.Goals as goal
+
+pub returns-in-Err-clause-turns : goal.returns-in-Err-clause-turns
+returns-in-Err-clause-turns g c x b y s named = c.in-Err.ensures.ordered b.name (row_of x b y) named s.0
+
+pub returns-in-Ok-side-clause-turns : goal.returns-in-Ok-side-clause-turns
+returns-in-Ok-side-clause-turns g c x b y s named =
+    let less : c.in-Ok.order ≡ Less = grind (arith, common_steps) in
+    inl (
+      sym (c.in-Ok.ensures.ordered b.name (row_of x b y) named s.0) ∙ less,
+      refl,
+      c.in-Ok-side.ensures.side (kind_of c.args.key) b.name (row_of x b y) (c.in-Ok.ensures.grows.named c.args.at b.name named) (c.in-Ok.ensures.grows.rows (kind_of c.args.key) b.name (row_of x b y) s.0),
+    )
+
+pub returns-in-Err-side-clause-turns : goal.returns-in-Err-side-clause-turns
+returns-in-Err-side-clause-turns g c x b y s named =
+    let ks = kind_of c.args.key in
+    let p = place c.args.sw.now (g.V.Vault.outside c.args.vault.now) in
+    let m = place c.order.new.sw (g.V.Vault.outside c.order.new.vault) in
+    let t = stands_grown (rows_of ks p) (rows_of ks m) (c.in-Ok.ensures.grows.rows ks) (node x b y) s in
+    fetch_back p.outside m.outside c.in-Err-side.fault c.in-Ok.ensures.grows.contents
+    (c.in-Err-side.ensures.sound ks b.name (row_of x b y) (c.in-Ok.ensures.grows.named c.args.at b.name named) t.0 (is_side ks m x t.1))
+
+pub returns-in-Ok-side-2-clause-turns : goal.returns-in-Ok-side-2-clause-turns
+returns-in-Ok-side-2-clause-turns g c x b y s named =
+    let not : c.in-Ok.order ≢ Less = λ e. absurd (grind (arith, common_steps, e)) in
+    inr (
+      (λ e. not (c.in-Ok.ensures.ordered b.name (row_of x b y) named s.0 ∙ e)),
+      refl,
+      c.in-Ok-side-2.ensures.side (kind_of c.args.key) b.name (row_of x b y) (c.in-Ok.ensures.grows.named c.args.at b.name named) (c.in-Ok.ensures.grows.rows (kind_of c.args.key) b.name (row_of x b y) s.0),
+    )
+
+pub returns-in-Err-side-2-clause-turns : goal.returns-in-Err-side-2-clause-turns
+returns-in-Err-side-2-clause-turns g c x b y s named =
+    let ks = kind_of c.args.key in
+    let p = place c.args.sw.now (g.V.Vault.outside c.args.vault.now) in
+    let m = place c.order.new.sw (g.V.Vault.outside c.order.new.vault) in
+    let t = stands_grown (rows_of ks p) (rows_of ks m) (c.in-Ok.ensures.grows.rows ks) (node x b y) s in
+    fetch_back p.outside m.outside c.in-Err-side-2.fault c.in-Ok.ensures.grows.contents
+    (c.in-Err-side-2.ensures.sound ks b.name (row_of x b y) (c.in-Ok.ensures.grows.named c.args.at b.name named) t.0 (is_side ks m y t.2))

@@ -1,0 +1,49 @@
+use Rattle.std.proofs.Common.{◌∙◌, Option, ℕ, subst}
+use Rattle.heap_places.proofs.of_swizzle.TouchLaws.{keeps-trans}
+use Rattle.avl_trees.specs.Standing.{seek}
+use Rattle.table_nodes.specs.Keys.{order_by}
+use Rattle.table_nodes.specs.Sought.{kind_of, key_in}
+use Rattle.table_nodes.specs.Steps.{place}
+use Rattle.table_nodes.specs.Following.{IsTurn}
+use Rattle.table_nodes.proofs.NodeLaws.{fetch_back}
+use Rattle.table_nodes.proofs.SoughtLaws.{key_held_kept, key_in_kept}
+use Rattle.table_nodes.proofs.StepLaws.{touches_then}
+use Rattle.table_nodes.proofs.FollowLaws.{Following, at_turn, following_none, height_at, following_on}
+use Rattle.table_nodes.proofs.follow.next.Goals as goal
+
+pub returns-in-Err-clause-follows : goal.returns-in-Err-clause-follows
+returns-in-Err-clause-follows g c t h low =
+    let ks = kind_of c.args.key in
+    let wanted = key_in c.args.sw.now c.args.key in
+    let now = place c.loop-at.sw (g.V.Vault.outside c.loop-at.vault) in
+    let s = at_turn ks (seek (order_by ks) wanted) now c.in-Some.node c.loop-at.last c.loop-at.bound t (subst (λ (i : Option ℕ). Following ks (seek (order_by ks) wanted) now i c.loop-at.last c.loop-at.bound t) c.in-Some.is (c.loop-at.invariant.follows t h low)) in
+    fetch_back (g.V.Vault.outside c.args.vault.now) now.outside c.in-Err.fault c.loop-at.invariant.grows.contents (c.in-Err.ensures.turns s.x s.b s.y s.stands s.name)
+
+pub loop-at-preserved : goal.loop-at-preserved
+loop-at-preserved g c =
+    let ks = kind_of c.args.key in
+    let wanted = key_in c.args.sw.now c.args.key in
+    let old = place c.args.sw.now (g.V.Vault.outside c.args.vault.now) in
+    let now = place c.loop-at.sw (g.V.Vault.outside c.loop-at.vault) in
+    let m = place c.go_on.new.sw (g.V.Vault.outside c.go_on.new.vault) in
+    record {
+      node = c.in-Ok.ensures.side;
+      last = c.in-Ok.ensures.last;
+      key = key_held_kept now.heap m.heap c.args.key c.in-Ok.ensures.keeps c.loop-at.invariant.key;
+      same = key_in_kept now.heap m.heap c.args.key c.in-Ok.ensures.keeps c.loop-at.invariant.key ∙ c.loop-at.invariant.same;
+      keeps = keeps-trans old.heap now.heap m.heap c.loop-at.invariant.keeps c.in-Ok.ensures.keeps;
+      grows = touches_then old now m c.loop-at.invariant.grows c.in-Ok.ensures.grows;
+      alive = c.in-Ok.ensures.alive;
+      follows = λ t h low.
+          let s = at_turn ks (seek (order_by ks) wanted) now c.in-Some.node c.loop-at.last c.loop-at.bound t (subst (λ (i : Option ℕ). Following ks (seek (order_by ks) wanted) now i c.loop-at.last c.loop-at.bound t) c.in-Some.is (c.loop-at.invariant.follows t h low)) in
+          let e = height_at ks (seek (order_by ks) wanted) now c.in-Some.node c.loop-at.last c.loop-at.bound t s c.height-height.result (c.height-height.ensures.some ks) in
+          let turns = subst (λ k. IsTurn m.heap c.in-Some.node c.loop-at.last (order_by ks k s.b.entry.key) s.x s.y c.in-Ok.turn) c.loop-at.invariant.same (c.in-Ok.ensures.turns s.x s.b s.y s.stands s.name) in
+          following_on ks (seek (order_by ks) wanted) now m c.in-Some.node c.loop-at.last c.loop-at.bound t s c.in-Ok.ensures.grows c.height-height.result c.in-Ok.turn turns e;
+    }
+
+pub returns-clause-follows : goal.returns-clause-follows
+returns-clause-follows g c t h low =
+    let ks = kind_of c.args.key in
+    let wanted = key_in c.args.sw.now c.args.key in
+    let now = place c.loop-at.sw (g.V.Vault.outside c.loop-at.vault) in
+    following_none ks (seek (order_by ks) wanted) now c.loop-at.last c.loop-at.bound t (subst (λ (i : Option ℕ). Following ks (seek (order_by ks) wanted) now i c.loop-at.last c.loop-at.bound t) c.in_default.is (c.loop-at.invariant.follows t h low))

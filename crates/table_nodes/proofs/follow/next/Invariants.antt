@@ -1,0 +1,32 @@
+-- The next key of the tree is that of the part that is left, which is lower than the bound, or else the last one above.
+use Rattle.std.proofs.Common.{◌≡◌, ◌<◌, IfSome}
+use Rattle.heap_places.specs.swizzle.Touch.{Keeps}
+use Rattle.avl_trees.specs.Trees.{Tree, height}
+use Rattle.avl_trees.specs.Standing.{seek}
+use Rattle.table_nodes.specs.Keys.{order_by}
+use Rattle.table_nodes.specs.Nodes.{IsNode, Grows}
+use Rattle.table_nodes.specs.Sought.{IsKeyHeld, kind_of, key_in}
+use Rattle.table_nodes.specs.Searching.{IsTree}
+use Rattle.table_nodes.specs.Steps.{I, place}
+use Rattle.table_nodes.proofs.FollowLaws.{Following}
+use Rattle.table_nodes.proofs.follow.next.Given as goal
+
+abbrev pub invariant-loop-at : goal.invariant-loop-at
+invariant-loop-at g l =
+    let ks = kind_of l.key in
+    let wanted = key_in l.initial.sw l.key in
+    let old = place l.initial.sw (g.V.Vault.outside l.initial.vault) in
+    let now = place l.sw (g.V.Vault.outside l.vault) in
+    record {
+      node : IfSome l.at (IsNode l.sw);
+      last : IfSome l.last (IsNode l.sw);
+      key : IsKeyHeld l.sw l.key;
+      same : key_in l.sw l.key ≡ wanted;
+      keeps : Keeps l.initial.sw l.sw;
+      grows : Grows l.initial.sw l.sw (g.V.Vault.outside l.initial.vault) (g.V.Vault.outside l.vault);
+      alive : g.V.Vault.alive l.vault;
+      follows : (t : Tree (I ks)) → IsTree ks old l.fn.root t → height t < l.initial.bound → Following ks (seek (order_by ks) wanted) now l.at l.last l.bound t;
+    }
+
+abbrev pub decreases-loop-at : goal.decreases-loop-at
+decreases-loop-at g l = l.bound

@@ -1,0 +1,45 @@
+use Rattle.avl_trees.specs.Trees.{node}
+use Rattle.avl_trees.specs.Standing.{row_of, root_of}
+use Rattle.avl_trees.proofs.Standing.{stands_grown}
+use Rattle.table_nodes.specs.Sought.{kind_of}
+use Rattle.table_nodes.specs.Steps.{place, rows_of}
+use Rattle.table_nodes.proofs.NodeLaws.{fetch_back}
+use Rattle.table_nodes.proofs.StepLaws.{is_side, linked_kept}
+use Rattle.table_nodes.proofs.opening.open_node.Goals as goal
+
+pub returns-in-Err-clause-opens : goal.returns-in-Err-clause-opens
+returns-in-Err-clause-opens g c x b y s named = c.in-Err.ensures.ordered b.name (row_of x b y) named s.0
+
+pub returns-in-Err-side-clause-opens : goal.returns-in-Err-side-clause-opens
+returns-in-Err-side-clause-opens g c x b y s named =
+    let ks = kind_of c.args.key in
+    let p = place c.args.sw.now (g.V.Vault.outside c.args.vault.now) in
+    let m = place c.order.new.sw (g.V.Vault.outside c.order.new.vault) in
+    let t = stands_grown (rows_of ks p) (rows_of ks m) (c.in-Ok.ensures.grows.rows ks) (node x b y) s in
+    fetch_back p.outside m.outside c.in-Err-side.fault c.in-Ok.ensures.grows.contents
+    (c.in-Err-side.ensures.sound ks b.name (row_of x b y) (c.in-Ok.ensures.grows.named c.args.at b.name named) t.0 (is_side ks m x t.1))
+
+pub returns-in-Err-side-2-clause-opens : goal.returns-in-Err-side-2-clause-opens
+returns-in-Err-side-2-clause-opens g c x b y s named =
+    let ks = kind_of c.args.key in
+    let p = place c.args.sw.now (g.V.Vault.outside c.args.vault.now) in
+    let m = place c.order.new.sw (g.V.Vault.outside c.order.new.vault) in
+    let m1 = place c.side.new.sw (g.V.Vault.outside c.side.new.vault) in
+    let t = stands_grown (rows_of ks m) (rows_of ks m1) (c.in-Ok-side.ensures.grows.rows ks) (node x b y) (stands_grown (rows_of ks p) (rows_of ks m) (c.in-Ok.ensures.grows.rows ks) (node x b y) s) in
+    fetch_back p.outside m.outside c.in-Err-side-2.fault c.in-Ok.ensures.grows.contents
+    (fetch_back m.outside m1.outside c.in-Err-side-2.fault c.in-Ok-side.ensures.grows.contents
+    (c.in-Err-side-2.ensures.sound ks b.name (row_of x b y) (c.in-Ok-side.ensures.grows.named c.args.at b.name (c.in-Ok.ensures.grows.named c.args.at b.name named)) t.0 (is_side ks m1 y t.2)))
+
+pub returns-clause-opens : goal.returns-clause-opens
+returns-clause-opens g c x b y s named =
+    let ks = kind_of c.args.key in
+    let p = place c.args.sw.now (g.V.Vault.outside c.args.vault.now) in
+    let m = place c.order.new.sw (g.V.Vault.outside c.order.new.vault) in
+    let m1 = place c.side.new.sw (g.V.Vault.outside c.side.new.vault) in
+    let row = c.in-Ok.ensures.grows.rows ks b.name (row_of x b y) s.0 in
+    let name = c.in-Ok.ensures.grows.named c.args.at b.name named in
+    record {
+      order = c.in-Ok.ensures.ordered b.name (row_of x b y) named s.0;
+      left = linked_kept m1.heap c.side-2.new.sw c.in-Ok-side-2.ensures.grows.named c.in-Ok-side.left (root_of x) (c.in-Ok-side.ensures.side ks b.name (row_of x b y) name row);
+      right = c.in-Ok-side-2.ensures.side ks b.name (row_of x b y) (c.in-Ok-side.ensures.grows.named c.args.at b.name name) (c.in-Ok-side.ensures.grows.rows ks b.name (row_of x b y) row);
+    }

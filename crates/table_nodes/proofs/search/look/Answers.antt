@@ -1,0 +1,47 @@
+use Rattle.std.proofs.Common.{sym, ◌∙◌, inl, inr}
+use Rattle.avl_trees.specs.Trees.{node}
+use Rattle.avl_trees.specs.Standing.{row_of}
+use Rattle.avl_trees.proofs.Standing.{stands_grown}
+use Rattle.table_nodes.specs.Sought.{kind_of}
+use Rattle.table_nodes.specs.Steps.{place, rows_of}
+use Rattle.table_nodes.proofs.NodeLaws.{fetch_back}
+use Rattle.table_nodes.proofs.StepLaws.{is_side}
+use Rattle.table_nodes.proofs.search.look.Goals as goal
+
+pub returns-in-Err-clause-steps : goal.returns-in-Err-clause-steps
+returns-in-Err-clause-steps g c x b y s named = c.in-Err.ensures.ordered b.name (row_of x b y) named s.0
+
+pub returns-in-Equal-clause-steps : goal.returns-in-Equal-clause-steps
+returns-in-Equal-clause-steps g c x b y s named = sym (c.in-Ok.ensures.ordered b.name (row_of x b y) named s.0) ∙ c.in-Equal.is
+
+pub returns-in-Ok-side-clause-steps : goal.returns-in-Ok-side-clause-steps
+returns-in-Ok-side-clause-steps g c x b y s named =
+    inl (
+      sym (c.in-Ok.ensures.ordered b.name (row_of x b y) named s.0) ∙ c.in-Less.is,
+      c.in-Ok-side.ensures.side (kind_of c.args.key) b.name (row_of x b y) (c.in-Ok.ensures.grows.named c.args.at b.name named) (c.in-Ok.ensures.grows.rows (kind_of c.args.key) b.name (row_of x b y) s.0),
+    )
+
+pub returns-in-Err-side-clause-steps : goal.returns-in-Err-side-clause-steps
+returns-in-Err-side-clause-steps g c x b y s named =
+    let ks = kind_of c.args.key in
+    let p = place c.args.sw.now (g.V.Vault.outside c.args.vault.now) in
+    let m = place c.order.new.sw (g.V.Vault.outside c.order.new.vault) in
+    let t = stands_grown (rows_of ks p) (rows_of ks m) (c.in-Ok.ensures.grows.rows ks) (node x b y) s in
+    fetch_back p.outside m.outside c.in-Err-side.fault c.in-Ok.ensures.grows.contents
+    (c.in-Err-side.ensures.sound ks b.name (row_of x b y) (c.in-Ok.ensures.grows.named c.args.at b.name named) t.0 (is_side ks m x t.1))
+
+pub returns-in-Ok-side-2-clause-steps : goal.returns-in-Ok-side-2-clause-steps
+returns-in-Ok-side-2-clause-steps g c x b y s named =
+    inr (
+      sym (c.in-Ok.ensures.ordered b.name (row_of x b y) named s.0) ∙ c.in-Greater.is,
+      c.in-Ok-side-2.ensures.side (kind_of c.args.key) b.name (row_of x b y) (c.in-Ok.ensures.grows.named c.args.at b.name named) (c.in-Ok.ensures.grows.rows (kind_of c.args.key) b.name (row_of x b y) s.0),
+    )
+
+pub returns-in-Err-side-2-clause-steps : goal.returns-in-Err-side-2-clause-steps
+returns-in-Err-side-2-clause-steps g c x b y s named =
+    let ks = kind_of c.args.key in
+    let p = place c.args.sw.now (g.V.Vault.outside c.args.vault.now) in
+    let m = place c.order.new.sw (g.V.Vault.outside c.order.new.vault) in
+    let t = stands_grown (rows_of ks p) (rows_of ks m) (c.in-Ok.ensures.grows.rows ks) (node x b y) s in
+    fetch_back p.outside m.outside c.in-Err-side-2.fault c.in-Ok.ensures.grows.contents
+    (c.in-Err-side-2.ensures.sound ks b.name (row_of x b y) (c.in-Ok.ensures.grows.named c.args.at b.name named) t.0 (is_side ks m y t.2))

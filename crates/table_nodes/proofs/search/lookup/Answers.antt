@@ -1,0 +1,115 @@
+use Rattle.std.proofs.Common.{◌∙◌, Option, Ok, Err, ℕ, subst, arith}
+use Rattle.heap_places.proofs.of_swizzle.TouchLaws.{keeps-trans}
+use Rattle.table_nodes.specs.Sought.{kind_of, key_in}
+use Rattle.table_nodes.specs.Steps.{place}
+use Rattle.table_nodes.specs.Searching.{IsDown, IsStep}
+use Rattle.table_nodes.specs.declared.search.Step.{Step}
+use Rattle.table_nodes.specs.declared.search.Step.TheVariants.{Found, Down}
+use Rattle.table_nodes.proofs.NodeLaws.{fetch_back}
+use Rattle.table_nodes.proofs.SoughtLaws.{key_held_kept, key_in_kept}
+use Rattle.table_nodes.proofs.StepLaws.{touches_then}
+use Rattle.table_nodes.proofs.Seeking.{looked_none, looked_found, Sought, at_node, sought_none, height_read, sought_found, sought_down}
+use Rattle.table_nodes.proofs.search.lookup.Goals as goal
+
+pub returns-then-height-eq0-clause-found : goal.returns-then-height-eq0-clause-found
+returns-then-height-eq0-clause-found g c t h low =
+    let ks = kind_of c.args.key in
+    let wanted = key_in c.args.sw.now c.args.key in
+    let now = place c.loop-at.sw (g.V.Vault.outside c.loop-at.vault) in
+    let s = at_node ks wanted now c.in-Some.node c.loop-at.bound c.args.steps.now c.loop-at.steps t (subst (λ (i : Option ℕ). Sought ks wanted now i c.loop-at.bound c.args.steps.now c.loop-at.steps t) c.in-Some.is (c.loop-at.invariant.sought t h low)) in
+    let e = height_read ks wanted now c.in-Some.node c.loop-at.bound c.args.steps.now c.loop-at.steps t s c.height-height.result (c.height-height.ensures.some ks) in
+    let lower = s.lower in
+    absurd (grind (arith, e, lower, c.then-height-eq0.either))
+
+pub returns-in-Ok-clause-found : goal.returns-in-Ok-clause-found
+returns-in-Ok-clause-found g c t h low =
+    let ks = kind_of c.args.key in
+    let wanted = key_in c.args.sw.now c.args.key in
+    let now = place c.loop-at.sw (g.V.Vault.outside c.loop-at.vault) in
+    let m = place c.look.new.sw (g.V.Vault.outside c.look.new.vault) in
+    let new = place c.value.new.sw (g.V.Vault.outside c.value.new.vault) in
+    let s = at_node ks wanted now c.in-Some.node c.loop-at.bound c.args.steps.now c.loop-at.steps t (subst (λ (i : Option ℕ). Sought ks wanted now i c.loop-at.bound c.args.steps.now c.loop-at.steps t) c.in-Some.is (c.loop-at.invariant.sought t h low)) in
+    let step = subst (λ (w : Step). IsStep ks m.heap (key_in now.heap c.args.key) s.x s.b s.y w) c.in-Ok-Found.field-0-is (c.in-Ok-Found.ensures.steps s.x s.b s.y s.stands s.name) in
+    let found = subst (λ k. IsStep ks m.heap k s.x s.b s.y Found) c.loop-at.invariant.same step in
+    sought_found ks wanted now m c.in-Some.node c.loop-at.bound c.args.steps.now c.loop-at.steps t s c.in-Ok-Found.ensures.grows new found (Ok c.in-Ok.value) c.in-Ok.ensures.read c.in-Ok.ensures.held
+
+pub returns-in-Ok-clause-grows : goal.returns-in-Ok-clause-grows
+returns-in-Ok-clause-grows g c =
+    let old = place c.args.sw.now (g.V.Vault.outside c.args.vault.now) in
+    let now = place c.loop-at.sw (g.V.Vault.outside c.loop-at.vault) in
+    let m = place c.look.new.sw (g.V.Vault.outside c.look.new.vault) in
+    let new = place c.value.new.sw (g.V.Vault.outside c.value.new.vault) in
+    touches_then old m new (touches_then old now m c.loop-at.invariant.grows c.in-Ok-Found.ensures.grows) c.in-Ok.ensures.grows
+
+pub returns-in-Ok-clause-keeps : goal.returns-in-Ok-clause-keeps
+returns-in-Ok-clause-keeps g c = keeps-trans c.args.sw.now c.look.new.sw c.value.new.sw (keeps-trans c.args.sw.now c.loop-at.sw c.look.new.sw c.loop-at.invariant.keeps c.in-Ok-Found.ensures.keeps) c.in-Ok.ensures.keeps
+
+pub returns-in-Err-value-clause-found : goal.returns-in-Err-value-clause-found
+returns-in-Err-value-clause-found g c t h low =
+    let ks = kind_of c.args.key in
+    let wanted = key_in c.args.sw.now c.args.key in
+    let now = place c.loop-at.sw (g.V.Vault.outside c.loop-at.vault) in
+    let m = place c.look.new.sw (g.V.Vault.outside c.look.new.vault) in
+    let new = place c.value.new.sw (g.V.Vault.outside c.value.new.vault) in
+    let s = at_node ks wanted now c.in-Some.node c.loop-at.bound c.args.steps.now c.loop-at.steps t (subst (λ (i : Option ℕ). Sought ks wanted now i c.loop-at.bound c.args.steps.now c.loop-at.steps t) c.in-Some.is (c.loop-at.invariant.sought t h low)) in
+    let step = subst (λ (w : Step). IsStep ks m.heap (key_in now.heap c.args.key) s.x s.b s.y w) c.in-Ok-Found.field-0-is (c.in-Ok-Found.ensures.steps s.x s.b s.y s.stands s.name) in
+    let found = subst (λ k. IsStep ks m.heap k s.x s.b s.y Found) c.loop-at.invariant.same step in
+    fetch_back (g.V.Vault.outside c.args.vault.now) now.outside c.in-Err-value.fault c.loop-at.invariant.grows.contents
+    (sought_found ks wanted now m c.in-Some.node c.loop-at.bound c.args.steps.now c.loop-at.steps t s c.in-Ok-Found.ensures.grows new found (Err c.in-Err-value.fault) c.in-Err-value.ensures.read)
+
+pub returns-in-Err-clause-found : goal.returns-in-Err-clause-found
+returns-in-Err-clause-found g c t h low =
+    let ks = kind_of c.args.key in
+    let wanted = key_in c.args.sw.now c.args.key in
+    let now = place c.loop-at.sw (g.V.Vault.outside c.loop-at.vault) in
+    let s = at_node ks wanted now c.in-Some.node c.loop-at.bound c.args.steps.now c.loop-at.steps t (subst (λ (i : Option ℕ). Sought ks wanted now i c.loop-at.bound c.args.steps.now c.loop-at.steps t) c.in-Some.is (c.loop-at.invariant.sought t h low)) in
+    fetch_back (g.V.Vault.outside c.args.vault.now) now.outside c.in-Err.fault c.loop-at.invariant.grows.contents (c.in-Err.ensures.steps s.x s.b s.y s.stands s.name)
+
+pub loop-at-preserved : goal.loop-at-preserved
+loop-at-preserved g c =
+    let ks = kind_of c.args.key in
+    let wanted = key_in c.args.sw.now c.args.key in
+    let old = place c.args.sw.now (g.V.Vault.outside c.args.vault.now) in
+    let now = place c.loop-at.sw (g.V.Vault.outside c.loop-at.vault) in
+    let m = place c.look.new.sw (g.V.Vault.outside c.look.new.vault) in
+    record {
+      node = subst (λ (w : Step). IsDown m.heap w) c.in-Ok-Down.field-0-is c.in-Ok-Down.ensures.down;
+      some = omega (arith, c.if-height-eq0.false);
+      cost = omega (arith, c.tick.ensures, c.loop-at.invariant.cost, c.if-height-bound.false);
+      key = key_held_kept now.heap m.heap c.args.key c.in-Ok-Down.ensures.keeps c.loop-at.invariant.key;
+      same = key_in_kept now.heap m.heap c.args.key c.in-Ok-Down.ensures.keeps c.loop-at.invariant.key ∙ c.loop-at.invariant.same;
+      keeps = keeps-trans old.heap now.heap m.heap c.loop-at.invariant.keeps c.in-Ok-Down.ensures.keeps;
+      grows = touches_then old now m c.loop-at.invariant.grows c.in-Ok-Down.ensures.grows;
+      alive = c.in-Ok-Down.ensures.alive;
+      sought = λ t h low.
+          let s = at_node ks wanted now c.in-Some.node c.loop-at.bound c.args.steps.now c.loop-at.steps t (subst (λ (i : Option ℕ). Sought ks wanted now i c.loop-at.bound c.args.steps.now c.loop-at.steps t) c.in-Some.is (c.loop-at.invariant.sought t h low)) in
+          let e = height_read ks wanted now c.in-Some.node c.loop-at.bound c.args.steps.now c.loop-at.steps t s c.height-height.result (c.height-height.ensures.some ks) in
+          let step = subst (λ (w : Step). IsStep ks m.heap (key_in now.heap c.args.key) s.x s.b s.y w) c.in-Ok-Down.field-0-is (c.in-Ok-Down.ensures.steps s.x s.b s.y s.stands s.name) in
+          let down = subst (λ k. IsStep ks m.heap k s.x s.b s.y (Down c.in-Ok-Down.side)) c.loop-at.invariant.same step in
+          sought_down ks wanted now m c.in-Some.node c.loop-at.bound c.args.steps.now c.loop-at.steps t s c.in-Ok-Down.ensures.grows c.tick.new.self c.tick.ensures c.height-height.result c.in-Ok-Down.side down e;
+    }
+
+pub returns-clause-found : goal.returns-clause-found
+returns-clause-found g c t h low =
+    let ks = kind_of c.args.key in
+    let wanted = key_in c.args.sw.now c.args.key in
+    let now = place c.loop-at.sw (g.V.Vault.outside c.loop-at.vault) in
+    sought_none ks wanted now c.loop-at.sw c.loop-at.bound c.args.steps.now c.loop-at.steps t (subst (λ (i : Option ℕ). Sought ks wanted now i c.loop-at.bound c.args.steps.now c.loop-at.steps t) c.in_default.is (c.loop-at.invariant.sought t h low))
+
+pub returns-in-Ok-clause-charged : goal.returns-in-Ok-clause-charged
+returns-in-Ok-clause-charged g c t h low =
+    let ks = kind_of c.args.key in
+    let wanted = key_in c.args.sw.now c.args.key in
+    let now = place c.loop-at.sw (g.V.Vault.outside c.loop-at.vault) in
+    let m = place c.look.new.sw (g.V.Vault.outside c.look.new.vault) in
+    let s = at_node ks wanted now c.in-Some.node c.loop-at.bound c.args.steps.now c.loop-at.steps t (subst (λ (i : Option ℕ). Sought ks wanted now i c.loop-at.bound c.args.steps.now c.loop-at.steps t) c.in-Some.is (c.loop-at.invariant.sought t h low)) in
+    let step = subst (λ (w : Step). IsStep ks m.heap (key_in now.heap c.args.key) s.x s.b s.y w) c.in-Ok-Found.field-0-is (c.in-Ok-Found.ensures.steps s.x s.b s.y s.stands s.name) in
+    let found = subst (λ k. IsStep ks m.heap k s.x s.b s.y Found) c.loop-at.invariant.same step in
+    looked_found ks wanted now m c.in-Some.node c.loop-at.bound c.args.steps.now c.loop-at.steps t s c.in-Ok-Found.ensures.grows c.tick.new.self c.tick.ensures found
+
+pub returns-clause-charged : goal.returns-clause-charged
+returns-clause-charged g c t h low =
+    let ks = kind_of c.args.key in
+    let wanted = key_in c.args.sw.now c.args.key in
+    let now = place c.loop-at.sw (g.V.Vault.outside c.loop-at.vault) in
+    looked_none ks wanted now c.loop-at.bound c.args.steps.now c.loop-at.steps t (subst (λ (i : Option ℕ). Sought ks wanted now i c.loop-at.bound c.args.steps.now c.loop-at.steps t) c.in_default.is (c.loop-at.invariant.sought t h low))

@@ -1,0 +1,31 @@
+-- What is sought in the tree is sought in the part that is left, which is lower than the bound; each step lowers it.
+use Rattle.std.proofs.Common.{◌≡◌, ◌+◌, ◌≤◌, ◌<◌, IfSome}
+use Rattle.heap_places.specs.swizzle.Touch.{Keeps}
+use Rattle.avl_trees.specs.Trees.{Tree, height}
+use Rattle.table_nodes.specs.Nodes.{IsNode, Grows}
+use Rattle.table_nodes.specs.Sought.{IsKeyHeld, kind_of, key_in}
+use Rattle.table_nodes.specs.Searching.{IsTree}
+use Rattle.table_nodes.specs.Steps.{I, place}
+use Rattle.table_nodes.proofs.Seeking.{Sought}
+use Rattle.table_nodes.proofs.search.lookup.Given as goal
+
+abbrev pub invariant-loop-at : goal.invariant-loop-at
+invariant-loop-at g l =
+    let ks = kind_of l.key in
+    let wanted = key_in l.initial.sw l.key in
+    let old = place l.initial.sw (g.V.Vault.outside l.initial.vault) in
+    let now = place l.sw (g.V.Vault.outside l.vault) in
+    record {
+      node : IfSome l.at (IsNode l.sw);
+      some : 1 ≤ l.bound;
+      cost : l.steps + l.bound ≤ l.initial.steps + l.initial.bound;
+      key : IsKeyHeld l.sw l.key;
+      same : key_in l.sw l.key ≡ wanted;
+      keeps : Keeps l.initial.sw l.sw;
+      grows : Grows l.initial.sw l.sw (g.V.Vault.outside l.initial.vault) (g.V.Vault.outside l.vault);
+      alive : g.V.Vault.alive l.vault;
+      sought : (t : Tree (I ks)) → IsTree ks old l.fn.root t → height t < l.initial.bound → Sought ks wanted now l.at l.bound l.initial.steps l.steps t;
+    }
+
+abbrev pub decreases-loop-at : goal.decreases-loop-at
+decreases-loop-at g l = l.bound

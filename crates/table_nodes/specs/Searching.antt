@@ -1,0 +1,77 @@
+-- What a search in a table's tree answers.
+use Rattle.std.specs.Prelude.{◌≡◌, ◌≢◌, ◌⊎◌, ℕ, ◌<◌, Option, Some, None, Result, IfSome, MatchResult, ◌+◌, OnOk}
+use Rattle.std.specs.List.{AllByRecursion}
+use Rattle.std.specs.declared.cmp.Ordering.{Ordering}
+use Rattle.std.specs.declared.cmp.Ordering.TheVariants.{Less, Equal, Greater}
+use Rattle.heap_places.specs.ps_outside.Outside.{Outside}
+use Rattle.heap_places.specs.obj_layout.Stored.{Space}
+use Rattle.heap_places.specs.obj_layout.declared.reference.Reference.{Reference}
+use Rattle.heap_places.specs.obj_layout.declared.reference.Reference.TheVariants.{Nil}
+use Rattle.heap_places.specs.swizzle.declared.fault.SwizzleFault.{SwizzleFault}
+use Rattle.heap_places.specs.swizzle.Heap.{Heap, IsHeld}
+use Rattle.heap_places.specs.swizzle.Joint.{name_at}
+use Rattle.avl_trees.specs.Rising.{pick}
+use Rattle.avl_trees.specs.Trees.{Tree, leaf, node, height, items, IsBalanced, lookup}
+use Rattle.avl_trees.specs.Standing.{Item, Stands, IsRising, root_of, seek}
+use Rattle.table_nodes.specs.Keys.{Keys, KeyOf, order_by}
+use Rattle.table_nodes.specs.Nodes.{Seat, IsNode, IsNamed, IsLinked, IsFetchFault, rows_in}
+use Rattle.table_nodes.specs.Steps.{I, Place, rows_of}
+use Rattle.table_nodes.specs.declared.search.Step.{Step}
+use Rattle.table_nodes.specs.declared.search.Step.TheVariants.{Found, Down}
+
+-- no pair has nil for its value
+abbrev pub HasValue : {K : Type 0} → Item Reference K Reference → Type 0
+HasValue a = a.entry.value ≢ Nil
+
+-- From this place on a search tree stands, and each of its keys has a value.
+pub record IsTree (ks : Keys) (p : Place) (root : Option ℕ) (t : Tree (I ks)) : Type 0 where
+  pub stands : Stands (rows_of ks p) t
+  pub root_is : IsLinked p.heap root (root_of t)
+  pub rising : IsRising (order_by ks) t
+  pub balanced : IsBalanced t
+  pub values : AllByRecursion HasValue (items t)
+
+-- the value of an item
+abbrev pub value_of : {K : Type 0} → Option (Item Reference K Reference) → Option Reference
+value_of None = None
+value_of (Some a) = Some a.entry.value
+
+-- the object of the area that has the name, or none where there is no name
+abbrev pub IsObject : Heap → Option ℕ → Option Reference → Type 0
+IsObject heap None None = Unit {0}
+IsObject heap (Some at) (Some n) = IsHeld heap at × (name_at heap at ≡ n)
+IsObject heap _ _ = ⊥
+
+-- The object of a node's value is answered, or it couldn't be fetched.
+abbrev pub ReadsValue : Heap → Heap → Outside Space → ℕ → Result ℕ SwizzleFault → Type 0
+ReadsValue old new outside at result = (ks : Keys) (n : Reference) (row : Seat ks) → IsNamed old at n → rows_in ks old outside n row → row.entry.value ≢ Nil
+    → MatchResult result (λ value. name_at new value ≡ row.entry.value) (IsFetchFault outside)
+
+-- at a node, the key was found, or it is sought on this side
+abbrev pub IsStep : (ks : Keys) → Heap → KeyOf ks → Tree (I ks) → I ks → Tree (I ks) → Step → Type 0
+IsStep ks heap key x b y Found = order_by ks key b.entry.key ≡ Equal
+IsStep ks heap key x b y (Down side) =
+    ((order_by ks key b.entry.key ≡ Less) × IsLinked heap side (root_of x)) ⊎ ((order_by ks key b.entry.key ≡ Greater) × IsLinked heap side (root_of y))
+
+abbrev pub StepsAt : (ks : Keys) → Place → Heap → ℕ → KeyOf ks → Result Step SwizzleFault → Type 0
+StepsAt ks old new at key result = (x : Tree (I ks)) (b : I ks) (y : Tree (I ks)) → Stands (rows_of ks old) (node x b y) → IsNamed old.heap at b.name
+    → MatchResult result (IsStep ks new key x b y) (IsFetchFault old.outside)
+
+-- a side where a key is sought is a node of the area
+abbrev pub IsDown : Heap → Step → Type 0
+IsDown heap Found = Unit {0}
+IsDown heap (Down side) = IfSome side (IsNode heap)
+
+-- The value of a key in a tree that is lower than the bound is answered, none where the tree hasn't the key, or a reference's object couldn't be fetched.
+abbrev pub Finds : (ks : Keys) → Place → Heap → Option ℕ → ℕ → KeyOf ks → Result (Option ℕ) SwizzleFault → Type 0
+Finds ks old new root bound key result = (t : Tree (I ks)) → IsTree ks old root t → height t < bound
+    → MatchResult result (λ found. IsObject new found (value_of (lookup (seek (order_by ks) key) t))) (IsFetchFault old.outside)
+
+-- how many nodes the search for a key looks at
+unfoldable pub looks : {A : Type 0} → (A → Ordering) → Tree A → ℕ
+looks probe leaf = 0
+looks probe (node l a r) = 1 + pick (probe a) (looks probe l) 0 (looks probe r)
+
+-- Each node that was looked at was a step.
+abbrev pub Charges : (ks : Keys) → Place → Option ℕ → ℕ → KeyOf ks → ℕ → ℕ → Result (Option ℕ) SwizzleFault → Type 0
+Charges ks old root bound key before after result = (t : Tree (I ks)) → IsTree ks old root t → height t < bound → OnOk result (after ≡ before + looks (seek (order_by ks) key) t)

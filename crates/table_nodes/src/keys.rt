@@ -1,0 +1,94 @@
+ghost use Rattle.std.specs.Prelude.{◌≡◌, OnOk, IfOk};
+ghost use Rattle.heap_places.specs.swizzle.Touch.{Keeps};
+ghost use Rattle.table_nodes.specs.Nodes.{IsNode, Grows};
+ghost use Rattle.table_nodes.specs.Sought.{IsKeyHeld, IsTextHeld, OrdersAt, ReadsInt, ReadsText, kind_of, key_in};
+
+use heap_places::obj_layout::kind::Kind;
+use heap_places::obj_layout::vault::Vault;
+use heap_places::places::damaged;
+use heap_places::swizzle::fault::SwizzleFault;
+use heap_places::swizzle::swizzle::Swizzle;
+use heap_places::words::int_of_word;
+use std::cmp::Ordering;
+use text_ops::operators::compare;
+
+// One more than the greatest int.
+const INT_BOUND: u64 = 1 << 31;
+
+/// A key that is sought: an int, or the string of the text at this index of the area.
+#[derive(Clone, Copy)]
+pub enum Key {
+    Int(i32),
+    Text(u32),
+}
+
+/// The int key of a node.
+pub fn int_key<V: Vault>(sw: &Swizzle, vault: &V, at: u32) -> Result<i32, SwizzleFault>
+    requires node { IsNode sw.now at }
+    ensures { ReadsInt sw.now (V.outside vault.now) at result }
+{
+    let _ = vault;
+    sw.sound();
+    let word = sw.num(at, 1);
+    match int_of_word(word) {
+        Some(value) => Ok(value),
+        None => Err(damaged(sw, at, word, INT_BOUND)),
+    }
+}
+
+/// The text of a node's key. It is fetched where it isn't in the area.
+pub fn text_key<V: Vault>(sw: &mut Swizzle, vault: &mut V, at: u32) -> Result<u32, SwizzleFault>
+    requires alive { V.alive vault.old }
+    requires node { IsNode sw.old at }
+    ensures held { IfOk result (IsTextHeld sw.new) }
+    ensures read { ReadsText sw.old sw.new (V.outside vault.old) at result }
+    ensures grows { OnOk result (Grows sw.old sw.new (V.outside vault.old) (V.outside vault.new)) }
+    ensures keeps { OnOk result (Keeps sw.old sw.new) }
+    ensures alive { OnOk result (V.alive vault.new) }
+{
+    sw.sound();
+    match sw.touch_slot(vault, at, 2) {
+        Ok(Some(text)) => {
+            sw.sound();
+            let kind = sw.kind(text);
+            if kind == Kind::Text {
+                Ok(text)
+            } else {
+                Err(damaged(sw, text, u64::from(kind.number()), 1))
+            }
+        }
+        Ok(None) => {
+            sw.sound();
+            Err(damaged(sw, at, 0, 1))
+        }
+        Err(fault) => Err(fault),
+    }
+}
+
+/// How a sought key stands to that of a node. The text of the node's key is fetched where it isn't in the area.
+pub fn order<V: Vault>(
+    sw: &mut Swizzle,
+    vault: &mut V,
+    at: u32,
+    key: Key,
+) -> Result<Ordering, SwizzleFault>
+    requires alive { V.alive vault.old }
+    requires node { IsNode sw.old at }
+    requires key { IsKeyHeld sw.old key }
+    ensures ordered { OrdersAt (kind_of key) sw.old (V.outside vault.old) at (key_in sw.old key) result }
+    ensures grows { OnOk result (Grows sw.old sw.new (V.outside vault.old) (V.outside vault.new)) }
+    ensures keeps { OnOk result (Keeps sw.old sw.new) }
+    ensures alive { OnOk result (V.alive vault.new) }
+{
+    sw.sound();
+    match key {
+        Key::Int(value) => match int_key(sw, &*vault, at) {
+            Ok(int) => Ok(value.cmp(&int)),
+            Err(fault) => Err(fault),
+        },
+        Key::Text(text) => match text_key(sw, vault, at) {
+            Ok(other) => Ok(compare(sw, text, other)),
+            Err(fault) => Err(fault),
+        },
+    }
+}

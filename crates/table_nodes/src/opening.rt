@@ -1,0 +1,53 @@
+ghost use Rattle.std.specs.Prelude.{OnOk, IfOk, IfSome};
+ghost use Rattle.heap_places.specs.swizzle.Touch.{Keeps};
+ghost use Rattle.table_nodes.specs.Entering.{OpensAt};
+ghost use Rattle.table_nodes.specs.Nodes.{IsNode, Grows};
+ghost use Rattle.table_nodes.specs.Sought.{IsKeyHeld, kind_of, key_in};
+ghost use Rattle.table_nodes.specs.Steps.{place};
+
+use crate::keys::{Key, order};
+use crate::nodes::side;
+use heap_places::obj_layout::vault::Vault;
+use heap_places::swizzle::fault::SwizzleFault;
+use heap_places::swizzle::swizzle::Swizzle;
+use std::cmp::Ordering;
+
+/// How a key stands to a node, and the node's sides.
+#[derive(Clone, Copy)]
+pub struct Opened {
+    pub order: Ordering,
+    pub left: Option<u32>,
+    pub right: Option<u32>,
+}
+
+/// How a key stands to a node, and the node's sides, in the area.
+pub fn open_node<V: Vault>(
+    sw: &mut Swizzle,
+    vault: &mut V,
+    at: u32,
+    key: Key,
+) -> Result<Opened, SwizzleFault>
+    requires alive { V.alive vault.old }
+    requires node { IsNode sw.old at }
+    requires key { IsKeyHeld sw.old key }
+    ensures opens { OpensAt (kind_of key) (place sw.old (V.outside vault.old)) sw.new at (key_in sw.old key) result }
+    ensures left { IfOk result (λ opened. IfSome opened.left (IsNode sw.new)) }
+    ensures right { IfOk result (λ opened. IfSome opened.right (IsNode sw.new)) }
+    ensures grows { OnOk result (Grows sw.old sw.new (V.outside vault.old) (V.outside vault.new)) }
+    ensures keeps { OnOk result (Keeps sw.old sw.new) }
+    ensures alive { OnOk result (V.alive vault.new) }
+{
+    let order = match order(sw, vault, at, key) {
+        Ok(order) => order,
+        Err(fault) => return Err(fault),
+    };
+    let left = match side(sw, vault, at, 0) {
+        Ok(left) => left,
+        Err(fault) => return Err(fault),
+    };
+    let right = match side(sw, vault, at, 1) {
+        Ok(right) => right,
+        Err(fault) => return Err(fault),
+    };
+    Ok(Opened { order, left, right })
+}

@@ -1,0 +1,174 @@
+ghost use Rattle.std.specs.Prelude.{◌≤◌, OnOk, IfOk, IfSome};
+ghost use Rattle.heap_places.specs.ps_outside.Outside.{SameContents};
+ghost use Rattle.table_nodes.specs.Nodes.{IsNode};
+ghost use Rattle.table_nodes.specs.Removing.{IsGoneAt, Merges, Removes, TakesLeast};
+ghost use Rattle.table_nodes.specs.Sought.{IsKeyHeld, kind_of, key_in};
+ghost use Rattle.table_nodes.specs.Steps.{place, Holds};
+
+use crate::keys::Key;
+use crate::nodes::{height, side};
+use crate::opening::open_node;
+use crate::turns::balance;
+use heap_places::obj_layout::vault::Vault;
+use heap_places::places::damaged;
+use heap_places::swizzle::fault::SwizzleFault;
+use heap_places::swizzle::swizzle::Swizzle;
+use std::cmp::Ordering;
+
+/// The least node of a tree, and the root of the tree without it.
+#[derive(Clone, Copy)]
+pub struct Least {
+    pub node: u32,
+    pub rest: Option<u32>,
+}
+
+// Takes the least node out of the tree of a node.
+fn take_least<V: Vault>(
+    sw: &mut Swizzle,
+    vault: &mut V,
+    at: u32,
+    bound: u64,
+) -> Result<Least, SwizzleFault>
+    requires alive { V.alive vault.old }
+    requires node { IsNode sw.old at }
+    requires bound { bound ≤ 200 }
+    ensures taken { TakesLeast (place sw.old (V.outside vault.old)) (place sw.new (V.outside vault.new)) at bound result }
+    ensures node { IfOk result (λ found. IsNode sw.new found.node) }
+    ensures rest { IfOk result (λ found. IfSome found.rest (IsNode sw.new)) }
+    ensures held { OnOk result (Holds sw.old sw.new) }
+    ensures contents { OnOk result (SameContents (V.outside vault.old) (V.outside vault.new)) }
+    ensures alive { OnOk result (V.alive vault.new) }
+{
+    let height = height(sw, &*vault, Some(at));
+    if height >= bound {
+        return Err(damaged(sw, at, height, bound));
+    }
+    let left = match side(sw, vault, at, 0) {
+        Ok(left) => left,
+        Err(fault) => return Err(fault),
+    };
+    let right = match side(sw, vault, at, 1) {
+        Ok(right) => right,
+        Err(fault) => return Err(fault),
+    };
+    let Some(below) = left else {
+        return Ok(Least {
+            node: at,
+            rest: right,
+        });
+    };
+    let least = match take_least(sw, vault, below, height) {
+        Ok(least) => least,
+        Err(fault) => return Err(fault),
+    };
+    match balance(sw, vault, at, least.rest, right) {
+        Ok(root) => Ok(Least {
+            node: least.node,
+            rest: Some(root),
+        }),
+        Err(fault) => Err(fault),
+    }
+}
+
+// Both sides of a node in one tree, without it.
+fn merge_sides<V: Vault>(
+    sw: &mut Swizzle,
+    vault: &mut V,
+    left: Option<u32>,
+    right: Option<u32>,
+    bound: u64,
+) -> Result<Option<u32>, SwizzleFault>
+    requires alive { V.alive vault.old }
+    requires left { IfSome left (IsNode sw.old) }
+    requires right { IfSome right (IsNode sw.old) }
+    requires bound { bound ≤ 200 }
+    ensures merged { Merges (place sw.old (V.outside vault.old)) (place sw.new (V.outside vault.new)) left right bound result }
+    ensures root { IfOk result (λ root. IfSome root (IsNode sw.new)) }
+    ensures held { OnOk result (Holds sw.old sw.new) }
+    ensures contents { OnOk result (SameContents (V.outside vault.old) (V.outside vault.new)) }
+    ensures alive { OnOk result (V.alive vault.new) }
+{
+    let Some(above) = right else {
+        return Ok(left);
+    };
+    let Some(below) = left else {
+        return Ok(right);
+    };
+    let least = match take_least(sw, vault, above, bound) {
+        Ok(least) => least,
+        Err(fault) => return Err(fault),
+    };
+    match balance(sw, vault, least.node, Some(below), least.rest) {
+        Ok(root) => Ok(Some(root)),
+        Err(fault) => Err(fault),
+    }
+}
+
+/// The root of a tree out of which a key was taken, and whether the tree had the key.
+#[derive(Clone, Copy)]
+pub struct Removed {
+    pub root: Option<u32>,
+    pub gone: bool,
+}
+
+/// Takes a key out of the tree of a root, where the tree has it: its node is unlinked, and the next one takes its place. It goes down by calls,
+/// each for a lower height than the one before, so at most `bound` deep.
+pub fn remove<V: Vault>(
+    sw: &mut Swizzle,
+    vault: &mut V,
+    root: Option<u32>,
+    bound: u64,
+    key: Key,
+) -> Result<Removed, SwizzleFault>
+    requires alive { V.alive vault.old }
+    requires root { IfSome root (IsNode sw.old) }
+    requires bound { bound ≤ 200 }
+    requires key { IsKeyHeld sw.old key }
+    ensures removed { Removes (kind_of key) (place sw.old (V.outside vault.old)) (place sw.new (V.outside vault.new)) root bound (key_in sw.old key) result }
+    ensures counted { IsGoneAt (kind_of key) (place sw.old (V.outside vault.old)) root bound (key_in sw.old key) result }
+    ensures root { IfOk result (λ removed. IfSome removed.root (IsNode sw.new)) }
+    ensures held { OnOk result (Holds sw.old sw.new) }
+    ensures contents { OnOk result (SameContents (V.outside vault.old) (V.outside vault.new)) }
+    ensures alive { OnOk result (V.alive vault.new) }
+{
+    let Some(at) = root else {
+        return Ok(Removed {
+            root: None,
+            gone: false,
+        });
+    };
+    let height = height(sw, &*vault, root);
+    if height >= bound {
+        return Err(damaged(sw, at, height, bound));
+    }
+    let opened = match open_node(sw, vault, at, key) {
+        Ok(opened) => opened,
+        Err(fault) => return Err(fault),
+    };
+    match opened.order {
+        Ordering::Less => match remove(sw, vault, opened.left, height, key) {
+            Ok(left) => match balance(sw, vault, at, left.root, opened.right) {
+                Ok(root) => Ok(Removed {
+                    root: Some(root),
+                    gone: left.gone,
+                }),
+                Err(fault) => Err(fault),
+            },
+            Err(fault) => Err(fault),
+        },
+        Ordering::Equal => match merge_sides(sw, vault, opened.left, opened.right, height) {
+            Ok(root) => Ok(Removed { root, gone: true }),
+            Err(fault) => Err(fault),
+        },
+        Ordering::Greater => match remove(sw, vault, opened.right, height, key) {
+            Ok(right) => match balance(sw, vault, at, opened.left, right.root) {
+                Ok(root) => Ok(Removed {
+                    root: Some(root),
+                    gone: right.gone,
+                }),
+                Err(fault) => Err(fault),
+            },
+            Err(fault) => Err(fault),
+        },
+    }
+}

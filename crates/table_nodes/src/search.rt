@@ -1,0 +1,98 @@
+ghost use Rattle.std.specs.Prelude.{◌≡◌, ◌+◌, ◌≤◌, OnOk, IfOk, IfSome};
+ghost use Rattle.heap_places.specs.swizzle.Heap.{IsHeld};
+ghost use Rattle.heap_places.specs.swizzle.Touch.{Keeps};
+ghost use Rattle.table_nodes.specs.Nodes.{IsNode, Grows};
+ghost use Rattle.table_nodes.specs.Searching.{Charges, Finds, IsDown, StepsAt};
+ghost use Rattle.table_nodes.specs.Sought.{IsKeyHeld, kind_of, key_in};
+ghost use Rattle.table_nodes.specs.Steps.{place};
+
+use crate::keys::{Key, order};
+use crate::nodes::{height, side, value};
+use counted_steps::steps::Steps;
+use heap_places::obj_layout::vault::Vault;
+use heap_places::places::damaged;
+use heap_places::swizzle::fault::SwizzleFault;
+use heap_places::swizzle::swizzle::Swizzle;
+use std::cmp::Ordering;
+use std::sync::ledger::Ledger;
+
+/// What is found at a node: the key that is sought, or the side where it is sought further.
+#[derive(Clone, Copy)]
+pub enum Step {
+    Found,
+    Down(Option<u32>),
+}
+
+// How the search for a key goes on at a node.
+fn look<V: Vault>(sw: &mut Swizzle, vault: &mut V, at: u32, key: Key) -> Result<Step, SwizzleFault>
+    requires alive { V.alive vault.old }
+    requires node { IsNode sw.old at }
+    requires key { IsKeyHeld sw.old key }
+    ensures steps { StepsAt (kind_of key) (place sw.old (V.outside vault.old)) sw.new at (key_in sw.old key) result }
+    ensures down { IfOk result (IsDown sw.new) }
+    ensures grows { OnOk result (Grows sw.old sw.new (V.outside vault.old) (V.outside vault.new)) }
+    ensures keeps { OnOk result (Keeps sw.old sw.new) }
+    ensures alive { OnOk result (V.alive vault.new) }
+{
+    let order = match order(sw, vault, at, key) {
+        Ok(order) => order,
+        Err(fault) => return Err(fault),
+    };
+    match order {
+        Ordering::Equal => Ok(Step::Found),
+        Ordering::Less => match side(sw, vault, at, 0) {
+            Ok(side) => Ok(Step::Down(side)),
+            Err(fault) => Err(fault),
+        },
+        Ordering::Greater => match side(sw, vault, at, 1) {
+            Ok(side) => Ok(Step::Down(side)),
+            Err(fault) => Err(fault),
+        },
+    }
+}
+
+/// The value of a key in the tree of a root, where the tree has the key. Heights fall on the way down, from below the bound, else a node is
+/// damaged; each node that is looked at is a step.
+pub fn lookup<V: Vault, L: Ledger>(
+    sw: &mut Swizzle,
+    vault: &mut V,
+    root: Option<u32>,
+    bound: u64,
+    key: Key,
+    steps: &mut Steps<L>,
+) -> Result<Option<u32>, SwizzleFault>
+    requires alive { V.alive vault.old }
+    requires root { IfSome root (IsNode sw.old) }
+    requires bound { 1 ≤ bound }
+    requires key { IsKeyHeld sw.old key }
+    ensures found { Finds (kind_of key) (place sw.old (V.outside vault.old)) sw.new root bound (key_in sw.old key) result }
+    ensures held { IfOk result (λ found. IfSome found (IsHeld sw.new)) }
+    ensures cost { steps.new ≤ steps.old + bound }
+    ensures charged { Charges (kind_of key) (place sw.old (V.outside vault.old)) root bound (key_in sw.old key) steps.old steps.new result }
+    ensures grows { OnOk result (Grows sw.old sw.new (V.outside vault.old) (V.outside vault.new)) }
+    ensures keeps { OnOk result (Keeps sw.old sw.new) }
+    ensures alive { OnOk result (V.alive vault.new) }
+{
+    sw.sound();
+    let mut at = root;
+    let mut bound = bound;
+    while let Some(node) = at {
+        steps.tick();
+        let height = height(sw, &*vault, at);
+        if height == 0 || height >= bound {
+            return Err(damaged(sw, node, height, bound));
+        }
+        match look(sw, vault, node, key) {
+            Ok(Step::Found) => {
+                return match value(sw, vault, node) {
+                    Ok(value) => Ok(Some(value)),
+                    Err(fault) => Err(fault),
+                };
+            }
+            Ok(Step::Down(side)) => at = side,
+            Err(fault) => return Err(fault),
+        }
+        bound = height;
+    }
+    Ok(None)
+}
