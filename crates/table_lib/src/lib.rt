@@ -2,6 +2,7 @@
 #![tactic(auto)]
 
 mod bits;
+pub mod enter;
 pub mod lookup;
 pub mod next;
 pub mod table;
