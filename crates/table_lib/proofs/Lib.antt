@@ -5,5 +5,6 @@ pub mod UseLaws
 pub mod CountLaws
 pub mod WriteLaws
 pub mod EnterLaws
+pub mod StayLaws
 pub mod NextLaws
 pub use Rattle.table_nodes.proofs as of_table_nodes

@@ -1,5 +1,6 @@
 -- What is done to a table where a value is entered under a key, or a key is taken out.
 use Rattle.std.specs.Prelude.{◌≡◌, ◌≢◌, ◌⊎◌, ℕ, ◌-◌, ◌^◌, ◌<◌, List, [], length, Option, Some, None, Result, Ok, MatchResult}
+use Rattle.std.specs.List.{AllByRecursion}
 use Rattle.table_nodes.specs.heap_places.ps_outside.Outside.{Outside, SameContents}
 use Rattle.table_nodes.specs.heap_places.obj_layout.Stored.{Space}
 use Rattle.table_nodes.specs.heap_places.obj_layout.declared.kind.Kind.TheVariants.{Node}
@@ -76,6 +77,10 @@ pub record TakesKey (ks : Keys) (old new : Place) (at : ℕ) (is : List (I ks)) 
   pub tree : Tree (I ks)
   pub pairs : items tree ≡ without (seek (order_by ks) key) is
   pub now : HasNow ks old new at is tree
+
+-- no node of the first is one of the second
+abbrev pub AreApart : (other ks : Keys) → List (I other) → List (I ks) → Type 0
+AreApart other ks vs is = AllByRecursion (λ a. IsApart a.name is) vs
 
 -- A table that never had a key has none now, and is noted as assigned.
 pub record StaysUnused (old new : Place) (at : ℕ) : Type 0 where

@@ -3,6 +3,7 @@
 
 mod bits;
 pub mod enter;
+pub mod laws;
 pub mod lookup;
 pub mod next;
 pub mod table;
