@@ -1,0 +1,8 @@
+pub mod Bounds
+pub mod Numbers
+pub mod Naming
+pub mod Reading
+pub mod Tests
+pub mod Held
+pub mod Tables
+pub mod Looked
