@@ -46,6 +46,11 @@ bytes_same one other count image same =
     ∙ numbers_same (byte_named one image) (byte_named other image) (4096 * count) (λ k lt. byte_same one other image k (same (k / 4096) (omega arith)))
     ∙ sym (as_numbers other count image)
 
+-- bytes that are the same one by one
+pub bytes_alike : (one other : ℕ → ℕ) (count : ℕ) (image another : List ℕ) → ((k : ℕ) → k < 4096 * count → byte_named one image k ≡ byte_named other another k) → bytes_named one count image ≡ bytes_named other count another
+bytes_alike one other count image another same =
+    as_numbers one count image ∙ numbers_same (byte_named one image) (byte_named other another) (4096 * count) same ∙ sym (as_numbers other count another)
+
 zeros_are : (count : ℕ) → numbers_of (λ i. 0) count ≡ replicate {A = ℕ} count 0
 zeros_are count =
     same_number_lists (numbers_of (λ i. 0) count) (replicate {A = ℕ} count 0) (length_numbers (λ i. 0) count ∙ sym (length-replicate {A = ℕ} count 0))

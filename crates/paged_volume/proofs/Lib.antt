@@ -6,3 +6,5 @@ pub mod Tests
 pub mod Held
 pub mod Tables
 pub mod Looked
+pub mod Staying
+pub mod Putting

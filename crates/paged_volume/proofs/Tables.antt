@@ -51,10 +51,10 @@ pub is_not_unnamed : (pages : ℕ) (numbers : List ℕ) (page : ℕ) → 4 ≤ p
 is_not_unnamed pages numbers page low high none =
     is_unnamed pages numbers page high ∙ (λ i. le-leb 4 page low i && not (none i))
 
-or_both : (a b : Bool) → a ≡ false → b ≡ false → (a || b) ≡ false
+pub or_both : (a b : Bool) → a ≡ false → b ≡ false → (a || b) ≡ false
 or_both a b e f = (λ i. e i || f i)
 
-both_or : (a b : Bool) → (a || b) ≡ false → (a ≡ false) × (b ≡ false)
+pub both_or : (a b : Bool) → (a || b) ≡ false → (a ≡ false) × (b ≡ false)
 both_or false false e = (refl, refl)
 both_or false true e = (refl, e)
 both_or true b e = (e, by e)
@@ -146,6 +146,7 @@ module _ (table : Table) (is : IsNaming table table.committed.depth (map_count t
     fit = is.fit;
     commits = is.commits;
     logical = is.staged;
+    lists = refl;
     pages = length_where (length table.map.free) _ ∙ length_free is;
     names = is.names;
     once = record { index = is.index_once; maps = is.maps_once; pages = is.pages_once; bare = is.bare };

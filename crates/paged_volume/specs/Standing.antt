@@ -93,6 +93,7 @@ pub record IsTable (table : Table) : Type 0 where
   pub fit : IsFit table.committed
   pub commits : table.committed.note.commits < 2 ^ 64
   pub logical : length table.map.committed ≡ capacity_pages table.committed.pages
+  pub lists : length table.map.staged ≡ length table.map.committed
   pub pages : length table.map.free ≡ table.committed.pages
   pub names : length table.named.items ≡ 1 + map_pages_of (capacity_pages table.committed.pages)
   pub once : IsNamedOnce table

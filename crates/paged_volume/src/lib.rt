@@ -8,6 +8,7 @@ mod finding;
 mod head;
 pub mod layout;
 mod names;
+mod placing;
 mod root;
 mod table;
 mod volume;

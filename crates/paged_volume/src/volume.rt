@@ -1,16 +1,19 @@
 //! A volume over its host.
 
-ghost use Rattle.std.specs.Prelude.{◌≡◌, ℕ, ◌+◌, ◌*◌, ◌<◌, ◌≤◌, List, length, Some, true, false, OnOk, OnErr, IfOk, IfErr};
-ghost use Rattle.ps_port.specs.ps_outside.Outside.{TellsPrefix, ToldAll, IsPutCall, Rose};
+ghost use Rattle.std.specs.Prelude.{◌≡◌, ℕ, ◌+◌, ◌*◌, ◌<◌, ◌≤◌, List, length, Option, Some, true, false, OnOk, OnErr, IfOk, IfErr};
+ghost use Rattle.std.specs.Option.{option_map};
+ghost use Rattle.ps_port.specs.ps_outside.Past.{KeepsPast};
+ghost use Rattle.ps_port.specs.ps_outside.Outside.{After, TellsPrefix, ToldAll, IsPutCall, Rose};
 ghost use Rattle.shadow_volume.specs.Found.{Held};
 ghost use Rattle.shadow_volume.specs.Attaching.{Looks};
 ghost use Rattle.paged_volume.specs.Layout.{capacity_pages};
 ghost use Rattle.paged_volume.specs.Standing.{IsAlive, seen};
 ghost use Rattle.paged_volume.specs.Attaching.{IsAttached, IsRefused};
-ghost use Rattle.paged_volume.specs.Staging.{page_of};
+ghost use Rattle.paged_volume.specs.Staging.{page_of, with_page, Stages, Marks, IsPutFault};
 
 use crate::finding::find;
 use crate::layout::page_at;
+use crate::placing::place_for;
 use crate::table::Table;
 use ps_port::{Host, HostFailed};
 use shadow_volume::{Note, OpenFault};
@@ -28,6 +31,9 @@ pub struct Refused<H: Host> {
 pub enum VolumeFault {
     /// A call of the device failed, and its count of faults rose.
     Device,
+    /// There are too few pages: so many are held, so many more are wanted, and the volume has so many. Nothing was written, and what was staged
+    /// stays so.
+    Full { held: u32, wanted: u32, pages: u32 },
 }
 
 /// A volume over its host: what is committed in it, and in which page each logical page stands as it is staged.
@@ -76,6 +82,46 @@ impl<H: Host> Volume<H> {
         }
         match self.host.read_at(page_at(number), into) {
             Ok(()) => Ok(()),
+            Err(_) => {
+                self.live = false;
+                Err(VolumeFault::Device)
+            }
+        }
+    }
+
+    /// Stages a page, with one call of the device: in a page of its own that nothing else names, the same one until the next commit. In what a crash leaves
+    /// the same volume is found as before, also where the call fails. Full exactly where the page has no page of its own since the last commit and none
+    /// is free.
+    pub fn put_page(&mut self, page: u32, from: &[u8]) -> Result<(), VolumeFault>
+        requires alive { IsAlive self.old.live self.old.table (H.outside self.old.host) }
+        requires page { page < capacity_pages self.old.table.committed.pages }
+        requires size { length from.now ≡ 4096 }
+        ensures put { OnOk result ((found : Option Held) → (seen self.new.table (H.outside self.new.host)).contents found →
+            After (seen self.old.table (H.outside self.old.host)).contents (λ before after. option_map (with_page page from.now) before ≡ after) found) }
+        ensures stays { OnOk result ((found : Option Held) → (seen self.old.table (H.outside self.old.host)).contents found →
+            (seen self.new.table (H.outside self.new.host)).contents (option_map (with_page page from.now) found)) }
+        ensures stages { Stages (seen self.old.table (H.outside self.old.host)) (seen self.new.table (H.outside self.new.host)) 1 }
+        ensures past { KeepsPast (H.outside self.old.host) (H.outside self.new.host) }
+        ensures committed { self.new.table.committed ≡ self.old.table.committed }
+        ensures marks { OnOk result (Marks page self.old.table self.new.table) }
+        ensures alive { OnOk result (IsAlive self.new.live self.new.table (H.outside self.new.host)) }
+        ensures fault { IfErr result (IsPutFault H.outside self.old.host self.new.host self.old.live self.new.live self.old.table self.new.table page) }
+    {
+        let number = match place_for(&mut self.table.map, page) {
+            Some(number) => number,
+            None => {
+                return Err(VolumeFault::Full {
+                    held: self.table.map.held(),
+                    wanted: 1,
+                    pages: self.table.committed.pages,
+                });
+            }
+        };
+        match self.host.write_at(page_at(number), from) {
+            Ok(()) => {
+                self.table.map.replace(page, number);
+                Ok(())
+            }
             Err(_) => {
                 self.live = false;
                 Err(VolumeFault::Device)
