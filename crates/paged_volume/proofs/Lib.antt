@@ -8,3 +8,5 @@ pub mod Tables
 pub mod Looked
 pub mod Staying
 pub mod Putting
+pub mod Spelling
+pub mod Turning

@@ -158,7 +158,7 @@ length_with_numbers list place numbers fits =
     ap length (as_written list place numbers)
     ∙ omega (arith, length-written place numbers list, length-take place list, length-drop (place + length numbers) list)
 
-first_number : (bytes : List ℕ) (count i : ℕ) → i < count → get_or (first_numbers bytes count) i 0 ≡ number_at bytes i
+pub first_number : (bytes : List ℕ) (count i : ℕ) → i < count → get_or (first_numbers bytes count) i 0 ≡ number_at bytes i
 unfolding first_numbers
 first_number bytes count i lt = get_or-map-range_with_len (number_at bytes) 0 count i i 0 lt (omega arith)
 

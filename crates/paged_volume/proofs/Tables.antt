@@ -103,7 +103,7 @@ module _ (table : Table) (is : IsNaming table table.committed.depth (map_count t
   differs list page number none named same = both_ways (names list page) none (subst (λ (n : ℕ). names list n ≡ true) same named)
 
   settled_table : Table
-  settled_table = record { committed = table.committed; map = settled table.map table.named.items; named = table.named }
+  settled_table = record { committed = table.committed; map = settled table.map table.named.items; named = table.named; next = table.next }
 
   free_is_spare : (page : ℕ) → is_free (settled table.map table.named.items).free page ≡ true →
       (is_free (unnamed table.committed.pages (map_names table.committed.depth table.named.items (map_count table.committed) ++ numbers_of (λ page. get_or table.map.staged page 0) (logical_of table.committed))) page ≡ true)
@@ -141,7 +141,7 @@ module _ (table : Table) (is : IsNaming table table.committed.depth (map_count t
       below : (page : ℕ) → 1 ≤ get_or table.map.staged page 0 → page < logical_of table.committed
       below page some = elim (cases_lt page (logical_of table.committed)) [ inl lt ↦ lt | inr past ↦ absurd (omega (arith, is.bare page past)) ]
 
-  pub settled_is_table : IsTable (record { committed = table.committed; map = settled table.map table.named.items; named = table.named })
+  pub settled_is_table : IsTable (record { committed = table.committed; map = settled table.map table.named.items; named = table.named; next = table.next })
   settled_is_table = record {
     fit = is.fit;
     commits = is.commits;

@@ -4,4 +4,5 @@ pub mod Standing
 pub mod Attaching
 pub mod Naming
 pub mod Staging
+pub mod Switching
 pub use Rattle.shadow_volume.specs as shadow_volume

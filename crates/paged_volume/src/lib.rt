@@ -8,6 +8,8 @@ mod finding;
 mod head;
 pub mod layout;
 mod names;
+mod writing;
+mod paging;
 mod placing;
 mod root;
 mod table;
