@@ -10,3 +10,6 @@ pub mod Staying
 pub mod Putting
 pub mod Spelling
 pub mod Turning
+pub mod Readying
+pub mod Selecting
+pub mod Synced

@@ -6,11 +6,13 @@ ghost use Rattle.ps_port.specs.Disk.{Torn, Written, written};
 ghost use Rattle.ps_port.specs.ps_outside.Outside.{IsDeviceCall};
 ghost use Rattle.shadow_volume.specs.Switching.{Works, StaysHeld};
 ghost use Rattle.paged_volume.specs.Standing.{Says, map_count};
-ghost use Rattle.paged_volume.specs.Switching.{IsNext, IsKept, SameStaged, HasMaps};
+ghost use Rattle.paged_volume.specs.Switching.{IsNext, IsKept, SameStaged, HasMaps, HasIndex, IsReady};
 
 use crate::committed::Committed;
 use crate::layout::{PAGE_BYTES, page_at};
 use crate::names::map_count;
+use crate::paging::fill_index;
+use crate::syncing::sync;
 use crate::table::Table;
 use ps_port::{Host, HostFailed};
 
@@ -71,4 +73,60 @@ fn write_maps<H: Host>(host: &mut H, table: &Table, next: Committed) -> Result<(
         }
     }
     Ok(())
+}
+
+// Writes the index page, if there is one.
+fn write_index<H: Host>(host: &mut H, table: &Table, next: Committed) -> Result<(), HostFailed>
+    requires ready { IsNext table.now next }
+    requires says { (image : List ℕ) → (H.outside host.old).images (H.outside host.old).clock image → Says table.now image }
+    requires maps { (bytes : List ℕ) → (H.outside host.old).contents bytes → HasMaps table.now next (map_count next) bytes }
+    ensures images { Leaves (H.outside host.old) (H.outside host.new) (IsKept (H.outside host.old) table.now) }
+    ensures named { OnOk result ((bytes : List ℕ) → (H.outside host.new).contents bytes → HasMaps table.now next (map_count next) bytes × HasIndex table.now next bytes) }
+    ensures staged { OnOk result ((bytes : List ℕ) → (H.outside host.new).contents bytes → After (H.outside host.old).contents (SameStaged table.now) bytes) }
+    ensures works { Works (H.outside host.old) (H.outside host.new) result }
+    ensures calls { (H.outside host.new).device_calls ≤ (H.outside host.old).device_calls + 1 }
+    ensures stays { OnOk result (StaysHeld (H.outside host.old) (H.outside host.new)) }
+{
+    if next.depth == 0 {
+        return Ok(());
+    }
+    let mut page = [0u8; PAGE_BYTES];
+    fill_index(&table.next, map_count(next), &mut page);
+    let number = table.next[0];
+    write_page(host, number, &page)
+}
+
+// Writes the pages that name those that are committed next.
+fn write_names<H: Host>(host: &mut H, table: &Table, next: Committed) -> Result<(), HostFailed>
+    requires ready { IsNext table.now next }
+    requires says { (image : List ℕ) → (H.outside host.old).images (H.outside host.old).clock image → Says table.now image }
+    ensures images { Leaves (H.outside host.old) (H.outside host.new) (IsKept (H.outside host.old) table.now) }
+    ensures ready { OnOk result ((bytes : List ℕ) → (H.outside host.new).contents bytes → IsReady (H.outside host.old) table.now next bytes) }
+    ensures works { Works (H.outside host.old) (H.outside host.new) result }
+    ensures calls { (H.outside host.new).device_calls ≤ (H.outside host.old).device_calls + (map_count next + 1) }
+    ensures stays { OnOk result (StaysHeld (H.outside host.old) (H.outside host.new)) }
+{
+    match write_maps(host, table, next) {
+        Ok(()) => {}
+        Err(failed) => return Err(failed),
+    }
+    write_index(host, table, next)
+}
+
+
+/// Writes them, and syncs.
+pub fn prepare<H: Host>(host: &mut H, table: &Table, next: Committed) -> Result<(), HostFailed>
+    requires ready { IsNext table.now next }
+    requires says { (image : List ℕ) → (H.outside host.old).images (H.outside host.old).clock image → Says table.now image }
+    ensures images { Leaves (H.outside host.old) (H.outside host.new) (IsKept (H.outside host.old) table.now) }
+    ensures ready { OnOk result ((image : List ℕ) → (H.outside host.new).images (H.outside host.new).clock image → IsReady (H.outside host.old) table.now next image) }
+    ensures works { Works (H.outside host.old) (H.outside host.new) result }
+    ensures calls { (H.outside host.new).device_calls ≤ (H.outside host.old).device_calls + (map_count next + 2) }
+    ensures stays { OnOk result (StaysHeld (H.outside host.old) (H.outside host.new)) }
+{
+    match write_names(host, table, next) {
+        Ok(()) => {}
+        Err(failed) => return Err(failed),
+    }
+    sync(host)
 }
