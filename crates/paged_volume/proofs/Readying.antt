@@ -53,13 +53,14 @@ index_content table next x page old new is deep x_is size numbers says by has =
     let torn : Torn (4096 * number) 4096 old image = subst (λ (n : ℕ). Torn (4096 * number) n old image) size (written_torn (4096 * number) page old) in
     let few = (are_low next is.next_fit).few in
     let read : take 4096 (drop (4096 * number) image) ≡ page = ap (λ (n : ℕ). take n (drop (4096 * number) image)) (sym size) ∙ written_range (4096 * number) page old (omega arith) in
-    let first = index_first table.next.items 0 in
-    (subst (λ (xs : List ℕ). HasMaps table next (map_count next) xs) (sym new_is)
-    (maps_torn table next (map_count next) (4096 * number) 4096 old image is (omega arith) long torn (λ i lt. apart_page (maps_of table.next.items i) number (λ same. map_apart table next is i lt 0 deep (first ∙ sym same))) has),
-    subst (λ (xs : List ℕ). HasIndex table next xs) (sym new_is) (λ i lt deep.
-    sym (number_within (4096 * number) 4096 (4 * i) 4 image (omega arith)) ∙ ap (λ (xs : List ℕ). number_at (4 * i) 4 xs) read ∙ numbers i lt),
-    subst (λ (xs : List ℕ). SameStaged table old xs) (sym new_is)
-    (staged_torn table next (4096 * number) 4096 old image is long torn (λ k below. apart_page (get_or table.map.staged k 0) number (λ same. (page_apart table next is k below).0 0 deep (first ∙ sym same)))))
+    let first = index_first table.next.items 0 in (
+      subst (λ (xs : List ℕ). HasMaps table next (map_count next) xs) (sym new_is)
+          (maps_torn table next (map_count next) (4096 * number) 4096 old image is (omega arith) long torn (λ i lt. apart_page (maps_of table.next.items i) number (λ same. map_apart table next is i lt 0 deep (first ∙ sym same))) has),
+      subst (λ (xs : List ℕ). HasIndex table next xs) (sym new_is) (λ i lt deep.
+          sym (number_within (4096 * number) 4096 (4 * i) 4 image (omega arith)) ∙ ap (λ (xs : List ℕ). number_at (4 * i) 4 xs) read ∙ numbers i lt),
+      subst (λ (xs : List ℕ). SameStaged table old xs) (sym new_is)
+          (staged_torn table next (4096 * number) 4096 old image is long torn (λ k below. apart_page (get_or table.map.staged k 0) number (λ same. (page_apart table next is k below).0 0 deep (first ∙ sym same)))),
+    )
 
 -- the other root page is apart from what is committed
 pub clear_root : (table : Table) → IsFit table.committed → IsNamedOnce table → IsClear table (root_at (not table.committed.second)) 4096

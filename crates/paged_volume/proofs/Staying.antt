@@ -235,11 +235,12 @@ module _ (table : Table) (at count : ℕ) (old new : List ℕ) (fit : IsFit tabl
 pub clear_stays : (table : Table) (at count : ℕ) (old new : List ℕ) → IsFit table.committed → IsNamedOnce table → IsClear table at count → 4097 ≤ at → Torn at count old new → Says table old → Says table new × (held_in new ≡ held_in old)
 clear_stays table at count old new fit once clear behind torn says =
     let but = but_stays table at count old new fit once clear torn (says_but table old says) in
-    let is = says_selected table new but (selected_stays table at count old new fit once clear torn (says_but table old says) behind ∙ says.selected) in
-    (is,
-    held_says table new fit once is
-    ∙ ap (λ (xs : List ℕ). Some (record { note = table.committed.note; bytes = xs })) (committed_stays table at count old new fit once clear torn (says_but table old says))
-    ∙ sym (held_says table old fit once says))
+    let is = says_selected table new but (selected_stays table at count old new fit once clear torn (says_but table old says) behind ∙ says.selected) in (
+      is,
+      held_says table new fit once is
+          ∙ ap (λ (xs : List ℕ). Some (record { note = table.committed.note; bytes = xs })) (committed_stays table at count old new fit once clear torn (says_but table old says))
+          ∙ sym (held_says table old fit once says),
+    )
 
 -- a write of a page that nothing committed names
 module _ (table : Table) (page : ℕ) (old new : List ℕ) (fit : IsFit table.committed) (once : IsNamedOnce table) (apart : IsApart table page) (torn : Torn (4096 * page) 4096 old new) (says : Says table old) where

@@ -117,11 +117,12 @@ module _ (table : Table) (is : IsNaming table table.committed.depth (map_count t
       let low = above (cases_lt page 4) parts.0 in
       let none_index = none_names (index_of table.named.items) table.committed.depth page (λ i lt. differs table.named.items page (index_of table.named.items i) parts.2 (names_index i lt)) in
       let none_maps = none_names (maps_of table.named.items) (map_count table.committed) page (λ i lt. differs table.named.items page (maps_of table.named.items i) parts.2 (names_map i lt)) in
-      let none_pages = none_names (λ page. get_or table.map.staged page 0) (logical_of table.committed) page (λ i lt. differs table.map.staged page (get_or table.map.staged i 0) parts.1 (names_page i lt)) in
-      (is_not_unnamed table.committed.pages _ page low (omega arith)
-      (names_append (map_names table.committed.depth table.named.items (map_count table.committed)) (numbers_of (λ page. get_or table.map.staged page 0) (logical_of table.committed)) page
-      ∙ or_both _ _ (names_append (numbers_of (index_of table.named.items) table.committed.depth) (numbers_of (maps_of table.named.items) (map_count table.committed)) page ∙ or_both _ _ none_index none_maps) none_pages),
-      parts.3)
+      let none_pages = none_names (λ page. get_or table.map.staged page 0) (logical_of table.committed) page (λ i lt. differs table.map.staged page (get_or table.map.staged i 0) parts.1 (names_page i lt)) in (
+        is_not_unnamed table.committed.pages _ page low (omega arith)
+            (names_append (map_names table.committed.depth table.named.items (map_count table.committed)) (numbers_of (λ page. get_or table.map.staged page 0) (logical_of table.committed)) page
+            ∙ or_both _ _ (names_append (numbers_of (index_of table.named.items) table.committed.depth) (numbers_of (maps_of table.named.items) (map_count table.committed)) page ∙ or_both _ _ none_index none_maps) none_pages),
+        parts.3,
+      )
     where
       and_parts : (may one two three : Bool) → (may && not (one || (two || three))) ≡ true → (may ≡ true) × (one ≡ false) × (two ≡ false) × (three ≡ false)
       and_parts true false false false e = (refl, refl, refl, refl)

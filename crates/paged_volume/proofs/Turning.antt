@@ -256,10 +256,11 @@ map_content table next map_page x page old new is lt x_is moves says page_is by 
     let number = maps_of table.next.items map_page in
     let new_is : new ≡ written (4096 * number) page old = by ∙ ap (λ (n : ℕ). written (4096 * n) page old) x_is in
     let size = length_map_page table.map.staged (1024 * map_page) page page_is in
-    let torn : Torn (4096 * number) 4096 old (written (4096 * number) page old) = subst (λ (n : ℕ). Torn (4096 * number) n old (written (4096 * number) page old)) size (written_torn (4096 * number) page old) in
-    (λ has. subst (λ (xs : List ℕ). HasMaps table next (map_page + 1) xs) (sym new_is) (maps_written table next map_page page old is lt moves says.head.long page_is size has),
-    subst (λ (xs : List ℕ). SameStaged table old xs) (sym new_is)
-    (staged_torn table next (4096 * number) 4096 old (written (4096 * number) page old) is says.head.long torn (λ k below. apart_page (get_or table.map.staged k 0) number (λ same. (page_apart table next is k below).1 map_page lt (sym same)))))
+    let torn : Torn (4096 * number) 4096 old (written (4096 * number) page old) = subst (λ (n : ℕ). Torn (4096 * number) n old (written (4096 * number) page old)) size (written_torn (4096 * number) page old) in (
+      λ has. subst (λ (xs : List ℕ). HasMaps table next (map_page + 1) xs) (sym new_is) (maps_written table next map_page page old is lt moves says.head.long page_is size has),
+      subst (λ (xs : List ℕ). SameStaged table old xs) (sym new_is)
+          (staged_torn table next (4096 * number) 4096 old (written (4096 * number) page old) is says.head.long torn (λ k below. apart_page (get_or table.map.staged k 0) number (λ same. (page_apart table next is k below).1 map_page lt (sym same)))),
+    )
 
 pub kept_says : (a b : Outside (List ℕ)) (table : Table) → Leaves a b (IsKept a table) → (image : List ℕ) → b.images b.clock image → Says table image
 kept_says a b table first image now = (along_now first image now).says

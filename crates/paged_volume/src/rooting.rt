@@ -68,5 +68,9 @@ pub fn switch_to<H: Host>(host: &mut H, table: &Table, next: Committed) -> Resul
         Ok(()) => {}
         Err(failed) => return Err(failed),
     }
-    write_synced(host, PAGE_BYTES as u64, &[selector_of(!table.committed.second)])
+    write_synced(
+        host,
+        PAGE_BYTES as u64,
+        &[selector_of(!table.committed.second)],
+    )
 }

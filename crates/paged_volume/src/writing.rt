@@ -113,7 +113,6 @@ fn write_names<H: Host>(host: &mut H, table: &Table, next: Committed) -> Result<
     write_index(host, table, next)
 }
 
-
 /// Writes them, and syncs.
 pub fn prepare<H: Host>(host: &mut H, table: &Table, next: Committed) -> Result<(), HostFailed>
     requires ready { IsNext table.now next }
