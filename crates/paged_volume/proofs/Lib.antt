@@ -13,3 +13,4 @@ pub mod Turning
 pub mod Readying
 pub mod Selecting
 pub mod Synced
+pub mod Changed

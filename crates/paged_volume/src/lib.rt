@@ -2,6 +2,7 @@
 //! and then selects the root page that names it.
 #![tactic(auto)]
 
+mod changing;
 mod committed;
 mod damage;
 mod finding;
