@@ -1,0 +1,26 @@
+//! A volume of pages in a file. Each logical page stands in a page of its own, which a map names; a commit writes what changed to other pages,
+//! and then selects the root page that names it.
+#![tactic(auto)]
+
+mod changing;
+mod committed;
+mod damage;
+mod finding;
+mod head;
+mod laws;
+pub mod layout;
+mod names;
+mod paging;
+mod placing;
+mod root;
+mod rooting;
+mod syncing;
+mod table;
+mod volume;
+mod writing;
+
+pub use committed::Committed;
+pub use laws::{the_pages_suffice, what_volumes_hold};
+pub use shadow_volume;
+pub use table::Table;
+pub use volume::{Refused, Volume, VolumeFault};
