@@ -54,8 +54,8 @@ fn reach_refs(sw: &mut Swizzle, object: u32)
     }
 }
 
-// How many objects are listed.
-pub(crate) fn listed(sw: &Swizzle) -> u32
+/// How many objects are listed.
+pub fn listed(sw: &Swizzle) -> u32
     ensures count { result ≡ length sw.now.reached }
     ensures below { result < sw.now.size }
 {
@@ -63,8 +63,8 @@ pub(crate) fn listed(sw: &Swizzle) -> u32
     sw.reached().len() as u32
 }
 
-// The object in a place of the list.
-pub(crate) fn listed_at(sw: &Swizzle, place: u32) -> u32
+/// The object in a place of the list.
+pub fn listed_at(sw: &Swizzle, place: u32) -> u32
     requires { place < length sw.now.reached }
     ensures is { result ≡ get_or sw.now.reached place 0 }
     ensures held { IsHeld sw.now result }

@@ -39,11 +39,14 @@ stands-new old new o e =
     (subst (IsLike (object_at old j)) (sym (object-append old o j there)) (record { kind = refl; refs = refl; nums = refl; bytes = refl; pid = refl })))
 
 -- the lists of the assigned and of the reached change
-pub stands-listed : (old mid new : Heap) (assigned reached : List ℕ) → new ≡ record mid { assigned = assigned; reached = reached } → Stands old mid → Stands old new
-stands-listed old mid new assigned reached e s =
+pub stands-lists : (old mid new : Heap) (assigned reached : List ℕ) → new ≡ record mid { assigned = assigned; reached = reached } → Stands old mid → Stands old new
+stands-lists old mid new assigned reached e s =
     subst (Stands old) (sym e) (λ j there.
     let t = s j there in
     record { held = record { object = t.held.object; is = t.held.is }; kind = t.kind; refs = t.refs; nums = t.nums; bytes = t.bytes; pid = t.pid })
+
+pub stands-listed : (old mid new : Heap) (list : List ℕ) → new ≡ record mid { assigned = list } → Stands old mid → Stands old new
+stands-listed old mid new list e s = stands-lists old mid new list mid.reached e s
 
 -- no object is assigned
 pub stands-cleared : (old new : Heap) → new ≡ with_no_marks old → Stands old new

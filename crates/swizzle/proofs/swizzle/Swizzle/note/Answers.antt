@@ -6,7 +6,7 @@ use Rattle.swizzle.specs.Kept.{Noted, with_room}
 use Rattle.swizzle.proofs.ObjectLaws.{elsewhere}
 use Rattle.swizzle.proofs.NotedLaws.{noted-set, noted-replaced, flag_is_not, flagged-is, flagged-reached}
 use Rattle.swizzle.proofs.KeptLaws.{Again, heap_with, inside_kept, lies_in, lies-given, lies-word_at, rewritten, set_of_flag, first_word-lt, IsFit-flagged, room_to_mark}
-use Rattle.swizzle.proofs.StandLaws.{stands-object, stands-listed, like_flags}
+use Rattle.swizzle.proofs.StandLaws.{stands-object, stands-lists, like_flags}
 use Rattle.swizzle.proofs.swizzle.Swizzle.note.Goals as goal
 
 pub word-first-requires : goal.word-first-requires
@@ -79,4 +79,4 @@ unfolding noted
 returns-clause-stands c =
     let now = c.args.self.now in
     let o = object_at now c.args.object in
-    stands-listed now (with_object now c.args.object (flagged o)) _ c.push.new.self.items c.self.inside.reached.items (written c).seen (stands-object now _ c.args.object (flagged o) refl c.requires.held (like_flags o))
+    stands-lists now (with_object now c.args.object (flagged o)) _ c.push.new.self.items c.self.inside.reached.items (written c).seen (stands-object now _ c.args.object (flagged o) refl c.requires.held (like_flags o))

@@ -6,7 +6,7 @@ use Rattle.swizzle.specs.Kept.{Noted, with_room}
 use Rattle.swizzle.proofs.ObjectLaws.{elsewhere}
 use Rattle.swizzle.proofs.NotedLaws.{noted-set, noted-replaced, reach_is_not, reach_flagged-is, reach_flagged-assigned}
 use Rattle.swizzle.proofs.KeptLaws.{Again, heap_with, inside_kept, lies_in, lies-given, lies-word_at, rewritten, set_of_reach, first_word-lt, IsFit-reach_flagged, room_to_reach}
-use Rattle.swizzle.proofs.StandLaws.{stands-object, stands-listed, like_reach_flags}
+use Rattle.swizzle.proofs.StandLaws.{stands-object, stands-lists, like_reach_flags}
 use Rattle.swizzle.proofs.swizzle.Swizzle.note_reached.Goals as goal
 
 pub word-first-requires : goal.word-first-requires
@@ -79,4 +79,4 @@ unfolding noted
 returns-clause-stands c =
     let now = c.args.self.now in
     let o = object_at now c.args.object in
-    stands-listed now (with_object now c.args.object (reach_flagged o)) _ c.self.inside.assigned.items c.push.new.self.items (written c).seen (stands-object now _ c.args.object (reach_flagged o) refl c.requires.held (like_reach_flags o))
+    stands-lists now (with_object now c.args.object (reach_flagged o)) _ c.self.inside.assigned.items c.push.new.self.items (written c).seen (stands-object now _ c.args.object (reach_flagged o) refl c.requires.held (like_reach_flags o))
