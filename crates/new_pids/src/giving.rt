@@ -52,6 +52,7 @@ pub fn give_all<V: Vault>(sw: &mut Swizzle, vault: &V, first: u64) -> u64
     ensures list { sw.new.reached ≡ sw.old.reached }
 {
     let _ = vault;
+    sw.sound();
     let count = listed(sw);
     let mut next = first;
     for place in 0..count {

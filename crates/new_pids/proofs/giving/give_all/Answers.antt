@@ -20,7 +20,7 @@ pub give_one-next-requires-clause-low : goal.give_one-next-requires-clause-low
 give_one-next-requires-clause-low g c = omega (arith, c.loop-place.invariant.3, c.requires.low)
 
 pub give_one-next-requires-clause-high : goal.give_one-next-requires-clause-high
-give_one-next-requires-clause-high g c = omega (arith, c.loop-place.invariant.4, c.requires.high, c.loop-place-test.true, c.listed-count.ensures.below)
+give_one-next-requires-clause-high g c = let small = c.sound.ensures.small in omega (arith, c.loop-place.invariant.4, c.requires.high, c.loop-place-test.true, c.listed-count.ensures.below, small)
 
 pub loop-place-preserved : goal.loop-place-preserved
 loop-place-preserved g c =
