@@ -35,5 +35,5 @@ module _ (old mid : area.Heap) (start before : Outside Space) (code constant fie
               let g = got-named old mid start before code constant row class at h is given in
               let bad : None ≡ Some l = sym none ∙ ap (λ (x : List ℕ). located_in (forms_of x) field) g.bytes ∙ place in
               cc,
-          damaged
+          damaged,
         )

@@ -15,6 +15,8 @@ mod procedure_store;
 #[cfg(test)]
 mod procedures;
 #[cfg(test)]
+mod row_making;
+#[cfg(test)]
 mod store;
 #[cfg(test)]
 mod turns;

@@ -107,11 +107,7 @@ impl Objects {
     /// The body of a procedure. Where its object is no closure, or one of its slots denotes an object of another kind than it must, it is damaged as
     /// `code_of` and `scope_of` say. What isn't in the area is fetched.
     #[inline(always)]
-    pub fn body_of<V: Vault>(
-        &mut self,
-        vault: &mut V,
-        procedure: u32,
-    ) -> Result<Body, SwizzleFault>
+    pub fn body_of<V: Vault>(&mut self, vault: &mut V, procedure: u32) -> Result<Body, SwizzleFault>
         requires alive { V.alive vault.old }
         requires held { IsHeld self.old procedure }
         ensures got { (of : meaning.Heap) (names : List Reference) (unit : UnitView) (within : Option ℕ) → IsWorld self.old (V.outside vault.old) of names
