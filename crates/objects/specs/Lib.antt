@@ -1,6 +1,8 @@
 pub mod Lasting
 pub mod Fields
 pub mod Vectors
+pub mod Bodies
+pub mod Makes
 pub mod Known
 pub mod Inside
 pub mod Classes

@@ -2,9 +2,13 @@
 //! Each operation is said as the meaning says it.
 #![tactic(auto)]
 
+pub mod body;
+pub mod class_rows;
 mod classes;
 mod known;
 mod known_fields;
+mod known_makes;
+mod known_procedures;
 mod known_vectors;
 pub mod objects;
 mod places;
