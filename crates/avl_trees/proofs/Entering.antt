@@ -1,5 +1,6 @@
 -- An entry is put into a tree, from the place of its key up.
 use Rattle.std.proofs.Common.{◌≡◌, ◌≢◌, List, ◌∷◌, ◌++◌, None, refl, sym, ap, ◌∙◌, subst}
+use Rattle.std.specs.List.{AllByRecursion}
 use Rattle.std.specs.Cmp.{IsTotalOrder}
 use Rattle.std.specs.declared.cmp.Ordering.{Ordering}
 use Rattle.std.specs.declared.cmp.Ordering.TheVariants.{Less, Equal, Greater}
@@ -62,6 +63,13 @@ module _ {N K V : Type 0} (cmp : K → K → Ordering) (o : IsTotalOrder cmp) (k
       let past = before_greater (under cmp) probe parts (items l) a (items r) rising (λ f. cc) in
       enter_past probe (put value) new (items l) (a ∷ items r) past ∙ rw e (ap (λ t. items l ++ a ∷ t) (sym (insert_items (under cmp) probe parts (put value) new r (around (under cmp) (items l) a (items r) rising).right)))
 
+  -- a name that is apart from those of a tree is apart from those after a side was entered into
+  pub apart_left : (n : N) → fresh ≢ n → (l : Tree (Item N K V)) (a : Item N K V) (r : Tree (Item N K V)) → probe a ≡ Less → AreRising (under cmp) (items (node l a r)) → IsApart n (items (node l a r)) → IsApart n (items (entered l) ++ a ∷ items r)
+  apart_left n ne l a r e rising h = subst (IsApart n) (left_items l a r e rising) (apart_entered n ne (items l ++ a ∷ items r) h)
+
+  pub apart_right : (n : N) → fresh ≢ n → (l : Tree (Item N K V)) (a : Item N K V) (r : Tree (Item N K V)) → probe a ≡ Greater → AreRising (under cmp) (items (node l a r)) → IsApart n (items (node l a r)) → IsApart n (items l ++ a ∷ items (entered r))
+  apart_right n ne l a r e rising h = subst (IsApart n) (right_items l a r e rising) (apart_entered n ne (items l ++ a ∷ items r) h)
+
   pub left_given : (m m1 : Rows N K V) → IsOne m → (l : Tree (Item N K V)) (a : Item N K V) (r : Tree (Item N K V)) → probe a ≡ Less
       → Stands m (node l a r) → AreRising (under cmp) (items (node l a r)) → Becomes m m1 (items l) (entered l) → Given cmp m1 (entered l) a r
   left_given m m1 one l a r e s rising w =
@@ -74,7 +82,7 @@ module _ {N K V : Type 0} (cmp : K → K → Ordering) (o : IsTotalOrder cmp) (k
       subst (λ t. Becomes m m2 (items (node l a r)) t) (sym (entered_left_is l a r e))
       (behind m m1 m2 (items (node l a r)) (items l) (items (entered l) ++ a ∷ items r) (entered l) (balance (entered l) a r) w v
       (λ n h. among_front n (items l) a (items r) h)
-      (λ n row k h. subst (IsApart n) (left_items l a r e rising) (apart_entered n (λ f. is_fresh row (subst (λ x. m x row) (sym f) k)) (items l ++ a ∷ items r) h)))
+      (λ n row k h. apart_left n (λ f. is_fresh row (subst (λ x. m x row) (sym f) k)) l a r e rising h))
 
   pub right_given : (m m1 : Rows N K V) → IsOne m → (l : Tree (Item N K V)) (a : Item N K V) (r : Tree (Item N K V)) → probe a ≡ Greater
       → Stands m (node l a r) → AreRising (under cmp) (items (node l a r)) → Becomes m m1 (items r) (entered r) → Given cmp m1 l a (entered r)
@@ -88,7 +96,7 @@ module _ {N K V : Type 0} (cmp : K → K → Ordering) (o : IsTotalOrder cmp) (k
       subst (λ t. Becomes m m2 (items (node l a r)) t) (sym (entered_right_is l a r e))
       (behind m m1 m2 (items (node l a r)) (items r) (items l ++ a ∷ items (entered r)) (entered r) (balance l a (entered r)) w v
       (λ n h. among_back n (items l) a (items r) h)
-      (λ n row k h. subst (IsApart n) (right_items l a r e rising) (apart_entered n (λ f. is_fresh row (subst (λ x. m x row) (sym f) k)) (items l ++ a ∷ items r) h)))
+      (λ n row k h. apart_right n (λ f. is_fresh row (subst (λ x. m x row) (sym f) k)) l a r e rising h))
 
   -- the value of a node was written
   pub entered_here : (m m1 : Rows N K V) → IsOne m → (l : Tree (Item N K V)) (a : Item N K V) (r : Tree (Item N K V)) → probe a ≡ Equal
@@ -106,6 +114,11 @@ module _ {N K V : Type 0} (cmp : K → K → Ordering) (o : IsTotalOrder cmp) (k
 
   pub entered_grown : (t : Tree (Item N K V)) → IsBalanced t → Grown t (entered t)
   entered_grown t b = insert_grown probe (put value) (fresh_item fresh key value) t b
+
+  -- what is so of each item is so after an entry was put in
+  pub entered_all : (P : Item N K V → Type 0) (is : List (Item N K V)) → P (fresh_item fresh key value) → ((a : Item N K V) → probe a ≡ Equal → P a → P (put value a)) → AllByRecursion P is
+      → AllByRecursion P (enter probe (put value) (fresh_item fresh key value) is)
+  entered_all P is p q h = enter_all (under cmp) probe parts (put value) (fresh_item fresh key value) fits P is p q h
 
   -- the entries of the tree with an entry are those of the list with it, and rise
   pub entered_items : (t : Tree (Item N K V)) → AreRising (under cmp) (items t) → items (entered t) ≡ enter probe (put value) (fresh_item fresh key value) (items t)

@@ -15,7 +15,7 @@ use Rattle.table_nodes.specs.Keys.{Keys, by_ints, by_texts, KeyOf, order_by}
 use Rattle.table_nodes.specs.Nodes.{IsLinked, IsFetchFault}
 use Rattle.table_nodes.specs.Steps.{I, Place}
 use Rattle.table_nodes.specs.Searching.{IsObject, value_of}
-use Rattle.table_lib.specs.Tables.{IsTableAt, HasKeys, IsUnused, IsTable}
+use Rattle.table_lib.specs.Tables.{IsTableAt, HasKeys, HasPairs, IsUnused, IsTable}
 use Rattle.table_lib.specs.declared.words.KeyKind.{KeyKind as KindOfKeys}
 use Rattle.table_lib.specs.declared.words.KeyKind.TheVariants.{Ints, Texts}
 use Rattle.table_lib.specs.declared.words.Opened.{Opened}
@@ -38,6 +38,7 @@ pub record Opens (ks : Keys) (heap : Heap) (table : Option ℕ) (result : Result
   pub unused : (at : ℕ) → table ≡ Some at → IsUnused heap at → result ≡ Ok (record { at = at; used = false })
   pub at_is : IfOk result (λ opened. table ≡ Some opened.at)
   pub shape : IfOk result (λ opened. IsTableAt heap opened.at)
+  pub never : IfOk result (λ opened. opened.used ≡ false → IsUnused heap opened.at)
 
 -- What an operation with a key of a kind answers: the traps, what a table that never had a key gives, and what a table with keys of this kind gives.
 pub record Uses {T : Type 0} (ks : Keys) (p : Place) (table : Option ℕ) (unused : Result T OpFault → Type 0) (used : ℕ → Tree (I ks) → Result T OpFault → Type 0) (result : Result T OpFault) : Type 0 where
@@ -49,7 +50,7 @@ pub record Uses {T : Type 0} (ks : Keys) (p : Place) (table : Option ℕ) (unuse
 
 -- The root of a table is answered, or it couldn't be fetched.
 abbrev pub ReadsRoot : Place → Heap → ℕ → Result (Option ℕ) SwizzleFault → Type 0
-ReadsRoot old new at result = (ks : Keys) (t : Tree (I ks)) → IsTable ks old at t → MatchResult result (λ root. IsLinked new root (root_of t)) (IsFetchFault old.outside)
+ReadsRoot old new at result = (ks : Keys) (t : Tree (I ks)) → HasPairs ks old at t → MatchResult result (λ root. IsLinked new root (root_of t)) (IsFetchFault old.outside)
 
 -- The value of the key is answered, none where the table hasn't the key.
 abbrev pub LooksUp : (ks : Keys) → Place → Heap → Option ℕ → KeyOf ks → Result (Option ℕ) OpFault → Type 0

@@ -36,6 +36,16 @@ pub record IsUnused (heap : Heap) (at : ℕ) : Type 0 where
   pub count : num_at heap at 2 ≡ 0
   pub root : ref_at heap at 0 ≡ Nil
 
+-- From the root of an object that has a table's shape on a search tree stands, and its words tell how many pairs there are.
+pub record HasPairs (ks : Keys) (p : Place) (at : ℕ) (t : Tree (I ks)) : Type 0 where
+  pub shape : IsTableAt p.heap at
+  pub count : num_at p.heap at 2 ≡ length (items t)
+  pub root : link_of (name_of p.heap (ref_at p.heap at 0)) ≡ root_of t
+  pub stands : Stands (rows_of ks p) t
+  pub rising : IsRising (order_by ks) t
+  pub balanced : IsBalanced t
+  pub values : AllByRecursion HasValue (items t)
+
 -- From the table's root on a search tree stands, of exactly its pairs, with right heights that differ by at most one between siblings; its words tell
 -- the kind of the keys and how many pairs there are.
 pub record IsTable (ks : Keys) (p : Place) (at : ℕ) (t : Tree (I ks)) : Type 0 where

@@ -2,6 +2,8 @@
 #![tactic(auto)]
 
 mod bits;
+pub mod enter;
+pub mod laws;
 pub mod lookup;
 pub mod next;
 pub mod table;

@@ -4,6 +4,7 @@ pub mod Seeking
 pub mod SoughtLaws
 pub mod MakeLaws
 pub mod MarkingLaws
+pub mod Sparing
 pub mod PutLaws
 pub mod FollowLaws
 pub mod Putting

@@ -10,6 +10,8 @@ use Rattle.heap_places.specs.swizzle.Heap.{Heap, IsHeap, IsHeld, IsMade, IsInsid
 use Rattle.heap_places.specs.swizzle.Joint.{Shown, Joint, shown, shown_at, name_at, name_of}
 use Rattle.heap_places.specs.swizzle.Changes.{Within, ChangedAt}
 use Rattle.heap_places.specs.swizzle.Reading.{joint}
+use Rattle.heap_places.specs.swizzle.Touch.{Keeps}
+use Rattle.heap_places.proofs.of_swizzle.TouchLaws.{keeps-new}
 use Rattle.heap_places.proofs.of_swizzle.JointLaws.{joint-made, name-fresh}
 use Rattle.heap_places.proofs.of_swizzle.MadeLaws.{made-held, made-object, made-other}
 use Rattle.heap_places.proofs.of_swizzle.of_obj_layout.StoredLaws.{Holds-low}
@@ -44,6 +46,10 @@ pub node_made : (old mid m1 m2 m3 : Heap) (at value : ℕ) (key : Key) → IsMad
     → IsMade old m3 at (node_object key value)
 node_made old mid m1 m2 m3 at value (Int z) made e1 e2 e3 = made-num old m2 m3 at 2 1 _ (made-ref old m1 m2 at 3 _ (Local value) (made-num old mid m1 at 1 (int_word z) _ made e1) e2) e3
 node_made old mid m1 m2 m3 at value (Text text) made e1 e2 e3 = made-num old m2 m3 at 2 1 _ (made-ref old m1 m2 at 3 _ (Local value) (made-ref old mid m1 at 2 _ (Local text) made e1) e2) e3
+
+-- what was there stays where an object is made
+pub made_keeps : (old new : Heap) (at : ℕ) (object : Object) → IsHeap old → IsMade old new at object → Keeps old new
+made_keeps old new at object h made = subst (Keeps old) (sym made.made) (keeps-new old object h)
 
 -- each reference of it is to an object of before
 same_local : (i j : ℕ) → Local i ≡ Local j → i ≡ j
@@ -104,7 +110,8 @@ module _ (old new : Heap) (outside : Outside Space) (at value : ℕ) (key : Key)
   pub node_makes : Makes (kind_of key) old new outside at (key_in old key) (name_at old value)
   node_makes = record {
     there = record { it = it; there = changed.there; is = record { kind = refl; refs = refl; nums = refl; left = refl; right = refl; key = node_key old new outside value key held within; value = refl; height = refl } };
-    fresh = λ other row r. unseen r.it r.there;
+    fresh = unseen;
+    seen = within;
     rows = λ other. rows_grow other (joint old outside) (joint new outside) within;
     here = here;
     nodes = nodes;

@@ -1,5 +1,5 @@
 -- Nodes of the area: what is seen of one, what a touch leaves, and what a write does.
-use Rattle.std.proofs.Common.{◌≡◌, ℕ, zero, suc, ◌<◌, List, length, set, Option, Some, None, refl, sym, ap, ◌∙◌, subst, arith, inl, inr}
+use Rattle.std.proofs.Common.{◌≡◌, ◌≢◌, ℕ, zero, suc, ◌<◌, List, length, set, Option, Some, None, refl, sym, ap, ◌∙◌, subst, arith, inl, inr}
 use Rattle.std.proofs.Math.ListN.{length-set}
 use Rattle.std.proofs.lemmas.List.{get_or-set_same, get_or-set_other}
 use Rattle.heap_places.specs.ps_outside.Outside.{Outside, SameContents}
@@ -22,7 +22,7 @@ use Rattle.heap_places.specs.Words.{int_in}
 use Rattle.heap_places.specs.Shapes.{slot_of, word_in, IsText}
 use Rattle.table_nodes.specs.Keys.{Keys, by_ints, by_texts, KeyOf, Seen, IsKey}
 use Rattle.table_nodes.proofs.KeyLaws.{AreSingle, key_one, key_grows, key_changed, key_back}
-use Rattle.table_nodes.specs.Nodes.{Seat, link_of, IsSeat, HasNode, rows_in, IsSingle, IsNode, IsNamed, IsLinked, Grows, side_of, with_sides, Links, HasSides, IsFetchFault, IsSide}
+use Rattle.table_nodes.specs.Nodes.{Seat, link_of, IsSeat, HasNode, rows_in, IsSingle, IsNode, IsNamed, IsLinked, Grows, OthersStay, side_of, with_sides, Links, HasSides, IsFetchFault, IsSide}
 use Rattle.heap_places.specs.swizzle.declared.fault.SwizzleFault.{SwizzleFault}
 use Rattle.heap_places.specs.swizzle.declared.fault.SwizzleFault.TheVariants.{AreaFull, Vault}
 
@@ -56,6 +56,7 @@ pub grows_touch : (old new : Heap) (a b : Outside Space) (name : Reference) → 
 grows_touch old new a b name h h_new same keeps touched = record {
   heap = h_new;
   contents = same;
+  seen = touched.grows;
   rows = λ ks. rows_grow ks (joint old a) (joint new b) touched.grows;
   nodes = nodes;
   named = λ at n m. record { node = nodes at m.node; name = (keeps.objects at m.node.held).name ∙ m.name };
@@ -164,7 +165,7 @@ seat_height ks seen it row h s = record {
 pub stand_nodes : (a b : Heap) → Stands a b → (j : ℕ) → IsNode a j → IsNode b j
 stand_nodes a b s j m = let t = s j m.held in record { held = t.held; kind = t.kind ∙ m.kind; refs = t.refs ∙ m.refs; nums = t.nums ∙ m.nums }
 
-name_stands : (a b : Heap) → Stands a b → (j : ℕ) → IsHeld a j → name_at b j ≡ name_at a j
+pub name_stands : (a b : Heap) → Stands a b → (j : ℕ) → IsHeld a j → name_at b j ≡ name_at a j
 name_stands a b s j held = let t = s j held in ap (λ p. Rattle.std.specs.Prelude.if◌then◌else◌ (Rattle.std.specs.Prelude.◌==◌ p 0) (Local j) (Pid p)) t.pid
 
 pub stand_named : (a b : Heap) → Stands a b → (j : ℕ) (n : Reference) → IsNamed a j n → IsNamed b j n
@@ -182,14 +183,14 @@ link_named heap j Nil e = absurd (name-not_nil heap j e)
 link_named heap j (Pid pid) e = ap link_of e
 link_named heap j (Local at) e = ap link_of e
 
-link_side : (heap : Heap) (side : Option ℕ) (l : Option Reference) → IsLinked heap side l → link_of (name_of heap (reference_to side)) ≡ l
+pub link_side : (heap : Heap) (side : Option ℕ) (l : Option Reference) → IsLinked heap side l → link_of (name_of heap (reference_to side)) ≡ l
 link_side heap None None m = refl
 link_side heap (Some j) (Some n) m = link_named heap j n m.name
 link_side heap None (Some n) m = absurd m
 link_side heap (Some j) None m = absurd m
 
 -- after a write the object shows what was written
-shown_now : (a b : Heap) (outside : Outside Space) (at : ℕ) (it : Shown) → IsHeap b → IsHeld a at → Stands a b → ChangedAt (joint a outside) (name_at a at) it (joint b outside) → shown_at b at ≡ it
+pub shown_now : (a b : Heap) (outside : Outside Space) (at : ℕ) (it : Shown) → IsHeap b → IsHeld a at → Stands a b → ChangedAt (joint a outside) (name_at a at) it (joint b outside) → shown_at b at ≡ it
 shown_now a b outside at it h held s c = sym (seen_held b (Holds outside) at it h (s at held).held (subst (λ n. joint b outside n it) (sym (name_stands a b s at held)) c.there))
 
 pub renamed : (a b : Heap) (outside : Outside Space) (m n : Reference) (it : Shown) → m ≡ n → ChangedAt (joint a outside) m it (joint b outside) → ChangedAt (joint a outside) n it (joint b outside)
@@ -201,6 +202,7 @@ pub links : (h0 h1 h2 h3 h4 : Heap) (outside : Outside Space) (at : ℕ) (left r
 links h0 h1 h2 h3 h4 outside at left right height node i0 i1 i2 i3 i4 e1 e2 e3 e4 s1 s2 s3 s4 = record {
   heap = i4;
   written = written;
+  others = others;
   nodes = λ j m. stand_nodes h3 h4 s4 j (stand_nodes h2 h3 s3 j (stand_nodes h1 h2 s2 j (stand_nodes h0 h1 s1 j m)));
   named = λ j n m. stand_named h3 h4 s4 j n (stand_named h2 h3 s3 j n (stand_named h1 h2 s2 j n (stand_named h0 h1 s1 j n m)));
 }
@@ -232,6 +234,15 @@ links h0 h1 h2 h3 h4 outside at left right height node i0 i1 i2 i3 i4 e1 e2 e3 e
     c3 : ChangedAt (joint h2 outside) (name_at h2 at) it3 (joint h3 outside)
     c3 = subst (λ x. ChangedAt (joint h2 outside) (name_at h2 at) it3 (joint x outside)) (sym e3) (joint-num h2 (Holds outside) at 2 height i2 held2)
 
+    marked : IsSingle outside → Same (joint h3 outside) (joint h4 outside)
+    marked single = subst (λ x. Same (joint h3 outside) (joint x outside)) (sym e4) (joint-mark h3 (Holds outside) at i3 held3 single.one)
+
+    others : IsSingle outside → OthersStay h0 h4 outside at
+    others single n it ne k =
+        let ne1 : n ≢ name_at h1 at = λ e. ne (e ∙ name_stands h0 h1 s1 at node.held) in
+        let ne2 : n ≢ name_at h2 at = λ e. ne1 (e ∙ name_stands h1 h2 s2 at held1) in
+        (marked single).grows n it (c3.stays n it ne2 (c2.stays n it ne1 (c1.stays n it ne k)))
+
     written : (ks : Keys) (n : Reference) (l r : Option Reference) (row : Seat ks) → IsSingle outside → IsNamed h0 at n → IsLinked h0 left l → IsLinked h0 right r
         → rows_in ks h0 outside n row → IsWritten (rows_in ks h0 outside) n (with_sides l r height row) (rows_in ks h4 outside)
     written ks n l r row single named ll lr seen =
@@ -247,9 +258,8 @@ links h0 h1 h2 h3 h4 outside at left right height node i0 i1 i2 i3 i4 e1 e2 e3 e
         let d2 = renamed h1 h2 outside (name_at h1 at) n it2 n1 c2 in
         let d3 = renamed h2 h3 outside (name_at h2 at) n it3 n2 c3 in
         let d = changed-then (joint h0 outside) (joint h2 outside) (joint h3 outside) n it2 it3 (changed-then (joint h0 outside) (joint h1 outside) (joint h2 outside) n it1 it2 d1 d2) d3 in
-        let same = subst (λ x. Same (joint h3 outside) (joint x outside)) (sym e4) (joint-mark h3 (Holds outside) at i3 held3 single.one) in
         let nodes : (x : Shown) → joint h0 outside n x → x.kind ≡ Node = λ x there. ap (λ it. it.kind) (joint_one h0 outside i0 single n x (seen.it) there seen.there) ∙ seen.is.kind in
-        written_from ks (joint h0 outside) (joint h4 outside) n it3 (with_sides l r height row) (joint_one h4 outside i4 single) nodes (changed-same (joint h0 outside) (joint h3 outside) (joint h4 outside) n it3 d same) seat3
+        written_from ks (joint h0 outside) (joint h4 outside) n it3 (with_sides l r height row) (joint_one h4 outside i4 single) nodes (changed-same (joint h0 outside) (joint h3 outside) (joint h4 outside) n it3 d (marked single)) seat3
 
 -- nothing was written: the node has these sides already
 pub links_still : (heap : Heap) (outside : Outside Space) (at : ℕ) (left right : Option ℕ) (height : ℕ) → IsHeap heap → HasSides heap at left right height
@@ -257,6 +267,7 @@ pub links_still : (heap : Heap) (outside : Outside Space) (at : ℕ) (left right
 links_still heap outside at left right height h has = record {
   heap = h;
   written = written;
+  others = λ single n it ne k. k;
   nodes = λ j m. m;
   named = λ j n m. m;
 }

@@ -16,7 +16,7 @@ use Rattle.heap_places.proofs.of_swizzle.MarkLaws.{joint-mark}
 use Rattle.heap_places.proofs.PlaceLaws.{slot-name}
 use Rattle.avl_trees.specs.Standing.{IsWritten}
 use Rattle.table_nodes.specs.Keys.{Keys, Seen}
-use Rattle.table_nodes.specs.Nodes.{Seat, IsSeat, IsNode, IsNamed, IsSingle, IsSlot, rows_in}
+use Rattle.table_nodes.specs.Nodes.{Seat, IsSeat, IsNode, IsNamed, IsSingle, IsSlot, OthersStay, rows_in}
 use Rattle.table_nodes.specs.Entering.{Puts, with_value}
 use Rattle.table_nodes.proofs.NodeLaws.{seat_at, seat_one, joint_one, changed-same, written_from, key_like, stand_nodes, stand_named, renamed}
 
@@ -37,6 +37,7 @@ pub puts : (h0 h1 h2 : Heap) (outside : Outside Space) (at value : ℕ) → IsNo
 puts h0 h1 h2 outside at value node i0 i1 i2 e1 e2 s1 s2 = record {
   heap = i2;
   written = written;
+  others = others;
   nodes = λ j m. stand_nodes h1 h2 s2 j (stand_nodes h0 h1 s1 j m);
   named = λ j n m. stand_named h1 h2 s2 j n (stand_named h0 h1 s1 j n m);
 }
@@ -47,21 +48,27 @@ puts h0 h1 h2 outside at value node i0 i1 i2 e1 e2 s1 s2 = record {
     c1 : ChangedAt (joint h0 outside) (name_at h0 at) it1 (joint h1 outside)
     c1 = subst (λ x. ChangedAt (joint h0 outside) (name_at h0 at) it1 (joint x outside)) (sym e1) (joint-ref h0 (Holds outside) at 3 (Local value) i0 node.held)
 
+    marked : IsSingle outside → Same (joint h1 outside) (joint h2 outside)
+    marked single = subst (λ x. Same (joint h1 outside) (joint x outside)) (sym e2) (joint-mark h1 (Holds outside) at i1 (s1 at node.held).held single.one)
+
+    others : IsSingle outside → OthersStay h0 h2 outside at
+    others single n it ne k = (marked single).grows n it (c1.stays n it ne k)
+
     written : (ks : Keys) (n : Reference) (row : Seat ks) → IsSingle outside → IsNamed h0 at n → rows_in ks h0 outside n row
         → IsWritten (rows_in ks h0 outside) n (with_value (name_at h0 value) row) (rows_in ks h2 outside)
     written ks n row single named seen =
         let seat0 = seat_at ks h0 outside at n row i0 named seen in
         let seat1 = seat_value ks (joint h0 outside) (shown_at h0 at) row (name_at h0 value) seat0 in
         let d1 = renamed h0 h1 outside (name_at h0 at) n it1 named.name c1 in
-        let same = subst (λ x. Same (joint h1 outside) (joint x outside)) (sym e2) (joint-mark h1 (Holds outside) at i1 (s1 at node.held).held single.one) in
         let nodes : (x : Shown) → joint h0 outside n x → x.kind ≡ Node = λ x there. ap (λ it. it.kind) (joint_one h0 outside i0 single n x (seen.it) there seen.there) ∙ seen.is.kind in
-        written_from ks (joint h0 outside) (joint h2 outside) n it1 (with_value (name_at h0 value) row) (joint_one h2 outside i2 single) nodes (changed-same (joint h0 outside) (joint h1 outside) (joint h2 outside) n it1 d1 same) seat1
+        written_from ks (joint h0 outside) (joint h2 outside) n it1 (with_value (name_at h0 value) row) (joint_one h2 outside i2 single) nodes (changed-same (joint h0 outside) (joint h1 outside) (joint h2 outside) n it1 d1 (marked single)) seat1
 
 -- nothing was written: the node has this value already
 pub puts_still : (heap : Heap) (outside : Outside Space) (at value : ℕ) → IsHeap heap → IsSlot heap at 3 (Some value) → Puts heap heap outside at value
 puts_still heap outside at value h has = record {
   heap = h;
   written = written;
+  others = λ single n it ne k. k;
   nodes = λ j m. m;
   named = λ j n m. m;
 }

@@ -1,5 +1,5 @@
 -- A pair is put into the tree of a node.
-use Rattle.std.proofs.Common.{true, false, ◌≡◌, ℕ, ◌<◌, ◌∷◌, ◌++◌, Option, Some, None, Result, Ok, Err, MatchResult, refl, sym, ap, ◌∙◌, subst, arith, inl, inr}
+use Rattle.std.proofs.Common.{true, false, ◌≡◌, ◌≢◌, ℕ, ◌<◌, ◌∷◌, ◌++◌, Option, Some, None, Result, Ok, Err, MatchResult, refl, sym, ap, ◌∙◌, subst, arith, inl, inr}
 use Rattle.std.specs.declared.cmp.Ordering.TheVariants.{Less, Equal, Greater}
 use Rattle.heap_places.specs.ps_outside.Outside.{Outside, SameContents}
 use Rattle.heap_places.specs.obj_layout.Stored.{Space}
@@ -9,13 +9,14 @@ use Rattle.heap_places.specs.obj_layout.declared.reference.Reference.TheVariants
 use Rattle.heap_places.specs.swizzle.declared.fault.SwizzleFault.{SwizzleFault}
 use Rattle.heap_places.specs.swizzle.Heap.{Heap, IsFull, top_of}
 use Rattle.heap_places.specs.swizzle.Joint.{name_at}
+use Rattle.heap_places.specs.swizzle.Reading.{joint}
 use Rattle.heap_places.proofs.of_swizzle.JointLaws.{name-fresh}
 use Rattle.avl_trees.specs.Trees.{Tree, leaf, node, height, items, insert, lookup, balance}
 use Rattle.avl_trees.specs.Standing.{Stands, Given, under, root_of, row_of, put, fresh_item, seek, IsWritten}
 use Rattle.avl_trees.proofs.Ordered.{around, all_front, all_back}
 use Rattle.avl_trees.proofs.Standing.{stands_grown}
 use Rattle.avl_trees.proofs.Turning.{touched}
-use Rattle.avl_trees.proofs.Entering.{left_given, left_entered, right_given, right_entered, entered_here, entered_leaf, entered_grown, entered_here_is, entered_left_is, entered_right_is}
+use Rattle.avl_trees.proofs.Entering.{apart_left, apart_right, left_given, left_entered, right_given, right_entered, entered_here, entered_leaf, entered_grown, entered_here_is, entered_left_is, entered_right_is}
 use Rattle.table_nodes.specs.Keys.{Keys, KeyOf, order_by}
 use Rattle.table_nodes.specs.Nodes.{IsNamed, IsLinked, IsFetchFault}
 use Rattle.table_nodes.specs.Steps.{I, Place, place, IsPlace, rows_of, AreSides, StandsAt, Balances, Holds, Touches}
@@ -26,7 +27,7 @@ use Rattle.table_nodes.specs.declared.opening.Opened.{Opened}
 use Rattle.table_nodes.proofs.KeyLaws.{total}
 use Rattle.table_nodes.proofs.NodeLaws.{fetch_back}
 use Rattle.table_nodes.proofs.Seeking.{lookup_here, lookup_left, lookup_right}
-use Rattle.table_nodes.proofs.StepLaws.{one, linked_kept, place_touched}
+use Rattle.table_nodes.proofs.StepLaws.{one, linked_kept, place_touched, apart_front, apart_back, other_name}
 
 -- a side of a tree is a tree
 module _ (ks : Keys) (old m : Place) (root side : Option ℕ) (grows : Touches old m) (l : Tree (I ks)) (a : I ks) (r : Tree (I ks)) (t : IsTree ks old root (node l a r)) where
@@ -61,11 +62,12 @@ module _ (ks : Keys) (key : KeyOf ks) (value : Reference) where
   put_leaf old new outside root (Err fault) e made leaf p h = inr (subst IsNoRoom (sym made.fault_is) (refl, made.full))
   put_leaf old new outside root (Ok at) e made leaf p h = record {
     fresh = Local at;
-    is_fresh = made.fresh ks;
+    is_fresh = made.fresh;
     stands = record {
       becomes = entered_leaf (order_by ks) (total ks) key value (Local at) (rows_of ks (place old outside)) (rows_of ks (place new outside)) made.there (made.rows ks);
       here = record { heap = made.heap; single = p.single };
       root_is = made.here;
+      others = λ n it p k. made.seen n it k;
     };
   }
 
@@ -100,11 +102,14 @@ module _ (ks : Keys) (key : KeyOf ks) (value : Reference) where
         go w g (Err fault) v = inl (fetch_back old.outside m.outside fault grows.contents (fetch_back m.outside m1.outside fault contents v))
         go w g (Ok top) v = record {
           fresh = w.fresh;
-          is_fresh = λ row k. w.is_fresh row (grows.rows ks w.fresh row k);
+          is_fresh = λ it k. w.is_fresh it (grows.seen w.fresh it k);
           stands = record {
-            becomes = touched (rows_of ks old) (rows_of ks m) (rows_of ks m2) _ _ (grows.rows ks) (left_entered (order_by ks) (total ks) key value w.fresh (rows_of ks m) (rows_of ks m1) (rows_of ks m2) w.is_fresh l a r (sym o.order ∙ less) t.rising w.stands.becomes v.becomes);
+            becomes = touched (rows_of ks old) (rows_of ks m) (rows_of ks m2) _ _ (grows.rows ks) (left_entered (order_by ks) (total ks) key value w.fresh (rows_of ks m) (rows_of ks m1) (rows_of ks m2) (λ row k. w.is_fresh k.it k.there) l a r (sym o.order ∙ less) t.rising w.stands.becomes v.becomes);
             here = v.here;
             root_is = subst (λ u. IsLinked m2.heap (Some top) (root_of u)) (sym (entered_left_is (order_by ks) (total ks) key value w.fresh l a r (sym o.order ∙ less))) v.root_is;
+            others = λ n it p k.
+                let unlike : w.fresh ≢ n = λ e. w.is_fresh it (subst (λ x. joint m.heap m.outside x it) (sym e) (grows.seen n it k)) in
+                v.others n it (apart_left (order_by ks) (total ks) key value w.fresh n unlike l a r (sym o.order ∙ less) t.rising p) (w.stands.others n it (apart_front n (items l) a (items r) p) (grows.seen n it k));
           };
         }
 
@@ -132,11 +137,14 @@ module _ (ks : Keys) (key : KeyOf ks) (value : Reference) where
         go w g (Err fault) v = inl (fetch_back old.outside m.outside fault grows.contents (fetch_back m.outside m1.outside fault contents v))
         go w g (Ok top) v = record {
           fresh = w.fresh;
-          is_fresh = λ row k. w.is_fresh row (grows.rows ks w.fresh row k);
+          is_fresh = λ it k. w.is_fresh it (grows.seen w.fresh it k);
           stands = record {
-            becomes = touched (rows_of ks old) (rows_of ks m) (rows_of ks m2) _ _ (grows.rows ks) (right_entered (order_by ks) (total ks) key value w.fresh (rows_of ks m) (rows_of ks m1) (rows_of ks m2) w.is_fresh l a r (sym o.order ∙ more) t.rising w.stands.becomes v.becomes);
+            becomes = touched (rows_of ks old) (rows_of ks m) (rows_of ks m2) _ _ (grows.rows ks) (right_entered (order_by ks) (total ks) key value w.fresh (rows_of ks m) (rows_of ks m1) (rows_of ks m2) (λ row k. w.is_fresh k.it k.there) l a r (sym o.order ∙ more) t.rising w.stands.becomes v.becomes);
             here = v.here;
             root_is = subst (λ u. IsLinked m2.heap (Some top) (root_of u)) (sym (entered_right_is (order_by ks) (total ks) key value w.fresh l a r (sym o.order ∙ more))) v.root_is;
+            others = λ n it p k.
+                let unlike : w.fresh ≢ n = λ e. w.is_fresh it (subst (λ x. joint m.heap m.outside x it) (sym e) (grows.seen n it k)) in
+                v.others n it (apart_right (order_by ks) (total ks) key value w.fresh n unlike l a r (sym o.order ∙ more) t.rising p) (w.stands.others n it (apart_back n (items l) a (items r) p) (grows.seen n it k));
           };
         }
 
@@ -148,11 +156,12 @@ module _ (ks : Keys) (key : KeyOf ks) (value : Reference) where
         subst (λ v. IsWritten (rows_of ks m) a.name (with_value v (row_of l a r)) (rows_of ks (place new m.outside))) is_value (puts.written ks a.name (row_of l a r) here.single (grows.named at a.name named) standing.0) in
         record {
           fresh = fresh;
-          is_fresh = λ row k. name-fresh old.heap (Stored old.outside) k.it p.heap k.there;
+          is_fresh = λ it k. name-fresh old.heap (Stored old.outside) it p.heap k;
           stands = record {
             becomes = touched (rows_of ks old) (rows_of ks m) (rows_of ks (place new m.outside)) _ _ (grows.rows ks) (entered_here (order_by ks) (total ks) key value fresh (rows_of ks m) (rows_of ks (place new m.outside)) (one ks m here) l a r e standing t.rising w);
             here = record { heap = puts.heap; single = here.single };
             root_is = subst (λ u. IsLinked new (Some at) (root_of u)) (sym (entered_here_is (order_by ks) (total ks) key value fresh l a r e)) (puts.named at a.name (grows.named at a.name named));
+            others = λ n it p k. puts.others here.single n it (other_name m.heap at n (items l) a (items r) (grows.named at a.name named) p) (grows.seen n it k);
           };
         }
 

@@ -3,14 +3,16 @@ use Rattle.std.proofs.Common.{true, false, ◌≢◌, ◌≡◌, ℕ, ◌<◌, �
 use Rattle.std.specs.declared.cmp.Ordering.TheVariants.{Less, Equal, Greater}
 use Rattle.heap_places.specs.swizzle.declared.fault.SwizzleFault.{SwizzleFault}
 use Rattle.avl_trees.specs.Trees.{Tree, leaf, node, height, items, balance, least, rest, merge, remove, lookup}
-use Rattle.avl_trees.specs.Standing.{Stands, Given, Becomes, root_of, seek}
+use Rattle.avl_trees.specs.Standing.{Stands, Given, Becomes, IsApart, root_of, seek}
 use Rattle.avl_trees.proofs.Balanced.{rest_shrunk, remove_shrunk}
 use Rattle.avl_trees.proofs.Standing.{stands_grown}
 use Rattle.avl_trees.proofs.Turning.{touched}
-use Rattle.avl_trees.proofs.Removing.{taken_here, taken_given, taken_above, merged_left, merged_right, merged_given, merged_both, left_removed_given, left_removed, right_removed_given, right_removed, removed_left_is, removed_right_is, removed_here_is}
+use Rattle.avl_trees.proofs.Items.{rest_items}
+use Rattle.avl_trees.proofs.Ordered.{all_back, all_both}
+use Rattle.avl_trees.proofs.Removing.{apart_left, apart_right, taken_here, taken_given, taken_above, merged_left, merged_right, merged_given, merged_both, left_removed_given, left_removed, right_removed_given, right_removed, removed_left_is, removed_right_is, removed_here_is}
 use Rattle.table_nodes.specs.Keys.{Keys, KeyOf, order_by}
 use Rattle.table_nodes.specs.Nodes.{IsNamed, IsLinked, IsFetchFault}
-use Rattle.table_nodes.specs.Steps.{I, Place, IsPlace, rows_of, AreSides, StandsAt, Holds, Touches}
+use Rattle.table_nodes.specs.Steps.{I, Place, IsPlace, StayBeside, rows_of, AreSides, StandsAt, Holds, Touches}
 use Rattle.table_nodes.specs.Searching.{IsTree}
 use Rattle.table_nodes.specs.Entering.{IsOpened, is_missing}
 use Rattle.table_nodes.specs.Removing.{IsGoneAt, IsTaken, Leaves, Merges, Removes}
@@ -21,7 +23,7 @@ use Rattle.table_nodes.proofs.KeyLaws.{total}
 use Rattle.table_nodes.proofs.NodeLaws.{fetch_back}
 use Rattle.table_nodes.proofs.Putting.{tree_left, tree_right}
 use Rattle.table_nodes.proofs.Seeking.{lookup_here, lookup_left, lookup_right}
-use Rattle.table_nodes.proofs.StepLaws.{one, linked_kept, place_touched}
+use Rattle.table_nodes.proofs.StepLaws.{one, linked_kept, place_touched, apart_front, apart_back}
 
 pub tree_grown : (ks : Keys) (old m : Place) (at : ℕ) (root : Option ℕ) → Touches old m → (l : Tree (I ks)) (a : I ks) (r : Tree (I ks)) → IsNamed old.heap at a.name → IsTree ks old root (node l a r) → IsTree ks m (Some at) (node l a r)
 tree_grown ks old m at root grows l a r named h =
@@ -39,6 +41,7 @@ module _ (ks : Keys) where
         here = place_touched old m grows p;
         node_is = grows.named at a.name name;
         rest_is = right_is;
+        others = λ n it p k. grows.seen n it k;
       }
 
   module _ (old m m1 : Place) (at : ℕ) (root right : Option ℕ) (grows : Touches old m) (holds : Holds m.heap m1.heap) (x : Tree (I ks)) (b : I ks) (y : Tree (I ks)) (a : I ks) (r : Tree (I ks)) (p : IsPlace old) (h : IsTree ks old root (node (node x b y) a r))
@@ -71,6 +74,10 @@ module _ (ks : Keys) where
           here = v.here;
           node_is = kept.named found.node (least x b).name w.node_is;
           rest_is = v.root_is;
+          others = λ n it p k.
+              let side = apart_front n (items (node x b y)) a (items r) p in
+              let left : IsApart n (items (rest x b y)) = (subst (IsApart n) (sym (rest_items x b y)) side).1 in
+              v.others n it (all_both (λ i. i.name ≢ n) (items (rest x b y)) (a ∷ items r) left (all_back (λ i. i.name ≢ n) (items (node x b y)) (a ∷ items r) p)) (w.others n it side (grows.seen n it k));
         }
 
   -- Both sides without the node between them.
@@ -78,7 +85,7 @@ module _ (ks : Keys) where
   pub merge_left : (old : Place) (left right : Option ℕ) (at : ℕ) → right ≡ None → (l : Tree (I ks)) (a : I ks) (r : Tree (I ks)) → IsPlace old → IsTree ks old (Some at) (node l a r) → IsLinked old.heap left (root_of l) → IsLinked old.heap right (root_of r)
       → Leaves ks old old (items (node l a r)) (merge l r) left
   unfolding merge
-  merge_left old left right at none l a leaf p h e f = record { becomes = merged_left (order_by ks) (total ks) (rows_of ks old) l a h.stands; here = p; root_is = e }
+  merge_left old left right at none l a leaf p h e f = record { becomes = merged_left (order_by ks) (total ks) (rows_of ks old) l a h.stands; here = p; root_is = e; others = λ n it q k. k }
   merge_left old left right at none l a (node x b y) p h e f = absurd (subst (λ s. IsLinked old.heap s (Some b.name)) none f)
 
   pub merge_right : (old : Place) (left right : Option ℕ) (at above : ℕ) → left ≡ None → right ≡ Some above → (l : Tree (I ks)) (a : I ks) (r : Tree (I ks)) → IsPlace old → IsTree ks old (Some at) (node l a r) → IsLinked old.heap left (root_of l) → IsLinked old.heap right (root_of r)
@@ -86,7 +93,7 @@ module _ (ks : Keys) where
   unfolding merge
   merge_right old left right at above none some (node u d v) a r p h e f = absurd (subst (λ s. IsLinked old.heap s (Some d.name)) none e)
   merge_right old left right at above none some leaf a leaf p h e f = absurd (subst (λ s. IsLinked old.heap s None) some f)
-  merge_right old left right at above none some leaf a (node x b y) p h e f = record { becomes = merged_right (order_by ks) (total ks) (rows_of ks old) a x b y h.stands; here = p; root_is = f }
+  merge_right old left right at above none some leaf a (node x b y) p h e f = record { becomes = merged_right (order_by ks) (total ks) (rows_of ks old) a x b y h.stands; here = p; root_is = f; others = λ n it q k. k }
 
   module _ (old m1 : Place) (at below : ℕ) (holds : Holds old.heap m1.heap) (u : Tree (I ks)) (d : I ks) (v : Tree (I ks)) (a : I ks) (x : Tree (I ks)) (b : I ks) (y : Tree (I ks)) (p : IsPlace old) (h : IsTree ks old (Some at) (node (node u d v) a (node x b y)))
       (left_is : IsNamed old.heap below d.name) (found : Least) (w : IsTaken ks old m1 x b y found) where
@@ -106,7 +113,13 @@ module _ (ks : Keys) where
     pub merge_done : (m2 : Place) (top : ℕ) → StandsAt ks m1 m2 (items (node u d v) ++ least x b ∷ items (rest x b y)) (balance (node u d v) (least x b) (rest x b y)) top
         → Leaves ks old m2 (items (node (node u d v) a (node x b y))) (merge (node u d v) (node x b y)) (Some top)
     unfolding merge
-    merge_done m2 top z = record { becomes = merged_both (order_by ks) (total ks) (rows_of ks old) (rows_of ks m1) (rows_of ks m2) u d v a x b y w.taken z.becomes; here = z.here; root_is = z.root_is }
+    merge_done m2 top z = record { becomes = merged_both (order_by ks) (total ks) (rows_of ks old) (rows_of ks m1) (rows_of ks m2) u d v a x b y w.taken z.becomes; here = z.here; root_is = z.root_is; others = others }
+      where
+        others : StayBeside ks old m2 (items (node (node u d v) a (node x b y)))
+        others n it q k =
+            let side = apart_back n (items (node u d v)) a (items (node x b y)) q in
+            let all = all_both (λ i. i.name ≢ n) (items (node u d v)) (least x b ∷ items (rest x b y)) (apart_front n (items (node u d v)) a (items (node x b y)) q) (subst (IsApart n) (sym (rest_items x b y)) side) in
+            z.others n it all (w.others n it side k)
 
 -- A level of the way up.
 
@@ -116,7 +129,7 @@ module _ (ks : Keys) (key : KeyOf ks) where
 
   pub remove_leaf : (old : Place) (root : Option ℕ) → root ≡ None → (t : Tree (I ks)) → IsPlace old → IsTree ks old root t → Leaves ks old old (items t) (removed t) None
   unfolding remove
-  remove_leaf old root e leaf p h = record { becomes = record { stands = tt; stays = λ n row p k. k }; here = p; root_is = tt }
+  remove_leaf old root e leaf p h = record { becomes = record { stands = tt; stays = λ n row p k. k }; here = p; root_is = tt; others = λ n it q k. k }
   remove_leaf old root e (node l a r) p h = absurd (subst (λ s. IsLinked old.heap s (Some a.name)) e h.root_is)
 
   module _ (old m m1 : Place) (at : ℕ) (root : Option ℕ) (opened : Opened) (grows : Touches old m) (p : IsPlace old) (l : Tree (I ks)) (a : I ks) (r : Tree (I ks)) (h : IsTree ks old root (node l a r)) (name : IsNamed old.heap at a.name) (o : IsOpened ks m.heap key l a r opened) where
@@ -147,6 +160,7 @@ module _ (ks : Keys) (key : KeyOf ks) where
           becomes = touched (rows_of ks old) (rows_of ks m) (rows_of ks m2) _ _ (grows.rows ks) (left_removed (order_by ks) (total ks) key (rows_of ks m) (rows_of ks m1) (rows_of ks m2) l a r e h.rising w.becomes v.becomes);
           here = v.here;
           root_is = subst (λ u. IsLinked m2.heap (Some top) (root_of u)) (sym (removed_left_is (order_by ks) (total ks) key l a r e)) v.root_is;
+          others = λ n it q k. v.others n it (apart_left (order_by ks) (total ks) key n l a r e h.rising q) (w.others n it (apart_front n (items l) a (items r) q) (grows.seen n it k));
         }
 
     pub right_sides : (side : Option ℕ) → Holds m.heap m1.heap → height (node l a r) < 200 → opened.order ≡ Greater → Leaves ks m m1 (items r) (removed r) side → AreSides ks m1 at opened.left side l a (removed r)
@@ -170,6 +184,7 @@ module _ (ks : Keys) (key : KeyOf ks) where
           becomes = touched (rows_of ks old) (rows_of ks m) (rows_of ks m2) _ _ (grows.rows ks) (right_removed (order_by ks) (total ks) key (rows_of ks m) (rows_of ks m1) (rows_of ks m2) l a r e h.rising w.becomes v.becomes);
           here = v.here;
           root_is = subst (λ u. IsLinked m2.heap (Some top) (root_of u)) (sym (removed_right_is (order_by ks) (total ks) key l a r e)) v.root_is;
+          others = λ n it q k. v.others n it (apart_right (order_by ks) (total ks) key n l a r e h.rising q) (w.others n it (apart_back n (items l) a (items r) q) (grows.seen n it k));
         }
 
     pub here_done : (top : Option ℕ) (bound : ℕ) → bound ≡ height (node l a r) → opened.order ≡ Equal → Merges m m1 opened.left opened.right bound (Ok top) → Leaves ks old m1 (items (node l a r)) (removed (node l a r)) top
@@ -180,6 +195,7 @@ module _ (ks : Keys) (key : KeyOf ks) where
           becomes = touched (rows_of ks old) (rows_of ks m) (rows_of ks m1) _ _ (grows.rows ks) (subst (λ t. Becomes (rows_of ks m) (rows_of ks m1) (items (node l a r)) t) (sym e) v.becomes);
           here = v.here;
           root_is = subst (λ u. IsLinked m1.heap top (root_of u)) (sym e) v.root_is;
+          others = λ n it q k. v.others n it q (grows.seen n it k);
         }
 
     pub here_fault : (fault : SwizzleFault) (bound : ℕ) → bound ≡ height (node l a r) → Merges m m1 opened.left opened.right bound (Err fault) → IsFetchFault old.outside fault

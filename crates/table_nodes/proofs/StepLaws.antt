@@ -1,14 +1,16 @@
 -- What is known of nodes while a tree of them is changed.
-use Rattle.std.proofs.Common.{◌≡◌, ℕ, List, Option, Some, None, Result, Ok, Err, OnOk, IfSome, refl, subst}
+use Rattle.std.proofs.Common.{◌≡◌, ◌≢◌, ℕ, List, ◌∷◌, ◌++◌, sym, ◌∙◌, Option, Some, None, Result, Ok, Err, OnOk, IfSome, refl, subst}
 use Rattle.heap_places.specs.ps_outside.Outside.{Outside}
 use Rattle.heap_places.specs.obj_layout.Stored.{Space, Holds}
 use Rattle.heap_places.specs.obj_layout.declared.reference.Reference.{Reference}
 use Rattle.heap_places.specs.swizzle.declared.fault.SwizzleFault.{SwizzleFault}
 use Rattle.heap_places.specs.swizzle.Heap.{Heap, IsHeap}
+use Rattle.heap_places.specs.swizzle.Joint.{name_at}
 use Rattle.heap_places.specs.swizzle.Reading.{joint}
 use Rattle.heap_places.proofs.of_swizzle.NameLaws.{Joint-one}
-use Rattle.avl_trees.specs.Trees.{Tree, leaf, node, height}
-use Rattle.avl_trees.specs.Standing.{root_of, row_of, Stands, IsOne, IsWritten}
+use Rattle.avl_trees.specs.Trees.{Tree, leaf, node, height, items}
+use Rattle.avl_trees.specs.Standing.{Item, root_of, row_of, Stands, IsApart, IsOne, IsWritten}
+use Rattle.avl_trees.proofs.Ordered.{all_front, all_back}
 use Rattle.avl_trees.proofs.Turning.{set_between, touched}
 use Rattle.table_nodes.specs.Keys.{Keys, order_by}
 use Rattle.table_nodes.specs.Nodes.{Seat, IsSeat, IsNamed, IsLinked, IsSide, Links, with_sides}
@@ -49,8 +51,20 @@ touches_then old mid new f g = record {
   nodes = λ at h. g.nodes at (f.nodes at h);
   named = λ at n h. g.named at n (f.named at n h);
   heap = g.heap;
+  seen = λ n it k. g.seen n it (f.seen n it k);
   contents = record { kept = λ x h. g.contents.kept x (f.contents.kept x h); no_other = λ x h. f.contents.no_other x (g.contents.no_other x h) };
 }
+
+-- a name is apart from those of a part of a tree, and isn't that of the node of an item
+
+pub apart_front : {K : Type 0} (n : Reference) (xs : List (Item Reference K Reference)) (a : Item Reference K Reference) (ys : List (Item Reference K Reference)) → IsApart n (xs ++ a ∷ ys) → IsApart n xs
+apart_front n xs a ys p = all_front (λ x. x.name ≢ n) xs (a ∷ ys) p
+
+pub apart_back : {K : Type 0} (n : Reference) (xs : List (Item Reference K Reference)) (a : Item Reference K Reference) (ys : List (Item Reference K Reference)) → IsApart n (xs ++ a ∷ ys) → IsApart n ys
+apart_back n xs a ys p = (all_back (λ x. x.name ≢ n) xs (a ∷ ys) p).1
+
+pub other_name : {K : Type 0} (heap : Heap) (at : ℕ) (n : Reference) (xs : List (Item Reference K Reference)) (a : Item Reference K Reference) (ys : List (Item Reference K Reference)) → IsNamed heap at a.name → IsApart n (xs ++ a ∷ ys) → n ≢ name_at heap at
+other_name heap at n xs a ys named p = λ e. (all_back (λ x. x.name ≢ n) xs (a ∷ ys) p).0 (sym (e ∙ named.name))
 
 -- a node was given its sides
 pub sides_set : (old new : Heap) (outside : Outside Space) (at : ℕ) (left right : Option ℕ) (h : ℕ) → Links old new outside at left right h
@@ -63,12 +77,13 @@ sides_set old new outside at left right h w high = record {
       let v = w.written ks a.name (root_of l) (root_of r) k.row g.here.single g.name g.left_is g.right_is k.there in
       set_between (order_by ks) (total ks) (rows_of ks (place old outside)) (rows_of ks (place new outside)) (one ks (place old outside) g.here) l a r g.given (subst (λ row. IsWritten (rows_of ks (place old outside)) a.name row (rows_of ks (place new outside))) is v);
   here = λ p. record { heap = w.heap; single = p.single };
+  others = λ p. w.others p.single;
   holds = record { nodes = w.nodes; named = w.named };
 }
 
 -- what was answered after touches
 pub answers_touched : (ks : Keys) (old m new : Place) → Touches old m → (is : List (I ks)) (t : Tree (I ks)) (result : Result ℕ SwizzleFault) → Answers ks m new is t result → Answers ks old new is t result
-answers_touched ks old m new grows is t (Ok root) w = record { becomes = touched (rows_of ks old) (rows_of ks m) (rows_of ks new) is t (grows.rows ks) w.becomes; here = w.here; root_is = w.root_is }
+answers_touched ks old m new grows is t (Ok root) w = record { becomes = touched (rows_of ks old) (rows_of ks m) (rows_of ks new) is t (grows.rows ks) w.becomes; here = w.here; root_is = w.root_is; others = λ n it a k. w.others n it a (grows.seen n it k) }
 answers_touched ks old m new grows is t (Err fault) w = fetch_back old.outside m.outside fault grows.contents w
 
 pub holds_after : (old m new : Place) → Touches old m → (result : Result ℕ SwizzleFault) → OnOk result (Keeps m.heap new.heap) → OnOk result (Keeps old.heap new.heap)
@@ -87,4 +102,4 @@ holds_over old mid new f (Err fault) g = tt
 
 -- nothing was touched
 pub touches_none : (p : Place) → IsHeap p.heap → Touches p p
-touches_none p h = record { rows = λ ks n row k. k; nodes = λ at k. k; named = λ at n k. k; heap = h; contents = record { kept = λ x k. k; no_other = λ x k. k } }
+touches_none p h = record { rows = λ ks n row k. k; nodes = λ at k. k; named = λ at n k. k; heap = h; seen = λ n it k. k; contents = record { kept = λ x k. k; no_other = λ x k. k } }

@@ -10,7 +10,7 @@ use Rattle.table_nodes.specs.Keys.{Keys, order_by}
 use Rattle.table_nodes.specs.Nodes.{IsLinked}
 use Rattle.table_nodes.specs.Steps.{I, Place, rows_of, AreSides, AreTurned, AreTurnedOut, StandsAt, SetsSides, TurnsInner, TurnsOuter, TurnsRight, TurnsLeft, Answers, Touches}
 use Rattle.table_nodes.proofs.KeyLaws.{total}
-use Rattle.table_nodes.proofs.StepLaws.{one, linked_kept, place_touched, answers_touched}
+use Rattle.table_nodes.proofs.StepLaws.{one, linked_kept, place_touched, answers_touched, apart_front, apart_back, other_name}
 
 pub single_right : (ks : Keys) (old m m1 m2 : Place) (at left : ℕ) (outer inner right : Option ℕ) → Touches old m → SetsSides m m1 at inner right → SetsSides m1 m2 left outer (Some at)
     → (x : Tree (I ks)) (b : I ks) (y : Tree (I ks)) (a : I ks) (r : Tree (I ks)) → AreSides ks old at (Some left) right (node x b y) a r → height r + 1 < height (node x b y) → height y ≤ height x
@@ -29,6 +29,9 @@ single_right ks old m m1 m2 at left outer inner right grows s1 s2 x b y a r g ta
           (λ k. s2.set ks x b (node y a r) (record { given = k; here = here1; name = s1.holds.named left b.name bn; left_is = ox1; right_is = s1.holds.named at a.name an; left_low = omega (arith, g.left_low); right_low = omega (arith, g.left_low) })));
       here = s2.here here1;
       root_is = s2.holds.named left b.name (s1.holds.named left b.name bn);
+      others = λ n it p k.
+          s2.others here1 n it (other_name m1.heap left n (items x) b (items y) (s1.holds.named left b.name bn) (apart_front n (items (node x b y)) a (items r) p))
+          (s1.others here n it (other_name m.heap at n (items (node x b y)) a (items r) an p) (grows.seen n it k));
     })
 
 pub single_left : (ks : Keys) (old m m1 m2 : Place) (at right : ℕ) (left inner outer : Option ℕ) → Touches old m → SetsSides m m1 at left inner → SetsSides m1 m2 right (Some at) outer
@@ -48,6 +51,9 @@ single_left ks old m m1 m2 at right left inner outer grows s1 s2 l a x b y g tal
           (λ k. s2.set ks (node l a x) b y (record { given = k; here = here1; name = s1.holds.named right b.name bn; left_is = s1.holds.named at a.name an; right_is = oy1; left_low = omega (arith, g.right_low); right_low = omega (arith, g.right_low) })));
       here = s2.here here1;
       root_is = s2.holds.named right b.name (s1.holds.named right b.name bn);
+      others = λ n it p k.
+          s2.others here1 n it (other_name m1.heap right n (items x) b (items y) (s1.holds.named right b.name bn) (apart_back n (items l) a (items (node x b y)) p))
+          (s1.others here n it (other_name m.heap at n (items l) a (items (node x b y)) an p) (grows.seen n it k));
     })
 
 pub double_inner : (ks : Keys) (old m m1 m2 m3 : Place) (at left middle : ℕ) (outer before after right : Option ℕ) → Touches old m → SetsSides m m1 left outer before → SetsSides m1 m2 at after right → SetsSides m2 m3 middle (Some left) (Some at)
@@ -73,6 +79,11 @@ double_inner ks old m m1 m2 m3 at left middle outer before after right grows s1 
           (λ k. s3.set ks (node x b u) c (node v a r) (record { given = k; here = here2; name = cn2; left_is = s2.holds.named left b.name (s1.holds.named left b.name bn); right_is = s2.holds.named at a.name an1; left_low = omega (arith, g.low, g.lower); right_low = omega (arith, g.low, g.right_low) })));
       here = s3.here here2;
       root_is = s3.holds.named middle c.name cn2;
+      others = λ n it p k.
+          let q = apart_front n (items (node x b (node u c v))) a (items r) p in
+          s3.others here2 n it (other_name m2.heap middle n (items u) c (items v) cn2 (apart_back n (items x) b (items (node u c v)) q))
+          (s2.others here1 n it (other_name m1.heap at n (items (node x b (node u c v))) a (items r) an1 p)
+          (s1.others here n it (other_name m.heap left n (items x) b (items (node u c v)) bn q) (grows.seen n it k)));
     }
 
 pub double_outer : (ks : Keys) (old m m1 m2 m3 : Place) (at right middle : ℕ) (left before after outer : Option ℕ) → Touches old m → SetsSides m m1 at left before → SetsSides m1 m2 right after outer → SetsSides m2 m3 middle (Some at) (Some right)
@@ -98,6 +109,11 @@ double_outer ks old m m1 m2 m3 at right middle left before after outer grows s1 
           (λ k. s3.set ks (node l a u) c (node v b y) (record { given = k; here = here2; name = cn2; left_is = s2.holds.named at a.name (s1.holds.named at a.name an); right_is = s2.holds.named right b.name bn1; left_low = omega (arith, g.low, g.left_low); right_low = omega (arith, g.low, g.lower) })));
       here = s3.here here2;
       root_is = s3.holds.named middle c.name cn2;
+      others = λ n it p k.
+          let q = apart_back n (items l) a (items (node (node u c v) b y)) p in
+          s3.others here2 n it (other_name m2.heap middle n (items u) c (items v) cn2 (apart_front n (items (node u c v)) b (items y) q))
+          (s2.others here1 n it (other_name m1.heap right n (items (node u c v)) b (items y) bn1 q)
+          (s1.others here n it (other_name m.heap at n (items l) a (items (node (node u c v) b y)) an p) (grows.seen n it k)));
     }
 
 pub via_inner : (ks : Keys) (old m new : Place) (at left : ℕ) (outer inner right : Option ℕ) (result : Result ℕ SwizzleFault) → Touches old m → TurnsInner m new at left outer inner right result
@@ -130,4 +146,4 @@ pub balanced_plain : (ks : Keys) (old new : Place) (at : ℕ) (left right : Opti
     → StandsAt ks old new (items l ++ a ∷ items r) (balance l a r) at
 unfolding balance
 balanced_plain ks old new at left right s l a r g low high =
-    rw (le-ltb (height r + 1) (height l) low, le-ltb (height l + 1) (height r) high) (record { becomes = s.set ks l a r g; here = s.here g.here; root_is = s.holds.named at a.name g.name })
+    rw (le-ltb (height r + 1) (height l) low, le-ltb (height l + 1) (height r) high) (record { becomes = s.set ks l a r g; here = s.here g.here; root_is = s.holds.named at a.name g.name; others = λ n it p k. s.others g.here n it (other_name old.heap at n (items l) a (items r) g.name p) k })

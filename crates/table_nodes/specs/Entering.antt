@@ -7,20 +7,23 @@ use Rattle.heap_places.specs.obj_layout.declared.reference.Reference.TheVariants
 use Rattle.heap_places.specs.swizzle.declared.fault.SwizzleFault.{SwizzleFault}
 use Rattle.heap_places.specs.swizzle.declared.fault.SwizzleFault.TheVariants.{AreaFull, Vault}
 use Rattle.heap_places.specs.swizzle.Heap.{Heap, IsHeap}
-use Rattle.heap_places.specs.swizzle.Joint.{name_at}
+use Rattle.heap_places.specs.swizzle.Joint.{Shown, name_at}
+use Rattle.heap_places.specs.swizzle.Changes.{Within}
+use Rattle.heap_places.specs.swizzle.Reading.{joint}
 use Rattle.avl_trees.specs.Trees.{Tree, node, height, items, insert, lookup}
 use Rattle.avl_trees.specs.Standing.{Row, Stands, IsWritten, root_of, seek, put, fresh_item}
 use Rattle.table_nodes.specs.Keys.{Keys, KeyOf, order_by}
-use Rattle.table_nodes.specs.Nodes.{Seat, IsNode, IsNamed, IsLinked, IsSingle, IsFetchFault, rows_in}
+use Rattle.table_nodes.specs.Nodes.{Seat, IsNode, IsNamed, IsLinked, IsSingle, IsFetchFault, OthersStay, rows_in}
 use Rattle.table_nodes.specs.Steps.{I, Place, IsPlace, StandsAt, rows_of}
 use Rattle.table_nodes.specs.Searching.{IsTree}
 use Rattle.table_nodes.specs.declared.enter.Entered.{Entered}
 use Rattle.table_nodes.specs.declared.opening.Opened.{Opened}
 
--- A node was made with a key and a value, without sides, under a name that had no object; all other rows stay.
+-- A node was made with a key and a value, without sides, under a name that had no object; all else is seen as it was.
 pub record Makes (ks : Keys) (old new : Heap) (outside : Outside Space) (at : ℕ) (key : KeyOf ks) (value : Reference) : Type 0 where
   pub there : rows_in ks new outside (Local at) (record { left = None; right = None; entry = record { key = key; value = value }; height = 1 })
-  pub fresh : (other : Keys) (row : Seat other) → rows_in other old outside (Local at) row → ⊥
+  pub fresh : (it : Shown) → joint old outside (Local at) it → ⊥
+  pub seen : Within (joint old outside) (joint new outside)
   pub rows : (other : Keys) (n : Reference) (row : Seat other) → rows_in other old outside n row → rows_in other new outside n row
   pub here : IsNamed new at (Local at)
   pub nodes : (j : ℕ) → IsNode old j → IsNode new j
@@ -38,6 +41,7 @@ pub record Puts (old new : Heap) (outside : Outside Space) (at value : ℕ) : Ty
   pub nodes : (j : ℕ) → IsNode old j → IsNode new j
   pub named : (j : ℕ) (n : Reference) → IsNamed old j n → IsNamed new j n
   pub heap : IsHeap new
+  pub others : IsSingle outside → OthersStay old new outside at
 
 -- how a key stands to a node, and the node's sides
 pub record IsOpened (ks : Keys) (heap : Heap) (key : KeyOf ks) (x : Tree (I ks)) (b : I ks) (y : Tree (I ks)) (opened : Opened) : Type 0 where
@@ -49,10 +53,10 @@ abbrev pub OpensAt : (ks : Keys) → Place → Heap → ℕ → KeyOf ks → Res
 OpensAt ks old new at key result = (x : Tree (I ks)) (b : I ks) (y : Tree (I ks)) → Stands (rows_of ks old) (node x b y) → IsNamed old.heap at b.name
     → MatchResult result (IsOpened ks new key x b y) (IsFetchFault old.outside)
 
--- The pair was put into the tree, where the key was new under a name that no node had.
+-- The pair was put into the tree, where the key was new under a name that had no object.
 pub record Enters (ks : Keys) (old new : Place) (t : Tree (I ks)) (key : KeyOf ks) (value : Reference) (root : ℕ) : Type 0 where
   pub fresh : Reference
-  pub is_fresh : (row : Seat ks) → rows_of ks old fresh row → ⊥
+  pub is_fresh : (it : Shown) → joint old.heap old.outside fresh it → ⊥
   pub stands : StandsAt ks old new (items t) (insert (seek (order_by ks) key) (put value) (fresh_item fresh key value) t) root
 
 -- there was no room for a node

@@ -1,3 +1,4 @@
+pub mod Sparing
 pub mod Entering
 pub mod Following
 pub mod Keys

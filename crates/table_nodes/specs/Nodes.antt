@@ -1,5 +1,5 @@
 -- The nodes of a table's tree: what is seen of one under a name.
-use Rattle.std.specs.Prelude.{◌≡◌, ℕ, zero, suc, List, length, Option, Some, None}
+use Rattle.std.specs.Prelude.{◌≡◌, ◌≢◌, ℕ, zero, suc, List, length, Option, Some, None}
 use Rattle.heap_places.specs.ps_outside.Outside.{Outside, SameContents}
 use Rattle.heap_places.specs.obj_layout.Stored.{Space, Holds}
 use Rattle.heap_places.specs.obj_layout.declared.kind.Kind.TheVariants.{Node}
@@ -8,6 +8,7 @@ use Rattle.heap_places.specs.obj_layout.declared.reference.Reference.TheVariants
 use Rattle.heap_places.specs.swizzle.declared.fault.SwizzleFault.{SwizzleFault}
 use Rattle.heap_places.specs.swizzle.Heap.{Heap, IsHeap, IsHeld, header_at, ref_at, num_at, reference_to}
 use Rattle.heap_places.specs.swizzle.Joint.{Shown, name_at, name_of}
+use Rattle.heap_places.specs.swizzle.Changes.{Within}
 use Rattle.heap_places.specs.swizzle.Reading.{joint}
 use Rattle.heap_places.specs.swizzle.Touch.{IsTouchFault}
 use Rattle.heap_places.specs.Shapes.{slot_of, word_in}
@@ -65,13 +66,14 @@ IsLinked heap None None = Unit {0}
 IsLinked heap (Some at) (Some n) = IsNamed heap at n
 IsLinked heap _ _ = ⊥
 
--- What a touch leaves: rows stay, and nodes of the area keep their names.
+-- What a touch leaves: what is seen stays, rows among it, and nodes of the area keep their names.
 pub record Grows (old new : Heap) (before after : Outside Space) : Type 0 where
   pub rows : (ks : Keys) (n : Reference) (row : Seat ks) → rows_in ks old before n row → rows_in ks new after n row
   pub nodes : (at : ℕ) → IsNode old at → IsNode new at
   pub named : (at : ℕ) (n : Reference) → IsNamed old at n → IsNamed new at n
   pub heap : IsHeap new
   pub contents : SameContents before after
+  pub seen : Within (joint old before) (joint new after)
 
 abbrev pub side_of : {K : Type 0} → ℕ → Row Reference K Reference → Option Reference
 side_of zero row = row.left
@@ -81,6 +83,10 @@ side_of (suc n) row = row.right
 abbrev pub with_sides : {K : Type 0} → Option Reference → Option Reference → ℕ → Row Reference K Reference → Row Reference K Reference
 with_sides left right height row = record { left = left; right = right; entry = row.entry; height = height }
 
+-- all objects but this one are seen as they were
+abbrev pub OthersStay : Heap → Heap → Outside Space → ℕ → Type 0
+OthersStay old new outside at = (n : Reference) (it : Shown) → n ≢ name_at old at → joint old outside n it → joint new outside n it
+
 -- A node was given other sides and another height.
 pub record Links (old new : Heap) (outside : Outside Space) (at : ℕ) (left right : Option ℕ) (height : ℕ) : Type 0 where
   pub written : (ks : Keys) (n : Reference) (l r : Option Reference) (row : Seat ks) → IsSingle outside → IsNamed old at n → IsLinked old left l → IsLinked old right r
@@ -88,6 +94,7 @@ pub record Links (old new : Heap) (outside : Outside Space) (at : ℕ) (left rig
   pub nodes : (at : ℕ) → IsNode old at → IsNode new at
   pub named : (at : ℕ) (n : Reference) → IsNamed old at n → IsNamed new at n
   pub heap : IsHeap new
+  pub others : IsSingle outside → OthersStay old new outside at
 
 -- a slot of an object denotes this object, or none
 abbrev pub IsSlot : Heap → ℕ → ℕ → Option ℕ → Type 0

@@ -5,7 +5,7 @@ use Rattle.avl_trees.specs.Trees.{Tree, node, height, items, lookup, remove, lea
 use Rattle.avl_trees.specs.Standing.{Becomes, Taken, root_of, seek}
 use Rattle.table_nodes.specs.Keys.{Keys, KeyOf, order_by}
 use Rattle.table_nodes.specs.Nodes.{IsNamed, IsLinked, IsFetchFault}
-use Rattle.table_nodes.specs.Steps.{I, Place, IsPlace, rows_of}
+use Rattle.table_nodes.specs.Steps.{I, Place, IsPlace, StayBeside, rows_of}
 use Rattle.table_nodes.specs.Searching.{IsTree}
 use Rattle.table_nodes.specs.Entering.{is_missing}
 use Rattle.table_nodes.specs.declared.remove.Least.{Least}
@@ -17,6 +17,7 @@ pub record IsTaken (ks : Keys) (old new : Place) (l : Tree (I ks)) (a : I ks) (r
   pub here : IsPlace new
   pub node_is : IsNamed new.heap found.node (least l a).name
   pub rest_is : IsLinked new.heap found.rest (root_of (rest l a r))
+  pub others : StayBeside ks old new (items (node l a r))
 
 abbrev pub TakesLeast : Place → Place → ℕ → ℕ → Result Least SwizzleFault → Type 0
 TakesLeast old new at bound result = (ks : Keys) (l : Tree (I ks)) (a : I ks) (r : Tree (I ks)) → IsPlace old → IsTree ks old (Some at) (node l a r) → height (node l a r) < bound
@@ -27,6 +28,7 @@ pub record Leaves (ks : Keys) (old new : Place) (is : List (I ks)) (t : Tree (I 
   pub becomes : Becomes (rows_of ks old) (rows_of ks new) is t
   pub here : IsPlace new
   pub root_is : IsLinked new.heap root (root_of t)
+  pub others : StayBeside ks old new is
 
 abbrev pub Merges : Place → Place → Option ℕ → Option ℕ → ℕ → Result (Option ℕ) SwizzleFault → Type 0
 Merges old new left right bound result = (ks : Keys) (at : ℕ) (l : Tree (I ks)) (a : I ks) (r : Tree (I ks)) → IsPlace old → IsTree ks old (Some at) (node l a r)

@@ -1,12 +1,14 @@
 -- What a step of a change does to the nodes of a table's tree, in the area and the vault together.
-use Rattle.std.specs.Prelude.{Result, MatchResult, ℕ, ◌≤◌, ◌+◌, ◌<◌, List, ◌∷◌, ◌++◌, Option, Some}
+use Rattle.std.specs.Prelude.{◌≢◌, Result, MatchResult, ℕ, ◌≤◌, ◌+◌, ◌<◌, List, ◌∷◌, ◌++◌, Option, Some}
 use Rattle.heap_places.specs.ps_outside.Outside.{Outside}
 use Rattle.heap_places.specs.obj_layout.Stored.{Space}
 use Rattle.heap_places.specs.obj_layout.declared.reference.Reference.{Reference}
 use Rattle.heap_places.specs.swizzle.declared.fault.SwizzleFault.{SwizzleFault}
 use Rattle.heap_places.specs.swizzle.Heap.{Heap, IsHeap}
+use Rattle.heap_places.specs.swizzle.Joint.{Shown, name_at}
+use Rattle.heap_places.specs.swizzle.Reading.{joint}
 use Rattle.avl_trees.specs.Trees.{Tree, height, items, node, lean_inner, lean_outer, lean_left, lean_right, balance}
-use Rattle.avl_trees.specs.Standing.{Item, Rows, Given, Becomes, root_of}
+use Rattle.avl_trees.specs.Standing.{Item, Rows, Given, Becomes, IsApart, root_of}
 use Rattle.table_nodes.specs.Keys.{Keys, KeyOf, order_by}
 use Rattle.table_nodes.specs.Nodes.{IsNode, IsNamed, IsLinked, IsSingle, IsFetchFault, Grows, rows_in}
 
@@ -38,11 +40,16 @@ pub record AreSides (ks : Keys) (p : Place) (at : ℕ) (left right : Option ℕ)
   pub left_low : height l ≤ 200
   pub right_low : height r ≤ 200
 
+-- objects are seen as they were, but for the nodes of these items
+abbrev pub StayBeside : (ks : Keys) → Place → Place → List (I ks) → Type 0
+StayBeside ks old new is = (n : Reference) (it : Shown) → IsApart n is → joint old.heap old.outside n it → joint new.heap new.outside n it
+
 -- The tree stands now, from this place on.
 pub record StandsAt (ks : Keys) (old new : Place) (is : List (I ks)) (t : Tree (I ks)) (root : ℕ) : Type 0 where
   pub becomes : Becomes (rows_of ks old) (rows_of ks new) is t
   pub here : IsPlace new
   pub root_is : IsLinked new.heap (Some root) (root_of t)
+  pub others : StayBeside ks old new is
 
 -- nodes of the area keep their names
 pub record Holds (old new : Heap) : Type 0 where
@@ -80,6 +87,7 @@ pub record SetsSides (old new : Place) (at : ℕ) (left right : Option ℕ) : Ty
   pub set : (ks : Keys) (l : Tree (I ks)) (a : I ks) (r : Tree (I ks)) → AreSides ks old at left right l a r → Becomes (rows_of ks old) (rows_of ks new) (items l ++ a ∷ items r) (node l a r)
   pub here : IsPlace old → IsPlace new
   pub holds : Holds old.heap new.heap
+  pub others : IsPlace old → (n : Reference) (it : Shown) → n ≢ name_at old.heap at → joint old.heap old.outside n it → joint new.heap new.outside n it
 
 -- The tree stands from the place that was answered on; it isn't damaged.
 abbrev pub Answers : (ks : Keys) → Place → Place → List (I ks) → Tree (I ks) → Result ℕ SwizzleFault → Type 0

@@ -5,6 +5,7 @@ ghost use Rattle.heap_places.specs.swizzle.Joint.{name_at};
 ghost use Rattle.table_nodes.specs.Entering.{EntersAt, IsCountedAt};
 ghost use Rattle.table_nodes.specs.Nodes.{IsNode};
 ghost use Rattle.table_nodes.specs.Sought.{IsKeyHeld, kind_of, key_in};
+ghost use Rattle.table_nodes.specs.Sparing.{Spares};
 ghost use Rattle.table_nodes.specs.Steps.{place, Holds};
 
 use crate::keys::Key;
@@ -44,6 +45,7 @@ pub fn enter<V: Vault>(
     ensures counted { IsCountedAt (kind_of key) (place sw.old (V.outside vault.old)) root bound (key_in sw.old key) result }
     ensures root { IfOk result (λ entered. IsNode sw.new entered.root) }
     ensures held { OnOk result (Holds sw.old sw.new) }
+    ensures spares { OnOk result (Spares sw.old sw.new (V.outside vault.old) (V.outside vault.new)) }
     ensures contents { OnOk result (SameContents (V.outside vault.old) (V.outside vault.new)) }
     ensures alive { OnOk result (V.alive vault.new) }
 {

@@ -6,6 +6,7 @@ ghost use Rattle.table_nodes.specs.Nodes.{IsNode, IsNamed, IsLinked, IsSide, IsS
 ghost use Rattle.table_nodes.specs.Entering.{Puts};
 ghost use Rattle.table_nodes.specs.Keys.{Keys};
 ghost use Rattle.table_nodes.specs.Searching.{ReadsValue};
+ghost use Rattle.table_nodes.specs.Sparing.{Spares};
 
 use heap_places::obj_layout::kind::Kind;
 use heap_places::obj_layout::reference::Reference;
@@ -127,6 +128,7 @@ pub fn link<V: Vault>(
     requires right { IfSome right (IsNode sw.old) }
     ensures linked { Links sw.old sw.new (V.outside vault.now) at left right height }
     ensures still { HasSides sw.old at left right height → sw.new ≡ sw.old }
+    ensures spares { Spares sw.old sw.new (V.outside vault.now) (V.outside vault.now) }
     ensures marked { HasSides sw.old at left right height ⊎ IsListed at sw.new.assigned }
 {
     sw.sound();
@@ -142,6 +144,7 @@ pub fn put<V: Vault>(sw: &mut Swizzle, vault: &V, at: u32, value: u32)
     requires value { IsHeld sw.old value }
     ensures put { Puts sw.old sw.new (V.outside vault.now) at value }
     ensures still { IsSlot sw.old at 3 (Some value) → sw.new ≡ sw.old }
+    ensures spares { Spares sw.old sw.new (V.outside vault.now) (V.outside vault.now) }
     ensures marked { IsSlot sw.old at 3 (Some value) ⊎ IsListed at sw.new.assigned }
 {
     sw.sound();
@@ -156,6 +159,7 @@ fn write_value<V: Vault>(sw: &mut Swizzle, vault: &V, node: u32, value: u32)
     requires node { IsNode sw.old node }
     requires value { IsHeld sw.old value }
     ensures put { Puts sw.old sw.new (V.outside vault.now) node value }
+    ensures spares { Spares sw.old sw.new (V.outside vault.now) (V.outside vault.now) }
     ensures marked { IsListed node sw.new.assigned }
 {
     let _ = vault;
@@ -179,6 +183,7 @@ fn write_sides<V: Vault>(
     requires left { IfSome left (IsNode sw.old) }
     requires right { IfSome right (IsNode sw.old) }
     ensures linked { Links sw.old sw.new (V.outside vault.now) at left right height }
+    ensures spares { Spares sw.old sw.new (V.outside vault.now) (V.outside vault.now) }
     ensures marked { IsListed at sw.new.assigned }
 {
     let _ = vault;

@@ -3,6 +3,7 @@ ghost use Rattle.heap_places.specs.ps_outside.Outside.{SameContents};
 ghost use Rattle.table_nodes.specs.Nodes.{IsNode};
 ghost use Rattle.table_nodes.specs.Removing.{IsGoneAt, Merges, Removes, TakesLeast};
 ghost use Rattle.table_nodes.specs.Sought.{IsKeyHeld, kind_of, key_in};
+ghost use Rattle.table_nodes.specs.Sparing.{Spares};
 ghost use Rattle.table_nodes.specs.Steps.{place, Holds};
 
 use crate::keys::Key;
@@ -36,6 +37,7 @@ fn take_least<V: Vault>(
     ensures node { IfOk result (λ found. IsNode sw.new found.node) }
     ensures rest { IfOk result (λ found. IfSome found.rest (IsNode sw.new)) }
     ensures held { OnOk result (Holds sw.old sw.new) }
+    ensures spares { OnOk result (Spares sw.old sw.new (V.outside vault.old) (V.outside vault.new)) }
     ensures contents { OnOk result (SameContents (V.outside vault.old) (V.outside vault.new)) }
     ensures alive { OnOk result (V.alive vault.new) }
 {
@@ -85,6 +87,7 @@ fn merge_sides<V: Vault>(
     ensures merged { Merges (place sw.old (V.outside vault.old)) (place sw.new (V.outside vault.new)) left right bound result }
     ensures root { IfOk result (λ root. IfSome root (IsNode sw.new)) }
     ensures held { OnOk result (Holds sw.old sw.new) }
+    ensures spares { OnOk result (Spares sw.old sw.new (V.outside vault.old) (V.outside vault.new)) }
     ensures contents { OnOk result (SameContents (V.outside vault.old) (V.outside vault.new)) }
     ensures alive { OnOk result (V.alive vault.new) }
 {
@@ -128,6 +131,7 @@ pub fn remove<V: Vault>(
     ensures counted { IsGoneAt (kind_of key) (place sw.old (V.outside vault.old)) root bound (key_in sw.old key) result }
     ensures root { IfOk result (λ removed. IfSome removed.root (IsNode sw.new)) }
     ensures held { OnOk result (Holds sw.old sw.new) }
+    ensures spares { OnOk result (Spares sw.old sw.new (V.outside vault.old) (V.outside vault.new)) }
     ensures contents { OnOk result (SameContents (V.outside vault.old) (V.outside vault.new)) }
     ensures alive { OnOk result (V.alive vault.new) }
 {

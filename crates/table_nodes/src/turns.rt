@@ -1,6 +1,7 @@
 ghost use Rattle.std.specs.Prelude.{◌≡◌, IfOk, IfSome, OnOk, Some};
 ghost use Rattle.heap_places.specs.ps_outside.Outside.{SameContents};
 ghost use Rattle.table_nodes.specs.Nodes.{IsNode};
+ghost use Rattle.table_nodes.specs.Sparing.{Spares};
 ghost use Rattle.table_nodes.specs.Steps.{place, SetsSides, TurnsInner, TurnsRight, TurnsOuter, TurnsLeft, Balances, Holds};
 
 use crate::nodes::{height, link, side};
@@ -16,6 +17,7 @@ fn set_sides<V: Vault>(sw: &mut Swizzle, vault: &V, at: u32, left: Option<u32>, 
     requires right { IfSome right (IsNode sw.old) }
     ensures set { SetsSides (place sw.old (V.outside vault.now)) (place sw.new (V.outside vault.now)) at left right }
     ensures held { Holds sw.old sw.new }
+    ensures spares { Spares sw.old sw.new (V.outside vault.now) (V.outside vault.now) }
 {
     let height = height(sw, vault, left)
         .max(height(sw, vault, right))
@@ -38,6 +40,7 @@ fn turn_right<V: Vault>(
     ensures turned { TurnsRight (place sw.old (V.outside vault.old)) (place sw.new (V.outside vault.new)) at left right result }
     ensures root { IfOk result (IsNode sw.new) }
     ensures held { OnOk result (Holds sw.old sw.new) }
+    ensures spares { OnOk result (Spares sw.old sw.new (V.outside vault.old) (V.outside vault.new)) }
     ensures contents { OnOk result (SameContents (V.outside vault.old) (V.outside vault.new)) }
     ensures alive { OnOk result (V.alive vault.new) }
 {
@@ -76,6 +79,7 @@ fn turn_inner<V: Vault>(
     ensures turned { TurnsInner (place sw.old (V.outside vault.old)) (place sw.new (V.outside vault.new)) at left outer inner right result }
     ensures root { IfOk result (IsNode sw.new) }
     ensures held { OnOk result (Holds sw.old sw.new) }
+    ensures spares { OnOk result (Spares sw.old sw.new (V.outside vault.old) (V.outside vault.new)) }
     ensures contents { OnOk result (SameContents (V.outside vault.old) (V.outside vault.new)) }
     ensures alive { OnOk result (V.alive vault.new) }
 {
@@ -111,6 +115,7 @@ fn turn_left<V: Vault>(
     ensures turned { TurnsLeft (place sw.old (V.outside vault.old)) (place sw.new (V.outside vault.new)) at left right result }
     ensures root { IfOk result (IsNode sw.new) }
     ensures held { OnOk result (Holds sw.old sw.new) }
+    ensures spares { OnOk result (Spares sw.old sw.new (V.outside vault.old) (V.outside vault.new)) }
     ensures contents { OnOk result (SameContents (V.outside vault.old) (V.outside vault.new)) }
     ensures alive { OnOk result (V.alive vault.new) }
 {
@@ -149,6 +154,7 @@ fn turn_outer<V: Vault>(
     ensures turned { TurnsOuter (place sw.old (V.outside vault.old)) (place sw.new (V.outside vault.new)) at right left inner outer result }
     ensures root { IfOk result (IsNode sw.new) }
     ensures held { OnOk result (Holds sw.old sw.new) }
+    ensures spares { OnOk result (Spares sw.old sw.new (V.outside vault.old) (V.outside vault.new)) }
     ensures contents { OnOk result (SameContents (V.outside vault.old) (V.outside vault.new)) }
     ensures alive { OnOk result (V.alive vault.new) }
 {
@@ -184,6 +190,7 @@ pub fn balance<V: Vault>(
     ensures balanced { Balances (place sw.old (V.outside vault.old)) (place sw.new (V.outside vault.new)) at left right result }
     ensures root { IfOk result (IsNode sw.new) }
     ensures held { OnOk result (Holds sw.old sw.new) }
+    ensures spares { OnOk result (Spares sw.old sw.new (V.outside vault.old) (V.outside vault.new)) }
     ensures contents { OnOk result (SameContents (V.outside vault.old) (V.outside vault.new)) }
     ensures alive { OnOk result (V.alive vault.new) }
 {

@@ -1,4 +1,5 @@
-use Rattle.std.proofs.Common.{Ok, Err, refl, sym, ◌∙◌, arith, inl}
+use Rattle.std.proofs.Common.{IfSome, Ok, Err, refl, sym, ◌∙◌, subst, arith, inl}
+use Rattle.table_nodes.specs.Nodes.{IsNode}
 use Rattle.avl_trees.specs.Trees.{leaf, node}
 use Rattle.avl_trees.specs.Standing.{row_of}
 use Rattle.heap_places.specs.swizzle.Joint.{name_at}
@@ -7,6 +8,7 @@ use Rattle.table_nodes.specs.Steps.{place}
 use Rattle.table_nodes.proofs.SoughtLaws.{key_in_kept}
 use Rattle.table_nodes.proofs.StepLaws.{place_touched}
 use Rattle.table_nodes.proofs.Putting.{root_named, no_root, entered_as, tree_left, tree_right, put_leaf, put_left, put_right, put_here, fault_after, counted_leaf, counted_left, counted_right, counted_here}
+use Rattle.table_nodes.proofs.Sparing.{spares_made, spares_then, spares_touched}
 use Rattle.table_nodes.proofs.enter.+enter.Goals as goal
 
 pub returns-in-Ok-clause-entered : goal.returns-in-Ok-clause-entered
@@ -192,3 +194,21 @@ returns-in-Ok-balance-2-clause-held g t c = record {
   nodes = λ at h. c.in-Ok-balance-2.ensures.held.nodes at (c.in-Ok-enter-2.ensures.held.nodes at (c.in-Ok-open_node.ensures.grows.nodes at h));
   named = λ at n h. c.in-Ok-balance-2.ensures.held.named at n (c.in-Ok-enter-2.ensures.held.named at n (c.in-Ok-open_node.ensures.grows.named at n h));
 }
+
+pub returns-in-Ok-clause-spares : goal.returns-in-Ok-clause-spares
+returns-in-Ok-clause-spares g t c = spares_made _ _ _ _ _ _ _ c.in-Ok.ensures.keeps c.in-Ok.ensures.made
+
+pub returns-in-Equal-clause-spares : goal.returns-in-Equal-clause-spares
+returns-in-Equal-clause-spares g t c = spares_then _ _ _ _ _ _ (spares_touched _ _ _ _ c.in-Ok-open_node.ensures.keeps c.in-Ok-open_node.ensures.grows) c.put.ensures.spares
+
+pub returns-in-Ok-balance-clause-spares : goal.returns-in-Ok-balance-clause-spares
+returns-in-Ok-balance-clause-spares g t c = spares_then _ _ _ _ _ _ (spares_touched _ _ _ _ c.in-Ok-open_node.ensures.keeps c.in-Ok-open_node.ensures.grows) (spares_then _ _ _ _ _ _ c.in-Ok-enter.ensures.spares c.in-Ok-balance.ensures.spares)
+
+pub returns-in-Ok-balance-2-clause-spares : goal.returns-in-Ok-balance-2-clause-spares
+returns-in-Ok-balance-2-clause-spares g t c = spares_then _ _ _ _ _ _ (spares_touched _ _ _ _ c.in-Ok-open_node.ensures.keeps c.in-Ok-open_node.ensures.grows) (spares_then _ _ _ _ _ _ c.in-Ok-enter-2.ensures.spares c.in-Ok-balance-2.ensures.spares)
+
+pub balance-requires-clause-at : goal.balance-requires-clause-at
+balance-requires-clause-at g t c = c.in-Ok-enter.ensures.held.nodes _ (c.in-Ok-open_node.ensures.grows.nodes _ (subst (λ i. IfSome i (IsNode c.args.sw.now)) c.in-Some.is c.requires.root))
+
+pub balance-requires-in-Ok-enter-2-clause-at : goal.balance-requires-in-Ok-enter-2-clause-at
+balance-requires-in-Ok-enter-2-clause-at g t c = c.in-Ok-enter-2.ensures.held.nodes _ (c.in-Ok-open_node.ensures.grows.nodes _ (subst (λ i. IfSome i (IsNode c.args.sw.now)) c.in-Some.is c.requires.root))

@@ -7,7 +7,7 @@ use Rattle.avl_trees.proofs.Standing.{stands_grown}
 use Rattle.table_nodes.specs.Sought.{kind_of}
 use Rattle.table_nodes.specs.Steps.{place, rows_of}
 use Rattle.table_nodes.proofs.NodeLaws.{fetch_back}
-use Rattle.table_nodes.proofs.StepLaws.{is_side}
+use Rattle.table_nodes.proofs.StepLaws.{is_side, touches_then}
 use Rattle.table_nodes.proofs.follow.go_on.Goals as goal
 
 pub returns-in-Err-clause-turns : goal.returns-in-Err-clause-turns
@@ -48,3 +48,9 @@ returns-in-Err-side-2-clause-turns g c x b y s named =
     let t = stands_grown (rows_of ks p) (rows_of ks m) (c.in-Ok.ensures.grows.rows ks) (node x b y) s in
     fetch_back p.outside m.outside c.in-Err-side-2.fault c.in-Ok.ensures.grows.contents
     (c.in-Err-side-2.ensures.sound ks b.name (row_of x b y) (c.in-Ok.ensures.grows.named c.args.at b.name named) t.0 (is_side ks m y t.2))
+
+pub returns-in-Ok-side-clause-grows : goal.returns-in-Ok-side-clause-grows
+returns-in-Ok-side-clause-grows g c = touches_then (place c.args.sw.now (g.V.Vault.outside c.args.vault.now)) (place c.order.new.sw (g.V.Vault.outside c.order.new.vault)) (place c.side.new.sw (g.V.Vault.outside c.side.new.vault)) c.in-Ok.ensures.grows c.in-Ok-side.ensures.grows
+
+pub returns-in-Ok-side-2-clause-grows : goal.returns-in-Ok-side-2-clause-grows
+returns-in-Ok-side-2-clause-grows g c = touches_then (place c.args.sw.now (g.V.Vault.outside c.args.vault.now)) (place c.order.new.sw (g.V.Vault.outside c.order.new.vault)) (place c.side-2.new.sw (g.V.Vault.outside c.side-2.new.vault)) c.in-Ok.ensures.grows c.in-Ok-side-2.ensures.grows

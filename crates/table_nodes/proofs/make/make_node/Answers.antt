@@ -1,6 +1,6 @@
 use Rattle.std.proofs.Common.{ap, ◌∙◌, arith}
 use Rattle.heap_places.proofs.of_swizzle.MadeLaws.{made-held, made-object}
-use Rattle.table_nodes.proofs.MakeLaws.{node_made, node_makes}
+use Rattle.table_nodes.proofs.MakeLaws.{node_made, node_makes, made_keeps}
 use Rattle.table_nodes.proofs.make.make_node.Goals as goal
 
 pub set_key-requires-clause-held : goal.set_key-requires-clause-held
@@ -35,5 +35,7 @@ set_num-requires-clause-below g c =
 pub returns : goal.returns
 returns g c = record {
   made = node_makes c.args.sw.now c.set_num.new.self (g.V.Vault.outside c.args.vault.now) c.in-Ok.at c.args.value c.args.key c.sound.ensures c.sound-2.ensures c.requires.key c.requires.value
+      (node_made c.args.sw.now c.make.new.self c.set_key.new.sw c.set_ref.new.self c.set_num.new.self c.in-Ok.at c.args.value c.args.key c.in-Ok.ensures.made c.set_key.ensures.written c.set_ref.ensures.written c.set_num.ensures.written);
+  keeps = made_keeps c.args.sw.now c.set_num.new.self c.in-Ok.at _ c.sound.ensures
       (node_made c.args.sw.now c.make.new.self c.set_key.new.sw c.set_ref.new.self c.set_num.new.self c.in-Ok.at c.args.value c.args.key c.in-Ok.ensures.made c.set_key.ensures.written c.set_ref.ensures.written c.set_num.ensures.written);
 }

@@ -4,7 +4,7 @@ use Rattle.avl_trees.proofs.Standing.{stands_grown}
 use Rattle.table_nodes.specs.Sought.{kind_of}
 use Rattle.table_nodes.specs.Steps.{place, rows_of}
 use Rattle.table_nodes.proofs.NodeLaws.{fetch_back}
-use Rattle.table_nodes.proofs.StepLaws.{is_side, linked_kept}
+use Rattle.table_nodes.proofs.StepLaws.{is_side, linked_kept, touches_then}
 use Rattle.table_nodes.proofs.opening.open_node.Goals as goal
 
 pub returns-in-Err-clause-opens : goal.returns-in-Err-clause-opens
@@ -43,3 +43,7 @@ returns-clause-opens g c x b y s named =
       left = linked_kept m1.heap c.side-2.new.sw c.in-Ok-side-2.ensures.grows.named c.in-Ok-side.left (root_of x) (c.in-Ok-side.ensures.side ks b.name (row_of x b y) name row);
       right = c.in-Ok-side-2.ensures.side ks b.name (row_of x b y) (c.in-Ok-side.ensures.grows.named c.args.at b.name name) (c.in-Ok-side.ensures.grows.rows ks b.name (row_of x b y) row);
     }
+
+pub returns-clause-grows : goal.returns-clause-grows
+returns-clause-grows g c =
+    touches_then (place c.args.sw.now (g.V.Vault.outside c.args.vault.now)) (place c.side.new.sw (g.V.Vault.outside c.side.new.vault)) (place c.side-2.new.sw (g.V.Vault.outside c.side-2.new.vault)) (touches_then (place c.args.sw.now (g.V.Vault.outside c.args.vault.now)) (place c.order.new.sw (g.V.Vault.outside c.order.new.vault)) (place c.side.new.sw (g.V.Vault.outside c.side.new.vault)) c.in-Ok.ensures.grows c.in-Ok-side.ensures.grows) c.in-Ok-side-2.ensures.grows

@@ -8,6 +8,7 @@ use Rattle.table_nodes.proofs.SoughtLaws.{key_in_kept}
 use Rattle.table_nodes.proofs.StepLaws.{place_touched}
 use Rattle.table_nodes.proofs.Putting.{root_named, no_root, tree_left, tree_right}
 use Rattle.table_nodes.proofs.Removal.{removed_as, remove_leaf, left_sides, left_done, right_sides, right_done, here_done, here_fault, gone_leaf, gone_left, gone_right, gone_here}
+use Rattle.table_nodes.proofs.Sparing.{spares_none, spares_then, spares_touched}
 use Rattle.table_nodes.proofs.remove.+remove.Goals as goal
 
 pub returns-in_default-clause-removed : goal.returns-in_default-clause-removed
@@ -215,3 +216,15 @@ returns-in-Ok-balance-2-clause-held g t c = record {
   nodes = λ at h. c.in-Ok-balance-2.ensures.held.nodes at (c.in-Ok-remove-2.ensures.held.nodes at (c.in-Ok.ensures.grows.nodes at h));
   named = λ at n h. c.in-Ok-balance-2.ensures.held.named at n (c.in-Ok-remove-2.ensures.held.named at n (c.in-Ok.ensures.grows.named at n h));
 }
+
+pub returns-in_default-clause-spares : goal.returns-in_default-clause-spares
+returns-in_default-clause-spares g t c = spares_none c.args.sw.now (g.V.Vault.outside c.args.vault.now)
+
+pub returns-in-Ok-merge_sides-clause-spares : goal.returns-in-Ok-merge_sides-clause-spares
+returns-in-Ok-merge_sides-clause-spares g t c = spares_then _ _ _ _ _ _ (spares_touched _ _ _ _ c.in-Ok.ensures.keeps c.in-Ok.ensures.grows) c.in-Ok-merge_sides.ensures.spares
+
+pub returns-in-Ok-balance-clause-spares : goal.returns-in-Ok-balance-clause-spares
+returns-in-Ok-balance-clause-spares g t c = spares_then _ _ _ _ _ _ (spares_touched _ _ _ _ c.in-Ok.ensures.keeps c.in-Ok.ensures.grows) (spares_then _ _ _ _ _ _ c.in-Ok-remove.ensures.spares c.in-Ok-balance.ensures.spares)
+
+pub returns-in-Ok-balance-2-clause-spares : goal.returns-in-Ok-balance-2-clause-spares
+returns-in-Ok-balance-2-clause-spares g t c = spares_then _ _ _ _ _ _ (spares_touched _ _ _ _ c.in-Ok.ensures.keeps c.in-Ok.ensures.grows) (spares_then _ _ _ _ _ _ c.in-Ok-remove-2.ensures.spares c.in-Ok-balance-2.ensures.spares)

@@ -8,6 +8,7 @@ use Rattle.table_nodes.proofs.NodeLaws.{fetch_back}
 use Rattle.table_nodes.proofs.StepLaws.{is_side, linked_kept, place_touched, touches_then}
 use Rattle.table_nodes.proofs.Putting.{no_root, tree_left}
 use Rattle.table_nodes.proofs.Removal.{least_here, least_sides, least_above}
+use Rattle.table_nodes.proofs.Sparing.{spares_then, spares_touched}
 use Rattle.table_nodes.proofs.remove.+take_least.Goals as goal
 
 pub returns-then-height-bound-clause-taken : goal.returns-then-height-bound-clause-taken
@@ -102,3 +103,12 @@ returns-in-Ok-balance-clause-held g t c = record {
   nodes = λ at h. c.in-Ok-balance.ensures.held.nodes at (c.in-Ok-take_least.ensures.held.nodes at (c.in-Ok-side.ensures.grows.nodes at (c.in-Ok.ensures.grows.nodes at h)));
   named = λ at n h. c.in-Ok-balance.ensures.held.named at n (c.in-Ok-take_least.ensures.held.named at n (c.in-Ok-side.ensures.grows.named at n (c.in-Ok.ensures.grows.named at n h)));
 }
+
+pub returns-in_default-clause-spares : goal.returns-in_default-clause-spares
+returns-in_default-clause-spares g t c = spares_then _ _ _ _ _ _ (spares_touched _ _ _ _ c.in-Ok.ensures.keeps c.in-Ok.ensures.grows) (spares_touched _ _ _ _ c.in-Ok-side.ensures.keeps c.in-Ok-side.ensures.grows)
+
+pub returns-in-Ok-balance-clause-spares : goal.returns-in-Ok-balance-clause-spares
+returns-in-Ok-balance-clause-spares g t c = spares_then _ _ _ _ _ _ (spares_then _ _ _ _ _ _ (spares_touched _ _ _ _ c.in-Ok.ensures.keeps c.in-Ok.ensures.grows) (spares_touched _ _ _ _ c.in-Ok-side.ensures.keeps c.in-Ok-side.ensures.grows)) (spares_then _ _ _ _ _ _ c.in-Ok-take_least.ensures.spares c.in-Ok-balance.ensures.spares)
+
+pub returns-in-Ok-balance-clause-node : goal.returns-in-Ok-balance-clause-node
+returns-in-Ok-balance-clause-node g t c = c.in-Ok-balance.ensures.held.nodes _ c.in-Ok-take_least.ensures.node

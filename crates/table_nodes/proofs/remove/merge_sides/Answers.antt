@@ -6,6 +6,7 @@ use Rattle.table_nodes.proofs.NodeLaws.{fetch_back}
 use Rattle.table_nodes.proofs.StepLaws.{touches_none}
 use Rattle.table_nodes.proofs.Putting.{no_root, root_named, tree_right}
 use Rattle.table_nodes.proofs.Removal.{merge_left, merge_right, merge_sides_of, merge_done}
+use Rattle.table_nodes.proofs.Sparing.{spares_none, spares_then}
 use Rattle.table_nodes.proofs.remove.merge_sides.Goals as goal
 
 pub returns-in_default-clause-merged : goal.returns-in_default-clause-merged
@@ -46,3 +47,18 @@ returns-in-Err-balance-clause-merged g c ks at (node u d v) a (node x b y) p h e
     let below = root_named old.heap c.args.left c.in-Some-left.below d.name c.in-Some-left.is e in
     let sides = merge_sides_of ks old m1 at c.in-Some-left.below c.in-Ok.ensures.held u d v a x b y p h below c.in-Ok.least w (omega (arith, lower, c.requires.bound)) in
     fetch_back old.outside m1.outside c.in-Err-balance.fault c.in-Ok.ensures.contents (c.in-Err-balance.ensures.balanced ks _ _ _ sides)
+
+pub returns-in_default-clause-spares : goal.returns-in_default-clause-spares
+returns-in_default-clause-spares g c = spares_none c.args.sw.now (g.V.Vault.outside c.args.vault.now)
+
+pub returns-in_default-left-clause-spares : goal.returns-in_default-left-clause-spares
+returns-in_default-left-clause-spares g c = spares_none c.args.sw.now (g.V.Vault.outside c.args.vault.now)
+
+pub returns-in-Ok-balance-clause-spares : goal.returns-in-Ok-balance-clause-spares
+returns-in-Ok-balance-clause-spares g c = spares_then _ _ _ _ _ _ c.in-Ok.ensures.spares c.in-Ok-balance.ensures.spares
+
+pub returns-in-Ok-balance-clause-held : goal.returns-in-Ok-balance-clause-held
+returns-in-Ok-balance-clause-held g c = record {
+  nodes = λ at h. c.in-Ok-balance.ensures.held.nodes at (c.in-Ok.ensures.held.nodes at h);
+  named = λ at n h. c.in-Ok-balance.ensures.held.named at n (c.in-Ok.ensures.held.named at n h);
+}

@@ -6,6 +6,7 @@ use Rattle.table_nodes.specs.Steps.{place, rows_of}
 use Rattle.table_nodes.proofs.NodeLaws.{fetch_back}
 use Rattle.table_nodes.proofs.StepLaws.{height_is, linked_kept, is_side, holds_after, touches_then}
 use Rattle.table_nodes.proofs.TurnLaws.{single_left, via_outer}
+use Rattle.table_nodes.proofs.Sparing.{spares_after, spares_then, spares_touched}
 use Rattle.table_nodes.proofs.turns.turn_left.Goals as goal
 
 pub returns-in-Err-clause-turned : goal.returns-in-Err-clause-turned
@@ -69,3 +70,9 @@ returns-clause-held g c = record {
   nodes = λ at h. c.set_sides-2.ensures.held.nodes _ (c.set_sides.ensures.held.nodes _ (c.in-Ok-side.ensures.grows.nodes _ (c.in-Ok.ensures.grows.nodes _ h)));
   named = λ at n h. c.set_sides-2.ensures.held.named _ _ (c.set_sides.ensures.held.named _ _ (c.in-Ok-side.ensures.grows.named _ _ (c.in-Ok.ensures.grows.named _ _ h)));
 }
+
+pub returns-then-height-clause-spares : goal.returns-then-height-clause-spares
+returns-then-height-clause-spares g c = spares_after _ _ _ _ _ _ (spares_then _ _ _ _ _ _ (spares_touched _ _ _ _ c.in-Ok.ensures.keeps c.in-Ok.ensures.grows) (spares_touched _ _ _ _ c.in-Ok-side.ensures.keeps c.in-Ok-side.ensures.grows)) c.turn_outer.result c.turn_outer.ensures.spares
+
+pub returns-clause-spares : goal.returns-clause-spares
+returns-clause-spares g c = spares_then _ _ _ _ _ _ (spares_then _ _ _ _ _ _ (spares_touched _ _ _ _ c.in-Ok.ensures.keeps c.in-Ok.ensures.grows) (spares_touched _ _ _ _ c.in-Ok-side.ensures.keeps c.in-Ok-side.ensures.grows)) (spares_then _ _ _ _ _ _ c.set_sides.ensures.spares c.set_sides-2.ensures.spares)

@@ -7,6 +7,7 @@ use Rattle.table_nodes.specs.Steps.{place, rows_of, AreTurnedOut}
 use Rattle.table_nodes.proofs.NodeLaws.{fetch_back}
 use Rattle.table_nodes.proofs.StepLaws.{side_map, is_side, touches_then}
 use Rattle.table_nodes.proofs.TurnLaws.{double_outer}
+use Rattle.table_nodes.proofs.Sparing.{spares_then, spares_touched}
 use Rattle.table_nodes.proofs.turns.turn_outer.Goals as goal
 
 pub returns-in-Err-clause-turned : goal.returns-in-Err-clause-turned
@@ -67,3 +68,6 @@ returns-clause-held g c = record {
 pub set_sides-requires-2-clause-right : goal.set_sides-requires-2-clause-right
 set_sides-requires-2-clause-right g c =
     side_map (IsNode c.args.sw.now) (IsNode c.set_sides.new.sw) (λ n h. c.set_sides.ensures.held.nodes n (c.in-Ok-side.ensures.grows.nodes n (c.in-Ok.ensures.grows.nodes n h))) c.args.outer c.requires.outer
+
+pub returns-clause-spares : goal.returns-clause-spares
+returns-clause-spares g c = spares_then _ _ _ _ _ _ (spares_then _ _ _ _ _ _ (spares_touched _ _ _ _ c.in-Ok.ensures.keeps c.in-Ok.ensures.grows) (spares_touched _ _ _ _ c.in-Ok-side.ensures.keeps c.in-Ok-side.ensures.grows)) (spares_then _ _ _ _ _ _ c.set_sides.ensures.spares (spares_then _ _ _ _ _ _ c.set_sides-2.ensures.spares c.set_sides-3.ensures.spares))

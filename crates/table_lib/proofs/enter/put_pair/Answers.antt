@@ -1,0 +1,61 @@
+use Rattle.std.proofs.Common.{◌+◌, ◌*◌, ◌≡◌, ◌≢◌, Bool, Some, Ok, Err, refl, sym, ap, ◌∙◌, subst}
+use Rattle.table_nodes.specs.heap_places.swizzle.Heap.{num_at}
+use Rattle.table_nodes.specs.heap_places.swizzle.Joint.{name_at}
+use Rattle.table_nodes.proofs.of_heap_places.of_swizzle.NameLaws.{name-not_nil}
+use Rattle.table_nodes.specs.avl_trees.Trees.{lookup}
+use Rattle.table_nodes.specs.avl_trees.Standing.{seek}
+use Rattle.table_nodes.specs.Keys.{order_by}
+use Rattle.table_nodes.specs.Sought.{kind_of, key_in}
+use Rattle.table_nodes.specs.Steps.{place}
+use Rattle.table_nodes.specs.Entering.{is_missing}
+use Rattle.table_nodes.proofs.NodeLaws.{fetch_back}
+use Rattle.table_nodes.proofs.Putting.{entered_as, fault_after}
+use Rattle.table_nodes.proofs.Removal.{removed_as}
+use Rattle.table_nodes.proofs.SoughtLaws.{key_in_kept}
+use Rattle.table_nodes.proofs.Sparing.{spares_then, spares_touched}
+use Rattle.table_nodes.proofs.StepLaws.{place_touched}
+use Rattle.table_lib.specs.Entries.{WritesTable}
+use Rattle.table_lib.proofs.RootLaws.{pairs_low, tree_from}
+use Rattle.table_lib.proofs.WriteLaws.{but_then, table_kept, table_lasts}
+use Rattle.table_lib.proofs.EnterLaws.{pair_entered}
+use Rattle.table_lib.proofs.enter.put_pair.Goals as goal
+
+pub returns-in-Err-enter-clause-put : goal.returns-in-Err-enter-clause-put
+returns-in-Err-enter-clause-put g c t p h low =
+    let ks = kind_of c.args.key in
+    let old = (place c.args.sw.now (g.V.Vault.outside c.args.vault.now)) in
+    let m = (place c.counted_root.new.sw (g.V.Vault.outside c.counted_root.new.vault)) in
+    let tree = tree_from ks old m c.args.at t c.in-Ok.root c.in-Ok.ensures.grows h (c.in-Ok.ensures.root ks t h) in
+    let lower = pairs_low ks old c.args.at t c.num-count.result (2 * c.bits.result + 2) h c.num-count.ensures c.num-count.type_inv (ap (λ b. 2 * b + 2) c.bits.ensures.value) in
+    let here = place_touched old m c.in-Ok.ensures.grows p in
+    fault_after old.outside m.outside c.in-Err-enter.fault c.in-Ok.ensures.grows.contents (c.in-Err-enter.ensures.entered t here tree lower)
+
+pub write_table-requires-clause-table : goal.write_table-requires-clause-table
+write_table-requires-clause-table g c =
+    let table = table_kept c.args.sw.now c.counted_root.new.sw c.args.at c.in-Ok.ensures.keeps c.requires.table in
+    table_lasts c.counted_root.new.sw c.enter.new.sw c.args.at (c.in-Ok-enter.ensures.spares.lasts c.args.at table.held) table
+
+pub returns-clause-put : goal.returns-clause-put
+returns-clause-put g c t p h low =
+    let ks = kind_of c.args.key in
+    let old = (place c.args.sw.now (g.V.Vault.outside c.args.vault.now)) in
+    let m = (place c.counted_root.new.sw (g.V.Vault.outside c.counted_root.new.vault)) in
+    let m1 = (place c.enter.new.sw (g.V.Vault.outside c.enter.new.vault)) in
+    let m2 = place c.write_table.new.sw (g.V.Vault.outside c.enter.new.vault) in
+    let key = key_in old.heap c.args.key in
+    let value = name_at old.heap c.args.value in
+    let tree = tree_from ks old m c.args.at t c.in-Ok.root c.in-Ok.ensures.grows h (c.in-Ok.ensures.root ks t h) in
+    let lower = pairs_low ks old c.args.at t c.num-count.result (2 * c.bits.result + 2) h c.num-count.ensures c.num-count.type_inv (ap (λ b. 2 * b + 2) c.bits.ensures.value) in
+    let here = place_touched old m c.in-Ok.ensures.grows p in
+    let same_key = key_in_kept old.heap m.heap c.args.key c.in-Ok.ensures.keeps c.requires.key in
+    let same_value = (c.in-Ok.ensures.keeps.objects c.args.value c.requires.value).name in
+    let w = entered_as ks m m1 c.in-Ok.root (2 * c.bits.result + 2) (key_in m.heap c.args.key) key (name_at m.heap c.args.value) value (Ok c.in-Ok-enter.entered) same_key same_value c.in-Ok-enter.ensures.entered t here tree lower in
+    let is_made : c.in-Ok-enter.entered.made ≡ is_missing (lookup (seek (order_by ks) key) t) =
+    subst (λ k. c.in-Ok-enter.entered.made ≡ is_missing (lookup (seek (order_by ks) k) t)) same_key (c.in-Ok-enter.ensures.counted t tree lower) in
+    let wrote = subst (λ k. WritesTable k m1.heap m2.heap m1.outside c.args.at (Some c.in-Ok-enter.entered.root) c.count_with-count.result) c.kind_of_key.ensures c.write_table.ensures.written in
+    pair_entered ks old m m1 m2 c.args.at (Some c.in-Ok-enter.entered.root) c.count_with-count.result c.requires.table c.in-Ok.ensures.keeps c.in-Ok.ensures.grows c.in-Ok-enter.ensures.spares wrote refl
+    key t h value (name-not_nil old.heap c.args.value) c.num-count.result c.in-Ok-enter.entered.made c.in-Ok-enter.entered.root refl w is_made c.num-count.ensures low c.count_with-count.ensures.more c.count_with-count.ensures.same
+
+pub returns-clause-spares : goal.returns-clause-spares
+returns-clause-spares g c =
+    but_then c.args.at _ _ _ _ _ _ c.requires.table.held (spares_then _ _ _ _ _ _ (spares_touched _ _ _ _ c.in-Ok.ensures.keeps c.in-Ok.ensures.grows) c.in-Ok-enter.ensures.spares) c.write_table.ensures.spares

@@ -1,0 +1,10 @@
+use Rattle.table_lib.proofs.WriteLaws.{but_written, marked_one, table_marked}
+use Rattle.table_lib.proofs.words.mark_table.Goals as goal
+
+pub returns-clause-marked : goal.returns-clause-marked
+returns-clause-marked g c = table_marked c.args.sw.now c.mark.new.self (g.V.Vault.outside c.args.vault.now) c.args.at c.requires.table c.sound.ensures c.sound-2.ensures c.mark.ensures.written c.mark.ensures.stands
+
+pub returns-clause-spares : goal.returns-clause-spares
+returns-clause-spares g c =
+    but_written c.args.sw.now c.mark.new.self (g.V.Vault.outside c.args.vault.now) c.args.at c.sound.ensures
+    (marked_one c.args.sw.now c.mark.new.self (g.V.Vault.outside c.args.vault.now) c.args.at c.requires.table c.sound.ensures c.sound-2.ensures c.mark.ensures.written c.mark.ensures.stands)
