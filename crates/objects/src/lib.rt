@@ -15,3 +15,4 @@ mod places;
 
 pub use joint_ops;
 pub use joint_ops::{OpFault, Value, obj_layout, swizzle};
+pub use structure_rows;

@@ -1,6 +1,7 @@
 //! Bodies of stored procedures, in turn over one area: what is known is forgotten where the next one is damaged. Each is asked of a new store, since
 //! nothing is said of one after a fault.
-ghost use Rattle.std.specs.Prelude.{◌≡◌, true, OnOk};
+ghost use Rattle.std.specs.Prelude.{◌≡◌, true, IfOk, OnOk};
+ghost use Rattle.objects.specs.proc_values.Reading.{IsPlaceOf};
 
 use crate::procedure_store::{
     BARE, CODE, NO_CODE, ONE_SLOT, SCOPE, SCOPED, TEXT, TEXT_FOR_CODE, TEXT_FOR_SCOPE, store,
@@ -129,7 +130,8 @@ const ROWS: [Row; 16] = [
 // The body of the procedure of a PID.
 fn body(objects: &mut Objects, vault: &mut MemoryVault, pid: u64) -> Result<Body, SwizzleFault>
     requires { vault.old.alive ≡ true }
-    ensures { OnOk result (vault.new.alive ≡ true) }
+    ensures alive { OnOk result (vault.new.alive ≡ true) }
+    ensures place { IfOk result (λ body. IsPlaceOf objects.new body.code body.place) }
 {
     let procedure = fetch(objects, vault, pid)?;
     objects.body_of(vault, procedure)
@@ -144,7 +146,7 @@ fn is_body(body: Body, code: u32, scope: Option<u32>) -> bool {
         && body.frame.num_params == 1
         && body.frame.ref_params == 2
         && body.place.count == 1
-        && body.place.first == code + 6
+        && body.place.first.wrapping_sub(code) == 6
 }
 
 // Whether the body of a row's procedure is what it must be.

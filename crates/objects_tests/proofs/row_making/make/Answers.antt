@@ -1,7 +1,7 @@
 use Rattle.std.proofs.Common.{inl, inr, ◌≡◌, ◌⊎◌, ℕ, zero, suc, [], ◌∷◌}
 use Rattle.objects.specs.swizzle.Heap.{Heap, IsHeld}
 use Rattle.objects.specs.heap_places.Filling.{AreNear}
-use Rattle.structure_rows.specs.Rows.{named}
+use Rattle.objects.specs.structure_rows.Rows.{named}
 use Rattle.objects_tests.proofs.row_making.make.Goals as goal
 
 near-one : (here : Heap) (to : ℕ) → (to ≡ 0) ⊎ IsHeld here to → AreNear here (named (to ∷ []))
