@@ -1,7 +1,6 @@
 //! Structures of stored classes, made of their rows and read again.
-ghost use Rattle.std.specs.Prelude.{◌≡◌, ◌⊎◌, true, IfSome, OnOk};
+ghost use Rattle.std.specs.Prelude.{◌≡◌, ◌⊎◌, true, IfSome};
 ghost use Rattle.objects.specs.swizzle.Heap.{IsHeld};
-ghost use Rattle.objects.specs.swizzle.Touch.{Keeps};
 ghost use Rattle.objects.specs.Makes.{HasRows};
 
 use crate::store::{CODE, FIRST, fetch, store};
@@ -99,43 +98,28 @@ const ROWS: [Row; 9] = [
 ];
 
 // A structure of a class with one reference; none where the class has other rows.
-fn make(objects: &mut Objects, class: ClassRows, nums: &[i32], to: u32) -> Option<u32>
+fn make(objects: &mut Objects, class: ClassRows, row: &Row, first: u32, code: u32) -> Option<u32>
     requires class { HasRows objects.old class }
-    requires to { (to ≡ 0) ⊎ IsHeld objects.old to }
+    requires first { IsHeld objects.old first }
+    requires code { IsHeld objects.old code }
     ensures held { IfSome result (IsHeld objects.new) }
-    ensures keeps { Keeps objects.old objects.new }
+    ensures code { IsHeld objects.new code }
 {
-    if nums.len() != class.fields.rows.nums as usize || class.fields.rows.refs != 1 {
+    if row.nums.len() != class.fields.rows.nums as usize || class.fields.rows.refs != 1 {
         return None;
     }
-    match objects.make_from::<MemoryVault>(class, nums, &[to]) {
+    let to = word(row.is_nil, first);
+    match objects.make_from::<MemoryVault>(class, row.nums, &[to]) {
         Ok(at) => Some(at),
         Err(_) => None,
     }
 }
 
-// A structure of the class of a constant of a code object, which refers to an object or to nothing.
-fn make_named(
-    objects: &mut Objects,
-    vault: &mut MemoryVault,
-    code: u32,
-    row: &Row,
-    first: u32,
-) -> Option<u32>
-    requires alive { vault.old.alive ≡ true }
-    requires code { IsHeld objects.old code }
-    requires first { IsHeld objects.old first }
-    ensures { IfSome result (λ at. IsHeld objects.new at × (vault.new.alive ≡ true) × Keeps objects.old objects.new) }
+// The word of nothing, or that of an object.
+fn word(is_nil: bool, first: u32) -> u32
+    ensures { (result ≡ 0) ⊎ (result ≡ first) }
 {
-    match objects.class_rows(vault, code, row.constant) {
-        Ok(Some(class)) => {
-            if row.is_nil {
-                return make(objects, class, row.nums, 0);
-            }
-            make(objects, class, row.nums, first)
-        }
-        _ => None,
-    }
+    if is_nil { 0 } else { first }
 }
 
 // Whether the field of a new structure is what it must be.
@@ -150,8 +134,13 @@ fn is_right(
     requires code { IsHeld objects.old code }
     requires first { IsHeld objects.old first }
 {
-    let Some(at) = make_named(objects, vault, code, row, first) else {
-        return matches!(row.wanted, Wanted::None);
+    let class = match objects.class_rows(vault, code, row.constant) {
+        Ok(Some(class)) => class,
+        _ => return false,
+    };
+    let at = match make(objects, class, row, first, code) {
+        Some(at) => at,
+        None => return matches!(row.wanted, Wanted::None),
     };
     match objects.get_field(vault, Some(at), code, row.constant, row.field) {
         Ok(value) => is_wanted(value, row.wanted, first),
