@@ -11,7 +11,7 @@ use Rattle.joint_ops.specs.swizzle.declared.fault.SwizzleFault.{SwizzleFault}
 use Rattle.joint_ops.specs.swizzle.declared.fault.SwizzleFault.TheVariants.{AreaFull, Vault}
 use Rattle.ps_stepping.specs.ps_meaning.Meaning.{Store}
 use Rattle.ps_stepping.specs.Config.{Config}
-use Rattle.ps_stepping.specs.Steps.{Step, Goes}
+use Rattle.ps_stepping.specs.Steps.{Step, Goes, Stuck}
 use Rattle.joint_ops.specs.World.{IsWorld, Carries, Stands, BreaksOff}
 use Rattle.joint_ops.specs.Made.{IsShort}
 use Rattle.machine_core.specs.declared.machine.Machine.{Machine}
@@ -63,6 +63,11 @@ module _ (here now : area.Heap) (before after : Outside Space) where
   short-full s store next weight fault step makes short =
       subst (λ (x : SwizzleFault). BreaksBy before after here.size s x) (sym short.fault_is)
       (refl, short.full, inl (record { next = next; step_is = step; before = store; weight = weight; makes = makes; words = short.words }))
+
+-- What is damaged breaks off a step that isn't there.
+pub damaged-stuck : (before after : Outside Space) (size : ℕ) (s : Step) (fault : SwizzleFault) (pid found wanted : ℕ) → s ≡ Stuck
+    → fault ≡ Vault (vault.Damaged pid found wanted) → BreaksBy before after size s fault
+damaged-stuck before after size s fault pid found wanted stuck is = subst (λ (x : SwizzleFault). BreaksBy before after size s x) (sym is) stuck
 
 -- the objects are no part of what is said of the stacks
 pub sound-kept : (m : Machine) (now : area.Heap) → IsSound m → IsSound (record m { objects = now })
