@@ -99,6 +99,7 @@ fn text_pair<V: Vault>(
     requires alive { V.alive vault.old }
     requires node { IsNode sw.old node }
     ensures read { ReadsPair by_texts (IsTextPair sw.new) (place sw.old (V.outside vault.old)) node result }
+    ensures held { IfOk result (λ pair. IsTextHeld sw.new pair.0 × IsHeld sw.new pair.1) }
     ensures grows { OnOk result (Grows sw.old sw.new (V.outside vault.old) (V.outside vault.new)) }
     ensures keeps { OnOk result (Keeps sw.old sw.new) }
     ensures alive { OnOk result (V.alive vault.new) }
@@ -122,6 +123,7 @@ fn int_pair<V: Vault>(
     requires alive { V.alive vault.old }
     requires node { IsNode sw.old node }
     ensures read { ReadsPair by_ints (IsIntPair sw.new) (place sw.old (V.outside vault.old)) node result }
+    ensures held { IfOk result (λ pair. IsHeld sw.new pair.1) }
     ensures grows { OnOk result (Grows sw.old sw.new (V.outside vault.old) (V.outside vault.new)) }
     ensures keeps { OnOk result (Keeps sw.old sw.new) }
     ensures alive { OnOk result (V.alive vault.new) }
@@ -171,6 +173,7 @@ pub fn next_text<V: Vault>(
     requires after { IfSome after (IsTextHeld sw.old) }
     requires table { IfSome table (IsHeld sw.old) }
     ensures next { FindsPair by_texts (IsTextPair sw.new) (place sw.old (V.outside vault.old)) table (string_of sw.old after) result }
+    ensures held { IfOk result (λ found. IfSome found (λ pair. IsTextHeld sw.new pair.0 × IsHeld sw.new pair.1)) }
     ensures grows { OnOk result (Grows sw.old sw.new (V.outside vault.old) (V.outside vault.new)) }
     ensures keeps { OnOk result (Keeps sw.old sw.new) }
     ensures alive { OnOk result (V.alive vault.new) }
@@ -222,6 +225,7 @@ pub fn next_int<V: Vault>(
     requires after { IfSome after (λ key. is_int key ≡ true) }
     requires table { IfSome table (IsHeld sw.old) }
     ensures next { FindsPair by_ints (IsIntPair sw.new) (place sw.old (V.outside vault.old)) table after result }
+    ensures held { IfOk result (λ found. IfSome found (λ pair. IsHeld sw.new pair.1)) }
     ensures grows { OnOk result (Grows sw.old sw.new (V.outside vault.old) (V.outside vault.new)) }
     ensures keeps { OnOk result (Keeps sw.old sw.new) }
     ensures alive { OnOk result (V.alive vault.new) }

@@ -5,6 +5,7 @@ use Rattle.table_nodes.specs.Steps.{place}
 use Rattle.table_lib.specs.Nexts.{IsIntPair, FindsNode, after_key}
 use Rattle.table_lib.proofs.NextLaws.{pairs_refused, pairs_none, pairs_some, pairs_fault}
 use Rattle.table_nodes.proofs.StepLaws.{touches_then}
+use Rattle.table_nodes.proofs.of_heap_places.of_swizzle.TouchLaws.{keeps-trans}
 use Rattle.table_lib.proofs.next.next_int.Goals as goal
 
 pub returns-in-Err-clause-next : goal.returns-in-Err-clause-next
@@ -37,3 +38,6 @@ returns-in-Err-int_pair-clause-next g c =
 pub returns-in-Ok-int_pair-clause-grows : goal.returns-in-Ok-int_pair-clause-grows
 returns-in-Ok-int_pair-clause-grows g c =
     touches_then (place c.args.sw.now (g.V.Vault.outside c.args.vault.now)) (place c.int_node.new.sw (g.V.Vault.outside c.int_node.new.vault)) (place c.int_pair.new.sw (g.V.Vault.outside c.int_pair.new.vault)) c.in-Ok.ensures.grows c.in-Ok-int_pair.ensures.grows
+
+pub returns-in-Ok-int_pair-clause-keeps : goal.returns-in-Ok-int_pair-clause-keeps
+returns-in-Ok-int_pair-clause-keeps g c = keeps-trans c.args.sw.now c.int_node.new.sw c.int_pair.new.sw c.in-Ok.ensures.keeps c.in-Ok-int_pair.ensures.keeps

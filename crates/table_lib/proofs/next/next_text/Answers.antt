@@ -5,6 +5,7 @@ use Rattle.table_nodes.specs.Steps.{place}
 use Rattle.table_lib.specs.Nexts.{IsTextPair, FindsNode, after_key, string_of}
 use Rattle.table_lib.proofs.NextLaws.{pairs_refused, pairs_none, pairs_some, pairs_fault}
 use Rattle.table_nodes.proofs.StepLaws.{touches_then}
+use Rattle.table_nodes.proofs.of_heap_places.of_swizzle.TouchLaws.{keeps-trans}
 use Rattle.table_lib.proofs.next.next_text.Goals as goal
 
 pub returns-in-Err-clause-next : goal.returns-in-Err-clause-next
@@ -37,3 +38,6 @@ returns-in-Err-text_pair-clause-next g c =
 pub returns-in-Ok-text_pair-clause-grows : goal.returns-in-Ok-text_pair-clause-grows
 returns-in-Ok-text_pair-clause-grows g c =
     touches_then (place c.args.sw.now (g.V.Vault.outside c.args.vault.now)) (place c.text_node.new.sw (g.V.Vault.outside c.text_node.new.vault)) (place c.text_pair.new.sw (g.V.Vault.outside c.text_pair.new.vault)) c.in-Ok.ensures.grows c.in-Ok-text_pair.ensures.grows
+
+pub returns-in-Ok-text_pair-clause-keeps : goal.returns-in-Ok-text_pair-clause-keeps
+returns-in-Ok-text_pair-clause-keeps g c = keeps-trans c.args.sw.now c.text_node.new.sw c.text_pair.new.sw c.in-Ok.ensures.keeps c.in-Ok-text_pair.ensures.keeps

@@ -29,3 +29,6 @@ returns-in-Err-value-clause-read g c a named has some =
 pub returns-in-Ok-value-clause-grows : goal.returns-in-Ok-value-clause-grows
 returns-in-Ok-value-clause-grows g c =
     touches_then (place c.args.sw.now (g.V.Vault.outside c.args.vault.now)) (place c.text_key.new.sw (g.V.Vault.outside c.text_key.new.vault)) (place c.value.new.sw (g.V.Vault.outside c.value.new.vault)) c.in-Ok.ensures.grows c.in-Ok-value.ensures.grows
+
+pub returns-in-Ok-value-clause-held : goal.returns-in-Ok-value-clause-held
+returns-in-Ok-value-clause-held g c = (key_held_kept c.text_key.new.sw c.value.new.sw (Text c.in-Ok.key) c.in-Ok-value.ensures.keeps c.in-Ok.ensures.held, c.in-Ok-value.ensures.held)
