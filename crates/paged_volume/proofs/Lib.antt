@@ -1,0 +1,10 @@
+pub mod Bounds
+pub mod Numbers
+pub mod Naming
+pub mod Reading
+pub mod Tests
+pub mod Held
+pub mod Tables
+pub mod Looked
+pub mod Staying
+pub mod Putting

@@ -1,0 +1,186 @@
+-- What is committed stays in an image while pages are written that it doesn't name.
+use Rattle.std.proofs.Common.{◌≡◌, ◌≢◌, ◌⊎◌, inl, inr, ℕ, ◌+◌, ◌-◌, ◌*◌, ◌/◌, ◌%◌, ◌==◌, ◌<◌, ◌≤◌, Bool, true, false, ◌||◌, List, ◌++◌, length, get_or, take, drop, refl, sym, ◌∙◌, ap, subst, arith, Option, Some}
+use Rattle.std.proofs.lemmas.Bool.{cases_lt, cases_eq, both_ways}
+use Rattle.ps_port.specs.Disk.{Torn, IsOutside}
+use Rattle.page_map.specs.Pages.{is_free, names}
+use Rattle.shadow_volume.specs.Layout.{number_at, root_at, selects}
+use Rattle.shadow_volume.specs.Found.{Held, note_at}
+use Rattle.shadow_volume.proofs.Numbers.{number_torn}
+use Rattle.paged_volume.specs.Layout.{capacity_pages, maps_at, in_map_page}
+use Rattle.paged_volume.specs.Found.{byte_named, bytes_named, numbers_of, unnamed}
+use Rattle.paged_volume.specs.Standing.{IsFit, IsTable, IsNamedOnce, IsSpare, AreUnnamed, Says, HasHead, HasRoot, HasNames, index_of, maps_of, map_names, place_by, logical_of, map_count, numbers_of_table, held_in, committed_in}
+use Rattle.paged_volume.specs.declared.table.Table.{Table}
+use Rattle.paged_volume.specs.declared.committed.Committed.{Committed}
+use Rattle.paged_volume.proofs.Bounds.{are_low}
+use Rattle.paged_volume.proofs.Numbers.{names_append, unnamed_low}
+use Rattle.paged_volume.proofs.Tables.{names_number, unnamed_is_not, both_or}
+use Rattle.paged_volume.proofs.Reading.{index_first, maps_at_none, maps_at_one, place_in}
+use Rattle.paged_volume.proofs.Held.{byte_same, byte_none, byte_some, bytes_alike, held_says}
+use Rattle.paged_volume.proofs.Tests.{root_most}
+
+-- what a page isn't that nothing committed names
+pub record IsApart (table : Table) (page : ℕ) : Type 0 where
+  pub low : 4 ≤ page
+  pub high : page < table.committed.pages
+  pub index : (i : ℕ) → i < table.committed.depth → index_of table.named.items i ≢ page
+  pub maps : (i : ℕ) → i < map_count table.committed → maps_of table.named.items i ≢ page
+  pub pages : (i : ℕ) → i < logical_of table.committed → get_or table.map.committed i 0 ≢ page
+
+not_named : (number : ℕ → ℕ) (count page i : ℕ) → names (numbers_of number count) page ≡ false → i < count → number i ≢ page
+not_named number count page i none lt same = both_ways (names (numbers_of number count) page) none (subst (λ (n : ℕ). names (numbers_of number count) n ≡ true) same (names_number number count i lt))
+
+pub apart_spare : (table : Table) (page : ℕ) → IsSpare table page → IsApart table page
+apart_spare table page spare =
+    let low = unnamed_low table.committed.pages (numbers_of_table table) page spare.unnamed_is in
+    let none = unnamed_is_not table.committed.pages (numbers_of_table table) page spare.unnamed_is in
+    let maps = map_names table.committed.depth table.named.items (map_count table.committed) in
+    let pages = numbers_of (λ page. get_or table.map.committed page 0) (logical_of table.committed) in
+    let one = both_or (names maps page) (names pages page) (sym (names_append maps pages page) ∙ none) in
+    let index = numbers_of (index_of table.named.items) table.committed.depth in
+    let map = numbers_of (maps_of table.named.items) (map_count table.committed) in
+    let two = both_or (names index page) (names map page) (sym (names_append index map page) ∙ one.0) in
+    record {
+      low = low.0;
+      high = low.1;
+      index = λ i lt. not_named (index_of table.named.items) table.committed.depth page i two.0 lt;
+      maps = λ i lt. not_named (maps_of table.named.items) (map_count table.committed) page i two.1 lt;
+      pages = λ i lt. not_named (λ page. get_or table.map.committed page 0) (logical_of table.committed) page i one.1 lt;
+    }
+
+-- a number in a page that isn't written
+pub number_stays : (page other from : ℕ) (old new : List ℕ) → Torn (4096 * page) 4096 old new → other ≢ page → 4096 * other ≤ from → from + 4 ≤ 4096 * other + 4096 → 4096 * other + 4096 ≤ length old →
+    number_at from 4 new ≡ number_at from 4 old
+number_stays page other from old new torn apart low high long = number_torn (4096 * page) 4096 from 4 old new torn (omega arith) (elim (cases_lt other page) [
+  | inl before ↦ inl (omega arith)
+  | inr behind ↦ elim (cases_lt page other) [ inl after ↦ inr (omega arith) | inr same ↦ absurd (apart (omega arith)) ]
+])
+
+-- bytes of pages of which none is written
+pub bytes_stay : (number : ℕ → ℕ) (count page : ℕ) (old new : List ℕ) → Torn (4096 * page) 4096 old new → ((i : ℕ) → i < count → number i ≢ 0 → (number i ≢ page) × (4096 * number i + 4096 ≤ length old)) →
+    bytes_named number count new ≡ bytes_named number count old
+bytes_stay number count page old new torn apart = bytes_alike number number count new old (λ k lt. elim (cases_eq (number (k / 4096)) 0) [
+  | inl none ↦ byte_none number new k none ∙ sym (byte_none number old k none)
+  | inr some ↦
+      let is = apart (k / 4096) (omega arith) some in
+      let long = is.1 in
+      byte_some number new k some
+      ∙ torn.elsewhere (4096 * number (k / 4096) + k % 4096) (omega arith) (outside (number (k / 4096)) (k % 4096) (omega arith) is.0)
+      ∙ sym (byte_some number old k some)
+])
+  where
+    outside : (other rest : ℕ) → rest < 4096 → other ≢ page → IsOutside (4096 * page) 4096 (4096 * other + rest)
+    outside other rest lt apart = elim (cases_lt other page) [
+      | inl before ↦ inl (omega arith)
+      | inr behind ↦ elim (cases_lt page other) [ inl after ↦ inr (omega arith) | inr same ↦ absurd (apart (omega arith)) ]
+    ]
+
+root_page : (second : Bool) → (8192 ≤ root_at second) × (root_at second + 4096 ≤ 16384)
+root_page true = (omega arith, omega arith)
+root_page false = (omega arith, omega arith)
+
+-- a write of a page that nothing committed names, whole or torn, leaves what is committed
+module _ (table : Table) (page : ℕ) (old new : List ℕ) (fit : IsFit table.committed) (once : IsNamedOnce table) (apart : IsApart table page) (torn : Torn (4096 * page) 4096 old new) (says : Says table old) where
+  long : 4096 * table.committed.pages ≤ length old
+  long = says.head.long
+
+  root_number : (skip width : ℕ) → skip + width ≤ 4096 → number_at (root_at table.committed.second + skip) width new ≡ number_at (root_at table.committed.second + skip) width old
+  root_number skip width fits =
+      let low = apart.low in
+      let high = apart.high in
+      let bytes = long in
+      let root = root_page table.committed.second in
+      let most = root.1 in
+      number_torn (4096 * page) 4096 (root_at table.committed.second + skip) width old new torn (omega arith) (inl (omega arith))
+
+  head_number : (place width : ℕ) → place + width ≤ 12 → number_at place width new ≡ number_at place width old
+  head_number place width fits =
+      let low = apart.low in
+      let high = apart.high in
+      let bytes = long in
+      number_torn (4096 * page) 4096 place width old new torn (omega arith) (inl (omega arith))
+
+  head_byte : (place : ℕ) → place < 16384 → get_or new place 0 ≡ get_or old place 0
+  head_byte place lt =
+      let low = apart.low in
+      let high = apart.high in
+      let bytes = long in
+      torn.elsewhere place (omega arith) (inl (omega arith))
+
+  map_number_stays : (i : ℕ) → i < map_count table.committed →
+      number_at (maps_at table.committed.second table.committed.depth (get_or table.named.items 0 0) + 4 * i) 4 new ≡ number_at (maps_at table.committed.second table.committed.depth (get_or table.named.items 0 0) + 4 * i) 4 old
+  map_number_stays i lt = elim (cases_eq table.committed.depth 0) [
+    | inl none ↦
+        let few = (are_low table.committed fit).few in
+        ap (λ (n : ℕ). number_at (n + 4 * i) 4 new) (maps_at_none table.committed.second table.committed.depth (get_or table.named.items 0 0) none)
+        ∙ ap (λ (n : ℕ). number_at n 4 new) (omega arith)
+        ∙ root_number (28 + 4 * i) 4 (omega arith)
+        ∙ ap (λ (n : ℕ). number_at n 4 old) (omega arith)
+        ∙ ap (λ (n : ℕ). number_at (n + 4 * i) 4 old) (sym (maps_at_none table.committed.second table.committed.depth (get_or table.named.items 0 0) none))
+    | inr deep ↦
+        let few = (are_low table.committed fit).few in
+        let some : 0 < table.committed.depth = positive table.committed.depth deep in
+        let low = unnamed_low table.committed.pages _ (index_of table.named.items 0) (once.index 0 some) in
+        let high = low.1 in
+        let first = index_first table.named.items 0 in
+        let bytes = long in
+        ap (λ (n : ℕ). number_at (n + 4 * i) 4 new) (maps_at_one table.committed.second table.committed.depth (get_or table.named.items 0 0) deep)
+        ∙ number_stays page (get_or table.named.items 0 0) (4096 * get_or table.named.items 0 0 + 4 * i) old new torn (λ e. apart.index 0 some (first ∙ e)) (omega arith) (omega arith) (omega (arith, first))
+        ∙ ap (λ (n : ℕ). number_at (n + 4 * i) 4 old) (sym (maps_at_one table.committed.second table.committed.depth (get_or table.named.items 0 0) deep))
+  ]
+    where
+      positive : (depth : ℕ) → depth ≢ 0 → 0 < depth
+      positive depth ne = elim (cases_lt 0 depth) [ inl some ↦ some | inr none ↦ absurd (ne (omega arith)) ]
+
+  page_number_stays : (k : ℕ) → k < logical_of table.committed → number_at (place_by table.named.items k) 4 new ≡ number_at (place_by table.named.items k) 4 old
+  page_number_stays k lt =
+      let i = k / 1024 in
+      let rest = k % 1024 in
+      let i_lt : i < map_count table.committed = omega arith in
+      let low = unnamed_low table.committed.pages _ (maps_of table.named.items i) (once.maps i i_lt) in
+      let high = low.1 in
+      let k_is : 1024 * i + rest ≡ k = omega arith in
+      let place : place_by table.named.items k ≡ 4096 * maps_of table.named.items i + 4 * rest = ap (λ (n : ℕ). place_by table.named.items n) (sym k_is) ∙ place_in table.named.items i rest (omega arith) in
+      let bytes = long in
+      number_stays page (maps_of table.named.items i) (place_by table.named.items k) old new torn (apart.maps i i_lt) (omega (arith, place)) (omega (arith, place)) (omega arith)
+
+  pub says_stays : Says table new
+  says_stays =
+      let longer = torn.no_shorter in
+      let bytes = long in
+      let names = says.names in
+      let commits : number_at (root_at table.committed.second) 8 new ≡ number_at (root_at table.committed.second) 8 old =
+      ap (λ (n : ℕ). number_at n 8 new) (omega arith) ∙ root_number 0 8 (omega arith) ∙ ap (λ (n : ℕ). number_at n 8 old) (omega arith) in
+      record {
+        head = record {
+          long = omega arith;
+          opened = head_byte 0 (omega arith) ∙ says.head.opened;
+          spelled = head_number 1 6 (omega arith) ∙ says.head.spelled;
+          format_is = head_number 7 1 (omega arith) ∙ says.head.format_is;
+          pages_are = head_number 8 4 (omega arith) ∙ says.head.pages_are;
+        };
+        selected = ap (λ (byte : ℕ). byte % 2 == 1) (head_byte 4096 (omega arith)) ∙ says.selected;
+        root = record {
+          note_is = (λ j. record { commits = commits j; used = root_number 8 8 (omega arith) j; directory = root_number 16 8 (omega arith) j }) ∙ says.root.note_is;
+          logical = root_number 24 4 (omega arith) ∙ says.root.logical;
+          depth_is = root_number 4092 4 (omega arith) ∙ says.root.depth_is;
+        };
+        names = record {
+          index = λ i lt. root_number 28 4 (omega arith) ∙ names.index i lt;
+          maps = λ i lt. map_number_stays i lt ∙ names.maps i lt;
+          numbers = λ k lt. page_number_stays k lt ∙ names.numbers k lt;
+        };
+      }
+
+  -- the pages that are committed
+  pub committed_stays : bytes_named (λ page. get_or table.map.committed page 0) (logical_of table.committed) new ≡ bytes_named (λ page. get_or table.map.committed page 0) (logical_of table.committed) old
+  committed_stays = bytes_stay (λ page. get_or table.map.committed page 0) (logical_of table.committed) page old new torn (λ i lt some.
+      let low = unnamed_low table.committed.pages _ (get_or table.map.committed i 0) (once.pages i lt) in
+      let high = low.1 in
+      let bytes = long in
+      (apart.pages i lt, omega arith))
+
+  pub held_stays : held_in new ≡ held_in old
+  held_stays =
+      held_says table new fit once says_stays
+      ∙ ap (λ (xs : List ℕ). Some (record { note = table.committed.note; bytes = xs })) committed_stays
+      ∙ sym (held_says table old fit once says)

@@ -1,0 +1,54 @@
+use Rattle.std.proofs.Common.{ℕ, List, sym, subst, ap, ◌∙◌, ◌*◌}
+use Rattle.page_map.specs.Map.{MapView, with_staged}
+use Rattle.paged_volume.proofs.Putting.{is_put, put_as, put_images, put_alive, put_contents, put_stays, put_staging, write_as, written_as, holds_as}
+use Rattle.paged_volume.proofs.volume.Volume.put_page.Goals as goal
+
+pub returns-in-Ok-clause-put : goal.returns-in-Ok-clause-put
+returns-in-Ok-clause-put g c =
+    let o = g.H.Host.outside in
+    let v = c.args.self.now in
+    let a = o v.host in
+    let b = o c.write_at.new.self in
+    let put = put_as v.table c.place_for.new.map c.replace.new.self c.args.page c.in-Some.number c.requires.alive.is_table c.in-Some.ensures c.replace.ensures in
+    put_contents a b v.live v.table c.args.page c.in-Some.number c.replace.new.self c.requires.alive c.requires.page put (write_as a b c.page_at.result c.in-Some.number _ c.page_at.ensures c.requires.size c.write_at.ensures.images)
+    c.args.from.now c.requires.size (g.met.H.Host.is_image v.host) (written_as a b c.page_at.result c.in-Some.number c.args.from.now c.page_at.ensures c.in-Ok.ensures.contents)
+
+pub returns-in-Ok-clause-stays : goal.returns-in-Ok-clause-stays
+returns-in-Ok-clause-stays g c =
+    let o = g.H.Host.outside in
+    let v = c.args.self.now in
+    let a = o v.host in
+    let b = o c.write_at.new.self in
+    let put = put_as v.table c.place_for.new.map c.replace.new.self c.args.page c.in-Some.number c.requires.alive.is_table c.in-Some.ensures c.replace.ensures in
+    put_stays a b v.live v.table c.args.page c.in-Some.number c.replace.new.self c.requires.alive c.requires.page put (write_as a b c.page_at.result c.in-Some.number _ c.page_at.ensures c.requires.size c.write_at.ensures.images)
+    c.args.from.now c.requires.size (g.met.H.Host.is_image v.host) (holds_as a b c.page_at.result c.in-Some.number c.args.from.now c.page_at.ensures c.in-Ok.ensures.written)
+
+pub returns-in-Ok-clause-stages : goal.returns-in-Ok-clause-stages
+returns-in-Ok-clause-stages g c =
+    let o = g.H.Host.outside in
+    let v = c.args.self.now in
+    let a = o v.host in
+    let b = o c.write_at.new.self in
+    let put = put_as v.table c.place_for.new.map c.replace.new.self c.args.page c.in-Some.number c.requires.alive.is_table c.in-Some.ensures c.replace.ensures in
+    put_staging a b v.live v.table c.args.page c.in-Some.number c.replace.new.self c.requires.alive c.requires.page put (write_as a b c.page_at.result c.in-Some.number _ c.page_at.ensures c.requires.size c.write_at.ensures.images)
+    _ c.write_at.result c.write_at.ensures.call
+
+pub returns-in-Ok-clause-alive : goal.returns-in-Ok-clause-alive
+returns-in-Ok-clause-alive g c =
+    let o = g.H.Host.outside in
+    let v = c.args.self.now in
+    let a = o v.host in
+    let b = o c.write_at.new.self in
+    let put = put_as v.table c.place_for.new.map c.replace.new.self c.args.page c.in-Some.number c.requires.alive.is_table c.in-Some.ensures c.replace.ensures in
+    put_alive a b v.live v.table c.args.page c.in-Some.number c.replace.new.self c.requires.alive c.requires.page put (write_as a b c.page_at.result c.in-Some.number _ c.page_at.ensures c.requires.size c.write_at.ensures.images)
+
+pub returns-in-Err-clause-stages : goal.returns-in-Err-clause-stages
+returns-in-Err-clause-stages g c =
+    let o = g.H.Host.outside in
+    let v = c.args.self.now in
+    let a = o v.host in
+    let b = o c.write_at.new.self in
+    let next = with_staged c.place_for.new.map c.args.page c.in-Some.number in
+    let put = is_put v.table c.place_for.new.map c.args.page c.in-Some.number c.requires.alive.is_table c.in-Some.ensures in
+    put_staging a b v.live v.table c.args.page c.in-Some.number next c.requires.alive c.requires.page put (write_as a b c.page_at.result c.in-Some.number _ c.page_at.ensures c.requires.size c.write_at.ensures.images)
+    _ c.write_at.result c.write_at.ensures.call

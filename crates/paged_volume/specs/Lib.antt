@@ -1,0 +1,7 @@
+pub mod Layout
+pub mod Found
+pub mod Standing
+pub mod Attaching
+pub mod Naming
+pub mod Staging
+pub use Rattle.shadow_volume.specs as shadow_volume

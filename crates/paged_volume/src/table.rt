@@ -1,0 +1,12 @@
+use crate::committed::Committed;
+use page_map::PageMap;
+
+/// What is known of a volume's pages: what is committed, which page each logical page stands in, and the pages that say so.
+#[derive(Drop)]
+pub struct Table {
+    pub committed: Committed,
+    /// Of each logical page the page that it stands in.
+    pub map: PageMap,
+    /// The number of the index page, and then those of the map pages; 0 for none.
+    pub named: Vec<u32>,
+}

@@ -1,0 +1,179 @@
+//! A volume over its host.
+
+ghost use Rattle.std.specs.Prelude.{◌≡◌, ℕ, ◌+◌, ◌*◌, ◌<◌, ◌≤◌, List, length, Option, Some, true, false, OnOk, OnErr, IfOk, IfErr};
+ghost use Rattle.std.specs.Option.{option_map};
+ghost use Rattle.ps_port.specs.ps_outside.Past.{KeepsPast};
+ghost use Rattle.ps_port.specs.ps_outside.Outside.{After, TellsPrefix, ToldAll, IsPutCall, Rose};
+ghost use Rattle.shadow_volume.specs.Found.{Held};
+ghost use Rattle.shadow_volume.specs.Attaching.{Looks};
+ghost use Rattle.paged_volume.specs.Layout.{capacity_pages};
+ghost use Rattle.paged_volume.specs.Standing.{IsAlive, seen};
+ghost use Rattle.paged_volume.specs.Attaching.{IsAttached, IsRefused};
+ghost use Rattle.paged_volume.specs.Staging.{page_of, with_page, Stages, Marks, IsPutFault};
+
+use crate::finding::find;
+use crate::layout::page_at;
+use crate::placing::place_for;
+use crate::table::Table;
+use ps_port::{Host, HostFailed};
+use shadow_volume::{Note, OpenFault};
+use std::alloc::Global;
+
+/// A host without a volume, and why there is none.
+#[derive(Drop)]
+pub struct Refused<H: Host> {
+    pub cause: OpenFault,
+    pub host: H,
+}
+
+/// Why a call of a volume failed. After Device the volume isn't alive.
+#[derive(Clone, Copy, Debug, PartialEq, Eq)]
+pub enum VolumeFault {
+    /// A call of the device failed, and its count of faults rose.
+    Device,
+    /// There are too few pages: so many are held, so many more are wanted, and the volume has so many. Nothing was written, and what was staged
+    /// stays so.
+    Full { held: u32, wanted: u32, pages: u32 },
+}
+
+/// A volume over its host: what is committed in it, and in which page each logical page stands as it is staged.
+#[derive(Drop)]
+pub struct Volume<H: Host> {
+    host: H,
+    table: Table,
+    live: bool,
+}
+
+impl<H: Host> Volume<H> {
+    /// Attaches the volume of a host, by a sync and then the tests of its file. The map pages are read once each, and eight more calls of the
+    /// device are made at most. It leaves the file as it is, also where there is no volume in it. Memory is taken here alone.
+    pub fn attach(alloc: Global, host: H) -> Result<Volume<H>, Refused<H>>
+        ensures ok { IfOk result (λ volume. IsAttached (H.outside host) (H.outside volume.host) volume.live volume.table) }
+        ensures err { IfErr result (λ refused. IsRefused (H.outside host) (H.outside refused.host) refused.cause) }
+    {
+        let mut host = host;
+        match find(alloc, &mut host) {
+            Ok(table) => Ok(Volume {
+                host,
+                table,
+                live: true,
+            }),
+            Err(cause) => Err(Refused { cause, host }),
+        }
+    }
+
+    /// Reads a page as it is staged: what was put last, else what is committed, else zeros. It takes one call of the device at most.
+    pub fn read_page(&mut self, page: u32, into: &mut [u8]) -> Result<(), VolumeFault>
+        requires alive { IsAlive self.old.live self.old.table (H.outside self.old.host) }
+        requires page { page < capacity_pages self.old.table.committed.pages }
+        requires size { length into.old ≡ 4096 }
+        ensures read { OnOk result ((held : Held) → (seen self.old.table (H.outside self.old.host)).contents (Some held) → into.new ≡ page_of page held) }
+        ensures size { length into.new ≡ 4096 }
+        ensures looks { Looks (H.outside self.old.host) (H.outside self.new.host) 1 }
+        ensures same { self.new.table ≡ self.old.table }
+        ensures alive { OnOk result (IsAlive self.new.live self.new.table (H.outside self.new.host)) }
+        ensures dies { OnErr result (self.new.live ≡ false) }
+        ensures cause { OnErr result (Rose (H.outside self.old.host).device_faults (H.outside self.new.host).device_faults) }
+    {
+        let number = self.table.map.staged(page);
+        if number == 0 {
+            into.fill(0);
+            return Ok(());
+        }
+        match self.host.read_at(page_at(number), into) {
+            Ok(()) => Ok(()),
+            Err(_) => {
+                self.live = false;
+                Err(VolumeFault::Device)
+            }
+        }
+    }
+
+    /// Stages a page, with one call of the device: in a page of its own that nothing else names, the same one until the next commit. In what a crash leaves
+    /// the same volume is found as before, also where the call fails. Full exactly where the page has no page of its own since the last commit and none
+    /// is free.
+    pub fn put_page(&mut self, page: u32, from: &[u8]) -> Result<(), VolumeFault>
+        requires alive { IsAlive self.old.live self.old.table (H.outside self.old.host) }
+        requires page { page < capacity_pages self.old.table.committed.pages }
+        requires size { length from.now ≡ 4096 }
+        ensures put { OnOk result ((found : Option Held) → (seen self.new.table (H.outside self.new.host)).contents found →
+            After (seen self.old.table (H.outside self.old.host)).contents (λ before after. option_map (with_page page from.now) before ≡ after) found) }
+        ensures stays { OnOk result ((found : Option Held) → (seen self.old.table (H.outside self.old.host)).contents found →
+            (seen self.new.table (H.outside self.new.host)).contents (option_map (with_page page from.now) found)) }
+        ensures stages { Stages (seen self.old.table (H.outside self.old.host)) (seen self.new.table (H.outside self.new.host)) 1 }
+        ensures past { KeepsPast (H.outside self.old.host) (H.outside self.new.host) }
+        ensures committed { self.new.table.committed ≡ self.old.table.committed }
+        ensures marks { OnOk result (Marks page self.old.table self.new.table) }
+        ensures alive { OnOk result (IsAlive self.new.live self.new.table (H.outside self.new.host)) }
+        ensures fault { IfErr result (IsPutFault H.outside self.old.host self.new.host self.old.live self.new.live self.old.table self.new.table page) }
+    {
+        let number = match place_for(&mut self.table.map, page) {
+            Some(number) => number,
+            None => {
+                return Err(VolumeFault::Full {
+                    held: self.table.map.held(),
+                    wanted: 1,
+                    pages: self.table.committed.pages,
+                });
+            }
+        };
+        match self.host.write_at(page_at(number), from) {
+            Ok(()) => {
+                self.table.map.replace(page, number);
+                Ok(())
+            }
+            Err(_) => {
+                self.live = false;
+                Err(VolumeFault::Device)
+            }
+        }
+    }
+
+    /// Writes the bytes, as the host does. It is alive afterwards where it was.
+    pub fn put(&mut self, bytes: &[u8]) -> Result<(), HostFailed>
+        ensures cut { TellsPrefix (H.outside self.old.host) (H.outside self.new.host) bytes.now }
+        ensures all { OnOk result (ToldAll (H.outside self.old.host) (H.outside self.new.host) bytes.now) }
+        ensures calm { OnOk result ((H.outside self.new.host).output_faults ≡ (H.outside self.old.host).output_faults) }
+        ensures call { IsPutCall (H.outside self.old.host) (H.outside self.new.host) result }
+        ensures same { self.new.table ≡ self.old.table }
+        ensures lives { self.new.live ≡ self.old.live }
+        ensures alive { IsAlive self.old.live self.old.table (H.outside self.old.host) → IsAlive self.new.live self.new.table (H.outside self.new.host) }
+    {
+        self.host.put(bytes)
+    }
+
+    /// What the selected root page says of the last commit.
+    pub fn note(&self) -> Note
+        ensures { result ≡ self.now.table.committed.note }
+    {
+        self.table.committed.note
+    }
+
+    /// How many pages the volume has.
+    pub fn pages(&self) -> u32
+        ensures { result ≡ self.now.table.committed.pages }
+    {
+        self.table.committed.pages
+    }
+
+    /// The depth of the root page that is selected: 1 where an index page names the map pages, else 0.
+    pub fn depth(&self) -> u32
+        ensures { result ≡ self.now.table.committed.depth }
+    {
+        self.table.committed.depth
+    }
+
+    /// Whether calls may be made: none failed yet.
+    pub fn is_alive(&self) -> bool
+        ensures { result ≡ self.now.live }
+    {
+        self.live
+    }
+
+    /// Gives the host back.
+    pub fn release(self) -> H
+        ensures { result ≡ self.host }
+    {
+        self.host
+    }
+}
