@@ -1,30 +1,27 @@
 -- A value is entered under a key of a table, or a key is taken out.
 use Rattle.std.proofs.Common.{◌≡◌, ◌≢◌, ◌⊎◌, ℕ, ◌+◌, ◌-◌, ◌^◌, ◌<◌, Bool, true, false, List, [], ◌∷◌, length, Option, Some, None, Result, Ok, Err, IfSome, MatchResult, refl, sym, ap, ◌∙◌, subst, arith, inl, inr}
 use Rattle.std.specs.List.{AllByRecursion}
-use Rattle.table_nodes.specs.heap_places.ps_outside.Outside.{Outside}
-use Rattle.table_nodes.specs.heap_places.obj_layout.Stored.{Space}
 use Rattle.table_nodes.specs.heap_places.obj_layout.declared.reference.Reference.{Reference}
 use Rattle.table_nodes.specs.heap_places.obj_layout.declared.reference.Reference.TheVariants.{Nil}
-use Rattle.table_nodes.specs.heap_places.swizzle.Heap.{Heap, IsHeld, num_at, ref_at, reference_to}
-use Rattle.table_nodes.specs.heap_places.swizzle.Joint.{Shown, shown_at, name_at, name_of}
+use Rattle.table_nodes.specs.heap_places.swizzle.Heap.{num_at, ref_at}
+use Rattle.table_nodes.specs.heap_places.swizzle.Joint.{Shown, name_at, name_of}
 use Rattle.table_nodes.specs.heap_places.swizzle.Reading.{joint}
 use Rattle.table_nodes.specs.heap_places.swizzle.Touch.{Keeps}
 use Rattle.table_nodes.specs.heap_places.swizzle.declared.fault.SwizzleFault.{SwizzleFault}
 use Rattle.table_nodes.specs.heap_places.heap_texts.declared.fault.OpFault.{OpFault}
 use Rattle.table_nodes.specs.heap_places.heap_texts.declared.fault.OpFault.TheVariants.{Swizzle}
-use Rattle.table_nodes.proofs.of_heap_places.of_swizzle.NameLaws.{name-not_nil}
 use Rattle.table_nodes.specs.avl_trees.Rising.{enter, without}
-use Rattle.table_nodes.specs.avl_trees.Trees.{Tree, leaf, node, items, insert, remove, lookup, height, IsBalanced}
-use Rattle.table_nodes.specs.avl_trees.Standing.{Stands, IsRising, IsApart, root_of, seek, put, fresh_item, under}
+use Rattle.table_nodes.specs.avl_trees.Trees.{Tree, leaf, node, items, insert, remove, lookup, IsBalanced}
+use Rattle.table_nodes.specs.avl_trees.Standing.{Stands, IsRising, root_of, seek, put, fresh_item, under}
 use Rattle.table_nodes.proofs.of_avl_trees.Balanced.{remove_shrunk}
 use Rattle.table_nodes.proofs.of_avl_trees.Entering.{entered_items, entered_rising, entered_grown}
-use Rattle.table_nodes.proofs.of_avl_trees.Ordered.{enter_all, without_all, lookup_items}
+use Rattle.table_nodes.proofs.of_avl_trees.Ordered.{without_all, lookup_items}
 use Rattle.table_nodes.proofs.of_avl_trees.Removing.{removed_items, removed_rising}
 use Rattle.table_nodes.proofs.of_avl_trees.Standing.{stands_kept, parts_of}
 use Rattle.table_nodes.specs.Keys.{Keys, KeyOf, order_by}
 use Rattle.table_nodes.specs.Nodes.{IsNode, IsLinked, IsFetchFault, link_of}
-use Rattle.table_nodes.specs.Steps.{I, Place, place, IsPlace, StayBeside, Touches, rows_of}
-use Rattle.table_nodes.specs.Searching.{HasValue, IsTree}
+use Rattle.table_nodes.specs.Steps.{I, Place, IsPlace, StayBeside, Touches, rows_of}
+use Rattle.table_nodes.specs.Searching.{HasValue}
 use Rattle.table_nodes.specs.Sparing.{Spares}
 use Rattle.table_nodes.specs.Entering.{is_missing, IsEnterFault}
 use Rattle.table_nodes.specs.Entering as entering
@@ -32,7 +29,7 @@ use Rattle.table_nodes.specs.Removing.{Leaves}
 use Rattle.table_nodes.proofs.KeyLaws.{total}
 use Rattle.table_nodes.proofs.NodeLaws.{link_side}
 use Rattle.table_nodes.proofs.StepLaws.{linked_kept}
-use Rattle.table_lib.specs.Tables.{IsTableAt, HasPairs, IsTable, IsUnused}
+use Rattle.table_lib.specs.Tables.{IsTableAt, HasPairs, IsUnused}
 use Rattle.table_lib.specs.Entries.{WritesTable, MarksTable, HasNow, EntersPair, TakesKey, StaysUnused, PutsPair, TakesPair, Enters}
 use Rattle.table_lib.specs.Operations.{Opens}
 use Rattle.table_lib.specs.declared.words.Opened.{Opened}

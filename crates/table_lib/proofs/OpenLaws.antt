@@ -1,15 +1,10 @@
 -- A table that was made.
-use Rattle.std.proofs.Common.{◌≡◌, ◌≢◌, ℕ, ◌<◌, ◌≤◌, true, false, Option, Some, None, Result, Ok, Err, IfOk, MatchResult, get_or, slice_index, refl, sym, ap, ◌∙◌, subst, arith}
-use Rattle.ps_base.specs.declared.trap.Trap.TheVariants.{Nil, WrongClass, KeyKind}
+use Rattle.std.proofs.Common.{ℕ, Result, Ok, Err, IfOk, MatchResult, get_or, slice_index, ap}
 use Rattle.table_nodes.specs.heap_places.obj_layout.declared.kind.Kind.TheVariants.{Table}
-use Rattle.table_nodes.specs.heap_places.swizzle.Heap.{Heap, IsFull, IsMade, blank, header_at, num_at}
-use Rattle.table_nodes.specs.heap_places.heap_texts.declared.fault.OpFault.{OpFault}
-use Rattle.table_nodes.specs.heap_places.heap_texts.declared.fault.OpFault.TheVariants.{Trap}
+use Rattle.table_nodes.specs.heap_places.swizzle.Heap.{Heap, IsFull, IsMade, blank}
 use Rattle.table_nodes.specs.heap_places.swizzle.declared.fault.SwizzleFault.{SwizzleFault}
 use Rattle.table_nodes.proofs.of_heap_places.of_swizzle.MadeLaws.{made-held, made-object}
-use Rattle.table_nodes.specs.Keys.{Keys, by_ints, by_texts}
-use Rattle.table_lib.specs.Tables.{key_number, IsTableAt, HasKeys, IsUnused}
-use Rattle.table_lib.specs.Operations.{Opens}
+use Rattle.table_lib.specs.Tables.{IsUnused}
 
 -- a table that was made has had no key
 pub made_unused : (old new : Heap) (result : Result ℕ SwizzleFault) → MatchResult result (λ at. IsMade old new at (blank Table 1 3 0)) (λ fault. IsFull old new 8 fault) → IfOk result (IsUnused new)

@@ -1,8 +1,8 @@
 -- The tree of a table, from its root on.
-use Rattle.std.proofs.Common.{refl, ◌≡◌, ℕ, ◌+◌, ◌*◌, ◌^◌, ◌<◌, length, Option, Some, None, sym, ap, ◌∙◌, subst, arith}
+use Rattle.std.proofs.Common.{refl, ◌≡◌, ℕ, ◌+◌, ◌*◌, ◌^◌, ◌<◌, length, Option, sym, ap, ◌∙◌, subst, arith}
 use Rattle.table_nodes.specs.heap_places.obj_layout.declared.reference.Reference.{Reference}
 use Rattle.table_nodes.specs.heap_places.obj_layout.declared.reference.Reference.TheVariants.{Nil, Pid, Local}
-use Rattle.table_nodes.specs.heap_places.swizzle.Heap.{Heap, ref_at, num_at}
+use Rattle.table_nodes.specs.heap_places.swizzle.Heap.{Heap, num_at}
 use Rattle.table_nodes.specs.heap_places.swizzle.Joint.{name_of}
 use Rattle.table_nodes.proofs.of_heap_places.of_swizzle.NameLaws.{name-not_nil}
 use Rattle.table_nodes.specs.avl_trees.Trees.{Tree, items, height, bits, lookup}

@@ -1,16 +1,15 @@
 -- Other tables stay where a call is made on one.
-use Rattle.std.proofs.Common.{◌≡◌, ◌≢◌, ◌⊎◌, ℕ, List, [], ◌∷◌, refl, sym, ap, ◌∙◌, subst, inl, inr}
+use Rattle.std.proofs.Common.{◌≡◌, ◌≢◌, ◌⊎◌, ℕ, List, [], ◌∷◌, sym, ap, ◌∙◌, subst, inl, inr}
 use Rattle.std.specs.List.{AllByRecursion}
-use Rattle.table_nodes.specs.heap_places.obj_layout.declared.kind.Kind.TheVariants.{Node, Table, Text}
+use Rattle.table_nodes.specs.heap_places.obj_layout.declared.kind.Kind.TheVariants.{Text}
 use Rattle.table_nodes.specs.heap_places.obj_layout.declared.reference.Reference.{Reference}
-use Rattle.table_nodes.specs.heap_places.swizzle.Heap.{IsHeld, IsListed, ref_at}
-use Rattle.table_nodes.specs.heap_places.swizzle.Joint.{Shown, shown_at, name_at}
+use Rattle.table_nodes.specs.heap_places.swizzle.Heap.{IsHeld, IsListed}
+use Rattle.table_nodes.specs.heap_places.swizzle.Joint.{Shown, shown_at}
 use Rattle.table_nodes.specs.heap_places.swizzle.Reading.{joint}
 use Rattle.table_nodes.specs.heap_places.Shapes.{slot_of}
 use Rattle.table_nodes.proofs.of_heap_places.PlaceLaws.{slot-name}
-use Rattle.table_nodes.specs.avl_trees.Rising.{enter, without}
 use Rattle.table_nodes.specs.avl_trees.Trees.{Tree, items}
-use Rattle.table_nodes.specs.avl_trees.Standing.{Has, IsApart, Stands, put, fresh_item, seek, under}
+use Rattle.table_nodes.specs.avl_trees.Standing.{Has, IsApart, seek, under}
 use Rattle.table_nodes.proofs.of_avl_trees.Entering.{entered_all}
 use Rattle.table_nodes.proofs.of_avl_trees.Ordered.{all_map, without_all}
 use Rattle.table_nodes.proofs.of_avl_trees.Standing.{all_have, parts_of, stands_kept}
@@ -20,7 +19,7 @@ use Rattle.table_nodes.specs.Steps.{I, Place, IsPlace, rows_of}
 use Rattle.table_nodes.proofs.KeyLaws.{total}
 use Rattle.table_nodes.proofs.NodeLaws.{joint_one}
 use Rattle.table_nodes.proofs.Sparing.{unlike}
-use Rattle.table_lib.specs.Tables.{IsTableAt, HasPairs, IsTable}
+use Rattle.table_lib.specs.Tables.{HasPairs, IsTable}
 use Rattle.table_lib.specs.Entries.{AreApart, EntersPair, HasNow, IsOpen, SparesBut, TakesKey}
 use Rattle.table_lib.proofs.WriteLaws.{table_lasts}
 

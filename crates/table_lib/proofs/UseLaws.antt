@@ -1,7 +1,6 @@
 -- What an operation answers, from how its table was opened.
-use Rattle.std.proofs.Common.{◌≡◌, ◌≢◌, ℕ, true, false, Option, Some, None, Result, Ok, Err, refl, sym, ap, ◌∙◌, subst}
+use Rattle.std.proofs.Common.{◌≡◌, ℕ, true, false, Option, Result, Ok, Err, refl, sym, ap, subst}
 use Rattle.table_nodes.specs.heap_places.heap_texts.declared.fault.OpFault.{OpFault}
-use Rattle.table_nodes.specs.heap_places.heap_texts.declared.fault.OpFault.TheVariants.{Trap}
 use Rattle.table_nodes.specs.avl_trees.Trees.{Tree}
 use Rattle.table_nodes.specs.Keys.{Keys}
 use Rattle.table_nodes.specs.Steps.{I, Place}

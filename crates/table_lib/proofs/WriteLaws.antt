@@ -1,13 +1,12 @@
 -- A table's words are written, and all else stays.
-use Rattle.std.proofs.Common.{◌≡◌, ◌≢◌, ◌⊎◌, ℕ, List, length, set, Option, Some, None, IfSome, refl, sym, ap, ◌∙◌, subst, arith, inl, inr}
+use Rattle.std.proofs.Common.{◌≡◌, ◌⊎◌, ℕ, List, length, set, Option, Some, None, IfSome, refl, sym, ap, ◌∙◌, subst, arith, inl, inr}
 use Rattle.std.proofs.lemmas.Bool.{cases_eq}
 use Rattle.std.proofs.lemmas.List.{get_or-set_same, get_or-set_other}
-use Rattle.table_nodes.specs.heap_places.ps_outside.Outside.{Outside, SameContents}
+use Rattle.table_nodes.specs.heap_places.ps_outside.Outside.{Outside}
 use Rattle.table_nodes.specs.heap_places.obj_layout.Stored.{Space, Holds}
-use Rattle.table_nodes.specs.heap_places.obj_layout.declared.kind.Kind.TheVariants.{Node, Table, Text}
 use Rattle.table_nodes.specs.heap_places.obj_layout.declared.reference.Reference.{Reference}
 use Rattle.table_nodes.specs.heap_places.obj_layout.declared.reference.Reference.TheVariants.{Nil}
-use Rattle.table_nodes.specs.heap_places.swizzle.Heap.{Heap, IsHeap, IsHeld, IsListed, Stands, reference_to, num_at, ref_at, with_mark, with_num, with_ref}
+use Rattle.table_nodes.specs.heap_places.swizzle.Heap.{Heap, IsHeap, IsHeld, IsListed, Stands, reference_to, ref_at, with_mark, with_num, with_ref}
 use Rattle.table_nodes.specs.heap_places.swizzle.Joint.{Shown, shown_at, name_at, name_of}
 use Rattle.table_nodes.specs.heap_places.swizzle.Changes.{Same, ChangedAt}
 use Rattle.table_nodes.specs.heap_places.swizzle.Reading.{joint}
@@ -17,13 +16,12 @@ use Rattle.table_nodes.proofs.of_heap_places.of_swizzle.JointLaws.{joint-ref, jo
 use Rattle.table_nodes.proofs.of_heap_places.of_swizzle.MarkLaws.{joint-mark}
 use Rattle.table_nodes.proofs.of_heap_places.of_swizzle.NameLaws.{shown-counts}
 use Rattle.table_nodes.proofs.of_heap_places.PlaceLaws.{slot-name}
-use Rattle.table_nodes.specs.Keys.{Keys, by_ints, by_texts, KeyOf, Seen, IsKey}
-use Rattle.table_nodes.specs.Nodes.{Seat, IsSeat, IsNode, IsSingle, OthersStay, rows_in}
-use Rattle.table_nodes.specs.Steps.{Holds as HoldsNodes}
+use Rattle.table_nodes.specs.Keys.{Keys, by_ints, by_texts, KeyOf, IsKey}
+use Rattle.table_nodes.specs.Nodes.{Seat, IsNode, OthersStay, rows_in}
 use Rattle.table_nodes.specs.Sparing.{Lasts, IsNoted, Spares}
 use Rattle.table_nodes.proofs.NodeLaws.{shown_now, single_kept, stand_nodes, stand_named}
-use Rattle.table_nodes.proofs.Sparing.{Beside, WritesOne, node_lasts, lasts_then, beside_ref, beside_num, beside_then, writes_one, shown_marked, unlike}
-use Rattle.table_lib.specs.Tables.{key_number, IsTableAt, HasKeys, IsUnused}
+use Rattle.table_nodes.proofs.Sparing.{WritesOne, node_lasts, lasts_then, beside_ref, beside_num, beside_then, writes_one, shown_marked, unlike}
+use Rattle.table_lib.specs.Tables.{key_number, IsTableAt}
 use Rattle.table_lib.specs.Entries.{IsOpen, SparesBut, WritesTable, MarksTable}
 
 -- What a call spares, step by step.

@@ -1,5 +1,5 @@
 -- What is done to a table where a value is entered under a key, or a key is taken out.
-use Rattle.std.specs.Prelude.{◌≡◌, ◌≢◌, ◌⊎◌, ℕ, ◌-◌, ◌^◌, ◌<◌, List, [], length, Option, Some, None, Result, Ok, MatchResult}
+use Rattle.std.specs.Prelude.{◌≡◌, ◌≢◌, ◌⊎◌, ℕ, ◌-◌, ◌^◌, ◌<◌, List, [], length, Option, Some, None, Result, MatchResult}
 use Rattle.std.specs.List.{AllByRecursion}
 use Rattle.table_nodes.specs.heap_places.ps_outside.Outside.{Outside, SameContents}
 use Rattle.table_nodes.specs.heap_places.obj_layout.Stored.{Space}

@@ -10,7 +10,7 @@ use Rattle.table_nodes.specs.heap_places.swizzle.Text.{text_at}
 use Rattle.table_nodes.specs.heap_places.heap_texts.declared.fault.OpFault.{OpFault}
 use Rattle.table_nodes.specs.avl_trees.Rising.{above}
 use Rattle.table_nodes.specs.avl_trees.Trees.{items}
-use Rattle.table_nodes.specs.avl_trees.Standing.{Has, seek}
+use Rattle.table_nodes.specs.avl_trees.Standing.{Has}
 use Rattle.table_nodes.specs.Keys.{Keys, by_ints, by_texts, KeyOf, order_by}
 use Rattle.table_nodes.specs.Nodes.{IsNamed, IsFetchFault}
 use Rattle.table_nodes.specs.Sought.{IsTextHeld}

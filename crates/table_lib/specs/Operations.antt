@@ -4,7 +4,7 @@ use Rattle.table_nodes.specs.heap_places.ps_outside.Outside.{Outside}
 use Rattle.table_nodes.specs.heap_places.obj_layout.Stored.{Space}
 use Rattle.table_nodes.specs.heap_places.obj_layout.declared.kind.Kind.TheVariants.{Table}
 use Rattle.table_nodes.specs.heap_places.swizzle.declared.fault.SwizzleFault.{SwizzleFault}
-use Rattle.table_nodes.specs.heap_places.swizzle.Heap.{Heap, header_at, num_at}
+use Rattle.table_nodes.specs.heap_places.swizzle.Heap.{Heap, header_at}
 use Rattle.table_nodes.specs.heap_places.heap_texts.declared.fault.OpFault.{OpFault}
 use Rattle.table_nodes.specs.heap_places.heap_texts.declared.fault.OpFault.TheVariants.{Trap, Swizzle}
 use Rattle.ps_base.specs.declared.trap.Trap.TheVariants.{Nil, WrongClass, KeyKind}

@@ -3,7 +3,6 @@ use Rattle.std.proofs.Common.{◌≡◌, ◌≢◌, ◌⊎◌, ℕ, List, set, O
 use Rattle.std.proofs.lemmas.Bool.{cases_eq}
 use Rattle.heap_places.specs.ps_outside.Outside.{Outside, SameContents}
 use Rattle.heap_places.specs.obj_layout.Stored.{Space, Holds}
-use Rattle.heap_places.specs.obj_layout.declared.kind.Kind.TheVariants.{Node}
 use Rattle.heap_places.specs.obj_layout.declared.reference.Reference.{Reference}
 use Rattle.heap_places.specs.swizzle.declared.fault.SwizzleFault.{SwizzleFault}
 use Rattle.heap_places.specs.swizzle.Heap.{Heap, IsHeap, IsHeld, IsListed, Stands, reference_to, with_mark, with_num, with_ref}
@@ -19,7 +18,7 @@ use Rattle.table_nodes.specs.Nodes.{IsNode, IsSingle, OthersStay, Grows}
 use Rattle.table_nodes.specs.Entering.{Makes}
 use Rattle.table_nodes.specs.Sparing.{Lasts, IsNoted, Spares}
 use Rattle.table_nodes.proofs.MarkingLaws.{marked_listed, listed_still, listed_marked}
-use Rattle.table_nodes.proofs.NodeLaws.{name_stands, seen_held, single_kept, stand_nodes}
+use Rattle.table_nodes.proofs.NodeLaws.{name_stands, seen_held, single_kept}
 
 pub node_lasts : (old new : Heap) (at : ℕ) → Lasts old new at → IsNode old at → IsNode new at
 node_lasts old new at l n = record { held = l.held; kind = l.kind ∙ n.kind; refs = l.refs ∙ n.refs; nums = l.nums ∙ n.nums }

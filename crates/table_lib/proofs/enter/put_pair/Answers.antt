@@ -1,5 +1,4 @@
-use Rattle.std.proofs.Common.{◌+◌, ◌*◌, ◌≡◌, ◌≢◌, Bool, Some, Ok, Err, refl, sym, ap, ◌∙◌, subst}
-use Rattle.table_nodes.specs.heap_places.swizzle.Heap.{num_at}
+use Rattle.std.proofs.Common.{◌+◌, ◌*◌, ◌≡◌, Some, Ok, refl, ap, subst}
 use Rattle.table_nodes.specs.heap_places.swizzle.Joint.{name_at}
 use Rattle.table_nodes.proofs.of_heap_places.of_swizzle.NameLaws.{name-not_nil}
 use Rattle.table_nodes.specs.avl_trees.Trees.{lookup}
@@ -8,9 +7,7 @@ use Rattle.table_nodes.specs.Keys.{order_by}
 use Rattle.table_nodes.specs.Sought.{kind_of, key_in}
 use Rattle.table_nodes.specs.Steps.{place}
 use Rattle.table_nodes.specs.Entering.{is_missing}
-use Rattle.table_nodes.proofs.NodeLaws.{fetch_back}
 use Rattle.table_nodes.proofs.Putting.{entered_as, fault_after}
-use Rattle.table_nodes.proofs.Removal.{removed_as}
 use Rattle.table_nodes.proofs.SoughtLaws.{key_in_kept}
 use Rattle.table_nodes.proofs.Sparing.{spares_then, spares_touched}
 use Rattle.table_nodes.proofs.StepLaws.{place_touched}

@@ -1,18 +1,11 @@
-use Rattle.std.proofs.Common.{◌≡◌, ◌+◌, ◌*◌, true, false, None, Ok, Err, refl, ap, subst, arith}
+use Rattle.std.proofs.Common.{◌≡◌, ◌+◌, ◌*◌, true, false, Ok, Err, refl, ap, arith}
 use Rattle.std.specs.declared.cmp.Ordering.TheVariants.{Less}
 use Rattle.table_nodes.specs.heap_places.heap_texts.declared.fault.OpFault.TheVariants.{Swizzle}
-use Rattle.table_nodes.specs.avl_trees.Trees.{next}
-use Rattle.table_nodes.specs.avl_trees.Standing.{seek}
-use Rattle.table_nodes.specs.Keys.{order_by}
-use Rattle.table_nodes.specs.Nodes.{IsLinked}
-use Rattle.table_nodes.specs.Following.{item_name}
-use Rattle.table_nodes.specs.Sought.{kind_of, key_in}
 use Rattle.table_nodes.specs.Steps.{place}
 use Rattle.table_nodes.proofs.NodeLaws.{fetch_back}
-use Rattle.table_nodes.proofs.SoughtLaws.{key_in_kept}
 use Rattle.table_nodes.proofs.StepLaws.{touches_then}
-use Rattle.table_lib.specs.Operations.{Opens, keys_of}
-use Rattle.table_lib.proofs.NextLaws.{node_found, seek_parts, least_parts}
+use Rattle.table_lib.specs.Operations.{keys_of}
+use Rattle.table_lib.proofs.NextLaws.{node_found, least_parts}
 use Rattle.table_lib.proofs.RootLaws.{pairs_of, tree_of, tree_low}
 use Rattle.table_lib.proofs.UseLaws.{uses_refused, uses_unused, uses_used}
 use Rattle.table_lib.proofs.next.least_node.Goals as goal

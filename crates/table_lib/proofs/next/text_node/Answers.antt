@@ -1,4 +1,4 @@
-use Rattle.std.proofs.Common.{Option, ℕ, ℤ, sym, subst}
+use Rattle.std.proofs.Common.{Option, ℕ, sym, subst}
 use Rattle.table_nodes.specs.Keys.{by_texts}
 use Rattle.table_nodes.specs.Steps.{place}
 use Rattle.table_lib.specs.Nexts.{FindsNode, after_key, string_of}
