@@ -1,5 +1,5 @@
 -- How large the numbers of a volume are.
-use Rattle.std.proofs.Common.{◌≡◌, ℕ, ◌+◌, ◌*◌, ◌^◌, ◌<◌, ◌≤◌, Bool, true, false, refl, arith, nat_eq, if◌then◌else◌}
+use Rattle.std.proofs.Common.{◌≡◌, ℕ, ◌+◌, ◌-◌, ◌*◌, ◌/◌, ◌^◌, ◌<◌, ◌≤◌, Bool, true, false, refl, arith, nat_eq, if◌then◌else◌}
 use Rattle.shadow_volume.specs.Layout.{root_at, pages_of_words}
 use Rattle.paged_volume.specs.Layout.{most_pages_of, capacity_pages, map_pages_of, maps_at}
 use Rattle.paged_volume.specs.Standing.{IsFit, IsHeadFit, logical_of, map_count}
@@ -70,3 +70,38 @@ skipped_low depth = by (nat_eq depth 0)
     by : (b : Bool) → (if b then 28 else 0) ≤ 28
     by true = omega arith
     by false = omega arith
+
+-- the pages suffice
+suffice : (n pages : ℕ) → n * 21 ≤ (pages - 4) * 10 → 88 ≤ pages → 2 * n + 2 * ((n + 1023) / 1024) + 2 + 4 ≤ pages
+suffice n pages most least = omega arith
+
+suffice_small : (n pages : ℕ) → n * 21 ≤ (pages - 4) * 10 → 32 ≤ pages → pages < 88 → 2 * n + 2 * ((n + 1023) / 1024) + 4 ≤ pages
+suffice_small n pages most least small = omega arith
+
+pub small_suffice : (pages : ℕ) → 32 ≤ pages → pages < 88 → 2 * capacity_pages pages + 2 * map_pages_of (capacity_pages pages) + 4 ≤ pages
+unfolding capacity_pages
+small_suffice pages least most = suffice_small ((pages - 4) * 10 / 21) pages (omega arith) least most
+
+pub large_suffice : (pages : ℕ) → 88 ≤ pages → pages ≤ 1048576 → 2 * capacity_pages pages + 2 * map_pages_of (capacity_pages pages) + 2 + 4 ≤ pages
+unfolding capacity_pages
+large_suffice pages least most = suffice ((pages - 4) * 10 / 21) pages (omega arith) least
+
+pub hold_least : capacity_pages 32 ≡ 13
+unfolding capacity_pages
+hold_least = refl
+
+pub hold_small : capacity_pages 64 ≡ 28
+unfolding capacity_pages
+hold_small = refl
+
+pub hold_indexed : capacity_pages 88 ≡ 40
+unfolding capacity_pages
+hold_indexed = refl
+
+pub hold_first : capacity_pages 131072 ≡ 62413
+unfolding capacity_pages
+hold_first = refl
+
+pub hold_largest : capacity_pages 1048576 ≡ 499320
+unfolding capacity_pages
+hold_largest = refl

@@ -74,8 +74,14 @@ bytes_end number few count image le none =
 pub page_read : (number : ℕ → ℕ) (count : ℕ) (image : List ℕ) (page : ℕ) → page < count → number page ≢ 0 → 4096 * number page + 4096 ≤ length image →
     take 4096 (drop (4096 * number page) image) ≡ take 4096 (drop (4096 * page) (bytes_named number count image))
 page_read number count image page below some long =
-    same_number_lists _ _ (omega (arith, length-take 4096 (drop (4096 * number page) image), length-drop (4096 * number page) image,
-    length-take 4096 (drop (4096 * page) (bytes_named number count image)), length-drop (4096 * page) (bytes_named number count image), length_bytes number count image))
+    same_number_lists _ _ (omega (
+      arith,
+      length-take 4096 (drop (4096 * number page) image),
+      length-drop (4096 * number page) image,
+      length-take 4096 (drop (4096 * page) (bytes_named number count image)),
+      length-drop (4096 * page) (bytes_named number count image),
+      length_bytes number count image,
+    ))
     (λ k lt.
     let inside : k < 4096 = omega (arith, length-take 4096 (drop (4096 * number page) image)) in
     let page_is : (4096 * page + k) / 4096 ≡ page = omega arith in

@@ -8,3 +8,9 @@ pub mod Tables
 pub mod Looked
 pub mod Staying
 pub mod Putting
+pub mod Spelling
+pub mod Turning
+pub mod Readying
+pub mod Selecting
+pub mod Synced
+pub mod Changed

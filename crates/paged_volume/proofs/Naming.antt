@@ -158,7 +158,7 @@ length_with_numbers list place numbers fits =
     ap length (as_written list place numbers)
     ∙ omega (arith, length-written place numbers list, length-take place list, length-drop (place + length numbers) list)
 
-first_number : (bytes : List ℕ) (count i : ℕ) → i < count → get_or (first_numbers bytes count) i 0 ≡ number_at bytes i
+pub first_number : (bytes : List ℕ) (count i : ℕ) → i < count → get_or (first_numbers bytes count) i 0 ≡ number_at bytes i
 unfolding first_numbers
 first_number bytes count i lt = get_or-map-range_with_len (number_at bytes) 0 count i i 0 lt (omega arith)
 
@@ -247,9 +247,9 @@ module _ (committed : Committed) (map : MapView) (named bytes : List ℕ) (depth
       let all = numbers_same (λ page. get_or (with_numbers map.staged (1024 * map_page) (first_numbers bytes count)) page 0) number (1024 * map_page + count) same in (
         are_same committed.pages (map_names depth named maps) (λ page. get_or (with_numbers map.staged (1024 * map_page) (first_numbers bytes count)) page 0) number (1024 * map_page + count) same naming_pages.pages_once,
         ap (λ (n : ℕ). is_free (unnamed committed.pages (map_names depth named maps ++ numbers_of number (1024 * map_page + count))) n) (here count (omega arith))
-        ∙ ap (λ (xs : List ℕ). is_free (unnamed committed.pages (map_names depth named maps ++ xs)) (number_at bytes count)) (sym all)
-        ∙ ap (λ (f : List Bool). is_free f (number_at bytes count)) (sym naming_pages.free)
-        ∙ bad,
+            ∙ ap (λ (xs : List ℕ). is_free (unnamed committed.pages (map_names depth named maps ++ xs)) (number_at bytes count)) (sym all)
+            ∙ ap (λ (f : List Bool). is_free f (number_at bytes count)) (sym naming_pages.free)
+            ∙ bad,
       )
     where
       by : (k : ℕ) → k < 1024 * map_page + count → (k < 1024 * map_page) ⊎ (1024 * map_page ≤ k) → get_or (with_numbers map.staged (1024 * map_page) (first_numbers bytes count)) k 0 ≡ number k

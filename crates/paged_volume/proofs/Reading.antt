@@ -297,7 +297,7 @@ module _ (committed : Committed) (named bytes : List ℕ) (index_is : (i : ℕ) 
     unfolding page_number
     page_tests_are =
         (λ i. name_tests committed.pages (indexes i ++ numbers_same (map_number committed.second committed.depth bytes) (maps_of named) (map_count committed) map_is i)
-            (page_place committed.second committed.depth bytes) (page_number committed.second committed.depth bytes) (logical_of committed))
+        (page_place committed.second committed.depth bytes) (page_number committed.second committed.depth bytes) (logical_of committed))
         ∙ tests_same committed.pages (map_names committed.depth named (map_count committed)) (page_place committed.second committed.depth bytes) (place_by named)
         (page_number committed.second committed.depth bytes) (λ page. number_at (place_by named page) 4 bytes) (logical_of committed)
         place_is (λ page lt. ap (λ (n : ℕ). number_at n 4 bytes) (place_is page lt))

@@ -26,7 +26,7 @@ pub record IsApart (table : Table) (page : ℕ) : Type 0 where
   pub maps : (i : ℕ) → i < map_count table.committed → maps_of table.named.items i ≢ page
   pub pages : (i : ℕ) → i < logical_of table.committed → get_or table.map.committed i 0 ≢ page
 
-not_named : (number : ℕ → ℕ) (count page i : ℕ) → names (numbers_of number count) page ≡ false → i < count → number i ≢ page
+pub not_named : (number : ℕ → ℕ) (count page i : ℕ) → names (numbers_of number count) page ≡ false → i < count → number i ≢ page
 not_named number count page i none lt same = both_ways (names (numbers_of number count) page) none (subst (λ (n : ℕ). names (numbers_of number count) n ≡ true) same (names_number number count i lt))
 
 pub apart_spare : (table : Table) (page : ℕ) → IsSpare table page → IsApart table page
@@ -47,18 +47,33 @@ apart_spare table page spare =
       pages = λ i lt. not_named (λ page. get_or table.map.committed page 0) (logical_of table.committed) page i one.1 lt;
     }
 
--- a number in a page that isn't written
-pub number_stays : (page other from : ℕ) (old new : List ℕ) → Torn (4096 * page) 4096 old new → other ≢ page → 4096 * other ≤ from → from + 4 ≤ 4096 * other + 4096 → 4096 * other + 4096 ≤ length old →
-    number_at from 4 new ≡ number_at from 4 old
-number_stays page other from old new torn apart low high long = number_torn (4096 * page) 4096 from 4 old new torn (omega arith) (elim (cases_lt other page) [
+-- a page isn't in the range that is written
+abbrev pub Apart : ℕ → ℕ → ℕ → Type 0
+Apart page at count = (4096 * page + 4096 ≤ at) ⊎ (at + count ≤ 4096 * page)
+
+pub apart_page : (other page : ℕ) → other ≢ page → Apart other (4096 * page) 4096
+apart_page other page differs = elim (cases_lt other page) [
   | inl before ↦ inl (omega arith)
-  | inr behind ↦ elim (cases_lt page other) [ inl after ↦ inr (omega arith) | inr same ↦ absurd (apart (omega arith)) ]
-])
+  | inr behind ↦ elim (cases_lt page other) [ inl after ↦ inr (omega arith) | inr same ↦ absurd (differs (omega arith)) ]
+]
+
+-- a page behind the root pages is apart from them
+pub apart_low : (other at count : ℕ) → 4 ≤ other → at + count ≤ 16384 → Apart other at count
+apart_low other at count low high = inr (omega arith)
+
+-- a number in a page that isn't written
+pub number_stays : (other from at count : ℕ) (old new : List ℕ) → Torn at count old new → Apart other at count → 4096 * other ≤ from → from + 4 ≤ 4096 * other + 4096 → 4096 * other + 4096 ≤ length old →
+    number_at from 4 new ≡ number_at from 4 old
+number_stays other from at count old new torn apart low high long = number_torn at count from 4 old new torn (omega arith) (by apart)
+  where
+    by : Apart other at count → (from + 4 ≤ at) ⊎ (at + count ≤ from)
+    by (inl before) = inl (omega arith)
+    by (inr behind) = inr (omega arith)
 
 -- bytes of pages of which none is written
-pub bytes_stay : (number : ℕ → ℕ) (count page : ℕ) (old new : List ℕ) → Torn (4096 * page) 4096 old new → ((i : ℕ) → i < count → number i ≢ 0 → (number i ≢ page) × (4096 * number i + 4096 ≤ length old)) →
+pub bytes_stay : (number : ℕ → ℕ) (count at size : ℕ) (old new : List ℕ) → Torn at size old new → ((i : ℕ) → i < count → number i ≢ 0 → Apart (number i) at size × (4096 * number i + 4096 ≤ length old)) →
     bytes_named number count new ≡ bytes_named number count old
-bytes_stay number count page old new torn apart = bytes_alike number number count new old (λ k lt. elim (cases_eq (number (k / 4096)) 0) [
+bytes_stay number count at size old new torn apart = bytes_alike number number count new old (λ k lt. elim (cases_eq (number (k / 4096)) 0) [
   | inl none ↦ byte_none number new k none ∙ sym (byte_none number old k none)
   | inr some ↦
       let is = apart (k / 4096) (omega arith) some in
@@ -68,43 +83,73 @@ bytes_stay number count page old new torn apart = bytes_alike number number coun
       ∙ sym (byte_some number old k some)
 ])
   where
-    outside : (other rest : ℕ) → rest < 4096 → other ≢ page → IsOutside (4096 * page) 4096 (4096 * other + rest)
-    outside other rest lt apart = elim (cases_lt other page) [
-      | inl before ↦ inl (omega arith)
-      | inr behind ↦ elim (cases_lt page other) [ inl after ↦ inr (omega arith) | inr same ↦ absurd (apart (omega arith)) ]
-    ]
+    outside : (other rest : ℕ) → rest < 4096 → Apart other at size → IsOutside at size (4096 * other + rest)
+    outside other rest lt (inl before) = inl (omega arith)
+    outside other rest lt (inr behind) = inr (omega arith)
 
-root_page : (second : Bool) → (8192 ≤ root_at second) × (root_at second + 4096 ≤ 16384)
+-- a range that is apart from what says what is committed, but for the selector, and from the pages that are committed
+pub record IsClear (table : Table) (at count : ℕ) : Type 0 where
+  pub head : 12 ≤ at
+  pub root : (root_at table.committed.second + 4096 ≤ at) ⊎ (at + count ≤ root_at table.committed.second)
+  pub index : (i : ℕ) → i < table.committed.depth → Apart (index_of table.named.items i) at count
+  pub maps : (i : ℕ) → i < map_count table.committed → Apart (maps_of table.named.items i) at count
+  pub pages : (i : ℕ) → i < logical_of table.committed → Apart (get_or table.map.committed i 0) at count
+
+pub root_page : (second : Bool) → (8192 ≤ root_at second) × (root_at second + 4096 ≤ 16384)
 root_page true = (omega arith, omega arith)
 root_page false = (omega arith, omega arith)
 
--- a write of a page that nothing committed names, whole or torn, leaves what is committed
-module _ (table : Table) (page : ℕ) (old new : List ℕ) (fit : IsFit table.committed) (once : IsNamedOnce table) (apart : IsApart table page) (torn : Torn (4096 * page) 4096 old new) (says : Says table old) where
+pub clear_page : (table : Table) (page : ℕ) → IsApart table page → IsClear table (4096 * page) 4096
+clear_page table page apart =
+    let low = apart.low in
+    let root = root_page table.committed.second in
+    let most = root.1 in
+    record {
+      head = omega arith;
+      root = inl (omega arith);
+      index = λ i lt. apart_page (index_of table.named.items i) page (apart.index i lt);
+      maps = λ i lt. apart_page (maps_of table.named.items i) page (apart.maps i lt);
+      pages = λ i lt. apart_page (get_or table.map.committed i 0) page (apart.pages i lt);
+    }
+
+-- what says what is committed, but for the selector
+pub record SaysBut (table : Table) (image : List ℕ) : Type 0 where
+  pub head : HasHead table.committed.format table.committed.pages image
+  pub root : HasRoot table.committed.second table.committed.note table.committed.depth image
+  pub names : HasNames table.committed table.named.items table.map.committed image
+
+pub says_but : (table : Table) (image : List ℕ) → Says table image → SaysBut table image
+says_but table image says = record { head = says.head; root = says.root; names = says.names }
+
+pub says_selected : (table : Table) (image : List ℕ) → SaysBut table image → selects image ≡ table.committed.second → Says table image
+says_selected table image says selected = record { head = says.head; selected = selected; root = says.root; names = says.names }
+
+-- it stays while other bytes are written
+module _ (table : Table) (at count : ℕ) (old new : List ℕ) (fit : IsFit table.committed) (once : IsNamedOnce table) (clear : IsClear table at count) (torn : Torn at count old new) (says : SaysBut table old) where
   long : 4096 * table.committed.pages ≤ length old
   long = says.head.long
 
+  pages_least : 32 ≤ table.committed.pages
+  pages_least = fit.head.least
+
   root_number : (skip width : ℕ) → skip + width ≤ 4096 → number_at (root_at table.committed.second + skip) width new ≡ number_at (root_at table.committed.second + skip) width old
   root_number skip width fits =
-      let low = apart.low in
-      let high = apart.high in
       let bytes = long in
+      let least = pages_least in
       let root = root_page table.committed.second in
       let most = root.1 in
-      number_torn (4096 * page) 4096 (root_at table.committed.second + skip) width old new torn (omega arith) (inl (omega arith))
+      number_torn at count (root_at table.committed.second + skip) width old new torn (omega arith) (by clear.root)
+    where
+      by : (root_at table.committed.second + 4096 ≤ at) ⊎ (at + count ≤ root_at table.committed.second) → (root_at table.committed.second + skip + width ≤ at) ⊎ (at + count ≤ root_at table.committed.second + skip)
+      by (inl before) = inl (omega arith)
+      by (inr behind) = inr (omega arith)
 
   head_number : (place width : ℕ) → place + width ≤ 12 → number_at place width new ≡ number_at place width old
   head_number place width fits =
-      let low = apart.low in
-      let high = apart.high in
       let bytes = long in
-      number_torn (4096 * page) 4096 place width old new torn (omega arith) (inl (omega arith))
-
-  head_byte : (place : ℕ) → place < 16384 → get_or new place 0 ≡ get_or old place 0
-  head_byte place lt =
-      let low = apart.low in
-      let high = apart.high in
-      let bytes = long in
-      torn.elsewhere place (omega arith) (inl (omega arith))
+      let least = pages_least in
+      let head = clear.head in
+      number_torn at count place width old new torn (omega arith) (inl (omega arith))
 
   map_number_stays : (i : ℕ) → i < map_count table.committed →
       number_at (maps_at table.committed.second table.committed.depth (get_or table.named.items 0 0) + 4 * i) 4 new ≡ number_at (maps_at table.committed.second table.committed.depth (get_or table.named.items 0 0) + 4 * i) 4 old
@@ -124,7 +169,7 @@ module _ (table : Table) (page : ℕ) (old new : List ℕ) (fit : IsFit table.co
         let first = index_first table.named.items 0 in
         let bytes = long in
         ap (λ (n : ℕ). number_at (n + 4 * i) 4 new) (maps_at_one table.committed.second table.committed.depth (get_or table.named.items 0 0) deep)
-        ∙ number_stays page (get_or table.named.items 0 0) (4096 * get_or table.named.items 0 0 + 4 * i) old new torn (λ e. apart.index 0 some (first ∙ e)) (omega arith) (omega arith) (omega (arith, first))
+        ∙ number_stays (get_or table.named.items 0 0) (4096 * get_or table.named.items 0 0 + 4 * i) at count old new torn (subst (λ (n : ℕ). Apart n at count) first (clear.index 0 some)) (omega arith) (omega arith) (omega (arith, first))
         ∙ ap (λ (n : ℕ). number_at (n + 4 * i) 4 old) (sym (maps_at_one table.committed.second table.committed.depth (get_or table.named.items 0 0) deep))
   ]
     where
@@ -141,24 +186,25 @@ module _ (table : Table) (page : ℕ) (old new : List ℕ) (fit : IsFit table.co
       let k_is : 1024 * i + rest ≡ k = omega arith in
       let place : place_by table.named.items k ≡ 4096 * maps_of table.named.items i + 4 * rest = ap (λ (n : ℕ). place_by table.named.items n) (sym k_is) ∙ place_in table.named.items i rest (omega arith) in
       let bytes = long in
-      number_stays page (maps_of table.named.items i) (place_by table.named.items k) old new torn (apart.maps i i_lt) (omega (arith, place)) (omega (arith, place)) (omega arith)
+      number_stays (maps_of table.named.items i) (place_by table.named.items k) at count old new torn (clear.maps i i_lt) (omega (arith, place)) (omega (arith, place)) (omega arith)
 
-  pub says_stays : Says table new
-  says_stays =
+  pub but_stays : SaysBut table new
+  but_stays =
       let longer = torn.no_shorter in
       let bytes = long in
+      let least = pages_least in
+      let head = clear.head in
       let names = says.names in
       let commits : number_at (root_at table.committed.second) 8 new ≡ number_at (root_at table.committed.second) 8 old =
       ap (λ (n : ℕ). number_at n 8 new) (omega arith) ∙ root_number 0 8 (omega arith) ∙ ap (λ (n : ℕ). number_at n 8 old) (omega arith) in
       record {
         head = record {
           long = omega arith;
-          opened = head_byte 0 (omega arith) ∙ says.head.opened;
+          opened = torn.elsewhere 0 (omega arith) (inl (omega arith)) ∙ says.head.opened;
           spelled = head_number 1 6 (omega arith) ∙ says.head.spelled;
           format_is = head_number 7 1 (omega arith) ∙ says.head.format_is;
           pages_are = head_number 8 4 (omega arith) ∙ says.head.pages_are;
         };
-        selected = ap (λ (byte : ℕ). byte % 2 == 1) (head_byte 4096 (omega arith)) ∙ says.selected;
         root = record {
           note_is = (λ j. record { commits = commits j; used = root_number 8 8 (omega arith) j; directory = root_number 16 8 (omega arith) j }) ∙ says.root.note_is;
           logical = root_number 24 4 (omega arith) ∙ says.root.logical;
@@ -171,16 +217,38 @@ module _ (table : Table) (page : ℕ) (old new : List ℕ) (fit : IsFit table.co
         };
       }
 
+  pub selected_stays : 4097 ≤ at → selects new ≡ selects old
+  selected_stays behind =
+      let bytes = long in
+      let least = pages_least in
+      ap (λ (byte : ℕ). byte % 2 == 1) (torn.elsewhere 4096 (omega arith) (inl (omega arith)))
+
   -- the pages that are committed
   pub committed_stays : bytes_named (λ page. get_or table.map.committed page 0) (logical_of table.committed) new ≡ bytes_named (λ page. get_or table.map.committed page 0) (logical_of table.committed) old
-  committed_stays = bytes_stay (λ page. get_or table.map.committed page 0) (logical_of table.committed) page old new torn (λ i lt some.
+  committed_stays = bytes_stay (λ page. get_or table.map.committed page 0) (logical_of table.committed) at count old new torn (λ i lt some.
       let low = unnamed_low table.committed.pages _ (get_or table.map.committed i 0) (once.pages i lt) in
       let high = low.1 in
       let bytes = long in
-      (apart.pages i lt, omega arith))
+      (clear.pages i lt, omega arith))
+
+-- a write that is apart from it, and from the selector, whole or torn, leaves what is committed
+pub clear_stays : (table : Table) (at count : ℕ) (old new : List ℕ) → IsFit table.committed → IsNamedOnce table → IsClear table at count → 4097 ≤ at → Torn at count old new → Says table old → Says table new × (held_in new ≡ held_in old)
+clear_stays table at count old new fit once clear behind torn says =
+    let but = but_stays table at count old new fit once clear torn (says_but table old says) in
+    let is = says_selected table new but (selected_stays table at count old new fit once clear torn (says_but table old says) behind ∙ says.selected) in (
+      is,
+      held_says table new fit once is
+          ∙ ap (λ (xs : List ℕ). Some (record { note = table.committed.note; bytes = xs })) (committed_stays table at count old new fit once clear torn (says_but table old says))
+          ∙ sym (held_says table old fit once says),
+    )
+
+-- a write of a page that nothing committed names
+module _ (table : Table) (page : ℕ) (old new : List ℕ) (fit : IsFit table.committed) (once : IsNamedOnce table) (apart : IsApart table page) (torn : Torn (4096 * page) 4096 old new) (says : Says table old) where
+  both : Says table new × (held_in new ≡ held_in old)
+  both = let low = apart.low in clear_stays table (4096 * page) 4096 old new fit once (clear_page table page apart) (omega arith) torn says
+
+  pub says_stays : Says table new
+  says_stays = both.0
 
   pub held_stays : held_in new ≡ held_in old
-  held_stays =
-      held_says table new fit once says_stays
-      ∙ ap (λ (xs : List ℕ). Some (record { note = table.committed.note; bytes = xs })) committed_stays
-      ∙ sym (held_says table old fit once says)
+  held_stays = both.1

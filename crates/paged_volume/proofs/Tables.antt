@@ -103,7 +103,7 @@ module _ (table : Table) (is : IsNaming table table.committed.depth (map_count t
   differs list page number none named same = both_ways (names list page) none (subst (λ (n : ℕ). names list n ≡ true) same named)
 
   settled_table : Table
-  settled_table = record { committed = table.committed; map = settled table.map table.named.items; named = table.named }
+  settled_table = record { committed = table.committed; map = settled table.map table.named.items; named = table.named; next = table.next }
 
   free_is_spare : (page : ℕ) → is_free (settled table.map table.named.items).free page ≡ true →
       (is_free (unnamed table.committed.pages (map_names table.committed.depth table.named.items (map_count table.committed) ++ numbers_of (λ page. get_or table.map.staged page 0) (logical_of table.committed))) page ≡ true)
@@ -117,11 +117,12 @@ module _ (table : Table) (is : IsNaming table table.committed.depth (map_count t
       let low = above (cases_lt page 4) parts.0 in
       let none_index = none_names (index_of table.named.items) table.committed.depth page (λ i lt. differs table.named.items page (index_of table.named.items i) parts.2 (names_index i lt)) in
       let none_maps = none_names (maps_of table.named.items) (map_count table.committed) page (λ i lt. differs table.named.items page (maps_of table.named.items i) parts.2 (names_map i lt)) in
-      let none_pages = none_names (λ page. get_or table.map.staged page 0) (logical_of table.committed) page (λ i lt. differs table.map.staged page (get_or table.map.staged i 0) parts.1 (names_page i lt)) in
-      (is_not_unnamed table.committed.pages _ page low (omega arith)
-      (names_append (map_names table.committed.depth table.named.items (map_count table.committed)) (numbers_of (λ page. get_or table.map.staged page 0) (logical_of table.committed)) page
-      ∙ or_both _ _ (names_append (numbers_of (index_of table.named.items) table.committed.depth) (numbers_of (maps_of table.named.items) (map_count table.committed)) page ∙ or_both _ _ none_index none_maps) none_pages),
-      parts.3)
+      let none_pages = none_names (λ page. get_or table.map.staged page 0) (logical_of table.committed) page (λ i lt. differs table.map.staged page (get_or table.map.staged i 0) parts.1 (names_page i lt)) in (
+        is_not_unnamed table.committed.pages _ page low (omega arith)
+            (names_append (map_names table.committed.depth table.named.items (map_count table.committed)) (numbers_of (λ page. get_or table.map.staged page 0) (logical_of table.committed)) page
+            ∙ or_both _ _ (names_append (numbers_of (index_of table.named.items) table.committed.depth) (numbers_of (maps_of table.named.items) (map_count table.committed)) page ∙ or_both _ _ none_index none_maps) none_pages),
+        parts.3,
+      )
     where
       and_parts : (may one two three : Bool) → (may && not (one || (two || three))) ≡ true → (may ≡ true) × (one ≡ false) × (two ≡ false) × (three ≡ false)
       and_parts true false false false e = (refl, refl, refl, refl)
@@ -141,7 +142,7 @@ module _ (table : Table) (is : IsNaming table table.committed.depth (map_count t
       below : (page : ℕ) → 1 ≤ get_or table.map.staged page 0 → page < logical_of table.committed
       below page some = elim (cases_lt page (logical_of table.committed)) [ inl lt ↦ lt | inr past ↦ absurd (omega (arith, is.bare page past)) ]
 
-  pub settled_is_table : IsTable (record { committed = table.committed; map = settled table.map table.named.items; named = table.named })
+  pub settled_is_table : IsTable (record { committed = table.committed; map = settled table.map table.named.items; named = table.named; next = table.next })
   settled_is_table = record {
     fit = is.fit;
     commits = is.commits;

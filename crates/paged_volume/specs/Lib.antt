@@ -4,4 +4,6 @@ pub mod Standing
 pub mod Attaching
 pub mod Naming
 pub mod Staging
+pub mod Switching
+pub mod Changing
 pub use Rattle.shadow_volume.specs as shadow_volume

@@ -27,11 +27,14 @@ fn new_table(alloc: Global, committed: Committed) -> Result<Table, AllocError>
 {
     let logical = capacity_pages(committed.pages);
     let map = PageMap::new(alloc, logical, committed.pages)?;
-    let named = Vec::from_elem(alloc, 0, 1 + map_pages(logical) as usize)?;
+    let count = 1 + map_pages(logical) as usize;
+    let named = Vec::from_elem(alloc, 0, count)?;
+    let next = Vec::from_elem(alloc, 0, count)?;
     Ok(Table {
         committed,
         map,
         named,
+        next,
     })
 }
 

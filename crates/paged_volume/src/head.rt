@@ -29,13 +29,9 @@ fn test_head(head: Head, present: u64) -> Option<Damage>
 {
     let pages = head.pages as u64;
     let most = most_pages_of(head.format) as u64;
-    wants_equal(1, head.spelled, MAGIC).or(wants_between(7, head.format as u64, 1, 2).or(wants_between(
-        8,
-        pages,
-        LEAST_PAGES as u64,
-        most,
-    )
-    .or(wants_pages(present, pages))))
+    wants_equal(1, head.spelled, MAGIC).or(wants_between(7, head.format as u64, 1, 2).or(
+        wants_between(8, pages, LEAST_PAGES as u64, most).or(wants_pages(present, pages)),
+    ))
 }
 
 /// One byte of a file that has so many.

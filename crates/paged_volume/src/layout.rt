@@ -3,7 +3,9 @@
 ghost use Rattle.std.specs.Prelude.{◌≡◌, ◌+◌, ◌*◌, ◌<◌, ◌≤◌, ◌^◌};
 ghost use Rattle.paged_volume.specs.Layout.{most_pages_of, capacity_pages, capacity_of, map_pages_of};
 
-pub use shadow_volume::layout::{LEAST_BYTES, LEAST_PAGES, MAGIC, PAGE_BYTES, logical_pages, root_at};
+pub use shadow_volume::layout::{
+    LEAST_BYTES, LEAST_PAGES, MAGIC, PAGE_BYTES, logical_pages, root_at,
+};
 
 /// The most pages of a volume of format 1.
 pub const MOST_PAGES_BEFORE: u32 = 131_072;

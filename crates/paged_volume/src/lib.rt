@@ -2,18 +2,25 @@
 //! and then selects the root page that names it.
 #![tactic(auto)]
 
+mod changing;
 mod committed;
 mod damage;
 mod finding;
 mod head;
+mod laws;
 pub mod layout;
 mod names;
+mod paging;
 mod placing;
 mod root;
+mod rooting;
+mod syncing;
 mod table;
 mod volume;
+mod writing;
 
 pub use committed::Committed;
+pub use laws::{the_pages_suffice, what_volumes_hold};
 pub use shadow_volume;
 pub use table::Table;
 pub use volume::{Refused, Volume, VolumeFault};

@@ -127,7 +127,7 @@ fn take_map(table: &mut Table, page: &[u8], map_page: u32) -> Result<(), Damage>
     ensures free { OnOk result (is_free table.old.map.free (number_at (skipped table.old.committed.depth + 4 * map_page) 4 page.now) ≡ true) }
     ensures err { IfErr result (λ d. (is_free table.old.map.free (number_at (skipped table.old.committed.depth + 4 * map_page) 4 page.now) ≡ false)
         × (d ≡ damage (maps_at table.old.committed.second table.old.committed.depth (slice_index table.old.named.items 0) + 4 * map_page) (number_at (skipped table.old.committed.depth + 4 * map_page) 4 page.now)
-            (bound_of table.old.committed.pages (number_at (skipped table.old.committed.depth + 4 * map_page) 4 page.now)))) }
+        (bound_of table.old.committed.pages (number_at (skipped table.old.committed.depth + 4 * map_page) 4 page.now)))) }
 {
     let place = skipped(table.committed.depth) + 4 * map_page as usize;
     let number = read_number(page, place);
@@ -229,7 +229,11 @@ fn read_maps<H: Host>(host: &mut H, table: &mut Table) -> Result<(), OpenFault>
 }
 
 /// Reads the numbers that name the pages of a volume, of which the root page was read.
-pub fn read_names<H: Host>(host: &mut H, table: &mut Table, page: &mut [u8]) -> Result<(), OpenFault>
+pub fn read_names<H: Host>(
+    host: &mut H,
+    table: &mut Table,
+    page: &mut [u8],
+) -> Result<(), OpenFault>
     requires naming { IsNaming table.old 0 0 0 }
     requires long { (bytes : List ℕ) → (H.outside host.old).contents bytes → 4096 * table.old.committed.pages ≤ length bytes }
     requires page { (bytes : List ℕ) → (H.outside host.old).contents bytes → page.old ≡ take 4096 (drop (root_at table.old.committed.second) bytes) }

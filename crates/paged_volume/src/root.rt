@@ -42,8 +42,7 @@ fn test_root(head: Head, at: u64, root: Root) -> Option<Damage>
         root.note.directory,
         0,
         used - 1,
-    )
-    .or(wants_depth(head.format, head.pages, at + 4092, root.depth)))
+    ).or(wants_depth(head.format, head.pages, at + 4092, root.depth)))
 }
 
 // Which root page is selected.
@@ -74,11 +73,7 @@ fn root_of(bytes: &[u8]) -> Root
 }
 
 /// What the root page that is selected says, and its bytes, after page 0 that passed its tests.
-pub fn read_root<H: Host>(
-    host: &mut H,
-    head: Head,
-    page: &mut [u8],
-) -> Result<Committed, OpenFault>
+pub fn read_root<H: Host>(host: &mut H, head: Head, page: &mut [u8]) -> Result<Committed, OpenFault>
     requires fit { IsHeadFit head.format head.pages }
     requires pages { head.pages ≤ 1048576 }
     requires passed { (bytes : List ℕ) → (H.outside host.old).contents bytes → HasHead head.format head.pages bytes }

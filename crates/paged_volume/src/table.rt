@@ -9,4 +9,6 @@ pub struct Table {
     pub map: PageMap,
     /// The number of the index page, and then those of the map pages; 0 for none.
     pub named: Vec<u32>,
+    /// The same of what is committed next, while it is written.
+    pub next: Vec<u32>,
 }

@@ -1,0 +1,12 @@
+use Rattle.std.proofs.Common.{length, ◌∙◌, ap, List, ℕ}
+use Rattle.byteorder.specs.Endian.{little_bytes}
+use Rattle.paged_volume.proofs.Spelling.{number_put, length_little, length_put}
+use Rattle.paged_volume.proofs.paging.put_u32.Goals as goal
+
+pub returns-clause-written : goal.returns-clause-written
+returns-clause-written c = number_put c.args.page.now c.write_u32.new.buf (little_bytes 4 c.args.number) c.args.at 4 c.requires (length_little 4 c.args.number) c.write_u32.ensures
+
+pub returns-clause-size : goal.returns-clause-size
+returns-clause-size c =
+    ap (λ (xs : List ℕ). length xs) (number_put c.args.page.now c.write_u32.new.buf (little_bytes 4 c.args.number) c.args.at 4 c.requires (length_little 4 c.args.number) c.write_u32.ensures)
+    ∙ length_put c.args.page.now c.args.at 4 c.args.number c.requires
