@@ -1,5 +1,5 @@
 //! Calls: the body that runs waits, and another one begins.
-ghost use Rattle.std.specs.Prelude.{◌≡◌, ◌+◌, ◌<◌, ◌≤◌, length, true, vec_len, IfSome, List};
+ghost use Rattle.std.specs.Prelude.{◌≡◌, ◌≢◌, ◌+◌, ◌<◌, ◌≤◌, length, true, vec_len, IfSome, List};
 ghost use Rattle.joint_ops.specs.obj_layout.declared.reference.Reference.{Reference};
 ghost use Rattle.ps_stepping.specs.ps_meaning.Evaluation.{most_calls};
 ghost use Rattle.ps_stepping.specs.Config.{Config};
@@ -7,6 +7,7 @@ ghost use Rattle.ps_stepping.specs.Procedures.{takes_refs as takes_refs_of};
 ghost use Rattle.machine_core.specs.Calling.{Calls, HasBelow};
 ghost use Rattle.machine_core.specs.Holding.{HeldBy, IsSound};
 ghost use Rattle.machine_core.specs.Naming.{IsNamed, NamesObjects};
+ghost use Rattle.machine_core.specs.declared.stepped.Stepped.TheVariants.{Breaks};
 ghost use Rattle.machine_core.specs.inside.Handing.{IsEntered};
 
 use crate::body::Body;
@@ -52,7 +53,8 @@ pub fn call_body<V: Vault>(m: &mut Machine, body: Body, refs: u32, line: Line) -
     requires sound { IsSound m.old }
     requires there { m.old.frame.refs + refs < length m.old.refs.own }
     requires takes { takes_refs_of refs body.frame ≡ true }
-    ensures { (v : V) → Calls (V.outside v) body refs line m.old m.new result }
+    ensures calls { (v : V) → Calls (V.outside v) body refs line m.old m.new result }
+    ensures goes { result ≢ Breaks }
 {
     let params = body.frame.num_params;
     if m.nums.len() < m.frame.nums as usize + params as usize {

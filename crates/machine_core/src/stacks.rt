@@ -1,10 +1,11 @@
-ghost use Rattle.std.specs.Prelude.{◌≡◌, ◌<◌, ◌+◌, ◌≤◌, length, IfSome, List};
+ghost use Rattle.std.specs.Prelude.{◌≡◌, ◌≢◌, ◌<◌, ◌+◌, ◌≤◌, length, IfSome, List};
 ghost use Rattle.joint_ops.specs.swizzle.Heap.{IsHeld};
 ghost use Rattle.ps_stepping.specs.Config.{Config, frame_words};
 ghost use Rattle.ps_stepping.specs.Machine.{put_num as put_num_of, push_num as push_num_of, push_ref as push_ref_of, pop_num as pop_num_of, pop_ref as pop_ref_of, pop_width as pop_width_of, on, with_num, with_ref};
 ghost use Rattle.machine_core.specs.Holding.{Holds, IsSound, object_in, word_of};
 ghost use Rattle.machine_core.specs.Naming.{IsNamed, NamesObjects};
 ghost use Rattle.machine_core.specs.Stepped.{Takes};
+ghost use Rattle.machine_core.specs.declared.stepped.Stepped.TheVariants.{Breaks};
 ghost use Rattle.machine_core.specs.inside.Taking.{Leaves, Taken, TakenRef, HasTop, HasTopRef, HasTwo, TakesTwo, TakesRef, Becomes, ReadsNum, ReadsRef};
 
 use crate::machine::{FRAME_WORDS, Machine};
@@ -96,7 +97,8 @@ pub fn top_ref<V: Vault>(m: &Machine) -> Option<u32>
 pub fn put_num<V: Vault>(m: &mut Machine, z: i32) -> Stepped
     requires sound { IsSound m.old }
     requires room { length m.old.nums.own < frame_words }
-    ensures { (v : V) → Takes (V.outside v) (V.outside v) (put_num_of z) m.old m.new result }
+    ensures takes { (v : V) → Takes (V.outside v) (V.outside v) (put_num_of z) m.old m.new result }
+    ensures goes { result ≢ Breaks }
 {
     m.nums.push_reserved(z);
     Stepped::Quiet
@@ -106,7 +108,8 @@ pub fn put_num<V: Vault>(m: &mut Machine, z: i32) -> Stepped
 #[inline(always)]
 pub fn push_num<V: Vault>(m: &mut Machine, z: i32) -> Stepped
     requires { IsSound m.old }
-    ensures { (v : V) → Takes (V.outside v) (V.outside v) (push_num_of z) m.old m.new result }
+    ensures takes { (v : V) → Takes (V.outside v) (V.outside v) (push_num_of z) m.old m.new result }
+    ensures goes { result ≢ Breaks }
 {
     if m.nums.len() >= FRAME_WORDS {
         return Stepped::Damaged;
@@ -138,7 +141,8 @@ pub fn word(to: Option<u32>) -> u32
 pub fn put_ref<V: Vault>(m: &mut Machine, to: Option<u32>) -> Stepped
     requires sound { IsSound m.old }
     requires room { length m.old.refs.own < frame_words }
-    ensures { (v : V) → TakesRef (V.outside v) (V.outside v) push_ref_of m.old to m.new result }
+    ensures takes { (v : V) → TakesRef (V.outside v) (V.outside v) push_ref_of m.old to m.new result }
+    ensures goes { result ≢ Breaks }
 {
     m.objects.sound();
     m.refs.push_reserved(word(to));
@@ -149,7 +153,8 @@ pub fn put_ref<V: Vault>(m: &mut Machine, to: Option<u32>) -> Stepped
 #[inline(always)]
 pub fn push_ref<V: Vault>(m: &mut Machine, to: Option<u32>) -> Stepped
     requires { IsSound m.old }
-    ensures { (v : V) → TakesRef (V.outside v) (V.outside v) push_ref_of m.old to m.new result }
+    ensures takes { (v : V) → TakesRef (V.outside v) (V.outside v) push_ref_of m.old to m.new result }
+    ensures goes { result ≢ Breaks }
 {
     if m.refs.len() >= FRAME_WORDS {
         return Stepped::Damaged;

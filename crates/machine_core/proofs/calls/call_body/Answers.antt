@@ -9,8 +9,8 @@ use Rattle.machine_core.proofs.Calling.{stuck-call, too-deep, out-of-turns, begu
 use Rattle.machine_core.proofs.Naming.{names-entered}
 use Rattle.machine_core.proofs.calls.call_body.Goals as goal
 
-pub returns-then-len-m : goal.returns-then-len-m
-returns-then-len-m g c =
+pub returns-then-len-m-clause-calls : goal.returns-then-len-m-clause-calls
+returns-then-len-m-clause-calls g c =
     let m = c.args.m.now in
     let there = c.requires.there in
     let at = length m.refs.own - 1 - c.args.refs in
@@ -23,8 +23,8 @@ returns-then-len-m g c =
           (omega (arith, c.len.ensures, c.if-len-m.true));
     }
 
-pub returns-then-len-ge-MOST_CALLERS : goal.returns-then-len-ge-MOST_CALLERS
-returns-then-len-ge-MOST_CALLERS g c =
+pub returns-then-len-ge-MOST_CALLERS-clause-calls : goal.returns-then-len-ge-MOST_CALLERS-clause-calls
+returns-then-len-ge-MOST_CALLERS-clause-calls g c =
     let m = c.args.m.now in
     let there = c.requires.there in
     let at = length m.refs.own - 1 - c.args.refs in
@@ -44,8 +44,8 @@ returns-then-len-ge-MOST_CALLERS g c =
           (t.does conf (record { names = names; held = h }));
     }
 
-pub returns-then-m-eq0 : goal.returns-then-m-eq0
-returns-then-m-eq0 g c =
+pub returns-then-m-eq0-clause-calls : goal.returns-then-m-eq0-clause-calls
+returns-then-m-eq0-clause-calls g c =
     let m = c.args.m.now in
     let there = c.requires.there in
     let at = length m.refs.own - 1 - c.args.refs in
@@ -65,8 +65,8 @@ returns-then-m-eq0 g c =
           (t.does conf (record { names = names; held = h }));
     }
 
-pub returns : goal.returns
-returns g c =
+pub returns-clause-calls : goal.returns-clause-calls
+returns-clause-calls g c =
     let m = c.args.m.now in
     let e = c.enter.ensures in
     let body = c.args.body in

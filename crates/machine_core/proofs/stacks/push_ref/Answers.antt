@@ -2,8 +2,8 @@ use Rattle.std.proofs.Common.{refl, arith}
 use Rattle.machine_core.proofs.Popping.{pushes_no_ref}
 use Rattle.machine_core.proofs.stacks.push_ref.Goals as goal
 
-pub returns-then-len-ge-FRAME_WORDS : goal.returns-then-len-ge-FRAME_WORDS
-returns-then-len-ge-FRAME_WORDS g c =
+pub returns-then-len-ge-FRAME_WORDS-clause-takes : goal.returns-then-len-ge-FRAME_WORDS-clause-takes
+returns-then-len-ge-FRAME_WORDS-clause-takes g c =
     let m = c.args.m.now in
     λ v. record {
       sound = c.requires;

@@ -2,8 +2,8 @@ use Rattle.std.proofs.Common.{◌≡◌, ◌++◌, ◌∷◌, [], rules, refl}
 use Rattle.machine_core.proofs.Popping.{puts_num}
 use Rattle.machine_core.proofs.stacks.put_num.Goals as goal
 
-pub returns : goal.returns
-returns g c =
+pub returns-clause-takes : goal.returns-clause-takes
+returns-clause-takes g c =
     let m = c.args.m.now in
     let own : c.push_reserved.new.self.own ≡ m.nums.own ++ c.args.z ∷ [] = search rules in
     λ v. record {

@@ -6,8 +6,8 @@ use Rattle.machine_core.proofs.Popping.{pushes_ref}
 use Rattle.machine_core.proofs.Words.{named-back}
 use Rattle.machine_core.proofs.stacks.put_ref.Goals as goal
 
-pub returns : goal.returns
-returns g c =
+pub returns-clause-takes : goal.returns-clause-takes
+returns-clause-takes g c =
     let m = c.args.m.now in
     let w = word_of c.args.to in
     λ v.

@@ -7,7 +7,7 @@ use Rattle.machine_core.proofs.values.dup_num.Goals as goal
 pub returns-in-Some : goal.returns-in-Some
 returns-in-Some g c = λ v.
     let out = g.V.Vault.outside v in
-    let t : Takes out out (push_num c.in-Some.z) c.args.m.now c.push_num.new.m c.push_num.result = search (rules, c.push_num.ensures v) in
+    let t : Takes out out (push_num c.in-Some.z) c.args.m.now c.push_num.new.m c.push_num.result = search (rules, c.push_num.ensures.takes v) in
     top-stays out out c.args.m.now c.push_num.new.m c.push_num.result c.in-Some.z (push_num c.in-Some.z) (λ conf z d. push_num z conf) (c.in-Some.ensures v) (λ conf d. refl) t
 
 pub returns-in-None : goal.returns-in-None

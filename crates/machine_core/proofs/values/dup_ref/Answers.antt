@@ -8,7 +8,7 @@ use Rattle.machine_core.proofs.values.dup_ref.Goals as goal
 pub returns-in-Some : goal.returns-in-Some
 returns-in-Some g c = λ v.
     let out = g.V.Vault.outside v in
-    let t : TakesRef out out push_ref c.args.m.now (object_in c.in-Some.word) c.push_ref.new.m c.push_ref.result = search (rules, c.push_ref.ensures v) in
+    let t : TakesRef out out push_ref c.args.m.now (object_in c.in-Some.word) c.push_ref.new.m c.push_ref.result = search (rules, c.push_ref.ensures.takes v) in
     top-ref-stays out out c.args.m.now c.push_ref.new.m c.push_ref.result c.in-Some.word push_ref (λ conf value d. push_ref value conf) c.in-Some.ensures.named (c.in-Some.ensures.top v)
     (λ conf d value. refl) t
 

@@ -9,7 +9,7 @@ pub returns-in-Some : goal.returns-in-Some
 returns-in-Some g c = λ v.
     let out = g.V.Vault.outside v in
     let reads = c.in-Some.ensures.reads v in
-    let t : Takes out out (push_num c.in-Some.z) c.args.m.now c.push_num.new.m c.push_num.result = search (rules, c.push_num.ensures v) in
+    let t : Takes out out (push_num c.in-Some.z) c.args.m.now c.push_num.new.m c.push_num.result = search (rules, c.push_num.ensures.takes v) in
     same-held out out c.args.m.now c.push_num.new.m c.push_num.result (push_num c.in-Some.z) (λ conf. if is_num_slot conf c.args.slot then push_num (conf.locals.nums c.args.slot) conf else Stuck)
     (λ conf h. ap (λ (b : Bool). if b then push_num (conf.locals.nums c.args.slot) conf else Stuck) (reads conf h).0 ∙ ap (λ (z : ℤ). push_num z conf) (reads conf h).1) t
 

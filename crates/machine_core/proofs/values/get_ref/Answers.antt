@@ -10,7 +10,7 @@ pub returns-in-Some : goal.returns-in-Some
 returns-in-Some g c = λ v.
     let out = g.V.Vault.outside v in
     let reads = c.in-Some.ensures.reads v in
-    let t : TakesRef out out push_ref c.args.m.now (object_in c.in-Some.word) c.push_ref.new.m c.push_ref.result = search (rules, c.push_ref.ensures v) in
+    let t : TakesRef out out push_ref c.args.m.now (object_in c.in-Some.word) c.push_ref.new.m c.push_ref.result = search (rules, c.push_ref.ensures.takes v) in
     local-leads out out c.args.m.now c.push_ref.new.m c.push_ref.result c.args.slot c.in-Some.word push_ref
     (λ conf. if is_ref_slot conf c.args.slot then push_ref (conf.locals.refs c.args.slot) conf else Stuck) c.in-Some.ensures.named reads
     (λ conf h. ap (λ (b : Bool). if b then push_ref (conf.locals.refs c.args.slot) conf else Stuck) (reads conf h).0) t

@@ -9,6 +9,6 @@ use Rattle.machine_core.proofs.values.not.Goals as goal
 pub returns-in-Some : goal.returns-in-Some
 returns-in-Some g c = λ v.
     let out = g.V.Vault.outside v in
-    let t : Takes out out (put_num (number_of (not (is_one c.in-Some.z)))) c.pop_num.new.m c.put_num.new.m c.put_num.result = search (rules, c.put_num.ensures v) in
+    let t : Takes out out (put_num (number_of (not (is_one c.in-Some.z)))) c.pop_num.new.m c.put_num.new.m c.put_num.result = search (rules, c.put_num.ensures.takes v) in
     taken-then out out c.args.m.now c.pop_num.new.m c.put_num.new.m c.put_num.result c.in-Some.ensures.leaves pop_num c.in-Some.z (λ z d. put_num (number_of (not (is_one z))) d)
     (c.in-Some.ensures.taken v) t
