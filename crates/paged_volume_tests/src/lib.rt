@@ -1,0 +1,9 @@
+//! Tests of volumes whose pages a map names, over a host in memory.
+#![tactic(auto)]
+
+#[cfg(test)]
+mod attaching;
+#[cfg(test)]
+mod files;
+#[cfg(test)]
+mod forged;
