@@ -3,12 +3,12 @@ ghost use Rattle.machine_core.specs.ps_stepping.Objects.{read_line as read_line_
 ghost use Rattle.machine_core.specs.Holding.{IsSound};
 ghost use Rattle.machine_core.specs.Stepped.{Takes};
 
-use machine_operands::gives::give_text;
 use machine_core::ends::trapped;
+use machine_core::obj_layout::vault::Vault;
 use machine_core::stacks::push_num;
 use machine_core::values::number;
 use machine_core::{Machine, Stepped};
-use machine_core::obj_layout::vault::Vault;
+use machine_operands::gives::give_text;
 use ps_base::line::Line;
 use ps_base::trap::Trap;
 
@@ -34,6 +34,6 @@ pub fn at_end<V: Vault>(m: &mut Machine) -> Stepped
     requires { IsSound m.old }
     ensures { (v : V) → Takes (V.outside v) (V.outside v) at_end_of m.old m.new result }
 {
-    let is_at_end = m.input.is_at_end();
-    push_num::<V>(m, number(is_at_end))
+    let ended = m.input.is_at_end();
+    push_num::<V>(m, number(ended))
 }

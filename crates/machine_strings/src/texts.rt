@@ -13,13 +13,13 @@ ghost use Rattle.machine_core.specs.Naming.{NamesObjects};
 ghost use Rattle.machine_core.specs.Stepped.{Takes, UnlessBroken};
 
 use crate::inputs::{at_end, read_line};
-use machine_operands::constants::text_constant;
-use machine_operands::gives::give_text;
+use machine_core::obj_layout::vault::Vault;
 use machine_core::stacks::{push_num, push_ref};
 use machine_core::values::number;
 use machine_core::writes::written;
 use machine_core::{Item, Machine, Stepped};
-use machine_core::obj_layout::vault::Vault;
+use machine_operands::constants::text_constant;
+use machine_operands::gives::give_text;
 use machine_operands::pops::{pop_int, pop_text, take_width};
 use ps_base::line::Line;
 use ps_base::operator::Relation;
