@@ -41,11 +41,11 @@ no-input out line m new r none t =
 
 module _ (m : Machine) (input : List ℕ) where
   -- the machine with this input
-  abbrev pub behind : Machine
-  behind = record m { input = input }
+  abbrev pub line-passed : Machine
+  line-passed = record m { input = input }
 
   -- the input is no part of what is said of the stacks, and names no object
-  pub line-leaves : IsSound m → Leaves m behind
+  pub line-leaves : IsSound m → Leaves m line-passed
   line-leaves sound = record {
     sound = record {
       nums_fit = sound.nums_fit;
@@ -62,9 +62,9 @@ module _ (m : Machine) (input : List ℕ) where
     names = λ n. record { code = n.code; scope = n.scope; own = n.own; below = n.below; callers = n.callers; item = n.item };
   }
 
-  pub held-behind : (out : Outside Space) (names : List Reference) (c : Config) → HeldBy out names m c → input ≡ behind_line m.input
-      → HeldBy out names behind (holding (on_input (behind_line c.store.input) c.store) c)
-  held-behind out names c h is = record {
+  pub held-passed : (out : Outside Space) (names : List Reference) (c : Config) → HeldBy out names m c → input ≡ behind_line m.input
+      → HeldBy out names line-passed (holding (on_input (behind_line c.store.input) c.store) c)
+  held-passed out names c h is = record {
     unit_is = h.unit_is;
     fit = h.fit;
     frame_is = h.frame_is;

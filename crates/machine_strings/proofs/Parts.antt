@@ -1,5 +1,5 @@
 -- What an instruction does, from what its parts take from the stacks and give.
-use Rattle.std.proofs.Common.{◌≡◌, ℕ, List, Option, Some, sym, ap, ◌∙◌, subst}
+use Rattle.std.proofs.Common.{◌≡◌, ℕ, List, Some, sym, ◌∙◌, subst}
 use Rattle.std.specs.Prelude.{Result, IfOk}
 use Rattle.ps_base.specs.declared.line.Line.{Line}
 use Rattle.machine_core.specs.ps_outside.Outside.{Outside}
@@ -12,18 +12,17 @@ use Rattle.machine_core.specs.heap_texts.declared.fault.OpFault.{OpFault}
 use Rattle.machine_core.specs.ps_meaning.Values.{Text}
 use Rattle.machine_core.specs.ps_meaning.Texts.{Attempt}
 use Rattle.machine_core.specs.ps_stepping.Config.{Config}
-use Rattle.machine_core.specs.ps_stepping.Steps.{Step, Stuck, attempted, pop_text}
+use Rattle.machine_core.specs.ps_stepping.Steps.{Step, attempted, pop_text}
 use Rattle.machine_core.specs.ps_stepping.Objects.{make_text}
 use Rattle.machine_core.specs.joint_ops.World.{DenotesIn}
 use Rattle.machine_core.specs.joint_ops.Made.{MakesText}
 use Rattle.machine_core.specs.declared.machine.Machine.{Machine}
 use Rattle.machine_core.specs.declared.stepped.Stepped.{Stepped}
-use Rattle.machine_core.specs.declared.stepped.Stepped.TheVariants.{Damaged}
 use Rattle.machine_core.specs.Holding.{HeldBy, words_of}
 use Rattle.machine_core.specs.Stepped.{Does, Takes, UnlessBroken}
 use Rattle.machine_core.specs.inside.Taking.{Leaves}
 use Rattle.machine_core.proofs.of_heap_ops.ClassLaws.{stands-kept}
-use Rattle.machine_core.proofs.Carrying.{does-behind, size-behind}
+use Rattle.machine_core.proofs.Carrying.{size-behind}
 use Rattle.machine_core.proofs.Naming.{names-last}
 use Rattle.machine_operands.specs.Popping.{PopsText}
 use Rattle.machine_operands.specs.Giving.{GivesText}
@@ -43,10 +42,10 @@ pub still-denotes : (out : Outside Space) (old new : Machine) (names : List Refe
 still-denotes out old new names at bytes same d = subst (λ (here : area.Heap). DenotesIn here out names (Some at) (Text bytes)) (sym same) d
 
 module _ (out : Outside Space) (of : Config → Step) (old last : Machine) (left : Leaves old last) where
-  -- what the parts have taken stands on the machine's stacks no more, and the step is this one of what it holds then
-  pub comes-to : (step : Config → Step) (new : Machine) (r : Stepped) → Takes out out step last new r
+  -- after the parts that left the objects, the step is this one of what the machine holds then
+  pub after-parts : (step : Config → Step) (new : Machine) (r : Stepped) → Takes out out step last new r
       → ((names : List Reference) (c : Config) → HeldBy out names old c → (d : Config) × (of c ≡ step d) × HeldBy out names last d) → Takes out out of old new r
-  comes-to step new r t leads = record {
+  after-parts step new r t leads = record {
     sound = t.sound;
     names = λ n. t.names (left.names n);
     size = subst (λ (here : area.Heap). UnlessBroken r (new.objects.size ≡ here.size)) left.objects t.size;
@@ -54,15 +53,6 @@ module _ (out : Outside Space) (of : Config → Step) (old last : Machine) (left
         let d = leads h.names c h.held in
         subst (λ (s : Step). Does out out old.objects.size s r new) (sym d.1)
         (subst (λ (here : area.Heap). Does out out here.size (step d.0) r new) left.objects (t.does d.0 (record { names = h.names; held = d.2 })));
-  }
-
-  -- there is no step
-  pub no-step : ((names : List Reference) (c : Config) → HeldBy out names old c → of c ≡ Stuck) → Takes out out of old last Damaged
-  no-step stuck = record {
-    sound = left.sound;
-    names = left.names;
-    size = ap (λ (here : area.Heap). here.size) left.objects;
-    does = λ c h. stuck h.names c h.held;
   }
 
   module _ (line : Line) (now : area.Heap) (made : Result ℕ OpFault) where

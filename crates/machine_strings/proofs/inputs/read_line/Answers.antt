@@ -1,13 +1,11 @@
-use Rattle.std.proofs.Common.{◌≡◌, ℕ, List, true, false, sym, ap, ◌∙◌, subst, refl, rules}
+use Rattle.std.proofs.Common.{◌≡◌, ℕ, List, sym, ap, ◌∙◌, subst, refl, rules}
 use Rattle.machine_core.specs.ps_meaning.Meaning.{on_input}
 use Rattle.machine_core.specs.ps_meaning.Texts.{Attempt, behind_line, line_read, string_of}
 use Rattle.machine_core.specs.ps_stepping.Steps.{attempted}
 use Rattle.machine_core.specs.ps_stepping.Objects.{read_line, make_text, holding}
-use Rattle.machine_core.specs.ps_stepping.Machine.{Stops}
 use Rattle.machine_core.specs.joint_ops.Made.{MakesText}
-use Rattle.machine_core.proofs.Between.{same-held}
 use Rattle.machine_strings.proofs.Parts.{gives}
-use Rattle.machine_strings.proofs.LinesRead.{none-read, line-read, behind, line-leaves, held-behind, no-input}
+use Rattle.machine_strings.proofs.LinesRead.{none-read, line-read, line-passed, line-leaves, held-passed, no-input}
 use Rattle.machine_strings.proofs.inputs.read_line.Goals as goal
 
 pub returns-then-is_at_end : goal.returns-then-is_at_end
@@ -28,7 +26,7 @@ returns g c =
     let passed : left ≡ behind_line m.input = search rules in
     λ v.
     let out = g.V.Vault.outside v in
-    gives out (read_line line) m (behind m left) (line-leaves m left c.requires) line made.new.self made.result c.give_text.new.m c.give_text.result
+    gives out (read_line line) m (line-passed m left) (line-leaves m left c.requires) line made.new.self made.result c.give_text.new.m c.give_text.result
     made.ensures.keeps made.ensures.held (c.give_text.ensures v)
     (λ names conf h.
     let attempt = line_read conf.store.input in
@@ -37,7 +35,7 @@ returns g c =
       next = holding (on_input (behind_line conf.store.input) conf.store) conf;
       attempt = attempt;
       step = refl;
-      held = held-behind m left out names conf h passed;
+      held = held-passed m left out names conf h passed;
       makes =
           subst (λ (a : Attempt (List ℕ)). MakesText m.objects made.new.self out conf.store.heap names a made.result) is
           (made.ensures.made v conf.store.heap names h.world);

@@ -6,7 +6,7 @@ use Rattle.machine_core.specs.ps_meaning.Evaluation.{text_relation}
 use Rattle.machine_core.specs.ps_stepping.Steps.{push_num}
 use Rattle.machine_core.specs.ps_stepping.Objects.{compare_texts}
 use Rattle.machine_core.specs.Stepped.{Takes}
-use Rattle.machine_strings.proofs.Parts.{both-leave, comes-to, two-texts}
+use Rattle.machine_strings.proofs.Parts.{both-leave, after-parts, two-texts}
 use Rattle.machine_strings.proofs.texts.compare_texts.Goals as goal
 
 pub returns : goal.returns
@@ -23,7 +23,7 @@ returns g c =
     let same : to_z w32 (of_z w32 c.number.result) ≡ c.number.result = search rules in
     λ v.
     let out = g.V.Vault.outside v in
-    comes-to out (compare_texts op) m last (both-leave m mid last p.leaves q.leaves) (push_num c.number.result) did.new.m did.result
+    after-parts out (compare_texts op) m last (both-leave m mid last p.leaves q.leaves) (push_num c.number.result) did.new.m did.result
     (subst (λ (z : ℤ). Takes out out (push_num z) last did.new.m did.result) same (did.ensures v))
     (λ names conf h.
     let t = two-texts out m mid last c.in-Some.b c.in-Some-pop_text.a (p.pops v) (q.pops v) q.leaves.objects names conf h in

@@ -4,7 +4,7 @@ use Rattle.std.proofs.Common.{◌≡◌, ℕ, ℤ, pos, length, rules, arith, ap
 use Rattle.machine_core.specs.ps_stepping.Steps.{push_num}
 use Rattle.machine_core.specs.ps_stepping.Objects.{text_length}
 use Rattle.machine_core.specs.Stepped.{Takes}
-use Rattle.machine_strings.proofs.Parts.{comes-to}
+use Rattle.machine_strings.proofs.Parts.{after-parts}
 use Rattle.machine_strings.proofs.texts.length.Goals as goal
 
 pub returns : goal.returns
@@ -16,7 +16,7 @@ returns g c =
     let same : to_z w32 (of_z w32 c.cast_signed.result) ≡ pos count.result = search (rules, arith) in
     λ v.
     let out = g.V.Vault.outside v in
-    comes-to out text_length c.args.m.now last p.leaves (push_num (pos count.result)) did.new.m did.result
+    after-parts out text_length c.args.m.now last p.leaves (push_num (pos count.result)) did.new.m did.result
     (subst (λ (z : ℤ). Takes out out (push_num z) last did.new.m did.result) same (did.ensures v))
     (λ names conf h.
     let a = (p.pops v).gives names conf h in

@@ -3,7 +3,7 @@ use Rattle.machine_core.specs.ps_stepping.Steps.{pop_text}
 use Rattle.machine_core.specs.ps_stepping.Machine.{write_text, written}
 use Rattle.machine_core.specs.swizzle.Text.{text_at}
 use Rattle.machine_core.proofs.of_joint_ops.SeenLaws.{text-denoted}
-use Rattle.machine_strings.proofs.Parts.{both-leave, comes-to}
+use Rattle.machine_strings.proofs.Parts.{both-leave, after-parts}
 use Rattle.machine_strings.proofs.texts.write_text.Goals as goal
 
 pub returns : goal.returns
@@ -18,7 +18,7 @@ returns g c =
     let text = c.in-Some-pop_text.text in
     λ v.
     let out = g.V.Vault.outside v in
-    comes-to out (write_text c.args.given line) m last (both-leave m mid last p.leaves q.leaves) (written line width (text_at last.objects text)) c.written.new.m c.written.result
+    after-parts out (write_text c.args.given line) m last (both-leave m mid last p.leaves q.leaves) (written line width (text_at last.objects text)) c.written.new.m c.written.result
     (c.written.ensures v)
     (λ names conf h.
     let w = (p.pops v).gives names conf h in
