@@ -58,15 +58,15 @@ module _ (before after : Outside Space) (m : Machine) (now : area.Heap) (k : ℕ
 
   abbrev pub GivesText : Result (Option ℕ) SwizzleFault → Type 0
   GivesText r = (bytes : List ℕ) (row : ConstantsView) (frame : Frame) → IsUnitIn m.objects before m.code (unit bytes row frame)
-      → IsFitUnit (unit bytes row frame) → AnswersText m.objects now before after m.code row k r
+      → AnswersText m.objects now before after m.code row k r
 
   abbrev pub GivesLiteral : Result (Option ℕ) SwizzleFault → Type 0
   GivesLiteral r = (bytes : List ℕ) (row : ConstantsView) (frame : Frame) → IsUnitIn m.objects before m.code (unit bytes row frame)
       → IsFitUnit (unit bytes row frame) → AnswersLiteral m.objects now before after m.code row k r
 
-  text-given : (r : Result (Option ℕ) SwizzleFault) → GivesText r → (u : UnitView) → IsUnitIn m.objects before m.code u → IsFitUnit u
+  text-given : (r : Result (Option ℕ) SwizzleFault) → GivesText r → (u : UnitView) → IsUnitIn m.objects before m.code u
       → AnswersText m.objects now before after m.code (constants_in u) k r
-  text-given r g (unit bytes row frame) i fit = g bytes row frame i fit
+  text-given r g (unit bytes row frame) i = g bytes row frame i
 
   literal-given : (r : Result (Option ℕ) SwizzleFault) → GivesLiteral r → (u : UnitView) → IsUnitIn m.objects before m.code u → IsFitUnit u
       → AnswersLiteral m.objects now before after m.code (constants_in u) k r
@@ -76,7 +76,8 @@ module _ (before after : Outside Space) (m : Machine) (now : area.Heap) (k : ℕ
   constant-broken : (s : Step) (row : ConstantsView) (fault : SwizzleFault) → (constant_at row k ≡ None → s ≡ Stuck)
       → AnswersConstant m.objects now before after m.code row k (Err fault) → BreaksBy before after m.objects.size s fault
   constant-broken s row fault none (inl a) =
-      damage-breaks before after m.objects.size s fault (none (same-constant row k ∙ a.0)) ((header_at m.objects m.code).pid, a.1)
+      let d = a.1 in
+      damage-breaks before after m.objects.size s fault (none (same-constant row k ∙ a.0)) ((header_at m.objects m.code).pid, d.0, d.1, d.2)
   constant-broken s row fault none (inr a) = broken-off m.objects now before after s fault a.2
 
   -- What follows a text constant.
@@ -94,7 +95,7 @@ module _ (before after : Outside Space) (m : Machine) (now : area.Heap) (k : ℕ
       size = size-behind r m.objects.size now.size new.objects.size keeps.size size;
       does = λ c h.
           let s = kept c.store.heap h.names h.held.world in
-          let a = text-given (Ok (Some at)) given c.unit h.held.unit_is h.held.fit in
+          let a = text-given (Ok (Some at)) given c.unit h.held.unit_is in
           subst (λ (x : Step). Does before after m.objects.size x r new)
           (sym (ap (λ (o : Option ConstantView). text_in o (λ bytes. next bytes c)) (same-constant (constants_in c.unit) k ∙ a.1)))
           (done-behind before after m now (next a.0 c) new r left keeps
@@ -107,7 +108,7 @@ module _ (before after : Outside Space) (m : Machine) (now : area.Heap) (k : ℕ
       names = names-kept m now keeps;
       size = keeps.size;
       does = λ c h.
-          let a = text-given (Ok None) given c.unit h.held.unit_is h.held.fit in
+          let a = text-given (Ok None) given c.unit h.held.unit_is in
           let is = same-constant (constants_in c.unit) k ∙ a.1 in
           text-stuck (constant_at (constants_in c.unit) k) (λ bytes. text-alone (constant_at (constants_in c.unit) k) a.0 bytes is) (λ bytes. next bytes c);
     }
@@ -118,7 +119,7 @@ module _ (before after : Outside Space) (m : Machine) (now : area.Heap) (k : ℕ
         breaks-takes before after m now Following fault new r answer is sound
         (λ c h.
         constant-broken (Following c) (constants_in c.unit) fault (λ none. ap (λ (o : Option ConstantView). text_in o (λ bytes. next bytes c)) none)
-        (text-given (Err fault) given c.unit h.held.unit_is h.held.fit))
+        (text-given (Err fault) given c.unit h.held.unit_is))
 
   -- And a unit.
 

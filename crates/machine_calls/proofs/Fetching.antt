@@ -1,5 +1,5 @@
 -- A machine after a reading of objects, and after an operation that broke off.
-use Rattle.std.proofs.Common.{◌≡◌, ◌≢◌, ℕ, inl, inr, refl, sym, subst}
+use Rattle.std.proofs.Common.{◌≡◌, ◌≢◌, ℕ, refl, sym, ◌∙◌, subst}
 use Rattle.machine_core.specs.ps_outside.Outside.{Outside}
 use Rattle.machine_core.specs.obj_layout.Stored.{Space}
 use Rattle.machine_core.specs.obj_layout.declared.vault.VaultFault.TheVariants.{Device, Output, Full}
@@ -7,7 +7,7 @@ use Rattle.machine_core.specs.swizzle.Heap as area
 use Rattle.machine_core.specs.swizzle.Reading.{LeavesOutside, FailsReading}
 use Rattle.machine_core.specs.swizzle.Touch.{Keeps}
 use Rattle.machine_core.specs.swizzle.declared.fault.SwizzleFault.{SwizzleFault}
-use Rattle.machine_core.specs.swizzle.declared.fault.SwizzleFault.TheVariants.{AreaFull, Vault}
+use Rattle.machine_core.specs.swizzle.declared.fault.SwizzleFault.TheVariants.{Vault}
 use Rattle.machine_core.proofs.of_swizzle.ReadingLaws.{leaves-none}
 use Rattle.machine_core.proofs.of_heap_ops.ClassLaws.{stands-kept}
 use Rattle.machine_core.specs.ps_stepping.Config.{Config}

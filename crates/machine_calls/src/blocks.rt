@@ -32,8 +32,10 @@ pub fn enter_scope<V: Vault>(m: &mut Machine, vault: &mut V, k: u32) -> Stepped
     let code = m.code;
     let got = m.objects.text_of(vault, code, k);
     match got {
-        Ok(Some(text)) => enter(m, vault, text),
-        Ok(None) => Stepped::Damaged,
+        Ok(constant) => match constant {
+            Some(text) => enter(m, vault, text),
+            None => Stepped::Damaged,
+        },
         Err(fault) => broke(m, fault),
     }
 }

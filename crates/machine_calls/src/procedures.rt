@@ -32,8 +32,10 @@ pub fn closure<V: Vault>(m: &mut Machine, vault: &mut V, k: u32) -> Stepped
     let code = m.code;
     let got = m.objects.literal_of(vault, code, k);
     match got {
-        Ok(Some(literal)) => make(m, vault, literal),
-        Ok(None) => Stepped::Damaged,
+        Ok(constant) => match constant {
+            Some(literal) => make(m, vault, literal),
+            None => Stepped::Damaged,
+        },
         Err(fault) => broke(m, fault),
     }
 }

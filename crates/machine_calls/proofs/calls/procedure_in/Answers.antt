@@ -7,4 +7,9 @@ returns-in-Procedure-clause-called g c = λ v.
     c.in-Procedure.is (c.sort_of.ensures.value v)
 
 pub returns-in_default : goal.returns-in_default
-returns-in_default g c = ?
+returns-in_default g c = record {
+  called = λ v.
+      other-object c.args.m.now.objects (g.V.Vault.outside v) c.args.word c.sort_of.result c.object-to.result c.object-to.ensures
+      c.in_default.not-Procedure (c.sort_of.ensures.value v);
+  held = tt;
+}
