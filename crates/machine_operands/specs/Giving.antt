@@ -33,17 +33,17 @@ use Rattle.machine_core.specs.Holding.{HeldIn, IsSound}
 use Rattle.machine_core.specs.Naming.{NamesObjects}
 use Rattle.machine_core.specs.Stepped.{Does, UnlessBroken, ended}
 
--- what an operation that failed returns: its trap, or it broke off, unless the stack has no room either
+-- what an operation that failed returns: its trap, or it broke off where the stack has room
 abbrev pub failed_of : OpFault → Bool → Stepped
-failed_of (op.Trap trap) full = Halts
-failed_of (op.Swizzle fault) true = Damaged
-failed_of (op.Swizzle fault) false = Breaks
+failed_of (op.Trap trap) room = Halts
+failed_of (op.Swizzle fault) true = Breaks
+failed_of (op.Swizzle fault) false = Damaged
 
 -- the machine after it
 abbrev pub failed_in : OpFault → Line → Bool → Machine → Machine
-failed_in (op.Trap trap) line full m = ended (in_code.Trapped trap line) m
-failed_in (op.Swizzle fault) line true m = m
-failed_in (op.Swizzle fault) line false m = record m { fault = fault }
+failed_in (op.Trap trap) line room m = ended (in_code.Trapped trap line) m
+failed_in (op.Swizzle fault) line true m = record m { fault = fault }
+failed_in (op.Swizzle fault) line false m = m
 
 -- and where it has no trap
 abbrev pub broken_of : OpFault → Stepped

@@ -36,16 +36,16 @@ pub fn broke<V: Vault>(m: &mut Machine, fault: SwizzleFault) -> Stepped
 
 // An operation that failed: its trap, or it broke off; where the stack has no room either, that comes first.
 #[inline(never)]
-fn failed<V: Vault>(m: &mut Machine, fault: OpFault, line: Line, full: bool) -> Stepped
+fn failed<V: Vault>(m: &mut Machine, fault: OpFault, line: Line, room: bool) -> Stepped
     requires { IsSound m.old }
-    ensures answer { result ≡ failed_of fault full }
-    ensures left { m.new ≡ failed_in fault line full m.old }
+    ensures answer { result ≡ failed_of fault room }
+    ensures left { m.new ≡ failed_in fault line room m.old }
     ensures sound { IsSound m.new }
 {
     match fault {
         OpFault::Trap(trap) => trapped::<V>(m, trap, line),
         OpFault::Swizzle(fault) => {
-            if full {
+            if !room {
                 return Stepped::Damaged;
             }
             m.fault = fault;
@@ -82,7 +82,7 @@ pub fn give_text<V: Vault>(m: &mut Machine, made: Result<u32, OpFault>, line: Li
         Ok(at) => push_ref::<V>(m, Some(at)),
         Err(fault) => {
             let room = has_room(m);
-            failed::<V>(m, fault, line, !room)
+            failed::<V>(m, fault, line, room)
         }
     }
 }
@@ -97,7 +97,7 @@ pub fn give_object<V: Vault>(m: &mut Machine, made: Result<u32, OpFault>, line: 
         Ok(at) => push_ref::<V>(m, Some(at)),
         Err(fault) => {
             let room = has_room(m);
-            failed::<V>(m, fault, line, !room)
+            failed::<V>(m, fault, line, room)
         }
     }
 }
@@ -125,7 +125,7 @@ pub fn give_number<V: Vault>(m: &mut Machine, got: Result<Value, OpFault>, line:
         Ok(Value::Num(z)) => push_num::<V>(m, z),
         Ok(Value::Flag(flag)) => push_num::<V>(m, number(flag)),
         Ok(Value::Ref(_)) => Stepped::Damaged,
-        Err(fault) => failed::<V>(m, fault, line, false),
+        Err(fault) => failed::<V>(m, fault, line, true),
     }
 }
 
@@ -138,7 +138,7 @@ pub fn give_reference<V: Vault>(m: &mut Machine, got: Result<Value, OpFault>, li
     match got {
         Ok(Value::Ref(to)) => push_ref::<V>(m, to),
         Ok(_) => Stepped::Damaged,
-        Err(fault) => failed::<V>(m, fault, line, false),
+        Err(fault) => failed::<V>(m, fault, line, true),
     }
 }
 
@@ -174,6 +174,6 @@ pub fn done<V: Vault>(m: &mut Machine, written: Result<(), OpFault>, line: Line)
 {
     match written {
         Ok(()) => Stepped::Quiet,
-        Err(fault) => failed::<V>(m, fault, line, false),
+        Err(fault) => failed::<V>(m, fault, line, true),
     }
 }
