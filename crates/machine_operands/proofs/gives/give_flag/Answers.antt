@@ -12,7 +12,7 @@ returns-in-Ok g c =
     λ v w.
     let before = g.V.Vault.outside v in
     let after = g.V.Vault.outside w in
-    let pushed : Takes after after (push_num c.number.result) m c.push_num.new.m c.push_num.result = search (rules, c.push_num.ensures w) in
+    let pushed : Takes after after (push_num c.number.result) m c.push_num.new.m c.push_num.result = search (rules, c.push_num.ensures.takes w) in
     let push : Takes after after (push_num (number_of c.in-Ok.flag)) m c.push_num.new.m c.push_num.result =
     subst (λ z. Takes after after (push_num z) m c.push_num.new.m c.push_num.result) c.number.ensures pushed in
     subst (λ got. GivesFlag before after m c.push_num.new.m c.push_num.result got) (sym c.in-Ok.is)

@@ -15,7 +15,7 @@ returns-in-Ok-Num g c =
     λ v w.
     let before = g.V.Vault.outside v in
     let after = g.V.Vault.outside w in
-    let push : Takes after after (push_num c.in-Ok-Num.z) m c.push_num.new.m c.push_num.result = search (rules, c.push_num.ensures w) in
+    let push : Takes after after (push_num c.in-Ok-Num.z) m c.push_num.new.m c.push_num.result = search (rules, c.push_num.ensures.takes w) in
     subst (λ got. GivesNumber before after m c.push_num.new.m c.push_num.result c.args.line got) (sym is)
     (number-pushed before after m c.push_num.new.m c.push_num.result c.args.line c.in-Ok-Num.z (held.Num c.in-Ok-Num.z) (λ names. int-read m.objects after names c.in-Ok-Num.z) push)
 

@@ -21,4 +21,4 @@ returns g c =
     same-held out out m did.new.m did.result (push_num c.number.result) at_end
     (λ conf h.
     ap (λ (b : Bool). push_num (number_of b) conf) (ap is_at_end (sym h.held.input_is) ∙ sym ended.ensures) ∙ ap (λ (z : ℤ). push_num z conf) (sym flag))
-    (subst (λ (z : ℤ). Takes out out (push_num z) m did.new.m did.result) same (did.ensures v))
+    (subst (λ (z : ℤ). Takes out out (push_num z) m did.new.m did.result) same (did.ensures.takes v))

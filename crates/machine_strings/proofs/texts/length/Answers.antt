@@ -17,7 +17,7 @@ returns g c =
     λ v.
     let out = g.V.Vault.outside v in
     after-parts out text_length c.args.m.now last p.leaves (push_num (pos count.result)) did.new.m did.result
-    (subst (λ (z : ℤ). Takes out out (push_num z) last did.new.m did.result) same (did.ensures v))
+    (subst (λ (z : ℤ). Takes out out (push_num z) last did.new.m did.result) same (did.ensures.takes v))
     (λ names conf h.
     let a = (p.pops v).gives names conf h in
     (a.0, a.2 (λ bytes d. push_num (pos (length bytes)) d) ∙ ap (λ (n : ℕ). push_num (pos n) a.0) (sym (count.ensures.value v names a.1 a.4)), a.3))

@@ -7,7 +7,7 @@ returns-in-Ok-clause-takes g c =
     let after = read.new.vault in
     let given = c.in-Ok.ensures in
     constant-pushed (g.V.Vault.outside c.args.vault.now) (g.V.Vault.outside after) c.args.k c.args.m.now read.new.m c.push_ref.new.m c.in-Ok.text c.push_ref.result
-    given.leaves given.text given.ends given.reads (c.push_ref.ensures after)
+    given.leaves given.text given.ends given.reads (c.push_ref.ensures.takes after)
 
 pub returns-in-Err-clause-takes : goal.returns-in-Err-clause-takes
 returns-in-Err-clause-takes g c =
