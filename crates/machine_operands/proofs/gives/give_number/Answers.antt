@@ -29,7 +29,7 @@ returns-in-Ok-Flag g c =
     λ v w.
     let before = g.V.Vault.outside v in
     let after = g.V.Vault.outside w in
-    let pushed : Takes after after (push_num c.number.result) m new r = search (rules, c.push_num-in-Ok-Flag.ensures w) in
+    let pushed : Takes after after (push_num c.number.result) m new r = search (rules, c.push_num-in-Ok-Flag.ensures.takes w) in
     let push : Takes after after (push_num (number_of b)) m new r = subst (λ z. Takes after after (push_num z) m new r) c.number.ensures pushed in
     subst (λ got. GivesNumber before after m new r c.args.line got) (sym is)
     (number-pushed before after m new r c.args.line (number_of b) (held.Flag b) (λ names. flag-read m.objects after names b) push)
