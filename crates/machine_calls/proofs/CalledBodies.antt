@@ -1,5 +1,5 @@
 -- Procedures that a machine calls.
-use Rattle.std.proofs.Common.{◌≡◌, ◌≢◌, ℕ, zero, suc, ◌<◌, Bool, true, false, List, [], length, Option, Some, None, refl, sym, ap, ◌∙◌, subst}
+use Rattle.std.proofs.Common.{◌≡◌, ◌≢◌, ℕ, Bool, true, false, List, [], length, Option, Some, None, refl, sym, ap, ◌∙◌, subst}
 use Rattle.std.specs.Prelude.{IfSome, MatchOption, Result, Ok, Err, if◌then◌else◌, not, ◌&&◌, nat_eq, nat_lt}
 use Rattle.std.proofs.lemmas.Bool.{eqb-true, eq-eqb}
 use Rattle.ps_base.specs.CodeUnit.{UnitView, unit}
@@ -32,7 +32,6 @@ use Rattle.machine_core.specs.declared.stepped.Stepped.{Stepped}
 use Rattle.machine_core.specs.declared.stepped.Stepped.TheVariants.{Breaks, Damaged}
 use Rattle.machine_core.specs.Calling.{Calls, HasBelow, call_popped}
 use Rattle.machine_core.specs.Holding.{HeldBy, IsSound, object_in, word_of, words_of}
-use Rattle.machine_core.specs.Naming.{NamesObjects}
 use Rattle.machine_core.specs.Stepped.{Takes, Does}
 use Rattle.machine_core.proofs.Carrying.{read-holds, size-behind, broken-off}
 use Rattle.machine_core.proofs.Naming.{word-named}

@@ -28,7 +28,7 @@ use Rattle.machine_core.specs.Holding.{HeldBy, IsSound, words_of}
 use Rattle.machine_core.specs.Naming.{NamesObjects}
 use Rattle.machine_core.specs.Stepped.{Takes, Does, UnlessBroken}
 use Rattle.machine_core.proofs.Carrying.{read-holds, sound-kept, size-behind, broken-off}
-use Rattle.machine_calls.specs.inside.Making.{MakesScopeOf, MakesProcedureOf, in_scope, with_procedure}
+use Rattle.machine_calls.specs.inside.Making.{MakesProcedureOf, with_procedure}
 use Rattle.machine_calls.proofs.Fetching.{broken, names-kept, done-behind, breaks-takes, damage-breaks}
 
 -- the constant of a number is the same as code and machine tell it

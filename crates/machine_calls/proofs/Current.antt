@@ -1,19 +1,18 @@
 -- The current scope of a machine, and what becomes of it.
-use Rattle.std.proofs.Common.{◌≡◌, ℕ, List, [], Option, Some, None, refl, sym, ap, ◌∙◌, subst}
-use Rattle.std.specs.Prelude.{IfSome, Result, Ok, Err}
+use Rattle.std.proofs.Common.{◌≡◌, ℕ, List, [], Option, Some, None, refl, ap, ◌∙◌, subst}
+use Rattle.std.specs.Prelude.{Result, Ok, Err}
 use Rattle.machine_core.specs.ps_outside.Outside.{Outside}
 use Rattle.machine_core.specs.obj_layout.Stored.{Space}
 use Rattle.machine_core.specs.obj_layout.declared.reference.Reference.{Reference}
 use Rattle.machine_core.specs.obj_layout.declared.reference.Reference.TheVariants as name
 use Rattle.machine_core.specs.swizzle.Heap as area
 use Rattle.machine_core.specs.swizzle.Heap.{IsHeld}
-use Rattle.machine_core.specs.swizzle.Reading.{LeavesOutside}
 use Rattle.machine_core.specs.swizzle.Touch.{Keeps}
 use Rattle.machine_core.specs.swizzle.declared.fault.SwizzleFault.{SwizzleFault}
 use Rattle.machine_core.specs.ps_meaning.Objects.{Heap, Object}
 use Rattle.machine_core.specs.ps_meaning.Scopes.{scope_at}
 use Rattle.machine_core.specs.ps_stepping.Config.{Config}
-use Rattle.machine_core.specs.ps_stepping.Steps.{Step, on}
+use Rattle.machine_core.specs.ps_stepping.Steps.{on}
 use Rattle.machine_core.specs.ps_stepping.Procedures.{leave_scope, of_scope}
 use Rattle.machine_core.specs.joint_ops.World.{IsWorld, DenotesScopeIn, seen}
 use Rattle.machine_core.specs.joint_ops.heap_meaning.Standing.{StandsForScope}

@@ -21,7 +21,7 @@ use Rattle.machine_core.specs.declared.stepped.Stepped.TheVariants.{Quiet, Turns
 use Rattle.machine_core.specs.Full.{BreaksBy}
 use Rattle.machine_core.specs.Holding.{Holds, IsSound, words_of}
 use Rattle.machine_core.specs.Naming.{NamesObjects}
-use Rattle.machine_core.specs.Stepped.{Takes, Does, UnlessBroken}
+use Rattle.machine_core.specs.Stepped.{Takes, Does}
 use Rattle.machine_core.proofs.Carrying.{does-behind}
 use Rattle.machine_core.proofs.Naming.{names-last}
 use Rattle.machine_calls.specs.Failing.{FailsAsReading}

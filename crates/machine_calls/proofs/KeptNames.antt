@@ -30,11 +30,10 @@ use Rattle.joint_procedures.proofs.ScopeLaws.{out-none}
 use Rattle.machine_core.specs.declared.machine.Machine.{Machine}
 use Rattle.machine_core.specs.declared.stepped.Stepped.{Stepped}
 use Rattle.machine_core.specs.declared.stepped.Stepped.TheVariants.{Quiet, Breaks, Damaged}
-use Rattle.machine_core.specs.Full.{BreaksBy}
-use Rattle.machine_core.specs.Holding.{HeldBy, IsSound, object_in, words_of}
+use Rattle.machine_core.specs.Holding.{IsSound, object_in, words_of}
 use Rattle.machine_core.specs.Naming.{IsNamed, NamesObjects}
 use Rattle.machine_core.specs.Stepped.{Takes, Does, UnlessBroken}
-use Rattle.machine_core.specs.inside.Taking.{Leaves, Taken, TakenRef, TakesRef}
+use Rattle.machine_core.specs.inside.Taking.{Leaves, Taken, TakenRef}
 use Rattle.machine_core.proofs.Carrying.{held-more, read-holds, sound-kept, size-behind, broken-off}
 use Rattle.machine_core.proofs.Naming.{names-last}
 use Rattle.machine_calls.specs.inside.Names.{number_kept, reference_kept, row_kept, number_pushed, PushesReference, WritesName}

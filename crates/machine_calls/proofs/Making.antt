@@ -17,7 +17,7 @@ use Rattle.machine_core.specs.ps_meaning.Scopes.{new_scope}
 use Rattle.machine_core.specs.ps_meaning.Meaning.{and_object, and_closure}
 use Rattle.machine_core.specs.ps_meaning.Weights.{own_weight, closure_weight}
 use Rattle.machine_core.specs.ps_stepping.Config.{Config, frame_words, frame_in}
-use Rattle.machine_core.specs.ps_stepping.Steps.{Step, Stuck, on, push_ref}
+use Rattle.machine_core.specs.ps_stepping.Steps.{Stuck, on, push_ref}
 use Rattle.machine_core.specs.joint_ops.World.{IsWorld, DenotesIn, DenotesScopeIn, IsUnitIn}
 use Rattle.joint_procedures.specs.Scopes.{MakesScope}
 use Rattle.joint_procedures.specs.Procedures.{MakesProcedure}
@@ -29,7 +29,6 @@ use Rattle.machine_core.specs.Full.{a_scope, a_procedure}
 use Rattle.machine_core.specs.Holding.{IsSound, words_of}
 use Rattle.machine_core.specs.Naming.{NamesObjects}
 use Rattle.machine_core.specs.inside.Taking.{TakesRef}
-use Rattle.machine_core.specs.Stepped.{Does}
 use Rattle.machine_core.proofs.Carrying.{held-more, sound-kept, size-behind, short-full}
 use Rattle.machine_core.proofs.Popping.{refs_taken}
 use Rattle.machine_calls.specs.inside.Making.{MakesScopeOf, MakesProcedureOf, in_scope, with_procedure}

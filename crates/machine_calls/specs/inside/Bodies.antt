@@ -1,5 +1,5 @@
 -- Bodies of procedures that are called.
-use Rattle.std.specs.Prelude.{◌≡◌, ℕ, true, List, Option, Some, IfSome, if◌then◌else◌}
+use Rattle.std.specs.Prelude.{◌≡◌, ℕ, List, Option, Some, IfSome, if◌then◌else◌}
 use Rattle.ps_base.specs.CodeUnit.{UnitView}
 use Rattle.ps_base.specs.declared.line.Line.{Line}
 use Rattle.machine_core.specs.ps_outside.Outside.{Outside}
