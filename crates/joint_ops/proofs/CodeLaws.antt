@@ -199,6 +199,15 @@ pub loads : (old new : area.Heap) (outside : Outside Space) (u : UnitView) (r : 
 loads old new outside u (Ok at) h now fit l = loads-unit old new outside u at h fit l
 loads old new outside u (Err fault) h now fit l = loads-cut old new outside u fault now l
 
+unit-kind : (here : area.Heap) (at : ℕ) (u : UnitView) → IsUnit here at u → (header_at here at).kind ≡ kind.Code
+unfolding IsUnit
+unit-kind here at (unit code cs frame) i = i.0.kind
+
+pub load-kind : (old new : area.Heap) (u : UnitView) (r : Result ℕ SwizzleFault) → OnOk r (IsFitUnit u) → Loads old new u r
+    → IfOk r (λ at. (header_at new at).kind ≡ kind.Code)
+load-kind old new u (Ok at) fit l = unit-kind new at u (loaded-is old new u at fit l)
+load-kind old new u (Err fault) fit l = tt
+
 -- Constants.
 
 -- each of the names is that of a constant

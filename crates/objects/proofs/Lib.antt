@@ -1,6 +1,9 @@
 pub mod LastingLaws
 pub mod FieldEntries
 pub mod VectorEntries
+pub mod ProcedureEntries
+pub mod MakeEntries
+pub mod BodyLaws
 pub mod WrittenLaws
 pub mod ElementLaws
 pub mod BrokenLaws
@@ -11,6 +14,9 @@ pub mod ScopeLaws
 pub mod NamedLaws
 pub mod LaterLaws
 pub mod ReachedLaws
+pub mod FieldForms
+pub mod RowMakes
+pub mod RowsTold
 pub mod PuttingLaws
 pub mod MadeLaws
 pub mod ClassLaws

@@ -8,7 +8,7 @@ use Rattle.ps_port.specs.ps_outside.Outside.{Outside, After}
 use Rattle.shadow_volume.specs.Layout.{number_at, root_at, selects, pages_of_words}
 use Rattle.shadow_volume.specs.Found.{Held, note_at}
 use Rattle.paged_volume.specs.Layout.{capacity_pages, depth_at, page_number}
-use Rattle.paged_volume.specs.Found.{Found, a_volume, found_in, held_at, numbers_of, byte_named, bytes_named, names_tests, behind_names}
+use Rattle.paged_volume.specs.Found.{Found, a_volume, found_in, held_at, numbers_of, byte_named, bytes_named, names_tests, after_names}
 use Rattle.paged_volume.specs.Standing.{IsFit, IsNamedOnce, Says, HasNames, logical_of, place_by, held_in, held_of, committed_in, staged_in, staged_bytes, with_zeros, seen}
 use Rattle.paged_volume.specs.Attaching.{IsFound}
 use Rattle.paged_volume.specs.declared.table.Table.{Table}
@@ -111,7 +111,7 @@ found_volume table image fit once says =
     record {
       volume =
           found_names table.committed image fit says.head says.selected says.root
-          ∙ ap (λ (o : Option Damage). behind_names table.committed.pages table.committed.second image o) passes;
+          ∙ ap (λ (o : Option Damage). after_names table.committed.pages table.committed.second image o) passes;
       note = says.root.note_is;
       depth = says.root.depth_is;
     }

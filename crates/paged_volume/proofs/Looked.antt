@@ -7,7 +7,7 @@ use Rattle.shadow_volume.specs.Attaching.{Looks}
 use Rattle.shadow_volume.specs.declared.finding.OpenFault.{OpenFault}
 use Rattle.shadow_volume.specs.declared.finding.OpenFault.TheVariants.{Device, NotAVolume, Damaged, Memory}
 use Rattle.shadow_volume.proofs.Looking.{looks_then, rose_then}
-use Rattle.paged_volume.specs.Found.{Found, a_volume, damaged, found_in, damage, names_tests, behind_names}
+use Rattle.paged_volume.specs.Found.{Found, a_volume, damaged, found_in, damage, names_tests, after_names}
 use Rattle.paged_volume.specs.Standing.{IsFit, IsTable, Says, HasHead, HasRoot, HasNames, logical_of, map_count}
 use Rattle.paged_volume.specs.Naming.{IsNaming, IsFailed, FailsBy}
 use Rattle.paged_volume.specs.Attaching.{IsRefusal, IsNoVolume}
@@ -31,10 +31,10 @@ pub root_of_is : (committed : Committed) (format pages : ℕ) (bytes : List ℕ)
 root_of_is committed format pages bytes format_is pages_are head selected root =
     record { head = subst (λ (f : ℕ). HasHead f committed.pages bytes) (sym format_is) (subst (λ (p : ℕ). HasHead format p bytes) (sym pages_are) head); selected = selected; root = root }
 
-no_volume_by : (pages : ℕ) (second : Bool) (bytes : List ℕ) (tests : Option Damage) (fault : OpenFault) → found_in bytes ≡ behind_names pages second bytes tests → IsFailed tests fault → IsNoVolume fault bytes
+no_volume_by : (pages : ℕ) (second : Bool) (bytes : List ℕ) (tests : Option Damage) (fault : OpenFault) → found_in bytes ≡ after_names pages second bytes tests → IsFailed tests fault → IsNoVolume fault bytes
 no_volume_by pages second bytes tests Device found is = tt
 no_volume_by pages second bytes tests (NotAVolume size gate) found is = absurd is
-no_volume_by pages second bytes tests (Damaged at number wanted) found is = found ∙ ap (λ (o : Option Damage). behind_names pages second bytes o) is
+no_volume_by pages second bytes tests (Damaged at number wanted) found is = found ∙ ap (λ (o : Option Damage). after_names pages second bytes o) is
 no_volume_by pages second bytes tests Memory found is = tt
 
 refused_names_of : (a b c : Outside (List ℕ)) (committed : Committed) (fault : OpenFault) → IsFit committed → Looks a b 5 → ((bytes : List ℕ) → a.contents bytes → IsRootOf committed bytes) →

@@ -56,7 +56,7 @@ maps_of named map_page = slice_index named (1 + map_page)
 unfoldable pub place_by : List ℕ → ℕ → ℕ
 place_by named page = in_map_page (maps_of named (page / 1024)) page
 
--- each of so many numbers, behind others, names a page that none before it names
+-- each of so many numbers, after others, names a page that none before it names
 abbrev pub AreUnnamed : ℕ → List ℕ → (ℕ → ℕ) → ℕ → Type 0
 AreUnnamed pages before number count = (i : ℕ) → i < count → is_free (unnamed pages (before ++ numbers_of number i)) (number i) ≡ true
 

@@ -71,9 +71,9 @@ impl Objects {
     /// The number of an element of a vector of ints or bools, of a bool 1 or 0, where it is reached by what is known of the vector. None where it isn't:
     /// then it is to be read by `get_element`, which also finds the trap of a subscript.
     #[inline(always)]
-    pub fn element_number<V: Vault>(&self, _vault: &V, vector: u32, at: i32) -> Option<i32>
-        ensures { (of : meaning.Heap) (names : List Reference) (id : ℕ) → IsWorld self.now (V.outside _vault.now) of names
-            → DenotesIn self.now (V.outside _vault.now) names (Some vector) (meant.Vector id) → IfSome result (IsNumber of id at) }
+    pub fn element_number<V: Vault>(&self, vector: u32, at: i32) -> Option<i32>
+        ensures { (vault : V) (of : meaning.Heap) (names : List Reference) (id : ℕ) → IsWorld self.now (V.outside vault) of names
+            → DenotesIn self.now (V.outside vault) names (Some vector) (meant.Vector id) → IfSome result (IsNumber of id at) }
     {
         self.sw.sound();
         peek_number(&self.sw, &self.known.vectors, vector, at)
@@ -107,6 +107,7 @@ impl Objects {
         ensures numbers { SameNumbers V.used_words V.directory_at V.most_words vault.old vault.new }
         ensures alive { UnlessFault result (V.alive vault.new) }
         ensures stands { UnlessFault result (AllStand self.old self.new) }
+        ensures size { UnlessFault result (self.new.size ≡ self.old.size) }
     {
         self.sw.sound();
         match place_for(&self.known.vectors, vector, at, to) {
@@ -387,6 +388,7 @@ fn write_element<V: Vault>(
     ensures numbers { SameNumbers V.used_words V.directory_at V.most_words vault.old vault.new }
     ensures alive { UnlessFault result (V.alive vault.new) }
     ensures stands { UnlessFault result (AllStand sw.old sw.new) }
+    ensures size { UnlessFault result (sw.new.size ≡ sw.old.size) }
 {
     sw.sound();
     let set = vectors::set_element(sw, vault, vector, at, to);

@@ -1,0 +1,7 @@
+use Rattle.std.proofs.Common.{◌≡◌, sym, ◌∙◌}
+use Rattle.swizzle.specs.Heap.{header_at}
+use Rattle.commit_walk.proofs.HomeLaws.{home_below}
+use Rattle.commit_walk.proofs.walk.is_at.Goals as goal
+
+pub num-requires-clause-below : goal.num-requires-clause-below
+num-requires-clause-below c = home_below c.args.sw.now c.args.object c.sound.ensures c.requires
