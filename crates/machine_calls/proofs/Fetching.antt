@@ -24,7 +24,7 @@ use Rattle.machine_core.specs.Naming.{NamesObjects}
 use Rattle.machine_core.specs.Stepped.{Takes, Does}
 use Rattle.machine_core.proofs.Carrying.{does-behind}
 use Rattle.machine_core.proofs.Naming.{names-last}
-use Rattle.machine_calls.specs.Failing.{FailsAsReading}
+use Rattle.machine_core.specs.Failing.{FailsAsReading}
 
 -- the machine that broke off with this fault, over these objects
 abbrev pub broken : Machine → area.Heap → SwizzleFault → Machine

@@ -1,4 +1,3 @@
-pub mod Failing
 pub mod inside
 pub use Rattle.machine_core.specs.text_forms as text_forms
 pub use Rattle.machine_core.specs.ps_outside as ps_outside

@@ -7,7 +7,7 @@ ghost use Rattle.machine_core.specs.ps_stepping.Procedures.{enter_scope as enter
 ghost use Rattle.machine_core.specs.Holding.{IsSound};
 ghost use Rattle.machine_core.specs.Naming.{NamesObjects};
 ghost use Rattle.machine_core.specs.Stepped.{Takes, UnlessBroken};
-ghost use Rattle.machine_calls.specs.Failing.{FailsAsReading};
+ghost use Rattle.machine_core.specs.Failing.{FailsAsReading};
 ghost use Rattle.machine_calls.specs.inside.Making.{MakesScopeOf};
 
 use crate::faults::broke;

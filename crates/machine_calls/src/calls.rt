@@ -8,7 +8,7 @@ ghost use Rattle.machine_core.specs.Holding.{IsSound};
 ghost use Rattle.machine_core.specs.Naming.{IsNamed, NamesObjects};
 ghost use Rattle.machine_core.specs.Stepped.{Takes, UnlessBroken};
 ghost use Rattle.machine_core.specs.declared.stepped.Stepped.TheVariants.{Breaks};
-ghost use Rattle.machine_calls.specs.Failing.{FailsAsReading};
+ghost use Rattle.machine_core.specs.Failing.{FailsAsReading};
 ghost use Rattle.machine_calls.specs.inside.Bodies.{CallsWith, IsBelow, IsCalled, IsNotCalled};
 
 use crate::faults::broke;

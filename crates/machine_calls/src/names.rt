@@ -9,7 +9,7 @@ ghost use Rattle.machine_core.specs.Naming.{NamesObjects};
 ghost use Rattle.machine_core.specs.Stepped.{Takes, UnlessBroken};
 ghost use Rattle.machine_core.specs.declared.stepped.Stepped.TheVariants.{Breaks};
 ghost use Rattle.joint_procedures.specs.Scopes.{IsInt};
-ghost use Rattle.machine_calls.specs.Failing.{FailsAsReading};
+ghost use Rattle.machine_core.specs.Failing.{FailsAsReading};
 ghost use Rattle.machine_calls.specs.inside.Names.{PushesReference, WritesName, number_pushed};
 
 use crate::faults::broke;

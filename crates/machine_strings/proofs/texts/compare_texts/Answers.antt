@@ -28,7 +28,7 @@ returns g c =
     (λ names conf h.
     let t = two-texts out m mid last c.in-Some.b c.in-Some-pop_text.a (p.pops v) (q.pops v) q.leaves.objects names conf h in
     let related : text_relation op t.left t.right ≡ stands =
-    c.is_related-stands.ensures t.left t.right (sym (c.compare-order.ensures v names t.left t.right t.left_is t.right_is)) in (
+    c.is_related-stands.ensures t.left t.right (sym (c.compare-order.ensures.takes v names t.left t.right t.left_is t.right_is)) in (
       t.next,
       t.pops (λ x y e. push_num (number_of (text_relation op x y)) e)
           ∙ ap (λ (b : Bool). push_num (number_of b) t.next) related ∙ ap (λ (z : ℤ). push_num z t.next) (sym flag),

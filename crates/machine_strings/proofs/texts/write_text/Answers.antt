@@ -19,7 +19,7 @@ returns g c =
     λ v.
     let out = g.V.Vault.outside v in
     after-parts out (write_text c.args.given line) m last (both-leave m mid last p.leaves q.leaves) (written line width (text_at last.objects text)) c.written.new.m c.written.result
-    (c.written.ensures v)
+    (c.written.ensures.takes v)
     (λ names conf h.
     let w = (p.pops v).gives names conf h in
     let a = (q.pops v).gives names w.0 w.2 in

@@ -1,7 +1,7 @@
 -- Why a step broke off, whatever is known of the vault.
-use Rattle.machine_core.specs.ps_outside.Outside.{Outside}
-use Rattle.machine_core.specs.obj_layout.Stored.{Space}
-use Rattle.machine_core.specs.swizzle.Reading.{FailsReading}
+use Rattle.joint_ops.specs.ps_outside.Outside.{Outside}
+use Rattle.joint_ops.specs.obj_layout.Stored.{Space}
+use Rattle.joint_ops.specs.swizzle.Reading.{FailsReading}
 use Rattle.machine_core.specs.declared.machine.Machine.{Machine}
 use Rattle.machine_core.specs.declared.stepped.Stepped.{Stepped}
 use Rattle.machine_core.specs.declared.stepped.Stepped.TheVariants.{Quiet, Turns, Writes, Halts, Breaks, Damaged}
