@@ -5,6 +5,7 @@ pub mod Items
 pub mod Naming
 pub mod Holding
 pub mod Full
+pub mod Failing
 pub mod Stepped
 pub mod Calling
 pub mod Reading
