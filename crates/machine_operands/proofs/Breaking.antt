@@ -1,5 +1,5 @@
 -- What an operation that failed returns, as the machine's next step.
-use Rattle.std.proofs.Common.{◌≡◌, ℕ, Bool, true, false, inl, inr, refl, sym, ap, subst}
+use Rattle.std.proofs.Common.{◌≡◌, ◌≢◌, ℕ, Bool, true, false, inl, inr, refl, sym, ap, ◌∙◌, subst}
 use Rattle.std.specs.Prelude.{Err}
 use Rattle.ps_base.specs.declared.line.Line.{Line}
 use Rattle.ps_base.specs.declared.trap.Trap.{Trap}
@@ -34,6 +34,13 @@ so-answered : (P : Machine → Type 0) (r s : Stepped) (m new : Machine) → r �
 so-answered P r s m new answer left so =
     subst (λ (x : Stepped). UnlessBroken x (P new)) (sym answer) (subst (λ (n : Machine). UnlessBroken s (P n)) (sym left) so)
 
+-- another answer is no breaking off
+pub halts-goes : (r : Stepped) → r ≡ Halts → r ≢ Breaks
+halts-goes r answer breaks = let bad : Halts ≡ Breaks = sym answer ∙ breaks in cc
+
+pub damaged-goes : (r : Stepped) → r ≡ Damaged → r ≢ Breaks
+damaged-goes r answer breaks = let bad : Damaged ≡ Breaks = sym answer ∙ breaks in cc
+
 module _ (m new : Machine) (r : Stepped) where
   -- an operation that makes an object
   pub failed-making : (line : Line) (fault : OpFault) (room : Bool) → IsSound new → r ≡ failed_of fault room → new ≡ failed_in fault line room m
@@ -42,16 +49,19 @@ module _ (m new : Machine) (r : Stepped) where
     sound = sound;
     names = λ n held. so-answered (λ x. NamesObjects x) r Halts (ended (in_code.Trapped t line) m) new answer left n;
     size = so-answered (λ x. x.objects.size ≡ m.objects.size) r Halts (ended (in_code.Trapped t line) m) new answer left refl;
+    breaks = λ off. absurd (halts-goes r answer off);
   }
   failed-making line (op.Swizzle fault) true sound answer left = record {
     sound = sound;
     names = λ n held. so-answered (λ x. NamesObjects x) r Breaks (record m { fault = fault }) new answer left tt;
     size = so-answered (λ x. x.objects.size ≡ m.objects.size) r Breaks (record m { fault = fault }) new answer left tt;
+    breaks = λ off. ap (λ (x : Machine). Err (op.Swizzle x.fault)) (sym left);
   }
   failed-making line (op.Swizzle fault) false sound answer left = record {
     sound = sound;
     names = λ n held. so-answered (λ x. NamesObjects x) r Damaged m new answer left n;
     size = so-answered (λ x. x.objects.size ≡ m.objects.size) r Damaged m new answer left refl;
+    breaks = λ off. absurd (damaged-goes r answer off);
   }
 
   -- another one
@@ -61,11 +71,13 @@ module _ (m new : Machine) (r : Stepped) where
     sound = sound;
     names = λ n held. so-answered (λ x. NamesObjects x) r Halts (ended (in_code.Trapped t line) m) new answer left n;
     size = λ k is. so-answered (λ x. x.objects.size ≡ k) r Halts (ended (in_code.Trapped t line) m) new answer left is;
+    breaks = halts-goes r answer;
   }
   failed-soundly lies line (op.Swizzle fault) sound answer left = record {
     sound = sound;
     names = λ n held. so-answered (λ x. NamesObjects x) r Breaks (record m { fault = fault }) new answer left tt;
     size = λ k is. so-answered (λ x. x.objects.size ≡ k) r Breaks (record m { fault = fault }) new answer left tt;
+    breaks = (answer, ap (λ (x : Machine). x.fault) left);
   }
 
   -- and one without traps
@@ -75,11 +87,13 @@ module _ (m new : Machine) (r : Stepped) where
     sound = sound;
     names = λ n held. so-answered (λ x. NamesObjects x) r Damaged m new answer left n;
     size = λ k is. so-answered (λ x. x.objects.size ≡ k) r Damaged m new answer left is;
+    breaks = damaged-goes r answer;
   }
   broken-soundly lies (op.Swizzle fault) sound answer left = record {
     sound = sound;
     names = λ n held. so-answered (λ x. NamesObjects x) r Breaks (record m { fault = fault }) new answer left tt;
     size = λ k is. so-answered (λ x. x.objects.size ≡ k) r Breaks (record m { fault = fault }) new answer left tt;
+    breaks = (answer, ap (λ (x : Machine). x.fault) left);
   }
 
   module _ (before after : Outside Space) where

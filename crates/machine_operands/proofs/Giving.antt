@@ -1,5 +1,5 @@
 -- How an instruction ends after an operation on objects.
-use Rattle.std.proofs.Common.{◌≡◌, ℕ, ◌+◌, ◌<◌, ◌≤◌, Bool, true, false, ℤ, List, [], ◌∷◌, length, Option, Some, None, inl, inr, refl, sym, ap, ◌∙◌, subst, arith}
+use Rattle.std.proofs.Common.{◌≡◌, ◌≢◌, ℕ, ◌+◌, ◌<◌, ◌≤◌, Bool, true, false, ℤ, List, [], ◌∷◌, length, Option, Some, None, inl, inr, refl, sym, ap, ◌∙◌, subst, arith}
 use Rattle.std.specs.Prelude.{if◌then◌else◌, IfSome, Ok, Err}
 use Rattle.std.proofs.lemmas.Bool.{lt-ltb, le-ltb}
 use Rattle.ps_base.specs.declared.line.Line.{Line}
@@ -41,7 +41,7 @@ use Rattle.machine_core.proofs.Carrying.{held-more, read-holds, short-full, does
 use Rattle.machine_core.proofs.Popping.{refs_taken}
 use Rattle.machine_operands.specs.Giving.{failed_of, failed_in, broken_of, broken_in, IsNaming, structures, vectors, EndsSoundly}
 use Rattle.machine_operands.specs.Giving.{GivesText, GivesObject, GivesStructure, GivesNumber, GivesReference, GivesBound, GivesFlag, Changes}
-use Rattle.machine_operands.proofs.Breaking.{does-same, failed-making, failed-soundly, broken-soundly, trap-does, off-does, failed-code, broken-code}
+use Rattle.machine_operands.proofs.Breaking.{does-same, damaged-goes, failed-making, failed-soundly, broken-soundly, trap-does, off-does, failed-code, broken-code}
 
 -- Where the stack of references is full, nothing is pushed.
 pub full-stuck : (m : Machine) (outside : Outside Space) (c : Config) (names : List Reference) (v : Value) (store : Store) → HeldBy outside names m c
@@ -81,9 +81,9 @@ makes-named c object denoting structures = no_room.a_structure object refl refl
 makes-named c object denoting vectors = no_room.a_vector object refl refl
 
 module _ (outside : Outside Space) (line : Line) (m new : Machine) (r : Stepped) where
-  pub text-pushed : (at : ℕ) → TakesRef outside outside push_ref m (Some at) new r → GivesText outside line m new r (Ok at)
-  text-pushed at push = record {
-    ends = record { sound = push.sound; names = push.names; size = push.size };
+  pub text-pushed : (at : ℕ) → r ≢ Breaks → TakesRef outside outside push_ref m (Some at) new r → GivesText outside line m new r (Ok at)
+  text-pushed at goes push = record {
+    ends = record { sound = push.sound; names = push.names; size = push.size; breaks = λ off. absurd (goes off) };
     does = λ here names c attempt h made.
         let text = made.2 in
         let store = and_text made.0 c.store in
@@ -107,9 +107,9 @@ module _ (outside : Outside Space) (line : Line) (m new : Machine) (r : Stepped)
         (short-does m new r outside here names c (Text made.0) (and_text made.0 c.store) (text_weight made.0) fault line room h made.2 (no_room.a_text refl refl) some none answer left);
   }
 
-  pub object-pushed : (at : ℕ) → TakesRef outside outside push_ref m (Some at) new r → GivesObject outside line m new r (Ok at)
-  object-pushed at push = record {
-    ends = record { sound = push.sound; names = push.names; size = push.size };
+  pub object-pushed : (at : ℕ) → r ≢ Breaks → TakesRef outside outside push_ref m (Some at) new r → GivesObject outside line m new r (Ok at)
+  object-pushed at goes push = record {
+    ends = record { sound = push.sound; names = push.names; size = push.size; breaks = λ off. absurd (goes off) };
     does = λ here names c denoting attempt naming h made.
         let it = made.2 in
         let store = and_object made.0 c.store in
@@ -166,7 +166,7 @@ module _ (here : area.Heap) (outside : Outside Space) (names : List Reference) w
 
 -- what is kept where the machine stays
 stays-soundly : {T : Type 0} (lies : T → Type 0) (got : T) (m : Machine) → IsSound m → EndsSoundly (Ok got) lies m m Damaged
-stays-soundly lies got m sound = record { sound = sound; names = λ n held. n; size = λ k is. is }
+stays-soundly lies got m sound = record { sound = sound; names = λ n held. n; size = λ k is. is; breaks = damaged-goes Damaged refl }
 
 module _ (before after : Outside Space) (m new : Machine) (r : Stepped) where
   -- a number was pushed after an operation that read
@@ -177,16 +177,17 @@ module _ (before after : Outside Space) (m new : Machine) (r : Stepped) where
       (subst (λ (x : Step). Does after after m.objects.size x r new) (sym is)
       (push.does c (record { names = names; held = read-holds here m.objects before after names (words_of m) c h stands })))
 
-  pushed-soundly : {T : Type 0} (lies : T → Type 0) (got : T) (of : Config → Step) → Takes after after of m new r → EndsSoundly (Ok got) lies m new r
-  pushed-soundly lies got of push = record {
+  pushed-soundly : {T : Type 0} (lies : T → Type 0) (got : T) (of : Config → Step) → r ≢ Breaks → Takes after after of m new r → EndsSoundly (Ok got) lies m new r
+  pushed-soundly lies got of goes push = record {
     sound = push.sound;
     names = λ n held. push.names n;
     size = λ k is. size-behind r k m.objects.size new.objects.size is push.size;
+    breaks = goes;
   }
 
-  pub bound-pushed : (z : ℤ) → Takes after after (push_num z) m new r → GivesBound before after m new r (Ok z)
-  bound-pushed z push = record {
-    ends = pushed-soundly (λ z. Unit {0}) z (push_num z) push;
+  pub bound-pushed : (z : ℤ) → r ≢ Breaks → Takes after after (push_num z) m new r → GivesBound before after m new r (Ok z)
+  bound-pushed z goes push = record {
+    ends = pushed-soundly (λ z. Unit {0}) z (push_num z) goes push;
     does = λ here names c wanted left h got.
         let same : wanted ≡ z = (let e : Yields wanted ≡ Yields got.0 = got.1 in cc) ∙ sym got.2 in
         pushed-after here names c z (push_num wanted c) left h got.3 (ap (λ (x : ℤ). push_num x c) same) push;
@@ -202,9 +203,9 @@ module _ (before after : Outside Space) (m new : Machine) (r : Stepped) where
     does = λ here names c wanted leaves h got. off-does m new r before after here (push_num wanted c) fault answer left got;
   }
 
-  pub flag-pushed : (b : Bool) → Takes after after (push_num (number_of b)) m new r → GivesFlag before after m new r (Ok b)
-  flag-pushed b push = record {
-    ends = pushed-soundly (λ b. Unit {0}) b (push_num (number_of b)) push;
+  pub flag-pushed : (b : Bool) → r ≢ Breaks → Takes after after (push_num (number_of b)) m new r → GivesFlag before after m new r (Ok b)
+  flag-pushed b goes push = record {
+    ends = pushed-soundly (λ b. Unit {0}) b (push_num (number_of b)) goes push;
     does = λ here names c wanted left h got.
         let same : wanted ≡ b = (let e : Yields wanted ≡ Yields got.0 = got.1 in cc) ∙ sym got.2 in
         pushed-after here names c (number_of b) (push_num (number_of wanted) c) left h got.3 (ap (λ (x : Bool). push_num (number_of x) c) same) push;
@@ -224,16 +225,17 @@ module _ (before after : Outside Space) (m new : Machine) (r : Stepped) where
   }
 
   -- a structure that was made after the text of its class was read
-  pub structure-pushed : (line : Line) (at : ℕ) → TakesRef after after push_ref m (Some at) new r → GivesStructure before after m new r (Ok at)
-  structure-pushed line at push = record {
+  pub structure-pushed : (line : Line) (at : ℕ) → r ≢ Breaks → TakesRef after after push_ref m (Some at) new r → GivesStructure before after m new r (Ok at)
+  structure-pushed line at goes push = record {
     ends = record {
       sound = push.sound;
       names = push.names;
       size = λ k is. size-behind r k m.objects.size new.objects.size is push.size;
+      breaks = goes;
     };
     does = λ here names c object left h made.
         let held = read-holds here made.mid before after names (words_of m) c h made.read in
-        let g = object-pushed after line m new r at push in
+        let g = object-pushed after line m new r at goes push in
         does-behind before after after here.size made.mid.size (make value.Pointer object c) r new left made.read.carries.size
         (g.does made.mid names c value.Pointer (Yields object) structures held made.made);
     damaged = λ here at s stuck by. absurd by;
@@ -264,9 +266,9 @@ module _ (before after : Outside Space) (m new : Machine) (r : Stepped) where
 
   module _ (line : Line) where
     pub number-pushed : (z : ℤ) (k : code.Value) → ((names : List Reference) (f : Form) (v : Value) → IsRead m.objects after names k z f v)
-        → Takes after after (push_num z) m new r → GivesNumber before after m new r line (Ok k)
-    number-pushed z k read push = record {
-      ends = pushed-soundly (λ value. Unit {0}) k (push_num z) push;
+        → r ≢ Breaks → Takes after after (push_num z) m new r → GivesNumber before after m new r line (Ok k)
+    number-pushed z k read goes push = record {
+      ends = pushed-soundly (λ value. Unit {0}) k (push_num z) goes push;
       does = λ here names c f attempt left h got.
           let is = read names f got.0 got.2.0 got.2.1 in
           pushed-after here names c z (attempted line attempt (λ w. when_number (Some f) (push_num (word_of w) c))) left h got.3
@@ -290,12 +292,13 @@ module _ (before after : Outside Space) (m new : Machine) (r : Stepped) where
       damaged = failed-code m new r before after code.Value line (op.Swizzle fault) answer left;
     }
 
-    pub reference-pushed : (to : Option ℕ) → TakesRef after after push_ref m to new r → GivesReference before after m new r line (Ok (held.Ref to))
-    reference-pushed to push = record {
+    pub reference-pushed : (to : Option ℕ) → r ≢ Breaks → TakesRef after after push_ref m to new r → GivesReference before after m new r line (Ok (held.Ref to))
+    reference-pushed to goes push = record {
       ends = record {
         sound = push.sound;
         names = λ n near. push.names n (near-held m.objects to near);
         size = λ k is. size-behind r k m.objects.size new.objects.size is push.size;
+        breaks = goes;
       };
       does = λ here names c f attempt left h got.
           let now = read-holds here m.objects before after names (words_of m) c h got.3 in
@@ -374,10 +377,13 @@ module _ (before after : Outside Space) (m : Machine) (line : Line) (sound : IsS
       of form.Reference (held.Num z) other is s = absurd is
       of form.Reference (held.Flag b) other is s = absurd is
 
+  quiet-goes : Quiet ≢ Breaks
+  quiet-goes breaks = cc
+
   -- what was written
   pub change-done : (unit : Unit {0}) → Changes before after m m Quiet line (Ok unit)
   change-done unit = record {
-    ends = record { sound = sound; names = λ n held. n; size = λ k is. is };
+    ends = record { sound = sound; names = λ n held. n; size = λ k is. is; breaks = quiet-goes };
     does = λ here names c attempt h did.
         let stands = did.2 in
         let store = on_heap did.0 c.store in

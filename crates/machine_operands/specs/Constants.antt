@@ -11,6 +11,7 @@ use Rattle.machine_core.specs.ps_stepping.Steps.{Step, with_text}
 use Rattle.machine_core.specs.joint_ops.World.{DenotesIn, Carries}
 use Rattle.machine_core.specs.declared.machine.Machine.{Machine}
 use Rattle.machine_core.specs.declared.stepped.Stepped.{Stepped}
+use Rattle.machine_core.specs.Failing.{FailsAsReading}
 use Rattle.machine_core.specs.Holding.{HeldBy, IsSound}
 use Rattle.machine_core.specs.Naming.{NamesObjects}
 use Rattle.machine_core.specs.Stepped.{Does, UnlessBroken}
@@ -19,6 +20,11 @@ use Rattle.machine_core.specs.Stepped.{Does, UnlessBroken}
 abbrev pub UnlessBrokenOff : {T : Type 0} → Result T Stepped → Type 0 → Type 0
 UnlessBrokenOff (Ok given) so = so
 UnlessBrokenOff (Err answer) so = UnlessBroken answer so
+
+-- where it broke off, it failed as a reading does
+abbrev pub FailsBrokenOff : {T : Type 0} → Outside Space → Outside Space → Result T Stepped → Machine → Type 0
+FailsBrokenOff before after (Ok given) m = Unit {0}
+FailsBrokenOff before after (Err answer) m = FailsAsReading before after answer m
 
 -- Whatever the machine holds, it stays sound; unless a part of an instruction broke off its words name objects of the area, and that has its size.
 pub record EndsReading {T : Type 0} (old new : Machine) (answer : Result T Stepped) : Type 0 where

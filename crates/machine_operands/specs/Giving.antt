@@ -1,6 +1,6 @@
 -- How an instruction ends that did an operation on objects: but for its objects the machine is still that before the operation, whose area stood for
 -- the configuration then.
-use Rattle.std.specs.Prelude.{◌≡◌, ℕ, ℤ, Bool, true, false, List, Option, Some, Result, Ok, Err, IfOk}
+use Rattle.std.specs.Prelude.{◌≡◌, ◌≢◌, ℕ, ℤ, Bool, true, false, List, Option, Some, Result, Ok, Err, IfOk}
 use Rattle.machine_core.specs.ps_outside.Outside.{Outside}
 use Rattle.machine_core.specs.obj_layout.Stored.{Space}
 use Rattle.machine_core.specs.obj_layout.declared.reference.Reference.{Reference}
@@ -59,6 +59,12 @@ pub data IsNaming : (ℕ → Value) → Type 0 where
   structures : IsNaming Pointer
   vectors : IsNaming Vector
 
+-- it broke off exactly where the operation did, and for its fault
+abbrev pub BreaksAs : {T : Type 0} → Result T OpFault → Stepped → Machine → Type 0
+BreaksAs (Ok given) answer new = answer ≢ Breaks
+BreaksAs (Err (op.Trap trap)) answer new = answer ≢ Breaks
+BreaksAs (Err (op.Swizzle fault)) answer new = (answer ≡ Breaks) × (new.fault ≡ fault)
+
 -- Whatever the machine holds, it stays sound after an operation with this result. Unless that broke off, its words name objects of the area where they
 -- did after the operation, and where what was pushed lies in the area; and the area has the size that it had then.
 module _ {T : Type 0} (got : Result T OpFault) (lies : T → Type 0) (old new : Machine) (answer : Stepped) where
@@ -66,13 +72,16 @@ module _ {T : Type 0} (got : Result T OpFault) (lies : T → Type 0) (old new : 
     pub sound : IsSound new
     pub names : UnlessFault got (NamesObjects old) → IfOk got lies → UnlessBroken answer (NamesObjects new)
     pub size : (size : ℕ) → UnlessFault got (old.objects.size ≡ size) → UnlessBroken answer (new.objects.size ≡ size)
+    pub breaks : BreaksAs got answer new
 
--- as that, where an operation that makes an object left the area as it was or with the object, whatever its result
+-- As that, where an operation that makes an object left the area as it was or with the object, whatever its result. It broke off only where the operation
+-- did, and for its fault.
 module _ (old new : Machine) (answer : Stepped) where
   pub record EndsMaking (made : Result ℕ OpFault) : Type 0 where
     pub sound : IsSound new
     pub names : NamesObjects old → IfOk made (IsHeld old.objects) → UnlessBroken answer (NamesObjects new)
     pub size : UnlessBroken answer (new.objects.size ≡ old.objects.size)
+    pub breaks : answer ≡ Breaks → made ≡ Err (op.Swizzle new.fault)
 
 -- An operation that makes an object or a text beside a vault that stays.
 module _ (outside : Outside Space) (line : Line) (old new : Machine) (answer : Stepped) where

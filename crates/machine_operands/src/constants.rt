@@ -4,7 +4,7 @@ ghost use Rattle.machine_core.specs.obj_layout.declared.kind.Kind.TheVariants.{T
 ghost use Rattle.machine_core.specs.swizzle.Reading.{LeavesOutside};
 ghost use Rattle.machine_core.specs.Holding.{IsSound};
 ghost use Rattle.machine_core.specs.Naming.{NamesObjects};
-ghost use Rattle.machine_operands.specs.Constants.{EndsReading, ReadsConstant, Refetched, UnlessBrokenOff};
+ghost use Rattle.machine_operands.specs.Constants.{EndsReading, FailsBrokenOff, ReadsConstant, Refetched, UnlessBrokenOff};
 ghost use Rattle.machine_operands.specs.Popping.{IsKind};
 
 use crate::gives::broke;
@@ -22,6 +22,7 @@ pub fn text_constant<V: Vault>(m: &mut Machine, vault: &mut V, k: u32) -> Result
     ensures ends { EndsReading m.old m.new result }
     ensures fetched { IfOk result (λ at. Refetched m.old m.new) }
     ensures text { IfOk result (IsKind Text m.new.objects) }
+    ensures fails { FailsBrokenOff (V.outside vault.old) (V.outside vault.new) result m.new }
     ensures leaves { LeavesOutside (V.outside vault.old) (V.outside vault.new) }
     ensures numbers { SameNumbers V.used_words V.directory_at V.most_words vault.old vault.new }
     ensures alive { UnlessBrokenOff result (V.alive vault.new) }

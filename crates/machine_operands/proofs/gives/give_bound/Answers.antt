@@ -13,7 +13,7 @@ returns-in-Ok g c =
     let after = g.V.Vault.outside w in
     let push : Takes after after (push_num c.in-Ok.z) m c.push_num.new.m c.push_num.result = search (rules, c.push_num.ensures.takes w) in
     subst (λ got. GivesBound before after m c.push_num.new.m c.push_num.result got) (sym c.in-Ok.is)
-    (bound-pushed before after m c.push_num.new.m c.push_num.result c.in-Ok.z push)
+    (bound-pushed before after m c.push_num.new.m c.push_num.result c.in-Ok.z c.push_num.ensures.goes push)
 
 pub returns-in-Err : goal.returns-in-Err
 returns-in-Err g c =

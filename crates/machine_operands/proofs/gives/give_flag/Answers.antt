@@ -16,7 +16,7 @@ returns-in-Ok g c =
     let push : Takes after after (push_num (number_of c.in-Ok.flag)) m c.push_num.new.m c.push_num.result =
     subst (λ z. Takes after after (push_num z) m c.push_num.new.m c.push_num.result) c.number.ensures pushed in
     subst (λ got. GivesFlag before after m c.push_num.new.m c.push_num.result got) (sym c.in-Ok.is)
-    (flag-pushed before after m c.push_num.new.m c.push_num.result c.in-Ok.flag push)
+    (flag-pushed before after m c.push_num.new.m c.push_num.result c.in-Ok.flag c.push_num.ensures.goes push)
 
 pub returns-in-Err : goal.returns-in-Err
 returns-in-Err g c =

@@ -17,7 +17,7 @@ returns-in-Ok-Num g c =
     let after = g.V.Vault.outside w in
     let push : Takes after after (push_num c.in-Ok-Num.z) m c.push_num.new.m c.push_num.result = search (rules, c.push_num.ensures.takes w) in
     subst (λ got. GivesNumber before after m c.push_num.new.m c.push_num.result c.args.line got) (sym is)
-    (number-pushed before after m c.push_num.new.m c.push_num.result c.args.line c.in-Ok-Num.z (held.Num c.in-Ok-Num.z) (λ names. int-read m.objects after names c.in-Ok-Num.z) push)
+    (number-pushed before after m c.push_num.new.m c.push_num.result c.args.line c.in-Ok-Num.z (held.Num c.in-Ok-Num.z) (λ names. int-read m.objects after names c.in-Ok-Num.z) c.push_num.ensures.goes push)
 
 pub returns-in-Ok-Flag : goal.returns-in-Ok-Flag
 returns-in-Ok-Flag g c =
@@ -32,7 +32,7 @@ returns-in-Ok-Flag g c =
     let pushed : Takes after after (push_num c.number.result) m new r = search (rules, c.push_num-in-Ok-Flag.ensures.takes w) in
     let push : Takes after after (push_num (number_of b)) m new r = subst (λ z. Takes after after (push_num z) m new r) c.number.ensures pushed in
     subst (λ got. GivesNumber before after m new r c.args.line got) (sym is)
-    (number-pushed before after m new r c.args.line (number_of b) (held.Flag b) (λ names. flag-read m.objects after names b) push)
+    (number-pushed before after m new r c.args.line (number_of b) (held.Flag b) (λ names. flag-read m.objects after names b) c.push_num-in-Ok-Flag.ensures.goes push)
 
 pub returns-in-Err : goal.returns-in-Err
 returns-in-Err g c =

@@ -13,7 +13,7 @@ returns-in-Ok-Ref g c =
     let before = g.V.Vault.outside v in
     let after = g.V.Vault.outside w in
     subst (λ got. GivesReference before after m c.push_ref.new.m c.push_ref.result c.args.line got) (sym is)
-    (reference-pushed before after m c.push_ref.new.m c.push_ref.result c.args.line c.in-Ok-Ref.to (c.push_ref.ensures.takes w))
+    (reference-pushed before after m c.push_ref.new.m c.push_ref.result c.args.line c.in-Ok-Ref.to c.push_ref.ensures.goes (c.push_ref.ensures.takes w))
 
 pub returns-in-Err : goal.returns-in-Err
 returns-in-Err g c =

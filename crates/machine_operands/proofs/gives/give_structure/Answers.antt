@@ -14,7 +14,7 @@ returns-in-Ok g c =
     let before = g.V.Vault.outside v in
     let after = g.V.Vault.outside w in
     subst (λ made. GivesStructure before after m c.put_ref.new.m c.put_ref.result made) (sym c.in-Ok.is)
-    (structure-pushed before after m c.put_ref.new.m c.put_ref.result some_line c.in-Ok.at (c.put_ref.ensures.takes w))
+    (structure-pushed before after m c.put_ref.new.m c.put_ref.result some_line c.in-Ok.at c.put_ref.ensures.goes (c.put_ref.ensures.takes w))
 
 pub returns-in-Err : goal.returns-in-Err
 returns-in-Err g c =

@@ -9,7 +9,7 @@ returns-in-Ok g c =
     λ v.
     let out = g.V.Vault.outside v in
     subst (λ made. GivesText out c.args.line m c.push_ref.new.m c.push_ref.result made) (sym c.in-Ok.is)
-    (text-pushed out c.args.line m c.push_ref.new.m c.push_ref.result c.in-Ok.at (c.push_ref.ensures.takes v))
+    (text-pushed out c.args.line m c.push_ref.new.m c.push_ref.result c.in-Ok.at c.push_ref.ensures.goes (c.push_ref.ensures.takes v))
 
 pub returns-in-Err : goal.returns-in-Err
 returns-in-Err g c =
