@@ -16,25 +16,17 @@ use Rattle.machine_core.specs.ps_stepping.Config.{Config, IsAt, code_in}
 use Rattle.machine_core.specs.ps_stepping.Machine.{Stuck, acts, act, behind, at_instruction, at_nothing}
 use Rattle.machine_core.specs.declared.machine.Machine.{Machine}
 use Rattle.machine_core.specs.declared.stepped.Stepped.{Stepped}
-use Rattle.machine_core.specs.declared.stepped.Stepped.TheVariants.{Quiet, Turns, Writes, Halts, Breaks, Damaged}
+use Rattle.machine_core.specs.declared.stepped.Stepped.TheVariants.{Breaks, Damaged}
 use Rattle.machine_core.specs.Holding.{IsSound, Holds}
 use Rattle.machine_core.specs.Naming.{NamesObjects}
 use Rattle.machine_core.specs.Failing.{FailsAsReading}
 use Rattle.machine_core.specs.Stepped.{Takes, TakesStep, Does}
+use Rattle.machine_core.proofs.Failing.{whole-failing}
+use Rattle.machine_core.proofs.of_swizzle.ReadingLaws.{leaves-none}
 use Rattle.machine_core.proofs.of_joint_ops.SeenLaws.{seen-is}
 use Rattle.machine_core.proofs.of_joint_ops.CodeLaws.{code-bytes}
 use Rattle.machine_core.specs.heap_meaning.Units.{IsUnitSeen, shown_code}
 use Rattle.machine_run.specs.inside.Acting.{ActsAs}
-use Rattle.machine_run.proofs.Telling.{leaves-itself}
-
--- a function that never breaks off
-fails_not : (before after : Outside Space) (answer : Stepped) (m : Machine) → answer ≢ Breaks → FailsAsReading before after answer m
-fails_not before after Quiet m not = tt
-fails_not before after Turns m not = tt
-fails_not before after Writes m not = tt
-fails_not before after Halts m not = tt
-fails_not before after Breaks m not = absurd (not refl)
-fails_not before after Damaged m not = tt
 
 module _ (before after : Outside Space) {i j : Instr} {own : ℕ} {old new : Machine} {answer : Stepped} (is : i ≡ j) where
   -- an instruction that may fetch
@@ -49,11 +41,11 @@ module _ (before after : Outside Space) {i j : Instr} {own : ℕ} {old new : Mac
 module _ (outside : Outside Space) {i j : Instr} {own : ℕ} {old new : Machine} {answer : Stepped} (is : i ≡ j) where
   -- one beside a vault that stays
   pub acts_here : Takes outside outside (acts j own) old new answer → FailsAsReading outside outside answer new → ActsAs outside outside i own old new answer
-  acts_here takes fails = acts_as outside outside is takes fails (leaves-itself outside)
+  acts_here takes fails = acts_as outside outside is takes fails (leaves-none outside)
 
   -- one that doesn't break off
   pub acts_on : Takes outside outside (acts j own) old new answer → answer ≢ Breaks → ActsAs outside outside i own old new answer
-  acts_on takes goes = acts_here takes (fails_not outside outside answer new goes)
+  acts_on takes goes = acts_here takes (whole-failing outside outside answer new goes)
 
 -- one that isn't done
 pub acts_not : (outside : Outside Space) {i j : Instr} {own : ℕ} {m : Machine} → i ≡ j → IsSound m → ((c : Config) → acts j own c ≡ Stuck)

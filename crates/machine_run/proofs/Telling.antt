@@ -100,16 +100,6 @@ leaves-none a = record {
   output = omega arith;
 }
 
--- where no call is made
-pub leaves-itself : (a : Outside Space) → LeavesOutside a a
-leaves-itself a = record {
-  told = along_none a.clock a.told;
-  images = along_none a.clock a.images;
-  contents = record { kept = λ x is. is; no_other = λ x is. is };
-  counts = omega arith;
-  output = refl;
-}
-
 -- a call that outputs nothing
 pub leaves-quiet : (a b : Outside Space) → LeavesOutside a b → LeavesAll a b
 leaves-quiet a b is = record {

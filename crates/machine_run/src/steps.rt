@@ -46,6 +46,7 @@ pub fn step<V: Vault>(m: &mut Machine, vault: &mut V) -> Stepped
     ensures alive { UnlessBroken result (V.alive vault.new) }
 {
     let own = m.at;
+    m.objects.sound();
     match m.objects.instr_within(m.code, m.place, own) {
         Some((instr, after)) => {
             m.at = after;
