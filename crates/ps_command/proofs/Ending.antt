@@ -171,6 +171,10 @@ module _ (unit : CodeUnit) (run : RunOf) (input : List ℕ) (program : BodyNode)
         whole ∙ is,
       )
 
+-- a unit isn't refused by a vault
+pub never_of_vault : (u : UnitView) (old new : Machine) (f : VaultFault) → HasNoRoom u old new (Vault f) → ⊥
+never_of_vault u old new f none = let bad : Vault f ≡ AreaFull none.top none.wanted old.objects.size = none.fault_is in absurd (cc)
+
 -- and its report is left
 pub full_told : (old new : Outside (List ℕ)) (run : RunOf) (input : List ℕ) (program : BodyNode) (before : List Event) (top wanted size : ℕ)
     → FillsArea run input program before top wanted → size ≡ area_size run → TellsAll old new (outputs before) → EndsRun old new run input program (Err (reports.AreaFull top wanted size))
@@ -200,6 +204,13 @@ module _ (old mid new : Outside (List ℕ)) where
 
     abbrev RanTo : List ℕ → Result RunEnd SwizzleFault → Type 0
     RanTo owed answer = Ran (outside_of old) (outside_of mid) [] owed m.objects.size (begin run input program) answer
+
+    -- nothing was pending at the start, and this was answered
+    pub ran_is : (owed left : List ℕ) (given answer : Result RunEnd SwizzleFault) → owed ≡ [] → given ≡ answer
+        → Ran (outside_of old) (outside_of mid) owed left m.objects.size (begin run input program) given → RanTo left answer
+    ran_is owed left given answer none is ran =
+        subst (λ (bs : List ℕ). Ran (outside_of old) (outside_of mid) bs left m.objects.size (begin run input program) answer) none
+        (subst (λ (x : Result RunEnd SwizzleFault). Ran (outside_of old) (outside_of mid) owed left m.objects.size (begin run input program) x) is ran)
 
     ended_by : (events : List Event) (last : Config) (e : End) → Reaches (begin run input program) events last → Steps last (Stops e)
         → total ≡ events ++ Finish e last.store.counted ∷ []
