@@ -1,5 +1,5 @@
 use Rattle.machine_core.proofs.Returning.{nothing-back, nothing-ends}
-use Rattle.machine_core.proofs.returns-clause-takes.return_nothing.Goals as goal
+use Rattle.machine_core.proofs.returns.return_nothing.Goals as goal
 
 pub returns-then-resume-clause-takes : goal.returns-then-resume-clause-takes
 returns-then-resume-clause-takes g c = λ v. nothing-back (g.V.Vault.outside v) c.args.m.now c.resume.new.m c.if-resume.ensures.leaves (c.if-resume.ensures.resumes v)

@@ -2,7 +2,7 @@ use Rattle.std.proofs.Common.{rules}
 use Rattle.ps_stepping.specs.Steps.{push_num}
 use Rattle.machine_core.specs.Stepped.{Takes}
 use Rattle.machine_core.proofs.Returning.{num-back, num-ends}
-use Rattle.machine_core.proofs.returns-clause-takes.return_num.Goals as goal
+use Rattle.machine_core.proofs.returns.return_num.Goals as goal
 
 pub returns-then-resume-clause-takes : goal.returns-then-resume-clause-takes
 returns-then-resume-clause-takes g c = λ v.

@@ -3,7 +3,7 @@ use Rattle.ps_stepping.specs.Steps.{push_ref}
 use Rattle.machine_core.specs.Holding.{object_in}
 use Rattle.machine_core.specs.inside.Taking.{TakesRef}
 use Rattle.machine_core.proofs.Returning.{ref-back, ref-ends}
-use Rattle.machine_core.proofs.returns-clause-takes.return_ref.Goals as goal
+use Rattle.machine_core.proofs.returns.return_ref.Goals as goal
 
 pub returns-then-resume-clause-takes : goal.returns-then-resume-clause-takes
 returns-then-resume-clause-takes g c = λ v.

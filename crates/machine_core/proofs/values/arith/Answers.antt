@@ -13,7 +13,7 @@ returns-in-Some-clause-takes g c =
     let is : answer_of c.arith.result ≡ arith_of c.args.op two.a two.b = search rules in
     λ v.
     let out = g.V.Vault.outside v in
-    takes_two out out c.args.m.now does.new.m two.a two.b does.result (two.ensures.tops v) c.args.line (arith_of c.args.op) (answer_of c.arith.result) is (does.ensures v)
+    takes_two out out c.args.m.now does.new.m two.a two.b does.result (two.ensures.tops v) c.args.line (arith_of c.args.op) (answer_of c.arith.result) is (does.ensures.takes v)
 
 pub returns-in-None-clause-takes : goal.returns-in-None-clause-takes
 returns-in-None-clause-takes g c = λ v.

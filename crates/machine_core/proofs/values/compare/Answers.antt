@@ -14,7 +14,7 @@ returns-in-Some-clause-takes g c =
     let is : c.number.result ≡ number_of (relation_of c.args.relation two.a two.b) = search rules in
     λ v.
     let out = g.V.Vault.outside v in
-    let t : TakesTwo out out (put_num c.number.result) c.args.m.now put.new.m put.result = search (rules, put.ensures v) in
+    let t : TakesTwo out out (put_num c.number.result) c.args.m.now put.new.m put.result = search (rules, put.ensures.takes v) in
     tests-two out out c.args.m.now put.new.m two.a two.b put.result (two.ensures.tops v) (relation_of c.args.relation) c.number.result is t
 
 pub returns-in-None-clause-takes : goal.returns-in-None-clause-takes

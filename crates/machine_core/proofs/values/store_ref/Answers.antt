@@ -11,7 +11,7 @@ returns-clause-takes g c =
     let set = c.set_ref_at in
     λ v.
     let out = g.V.Vault.outside v in
-    let t = set.ensures v in
+    let t = set.ensures.takes v in
     record {
       sound = t.sound;
       names = t.names;
