@@ -21,14 +21,18 @@ pub breaks-failing : (before after : Outside Space) (new : Machine) (fault : Swi
 breaks-failing before after new fault r answer is f =
     subst (λ (x : Stepped). FailsAsReading before after x new) (sym answer) (subst (FailsReading before after) (sym is) f)
 
+-- where it broke off, it failed so
+pub off-failing : (before after : Outside Space) (r : Stepped) (m : Machine) → (r ≡ Breaks → FailsReading before after m.fault) → FailsAsReading before after r m
+off-failing before after Quiet m fails = tt
+off-failing before after Turns m fails = tt
+off-failing before after Writes m fails = tt
+off-failing before after Halts m fails = tt
+off-failing before after Breaks m fails = fails refl
+off-failing before after Damaged m fails = tt
+
 -- a step that didn't break off
 pub whole-failing : (before after : Outside Space) (r : Stepped) (m : Machine) → r ≢ Breaks → FailsAsReading before after r m
-whole-failing before after Quiet m goes = tt
-whole-failing before after Turns m goes = tt
-whole-failing before after Writes m goes = tt
-whole-failing before after Halts m goes = tt
-whole-failing before after Breaks m goes = absurd (goes refl)
-whole-failing before after Damaged m goes = tt
+whole-failing before after r m goes = off-failing before after r m (λ breaks. absurd (goes breaks))
 
 -- a step that broke off after a reading
 pub failing-behind : (before mid after : Outside Space) (r : Stepped) (m : Machine) → LeavesOutside before mid → FailsAsReading mid after r m
