@@ -1,6 +1,6 @@
 -- What an instruction does, from what its parts take from the stacks and give.
 use Rattle.std.proofs.Common.{◌≡◌, ℕ, List, Some, sym, ◌∙◌, subst}
-use Rattle.std.specs.Prelude.{Result, IfOk}
+use Rattle.std.specs.Prelude.{Result, Err, IfOk}
 use Rattle.ps_base.specs.declared.line.Line.{Line}
 use Rattle.machine_core.specs.ps_outside.Outside.{Outside}
 use Rattle.machine_core.specs.obj_layout.Stored.{Space}
@@ -9,15 +9,19 @@ use Rattle.machine_core.specs.swizzle.Heap as area
 use Rattle.machine_core.specs.swizzle.Heap.{IsHeld}
 use Rattle.machine_core.specs.swizzle.Touch.{Keeps}
 use Rattle.machine_core.specs.heap_texts.declared.fault.OpFault.{OpFault}
+use Rattle.machine_core.specs.heap_texts.declared.fault.OpFault.TheVariants as op
 use Rattle.machine_core.specs.ps_meaning.Values.{Text}
 use Rattle.machine_core.specs.ps_meaning.Texts.{Attempt}
 use Rattle.machine_core.specs.ps_stepping.Config.{Config}
 use Rattle.machine_core.specs.ps_stepping.Steps.{Step, attempted, pop_text}
 use Rattle.machine_core.specs.ps_stepping.Objects.{make_text}
 use Rattle.machine_core.specs.joint_ops.World.{DenotesIn}
-use Rattle.machine_core.specs.joint_ops.Made.{MakesText}
+use Rattle.machine_core.specs.joint_ops.Made.{MakesText, BreaksAsMaking}
 use Rattle.machine_core.specs.declared.machine.Machine.{Machine}
 use Rattle.machine_core.specs.declared.stepped.Stepped.{Stepped}
+use Rattle.machine_core.specs.declared.stepped.Stepped.TheVariants.{Breaks}
+use Rattle.machine_core.specs.Failing.{FailsAsReading}
+use Rattle.machine_core.proofs.Failing.{off-failing, room-failing}
 use Rattle.machine_core.specs.Holding.{HeldBy, words_of}
 use Rattle.machine_core.specs.Stepped.{Does, Takes, UnlessBroken}
 use Rattle.machine_core.specs.inside.Taking.{Leaves}
@@ -26,35 +30,20 @@ use Rattle.machine_core.proofs.Carrying.{size-behind}
 use Rattle.machine_core.proofs.Naming.{names-last}
 use Rattle.machine_operands.specs.Popping.{PopsText}
 use Rattle.machine_operands.specs.Giving.{GivesText}
-
--- after two parts that left the objects
-pub both-leave : (old mid new : Machine) → Leaves old mid → Leaves mid new → Leaves old new
-both-leave old mid new a b = record {
-  sound = b.sound;
-  objects = b.objects ∙ a.objects;
-  values = b.values ∙ a.values;
-  names = λ n. b.names (a.names n);
-}
+pub use Rattle.machine_operands.proofs.Parts.{both-leave, after-parts}
 
 -- where the objects stay, what denoted a text denotes it still
 pub still-denotes : (out : Outside Space) (old new : Machine) (names : List Reference) (at : ℕ) (bytes : List ℕ) → new.objects ≡ old.objects
     → DenotesIn old.objects out names (Some at) (Text bytes) → DenotesIn new.objects out names (Some at) (Text bytes)
 still-denotes out old new names at bytes same d = subst (λ (here : area.Heap). DenotesIn here out names (Some at) (Text bytes)) (sym same) d
 
-module _ (out : Outside Space) (of : Config → Step) (old last : Machine) (left : Leaves old last) where
-  -- after the parts that left the objects, the step is this one of what the machine holds then
-  pub after-parts : (step : Config → Step) (new : Machine) (r : Stepped) → Takes out out step last new r
-      → ((names : List Reference) (c : Config) → HeldBy out names old c → (d : Config) × (of c ≡ step d) × HeldBy out names last d) → Takes out out of old new r
-  after-parts step new r t leads = record {
-    sound = t.sound;
-    names = λ n. t.names (left.names n);
-    size = subst (λ (here : area.Heap). UnlessBroken r (new.objects.size ≡ here.size)) left.objects t.size;
-    does = λ c h.
-        let d = leads h.names c h.held in
-        subst (λ (s : Step). Does out out old.objects.size s r new) (sym d.1)
-        (subst (λ (here : area.Heap). Does out out here.size (step d.0) r new) left.objects (t.does d.0 (record { names = h.names; held = d.2 })));
-  }
+-- An instruction that broke off where its making found no room failed so.
+pub making-fails : (out : Outside Space) (last now : area.Heap) (new : Machine) (r : Stepped) (made : Result ℕ OpFault)
+    → (r ≡ Breaks → made ≡ Err (op.Swizzle new.fault)) → BreaksAsMaking last now made → FailsAsReading out out r new
+making-fails out last now new r made breaks lacks =
+    off-failing out out r new (λ b. room-failing out last now new.fault (subst (λ (x : Result ℕ OpFault). BreaksAsMaking last now x) (breaks b) lacks))
 
+module _ (out : Outside Space) (of : Config → Step) (old last : Machine) (left : Leaves old last) where
   module _ (line : Line) (now : area.Heap) (made : Result ℕ OpFault) where
     -- the step goes on with what this attempt yields, and so the text was made
     pub record Makes (names : List Reference) (c : Config) : Type 0 where

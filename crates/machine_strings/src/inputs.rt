@@ -1,6 +1,9 @@
 //! The library's functions over the input.
+ghost use Rattle.std.specs.Prelude.{◌≢◌};
 ghost use Rattle.machine_core.specs.ps_stepping.Objects.{read_line as read_line_of, at_end as at_end_of};
+ghost use Rattle.machine_core.specs.Failing.{FailsAsReading};
 ghost use Rattle.machine_core.specs.Holding.{IsSound};
+ghost use Rattle.machine_core.specs.declared.stepped.Stepped.TheVariants.{Breaks};
 ghost use Rattle.machine_core.specs.Stepped.{Takes};
 
 use machine_core::ends::trapped;
@@ -16,7 +19,8 @@ use ps_base::trap::Trap;
 /// it breaks off where the area has no room for the text.
 pub fn read_line<V: Vault>(m: &mut Machine, line: Line) -> Stepped
     requires { IsSound m.old }
-    ensures { (v : V) → Takes (V.outside v) (V.outside v) (read_line_of line) m.old m.new result }
+    ensures takes { (v : V) → Takes (V.outside v) (V.outside v) (read_line_of line) m.old m.new result }
+    ensures fails { (v : V) → FailsAsReading (V.outside v) (V.outside v) result m.new }
 {
     if m.input.is_at_end() {
         return trapped::<V>(m, Trap::NoInput, line);
@@ -32,7 +36,8 @@ pub fn read_line<V: Vault>(m: &mut Machine, line: Line) -> Stepped
 #[inline]
 pub fn at_end<V: Vault>(m: &mut Machine) -> Stepped
     requires { IsSound m.old }
-    ensures { (v : V) → Takes (V.outside v) (V.outside v) at_end_of m.old m.new result }
+    ensures takes { (v : V) → Takes (V.outside v) (V.outside v) at_end_of m.old m.new result }
+    ensures goes { result ≢ Breaks }
 {
     let ended = m.input.is_at_end();
     push_num::<V>(m, number(ended))

@@ -1,6 +1,6 @@
 //! Instructions over strings. Where there isn't what an instruction wants on the stacks, or it is no text, the code is damaged; an instruction that makes
 //! a text breaks off where the area has no room for it.
-ghost use Rattle.std.specs.Prelude.{◌≡◌, ℕ, List};
+ghost use Rattle.std.specs.Prelude.{◌≡◌, ◌≢◌, ℕ, List};
 ghost use Rattle.machine_core.specs.obj_layout.Storing.{SameNumbers};
 ghost use Rattle.machine_core.specs.swizzle.Reading.{LeavesOutside};
 ghost use Rattle.machine_core.specs.ps_meaning.Texts.{order_of};
@@ -8,8 +8,10 @@ ghost use Rattle.machine_core.specs.ps_meaning.Evaluation.{text_relation};
 ghost use Rattle.machine_core.specs.ps_stepping.Config.{constants_in, constant_at};
 ghost use Rattle.machine_core.specs.ps_stepping.Machine.{push_text as push_text_of, write_text as write_text_of};
 ghost use Rattle.machine_core.specs.ps_stepping.Objects.{join as join_of, part as part_of, int_text as int_text_of, text_length as text_length_of, compare_texts as compare_texts_of, library as library_of};
+ghost use Rattle.machine_core.specs.Failing.{FailsAsReading};
 ghost use Rattle.machine_core.specs.Holding.{IsSound};
 ghost use Rattle.machine_core.specs.Naming.{NamesObjects};
+ghost use Rattle.machine_core.specs.declared.stepped.Stepped.TheVariants.{Breaks};
 ghost use Rattle.machine_core.specs.Stepped.{Takes, UnlessBroken};
 
 use crate::inputs::{at_end, read_line};
@@ -35,6 +37,7 @@ pub fn push_text<V: Vault>(m: &mut Machine, vault: &mut V, k: u32) -> Stepped
     requires names { NamesObjects m.old }
     requires alive { V.alive vault.old }
     ensures takes { Takes (V.outside vault.old) (V.outside vault.new) (λ c. push_text_of (constant_at (constants_in c.unit) k) c) m.old m.new result }
+    ensures fails { FailsAsReading (V.outside vault.old) (V.outside vault.new) result m.new }
     ensures leaves { LeavesOutside (V.outside vault.old) (V.outside vault.new) }
     ensures numbers { SameNumbers V.used_words V.directory_at V.most_words vault.old vault.new }
     ensures alive { UnlessBroken result (V.alive vault.new) }
@@ -50,7 +53,8 @@ pub fn push_text<V: Vault>(m: &mut Machine, vault: &mut V, k: u32) -> Stepped
 pub fn library<V: Vault>(m: &mut Machine, vault: &V, code: u32, line: Line) -> Stepped
     requires sound { IsSound m.old }
     requires names { NamesObjects m.old }
-    ensures { Takes (V.outside vault.now) (V.outside vault.now) (library_of code line) m.old m.new result }
+    ensures takes { Takes (V.outside vault.now) (V.outside vault.now) (library_of code line) m.old m.new result }
+    ensures fails { FailsAsReading (V.outside vault.now) (V.outside vault.now) result m.new }
 {
     match code {
         9 => read_line::<V>(m, line),
@@ -66,7 +70,8 @@ pub fn library<V: Vault>(m: &mut Machine, vault: &V, code: u32, line: Line) -> S
 pub fn join<V: Vault>(m: &mut Machine, vault: &V, line: Line) -> Stepped
     requires sound { IsSound m.old }
     requires names { NamesObjects m.old }
-    ensures { Takes (V.outside vault.now) (V.outside vault.now) (join_of line) m.old m.new result }
+    ensures takes { Takes (V.outside vault.now) (V.outside vault.now) (join_of line) m.old m.new result }
+    ensures fails { FailsAsReading (V.outside vault.now) (V.outside vault.now) result m.new }
 {
     let Some(b) = pop_text::<V>(m) else {
         return Stepped::Damaged;
@@ -83,7 +88,8 @@ pub fn join<V: Vault>(m: &mut Machine, vault: &V, line: Line) -> Stepped
 pub fn part<V: Vault>(m: &mut Machine, vault: &V, line: Line) -> Stepped
     requires sound { IsSound m.old }
     requires names { NamesObjects m.old }
-    ensures { Takes (V.outside vault.now) (V.outside vault.now) (part_of line) m.old m.new result }
+    ensures takes { Takes (V.outside vault.now) (V.outside vault.now) (part_of line) m.old m.new result }
+    ensures fails { FailsAsReading (V.outside vault.now) (V.outside vault.now) result m.new }
 {
     let Some(count) = pop_int::<V>(m) else {
         return Stepped::Damaged;
@@ -103,7 +109,8 @@ pub fn part<V: Vault>(m: &mut Machine, vault: &V, line: Line) -> Stepped
 pub fn int_text<V: Vault>(m: &mut Machine, vault: &V) -> Stepped
     requires sound { IsSound m.old }
     requires names { NamesObjects m.old }
-    ensures { Takes (V.outside vault.now) (V.outside vault.now) int_text_of m.old m.new result }
+    ensures takes { Takes (V.outside vault.now) (V.outside vault.now) int_text_of m.old m.new result }
+    ensures fails { FailsAsReading (V.outside vault.now) (V.outside vault.now) result m.new }
 {
     let Some(z) = pop_int::<V>(m) else {
         return Stepped::Damaged;
@@ -117,7 +124,8 @@ pub fn int_text<V: Vault>(m: &mut Machine, vault: &V) -> Stepped
 pub fn length<V: Vault>(m: &mut Machine) -> Stepped
     requires sound { IsSound m.old }
     requires names { NamesObjects m.old }
-    ensures { (v : V) → Takes (V.outside v) (V.outside v) text_length_of m.old m.new result }
+    ensures takes { (v : V) → Takes (V.outside v) (V.outside v) text_length_of m.old m.new result }
+    ensures goes { result ≢ Breaks }
 {
     let Some(text) = pop_text::<V>(m) else {
         return Stepped::Damaged;
@@ -131,7 +139,8 @@ pub fn length<V: Vault>(m: &mut Machine) -> Stepped
 pub fn compare_texts<V: Vault>(m: &mut Machine, relation: Relation) -> Stepped
     requires sound { IsSound m.old }
     requires names { NamesObjects m.old }
-    ensures { (v : V) → Takes (V.outside v) (V.outside v) (compare_texts_of relation) m.old m.new result }
+    ensures takes { (v : V) → Takes (V.outside v) (V.outside v) (compare_texts_of relation) m.old m.new result }
+    ensures goes { result ≢ Breaks }
 {
     let Some(b) = pop_text::<V>(m) else {
         return Stepped::Damaged;
@@ -164,7 +173,8 @@ fn is_related(relation: Relation, order: Ordering) -> bool
 pub fn write_text<V: Vault>(m: &mut Machine, given: u32, line: Line) -> Stepped
     requires sound { IsSound m.old }
     requires names { NamesObjects m.old }
-    ensures { (v : V) → Takes (V.outside v) (V.outside v) (write_text_of given line) m.old m.new result }
+    ensures takes { (v : V) → Takes (V.outside v) (V.outside v) (write_text_of given line) m.old m.new result }
+    ensures goes { result ≢ Breaks }
 {
     let Some(width) = take_width::<V>(m, given) else {
         return Stepped::Damaged;

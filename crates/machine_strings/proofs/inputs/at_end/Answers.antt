@@ -9,8 +9,8 @@ use Rattle.machine_core.specs.Stepped.{Takes}
 use Rattle.machine_core.proofs.Between.{same-held}
 use Rattle.machine_strings.proofs.inputs.at_end.Goals as goal
 
-pub returns : goal.returns
-returns g c =
+pub returns-clause-takes : goal.returns-clause-takes
+returns-clause-takes g c =
     let m = c.args.m.now in
     let did = c.push_num in
     let ended = c.is_at_end-ended in

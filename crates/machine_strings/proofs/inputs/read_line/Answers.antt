@@ -4,20 +4,20 @@ use Rattle.machine_core.specs.ps_meaning.Texts.{Attempt, behind_line, line_read,
 use Rattle.machine_core.specs.ps_stepping.Steps.{attempted}
 use Rattle.machine_core.specs.ps_stepping.Objects.{read_line, make_text, holding}
 use Rattle.machine_core.specs.joint_ops.Made.{MakesText}
-use Rattle.machine_strings.proofs.Parts.{gives}
+use Rattle.machine_strings.proofs.Parts.{gives, making-fails}
 use Rattle.machine_strings.proofs.LinesRead.{none-read, line-read, line-passed, line-leaves, held-passed, no-input}
 use Rattle.machine_strings.proofs.inputs.read_line.Goals as goal
 
-pub returns-then-is_at_end : goal.returns-then-is_at_end
-returns-then-is_at_end g c =
+pub returns-then-is_at_end-clause-takes : goal.returns-then-is_at_end-clause-takes
+returns-then-is_at_end-clause-takes g c =
     let m = c.args.m.now in
     let none = none-read m.input (sym c.is_at_end.ensures ∙ c.if-is_at_end.true) in
     λ v.
     let out = g.V.Vault.outside v in
     no-input out c.args.line m c.trapped.new.m c.trapped.result none (c.trapped.ensures.takes v)
 
-pub returns : goal.returns
-returns g c =
+pub returns-clause-takes : goal.returns-clause-takes
+returns-clause-takes g c =
     let line = c.args.line in
     let m = c.args.m.now in
     let made = c.text_of_bytes-made in
@@ -40,3 +40,9 @@ returns g c =
           subst (λ (a : Attempt (List ℕ)). MakesText m.objects made.new.self out conf.store.heap names a made.result) is
           (made.ensures.made v conf.store.heap names h.world);
     })
+
+pub returns-clause-fails : goal.returns-clause-fails
+returns-clause-fails g c v =
+    let made = c.text_of_bytes-made in
+    making-fails (g.V.Vault.outside v) c.args.m.now.objects made.new.self c.give_text.new.m c.give_text.result made.result (c.give_text.ensures v).ends.breaks
+    made.ensures.fails

@@ -9,8 +9,8 @@ use Rattle.machine_core.specs.Stepped.{Takes}
 use Rattle.machine_strings.proofs.Parts.{both-leave, after-parts, two-texts}
 use Rattle.machine_strings.proofs.texts.compare_texts.Goals as goal
 
-pub returns : goal.returns
-returns g c =
+pub returns-clause-takes : goal.returns-clause-takes
+returns-clause-takes g c =
     let op = c.args.relation in
     let m = c.args.m.now in
     let mid = c.pop_text.new.m in
@@ -23,12 +23,12 @@ returns g c =
     let same : to_z w32 (of_z w32 c.number.result) ≡ c.number.result = search rules in
     λ v.
     let out = g.V.Vault.outside v in
-    after-parts out (compare_texts op) m last (both-leave m mid last p.leaves q.leaves) (push_num c.number.result) did.new.m did.result
+    after-parts out out (compare_texts op) m last (both-leave m mid last p.leaves q.leaves) (push_num c.number.result) did.new.m did.result
     (subst (λ (z : ℤ). Takes out out (push_num z) last did.new.m did.result) same (did.ensures.takes v))
     (λ names conf h.
     let t = two-texts out m mid last c.in-Some.b c.in-Some-pop_text.a (p.pops v) (q.pops v) q.leaves.objects names conf h in
     let related : text_relation op t.left t.right ≡ stands =
-    c.is_related-stands.ensures t.left t.right (sym (c.compare-order.ensures.takes v names t.left t.right t.left_is t.right_is)) in (
+    c.is_related-stands.ensures t.left t.right (sym (c.compare-order.ensures v names t.left t.right t.left_is t.right_is)) in (
       t.next,
       t.pops (λ x y e. push_num (number_of (text_relation op x y)) e)
           ∙ ap (λ (b : Bool). push_num (number_of b) t.next) related ∙ ap (λ (z : ℤ). push_num z t.next) (sym flag),

@@ -3,11 +3,11 @@ use Rattle.std.specs.Fmt.{signed_decimal}
 use Rattle.machine_core.specs.ps_meaning.Texts.{Yields}
 use Rattle.machine_core.specs.ps_stepping.Objects.{int_text, make_text}
 use Rattle.machine_core.specs.joint_ops.Made.{MakesText}
-use Rattle.machine_strings.proofs.Parts.{gives}
+use Rattle.machine_strings.proofs.Parts.{gives, making-fails}
 use Rattle.machine_strings.proofs.texts.int_text.Goals as goal
 
-pub returns : goal.returns
-returns g c =
+pub returns-clause-takes : goal.returns-clause-takes
+returns-clause-takes g c =
     let vault = c.args.vault.now in
     let out = g.V.Vault.outside vault in
     let last = c.pop_int.new.m in
@@ -27,3 +27,9 @@ returns g c =
       held = n.2;
       makes = makes;
     })
+
+pub returns-clause-fails : goal.returns-clause-fails
+returns-clause-fails g c =
+    let vault = c.args.vault.now in
+    making-fails (g.V.Vault.outside vault) c.pop_int.new.m.objects c.int_text-made.new.self c.give_text.new.m c.give_text.result c.int_text-made.result
+    (c.give_text.ensures vault).ends.breaks c.int_text-made.ensures.fails

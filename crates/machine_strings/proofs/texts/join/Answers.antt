@@ -1,11 +1,11 @@
 use Rattle.machine_core.specs.ps_meaning.Texts.{join_of}
 use Rattle.machine_core.specs.ps_stepping.Steps.{attempted}
 use Rattle.machine_core.specs.ps_stepping.Objects.{join, make_text}
-use Rattle.machine_strings.proofs.Parts.{both-leave, gives, two-texts}
+use Rattle.machine_strings.proofs.Parts.{both-leave, gives, two-texts, making-fails}
 use Rattle.machine_strings.proofs.texts.join.Goals as goal
 
-pub returns : goal.returns
-returns g c =
+pub returns-clause-takes : goal.returns-clause-takes
+returns-clause-takes g c =
     let line = c.args.line in
     let vault = c.args.vault.now in
     let out = g.V.Vault.outside vault in
@@ -26,3 +26,9 @@ returns g c =
       held = t.held;
       makes = made.ensures.made t.next.store.heap names t.left t.right t.held.world t.left_is t.right_is;
     })
+
+pub returns-clause-fails : goal.returns-clause-fails
+returns-clause-fails g c =
+    let vault = c.args.vault.now in
+    making-fails (g.V.Vault.outside vault) c.pop_text-2.new.m.objects c.join-made.new.self c.give_text.new.m c.give_text.result c.join-made.result
+    (c.give_text.ensures vault).ends.breaks c.join-made.ensures.fails

@@ -5,11 +5,11 @@ use Rattle.machine_core.specs.ps_meaning.Texts.{part_of}
 use Rattle.machine_core.specs.ps_stepping.Steps.{attempted, pop_num, pop_text}
 use Rattle.machine_core.specs.ps_stepping.Objects.{part, make_text}
 use Rattle.machine_core.specs.joint_ops.Made.{MakesText}
-use Rattle.machine_strings.proofs.Parts.{both-leave, gives}
+use Rattle.machine_strings.proofs.Parts.{both-leave, gives, making-fails}
 use Rattle.machine_strings.proofs.texts.part.Goals as goal
 
-pub returns : goal.returns
-returns g c =
+pub returns-clause-takes : goal.returns-clause-takes
+returns-clause-takes g c =
     let line = c.args.line in
     let vault = c.args.vault.now in
     let out = g.V.Vault.outside vault in
@@ -44,3 +44,9 @@ returns g c =
           subst (λ (y : ℤ). MakesText last.objects made.new.self out a.0.store.heap names (part_of a.1 from y) made.result) same_count
           (subst (λ (x : ℤ). MakesText last.objects made.new.self out a.0.store.heap names (part_of a.1 x (to_z w32 (of_z w32 count))) made.result) same_from did);
     })
+
+pub returns-clause-fails : goal.returns-clause-fails
+returns-clause-fails g c =
+    let vault = c.args.vault.now in
+    making-fails (g.V.Vault.outside vault) c.pop_text.new.m.objects c.part-made.new.self c.give_text.new.m c.give_text.result c.part-made.result
+    (c.give_text.ensures vault).ends.breaks c.part-made.ensures.fails

@@ -1,3 +1,4 @@
+use Rattle.machine_core.proofs.Failing.{whole-failing}
 use Rattle.machine_strings.proofs.Constants.{constant-pushed, no-constant}
 use Rattle.machine_strings.proofs.texts.push_text.Goals as goal
 
@@ -13,3 +14,7 @@ pub returns-in-Err-clause-takes : goal.returns-in-Err-clause-takes
 returns-in-Err-clause-takes g c =
     let read = c.text_constant in
     no-constant (g.V.Vault.outside c.args.vault.now) (g.V.Vault.outside read.new.vault) c.args.k c.args.m.now read.new.m c.in-Err.answer c.in-Err.ensures.ends c.in-Err.ensures.reads
+
+pub returns-in-Ok-clause-fails : goal.returns-in-Ok-clause-fails
+returns-in-Ok-clause-fails g c =
+    whole-failing (g.V.Vault.outside c.args.vault.now) (g.V.Vault.outside c.text_constant.new.vault) c.push_ref.result c.push_ref.new.m c.push_ref.ensures.goes

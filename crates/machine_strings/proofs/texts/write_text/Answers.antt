@@ -6,8 +6,8 @@ use Rattle.machine_core.proofs.of_joint_ops.SeenLaws.{text-denoted}
 use Rattle.machine_strings.proofs.Parts.{both-leave, after-parts}
 use Rattle.machine_strings.proofs.texts.write_text.Goals as goal
 
-pub returns : goal.returns
-returns g c =
+pub returns-clause-takes : goal.returns-clause-takes
+returns-clause-takes g c =
     let line = c.args.line in
     let m = c.args.m.now in
     let mid = c.take_width.new.m in
@@ -18,7 +18,7 @@ returns g c =
     let text = c.in-Some-pop_text.text in
     λ v.
     let out = g.V.Vault.outside v in
-    after-parts out (write_text c.args.given line) m last (both-leave m mid last p.leaves q.leaves) (written line width (text_at last.objects text)) c.written.new.m c.written.result
+    after-parts out out (write_text c.args.given line) m last (both-leave m mid last p.leaves q.leaves) (written line width (text_at last.objects text)) c.written.new.m c.written.result
     (c.written.ensures.takes v)
     (λ names conf h.
     let w = (p.pops v).gives names conf h in
