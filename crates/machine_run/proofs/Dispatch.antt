@@ -25,7 +25,7 @@ use Rattle.machine_core.proofs.Failing.{whole-failing}
 use Rattle.machine_core.proofs.of_swizzle.ReadingLaws.{leaves-none}
 use Rattle.machine_core.proofs.of_joint_ops.SeenLaws.{seen-is}
 use Rattle.machine_core.proofs.of_joint_ops.CodeLaws.{code-bytes}
-use Rattle.machine_core.specs.heap_meaning.Units.{IsUnitSeen, shown_code}
+use Rattle.machine_core.specs.joint_ops.heap_meaning.Units.{IsUnitSeen, shown_code}
 use Rattle.machine_run.specs.inside.Acting.{ActsAs}
 
 module _ (before after : Outside Space) {i j : Instr} {own : ℕ} {old new : Machine} {answer : Stepped} (is : i ≡ j) where

@@ -2,6 +2,7 @@
 use Rattle.std.proofs.Common.{◌≡◌, ℕ, ◌+◌, ◌*◌, ◌<◌, ◌≤◌, ℤ, pos, List, [], ◌∷◌, length, drop, replicate, get_or, Some, None, refl, sym, ap, ◌∙◌, subst, arith, rules}
 use Rattle.std.specs.Prelude.{All, reverse}
 use Rattle.std.proofs.lemmas.List.{get_or-replicate, drop_all, length-replicate}
+use Rattle.std.proofs.lemmas.List.Elements.{All-nil, All-replicate}
 use Rattle.ps_base.specs.CodeUnit.{UnitView, unit, no_constants, constants_view}
 use Rattle.ps_base.specs.declared.code_unit.Constant.{Constant}
 use Rattle.ps_base.specs.declared.code_unit.Frame.{Frame}
@@ -27,7 +28,8 @@ use Rattle.machine_core.specs.declared.stepped.Item.{Item}
 use Rattle.machine_core.specs.declared.stepped.Item.TheVariants as item
 use Rattle.machine_core.specs.Items.{IsItem}
 use Rattle.machine_core.specs.Rows.{IsRow, IsRefRow, AreDenoted, object_in}
-use Rattle.machine_core.specs.Naming.{IsNamed}
+use Rattle.machine_core.specs.declared.caller.Caller.{Caller}
+use Rattle.machine_core.specs.Naming.{IsNamed, IsKept}
 use Rattle.machine_core.proofs.Words.{nil-denoted}
 use Rattle.machine_run.specs.Loaded.{IsRoomy, IsFrame, IsLoaded, EndsBefore, HasNoRoom, no_locals}
 use Rattle.machine_run.specs.inside.Beginning.{IsBegun}
@@ -66,7 +68,7 @@ module _ (here : area.Heap) (outside : Outside Space) (names : List Reference) w
       }
 
 none-named : (here : area.Heap) (count : ℕ) → All (λ word. IsNamed here word) (replicate count 0)
-none-named here count = search rules
+none-named here count = All-replicate (λ word. IsNamed here word) count 0 tt
 
 -- In an empty area the objects that were made begin at word 1.
 ends-before : (u : UnitView) (made : area.Heap) (top wanted size words : ℕ) → IsCut (fresh_heap words) made (unit_objects 1 u) (AreaFull top wanted size)
@@ -87,7 +89,7 @@ module _ (outside : Outside Space) (u : UnitView) (turns : ℕ) (input : List �
   refs_fit : frame.refs ≤ frame_words
   refs_fit = subst (λ (f : Frame). f.refs ≤ frame_words) (sym framed) fits.refs_fit
 
-  here : area.Heap
+  abbrev here : area.Heap
   here = new.objects
 
   -- the machine begins
@@ -124,8 +126,8 @@ module _ (outside : Outside Space) (u : UnitView) (turns : ℕ) (input : List �
               (subst (λ (p : CodePlace). IsPlaceOf here at p) (sym b.place_is) (subst (λ (h : area.Heap). IsPlaceOf h at place) (sym objects) there));
           scope = subst (IsNamed here) (sym b.scope) tt;
           own = subst (λ (xs : List ℕ). All (λ word. IsNamed here word) xs) (sym b.refs) (none-named here frame.refs);
-          below = subst (λ (xs : List ℕ). All (λ word. IsNamed here word) xs) (sym b.refs_below) (search rules);
-          callers = rw b.callers (search rules);
+          below = subst (λ (xs : List ℕ). All (λ word. IsNamed here word) xs) (sym b.refs_below) (All-nil (λ word. IsNamed here word));
+          callers = subst (λ (cs : List Caller). All (λ caller. IsKept here caller) cs) (sym b.callers) (All-nil (λ caller. IsKept here caller));
           item = subst (IsItem here) (sym b.item) tt;
         };
         roomy = b.roomy;

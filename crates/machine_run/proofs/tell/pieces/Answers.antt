@@ -1,4 +1,4 @@
-use Rattle.std.proofs.Common.{refl}
+use Rattle.std.proofs.Common.{refl, ◌∙◌}
 use Rattle.ps_port.proofs.Telling.{joined-next}
 use Rattle.vault_output.proofs.SendingLaws.{sends-kept}
 use Rattle.machine_run.proofs.Telling.{sends-part, fails-part}
@@ -16,9 +16,11 @@ returns-in-Err-clause-sends g c =
 pub loop-part-preserved : goal.loop-part-preserved
 loop-part-preserved g c =
     let outside = g.V.Vault.outside in
+    let was = c.loop-part.invariant.numbers in
+    let now = c.in_default.ensures.numbers in
     record {
       sends = sends-part (outside c.args.vault.now) (outside c.loop-part.vault) (outside c.write.new.vault) _ c.loop-part.output _ _ _ c.write.new.self
           c.loop-part.invariant.sends (joined-next c.args.parts.now c.loop-part.part-index _ c.loop-part-test.true) c.in_default.ensures.sends;
-      numbers = same-numbers c.loop-part.invariant.numbers c.in_default.ensures.numbers;
+      numbers = (now.0 ∙ was.0, now.1 ∙ was.1, now.2 ∙ was.2);
       alive = c.in_default.ensures.alive;
     }
