@@ -53,11 +53,11 @@ and_step {c = c} {next = next} {events = events} (more {events = first} {behind 
 
 -- How many steps a run may take within a turn at most: by the bodies that wait, which are no more than 2,000, and then by the bytes of its code, which are
 -- fewer than 2 ^ 32.
-abbrev steps_left : Left → ℕ
+abbrev pub steps_left : Left → ℕ
 steps_left l = l.callers * 2 ^ 32 + l.bytes
 
 -- a run that has so many steps left before it takes another turn than these
-abbrev IsWithin : ℕ → ℕ → Config → Type 0
+abbrev pub IsWithin : ℕ → ℕ → Config → Type 0
 IsWithin turns steps c = (c.store.turns < turns) ⊎ ((c.store.turns ≡ turns) × (steps_left (left c) < steps))
 
 -- the bodies that wait are few, and the code of the one that runs is small
@@ -95,13 +95,13 @@ is-small outside m c heap sound h =
 
 -- From a configuration that the first machine holds some steps lead to one that the present machine holds, and what they output was output but for what
 -- is pending.
-record IsAway (old now : Outside Space) (owed rest : List ℕ) (c : Config) (m : Machine) (turns steps : ℕ) : Type 0 where
-  events : List Event
-  last : Config
-  way : Reaches c events last
-  holds : Holds now m last
-  tells : TellsBut old now (owed ++ outputs events) rest
-  within : IsWithin turns steps last
+pub record IsAway (old now : Outside Space) (owed rest : List ℕ) (c : Config) (m : Machine) (turns steps : ℕ) : Type 0 where
+  pub events : List Event
+  pub last : Config
+  pub way : Reaches c events last
+  pub holds : Holds now m last
+  pub tells : TellsBut old now (owed ++ outputs events) rest
+  pub within : IsWithin turns steps last
 
 pub record IsBetween (old now : Outside Space) (owed rest : List ℕ) (m m' : Machine) (turns steps : ℕ) : Type 0 where
   pub size : m'.objects.size ≡ m.objects.size
@@ -198,13 +198,13 @@ module _ (old now new : Outside Space) (owed left rest : List ℕ) (m m' next : 
         (but-fails old new final (owed ++ outputs w.events) rest (report_of (end_of next.end)) told report.1)) report.2)
 
 -- where all steps of a turn were taken, a turn was
-pub between_turns : (old now : Outside Space) (owed left : List ℕ) (m m' : Machine) (turns : ℕ) → turns ≤ m'.turns → IsBetween old now owed left m m' turns 0
+pub between_turns : (old now : Outside Space) (owed owes : List ℕ) (m m' : Machine) (turns : ℕ) → turns ≤ m'.turns → IsBetween old now owed owes m m' turns 0
     → (c : Config) → Holds old m c → ⊥
-between_turns old now owed left m m' turns more b c h =
+between_turns old now owed owes m m' turns high b c h =
     let w = b.way c h in
     let low = taken-turn turns w.last w.within in
     let same = w.holds.held.turns_are in
-    omega (arith, low, same, more)
+    omega (arith, low, same, high)
 
 -- and then as many are left of the next one
 pub between_again : (old now : Outside Space) (owed left : List ℕ) (m m' : Machine) (turns : ℕ) → IsHeap m'.objects → IsSound m'
@@ -350,7 +350,7 @@ reading-cause old new (Vault (Full used wanted capacity)) r = r.full used wanted
 reading-cause old new (Vault (Damaged at found wanted)) r = tt
 
 rose-then : (a b c : ℕ) → a ≤ b → Rose b c → Rose a c
-rose-then a b c le (inl more) = inl (omega (arith, le, more))
+rose-then a b c le (inl rise) = inl (omega (arith, le, rise))
 rose-then a b c le (inr last) = inr last
 
 -- it has the same cause in a run that began before

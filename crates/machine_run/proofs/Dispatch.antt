@@ -60,7 +60,7 @@ unfolding IsUnitSeen
 unit_code here outside at (unit code cs frame) heap u =
     let s = u.is in
     let same = seen-is here outside at _ s.0 heap u.held refl s.1 in
-    code-bytes here at (sym (ap (λ it. it.kind) same) ∙ s.2.0.kind_is) ∙ sym (ap shown_code same) ∙ s.2.0.code_is
+    code-bytes here at (sym (ap (λ it. it.kind) same) ∙ s.2.kind_is) ∙ sym (ap shown_code same) ∙ s.2.code_is
 
 pub code_of : (outside : Outside Space) (m : Machine) (c : Config) → IsHeap m.objects → Holds outside m c → text_at m.objects m.code ≡ code_in c.unit
 code_of outside m c heap h = unit_code m.objects outside m.code c.unit heap h.held.unit_is

@@ -169,8 +169,11 @@ pub fn run<V: Vault>(
 {
     let mut turns = m.turns;
     let mut steps = STEPS_IN_A_TURN;
+    m.objects.sound();
     loop {
-        match advance(m, vault, output) {
+        let advanced = advance(m, vault, output);
+        m.objects.sound();
+        match advanced {
             Advanced::On => {
                 if steps > 1 {
                     steps -= 1;

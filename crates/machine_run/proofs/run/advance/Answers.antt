@@ -45,4 +45,4 @@ pub returns-in-Damaged-clause-advances : goal.returns-in-Damaged-clause-advances
 returns-in-Damaged-clause-advances g c =
     let outside = g.V.Vault.outside in
     advance_damaged (outside c.args.vault.now) (outside c.step.new.vault) c.args.output.now c.args.m.now c.step.new.m c.in-Damaged.ensures.leaves
-    c.args.m.now.at c.code_damage.result c.code_damage.ensures c.in-Damaged.ensures.takes
+    c.args.m.now.at c.code_damage-m.result c.code_damage-m.ensures c.in-Damaged.ensures.takes

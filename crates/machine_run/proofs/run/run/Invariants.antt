@@ -6,8 +6,8 @@ use Rattle.std.proofs.Common.{◌+◌, ◌*◌, ◌^◌, ◌≤◌}
 use Rattle.machine_run.proofs.Between.{IsBetween}
 use Rattle.machine_run.proofs.run.run.Given as goal
 
-abbrev pub invariant-loop : goal.invariant-loop
-invariant-loop g l =
+abbrev pub invariant-loop-steps : goal.invariant-loop-steps
+invariant-loop-steps g l =
     let vault = g.V.Vault in
     record {
       between : IsBetween (vault.outside l.initial.vault) (vault.outside l.vault) l.initial.output l.output l.initial.m l.m l.turns l.steps;
@@ -19,5 +19,5 @@ invariant-loop g l =
       most : l.steps ≤ 2 ^ 43;
     }
 
-abbrev pub decreases-loop : goal.decreases-loop
-decreases-loop g l = l.turns * 2 ^ 43 + l.steps
+abbrev pub decreases-loop-steps : goal.decreases-loop-steps
+decreases-loop-steps g l = l.turns * 2 ^ 43 + l.steps
