@@ -18,10 +18,10 @@ module _ (a b : Outside (List ℕ)) (bytes : List ℕ) where
     contents = record { kept = λ x is. is; no_other = λ x is. is };
     counts = call.counts;
     calm = calm;
-    device = refl;
+    device = call.device;
     cause = λ e. absurd (cc);
     other = λ e. cc;
-    calls = refl;
+    calls = call.calls;
   }
 
   -- and back

@@ -1,0 +1,4 @@
+pub mod Entries
+pub mod Shapes
+pub mod Access
+pub mod Reaching

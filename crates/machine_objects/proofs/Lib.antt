@@ -1,0 +1,3 @@
+pub mod FieldWrites
+pub mod VectorReads
+pub mod FieldsReached

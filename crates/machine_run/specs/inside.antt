@@ -1,4 +1,0 @@
-pub mod Beginning
-pub mod Acting
-pub mod Advancing
-pub mod Blanks

@@ -1,0 +1,24 @@
+-- Words that name objects.
+use Rattle.std.proofs.Common.{◌≡◌, ℕ, zero, suc, List, Option, Some, None, refl, arith, rules}
+use Rattle.known_classes.specs.obj_layout.declared.reference.Reference.{Reference}
+use Rattle.known_classes.specs.swizzle.Heap as area
+use Rattle.known_classes.specs.swizzle.Heap.{IsHeap}
+use Rattle.ps_stepping.specs.ps_meaning.Values.{Value, Nil}
+use Rattle.known_classes.specs.paired_ops.World.{DenotesIn, DenotesScopeIn}
+use Rattle.known_classes.proofs.of_heap_ops.LayoutLaws.{held-from}
+use Rattle.machine_state.specs.Holding.{object_in, word_of}
+
+-- the word of an object names it
+pub named-back : (here : area.Heap) (names : List Reference) (to : Option ℕ) (v : Value) → IsHeap here → DenotesIn here names to v → object_in (word_of to) ≡ to
+named-back here names None v heap d = refl
+named-back here names (Some zero) v heap d = absurd (let low = (held-from here 0 heap d.denotes.0).0 in omega (arith, low))
+named-back here names (Some (suc n)) v heap d = refl
+
+pub scope-named-back : (here : area.Heap) (names : List Reference) (to scope : Option ℕ) → IsHeap here → DenotesScopeIn here names to scope → object_in (word_of to) ≡ to
+scope-named-back here names None scope heap d = refl
+scope-named-back here names (Some zero) scope heap d = absurd (let low = (held-from here 0 heap d.denotes.0).0 in omega (arith, low))
+scope-named-back here names (Some (suc n)) scope heap d = refl
+
+-- nil denotes itself
+pub nil-denoted : (here : area.Heap) (names : List Reference) → DenotesIn here names None Nil
+nil-denoted here names = search rules

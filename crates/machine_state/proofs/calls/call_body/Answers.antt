@@ -1,0 +1,88 @@
+use Rattle.std.proofs.Common.{◌≡◌, suc, ◌+◌, ◌-◌, ◌<◌, ◌≤◌, ap, sym, ◌∙◌, subst, refl, length, vec_len, arith, rules, List, ℕ, ℤ}
+use Rattle.known_classes.specs.swizzle.Heap as area
+use Rattle.ps_stepping.specs.Steps.{Step}
+use Rattle.ps_stepping.specs.ps_meaning.Evaluation.{most_calls}
+use Rattle.machine_state.specs.declared.machine.Machine.{Machine}
+use Rattle.machine_state.specs.Holding.{HeldBy}
+use Rattle.machine_state.specs.Calling.{body_at}
+use Rattle.machine_state.specs.Stepped.{Does}
+use Rattle.machine_state.proofs.Handing.{taken-frame}
+use Rattle.machine_state.proofs.Calling.{stuck-call, too-deep, out-of-turns, begun, goes-in, held-in}
+use Rattle.machine_state.proofs.calls.call_body.Goals as goal
+
+pub returns-then-len-m : goal.returns-then-len-m
+returns-then-len-m c =
+    let m = c.args.m.now in
+    let there = c.requires.there in
+    let at = length m.refs.own - 1 - c.args.refs in
+    record {
+      sound = c.requires.sound;
+      size = tt;
+      does = λ names conf of scope h is.
+          stuck-call m names conf h c.args.refs (body_at m c.args.place).frame.num_params at (omega (arith, there)) (omega (arith, there)) c.args.line of scope
+          (omega (arith, c.len.ensures, c.if-len-m.true));
+    }
+
+pub returns-then-len-ge-MOST_CALLERS : goal.returns-then-len-ge-MOST_CALLERS
+returns-then-len-ge-MOST_CALLERS c =
+    let m = c.args.m.now in
+    let there = c.requires.there in
+    let at = length m.refs.own - 1 - c.args.refs in
+    let low = length m.nums.own - (body_at m c.args.place).frame.num_params in
+    let t = c.trapped.ensures.takes in
+    record {
+      sound = t.sound;
+      size = t.size;
+      does = λ names conf of scope h is.
+          subst (λ (s : Step). Does s c.trapped.result c.trapped.new.m)
+          (sym (too-deep m names conf h c.args.refs (body_at m c.args.place).frame.num_params at (omega (arith, there)) (omega (arith, there)) c.args.line of scope low
+          (omega (arith, c.len.ensures, c.if-len-m.false)) (omega (arith, c.len.ensures, c.if-len-m.false))
+          (omega (arith, c.len-2.ensures, c.if-len-ge-MOST_CALLERS.true, m.callers.ok.0))))
+          (t.does conf (record { names = names; held = h }));
+    }
+
+pub returns-then-m-eq0 : goal.returns-then-m-eq0
+returns-then-m-eq0 c =
+    let m = c.args.m.now in
+    let there = c.requires.there in
+    let at = length m.refs.own - 1 - c.args.refs in
+    let low = length m.nums.own - (body_at m c.args.place).frame.num_params in
+    let t = c.halt.ensures.takes in
+    record {
+      sound = t.sound;
+      size = t.size;
+      does = λ names conf of scope h is.
+          subst (λ (s : Step). Does s c.halt.result c.halt.new.m)
+          (sym (out-of-turns m names conf h c.args.refs (body_at m c.args.place).frame.num_params at (omega (arith, there)) (omega (arith, there)) c.args.line of scope low
+          (omega (arith, c.len.ensures, c.if-len-m.false)) (omega (arith, c.len.ensures, c.if-len-m.false))
+          (omega (arith, c.len-2.ensures, c.if-len-ge-MOST_CALLERS.false, m.callers.ok.0)) (omega (arith, c.if-m-eq0.true))))
+          (t.does conf (record { names = names; held = h }));
+    }
+
+pub returns : goal.returns
+returns c =
+    let m = c.args.m.now in
+    let e = c.enter.ensures in
+    let body = body_at m c.args.place in
+    let there = c.requires.there in
+    let f = taken-frame c.args.refs body.frame c.requires.takes in
+    let t = m.turns - 1 in
+    let some : m.turns ≡ suc t = omega (arith, c.if-m-eq0.false) in
+    let refs_low : m.frame.refs ≤ e.low_refs = let is = e.refs_count in omega (arith, there, is) in
+    let nums_low : m.frame.nums ≤ e.low_nums = let is = e.nums_count in omega (arith, is, c.len.ensures, c.if-len-m.false) in
+    let few : length m.callers.items < most_calls = omega (arith, c.len-2.ensures, c.if-len-ge-MOST_CALLERS.false, m.callers.ok.0) in
+    record {
+      sound = e.sound;
+      size = ap (λ (n : Machine). n.sw.size) e.new_is;
+      does = λ names conf of scope h is. (
+        begun m names conf h c.args.refs body.frame.num_params e.low_refs e.refs_count refs_low c.args.line of scope e.low_nums e.nums_count nums_low few t some,
+        goes-in m names conf h c.args.refs body.frame.num_params e.low_refs e.refs_count refs_low c.args.line of scope e.low_nums e.nums_count nums_low few t some,
+        record {
+          names = names;
+          held =
+              subst (λ (n : Machine). HeldBy names n (begun m names conf h c.args.refs body.frame.num_params e.low_refs e.refs_count refs_low c.args.line of scope e.low_nums e.nums_count nums_low few t some)) (sym e.new_is)
+              (held-in m names conf h c.args.refs body.frame.num_params e.low_refs e.refs_count refs_low c.args.line of scope e.low_nums e.nums_count nums_low few t some body is f.nums_fit
+              (let is_refs = f.refs_are in let fit = f.refs_fit in omega (arith, is_refs, fit)) e.nums e.refs e.callers e.own_nums e.own_refs e.callers_are e.nums_below e.refs_below);
+        },
+      );
+    }

@@ -1,0 +1,275 @@
+-- New structures and vectors.
+use mir.Val.{SFits}
+use Rattle.std.proofs.lemmas.Bool.{lt-ltb}
+use Rattle.std.proofs.Common.{arith, w32, ◌^◌, negsuc, ◌≡◌, ℕ, zero, suc, ◌*◌, ℤ, pos, List, [], ◌∷◌, length, get_or, replicate, refl, sym, ap, ◌∙◌, subst, Option, Some, None, Bool, true, false}
+use Rattle.std.specs.Prelude.{Result, Ok, Err, ◌-ℤ◌}
+use Rattle.std.proofs.lemmas.List.{length-replicate}
+use Rattle.text_ops.specs.obj_layout.declared.kind.Kind.{Kind}
+use Rattle.text_ops.specs.obj_layout.declared.kind.Kind.TheVariants as kind
+use Rattle.text_ops.specs.obj_layout.declared.reference.Reference as reference
+use Rattle.text_ops.specs.obj_layout.declared.reference.Reference.TheVariants as name
+use Rattle.text_ops.specs.swizzle.declared.fault.SwizzleFault.{SwizzleFault}
+use Rattle.text_ops.specs.swizzle.Objects as area_objects
+use Rattle.text_ops.specs.swizzle.Objects.{size_of}
+use Rattle.text_ops.specs.swizzle.Heap as area
+use Rattle.text_ops.specs.swizzle.Heap.{IsHeap, IsHeld, IsInside, IsMade, IsFull, header_at, object_at, top_of, with_new}
+use Rattle.text_ops.specs.swizzle.Joint.{shown, shown_at, name_at, name_by, name_of}
+use Rattle.text_ops.specs.swizzle.Changes.{ChangedAt}
+use Rattle.text_ops.specs.swizzle.Touch.{Denotes}
+use Rattle.text_ops.proofs.of_swizzle.NameLaws.{name-none}
+use Rattle.text_ops.proofs.of_swizzle.JointLaws.{name-fresh, joint-made}
+use Rattle.text_ops.proofs.of_swizzle.MadeLaws.{made-held, made-object}
+use Rattle.text_ops.specs.text_forms.Forms.{forms_of, element_of}
+use Rattle.text_ops.specs.heap_texts.declared.fault.OpFault.{OpFault}
+use Rattle.text_ops.specs.heap_texts.declared.fault.OpFault.TheVariants as op
+use Rattle.heap_meaning.specs.heap_places.Shapes.{IsText}
+use Rattle.heap_meaning.specs.heap_places.Words.{int_word}
+use Rattle.heap_meaning.specs.heap_places.Places.{IsNear}
+use Rattle.heap_meaning.specs.heap_places.Filling.{refs_of, AreNear, filled, filled_words, Fills}
+use Rattle.heap_meaning.specs.heap_places.declared.value.Value as code
+use Rattle.heap_meaning.specs.heap_places.declared.value.Value.TheVariants as held
+use Rattle.heap_meaning.proofs.of_heap_places.FillingLaws.{rows-length, near-repeated}
+use Rattle.heap_meaning.specs.heap_ops.Vectors.{MakesVector}
+use Rattle.text_ops.specs.ps_meaning.Operators.{is_int}
+use Rattle.text_ops.specs.ps_meaning.Values.{Value, Text, Pointer, Vector}
+use Rattle.text_ops.specs.ps_meaning.Texts.{Yields}
+use Rattle.text_ops.specs.ps_meaning.Objects.{Heap, Object, Structure, Elements, new_number, is_vector, is_made, vector_of, filled_vector, count_from}
+use Rattle.text_ops.specs.ps_meaning.Objects as meaning
+use Rattle.text_ops.specs.ps_meaning.Weights.{own_weight}
+use Rattle.heap_meaning.specs.Standing.{StandsFor, IsKindOf, IsLike}
+use Rattle.heap_meaning.specs.Paired.{name_in, paired, and_name}
+use Rattle.heap_meaning.proofs.StandingLaws.{Pairs, like-more}
+use Rattle.heap_meaning.proofs.PairedLaws.{name-before, name-last, row-made}
+use Rattle.heap_meaning.proofs.WriteLaws.{as-made}
+use Rattle.paired_ops.specs.World.{IsWorld, alone, DenotesIn, Carries, IsNew, Makes}
+use Rattle.paired_ops.specs.Operands.{IsForIn, IsOfForm, AreForIn}
+use Rattle.paired_ops.proofs.WorldLaws.{seen-held, keeps-passes, keeps-carries}
+use Rattle.paired_ops.proofs.TextLaws.{made-keeps, made-top, full-short}
+use Rattle.paired_ops.proofs.FormLaws.{int-back, are-of, are-long, are-repeated}
+
+-- What a new object refers to lies in the area.
+near-inside : (here : area.Heap) (cs : List code.Value) (slot to : ℕ) → AreNear here cs → get_or (refs_of cs) slot name.Nil ≡ name.Local to
+    → IsHeld here to
+unfolding refs_of
+near-inside here [] slot to near e = absurd (cc)
+near-inside here (held.Num z ∷ cs) slot to near e = near-inside here cs slot to (near.1) e
+near-inside here (held.Flag b ∷ cs) slot to near e = near-inside here cs slot to (near.1) e
+near-inside here (held.Ref None ∷ cs) zero to near e = absurd (cc)
+near-inside here (held.Ref (Some at) ∷ cs) zero to near e = let same : at ≡ to = cc in subst (IsHeld here) same (near.0)
+near-inside here (held.Ref x ∷ cs) (suc slot) to near e = near-inside here cs slot to (near.1) e
+
+inside-filled : (here : area.Heap) (of : Kind) (text : ℕ) (low : Option ℤ) (cs : List code.Value) → IsHeld here text → AreNear here cs
+    → IsInside here (filled of text low cs)
+unfolding filled
+inside-filled here of text low cs held near zero to e = let same : text ≡ to = cc in subst (IsHeld here) same held
+inside-filled here of text low cs held near (suc slot) to e = near-inside here cs slot to near e
+
+-- A new object of the area that stands for a new one of the heap, and the name that is paired with its number.
+pub record ObjectMade (old new : area.Heap) (of : Heap) (names : List reference.Reference) (k : Kind) (at : ℕ) (object : Object) : Type 0 where
+  pub more : List reference.Reference
+  pub world : IsWorld new (meaning.with_new of object) more
+  pub carries : Carries old new names more (own_weight object)
+  pub name : reference.Reference
+  pub denotes : Denotes new (Some at) name
+  pub pair : paired more name (new_number of)
+  pub kinds : IsKindOf (alone new) name k
+
+pub object-made : (old new : area.Heap) (of : Heap) (names : List reference.Reference) (at : ℕ) (o : area_objects.Object) (object : Object)
+    → IsHeap old → IsWorld old of names → IsInside old o → o.header.pid ≡ 0 → IsMade old new at o
+    → IsLike (alone old) (paired names) (shown (name_of old) o) object → 8 * size_of o ≡ own_weight object
+    → ObjectMade old new of names o.header.kind at object
+object-made old new of names at o object h w inside no_pid m like weight =
+    let keeps = made-keeps old new at o h m in
+    let passes = keeps-passes old new keeps in
+    let n = name.Local (top_of old) in
+    let more = and_name names n in
+    let pairs : Pairs (paired names) (paired more) = λ i id p. name-before names i n id p in
+    let changed : ChangedAt (alone old) n (shown (name_of old) o) (alone new) =
+    subst (λ (x : area.Heap). ChangedAt (alone old) n (shown (name_of old) o) (alone x)) (sym m.made)
+    (joint-made old (λ pid words. ⊥) o h inside no_pid (λ pid words no. absurd no)) in
+    let grown = like-more (alone old) (alone new) (paired names) (paired more) (shown (name_of old) o) object passes.fixed passes.kinds pairs like in
+    let there = made-held old new at o m in
+    let is = made-object old new at o m in
+    let named : name_at new at ≡ n = ap (λ (x : area_objects.Object). name_by x.header at) is ∙ name-none (o.header) at no_pid
+    ∙ ap (λ (i : ℕ). name.Local i) m.place in
+    record {
+      more = more;
+      world = record {
+        row = row-made (alone old) (alone new) of names n (shown (name_of old) o) object w.row
+            (λ it j. name-fresh old (λ pid words. ⊥) it h j) changed grown;
+      };
+      carries = keeps-carries old new names more (own_weight object) keeps pairs (omega (arith, made-top old new at o m, weight));
+      name = n;
+      denotes = (there, named);
+      pair = ap (name_in more) (sym w.row.long) ∙ name-last names n;
+      kinds = record {
+        it = shown_at new at;
+        there = subst (λ (i : reference.Reference). alone new i (shown_at new at)) named (seen-held new at there);
+        kind_is = ap (λ (x : area_objects.Object). x.header.kind) is;
+      };
+    }
+
+-- A new object that is filled with values, and denotes one.
+pub new-object : (old new : area.Heap) (of : Heap) (names : List reference.Reference) (k : Kind) (text : ℕ) (low : Option ℤ)
+    (cs : List code.Value) (at : ℕ) (object : Object) (denoting : ℕ → Value) → IsHeap old → IsWorld old of names
+    → IsHeld old text → AreNear old cs → IsMade old new at (filled k text low cs)
+    → IsLike (alone old) (paired names) (shown (name_of old) (filled k text low cs)) object
+    → 8 * size_of (filled k text low cs) ≡ own_weight object
+    → ((n : reference.Reference) (id : ℕ) (more : List reference.Reference) → paired more n id → IsKindOf (alone new) n k
+    → StandsFor (alone new) (paired more) n (denoting id))
+    → IsNew old new of names denoting object at
+unfolding filled
+new-object old new of names k text low cs at object denoting h w held near m like weight stands =
+    let made = object-made old new of names at (filled k text low cs) object h w (inside-filled old k text low cs held near) refl m like weight in
+    record {
+      more = made.more;
+      world = made.world;
+      carries = made.carries;
+      denotes = record { name = made.name; denotes = made.denotes; stands = stands made.name (new_number of) made.more made.pair made.kinds };
+    }
+
+-- its class or its type, as what it refers to first
+text-stands : (old : area.Heap) (names : List reference.Reference) (at : ℕ) (text : List ℕ) → DenotesIn old names (Some at) (Text text)
+    → IsText (alone old) (name_of old (name.Local at)) text
+text-stands old names at text d = subst (λ (n : reference.Reference). IsText (alone old) n text) (sym (d.denotes.1)) d.stands
+
+-- How many words it has.
+structure-weight : (k : Kind) (text : ℕ) (cs : List code.Value) (class : List ℕ) (vs : List Value) → length cs ≡ length vs
+    → 8 * size_of (filled k text None cs) ≡ own_weight (Structure class vs)
+unfolding filled
+structure-weight k text cs class vs long = omega (arith, rows-length cs, long)
+
+vector-weight : (k : Kind) (text : ℕ) (low : ℤ) (cs : List code.Value) (ty : List ℕ) (vs : List Value) → length cs ≡ length vs
+    → 8 * size_of (filled k text (Some low) cs) ≡ own_weight (Elements ty low vs)
+unfolding filled
+vector-weight k text low cs ty vs long = omega (arith, rows-length cs, long)
+
+words-filled : (k : Kind) (text : ℕ) (low : Option ℤ) (cs : List code.Value) → filled_words low cs ≡ size_of (filled k text low cs)
+unfolding filled filled_words
+words-filled k text low cs = refl
+
+-- A structure was made, or there was no room for it.
+
+pub makes-structure : (old new : area.Heap) (of : Heap) (names : List reference.Reference) (class : ℕ) (cs : List code.Value) (text : List ℕ)
+    (vs : List Value) (at : ℕ) → IsHeap old → IsHeld old class → AreNear old cs
+    → Fills old new kind.Structure class None cs (Ok at) → IsWorld old of names → DenotesIn old names (Some class) (Text text)
+    → AreForIn old names (forms_of text) cs vs
+    → Makes old new of names Pointer (Yields (Structure text vs)) (Ok at)
+makes-structure old new of names class cs text vs at h held near m w d are =
+    let like = as-made old (alone old) (paired names) kind.Structure class text None (λ home. home ∷ []) (forms_of text) cs vs
+    (text-stands old names class text d) refl (are-of old names (forms_of text) cs vs are) in (
+      Structure text vs,
+      refl,
+      new-object old new of names kind.Structure class None cs at (Structure text vs) Pointer h w held near m like
+          (structure-weight kind.Structure class cs text vs (are-long old names (forms_of text) cs vs are)) (λ n id more p k. (p, k)),
+    )
+
+pub no-structure : (old new : area.Heap) (of : Heap) (names : List reference.Reference) (class : ℕ) (cs : List code.Value) (text : List ℕ)
+    (vs : List Value) (fault : SwizzleFault)
+    → Fills old new kind.Structure class None cs (Err fault) → AreForIn old names (forms_of text) cs vs
+    → Makes old new of names Pointer (Yields (Structure text vs)) (Err (op.Swizzle fault))
+no-structure old new of names class cs text vs fault full are = (
+  Structure text vs,
+  refl,
+  full-short old new (filled_words None cs) (own_weight (Structure text vs)) fault full
+      (omega (
+        arith,
+        words-filled kind.Structure class None cs,
+        structure-weight kind.Structure class cs text vs (are-long old names (forms_of text) cs vs are),
+      )),
+)
+
+-- A vector was made, its bounds are none of a vector, or there was no room for it.
+
+elements-like : (old : area.Heap) (names : List reference.Reference) (ty : ℕ) (low : ℤ) (cs : List code.Value) (text : List ℕ) (vs : List Value)
+    → is_int low ≡ true → is_vector low (length vs) ≡ true → DenotesIn old names (Some ty) (Text text)
+    → AreForIn old names (replicate (length vs) (element_of text)) cs vs
+    → IsLike (alone old) (paired names) (shown (name_of old) (filled kind.Vector ty (Some low) cs)) (Elements text low vs)
+elements-like old names ty low cs text vs int fits d are = record {
+  bound = int_word low;
+  bound_is = int-back low int;
+  fits = fits;
+  rows = as-made old (alone old) (paired names) kind.Vector ty text (Some low) (λ home. home ∷ int_word low ∷ [])
+      (replicate (length vs) (element_of text)) cs vs (text-stands old names ty text d) refl
+      (are-of old names (replicate (length vs) (element_of text)) cs vs are);
+}
+
+of-fits : (old new : area.Heap) (of : Heap) (names : List reference.Reference) (ty : ℕ) (low : ℤ) (cs : List code.Value) (text : List ℕ)
+    (vs : List Value) (fits : Bool) (result : Result ℕ OpFault) → is_vector low (length vs) ≡ fits → IsHeap old
+    → IsHeld old ty → AreNear old cs → is_int low ≡ true → MakesVector old new ty low cs fits result → IsWorld old of names
+    → DenotesIn old names (Some ty) (Text text) → AreForIn old names (replicate (length vs) (element_of text)) cs vs
+    → Makes old new of names Vector (is_made fits (Elements text low vs)) result
+of-fits old new of names ty low cs text vs true (Ok at) fits h held near int m w d are = (
+  Elements text low vs,
+  refl,
+  new-object old new of names kind.Vector ty (Some low) cs at (Elements text low vs) Vector h w held near m
+      (elements-like old names ty low cs text vs int fits d are)
+      (vector-weight kind.Vector ty low cs text vs (are-long old names (replicate (length vs) (element_of text)) cs vs are))
+      (λ n id more p k. (p, k)),
+)
+of-fits old new of names ty low cs text vs true (Err (op.Swizzle fault)) fits h held near int m w d are = (
+  Elements text low vs,
+  refl,
+  full-short old new (filled_words (Some low) cs) (own_weight (Elements text low vs)) fault m
+      (omega (
+        arith,
+        words-filled kind.Vector ty (Some low) cs,
+        vector-weight kind.Vector ty low cs text vs (are-long old names (replicate (length vs) (element_of text)) cs vs are),
+      )),
+)
+of-fits old new of names ty low cs text vs true (Err (op.Trap t)) fits h held near int m w d are = absurd m
+of-fits old new of names ty low cs text vs false (Ok at) fits h held near int m w d are = let bad = m.0 in absurd (cc)
+of-fits old new of names ty low cs text vs false (Err (op.Swizzle fault)) fits h held near int m w d are = let bad = m.0 in absurd (cc)
+of-fits old new of names ty low cs text vs false (Err (op.Trap t)) fits h held near int m w d are = let same = m.0 in cc
+
+pub makes-list : (old new : area.Heap) (of : Heap) (names : List reference.Reference) (ty : ℕ) (low : ℤ) (cs : List code.Value) (text : List ℕ)
+    (vs : List Value) (result : Result ℕ OpFault) → IsHeap old → IsHeld old ty → AreNear old cs → is_int low ≡ true
+    → MakesVector old new ty low cs (is_vector low (length cs)) result → IsWorld old of names → DenotesIn old names (Some ty) (Text text)
+    → AreForIn old names (replicate (length cs) (element_of text)) cs vs
+    → Makes old new of names Vector (vector_of text low vs) result
+unfolding vector_of
+makes-list old new of names ty low cs text vs result h held near int m w d are =
+    let long = are-long old names (replicate (length cs) (element_of text)) cs vs are in
+    of-fits old new of names ty low cs text vs (is_vector low (length vs)) result refl h held near int
+    (subst (λ (n : ℕ). MakesVector old new ty low cs (is_vector low n) result) long m) w d
+    (subst (λ (n : ℕ). AreForIn old names (replicate n (element_of text)) cs vs) long are)
+
+pub makes-filled : (old new : area.Heap) (of : Heap) (names : List reference.Reference) (ty : ℕ) (low high : ℤ) (c : code.Value) (text : List ℕ)
+    (v : Value) (result : Result ℕ OpFault) → IsHeap old → IsHeld old ty
+    → AreNear old (replicate (count_from (high -ℤ low)) c) → is_int low ≡ true
+    → MakesVector old new ty low (replicate (count_from (high -ℤ low)) c) (is_vector low (count_from (high -ℤ low))) result → IsWorld old of names
+    → DenotesIn old names (Some ty) (Text text)
+    → IsOfForm (element_of text) c → IsForIn old names c v → Makes old new of names Vector (filled_vector text low high v) result
+unfolding filled_vector
+makes-filled old new of names ty low high c text v result h held near int m w d form is =
+    let n = count_from (high -ℤ low) in
+    let long : length (replicate n c) ≡ n = length-replicate n c in
+    makes-list old new of names ty low (replicate n c) text (replicate n v) result h held near int
+    (subst (λ (k : ℕ). MakesVector old new ty low (replicate n c) (is_vector low k) result) (sym long) m) w d
+    (subst (λ (k : ℕ). AreForIn old names (replicate k (element_of text)) (replicate n c) (replicate n v)) (sym long)
+    (are-repeated old names (element_of text) c v n form is))
+
+-- An int of 32 bits is one of the meaning.
+pub fits-int : (z : ℤ) → SFits w32 z → is_int z ≡ true
+fits-int (pos n) f = lt-ltb n (2 ^ 31) (omega (arith, f.sfits))
+fits-int (negsuc n) f = lt-ltb n (2 ^ 31) (omega (arith, f.sfits))
+
+-- The same for bounds as the code has them.
+pub makes-filled_at : (old new : area.Heap) (of : Heap) (names : List reference.Reference) (ty : ℕ) (low high l g : ℤ) (c : code.Value)
+    (text : List ℕ) (v : Value) (result : Result ℕ OpFault) → l ≡ low → g ≡ high → IsHeap old → IsHeld old ty
+    → IsNear old c → is_int low ≡ true → MakesVector old new ty l (replicate (count_from (g -ℤ l)) c) (is_vector l (count_from (g -ℤ l))) result
+    → IsWorld old of names → DenotesIn old names (Some ty) (Text text)
+    → IsOfForm (element_of text) c → IsForIn old names c v → Makes old new of names Vector (filled_vector text low high v) result
+makes-filled_at old new of names ty low high l g c text v result el eg h held near int m w d form is =
+    subst (λ (x : ℤ). Makes old new of names Vector (filled_vector text x high v) result) el
+    (subst (λ (y : ℤ). Makes old new of names Vector (filled_vector text l y v) result) eg
+    (makes-filled old new of names ty l g c text v result h held (near-repeated old (count_from (g -ℤ l)) c near) (ap is_int el ∙ int) m w d form is))
+
+pub makes-list_at : (old new : area.Heap) (of : Heap) (names : List reference.Reference) (ty : ℕ) (low l : ℤ) (cs : List code.Value)
+    (text : List ℕ) (vs : List Value) (result : Result ℕ OpFault) → l ≡ low → IsHeap old → IsHeld old ty → AreNear old cs
+    → is_int low ≡ true → MakesVector old new ty l cs (is_vector l (length cs)) result → IsWorld old of names
+    → DenotesIn old names (Some ty) (Text text) → AreForIn old names (replicate (length cs) (element_of text)) cs vs
+    → Makes old new of names Vector (vector_of text low vs) result
+makes-list_at old new of names ty low l cs text vs result el h held near int m w d are =
+    subst (λ (x : ℤ). Makes old new of names Vector (vector_of text x vs) result) el
+    (makes-list old new of names ty l cs text vs result h held near (ap is_int el ∙ int) m w d are)

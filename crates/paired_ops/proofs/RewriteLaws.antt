@@ -1,0 +1,224 @@
+-- A value written to a place of an object: what becomes of the area, and of the world.
+use Rattle.std.proofs.Common.{arith, inl, inr, ◌≡◌, ℕ, ◌+◌, ◌*◌, List, [], ◌∷◌, ◌++◌, set, slice_set, refl, sym, ap, ◌∙◌, subst, Bool, true, false, if◌then◌else◌}
+use Rattle.std.proofs.lemmas.Bool.{cases_eq}
+use Rattle.std.proofs.lemmas.List.{map-set}
+use Rattle.text_ops.specs.obj_layout.declared.reference.Reference as reference
+use Rattle.text_ops.specs.swizzle.Objects as area_objects
+use Rattle.text_ops.specs.swizzle.Objects.{size_of, size_of_all, replace_from}
+use Rattle.text_ops.specs.swizzle.Heap as area
+use Rattle.text_ops.specs.swizzle.Heap.{IsHeap, IsHeld, header_at, object_at, top_of, reference_to, is_assigned, flagged, with_mark}
+use Rattle.text_ops.specs.swizzle.Joint.{Shown, shown, shown_at, name_at, name_of}
+use Rattle.text_ops.specs.swizzle.Changes.{Within, ChangedAt}
+use Rattle.text_ops.proofs.of_swizzle.ObjectLaws.{here, elsewhere}
+use Rattle.text_ops.proofs.of_swizzle.HeapLaws.{held-replaced, size-replaced}
+use Rattle.text_ops.proofs.of_swizzle.KeptLaws.{held_is}
+use Rattle.text_ops.proofs.of_swizzle.JointLaws.{IsLike, like_long, object-replaced, name-replaced, joint-replaced}
+use Rattle.heap_meaning.specs.heap_places.Words.{int_word, flag_word}
+use Rattle.heap_meaning.specs.heap_places.Places.{with_value, assigned_value}
+use Rattle.heap_meaning.specs.heap_places.declared.value.Value as code
+use Rattle.heap_meaning.specs.heap_places.declared.value.Value.TheVariants as held
+use Rattle.text_ops.specs.ps_meaning.Values.{Value}
+use Rattle.text_ops.specs.ps_meaning.Objects.{Heap, Object, with_object}
+use Rattle.heap_meaning.specs.Standing as standing
+use Rattle.heap_meaning.specs.Paired.{paired}
+use Rattle.heap_meaning.proofs.StandingLaws.{IsFixed, not-fixed, fixed-changed, kinds-changed, like-more}
+use Rattle.heap_meaning.proofs.PairedLaws.{row-written}
+use Rattle.heap_meaning.proofs.GivenLaws.{shown_with}
+use Rattle.paired_ops.specs.Lasting.{Lasts}
+use Rattle.paired_ops.proofs.LastingLaws.{lasts-then}
+use Rattle.paired_ops.specs.World.{alone, Carries, Stands}
+use Rattle.paired_ops.specs.Operands.{IsForIn}
+use Rattle.paired_ops.proofs.WorldLaws.{seen-at, seen-held, alone-one, Passes, carries-value, carries-scope}
+
+-- An object in another's place, twice.
+replace-twice : (at : ℕ) (os : List area_objects.Object) (i : ℕ) (x y : area_objects.Object)
+    → replace_from at (replace_from at os i x) i y ≡ replace_from at os i y
+replace-twice at [] i x y = refl
+replace-twice at (o ∷ os) i x y = elim (cases_eq i at) [
+  | inl same ↦
+      ap (λ (l : List area_objects.Object). replace_from at l i y) (here i at (x ∷ os) (o ∷ replace_from (at + size_of o) os i x) same)
+      ∙ here i at (y ∷ os) (x ∷ replace_from (at + size_of x) os i y) same
+      ∙ sym (here i at (y ∷ os) (o ∷ replace_from (at + size_of o) os i y) same)
+  | inr apart ↦
+      ap (λ (l : List area_objects.Object). replace_from at l i y) (elsewhere i at (x ∷ os) (o ∷ replace_from (at + size_of o) os i x) apart)
+      ∙ elsewhere i at (y ∷ replace_from (at + size_of o) os i x) (o ∷ replace_from (at + size_of o) (replace_from (at + size_of o) os i x) i y) apart
+      ∙ ap (λ (l : List area_objects.Object). o ∷ l) (replace-twice (at + size_of o) os i x y)
+      ∙ sym (elsewhere i at (y ∷ os) (o ∷ replace_from (at + size_of o) os i y) apart)
+]
+
+-- An object was put in another's place, as long and of its kind.
+pub record Rewritten (mid new : area.Heap) (at : ℕ) (it : Shown) : Type 0 where
+  pub object : area_objects.Object
+  pub objects : new.objects ≡ replace_from 1 mid.objects at object
+  pub size : new.size ≡ mid.size
+  pub reached : new.reached ≡ mid.reached
+  pub like : IsLike (object_at mid at) object
+  pub shown_is : shown (name_of mid) object ≡ it
+
+-- the object with a value in a place
+value_object : area_objects.Object → ℕ → code.Value → area_objects.Object
+value_object o index (held.Num z) = record o { nums = slice_set o.nums index (int_word z) }
+value_object o index (held.Flag b) = record o { nums = slice_set o.nums index (flag_word b) }
+value_object o index (held.Ref to) = record o { refs = set o.refs index (reference_to to) }
+
+value-objects : (mid : area.Heap) (at index : ℕ) (c : code.Value)
+    → with_value mid at index c ≡ area.with_object mid at (value_object (object_at mid at) index c)
+unfolding value_object
+value-objects mid at index (held.Num z) = refl
+value-objects mid at index (held.Flag b) = refl
+value-objects mid at index (held.Ref to) = refl
+
+value-like : (o : area_objects.Object) (index : ℕ) (c : code.Value) → IsLike o (value_object o index c)
+unfolding value_object
+value-like o index (held.Num z) = record { kind = refl; refs = refl; nums = refl; bytes = refl; pid = refl }
+value-like o index (held.Flag b) = record { kind = refl; refs = refl; nums = refl; bytes = refl; pid = refl }
+value-like o index (held.Ref to) = record { kind = refl; refs = refl; nums = refl; bytes = refl; pid = refl }
+
+value-shown : (mid : area.Heap) (at index : ℕ) (c : code.Value)
+    → shown (name_of mid) (value_object (object_at mid at) index c) ≡ shown_with mid (shown_at mid at) index c
+unfolding value_object
+value-shown mid at index (held.Num z) = refl
+value-shown mid at index (held.Flag b) = refl
+value-shown mid at index (held.Ref to) =
+    ap (λ (rs : List reference.Reference). record (shown_at mid at) { refs = rs })
+    (map-set (name_of mid) (object_at mid at).refs index (reference_to to))
+
+-- the mark after it
+marked : (mid : area.Heap) (at : ℕ) (o : area_objects.Object) (it : Shown) (b : Bool) → IsHeap mid → IsHeld mid at → IsLike (object_at mid at) o
+    → shown (name_of mid) o ≡ it
+    → Rewritten mid (if b then area.with_object mid at o else record (area.with_object mid at o) {
+      objects = replace_from 1 (area.with_object mid at o).objects at (flagged (object_at (area.with_object mid at o) at));
+      assigned = mid.assigned ++ at ∷ [];
+    }) at it
+marked mid at o it true h there like is = record { object = o; objects = refl; size = refl; reached = refl; like = like; shown_is = is }
+marked mid at o it false h there like is = record {
+  object = flagged o;
+  objects = replace-twice 1 mid.objects at o (flagged (object_at (area.with_object mid at o) at))
+      ∙ ap (λ (x : area_objects.Object). replace_from 1 mid.objects at (flagged x)) (object-replaced mid at o there);
+  size = refl;
+  reached = refl;
+  like = record { kind = like.kind; refs = like.refs; nums = like.nums; bytes = like.bytes; pid = like.pid };
+  shown_is = is;
+}
+
+pub rewritten : (mid new : area.Heap) (at index : ℕ) (c : code.Value) → IsHeap mid → IsHeld mid at → new ≡ assigned_value mid at index c
+    → Rewritten mid new at (shown_with mid (shown_at mid at) index c)
+rewritten mid new at index c h there e =
+    let o = value_object (object_at mid at) index c in
+    let put = area.with_object mid at o in
+    subst (λ (x : area.Heap). Rewritten mid x at (shown_with mid (shown_at mid at) index c))
+    (sym (e ∙ ap (λ (x : area.Heap). with_mark x at) (value-objects mid at index c)))
+    (marked mid at o (shown_with mid (shown_at mid at) index c) (is_assigned (object_at put at)) h there (value-like (object_at mid at) index c)
+    (value-shown mid at index c))
+
+-- The heap with another list of the assigned.
+
+unfoldable pub relisted : area.Heap → List ℕ → area.Heap
+relisted heap assigned = record heap { assigned = assigned }
+
+pub as-relisted : (mid new : area.Heap) (at : ℕ) (it : Shown) → (r : Rewritten mid new at it)
+    → new ≡ relisted (area.with_object mid at r.object) new.assigned
+unfolding relisted
+as-relisted mid new at it r =
+    ap (λ (os : List area_objects.Object). record new { objects = os }) r.objects
+    ∙ ap (λ (n : ℕ). record (area.with_object mid at r.object) { size = n; assigned = new.assigned; reached = new.reached }) r.size
+    ∙ ap (λ (xs : List ℕ). record (area.with_object mid at r.object) { assigned = new.assigned; reached = xs }) r.reached
+
+relisted-there : (heap : area.Heap) (assigned : List ℕ) → Within (alone heap) (alone (relisted heap assigned))
+unfolding relisted
+relisted-there heap assigned n it s =
+    let a = seen-at heap n it s in
+    inl (record { at = a.at; held = record { object = a.held.object; is = a.held.is }; name_is = a.name_is; shown_is = a.shown_is })
+
+relisted-back : (heap : area.Heap) (assigned : List ℕ) → Within (alone (relisted heap assigned)) (alone heap)
+unfolding relisted
+relisted-back heap assigned n it s =
+    let a = seen-at (relisted heap assigned) n it s in
+    inl (record { at = a.at; held = record { object = a.held.object; is = a.held.is }; name_is = a.name_is; shown_is = a.shown_is })
+
+changed-relisted : (old heap : area.Heap) (assigned : List ℕ) (n : reference.Reference) (it : Shown) → ChangedAt (alone old) n it (alone heap)
+    → ChangedAt (alone old) n it (alone (relisted heap assigned))
+changed-relisted old heap assigned n it c = record {
+  there = relisted-there heap assigned n it c.there;
+  alone = λ other s. c.alone other (relisted-back heap assigned n other s);
+  stays = λ m other ne s. relisted-there heap assigned m other (c.stays m other ne s);
+  no_more = λ m other ne s. c.no_more m other ne (relisted-back heap assigned m other s);
+}
+
+-- What a rewriting leaves.
+
+pub rewritten-changed : (mid new : area.Heap) (at : ℕ) (it : Shown) → IsHeap mid → IsHeld mid at → Rewritten mid new at it
+    → ChangedAt (alone mid) (name_at mid at) it (alone new)
+rewritten-changed mid new at it h there r =
+    let put = area.with_object mid at r.object in
+    subst (λ (x : area.Heap). ChangedAt (alone mid) (name_at mid at) it (alone x)) (sym (as-relisted mid new at it r))
+    (changed-relisted mid put new.assigned (name_at mid at) it
+    (subst (λ (s : Shown). ChangedAt (alone mid) (name_at mid at) s (alone put)) r.shown_is
+    (joint-replaced mid (λ pid words. ⊥) at r.object h there r.like)))
+
+names-relisted : (mid put : area.Heap) (assigned : List ℕ) → ((j : ℕ) → IsHeld mid j → IsHeld put j × (name_at put j ≡ name_at mid j)) → (j : ℕ)
+    → IsHeld mid j → IsHeld (relisted put assigned) j × (name_at (relisted put assigned) j ≡ name_at mid j)
+unfolding relisted
+names-relisted mid put assigned f j there = let now = f j there in (record { object = now.0.object; is = now.0.is }, now.1)
+
+pub rewritten-names : (mid new : area.Heap) (at : ℕ) (it : Shown) → IsHeld mid at → Rewritten mid new at it → (j : ℕ) → IsHeld mid j
+    → IsHeld new j × (name_at new j ≡ name_at mid j)
+rewritten-names mid new at it there r j is =
+    let put = area.with_object mid at r.object in
+    subst (λ (x : area.Heap). IsHeld x j × (name_at x j ≡ name_at mid j)) (sym (as-relisted mid new at it r))
+    (names-relisted mid put new.assigned (λ i held. (
+      held-replaced mid at (object_at mid at) r.object i (held_is mid at there) (like_long (object_at mid at) r.object r.like) held,
+      name-replaced mid at i r.object there r.like,
+    )) j is)
+
+pub rewritten-top : (mid new : area.Heap) (at : ℕ) (it : Shown) → IsHeld mid at → Rewritten mid new at it → top_of new ≡ top_of mid
+rewritten-top mid new at it there r =
+    ap (λ (os : List area_objects.Object). 1 + size_of_all os) r.objects
+    ∙ ap (λ (n : ℕ). 1 + n)
+    (size-replaced 1 mid.objects at (object_at mid at) r.object (held_is mid at there) (like_long (object_at mid at) r.object r.like))
+
+-- what stands, and stands again
+pub stands-then : (a b c : area.Heap) (of now : Heap) (names : List reference.Reference) → Stands a b of names → Stands b c now names
+    → Stands a c now names
+stands-then a b c of now names s t = record {
+  world = t.world;
+  carries = record {
+    values = λ to v d. t.carries.values to v (s.carries.values to v d);
+    scopes = λ to scope d. t.carries.scopes to scope (s.carries.scopes to scope d);
+    lasts = lasts-then a b c s.carries.lasts t.carries.lasts;
+    top = omega (arith, t.carries.top, s.carries.top);
+  };
+}
+
+-- A write on both sides: the area stands for the heap with the other object.
+pub write-stands : (old mid new : area.Heap) (of : Heap) (names : List reference.Reference) (at id : ℕ) (it : Shown) (object : Object)
+    → IsHeap mid → Stands old mid of names → IsHeld mid at → paired names (name_at mid at) id → Lasts mid new
+    → it.kind ≡ (shown_at mid at).kind → standing.IsLike (alone mid) (paired names) it object → Rewritten mid new at it
+    → Stands old new (with_object of id object) names
+write-stands old mid new of names at id it object h s there p lasts same like r =
+    let one = alone-one mid h in
+    let seen = seen-held mid at there in
+    let changed = rewritten-changed mid new at it h there r in
+    let written : IsFixed (shown_at mid at).kind → ⊥ = λ f. not-fixed (alone mid) (paired names) it object like (subst IsFixed (sym same) f) in
+    let fixed = fixed-changed (alone mid) (alone new) (name_at mid at) (shown_at mid at) it one seen written changed in
+    let kinds = kinds-changed (alone mid) (alone new) (name_at mid at) (shown_at mid at) it one seen same changed in
+    let passes : Passes mid new = record { names = rewritten-names mid new at it there r; fixed = fixed; kinds = kinds } in
+    record {
+      world = record {
+        row = row-written (alone mid) (alone new) of names (name_at mid at) id (shown_at mid at) it object one s.world.row p seen written same changed
+            (like-more (alone mid) (alone new) (paired names) (paired names) it object fixed kinds (λ n i q. q) like);
+      };
+      carries = record {
+        values = λ to v d. carries-value mid new names names to v passes (λ n i q. q) (s.carries.values to v d);
+        scopes = λ to scope d. carries-scope mid new names names to scope passes (λ n i q. q) (s.carries.scopes to scope d);
+        lasts = lasts-then old mid new s.carries.lasts lasts;
+        top = ap (λ (n : ℕ). 8 * n) (rewritten-top mid new at it there r) ∙ s.carries.top;
+      };
+    }
+
+-- A value in code that denoted one denotes it still.
+pub for-carried : (old new : area.Heap) (names more : List reference.Reference) (weight : ℕ) (c : code.Value) (v : Value)
+    → Carries old new names more weight → IsForIn old names c v → IsForIn new more c v
+for-carried old new names more weight (held.Num z) v k i = i
+for-carried old new names more weight (held.Flag b) v k i = i
+for-carried old new names more weight (held.Ref to) v k i = k.values to v i

@@ -1,0 +1,170 @@
+-- New texts, and what the operators on texts answer.
+use Rattle.std.proofs.Common.{arith, inr, inl, ◌≡◌, ℕ, ◌+◌, ◌*◌, ◌<◌, ◌≤◌, ◌^◌, List, [], ◌∷◌, ◌++◌, length, refl, sym, ap, ◌∙◌, subst, Bool, true, false, if◌then◌else◌}
+use Rattle.std.specs.Fmt.{signed_decimal}
+use Rattle.std.proofs.lemmas.Fmt.{IsAscii-signed}
+use lib.Signed.{mag}
+use Rattle.std.specs.Prelude.{ℤ, Result, Ok, Err, take, drop, pos, suc, zero, negsuc, nat_lt}
+use Rattle.text_ops.specs.obj_area.Words.{AreBytes}
+use Rattle.text_ops.proofs.of_obj_area.WordLaws.{AreBytes-take, AreBytes-drop}
+use Rattle.ps_base.specs.declared.trap.Trap.TheVariants as trap
+use Rattle.text_ops.specs.obj_layout.declared.reference.Reference as reference
+use Rattle.text_ops.specs.swizzle.declared.fault.SwizzleFault.{SwizzleFault}
+use Rattle.text_ops.specs.swizzle.Objects.{Object, size_of, size_of_all}
+use Rattle.text_ops.specs.swizzle.Heap as area
+use Rattle.text_ops.specs.swizzle.Heap.{IsHeap, IsHeld, IsMade, IsFull, header_at, object_at, top_of, with_new}
+use Rattle.text_ops.specs.swizzle.Text.{text_of, text_at}
+use Rattle.text_ops.specs.swizzle.Touch.{Keeps}
+use Rattle.text_ops.proofs.of_swizzle.ObjectLaws.{size_of_all-append, split}
+use Rattle.text_ops.proofs.of_swizzle.KeptLaws.{held_is}
+use Rattle.text_ops.proofs.of_swizzle.MadeLaws.{made-held, made-object}
+use Rattle.text_ops.specs.heap_texts.Texts.{text_object, text_nums, wanted_of, GivesText}
+use Rattle.text_ops.specs.heap_texts.Texts as made
+use Rattle.text_ops.specs.heap_texts.declared.fault.OpFault.{OpFault}
+use Rattle.text_ops.specs.heap_texts.declared.fault.OpFault.TheVariants as op
+use Rattle.text_ops.specs.ps_meaning.Texts.{Attempt, Yields, Fails, join_of, part_of, is_string}
+use Rattle.text_ops.specs.ps_meaning.Objects.{Heap}
+use Rattle.text_ops.specs.ps_meaning.Weights.{text_weight}
+use Rattle.heap_meaning.proofs.of_proc_values.StayLaws.{keeps-before}
+use Rattle.heap_meaning.proofs.of_proc_values.WrittenLaws.{text-of_text}
+use Rattle.std.proofs.lemmas.Bool.{cases_lt}
+use Rattle.paired_ops.specs.World.{IsWorld, AreWords, IsShort, IsNewText, MakesText}
+use Rattle.paired_ops.proofs.WorldLaws.{keeps-carries, keeps-world}
+use Rattle.paired_ops.proofs.ValueLaws.{denotes-text, text-bytes}
+
+-- An object that was made leaves all others as they are.
+pub made-keeps : (old new : area.Heap) (at : ℕ) (o : Object) → IsHeap old → IsMade old new at o → Keeps old new
+made-keeps old new at o h m = subst (Keeps old) (sym m.made) (keeps-before old (o ∷ []) h)
+
+-- and it takes its words
+pub made-top : (old new : area.Heap) (at : ℕ) (o : Object) → IsMade old new at o → top_of new ≡ top_of old + size_of o
+made-top old new at o m = ap top_of m.made ∙ omega (arith, size_of_all-append old.objects (o ∷ []))
+
+-- the words that are wanted, with the greatest number of 32 bits at most
+words-wanted : (words weight : ℕ) → 8 * words ≡ weight → AreWords (wanted_of words) weight
+words-wanted words weight are = elim (cases_lt words (2 ^ 32)) [
+  | inl lt ↦ inl (omega (arith, are, lt))
+  | inr ge ↦ inr (omega (arith, ge), omega (arith, are, ge))
+]
+
+-- There was no room for an object of so many words.
+pub full-short : (old new : area.Heap) (words weight : ℕ) (fault : SwizzleFault) → IsFull old new (wanted_of words) fault → 8 * words ≡ weight
+    → IsShort old new weight fault
+full-short old new words weight fault full are = record {
+  wanted = wanted_of words;
+  fault_is = full.fault_is;
+  full = full.full;
+  words = words-wanted words weight are;
+  stays = full.stays;
+}
+
+-- A text was made.
+pub new-text : (old new : area.Heap) (of : Heap) (names : List reference.Reference) (bytes : List ℕ) (at : ℕ) → IsHeap old → AreBytes bytes
+    → IsWorld old of names → IsMade old new at (text_object bytes) → IsNewText old new of names bytes at
+unfolding text_object
+new-text old new of names bytes at h good w m =
+    let keeps = made-keeps old new at (text_object bytes) h m in
+    let there = made-object old new at (text_object bytes) m in
+    record {
+      world = keeps-world old new of names keeps w;
+      carries = keeps-carries old new names names (text_weight bytes) keeps (λ n id p. p) (omega (arith, made-top old new at (text_object bytes) m));
+      denotes = denotes-text new names at bytes (made-held old new at (text_object bytes) m) (ap (λ (o : Object). o.header.kind) there)
+          (ap text_of there ∙ text-of_text bytes good);
+    }
+
+-- What an operator on texts gives.
+pub gives-text : (old new : area.Heap) (of : Heap) (names : List reference.Reference) (attempt : Attempt (List ℕ)) (result : Result ℕ OpFault)
+    → IsHeap old → ((bytes : List ℕ) → attempt ≡ Yields bytes → AreBytes bytes) → IsWorld old of names
+    → GivesText old new attempt result → MakesText old new of names attempt result
+gives-text old new of names (Yields bytes) (Ok at) h good w g = (bytes, refl, new-text old new of names bytes at h (good bytes refl) w g)
+gives-text old new of names (Yields bytes) (Err (op.Swizzle fault)) h good w g =
+    (bytes, refl, full-short old new (4 + text_nums (length bytes)) (text_weight bytes) fault g (omega arith))
+gives-text old new of names (Yields bytes) (Err (op.Trap t)) h good w g = absurd g
+gives-text old new of names (Fails why) (Ok at) h good w g = let bad = g.0 in absurd (cc)
+gives-text old new of names (Fails why) (Err (op.Swizzle fault)) h good w g = let bad = g.0 in absurd (cc)
+gives-text old new of names (Fails why) (Err (op.Trap t)) h good w g = let same = g.0 in cc
+
+-- a text that is made of given bytes
+pub makes-text : (old new : area.Heap) (of : Heap) (names : List reference.Reference) (bytes : List ℕ) (at : ℕ) → IsHeap old → AreBytes bytes
+    → IsWorld old of names
+    → made.MakesText old new bytes (Ok at) → MakesText old new of names (Yields bytes) (Ok at)
+makes-text old new of names bytes at h good w m = (bytes, refl, new-text old new of names bytes at h good w m)
+
+pub makes-no_text : (old new : area.Heap) (of : Heap) (names : List reference.Reference) (bytes : List ℕ) (fault : SwizzleFault)
+    → made.MakesText old new bytes (Err fault) → MakesText old new of names (Yields bytes) (Err (op.Swizzle fault))
+makes-no_text old new of names bytes fault m =
+    (bytes, refl, full-short old new (4 + text_nums (length bytes)) (text_weight bytes) fault m (omega arith))
+
+-- The operators yield bytes.
+
+bytes-append : (a b : List ℕ) → AreBytes a → AreBytes b → AreBytes (a ++ b)
+bytes-append [] b ga gb k = gb k
+bytes-append (x ∷ xs) b ga gb zero = ga 0
+bytes-append (x ∷ xs) b ga gb (suc k) = bytes-append xs b (λ j. ga (suc j)) gb k
+
+join-good : (a b bytes : List ℕ) → AreBytes a → AreBytes b → join_of a b ≡ Yields bytes → AreBytes bytes
+join-good a b bytes ga gb e = of (is_string (a ++ b)) e
+  where
+    of : (s : Bool) → (if s then Yields (a ++ b) else Fails trap.TooLong) ≡ Yields bytes
+        → AreBytes bytes
+    of true q = let same : a ++ b ≡ bytes = cc in subst AreBytes same (bytes-append a b ga gb)
+    of false q = absurd (cc)
+
+part-good : (text bytes : List ℕ) (from count : ℤ) → AreBytes text → part_of text from count ≡ Yields bytes → AreBytes bytes
+part-good text bytes (pos zero) count g e = absurd (cc)
+part-good text bytes (negsuc n) count g e = absurd (cc)
+part-good text bytes (pos (suc before)) (negsuc n) g e = absurd (cc)
+part-good text bytes (pos (suc before)) (pos count) g e = of (nat_lt (length text) (before + count)) e
+  where
+    of : (s : Bool) → (if s then Fails trap.Substring else Yields
+        (take count (drop before text))) ≡ Yields bytes → AreBytes bytes
+    of true q = absurd (cc)
+    of false q = let same : take count (drop before text) ≡ bytes = cc in
+        subst AreBytes same (AreBytes-take count (drop before text) (AreBytes-drop before text g))
+
+-- One text after the other.
+pub joins : (old new : area.Heap) (of : Heap) (names : List reference.Reference) (a b : ℕ) (v w : List ℕ) (result : Result ℕ OpFault) → IsHeap old
+    → IsWorld old of names
+    → text_at old a ≡ v → text_at old b ≡ w → GivesText old new (join_of (text_at old a) (text_at old b)) result
+    → MakesText old new of names (join_of v w) result
+joins old new of names a b v w result h world ea eb g =
+    subst (λ (x : List ℕ). MakesText old new of names (join_of x w) result) ea
+    (subst (λ (y : List ℕ). MakesText old new of names (join_of (text_at old a) y) result) eb
+    (gives-text old new of names (join_of (text_at old a) (text_at old b)) result h
+    (λ bytes e. join-good (text_at old a) (text_at old b) bytes (text-bytes old a) (text-bytes old b) e) world g))
+
+-- A part of a text.
+pub parts : (old new : area.Heap) (of : Heap) (names : List reference.Reference) (a : ℕ) (from count f k : ℤ) (v : List ℕ)
+    (result : Result ℕ OpFault) → IsHeap old → IsWorld old of names
+    → text_at old a ≡ v → f ≡ from → k ≡ count → GivesText old new (part_of (text_at old a) f k) result
+    → MakesText old new of names (part_of v from count) result
+parts old new of names a from count f k v result h world ea ef ek g =
+    subst (λ (x : List ℕ). MakesText old new of names (part_of x from count) result) ea
+    (subst (λ (z : ℤ). MakesText old new of names (part_of (text_at old a) z count) result) ef
+    (subst (λ (z : ℤ). MakesText old new of names (part_of (text_at old a) f z) result) ek
+    (gives-text old new of names (part_of (text_at old a) f k) result h
+    (λ bytes e. part-good (text_at old a) bytes f k (text-bytes old a) e) world g)))
+
+-- The text of an int is made of bytes.
+pub int-good : (z : ℤ) → mag z < 2 ^ 63 → AreBytes (signed_decimal z)
+int-good z lt k = omega (arith, IsAscii-signed z lt k)
+
+pub int-made : (old new : area.Heap) (of : Heap) (names : List reference.Reference) (z y : ℤ) (at : ℕ) → IsHeap old → mag z < 2 ^ 63 → y ≡ z
+    → IsWorld old of names
+    → made.MakesText old new (signed_decimal y) (Ok at) → MakesText old new of names (Yields (signed_decimal z)) (Ok at)
+int-made old new of names z y at h lt same w m =
+    makes-text old new of names (signed_decimal z) at h (int-good z lt) w
+    (subst (λ (x : ℤ). made.MakesText old new (signed_decimal x) (Ok at)) same m)
+
+pub int-full : (old new : area.Heap) (of : Heap) (names : List reference.Reference) (z y : ℤ) (fault : SwizzleFault) → y ≡ z
+    → made.MakesText old new (signed_decimal y) (Err fault) → MakesText old new of names (Yields (signed_decimal z)) (Err (op.Swizzle fault))
+int-full old new of names z y fault same m =
+    makes-no_text old new of names (signed_decimal z) fault (subst (λ (x : ℤ). made.MakesText old new (signed_decimal x) (Err fault)) same m)
+
+-- A text of the area is not longer than the area.
+pub text-small : (here : area.Heap) (at : ℕ) → IsHeap here → IsHeld here at → (header_at here at).bytes < 2 ^ 31
+text-small here at h held =
+    let o = object_at here at in
+    let s = split 1 here.objects at o h.fit (held_is here at held) in
+    let sizes = ap size_of_all s.is ∙ size_of_all-append s.front (o ∷ s.back) in
+    let room = s.fit.bytes in
+    omega (arith, sizes, room, h.within, h.small)

@@ -1,0 +1,17 @@
+use Rattle.std.proofs.Common.{w32}
+use Rattle.std.proofs.lemmas.Int.{to_z-of_z}
+use Rattle.paired_ops.proofs.MadeLaws.{fits-int, makes-list_at}
+use Rattle.paired_ops.proofs.StayingLaws.{vector-held, vector-lasts}
+use Rattle.paired_ops.proofs.vectors.make_list.Goals as goal
+
+pub returns-clause-made : goal.returns-clause-made
+returns-clause-made c of names text elements world d are =
+    makes-list_at c.args.sw.now c.make_list-made.new.sw of names c.args.ty c.args.low _ c.args.items.now text elements c.make_list-made.result
+    (to_z-of_z w32 c.args.low c.ranges.low) c.sound.ensures c.requires.text c.requires.near (fits-int c.args.low c.ranges.low)
+    c.make_list-made.ensures.made world d are
+
+pub returns-clause-held : goal.returns-clause-held
+returns-clause-held c = vector-held c.args.sw.now c.make_list-made.new.sw c.args.ty _ _ _ c.make_list-made.result c.make_list-made.ensures.made
+
+pub returns-clause-lasts : goal.returns-clause-lasts
+returns-clause-lasts c = vector-lasts c.args.sw.now c.make_list-made.new.sw c.args.ty _ _ _ c.make_list-made.result c.sound.ensures c.make_list-made.ensures.made

@@ -1,0 +1,55 @@
+//! What an object of the area, or none, denotes.
+ghost use Rattle.std.specs.Prelude.{◌≡◌, List, IfSome};
+ghost use Rattle.text_ops.specs.obj_layout.declared.reference.Reference.{Reference};
+ghost use Rattle.text_ops.specs.swizzle.Heap.{IsHeld};
+ghost use Rattle.text_ops.specs.ps_meaning.Objects.{is_one_object};
+ghost use Rattle.text_ops.specs.ps_meaning.Objects as meaning;
+ghost use Rattle.text_ops.specs.ps_meaning.Values as meant;
+ghost use Rattle.paired_ops.specs.World.{IsWorld, DenotesIn};
+ghost use Rattle.paired_ops.specs.Operands.{IsOfSort, IsSorted, IsByObject};
+
+use text_ops::obj_layout::kind::Kind;
+use text_ops::swizzle::swizzle::Swizzle;
+
+/// What an object is, or none.
+#[derive(Clone, Copy, PartialEq, Eq, Debug)]
+pub enum Sort {
+    /// None.
+    Nil,
+    Text,
+    Structure,
+    Vector,
+    Procedure,
+    /// An object that no value of a clause denotes.
+    Other,
+}
+
+/// What sort of object this is. Where it denotes a value, it is the sort of that value, and never `Other`.
+#[inline]
+pub fn sort_of(sw: &Swizzle, to: Option<u32>) -> Sort
+    requires held { IfSome to (IsHeld sw.now) }
+    ensures kind { IsSorted sw.now to result }
+    ensures value { (names : List Reference) (v : meant.Value) → DenotesIn sw.now names to v → IsOfSort v result }
+{
+    sw.sound();
+    let Some(at) = to else {
+        return Sort::Nil;
+    };
+    match sw.kind(at) {
+        Kind::Text => Sort::Text,
+        Kind::Structure => Sort::Structure,
+        Kind::Vector => Sort::Vector,
+        Kind::Closure => Sort::Procedure,
+        _ => Sort::Other,
+    }
+}
+
+/// Whether two values that are neither texts nor procedures are one: nil and nil, or the same object.
+#[inline]
+pub fn is_one(sw: &Swizzle, a: Option<u32>, b: Option<u32>) -> bool
+    ensures { (of : meaning.Heap) (names : List Reference) (v w : meant.Value) → IsWorld sw.now of names → DenotesIn sw.now names a v → DenotesIn sw.now names b w
+        → IsByObject v → IsByObject w → result ≡ is_one_object v w }
+{
+    sw.sound();
+    a == b
+}

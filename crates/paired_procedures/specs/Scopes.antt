@@ -1,0 +1,95 @@
+-- What becomes of the area where scopes are made and left, and their names read and written.
+use Rattle.std.specs.Prelude.{◌≡◌, ℕ, true, List, Option, Some, None, Result, Ok, Err}
+use Rattle.paired_ops.specs.obj_layout.declared.reference.Reference as reference
+use Rattle.paired_ops.specs.obj_layout.declared.vault.VaultFault.TheVariants.{Damaged}
+use Rattle.paired_ops.specs.swizzle.Heap as area
+use Rattle.paired_ops.specs.swizzle.declared.fault.SwizzleFault.{SwizzleFault}
+use Rattle.paired_ops.specs.swizzle.declared.fault.SwizzleFault.TheVariants.{Vault}
+use Rattle.paired_ops.specs.text_forms.declared.forms.Form.{Form}
+use Rattle.paired_ops.specs.text_forms.declared.forms.Form.TheVariants as form
+use Rattle.paired_ops.specs.text_forms.Forms.{forms_of, form_in}
+use Rattle.scopes.specs.heap_places.declared.value.Value as code
+use Rattle.scopes.specs.heap_places.declared.value.Value.TheVariants as held
+use Rattle.paired_ops.specs.ps_meaning.Operators.{is_int}
+use Rattle.paired_ops.specs.ps_meaning.Values.{Value}
+use Rattle.paired_ops.specs.ps_meaning.Objects.{Heap, Object, Scope, with_new, new_number}
+use Rattle.paired_ops.specs.ps_meaning.Scopes.{scope_at, scope_out}
+use Rattle.paired_ops.specs.ps_meaning.Meaning.{kept_name, with_kept_name}
+use Rattle.paired_ops.specs.ps_meaning.Weights.{own_weight}
+use Rattle.paired_ops.specs.World.{IsWorld, DenotesScopeIn, Carries, Stands, IsShort}
+use Rattle.paired_ops.specs.Operands.{IsForIn, IsOfForm}
+
+-- some object is damaged
+abbrev pub IsDamage : SwizzleFault → Type 0
+IsDamage fault = (pid : ℕ) × (found : ℕ) × (wanted : ℕ) × (fault ≡ Vault (Damaged pid found wanted))
+
+-- a scope of the heap: its text, and the scope round it
+pub record IsScopeOf (of : Heap) (scope : Option ℕ) (text : List ℕ) (parent : Option ℕ) : Type 0 where
+  pub values : List Value
+  pub is : scope_at of scope ≡ Some (Scope text parent values)
+
+-- the scope so many levels out has a name of this number, which has this form
+pub record HasName (of : Heap) (scope : Option ℕ) (up name : ℕ) (f : Form) : Type 0 where
+  pub text : List ℕ
+  pub parent : Option ℕ
+  pub level : IsScopeOf of (scope_out of scope up) text parent
+  pub place : form_in (forms_of text) name ≡ Some f
+
+-- a value in code that belongs into the row of a place of this form
+abbrev pub IsOfRow : Form → code.Value → Type 0
+IsOfRow form.Reference (held.Ref to) = Unit {0}
+IsOfRow form.Reference _ = ⊥
+IsOfRow _ (held.Ref to) = ⊥
+IsOfRow _ _ = Unit {0}
+
+-- a number in code that is an int
+abbrev pub IsInt : code.Value → Type 0
+IsInt (held.Num z) = is_int z ≡ true
+IsInt _ = Unit {0}
+
+module _ (old new : area.Heap) where
+  -- a new scope, and a name for it
+  pub record IsNewScope (of : Heap) (names : List reference.Reference) (object : Object) (at : ℕ) : Type 0 where
+    pub more : List reference.Reference
+    pub world : IsWorld new (with_new of object) more
+    pub carries : Carries old new names more (own_weight object)
+    pub denotes : DenotesScopeIn new more (Some at) (Some (new_number of))
+
+  abbrev pub MakesScope : Heap → List reference.Reference → Object → Result ℕ SwizzleFault → Type 0
+  MakesScope of names object (Ok at) = IsNewScope of names object at
+  MakesScope of names object (Err fault) = IsShort old new (own_weight object) fault
+
+  -- The scope is one of the heap, and this is the one round it, or none.
+  pub record IsRound (of : Heap) (names : List reference.Reference) (scope to : Option ℕ) : Type 0 where
+    pub text : List ℕ
+    pub parent : Option ℕ
+    pub is : IsScopeOf of scope text parent
+    pub denotes : DenotesScopeIn new names to parent
+    pub stands : Stands old new of names
+
+  abbrev pub AnswersParent : Heap → List reference.Reference → Option ℕ → Result (Option ℕ) SwizzleFault → Type 0
+  AnswersParent of names scope (Ok to) = IsRound of names scope to
+  AnswersParent of names scope (Err fault) = ⊥
+
+  -- the scope so many levels out, where there is one
+  pub record IsOut (of : Heap) (names : List reference.Reference) (scope : Option ℕ) (up at : ℕ) : Type 0 where
+    pub id : ℕ
+    pub is : scope_out of scope up ≡ Some id
+    pub denotes : DenotesScopeIn new names (Some at) (Some id)
+    pub stands : Stands old new of names
+
+  abbrev pub AnswersOut : Heap → List reference.Reference → Option ℕ → ℕ → Result ℕ SwizzleFault → Type 0
+  AnswersOut of names scope up (Ok at) = IsOut of names scope up at
+  AnswersOut of names scope up (Err fault) = (scope_out of scope up ≡ None) × IsDamage fault
+
+  -- What is kept under a name of the scope so many levels out; there is no such scope, or its text has no such name, exactly where it is damaged.
+  abbrev pub ReadsKept : Heap → List reference.Reference → Option ℕ → ℕ → ℕ → Result code.Value SwizzleFault → Type 0
+  ReadsKept of names scope up name (Ok c) =
+      (f : Form) × HasName of scope up name f × IsOfForm f c × IsForIn new names c (kept_name of scope up name) × Stands old new of names
+  ReadsKept of names scope up name (Err fault) = ((f : Form) → HasName of scope up name f → ⊥) × IsDamage fault
+
+  -- It is written, as its form keeps it. It is damaged exactly where there is none of the value's row.
+  abbrev pub WritesKept : Heap → List reference.Reference → Option ℕ → ℕ → ℕ → code.Value → Value → Result (Unit {0}) SwizzleFault → Type 0
+  WritesKept of names scope up name c v (Ok done) =
+      (f : Form) × HasName of scope up name f × IsOfRow f c × Stands old new (with_kept_name of scope up name v) names
+  WritesKept of names scope up name c v (Err fault) = ((f : Form) → HasName of scope up name f → IsOfRow f c → ⊥) × IsDamage fault
