@@ -16,7 +16,7 @@ use Rattle.shadow_volume.proofs.Numbers.{number_within}
 use Rattle.paged_volume.specs.Layout.{capacity_pages, map_pages_of, maps_at, index_number, depth_at}
 use Rattle.paged_volume.specs.Standing.{IsFit, IsNamedOnce, Says, HasHead, HasRoot, HasNames, index_of, maps_of, place_by, logical_of, map_count, held_in, staged_bytes, committed_in}
 use Rattle.paged_volume.specs.Found.{bytes_named}
-use Rattle.paged_volume.specs.Switching.{IsNext, IsKept, SameStaged, HasMaps, HasIndex, IsReady, IsRootPage, IsRooted, IsSwitched, IsEither, next_table, first_name}
+use Rattle.paged_volume.specs.Switching.{IsNext, IsKept, SamePages, HasMaps, HasIndex, IsReady, IsRootPage, IsRooted, IsSwitched, IsEither, next_table, first_name}
 use Rattle.paged_volume.specs.declared.table.Table.{Table}
 use Rattle.paged_volume.specs.declared.committed.Committed.{Committed}
 use Rattle.paged_volume.proofs.Bounds.{are_low}
@@ -42,7 +42,7 @@ index_there table next is deep =
 -- what the index page that was written leaves
 pub index_content : (table : Table) (next : Committed) (x : ℕ) (page old new : List ℕ) → IsNext table next → 0 < next.depth → x ≡ get_or table.next.items 0 0 → length page ≡ 4096 →
     ((i : ℕ) → i < map_count next → number_at (4 * i) 4 page ≡ maps_of table.next.items i) → Says table old → Written (4096 * x) page old new → HasMaps table next (map_count next) old →
-    HasMaps table next (map_count next) new × HasIndex table next new × SameStaged table old new
+    HasMaps table next (map_count next) new × HasIndex table next new × SamePages table old new
 index_content table next x page old new is deep x_is size numbers says by has =
     let number = get_or table.next.items 0 0 in
     let image = written (4096 * number) page old in
@@ -58,7 +58,7 @@ index_content table next x page old new is deep x_is size numbers says by has =
           (maps_torn table next (map_count next) (4096 * number) 4096 old image is (omega arith) long torn (λ i lt. apart_page (maps_of table.next.items i) number (λ same. map_apart table next is i lt 0 deep (first ∙ sym same))) has),
       subst (λ (xs : List ℕ). HasIndex table next xs) (sym new_is) (λ i lt deep.
           sym (number_within (4096 * number) 4096 (4 * i) 4 image (omega arith)) ∙ ap (λ (xs : List ℕ). number_at (4 * i) 4 xs) read ∙ numbers i lt),
-      subst (λ (xs : List ℕ). SameStaged table old xs) (sym new_is)
+      subst (λ (xs : List ℕ). SamePages table old xs) (sym new_is)
           (staged_torn table next (4096 * number) 4096 old image is long torn (λ k below. apart_page (get_or table.map.staged k 0) number (λ same. (page_apart table next is k below).0 0 deep (first ∙ sym same)))),
     )
 
@@ -113,12 +113,12 @@ pub index_numbers : (table : Table) (next : Committed) (named : List ℕ) (count
     (i : ℕ) → i < map_count next → number_at (4 * i) 4 page ≡ maps_of table.next.items i
 index_numbers table next named count page named_is count_is numbers i lt = numbers i (omega arith) ∙ ap (λ (xs : List ℕ). maps_of xs i) named_is
 
-pub ready_of : (a b c : Outside (List ℕ)) (table : Table) (next : Committed) (image : List ℕ) → IsKept a table image → ((bytes : List ℕ) → b.contents bytes → After a.contents (SameStaged table) bytes) →
-    After b.contents (SameStaged table) image → HasMaps table next (map_count next) image × HasIndex table next image → IsReady a table next image
+pub ready_of : (a b c : Outside (List ℕ)) (table : Table) (next : Committed) (image : List ℕ) → IsKept a table image → ((bytes : List ℕ) → b.contents bytes → After a.contents (SamePages table) bytes) →
+    After b.contents (SamePages table) image → HasMaps table next (map_count next) image × HasIndex table next image → IsReady a table next image
 ready_of a b c table next image kept first again names = record { kept = kept; staged = same_then a table again.from image (first again.from again.was) again.by; maps = names.0; index = names.1 }
 
 pub names_ready : {T E : Type 0} (a b c : Outside (List ℕ)) (table : Table) (next : Committed) (result : Result T E) → ((bytes : List ℕ) → c.contents bytes → c.images c.clock bytes) → Leaves a c (IsKept a table) →
-    ((bytes : List ℕ) → b.contents bytes → After a.contents (SameStaged table) bytes) → OnOk result ((bytes : List ℕ) → c.contents bytes → After b.contents (SameStaged table) bytes) →
+    ((bytes : List ℕ) → b.contents bytes → After a.contents (SamePages table) bytes) → OnOk result ((bytes : List ℕ) → c.contents bytes → After b.contents (SamePages table) bytes) →
     OnOk result ((bytes : List ℕ) → c.contents bytes → HasMaps table next (map_count next) bytes × HasIndex table next bytes) → OnOk result ((bytes : List ℕ) → c.contents bytes → IsReady a table next bytes)
 names_ready a b c table next (Ok x) law kept first again names = λ bytes now. ready_of a b c table next bytes (along_now kept bytes (law bytes now)) first (again bytes now) (names bytes now)
 names_ready a b c table next (Err x) law kept first again names = tt

@@ -11,7 +11,7 @@ use Rattle.shadow_volume.specs.Found.{note_at}
 use Rattle.shadow_volume.proofs.Numbers.{number_within}
 use Rattle.paged_volume.specs.Layout.{capacity_pages, maps_at, index_number, depth_at}
 use Rattle.paged_volume.specs.Standing.{IsFit, IsNamedOnce, Says, HasHead, HasRoot, HasNames, index_of, maps_of, place_by, logical_of, map_count, held_in}
-use Rattle.paged_volume.specs.Switching.{IsNext, IsKept, SameStaged, HasMaps, HasIndex, IsReady, IsRootPage, IsRooted, IsSwitched, IsEither, next_table, first_name}
+use Rattle.paged_volume.specs.Switching.{IsNext, IsKept, SamePages, HasMaps, HasIndex, IsReady, IsRootPage, IsRooted, IsSwitched, IsEither, next_table, first_name}
 use Rattle.paged_volume.specs.declared.table.Table.{Table}
 use Rattle.paged_volume.specs.declared.committed.Committed.{Committed}
 use Rattle.paged_volume.proofs.Bounds.{are_low}

@@ -17,7 +17,7 @@ use Rattle.shadow_volume.proofs.Numbers.{number_within}
 use Rattle.paged_volume.specs.Layout.{capacity_pages, map_pages_of}
 use Rattle.paged_volume.specs.Found.{numbers_of, bytes_named}
 use Rattle.paged_volume.specs.Standing.{IsFit, IsNamedOnce, IsSpare, Says, index_of, maps_of, map_names, place_by, logical_of, map_count, held_in, staged_bytes}
-use Rattle.paged_volume.specs.Switching.{IsNext, StaysMap, MovesMap, IsKept, SameStaged, HasMaps}
+use Rattle.paged_volume.specs.Switching.{IsNext, StaysMap, MovesMap, IsKept, SamePages, HasMaps}
 use Rattle.paged_volume.specs.declared.table.Table.{Table}
 use Rattle.paged_volume.specs.declared.committed.Committed.{Committed}
 use Rattle.paged_volume.proofs.Bounds.{are_low}
@@ -79,7 +79,7 @@ map_there table next is map_page lt =
 
 -- and they stay where other bytes are written
 pub staged_torn : (table : Table) (next : Committed) (at count : ℕ) (old new : List ℕ) → IsNext table next → 4096 * table.committed.pages ≤ length old → Torn at count old new →
-    ((k : ℕ) → k < logical_of next → Apart (get_or table.map.staged k 0) at count) → SameStaged table old new
+    ((k : ℕ) → k < logical_of next → Apart (get_or table.map.staged k 0) at count) → SamePages table old new
 unfolding staged_bytes
 staged_torn table next at count old new is long torn apart =
     bytes_stay (λ k. get_or table.map.staged k 0) (capacity_pages table.committed.pages) at count old new torn (λ k lt some. elim (cases_lt k (logical_of next)) [
@@ -251,19 +251,19 @@ there_write table next map_page x image is lt x_is says =
 
 -- what a map page that was written leaves
 pub map_content : (table : Table) (next : Committed) (map_page x : ℕ) (page old new : List ℕ) → IsNext table next → map_page < map_count next → x ≡ maps_of table.next.items map_page → MovesMap table map_page → Says table old →
-    page ≡ bytes_of (numbers_from table.map.staged (1024 * map_page) 1024) → Written (4096 * x) page old new → (HasMaps table next map_page old → HasMaps table next (map_page + 1) new) × SameStaged table old new
+    page ≡ bytes_of (numbers_from table.map.staged (1024 * map_page) 1024) → Written (4096 * x) page old new → (HasMaps table next map_page old → HasMaps table next (map_page + 1) new) × SamePages table old new
 map_content table next map_page x page old new is lt x_is moves says page_is by =
     let number = maps_of table.next.items map_page in
     let new_is : new ≡ written (4096 * number) page old = by ∙ ap (λ (n : ℕ). written (4096 * n) page old) x_is in
     let size = length_map_page table.map.staged (1024 * map_page) page page_is in
     let torn : Torn (4096 * number) 4096 old (written (4096 * number) page old) = subst (λ (n : ℕ). Torn (4096 * number) n old (written (4096 * number) page old)) size (written_torn (4096 * number) page old) in (
       λ has. subst (λ (xs : List ℕ). HasMaps table next (map_page + 1) xs) (sym new_is) (maps_written table next map_page page old is lt moves says.head.long page_is size has),
-      subst (λ (xs : List ℕ). SameStaged table old xs) (sym new_is)
+      subst (λ (xs : List ℕ). SamePages table old xs) (sym new_is)
           (staged_torn table next (4096 * number) 4096 old (written (4096 * number) page old) is says.head.long torn (λ k below. apart_page (get_or table.map.staged k 0) number (λ same. (page_apart table next is k below).1 map_page lt (sym same)))),
     )
 
 pub kept_says : (a b : Outside (List ℕ)) (table : Table) → Leaves a b (IsKept a table) → (image : List ℕ) → b.images b.clock image → Says table image
 kept_says a b table first image now = (along_now first image now).says
 
-pub same_then : (a : Outside (List ℕ)) (table : Table) (mid new : List ℕ) → After a.contents (SameStaged table) mid → SameStaged table mid new → After a.contents (SameStaged table) new
+pub same_then : (a : Outside (List ℕ)) (table : Table) (mid new : List ℕ) → After a.contents (SamePages table) mid → SamePages table mid new → After a.contents (SamePages table) new
 same_then a table mid new first next = record { from = first.from; was = first.was; by = next ∙ first.by }

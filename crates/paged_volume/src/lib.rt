@@ -12,6 +12,7 @@ pub mod layout;
 mod names;
 mod paging;
 mod placing;
+mod planning;
 mod root;
 mod rooting;
 mod syncing;

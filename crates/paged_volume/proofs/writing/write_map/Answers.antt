@@ -4,7 +4,7 @@ use Rattle.ps_port.specs.ps_outside.Outside.{Leaves, After}
 use Rattle.ps_port.specs.Disk.{Torn, written}
 use Rattle.ps_port.specs.DiskLaws.{written_torn}
 use Rattle.paged_volume.specs.Standing.{logical_of, maps_of}
-use Rattle.paged_volume.specs.Switching.{HasMaps, SameStaged}
+use Rattle.paged_volume.specs.Switching.{HasMaps, SamePages}
 use Rattle.paged_volume.proofs.Turning.{kept_none, kept_write, maps_stay, spare_number, stay_number, there_write, map_content}
 use Rattle.paged_volume.proofs.writing.write_map.Goals as goal
 

@@ -1,7 +1,7 @@
 use Rattle.std.proofs.Common.{◌≡◌, ◌≤◌, ◌+◌, List, ℕ}
 use Rattle.ps_port.specs.ps_outside.Outside.{Leaves, TellsNothing, After}
 use Rattle.shadow_volume.specs.Switching.{StaysHeld}
-use Rattle.paged_volume.specs.Switching.{IsKept, SameStaged, HasMaps}
+use Rattle.paged_volume.specs.Switching.{IsKept, SamePages, HasMaps}
 use Rattle.paged_volume.proofs.writing.write_maps.Given as goal
 
 -- what is committed is kept, and so many map pages say the numbers that are committed next
@@ -11,7 +11,7 @@ invariant-loop-map_page g l =
     record {
       kept : Leaves (outside l.fn.host) (outside l.host) (IsKept (outside l.fn.host) l.fn.table);
       maps : (bytes : List ℕ) → (outside l.host).contents bytes → HasMaps l.fn.table l.fn.next l.map_page bytes;
-      staged : (bytes : List ℕ) → (outside l.host).contents bytes → After (outside l.fn.host).contents (SameStaged l.fn.table) bytes;
+      staged : (bytes : List ℕ) → (outside l.host).contents bytes → After (outside l.fn.host).contents (SamePages l.fn.table) bytes;
       told : TellsNothing (outside l.fn.host) (outside l.host);
       counts : (outside l.fn.host).device_faults ≤ (outside l.host).device_faults;
       output : (outside l.host).output_faults ≡ (outside l.fn.host).output_faults;
