@@ -1,19 +1,19 @@
 -- The bytes of pages, by their numbers; and what is held in an image that says what is committed.
-use Rattle.std.proofs.Common.{◌≡◌, ◌≢◌, ◌⊎◌, inl, inr, ℕ, zero, suc, ◌+◌, ◌-◌, ◌*◌, ◌/◌, ◌%◌, ◌<◌, ◌≤◌, Bool, List, ◌++◌, length, get_or, take, drop, replicate, refl, sym, ◌∙◌, ap, subst, arith, length-drop, length-take, Option, Some, None, nat_eq, if◌then◌else◌}
+use Rattle.std.proofs.Common.{◌≡◌, ◌≢◌, ℕ, ◌+◌, ◌-◌, ◌*◌, ◌/◌, ◌%◌, ◌<◌, ◌≤◌, Bool, List, ◌++◌, length, get_or, take, drop, replicate, refl, sym, ◌∙◌, ap, arith, length-drop, length-take, Option, Some, nat_eq, if◌then◌else◌}
 use Rattle.std.specs.Option.{option_map}
-use Rattle.std.proofs.lemmas.Bool.{eq-eqb, ne_eqb, cases_lt}
+use Rattle.std.proofs.lemmas.Bool.{eq-eqb, ne_eqb}
 use Rattle.std.proofs.lemmas.Grind.{same_number_lists}
-use Rattle.std.proofs.lemmas.List.{get_or-take, get_or-drop, get_or-replicate, length-replicate}
+use Rattle.std.proofs.lemmas.List.{get_or-take, get_or-drop, get_or-replicate, length-replicate, take-append-le, take_all}
 use Rattle.ps_port.specs.ps_outside.Outside.{Outside, After}
-use Rattle.shadow_volume.specs.Layout.{number_at, root_at, selects, pages_of_words}
-use Rattle.shadow_volume.specs.Found.{Held, note_at}
-use Rattle.paged_volume.specs.Layout.{capacity_pages, depth_at, page_number}
-use Rattle.paged_volume.specs.Found.{Found, a_volume, found_in, held_at, numbers_of, byte_named, bytes_named, names_tests, after_names}
-use Rattle.paged_volume.specs.Standing.{IsFit, IsNamedOnce, Says, HasNames, logical_of, place_by, held_in, held_of, committed_in, staged_in, staged_bytes, with_zeros, seen}
+use Rattle.shadow_volume.specs.Layout.{pages_of_words}
+use Rattle.shadow_volume.specs.Found.{Held}
+use Rattle.paged_volume.specs.Layout.{capacity_pages, page_number}
+use Rattle.paged_volume.specs.Found.{numbers_of, byte_named, bytes_named, after_names}
+use Rattle.paged_volume.specs.Standing.{IsFit, IsNamedOnce, Says, logical_of, held_in, held_of, committed_in, staged_in, staged_bytes, with_zeros, seen}
 use Rattle.paged_volume.specs.Attaching.{IsFound}
 use Rattle.paged_volume.specs.declared.table.Table.{Table}
 use Rattle.paged_volume.specs.declared.damage.Damage.{Damage}
-use Rattle.paged_volume.proofs.Numbers.{numbers_same, numbers_split, numbers_none, numbers_more, length_numbers, number_at_index}
+use Rattle.paged_volume.proofs.Numbers.{numbers_same, numbers_split, length_numbers, number_at_index}
 use Rattle.paged_volume.proofs.Reading.{all_pass, number_is}
 use Rattle.paged_volume.proofs.Tests.{found_names}
 
@@ -69,6 +69,16 @@ bytes_end number few count image le none =
     ∙ ap (λ (xs : List ℕ). bytes_named number few image ++ xs)
     (numbers_same (λ i. byte_named number image (4096 * few + i)) (λ i. 0) rest (λ i lt. byte_none number image (4096 * few + i) (none ((4096 * few + i) / 4096) (omega arith)))
     ∙ zeros_are rest ∙ ap (λ (n : ℕ). replicate {A = ℕ} n 0) (sym rest_is))
+
+-- the first of them
+pub bytes_front : (number : ℕ → ℕ) (few count : ℕ) (image : List ℕ) → few ≤ count → take (4096 * few) (bytes_named number count image) ≡ bytes_named number few image
+bytes_front number few count image le =
+    let rest = 4096 * count - 4096 * few in
+    let front = numbers_of (byte_named number image) (4096 * few) in
+    ap (λ (xs : List ℕ). take (4096 * few) xs) (as_numbers number count image ∙ ap (λ (n : ℕ). numbers_of (byte_named number image) n) (omega arith) ∙ numbers_split (byte_named number image) (4096 * few) rest)
+    ∙ take-append-le (4096 * few) front (numbers_of (λ i. byte_named number image (4096 * few + i)) rest) (omega (arith, length_numbers (byte_named number image) (4096 * few)))
+    ∙ take_all (4096 * few) front (omega (arith, length_numbers (byte_named number image) (4096 * few)))
+    ∙ sym (as_numbers number few image)
 
 -- a page
 pub page_read : (number : ℕ → ℕ) (count : ℕ) (image : List ℕ) (page : ℕ) → page < count → number page ≢ 0 → 4096 * number page + 4096 ≤ length image →

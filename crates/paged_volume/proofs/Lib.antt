@@ -14,3 +14,6 @@ pub mod Readying
 pub mod Selecting
 pub mod Synced
 pub mod Changed
+pub mod Choosing
+pub mod Planned
+pub mod Committing

@@ -1,30 +1,27 @@
 -- What stands in a file once the pages that name those that are committed next were written.
-use Rattle.std.proofs.Common.{◌≡◌, ◌≢◌, ◌⊎◌, inl, inr, ℕ, ◌+◌, ◌-◌, ◌*◌, ◌/◌, ◌%◌, ◌^◌, ◌==◌, ◌<◌, ◌≤◌, min, Bool, true, false, not, List, [], ◌∷◌, ◌++◌, length, get_or, take, drop, refl, sym, ◌∙◌, ap, subst, arith, nat_eq, if◌then◌else◌, Option, Some, Result, Ok, Err}
+use Rattle.std.proofs.Common.{◌≡◌, ◌≢◌, ◌⊎◌, inl, inr, ℕ, ◌+◌, ◌*◌, ◌<◌, ◌≤◌, Bool, true, false, not, List, length, get_or, take, drop, sym, ◌∙◌, ap, subst, arith, Result, Ok, Err}
 use Rattle.std.specs.Prelude.{OnOk}
 use Rattle.std.proofs.lemmas.Result.{on_err_weaker}
 use Rattle.shadow_volume.specs.Switching.{Works}
 use Rattle.shadow_volume.proofs.Looking.{rose_then}
-use Rattle.std.proofs.lemmas.Bool.{cases_lt, cases_eq, eq-eqb, ne_eqb}
+use Rattle.std.proofs.lemmas.Bool.{cases_lt}
 use Rattle.ps_port.specs.ps_outside.Outside.{Outside, Leaves, After, IsDeviceCall}
-use Rattle.ps_port.proofs.of_ps_outside.Moments.{along_then, along_weaker, along_now}
+use Rattle.ps_port.proofs.of_ps_outside.Moments.{along_then, along_now}
 use Rattle.ps_port.specs.Disk.{Torn, Written, written}
 use Rattle.ps_port.specs.DiskLaws.{written_torn}
-use Rattle.ps_port.proofs.Torn.{written_range, byte_written}
-use Rattle.shadow_volume.specs.Layout.{number_at, root_at, selects}
-use Rattle.shadow_volume.specs.Found.{note_at}
+use Rattle.ps_port.proofs.Torn.{written_range}
+use Rattle.shadow_volume.specs.Layout.{number_at, root_at}
 use Rattle.shadow_volume.proofs.Numbers.{number_within}
-use Rattle.paged_volume.specs.Layout.{capacity_pages, map_pages_of, maps_at, index_number, depth_at}
-use Rattle.paged_volume.specs.Standing.{IsFit, IsNamedOnce, Says, HasHead, HasRoot, HasNames, index_of, maps_of, place_by, logical_of, map_count, held_in, staged_bytes, committed_in}
-use Rattle.paged_volume.specs.Found.{bytes_named}
-use Rattle.paged_volume.specs.Switching.{IsNext, IsKept, SamePages, HasMaps, HasIndex, IsReady, IsRootPage, IsRooted, IsSwitched, IsEither, next_table, first_name}
+use Rattle.paged_volume.specs.Layout.{capacity_pages, map_pages_of}
+use Rattle.paged_volume.specs.Standing.{IsFit, IsNamedOnce, IsSpare, Says, index_of, maps_of, map_count}
+use Rattle.paged_volume.specs.Switching.{IsNext, IsKept, SamePages, HasMaps, HasIndex, IsReady}
 use Rattle.paged_volume.specs.declared.table.Table.{Table}
 use Rattle.paged_volume.specs.declared.committed.Committed.{Committed}
 use Rattle.paged_volume.proofs.Bounds.{are_low}
 use Rattle.paged_volume.proofs.Numbers.{unnamed_low}
-use Rattle.paged_volume.proofs.Reading.{index_first, at_index, maps_at_none, maps_at_one}
-use Rattle.paged_volume.proofs.Held.{held_says}
-use Rattle.paged_volume.proofs.Turning.{kept_write, kept_now, page_apart, map_apart, page_there, map_there, staged_torn, maps_torn, same_then}
-use Rattle.paged_volume.proofs.Staying.{IsApart, IsClear, Apart, SaysBut, apart_spare, apart_page, apart_low, root_page, says_but, says_selected, but_stays, clear_stays, committed_stays, number_stays}
+use Rattle.paged_volume.proofs.Reading.{index_first, at_index}
+use Rattle.paged_volume.proofs.Turning.{page_apart, map_apart, page_there, pages_torn, maps_torn, same_then}
+use Rattle.paged_volume.proofs.Staying.{IsClear, not_pinned, apart_page, apart_low, root_page, clear_stays, number_stays}
 
 -- the number of the index page
 pub index_number_is : (table : Table) (next : Committed) (x : ℕ) → IsNext table next → x ≡ get_or table.next.items 0 x → x ≡ get_or table.next.items 0 0
@@ -59,7 +56,8 @@ index_content table next x page old new is deep x_is size numbers says by has =
       subst (λ (xs : List ℕ). HasIndex table next xs) (sym new_is) (λ i lt deep.
           sym (number_within (4096 * number) 4096 (4 * i) 4 image (omega arith)) ∙ ap (λ (xs : List ℕ). number_at (4 * i) 4 xs) read ∙ numbers i lt),
       subst (λ (xs : List ℕ). SamePages table old xs) (sym new_is)
-          (staged_torn table next (4096 * number) 4096 old image is long torn (λ k below. apart_page (get_or table.map.staged k 0) number (λ same. (page_apart table next is k below).0 0 deep (first ∙ sym same)))),
+          (pages_torn table next (4096 * number) 4096 old image is long torn (λ k below. apart_page (get_or table.map.staged k 0) number (λ same. (page_apart table next is k below).0 0 deep (first ∙ sym same)))
+          (λ other low pinned. apart_page other number (not_pinned table number other (subst (λ (n : ℕ). IsSpare table n) first (is.index 0 deep)) pinned))),
     )
 
 -- the other root page is apart from what is committed
@@ -96,7 +94,7 @@ ready_torn a table next at size old new is clear behind low ready torn =
     let stays = clear_stays table at size old new is.fit is.once clear behind torn kept.says in
     record {
       kept = record { says = stays.0; from = kept.from; was = kept.was; held = kept.held ∙ sym stays.1 };
-      staged = same_then a table old new ready.staged (staged_torn table next at size old new is long torn (λ k below. apart_low (get_or table.map.staged k 0) at size (page_there table next is k below).0 low));
+      staged = same_then a table old new ready.staged (pages_torn table next at size old new is long torn (λ k below. apart_low (get_or table.map.staged k 0) at size (page_there table next is k below).0 low) (λ other four pinned. apart_low other at size four low));
       maps = maps_torn table next (map_count next) at size old new is (omega arith) long torn (λ i lt.
           let low_map = unnamed_low next.pages _ (maps_of table.next.items i) (is.maps_once i lt) in apart_low (maps_of table.next.items i) at size low_map.0 low) ready.maps;
       index = index_torn table next at size old new is long torn low ready.index;

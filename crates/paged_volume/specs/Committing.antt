@@ -1,6 +1,6 @@
 -- What a switch makes of what is held.
 use Rattle.std.specs.Prelude.{◌≡◌, ◌⊎◌, ℕ, ◌+◌, ◌/◌, ◌<◌, ◌≤◌, Bool, false, List, Option, Result, OnOk}
-use Rattle.ps_port.specs.ps_outside.Outside.{Outside, After, Leaves, TellsNothing, Rose}
+use Rattle.ps_port.specs.ps_outside.Outside.{Outside, Leaves, TellsNothing, Rose}
 use Rattle.page_map.specs.Pages.{held_of}
 use Rattle.page_map.specs.Map.{MapView}
 use Rattle.shadow_volume.specs.Found.{Held}
@@ -8,7 +8,7 @@ use Rattle.shadow_volume.specs.Standing.{saved}
 use Rattle.shadow_volume.specs.Switching.{Was}
 use Rattle.paged_volume.specs.Standing.{IsTable, Says, with_zeros}
 use Rattle.paged_volume.specs.Switching.{next_table}
-use Rattle.paged_volume.specs.Planning.{switched, wanted_pages}
+use Rattle.paged_volume.specs.Planning.{wanted_pages}
 use Rattle.paged_volume.specs.declared.table.Table.{Table}
 use Rattle.paged_volume.specs.declared.committed.Committed.{Committed}
 use Rattle.paged_volume.specs.declared.volume.VolumeFault.{VolumeFault}

@@ -1,5 +1,5 @@
 -- How the numbers that name pages are read, one after the other.
-use Rattle.std.specs.Prelude.{◌≡◌, ℕ, ◌+◌, ◌*◌, ◌/◌, ◌<◌, ◌≤◌, ◌^◌, Bool, List, [], ◌++◌, length, slice_index, nat_eq, Option, Some, if◌then◌else◌}
+use Rattle.std.specs.Prelude.{◌≡◌, ℕ, ◌+◌, ◌*◌, ◌<◌, ◌≤◌, ◌^◌, Bool, List, [], ◌++◌, length, slice_index, nat_eq, Option, Some, if◌then◌else◌}
 use Rattle.ps_port.specs.ps_outside.Outside.{Outside, Rose}
 use Rattle.page_map.specs.Pages.{no_pages}
 use Rattle.page_map.specs.Map.{MapView}

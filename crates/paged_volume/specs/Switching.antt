@@ -1,5 +1,5 @@
 -- The steps of a switch, and what it leaves.
-use Rattle.std.specs.Prelude.{◌≡◌, ◌≢◌, ◌⊎◌, ℕ, ◌+◌, ◌*◌, ◌/◌, ◌<◌, ◌≤◌, ◌^◌, min, true, not, List, [], ◌++◌, length, take, drop, slice_index, nat_eq, if◌then◌else◌}
+use Rattle.std.specs.Prelude.{◌≡◌, ◌≢◌, ◌⊎◌, ℕ, ◌+◌, ◌*◌, ◌/◌, ◌<◌, ◌≤◌, ◌^◌, min, true, not, List, [], length, take, drop, slice_index, nat_eq, if◌then◌else◌}
 use Rattle.ps_port.specs.ps_outside.Outside.{Outside, After}
 use Rattle.page_map.specs.Pages.{one_names}
 use Rattle.shadow_volume.specs.Layout.{number_at, root_at}

@@ -1,6 +1,8 @@
 use Rattle.std.proofs.Common.{◌≡◌, ◌≤◌, ◌+◌, List, ℕ}
 use Rattle.ps_port.specs.ps_outside.Outside.{Leaves, TellsNothing, After}
 use Rattle.shadow_volume.specs.Switching.{StaysHeld}
+use Rattle.paged_volume.specs.Standing.{logical_of}
+use Rattle.paged_volume.specs.Changing.{changed_pages}
 use Rattle.paged_volume.specs.Switching.{IsKept, SamePages, HasMaps}
 use Rattle.paged_volume.proofs.writing.write_maps.Given as goal
 
@@ -15,6 +17,6 @@ invariant-loop-map_page g l =
       told : TellsNothing (outside l.fn.host) (outside l.host);
       counts : (outside l.fn.host).device_faults ≤ (outside l.host).device_faults;
       output : (outside l.host).output_faults ≡ (outside l.fn.host).output_faults;
-      calls : (outside l.host).device_calls ≤ (outside l.fn.host).device_calls + l.map_page;
+      calls : (outside l.host).device_calls ≤ (outside l.fn.host).device_calls + changed_pages l.fn.table.map (logical_of l.fn.next) l.map_page;
       stays : StaysHeld (outside l.fn.host) (outside l.host);
     }
