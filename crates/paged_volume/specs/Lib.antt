@@ -8,4 +8,5 @@ pub mod Switching
 pub mod Changing
 pub mod Planning
 pub mod Committing
+pub mod Making
 pub use Rattle.shadow_volume.specs as shadow_volume

@@ -9,6 +9,7 @@ mod finding;
 mod head;
 mod laws;
 pub mod layout;
+mod making;
 mod names;
 mod paging;
 mod placing;
@@ -21,7 +22,8 @@ mod volume;
 mod writing;
 
 pub use committed::Committed;
-pub use laws::{the_pages_suffice, what_volumes_hold};
+pub use laws::{a_new_volume_is_found, the_pages_suffice, what_volumes_hold};
+pub use making::format;
 pub use shadow_volume;
 pub use table::Table;
 pub use volume::{Refused, Volume, VolumeFault};

@@ -17,8 +17,8 @@ use crate::table::Table;
 use page_map::PageMap;
 use shadow_volume::Note;
 
-// The depth that a commit writes.
-fn depth_of(pages: u32) -> u32
+/// The depth that a commit writes.
+pub fn depth_of(pages: u32) -> u32
     ensures { result ≡ depth_of pages }
 {
     if pages < LEAST_INDEXED { 0 } else { 1 }
