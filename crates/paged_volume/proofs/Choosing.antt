@@ -11,6 +11,7 @@ use Rattle.paged_volume.specs.Changing.{next_number, differs, is_changed}
 use Rattle.paged_volume.specs.Planning.{GetsPage, taken, kept, IsGiven, HasPlace, moves, stays, IsChosen}
 use Rattle.paged_volume.proofs.Naming.{zero_maps, map_set, maps_before, maps_other}
 use Rattle.paged_volume.proofs.Reading.{index_first}
+use Rattle.paged_volume.proofs.Tables.{and_both}
 use Rattle.paged_volume.proofs.Changed.{changed_zero, changed_more}
 
 -- where none is free, all are held
@@ -28,16 +29,12 @@ pub record IsStep (old new : MapView) (wants : Bool) (number : ℕ) : Type 0 whe
   pub held : held_of new.free ≡ held_of old.free + (if wants then 1 else 0)
   pub given : wants ≡ true → IsGiven old new number
 
-and_front : (a b : Bool) → (a && b) ≡ true → a ≡ true
-and_front true b e = refl
-and_front false b e = e
-
 pub step_of : (old new : MapView) (wants : Bool) (page number : ℕ) → GetsPage old new wants page number → IsStep old new wants number
 step_of old new wants page number (taken wanted free new_is held) =
     subst (λ (m : MapView). held_of m.free ≡ held_of old.free + 1 → IsStep old m wants number) (sym new_is) (λ held. record {
       lists = refl;
       long = length-set old.free number false;
-      fewer = λ p still. and_front (is_free old.free p) _ (sym (is_free_taken old.free number p) ∙ still);
+      fewer = λ p still. (and_both (is_free old.free p) _ (sym (is_free_taken old.free number p) ∙ still)).0;
       keeps = λ p in_use. is_free_taken old.free number p ∙ ap (λ (b : Bool). b && not (number == p)) in_use;
       held = held ∙ ap {B = ℕ} (λ (b : Bool). held_of old.free + (if b then 1 else 0)) (sym wanted);
       given = λ still. record { was = free; taken = get_or-set_same old.free number false false (within old.free number free) };

@@ -1,7 +1,6 @@
 -- What is committed next is committed, and a switch as it is seen from above.
-use Rattle.std.proofs.Common.{◌≡◌, ◌⊎◌, inl, inr, ℕ, zero, suc, ◌+◌, ◌*◌, ◌/◌, ◌<◌, ◌≤◌, Bool, true, List, [], length, get_or, take, refl, sym, ◌∙◌, ap, subst, arith, Option, Some, if◌then◌else◌}
+use Rattle.std.proofs.Common.{◌≡◌, ◌⊎◌, inl, inr, ℕ, zero, suc, ◌+◌, ◌*◌, ◌/◌, ◌<◌, ◌≤◌, true, List, [], length, get_or, take, refl, sym, ◌∙◌, ap, subst, arith, Option, Some, if◌then◌else◌}
 use Rattle.std.specs.Option.{option_map}
-use Rattle.std.proofs.lemmas.Bool.{cases_lt, lt-ltb, le-ltb}
 use Rattle.ps_port.specs.ps_outside.Outside.{Outside, Leaves, After}
 use Rattle.ps_port.proofs.of_ps_outside.Moments.{along_as}
 use Rattle.page_map.specs.Map.{MapView, settled}
@@ -9,16 +8,16 @@ use Rattle.shadow_volume.specs.Layout.{pages_of_words}
 use Rattle.shadow_volume.specs.Found.{Held}
 use Rattle.shadow_volume.specs.Standing.{saved, next_note}
 use Rattle.shadow_volume.specs.Switching.{Was, StaysHeld}
-use Rattle.paged_volume.specs.Layout.{least_indexed, capacity_pages, capacity_of, map_pages_of}
+use Rattle.paged_volume.specs.Layout.{capacity_pages, capacity_of, map_pages_of}
 use Rattle.paged_volume.specs.Found.{bytes_named}
-use Rattle.paged_volume.specs.Standing.{IsFit, IsDepth, IsTable, IsAlive, Says, HasNames, map_count, held_in, staged_in, staged_bytes, pinned_bytes, committed_in, seen, with_zeros}
+use Rattle.paged_volume.specs.Standing.{IsFit, IsTable, IsAlive, Says, HasNames, map_count, held_in, staged_in, staged_bytes, pinned_bytes, committed_in, seen, with_zeros}
 use Rattle.paged_volume.specs.Changing.{next_number, changed_pages}
 use Rattle.paged_volume.specs.Switching.{IsNext, IsSwitched, IsEither, SamePinned, next_table}
-use Rattle.paged_volume.specs.Planning.{depth_of, switched, wanted_pages, Follows, IsPlanned}
+use Rattle.paged_volume.specs.Planning.{switched, wanted_pages, Follows, IsPlanned}
 use Rattle.paged_volume.specs.Committing.{TakesCalls, IsTurned}
 use Rattle.paged_volume.specs.declared.table.Table.{Table}
 use Rattle.paged_volume.specs.declared.committed.Committed.{Committed}
-use Rattle.paged_volume.proofs.Bounds.{are_low}
+use Rattle.paged_volume.proofs.Bounds.{are_low, depth_fits}
 use Rattle.paged_volume.proofs.Tables.{IsSettling, settled_is_table}
 use Rattle.paged_volume.proofs.Held.{bytes_front, bytes_same, held_says, blank_bytes}
 use Rattle.paged_volume.proofs.Changed.{next_below, changed_most}
@@ -72,23 +71,13 @@ module _ (old other : Table) (next : Committed) (is : IsNext old next) (names_ar
 -- what may be committed next
 pub follows_switched : (committed : Committed) (used directory : ℕ) → IsFit committed → 1 ≤ used → used ≤ capacity_of committed.pages → directory < used → Follows committed (switched used directory committed)
 follows_switched committed used directory fit some within below = record {
-  fit = record { head = fit.head; some = some; within = within; below = below; depth = depth committed.format committed.pages };
+  fit = record { head = fit.head; some = some; within = within; below = below; depth = depth_fits committed.format committed.pages };
   pages = refl;
   format = refl;
   second = refl;
   depth = refl;
   commits = omega arith;
 }
-  where
-    depth : (format pages : ℕ) → IsDepth format pages (depth_of pages)
-    depth format pages = elim (cases_lt pages least_indexed) [
-      | inl few ↦
-          let none : depth_of pages ≡ 0 = ap {B = ℕ} (λ (b : Bool). if b then 0 else 1) (lt-ltb pages least_indexed few) in
-          record { at_most_one = omega (arith, none); small = λ lt. none; large = λ le second. absurd (omega arith) }
-      | inr many ↦
-          let one : depth_of pages ≡ 1 = ap {B = ℕ} (λ (b : Bool). if b then 0 else 1) (le-ltb pages least_indexed many) in
-          record { at_most_one = omega (arith, one); small = λ lt. absurd (omega arith); large = λ le second. one }
-    ]
 
 changed_alike : (old new : MapView) (logical count : ℕ) → new.committed ≡ old.committed → ((page : ℕ) → get_or new.staged page 0 ≡ next_number old logical page) → changed_pages new logical count ≡ changed_pages old logical count
 unfolding changed_pages

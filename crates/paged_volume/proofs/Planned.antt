@@ -16,7 +16,7 @@ use Rattle.paged_volume.specs.declared.table.Table.{Table}
 use Rattle.paged_volume.specs.declared.committed.Committed.{Committed}
 use Rattle.paged_volume.proofs.Bounds.{are_low}
 use Rattle.paged_volume.proofs.Numbers.{names_append, are_same, unnamed_low}
-use Rattle.paged_volume.proofs.Tables.{none_names, names_nothing, is_not_unnamed, or_both, unnamed_is_not, both_or, once_apart, names_at_index, staged_low}
+use Rattle.paged_volume.proofs.Tables.{none_names, names_nothing, unnamed_at, or_both, unnamed_is_not, both_or, once_apart, names_at_index, staged_low}
 use Rattle.paged_volume.proofs.Changed.{next_below, next_past, same_by, unchanged}
 use Rattle.paged_volume.proofs.Staying.{IsApart, apart_spare, not_named, not_pinned}
 
@@ -158,8 +158,7 @@ module _ (table : Table) (next : Committed) (now : MapView) (items : List ℕ) (
       is_free (unnamed next.pages (before ++ numbers_of number i)) (number i) ≡ true
   unnamed_next before number i low none apart =
       let pages = follows.pages in
-      is_not_unnamed next.pages (before ++ numbers_of number i) (number i) low.0 (omega (arith, low.1))
-      (names_append before (numbers_of number i) (number i) ∙ or_both _ _ none (none_names number i (number i) apart))
+      unnamed_at next.pages before number i (low.0, omega (arith, low.1)) none apart
 
   pub chosen_index_once : AreUnnamed next.pages [] (index_of items) next.depth
   chosen_index_once i lt =

@@ -19,7 +19,7 @@ use Rattle.paged_volume.specs.Standing.{IsAlive, IsTable, IsSpare, Says, map_nam
 use Rattle.paged_volume.specs.Staging.{IsPlace, again, given, with_page, Marks, Stages}
 use Rattle.paged_volume.specs.declared.table.Table.{Table}
 use Rattle.paged_volume.proofs.Numbers.{names_append}
-use Rattle.paged_volume.proofs.Tables.{names_at_index, names_number, named_at, both_or, staged_low}
+use Rattle.paged_volume.proofs.Tables.{names_at_index, names_number, named_at, and_both, both_or, staged_low}
 use Rattle.paged_volume.proofs.Held.{length_bytes, byte_at, byte_none, byte_some, byte_same}
 use Rattle.paged_volume.proofs.Staying.{IsApart, apart_spare, says_stays, held_stays}
 
@@ -32,10 +32,6 @@ pub record IsPut (table : Table) (page number : ℕ) (next : MapView) : Type 0 w
   pub takes : (page : ℕ) → is_free next.free page ≡ false → (number ≡ page) ⊎ (is_free table.map.free page ≡ false)
   pub was : (get_or table.map.staged page 0 ≡ get_or table.map.committed page 0) ⊎ ((get_or table.map.staged page 0 ≡ 0) ⊎ (get_or table.map.staged page 0 ≡ number))
   pub next_is : next ≡ record (table.map) { staged = set table.map.staged page number; free = next.free }
-
-and_front : (a b : Bool) → (a && b) ≡ true → a ≡ true
-and_front true b e = refl
-and_front false b e = e
 
 pub is_put : (table : Table) (between : MapView) (page number : ℕ) → IsTable table → IsPlace table.map between page number → IsPut table page number (with_staged between page number)
 is_put table between page number is (again staged other some taken same) =
@@ -68,7 +64,7 @@ is_put table between page number is (given unstaged free unnamed taken same) =
         | inr past ↦ let none = get_or_past table.map.staged one 0 past in let low = (apart_spare table number (is.held number free)).low in absurd (omega arith)
       ];
       long = length-set table.map.free number false;
-      frees = λ p still. and_front (is_free table.map.free p) _ (sym (is_free_taken table.map.free number p) ∙ still);
+      frees = λ p still. (and_both (is_free table.map.free p) _ (sym (is_free_taken table.map.free number p) ∙ still)).0;
       takes = λ p in_use. elim (cases_eq number p) [
         | inl same ↦ inl same
         | inr other ↦ inr (sym (and_true (is_free table.map.free p)) ∙ sym (ap (λ (b : Bool). is_free table.map.free p && not b) (ne_eqb number p other)) ∙ sym (is_free_taken table.map.free number p) ∙ in_use)

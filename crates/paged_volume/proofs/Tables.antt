@@ -53,6 +53,10 @@ pub is_not_unnamed : (pages : ℕ) (numbers : List ℕ) (page : ℕ) → 4 ≤ p
 is_not_unnamed pages numbers page low high none =
     is_unnamed pages numbers page high ∙ (λ i. le-leb 4 page low i && not (none i))
 
+pub and_both : (a b : Bool) → (a && b) ≡ true → (a ≡ true) × (b ≡ true)
+and_both true b e = (refl, e)
+and_both false b e = absurd (both_ways false refl e)
+
 pub or_both : (a b : Bool) → a ≡ false → b ≡ false → (a || b) ≡ false
 or_both a b e f = (λ i. e i || f i)
 
@@ -63,6 +67,12 @@ both_or true b e = (e, by e)
   where
     by : true ≡ false → b ≡ false
     by e = absurd (both_ways true e refl)
+
+-- a number that names a page which none before it names
+pub unnamed_at : (pages : ℕ) (before : List ℕ) (number : ℕ → ℕ) (i : ℕ) → (4 ≤ number i) × (number i < pages) → names before (number i) ≡ false → ((k : ℕ) → k < i → number k ≢ number i) →
+    is_free (unnamed pages (before ++ numbers_of number i)) (number i) ≡ true
+unnamed_at pages before number i low none apart =
+    is_not_unnamed pages (before ++ numbers_of number i) (number i) low.0 low.1 (names_append before (numbers_of number i) (number i) ∙ or_both _ _ none (none_names number i (number i) apart))
 
 -- numbers that name pages once are apart
 pub once_apart : (pages : ℕ) (before : List ℕ) (number : ℕ → ℕ) (count i j : ℕ) → AreUnnamed pages before number count → i < j → j < count → number i ≢ number j
