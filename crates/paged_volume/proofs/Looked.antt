@@ -1,5 +1,5 @@
 -- What was looked at, from the file to the table.
-use Rattle.std.proofs.Common.{◌≡◌, ℕ, ◌+◌, ◌*◌, ◌<◌, ◌≤◌, Bool, List, length, refl, sym, ◌∙◌, ap, subst, arith, Option, Some}
+use Rattle.std.proofs.Common.{◌≡◌, ℕ, ◌+◌, ◌≤◌, Bool, List, length, sym, ◌∙◌, ap, subst, arith, Option}
 use Rattle.ps_port.specs.ps_outside.Outside.{Outside}
 use Rattle.page_map.specs.Map.{MapView, settled}
 use Rattle.shadow_volume.specs.Layout.{selects}
@@ -7,7 +7,7 @@ use Rattle.shadow_volume.specs.Attaching.{Looks}
 use Rattle.shadow_volume.specs.declared.finding.OpenFault.{OpenFault}
 use Rattle.shadow_volume.specs.declared.finding.OpenFault.TheVariants.{Device, NotAVolume, Damaged, Memory}
 use Rattle.shadow_volume.proofs.Looking.{looks_then, rose_then}
-use Rattle.paged_volume.specs.Found.{Found, a_volume, damaged, found_in, damage, names_tests, after_names}
+use Rattle.paged_volume.specs.Found.{found_in, names_tests, after_names}
 use Rattle.paged_volume.specs.Standing.{IsFit, IsTable, Says, HasHead, HasRoot, HasNames, logical_of, map_count}
 use Rattle.paged_volume.specs.Naming.{IsNaming, IsFailed, FailsBy}
 use Rattle.paged_volume.specs.Attaching.{IsRefusal, IsNoVolume}
@@ -15,7 +15,7 @@ use Rattle.paged_volume.specs.declared.table.Table.{Table}
 use Rattle.paged_volume.specs.declared.damage.Damage.{Damage}
 use Rattle.paged_volume.specs.declared.committed.Committed.{Committed}
 use Rattle.paged_volume.proofs.Tests.{found_names}
-use Rattle.paged_volume.proofs.Tables.{settled_is_table}
+use Rattle.paged_volume.proofs.Tables.{settling_read, settled_is_table}
 
 pub looks_three : (a b c d : Outside (List ℕ)) (few most : ℕ) → Looks a b 3 → Looks b c 2 → Looks c d (few + 1) → few + 6 ≤ most → Looks a d most
 looks_three a b c d few most one two three le = looks_then a c d 5 (few + 1) most (looks_then a b c 3 2 5 one two (omega arith)) three (omega arith)
@@ -54,10 +54,10 @@ refused_names a b c d committed other fault same fit one two roots fails =
     (subst (λ (k : Committed). FailsBy c d (names_tests k.pages k.second k.depth (logical_of k)) fault) same fails)
 
 pub settled_table_is : (table : Table) (map : MapView) (named : List ℕ) (committed : Committed) → table.committed ≡ committed → IsNaming table committed.depth (map_count committed) (logical_of committed) →
-    named ≡ table.named.items → map ≡ settled table.map named → IsTable (record { committed = table.committed; map = map; named = table.named; next = table.next })
-settled_table_is table map named committed same naming named_is map_is =
+    length table.next.items ≡ length table.named.items → named ≡ table.named.items → map ≡ settled table.map named → IsTable (record { committed = table.committed; map = map; named = table.named; next = table.next })
+settled_table_is table map named committed same naming nexts named_is map_is =
     let is = subst (λ (k : Committed). IsNaming table k.depth (map_count k) (logical_of k)) (sym same) naming in
-    subst (λ (m : MapView). IsTable (record { committed = table.committed; map = m; named = table.named; next = table.next })) (sym (map_is ∙ ap (λ (xs : List ℕ). settled table.map xs) named_is)) (settled_is_table table is)
+    subst (λ (m : MapView). IsTable (record { committed = table.committed; map = m; named = table.named; next = table.next })) (sym (map_is ∙ ap (λ (xs : List ℕ). settled table.map xs) named_is)) (settled_is_table table (settling_read table is) nexts)
 
 pub says_after : (table : Table) (map : MapView) (named : List ℕ) (committed other : Committed) (bytes : List ℕ) → table.committed ≡ other → other ≡ committed → IsRootOf committed bytes →
     HasNames other table.named.items table.map.staged bytes → map ≡ settled table.map named → Says (record { committed = table.committed; map = map; named = table.named; next = table.next }) bytes

@@ -1,24 +1,25 @@
 -- What putting a page leaves.
-use Rattle.std.proofs.Common.{◌≡◌, ◌≢◌, ◌⊎◌, inl, inr, ℕ, ◌+◌, ◌-◌, ◌*◌, ◌/◌, ◌%◌, ◌<◌, ◌≤◌, Bool, true, false, not, ◌&&◌, ◌||◌, List, ◌++◌, length, get_or, set, take, drop, refl, sym, ◌∙◌, ap, subst, arith, length-set, length-drop, length-take, get_or-set_same, get_or-set_other, Option, Some, Result}
+use Rattle.std.proofs.Common.{◌≡◌, ◌≢◌, ◌⊎◌, inl, inr, ℕ, ◌+◌, ◌*◌, ◌/◌, ◌%◌, ◌<◌, ◌≤◌, Bool, true, false, not, ◌&&◌, ◌||◌, List, length, get_or, set, refl, sym, ◌∙◌, ap, subst, arith, length-set, length-drop, length-take, get_or-set_same, get_or-set_other, Option, Some, Result}
 use Rattle.std.specs.Option.{option_map}
-use Rattle.std.proofs.lemmas.Bool.{cases_lt, cases_eq, both_ways, or_left, or_right}
+use Rattle.std.proofs.lemmas.Bool.{cases_lt, cases_eq, ne_eqb, both_ways, or_cases, or_left, or_right}
 use Rattle.std.proofs.lemmas.Grind.{same_number_lists}
 use Rattle.std.proofs.lemmas.List.{get_or_past}
 use Rattle.ps_port.specs.ps_outside.Outside.{Outside, Leaves, LeavesSame, After, IsDeviceCall}
 use Rattle.ps_port.specs.Disk.{Torn, Written, written, IsOutside}
 use Rattle.ps_port.specs.DiskLaws.{written_elsewhere, length-written}
 use Rattle.ps_port.proofs.of_ps_outside.Moments.{along_as, along_now}
-use Rattle.page_map.specs.Pages.{is_free, IsTaken, names}
-use Rattle.page_map.specs.Map.{MapView, IsMap, list_names, with_taken, with_staged}
-use Rattle.page_map.proofs.PageLaws.{is_free_taken}
+use Rattle.page_map.specs.Pages.{is_free, names, one_names}
+use Rattle.page_map.specs.Map.{MapView, IsMap, with_staged}
+use Rattle.page_map.proofs.PageLaws.{is_free_taken, and_true}
 use Rattle.shadow_volume.specs.Found.{Held}
 use Rattle.shadow_volume.proofs.Gate.{written_inside}
 use Rattle.paged_volume.specs.Layout.{capacity_pages}
-use Rattle.paged_volume.specs.Found.{byte_named, bytes_named}
-use Rattle.paged_volume.specs.Standing.{IsAlive, IsTable, IsSpare, Says, held_in, staged_in, staged_bytes, seen}
+use Rattle.paged_volume.specs.Found.{byte_named, bytes_named, numbers_of}
+use Rattle.paged_volume.specs.Standing.{IsAlive, IsTable, IsSpare, Says, map_names, logical_of, map_count, numbers_of_table, uses, held_in, staged_in, staged_bytes, seen}
 use Rattle.paged_volume.specs.Staging.{IsPlace, again, given, with_page, Marks, Stages}
 use Rattle.paged_volume.specs.declared.table.Table.{Table}
-use Rattle.paged_volume.proofs.Tables.{names_at_index, both_or, staged_low}
+use Rattle.paged_volume.proofs.Numbers.{names_append}
+use Rattle.paged_volume.proofs.Tables.{names_at_index, names_number, named_at, and_both, both_or, staged_low}
 use Rattle.paged_volume.proofs.Held.{length_bytes, byte_at, byte_none, byte_some, byte_same}
 use Rattle.paged_volume.proofs.Staying.{IsApart, apart_spare, says_stays, held_stays}
 
@@ -28,11 +29,9 @@ pub record IsPut (table : Table) (page number : ℕ) (next : MapView) : Type 0 w
   pub alone : (other : ℕ) → other ≢ page → get_or table.map.staged other 0 ≢ number
   pub long : length next.free ≡ length table.map.free
   pub frees : (page : ℕ) → is_free next.free page ≡ true → is_free table.map.free page ≡ true
+  pub takes : (page : ℕ) → is_free next.free page ≡ false → (number ≡ page) ⊎ (is_free table.map.free page ≡ false)
+  pub was : (get_or table.map.staged page 0 ≡ get_or table.map.committed page 0) ⊎ ((get_or table.map.staged page 0 ≡ 0) ⊎ (get_or table.map.staged page 0 ≡ number))
   pub next_is : next ≡ record (table.map) { staged = set table.map.staged page number; free = next.free }
-
-and_front : (a b : Bool) → (a && b) ≡ true → a ≡ true
-and_front true b e = refl
-and_front false b e = e
 
 pub is_put : (table : Table) (between : MapView) (page number : ℕ) → IsTable table → IsPlace table.map between page number → IsPut table page number (with_staged between page number)
 is_put table between page number is (again staged other some taken same) =
@@ -47,13 +46,15 @@ is_put table between page number is (again staged other some taken same) =
       ];
       long = refl;
       frees = λ p free. free;
+      takes = λ p taken. inr taken;
+      was = inr (inr staged);
       next_is = refl;
     })
   where
     by : (get_or table.map.staged page 0 ≡ get_or table.map.committed page 0) ⊎ IsSpare table (get_or table.map.staged page 0) → IsSpare table number
     by (inl committed) = absurd (other (sym staged ∙ committed))
     by (inr spare) = subst (λ (n : ℕ). IsSpare table n) staged spare
-is_put table between page number is (given free unnamed taken same) =
+is_put table between page number is (given unstaged free unnamed taken same) =
     subst (λ (m : MapView). IsPut table page number (with_staged m page number)) (sym same) (record {
       spare = is.held number free;
       alone = λ one differs e. elim (cases_lt one (length table.map.staged)) [
@@ -63,7 +64,12 @@ is_put table between page number is (given free unnamed taken same) =
         | inr past ↦ let none = get_or_past table.map.staged one 0 past in let low = (apart_spare table number (is.held number free)).low in absurd (omega arith)
       ];
       long = length-set table.map.free number false;
-      frees = λ p still. and_front (is_free table.map.free p) _ (sym (is_free_taken table.map.free number p) ∙ still);
+      frees = λ p still. (and_both (is_free table.map.free p) _ (sym (is_free_taken table.map.free number p) ∙ still)).0;
+      takes = λ p in_use. elim (cases_eq number p) [
+        | inl same ↦ inl same
+        | inr other ↦ inr (sym (and_true (is_free table.map.free p)) ∙ sym (ap (λ (b : Bool). is_free table.map.free p && not b) (ne_eqb number p other)) ∙ sym (is_free_taken table.map.free number p) ∙ in_use)
+      ];
+      was = elim unstaged [ inl same ↦ inl same | inr none ↦ inr (inl none) ];
       next_is = refl;
     })
 
@@ -112,6 +118,57 @@ module _ (table : Table) (page number : ℕ) (next : MapView) (is : IsTable tabl
     ]
   ]
 
+  named_after : names (set table.map.staged page number) number ≡ true
+  named_after = subst (λ (n : ℕ). names (set table.map.staged page number) n ≡ true) number_here (names_at_index (set table.map.staged page number) page (omega (arith, length-set table.map.staged page number)))
+
+  -- a page that is staged is so afterwards, or it is committed
+  staged_still : (p : ℕ) → 4 ≤ p → names table.map.staged p ≡ true → (names (set table.map.staged page number) p ≡ true) ⊎ (names (numbers_of_table table) p ≡ true)
+  staged_still p four staged =
+      let at = named_at table.map.staged p staged in
+      let below_at = at.below in
+      elim (cases_eq at.index page) [
+        | inr differs ↦ inl (subst (λ (n : ℕ). names (set table.map.staged page number) n ≡ true) (number_there at.index differs ∙ at.is)
+            (names_at_index (set table.map.staged page number) at.index (omega (arith, length-set table.map.staged page number))))
+        | inl here ↦
+            let is_page : get_or table.map.staged page 0 ≡ p = ap (λ (k : ℕ). get_or table.map.staged k 0) (sym here) ∙ at.is in
+            elim put.was [
+              | inl same ↦
+                  let committed : get_or table.map.committed page 0 ≡ p = sym same ∙ is_page in
+                  elim (cases_lt page (logical_of table.committed)) [
+                    | inl lt ↦
+                        let before = map_names table.committed.depth table.named.items (map_count table.committed) in
+                        let pages = numbers_of (λ k. get_or table.map.committed k 0) (logical_of table.committed) in
+                        inr (names_append before pages p ∙ or_right (names before p) (names pages p)
+                        (subst (λ (n : ℕ). names pages n ≡ true) committed (names_number (λ k. get_or table.map.committed k 0) (logical_of table.committed) page lt)))
+                    | inr past ↦ absurd (omega (arith, is.once.bare page past))
+                  ]
+              | inr other ↦ elim other [
+                | inl none ↦ absurd (omega arith)
+                | inr own ↦ inl (subst (λ (n : ℕ). names (set table.map.staged page number) n ≡ true) (sym own ∙ is_page) named_after)
+              ]
+            ]
+      ]
+
+  uses_after : (p : ℕ) → 4 ≤ p → p < table.committed.pages → is_free next.free p ≡ false → uses after p ≡ true
+  unfolding after
+  uses_after p four high taken =
+      let committed = names (numbers_of_table table) p in
+      let staged = names (set table.map.staged page number) p in
+      let pinned = one_names table.map.pins p in
+      elim (put.takes p taken) [
+        | inl same ↦ or_right committed (staged || pinned) (or_left staged pinned (subst (λ (n : ℕ). names (set table.map.staged page number) n ≡ true) same named_after))
+        | inr was ↦ elim (or_cases committed (names table.map.staged p || pinned) (is.used p four high was)) [
+          | inl one ↦ or_left committed (staged || pinned) one
+          | inr more ↦ elim (or_cases (names table.map.staged p) pinned more) [
+            | inl two ↦ elim (staged_still p four two) [
+              | inl still ↦ or_right committed (staged || pinned) (or_left staged pinned still)
+              | inr one ↦ or_left committed (staged || pinned) one
+            ]
+            | inr three ↦ or_right committed (staged || pinned) (or_right staged pinned three)
+          ]
+        ]
+      ]
+
   table_after : IsTable after
   unfolding after
   table_after = record {
@@ -121,8 +178,12 @@ module _ (table : Table) (page number : ℕ) (next : MapView) (is : IsTable tabl
     lists = length-set table.map.staged page number ∙ is.lists;
     pages = put.long ∙ is.pages;
     names = is.names;
+    nexts = is.nexts;
     once = record { index = is.once.index; maps = is.once.maps; pages = is.once.pages; bare = is.once.bare };
+    bare = is.bare;
     held = λ p free. spare_after p (is.held p (put.frees p free));
+    used = uses_after;
+    pinned = is.pinned;
     apart = λ one other lt also same some. apart_after one other (omega (arith, length-set table.map.staged page number)) (omega (arith, length-set table.map.staged page number)) same some;
     staged = staged_after;
   }

@@ -1,16 +1,14 @@
 -- What the tests of a volume's file say of it.
-use Rattle.std.proofs.Common.{◌≡◌, ◌≢◌, ◌⊎◌, inl, inr, ℕ, ◌+◌, ◌-◌, ◌/◌, ◌<◌, ◌≤◌, Bool, true, false, List, length, take, drop, slice_index, refl, sym, ◌∙◌, ap, subst, arith, Option, Some, None, if◌then◌else◌, nat_lt, nat_eq}
+use Rattle.std.proofs.Common.{◌≡◌, ◌≢◌, ◌⊎◌, inl, inr, ℕ, ◌+◌, ◌-◌, ◌/◌, ◌<◌, ◌≤◌, Bool, true, false, List, length, take, drop, refl, sym, ◌∙◌, ap, subst, arith, Option, Some, None, if◌then◌else◌, nat_lt, nat_eq}
 use Rattle.std.proofs.lemmas.Bool.{cases_lt, cases_eq, le-ltb, lt-ltb, ltb-false, eq-eqb, eqb-true, ne_eqb}
 use Rattle.std.specs.Option.{option_or}
 use Rattle.ps_port.specs.ps_outside.Outside.{Outside}
 use Rattle.shadow_volume.specs.Layout.{magic, number_at, gate, selects, root_at, pages_of_words}
-use Rattle.shadow_volume.specs.Found.{note_at}
 use Rattle.shadow_volume.proofs.Numbers.{number_within}
-use Rattle.shadow_volume.specs.declared.note.Note.{Note}
 use Rattle.shadow_volume.specs.declared.finding.OpenFault.{OpenFault}
 use Rattle.shadow_volume.specs.declared.finding.OpenFault.TheVariants.{Device, NotAVolume, Damaged, Memory}
-use Rattle.paged_volume.specs.Layout.{most_pages_of, capacity_of, depth_at}
-use Rattle.paged_volume.specs.Found.{Found, a_volume, no_volume, damaged, found_in, held_at, damage, after_head, after_root, after_names, head_damage, root_damage, head_tests, root_tests, names_tests, wants_equal, wants_between, wants_pages, wants_depth}
+use Rattle.paged_volume.specs.Layout.{most_pages_of, capacity_of}
+use Rattle.paged_volume.specs.Found.{no_volume, damaged, found_in, damage, after_head, after_root, after_names, head_damage, root_damage, head_tests, root_tests, names_tests, wants_equal, wants_between, wants_pages, wants_depth}
 use Rattle.paged_volume.specs.Standing.{IsHeadFit, IsDepth, IsFit, HasHead, HasRoot, logical_of}
 use Rattle.paged_volume.specs.Attaching.{IsHead, IsRoot, IsRefusal}
 use Rattle.paged_volume.specs.declared.committed.Committed.{Committed}

@@ -1,15 +1,13 @@
 -- What attaching says: that it only looks, and why it found no volume.
-use Rattle.std.specs.Prelude.{◌≡◌, ℕ, ◌+◌, ◌≤◌, ◌<◌, Bool, List, Option, Some, None, take, drop, length, slice_index}
+use Rattle.std.specs.Prelude.{◌≡◌, ℕ, ◌+◌, Bool, List, Option}
 use Rattle.std.specs.Option.{option_map}
 use Rattle.ps_port.specs.ps_outside.Outside.{Outside, SettlesFrom, After, Rose}
-use Rattle.page_map.specs.Map.{MapView}
-use Rattle.page_map.specs.Pages.{no_pages}
 use Rattle.shadow_volume.specs.Layout.{number_at, root_at}
 use Rattle.shadow_volume.specs.Found.{Held, note_at}
 use Rattle.shadow_volume.specs.Attaching.{Looks}
 use Rattle.shadow_volume.specs.declared.finding.OpenFault.{OpenFault}
 use Rattle.shadow_volume.specs.declared.finding.OpenFault.TheVariants.{Device, NotAVolume, Damaged, Memory}
-use Rattle.paged_volume.specs.Layout.{depth_at, map_pages_of}
+use Rattle.paged_volume.specs.Layout.{depth_at}
 use Rattle.paged_volume.specs.Found.{a_volume, no_volume, damaged, damage, found_in, held_at}
 use Rattle.paged_volume.specs.Standing.{IsAlive, seen, held_in, with_zeros, map_count}
 use Rattle.paged_volume.specs.declared.head.Head.{Head}

@@ -6,4 +6,7 @@ pub mod Naming
 pub mod Staging
 pub mod Switching
 pub mod Changing
+pub mod Planning
+pub mod Committing
+pub mod Making
 pub use Rattle.shadow_volume.specs as shadow_volume

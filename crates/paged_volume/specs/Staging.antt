@@ -37,7 +37,7 @@ pub record Marks (page : ℕ) (old new : Table) : Type 0 where
 -- Where a logical page is put: in the page that it was given since the last commit, or in one that was free, and that no list names.
 pub data IsPlace (old new : MapView) (page number : ℕ) : Type 0 where
   again : slice_index old.staged page ≡ number → number ≢ slice_index old.committed page → 1 ≤ number → IsTaken old.free number → new ≡ old → IsPlace old new page number
-  given : is_free old.free number ≡ true → list_names old number ≡ false → IsTaken new.free number → new ≡ with_taken old number → IsPlace old new page number
+  given : (slice_index old.staged page ≡ slice_index old.committed page) ⊎ (slice_index old.staged page ≡ 0) → is_free old.free number ≡ true → list_names old number ≡ false → IsTaken new.free number → new ≡ with_taken old number → IsPlace old new page number
 
 -- a logical page has no page of its own since the last commit, and none is free
 pub record IsFull (map : MapView) (page : ℕ) : Type 0 where

@@ -1,6 +1,6 @@
 //! The tests of a volume's file, and the table of what is committed in it.
 
-ghost use Rattle.std.specs.Prelude.{◌≡◌, ℕ, ◌+◌, ◌^◌, ◌<◌, List, IfErr, IfOk};
+ghost use Rattle.std.specs.Prelude.{◌≡◌, ℕ, ◌+◌, ◌^◌, ◌<◌, List, length, IfErr, IfOk};
 ghost use Rattle.ps_port.specs.ps_outside.Outside.{SettlesFrom};
 ghost use Rattle.shadow_volume.specs.Attaching.{Looks};
 ghost use Rattle.paged_volume.specs.Standing.{IsFit, IsTable, Says, map_count};
@@ -24,6 +24,7 @@ fn new_table(alloc: Global, committed: Committed) -> Result<Table, AllocError>
     requires commits { committed.note.commits < 2 ^ 64 }
     ensures committed { IfOk result (λ table. table.committed ≡ committed) }
     ensures naming { IfOk result (λ table. IsNaming table 0 0 0) }
+    ensures next { IfOk result (λ table. length table.next.items ≡ length table.named.items) }
 {
     let logical = capacity_pages(committed.pages);
     let map = PageMap::new(alloc, logical, committed.pages)?;

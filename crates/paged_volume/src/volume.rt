@@ -1,19 +1,26 @@
 //! A volume over its host.
 
-ghost use Rattle.std.specs.Prelude.{◌≡◌, ℕ, ◌+◌, ◌*◌, ◌<◌, ◌≤◌, List, length, Option, Some, true, false, OnOk, OnErr, IfOk, IfErr};
+ghost use Rattle.std.specs.Prelude.{◌≡◌, ℕ, ◌+◌, ◌*◌, ◌<◌, ◌≤◌, List, length, slice_index, Option, Some, true, false, OnOk, OnErr, IfOk, IfErr};
 ghost use Rattle.std.specs.Option.{option_map};
 ghost use Rattle.ps_port.specs.ps_outside.Past.{KeepsPast};
 ghost use Rattle.ps_port.specs.ps_outside.Outside.{After, TellsPrefix, ToldAll, IsPutCall, Rose};
 ghost use Rattle.shadow_volume.specs.Found.{Held};
 ghost use Rattle.shadow_volume.specs.Attaching.{Looks};
-ghost use Rattle.paged_volume.specs.Layout.{capacity_pages};
+ghost use Rattle.shadow_volume.specs.Layout.{pages_of_words};
+ghost use Rattle.paged_volume.specs.Layout.{capacity_pages, capacity_of};
 ghost use Rattle.paged_volume.specs.Standing.{IsAlive, seen};
 ghost use Rattle.paged_volume.specs.Attaching.{IsAttached, IsRefused};
-ghost use Rattle.paged_volume.specs.Staging.{page_of, with_page, Stages, Marks, IsPutFault};
+ghost use Rattle.paged_volume.specs.Staging.{page_of, with_page, Stages, HasPages, Marks, IsPutFault};
+ghost use Rattle.paged_volume.specs.Changing.{next_number};
+ghost use Rattle.paged_volume.specs.Switching.{SamePinned};
+ghost use Rattle.paged_volume.specs.Planning.{switched};
+ghost use Rattle.paged_volume.specs.Committing.{Switches, TakesCalls, HasRoom, IsSwitchFault};
 
 use crate::finding::find;
 use crate::layout::page_at;
 use crate::placing::place_for;
+use crate::planning::{next_committed, plan, turn, wanted_pages};
+use crate::rooting::switch_to;
 use crate::table::Table;
 use ps_port::{Host, HostFailed};
 use shadow_volume::{Note, OpenFault};
@@ -120,6 +127,50 @@ impl<H: Host> Volume<H> {
         match self.host.write_at(page_at(number), from) {
             Ok(()) => {
                 self.table.map.replace(page, number);
+                Ok(())
+            }
+            Err(_) => {
+                self.live = false;
+                Err(VolumeFault::Device)
+            }
+        }
+    }
+
+    /// Commits what is staged, under so many used words and this directory: at each moment a crash leaves what it could leave before, or all of what is
+    /// saved now. The pages past the used words have no page afterwards, and are zeros. Only the map pages whose numbers changed are written, and the index page.
+    /// Full, before any write, exactly where the pages that are held and those that they want are more than there are; then all stays staged.
+    pub fn switch(&mut self, used: u64, directory: u64) -> Result<(), VolumeFault>
+        requires alive { IsAlive self.old.live self.old.table (H.outside self.old.host) }
+        requires used { (1 ≤ used) × (used ≤ capacity_of self.old.table.committed.pages) }
+        requires directory { directory < used }
+        requires has { HasPages self.old.table (pages_of_words used) }
+        ensures switches { Switches (seen self.old.table (H.outside self.old.host)) (seen self.new.table (H.outside self.new.host)) self.old.table.committed.pages used directory result }
+        ensures past { KeepsPast (H.outside self.old.host) (H.outside self.new.host) }
+        ensures calls { TakesCalls (H.outside self.old.host) (H.outside self.new.host) self.old.table.map (switched used directory self.old.table.committed) used }
+        ensures committed { OnOk result (self.new.table.committed ≡ switched used directory self.old.table.committed) }
+        ensures blank { OnOk result (self.new.table.map.staged ≡ self.new.table.map.committed) }
+        ensures numbers { OnOk result ((page : ℕ) → slice_index self.new.table.map.committed page ≡ next_number self.old.table.map (pages_of_words used) page) }
+        ensures pinned { OnOk result ((bytes : List ℕ) → (H.outside self.new.host).contents bytes → After (H.outside self.old.host).contents (SamePinned self.old.table) bytes) }
+        ensures pins { OnOk result (self.new.table.map.pins ≡ self.old.table.map.pins) }
+        ensures room { OnOk result (HasRoom self.old.table (switched used directory self.old.table.committed)) }
+        ensures alive { OnOk result (IsAlive self.new.live self.new.table (H.outside self.new.host)) }
+        ensures fault { IfErr result (IsSwitchFault H.outside self.old.host self.new.host self.old.live self.new.live self.old.table self.new.table (switched used directory self.old.table.committed)) }
+    {
+        let next = next_committed(self.table.committed, used, directory);
+        let wanted = wanted_pages(&self.table.map, next);
+        let held = self.table.map.held();
+        let pages = self.table.committed.pages;
+        if pages < held + wanted {
+            return Err(VolumeFault::Full {
+                held,
+                wanted,
+                pages,
+            });
+        }
+        plan(&mut self.table, next);
+        match switch_to(&mut self.host, &self.table, next) {
+            Ok(()) => {
+                turn(&mut self.table, next);
                 Ok(())
             }
             Err(_) => {

@@ -1,6 +1,5 @@
-use Rattle.std.proofs.Common.{ℕ, List, sym, subst, ap, ◌∙◌, ◌*◌}
-use Rattle.page_map.specs.Map.{MapView, with_staged}
-use Rattle.paged_volume.proofs.Putting.{is_put, put_as, put_images, put_alive, put_contents, put_stays, put_staging, write_as, written_as, holds_as}
+use Rattle.page_map.specs.Map.{with_staged}
+use Rattle.paged_volume.proofs.Putting.{is_put, put_as, put_alive, put_contents, put_stays, put_staging, write_as, written_as, holds_as}
 use Rattle.paged_volume.proofs.volume.Volume.put_page.Goals as goal
 
 pub returns-in-Ok-clause-put : goal.returns-in-Ok-clause-put

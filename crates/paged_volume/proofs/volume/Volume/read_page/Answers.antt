@@ -1,6 +1,5 @@
-use Rattle.std.proofs.Common.{◌≢◌, ℕ, List, sym, ◌∙◌, ap, arith, get_or, take, drop, ◌*◌}
+use Rattle.std.proofs.Common.{◌≢◌, ℕ, sym, ◌∙◌, ap, arith, get_or, take, drop, ◌*◌}
 use Rattle.std.proofs.lemmas.Option.{same_Some}
-use Rattle.paged_volume.specs.Layout.{capacity_pages}
 use Rattle.paged_volume.specs.Standing.{staged_in}
 use Rattle.paged_volume.specs.Staging.{page_of}
 use Rattle.paged_volume.proofs.Tables.{staged_low}
