@@ -1,24 +1,23 @@
 -- The walks of all databases, one after the other.
-use Rattle.std.proofs.Common.{Bool, true, false, inl, inr, ◌⊎◌, ◌≡◌, ◌≢◌, ℕ, zero, suc, ◌+◌, ◌<◌, ◌≤◌, List, [], ◌∷◌, ◌++◌, length, refl, sym, ap, ◌∙◌, subst, arith, Option, Some, None, get_or, if◌then◌else◌, nat_eq, IfSome}
-use Rattle.std.proofs.lemmas.Bool.{true≢false, cases_eq, cases_Bool, eq-eqb, eqb-true}
+use Rattle.std.proofs.Common.{true, false, inl, inr, ◌⊎◌, ◌≡◌, ◌≢◌, ℕ, ◌+◌, ◌<◌, ◌≤◌, List, [], refl, sym, ap, ◌∙◌, subst, arith, Option, Some, None, if◌then◌else◌, nat_eq, IfSome}
+use Rattle.std.proofs.lemmas.Bool.{true≢false, cases_eq, cases_Bool, eqb-true}
 use Rattle.swizzle.specs.obj_layout.Kind.{kind_number}
 use Rattle.swizzle.specs.obj_layout.declared.header.Header.{Header}
-use Rattle.swizzle.specs.obj_layout.declared.reference.Reference.TheVariants.{Local}
-use Rattle.swizzle.specs.Heap.{Heap, IsHeap, IsHeld, header_at, ref_at, num_at}
-use Rattle.reaching.specs.Reaching.{IsIn, is_in, Reached, at_start, by_step}
-use Rattle.reaching.proofs.Lists.{then_is, else_is, is_in-in, not_in, in-append, in-front}
-use Rattle.commit_walk.specs.Walk.{GoesBelow, Goes, May, AreHeld, is_walked, has_home, IsAt, StartsAt, Starts, Finds, IsSearched, IsClosed}
+use Rattle.swizzle.specs.Heap.{Heap, IsHeld, header_at, num_at}
+use Rattle.reaching.specs.Reaching.{IsIn, is_in, at_start, by_step}
+use Rattle.reaching.proofs.Lists.{else_is, is_in-in, not_in, in-append, in-front}
+use Rattle.commit_walk.specs.Walk.{May, is_walked, has_home, Finds}
 use Rattle.commit_walk.specs.declared.homes.Source.{Source}
-use Rattle.commit_walk.specs.Walk.{Steady, bare}
-use Rattle.commit_walk.specs.Homes.{IsHomedOne, source_at, FindsFrom, IsFirst, IsFound, AreRoots, IsHomed, GivesHome, OwnsRoot, OwnsRoots}
-use Rattle.commit_walk.proofs.SteadyLaws.{alike, alike-back, home-alike, pid-alike, finds-alike, closed-alike, HomesStay, homes-back, steady-none, steady-then}
+use Rattle.commit_walk.specs.Walk.{Steady}
+use Rattle.commit_walk.specs.Homes.{IsHomedOne, source_at, FindsFrom, IsHomed, OwnsRoot, OwnsRoots}
+use Rattle.commit_walk.proofs.SteadyLaws.{alike, alike-back, home-alike, finds-alike, closed-alike, HomesStay, homes-back, steady-none, steady-then}
 
-found-may : (heap : Heap) (number : ℕ) (root : Option ℕ) (y : ℕ) → Finds heap number root y → May heap y
+pub found-may : (heap : Heap) (number : ℕ) (root : Option ℕ) (y : ℕ) → Finds heap number root y → May heap y
 found-may heap number root y (at_start x s allowed) = allowed
 found-may heap number root y (by_step x z before goes allowed) = allowed
 
 -- a walk never comes to an object that is stored and has a home
-may-not : (h : Header) → is_walked h ≡ true → 1 ≤ h.pid → has_home h ≡ true → ⊥
+pub may-not : (h : Header) → is_walked h ≡ true → 1 ≤ h.pid → has_home h ≡ true → ⊥
 unfolding is_walked has_home
 may-not h may le home =
     elim (cases_Bool (nat_eq h.pid 0)) [
@@ -39,9 +38,10 @@ homed-none heap sources list e =
       all = λ y f. absurd (omega (arith, f.below));
       closed = λ x y l goes may. elim l [ ];
       others = λ y away. refl;
+      plain = λ y no. refl;
     })
 
-listed-or : (y : ℕ) (list : List ℕ) → IsIn y list ⊎ (IsIn y list → ⊥)
+pub listed-or : (y : ℕ) (list : List ℕ) → IsIn y list ⊎ (IsIn y list → ⊥)
 listed-or y list = elim (cases_Bool (is_in y list)) [ inl e ↦ inl (is_in-in y list e) | inr e ↦ inr (not_in y list e) ]
 
 pub homed-more : (old mid new : Heap) (sources : List Source) (count : ℕ) (before after : List ℕ) → IsHomed old mid sources count before
@@ -79,6 +79,7 @@ homed-more old mid new sources count before after h o =
       ];
       closed = closed-alike mid old after back (o.searched.closed shut);
       others = λ y away. o.others y away ∙ h.others y (λ l. away (upto y l));
+      plain = λ y no. o.plain y (home-alike old mid there y ∙ no) ∙ h.plain y no;
     }
   where
     last : (a b : ℕ) → a < b + 1 → (a < b) ⊎ (a ≡ b)
@@ -92,7 +93,7 @@ root-still old new (Some at) o met = o.held at met
 -- Roots with their own homes.
 
 pub owns-none : (heap : Heap) (sources : List Source) → OwnsRoots heap heap sources 0
-owns-none heap sources = record { same = steady-none heap; reached = refl; given = λ place at lt e k once. absurd (omega (arith, lt)); others = λ y away. refl }
+owns-none heap sources = record { same = steady-none heap; reached = refl; given = λ place at lt e k once. absurd (omega (arith, lt)); others = λ y away. refl; plain = λ y no. refl }
 
 pub owns-more : (old mid new : Heap) (sources : List Source) (count : ℕ) → OwnsRoots old mid sources count → OwnsRoot mid new (source_at sources count).root (source_at sources count).number → OwnsRoots old new sources (count + 1)
 owns-more old mid new sources count o one = go (source_at sources count).root refl one
@@ -112,6 +113,7 @@ owns-more old mid new sources count o one = go (source_at sources count).root re
         | inr same ↦ let bad : None ≡ Some at = sym e ∙ (ap (λ p. (source_at sources p).root) (sym same) ∙ r) in absurd (cc)
       ];
       others = λ y away. ap (λ h. num_at h y 0) is ∙ o.others y (λ p lt. away p (omega (arith, lt)));
+      plain = λ y no. ap (λ h. num_at h y 0) is ∙ o.plain y no;
     }
     go (Some x) e is = record {
       same = steady-then old mid new o.same is.same;
@@ -125,4 +127,10 @@ owns-more old mid new sources count o one = go (source_at sources count).root re
             ap (λ z. num_at new z 0) here ∙ (is.given (home-alike old mid (alike old mid o.same) x ∙ (ap (λ z. has_home (header_at old z)) (sym here) ∙ k)) ∙ ap (λ p. (source_at sources p).number) (sym same))
       ];
       others = λ y away. is.others y (λ q. away count (omega arith) (e ∙ ap Some (sym q))) ∙ o.others y (λ p lt. away p (omega (arith, lt)));
+      plain = λ y no. elim (cases_eq y x) [
+        | inl q ↦
+            ap (λ z. num_at new z 0) q
+            ∙ (is.plain (home-alike old mid (alike old mid o.same) x ∙ (ap (λ z. has_home (header_at old z)) (sym q) ∙ no)) ∙ (ap (λ z. num_at mid z 0) (sym q) ∙ o.plain y no))
+        | inr ne ↦ is.others y ne ∙ o.plain y no
+      ];
     }

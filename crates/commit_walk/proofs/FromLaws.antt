@@ -1,14 +1,13 @@
 -- The walk over the list: what holds while it goes on.
-use Rattle.std.proofs.Common.{Bool, true, false, inl, inr, ◌⊎◌, ◌≡◌, ◌≢◌, ℕ, zero, suc, ◌+◌, ◌<◌, ◌≤◌, List, [], ◌∷◌, ◌++◌, length, refl, sym, ap, ◌∙◌, subst, arith, Option, Some, None, get_or, append_assoc, append-nil, length-append, IfSome}
+use Rattle.std.proofs.Common.{inl, inr, ◌⊎◌, ◌≡◌, ℕ, zero, suc, ◌+◌, ◌<◌, ◌≤◌, List, [], ◌∷◌, ◌++◌, length, refl, sym, ap, ◌∙◌, subst, arith, Option, Some, get_or, append_assoc, append-nil, length-append}
 use Rattle.std.proofs.lemmas.List.{get_or_append_left}
 use Rattle.std.proofs.lemmas.Bool.{cases_eq, cases_lt}
-use Rattle.swizzle.specs.Heap.{Heap, IsHeap, IsHeld}
+use Rattle.swizzle.specs.Heap.{Heap, IsHeap}
 use Rattle.reaching.specs.Reaching.{IsIn, Reached, at_start, by_step}
-use Rattle.reaching.proofs.Lists.{in-append, in-front, in-behind}
-use Rattle.commit_walk.specs.Walk.{Grows, GoesBelow, Goes, May, AreHeld, GoesFrom, AreDone, IsWalked, IsClosed, Starts, StartsAt, Finds, IsSearched}
+use Rattle.reaching.proofs.Lists.{in-append, in-front}
+use Rattle.commit_walk.specs.Walk.{Grows, Goes, May, AreHeld, GoesFrom, AreDone, IsWalked, IsClosed, Starts, StartsAt, Finds, IsSearched}
 use Rattle.commit_walk.proofs.GrowLaws.{grows-in, grows-cases, grows-then}
 use Rattle.commit_walk.proofs.SlotLaws.{inside-held}
-use Rattle.commit_walk.proofs.HomeLaws.{assigned_held}
 use Rattle.commit_walk.proofs.SteadyLaws.{listed-held}
 
 pub index-in : (xs : List ℕ) (i : ℕ) → i < length xs → IsIn (get_or xs i 0) xs

@@ -1,8 +1,8 @@
 -- Lists that grow.
-use Rattle.std.proofs.Common.{Bool, true, false, inl, inr, ◌⊎◌, ◌≡◌, ◌≢◌, ℕ, zero, suc, ◌+◌, ◌<◌, ◌≤◌, List, [], ◌∷◌, ◌++◌, length, refl, sym, ap, ◌∙◌, subst, arith, if◌then◌else◌, nat_eq, Option, Some, None, get_or, append_assoc, append-nil}
-use Rattle.std.proofs.lemmas.Bool.{cases_Bool, eq-eqb, ne_eqb, eqb-true, eqb-false, true≢false}
+use Rattle.std.proofs.Common.{inl, inr, ◌⊎◌, ◌≡◌, ℕ, List, [], ◌∷◌, ◌++◌, refl, sym, ap, ◌∙◌, subst, append_assoc, append-nil}
+use Rattle.std.proofs.lemmas.Bool.{cases_Bool}
 use Rattle.reaching.specs.Reaching.{IsIn, is_in}
-use Rattle.reaching.proofs.Lists.{then_is, else_is, is_in-in, in-is_in, not_in, in-append, in-front, in-behind}
+use Rattle.reaching.proofs.Lists.{then_is, else_is, is_in-in, not_in, in-append, in-front, in-behind}
 use Rattle.commit_walk.specs.Walk.{and_once, Grows}
 
 pub grows-none : (list : List ℕ) (adds : ℕ → Type 0) → ((y : ℕ) → adds y → ⊥) → Grows list list adds

@@ -1,14 +1,13 @@
 -- Objects with a home, and the walks' starts.
-use Rattle.std.proofs.Common.{Bool, true, false, inl, inr, ◌⊎◌, ◌≡◌, ◌≢◌, ℕ, zero, suc, ◌+◌, ◌<◌, ◌≤◌, List, [], ◌∷◌, ◌++◌, length, refl, sym, ap, ◌∙◌, subst, arith, Option, Some, None, get_or, if◌then◌else◌, nat_eq}
+use Rattle.std.proofs.Common.{Bool, true, false, inl, inr, ◌⊎◌, ◌≡◌, ℕ, zero, suc, ◌+◌, ◌<◌, List, [], ◌∷◌, length, refl, sym, ap, subst, arith, Some, None, get_or, if◌then◌else◌, nat_eq}
 use Rattle.std.specs.Prelude.{unwrap_or}
 use Rattle.std.proofs.lemmas.Bool.{true≢false, cases_eq}
 use Rattle.swizzle.specs.obj_layout.Kind.{kind_number}
 use Rattle.swizzle.specs.obj_layout.declared.header.Header.{Header}
 use Rattle.swizzle.specs.Objects.{Object, size_of, find_from, IsFit, AreFit}
-use Rattle.swizzle.specs.Heap.{Heap, IsHeap, IsHeld, found, nothing, object_at, header_at, num_at, IsListed}
+use Rattle.swizzle.specs.Heap.{Heap, IsHeap, IsHeld, nothing, header_at, IsListed}
 use Rattle.swizzle.proofs.HeapLaws.{first_is, behind_is}
-use Rattle.reaching.specs.Reaching.{IsIn}
-use Rattle.commit_walk.specs.Walk.{Lists, GoesBelow, Goes, May, has_home, IsAt, StartsAt}
+use Rattle.commit_walk.specs.Walk.{Lists, Goes, May, has_home, IsAt, StartsAt}
 use Rattle.commit_walk.proofs.SteadyLaws.{alike, alike-back, goes-alike, may-alike, at-alike, homes-back, homes-stay, lists-as, lists-none, lists-then}
 
 pub fit_found : (at : ℕ) (os : List Object) (i : ℕ) (o : Object) → AreFit os → find_from at os i ≡ Some o → IsFit o

@@ -1,11 +1,11 @@
 -- What one slot adds to the list of a walk.
-use Rattle.std.proofs.Common.{Bool, true, false, inl, inr, ◌⊎◌, ◌≡◌, ◌≢◌, ℕ, ◌+◌, ◌<◌, ◌≤◌, List, refl, sym, ap, ◌∙◌, subst, arith, get_or}
+use Rattle.std.proofs.Common.{inl, inr, ◌⊎◌, ◌≡◌, ℕ, ◌+◌, ◌<◌, sym, ap, ◌∙◌, subst, arith, get_or}
 use Rattle.std.specs.Prelude.{unwrap_or}
 use Rattle.std.proofs.lemmas.Bool.{cases_eq}
 use Rattle.swizzle.specs.obj_layout.declared.reference.Reference.TheVariants.{Nil, Local}
 use Rattle.swizzle.specs.Heap.{Heap, IsHeap, IsHeld, nothing, ref_at}
 use Rattle.commit_walk.specs.Walk.{Lists, GoesBelow, May}
-use Rattle.commit_walk.proofs.SteadyLaws.{alike, alike-back, below-alike, may-alike, lists-as, lists-none, lists-then}
+use Rattle.commit_walk.proofs.SteadyLaws.{alike, alike-back, may-alike, lists-as, lists-none, lists-then}
 
 pub inside-held : (heap : Heap) (x slot to : ℕ) → IsHeap heap → IsHeld heap x → ref_at heap x slot ≡ Local to → IsHeld heap to
 inside-held heap x slot to h held is =

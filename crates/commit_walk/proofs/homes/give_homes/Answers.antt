@@ -1,4 +1,4 @@
-use Rattle.std.proofs.Common.{◌≡◌, ◌<◌, ap, ◌∙◌, subst, get_or, length, arith}
+use Rattle.std.proofs.Common.{◌≡◌, ap, ◌∙◌, subst, get_or, length, arith}
 use Rattle.commit_walk.specs.Homes.{GivesHome, GivesHomes}
 use Rattle.commit_walk.proofs.OnlyLaws.{homes-none, homes-more}
 use Rattle.commit_walk.proofs.homes.give_homes.Goals as goal

@@ -1,4 +1,4 @@
-use Rattle.std.proofs.Common.{◌≤◌, ℕ}
+use Rattle.std.proofs.Common.{◌≤◌}
 use Rattle.commit_walk.specs.Homes.{GivesHomes}
 use Rattle.commit_walk.proofs.homes.give_homes.Given as goal
 

@@ -1,4 +1,4 @@
-use Rattle.std.proofs.Common.{◌≡◌, sym, ap, subst, refl, Some, None, IfSome}
+use Rattle.std.proofs.Common.{sym, subst, refl, IfSome}
 use Rattle.swizzle.specs.Heap.{IsHeld}
 use Rattle.commit_walk.specs.Homes.{OwnsRoot}
 use Rattle.commit_walk.proofs.homes.own_root.Goals as goal

@@ -1,4 +1,4 @@
-use Rattle.std.proofs.Common.{◌≡◌, sym, ap, subst, refl, length, arith}
+use Rattle.std.proofs.Common.{◌≡◌, subst, length, arith}
 use Rattle.commit_walk.specs.Homes.{OwnsRoots, source_at}
 use Rattle.commit_walk.proofs.AllLaws.{owns-none, owns-more, root-still}
 use Rattle.commit_walk.proofs.homes.own_roots.Goals as goal

@@ -1,4 +1,3 @@
-use Rattle.std.proofs.Common.{◌≡◌, ℕ, length}
 use Rattle.commit_walk.specs.Homes.{OwnsRoots}
 use Rattle.commit_walk.proofs.homes.own_roots.Given as goal
 

@@ -1,4 +1,4 @@
-use Rattle.std.proofs.Common.{◌≡◌, ap, length, arith, length-append}
+use Rattle.std.proofs.Common.{ap, length, arith, length-append}
 use Rattle.commit_walk.proofs.OnlyLaws.{one-homed}
 use Rattle.commit_walk.proofs.homes.walk_one.Goals as goal
 

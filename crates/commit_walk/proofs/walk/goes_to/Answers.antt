@@ -1,4 +1,4 @@
-use Rattle.std.proofs.Common.{◌≡◌, sym, ap, ◌∙◌, true, false, nat_eq}
+use Rattle.std.proofs.Common.{sym, ◌∙◌, true, nat_eq}
 use Rattle.std.proofs.lemmas.Bool.{eq-eqb, ne_eqb}
 use Rattle.swizzle.specs.obj_layout.Kind.{kind_number}
 use Rattle.swizzle.specs.Heap.{header_at}

@@ -1,5 +1,3 @@
-use Rattle.std.proofs.Common.{◌≡◌, sym, ◌∙◌}
-use Rattle.swizzle.specs.Heap.{header_at}
 use Rattle.commit_walk.proofs.HomeLaws.{home_below}
 use Rattle.commit_walk.proofs.walk.is_at.Goals as goal
 

@@ -1,4 +1,4 @@
-use Rattle.std.proofs.Common.{◌≡◌, sym, ◌∙◌}
+use Rattle.std.proofs.Common.{sym, ◌∙◌}
 use Rattle.swizzle.specs.Heap.{header_at}
 use Rattle.commit_walk.proofs.HomeLaws.{homed-2, homed-3, homed-4, homed-7}
 use Rattle.commit_walk.proofs.walk.is_homed.Goals as goal

@@ -1,4 +1,4 @@
-use Rattle.std.proofs.Common.{◌≡◌, ◌<◌, sym, ap, ◌∙◌, subst, get_or, length, arith}
+use Rattle.std.proofs.Common.{◌≡◌, ap, ◌∙◌, subst, get_or, length, arith}
 use Rattle.commit_walk.specs.Walk.{Lists, Goes, May, IsAt, StartsAt}
 use Rattle.commit_walk.proofs.HomeLaws.{assigned-none, assigned-more}
 use Rattle.commit_walk.proofs.walk.reach_assigned.Goals as goal

@@ -1,4 +1,3 @@
-use Rattle.std.proofs.Common.{ℕ}
 use Rattle.commit_walk.specs.Walk.{Lists, StartsAt, May}
 use Rattle.commit_walk.proofs.walk.reach_assigned.Given as goal
 

@@ -1,4 +1,4 @@
-use Rattle.std.proofs.Common.{◌≡◌, sym, ◌∙◌}
+use Rattle.std.proofs.Common.{sym, ◌∙◌}
 use Rattle.std.proofs.lemmas.Bool.{true≢false}
 use Rattle.commit_walk.specs.Walk.{Goes, May, IsAt}
 use Rattle.commit_walk.proofs.SteadyLaws.{lists-as, lists-none}

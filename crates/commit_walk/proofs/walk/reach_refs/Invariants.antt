@@ -1,4 +1,3 @@
-use Rattle.std.proofs.Common.{ℕ}
 use Rattle.commit_walk.specs.Walk.{Lists, GoesBelow, May}
 use Rattle.commit_walk.proofs.walk.reach_refs.Given as goal
 

@@ -1,4 +1,4 @@
-use Rattle.std.proofs.Common.{◌≡◌, ℕ, sym, ap, ◌∙◌, subst, length, arith, IfSome}
+use Rattle.std.proofs.Common.{ℕ, sym, ◌∙◌, subst, length}
 use Rattle.commit_walk.specs.Walk.{IsWalked, May, StartsAt}
 use Rattle.commit_walk.proofs.SteadyLaws.{alike, alike-back, may-alike, starts-alike, walked-alike, homes-back, homes-stay, lists-as, steady-then}
 use Rattle.commit_walk.proofs.FromLaws.{searched, from-within}

@@ -1,5 +1,5 @@
-use Rattle.std.proofs.Common.{◌≡◌, refl, ap, ◌∙◌, subst, arith, ◌<◌, length, get_or}
-use Rattle.commit_walk.specs.Walk.{Lists, Goes, May, Walks}
+use Rattle.std.proofs.Common.{refl, ◌∙◌, subst, arith, ◌<◌, length, get_or}
+use Rattle.commit_walk.specs.Walk.{Lists, Goes, May}
 use Rattle.commit_walk.proofs.SteadyLaws.{alike, alike-back, goes-alike, may-alike, lists-as, steady-none, steady-then}
 use Rattle.commit_walk.proofs.FromLaws.{begun, goes_on, ended}
 use Rattle.commit_walk.proofs.walk.walk_from.Goals as goal

@@ -1,7 +1,6 @@
-use Rattle.std.proofs.Common.{◌≡◌, ◌<◌, ◌≤◌, ◌+◌, ℕ, List, sym, ap, ◌∙◌, subst, refl, arith}
-use Rattle.joint_ops.specs.swizzle.Objects.{size_of}
-use Rattle.joint_ops.specs.swizzle.Heap.{header_at, object_at}
-use Rattle.new_pids.specs.Giving.{GivesAll, passed, given, MayGive}
+use Rattle.std.proofs.Common.{◌≤◌, ◌+◌, sym, ap, subst, arith}
+use Rattle.joint_ops.specs.swizzle.Heap.{header_at}
+use Rattle.new_pids.specs.Giving.{GivesAll, passed, given}
 use Rattle.new_pids.proofs.GivingLaws.{above-fresh, given-held, given-below, given-list, may_from}
 use Rattle.new_pids.proofs.giving.give_one.Goals as goal
 
