@@ -46,16 +46,16 @@ settling_next old next is = record {
 -- what is committed next is committed
 module _ (old other : Table) (next : Committed) (is : IsNext old next) (names_are : other.named.items ≡ old.next.items) where
   table : Table
-  table = record { committed = next; map = old.map; named = other.named; next = old.next }
+  table = record { committed = next; map = old.map; named = other.named; next = old.next; pins = old.pins }
 
-  turned_table : IsTable (record { committed = next; map = settled old.map other.named.items; named = other.named; next = old.next })
+  turned_table : IsTable (record { committed = next; map = settled old.map other.named.items; named = other.named; next = old.next; pins = old.pins })
   unfolding table
   turned_table = settled_is_table table (subst (λ (xs : List ℕ). IsSettling next old.map xs) (sym names_are) (settling_next old next is)) (sym (ap length names_are))
 
-  pub turned : (map : MapView) (names : List ℕ) → names ≡ old.next.items → map ≡ settled old.map names → IsTurned old next (record { committed = next; map = map; named = other.named; next = old.next })
+  pub turned : (map : MapView) (names : List ℕ) → names ≡ old.next.items → map ≡ settled old.map names → IsTurned old next (record { committed = next; map = map; named = other.named; next = old.next; pins = old.pins })
   turned map names same map_is =
       let map_as : map ≡ settled old.map other.named.items = map_is ∙ ap (λ (xs : List ℕ). settled old.map xs) (same ∙ sym names_are) in
-      subst (λ (m : MapView). IsTurned old next (record { committed = next; map = m; named = other.named; next = old.next })) (sym map_as) (record {
+      subst (λ (m : MapView). IsTurned old next (record { committed = next; map = m; named = other.named; next = old.next; pins = old.pins })) (sym map_as) (record {
         table = turned_table;
         says = λ image says. record {
           head = says.head;

@@ -216,7 +216,7 @@ module _ (table : Table) (next : Committed) (now : MapView) (items : List ℕ) (
   module _ (new : MapView) (other : Table) (names_are : other.next.items ≡ items) (committed : new.committed ≡ table.map.committed) (pins : new.pins ≡ table.map.pins) (free : length new.free ≡ length table.map.free)
       (size : length new.staged ≡ length table.map.staged) (staged : (page : ℕ) → get_or new.staged page 0 ≡ next_number table.map (logical_of next) page) where
     planned : Table
-    planned = record { committed = table.committed; map = new; named = table.named; next = other.next }
+    planned = record { committed = table.committed; map = new; named = table.named; next = other.next; pins = other.pins }
 
     spare_as : (page : ℕ) → IsSpare table page → IsSpare planned page
     unfolding planned
@@ -289,7 +289,7 @@ module _ (table : Table) (next : Committed) (now : MapView) (items : List ℕ) (
       maps = planned_maps;
     }
 
-    pub is_planned : IsPlanned table next (record { committed = table.committed; map = new; named = table.named; next = other.next })
+    pub is_planned : IsPlanned table next (record { committed = table.committed; map = new; named = table.named; next = other.next; pins = other.pins })
     unfolding planned
     is_planned = record {
       ready = planned_next;

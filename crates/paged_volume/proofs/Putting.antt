@@ -84,7 +84,7 @@ module _ (table : Table) (page number : ℕ) (next : MapView) (is : IsTable tabl
   low = (apart_spare table number put.spare).low
 
   after : Table
-  after = record { committed = table.committed; map = record (table.map) { staged = set table.map.staged page number; free = next.free }; named = table.named; next = table.next }
+  after = record { committed = table.committed; map = record (table.map) { staged = set table.map.staged page number; free = next.free }; named = table.named; next = table.next; pins = table.pins }
 
   number_here : get_or (set table.map.staged page number) page 0 ≡ number
   number_here = get_or-set_same table.map.staged page number 0 below
@@ -188,12 +188,12 @@ module _ (table : Table) (page number : ℕ) (next : MapView) (is : IsTable tabl
     staged = staged_after;
   }
 
-  pub put_table : IsTable (record { committed = table.committed; map = next; named = table.named; next = table.next })
+  pub put_table : IsTable (record { committed = table.committed; map = next; named = table.named; next = table.next; pins = table.pins })
   unfolding after
-  put_table = subst (λ (m : MapView). IsTable (record { committed = table.committed; map = m; named = table.named; next = table.next })) (sym put.next_is) table_after
+  put_table = subst (λ (m : MapView). IsTable (record { committed = table.committed; map = m; named = table.named; next = table.next; pins = table.pins })) (sym put.next_is) table_after
 
-  pub says_put : (image : List ℕ) → Says table image → Says (record { committed = table.committed; map = next; named = table.named; next = table.next }) image
-  says_put image says = subst (λ (m : MapView). Says (record { committed = table.committed; map = m; named = table.named; next = table.next }) image) (sym put.next_is)
+  pub says_put : (image : List ℕ) → Says table image → Says (record { committed = table.committed; map = next; named = table.named; next = table.next; pins = table.pins }) image
+  says_put image says = subst (λ (m : MapView). Says (record { committed = table.committed; map = m; named = table.named; next = table.next; pins = table.pins }) image) (sym put.next_is)
       (record { head = says.head; selected = says.selected; root = says.root; names = says.names })
 
   elsewhere : (old from : List ℕ) → length from ≡ 4096 → (k : ℕ) → k / 4096 ≢ page → ((p : ℕ) → get_or table.map.staged p 0 ≢ 0 → 4096 * get_or table.map.staged p 0 + 4096 ≤ length old) →
@@ -261,14 +261,14 @@ module _ (a b : Outside (List ℕ)) (lives : Bool) (table : Table) (page number 
       along_as held_in (λ (held : Option Held). After (a.images a.clock) (λ (x : List ℕ) (z : Option Held). held_in x ≡ z) held) write (λ image after.
       record { from = after.from; was = after.was; by = sym (held_stays table number after.from image alive.is_table.fit alive.is_table.once apart after.by (alive.says after.from after.was)) })
 
-  pub put_alive : IsAlive lives (record { committed = table.committed; map = next; named = table.named; next = table.next }) b
+  pub put_alive : IsAlive lives (record { committed = table.committed; map = next; named = table.named; next = table.next; pins = table.pins }) b
   put_alive = record {
     living = alive.living;
     is_table = put_table table page number next alive.is_table in_list put;
     says = λ image now. says_put table page number next alive.is_table in_list put image (put_says image now);
   }
 
-  put_staged : (from old : List ℕ) → length from ≡ 4096 → Says table old → staged_bytes (record { committed = table.committed; map = next; named = table.named; next = table.next }) (written (4096 * number) from old) ≡ written (4096 * page) from (staged_bytes table old)
+  put_staged : (from old : List ℕ) → length from ≡ 4096 → Says table old → staged_bytes (record { committed = table.committed; map = next; named = table.named; next = table.next; pins = table.pins }) (written (4096 * number) from old) ≡ written (4096 * page) from (staged_bytes table old)
   unfolding staged_bytes
   put_staged from old size says =
       let long = says.head.long in
@@ -278,7 +278,7 @@ module _ (a b : Outside (List ℕ)) (lives : Bool) (table : Table) (page number 
 
   pub put_contents : (from : List ℕ) → length from ≡ 4096 → ((image : List ℕ) → a.contents image → a.images a.clock image) →
       ((image : List ℕ) → b.contents image → After a.contents (Written (4096 * number) from) image) →
-      (found : Option Held) → (seen (record { committed = table.committed; map = next; named = table.named; next = table.next }) b).contents found →
+      (found : Option Held) → (seen (record { committed = table.committed; map = next; named = table.named; next = table.next; pins = table.pins }) b).contents found →
       After (seen table a).contents (λ (before after : Option Held). option_map (with_page page from) before ≡ after) found
   put_contents from size law wrote found now =
       let after = wrote now.from now.was in
@@ -287,13 +287,13 @@ module _ (a b : Outside (List ℕ)) (lives : Bool) (table : Table) (page number 
         from = Some (staged_in table after.from);
         was = record { from = after.from; was = after.was; by = refl };
         by = ap (λ (xs : List ℕ). Some (record { note = table.committed.note; bytes = xs })) (sym (put_staged from after.from size says))
-            ∙ ap (λ (x : List ℕ). Some (staged_in (record { committed = table.committed; map = next; named = table.named; next = table.next }) x)) (sym after.by)
+            ∙ ap (λ (x : List ℕ). Some (staged_in (record { committed = table.committed; map = next; named = table.named; next = table.next; pins = table.pins }) x)) (sym after.by)
             ∙ now.by;
       }
 
   pub put_stays : (from : List ℕ) → length from ≡ 4096 → ((image : List ℕ) → a.contents image → a.images a.clock image) →
       ((image : List ℕ) → a.contents image → b.contents (written (4096 * number) from image)) →
-      (found : Option Held) → (seen table a).contents found → (seen (record { committed = table.committed; map = next; named = table.named; next = table.next }) b).contents (option_map (with_page page from) found)
+      (found : Option Held) → (seen table a).contents found → (seen (record { committed = table.committed; map = next; named = table.named; next = table.next; pins = table.pins }) b).contents (option_map (with_page page from) found)
   put_stays from size law wrote found was =
       let says = alive.says was.from (law was.from was.was) in
       record {
@@ -303,7 +303,7 @@ module _ (a b : Outside (List ℕ)) (lives : Bool) (table : Table) (page number 
             ∙ ap (λ (o : Option Held). option_map (with_page page from) o) was.by;
       }
 
-  pub put_marks : Marks page table (record { committed = table.committed; map = next; named = table.named; next = table.next })
+  pub put_marks : Marks page table (record { committed = table.committed; map = next; named = table.named; next = table.next; pins = table.pins })
   put_marks = record {
     marked = let least = apart.low in let here = ap (λ (m : MapView). get_or m.staged page 0) put.next_is ∙ number_here table page number next alive.is_table in_list put in omega arith;
     kept = λ other differs. ap (λ (m : MapView). get_or m.staged other 0) put.next_is ∙ number_there table page number next alive.is_table in_list put other differs;

@@ -183,7 +183,7 @@ module _ (table : Table) (is : IsSettling table.committed table.map table.named.
   differs list page number none named same = both_ways (names list page) none (subst (λ (n : ℕ). names list n ≡ true) same named)
 
   settled_table : Table
-  settled_table = record { committed = table.committed; map = settled table.map table.named.items; named = table.named; next = table.next }
+  settled_table = record { committed = table.committed; map = settled table.map table.named.items; named = table.named; next = table.next; pins = table.pins }
 
   free_is_spare : (page : ℕ) → is_free (settled table.map table.named.items).free page ≡ true →
       (is_free (unnamed table.committed.pages (map_names table.committed.depth table.named.items (map_count table.committed) ++ numbers_of (λ page. get_or table.map.staged page 0) (logical_of table.committed))) page ≡ true)
@@ -244,7 +244,7 @@ module _ (table : Table) (is : IsSettling table.committed table.map table.named.
       below : (page : ℕ) → 1 ≤ get_or table.map.staged page 0 → page < logical_of table.committed
       below page some = elim (cases_lt page (logical_of table.committed)) [ inl lt ↦ lt | inr past ↦ absurd (omega (arith, is.bare page past)) ]
 
-  pub settled_is_table : length table.next.items ≡ length table.named.items → IsTable (record { committed = table.committed; map = settled table.map table.named.items; named = table.named; next = table.next })
+  pub settled_is_table : length table.next.items ≡ length table.named.items → IsTable (record { committed = table.committed; map = settled table.map table.named.items; named = table.named; next = table.next; pins = table.pins })
   unfolding settled_table
   settled_is_table nexts = record {
     fit = is.fit;

@@ -1,11 +1,12 @@
 -- What a switch makes of what is held.
-use Rattle.std.specs.Prelude.{◌≡◌, ◌⊎◌, ℕ, ◌+◌, ◌/◌, ◌<◌, ◌≤◌, Bool, false, List, Option, Result, OnOk}
+use Rattle.std.specs.Prelude.{◌≡◌, ◌⊎◌, ℕ, ◌+◌, ◌/◌, ◌<◌, ◌≤◌, Bool, false, List, map, Option, Result, OnOk}
 use Rattle.ps_port.specs.ps_outside.Outside.{Outside, Leaves, TellsNothing, Rose}
 use Rattle.page_map.specs.Pages.{held_of}
 use Rattle.page_map.specs.Map.{MapView}
 use Rattle.shadow_volume.specs.Found.{Held}
 use Rattle.shadow_volume.specs.Standing.{saved}
 use Rattle.shadow_volume.specs.Switching.{Was}
+use Rattle.paged_volume.specs.Pinning.{outdated}
 use Rattle.paged_volume.specs.Standing.{IsTable, Says, with_zeros}
 use Rattle.paged_volume.specs.Switching.{next_table}
 use Rattle.paged_volume.specs.Planning.{wanted_pages}
@@ -48,3 +49,4 @@ pub record IsTurned (old : Table) (next : Committed) (new : Table) : Type 0 wher
   pub committed : new.committed ≡ next
   pub blank : new.map.staged ≡ new.map.committed
   pub lists : (new.map.committed ≡ old.map.staged) × (new.map.pins ≡ old.map.pins)
+  pub pins : new.pins.items ≡ map outdated old.pins.items

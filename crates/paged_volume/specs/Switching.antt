@@ -7,7 +7,8 @@ use Rattle.shadow_volume.specs.Found.{note_at}
 use Rattle.paged_volume.specs.Layout.{capacity_pages, map_pages_of}
 use Rattle.paged_volume.specs.Found.{numbers_of}
 use Rattle.paged_volume.specs.Changing.{is_changed}
-use Rattle.paged_volume.specs.Standing.{IsFit, IsNamedOnce, IsSpare, IsPinned, IsBare, AreUnnamed, Says, index_of, maps_of, map_names, place_by, logical_of, map_count, held_in, staged_bytes, pinned_bytes}
+use Rattle.paged_volume.specs.Standing.{IsFit, IsNamedOnce, IsSpare, IsPinned, IsBare, AreUnnamed, Says, index_of, maps_of, map_names, place_by, logical_of, map_count, held_in, staged_bytes}
+use Rattle.paged_volume.specs.Pinning.{pinned_bytes}
 use Rattle.paged_volume.specs.declared.table.Table.{Table}
 use Rattle.paged_volume.specs.declared.committed.Committed.{Committed}
 
@@ -97,7 +98,7 @@ pub record IsRooted (outside : Outside (List ℕ)) (table : Table) (next : Commi
 
 -- the table of what is committed next
 abbrev pub next_table : Table → Committed → Table
-next_table table next = record { committed = next; map = record (table.map) { committed = table.map.staged }; named = table.next; next = table.next }
+next_table table next = record { committed = next; map = record (table.map) { committed = table.map.staged }; named = table.next; next = table.next; pins = table.pins }
 
 -- the new content is committed
 pub record IsSwitched (outside : Outside (List ℕ)) (table : Table) (next : Committed) (image : List ℕ) : Type 0 where
