@@ -1,12 +1,12 @@
 -- What putting a page leaves.
-use Rattle.std.proofs.Common.{◌≡◌, ◌≢◌, ◌⊎◌, inl, inr, ℕ, ◌+◌, ◌*◌, ◌/◌, ◌%◌, ◌<◌, ◌≤◌, Bool, true, false, not, ◌&&◌, ◌||◌, List, length, get_or, set, refl, sym, ◌∙◌, ap, subst, arith, length-set, length-drop, length-take, get_or-set_same, get_or-set_other, Option, Some, Result}
+use Rattle.std.proofs.Common.{◌≡◌, ◌≢◌, ◌⊎◌, inl, inr, ℕ, ◌+◌, ◌*◌, ◌/◌, ◌%◌, ◌<◌, ◌≤◌, Bool, true, false, not, ◌&&◌, ◌||◌, List, [], None, length, get_or, set, refl, sym, ◌∙◌, ap, subst, arith, length-set, length-drop, length-take, get_or-set_same, get_or-set_other, Option, Some, None, Result}
 use Rattle.std.specs.Option.{option_map}
 use Rattle.std.proofs.lemmas.Bool.{cases_lt, cases_eq, ne_eqb, both_ways, or_cases, or_left, or_right}
 use Rattle.std.proofs.lemmas.Grind.{same_number_lists}
 use Rattle.std.proofs.lemmas.List.{get_or_past}
 use Rattle.ps_port.specs.ps_outside.Outside.{Outside, Leaves, LeavesSame, After, IsDeviceCall}
 use Rattle.ps_port.specs.Disk.{Torn, Written, written, IsOutside}
-use Rattle.ps_port.specs.DiskLaws.{written_elsewhere, length-written}
+use Rattle.ps_port.specs.DiskLaws.{written_elsewhere, written_torn, length-written}
 use Rattle.ps_port.proofs.of_ps_outside.Moments.{along_as, along_now}
 use Rattle.page_map.specs.Pages.{is_free, names, one_names}
 use Rattle.page_map.specs.Map.{MapView, IsMap, with_staged}
@@ -16,12 +16,14 @@ use Rattle.shadow_volume.proofs.Gate.{written_inside}
 use Rattle.paged_volume.specs.Layout.{capacity_pages}
 use Rattle.paged_volume.specs.Found.{byte_named, bytes_named, numbers_of}
 use Rattle.paged_volume.specs.Standing.{IsAlive, IsTable, IsSpare, Says, map_names, logical_of, map_count, numbers_of_table, uses, held_in, staged_in, staged_bytes, seen}
+use Rattle.paged_volume.specs.Pinning.{pinned_bytes, KeepsPins}
 use Rattle.paged_volume.specs.Staging.{IsPlace, again, given, with_page, Marks, Stages}
 use Rattle.paged_volume.specs.declared.table.Table.{Table}
 use Rattle.paged_volume.proofs.Numbers.{names_append}
 use Rattle.paged_volume.proofs.Tables.{names_at_index, names_number, named_at, and_both, both_or, staged_low}
 use Rattle.paged_volume.proofs.Held.{length_bytes, byte_at, byte_none, byte_some, byte_same}
-use Rattle.paged_volume.proofs.Staying.{IsApart, apart_spare, says_stays, held_stays}
+use Rattle.paged_volume.proofs.Staying.{IsApart, apart_spare, apart_page, pinned_torn, not_pinned, says_stays, held_stays}
+use Rattle.paged_volume.proofs.PinLaws.{pin_same, same_pins, keeps_pins, pinned_as}
 
 -- a logical page is put in a page that may be written, and no other logical page has it
 pub record IsPut (table : Table) (page number : ℕ) (next : MapView) : Type 0 where
@@ -184,6 +186,8 @@ module _ (table : Table) (page number : ℕ) (next : MapView) (is : IsTable tabl
     held = λ p free. spare_after p (is.held p (put.frees p free));
     used = uses_after;
     pinned = is.pinned;
+    pin_count = is.pin_count;
+    pins = λ pin lt. pin_same table after (get_or table.map.pins pin []) (get_or table.pins.items pin None) refl refl refl (is.pins pin lt);
     apart = λ one other lt also same some. apart_after one other (omega (arith, length-set table.map.staged page number)) (omega (arith, length-set table.map.staged page number)) same some;
     staged = staged_after;
   }
@@ -343,3 +347,28 @@ placed_again map page staged number committed staged_is committed_is differs som
   where
     positive : (n : ℕ) → n ≢ 0 → 1 ≤ n
     positive n ne = elim (cases_lt 0 n) [ inl some ↦ omega arith | inr none ↦ absurd (ne (omega arith)) ]
+
+-- what pins hold stays where a page is put
+module _ (a b : Outside (List ℕ)) (lives : Bool) (table : Table) (page number : ℕ) (next : MapView) (alive : IsAlive lives table a) (put : IsPut table page number next) where
+  pins_put : (from old : List ℕ) → length from ≡ 4096 → Says table old → (pin : ℕ) → pinned_bytes table pin (written (4096 * number) from old) ≡ pinned_bytes table pin old
+  pins_put from old size says pin =
+      pinned_torn table (4096 * number) 4096 old (written (4096 * number) from old) says.head.long
+      (subst (λ (n : ℕ). Torn (4096 * number) n old (written (4096 * number) from old)) size (written_torn (4096 * number) from old))
+      (λ held some pinned. let is = alive.is_table.pinned held some pinned in (is.low, is.high))
+      (λ held four pinned. apart_page held number (not_pinned table number held put.spare pinned)) pin
+
+  pub put_pinned : (from : List ℕ) → length from ≡ 4096 → ((image : List ℕ) → a.contents image → a.images a.clock image) → ((x y : List ℕ) → a.contents x → a.contents y → x ≡ y) →
+      ((image : List ℕ) → b.contents image → After a.contents (Written (4096 * number) from) image) → ((image : List ℕ) → a.contents image → b.contents (written (4096 * number) from image)) →
+      KeepsPins table (record { committed = table.committed; map = next; named = table.named; next = table.next; pins = table.pins }) a b
+  put_pinned from size law one wrote holds =
+      let after : Table = record { committed = table.committed; map = next; named = table.named; next = table.next; pins = table.pins } in
+      keeps_pins a b table after (same_pins table after refl) (λ image now.
+      let was = wrote image now in
+      record {
+        from = was.from;
+        was = was.was;
+        by = λ pin.
+            pinned_as table after pin image refl (ap (λ (m : MapView). m.pins) put.next_is)
+            ∙ ap (λ (xs : List ℕ). pinned_bytes table pin xs) was.by
+            ∙ pins_put from was.from size (alive.says was.from (law was.from was.was)) pin;
+      }) one (λ image now. (written (4096 * number) from image, holds image now))

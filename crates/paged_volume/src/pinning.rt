@@ -8,18 +8,25 @@ use crate::pinned::Pinned;
 use crate::table::Table;
 use std::alloc::{AllocError, Global};
 
-/// What each pin holds is no more that of the last commit.
+// What a pin holds is no more that of the last commit.
+fn outdated(held: Option<Pinned>) -> Option<Pinned>
+    ensures { result ≡ outdated held }
+{
+    match held {
+        Some(pinned) => Some(Pinned {
+            note: pinned.note,
+            current: false,
+        }),
+        None => None,
+    }
+}
+
+/// What pins hold is no more that of the last commit.
 pub fn outdate(pins: &mut [Option<Pinned>])
     ensures { pins.new ≡ map outdated pins.old }
 {
     for held in pins.iter_mut() {
-        *held = match *held {
-            Some(pinned) => Some(Pinned {
-                note: pinned.note,
-                current: false,
-            }),
-            None => None,
-        };
+        *held = outdated(*held);
     }
 }
 

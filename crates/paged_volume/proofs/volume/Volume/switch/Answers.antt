@@ -64,7 +64,7 @@ returns-in-Ok-clause-pinned g c =
     let plan = subst (λ (k : Committed). IsPlanned v.table k c.plan.new.table) c.next_committed-next.ensures c.plan.ensures in
     let done = subst (λ (k : Committed). (image : List ℕ) → b.images b.clock image → IsSwitched a c.plan.new.table k image) c.next_committed-next.ensures c.in-Ok.ensures.switched in
     let turned = subst (λ (k : Committed). IsTurned c.plan.new.table k c.turn.new.table) c.next_committed-next.ensures c.turn.ensures in
-    pinned_stay a b v.table c.plan.new.table c.args.used c.args.directory c.requires.alive.is_table follows plan c.turn.new.table done turned (g.met.H.Host.is_image c.switch_to.new.host)
+    pinned_stay a b v.table c.plan.new.table c.args.used c.args.directory c.requires.alive.is_table follows plan c.turn.new.table done turned (g.met.H.Host.is_image c.switch_to.new.host) (g.met.H.Host.one v.host) c.in-Ok.ensures.stays
 
 pub returns-in-Ok-clause-alive : goal.returns-in-Ok-clause-alive
 returns-in-Ok-clause-alive g c =
