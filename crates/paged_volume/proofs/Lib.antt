@@ -18,4 +18,5 @@ pub mod New
 pub mod Choosing
 pub mod Planned
 pub mod PinLaws
+pub mod Room
 pub mod Committing

@@ -119,7 +119,7 @@ module _ (table : Table) (is : IsTable table) (page : ℕ) (four : 4 ≤ page) w
         | inr past ↦ absurd (omega (arith, is.once.bare at.index past))
       ]
 
-  committed_used : names table.map.committed page ≡ true → names (numbers_of_table table) page ≡ true
+  pub committed_used : names table.map.committed page ≡ true → names (numbers_of_table table) page ≡ true
   committed_used named =
       let at = committed_at named in
       let before = map_names table.committed.depth table.named.items (map_count table.committed) in

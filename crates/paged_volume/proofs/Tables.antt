@@ -285,3 +285,10 @@ staged_below table is page = elim (cases_eq (get_or table.map.staged page 0) 0) 
   | inl none ↦ let least = is.fit.head.least in omega arith
   | inr some ↦ (staged_low table is page some).1
 ]
+
+-- a page that is committed is staged
+pub committed_staged : (table : Table) → IsTable table → (page : ℕ) → page < logical_of table.committed → 1 ≤ get_or table.map.staged page 0
+committed_staged table is page lt = elim (is.staged page) [
+  | inl same ↦ let low = unnamed_low table.committed.pages _ (get_or table.map.committed page 0) (is.once.pages page lt) in omega (arith, low.0, same)
+  | inr spare ↦ let low = unnamed_low table.committed.pages _ (get_or table.map.staged page 0) spare.unnamed_is in omega (arith, low.0)
+]

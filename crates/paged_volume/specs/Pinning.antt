@@ -1,5 +1,5 @@
 -- What pins hold: each a list of pages of a commit, and its note; or nothing.
-use Rattle.std.specs.Prelude.{◌≡◌, ◌≢◌, ℕ, ◌<◌, ◌≤◌, true, false, List, [], length, slice_index, slice_index_or, Option, Some, None}
+use Rattle.std.specs.Prelude.{◌≡◌, ◌≢◌, ◌⊎◌, ℕ, ◌<◌, ◌≤◌, true, false, List, [], length, slice_index, slice_index_or, Option, Some, None}
 use Rattle.std.specs.Option.{option_map}
 use Rattle.ps_port.specs.ps_outside.Outside.{Outside, After}
 use Rattle.page_map.specs.Pages.{no_pages}
@@ -21,6 +21,10 @@ pinned_list table pin = slice_index_or table.map.pins pin []
 -- no pin holds anything
 abbrev pub NoneIsHeld : Table → Type 0
 NoneIsHeld table = (pin : ℕ) → pin_of table pin ≡ None
+
+-- each pin holds what is committed, or nothing
+abbrev pub AreLatest : Table → Type 0
+AreLatest table = (pin : ℕ) → pin < length table.map.pins → (pinned_list table pin ≡ table.map.committed) ⊎ (pin_of table pin ≡ None)
 
 -- once there was another commit, what is held is no more that of the last one
 abbrev pub outdated : Option Pinned → Option Pinned

@@ -9,7 +9,7 @@ ghost use Rattle.shadow_volume.specs.Found.{Held};
 ghost use Rattle.shadow_volume.specs.Attaching.{Looks};
 ghost use Rattle.shadow_volume.specs.Layout.{pages_of_words};
 ghost use Rattle.paged_volume.specs.Layout.{capacity_pages, capacity_of};
-ghost use Rattle.paged_volume.specs.Standing.{IsAlive, held_in, seen, with_zeros};
+ghost use Rattle.paged_volume.specs.Standing.{IsAlive, IsFit, logical_of, held_in, seen, with_zeros};
 ghost use Rattle.paged_volume.specs.Attaching.{IsAttached, IsRefused};
 ghost use Rattle.paged_volume.specs.Staging.{page_of, with_page, Stages, HasPages, Marks, IsPutFault};
 ghost use Rattle.paged_volume.specs.Changing.{next_number};
@@ -329,6 +329,15 @@ impl<H: Host> Volume<H> {
         ensures { result ≡ self.now.live }
     {
         self.live
+    }
+
+    /// A law: what is so of every volume that is alive.
+    pub fn sound(&self)
+        requires { IsAlive self.now.live self.now.table (H.outside self.now.host) }
+        ensures fit { IsFit self.now.table.committed }
+        ensures pages { HasPages self.now.table (logical_of self.now.table.committed) }
+    {
+        let _pages = self.table.committed.pages;
     }
 
     /// Gives the host back.

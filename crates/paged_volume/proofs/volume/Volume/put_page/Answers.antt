@@ -1,4 +1,7 @@
-use Rattle.page_map.specs.Map.{with_staged}
+use Rattle.std.proofs.Common.{◌≡◌, refl, ◌∙◌, ap}
+use Rattle.page_map.specs.Pages.{held_of}
+use Rattle.page_map.specs.Map.{MapView, with_staged}
+use Rattle.paged_volume.proofs.Room.{latest_free}
 use Rattle.paged_volume.proofs.Putting.{is_put, put_as, put_alive, put_contents, put_stays, put_staging, put_pinned, write_as, written_as, holds_as}
 use Rattle.paged_volume.proofs.volume.Volume.put_page.Goals as goal
 
@@ -61,3 +64,18 @@ returns-in-Ok-clause-pinned g c =
     let put = put_as v.table c.place_for.new.map c.replace.new.self c.args.page c.in-Some.number c.requires.alive.is_table c.in-Some.ensures c.replace.ensures in
     put_pinned a b v.live v.table c.args.page c.in-Some.number c.replace.new.self c.requires.alive put c.args.from.now c.requires.size (g.met.H.Host.is_image v.host) (g.met.H.Host.one v.host)
     (written_as a b c.page_at.result c.in-Some.number c.args.from.now c.page_at.ensures c.in-Ok.ensures.contents) (holds_as a b c.page_at.result c.in-Some.number c.args.from.now c.page_at.ensures c.in-Ok.ensures.written)
+
+pub returns-in-None-clause-fault : goal.returns-in-None-clause-fault
+returns-in-None-clause-fault g c =
+    let t = c.args.self.now.table in
+    let same = c.in-None.ensures.0 in
+    let full = c.in-None.ensures.1 in (
+      refl,
+      refl,
+      (λ i. record { committed = t.committed; map = same i; named = t.named; next = t.next; pins = t.pins }),
+      full,
+      (λ latest. latest_free t c.requires.alive.is_table latest full.none),
+      c.held.ensures ∙ ap (λ (m : MapView). held_of m.free) same,
+      refl,
+      refl,
+    )
