@@ -1,7 +1,8 @@
 -- What is committed next is committed, and a switch as it is seen from above.
-use Rattle.std.proofs.Common.{◌≡◌, ◌⊎◌, inl, inr, ℕ, zero, suc, ◌+◌, ◌*◌, ◌/◌, ◌<◌, ◌≤◌, true, List, [], length, get_or, take, refl, sym, ◌∙◌, ap, subst, arith, Option, Some, if◌then◌else◌}
+use Rattle.std.proofs.Common.{◌≡◌, ◌⊎◌, inl, inr, ℕ, zero, suc, ◌+◌, ◌*◌, ◌/◌, ◌<◌, ◌≤◌, true, List, [], length, get_or, take, refl, sym, ◌∙◌, ap, subst, arith, map, Option, Some, None, if◌then◌else◌}
+use Rattle.std.proofs.lemmas.List.{length-map}
 use Rattle.std.specs.Option.{option_map}
-use Rattle.ps_port.specs.ps_outside.Outside.{Outside, Leaves, After}
+use Rattle.ps_port.specs.ps_outside.Outside.{Outside, Leaves}
 use Rattle.ps_port.proofs.of_ps_outside.Moments.{along_as}
 use Rattle.page_map.specs.Map.{MapView, settled}
 use Rattle.shadow_volume.specs.Layout.{pages_of_words}
@@ -10,9 +11,11 @@ use Rattle.shadow_volume.specs.Standing.{saved, next_note}
 use Rattle.shadow_volume.specs.Switching.{Was, StaysHeld}
 use Rattle.paged_volume.specs.Layout.{capacity_pages, capacity_of, map_pages_of}
 use Rattle.paged_volume.specs.Found.{bytes_named}
-use Rattle.paged_volume.specs.Standing.{IsFit, IsTable, IsAlive, Says, HasNames, map_count, held_in, staged_in, staged_bytes, pinned_bytes, committed_in, seen, with_zeros}
+use Rattle.paged_volume.specs.Standing.{IsFit, IsTable, IsAlive, Says, HasNames, map_count, held_in, staged_in, staged_bytes, committed_in, seen, with_zeros}
+use Rattle.paged_volume.specs.Pinning.{outdated, IsPin, KeepsPins}
+use Rattle.paged_volume.specs.declared.pinned.Pinned.{Pinned}
 use Rattle.paged_volume.specs.Changing.{next_number, changed_pages}
-use Rattle.paged_volume.specs.Switching.{IsNext, IsSwitched, IsEither, SamePinned, next_table}
+use Rattle.paged_volume.specs.Switching.{IsNext, IsSwitched, IsEither, next_table}
 use Rattle.paged_volume.specs.Planning.{switched, wanted_pages, Follows, IsPlanned}
 use Rattle.paged_volume.specs.Committing.{TakesCalls, IsTurned}
 use Rattle.paged_volume.specs.declared.table.Table.{Table}
@@ -21,12 +24,9 @@ use Rattle.paged_volume.proofs.Bounds.{are_low, depth_fits}
 use Rattle.paged_volume.proofs.Tables.{IsSettling, settled_is_table}
 use Rattle.paged_volume.proofs.Held.{bytes_front, bytes_same, held_says, blank_bytes}
 use Rattle.paged_volume.proofs.Changed.{next_below, changed_most}
+use Rattle.paged_volume.proofs.PinLaws.{pin_outdated, pin_of_outdated, keeps_pins, outdated_pins, pinned_as}
 use Rattle.paged_volume.proofs.Planned.{changed_again}
 use Rattle.paged_volume.proofs.Selecting.{next_once}
-
-pinned_as : (table other : Table) (pin : ℕ) (image : List ℕ) → other.committed ≡ table.committed → other.map.pins ≡ table.map.pins → pinned_bytes other pin image ≡ pinned_bytes table pin image
-unfolding pinned_bytes
-pinned_as table other pin image committed pins = (λ i. bytes_named (λ page. get_or (get_or (pins i) pin []) page 0) (capacity_pages (committed i).pages) image)
 
 settling_next : (old : Table) (next : Committed) → IsNext old next → IsSettling next old.map old.next.items
 settling_next old next is = record {
@@ -44,18 +44,23 @@ settling_next old next is = record {
 }
 
 -- what is committed next is committed
-module _ (old other : Table) (next : Committed) (is : IsNext old next) (names_are : other.named.items ≡ old.next.items) where
+module _ (old other : Table) (next : Committed) (is : IsNext old next) (names_are : other.named.items ≡ old.next.items) (pins_are : other.pins.items ≡ map outdated old.pins.items) where
   table : Table
-  table = record { committed = next; map = old.map; named = other.named; next = old.next }
+  table = record { committed = next; map = old.map; named = other.named; next = old.next; pins = other.pins }
 
-  turned_table : IsTable (record { committed = next; map = settled old.map other.named.items; named = other.named; next = old.next })
-  unfolding table
-  turned_table = settled_is_table table (subst (λ (xs : List ℕ). IsSettling next old.map xs) (sym names_are) (settling_next old next is)) (sym (ap length names_are))
+  turned_now : Table
+  turned_now = record { committed = next; map = settled old.map other.named.items; named = other.named; next = old.next; pins = other.pins }
 
-  pub turned : (map : MapView) (names : List ℕ) → names ≡ old.next.items → map ≡ settled old.map names → IsTurned old next (record { committed = next; map = map; named = other.named; next = old.next })
+  turned_table : IsTable (record { committed = next; map = settled old.map other.named.items; named = other.named; next = old.next; pins = other.pins })
+  unfolding table turned_now
+  turned_table = settled_is_table table (subst (λ (xs : List ℕ). IsSettling next old.map xs) (sym names_are) (settling_next old next is)) (sym (ap length names_are)) (ap (λ (xs : List (Option Pinned)). length xs) pins_are ∙ length-map old.pins.items outdated ∙ is.pin_count)
+      (λ pin lt. subst (λ (held : Option Pinned). IsPin turned_now (get_or old.map.pins pin []) held) (sym (ap (λ (xs : List (Option Pinned)). get_or xs pin None) pins_are ∙ pin_of_outdated old.pins.items pin))
+      (pin_outdated old turned_now (get_or old.map.pins pin []) (get_or old.pins.items pin None) is.pages_are (is.pins pin lt)))
+
+  pub turned : (map : MapView) (names : List ℕ) → names ≡ old.next.items → map ≡ settled old.map names → IsTurned old next (record { committed = next; map = map; named = other.named; next = old.next; pins = other.pins })
   turned map names same map_is =
       let map_as : map ≡ settled old.map other.named.items = map_is ∙ ap (λ (xs : List ℕ). settled old.map xs) (same ∙ sym names_are) in
-      subst (λ (m : MapView). IsTurned old next (record { committed = next; map = m; named = other.named; next = old.next })) (sym map_as) (record {
+      subst (λ (m : MapView). IsTurned old next (record { committed = next; map = m; named = other.named; next = old.next; pins = other.pins })) (sym map_as) (record {
         table = turned_table;
         says = λ image says. record {
           head = says.head;
@@ -66,6 +71,7 @@ module _ (old other : Table) (next : Committed) (is : IsNext old next) (names_ar
         committed = refl;
         blank = refl;
         lists = (refl, refl);
+        pins = pins_are;
       })
 
 -- what may be committed next
@@ -188,10 +194,15 @@ module _ (a b : Outside (List ℕ)) (table planned : Table) (used directory : �
     pub switched_alive : IsAlive true new b
     switched_alive = record { living = refl; is_table = turned.table; says = new_says }
 
-    pub pinned_stay : ((image : List ℕ) → b.contents image → b.images b.clock image) → (image : List ℕ) → b.contents image → After a.contents (SamePinned table) image
-    pinned_stay law image now =
+    pub pinned_stay : ((image : List ℕ) → b.contents image → b.images b.clock image) → ((x y : List ℕ) → a.contents x → a.contents y → x ≡ y) → StaysHeld a b → KeepsPins table new a b
+    pinned_stay law one stays =
+        keeps_pins a b table new (outdated_pins table new (turned.pins ∙ ap (λ (xs : List (Option Pinned)). map outdated xs) is.pins)) (λ image now.
         let from = (done image (law image now)).staged in
-        record { from = from.from; was = from.was; by = λ pin. sym (as_pinned pin image) ∙ from.by.pinned pin ∙ as_pinned pin from.from }
-      where
-        as_pinned : (pin : ℕ) (image : List ℕ) → pinned_bytes planned pin image ≡ pinned_bytes table pin image
-        as_pinned pin image = pinned_as table planned pin image is.committed is.lists.1
+        record {
+          from = from.from;
+          was = from.was;
+          by = λ pin.
+              pinned_as planned new pin image (ap (λ (k : Committed). k.pages) turned.committed ∙ sym (ap (λ (k : Committed). k.pages) is.committed)) turned.lists.1
+              ∙ from.by.pinned pin
+              ∙ pinned_as table planned pin from.from (ap (λ (k : Committed). k.pages) is.committed) is.lists.1;
+        }) one stays

@@ -1,7 +1,7 @@
 -- The bytes of pages, by their numbers; and what is held in an image that says what is committed.
-use Rattle.std.proofs.Common.{◌≡◌, ◌≢◌, ℕ, ◌+◌, ◌-◌, ◌*◌, ◌/◌, ◌%◌, ◌<◌, ◌≤◌, Bool, List, [], ◌++◌, length, get_or, take, drop, replicate, refl, sym, ◌∙◌, ap, arith, length-drop, length-take, Option, Some, nat_eq, if◌then◌else◌}
+use Rattle.std.proofs.Common.{◌≡◌, ◌≢◌, inl, inr, ℕ, ◌+◌, ◌-◌, ◌*◌, ◌/◌, ◌%◌, ◌<◌, ◌≤◌, Bool, List, [], ◌++◌, length, get_or, take, drop, replicate, refl, sym, ◌∙◌, ap, arith, length-drop, length-take, Option, Some, nat_eq, if◌then◌else◌}
 use Rattle.std.specs.Option.{option_map}
-use Rattle.std.proofs.lemmas.Bool.{eq-eqb, ne_eqb}
+use Rattle.std.proofs.lemmas.Bool.{cases_lt, cases_eq, eq-eqb, ne_eqb}
 use Rattle.std.proofs.lemmas.Grind.{same_number_lists}
 use Rattle.std.proofs.lemmas.List.{get_or-take, get_or-drop, get_or-replicate, length-replicate, take-append-le, take_all}
 use Rattle.ps_port.specs.ps_outside.Outside.{Outside, After}
@@ -173,13 +173,21 @@ blank_holds a b table fit blank once le says same held now =
           ∙ now.by;
     }
 
--- a page as it is staged
-pub staged_read : (table : Table) (image : List ℕ) (page : ℕ) → page < capacity_pages table.committed.pages → get_or table.map.staged page 0 ≢ 0 → 4096 * get_or table.map.staged page 0 + 4096 ≤ length image →
-    take 4096 (drop (4096 * get_or table.map.staged page 0) image) ≡ take 4096 (drop (4096 * page) (staged_bytes table image))
-unfolding staged_bytes
-staged_read table image page below some long = page_read (λ page. get_or table.map.staged page 0) (capacity_pages table.committed.pages) image page below some long
+-- a page, by its number
+pub page_is : (number : ℕ → ℕ) (count : ℕ) (image : List ℕ) (page n pages : ℕ) (into : List ℕ) → n ≡ number page → page < count → n < pages → 4096 * pages ≤ length image → (n ≡ 0 → into ≡ replicate {A = ℕ} 4096 0) →
+    (1 ≤ n → into ≡ take 4096 (drop (4096 * n) image)) → into ≡ take 4096 (drop (4096 * page) (bytes_named number count image))
+page_is number count image page n pages into number_is below low long zeros read = elim (cases_eq n 0) [
+  | inl none ↦ zeros none ∙ page_blank number count image page 4096 refl below (sym number_is ∙ none)
+  | inr some ↦
+      let least : 1 ≤ n = positive n some in
+      read least ∙ ap (λ (k : ℕ). take 4096 (drop (4096 * k) image)) number_is ∙ page_read number count image page below (λ none. some (number_is ∙ none)) (omega arith)
+]
+  where
+    positive : (n : ℕ) → n ≢ 0 → 1 ≤ n
+    positive n ne = elim (cases_lt 0 n) [ inl some ↦ omega arith | inr none ↦ absurd (ne (omega arith)) ]
 
-pub staged_blank : (table : Table) (image : List ℕ) (page size : ℕ) → size ≡ 4096 → page < capacity_pages table.committed.pages → get_or table.map.staged page 0 ≡ 0 →
-    replicate {A = ℕ} size 0 ≡ take 4096 (drop (4096 * page) (staged_bytes table image))
+-- a page as it is staged
+pub staged_page : (table : Table) (page n pages : ℕ) (into image : List ℕ) → n ≡ get_or table.map.staged page 0 → page < capacity_pages table.committed.pages → n < pages → 4096 * pages ≤ length image → (n ≡ 0 → into ≡ replicate {A = ℕ} 4096 0) →
+    (1 ≤ n → into ≡ take 4096 (drop (4096 * n) image)) → into ≡ take 4096 (drop (4096 * page) (staged_bytes table image))
 unfolding staged_bytes
-staged_blank table image page size size_is below none = page_blank (λ page. get_or table.map.staged page 0) (capacity_pages table.committed.pages) image page size size_is below none
+staged_page table page n pages into image number_is below low long zeros read = page_is (λ (k : ℕ). get_or table.map.staged k 0) (capacity_pages table.committed.pages) image page n pages into number_is below low long zeros read

@@ -17,4 +17,6 @@ pub mod Changed
 pub mod New
 pub mod Choosing
 pub mod Planned
+pub mod PinLaws
+pub mod Room
 pub mod Committing

@@ -1,5 +1,5 @@
 -- What was looked at, from the file to the table.
-use Rattle.std.proofs.Common.{◌≡◌, ℕ, ◌+◌, ◌≤◌, Bool, List, length, sym, ◌∙◌, ap, subst, arith, Option}
+use Rattle.std.proofs.Common.{◌≡◌, ℕ, ◌+◌, ◌≤◌, Bool, List, [], length, sym, ◌∙◌, ap, subst, arith, Option}
 use Rattle.ps_port.specs.ps_outside.Outside.{Outside}
 use Rattle.page_map.specs.Map.{MapView, settled}
 use Rattle.shadow_volume.specs.Layout.{selects}
@@ -11,6 +11,7 @@ use Rattle.paged_volume.specs.Found.{found_in, names_tests, after_names}
 use Rattle.paged_volume.specs.Standing.{IsFit, IsTable, Says, HasHead, HasRoot, HasNames, logical_of, map_count}
 use Rattle.paged_volume.specs.Naming.{IsNaming, IsFailed, FailsBy}
 use Rattle.paged_volume.specs.Attaching.{IsRefusal, IsNoVolume}
+use Rattle.paged_volume.specs.declared.pinned.Pinned.{Pinned}
 use Rattle.paged_volume.specs.declared.table.Table.{Table}
 use Rattle.paged_volume.specs.declared.damage.Damage.{Damage}
 use Rattle.paged_volume.specs.declared.committed.Committed.{Committed}
@@ -54,16 +55,17 @@ refused_names a b c d committed other fault same fit one two roots fails =
     (subst (λ (k : Committed). FailsBy c d (names_tests k.pages k.second k.depth (logical_of k)) fault) same fails)
 
 pub settled_table_is : (table : Table) (map : MapView) (named : List ℕ) (committed : Committed) → table.committed ≡ committed → IsNaming table committed.depth (map_count committed) (logical_of committed) →
-    length table.next.items ≡ length table.named.items → named ≡ table.named.items → map ≡ settled table.map named → IsTable (record { committed = table.committed; map = map; named = table.named; next = table.next })
-settled_table_is table map named committed same naming nexts named_is map_is =
+    length table.next.items ≡ length table.named.items → table.pins.items ≡ [] → named ≡ table.named.items → map ≡ settled table.map named → IsTable (record { committed = table.committed; map = map; named = table.named; next = table.next; pins = table.pins })
+settled_table_is table map named committed same naming nexts unpinned named_is map_is =
     let is = subst (λ (k : Committed). IsNaming table k.depth (map_count k) (logical_of k)) (sym same) naming in
-    subst (λ (m : MapView). IsTable (record { committed = table.committed; map = m; named = table.named; next = table.next })) (sym (map_is ∙ ap (λ (xs : List ℕ). settled table.map xs) named_is)) (settled_is_table table (settling_read table is) nexts)
+    subst (λ (m : MapView). IsTable (record { committed = table.committed; map = m; named = table.named; next = table.next; pins = table.pins })) (sym (map_is ∙ ap (λ (xs : List ℕ). settled table.map xs) named_is)) (settled_is_table table (settling_read table is) nexts (ap (λ (xs : List (Option Pinned)). length xs) unpinned ∙ ap (λ (lists : List (List ℕ)). length lists) (sym is.pins))
+    (λ pin lt. absurd (omega (arith, ap (λ (lists : List (List ℕ)). length lists) is.pins))))
 
 pub says_after : (table : Table) (map : MapView) (named : List ℕ) (committed other : Committed) (bytes : List ℕ) → table.committed ≡ other → other ≡ committed → IsRootOf committed bytes →
-    HasNames other table.named.items table.map.staged bytes → map ≡ settled table.map named → Says (record { committed = table.committed; map = map; named = table.named; next = table.next }) bytes
+    HasNames other table.named.items table.map.staged bytes → map ≡ settled table.map named → Says (record { committed = table.committed; map = map; named = table.named; next = table.next; pins = table.pins }) bytes
 says_after table map named committed other bytes same again is names map_is =
-    subst (λ (k : Committed). Says (record { committed = k; map = map; named = table.named; next = table.next }) bytes) (sym (same ∙ again))
-    (subst (λ (m : MapView). Says (record { committed = committed; map = m; named = table.named; next = table.next }) bytes) (sym map_is) (record {
+    subst (λ (k : Committed). Says (record { committed = k; map = map; named = table.named; next = table.next; pins = table.pins }) bytes) (sym (same ∙ again))
+    (subst (λ (m : MapView). Says (record { committed = committed; map = m; named = table.named; next = table.next; pins = table.pins }) bytes) (sym map_is) (record {
       head = is.head;
       selected = is.selected;
       root = is.root;

@@ -1,5 +1,5 @@
 -- What is committed next, once the pages that name it are chosen.
-use Rattle.std.proofs.Common.{◌≡◌, ◌≢◌, ◌⊎◌, inl, inr, ℕ, zero, suc, ◌+◌, ◌-◌, ◌*◌, ◌<◌, ◌≤◌, Bool, true, false, not, List, [], ◌++◌, length, get_or, refl, sym, ◌∙◌, ap, subst, arith, if◌then◌else◌}
+use Rattle.std.proofs.Common.{◌≡◌, ◌≢◌, ◌⊎◌, inl, inr, ℕ, zero, suc, ◌+◌, ◌-◌, ◌*◌, ◌<◌, ◌≤◌, Bool, true, false, not, List, [], ◌++◌, length, get_or, refl, sym, ◌∙◌, ap, subst, arith, if◌then◌else◌, None}
 use Rattle.std.specs.Prelude.{◌==◌, ◌||◌}
 use Rattle.std.proofs.lemmas.Bool.{cases_lt, both_ways, or_left, or_right, le-ltb}
 use Rattle.std.proofs.lemmas.List.{get_or_past}
@@ -9,6 +9,7 @@ use Rattle.paged_volume.specs.Layout.{least_indexed, capacity_pages}
 use Rattle.paged_volume.specs.Found.{numbers_of, unnamed}
 use Rattle.paged_volume.specs.Staging.{HasPages}
 use Rattle.paged_volume.specs.Standing.{IsTable, IsSpare, IsPinned, AreUnnamed, HasNames, index_of, maps_of, map_names, logical_of, map_count}
+use Rattle.paged_volume.specs.Pinning.{IsPin}
 use Rattle.paged_volume.specs.Changing.{next_number, differs, one_of, is_changed}
 use Rattle.paged_volume.specs.Switching.{IsNext, StaysMap, MovesMap}
 use Rattle.paged_volume.specs.Planning.{depth_of, Follows, IsGiven, HasPlace, moves, stays, IsChosen, IsPlanned}
@@ -17,6 +18,7 @@ use Rattle.paged_volume.specs.declared.committed.Committed.{Committed}
 use Rattle.paged_volume.proofs.Bounds.{are_low}
 use Rattle.paged_volume.proofs.Numbers.{names_append, are_same, unnamed_low}
 use Rattle.paged_volume.proofs.Tables.{none_names, names_nothing, unnamed_at, or_both, unnamed_is_not, both_or, once_apart, names_at_index, staged_low}
+use Rattle.paged_volume.proofs.PinLaws.{pin_same}
 use Rattle.paged_volume.proofs.Changed.{next_below, next_past, same_by, unchanged}
 use Rattle.paged_volume.proofs.Staying.{IsApart, apart_spare, not_named, not_pinned}
 
@@ -216,7 +218,7 @@ module _ (table : Table) (next : Committed) (now : MapView) (items : List ℕ) (
   module _ (new : MapView) (other : Table) (names_are : other.next.items ≡ items) (committed : new.committed ≡ table.map.committed) (pins : new.pins ≡ table.map.pins) (free : length new.free ≡ length table.map.free)
       (size : length new.staged ≡ length table.map.staged) (staged : (page : ℕ) → get_or new.staged page 0 ≡ next_number table.map (logical_of next) page) where
     planned : Table
-    planned = record { committed = table.committed; map = new; named = table.named; next = other.next }
+    planned = record { committed = table.committed; map = new; named = table.named; next = other.next; pins = table.pins }
 
     spare_as : (page : ℕ) → IsSpare table page → IsSpare planned page
     unfolding planned
@@ -285,11 +287,14 @@ module _ (table : Table) (next : Committed) (now : MapView) (items : List ℕ) (
       };
       free = free ∙ is.pages;
       pinned = λ page some pinned. subst (λ (xs : List ℕ). IsPinned next xs page) (sym names_are) (chosen_pinned page some (ap (λ (lists : List (List ℕ)). one_names lists page) (sym pins) ∙ pinned));
+      pin_count = is.pin_count ∙ ap (λ (lists : List (List ℕ)). length lists) (sym pins);
+      pins = λ pin lt. pin_same table planned (get_or new.pins pin []) (get_or table.pins.items pin None) refl refl committed
+          (subst (λ (lists : List (List ℕ)). IsPin table (get_or lists pin []) (get_or table.pins.items pin None)) (sym pins) (is.pins pin (omega (arith, ap (λ (lists : List (List ℕ)). length lists) pins))));
       index = λ i lt. spare_as (index_of other.next.items i) (subst (λ (xs : List ℕ). IsSpare table (index_of xs i)) (sym names_are) (given_spare (index_of items i) (chosen.index i lt)));
       maps = planned_maps;
     }
 
-    pub is_planned : IsPlanned table next (record { committed = table.committed; map = new; named = table.named; next = other.next })
+    pub is_planned : IsPlanned table next (record { committed = table.committed; map = new; named = table.named; next = other.next; pins = table.pins })
     unfolding planned
     is_planned = record {
       ready = planned_next;
@@ -301,5 +306,6 @@ module _ (table : Table) (next : Committed) (now : MapView) (items : List ℕ) (
       };
       committed = refl;
       lists = (committed, pins);
+      pins = refl;
       staged = staged;
     }

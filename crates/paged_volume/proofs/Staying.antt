@@ -9,7 +9,8 @@ use Rattle.shadow_volume.specs.Layout.{number_at, root_at, selects}
 use Rattle.shadow_volume.proofs.Numbers.{number_torn}
 use Rattle.paged_volume.specs.Layout.{capacity_pages, maps_at}
 use Rattle.paged_volume.specs.Found.{bytes_named, numbers_of}
-use Rattle.paged_volume.specs.Standing.{IsFit, IsNamedOnce, IsSpare, Says, HasHead, HasRoot, HasNames, index_of, maps_of, map_names, place_by, logical_of, map_count, numbers_of_table, held_in, pinned_bytes}
+use Rattle.paged_volume.specs.Standing.{IsFit, IsNamedOnce, IsSpare, Says, HasHead, HasRoot, HasNames, index_of, maps_of, map_names, place_by, logical_of, map_count, numbers_of_table, held_in}
+use Rattle.paged_volume.specs.Pinning.{pinned_bytes}
 use Rattle.paged_volume.specs.declared.table.Table.{Table}
 use Rattle.paged_volume.proofs.Bounds.{are_low}
 use Rattle.paged_volume.proofs.Numbers.{names_append, unnamed_low}

@@ -10,6 +10,7 @@ use Rattle.page_map.proofs.PageLaws.{is_free_where, length_where, within, one_na
 use Rattle.paged_volume.specs.Layout.{capacity_pages, map_pages_of}
 use Rattle.paged_volume.specs.Found.{numbers_of, unnamed}
 use Rattle.paged_volume.specs.Standing.{IsFit, IsTable, IsPinned, IsBare, AreUnnamed, index_of, maps_of, map_names, logical_of, map_count, uses}
+use Rattle.paged_volume.specs.Pinning.{pin_of, pinned_list, IsPin}
 use Rattle.paged_volume.specs.Naming.{IsNaming}
 use Rattle.paged_volume.specs.declared.table.Table.{Table}
 use Rattle.paged_volume.specs.declared.committed.Committed.{Committed}
@@ -183,7 +184,7 @@ module _ (table : Table) (is : IsSettling table.committed table.map table.named.
   differs list page number none named same = both_ways (names list page) none (subst (λ (n : ℕ). names list n ≡ true) same named)
 
   settled_table : Table
-  settled_table = record { committed = table.committed; map = settled table.map table.named.items; named = table.named; next = table.next }
+  settled_table = record { committed = table.committed; map = settled table.map table.named.items; named = table.named; next = table.next; pins = table.pins }
 
   free_is_spare : (page : ℕ) → is_free (settled table.map table.named.items).free page ≡ true →
       (is_free (unnamed table.committed.pages (map_names table.committed.depth table.named.items (map_count table.committed) ++ numbers_of (λ page. get_or table.map.staged page 0) (logical_of table.committed))) page ≡ true)
@@ -244,9 +245,11 @@ module _ (table : Table) (is : IsSettling table.committed table.map table.named.
       below : (page : ℕ) → 1 ≤ get_or table.map.staged page 0 → page < logical_of table.committed
       below page some = elim (cases_lt page (logical_of table.committed)) [ inl lt ↦ lt | inr past ↦ absurd (omega (arith, is.bare page past)) ]
 
-  pub settled_is_table : length table.next.items ≡ length table.named.items → IsTable (record { committed = table.committed; map = settled table.map table.named.items; named = table.named; next = table.next })
+  pub settled_is_table : length table.next.items ≡ length table.named.items → length table.pins.items ≡ length table.map.pins →
+      ((pin : ℕ) → pin < length table.map.pins → IsPin (record { committed = table.committed; map = settled table.map table.named.items; named = table.named; next = table.next; pins = table.pins }) (pinned_list table pin) (pin_of table pin)) →
+      IsTable (record { committed = table.committed; map = settled table.map table.named.items; named = table.named; next = table.next; pins = table.pins })
   unfolding settled_table
-  settled_is_table nexts = record {
+  settled_is_table nexts pin_count pins = record {
     fit = is.fit;
     commits = is.commits;
     logical = is.staged;
@@ -259,6 +262,8 @@ module _ (table : Table) (is : IsSettling table.committed table.map table.named.
     held = λ page free. let both = free_is_spare page free in record { unnamed_is = both.0; unpinned = both.1 };
     used = in_use;
     pinned = is.pinned;
+    pin_count = pin_count;
+    pins = pins;
     apart = λ one other lt below same some. settled_apart one other same some;
     staged = λ page. inl refl;
   }
@@ -273,4 +278,17 @@ staged_low table is page some = elim (is.staged page) [
     | inr past ↦ absurd (some (same ∙ is.once.bare page past))
   ]
   | inr spare ↦ unnamed_low table.committed.pages _ (get_or table.map.staged page 0) spare.unnamed_is
+]
+
+pub staged_below : (table : Table) → IsTable table → (page : ℕ) → get_or table.map.staged page 0 < table.committed.pages
+staged_below table is page = elim (cases_eq (get_or table.map.staged page 0) 0) [
+  | inl none ↦ let least = is.fit.head.least in omega arith
+  | inr some ↦ (staged_low table is page some).1
+]
+
+-- a page that is committed is staged
+pub committed_staged : (table : Table) → IsTable table → (page : ℕ) → page < logical_of table.committed → 1 ≤ get_or table.map.staged page 0
+committed_staged table is page lt = elim (is.staged page) [
+  | inl same ↦ let low = unnamed_low table.committed.pages _ (get_or table.map.committed page 0) (is.once.pages page lt) in omega (arith, low.0, same)
+  | inr spare ↦ let low = unnamed_low table.committed.pages _ (get_or table.map.staged page 0) spare.unnamed_is in omega (arith, low.0)
 ]

@@ -28,7 +28,7 @@ between_none at found low high least most =
 pages_none : (present pages : ℕ) → pages ≤ present → wants_pages present pages ≡ None
 pages_none present pages some = ap (λ (b : Bool). if b then Some (damage 8 present pages) else None) (le-ltb present pages some)
 
-none_some : {A B : Type 0} {x : A} → Some x ≡ None → B
+pub none_some : {A B : Type 0} {x : A} → Some x ≡ None → B
 none_some e = absurd (subst (λ (o : Option _). is_some o) e tt)
   where
     is_some : {A : Type 0} → Option A → Type 0

@@ -1,11 +1,12 @@
 -- What a switch makes of what is held.
-use Rattle.std.specs.Prelude.{◌≡◌, ◌⊎◌, ℕ, ◌+◌, ◌/◌, ◌<◌, ◌≤◌, Bool, false, List, Option, Result, OnOk}
+use Rattle.std.specs.Prelude.{◌≡◌, ◌⊎◌, ℕ, ◌+◌, ◌/◌, ◌<◌, ◌≤◌, Bool, false, List, map, Option, Result, OnOk}
 use Rattle.ps_port.specs.ps_outside.Outside.{Outside, Leaves, TellsNothing, Rose}
 use Rattle.page_map.specs.Pages.{held_of}
 use Rattle.page_map.specs.Map.{MapView}
 use Rattle.shadow_volume.specs.Found.{Held}
 use Rattle.shadow_volume.specs.Standing.{saved}
 use Rattle.shadow_volume.specs.Switching.{Was}
+use Rattle.paged_volume.specs.Pinning.{outdated, AreLatest}
 use Rattle.paged_volume.specs.Standing.{IsTable, Says, with_zeros}
 use Rattle.paged_volume.specs.Switching.{next_table}
 use Rattle.paged_volume.specs.Planning.{wanted_pages}
@@ -35,11 +36,12 @@ pub record TakesCalls (old new : Outside (List ℕ)) (map : MapView) (next : Com
 abbrev pub HasRoom : Table → Committed → Type 0
 HasRoom table next = held_of table.map.free + wanted_pages table.map next ≤ table.committed.pages
 
--- Why nothing is committed: the device failed, and the volume isn't alive then; or there are too few pages, and all is as before.
+-- Why nothing is committed: the device failed, and the volume isn't alive then; or there are too few pages, since a pin holds an older list,
+-- and all is as before.
 abbrev pub IsSwitchFault : {H : Type 0} → (H → Outside (List ℕ)) → H → H → Bool → Bool → Table → Table → Committed → VolumeFault → Type 0
 IsSwitchFault outside old new lived lives table now next Device = Rose (outside old).device_faults (outside new).device_faults × (lives ≡ false) × HasRoom table next
 IsSwitchFault outside old new lived lives table now next (Full held wanted pages) =
-    (new ≡ old) × (lives ≡ lived) × (now ≡ table) × (held ≡ held_of table.map.free) × (wanted ≡ wanted_pages table.map next) × (pages ≡ table.committed.pages) × (pages < held + wanted)
+    (new ≡ old) × (lives ≡ lived) × (now ≡ table) × (held ≡ held_of table.map.free) × (wanted ≡ wanted_pages table.map next) × (pages ≡ table.committed.pages) × (pages < held + wanted) × ¬ AreLatest table
 
 -- what is committed next is committed, and nothing is staged
 pub record IsTurned (old : Table) (next : Committed) (new : Table) : Type 0 where
@@ -48,3 +50,4 @@ pub record IsTurned (old : Table) (next : Committed) (new : Table) : Type 0 wher
   pub committed : new.committed ≡ next
   pub blank : new.map.staged ≡ new.map.committed
   pub lists : (new.map.committed ≡ old.map.staged) × (new.map.pins ≡ old.map.pins)
+  pub pins : new.pins.items ≡ map outdated old.pins.items

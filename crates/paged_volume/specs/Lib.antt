@@ -1,5 +1,6 @@
 pub mod Layout
 pub mod Found
+pub mod Pinning
 pub mod Standing
 pub mod Attaching
 pub mod Naming

@@ -69,4 +69,5 @@ pub record IsPlanned (old : Table) (next : Committed) (new : Table) : Type 0 whe
   pub says : (image : List ℕ) → Says old image → Says new image
   pub committed : new.committed ≡ old.committed
   pub lists : (new.map.committed ≡ old.map.committed) × (new.map.pins ≡ old.map.pins)
+  pub pins : new.pins.items ≡ old.pins.items
   pub staged : (page : ℕ) → slice_index new.map.staged page ≡ next_number old.map (logical_of next) page

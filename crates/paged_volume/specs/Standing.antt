@@ -1,5 +1,5 @@
 -- What an attached volume knows of its file, and how it is seen from above.
-use Rattle.std.specs.Prelude.{◌≡◌, ◌⊎◌, ℕ, ◌+◌, ◌-◌, ◌*◌, ◌/◌, ◌^◌, ◌<◌, ◌≤◌, Bool, true, false, ◌||◌, List, [], ◌++◌, length, replicate, slice_index, slice_index_or, Option, Some, None}
+use Rattle.std.specs.Prelude.{◌≡◌, ◌⊎◌, ℕ, ◌+◌, ◌-◌, ◌*◌, ◌/◌, ◌^◌, ◌<◌, ◌≤◌, Bool, true, false, ◌||◌, List, [], ◌++◌, length, replicate, slice_index, Option, Some, None}
 use Rattle.ps_port.specs.ps_outside.Outside.{Outside, After}
 use Rattle.page_map.specs.Pages.{is_free, names, one_names}
 use Rattle.shadow_volume.specs.Layout.{number_at, magic, gate, selects, root_at, pages_of_words}
@@ -7,6 +7,7 @@ use Rattle.shadow_volume.specs.Found.{Held, note_at}
 use Rattle.shadow_volume.specs.declared.note.Note.{Note}
 use Rattle.paged_volume.specs.Layout.{most_pages_of, least_indexed, capacity_pages, capacity_of, map_pages_of, depth_at, maps_at, in_map_page, index_number}
 use Rattle.paged_volume.specs.Found.{Found, a_volume, no_volume, damaged, found_in, numbers_of, unnamed, bytes_named}
+use Rattle.paged_volume.specs.Pinning.{pin_of, pinned_list, IsPin}
 use Rattle.paged_volume.specs.declared.committed.Committed.{Committed}
 use Rattle.paged_volume.specs.declared.table.Table.{Table}
 
@@ -117,6 +118,8 @@ pub record IsTable (table : Table) : Type 0 where
   pub held : (page : ℕ) → is_free table.map.free page ≡ true → IsSpare table page
   pub used : (page : ℕ) → 4 ≤ page → page < table.committed.pages → is_free table.map.free page ≡ false → uses table page ≡ true
   pub pinned : (page : ℕ) → 1 ≤ page → one_names table.map.pins page ≡ true → IsPinned table.committed table.named.items page
+  pub pin_count : length table.pins.items ≡ length table.map.pins
+  pub pins : (pin : ℕ) → pin < length table.map.pins → IsPin table (pinned_list table pin) (pin_of table pin)
   pub apart : (one other : ℕ) → one < length table.map.staged → other < length table.map.staged → slice_index table.map.staged one ≡ slice_index table.map.staged other →
       1 ≤ slice_index table.map.staged one → one ≡ other
   pub staged : (page : ℕ) → (slice_index table.map.staged page ≡ slice_index table.map.committed page) ⊎ IsSpare table (slice_index table.map.staged page)
@@ -149,10 +152,6 @@ staged_bytes table image = bytes_named (slice_index table.map.staged) (capacity_
 
 abbrev pub staged_in : Table → List ℕ → Held
 staged_in table image = record { note = table.committed.note; bytes = staged_bytes table image }
-
--- the pages that a pin holds
-unfoldable pub pinned_bytes : Table → ℕ → List ℕ → List ℕ
-pinned_bytes table pin image = bytes_named (slice_index (slice_index_or table.map.pins pin [])) (capacity_pages table.committed.pages) image
 
 abbrev pub committed_in : Table → List ℕ → Held
 committed_in table image = record { note = table.committed.note; bytes = bytes_named (slice_index table.map.committed) (logical_of table.committed) image }

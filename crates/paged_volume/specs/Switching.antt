@@ -7,7 +7,8 @@ use Rattle.shadow_volume.specs.Found.{note_at}
 use Rattle.paged_volume.specs.Layout.{capacity_pages, map_pages_of}
 use Rattle.paged_volume.specs.Found.{numbers_of}
 use Rattle.paged_volume.specs.Changing.{is_changed}
-use Rattle.paged_volume.specs.Standing.{IsFit, IsNamedOnce, IsSpare, IsPinned, IsBare, AreUnnamed, Says, index_of, maps_of, map_names, place_by, logical_of, map_count, held_in, staged_bytes, pinned_bytes}
+use Rattle.paged_volume.specs.Standing.{IsFit, IsNamedOnce, IsSpare, IsPinned, IsBare, AreUnnamed, Says, index_of, maps_of, map_names, place_by, logical_of, map_count, held_in, staged_bytes}
+use Rattle.paged_volume.specs.Pinning.{pin_of, pinned_list, pinned_bytes, IsPin}
 use Rattle.paged_volume.specs.declared.table.Table.{Table}
 use Rattle.paged_volume.specs.declared.committed.Committed.{Committed}
 
@@ -44,6 +45,8 @@ pub record IsNext (table : Table) (next : Committed) : Type 0 where
   pub bare_names : IsBare next table.next.items
   pub free : length table.map.free ≡ table.committed.pages
   pub pinned : (page : ℕ) → 1 ≤ page → one_names table.map.pins page ≡ true → IsPinned next table.next.items page
+  pub pin_count : length table.pins.items ≡ length table.map.pins
+  pub pins : (pin : ℕ) → pin < length table.map.pins → IsPin table (pinned_list table pin) (pin_of table pin)
   pub index : (i : ℕ) → i < next.depth → IsSpare table (index_of table.next.items i)
   pub maps : (map_page : ℕ) → map_page < map_count next → StaysMap table next map_page ⊎ MovesMap table next map_page
 
@@ -97,7 +100,7 @@ pub record IsRooted (outside : Outside (List ℕ)) (table : Table) (next : Commi
 
 -- the table of what is committed next
 abbrev pub next_table : Table → Committed → Table
-next_table table next = record { committed = next; map = record (table.map) { committed = table.map.staged }; named = table.next; next = table.next }
+next_table table next = record { committed = next; map = record (table.map) { committed = table.map.staged }; named = table.next; next = table.next; pins = table.pins }
 
 -- the new content is committed
 pub record IsSwitched (outside : Outside (List ℕ)) (table : Table) (next : Committed) (image : List ℕ) : Type 0 where

@@ -13,6 +13,7 @@ use crate::changing::{changed_pages, is_changed, trim};
 use crate::committed::Committed;
 use crate::layout::LEAST_INDEXED;
 use crate::names::{logical_of, map_count};
+use crate::pinning::outdate;
 use crate::table::Table;
 use page_map::PageMap;
 use shadow_volume::Note;
@@ -103,4 +104,5 @@ pub fn turn(table: &mut Table, next: Committed)
     table.map.settle(&table.next);
     table.named.copy_from_slice(&table.next);
     table.committed = next;
+    outdate(&mut table.pins);
 }

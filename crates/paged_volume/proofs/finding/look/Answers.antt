@@ -31,7 +31,7 @@ returns-clause-table g c =
     let named : length c.read_names.new.table.named.items ≡ length new.named.items =
     c.in-Ok-read_names.ensures.naming.names ∙ ap (λ (k : Committed). 1 + map_pages_of (capacity_pages k.pages)) c.read_names.ensures.committed ∙ sym c.in-Ok-new_table.ensures.naming.names in
     settled_table_is c.read_names.new.table c.settle.new.self c.deref.result.now c.in-Ok-new_table.table.committed c.read_names.ensures.committed c.in-Ok-read_names.ensures.naming
-    (ap (λ (xs : List ℕ). length xs) c.read_names.ensures.next ∙ c.in-Ok-new_table.ensures.next ∙ sym named) c.deref.ensures.value c.settle.ensures
+    (ap (λ (xs : List ℕ). length xs) c.read_names.ensures.next ∙ c.in-Ok-new_table.ensures.next ∙ sym named) (c.read_names.ensures.pins ∙ c.in-Ok-new_table.ensures.pins) c.deref.ensures.value c.settle.ensures
 
 pub returns-clause-says : goal.returns-clause-says
 returns-clause-says g c = λ bytes now.

@@ -12,6 +12,7 @@ loop-map_page-init g c = record {
   committed = refl;
   named = refl;
   next = refl;
+  pins = refl;
   pages = λ bytes now page lt. absurd (omega arith);
   looks = looks_none (g.H.Host.outside c.args.host.now) 0;
 }
@@ -58,6 +59,7 @@ loop-map_page-preserved g c =
       committed = c.read_map.ensures.committed ∙ inv.committed;
       named = c.read_map.ensures.named ∙ inv.named;
       next = c.read_map.ensures.next ∙ inv.next;
+      pins = c.read_map.ensures.pins ∙ inv.pins;
       pages = pages_more (o c.args.host.now) (o c.loop-map_page.host) c.loop-map_page.table c.args.table.now c.read_map.new.table c.loop-map_page.map_page (omega (arith, c.map_count-map_page-end.ensures)) inv.committed inv.named inv.looks inv.pages
           c.read_map.ensures.stays is.pages;
       looks = looks_then (o c.args.host.now) (o c.loop-map_page.host) (o c.read_map.new.host) c.loop-map_page.map_page 1 (c.loop-map_page.map_page + 1) inv.looks c.read_map.ensures.looks (omega arith);
@@ -83,3 +85,6 @@ returns-clause-looks g c =
 
 pub returns-in-Err-clause-next : goal.returns-in-Err-clause-next
 returns-in-Err-clause-next g c = c.read_map.ensures.next ∙ c.loop-map_page.invariant.next
+
+pub returns-in-Err-clause-pins : goal.returns-in-Err-clause-pins
+returns-in-Err-clause-pins g c = c.read_map.ensures.pins ∙ c.loop-map_page.invariant.pins

@@ -15,6 +15,7 @@ invariant-loop-map_page g l =
       committed : l.table.committed ≡ says;
       named : l.table.named.items ≡ l.fn.table.named.items;
       next : l.table.next.items ≡ l.fn.table.next.items;
+      pins : l.table.pins.items ≡ l.fn.table.pins.items;
       pages : (bytes : List ℕ) → (outside l.fn.host).contents bytes → (page : ℕ) → page < min (logical_of says) (1024 * l.map_page) →
           number_at (place_by l.fn.table.named.items page) 4 bytes ≡ slice_index l.table.map.staged page;
       looks : Looks (outside l.fn.host) (outside l.host) l.map_page;

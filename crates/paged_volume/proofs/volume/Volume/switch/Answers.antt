@@ -1,4 +1,4 @@
-use Rattle.std.proofs.Common.{◌≤◌, ◌+◌, ℕ, List, subst, ap, arith}
+use Rattle.std.proofs.Common.{◌≤◌, ◌+◌, ℕ, List, subst, ap, arith, refl, ◌∙◌}
 use Rattle.std.proofs.lemmas.List.Sums.{count_by-le-length}
 use Rattle.std.specs.Prelude.{not}
 use Rattle.ps_port.specs.ps_outside.Outside.{Leaves}
@@ -9,6 +9,7 @@ use Rattle.paged_volume.specs.Committing.{IsTurned}
 use Rattle.paged_volume.specs.declared.committed.Committed.{Committed}
 use Rattle.paged_volume.proofs.Bounds.{are_low}
 use Rattle.paged_volume.proofs.Changed.{changed_most}
+use Rattle.paged_volume.proofs.Room.{latest_room}
 use Rattle.paged_volume.proofs.Committing.{follows_switched, seen_images, seen_kept, seen_holds, seen_stays, switched_alive, pinned_stay, takes_calls}
 use Rattle.paged_volume.proofs.volume.Volume.switch.Goals as goal
 
@@ -64,7 +65,7 @@ returns-in-Ok-clause-pinned g c =
     let plan = subst (λ (k : Committed). IsPlanned v.table k c.plan.new.table) c.next_committed-next.ensures c.plan.ensures in
     let done = subst (λ (k : Committed). (image : List ℕ) → b.images b.clock image → IsSwitched a c.plan.new.table k image) c.next_committed-next.ensures c.in-Ok.ensures.switched in
     let turned = subst (λ (k : Committed). IsTurned c.plan.new.table k c.turn.new.table) c.next_committed-next.ensures c.turn.ensures in
-    pinned_stay a b v.table c.plan.new.table c.args.used c.args.directory c.requires.alive.is_table follows plan c.turn.new.table done turned (g.met.H.Host.is_image c.switch_to.new.host)
+    pinned_stay a b v.table c.plan.new.table c.args.used c.args.directory c.requires.alive.is_table follows plan c.turn.new.table done turned (g.met.H.Host.is_image c.switch_to.new.host) (g.met.H.Host.one v.host) c.in-Ok.ensures.stays
 
 pub returns-in-Ok-clause-alive : goal.returns-in-Ok-clause-alive
 returns-in-Ok-clause-alive g c =
@@ -106,3 +107,12 @@ returns-in-Err-clause-calls g c =
     let plan = subst (λ (k : Committed). IsPlanned v.table k c.plan.new.table) c.next_committed-next.ensures c.plan.ensures in
     takes_calls a b v.table c.plan.new.table c.args.used c.args.directory c.requires.alive.is_table follows plan
     (subst (λ (k : Committed). b.device_calls ≤ a.device_calls + (wanted_pages c.plan.new.table.map k + 5)) c.next_committed-next.ensures c.switch_to.ensures.calls)
+
+pub returns-then-pages-held-clause-fault : goal.returns-then-pages-held-clause-fault
+returns-then-pages-held-clause-fault g c =
+    let t = c.args.self.now.table in
+    let next = switched c.args.used c.args.directory t.committed in
+    let wanted = c.wanted_pages-wanted.ensures ∙ ap (λ (k : Committed). wanted_pages t.map k) c.next_committed-next.ensures in
+    let more = c.if-pages-held.true in
+    let follows = follows_switched t.committed c.args.used c.args.directory c.requires.alive.is_table.fit c.requires.used.0 c.requires.used.1 c.requires.directory in
+    (refl, refl, refl, c.held-held.ensures, wanted, refl, more, λ latest. let room = latest_room t c.requires.alive.is_table latest next follows in absurd (omega (arith, wanted, c.held-held.ensures)))
