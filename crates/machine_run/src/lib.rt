@@ -9,8 +9,7 @@ pub mod run;
 mod steps;
 mod tell;
 
-pub use machine_core::{Machine, RunEnd};
-pub use machine_core::{ps_code, swizzle};
+pub use machine_core::{Machine, RunEnd, ps_code, swizzle};
 pub use steps::step;
 pub use vault_output;
 pub use vault_output::obj_layout;

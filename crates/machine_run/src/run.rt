@@ -131,11 +131,7 @@ fn wrote<V: Vault>(m: &Machine, vault: &mut V, output: &mut Output) -> bool
 }
 
 // Writes the report of an end, after what is pending.
-fn finish<V: Vault>(
-    end: RunEnd,
-    vault: &mut V,
-    output: &mut Output,
-) -> Result<RunEnd, SwizzleFault>
+fn finish<V: Vault>(end: RunEnd, vault: &mut V, output: &mut Output) -> Result<RunEnd, SwizzleFault>
     requires { V.alive vault.old }
     ensures reports { Reports (V.outside vault.old) (V.outside vault.new) output.old output.new end result }
     ensures leaves { LeavesAll (V.outside vault.old) (V.outside vault.new) }

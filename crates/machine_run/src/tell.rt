@@ -39,9 +39,7 @@ pub(crate) fn writing<V: Vault>(
         }
         Item::Flag(true) => placed(output, vault, writing.width, b"true"),
         Item::Flag(false) => placed(output, vault, writing.width, b"false"),
-        Item::Text(at) => {
-            placed(output, vault, writing.width, objects.text_bytes::<V>(at))
-        }
+        Item::Text(at) => { placed(output, vault, writing.width, objects.text_bytes::<V>(at)) }
     }
 }
 

@@ -1,18 +1,18 @@
 -- There is room for a commit, unless a pin holds an older list.
-use Rattle.std.proofs.Common.{◌≡◌, ◌≢◌, ◌⊎◌, inl, inr, ℕ, zero, suc, ◌+◌, ◌-◌, ◌*◌, ◌<◌, ◌≤◌, Bool, true, false, not, cond, ◌||◌, List, [], ◌∷◌, ◌++◌, length, get_or, set, replicate, refl, sym, ◌∙◌, ap, subst, arith, length-append, length-set, get_or-set_same, get_or-set_other, Option, None}
+use Rattle.std.proofs.Common.{◌≡◌, ◌⊎◌, inl, inr, ℕ, suc, ◌+◌, ◌<◌, ◌≤◌, Bool, true, false, not, cond, ◌||◌, List, [], ◌∷◌, ◌++◌, length, get_or, set, replicate, refl, sym, ◌∙◌, ap, subst, arith, length-append, length-set, get_or-set_same, get_or-set_other, Option}
 use Rattle.std.specs.Prelude.{◌==◌}
 use Rattle.std.specs.List.{list_any}
 use Rattle.std.proofs.lemmas.Bool.{cases_lt, cases_eq, both_ways, eq-eqb, eqb-true, or_cases, or_left, or_right}
-use Rattle.std.proofs.lemmas.List.{same_lists, get_or_default, get_or-replicate, get_or_past, length-replicate}
+use Rattle.std.proofs.lemmas.List.{same_lists, get_or_default, get_or-replicate, length-replicate}
 use Rattle.std.proofs.lemmas.List.Folds.{sum_by-replicate}
 use Rattle.page_map.specs.Pages.{is_free, held_of, names, one_names, no_pages}
 use Rattle.page_map.proofs.PageLaws.{held_released}
 use Rattle.page_map.proofs.MapLaws.{names_no_pages}
 use Rattle.paged_volume.specs.Layout.{capacity_pages, map_pages_of}
 use Rattle.paged_volume.specs.Found.{numbers_of}
-use Rattle.paged_volume.specs.Standing.{IsTable, index_of, maps_of, map_names, logical_of, map_count, numbers_of_table}
-use Rattle.paged_volume.specs.Pinning.{pinned_list, pin_of, IsPin, AreLatest}
-use Rattle.paged_volume.specs.Planning.{Follows, wanted_pages}
+use Rattle.paged_volume.specs.Standing.{IsTable, index_of, maps_of, logical_of, map_count, numbers_of_table}
+use Rattle.paged_volume.specs.Pinning.{IsPin, AreLatest}
+use Rattle.paged_volume.specs.Planning.{Follows}
 use Rattle.paged_volume.specs.Committing.{HasRoom}
 use Rattle.paged_volume.specs.declared.pinned.Pinned.{Pinned}
 use Rattle.paged_volume.specs.declared.table.Table.{Table}
@@ -129,21 +129,29 @@ module _ (table : Table) (is : IsTable table) (latest : AreLatest table) where
       let pages = numbers_of (λ page. get_or table.map.committed page 0) (logical_of table.committed) in
       let lists = is.lists in
       let logical = is.logical in
-      omega (arith, length-append four rest, length-append (numbers_of_table table) table.map.staged, length-append (index ++ maps) pages, length-append index maps, length_numbers (index_of table.named.items) table.committed.depth,
-      length_numbers (maps_of table.named.items) (map_count table.committed), length_numbers (λ page. get_or table.map.committed page 0) (logical_of table.committed),
-      held_most (four ++ rest) table.map.free (λ page lt in_use. names_append four rest page ∙ elim (cases_lt page 4) [
-        | inl first ↦ or_left (names four page) (names rest page) (is_first page first)
-        | inr high ↦
-            let size = is.pages in
-            or_right (names four page) (names rest page) (names_append (numbers_of_table table) table.map.staged page
-            ∙ elim (or_cases (names (numbers_of_table table) page) (names table.map.staged page || one_names table.map.pins page) (is.used page high (omega arith) in_use)) [
-              | inl committed ↦ or_left (names (numbers_of_table table) page) (names table.map.staged page) committed
-              | inr more ↦ elim (or_cases (names table.map.staged page) (one_names table.map.pins page) more) [
-                | inl staged ↦ or_right (names (numbers_of_table table) page) (names table.map.staged page) staged
-                | inr pinned ↦ or_left (names (numbers_of_table table) page) (names table.map.staged page) (committed_used table is page high (pinned_committed page (omega arith) pinned))
-              ]
-            ])
-      ]))
+      omega (
+        arith,
+        length-append four rest,
+        length-append (numbers_of_table table) table.map.staged,
+        length-append (index ++ maps) pages,
+        length-append index maps,
+        length_numbers (index_of table.named.items) table.committed.depth,
+        length_numbers (maps_of table.named.items) (map_count table.committed),
+        length_numbers (λ page. get_or table.map.committed page 0) (logical_of table.committed),
+        held_most (four ++ rest) table.map.free (λ page lt in_use. names_append four rest page ∙ elim (cases_lt page 4) [
+          | inl first ↦ or_left (names four page) (names rest page) (is_first page first)
+          | inr high ↦
+              let size = is.pages in
+              or_right (names four page) (names rest page) (names_append (numbers_of_table table) table.map.staged page
+              ∙ elim (or_cases (names (numbers_of_table table) page) (names table.map.staged page || one_names table.map.pins page) (is.used page high (omega arith) in_use)) [
+                | inl committed ↦ or_left (names (numbers_of_table table) page) (names table.map.staged page) committed
+                | inr more ↦ elim (or_cases (names table.map.staged page) (one_names table.map.pins page) more) [
+                  | inl staged ↦ or_right (names (numbers_of_table table) page) (names table.map.staged page) staged
+                  | inr pinned ↦ or_left (names (numbers_of_table table) page) (names table.map.staged page) (committed_used table is page high (pinned_committed page (omega arith) pinned))
+                ]
+              ])
+        ]),
+      )
 
   -- what is left
   room : (depth : ℕ) → (table.committed.pages < 88 → depth ≡ 0) → depth ≤ 1 → held_of table.map.free + (map_pages_of (capacity_pages table.committed.pages) + depth) ≤ table.committed.pages

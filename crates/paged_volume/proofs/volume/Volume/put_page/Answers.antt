@@ -1,4 +1,4 @@
-use Rattle.std.proofs.Common.{◌≡◌, refl, ◌∙◌, ap}
+use Rattle.std.proofs.Common.{refl, ◌∙◌, ap}
 use Rattle.page_map.specs.Pages.{held_of}
 use Rattle.page_map.specs.Map.{MapView, with_staged}
 use Rattle.paged_volume.proofs.Room.{latest_free}
