@@ -1,12 +1,11 @@
 -- What is known of a run between two steps.
-use Rattle.std.proofs.Common.{◌≡◌, ◌⊎◌, inl, inr, ℕ, Bool, true, false, ◌+◌, ◌*◌, ◌-◌, ◌<◌, ◌≤◌, ◌^◌, List, [], ◌∷◌, ◌++◌, length, refl, sym, ap, ◌∙◌, subst, append_assoc, arith}
+use Rattle.std.proofs.Common.{◌≡◌, ◌⊎◌, inl, inr, ℕ, Bool, true, false, ◌+◌, ◌*◌, ◌<◌, ◌≤◌, ◌^◌, List, [], ◌∷◌, ◌++◌, length, refl, sym, ap, ◌∙◌, subst, append_assoc, arith}
 use Rattle.std.specs.Prelude.{Result, Ok, Err}
 use Rattle.std.proofs.lemmas.List.{append-nil}
 use Rattle.ps_port.specs.ps_outside.Outside.{Outside, SameContents, Rose}
 use Rattle.vault_output.specs.obj_layout.Stored.{Space}
 use Rattle.vault_output.specs.obj_layout.declared.vault.VaultFault.TheVariants.{Device, Output, Full, Damaged}
 use Rattle.machine_core.specs.swizzle.Reading.{LeavesOutside, FailsReading}
-use Rattle.machine_core.specs.swizzle.Heap as area
 use Rattle.machine_core.specs.swizzle.Heap.{IsHeap, object_at}
 use Rattle.machine_core.specs.swizzle.declared.fault.SwizzleFault.{SwizzleFault}
 use Rattle.machine_core.specs.swizzle.declared.fault.SwizzleFault.TheVariants.{AreaFull, Vault}
@@ -16,7 +15,7 @@ use Rattle.machine_core.proofs.of_swizzle.TextLaws.{length-text}
 use Rattle.machine_core.specs.ps_meaning.Event.{Event, Turn, outputs, output_of, report_of}
 use Rattle.machine_core.specs.ps_meaning.Meaning.{some_out}
 use Rattle.machine_core.specs.ps_stepping.Config.{Config, code_in}
-use Rattle.machine_core.specs.ps_stepping.Machine.{Step, Goes, Stops, Stuck, Steps}
+use Rattle.machine_core.specs.ps_stepping.Machine.{Step, Goes, Steps}
 use Rattle.machine_core.specs.ps_stepping.Path.{Reaches, no_step, more}
 use Rattle.machine_core.specs.declared.machine.Machine.{Machine}
 use Rattle.machine_core.specs.declared.run_end.RunEnd.{RunEnd}
@@ -28,7 +27,7 @@ use Rattle.machine_core.specs.Full.{BreaksBy}
 use Rattle.machine_core.specs.Stepped.{text_of, end_of, TakesStep}
 use Rattle.machine_core.proofs.Callers.{as-many}
 use Rattle.machine_core.proofs.Carrying.{breaks-earlier}
-use Rattle.machine_run.specs.Ran.{LeavesAll, IsCause, TellsFirst, TellsAll, TellsBut, FailsAfter, Ran, ended, broke, cut, report_cut}
+use Rattle.machine_run.specs.Ran.{LeavesAll, IsCause, TellsBut, FailsAfter, Ran, ended, broke, cut, report_cut}
 use Rattle.machine_run.specs.inside.Advancing.{Advances, SendsOn, advanced_where, Reports, BlamesCode}
 use Rattle.machine_run.specs.declared.run.Advanced.TheVariants.{On, Ended, Broke, Failed}
 use Rattle.machine_run.proofs.Telling.{all-then, all-none, but-leaves, but-then, but-fails, leaves-but, leaves-fails}

@@ -1,5 +1,5 @@
 -- How many bytes are counted at the events of a run that are still to come.
-use Rattle.std.proofs.Common.{◌≡◌, ℕ, ◌≤◌, List, [], ◌∷◌, ◌++◌, refl, ap, ◌∙◌, append_assoc, arith}
+use Rattle.std.proofs.Common.{◌≡◌, ◌≤◌, List, [], ◌∷◌, ◌++◌, refl, ap, ◌∙◌, append_assoc, arith}
 use Rattle.std.proofs.lemmas.List.{append-nil}
 use Rattle.machine_core.specs.ps_meaning.Event.{Event, Finish, count_of}
 use Rattle.machine_core.specs.ps_stepping.Config.{Config}

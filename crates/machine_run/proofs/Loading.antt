@@ -1,5 +1,5 @@
 -- A machine at the start of a unit.
-use Rattle.std.proofs.Common.{◌≡◌, ℕ, ◌+◌, ◌*◌, ◌<◌, ◌≤◌, ℤ, pos, List, [], ◌∷◌, length, drop, replicate, get_or, Some, None, refl, sym, ap, ◌∙◌, subst, arith, rules}
+use Rattle.std.proofs.Common.{◌≡◌, ℕ, ◌≤◌, ℤ, pos, List, [], length, replicate, None, sym, ap, ◌∙◌, subst, arith, rules}
 use Rattle.std.specs.Prelude.{All, reverse}
 use Rattle.std.proofs.lemmas.List.{get_or-replicate, drop_all, length-replicate}
 use Rattle.std.proofs.lemmas.List.Elements.{All-nil, All-replicate}
@@ -14,8 +14,8 @@ use Rattle.machine_core.specs.swizzle.Heap.{top_of, fresh_heap}
 use Rattle.machine_core.specs.swizzle.Objects.{size_of}
 use Rattle.machine_core.specs.swizzle.declared.fault.SwizzleFault.{SwizzleFault}
 use Rattle.machine_core.specs.swizzle.declared.fault.SwizzleFault.TheVariants.{AreaFull}
-use Rattle.machine_core.specs.ps_meaning.Values.{Value, Nil}
-use Rattle.machine_core.specs.ps_stepping.Config.{frame_words, frame_in, start}
+use Rattle.machine_core.specs.ps_meaning.Values.{Nil}
+use Rattle.machine_core.specs.ps_stepping.Config.{frame_words, frame_in}
 use Rattle.machine_core.specs.heap_texts.Texts.{wanted_of}
 use Rattle.machine_core.specs.proc_values.Units.{IsCut, unit_objects}
 use Rattle.machine_core.specs.proc_values.Reading.{IsPlaceOf}
@@ -24,8 +24,6 @@ use Rattle.machine_core.specs.joint_ops.World.{IsWorld, IsUnitIn, DenotesIn, Den
 use Rattle.machine_core.specs.joint_ops.Code as code
 use Rattle.machine_core.specs.joint_ops.Code.{unit_weight}
 use Rattle.machine_core.specs.declared.machine.Machine.{Machine}
-use Rattle.machine_core.specs.declared.stepped.Item.{Item}
-use Rattle.machine_core.specs.declared.stepped.Item.TheVariants as item
 use Rattle.machine_core.specs.Items.{IsItem}
 use Rattle.machine_core.specs.Rows.{IsRow, IsRefRow, AreDenoted, object_in}
 use Rattle.machine_core.specs.declared.caller.Caller.{Caller}

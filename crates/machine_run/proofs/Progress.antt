@@ -1,6 +1,6 @@
 -- Each step brings a run nearer to its end: fewer turns are left, or as many and fewer bodies wait, or as many of both and fewer bytes of the code lie
 -- before it. And none lowers the count of bytes.
-use Rattle.std.proofs.Common.{◌≡◌, ℕ, zero, suc, ◌+◌, ◌*◌, ◌-◌, ◌<◌, ℤ, pos, ◌+ℤ◌, Bool, true, false, List, [], ◌∷◌, length, Option, Some, None, refl, ap, ◌∙◌, subst, arith, length-append, length-drop}
+use Rattle.std.proofs.Common.{◌≡◌, ℕ, zero, suc, ◌+◌, ◌-◌, ◌<◌, ℤ, pos, ◌+ℤ◌, Bool, true, false, List, [], ◌∷◌, length, Option, Some, None, refl, ap, subst, arith, length-append, length-drop}
 use Rattle.std.specs.Prelude.{◌≤◌, not, nat_lt, nat_eq, map, reverse, if◌then◌else◌}
 use Rattle.std.specs.Fmt.{signed_decimal}
 use Rattle.std.proofs.lemmas.Bool.{ltb-true}
@@ -27,7 +27,7 @@ use Rattle.machine_core.specs.text_forms.declared.forms.Form.{Form}
 use Rattle.machine_core.specs.text_forms.declared.forms.Form.TheVariants as form
 use Rattle.machine_core.specs.text_forms.Forms.{forms_of, form_in, element_of}
 use Rattle.machine_core.specs.ps_stepping.Steps.{text_of, text_in, attempted}
-use Rattle.machine_core.specs.ps_stepping.Objects.{holding, changed, make, make_text, denoting_of, object_of, pop_fields, when_number, when_reference, type_of, of_type, pop_nums, pop_refs, library, read_line, text_length, int_text, join, part, compare_texts, compare_objects, is_of_class, make_structure, field_num, field_ref, set_field_num, set_field_ref, fill_num, fill_ref, list_num, list_ref, element_num, element_ref, set_element_num, set_element_ref, pop_vector}
+use Rattle.machine_core.specs.ps_stepping.Objects.{holding, changed, make, make_text, denoting_of, object_of, pop_fields, when_number, when_reference, type_of, of_type, pop_nums, pop_refs, library, read_line, text_length, int_text, compare_texts, compare_objects, pop_vector}
 use Rattle.machine_core.specs.ps_stepping.Objects.{bound as bound_of}
 use Rattle.machine_core.specs.ps_stepping.Procedures.{of_scope, enter_scope, leave_scope, kept_num, kept_ref, keep_num, keep_ref, procedure_of, unit_called, takes_refs, in_turn, call}
 use Rattle.machine_core.specs.ps_stepping.Config.{Config, Caller, frame_words, code_in, constants_in, frame_in, constant_at}

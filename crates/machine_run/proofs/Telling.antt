@@ -1,8 +1,8 @@
 -- What is output, and what is pending, one call after another.
-use Rattle.std.proofs.Common.{◌≡◌, ℕ, ◌+◌, ◌≤◌, ℤ, List, [], ◌++◌, length, replicate, Option, Some, None, refl, sym, ap, ◌∙◌, subst, append_assoc, arith}
+use Rattle.std.proofs.Common.{◌≡◌, ℕ, ◌≤◌, ℤ, List, [], ◌++◌, length, replicate, Option, Some, None, refl, sym, ap, ◌∙◌, subst, append_assoc, arith}
 use Rattle.std.specs.Prelude.{Result, Ok, Err}
 use Rattle.std.proofs.lemmas.List.{append-nil}
-use Rattle.ps_port.specs.ps_outside.Outside.{Outside, Adds, AddsPrefix, TellsPrefix, ToldAll, SameContents, Rose}
+use Rattle.ps_port.specs.ps_outside.Outside.{Outside, Adds, AddsPrefix, SameContents, Rose}
 use Rattle.ps_port.proofs.of_ps_outside.Moments.{along_none, along_then, along_now, along_weaker}
 use Rattle.vault_output.specs.obj_layout.declared.vault.VaultFault.{VaultFault}
 use Rattle.vault_output.specs.obj_layout.declared.vault.VaultFault.TheVariants.{Output}

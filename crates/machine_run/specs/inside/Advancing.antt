@@ -11,13 +11,12 @@ use Rattle.machine_core.specs.ps_stepping.Config.{Config}
 use Rattle.machine_core.specs.ps_stepping.Machine.{Step, Goes, Stops, Steps}
 use Rattle.machine_core.specs.declared.machine.Machine.{Machine}
 use Rattle.machine_core.specs.declared.run_end.RunEnd.{RunEnd}
-use Rattle.machine_core.specs.Holding.{Holds, IsSound}
-use Rattle.machine_core.specs.Naming.{NamesObjects}
+use Rattle.machine_core.specs.Holding.{Holds}
 use Rattle.machine_core.specs.Full.{BreaksBy}
 use Rattle.machine_core.specs.Stepped.{end_of}
 use Rattle.machine_run.specs.declared.run.Advanced.{Advanced}
 use Rattle.machine_run.specs.declared.run.Advanced.TheVariants.{On, Ended, Broke, Failed}
-use Rattle.machine_run.specs.Ran.{LeavesAll, IsCause, TellsBut, FailsAfter}
+use Rattle.machine_run.specs.Ran.{IsCause, TellsBut, FailsAfter}
 
 -- what is so where a run goes on
 abbrev pub WhereOn : Advanced → Type 0 → Type 0

@@ -1,5 +1,5 @@
 -- A machine at the start of a code object.
-use Rattle.std.specs.Prelude.{◌≡◌, ℕ, List, [], replicate, pos}
+use Rattle.std.specs.Prelude.{◌≡◌, ℕ, [], replicate, pos}
 use Rattle.ps_base.specs.declared.code_unit.Frame.{Frame}
 use Rattle.machine_core.specs.proc_values.declared.reading.CodePlace.{CodePlace}
 use Rattle.machine_core.specs.declared.machine.Machine.{Machine}

@@ -3,7 +3,6 @@ use Rattle.std.specs.Prelude.{Err}
 use Rattle.vault_output.specs.Sending.{Sends}
 use Rattle.vault_output.proofs.SendingLaws.{sends-kept, sends-then}
 use Rattle.machine_run.proofs.Telling.{fails-part, placed-is}
-use Rattle.machine_core.specs.ps_meaning.Meaning.{in_places}
 use Rattle.machine_run.proofs.tell.placed.Goals as goal
 
 pub returns-in-Ok-clause-sends : goal.returns-in-Ok-clause-sends
