@@ -21,9 +21,9 @@ fn is_file(alloc: Global, pages: u32, size: usize, parts: &[Part]) -> bool {
     let mut host = host;
     (32..=1_048_576).contains(&pages)
         && format(&mut host, pages) == Ok(())
-        && host.contents() == file
+        && host.contents() == file.as_slice()
         && format(&mut host, pages) == Err(FormatFault::AlreadyVolume { gate: 1 })
-        && host.contents() == file
+        && host.contents() == file.as_slice()
 }
 
 #[test]
