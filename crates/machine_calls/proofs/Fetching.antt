@@ -1,30 +1,24 @@
 -- A machine after a reading of objects, and after an operation that broke off.
-use Rattle.std.proofs.Common.{◌≡◌, ◌≢◌, ℕ, refl, sym, ◌∙◌, subst}
+use Rattle.std.proofs.Common.{◌≡◌, ℕ, refl, sym, subst}
 use Rattle.machine_core.specs.ps_outside.Outside.{Outside}
 use Rattle.machine_core.specs.obj_layout.Stored.{Space}
-use Rattle.machine_core.specs.obj_layout.declared.vault.VaultFault.TheVariants.{Device, Output, Full}
 use Rattle.machine_core.specs.swizzle.Heap as area
-use Rattle.machine_core.specs.swizzle.Reading.{LeavesOutside, FailsReading}
+use Rattle.machine_core.specs.swizzle.Reading.{LeavesOutside}
 use Rattle.machine_core.specs.swizzle.Touch.{Keeps}
 use Rattle.machine_core.specs.swizzle.declared.fault.SwizzleFault.{SwizzleFault}
-use Rattle.machine_core.specs.swizzle.declared.fault.SwizzleFault.TheVariants.{Vault}
-use Rattle.machine_core.proofs.of_swizzle.ReadingLaws.{leaves-none}
 use Rattle.machine_core.proofs.of_heap_ops.ClassLaws.{stands-kept}
 use Rattle.machine_core.specs.ps_stepping.Config.{Config}
 use Rattle.machine_core.specs.ps_stepping.Steps.{Step, Stuck}
-use Rattle.machine_core.specs.joint_ops.Made.{LacksRoom}
 use Rattle.joint_procedures.specs.Scopes.{IsDamage}
-use Rattle.machine_core.proofs.of_objects.LaterLaws.{fails-later}
 use Rattle.machine_core.specs.declared.machine.Machine.{Machine}
 use Rattle.machine_core.specs.declared.stepped.Stepped.{Stepped}
-use Rattle.machine_core.specs.declared.stepped.Stepped.TheVariants.{Quiet, Turns, Writes, Halts, Breaks, Damaged}
+use Rattle.machine_core.specs.declared.stepped.Stepped.TheVariants.{Breaks}
 use Rattle.machine_core.specs.Full.{BreaksBy}
 use Rattle.machine_core.specs.Holding.{Holds, IsSound, words_of}
 use Rattle.machine_core.specs.Naming.{NamesObjects}
 use Rattle.machine_core.specs.Stepped.{Takes, Does}
 use Rattle.machine_core.proofs.Carrying.{does-behind}
 use Rattle.machine_core.proofs.Naming.{names-last}
-use Rattle.machine_calls.specs.Failing.{FailsAsReading}
 
 -- the machine that broke off with this fault, over these objects
 abbrev pub broken : Machine → area.Heap → SwizzleFault → Machine
@@ -65,42 +59,3 @@ module _ (before after : Outside Space) (old : Machine) (now : area.Heap) where
       record { sound = sound-broken old now fault sound; names = λ n. tt; size = tt; does = why } in
       subst (λ (x : Stepped). Takes before after of old new x) (sym answer)
       (subst (λ (m : Machine). Takes before after of old m Breaks) (sym is) t)
-
--- Why it broke off, whatever is known of the vault.
-
-pub breaks-failing : (before after : Outside Space) (m new : Machine) (fault : SwizzleFault) (r : Stepped) → r ≡ Breaks → new ≡ record m { fault = fault }
-    → FailsReading before after fault → FailsAsReading before after r new
-breaks-failing before after m new fault r answer is f =
-    subst (λ (x : Stepped). FailsAsReading before after x new) (sym answer)
-    (subst (λ (x : Machine). FailsAsReading before after Breaks x) (sym is) f)
-
--- a step that didn't break off
-pub whole-failing : (before after : Outside Space) (r : Stepped) (m : Machine) → r ≢ Breaks → FailsAsReading before after r m
-whole-failing before after Quiet m goes = tt
-whole-failing before after Turns m goes = tt
-whole-failing before after Writes m goes = tt
-whole-failing before after Halts m goes = tt
-whole-failing before after Breaks m goes = absurd (goes refl)
-whole-failing before after Damaged m goes = tt
-
--- a step that broke off after a reading
-pub failing-behind : (before mid after : Outside Space) (r : Stepped) (m : Machine) → LeavesOutside before mid → FailsAsReading mid after r m
-    → FailsAsReading before after r m
-failing-behind before mid after Quiet m left f = tt
-failing-behind before mid after Turns m left f = tt
-failing-behind before mid after Writes m left f = tt
-failing-behind before mid after Halts m left f = tt
-failing-behind before mid after Breaks m left f = fails-later before mid after m.fault left f
-failing-behind before mid after Damaged m left f = tt
-
--- want of room is no fault of the vault
-pub room-failing : (outside : Outside Space) (old new : area.Heap) (fault : SwizzleFault) → LacksRoom old new fault → FailsReading outside outside fault
-room-failing outside old new fault l = record {
-  outside = leaves-none outside;
-  cause = λ e. absurd (no-vault Device e);
-  other = λ e. no-vault Output e;
-  full = λ used wanted capacity e. no-vault (Full used wanted capacity) e;
-}
-  where
-    no-vault : (f : _) → fault ≡ Vault f → ⊥
-    no-vault f e = let bad = sym l.fault_is ∙ e in cc

@@ -9,6 +9,7 @@ pub mod Callers
 pub mod Arguments
 pub mod Handing
 pub mod Carrying
+pub mod Failing
 pub mod Calling
 pub mod Returning
 pub mod Lines

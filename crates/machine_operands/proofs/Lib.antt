@@ -2,6 +2,7 @@ pub mod Popping
 pub mod Breaking
 pub mod Giving
 pub mod Reading
+pub mod Parts
 pub use Rattle.machine_core.proofs.of_text_forms as of_text_forms
 pub use Rattle.machine_core.proofs.of_swizzle as of_swizzle
 pub use Rattle.machine_core.proofs.of_heap_places as of_heap_places

@@ -26,15 +26,7 @@ use Rattle.machine_core.proofs.Carrying.{size-behind}
 use Rattle.machine_core.proofs.Naming.{names-last}
 use Rattle.machine_operands.specs.Popping.{PopsText}
 use Rattle.machine_operands.specs.Giving.{GivesText}
-
--- after two parts that left the objects
-pub both-leave : (old mid new : Machine) → Leaves old mid → Leaves mid new → Leaves old new
-both-leave old mid new a b = record {
-  sound = b.sound;
-  objects = b.objects ∙ a.objects;
-  values = b.values ∙ a.values;
-  names = λ n. b.names (a.names n);
-}
+pub use Rattle.machine_operands.proofs.Parts.{both-leave, after-parts}
 
 -- where the objects stay, what denoted a text denotes it still
 pub still-denotes : (out : Outside Space) (old new : Machine) (names : List Reference) (at : ℕ) (bytes : List ℕ) → new.objects ≡ old.objects
@@ -42,19 +34,6 @@ pub still-denotes : (out : Outside Space) (old new : Machine) (names : List Refe
 still-denotes out old new names at bytes same d = subst (λ (here : area.Heap). DenotesIn here out names (Some at) (Text bytes)) (sym same) d
 
 module _ (out : Outside Space) (of : Config → Step) (old last : Machine) (left : Leaves old last) where
-  -- after the parts that left the objects, the step is this one of what the machine holds then
-  pub after-parts : (step : Config → Step) (new : Machine) (r : Stepped) → Takes out out step last new r
-      → ((names : List Reference) (c : Config) → HeldBy out names old c → (d : Config) × (of c ≡ step d) × HeldBy out names last d) → Takes out out of old new r
-  after-parts step new r t leads = record {
-    sound = t.sound;
-    names = λ n. t.names (left.names n);
-    size = subst (λ (here : area.Heap). UnlessBroken r (new.objects.size ≡ here.size)) left.objects t.size;
-    does = λ c h.
-        let d = leads h.names c h.held in
-        subst (λ (s : Step). Does out out old.objects.size s r new) (sym d.1)
-        (subst (λ (here : area.Heap). Does out out here.size (step d.0) r new) left.objects (t.does d.0 (record { names = h.names; held = d.2 })));
-  }
-
   module _ (line : Line) (now : area.Heap) (made : Result ℕ OpFault) where
     -- the step goes on with what this attempt yields, and so the text was made
     pub record Makes (names : List Reference) (c : Config) : Type 0 where

@@ -16,7 +16,7 @@ use crate::traps::{Field, Row, field_trapped, object_trapped};
 use machine_core::joint_ops::{OpFault, Value};
 use machine_core::obj_layout::vault::Vault;
 use machine_core::{Machine, Stepped};
-use machine_operands::gives::{done, give_number, give_reference};
+use machine_operands::gives::{broke, give_number, give_reference};
 use machine_operands::pops::{pop_any, pop_int};
 use ps_base::line::Line;
 
@@ -43,10 +43,11 @@ pub fn field_num<V: Vault>(m: &mut Machine, vault: &mut V, k: u32, n: u32, line:
     };
     let got = m.objects.get_field(vault, object, field.code, k, n);
     match got {
+        Ok(value) => give_number::<V>(m, Ok(value), line),
         Err(OpFault::Trap(trap)) => {
             field_trapped(m, vault, object, field, Row::Numbers, trap, line)
         }
-        got => give_number::<V>(m, got, line),
+        Err(OpFault::Swizzle(fault)) => broke::<V>(m, fault),
     }
 }
 
@@ -72,10 +73,11 @@ pub fn field_ref<V: Vault>(m: &mut Machine, vault: &mut V, k: u32, n: u32, line:
     };
     let got = m.objects.get_field(vault, object, field.code, k, n);
     match got {
+        Ok(value) => give_reference::<V>(m, Ok(value), line),
         Err(OpFault::Trap(trap)) => {
             field_trapped(m, vault, object, field, Row::References, trap, line)
         }
-        got => give_reference::<V>(m, got, line),
+        Err(OpFault::Swizzle(fault)) => broke::<V>(m, fault),
     }
 }
 
@@ -170,7 +172,8 @@ fn put_field<V: Vault>(
         to,
     );
     match set {
+        Ok(()) => Stepped::Quiet,
         Err(OpFault::Trap(trap)) => object_trapped::<V>(m, object, trap, line),
-        set => done::<V>(m, set, line),
+        Err(OpFault::Swizzle(fault)) => broke::<V>(m, fault),
     }
 }

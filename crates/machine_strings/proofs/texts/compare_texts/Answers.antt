@@ -23,7 +23,7 @@ returns g c =
     let same : to_z w32 (of_z w32 c.number.result) ≡ c.number.result = search rules in
     λ v.
     let out = g.V.Vault.outside v in
-    after-parts out (compare_texts op) m last (both-leave m mid last p.leaves q.leaves) (push_num c.number.result) did.new.m did.result
+    after-parts out out (compare_texts op) m last (both-leave m mid last p.leaves q.leaves) (push_num c.number.result) did.new.m did.result
     (subst (λ (z : ℤ). Takes out out (push_num z) last did.new.m did.result) same (did.ensures.takes v))
     (λ names conf h.
     let t = two-texts out m mid last c.in-Some.b c.in-Some-pop_text.a (p.pops v) (q.pops v) q.leaves.objects names conf h in

@@ -16,7 +16,7 @@ returns g c =
     let same : to_z w32 (of_z w32 c.cast_signed.result) ≡ pos count.result = search (rules, arith) in
     λ v.
     let out = g.V.Vault.outside v in
-    after-parts out text_length c.args.m.now last p.leaves (push_num (pos count.result)) did.new.m did.result
+    after-parts out out text_length c.args.m.now last p.leaves (push_num (pos count.result)) did.new.m did.result
     (subst (λ (z : ℤ). Takes out out (push_num z) last did.new.m did.result) same (did.ensures.takes v))
     (λ names conf h.
     let a = (p.pops v).gives names conf h in

@@ -18,7 +18,7 @@ returns g c =
     let text = c.in-Some-pop_text.text in
     λ v.
     let out = g.V.Vault.outside v in
-    after-parts out (write_text c.args.given line) m last (both-leave m mid last p.leaves q.leaves) (written line width (text_at last.objects text)) c.written.new.m c.written.result
+    after-parts out out (write_text c.args.given line) m last (both-leave m mid last p.leaves q.leaves) (written line width (text_at last.objects text)) c.written.new.m c.written.result
     (c.written.ensures v)
     (λ names conf h.
     let w = (p.pops v).gives names conf h in
