@@ -22,7 +22,8 @@ breaks-failing before after new fault r answer is f =
     subst (λ (x : Stepped). FailsAsReading before after x new) (sym answer) (subst (FailsReading before after) (sym is) f)
 
 -- where it broke off, it failed so
-pub off-failing : (before after : Outside Space) (r : Stepped) (m : Machine) → (r ≡ Breaks → FailsReading before after m.fault) → FailsAsReading before after r m
+pub off-failing : (before after : Outside Space) (r : Stepped) (m : Machine) → (r ≡ Breaks → FailsReading before after m.fault)
+    → FailsAsReading before after r m
 off-failing before after Quiet m fails = tt
 off-failing before after Turns m fails = tt
 off-failing before after Writes m fails = tt

@@ -68,7 +68,8 @@ module _ (r : Stepped) (new : Machine) where
   fails-after before after (Err (op.Swizzle fault)) breaks fails = breaks-failing before after new fault r breaks.0 breaks.1 fails
 
 -- an instruction that makes an object broke off for want of room alone
-pub making-fails : (outside : Outside Space) (old now : area.Heap) (new : Machine) (r : Stepped) (made : Result ℕ OpFault) → (r ≡ Breaks → made ≡ Err (op.Swizzle new.fault))
+pub making-fails : (outside : Outside Space) (old now : area.Heap) (new : Machine) (r : Stepped) (made : Result ℕ OpFault)
+    → (r ≡ Breaks → made ≡ Err (op.Swizzle new.fault))
     → BreaksAsMaking old now made → FailsAsReading outside outside r new
 making-fails outside old now new r made off fails = off-failing outside outside r new (λ e. of made (off e) fails)
   where

@@ -1,7 +1,6 @@
 -- Fields of classes that are constants of a unit: what follows where there is such a field, and that nothing does where there is none.
-use Rattle.std.proofs.Common.{◌≡◌, ◌⊎◌, inl, inr, ℕ, Bool, true, false, List, Option, Some, None, refl, sym, ap, ◌∙◌, subst}
-use Rattle.ps_base.specs.CodeUnit.{UnitView, unit, ConstantView, ConstantsView, text, literal}
-use Rattle.ps_base.specs.declared.code_unit.Frame.{Frame}
+use Rattle.std.proofs.Common.{◌≡◌, ◌⊎◌, inl, inr, ℕ, List, Option, Some, None, refl, sym, ap, ◌∙◌}
+use Rattle.ps_base.specs.CodeUnit.{UnitView, unit, ConstantView, text, literal}
 use Rattle.machine_core.specs.ps_outside.Outside.{Outside}
 use Rattle.machine_core.specs.obj_layout.Stored.{Space}
 use Rattle.machine_core.specs.swizzle.Heap as area
@@ -9,7 +8,6 @@ use Rattle.machine_core.specs.text_forms.declared.forms.Form.{Form}
 use Rattle.machine_core.specs.text_forms.declared.forms.Form.TheVariants as form
 use Rattle.machine_core.specs.text_forms.declared.forms.Located.{Located}
 use Rattle.machine_core.specs.text_forms.Forms.{forms_of, form_in, before_in, rows_of, located_in, located_as}
-use Rattle.machine_core.specs.proc_values.Loaded.{constant_numbered}
 use Rattle.machine_core.specs.heap_places.declared.value.Value as code
 use Rattle.machine_core.specs.ps_stepping.Config.{constants_in, constant_at}
 use Rattle.machine_core.specs.ps_stepping.Steps.{Step, Stuck, text_in}
@@ -118,7 +116,8 @@ module _ (u : UnitView) (k n : ℕ) (row : Row) (next : List ℕ → Option Form
 
   pub no-field : (HasField u k n → ⊥) → Following ≡ Stuck
   no-field none = elim (class-or-none u k) [
-    | inl h ↦ class-follows u k h (λ class. when_in_row row (form_in (forms_of class) n) (next class (form_in (forms_of class) n))) ∙ of h (form_in (forms_of h.class) n) refl
+    | inl h ↦ class-follows u k h (λ class. when_in_row row (form_in (forms_of class) n) (next class (form_in (forms_of class) n))) ∙ of h
+        (form_in (forms_of h.class) n) refl
     | inr other ↦ no-class u k other (λ class. when_in_row row (form_in (forms_of class) n) (next class (form_in (forms_of class) n)))
   ]
     where

@@ -1,5 +1,5 @@
 -- Classes of what was popped.
-use Rattle.std.proofs.Common.{◌≡◌, ◌⊎◌, inl, inr, ℕ, Bool, List, Option, Some, None, refl, sym, ap, ◌∙◌, subst}
+use Rattle.std.proofs.Common.{◌≡◌, inl, inr, ℕ, Bool, List, Option, Some, sym, ◌∙◌, subst}
 use Rattle.std.specs.Prelude.{IfOk, Result, Ok, Err}
 use Rattle.machine_core.specs.ps_outside.Outside.{Outside}
 use Rattle.machine_core.specs.obj_layout.Stored.{Space}
@@ -14,7 +14,7 @@ use Rattle.machine_core.specs.ps_meaning.Objects.{Heap, is_class}
 use Rattle.machine_core.specs.ps_meaning.Texts.{Yields}
 use Rattle.machine_core.specs.ps_meaning.Values.{Value, number_of}
 use Rattle.machine_core.specs.ps_stepping.Config.{Config}
-use Rattle.machine_core.specs.ps_stepping.Steps.{Step, Stuck, push_num}
+use Rattle.machine_core.specs.ps_stepping.Steps.{Step, push_num}
 use Rattle.machine_core.specs.ps_stepping.Objects.{is_of_class, pop_object}
 use Rattle.machine_core.specs.joint_ops.World.{Answers, DenotesIn, IsUnitIn, IsWorld}
 use Rattle.machine_core.specs.objects.Classes.{BreaksByCode, LacksClass, NamesClass}
@@ -27,13 +27,14 @@ use Rattle.machine_core.specs.inside.Taking.{Leaves}
 use Rattle.machine_operands.specs.Giving.{GivesFlag}
 use Rattle.machine_operands.specs.Popping.{PopsObject}
 use Rattle.machine_operands.proofs.Parts.{ends-after, unless-fault}
-use Rattle.machine_structures.proofs.ClassFields.{HasClass, class-follows, class-or-none, lacks-class, names-class, no-class}
+use Rattle.machine_structures.proofs.ClassFields.{class-follows, class-or-none, lacks-class, names-class, no-class}
 
 module _ (k : ℕ) where
   abbrev tests : Config → List ℕ → Step
   tests c class = pop_object c (λ v d. push_num (number_of (is_class d.store.heap v class)) d)
 
-  module _ (before after : Outside Space) (old mid : Machine) (now : area.Heap) (left : Leaves old mid) (object : Option ℕ) (pops : PopsObject before old mid (Some object)) where
+  module _ (before after : Outside Space) (old mid : Machine) (now : area.Heap) (left : Leaves old mid) (object : Option ℕ)
+      (pops : PopsObject before old mid (Some object)) where
     code-there : (names : List Reference) (c : Config) → HeldBy before names old c → IsUnitIn mid.objects before old.code c.unit
     code-there names c h = subst (λ (here : area.Heap). IsUnitIn here before old.code c.unit) (sym left.objects) h.unit_is
 

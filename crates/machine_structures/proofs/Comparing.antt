@@ -8,8 +8,7 @@ use Rattle.machine_core.specs.swizzle.Heap as area
 use Rattle.machine_core.specs.ps_meaning.Evaluation.{object_relation}
 use Rattle.machine_core.specs.ps_meaning.Objects.{Heap, is_one_object}
 use Rattle.machine_core.specs.ps_meaning.Values.{Value, Nil, number_of}
-use Rattle.machine_core.specs.ps_stepping.Config.{Config}
-use Rattle.machine_core.specs.ps_stepping.Steps.{Step, push_num, push_ref}
+use Rattle.machine_core.specs.ps_stepping.Steps.{push_num, push_ref}
 use Rattle.machine_core.specs.ps_stepping.Objects.{compare_objects, pop_denoting}
 use Rattle.machine_core.specs.joint_ops.World.{DenotesIn, IsWorld}
 use Rattle.machine_core.specs.joint_ops.Operands.{IsByObject}
@@ -30,8 +29,8 @@ nil-pushed outside m new r t = record {
   does = λ c h. t.does h.names Nil c h.held (nil-denoted m.objects outside h.names);
 }
 
-pub objects-compared : (outside : Outside Space) (op : Relation) (old mid last new : Machine) (b a : Option ℕ) (are_one stands : Bool) (r : Stepped) → Leaves old mid
-    → Leaves mid last → PopsDenoting outside old mid (Some b) → PopsDenoting outside mid last (Some a)
+pub objects-compared : (outside : Outside Space) (op : Relation) (old mid last new : Machine) (b a : Option ℕ) (are_one stands : Bool) (r : Stepped)
+    → Leaves old mid → Leaves mid last → PopsDenoting outside old mid (Some b) → PopsDenoting outside mid last (Some a)
     → ((of : Heap) (names : List Reference) (v w : Value) → IsWorld last.objects outside of names → DenotesIn last.objects outside names a v
     → DenotesIn last.objects outside names b w → IsByObject v → IsByObject w → are_one ≡ is_one_object v w)
     → ((v w : Value) → is_one_object v w ≡ are_one → object_relation op v w ≡ stands) → Takes outside outside (push_num (number_of stands)) last new r

@@ -1,5 +1,5 @@
 -- The values of the fields of a class, as they are popped from the tops of both stacks.
-use Rattle.std.proofs.Common.{◌≡◌, ℕ, suc, ◌+◌, ◌<◌, ℤ, List, [], ◌∷◌, ◌++◌, length, Some, refl, sym, ap, ◌∙◌, subst, arith, append_assoc}
+use Rattle.std.proofs.Common.{◌≡◌, suc, ◌<◌, ℤ, List, [], ◌∷◌, ◌++◌, length, Some, refl, sym, ap, ◌∙◌, subst, arith, append_assoc}
 use Rattle.std.specs.Prelude.{reverse}
 use Rattle.std.proofs.lemmas.List.{reverse-append}
 use Rattle.machine_core.specs.text_forms.declared.forms.Form.{Form}
@@ -70,7 +70,8 @@ pops-rows [] (z ∷ zs) vs nums refs acc c next n r = absurd (omega (arith, n))
 pops-rows [] [] (v ∷ vs) nums refs acc c next n r = absurd (omega (arith, r))
 pops-rows (form.Reference ∷ fs) zs (v ∷ vs) nums refs acc c next n r =
     pops-last form.Reference fs acc (topped c (reverse zs ++ nums) (reverse (v ∷ vs) ++ refs)) next
-    ∙ ap (λ (l : List Value). pop_fields (reverse fs) acc (topped c (reverse zs ++ nums) l) (λ us d. pop_fields (form.Reference ∷ []) us d next)) (rev-cons v vs refs)
+    ∙ ap (λ (l : List Value). pop_fields (reverse fs) acc (topped c (reverse zs ++ nums) l) (λ us d. pop_fields (form.Reference ∷ []) us d next))
+    (rev-cons v vs refs)
     ∙ pops-rows fs zs vs nums (v ∷ refs) acc c (λ us d. pop_fields (form.Reference ∷ []) us d next) n (omega (arith, r))
 pops-rows (form.Reference ∷ fs) zs [] nums refs acc c next n r = absurd (omega (arith, r))
 pops-rows (form.Number ∷ fs) (z ∷ zs) vs nums refs acc c next n r =

@@ -1,5 +1,5 @@
 -- Fields that are read of what was popped.
-use Rattle.std.proofs.Common.{◌≡◌, ◌⊎◌, inl, inr, ℕ, List, Option, Some, None, refl, sym, ap, ◌∙◌, subst}
+use Rattle.std.proofs.Common.{◌≡◌, inl, inr, ℕ, List, Option, Some, refl, sym, ap, ◌∙◌, subst}
 use Rattle.std.specs.Prelude.{Result, Ok, Err}
 use Rattle.ps_base.specs.declared.line.Line.{Line}
 use Rattle.ps_base.specs.declared.trap.Trap.{Trap}
@@ -20,24 +20,23 @@ use Rattle.machine_core.specs.heap_texts.declared.fault.OpFault.{OpFault}
 use Rattle.machine_core.specs.heap_texts.declared.fault.OpFault.TheVariants as op
 use Rattle.machine_core.specs.ps_meaning.Event.{Trapped}
 use Rattle.machine_core.specs.ps_meaning.Objects.{Heap, field_of}
-use Rattle.machine_core.specs.ps_meaning.Texts.{Attempt, Yields, Fails}
+use Rattle.machine_core.specs.ps_meaning.Texts.{Attempt, Yields}
 use Rattle.machine_core.specs.ps_meaning.Values.{Value, Num, Flag, Text, Nil, Pointer, Vector, Procedure, Nothing}
 use Rattle.machine_core.specs.ps_stepping.Config.{Config, constants_in, constant_at}
-use Rattle.machine_core.specs.ps_stepping.Steps.{Step, Stops, Stuck, attempted, pop_ref, text_in}
+use Rattle.machine_core.specs.ps_stepping.Steps.{Step, Stops, attempted, pop_ref, text_in}
 use Rattle.machine_core.specs.ps_stepping.Objects.{object_of, pop_object}
-use Rattle.machine_core.specs.joint_ops.World.{Answers, BreaksOff, DenotesIn, IsForIn, IsOfForm, IsUnitIn, IsWorld}
+use Rattle.machine_core.specs.joint_ops.World.{Answers, DenotesIn, IsForIn, IsOfForm, IsUnitIn, IsWorld}
 use Rattle.machine_core.specs.objects.Classes.{BreaksByCode, LacksField, NamesClass}
 use Rattle.machine_core.specs.declared.machine.Machine.{Machine}
 use Rattle.machine_core.specs.declared.stepped.Stepped.{Stepped}
 use Rattle.machine_core.specs.declared.stepped.Stepped.TheVariants.{Breaks}
 use Rattle.machine_core.specs.Holding.{HeldBy, HeldIn}
-use Rattle.machine_core.specs.Stepped.{Does, Takes, UnlessBroken}
+use Rattle.machine_core.specs.Stepped.{Does, Takes}
 use Rattle.machine_core.specs.inside.Taking.{Leaves}
 use Rattle.machine_core.proofs.Carrying.{does-behind, size-behind}
 use Rattle.machine_operands.specs.Giving.{BreaksWith, EndsSoundly}
 use Rattle.machine_operands.specs.Popping.{PopsAny}
 use Rattle.machine_operands.proofs.Parts.{after-trap, broken-after, does-earlier, ends-after}
-use Rattle.machine_structures.specs.declared.traps.Field.{Field}
 use Rattle.machine_structures.specs.declared.traps.Row.{Row}
 use Rattle.machine_structures.specs.inside.Fields.{TrapsAt, trap_at, when_in_row}
 use Rattle.machine_structures.proofs.ClassFields.{HasField, field-follows, field-or-none, lacks-field, names-class, no-field}
@@ -77,7 +76,8 @@ module _ (row : Row) (push : Value → Config → Step) (k n : ℕ) (line : Line
   abbrev gets : Config → List ℕ → Option Form → Step
   gets c class g = pop_object c (λ v d. attempted line (field_of d.store.heap v class n) (λ w. push w d))
 
-  module _ (before after : Outside Space) (old mid : Machine) (now : area.Heap) (left : Leaves old mid) (object : Option ℕ) (pops : PopsAny before old mid (Some object)) where
+  module _ (before after : Outside Space) (old mid : Machine) (now : area.Heap) (left : Leaves old mid) (object : Option ℕ)
+      (pops : PopsAny before old mid (Some object)) where
     -- the read is what the meaning's is, where there is such a field, and finds the code damaged where there is none
     abbrev pub Got : Result code.Value OpFault → Type 0
     Got got = (of : Heap) (names : List Reference) (class : List ℕ) (l : Located) (o : Value) → IsWorld mid.objects before of names
@@ -106,7 +106,8 @@ module _ (row : Row) (push : Value → Config → Step) (k n : ℕ) (line : Line
       lacking none = lacks-field mid.objects before old.code k n c.unit code-there none
 
       got-there : (got : Result code.Value OpFault) → Got got → (f : HasField c.unit k n)
-          → Answers mid.objects now before after (λ c v. IsOfForm f.located.place.form c × IsForIn now after names c v) (pops.gives names c h).0.store.heap names
+          → Answers mid.objects now before after (λ c v. IsOfForm f.located.place.form c × IsForIn now after names c v) (pops.gives names c h).0.store.heap
+          names
           (field_of (pops.gives names c h).0.store.heap (pops.gives names c h).1 f.named.class n) got
       got-there got clause f =
           let p = pops.gives names c h in
@@ -146,8 +147,10 @@ module _ (row : Row) (push : Value → Config → Step) (k n : ℕ) (line : Line
       ]
 
       -- the operation's trap, told by whether the instruction has it
-      trap-read : (last : Outside Space) (t : Trap) (new : Machine) (r : Stepped) → Got (Err (op.Trap t)) → Lacked (Err (op.Trap t)) → LeavesOutside before after
-          → now.size ≡ mid.objects.size → TrapsAt after last (record { code = old.code; constant = k; number = n }) row object t line (record mid { objects = now }) new r
+      trap-read : (last : Outside Space) (t : Trap) (new : Machine) (r : Stepped) → Got (Err (op.Trap t)) → Lacked (Err (op.Trap t))
+          → LeavesOutside before after
+          → now.size ≡ mid.objects.size → TrapsAt after last (record { code = old.code; constant = k; number = n }) row object t line
+          (record mid { objects = now }) new r
           → Does before last mid.objects.size (reads_field row push k n line c) r new
       trap-read last t new r got lacked leaves size traps = elim (field-or-none c.unit k n) [
         | inl f ↦
@@ -169,8 +172,8 @@ module _ (row : Row) (push : Value → Config → Step) (k n : ℕ) (line : Line
         | inr none ↦ absurd (lacked (lacking none))
       ]
 
-    pub value-takes : (value : code.Value) (lies : code.Value → Type 0) (new : Machine) (r : Stepped) → Got (Ok value) → Lacked (Ok value) → Keeps mid.objects now
-        → lies value → EndsSoundly (Ok value) lies (record mid { objects = now }) new r
+    pub value-takes : (value : code.Value) (lies : code.Value → Type 0) (new : Machine) (r : Stepped) → Got (Ok value) → Lacked (Ok value)
+        → Keeps mid.objects now → lies value → EndsSoundly (Ok value) lies (record mid { objects = now }) new r
         → ((names : List Reference) (c : Config) (f : Form) (attempt : Attempt Value) → HeldIn mid.objects before names (record mid { objects = now }) c
         → Answers mid.objects now before after (λ k v. IsOfForm f k × IsForIn now after names k v) c.store.heap names attempt (Ok value)
         → Does before after mid.objects.size (attempted line attempt (λ w. when_in_row row (Some f) (push w c))) r new)
@@ -179,13 +182,15 @@ module _ (row : Row) (push : Value → Config → Step) (k n : ℕ) (line : Line
         ends-after before after (reads_field row push k n line) old mid left (Ok value) lies now new r ends (stands-kept mid.objects now keeps) keeps.size lie
         (λ names c h. value-read names c h value new r got lacked (does names))
 
-    pub broken-takes : (got : Result code.Value OpFault) (fault : SwizzleFault) (new : Machine) (r : Stepped) → got ≡ Err (op.Swizzle fault) → Got got → Lacked got
+    pub broken-takes : (got : Result code.Value OpFault) (fault : SwizzleFault) (new : Machine) (r : Stepped) → got ≡ Err (op.Swizzle fault) → Got got
+        → Lacked got
         → r ≡ Breaks → BreaksWith before after (record mid { objects = now }) new r fault → Takes before after (reads_field row push k n line) old new r
     broken-takes got fault new r is clause lacked answer breaks =
         broken-after before after (reads_field row push k n line) old mid left new r breaks.sound answer
         (λ names c h. read-broken names c h fault new r (subst Got is clause) (subst Lacked is lacked) breaks)
 
-    pub trap-takes : (last : Outside Space) (got : Result code.Value OpFault) (t : Trap) (new : Machine) (r : Stepped) → got ≡ Err (op.Trap t) → Got got → Lacked got
+    pub trap-takes : (last : Outside Space) (got : Result code.Value OpFault) (t : Trap) (new : Machine) (r : Stepped) → got ≡ Err (op.Trap t) → Got got
+        → Lacked got
         → LeavesOutside before after → UnlessFault got (Keeps mid.objects now)
         → TrapsAt after last (record { code = old.code; constant = k; number = n }) row object t line (record mid { objects = now }) new r
         → Takes before last (reads_field row push k n line) old new r

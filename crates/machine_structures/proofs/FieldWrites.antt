@@ -1,5 +1,5 @@
 -- Fields of what was popped that are written.
-use Rattle.std.proofs.Common.{◌≡◌, ◌⊎◌, inl, inr, ℕ, ℤ, List, [], Option, Some, None, refl, sym, ap, ◌∙◌, subst}
+use Rattle.std.proofs.Common.{◌≡◌, ◌⊎◌, inl, inr, ℕ, ℤ, List, [], Option, Some, refl, sym, ap, ◌∙◌, subst}
 use Rattle.std.specs.Prelude.{Result, Ok, Err}
 use Rattle.ps_base.specs.CodeUnit.{UnitView}
 use Rattle.ps_base.specs.declared.line.Line.{Line}
@@ -24,7 +24,7 @@ use Rattle.machine_core.specs.proc_values.Reading.{IsDamaged}
 use Rattle.machine_core.specs.ps_meaning.Event.{Trapped}
 use Rattle.machine_core.specs.ps_meaning.Meaning.{on_heap}
 use Rattle.machine_core.specs.ps_meaning.Objects.{Heap, with_field, kept_as}
-use Rattle.machine_core.specs.ps_meaning.Texts.{Attempt, Yields, Fails}
+use Rattle.machine_core.specs.ps_meaning.Texts.{Attempt, Yields}
 use Rattle.machine_core.specs.ps_meaning.Values.{Value, Num, Flag, Text, Nil, Pointer, Vector, Procedure, Nothing}
 use Rattle.machine_core.specs.ps_stepping.Config.{Config, constants_in, constant_at}
 use Rattle.machine_core.specs.ps_stepping.Steps.{Step, Stops, Stuck, attempted, pop_num, pop_ref, text_in}
@@ -69,7 +69,8 @@ module _ (field : Field) (to : code.Value) (line : Line) where
   abbrev puts : List ℕ → Value → Value → Config → Step
   puts class w o d = attempted line (with_field d.store.heap o class field.number w) (λ heap. changed heap d)
 
-  module _ (before after : Outside Space) (old mid : Machine) (now : area.Heap) (left : Leaves old mid) (object : Option ℕ) (pops : PopsAny before old mid (Some object)) where
+  module _ (before after : Outside Space) (old mid : Machine) (now : area.Heap) (left : Leaves old mid) (object : Option ℕ)
+      (pops : PopsAny before old mid (Some object)) where
     abbrev pub Set : Result (Unit {0}) OpFault → Type 0
     Set set = (of : Heap) (names : List Reference) (class : List ℕ) (l : Located) (o v : Value) → IsWorld mid.objects before of names
         → NamesClass mid.objects before field.code field.constant class → located_in (forms_of class) field.number ≡ Some l → IsOfRow l.place.form to
@@ -85,7 +86,8 @@ module _ (field : Field) (to : code.Value) (line : Line) where
     same-area : mid.objects ≡ old.objects
     same-area = left.objects
 
-    lacks-there : LacksPlace old.objects before field.code field.constant field.number to → LacksPlace mid.objects before field.code field.constant field.number to
+    lacks-there : LacksPlace old.objects before field.code field.constant field.number to
+        → LacksPlace mid.objects before field.code field.constant field.number to
     lacks-there lacks = subst (λ (here : area.Heap). LacksPlace here before field.code field.constant field.number to) (sym left.objects) lacks
 
     module _ (names : List Reference) (c : Config) (v : Value) (class : List ℕ) (l : Located) (h : HeldBy before names old c)
@@ -139,8 +141,8 @@ module _ (field : Field) (to : code.Value) (line : Line) where
     abbrev over : Machine
     over = record mid { objects = now }
 
-    pub field-put : (set : Result (Unit {0}) OpFault) → set ≡ Ok tt → IsSound mid → NamesObjects mid → Set set → Lacked set → UnlessFault set (AllStand mid.objects now)
-        → UnlessFault set (now.size ≡ mid.objects.size) → PutsField before after field to line old over Quiet
+    pub field-put : (set : Result (Unit {0}) OpFault) → set ≡ Ok tt → IsSound mid → NamesObjects mid → Set set → Lacked set
+        → UnlessFault set (AllStand mid.objects now) → UnlessFault set (now.size ≡ mid.objects.size) → PutsField before after field to line old over Quiet
     field-put set is sound named clause lacked stand size = record {
       sound = sound-kept mid now sound;
       names = names-stand mid now (subst (λ (x : Result (Unit {0}) OpFault). UnlessFault x (AllStand mid.objects now)) is stand) named;
@@ -171,7 +173,8 @@ module _ (field : Field) (to : code.Value) (line : Line) where
           by-code s stuck (inl is) = breaks.damaged mid.objects field.code s stuck is
           by-code s stuck (inr off) = breaks.off mid.objects s off
 
-      pub field-trapped : (set : Result (Unit {0}) OpFault) (t : Trap) → set ≡ Err (op.Trap t) → NamesObjects mid → Set set → Lacked set → LeavesOutside before after
+      pub field-trapped : (set : Result (Unit {0}) OpFault) (t : Trap) → set ≡ Err (op.Trap t) → NamesObjects mid → Set set → Lacked set
+          → LeavesOutside before after
           → UnlessFault set (AllStand mid.objects now) → UnlessFault set (now.size ≡ mid.objects.size) → TrapsOf after after object t line over new r
           → PutsField before after field to line old new r
       field-trapped set t is named clause lacked leaves stand size traps = record {
@@ -205,13 +208,14 @@ module _ (before after : Outside Space) (field : Field) (to : code.Value) (line 
     (puts_it : PutsField before after field to line mid new r) (in_it : (f : Form) → IsPutIn to row f) (u : UnitView)
     (there : IsUnitIn mid.objects before field.code u) (next : List ℕ → Option Form → Step)
     (does : (f : HasField u field.constant field.number) → IsOfRow f.located.place.form to
-        → Does before after mid.objects.size (next f.named.class (Some f.located.place.form)) r new) where
+    → Does before after mid.objects.size (next f.named.class (Some f.located.place.form)) r new) where
   abbrev following : Step
   following = text_in (constant_at (constants_in u) field.constant)
       (λ class. when_in_row row (form_in (forms_of class) field.number) (next class (form_in (forms_of class) field.number)))
 
   -- no field of the unit keeps such a value
-  none-keeps : (s : Step) → s ≡ Stuck → ((f : HasField u field.constant field.number) → IsOfRow f.located.place.form to → ⊥) → Does before after mid.objects.size s r new
+  none-keeps : (s : Step) → s ≡ Stuck → ((f : HasField u field.constant field.number) → IsOfRow f.located.place.form to → ⊥) → Does before after
+      mid.objects.size s r new
   none-keeps s stuck none = puts_it.damaged s stuck (lacks-place mid.objects before field.code field.constant field.number u to there none)
 
   put-found : (f : HasField u field.constant field.number) → IsPutIn to row f.located.place.form → Does before after mid.objects.size following r new
@@ -231,7 +235,8 @@ module _ (before after : Outside Space) (field : Field) (to : code.Value) (line 
 -- The instructions.
 
 abbrev number_next : ℕ → Line → Config → List ℕ → Option Form → Step
-number_next n line c class g = pop_num c (λ z d. pop_object d (λ v e. attempted line (with_field e.store.heap v class n (kept_as g (Num z))) (λ heap. changed heap e)))
+number_next n line c class g =
+    pop_num c (λ z d. pop_object d (λ v e. attempted line (with_field e.store.heap v class n (kept_as g (Num z))) (λ heap. changed heap e)))
 
 abbrev reference_next : ℕ → Line → Config → List ℕ → Option Form → Step
 reference_next n line c class g = pop_ref c (λ w d. pop_object d (λ v e. attempted line (with_field e.store.heap v class n w) (λ heap. changed heap e)))
@@ -243,8 +248,8 @@ module _ (before after : Outside Space) (k n : ℕ) (line : Line) (old mid : Mac
   code-there : (names : List Reference) (c : Config) → HeldBy before names old c → IsUnitIn mid.objects before old.code c.unit
   code-there names c h = subst (λ (here : area.Heap). IsUnitIn here before old.code c.unit) (sym left.objects) h.unit_is
 
-  pub number-set : (z : ℤ) (new : Machine) (r : Stepped) → Taken before pop_num old mid (Some z) → PutsField before after named_field (held.Num z) line mid new r
-      → Takes before after (set_field_num k n line) old new r
+  pub number-set : (z : ℤ) (new : Machine) (r : Stepped) → Taken before pop_num old mid (Some z)
+      → PutsField before after named_field (held.Num z) line mid new r → Takes before after (set_field_num k n line) old new r
   number-set z new r popped puts_it = record {
     sound = puts_it.sound;
     names = λ m. puts_it.names;
@@ -252,17 +257,19 @@ module _ (before after : Outside Space) (k n : ℕ) (line : Line) (old mid : Mac
     does = λ c h.
         let p = popped.gives h.names c h.held in
         does-earlier before after old mid new (set_field_num k n line c) r left
-        (put-follows before after named_field (held.Num z) line mid new r Numbers puts_it (number-in z) c.unit (code-there h.names c h.held) (number_next n line c)
+        (put-follows before after named_field (held.Num z) line mid new r Numbers puts_it (number-in z) c.unit (code-there h.names c h.held)
+        (number_next n line c)
         (λ f row.
         let class = f.named.class in
         let g : Option Form = Some f.located.place.form in
         subst (λ (s : Step). Does before after mid.objects.size s r new)
         (sym (p.1 (λ y d. pop_object d (λ v e. attempted line (with_field e.store.heap v class n (kept_as g (Num y))) (λ heap. changed heap e)))))
-        (puts_it.does h.names p.0 (Num z) class f.located p.2 (names-class mid.objects before old.code k c.unit (code-there h.names c h.held) f.named) f.place row refl)));
+        (puts_it.does h.names p.0 (Num z) class f.located p.2 (names-class mid.objects before old.code k c.unit (code-there h.names c h.held) f.named) f.place
+        row refl)));
   }
 
-  pub reference-set : (to : Option ℕ) (new : Machine) (r : Stepped) → PopsAny before old mid (Some to) → PutsField before after named_field (held.Ref to) line mid new r
-      → Takes before after (set_field_ref k n line) old new r
+  pub reference-set : (to : Option ℕ) (new : Machine) (r : Stepped) → PopsAny before old mid (Some to)
+      → PutsField before after named_field (held.Ref to) line mid new r → Takes before after (set_field_ref k n line) old new r
   reference-set to new r popped puts_it = record {
     sound = puts_it.sound;
     names = λ m. puts_it.names;
@@ -270,14 +277,16 @@ module _ (before after : Outside Space) (k n : ℕ) (line : Line) (old mid : Mac
     does = λ c h.
         let p = popped.gives h.names c h.held in
         does-earlier before after old mid new (set_field_ref k n line c) r left
-        (put-follows before after named_field (held.Ref to) line mid new r References puts_it (reference-in to) c.unit (code-there h.names c h.held) (reference_next n line c)
+        (put-follows before after named_field (held.Ref to) line mid new r References puts_it (reference-in to) c.unit (code-there h.names c h.held)
+        (reference_next n line c)
         (λ f row.
         let class = f.named.class in
         let same : kept_as (Some f.located.place.form) p.1 ≡ p.1 = as-it-is f.located.place.form to p.1 row in
         subst (λ (s : Step). Does before after mid.objects.size s r new)
         (sym (p.2 (λ w d. pop_object d (λ v e. attempted line (with_field e.store.heap v class n w) (λ heap. changed heap e)))
         ∙ ap (λ (w : Value). pop_object p.0 (λ v e. attempted line (with_field e.store.heap v class n w) (λ heap. changed heap e))) (sym same)))
-        (puts_it.does h.names p.0 p.1 class f.located p.3 (names-class mid.objects before old.code k c.unit (code-there h.names c h.held) f.named) f.place row p.4)));
+        (puts_it.does h.names p.0 p.1 class f.located p.3 (names-class mid.objects before old.code k c.unit (code-there h.names c h.held) f.named) f.place row
+        p.4)));
   }
     where
       as-it-is : (f : Form) (to : Option ℕ) (v : Value) → IsOfRow f (held.Ref to) → kept_as (Some f) v ≡ v

@@ -1,6 +1,6 @@
 -- Values of fields, as they lie in two rows, and as they are laid out of those.
-use Rattle.std.proofs.Common.{◌≡◌, ℕ, zero, suc, ◌+◌, ◌<◌, ◌≤◌, ℤ, true, List, [], ◌∷◌, ◌++◌, length, Option, Some, None, refl, sym, ap, ◌∙◌, subst, arith}
-use Rattle.std.specs.Prelude.{All, IfSome}
+use Rattle.std.proofs.Common.{◌≡◌, ℕ, zero, suc, ℤ, List, [], ◌∷◌, length, Option, refl, sym, ap, subst, arith}
+use Rattle.std.specs.Prelude.{All}
 use Rattle.std.proofs.lemmas.List.Elements.{All-head, All-tail}
 use Rattle.machine_core.specs.ps_outside.Outside.{Outside}
 use Rattle.machine_core.specs.obj_layout.Stored.{Space}
@@ -48,8 +48,8 @@ module _ (here : area.Heap) (outside : Outside Space) (names : List Reference) w
   rows-for (form.Flag ∷ fs) [] ws vs are n r = absurd (omega (arith, n))
 
   -- and what was laid out of them denotes those
-  pub laid-for : (fs : List Form) (zs : List ℤ) (ws : List ℕ) (ks : List code.Value) (vs : List Value) → AreLaid fs zs ws ks → AreDenoted here outside names ws vs
-      → AreForIn here outside names fs ks (means fs zs vs)
+  pub laid-for : (fs : List Form) (zs : List ℤ) (ws : List ℕ) (ks : List code.Value) (vs : List Value) → AreLaid fs zs ws ks
+      → AreDenoted here outside names ws vs → AreForIn here outside names fs ks (means fs zs vs)
   laid-for [] [] [] [] vs laid are = tt
   laid-for [] [] [] (k ∷ ks) vs laid are = absurd laid
   laid-for [] [] (w ∷ ws) ks vs laid are = absurd laid
@@ -96,8 +96,8 @@ near-named here (w ∷ ws) all = (
   near-named here ws (All-tail (λ word. IsNamed here word) w ws all),
 )
 
-pub near-laid : (here : area.Heap) (fs : List Form) (zs : List ℤ) (ws : List ℕ) (ks : List code.Value) → AreLaid fs zs ws ks → All (λ word. IsNamed here word) ws
-    → AreNear here ks
+pub near-laid : (here : area.Heap) (fs : List Form) (zs : List ℤ) (ws : List ℕ) (ks : List code.Value) → AreLaid fs zs ws ks
+    → All (λ word. IsNamed here word) ws → AreNear here ks
 near-laid here [] [] [] [] laid all = tt
 near-laid here [] [] [] (k ∷ ks) laid all = absurd laid
 near-laid here [] [] (w ∷ ws) ks laid all = absurd laid

@@ -1,6 +1,6 @@
 -- The fields of a class that were laid out, and those that are left.
-use Rattle.std.proofs.Common.{◌≡◌, ℕ, ◌+◌, ◌<◌, ◌≤◌, ℤ, true, false, List, [], ◌∷◌, ◌++◌, length, drop, get_or, refl, sym, ap, ◌∙◌, subst, arith, append_assoc, append-nil, length-append}
-use Rattle.std.proofs.lemmas.List.{drop_all, drop_more}
+use Rattle.std.proofs.Common.{◌≡◌, ℕ, ◌+◌, ◌≤◌, ℤ, true, false, List, [], ◌∷◌, ◌++◌, length, drop, sym, ap, ◌∙◌, subst, arith, append_assoc, append-nil, length-append}
+use Rattle.std.proofs.lemmas.List.{drop_all}
 use Rattle.machine_core.specs.text_forms.declared.forms.Form.{Form}
 use Rattle.machine_core.specs.text_forms.declared.forms.Form.TheVariants as form
 use Rattle.machine_core.specs.text_forms.declared.forms.Rows.{Rows}
@@ -8,15 +8,12 @@ use Rattle.machine_core.specs.text_forms.Forms.{forms_of, forms_from, form_here,
 use Rattle.machine_core.specs.text_forms.Steps.{behind_first, is_field}
 use Rattle.machine_core.proofs.of_text_forms.Passing.{a_field, forms-first, no_field}
 use Rattle.machine_core.specs.heap_places.declared.value.Value as code
-use Rattle.machine_core.specs.heap_places.declared.value.Value.TheVariants as held
-use Rattle.machine_core.specs.ps_meaning.Operators.{is_int}
-use Rattle.machine_core.specs.ps_meaning.Values.{is_one}
-use Rattle.machine_core.specs.Rows.{object_in}
 use Rattle.machine_structures.specs.inside.Making.{AreLaid, IsNext, LaysOne}
 
 -- What is left of both rows, and of the fields.
 pub record IsLaidOut (text rest : List ℕ) (nums : List ℤ) (refs : List ℕ) (passed : Rows) (items : List code.Value) : Type 0 where
-  pub laid : (ks : List code.Value) → AreLaid (forms_from true rest) (drop passed.nums nums) (drop passed.refs refs) ks → AreLaid (forms_of text) nums refs (items ++ ks)
+  pub laid : (ks : List code.Value) → AreLaid (forms_from true rest) (drop passed.nums nums) (drop passed.refs refs) ks
+      → AreLaid (forms_of text) nums refs (items ++ ks)
   pub nums_left : passed.nums + (rows_of (forms_from true rest)).nums ≡ length nums
   pub refs_left : passed.refs + (rows_of (forms_from true rest)).refs ≡ length refs
   pub count : length items ≡ passed.nums + passed.refs
@@ -81,7 +78,8 @@ module _ (text rest : List ℕ) (nums : List ℤ) (refs : List ℕ) (passed : Ro
         record {
           laid = λ ks are.
               let mine = one.laid others ks (subst (λ (fs : List Form). AreLaid fs (drop more.nums nums) (drop more.refs refs) ks) same are) in
-              let whole = so.laid (one.value ∷ ks) (subst (λ (fs : List Form). AreLaid fs (drop passed.nums nums) (drop passed.refs refs) (one.value ∷ ks)) (sym (a_field rest field)) mine) in
+              let whole = so.laid (one.value ∷ ks) (subst (λ (fs : List Form). AreLaid fs (drop passed.nums nums) (drop passed.refs refs) (one.value ∷ ks))
+              (sym (a_field rest field)) mine) in
               subst (λ (xs : List code.Value). AreLaid (forms_of text) nums refs xs)
               (sym (ap (λ (xs : List code.Value). xs ++ ks) one.items_are ∙ append_assoc items (one.value ∷ []) ks)) whole;
           nums_left =
@@ -103,8 +101,10 @@ module _ (text rest : List ℕ) (nums : List ℤ) (refs : List ℕ) (passed : Ro
   unfolding rows_of
   all-laid none =
       let empty = no_field rest none in
-      let n : length nums ≤ passed.nums = (let left = so.nums_left in let rows : (rows_of (forms_from true rest)).nums ≡ 0 = ap (λ (fs : List Form). (rows_of fs).nums) empty in omega (arith, left, rows)) in
-      let r : length refs ≤ passed.refs = (let left = so.refs_left in let rows : (rows_of (forms_from true rest)).refs ≡ 0 = ap (λ (fs : List Form). (rows_of fs).refs) empty in omega (arith, left, rows)) in
+      let nums_none : (rows_of (forms_from true rest)).nums ≡ 0 = ap (λ (fs : List Form). (rows_of fs).nums) empty in
+      let refs_none : (rows_of (forms_from true rest)).refs ≡ 0 = ap (λ (fs : List Form). (rows_of fs).refs) empty in
+      let n : length nums ≤ passed.nums = (let left = so.nums_left in omega (arith, left, nums_none)) in
+      let r : length refs ≤ passed.refs = (let left = so.refs_left in omega (arith, left, refs_none)) in
       let whole = so.laid []
       (subst (λ (fs : List Form). AreLaid fs (drop passed.nums nums) (drop passed.refs refs) []) (sym empty)
       (subst (λ (zs : List ℤ). AreLaid [] zs (drop passed.refs refs) []) (sym (drop_all passed.nums nums n))

@@ -1,6 +1,6 @@
 -- Structures that are made of the tops of both stacks.
-use Rattle.std.proofs.Common.{◌≡◌, ◌≢◌, ◌⊎◌, inl, inr, ℕ, ◌+◌, ◌<◌, ◌≤◌, ℤ, List, [], ◌∷◌, length, take, drop, Option, Some, None, refl, sym, ap, ◌∙◌, subst, arith}
-use Rattle.std.specs.Prelude.{reverse, IfOk, Result, Ok, Err}
+use Rattle.std.proofs.Common.{◌≡◌, ℕ, ◌+◌, ◌<◌, ◌≤◌, ℤ, List, length, take, drop, Option, Some, refl, sym, ap, ◌∙◌, subst, arith}
+use Rattle.std.specs.Prelude.{IfOk, Result, Ok}
 use Rattle.std.specs.declared.alloc.Global.{Global}
 use Rattle.std.specs.declared.vec.Vec.{Vec}
 use Rattle.std.proofs.lemmas.List.{length-take-le}
@@ -17,16 +17,13 @@ use Rattle.machine_core.specs.swizzle.Text.{text_at}
 use Rattle.machine_core.specs.swizzle.Touch.{Keeps}
 use Rattle.machine_core.specs.swizzle.declared.fault.SwizzleFault.{SwizzleFault}
 use Rattle.machine_core.specs.frame_stack.Frames.{Frames}
-use Rattle.machine_core.specs.text_forms.declared.forms.Form.{Form}
 use Rattle.machine_core.specs.text_forms.declared.forms.Rows.{Rows}
 use Rattle.machine_core.specs.text_forms.Forms.{forms_of, rows_of}
 use Rattle.machine_core.specs.heap_ops.Outcomes.{UnlessFault}
 use Rattle.machine_core.specs.heap_places.declared.value.Value as code
 use Rattle.machine_core.specs.heap_texts.declared.fault.OpFault.{OpFault}
-use Rattle.machine_core.specs.heap_texts.declared.fault.OpFault.TheVariants as op
-use Rattle.machine_core.specs.proc_values.Loaded.{constant_numbered}
 use Rattle.machine_core.specs.ps_meaning.Meaning.{and_object}
-use Rattle.machine_core.specs.ps_meaning.Objects.{Heap, Object, Structure, new_number}
+use Rattle.machine_core.specs.ps_meaning.Objects.{Heap, Structure, new_number}
 use Rattle.machine_core.specs.ps_meaning.Texts.{Yields}
 use Rattle.machine_core.specs.ps_meaning.Values.{Value, Text, Pointer}
 use Rattle.machine_core.specs.ps_stepping.Config.{Config, frame_words, constants_in, constant_at}
@@ -35,27 +32,26 @@ use Rattle.machine_core.specs.ps_stepping.Objects.{make, make_structure}
 use Rattle.machine_core.specs.joint_ops.World.{DenotesIn, IsUnitIn, IsWorld, Stands}
 use Rattle.machine_core.specs.joint_ops.Made.{Makes}
 use Rattle.machine_core.specs.joint_ops.Operands.{AreForIn}
-use Rattle.machine_core.specs.objects.Classes.{BreaksByCode, LacksClass, MakesLater, NamesClass}
+use Rattle.machine_core.specs.objects.Classes.{MakesLater, NamesClass}
 use Rattle.machine_core.specs.objects.Makes.{AnswersRows, AreRowsFor, HasRows}
 use Rattle.machine_core.specs.objects.declared.class_rows.ClassRows.{ClassRows}
 use Rattle.machine_core.proofs.of_heap_ops.ClassLaws.{stands-kept}
 use Rattle.machine_core.specs.declared.machine.Machine.{Machine}
 use Rattle.machine_core.specs.declared.stepped.Stepped.{Stepped}
-use Rattle.machine_core.specs.declared.stepped.Stepped.TheVariants.{Breaks, Damaged}
+use Rattle.machine_core.specs.declared.stepped.Stepped.TheVariants.{Damaged}
 use Rattle.machine_core.specs.Holding.{HeldBy, IsSound, words_of}
-use Rattle.machine_core.specs.Naming.{NamesObjects}
-use Rattle.machine_core.specs.Stepped.{Does, Takes, UnlessBroken}
+use Rattle.machine_core.specs.Stepped.{Does, Takes}
 use Rattle.machine_core.proofs.Carrying.{does-behind, read-holds, size-behind}
-use Rattle.machine_operands.specs.Constants.{EndsReading, ReadsConstant, Refetched}
-use Rattle.machine_operands.specs.Giving.{BreaksWith, GivesObject, GivesStructure, structures}
+use Rattle.machine_operands.specs.Constants.{EndsReading, ReadsConstant}
+use Rattle.machine_operands.specs.Giving.{GivesObject, GivesStructure, structures}
 use Rattle.machine_operands.proofs.Giving.{full-stuck}
 use Rattle.machine_operands.proofs.Parts.{unless-fault}
 use Rattle.machine_operands.proofs.Reading.{names-kept, same-constant}
 use Rattle.machine_structures.specs.inside.Making.{AreLaid, structure_of}
-use Rattle.machine_structures.proofs.ClassFields.{HasClass, class-follows, names-class, no-class}
+use Rattle.machine_structures.proofs.ClassFields.{HasClass, class-follows, names-class}
 use Rattle.machine_structures.proofs.FieldPops.{means}
 use Rattle.machine_structures.proofs.LaidFields.{laid-for, rows-for}
-use Rattle.machine_structures.proofs.StackTops.{FieldsPopped, few-nums-popped, few-refs-popped, fields-popped, held-popped, long-nums, long-refs, names-popped, popped}
+use Rattle.machine_structures.proofs.StackTops.{few-nums-popped, few-refs-popped, fields-popped, held-popped, long-nums, long-refs, names-popped, popped}
 
 -- what is done with the values of the fields of a class
 abbrev made_of : List ℕ → List Value → Config → Step
@@ -110,7 +106,8 @@ module _ (outside : Outside Space) (m : Machine) (class : ClassRows) (has : HasR
   }
 
   module _ (i j : ℕ) (nums_low : m.frame.nums ≤ i) (refs_low : m.frame.refs ≤ j) (nums_count : i + class.fields.rows.nums ≡ length m.nums.own)
-      (refs_count : j + class.fields.rows.refs ≡ length m.refs.own) (now : area.Heap) (nums : Frames ℤ) (refs : Frames ℕ) (nums_are : nums.own ≡ take i m.nums.own)
+      (refs_count : j + class.fields.rows.refs ≡ length m.refs.own) (now : area.Heap) (nums : Frames ℤ) (refs : Frames ℕ)
+      (nums_are : nums.own ≡ take i m.nums.own)
       (refs_are : refs.own ≡ take j m.refs.own) (nums_below : nums.below ≡ m.nums.below) (refs_below : refs.below ≡ m.refs.below) where
     abbrev left : Machine
     left = popped m now m.values nums refs i j nums_are refs_are nums_below refs_below
@@ -125,7 +122,8 @@ module _ (outside : Outside Space) (m : Machine) (class : ClassRows) (has : HasR
         let refs_all : j + (rows_of (forms_of bytes)).refs ≡ length m.refs.own = ap (λ (n : ℕ). j + n) refs-told ∙ refs_count in
         record {
           sound = give.ends.sound;
-          names = λ n. give.ends.names (names-popped m now m.values nums refs i j nums_are refs_are nums_below refs_below (stands-kept m.objects now keeps) n) held;
+          names = λ n. give.ends.names (names-popped m now m.values nums refs i j nums_are refs_are nums_below refs_below (stands-kept m.objects now keeps) n)
+              held;
           size = size-behind r m.objects.size now.size new.objects.size keeps.size give.ends.size;
           does = λ c h.
               let fs = forms_of bytes in
@@ -133,7 +131,8 @@ module _ (outside : Outside Space) (m : Machine) (class : ClassRows) (has : HasR
               let vs = means fs (drop i m.nums.own) p.tops in
               let d : Config = record c { nums = p.nums; refs = p.refs } in
               let rows = rows-for m.objects outside h.names fs (drop i m.nums.own) (drop j m.refs.own) p.tops p.are
-              (long-nums outside h.names m fs i j nums_low refs_low nums_all refs_all) (long-refs outside h.names m fs i j nums_low refs_low nums_all refs_all) in
+              (long-nums outside h.names m fs i j nums_low refs_low nums_all refs_all)
+              (long-refs outside h.names m fs i j nums_low refs_low nums_all refs_all) in
               subst (λ (s : Step). Does outside outside m.objects.size s r new) (sym (p.pops (made_of bytes)))
               (give.does m.objects h.names d Pointer (Yields (Structure bytes vs)) structures
               (held-popped m now m.values nums refs i j nums_are refs_are nums_below refs_below outside h.names c p.nums p.refs h.held p.row p.ref_row)
@@ -169,7 +168,10 @@ module _ (before mid after : Outside Space) (k : ℕ) (m : Machine) (now : area.
         ap (λ (o : Option ConstantView). text_in o (λ text. structure_of text c)) (same-constant (constants_in c.unit) k ∙ is) in
         subst (λ (s : Step). Does before mid m.objects.size s r new) (sym step)
         (does-behind before mid mid m.objects.size now.size (structure_of (text_at now class.text) c) r new left keeps.size
-        (t.does c (record { names = h.names; held = read-holds m.objects now before mid h.names (words_of m) c h.held (kept c.store.heap h.names h.held.world) })));
+        (t.does c (record {
+          names = h.names;
+          held = read-holds m.objects now before mid h.names (words_of m) c h.held (kept c.store.heap h.names h.held.world);
+        })));
   }
 
   -- or it is made some other way
@@ -181,36 +183,14 @@ module _ (before mid after : Outside Space) (k : ℕ) (m : Machine) (now : area.
     size = size-behind r m.objects.size now.size new.objects.size keeps.size t.size;
     does = λ c h.
         does-behind before mid after m.objects.size now.size (make_structure k c) r new left keeps.size
-        (t.does c (record { names = h.names; held = read-holds m.objects now before mid h.names (words_of m) c h.held (kept c.store.heap h.names h.held.world) }));
+        (t.does c (record {
+          names = h.names;
+          held = read-holds m.objects now before mid h.names (words_of m) c h.held (kept c.store.heap h.names h.held.world);
+        }));
   }
-
-  -- it couldn't be read
-  pub no-class-read : (fault : SwizzleFault) (new : Machine) (r : Stepped) → r ≡ Breaks → BreaksWith before mid read new r fault → Told (Err fault)
-      → Takes before mid (make_structure k) m new r
-  no-class-read fault new r answer breaks told = record {
-    sound = breaks.sound;
-    names = λ n. subst (λ (x : Stepped). UnlessBroken x (NamesObjects new)) (sym answer) tt;
-    size = subst (λ (x : Stepped). UnlessBroken x (new.objects.size ≡ m.objects.size)) (sym answer) tt;
-    does = λ c h. of c (told-of (Err fault) told c.unit h.held.unit_is);
-  }
-    where
-      of : (c : Config) → AnswersRows m.objects now before mid m.code (constants_in c.unit) k (Err fault) → Does before mid m.objects.size (make_structure k c) r new
-      of c (inl a) =
-          breaks.damaged m.objects m.code (make_structure k c)
-          (no-class c.unit k (λ f. a.0 f.class (sym (same-constant (constants_in c.unit) k) ∙ f.is)) (λ text. structure_of text c)) a.1
-      of c (inr off) = breaks.off m.objects (make_structure k c) off
 
 -- By the text of the class, which is a constant of the code.
 module _ (before mid : Outside Space) (k : ℕ) (old m : Machine) where
-  -- it couldn't be read, or is no text
-  pub text-unread : (r : Stepped) → EndsReading {T = ℕ} old m (Err r) → ReadsConstant before mid k old m (Err r) → Takes before mid (make_structure k) old m r
-  text-unread r ends reads = record {
-    sound = ends.sound;
-    names = λ n. ends.names;
-    size = ends.size;
-    does = λ c h. reads.gives h.names c h.held (λ text. structure_of text c);
-  }
-
   module _ (at : ℕ) (bytes : List ℕ) (left : LeavesOutside before mid) (ends : EndsReading old m (Ok at)) (reads : ReadsConstant before mid k old m (Ok at))
       (spelled : (names : List Reference) (v : List ℕ) → DenotesIn m.objects mid names (Some at) (Text v) → bytes ≡ v) where
     -- the step goes on with the bytes that were read, in what the machine stands for still
@@ -232,7 +212,8 @@ module _ (before mid : Outside Space) (k : ℕ) (old m : Machine) where
         }
 
     -- the stacks have too few values, or no room
-    pub stuck-by-text : ((names : List Reference) (c : Config) → HeldBy mid names m c → structure_of bytes c ≡ Stuck) → Takes before mid (make_structure k) old m Damaged
+    pub stuck-by-text : ((names : List Reference) (c : Config) → HeldBy mid names m c → structure_of bytes c ≡ Stuck)
+        → Takes before mid (make_structure k) old m Damaged
     stuck-by-text stuck = record {
       sound = ends.sound;
       names = λ n. ends.names;
@@ -240,8 +221,10 @@ module _ (before mid : Outside Space) (k : ℕ) (old m : Machine) where
       does = λ c h. let g = goes-on h.names c h.held in g.step ∙ stuck h.names c g.held;
     }
 
-    module _ (after : Outside Space) (i j : ℕ) (nums_low : m.frame.nums ≤ i) (refs_low : m.frame.refs ≤ j) (nums_count : i + (rows_of (forms_of bytes)).nums ≡ length m.nums.own)
-        (refs_count : j + (rows_of (forms_of bytes)).refs ≡ length m.refs.own) (now : area.Heap) (values : Vec code.Value Global) (nums : Frames ℤ) (refs : Frames ℕ)
+    module _ (after : Outside Space) (i j : ℕ) (nums_low : m.frame.nums ≤ i) (refs_low : m.frame.refs ≤ j)
+        (nums_count : i + (rows_of (forms_of bytes)).nums ≡ length m.nums.own)
+        (refs_count : j + (rows_of (forms_of bytes)).refs ≡ length m.refs.own) (now : area.Heap) (values : Vec code.Value Global) (nums : Frames ℤ)
+        (refs : Frames ℕ)
         (nums_are : nums.own ≡ take i m.nums.own) (refs_are : refs.own ≡ take j m.refs.own) (nums_below : nums.below ≡ m.nums.below)
         (refs_below : refs.below ≡ m.refs.below) where
       abbrev gone : area.Heap → Machine
@@ -258,7 +241,8 @@ module _ (before mid : Outside Space) (k : ℕ) (old m : Machine) where
         sound = give.ends.sound;
         names = λ n.
             give.ends.names
-            (unless-fault made (λ (e : Keeps m.objects now). names-popped m now values nums refs i j nums_are refs_are nums_below refs_below (stands-kept m.objects now e) ends.names) keeps)
+            (unless-fault made (λ (e : Keeps m.objects now). names-popped m now values nums refs i j nums_are refs_are nums_below refs_below
+            (stands-kept m.objects now e) ends.names) keeps)
             held;
         size = give.ends.size old.objects.size (unless-fault made (λ (e : Keeps m.objects now). e.size ∙ ends.size) keeps);
         does = λ c h.

@@ -91,8 +91,8 @@ module _ (here : area.Heap) (outside : Outside Space) (names : List Reference) w
     pub are : AreDenoted here outside names (drop first words) tops
     pub row : IsRefRow here outside names (take first words) size rest locals
 
-  pub refs-left : (words : List ℕ) (size first : ℕ) (pushed : List Value) (locals : ℕ → Value) → IsRefRow here outside names words size pushed locals → size ≤ first
-      → first ≤ length words → RefsLeft words size first pushed locals
+  pub refs-left : (words : List ℕ) (size first : ℕ) (pushed : List Value) (locals : ℕ → Value) → IsRefRow here outside names words size pushed locals
+      → size ≤ first → first ≤ length words → RefsLeft words size first pushed locals
   refs-left words size first pushed locals row low high =
       let parts = denoted-append (reverse (drop first words)) (reverse (drop size (take first words))) pushed
       (subst (λ (l : List ℕ). AreDenoted here outside names l pushed) (split-row words size first low high) row.pushed_are) in
@@ -111,7 +111,8 @@ module _ (here : area.Heap) (outside : Outside Space) (names : List Reference) w
       }
 
 -- A machine whose tops were popped, and that has other values.
-module _ (m : Machine) (now : area.Heap) (values : Vec code.Value Global) (nums : Frames ℤ) (refs : Frames ℕ) (i j : ℕ) (nums_are : nums.own ≡ take i m.nums.own)
+module _ (m : Machine) (now : area.Heap) (values : Vec code.Value Global) (nums : Frames ℤ) (refs : Frames ℕ) (i j : ℕ)
+    (nums_are : nums.own ≡ take i m.nums.own)
     (refs_are : refs.own ≡ take j m.refs.own) (nums_below : nums.below ≡ m.nums.below) (refs_below : refs.below ≡ m.refs.below) where
   abbrev pub popped : Machine
   popped = record m { objects = now; values = values; nums = nums; refs = refs }
@@ -151,7 +152,8 @@ module _ (outside : Outside Space) (names : List Reference) (m : Machine) (fs : 
     pub refs : List Value
     pub tops : List Value
     pub are : AreDenoted m.objects outside names (drop j m.refs.own) tops
-    pub pops : (next : List Value → Config → Step) → pop_fields (reverse fs) [] c next ≡ next (means fs (drop i m.nums.own) tops) (record c { nums = nums; refs = refs })
+    pub pops : (next : List Value → Config → Step) → pop_fields (reverse fs) [] c next ≡ next (means fs (drop i m.nums.own) tops)
+        (record c { nums = nums; refs = refs })
     pub row : IsRow (take i m.nums.own) m.frame.nums nums c.locals.nums
     pub ref_row : IsRefRow m.objects outside names (take j m.refs.own) m.frame.refs refs c.locals.refs
 

@@ -1,7 +1,7 @@
 -- Traps of operations on fields, as an instruction has them.
-use Rattle.std.proofs.Common.{◌≡◌, ◌≢◌, ◌⊎◌, inl, inr, ℕ, Bool, true, false, List, Option, Some, None, refl, sym, ap, ◌∙◌, subst}
-use Rattle.std.specs.Prelude.{MatchBool, Result, Ok, Err}
-use Rattle.ps_base.specs.CodeUnit.{ConstantView, ConstantsView, unit, text}
+use Rattle.std.proofs.Common.{◌≡◌, ◌≢◌, ◌⊎◌, inl, inr, ℕ, true, List, Option, Some, refl, sym, ap, ◌∙◌, subst}
+use Rattle.std.specs.Prelude.{Result, Ok}
+use Rattle.ps_base.specs.CodeUnit.{ConstantsView, unit, text}
 use Rattle.ps_base.specs.declared.code_unit.Frame.{Frame}
 use Rattle.ps_base.specs.declared.line.Line.{Line}
 use Rattle.ps_base.specs.declared.trap.Trap.{Trap}
@@ -14,15 +14,11 @@ use Rattle.machine_core.specs.swizzle.declared.fault.SwizzleFault.{SwizzleFault}
 use Rattle.machine_core.specs.text_forms.declared.forms.Form.{Form}
 use Rattle.machine_core.specs.text_forms.declared.forms.Form.TheVariants as form
 use Rattle.machine_core.specs.text_forms.declared.forms.Located.{Located}
-use Rattle.machine_core.specs.text_forms.Forms.{forms_of, located_in, is_number_form}
-use Rattle.machine_core.specs.proc_values.Loaded.{constant_numbered}
-use Rattle.machine_core.specs.proc_values.Reading.{IsDamaged}
+use Rattle.machine_core.specs.text_forms.Forms.{forms_of, located_in}
 use Rattle.machine_core.specs.ps_meaning.Event.{Trapped}
 use Rattle.machine_core.specs.ps_meaning.Values.{Value}
-use Rattle.machine_core.specs.ps_stepping.Config.{Config}
-use Rattle.machine_core.specs.ps_stepping.Steps.{Step, Stops, Stuck}
-use Rattle.machine_core.specs.ps_stepping.Objects.{object_of}
-use Rattle.machine_core.specs.joint_ops.World.{DenotesIn, IsUnitIn, BreaksOff}
+use Rattle.machine_core.specs.ps_stepping.Steps.{Step, Stops}
+use Rattle.machine_core.specs.joint_ops.World.{DenotesIn, IsUnitIn}
 use Rattle.machine_core.specs.joint_ops.Operands.{IsOfSort}
 use Rattle.machine_core.specs.joint_ops.declared.values.Sort.{Sort}
 use Rattle.machine_core.specs.joint_ops.declared.values.Sort.TheVariants as sort
@@ -30,12 +26,10 @@ use Rattle.machine_core.specs.objects.Classes.{NamesClass, AnswersForm}
 use Rattle.machine_core.specs.declared.machine.Machine.{Machine}
 use Rattle.machine_core.specs.declared.run_end.RunEnd.TheVariants as in_code
 use Rattle.machine_core.specs.declared.stepped.Stepped.{Stepped}
-use Rattle.machine_core.specs.declared.stepped.Stepped.TheVariants.{Halts, Breaks, Damaged}
+use Rattle.machine_core.specs.declared.stepped.Stepped.TheVariants.{Halts, Damaged}
 use Rattle.machine_core.specs.Holding.{IsSound}
 use Rattle.machine_core.specs.Naming.{NamesObjects}
 use Rattle.machine_core.specs.Stepped.{Does, UnlessBroken, end_of, ended}
-use Rattle.machine_core.proofs.Carrying.{sound-kept}
-use Rattle.machine_operands.specs.Giving.{BreaksWith}
 use Rattle.machine_operands.proofs.Popping.{nil-object, structure-object, other-object}
 use Rattle.machine_operands.proofs.Reading.{names-kept}
 use Rattle.machine_structures.specs.declared.traps.Field.{Field}
@@ -54,8 +48,7 @@ module _ (here : area.Heap) (outside : Outside Space) (object : Option ℕ) (s :
   pub other-is : s ≢ sort.Nil → s ≢ sort.Structure → IsNoObject here outside object
   other-is nil structure names v d c next = other-object s nil structure v (sorted names v d) c next
 
--- By a form in the row the step follows, and by another there is none.
-
+-- by a form in the row the step follows
 pub in-row-follows : (row : Row) (f : Form) → IsInRow row f true → (s : Step) → when_in_row row (Some f) s ≡ s
 in-row-follows Numbers form.Number is s = refl
 in-row-follows Numbers form.Flag is s = refl
@@ -63,14 +56,6 @@ in-row-follows Numbers form.Reference is s = absurd (cc)
 in-row-follows References form.Number is s = absurd (cc)
 in-row-follows References form.Flag is s = absurd (cc)
 in-row-follows References form.Reference is s = refl
-
-pub other-row-stuck : (row : Row) (f : Form) → IsInRow row f false → (s : Step) → when_in_row row (Some f) s ≡ Stuck
-other-row-stuck Numbers form.Number is s = absurd (cc)
-other-row-stuck Numbers form.Flag is s = absurd (cc)
-other-row-stuck Numbers form.Reference is s = refl
-other-row-stuck References form.Number is s = refl
-other-row-stuck References form.Flag is s = refl
-other-row-stuck References form.Reference is s = absurd (cc)
 
 -- The machine with its answer.
 so-halted : (P : Machine → Type 0) (r : Stepped) (new m : Machine) → r ≡ Halts → new ≡ m → P m → UnlessBroken r (P new)
@@ -86,14 +71,6 @@ module _ (before after : Outside Space) (object : Option ℕ) (trap : Trap) (lin
   stops new r size s answer left is =
       subst (λ (x : Stepped). Does before after size s x new) (sym answer)
       (subst (λ (n : Machine). s ≡ Stops (end_of n.end)) (sym left) is)
-
-  pub no-object-trapped : IsSound m → IsNoObject m.objects before object → TrapsOf before after object trap line m m Damaged
-  no-object-trapped sound none = record {
-    sound = sound;
-    names = λ n. n;
-    size = refl;
-    does = λ size names c v d. none names v d c (λ o e. Stops (Trapped trap line));
-  }
 
   pub object-trapped : (new : Machine) (r : Stepped) → IsSound new → r ≡ Halts → new ≡ stopped → IsObject m.objects before object
       → TrapsOf before after object trap line m new r
@@ -134,17 +111,6 @@ module _ (before after : Outside Space) (field : Field) (row : Row) (object : Op
     abbrev over : Machine
     over = record m { objects = now }
 
-    pub other-row-at : (f : Form) → IsSound m → NamesObjects m → Keeps m.objects now → Told (Ok f) → IsInRow row f false
-        → TrapsAt before after field row object trap line m over Damaged
-    other-row-at f sound names keeps told other = record {
-      sound = sound-kept m now sound;
-      names = names-kept m now keeps names;
-      size = keeps.size;
-      does = λ ns c v class l named place d.
-          ap (λ (g : Form). when_in_row row (Some g) (trap_at v trap line c)) (sym (told-form f told class l named place))
-          ∙ other-row-stuck row f other (trap_at v trap line c);
-    }
-
     pub field-trapped : (f : Form) (new : Machine) (r : Stepped) → IsSound new → NamesObjects m → Keeps m.objects now → Told (Ok f) → IsInRow row f true
         → IsObject m.objects before object → r ≡ Halts → new ≡ ended (in_code.Trapped trap line) over → TrapsAt before after field row object trap line m new r
     field-trapped f new r sound names keeps told in_it is answer left = record {
@@ -157,20 +123,3 @@ module _ (before after : Outside Space) (field : Field) (row : Row) (object : Op
           ∙ in-row-follows row f in_it (trap_at v trap line c)
           ∙ is ns v d c (λ o e. Stops (Trapped trap line)));
     }
-
-    pub no-form-at : (fault : SwizzleFault) (new : Machine) (r : Stepped) → r ≡ Breaks → BreaksWith before after over new r fault → Told (Err fault)
-        → TrapsAt before after field row object trap line m new r
-    no-form-at fault new r answer breaks told = record {
-      sound = breaks.sound;
-      names = subst (λ (x : Stepped). UnlessBroken x (NamesObjects new)) (sym answer) tt;
-      size = subst (λ (x : Stepped). UnlessBroken x (new.objects.size ≡ m.objects.size)) (sym answer) tt;
-      does = λ ns c v class l named place d.
-          breaks.off m.objects (when_in_row row (Some l.place.form) (trap_at v trap line c))
-          (off class l named place (told named.bytes named.row named.frame named.unit_is));
-    }
-      where
-        off : (class : List ℕ) (l : Located) (n : NamesClass m.objects before field.code field.constant class)
-            → located_in (forms_of class) field.number ≡ Some l
-            → AnswersForm m.objects now before after field.code n.row field.constant field.number (Err fault) → BreaksOff m.objects now before after fault
-        off class l n place (inl a) = absurd (a.0 class l n.class_is place)
-        off class l n place (inr b) = b

@@ -163,14 +163,7 @@ fn put_field<V: Vault>(
     let Some(object) = pop_any::<V>(m) else {
         return Stepped::Damaged;
     };
-    let set = m.objects.set_field(
-        vault,
-        object,
-        field.code,
-        field.constant,
-        field.number,
-        to,
-    );
+    let set = m.objects.set_field(vault, object, field.code, field.constant, field.number, to);
     match set {
         Ok(()) => Stepped::Quiet,
         Err(OpFault::Trap(trap)) => object_trapped::<V>(m, object, trap, line),

@@ -82,4 +82,5 @@ module _ (before after : Outside Space) where
         → Does before after old.objects.size
         (pop_object c (λ o d. attempted line (with_field d.store.heap o class field.number (kept_as (Some located.place.form) v)) (λ heap. changed heap d)))
         answer new
-    pub damaged : (s : Step) → s ≡ Stuck → LacksPlace old.objects before field.code field.constant field.number to → Does before after old.objects.size s answer new
+    pub damaged : (s : Step) → s ≡ Stuck → LacksPlace old.objects before field.code field.constant field.number to → Does before after old.objects.size s
+        answer new

@@ -17,5 +17,6 @@ returns-clause-takes g c =
     let did = c.put_field in
     let same : to_z w32 (of_z w32 c.in-Some.z) ≡ c.in-Some.z = search rules in
     number-set before after c.args.k c.args.n c.args.line m mid p.leaves c.in-Some.z did.new.m did.result (p.pops v)
-    (subst (λ (z : ℤ). PutsField before after (record { code = m.code; constant = c.args.k; number = c.args.n }) (Num z) c.args.line mid did.new.m did.result) same
+    (subst (λ (z : ℤ). PutsField before after (record { code = m.code; constant = c.args.k; number = c.args.n }) (Num z) c.args.line mid did.new.m did.result)
+    same
     did.ensures.puts)

@@ -6,5 +6,6 @@ returns-clause-takes g c =
     let v = c.args.vault.now in
     let p = c.in-Some.ensures in
     let did = c.put_field in
-    reference-set (g.V.Vault.outside v) (g.V.Vault.outside did.new.vault) c.args.k c.args.n c.args.line c.args.m.now c.pop_any.new.m p.leaves c.in-Some.to did.new.m
+    reference-set (g.V.Vault.outside v) (g.V.Vault.outside did.new.vault) c.args.k c.args.n c.args.line c.args.m.now c.pop_any.new.m p.leaves c.in-Some.to
+    did.new.m
     did.result (p.pops v) did.ensures.puts

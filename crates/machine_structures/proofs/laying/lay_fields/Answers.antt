@@ -20,8 +20,10 @@ lay-passed-requires-clause-next c =
 pub loop-rest-preserved : goal.loop-rest-preserved
 loop-rest-preserved c = record {
   so = one-laid c.args.text.now c.loop-rest.rest.now c.args.nums.now c.args.refs.now c.loop-rest.passed c.loop-rest.values.items c.loop-rest.invariant.so
-      (sym c.is_field.ensures ∙ c.loop-rest-test.true) c.next_field-rest.result.now c.lay-passed.new.values.items c.lay-passed.result c.next_field-rest.ensures.found
-      (subst (λ (f : Form). LaysOne f c.args.nums.now c.args.refs.now c.loop-rest.passed c.loop-rest.values.items c.lay-passed.new.values.items c.lay-passed.result)
+      (sym c.is_field.ensures ∙ c.loop-rest-test.true) c.next_field-rest.result.now c.lay-passed.new.values.items c.lay-passed.result
+      c.next_field-rest.ensures.found
+      (subst (λ (f : Form). LaysOne f c.args.nums.now c.args.refs.now c.loop-rest.passed c.loop-rest.values.items c.lay-passed.new.values.items
+      c.lay-passed.result)
       c.form_here.ensures c.lay-passed.ensures.lays);
   room = c.lay-passed.ensures.room;
 }

@@ -94,7 +94,8 @@ returns-clause-takes g c =
     (ap (λ (r : Rows). i + r.nums) (sym c.count_places-refs.ensures) ∙ c.in-Some.ensures.0 ∙ c.len.ensures)
     (ap (λ (r : Rows). j + r.refs) (sym c.count_places-refs.ensures) ∙ c.in-Some-below_top.ensures.0 ∙ c.len-2.ensures) made.new.self c.lay_fields.new.values
     c.truncate.new.self c.truncate-2.new.self c.truncate.ensures.own c.truncate-2.ensures.own c.truncate.ensures.below c.truncate-2.ensures.below
-    c.deref.result.now made.result c.give_structure.new.m c.give_structure.result laid made.ensures.leaves made.ensures.keeps made.ensures.held made.ensures.made
+    c.deref.result.now made.result c.give_structure.new.m c.give_structure.result laid made.ensures.leaves made.ensures.keeps made.ensures.held
+    made.ensures.made
     (c.give_structure.ensures w after)
 
 pub returns-clause-fails : goal.returns-clause-fails
@@ -103,7 +104,8 @@ returns-clause-fails g c =
     let made = c.make_structure-made in
     let give = c.give_structure in
     failing-behind (g.V.Vault.outside c.args.vault.now) (g.V.Vault.outside w) (g.V.Vault.outside made.new.vault) give.result give.new.m c.in-Ok.ensures.leaves
-    (fails-after give.result give.new.m (g.V.Vault.outside w) (g.V.Vault.outside made.new.vault) made.result (give.ensures w made.new.vault).ends.breaks made.ensures.fails)
+    (fails-after give.result give.new.m (g.V.Vault.outside w) (g.V.Vault.outside made.new.vault) made.result (give.ensures w made.new.vault).ends.breaks
+    made.ensures.fails)
 
 pub returns-clause-alive : goal.returns-clause-alive
 returns-clause-alive g c =

@@ -1,4 +1,4 @@
-use Rattle.std.proofs.Common.{◌≡◌, ℕ, ℤ, List, drop, length, sym, ap, ◌∙◌, subst, arith}
+use Rattle.std.proofs.Common.{◌≡◌, ℕ, ℤ, List, drop, sym, ap, ◌∙◌, subst, arith}
 use Rattle.std.proofs.lemmas.List.Elements.{All-drop}
 use Rattle.machine_core.specs.swizzle.Text.{text_at}
 use Rattle.machine_core.specs.text_forms.Forms.{forms_of}
@@ -50,4 +50,5 @@ returns-clause-takes g c = λ v.
 pub returns-clause-fails : goal.returns-clause-fails
 returns-clause-fails g c = λ v.
     let made = c.make_from-made in
-    making-fails (g.V.Vault.outside v) c.args.m.now.objects made.new.self c.give_object.new.m c.give_object.result made.result (c.give_object.ensures v).ends.breaks made.ensures.fails
+    making-fails (g.V.Vault.outside v) c.args.m.now.objects made.new.self c.give_object.new.m c.give_object.result made.result
+    (c.give_object.ensures v).ends.breaks made.ensures.fails

@@ -1,7 +1,6 @@
 use mir.Syntax.{w32}
 use mir.Val.{to_z, of_z}
 use Rattle.std.proofs.Common.{◌≡◌, ℤ, ◌∙◌, rules, subst}
-use Rattle.machine_core.specs.ps_meaning.Values.{number_of}
 use Rattle.machine_core.specs.ps_stepping.Steps.{push_num}
 use Rattle.machine_core.specs.Stepped.{Takes}
 use Rattle.machine_structures.proofs.Comparing.{objects-compared}
