@@ -26,8 +26,8 @@ use Rattle.machine_core.specs.ps_meaning.Weights.{text_weight, own_weight}
 use Rattle.machine_core.specs.ps_stepping.Config.{Config, frame_words, frame_in}
 use Rattle.machine_core.specs.ps_stepping.Steps.{Step, Goes, Stuck, on, attempted, push_num, push_ref}
 use Rattle.machine_core.specs.ps_stepping.Objects.{make_text, make, changed, when_number, when_reference}
-use Rattle.machine_core.specs.joint_ops.World.{Answers, Writes, IsForIn, IsOfForm, Stands}
-use Rattle.machine_core.specs.joint_ops.Made.{IsShort, Makes, MakesText}
+use Rattle.machine_core.specs.joint_ops.World.{IsForIn, IsOfForm, Stands}
+use Rattle.machine_core.specs.joint_ops.Made.{IsShort}
 use Rattle.machine_core.specs.objects.Classes.{MakesLater}
 use Rattle.machine_core.specs.declared.machine.Machine.{Machine}
 use Rattle.machine_core.specs.declared.stepped.Stepped.{Stepped}

@@ -1,6 +1,6 @@
 -- The text constants of the code that a machine runs, and what a machine still stands for after an operation that read.
 use Rattle.std.proofs.Common.{◌≡◌, ℕ, zero, suc, List, Option, Some, None, inl, inr, refl, sym, ap, ◌∙◌, subst}
-use Rattle.std.specs.Prelude.{IfSome, Result, Ok, Err}
+use Rattle.std.specs.Prelude.{Result, Ok, Err}
 use Rattle.ps_base.specs.CodeUnit.{UnitView, unit, ConstantView, ConstantsView, no_constants, constant_then}
 use Rattle.ps_base.specs.declared.code_unit.Frame.{Frame}
 use Rattle.machine_core.specs.ps_outside.Outside.{Outside}
@@ -11,11 +11,10 @@ use Rattle.machine_core.specs.swizzle.Heap.{IsHeld, Stands as AllStand}
 use Rattle.machine_core.specs.swizzle.Touch.{Keeps}
 use Rattle.machine_core.specs.swizzle.declared.fault.SwizzleFault.{SwizzleFault}
 use Rattle.machine_core.specs.proc_values.Loaded.{constant_numbered}
-use Rattle.machine_core.specs.ps_meaning.Values.{Value}
 use Rattle.machine_core.specs.ps_meaning.Objects.{Heap}
 use Rattle.machine_core.specs.ps_stepping.Config.{Config, constants_in, constant_at}
-use Rattle.machine_core.specs.ps_stepping.Steps.{Step, Stuck, text_in, with_text}
-use Rattle.machine_core.specs.joint_ops.World.{IsWorld, DenotesIn, IsUnitIn, Stands}
+use Rattle.machine_core.specs.ps_stepping.Steps.{Step, text_in, with_text}
+use Rattle.machine_core.specs.joint_ops.World.{IsWorld, IsUnitIn, Stands}
 use Rattle.joint_procedures.specs.Units.{AnswersText}
 use Rattle.machine_core.specs.declared.machine.Machine.{Machine}
 use Rattle.machine_core.specs.declared.stepped.Stepped.{Stepped}

@@ -2,7 +2,7 @@ use Rattle.std.proofs.Common.{◌≡◌, sym, subst, rules}
 use Rattle.std.specs.Prelude.{Ok}
 use Rattle.machine_core.specs.heap_places.declared.value.Value.TheVariants as held
 use Rattle.machine_operands.specs.Giving.{GivesReference}
-use Rattle.machine_operands.proofs.Giving.{reference-pushed, reference-failed, no-reference}
+use Rattle.machine_operands.proofs.Giving.{reference-pushed, reference-failed}
 use Rattle.machine_operands.proofs.gives.give_reference.Goals as goal
 
 pub returns-in-Ok-Ref : goal.returns-in-Ok-Ref
