@@ -114,7 +114,7 @@ load-within old new outside u at keeps l n it (inr v) =
 
 -- What lies in the area is seen.
 
-code-bytes : (here : area.Heap) (at : ℕ) → (header_at here at).kind ≡ kind.Code → text_at here at ≡ shown_code (shown_at here at)
+pub code-bytes : (here : area.Heap) (at : ℕ) → (header_at here at).kind ≡ kind.Code → text_at here at ≡ shown_code (shown_at here at)
 code-bytes here at is = ap (λ (k : Kind). take (header_at here at).bytes (drop (8 * words_before k) (bytes_of (object_at here at).nums))) is
 
 module _ (outside : Outside Space) where
@@ -152,7 +152,7 @@ unit-held here at (unit code cs frame) i = i.0.held
 
 -- Loading.
 
-no-names : (here : area.Heap) (outside : Outside Space) → IsWorld here outside [] []
+pub no-names : (here : area.Heap) (outside : Outside Space) → IsWorld here outside [] []
 no-names here outside = record {
   row = record {
     stands = record { both = λ n id p. absurd (cc); one_number = λ n i j p q. absurd (cc); one_name = λ n m id p q. absurd (cc) };

@@ -4,6 +4,7 @@ ghost use Rattle.std.specs.Fmt.{signed_decimal};
 ghost use Rattle.heap_meaning.specs.obj_area.Words.{AreBytes};
 ghost use Rattle.heap_meaning.specs.obj_layout.declared.reference.Reference.{Reference};
 ghost use Rattle.heap_meaning.specs.swizzle.Heap.{IsHeld, header_at};
+ghost use Rattle.heap_meaning.specs.swizzle.Text.{text_at};
 ghost use Rattle.heap_meaning.specs.swizzle.Touch.{Keeps};
 ghost use Rattle.heap_meaning.specs.ps_meaning.Objects as meaning;
 ghost use Rattle.heap_meaning.specs.ps_meaning.Texts.{Yields, join_of, part_of, order_of, string_of};
@@ -141,6 +142,7 @@ pub fn bytes<V: Vault>(sw: &Swizzle, text: u32) -> &[u8]
     requires held { IsHeld sw.now text }
     requires text { (header_at sw.now text).kind ≡ Kind.Text }
     ensures value { (vault : V) (names : List Reference) (v : List ℕ) → DenotesIn sw.now (V.outside vault) names (Some text) (meant.Text v) → result.now ≡ v }
+    ensures bytes { result.now ≡ text_at sw.now text }
     ensures small { length result.now < 2 ^ 31 }
 {
     sw.sound();

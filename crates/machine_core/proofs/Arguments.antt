@@ -14,7 +14,7 @@ use Rattle.joint_ops.specs.World.{DenotesIn}
 use Rattle.machine_core.specs.Rows.{IsRow, IsRefRow, AreDenoted, object_in}
 
 -- the items above some of a row, the top first
-pushed-above : {W : Type 0} (size : ℕ) (low own : List W) → size ≤ length low → reverse (drop size (low ++ own)) ≡ reverse own ++ reverse (drop size low)
+pub pushed-above : {W : Type 0} (size : ℕ) (low own : List W) → size ≤ length low → reverse (drop size (low ++ own)) ≡ reverse own ++ reverse (drop size low)
 pushed-above {W} size low own room = ap (λ (xs : List W). reverse xs) (drop-append-le size low own room) ∙ reverse-append (drop size low) own
 
 -- the first of some, put before others after the rest
@@ -100,7 +100,7 @@ too-few-refs (suc n) acc c next few = of c.refs refl (λ v d low. too-few-refs n
 
 module _ (here : area.Heap) (outside : Outside Space) (names : List Reference) where
   -- what is denoted by some words, and by others after them
-  denoted-split : (ws us : List ℕ) (vs : List Value) → AreDenoted here outside names (ws ++ us) vs
+  pub denoted-split : (ws us : List ℕ) (vs : List Value) → AreDenoted here outside names (ws ++ us) vs
       → (a : List Value) × (b : List Value) × (vs ≡ a ++ b) × AreDenoted here outside names ws a × AreDenoted here outside names us b
   denoted-split [] us vs d = ([], vs, refl, tt, d)
   denoted-split (w ∷ ws) us [] d = absurd d
@@ -114,7 +114,7 @@ module _ (here : area.Heap) (outside : Outside Space) (names : List Reference) w
   denoted-joined (w ∷ ws) us [] xs d e = absurd d
   denoted-joined (w ∷ ws) us (v ∷ vs) xs d e = (d.0, denoted-joined ws us vs xs d.1 e)
 
-  denoted-reverse : (ws : List ℕ) (vs : List Value) → AreDenoted here outside names ws vs → AreDenoted here outside names (reverse ws) (reverse vs)
+  pub denoted-reverse : (ws : List ℕ) (vs : List Value) → AreDenoted here outside names ws vs → AreDenoted here outside names (reverse ws) (reverse vs)
   denoted-reverse [] [] d = tt
   denoted-reverse [] (v ∷ vs) d = absurd d
   denoted-reverse (w ∷ ws) [] d = absurd d

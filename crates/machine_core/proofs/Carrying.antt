@@ -114,14 +114,19 @@ rose-earlier : (a b c : ℕ) → a ≤ b → Rose b c → Rose a c
 rose-earlier a b c low (inl more) = inl (omega (arith, low, more))
 rose-earlier a b c low (inr last) = inr last
 
+-- A step broke off for the same reason in a run that began before, where what was held stayed and no count sank.
+pub breaks-earlier : (before mid after : Outside Space) (size : ℕ) (s : Step) (fault : SwizzleFault) → SameContents before mid
+    → before.device_faults ≤ mid.device_faults → BreaksBy mid after size s fault → BreaksBy before after size s fault
+breaks-earlier before mid after size s (AreaFull top wanted its) same low (is, full, inl made) = (is, full, inl made)
+breaks-earlier before mid after size s (AreaFull top wanted its) same low (is, full, inr stored) = (is, full, inr (stores-earlier before mid wanted same stored))
+breaks-earlier before mid after size s (Vault vault.Device) same low b = rose-earlier before.device_faults mid.device_faults after.device_faults low b
+breaks-earlier before mid after size s (Vault vault.Output) same low b = b
+breaks-earlier before mid after size s (Vault (vault.Full used wanted capacity)) same low b = b
+breaks-earlier before mid after size s (Vault (vault.Damaged at found wanted)) same low b = b
+
 pub breaks-behind : (before mid after : Outside Space) (size : ℕ) (s : Step) (fault : SwizzleFault) → LeavesOutside before mid
     → BreaksBy mid after size s fault → BreaksBy before after size s fault
-breaks-behind before mid after size s (AreaFull top wanted its) left (same, full, inl made) = (same, full, inl made)
-breaks-behind before mid after size s (AreaFull top wanted its) left (same, full, inr stored) = (same, full, inr (stores-earlier before mid wanted left.contents stored))
-breaks-behind before mid after size s (Vault vault.Device) left b = rose-earlier before.device_faults mid.device_faults after.device_faults left.counts b
-breaks-behind before mid after size s (Vault vault.Output) left b = b
-breaks-behind before mid after size s (Vault (vault.Full used wanted capacity)) left b = b
-breaks-behind before mid after size s (Vault (vault.Damaged at found wanted)) left b = b
+breaks-behind before mid after size s fault left b = breaks-earlier before mid after size s fault left.contents left.counts b
 
 -- what is done after an operation that left the outside and kept the size
 pub does-behind : (before mid after : Outside Space) (a b : ℕ) (s : Step) (r : Stepped) (m : Machine) → LeavesOutside before mid → b ≡ a

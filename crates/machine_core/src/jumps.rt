@@ -1,9 +1,10 @@
-ghost use Rattle.std.specs.Prelude.{◌≡◌, if◌then◌else◌};
+ghost use Rattle.std.specs.Prelude.{◌≡◌, if◌then◌else◌, ◌≢◌};
 ghost use Rattle.ps_stepping.specs.ps_meaning.Meaning.{spent};
 ghost use Rattle.ps_stepping.specs.ps_meaning.Values.{is_one as is_one_of};
 ghost use Rattle.ps_stepping.specs.Machine.{on, forward as forward_of, back as back_of, turn_to as turn_to_of, pop_num as pop_num_of};
 ghost use Rattle.machine_core.specs.Holding.{IsSound};
 ghost use Rattle.machine_core.specs.Stepped.{Takes};
+ghost use Rattle.machine_core.specs.declared.stepped.Stepped.TheVariants.{Breaks};
 
 use crate::ends::halt;
 use crate::machine::Machine;
@@ -24,7 +25,8 @@ pub fn is_one(z: i32) -> bool
 #[inline(always)]
 pub fn quiet<V: Vault>(m: &Machine) -> Stepped
     requires { IsSound m.now }
-    ensures { (v : V) → Takes (V.outside v) (V.outside v) on m.now m.now result }
+    ensures takes { (v : V) → Takes (V.outside v) (V.outside v) on m.now m.now result }
+    ensures goes { result ≢ Breaks }
 {
     let _ = m;
     Stepped::Quiet
@@ -34,7 +36,8 @@ pub fn quiet<V: Vault>(m: &Machine) -> Stepped
 #[inline(always)]
 pub fn forward<V: Vault>(m: &mut Machine, own: u32, to: u32) -> Stepped
     requires { IsSound m.old }
-    ensures { (v : V) → Takes (V.outside v) (V.outside v) (forward_of own to) m.old m.new result }
+    ensures takes { (v : V) → Takes (V.outside v) (V.outside v) (forward_of own to) m.old m.new result }
+    ensures goes { result ≢ Breaks }
 {
     if to <= own {
         return Stepped::Damaged;
@@ -47,7 +50,8 @@ pub fn forward<V: Vault>(m: &mut Machine, own: u32, to: u32) -> Stepped
 #[inline(always)]
 pub fn turn_to<V: Vault>(m: &mut Machine, to: u32) -> Stepped
     requires { IsSound m.old }
-    ensures { (v : V) → Takes (V.outside v) (V.outside v) (λ c. turn_to_of (spent c.store) to c) m.old m.new result }
+    ensures takes { (v : V) → Takes (V.outside v) (V.outside v) (λ c. turn_to_of (spent c.store) to c) m.old m.new result }
+    ensures goes { result ≢ Breaks }
 {
     if m.turns == 0 {
         return halt::<V>(m, RunEnd::OutOfTurns);
@@ -61,7 +65,8 @@ pub fn turn_to<V: Vault>(m: &mut Machine, to: u32) -> Stepped
 #[inline(always)]
 pub fn back<V: Vault>(m: &mut Machine, own: u32, to: u32) -> Stepped
     requires { IsSound m.old }
-    ensures { (v : V) → Takes (V.outside v) (V.outside v) (back_of own to) m.old m.new result }
+    ensures takes { (v : V) → Takes (V.outside v) (V.outside v) (back_of own to) m.old m.new result }
+    ensures goes { result ≢ Breaks }
 {
     if to >= own {
         return Stepped::Damaged;
@@ -73,7 +78,8 @@ pub fn back<V: Vault>(m: &mut Machine, own: u32, to: u32) -> Stepped
 #[inline(always)]
 pub fn jump_false<V: Vault>(m: &mut Machine, own: u32, to: u32) -> Stepped
     requires { IsSound m.old }
-    ensures { (v : V) → Takes (V.outside v) (V.outside v) (λ c. pop_num_of c (λ z d. if is_one_of z then on d else forward_of own to d)) m.old m.new result }
+    ensures takes { (v : V) → Takes (V.outside v) (V.outside v) (λ c. pop_num_of c (λ z d. if is_one_of z then on d else forward_of own to d)) m.old m.new result }
+    ensures goes { result ≢ Breaks }
 {
     let Some(z) = pop_num::<V>(m) else {
         return Stepped::Damaged;
@@ -88,7 +94,8 @@ pub fn jump_false<V: Vault>(m: &mut Machine, own: u32, to: u32) -> Stepped
 #[inline(always)]
 pub fn jump_true<V: Vault>(m: &mut Machine, own: u32, to: u32) -> Stepped
     requires { IsSound m.old }
-    ensures { (v : V) → Takes (V.outside v) (V.outside v) (λ c. pop_num_of c (λ z d. if is_one_of z then forward_of own to d else on d)) m.old m.new result }
+    ensures takes { (v : V) → Takes (V.outside v) (V.outside v) (λ c. pop_num_of c (λ z d. if is_one_of z then forward_of own to d else on d)) m.old m.new result }
+    ensures goes { result ≢ Breaks }
 {
     let Some(z) = pop_num::<V>(m) else {
         return Stepped::Damaged;
@@ -103,7 +110,8 @@ pub fn jump_true<V: Vault>(m: &mut Machine, own: u32, to: u32) -> Stepped
 #[inline(always)]
 pub fn again<V: Vault>(m: &mut Machine, own: u32, to: u32) -> Stepped
     requires { IsSound m.old }
-    ensures { (v : V) → Takes (V.outside v) (V.outside v) (λ c. pop_num_of c (λ z d. if is_one_of z then back_of own to d else on d)) m.old m.new result }
+    ensures takes { (v : V) → Takes (V.outside v) (V.outside v) (λ c. pop_num_of c (λ z d. if is_one_of z then back_of own to d else on d)) m.old m.new result }
+    ensures goes { result ≢ Breaks }
 {
     let Some(z) = pop_num::<V>(m) else {
         return Stepped::Damaged;
@@ -118,7 +126,8 @@ pub fn again<V: Vault>(m: &mut Machine, own: u32, to: u32) -> Stepped
 #[inline(always)]
 pub fn drop_num<V: Vault>(m: &mut Machine) -> Stepped
     requires { IsSound m.old }
-    ensures { (v : V) → Takes (V.outside v) (V.outside v) (λ c. pop_num_of c (λ z d. on d)) m.old m.new result }
+    ensures takes { (v : V) → Takes (V.outside v) (V.outside v) (λ c. pop_num_of c (λ z d. on d)) m.old m.new result }
+    ensures goes { result ≢ Breaks }
 {
     match pop_num::<V>(m) {
         Some(_) => quiet::<V>(m),
@@ -130,7 +139,8 @@ pub fn drop_num<V: Vault>(m: &mut Machine) -> Stepped
 #[inline(always)]
 pub fn and<V: Vault>(m: &mut Machine, own: u32, to: u32) -> Stepped
     requires { IsSound m.old }
-    ensures { (v : V) → Takes (V.outside v) (V.outside v) (λ c. pop_num_of c (λ z d. if is_one_of z then on d else forward_of own to c)) m.old m.new result }
+    ensures takes { (v : V) → Takes (V.outside v) (V.outside v) (λ c. pop_num_of c (λ z d. if is_one_of z then on d else forward_of own to c)) m.old m.new result }
+    ensures goes { result ≢ Breaks }
 {
     let Some(z) = top_num::<V>(m) else {
         return Stepped::Damaged;
@@ -145,7 +155,8 @@ pub fn and<V: Vault>(m: &mut Machine, own: u32, to: u32) -> Stepped
 #[inline(always)]
 pub fn or<V: Vault>(m: &mut Machine, own: u32, to: u32) -> Stepped
     requires { IsSound m.old }
-    ensures { (v : V) → Takes (V.outside v) (V.outside v) (λ c. pop_num_of c (λ z d. if is_one_of z then forward_of own to c else on d)) m.old m.new result }
+    ensures takes { (v : V) → Takes (V.outside v) (V.outside v) (λ c. pop_num_of c (λ z d. if is_one_of z then forward_of own to c else on d)) m.old m.new result }
+    ensures goes { result ≢ Breaks }
 {
     let Some(z) = top_num::<V>(m) else {
         return Stepped::Damaged;

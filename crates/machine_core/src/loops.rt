@@ -1,9 +1,10 @@
-ghost use Rattle.std.specs.Prelude.{◌≡◌, ◌^◌, ◌+ℤ◌, ◌+◌, ◌<◌, MatchOption, pos, true, false};
+ghost use Rattle.std.specs.Prelude.{◌≡◌, ◌^◌, ◌+ℤ◌, ◌+◌, ◌<◌, MatchOption, pos, true, false, ◌≢◌};
 ghost use Rattle.ps_stepping.specs.ps_meaning.Evaluation.{goes_on as goes_on_of};
 ghost use Rattle.ps_stepping.specs.ps_meaning.Operators.{is_same};
 ghost use Rattle.ps_stepping.specs.Machine.{with_num, back as back_of, started as started_of, counted as counted_of, for_start as for_start_of, for_next as for_next_of};
 ghost use Rattle.machine_core.specs.Holding.{IsSound};
 ghost use Rattle.machine_core.specs.Stepped.{Takes};
+ghost use Rattle.machine_core.specs.declared.stepped.Stepped.TheVariants.{Breaks};
 
 use crate::ends::trapped;
 use crate::jumps::{back, forward, quiet, turn_to};
@@ -59,7 +60,8 @@ fn started<V: Vault>(
     step: i32,
 ) -> Stepped
     requires { IsSound m.old }
-    ensures { (v : V) → Takes (V.outside v) (V.outside v) (started_of own to line control limit step) m.old m.new result }
+    ensures takes { (v : V) → Takes (V.outside v) (V.outside v) (started_of own to line control limit step) m.old m.new result }
+    ensures goes { result ≢ Breaks }
 {
     if is_still(step) {
         return trapped::<V>(m, Trap::Bounds, line);
@@ -76,7 +78,8 @@ fn started<V: Vault>(
 pub fn for_start<V: Vault>(m: &mut Machine, own: u32, slot: usize, to: u32, line: Line) -> Stepped
     requires sound { IsSound m.old }
     requires small { slot < 2 ^ 32 }
-    ensures { (v : V) → Takes (V.outside v) (V.outside v) (for_start_of own slot to line) m.old m.new result }
+    ensures takes { (v : V) → Takes (V.outside v) (V.outside v) (for_start_of own slot to line) m.old m.new result }
+    ensures goes { result ≢ Breaks }
 {
     let Some(step) = num_at::<V>(m, slot + 2) else {
         return Stepped::Damaged;
@@ -95,7 +98,8 @@ pub fn for_start<V: Vault>(m: &mut Machine, own: u32, slot: usize, to: u32, line
 fn back_with<V: Vault>(m: &mut Machine, own: u32, slot: usize, to: u32, z: i32) -> Stepped
     requires sound { IsSound m.old }
     requires slot { slot < m.old.frame.nums }
-    ensures { (v : V) → Takes (V.outside v) (V.outside v) (λ c. back_of own to (with_num c slot z)) m.old m.new result }
+    ensures takes { (v : V) → Takes (V.outside v) (V.outside v) (λ c. back_of own to (with_num c slot z)) m.old m.new result }
+    ensures goes { result ≢ Breaks }
 {
     set_num_at::<V>(m, slot, z);
     back::<V>(m, own, to)
@@ -114,7 +118,8 @@ fn counted<V: Vault>(
 ) -> Stepped
     requires sound { IsSound m.old }
     requires slot { slot < m.old.frame.nums }
-    ensures { (v : V) → Takes (V.outside v) (V.outside v) (counted_of own slot to limit step (control +ℤ step)) m.old m.new result }
+    ensures takes { (v : V) → Takes (V.outside v) (V.outside v) (counted_of own slot to limit step (control +ℤ step)) m.old m.new result }
+    ensures goes { result ≢ Breaks }
 {
     match next_of(control, limit, step) {
         Some(z) => back_with::<V>(m, own, slot, to, z),
@@ -127,7 +132,8 @@ fn counted<V: Vault>(
 pub fn for_next<V: Vault>(m: &mut Machine, own: u32, slot: usize, to: u32) -> Stepped
     requires sound { IsSound m.old }
     requires small { slot < 2 ^ 32 }
-    ensures { (v : V) → Takes (V.outside v) (V.outside v) (for_next_of own slot to) m.old m.new result }
+    ensures takes { (v : V) → Takes (V.outside v) (V.outside v) (for_next_of own slot to) m.old m.new result }
+    ensures goes { result ≢ Breaks }
 {
     let Some(step) = num_at::<V>(m, slot + 2) else {
         return Stepped::Damaged;

@@ -1,9 +1,11 @@
 //! Coming back to a body that waits.
+ghost use Rattle.std.specs.Prelude.{◌≢◌};
 ghost use Rattle.ps_stepping.specs.Machine.{returned as returned_of};
 ghost use Rattle.machine_core.specs.Calling.{Resumes};
 ghost use Rattle.machine_core.specs.Holding.{IsSound};
 ghost use Rattle.machine_core.specs.Stepped.{Takes};
 ghost use Rattle.machine_core.specs.inside.Taking.{Leaves};
+ghost use Rattle.machine_core.specs.declared.stepped.Stepped.TheVariants.{Breaks};
 
 use crate::ends::halt;
 use crate::machine::Machine;
@@ -16,7 +18,8 @@ use joint_ops::obj_layout::vault::Vault;
 #[inline(always)]
 pub fn returned<V: Vault>(m: &mut Machine, kind: u32) -> Stepped
     requires { IsSound m.old }
-    ensures { (v : V) → Takes (V.outside v) (V.outside v) (returned_of kind) m.old m.new result }
+    ensures takes { (v : V) → Takes (V.outside v) (V.outside v) (returned_of kind) m.old m.new result }
+    ensures goes { result ≢ Breaks }
 {
     match kind {
         0 => return_nothing::<V>(m),
@@ -29,7 +32,8 @@ pub fn returned<V: Vault>(m: &mut Machine, kind: u32) -> Stepped
 #[inline(always)]
 fn return_nothing<V: Vault>(m: &mut Machine) -> Stepped
     requires { IsSound m.old }
-    ensures { (v : V) → Takes (V.outside v) (V.outside v) (returned_of 0) m.old m.new result }
+    ensures takes { (v : V) → Takes (V.outside v) (V.outside v) (returned_of 0) m.old m.new result }
+    ensures goes { result ≢ Breaks }
 {
     if resume::<V>(m) {
         return Stepped::Quiet;
@@ -40,7 +44,8 @@ fn return_nothing<V: Vault>(m: &mut Machine) -> Stepped
 #[inline(always)]
 fn return_num<V: Vault>(m: &mut Machine) -> Stepped
     requires { IsSound m.old }
-    ensures { (v : V) → Takes (V.outside v) (V.outside v) (returned_of 1) m.old m.new result }
+    ensures takes { (v : V) → Takes (V.outside v) (V.outside v) (returned_of 1) m.old m.new result }
+    ensures goes { result ≢ Breaks }
 {
     let Some(z) = pop_num::<V>(m) else {
         return Stepped::Damaged;
@@ -54,7 +59,8 @@ fn return_num<V: Vault>(m: &mut Machine) -> Stepped
 #[inline(always)]
 fn return_ref<V: Vault>(m: &mut Machine) -> Stepped
     requires { IsSound m.old }
-    ensures { (v : V) → Takes (V.outside v) (V.outside v) (returned_of 2) m.old m.new result }
+    ensures takes { (v : V) → Takes (V.outside v) (V.outside v) (returned_of 2) m.old m.new result }
+    ensures goes { result ≢ Breaks }
 {
     let Some(word) = pop_ref::<V>(m) else {
         return Stepped::Damaged;

@@ -71,7 +71,8 @@ pub fn top_two<V: Vault>(m: &Machine) -> Option<(i32, i32)>
 pub fn put_for_two<V: Vault>(m: &mut Machine, z: i32) -> Stepped
     requires sound { IsSound m.old }
     requires room { m.old.frame.nums + 2 ≤ length m.old.nums.own }
-    ensures { (v : V) → TakesTwo (V.outside v) (V.outside v) (put_num_of z) m.old m.new result }
+    ensures takes { (v : V) → TakesTwo (V.outside v) (V.outside v) (put_num_of z) m.old m.new result }
+    ensures goes { result ≢ Breaks }
 {
     let left = m.nums.len() - 1;
     m.nums.truncate(left);
@@ -204,7 +205,8 @@ pub fn set_num_at<V: Vault>(m: &mut Machine, slot: usize, z: i32)
 pub fn set_ref_at<V: Vault>(m: &mut Machine, slot: usize, to: Option<u32>) -> Stepped
     requires sound { IsSound m.old }
     requires slot { slot < m.old.frame.refs }
-    ensures { (v : V) → TakesRef (V.outside v) (V.outside v) (λ value c. on (with_ref c slot value)) m.old to m.new result }
+    ensures takes { (v : V) → TakesRef (V.outside v) (V.outside v) (λ value c. on (with_ref c slot value)) m.old to m.new result }
+    ensures goes { result ≢ Breaks }
 {
     m.objects.sound();
     m.refs.set(slot, word(to));

@@ -1,4 +1,4 @@
-ghost use Rattle.std.specs.Prelude.{◌≡◌, not, if◌then◌else◌};
+ghost use Rattle.std.specs.Prelude.{◌≡◌, not, if◌then◌else◌, ◌≢◌};
 ghost use Rattle.ps_stepping.specs.ps_meaning.Answers.{answer_of};
 ghost use Rattle.ps_stepping.specs.ps_meaning.Operators.{neg_of, arith_of, relation_of};
 ghost use Rattle.ps_stepping.specs.ps_meaning.Values.{is_one as is_one_of, number_of};
@@ -8,6 +8,7 @@ ghost use Rattle.std.specs.Prelude.{length, ◌<◌, ◌≤◌, ◌+◌};
 ghost use Rattle.machine_core.specs.Holding.{IsSound};
 ghost use Rattle.machine_core.specs.Stepped.{Takes};
 ghost use Rattle.machine_core.specs.inside.Taking.{TakesTwo, TakesRef};
+ghost use Rattle.machine_core.specs.declared.stepped.Stepped.TheVariants.{Breaks};
 
 use crate::ends::trapped;
 use crate::jumps::{is_one, quiet};
@@ -27,7 +28,8 @@ use ps_stepping::ps_meaning::operators;
 #[inline(always)]
 pub fn get_num<V: Vault>(m: &mut Machine, slot: usize) -> Stepped
     requires { IsSound m.old }
-    ensures { (v : V) → Takes (V.outside v) (V.outside v) (λ c. if is_num_slot c slot then push_num_of (c.locals.nums slot) c else Stuck) m.old m.new result }
+    ensures takes { (v : V) → Takes (V.outside v) (V.outside v) (λ c. if is_num_slot c slot then push_num_of (c.locals.nums slot) c else Stuck) m.old m.new result }
+    ensures goes { result ≢ Breaks }
 {
     match num_at::<V>(m, slot) {
         Some(z) => push_num::<V>(m, z),
@@ -39,7 +41,8 @@ pub fn get_num<V: Vault>(m: &mut Machine, slot: usize) -> Stepped
 #[inline(always)]
 pub fn get_ref<V: Vault>(m: &mut Machine, slot: usize) -> Stepped
     requires { IsSound m.old }
-    ensures { (v : V) → Takes (V.outside v) (V.outside v) (λ c. if is_ref_slot c slot then push_ref_of (c.locals.refs slot) c else Stuck) m.old m.new result }
+    ensures takes { (v : V) → Takes (V.outside v) (V.outside v) (λ c. if is_ref_slot c slot then push_ref_of (c.locals.refs slot) c else Stuck) m.old m.new result }
+    ensures goes { result ≢ Breaks }
 {
     match ref_at::<V>(m, slot) {
         Some(word) => push_ref::<V>(m, object(word)),
@@ -51,7 +54,8 @@ pub fn get_ref<V: Vault>(m: &mut Machine, slot: usize) -> Stepped
 #[inline(always)]
 fn store_num<V: Vault>(m: &mut Machine, slot: usize, z: i32) -> Stepped
     requires { IsSound m.old }
-    ensures { (v : V) → Takes (V.outside v) (V.outside v) (λ c. if is_num_slot c slot then on (with_num c slot z) else Stuck) m.old m.new result }
+    ensures takes { (v : V) → Takes (V.outside v) (V.outside v) (λ c. if is_num_slot c slot then on (with_num c slot z) else Stuck) m.old m.new result }
+    ensures goes { result ≢ Breaks }
 {
     if slot >= m.frame.nums as usize {
         return Stepped::Damaged;
@@ -64,7 +68,8 @@ fn store_num<V: Vault>(m: &mut Machine, slot: usize, z: i32) -> Stepped
 #[inline(always)]
 fn store_ref<V: Vault>(m: &mut Machine, slot: usize, to: Option<u32>) -> Stepped
     requires { IsSound m.old }
-    ensures { (v : V) → TakesRef (V.outside v) (V.outside v) (λ value c. if is_ref_slot c slot then on (with_ref c slot value) else Stuck) m.old to m.new result }
+    ensures takes { (v : V) → TakesRef (V.outside v) (V.outside v) (λ value c. if is_ref_slot c slot then on (with_ref c slot value) else Stuck) m.old to m.new result }
+    ensures goes { result ≢ Breaks }
 {
     if slot >= m.frame.refs as usize {
         return Stepped::Damaged;
@@ -76,7 +81,8 @@ fn store_ref<V: Vault>(m: &mut Machine, slot: usize, to: Option<u32>) -> Stepped
 #[inline(always)]
 pub fn set_num<V: Vault>(m: &mut Machine, slot: usize) -> Stepped
     requires { IsSound m.old }
-    ensures { (v : V) → Takes (V.outside v) (V.outside v) (λ c. pop_num_of c (λ z d. if is_num_slot d slot then on (with_num d slot z) else Stuck)) m.old m.new result }
+    ensures takes { (v : V) → Takes (V.outside v) (V.outside v) (λ c. pop_num_of c (λ z d. if is_num_slot d slot then on (with_num d slot z) else Stuck)) m.old m.new result }
+    ensures goes { result ≢ Breaks }
 {
     match pop_num::<V>(m) {
         Some(z) => store_num::<V>(m, slot, z),
@@ -88,7 +94,8 @@ pub fn set_num<V: Vault>(m: &mut Machine, slot: usize) -> Stepped
 #[inline(always)]
 pub fn set_ref<V: Vault>(m: &mut Machine, slot: usize) -> Stepped
     requires { IsSound m.old }
-    ensures { (v : V) → Takes (V.outside v) (V.outside v) (λ c. pop_ref_of c (λ value d. if is_ref_slot d slot then on (with_ref d slot value) else Stuck)) m.old m.new result }
+    ensures takes { (v : V) → Takes (V.outside v) (V.outside v) (λ c. pop_ref_of c (λ value d. if is_ref_slot d slot then on (with_ref d slot value) else Stuck)) m.old m.new result }
+    ensures goes { result ≢ Breaks }
 {
     match pop_ref::<V>(m) {
         Some(word) => store_ref::<V>(m, slot, object(word)),
@@ -108,7 +115,8 @@ pub fn number(flag: bool) -> i32
 #[inline(always)]
 pub fn not<V: Vault>(m: &mut Machine) -> Stepped
     requires { IsSound m.old }
-    ensures { (v : V) → Takes (V.outside v) (V.outside v) (λ c. pop_num_of c (λ z d. put_num_of (number_of (not (is_one_of z))) d)) m.old m.new result }
+    ensures takes { (v : V) → Takes (V.outside v) (V.outside v) (λ c. pop_num_of c (λ z d. put_num_of (number_of (not (is_one_of z))) d)) m.old m.new result }
+    ensures goes { result ≢ Breaks }
 {
     match pop_num::<V>(m) {
         Some(z) => put_num::<V>(m, number(!is_one(z))),
@@ -121,7 +129,8 @@ pub fn not<V: Vault>(m: &mut Machine) -> Stepped
 fn answered<V: Vault>(m: &mut Machine, answer: Result<i32, Trap>, line: Line) -> Stepped
     requires sound { IsSound m.old }
     requires room { length m.old.nums.own < frame_words }
-    ensures { (v : V) → Takes (V.outside v) (V.outside v) (answered_of line (answer_of answer)) m.old m.new result }
+    ensures takes { (v : V) → Takes (V.outside v) (V.outside v) (answered_of line (answer_of answer)) m.old m.new result }
+    ensures goes { result ≢ Breaks }
 {
     match answer {
         Ok(value) => put_num::<V>(m, value),
@@ -134,7 +143,8 @@ fn answered<V: Vault>(m: &mut Machine, answer: Result<i32, Trap>, line: Line) ->
 fn answered_for_two<V: Vault>(m: &mut Machine, answer: Result<i32, Trap>, line: Line) -> Stepped
     requires sound { IsSound m.old }
     requires room { m.old.frame.nums + 2 ≤ length m.old.nums.own }
-    ensures { (v : V) → TakesTwo (V.outside v) (V.outside v) (answered_of line (answer_of answer)) m.old m.new result }
+    ensures takes { (v : V) → TakesTwo (V.outside v) (V.outside v) (answered_of line (answer_of answer)) m.old m.new result }
+    ensures goes { result ≢ Breaks }
 {
     match answer {
         Ok(value) => put_for_two::<V>(m, value),
@@ -146,7 +156,8 @@ fn answered_for_two<V: Vault>(m: &mut Machine, answer: Result<i32, Trap>, line: 
 #[inline(always)]
 pub fn neg<V: Vault>(m: &mut Machine, line: Line) -> Stepped
     requires { IsSound m.old }
-    ensures { (v : V) → Takes (V.outside v) (V.outside v) (one_num_of line neg_of) m.old m.new result }
+    ensures takes { (v : V) → Takes (V.outside v) (V.outside v) (one_num_of line neg_of) m.old m.new result }
+    ensures goes { result ≢ Breaks }
 {
     match pop_num::<V>(m) {
         Some(z) => answered::<V>(m, operators::negate(z), line),
@@ -158,7 +169,8 @@ pub fn neg<V: Vault>(m: &mut Machine, line: Line) -> Stepped
 #[inline(always)]
 pub fn arith<V: Vault>(m: &mut Machine, op: Operator, line: Line) -> Stepped
     requires { IsSound m.old }
-    ensures { (v : V) → Takes (V.outside v) (V.outside v) (two_nums_of line (arith_of op)) m.old m.new result }
+    ensures takes { (v : V) → Takes (V.outside v) (V.outside v) (two_nums_of line (arith_of op)) m.old m.new result }
+    ensures goes { result ≢ Breaks }
 {
     match top_two::<V>(m) {
         Some((a, b)) => answered_for_two::<V>(m, operators::arith(op, a, b), line),
@@ -170,7 +182,8 @@ pub fn arith<V: Vault>(m: &mut Machine, op: Operator, line: Line) -> Stepped
 #[inline(always)]
 pub fn compare<V: Vault>(m: &mut Machine, relation: Relation) -> Stepped
     requires { IsSound m.old }
-    ensures { (v : V) → Takes (V.outside v) (V.outside v) (test_of (relation_of relation)) m.old m.new result }
+    ensures takes { (v : V) → Takes (V.outside v) (V.outside v) (test_of (relation_of relation)) m.old m.new result }
+    ensures goes { result ≢ Breaks }
 {
     match top_two::<V>(m) {
         Some((a, b)) => put_for_two::<V>(m, number(operators::relate(relation, a, b))),
@@ -182,7 +195,8 @@ pub fn compare<V: Vault>(m: &mut Machine, relation: Relation) -> Stepped
 #[inline(always)]
 pub fn dup_num<V: Vault>(m: &mut Machine) -> Stepped
     requires { IsSound m.old }
-    ensures { (v : V) → Takes (V.outside v) (V.outside v) (λ c. pop_num_of c (λ z d. push_num_of z c)) m.old m.new result }
+    ensures takes { (v : V) → Takes (V.outside v) (V.outside v) (λ c. pop_num_of c (λ z d. push_num_of z c)) m.old m.new result }
+    ensures goes { result ≢ Breaks }
 {
     match top_num::<V>(m) {
         Some(z) => push_num::<V>(m, z),
@@ -194,7 +208,8 @@ pub fn dup_num<V: Vault>(m: &mut Machine) -> Stepped
 #[inline(always)]
 pub fn dup_ref<V: Vault>(m: &mut Machine) -> Stepped
     requires { IsSound m.old }
-    ensures { (v : V) → Takes (V.outside v) (V.outside v) (λ c. pop_ref_of c (λ value d. push_ref_of value c)) m.old m.new result }
+    ensures takes { (v : V) → Takes (V.outside v) (V.outside v) (λ c. pop_ref_of c (λ value d. push_ref_of value c)) m.old m.new result }
+    ensures goes { result ≢ Breaks }
 {
     match top_ref::<V>(m) {
         Some(word) => push_ref::<V>(m, object(word)),
@@ -206,7 +221,8 @@ pub fn dup_ref<V: Vault>(m: &mut Machine) -> Stepped
 #[inline(always)]
 pub fn drop_ref<V: Vault>(m: &mut Machine) -> Stepped
     requires { IsSound m.old }
-    ensures { (v : V) → Takes (V.outside v) (V.outside v) (λ c. pop_ref_of c (λ value d. on d)) m.old m.new result }
+    ensures takes { (v : V) → Takes (V.outside v) (V.outside v) (λ c. pop_ref_of c (λ value d. on d)) m.old m.new result }
+    ensures goes { result ≢ Breaks }
 {
     match pop_ref::<V>(m) {
         Some(_) => quiet::<V>(m),

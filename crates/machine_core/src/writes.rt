@@ -1,4 +1,4 @@
-ghost use Rattle.std.specs.Prelude.{◌≡◌, Option, Some, None};
+ghost use Rattle.std.specs.Prelude.{◌≡◌, Option, Some, None, ◌≢◌};
 ghost use Rattle.std.specs.Fmt.{signed_decimal};
 ghost use Rattle.ps_base.specs.declared.trap.Trap.TheVariants.{Abort};
 ghost use Rattle.ps_stepping.specs.ps_meaning.Event.{Trapped};
@@ -7,6 +7,7 @@ ghost use Rattle.ps_stepping.specs.ps_meaning.Meaning.{is_width as is_width_of};
 ghost use Rattle.ps_stepping.specs.Machine.{Stops, written as written_of, write_num as write_num_of};
 ghost use Rattle.machine_core.specs.Holding.{IsSound};
 ghost use Rattle.machine_core.specs.Stepped.{Takes, item_text, IsItem};
+ghost use Rattle.machine_core.specs.declared.stepped.Stepped.TheVariants.{Breaks};
 
 use crate::ends::trapped;
 use crate::jumps::is_one;
@@ -36,7 +37,8 @@ fn is_width(width: Option<i32>) -> bool
 pub fn written<V: Vault>(m: &mut Machine, width: Option<i32>, item: Item, line: Line) -> Stepped
     requires sound { IsSound m.old }
     requires item { IsItem m.old.objects item }
-    ensures { (v : V) → Takes (V.outside v) (V.outside v) (written_of line width (item_text m.old.objects item)) m.old m.new result }
+    ensures takes { (v : V) → Takes (V.outside v) (V.outside v) (written_of line width (item_text m.old.objects item)) m.old m.new result }
+    ensures goes { result ≢ Breaks }
 {
     if is_width(width) {
         m.writing = Writing { width, item };
@@ -49,7 +51,8 @@ pub fn written<V: Vault>(m: &mut Machine, width: Option<i32>, item: Item, line: 
 #[inline(always)]
 pub fn write_int<V: Vault>(m: &mut Machine, given: u32, line: Line) -> Stepped
     requires { IsSound m.old }
-    ensures { (v : V) → Takes (V.outside v) (V.outside v) (write_num_of given line signed_decimal) m.old m.new result }
+    ensures takes { (v : V) → Takes (V.outside v) (V.outside v) (write_num_of given line signed_decimal) m.old m.new result }
+    ensures goes { result ≢ Breaks }
 {
     let Some(width) = pop_width::<V>(m, given) else {
         return Stepped::Damaged;
@@ -64,7 +67,8 @@ pub fn write_int<V: Vault>(m: &mut Machine, given: u32, line: Line) -> Stepped
 #[inline(always)]
 pub fn write_flag<V: Vault>(m: &mut Machine, given: u32, line: Line) -> Stepped
     requires { IsSound m.old }
-    ensures { (v : V) → Takes (V.outside v) (V.outside v) (write_num_of given line (λ z. flag_text (is_one_of z))) m.old m.new result }
+    ensures takes { (v : V) → Takes (V.outside v) (V.outside v) (write_num_of given line (λ z. flag_text (is_one_of z))) m.old m.new result }
+    ensures goes { result ≢ Breaks }
 {
     let Some(width) = pop_width::<V>(m, given) else {
         return Stepped::Damaged;
@@ -79,7 +83,8 @@ pub fn write_flag<V: Vault>(m: &mut Machine, given: u32, line: Line) -> Stepped
 #[inline(always)]
 pub fn abort<V: Vault>(m: &mut Machine, line: Line) -> Stepped
     requires { IsSound m.old }
-    ensures { (v : V) → Takes (V.outside v) (V.outside v) (λ c. Stops (Trapped Abort line)) m.old m.new result }
+    ensures takes { (v : V) → Takes (V.outside v) (V.outside v) (λ c. Stops (Trapped Abort line)) m.old m.new result }
+    ensures goes { result ≢ Breaks }
 {
     trapped::<V>(m, Trap::Abort, line)
 }

@@ -9,6 +9,7 @@ pub mod ElementLaws
 pub mod BrokenLaws
 pub mod KnownLaws
 pub mod KeptElements
+pub mod KnownForms
 pub mod NumberLaws
 pub mod ScopeLaws
 pub mod NamedLaws

@@ -3,6 +3,7 @@ ghost use Rattle.std.specs.Prelude.{◌≡◌, ◌<◌, ◌^◌, List, length, �
 ghost use Rattle.std.specs.Fmt.{signed_decimal};
 ghost use Rattle.joint_ops.specs.obj_layout.declared.reference.Reference.{Reference};
 ghost use Rattle.joint_ops.specs.swizzle.Heap.{IsHeld, header_at};
+ghost use Rattle.joint_ops.specs.swizzle.Text.{text_at};
 ghost use Rattle.joint_ops.specs.swizzle.Touch.{Keeps};
 ghost use Rattle.joint_ops.specs.ps_meaning.Objects as meaning;
 ghost use Rattle.joint_ops.specs.ps_meaning.Texts.{Yields, join_of, part_of, order_of, string_of};
@@ -113,6 +114,7 @@ impl Objects {
         requires held { IsHeld self.now text }
         requires text { (header_at self.now text).kind ≡ Kind.Text }
         ensures value { (vault : V) (names : List Reference) (v : List ℕ) → DenotesIn self.now (V.outside vault) names (Some text) (meant.Text v) → result.now ≡ v }
+        ensures bytes { result.now ≡ text_at self.now text }
         ensures small { length result.now < 2 ^ 31 }
     {
         texts::bytes::<V>(&self.sw, text)

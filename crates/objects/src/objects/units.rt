@@ -1,11 +1,12 @@
 //! Units of code, loaded and read.
-ghost use Rattle.std.specs.Prelude.{◌≡◌, ℕ, List, IfOk, IfSome, OnOk};
+ghost use Rattle.std.specs.Prelude.{◌≡◌, ℕ, List, IfErr, IfOk, IfSome, OnOk};
 ghost use Rattle.ps_base.specs.CodeUnit.{ConstantsView, unit, unit_view};
 ghost use Rattle.ps_base.specs.declared.code_unit.Frame.{Frame as Numbers};
 ghost use Rattle.joint_ops.specs.obj_layout.declared.reference.Reference.{Reference};
 ghost use Rattle.joint_ops.specs.obj_layout.Storing.{SameNumbers};
 ghost use Rattle.joint_ops.specs.proc_values.Loaded.{IsFitUnit};
-ghost use Rattle.joint_ops.specs.swizzle.Heap.{IsHeld, header_at, num_at};
+ghost use Rattle.joint_ops.specs.proc_values.Units.{IsCut, unit_objects};
+ghost use Rattle.joint_ops.specs.swizzle.Heap.{IsHeld, header_at, num_at, top_of};
 ghost use Rattle.joint_ops.specs.swizzle.Reading.{LeavesOutside};
 ghost use Rattle.joint_ops.specs.swizzle.Touch.{Keeps};
 ghost use Rattle.joint_ops.specs.ps_meaning.Objects as meaning;
@@ -30,6 +31,7 @@ impl Objects {
         ensures held { IfOk result (IsHeld self.new) }
         ensures code { IfOk result (λ at. (header_at self.new at).kind ≡ Kind.Code) }
         ensures keeps { Keeps self.old self.new }
+        ensures cut { IfErr result (λ fault. IsCut self.old self.new (unit_objects (top_of self.old) (unit_view unit.now)) fault) }
     {
         code::load(&mut self.sw, vault, unit)
     }

@@ -79,6 +79,20 @@ impl Objects {
         peek_number(&self.sw, &self.known.vectors, vector, at)
     }
 
+    /// The form of the elements of a vector, where the element at a subscript is reached by what is known of the vector. None where it isn't: then
+    /// `element_form` tells it.
+    #[inline(always)]
+    pub fn known_form<V: Vault>(&self, vector: u32, at: i32) -> Option<Form>
+        ensures { (vault : V) (of : meaning.Heap) (names : List Reference) (id : ℕ) → IsWorld self.now (V.outside vault) of names
+            → DenotesIn self.now (V.outside vault) names (Some vector) (meant.Vector id) → IfSome result (λ form. form ≡ form_in of id) }
+    {
+        self.sw.sound();
+        match self.known.vectors.reach(vector, at) {
+            Some(found) => Some(found.form),
+            None => None,
+        }
+    }
+
     /// Writes the element of a vector at a subscript, as the elements keep it, and notes the vector as assigned: an int may be put where bools are kept,
     /// and a bool among ints. Trap Bounds exactly where the subscript is outside the vector. What isn't in the area is fetched.
     #[inline(always)]

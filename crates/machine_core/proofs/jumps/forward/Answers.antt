@@ -2,8 +2,8 @@ use Rattle.std.proofs.Common.{rules, refl}
 use Rattle.machine_core.proofs.Jumping.{goes_forward}
 use Rattle.machine_core.proofs.jumps.forward.Goals as goal
 
-pub returns : goal.returns
-returns g c = λ v. record {
+pub returns-clause-takes : goal.returns-clause-takes
+returns-clause-takes g c = λ v. record {
   sound = search rules;
   names = search rules;
   size = refl;

@@ -5,15 +5,15 @@ use Rattle.machine_core.specs.Stepped.{Does, UnlessBroken}
 use Rattle.machine_core.specs.inside.Taking.{Becomes}
 use Rattle.machine_core.proofs.loops.back_with.Goals as goal
 
-pub returns : goal.returns
-returns g c =
+pub returns-clause-takes : goal.returns-clause-takes
+returns-clause-takes g c =
     let m = c.args.m.now in
     let left = c.set_num_at.ensures.leaves in
     let new = c.back.new.m in
     let r = c.back.result in
     λ v.
     let out = g.V.Vault.outside v in
-    let t = c.back.ensures v in
+    let t = c.back.ensures.takes v in
     let set : Becomes out (λ conf. with_num conf c.args.slot c.args.z) m c.set_num_at.new.m = search (rules, c.set_num_at.ensures.becomes v) in
     record {
       sound = t.sound;

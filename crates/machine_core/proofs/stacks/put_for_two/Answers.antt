@@ -3,8 +3,8 @@ use Rattle.ps_stepping.specs.Config.{Config}
 use Rattle.machine_core.proofs.Popping.{puts_for_two, but_two}
 use Rattle.machine_core.proofs.stacks.put_for_two.Goals as goal
 
-pub returns : goal.returns
-returns g c =
+pub returns-clause-takes : goal.returns-clause-takes
+returns-clause-takes g c =
     let m = c.args.m.now in
     let z = c.args.z in
     let some = c.requires.room in

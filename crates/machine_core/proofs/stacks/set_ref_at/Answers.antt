@@ -8,8 +8,8 @@ use Rattle.machine_core.proofs.Popping.{sets_ref}
 use Rattle.machine_core.proofs.Words.{named-back}
 use Rattle.machine_core.proofs.stacks.set_ref_at.Goals as goal
 
-pub returns : goal.returns
-returns g c =
+pub returns-clause-takes : goal.returns-clause-takes
+returns-clause-takes g c =
     let m = c.args.m.now in
     λ v.
     let out = g.V.Vault.outside v in

@@ -6,10 +6,10 @@ use Rattle.machine_core.specs.inside.Taking.{TakesRef}
 use Rattle.machine_core.proofs.Between.{ref-then}
 use Rattle.machine_core.proofs.values.set_ref.Goals as goal
 
-pub returns-in-Some : goal.returns-in-Some
-returns-in-Some g c = λ v.
+pub returns-in-Some-clause-takes : goal.returns-in-Some-clause-takes
+returns-in-Some-clause-takes g c = λ v.
     let out = g.V.Vault.outside v in
     let t : TakesRef out out (λ value d. if is_ref_slot d c.args.slot then on (with_ref d c.args.slot value) else Stuck) c.pop_ref.new.m (object_in c.in-Some.word) c.store_ref.new.m c.store_ref.result =
-    search (rules, c.store_ref.ensures v) in
+    search (rules, c.store_ref.ensures.takes v) in
     ref-then out out c.args.m.now c.pop_ref.new.m c.store_ref.new.m c.store_ref.result c.in-Some.ensures.leaves pop_ref c.in-Some.word
     (λ value d. if is_ref_slot d c.args.slot then on (with_ref d c.args.slot value) else Stuck) (c.in-Some.ensures.taken v) c.in-Some.ensures.named t

@@ -6,8 +6,8 @@ use Rattle.machine_core.specs.inside.Taking.{Becomes}
 use Rattle.machine_core.proofs.Popping.{num_slot}
 use Rattle.machine_core.proofs.values.store_num.Goals as goal
 
-pub returns : goal.returns
-returns g c =
+pub returns-clause-takes : goal.returns-clause-takes
+returns-clause-takes g c =
     let m = c.args.m.now in
     let left = c.set_num_at.ensures.leaves in
     λ v.

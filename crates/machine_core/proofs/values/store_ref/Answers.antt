@@ -5,13 +5,13 @@ use Rattle.machine_core.specs.Stepped.{Does}
 use Rattle.machine_core.proofs.Popping.{ref_slot}
 use Rattle.machine_core.proofs.values.store_ref.Goals as goal
 
-pub returns : goal.returns
-returns g c =
+pub returns-clause-takes : goal.returns-clause-takes
+returns-clause-takes g c =
     let m = c.args.m.now in
     let set = c.set_ref_at in
     λ v.
     let out = g.V.Vault.outside v in
-    let t = set.ensures v in
+    let t = set.ensures.takes v in
     record {
       sound = t.sound;
       names = t.names;
