@@ -36,8 +36,8 @@ fn give_homes(sw: &mut Swizzle, from: u32, number: u64)
     }
 }
 
-// Lists what is reached of a database and isn't listed yet, and gives it its home there.
-fn walk_one(sw: &mut Swizzle, number: u64, root: Option<u32>)
+/// Lists what is reached of a database and isn't listed yet, and gives it its home there.
+pub fn walk_one(sw: &mut Swizzle, number: u64, root: Option<u32>)
     requires { IfSome root (IsHeld sw.old) }
     ensures { IsHomedOne sw.old sw.new number root sw.old.reached sw.new.reached }
 {

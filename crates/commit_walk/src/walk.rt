@@ -141,8 +141,8 @@ fn reach_one(sw: &mut Swizzle, object: u32, number: u64)
     }
 }
 
-// The assigned object in a place of their list.
-fn assigned_at(sw: &Swizzle, place: u32) -> u32
+/// The assigned object in a place of their list.
+pub fn assigned_at(sw: &Swizzle, place: u32) -> u32
     requires { place < length sw.now.assigned }
     ensures is { result ≡ get_or sw.now.assigned place 0 }
     ensures held { IsHeld sw.now result }
@@ -151,8 +151,8 @@ fn assigned_at(sw: &Swizzle, place: u32) -> u32
     sw.assigned()[place as usize]
 }
 
-// How many objects are assigned.
-fn assigned_count(sw: &Swizzle) -> u32
+/// How many objects are assigned.
+pub fn assigned_count(sw: &Swizzle) -> u32
     ensures { result ≡ length sw.now.assigned }
 {
     sw.sound();

@@ -1,0 +1,4 @@
+pub mod CutLaws
+pub mod StagingLaws
+pub mod StoreLaws
+pub mod OneLaws
