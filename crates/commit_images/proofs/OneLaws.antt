@@ -53,7 +53,7 @@ pub record Parts (test : ℕ → Bool) (xs : List ℕ) (place : ℕ) : Type 0 wh
 pub parts : (test : ℕ → Bool) (xs : List ℕ) (place : ℕ) → place < length xs → Parts test xs place
 parts test xs place below =
     let next : filter test (take (place + 1) xs) ≡ filter test (take place xs) ++ filter test (get_or xs place 0 ∷ []) =
-      ap (filter test) (take_more xs place 0 below) ∙ filter-append test (take place xs) (get_or xs place 0 ∷ []) in
+    ap (filter test) (take_more xs place 0 below) ∙ filter-append test (take place xs) (get_or xs place 0 ∷ []) in
     record {
       rest = filter test (drop (place + 1) xs);
       next = next;

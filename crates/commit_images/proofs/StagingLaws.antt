@@ -227,7 +227,7 @@ overwrite_fails-one heap x a b pid wanted fault device output room is long at_pi
     tested = λ space held.
         ap (λ (s : Space). damage_at s.words at (Some (size_of (object_at heap x)))) (overs-none heap space)
         ∙ (ap (λ p. damage_at space.words p (Some (size_of (object_at heap x)))) (at_pid at found bound e)
-            ∙ (ap (λ n. damage_at space.words pid (Some n)) (sym long) ∙ tested at found bound e space held));
+        ∙ (ap (λ n. damage_at space.words pid (Some n)) (sym long) ∙ tested at found bound e space held));
   };
 }
 

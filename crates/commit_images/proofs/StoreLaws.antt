@@ -98,9 +98,9 @@ behind heap (x ∷ xs) space h c ready whole numbered =
       stays = λ pid words k. rest.stays pid words (more-stays space put pid words o k);
       cases = λ pid words k. elim (rest.cases pid words k) [
         | inl l ↦ elim (more-cases space put pid words c o l) [
-            | inl before ↦ inl before
-            | inr last ↦ inr (record { at = x; listed = inl (inl refl); pid_is = last.0 ∙ sym numbered.0; words_are = last.1 })
-          ]
+          | inl before ↦ inl before
+          | inr last ↦ inr (record { at = x; listed = inl (inl refl); pid_is = last.0 ∙ sym numbered.0; words_are = last.1 })
+        ]
         | inr i ↦ inr (one-more heap x xs pid words i)
       ];
     }
@@ -126,9 +126,9 @@ none-or-one heap [] pid = inl (λ x none. absurd none)
 none-or-one heap (x ∷ xs) pid = elim (cases_eq (header_at heap x).pid pid) [
   | inl e ↦ inr (record { at = x; listed = inl refl; pid_is = e })
   | inr ne ↦ elim (none-or-one heap xs pid) [
-      | inl none ↦ inl (λ y m. elim m [ inl e ↦ λ k. ne (ap (λ z. (header_at heap z).pid) (sym e) ∙ k) | inr l ↦ none y l ])
-      | inr one ↦ inr (record { at = one.at; listed = inr one.listed; pid_is = one.pid_is })
-    ]
+    | inl none ↦ inl (λ y m. elim m [ inl e ↦ λ k. ne (ap (λ z. (header_at heap z).pid) (sym e) ∙ k) | inr l ↦ none y l ])
+    | inr one ↦ inr (record { at = one.at; listed = inr one.listed; pid_is = one.pid_is })
+  ]
 ]
 
 -- what a space holds under the PID of each object of a list
@@ -190,9 +190,9 @@ over heap (x ∷ xs) space h c ready whole stored there =
       stays = λ q words none k. rest.stays q words (λ y m. none y (inr m)) (over-stays space pid old.0 put q words old.1 long o (λ e. none x (inl refl) (sym e)) k);
       cases = λ q words k. elim (rest.cases q words k) [
         | inl l ↦ elim (cases_eq q pid) [
-            | inl e ↦ inr (record { at = x; listed = inr (inl refl); pid_is = e; words_are = HasObject-one last q words put k (subst (λ n. HasObject last n put) (sym e) mine) })
-            | inr ne ↦ inl (λ y m. elim m [ inl e ↦ λ d. ne (sym (ap (λ z. (header_at heap z).pid) (sym e) ∙ d)) | inr j ↦ l.0 y j ], over-back space pid old.0 put q words old.1 long o ne l.1)
-          ]
+          | inl e ↦ inr (record { at = x; listed = inr (inl refl); pid_is = e; words_are = HasObject-one last q words put k (subst (λ n. HasObject last n put) (sym e) mine) })
+          | inr ne ↦ inl (λ y m. elim m [ inl e ↦ λ d. ne (sym (ap (λ z. (header_at heap z).pid) (sym e) ∙ d)) | inr j ↦ l.0 y j ], over-back space pid old.0 put q words old.1 long o ne l.1)
+        ]
         | inr i ↦ inr (over-more heap x xs q words i)
       ];
     }
@@ -229,12 +229,12 @@ stores heap new changed space h c ready again whole also numbered stored there =
       directory = o.directory ∙ b.directory;
       here = λ x m. elim m [
         | inl k ↦ elim (none-or-one heap changed (header_at heap x).pid) [
-            | inl none ↦ o.stays (header_at heap x).pid (image_of heap x) none (b.here x k)
-            | inr one ↦
-                let low = (HasObject-within mid (header_at heap x).pid (image_of heap x) (b.here x k)).low in
-                let same : one.at ≡ x = one-object heap one.at x h (again one.at one.listed).0 (ready x k).0 low one.pid_is in
-                subst (λ z. HasObject last (header_at heap z).pid (image_of heap z)) same (o.here one.at one.listed)
-          ]
+          | inl none ↦ o.stays (header_at heap x).pid (image_of heap x) none (b.here x k)
+          | inr one ↦
+              let low = (HasObject-within mid (header_at heap x).pid (image_of heap x) (b.here x k)).low in
+              let same : one.at ≡ x = one-object heap one.at x h (again one.at one.listed).0 (ready x k).0 low one.pid_is in
+              subst (λ z. HasObject last (header_at heap z).pid (image_of heap z)) same (o.here one.at one.listed)
+        ]
         | inr k ↦ o.here x k
       ];
       stays = λ pid words none k. o.stays pid words none (b.stays pid words k);

@@ -19,14 +19,20 @@ fn has_new_pid(sw: &Swizzle, object: u32, first: u64) -> bool
 }
 
 // Stores the image of the object, where it is new; returns whether it is.
-fn append_one<V: Vault>(sw: &Swizzle, vault: &mut V, object: u32, first: u64, buffer: &mut [u64]) -> Result<bool, VaultFault>
+fn append_one<V: Vault>(
+    sw: &Swizzle,
+    vault: &mut V,
+    object: u32,
+    first: u64,
+    buffer: &mut [u64],
+) -> Result<bool, VaultFault>
     requires alive { V.alive vault.old }
     requires held { IsHeld sw.now object }
     requires ready { AreReady sw.now (filter (is_new sw.now first) (object ∷ [])) }
     requires room { sw.now.size ≤ length buffer.old + 1 }
     ensures stored { MatchResult result
         (λ stored. (stored ≡ is_new sw.now first object)
-            × Appends sw.now (filter (is_new sw.now first) (object ∷ [])) (V.outside vault.old) (V.outside vault.new) (V.used_words vault.old) (V.used_words vault.new) (V.most_words vault.old))
+        × Appends sw.now (filter (is_new sw.now first) (object ∷ [])) (V.outside vault.old) (V.outside vault.new) (V.used_words vault.old) (V.used_words vault.new) (V.most_words vault.old))
         (FailsAppend sw.now (filter (is_new sw.now first) (object ∷ [])) (V.outside vault.old) (V.outside vault.new) (V.used_words vault.old) (V.most_words vault.old)) }
     ensures stages { Stages (V.outside vault.old) (V.outside vault.new) }
     ensures numbers { (V.directory_at vault.new ≡ V.directory_at vault.old) × (V.most_words vault.new ≡ V.most_words vault.old) }
@@ -46,13 +52,18 @@ fn append_one<V: Vault>(sw: &Swizzle, vault: &mut V, object: u32, first: u64, bu
 
 /// Stores the images of the objects that the walk has listed and whose PIDs aren't below `first`, the words that were used before: once each, in the order of
 /// the list. Returns how many these are. The buffer holds one image at a time. Where a fault comes, the vault isn't alive.
-pub fn append_all<V: Vault>(sw: &Swizzle, vault: &mut V, first: u64, buffer: &mut [u64]) -> Result<u32, VaultFault>
+pub fn append_all<V: Vault>(
+    sw: &Swizzle,
+    vault: &mut V,
+    first: u64,
+    buffer: &mut [u64],
+) -> Result<u32, VaultFault>
     requires alive { V.alive vault.old }
     requires ready { AreReady sw.now (new_in sw.now first) }
     requires room { sw.now.size ≤ length buffer.old + 1 }
     ensures stored { MatchResult result
         (λ count. (count ≡ length (new_in sw.now first))
-            × Appends sw.now (new_in sw.now first) (V.outside vault.old) (V.outside vault.new) (V.used_words vault.old) (V.used_words vault.new) (V.most_words vault.old))
+        × Appends sw.now (new_in sw.now first) (V.outside vault.old) (V.outside vault.new) (V.used_words vault.old) (V.used_words vault.new) (V.most_words vault.old))
         (FailsAppend sw.now (new_in sw.now first) (V.outside vault.old) (V.outside vault.new) (V.used_words vault.old) (V.most_words vault.old)) }
     ensures stages { Stages (V.outside vault.old) (V.outside vault.new) }
     ensures numbers { (V.directory_at vault.new ≡ V.directory_at vault.old) × (V.most_words vault.new ≡ V.most_words vault.old) }

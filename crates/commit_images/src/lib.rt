@@ -4,6 +4,7 @@
 pub mod append;
 pub mod image;
 pub mod overwrite;
+pub mod save;
 
 pub use commit_walk;
 pub use swizzle;

@@ -42,7 +42,13 @@ fn is_reached_node(sw: &Swizzle, object: u32) -> bool
 }
 
 // Puts the image of the object in place of its words, where it is changed; returns whether it is.
-fn overwrite_one<V: Vault>(sw: &Swizzle, vault: &mut V, object: u32, first: u64, buffer: &mut [u64]) -> Result<bool, VaultFault>
+fn overwrite_one<V: Vault>(
+    sw: &Swizzle,
+    vault: &mut V,
+    object: u32,
+    first: u64,
+    buffer: &mut [u64],
+) -> Result<bool, VaultFault>
     requires alive { V.alive vault.old }
     requires held { IsHeld sw.now object }
     requires ready { AreReady sw.now (filter (is_changed sw.now first) (object ∷ [])) }
@@ -69,7 +75,12 @@ fn overwrite_one<V: Vault>(sw: &Swizzle, vault: &mut V, object: u32, first: u64,
 /// Puts the images of the assigned objects in place of their words, where they were stored before: once each, in the order in which they were assigned.
 /// `first` is the number of words that were used before. Of nodes just those are written that the walk has reached. Returns how many these are. Where a fault
 /// comes, the vault isn't alive.
-pub fn overwrite_all<V: Vault>(sw: &Swizzle, vault: &mut V, first: u64, buffer: &mut [u64]) -> Result<u32, VaultFault>
+pub fn overwrite_all<V: Vault>(
+    sw: &Swizzle,
+    vault: &mut V,
+    first: u64,
+    buffer: &mut [u64],
+) -> Result<u32, VaultFault>
     requires alive { V.alive vault.old }
     requires ready { AreReady sw.now (changed_in sw.now first) }
     requires room { sw.now.size ≤ length buffer.old + 1 }

@@ -46,8 +46,8 @@ returns-in-Err-clause-stored g c =
     let used = g.V.Vault.used_words c.args.vault.now in
     let most = g.V.Vault.most_words c.args.vault.now in
     let one : FailsAppend sw mine b e (g.V.Vault.used_words c.loop-place.vault) most c.in-Err.fault =
-      subst (λ n. FailsAppend sw mine b e (g.V.Vault.used_words c.loop-place.vault) n c.in-Err.fault) i.most
-      (subst (λ x. FailsAppend sw (filter test (x ∷ [])) b e (g.V.Vault.used_words c.loop-place.vault) (g.V.Vault.most_words c.loop-place.vault) c.in-Err.fault) c.listed_at-object.ensures.is c.in-Err.ensures.stored) in
+    subst (λ n. FailsAppend sw mine b e (g.V.Vault.used_words c.loop-place.vault) n c.in-Err.fault) i.most
+    (subst (λ x. FailsAppend sw (filter test (x ∷ [])) b e (g.V.Vault.used_words c.loop-place.vault) (g.V.Vault.most_words c.loop-place.vault) c.in-Err.fault) c.listed_at-object.ensures.is c.in-Err.ensures.stored) in
     subst (λ xs. FailsAppend sw xs a e used most c.in-Err.fault) (sym p.whole)
     (append_fails-more sw (before ++ mine) p.rest a e used most c.in-Err.fault (append_fails-then sw before mine a b e used (g.V.Vault.used_words c.loop-place.vault) most c.in-Err.fault i.stages i.appends one))
 
@@ -67,8 +67,8 @@ loop-place-preserved g c =
     let now = g.V.Vault.used_words c.append_one.new.vault in
     let most = g.V.Vault.most_words c.args.vault.now in
     let one : Appends sw mine b e mid now most =
-      subst (λ n. Appends sw mine b e mid now n) i.most
-      (subst (λ x. Appends sw (filter test (x ∷ [])) b e mid now (g.V.Vault.most_words c.loop-place.vault)) c.listed_at-object.ensures.is c.in-Ok.ensures.stored.1) in
+    subst (λ n. Appends sw mine b e mid now n) i.most
+    (subst (λ x. Appends sw (filter test (x ∷ [])) b e mid now (g.V.Vault.most_words c.loop-place.vault)) c.listed_at-object.ensures.is c.in-Ok.ensures.stored.1) in
     let counted = one-count test c.listed_at-object.result c.in-Ok.is_stored c.in-Ok.ensures.stored.0 in
     let mine_is : length mine ≡ length (filter test (c.listed_at-object.result ∷ [])) = ap (λ x. length (filter test (x ∷ []))) (sym c.listed_at-object.ensures.is) in
     let few = one-few c.in-Ok.is_stored in

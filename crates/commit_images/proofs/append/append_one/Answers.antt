@@ -36,7 +36,7 @@ returns-in-Ok-clause-stored g c =
     let long = length-take-le c.make_image-count.result c.make_image-count.new.buffer c.make_image-count.ensures.within in
     let becomes = subst (λ (ws : List ℕ). Becomes a b (appended ws)) image c.in-Ok.ensures.told in
     let one = appends-one sw c.args.object a b used now most c.make_image-count.result c.append.result c.in-Ok.field-0 becomes (omega (arith, c.in-Ok.ensures.used, long)) (omega (arith, c.in-Ok.ensures.room, long)) c.make_image-count.ensures.count
-        (omega (arith, c.in-Ok.ensures.call.calls, long)) in
+    (omega (arith, c.in-Ok.ensures.call.calls, long)) in
     (sym yes, subst (λ (xs : List ℕ). Appends sw xs a b used now most) (sym (one-of (is_new sw c.args.first) c.args.object yes)) one)
 
 pub returns-in-Err-clause-stored : goal.returns-in-Err-clause-stored
@@ -49,6 +49,6 @@ returns-in-Err-clause-stored g c =
     let most = g.V.Vault.most_words c.args.vault.now in
     let long = length-take-le c.make_image-count.result c.make_image-count.new.buffer c.make_image-count.ensures.within in
     let one = append_fails-one sw c.args.object a b used most c.make_image-count.result c.in-Err.fault
-        (λ e. c.in-Err.ensures.call.cause (ap Err e)) (λ e. c.in-Err.ensures.call.other (ap Err e)) (λ at found bound e. c.in-Err.ensures.sound at found bound (ap Err e)) c.make_image-count.ensures.count
-        (λ u w k e. let f = c.in-Err.ensures.full u w k (ap Err e) in (f.0, f.1 ∙ long, f.2, f.3)) in
+    (λ e. c.in-Err.ensures.call.cause (ap Err e)) (λ e. c.in-Err.ensures.call.other (ap Err e)) (λ at found bound e. c.in-Err.ensures.sound at found bound (ap Err e)) c.make_image-count.ensures.count
+    (λ u w k e. let f = c.in-Err.ensures.full u w k (ap Err e) in (f.0, f.1 ∙ long, f.2, f.3)) in
     subst (λ (xs : List ℕ). FailsAppend sw xs a b used most c.in-Err.fault) (sym (one-of (is_new sw c.args.first) c.args.object yes)) one

@@ -45,7 +45,7 @@ returns-in-Err-clause-stored g c =
     let b = g.V.Vault.outside c.loop-place.vault in
     let e = g.V.Vault.outside c.overwrite_one.new.vault in
     let one : FailsOverwrite sw mine b e c.in-Err.fault =
-      subst (λ x. FailsOverwrite sw (filter test (x ∷ [])) b e c.in-Err.fault) c.assigned_at-object.ensures.is c.in-Err.ensures.stored in
+    subst (λ x. FailsOverwrite sw (filter test (x ∷ [])) b e c.in-Err.fault) c.assigned_at-object.ensures.is c.in-Err.ensures.stored in
     subst (λ xs. FailsOverwrite sw xs a e c.in-Err.fault) (sym p.whole)
     (overwrite_fails-more sw (before ++ mine) p.rest a e c.in-Err.fault (overwrite_fails-then sw before mine a b e c.in-Err.fault i.stages i.overwrites one))
 

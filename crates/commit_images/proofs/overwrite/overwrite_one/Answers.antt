@@ -30,7 +30,7 @@ returns-in-Ok-clause-stored g c =
     let long = length-take-le c.make_image-count.result c.make_image-count.new.buffer c.make_image-count.ensures.within in
     let becomes = subst (λ (ws : List ℕ). Becomes a b (overwritten c.pid.result ws)) image c.in-Ok.ensures.told in
     let one = overwrites-one sw c.args.object a b c.pid.result c.make_image-count.result becomes c.pid.ensures c.make_image-count.ensures.count
-        (λ space held. ap (λ n. damage_at space.words c.pid.result (Some n)) (sym long) ∙ c.in-Ok.ensures.tested.sound space held) (omega (arith, c.in-Ok.ensures.call.calls, long)) in
+    (λ space held. ap (λ n. damage_at space.words c.pid.result (Some n)) (sym long) ∙ c.in-Ok.ensures.tested.sound space held) (omega (arith, c.in-Ok.ensures.call.calls, long)) in
     (sym yes, subst (λ (xs : List ℕ). Overwrites sw xs a b) (sym (one-of (is_changed sw c.args.first) c.args.object yes)) one)
 
 pub returns-in-Err-clause-stored : goal.returns-in-Err-clause-stored
@@ -41,7 +41,7 @@ returns-in-Err-clause-stored g c =
     let yes = sym c.is_written_anew.ensures ∙ c.if-not-is_written_anew.false in
     let long = length-take-le c.make_image-count.result c.make_image-count.new.buffer c.make_image-count.ensures.within in
     let one = overwrite_fails-one sw c.args.object a b c.pid.result c.make_image-count.result c.in-Err.fault
-        (λ e. c.in-Err.ensures.call.cause (ap Err e)) (λ e. c.in-Err.ensures.call.other (ap Err e)) (λ u w k e. c.in-Err.ensures.full u w k (ap Err e)) c.pid.ensures c.make_image-count.ensures.count
-        (λ at found bound e. c.in-Err.ensures.tested.at_pid at found bound (ap Err e))
-        (λ at found bound e space held. ap (λ n. damage_at space.words c.pid.result (Some n)) (sym long) ∙ c.in-Err.ensures.tested.damaged at found bound (ap Err e) space held) in
+    (λ e. c.in-Err.ensures.call.cause (ap Err e)) (λ e. c.in-Err.ensures.call.other (ap Err e)) (λ u w k e. c.in-Err.ensures.full u w k (ap Err e)) c.pid.ensures c.make_image-count.ensures.count
+    (λ at found bound e. c.in-Err.ensures.tested.at_pid at found bound (ap Err e))
+    (λ at found bound e space held. ap (λ n. damage_at space.words c.pid.result (Some n)) (sym long) ∙ c.in-Err.ensures.tested.damaged at found bound (ap Err e) space held) in
     subst (λ (xs : List ℕ). FailsOverwrite sw xs a b c.in-Err.fault) (sym (one-of (is_changed sw c.args.first) c.args.object yes)) one
