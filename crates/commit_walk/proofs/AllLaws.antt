@@ -39,6 +39,7 @@ homed-none heap sources list e =
       all = λ y f. absurd (omega (arith, f.below));
       closed = λ x y l goes may. elim l [ ];
       others = λ y away. refl;
+      plain = λ y no. refl;
     })
 
 listed-or : (y : ℕ) (list : List ℕ) → IsIn y list ⊎ (IsIn y list → ⊥)
@@ -79,6 +80,7 @@ homed-more old mid new sources count before after h o =
       ];
       closed = closed-alike mid old after back (o.searched.closed shut);
       others = λ y away. o.others y away ∙ h.others y (λ l. away (upto y l));
+      plain = λ y no. o.plain y (home-alike old mid there y ∙ no) ∙ h.plain y no;
     }
   where
     last : (a b : ℕ) → a < b + 1 → (a < b) ⊎ (a ≡ b)
@@ -92,7 +94,7 @@ root-still old new (Some at) o met = o.held at met
 -- Roots with their own homes.
 
 pub owns-none : (heap : Heap) (sources : List Source) → OwnsRoots heap heap sources 0
-owns-none heap sources = record { same = steady-none heap; reached = refl; given = λ place at lt e k once. absurd (omega (arith, lt)); others = λ y away. refl }
+owns-none heap sources = record { same = steady-none heap; reached = refl; given = λ place at lt e k once. absurd (omega (arith, lt)); others = λ y away. refl; plain = λ y no. refl }
 
 pub owns-more : (old mid new : Heap) (sources : List Source) (count : ℕ) → OwnsRoots old mid sources count → OwnsRoot mid new (source_at sources count).root (source_at sources count).number → OwnsRoots old new sources (count + 1)
 owns-more old mid new sources count o one = go (source_at sources count).root refl one
@@ -112,6 +114,7 @@ owns-more old mid new sources count o one = go (source_at sources count).root re
         | inr same ↦ let bad : None ≡ Some at = sym e ∙ (ap (λ p. (source_at sources p).root) (sym same) ∙ r) in absurd (cc)
       ];
       others = λ y away. ap (λ h. num_at h y 0) is ∙ o.others y (λ p lt. away p (omega (arith, lt)));
+      plain = λ y no. ap (λ h. num_at h y 0) is ∙ o.plain y no;
     }
     go (Some x) e is = record {
       same = steady-then old mid new o.same is.same;
@@ -125,4 +128,10 @@ owns-more old mid new sources count o one = go (source_at sources count).root re
             ap (λ z. num_at new z 0) here ∙ (is.given (home-alike old mid (alike old mid o.same) x ∙ (ap (λ z. has_home (header_at old z)) (sym here) ∙ k)) ∙ ap (λ p. (source_at sources p).number) (sym same))
       ];
       others = λ y away. is.others y (λ q. away count (omega arith) (e ∙ ap Some (sym q))) ∙ o.others y (λ p lt. away p (omega (arith, lt)));
+      plain = λ y no. elim (cases_eq y x) [
+        | inl q ↦
+            ap (λ z. num_at new z 0) q
+            ∙ (is.plain (home-alike old mid (alike old mid o.same) x ∙ (ap (λ z. has_home (header_at old z)) (sym q) ∙ no)) ∙ (ap (λ z. num_at mid z 0) (sym q) ∙ o.plain y no))
+        | inr ne ↦ is.others y ne ∙ o.plain y no
+      ];
     }

@@ -7,7 +7,7 @@ use Rattle.swizzle.specs.obj_layout.declared.reference.Reference.TheVariants.{Ni
 use Rattle.swizzle.specs.Objects.{Object, size_of, size_of_all}
 use Rattle.swizzle.specs.Heap.{Heap, IsHeap, IsHeld, found, nothing, object_at, header_at, ref_at, num_at, with_num, with_object}
 use Rattle.swizzle.proofs.HeapLaws.{size-replaced, held-replaced}
-use Rattle.swizzle.proofs.JointLaws.{object-replaced, object-replaced_other}
+use Rattle.swizzle.proofs.JointLaws.{object-replaced, object-replaced_other, held-back}
 use Rattle.reaching.specs.Reaching.{IsIn, Reached, at_start, by_step}
 use Rattle.commit_walk.specs.Walk.{GoesBelow, Goes, May, has_home, IsAt, StartsAt, Starts, Finds, IsSearched, IsClosed, Searches}
 use Rattle.commit_walk.specs.Walk.{Steady, bare}
@@ -20,8 +20,8 @@ use Rattle.commit_walk.proofs.SteadyLaws.{alike, home-alike, steady-none, steady
 object_found : (heap : Heap) (x : ℕ) (h : IsHeld heap x) → object_at heap x ≡ h.object
 object_found heap x h = ap (λ f. unwrap_or f nothing) h.is
 
-pub gives-num : (old new : Heap) (x number : ℕ) → IsHeap old → IsHeld old x → new ≡ with_num old x 0 number → GivesHome old new x number
-gives-num old new x number heap held is =
+pub gives-num : (old new : Heap) (x number : ℕ) → IsHeap old → IsHeld old x → has_home (header_at old x) ≡ true → new ≡ with_num old x 0 number → GivesHome old new x number
+gives-num old new x number heap held home is =
     let o = object_at old x in
     let o2 : Object = record o { nums = slice_set o.nums 0 number } in
     let found_is : found old x ≡ Some o = held.is ∙ ap Some (sym (object_found old x held)) in
@@ -46,9 +46,11 @@ gives-num old new x number heap held is =
           | inr ne ↦ ap (λ p. slice_index p.nums i) (away y ne)
         ];
         held = λ y h. subst (λ g. IsHeld g y) (sym is) (held-replaced old x o o2 y found_is refl h);
+        back = λ y h. held-back old x y o2 held refl (subst (λ g. IsHeld g y) is h);
       };
       reached = ap (λ h. h.reached) is;
       given = λ k. ap (λ p. slice_index p.nums 0) there ∙ first_num o.nums number some;
+      plain = λ no. absurd (true≢false (sym home ∙ no));
       others = λ y ne. ap (λ p. slice_index p.nums 0) (away y ne);
     }
   where
@@ -62,10 +64,10 @@ gives-num old new x number heap held is =
     other_num (n ∷ ns) (suc i) v le = refl
 
 pub gives-none : (heap : Heap) (x number : ℕ) → has_home (header_at heap x) ≡ false → GivesHome heap heap x number
-gives-none heap x number none = record { same = steady-none heap; reached = refl; given = λ e. absurd (true≢false (sym e ∙ none)); others = λ y ne. refl }
+gives-none heap x number none = record { same = steady-none heap; reached = refl; given = λ e. absurd (true≢false (sym e ∙ none)); plain = λ e. refl; others = λ y ne. refl }
 
 pub homes-none : (heap : Heap) (list : List ℕ) (from number : ℕ) → GivesHomes heap heap list from from number
-homes-none heap list from number = record { same = steady-none heap; reached = refl; given = λ place low high k. omega (arith, low, high); others = λ y ne. refl }
+homes-none heap list from number = record { same = steady-none heap; reached = refl; given = λ place low high k. omega (arith, low, high); others = λ y ne. refl; plain = λ y no. refl }
 
 pub homes-more : (old mid new : Heap) (list : List ℕ) (from to number : ℕ) → from ≤ to → GivesHomes old mid list from to number → GivesHome mid new (get_or list to 0) number
     → GivesHomes old new list from (to + 1) number
@@ -81,6 +83,12 @@ homes-more old mid new list from to number le g h =
             | inr ne ↦ h.others z ne ∙ g.given place low (before place to high (λ e. ne (ap (λ i. get_or list i 0) e))) k
           ];
       others = λ y ne. h.others y (ne to le (omega arith)) ∙ g.others y (λ place low high. ne place low (omega (arith, high)));
+      plain = λ y no. elim (cases_eq y x) [
+        | inl e ↦
+            ap (λ z. num_at new z 0) e
+            ∙ (h.plain (home-alike old mid (alike old mid g.same) x ∙ (ap (λ w. has_home (header_at old w)) (sym e) ∙ no)) ∙ (ap (λ z. num_at mid z 0) (sym e) ∙ g.plain y no))
+        | inr ne ↦ h.others y ne ∙ g.plain y no
+      ];
     }
   where
     before : (a b : ℕ) → a < b + 1 → a ≢ b → a < b
@@ -115,5 +123,6 @@ one-homed old mid new number from root e found g =
             | inr m ↦ s.fresh y (subst (λ z. IsIn z s.more) (sym (is ∙ there)) m) b
           ]) ∙ found.homes y;
       others = λ y away. g.others y (λ place low high is. away (subst (λ z. IsIn z after) (sym is) (index-in after place high))) ∙ found.homes y;
+      plain = λ y no. g.plain y (home-alike old mid there_is y ∙ no) ∙ found.homes y;
     } in
     subst (IsHomedOne old new number root before) (sym g.reached) it

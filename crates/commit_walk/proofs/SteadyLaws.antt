@@ -7,7 +7,7 @@ use Rattle.swizzle.specs.Objects.{Object}
 use Rattle.swizzle.specs.Heap.{Heap, IsHeap, IsHeld, IsListed, object_at, header_at, ref_at, num_at, with_object, with_reach, is_assigned, is_reached, reach_flagged, marked_in}
 use Rattle.swizzle.proofs.HeapLaws.{held-replaced, size-replaced, room-objects}
 use Rattle.swizzle.proofs.KeptLaws.{held_is}
-use Rattle.swizzle.proofs.JointLaws.{object-replaced, object-replaced_other}
+use Rattle.swizzle.proofs.JointLaws.{object-replaced, object-replaced_other, held-back}
 use Rattle.swizzle.proofs.NotedLaws.{bit-le}
 use Rattle.reaching.specs.Reaching.{IsIn, is_in, Reached, at_start, by_step}
 use Rattle.reaching.proofs.Lists.{then_is, else_is, is_in-in, in-is_in, not_in}
@@ -15,7 +15,7 @@ use Rattle.commit_walk.specs.Walk.{bare, Steady, Lists, GoesBelow, Goes, May, Is
 use Rattle.commit_walk.proofs.GrowLaws.{grows-none, grows-one, grows-as, grows-then}
 
 pub steady-none : (heap : Heap) → Steady heap heap
-steady-none heap = record { size = refl; assigned = refl; top = refl; headers = λ y. refl; refs = λ y slot. refl; nums = λ y i le. refl; held = λ y h. h }
+steady-none heap = record { size = refl; assigned = refl; top = refl; headers = λ y. refl; refs = λ y slot. refl; nums = λ y i le. refl; held = λ y h. h; back = λ y h. h }
 
 pub steady-then : (a b c : Heap) → Steady a b → Steady b c → Steady a c
 steady-then a b c f g = record {
@@ -26,6 +26,7 @@ steady-then a b c f g = record {
   refs = λ y slot. g.refs y slot ∙ f.refs y slot;
   nums = λ y i le. g.nums y i le ∙ f.nums y i le;
   held = λ y h. g.held y (f.held y h);
+  back = λ y h. f.back y (g.back y h);
 }
 
 -- Headers but for flags, and references, are the same.
@@ -182,6 +183,7 @@ flagged-steady heap x held =
       ];
       nums = λ y i le. flagged-nums heap x y i held;
       held = λ y h. let now = held-replaced heap x o new y is refl h in record { object = now.object; is = now.is };
+      back = λ y h. held-back heap x y new held refl (record { object = h.object; is = h.is });
     }
 
 some_same : (a b : Object) → Some a ≡ Some b → a ≡ b

@@ -73,6 +73,7 @@ pub record Steady (old new : Heap) : Type 0 where
   pub refs : (y slot : ℕ) → ref_at new y slot ≡ ref_at old y slot
   pub nums : (y i : ℕ) → 1 ≤ i → num_at new y i ≡ num_at old y i
   pub held : (y : ℕ) → IsHeld old y → IsHeld new y
+  pub back : (y : ℕ) → IsHeld new y → IsHeld old y
 
 -- The list of the reached has grown by exactly those of these that it hadn't, and nothing has changed but that and flags.
 pub record Lists (old new : Heap) (adds : ℕ → Type 0) : Type 0 where

@@ -3,6 +3,7 @@ use Rattle.std.proofs.Common.{inl, inr, ◌⊎◌, ◌≡◌, ◌≢◌, ℕ, ze
 use Rattle.std.specs.Prelude.{unwrap_or}
 use Rattle.std.proofs.lemmas.Bool.{cases_eq}
 use Rattle.joint_ops.specs.obj_layout.declared.reference.Reference.{Reference}
+use Rattle.joint_ops.specs.obj_layout.declared.reference.Reference.TheVariants.{Pid}
 use Rattle.joint_ops.specs.swizzle.Objects.{Object, size_of}
 use Rattle.joint_ops.specs.swizzle.Heap.{Heap, IsHeap, IsHeld, found, nothing, object_at, header_at, local_of, with_object}
 use Rattle.joint_ops.specs.swizzle.Joint.{Shown, Joint, name_at}
@@ -57,19 +58,20 @@ given-below old new at pid next g held below lt x k =
 pub record RenamesSeen (old new : Heap) (holds : ℕ → List ℕ → Type 0) : Type 0 where
   pub to : Reference → Reference
   pub renames : Renames (Joint old holds) (Joint new holds) to
+  pub pids : (pid : ℕ) → to (Pid pid) ≡ Pid pid
   -- what an index of the area denotes has its new name: this is all that frames and stacks need
   pub names : (x : ℕ) → name_at new x ≡ to (name_at old x)
 
 pub all-renamed : (old new : Heap) (xs : List ℕ) (first next : ℕ) (holds : ℕ → List ℕ → Type 0) → ((p : ℕ) (words : List ℕ) → holds p words → (1 ≤ p) × (p < first)) → GivesAll old xs first new next
     → RenamesSeen old new holds × (first ≤ next)
-all-renamed old new xs first next holds range (done heap n) = (record { to = λ n. n; renames = renames-none (Joint heap holds); names = λ x. refl }, omega arith)
+all-renamed old new xs first next holds range (done heap n) = (record { to = λ n. n; renames = renames-none (Joint heap holds); pids = λ pid. refl; names = λ x. refl }, omega arith)
 all-renamed old new xs first next holds range (passed o n ys x f m before has) = all-renamed o n ys f m holds range before
 all-renamed old new xs first next holds range (given o mid n ys x f m before may give) =
     let rest = all-renamed o mid ys f m holds range before in
     let step = joint-numbered mid holds x m give.link may.sound may.held may.none may.low may.fresh
     (λ words h. let r = range m words h in let le = rest.1 in omega (arith, r.1, le)) (λ p words h. (range p words h).0) in
     let named = subst (λ h. Renames (Joint mid holds) (Joint h holds) (renamed_at x m)) (sym give.is) step in
-    (record { to = λ r. renamed_at x m (rest.0.to r); renames = renames-then (Joint o holds) (Joint mid holds) (Joint n holds) rest.0.to (renamed_at x m) rest.0.renames named; names = λ y. ap (λ h. name_at h y) give.is ∙ (name-numbered mid x m give.link y may.sound may.held may.none may.low ∙ ap (renamed_at x m) (rest.0.names y)) }, omega (arith, rest.1))
+    (record { to = λ r. renamed_at x m (rest.0.to r); renames = renames-then (Joint o holds) (Joint mid holds) (Joint n holds) rest.0.to (renamed_at x m) rest.0.renames named; pids = λ pid. ap (renamed_at x m) (rest.0.pids pid); names = λ y. ap (λ h. name_at h y) give.is ∙ (name-numbered mid x m give.link y may.sound may.held may.none may.low ∙ ap (renamed_at x m) (rest.0.names y)) }, omega (arith, rest.1))
 
 pub may_from : (heap : Heap) (at pid : ℕ) → IsHeap heap → IsHeld heap at → (header_at heap at).pid ≡ 0 → 1 ≤ pid → AreBelow heap pid → MayGive heap at pid
 may_from heap at pid h held none low below = record { sound = h; held = held; none = none; low = low; fresh = above-fresh heap pid below }
@@ -91,6 +93,8 @@ module _ (old new : Heap) (outside : Outside Space) (r : RenamesSeen old new (Is
   pub renamed-all : Renamed old new outside
   renamed-all = record {
     to = r.to;
+    renames = r.renames;
+    pids = r.pids;
     index = r.names;
     held = held;
     world = λ of names w. record { row = row-renamed (seen old outside) (seen new outside) r.to of names r.renames w.row };

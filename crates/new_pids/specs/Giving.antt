@@ -4,6 +4,7 @@ use Rattle.ps_base.specs.CodeUnit.{UnitView}
 use Rattle.joint_ops.specs.ps_outside.Outside.{Outside}
 use Rattle.joint_ops.specs.obj_layout.Stored.{Space}
 use Rattle.joint_ops.specs.obj_layout.declared.reference.Reference.{Reference}
+use Rattle.joint_ops.specs.obj_layout.declared.reference.Reference.TheVariants.{Pid}
 use Rattle.joint_ops.specs.swizzle.Objects.{size_of}
 use Rattle.joint_ops.specs.swizzle.Heap as area
 use Rattle.joint_ops.specs.swizzle.Heap.{IsHeap, IsHeld, header_at, object_at, local_of}
@@ -11,7 +12,8 @@ use Rattle.joint_ops.specs.swizzle.Joint.{name_at}
 use Rattle.joint_ops.specs.swizzle.Numbered.{GivesPid}
 use Rattle.joint_ops.specs.ps_meaning.Values.{Value}
 use Rattle.joint_ops.specs.ps_meaning.Objects.{Heap}
-use Rattle.joint_ops.specs.World.{IsStored, IsWorld, DenotesIn, DenotesScopeIn, IsUnitIn}
+use Rattle.renames.specs.Renames.{Renames}
+use Rattle.joint_ops.specs.World.{IsStored, seen, IsWorld, DenotesIn, DenotesScopeIn, IsUnitIn}
 
 -- What a new PID asks: the object has none, and none has it.
 pub record MayGive (heap : area.Heap) (at pid : ℕ) : Type 0 where
@@ -40,6 +42,9 @@ AreStoredBelow outside first = (pid : ℕ) (words : List ℕ) → IsStored outsi
 -- of a machine are indexes, so they stay as they are.
 pub record Renamed (old new : area.Heap) (outside : Outside Space) : Type 0 where
   pub to : Reference → Reference
+  pub renames : Renames (seen old outside) (seen new outside) to
+  -- a PID stays
+  pub pids : (pid : ℕ) → to (Pid pid) ≡ Pid pid
   pub index : (x : ℕ) → name_at new x ≡ to (name_at old x)
   pub held : (x : ℕ) → IsHeld old x → IsHeld new x
   pub world : (of : Heap) (names : List Reference) → IsWorld old outside of names → IsWorld new outside of (map to names)
