@@ -1,16 +1,20 @@
 -- Whether a commit is refused, has nothing to do, or stores.
-use Rattle.std.specs.Prelude.{◌≡◌, ◌⊎◌, ℕ, ◌<◌, ◌≤◌, true, List, length, Some, None}
+use Rattle.std.specs.Prelude.{◌≡◌, ◌⊎◌, ℕ, ◌<◌, ◌≤◌, true, List, length, Some}
 use Rattle.swizzle.specs.Heap.{Heap, header_at, num_at}
 use Rattle.reaching.specs.Reaching.{IsIn}
 use Rattle.commit_walk.specs.Walk.{has_home}
 use Rattle.commit_walk.specs.declared.homes.Source.{Source}
 use Rattle.commit_walk.specs.Homes.{source_at}
 
--- a stored object with a home that was assigned
-pub record IsAssigned (heap : Heap) (x : ℕ) : Type 0 where
-  pub listed : IsIn x heap.assigned
+-- the object is stored, and is at home in a database
+pub record IsHomed (heap : Heap) (x : ℕ) : Type 0 where
   pub stored : 1 ≤ (header_at heap x).pid
   pub kind : has_home (header_at heap x) ≡ true
+
+-- such an object was assigned
+pub record IsAssigned (heap : Heap) (x : ℕ) : Type 0 where
+  pub listed : IsIn x heap.assigned
+  pub homed : IsHomed heap x
 
 -- a database of this number is open for writing
 pub record IsWriting (writing : List Source) (number : ℕ) : Type 0 where
@@ -35,7 +39,7 @@ pub record IsMade (writing : List Source) : Type 0 where
   pub root : ℕ
   pub is : (source_at writing place).root ≡ Some root
 
--- Something was assigned, or a database was made.
+-- something was assigned, or a database was made
 abbrev pub HasWork : Heap → List Source → Type 0
 HasWork heap writing = ((x : ℕ) × IsAssigned heap x) ⊎ IsMade writing
 
