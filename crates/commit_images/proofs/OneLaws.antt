@@ -19,7 +19,7 @@ one-of test x e = ap (λ b. cond b (x ∷ []) []) e
 pub one-ready : (heap : Heap) (test : ℕ → Bool) (x : ℕ) → test x ≡ true → AreReady heap (filter test (x ∷ [])) → HasPids heap x
 one-ready heap test x e ready = let r : AreReady heap (x ∷ []) = subst (AreReady heap) (one-of test x e) ready in (r x (inl refl)).1
 
-in-filter : (test : ℕ → Bool) (xs : List ℕ) (x : ℕ) → IsIn x xs → test x ≡ true → IsIn x (filter test xs)
+pub in-filter : (test : ℕ → Bool) (xs : List ℕ) (x : ℕ) → IsIn x xs → test x ≡ true → IsIn x (filter test xs)
 in-filter test [] x none e = absurd none
 in-filter test (y ∷ ys) x m e = by (test y) refl (elim m [ inl same ↦ inl same | inr k ↦ inr (in-filter test ys x k e) ])
   where

@@ -13,12 +13,12 @@ use Rattle.commit_walk.specs.Walk.{Steady, bare}
 use Rattle.commit_walk.specs.Homes.{IsHomedOne, source_at, FindsFrom, IsFirst, IsFound, AreRoots, IsHomed, GivesHome, OwnsRoot, OwnsRoots}
 use Rattle.commit_walk.proofs.SteadyLaws.{alike, alike-back, home-alike, pid-alike, finds-alike, closed-alike, HomesStay, homes-back, steady-none, steady-then}
 
-found-may : (heap : Heap) (number : ℕ) (root : Option ℕ) (y : ℕ) → Finds heap number root y → May heap y
+pub found-may : (heap : Heap) (number : ℕ) (root : Option ℕ) (y : ℕ) → Finds heap number root y → May heap y
 found-may heap number root y (at_start x s allowed) = allowed
 found-may heap number root y (by_step x z before goes allowed) = allowed
 
 -- a walk never comes to an object that is stored and has a home
-may-not : (h : Header) → is_walked h ≡ true → 1 ≤ h.pid → has_home h ≡ true → ⊥
+pub may-not : (h : Header) → is_walked h ≡ true → 1 ≤ h.pid → has_home h ≡ true → ⊥
 unfolding is_walked has_home
 may-not h may le home =
     elim (cases_Bool (nat_eq h.pid 0)) [
@@ -42,7 +42,7 @@ homed-none heap sources list e =
       plain = λ y no. refl;
     })
 
-listed-or : (y : ℕ) (list : List ℕ) → IsIn y list ⊎ (IsIn y list → ⊥)
+pub listed-or : (y : ℕ) (list : List ℕ) → IsIn y list ⊎ (IsIn y list → ⊥)
 listed-or y list = elim (cases_Bool (is_in y list)) [ inl e ↦ inl (is_in-in y list e) | inr e ↦ inr (not_in y list e) ]
 
 pub homed-more : (old mid new : Heap) (sources : List Source) (count : ℕ) (before after : List ℕ) → IsHomed old mid sources count before
