@@ -3,7 +3,7 @@ use Rattle.std.proofs.Common.{◌≡◌, ◌≢◌, ℕ, ◌+◌, ◌<◌, ◌�
 use Rattle.std.proofs.lemmas.Bool.{cases_eq}
 use Rattle.std.proofs.lemmas.List.Sums.{sum_by-cons}
 use Rattle.swizzle.specs.obj_layout.Objects.{IsObject}
-use Rattle.swizzle.specs.obj_layout.Stored.{Space, HasObject, IsHeaded, appended, overwritten, with_words}
+use Rattle.swizzle.specs.obj_layout.Stored.{Space, HasObject, IsHeaded, appended, overwritten, directed, with_words}
 use Rattle.swizzle.proofs.of_obj_layout.StoredLaws.{HasObject-one, HasObject-within}
 use Rattle.swizzle.specs.Objects.{size_of, size_of_all}
 use Rattle.swizzle.proofs.ObjectLaws.{split, size_of_all-append}
@@ -44,7 +44,7 @@ image-object heap x h r w =
     }
 
 -- two objects of the area with one PID are one
-one-object : (heap : Heap) (x y : ℕ) → IsHeap heap → IsHeld heap x → IsHeld heap y → 1 ≤ (header_at heap y).pid → (header_at heap x).pid ≡ (header_at heap y).pid → x ≡ y
+pub one-object : (heap : Heap) (x y : ℕ) → IsHeap heap → IsHeld heap x → IsHeld heap y → 1 ≤ (header_at heap y).pid → (header_at heap x).pid ≡ (header_at heap y).pid → x ≡ y
 one-object heap x y h k l low e =
     let a : local_of heap (header_at heap x).pid ≡ Some x = h.one x (object_at heap x) (held_is heap x k) (omega (arith, e, low)) in
     let b : local_of heap (header_at heap y).pid ≡ Some y = h.one y (object_at heap y) (held_is heap y l) low in
@@ -116,12 +116,12 @@ record Over (heap : Heap) (xs : List ℕ) (before after : Space) : Type 0 where
   cases : (pid : ℕ) (words : List ℕ) → HasObject after pid words → (HasNone heap xs pid × HasObject before pid words) ⊎ IsImage heap [] xs pid words
 
 -- an object of the list that has this PID
-record HasOne (heap : Heap) (xs : List ℕ) (pid : ℕ) : Type 0 where
-  at : ℕ
-  listed : IsIn at xs
-  pid_is : (header_at heap at).pid ≡ pid
+pub record HasOne (heap : Heap) (xs : List ℕ) (pid : ℕ) : Type 0 where
+  pub at : ℕ
+  pub listed : IsIn at xs
+  pub pid_is : (header_at heap at).pid ≡ pid
 
-none-or-one : (heap : Heap) (xs : List ℕ) (pid : ℕ) → HasNone heap xs pid ⊎ HasOne heap xs pid
+pub none-or-one : (heap : Heap) (xs : List ℕ) (pid : ℕ) → HasNone heap xs pid ⊎ HasOne heap xs pid
 none-or-one heap [] pid = inl (λ x none. absurd none)
 none-or-one heap (x ∷ xs) pid = elim (cases_eq (header_at heap x).pid pid) [
   | inl e ↦ inr (record { at = x; listed = inl refl; pid_is = e })
@@ -226,7 +226,6 @@ stores heap new changed space h c ready again whole also numbered stored there =
     record {
       cut = o.cut;
       long = o.long ∙ b.long;
-      directory = o.directory ∙ b.directory;
       here = λ x m. elim m [
         | inl k ↦ elim (none-or-one heap changed (header_at heap x).pid) [
           | inl none ↦ o.stays (header_at heap x).pid (image_of heap x) none (b.here x k)
@@ -251,3 +250,13 @@ object-small heap x h held =
     let whole : size_of_all heap.objects ≡ size_of_all s.front + (size_of (object_at heap x) + size_of_all s.back) = ap size_of_all s.is ∙ size_of_all-append s.front (object_at heap x ∷ s.back) in
     let within = h.within in
     omega (arith, whole, within)
+
+-- the directory is no object
+pub stores-directed : (heap : Heap) (new changed : List ℕ) (before after : Space) (directory : ℕ) → Stores heap new changed before after → Stores heap new changed before (directed directory after)
+stores-directed heap new changed before after directory s = record {
+  cut = record { objects = s.cut.objects; cut = s.cut.cut };
+  long = s.long;
+  here = λ x m. let k = s.here x m in record { objects = k.objects; cut = k.cut; among = k.among };
+  stays = λ pid words none k. let l = s.stays pid words none k in record { objects = l.objects; cut = l.cut; among = l.among };
+  no_other = λ pid words k. s.no_other pid words (record { objects = k.objects; cut = k.cut; among = k.among });
+}

@@ -40,7 +40,6 @@ pub record IsImage (heap : Heap) (new changed : List ℕ) (pid : ℕ) (words : L
 pub record Stores (heap : Heap) (new changed : List ℕ) (before after : Space) : Type 0 where
   pub cut : IsCut after
   pub long : length after.words ≡ length before.words + words_of heap new
-  pub directory : after.directory ≡ before.directory
   pub here : (x : ℕ) → IsIn x new ⊎ IsIn x changed → HasObject after (header_at heap x).pid (image_of heap x)
   pub stays : (pid : ℕ) (words : List ℕ) → HasNone heap changed pid → HasObject before pid words → HasObject after pid words
   pub no_other : (pid : ℕ) (words : List ℕ) → HasObject after pid words → (HasNone heap changed pid × HasObject before pid words) ⊎ IsImage heap new changed pid words

@@ -42,7 +42,7 @@ bare-but : (o new : Object) → IsBare o new → IsBut o new
 bare-but o new b = record { kind = b.like.kind; refs_count = b.like.refs; nums_count = b.like.nums; bytes = b.like.bytes; refs = b.refs_are; nums = b.nums_are }
 
 -- Objects, names and images stay; and so do PIDs.
-pub record Clears (old new : Heap) : Type 0 where
+pub record Clears (old new : Heap) : Type 1 where
   pub remade : Remade old new
   pub pids : (y : ℕ) → (header_at new y).pid ≡ (header_at old y).pid
   pub seen_same : (holds : ℕ → List ℕ → Type 0) → Same (Joint old holds) (Joint new holds)
@@ -101,7 +101,7 @@ image-same old new x b names =
     let o = object_at old x in
     let p = object_at new x in
     same_far p.header.kind o.header.kind p.header.refs o.header.refs p.header.nums o.header.nums p.header.bytes o.header.bytes (map (name_of new) p.refs) (map (name_of old) o.refs) p.nums o.nums
-        b.kind b.refs_count b.nums_count b.bytes names b.nums
+    b.kind b.refs_count b.nums_count b.bytes names b.nums
 
 pub image-cleared : (old new : Heap) (x : ℕ) → Clears old new → image_of new x ≡ image_of old x
 image-cleared old new x c =

@@ -95,7 +95,7 @@ given-remade old new at pid g held =
       objects = λ y. elim (cases_eq y at) [
         | inl e ↦
             let there : object_at new y ≡ numbered (object_at old y) pid g.link =
-              ap (object_at new) e ∙ (given-there old new at pid g held ∙ ap (λ z. numbered (object_at old z) pid g.link) (sym e)) in
+            ap (object_at new) e ∙ (given-there old new at pid g held ∙ ap (λ z. numbered (object_at old z) pid g.link) (sym e)) in
             record {
               kind = ap (λ p. p.header.kind) there;
               refs_count = ap (λ p. p.header.refs) there;
@@ -176,17 +176,17 @@ numbered-append heap (y ∷ ys) x used n e =
     (n.0, numbered-append heap ys x (used + size_of (object_at heap y)) n.1 (let sum = sum_by-cons (λ z. size_of (object_at heap z)) y ys in omega (arith, e, sum)))
 
 -- Of the same objects with the same PIDs and sizes this is so too.
-abbrev AreAlike : Heap → Heap → List ℕ → Type 0
+abbrev pub AreAlike : Heap → Heap → List ℕ → Type 0
 AreAlike old new xs = (y : ℕ) → IsIn y xs → ((header_at new y).pid ≡ (header_at old y).pid) × (size_of (object_at new y) ≡ size_of (object_at old y))
 
-numbered-alike : (old new : Heap) (xs : List ℕ) (used : ℕ) → AreAlike old new xs → AreNumbered old xs used → AreNumbered new xs used
+pub numbered-alike : (old new : Heap) (xs : List ℕ) (used : ℕ) → AreAlike old new xs → AreNumbered old xs used → AreNumbered new xs used
 unfolding AreNumbered
 numbered-alike old new [] used a n = tt
 numbered-alike old new (x ∷ xs) used a n =
     let here = a x (inl refl) in
     (here.0 ∙ n.0, numbered-alike old new xs (used + size_of (object_at new x)) (λ y l. a y (inr l)) (subst (λ k. AreNumbered old xs (used + k)) (sym here.1) n.1))
 
-words-alike : (old new : Heap) (xs : List ℕ) → AreAlike old new xs → words_of new xs ≡ words_of old xs
+pub words-alike : (old new : Heap) (xs : List ℕ) → AreAlike old new xs → words_of new xs ≡ words_of old xs
 words-alike old new [] a = refl
 words-alike old new (x ∷ xs) a =
     let here = (a x (inl refl)).1 in
@@ -239,7 +239,7 @@ all-numbering old new xs first next (passed o n ys x f m before has) once below 
     let low = below x (held x (in-right x ys (x ∷ []) (inl refl))) in
     let no : is_new n f x ≡ false = old-by n f x (omega (arith, same, low)) in
     let is : filter (is_new n f) (ys ++ x ∷ []) ≡ filter (is_new n f) ys =
-      filter-append (is_new n f) ys (x ∷ []) ∙ (ap (λ (r : List ℕ). filter (is_new n f) ys ++ r) (none-of (is_new n f) x no) ∙ append-nil (filter (is_new n f) ys)) in
+    filter-append (is_new n f) ys (x ∷ []) ∙ (ap (λ (r : List ℕ). filter (is_new n f) ys ++ r) (none-of (is_new n f) x no) ∙ append-nil (filter (is_new n f) ys)) in
     record {
       numbered = subst (λ l. AreNumbered n l f) (sym is) r.numbered;
       next_is = r.next_is ∙ ap (λ l. f + words_of n l) (sym is);
@@ -255,7 +255,7 @@ all-numbering old new xs first next (given o mid n ys x f m before may give) onc
     let from = r.next_is in
     let yes : is_new n f x ≡ true = new-by n f x (omega (arith, pid, from)) in
     let is : filter (is_new n f) (ys ++ x ∷ []) ≡ ms ++ x ∷ [] =
-      filter-append (is_new n f) ys (x ∷ []) ∙ (ap (λ (r : List ℕ). r ++ filter (is_new n f) (x ∷ [])) same ∙ ap (λ (r : List ℕ). ms ++ r) (one-of (is_new n f) x yes)) in
+    filter-append (is_new n f) ys (x ∷ []) ∙ (ap (λ (r : List ℕ). r ++ filter (is_new n f) (x ∷ [])) same ∙ ap (λ (r : List ℕ). ms ++ r) (one-of (is_new n f) x yes)) in
     let words = words-alike mid n ms alike in
     let size : size_of (object_at n x) ≡ size_of (object_at mid x) = ap size_of there in
     record {
@@ -275,12 +275,12 @@ all-from old new xs first next y (passed o n ys x f m before has) once l none =
     elim (in-append y ys (x ∷ []) l) [
       | inl b ↦ all-from o n ys f m y before (once-front ys (x ∷ []) once) b none
       | inr s ↦ elim s [
-          | inl e ↦
-              let same = all-others o n ys f m x before (once-apart ys x once) in
-              let was = ap (λ z. (header_at o z).pid) (sym e) ∙ none in
-              absurd (omega (arith, same, was, has))
-          | inr none ↦ absurd none
-        ]
+        | inl e ↦
+            let same = all-others o n ys f m x before (once-apart ys x once) in
+            let was = ap (λ z. (header_at o z).pid) (sym e) ∙ none in
+            absurd (omega (arith, same, was, has))
+        | inr none ↦ absurd none
+      ]
     ]
 all-from old new xs first next y (given o mid n ys x f m before may give) once l none =
     elim (cases_eq y x) [

@@ -4,3 +4,5 @@ pub mod ReadyLaws
 pub mod RehomeLaws
 pub mod MoveLaws
 pub mod ClearLaws
+pub mod TellLaws
+pub mod SavesLaws

@@ -67,7 +67,7 @@ moved-given old mid new outside r back low g =
       kinds = rehomed-kinds old mid outside r low;
     } in
     let known : (n : Reference) → IsKnown (seen old outside) n → IsKnown (seen mid outside) n = λ n k.
-      let w = rehomed-forth old mid outside n k.it r low k.is in record { it = w.now; is = w.there } in
+    let w = rehomed-forth old mid outside n k.it r low k.is in record { it = w.now; is = w.there } in
     record {
       to = to;
       moves = record {

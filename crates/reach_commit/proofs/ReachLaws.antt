@@ -78,7 +78,7 @@ lists old a b new writing directory roots homed one owns =
     let sources = with_directory writing directory in
     let last = source-last writing directory in
     let one_more : IsHomedOne a b (source_at sources (length writing)).number (source_at sources (length writing)).root a.reached b.reached =
-      subst (λ s. IsHomedOne a b s.number s.root a.reached b.reached) (sym last) one in
+    subst (λ s. IsHomedOne a b s.number s.root a.reached b.reached) (sym last) one in
     let h = homed-more old a b sources (length writing) a.reached b.reached (homed-left old a writing directory a.reached homed) one_more in
     let there = alike old b h.same in
     let back : (y : ℕ) → IsIn y new.reached → IsIn y b.reached = λ y l. subst (IsIn y) owns.reached l in

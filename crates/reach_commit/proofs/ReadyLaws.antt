@@ -67,12 +67,12 @@ once-filter test (x ∷ xs) o = by (test x) (once-filter test xs o.1)
 assigned-held : (heap : Heap) (x : ℕ) → IsHeap heap → IsIn x heap.assigned → IsHeld heap x
 assigned-held heap x h l = let m = h.noted.marked x (in-listed x heap.assigned l) in record { object = m.object; is = m.is }
 
-slot-below : (rs : List Reference) (slot to : ℕ) → get_or rs slot Nil ≡ Local to → slot < length rs
+pub slot-below : (rs : List Reference) (slot to : ℕ) → get_or rs slot Nil ≡ Local to → slot < length rs
 slot-below [] slot to e = absurd (let no : Nil ≡ Local to = e in cc)
 slot-below (r ∷ rs) zero to e = omega arith
 slot-below (r ∷ rs) (suc slot) to e = let rest = slot-below rs slot to e in omega (arith, rest)
 
-none-or-some : (n : ℕ) → (n ≡ 0) ⊎ (1 ≤ n)
+pub none-or-some : (n : ℕ) → (n ≡ 0) ⊎ (1 ≤ n)
 none-or-some zero = inl refl
 none-or-some (suc n) = inr (omega arith)
 
@@ -188,14 +188,16 @@ module _ (old mid new : Heap) (writing : List Source) (directory : Option ℕ) (
   in-fresh y l =
       let k = filter-in (is_new new first) new.reached y l in
       let listed = to-mid y k.0 in
-      let least = new-is new first y k.1 in
-      (listed, elim (none-or-some (header_at old y).pid) [
-        | inl none ↦ none
-        | inr low ↦
-            let same = keeps y low in
-            let lt = v.below y (v.lists.steady.back y (held-mid y listed)) in
-            absurd (omega (arith, same, lt, least))
-      ])
+      let least = new-is new first y k.1 in (
+        listed,
+        elim (none-or-some (header_at old y).pid) [
+          | inl none ↦ none
+          | inr low ↦
+              let same = keeps y low in
+              let lt = v.below y (v.lists.steady.back y (held-mid y listed)) in
+              absurd (omega (arith, same, lt, least))
+        ],
+      )
 
   others : (y : ℕ) → (IsIn y fresh → ⊥) → (header_at new y).pid ≡ (header_at old y).pid
   others y away =
@@ -220,9 +222,9 @@ module _ (old mid new : Heap) (writing : List Source) (directory : Option ℕ) (
       elim (none-or-some (header_at old y).pid) [
         | inr low ↦ low
         | inl none ↦ elim (listed-or y mid.reached) [
-            | inl l ↦ let least = high y l none in absurd (omega (arith, least, lt))
-            | inr away ↦ let same = unlisted y away in absurd (omega (arith, same, none, some))
-          ]
+          | inl l ↦ let least = high y l none in absurd (omega (arith, least, lt))
+          | inr away ↦ let same = unlisted y away in absurd (omega (arith, same, none, some))
+        ]
       ]
 
   reached-flag : (y : ℕ) → is_reached (object_at new y) ≡ true → IsHeld new y → IsIn y mid.reached
@@ -302,9 +304,9 @@ module _ (old mid new : Heap) (writing : List Source) (directory : Option ℕ) (
     others = λ y away. num-new y ∙ elim (listed-or y mid.reached) [
       | inr unlisted_is ↦ v.lists.homes.others y unlisted_is
       | inl l ↦ elim (none-or-some (header_at old y).pid) [
-          | inl none ↦ absurd (away (fresh-in y l none))
-          | inr low ↦ v.lists.homes.plain y (no-home y l low)
-        ]
+        | inl none ↦ absurd (away (fresh-in y l none))
+        | inr low ↦ v.lists.homes.plain y (no-home y l low)
+      ]
     ];
     plain = λ y none. num-new y ∙ v.lists.homes.plain y none;
   }
@@ -361,11 +363,13 @@ module _ (old mid new : Heap) (writing : List Source) (directory : Option ℕ) (
   changed-ready : AreReady new changed
   changed-ready x l =
       let c = in-changed x l in
-      let held_old : IsHeld old x = assigned-held old x v.heap_old c.assigned in
-      (remains.held x held_old, λ slot to e. has-pid to (λ may. elim c.kind [
-        | inl home ↦ from-home x to c.assigned c.stored home (goes-there x slot to held_old e) may
-        | inr node ↦ v.lists.closed x to (v.lists.all x node.1) (goes-there x slot to held_old e) may
-      ]))
+      let held_old : IsHeld old x = assigned-held old x v.heap_old c.assigned in (
+        remains.held x held_old,
+        λ slot to e. has-pid to (λ may. elim c.kind [
+          | inl home ↦ from-home x to c.assigned c.stored home (goes-there x slot to held_old e) may
+          | inr node ↦ v.lists.closed x to (v.lists.all x node.1) (goes-there x slot to held_old e) may
+        ]),
+      )
 
   named-below : (d : Option ℕ) → IfSome d (IsHeld old) → pid_of new d < first + words_of new fresh
   named-below None k = let low = v.low in omega (arith, low)

@@ -90,12 +90,12 @@ steady-rehomes old new h k s plain =
     let pids : (y : ℕ) → (header_at new y).pid ≡ (header_at old y).pid = λ y. pid-alike old new (alike old new s) y in
     let names : (y : ℕ) → name_at new y ≡ name_at old y = λ y. ap (λ p. if p == 0 then Local y else Pid p) (pids y) in
     let refs : (y : ℕ) → IsHeld old y → map (name_of new) (object_at new y).refs ≡ map (name_of old) (object_at old y).refs = λ y held.
-      let long : length (object_at new y).refs ≡ length (object_at old y).refs =
-        refs-long new y k (s.held y held) ∙ (ap (λ x. x.refs) (s.headers y) ∙ sym (refs-long old y h held)) in
-      let same : (object_at new y).refs ≡ (object_at old y).refs = ext_get_or Nil (object_at new y).refs (object_at old y).refs long (λ slot lt. s.refs y slot) in
-      ap (map (name_of new)) same ∙ names_kept old new (object_at old y).refs (λ slot to e. names to) in
+    let long : length (object_at new y).refs ≡ length (object_at old y).refs =
+    refs-long new y k (s.held y held) ∙ (ap (λ x. x.refs) (s.headers y) ∙ sym (refs-long old y h held)) in
+    let same : (object_at new y).refs ≡ (object_at old y).refs = ext_get_or Nil (object_at new y).refs (object_at old y).refs long (λ slot lt. s.refs y slot) in
+    ap (map (name_of new)) same ∙ names_kept old new (object_at old y).refs (λ slot to e. names to) in
     let counts : (y : ℕ) → IsHeld old y → length (object_at old y).nums ≡ length (object_at new y).nums = λ y held.
-      (has-nums old y h held).long ∙ (sym (ap (λ x. x.nums) (s.headers y)) ∙ sym (has-nums new y k (s.held y held)).long) in
+    (has-nums old y h held).long ∙ (sym (ap (λ x. x.nums) (s.headers y)) ∙ sym (has-nums new y k (s.held y held)).long) in
     record {
       held = s.held;
       names = names;

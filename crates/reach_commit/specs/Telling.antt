@@ -22,6 +22,8 @@ use Rattle.commit_images.specs.Saved.{saved}
 -- The vault tells what it holds: it is cut into objects, and each object of the area that has a PID is among them. And each object of the area has the
 -- counts of its kind.
 pub record IsTold (heap : area.Heap) (outside : Outside Space) : Type 0 where
+  pub content : Space
+  pub is : outside.contents content
   pub cut : (space : Space) → outside.contents space → IsCut space
   pub there : (x : ℕ) → IsHeld heap x → 1 ≤ (header_at heap x).pid → (words : List ℕ) × Holds outside (header_at heap x).pid words
   pub whole : (x : ℕ) → IsHeld heap x → IsWhole heap x

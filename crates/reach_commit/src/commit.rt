@@ -28,7 +28,13 @@ pub enum CommitAnswer {
 /// `directory` is the object that names all databases, those that were made too. It is tested first whether there is something to do. The images are made in
 /// the buffer, which has as many words as the area; what it holds afterwards means nothing. It takes no memory and fetches nothing. After a fault the vault
 /// isn't alive, and the run ends: the area has the new PIDs, and a crash leaves what it could leave before, or all that was to be stored.
-pub fn commit<V: Vault>(sw: &mut Swizzle, vault: &mut V, writing: &[Source], directory: Option<u32>, buffer: &mut [u64]) -> Result<CommitAnswer, SwizzleFault>
+pub fn commit<V: Vault>(
+    sw: &mut Swizzle,
+    vault: &mut V,
+    writing: &[Source],
+    directory: Option<u32>,
+    buffer: &mut [u64],
+) -> Result<CommitAnswer, SwizzleFault>
     requires alive { V.alive vault.old }
     requires empty { sw.old.reached ≡ [] }
     requires roots { AreNewRoots sw.old writing.now }

@@ -1,11 +1,13 @@
 //! Stores what a commit stores.
-ghost use Rattle.std.specs.Prelude.{◌≡◌, ◌+◌, ◌≤◌, [], length, IfOk, IfErr, IfSome, OnOk, MatchResult};
+ghost use Rattle.std.specs.Prelude.{◌≡◌, ◌+◌, ◌≤◌, [], length, IfSome, OnOk, MatchResult};
 ghost use Rattle.swizzle.specs.obj_layout.Storing.{DeadIfErr};
-ghost use Rattle.swizzle.specs.Heap.{IsHeld};
+ghost use Rattle.swizzle.specs.Heap.{IsHeap, IsHeld};
 ghost use Rattle.new_pids.specs.Giving.{AreBelow};
 ghost use Rattle.reach_commit.specs.Deciding.{AreWritable};
 ghost use Rattle.reach_commit.specs.Becoming.{AreNewRoots};
 ghost use Rattle.reach_commit.specs.Committing.{Saves, BreaksOff, pid_of};
+ghost use Rattle.reach_commit.specs.Ready.{IsReady};
+ghost use Rattle.reach_commit.specs.Telling.{Moved};
 
 use crate::reach::list_reached;
 use commit_images::save::{Saved, save};
@@ -25,9 +27,42 @@ fn pid_of(sw: &Swizzle, object: Option<u32>) -> u64
     }
 }
 
+// Lists what becomes stored and gives it PIDs from the words on that are used, whose number is returned. The vault is there for a clause alone.
+fn make_ready<V: Vault>(
+    sw: &mut Swizzle,
+    vault: &V,
+    writing: &[Source],
+    directory: Option<u32>,
+) -> u64
+    requires writable { AreWritable sw.old writing.now }
+    requires empty { sw.old.reached ≡ [] }
+    requires roots { AreNewRoots sw.old writing.now }
+    requires directory { IfSome directory (IsHeld sw.old) }
+    requires below { AreBelow sw.old (V.used_words vault.now) }
+    ensures first { result ≡ V.used_words vault.now }
+    ensures ready { IsReady sw.old sw.new writing.now directory result }
+    ensures moved { Moved sw.old sw.new (V.outside vault.now) (V.outside vault.now) }
+    ensures sound { IsHeap sw.new }
+    ensures was { IsHeap sw.old }
+{
+    sw.sound();
+    list_reached(sw, writing, directory);
+    sw.sound();
+    let first = vault.used();
+    let _next = give_all(sw, vault, first);
+    sw.sound();
+    first
+}
+
 /// Stores what is reached and what was changed, all of it at once, and then notes nothing as assigned. Where a fault comes, the area has the new PIDs, and the
 /// vault isn't alive.
-pub fn store<V: Vault>(sw: &mut Swizzle, vault: &mut V, writing: &[Source], directory: Option<u32>, buffer: &mut [u64]) -> Result<Saved, VaultFault>
+pub fn store<V: Vault>(
+    sw: &mut Swizzle,
+    vault: &mut V,
+    writing: &[Source],
+    directory: Option<u32>,
+    buffer: &mut [u64],
+) -> Result<Saved, VaultFault>
     requires alive { V.alive vault.old }
     requires writable { AreWritable sw.old writing.now }
     requires empty { sw.old.reached ≡ [] }
@@ -42,11 +77,12 @@ pub fn store<V: Vault>(sw: &mut Swizzle, vault: &mut V, writing: &[Source], dire
     ensures alive { OnOk result (V.alive vault.new) }
     ensures dead { DeadIfErr (V.alive vault.new) result }
 {
-    list_reached(sw, writing, directory);
-    let first = vault.used();
-    let _next = give_all(sw, vault, first);
+    let first = make_ready(sw, vault, writing, directory);
     let named = pid_of(sw, directory);
-    let saved = save(sw, vault, first, named, buffer)?;
+    let saved = match save(sw, vault, first, named, buffer) {
+        Ok(saved) => saved,
+        Err(fault) => return Err(fault),
+    };
     sw.clear_assigned();
     sw.clear_reached();
     Ok(saved)

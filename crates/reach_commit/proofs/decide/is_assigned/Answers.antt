@@ -14,7 +14,7 @@ pub loop-place-preserved : goal.loop-place-preserved
 loop-place-preserved c =
     let sw = c.args.sw.now in
     below_more (λ p. IsHomed sw (get_or sw.assigned p 0) → ⊥) c.loop-place.place c.loop-place.invariant
-        (subst (λ x. IsHomed sw x → ⊥) c.assigned_at-object.ensures.is c.if-is_at_home.ensures)
+    (subst (λ x. IsHomed sw x → ⊥) c.assigned_at-object.ensures.is c.if-is_at_home.ensures)
 
 pub returns : goal.returns
 returns c = λ x a.

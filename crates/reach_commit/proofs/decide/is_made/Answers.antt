@@ -8,7 +8,7 @@ use Rattle.reach_commit.proofs.decide.is_made.Goals as goal
 pub loop-source-preserved : goal.loop-source-preserved
 loop-source-preserved c =
     below_more (λ p. (root : ℕ) → (source_at c.args.writing.now p).root ≡ Some root → ⊥) c.loop-source.source-index c.loop-source.invariant
-        (λ root e. false≢true (c.if-is_some.ensures ∙ ap is_some e))
+    (λ root e. false≢true (c.if-is_some.ensures ∙ ap is_some e))
 
 pub returns : goal.returns
 returns c = λ w. c.loop-source.invariant w.place (omega (arith, w.below, c.loop-source-test.false)) w.root w.is

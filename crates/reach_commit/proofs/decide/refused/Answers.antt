@@ -15,7 +15,7 @@ pub loop-place-preserved : goal.loop-place-preserved
 loop-place-preserved c =
     let sw = c.args.sw.now in
     below_more (λ p. IsHomed sw (get_or sw.assigned p 0) → IsWriting c.args.writing.now (num_at sw (get_or sw.assigned p 0) 0)) c.loop-place.place c.loop-place.invariant
-        (subst (λ x. IsHomed sw x → IsWriting c.args.writing.now (num_at sw x 0)) c.assigned_at-object.ensures.is c.if-is_closed.ensures)
+    (subst (λ x. IsHomed sw x → IsWriting c.args.writing.now (num_at sw x 0)) c.assigned_at-object.ensures.is c.if-is_closed.ensures)
 
 pub returns-clause-refused : goal.returns-clause-refused
 returns-clause-refused c = λ x a.
