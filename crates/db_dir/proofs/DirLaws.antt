@@ -1,0 +1,1 @@
+-- Directories: the databases in their places, and the search for a name.
