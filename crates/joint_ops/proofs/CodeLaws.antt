@@ -114,7 +114,7 @@ load-within old new outside u at keeps l n it (inr v) =
 
 -- What lies in the area is seen.
 
-code-bytes : (here : area.Heap) (at : ℕ) → (header_at here at).kind ≡ kind.Code → text_at here at ≡ shown_code (shown_at here at)
+pub code-bytes : (here : area.Heap) (at : ℕ) → (header_at here at).kind ≡ kind.Code → text_at here at ≡ shown_code (shown_at here at)
 code-bytes here at is = ap (λ (k : Kind). take (header_at here at).bytes (drop (8 * words_before k) (bytes_of (object_at here at).nums))) is
 
 module _ (outside : Outside Space) where
@@ -152,7 +152,7 @@ unit-held here at (unit code cs frame) i = i.0.held
 
 -- Loading.
 
-no-names : (here : area.Heap) (outside : Outside Space) → IsWorld here outside [] []
+pub no-names : (here : area.Heap) (outside : Outside Space) → IsWorld here outside [] []
 no-names here outside = record {
   row = record {
     stands = record { both = λ n id p. absurd (cc); one_number = λ n i j p q. absurd (cc); one_name = λ n m id p q. absurd (cc) };
@@ -198,6 +198,15 @@ pub loads : (old new : area.Heap) (outside : Outside Space) (u : UnitView) (r : 
     → Loads old new u r → LoadsUnit old new outside u r
 loads old new outside u (Ok at) h now fit l = loads-unit old new outside u at h fit l
 loads old new outside u (Err fault) h now fit l = loads-cut old new outside u fault now l
+
+unit-kind : (here : area.Heap) (at : ℕ) (u : UnitView) → IsUnit here at u → (header_at here at).kind ≡ kind.Code
+unfolding IsUnit
+unit-kind here at (unit code cs frame) i = i.0.kind
+
+pub load-kind : (old new : area.Heap) (u : UnitView) (r : Result ℕ SwizzleFault) → OnOk r (IsFitUnit u) → Loads old new u r
+    → IfOk r (λ at. (header_at new at).kind ≡ kind.Code)
+load-kind old new u (Ok at) fit l = unit-kind new at u (loaded-is old new u at fit l)
+load-kind old new u (Err fault) fit l = tt
 
 -- Constants.
 

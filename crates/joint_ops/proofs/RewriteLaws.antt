@@ -53,6 +53,7 @@ pub record Rewritten (mid new : area.Heap) (at : ℕ) (it : Shown) : Type 0 wher
   pub object : area_objects.Object
   pub objects : new.objects ≡ replace_from 1 mid.objects at object
   pub size : new.size ≡ mid.size
+  pub reached : new.reached ≡ mid.reached
   pub like : IsLike (object_at mid at) object
   pub shown_is : shown (name_of mid) object ≡ it
 
@@ -91,12 +92,13 @@ marked : (mid : area.Heap) (at : ℕ) (o : area_objects.Object) (it : Shown) (b 
       objects = replace_from 1 (area.with_object mid at o).objects at (flagged (object_at (area.with_object mid at o) at));
       assigned = mid.assigned ++ at ∷ [];
     }) at it
-marked mid at o it true h there like is = record { object = o; objects = refl; size = refl; like = like; shown_is = is }
+marked mid at o it true h there like is = record { object = o; objects = refl; size = refl; reached = refl; like = like; shown_is = is }
 marked mid at o it false h there like is = record {
   object = flagged o;
   objects = replace-twice 1 mid.objects at o (flagged (object_at (area.with_object mid at o) at))
       ∙ ap (λ (x : area_objects.Object). replace_from 1 mid.objects at (flagged x)) (object-replaced mid at o there);
   size = refl;
+  reached = refl;
   like = record { kind = like.kind; refs = like.refs; nums = like.nums; bytes = like.bytes; pid = like.pid };
   shown_is = is;
 }
@@ -121,7 +123,8 @@ as-relisted : (mid new : area.Heap) (at : ℕ) (it : Shown) → (r : Rewritten m
 unfolding relisted
 as-relisted mid new at it r =
     ap (λ (os : List area_objects.Object). record new { objects = os }) r.objects
-    ∙ ap (λ (n : ℕ). record (area.with_object mid at r.object) { size = n; assigned = new.assigned }) r.size
+    ∙ ap (λ (n : ℕ). record (area.with_object mid at r.object) { size = n; assigned = new.assigned; reached = new.reached }) r.size
+    ∙ ap (λ (xs : List ℕ). record (area.with_object mid at r.object) { assigned = new.assigned; reached = xs }) r.reached
 
 names-relisted : (mid put : area.Heap) (assigned : List ℕ) → ((j : ℕ) → IsHeld mid j → IsHeld put j × (name_at put j ≡ name_at mid j)) → (j : ℕ)
     → IsHeld mid j → IsHeld (relisted put assigned) j × (name_at (relisted put assigned) j ≡ name_at mid j)

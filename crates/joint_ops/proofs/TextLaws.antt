@@ -22,7 +22,7 @@ use Rattle.heap_meaning.specs.heap_texts.Texts.{text_object, text_nums, wanted_o
 use Rattle.heap_meaning.specs.heap_texts.Texts as made
 use Rattle.heap_meaning.specs.heap_texts.declared.fault.OpFault.{OpFault}
 use Rattle.heap_meaning.specs.heap_texts.declared.fault.OpFault.TheVariants as op
-use Rattle.heap_meaning.specs.ps_meaning.Texts.{Attempt, Yields, Fails, join_of, part_of, is_string}
+use Rattle.heap_meaning.specs.ps_meaning.Texts.{Attempt, Yields, Fails, join_of, part_of, string_of, is_string}
 use Rattle.heap_meaning.specs.ps_meaning.Objects.{Heap}
 use Rattle.heap_meaning.specs.ps_meaning.Weights.{text_weight}
 use Rattle.heap_meaning.proofs.of_proc_values.WrittenLaws.{text-of_text}
@@ -59,6 +59,13 @@ part-good text bytes (pos (suc before)) (pos count) g e = of (nat_lt (length tex
     of true q = absurd (cc)
     of false q = let same : take count (drop before text) ≡ bytes = cc in
         subst AreBytes same (AreBytes-take count (drop before text) (AreBytes-drop before text g))
+
+pub string-good : (of : List ℕ) → AreBytes of → (bytes : List ℕ) → string_of of ≡ Yields bytes → AreBytes bytes
+string-good of good bytes e = cases (is_string of) e
+  where
+    cases : (s : Bool) → (if s then Yields of else Fails trap.TooLong) ≡ Yields bytes → AreBytes bytes
+    cases true q = let same : of ≡ bytes = cc in subst AreBytes same good
+    cases false q = absurd (cc)
 
 -- The text of an int is made of bytes.
 pub int-good : (z : ℤ) → mag z < 2 ^ 63 → AreBytes (signed_decimal z)

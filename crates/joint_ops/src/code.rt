@@ -1,16 +1,18 @@
 //! Units of code, loaded and read.
-ghost use Rattle.std.specs.Prelude.{◌≡◌, ℕ, List, IfOk, OnOk};
+ghost use Rattle.std.specs.Prelude.{◌≡◌, ℕ, List, IfErr, IfOk, OnOk};
 ghost use Rattle.ps_base.specs.CodeUnit.{ConstantsView, unit, unit_view};
 ghost use Rattle.ps_base.specs.declared.code_unit.Frame.{Frame};
 ghost use Rattle.heap_meaning.specs.obj_layout.declared.reference.Reference.{Reference};
 ghost use Rattle.heap_meaning.specs.obj_layout.Storing.{SameNumbers};
-ghost use Rattle.heap_meaning.specs.swizzle.Heap.{IsHeld};
+ghost use Rattle.heap_meaning.specs.proc_values.Units.{IsCut, unit_objects};
+ghost use Rattle.heap_meaning.specs.swizzle.Heap.{IsHeld, header_at, top_of};
 ghost use Rattle.heap_meaning.specs.swizzle.Reading.{LeavesOutside};
 ghost use Rattle.heap_meaning.specs.swizzle.Touch.{Keeps};
 ghost use Rattle.heap_meaning.specs.ps_meaning.Objects as meaning;
 ghost use Rattle.joint_ops.specs.World.{IsUnitIn, IsWorld, Stands, FailsAsReading};
 ghost use Rattle.joint_ops.specs.Code.{LoadsUnit, AnswersConstant};
 
+use heap_meaning::obj_layout::kind::Kind;
 use heap_meaning::obj_layout::vault::Vault;
 use heap_meaning::proc_values::load::load_unit;
 use heap_meaning::proc_values::reading;
@@ -24,7 +26,9 @@ use ps_base::code_unit::CodeUnit;
 pub fn load<V: Vault>(sw: &mut Swizzle, _vault: &V, unit: &CodeUnit) -> Result<u32, SwizzleFault>
     ensures loaded { LoadsUnit sw.old sw.new (V.outside _vault.now) (unit_view unit.now) result }
     ensures held { IfOk result (IsHeld sw.new) }
+    ensures code { IfOk result (λ at. (header_at sw.new at).kind ≡ Kind.Code) }
     ensures keeps { Keeps sw.old sw.new }
+    ensures cut { IfErr result (λ fault. IsCut sw.old sw.new (unit_objects (top_of sw.old) (unit_view unit.now)) fault) }
 {
     sw.sound();
     let loaded = load_unit(sw, unit);

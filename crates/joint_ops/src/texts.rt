@@ -1,11 +1,13 @@
 //! The operators on strings, over texts of the area.
 ghost use Rattle.std.specs.Prelude.{◌≡◌, ◌<◌, ◌^◌, List, length, ℕ, IfOk, Some};
 ghost use Rattle.std.specs.Fmt.{signed_decimal};
+ghost use Rattle.heap_meaning.specs.obj_area.Words.{AreBytes};
 ghost use Rattle.heap_meaning.specs.obj_layout.declared.reference.Reference.{Reference};
 ghost use Rattle.heap_meaning.specs.swizzle.Heap.{IsHeld, header_at};
+ghost use Rattle.heap_meaning.specs.swizzle.Text.{text_at};
 ghost use Rattle.heap_meaning.specs.swizzle.Touch.{Keeps};
 ghost use Rattle.heap_meaning.specs.ps_meaning.Objects as meaning;
-ghost use Rattle.heap_meaning.specs.ps_meaning.Texts.{Yields, join_of, part_of, order_of};
+ghost use Rattle.heap_meaning.specs.ps_meaning.Texts.{Yields, join_of, part_of, order_of, string_of};
 ghost use Rattle.heap_meaning.specs.ps_meaning.Values as meant;
 ghost use Rattle.joint_ops.specs.World.{IsWorld, DenotesIn};
 ghost use Rattle.joint_ops.specs.Made.{MakesText, BreaksAsMaking};
@@ -82,27 +84,52 @@ pub fn int_text<V: Vault>(sw: &mut Swizzle, _vault: &V, value: i32) -> Result<u3
     }
 }
 
-/// How many bytes a text has.
+/// These bytes as a new text, whatever the vault. TooLong where they are more than 65,535, else AreaFull where there is no room for it; then the area
+/// stays.
 #[inline]
-pub fn length<V: Vault>(sw: &Swizzle, _vault: &V, text: u32) -> u32
+pub fn text_of_bytes<V: Vault>(sw: &mut Swizzle, bytes: &[u8]) -> Result<u32, OpFault>
+    ensures made { (vault : V) (of : meaning.Heap) (names : List Reference) → IsWorld sw.old (V.outside vault) of names
+        → MakesText sw.old sw.new (V.outside vault) of names (string_of bytes.now) result }
+    ensures held { IfOk result (IsHeld sw.new) }
+    ensures keeps { Keeps sw.old sw.new }
+    ensures fails { BreaksAsMaking sw.old sw.new result }
+{
+    sw.sound();
+    are_bytes(bytes);
+    let made = operators::text_of_bytes(sw, bytes);
+    sw.sound();
+    made
+}
+
+// A law: what a slice of bytes holds are bytes.
+#[inline]
+fn are_bytes(bytes: &[u8])
+    ensures { AreBytes bytes.now }
+{
+    let _ = bytes;
+}
+
+/// How many bytes a text has, whatever the vault.
+#[inline]
+pub fn length<V: Vault>(sw: &Swizzle, text: u32) -> u32
     requires held { IsHeld sw.now text }
     requires text { (header_at sw.now text).kind ≡ Kind.Text }
-    ensures value { (names : List Reference) (v : List ℕ) → DenotesIn sw.now (V.outside _vault.now) names (Some text) (meant.Text v) → result ≡ length v }
+    ensures value { (vault : V) (names : List Reference) (v : List ℕ) → DenotesIn sw.now (V.outside vault) names (Some text) (meant.Text v) → result ≡ length v }
     ensures small { result < 2 ^ 31 }
 {
     sw.sound();
-    bytes(sw, _vault, text).len() as u32
+    bytes::<V>(sw, text).len() as u32
 }
 
 /// How two texts compare: byte by byte, the first difference decides, and a proper prefix is less.
 #[inline]
-pub fn compare<V: Vault>(sw: &Swizzle, _vault: &V, a: u32, b: u32) -> Ordering
+pub fn compare<V: Vault>(sw: &Swizzle, a: u32, b: u32) -> Ordering
     requires a_held { IsHeld sw.now a }
     requires a_text { (header_at sw.now a).kind ≡ Kind.Text }
     requires b_held { IsHeld sw.now b }
     requires b_text { (header_at sw.now b).kind ≡ Kind.Text }
-    ensures { (names : List Reference) (v w : List ℕ) → DenotesIn sw.now (V.outside _vault.now) names (Some a) (meant.Text v)
-        → DenotesIn sw.now (V.outside _vault.now) names (Some b) (meant.Text w)
+    ensures { (vault : V) (names : List Reference) (v w : List ℕ) → DenotesIn sw.now (V.outside vault) names (Some a) (meant.Text v)
+        → DenotesIn sw.now (V.outside vault) names (Some b) (meant.Text w)
         → result ≡ order_of v w }
 {
     sw.sound();
@@ -111,10 +138,11 @@ pub fn compare<V: Vault>(sw: &Swizzle, _vault: &V, a: u32, b: u32) -> Ordering
 
 /// The bytes of a text.
 #[inline]
-pub fn bytes<'a, V: Vault>(sw: &'a Swizzle, _vault: &V, text: u32) -> &'a [u8]
+pub fn bytes<V: Vault>(sw: &Swizzle, text: u32) -> &[u8]
     requires held { IsHeld sw.now text }
     requires text { (header_at sw.now text).kind ≡ Kind.Text }
-    ensures value { (names : List Reference) (v : List ℕ) → DenotesIn sw.now (V.outside _vault.now) names (Some text) (meant.Text v) → result.now ≡ v }
+    ensures value { (vault : V) (names : List Reference) (v : List ℕ) → DenotesIn sw.now (V.outside vault) names (Some text) (meant.Text v) → result.now ≡ v }
+    ensures bytes { result.now ≡ text_at sw.now text }
     ensures small { length result.now < 2 ^ 31 }
 {
     sw.sound();

@@ -25,13 +25,13 @@ pub enum Sort {
     Other,
 }
 
-/// What sort of object this is. Where it denotes a value, it is the sort of that value, and never `Other`. The vault is there for the
-/// clause alone, here and wherever it is lent shared.
+/// What sort of object this is. Where it denotes a value, it is the sort of that value, and never `Other`. It is so
+/// whatever the vault, here and wherever none is lent.
 #[inline]
-pub fn sort_of<V: Vault>(sw: &Swizzle, _vault: &V, to: Option<u32>) -> Sort
+pub fn sort_of<V: Vault>(sw: &Swizzle, to: Option<u32>) -> Sort
     requires held { IfSome to (IsHeld sw.now) }
     ensures kind { IsSorted sw.now to result }
-    ensures value { (names : List Reference) (v : meant.Value) → DenotesIn sw.now (V.outside _vault.now) names to v → IsOfSort v result }
+    ensures value { (vault : V) (names : List Reference) (v : meant.Value) → DenotesIn sw.now (V.outside vault) names to v → IsOfSort v result }
 {
     sw.sound();
     let Some(at) = to else {
@@ -48,9 +48,9 @@ pub fn sort_of<V: Vault>(sw: &Swizzle, _vault: &V, to: Option<u32>) -> Sort
 
 /// Whether two values that are neither texts nor procedures are one: nil and nil, or the same object.
 #[inline]
-pub fn is_one<V: Vault>(sw: &Swizzle, _vault: &V, a: Option<u32>, b: Option<u32>) -> bool
-    ensures { (of : meaning.Heap) (names : List Reference) (v w : meant.Value) → IsWorld sw.now (V.outside _vault.now) of names
-        → DenotesIn sw.now (V.outside _vault.now) names a v → DenotesIn sw.now (V.outside _vault.now) names b w
+pub fn is_one<V: Vault>(sw: &Swizzle, a: Option<u32>, b: Option<u32>) -> bool
+    ensures { (vault : V) (of : meaning.Heap) (names : List Reference) (v w : meant.Value) → IsWorld sw.now (V.outside vault) of names
+        → DenotesIn sw.now (V.outside vault) names a v → DenotesIn sw.now (V.outside vault) names b w
         → IsByObject v → IsByObject w → result ≡ is_one_object v w }
 {
     sw.sound();

@@ -20,7 +20,7 @@ use Rattle.joint_ops.specs.World.{IsUnitIn}
 use Rattle.joint_ops.specs.Code.{DenotesConstant, AnswersConstant}
 use Rattle.joint_ops.proofs.SeenLaws.{seen-is}
 use Rattle.joint_ops.proofs.CodeLaws.{has-code}
-use Rattle.joint_procedures.specs.Units.{AnswersLiteral, AnswersText}
+use Rattle.joint_procedures.specs.Units.{AnswersLiteral, AnswersText, IsFrameIn}
 
 -- a code object has a word for its frame
 pub frame-there : (here : Heap) (code : ℕ) → IsHeap here → IsHeld here code → (header_at here code).kind ≡ kind.Code → 1 < (header_at here code).nums
@@ -38,20 +38,18 @@ same-frame a b nums refs num_params ref_params =
     ∙ ap (λ (n : ℕ). record { nums = b.nums; refs = b.refs; num_params = b.num_params; ref_params = n }) ref_params
 
 -- what its word spells is the frame of the unit
-pub frame-read : (here : Heap) (outside : Outside Space) (code word : ℕ) (result : Frame) (bytes : List ℕ) (row : ConstantsView) (frame : Frame)
-    → IsHeap here → word ≡ num_at here code 1
-    → result.nums ≡ word % 2 ^ 16 → result.refs ≡ word / 2 ^ 16 % 2 ^ 16 → result.num_params ≡ word / 2 ^ 32 % 2 ^ 16 → result.ref_params ≡ word / 2 ^ 48
+pub frame-read : (here : Heap) (outside : Outside Space) (code : ℕ) (result : Frame) (bytes : List ℕ) (row : ConstantsView) (frame : Frame)
+    → IsHeap here → IsFrameIn (num_at here code 1) result
     → IsUnitIn here outside code (unit bytes row frame) → IsFitUnit (unit bytes row frame) → result ≡ frame
 unfolding IsUnitSeen IsFitUnit
-frame-read here outside code word result bytes row frame h is nums refs num_params ref_params u fit =
+frame-read here outside code result bytes row frame h of u fit =
     let shown = seen-is here outside code (name_at here code) (u.is.0) h u.held refl (u.is.1) in
-    let frame_is : num_at here code 1 ≡ frame_word frame = sym (ap (λ (x : Shown). slice_index x.nums 1) shown) ∙ u.is.2.frame_is in
-    let same : word ≡ frame_word frame = is ∙ frame_is in
+    let same : num_at here code 1 ≡ frame_word frame = sym (ap (λ (x : Shown). slice_index x.nums 1) shown) ∙ u.is.2.frame_is in
     same-frame result frame
-    (nums ∙ ap (λ (w : ℕ). w % 2 ^ 16) same ∙ frame-nums frame fit.1)
-    (refs ∙ ap (λ (w : ℕ). w / 2 ^ 16 % 2 ^ 16) same ∙ frame-refs frame fit.1)
-    (num_params ∙ ap (λ (w : ℕ). w / 2 ^ 32 % 2 ^ 16) same ∙ frame-num_params frame fit.1)
-    (ref_params ∙ ap (λ (w : ℕ). w / 2 ^ 48) same ∙ frame-ref_params frame fit.1)
+    (of.nums ∙ ap (λ (w : ℕ). w % 2 ^ 16) same ∙ frame-nums frame fit.1)
+    (of.refs ∙ ap (λ (w : ℕ). w / 2 ^ 16 % 2 ^ 16) same ∙ frame-refs frame fit.1)
+    (of.num_params ∙ ap (λ (w : ℕ). w / 2 ^ 32 % 2 ^ 16) same ∙ frame-num_params frame fit.1)
+    (of.ref_params ∙ ap (λ (w : ℕ). w / 2 ^ 48) same ∙ frame-ref_params frame fit.1)
 
 -- The units among the constants of a fit unit are fit.
 pub constant-fit : (row : ConstantsView) (index : ℕ) (u : UnitView) → AreFitConstants row → constant_numbered row index ≡ Some (literal u) → IsFitUnit u

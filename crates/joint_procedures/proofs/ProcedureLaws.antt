@@ -1,10 +1,12 @@
 -- Procedures that are made beside a vault, and the code and the scope of one, wherever those lie.
-use Rattle.std.proofs.Common.{arith, inl, inr, ◌⊎◌, ◌≡◌, ℕ, zero, suc, ◌*◌, List, [], ◌∷◌, length, get_or, refl, sym, ap, ◌∙◌, subst, Option, Some, None, IfSome}
+use Rattle.std.proofs.Common.{nat_eq, arith, inl, inr, ◌⊎◌, ◌≡◌, ℕ, zero, suc, Bool, true, false, ◌*◌, List, [], ◌∷◌, length, get_or, refl, sym, ap, ◌∙◌, subst, Option, Some, None, IfSome}
 use Rattle.std.specs.Prelude.{Result, Ok, Err, IfOk, OnOk, MatchResult}
+use Rattle.std.proofs.lemmas.Grind.{common_steps}
 use Rattle.ps_base.specs.CodeUnit as units
 use Rattle.ps_base.specs.CodeUnit.{UnitView}
 use Rattle.joint_ops.specs.ps_outside.Outside.{Outside}
-use Rattle.joint_ops.specs.obj_layout.Stored.{Space, Holds}
+use Rattle.joint_ops.specs.obj_layout.Kind.{kind_number}
+use Rattle.joint_ops.specs.obj_layout.Stored.{Space, Holds, damage}
 use Rattle.joint_ops.specs.obj_layout.declared.kind.Kind.TheVariants as kind
 use Rattle.joint_ops.specs.obj_layout.declared.reference.Reference as reference
 use Rattle.joint_ops.specs.obj_layout.declared.reference.Reference.TheVariants as name
@@ -19,7 +21,8 @@ use Rattle.joint_ops.specs.swizzle.Touch.{Denotes, Keeps}
 use Rattle.joint_ops.specs.swizzle.Reading.{joint, Reads, LeavesOutside}
 use Rattle.joint_ops.proofs.of_swizzle.NameLaws.{name-none, name-not_nil}
 use Rattle.joint_ops.proofs.of_swizzle.MadeLaws.{made-held, made-object}
-use Rattle.scopes.specs.heap_places.Shapes.{slot_of}
+use Rattle.scopes.specs.heap_places.Shapes.{slot_of, shape_damage}
+use Rattle.joint_ops.proofs.of_heap_places.TouchedLaws.{kinds-same}
 use Rattle.joint_ops.specs.proc_values.Loaded.{IsFitUnit}
 use Rattle.scopes.specs.closures.Closures.{closure_of, closure_damage, IsOther, FailsPart, HasNoCode, TellsCode, TellsScope}
 use Rattle.joint_ops.specs.ps_meaning.Values.{Procedure, as_compiled}
@@ -34,7 +37,7 @@ use Rattle.joint_ops.specs.World.{IsWorld, seen, DenotesIn, DenotesScopeIn, IsUn
 use Rattle.joint_ops.specs.Made.{FailsAsMaking}
 use Rattle.joint_ops.proofs.SeenLaws.{seen-is, joint-is, seen-joint, nil-unseen, keeps-passes, keeps-stands, reads-within, reads-stands, Known, IsCaused, caused-touch, breaks, no-damage}
 use Rattle.joint_ops.proofs.GrowthLaws.{made-keeps, same-keeps, made-top, made-changed, made-grows, full-breaks}
-use Rattle.joint_procedures.specs.Procedures.{MakesProcedure, AnswersCode, AnswersScope}
+use Rattle.joint_procedures.specs.Procedures.{MakesProcedure, AnswersCode, AnswersScope, HasSlot}
 
 -- the name that a reference to an object is
 pub named-of : (here : area.Heap) (to : Option ℕ) (n : reference.Reference) → Denotes here to n → n ≡ name_of here (reference_to to)
@@ -278,6 +281,65 @@ pub scope-keeps : (old new : area.Heap) (before after : Outside Space) (at : ℕ
 scope-keeps old new before after at (Ok (Some scope)) t = t.reads.keeps
 scope-keeps old new before after at (Ok None) t = t.reads.keeps
 scope-keeps old new before after at (Err fault) t = tt
+
+-- What has no damage of a closure is one.
+
+closure-other : (it : Shown) → nat_eq (kind_number it.kind) (kind_number kind.Closure) ≡ false
+    → closure_damage it ≡ damage (kind_number it.kind) (kind_number kind.Closure)
+unfolding shape_damage
+closure-other it other = grind (arith, common_steps)
+
+closure-kind : (it : Shown) → closure_damage it ≡ None → it.kind ≡ kind.Closure
+closure-kind it none = of (nat_eq (kind_number it.kind) (kind_number kind.Closure)) refl
+  where
+    of : (b : Bool) → nat_eq (kind_number it.kind) (kind_number kind.Closure) ≡ b → it.kind ≡ kind.Closure
+    of true same = kinds-same it.kind kind.Closure same
+    of false other = let no = sym (closure-other it other) ∙ none in absurd (cc)
+
+-- The slots that were read, as they lie in the area then.
+
+slot-read : (old new : area.Heap) (before after : Outside Space) (at slot : ℕ) (to : Option ℕ) → IsHeld old at → closure_damage (shown_at old at) ≡ None
+    → Keeps old new → Denotes new to (slot_of (shown_at old at) slot) → HasSlot new at slot to
+slot-read old new before after at slot to held sound keeps d =
+    let s = keeps.objects at held in
+    record {
+      held = s.held;
+      kind = ap (λ (it : Shown). it.kind) s.shown_as ∙ closure-kind (shown_at old at) sound;
+      denotes = subst (λ (it : Shown). Denotes new to (slot_of it slot)) (sym s.shown_as) d;
+    }
+
+pub code-slot_of : (old new : area.Heap) (before after : Outside Space) (at : ℕ) (result : Result ℕ SwizzleFault) → IsHeld old at
+    → TellsCode old new before after at result → IfOk result (λ code. HasSlot new at 0 (Some code))
+code-slot_of old new before after at (Ok code) held t = slot-read old new before after at 0 (Some code) held t.shape t.reads.keeps t.denotes
+code-slot_of old new before after at (Err fault) held t = tt
+
+pub scope-slot_of : (old new : area.Heap) (before after : Outside Space) (at : ℕ) (result : Result (Option ℕ) SwizzleFault) → IsHeld old at
+    → TellsScope old new before after at result → IfOk result (HasSlot new at 1)
+scope-slot_of old new before after at (Ok (Some scope)) held t =
+    slot-read old new before after at 1 (Some scope) held t.shape t.reads.keeps t.denotes
+scope-slot_of old new before after at (Ok None) held t = slot-read old new before after at 1 None held t.shape t.reads.keeps t.none
+scope-slot_of old new before after at (Err fault) held t = tt
+
+pub code-kind : (old new : area.Heap) (before after : Outside Space) (at : ℕ) (result : Result ℕ SwizzleFault) → TellsCode old new before after at result
+    → IfOk result (λ code. (header_at new code).kind ≡ kind.Code)
+code-kind old new before after at (Ok code) t = t.kind_is
+code-kind old new before after at (Err fault) t = tt
+
+-- What a procedure's slots denote are the code object of its unit and its scope.
+module _ (here : area.Heap) (outside : Outside Space) (names : List reference.Reference) (at : ℕ) (u : UnitView) (within : Option ℕ)
+    (p : ProcedureAt here outside names at u within) where
+  pub slot-code : (code : ℕ) → HasSlot here at 0 (Some code) → IsUnitIn here outside code u
+  slot-code code s =
+      let named : p.is.code_name ≡ name_at here code = sym (ap (λ (r : List reference.Reference). get_or r 0 name.Nil) p.is.refs) ∙ sym s.denotes.1 in
+      record { held = s.denotes.0; is = subst (λ (n : reference.Reference). IsUnitSeen (seen here outside) n u) named p.is.is_unit }
+
+  pub slot-scope : (to : Option ℕ) → HasSlot here at 1 to → DenotesScopeIn here outside names to within
+  slot-scope to s = record {
+    name = slot_of (shown_at here at) 1;
+    denotes = s.denotes;
+    stands = subst (λ (n : reference.Reference). StandsForScope (seen here outside) (paired names) n within)
+        (sym (ap (λ (r : List reference.Reference). get_or r 1 name.Nil) p.is.refs)) p.is.is_scope;
+  }
 
 -- What is held.
 

@@ -3,9 +3,13 @@ use Rattle.std.specs.Prelude.{◌≡◌, ℕ, ◌+◌, ◌*◌, List, Option, So
 use Rattle.ps_base.specs.CodeUnit.{UnitView}
 use Rattle.joint_ops.specs.ps_outside.Outside.{Outside}
 use Rattle.joint_ops.specs.obj_layout.Stored.{Space}
+use Rattle.joint_ops.specs.obj_layout.declared.kind.Kind.TheVariants as kind
 use Rattle.joint_ops.specs.obj_layout.declared.reference.Reference as reference
 use Rattle.joint_ops.specs.swizzle.Heap as area
-use Rattle.joint_ops.specs.swizzle.Heap.{IsHeld, top_of}
+use Rattle.joint_ops.specs.swizzle.Heap.{IsHeld, header_at, top_of}
+use Rattle.joint_ops.specs.swizzle.Joint.{shown_at}
+use Rattle.joint_ops.specs.swizzle.Touch.{Denotes}
+use Rattle.joint_ops.specs.heap_places.Shapes.{slot_of}
 use Rattle.joint_ops.specs.swizzle.declared.fault.SwizzleFault.{SwizzleFault}
 use Rattle.joint_ops.specs.proc_values.Loaded.{IsFitUnit}
 use Rattle.joint_ops.specs.ps_meaning.Values.{Procedure, as_compiled}
@@ -13,6 +17,12 @@ use Rattle.joint_ops.specs.ps_meaning.Objects.{Heap}
 use Rattle.joint_ops.specs.ps_meaning.Weights.{closure_weight}
 use Rattle.joint_ops.specs.World.{DenotesIn, DenotesScopeIn, IsUnitIn, Stands, BreaksOff}
 use Rattle.joint_ops.specs.Made.{IsShort}
+
+-- The object is a closure, and its slot of this number denotes this object, or none.
+pub record HasSlot (here : area.Heap) (closure slot : ℕ) (to : Option ℕ) : Type 0 where
+  pub held : IsHeld here closure
+  pub kind : (header_at here closure).kind ≡ kind.Closure
+  pub denotes : Denotes here to (slot_of (shown_at here closure) slot)
 
 module _ (old new : area.Heap) (outside : Outside Space) where
   -- a new procedure

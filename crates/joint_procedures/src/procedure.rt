@@ -4,15 +4,16 @@ ghost use Rattle.ps_base.specs.CodeUnit.{UnitView};
 ghost use Rattle.joint_ops.specs.obj_layout.declared.reference.Reference.{Reference};
 ghost use Rattle.joint_ops.specs.obj_layout.Storing.{SameNumbers};
 ghost use Rattle.joint_ops.specs.proc_values.Loaded.{IsFitUnit};
-ghost use Rattle.joint_ops.specs.swizzle.Heap.{IsHeld};
+ghost use Rattle.joint_ops.specs.swizzle.Heap.{IsHeld, header_at};
 ghost use Rattle.joint_ops.specs.swizzle.Reading.{LeavesOutside};
 ghost use Rattle.joint_ops.specs.swizzle.Touch.{Keeps};
 ghost use Rattle.joint_ops.specs.ps_meaning.Objects as meaning;
 ghost use Rattle.joint_ops.specs.ps_meaning.Values as meant;
 ghost use Rattle.joint_ops.specs.World.{DenotesIn, DenotesScopeIn, IsUnitIn, IsWorld, FailsAsReading};
 ghost use Rattle.joint_ops.specs.Made.{FailsAsMaking};
-ghost use Rattle.joint_procedures.specs.Procedures.{AnswersCode, AnswersScope, MakesProcedure};
+ghost use Rattle.joint_procedures.specs.Procedures.{AnswersCode, AnswersScope, HasSlot, MakesProcedure};
 
+use joint_ops::obj_layout::kind::Kind;
 use joint_ops::obj_layout::vault::Vault;
 use joint_ops::swizzle::fault::SwizzleFault;
 use joint_ops::swizzle::swizzle::Swizzle;
@@ -55,6 +56,8 @@ pub fn code_of<V: Vault>(
         → DenotesIn sw.old (V.outside vault.old) names (Some procedure) (meant.Procedure (meant.as_compiled unit) within)
         → AnswersCode sw.old sw.new (V.outside vault.old) (V.outside vault.new) of names unit result }
     ensures held { IfOk result (IsHeld sw.new) }
+    ensures code { IfOk result (λ at. (header_at sw.new at).kind ≡ Kind.Code) }
+    ensures slot { IfOk result (λ at. HasSlot sw.new procedure 0 (Some at)) }
     ensures keeps { OnOk result (Keeps sw.old sw.new) }
     ensures fails { FailsAsReading (V.outside vault.old) (V.outside vault.new) result }
     ensures leaves { LeavesOutside (V.outside vault.old) (V.outside vault.new) }
@@ -80,6 +83,7 @@ pub fn scope_of<V: Vault>(
         → DenotesIn sw.old (V.outside vault.old) names (Some procedure) (meant.Procedure (meant.as_compiled unit) within)
         → AnswersScope sw.old sw.new (V.outside vault.old) (V.outside vault.new) of names within result }
     ensures held { IfOk result (λ to. IfSome to (IsHeld sw.new)) }
+    ensures slot { IfOk result (HasSlot sw.new procedure 1) }
     ensures keeps { OnOk result (Keeps sw.old sw.new) }
     ensures fails { FailsAsReading (V.outside vault.old) (V.outside vault.new) result }
     ensures leaves { LeavesOutside (V.outside vault.old) (V.outside vault.new) }

@@ -1,16 +1,16 @@
 //! Units of code: the frame of one, and the units among its constants.
-ghost use Rattle.std.specs.Prelude.{◌≡◌, ◌/◌, ◌%◌, ◌^◌, ℕ, List, IfOk, IfSome, OnOk};
+ghost use Rattle.std.specs.Prelude.{◌≡◌, ℕ, List, IfOk, IfSome, OnOk};
 ghost use Rattle.ps_base.specs.CodeUnit.{ConstantsView, unit};
 ghost use Rattle.ps_base.specs.declared.code_unit.Frame.{Frame as Numbers};
 ghost use Rattle.joint_ops.specs.obj_layout.declared.reference.Reference.{Reference};
 ghost use Rattle.joint_ops.specs.obj_layout.Storing.{SameNumbers};
 ghost use Rattle.joint_ops.specs.proc_values.Loaded.{IsFitUnit};
-ghost use Rattle.joint_ops.specs.swizzle.Heap.{IsHeld, header_at};
+ghost use Rattle.joint_ops.specs.swizzle.Heap.{IsHeld, header_at, num_at};
 ghost use Rattle.joint_ops.specs.swizzle.Reading.{LeavesOutside};
 ghost use Rattle.joint_ops.specs.swizzle.Touch.{Keeps};
 ghost use Rattle.joint_ops.specs.ps_meaning.Objects as meaning;
 ghost use Rattle.joint_ops.specs.World.{IsUnitIn, IsWorld, Stands, FailsAsReading};
-ghost use Rattle.joint_procedures.specs.Units.{AnswersLiteral, AnswersText};
+ghost use Rattle.joint_procedures.specs.Units.{AnswersLiteral, AnswersText, IsFrameIn};
 
 use joint_ops::code::constant;
 use joint_ops::obj_layout::kind::Kind;
@@ -19,12 +19,13 @@ use joint_ops::swizzle::fault::SwizzleFault;
 use joint_ops::swizzle::swizzle::Swizzle;
 use ps_base::code_unit::Frame;
 
-/// The frame of a unit whose code object is given. The vault is there for the clause alone.
+/// The frame of a unit whose code object is given, whatever the vault.
 #[inline]
-pub fn frame_of<V: Vault>(sw: &Swizzle, _vault: &V, code: u32) -> Frame
+pub fn frame_of<V: Vault>(sw: &Swizzle, code: u32) -> Frame
     requires held { IsHeld sw.now code }
     requires kind { (header_at sw.now code).kind ≡ Kind.Code }
-    ensures { (bytes : List ℕ) (row : ConstantsView) (frame : Numbers) → IsUnitIn sw.now (V.outside _vault.now) code (unit bytes row frame)
+    ensures word { IsFrameIn (num_at sw.now code 1) result }
+    ensures value { (vault : V) (bytes : List ℕ) (row : ConstantsView) (frame : Numbers) → IsUnitIn sw.now (V.outside vault) code (unit bytes row frame)
         → IsFitUnit (unit bytes row frame) → result ≡ frame }
 {
     sw.sound();
@@ -34,10 +35,7 @@ pub fn frame_of<V: Vault>(sw: &Swizzle, _vault: &V, code: u32) -> Frame
 // The frame that a word spells, of 16 bits for each number.
 #[inline]
 fn frame_in(word: u64) -> Frame
-    ensures nums { result.nums ≡ word % 2 ^ 16 }
-    ensures refs { result.refs ≡ word / 2 ^ 16 % 2 ^ 16 }
-    ensures num_params { result.num_params ≡ word / 2 ^ 32 % 2 ^ 16 }
-    ensures ref_params { result.ref_params ≡ word / 2 ^ 48 }
+    ensures { IsFrameIn word result }
 {
     Frame {
         nums: (word % 65_536) as u16,
@@ -63,6 +61,7 @@ pub fn literal_of<V: Vault>(
     ensures world { OnOk result ((of : meaning.Heap) (names : List Reference) → IsWorld sw.old (V.outside vault.old) of names
         → Stands sw.old sw.new (V.outside vault.old) (V.outside vault.new) of names) }
     ensures held { IfOk result (λ to. IfSome to (IsHeld sw.new)) }
+    ensures code { IfOk result (λ to. IfSome to (λ at. (header_at sw.new at).kind ≡ Kind.Code)) }
     ensures keeps { OnOk result (Keeps sw.old sw.new) }
     ensures fails { FailsAsReading (V.outside vault.old) (V.outside vault.new) result }
     ensures leaves { LeavesOutside (V.outside vault.old) (V.outside vault.new) }

@@ -25,7 +25,7 @@ texts-stay old new k at held is =
     }
 
 module _ (old new : Heap) (k : CodeStays old new) where
-  constant-stays : (code constant at : ℕ) → IsConstantText old code constant at → IsConstantText new code constant at
+  pub constant-stays : (code constant at : ℕ) → IsConstantText old code constant at → IsConstantText new code constant at
   constant-stays code constant at is =
       let s = k code is.code_held (inr is.code_kind) in
       let n = k at (is.denotes.0) (inl is.kind) in

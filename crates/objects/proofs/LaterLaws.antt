@@ -59,7 +59,7 @@ keeps-later old mid new (Ok given) first then = keeps-trans old mid new first th
 keeps-later old mid new (Err (op.Trap t)) first then = keeps-trans old mid new first then
 keeps-later old mid new (Err (op.Swizzle fault)) first then = tt
 
-fails-later : (start before after : Outside Space) (fault : SwizzleFault) → LeavesOutside start before → FailsReading before after fault
+pub fails-later : (start before after : Outside Space) (fault : SwizzleFault) → LeavesOutside start before → FailsReading before after fault
     → FailsReading start after fault
 fails-later start before after fault leaves f = record {
   outside = leaves-then start before after leaves f.outside;

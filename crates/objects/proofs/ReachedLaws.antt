@@ -28,7 +28,7 @@ use Rattle.joint_ops.proofs.of_heap_meaning.FieldLaws.{field-is, field-put}
 use Rattle.joint_ops.proofs.of_heap_meaning.GivenLaws.{field-read, field-written, shown_with}
 use Rattle.joint_ops.specs.World.{IsWorld, DenotesIn, IsForIn, IsOfForm, IsUnitIn, Answers, Writes, seen}
 use Rattle.joint_ops.proofs.SeenLaws.{seen-held, seen-one, shown-bytes, pointer-denoted, StructureAt, structure-at, nothing-done}
-use Rattle.joint_ops.proofs.FormLaws.{holds-form, form-stored}
+use Rattle.joint_ops.proofs.FormLaws.{holds-form, holds-near, form-stored}
 use Rattle.joint_ops.proofs.ClassLaws.{structure-value, class-text, field-at}
 use Rattle.joint_ops.proofs.PutLaws.{no-bytes, kind-with}
 use Rattle.joint_ops.proofs.RewriteLaws.{rewritten, write-stands}
@@ -196,6 +196,12 @@ pub value-lacks : (here view : area.Heap) (outside : Outside Space) (code consta
 value-lacks here view outside code constant field object c e h r lacks =
     reached-lacks here outside code constant field r.at r.known h r.reached
     (subst (λ (x : area.Heap). LacksField x outside code constant field) (sym e) lacks)
+
+pub value-near : (here view : area.Heap) (code constant field : ℕ) (object : Option ℕ) (c : held.Value) → here ≡ view → HasReached here code constant field object c
+    → IsNear view c
+value-near here view code constant field object c e r =
+    subst (λ (x : area.Heap). IsNear x c) e
+    (holds-near here (shown_at here r.at) r.known.located.place.form (r.known.located.place.index + 1) c r.holds)
 
 -- What is put into a field that is reached so is what the meaning's puts.
 

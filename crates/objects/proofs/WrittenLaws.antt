@@ -36,7 +36,8 @@ as-relisted : (mid new : Heap) (at : ℕ) (it : Shown) → (r : Rewritten mid ne
 unfolding relisted
 as-relisted mid new at it r =
     ap (λ (os : List area_objects.Object). record new { objects = os }) r.objects
-    ∙ ap (λ (n : ℕ). record (with_another mid at r.object) { size = n; assigned = new.assigned }) r.size
+    ∙ ap (λ (n : ℕ). record (with_another mid at r.object) { size = n; assigned = new.assigned; reached = new.reached }) r.size
+    ∙ ap (λ (xs : List ℕ). record (with_another mid at r.object) { assigned = new.assigned; reached = xs }) r.reached
 
 -- Where one object was put in another's place, the others stay.
 

@@ -9,6 +9,7 @@ use Rattle.joint_ops.specs.swizzle.Heap as area
 use Rattle.joint_ops.specs.swizzle.declared.fault.SwizzleFault.{SwizzleFault}
 use Rattle.joint_ops.specs.proc_values.Loaded.{constant_numbered}
 use Rattle.joint_ops.specs.proc_values.Reading.{IsDamaged}
+use Rattle.joint_ops.specs.text_forms.declared.forms.Form.{Form}
 use Rattle.joint_ops.specs.text_forms.declared.forms.Located.{Located}
 use Rattle.joint_ops.specs.text_forms.Forms.{forms_of, located_in}
 use Rattle.joint_ops.specs.heap_texts.declared.fault.OpFault.{OpFault}
@@ -51,6 +52,17 @@ module _ (old new : area.Heap) (before after : Outside Space) where
       (class : List ℕ) × (constant_numbered row constant ≡ Some (text class)) × ((names : List Reference) → DenotesIn new after names (Some at) (Text class))
   AnswersClass code row constant (Err fault) =
       (((class : List ℕ) → constant_numbered row constant ≢ Some (text class)) × IsDamaged old code fault) ⊎ BreaksOff old new before after fault
+
+  -- The form of the field of this number of the class that is the constant of this number of a unit; or the code object is damaged, where the unit has no
+  -- such class or the class no such field; or it broke off.
+  abbrev pub AnswersForm : ℕ → ConstantsView → ℕ → ℕ → Result Form SwizzleFault → Type 0
+  AnswersForm code row constant field (Ok form) =
+      (class : List ℕ) × (located : Located) × (constant_numbered row constant ≡ Some (text class)) × (located_in (forms_of class) field ≡ Some located)
+      × (form ≡ located.place.form)
+  AnswersForm code row constant field (Err fault) =
+      (((class : List ℕ) (located : Located) → constant_numbered row constant ≡ Some (text class) → located_in (forms_of class) field ≢ Some located)
+      × IsDamaged old code fault)
+      ⊎ BreaksOff old new before after fault
 
   -- The code object is damaged, or that wasn't found out, since the operation broke off before.
   abbrev pub BreaksByCode : {T : Type 0} → ℕ → Result T OpFault → Type 0

@@ -1,6 +1,8 @@
 pub mod Lasting
 pub mod Fields
 pub mod Vectors
+pub mod Bodies
+pub mod Makes
 pub mod Known
 pub mod Inside
 pub mod Classes
@@ -14,4 +16,5 @@ pub use Rattle.joint_ops.specs.heap_texts as heap_texts
 pub use Rattle.joint_ops.specs.heap_places as heap_places
 pub use Rattle.joint_ops.specs.heap_ops as heap_ops
 pub use Rattle.joint_ops.specs.proc_values as proc_values
+pub use Rattle.structure_rows.specs as structure_rows
 pub use Rattle.joint_ops.specs as joint_ops

@@ -5,18 +5,22 @@ ghost use Rattle.objects.specs.Known.{IsRight};
 ghost use Rattle.objects.specs.Lasting.{Lasts, UnlessBroken};
 
 use crate::known_fields::KnownFields;
+use crate::known_makes::KnownMakes;
+use crate::known_procedures::KnownProcedures;
 use crate::known_vectors::KnownVectors;
 use joint_ops::OpFault;
 use joint_ops::heap_ops::layouts::Layouts;
 use std::alloc::{AllocError, Global};
 
-/// What was looked up of the objects of an area: places that texts name, fields by the constants that name their classes, and what vectors are. All of it
-/// says what is so of the area alone, and stays so as long as objects last.
+/// What was looked up of the objects of an area: places that texts name, fields by the constants that name their classes, what vectors are, bodies of
+/// procedures, and classes by which structures are made. All of it says what is so of the area alone, and stays so as long as objects last.
 #[derive(Drop)]
 pub(crate) struct Known {
     pub layouts: Layouts,
     pub fields: KnownFields,
     pub vectors: KnownVectors,
+    pub procedures: KnownProcedures,
+    pub makes: KnownMakes,
 }
 
 impl Known {
@@ -27,10 +31,14 @@ impl Known {
         let layouts = Layouts::new(alloc)?;
         let fields = KnownFields::new(alloc)?;
         let vectors = KnownVectors::new(alloc)?;
+        let procedures = KnownProcedures::new(alloc)?;
+        let makes = KnownMakes::new(alloc)?;
         Ok(Known {
             layouts,
             fields,
             vectors,
+            procedures,
+            makes,
         })
     }
 
@@ -41,6 +49,8 @@ impl Known {
         self.layouts.clear();
         self.fields.clear();
         self.vectors.clear();
+        self.procedures.clear();
+        self.makes.clear();
     }
 
     /// Hands on why an operation gave nothing. Of a trap all that was looked up stays so, if objects last; after a fault nothing is said of the area, and

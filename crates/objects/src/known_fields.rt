@@ -163,8 +163,8 @@ fn class_text(sw: &Swizzle, object: u32) -> Option<u32>
     }
 }
 
-// The text that is the constant of a number of a code object, if it lies in the area.
-fn constant_text(sw: &Swizzle, code: u32, constant: u32) -> Option<u32>
+/// The text that is the constant of a number of a code object, if it lies in the area.
+pub(crate) fn constant_text(sw: &Swizzle, code: u32, constant: u32) -> Option<u32>
     requires { IsHeld sw.now code }
     ensures { IfSome result (IsConstantText sw.now code constant) }
 {

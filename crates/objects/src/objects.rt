@@ -8,9 +8,12 @@ ghost use Rattle.joint_ops.specs.ps_meaning.Values as meant;
 ghost use Rattle.joint_ops.specs.World.{DenotesIn, IsWorld};
 ghost use Rattle.joint_ops.specs.Operands.{IsByObject, IsOfSort, IsSorted};
 
+mod code_bytes;
+mod field_forms;
 mod fields;
 mod procedures;
 mod residence;
+mod row_makes;
 mod scope_objects;
 mod structures;
 mod texts;
@@ -86,24 +89,24 @@ impl Objects {
         self.sw.size()
     }
 
-    /// What sort of object this is. Where it denotes a value, it is the sort of that value, and never `Other`. The vault is there for the clause
-    /// alone, here and wherever it is lent shared.
+    /// What sort of object this is. Where it denotes a value, it is the sort of that value, and never `Other`. It is so whatever
+    /// the vault, here and wherever none is lent; one that is lent shared is there for the clause alone.
     #[inline]
-    pub fn sort_of<V: Vault>(&self, vault: &V, to: Option<u32>) -> Sort
+    pub fn sort_of<V: Vault>(&self, to: Option<u32>) -> Sort
         requires held { IfSome to (IsHeld self.now) }
         ensures kind { IsSorted self.now to result }
-        ensures value { (names : List Reference) (v : meant.Value) → DenotesIn self.now (V.outside vault.now) names to v → IsOfSort v result }
+        ensures value { (vault : V) (names : List Reference) (v : meant.Value) → DenotesIn self.now (V.outside vault) names to v → IsOfSort v result }
     {
-        values::sort_of(&self.sw, vault, to)
+        values::sort_of::<V>(&self.sw, to)
     }
 
     /// Whether two values that are neither texts nor procedures are one: nil and nil, or the same object.
     #[inline]
-    pub fn is_one<V: Vault>(&self, vault: &V, a: Option<u32>, b: Option<u32>) -> bool
-        ensures { (of : meaning.Heap) (names : List Reference) (v w : meant.Value) → IsWorld self.now (V.outside vault.now) of names
-            → DenotesIn self.now (V.outside vault.now) names a v → DenotesIn self.now (V.outside vault.now) names b w
+    pub fn is_one<V: Vault>(&self, a: Option<u32>, b: Option<u32>) -> bool
+        ensures { (vault : V) (of : meaning.Heap) (names : List Reference) (v w : meant.Value) → IsWorld self.now (V.outside vault) of names
+            → DenotesIn self.now (V.outside vault) names a v → DenotesIn self.now (V.outside vault) names b w
             → IsByObject v → IsByObject w → result ≡ is_one_object v w }
     {
-        values::is_one(&self.sw, vault, a, b)
+        values::is_one::<V>(&self.sw, a, b)
     }
 }

@@ -153,7 +153,7 @@ fn number(
     let got = get(objects, vault, pid, at)?;
     let vector = fetch(objects, vault, pid)?;
     match got {
-        Given::Value(_) => Ok(Given::Number(objects.element_number(vault, vector, at))),
+        Given::Value(_) => Ok(Given::Number(objects.element_number::<MemoryVault>(vector, at))),
         other => Ok(other),
     }
 }

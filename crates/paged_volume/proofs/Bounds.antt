@@ -1,8 +1,10 @@
 -- How large the numbers of a volume are.
-use Rattle.std.proofs.Common.{◌≡◌, ℕ, ◌+◌, ◌-◌, ◌*◌, ◌/◌, ◌^◌, ◌<◌, ◌≤◌, Bool, true, false, refl, arith, nat_eq, if◌then◌else◌}
+use Rattle.std.proofs.Common.{◌≡◌, inl, inr, ℕ, ◌+◌, ◌-◌, ◌*◌, ◌/◌, ◌^◌, ◌<◌, ◌≤◌, Bool, true, false, refl, ap, arith, nat_eq, if◌then◌else◌}
 use Rattle.shadow_volume.specs.Layout.{root_at, pages_of_words}
-use Rattle.paged_volume.specs.Layout.{most_pages_of, capacity_pages, map_pages_of, maps_at}
-use Rattle.paged_volume.specs.Standing.{IsFit, IsHeadFit, logical_of, map_count}
+use Rattle.std.proofs.lemmas.Bool.{cases_lt, lt-ltb, le-ltb}
+use Rattle.paged_volume.specs.Planning.{depth_of}
+use Rattle.paged_volume.specs.Layout.{least_indexed, most_pages_of, capacity_pages, map_pages_of, maps_at}
+use Rattle.paged_volume.specs.Standing.{IsFit, IsDepth, IsHeadFit, logical_of, map_count}
 use Rattle.paged_volume.specs.Naming.{names_at, skipped}
 use Rattle.paged_volume.specs.declared.committed.Committed.{Committed}
 
@@ -105,3 +107,16 @@ hold_first = refl
 pub hold_largest : capacity_pages 1048576 ≡ 499320
 unfolding capacity_pages
 hold_largest = refl
+
+-- the depth that a commit writes
+pub depth_none : (pages : ℕ) → pages < 88 → depth_of pages ≡ 0
+depth_none pages few = ap {B = ℕ} (λ (b : Bool). if b then 0 else 1) (lt-ltb pages least_indexed few)
+
+pub depth_one : (pages : ℕ) → 88 ≤ pages → depth_of pages ≡ 1
+depth_one pages many = ap {B = ℕ} (λ (b : Bool). if b then 0 else 1) (le-ltb pages least_indexed many)
+
+pub depth_fits : (format pages : ℕ) → IsDepth format pages (depth_of pages)
+depth_fits format pages = elim (cases_lt pages 88) [
+  | inl few ↦ let none = depth_none pages few in record { at_most_one = omega (arith, none); small = λ lt. none; large = λ le second. absurd (omega arith) }
+  | inr many ↦ let one = depth_one pages many in record { at_most_one = omega (arith, one); small = λ lt. absurd (omega arith); large = λ le second. one }
+]

@@ -1,9 +1,9 @@
 -- Which map pages change.
-use Rattle.std.proofs.Common.{◌≡◌, ◌≢◌, ◌⊎◌, inl, inr, ℕ, zero, suc, ◌+◌, ◌-◌, ◌*◌, ◌/◌, ◌<◌, ◌≤◌, Bool, true, false, not, ◌||◌, List, length, get_or, set, refl, sym, ◌∙◌, ap, subst, arith, nat_lt, if◌then◌else◌, get_or-set_same, get_or-set_other, length-set}
+use Rattle.std.proofs.Common.{◌≡◌, inl, inr, ℕ, zero, suc, ◌+◌, ◌*◌, ◌<◌, ◌≤◌, Bool, true, false, not, ◌||◌, List, length, get_or, set, refl, sym, ◌∙◌, ap, subst, arith, if◌then◌else◌, get_or-set_same, get_or-set_other, length-set}
 use Rattle.std.specs.Prelude.{◌==◌}
-use Rattle.std.proofs.lemmas.Bool.{cases_lt, cases_eq, lt-ltb, le-ltb, eq-eqb, eqb-true, or_left, or_right, both_ways}
+use Rattle.std.proofs.lemmas.Bool.{cases_lt, lt-ltb, le-ltb, eq-eqb, eqb-true, or_left, or_right, both_ways}
 use Rattle.std.proofs.lemmas.List.{get_or_past}
-use Rattle.page_map.specs.Map.{MapView, IsMap, with_staged}
+use Rattle.page_map.specs.Map.{MapView, with_staged}
 use Rattle.paged_volume.specs.Changing.{next_number, differs, one_of, is_changed, changed_pages}
 
 pub next_below : (map : MapView) (logical page : ℕ) → page < logical → next_number map logical page ≡ get_or map.staged page 0

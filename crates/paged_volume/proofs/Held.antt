@@ -1,19 +1,20 @@
 -- The bytes of pages, by their numbers; and what is held in an image that says what is committed.
-use Rattle.std.proofs.Common.{◌≡◌, ◌≢◌, ◌⊎◌, inl, inr, ℕ, zero, suc, ◌+◌, ◌-◌, ◌*◌, ◌/◌, ◌%◌, ◌<◌, ◌≤◌, Bool, List, ◌++◌, length, get_or, take, drop, replicate, refl, sym, ◌∙◌, ap, subst, arith, length-drop, length-take, Option, Some, None, nat_eq, if◌then◌else◌}
+use Rattle.std.proofs.Common.{◌≡◌, ◌≢◌, inl, inr, ℕ, ◌+◌, ◌-◌, ◌*◌, ◌/◌, ◌%◌, ◌<◌, ◌≤◌, Bool, List, [], ◌++◌, length, get_or, take, drop, replicate, refl, sym, ◌∙◌, ap, arith, length-drop, length-take, Option, Some, nat_eq, if◌then◌else◌}
 use Rattle.std.specs.Option.{option_map}
-use Rattle.std.proofs.lemmas.Bool.{eq-eqb, ne_eqb, cases_lt}
+use Rattle.std.proofs.lemmas.Bool.{cases_lt, cases_eq, eq-eqb, ne_eqb}
 use Rattle.std.proofs.lemmas.Grind.{same_number_lists}
-use Rattle.std.proofs.lemmas.List.{get_or-take, get_or-drop, get_or-replicate, length-replicate}
+use Rattle.std.proofs.lemmas.List.{get_or-take, get_or-drop, get_or-replicate, length-replicate, take-append-le, take_all}
 use Rattle.ps_port.specs.ps_outside.Outside.{Outside, After}
-use Rattle.shadow_volume.specs.Layout.{number_at, root_at, selects, pages_of_words}
-use Rattle.shadow_volume.specs.Found.{Held, note_at}
-use Rattle.paged_volume.specs.Layout.{capacity_pages, depth_at, page_number}
-use Rattle.paged_volume.specs.Found.{Found, a_volume, found_in, held_at, numbers_of, byte_named, bytes_named, names_tests, behind_names}
-use Rattle.paged_volume.specs.Standing.{IsFit, IsNamedOnce, Says, HasNames, logical_of, place_by, held_in, held_of, committed_in, staged_in, staged_bytes, with_zeros, seen}
+use Rattle.shadow_volume.specs.Layout.{number_at, selects, pages_of_words}
+use Rattle.shadow_volume.specs.Found.{Held}
+use Rattle.paged_volume.specs.Layout.{capacity_pages, maps_at, index_number, page_number}
+use Rattle.paged_volume.specs.Found.{a_volume, found_in, numbers_of, byte_named, bytes_named, after_names}
+use Rattle.paged_volume.specs.Standing.{IsFit, IsNamedOnce, AreUnnamed, Says, HasHead, HasRoot, index_of, maps_of, map_names, place_by, map_count, logical_of, held_in, held_of, committed_in, staged_in, staged_bytes, with_zeros, seen}
 use Rattle.paged_volume.specs.Attaching.{IsFound}
 use Rattle.paged_volume.specs.declared.table.Table.{Table}
+use Rattle.paged_volume.specs.declared.committed.Committed.{Committed}
 use Rattle.paged_volume.specs.declared.damage.Damage.{Damage}
-use Rattle.paged_volume.proofs.Numbers.{numbers_same, numbers_split, numbers_none, numbers_more, length_numbers, number_at_index}
+use Rattle.paged_volume.proofs.Numbers.{numbers_same, numbers_split, length_numbers, number_at_index}
 use Rattle.paged_volume.proofs.Reading.{all_pass, number_is}
 use Rattle.paged_volume.proofs.Tests.{found_names}
 
@@ -70,6 +71,16 @@ bytes_end number few count image le none =
     (numbers_same (λ i. byte_named number image (4096 * few + i)) (λ i. 0) rest (λ i lt. byte_none number image (4096 * few + i) (none ((4096 * few + i) / 4096) (omega arith)))
     ∙ zeros_are rest ∙ ap (λ (n : ℕ). replicate {A = ℕ} n 0) (sym rest_is))
 
+-- the first of them
+pub bytes_front : (number : ℕ → ℕ) (few count : ℕ) (image : List ℕ) → few ≤ count → take (4096 * few) (bytes_named number count image) ≡ bytes_named number few image
+bytes_front number few count image le =
+    let rest = 4096 * count - 4096 * few in
+    let front = numbers_of (byte_named number image) (4096 * few) in
+    ap (λ (xs : List ℕ). take (4096 * few) xs) (as_numbers number count image ∙ ap (λ (n : ℕ). numbers_of (byte_named number image) n) (omega arith) ∙ numbers_split (byte_named number image) (4096 * few) rest)
+    ∙ take-append-le (4096 * few) front (numbers_of (λ i. byte_named number image (4096 * few + i)) rest) (omega (arith, length_numbers (byte_named number image) (4096 * few)))
+    ∙ take_all (4096 * few) front (omega (arith, length_numbers (byte_named number image) (4096 * few)))
+    ∙ sym (as_numbers number few image)
+
 -- a page
 pub page_read : (number : ℕ → ℕ) (count : ℕ) (image : List ℕ) (page : ℕ) → page < count → number page ≢ 0 → 4096 * number page + 4096 ≤ length image →
     take 4096 (drop (4096 * number page) image) ≡ take 4096 (drop (4096 * page) (bytes_named number count image))
@@ -111,24 +122,34 @@ found_volume table image fit once says =
     record {
       volume =
           found_names table.committed image fit says.head says.selected says.root
-          ∙ ap (λ (o : Option Damage). behind_names table.committed.pages table.committed.second image o) passes;
+          ∙ ap (λ (o : Option Damage). after_names table.committed.pages table.committed.second image o) passes;
       note = says.root.note_is;
       depth = says.root.depth_is;
     }
+
+-- the same by the numbers alone
+pub found_named : (committed : Committed) (named : List ℕ) (pages : ℕ → ℕ) (image : List ℕ) → IsFit committed → HasHead committed.format committed.pages image → selects image ≡ committed.second → HasRoot committed.second committed.note committed.depth image →
+    ((i : ℕ) → i < committed.depth → index_number committed.second image ≡ index_of named i) →
+    ((map_page : ℕ) → map_page < map_count committed → number_at (maps_at committed.second committed.depth (get_or named 0 0) + 4 * map_page) 4 image ≡ maps_of named map_page) →
+    ((page : ℕ) → page < logical_of committed → number_at (place_by named page) 4 image ≡ pages page) →
+    AreUnnamed committed.pages [] (index_of named) committed.depth → AreUnnamed committed.pages (numbers_of (index_of named) committed.depth) (maps_of named) (map_count committed) →
+    AreUnnamed committed.pages (map_names committed.depth named (map_count committed)) pages (logical_of committed) →
+    found_in image ≡ a_volume committed.pages committed.second (record { note = committed.note; bytes = bytes_named pages (logical_of committed) image })
+found_named committed named pages image fit head selected root index maps numbers once_index once_maps once_pages =
+    found_names committed image fit head selected root
+    ∙ ap (λ (o : Option Damage). after_names committed.pages committed.second image o) (all_pass committed named image index maps pages numbers once_index once_maps once_pages)
+    ∙ (λ i. a_volume committed.pages committed.second (record {
+      note = root.note_is i;
+      bytes = bytes_named (page_number committed.second (root.depth_is i) image) (pages_of_words (root.note_is i).used) image;
+    }))
+    ∙ ap (λ (xs : List ℕ). a_volume committed.pages committed.second (record { note = committed.note; bytes = xs }))
+    (bytes_same (page_number committed.second committed.depth image) pages (logical_of committed) image (number_is committed named image index maps pages numbers))
 
 pub held_says : (table : Table) (image : List ℕ) → IsFit table.committed → IsNamedOnce table → Says table image → held_in image ≡ Some (committed_in table image)
 unfolding held_in
 held_says table image fit once says =
     let names = says.names in
-    let is = found_volume table image fit once says in
-    ap held_of is.volume
-    ∙ (λ i. Some (record {
-      note = says.root.note_is i;
-      bytes = bytes_named (page_number table.committed.second (says.root.depth_is i) image) (pages_of_words (says.root.note_is i).used) image;
-    }))
-    ∙ ap (λ (xs : List ℕ). Some (record { note = table.committed.note; bytes = xs }))
-    (bytes_same (page_number table.committed.second table.committed.depth image) (λ page. get_or table.map.committed page 0) (logical_of table.committed) image
-    (number_is table.committed table.named.items image names.index names.maps (λ page. get_or table.map.committed page 0) names.numbers))
+    ap held_of (found_named table.committed table.named.items (λ page. get_or table.map.committed page 0) image fit says.head says.selected says.root names.index names.maps names.numbers once.index once.maps once.pages)
 
 -- where nothing is staged, what is held is what is committed
 pub blank_bytes : (table : Table) (image : List ℕ) → table.map.staged ≡ table.map.committed → IsNamedOnce table → logical_of table.committed ≤ capacity_pages table.committed.pages →
@@ -152,13 +173,21 @@ blank_holds a b table fit blank once le says same held now =
           ∙ now.by;
     }
 
--- a page as it is staged
-pub staged_read : (table : Table) (image : List ℕ) (page : ℕ) → page < capacity_pages table.committed.pages → get_or table.map.staged page 0 ≢ 0 → 4096 * get_or table.map.staged page 0 + 4096 ≤ length image →
-    take 4096 (drop (4096 * get_or table.map.staged page 0) image) ≡ take 4096 (drop (4096 * page) (staged_bytes table image))
-unfolding staged_bytes
-staged_read table image page below some long = page_read (λ page. get_or table.map.staged page 0) (capacity_pages table.committed.pages) image page below some long
+-- a page, by its number
+pub page_is : (number : ℕ → ℕ) (count : ℕ) (image : List ℕ) (page n pages : ℕ) (into : List ℕ) → n ≡ number page → page < count → n < pages → 4096 * pages ≤ length image → (n ≡ 0 → into ≡ replicate {A = ℕ} 4096 0) →
+    (1 ≤ n → into ≡ take 4096 (drop (4096 * n) image)) → into ≡ take 4096 (drop (4096 * page) (bytes_named number count image))
+page_is number count image page n pages into number_is below low long zeros read = elim (cases_eq n 0) [
+  | inl none ↦ zeros none ∙ page_blank number count image page 4096 refl below (sym number_is ∙ none)
+  | inr some ↦
+      let least : 1 ≤ n = positive n some in
+      read least ∙ ap (λ (k : ℕ). take 4096 (drop (4096 * k) image)) number_is ∙ page_read number count image page below (λ none. some (number_is ∙ none)) (omega arith)
+]
+  where
+    positive : (n : ℕ) → n ≢ 0 → 1 ≤ n
+    positive n ne = elim (cases_lt 0 n) [ inl some ↦ omega arith | inr none ↦ absurd (ne (omega arith)) ]
 
-pub staged_blank : (table : Table) (image : List ℕ) (page size : ℕ) → size ≡ 4096 → page < capacity_pages table.committed.pages → get_or table.map.staged page 0 ≡ 0 →
-    replicate {A = ℕ} size 0 ≡ take 4096 (drop (4096 * page) (staged_bytes table image))
+-- a page as it is staged
+pub staged_page : (table : Table) (page n pages : ℕ) (into image : List ℕ) → n ≡ get_or table.map.staged page 0 → page < capacity_pages table.committed.pages → n < pages → 4096 * pages ≤ length image → (n ≡ 0 → into ≡ replicate {A = ℕ} 4096 0) →
+    (1 ≤ n → into ≡ take 4096 (drop (4096 * n) image)) → into ≡ take 4096 (drop (4096 * page) (staged_bytes table image))
 unfolding staged_bytes
-staged_blank table image page size size_is below none = page_blank (λ page. get_or table.map.staged page 0) (capacity_pages table.committed.pages) image page size size_is below none
+staged_page table page n pages into image number_is below low long zeros read = page_is (λ (k : ℕ). get_or table.map.staged k 0) (capacity_pages table.committed.pages) image page n pages into number_is below low long zeros read

@@ -14,3 +14,9 @@ pub mod Readying
 pub mod Selecting
 pub mod Synced
 pub mod Changed
+pub mod New
+pub mod Choosing
+pub mod Planned
+pub mod PinLaws
+pub mod Room
+pub mod Committing

@@ -1,9 +1,9 @@
 -- What is so of a table while the numbers of its pages are read.
-use Rattle.std.proofs.Common.{◌≡◌, ◌≢◌, ◌⊎◌, inl, inr, ℕ, zero, suc, ◌+◌, ◌-◌, ◌*◌, ◌^◌, ◌<◌, ◌≤◌, Bool, true, false, List, [], ◌∷◌, ◌++◌, length, get_or, set, take, drop, replicate, refl, sym, ◌∙◌, ap, subst, arith, get_or-set_same, get_or-set_other}
+use Rattle.std.proofs.Common.{◌≡◌, ◌≢◌, ◌⊎◌, inl, inr, ℕ, ◌+◌, ◌-◌, ◌*◌, ◌^◌, ◌<◌, ◌≤◌, Bool, true, false, List, [], ◌∷◌, ◌++◌, length, get_or, set, take, drop, replicate, refl, sym, ◌∙◌, ap, subst, arith, get_or-set_same, get_or-set_other}
 use Rattle.std.proofs.lemmas.Bool.{cases_lt}
-use Rattle.std.proofs.lemmas.List.{append_assoc, append-nil, length-set, get_or-replicate, get_or_past, length-replicate, length-append, length-drop, length-take}
+use Rattle.std.proofs.lemmas.List.{append_assoc, append-nil, length-set, get_or-replicate, get_or_past, length-replicate, length-drop, length-take}
 use Rattle.std.proofs.lemmas.List.FromFn.{get_or-map-range_with_len}
-use Rattle.page_map.specs.Pages.{is_free, free_where, may_be_free, names, without, no_pages}
+use Rattle.page_map.specs.Pages.{is_free, free_where, may_be_free, without, no_pages}
 use Rattle.page_map.specs.Map.{MapView, AreGood, fresh_map, with_taken, with_read}
 use Rattle.page_map.specs.Numbers.{first_numbers, number_at, with_numbers}
 use Rattle.page_map.proofs.NumberLaws.{length_first_numbers}
@@ -23,9 +23,21 @@ none_taken pages one two three =
     unnamed_none pages
     ∙ ap (λ (xs : List ℕ). unnamed pages xs) (sym (λ i. (numbers_none one i ++ numbers_none two i) ++ numbers_none three i))
 
-pub naming_none : (committed : Committed) (named : List ℕ) → IsFit committed → committed.note.commits < 2 ^ 64 → length named ≡ 1 + map_pages_of (capacity_pages committed.pages) →
+-- a list of zeros
+pub zero_at : (count i : ℕ) → get_or (replicate {A = ℕ} count 0) i 0 ≡ 0
+zero_at count i = by (cases_lt i count)
+  where
+    by : (i < count) ⊎ (count ≤ i) → get_or (replicate {A = ℕ} count 0) i 0 ≡ 0
+    by (inl below) = get_or-replicate {A = ℕ} count i 0 0 below
+    by (inr past) = get_or_past (replicate {A = ℕ} count 0) i 0 (omega (arith, length-replicate {A = ℕ} count 0))
+
+pub zero_maps : (named : List ℕ) (map_page : ℕ) → ((i : ℕ) → get_or named i 0 ≡ 0) → maps_of named map_page ≡ 0
+unfolding maps_of
+zero_maps named map_page zeros = zeros (1 + map_page)
+
+pub naming_none : (committed : Committed) (named : List ℕ) → IsFit committed → committed.note.commits < 2 ^ 64 → length named ≡ 1 + map_pages_of (capacity_pages committed.pages) → ((i : ℕ) → get_or named i 0 ≡ 0) →
     IsNamingOf committed (fresh_map (capacity_pages committed.pages) committed.pages) named 0 0 0
-naming_none committed named fit commits names_are = record {
+naming_none committed named fit commits names_are zeros = record {
   fit = fit;
   commits = commits;
   names = names_are;
@@ -35,13 +47,11 @@ naming_none committed named fit commits names_are = record {
   index_once = are_none committed.pages [] (index_of named);
   maps_once = are_none committed.pages (numbers_of (index_of named) 0) (maps_of named);
   pages_once = are_none committed.pages (map_names 0 named 0) (λ page. get_or (no_pages (capacity_pages committed.pages)) page 0);
-  bare = λ page above. zeros page (cases_lt page (capacity_pages committed.pages));
+  bare_index = λ none. zeros 0;
+  bare_maps = λ map_page above. zero_maps named map_page zeros;
+  bare = λ page above. zero_at (capacity_pages committed.pages) page;
   free = none_taken committed.pages (index_of named) (maps_of named) (λ page. get_or (no_pages (capacity_pages committed.pages)) page 0);
 }
-  where
-    zeros : (page : ℕ) → (page < capacity_pages committed.pages) ⊎ (capacity_pages committed.pages ≤ page) → get_or (no_pages (capacity_pages committed.pages)) page 0 ≡ 0
-    zeros page (inl below) = get_or-replicate (capacity_pages committed.pages) page 0 0 below
-    zeros page (inr past) = get_or_past (no_pages (capacity_pages committed.pages)) page 0 (omega (arith, length-replicate {A = ℕ} (capacity_pages committed.pages) 0))
 
 -- the numbers with one more
 pub index_set : (named : List ℕ) (place number i : ℕ) → index_of (set named (1 + place) number) i ≡ index_of named i
@@ -55,6 +65,10 @@ map_set named place number below = get_or-set_same named (1 + place) number 0 be
 pub maps_before : (named : List ℕ) (place number i : ℕ) → i < place → maps_of (set named (1 + place) number) i ≡ maps_of named i
 unfolding maps_of
 maps_before named place number i lt = get_or-set_other named (1 + place) (1 + i) number 0 (λ e. absurd (omega arith))
+
+pub maps_other : (named : List ℕ) (place number i : ℕ) → 1 + i ≢ place → maps_of (set named place number) i ≡ maps_of named i
+unfolding maps_of
+maps_other named place number i differs = get_or-set_other named place (1 + i) number 0 differs
 
 pub first_set : (named : List ℕ) (number : ℕ) → 0 < length named → index_of (set named 0 number) 0 ≡ number
 unfolding index_of
@@ -106,6 +120,8 @@ module _ (committed : Committed) (map : MapView) (named : List ℕ) (number : �
         index_once = are_more committed.pages [] (index_of (set named 0 number)) 0 (are_none committed.pages [] (index_of (set named 0 number))) ((λ i. is_free (unnamed committed.pages ([] ++ numbers_none (index_of (set named 0 number)) i)) (first i)) ∙ good);
         maps_once = are_none committed.pages (numbers_of (index_of (set named 0 number)) 1) (maps_of (set named 0 number));
         pages_once = are_none committed.pages (map_names 1 (set named 0 number) 0) (λ page. get_or map.staged page 0);
+        bare_index = λ none. absurd (omega arith);
+        bare_maps = λ map_page above. maps_other named 0 number map_page (λ e. absurd (omega arith)) ∙ is.bare_maps map_page above;
         bare = is.bare;
         free =
             ap (λ (f : List Bool). set f number false) free
@@ -135,6 +151,8 @@ module _ (committed : Committed) (map : MapView) (named : List ℕ) (number : �
             (are_same committed.pages (numbers_of (index_of named) depth) (maps_of named) (maps_of next) maps (λ i lt. sym (maps_before named maps number i lt)) is.maps_once))
             ((λ i. is_free (unnamed committed.pages (same_index i ++ same_maps i)) (here i)) ∙ good);
         pages_once = are_none committed.pages (map_names depth next (maps + 1)) (λ page. get_or map.staged page 0);
+        bare_index = λ none. get_or-set_other named (1 + maps) 0 number 0 (λ e. absurd (omega arith)) ∙ is.bare_index none;
+        bare_maps = λ map_page above. maps_other named (1 + maps) number map_page (λ e. absurd (omega arith)) ∙ is.bare_maps map_page (omega arith);
         bare = is.bare;
         free =
             ap (λ (f : List Bool). set f number false) free
@@ -222,6 +240,8 @@ module _ (committed : Committed) (map : MapView) (named bytes : List ℕ) (depth
     index_once = is.index_once;
     maps_once = is.maps_once;
     pages_once = λ i lt. by i lt (cases_lt i (1024 * map_page));
+    bare_index = is.bare_index;
+    bare_maps = is.bare_maps;
     bare = read_behind;
     free = taken_so_far count (omega arith);
   }

@@ -1,26 +1,29 @@
 -- What putting a page leaves.
-use Rattle.std.proofs.Common.{◌≡◌, ◌≢◌, ◌⊎◌, inl, inr, ℕ, ◌+◌, ◌-◌, ◌*◌, ◌/◌, ◌%◌, ◌<◌, ◌≤◌, Bool, true, false, not, ◌&&◌, ◌||◌, List, ◌++◌, length, get_or, set, take, drop, refl, sym, ◌∙◌, ap, subst, arith, length-set, length-drop, length-take, get_or-set_same, get_or-set_other, Option, Some, Result}
+use Rattle.std.proofs.Common.{◌≡◌, ◌≢◌, ◌⊎◌, inl, inr, ℕ, ◌+◌, ◌*◌, ◌/◌, ◌%◌, ◌<◌, ◌≤◌, Bool, true, false, not, ◌&&◌, ◌||◌, List, [], None, length, get_or, set, refl, sym, ◌∙◌, ap, subst, arith, length-set, length-drop, length-take, get_or-set_same, get_or-set_other, Option, Some, None, Result}
 use Rattle.std.specs.Option.{option_map}
-use Rattle.std.proofs.lemmas.Bool.{cases_lt, cases_eq, both_ways, or_left, or_right}
+use Rattle.std.proofs.lemmas.Bool.{cases_lt, cases_eq, ne_eqb, both_ways, or_cases, or_left, or_right}
 use Rattle.std.proofs.lemmas.Grind.{same_number_lists}
 use Rattle.std.proofs.lemmas.List.{get_or_past}
 use Rattle.ps_port.specs.ps_outside.Outside.{Outside, Leaves, LeavesSame, After, IsDeviceCall}
 use Rattle.ps_port.specs.Disk.{Torn, Written, written, IsOutside}
-use Rattle.ps_port.specs.DiskLaws.{written_elsewhere, length-written}
+use Rattle.ps_port.specs.DiskLaws.{written_elsewhere, written_torn, length-written}
 use Rattle.ps_port.proofs.of_ps_outside.Moments.{along_as, along_now}
-use Rattle.page_map.specs.Pages.{is_free, IsTaken, names}
-use Rattle.page_map.specs.Map.{MapView, IsMap, list_names, with_taken, with_staged}
-use Rattle.page_map.proofs.PageLaws.{is_free_taken}
+use Rattle.page_map.specs.Pages.{is_free, names, one_names}
+use Rattle.page_map.specs.Map.{MapView, IsMap, with_staged}
+use Rattle.page_map.proofs.PageLaws.{is_free_taken, and_true}
 use Rattle.shadow_volume.specs.Found.{Held}
 use Rattle.shadow_volume.proofs.Gate.{written_inside}
 use Rattle.paged_volume.specs.Layout.{capacity_pages}
-use Rattle.paged_volume.specs.Found.{byte_named, bytes_named}
-use Rattle.paged_volume.specs.Standing.{IsAlive, IsTable, IsSpare, Says, held_in, staged_in, staged_bytes, seen}
+use Rattle.paged_volume.specs.Found.{byte_named, bytes_named, numbers_of}
+use Rattle.paged_volume.specs.Standing.{IsAlive, IsTable, IsSpare, Says, map_names, logical_of, map_count, numbers_of_table, uses, held_in, staged_in, staged_bytes, seen}
+use Rattle.paged_volume.specs.Pinning.{pinned_bytes, KeepsPins}
 use Rattle.paged_volume.specs.Staging.{IsPlace, again, given, with_page, Marks, Stages}
 use Rattle.paged_volume.specs.declared.table.Table.{Table}
-use Rattle.paged_volume.proofs.Tables.{names_at_index, both_or, staged_low}
+use Rattle.paged_volume.proofs.Numbers.{names_append}
+use Rattle.paged_volume.proofs.Tables.{names_at_index, names_number, named_at, and_both, both_or, staged_low}
 use Rattle.paged_volume.proofs.Held.{length_bytes, byte_at, byte_none, byte_some, byte_same}
-use Rattle.paged_volume.proofs.Staying.{IsApart, apart_spare, says_stays, held_stays}
+use Rattle.paged_volume.proofs.Staying.{IsApart, apart_spare, apart_page, pinned_torn, not_pinned, says_stays, held_stays}
+use Rattle.paged_volume.proofs.PinLaws.{pin_same, same_pins, keeps_pins, pinned_as}
 
 -- a logical page is put in a page that may be written, and no other logical page has it
 pub record IsPut (table : Table) (page number : ℕ) (next : MapView) : Type 0 where
@@ -28,11 +31,9 @@ pub record IsPut (table : Table) (page number : ℕ) (next : MapView) : Type 0 w
   pub alone : (other : ℕ) → other ≢ page → get_or table.map.staged other 0 ≢ number
   pub long : length next.free ≡ length table.map.free
   pub frees : (page : ℕ) → is_free next.free page ≡ true → is_free table.map.free page ≡ true
+  pub takes : (page : ℕ) → is_free next.free page ≡ false → (number ≡ page) ⊎ (is_free table.map.free page ≡ false)
+  pub was : (get_or table.map.staged page 0 ≡ get_or table.map.committed page 0) ⊎ ((get_or table.map.staged page 0 ≡ 0) ⊎ (get_or table.map.staged page 0 ≡ number))
   pub next_is : next ≡ record (table.map) { staged = set table.map.staged page number; free = next.free }
-
-and_front : (a b : Bool) → (a && b) ≡ true → a ≡ true
-and_front true b e = refl
-and_front false b e = e
 
 pub is_put : (table : Table) (between : MapView) (page number : ℕ) → IsTable table → IsPlace table.map between page number → IsPut table page number (with_staged between page number)
 is_put table between page number is (again staged other some taken same) =
@@ -47,13 +48,15 @@ is_put table between page number is (again staged other some taken same) =
       ];
       long = refl;
       frees = λ p free. free;
+      takes = λ p taken. inr taken;
+      was = inr (inr staged);
       next_is = refl;
     })
   where
     by : (get_or table.map.staged page 0 ≡ get_or table.map.committed page 0) ⊎ IsSpare table (get_or table.map.staged page 0) → IsSpare table number
     by (inl committed) = absurd (other (sym staged ∙ committed))
     by (inr spare) = subst (λ (n : ℕ). IsSpare table n) staged spare
-is_put table between page number is (given free unnamed taken same) =
+is_put table between page number is (given unstaged free unnamed taken same) =
     subst (λ (m : MapView). IsPut table page number (with_staged m page number)) (sym same) (record {
       spare = is.held number free;
       alone = λ one differs e. elim (cases_lt one (length table.map.staged)) [
@@ -63,7 +66,12 @@ is_put table between page number is (given free unnamed taken same) =
         | inr past ↦ let none = get_or_past table.map.staged one 0 past in let low = (apart_spare table number (is.held number free)).low in absurd (omega arith)
       ];
       long = length-set table.map.free number false;
-      frees = λ p still. and_front (is_free table.map.free p) _ (sym (is_free_taken table.map.free number p) ∙ still);
+      frees = λ p still. (and_both (is_free table.map.free p) _ (sym (is_free_taken table.map.free number p) ∙ still)).0;
+      takes = λ p in_use. elim (cases_eq number p) [
+        | inl same ↦ inl same
+        | inr other ↦ inr (sym (and_true (is_free table.map.free p)) ∙ sym (ap (λ (b : Bool). is_free table.map.free p && not b) (ne_eqb number p other)) ∙ sym (is_free_taken table.map.free number p) ∙ in_use)
+      ];
+      was = elim unstaged [ inl same ↦ inl same | inr none ↦ inr (inl none) ];
       next_is = refl;
     })
 
@@ -78,7 +86,7 @@ module _ (table : Table) (page number : ℕ) (next : MapView) (is : IsTable tabl
   low = (apart_spare table number put.spare).low
 
   after : Table
-  after = record { committed = table.committed; map = record (table.map) { staged = set table.map.staged page number; free = next.free }; named = table.named; next = table.next }
+  after = record { committed = table.committed; map = record (table.map) { staged = set table.map.staged page number; free = next.free }; named = table.named; next = table.next; pins = table.pins }
 
   number_here : get_or (set table.map.staged page number) page 0 ≡ number
   number_here = get_or-set_same table.map.staged page number 0 below
@@ -112,6 +120,57 @@ module _ (table : Table) (page number : ℕ) (next : MapView) (is : IsTable tabl
     ]
   ]
 
+  named_after : names (set table.map.staged page number) number ≡ true
+  named_after = subst (λ (n : ℕ). names (set table.map.staged page number) n ≡ true) number_here (names_at_index (set table.map.staged page number) page (omega (arith, length-set table.map.staged page number)))
+
+  -- a page that is staged is so afterwards, or it is committed
+  staged_still : (p : ℕ) → 4 ≤ p → names table.map.staged p ≡ true → (names (set table.map.staged page number) p ≡ true) ⊎ (names (numbers_of_table table) p ≡ true)
+  staged_still p four staged =
+      let at = named_at table.map.staged p staged in
+      let below_at = at.below in
+      elim (cases_eq at.index page) [
+        | inr differs ↦ inl (subst (λ (n : ℕ). names (set table.map.staged page number) n ≡ true) (number_there at.index differs ∙ at.is)
+            (names_at_index (set table.map.staged page number) at.index (omega (arith, length-set table.map.staged page number))))
+        | inl here ↦
+            let is_page : get_or table.map.staged page 0 ≡ p = ap (λ (k : ℕ). get_or table.map.staged k 0) (sym here) ∙ at.is in
+            elim put.was [
+              | inl same ↦
+                  let committed : get_or table.map.committed page 0 ≡ p = sym same ∙ is_page in
+                  elim (cases_lt page (logical_of table.committed)) [
+                    | inl lt ↦
+                        let before = map_names table.committed.depth table.named.items (map_count table.committed) in
+                        let pages = numbers_of (λ k. get_or table.map.committed k 0) (logical_of table.committed) in
+                        inr (names_append before pages p ∙ or_right (names before p) (names pages p)
+                        (subst (λ (n : ℕ). names pages n ≡ true) committed (names_number (λ k. get_or table.map.committed k 0) (logical_of table.committed) page lt)))
+                    | inr past ↦ absurd (omega (arith, is.once.bare page past))
+                  ]
+              | inr other ↦ elim other [
+                | inl none ↦ absurd (omega arith)
+                | inr own ↦ inl (subst (λ (n : ℕ). names (set table.map.staged page number) n ≡ true) (sym own ∙ is_page) named_after)
+              ]
+            ]
+      ]
+
+  uses_after : (p : ℕ) → 4 ≤ p → p < table.committed.pages → is_free next.free p ≡ false → uses after p ≡ true
+  unfolding after
+  uses_after p four high taken =
+      let committed = names (numbers_of_table table) p in
+      let staged = names (set table.map.staged page number) p in
+      let pinned = one_names table.map.pins p in
+      elim (put.takes p taken) [
+        | inl same ↦ or_right committed (staged || pinned) (or_left staged pinned (subst (λ (n : ℕ). names (set table.map.staged page number) n ≡ true) same named_after))
+        | inr was ↦ elim (or_cases committed (names table.map.staged p || pinned) (is.used p four high was)) [
+          | inl one ↦ or_left committed (staged || pinned) one
+          | inr more ↦ elim (or_cases (names table.map.staged p) pinned more) [
+            | inl two ↦ elim (staged_still p four two) [
+              | inl still ↦ or_right committed (staged || pinned) (or_left staged pinned still)
+              | inr one ↦ or_left committed (staged || pinned) one
+            ]
+            | inr three ↦ or_right committed (staged || pinned) (or_right staged pinned three)
+          ]
+        ]
+      ]
+
   table_after : IsTable after
   unfolding after
   table_after = record {
@@ -121,18 +180,24 @@ module _ (table : Table) (page number : ℕ) (next : MapView) (is : IsTable tabl
     lists = length-set table.map.staged page number ∙ is.lists;
     pages = put.long ∙ is.pages;
     names = is.names;
+    nexts = is.nexts;
     once = record { index = is.once.index; maps = is.once.maps; pages = is.once.pages; bare = is.once.bare };
+    bare = is.bare;
     held = λ p free. spare_after p (is.held p (put.frees p free));
+    used = uses_after;
+    pinned = is.pinned;
+    pin_count = is.pin_count;
+    pins = λ pin lt. pin_same table after (get_or table.map.pins pin []) (get_or table.pins.items pin None) refl refl refl (is.pins pin lt);
     apart = λ one other lt also same some. apart_after one other (omega (arith, length-set table.map.staged page number)) (omega (arith, length-set table.map.staged page number)) same some;
     staged = staged_after;
   }
 
-  pub put_table : IsTable (record { committed = table.committed; map = next; named = table.named; next = table.next })
+  pub put_table : IsTable (record { committed = table.committed; map = next; named = table.named; next = table.next; pins = table.pins })
   unfolding after
-  put_table = subst (λ (m : MapView). IsTable (record { committed = table.committed; map = m; named = table.named; next = table.next })) (sym put.next_is) table_after
+  put_table = subst (λ (m : MapView). IsTable (record { committed = table.committed; map = m; named = table.named; next = table.next; pins = table.pins })) (sym put.next_is) table_after
 
-  pub says_put : (image : List ℕ) → Says table image → Says (record { committed = table.committed; map = next; named = table.named; next = table.next }) image
-  says_put image says = subst (λ (m : MapView). Says (record { committed = table.committed; map = m; named = table.named; next = table.next }) image) (sym put.next_is)
+  pub says_put : (image : List ℕ) → Says table image → Says (record { committed = table.committed; map = next; named = table.named; next = table.next; pins = table.pins }) image
+  says_put image says = subst (λ (m : MapView). Says (record { committed = table.committed; map = m; named = table.named; next = table.next; pins = table.pins }) image) (sym put.next_is)
       (record { head = says.head; selected = says.selected; root = says.root; names = says.names })
 
   elsewhere : (old from : List ℕ) → length from ≡ 4096 → (k : ℕ) → k / 4096 ≢ page → ((p : ℕ) → get_or table.map.staged p 0 ≢ 0 → 4096 * get_or table.map.staged p 0 + 4096 ≤ length old) →
@@ -200,14 +265,14 @@ module _ (a b : Outside (List ℕ)) (lives : Bool) (table : Table) (page number 
       along_as held_in (λ (held : Option Held). After (a.images a.clock) (λ (x : List ℕ) (z : Option Held). held_in x ≡ z) held) write (λ image after.
       record { from = after.from; was = after.was; by = sym (held_stays table number after.from image alive.is_table.fit alive.is_table.once apart after.by (alive.says after.from after.was)) })
 
-  pub put_alive : IsAlive lives (record { committed = table.committed; map = next; named = table.named; next = table.next }) b
+  pub put_alive : IsAlive lives (record { committed = table.committed; map = next; named = table.named; next = table.next; pins = table.pins }) b
   put_alive = record {
     living = alive.living;
     is_table = put_table table page number next alive.is_table in_list put;
     says = λ image now. says_put table page number next alive.is_table in_list put image (put_says image now);
   }
 
-  put_staged : (from old : List ℕ) → length from ≡ 4096 → Says table old → staged_bytes (record { committed = table.committed; map = next; named = table.named; next = table.next }) (written (4096 * number) from old) ≡ written (4096 * page) from (staged_bytes table old)
+  put_staged : (from old : List ℕ) → length from ≡ 4096 → Says table old → staged_bytes (record { committed = table.committed; map = next; named = table.named; next = table.next; pins = table.pins }) (written (4096 * number) from old) ≡ written (4096 * page) from (staged_bytes table old)
   unfolding staged_bytes
   put_staged from old size says =
       let long = says.head.long in
@@ -217,7 +282,7 @@ module _ (a b : Outside (List ℕ)) (lives : Bool) (table : Table) (page number 
 
   pub put_contents : (from : List ℕ) → length from ≡ 4096 → ((image : List ℕ) → a.contents image → a.images a.clock image) →
       ((image : List ℕ) → b.contents image → After a.contents (Written (4096 * number) from) image) →
-      (found : Option Held) → (seen (record { committed = table.committed; map = next; named = table.named; next = table.next }) b).contents found →
+      (found : Option Held) → (seen (record { committed = table.committed; map = next; named = table.named; next = table.next; pins = table.pins }) b).contents found →
       After (seen table a).contents (λ (before after : Option Held). option_map (with_page page from) before ≡ after) found
   put_contents from size law wrote found now =
       let after = wrote now.from now.was in
@@ -226,13 +291,13 @@ module _ (a b : Outside (List ℕ)) (lives : Bool) (table : Table) (page number 
         from = Some (staged_in table after.from);
         was = record { from = after.from; was = after.was; by = refl };
         by = ap (λ (xs : List ℕ). Some (record { note = table.committed.note; bytes = xs })) (sym (put_staged from after.from size says))
-            ∙ ap (λ (x : List ℕ). Some (staged_in (record { committed = table.committed; map = next; named = table.named; next = table.next }) x)) (sym after.by)
+            ∙ ap (λ (x : List ℕ). Some (staged_in (record { committed = table.committed; map = next; named = table.named; next = table.next; pins = table.pins }) x)) (sym after.by)
             ∙ now.by;
       }
 
   pub put_stays : (from : List ℕ) → length from ≡ 4096 → ((image : List ℕ) → a.contents image → a.images a.clock image) →
       ((image : List ℕ) → a.contents image → b.contents (written (4096 * number) from image)) →
-      (found : Option Held) → (seen table a).contents found → (seen (record { committed = table.committed; map = next; named = table.named; next = table.next }) b).contents (option_map (with_page page from) found)
+      (found : Option Held) → (seen table a).contents found → (seen (record { committed = table.committed; map = next; named = table.named; next = table.next; pins = table.pins }) b).contents (option_map (with_page page from) found)
   put_stays from size law wrote found was =
       let says = alive.says was.from (law was.from was.was) in
       record {
@@ -242,7 +307,7 @@ module _ (a b : Outside (List ℕ)) (lives : Bool) (table : Table) (page number 
             ∙ ap (λ (o : Option Held). option_map (with_page page from) o) was.by;
       }
 
-  pub put_marks : Marks page table (record { committed = table.committed; map = next; named = table.named; next = table.next })
+  pub put_marks : Marks page table (record { committed = table.committed; map = next; named = table.named; next = table.next; pins = table.pins })
   put_marks = record {
     marked = let least = apart.low in let here = ap (λ (m : MapView). get_or m.staged page 0) put.next_is ∙ number_here table page number next alive.is_table in_list put in omega arith;
     kept = λ other differs. ap (λ (m : MapView). get_or m.staged other 0) put.next_is ∙ number_there table page number next alive.is_table in_list put other differs;
@@ -282,3 +347,28 @@ placed_again map page staged number committed staged_is committed_is differs som
   where
     positive : (n : ℕ) → n ≢ 0 → 1 ≤ n
     positive n ne = elim (cases_lt 0 n) [ inl some ↦ omega arith | inr none ↦ absurd (ne (omega arith)) ]
+
+-- what pins hold stays where a page is put
+module _ (a b : Outside (List ℕ)) (lives : Bool) (table : Table) (page number : ℕ) (next : MapView) (alive : IsAlive lives table a) (put : IsPut table page number next) where
+  pins_put : (from old : List ℕ) → length from ≡ 4096 → Says table old → (pin : ℕ) → pinned_bytes table pin (written (4096 * number) from old) ≡ pinned_bytes table pin old
+  pins_put from old size says pin =
+      pinned_torn table (4096 * number) 4096 old (written (4096 * number) from old) says.head.long
+      (subst (λ (n : ℕ). Torn (4096 * number) n old (written (4096 * number) from old)) size (written_torn (4096 * number) from old))
+      (λ held some pinned. let is = alive.is_table.pinned held some pinned in (is.low, is.high))
+      (λ held four pinned. apart_page held number (not_pinned table number held put.spare pinned)) pin
+
+  pub put_pinned : (from : List ℕ) → length from ≡ 4096 → ((image : List ℕ) → a.contents image → a.images a.clock image) → ((x y : List ℕ) → a.contents x → a.contents y → x ≡ y) →
+      ((image : List ℕ) → b.contents image → After a.contents (Written (4096 * number) from) image) → ((image : List ℕ) → a.contents image → b.contents (written (4096 * number) from image)) →
+      KeepsPins table (record { committed = table.committed; map = next; named = table.named; next = table.next; pins = table.pins }) a b
+  put_pinned from size law one wrote holds =
+      let after : Table = record { committed = table.committed; map = next; named = table.named; next = table.next; pins = table.pins } in
+      keeps_pins a b table after (same_pins table after refl) (λ image now.
+      let was = wrote image now in
+      record {
+        from = was.from;
+        was = was.was;
+        by = λ pin.
+            pinned_as table after pin image refl (ap (λ (m : MapView). m.pins) put.next_is)
+            ∙ ap (λ (xs : List ℕ). pinned_bytes table pin xs) was.by
+            ∙ pins_put from was.from size (alive.says was.from (law was.from was.was)) pin;
+      }) one (λ image now. (written (4096 * number) from image, holds image now))

@@ -1,9 +1,8 @@
 -- What the numbers are that are read, and what a bad one says.
-use Rattle.std.proofs.Common.{◌≡◌, ◌≢◌, ◌⊎◌, inl, inr, ℕ, zero, suc, ◌+◌, ◌-◌, ◌*◌, ◌/◌, ◌%◌, ◌<◌, ◌≤◌, min, Bool, true, false, List, [], ◌∷◌, ◌++◌, length, get_or, set, take, drop, refl, sym, ◌∙◌, ap, subst, arith, Option, Some, None, nat_eq, if◌then◌else◌}
-use Rattle.std.specs.Option.{option_or}
+use Rattle.std.proofs.Common.{◌≡◌, ◌≢◌, inl, inr, ℕ, zero, suc, ◌+◌, ◌-◌, ◌*◌, ◌/◌, ◌%◌, ◌<◌, ◌≤◌, min, Bool, true, false, List, [], ◌++◌, length, get_or, set, take, drop, refl, sym, ◌∙◌, ap, subst, arith, Option, Some, None, if◌then◌else◌}
 use Rattle.std.proofs.lemmas.Bool.{cases_lt, eq-eqb, ne_eqb}
 use Rattle.std.proofs.lemmas.List.{get_or_default}
-use Rattle.ps_port.specs.ps_outside.Outside.{Outside, Rose}
+use Rattle.ps_port.specs.ps_outside.Outside.{Outside}
 use Rattle.page_map.specs.Pages.{is_free, without}
 use Rattle.page_map.specs.Map.{MapView, AreGood, IsFault, IsBadNumber, with_taken, with_read}
 use Rattle.page_map.specs.declared.fault.MapFault.{MapFault}
@@ -15,7 +14,7 @@ use Rattle.shadow_volume.specs.declared.finding.OpenFault.TheVariants.{Device, N
 use Rattle.shadow_volume.specs.Attaching.{Looks}
 use Rattle.shadow_volume.proofs.Looking.{rose_then}
 use Rattle.shadow_volume.proofs.Numbers.{number_within}
-use Rattle.paged_volume.specs.Layout.{maps_at, in_map_page, index_number, map_place, map_number, page_place, page_number, capacity_pages, map_pages_of}
+use Rattle.paged_volume.specs.Layout.{maps_at, in_map_page, index_number, map_place, map_number, page_place, page_number, map_pages_of}
 use Rattle.paged_volume.specs.Found.{damage, bound_of, numbers_of, unnamed, name_tests, names_tests}
 use Rattle.paged_volume.specs.Standing.{IsFit, AreUnnamed, HasNames, index_of, maps_of, map_names, place_by, logical_of, map_count}
 use Rattle.paged_volume.specs.Naming.{IsNamingOf, IsNaming, IsFailed, FailsBy, names_at, skipped, page_tests}
@@ -24,7 +23,7 @@ use Rattle.paged_volume.specs.declared.damage.Damage.{Damage}
 use Rattle.paged_volume.specs.declared.committed.Committed.{Committed}
 use Rattle.paged_volume.proofs.Bounds.{are_low, pages_low, skipped_to, skipped_low}
 use Rattle.paged_volume.proofs.Numbers.{some_or, none_then, numbers_same, numbers_none, tests_none, tests_some, tests_same, are_none, are_same, unnamed_low}
-use Rattle.paged_volume.proofs.Naming.{free_none, free_maps, naming_index, naming_map, naming_pages, bad_page, read_here, map_set, maps_before, index_set, first_set}
+use Rattle.paged_volume.proofs.Naming.{free_none, free_maps, naming_index, naming_map, bad_page, read_here, map_set, maps_before, index_set}
 
 not_device : (at found wanted : ℕ) {B : Type 0} → Damaged at found wanted ≡ Device → B
 not_device at found wanted e = absurd (subst IsDamaged e tt)

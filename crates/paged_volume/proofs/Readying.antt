@@ -1,30 +1,27 @@
 -- What stands in a file once the pages that name those that are committed next were written.
-use Rattle.std.proofs.Common.{◌≡◌, ◌≢◌, ◌⊎◌, inl, inr, ℕ, ◌+◌, ◌-◌, ◌*◌, ◌/◌, ◌%◌, ◌^◌, ◌==◌, ◌<◌, ◌≤◌, min, Bool, true, false, not, List, [], ◌∷◌, ◌++◌, length, get_or, take, drop, refl, sym, ◌∙◌, ap, subst, arith, nat_eq, if◌then◌else◌, Option, Some, Result, Ok, Err}
+use Rattle.std.proofs.Common.{◌≡◌, ◌≢◌, ◌⊎◌, inl, inr, ℕ, ◌+◌, ◌*◌, ◌<◌, ◌≤◌, Bool, true, false, not, List, length, get_or, take, drop, sym, ◌∙◌, ap, subst, arith, Result, Ok, Err}
 use Rattle.std.specs.Prelude.{OnOk}
 use Rattle.std.proofs.lemmas.Result.{on_err_weaker}
 use Rattle.shadow_volume.specs.Switching.{Works}
 use Rattle.shadow_volume.proofs.Looking.{rose_then}
-use Rattle.std.proofs.lemmas.Bool.{cases_lt, cases_eq, eq-eqb, ne_eqb}
+use Rattle.std.proofs.lemmas.Bool.{cases_lt}
 use Rattle.ps_port.specs.ps_outside.Outside.{Outside, Leaves, After, IsDeviceCall}
-use Rattle.ps_port.proofs.of_ps_outside.Moments.{along_then, along_weaker, along_now}
+use Rattle.ps_port.proofs.of_ps_outside.Moments.{along_then, along_now}
 use Rattle.ps_port.specs.Disk.{Torn, Written, written}
 use Rattle.ps_port.specs.DiskLaws.{written_torn}
-use Rattle.ps_port.proofs.Torn.{written_range, byte_written}
-use Rattle.shadow_volume.specs.Layout.{number_at, root_at, selects}
-use Rattle.shadow_volume.specs.Found.{note_at}
+use Rattle.ps_port.proofs.Torn.{written_range}
+use Rattle.shadow_volume.specs.Layout.{number_at, root_at}
 use Rattle.shadow_volume.proofs.Numbers.{number_within}
-use Rattle.paged_volume.specs.Layout.{capacity_pages, map_pages_of, maps_at, index_number, depth_at}
-use Rattle.paged_volume.specs.Standing.{IsFit, IsNamedOnce, Says, HasHead, HasRoot, HasNames, index_of, maps_of, place_by, logical_of, map_count, held_in, staged_bytes, committed_in}
-use Rattle.paged_volume.specs.Found.{bytes_named}
-use Rattle.paged_volume.specs.Switching.{IsNext, IsKept, SameStaged, HasMaps, HasIndex, IsReady, IsRootPage, IsRooted, IsSwitched, IsEither, next_table, first_name}
+use Rattle.paged_volume.specs.Layout.{capacity_pages, map_pages_of}
+use Rattle.paged_volume.specs.Standing.{IsFit, IsNamedOnce, IsSpare, Says, index_of, maps_of, map_count}
+use Rattle.paged_volume.specs.Switching.{IsNext, IsKept, SamePages, HasMaps, HasIndex, IsReady}
 use Rattle.paged_volume.specs.declared.table.Table.{Table}
 use Rattle.paged_volume.specs.declared.committed.Committed.{Committed}
 use Rattle.paged_volume.proofs.Bounds.{are_low}
 use Rattle.paged_volume.proofs.Numbers.{unnamed_low}
-use Rattle.paged_volume.proofs.Reading.{index_first, at_index, maps_at_none, maps_at_one}
-use Rattle.paged_volume.proofs.Held.{held_says}
-use Rattle.paged_volume.proofs.Turning.{kept_write, kept_now, page_apart, map_apart, page_there, map_there, staged_torn, maps_torn, same_then}
-use Rattle.paged_volume.proofs.Staying.{IsApart, IsClear, Apart, SaysBut, apart_spare, apart_page, apart_low, root_page, says_but, says_selected, but_stays, clear_stays, committed_stays, number_stays}
+use Rattle.paged_volume.proofs.Reading.{index_first, at_index}
+use Rattle.paged_volume.proofs.Turning.{page_apart, map_apart, page_there, pages_torn, maps_torn, same_then}
+use Rattle.paged_volume.proofs.Staying.{IsClear, not_pinned, apart_page, apart_low, root_page, clear_stays, number_stays}
 
 -- the number of the index page
 pub index_number_is : (table : Table) (next : Committed) (x : ℕ) → IsNext table next → x ≡ get_or table.next.items 0 x → x ≡ get_or table.next.items 0 0
@@ -42,7 +39,7 @@ index_there table next is deep =
 -- what the index page that was written leaves
 pub index_content : (table : Table) (next : Committed) (x : ℕ) (page old new : List ℕ) → IsNext table next → 0 < next.depth → x ≡ get_or table.next.items 0 0 → length page ≡ 4096 →
     ((i : ℕ) → i < map_count next → number_at (4 * i) 4 page ≡ maps_of table.next.items i) → Says table old → Written (4096 * x) page old new → HasMaps table next (map_count next) old →
-    HasMaps table next (map_count next) new × HasIndex table next new × SameStaged table old new
+    HasMaps table next (map_count next) new × HasIndex table next new × SamePages table old new
 index_content table next x page old new is deep x_is size numbers says by has =
     let number = get_or table.next.items 0 0 in
     let image = written (4096 * number) page old in
@@ -58,8 +55,9 @@ index_content table next x page old new is deep x_is size numbers says by has =
           (maps_torn table next (map_count next) (4096 * number) 4096 old image is (omega arith) long torn (λ i lt. apart_page (maps_of table.next.items i) number (λ same. map_apart table next is i lt 0 deep (first ∙ sym same))) has),
       subst (λ (xs : List ℕ). HasIndex table next xs) (sym new_is) (λ i lt deep.
           sym (number_within (4096 * number) 4096 (4 * i) 4 image (omega arith)) ∙ ap (λ (xs : List ℕ). number_at (4 * i) 4 xs) read ∙ numbers i lt),
-      subst (λ (xs : List ℕ). SameStaged table old xs) (sym new_is)
-          (staged_torn table next (4096 * number) 4096 old image is long torn (λ k below. apart_page (get_or table.map.staged k 0) number (λ same. (page_apart table next is k below).0 0 deep (first ∙ sym same)))),
+      subst (λ (xs : List ℕ). SamePages table old xs) (sym new_is)
+          (pages_torn table next (4096 * number) 4096 old image is long torn (λ k below. apart_page (get_or table.map.staged k 0) number (λ same. (page_apart table next is k below).0 0 deep (first ∙ sym same)))
+          (λ other low pinned. apart_page other number (not_pinned table number other (subst (λ (n : ℕ). IsSpare table n) first (is.index 0 deep)) pinned))),
     )
 
 -- the other root page is apart from what is committed
@@ -96,7 +94,7 @@ ready_torn a table next at size old new is clear behind low ready torn =
     let stays = clear_stays table at size old new is.fit is.once clear behind torn kept.says in
     record {
       kept = record { says = stays.0; from = kept.from; was = kept.was; held = kept.held ∙ sym stays.1 };
-      staged = same_then a table old new ready.staged (staged_torn table next at size old new is long torn (λ k below. apart_low (get_or table.map.staged k 0) at size (page_there table next is k below).0 low));
+      staged = same_then a table old new ready.staged (pages_torn table next at size old new is long torn (λ k below. apart_low (get_or table.map.staged k 0) at size (page_there table next is k below).0 low) (λ other four pinned. apart_low other at size four low));
       maps = maps_torn table next (map_count next) at size old new is (omega arith) long torn (λ i lt.
           let low_map = unnamed_low next.pages _ (maps_of table.next.items i) (is.maps_once i lt) in apart_low (maps_of table.next.items i) at size low_map.0 low) ready.maps;
       index = index_torn table next at size old new is long torn low ready.index;
@@ -113,12 +111,12 @@ pub index_numbers : (table : Table) (next : Committed) (named : List ℕ) (count
     (i : ℕ) → i < map_count next → number_at (4 * i) 4 page ≡ maps_of table.next.items i
 index_numbers table next named count page named_is count_is numbers i lt = numbers i (omega arith) ∙ ap (λ (xs : List ℕ). maps_of xs i) named_is
 
-pub ready_of : (a b c : Outside (List ℕ)) (table : Table) (next : Committed) (image : List ℕ) → IsKept a table image → ((bytes : List ℕ) → b.contents bytes → After a.contents (SameStaged table) bytes) →
-    After b.contents (SameStaged table) image → HasMaps table next (map_count next) image × HasIndex table next image → IsReady a table next image
+pub ready_of : (a b c : Outside (List ℕ)) (table : Table) (next : Committed) (image : List ℕ) → IsKept a table image → ((bytes : List ℕ) → b.contents bytes → After a.contents (SamePages table) bytes) →
+    After b.contents (SamePages table) image → HasMaps table next (map_count next) image × HasIndex table next image → IsReady a table next image
 ready_of a b c table next image kept first again names = record { kept = kept; staged = same_then a table again.from image (first again.from again.was) again.by; maps = names.0; index = names.1 }
 
 pub names_ready : {T E : Type 0} (a b c : Outside (List ℕ)) (table : Table) (next : Committed) (result : Result T E) → ((bytes : List ℕ) → c.contents bytes → c.images c.clock bytes) → Leaves a c (IsKept a table) →
-    ((bytes : List ℕ) → b.contents bytes → After a.contents (SameStaged table) bytes) → OnOk result ((bytes : List ℕ) → c.contents bytes → After b.contents (SameStaged table) bytes) →
+    ((bytes : List ℕ) → b.contents bytes → After a.contents (SamePages table) bytes) → OnOk result ((bytes : List ℕ) → c.contents bytes → After b.contents (SamePages table) bytes) →
     OnOk result ((bytes : List ℕ) → c.contents bytes → HasMaps table next (map_count next) bytes × HasIndex table next bytes) → OnOk result ((bytes : List ℕ) → c.contents bytes → IsReady a table next bytes)
 names_ready a b c table next (Ok x) law kept first again names = λ bytes now. ready_of a b c table next bytes (along_now kept bytes (law bytes now)) first (again bytes now) (names bytes now)
 names_ready a b c table next (Err x) law kept first again names = tt

@@ -1,26 +1,24 @@
 -- The root page that names what is committed next, and the selector.
-use Rattle.std.proofs.Common.{◌≡◌, ◌≢◌, ◌⊎◌, inl, inr, ℕ, ◌+◌, ◌-◌, ◌*◌, ◌/◌, ◌%◌, ◌^◌, ◌==◌, ◌<◌, ◌≤◌, min, Bool, true, false, not, List, [], ◌∷◌, ◌++◌, length, get_or, take, drop, refl, sym, ◌∙◌, ap, subst, arith, nat_eq, if◌then◌else◌, Option, Some}
-use Rattle.std.proofs.lemmas.Bool.{cases_lt, cases_eq, eq-eqb, ne_eqb}
+use Rattle.std.proofs.Common.{◌≡◌, ◌≢◌, ◌⊎◌, inl, inr, ℕ, ◌+◌, ◌*◌, ◌%◌, ◌==◌, ◌≤◌, Bool, true, false, not, List, [], ◌∷◌, length, get_or, take, drop, refl, sym, ◌∙◌, ap, subst, arith, if◌then◌else◌, Some}
+use Rattle.std.proofs.lemmas.Bool.{cases_eq, eq-eqb, ne_eqb}
 use Rattle.ps_port.specs.ps_outside.Outside.{Outside, Leaves, After}
-use Rattle.ps_port.proofs.of_ps_outside.Moments.{along_then, along_weaker, along_now}
+use Rattle.ps_port.proofs.of_ps_outside.Moments.{along_then, along_weaker}
 use Rattle.ps_port.specs.Disk.{Torn, Written, written}
 use Rattle.ps_port.specs.DiskLaws.{written_torn}
 use Rattle.ps_port.proofs.Torn.{written_range, byte_written}
 use Rattle.shadow_volume.specs.Layout.{number_at, root_at, selects}
-use Rattle.shadow_volume.specs.Found.{note_at}
 use Rattle.shadow_volume.proofs.Numbers.{number_within}
-use Rattle.paged_volume.specs.Layout.{capacity_pages, maps_at, index_number, depth_at}
-use Rattle.paged_volume.specs.Standing.{IsFit, IsNamedOnce, Says, HasHead, HasRoot, HasNames, index_of, maps_of, place_by, logical_of, map_count, held_in}
-use Rattle.paged_volume.specs.Switching.{IsNext, IsKept, SameStaged, HasMaps, HasIndex, IsReady, IsRootPage, IsRooted, IsSwitched, IsEither, next_table, first_name}
+use Rattle.paged_volume.specs.Standing.{IsFit, IsNamedOnce, HasHead, HasRoot, index_of, maps_of}
+use Rattle.paged_volume.specs.Switching.{IsNext, IsKept, IsReady, IsRootPage, IsRooted, IsSwitched, IsEither, next_table, first_name}
 use Rattle.paged_volume.specs.declared.table.Table.{Table}
 use Rattle.paged_volume.specs.declared.committed.Committed.{Committed}
 use Rattle.paged_volume.proofs.Bounds.{are_low}
 use Rattle.paged_volume.proofs.Numbers.{unnamed_low}
 use Rattle.paged_volume.proofs.Reading.{index_first, maps_at_none, maps_at_one}
 use Rattle.paged_volume.proofs.Held.{held_says}
-use Rattle.paged_volume.proofs.Turning.{kept_now, page_there, staged_torn, same_then}
-use Rattle.paged_volume.proofs.Readying.{clear_root, ready_torn, deep_some, index_there}
-use Rattle.paged_volume.proofs.Staying.{IsClear, Apart, SaysBut, apart_low, root_page, says_but, says_selected, but_stays, clear_stays, committed_stays}
+use Rattle.paged_volume.proofs.Turning.{page_there, pages_torn, same_then}
+use Rattle.paged_volume.proofs.Readying.{clear_root, ready_torn, deep_some}
+use Rattle.paged_volume.proofs.Staying.{IsClear, SaysBut, apart_low, root_page, says_but, says_selected, but_stays, committed_stays}
 
 roots_low : (second : Bool) → (4097 ≤ root_at second) × (root_at second + 4096 ≤ 16384)
 roots_low second = let root = root_page second in let least = root.0 in (omega arith, root.1)
@@ -132,7 +130,7 @@ module _ (a b c : Outside (List ℕ)) (table : Table) (next : Committed) (is : I
       let says = but_stays (next_table table next) 4096 1 old new is.next_fit (next_once table next is) (clear_selector (next_table table next) is.next_fit (next_once table next is)) torn (rooted_says a table next old is was) in
       record {
         says = says_selected (next_table table next) new says (selected ∙ sym is.second);
-        staged = same_then a table old new was.ready.staged (staged_torn table next 4096 1 old new is long torn (λ k below. apart_low (get_or table.map.staged k 0) 4096 1 (page_there table next is k below).0 (omega arith)));
+        staged = same_then a table old new was.ready.staged (pages_torn table next 4096 1 old new is long torn (λ k below. apart_low (get_or table.map.staged k 0) 4096 1 (page_there table next is k below).0 (omega arith)) (λ other four pinned. apart_low other 4096 1 four (omega arith)));
       }
 
   selector_torn : (old new : List ℕ) → IsRooted a table next old → Torn 4096 1 old new → IsEither a table next new

@@ -1,15 +1,13 @@
 -- Numbers that are written into a page.
-use Rattle.std.proofs.Common.{◌≡◌, ◌⊎◌, inl, inr, ℕ, ◌+◌, ◌-◌, ◌*◌, ◌^◌, ◌<◌, ◌≤◌, List, [], ◌++◌, length, get_or, take, drop, refl, sym, ◌∙◌, ap, subst, arith, length-drop, length-take, append_assoc}
+use Rattle.std.proofs.Common.{◌≡◌, ◌⊎◌, inl, inr, ℕ, ◌+◌, ◌-◌, ◌*◌, ◌^◌, ◌<◌, ◌≤◌, List, [], ◌++◌, length, get_or, take, drop, sym, ◌∙◌, ap, subst, arith, length-drop, length-take, append_assoc}
 use Rattle.std.proofs.lemmas.Bool.{cases_lt}
-use Rattle.std.proofs.lemmas.List.{take_all, drop_all, drop-drop, append-nil, get_or_default}
+use Rattle.std.proofs.lemmas.List.{take_all, drop_all, drop-drop, append-nil}
 use Rattle.byteorder.specs.Endian.{little_bytes, little_number}
 use Rattle.byteorder.specs.Numbers.{little_number-reads_back, length-bytes_low_first}
 use Rattle.ps_port.specs.Disk.{Torn, written}
 use Rattle.ps_port.specs.DiskLaws.{written_torn, length-written}
 use Rattle.ps_port.proofs.Torn.{written_range}
 use Rattle.shadow_volume.specs.Layout.{number_at}
-use Rattle.shadow_volume.specs.Found.{note_at}
-use Rattle.shadow_volume.specs.declared.note.Note.{Note}
 use Rattle.shadow_volume.proofs.Numbers.{number_torn, number_within}
 use Rattle.paged_volume.specs.Standing.{maps_of, logical_of}
 use Rattle.paged_volume.specs.Switching.{IsRootPage}

@@ -1,22 +1,22 @@
 -- What is committed stays in an image while pages are written that it doesn't name.
-use Rattle.std.proofs.Common.{◌≡◌, ◌≢◌, ◌⊎◌, inl, inr, ℕ, ◌+◌, ◌-◌, ◌*◌, ◌/◌, ◌%◌, ◌==◌, ◌<◌, ◌≤◌, Bool, true, false, ◌||◌, List, ◌++◌, length, get_or, take, drop, refl, sym, ◌∙◌, ap, subst, arith, Option, Some}
+use Rattle.std.proofs.Common.{◌≡◌, ◌≢◌, ◌⊎◌, inl, inr, ℕ, ◌+◌, ◌*◌, ◌/◌, ◌%◌, ◌==◌, ◌<◌, ◌≤◌, Bool, true, false, List, [], length, get_or, sym, ◌∙◌, ap, subst, arith, Some}
 use Rattle.std.proofs.lemmas.Bool.{cases_lt, cases_eq, both_ways}
 use Rattle.ps_port.specs.Disk.{Torn, IsOutside}
-use Rattle.page_map.specs.Pages.{is_free, names}
+use Rattle.std.proofs.lemmas.List.{get_or_past}
+use Rattle.std.proofs.lemmas.List.Folds.{list_any_at}
+use Rattle.page_map.specs.Pages.{names, one_names}
 use Rattle.shadow_volume.specs.Layout.{number_at, root_at, selects}
-use Rattle.shadow_volume.specs.Found.{Held, note_at}
 use Rattle.shadow_volume.proofs.Numbers.{number_torn}
-use Rattle.paged_volume.specs.Layout.{capacity_pages, maps_at, in_map_page}
-use Rattle.paged_volume.specs.Found.{byte_named, bytes_named, numbers_of, unnamed}
-use Rattle.paged_volume.specs.Standing.{IsFit, IsTable, IsNamedOnce, IsSpare, AreUnnamed, Says, HasHead, HasRoot, HasNames, index_of, maps_of, map_names, place_by, logical_of, map_count, numbers_of_table, held_in, committed_in}
+use Rattle.paged_volume.specs.Layout.{capacity_pages, maps_at}
+use Rattle.paged_volume.specs.Found.{bytes_named, numbers_of}
+use Rattle.paged_volume.specs.Standing.{IsFit, IsNamedOnce, IsSpare, Says, HasHead, HasRoot, HasNames, index_of, maps_of, map_names, place_by, logical_of, map_count, numbers_of_table, held_in}
+use Rattle.paged_volume.specs.Pinning.{pinned_bytes}
 use Rattle.paged_volume.specs.declared.table.Table.{Table}
-use Rattle.paged_volume.specs.declared.committed.Committed.{Committed}
 use Rattle.paged_volume.proofs.Bounds.{are_low}
 use Rattle.paged_volume.proofs.Numbers.{names_append, unnamed_low}
-use Rattle.paged_volume.proofs.Tables.{names_number, unnamed_is_not, both_or}
+use Rattle.paged_volume.proofs.Tables.{names_number, names_at_index, unnamed_is_not, both_or}
 use Rattle.paged_volume.proofs.Reading.{index_first, maps_at_none, maps_at_one, place_in}
-use Rattle.paged_volume.proofs.Held.{byte_same, byte_none, byte_some, bytes_alike, held_says}
-use Rattle.paged_volume.proofs.Tests.{root_most}
+use Rattle.paged_volume.proofs.Held.{byte_none, byte_some, bytes_alike, held_says}
 
 -- what a page isn't that nothing committed names
 pub record IsApart (table : Table) (page : ℕ) : Type 0 where
@@ -86,6 +86,33 @@ bytes_stay number count at size old new torn apart = bytes_alike number number c
     outside : (other rest : ℕ) → rest < 4096 → Apart other at size → IsOutside at size (4096 * other + rest)
     outside other rest lt (inl before) = inl (omega arith)
     outside other rest lt (inr behind) = inr (omega arith)
+
+-- the pages that pins hold
+pub pinned_named : (pins : List (List ℕ)) (pin page : ℕ) → get_or (get_or pins pin []) page 0 ≢ 0 → one_names pins (get_or (get_or pins pin []) page 0) ≡ true
+unfolding one_names
+pinned_named pins pin page some =
+    let list = get_or pins pin [] in
+    let in_list : page < length list = elim (cases_lt page (length list)) [ inl lt ↦ lt | inr past ↦ absurd (some (get_or_past list page 0 past)) ] in
+    let in_pins : pin < length pins = elim (cases_lt pin (length pins)) [ inl lt ↦ lt | inr past ↦ absurd (some (ap (λ (xs : List ℕ). get_or xs page 0) (get_or_past pins pin [] past))) ] in
+    list_any_at (λ (xs : List ℕ). names xs (get_or list page 0)) pins pin [] in_pins (names_at_index list page in_list)
+
+pub pinned_torn : (table : Table) (at count : ℕ) (old new : List ℕ) → 4096 * table.committed.pages ≤ length old → Torn at count old new →
+    ((page : ℕ) → 1 ≤ page → one_names table.map.pins page ≡ true → (4 ≤ page) × (page < table.committed.pages)) → ((page : ℕ) → 4 ≤ page → one_names table.map.pins page ≡ true → Apart page at count) → (pin : ℕ) →
+    pinned_bytes table pin new ≡ pinned_bytes table pin old
+unfolding pinned_bytes
+pinned_torn table at count old new long torn low apart pin =
+    bytes_stay (λ k. get_or (get_or table.map.pins pin []) k 0) (capacity_pages table.committed.pages) at count old new torn (λ k lt some.
+    let page = get_or (get_or table.map.pins pin []) k 0 in
+    let pinned = pinned_named table.map.pins pin k some in
+    let there = low page (positive page some) pinned in
+    let high = there.1 in
+    (apart page there.0 pinned, omega arith))
+  where
+    positive : (n : ℕ) → n ≢ 0 → 1 ≤ n
+    positive n ne = elim (cases_lt 0 n) [ inl some ↦ omega arith | inr none ↦ absurd (ne (omega arith)) ]
+
+pub not_pinned : (table : Table) (page other : ℕ) → IsSpare table page → one_names table.map.pins other ≡ true → other ≢ page
+not_pinned table page other spare pinned same = both_ways (one_names table.map.pins page) spare.unpinned (subst (λ (n : ℕ). one_names table.map.pins n ≡ true) same pinned)
 
 -- a range that is apart from what says what is committed, but for the selector, and from the pages that are committed
 pub record IsClear (table : Table) (at count : ℕ) : Type 0 where

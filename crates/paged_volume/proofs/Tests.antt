@@ -1,16 +1,14 @@
 -- What the tests of a volume's file say of it.
-use Rattle.std.proofs.Common.{◌≡◌, ◌≢◌, ◌⊎◌, inl, inr, ℕ, ◌+◌, ◌-◌, ◌/◌, ◌<◌, ◌≤◌, Bool, true, false, List, length, take, drop, slice_index, refl, sym, ◌∙◌, ap, subst, arith, Option, Some, None, if◌then◌else◌, nat_lt, nat_eq}
+use Rattle.std.proofs.Common.{◌≡◌, ◌≢◌, ◌⊎◌, inl, inr, ℕ, ◌+◌, ◌-◌, ◌/◌, ◌<◌, ◌≤◌, Bool, true, false, List, length, take, drop, refl, sym, ◌∙◌, ap, subst, arith, Option, Some, None, if◌then◌else◌, nat_lt, nat_eq}
 use Rattle.std.proofs.lemmas.Bool.{cases_lt, cases_eq, le-ltb, lt-ltb, ltb-false, eq-eqb, eqb-true, ne_eqb}
 use Rattle.std.specs.Option.{option_or}
 use Rattle.ps_port.specs.ps_outside.Outside.{Outside}
 use Rattle.shadow_volume.specs.Layout.{magic, number_at, gate, selects, root_at, pages_of_words}
-use Rattle.shadow_volume.specs.Found.{note_at}
 use Rattle.shadow_volume.proofs.Numbers.{number_within}
-use Rattle.shadow_volume.specs.declared.note.Note.{Note}
 use Rattle.shadow_volume.specs.declared.finding.OpenFault.{OpenFault}
 use Rattle.shadow_volume.specs.declared.finding.OpenFault.TheVariants.{Device, NotAVolume, Damaged, Memory}
-use Rattle.paged_volume.specs.Layout.{most_pages_of, capacity_of, depth_at}
-use Rattle.paged_volume.specs.Found.{Found, a_volume, no_volume, damaged, found_in, held_at, damage, behind_head, behind_root, behind_names, head_damage, root_damage, head_tests, root_tests, names_tests, wants_equal, wants_between, wants_pages, wants_depth}
+use Rattle.paged_volume.specs.Layout.{most_pages_of, capacity_of}
+use Rattle.paged_volume.specs.Found.{no_volume, damaged, found_in, damage, after_head, after_root, after_names, head_damage, root_damage, head_tests, root_tests, names_tests, wants_equal, wants_between, wants_pages, wants_depth}
 use Rattle.paged_volume.specs.Standing.{IsHeadFit, IsDepth, IsFit, HasHead, HasRoot, logical_of}
 use Rattle.paged_volume.specs.Attaching.{IsHead, IsRoot, IsRefusal}
 use Rattle.paged_volume.specs.declared.committed.Committed.{Committed}
@@ -30,7 +28,7 @@ between_none at found low high least most =
 pages_none : (present pages : ℕ) → pages ≤ present → wants_pages present pages ≡ None
 pages_none present pages some = ap (λ (b : Bool). if b then Some (damage 8 present pages) else None) (le-ltb present pages some)
 
-none_some : {A B : Type 0} {x : A} → Some x ≡ None → B
+pub none_some : {A B : Type 0} {x : A} → Some x ≡ None → B
 none_some e = absurd (subst (λ (o : Option _). is_some o) e tt)
   where
     is_some : {A : Type 0} → Option A → Type 0
@@ -150,25 +148,25 @@ root_passed committed root logical head e =
     (record { head = head; some = used.0; within = used.1; below = omega arith; depth = none_depth committed.format committed.pages (root + 4092) committed.depth third.1 }, none_equal (root + 24) logical (pages_of_words note.used) second.0)
 
 -- the tests one after the other
-found_behind : (image : List ℕ) → 16384 ≤ length image → gate image ≡ 1 → found_in image ≡ behind_head image (head_damage image)
+found_after : (image : List ℕ) → 16384 ≤ length image → gate image ≡ 1 → found_in image ≡ after_head image (head_damage image)
 unfolding found_in
-found_behind image long opened =
+found_after image long opened =
     ap (λ (b : Bool). if b then no_volume (length image) (gate image)
-    else (if nat_eq (gate image) 1 then behind_head image (head_damage image) else no_volume (length image) (gate image))) (le-ltb (length image) 16384 long)
-    ∙ ap (λ (b : Bool). if b then behind_head image (head_damage image) else no_volume (length image) (gate image)) (eq-eqb (gate image) 1 opened)
+    else (if nat_eq (gate image) 1 then after_head image (head_damage image) else no_volume (length image) (gate image))) (le-ltb (length image) 16384 long)
+    ∙ ap (λ (b : Bool). if b then after_head image (head_damage image) else no_volume (length image) (gate image)) (eq-eqb (gate image) 1 opened)
 
 pub found_short : (image : List ℕ) → length image < 16384 → found_in image ≡ no_volume (length image) (gate image)
 unfolding found_in
 found_short image short =
     ap (λ (b : Bool). if b then no_volume (length image) (gate image)
-    else (if nat_eq (gate image) 1 then behind_head image (head_damage image) else no_volume (length image) (gate image))) (lt-ltb (length image) 16384 short)
+    else (if nat_eq (gate image) 1 then after_head image (head_damage image) else no_volume (length image) (gate image))) (lt-ltb (length image) 16384 short)
 
 pub found_shut : (image : List ℕ) → gate image ≢ 1 → found_in image ≡ no_volume (length image) (gate image)
 unfolding found_in
 found_shut image shut = by (nat_lt (length image) 16384) (nat_eq (gate image) 1) refl
   where
     by : (a b : Bool) → nat_eq (gate image) 1 ≡ b → (if a then no_volume (length image) (gate image)
-        else (if b then behind_head image (head_damage image) else no_volume (length image) (gate image))) ≡ no_volume (length image) (gate image)
+        else (if b then after_head image (head_damage image) else no_volume (length image) (gate image))) ≡ no_volume (length image) (gate image)
     by true b is = refl
     by false true is = absurd (shut (eqb-true (gate image) 1 is))
     by false false is = refl
@@ -176,33 +174,33 @@ found_shut image shut = by (nat_lt (length image) 16384) (nat_eq (gate image) 1)
 found_head : (image : List ℕ) (head : Head) (found : Damage) → 16384 ≤ length image → gate image ≡ 1 → IsHead image head →
     head_tests head.spelled head.format head.pages (length image / 4096) ≡ Some found → found_in image ≡ damaged found
 found_head image head found long opened is e =
-    found_behind image long opened
-    ∙ ap (λ (o : Option Damage). behind_head image o) ((λ i. head_tests (is.spelled i) (is.format i) (is.pages i) (length image / 4096)) ∙ e)
+    found_after image long opened
+    ∙ ap (λ (o : Option Damage). after_head image o) ((λ i. head_tests (is.spelled i) (is.format i) (is.pages i) (length image / 4096)) ∙ e)
 
 -- page 0 passes its tests
-found_root : (image : List ℕ) (format pages : ℕ) (second : Bool) → IsHeadFit format pages → HasHead format pages image → selects image ≡ second → found_in image ≡ behind_root pages second image (root_damage format pages second image)
+found_root : (image : List ℕ) (format pages : ℕ) (second : Bool) → IsHeadFit format pages → HasHead format pages image → selects image ≡ second → found_in image ≡ after_root pages second image (root_damage format pages second image)
 found_root image format pages second fit has selected =
     let long = has.long in
     let least = fit.least in
     let passes = (λ i. head_tests (has.spelled i) (has.format_is i) (has.pages_are i) (length image / 4096)) ∙ head_passes magic format pages (length image / 4096) refl fit (omega arith) in
-    found_behind image (omega arith) has.opened
-    ∙ ap (λ (o : Option Damage). behind_head image o) passes
-    ∙ (λ i. behind_root (has.pages_are i) (selected i) image (root_damage (has.format_is i) (has.pages_are i) (selected i) image))
+    found_after image (omega arith) has.opened
+    ∙ ap (λ (o : Option Damage). after_head image o) passes
+    ∙ (λ i. after_root (has.pages_are i) (selected i) image (root_damage (has.format_is i) (has.pages_are i) (selected i) image))
 
 pub found_root_damage : (image : List ℕ) (format pages : ℕ) (second : Bool) (root : Root) (found : Damage) → IsHeadFit format pages → HasHead format pages image → selects image ≡ second → IsRoot (root_at second) image root →
     root_tests format pages (root_at second) root.note root.logical root.depth ≡ Some found → found_in image ≡ damaged found
 found_root_damage image format pages second root found fit has selected reads e =
     found_root image format pages second fit has selected
-    ∙ ap (λ (o : Option Damage). behind_root pages second image o) ((λ i. root_tests format pages (root_at second) (reads.note i) (reads.logical i) (reads.depth i)) ∙ e)
+    ∙ ap (λ (o : Option Damage). after_root pages second image o) ((λ i. root_tests format pages (root_at second) (reads.note i) (reads.logical i) (reads.depth i)) ∙ e)
 
 -- and so does the root page
 pub found_names : (committed : Committed) (image : List ℕ) → IsFit committed → HasHead committed.format committed.pages image → selects image ≡ committed.second → HasRoot committed.second committed.note committed.depth image →
-    found_in image ≡ behind_names committed.pages committed.second image (names_tests committed.pages committed.second committed.depth (logical_of committed) image)
+    found_in image ≡ after_names committed.pages committed.second image (names_tests committed.pages committed.second committed.depth (logical_of committed) image)
 found_names committed image fit head selected root =
     let passes = (λ i. root_tests committed.format committed.pages (root_at committed.second) (root.note_is i) (root.logical i) (root.depth_is i)) ∙ root_passes committed (root_at committed.second) (logical_of committed) fit refl in
     found_root image committed.format committed.pages committed.second fit.head head selected
-    ∙ ap (λ (o : Option Damage). behind_root committed.pages committed.second image o) passes
-    ∙ (λ i. behind_names committed.pages committed.second image (names_tests committed.pages committed.second (root.depth_is i) (root.logical i) image))
+    ∙ ap (λ (o : Option Damage). after_root committed.pages committed.second image o) passes
+    ∙ (λ i. after_names committed.pages committed.second image (names_tests committed.pages committed.second (root.depth_is i) (root.logical i) image))
 
 not_device : (at found wanted : ℕ) {B : Type 0} → Damaged at found wanted ≡ Device → B
 not_device at found wanted e = absurd (subst IsDamaged e tt)

@@ -1,31 +1,32 @@
 -- What each step of a switch leaves.
-use Rattle.std.proofs.Common.{◌≡◌, ◌≢◌, ◌⊎◌, inl, inr, ℕ, ◌+◌, ◌-◌, ◌*◌, ◌/◌, ◌%◌, ◌^◌, ◌<◌, ◌≤◌, min, Bool, List, [], ◌∷◌, ◌++◌, length, length-append, get_or, take, drop, map, refl, sym, ◌∙◌, ap, subst, arith, slice_index}
-use Rattle.std.specs.List.{range_with_len, flat_map}
+use Rattle.std.proofs.Common.{◌≡◌, ◌≢◌, inl, inr, ℕ, ◌+◌, ◌-◌, ◌*◌, ◌/◌, ◌%◌, ◌^◌, ◌<◌, ◌≤◌, true, List, [], ◌∷◌, ◌++◌, length, length-append, get_or, take, drop, refl, sym, ◌∙◌, ap, subst, arith, slice_index}
+use Rattle.std.specs.List.{flat_map}
 use Rattle.byteorder.specs.Endian.{little_bytes}
-use Rattle.std.proofs.lemmas.Bool.{cases_lt, cases_eq}
-use Rattle.std.proofs.lemmas.List.{get_or-take, get_or_past, get_or_default}
+use Rattle.std.proofs.lemmas.Bool.{cases_lt}
+use Rattle.std.proofs.lemmas.List.{get_or-take, get_or_past}
 use Rattle.std.proofs.lemmas.List.FromFn.{length-map-range_with_len, get_or-map-range_with_len}
 use Rattle.ps_port.specs.ps_outside.Outside.{Outside, Leaves, After}
 use Rattle.ps_port.proofs.of_ps_outside.Moments.{along_then, along_weaker, along_now, along_none}
 use Rattle.ps_port.specs.Disk.{Torn, Written, written}
 use Rattle.ps_port.specs.DiskLaws.{written_torn}
 use Rattle.ps_port.proofs.Torn.{written_range}
-use Rattle.page_map.specs.Numbers.{AreNumbers, bytes_of, first_numbers, numbers_from}
+use Rattle.page_map.specs.Pages.{one_names}
+use Rattle.page_map.specs.Numbers.{AreNumbers, bytes_of, numbers_from}
 use Rattle.page_map.proofs.RoundLaws.{read_as_written}
 use Rattle.shadow_volume.specs.Layout.{number_at}
 use Rattle.shadow_volume.proofs.Numbers.{number_within}
 use Rattle.paged_volume.specs.Layout.{capacity_pages, map_pages_of}
-use Rattle.paged_volume.specs.Found.{numbers_of, bytes_named}
-use Rattle.paged_volume.specs.Standing.{IsFit, IsNamedOnce, IsSpare, Says, index_of, maps_of, map_names, place_by, logical_of, map_count, held_in, staged_bytes}
-use Rattle.paged_volume.specs.Switching.{IsNext, StaysMap, MovesMap, IsKept, SameStaged, HasMaps}
+use Rattle.paged_volume.specs.Found.{numbers_of}
+use Rattle.paged_volume.specs.Standing.{IsFit, IsNamedOnce, IsSpare, Says, index_of, maps_of, map_names, place_by, logical_of, map_count, staged_bytes}
+use Rattle.paged_volume.specs.Switching.{IsNext, StaysMap, MovesMap, IsKept, SamePages, HasMaps}
 use Rattle.paged_volume.specs.declared.table.Table.{Table}
 use Rattle.paged_volume.specs.declared.committed.Committed.{Committed}
 use Rattle.paged_volume.proofs.Bounds.{are_low}
 use Rattle.paged_volume.proofs.Numbers.{unnamed_low, names_append}
 use Rattle.paged_volume.proofs.Naming.{first_number}
-use Rattle.paged_volume.proofs.Reading.{map_at, place_in, index_first}
-use Rattle.paged_volume.proofs.Tables.{unnamed_is_not, both_or, names_number, once_apart, once_once}
-use Rattle.paged_volume.proofs.Staying.{IsApart, IsClear, Apart, SaysBut, apart_spare, apart_page, apart_low, not_named, says_but, says_selected, says_stays, held_stays, but_stays, clear_stays, bytes_stay, number_stays, root_page}
+use Rattle.paged_volume.proofs.Reading.{map_at, place_in}
+use Rattle.paged_volume.proofs.Tables.{unnamed_is_not, both_or, once_apart}
+use Rattle.paged_volume.proofs.Staying.{Apart, apart_spare, apart_page, not_named, says_stays, held_stays, bytes_stay, pinned_torn, not_pinned, number_stays}
 
 -- what stands there now
 pub kept_now : (a : Outside (List ℕ)) (table : Table) (image : List ℕ) → a.images a.clock image → Says table image → IsKept a table image
@@ -78,14 +79,22 @@ map_there table next is map_page lt =
     omega arith
 
 -- and they stay where other bytes are written
-pub staged_torn : (table : Table) (next : Committed) (at count : ℕ) (old new : List ℕ) → IsNext table next → 4096 * table.committed.pages ≤ length old → Torn at count old new →
-    ((k : ℕ) → k < logical_of next → Apart (get_or table.map.staged k 0) at count) → SameStaged table old new
+staged_torn : (table : Table) (next : Committed) (at count : ℕ) (old new : List ℕ) → IsNext table next → 4096 * table.committed.pages ≤ length old → Torn at count old new →
+    ((k : ℕ) → k < logical_of next → Apart (get_or table.map.staged k 0) at count) → staged_bytes table new ≡ staged_bytes table old
 unfolding staged_bytes
 staged_torn table next at count old new is long torn apart =
     bytes_stay (λ k. get_or table.map.staged k 0) (capacity_pages table.committed.pages) at count old new torn (λ k lt some. elim (cases_lt k (logical_of next)) [
       | inl below ↦ let there = page_there table next is k below in let high = there.1 in (apart k below, omega arith)
       | inr past ↦ absurd (some (is.bare k past))
     ])
+
+-- and so do those that pins hold
+pub pages_torn : (table : Table) (next : Committed) (at count : ℕ) (old new : List ℕ) → IsNext table next → 4096 * table.committed.pages ≤ length old → Torn at count old new →
+    ((k : ℕ) → k < logical_of next → Apart (get_or table.map.staged k 0) at count) → ((page : ℕ) → 4 ≤ page → one_names table.map.pins page ≡ true → Apart page at count) → SamePages table old new
+pages_torn table next at count old new is long torn apart pins_apart = record {
+  staged = staged_torn table next at count old new is long torn apart;
+  pinned = pinned_torn table at count old new long torn (λ page some pinned. let held = is.pinned page some pinned in let high = held.high in let same = is.pages_are in (held.low, omega arith)) pins_apart;
+}
 
 -- and so do the numbers of map pages
 pub maps_torn : (table : Table) (next : Committed) (count at size : ℕ) (old new : List ℕ) → IsNext table next → count ≤ map_count next → 4096 * table.committed.pages ≤ length old → Torn at size old new →
@@ -156,7 +165,7 @@ staged_few table next is k = elim (cases_lt k (logical_of next)) [
 ]
 
 -- a map page that was written says its numbers
-pub maps_written : (table : Table) (next : Committed) (map_page : ℕ) (page old : List ℕ) → IsNext table next → map_page < map_count next → MovesMap table map_page → 4096 * table.committed.pages ≤ length old →
+pub maps_written : (table : Table) (next : Committed) (map_page : ℕ) (page old : List ℕ) → IsNext table next → map_page < map_count next → MovesMap table next map_page → 4096 * table.committed.pages ≤ length old →
     page ≡ bytes_of (numbers_from table.map.staged (1024 * map_page) 1024) → length page ≡ 4096 → HasMaps table next map_page old → HasMaps table next (map_page + 1) (written (4096 * maps_of table.next.items map_page) page old)
 maps_written table next map_page page old is lt moves long page_is size has k below = elim (cases_lt k (1024 * map_page)) [
   | inl early ↦
@@ -181,7 +190,7 @@ maps_written table next map_page page old is lt moves long page_is size has k be
 pub is_stay : (table : Table) (next : Committed) (map_page : ℕ) → IsNext table next → map_page < map_count next → maps_of table.next.items map_page ≡ maps_of table.named.items map_page → StaysMap table next map_page
 is_stay table next map_page is lt same = elim (is.maps map_page lt) [ inl stays ↦ stays | inr moves ↦ absurd (moves.other same) ]
 
-pub is_move : (table : Table) (next : Committed) (map_page : ℕ) → IsNext table next → map_page < map_count next → maps_of table.next.items map_page ≢ maps_of table.named.items map_page → MovesMap table map_page
+pub is_move : (table : Table) (next : Committed) (map_page : ℕ) → IsNext table next → map_page < map_count next → maps_of table.next.items map_page ≢ maps_of table.named.items map_page → MovesMap table next map_page
 is_move table next map_page is lt other = elim (is.maps map_page lt) [ inl stays ↦ absurd (other stays.same) | inr moves ↦ moves ]
 
 length_made : (numbers : List ℕ) → length (bytes_of numbers) ≡ 4 * length numbers
@@ -219,7 +228,7 @@ few_maps next table map_page lt pages size most =
 
 -- the number of a map page that is written
 pub spare_number : (table : Table) (next : Committed) (map_page x y : ℕ) → IsNext table next → map_page < map_count next → x ≡ get_or table.next.items (1 + map_page) x → y ≡ get_or table.named.items (1 + map_page) y → x ≢ y →
-    (x ≡ maps_of table.next.items map_page) × MovesMap table map_page
+    (x ≡ maps_of table.next.items map_page) × MovesMap table next map_page
 spare_number table next map_page x y is lt x_is y_is differs =
     let low = are_low next is.next_fit in
     let most = low.maps in
@@ -250,20 +259,27 @@ there_write table next map_page x image is lt x_is says =
     omega arith
 
 -- what a map page that was written leaves
-pub map_content : (table : Table) (next : Committed) (map_page x : ℕ) (page old new : List ℕ) → IsNext table next → map_page < map_count next → x ≡ maps_of table.next.items map_page → MovesMap table map_page → Says table old →
-    page ≡ bytes_of (numbers_from table.map.staged (1024 * map_page) 1024) → Written (4096 * x) page old new → (HasMaps table next map_page old → HasMaps table next (map_page + 1) new) × SameStaged table old new
+pub map_content : (table : Table) (next : Committed) (map_page x : ℕ) (page old new : List ℕ) → IsNext table next → map_page < map_count next → x ≡ maps_of table.next.items map_page → MovesMap table next map_page → Says table old →
+    page ≡ bytes_of (numbers_from table.map.staged (1024 * map_page) 1024) → Written (4096 * x) page old new → (HasMaps table next map_page old → HasMaps table next (map_page + 1) new) × SamePages table old new
 map_content table next map_page x page old new is lt x_is moves says page_is by =
     let number = maps_of table.next.items map_page in
     let new_is : new ≡ written (4096 * number) page old = by ∙ ap (λ (n : ℕ). written (4096 * n) page old) x_is in
     let size = length_map_page table.map.staged (1024 * map_page) page page_is in
     let torn : Torn (4096 * number) 4096 old (written (4096 * number) page old) = subst (λ (n : ℕ). Torn (4096 * number) n old (written (4096 * number) page old)) size (written_torn (4096 * number) page old) in (
       λ has. subst (λ (xs : List ℕ). HasMaps table next (map_page + 1) xs) (sym new_is) (maps_written table next map_page page old is lt moves says.head.long page_is size has),
-      subst (λ (xs : List ℕ). SameStaged table old xs) (sym new_is)
-          (staged_torn table next (4096 * number) 4096 old (written (4096 * number) page old) is says.head.long torn (λ k below. apart_page (get_or table.map.staged k 0) number (λ same. (page_apart table next is k below).1 map_page lt (sym same)))),
+      subst (λ (xs : List ℕ). SamePages table old xs) (sym new_is)
+          (pages_torn table next (4096 * number) 4096 old (written (4096 * number) page old) is says.head.long torn (λ k below. apart_page (get_or table.map.staged k 0) number (λ same. (page_apart table next is k below).1 map_page lt (sym same)))
+          (λ other low pinned. apart_page other number (not_pinned table number other moves.spare pinned))),
     )
 
 pub kept_says : (a b : Outside (List ℕ)) (table : Table) → Leaves a b (IsKept a table) → (image : List ℕ) → b.images b.clock image → Says table image
 kept_says a b table first image now = (along_now first image now).says
 
-pub same_then : (a : Outside (List ℕ)) (table : Table) (mid new : List ℕ) → After a.contents (SameStaged table) mid → SameStaged table mid new → After a.contents (SameStaged table) new
-same_then a table mid new first next = record { from = first.from; was = first.was; by = next ∙ first.by }
+pub same_now : (table : Table) (image : List ℕ) → SamePages table image image
+same_now table image = record { staged = refl; pinned = λ pin. refl }
+
+same_twice : (table : Table) (old mid new : List ℕ) → SamePages table old mid → SamePages table mid new → SamePages table old new
+same_twice table old mid new first next = record { staged = next.staged ∙ first.staged; pinned = λ pin. next.pinned pin ∙ first.pinned pin }
+
+pub same_then : (a : Outside (List ℕ)) (table : Table) (mid new : List ℕ) → After a.contents (SamePages table) mid → SamePages table mid new → After a.contents (SamePages table) new
+same_then a table mid new first next = record { from = first.from; was = first.was; by = same_twice table first.from mid new first.by next }

@@ -1,15 +1,13 @@
 -- What attaching says: that it only looks, and why it found no volume.
-use Rattle.std.specs.Prelude.{◌≡◌, ℕ, ◌+◌, ◌≤◌, ◌<◌, Bool, List, Option, Some, None, take, drop, length, slice_index}
+use Rattle.std.specs.Prelude.{◌≡◌, ℕ, ◌+◌, Bool, List, [], Option}
 use Rattle.std.specs.Option.{option_map}
 use Rattle.ps_port.specs.ps_outside.Outside.{Outside, SettlesFrom, After, Rose}
-use Rattle.page_map.specs.Map.{MapView}
-use Rattle.page_map.specs.Pages.{no_pages}
 use Rattle.shadow_volume.specs.Layout.{number_at, root_at}
 use Rattle.shadow_volume.specs.Found.{Held, note_at}
 use Rattle.shadow_volume.specs.Attaching.{Looks}
 use Rattle.shadow_volume.specs.declared.finding.OpenFault.{OpenFault}
 use Rattle.shadow_volume.specs.declared.finding.OpenFault.TheVariants.{Device, NotAVolume, Damaged, Memory}
-use Rattle.paged_volume.specs.Layout.{depth_at, map_pages_of}
+use Rattle.paged_volume.specs.Layout.{depth_at}
 use Rattle.paged_volume.specs.Found.{a_volume, no_volume, damaged, damage, found_in, held_at}
 use Rattle.paged_volume.specs.Standing.{IsAlive, seen, held_in, with_zeros, map_count}
 use Rattle.paged_volume.specs.declared.head.Head.{Head}
@@ -35,13 +33,14 @@ pub record IsRefusal (old new : Outside (List ℕ)) (fault : OpenFault) : Type 0
   pub device : fault ≡ Device → Rose old.device_faults new.device_faults
   pub found : (bytes : List ℕ) → old.contents bytes → IsNoVolume fault bytes
 
--- An attached volume: it is what was found in each content that was output, nothing is staged, and a crash leaves what was looked at, from a
+-- An attached volume: it is what was found in each content that was output, nothing is staged, there are no pins, and a crash leaves what was looked at, from a
 -- moment on before which nothing was output. The map pages were read once, and eight calls more were made at most.
 pub record IsAttached (old new : Outside (List ℕ)) (lives : Bool) (table : Table) : Type 0 where
   pub looks : Looks old new (map_count table.committed + 8)
   pub settles : SettlesFrom old new
   pub found : (bytes : List ℕ) → old.contents bytes → IsFound table.committed bytes
   pub blank : table.map.staged ≡ table.map.committed
+  pub unpinned : table.pins.items ≡ []
   pub holds : (held : Option Held) → (seen table new).contents held →
       After old.contents (λ (bytes : List ℕ) (after : Option Held). option_map (with_zeros table.committed.pages) (held_in bytes) ≡ after) held
   pub alive : IsAlive lives table new

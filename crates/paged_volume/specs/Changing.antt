@@ -1,9 +1,6 @@
 -- Which map pages a commit changes, and the pages that they get.
-use Rattle.std.specs.Prelude.{◌≡◌, ℕ, zero, suc, ◌+◌, ◌*◌, ◌<◌, ◌≤◌, Bool, true, false, not, ◌||◌, ◌==◌, length, slice_index, nat_lt, if◌then◌else◌}
-use Rattle.page_map.specs.Pages.{is_free, held_of}
-use Rattle.page_map.specs.Map.{MapView, list_names}
-use Rattle.paged_volume.specs.Standing.{maps_of}
-use Rattle.paged_volume.specs.declared.table.Table.{Table}
+use Rattle.std.specs.Prelude.{ℕ, zero, suc, ◌+◌, ◌*◌, Bool, false, not, ◌||◌, ◌==◌, slice_index, nat_lt, if◌then◌else◌}
+use Rattle.page_map.specs.Map.{MapView}
 
 -- the number that is committed next for a logical page: the staged one, and none past so many logical pages
 unfoldable pub next_number : MapView → ℕ → ℕ → ℕ

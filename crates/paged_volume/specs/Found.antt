@@ -1,5 +1,5 @@
 -- What is found in an image: a volume, with what stands in it; or why there is none, by the first of the tests that fails.
-use Rattle.std.specs.Prelude.{ℕ, zero, suc, ◌+◌, ◌-◌, ◌*◌, ◌/◌, ◌%◌, Bool, not, ◌&&◌, List, [], ◌∷◌, ◌++◌, length, map, slice_index, nat_eq, nat_lt, Option, Some, None, if◌then◌else◌}
+use Rattle.std.specs.Prelude.{ℕ, zero, suc, ◌+◌, ◌-◌, ◌*◌, ◌/◌, ◌%◌, Bool, not, ◌&&◌, List, [], ◌++◌, length, map, slice_index, nat_eq, nat_lt, Option, Some, None, if◌then◌else◌}
 use Rattle.std.specs.List.{range_with_len}
 use Rattle.std.specs.Option.{option_or}
 use Rattle.page_map.specs.Pages.{is_free, free_where, may_be_free, names}
@@ -73,7 +73,7 @@ unfoldable pub first_damage : (ℕ → Option Damage) → ℕ → Option Damage
 first_damage test zero = None
 first_damage test (suc count) = option_or (first_damage test count) (test count)
 
--- the tests of so many numbers that name pages, behind others
+-- the tests of so many numbers that name pages, after others
 unfoldable pub name_tests : ℕ → List ℕ → (ℕ → ℕ) → (ℕ → ℕ) → ℕ → Option Damage
 name_tests pages before place number count = first_damage (λ i. wants_unnamed pages (before ++ numbers_of number i) (place i) (number i)) count
 
@@ -107,23 +107,23 @@ held_at second image =
     let note = note_at (root_at second) image in
     record { note = note; bytes = bytes_named (page_number second (depth_at second image) image) (pages_of_words note.used) image }
 
-abbrev pub behind_names : ℕ → Bool → List ℕ → Option Damage → Found
-behind_names pages second image (Some damage) = damaged damage
-behind_names pages second image None = a_volume pages second (held_at second image)
+abbrev pub after_names : ℕ → Bool → List ℕ → Option Damage → Found
+after_names pages second image (Some damage) = damaged damage
+after_names pages second image None = a_volume pages second (held_at second image)
 
-abbrev pub behind_root : ℕ → Bool → List ℕ → Option Damage → Found
-behind_root pages second image (Some damage) = damaged damage
-behind_root pages second image None =
-    behind_names pages second image (names_tests pages second (depth_at second image) (number_at (root_at second + 24) 4 image) image)
+abbrev pub after_root : ℕ → Bool → List ℕ → Option Damage → Found
+after_root pages second image (Some damage) = damaged damage
+after_root pages second image None =
+    after_names pages second image (names_tests pages second (depth_at second image) (number_at (root_at second + 24) 4 image) image)
 
-abbrev pub behind_head : List ℕ → Option Damage → Found
-behind_head image (Some damage) = damaged damage
-behind_head image None =
+abbrev pub after_head : List ℕ → Option Damage → Found
+after_head image (Some damage) = damaged damage
+after_head image None =
     let pages = number_at 8 4 image in
-    behind_root pages (selects image) image (root_damage (number_at 7 1 image) pages (selects image) image)
+    after_root pages (selects image) image (root_damage (number_at 7 1 image) pages (selects image) image)
 
 -- the gate of an empty file counts as 0
 unfoldable pub found_in : List ℕ → Found
 found_in image =
     if nat_lt (length image) least_bytes then no_volume (length image) (gate image)
-    else (if nat_eq (gate image) 1 then behind_head image (head_damage image) else no_volume (length image) (gate image))
+    else (if nat_eq (gate image) 1 then after_head image (head_damage image) else no_volume (length image) (gate image))

@@ -1,9 +1,13 @@
 pub mod Layout
 pub mod Found
+pub mod Pinning
 pub mod Standing
 pub mod Attaching
 pub mod Naming
 pub mod Staging
 pub mod Switching
 pub mod Changing
+pub mod Planning
+pub mod Committing
+pub mod Making
 pub use Rattle.shadow_volume.specs as shadow_volume

@@ -1,5 +1,5 @@
 -- How the numbers that name pages are read, one after the other.
-use Rattle.std.specs.Prelude.{◌≡◌, ℕ, ◌+◌, ◌*◌, ◌/◌, ◌<◌, ◌≤◌, ◌^◌, Bool, List, [], ◌++◌, length, slice_index, nat_eq, Option, Some, if◌then◌else◌}
+use Rattle.std.specs.Prelude.{◌≡◌, ℕ, ◌+◌, ◌*◌, ◌<◌, ◌≤◌, ◌^◌, Bool, List, [], ◌++◌, length, slice_index, nat_eq, Option, Some, if◌then◌else◌}
 use Rattle.ps_port.specs.ps_outside.Outside.{Outside, Rose}
 use Rattle.page_map.specs.Pages.{no_pages}
 use Rattle.page_map.specs.Map.{MapView}
@@ -14,7 +14,7 @@ use Rattle.paged_volume.specs.declared.committed.Committed.{Committed}
 use Rattle.paged_volume.specs.declared.table.Table.{Table}
 
 -- Of what is committed so many numbers were read: of the index page, of map pages, and of logical pages. Each names a page that none before it
--- names; those pages are taken, and no others.
+-- names; those pages are taken, and no others. The numbers that weren't read are 0.
 pub record IsNamingOf (committed : Committed) (map : MapView) (named : List ℕ) (depth maps pages : ℕ) : Type 0 where
   pub fit : IsFit committed
   pub commits : committed.note.commits < 2 ^ 64
@@ -25,6 +25,8 @@ pub record IsNamingOf (committed : Committed) (map : MapView) (named : List ℕ)
   pub index_once : AreUnnamed committed.pages [] (index_of named) depth
   pub maps_once : AreUnnamed committed.pages (numbers_of (index_of named) depth) (maps_of named) maps
   pub pages_once : AreUnnamed committed.pages (map_names depth named maps) (slice_index map.staged) pages
+  pub bare_index : depth ≡ 0 → slice_index named 0 ≡ 0
+  pub bare_maps : (map_page : ℕ) → maps ≤ map_page → maps_of named map_page ≡ 0
   pub bare : (page : ℕ) → pages ≤ page → slice_index map.staged page ≡ 0
   pub free : map.free ≡ unnamed committed.pages (map_names depth named maps ++ numbers_of (slice_index map.staged) pages)
 

@@ -1,12 +1,13 @@
 -- What an attached volume knows of its file, and how it is seen from above.
-use Rattle.std.specs.Prelude.{◌≡◌, ◌≢◌, ◌⊎◌, ℕ, suc, ◌+◌, ◌-◌, ◌*◌, ◌/◌, ◌%◌, ◌^◌, ◌<◌, ◌≤◌, Bool, true, false, List, [], ◌++◌, length, take, replicate, slice_index, nat_eq, Option, Some, None, if◌then◌else◌}
+use Rattle.std.specs.Prelude.{◌≡◌, ◌⊎◌, ℕ, ◌+◌, ◌-◌, ◌*◌, ◌/◌, ◌^◌, ◌<◌, ◌≤◌, Bool, true, false, ◌||◌, List, [], ◌++◌, length, replicate, slice_index, Option, Some, None}
 use Rattle.ps_port.specs.ps_outside.Outside.{Outside, After}
-use Rattle.page_map.specs.Pages.{is_free, one_names}
+use Rattle.page_map.specs.Pages.{is_free, names, one_names}
 use Rattle.shadow_volume.specs.Layout.{number_at, magic, gate, selects, root_at, pages_of_words}
 use Rattle.shadow_volume.specs.Found.{Held, note_at}
 use Rattle.shadow_volume.specs.declared.note.Note.{Note}
 use Rattle.paged_volume.specs.Layout.{most_pages_of, least_indexed, capacity_pages, capacity_of, map_pages_of, depth_at, maps_at, in_map_page, index_number}
 use Rattle.paged_volume.specs.Found.{Found, a_volume, no_volume, damaged, found_in, numbers_of, unnamed, bytes_named}
+use Rattle.paged_volume.specs.Pinning.{pin_of, pinned_list, IsPin}
 use Rattle.paged_volume.specs.declared.committed.Committed.{Committed}
 use Rattle.paged_volume.specs.declared.table.Table.{Table}
 
@@ -56,7 +57,7 @@ maps_of named map_page = slice_index named (1 + map_page)
 unfoldable pub place_by : List ℕ → ℕ → ℕ
 place_by named page = in_map_page (maps_of named (page / 1024)) page
 
--- each of so many numbers, behind others, names a page that none before it names
+-- each of so many numbers, after others, names a page that none before it names
 abbrev pub AreUnnamed : ℕ → List ℕ → (ℕ → ℕ) → ℕ → Type 0
 AreUnnamed pages before number count = (i : ℕ) → i < count → is_free (unnamed pages (before ++ numbers_of number i)) (number i) ≡ true
 
@@ -87,8 +88,23 @@ pub record IsSpare (table : Table) (page : ℕ) : Type 0 where
   pub unnamed_is : is_free (unnamed table.committed.pages (numbers_of_table table)) page ≡ true
   pub unpinned : one_names table.map.pins page ≡ false
 
+-- A page that a pin holds: one from 4 on that there is, and none that names others.
+pub record IsPinned (committed : Committed) (named : List ℕ) (page : ℕ) : Type 0 where
+  pub low : 4 ≤ page
+  pub high : page < committed.pages
+  pub unmapped : names (map_names committed.depth named (map_count committed)) page ≡ false
+
+-- the numbers past those of the index page and of the map pages are 0
+pub record IsBare (committed : Committed) (named : List ℕ) : Type 0 where
+  pub index : committed.depth ≡ 0 → slice_index named 0 ≡ 0
+  pub maps : (map_page : ℕ) → map_count committed ≤ map_page → maps_of named map_page ≡ 0
+
+-- whether a page is one of those that are committed, staged or pinned
+abbrev pub uses : Table → ℕ → Bool
+uses table page = names (numbers_of_table table) page || (names table.map.staged page || one_names table.map.pins page)
+
 -- A table is in order: its lists are as long as its volume needs, what is committed is named once, a logical page is staged where it is
--- committed or in a page of its own that may be written, and the pages that are named aren't free.
+-- committed or in a page of its own that may be written, and exactly those pages from 4 on are free that aren't committed, staged or pinned.
 pub record IsTable (table : Table) : Type 0 where
   pub fit : IsFit table.committed
   pub commits : table.committed.note.commits < 2 ^ 64
@@ -96,8 +112,14 @@ pub record IsTable (table : Table) : Type 0 where
   pub lists : length table.map.staged ≡ length table.map.committed
   pub pages : length table.map.free ≡ table.committed.pages
   pub names : length table.named.items ≡ 1 + map_pages_of (capacity_pages table.committed.pages)
+  pub nexts : length table.next.items ≡ length table.named.items
   pub once : IsNamedOnce table
+  pub bare : IsBare table.committed table.named.items
   pub held : (page : ℕ) → is_free table.map.free page ≡ true → IsSpare table page
+  pub used : (page : ℕ) → 4 ≤ page → page < table.committed.pages → is_free table.map.free page ≡ false → uses table page ≡ true
+  pub pinned : (page : ℕ) → 1 ≤ page → one_names table.map.pins page ≡ true → IsPinned table.committed table.named.items page
+  pub pin_count : length table.pins.items ≡ length table.map.pins
+  pub pins : (pin : ℕ) → pin < length table.map.pins → IsPin table (pinned_list table pin) (pin_of table pin)
   pub apart : (one other : ℕ) → one < length table.map.staged → other < length table.map.staged → slice_index table.map.staged one ≡ slice_index table.map.staged other →
       1 ≤ slice_index table.map.staged one → one ≡ other
   pub staged : (page : ℕ) → (slice_index table.map.staged page ≡ slice_index table.map.committed page) ⊎ IsSpare table (slice_index table.map.staged page)

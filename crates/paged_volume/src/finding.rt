@@ -1,6 +1,6 @@
 //! The tests of a volume's file, and the table of what is committed in it.
 
-ghost use Rattle.std.specs.Prelude.{◌≡◌, ℕ, ◌+◌, ◌^◌, ◌<◌, List, IfErr, IfOk};
+ghost use Rattle.std.specs.Prelude.{◌≡◌, ℕ, ◌+◌, ◌^◌, ◌<◌, List, [], length, IfErr, IfOk};
 ghost use Rattle.ps_port.specs.ps_outside.Outside.{SettlesFrom};
 ghost use Rattle.shadow_volume.specs.Attaching.{Looks};
 ghost use Rattle.paged_volume.specs.Standing.{IsFit, IsTable, Says, map_count};
@@ -24,6 +24,8 @@ fn new_table(alloc: Global, committed: Committed) -> Result<Table, AllocError>
     requires commits { committed.note.commits < 2 ^ 64 }
     ensures committed { IfOk result (λ table. table.committed ≡ committed) }
     ensures naming { IfOk result (λ table. IsNaming table 0 0 0) }
+    ensures next { IfOk result (λ table. length table.next.items ≡ length table.named.items) }
+    ensures pins { IfOk result (λ table. table.pins.items ≡ []) }
 {
     let logical = capacity_pages(committed.pages);
     let map = PageMap::new(alloc, logical, committed.pages)?;
@@ -35,6 +37,7 @@ fn new_table(alloc: Global, committed: Committed) -> Result<Table, AllocError>
         map,
         named,
         next,
+        pins: Vec::new(alloc),
     })
 }
 
@@ -42,6 +45,7 @@ fn new_table(alloc: Global, committed: Committed) -> Result<Table, AllocError>
 fn look<H: Host>(alloc: Global, host: &mut H) -> Result<Table, OpenFault>
     ensures table { IfOk result IsTable }
     ensures blank { IfOk result (λ table. table.map.staged ≡ table.map.committed) }
+    ensures pins { IfOk result (λ table. table.pins.items ≡ []) }
     ensures says { IfOk result (λ table. (bytes : List ℕ) → (H.outside host.old).contents bytes → Says table bytes) }
     ensures looks { IfOk result (λ table. Looks (H.outside host.old) (H.outside host.new) (map_count table.committed + 7)) }
     ensures looked { IfErr result (λ _. Looks (H.outside host.old) (H.outside host.new) 495) }
@@ -72,6 +76,7 @@ fn look<H: Host>(alloc: Global, host: &mut H) -> Result<Table, OpenFault>
 pub fn find<H: Host>(alloc: Global, host: &mut H) -> Result<Table, OpenFault>
     ensures table { IfOk result IsTable }
     ensures blank { IfOk result (λ table. table.map.staged ≡ table.map.committed) }
+    ensures pins { IfOk result (λ table. table.pins.items ≡ []) }
     ensures says { IfOk result (λ table. (bytes : List ℕ) → (H.outside host.old).contents bytes → Says table bytes) }
     ensures settles { IfOk result (λ _. SettlesFrom (H.outside host.old) (H.outside host.new)) }
     ensures looks { IfOk result (λ table. Looks (H.outside host.old) (H.outside host.new) (map_count table.committed + 8)) }

@@ -71,6 +71,8 @@ fn take_index<H: Host>(host: &mut H, table: &mut Table, page: &mut [u8]) -> Resu
     requires size { length page.old ≡ 4096 }
     ensures naming { OnOk result (IsNaming table.new table.old.committed.depth 0 0) }
     ensures committed { table.new.committed ≡ table.old.committed }
+    ensures next { table.new.next.items ≡ table.old.next.items }
+    ensures pins { table.new.pins.items ≡ table.old.pins.items }
     ensures index { OnOk result ((bytes : List ℕ) → (H.outside host.old).contents bytes → (i : ℕ) → i < table.old.committed.depth →
         index_number table.old.committed.second bytes ≡ index_of table.new.named.items i) }
     ensures page { OnOk result ((bytes : List ℕ) → (H.outside host.old).contents bytes →
@@ -123,6 +125,8 @@ fn take_map(table: &mut Table, page: &[u8], map_page: u32) -> Result<(), Damage>
     requires size { length page.now ≡ 4096 }
     ensures naming { OnOk result (IsNaming table.new table.old.committed.depth (map_page + 1) 0) }
     ensures committed { table.new.committed ≡ table.old.committed }
+    ensures next { table.new.next.items ≡ table.old.next.items }
+    ensures pins { table.new.pins.items ≡ table.old.pins.items }
     ensures named { OnOk result (table.new.named.items ≡ slice_set table.old.named.items (1 + map_page) (number_at (skipped table.old.committed.depth + 4 * map_page) 4 page.now)) }
     ensures free { OnOk result (is_free table.old.map.free (number_at (skipped table.old.committed.depth + 4 * map_page) 4 page.now) ≡ true) }
     ensures err { IfErr result (λ d. (is_free table.old.map.free (number_at (skipped table.old.committed.depth + 4 * map_page) 4 page.now) ≡ false)
@@ -146,6 +150,8 @@ fn take_maps(table: &mut Table, page: &[u8]) -> Result<(), Damage>
     requires size { length page.now ≡ 4096 }
     ensures naming { OnOk result (IsNaming table.new table.old.committed.depth (map_count table.old.committed) 0) }
     ensures committed { table.new.committed ≡ table.old.committed }
+    ensures next { table.new.next.items ≡ table.old.next.items }
+    ensures pins { table.new.pins.items ≡ table.old.pins.items }
     ensures first { OnOk result (slice_index table.new.named.items 0 ≡ slice_index table.old.named.items 0) }
     ensures maps { OnOk result ((map_page : ℕ) → map_page < map_count table.old.committed →
         number_at (skipped table.old.committed.depth + 4 * map_page) 4 page.now ≡ maps_of table.new.named.items map_page) }
@@ -178,6 +184,8 @@ fn read_map<H: Host>(host: &mut H, table: &mut Table, map_page: u32) -> Result<(
     requires long { (bytes : List ℕ) → (H.outside host.old).contents bytes → 4096 * table.old.committed.pages ≤ length bytes }
     ensures naming { OnOk result (IsNaming table.new table.old.committed.depth (map_count table.old.committed) (min (logical_of table.old.committed) (1024 * (map_page + 1)))) }
     ensures committed { table.new.committed ≡ table.old.committed }
+    ensures next { table.new.next.items ≡ table.old.next.items }
+    ensures pins { table.new.pins.items ≡ table.old.pins.items }
     ensures named { table.new.named.items ≡ table.old.named.items }
     ensures stays { (page : ℕ) → page < 1024 * map_page → slice_index table.new.map.staged page ≡ slice_index table.old.map.staged page }
     ensures pages { OnOk result ((bytes : List ℕ) → (H.outside host.old).contents bytes → (page : ℕ) → 1024 * map_page ≤ page → page < min (logical_of table.old.committed) (1024 * (map_page + 1)) →
@@ -213,6 +221,8 @@ fn read_maps<H: Host>(host: &mut H, table: &mut Table) -> Result<(), OpenFault>
     requires long { (bytes : List ℕ) → (H.outside host.old).contents bytes → 4096 * table.old.committed.pages ≤ length bytes }
     ensures naming { OnOk result (IsNaming table.new table.old.committed.depth (map_count table.old.committed) (logical_of table.old.committed)) }
     ensures committed { table.new.committed ≡ table.old.committed }
+    ensures next { table.new.next.items ≡ table.old.next.items }
+    ensures pins { table.new.pins.items ≡ table.old.pins.items }
     ensures named { table.new.named.items ≡ table.old.named.items }
     ensures pages { OnOk result ((bytes : List ℕ) → (H.outside host.old).contents bytes → (page : ℕ) → page < logical_of table.old.committed →
         number_at (place_by table.old.named.items page) 4 bytes ≡ slice_index table.new.map.staged page) }
@@ -240,6 +250,8 @@ pub fn read_names<H: Host>(
     requires size { length page.old ≡ 4096 }
     ensures naming { OnOk result (IsNaming table.new table.old.committed.depth (map_count table.old.committed) (logical_of table.old.committed)) }
     ensures committed { table.new.committed ≡ table.old.committed }
+    ensures next { table.new.next.items ≡ table.old.next.items }
+    ensures pins { table.new.pins.items ≡ table.old.pins.items }
     ensures names { OnOk result ((bytes : List ℕ) → (H.outside host.old).contents bytes → HasNames table.old.committed table.new.named.items table.new.map.staged bytes) }
     ensures looks { Looks (H.outside host.old) (H.outside host.new) (map_count table.old.committed + 1) }
     ensures cause { IfErr result (FailsBy (H.outside host.old) (H.outside host.new)

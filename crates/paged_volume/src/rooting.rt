@@ -3,7 +3,8 @@
 ghost use Rattle.std.specs.Prelude.{◌≡◌, ℕ, ◌+◌, ◌*◌, ◌<◌, ◌≤◌, not, List, OnOk, if◌then◌else◌};
 ghost use Rattle.ps_port.specs.ps_outside.Outside.{Leaves};
 ghost use Rattle.shadow_volume.specs.Switching.{Works, StaysHeld};
-ghost use Rattle.paged_volume.specs.Standing.{Says, map_count};
+ghost use Rattle.paged_volume.specs.Standing.{Says};
+ghost use Rattle.paged_volume.specs.Planning.{wanted_pages};
 ghost use Rattle.paged_volume.specs.Switching.{IsNext, IsKept, IsRooted, IsSwitched, IsEither, first_name};
 
 use crate::committed::Committed;
@@ -33,7 +34,7 @@ fn write_root<H: Host>(host: &mut H, table: &Table, next: Committed) -> Result<(
     ensures images { Leaves (H.outside host.old) (H.outside host.new) (IsKept (H.outside host.old) table.now) }
     ensures rooted { OnOk result ((image : List ℕ) → (H.outside host.new).images (H.outside host.new).clock image → IsRooted (H.outside host.old) table.now next image) }
     ensures works { Works (H.outside host.old) (H.outside host.new) result }
-    ensures calls { (H.outside host.new).device_calls ≤ (H.outside host.old).device_calls + (map_count next + 4) }
+    ensures calls { (H.outside host.new).device_calls ≤ (H.outside host.old).device_calls + (wanted_pages table.now.map next + 3) }
     ensures stays { OnOk result (StaysHeld (H.outside host.old) (H.outside host.new)) }
 {
     let first = first_name(table, next);
@@ -61,7 +62,7 @@ pub fn switch_to<H: Host>(host: &mut H, table: &Table, next: Committed) -> Resul
     ensures images { Leaves (H.outside host.old) (H.outside host.new) (IsEither (H.outside host.old) table.now next) }
     ensures switched { OnOk result ((image : List ℕ) → (H.outside host.new).images (H.outside host.new).clock image → IsSwitched (H.outside host.old) table.now next image) }
     ensures works { Works (H.outside host.old) (H.outside host.new) result }
-    ensures calls { (H.outside host.new).device_calls ≤ (H.outside host.old).device_calls + (map_count next + 6) }
+    ensures calls { (H.outside host.new).device_calls ≤ (H.outside host.old).device_calls + (wanted_pages table.now.map next + 5) }
     ensures stays { OnOk result (StaysHeld (H.outside host.old) (H.outside host.new)) }
 {
     match write_root(host, table, next) {

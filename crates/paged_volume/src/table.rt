@@ -1,7 +1,9 @@
 use crate::committed::Committed;
+use crate::pinned::Pinned;
 use page_map::PageMap;
 
-/// What is known of a volume's pages: what is committed, which page each logical page stands in, and the pages that say so.
+/// What is known of a volume's pages: what is committed, which page each logical page stands in, the pages that say so, and what pins
+/// hold.
 #[derive(Drop)]
 pub struct Table {
     pub committed: Committed,
@@ -11,4 +13,6 @@ pub struct Table {
     pub named: Vec<u32>,
     /// The same of what is committed next, while it is written.
     pub next: Vec<u32>,
+    /// What each pin holds besides its list in the map, if it holds anything.
+    pub pins: Vec<Option<Pinned>>,
 }

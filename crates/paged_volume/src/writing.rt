@@ -1,12 +1,14 @@
 //! The pages that a switch writes, before the root page: the map pages whose numbers changed, and the index page.
 
-ghost use Rattle.std.specs.Prelude.{◌≡◌, ℕ, ◌+◌, ◌*◌, ◌<◌, ◌≤◌, List, length, OnOk};
+ghost use Rattle.std.specs.Prelude.{◌≡◌, ℕ, ◌+◌, ◌*◌, ◌<◌, ◌≤◌, List, length, OnOk, if◌then◌else◌};
 ghost use Rattle.ps_port.specs.ps_outside.Outside.{After, Leaves};
 ghost use Rattle.ps_port.specs.Disk.{Torn, Written, written};
 ghost use Rattle.ps_port.specs.ps_outside.Outside.{IsDeviceCall};
 ghost use Rattle.shadow_volume.specs.Switching.{Works, StaysHeld};
-ghost use Rattle.paged_volume.specs.Standing.{Says, map_count};
-ghost use Rattle.paged_volume.specs.Switching.{IsNext, IsKept, SameStaged, HasMaps, HasIndex, IsReady};
+ghost use Rattle.paged_volume.specs.Standing.{Says, logical_of, map_count};
+ghost use Rattle.paged_volume.specs.Changing.{is_changed, changed_pages};
+ghost use Rattle.paged_volume.specs.Planning.{wanted_pages};
+ghost use Rattle.paged_volume.specs.Switching.{IsNext, IsKept, SamePages, HasMaps, HasIndex, IsReady};
 
 use crate::committed::Committed;
 use crate::layout::{PAGE_BYTES, page_at};
@@ -41,9 +43,9 @@ fn write_map<H: Host>(
     requires maps { (bytes : List ℕ) → (H.outside host.old).contents bytes → HasMaps table.now next map_page bytes }
     ensures images { Leaves (H.outside host.old) (H.outside host.new) (IsKept (H.outside host.old) table.now) }
     ensures maps { OnOk result ((bytes : List ℕ) → (H.outside host.new).contents bytes → HasMaps table.now next (map_page + 1) bytes) }
-    ensures staged { OnOk result ((bytes : List ℕ) → (H.outside host.new).contents bytes → After (H.outside host.old).contents (SameStaged table.now) bytes) }
+    ensures staged { OnOk result ((bytes : List ℕ) → (H.outside host.new).contents bytes → After (H.outside host.old).contents (SamePages table.now) bytes) }
     ensures works { Works (H.outside host.old) (H.outside host.new) result }
-    ensures calls { (H.outside host.new).device_calls ≤ (H.outside host.old).device_calls + 1 }
+    ensures calls { (H.outside host.new).device_calls ≤ (H.outside host.old).device_calls + (if is_changed table.now.map (logical_of next) map_page then 1 else 0) }
     ensures stays { OnOk result (StaysHeld (H.outside host.old) (H.outside host.new)) }
 {
     let number = table.next[1 + map_page as usize];
@@ -61,9 +63,9 @@ fn write_maps<H: Host>(host: &mut H, table: &Table, next: Committed) -> Result<(
     requires says { (image : List ℕ) → (H.outside host.old).images (H.outside host.old).clock image → Says table.now image }
     ensures images { Leaves (H.outside host.old) (H.outside host.new) (IsKept (H.outside host.old) table.now) }
     ensures maps { OnOk result ((bytes : List ℕ) → (H.outside host.new).contents bytes → HasMaps table.now next (map_count next) bytes) }
-    ensures staged { OnOk result ((bytes : List ℕ) → (H.outside host.new).contents bytes → After (H.outside host.old).contents (SameStaged table.now) bytes) }
+    ensures staged { OnOk result ((bytes : List ℕ) → (H.outside host.new).contents bytes → After (H.outside host.old).contents (SamePages table.now) bytes) }
     ensures works { Works (H.outside host.old) (H.outside host.new) result }
-    ensures calls { (H.outside host.new).device_calls ≤ (H.outside host.old).device_calls + map_count next }
+    ensures calls { (H.outside host.new).device_calls ≤ (H.outside host.old).device_calls + changed_pages table.now.map (logical_of next) (map_count next) }
     ensures stays { OnOk result (StaysHeld (H.outside host.old) (H.outside host.new)) }
 {
     for map_page in 0..map_count(next) {
@@ -82,9 +84,9 @@ fn write_index<H: Host>(host: &mut H, table: &Table, next: Committed) -> Result<
     requires maps { (bytes : List ℕ) → (H.outside host.old).contents bytes → HasMaps table.now next (map_count next) bytes }
     ensures images { Leaves (H.outside host.old) (H.outside host.new) (IsKept (H.outside host.old) table.now) }
     ensures named { OnOk result ((bytes : List ℕ) → (H.outside host.new).contents bytes → HasMaps table.now next (map_count next) bytes × HasIndex table.now next bytes) }
-    ensures staged { OnOk result ((bytes : List ℕ) → (H.outside host.new).contents bytes → After (H.outside host.old).contents (SameStaged table.now) bytes) }
+    ensures staged { OnOk result ((bytes : List ℕ) → (H.outside host.new).contents bytes → After (H.outside host.old).contents (SamePages table.now) bytes) }
     ensures works { Works (H.outside host.old) (H.outside host.new) result }
-    ensures calls { (H.outside host.new).device_calls ≤ (H.outside host.old).device_calls + 1 }
+    ensures calls { (H.outside host.new).device_calls ≤ (H.outside host.old).device_calls + next.depth }
     ensures stays { OnOk result (StaysHeld (H.outside host.old) (H.outside host.new)) }
 {
     if next.depth == 0 {
@@ -103,7 +105,7 @@ fn write_names<H: Host>(host: &mut H, table: &Table, next: Committed) -> Result<
     ensures images { Leaves (H.outside host.old) (H.outside host.new) (IsKept (H.outside host.old) table.now) }
     ensures ready { OnOk result ((bytes : List ℕ) → (H.outside host.new).contents bytes → IsReady (H.outside host.old) table.now next bytes) }
     ensures works { Works (H.outside host.old) (H.outside host.new) result }
-    ensures calls { (H.outside host.new).device_calls ≤ (H.outside host.old).device_calls + (map_count next + 1) }
+    ensures calls { (H.outside host.new).device_calls ≤ (H.outside host.old).device_calls + wanted_pages table.now.map next }
     ensures stays { OnOk result (StaysHeld (H.outside host.old) (H.outside host.new)) }
 {
     match write_maps(host, table, next) {
@@ -120,7 +122,7 @@ pub fn prepare<H: Host>(host: &mut H, table: &Table, next: Committed) -> Result<
     ensures images { Leaves (H.outside host.old) (H.outside host.new) (IsKept (H.outside host.old) table.now) }
     ensures ready { OnOk result ((image : List ℕ) → (H.outside host.new).images (H.outside host.new).clock image → IsReady (H.outside host.old) table.now next image) }
     ensures works { Works (H.outside host.old) (H.outside host.new) result }
-    ensures calls { (H.outside host.new).device_calls ≤ (H.outside host.old).device_calls + (map_count next + 2) }
+    ensures calls { (H.outside host.new).device_calls ≤ (H.outside host.old).device_calls + (wanted_pages table.now.map next + 1) }
     ensures stays { OnOk result (StaysHeld (H.outside host.old) (H.outside host.new)) }
 {
     match write_names(host, table, next) {

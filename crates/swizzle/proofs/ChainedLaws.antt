@@ -10,7 +10,7 @@ use Rattle.pid_map.proofs.EmptyLaws.{empty_belongs, empty_has_none}
 use Rattle.swizzle.specs.Objects.{Object, size_of, size_of_all, find_from, replace_from}
 use Rattle.swizzle.specs.Heap.{local_from, nothing}
 use Rattle.swizzle.specs.Mapped.{pid_at, link_at, IsLinked, AreChained}
-use Rattle.swizzle.specs.Kept.{Beside, IsMapped, with_places}
+use Rattle.swizzle.specs.Kept.{Beside, IsMapped, with_room}
 use Rattle.swizzle.proofs.HeapLaws.{find-replaced, find-replaced_other, find-append, find-append_cases, find-new, local-is}
 
 -- what stands at an object that is found
@@ -103,9 +103,9 @@ chained-replaced os heads at o new c is long pid link =
       only = λ x i. let le = c.only x (record { bucket = i.bucket; below = i.below; is = i.is }) in let same = pids x in omega (arith, le, same);
     }
 
-pub mapped-replaced : (os : List Object) (size : ℕ) (b : Beside) (places at : ℕ) (o new : Object) → IsMapped os size b → find_from 1 os at ≡ Some o → size_of new ≡ size_of o → new.header.pid ≡ o.header.pid → new.header.chain ≡ o.header.chain
-    → IsMapped (replace_from 1 os at new) size (with_places b places)
-mapped-replaced os size b places at o new m is long pid link =
+pub mapped-replaced : (os : List Object) (size : ℕ) (b : Beside) (places stops at : ℕ) (o new : Object) → IsMapped os size b → find_from 1 os at ≡ Some o → size_of new ≡ size_of o → new.header.pid ≡ o.header.pid → new.header.chain ≡ o.header.chain
+    → IsMapped (replace_from 1 os at new) size (with_room b places stops)
+mapped-replaced os size b places stops at o new m is long pid link =
     record { some = m.some; chained = chained-replaced os b.heads at o new m.chained is long pid link; for_fetch = m.for_fetch }
 
 -- an object that comes changes no other one

@@ -1,5 +1,5 @@
 -- Words of a vault, and the object that they become in the area.
-use Rattle.std.proofs.Common.{Bool, false, inl, inr, ◌⊎◌, ◌↔◌, ◌≡◌, ℕ, zero, suc, ◌+◌, ◌-◌, ◌<◌, ◌≤◌, ◌^◌, ◌%◌, ◌==◌, List, [], ◌∷◌, ◌++◌, length, map, take, drop, slice_index, get_or, refl, sym, ap, ◌∙◌, subst, arith, Option, Some, None, unwrap_or, length-drop}
+use Rattle.std.proofs.Common.{Bool, false, inl, inr, ◌⊎◌, ◌↔◌, ◌≡◌, ℕ, zero, suc, ◌+◌, ◌-◌, ◌<◌, ◌≤◌, ◌^◌, ◌/◌, ◌%◌, ◌==◌, List, [], ◌∷◌, ◌++◌, length, map, take, drop, slice_index, get_or, refl, sym, ap, ◌∙◌, subst, arith, Option, Some, None, unwrap_or, length-drop}
 use Rattle.std.proofs.lemmas.List.{take-append-drop, length-take-le, length-map, get_or-take, get_or-drop, drop-drop, take_all}
 use Rattle.std.proofs.lemmas.Grind.{common_steps}
 use Rattle.obj_area.specs.Words.{AreWords}
@@ -9,7 +9,7 @@ use Rattle.obj_layout.specs.declared.reference.Reference.TheVariants.{Nil, Pid, 
 use Rattle.obj_layout.specs.Header.{HasFitFields, header_words, object_length}
 use Rattle.obj_layout.specs.Reference.{IsReference, reference_word, reference_in}
 use Rattle.swizzle.specs.Objects.{Object, size_of, object_words, AreReferences, IsFit, header_in, reference_at, object_in}
-use Rattle.swizzle.specs.Heap.{Heap, IsHeap, IsInside, IsHeld, object_at, header_at, top_of, local_of, nothing, with_new, is_assigned}
+use Rattle.swizzle.specs.Heap.{Heap, IsHeap, IsInside, IsHeld, object_at, header_at, top_of, local_of, nothing, with_new, is_assigned, is_reached}
 use Rattle.swizzle.specs.Joint.{shown, shown_words, far_of, name_of, name_by, Joint}
 use Rattle.swizzle.specs.Changes.{Touched}
 use Rattle.swizzle.specs.Touch.{Keeps}
@@ -218,3 +218,10 @@ assigned_by h = h.flags % 2 == 1
 pub near-plain : (pid link : ℕ) (words : List ℕ) (header : Header) → Near words header pid link → is_assigned (near pid link words) ≡ false
 unfolding assigned_by
 near-plain pid link words header n = ap assigned_by n.header_is
+
+reached_by : Header → Bool
+reached_by h = h.flags / 2 % 2 == 1
+
+pub near-bare : (pid link : ℕ) (words : List ℕ) (header : Header) → Near words header pid link → is_reached (near pid link words) ≡ false
+unfolding reached_by
+near-bare pid link words header n = ap reached_by n.header_is

@@ -3,7 +3,7 @@ use Rattle.std.proofs.Common.{inl, inr, ◌⊎◌, ◌≡◌, ◌≢◌, ℕ, �
 use Rattle.std.proofs.lemmas.Bool.{cases_eq}
 use Rattle.obj_layout.specs.declared.reference.Reference.TheVariants.{Nil}
 use Rattle.swizzle.specs.Objects.{Object, size_of, IsFit, AreFit, size_of_all, find_from, replace_from}
-use Rattle.swizzle.specs.Heap.{Heap, IsHeap, IsHeld, found, top_of, local_from, local_of, with_new, AreNoted, IsInside, with_object}
+use Rattle.swizzle.specs.Heap.{Heap, IsHeap, IsHeld, found, top_of, local_from, local_of, with_new, AreNoted, is_assigned, is_reached, IsInside, with_object}
 use Rattle.swizzle.proofs.ObjectLaws.{here, elsewhere, split, fit_replaced, AreFit-append, size_of_all-append}
 
 -- One object in the place of another.
@@ -81,8 +81,8 @@ held-replaced heap at o new j e long held =
     ]
 
 -- the heap stays one
-pub IsHeap-replaced : (heap : Heap) (at : ℕ) (o new : Object) (assigned : List ℕ) → IsHeap heap → found heap at ≡ Some o → IsFit new → size_of new ≡ size_of o → new.header.pid ≡ o.header.pid → AreNoted (replace_from 1 heap.objects at new) assigned → IsInside heap new → IsHeap (record { objects = replace_from 1 heap.objects at new; size = heap.size; assigned = assigned })
-IsHeap-replaced heap at o new assigned h e fit long same_pid noted refs = record {
+pub IsHeap-replaced : (heap : Heap) (at : ℕ) (o new : Object) (assigned reached : List ℕ) → IsHeap heap → found heap at ≡ Some o → IsFit new → size_of new ≡ size_of o → new.header.pid ≡ o.header.pid → AreNoted is_assigned (replace_from 1 heap.objects at new) assigned → AreNoted is_reached (replace_from 1 heap.objects at new) reached → IsInside heap new → IsHeap (record { objects = replace_from 1 heap.objects at new; size = heap.size; assigned = assigned; reached = reached })
+IsHeap-replaced heap at o new assigned reached h e fit long same_pid noted walked refs = record {
   inside = λ j p is slot to r.
       elim (cases_eq j at) [
         | inl there ↦
@@ -111,6 +111,7 @@ IsHeap-replaced heap at o new assigned h e fit long same_pid noted refs = record
             same ∙ h.one j p (sym (find-replaced_other 1 heap.objects at j o new e long apart) ∙ is) some
       ];
   noted = noted;
+  walked = walked;
 }
 
 pub room-objects : (os : List Object) → AreFit os → 5 * length os ≤ size_of_all os
@@ -182,8 +183,8 @@ local-append_other at (p ∷ os) new pid ne =
 pub held-new : (heap : Heap) (new : Object) (at : ℕ) → IsHeld heap at → IsHeld (with_new heap new) at
 held-new heap new at held = record { object = held.object; is = find-append 1 heap.objects new at held.object held.is }
 
-pub IsHeap-new : (heap : Heap) (new : Object) → IsHeap heap → IsFit new → top_of heap + size_of new ≤ heap.size → AreNoted (heap.objects ++ new ∷ []) heap.assigned → (1 ≤ new.header.pid → local_of heap new.header.pid ≡ None) → IsInside heap new → IsHeap (with_new heap new)
-IsHeap-new heap new h fit room noted apart refs = record {
+pub IsHeap-new : (heap : Heap) (new : Object) → IsHeap heap → IsFit new → top_of heap + size_of new ≤ heap.size → AreNoted is_assigned (heap.objects ++ new ∷ []) heap.assigned → AreNoted is_reached (heap.objects ++ new ∷ []) heap.reached → (1 ≤ new.header.pid → local_of heap new.header.pid ≡ None) → IsInside heap new → IsHeap (with_new heap new)
+IsHeap-new heap new h fit room noted walked apart refs = record {
   inside = λ j p is slot to r.
       elim (find-append_cases 1 heap.objects new j p is) [
         | inl was ↦ held-new heap new to (h.inside j p was slot to r)
@@ -204,6 +205,7 @@ IsHeap-new heap new h fit room noted apart refs = record {
             ∙ ap (λ (n : ℕ). Some n) (sym it.0)
       ];
   noted = noted;
+  walked = walked;
 }
 
 -- Where the object of a PID is.

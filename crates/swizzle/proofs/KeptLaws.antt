@@ -12,18 +12,22 @@ use Rattle.obj_layout.specs.Header.{HasFitLengths, header_words, object_length}
 use Rattle.obj_layout.specs.declared.header.Header.{Header}
 use Rattle.obj_area.specs.Area.{AreaView, IsGivenOut, with_word, fresh_area}
 use Rattle.swizzle.specs.Objects.{Object, HasRoomForBytes, size_of, object_words, IsFit, AreReferences, AreFit, words_of_all, size_of_all, objects_of, replace_from}
-use Rattle.swizzle.specs.Heap.{Heap, IsHeap, IsHeld, AreNoted, found, object_at, local_of, nothing, with_object, with_new, top_of, IsInside, is_assigned, flagged, unflagged, reference_to, blank, fresh_heap}
+use Rattle.swizzle.specs.Heap.{Heap, IsHeap, IsHeld, AreNoted, found, object_at, local_of, nothing, with_object, with_new, top_of, IsInside, is_assigned, is_reached, flagged, unflagged, reach_flagged, reach_unflagged, reference_to, blank, fresh_heap}
 use Rattle.swizzle.specs.Mapped.{heap_from}
-use Rattle.swizzle.specs.Kept.{Beside, IsKept, IsMapped, with_places}
-use Rattle.swizzle.specs.View.{heap_of, beside_of, IsKeptIn}
+use Rattle.swizzle.specs.Kept.{Beside, IsKept, IsMapped, Noted, with_room}
+use Rattle.swizzle.specs.View.{heap_of, beside_of, noted_of, IsKeptIn}
 use Rattle.swizzle.specs.declared.swizzle.Swizzle.TheInside.{Inside}
 use Rattle.swizzle.proofs.HeapLaws.{IsHeap-replaced, IsHeap-new, room-objects}
 use Rattle.swizzle.proofs.ChainedLaws.{mapped-replaced, mapped-none}
-use Rattle.swizzle.proofs.NotedLaws.{noted-replaced, noted-new, noted-none, flag_is_not, marked-lt}
+use Rattle.swizzle.proofs.NotedLaws.{both-replaced, noted-new, noted-none, flag_is_not, reach_is_not, marked-lt}
 use Rattle.swizzle.proofs.ObjectLaws.{words_of_all-append, objects_of-words, length-words_of_all, Split, split, word_of_object, set_of_object, size_of_all-append}
 
-abbrev pub heap_with : List Object → ℕ → List ℕ → Heap
-heap_with os size assigned = record { objects = os; size = size; assigned = assigned }
+abbrev pub heap_with : List Object → ℕ → Noted → Heap
+heap_with os size noted = record { objects = os; size = size; assigned = noted.assigned; reached = noted.reached }
+
+-- the lists of a heap
+abbrev pub lists_of : Heap → Noted
+lists_of heap = record { assigned = heap.assigned; reached = heap.reached }
 
 -- An object of the heap, and where it lies in the words.
 pub record Lies (words : List ℕ) (heap : Heap) (at : ℕ) : Type 0 where
@@ -41,8 +45,8 @@ held_is heap at held = held.is ∙ ap (λ (x : Object). Some x) (sym (ap (λ (o 
 size_around : (front : List Object) (o : Object) (back : List Object) → size_of_all (front ++ o ∷ back) ≡ size_of_all front + (size_of o + size_of_all back)
 size_around front o back = size_of_all-append front (o ∷ back)
 
-pub lies : (words : List ℕ) (size : ℕ) (assigned : List ℕ) (heap : Heap) (at : ℕ) → heap_from words size assigned ≡ heap → words_of_all (objects_of words) ≡ words → IsHeap (heap_from words size assigned) → IsHeld heap at → Lies words heap at
-lies words size assigned heap at e cut h held =
+pub lies : (words : List ℕ) (size : ℕ) (noted : Noted) (heap : Heap) (at : ℕ) → heap_from words size noted ≡ heap → words_of_all (objects_of words) ≡ words → IsHeap (heap_from words size noted) → IsHeld heap at → Lies words heap at
+lies words size noted heap at e cut h held =
     let is = held_is heap at held in
     let good : IsHeap heap = subst IsHeap e h in
     let parts = split 1 heap.objects at (object_at heap at) good.fit is in
@@ -83,79 +87,82 @@ lies-header words heap at a b c d l ea eb ec ed =
     same_four wa wb wc wd
 
 -- the heap whose objects these words are
-pub seen_again : (os : List Object) (words : List ℕ) (size : ℕ) (assigned : List ℕ) → AreFit os → words ≡ words_of_all os → heap_from words size assigned ≡ heap_with os size assigned
-seen_again os words size assigned fit e =
-    ap (λ (x : List Object). heap_with x size assigned) (ap objects_of e ∙ objects_of-words os fit)
+pub seen_again : (os : List Object) (words : List ℕ) (size : ℕ) (noted : Noted) → AreFit os → words ≡ words_of_all os → heap_from words size noted ≡ heap_with os size noted
+seen_again os words size noted fit e =
+    ap (λ (x : List Object). heap_with x size noted) (ap objects_of e ∙ objects_of-words os fit)
 
-kept_again : (os : List Object) (words : List ℕ) (size : ℕ) (assigned : List ℕ) (b : Beside) → words ≡ words_of_all os → IsHeap (heap_with os size assigned) → size ≤ 5 * b.places + 5 → IsMapped os size b → IsKept words size assigned b
-kept_again os words size assigned b e h room pids =
+kept_again : (os : List Object) (words : List ℕ) (size : ℕ) (noted : Noted) (b : Beside) → words ≡ words_of_all os → IsHeap (heap_with os size noted) → size ≤ 5 * b.places + 5 → size ≤ 5 * b.stops + 5 → IsMapped os size b → IsKept words size noted b
+kept_again os words size noted b e h room stop pids =
     let is : objects_of words ≡ os = ap objects_of e ∙ objects_of-words os h.fit in
     record {
       cut = ap words_of_all is ∙ sym e;
-      heap = subst (λ (x : List Object). IsHeap (heap_with x size assigned)) (sym is) h;
+      heap = subst (λ (x : List Object). IsHeap (heap_with x size noted)) (sym is) h;
       for_assigned = room;
+      for_reached = stop;
       pids = subst (λ (x : List Object). IsMapped x size b) (sym is) pids;
     }
 
 pub lies_in : (a : Inside) (heap : Heap) (at : ℕ) → heap_of a ≡ heap → IsKeptIn a → IsHeld heap at → Lies a.area.words heap at
-lies_in a heap at e kept held = lies a.area.words a.area.size a.assigned.items heap at e kept.cut kept.heap held
+lies_in a heap at e kept held = lies a.area.words a.area.size (noted_of a) heap at e kept.cut kept.heap held
 
 -- What is kept again, and the heap that is seen.
-pub record Again (words : List ℕ) (size : ℕ) (assigned : List ℕ) (b : Beside) (heap : Heap) : Type 0 where
-  pub kept : IsKept words size assigned b
-  pub seen : heap_from words size assigned ≡ heap
+pub record Again (words : List ℕ) (size : ℕ) (noted : Noted) (b : Beside) (heap : Heap) : Type 0 where
+  pub kept : IsKept words size noted b
+  pub seen : heap_from words size noted ≡ heap
 
-pub again : (os : List Object) (words : List ℕ) (size : ℕ) (assigned : List ℕ) (b : Beside) → words ≡ words_of_all os → IsHeap (heap_with os size assigned) → size ≤ 5 * b.places + 5 → IsMapped os size b → Again words size assigned b (heap_with os size assigned)
-again os words size assigned b e h room pids = record {
-  kept = kept_again os words size assigned b e h room pids;
-  seen = seen_again os words size assigned h.fit e;
+pub again : (os : List Object) (words : List ℕ) (size : ℕ) (noted : Noted) (b : Beside) → words ≡ words_of_all os → IsHeap (heap_with os size noted) → size ≤ 5 * b.places + 5 → size ≤ 5 * b.stops + 5 → IsMapped os size b → Again words size noted b (heap_with os size noted)
+again os words size noted b e h room stop pids = record {
+  kept = kept_again os words size noted b e h room stop pids;
+  seen = seen_again os words size noted h.fit e;
 }
 
 -- the words of an object are written anew, and the list of the assigned may change
-pub relaid : (a : Inside) (new : AreaView) (more : List ℕ) (places : ℕ) (heap : Heap) (at : ℕ) (o : Object) → heap_of a ≡ heap → IsKeptIn a → Lies a.area.words heap at
+pub relaid : (a : Inside) (new : AreaView) (more : Noted) (places stops : ℕ) (heap : Heap) (at : ℕ) (o : Object) → heap_of a ≡ heap → IsKeptIn a → Lies a.area.words heap at
     → new.words ≡ words_of_all (replace_from 1 heap.objects at o) → new.size ≡ a.area.size → IsFit o → size_of o ≡ size_of (object_at heap at) → o.header.pid ≡ (object_at heap at).header.pid → o.header.chain ≡ (object_at heap at).header.chain
-    → AreNoted (replace_from 1 heap.objects at o) more → a.area.size ≤ 5 * places + 5 → IsInside heap o → Again new.words new.size more (with_places (beside_of a) places) (heap_with (replace_from 1 heap.objects at o) heap.size more)
-relaid a new more places heap at o e kept l words size_is fit long pid link noted room inside =
+    → AreNoted is_assigned (replace_from 1 heap.objects at o) more.assigned → AreNoted is_reached (replace_from 1 heap.objects at o) more.reached → a.area.size ≤ 5 * places + 5 → a.area.size ≤ 5 * stops + 5 → IsInside heap o
+    → Again new.words new.size more (with_room (beside_of a) places stops) (heap_with (replace_from 1 heap.objects at o) heap.size more)
+relaid a new more places stops heap at o e kept l words size_is fit long pid link noted walked room stop inside =
     let was : a.area.size ≡ heap.size = ap (λ (x : Heap). x.size) e in
     let size : new.size ≡ heap.size = size_is ∙ was in
     let objects : objects_of a.area.words ≡ heap.objects = ap (λ (x : Heap). x.objects) e in
-    let b = with_places (beside_of a) places in
+    let b = with_room (beside_of a) places stops in
     let pids : IsMapped heap.objects heap.size (beside_of a) =
     subst (λ (n : ℕ). IsMapped heap.objects n (beside_of a)) was (subst (λ (os : List Object). IsMapped os a.area.size (beside_of a)) objects kept.pids) in
     let it = again (replace_from 1 heap.objects at o) new.words heap.size more b words
-    (IsHeap-replaced heap at (object_at heap at) o more l.heap_is l.is fit long pid noted inside)
-    (omega arith) (mapped-replaced heap.objects heap.size (beside_of a) places at (object_at heap at) o pids l.is long pid link) in
+    (IsHeap-replaced heap at (object_at heap at) o more.assigned more.reached l.heap_is l.is fit long pid noted walked inside)
+    (omega arith) (omega arith) (mapped-replaced heap.objects heap.size (beside_of a) places stops at (object_at heap at) o pids l.is long pid link) in
     subst (λ (n : ℕ). Again new.words n more b (heap_with (replace_from 1 heap.objects at o) heap.size more)) (sym size) it
 
 -- one word of it is written
-pub rewritten : (a : Inside) (new : AreaView) (more : List ℕ) (places : ℕ) (heap : Heap) (at k place v : ℕ) (o : Object) → heap_of a ≡ heap → IsKeptIn a → Lies a.area.words heap at → new ≡ with_word a.area place v → place ≡ at + k → k < size_of (object_at heap at) → set (object_words (object_at heap at)) k v ≡ object_words o → IsFit o → size_of o ≡ size_of (object_at heap at) → o.header.pid ≡ (object_at heap at).header.pid → o.header.chain ≡ (object_at heap at).header.chain → AreNoted (replace_from 1 heap.objects at o) more → a.area.size ≤ 5 * places + 5 → IsInside heap o → Again new.words new.size more (with_places (beside_of a) places) (heap_with (replace_from 1 heap.objects at o) heap.size more)
-rewritten a new more places heap at k place v o e kept l written place_is below set_is fit long pid link noted room inside =
+pub rewritten : (a : Inside) (new : AreaView) (more : Noted) (places stops : ℕ) (heap : Heap) (at k place v : ℕ) (o : Object) → heap_of a ≡ heap → IsKeptIn a → Lies a.area.words heap at → new ≡ with_word a.area place v → place ≡ at + k → k < size_of (object_at heap at) → set (object_words (object_at heap at)) k v ≡ object_words o → IsFit o → size_of o ≡ size_of (object_at heap at) → o.header.pid ≡ (object_at heap at).header.pid → o.header.chain ≡ (object_at heap at).header.chain → AreNoted is_assigned (replace_from 1 heap.objects at o) more.assigned → AreNoted is_reached (replace_from 1 heap.objects at o) more.reached → a.area.size ≤ 5 * places + 5 → a.area.size ≤ 5 * stops + 5 → IsInside heap o
+    → Again new.words new.size more (with_room (beside_of a) places stops) (heap_with (replace_from 1 heap.objects at o) heap.size more)
+rewritten a new more places stops heap at k place v o e kept l written place_is below set_is fit long pid link noted walked room stop inside =
     let words : new.words ≡ words_of_all (replace_from 1 heap.objects at o) =
     ap (λ (x : AreaView). x.words) written
     ∙ ap (λ (n : ℕ). set a.area.words (n - 1) v) place_is
     ∙ ap (λ (ws : List ℕ). set ws (at + k - 1) v) (sym l.cut)
     ∙ set_of_object heap.objects at k v (object_at heap at) o l.split below set_is in
-    relaid a new more places heap at o e kept l words (ap (λ (x : AreaView). x.size) written) fit long pid link noted room inside
+    relaid a new more places stops heap at o e kept l words (ap (λ (x : AreaView). x.size) written) fit long pid link noted walked room stop inside
 
-assigned_by : Header → Bool
-assigned_by h = h.flags % 2 == 1
-
--- the list stays where the header does
-pub noted_still : (heap : Heap) (at : ℕ) (o : Object) → IsHeap heap → found heap at ≡ Some (object_at heap at) → o.header ≡ (object_at heap at).header → AreNoted (replace_from 1 heap.objects at o) heap.assigned
-unfolding assigned_by
-noted_still heap at o h is head = noted-replaced heap.objects heap.assigned at (object_at heap at) o h.noted is (ap object_length head) (ap assigned_by head)
+-- the lists stay where the header does
+pub noted_still : (heap : Heap) (at : ℕ) (o : Object) → IsHeap heap → found heap at ≡ Some (object_at heap at) → o.header ≡ (object_at heap at).header
+    → AreNoted is_assigned (replace_from 1 heap.objects at o) heap.assigned × AreNoted is_reached (replace_from 1 heap.objects at o) heap.reached
+noted_still heap at o h is head = both-replaced heap at (object_at heap at) o h.noted h.walked is (ap object_length head) (ap (λ (x : Header). x.flags) head)
 
 -- the same where the header stays
 pub relaid_same : (a : Inside) (new : AreaView) (heap : Heap) (at : ℕ) (o : Object) → heap_of a ≡ heap → IsKeptIn a → Lies a.area.words heap at
-    → new.words ≡ words_of_all (replace_from 1 heap.objects at o) → new.size ≡ a.area.size → IsFit o → o.header ≡ (object_at heap at).header → IsInside heap o → Again new.words new.size a.assigned.items (beside_of a) (with_object heap at o)
+    → new.words ≡ words_of_all (replace_from 1 heap.objects at o) → new.size ≡ a.area.size → IsFit o → o.header ≡ (object_at heap at).header → IsInside heap o → Again new.words new.size (noted_of a) (beside_of a) (with_object heap at o)
 relaid_same a new heap at o e kept l words size_is fit head inside =
-    let list : a.assigned.items ≡ heap.assigned = ap (λ (x : Heap). x.assigned) e in
-    let noted = subst (AreNoted (replace_from 1 heap.objects at o)) (sym list) (noted_still heap at o l.heap_is l.is head) in
-    let it = relaid a new a.assigned.items (vec_capacity a.assigned) heap at o e kept l words size_is fit
-    (ap object_length head) (ap (λ (h : Header). h.pid) head) (ap (λ (h : Header). h.chain) head) noted kept.for_assigned inside in
-    subst (λ (xs : List ℕ). Again new.words new.size a.assigned.items (beside_of a) (heap_with (replace_from 1 heap.objects at o) heap.size xs)) list it
+    let lists : noted_of a ≡ lists_of heap = ap lists_of e in
+    let still = noted_still heap at o l.heap_is l.is head in
+    let now = replace_from 1 heap.objects at o in
+    let it = relaid a new (noted_of a) (vec_capacity a.assigned) (vec_capacity a.reached) heap at o e kept l words size_is fit
+    (ap object_length head) (ap (λ (h : Header). h.pid) head) (ap (λ (h : Header). h.chain) head)
+    (subst (λ (x : Noted). AreNoted is_assigned now x.assigned) (sym lists) still.0) (subst (λ (x : Noted). AreNoted is_reached now x.reached) (sym lists) still.1)
+    kept.for_assigned kept.for_reached inside in
+    subst (λ (x : Noted). Again new.words new.size (noted_of a) (beside_of a) (heap_with now heap.size x)) lists it
 
-pub rewritten_same : (a : Inside) (new : AreaView) (heap : Heap) (at k place v : ℕ) (o : Object) → heap_of a ≡ heap → IsKeptIn a → Lies a.area.words heap at → new ≡ with_word a.area place v → place ≡ at + k → k < size_of (object_at heap at) → set (object_words (object_at heap at)) k v ≡ object_words o → IsFit o → o.header ≡ (object_at heap at).header → IsInside heap o → Again new.words new.size a.assigned.items (beside_of a) (with_object heap at o)
+pub rewritten_same : (a : Inside) (new : AreaView) (heap : Heap) (at k place v : ℕ) (o : Object) → heap_of a ≡ heap → IsKeptIn a → Lies a.area.words heap at → new ≡ with_word a.area place v → place ≡ at + k → k < size_of (object_at heap at) → set (object_words (object_at heap at)) k v ≡ object_words o → IsFit o → o.header ≡ (object_at heap at).header → IsInside heap o → Again new.words new.size (noted_of a) (beside_of a) (with_object heap at o)
 rewritten_same a new heap at k place v o e kept l written place_is below set_is fit head inside =
     let words : new.words ≡ words_of_all (replace_from 1 heap.objects at o) =
     ap (λ (x : AreaView). x.words) written
@@ -171,7 +178,7 @@ target_fits a heap (Some at) e kept held =
     let l = lies_in a heap at e kept held in
     (l.from, omega (arith, l.to, l.small))
 
--- The flag of an assigned object.
+-- The flags in the first word: that of an assigned object counts 256 there, and that of a reached one 512.
 
 pub set_of_flag : (o : Object) (w : ℕ) → w ≡ slice_index (object_words o) 0 → set (object_words o) 0 (w + 256) ≡ object_words (flagged o)
 set_of_flag o w e =
@@ -181,15 +188,30 @@ pub clear_of_flag : (o : Object) (w : ℕ) → w ≡ slice_index (object_words o
 clear_of_flag o w e some =
     ap (λ (n : ℕ). n ∷ (o.header.pid ∷ (o.header.nums + 2 ^ 32 * o.header.bytes) ∷ o.header.chain ∷ (map reference_word o.refs ++ o.nums))) (omega arith)
 
-pub first_word-lt : (o : Object) (w : ℕ) → IsFit o → w ≡ slice_index (object_words o) 0 → w + 256 < 2 ^ 64
+pub set_of_reach : (o : Object) (w : ℕ) → w ≡ slice_index (object_words o) 0 → set (object_words o) 0 (w + 512) ≡ object_words (reach_flagged o)
+set_of_reach o w e =
+    ap (λ (n : ℕ). n ∷ (o.header.pid ∷ (o.header.nums + 2 ^ 32 * o.header.bytes) ∷ o.header.chain ∷ (map reference_word o.refs ++ o.nums))) (omega arith)
+
+pub clear_of_reach : (o : Object) (w : ℕ) → w ≡ slice_index (object_words o) 0 → 2 ≤ o.header.flags → set (object_words o) 0 (w - 512) ≡ object_words (reach_unflagged o)
+clear_of_reach o w e some =
+    ap (λ (n : ℕ). n ∷ (o.header.pid ∷ (o.header.nums + 2 ^ 32 * o.header.bytes) ∷ o.header.chain ∷ (map reference_word o.refs ++ o.nums))) (omega arith)
+
+pub first_word-lt : (o : Object) (w : ℕ) → IsFit o → w ≡ slice_index (object_words o) 0 → w + 512 < 2 ^ 64
 first_word-lt o w fit e = omega (arith, fit.fields.flags, fit.lengths.words, kind_number-lt o.header.kind)
 
--- bit 8 of the first word is the flag
+-- bit 8 of the first word is the flag of an assigned object
 flag_of_word : (o : Object) (w : ℕ) → IsFit o → w ≡ slice_index (object_words o) 0 → w / 256 % 2 ≡ o.header.flags % 2
 flag_of_word o w fit e = omega (arith, kind_number-lt o.header.kind)
 
 pub lies-flag : (words : List ℕ) (heap : Heap) (at w : ℕ) → Lies words heap at → w ≡ slice_index words (at - 1) → w / 256 % 2 ≡ (object_at heap at).header.flags % 2
 lies-flag words heap at w l e = flag_of_word (object_at heap at) w l.split.fit (lies-word_at words heap at 0 at w l (omega arith) (omega arith) e)
+
+-- and bit 9 that of a reached one
+reach_of_word : (o : Object) (w : ℕ) → IsFit o → w ≡ slice_index (object_words o) 0 → w / 512 % 2 ≡ o.header.flags / 2 % 2
+reach_of_word o w fit e = omega (arith, kind_number-lt o.header.kind)
+
+pub lies-reach : (words : List ℕ) (heap : Heap) (at w : ℕ) → Lies words heap at → w ≡ slice_index words (at - 1) → w / 512 % 2 ≡ (object_at heap at).header.flags / 2 % 2
+lies-reach words heap at w l e = reach_of_word (object_at heap at) w l.split.fit (lies-word_at words heap at 0 at w l (omega arith) (omega arith) e)
 
 -- the object with other flags
 reflagged : (o : Object) (flags : ℕ) → IsFit o → flags < 2 ^ 8 → IsFit (record o { header = record (o.header) { flags = flags } })
@@ -218,9 +240,19 @@ IsFit-flagged o fit ne = reflagged o (o.header.flags + 1) fit (omega (arith, fit
 pub IsFit-unflagged : (o : Object) → IsFit o → IsFit (unflagged o)
 IsFit-unflagged o fit = reflagged o (o.header.flags - 1) fit (omega (arith, fit.fields.flags))
 
+pub IsFit-reach_flagged : (o : Object) → IsFit o → o.header.flags / 2 % 2 ≢ 1 → IsFit (reach_flagged o)
+IsFit-reach_flagged o fit ne = reflagged o (o.header.flags + 2) fit (omega (arith, fit.fields.flags))
+
+pub IsFit-reach_unflagged : (o : Object) → IsFit o → IsFit (reach_unflagged o)
+IsFit-reach_unflagged o fit = reflagged o (o.header.flags - 2) fit (omega (arith, fit.fields.flags))
+
 pub room_to_mark : (heap : Heap) (at : ℕ) (o : Object) (places : ℕ) → IsHeap heap → found heap at ≡ Some o → o.header.flags % 2 ≢ 1 → heap.size ≤ 5 * places + 5 → length heap.assigned < places
 room_to_mark heap at o places h is ne room =
-    omega (arith, h.noted.counted, h.within, marked-lt 1 heap.objects at o is (flag_is_not o ne), room-objects heap.objects h.fit)
+    omega (arith, h.noted.counted, h.within, marked-lt is_assigned 1 heap.objects at o is (flag_is_not o ne), room-objects heap.objects h.fit)
+
+pub room_to_reach : (heap : Heap) (at : ℕ) (o : Object) (stops : ℕ) → IsHeap heap → found heap at ≡ Some o → o.header.flags / 2 % 2 ≢ 1 → heap.size ≤ 5 * stops + 5 → length heap.reached < stops
+room_to_reach heap at o stops h is ne room =
+    omega (arith, h.walked.counted, h.within, marked-lt is_reached 1 heap.objects at o is (reach_is_not o ne), room-objects heap.objects h.fit)
 
 -- The area after words were given out and written.
 
@@ -268,22 +300,23 @@ IsFit-blank kind refs nums bytes a b c home lengths room = record {
 one_more : (os : List Object) (new : Object) → words_of_all (os ++ new ∷ []) ≡ words_of_all os ++ object_words new
 one_more os new = words_of_all-append os (new ∷ []) ∙ ap (λ (r : List ℕ). words_of_all os ++ r) (append-nil (object_words new))
 
--- an object that isn't assigned is laid after the others
-pub laid : (a : Inside) (new : AreaView) (b : Beside) (heap : Heap) (o : Object) → heap_of a ≡ heap → IsKeptIn a → new.words ≡ a.area.words ++ object_words o → new.size ≡ a.area.size → IsFit o → top_of heap + size_of o ≤ heap.size → is_assigned o ≡ false → (1 ≤ o.header.pid → local_of heap o.header.pid ≡ None) → IsInside heap o
-    → b.places ≡ vec_capacity a.assigned → (IsMapped heap.objects heap.size (beside_of a) → IsMapped (heap.objects ++ o ∷ []) heap.size b) → Again new.words new.size a.assigned.items b (with_new heap o)
-laid a new b heap o e kept written size_is fit room plain apart inside places pids_now =
+-- an object that is neither assigned nor reached is laid after the others
+pub laid : (a : Inside) (new : AreaView) (b : Beside) (heap : Heap) (o : Object) → heap_of a ≡ heap → IsKeptIn a → new.words ≡ a.area.words ++ object_words o → new.size ≡ a.area.size → IsFit o → top_of heap + size_of o ≤ heap.size → is_assigned o ≡ false → is_reached o ≡ false → (1 ≤ o.header.pid → local_of heap o.header.pid ≡ None) → IsInside heap o
+    → b.places ≡ vec_capacity a.assigned → b.stops ≡ vec_capacity a.reached → (IsMapped heap.objects heap.size (beside_of a) → IsMapped (heap.objects ++ o ∷ []) heap.size b) → Again new.words new.size (noted_of a) b (with_new heap o)
+laid a new b heap o e kept written size_is fit room plain bare apart inside places stops pids_now =
     let size : a.area.size ≡ heap.size = ap (λ (x : Heap). x.size) e in
     let objects : objects_of a.area.words ≡ heap.objects = ap (λ (x : Heap). x.objects) e in
-    let list : a.assigned.items ≡ heap.assigned = ap (λ (x : Heap). x.assigned) e in
+    let lists : noted_of a ≡ lists_of heap = ap lists_of e in
     let good : IsHeap heap = subst IsHeap e kept.heap in
     let pids : IsMapped heap.objects heap.size (beside_of a) =
     subst (λ (n : ℕ). IsMapped heap.objects n (beside_of a)) size (subst (λ (os : List Object). IsMapped os a.area.size (beside_of a)) objects kept.pids) in
     let words : new.words ≡ words_of_all (heap.objects ++ o ∷ []) =
     written ∙ ap (λ (r : List ℕ). r ++ object_words o) (sym kept.cut ∙ ap words_of_all objects) ∙ sym (one_more heap.objects o) in
-    let it = again (heap.objects ++ o ∷ []) new.words heap.size heap.assigned b words
-    (IsHeap-new heap o good fit room (noted-new heap.objects heap.assigned o good.noted plain) apart inside) (omega (arith, kept.for_assigned)) (pids_now pids) in
-    subst (λ (n : ℕ). Again new.words n a.assigned.items b (with_new heap o)) (sym (size_is ∙ size))
-    (subst (λ (xs : List ℕ). Again new.words heap.size xs b (with_new heap o)) (sym list) it)
+    let it = again (heap.objects ++ o ∷ []) new.words heap.size (lists_of heap) b words
+    (IsHeap-new heap o good fit room (noted-new is_assigned heap.objects heap.assigned o good.noted plain) (noted-new is_reached heap.objects heap.reached o good.walked bare) apart inside)
+    (omega (arith, kept.for_assigned)) (omega (arith, kept.for_reached)) (pids_now pids) in
+    subst (λ (n : ℕ). Again new.words n (noted_of a) b (with_new heap o)) (sym (size_is ∙ size))
+    (subst (λ (x : Noted). Again new.words heap.size x b (with_new heap o)) (sym lists) it)
 
 pub kept_long : (a : Inside) (heap : Heap) → heap_of a ≡ heap → IsKeptIn a → length a.area.words ≡ size_of_all heap.objects
 kept_long a heap e kept =
@@ -292,16 +325,23 @@ kept_long a heap e kept =
     ap length (sym kept.cut ∙ ap words_of_all objects) ∙ length-words_of_all heap.objects good.fit
 
 -- the heap that is seen over these areas
-abbrev pub heap_is : AreaView → List ℕ → Heap
-heap_is area assigned = heap_from area.words area.size assigned
+abbrev pub heap_is : AreaView → Noted → Heap
+heap_is area noted = heap_from area.words area.size noted
 
-pub fresh_again : (words : ℕ) (area : AreaView) (assigned : List ℕ) (b : Beside) (buckets : ℕ) → area ≡ fresh_area (words + 1) → assigned ≡ [] → 1 ≤ buckets → b.heads ≡ replicate buckets 0 → words ≤ 2 ^ 25 → words + 1 ≤ 5 * b.places + 5 → words ≤ b.room → Again area.words area.size assigned b (fresh_heap (words + 1))
-fresh_again words area assigned b buckets e a some none h room buffer =
+abbrev pub none_noted : Noted
+none_noted = record { assigned = []; reached = [] }
+
+pub none-noted : {a b : List ℕ} → a ≡ [] → b ≡ [] → record { assigned = a; reached = b } ≡ none_noted
+none-noted ea eb = cc
+
+pub fresh_again : (words : ℕ) (area : AreaView) (noted : Noted) (b : Beside) (buckets : ℕ) → area ≡ fresh_area (words + 1) → noted ≡ none_noted → 1 ≤ buckets → b.heads ≡ replicate buckets 0 → words ≤ 2 ^ 25
+    → words + 1 ≤ 5 * b.places + 5 → words + 1 ≤ 5 * b.stops + 5 → words ≤ b.room → Again area.words area.size noted b (fresh_heap (words + 1))
+fresh_again words area noted b buckets e a some none h room stop buffer =
     let pids : IsMapped [] (words + 1) b = mapped-none buckets (words + 1) b some none (omega arith) in
-    let it : Again [] (words + 1) [] b (fresh_heap (words + 1)) = again [] [] (words + 1) [] b refl
-    (record { fit = tt; within = omega arith; small = omega arith; one = λ at o is some. absurd (cc); inside = λ at o is slot to r. absurd (cc); noted = noted-none }) room pids in
-    subst (λ (x : AreaView). Again x.words x.size assigned b (fresh_heap (words + 1))) (sym e)
-    (subst (λ (x : List ℕ). Again [] (words + 1) x b (fresh_heap (words + 1))) (sym a) it)
+    let it : Again [] (words + 1) none_noted b (fresh_heap (words + 1)) = again [] [] (words + 1) none_noted b refl
+    (record { fit = tt; within = omega arith; small = omega arith; one = λ at o is some. absurd (cc); inside = λ at o is slot to r. absurd (cc); noted = noted-none is_assigned; walked = noted-none is_reached }) room stop pids in
+    subst (λ (x : AreaView). Again x.words x.size noted b (fresh_heap (words + 1))) (sym e)
+    (subst (λ (x : Noted). Again [] (words + 1) x b (fresh_heap (words + 1))) (sym a) it)
 
 -- the references stay inside
 pub inside_kept : (heap : Heap) (at : ℕ) → IsHeap heap → IsHeld heap at → IsInside heap (object_at heap at)

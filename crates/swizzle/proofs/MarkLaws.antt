@@ -1,9 +1,9 @@
--- The one map stays as objects are marked and unmarked.
-use Rattle.std.proofs.Common.{Bool, true, false, inl, inr, ◌⊎◌, ◌≡◌, ℕ, ◌+◌, ◌==◌, List, [], ◌∷◌, ◌++◌, map, refl, sym, ap, ◌∙◌, subst, arith, Option, Some, None, unwrap_or, if◌then◌else◌}
+-- The one map stays as objects get flags and lose them.
+use Rattle.std.proofs.Common.{Bool, true, false, inl, inr, ◌⊎◌, ◌≡◌, ℕ, ◌+◌, ◌-◌, ◌==◌, List, [], ◌∷◌, ◌++◌, map, refl, sym, ap, ◌∙◌, subst, arith, Option, Some, None, unwrap_or, if◌then◌else◌}
 use Rattle.std.proofs.lemmas.Bool.{cases_eq}
 use Rattle.obj_layout.specs.declared.reference.Reference.TheVariants.{Pid, Local}
 use Rattle.swizzle.specs.Objects.{Object, size_of, find_from}
-use Rattle.swizzle.specs.Heap.{Heap, IsHeap, IsHeld, found, object_at, local_from, nothing, with_object, with_mark, with_no_marks, is_assigned, flagged, unflagged, without_mark}
+use Rattle.swizzle.specs.Heap.{Heap, IsHeap, IsHeld, found, object_at, local_from, nothing, with_object, with_mark, with_no_marks, is_assigned, flagged, unflagged, without_mark, with_reach, with_none_reached, is_reached, reach_flagged, reach_unflagged, without_reach}
 use Rattle.swizzle.specs.Joint.{shown, name_at, name_of, shown_at, Joint}
 use Rattle.swizzle.specs.Changes.{Same}
 use Rattle.swizzle.proofs.ObjectLaws.{here, elsewhere}
@@ -14,29 +14,42 @@ use Rattle.swizzle.proofs.NameLaws.{Joint-one, names_kept, shown-same, names-dec
 use Rattle.swizzle.proofs.JointLaws.{IsLike, same-changed, object-replaced, name-replaced, joint-replaced}
 use Rattle.swizzle.proofs.TouchLaws.{same-refl, same-then}
 
--- A mark.
+-- A flag.
 
-pub joint-marked : (heap : Heap) (holds : ℕ → List ℕ → Type 0) (at : ℕ) → IsHeap heap → IsHeld heap at → ((pid : ℕ) (a b : List ℕ) → holds pid a → holds pid b → a ≡ b) → Same (Joint heap holds) (Joint (with_object heap at (flagged (object_at heap at))) holds)
-joint-marked heap holds at h held one =
+-- the object with other flags
+abbrev pub flagged_as : Object → ℕ → Object
+flagged_as o flags = record o { header = record (o.header) { flags = flags } }
+
+like-flagged : (o : Object) (flags : ℕ) → IsLike o (flagged_as o flags)
+like-flagged o flags = record { kind = refl; refs = refl; nums = refl; bytes = refl; pid = refl }
+
+pub joint-flagged : (heap : Heap) (holds : ℕ → List ℕ → Type 0) (at flags : ℕ) → IsHeap heap → IsHeld heap at → ((pid : ℕ) (a b : List ℕ) → holds pid a → holds pid b → a ≡ b)
+    → Same (Joint heap holds) (Joint (with_object heap at (flagged_as (object_at heap at) flags)) holds)
+joint-flagged heap holds at flags h held one =
     let o = object_at heap at in
-    let like : IsLike o (flagged o) = record { kind = refl; refs = refl; nums = refl; bytes = refl; pid = refl } in
-    let was : Joint heap holds (name_at heap at) (shown (name_of heap) (flagged o)) = inl (record { at = at; held = held; name_is = refl; shown_is = refl }) in
-    same-changed (Joint heap holds) (Joint (with_object heap at (flagged o)) holds) (name_at heap at) (shown (name_of heap) (flagged o)) (λ n. names-decided n (name_at heap at)) was
-    (λ other j. Joint-one heap holds (name_at heap at) other (shown (name_of heap) (flagged o)) h one j was)
-    (joint-replaced heap holds at (flagged o) h held like)
+    let new = flagged_as o flags in
+    let was : Joint heap holds (name_at heap at) (shown (name_of heap) new) = inl (record { at = at; held = held; name_is = refl; shown_is = refl }) in
+    same-changed (Joint heap holds) (Joint (with_object heap at new) holds) (name_at heap at) (shown (name_of heap) new) (λ n. names-decided n (name_at heap at)) was
+    (λ other j. Joint-one heap holds (name_at heap at) other (shown (name_of heap) new) h one j was)
+    (joint-replaced heap holds at new h held (like-flagged o flags))
 
-names_listed : (heap : Heap) (list : List ℕ) (at : ℕ) → shown_at heap at ≡ shown_at (record heap { assigned = list }) at
-names_listed heap list at = shown-same (record heap { assigned = list }) heap (object_at heap at) (object_at heap at) refl refl refl (sym (names_kept heap (record heap { assigned = list }) (object_at heap at).refs (λ slot to r. refl)))
+abbrev with_lists : Heap → List ℕ → List ℕ → Heap
+with_lists heap assigned reached = record heap { assigned = assigned; reached = reached }
 
--- a heap with another list of the assigned has the same objects
-joint-listed : (heap : Heap) (list : List ℕ) (holds : ℕ → List ℕ → Type 0) → Same (Joint heap holds) (Joint (record heap { assigned = list }) holds)
-joint-listed heap list holds = record {
+names_listed : (heap : Heap) (assigned reached : List ℕ) (at : ℕ) → shown_at heap at ≡ shown_at (with_lists heap assigned reached) at
+names_listed heap assigned reached at =
+    let now = with_lists heap assigned reached in
+    shown-same now heap (object_at heap at) (object_at heap at) refl refl refl (sym (names_kept heap now (object_at heap at).refs (λ slot to r. refl)))
+
+-- a heap with other lists has the same objects
+joint-listed : (heap : Heap) (assigned reached : List ℕ) (holds : ℕ → List ℕ → Type 0) → Same (Joint heap holds) (Joint (with_lists heap assigned reached) holds)
+joint-listed heap assigned reached holds = record {
   grows = λ n it j. elim j [
-    | inl a ↦ inl (record { at = a.at; held = record { object = a.held.object; is = a.held.is }; name_is = a.name_is; shown_is = a.shown_is ∙ names_listed heap list a.at })
+    | inl a ↦ inl (record { at = a.at; held = record { object = a.held.object; is = a.held.is }; name_is = a.name_is; shown_is = a.shown_is ∙ names_listed heap assigned reached a.at })
     | inr v ↦ inr (record { pid = v.pid; words = v.words; name_is = v.name_is; there = v.there; away = v.away; shown_is = v.shown_is })
   ];
   no_more = λ n it j. elim j [
-    | inl a ↦ inl (record { at = a.at; held = record { object = a.held.object; is = a.held.is }; name_is = a.name_is; shown_is = a.shown_is ∙ sym (names_listed heap list a.at) })
+    | inl a ↦ inl (record { at = a.at; held = record { object = a.held.object; is = a.held.is }; name_is = a.name_is; shown_is = a.shown_is ∙ sym (names_listed heap assigned reached a.at) })
     | inr v ↦ inr (record { pid = v.pid; words = v.words; name_is = v.name_is; there = v.there; away = v.away; shown_is = v.shown_is })
   ];
 }
@@ -54,11 +67,14 @@ if_cases false x y = inr (refl, refl)
 listed : Heap → ℕ → Heap
 listed heap at = record (with_object heap at (flagged (object_at heap at))) { assigned = heap.assigned ++ at ∷ [] }
 
+walked : Heap → ℕ → Heap
+walked heap at = record (with_object heap at (reach_flagged (object_at heap at))) { reached = heap.reached ++ at ∷ [] }
+
 marked-listed : (heap : Heap) (at : ℕ) → IsHeap heap → IsHeld heap at → is_assigned (object_at heap at) ≡ false → Marked heap (listed heap at) at
 unfolding listed
 marked-listed heap at h held e =
     let o = object_at heap at in
-    let like : IsLike o (flagged o) = record { kind = refl; refs = refl; nums = refl; bytes = refl; pid = refl } in
+    let like = like-flagged o (o.header.flags + 1) in
     record {
       held = λ j there. let now = held-replaced heap at o (flagged o) j (held_is heap at held) refl there in record { object = now.object; is = now.is };
       names = λ j there. name-replaced heap at j (flagged o) held like;
@@ -76,97 +92,135 @@ marked-mark heap at h held =
 pub joint-mark : (heap : Heap) (holds : ℕ → List ℕ → Type 0) (at : ℕ) → IsHeap heap → IsHeld heap at → ((pid : ℕ) (a b : List ℕ) → holds pid a → holds pid b → a ≡ b) → Same (Joint heap holds) (Joint (with_mark heap at) holds)
 unfolding listed
 joint-mark heap holds at h held one =
-    elim (if_cases (is_assigned (object_at heap at)) heap (listed heap at)) [
+    let o = object_at heap at in
+    let mid = with_object heap at (flagged o) in
+    elim (if_cases (is_assigned o) heap (listed heap at)) [
       | inl set_one ↦ subst (λ (x : Heap). Same (Joint heap holds) (Joint x holds)) (sym set_one.1) (same-refl (Joint heap holds))
       | inr clear ↦ subst (λ (x : Heap). Same (Joint heap holds) (Joint x holds)) (sym clear.1)
-          (same-then (Joint heap holds) (Joint (with_object heap at (flagged (object_at heap at))) holds) (Joint (listed heap at) holds) (joint-marked heap holds at h held one)
-          (joint-listed (with_object heap at (flagged (object_at heap at))) (heap.assigned ++ at ∷ []) holds))
+          (same-then (Joint heap holds) (Joint mid holds) (Joint (listed heap at) holds) (joint-flagged heap holds at (o.header.flags + 1) h held one)
+          (joint-listed mid (heap.assigned ++ at ∷ []) heap.reached holds))
     ]
 
--- An object without its mark.
+pub joint-reach : (heap : Heap) (holds : ℕ → List ℕ → Type 0) (at : ℕ) → IsHeap heap → IsHeld heap at → ((pid : ℕ) (a b : List ℕ) → holds pid a → holds pid b → a ≡ b) → Same (Joint heap holds) (Joint (with_reach heap at) holds)
+unfolding walked
+joint-reach heap holds at h held one =
+    let o = object_at heap at in
+    let mid = with_object heap at (reach_flagged o) in
+    elim (if_cases (is_reached o) heap (walked heap at)) [
+      | inl set_one ↦ subst (λ (x : Heap). Same (Joint heap holds) (Joint x holds)) (sym set_one.1) (same-refl (Joint heap holds))
+      | inr clear ↦ subst (λ (x : Heap). Same (Joint heap holds) (Joint x holds)) (sym clear.1)
+          (same-then (Joint heap holds) (Joint mid holds) (Joint (walked heap at) holds) (joint-flagged heap holds at (o.header.flags + 2) h held one)
+          (joint-listed mid heap.assigned (heap.reached ++ at ∷ []) holds))
+    ]
+
+-- An object without a flag.
 pub record IsBare (o new : Object) : Type 0 where
   pub like : IsLike o new
   pub refs_are : new.refs ≡ o.refs
   pub nums_are : new.nums ≡ o.nums
 
+bare_as : (o : Object) (flags : ℕ) → IsBare o (flagged_as o flags)
+bare_as o flags = record { like = like-flagged o flags; refs_are = refl; nums_are = refl }
+
 pub bare : (o : Object) → IsBare o (without_mark o)
 bare o =
     elim (if_cases (is_assigned o) (unflagged o) o) [
-      | inl set_one ↦ subst (IsBare o) (sym set_one.1) (record { like = record { kind = refl; refs = refl; nums = refl; bytes = refl; pid = refl }; refs_are = refl; nums_are = refl })
-      | inr clear ↦ subst (IsBare o) (sym clear.1) (record { like = record { kind = refl; refs = refl; nums = refl; bytes = refl; pid = refl }; refs_are = refl; nums_are = refl })
+      | inl set_one ↦ subst (IsBare o) (sym set_one.1) (bare_as o (o.header.flags - 1))
+      | inr clear ↦ subst (IsBare o) (sym clear.1) (bare_as o o.header.flags)
     ]
 
-bare_size : (o : Object) → size_of (without_mark o) ≡ size_of o
-bare_size o = let b = bare o in omega (arith, b.like.refs, b.like.nums)
-
-bare_found : Option Object → Option Object
-bare_found None = None
-bare_found (Some o) = Some (without_mark o)
-
-find-bare : (at : ℕ) (os : List Object) (i : ℕ) → find_from at (map without_mark os) i ≡ bare_found (find_from at os i)
-unfolding bare_found
-find-bare at [] i = refl
-find-bare at (p ∷ os) i =
-    elim (cases_eq i at) [
-      | inl same ↦
-          here i at (Some (without_mark p)) (find_from (at + size_of (without_mark p)) (map without_mark os) i) same
-          ∙ ap bare_found (sym (here i at (Some p) (find_from (at + size_of p) os i) same))
-      | inr apart ↦
-          elsewhere i at (Some (without_mark p)) (find_from (at + size_of (without_mark p)) (map without_mark os) i) apart
-          ∙ ap (λ (n : ℕ). find_from (at + n) (map without_mark os) i) (bare_size p)
-          ∙ find-bare (at + size_of p) os i
-          ∙ ap bare_found (sym (elsewhere i at (Some p) (find_from (at + size_of p) os i) apart))
+pub bare-reach : (o : Object) → IsBare o (without_reach o)
+bare-reach o =
+    elim (if_cases (is_reached o) (reach_unflagged o) o) [
+      | inl set_one ↦ subst (IsBare o) (sym set_one.1) (bare_as o (o.header.flags - 2))
+      | inr clear ↦ subst (IsBare o) (sym clear.1) (bare_as o o.header.flags)
     ]
 
-local-bare : (at : ℕ) (os : List Object) (pid : ℕ) → local_from at (map without_mark os) pid ≡ local_from at os pid
-local-bare at [] pid = refl
-local-bare at (p ∷ os) pid =
-    ap (λ (n : ℕ). if pid == n then Some at else local_from (at + size_of (without_mark p)) (map without_mark os) pid) ((bare p).like.pid)
-    ∙ ap (λ (n : ℕ). if pid == p.header.pid then Some at else local_from (at + n) (map without_mark os) pid) (bare_size p)
-    ∙ ap (λ (r : Option ℕ). if pid == p.header.pid then Some at else r) (local-bare (at + size_of p) os pid)
+-- A heap whose objects are all without the flag, with other lists.
+module _ (less : Object → Object) (is : (o : Object) → IsBare o (less o)) (still : less nothing ≡ nothing) where
+  less_size : (o : Object) → size_of (less o) ≡ size_of o
+  less_size o = let b = is o in omega (arith, b.like.refs, b.like.nums)
 
-some_bare : (was : Option Object) → unwrap_or (bare_found was) nothing ≡ without_mark (unwrap_or was nothing)
-unfolding bare_found
-some_bare None = refl
-some_bare (Some o) = refl
+  less_found : Option Object → Option Object
+  less_found None = None
+  less_found (Some o) = Some (less o)
 
-pub object-bare : (heap : Heap) (at : ℕ) → object_at (with_no_marks heap) at ≡ without_mark (object_at heap at)
-object-bare heap at = ap (λ (o : Option Object). unwrap_or o nothing) (find-bare 1 heap.objects at) ∙ some_bare (found heap at)
+  find-less : (at : ℕ) (os : List Object) (i : ℕ) → find_from at (map less os) i ≡ less_found (find_from at os i)
+  unfolding less_found
+  find-less at [] i = refl
+  find-less at (p ∷ os) i =
+      elim (cases_eq i at) [
+        | inl same ↦
+            here i at (Some (less p)) (find_from (at + size_of (less p)) (map less os) i) same
+            ∙ ap less_found (sym (here i at (Some p) (find_from (at + size_of p) os i) same))
+        | inr apart ↦
+            elsewhere i at (Some (less p)) (find_from (at + size_of (less p)) (map less os) i) apart
+            ∙ ap (λ (n : ℕ). find_from (at + n) (map less os) i) (less_size p)
+            ∙ find-less (at + size_of p) os i
+            ∙ ap less_found (sym (elsewhere i at (Some p) (find_from (at + size_of p) os i) apart))
+      ]
 
-pub held-bare : (heap : Heap) (at : ℕ) → IsHeld heap at → IsHeld (with_no_marks heap) at
-unfolding bare_found
-held-bare heap at held = record { object = without_mark held.object; is = find-bare 1 heap.objects at ∙ ap bare_found held.is }
+  local-less : (at : ℕ) (os : List Object) (pid : ℕ) → local_from at (map less os) pid ≡ local_from at os pid
+  local-less at [] pid = refl
+  local-less at (p ∷ os) pid =
+      ap (λ (n : ℕ). if pid == n then Some at else local_from (at + size_of (less p)) (map less os) pid) ((is p).like.pid)
+      ∙ ap (λ (n : ℕ). if pid == p.header.pid then Some at else local_from (at + n) (map less os) pid) (less_size p)
+      ∙ ap (λ (r : Option ℕ). if pid == p.header.pid then Some at else r) (local-less (at + size_of p) os pid)
 
-was_held : (heap : Heap) (at : ℕ) (o : Object) (was : Option Object) → found heap at ≡ was → bare_found was ≡ Some o → IsHeld heap at
-unfolding bare_found
-was_held heap at o None e none = absurd (cc)
-was_held heap at o (Some p) e some = record { object = p; is = e }
+  some_less : (was : Option Object) → unwrap_or (less_found was) nothing ≡ less (unwrap_or was nothing)
+  unfolding less_found
+  some_less None = sym still
+  some_less (Some o) = refl
 
-bare-held : (heap : Heap) (at : ℕ) → IsHeld (with_no_marks heap) at → IsHeld heap at
-bare-held heap at held = was_held heap at held.object (found heap at) refl (sym (find-bare 1 heap.objects at) ∙ held.is)
+  module _ (heap : Heap) (assigned reached : List ℕ) where
+    abbrev now : Heap
+    now = record { objects = map less heap.objects; size = heap.size; assigned = assigned; reached = reached }
 
-pub name-bare : (heap : Heap) (at : ℕ) → name_at (with_no_marks heap) at ≡ name_at heap at
-name-bare heap at =
-    let o = object_at heap at in
-    let pids : (object_at (with_no_marks heap) at).header.pid ≡ o.header.pid = ap (λ (x : Object). x.header.pid) (object-bare heap at) ∙ (bare o).like.pid in
-    ap (λ (p : ℕ). if p == 0 then Local at else Pid p) pids
+    pub object-less : (at : ℕ) → object_at now at ≡ less (object_at heap at)
+    object-less at = ap (λ (o : Option Object). unwrap_or o nothing) (find-less 1 heap.objects at) ∙ some_less (found heap at)
 
-pub shown-bare : (heap : Heap) (at : ℕ) → shown_at (with_no_marks heap) at ≡ shown_at heap at
-shown-bare heap at =
-    let o = object_at heap at in
-    let b = bare o in
-    ap (shown (name_of (with_no_marks heap))) (object-bare heap at)
-    ∙ shown-same heap (with_no_marks heap) (without_mark o) o b.like.kind b.like.bytes b.nums_are
-    (ap (map (name_of (with_no_marks heap))) b.refs_are ∙ names_kept heap (with_no_marks heap) o.refs (λ slot to r. name-bare heap to))
+    pub held-less : (at : ℕ) → IsHeld heap at → IsHeld now at
+    unfolding less_found
+    held-less at held = record { object = less held.object; is = find-less 1 heap.objects at ∙ ap less_found held.is }
 
+    was_held : (at : ℕ) (o : Object) (was : Option Object) → found heap at ≡ was → less_found was ≡ Some o → IsHeld heap at
+    unfolding less_found
+    was_held at o None e none = absurd (cc)
+    was_held at o (Some p) e some = record { object = p; is = e }
+
+    less-held : (at : ℕ) → IsHeld now at → IsHeld heap at
+    less-held at held = was_held at held.object (found heap at) refl (sym (find-less 1 heap.objects at) ∙ held.is)
+
+    name-less : (at : ℕ) → name_at now at ≡ name_at heap at
+    name-less at =
+        let o = object_at heap at in
+        let pids : (object_at now at).header.pid ≡ o.header.pid = ap (λ (x : Object). x.header.pid) (object-less at) ∙ (is o).like.pid in
+        ap (λ (p : ℕ). if p == 0 then Local at else Pid p) pids
+
+    shown-less : (at : ℕ) → shown_at now at ≡ shown_at heap at
+    shown-less at =
+        let o = object_at heap at in
+        let b = is o in
+        ap (shown (name_of now)) (object-less at)
+        ∙ shown-same heap now (less o) o b.like.kind b.like.bytes b.nums_are
+        (ap (map (name_of now)) b.refs_are ∙ names_kept heap now o.refs (λ slot to r. name-less to))
+
+    pub joint-less : (holds : ℕ → List ℕ → Type 0) → Same (Joint heap holds) (Joint now holds)
+    joint-less holds = record {
+      grows = λ n it j. elim j [
+        | inl a ↦ inl (record { at = a.at; held = held-less a.at a.held; name_is = a.name_is ∙ sym (name-less a.at); shown_is = a.shown_is ∙ sym (shown-less a.at) })
+        | inr v ↦ inr (record { pid = v.pid; words = v.words; name_is = v.name_is; there = v.there; away = local-less 1 heap.objects v.pid ∙ v.away; shown_is = v.shown_is })
+      ];
+      no_more = λ n it j. elim j [
+        | inl a ↦ inl (record { at = a.at; held = less-held a.at a.held; name_is = a.name_is ∙ name-less a.at; shown_is = a.shown_is ∙ shown-less a.at })
+        | inr v ↦ inr (record { pid = v.pid; words = v.words; name_is = v.name_is; there = v.there; away = sym (local-less 1 heap.objects v.pid) ∙ v.away; shown_is = v.shown_is })
+      ];
+    }
+
+-- no object is assigned any more
 pub joint-cleared : (heap : Heap) (holds : ℕ → List ℕ → Type 0) → Same (Joint heap holds) (Joint (with_no_marks heap) holds)
-joint-cleared heap holds = record {
-  grows = λ n it j. elim j [
-    | inl a ↦ inl (record { at = a.at; held = held-bare heap a.at a.held; name_is = a.name_is ∙ sym (name-bare heap a.at); shown_is = a.shown_is ∙ sym (shown-bare heap a.at) })
-    | inr v ↦ inr (record { pid = v.pid; words = v.words; name_is = v.name_is; there = v.there; away = local-bare 1 heap.objects v.pid ∙ v.away; shown_is = v.shown_is })
-  ];
-  no_more = λ n it j. elim j [
-    | inl a ↦ inl (record { at = a.at; held = bare-held heap a.at a.held; name_is = a.name_is ∙ name-bare heap a.at; shown_is = a.shown_is ∙ shown-bare heap a.at })
-    | inr v ↦ inr (record { pid = v.pid; words = v.words; name_is = v.name_is; there = v.there; away = sym (local-bare 1 heap.objects v.pid) ∙ v.away; shown_is = v.shown_is })
-  ];
-}
+joint-cleared heap holds = joint-less without_mark bare refl heap [] heap.reached holds
+
+-- none is noted as reached any more
+pub joint-left : (heap : Heap) (holds : ℕ → List ℕ → Type 0) → Same (Joint heap holds) (Joint (with_none_reached heap) holds)
+joint-left heap holds = joint-less without_reach bare-reach refl heap heap.assigned [] holds

@@ -11,17 +11,17 @@ use Rattle.obj_layout.specs.Reference.{reference_word}
 use Rattle.pid_map.specs.Chains.{Belongs, IsInMap, Relinked}
 use Rattle.pid_map.proofs.ChainLaws.{added}
 use Rattle.swizzle.specs.Objects.{Object, IsFit, words_of_all, objects_of, size_of, size_of_all, find_from, replace_from}
-use Rattle.swizzle.specs.Heap.{Heap, IsHeap, IsInside, AreNoted, found, object_at, local_from, local_of, with_object}
+use Rattle.swizzle.specs.Heap.{Heap, IsHeap, IsInside, AreNoted, is_assigned, is_reached, found, object_at, local_from, local_of, with_object}
 use Rattle.swizzle.specs.Mapped.{pid_at, link_at, IsLinked, AreChained}
-use Rattle.swizzle.specs.Kept.{IsMapped, with_heads}
-use Rattle.swizzle.specs.View.{heap_of, beside_of, IsKeptIn}
+use Rattle.swizzle.specs.Kept.{IsMapped, Noted, with_heads}
+use Rattle.swizzle.specs.View.{heap_of, beside_of, noted_of, IsKeptIn}
 use Rattle.swizzle.specs.Numbered.{numbered}
 use Rattle.swizzle.specs.declared.swizzle.Swizzle.TheInside.{Inside}
 use Rattle.swizzle.proofs.ObjectLaws.{here, elsewhere, Split, split, length-words_of_all, words_of_all-append, fit_replaced}
 use Rattle.swizzle.proofs.HeapLaws.{first_is, behind_is, find-replaced, find-replaced_other, held-replaced, size-replaced}
-use Rattle.swizzle.proofs.NotedLaws.{noted-replaced}
+use Rattle.swizzle.proofs.NotedLaws.{both-replaced}
 use Rattle.swizzle.proofs.ChainedLaws.{carried, pid_is, link_is, pid_same, link_same, same_object, linked_in, set_long}
-use Rattle.swizzle.proofs.KeptLaws.{Again, again, Lies, inside_kept}
+use Rattle.swizzle.proofs.KeptLaws.{Again, again, Lies, lists_of, inside_kept}
 
 pub local-numbered : (at : ℕ) (os : List Object) (i pid p : ℕ) (o new : Object) → find_from at os i ≡ Some o → size_of new ≡ size_of o → o.header.pid ≡ 0 → new.header.pid ≡ pid → local_from at os pid ≡ None → 1 ≤ p → local_from at (replace_from at os i new) p ≡ (if p == pid then Some i else local_from at os p)
 local-numbered at [] i pid p o new e long none is away some = absurd (cc)
@@ -105,9 +105,9 @@ module _ (os : List Object) (at : ℕ) (o new : Object) (is : find_from 1 os at 
         ];
       }
 
-pub IsHeap-numbered : (heap : Heap) (at pid : ℕ) (o new : Object) → IsHeap heap → found heap at ≡ Some o → IsFit new → size_of new ≡ size_of o → o.header.pid ≡ 0 → new.header.pid ≡ pid → 1 ≤ pid → local_of heap pid ≡ None → AreNoted (replace_from 1 heap.objects at new) heap.assigned → IsInside heap new
+pub IsHeap-numbered : (heap : Heap) (at pid : ℕ) (o new : Object) → IsHeap heap → found heap at ≡ Some o → IsFit new → size_of new ≡ size_of o → o.header.pid ≡ 0 → new.header.pid ≡ pid → 1 ≤ pid → local_of heap pid ≡ None → AreNoted is_assigned (replace_from 1 heap.objects at new) heap.assigned → AreNoted is_reached (replace_from 1 heap.objects at new) heap.reached → IsInside heap new
     → IsHeap (with_object heap at new)
-IsHeap-numbered heap at pid o new h e fit long none is low away noted refs = record {
+IsHeap-numbered heap at pid o new h e fit long none is low away noted walked refs = record {
   fit = fit_replaced 1 heap.objects at o new (split 1 heap.objects at o h.fit e) fit;
   within = omega (arith, h.within, size-replaced 1 heap.objects at o new e long);
   small = h.small;
@@ -130,6 +130,7 @@ IsHeap-numbered heap at pid o new h e fit long none is low away noted refs = rec
             local ∙ elsewhere p.header.pid pid (Some at) (local_from 1 heap.objects p.header.pid) ne ∙ was
       ];
   noted = noted;
+  walked = walked;
 }
 
 -- another header over that of an object
@@ -171,14 +172,14 @@ IsFit-numbered o pid link fit low linked = record {
 -- the header with the PID was written, and the object put before the others of its bucket
 pub given : (a : Inside) (new : AreaView) (heads : List ℕ) (heap : Heap) (at pid link : ℕ) → heap_of a ≡ heap → IsKeptIn a → Lies a.area.words heap at → new ≡ with_words a.area at (header_words (numbered (object_at heap at) pid link).header)
     → (object_at heap at).header.pid ≡ 0 → 1 ≤ pid → pid < 2 ^ 63 → local_of heap pid ≡ None → link ≡ get_or a.map.heads.items (pid % length a.map.heads.items) 0 → link < 2 ^ 32 → pid % length a.map.heads.items < length a.map.heads.items
-    → heads ≡ set a.map.heads.items (pid % length a.map.heads.items) at → Again new.words new.size a.assigned.items (with_heads (beside_of a) heads) (with_object heap at (numbered (object_at heap at) pid link))
+    → heads ≡ set a.map.heads.items (pid % length a.map.heads.items) at → Again new.words new.size (noted_of a) (with_heads (beside_of a) heads) (with_object heap at (numbered (object_at heap at) pid link))
 given a new heads heap at pid link e kept l written none low high away link_is_head small below put =
     let o = object_at heap at in
     let it = numbered o pid link in
     let was : a.area.size ≡ heap.size = ap (λ (x : Heap). x.size) e in
     let size : new.size ≡ heap.size = ap (λ (x : AreaView). x.size) written ∙ was in
     let objects : objects_of a.area.words ≡ heap.objects = ap (λ (x : Heap). x.objects) e in
-    let list : a.assigned.items ≡ heap.assigned = ap (λ (x : Heap). x.assigned) e in
+    let lists : noted_of a ≡ lists_of heap = ap lists_of e in
     let b = with_heads (beside_of a) heads in
     let words : new.words ≡ words_of_all (replace_from 1 heap.objects at it) =
     ap (λ (x : AreaView). x.words) written
@@ -192,8 +193,8 @@ given a new heads heap at pid link e kept l written none low high away link_is_h
       chained = subst (AreChained (replace_from 1 heap.objects at it)) (sym put) chained;
       for_fetch = m.for_fetch;
     } in
-    let noted = noted-replaced heap.objects heap.assigned at o it l.heap_is.noted l.is refl refl in
-    let sound = IsHeap-numbered heap at pid o it l.heap_is l.is (IsFit-numbered o pid link l.split.fit high (omega arith)) refl none refl low away noted (inside_kept heap at l.heap_is (record { object = o; is = l.is })) in
-    let all = again (replace_from 1 heap.objects at it) new.words heap.size heap.assigned b words sound (omega (arith, kept.for_assigned)) pids in
-    subst (λ (n : ℕ). Again new.words n a.assigned.items b (with_object heap at it)) (sym size)
-    (subst (λ (xs : List ℕ). Again new.words heap.size xs b (with_object heap at it)) (sym list) all)
+    let both = both-replaced heap at o it l.heap_is.noted l.heap_is.walked l.is refl refl in
+    let sound = IsHeap-numbered heap at pid o it l.heap_is l.is (IsFit-numbered o pid link l.split.fit high (omega arith)) refl none refl low away both.0 both.1 (inside_kept heap at l.heap_is (record { object = o; is = l.is })) in
+    let all = again (replace_from 1 heap.objects at it) new.words heap.size (lists_of heap) b words sound (omega (arith, kept.for_assigned)) (omega (arith, kept.for_reached)) pids in
+    subst (λ (n : ℕ). Again new.words n (noted_of a) b (with_object heap at it)) (sym size)
+    (subst (λ (x : Noted). Again new.words heap.size x b (with_object heap at it)) (sym lists) all)

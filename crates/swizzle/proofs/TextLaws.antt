@@ -15,7 +15,7 @@ use Rattle.obj_layout.specs.Reference.{reference_word}
 use Rattle.swizzle.specs.Objects.{Object, words_before, IsFit, words_of_all, size_of_all, replace_from}
 use Rattle.swizzle.specs.Heap.{Heap, object_at}
 use Rattle.swizzle.specs.Text.{first_byte, text_of, text_at, with_bytes_at, with_text}
-use Rattle.swizzle.specs.View.{heap_of, beside_of, IsKeptIn}
+use Rattle.swizzle.specs.View.{heap_of, beside_of, noted_of, IsKeptIn}
 use Rattle.swizzle.specs.declared.swizzle.Swizzle.TheInside.{Inside}
 use Rattle.swizzle.proofs.ObjectLaws.{words_of_all-append, length-words_of_all}
 use Rattle.swizzle.proofs.KeptLaws.{Lies, Again, relaid_same, inside_kept}
@@ -177,7 +177,7 @@ IsFit-text o start bytes fit good =
 -- bytes are written over those of an object
 pub retexted : (a : Inside) (new : AreaView) (heap : Heap) (at place start : ℕ) (bytes : List ℕ) → heap_of a ≡ heap → IsKeptIn a → Lies a.area.words heap at → AreWords a.area.words → new ≡ with_bytes_from a.area place bytes → AreBytes bytes
     → place ≡ first_byte (object_at heap at) + (8 * (at + 4 + (object_at heap at).header.refs - 1) + start) → start + length bytes ≤ (object_at heap at).header.bytes
-    → Again new.words new.size a.assigned.items (beside_of a) (with_text heap at start bytes)
+    → Again new.words new.size (noted_of a) (beside_of a) (with_text heap at start bytes)
 retexted a new heap at place start bytes e kept l fits written good place_is h =
     let o = object_at heap at in
     let m = mid a.area.words heap at l in

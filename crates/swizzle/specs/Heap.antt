@@ -1,5 +1,5 @@
 -- What a swizzle is to its callers: the objects of its area, by the index at which each begins.
-use Rattle.std.specs.Prelude.{◌≡◌, ◌⊎◌, ℕ, Bool, true, ◌-◌, ◌+◌, ◌%◌, ◌^◌, ◌<◌, ◌≤◌, ◌==◌, if◌then◌else◌, List, [], ◌∷◌, ◌++◌, length, map, slice_index, slice_set, get_or, set, replicate, Option, Some, None, unwrap_or}
+use Rattle.std.specs.Prelude.{◌≡◌, ◌⊎◌, ℕ, Bool, true, ◌-◌, ◌+◌, ◌/◌, ◌%◌, ◌^◌, ◌<◌, ◌≤◌, ◌==◌, if◌then◌else◌, List, [], ◌∷◌, ◌++◌, length, map, slice_index, slice_set, get_or, set, replicate, Option, Some, None, unwrap_or}
 use Rattle.obj_layout.specs.declared.kind.Kind.{Kind}
 use Rattle.obj_layout.specs.declared.kind.Kind.TheVariants.{Text}
 use Rattle.obj_layout.specs.declared.header.Header.{Header}
@@ -15,6 +15,8 @@ pub record Heap : Type 0 where
   pub size : ℕ
   -- the objects that were assigned, each once, in order
   pub assigned : List ℕ
+  -- the objects that a walk has reached, each once, in order
+  pub reached : List ℕ
 
 -- the index at which the next object begins
 abbrev pub top_of : Heap → ℕ
@@ -84,17 +86,21 @@ local_of heap pid = local_from 1 heap.objects pid
 abbrev pub is_assigned : Object → Bool
 is_assigned object = object.header.flags % 2 == 1
 
--- 1 for an object that is assigned
-abbrev pub marked_one : Object → ℕ
-marked_one object = if is_assigned object then 1 else 0
+-- flag bit 1
+abbrev pub is_reached : Object → Bool
+is_reached object = object.header.flags / 2 % 2 == 1
+
+-- 1 for an object that has a flag
+abbrev pub marked_one : (Object → Bool) → Object → ℕ
+marked_one has object = if has object then 1 else 0
 
 abbrev pub sum_of : (Object → ℕ) → List Object → ℕ
 sum_of f [] = 0
 sum_of f (o ∷ os) = f o + sum_of f os
 
--- how many are assigned
-abbrev pub marked_in : List Object → ℕ
-marked_in os = sum_of marked_one os
+-- how many have it
+abbrev pub marked_in : (Object → Bool) → List Object → ℕ
+marked_in has os = sum_of (marked_one has) os
 
 -- the index stands in the list
 abbrev pub IsListed : ℕ → List ℕ → Type 0
@@ -106,18 +112,18 @@ abbrev pub AreOnce : List ℕ → Type 0
 AreOnce [] = Unit {0}
 AreOnce (i ∷ is) = (IsListed i is → ⊥) × AreOnce is
 
--- an object that is assigned begins there
-pub record IsMarked (objects : List Object) (at : ℕ) : Type 0 where
+-- an object that has a flag begins there
+pub record IsMarked (has : Object → Bool) (objects : List Object) (at : ℕ) : Type 0 where
   pub object : Object
   pub is : find_from 1 objects at ≡ Some object
-  pub flag : is_assigned object ≡ true
+  pub flag : has object ≡ true
 
--- The list has exactly the objects that are assigned, each once.
-pub record AreNoted (objects : List Object) (assigned : List ℕ) : Type 0 where
-  pub counted : length assigned ≡ marked_in objects
-  pub once : AreOnce assigned
-  pub marked : (at : ℕ) → IsListed at assigned → IsMarked objects at
-  pub listed : (at : ℕ) → IsMarked objects at → IsListed at assigned
+-- The list has exactly the objects that have a flag, each once.
+pub record AreNoted (has : Object → Bool) (objects : List Object) (list : List ℕ) : Type 0 where
+  pub counted : length list ≡ marked_in has objects
+  pub once : AreOnce list
+  pub marked : (at : ℕ) → IsListed at list → IsMarked has objects at
+  pub listed : (at : ℕ) → IsMarked has objects at → IsListed at list
 
 -- each reference of the object into the area is to an object there
 abbrev pub IsInside : Heap → Object → Type 0
@@ -131,11 +137,12 @@ pub record IsHeap (heap : Heap) : Type 0 where
   -- no two objects have one PID
   pub one : (at : ℕ) (object : Object) → found heap at ≡ Some object → 1 ≤ object.header.pid → local_of heap object.header.pid ≡ Some at
   pub inside : (at : ℕ) (object : Object) → found heap at ≡ Some object → IsInside heap object
-  pub noted : AreNoted heap.objects heap.assigned
+  pub noted : AreNoted is_assigned heap.objects heap.assigned
+  pub walked : AreNoted is_reached heap.objects heap.reached
 
 -- a heap without objects
 abbrev pub fresh_heap : ℕ → Heap
-fresh_heap size = record { objects = []; size = size; assigned = [] }
+fresh_heap size = record { objects = []; size = size; assigned = []; reached = [] }
 
 -- the object that begins there is noted as assigned, once
 abbrev pub flagged : Object → Object
@@ -158,6 +165,28 @@ without_mark object = if is_assigned object then unflagged object else object
 
 abbrev pub with_no_marks : Heap → Heap
 with_no_marks heap = record heap { objects = map without_mark heap.objects; assigned = [] }
+
+-- the object that begins there is noted as reached, once
+abbrev pub reach_flagged : Object → Object
+reach_flagged object = record object { header = record (object.header) { flags = object.header.flags + 2 } }
+
+abbrev pub with_reach : Heap → ℕ → Heap
+with_reach heap at =
+    let object = object_at heap at in
+    if is_reached object then heap else record heap {
+      objects = replace_from 1 heap.objects at (reach_flagged object);
+      reached = heap.reached ++ at ∷ [];
+    }
+
+-- no object is noted as reached
+abbrev pub reach_unflagged : Object → Object
+reach_unflagged object = record object { header = record (object.header) { flags = object.header.flags - 2 } }
+
+abbrev pub without_reach : Object → Object
+without_reach object = if is_reached object then reach_unflagged object else object
+
+abbrev pub with_none_reached : Heap → Heap
+with_none_reached heap = record heap { objects = map without_reach heap.objects; reached = [] }
 
 -- An object stays where it is, with its header but for its flags and its chain.
 pub record Stand (old new : Heap) (at : ℕ) : Type 0 where

@@ -2,16 +2,18 @@
 use Rattle.std.specs.Prelude.{◌≡◌, ℕ, ◌+◌, ◌*◌, ◌≤◌, List, length}
 use Rattle.swizzle.specs.Objects.{Object, words_of_all, objects_of}
 use Rattle.swizzle.specs.Heap.{IsHeap}
-pub use Rattle.swizzle.specs.Mapped.{AreChained, heap_from}
+pub use Rattle.swizzle.specs.Mapped.{AreChained, Noted, heap_from}
 
--- What stands beside the area: the heads of the map's chains, and the room of the list of the assigned and of the buffer.
+-- What stands beside the area: the heads of the map's chains, and the room of the lists of the assigned and of the reached, and of the buffer.
 pub record Beside : Type 0 where
   pub places : ℕ
+  pub stops : ℕ
   pub heads : List ℕ
   pub room : ℕ
 
-abbrev pub with_places : Beside → ℕ → Beside
-with_places beside places = record beside { places = places }
+-- with room for so many assigned and so many reached objects
+abbrev pub with_room : Beside → ℕ → ℕ → Beside
+with_room beside places stops = record beside { places = places; stops = stops }
 
 abbrev pub with_heads : Beside → List ℕ → Beside
 with_heads beside heads = record beside { heads = heads }
@@ -22,9 +24,10 @@ pub record IsMapped (objects : List Object) (size : ℕ) (beside : Beside) : Typ
   pub chained : AreChained objects beside.heads
   pub for_fetch : size ≤ beside.room + 1
 
-pub record IsKept (words : List ℕ) (size : ℕ) (assigned : List ℕ) (beside : Beside) : Type 0 where
+pub record IsKept (words : List ℕ) (size : ℕ) (noted : Noted) (beside : Beside) : Type 0 where
   pub cut : words_of_all (objects_of words) ≡ words
-  pub heap : IsHeap (heap_from words size assigned)
+  pub heap : IsHeap (heap_from words size noted)
   -- no object has less than five words
   pub for_assigned : size ≤ 5 * beside.places + 5
+  pub for_reached : size ≤ 5 * beside.stops + 5
   pub pids : IsMapped (objects_of words) size beside

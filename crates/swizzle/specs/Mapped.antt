@@ -24,15 +24,20 @@ pub record AreChained (os : List Object) (heads : List ℕ) : Type 0 where
   pub all : (at : ℕ) (object : Object) → find_from 1 os at ≡ Some object → 1 ≤ object.header.pid → IsInMap belongs at
   pub only : (at : ℕ) → IsInMap belongs at → 1 ≤ pid_at os at
 
+-- The objects that were assigned, and those that a walk has reached, each once, in order.
+pub record Noted : Type 0 where
+  pub assigned : List ℕ
+  pub reached : List ℕ
+
 -- the heap of an area with these words
-abbrev pub heap_from : List ℕ → ℕ → List ℕ → Heap
-heap_from words size assigned = record { objects = objects_of words; size = size; assigned = assigned }
+abbrev pub heap_from : List ℕ → ℕ → Noted → Heap
+heap_from words size noted = record { objects = objects_of words; size = size; assigned = noted.assigned; reached = noted.reached }
 
 -- a linked object begins there in an area that is cut into the objects of some heap
 pub record IsPlaceIn (words : List ℕ) (size at : ℕ) : Type 0 where
-  pub assigned : List ℕ
+  pub noted : Noted
   pub cut : words_of_all (objects_of words) ≡ words
-  pub heap : IsHeap (heap_from words size assigned)
+  pub heap : IsHeap (heap_from words size noted)
   pub linked : IsLinked (objects_of words) at
   pub from : 1 ≤ at
   pub below : at < 1 + length words

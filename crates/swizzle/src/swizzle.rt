@@ -1,9 +1,9 @@
-ghost use Rattle.std.specs.Prelude.{◌≡◌, ◌≢◌, nat_eq, ◌+◌, ◌%◌, ◌^◌, ◌<◌, ◌≤◌, true, false, ℕ, Option, None, IfOk, IfErr, IfSome, OnOk, MatchResult, ◌++◌, Some, length, take, drop, vec_capacity};
+ghost use Rattle.std.specs.Prelude.{◌≡◌, ◌≢◌, nat_eq, ◌+◌, ◌/◌, ◌%◌, ◌^◌, ◌<◌, ◌≤◌, true, false, ℕ, Option, None, IfOk, IfErr, IfSome, OnOk, MatchResult, ◌++◌, Some, length, take, drop, vec_capacity};
 ghost use Rattle.obj_layout.specs.Header.{HasFitLengths, object_length};
 ghost use Rattle.obj_layout.specs.Kind.{kind_number};
 ghost use Rattle.obj_layout.specs.Reference.{IsReference, reference_word};
 ghost use Rattle.swizzle.specs.Objects.{HasRoomForBytes, object_words, words_before as before};
-ghost use Rattle.swizzle.specs.Heap.{IsHeap, IsHeld, IsMade, IsFull, Stands, local_of, fresh_heap, top_of, header_at, ref_at, num_at, with_num, with_ref, with_mark, with_no_marks, blank, reference_to};
+ghost use Rattle.swizzle.specs.Heap.{IsHeap, IsHeld, IsMade, IsFull, Stands, local_of, fresh_heap, top_of, header_at, ref_at, num_at, with_num, with_ref, with_mark, with_no_marks, with_reach, with_none_reached, blank, reference_to};
 ghost use Rattle.obj_layout.specs.Stored.{Holds};
 ghost use Rattle.obj_layout.specs.Storing.{SameNumbers};
 ghost use Rattle.swizzle.specs.Joint.{Joint, name_of};
@@ -14,7 +14,7 @@ ghost use Rattle.swizzle.specs.Numbered.{GivesPid};
 ghost use Rattle.obj_area.specs.Area.{top_of as area_top};
 ghost use Rattle.swizzle.specs.Fetched.{IsLocal};
 ghost use Rattle.swizzle.specs.Touch.{Came, Only, Sound, Keeps, Denotes, IsNear, IsTouchCall, IsTouchFault};
-ghost use Rattle.swizzle.specs.inside.Clearing.{IsUnmarked, IsUnmarkedAll};
+ghost use Rattle.swizzle.specs.inside.Clearing.{IsUnmarked, IsUnmarkedAll, IsLeft, AreLeft};
 
 use crate::fault::SwizzleFault;
 use crate::fetched::fetch_near;
@@ -34,6 +34,8 @@ pub struct Swizzle {
     area: Area,
     // The objects whose flag bit 0 is set, each once, in the order in which they were marked.
     assigned: Vec<u32>,
+    // The objects whose flag bit 1 is set, each once, in the order in which a walk reached them.
+    reached: Vec<u32>,
     // The PIDs of the objects that have one. Its chains lead through the objects.
     map: PidMap,
     // Where an object is fetched to before it is laid into the area. Its words are taken as they are needed.
@@ -45,6 +47,7 @@ impl Drop for Swizzle {
         let Swizzle {
             area: _,
             assigned: _,
+            reached: _,
             map: _,
             buffer: _,
         } = self;
@@ -63,6 +66,8 @@ impl Model for Swizzle {
 }
 
 const ASSIGNED: u64 = 1 << 8;
+
+const REACHED: u64 = 1 << 9;
 
 // The most buckets of the map of PIDs, four bytes each, which are written when the area is taken.
 const MOST_BUCKETS: u32 = 1 << 15;
@@ -84,11 +89,13 @@ impl Swizzle {
     {
         let area = Area::new(alloc, words)?;
         let assigned = Vec::with_capacity(alloc, words as usize / 5)?;
+        let reached = Vec::with_capacity(alloc, words as usize / 5)?;
         let map = PidMap::new(alloc, (words / 5).min(MOST_BUCKETS))?;
         let buffer = Vec::with_capacity(alloc, words as usize)?;
         Ok(Swizzle {
             area,
             assigned,
+            reached,
             map,
             buffer,
         })
@@ -100,6 +107,7 @@ impl Swizzle {
     {
         self.area.reset();
         self.assigned.clear();
+        self.reached.clear();
         self.map.clear();
     }
 
@@ -602,6 +610,63 @@ impl Swizzle {
         };
         let first = self.area.word(object);
         self.area.set_word(object, first - ASSIGNED);
+        true
+    }
+
+    /// Notes the object as reached by a walk, once. Where it is already, this reads a word.
+    #[inline]
+    pub fn reach(&mut self, object: u32)
+        requires { IsHeld self.old object }
+        ensures written { self.new ≡ with_reach self.old object }
+        ensures stands { Stands self.old self.new }
+    {
+        let first = self.area.word(object);
+        if first / REACHED % 2 == 1 {
+            return;
+        }
+        self.note_reached(object);
+    }
+
+    // Notes an object as reached that isn't yet.
+    fn note_reached(&mut self, object: u32)
+        requires held { IsHeld self.old object }
+        requires plain { (header_at self.old object).flags / 2 % 2 ≢ 1 }
+        ensures written { self.new ≡ with_reach self.old object }
+        ensures stands { Stands self.old self.new }
+    {
+        let first = self.area.word(object);
+        self.area.set_word(object, first + REACHED);
+        match self.reached.push(object) {
+            Ok(()) => {}
+            Err(_) => unreachable!(),
+        }
+    }
+
+    /// The objects that a walk has reached, each once, in the order in which it did.
+    pub fn reached(&self) -> &[u32]
+        ensures { result.now ≡ self.now.reached }
+    {
+        &self.reached
+    }
+
+    /// Notes no object as reached any more, in time that depends on their number alone.
+    pub fn clear_reached(&mut self)
+        ensures written { self.new ≡ with_none_reached self.old }
+        ensures stands { Stands self.old self.new }
+    {
+        while self.leave_last() {}
+    }
+
+    // Takes the last object from the list of the reached. False where there is none.
+    fn leave_last(&mut self) -> bool
+        ensures one { result ≡ true → IsLeft self.old self.new }
+        ensures all { result ≡ false → AreLeft self.old self.new }
+    {
+        let Some(object) = self.reached.pop() else {
+            return false;
+        };
+        let first = self.area.word(object);
+        self.area.set_word(object, first - REACHED);
         true
     }
 }

@@ -2,7 +2,7 @@ ghost use Rattle.std.specs.Prelude.{◌≡◌, length};
 ghost use Rattle.std.specs.Fmt.{signed_decimal};
 ghost use Rattle.heap_texts.specs.swizzle.Heap.{IsHeld, header_at};
 ghost use Rattle.heap_texts.specs.swizzle.Text.{text_at};
-ghost use Rattle.heap_texts.specs.ps_meaning.Texts.{join_of, part_of, order_of};
+ghost use Rattle.heap_texts.specs.ps_meaning.Texts.{join_of, part_of, order_of, string_of};
 ghost use Rattle.heap_texts.specs.Texts.{GivesText, MakesText};
 
 use crate::span::span_within;
@@ -70,6 +70,19 @@ pub fn int_text(sw: &mut Swizzle, value: i32) -> Result<u32, SwizzleFault>
 {
     let mut buffer = Buffer::new();
     make_text(sw, buffer.format(value).as_bytes())
+}
+
+/// These bytes as a new text. TooLong where they are more than 65,535, else AreaFull where there is no room for it; then the area stays.
+pub fn text_of_bytes(sw: &mut Swizzle, bytes: &[u8]) -> Result<u32, OpFault>
+    ensures { GivesText sw.old sw.new (string_of bytes.now) result }
+{
+    if bytes.len() as u64 > MOST_BYTES {
+        return Err(OpFault::Trap(Trap::TooLong));
+    }
+    match make_text(sw, bytes) {
+        Ok(at) => Ok(at),
+        Err(fault) => Err(OpFault::Swizzle(fault)),
+    }
 }
 
 // How many bytes a text has.

@@ -99,6 +99,7 @@ impl Objects {
             → BreaksByCode self.old self.new (V.outside vault.old) (V.outside vault.new) code result }
         ensures notes { NotesWritten self.old self.new object result }
         ensures stands { UnlessFault result (AllStand self.old self.new) }
+        ensures size { UnlessFault result (self.new.size ≡ self.old.size) }
         ensures fails { BreaksAsReading (V.outside vault.old) (V.outside vault.new) result }
         ensures leaves { LeavesOutside (V.outside vault.old) (V.outside vault.new) }
         ensures numbers { SameNumbers V.used_words V.directory_at V.most_words vault.old vault.new }
@@ -342,6 +343,7 @@ fn write_field<V: Vault>(
         → BreaksByCode sw.old sw.new (V.outside vault.old) (V.outside vault.new) code result }
     ensures notes { NotesWritten sw.old sw.new object result }
     ensures stands { UnlessFault result (AllStand sw.old sw.new) }
+    ensures size { UnlessFault result (sw.new.size ≡ sw.old.size) }
     ensures fails { BreaksAsReading (V.outside vault.old) (V.outside vault.new) result }
     ensures leaves { LeavesOutside (V.outside vault.old) (V.outside vault.new) }
     ensures numbers { SameNumbers V.used_words V.directory_at V.most_words vault.old vault.new }

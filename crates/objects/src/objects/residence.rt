@@ -4,7 +4,7 @@ ghost use Rattle.joint_ops.specs.obj_layout.declared.reference.Reference as refe
 ghost use Rattle.joint_ops.specs.obj_layout.declared.reference.Reference.TheVariants.{Pid};
 ghost use Rattle.joint_ops.specs.obj_layout.Storing.{SameNumbers};
 ghost use Rattle.joint_ops.specs.swizzle.Fetched.{IsLocal};
-ghost use Rattle.joint_ops.specs.swizzle.Heap.{IsHeld};
+ghost use Rattle.joint_ops.specs.swizzle.Heap.{IsHeld, header_at};
 ghost use Rattle.joint_ops.specs.swizzle.Reading.{LeavesOutside};
 ghost use Rattle.joint_ops.specs.swizzle.Touch.{Keeps, IsTouchFault};
 ghost use Rattle.joint_ops.specs.ps_meaning.Objects as meaning;
@@ -18,6 +18,15 @@ use joint_ops::swizzle::fault::SwizzleFault;
 use joint_ops::swizzle::swizzle::Swizzle;
 
 impl Objects {
+    /// The PID of an object, 0 for one that has none yet.
+    #[inline]
+    pub fn pid_of(&self, object: u32) -> u64
+        requires { IsHeld self.now object }
+        ensures { result ≡ (header_at self.now object).pid }
+    {
+        self.sw.pid(object)
+    }
+
     /// The object of a PID, which is fetched where it isn't in the area. The fault is that of the first test that it doesn't pass, or there is no room
     /// for it.
     pub fn fetch<V: Vault>(&mut self, vault: &mut V, pid: u64) -> Result<u32, SwizzleFault>

@@ -161,6 +161,7 @@ impl Objects {
         ensures numbers { SameNumbers V.used_words V.directory_at V.most_words vault.old vault.new }
         ensures alive { OnOk result (V.alive vault.new) }
         ensures stands { OnOk result (AllStand self.old self.new) }
+        ensures size { OnOk result (self.new.size ≡ self.old.size) }
     {
         let got = scope::set_kept(
             &mut self.sw,

@@ -1,17 +1,18 @@
 //! Units of code, loaded and read.
-ghost use Rattle.std.specs.Prelude.{◌≡◌, ℕ, List, IfOk, IfSome, OnOk};
+ghost use Rattle.std.specs.Prelude.{◌≡◌, ℕ, List, IfErr, IfOk, IfSome, OnOk};
 ghost use Rattle.ps_base.specs.CodeUnit.{ConstantsView, unit, unit_view};
 ghost use Rattle.ps_base.specs.declared.code_unit.Frame.{Frame as Numbers};
 ghost use Rattle.joint_ops.specs.obj_layout.declared.reference.Reference.{Reference};
 ghost use Rattle.joint_ops.specs.obj_layout.Storing.{SameNumbers};
 ghost use Rattle.joint_ops.specs.proc_values.Loaded.{IsFitUnit};
-ghost use Rattle.joint_ops.specs.swizzle.Heap.{IsHeld, header_at};
+ghost use Rattle.joint_ops.specs.proc_values.Units.{IsCut, unit_objects};
+ghost use Rattle.joint_ops.specs.swizzle.Heap.{IsHeld, header_at, num_at, top_of};
 ghost use Rattle.joint_ops.specs.swizzle.Reading.{LeavesOutside};
 ghost use Rattle.joint_ops.specs.swizzle.Touch.{Keeps};
 ghost use Rattle.joint_ops.specs.ps_meaning.Objects as meaning;
 ghost use Rattle.joint_ops.specs.World.{IsUnitIn, IsWorld, Stands, FailsAsReading};
 ghost use Rattle.joint_ops.specs.Code.{LoadsUnit, AnswersConstant};
-ghost use Rattle.joint_procedures.specs.Units.{AnswersLiteral, AnswersText};
+ghost use Rattle.joint_procedures.specs.Units.{AnswersLiteral, AnswersText, IsFrameIn};
 
 use super::Objects;
 use joint_ops::code;
@@ -28,7 +29,9 @@ impl Objects {
     pub fn load<V: Vault>(&mut self, vault: &V, unit: &CodeUnit) -> Result<u32, SwizzleFault>
         ensures loaded { LoadsUnit self.old self.new (V.outside vault.now) (unit_view unit.now) result }
         ensures held { IfOk result (IsHeld self.new) }
+        ensures code { IfOk result (λ at. (header_at self.new at).kind ≡ Kind.Code) }
         ensures keeps { Keeps self.old self.new }
+        ensures cut { IfErr result (λ fault. IsCut self.old self.new (unit_objects (top_of self.old) (unit_view unit.now)) fault) }
     {
         code::load(&mut self.sw, vault, unit)
     }
@@ -65,15 +68,16 @@ impl Objects {
         }
     }
 
-    /// The frame of a unit whose code object is given.
+    /// The frame of a unit whose code object is given, whatever the vault.
     #[inline]
-    pub fn frame_of<V: Vault>(&self, vault: &V, code: u32) -> Frame
+    pub fn frame_of<V: Vault>(&self, code: u32) -> Frame
         requires held { IsHeld self.now code }
         requires kind { (header_at self.now code).kind ≡ Kind.Code }
-        ensures { (bytes : List ℕ) (row : ConstantsView) (frame : Numbers) → IsUnitIn self.now (V.outside vault.now) code (unit bytes row frame)
+        ensures word { IsFrameIn (num_at self.now code 1) result }
+        ensures value { (vault : V) (bytes : List ℕ) (row : ConstantsView) (frame : Numbers) → IsUnitIn self.now (V.outside vault) code (unit bytes row frame)
             → IsFitUnit (unit bytes row frame) → result ≡ frame }
     {
-        unit::frame_of(&self.sw, vault, code)
+        unit::frame_of::<V>(&self.sw, code)
     }
 
     /// The code object of the unit that is the constant of this number of a code object, None where the constant is a text. Of the code object of a unit
@@ -92,6 +96,7 @@ impl Objects {
         ensures world { OnOk result ((of : meaning.Heap) (names : List Reference) → IsWorld self.old (V.outside vault.old) of names
             → Stands self.old self.new (V.outside vault.old) (V.outside vault.new) of names) }
         ensures held { IfOk result (λ to. IfSome to (IsHeld self.new)) }
+        ensures code { IfOk result (λ to. IfSome to (λ at. (header_at self.new at).kind ≡ Kind.Code)) }
         ensures keeps { OnOk result (Keeps self.old self.new) }
         ensures fails { FailsAsReading (V.outside vault.old) (V.outside vault.new) result }
         ensures leaves { LeavesOutside (V.outside vault.old) (V.outside vault.new) }

@@ -71,12 +71,26 @@ impl Objects {
     /// The number of an element of a vector of ints or bools, of a bool 1 or 0, where it is reached by what is known of the vector. None where it isn't:
     /// then it is to be read by `get_element`, which also finds the trap of a subscript.
     #[inline(always)]
-    pub fn element_number<V: Vault>(&self, _vault: &V, vector: u32, at: i32) -> Option<i32>
-        ensures { (of : meaning.Heap) (names : List Reference) (id : ℕ) → IsWorld self.now (V.outside _vault.now) of names
-            → DenotesIn self.now (V.outside _vault.now) names (Some vector) (meant.Vector id) → IfSome result (IsNumber of id at) }
+    pub fn element_number<V: Vault>(&self, vector: u32, at: i32) -> Option<i32>
+        ensures { (vault : V) (of : meaning.Heap) (names : List Reference) (id : ℕ) → IsWorld self.now (V.outside vault) of names
+            → DenotesIn self.now (V.outside vault) names (Some vector) (meant.Vector id) → IfSome result (IsNumber of id at) }
     {
         self.sw.sound();
         peek_number(&self.sw, &self.known.vectors, vector, at)
+    }
+
+    /// The form of the elements of a vector, where the element at a subscript is reached by what is known of the vector. None where it isn't: then
+    /// `element_form` tells it.
+    #[inline(always)]
+    pub fn known_form<V: Vault>(&self, vector: u32, at: i32) -> Option<Form>
+        ensures { (vault : V) (of : meaning.Heap) (names : List Reference) (id : ℕ) → IsWorld self.now (V.outside vault) of names
+            → DenotesIn self.now (V.outside vault) names (Some vector) (meant.Vector id) → IfSome result (λ form. form ≡ form_in of id) }
+    {
+        self.sw.sound();
+        match self.known.vectors.reach(vector, at) {
+            Some(found) => Some(found.form),
+            None => None,
+        }
     }
 
     /// Writes the element of a vector at a subscript, as the elements keep it, and notes the vector as assigned: an int may be put where bools are kept,
@@ -107,6 +121,7 @@ impl Objects {
         ensures numbers { SameNumbers V.used_words V.directory_at V.most_words vault.old vault.new }
         ensures alive { UnlessFault result (V.alive vault.new) }
         ensures stands { UnlessFault result (AllStand self.old self.new) }
+        ensures size { UnlessFault result (self.new.size ≡ self.old.size) }
     {
         self.sw.sound();
         match place_for(&self.known.vectors, vector, at, to) {
@@ -387,6 +402,7 @@ fn write_element<V: Vault>(
     ensures numbers { SameNumbers V.used_words V.directory_at V.most_words vault.old vault.new }
     ensures alive { UnlessFault result (V.alive vault.new) }
     ensures stands { UnlessFault result (AllStand sw.old sw.new) }
+    ensures size { UnlessFault result (sw.new.size ≡ sw.old.size) }
 {
     sw.sound();
     let set = vectors::set_element(sw, vault, vector, at, to);

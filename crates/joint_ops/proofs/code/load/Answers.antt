@@ -1,6 +1,6 @@
 use Rattle.ps_base.specs.CodeUnit.{unit_view}
 use Rattle.heap_meaning.proofs.of_proc_values.StayLaws.{keeps-load}
-use Rattle.joint_ops.proofs.CodeLaws.{loads}
+use Rattle.joint_ops.proofs.CodeLaws.{loads, load-kind}
 use Rattle.joint_ops.proofs.code.load.Goals as goal
 
 pub returns-clause-loaded : goal.returns-clause-loaded
@@ -11,4 +11,9 @@ returns-clause-loaded g c =
 pub returns-clause-keeps : goal.returns-clause-keeps
 returns-clause-keeps g c =
     keeps-load c.args.sw.now c.load_unit-loaded.new.sw (unit_view c.args.unit.now) c.load_unit-loaded.result c.sound.ensures
+    c.load_unit-loaded.ensures.loads
+
+pub returns-clause-code : goal.returns-clause-code
+returns-clause-code g c =
+    load-kind c.args.sw.now c.load_unit-loaded.new.sw (unit_view c.args.unit.now) c.load_unit-loaded.result c.load_unit-loaded.ensures.fit
     c.load_unit-loaded.ensures.loads

@@ -5,8 +5,8 @@ use Rattle.joint_ops.proofs.SeenLaws.{text-denoted}
 use Rattle.joint_ops.proofs.texts.compare.Goals as goal
 
 pub returns : goal.returns
-returns g c names v w da db =
-    let outside = g.V.Vault.outside c.args._vault.now in
+returns g c vault names v w da db =
+    let outside = g.V.Vault.outside vault in
     c.compare.ensures
     ∙ ap (λ (x : List ℕ). order_of x (text_at c.args.sw.now c.args.b))
     (text-denoted c.args.sw.now outside names c.args.a v c.sound.ensures da).bytes_are

@@ -1,4 +1,4 @@
-use Rattle.joint_procedures.proofs.ProcedureLaws.{procedure-denoted, code-keeps, answers-code, code-held, code-leaves, code-fails}
+use Rattle.joint_procedures.proofs.ProcedureLaws.{procedure-denoted, code-slot_of, code-kind, code-keeps, answers-code, code-held, code-leaves, code-fails}
 use Rattle.joint_procedures.proofs.procedure.code_of.Goals as goal
 
 pub returns-clause-got : goal.returns-clause-got
@@ -26,4 +26,14 @@ returns-clause-held g c =
 pub returns-clause-keeps : goal.returns-clause-keeps
 returns-clause-keeps g c =
     code-keeps c.args.sw.now c.code_of-got.new.sw (g.V.Vault.outside c.args.vault.now) (g.V.Vault.outside c.code_of-got.new.vault)
+    c.args.procedure c.code_of-got.result c.code_of-got.ensures.told
+
+pub returns-clause-slot : goal.returns-clause-slot
+returns-clause-slot g c =
+    code-slot_of c.args.sw.now c.code_of-got.new.sw (g.V.Vault.outside c.args.vault.now) (g.V.Vault.outside c.code_of-got.new.vault)
+    c.args.procedure c.code_of-got.result c.requires.held c.code_of-got.ensures.told
+
+pub returns-clause-code : goal.returns-clause-code
+returns-clause-code g c =
+    code-kind c.args.sw.now c.code_of-got.new.sw (g.V.Vault.outside c.args.vault.now) (g.V.Vault.outside c.code_of-got.new.vault)
     c.args.procedure c.code_of-got.result c.code_of-got.ensures.told

@@ -1,4 +1,4 @@
-use Rattle.joint_procedures.proofs.ProcedureLaws.{procedure-denoted, scope-keeps, answers-scope, round-held, scope-leaves, scope-fails}
+use Rattle.joint_procedures.proofs.ProcedureLaws.{procedure-denoted, scope-slot_of, scope-keeps, answers-scope, round-held, scope-leaves, scope-fails}
 use Rattle.joint_procedures.proofs.procedure.scope_of.Goals as goal
 
 pub returns-clause-got : goal.returns-clause-got
@@ -27,3 +27,8 @@ pub returns-clause-keeps : goal.returns-clause-keeps
 returns-clause-keeps g c =
     scope-keeps c.args.sw.now c.scope_of-got.new.sw (g.V.Vault.outside c.args.vault.now) (g.V.Vault.outside c.scope_of-got.new.vault)
     c.args.procedure c.scope_of-got.result c.scope_of-got.ensures.told
+
+pub returns-clause-slot : goal.returns-clause-slot
+returns-clause-slot g c =
+    scope-slot_of c.args.sw.now c.scope_of-got.new.sw (g.V.Vault.outside c.args.vault.now) (g.V.Vault.outside c.scope_of-got.new.vault)
+    c.args.procedure c.scope_of-got.result c.requires.held c.scope_of-got.ensures.told

@@ -15,6 +15,7 @@ returns-in_default g c = record {
   world = c.in-Ok.ensures.world;
   keeps = c.in-Ok.ensures.keeps;
   held = tt;
+  code = tt;
   fails = tt;
   leaves = c.in-Ok.ensures.leaves;
   numbers = c.in-Ok.ensures.numbers;

@@ -1,4 +1,4 @@
-use Rattle.std.proofs.Common.{◌≡◌, ◌<◌, ◌+◌, ◌≤◌, ℕ, sym, ◌∙◌, ap, arith, if◌then◌else◌, Bool}
+use Rattle.std.proofs.Common.{◌≡◌, ◌+◌, ℕ, sym, ◌∙◌, ap, arith, if◌then◌else◌, Bool}
 use Rattle.paged_volume.specs.Changing.{changed_pages}
 use Rattle.paged_volume.proofs.Changed.{changed_zero, changed_more, changed_most, one_most}
 use Rattle.paged_volume.proofs.changing.changed_pages.Goals as goal

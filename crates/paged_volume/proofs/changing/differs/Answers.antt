@@ -1,4 +1,4 @@
-use Rattle.std.proofs.Common.{◌≡◌, ℕ, sym, ◌∙◌, arith}
+use Rattle.std.proofs.Common.{arith}
 use Rattle.paged_volume.proofs.Changed.{differs_past, differs_by}
 use Rattle.paged_volume.proofs.changing.differs.Goals as goal
 

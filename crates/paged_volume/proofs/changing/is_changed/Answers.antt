@@ -1,6 +1,4 @@
-use Rattle.std.proofs.Common.{◌≡◌, ◌<◌, ◌+◌, ◌*◌, ℕ, false, true, sym, ◌∙◌, subst, arith, inl, inr}
-use Rattle.std.proofs.lemmas.Bool.{cases_lt}
-use Rattle.paged_volume.specs.Changing.{differs}
+use Rattle.std.proofs.Common.{sym, ◌∙◌, arith}
 use Rattle.paged_volume.proofs.Changed.{changed_some, changed_none, none_more}
 use Rattle.paged_volume.proofs.changing.is_changed.Goals as goal
 

@@ -1,4 +1,4 @@
-use Rattle.std.proofs.Common.{◌≡◌, ℕ, sym, ◌∙◌}
+use Rattle.std.proofs.Common.{sym, ◌∙◌}
 use Rattle.paged_volume.proofs.Changed.{next_below, next_past}
 use Rattle.paged_volume.proofs.changing.next_number.Goals as goal
 

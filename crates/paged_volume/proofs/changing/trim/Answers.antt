@@ -1,4 +1,4 @@
-use Rattle.std.proofs.Common.{◌≡◌, ◌<◌, ◌≤◌, ℕ, List, length, get_or, refl, sym, ◌∙◌, ap, arith, length-set, inl}
+use Rattle.std.proofs.Common.{ℕ, List, length, refl, ◌∙◌, ap, arith, inl}
 use Rattle.page_map.specs.Map.{MapView}
 use Rattle.paged_volume.proofs.Changed.{trimmed, trimmed_step}
 use Rattle.paged_volume.proofs.changing.trim.Goals as goal

@@ -1,4 +1,5 @@
-use Rattle.std.proofs.Common.{◌≡◌, ℕ, List, ◌+◌, ◌<◌, ◌≤◌, sym, ◌∙◌, ap, arith}
+use Rattle.std.proofs.Common.{◌≡◌, ℕ, List, ◌+◌, length, sym, ◌∙◌, ap, arith}
+use Rattle.paged_volume.specs.Layout.{capacity_pages, map_pages_of}
 use Rattle.paged_volume.specs.Standing.{map_count}
 use Rattle.paged_volume.specs.declared.committed.Committed.{Committed}
 use Rattle.paged_volume.proofs.Bounds.{are_low}
@@ -26,7 +27,11 @@ returns-in-Err-read_names-clause-cause g c =
 
 pub returns-clause-table : goal.returns-clause-table
 returns-clause-table g c =
-    settled_table_is c.read_names.new.table c.settle.new.self c.deref.result.now c.in-Ok-new_table.table.committed c.read_names.ensures.committed c.in-Ok-read_names.ensures.naming c.deref.ensures.value c.settle.ensures
+    let new = c.in-Ok-new_table.table in
+    let named : length c.read_names.new.table.named.items ≡ length new.named.items =
+    c.in-Ok-read_names.ensures.naming.names ∙ ap (λ (k : Committed). 1 + map_pages_of (capacity_pages k.pages)) c.read_names.ensures.committed ∙ sym c.in-Ok-new_table.ensures.naming.names in
+    settled_table_is c.read_names.new.table c.settle.new.self c.deref.result.now c.in-Ok-new_table.table.committed c.read_names.ensures.committed c.in-Ok-read_names.ensures.naming
+    (ap (λ (xs : List ℕ). length xs) c.read_names.ensures.next ∙ c.in-Ok-new_table.ensures.next ∙ sym named) (c.read_names.ensures.pins ∙ c.in-Ok-new_table.ensures.pins) c.deref.ensures.value c.settle.ensures
 
 pub returns-clause-says : goal.returns-clause-says
 returns-clause-says g c = λ bytes now.

@@ -1,12 +1,10 @@
-use Rattle.std.proofs.Common.{◌≡◌, ℕ, List, Bool, ◌*◌, ◌+◌, ◌<◌, ◌≤◌, sym, ◌∙◌, ap, subst, arith, length, take, drop, get_or, Some}
-use Rattle.page_map.specs.Map.{MapView, with_read}
-use Rattle.page_map.specs.Numbers.{first_numbers}
-use Rattle.shadow_volume.specs.Layout.{number_at}
+use Rattle.std.proofs.Common.{◌≡◌, ℕ, ◌*◌, ◌+◌, ◌≤◌, sym, ◌∙◌, ap, subst, arith, length, take, drop, get_or, Some}
+use Rattle.page_map.specs.Map.{MapView}
 use Rattle.paged_volume.specs.Found.{damage, bound_of}
-use Rattle.paged_volume.specs.Standing.{maps_of, map_count, logical_of, place_by}
+use Rattle.paged_volume.specs.Standing.{maps_of, map_count, logical_of}
 use Rattle.paged_volume.specs.Naming.{IsNamingOf}
 use Rattle.paged_volume.proofs.Bounds.{are_low}
-use Rattle.paged_volume.proofs.Naming.{naming_pages, read_before, length_free}
+use Rattle.paged_volume.proofs.Naming.{naming_pages, read_before}
 use Rattle.paged_volume.proofs.Reading.{map_at, map_low, count_is, pages_read, pages_fail, page_tests_fail, fails_by, bad_number}
 use Rattle.paged_volume.proofs.names.read_map.Goals as goal
 

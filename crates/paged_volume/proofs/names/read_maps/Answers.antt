@@ -1,5 +1,5 @@
-use Rattle.std.proofs.Common.{◌≡◌, ℕ, List, ◌*◌, ◌+◌, ◌<◌, ◌≤◌, min, sym, ◌∙◌, ap, subst, refl, arith, get_or}
-use Rattle.shadow_volume.proofs.Looking.{looks_none, looks_then, rose_then}
+use Rattle.std.proofs.Common.{ℕ, ◌*◌, ◌+◌, min, ◌∙◌, ap, subst, refl, arith}
+use Rattle.shadow_volume.proofs.Looking.{looks_none, looks_then}
 use Rattle.paged_volume.specs.Standing.{map_count, logical_of}
 use Rattle.paged_volume.specs.Naming.{IsNaming}
 use Rattle.paged_volume.specs.declared.committed.Committed.{Committed}
@@ -11,6 +11,8 @@ loop-map_page-init g c = record {
   naming = subst (λ (n : ℕ). IsNaming c.args.table.now c.args.table.now.committed.depth (map_count c.args.table.now.committed) n) (omega arith) c.requires.naming;
   committed = refl;
   named = refl;
+  next = refl;
+  pins = refl;
   pages = λ bytes now page lt. absurd (omega arith);
   looks = looks_none (g.H.Host.outside c.args.host.now) 0;
 }
@@ -56,6 +58,8 @@ loop-map_page-preserved g c =
       naming = subst (λ (k : Committed). IsNaming c.read_map.new.table k.depth (map_count k) (min (logical_of k) (1024 * (c.loop-map_page.map_page + 1)))) inv.committed is.naming;
       committed = c.read_map.ensures.committed ∙ inv.committed;
       named = c.read_map.ensures.named ∙ inv.named;
+      next = c.read_map.ensures.next ∙ inv.next;
+      pins = c.read_map.ensures.pins ∙ inv.pins;
       pages = pages_more (o c.args.host.now) (o c.loop-map_page.host) c.loop-map_page.table c.args.table.now c.read_map.new.table c.loop-map_page.map_page (omega (arith, c.map_count-map_page-end.ensures)) inv.committed inv.named inv.looks inv.pages
           c.read_map.ensures.stays is.pages;
       looks = looks_then (o c.args.host.now) (o c.loop-map_page.host) (o c.read_map.new.host) c.loop-map_page.map_page 1 (c.loop-map_page.map_page + 1) inv.looks c.read_map.ensures.looks (omega arith);
@@ -78,3 +82,9 @@ pub returns-clause-looks : goal.returns-clause-looks
 returns-clause-looks g c =
     let o = g.H.Host.outside in
     looks_more (o c.args.host.now) (o c.loop-map_page.host) c.loop-map_page.map_page (map_count c.args.table.now.committed) c.loop-map_page.invariant.looks (omega (arith, c.map_count-map_page-end.ensures, c.loop-map_page.auto.map_page-end))
+
+pub returns-in-Err-clause-next : goal.returns-in-Err-clause-next
+returns-in-Err-clause-next g c = c.read_map.ensures.next ∙ c.loop-map_page.invariant.next
+
+pub returns-in-Err-clause-pins : goal.returns-in-Err-clause-pins
+returns-in-Err-clause-pins g c = c.read_map.ensures.pins ∙ c.loop-map_page.invariant.pins

@@ -1,4 +1,4 @@
-use Rattle.std.proofs.Common.{◌≡◌, ◌<◌, ◌+◌, ◌*◌, ℕ, List, min, slice_index}
+use Rattle.std.proofs.Common.{◌≡◌, ◌<◌, ◌*◌, ℕ, List, min, slice_index}
 use Rattle.shadow_volume.specs.Layout.{number_at}
 use Rattle.shadow_volume.specs.Attaching.{Looks}
 use Rattle.paged_volume.specs.Standing.{place_by, logical_of, map_count}
@@ -14,6 +14,8 @@ invariant-loop-map_page g l =
       naming : IsNaming l.table says.depth (map_count says) (min (logical_of says) (1024 * l.map_page));
       committed : l.table.committed ≡ says;
       named : l.table.named.items ≡ l.fn.table.named.items;
+      next : l.table.next.items ≡ l.fn.table.next.items;
+      pins : l.table.pins.items ≡ l.fn.table.pins.items;
       pages : (bytes : List ℕ) → (outside l.fn.host).contents bytes → (page : ℕ) → page < min (logical_of says) (1024 * l.map_page) →
           number_at (place_by l.fn.table.named.items page) 4 bytes ≡ slice_index l.table.map.staged page;
       looks : Looks (outside l.fn.host) (outside l.host) l.map_page;

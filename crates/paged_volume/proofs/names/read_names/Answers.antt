@@ -1,4 +1,3 @@
-use Rattle.std.proofs.Common.{◌≡◌, ℕ, List, ◌*◌, ◌+◌, ◌<◌, ◌≤◌, sym, ◌∙◌, ap, subst, refl, arith, Result}
 use Rattle.std.proofs.lemmas.Result.{on_ok_weaker, IfErr-weaker}
 use Rattle.paged_volume.proofs.Reading.{names_fail_first, names_fail_second, names_fail_third, names_are, behind}
 use Rattle.paged_volume.proofs.names.read_names.Goals as goal

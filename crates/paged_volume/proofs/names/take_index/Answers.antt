@@ -1,7 +1,5 @@
-use Rattle.std.proofs.Common.{◌≡◌, ℕ, List, ◌*◌, ◌+◌, ◌<◌, ◌≤◌, sym, ◌∙◌, ap, arith, length, take, drop, get_or, set}
-use Rattle.ps_port.specs.ps_outside.Outside.{Outside}
+use Rattle.std.proofs.Common.{ℕ, ◌*◌, ◌+◌, sym, ◌∙◌, ap, arith, take, drop, get_or, set}
 use Rattle.page_map.proofs.PageLaws.{within}
-use Rattle.paged_volume.specs.Standing.{index_of}
 use Rattle.paged_volume.proofs.Naming.{length_free, first_set}
 use Rattle.paged_volume.proofs.Reading.{names_at_none, names_at_one, index_read, index_fails, index_named, index_first, fails_by, same_damage}
 use Rattle.paged_volume.proofs.names.take_index.Goals as goal

@@ -1,4 +1,4 @@
-use Rattle.std.proofs.Common.{◌≡◌, ℕ, ◌*◌, ◌+◌, ◌<◌, ◌≤◌, sym, ◌∙◌, ap, arith, get_or}
+use Rattle.std.proofs.Common.{◌≡◌, ℕ, ◌*◌, ◌+◌, ◌∙◌, ap, arith, get_or}
 use Rattle.shadow_volume.specs.Layout.{number_at}
 use Rattle.paged_volume.specs.Layout.{maps_at}
 use Rattle.paged_volume.specs.Naming.{names_at}

@@ -1,15 +1,13 @@
-use Rattle.std.proofs.Common.{◌≡◌, ℕ, ◌*◌, ◌+◌, ◌<◌, ◌≤◌, sym, ◌∙◌, ap, subst, refl, arith, length, get_or, set, inl, inr}
-use Rattle.std.proofs.lemmas.Bool.{cases_lt}
-use Rattle.shadow_volume.specs.Layout.{number_at}
-use Rattle.paged_volume.specs.Standing.{maps_of, index_of, map_count}
-use Rattle.paged_volume.specs.Naming.{IsNaming, skipped}
+use Rattle.std.proofs.Common.{◌≡◌, ℕ, ◌+◌, ◌<◌, sym, ◌∙◌, ap, subst, refl, arith, length}
+use Rattle.paged_volume.specs.Standing.{map_count}
+use Rattle.paged_volume.specs.Naming.{IsNaming}
 use Rattle.paged_volume.specs.declared.committed.Committed.{Committed}
 use Rattle.paged_volume.proofs.Bounds.{are_low}
 use Rattle.paged_volume.proofs.Reading.{maps_fail, maps_more, first_stays}
 use Rattle.paged_volume.proofs.names.take_maps.Goals as goal
 
 pub loop-map_page-init : goal.loop-map_page-init
-loop-map_page-init c = record { naming = c.requires.naming; committed = refl; first = refl; maps = λ i lt. absurd (omega arith) }
+loop-map_page-init c = record { naming = c.requires.naming; committed = refl; next = refl; pins = refl; first = refl; maps = λ i lt. absurd (omega arith) }
 
 pub take_map-requires-clause-naming : goal.take_map-requires-clause-naming
 take_map-requires-clause-naming c =
@@ -42,6 +40,8 @@ loop-map_page-preserved c =
     record {
       naming = subst (λ (k : Committed). IsNaming c.take_map.new.table k.depth (c.loop-map_page.map_page + 1) 0) inv.committed is.naming;
       committed = c.take_map.ensures.committed ∙ inv.committed;
+      next = c.take_map.ensures.next ∙ inv.next;
+      pins = c.take_map.ensures.pins ∙ inv.pins;
       first = first_stays t.named.items c.take_map.new.table.named.items c.loop-map_page.map_page _ is.named ∙ inv.first;
       maps = maps_more c.args.page.now t.named.items c.take_map.new.table.named.items c.args.table.now.committed.depth t.committed.depth c.loop-map_page.map_page few (ap (λ (k : Committed). k.depth) inv.committed) is.named inv.maps;
     }
@@ -57,3 +57,9 @@ pub returns-clause-maps : goal.returns-clause-maps
 returns-clause-maps c = λ i lt.
     let past = c.loop-map_page-test.false in
     c.loop-map_page.invariant.maps i (omega (arith, c.map_count-map_page-end.ensures))
+
+pub returns-in-Err-clause-next : goal.returns-in-Err-clause-next
+returns-in-Err-clause-next c = c.take_map.ensures.next ∙ c.loop-map_page.invariant.next
+
+pub returns-in-Err-clause-pins : goal.returns-in-Err-clause-pins
+returns-in-Err-clause-pins c = c.take_map.ensures.pins ∙ c.loop-map_page.invariant.pins

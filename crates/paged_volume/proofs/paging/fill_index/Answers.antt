@@ -1,4 +1,4 @@
-use Rattle.std.proofs.Common.{◌≡◌, ◌<◌, ◌+◌, ℕ, arith, refl, get_or}
+use Rattle.std.proofs.Common.{◌+◌, arith, refl, get_or}
 use Rattle.paged_volume.proofs.Spelling.{index_more}
 use Rattle.paged_volume.proofs.paging.fill_index.Goals as goal
 

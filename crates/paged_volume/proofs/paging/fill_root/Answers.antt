@@ -1,4 +1,4 @@
-use Rattle.std.proofs.Common.{◌≡◌, ◌<◌, ◌^◌, ℕ, ◌∙◌, ap, arith}
+use Rattle.std.proofs.Common.{ℕ, ◌∙◌, ap, arith}
 use Rattle.byteorder.specs.Endian.{little_bytes}
 use Rattle.ps_port.specs.Disk.{written}
 use Rattle.paged_volume.proofs.Bounds.{are_low}

@@ -1,4 +1,4 @@
-use Rattle.std.proofs.Common.{◌≡◌, ℕ, sym, ◌∙◌, arith}
+use Rattle.std.proofs.Common.{sym, ◌∙◌, arith}
 use Rattle.paged_volume.proofs.Reading.{at_index}
 use Rattle.paged_volume.proofs.Selecting.{names_there, first_none, first_some}
 use Rattle.paged_volume.proofs.rooting.first_name.Goals as goal

@@ -1,4 +1,4 @@
-use Rattle.std.proofs.Common.{◌≡◌, ℕ, List, inl, ◌∙◌, ap, subst, sym, arith, Result}
+use Rattle.std.proofs.Common.{inl, arith}
 use Rattle.std.proofs.lemmas.Result.{on_ok_weaker}
 use Rattle.ps_port.proofs.of_ps_outside.Moments.{along_weaker}
 use Rattle.paged_volume.proofs.Readying.{works_twice}

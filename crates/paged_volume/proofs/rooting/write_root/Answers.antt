@@ -1,8 +1,7 @@
-use Rattle.std.proofs.Common.{◌≡◌, ℕ, List, not, refl, ◌∙◌, ap, subst, sym, arith, Result}
+use Rattle.std.proofs.Common.{ℕ, not, refl, subst, arith}
 use Rattle.std.proofs.lemmas.Result.{on_ok_weaker}
 use Rattle.paged_volume.specs.Switching.{IsRootPage}
 use Rattle.paged_volume.proofs.Readying.{works_twice}
-use Rattle.paged_volume.proofs.Staying.{root_page}
 use Rattle.paged_volume.proofs.Selecting.{root_images, root_rooted, root_place}
 use Rattle.paged_volume.proofs.rooting.write_root.Goals as goal
 

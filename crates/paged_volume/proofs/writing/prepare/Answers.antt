@@ -1,7 +1,5 @@
-use Rattle.std.proofs.Common.{◌≡◌, ℕ, List, ◌+◌, ◌≤◌, ◌∙◌, arith, Result}
 use Rattle.std.proofs.lemmas.Result.{on_ok_weaker}
 use Rattle.ps_port.proofs.of_ps_outside.Moments.{along_then, along_now}
-use Rattle.paged_volume.proofs.Turning.{kept_says}
 use Rattle.paged_volume.proofs.Readying.{works_twice, works_call}
 use Rattle.paged_volume.proofs.writing.prepare.Goals as goal
 

@@ -1,8 +1,8 @@
-use Rattle.std.proofs.Common.{◌≡◌, ℕ, List, ◌*◌, ◌+◌, ◌<◌, sym, ◌∙◌, ap, subst, arith, refl, length, get_or}
+use Rattle.std.proofs.Common.{ℕ, List, ◌*◌, ap, subst, arith, length, get_or}
 use Rattle.std.proofs.lemmas.Result.{on_ok_weaker}
 use Rattle.ps_port.specs.ps_outside.Outside.{Leaves, After}
 use Rattle.ps_port.specs.Disk.{Torn}
-use Rattle.paged_volume.specs.Standing.{map_count, maps_of, IsSpare}
+use Rattle.paged_volume.specs.Standing.{IsSpare}
 use Rattle.paged_volume.proofs.Bounds.{are_low}
 use Rattle.paged_volume.proofs.Turning.{kept_none, kept_write}
 use Rattle.paged_volume.proofs.Reading.{index_first}
@@ -58,3 +58,6 @@ returns-clause-staged g c = on_ok_weaker c.write_page.result (λ wrote bytes now
     (index_numbers t c.args.next c.deref.result.now c.map_count.result c.fill_index.new.page c.deref.ensures.value c.map_count.ensures c.fill_index.ensures.numbers)
     (c.requires.says after.from (g.met.H.Host.is_image c.args.host.now after.from after.was)) after.by (c.requires.maps after.from after.was) in
     record { from = after.from; was = after.was; by = content.2 }) c.write_page.ensures.wrote
+
+pub returns-clause-calls : goal.returns-clause-calls
+returns-clause-calls g c = let deep = deep_some c.args.next c.if-next-eq0.false in omega (arith, c.write_page.ensures.call.calls)

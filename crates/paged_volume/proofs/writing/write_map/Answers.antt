@@ -1,10 +1,8 @@
-use Rattle.std.proofs.Common.{◌≡◌, ℕ, List, ◌*◌, ◌+◌, sym, ◌∙◌, ap, subst, arith, refl}
+use Rattle.std.proofs.Common.{ℕ, ◌*◌, ap, subst, arith, Bool, if◌then◌else◌}
 use Rattle.std.proofs.lemmas.Result.{on_ok_weaker}
 use Rattle.ps_port.specs.ps_outside.Outside.{Leaves, After}
-use Rattle.ps_port.specs.Disk.{Torn, written}
-use Rattle.ps_port.specs.DiskLaws.{written_torn}
-use Rattle.paged_volume.specs.Standing.{logical_of, maps_of}
-use Rattle.paged_volume.specs.Switching.{HasMaps, SameStaged}
+use Rattle.ps_port.specs.Disk.{Torn}
+use Rattle.paged_volume.specs.Standing.{maps_of}
 use Rattle.paged_volume.proofs.Turning.{kept_none, kept_write, maps_stay, spare_number, stay_number, there_write, map_content}
 use Rattle.paged_volume.proofs.writing.write_map.Goals as goal
 
@@ -52,3 +50,9 @@ returns-clause-staged g c = on_ok_weaker c.write_page.result (λ wrote bytes now
       by = (map_content t c.args.next c.args.map_page c.index-number.result.now c.write_map_page.new.into after.from bytes c.requires.ready c.requires.within moves.0 moves.1 (c.requires.says after.from (g.met.H.Host.is_image c.args.host.now after.from after.was))
           c.write_map_page.ensures after.by).1;
     }) c.write_page.ensures.wrote
+
+pub returns-clause-calls : goal.returns-clause-calls
+returns-clause-calls g c =
+    let t = c.args.table.now in
+    let moves = spare_number t c.args.next c.args.map_page c.index-number.result.now c.index.result.now c.requires.ready c.requires.within c.index-number.ensures c.index.ensures c.if-number-index.false in
+    omega (arith, c.write_page.ensures.call.calls, ap {B = ℕ} (λ (b : Bool). if b then 1 else 0) moves.1.changed)

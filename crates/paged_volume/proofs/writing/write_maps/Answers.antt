@@ -1,10 +1,10 @@
-use Rattle.std.proofs.Common.{◌≡◌, ◌<◌, ◌≤◌, ◌+◌, ℕ, List, refl, ◌∙◌, subst, arith, inl, inr, Result}
+use Rattle.std.proofs.Common.{◌≡◌, ◌+◌, ℕ, refl, ◌∙◌, subst, arith}
 use Rattle.ps_port.proofs.of_ps_outside.Moments.{along_none, along_then, along_now}
-use Rattle.shadow_volume.specs.Switching.{Works}
 use Rattle.shadow_volume.proofs.Looking.{rose_then}
-use Rattle.paged_volume.specs.Standing.{map_count}
+use Rattle.paged_volume.specs.Standing.{logical_of, map_count}
 use Rattle.paged_volume.specs.Switching.{HasMaps}
-use Rattle.paged_volume.proofs.Turning.{kept_none, kept_then, kept_says, same_then}
+use Rattle.paged_volume.proofs.Turning.{kept_none, kept_then, kept_says, same_now, same_then}
+use Rattle.paged_volume.proofs.Changed.{changed_more, changed_within}
 use Rattle.paged_volume.proofs.writing.write_maps.Goals as goal
 
 pub loop-map_page-init : goal.loop-map_page-init
@@ -13,7 +13,7 @@ loop-map_page-init g c =
     record {
       kept = kept_none a c.args.table.now c.requires.says;
       maps = λ bytes now page lt. absurd (omega arith);
-      staged = λ bytes now. record { from = bytes; was = now; by = refl };
+      staged = λ bytes now. record { from = bytes; was = now; by = same_now c.args.table.now bytes };
       told = along_none a.clock a.told;
       counts = omega arith;
       output = refl;
@@ -49,7 +49,9 @@ returns-in-Err-clause-calls g c =
     let one = c.loop-map_page.invariant.calls in
     let two = c.write_map.ensures.calls in
     let lt = c.loop-map_page-test.true in
-    omega (arith, c.map_count-map_page-end.ensures)
+    let map = c.args.table.now.map in
+    let logical = logical_of c.args.next in
+    omega (arith, c.map_count-map_page-end.ensures, changed_more map logical c.loop-map_page.map_page, changed_within map logical (c.loop-map_page.map_page + 1) (map_count c.args.next) (omega (arith, c.map_count-map_page-end.ensures)))
 
 pub loop-map_page-preserved : goal.loop-map_page-preserved
 loop-map_page-preserved g c =
@@ -64,7 +66,7 @@ loop-map_page-preserved g c =
       told = along_then inv.told works.told (along_now inv.told);
       counts = let one = inv.counts in let two = works.counts in omega arith;
       output = works.output ∙ inv.output;
-      calls = let one = inv.calls in let two = c.write_map.ensures.calls in omega arith;
+      calls = let one = inv.calls in let two = c.write_map.ensures.calls in omega (arith, changed_more c.args.table.now.map (logical_of c.args.next) c.loop-map_page.map_page);
       stays = λ x now. let mid = inv.stays x now in is.stays mid.0 mid.1;
     }
 
@@ -80,4 +82,5 @@ returns-clause-works g c = let inv = c.loop-map_page.invariant in record { told 
 pub returns-clause-calls : goal.returns-clause-calls
 returns-clause-calls g c =
     let one = c.loop-map_page.invariant.calls in
-    omega (arith, c.map_count-map_page-end.ensures, c.loop-map_page.auto.map_page-end)
+    let past = c.loop-map_page-test.false in
+    omega (arith, changed_within c.args.table.now.map (logical_of c.args.next) c.loop-map_page.map_page (map_count c.args.next) (omega (arith, c.map_count-map_page-end.ensures, c.loop-map_page.auto.map_page-end)))

@@ -1,7 +1,9 @@
 use Rattle.std.proofs.Common.{◌≡◌, ◌≤◌, ◌+◌, List, ℕ}
 use Rattle.ps_port.specs.ps_outside.Outside.{Leaves, TellsNothing, After}
 use Rattle.shadow_volume.specs.Switching.{StaysHeld}
-use Rattle.paged_volume.specs.Switching.{IsKept, SameStaged, HasMaps}
+use Rattle.paged_volume.specs.Standing.{logical_of}
+use Rattle.paged_volume.specs.Changing.{changed_pages}
+use Rattle.paged_volume.specs.Switching.{IsKept, SamePages, HasMaps}
 use Rattle.paged_volume.proofs.writing.write_maps.Given as goal
 
 -- what is committed is kept, and so many map pages say the numbers that are committed next
@@ -11,10 +13,10 @@ invariant-loop-map_page g l =
     record {
       kept : Leaves (outside l.fn.host) (outside l.host) (IsKept (outside l.fn.host) l.fn.table);
       maps : (bytes : List ℕ) → (outside l.host).contents bytes → HasMaps l.fn.table l.fn.next l.map_page bytes;
-      staged : (bytes : List ℕ) → (outside l.host).contents bytes → After (outside l.fn.host).contents (SameStaged l.fn.table) bytes;
+      staged : (bytes : List ℕ) → (outside l.host).contents bytes → After (outside l.fn.host).contents (SamePages l.fn.table) bytes;
       told : TellsNothing (outside l.fn.host) (outside l.host);
       counts : (outside l.fn.host).device_faults ≤ (outside l.host).device_faults;
       output : (outside l.host).output_faults ≡ (outside l.fn.host).output_faults;
-      calls : (outside l.host).device_calls ≤ (outside l.fn.host).device_calls + l.map_page;
+      calls : (outside l.host).device_calls ≤ (outside l.fn.host).device_calls + changed_pages l.fn.table.map (logical_of l.fn.next) l.map_page;
       stays : StaysHeld (outside l.fn.host) (outside l.host);
     }

@@ -1,7 +1,4 @@
-use Rattle.std.proofs.Common.{◌≡◌, ℕ, List, ◌+◌, ◌≤◌, ◌∙◌, arith, Result}
 use Rattle.std.proofs.lemmas.Result.{on_ok_weaker}
-use Rattle.ps_port.proofs.of_ps_outside.Moments.{along_then, along_now}
-use Rattle.shadow_volume.proofs.Looking.{rose_then}
 use Rattle.paged_volume.proofs.Turning.{kept_then, kept_says}
 use Rattle.paged_volume.proofs.Readying.{names_ready, works_twice}
 use Rattle.paged_volume.proofs.writing.write_names.Goals as goal

@@ -23,7 +23,7 @@ invariant_of-self g c =
     let here = c.self.inside.sw in
     let new = c.get_kept-got.new.sw in
     let right = right-stays here new c.self.inside.known c.self.invariant (keeps-lasts here new c.in-Ok.ensures.keeps) in
-    record { layouts = c.in-Ok.ensures.so; fields = right.fields; vectors = right.vectors }
+    record { layouts = c.in-Ok.ensures.so; fields = right.fields; vectors = right.vectors; procedures = right.procedures; makes = right.makes }
 
 pub invariant_of-self-in-Err : goal.invariant_of-self-in-Err
 invariant_of-self-in-Err g c = c.clear.ensures c.get_kept-got.new.sw

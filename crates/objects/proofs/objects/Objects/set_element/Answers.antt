@@ -1,4 +1,4 @@
-use Rattle.std.proofs.Common.{ℤ, w32, sym, subst, Ok}
+use Rattle.std.proofs.Common.{◌≡◌, ℤ, w32, sym, subst, Ok}
 use Rattle.std.proofs.lemmas.Int.{to_z-of_z}
 use Rattle.joint_ops.specs.swizzle.Heap.{Heap}
 use Rattle.joint_ops.specs.swizzle.Heap.{Stands as AllStand}
@@ -93,3 +93,14 @@ returns-in-None-clause-kept g c =
     subst (λ (x : Heap). SetsKept x new before after c.args.vector c.args.at c.args.to c.write_element.result) c.self.view_is
     (subst (λ (z : ℤ). SetsKept here new before after c.args.vector z c.args.to c.write_element.result) (to_z-of_z w32 c.args.at c.ranges.at)
     c.write_element.ensures.kept)
+
+pub returns-in-Some-clause-size : goal.returns-in-Some-clause-size
+returns-in-Some-clause-size g c =
+    let here = c.self.inside.sw in
+    let new = c.put_element.new.sw in
+    let outside = g.V.Vault.outside c.args.vault.now in
+    let p = c.in-Some.ensures here c.self.invariant.vectors in
+    let lasts = put-lasts here new outside outside c.args.vector _ c.args.to (Ok tt)
+    (reached-held here c.args.vector _ c.in-Some.found.form c.in-Some.found.place c.sound.ensures p.reached)
+    (reached-put here c.args.vector _ c.in-Some.found.form c.in-Some.found.place c.sound.ensures p.reached new outside c.args.to c.in-Some.value p.kept c.put_element.ensures) in
+    subst (λ (x : Heap). new.size ≡ x.size) c.self.view_is lasts.size

@@ -1,4 +1,4 @@
-use Rattle.std.proofs.Common.{subst}
+use Rattle.std.proofs.Common.{◌≡◌, subst}
 use Rattle.joint_ops.specs.swizzle.Heap.{Heap}
 use Rattle.objects.proofs.KnownLaws.{right-stays}
 use Rattle.objects.proofs.LaterLaws.{SetsAll}
@@ -39,3 +39,10 @@ pub returns-in-None-clause-set : goal.returns-in-None-clause-set
 returns-in-None-clause-set g c =
     subst (λ (x : Heap). SetsAll x c.write_field.new.sw (g.V.Vault.outside c.args.vault.now) (g.V.Vault.outside c.write_field.new.vault) c.args.code
     c.args.constant c.args.field c.args.object c.args.to c.write_field.result) c.self.view_is c.write_field.ensures.set
+
+pub returns-in-Some-clause-size : goal.returns-in-Some-clause-size
+returns-in-Some-clause-size g c =
+    let new = c.write_place.new.sw in
+    subst (λ (x : Heap). new.size ≡ x.size) c.self.view_is
+    (put-lasts c.self.inside.sw new c.args.code c.args.constant c.args.field c.args.object c.args.to c.in-Some.put c.sound.ensures
+    c.in-Some.ensures c.write_place.ensures.written).size

@@ -1,4 +1,4 @@
-use Rattle.std.proofs.Common.{ℕ, List, Option, Some, Ok, Err, subst}
+use Rattle.std.proofs.Common.{◌≡◌, ℕ, List, Option, Some, Ok, Err, subst}
 use Rattle.std.specs.Prelude.{Result}
 use Rattle.joint_ops.specs.ps_outside.Outside.{Outside}
 use Rattle.joint_ops.specs.obj_layout.Stored.{Space}
@@ -25,7 +25,7 @@ invariant_of-self g c =
     let here = c.self.inside.sw in
     let new = c.set_kept-got.new.sw in
     let right = right-stays here new c.self.inside.known c.self.invariant (kept-lasts here new c.args.name c.args.to c.in-Ok.ensures.does) in
-    record { layouts = c.in-Ok.ensures.so; fields = right.fields; vectors = right.vectors }
+    record { layouts = c.in-Ok.ensures.so; fields = right.fields; vectors = right.vectors; procedures = right.procedures; makes = right.makes }
 
 pub invariant_of-self-in-Err : goal.invariant_of-self-in-Err
 invariant_of-self-in-Err g c = c.clear.ensures c.set_kept-got.new.sw
@@ -39,3 +39,9 @@ pub returns-in-Err-clause-set : goal.returns-in-Err-clause-set
 returns-in-Err-clause-set g c =
     subst (λ (x : Heap). Sets x c.set_kept-got.new.sw (g.V.Vault.outside c.args.vault.now) (g.V.Vault.outside c.set_kept-got.new.vault) c.args.scope c.args.up c.args.name c.args.to
     (Err c.in-Err.fault)) c.self.view_is c.in-Err.ensures.set
+
+pub returns-in-Ok-clause-size : goal.returns-in-Ok-clause-size
+returns-in-Ok-clause-size g c =
+    let new = c.set_kept-got.new.sw in
+    subst (λ (x : Heap). new.size ≡ x.size) c.self.view_is
+    (kept-lasts c.self.inside.sw new c.args.name c.args.to c.in-Ok.ensures.does).size

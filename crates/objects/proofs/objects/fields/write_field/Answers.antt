@@ -1,4 +1,4 @@
-use Rattle.std.proofs.Common.{sym, ◌∙◌, subst}
+use Rattle.std.proofs.Common.{◌≡◌, sym, ◌∙◌, subst}
 use Rattle.std.specs.Prelude.{Ok, Err}
 use Rattle.joint_ops.specs.swizzle.Heap.{Stands as AllStand}
 use Rattle.joint_ops.specs.swizzle.Text.{text_at}
@@ -10,6 +10,7 @@ use Rattle.objects.specs.Putting.{NotesWritten}
 use Rattle.objects.proofs.LastingLaws.{keeps-lasts}
 use Rattle.objects.proofs.KnownLaws.{right-stays, right-layouts, right-fields}
 use Rattle.objects.proofs.LaterLaws.{SetsAll, field-written, found-lacks-place, found-other, none-found, held-later, stands-later, breaks-later}
+use Rattle.objects.proofs.BrokenLaws.{size-later}
 use Rattle.objects.proofs.PuttingLaws.{kept-near, near-later, notes-later, sets-notes, sets-lasts, unless-lasts}
 use Rattle.objects.proofs.objects.fields.write_field.Goals as goal
 
@@ -143,6 +144,26 @@ returns-in-Err-set-clause-right g c =
     let new = c.set_field-set.new.sw in
     c.keep.ensures.right mid new (right-layouts mid c.args.known.now c.locate.new.self
     (right-stays c.args.sw.now mid c.args.known.now c.requires.right (keeps-lasts c.args.sw.now mid c.in-Ok.ensures.keeps)) c.locate.ensures.so) (unless-lasts (Unit {0}) mid new c.in-Err-set.fault
+    (sets-lasts mid new (g.V.Vault.outside c.class_at.new.vault) (g.V.Vault.outside c.set_field-set.new.vault) c.args.object (text_at mid c.in-Ok.class)
+    c.in-Some.located c.in-Some-kept.value (Err c.in-Err-set.fault) (held-later c.args.sw.now mid c.args.object c.in-Ok.ensures.keeps c.requires.held)
+    c.in-Err-set.ensures.does))
+
+pub returns-in-Ok-set-clause-size : goal.returns-in-Ok-set-clause-size
+returns-in-Ok-set-clause-size g c =
+    let mid = c.class_at.new.sw in
+    let new = c.set_field-set.new.sw in
+    size-later {T = Unit {0}} c.args.sw.now mid new (Ok (tt {0})) c.in-Ok.ensures.keeps
+    (sets-lasts mid new (g.V.Vault.outside c.class_at.new.vault) (g.V.Vault.outside c.set_field-set.new.vault) c.args.object (text_at mid c.in-Ok.class)
+    c.in-Some.located c.in-Some-kept.value (Ok tt) (held-later c.args.sw.now mid c.args.object c.in-Ok.ensures.keeps c.requires.held)
+    c.in-Ok-set.ensures.does)
+
+pub returns-in-Err-set-clause-size : goal.returns-in-Err-set-clause-size
+returns-in-Err-set-clause-size g c =
+    let mid = c.class_at.new.sw in
+    let new = c.set_field-set.new.sw in
+    let old = c.args.sw.now in
+    subst (λ (f : OpFault). UnlessFault {T = Unit {0}} (Err f) (new.size ≡ old.size)) (sym c.keep.ensures.same)
+    (size-later {T = Unit {0}} old mid new (Err c.in-Err-set.fault) c.in-Ok.ensures.keeps
     (sets-lasts mid new (g.V.Vault.outside c.class_at.new.vault) (g.V.Vault.outside c.set_field-set.new.vault) c.args.object (text_at mid c.in-Ok.class)
     c.in-Some.located c.in-Some-kept.value (Err c.in-Err-set.fault) (held-later c.args.sw.now mid c.args.object c.in-Ok.ensures.keeps c.requires.held)
     c.in-Err-set.ensures.does))

@@ -18,7 +18,7 @@ returns-in-Ok-clause-right g c =
     let old = c.args.sw.now in
     let new = c.get_element-got.new.sw in
     let right = right-stays old new c.args.known.now c.requires.right (keeps-lasts old new c.in-Ok.ensures.keeps) in
-    record { layouts = right.layouts; fields = right.fields; vectors = c.learn.ensures right.vectors }
+    record { layouts = right.layouts; fields = right.fields; vectors = c.learn.ensures right.vectors; procedures = right.procedures; makes = right.makes }
 
 pub returns-in-Err-clause-got : goal.returns-in-Err-clause-got
 returns-in-Err-clause-got g c of names id world denotes =

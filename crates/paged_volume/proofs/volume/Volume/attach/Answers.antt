@@ -14,6 +14,7 @@ returns-in-Ok-clause-ok g c =
       settles = is.settles;
       found = λ bytes now. found_volume t bytes is.table.fit is.table.once (is.says bytes now);
       blank = is.blank;
+      unpinned = is.pins;
       holds = blank_holds (o c.args.host) (o c.find.new.host) t is.table.fit is.blank is.table.once low.within is.says is.looks.same.no_other;
       alive = record {
         living = refl;

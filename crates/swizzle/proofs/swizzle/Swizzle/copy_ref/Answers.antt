@@ -2,7 +2,7 @@ use Rattle.std.proofs.Common.{◌≡◌, ◌∙◌, ◌+◌, ap, arith, refl, se
 use Rattle.obj_layout.specs.Reference.{IsReference, reference_word}
 use Rattle.swizzle.specs.Objects.{object_words}
 use Rattle.swizzle.specs.Heap.{object_at, ref_at, with_object}
-use Rattle.swizzle.specs.View.{beside_of}
+use Rattle.swizzle.specs.View.{noted_of, beside_of}
 use Rattle.swizzle.proofs.ObjectLaws.{word_of_ref, set_of_ref, IsFit-ref, AreReferences-at}
 use Rattle.swizzle.proofs.KeptLaws.{inside_kept, inside_copied, lies_in, lies-given, lies-word_at, rewritten_same, Again}
 use Rattle.swizzle.proofs.StandLaws.{stands-object}
@@ -39,7 +39,7 @@ set_word-requires c =
     let l = lies_in c.self.inside _ c.args.to c.self.view_is c.self.invariant c.requires.to_held in
     lies-given c.self.inside.area _ _ (4 + c.args.to_slot) _ l (omega arith) (omega arith)
 
-written : (c : goal.After-set_word) → Again c.set_word.new.self.words c.set_word.new.self.size c.self.inside.assigned.items (beside_of c.self.inside) (with_object c.args.self.now c.args.to (record (object_at c.args.self.now c.args.to) { refs = set (object_at c.args.self.now c.args.to).refs c.args.to_slot (ref_at c.args.self.now c.args.from c.args.from_slot) }))
+written : (c : goal.After-set_word) → Again c.set_word.new.self.words c.set_word.new.self.size (noted_of c.self.inside) (beside_of c.self.inside) (with_object c.args.self.now c.args.to (record (object_at c.args.self.now c.args.to) { refs = set (object_at c.args.self.now c.args.to).refs c.args.to_slot (ref_at c.args.self.now c.args.from c.args.from_slot) }))
 written c =
     let now = c.args.self.now in
     let f = lies_in c.self.inside _ c.args.from c.self.view_is c.self.invariant c.requires.from_held in

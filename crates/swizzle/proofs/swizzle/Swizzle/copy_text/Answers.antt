@@ -3,7 +3,7 @@ use Rattle.std.proofs.lemmas.List.{length-take-le}
 use Rattle.obj_area.specs.Area.{byte_place, with_bytes_from}
 use Rattle.swizzle.specs.Heap.{object_at}
 use Rattle.swizzle.specs.Text.{text_at, with_text}
-use Rattle.swizzle.specs.View.{beside_of}
+use Rattle.swizzle.specs.View.{noted_of, beside_of}
 use Rattle.swizzle.proofs.KeptLaws.{lies_in, Again}
 use Rattle.swizzle.proofs.TextLaws.{place_fits, place_by, lies-spanned, place_in_bytes, lies-bytes, retexted, text-bytes, length-text}
 use Rattle.swizzle.proofs.StandLaws.{stands-object, like_nums}
@@ -25,7 +25,7 @@ copy_bytes-requires-clause-to c =
     let l = lies_in c.self.inside _ c.args.to c.self.view_is c.self.invariant c.requires.to_held in
     lies-spanned c.self.inside.area _ c.args.to _ c.args.to_start c.args.count l (place_by _ _ c.args.to _ c.place_of_bytes-end.ensures c.header-target.ensures.value) c.requires.to_within
 
-written : (c : goal.After-copy_bytes) → Again c.copy_bytes.new.self.words c.copy_bytes.new.self.size c.self.inside.assigned.items (beside_of c.self.inside) (with_text c.args.self.now c.args.to c.args.to_start (take c.args.count (drop c.args.from_start (text_at c.args.self.now c.args.from))))
+written : (c : goal.After-copy_bytes) → Again c.copy_bytes.new.self.words c.copy_bytes.new.self.size (noted_of c.self.inside) (beside_of c.self.inside) (with_text c.args.self.now c.args.to c.args.to_start (take c.args.count (drop c.args.from_start (text_at c.args.self.now c.args.from))))
 written c =
     let now = c.args.self.now in
     let f = lies_in c.self.inside _ c.args.from c.self.view_is c.self.invariant c.requires.from_held in

@@ -5,7 +5,7 @@ use Rattle.obj_layout.specs.Header.{header_words}
 use Rattle.pid_map.proofs.ChainLaws.{bucket_below}
 use Rattle.swizzle.specs.Heap.{object_at, with_object}
 use Rattle.swizzle.specs.Kept.{with_heads}
-use Rattle.swizzle.specs.View.{beside_of}
+use Rattle.swizzle.specs.View.{noted_of, beside_of}
 use Rattle.swizzle.specs.Numbered.{numbered}
 use Rattle.swizzle.proofs.KeptLaws.{lies_in, Again}
 use Rattle.swizzle.proofs.NumberedLaws.{given}
@@ -27,7 +27,7 @@ write_words-requires c =
     let home = l.split.fit.home in
     record { placed = omega (arith, from); below = omega (arith, to, four, home) }
 
-made : (c : goal.After-put) → Again c.write_words.new.self.words c.write_words.new.self.size c.self.inside.assigned.items (with_heads (beside_of c.self.inside) c.put.new.self.heads.items) (with_object c.args.self.now c.args.object (numbered (object_at c.args.self.now c.args.object) c.args.pid c.head-link.result))
+made : (c : goal.After-put) → Again c.write_words.new.self.words c.write_words.new.self.size (noted_of c.self.inside) (with_heads (beside_of c.self.inside) c.put.new.self.heads.items) (with_object c.args.self.now c.args.object (numbered (object_at c.args.self.now c.args.object) c.args.pid c.head-link.result))
 made c =
     let l = lies_in c.self.inside _ c.args.object c.self.view_is c.self.invariant c.requires.held in
     let heads = c.self.inside.map.heads.items in

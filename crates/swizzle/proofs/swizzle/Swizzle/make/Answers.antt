@@ -5,7 +5,7 @@ use Rattle.obj_layout.specs.Header.{header_words}
 use Rattle.swizzle.specs.Objects.{object_words}
 use Rattle.swizzle.specs.Heap.{Heap, blank, with_new, top_of}
 use Rattle.swizzle.specs.declared.fault.SwizzleFault.TheVariants.{AreaFull}
-use Rattle.swizzle.specs.View.{beside_of}
+use Rattle.swizzle.specs.View.{noted_of, beside_of}
 use Rattle.swizzle.proofs.ChainedLaws.{mapped-new}
 use Rattle.swizzle.proofs.KeptLaws.{inside_nil, Again, laid, kept_long, written_new, blank_words, IsFit-blank, heap_is}
 use Rattle.swizzle.proofs.StandLaws.{stands-new, stands-same}
@@ -23,10 +23,10 @@ returns-in_default-clause-made c =
     record {
       full = omega (arith, c.in_default.ensures.place);
       fault_is = ap (λ (n : ℕ). AreaFull n (4 + c.args.refs + c.args.nums) c.size.result) top ∙ ap (AreaFull (top_of c.args.self.now) (4 + c.args.refs + c.args.nums)) room;
-      stays = ap (λ (a : AreaView). heap_is a c.self.inside.assigned.items) stays ∙ c.self.view_is;
+      stays = ap (λ (a : AreaView). heap_is a (noted_of c.self.inside)) stays ∙ c.self.view_is;
     }
 
-made : (c : goal.After-write_words) → Again c.write_words.new.self.words c.write_words.new.self.size c.self.inside.assigned.items (beside_of c.self.inside) (with_new c.args.self.now (blank c.args.kind c.args.refs c.args.nums c.args.bytes))
+made : (c : goal.After-write_words) → Again c.write_words.new.self.words c.write_words.new.self.size (noted_of c.self.inside) (beside_of c.self.inside) (with_new c.args.self.now (blank c.args.kind c.args.refs c.args.nums c.args.bytes))
 made c =
     let long = kept_long c.self.inside _ c.self.view_is c.self.invariant in
     let size = ap (λ (h : Heap). h.size) c.self.view_is in
@@ -45,8 +45,8 @@ made c =
     let sizes : c.write_words.new.self.size ≡ c.self.inside.area.size = ap (λ (a : AreaView). a.size) c.write_words.ensures.written ∙ ap (λ (a : AreaView). a.size) c.in-Some.ensures.made in
     laid c.self.inside c.write_words.new.self (beside_of c.self.inside) c.args.self.now o c.self.view_is c.self.invariant words sizes
     (IsFit-blank c.args.kind c.args.refs c.args.nums c.args.bytes (omega arith) (omega arith) (omega arith) c.requires.home c.requires.lengths c.requires.bytes)
-    (omega (arith, c.in-Some.ensures.place.0)) refl (λ h. absurd (omega arith))
-    (inside_nil c.args.self.now c.args.refs) refl (λ m. mapped-new c.args.self.now.objects c.args.self.now.size (beside_of c.self.inside) o m refl)
+    (omega (arith, c.in-Some.ensures.place.0)) refl refl (λ h. absurd (omega arith))
+    (inside_nil c.args.self.now c.args.refs) refl refl (λ m. mapped-new c.args.self.now.objects c.args.self.now.size (beside_of c.self.inside) o m refl)
 
 pub invariant_of-self-2 : goal.invariant_of-self-2
 invariant_of-self-2 c = (made c).kept

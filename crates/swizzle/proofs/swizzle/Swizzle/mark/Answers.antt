@@ -16,7 +16,7 @@ returns-then-first-eq1-clause-written c =
     let o = object_at now c.args.object in
     let l = lies_in c.self.inside _ c.args.object c.self.view_is c.self.invariant c.requires in
     let flag = lies-flag _ _ c.args.object c.word-first.result l c.word-first.ensures in
-    sym (here (o.header.flags % 2) 1 now (heap_with (replace_from 1 now.objects c.args.object (flagged o)) now.size (now.assigned ++ c.args.object ∷ [])) (omega (arith, c.if-first-eq1.true)))
+    sym (here (o.header.flags % 2) 1 now (heap_with (replace_from 1 now.objects c.args.object (flagged o)) now.size (record { assigned = now.assigned ++ c.args.object ∷ []; reached = now.reached })) (omega (arith, c.if-first-eq1.true)))
 
 -- the object isn't assigned yet
 pub note-requires-clause-plain : goal.note-requires-clause-plain

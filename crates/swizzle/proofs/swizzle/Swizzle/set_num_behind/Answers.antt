@@ -1,6 +1,6 @@
 use Rattle.std.proofs.Common.{◌+◌, arith, refl, set}
 use Rattle.swizzle.specs.Heap.{header_at, object_at, with_object}
-use Rattle.swizzle.specs.View.{beside_of}
+use Rattle.swizzle.specs.View.{noted_of, beside_of}
 use Rattle.swizzle.proofs.ObjectLaws.{set_of_num, IsFit-num}
 use Rattle.swizzle.proofs.KeptLaws.{inside_kept, lies_in, lies-given, rewritten_same, Again}
 use Rattle.swizzle.proofs.StandLaws.{stands-object, like_nums}
@@ -27,7 +27,7 @@ set_word-requires c =
     let place = c.requires.refs in
     lies-given c.self.inside.area _ _ (4 + (header_at c.args.self.now c.args.object).refs + c.args.index) _ l (omega arith) (omega arith)
 
-written : (c : goal.After-set_word) → Again c.set_word.new.self.words c.set_word.new.self.size c.self.inside.assigned.items (beside_of c.self.inside) (with_object c.args.self.now c.args.object (record (object_at c.args.self.now c.args.object) { nums = set (object_at c.args.self.now c.args.object).nums c.args.index c.args.value }))
+written : (c : goal.After-set_word) → Again c.set_word.new.self.words c.set_word.new.self.size (noted_of c.self.inside) (beside_of c.self.inside) (with_object c.args.self.now c.args.object (record (object_at c.args.self.now c.args.object) { nums = set (object_at c.args.self.now c.args.object).nums c.args.index c.args.value }))
 written c =
     let l = lies_in c.self.inside _ c.args.object c.self.view_is c.self.invariant c.requires.held in
     let place = c.requires.refs in

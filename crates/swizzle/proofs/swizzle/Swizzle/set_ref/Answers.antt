@@ -4,7 +4,7 @@ use Rattle.std.proofs.Common.{subst}
 use Rattle.swizzle.specs.Objects.{object_words}
 use Rattle.obj_layout.specs.Reference.{reference_word, IsReference}
 use Rattle.swizzle.specs.Heap.{reference_to}
-use Rattle.swizzle.specs.View.{beside_of}
+use Rattle.swizzle.specs.View.{noted_of, beside_of}
 use Rattle.swizzle.proofs.ObjectLaws.{set_of_ref, IsFit-ref}
 use Rattle.swizzle.proofs.KeptLaws.{inside_set, lies_in, lies-given, rewritten_same, Again, target_fits}
 use Rattle.swizzle.proofs.StandLaws.{stands-object}
@@ -30,7 +30,7 @@ set_word-requires c =
     let l = lies_in c.self.inside _ c.args.object c.self.view_is c.self.invariant c.requires.held in
     lies-given c.self.inside.area _ _ (4 + c.args.slot) _ l (omega arith) (omega arith)
 
-written : (c : goal.After-set_word) → Again c.set_word.new.self.words c.set_word.new.self.size c.self.inside.assigned.items (beside_of c.self.inside) (with_object c.args.self.now c.args.object (record (object_at c.args.self.now c.args.object) { refs = set (object_at c.args.self.now c.args.object).refs c.args.slot (reference_to c.args.to) }))
+written : (c : goal.After-set_word) → Again c.set_word.new.self.words c.set_word.new.self.size (noted_of c.self.inside) (beside_of c.self.inside) (with_object c.args.self.now c.args.object (record (object_at c.args.self.now c.args.object) { refs = set (object_at c.args.self.now c.args.object).refs c.args.slot (reference_to c.args.to) }))
 written c =
     let l = lies_in c.self.inside _ c.args.object c.self.view_is c.self.invariant c.requires.held in
     let o = object_at c.args.self.now c.args.object in

@@ -11,14 +11,14 @@ use Rattle.swizzle.specs.Joint.{name_at}
 use Rattle.swizzle.proofs.JointLaws.{held-cases}
 use Rattle.swizzle.specs.Heap.{Heap, IsHeap, IsHeld, with_new, top_of, local_of}
 use Rattle.swizzle.specs.Kept.{Beside}
-use Rattle.swizzle.specs.View.{beside_of}
+use Rattle.swizzle.specs.View.{noted_of, beside_of}
 use Rattle.swizzle.specs.Fetched.{near, IsNear, IsLocal}
 use Rattle.swizzle.proofs.ObjectLaws.{length-object_words, size_of_all-append}
 use Rattle.pid_map.proofs.ChainLaws.{bucket_below}
 use Rattle.swizzle.proofs.ChainedLaws.{mapped-laid}
 use Rattle.swizzle.proofs.KeptLaws.{heap_is, Again, kept_long, laid}
 use Rattle.swizzle.proofs.TouchLaws.{touch-two}
-use Rattle.swizzle.proofs.FetchedLaws.{local-place, Near, near_words, Came, came-place, came-keeps, came-touched, near-pid, near-plain}
+use Rattle.swizzle.proofs.FetchedLaws.{local-place, Near, near_words, Came, came-place, came-keeps, came-touched, near-pid, near-plain, near-bare}
 use Rattle.swizzle.specs.Damaged.{IsSound}
 use Rattle.swizzle.proofs.NameLaws.{pid_in}
 use Rattle.swizzle.proofs.DamageLaws.{reports-same, tested_damage}
@@ -63,11 +63,12 @@ near_it g c = let n = c.in_default-fetch_near.ensures.near.near_is in near_words
 beside : (g : Given.Over) → goal.After-put g → Beside
 beside g c = record {
   places = vec_capacity c.self.inside.assigned;
+  stops = vec_capacity c.self.inside.reached;
   heads = c.put.new.self.heads.items;
   room = vec_capacity (with_items c.make_room.new.buffer c.fetch_near.new.buffer);
 }
 
-made : (g : Given.Over) (c : goal.After-put g) → Again c.lay.new.area.words c.lay.new.area.size c.self.inside.assigned.items (beside g c) (with_new c.args.self.now (near c.args.pid c.head-link.result c.in_default-fetch_near.ensures.near.words))
+made : (g : Given.Over) (c : goal.After-put g) → Again c.lay.new.area.words c.lay.new.area.size (noted_of c.self.inside) (beside g c) (with_new c.args.self.now (near c.args.pid c.head-link.result c.in_default-fetch_near.ensures.near.words))
 unfolding beside
 made g c =
     let f = c.in_default-fetch_near.ensures.near in
@@ -85,8 +86,9 @@ made g c =
     laid c.self.inside c.lay.new.area (beside g c) now o c.self.view_is c.self.invariant words (ap (λ (a : AreaView). a.size) c.lay.ensures)
     (it.fit c.requires.high (omega arith)) (omega (arith, count, c.if-count-size.false, c.top-top.ensures.top, c.size-size.ensures.size, c.size-size.ensures.within))
     (near-plain c.args.pid c.head-link.result f.words c.in_default-fetch_near.field-0 it)
+    (near-bare c.args.pid c.head-link.result f.words c.in_default-fetch_near.field-0 it)
     (λ some. ap (local_of now) pid ∙ away g c)
-    (it.inside now) refl
+    (it.inside now) refl refl
     (λ m.
     let good : IsHeap now = subst IsHeap c.self.view_is c.self.invariant.heap in
     let heads = c.self.inside.map.heads.items in
@@ -98,7 +100,7 @@ made g c =
     (link ∙ c.head-link.ensures ∙ ap (λ (b : ℕ). get_or heads b 0) (sym at)) (omega (arith, link)) place
     (c.put.ensures ∙ ap (λ (b : ℕ). set heads b c.top-top.result) (sym at)) (omega (arith, m.for_fetch, c.make_room.ensures.capacity)))
 
-came : (g : Given.Over) (c : goal.After-put g) → Came c.args.self.now (heap_is c.lay.new.area c.self.inside.assigned.items) c.args.pid c.head-link.result c.in_default-fetch_near.ensures.near.words
+came : (g : Given.Over) (c : goal.After-put g) → Came c.args.self.now (heap_is c.lay.new.area (noted_of c.self.inside)) c.args.pid c.head-link.result c.in_default-fetch_near.ensures.near.words
 came g c = record {
   is = (made g c).seen;
   header = c.in_default-fetch_near.field-0;
@@ -113,21 +115,21 @@ invariant_of-self-2 g c = (made g c).kept
 
 pub returns-clause-place : goal.returns-clause-place
 returns-clause-place g c =
-    let now = heap_is c.lay.new.area c.self.inside.assigned.items in
+    let now = heap_is c.lay.new.area (noted_of c.self.inside) in
     let long = kept_long c.self.inside _ c.self.view_is c.self.invariant in
     let place : c.top-top.result ≡ top_of c.args.self.now = omega (arith, c.top-top.ensures.top, long) in
     subst (IsLocal now c.args.pid) (sym place) (came-place c.args.self.now now c.args.pid c.head-link.result c.in_default-fetch_near.ensures.near.words c.requires.low (came g c))
 
 pub returns-clause-keeps : goal.returns-clause-keeps
 returns-clause-keeps g c =
-    came-keeps c.args.self.now (heap_is c.lay.new.area c.self.inside.assigned.items) c.args.pid c.head-link.result c.in_default-fetch_near.ensures.near.words (came g c)
+    came-keeps c.args.self.now (heap_is c.lay.new.area (noted_of c.self.inside)) c.args.pid c.head-link.result c.in_default-fetch_near.ensures.near.words (came g c)
 
 pub returns-clause-joint : goal.returns-clause-joint
 returns-clause-joint g c =
     let a = g.V.Vault.outside c.args.vault.now in
     let b = g.V.Vault.outside c.length.new.self in
     let d = g.V.Vault.outside c.fetch_near.new.vault in
-    came-touched c.args.self.now (heap_is c.lay.new.area c.self.inside.assigned.items) c.args.pid c.head-link.result c.in_default-fetch_near.ensures.near.words (Holds a) (Holds d) c.requires.low (came g c)
+    came-touched c.args.self.now (heap_is c.lay.new.area (noted_of c.self.inside)) c.args.pid c.head-link.result c.in_default-fetch_near.ensures.near.words (Holds a) (Holds d) c.requires.low (came g c)
     (λ list h. c.in_default-fetch_near.ensures.near.told list ((Holds-same a b c.in-Ok.ensures.same c.args.pid list).1 h))
     (λ p list. (λ h. (Holds-same a b c.in-Ok.ensures.same p list).0 ((Holds-same b d c.fetch_near.ensures.same p list).0 h), λ h. (Holds-same b d c.fetch_near.ensures.same p list).1 ((Holds-same a b c.in-Ok.ensures.same p list).1 h)))
 
@@ -135,7 +137,7 @@ pub returns-clause-call : goal.returns-clause-call
 returns-clause-call g c =
     let f = c.in_default-fetch_near.ensures.near in
     let now = c.args.self.now in
-    let new = heap_is c.lay.new.area c.self.inside.assigned.items in
+    let new = heap_is c.lay.new.area (noted_of c.self.inside) in
     let o = near c.args.pid c.head-link.result f.words in
     let long_enough = fetched_long f.words c.fetch_near.new.buffer c.in-Ok.count c.args.pid c.head-link.result c.in_default-fetch_near.field-0 f.near_is (buffer_long g c) c.requires.high (omega arith) in
     let count = long_enough.0 in
@@ -167,7 +169,7 @@ pub returns-clause-came : goal.returns-clause-came
 returns-clause-came g c =
     let f = c.in_default-fetch_near.ensures.near in
     let now = c.args.self.now in
-    let new = heap_is c.lay.new.area c.self.inside.assigned.items in
+    let new = heap_is c.lay.new.area (noted_of c.self.inside) in
     let o = near c.args.pid c.head-link.result f.words in
     let count = (fetched_long f.words c.fetch_near.new.buffer c.in-Ok.count c.args.pid c.head-link.result c.in_default-fetch_near.field-0 f.near_is (buffer_long g c) c.requires.high (omega arith)).0 in
     let top : top_of new ≡ top_of now + c.in-Ok.count = ap top_of (made g c).seen ∙ omega (arith, size_of_all-append now.objects (o ∷ []), count) in
@@ -177,7 +179,7 @@ pub returns-clause-only : goal.returns-clause-only
 returns-clause-only g c at held =
     let f = c.in_default-fetch_near.ensures.near in
     let now = c.args.self.now in
-    let new = heap_is c.lay.new.area c.self.inside.assigned.items in
+    let new = heap_is c.lay.new.area (noted_of c.self.inside) in
     let place = came-place now new c.args.pid c.head-link.result f.words c.requires.low (came g c) in
     elim (held-cases now (near c.args.pid c.head-link.result f.words) at (subst (λ (h : Heap). IsHeld h at) (made g c).seen held)) [
       | inl was ↦ inl was

@@ -5,9 +5,9 @@ use Rattle.swizzle.specs.Heap.{Heap, IsHeap, object_at, unflagged}
 use Rattle.swizzle.specs.inside.Clearing.{IsUnmarkedAll}
 use Rattle.swizzle.specs.Kept.{heap_from}
 use Rattle.swizzle.specs.View.{beside_of}
-use Rattle.swizzle.specs.Kept.{with_places}
+use Rattle.swizzle.specs.Kept.{Noted, with_room}
 use Rattle.swizzle.proofs.KeptLaws.{Again, heap_with, lies-given}
-use Rattle.swizzle.proofs.ClearLaws.{last, last-word, unmarked-again, unmarked-step, unmarked-all}
+use Rattle.swizzle.proofs.ClearLaws.{last, last-word, without_assigned, unmarked-again, unmarked-step, unmarked-all}
 use Rattle.swizzle.proofs.swizzle.Swizzle.unmark_last.Goals as goal
 
 pub word-first-requires : goal.word-first-requires
@@ -34,19 +34,21 @@ invariant_of-self c =
     let k = c.self.invariant in
     record {
       cut = k.cut;
-      heap = subst (λ (xs : List ℕ). IsHeap (heap_from c.self.inside.area.words c.self.inside.area.size xs)) (sym (same c)) k.heap;
+      heap = subst (λ (xs : List ℕ). IsHeap (heap_from c.self.inside.area.words c.self.inside.area.size (without_assigned c.self.inside xs))) (sym (same c)) k.heap;
       for_assigned = omega (arith, k.for_assigned, c.in_default.ensures.capacity);
+      for_reached = k.for_reached;
       pids = record { some = k.pids.some; chained = k.pids.chained; for_fetch = k.pids.for_fetch };
     }
 
 pub returns-in_default-clause-all : goal.returns-in_default-clause-all
 returns-in_default-clause-all c none =
     let now = c.args.self.now in
-    let seen = ap (heap_from c.self.inside.area.words c.self.inside.area.size) (same c) ∙ c.self.view_is in
+    let seen = ap (λ (xs : List ℕ). heap_from c.self.inside.area.words c.self.inside.area.size (without_assigned c.self.inside xs)) (same c) ∙ c.self.view_is in
     let empty = nil_from_length c.self.inside.assigned.items (sym c.self.inside.assigned.ok.0 ∙ c.in_default.ensures.cases.0) in
     subst (IsUnmarkedAll now) (sym seen) (unmarked-all now (subst IsHeap c.self.view_is c.self.invariant.heap) (ap (λ (h : Heap). h.assigned) (sym c.self.view_is) ∙ empty))
 
-written : (c : goal.After-set_word) → Again c.set_word.new.self.words c.set_word.new.self.size c.pop.new.self.items (with_places (beside_of c.self.inside) (vec_capacity c.pop.new.self)) (heap_with (replace_from 1 c.args.self.now.objects c.in-Some.object (unflagged (object_at c.args.self.now c.in-Some.object))) c.args.self.now.size c.pop.new.self.items)
+written : (c : goal.After-set_word) → Again c.set_word.new.self.words c.set_word.new.self.size (without_assigned c.self.inside c.pop.new.self.items) (with_room (beside_of c.self.inside) (vec_capacity c.pop.new.self) (vec_capacity c.self.inside.reached))
+    (heap_with (replace_from 1 c.args.self.now.objects c.in-Some.object (unflagged (object_at c.args.self.now c.in-Some.object))) c.args.self.now.size (without_assigned c.self.inside c.pop.new.self.items))
 written c =
     let l = last c.self.inside _ c.pop.new.self.items c.in-Some.object c.self.view_is c.self.invariant c.in-Some.ensures.items in
     unmarked-again c.self.inside c.set_word.new.self c.pop.new.self.items (vec_capacity c.pop.new.self) _ c.in-Some.object c.word-first.result c.self.view_is c.self.invariant l
@@ -58,4 +60,4 @@ invariant_of-self-2 c = (written c).kept
 pub returns-clause-one : goal.returns-clause-one
 returns-clause-one c some =
     let l = last c.self.inside _ c.pop.new.self.items c.in-Some.object c.self.view_is c.self.invariant c.in-Some.ensures.items in
-    unmarked-step c.self.inside c.args.self.now _ c.pop.new.self.items c.in-Some.object l (written c).seen
+    unmarked-step c.self.inside c.args.self.now _ c.pop.new.self.items c.in-Some.object c.self.view_is c.in-Some.ensures.items l (written c).seen

@@ -1,6 +1,6 @@
 use Rattle.std.proofs.Common.{length}
 use Rattle.swizzle.specs.Text.{with_text}
-use Rattle.swizzle.specs.View.{beside_of}
+use Rattle.swizzle.specs.View.{noted_of, beside_of}
 use Rattle.swizzle.proofs.KeptLaws.{lies_in, Again}
 use Rattle.swizzle.proofs.TextLaws.{place_fits, place_by, lies-spanned, place_in_bytes, retexted}
 use Rattle.swizzle.proofs.StandLaws.{stands-object, like_nums}
@@ -14,7 +14,7 @@ write_bytes-requires c =
     let l = lies_in c.self.inside _ c.args.object c.self.view_is c.self.invariant c.requires.held in
     lies-spanned c.self.inside.area _ c.args.object _ c.args.start (length c.args.from.now) l (place_by _ _ c.args.object _ c.place_of_bytes-place.ensures c.header-header.ensures.value) c.requires.within
 
-written : (c : goal.After-write_bytes) → Again c.write_bytes.new.self.words c.write_bytes.new.self.size c.self.inside.assigned.items (beside_of c.self.inside) (with_text c.args.self.now c.args.object c.args.start c.args.from.now)
+written : (c : goal.After-write_bytes) → Again c.write_bytes.new.self.words c.write_bytes.new.self.size (noted_of c.self.inside) (beside_of c.self.inside) (with_text c.args.self.now c.args.object c.args.start c.args.from.now)
 written c =
     let l = lies_in c.self.inside _ c.args.object c.self.view_is c.self.invariant c.requires.held in
     let place = place_by _ _ c.args.object _ c.place_of_bytes-place.ensures c.header-header.ensures.value in

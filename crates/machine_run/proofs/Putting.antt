@@ -1,0 +1,34 @@
+-- What a machine stands for beside a vault that outputs: it holds what it held.
+use Rattle.std.proofs.Common.{inl, inr}
+use Rattle.machine_core.specs.ps_outside.Outside.{Outside, SameContents}
+use Rattle.machine_core.specs.obj_layout.Stored.{Space}
+use Rattle.machine_core.specs.swizzle.Heap as area
+use Rattle.machine_core.specs.swizzle.Changes.{Within}
+use Rattle.machine_core.specs.joint_ops.World.{seen}
+use Rattle.machine_core.specs.ps_stepping.Config.{Config}
+use Rattle.machine_core.specs.declared.machine.Machine.{Machine}
+use Rattle.machine_core.specs.Holding.{Holds, words_of}
+use Rattle.machine_core.proofs.of_swizzle.TouchLaws.{keeps-refl}
+use Rattle.machine_core.proofs.of_joint_ops.SeenLaws.{stored-stays, keeps-stands}
+use Rattle.machine_core.proofs.Carrying.{read-holds}
+
+put-within : (here : area.Heap) (before after : Outside Space) → SameContents before after → Within (seen here before) (seen here after)
+put-within here before after same n it (inl a) = inl a
+put-within here before after same n it (inr v) =
+    inr (record {
+      pid = v.pid;
+      words = v.words;
+      name_is = v.name_is;
+      there = stored-stays before after v.pid v.words same v.there;
+      away = v.away;
+      shown_is = v.shown_is;
+    })
+
+pub put-holds : (m : Machine) (before after : Outside Space) (c : Config) → SameContents before after → Holds before m c → Holds after m c
+put-holds m before after c same h =
+    let here = m.objects in
+    record {
+      names = h.names;
+      held = read-holds here here before after h.names (words_of m) c h.held
+          (keeps-stands here here before after c.store.heap h.names (keeps-refl here) (put-within here before after same) h.held.world);
+    }

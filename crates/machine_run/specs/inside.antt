@@ -1,0 +1,4 @@
+pub mod Beginning
+pub mod Acting
+pub mod Advancing
+pub mod Blanks

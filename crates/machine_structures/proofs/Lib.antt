@@ -1,0 +1,12 @@
+pub mod Parts
+pub mod ClassFields
+pub mod TrapLaws
+pub mod FieldReads
+pub mod FieldWrites
+pub mod ClassTests
+pub mod Comparing
+pub mod FieldPops
+pub mod LaidFields
+pub mod StackTops
+pub mod Making
+pub mod LaidOut

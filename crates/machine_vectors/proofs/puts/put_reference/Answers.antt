@@ -1,0 +1,34 @@
+use Rattle.std.proofs.Common.{ℤ, w32, subst}
+use Rattle.std.proofs.lemmas.Int.{to_z-of_z}
+use Rattle.machine_operands.proofs.Parts.{fails-after, so-after}
+use Rattle.machine_vectors.specs.inside.Elements.{OfReferences, PutsReference}
+use Rattle.machine_vectors.proofs.ElementPuts.{reference-written}
+use Rattle.machine_vectors.proofs.puts.put_reference.Goals as goal
+
+pub returns-clause-puts : goal.returns-clause-puts
+returns-clause-puts g c =
+    let v = c.args.vault.now in
+    let set = c.set_element-set in
+    let w = set.new.vault in
+    let before = g.V.Vault.outside v in
+    let after = g.V.Vault.outside w in
+    let m = c.args.m.now in
+    let done = c.done in
+    subst (λ (i : ℤ). PutsReference before after OfReferences c.args.line i c.args.to c.args.vector m done.new.m done.result) (to_z-of_z w32 c.args.at c.ranges.at)
+    (reference-written before after m done.new.m set.new.self done.result c.args.vector c.args.line _ c.requires.names set.result set.ensures.stands
+    set.ensures.size (done.ensures v w) c.args.to set.ensures.set)
+
+pub returns-clause-fails : goal.returns-clause-fails
+returns-clause-fails g c =
+    let v = c.args.vault.now in
+    let set = c.set_element-set in
+    let w = set.new.vault in
+    let done = c.done in
+    fails-after done.result done.new.m (g.V.Vault.outside v) (g.V.Vault.outside w) set.result (done.ensures v w).ends.breaks set.ensures.fails
+
+pub returns-clause-alive : goal.returns-clause-alive
+returns-clause-alive g c =
+    let set = c.set_element-set in
+    let w = set.new.vault in
+    let done = c.done in
+    so-after done.result done.new.m set.result (g.V.Vault.alive w) (done.ensures w w).ends.breaks set.ensures.alive

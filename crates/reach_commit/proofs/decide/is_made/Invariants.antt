@@ -1,0 +1,7 @@
+use Rattle.std.proofs.Common.{◌≡◌, ◌<◌, ℕ}
+use Rattle.std.specs.Prelude.{Some}
+use Rattle.commit_walk.specs.Homes.{source_at}
+use Rattle.reach_commit.proofs.decide.is_made.Given as goal
+
+abbrev pub invariant-loop-source : goal.invariant-loop-source
+invariant-loop-source l = (p : ℕ) → p < l.source-index → (root : ℕ) → (source_at l.writing p).root ≡ Some root → ⊥

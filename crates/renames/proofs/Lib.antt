@@ -1,0 +1,3 @@
+pub mod RenameLaws
+pub mod RehomeLaws
+pub mod NumberedLaws
