@@ -95,21 +95,3 @@ fn notes_assigned_objects_once(rt: HostRuntime) -> Result<(), Fail> {
     assert!(rt; sw.assigned().is_empty());
     Ok(())
 }
-
-#[test]
-fn notes_reached_objects_once(rt: HostRuntime) -> Result<(), Fail> {
-    let mut sw = Swizzle::new(rt.alloc(), 20)?;
-    assert_eq!(rt; sw.make(Kind::Structure, 0, 1, 0), Ok(1));
-    assert_eq!(rt; sw.make(Kind::Structure, 0, 1, 0), Ok(6));
-    sw.mark(1);
-    sw.reach(6);
-    sw.reach(1);
-    sw.reach(6);
-    assert_eq!(rt; sw.reached(), [6, 1].as_slice());
-    sw.clear_assigned();
-    assert_eq!(rt; sw.reached(), [6, 1].as_slice());
-    sw.clear_reached();
-    assert!(rt; sw.reached().is_empty());
-    assert_eq!(rt; sw.header(1).flags, 0);
-    Ok(())
-}
